@@ -1,0 +1,11 @@
+//! What every crate of the editor stands on: the answer for want of memory, and a count of steps.
+//!
+//! `Memory` is the one answer that no contract ties to a cause. `Steps` is a number that only proofs
+//! see: it has no bytes when the program runs.
+#![tactic(auto)]
+
+mod out_of_memory;
+mod step_count;
+
+pub use out_of_memory::Memory;
+pub use step_count::Steps;
