@@ -1,0 +1,79 @@
+// A text that grows byte by byte.
+ghost use Rattle.std.specs.Prelude.{◌≡◌, ℕ, ◌++◌, ◌∷◌, [], ◌↔◌, List, true, if◌then◌else◌, IfOk, OnErr, Some, None};
+ghost use Rattle.std.specs.Option.{SomeIff};
+ghost use Rattle.tx_tree.specs.Texts.{IsText};
+ghost use Rattle.tx_tree.specs.TextScan.{is_text, begins_text, takes_byte};
+
+use crate::MOST_TEXT;
+use crate::texts::{Text, TextPlace};
+use std::alloc::Global;
+use std::marker::Model;
+use std::rc::Rc;
+use tx_base::Memory;
+
+/// The beginning of a text within the limit, to which a reader adds byte by byte. Contracts see its bytes.
+#[derive(Drop)]
+pub struct TextBuilder {
+    bytes: Vec<u8>,
+    place: TextPlace,
+}
+
+impl Model for TextBuilder {
+    ghost use Rattle.std.specs.Prelude.{List, ℕ};
+
+    ghost Value = { List ℕ };
+
+    ghost use Rattle.tx_tree.specs.Building.{IsRead};
+
+    ghost view = { λ b. b.bytes.items };
+
+    ghost invariant = { IsRead };
+}
+
+impl TextBuilder {
+    /// No bytes yet.
+    pub fn new(alloc: Global) -> TextBuilder
+        ensures { result ≡ [] }
+    {
+        TextBuilder {
+            bytes: Vec::new(alloc),
+            place: TextPlace::Between,
+        }
+    }
+
+    /// Adds the byte, and answers true, where the bytes then still begin a text within the limit.
+    /// Else it answers false, and they stay.
+    pub fn push(&mut self, byte: u8) -> Result<bool, Memory>
+        ensures taken { IfOk result (λ taken. taken ≡ takes_byte self.old byte) }
+        ensures after { IfOk result (λ taken. self.new ≡ (if taken then self.old ++ byte ∷ [] else self.old)) }
+        ensures err { OnErr result (self.new ≡ self.old) }
+    {
+        if self.bytes.len() >= MOST_TEXT {
+            return Ok(false);
+        }
+        match self.place.step(byte) {
+            None => Ok(false),
+            Some(next) => {
+                self.bytes.push(byte)?;
+                self.place = next;
+                Ok(true)
+            }
+        }
+    }
+
+    /// The text of all bytes, or None where they end within a symbol.
+    pub fn finish(self, alloc: Global) -> Result<Option<Text>, Memory>
+        ensures { IfOk result (λ found. SomeIff found (IsText self) self) }
+    {
+        match self.place {
+            TextPlace::InSymbol(_) => Ok(None),
+            TextPlace::Between => Ok(Some(Text::of_scanned(alloc, self.bytes)?)),
+        }
+    }
+}
+
+/// What the tests mean by which texts are read: whole bytes are a text, or begin one.
+pub fn text_laws()
+    ensures whole { (bytes : List ℕ) → (is_text bytes ≡ true) ↔ IsText bytes }
+    ensures front { (bytes : List ℕ) → (begins_text bytes ≡ true) ↔ ((more : List ℕ) × IsText (bytes ++ more)) }
+{}

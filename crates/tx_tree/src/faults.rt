@@ -1,0 +1,67 @@
+// What makes no tree.
+ghost use Rattle.std.specs.Prelude.{◌≡◌};
+ghost use Rattle.tx_tree.specs.declared.faults.ReadFault.TheVariants.{Memory as ReadMemory};
+ghost use Rattle.tx_tree.specs.declared.faults.TreeFault.TheVariants.{Memory as TreeMemory};
+
+use std::alloc::{AllocError, AllocFailed};
+use thiserror::Error;
+
+/// Why a label and children make no node within the limits.
+#[derive(Clone, Copy, Debug, PartialEq, Eq, Error)]
+pub enum TreeFault {
+    /// So many children, of which 65,535 are allowed.
+    #[error("{0} children")]
+    TooWide(u64),
+    /// So deep, of which 400 is allowed.
+    #[error("a depth of {0}")]
+    TooDeep(u64),
+    /// So big, of which 8,000,000 is allowed.
+    #[error("a size of {0}")]
+    TooBig(u64),
+    /// Memory ran out.
+    #[error("out of memory")]
+    Memory,
+}
+
+/// Why a reader found no tree.
+#[derive(Clone, Copy, Debug, PartialEq, Eq, Error)]
+pub enum ReadFault {
+    /// The bytes spell no tree within the limits.
+    #[error("no tree within the limits")]
+    NoTree,
+    /// Memory ran out.
+    #[error("out of memory")]
+    Memory,
+}
+
+impl From<AllocError> for TreeFault {
+    ghost from_gives = { λ _ fault. fault ≡ TreeMemory };
+
+    fn from(_cause: AllocError) -> TreeFault {
+        TreeFault::Memory
+    }
+}
+
+impl<T: Drop> From<AllocFailed<T>> for TreeFault {
+    ghost from_gives = { λ _ fault. fault ≡ TreeMemory };
+
+    fn from(_cause: AllocFailed<T>) -> TreeFault {
+        TreeFault::Memory
+    }
+}
+
+impl From<AllocError> for ReadFault {
+    ghost from_gives = { λ _ fault. fault ≡ ReadMemory };
+
+    fn from(_cause: AllocError) -> ReadFault {
+        ReadFault::Memory
+    }
+}
+
+impl<T: Drop> From<AllocFailed<T>> for ReadFault {
+    ghost from_gives = { λ _ fault. fault ≡ ReadMemory };
+
+    fn from(_cause: AllocFailed<T>) -> ReadFault {
+        ReadFault::Memory
+    }
+}

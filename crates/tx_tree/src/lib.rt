@@ -1,0 +1,32 @@
+//! Trees of a document: texts, labels, and nodes that share their parts.
+//!
+//! A tree is a text, or a label with a list of trees. Contracts see it as a wide tree (`specs/WideTree.antt`),
+//! which is a tree without limits. Each tree in hand is well formed and within the limits (`specs/Limits.antt`),
+//! and answers its size and depth without a walk.
+#![tactic(auto)]
+
+mod building;
+mod faults;
+mod labels;
+mod texts;
+mod trees;
+
+pub use building::{TextBuilder, text_laws};
+pub use faults::{ReadFault, TreeFault};
+pub use labels::{Label, LabelFault};
+pub use texts::{Text, TextFault};
+pub use trees::{Kind, Tree};
+pub use tx_base::Memory;
+
+/// The most bytes of a text.
+pub const MOST_TEXT: usize = 1_048_575;
+/// The most bytes of a label.
+pub const MOST_LABEL: usize = 64;
+/// The most bytes of the name of a symbol.
+pub const MOST_NAME: usize = 48;
+/// The most children of a node.
+pub const MOST_ARITY: usize = 65_535;
+/// The greatest depth of a tree, where a leaf has depth 1.
+pub const MOST_DEPTH: u32 = 400;
+/// The greatest size of a tree, where a leaf has 1 and its bytes, and a node 1 and the sizes of its children.
+pub const MOST_SIZE: u64 = 8_000_000;

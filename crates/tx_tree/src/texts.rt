@@ -1,0 +1,195 @@
+// Texts, and the reading of a text byte by byte.
+ghost use Rattle.std.specs.Prelude.{◌≡◌, ℕ, ◌≤◌, ◌↔◌, ◌++◌, ◌∷◌, [], Bool, true, false, IsTrue, length, IfOk, IfErr, OnOk, IfSome, MatchOption, ◌&&◌, nat_lt};
+ghost use Rattle.tx_tree.specs.Texts.{IsText, IsTextFault, is_item_byte, is_name_byte};
+ghost use Rattle.tx_tree.specs.declared.texts.TextFault.TheVariants.{Memory as NoMemory};
+ghost use Rattle.tx_tree.specs.TextScan.{text_step, fault_at};
+
+use crate::{MOST_NAME, MOST_TEXT};
+use std::alloc::{AllocError, AllocFailed, Global};
+use std::marker::Model;
+use std::rc::Rc;
+use thiserror::Error;
+use tx_base::Memory;
+
+/// Why bytes are no text.
+#[derive(Clone, Copy, Debug, PartialEq, Eq, Error)]
+pub enum TextFault {
+    /// So many bytes, of which 1,048,575 are allowed.
+    #[error("{0} bytes")]
+    TooLong(u64),
+    /// At this place stands a byte that is no item.
+    #[error("no item at {0}")]
+    BadByte(usize),
+    /// At this place a symbol can't go on so, or the bytes end within one.
+    #[error("no symbol at {0}")]
+    BadSymbol(usize),
+    /// Memory ran out.
+    #[error("out of memory")]
+    Memory,
+}
+
+impl From<AllocError> for TextFault {
+    ghost from_gives = { λ _ fault. fault ≡ NoMemory };
+
+    fn from(_cause: AllocError) -> TextFault {
+        TextFault::Memory
+    }
+}
+
+impl<T: Drop> From<AllocFailed<T>> for TextFault {
+    ghost from_gives = { λ _ fault. fault ≡ NoMemory };
+
+    fn from(_cause: AllocFailed<T>) -> TextFault {
+        TextFault::Memory
+    }
+}
+
+// Where the reading of a text stands: between two items, or behind so many bytes of a symbol's name.
+#[derive(Clone, Copy, Debug, PartialEq, Eq)]
+pub(crate) enum TextPlace {
+    Between,
+    InSymbol(usize),
+}
+
+fn is_item_byte(byte: u8) -> bool
+    ensures { result ≡ is_item_byte byte }
+{
+    !matches!(byte, b'\t' | b'\n' | b'\r' | b'<' | b'>')
+}
+
+fn is_name_byte(byte: u8) -> bool
+    ensures { result ≡ is_name_byte byte }
+{
+    matches!(byte, b'!'..=b'~') && byte != b'<' && byte != b'>'
+}
+
+impl TextPlace {
+    // The place behind one byte more, or None where no text goes on so.
+    #[tactic(auto, unfolding(crate::specs::TextScan::text_step))]
+    pub(crate) fn step(self, byte: u8) -> Option<TextPlace>
+        ensures { result ≡ text_step self byte }
+    {
+        match self {
+            TextPlace::Between => {
+                if byte == b'<' {
+                    Some(TextPlace::InSymbol(0))
+                } else if is_item_byte(byte) {
+                    Some(TextPlace::Between)
+                } else {
+                    None
+                }
+            }
+            TextPlace::InSymbol(len) => {
+                if byte == b'>' {
+                    if len == 0 {
+                        None
+                    } else {
+                        Some(TextPlace::Between)
+                    }
+                } else if is_name_byte(byte) && len < MOST_NAME {
+                    Some(TextPlace::InSymbol(len + 1))
+                } else {
+                    None
+                }
+            }
+        }
+    }
+
+    // The fault at i, where no text goes on from here.
+    fn fault(self, i: usize) -> TextFault
+        ensures { result ≡ fault_at self i }
+    {
+        match self {
+            TextPlace::Between => TextFault::BadByte(i),
+            TextPlace::InSymbol(_) => TextFault::BadSymbol(i),
+        }
+    }
+}
+
+/// A text: at most 1,048,575 bytes that are items one after the other. An item is a byte other than tab,
+/// newline, return, `<` and `>`, or a symbol `<name>`.
+///
+/// Copies share the bytes. Contracts see a text as the list of its bytes.
+#[derive(Drop)]
+pub struct Text {
+    bytes: Rc<Vec<u8>>,
+}
+
+impl Model for Text {
+    ghost use Rattle.std.specs.Prelude.{List, ℕ, ◌≤◌, length};
+    ghost use Rattle.tx_tree.specs.Texts.{IsText};
+    ghost use Rattle.tx_tree.specs.declared.TheConstants.{MOST_TEXT};
+
+    ghost Value = { List ℕ };
+
+    ghost view = { λ t. t.bytes.value.items };
+
+    ghost invariant = { λ t. IsText t.bytes.value.items × (length t.bytes.value.items ≤ MOST_TEXT) };
+}
+
+// Whether the bytes are a text, whatever their number.
+fn scan(bytes: &[u8]) -> Result<(), TextFault>
+    requires { length bytes.now ≤ MOST_TEXT }
+    ensures text { OnOk result (IsText bytes.now) }
+    ensures refused { IfErr result (IsTextFault bytes.now) }
+{
+    let mut place = TextPlace::Between;
+    for (i, byte) in bytes.iter().enumerate() {
+        match place.step(*byte) {
+            Some(next) => place = next,
+            None => return Err(place.fault(i)),
+        }
+    }
+    match place {
+        TextPlace::Between => Ok(()),
+        TextPlace::InSymbol(_) => Err(TextFault::BadSymbol(bytes.len())),
+    }
+}
+
+impl Text {
+    /// The text of these bytes.
+    pub fn new(alloc: Global, bytes: &[u8]) -> Result<Text, TextFault>
+        ensures ok { IfOk result (λ t. t ≡ bytes.now) }
+        ensures text { OnOk result (IsText bytes.now) }
+        ensures short { OnOk result (length bytes.now ≤ MOST_TEXT) }
+        ensures refused { IfErr result (IsTextFault bytes.now) }
+    {
+        if bytes.len() > MOST_TEXT {
+            return Err(TextFault::TooLong(bytes.len() as u64));
+        }
+        scan(bytes)?;
+        let owned = Vec::from_slice(alloc, bytes)?;
+        Ok(Text {
+            bytes: Rc::new(alloc, owned)?,
+        })
+    }
+
+    // The text of bytes that were read to their end.
+    pub(crate) fn of_scanned(alloc: Global, bytes: Vec<u8>) -> Result<Text, Memory>
+        requires text { IsText bytes.items }
+        requires short { length bytes.items ≤ MOST_TEXT }
+        ensures { IfOk result (λ t. t ≡ bytes.items) }
+    {
+        Ok(Text {
+            bytes: Rc::new(alloc, bytes)?,
+        })
+    }
+
+    /// The text's bytes.
+    pub fn bytes(&self) -> &[u8]
+        ensures bytes { result.now ≡ self.now }
+        ensures text { IsText self.now }
+        ensures short { length self.now ≤ MOST_TEXT }
+    {
+        &self.bytes
+    }
+
+    /// The same text, which shares the bytes.
+    pub fn copy(&self) -> Result<Text, Memory>
+        ensures { IfOk result (λ t. t ≡ self.now) }
+    {
+        Ok(Text {
+            bytes: self.bytes.clone()?,
+        })
+    }
+}

@@ -1,0 +1,210 @@
+// Nodes and leaves, shared by Rc.
+ghost use Rattle.std.specs.Prelude.{◌≡◌, ◌+◌, length, if◌then◌else◌, IfOk, IfErr, OnOk, MatchOption, IfSome, IfNone, IsNone, None, Some, slice_get};
+ghost use Rattle.tx_tree.specs.WideTree.{leaf, node, forest, children_of, is_leaf, text_of, label_of, size_of, depth_of};
+ghost use Rattle.tx_tree.specs.Limits.{IsWellFormed, IsWithinLimits, IsTreeFault};
+
+use crate::faults::TreeFault;
+use crate::labels::Label;
+use crate::texts::Text;
+use crate::{MOST_ARITY, MOST_DEPTH, MOST_SIZE};
+use std::alloc::Global;
+use std::marker::Model;
+use std::rc::Rc;
+use std::sync::ledger::Ledger;
+use tx_base::{Memory, Steps};
+
+/// Whether a tree is a text or a label with children.
+#[derive(Clone, Copy, Debug, PartialEq, Eq)]
+pub enum Kind {
+    Leaf,
+    Node,
+}
+
+/// A tree: a text, or a label with a list of trees. It is within the limits of the crate's constants.
+///
+/// Trees share their parts. Contracts see a tree as a wide tree.
+#[cycle(tree)]
+#[derive(Drop)]
+pub struct Tree {
+    size: u64,
+    depth: u32,
+    content: Rc<Content>,
+}
+
+#[cycle(tree)]
+#[derive(Drop)]
+enum Content {
+    Leaf(Text),
+    Node(Label, Vec<Tree>),
+}
+
+impl Model for Tree {
+    ghost use Rattle.std.specs.Prelude.{◌≡◌};
+    ghost use Rattle.tx_tree.specs.WideTree.{WideTree, coded_WideTree, size_of, depth_of};
+
+    ghost Value = { WideTree };
+
+    ghost coded = { coded_WideTree };
+
+    ghost use Rattle.tx_tree.specs.Trees.{wide_of, IsKept};
+
+    ghost view = { λ t. wide_of t.content.value };
+
+    ghost invariant = { IsKept };
+
+    ghost size = { depth_of };
+
+    ghost use Rattle.tx_tree.specs.Falls.{depth_falls};
+
+    ghost size_decreases = { λ t h. depth_falls t.content.value };
+}
+
+impl Tree {
+    /// The leaf with this text.
+    pub fn leaf(alloc: Global, text: Text) -> Result<Tree, Memory>
+        ensures { IfOk result (λ t. t ≡ leaf text) }
+    {
+        let bytes = text.bytes();
+        let size = 1 + bytes.len() as u64;
+        Ok(Tree {
+            size,
+            depth: 1,
+            content: Rc::new(alloc, Content::Leaf(text))?,
+        })
+    }
+
+    /// The node with this label and these children, unless it passes a limit.
+    pub fn node<L: Ledger>(
+        alloc: Global,
+        label: Label,
+        children: Vec<Tree>,
+        steps: &mut Steps<L>,
+    ) -> Result<Tree, TreeFault>
+        ensures ok { IfOk result (λ t. t ≡ node label (forest children.items)) }
+        ensures within { OnOk result (IsWithinLimits (node label (forest children.items))) }
+        ensures refused { IfErr result (IsTreeFault label children.items) }
+        ensures counted { steps.new ≡ steps.old + 1 }
+    {
+        steps.tick();
+        if children.len() > MOST_ARITY {
+            return Err(TreeFault::TooWide(children.len() as u64));
+        }
+        let _bytes = label.bytes();
+        let mut size = 1u64;
+        let mut deepest = 0u32;
+        for child in &children {
+            size += child.size();
+            deepest = deepest.max(child.depth());
+        }
+        let depth = deepest + 1;
+        if depth > MOST_DEPTH {
+            return Err(TreeFault::TooDeep(u64::from(depth)));
+        }
+        if size > MOST_SIZE {
+            return Err(TreeFault::TooBig(size));
+        }
+        Ok(Tree {
+            size,
+            depth,
+            content: Rc::new(alloc, Content::Node(label, children))?,
+        })
+    }
+
+    /// The same tree, which shares all its parts.
+    pub fn share(&self) -> Result<Tree, Memory>
+        ensures { IfOk result (λ t. t ≡ self.now) }
+    {
+        Ok(Tree {
+            size: self.size,
+            depth: self.depth,
+            content: self.content.clone()?,
+        })
+    }
+
+    /// Whether the tree is a leaf or a node.
+    pub fn kind(&self) -> Kind
+        ensures { result ≡ (if is_leaf self.now then Kind.Leaf else Kind.Node) }
+    {
+        match &*self.content {
+            Content::Leaf(_) => Kind::Leaf,
+            Content::Node(..) => Kind::Node,
+        }
+    }
+
+    /// The label of a node, or None for a leaf.
+    pub fn label(&self) -> Option<&Label>
+        ensures { MatchOption result (label_of self.now ≡ None) (λ l. label_of self.now ≡ Some l.now) }
+    {
+        match &*self.content {
+            Content::Leaf(_) => None,
+            Content::Node(label, _) => Some(label),
+        }
+    }
+
+    /// The text of a leaf, or None for a node.
+    pub fn text(&self) -> Option<&Text>
+        ensures { MatchOption result (text_of self.now ≡ None) (λ t. text_of self.now ≡ Some t.now) }
+    {
+        match &*self.content {
+            Content::Leaf(text) => Some(text),
+            Content::Node(..) => None,
+        }
+    }
+
+    /// The children of a node, in order, or none for a leaf.
+    #[tactic(auto, using(crate::proofs::Children::lookups, std::proofs::lemmas::Grind::common_steps))]
+    pub fn children(&self) -> &[Tree]
+        ensures { result.now ≡ children_of self.now }
+    {
+        match &*self.content {
+            Content::Leaf(_) => &[],
+            Content::Node(_, children) => children,
+        }
+    }
+
+    /// How many children the tree has, 0 for a leaf.
+    #[tactic(auto, using(crate::proofs::Children::lookups, std::proofs::lemmas::Grind::common_steps))]
+    pub fn arity(&self) -> u32
+        ensures { result ≡ length (children_of self.now) }
+    {
+        match &*self.content {
+            Content::Leaf(_) => 0,
+            Content::Node(_, children) => children.len() as u32,
+        }
+    }
+
+    /// The child of this number, from 0, or None where there is none.
+    #[tactic(auto, using(crate::proofs::Children::lookups, std::proofs::lemmas::Grind::common_steps))]
+    pub fn child(&self, i: u32) -> Option<&Tree>
+        ensures { MatchOption result (slice_get (children_of self.now) i ≡ None) (λ t. slice_get (children_of self.now) i ≡ Some t.now) }
+    {
+        match &*self.content {
+            Content::Leaf(_) => None,
+            Content::Node(_, children) => {
+                if (i as usize) < children.len() {
+                    Some(&children[i as usize])
+                } else {
+                    None
+                }
+            }
+        }
+    }
+
+    /// 1 and the bytes for a leaf; 1 and the sizes of the children for a node.
+    pub fn size(&self) -> u64
+        ensures value { result ≡ size_of self.now }
+        ensures well_formed { IsWellFormed self.now }
+        ensures within { IsWithinLimits self.now }
+    {
+        self.size
+    }
+
+    /// 1 for a leaf; 1 more than the deepest child for a node.
+    pub fn depth(&self) -> u32
+        ensures value { result ≡ depth_of self.now }
+        ensures well_formed { IsWellFormed self.now }
+        ensures within { IsWithinLimits self.now }
+    {
+        self.depth
+    }
+}
