@@ -1,0 +1,4 @@
+pub mod Labels
+pub mod Made
+pub mod Texts
+pub mod Counts

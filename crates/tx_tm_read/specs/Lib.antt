@@ -1,0 +1,5 @@
+pub mod LabelFronts
+pub mod Words
+pub mod Fits
+pub mod Nodes
+pub mod Lines
