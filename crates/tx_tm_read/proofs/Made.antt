@@ -8,8 +8,8 @@ use Rattle.tx_tree.specs.Texts.{IsText}
 use Rattle.tx_tree.specs.WideTree.{WideTree, leaf, node, forest, count, widest, arity_of}
 use Rattle.tx_tree.proofs.Children.{count-forest}
 use Rattle.tx_tree.specs.Labels.{IsLabel}
-use Rattle.tx_tm_form.specs.Parts.{concat_label, document_label, concat_of}
-use Rattle.tx_tm_form.proofs.Formed.{concat_is_label, document_is_label}
+use Rattle.tx_tm_form.specs.Parts.{concat_label, document_label, collection_label, raw_data_label, concat_of}
+use Rattle.tx_tm_form.proofs.Formed.{concat_is_label, document_is_label, collection_is_label, raw_data_is_label}
 
 pub no_bad_byte : (bytes : List ℕ) (n : ℕ) → IsText bytes → IsLongestFront IsText bytes n → n < length bytes → ⊥
 no_bad_byte bytes n h k i =
@@ -41,3 +41,9 @@ concat_there = concat_is_label
 
 pub document_there : IsLabel document_label
 document_there = document_is_label
+
+pub collection_there : IsLabel collection_label
+collection_there = collection_is_label
+
+pub raw_data_there : IsLabel raw_data_label
+raw_data_there = raw_data_is_label

@@ -6,7 +6,7 @@ use Rattle.tx_tree.specs.WideTree.{WideTree, text_length_of, arity_of, depth_of,
 use Rattle.tx_tm_form.specs.declared.places.Stage.{Stage}
 use Rattle.tx_tm_form.specs.declared.places.Stage.TheVariants.{Empty, Alone, Ordinary}
 use Rattle.tx_tm_form.specs.Growing.{Inline, Block, Tags, tree_of_entry, Content, inline, blocks, collecting}
-use Rattle.tx_tm_form.specs.Machine.{Open, State, reading, naming, counting, failed}
+use Rattle.tx_tm_form.specs.Machine.{Open, State, reading, naming, counting, failed, Bytewise, at, lost, Keeping}
 
 -- a tree within the limits, also with so many nodes round it
 pub record IsSmall (around : ℕ) (t : WideTree) : Type 0 where
@@ -53,3 +53,7 @@ StateFits (reading here fs) = ContentFits (length fs) here × OpensFit here fs
 StateFits (naming name here fs) = ContentFits (length fs) here × OpensFit here fs
 StateFits (counting digits here fs) = (length digits ≤ MOST_TEXT) × ContentFits (length fs) here × OpensFit here fs
 StateFits failed = ⊥
+
+abbrev pub ReaderFits : Bytewise Keeping → Type 0
+ReaderFits (at q k) = StateFits k.state
+ReaderFits lost = ⊥

@@ -1,5 +1,6 @@
 -- The program's words, as those of the syntax.
-use Rattle.std.specs.Prelude.{Option, Some, None}
+use Rattle.std.specs.Prelude.{◌≡◌, true, Option, Some, None}
+use Rattle.tx_tm_form.specs.Bytes.{kind_of, is_plain}
 use Rattle.tx_tm_form.specs.Tokens.{Token, white, join, plain, escape, raw, head, bar, close}
 use Rattle.tx_tm_form.specs.Machine as machine
 use Rattle.tx_tm_form.specs.Machine.{Lex, ready, slashed, returned, angled, labelled, within, done, bad}
@@ -32,3 +33,13 @@ abbrev pub lexed_of : Option Lexed → machine.Lexed
 lexed_of None = bad
 lexed_of (Some (lexeds.Within q)) = within (lex_of q)
 lexed_of (Some (lexeds.Done w)) = done (token_of w)
+
+-- a plain word is a byte that stands for itself
+abbrev pub IsGoodWord : Word → Type 0
+IsGoodWord (words.Plain b) = is_plain (kind_of b) ≡ true
+IsGoodWord w = Unit {0}
+
+abbrev pub IsGoodLexed : Option Lexed → Type 0
+IsGoodLexed None = Unit {0}
+IsGoodLexed (Some (lexeds.Within q)) = Unit {0}
+IsGoodLexed (Some (lexeds.Done w)) = IsGoodWord w

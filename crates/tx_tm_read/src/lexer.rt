@@ -3,7 +3,7 @@ ghost use Rattle.std.specs.Prelude.{◌≡◌, ◌≤◌, ◌<◌, ◌∷◌, �
 ghost use Rattle.tx_tree.specs.Labels.{is_label_byte};
 ghost use Rattle.tx_tm_form.specs.Bytes.{kind_of, can_escape};
 ghost use Rattle.tx_tm_form.specs.Machine.{lex_ready, lex_slashed, lex_returned, lex_angled, lex_labelled, lex};
-ghost use Rattle.tx_tm_read.specs.Words.{lex_of, lexed_of};
+ghost use Rattle.tx_tm_read.specs.Words.{lex_of, lexed_of, IsGoodLexed};
 
 use std::alloc::Global;
 use std::marker::Model;
@@ -114,7 +114,9 @@ pub(crate) enum Lexed {
 
 #[tactic(auto, unfolding(tx_tm_form::specs::Machine::lex_ready))]
 fn lex_ready(kind: ByteKind, byte: u8) -> Lexed
-    ensures { lexed_of (Some result) ≡ lex_ready kind byte }
+    requires { kind ≡ kind_of byte }
+    ensures next { lexed_of (Some result) ≡ lex_ready kind byte }
+    ensures good { IsGoodLexed (Some result) }
 {
     match kind {
         ByteKind::Blank | ByteKind::Newline | ByteKind::Return => Lexed::Done(Word::White(byte)),
@@ -122,7 +124,9 @@ fn lex_ready(kind: ByteKind, byte: u8) -> Lexed
         ByteKind::Greater => Lexed::Done(Word::Close),
         ByteKind::Bar => Lexed::Done(Word::Bar),
         ByteKind::Backslash => Lexed::Within(Lexer::Slashed),
-        _ => Lexed::Done(Word::Plain(byte)),
+        ByteKind::Name | ByteKind::Hash | ByteKind::Slash | ByteKind::Other => {
+            Lexed::Done(Word::Plain(byte))
+        }
     }
 }
 
@@ -134,7 +138,8 @@ fn can_escape(byte: u8) -> bool
 
 #[tactic(auto, unfolding(tx_tm_form::specs::Machine::lex_slashed))]
 fn lex_slashed(kind: ByteKind, byte: u8) -> Option<Lexed>
-    ensures { lexed_of result ≡ lex_slashed kind byte }
+    ensures next { lexed_of result ≡ lex_slashed kind byte }
+    ensures good { IsGoodLexed result }
 {
     match kind {
         ByteKind::Newline => Some(Lexed::Done(Word::Join(false))),
@@ -151,7 +156,8 @@ fn lex_slashed(kind: ByteKind, byte: u8) -> Option<Lexed>
 
 #[tactic(auto, unfolding(tx_tm_form::specs::Machine::lex_returned))]
 fn lex_returned(kind: ByteKind) -> Option<Lexed>
-    ensures { lexed_of result ≡ lex_returned kind }
+    ensures next { lexed_of result ≡ lex_returned kind }
+    ensures good { IsGoodLexed result }
 {
     match kind {
         ByteKind::Newline => Some(Lexed::Done(Word::Join(true))),
@@ -162,7 +168,8 @@ fn lex_returned(kind: ByteKind) -> Option<Lexed>
 #[tactic(auto, unfolding(tx_tm_form::specs::Machine::lex_angled), using(crate::proofs::Labels::is_name, crate::proofs::Labels::most_one))]
 fn lex_angled(alloc: Global, kind: ByteKind, byte: u8) -> Result<Option<Lexed>, Memory>
     requires { kind ≡ kind_of byte }
-    ensures { IfOk result (λ next. lexed_of next ≡ lex_angled kind byte) }
+    ensures next { IfOk result (λ next. lexed_of next ≡ lex_angled kind byte) }
+    ensures good { IfOk result IsGoodLexed }
 {
     let label = LabelFront::new(alloc);
     match kind {
@@ -184,7 +191,8 @@ fn lex_labelled(
     byte: u8,
 ) -> Result<Option<Lexed>, Memory>
     requires { kind ≡ kind_of byte }
-    ensures { IfOk result (λ next. lexed_of next ≡ lex_labelled form label kind byte) }
+    ensures next { IfOk result (λ next. lexed_of next ≡ lex_labelled form label kind byte) }
+    ensures good { IfOk result IsGoodLexed }
 {
     match kind {
         ByteKind::Name => {
@@ -207,7 +215,8 @@ fn lex_labelled(
 impl Lexer {
     /// What a byte more gives, or None where no word goes on so.
     pub(crate) fn step(self, alloc: Global, byte: u8) -> Result<Option<Lexed>, Memory>
-        ensures { IfOk result (λ next. lexed_of next ≡ lex (lex_of self) (kind_of byte) byte) }
+        ensures next { IfOk result (λ next. lexed_of next ≡ lex (lex_of self) (kind_of byte) byte) }
+        ensures good { IfOk result IsGoodLexed }
     {
         let kind = kind_of(byte);
         match self {

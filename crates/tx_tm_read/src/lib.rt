@@ -4,6 +4,10 @@
 //! (`specs/Machine.antt`), with trees that are made as soon as their ends are read.
 #![tactic(auto)]
 
+mod blocks;
 mod lexer;
 mod lines;
 mod making;
+mod tags;
+mod taking;
+mod walk;

@@ -3,7 +3,7 @@ ghost use Rattle.std.specs.Prelude.{◌≡◌, ◌≤◌, ◌+◌, length, IfOk,
 ghost use Rattle.tx_tree.specs.Texts.{IsText};
 ghost use Rattle.tx_tree.specs.Labels.{IsLabel};
 ghost use Rattle.tx_tree.specs.WideTree.{leaf, node, forest, nodes_of};
-ghost use Rattle.tx_tm_form.specs.Parts.{concat_of, document_label};
+ghost use Rattle.tx_tm_form.specs.Parts.{concat_of, document_label, collection_label, raw_data_label};
 ghost use Rattle.tx_tm_read.specs.Lines.{IsMade};
 ghost use Rattle.tx_tm_read.specs.Nodes.{nodes_in};
 
@@ -90,4 +90,26 @@ pub(crate) fn make_document<L: Ledger>(
 {
     let label = make_label(alloc, b"document")?;
     make_node(alloc, label, paragraphs, steps)
+}
+
+// The collection of these tags.
+#[tactic(auto, using(crate::proofs::Made::collection_there))]
+pub(crate) fn make_collection<L: Ledger>(
+    alloc: Global,
+    tags: Vec<Tree>,
+    steps: &mut Steps<L>,
+) -> Result<Option<Tree>, Memory>
+    ensures made { IfOk result (λ made. IsMade made (node collection_label (forest tags.items))) }
+    ensures counted { IfOk result (λ made. IfSome made (λ t. steps.new + nodes_in tags.items ≤ steps.old + nodes_of t)) }
+{
+    let label = make_label(alloc, b"collection")?;
+    make_node(alloc, label, tags, steps)
+}
+
+// Raw data with these digits.
+#[tactic(auto, using(crate::proofs::Made::raw_data_there))]
+pub(crate) fn raw_data_label(alloc: Global) -> Result<Label, Memory>
+    ensures { IfOk result (λ l. l ≡ raw_data_label) }
+{
+    make_label(alloc, b"raw-data")
 }
