@@ -8,3 +8,4 @@ pub mod Replay
 pub mod Growths
 pub mod Stuck
 pub mod Feeding
+pub mod Running

@@ -6,3 +6,4 @@ pub mod Lines
 pub mod Blocks
 pub mod Fronts
 pub mod Spots
+pub mod Readers

@@ -8,6 +8,9 @@ mod blocks;
 mod lexer;
 mod lines;
 mod making;
+mod reader;
 mod tags;
 mod taking;
 mod walk;
+
+pub use reader::read;

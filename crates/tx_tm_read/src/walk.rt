@@ -193,7 +193,7 @@ impl OpenTag {
 
 impl Body {
     // The tree of a block, or None for an argument or where it passes a limit.
-    fn finish_block<L: Ledger>(
+    pub(crate) fn finish_block<L: Ledger>(
         self,
         alloc: Global,
         steps: &mut Steps<L>,
