@@ -1,6 +1,6 @@
 -- Nodes of lists, lines and blocks.
 use Rattle.std.proofs.Common.{◌≡◌, ℕ, ◌+◌, Bool, List, [], ◌∷◌, ◌++◌, map, None, refl, ap, ◌∙◌, arith}
-use Rattle.tx_tree.specs.WideTree.{WideTree, leaf, nodes_of}
+use Rattle.tx_tree.specs.WideTree.{WideTree, nodes_of}
 use Rattle.tx_tm_form.specs.Parts.{tag, leaf_before}
 use Rattle.tx_tm_form.specs.Growing.{Entry, Tags, tree_of_entry, Content, collecting, put}
 use Rattle.tx_tm_read.specs.Nodes.{nodes_in, tags_nodes}

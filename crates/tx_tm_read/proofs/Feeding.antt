@@ -1,9 +1,9 @@
 -- What the machine feeds on only grows: what fits behind a token fitted before it.
-use Rattle.std.proofs.Common.{◌≡◌, ℕ, suc, ◌+◌, ◌<◌, ◌≤◌, Bool, true, false, ◌&&◌, ◌||◌, ◌==◌, nat_lt, nat_le, if◌then◌else◌, List, [], ◌∷◌, ◌++◌, length, map, Option, Some, None, refl, sym, ap, subst, ◌∙◌, length-append, arith}
+use Rattle.std.proofs.Common.{◌≡◌, ℕ, suc, ◌<◌, ◌≤◌, Bool, true, false, ◌&&◌, ◌||◌, ◌==◌, nat_lt, nat_le, if◌then◌else◌, List, [], ◌∷◌, ◌++◌, length, map, Option, Some, None, sym, subst, length-append, arith}
 use Rattle.tx_tree.specs.declared.TheConstants.{MOST_TEXT, MOST_DEPTH, MOST_NAME}
 use Rattle.tx_tree.specs.Limits.{IsWithinLimits}
 use Rattle.tx_tree.specs.Texts.{is_name_byte}
-use Rattle.tx_tree.specs.WideTree.{WideTree, leaf, node, forest, nodes_of}
+use Rattle.tx_tree.specs.WideTree.{WideTree, leaf, node, forest}
 use Rattle.tx_tm_form.specs.declared.bytes.Escaped.{Escaped}
 use Rattle.tx_tm_form.specs.declared.places.Form.{Form}
 use Rattle.tx_tm_form.specs.declared.places.Form.TheVariants.{Short, Long, Middle, Closing}
@@ -11,12 +11,12 @@ use Rattle.tx_tm_form.specs.declared.places.Place.{Place}
 use Rattle.tx_tm_form.specs.declared.places.Place.TheVariants.{InShort, InHeader, InClosing}
 use Rattle.tx_tm_form.specs.Bytes.{kind_of, escape_of, escaped_bytes, is_digit, white_of}
 use Rattle.tx_tm_form.specs.Tokens.{Token, white, join, plain, escape, raw, head, bar, close, is_dropped}
-use Rattle.tx_tm_form.specs.Parts.{Part, gap, text, tag, raw_data_label, collection_label, same, none}
+use Rattle.tx_tm_form.specs.Parts.{Part, gap, text, tag, raw_data_label, collection_label, same}
 use Rattle.tx_tm_form.specs.Forms.{symbol_bytes}
-use Rattle.tx_tm_form.specs.Growing.{Inline, grown, Block, tree_of_block, as_block, tree_of_entry, Content, inline, blocks, collecting, no_tags, no_paragraphs, no_parts, put, place_of, content_of, block_of, file_tree, long_of, block_behind, opening}
-use Rattle.tx_tm_form.specs.Machine.{Open, State, reading, naming, counting, failed, go, open_tag, with_child, in_tag, with_node, closed, next_argument, last_argument, next_block, last_block, header_place, begun, by_escape, name_byte, name_end, feed_reading, feed_naming, feed_counting, feed, feeds, Lex, ready, slashed, returned, angled, labelled, Lexed, within, done, bad, lex, Bytewise, at, lost, given, step, run, Keeping, keep, tree_of, tree_if, tree_in}
+use Rattle.tx_tm_form.specs.Growing.{Inline, grown, tree_of_block, as_block, tree_of_entry, Content, inline, blocks, collecting, put, place_of, file_tree, long_of, opening}
+use Rattle.tx_tm_form.specs.Machine.{Open, State, reading, naming, counting, failed, go, with_child, in_tag, closed, next_argument, last_argument, next_block, last_block, header_place, begun, by_escape, name_byte, name_end, feed_reading, feed_naming, feed_counting, feed, ready, slashed, returned, angled, labelled, Lexed, within, done, bad, lex, Bytewise, at, lost, given, step, run, Keeping, keep, tree_of, tree_in}
 use Rattle.tx_tm_read.specs.Fits.{IsSmall, AreSmall, ContentFits, ChildrenFit, OpensFit, StateFits, ReaderFits}
-use Rattle.tx_tm_read.proofs.Fitting.{small_within, small_inside, within_small, left_small, right_small, node_small, grown_fits, tree_fits, tags_fit, put_fits, put_tag_fits}
+use Rattle.tx_tm_read.proofs.Fitting.{within_small, left_small, right_small, node_small, grown_fits, tree_fits, tags_fit, put_fits, put_tag_fits}
 use Rattle.tx_tm_read.proofs.Stuck.{block_after}
 
 -- ---- one part more
@@ -62,9 +62,10 @@ node_fit : (c : Content) (f : Open) (t : WideTree) (fs : List Open) → (IsSmall
 node_fit c f t fs i h =
     let n : IsSmall (length fs) (node f.label (forest (f.children ++ t ∷ []))) = put_tag_fits (length fs) f.before false (node f.label (forest (f.children ++ t ∷ []))) h.0 in
     let ts : AreSmall (suc (length fs)) (f.children ++ t ∷ []) = node_small (length fs) f.label (f.children ++ t ∷ []) n in
-    let b = part_fit f.before (tag false (node f.label (forest (f.children ++ t ∷ [])))) fs h in
-    (i (right_small (suc (length fs)) f.children (t ∷ []) ts).0,
-     (b.0, any_children c (suc (length fs)) f.children (left_small (suc (length fs)) f.children (t ∷ []) ts), b.1, depth_there (length fs) f.label (f.children ++ t ∷ []) n))
+    let b = part_fit f.before (tag false (node f.label (forest (f.children ++ t ∷ [])))) fs h in (
+      i (right_small (suc (length fs)) f.children (t ∷ []) ts).0,
+      (b.0, any_children c (suc (length fs)) f.children (left_small (suc (length fs)) f.children (t ∷ []) ts), b.1, depth_there (length fs) f.label (f.children ++ t ∷ []) n),
+    )
 
 bar_fit : (c : Content) (fs : List Open) → StateFits (next_argument (place_of c) c fs) → Fit c fs
 bar_fit (inline p g) [] h = absurd h

@@ -1,16 +1,14 @@
 -- What comes of something too big is too big.
-use Rattle.std.proofs.Common.{◌≡◌, ℕ, suc, ◌+◌, ◌<◌, ◌≤◌, max, Bool, true, false, if◌then◌else◌, List, [], ◌∷◌, ◌++◌, length, map, Option, Some, None, refl, sym, ap, subst, ◌∙◌, length-append, arith}
-use Rattle.std.specs.List.{AllByRecursion}
+use Rattle.std.proofs.Common.{◌≡◌, ℕ, suc, ◌+◌, ◌≤◌, Bool, true, false, if◌then◌else◌, List, [], ◌∷◌, ◌++◌, length, map, Option, Some, None, refl, subst, length-append, arith}
 use Rattle.tx_tree.specs.declared.TheConstants.{MOST_TEXT, MOST_ARITY, MOST_DEPTH, MOST_SIZE}
 use Rattle.tx_tree.specs.Limits.{IsWithinLimits}
-use Rattle.tx_tree.specs.WideTree.{WideTree, leaf, node, forest, text_length_of, longest_text, arity_of, widest, count, depth_of, deepest, size_of, total_size}
+use Rattle.tx_tree.specs.WideTree.{WideTree, node, forest, longest_text, widest, deepest, total_size}
 use Rattle.tx_tm_form.specs.declared.bytes.White.{White}
 use Rattle.tx_tm_form.specs.declared.bytes.White.TheVariants.{Spaces, Line, Break}
-use Rattle.tx_tm_form.specs.declared.places.Place.{Place}
 use Rattle.tx_tm_form.specs.declared.places.Stage.{Stage}
 use Rattle.tx_tm_form.specs.declared.places.Stage.TheVariants.{Empty, Alone, Ordinary}
-use Rattle.tx_tm_form.specs.Parts.{Part, gap, text, tag, leaf_before, concat_of, concat_label, document_label, collection_label}
-use Rattle.tx_tm_form.specs.Growing.{Inline, no_parts, grow, grown, Block, no_paragraphs, longer, with_white, ended, resumed, first_stage, with_part, widen, tree_at, tree_of_block, Entry, Tags, tree_of_entry, behind_run, with_entries, as_block, Content, inline, blocks, collecting, put, long_of}
+use Rattle.tx_tm_form.specs.Parts.{Part, gap, text, tag, leaf_before, concat_of, concat_label, document_label}
+use Rattle.tx_tm_form.specs.Growing.{Inline, no_parts, grow, grown, Block, no_paragraphs, longer, with_white, ended, resumed, first_stage, with_part, widen, tree_at, tree_of_block, Entry, Tags, tree_of_entry, behind_run, with_entries, as_block, Content, inline, blocks, collecting, put}
 use Rattle.tx_tm_read.specs.Fits.{IsSmall, AreSmall, LineFits, BlockFitsAt, BlockFits, TagsFit, ContentFits}
 
 -- ---- trees
@@ -30,9 +28,10 @@ all_inside k (t ∷ ts) h = (small_inside k t h.0, all_inside k ts h.1)
 
 children_small : (k : ℕ) (ts : List WideTree) → longest_text (forest ts) ≤ MOST_TEXT → widest (forest ts) ≤ MOST_ARITY → deepest (forest ts) + suc k ≤ MOST_DEPTH → total_size (forest ts) ≤ MOST_SIZE → AreSmall (suc k) ts
 children_small k [] a b c d = tt
-children_small k (t ∷ ts) a b c d =
-    (record { text = omega (arith, a); arity = omega (arith, b); depth = omega (arith, c); size = omega (arith, d) },
-     children_small k ts (omega (arith, a)) (omega (arith, b)) (omega (arith, c)) (omega (arith, d)))
+children_small k (t ∷ ts) a b c d = (
+  record { text = omega (arith, a); arity = omega (arith, b); depth = omega (arith, c); size = omega (arith, d) },
+  children_small k ts (omega (arith, a)) (omega (arith, b)) (omega (arith, c)) (omega (arith, d)),
+)
 
 pub node_small : (k : ℕ) (l : List ℕ) (ts : List WideTree) → IsSmall k (node l (forest ts)) → AreSmall (suc k) ts
 node_small k l ts h = children_small k ts h.text (omega (arith, h.arity)) (omega (arith, h.depth)) (omega (arith, h.size))

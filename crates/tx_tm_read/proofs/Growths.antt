@@ -1,11 +1,11 @@
 -- Names and digits that grow.
-use Rattle.std.proofs.Common.{◌≡◌, ℕ, ◌+◌, ◌<◌, ◌≤◌, ◌==◌, true, false, Some, List, [], ◌∷◌, ◌++◌, length, length-append, arith}
+use Rattle.std.proofs.Common.{◌≡◌, ℕ, ◌<◌, ◌≤◌, ◌==◌, true, false, Some, List, [], ◌∷◌, ◌++◌, length, length-append, arith}
 use Rattle.std.specs.List.{AllByRecursion}
 use Rattle.tx_tree.specs.declared.TheConstants.{MOST_NAME, MOST_TEXT}
-use Rattle.tx_tree.specs.Texts.{is_name_byte, IsName, IsText}
+use Rattle.tx_tree.specs.Texts.{is_name_byte, IsText}
 use Rattle.tx_tm_form.specs.Bytes.{is_digit, kind_of, is_plain, escape_of}
 use Rattle.tx_tm_form.specs.declared.bytes.Escaped.TheVariants.{Byte}
-use Rattle.tx_tm_form.specs.Forms.{AreDigits, symbol_bytes}
+use Rattle.tx_tm_form.specs.Forms.{symbol_bytes}
 use Rattle.tx_tm_form.proofs.Formed.{digits_text, symbol_text, escaped_text, one_byte_text, plain_item}
 use Rattle.tx_tm_read.specs.Fronts.{IsNameFront, IsDigitFront}
 

@@ -1,9 +1,8 @@
 -- Labels that grow.
-use Rattle.std.proofs.Common.{◌≡◌, ℕ, ◌+◌, ◌<◌, ◌≤◌, true, List, [], ◌∷◌, ◌++◌, length, length-append, arith}
+use Rattle.std.proofs.Common.{◌≡◌, ℕ, ◌<◌, ◌≤◌, true, List, [], ◌∷◌, ◌++◌, length, length-append, arith}
 use Rattle.std.specs.List.{AllByRecursion}
 use Rattle.tx_tree.specs.declared.TheConstants.{MOST_LABEL}
 use Rattle.tx_tree.specs.Labels.{is_label_byte, IsLabel}
-use Rattle.tx_tm_form.specs.declared.bytes.ByteKind.{ByteKind}
 use Rattle.tx_tm_form.specs.declared.bytes.ByteKind.TheVariants.{Name}
 use Rattle.tx_tm_form.specs.Bytes.{kind_of}
 use Rattle.tx_tm_read.specs.LabelFronts.{IsLabelFront}

@@ -1,9 +1,8 @@
 -- What makes no leaf and no node.
-use Rattle.std.proofs.Common.{◌≡◌, ℕ, ◌+◌, ◌<◌, ◌≤◌, List, [], ◌∷◌, ◌++◌, length, take, Option, Some, None, refl, sym, ap, subst, ◌∙◌, arith, length-append}
+use Rattle.std.proofs.Common.{◌≡◌, ℕ, ◌<◌, ◌≤◌, List, [], ◌∷◌, length, take, refl, sym, ap, subst, ◌∙◌, arith}
 use Rattle.std.proofs.lemmas.List.{append-nil, take_all}
 use Rattle.std.proofs.Math.Nat.{le-max_left}
 use Rattle.tx_base.specs.Fronts.{IsFront, IsLongestFront}
-use Rattle.tx_tree.specs.declared.TheConstants.{MOST_ARITY}
 use Rattle.tx_tree.specs.Texts.{IsText}
 use Rattle.tx_tree.specs.WideTree.{WideTree, leaf, node, forest, count, widest, arity_of}
 use Rattle.tx_tree.proofs.Children.{count-forest}

@@ -1,20 +1,17 @@
 -- The reader over bytes.
-use Rattle.std.proofs.Common.{◌≡◌, ℕ, ◌+◌, ◌-◌, ◌<◌, ◌≤◌, Bool, true, false, if◌then◌else◌, List, [], ◌∷◌, ◌++◌, length, take, drop, get_or, Option, Some, None, Result, Ok, Err, IfOk, zero, suc, refl, sym, ap, subst, ◌∙◌, append_assoc, length-drop, arith}
-use Rattle.std.specs.List.{AllByRecursion}
+use Rattle.std.proofs.Common.{◌≡◌, ℕ, ◌+◌, ◌-◌, ◌<◌, ◌≤◌, Bool, true, false, List, [], ◌∷◌, ◌++◌, length, take, drop, get_or, Option, Some, None, Result, Ok, Err, IfOk, zero, suc, refl, sym, ap, subst, ◌∙◌, append_assoc, length-drop, arith}
 use Rattle.std.proofs.lemmas.List.{take-append-drop, take_more, take_all}
-use Rattle.tx_tree.specs.Limits.{IsWithinLimits}
 use Rattle.tx_tree.specs.Texts.{IsText}
 use Rattle.tx_tree.specs.WideTree.{WideTree}
 use Rattle.tx_tm_form.specs.declared.bytes.ByteKind.{ByteKind}
 use Rattle.tx_tm_form.specs.declared.bytes.ByteKind.TheVariants.{Name, Hash, Slash, Other}
-use Rattle.tx_tm_form.specs.declared.bytes.White.{White}
 use Rattle.tx_tm_form.specs.declared.places.Stage.{Stage}
 use Rattle.tx_tm_form.specs.declared.places.Stage.TheVariants.{Empty, Alone, Ordinary}
 use Rattle.tx_tm_form.specs.Bytes.{kind_of, is_plain}
-use Rattle.tx_tm_form.specs.Tokens.{Token, plain}
-use Rattle.tx_tm_form.specs.Parts.{Part, text}
+use Rattle.tx_tm_form.specs.Tokens.{plain}
+use Rattle.tx_tm_form.specs.Parts.{text}
 use Rattle.tx_tm_form.specs.Growing.{Inline, no_parts, grow, ended, resumed, Block, with_part, widen, as_block, Content, inline, blocks, collecting, put}
-use Rattle.tx_tm_form.specs.Machine.{Open, State, reading, feed, Lex, ready, Lexed, done, lex, lex_ready, Bytewise, at, given, step, run, Keeping, keep, tree_in, start, reads}
+use Rattle.tx_tm_form.specs.Machine.{Open, reading, feed, ready, done, lex, lex_ready, Bytewise, at, given, step, run, Keeping, keep, tree_in, start, reads}
 use Rattle.tx_tm_form.proofs.Formed.{text_text, no_text}
 use Rattle.tx_tm_read.specs.Blocks.{block_at}
 use Rattle.tx_tm_read.specs.Fits.{StateFits, ReaderFits}

@@ -1,5 +1,5 @@
 -- Where a limit is passed, no tree within the limits comes of the state.
-use Rattle.std.proofs.Common.{◌≡◌, ℕ, suc, ◌+◌, ◌<◌, ◌≤◌, Bool, true, false, ◌&&◌, if◌then◌else◌, List, [], ◌∷◌, ◌++◌, length, map, reverse, Option, Some, None, Result, Ok, Err, IfOk, refl, sym, ap, subst, ◌∙◌, arith}
+use Rattle.std.proofs.Common.{◌≡◌, ℕ, suc, ◌+◌, ◌<◌, ◌≤◌, Bool, true, false, ◌&&◌, if◌then◌else◌, List, [], ◌∷◌, ◌++◌, length, Option, Some, None, Result, Ok, Err, IfOk, refl, sym, ap, subst, ◌∙◌, arith}
 use Rattle.std.proofs.lemmas.List.{length-reverse, length-map}
 use Rattle.tx_base.specs.declared.out_of_memory.Memory.{Memory}
 use Rattle.tx_tree.specs.declared.TheConstants.{MOST_DEPTH}
@@ -9,12 +9,12 @@ use Rattle.tx_tm_form.specs.declared.places.Place.{Place}
 use Rattle.tx_tm_form.specs.declared.places.Place.TheVariants.{InShort, InHeader, InClosing}
 use Rattle.tx_tm_form.specs.Parts.{Part, gap, text, tag, same, none, collection_label}
 use Rattle.tx_tm_form.specs.Growing.{Inline, grown, Block, tree_of_block, long_of, Content, inline, blocks, collecting, no_tags, no_paragraphs, put, place_of, block_of, block_behind, opening}
-use Rattle.tx_tm_form.specs.Machine.{Open, State, reading, failed, go, open_tag, with_child, in_tag, next_block, last_block, last_argument}
+use Rattle.tx_tm_form.specs.Machine.{Open, State, reading, go, open_tag, with_child, in_tag, next_block, last_block, last_argument}
 use Rattle.tx_tm_read.specs.declared.tags.OpenTag.{OpenTag}
 use Rattle.tx_tm_read.specs.declared.tags.Spot.{Spot}
-use Rattle.tx_tm_read.specs.Fits.{IsSmall, AreSmall, ContentFits, ChildrenFit, OpensFit, StateFits}
+use Rattle.tx_tm_read.specs.Fits.{IsSmall, ChildrenFit, StateFits}
 use Rattle.tx_tm_read.specs.Nodes.{nodes_in, content_nodes, children_nodes, opens_nodes, open_nodes, state_nodes}
-use Rattle.tx_tm_read.specs.Spots.{open_of, opens_of, state_of, IsState, Rose, IsBlockTree}
+use Rattle.tx_tm_read.specs.Spots.{opens_of, state_of, IsState, Rose, IsBlockTree}
 use Rattle.tx_tm_read.proofs.Fitting.{small_within, right_small, put_tag_fits, last_within}
 use Rattle.tx_tm_read.proofs.Counts.{nodes_both}
 
@@ -108,7 +108,7 @@ block_stuck (collecting x) l w f fs h i = go_stuck (same l f.label) (in_tag w (w
 pub last_block_stuck : (b : Block) (l : List ℕ) (f : Open) (fs : List Open) → (IsWithinLimits (tree_of_block b) → ⊥) → StateFits (last_block None l (blocks b) (f ∷ fs)) → ⊥
 last_block_stuck b l f fs h i =
     go_stuck (same l f.label) (reading (put f.before (tag false (node f.label (forest (f.children ++ tree_of_block b ∷ []))))) fs)
-      (tag_stuck_there f.before false (node f.label (forest (f.children ++ tree_of_block b ∷ []))) fs (λ w. h (last_within f.label f.children (tree_of_block b) w))) i
+    (tag_stuck_there f.before false (node f.label (forest (f.children ++ tree_of_block b ∷ []))) fs (λ w. h (last_within f.label f.children (tree_of_block b) w))) i
 
 pub no_next : (w : Option Place) (l : List ℕ) (p : Option Place) (c : Content) → StateFits (next_block w l p c []) → ⊥
 no_next None l p c h = h

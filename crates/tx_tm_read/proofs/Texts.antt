@@ -1,5 +1,5 @@
 -- Texts that grow.
-use Rattle.std.proofs.Common.{◌≡◌, ℕ, ◌+◌, ◌≤◌, ◌<◌, List, [], ◌∷◌, ◌++◌, length, refl, length-append, arith}
+use Rattle.std.proofs.Common.{ℕ, ◌+◌, ◌≤◌, ◌<◌, List, [], ◌∷◌, ◌++◌, length, refl, length-append, arith}
 use Rattle.tx_tree.specs.declared.TheConstants.{MOST_TEXT}
 use Rattle.tx_tree.specs.Texts.{IsText}
 use Rattle.tx_tm_form.proofs.Formed.{text_text, no_text, one_byte_text}

@@ -1,11 +1,10 @@
 -- A block with one part more.
-use Rattle.std.proofs.Common.{◌≡◌, ℕ, ◌+◌, ◌≤◌, Bool, true, false, List, [], ◌∷◌, ◌++◌, length, Option, Some, None, refl, sym, ap, subst, ◌∙◌, arith}
+use Rattle.std.proofs.Common.{◌≡◌, ℕ, ◌+◌, ◌≤◌, Bool, true, false, List, [], ◌∷◌, ◌++◌, refl, sym, ap, subst, ◌∙◌, arith}
 use Rattle.tx_tree.specs.WideTree.{WideTree, nodes_of}
-use Rattle.tx_tm_form.specs.declared.bytes.White.{White}
 use Rattle.tx_tm_form.specs.declared.places.Stage.{Stage}
 use Rattle.tx_tm_form.specs.declared.places.Stage.TheVariants.{Empty, Alone, Ordinary}
-use Rattle.tx_tm_form.specs.Parts.{Part, gap, text, tag, leaf_before}
-use Rattle.tx_tm_form.specs.Growing.{Inline, grow, Block, widen, with_part, no_parts}
+use Rattle.tx_tm_form.specs.Parts.{text, tag, leaf_before}
+use Rattle.tx_tm_form.specs.Growing.{Inline, grow, Block, widen, with_part}
 use Rattle.tx_tm_read.specs.Fits.{AreSmall, LineFits, BlockFits}
 use Rattle.tx_tm_read.specs.Nodes.{nodes_in, line_nodes, block_nodes_at, block_nodes}
 use Rattle.tx_tm_read.specs.Blocks.{block_at, full_at, now_at, full_behind, now_behind, tag_stage}

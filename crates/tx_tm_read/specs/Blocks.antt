@@ -1,7 +1,6 @@
 -- A block of the program.
-use Rattle.std.specs.Prelude.{◌≡◌, ℕ, Bool, true, false, List, [], ◌∷◌, map, Option, Some, None}
+use Rattle.std.specs.Prelude.{◌≡◌, ℕ, Bool, true, false, List, [], map, Option, Some, None}
 use Rattle.tx_tree.specs.WideTree.{WideTree}
-use Rattle.tx_tm_form.specs.declared.places.Place.{Place}
 use Rattle.tx_tm_form.specs.declared.places.Stage.{Stage}
 use Rattle.tx_tm_form.specs.declared.places.Stage.TheVariants.{Empty, Alone, Ordinary}
 use Rattle.tx_tm_form.specs.Growing.{Inline, Block, no_parts, ended, resumed, Entry, Tags, Content, inline, blocks, collecting}

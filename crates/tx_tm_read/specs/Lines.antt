@@ -1,5 +1,4 @@
 -- An argument or a paragraph of the program.
-use base.Stored.{Gv}
 use Rattle.std.specs.Prelude.{◌≡◌, ◌≤◌, ℕ, Bool, List, length, Option, Some, None, refl}
 use Rattle.std.specs.Coded.{Coded, code_by, coded×, coded_ℕ, coded_bool, coded_list}
 use Rattle.tx_tree.specs.declared.TheConstants.{MOST_TEXT}
@@ -12,7 +11,7 @@ use Rattle.tx_tm_read.specs.Fits.{LineFits}
 abbrev pub inline_code : Coded Inline
 inline_code =
     code_by (List WideTree × (List ℕ × Bool)) (coded× (coded_list coded_WideTree) (coded× (coded_list coded_ℕ) coded_bool)) (λ g. (g.done, (g.bytes, g.in_run)))
-      (λ p. record { done = p.0; bytes = p.1.0; in_run = p.1.1 }) (λ _. refl)
+    (λ p. record { done = p.0; bytes = p.1.0; in_run = p.1.1 }) (λ _. refl)
 
 -- the bytes behind the last tag are a text within the limit
 pub record IsLineText (bytes : List ℕ) : Type 0 where

@@ -10,14 +10,13 @@ ghost use Rattle.tx_tm_read.specs.Lines.{IsMade};
 ghost use Rattle.tx_tm_read.specs.Blocks.{block_of, tags_of, entry_of, content_of, tag_stage, block_at, IsGoing, IsResumed, IsBlock, IsContent};
 ghost use Rattle.tx_tm_read.specs.Nodes.{nodes_in, line_nodes, block_nodes, tags_nodes, content_nodes};
 
+use crate::lines::Line;
+use crate::making::{make_document, make_leaf};
 use std::alloc::Global;
 use std::sync::ledger::Ledger;
 use tx_base::{Memory, Steps};
 use tx_tm_form::{Place, Stage, White};
 use tx_tree::Tree;
-
-use crate::lines::Line;
-use crate::making::{make_document, make_leaf};
 
 /// A block as far as it has been read: the paragraphs that have ended, the one that is open, and the white
 /// behind it.

@@ -14,3 +14,6 @@ mod taking;
 mod walk;
 
 pub use reader::read;
+
+#[cfg(test)]
+mod tests;

@@ -8,13 +8,12 @@ ghost use Rattle.tx_tm_form.specs.Growing.{no_parts, grow, grown};
 ghost use Rattle.tx_tm_read.specs.Lines.{IsMade, IsLine};
 ghost use Rattle.tx_tm_read.specs.Nodes.{line_nodes};
 
+use crate::making::{make_concat, make_leaf};
 use std::alloc::Global;
 use std::marker::Model;
 use std::sync::ledger::Ledger;
 use tx_base::{Memory, Steps};
 use tx_tree::{MOST_TEXT, Tree};
-
-use crate::making::{make_concat, make_leaf};
 
 /// An argument or a paragraph as far as it has been read: its trees, the text behind them, and whether a run
 /// of white ends that.

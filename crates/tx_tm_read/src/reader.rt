@@ -11,16 +11,15 @@ ghost use Rattle.tx_tm_read.specs.Nodes.{state_nodes};
 ghost use Rattle.tx_tm_read.specs.Spots.{state_of};
 ghost use Rattle.tx_tm_read.specs.Readers.{reader_of, IsReader, ReaderRose, ArePlain, IsAdvance, AdvanceRose, IsTree, IsRead};
 
+use crate::blocks::{Body, Paragraphs};
+use crate::lexer::{Lexed, Lexer, Word};
+use crate::tags::Spot;
+use crate::walk::put_text;
 use std::alloc::Global;
 use std::sync::ledger::Ledger;
 use tx_base::{Memory, Steps};
 use tx_tm_form::{ByteKind, kind_of};
 use tx_tree::{ReadFault, Tree};
-
-use crate::lexer::{Lexed, Lexer, Word};
-use crate::tags::Spot;
-use crate::walk::put_text;
-use crate::blocks::{Body, Paragraphs};
 
 // Whether the byte stands for itself.
 fn is_plain(byte: u8) -> bool
@@ -205,11 +204,7 @@ impl Reader {
     }
 
     // The tree, or None where the bytes so far spell none within the limits.
-    fn finish<L: Ledger>(
-        self,
-        alloc: Global,
-        steps: &mut Steps<L>,
-    ) -> Result<Option<Tree>, Memory>
+    fn finish<L: Ledger>(self, alloc: Global, steps: &mut Steps<L>) -> Result<Option<Tree>, Memory>
         ensures found { IfOk result (λ found. IsTree found (reader_of self)) }
         ensures counted { IfOk result (λ found. IfSome found (λ t. steps.new + state_nodes (state_of self.spot) ≤ steps.old + nodes_of t)) }
     {

@@ -6,13 +6,12 @@ ghost use Rattle.tx_tm_form.specs.Forms.{symbol_bytes};
 ghost use Rattle.tx_tree.specs.WideTree.{leaf};
 ghost use Rattle.tx_tm_read.specs.Fronts.{IsPushed, IsNameFront};
 
+use crate::blocks::Body;
+use crate::making::make_leaf;
 use std::alloc::Global;
 use std::marker::Model;
 use tx_base::Memory;
 use tx_tree::{Label, MOST_NAME, MOST_TEXT, Tree};
-
-use crate::blocks::Body;
-use crate::making::make_leaf;
 
 /// An open tag: the content before it, its label, and its children so far.
 #[derive(Drop)]

@@ -10,17 +10,16 @@ ghost use Rattle.tx_tm_read.specs.Blocks.{content_of};
 ghost use Rattle.tx_tm_read.specs.Nodes.{state_nodes};
 ghost use Rattle.tx_tm_read.specs.Spots.{opens_of, state_of, IsState, Rose};
 
-use std::alloc::Global;
-use std::sync::ledger::Ledger;
-use tx_base::{Memory, Steps};
-use tx_tm_form::{Escaped, Form, Place, escape_of, white_of};
-use tx_tree::Label;
-
 use crate::blocks::Body;
 use crate::lexer::Word;
 use crate::making::raw_data_label;
 use crate::tags::{Digits, NameFront, OpenTag, Spot};
 use crate::walk::{bar_in, close_in, in_place, last_in, next_in, put_node, put_text, put_white};
+use std::alloc::Global;
+use std::sync::ledger::Ledger;
+use tx_base::{Memory, Steps};
+use tx_tm_form::{Escaped, Form, Place, escape_of, white_of};
+use tx_tree::Label;
 
 // In a tag that begins.
 fn open_tag(

@@ -11,17 +11,16 @@ ghost use Rattle.tx_tm_read.specs.Blocks.{content_of, tags_of};
 ghost use Rattle.tx_tm_read.specs.Nodes.{nodes_in, line_nodes, tags_nodes, content_nodes, opens_nodes, open_nodes, state_nodes};
 ghost use Rattle.tx_tm_read.specs.Spots.{open_of, opens_of, state_of, IsState, IsBlockTree, Rose};
 
-use std::alloc::Global;
-use std::sync::ledger::Ledger;
-use tx_base::{Memory, Steps};
-use tx_tm_form::{Escaped, Form, Place, White, escape_of, white_of};
-use tx_tree::{Label, MOST_DEPTH, Tree};
-
 use crate::blocks::{Body, Paragraphs, TagList};
 use crate::lexer::Word;
 use crate::lines::Line;
 use crate::making::{make_collection, make_node};
 use crate::tags::{Digits, NameFront, OpenTag, Spot};
+use std::alloc::Global;
+use std::sync::ledger::Ledger;
+use tx_base::{Memory, Steps};
+use tx_tm_form::{Escaped, Form, Place, White, escape_of, white_of};
+use tx_tree::{Label, MOST_DEPTH, Tree};
 
 fn same_bytes(one: &[u8], other: &[u8]) -> bool
     ensures { result ≡ same one.now other.now }
@@ -43,10 +42,7 @@ fn in_argument(
         return Ok(None);
     }
     opens.push(tag)?;
-    Ok(Some(Spot::Reading(
-        Body::Argument(place, Line::new(alloc)),
-        opens,
-    )))
+    Ok(Some(Spot::Reading(Body::Argument(place, Line::new(alloc)), opens)))
 }
 
 // Whether the label is that of collections.
@@ -117,7 +113,11 @@ fn put_tag<L: Ledger>(
 }
 
 // Behind white.
-pub(crate) fn put_white(white: White, here: Body, opens: Vec<OpenTag>) -> Result<Option<Spot>, Memory>
+pub(crate) fn put_white(
+    white: White,
+    here: Body,
+    opens: Vec<OpenTag>,
+) -> Result<Option<Spot>, Memory>
     ensures next { IfOk result (λ next. IsState next (reading (put (content_of here) (gap white)) (opens_of opens.items))) }
     ensures counted { IfOk result (Rose 0 0 (state_nodes (reading (content_of here) (opens_of opens.items)))) }
 {

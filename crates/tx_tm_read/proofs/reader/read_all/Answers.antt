@@ -22,4 +22,4 @@ bytes-preserved g c =
 pub returns-clause-found : goal.returns-clause-found
 returns-clause-found g c =
     over _ (reader_of c.bytes.reader) c.bytes.rest.now c.args.bytes.now c.bytes.invariant.going
-      (nothing_left c.bytes.rest.now (eqb-true _ _ (sym c.is_empty.ensures ∙ c.bytes-test.false))) c.finish.ensures.found
+    (nothing_left c.bytes.rest.now (eqb-true _ _ (sym c.is_empty.ensures ∙ c.bytes-test.false))) c.finish.ensures.found

@@ -10,4 +10,4 @@ returns-in_ok-with_tag-in-Some-clause-counted g c =
     let next = rw c.in-Some.is at c.in_ok-resume.ensures.next in
     let counted = rw c.in-Some.is at c.in_ok-resume.ensures.counted in
     tag_counted (block_of c.args.self) c.args.collects c.in-Some.resumed.full.items c.in-Some.resumed.now c.resume.new.steps c.args.steps.now c.args.tree c.tag_stage-stage.result (block_of c.in_ok-with_tag-in-Some.field-0)
-      c.in_ok-with_tag-in-Some.ensures c.tag_stage-stage.ensures next.full_is next.now_is counted
+    c.in_ok-with_tag-in-Some.ensures c.tag_stage-stage.ensures next.full_is next.now_is counted

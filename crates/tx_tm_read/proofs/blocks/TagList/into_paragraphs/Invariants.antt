@@ -1,4 +1,3 @@
-use Rattle.std.proofs.Common.{◌++◌, map}
 use Rattle.tx_tm_read.specs.Blocks.{block_of}
 use Rattle.tx_tm_read.proofs.Replay.{IsReplayed}
 use Rattle.tx_tm_read.proofs.blocks.TagList.into_paragraphs.Given as goal

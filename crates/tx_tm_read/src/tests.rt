@@ -1,0 +1,153 @@
+// What is read, as printed trees: a text between quotes, a node as its label and its children in brackets.
+ghost use Rattle.std.specs.Prelude.{◌≡◌};
+
+use crate::read;
+use std::alloc::{AllocError, Global};
+use std::marker::Brand;
+use std::sync::ledger::{Blank, Ledger};
+use std::test::Fail;
+use tx_base::Steps;
+use tx_tree::{MOST_DEPTH, ReadFault, Tree};
+
+// Prints the tree, down to so many levels.
+fn print(tree: &Tree, levels: u32, out: &mut Vec<u8>) -> Result<(), AllocError> {
+    if levels == 0 {
+        return Ok(());
+    }
+    if let Some(text) = tree.text() {
+        out.push(b'"')?;
+        out.extend_from_slice(text.bytes())?;
+        out.push(b'"')?;
+        return Ok(());
+    }
+    out.push(b'(')?;
+    if let Some(label) = tree.label() {
+        out.extend_from_slice(label.bytes())?;
+    }
+    for child in tree.children() {
+        out.push(b' ')?;
+        print(child, levels - 1, out)?;
+    }
+    out.push(b')')?;
+    Ok(())
+}
+
+// The tree that the bytes spell, as printed.
+fn printed<L: Ledger>(alloc: Global, bytes: &[u8], blank: Blank) -> Result<Vec<u8>, ReadFault>
+    requires name { blank.name ≡ L.name }
+    requires parts { blank.parts ≡ L.parts }
+    requires whole { blank.parts ≡ 1 }
+{
+    let mut steps = Steps::<L>::new(blank);
+    let tree = read(alloc, bytes, &mut steps)?;
+    let mut out = Vec::new(alloc);
+    print(&tree, MOST_DEPTH, &mut out)?;
+    Ok(out)
+}
+
+#[test]
+fn trees_that_are_read(rt: HostRuntime) -> Result<(), Fail> {
+    let rows: [(&[u8], &[u8]); 32] = [
+        (b"", b"(document \"\")"),
+        (b" \t\r\n", b"(document \"\")"),
+        (
+            b"an <em|important> note",
+            b"(document (concat \"an \" (em \"important\") \" note\"))",
+        ),
+        (b"a\\Pb", b"(document \"a\x10b\")"),
+        (b"a\\0b", b"(document \"a\x00b\")"),
+        (b"a\\@b\\_", b"(document \"a\x00b\x1f\")"),
+        (
+            b"<\\f|1>x<|f|2>y</f>",
+            b"(document (f \"1\" (document \"x\") \"2\" (document \"y\")))",
+        ),
+        (b"<f| a ><g>", b"(document (concat (f \" a \") (g)))"),
+        (b"<f|>", b"(document (f \"\"))"),
+        (b"a\n\nb\nc \n \n d", b"(document \"a\" \"b c\" \"d\")"),
+        (b"<f|a\n\n\nb>", b"(document (f \"a b\"))"),
+        (b"a\\\n  b\\\r\n\tc", b"(document \"abc\")"),
+        (b"a \\\n  b", b"(document \"a b\")"),
+        (b"a\n\\\n\nb", b"(document \"a\" \"b\")"),
+        (b"a\\ \\ b", b"(document \"a  b\")"),
+        (b"\\;", b"(document \"\")"),
+        (b"\\;<f>\n\n\\;", b"(document (f) \"\")"),
+        (b"\\|\\\\", b"(document \"|\\\")"),
+        (b"\\<a\\|\\\\lpha\\>", b"(document \"<a|\\lpha>\")"),
+        (b"\\<al\\\n pha\\>x", b"(document \"<alpha>x\")"),
+        (b"<#4Aa\\\n f>", b"(document (raw-data \"4Aaf\"))"),
+        (b"<#>", b"(document (raw-data \"\"))"),
+        (
+            b"<\\collection><a> \n\n<#0></collection>",
+            b"(collection (a) (raw-data \"0\"))",
+        ),
+        (
+            b"<\\collection></collection> x",
+            b"(document (concat (collection) \" x\"))",
+        ),
+        (
+            b"<\\collection><a>\\;</collection>",
+            b"(document (collection (document (a))))",
+        ),
+        (
+            b"<\\collection|x></collection>",
+            b"(document (collection \"x\" (document \"\")))",
+        ),
+        (
+            b"<\\collection>x<|collection></collection>",
+            b"(document (collection (document \"x\") (document \"\")))",
+        ),
+        (b"<collection|<a>>", b"(document (collection (a)))"),
+        (
+            b"<\\f>a</f|b|c>d",
+            b"(document (concat (f (document \"a\") \"b\" \"c\") \"d\"))",
+        ),
+        (
+            b"<concat|a|<document>>",
+            b"(document (concat \"a\" (document)))",
+        ),
+        (b"<-_+*:.?!=~@$%&^9Z>", b"(document (-_+*:.?!=~@$%&^9Z))"),
+        (
+            b"x<\\f>\n\n</f>#/\x0b\xff",
+            b"(document (concat \"x\" (f (document \"\")) \"#/\x0b\xff\"))",
+        ),
+    ];
+    for (bytes, want) in rows {
+        let text = printed::<Brand>(rt.alloc(), bytes, Blank::new(1))?;
+        assert_eq!(rt; text.as_slice(), want, "at {bytes:?}");
+    }
+    Ok(())
+}
+
+#[test]
+fn bytes_that_spell_no_tree(rt: HostRuntime) {
+    let rows: [&[u8]; 24] = [
+        b"a\\Ib",
+        b"\\<a\\>\\<b",
+        b"a>b",
+        b"a|b",
+        b"\\>",
+        b"\\",
+        b"\\\r",
+        b"\\\r>",
+        b"\\<\\>",
+        b"\\<a|b\\>",
+        b"\\<a b\\>",
+        b"<",
+        b"<a",
+        b"<>",
+        b"<|a>",
+        b"</a>",
+        b"<f|</g>",
+        b"<\\a></b>",
+        b"<\\a></a >",
+        b"<\\a|</a>",
+        b"<#4G>",
+        b"<#4|>",
+        b"<\\a>x|</a>",
+        b"<a\\\n>",
+    ];
+    for bytes in rows {
+        let found = printed::<Brand>(rt.alloc(), bytes, Blank::new(1));
+        assert_eq!(rt; found.err(), Some(ReadFault::NoTree), "at {bytes:?}");
+    }
+}
