@@ -1,3 +1,4 @@
 pub mod Scanning
 pub mod Labelling
 pub mod Children
+pub mod Walks
