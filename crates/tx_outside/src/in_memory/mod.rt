@@ -1,6 +1,10 @@
 // A source, a sink and a store that are kept in memory. They tell all that they hold, and fail at the
 // calls that they are told to.
 mod call_numbers;
+mod mem_sink;
 mod mem_source;
+mod stored_file;
 
+pub use mem_sink::MemSink;
 pub use mem_source::MemSource;
+pub use stored_file::StoredFile;
