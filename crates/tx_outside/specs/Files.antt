@@ -1,5 +1,5 @@
 -- Files as a list of names and bytes.
-use Rattle.std.specs.Prelude.{◌≡◌, ◌≢◌, ℕ, List, [], ◌∷◌, Option, Some, None}
+use Rattle.std.specs.Prelude.{◌≡◌, ◌≢◌, ◌<◌, ℕ, List, [], ◌∷◌, Option, Some, None, length, take, slice_index_or}
 use Rattle.std.specs.Map.{lookup}
 use Rattle.std.specs.Str.{bytes_eq}
 
@@ -24,3 +24,9 @@ OthersKept name old new = (other : List ℕ) → other ≢ name → file_of new 
 pub record WithFile (name bytes : List ℕ) (old new : Files) : Type 0 where
   pub file : file_of new name ≡ Some bytes
   pub others : OthersKept name old new
+
+-- the first file of that name stands at that place
+pub record StandsAt (name : List ℕ) (files : Files) (place : ℕ) : Type 0 where
+  pub within : place < length files
+  pub before : file_of (take place files) name ≡ None
+  pub there : (file : List ℕ × List ℕ) → (slice_index_or files place file).0 ≡ name

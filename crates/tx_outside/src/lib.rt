@@ -19,4 +19,4 @@ pub use byte_sink::{Sink, write_all};
 pub use byte_source::Source;
 pub use faults::{Failed, LoadFault, SaveFault, WriteFault};
 pub use file_store::{MOST_FILE, Store};
-pub use in_memory::{MemSink, MemSource, StoredFile};
+pub use in_memory::{MemSink, MemSource, MemStore, StoredFile};

@@ -41,7 +41,7 @@ impl StoredFile {
     }
 
     /// Gives the file other bytes.
-    pub fn set_bytes(&mut self, bytes: Vec<u8>)
+    pub(super) fn set_bytes(&mut self, bytes: Vec<u8>)
         ensures { self.new ≡ (self.old.0, bytes.items) }
     {
         self.bytes = bytes;
