@@ -1,0 +1,44 @@
+// The calls of one object in memory: which of them fail, and how many were made and failed.
+ghost use Rattle.std.specs.Prelude.{◌≡◌, ◌↔◌, IsTrue, Contains};
+ghost use Rattle.tx_outside.specs.Counts.{NeverFalls, Rose, raised};
+
+/// The numbers of the calls that fail, the number of the next call, and how many calls failed.
+#[derive(Drop)]
+pub struct Calls {
+    failing: Vec<u64>,
+    next: u64,
+    faults: u64,
+}
+
+impl Calls {
+    pub fn new(failing: Vec<u64>) -> Calls
+        ensures failing { result.failing ≡ failing }
+        ensures next { result.next ≡ 0 }
+        ensures faults { result.faults ≡ 0 }
+    {
+        Calls {
+            failing,
+            next: 0,
+            faults: 0,
+        }
+    }
+
+    /// Takes the number of a call, and answers whether that call is to fail.
+    pub fn take_number(&mut self) -> bool
+        ensures listed { IsTrue result ↔ Contains self.old.failing.items self.old.next }
+        ensures numbered { self.new ≡ record self.old { next = raised self.old.next } }
+    {
+        let listed = self.failing.contains(&self.next);
+        self.next = self.next.saturating_add(1);
+        listed
+    }
+
+    /// Counts a call that failed.
+    pub fn count_fault(&mut self)
+        ensures counted { self.new ≡ record self.old { faults = raised self.old.faults } }
+        ensures rises { Rose self.old.faults self.new.faults }
+        ensures never_falls { NeverFalls self.old.faults self.new.faults }
+    {
+        self.faults = self.faults.saturating_add(1);
+    }
+}
