@@ -1,6 +1,4 @@
-use Rattle.std.proofs.Common.{◌≡◌, ℕ, ◌+◌, ◌≤◌, ◌∷◌, [], ◌++◌, min, List, length, get_or, subst, arith}
-use Rattle.std.proofs.lemmas.List.{length_push}
-use Rattle.std.proofs.lemmas.Slice.{pushed}
+use Rattle.std.proofs.Common.{◌≡◌, ℕ, ◌≤◌, min, List, length, get_or, subst, arith}
 use Rattle.tx_lines.specs.declared.cut.Cut.{Cut}
 use Rattle.tx_lines.specs.declared.first_fit.Piece.{Piece}
 use Rattle.tx_lines.proofs.Cells.{cells_of_one}
