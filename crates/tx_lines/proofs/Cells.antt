@@ -1,10 +1,10 @@
 -- The cells of pieces side by side, as pieces are added.
 use Rattle.std.proofs.Common.{◌≡◌, ℕ, zero, suc, ◌+◌, ◌-◌, ◌<◌, ◌≤◌, List, [], ◌∷◌, ◌++◌, length, get_or, take, drop, ap, ◌∙◌, arith}
-use Rattle.std.specs.Prelude.{slice_range, sum_by}
+use Rattle.std.specs.Prelude.{sum_by}
 use Rattle.std.proofs.lemmas.List.{take-take, take_more, drop_more, get_or-drop, length-drop, length-take-le}
 use Rattle.std.proofs.lemmas.List.Sums.{sum_by_push, sum_by-take-le}
 use Rattle.tx_lines.specs.declared.first_fit.Piece.{Piece}
-use Rattle.tx_lines.specs.FirstFit.{cells_of}
+use Rattle.tx_lines.specs.FirstFit.{cells_of, line_cells}
 
 -- what a piece takes behind another: the spaces before it, and its own cells
 abbrev beside : Piece → ℕ
@@ -16,7 +16,7 @@ cells_of-push [] y some = absurd (omega arith)
 cells_of-push (x ∷ xs) y some = omega (arith, sum_by_push beside xs y)
 
 -- one more piece on a line
-pub cells_of_more : (xs : List Piece) (from to : ℕ) (d : Piece) → from < to → to < length xs → cells_of (slice_range xs from (to + 1)) ≡ cells_of (slice_range xs from to) + beside (get_or xs to d)
+pub cells_of_more : (xs : List Piece) (from to : ℕ) (d : Piece) → from < to → to < length xs → line_cells xs from (to + 1) ≡ line_cells xs from to + beside (get_or xs to d)
 cells_of_more xs from to d some there =
     let rest : List Piece = drop from xs in
     let at : ℕ = to - from in
@@ -39,11 +39,11 @@ cells_of-take-le (x ∷ xs) (suc n) (suc m) h =
     omega arith
 
 -- the pieces up to an earlier place take no more
-pub cells_of_le : (xs : List Piece) (from to end : ℕ) → to ≤ end → cells_of (slice_range xs from to) ≤ cells_of (slice_range xs from end)
+pub cells_of_le : (xs : List Piece) (from to end : ℕ) → to ≤ end → line_cells xs from to ≤ line_cells xs from end
 cells_of_le xs from to end h = cells_of-take-le (drop from xs) (to - from) (end - from) (omega arith)
 
 -- a piece alone takes its own cells
-pub cells_of_one : (xs : List Piece) (from : ℕ) (d : Piece) → from < length xs → cells_of (slice_range xs from (from + 1)) ≡ (get_or xs from d).cells
+pub cells_of_one : (xs : List Piece) (from : ℕ) (d : Piece) → from < length xs → line_cells xs from (from + 1) ≡ (get_or xs from d).cells
 cells_of_one xs from d there =
     let one : from + 1 - from ≡ 1 = omega arith in
     ap (λ n. cells_of (take n (drop from xs))) one ∙ ap (λ ys. cells_of (take 1 ys)) (drop_more xs from d there) ∙ omega arith

@@ -1,22 +1,19 @@
 -- Lines that are filled one by one, and why there is one way to fill them.
 use Rattle.std.proofs.Common.{◌≡◌, ℕ, zero, suc, ◌+◌, ◌<◌, ◌≤◌, min, List, [], ◌∷◌, ◌++◌, length, Some, refl, sym, ap, ◌∙◌, subst, inl, inr, arith, add-one}
-use Rattle.std.specs.Prelude.{slice_get, slice_range}
+use Rattle.std.specs.Prelude.{slice_get}
 use Rattle.std.proofs.lemmas.Bool.{cases_lt}
 use Rattle.tx_lines.specs.declared.cut.Cut.{Cut}
 use Rattle.tx_lines.specs.declared.first_fit.Piece.{Piece}
 use Rattle.tx_lines.specs.Cuts.{Partitions}
-use Rattle.tx_lines.specs.FirstFit.{cells_of, width_of, IsFirstFit}
+use Rattle.tx_lines.specs.FirstFit.{line_cells, width_of, IsFirstFit}
 use Rattle.tx_lines.proofs.Cells.{cells_of_le}
 use Rattle.tx_lines.proofs.Places.{slice_get-push, same_cut, forward, Partitions-push, meets}
 
 -- lines of the pieces before a place, of which none has room for the piece behind it
 pub record FillsTo (pieces : List Piece) (first later end : ℕ) (lines : List Cut) : Type 0 where
   pub in_order : Partitions lines 0 end
-  pub fits : (k : ℕ) (line : Cut) → slice_get lines k ≡ Some line → cells_of (slice_range pieces line.from line.to) ≤ width_of first later k
-  pub full : (k : ℕ) (line : Cut) → slice_get lines k ≡ Some line → line.to < length pieces → width_of first later k < cells_of (slice_range pieces line.from (line.to + 1))
-
-pub fills_none : (pieces : List Piece) (first later : ℕ) → FillsTo pieces first later 0 []
-fills_none pieces first later = record { in_order = refl; fits = λ k line e. cc; full = λ k line e more. cc }
+  pub fits : (k : ℕ) (line : Cut) → slice_get lines k ≡ Some line → line_cells pieces line.from line.to ≤ width_of first later k
+  pub full : (k : ℕ) (line : Cut) → slice_get lines k ≡ Some line → line.to < length pieces → width_of first later k < line_cells pieces line.from (line.to + 1)
 
 -- each line has at least the narrower width
 pub min_width : (first later k : ℕ) → min first later ≤ width_of first later k
@@ -29,19 +26,19 @@ later_behind first later [] line = refl
 later_behind first later (x ∷ xs) line = refl
 
 -- one more line
-pub fills_more : (pieces : List Piece) (first later width : ℕ) (lines : List Cut) (line : Cut) → FillsTo pieces first later line.from lines → width ≡ width_of first later (length lines) → line.from < line.to → cells_of (slice_range pieces line.from line.to) ≤ width → (line.to < length pieces → width < cells_of (slice_range pieces line.from (line.to + 1))) → FillsTo pieces first later line.to (lines ++ line ∷ [])
+pub fills_more : (pieces : List Piece) (first later width : ℕ) (lines : List Cut) (line : Cut) → FillsTo pieces first later line.from lines → width ≡ width_of first later (length lines) → line.from < line.to → line_cells pieces line.from line.to ≤ width → (line.to < length pieces → width < line_cells pieces line.from (line.to + 1)) → FillsTo pieces first later line.to (lines ++ line ∷ [])
 fills_more pieces first later width lines line before is_width some fits full = record {
   in_order = Partitions-push lines line 0 before.in_order some;
   fits = λ k at e. elim (slice_get-push lines line k at e) [
     | inl there ↦ before.fits k at there
     | inr last ↦
-        let P : Cut → Type 0 = λ c. cells_of (slice_range pieces c.from c.to) ≤ width_of first later k in
+        let P : Cut → Type 0 = λ c. line_cells pieces c.from c.to ≤ width_of first later k in
         subst P last.1 (omega (arith, ap (width_of first later) last.0))
   ];
   full = λ k at e. elim (slice_get-push lines line k at e) [
     | inl there ↦ before.full k at there
     | inr last ↦
-        let P : Cut → Type 0 = λ c. c.to < length pieces → width_of first later k < cells_of (slice_range pieces c.from (c.to + 1)) in
+        let P : Cut → Type 0 = λ c. c.to < length pieces → width_of first later k < line_cells pieces c.from (c.to + 1) in
         subst P last.1 (λ more. omega (arith, full more, ap (width_of first later) last.0))
   ];
 }
@@ -53,15 +50,15 @@ fills_all pieces first later lines h = record {
   fits = h.fits;
   full = λ k line next e f.
       let on = meets lines 0 (length pieces) k line next h.in_order e (rw add-one at f) in
-      let P : ℕ → Type 0 = λ to. width_of first later k < cells_of (slice_range pieces line.from (to + 1)) in
+      let P : ℕ → Type 0 = λ to. width_of first later k < line_cells pieces line.from (to + 1) in
       subst P on.0 (h.full k line e (omega arith));
 }
 
 -- what first-fit says of the lines from the piece at a place on
 record FillsFrom (pieces : List Piece) (from first later : ℕ) (lines : List Cut) : Type 0 where
   in_order : Partitions lines from (length pieces)
-  fits : (k : ℕ) (line : Cut) → slice_get lines k ≡ Some line → cells_of (slice_range pieces line.from line.to) ≤ width_of first later k
-  full : (k : ℕ) (line next : Cut) → slice_get lines k ≡ Some line → slice_get lines (suc k) ≡ Some next → width_of first later k < cells_of (slice_range pieces line.from (next.from + 1))
+  fits : (k : ℕ) (line : Cut) → slice_get lines k ≡ Some line → line_cells pieces line.from line.to ≤ width_of first later k
+  full : (k : ℕ) (line next : Cut) → slice_get lines k ≡ Some line → slice_get lines (suc k) ≡ Some next → width_of first later k < line_cells pieces line.from (next.from + 1)
 
 later_width : (later k : ℕ) → width_of later later k ≡ later
 later_width later zero = refl
@@ -80,10 +77,10 @@ no_shorter pieces from first later x y [] ys a b = let on : y.to ≤ length piec
 no_shorter pieces from first later x y (z ∷ xs) ys a b =
     elim (cases_lt x.to y.to) [
       | inl shorter ↦
-          let over : first < cells_of (slice_range pieces x.from (z.from + 1)) = a.full 0 x z refl refl in
-          let fits : cells_of (slice_range pieces y.from y.to) ≤ first = b.fits 0 y refl in
-          let less : cells_of (slice_range pieces x.from (z.from + 1)) ≤ cells_of (slice_range pieces x.from y.to) = cells_of_le pieces x.from (z.from + 1) y.to (omega arith) in
-          let same : cells_of (slice_range pieces x.from y.to) ≡ cells_of (slice_range pieces y.from y.to) = ap (λ i. cells_of (slice_range pieces i y.to)) (a.in_order.0 ∙ sym b.in_order.0) in
+          let over : first < line_cells pieces x.from (z.from + 1) = a.full 0 x z refl refl in
+          let fits : line_cells pieces y.from y.to ≤ first = b.fits 0 y refl in
+          let less : line_cells pieces x.from (z.from + 1) ≤ line_cells pieces x.from y.to = cells_of_le pieces x.from (z.from + 1) y.to (omega arith) in
+          let same : line_cells pieces x.from y.to ≡ line_cells pieces y.from y.to = ap (λ i. line_cells pieces i y.to) (a.in_order.0 ∙ sym b.in_order.0) in
           absurd (omega arith)
       | inr longer ↦ longer
     ]

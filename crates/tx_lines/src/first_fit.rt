@@ -3,7 +3,7 @@ ghost use Rattle.std.specs.Prelude.{◌≡◌, ℕ, ◌+◌, ◌^◌, ◌<◌, �
 ghost use Rattle.std.specs.List.{flat_map};
 ghost use Rattle.tx_lines.specs.declared.cut.Cut.{Cut};
 ghost use Rattle.tx_lines.specs.declared.first_fit.Piece.{Piece};
-ghost use Rattle.tx_lines.specs.FirstFit.{IsWidth, cells_of, IsFirstFit};
+ghost use Rattle.tx_lines.specs.FirstFit.{IsWidth, line_cells, IsFirstFit};
 
 use crate::cut::Cut;
 use std::alloc::Global;
@@ -18,12 +18,13 @@ pub struct Piece {
     pub cells: u32,
 }
 
-/// The lines of the pieces, first-fit: each piece stands on the line of the piece before it where it still
-/// fits there behind its spaces, and else begins the next line, without them. Only the first line has the
-/// width `first`, and a cut holds the numbers of a line's pieces. No piece gives no line.
+/// The lines of the pieces, first-fit: a piece stands on the line of the piece before it where it and the
+/// spaces between the two still fit, and else begins the next line, and its spaces stand on no line. The
+/// first line alone has the width `first`. Each cut is the places of one line's pieces, and no piece gives
+/// no line.
 ///
 /// There are fewer than 2^32 pieces, none wider than the narrower width, and both widths are 10 to 500
-/// cells. The only error is want of memory.
+/// cells. The one error is want of memory.
 pub fn fill(alloc: Global, pieces: &[Piece], first: u32, later: u32) -> Result<Vec<Cut>, Memory>
     requires few_pieces { length pieces.now < 2 ^ 32 }
     requires first_width { IsWidth first }
@@ -49,11 +50,11 @@ pub fn fill(alloc: Global, pieces: &[Piece], first: u32, later: u32) -> Result<V
 /// Where the line of this width ends that begins with the piece at `from`.
 fn line_end(pieces: &[Piece], from: usize, width: u32) -> usize
     requires there { from < length pieces.now }
-    requires narrow { cells_of (slice_range pieces.now from (from + 1)) ≤ width }
+    requires narrow { line_cells pieces.now from (from + 1) ≤ width }
     ensures some { from < result }
     ensures within { result ≤ length pieces.now }
-    ensures fits { cells_of (slice_range pieces.now from result) ≤ width }
-    ensures full { result < length pieces.now → width < cells_of (slice_range pieces.now from (result + 1)) }
+    ensures fits { line_cells pieces.now from result ≤ width }
+    ensures full { result < length pieces.now → width < line_cells pieces.now from (result + 1) }
 {
     let mut used = u64::from(pieces[from].cells);
     for end in from + 1..pieces.len() {
@@ -160,7 +161,7 @@ mod tests {
                 &[(0, 2), (2, 3), (3, 4)],
             ),
             (
-                &[(4294967295, 1), (4294967295, 1), (0, 1)],
+                &[(u32::MAX, 1), (u32::MAX, 1), (0, 1)],
                 10,
                 10,
                 &[(0, 1), (1, 3)],
