@@ -41,10 +41,9 @@ first_stop_from-past_block set bytes at r room run le =
     omega arith
 
 -- the first stop lies within the bytes
-pub first_stop_from-within : (set bytes : List ℕ) (from r : ℕ) → from ≤ length bytes → r ≡ first_stop_from set bytes from → (from ≤ r) × (r ≤ length bytes)
+pub first_stop_from-within : (set bytes : List ℕ) (from r : ℕ) → from ≤ length bytes → r ≡ first_stop_from set bytes from → r ≤ length bytes
 first_stop_from-within set bytes from r le is =
-    let short = prefix_len-le-length (λ x. not (is_stop set x)) (drop from bytes) in
-    (omega arith, omega (arith, length-drop from bytes))
+    omega (arith, prefix_len-le-length (λ x. not (is_stop set x)) (drop from bytes), length-drop from bytes)
 
 -- no stop stands before it
 pub first_stop_from-before : (set bytes : List ℕ) (from r k : ℕ) → r ≡ first_stop_from set bytes from → from ≤ k → k < r → is_stop set (get_or bytes k 0) ≡ false

@@ -21,8 +21,8 @@ pub fn count_of(bytes: &[u8], b: u8) -> usize
 // How many of the 32 bytes from `at` on are `b`.
 #[inline(always)]
 fn count_in_block(bytes: &[u8], at: usize, b: u8) -> usize
-    requires { at + 32 ≤ length bytes.now }
-    ensures { result ≡ count_by (λ x. x == b) (chunk at 32 bytes.now) }
+    requires { at + BLOCK_SIZE ≤ length bytes.now }
+    ensures { result ≡ count_by (λ x. x == b) (chunk at BLOCK_SIZE bytes.now) }
 {
     let block = u8x32::from_slice(&bytes[at..]);
     block.simd_eq(u8x32::splat(b)).to_bitmask().count_ones() as usize

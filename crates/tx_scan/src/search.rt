@@ -9,7 +9,8 @@ use crate::stop_set::{BLOCK_SIZE, Stops};
 pub fn first_stop(bytes: &[u8], from: usize, stops: &Stops) -> usize
     requires { from ≤ length bytes.now }
     ensures value { result ≡ first_stop_from stops.now bytes.now from }
-    ensures within { (from ≤ result) × (result ≤ length bytes.now) }
+    ensures from_on { from ≤ result }
+    ensures within { result ≤ length bytes.now }
     ensures before { (k : ℕ) → from ≤ k → k < result → is_stop stops.now (slice_index bytes.now k) ≡ false }
     ensures found { result < length bytes.now → is_stop stops.now (slice_index bytes.now result) ≡ true }
 {

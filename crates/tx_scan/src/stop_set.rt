@@ -63,8 +63,8 @@ impl Stops {
     // How many of the 32 bytes from `at` on come before the first stop among them.
     #[inline(always)]
     pub(crate) fn run_in_block(&self, bytes: &[u8], at: usize) -> usize
-        requires { at + 32 ≤ length bytes.now }
-        ensures { result ≡ position_or_len (is_stop self.now) (chunk at 32 bytes.now) }
+        requires { at + BLOCK_SIZE ≤ length bytes.now }
+        ensures { result ≡ position_or_len (is_stop self.now) (chunk at BLOCK_SIZE bytes.now) }
     {
         let block = u8x32::from_slice(&bytes[at..]);
         let mut stops = block.simd_lt(u8x32::splat(SPACE));
