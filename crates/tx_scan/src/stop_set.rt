@@ -16,13 +16,14 @@ const MAX_SIZE: usize = 8;
 /// The lowest byte that is no control byte.
 const SPACE: u8 = b' ';
 
-/// A set of at most eight bytes that end a run, beside the bytes below 32, which always do.
+/// A set of at most eight bytes that end a run of plain bytes. The bytes below 32 end one whatever
+/// the set.
 ///
 /// A contract sees it as the list of the set's bytes.
 #[derive(Drop)]
 pub struct Stops {
     // The set, and then zeros, which are control bytes and so stops in any case.
-    bytes: [u8; 8],
+    bytes: [u8; MAX_SIZE],
     size: usize,
 }
 
@@ -31,7 +32,8 @@ impl Model for Stops {
 
     ghost view = { λ s. take s.size s.bytes };
 
-    ghost invariant = { λ s. (s.size ≤ 8) × (s.bytes ≡ take s.size s.bytes ++ replicate (8 - s.size) 0) };
+    ghost invariant = { λ s. (s.size ≤ 8)
+        × (s.bytes ≡ take s.size s.bytes ++ replicate (8 - s.size) 0) };
 }
 
 impl Stops {
@@ -54,7 +56,7 @@ impl Stops {
 
     // Whether `byte` is a stop.
     #[inline(always)]
-    pub(crate) fn has(&self, byte: u8) -> bool
+    pub(crate) fn is_stop(&self, byte: u8) -> bool
         ensures { result ≡ is_stop self.now byte }
     {
         byte < SPACE || self.bytes.contains(&byte)

@@ -6,7 +6,7 @@ use std::process::Abort;
 
 const LENGTHS: [usize; 7] = [0, 1, 31, 32, 33, 64, 65];
 
-// A letter at each place but one.
+// The stop at its place, and the letter a at each other.
 fn text_with(stop: u8, place: usize) -> [u8; 66]
     requires { place < 66 }
 {

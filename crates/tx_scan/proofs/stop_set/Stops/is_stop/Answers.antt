@@ -2,7 +2,7 @@ use Rattle.std.proofs.Common.{◌-◌, ◌||◌, eqb, sym, ap, ◌∙◌}
 use Rattle.std.specs.List.{list_any}
 use Rattle.std.proofs.lemmas.Bool.{le-ltb}
 use Rattle.tx_scan.proofs.SetLemmas.{is_stop-inside}
-use Rattle.tx_scan.proofs.stop_set.Stops.has.Goals as goal
+use Rattle.tx_scan.proofs.stop_set.Stops.is_stop.Goals as goal
 
 pub returns-else-byte-lt-SPACE : goal.returns-else-byte-lt-SPACE
 returns-else-byte-lt-SPACE c =
