@@ -8,6 +8,8 @@
 mod building;
 mod faults;
 mod labels;
+#[cfg(test)]
+mod tests;
 mod texts;
 mod trees;
 
