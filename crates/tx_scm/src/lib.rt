@@ -4,6 +4,13 @@
 //! `Spells` (`specs/Spelling.antt`), and the writer's text is `scheme_text` (`specs/Canonical.antt`).
 #![tactic(auto)]
 
+mod kinds;
+mod laws;
+mod names;
+mod reader;
+mod states;
 mod writer;
 
+pub use laws::{canonical_laws, spelling_laws};
+pub use reader::read;
 pub use writer::write;
