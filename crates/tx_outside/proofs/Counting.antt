@@ -1,5 +1,5 @@
 -- How rises of counts compose over several calls.
-use Rattle.std.proofs.Common.{◌≡◌, ℕ, ◌^◌, ◌-◌, ◌<◌, ◌≤◌, refl, inl, inr, arith}
+use Rattle.std.proofs.Common.{ℕ, ◌^◌, ◌-◌, ◌≤◌, inl, inr, arith}
 use Rattle.tx_outside.specs.Counts.{Rose, NeverFalls, raised}
 
 -- nothing happened
