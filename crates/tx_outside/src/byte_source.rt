@@ -16,7 +16,8 @@ pub trait Source {
     ghost faults: { Self → ℕ };
 
     /// Takes the next bytes into the start of `into`, which isn't empty, and answers how many. It answers
-    /// 0 only at the end. After `Failed` no byte is taken, and what `into` holds is left open.
+    /// 0 only at the end. What `into` holds behind them is left open. After `Failed` no byte is taken, and
+    /// all that `into` holds is left open.
     fn read(&mut self, into: &mut [u8]) -> Result<usize, Failed>
         requires { 0 < length into.old }
         ensures within { IfOk result (λ n. n ≤ length into.old) }

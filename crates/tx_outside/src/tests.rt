@@ -94,6 +94,8 @@ fn store_gives_what_was_saved(rt: HostRuntime) -> Result<(), Fail> {
     let mut files = Vec::new(rt.alloc());
     let name = Vec::from_slice(rt.alloc(), b"d.scm")?;
     files.push(StoredFile::new(name, Vec::from_slice(rt.alloc(), b"old")?))?;
+    let name = Vec::from_slice(rt.alloc(), b"s.scm")?;
+    files.push(StoredFile::new(name, Vec::from_slice(rt.alloc(), b"style")?))?;
     let mut store = MemStore::new(files, Vec::from_slice(rt.alloc(), &[2, 5])?);
     let table: [(
         &[u8],
@@ -113,6 +115,7 @@ fn store_gives_what_was_saved(rt: HostRuntime) -> Result<(), Fail> {
     }
     assert_eq!(rt; store.file(b"o.scm"), Some(b"one".as_slice()));
     assert_eq!(rt; store.file(b"d.scm"), Some(b"".as_slice()));
+    assert_eq!(rt; store.file(b"s.scm"), Some(b"style".as_slice()));
     assert_eq!(rt; store.file(b"d"), None);
     let missing = loaded(rt.alloc(), &mut store, b"d");
     assert!(rt; is_wanted(&missing, &Err(LoadFault::Missing)));
