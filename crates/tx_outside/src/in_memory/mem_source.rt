@@ -46,7 +46,8 @@ impl Source for MemSource {
 
     ghost faults = { λ source. source.calls.faults };
 
-    /// Takes as many bytes as are left and fit. A call that fails changes `into` no more than the source.
+    /// Takes as many bytes as are left and fit, and leaves the rest of `into` as it was. A call that fails
+    /// leaves all of it as it was.
     fn read(&mut self, into: &mut [u8]) -> Result<usize, Failed>
         requires { 0 < length into.old }
 
