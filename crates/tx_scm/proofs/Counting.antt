@@ -5,17 +5,7 @@ use Rattle.tx_tree.specs.WideTree.{WideTree, leaf, forest, nodes_of, total_nodes
 use Rattle.tx_scm.specs.declared.kinds.Kind.{Kind}
 use Rattle.tx_scm.specs.declared.kinds.Kind.TheVariants.{White, Opens, Closes, Quote, Backslash, Letter}
 use Rattle.tx_scm.specs.Machine.{Open, State, Bounds, between, opened, naming, texting, escaping, whole, failed, put, only_if, node_of, closed, named, lengthened, step_between, step_opened, step_naming, step_texting, step_escaping, step_whole, step}
-use Rattle.tx_scm.specs.States.{nodes_in, made_by, made_in}
-
--- so many steps at most were counted from a beginning on
-abbrev pub IsCounted : ℕ → ℕ → State → Type 0
-IsCounted from steps failed = Unit {0}
-IsCounted from steps (between opens) = steps ≤ from + nodes_in opens
-IsCounted from steps (opened opens) = steps ≤ from + nodes_in opens
-IsCounted from steps (naming label opens) = steps ≤ from + nodes_in opens
-IsCounted from steps (texting text opens) = steps ≤ from + nodes_in opens
-IsCounted from steps (escaping text opens) = steps ≤ from + nodes_in opens
-IsCounted from steps (whole t) = steps ≤ from + nodes_of t
+use Rattle.tx_scm.specs.States.{nodes_in, made_by, made_in, IsCounted}
 
 total_nodes-append : (ss ts : List WideTree) → total_nodes (forest (ss ++ ts)) ≡ total_nodes (forest ss) + total_nodes (forest ts)
 total_nodes-append [] ts = omega arith

@@ -1,6 +1,6 @@
 -- Where the reader stands, as contracts see it.
-use Rattle.std.specs.Prelude.{ℕ, ◌+◌, List, [], ◌∷◌, map, reverse, Option, Some, None}
-use Rattle.tx_tree.specs.WideTree.{forest, total_nodes}
+use Rattle.std.specs.Prelude.{ℕ, ◌+◌, ◌≤◌, List, [], ◌∷◌, map, reverse, Option, Some, None}
+use Rattle.tx_tree.specs.WideTree.{WideTree, forest, nodes_of, total_nodes}
 use Rattle.tx_scm.specs.declared.kinds.Kind.{Kind}
 use Rattle.tx_scm.specs.declared.kinds.Kind.TheVariants.{Closes}
 use Rattle.tx_scm.specs.declared.states.Bracket.{Bracket}
@@ -44,3 +44,24 @@ abbrev pub made_in : machine.State → Kind → ℕ
 made_in (between opens) kind = made_by kind
 made_in (naming label opens) kind = made_by kind
 made_in _ kind = 0
+
+-- so many steps at most were counted from a beginning on
+abbrev pub IsCounted : ℕ → ℕ → machine.State → Type 0
+IsCounted from steps failed = Unit {0}
+IsCounted from steps (between opens) = steps ≤ from + nodes_in opens
+IsCounted from steps (opened opens) = steps ≤ from + nodes_in opens
+IsCounted from steps (naming label opens) = steps ≤ from + nodes_in opens
+IsCounted from steps (texting text opens) = steps ≤ from + nodes_in opens
+IsCounted from steps (escaping text opens) = steps ≤ from + nodes_in opens
+IsCounted from steps (whole t) = steps ≤ from + nodes_of t
+
+-- what was counted in the first state is counted in the second
+abbrev pub CountsOn : machine.State → ℕ → machine.State → ℕ → Type 0
+CountsOn s before t after = (from : ℕ) → IsCounted from before s → IsCounted from after t
+
+-- ---- reading on
+
+-- what is read with what was found, if anything was
+abbrev pub read_on : {X : Type 0} → Option X → (X → Option WideTree) → Option WideTree
+read_on None after = None
+read_on (Some x) after = after x

@@ -9,6 +9,8 @@ mod laws;
 mod names;
 mod reader;
 mod states;
+#[cfg(test)]
+mod tests;
 mod writer;
 
 pub use laws::{canonical_laws, spelling_laws};

@@ -1,11 +1,11 @@
 // The tree that bytes spell.
-ghost use Rattle.std.specs.Prelude.{◌≡◌, ◌+◌, ◌≤◌, [], Some, None, if◌then◌else◌, IfOk, IfErr, IfSome, OnSome};
+ghost use Rattle.std.specs.Prelude.{◌≡◌, ℕ, ◌+◌, ◌<◌, ◌≤◌, List, [], length, drop, Some, None, if◌then◌else◌, IfOk, IfErr, IfSome, OnSome};
 ghost use Rattle.tx_tree.specs.WideTree.{WideTree, node, forest, leaf, nodes_of};
 ghost use Rattle.tx_tree.specs.Limits.{IsWithinLimits};
 ghost use Rattle.tx_scm.specs.Spelling.{Spells};
 ghost use Rattle.tx_scm.specs.Kinds.{kind_of};
-ghost use Rattle.tx_scm.specs.Machine.{within, the_limits, has_room, keeps, put, between, step_between, step_opened, step_naming, step_texting, step_escaping, step_whole, lengthened, step, reads, node_of};
-ghost use Rattle.tx_scm.specs.States.{open_of, opens_of, state_of, next_of, made_by, made_in};
+ghost use Rattle.tx_scm.specs.Machine.{Open, within, the_limits, has_room, keeps, put, between, texting, step_between, step_opened, step_naming, step_texting, step_escaping, step_whole, lengthened, step, reads, node_of};
+ghost use Rattle.tx_scm.specs.States.{open_of, opens_of, state_of, next_of, made_by, made_in, CountsOn, read_on};
 
 use crate::kinds::{Kind, kind_of};
 use crate::names::LabelBuilder;
@@ -226,6 +226,50 @@ fn step<L: Ledger>(
     }
 }
 
+// Adds the bytes of a string from `at` on, up to the next quote or backslash, and answers its place, or None
+// where no text goes on so.
+fn text_run(text: &mut TextBuilder, bytes: &[u8], at: usize) -> Result<Option<usize>, Memory>
+    requires { at ≤ length bytes.now }
+    ensures end { IfOk result (λ found. IfSome found (λ end. (at ≤ end) × (end ≤ length bytes.now))) }
+    ensures same { (opens : List Open) → IfOk result (λ found. reads (texting text.old opens) (drop at bytes.now) ≡ read_on found (λ end. reads (texting text.new opens) (drop end bytes.now))) }
+{
+    for i in at..bytes.len() {
+        let byte = bytes[i];
+        if byte == b'"' || byte == b'\\' {
+            return Ok(Some(i));
+        }
+        if !text.push(byte)? {
+            return Ok(None);
+        }
+    }
+    Ok(Some(bytes.len()))
+}
+
+// Where the reader stands behind the byte at `at`, and behind the plain bytes of a string after it, and the
+// place there, or None where no tree goes on so.
+fn advance<L: Ledger>(
+    alloc: Global,
+    state: State,
+    bytes: &[u8],
+    at: usize,
+    steps: &mut Steps<L>,
+) -> Result<Option<(State, usize)>, Memory>
+    requires { at < length bytes.now }
+    ensures end { IfOk result (λ found. IfSome found (λ next. (at < next.1) × (next.1 ≤ length bytes.now))) }
+    ensures same { IfOk result (λ found. reads (state_of state) (drop at bytes.now) ≡ read_on found (λ next. reads (state_of next.0) (drop next.1 bytes.now))) }
+    ensures counted { IfOk result (λ found. IfSome found (λ next. CountsOn (state_of state) steps.old (state_of next.0) steps.new)) }
+    ensures rises { steps.old ≤ steps.new }
+{
+    match step(alloc, state, bytes[at], steps)? {
+        None => Ok(None),
+        Some(State::Texting(mut text, brackets)) => match text_run(&mut text, bytes, at + 1)? {
+            None => Ok(None),
+            Some(end) => Ok(Some((State::Texting(text, brackets), end))),
+        },
+        Some(next) => Ok(Some((next, at + 1))),
+    }
+}
+
 // The tree that the bytes spell, or None where they spell none within the limits.
 fn read_all<L: Ledger>(
     alloc: Global,
@@ -236,11 +280,15 @@ fn read_all<L: Ledger>(
     ensures counted { IfOk result (λ found. IfSome found (λ t. steps.new ≤ steps.old + nodes_of t)) }
     ensures rises { steps.old ≤ steps.new }
 {
+    let mut at = 0;
     let mut state = State::Between(Vec::new(alloc));
-    for byte in bytes {
-        match step(alloc, state, *byte, steps)? {
+    while at < bytes.len() {
+        match advance(alloc, state, bytes, at, steps)? {
             None => return Ok(None),
-            Some(next) => state = next,
+            Some((next, end)) => {
+                state = next;
+                at = end;
+            }
         }
     }
     match state {
