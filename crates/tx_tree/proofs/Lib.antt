@@ -1,3 +1,5 @@
 pub mod Scanning
 pub mod Labelling
 pub mod Children
+pub mod Cutting
+pub mod Walking

@@ -65,3 +65,17 @@ impl<T: Drop> From<AllocFailed<T>> for ReadFault {
         ReadFault::Memory
     }
 }
+
+/// Why a path and an offset are no place of a tree: the first cause that holds, in this order.
+#[derive(Clone, Copy, Debug, PartialEq, Eq, Error)]
+pub enum PlaceFault {
+    /// So many numbers of the path lead, and the next one doesn't.
+    #[error("no path beyond {0} steps")]
+    NoPath(u32),
+    /// The offset is past the end: the length of the leaf's text, or 1 at a node.
+    #[error("no place beyond {0}")]
+    BadPlace(u64),
+    /// The offset, which is inside a symbol.
+    #[error("{0} is inside a symbol")]
+    CutsSymbol(u64),
+}

@@ -8,12 +8,16 @@
 mod building;
 mod faults;
 mod labels;
+mod paths;
+mod places;
 mod texts;
 mod trees;
 
 pub use building::{TextBuilder, text_laws};
-pub use faults::{ReadFault, TreeFault};
+pub use faults::{PlaceFault, ReadFault, TreeFault};
 pub use labels::{Label, LabelFault};
+pub use paths::Path;
+pub use places::Place;
 pub use texts::{Text, TextFault};
 pub use trees::{Kind, Tree};
 pub use tx_base::Memory;
