@@ -1,12 +1,11 @@
 -- A place of a text is a cut where the bytes before it are a text.
-use Rattle.std.proofs.Common.{◌≡◌, ℕ, ◌+◌, ◌<◌, ◌≤◌, Bool, true, false, List, [], ◌∷◌, ◌++◌, length, take, drop, get_or, Option, Some, None, refl, sym, ap, subst, ◌∙◌, length-append, leb, arith}
-use Rattle.std.specs.List.{AllByRecursion, flat_map}
+use Rattle.std.proofs.Common.{◌≡◌, ℕ, ◌≤◌, true, List, [], ◌++◌, length, take, drop, Some, sym, ap, subst, ◌∙◌, length-append, leb, arith}
+use Rattle.std.specs.List.{flat_map}
 use Rattle.std.proofs.lemmas.List.{append-nil, take-append-drop, take_at, length-take-le}
 use Rattle.std.proofs.lemmas.Bool.{and_from, and_parts}
-use Rattle.tx_tree.specs.declared.texts.TextPlace.{TextPlace}
-use Rattle.tx_tree.specs.declared.texts.TextPlace.TheVariants.{Between, InSymbol}
-use Rattle.tx_tree.specs.Texts.{Item, IsItem, item_bytes, IsText, IsCut}
-use Rattle.tx_tree.specs.TextScan.{text_step, text_run, is_text}
+use Rattle.tx_tree.specs.declared.texts.TextPlace.TheVariants.{Between}
+use Rattle.tx_tree.specs.Texts.{item_bytes, IsText, IsCut}
+use Rattle.tx_tree.specs.TextScan.{text_run, is_text}
 use Rattle.tx_tree.specs.Cuts.{is_cut}
 use Rattle.tx_tree.proofs.Scanning.{text_runs, between_text, text_test, text_tested}
 

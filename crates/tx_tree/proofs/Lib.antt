@@ -3,3 +3,4 @@ pub mod Labelling
 pub mod Children
 pub mod Cutting
 pub mod Walking
+pub mod PathReading

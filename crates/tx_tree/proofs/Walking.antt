@@ -1,11 +1,10 @@
 -- Ways down a tree.
-use Rattle.std.proofs.Common.{◌≡◌, ℕ, zero, suc, ◌+◌, ◌<◌, ◌≤◌, List, [], ◌∷◌, ◌++◌, length, drop, get_or, Option, Some, None, refl, sym, ap, ◌∙◌, arith}
+use Rattle.std.proofs.Common.{◌≡◌, ℕ, zero, suc, ◌+◌, ◌<◌, ◌≤◌, List, ◌∷◌, length, drop, get_or, Some, None, ap, ◌∙◌, arith}
 use Rattle.std.proofs.lemmas.List.{drop_more}
 use Rattle.std.specs.Prelude.{slice_get, option_and_then}
 use Rattle.std.specs.Option.{option_map_or}
-use Rattle.tx_tree.specs.WideTree.{WideTree, Forest, leaf, node, nil, cons, forest, trees, children_of, depth_of, deepest}
+use Rattle.tx_tree.specs.WideTree.{WideTree, Forest, leaf, node, nil, cons, trees, children_of, depth_of, deepest}
 use Rattle.tx_tree.specs.Paths.{subtree, leading}
-use Rattle.tx_tree.proofs.Children.{trees_forest}
 
 get_le_deepest : (ts : Forest) (i : ℕ) (t : WideTree) → slice_get (trees ts) i ≡ Some t → depth_of t ≤ deepest ts
 get_le_deepest nil i t e = absurd (cc)

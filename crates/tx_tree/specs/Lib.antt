@@ -9,3 +9,5 @@ pub mod Trees
 pub mod Falls
 pub mod Paths
 pub mod Places
+pub mod PathSpelling
+pub mod PathScan

@@ -1,11 +1,12 @@
 // Places in a tree.
-ghost use Rattle.std.specs.Prelude.{◌≡◌, IfOk, IfErr, OnOk};
+ghost use Rattle.std.specs.Prelude.{◌≡◌, IfOk, IfErr, OnOk, Some};
 ghost use Rattle.tx_tree.specs.Places.{IsPlace, IsPlaceFault};
 
 use crate::faults::PlaceFault;
 use crate::paths::Path;
 use crate::trees::Tree;
 use std::alloc::Global;
+use std::fmt;
 use tx_base::Memory;
 
 /// A path and an offset. At a leaf the offset is a number of bytes that ends between two items of the text. At
@@ -41,5 +42,19 @@ impl Place {
             path: self.path.copy(alloc)?,
             offset: self.offset,
         })
+    }
+}
+
+impl fmt::Display for Place {
+    ghost use Rattle.tx_tree.specs.PathSpelling.{place_text};
+
+    ghost output = { λ p. Some (place_text p.path p.offset) };
+
+    fn fmt<W: fmt::Write>(&self, f: &mut fmt::Formatter<W>) -> fmt::Result {
+        for number in self.path.steps() {
+            write!(f, "/{number}")?;
+        }
+        let offset = self.offset;
+        write!(f, "/{offset}")
     }
 }

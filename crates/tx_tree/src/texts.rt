@@ -3,6 +3,8 @@ ghost use Rattle.std.specs.Prelude.{◌≡◌, ℕ, ◌≤◌, ◌↔◌, ◌++�
 ghost use Rattle.tx_tree.specs.Texts.{IsText, IsCut, IsTextFault, is_item_byte, is_name_byte};
 ghost use Rattle.tx_tree.specs.declared.texts.TextFault.TheVariants.{Memory as NoMemory};
 ghost use Rattle.tx_tree.specs.TextScan.{text_step, text_run, fault_at};
+ghost use Rattle.tx_tree.specs.Cuts.{is_cut};
+ghost use Rattle.std.specs.Prelude.{List};
 ghost use Rattle.tx_tree.specs.declared.texts.TextPlace.TheVariants.{Between};
 ghost use Rattle.std.specs.Bool.{OnTrue, OnFalse};
 
@@ -226,3 +228,8 @@ impl Text {
         })
     }
 }
+
+/// What the test for cuts means.
+pub fn cut_laws()
+    ensures { (bytes : List ℕ) (n : ℕ) → IsText bytes → (is_cut bytes n ≡ true) ↔ IsCut bytes n }
+{}
