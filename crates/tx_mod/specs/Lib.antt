@@ -1,0 +1,4 @@
+pub mod Mods
+pub mod Changes
+pub mod Inverses
+pub mod Moves
