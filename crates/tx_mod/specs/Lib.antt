@@ -2,3 +2,4 @@ pub mod Mods
 pub mod Changes
 pub mod Inverses
 pub mod Moves
+pub mod Measures

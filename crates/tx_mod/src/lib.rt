@@ -5,7 +5,9 @@
 #![tactic(auto)]
 
 mod faults;
+mod measures;
 mod mods;
+mod parts;
 
 pub use faults::{ApplyFault, ModFault};
 pub use mods::Mod;

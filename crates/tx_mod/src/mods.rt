@@ -6,6 +6,9 @@ use std::alloc::Global;
 use tx_base::Memory;
 use tx_tree::{Label, Path, Tree};
 
+// The label of a node whose children are to be put among others.
+pub(crate) const TUPLE: &[u8] = b"tuple";
+
 /// A modification of a tree, at the subtree that its path leads to. Children and bytes are counted from 0.
 #[derive(Drop)]
 pub enum Mod {

@@ -1,0 +1,4 @@
+pub mod Lists
+pub mod Replacing
+pub mod Seeing
+pub mod Measuring
