@@ -2,3 +2,4 @@ pub mod Lists
 pub mod Replacing
 pub mod Seeing
 pub mod Measuring
+pub mod Whole

@@ -30,3 +30,8 @@ pub record IsMade (outcome : Outcome) (a : Measure) : Type 0 where
 -- the measure of the outcome, or its cause
 abbrev pub Measures : Outcome → Result Measure ModFault → Type 0
 Measures outcome result = MatchResult result (λ a. IsMade outcome a) (λ cause. outcome ≡ Err cause)
+
+-- two trees within the limits make no greater depth or size
+pub record IsSmall (a : Measure) : Type 0 where
+  pub depth : a.depth ≤ 401
+  pub size : a.size ≤ 16000001

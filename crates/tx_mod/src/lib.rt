@@ -4,10 +4,13 @@
 //! modification that gives the tree back is `inverse_of` of `specs/Inverses.antt`.
 #![tactic(auto)]
 
+mod applying;
 mod faults;
 mod measures;
 mod mods;
 mod parts;
+mod walks;
 
+pub use applying::applicable;
 pub use faults::{ApplyFault, ModFault};
 pub use mods::Mod;

@@ -1,9 +1,9 @@
 // What a modification makes of a subtree, measured before it is made.
-ghost use Rattle.std.specs.Prelude.{◌≡◌, ◌≤◌, ℕ, List, length, Ok};
+ghost use Rattle.std.specs.Prelude.{◌≡◌, ◌≤◌, ℕ, List, length, Ok, IfOk};
 ghost use Rattle.tx_tree.specs.WideTree.{forest, total_size, deepest};
 ghost use Rattle.tx_mod.specs.Mods.{extent, is_clean};
 ghost use Rattle.tx_mod.specs.Changes.{changed_at, inserted, removed, split, joined, joined_at, labelled, wrapped, unwrapped};
-ghost use Rattle.tx_mod.specs.Measures.{IsMade, Measures};
+ghost use Rattle.tx_mod.specs.Measures.{IsMade, Measures, IsSmall};
 
 use crate::faults::ModFault;
 use crate::mods::{Mod, TUPLE};
@@ -20,7 +20,8 @@ pub(crate) struct Measure {
 }
 
 fn measure_of(t: &Tree) -> Measure
-    ensures { IsMade (Ok t.now) result }
+    ensures made { IsMade (Ok t.now) result }
+    ensures small { IsSmall result }
 {
     Measure {
         text: 0,
@@ -32,7 +33,8 @@ fn measure_of(t: &Tree) -> Measure
 
 #[tactic(auto, using(crate::proofs::Measuring::some_size, crate::proofs::Measuring::insert_past, crate::proofs::Measuring::insert_made, std::proofs::lemmas::Grind::common_steps))]
 fn measured_insert(s: &Tree, i: u32, x: &Tree) -> Result<Measure, ModFault>
-    ensures { Measures (inserted s.now i x.now) result }
+    ensures measured { Measures (inserted s.now i x.now) result }
+    ensures small { IfOk result IsSmall }
 {
     let depth = u64::from(s.depth().max(x.depth()));
     let size = s.size() + x.size() - 1;
@@ -89,7 +91,8 @@ pub(crate) fn deepest(trees: &[Tree]) -> u32
 
 #[tactic(auto, using(crate::proofs::Measuring::remove_past, crate::proofs::Measuring::remove_made, crate::proofs::Measuring::narrow, std::proofs::lemmas::Grind::common_steps))]
 fn measured_remove(s: &Tree, i: u32, n: u32) -> Result<Measure, ModFault>
-    ensures { Measures (removed s.now i n) result }
+    ensures measured { Measures (removed s.now i n) result }
+    ensures small { IfOk result IsSmall }
 {
     let _size = s.size();
     let end = i as usize + n as usize;
@@ -142,7 +145,8 @@ fn is_clean(t: &Tree, j: usize) -> bool
 
 #[tactic(auto, using(crate::proofs::Measuring::split_past, crate::proofs::Measuring::split_past_child, crate::proofs::Measuring::split_clean, crate::proofs::Measuring::split_made, std::proofs::lemmas::Grind::common_steps))]
 fn measured_split(s: &Tree, i: u32, j: u32) -> Result<Measure, ModFault>
-    ensures { Measures (split s.now i j) result }
+    ensures measured { Measures (split s.now i j) result }
+    ensures small { IfOk result IsSmall }
 {
     let size = s.size() + 1;
     let depth = u64::from(s.depth());
@@ -167,7 +171,8 @@ fn measured_split(s: &Tree, i: u32, j: u32) -> Result<Measure, ModFault>
 // Two trees made one: the bytes of the text, or the number of children, unless they can't be joined.
 #[tactic(auto, using(crate::proofs::Measuring::some_size, crate::proofs::Measuring::pair_made, std::proofs::lemmas::Grind::common_steps))]
 fn measured_pair(a: &Tree, b: &Tree) -> Result<Measure, ModFault>
-    ensures { Measures (joined a.now b.now) result }
+    ensures measured { Measures (joined a.now b.now) result }
+    ensures small { IfOk result IsSmall }
 {
     let depth = u64::from(a.depth().max(b.depth()));
     let size = a.size() + b.size() - 1;
@@ -189,7 +194,8 @@ fn measured_pair(a: &Tree, b: &Tree) -> Result<Measure, ModFault>
 
 #[tactic(auto, using(crate::proofs::Measuring::some_size, crate::proofs::Measuring::join_past, crate::proofs::Measuring::join_refused, crate::proofs::Measuring::join_made, std::proofs::lemmas::Grind::common_steps))]
 fn measured_join(s: &Tree, i: u32) -> Result<Measure, ModFault>
-    ensures { Measures (joined_at s.now i) result }
+    ensures measured { Measures (joined_at s.now i) result }
+    ensures small { IfOk result IsSmall }
 {
     let size = s.size() - 1;
     let depth = u64::from(s.depth());
@@ -204,7 +210,8 @@ fn measured_join(s: &Tree, i: u32) -> Result<Measure, ModFault>
 }
 
 fn measured_label(s: &Tree) -> Result<Measure, ModFault>
-    ensures { (l : List ℕ) → Measures (labelled s.now l) result }
+    ensures measured { (l : List ℕ) → Measures (labelled s.now l) result }
+    ensures small { IfOk result IsSmall }
 {
     let made = measure_of(s);
     match parts_of(s) {
@@ -215,7 +222,8 @@ fn measured_label(s: &Tree) -> Result<Measure, ModFault>
 
 #[tactic(auto, using(crate::proofs::Measuring::wrap_past, crate::proofs::Measuring::wrap_made, std::proofs::lemmas::Grind::common_steps))]
 fn measured_wrap(s: &Tree, i: u32, x: &Tree) -> Result<Measure, ModFault>
-    ensures { Measures (wrapped s.now i x.now) result }
+    ensures measured { Measures (wrapped s.now i x.now) result }
+    ensures small { IfOk result IsSmall }
 {
     let depth = u64::from(x.depth().max(s.depth() + 1));
     let size = s.size() + x.size();
@@ -231,7 +239,8 @@ fn measured_wrap(s: &Tree, i: u32, x: &Tree) -> Result<Measure, ModFault>
 
 #[tactic(auto, using(crate::proofs::Measuring::unwrap_past, crate::proofs::Measuring::unwrap_is, std::proofs::lemmas::Grind::common_steps))]
 fn measured_unwrap(s: &Tree, i: u32) -> Result<Measure, ModFault>
-    ensures { Measures (unwrapped s.now i) result }
+    ensures measured { Measures (unwrapped s.now i) result }
+    ensures small { IfOk result IsSmall }
 {
     let Parts::Node(_, children) = parts_of(s) else {
         return Err(ModFault::NotNode);
@@ -244,7 +253,8 @@ fn measured_unwrap(s: &Tree, i: u32) -> Result<Measure, ModFault>
 
 /// What the modification makes of the subtree that its path leads to, measured.
 pub(crate) fn measured(s: &Tree, m: &Mod) -> Result<Measure, ModFault>
-    ensures { Measures (changed_at m.now s.now) result }
+    ensures measured { Measures (changed_at m.now s.now) result }
+    ensures small { IfOk result IsSmall }
 {
     match m {
         Mod::Assign(_, x) => Ok(measure_of(x)),
