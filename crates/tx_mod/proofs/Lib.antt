@@ -1,0 +1,5 @@
+pub mod Lists
+pub mod Replacing
+pub mod Seeing
+pub mod Measuring
+pub mod Whole

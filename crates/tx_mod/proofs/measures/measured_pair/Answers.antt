@@ -1,0 +1,12 @@
+use Rattle.std.proofs.Common.{◌≡◌, ◌<◌, ◌≤◌, ◌+◌, length, drop, take, rules, sym, ap, refl, ◌∙◌, arith, true, false, Some, get_or}
+use Rattle.std.specs.Prelude.{slice_get}
+use Rattle.tx_tree.specs.WideTree.{WideTree, forest, total_size, deepest}
+use Rattle.tx_mod.specs.Mods.{tuple, extent, is_clean}
+use Rattle.tx_mod.proofs.Measuring.{pair_made, some_size}
+use Rattle.tx_mod.proofs.measures.measured_pair.Goals as goal
+
+pub returns-else-ne-clause-measured : goal.returns-else-ne-clause-measured
+returns-else-ne-clause-measured c =
+    let named : c.in-Node-Node.label.now ≡ c.in-Node-Node.name.now = search rules in
+    pair_made c.args.a.now c.args.b.now c.in-Node-Node.label.now c.in-Node-Node.name.now c.in-Node-Node.children.now c.in-Node-Node.more.now _ c.in-Node-Node.ensures c.in-Node-Node.ensures' named
+    c.size.ensures.within c.size-2.ensures.within refl refl (grind arith) (omega (arith, c.size.ensures.value, c.size-2.ensures.value, some_size c.args.a.now))

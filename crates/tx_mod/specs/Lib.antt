@@ -1,0 +1,5 @@
+pub mod Mods
+pub mod Changes
+pub mod Inverses
+pub mod Moves
+pub mod Measures
