@@ -35,7 +35,7 @@ impl Name {
         ensures { IfOk result (λ name. name ≡ self.now) }
     {
         Ok(Name {
-            bytes: Vec::from_slice(alloc, &self.bytes)?,
+            bytes: Vec::from_slice(alloc, self.bytes())?,
         })
     }
 }

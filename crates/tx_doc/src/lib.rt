@@ -4,5 +4,7 @@
 #![tactic(auto)]
 
 mod buffer;
+#[cfg(test)]
+mod tests;
 
 pub use buffer::{Buffer, Name};
