@@ -6,11 +6,14 @@
 
 mod applying;
 mod faults;
+mod making;
 mod measures;
 mod mods;
 mod parts;
+mod remaking;
+mod undoing;
 mod walks;
 
-pub use applying::applicable;
+pub use applying::{applicable, apply, inverse};
 pub use faults::{ApplyFault, ModFault};
 pub use mods::Mod;

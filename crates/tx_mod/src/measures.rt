@@ -125,7 +125,7 @@ fn measured_remove(s: &Tree, i: u32, n: u32) -> Result<Measure, ModFault>
 }
 
 #[tactic(auto, using(crate::proofs::Measuring::extent_of_node, std::proofs::lemmas::Grind::common_steps))]
-fn extent(t: &Tree) -> usize
+pub(crate) fn extent(t: &Tree) -> usize
     ensures { result ≡ extent t.now }
 {
     match parts_of(t) {
