@@ -3,6 +3,7 @@ use Rattle.std.proofs.Common.{◌≡◌, ℕ, zero, suc, ◌+◌, ◌-◌, ◌<�
 use Rattle.std.specs.Prelude.{slice_get, IsOkAnd, IsOk, IfOk}
 use Rattle.std.proofs.lemmas.List.{take-append-drop, drop-take, take-take, drop-drop}
 use Rattle.tx_tree.specs.Cuts.{is_cut}
+use Rattle.tx_tree.specs.Labels.{is_label_byte, IsLabel}
 use Rattle.tx_tree.specs.Texts.{IsText}
 use Rattle.tx_tree.specs.Limits.{IsWithinLimits}
 use Rattle.tx_tree.specs.Paths.{subtree}
@@ -73,3 +74,14 @@ part_of_leaf s text bytes i n e is = rw (e, is) refl
 
 pub without_is : (s : WideTree) (l : List ℕ) (ts us : List WideTree) (i : ℕ) → s ≡ node l (forest ts) → us ≡ taken_out ts i 1 → without_child s i ≡ node l (forest us)
 without_is s l ts us i e is = rw (e, trees_forest ts, is) refl
+
+pub tuple_is_label : IsLabel tuple
+unfolding is_label_byte
+tuple_is_label = record { each = (refl, (refl, (refl, (refl, (refl, tt))))); some = omega arith; short = omega arith }
+
+pub same_ok : {E : Type 0} (v w : WideTree) (r : Result WideTree E) → v ≡ w → IfOk r (λ t. t ≡ w) → IfOk r (λ u. u ≡ v)
+same_ok v w (Ok u) e h = h ∙ sym e
+same_ok v w (Err x) e h = h
+
+pub sub_add : (i n : ℕ) → (i + n) - i ≡ n
+sub_add i n = omega arith

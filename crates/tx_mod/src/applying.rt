@@ -42,6 +42,7 @@ pub fn applicable(t: &Tree, m: &Mod) -> Result<(), ModFault>
     Ok(())
 }
 
+#[tactic(auto, using(crate::proofs::Whole::change_within, crate::proofs::Whole::change_is, crate::proofs::Whole::no_change, std::proofs::lemmas::Grind::common_steps))]
 /// The changed tree. Each subtree off the path is shared with the tree, which stays.
 pub fn apply<L: Ledger>(
     alloc: Global,
@@ -62,6 +63,7 @@ pub fn apply<L: Ledger>(
     Ok(rebuilt(alloc, t, path.steps(), new, steps)?)
 }
 
+#[tactic(auto, using(crate::proofs::Whole::inverse_is, crate::proofs::Whole::no_change, std::proofs::lemmas::Grind::common_steps))]
 /// The modification that gives this tree back from the changed one.
 pub fn inverse<L: Ledger>(
     alloc: Global,

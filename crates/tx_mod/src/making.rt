@@ -56,6 +56,15 @@ pub(crate) fn share_onto(into: &mut Vec<Tree>, trees: &[Tree]) -> Result<(), Mem
     Ok(())
 }
 
+// Shares of the trees.
+pub(crate) fn shares(alloc: Global, trees: &[Tree]) -> Result<Vec<Tree>, Memory>
+    ensures { IfOk result (λ v. v.items ≡ trees.now) }
+{
+    let mut all = Vec::new(alloc);
+    share_onto(&mut all, trees)?;
+    Ok(all)
+}
+
 // The trees before place `from`, shares of others, and the trees from place `to` on.
 #[tactic(auto, using(crate::proofs::Built::spliced_items, std::proofs::lemmas::Grind::common_steps))]
 pub(crate) fn spliced(

@@ -8,7 +8,7 @@ ghost use Rattle.tx_mod.specs.Mods.{tuple, extent};
 ghost use Rattle.tx_mod.specs.Changes.{changed_at, removed, unwrapped};
 ghost use Rattle.tx_mod.specs.Inverses.{inverse_at, removed_part, without_child};
 
-use crate::making::{leaf_of, node_of, share_onto, spliced};
+use crate::making::{leaf_of, node_of, shares, spliced};
 use crate::measures::extent;
 use crate::mods::{Mod, TUPLE};
 use crate::parts::{Parts, parts_of};
@@ -47,8 +47,7 @@ fn removed_part<L: Ledger>(
         Parts::Leaf(text) => leaf_of(alloc, &text.bytes()[from..to]),
         Parts::Node(_, children) => {
             let label = tuple_label(alloc)?;
-            let mut part = Vec::new(alloc);
-            share_onto(&mut part, &children[from..to])?;
+            let part = shares(alloc, &children[from..to])?;
             node_of(alloc, &label, part, steps)
         }
     }
