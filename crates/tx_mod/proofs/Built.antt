@@ -1,5 +1,5 @@
 -- Trees that are made within the limits.
-use Rattle.std.proofs.Common.{◌≡◌, ℕ, zero, suc, ◌+◌, ◌-◌, ◌<◌, ◌≤◌, max, List, [], ◌∷◌, ◌++◌, length, take, drop, set, get_or, Option, Some, None, refl, sym, ap, subst, ◌∙◌, length-append, append_assoc, arith}
+use Rattle.std.proofs.Common.{◌≡◌, ℕ, zero, suc, ◌+◌, ◌-◌, ◌<◌, ◌≤◌, List, [], ◌∷◌, ◌++◌, length, take, drop, set, Some, refl, sym, ap, subst, ◌∙◌, append_assoc, arith}
 use Rattle.std.specs.Prelude.{slice_get, IsSome}
 use Rattle.std.proofs.lemmas.List.{append-nil, take_all, take_rest}
 use Rattle.tx_tree.specs.Limits.{IsWithinLimits, IsTreeFault}
@@ -9,11 +9,11 @@ use Rattle.tx_tree.specs.declared.texts.TextFault.{TextFault}
 use Rattle.tx_tree.specs.declared.texts.TextFault.TheVariants.{TooLong, BadByte, BadSymbol, Memory as TextMemory}
 use Rattle.tx_tree.specs.declared.faults.TreeFault.{TreeFault}
 use Rattle.tx_tree.specs.declared.faults.TreeFault.TheVariants.{TooWide, TooDeep, TooBig, Memory as TreeMemory}
-use Rattle.tx_tree.specs.WideTree.{WideTree, Forest, leaf, node, forest, trees, children_of, size_of, depth_of, arity_of, text_length_of}
-use Rattle.tx_tree.proofs.Children.{trees_forest, forest_trees, count-forest}
+use Rattle.tx_tree.specs.WideTree.{WideTree, node, forest, children_of, depth_of, arity_of, text_length_of}
+use Rattle.tx_tree.proofs.Children.{trees_forest, count-forest}
 use Rattle.tx_mod.specs.Mods.{with_child, replaced}
 use Rattle.tx_mod.proofs.Lists.{drop_past}
-use Rattle.tx_mod.proofs.Replacing.{subtree_down, replaced_down, text_in_replaced, arity_in_replaced, size_of_replaced, size_of_subtree, depth_with, with_same_child, child_of_with}
+use Rattle.tx_mod.proofs.Replacing.{subtree_down, replaced_down, text_in_replaced, arity_in_replaced, size_of_subtree, depth_with, with_same_child, child_of_with}
 
 -- a text has no fault but want of memory
 pub sound_text : (bytes : List ℕ) (fault : TextFault) → IsText bytes → length bytes ≤ 1048575 → IsTextFault bytes fault → fault ≡ TextMemory

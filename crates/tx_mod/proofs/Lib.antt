@@ -6,3 +6,4 @@ pub mod Whole
 pub mod Built
 pub mod Remade
 pub mod Undone
+pub mod Back

@@ -1,21 +1,21 @@
 -- What is known of a subtree where a modification makes something of it.
-use Rattle.std.proofs.Common.{◌≡◌, ℕ, zero, suc, ◌+◌, ◌-◌, ◌<◌, ◌≤◌, max, Bool, true, false, leb, List, [], ◌∷◌, ◌++◌, length, take, drop, get_or, Option, Some, None, Ok, Err, refl, sym, ap, subst, ◌∙◌, length-append, append_assoc, arith}
+use Rattle.std.proofs.Common.{◌≡◌, ℕ, zero, suc, ◌+◌, ◌≤◌, max, Bool, true, false, leb, List, [], ◌∷◌, ◌++◌, length, take, drop, get_or, Option, Some, None, Ok, Err, refl, sym, ap, subst, ◌∙◌, arith}
 use Rattle.std.specs.Prelude.{slice_get, IsOkAnd, IfOk, Result}
 use Rattle.std.specs.List.{AllByRecursion, flat_map}
 use Rattle.std.specs.Option.{option_map_or}
 use Rattle.std.specs.Str.{bytes_eq}
-use Rattle.std.proofs.lemmas.Bool.{leb-true, le-leb}
+use Rattle.std.proofs.lemmas.Bool.{leb-true}
 use Rattle.std.proofs.lemmas.List.{take-append-drop, append-nil, take_all, drop_all}
 use Rattle.std.proofs.lemmas.List.Concat.{flat_map-append}
 use Rattle.tx_tree.specs.Cuts.{is_cut}
-use Rattle.tx_tree.specs.Texts.{Item, IsItem, item_bytes, IsText, IsCut}
+use Rattle.tx_tree.specs.Texts.{Item, IsItem, item_bytes, IsText}
 use Rattle.tx_tree.specs.Limits.{IsWithinLimits}
-use Rattle.tx_tree.specs.WideTree.{WideTree, leaf, node, forest, trees, children_of, size_of, depth_of, arity_of, text_length_of}
+use Rattle.tx_tree.specs.WideTree.{WideTree, leaf, node, forest, size_of, depth_of, arity_of, text_length_of}
 use Rattle.tx_tree.proofs.Children.{trees_forest}
 use Rattle.tx_tree.proofs.Cutting.{cut_test, cut_text, text_rest}
 use Rattle.tx_mod.specs.declared.faults.ModFault.{ModFault}
 use Rattle.tx_mod.specs.declared.faults.ModFault.TheVariants.{NotNode, BadPlace, CutsSymbol, Differ}
-use Rattle.tx_mod.specs.Mods.{tuple, put_in, taken_out, part_of, extent, is_clean, before, behind}
+use Rattle.tx_mod.specs.Mods.{tuple, put_in, taken_out, extent, is_clean, before, behind}
 use Rattle.tx_mod.specs.Changes.{Outcome, asking, inserted, removed, split, split_child, joined, joined_at, in_place_of_two, labelled, wrapped, unwrapped}
 use Rattle.tx_mod.proofs.Measuring.{some_size, halves, of_both}
 
@@ -87,11 +87,14 @@ leaf_removed s text i n e h =
     let is : removed s i n ≡ asking (leb (i + n) (length text)) (BadPlace (length text)) middle = rw e refl in
     let a = asked IsWithinLimits (leb (i + n) (length text)) (BadPlace (length text)) middle (subst (λ o. IsOkAnd o IsWithinLimits) is h) in
     let b = asked IsWithinLimits (is_cut text i) (CutsSymbol i) inner a.1 in
-    let d = asked IsWithinLimits (is_cut text (i + n)) (CutsSymbol (i + n)) (Ok tree) b.1 in
-    (b.0, d.0, record {
-      is = is ∙ asked_ok (leb (i + n) (length text)) (BadPlace (length text)) middle a.0 ∙ asked_ok (is_cut text i) (CutsSymbol i) inner b.0 ∙ asked_ok (is_cut text (i + n)) (CutsSymbol (i + n)) (Ok tree) d.0;
-      within = d.1;
-    })
+    let d = asked IsWithinLimits (is_cut text (i + n)) (CutsSymbol (i + n)) (Ok tree) b.1 in (
+      b.0,
+      d.0,
+      record {
+        is = is ∙ asked_ok (leb (i + n) (length text)) (BadPlace (length text)) middle a.0 ∙ asked_ok (is_cut text i) (CutsSymbol i) inner b.0 ∙ asked_ok (is_cut text (i + n)) (CutsSymbol (i + n)) (Ok tree) d.0;
+        within = d.1;
+      },
+    )
 
 pub node_removed : (s : WideTree) (l : List ℕ) (ts : List WideTree) (i n : ℕ) → s ≡ node l (forest ts) → IsOkAnd (removed s i n) IsWithinLimits
     → (i + n ≤ length ts) × IsTree (removed s i n) (node l (forest (taken_out ts i n)))
@@ -188,9 +191,10 @@ node_unwrapped s l ts i e h =
 
 pub narrower : (a b c : WideTree) → size_of a + size_of b ≡ size_of c + 1 → max (depth_of a) (depth_of b) ≡ depth_of c → max (arity_of a) (arity_of b) ≤ arity_of c
     → max (text_length_of a) (text_length_of b) ≤ text_length_of c → IsWithinLimits c → IsWithinLimits a × IsWithinLimits b
-narrower a b c size depth wide long w =
-    (record { text = omega (arith, w.text); arity = omega (arith, w.arity); depth = omega (arith, w.depth); size = omega (arith, w.size, some_size a, some_size b) },
-     record { text = omega (arith, w.text); arity = omega (arith, w.arity); depth = omega (arith, w.depth); size = omega (arith, w.size, some_size a, some_size b) })
+narrower a b c size depth wide long w = (
+  record { text = omega (arith, w.text); arity = omega (arith, w.arity); depth = omega (arith, w.depth); size = omega (arith, w.size, some_size a, some_size b) },
+  record { text = omega (arith, w.text); arity = omega (arith, w.arity); depth = omega (arith, w.depth); size = omega (arith, w.size, some_size a, some_size b) },
+)
 
 pub halves_within : (c : WideTree) (j : ℕ) → j ≤ extent c → IsWithinLimits c → IsWithinLimits (before c j) × IsWithinLimits (behind c j)
 halves_within c j le w = let h = halves c j le in narrower (before c j) (behind c j) c h.size h.depth h.wide h.long w

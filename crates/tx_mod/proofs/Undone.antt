@@ -1,22 +1,19 @@
 -- What gives a changed subtree back.
-use Rattle.std.proofs.Common.{◌≡◌, ℕ, zero, suc, ◌+◌, ◌-◌, ◌<◌, ◌≤◌, max, Bool, true, false, leb, List, [], ◌∷◌, ◌++◌, length, take, drop, get_or, Option, Some, None, Result, Ok, Err, refl, sym, ap, subst, ◌∙◌, length-append, length-take, length-drop, arith}
-use Rattle.std.specs.Prelude.{slice_get, IsOkAnd, IsOk, IfOk}
+use Rattle.std.proofs.Common.{◌≡◌, ℕ, ◌+◌, ◌-◌, ◌≤◌, true, List, ◌++◌, take, drop, None, Result, Ok, Err, refl, sym, ap, subst, ◌∙◌, length-take, length-drop, arith}
+use Rattle.std.specs.Prelude.{IsOkAnd, IfOk}
 use Rattle.std.proofs.lemmas.List.{take-append-drop, drop-take, take-take, drop-drop}
 use Rattle.tx_tree.specs.Cuts.{is_cut}
 use Rattle.tx_tree.specs.Labels.{is_label_byte, IsLabel}
 use Rattle.tx_tree.specs.Texts.{IsText}
 use Rattle.tx_tree.specs.Limits.{IsWithinLimits}
-use Rattle.tx_tree.specs.Paths.{subtree}
-use Rattle.tx_tree.specs.WideTree.{WideTree, leaf, node, forest, trees, children_of, label_of, size_of, depth_of, arity_of, text_length_of, count, total_size, deepest, widest, longest_text}
+use Rattle.tx_tree.specs.WideTree.{WideTree, leaf, node, forest, label_of, total_size}
 use Rattle.tx_tree.proofs.Children.{trees_forest, count-forest, count-trees}
 use Rattle.tx_tree.proofs.Cutting.{text_rest}
-use Rattle.tx_mod.specs.declared.faults.ModFault.{ModFault}
-use Rattle.tx_mod.specs.declared.mods.Mod.{Mod}
-use Rattle.tx_mod.specs.Mods.{path_of, tuple, taken_out, part_of, extent, replaced}
-use Rattle.tx_mod.specs.Changes.{Outcome, asking, removed, labelled, unwrapped, changed_at, limited, put_back, changed}
+use Rattle.tx_mod.specs.Mods.{tuple, taken_out, part_of, extent}
+use Rattle.tx_mod.specs.Changes.{labelled}
 use Rattle.tx_mod.specs.Inverses.{removed_part, without_child}
-use Rattle.tx_mod.proofs.Measuring.{of_parts, of_both, of_round, narrow, size_of_node, depth_of_node}
-use Rattle.tx_mod.proofs.Remade.{text_before, text_behind, asked}
+use Rattle.tx_mod.proofs.Measuring.{of_parts, of_both, narrow, size_of_node, depth_of_node}
+use Rattle.tx_mod.proofs.Remade.{text_before}
 
 pub extent_small : (t : WideTree) → IsWithinLimits t → extent t ≤ 1048575
 extent_small (leaf text) w = w.text

@@ -1,13 +1,12 @@
 -- What a modification makes of a whole tree.
-use Rattle.std.proofs.Common.{◌≡◌, ℕ, zero, suc, ◌+◌, ◌-◌, ◌<◌, ◌≤◌, max, Bool, true, false, leb, List, [], ◌∷◌, ◌++◌, length, take, drop, get_or, Option, Some, None, Result, Ok, Err, refl, sym, ap, subst, ◌∙◌, arith}
+use Rattle.std.proofs.Common.{◌≡◌, ℕ, ◌+◌, ◌<◌, ◌≤◌, max, Bool, true, false, leb, List, [], ◌∷◌, length, drop, get_or, Some, None, Ok, Err, refl, sym, ap, subst, ◌∙◌, arith}
 use Rattle.std.specs.Prelude.{slice_get, IsOk, IsOkAnd}
 use Rattle.std.specs.Option.{option_map_or}
 use Rattle.std.proofs.lemmas.List.{drop_more}
 use Rattle.std.proofs.lemmas.Bool.{le-leb, leb-true}
 use Rattle.tx_tree.specs.Limits.{IsWithinLimits}
 use Rattle.tx_tree.specs.Paths.{subtree, leading}
-use Rattle.tx_tree.specs.WideTree.{WideTree, Forest, leaf, node, forest, trees, children_of, size_of, depth_of, deepest, arity_of, text_length_of}
-use Rattle.tx_tree.proofs.Walking.{IsStepDown, went_down}
+use Rattle.tx_tree.specs.WideTree.{WideTree, children_of, size_of, depth_of, arity_of, text_length_of}
 use Rattle.tx_mod.specs.declared.faults.ModFault.{ModFault}
 use Rattle.tx_mod.specs.declared.faults.ModFault.TheVariants.{NoPath, TooLong, TooWide, TooDeep, TooBig}
 use Rattle.tx_mod.specs.declared.measures.Measure.{Measure}
@@ -15,7 +14,7 @@ use Rattle.tx_mod.specs.declared.mods.Mod.{Mod}
 use Rattle.tx_mod.specs.Mods.{path_of, replaced}
 use Rattle.tx_mod.specs.Changes.{Outcome, asking, changed_at, limited, put_back, changed}
 use Rattle.tx_mod.specs.Measures.{IsPeak, IsMade}
-use Rattle.tx_mod.proofs.Replacing.{aside, size_of_replaced, depth_of_replaced, text_of_replaced, text_in_replaced, arity_of_replaced, arity_in_replaced, size_of_subtree, subtree_of_replaced, down}
+use Rattle.tx_mod.proofs.Replacing.{aside, size_of_replaced, depth_of_replaced, text_of_replaced, text_in_replaced, arity_of_replaced, arity_in_replaced, subtree_of_replaced, down}
 use Rattle.tx_mod.specs.Inverses.{inverse_at, inverse_of}
 use Rattle.tx_mod.proofs.Built.{child_within}
 
@@ -114,7 +113,7 @@ all_within m t s a depth size e h w short narrow deep le sized small =
     let shallow : depth_of u ≡ depth = deep h.tree (sym h.depth) in
     let is : size_of u ≡ size = omega (arith, size_of_replaced (path_of m) t s h.tree e, h.size, sized) in
     let within : IsWithinLimits u =
-        record { text = (whole_text m t s a e h w).within short; arity = (whole_arity m t s a e h w).within narrow; depth = omega arith; size = omega arith } in
+    record { text = (whole_text m t s a e h w).within short; arity = (whole_arity m t s a e h w).within narrow; depth = omega arith; size = omega arith } in
     rw (changed_is m t s h.tree e h.is, limited_ok u within) refl
 
 -- ---- the depth, step by step down the path
@@ -124,7 +123,7 @@ pub depth_step : (t c v : WideTree) (path : List ℕ) (k : ℕ) (beside beside' 
     → max beside' (k + 1 + depth_of (replaced c (drop (k + 1) path) v)) ≡ whole
 depth_step t c v path k beside beside' whole lt found step before =
     let here : depth_of (replaced t (drop k path) v) ≡ 1 + max (aside t (get_or path k 0)) (depth_of (replaced c (drop (k + 1) path) v)) =
-        ap (λ p. depth_of (replaced t p v)) (drop_more path k 0 lt) ∙ depth_of_replaced t c v (get_or path k 0) (drop (k + 1) path) found in
+    ap (λ p. depth_of (replaced t p v)) (drop_more path k 0 lt) ∙ depth_of_replaced t c v (get_or path k 0) (drop (k + 1) path) found in
     omega (arith, step, before, here)
 
 -- ---- where a modification makes something of a tree

@@ -1,11 +1,11 @@
 -- What a modification makes of a tree, or the first cause why it makes nothing of it.
-use Rattle.std.specs.Prelude.{◌≡◌, ℕ, ◌+◌, ◌<◌, Bool, true, false, nat_le, nat_lt, nat_eq, List, [], ◌∷◌, ◌++◌, length, take, drop, Option, Some, None, Result, Ok, Err, slice_get}
+use Rattle.std.specs.Prelude.{◌≡◌, ℕ, ◌+◌, Bool, true, false, nat_le, List, [], ◌∷◌, ◌++◌, length, take, drop, Result, Ok, Err, slice_get}
 use Rattle.std.specs.Option.{option_map_or}
 use Rattle.std.specs.Str.{bytes_eq}
 use Rattle.tx_tree.specs.declared.TheConstants.{MOST_TEXT, MOST_ARITY, MOST_DEPTH, MOST_SIZE}
 use Rattle.tx_tree.specs.Cuts.{is_cut}
 use Rattle.tx_tree.specs.Paths.{subtree, leading}
-use Rattle.tx_tree.specs.WideTree.{WideTree, leaf, node, forest, trees, children_of, size_of, depth_of, arity_of, text_length_of}
+use Rattle.tx_tree.specs.WideTree.{WideTree, leaf, node, forest, trees, size_of, depth_of, arity_of, text_length_of}
 use Rattle.tx_mod.specs.declared.faults.ModFault.{ModFault}
 use Rattle.tx_mod.specs.declared.faults.ModFault.TheVariants.{NoPath, NotString, NotNode, BadPlace, Differ, CutsSymbol, TooLong, TooWide, TooDeep, TooBig}
 use Rattle.tx_mod.specs.declared.faults.ApplyFault.{ApplyFault}

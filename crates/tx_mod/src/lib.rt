@@ -6,6 +6,7 @@
 
 mod applying;
 mod faults;
+mod laws;
 mod making;
 mod measures;
 mod mods;
@@ -16,4 +17,5 @@ mod walks;
 
 pub use applying::{applicable, apply, inverse};
 pub use faults::{ApplyFault, ModFault};
+pub use laws::inverse_law;
 pub use mods::Mod;

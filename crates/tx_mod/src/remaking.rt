@@ -13,7 +13,13 @@ use tx_base::{Memory, Steps};
 use tx_tree::{Label, Tree};
 
 // The bytes before place `from`, others, and the bytes from place `to` on.
-fn spliced_bytes(alloc: Global, bytes: &[u8], from: usize, to: usize, others: &[u8]) -> Result<Vec<u8>, Memory>
+fn spliced_bytes(
+    alloc: Global,
+    bytes: &[u8],
+    from: usize,
+    to: usize,
+    others: &[u8],
+) -> Result<Vec<u8>, Memory>
     requires order { from ≤ to }
     requires there { to ≤ length bytes.now }
     ensures { IfOk result (λ v. v.items ≡ take from bytes.now ++ others.now ++ drop to bytes.now) }
@@ -24,7 +30,13 @@ fn spliced_bytes(alloc: Global, bytes: &[u8], from: usize, to: usize, others: &[
     Ok(all)
 }
 
-fn insert<L: Ledger>(alloc: Global, s: &Tree, i: u32, x: &Tree, steps: &mut Steps<L>) -> Result<Tree, Memory>
+fn insert<L: Ledger>(
+    alloc: Global,
+    s: &Tree,
+    i: u32,
+    x: &Tree,
+    steps: &mut Steps<L>,
+) -> Result<Tree, Memory>
     requires { IsOkAnd (inserted s.now i x.now) IsWithinLimits }
     ensures made { IfOk result (λ v. inserted s.now i x.now ≡ Ok v) }
     ensures counted { steps.new ≤ steps.old + 1 }
@@ -43,7 +55,13 @@ fn insert<L: Ledger>(alloc: Global, s: &Tree, i: u32, x: &Tree, steps: &mut Step
     }
 }
 
-fn remove<L: Ledger>(alloc: Global, s: &Tree, i: u32, n: u32, steps: &mut Steps<L>) -> Result<Tree, Memory>
+fn remove<L: Ledger>(
+    alloc: Global,
+    s: &Tree,
+    i: u32,
+    n: u32,
+    steps: &mut Steps<L>,
+) -> Result<Tree, Memory>
     requires { IsOkAnd (removed s.now i n) IsWithinLimits }
     ensures made { IfOk result (λ v. removed s.now i n ≡ Ok v) }
     ensures counted { steps.new ≤ steps.old + 1 }
@@ -99,7 +117,13 @@ fn back<L: Ledger>(alloc: Global, t: &Tree, j: usize, steps: &mut Steps<L>) -> R
     }
 }
 
-fn split<L: Ledger>(alloc: Global, s: &Tree, i: u32, j: u32, steps: &mut Steps<L>) -> Result<Tree, Memory>
+fn split<L: Ledger>(
+    alloc: Global,
+    s: &Tree,
+    i: u32,
+    j: u32,
+    steps: &mut Steps<L>,
+) -> Result<Tree, Memory>
     requires { IsOkAnd (split s.now i j) IsWithinLimits }
     ensures made { IfOk result (λ v. split s.now i j ≡ Ok v) }
     ensures counted { steps.new ≤ steps.old + 3 }
@@ -115,7 +139,12 @@ fn split<L: Ledger>(alloc: Global, s: &Tree, i: u32, j: u32, steps: &mut Steps<L
     node_of(alloc, label, all, steps)
 }
 
-fn join_pair<L: Ledger>(alloc: Global, a: &Tree, b: &Tree, steps: &mut Steps<L>) -> Result<Tree, Memory>
+fn join_pair<L: Ledger>(
+    alloc: Global,
+    a: &Tree,
+    b: &Tree,
+    steps: &mut Steps<L>,
+) -> Result<Tree, Memory>
     requires { IsOkAnd (joined a.now b.now) IsWithinLimits }
     ensures made { IfOk result (λ v. joined a.now b.now ≡ Ok v) }
     ensures counted { steps.new ≤ steps.old + 1 }
@@ -148,7 +177,12 @@ fn join<L: Ledger>(alloc: Global, s: &Tree, i: u32, steps: &mut Steps<L>) -> Res
     node_of(alloc, label, all, steps)
 }
 
-fn assign_label<L: Ledger>(alloc: Global, s: &Tree, label: &Label, steps: &mut Steps<L>) -> Result<Tree, Memory>
+fn assign_label<L: Ledger>(
+    alloc: Global,
+    s: &Tree,
+    label: &Label,
+    steps: &mut Steps<L>,
+) -> Result<Tree, Memory>
     requires { IsOkAnd (labelled s.now label.now) IsWithinLimits }
     ensures made { IfOk result (λ v. labelled s.now label.now ≡ Ok v) }
     ensures counted { steps.new ≤ steps.old + 1 }
@@ -160,7 +194,13 @@ fn assign_label<L: Ledger>(alloc: Global, s: &Tree, label: &Label, steps: &mut S
     node_of(alloc, label, all, steps)
 }
 
-fn wrap<L: Ledger>(alloc: Global, s: &Tree, i: u32, x: &Tree, steps: &mut Steps<L>) -> Result<Tree, Memory>
+fn wrap<L: Ledger>(
+    alloc: Global,
+    s: &Tree,
+    i: u32,
+    x: &Tree,
+    steps: &mut Steps<L>,
+) -> Result<Tree, Memory>
     requires { IsOkAnd (wrapped s.now i x.now) IsWithinLimits }
     ensures made { IfOk result (λ v. wrapped s.now i x.now ≡ Ok v) }
     ensures counted { steps.new ≤ steps.old + 1 }
@@ -185,7 +225,12 @@ fn unwrap(s: &Tree, i: u32) -> Result<Tree, Memory>
 }
 
 // What the modification makes of the subtree.
-pub(crate) fn remade<L: Ledger>(alloc: Global, s: &Tree, m: &Mod, steps: &mut Steps<L>) -> Result<Tree, Memory>
+pub(crate) fn remade<L: Ledger>(
+    alloc: Global,
+    s: &Tree,
+    m: &Mod,
+    steps: &mut Steps<L>,
+) -> Result<Tree, Memory>
     requires { IsOkAnd (changed_at m.now s.now) IsWithinLimits }
     ensures made { IfOk result (λ v. changed_at m.now s.now ≡ Ok v) }
     ensures counted { steps.new ≤ steps.old + 3 }

@@ -54,7 +54,12 @@ fn removed_part<L: Ledger>(
 }
 
 // The node without its child i.
-fn without_child<L: Ledger>(alloc: Global, s: &Tree, i: u32, steps: &mut Steps<L>) -> Result<Tree, Memory>
+fn without_child<L: Ledger>(
+    alloc: Global,
+    s: &Tree,
+    i: u32,
+    steps: &mut Steps<L>,
+) -> Result<Tree, Memory>
     requires { IsOkAnd (unwrapped s.now i) IsWithinLimits }
     ensures made { IfOk result (λ x. x ≡ without_child s.now i) }
     ensures counted { steps.new ≤ steps.old + 1 }

@@ -1,4 +1,3 @@
-use Rattle.std.proofs.Common.{◌≡◌, ◌<◌, ◌≤◌, ◌+◌, ◌-◌, ◌++◌, ◌∷◌, [], List, length, take, drop, rules, sym, ap, refl, subst, ◌∙◌, arith, true, Some, Ok}
 use Rattle.tx_mod.proofs.Whole.{change_requires}
 use Rattle.tx_mod.proofs.applying.apply.Goals as goal
 

@@ -1,7 +1,4 @@
-use Rattle.std.proofs.Common.{◌≡◌, ◌<◌, ◌≤◌, ◌+◌, ◌++◌, ◌∷◌, [], List, length, take, drop, rules, sym, ap, refl, subst, ◌∙◌, append_assoc, arith, true, Some, Ok}
-use Rattle.std.specs.Prelude.{slice_get}
-use Rattle.tx_tree.specs.WideTree.{WideTree, node, forest}
-use Rattle.tx_mod.specs.Mods.{put_in, taken_out, extent, is_clean, before, behind}
+use Rattle.std.proofs.Common.{◌≡◌, ◌++◌, [], take, drop, rules, arith}
 use Rattle.tx_mod.proofs.Remade.{leaf_before, text_behind, halves_within, node_behind, same_ok}
 use Rattle.tx_mod.proofs.remaking.back.Goals as goal
 use Rattle.tx_mod.proofs.Measuring.{extent_of_node}

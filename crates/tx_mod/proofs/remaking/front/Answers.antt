@@ -1,7 +1,4 @@
-use Rattle.std.proofs.Common.{◌≡◌, ◌<◌, ◌≤◌, ◌+◌, ◌++◌, ◌∷◌, [], List, length, take, drop, rules, sym, ap, refl, subst, ◌∙◌, append_assoc, arith, true, Some, Ok}
-use Rattle.std.specs.Prelude.{slice_get}
-use Rattle.tx_tree.specs.WideTree.{WideTree, node, forest}
-use Rattle.tx_mod.specs.Mods.{put_in, taken_out, extent, is_clean, before, behind}
+use Rattle.std.proofs.Common.{arith}
 use Rattle.tx_mod.proofs.Remade.{leaf_before, text_before, halves_within, node_before, same_ok}
 use Rattle.tx_mod.proofs.remaking.front.Goals as goal
 use Rattle.tx_mod.proofs.Measuring.{extent_of_node}

@@ -1,7 +1,4 @@
-use Rattle.std.proofs.Common.{◌≡◌, ◌<◌, ◌≤◌, ◌+◌, ◌++◌, ◌∷◌, [], List, length, take, drop, rules, sym, ap, refl, subst, ◌∙◌, append_assoc, arith, true, Some, Ok}
-use Rattle.std.specs.Prelude.{slice_get}
-use Rattle.tx_tree.specs.WideTree.{WideTree, node, forest}
-use Rattle.tx_mod.specs.Mods.{put_in, taken_out, extent, is_clean, before, behind}
+use Rattle.std.proofs.Common.{◌≡◌, ◌+◌, ◌++◌, ◌∷◌, [], take, drop, sym, ap, subst, ◌∙◌, append_assoc, arith, Ok}
 use Rattle.tx_mod.proofs.Remade.{node_joined, found_same, third_within, same_Some_ok, items_within, node_is, made_ok}
 use Rattle.tx_mod.proofs.remaking.join.Goals as goal
 use Rattle.std.specs.Prelude.{IsOkAnd}
@@ -41,8 +38,8 @@ node_of-requires g c =
     let made : joined c.index-children-i.result c.index-children-i-2.result ≡ Ok r.third = rw (one, two) r.made in
     let same : c.in_ok-one.one ≡ r.third = same_Some_ok c.in_ok-one.one r.third (sym c.in_ok-one.ensures.made ∙ made) in
     let items : c.in_ok-all.all.items ≡ take c.args.i c.in-Node.children.now ++ r.third ∷ drop (c.args.i + 2) c.in-Node.children.now =
-        c.in_ok-all.ensures ∙ append_assoc (take c.args.i c.in-Node.children.now) (c.in_ok-one.one ∷ []) (drop (c.args.i + 2) c.in-Node.children.now)
-        ∙ ap (λ x. take c.args.i c.in-Node.children.now ++ x ∷ drop (c.args.i + 2) c.in-Node.children.now) same in
+    c.in_ok-all.ensures ∙ append_assoc (take c.args.i c.in-Node.children.now) (c.in_ok-one.one ∷ []) (drop (c.args.i + 2) c.in-Node.children.now)
+    ∙ ap (λ x. take c.args.i c.in-Node.children.now ++ x ∷ drop (c.args.i + 2) c.in-Node.children.now) same in
     items_within c.in-Node.label.now _ _ items r.tree.within
 
 pub returns-clause-made : goal.returns-clause-made
@@ -53,6 +50,6 @@ returns-clause-made g c =
     let made : joined c.index-children-i.result c.index-children-i-2.result ≡ Ok r.third = rw (one, two) r.made in
     let same : c.in_ok-one.one ≡ r.third = same_Some_ok c.in_ok-one.one r.third (sym c.in_ok-one.ensures.made ∙ made) in
     let items : c.in_ok-all.all.items ≡ take c.args.i c.in-Node.children.now ++ r.third ∷ drop (c.args.i + 2) c.in-Node.children.now =
-        c.in_ok-all.ensures ∙ append_assoc (take c.args.i c.in-Node.children.now) (c.in_ok-one.one ∷ []) (drop (c.args.i + 2) c.in-Node.children.now)
-        ∙ ap (λ x. take c.args.i c.in-Node.children.now ++ x ∷ drop (c.args.i + 2) c.in-Node.children.now) same in
+    c.in_ok-all.ensures ∙ append_assoc (take c.args.i c.in-Node.children.now) (c.in_ok-one.one ∷ []) (drop (c.args.i + 2) c.in-Node.children.now)
+    ∙ ap (λ x. take c.args.i c.in-Node.children.now ++ x ∷ drop (c.args.i + 2) c.in-Node.children.now) same in
     made_ok _ _ _ _ r.tree.is (node_is c.in-Node.label.now _ _ items) c.node_of.ensures.made

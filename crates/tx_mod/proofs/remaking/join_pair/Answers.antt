@@ -1,7 +1,4 @@
-use Rattle.std.proofs.Common.{◌≡◌, ◌<◌, ◌≤◌, ◌+◌, ◌++◌, ◌∷◌, [], List, length, take, drop, rules, sym, ap, refl, subst, ◌∙◌, append_assoc, arith, true, Some, Ok}
-use Rattle.std.specs.Prelude.{slice_get}
-use Rattle.tx_tree.specs.WideTree.{WideTree, node, forest}
-use Rattle.tx_mod.specs.Mods.{put_in, taken_out, extent, is_clean, before, behind}
+use Rattle.std.proofs.Common.{◌≡◌, ◌++◌, length, take, drop, rules, ◌∙◌}
 use Rattle.tx_mod.proofs.Remade.{pair_joined, texts_together, whole_and, items_within, node_is, made_ok}
 use Rattle.tx_mod.proofs.remaking.join_pair.Goals as goal
 

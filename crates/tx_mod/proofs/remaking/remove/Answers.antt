@@ -1,7 +1,4 @@
-use Rattle.std.proofs.Common.{◌≡◌, ◌<◌, ◌≤◌, ◌+◌, ◌++◌, ◌∷◌, [], List, length, take, drop, rules, sym, ap, refl, subst, ◌∙◌, append_assoc, arith, true, Some, Ok}
-use Rattle.std.specs.Prelude.{slice_get}
-use Rattle.tx_tree.specs.WideTree.{WideTree, node, forest}
-use Rattle.tx_mod.specs.Mods.{put_in, taken_out, extent, is_clean, before, behind}
+use Rattle.std.proofs.Common.{◌≡◌, ◌+◌, ◌++◌, [], take, drop, rules}
 use Rattle.tx_mod.proofs.Remade.{leaf_removed, node_removed, text_taken_out, nil_between, nil_between_bytes, items_within, node_is, made_ok}
 use Rattle.tx_mod.proofs.remaking.remove.Goals as goal
 

@@ -1,7 +1,3 @@
-use Rattle.std.proofs.Common.{◌≡◌, ◌<◌, ◌≤◌, ◌+◌, ◌++◌, ◌∷◌, [], List, length, take, drop, rules, sym, ap, refl, subst, ◌∙◌, append_assoc, arith, true, Some, Ok}
-use Rattle.std.specs.Prelude.{slice_get}
-use Rattle.tx_tree.specs.WideTree.{WideTree, node, forest}
-use Rattle.tx_mod.specs.Mods.{put_in, taken_out, extent, is_clean, before, behind}
 use Rattle.tx_mod.proofs.Remade.{node_unwrapped, found_same, made_ok}
 use Rattle.tx_mod.proofs.remaking.unwrap.Goals as goal
 use Rattle.tx_mod.proofs.Lists.{get_within}

@@ -1,5 +1,4 @@
-use Rattle.std.proofs.Common.{◌≡◌, ◌<◌, ◌≤◌, ◌+◌, ◌-◌, ◌++◌, ◌∷◌, [], List, length, take, drop, rules, sym, ap, refl, subst, ◌∙◌, arith, true, Some, Ok}
-use Rattle.tx_mod.specs.Mods.{part_of}
+use Rattle.std.proofs.Common.{◌+◌, ◌-◌, take, drop, ap, refl, ◌∙◌, arith}
 use Rattle.tx_mod.proofs.Remade.{leaf_removed, node_removed}
 use Rattle.tx_mod.proofs.Undone.{text_between, part_within, part_is, same_ok, sub_add}
 use Rattle.tx_mod.proofs.undoing.removed_part.Goals as goal

@@ -1,4 +1,3 @@
-use Rattle.std.proofs.Common.{◌≡◌, ◌<◌, ◌≤◌, ◌+◌, ◌-◌, ◌++◌, ◌∷◌, [], List, length, take, drop, rules, sym, ap, refl, subst, ◌∙◌, arith, true, Some, Ok}
 use Rattle.tx_mod.proofs.Undone.{tuple_is_label}
 use Rattle.tx_mod.proofs.undoing.tuple_label.Goals as goal
 

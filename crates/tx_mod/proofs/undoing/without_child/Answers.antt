@@ -1,4 +1,4 @@
-use Rattle.std.proofs.Common.{◌≡◌, ◌<◌, ◌≤◌, ◌+◌, ◌-◌, ◌++◌, ◌∷◌, [], List, length, take, drop, rules, sym, ap, refl, subst, ◌∙◌, arith, true, Some, Ok}
+use Rattle.std.proofs.Common.{◌+◌, take, drop, arith}
 use Rattle.tx_mod.proofs.Lists.{get_within}
 use Rattle.tx_mod.proofs.Remade.{node_unwrapped, nil_between}
 use Rattle.tx_mod.proofs.Undone.{taken_within, without_is, same_ok}
