@@ -1,20 +1,11 @@
 -- Ways down a tree.
-use Rattle.std.proofs.Common.{◌≡◌, ℕ, zero, suc, ◌+◌, ◌<◌, ◌≤◌, List, ◌∷◌, length, drop, get_or, Some, None, ap, ◌∙◌, arith}
+use Rattle.std.proofs.Common.{◌≡◌, ℕ, ◌+◌, ◌<◌, List, ◌∷◌, length, drop, get_or, Some, None, ap, ◌∙◌}
 use Rattle.std.proofs.lemmas.List.{drop_more}
 use Rattle.std.specs.Prelude.{slice_get, option_and_then}
 use Rattle.std.specs.Option.{option_map_or}
-use Rattle.tx_tree.specs.WideTree.{WideTree, Forest, leaf, node, nil, cons, trees, children_of, depth_of, deepest}
+use Rattle.tx_tree.specs.WideTree.{WideTree, children_of, depth_of}
 use Rattle.tx_tree.specs.Paths.{subtree, leading}
-
-get_le_deepest : (ts : Forest) (i : ℕ) (t : WideTree) → slice_get (trees ts) i ≡ Some t → depth_of t ≤ deepest ts
-get_le_deepest nil i t e = absurd (cc)
-get_le_deepest (cons u ts) zero t e = let same : u ≡ t = cc in rw (← same) (omega arith)
-get_le_deepest (cons u ts) (suc i) t e = omega (arith, get_le_deepest ts i t e)
-
--- a child is less deep
-pub child_shallower : (p t : WideTree) (i : ℕ) → slice_get (children_of p) i ≡ Some t → depth_of t < depth_of p
-child_shallower (leaf text) t i e = absurd (cc)
-child_shallower (node label ts) t i e = omega (arith, get_le_deepest ts i t e)
+use Rattle.tx_tree.proofs.Walks.{child_shallower}
 
 -- one step down, and where there is none
 pub step_down : (t u : WideTree) (i : ℕ) (path : List ℕ) → slice_get (children_of t) i ≡ Some u → subtree t (i ∷ path) ≡ subtree u path

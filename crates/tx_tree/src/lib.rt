@@ -10,6 +10,8 @@ mod faults;
 mod labels;
 mod paths;
 mod places;
+#[cfg(test)]
+mod tests;
 mod texts;
 mod trees;
 
