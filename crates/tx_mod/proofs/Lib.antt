@@ -3,3 +3,7 @@ pub mod Replacing
 pub mod Seeing
 pub mod Measuring
 pub mod Whole
+pub mod Built
+pub mod Remade
+pub mod Undone
+pub mod Back

@@ -1,9 +1,7 @@
 -- Elements of lists, and lists of trees.
-use Rattle.std.proofs.Common.{◌≡◌, ℕ, zero, suc, ◌+◌, ◌<◌, ◌≤◌, max, List, [], ◌∷◌, ◌++◌, length, take, drop, set, Option, Some, None, refl, sym, ap, subst, ◌∙◌, length-append, add-one, arith}
+use Rattle.std.proofs.Common.{◌≡◌, ℕ, zero, suc, ◌+◌, ◌<◌, ◌≤◌, max, List, [], ◌∷◌, ◌++◌, length, take, drop, set, Some, refl, sym, ap, ◌∙◌, arith}
 use Rattle.std.specs.Prelude.{slice_get}
-use Rattle.std.proofs.lemmas.List.{take-append-drop}
-use Rattle.tx_tree.specs.WideTree.{WideTree, Forest, leaf, node, nil, cons, forest, trees, children_of, size_of, total_size, depth_of, deepest, arity_of, widest, count, text_length_of, longest_text}
-use Rattle.tx_tree.proofs.Children.{trees_forest, total_size-append, deepest-append, widest-append, longest_text-append, count-forest}
+use Rattle.tx_tree.specs.WideTree.{WideTree, forest, size_of, total_size, depth_of, deepest, arity_of, widest, count, text_length_of, longest_text}
 
 pub get_within : {X : Type 0} → (xs : List X) (i : ℕ) (x : X) → slice_get xs i ≡ Some x → i < length xs
 get_within [] i x e = absurd (cc)

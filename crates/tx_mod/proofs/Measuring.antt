@@ -1,22 +1,22 @@
 -- The measure of what a modification makes of a subtree.
-use Rattle.std.proofs.Common.{◌≡◌, ℕ, zero, suc, ◌+◌, ◌-◌, ◌<◌, ◌≤◌, max, min, Bool, true, false, leb, eqb, List, [], ◌∷◌, ◌++◌, length, take, drop, get_or, Option, Some, None, Ok, Err, refl, sym, ap, subst, ◌∙◌, length-append, length-take, length-drop, arith}
+use Rattle.std.proofs.Common.{◌≡◌, ℕ, zero, suc, ◌+◌, ◌<◌, ◌≤◌, max, Bool, true, false, leb, List, [], ◌∷◌, ◌++◌, length, take, drop, get_or, Option, Some, None, Ok, Err, refl, sym, ap, subst, ◌∙◌, length-append, length-take, length-drop, arith}
 use Rattle.std.specs.Prelude.{slice_get}
 use Rattle.std.specs.Option.{option_map_or}
 use Rattle.std.specs.Str.{bytes_eq}
-use Rattle.std.proofs.lemmas.List.{take-append-drop, length-take-le}
+use Rattle.std.proofs.lemmas.List.{take-append-drop}
 use Rattle.std.proofs.lemmas.Option.{slice_get_past, slice_get_read}
 use Rattle.std.proofs.lemmas.Slice.Eq.{bytes_eq-Decides}
 use Rattle.std.proofs.lemmas.Bool.{le-leb}
 use Rattle.tx_tree.specs.Limits.{IsWithinLimits}
-use Rattle.tx_tree.specs.WideTree.{WideTree, Forest, leaf, node, nil, cons, forest, trees, children_of, size_of, total_size, depth_of, deepest, arity_of, widest, count, text_length_of, longest_text}
+use Rattle.tx_tree.specs.WideTree.{WideTree, Forest, leaf, node, nil, cons, forest, trees, size_of, total_size, depth_of, deepest, arity_of, widest, count, text_length_of, longest_text}
 use Rattle.tx_tree.proofs.Children.{trees_forest, forest_trees, total_size-append, deepest-append, widest-append, longest_text-append, count-forest}
 use Rattle.tx_mod.specs.declared.faults.ModFault.{ModFault}
 use Rattle.tx_mod.specs.declared.faults.ModFault.TheVariants.{NotNode, BadPlace, CutsSymbol, Differ}
 use Rattle.tx_mod.specs.declared.measures.Measure.{Measure}
 use Rattle.tx_mod.specs.Mods.{tuple, put_in, taken_out, extent, is_clean, before, behind}
-use Rattle.tx_mod.specs.Changes.{Outcome, asking, inserted, removed, split, split_child, joined, joined_at, in_place_of_two, labelled, wrapped, unwrapped}
-use Rattle.tx_mod.specs.Measures.{IsPeak, IsMade, Measures}
-use Rattle.tx_mod.proofs.Lists.{get_within, list_at, drop_past}
+use Rattle.tx_mod.specs.Changes.{Outcome, asking, inserted, removed, split, split_child, joined, joined_at, in_place_of_two, wrapped, unwrapped}
+use Rattle.tx_mod.specs.Measures.{IsPeak, IsMade}
+use Rattle.tx_mod.proofs.Lists.{list_at, drop_past}
 
 pub some_size : (t : WideTree) → 1 ≤ size_of t
 some_size (leaf text) = omega arith
@@ -125,7 +125,7 @@ insert_made s x l m ts us i a e f named le w v text arity depth size =
     let n = narrow s l ts e w in
     let k = narrow x m us f v in
     let is : inserted s i x ≡ Ok (node l (forest (put_in ts i us))) =
-        nodes_inserted s x l m ts us i e f named ∙ ap (λ b. asking b (BadPlace (length ts)) (Ok (node l (forest (put_in ts i us))))) (le-leb i (length ts) le) in
+    nodes_inserted s x l m ts us i e f named ∙ ap (λ b. asking b (BadPlace (length ts)) (Ok (node l (forest (put_in ts i us))))) (le-leb i (length ts) le) in
     made_node (inserted s i x) a l (put_in ts i us) is text (omega (arith, arity, p.many)) (omega (arith, p.wide, n.wide, k.wide)) (omega (arith, p.long, n.long, k.long))
     (omega (arith, depth, depth_of_node s l ts e, depth_of_node x m us f, p.depth)) (omega (arith, size, size_of_node s l ts e, size_of_node x m us f, p.size))
 
@@ -146,7 +146,7 @@ remove_made s l ts i n a e le w text arity depth size =
     let front = of_parts ts i in
     let back = of_parts ts (i + n) in
     let is : removed s i n ≡ Ok (node l (forest (taken_out ts i n))) =
-        rw (e, trees_forest ts) (ap (λ b. asking b (BadPlace (length ts)) (Ok (node l (forest (taken_out ts i n))))) (le-leb (i + n) (length ts) le)) in
+    rw (e, trees_forest ts) (ap (λ b. asking b (BadPlace (length ts)) (Ok (node l (forest (taken_out ts i n))))) (le-leb (i + n) (length ts) le)) in
     record {
       tree = node l (forest (taken_out ts i n));
       is = is;
@@ -252,7 +252,7 @@ wrap_made s x l ts i a e le w v text arity depth size =
     let p = of_put_in ts (s ∷ []) i in
     let n = narrow x l ts e v in
     let is : wrapped s i x ≡ Ok (node l (forest (put_in ts i (s ∷ [])))) =
-        rw (e, trees_forest ts) (ap (λ b. asking b (BadPlace (length ts)) (Ok (node l (forest (put_in ts i (s ∷ [])))))) (le-leb i (length ts) le)) in
+    rw (e, trees_forest ts) (ap (λ b. asking b (BadPlace (length ts)) (Ok (node l (forest (put_in ts i (s ∷ [])))))) (le-leb i (length ts) le)) in
     made_node (wrapped s i x) a l (put_in ts i (s ∷ [])) is text (omega (arith, arity, p.many)) (omega (arith, p.wide, n.wide, w.arity)) (omega (arith, p.long, n.long, w.text))
     (omega (arith, depth, depth_of_node x l ts e, p.depth)) (omega (arith, size, size_of_node x l ts e, p.size))
 

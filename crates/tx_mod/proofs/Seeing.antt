@@ -1,11 +1,10 @@
 -- Leaves, nodes and cuts, as the calls tell them.
-use Rattle.std.proofs.Common.{◌≡◌, ℕ, ◌<◌, ◌≤◌, Bool, true, false, leb, List, length, take, Option, Some, None, refl, ap, sym, ◌∙◌, arith}
+use Rattle.std.proofs.Common.{◌≡◌, ℕ, ◌<◌, true, false, List, length, Some, None, refl, ap, ◌∙◌, arith}
 use Rattle.tx_tree.specs.Texts.{IsText, IsCut}
 use Rattle.tx_tree.specs.Cuts.{is_cut}
-use Rattle.tx_tree.specs.TextScan.{is_text}
-use Rattle.tx_tree.specs.WideTree.{WideTree, leaf, node, forest, trees, children_of, text_of, label_of}
+use Rattle.tx_tree.specs.WideTree.{WideTree, leaf, node, forest, children_of, text_of, label_of}
 use Rattle.tx_tree.proofs.Children.{forest_trees}
-use Rattle.tx_tree.proofs.Cutting.{cut_test, cut_tested, cut_within}
+use Rattle.tx_tree.proofs.Cutting.{cut_test, cut_tested}
 
 pub leaf_seen : (t : WideTree) (text : List ℕ) → text_of t ≡ Some text → t ≡ leaf text
 leaf_seen (leaf x) text e = let same : x ≡ text = cc in ap leaf same

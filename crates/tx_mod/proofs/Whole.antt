@@ -1,13 +1,12 @@
 -- What a modification makes of a whole tree.
-use Rattle.std.proofs.Common.{◌≡◌, ℕ, zero, suc, ◌+◌, ◌-◌, ◌<◌, ◌≤◌, max, Bool, true, false, leb, List, [], ◌∷◌, ◌++◌, length, take, drop, get_or, Option, Some, None, Result, Ok, Err, refl, sym, ap, subst, ◌∙◌, arith}
-use Rattle.std.specs.Prelude.{slice_get, IsOk}
+use Rattle.std.proofs.Common.{◌≡◌, ℕ, ◌+◌, ◌<◌, ◌≤◌, max, Bool, true, false, leb, List, [], ◌∷◌, length, drop, get_or, Some, None, Ok, Err, refl, sym, ap, subst, ◌∙◌, arith}
+use Rattle.std.specs.Prelude.{slice_get, IsOk, IsOkAnd}
 use Rattle.std.specs.Option.{option_map_or}
 use Rattle.std.proofs.lemmas.List.{drop_more}
-use Rattle.std.proofs.lemmas.Bool.{le-leb}
+use Rattle.std.proofs.lemmas.Bool.{le-leb, leb-true}
 use Rattle.tx_tree.specs.Limits.{IsWithinLimits}
 use Rattle.tx_tree.specs.Paths.{subtree, leading}
-use Rattle.tx_tree.specs.WideTree.{WideTree, Forest, leaf, node, forest, trees, children_of, size_of, depth_of, deepest, arity_of, text_length_of}
-use Rattle.tx_tree.proofs.Walking.{IsStepDown, went_down}
+use Rattle.tx_tree.specs.WideTree.{WideTree, children_of, size_of, depth_of, arity_of, text_length_of}
 use Rattle.tx_mod.specs.declared.faults.ModFault.{ModFault}
 use Rattle.tx_mod.specs.declared.faults.ModFault.TheVariants.{NoPath, TooLong, TooWide, TooDeep, TooBig}
 use Rattle.tx_mod.specs.declared.measures.Measure.{Measure}
@@ -15,7 +14,9 @@ use Rattle.tx_mod.specs.declared.mods.Mod.{Mod}
 use Rattle.tx_mod.specs.Mods.{path_of, replaced}
 use Rattle.tx_mod.specs.Changes.{Outcome, asking, changed_at, limited, put_back, changed}
 use Rattle.tx_mod.specs.Measures.{IsPeak, IsMade}
-use Rattle.tx_mod.proofs.Replacing.{aside, size_of_replaced, depth_of_replaced, text_of_replaced, text_in_replaced, arity_of_replaced, arity_in_replaced, size_of_subtree}
+use Rattle.tx_mod.proofs.Replacing.{aside, size_of_replaced, depth_of_replaced, text_of_replaced, text_in_replaced, arity_of_replaced, arity_in_replaced, subtree_of_replaced, down}
+use Rattle.tx_mod.specs.Inverses.{inverse_at, inverse_of}
+use Rattle.tx_mod.proofs.Built.{child_within}
 
 pub changed_is : (m : Mod) (t s v : WideTree) → subtree t (path_of m) ≡ Some s → changed_at m s ≡ Ok v → changed m t ≡ limited (replaced t (path_of m) v)
 changed_is m t s v e f =
@@ -112,7 +113,7 @@ all_within m t s a depth size e h w short narrow deep le sized small =
     let shallow : depth_of u ≡ depth = deep h.tree (sym h.depth) in
     let is : size_of u ≡ size = omega (arith, size_of_replaced (path_of m) t s h.tree e, h.size, sized) in
     let within : IsWithinLimits u =
-        record { text = (whole_text m t s a e h w).within short; arity = (whole_arity m t s a e h w).within narrow; depth = omega arith; size = omega arith } in
+    record { text = (whole_text m t s a e h w).within short; arity = (whole_arity m t s a e h w).within narrow; depth = omega arith; size = omega arith } in
     rw (changed_is m t s h.tree e h.is, limited_ok u within) refl
 
 -- ---- the depth, step by step down the path
@@ -122,5 +123,73 @@ pub depth_step : (t c v : WideTree) (path : List ℕ) (k : ℕ) (beside beside' 
     → max beside' (k + 1 + depth_of (replaced c (drop (k + 1) path) v)) ≡ whole
 depth_step t c v path k beside beside' whole lt found step before =
     let here : depth_of (replaced t (drop k path) v) ≡ 1 + max (aside t (get_or path k 0)) (depth_of (replaced c (drop (k + 1) path) v)) =
-        ap (λ p. depth_of (replaced t p v)) (drop_more path k 0 lt) ∙ depth_of_replaced t c v (get_or path k 0) (drop (k + 1) path) found in
+    ap (λ p. depth_of (replaced t p v)) (drop_more path k 0 lt) ∙ depth_of_replaced t c v (get_or path k 0) (drop (k + 1) path) found in
     omega (arith, step, before, here)
+
+-- ---- where a modification makes something of a tree
+
+asked_any : (b : Bool) (cause : ModFault) (o : Outcome) → IsOk (asking b cause o) → (b ≡ true) × IsOk o
+asked_any true cause o h = (refl, h)
+asked_any false cause o h = absurd (cc)
+
+pub limited_within : (u : WideTree) → IsOk (limited u) → IsWithinLimits u
+limited_within u h =
+    let a = asked_any (leb (text_length_of u) 1048575) (TooLong (text_length_of u)) _ h in
+    let b = asked_any (leb (arity_of u) 65535) (TooWide (arity_of u)) _ a.1 in
+    let c = asked_any (leb (depth_of u) 400) (TooDeep (depth_of u)) _ b.1 in
+    let d = asked_any (leb (size_of u) 8000000) (TooBig (size_of u)) _ c.1 in
+    record { text = leb-true _ _ a.0; arity = leb-true _ _ b.0; depth = leb-true _ _ c.0; size = leb-true _ _ d.0 }
+
+-- what is known of a change that comes about
+pub record IsChange (m : Mod) (t s : WideTree) : Type 0 where
+  pub made : WideTree
+  pub at : changed_at m s ≡ Ok made
+  pub within : IsWithinLimits (replaced t (path_of m) made)
+  pub is : changed m t ≡ Ok (replaced t (path_of m) made)
+  pub small : IsWithinLimits made
+
+path_within : (path : List ℕ) (t s : WideTree) → subtree t path ≡ Some s → IsWithinLimits t → IsWithinLimits s
+path_within [] t s e w = let same : t ≡ s = cc in subst IsWithinLimits same w
+path_within (i ∷ path) t s e w = let d = down t i path s e in path_within path d.child s d.further (child_within t d.child i d.found w)
+
+pub change : (m : Mod) (t s : WideTree) → subtree t (path_of m) ≡ Some s → IsOk (changed m t) → IsChange m t s
+change m t s e h = change_of (changed_at m s) refl
+  where
+    change_of : (o : Outcome) → changed_at m s ≡ o → IsChange m t s
+    change_of (Ok v) f =
+        let within : IsWithinLimits (replaced t (path_of m) v) = limited_within (replaced t (path_of m) v) (subst IsOk (changed_is m t s v e f) h) in
+        record {
+          made = v;
+          at = f;
+          within = within;
+          is = changed_is m t s v e f ∙ limited_ok (replaced t (path_of m) v) within;
+          small = path_within (path_of m) (replaced t (path_of m) v) v (subtree_of_replaced (path_of m) t s v e) within;
+        }
+    change_of (Err cause) f = let no = subst IsOk (changed_refused m t s cause e f) h in absurd (cc)
+
+pub change_requires : (m : Mod) (t s : WideTree) (path : List ℕ) → path ≡ path_of m → subtree t path ≡ Some s → IsOk (changed m t) → IsOkAnd (changed_at m s) IsWithinLimits
+change_requires m t s path p e h = let c = change m t s (subst (λ q. subtree t q ≡ Some s) p e) h in subst (λ o. IsOkAnd o IsWithinLimits) (sym c.at) c.small
+
+pub change_within : (m : Mod) (t s v : WideTree) (path : List ℕ) → path ≡ path_of m → subtree t path ≡ Some s → IsOk (changed m t) → changed_at m s ≡ Ok v → IsWithinLimits (replaced t path v)
+change_within m t s v path p e h at =
+    let c = change m t s (subst (λ q. subtree t q ≡ Some s) p e) h in
+    let same : c.made ≡ v = same_made c.made v (sym c.at ∙ at) in
+    rw (p, ← same) c.within
+  where
+    same_made : (a b : WideTree) → ◌≡◌ {A = Outcome} (Ok a) (Ok b) → a ≡ b
+    same_made a b f = cc
+
+pub change_is : (m : Mod) (t s v u : WideTree) (path : List ℕ) → path ≡ path_of m → subtree t path ≡ Some s → IsOk (changed m t) → changed_at m s ≡ Ok v → u ≡ replaced t path v → changed m t ≡ Ok u
+change_is m t s v u path p e h at is =
+    let c = change m t s (subst (λ q. subtree t q ≡ Some s) p e) h in
+    let same : c.made ≡ v = same_made c.made v (sym c.at ∙ at) in
+    c.is ∙ ap (λ x. Ok (replaced t (path_of m) x)) same ∙ ap (λ q. Ok (replaced t q v)) (sym p) ∙ ap (λ x. Ok x) (sym is)
+  where
+    same_made : (a b : WideTree) → ◌≡◌ {A = Outcome} (Ok a) (Ok b) → a ≡ b
+    same_made a b f = cc
+
+pub no_change : (m : Mod) (t : WideTree) (path : List ℕ) → path ≡ path_of m → subtree t path ≡ None → IsOk (changed m t) → ⊥
+no_change m t path p e h = let no = subst IsOk (changed_nowhere m t (subst (λ q. subtree t q ≡ None) p e)) h in absurd (cc)
+
+pub inverse_is : (m : Mod) (t s : WideTree) (path : List ℕ) → path ≡ path_of m → subtree t path ≡ Some s → inverse_of m t ≡ inverse_at m s
+inverse_is m t s path p e = ap (λ o. option_map_or (inverse_at m) o m) (subst (λ q. subtree t q ≡ Some s) p e)

@@ -1,13 +1,15 @@
 -- What a modification makes of a tree, or the first cause why it makes nothing of it.
-use Rattle.std.specs.Prelude.{◌≡◌, ℕ, ◌+◌, ◌<◌, Bool, true, false, nat_le, nat_lt, nat_eq, List, [], ◌∷◌, ◌++◌, length, take, drop, Option, Some, None, Result, Ok, Err, slice_get}
+use Rattle.std.specs.Prelude.{◌≡◌, ℕ, ◌+◌, Bool, true, false, nat_le, List, [], ◌∷◌, ◌++◌, length, take, drop, Result, Ok, Err, slice_get}
 use Rattle.std.specs.Option.{option_map_or}
 use Rattle.std.specs.Str.{bytes_eq}
 use Rattle.tx_tree.specs.declared.TheConstants.{MOST_TEXT, MOST_ARITY, MOST_DEPTH, MOST_SIZE}
 use Rattle.tx_tree.specs.Cuts.{is_cut}
 use Rattle.tx_tree.specs.Paths.{subtree, leading}
-use Rattle.tx_tree.specs.WideTree.{WideTree, leaf, node, forest, trees, children_of, size_of, depth_of, arity_of, text_length_of}
+use Rattle.tx_tree.specs.WideTree.{WideTree, leaf, node, forest, trees, size_of, depth_of, arity_of, text_length_of}
 use Rattle.tx_mod.specs.declared.faults.ModFault.{ModFault}
 use Rattle.tx_mod.specs.declared.faults.ModFault.TheVariants.{NoPath, NotString, NotNode, BadPlace, Differ, CutsSymbol, TooLong, TooWide, TooDeep, TooBig}
+use Rattle.tx_mod.specs.declared.faults.ApplyFault.{ApplyFault}
+use Rattle.tx_mod.specs.declared.faults.ApplyFault.TheVariants.{Refused, Memory}
 use Rattle.tx_mod.specs.declared.mods.Mod.{Mod}
 use Rattle.tx_mod.specs.declared.mods.Mod.TheVariants.{Assign, Insert, Remove, Split, Join, AssignNode, InsertNode, RemoveNode}
 use Rattle.tx_mod.specs.Mods.{path_of, tuple, put_in, taken_out, extent, is_clean, before, behind, replaced}
@@ -108,3 +110,8 @@ put_back t p (Err cause) = Err cause
 -- what the modification makes of the tree t
 abbrev pub changed : Mod → WideTree → Outcome
 changed m t = option_map_or (λ s. put_back t (path_of m) (changed_at m s)) (subtree t (path_of m)) (Err (NoPath (leading t (path_of m))))
+
+-- the cause is that of the outcome, or want of memory
+abbrev pub IsRefusal : Outcome → ApplyFault → Type 0
+IsRefusal outcome (Refused cause) = outcome ≡ Err cause
+IsRefusal outcome Memory = Unit {0}

@@ -1,5 +1,5 @@
 -- The modification that gives a tree back.
-use Rattle.std.specs.Prelude.{ℕ, ◌+◌, List, [], ◌∷◌, ◌++◌, slice_get, unwrap_or}
+use Rattle.std.specs.Prelude.{ℕ, [], slice_get, unwrap_or}
 use Rattle.std.specs.Option.{option_map_or}
 use Rattle.tx_tree.specs.Paths.{subtree}
 use Rattle.tx_tree.specs.WideTree.{WideTree, leaf, node, forest, trees, children_of, label_of}

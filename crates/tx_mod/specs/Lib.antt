@@ -3,3 +3,4 @@ pub mod Changes
 pub mod Inverses
 pub mod Moves
 pub mod Measures
+pub mod Sound

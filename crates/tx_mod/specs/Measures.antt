@@ -1,5 +1,5 @@
 -- What is known of a tree before it is made.
-use Rattle.std.specs.Prelude.{◌≡◌, ℕ, ◌≤◌, ◌<◌, Ok, Err, Result, MatchResult, List}
+use Rattle.std.specs.Prelude.{◌≡◌, ℕ, ◌≤◌, ◌<◌, Ok, Err, Result, MatchResult}
 use Rattle.tx_tree.specs.declared.TheConstants.{MOST_TEXT, MOST_ARITY}
 use Rattle.tx_tree.specs.WideTree.{WideTree, leaf, node, forest, size_of, depth_of, arity_of, text_length_of}
 use Rattle.tx_mod.specs.declared.faults.ModFault.{ModFault}

@@ -1,9 +1,9 @@
 -- Where places and paths stand after a modification.
-use Rattle.std.specs.Prelude.{ℕ, ◌+◌, ◌-◌, Bool, true, false, ◌==◌, nat_le, nat_lt, if◌then◌else◌, List, [], ◌∷◌, ◌++◌, Option, Some, None, is_some, option_map, option_and_then, slice_get}
+use Rattle.std.specs.Prelude.{ℕ, ◌+◌, ◌-◌, ◌==◌, nat_le, nat_lt, if◌then◌else◌, List, [], ◌∷◌, ◌++◌, Option, Some, None, is_some, option_map, slice_get}
 use Rattle.std.specs.Option.{option_map_or}
 use Rattle.tx_tree.specs.declared.places.Place.{Place}
 use Rattle.tx_tree.specs.Paths.{subtree}
-use Rattle.tx_tree.specs.WideTree.{WideTree, leaf, node, children_of, is_leaf}
+use Rattle.tx_tree.specs.WideTree.{WideTree, leaf, node, children_of}
 use Rattle.tx_mod.specs.declared.mods.Mod.{Mod}
 use Rattle.tx_mod.specs.declared.mods.Mod.TheVariants.{Assign, Insert, Remove, Split, Join, AssignNode, InsertNode, RemoveNode}
 use Rattle.tx_mod.specs.Mods.{path_of, extent}

@@ -6,11 +6,16 @@
 
 mod applying;
 mod faults;
+mod laws;
+mod making;
 mod measures;
 mod mods;
 mod parts;
+mod remaking;
+mod undoing;
 mod walks;
 
-pub use applying::applicable;
+pub use applying::{applicable, apply, inverse};
 pub use faults::{ApplyFault, ModFault};
+pub use laws::inverse_law;
 pub use mods::Mod;

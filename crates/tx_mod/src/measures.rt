@@ -48,7 +48,12 @@ fn measured_insert(s: &Tree, i: u32, x: &Tree) -> Result<Measure, ModFault>
                 return Err(ModFault::CutsSymbol(u64::from(i)));
             }
             let text = (len + more.bytes().len()) as u64;
-            Ok(Measure { text, arity: 0, depth, size })
+            Ok(Measure {
+                text,
+                arity: 0,
+                depth,
+                size,
+            })
         }
         (Parts::Leaf(_), Parts::Node(..)) => Err(ModFault::NotString),
         (Parts::Node(..), Parts::Leaf(_)) => Err(ModFault::NotNode),
@@ -60,7 +65,12 @@ fn measured_insert(s: &Tree, i: u32, x: &Tree) -> Result<Measure, ModFault>
                 return Err(ModFault::BadPlace(children.len() as u64));
             }
             let arity = (children.len() + more.len()) as u64;
-            Ok(Measure { text: 0, arity, depth, size })
+            Ok(Measure {
+                text: 0,
+                arity,
+                depth,
+                size,
+            })
         }
     }
 }
@@ -109,7 +119,12 @@ fn measured_remove(s: &Tree, i: u32, n: u32) -> Result<Measure, ModFault>
                 return Err(ModFault::CutsSymbol(end as u64));
             }
             let text = (len - n as usize) as u64;
-            Ok(Measure { text, arity: 0, depth: 1, size: 1 + text })
+            Ok(Measure {
+                text,
+                arity: 0,
+                depth: 1,
+                size: 1 + text,
+            })
         }
         Parts::Node(_, children) => {
             if end > children.len() {
@@ -119,13 +134,18 @@ fn measured_remove(s: &Tree, i: u32, n: u32) -> Result<Measure, ModFault>
             let back = &children[end..];
             let size = 1 + total_size(front) + total_size(back);
             let depth = 1 + u64::from(deepest(front).max(deepest(back)));
-            Ok(Measure { text: 0, arity: 0, depth, size })
+            Ok(Measure {
+                text: 0,
+                arity: 0,
+                depth,
+                size,
+            })
         }
     }
 }
 
 #[tactic(auto, using(crate::proofs::Measuring::extent_of_node, std::proofs::lemmas::Grind::common_steps))]
-fn extent(t: &Tree) -> usize
+pub(crate) fn extent(t: &Tree) -> usize
     ensures { result ≡ extent t.now }
 {
     match parts_of(t) {
@@ -165,7 +185,12 @@ fn measured_split(s: &Tree, i: u32, j: u32) -> Result<Measure, ModFault>
         return Err(ModFault::CutsSymbol(u64::from(j)));
     }
     let arity = (children.len() + 1) as u64;
-    Ok(Measure { text: 0, arity, depth, size })
+    Ok(Measure {
+        text: 0,
+        arity,
+        depth,
+        size,
+    })
 }
 
 // Two trees made one: the bytes of the text, or the number of children, unless they can't be joined.
@@ -179,14 +204,24 @@ fn measured_pair(a: &Tree, b: &Tree) -> Result<Measure, ModFault>
     match (parts_of(a), parts_of(b)) {
         (Parts::Leaf(text), Parts::Leaf(more)) => {
             let text = (text.bytes().len() + more.bytes().len()) as u64;
-            Ok(Measure { text, arity: 0, depth, size })
+            Ok(Measure {
+                text,
+                arity: 0,
+                depth,
+                size,
+            })
         }
         (Parts::Node(label, children), Parts::Node(name, more)) => {
             if label.bytes() != name.bytes() {
                 return Err(ModFault::Differ);
             }
             let arity = (children.len() + more.len()) as u64;
-            Ok(Measure { text: 0, arity, depth, size })
+            Ok(Measure {
+                text: 0,
+                arity,
+                depth,
+                size,
+            })
         }
         _ => Err(ModFault::Differ),
     }
@@ -206,7 +241,11 @@ fn measured_join(s: &Tree, i: u32) -> Result<Measure, ModFault>
         return Err(ModFault::BadPlace(children.len() as u64));
     }
     let made = measured_pair(&children[i as usize], &children[i as usize + 1])?;
-    Ok(Measure { depth, size, ..made })
+    Ok(Measure {
+        depth,
+        size,
+        ..made
+    })
 }
 
 fn measured_label(s: &Tree) -> Result<Measure, ModFault>
@@ -234,7 +273,12 @@ fn measured_wrap(s: &Tree, i: u32, x: &Tree) -> Result<Measure, ModFault>
         return Err(ModFault::BadPlace(children.len() as u64));
     }
     let arity = (children.len() + 1) as u64;
-    Ok(Measure { text: 0, arity, depth, size })
+    Ok(Measure {
+        text: 0,
+        arity,
+        depth,
+        size,
+    })
 }
 
 #[tactic(auto, using(crate::proofs::Measuring::unwrap_past, crate::proofs::Measuring::unwrap_is, std::proofs::lemmas::Grind::common_steps))]

@@ -42,7 +42,11 @@ impl Mod {
             Mod::Split(path, i, j) => Ok(Mod::Split(path.copy(alloc)?, *i, *j)),
             Mod::Join(path, i) => Ok(Mod::Join(path.copy(alloc)?, *i)),
             Mod::AssignNode(path, label) => Ok(Mod::AssignNode(path.copy(alloc)?, label.copy()?)),
-            Mod::InsertNode(path, i, tree) => Ok(Mod::InsertNode(path.copy(alloc)?, *i, tree.share()?)),
+            Mod::InsertNode(path, i, tree) => Ok(Mod::InsertNode(
+                path.copy(alloc)?,
+                *i,
+                tree.share()?,
+            )),
             Mod::RemoveNode(path, i) => Ok(Mod::RemoveNode(path.copy(alloc)?, *i)),
         }
     }

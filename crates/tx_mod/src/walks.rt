@@ -38,7 +38,9 @@ pub(crate) fn depth_with(t: &Tree, path: &Path, depth: u64) -> u64
         let Some(child) = tree.child(*step) else {
             unreachable!();
         };
-        let aside = deepest(&children[..*step as usize]).max(deepest(&children[*step as usize + 1..]));
+        let aside = deepest(&children[..*step as usize]).max(deepest(
+            &children[*step as usize + 1..],
+        ));
         beside = (k as u64 + 1 + u64::from(aside)).max(beside);
         tree = child;
     }

@@ -1,7 +1,5 @@
-use Rattle.std.proofs.Common.{◌≡◌, ◌<◌, ◌≤◌, ◌+◌, length, drop, take, rules, sym, ap, refl, ◌∙◌, arith, true, false, Some, get_or}
-use Rattle.std.specs.Prelude.{slice_get}
-use Rattle.tx_tree.specs.WideTree.{WideTree, forest, total_size, deepest}
-use Rattle.tx_mod.specs.Mods.{tuple, extent, is_clean}
+use Rattle.std.proofs.Common.{◌≡◌, rules, refl, arith}
+use Rattle.tx_mod.specs.Mods.{tuple}
 use Rattle.tx_mod.proofs.Measuring.{insert_past, insert_made, some_size}
 use Rattle.tx_mod.proofs.measures.measured_insert.Goals as goal
 

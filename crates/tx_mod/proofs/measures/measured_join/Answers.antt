@@ -1,7 +1,5 @@
-use Rattle.std.proofs.Common.{◌≡◌, ◌<◌, ◌≤◌, ◌+◌, length, drop, take, rules, sym, ap, refl, ◌∙◌, arith, true, false, Some, get_or}
+use Rattle.std.proofs.Common.{◌≡◌, ◌+◌, refl, arith, Some}
 use Rattle.std.specs.Prelude.{slice_get}
-use Rattle.tx_tree.specs.WideTree.{WideTree, forest, total_size, deepest}
-use Rattle.tx_mod.specs.Mods.{tuple, extent, is_clean}
 use Rattle.std.proofs.lemmas.Result.{err_from_is_err_and}
 use Rattle.tx_mod.proofs.Measuring.{join_made, join_refused, child_found, some_size}
 use Rattle.tx_mod.proofs.measures.measured_join.Goals as goal

@@ -1,7 +1,4 @@
-use Rattle.std.proofs.Common.{◌≡◌, ◌<◌, ◌≤◌, ◌+◌, length, drop, take, rules, sym, ap, refl, ◌∙◌, arith, true, false, Some, get_or}
-use Rattle.std.specs.Prelude.{slice_get}
-use Rattle.tx_tree.specs.WideTree.{WideTree, forest, total_size, deepest}
-use Rattle.tx_mod.specs.Mods.{tuple, extent, is_clean}
+use Rattle.std.proofs.Common.{◌≡◌, rules, refl, arith}
 use Rattle.tx_mod.proofs.Measuring.{pair_made, some_size}
 use Rattle.tx_mod.proofs.measures.measured_pair.Goals as goal
 

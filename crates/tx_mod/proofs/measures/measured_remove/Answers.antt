@@ -1,8 +1,6 @@
-use Rattle.std.proofs.Common.{◌≡◌, ◌<◌, ◌≤◌, ◌+◌, length, drop, take, rules, sym, ap, refl, ◌∙◌, arith, true, false, Some, get_or}
-use Rattle.std.specs.Prelude.{slice_get}
+use Rattle.std.proofs.Common.{◌+◌, ap, refl, arith}
 use Rattle.std.proofs.lemmas.List.{take_rest}
-use Rattle.tx_tree.specs.WideTree.{WideTree, forest, total_size, deepest}
-use Rattle.tx_mod.specs.Mods.{tuple, extent, is_clean}
+use Rattle.tx_tree.specs.WideTree.{forest, total_size, deepest}
 use Rattle.tx_mod.proofs.Measuring.{remove_past, remove_made, of_parts, size_of_node}
 use Rattle.tx_mod.proofs.measures.measured_remove.Goals as goal
 

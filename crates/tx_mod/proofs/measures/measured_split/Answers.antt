@@ -1,7 +1,6 @@
-use Rattle.std.proofs.Common.{◌≡◌, ◌<◌, ◌≤◌, ◌+◌, length, drop, take, rules, sym, ap, refl, ◌∙◌, arith, true, false, Some, get_or}
+use Rattle.std.proofs.Common.{◌≡◌, sym, refl, ◌∙◌, arith, true, false, Some}
 use Rattle.std.specs.Prelude.{slice_get}
-use Rattle.tx_tree.specs.WideTree.{WideTree, forest, total_size, deepest}
-use Rattle.tx_mod.specs.Mods.{tuple, extent, is_clean}
+use Rattle.tx_mod.specs.Mods.{is_clean}
 use Rattle.tx_mod.proofs.Measuring.{split_past_child, split_clean, split_made, child_found}
 use Rattle.tx_mod.proofs.measures.measured_split.Goals as goal
 

@@ -1,5 +1,5 @@
-use Rattle.std.proofs.Common.{◌≡◌, ◌+◌, max, length, take, drop, get_or, Some, sym, ◌∙◌, subst, ap, refl, arith}
-use Rattle.std.specs.Prelude.{IsSome, is_some}
+use Rattle.std.proofs.Common.{◌≡◌, ◌+◌, max, take, drop, get_or, ◌∙◌, subst, ap, arith}
+use Rattle.std.specs.Prelude.{IsSome}
 use Rattle.std.proofs.lemmas.List.{take_rest}
 use Rattle.tx_tree.specs.WideTree.{children_of, forest, deepest}
 use Rattle.tx_tree.proofs.Walking.{went_down}
