@@ -9,7 +9,7 @@ use Rattle.tx_tm_form.specs.declared.places.Stage.{Stage}
 use Rattle.tx_tm_form.specs.declared.places.Stage.TheVariants.{Empty, Alone, Ordinary}
 use Rattle.tx_tm_form.specs.Bytes.{plus}
 use Rattle.tx_tm_form.specs.Parts.{Part, gap, text, tag, leaf_before, texts_and_tags, concat_of, content, run_before, with_runs, from_first, to_last, into_first, separate, paragraphs, document_of, document_label, block, has_no_items, tags_of, same, none, collection_label, long_tag}
-use Rattle.tx_tm_form.specs.Growing.{Inline, no_parts, grow, grown, Block, no_paragraphs, longer, with_white, ended, resumed, first_stage, with_part, widen, tree_at, tree_of_block, Entry, Tags, no_tags, tree_of_entry, behind_run, with_entries, as_block, Content, inline, blocks, collecting, put, place_of, block_of, long_of, block_behind}
+use Rattle.tx_tm_form.specs.Growing.{Inline, no_parts, grow, grown, Block, no_paragraphs, longer, with_white, ended, resumed, first_stage, with_part, widen, tree_at, tree_of_block, Entry, Tags, no_tags, tree_of_entry, behind_run, with_entries, as_block, Content, inline, blocks, collecting, put, place_of, block_of, file_tree, long_of, block_behind}
 
 abbrev pub grows : Inline → List Part → Inline
 grows g [] = g
@@ -370,8 +370,8 @@ started_block ps false = ap block_of (puts_blocks ps no_paragraphs) ∙ grown_is
 pub block_is : (l : List ℕ) (ks : List WideTree) (ps : List Part) → block_of (puts (block_behind l ks) ps) ≡ block ps
 block_is l ks ps = started_block ps (same l collection_label && none ks)
 
-pub file_is : (ps : List Part) → block_of (puts (blocks no_paragraphs) ps) ≡ block ps
-file_is ps = started_block ps false
+pub file_is : (ps : List Part) → file_tree (puts (blocks no_paragraphs) ps) ≡ Some (block ps)
+file_is ps = ap file_tree (puts_blocks ps no_paragraphs) ∙ ap Some (grown_is_block ps)
 
 started_long : (l : List ℕ) (ks : List WideTree) (ps : List Part) (c : Bool)
     → long_of l ks (puts (if c then collecting no_tags else blocks no_paragraphs) ps)

@@ -14,6 +14,7 @@ use Rattle.tx_tm_form.specs.Bytes.{kind_of, is_white, is_plain, can_escape}
 use Rattle.tx_tm_form.specs.Tokens.{Token, escape, head, mark_of, end_of, written, IsToken, is_dropped, kept}
 use Rattle.tx_tm_form.specs.Parts.{block}
 use Rattle.tx_tm_form.specs.Forms.{Pieces, nothing, tokens_of, parts_of, Spells}
+use Rattle.tx_tm_form.specs.Growing.{file_tree}
 use Rattle.tx_tm_form.specs.Machine.{State, reading, naming, counting, failed, feeds, Lex, ready, slashed, returned, angled, labelled, Lexed, within, done, bad, if_good, lex_ready, lex_slashed, lex_returned, lex_angled, lex_labelled, lex, Bytewise, at, lost, given, step, run, Keeping, keep, keeps, start, tree_of, tree_in, reads}
 use Rattle.tx_tm_form.proofs.Growth.{file_is}
 use Rattle.tx_tm_form.proofs.Words.{newline_only, return_only, keeps_state, file_state, file_start}
@@ -165,8 +166,11 @@ kept_tokens (t ∷ ts) j h =
       | false ↦ (h.0, kept_tokens ts false h.1)
     ]
 
+same_tree : (u t : WideTree) → Some u ≡ Some t → t ≡ u
+same_tree u t e = cc
+
 file_of : (s : State) (t : WideTree) (ts : List Token) → tree_of s ≡ Some t → Took s ts → (c : Pieces) × (ts ≡ tokens_of c) × (t ≡ block (parts_of c))
-file_of (reading here []) t ts e h = (h.0, h.2, rw (← file_is (parts_of h.0), ← h.1) cc)
+file_of (reading here []) t ts e h = (h.0, h.2, same_tree (block (parts_of h.0)) t (sym (file_is (parts_of h.0)) ∙ ap file_tree (sym h.1) ∙ e))
 file_of (reading here (f ∷ fs)) t ts e h = absurd cc
 file_of (naming n here fs) t ts e h = absurd cc
 file_of (counting ds here fs) t ts e h = absurd cc

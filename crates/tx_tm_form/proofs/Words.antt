@@ -214,7 +214,8 @@ spelled_is_read bytes t h =
     ∙ ap tree_in (tokens_run Keeping keep h.tokens file_start h.found.each)
     ∙ ap (λ k. tree_of k.state) (folds_keeps h.tokens file_start)
     ∙ ap tree_of (keeps_state h.tokens false file_state ∙ ap (feeds file_state) (h.formed ∙ sym (append-nil (tokens_of h.file))) ∙ read_pieces h.file (blocks no_paragraphs) [] [])
-    ∙ ap Some (file_is (parts_of h.file) ∙ sym h.meant)
+    ∙ file_is (parts_of h.file)
+    ∙ ap Some (sym h.meant)
 
 pub one_tree : (bytes : List ℕ) (t u : WideTree) → Spells bytes t → Spells bytes u → t ≡ u
 one_tree bytes t u h k = let a = spelled_is_read bytes t h in let b = spelled_is_read bytes u k in cc

@@ -64,7 +64,7 @@ first_stage (tag true t) = Alone
 first_stage p = Ordinary
 
 abbrev pub with_part : Stage → Block → Part → Block
-with_part Empty b p = record { full = b.full; now = grow no_parts p; run = None; stage = first_stage p }
+with_part Empty b p = record { full = []; now = grow no_parts p; run = None; stage = first_stage p }
 with_part s b p = record { full = ended b.run b.full b.now; now = grow (resumed b.run b.now) p; run = None; stage = Ordinary }
 
 abbrev pub widen : Block → Part → Block
@@ -141,6 +141,12 @@ abbrev pub block_of : Content → WideTree
 block_of (inline place g) = leaf []
 block_of (blocks b) = tree_of_block b
 block_of (collecting x) = tree_of_block (as_block x)
+
+-- of a file
+abbrev pub file_tree : Content → Option WideTree
+file_tree (inline place g) = None
+file_tree (blocks b) = Some (tree_of_block b)
+file_tree (collecting x) = Some (tree_of_block (as_block x))
 
 -- a long tag with one block, by its label and the arguments before the block
 abbrev pub long_of : List ℕ → List WideTree → Content → Part

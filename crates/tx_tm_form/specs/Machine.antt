@@ -14,7 +14,7 @@ use Rattle.tx_tm_form.specs.Bytes.{kind_of, escape_of, escaped_bytes, can_escape
 use Rattle.tx_tm_form.specs.Tokens.{Token, white, join, plain, escape, raw, head, bar, close, is_dropped}
 use Rattle.tx_tm_form.specs.Parts.{gap, text, tag, raw_data_label, same}
 use Rattle.tx_tm_form.specs.Forms.{symbol_bytes}
-use Rattle.tx_tm_form.specs.Growing.{Content, blocks, no_paragraphs, put, place_of, content_of, block_of, long_of, opening}
+use Rattle.tx_tm_form.specs.Growing.{Content, blocks, no_paragraphs, put, place_of, content_of, block_of, file_tree, long_of, opening}
 
 -- ---- tokens
 
@@ -220,7 +220,7 @@ abbrev pub start : Bytewise Keeping
 start = at ready (record { behind_join = false; state = reading (blocks no_paragraphs) [] })
 
 abbrev pub tree_of : State → Option WideTree
-tree_of (reading here []) = Some (block_of here)
+tree_of (reading here []) = file_tree here
 tree_of _ = None
 
 abbrev pub tree_if : Lex → Keeping → Option WideTree
