@@ -5,10 +5,10 @@ use Rattle.std.specs.Prelude.{◌≡◌, ℕ, ◌+◌, ◌-◌, ◌^◌, ◌<◌
 abbrev pub Rose : ℕ → ℕ → Type 0
 Rose old new = (old < new) ⊎ (new ≡ 2 ^ 64 - 1)
 
--- the count never falls, and where it stands at the last value it stays there
+-- the count hasn't fallen, and hasn't passed the last value that a counter has
 pub record NeverFalls (old new : ℕ) : Type 0 where
   pub kept : old ≤ new
-  pub stands : old ≡ 2 ^ 64 - 1 → new ≡ 2 ^ 64 - 1
+  pub within : old ≤ 2 ^ 64 - 1 → new ≤ 2 ^ 64 - 1
 
 -- one more, up to the last value
 abbrev pub raised : ℕ → ℕ

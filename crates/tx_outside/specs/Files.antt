@@ -1,7 +1,8 @@
 -- Files as a list of names and bytes.
-use Rattle.std.specs.Prelude.{◌≡◌, ◌≢◌, ◌<◌, ℕ, List, [], ◌∷◌, Option, Some, None, length, take, slice_index_or}
+use Rattle.std.specs.Prelude.{◌≡◌, ◌≢◌, ◌<◌, ℕ, List, [], ◌∷◌, Option, Some, None, IsSomeAnd, length, take, slice_index_or}
 use Rattle.std.specs.Map.{lookup}
 use Rattle.std.specs.Str.{bytes_eq}
+use Rattle.tx_outside.specs.declared.file_store.TheConstants.{MOST_FILE}
 
 -- each file's name and bytes
 abbrev pub Files : Type 0
@@ -11,10 +12,18 @@ Files = List (List ℕ × List ℕ)
 abbrev pub file_of : Files → List ℕ → Option (List ℕ)
 file_of files name = lookup (bytes_eq name) files
 
+-- there is no file of that name
+abbrev pub IsAbsent : List ℕ → Files → Type 0
+IsAbsent name files = file_of files name ≡ None
+
+-- the file of that name has more bytes than a file has at most
+abbrev pub IsTooLong : List ℕ → Files → Type 0
+IsTooLong name files = IsSomeAnd (file_of files name) (λ bytes. MOST_FILE < length bytes)
+
 -- no two files have one name
 abbrev pub NamesDiffer : Files → Type 0
 NamesDiffer [] = Unit {0}
-NamesDiffer (file ∷ files) = (file_of files file.0 ≡ None) × NamesDiffer files
+NamesDiffer (file ∷ files) = IsAbsent file.0 files × NamesDiffer files
 
 -- each file of another name is as before
 abbrev pub OthersKept : List ℕ → Files → Files → Type 0
@@ -28,5 +37,5 @@ pub record WithFile (name bytes : List ℕ) (old new : Files) : Type 0 where
 -- the first file of that name stands at that place
 pub record StandsAt (name : List ℕ) (files : Files) (place : ℕ) : Type 0 where
   pub within : place < length files
-  pub before : file_of (take place files) name ≡ None
+  pub before : IsAbsent name (take place files)
   pub there : (file : List ℕ × List ℕ) → (slice_index_or files place file).0 ≡ name

@@ -1,5 +1,6 @@
 // Where bytes go.
-ghost use Rattle.std.specs.Prelude.{◌≡◌, ◌<◌, ◌≤◌, ℕ, List, [], Option, length, take, IfOk, OnOk, OnErr, IsOk};
+ghost use Rattle.std.specs.Prelude.{◌≡◌, ◌<◌, ◌≤◌, ℕ, List, [], Option};
+ghost use Rattle.std.specs.Prelude.{length, take, IfOk, OnOk, OnErr, IsOk};
 ghost use Rattle.std.specs.Io.KnownBytes.{append_known};
 ghost use Rattle.tx_outside.specs.Counts.{NeverFalls, Rose};
 ghost use Rattle.tx_outside.specs.Known.{AppendsPart, StaysKnown};
@@ -11,7 +12,7 @@ pub trait Sink {
     /// The bytes that were written, where the sink tells them.
     ghost written: { Self → Option (List ℕ) };
 
-    /// How often the sink has failed: a number that never falls, with 2^64 - 1 as its last value.
+    /// How often the sink has failed: a number up to 2^64 - 1 that never falls.
     ghost faults: { Self → ℕ };
 
     /// Writes the first bytes of `piece`, which isn't empty, and answers how many: at least one, since a
@@ -21,7 +22,7 @@ pub trait Sink {
         ensures some { IfOk result (λ n. 0 < n) }
         ensures within { IfOk result (λ n. n ≤ length piece.now) }
         ensures appended { IfOk result (λ n. written self.new ≡ append_known (written self.old) (take n piece.now)) }
-        ensures failed_counted { OnErr result (Rose (faults self.old) (faults self.new)) }
+        ensures failed_rose { OnErr result (Rose (faults self.old) (faults self.new)) }
         ensures failed_keeps { OnErr result (written self.new ≡ written self.old) }
         ensures faults_never_fall { NeverFalls (faults self.old) (faults self.new) }
         ensures stays_known { StaysKnown (written self.old) (written self.new) };
@@ -32,7 +33,7 @@ pub trait Sink {
 pub fn write_all<O: Sink>(out: &mut O, piece: &[u8]) -> Result<(), WriteFault>
     ensures written { OnOk result (O.written out.new ≡ append_known (O.written out.old) piece.now) }
     ensures empty { piece.now ≡ [] → IsOk result × (out.new ≡ out.old) }
-    ensures failed_counted { OnErr result (Rose (O.faults out.old) (O.faults out.new)) }
+    ensures failed_rose { OnErr result (Rose (O.faults out.old) (O.faults out.new)) }
     ensures failed_part { OnErr result (AppendsPart piece.now (O.written out.old) (O.written out.new)) }
     ensures faults_never_fall { NeverFalls (O.faults out.old) (O.faults out.new) }
     ensures stays_known { StaysKnown (O.written out.old) (O.written out.new) }

@@ -1,7 +1,9 @@
 // Where files are kept.
-ghost use Rattle.std.specs.Prelude.{◌≡◌, ◌<◌, ◌≤◌, ℕ, List, [], Option, None, Some, length, OnOk, OnErr, IfSome, IsErrOf, IsSomeAnd};
+ghost use Rattle.std.specs.Prelude.{◌≡◌, ◌≤◌, ℕ, [], Option, Some};
+ghost use Rattle.std.specs.Prelude.{length, OnOk, OnErr, IfSome, IsErrOf};
 ghost use Rattle.tx_outside.specs.Counts.{NeverFalls, Rose};
-ghost use Rattle.tx_outside.specs.Files.{Files, NamesDiffer, OthersKept, WithFile, file_of};
+ghost use Rattle.tx_outside.specs.Files.{Files, IsAbsent, IsTooLong, NamesDiffer};
+ghost use Rattle.tx_outside.specs.Files.{OthersKept, WithFile, file_of};
 ghost use Rattle.tx_outside.specs.Known.{StaysKnown, WhereKnown};
 
 use crate::{LoadFault, SaveFault};
@@ -9,35 +11,36 @@ use crate::{LoadFault, SaveFault};
 /// How many bytes a file has at most: 2^24.
 pub const MOST_FILE: usize = 16_777_216;
 
-/// A store of files, which are known by name.
+/// A store of files, which are known by their names.
 pub trait Store {
-    /// The names and bytes of the files, where the store tells them. No two names are equal.
+    /// The name and the bytes of each file, where the store tells them. No two names are equal.
     ghost files: { Self → Option Files };
 
-    /// How often the store has failed: a number that never falls, with 2^64 - 1 as its last value.
+    /// How often the store has failed: a number up to 2^64 - 1 that never falls.
     ghost faults: { Self → ℕ };
 
-    /// How often a file that was asked for wasn't there, as such a number.
+    /// How often a file that was asked for wasn't there, counted in the same way.
     ghost misses: { Self → ℕ };
 
-    /// How often a file that was asked for was too long, as such a number.
+    /// How often a file that was asked for was too long, counted in the same way.
     ghost longs: { Self → ℕ };
 
-    /// Puts the bytes of a file, at most `MOST_FILE`, into `out`, which is empty. After every fault it
-    /// still is. No file changes.
+    /// Puts the bytes of the file of that name, at most `MOST_FILE`, into `out`, which is empty. After
+    /// every fault it is empty again. No file changes.
     fn load(&mut self, name: &[u8], out: &mut Vec<u8>) -> Result<(), LoadFault>
         requires { out.old.items ≡ [] }
         ensures loaded { OnOk result (IfSome (files self.old) (λ all. file_of all name.now ≡ Some out.new.items)) }
         ensures within_limit { OnOk result (length out.new.items ≤ MOST_FILE) }
-        ensures refused_empty { OnErr result (out.new.items ≡ []) }
+        ensures fault_empties { OnErr result (out.new.items ≡ []) }
 
-        // Each fault but want of memory has its count, and says what it says where the files are known.
-        ensures missing_counted { IsErrOf result LoadFault.Missing → Rose (misses self.old) (misses self.new) }
-        ensures missing_there { IsErrOf result LoadFault.Missing → IfSome (files self.old) (λ all. file_of all name.now ≡ None) }
-        ensures failed_counted { IsErrOf result LoadFault.Failed → Rose (faults self.old) (faults self.new) }
-        ensures too_long_counted { IsErrOf result LoadFault.TooLong → Rose (longs self.old) (longs self.new) }
-        ensures too_long_there { IsErrOf result LoadFault.TooLong → IfSome (files self.old) (λ all. IsSomeAnd (file_of all name.now) (λ bytes. MOST_FILE < length bytes)) }
+        // Each fault but want of memory has a count that rose, and two say what is kept.
+        ensures missing_rose { IsErrOf result LoadFault.Missing → Rose (misses self.old) (misses self.new) }
+        ensures missing_absent { IsErrOf result LoadFault.Missing → IfSome (files self.old) (IsAbsent name.now) }
+        ensures failed_rose { IsErrOf result LoadFault.Failed → Rose (faults self.old) (faults self.new) }
+        ensures too_long_rose { IsErrOf result LoadFault.TooLong → Rose (longs self.old) (longs self.new) }
+        ensures too_long_there { IsErrOf result LoadFault.TooLong → IfSome (files self.old) (IsTooLong name.now) }
 
+        // What stays.
         ensures files_kept { files self.new ≡ files self.old }
         ensures names_differ { IfSome (files self.new) NamesDiffer }
         ensures faults_never_fall { NeverFalls (faults self.old) (faults self.new) }
@@ -48,10 +51,12 @@ pub trait Store {
     /// are as before, and what is kept under this name is open. After `Memory` all files are as before.
     fn save(&mut self, name: &[u8], bytes: &[u8]) -> Result<(), SaveFault>
         ensures saved { OnOk result (WhereKnown (WithFile name.now bytes.now) (files self.old) (files self.new)) }
-        ensures failed_counted { IsErrOf result SaveFault.Failed → Rose (faults self.old) (faults self.new) }
-        ensures failed_others { IsErrOf result SaveFault.Failed → WhereKnown (OthersKept name.now) (files self.old) (files self.new) }
+        ensures failed_rose { IsErrOf result SaveFault.Failed → Rose (faults self.old) (faults self.new) }
+        ensures failed_others { IsErrOf result SaveFault.Failed
+            → WhereKnown (OthersKept name.now) (files self.old) (files self.new) }
         ensures memory_keeps { IsErrOf result SaveFault.Memory → files self.new ≡ files self.old }
 
+        // What stays.
         ensures stays_known { StaysKnown (files self.old) (files self.new) }
         ensures names_differ { IfSome (files self.new) NamesDiffer }
         ensures faults_never_fall { NeverFalls (faults self.old) (faults self.new) }

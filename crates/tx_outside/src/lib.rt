@@ -14,6 +14,8 @@ mod byte_source;
 mod faults;
 mod file_store;
 mod in_memory;
+#[cfg(test)]
+mod tests;
 
 pub use byte_sink::{Sink, write_all};
 pub use byte_source::Source;

@@ -1,5 +1,5 @@
 -- Why a run ends as it does.
-use Rattle.std.proofs.Common.{◌≡◌, ◌⊎◌, ◌≤◌, inl, inr, ℕ, List, Option, Some, None, true, false, refl, sym, ap, ◌∙◌}
+use Rattle.std.proofs.Common.{◌≡◌, ℕ, List, Option, Some, refl}
 use Rattle.std.specs.Io.KnownBytes.{append_known}
 use Rattle.tx_outside.specs.Files.{Files}
 use Rattle.tx_outside.specs.Known.{AppendsPart}

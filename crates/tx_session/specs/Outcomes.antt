@@ -80,3 +80,9 @@ text_of (no_tree file) = line (codes "refused " ++ file)
 text_of (store_fault file) = line (codes "store " ++ file)
 text_of no_memory = line (codes "memory")
 text_of (shown t) = line (scheme_text t)
+
+-- neither a fault of the store nor want of memory
+abbrev pub IsDecided : Outcome → Type 0
+IsDecided (store_fault file) = ⊥
+IsDecided no_memory = ⊥
+IsDecided _ = Unit {0}

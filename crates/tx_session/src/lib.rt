@@ -8,6 +8,8 @@ mod names;
 mod opening;
 mod runs;
 mod status;
+#[cfg(test)]
+mod tests;
 
-pub use runs::run;
+pub use runs::{one_outcome, run};
 pub use status::Status;

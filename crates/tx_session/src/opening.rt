@@ -6,14 +6,13 @@ ghost use Rattle.tx_scm.specs.Canonical.{scheme_text};
 ghost use Rattle.tx_session.specs.Outcomes.{ComesTo, file_in, line, status_of, text_of, too_long, faulty_words};
 ghost use Rattle.tx_session.specs.Openings.{outcome_of};
 
+use crate::names::{buffer_name, is_scheme_name};
+use crate::status::Status;
 use std::alloc::Global;
 use std::sync::ledger::Ledger;
 use tx_base::{Memory, Steps};
 use tx_outside::{LoadFault, Store};
 use tx_tree::{ReadFault, Tree};
-
-use crate::names::{buffer_name, is_scheme_name};
-use crate::status::Status;
 
 /// How the program is called, as a line.
 pub(crate) const USAGE: &[u8] = b"usage: tmx [--width N] [--height N] FILE [STYLE]...\n";

@@ -3,18 +3,18 @@ ghost use Rattle.std.specs.Prelude.{◌≡◌, ◌⊎◌, ◌≤◌, ◌<◌, �
 ghost use Rattle.std.specs.String.{string_bytes};
 ghost use Rattle.std.specs.Io.KnownBytes.{append_known};
 ghost use Rattle.tx_outside.specs.Counts.{NeverFalls, Rose};
+ghost use Rattle.tx_outside.specs.Files.{Files};
 ghost use Rattle.tx_outside.specs.Known.{AppendsPart, StaysKnown};
-ghost use Rattle.tx_session.specs.Outcomes.{file_in};
+ghost use Rattle.tx_session.specs.Outcomes.{file_in, ComesTo, IsDecided, Outcome};
 ghost use Rattle.tx_session.specs.Runs.{CanBeShown, IsRefused, IsRun};
 ghost use Rattle.tx_session.specs.Openings.{outcome_of};
 
+use crate::opening::{USAGE, open};
+use crate::status::Status;
 use std::alloc::Global;
 use std::sync::ledger::Ledger;
 use tx_base::{Memory, Steps};
 use tx_outside::{Sink, Source, Store, WriteFault, write_all};
-
-use crate::opening::{USAGE, open};
-use crate::status::Status;
 
 // Writes the text, and answers the status unless the output failed.
 fn finish<O: Sink>(out: &mut O, text: &[u8], status: Status) -> Status
@@ -74,3 +74,9 @@ pub fn run<S: Store, I: Source, O: Sink, L: Ledger>(
         Err(Memory) => finish(out, b"memory\n", Status::NoMemory),
     }
 }
+
+/// Words and files come to one outcome, faults of the store and want of memory aside: the status and the bytes
+/// written of a run are determined where the files are known.
+pub fn one_outcome()
+    ensures { (words : List (List ℕ)) (all : Files) (o p : Outcome) → ComesTo words (Some all) o → ComesTo words (Some all) p → IsDecided o → IsDecided p → o ≡ p }
+{}

@@ -2,3 +2,6 @@ pub mod Scanning
 pub mod Labelling
 pub mod Children
 pub mod Walks
+pub mod Cutting
+pub mod Walking
+pub mod PathReading

@@ -1,6 +1,9 @@
 // The calls of one object in memory: which of them fail, and how many were made and failed.
-ghost use Rattle.std.specs.Prelude.{◌≡◌, ◌↔◌, IsTrue, Contains};
+ghost use Rattle.std.specs.Prelude.{◌≡◌, ◌↔◌, IsTrue};
 ghost use Rattle.tx_outside.specs.Counts.{NeverFalls, Rose, raised};
+ghost use Rattle.tx_outside.specs.InMemory.{NextFails, no_calls, one_more};
+
+use std::marker::Model;
 
 /// The numbers of the calls that fail, the number of the next call, and how many calls failed.
 #[derive(Drop)]
@@ -10,11 +13,17 @@ pub struct Calls {
     faults: u64,
 }
 
+impl Model for Calls {
+    ghost use Rattle.tx_outside.specs.InMemory.{CallsMade};
+
+    ghost Value = { CallsMade };
+
+    ghost view = { λ c. record { failing = c.failing.items; next = c.next; faults = c.faults } };
+}
+
 impl Calls {
     pub fn new(failing: Vec<u64>) -> Calls
-        ensures failing { result.failing ≡ failing }
-        ensures next { result.next ≡ 0 }
-        ensures faults { result.faults ≡ 0 }
+        ensures { result ≡ no_calls failing.items }
     {
         Calls {
             failing,
@@ -25,8 +34,8 @@ impl Calls {
 
     /// Takes the number of a call, and answers whether that call is to fail.
     pub fn take_number(&mut self) -> bool
-        ensures listed { IsTrue result ↔ Contains self.old.failing.items self.old.next }
-        ensures numbered { self.new ≡ record self.old { next = raised self.old.next } }
+        ensures listed { IsTrue result ↔ NextFails self.old }
+        ensures numbered { self.new ≡ one_more self.old }
     {
         let listed = self.failing.contains(&self.next);
         self.next = self.next.saturating_add(1);

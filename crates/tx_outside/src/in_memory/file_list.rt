@@ -1,13 +1,13 @@
-// Files in a list: the one of a name, and a list with one more or one that is replaced.
-ghost use Rattle.std.specs.Prelude.{◌≡◌, ◌<◌, [], ◌∷◌, None, Some, length, take, ℕ, List, OnOk, OnErr, IfSome, MatchOption, IsOkUnless, option_copied, slice_index_or};
-ghost use Rattle.tx_outside.specs.Files.{NamesDiffer, WithFile, file_of, StandsAt};
+// Files in a list: where one stands, and what the list is with one more or one replaced.
+ghost use Rattle.std.specs.Prelude.{◌≡◌, OnOk, OnErr, MatchOption, IsOkUnless, option_copied};
+ghost use Rattle.tx_outside.specs.Files.{IsAbsent, NamesDiffer, StandsAt, WithFile, file_of};
 
 use super::stored_file::StoredFile;
 use crate::SaveFault;
 
-// Where the first file of that name stands.
+// Where the first file of that name stands, if there is one.
 fn place_of(files: &[StoredFile], name: &[u8]) -> Option<usize>
-    ensures { MatchOption result (file_of files.now name.now ≡ None) (StandsAt name.now files.now) }
+    ensures { MatchOption result (IsAbsent name.now files.now) (StandsAt name.now files.now) }
 {
     for (place, file) in files.iter().enumerate() {
         if file.name() == name {
@@ -17,7 +17,7 @@ fn place_of(files: &[StoredFile], name: &[u8]) -> Option<usize>
     None
 }
 
-/// The bytes of the file of that name.
+/// The bytes of the file of that name, if there is one.
 pub fn find_file<'a>(files: &'a [StoredFile], name: &[u8]) -> Option<&'a [u8]>
     ensures { option_copied result ≡ file_of files.now name.now }
 {
@@ -27,7 +27,7 @@ pub fn find_file<'a>(files: &'a [StoredFile], name: &[u8]) -> Option<&'a [u8]>
     }
 }
 
-/// Replaces the bytes of the file of that name, or adds the file.
+/// Replaces the bytes of the file of that name, or adds the file. After `Memory` the list is as before.
 pub fn put_file(files: &mut Vec<StoredFile>, name: &[u8], bytes: &[u8]) -> Result<(), SaveFault>
     requires { NamesDiffer files.old.items }
     ensures ok { OnOk result (WithFile name.now bytes.now files.old.items files.new.items) }

@@ -1,6 +1,8 @@
 // A sink into memory.
-ghost use Rattle.std.specs.Prelude.{◌≡◌, ◌↔◌, ◌⊎◌, ◌<◌, ◌≤◌, ◌-◌, ◌++◌, [], Some, length, take, min, IfOk, IsErr, OnErr, Contains};
-ghost use Rattle.tx_outside.specs.Counts.{NeverFalls, Rose, raised};
+ghost use Rattle.std.specs.Prelude.{◌≡◌, ◌↔◌, ◌⊎◌, ◌<◌, ◌≤◌, ◌-◌, ◌++◌, [], Some};
+ghost use Rattle.std.specs.Prelude.{length, take, min, IfOk, IsErr, OnErr};
+ghost use Rattle.tx_outside.specs.Counts.{NeverFalls, Rose};
+ghost use Rattle.tx_outside.specs.InMemory.{NextFails, no_calls, one_more, one_failed};
 
 use super::call_numbers::Calls;
 use crate::{Failed, Sink};
@@ -23,7 +25,7 @@ impl Model for MemSink {
 
     ghost Value = { MemorySink };
 
-    ghost view = { λ s. record { written = s.bytes.items; room = s.room; failing = s.calls.failing.items; calls = s.calls.next; faults = s.calls.faults } };
+    ghost view = { λ s. record { written = s.bytes.items; room = s.room; calls = s.calls } };
 
     ghost invariant = { λ s. (length s.bytes.items ≤ s.room) × (s.room ≤ vec_capacity s.bytes) };
 }
@@ -32,7 +34,7 @@ impl MemSink {
     /// An empty sink with room for `room` bytes, for which it takes the memory now. It fails at the calls
     /// of these numbers.
     pub fn new(alloc: Global, room: usize, failing: Vec<u64>) -> Result<MemSink, Memory>
-        ensures { IfOk result (λ sink. sink ≡ record { written = []; room = room; failing = failing.items; calls = 0; faults = 0 }) }
+        ensures { IfOk result (λ sink. sink ≡ record { written = []; room = room; calls = no_calls failing.items }) }
     {
         Ok(MemSink {
             bytes: Vec::with_capacity(alloc, room)?,
@@ -53,17 +55,25 @@ impl MemSink {
 impl Sink for MemSink {
     ghost written = { λ sink. Some sink.written };
 
-    ghost faults = { λ sink. sink.faults };
+    ghost faults = { λ sink. sink.calls.faults };
 
+    /// Takes as many bytes of the piece as there is room for, and no memory.
     fn write(&mut self, piece: &[u8]) -> Result<usize, Failed>
         requires { 0 < length piece.now }
-        ensures failed { IsErr result ↔ (Contains self.old.failing self.old.calls ⊎ self.old.room ≤ length self.old.written) }
-        ensures failed_sink { OnErr result (self.new ≡ record self.old { calls = raised self.old.calls; faults = raised self.old.faults }) }
+
+        // It fails exactly at the numbers that it was given, and where the room is full.
+        ensures failed { IsErr result ↔ (NextFails self.old.calls ⊎ self.old.room ≤ length self.old.written) }
+        ensures failed_sink { OnErr result (self.new ≡ record self.old { calls = one_failed self.old.calls }) }
+
         ensures count { IfOk result (λ n. n ≡ min (length piece.now) (self.old.room - length self.old.written)) }
-        ensures sink { IfOk result (λ n. self.new ≡ record self.old { written = self.old.written ++ take n piece.now; calls = raised self.old.calls }) }
+        ensures sink { IfOk result (λ n. self.new ≡ record self.old {
+          written = self.old.written ++ take n piece.now;
+          calls = one_more self.old.calls;
+        }) }
+
         ensures some { IfOk result (λ n. 0 < n) }
-        ensures failed_counted { OnErr result (Rose self.old.faults self.new.faults) }
-        ensures faults_never_fall { NeverFalls self.old.faults self.new.faults }
+        ensures failed_rose { OnErr result (Rose self.old.calls.faults self.new.calls.faults) }
+        ensures faults_never_fall { NeverFalls self.old.calls.faults self.new.calls.faults }
     {
         let listed = self.calls.take_number();
         let space = self.room - self.bytes.len();

@@ -1,6 +1,8 @@
 // A source over bytes in memory.
-ghost use Rattle.std.specs.Prelude.{◌≡◌, ◌↔◌, ◌<◌, ◌++◌, [], Some, length, take, drop, min, IfOk, IsErr, OnErr, Contains};
-ghost use Rattle.tx_outside.specs.Counts.{NeverFalls, Rose, raised};
+ghost use Rattle.std.specs.Prelude.{◌≡◌, ◌↔◌, ◌<◌, ◌++◌, Some};
+ghost use Rattle.std.specs.Prelude.{length, take, drop, min, IfOk, IsErr, OnErr};
+ghost use Rattle.tx_outside.specs.Counts.{NeverFalls, Rose};
+ghost use Rattle.tx_outside.specs.InMemory.{NextFails, no_calls, one_more, one_failed};
 
 use super::call_numbers::Calls;
 use crate::{Failed, Source};
@@ -21,7 +23,7 @@ impl Model for MemSource {
 
     ghost Value = { MemorySource };
 
-    ghost view = { λ s. record { left = drop s.taken s.bytes.items; failing = s.calls.failing.items; calls = s.calls.next; faults = s.calls.faults } };
+    ghost view = { λ s. record { left = drop s.taken s.bytes.items; calls = s.calls } };
 
     ghost invariant = { λ s. s.taken ≤ length s.bytes.items };
 }
@@ -29,7 +31,7 @@ impl Model for MemSource {
 impl MemSource {
     /// A source of these bytes, which fails at the calls of these numbers.
     pub fn new(bytes: Vec<u8>, failing: Vec<u64>) -> MemSource
-        ensures { result ≡ record { left = bytes.items; failing = failing.items; calls = 0; faults = 0 } }
+        ensures { result ≡ record { left = bytes.items; calls = no_calls failing.items } }
     {
         MemSource {
             bytes,
@@ -42,18 +44,24 @@ impl MemSource {
 impl Source for MemSource {
     ghost left = { λ source. Some source.left };
 
-    ghost faults = { λ source. source.faults };
+    ghost faults = { λ source. source.calls.faults };
 
+    /// Takes as many bytes as are left and fit, and leaves the rest of `into` as it was. A call that fails
+    /// leaves all of it as it was.
     fn read(&mut self, into: &mut [u8]) -> Result<usize, Failed>
         requires { 0 < length into.old }
-        ensures failed { IsErr result ↔ Contains self.old.failing self.old.calls }
-        ensures failed_source { OnErr result (self.new ≡ record self.old { calls = raised self.old.calls; faults = raised self.old.faults }) }
-        ensures failed_keeps_into { OnErr result (into.new ≡ into.old) }
+
+        // It fails exactly at the numbers that it was given.
+        ensures failed { IsErr result ↔ NextFails self.old.calls }
+        ensures failed_source { OnErr result (self.new ≡ record self.old { calls = one_failed self.old.calls }) }
+        ensures failed_into { OnErr result (into.new ≡ into.old) }
+
         ensures count { IfOk result (λ n. n ≡ min (length self.old.left) (length into.old)) }
-        ensures source { IfOk result (λ n. self.new ≡ record self.old { left = drop n self.old.left; calls = raised self.old.calls }) }
-        ensures bytes { IfOk result (λ n. into.new ≡ take n self.old.left ++ drop n into.old) }
-        ensures failed_counted { OnErr result (Rose self.old.faults self.new.faults) }
-        ensures faults_never_fall { NeverFalls self.old.faults self.new.faults }
+        ensures source { IfOk result (λ n. self.new ≡ record { left = drop n self.old.left; calls = one_more self.old.calls }) }
+        ensures into { IfOk result (λ n. into.new ≡ take n self.old.left ++ drop n into.old) }
+
+        ensures failed_rose { OnErr result (Rose self.old.calls.faults self.new.calls.faults) }
+        ensures faults_never_fall { NeverFalls self.old.calls.faults self.new.calls.faults }
     {
         if self.calls.take_number() {
             self.calls.count_fault();

@@ -1,7 +1,9 @@
 // A store of files in memory.
-ghost use Rattle.std.specs.Prelude.{◌≡◌, ◌↔◌, ◌<◌, ◌≤◌, [], ◌∷◌, None, Some, length, OnOk, OnErr, IfSome, IsErrOf, IsSomeAnd, Contains, option_copied};
+ghost use Rattle.std.specs.Prelude.{◌≡◌, ◌↔◌, ◌≤◌, [], Some};
+ghost use Rattle.std.specs.Prelude.{length, OnOk, OnErr, IsErrOf, option_copied};
 ghost use Rattle.tx_outside.specs.Counts.{NeverFalls, Rose, raised};
-ghost use Rattle.tx_outside.specs.Files.{NamesDiffer, WithFile, file_of};
+ghost use Rattle.tx_outside.specs.Files.{IsAbsent, IsTooLong, NamesDiffer, WithFile, file_of};
+ghost use Rattle.tx_outside.specs.InMemory.{NextFails, no_calls, one_more, one_failed};
 
 use super::call_numbers::Calls;
 use super::file_list::{find_file, put_file};
@@ -25,7 +27,7 @@ impl Model for MemStore {
 
     ghost Value = { MemoryStore };
 
-    ghost view = { λ s. record { files = s.files.items; failing = s.calls.failing.items; calls = s.calls.next; faults = s.calls.faults; misses = s.misses; longs = s.longs } };
+    ghost view = { λ s. record { files = s.files.items; calls = s.calls; misses = s.misses; longs = s.longs } };
 
     ghost invariant = { λ s. NamesDiffer s.files.items };
 }
@@ -34,7 +36,7 @@ impl MemStore {
     /// A store of these files, whose names differ. It fails at the calls of these numbers.
     pub fn new(files: Vec<StoredFile>, failing: Vec<u64>) -> MemStore
         requires { NamesDiffer files.items }
-        ensures { result ≡ record { files = files.items; failing = failing.items; calls = 0; faults = 0; misses = 0; longs = 0 } }
+        ensures { result ≡ record { files = files.items; calls = no_calls failing.items; misses = 0; longs = 0 } }
     {
         MemStore {
             files,
@@ -44,7 +46,7 @@ impl MemStore {
         }
     }
 
-    /// The bytes that are kept under a name, or `None` where there is no such file.
+    /// The bytes that are kept under a name. `None` comes exactly where there is no such file.
     pub fn file(&self, name: &[u8]) -> Option<&[u8]>
         ensures file { option_copied result ≡ file_of self.now.files name.now }
         ensures names_differ { NamesDiffer self.now.files }
@@ -56,36 +58,46 @@ impl MemStore {
 impl Store for MemStore {
     ghost files = { λ store. Some store.files };
 
-    ghost faults = { λ store. store.faults };
+    ghost faults = { λ store. store.calls.faults };
 
     ghost misses = { λ store. store.misses };
 
     ghost longs = { λ store. store.longs };
 
+    /// Every call takes a number, whatever it answers.
     fn load(&mut self, name: &[u8], out: &mut Vec<u8>) -> Result<(), LoadFault>
         requires { out.old.items ≡ [] }
 
-        // Which answer comes: a failure by its number alone, then by what is kept under the name.
-        ensures failed { IsErrOf result LoadFault.Failed ↔ Contains self.old.failing self.old.calls }
-        ensures missing { IsErrOf result LoadFault.Missing ↔ (¬ Contains self.old.failing self.old.calls × (file_of self.old.files name.now ≡ None)) }
-        ensures too_long { IsErrOf result LoadFault.TooLong ↔ (¬ Contains self.old.failing self.old.calls × IsSomeAnd (file_of self.old.files name.now) (λ bytes. MOST_FILE < length bytes)) }
+        // Which fault comes: a failure by the call's number alone, else one by what is kept.
+        ensures failed { IsErrOf result LoadFault.Failed ↔ NextFails self.old.calls }
+        ensures missing { IsErrOf result LoadFault.Missing
+            ↔ (¬ NextFails self.old.calls × IsAbsent name.now self.old.files) }
+        ensures too_long { IsErrOf result LoadFault.TooLong
+            ↔ (¬ NextFails self.old.calls × IsTooLong name.now self.old.files) }
+
+        // What `out` holds.
         ensures loaded { OnOk result (file_of self.old.files name.now ≡ Some out.new.items) }
         ensures within_limit { OnOk result (length out.new.items ≤ MOST_FILE) }
-        ensures refused_empty { OnErr result (out.new.items ≡ []) }
+        ensures fault_empties { OnErr result (out.new.items ≡ []) }
 
-        // What the store is afterwards.
-        ensures loaded_store { OnOk result (self.new ≡ record self.old { calls = raised self.old.calls }) }
-        ensures failed_store { IsErrOf result LoadFault.Failed → self.new ≡ record self.old { calls = raised self.old.calls; faults = raised self.old.faults } }
-        ensures missing_store { IsErrOf result LoadFault.Missing → self.new ≡ record self.old { calls = raised self.old.calls; misses = raised self.old.misses } }
-        ensures too_long_store { IsErrOf result LoadFault.TooLong → self.new ≡ record self.old { calls = raised self.old.calls; longs = raised self.old.longs } }
-        ensures memory_store { IsErrOf result LoadFault.Memory → self.new ≡ record self.old { calls = raised self.old.calls } }
+        // What the store is.
+        ensures loaded_store { OnOk result (self.new ≡ record self.old { calls = one_more self.old.calls }) }
+        ensures failed_store { IsErrOf result LoadFault.Failed
+            → self.new ≡ record self.old { calls = one_failed self.old.calls } }
+        ensures missing_store { IsErrOf result LoadFault.Missing
+            → self.new ≡ record self.old { calls = one_more self.old.calls; misses = raised self.old.misses } }
+        ensures too_long_store { IsErrOf result LoadFault.TooLong
+            → self.new ≡ record self.old { calls = one_more self.old.calls; longs = raised self.old.longs } }
+        ensures memory_store { IsErrOf result LoadFault.Memory
+            → self.new ≡ record self.old { calls = one_more self.old.calls } }
 
-        ensures missing_counted { IsErrOf result LoadFault.Missing → Rose self.old.misses self.new.misses }
-        ensures failed_counted { IsErrOf result LoadFault.Failed → Rose self.old.faults self.new.faults }
-        ensures too_long_counted { IsErrOf result LoadFault.TooLong → Rose self.old.longs self.new.longs }
+        // The trait's clauses on the counts and the names.
+        ensures missing_rose { IsErrOf result LoadFault.Missing → Rose self.old.misses self.new.misses }
+        ensures failed_rose { IsErrOf result LoadFault.Failed → Rose self.old.calls.faults self.new.calls.faults }
+        ensures too_long_rose { IsErrOf result LoadFault.TooLong → Rose self.old.longs self.new.longs }
         ensures files_kept { self.new.files ≡ self.old.files }
         ensures names_differ { NamesDiffer self.new.files }
-        ensures faults_never_fall { NeverFalls self.old.faults self.new.faults }
+        ensures faults_never_fall { NeverFalls self.old.calls.faults self.new.calls.faults }
         ensures misses_never_fall { NeverFalls self.old.misses self.new.misses }
         ensures longs_never_fall { NeverFalls self.old.longs self.new.longs }
     {
@@ -105,16 +117,22 @@ impl Store for MemStore {
         Ok(())
     }
 
+    /// Every call takes a number, whatever it answers. A call that fails changes no file.
     fn save(&mut self, name: &[u8], bytes: &[u8]) -> Result<(), SaveFault>
-        ensures failed { IsErrOf result SaveFault.Failed ↔ Contains self.old.failing self.old.calls }
+        ensures failed { IsErrOf result SaveFault.Failed ↔ NextFails self.old.calls }
         ensures saved { OnOk result (WithFile name.now bytes.now self.old.files self.new.files) }
-        ensures saved_store { OnOk result (self.new ≡ record self.old { files = self.new.files; calls = raised self.old.calls }) }
-        ensures failed_store { IsErrOf result SaveFault.Failed → self.new ≡ record self.old { calls = raised self.old.calls; faults = raised self.old.faults } }
-        ensures memory_store { IsErrOf result SaveFault.Memory → self.new ≡ record self.old { calls = raised self.old.calls } }
 
-        ensures failed_counted { IsErrOf result SaveFault.Failed → Rose self.old.faults self.new.faults }
+        // What the store is.
+        ensures saved_store { OnOk result (self.new ≡ record self.old { files = self.new.files; calls = one_more self.old.calls }) }
+        ensures failed_store { IsErrOf result SaveFault.Failed
+            → self.new ≡ record self.old { calls = one_failed self.old.calls } }
+        ensures memory_store { IsErrOf result SaveFault.Memory
+            → self.new ≡ record self.old { calls = one_more self.old.calls } }
+
+        // The trait's clauses on the counts and the names.
+        ensures failed_rose { IsErrOf result SaveFault.Failed → Rose self.old.calls.faults self.new.calls.faults }
         ensures names_differ { NamesDiffer self.new.files }
-        ensures faults_never_fall { NeverFalls self.old.faults self.new.faults }
+        ensures faults_never_fall { NeverFalls self.old.calls.faults self.new.calls.faults }
         ensures misses_never_fall { NeverFalls self.old.misses self.new.misses }
         ensures longs_never_fall { NeverFalls self.old.longs self.new.longs }
     {

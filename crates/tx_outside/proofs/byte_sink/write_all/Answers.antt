@@ -1,4 +1,4 @@
-use Rattle.std.proofs.Common.{arith, length, [], ◌≡◌, ap}
+use Rattle.std.proofs.Common.{arith, length, ◌≡◌, ap}
 use Rattle.tx_outside.proofs.Counting.{never_falls_then}
 use Rattle.tx_outside.proofs.Pieces.{append_known-more}
 use Rattle.tx_outside.proofs.byte_sink.write_all.Goals as goal

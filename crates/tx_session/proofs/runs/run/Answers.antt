@@ -1,4 +1,3 @@
-use Rattle.std.proofs.Common.{rules, sym, ◌∙◌}
 use Rattle.tx_session.proofs.Causes.{memory_run}
 use Rattle.tx_session.proofs.runs.run.Goals as goal
 

@@ -1,0 +1,160 @@
+-- What comes of something too big is too big.
+use Rattle.std.proofs.Common.{◌≡◌, ℕ, suc, ◌+◌, ◌<◌, ◌≤◌, max, Bool, true, false, if◌then◌else◌, List, [], ◌∷◌, ◌++◌, length, map, Option, Some, None, refl, sym, ap, subst, ◌∙◌, length-append, arith}
+use Rattle.std.specs.List.{AllByRecursion}
+use Rattle.tx_tree.specs.declared.TheConstants.{MOST_TEXT, MOST_ARITY, MOST_DEPTH, MOST_SIZE}
+use Rattle.tx_tree.specs.Limits.{IsWithinLimits}
+use Rattle.tx_tree.specs.WideTree.{WideTree, leaf, node, forest, text_length_of, longest_text, arity_of, widest, count, depth_of, deepest, size_of, total_size}
+use Rattle.tx_tm_form.specs.declared.bytes.White.{White}
+use Rattle.tx_tm_form.specs.declared.bytes.White.TheVariants.{Spaces, Line, Break}
+use Rattle.tx_tm_form.specs.declared.places.Place.{Place}
+use Rattle.tx_tm_form.specs.declared.places.Stage.{Stage}
+use Rattle.tx_tm_form.specs.declared.places.Stage.TheVariants.{Empty, Alone, Ordinary}
+use Rattle.tx_tm_form.specs.Parts.{Part, gap, text, tag, leaf_before, concat_of, concat_label, document_label, collection_label}
+use Rattle.tx_tm_form.specs.Growing.{Inline, no_parts, grow, grown, Block, no_paragraphs, longer, with_white, ended, resumed, first_stage, with_part, widen, tree_at, tree_of_block, Entry, Tags, tree_of_entry, behind_run, with_entries, as_block, Content, inline, blocks, collecting, put, long_of}
+use Rattle.tx_tm_read.specs.Fits.{IsSmall, AreSmall, LineFits, BlockFitsAt, BlockFits, TagsFit, ContentFits}
+
+-- ---- trees
+
+pub small_within : (k : ℕ) (t : WideTree) → IsSmall k t → IsWithinLimits t
+small_within k t h = record { text = h.text; arity = h.arity; depth = omega (arith, h.depth); size = h.size }
+
+pub within_small : (t : WideTree) → IsWithinLimits t → IsSmall 0 t
+within_small t h = record { text = h.text; arity = h.arity; depth = omega (arith, h.depth); size = h.size }
+
+pub small_inside : (k : ℕ) (t : WideTree) → IsSmall (suc k) t → IsSmall k t
+small_inside k t h = record { text = h.text; arity = h.arity; depth = omega (arith, h.depth); size = h.size }
+
+pub all_inside : (k : ℕ) (ts : List WideTree) → AreSmall (suc k) ts → AreSmall k ts
+all_inside k [] h = tt
+all_inside k (t ∷ ts) h = (small_inside k t h.0, all_inside k ts h.1)
+
+children_small : (k : ℕ) (ts : List WideTree) → longest_text (forest ts) ≤ MOST_TEXT → widest (forest ts) ≤ MOST_ARITY → deepest (forest ts) + suc k ≤ MOST_DEPTH → total_size (forest ts) ≤ MOST_SIZE → AreSmall (suc k) ts
+children_small k [] a b c d = tt
+children_small k (t ∷ ts) a b c d =
+    (record { text = omega (arith, a); arity = omega (arith, b); depth = omega (arith, c); size = omega (arith, d) },
+     children_small k ts (omega (arith, a)) (omega (arith, b)) (omega (arith, c)) (omega (arith, d)))
+
+pub node_small : (k : ℕ) (l : List ℕ) (ts : List WideTree) → IsSmall k (node l (forest ts)) → AreSmall (suc k) ts
+node_small k l ts h = children_small k ts h.text (omega (arith, h.arity)) (omega (arith, h.depth)) (omega (arith, h.size))
+
+pub left_small : (k : ℕ) (ts us : List WideTree) → AreSmall k (ts ++ us) → AreSmall k ts
+left_small k [] us h = tt
+left_small k (t ∷ ts) us h = (h.0, left_small k ts us h.1)
+
+pub right_small : (k : ℕ) (ts us : List WideTree) → AreSmall k (ts ++ us) → AreSmall k us
+right_small k [] us h = h
+right_small k (t ∷ ts) us h = right_small k ts us h.1
+
+pub last_small : (k : ℕ) (ts : List WideTree) (t : WideTree) → AreSmall k (ts ++ t ∷ []) → IsWithinLimits t
+last_small k ts t h = small_within k t (right_small k ts (t ∷ []) h).0
+
+pub last_within : (l : List ℕ) (ts : List WideTree) (t : WideTree) → IsWithinLimits (node l (forest (ts ++ t ∷ []))) → IsWithinLimits t
+last_within l ts t h = last_small 1 ts t (node_small 0 l (ts ++ t ∷ []) (within_small (node l (forest (ts ++ t ∷ []))) h))
+
+-- ---- lines
+
+pub concat_small : (k : ℕ) (ts : List WideTree) → IsSmall k (concat_of ts) → AreSmall k ts
+concat_small k [] h = tt
+concat_small k (t ∷ []) h = (h, tt)
+concat_small k (t ∷ u ∷ ts) h = all_inside k (t ∷ u ∷ ts) (node_small k concat_label (t ∷ u ∷ ts) h)
+
+bytes_short : (k : ℕ) (s : List ℕ) → AreSmall k (leaf_before s []) → length s ≤ MOST_TEXT
+bytes_short k [] h = omega arith
+bytes_short k (b ∷ s) h = h.0.text
+
+trees_fit : (k : ℕ) (g : Inline) → AreSmall k (g.done ++ leaf_before g.bytes []) → LineFits k g
+trees_fit k g h = record { done = left_small k g.done (leaf_before g.bytes []) h; short = bytes_short k g.bytes (right_small k g.done (leaf_before g.bytes []) h) }
+
+pub grown_fits : (k : ℕ) (g : Inline) → IsSmall k (grown g) → LineFits k g
+grown_fits k g h = trees_fit k g (concat_small k (g.done ++ leaf_before g.bytes []) h)
+
+space_short : (r : Bool) (s : List ℕ) → length (if r then s else s ++ 32 ∷ []) ≤ MOST_TEXT → length s ≤ MOST_TEXT
+space_short true s h = h
+space_short false s h = omega (arith, length-append s (32 ∷ []))
+
+pub grow_fits : (k : ℕ) (g : Inline) (p : Part) → LineFits k (grow g p) → LineFits k g
+grow_fits k g (gap w) h = record { done = h.done; short = space_short g.in_run g.bytes h.short }
+grow_fits k g (text x) h = record { done = h.done; short = omega (arith, length-append g.bytes x, h.short) }
+grow_fits k g (tag c t) h = trees_fit k g (left_small k (g.done ++ leaf_before g.bytes []) (t ∷ []) h.done)
+
+-- ---- blocks
+
+pub tree_fits : (k : ℕ) (b : Block) → IsSmall k (tree_of_block b) → BlockFits k b
+tree_fits k b h =
+    elim b.stage as (λ s. IsSmall k (tree_at s b) → BlockFitsAt s k b) [
+      | Empty ↦ λ i. tt
+      | Alone ↦ λ i. grown_fits k b.now i
+      | Ordinary ↦ λ i.
+          let all : AreSmall k (b.full ++ grown b.now ∷ []) = all_inside k (b.full ++ grown b.now ∷ []) (node_small k document_label (b.full ++ grown b.now ∷ []) i) in
+          (left_small k b.full (grown b.now ∷ []) all, grown_fits k b.now (right_small k b.full (grown b.now ∷ []) all).0)
+    ] h
+
+ended_fits : (k : ℕ) (r : Option White) (full : List WideTree) (now : Inline) (p : Part) → AreSmall k (ended r full now) → LineFits k (grow (resumed r now) p) → AreSmall k full × LineFits k now
+ended_fits k None full now p h i = (h, grow_fits k now p i)
+ended_fits k (Some Spaces) full now p h i = (h, grow_fits k now (gap Spaces) (grow_fits k (grow now (gap Spaces)) p i))
+ended_fits k (Some Line) full now p h i = (h, grow_fits k now (gap Line) (grow_fits k (grow now (gap Line)) p i))
+ended_fits k (Some Break) full now p h i = (left_small k full (grown now ∷ []) h, grown_fits k now (right_small k full (grown now ∷ []) h).0)
+
+part_fits : (k : ℕ) (b : Block) (p : Part) (s : Stage) → BlockFits k (with_part s b p) → BlockFitsAt s k b
+part_fits k b p Empty h = tt
+part_fits k b p Alone h = (ended_fits k b.run b.full b.now p h.0 h.1).1
+part_fits k b p Ordinary h = ended_fits k b.run b.full b.now p h.0 h.1
+
+white_fits : (k : ℕ) (s : Stage) (b : Block) (w : White) → b.stage ≡ s → BlockFits k (with_white s b w) → BlockFitsAt s k b
+white_fits k Empty b w e h = tt
+white_fits k Alone b w e h = subst (λ s. BlockFitsAt s k (record { full = b.full; now = b.now; run = Some (longer b.run w); stage = b.stage })) e h
+white_fits k Ordinary b w e h = subst (λ s. BlockFitsAt s k (record { full = b.full; now = b.now; run = Some (longer b.run w); stage = b.stage })) e h
+
+pub widen_fits : (k : ℕ) (b : Block) (p : Part) → BlockFits k (widen b p) → BlockFits k b
+widen_fits k b (gap w) h = white_fits k b.stage b w refl h
+widen_fits k b (text x) h = part_fits k b (text x) b.stage h
+widen_fits k b (tag c t) h = part_fits k b (tag c t) b.stage h
+
+pub run_fits : (k : ℕ) (b : Block) (r : Option White) → BlockFits k (behind_run b r) → BlockFits k b
+run_fits k b None h = h
+run_fits k b (Some w) h = widen_fits k b (gap w) h
+
+line_tag : (k : ℕ) (g : Inline) (c : Bool) (t : WideTree) → LineFits k (grow g (tag c t)) → IsSmall k t
+line_tag k g c t h = (right_small k (g.done ++ leaf_before g.bytes []) (t ∷ []) h.done).0
+
+first_tag : (k : ℕ) (f : List WideTree) (c : Bool) (t : WideTree) (n : Inline) → BlockFitsAt (first_stage (tag c t)) k (record { full = f; now = grow n (tag c t); run = None; stage = first_stage (tag c t) }) → IsSmall k t
+first_tag k f true t n h = line_tag k n true t h
+first_tag k f false t n h = line_tag k n false t h.1
+
+block_tag : (k : ℕ) (b : Block) (c : Bool) (t : WideTree) (s : Stage) → BlockFits k (with_part s b (tag c t)) → IsSmall k t
+block_tag k b c t Empty h = first_tag k [] c t no_parts h
+block_tag k b c t Alone h = line_tag k (resumed b.run b.now) c t h.1
+block_tag k b c t Ordinary h = line_tag k (resumed b.run b.now) c t h.1
+
+-- ---- tags and white
+
+pub entries_fit : (k : ℕ) (es : List Entry) (b : Block) → BlockFits k (with_entries b es) → BlockFits k b × AreSmall k (map tree_of_entry es)
+entries_fit k [] b h = (h, tt)
+entries_fit k (e ∷ es) b h =
+    let i = entries_fit k es (widen (behind_run b e.before) (tag e.collects e.tree)) h in
+    (run_fits k b e.before (widen_fits k (behind_run b e.before) (tag e.collects e.tree) i.0), (block_tag k (behind_run b e.before) e.collects e.tree (behind_run b e.before).stage i.0, i.1))
+
+pub tags_fit : (k : ℕ) (x : Tags) → BlockFits k (as_block x) → TagsFit k x
+tags_fit k x h = (entries_fit k x.entries no_paragraphs (run_fits k (with_entries no_paragraphs x.entries) x.run h)).1
+
+-- ---- content
+
+map_left : (k : ℕ) (es fs : List Entry) → AreSmall k (map tree_of_entry (es ++ fs)) → AreSmall k (map tree_of_entry es)
+map_left k [] fs h = tt
+map_left k (e ∷ es) fs h = (h.0, map_left k es fs h.1)
+
+map_right : (k : ℕ) (es fs : List Entry) → AreSmall k (map tree_of_entry (es ++ fs)) → AreSmall k (map tree_of_entry fs)
+map_right k [] fs h = h
+map_right k (e ∷ es) fs h = map_right k es fs h.1
+
+pub put_fits : (k : ℕ) (c : Content) (p : Part) → ContentFits k (put c p) → ContentFits k c
+put_fits k (inline q g) p h = grow_fits k g p h
+put_fits k (blocks b) p h = widen_fits k b p h
+put_fits k (collecting x) (gap w) h = h
+put_fits k (collecting x) (text s) h = tags_fit k x (widen_fits k (as_block x) (text s) h)
+put_fits k (collecting x) (tag c t) h = map_left k x.entries (record { before = x.run; collects = c; tree = t } ∷ []) h
+
+pub put_tag_fits : (k : ℕ) (c : Content) (e : Bool) (t : WideTree) → ContentFits k (put c (tag e t)) → IsSmall k t
+put_tag_fits k (inline q g) e t h = line_tag k g e t h
+put_tag_fits k (blocks b) e t h = block_tag k b e t b.stage h
+put_tag_fits k (collecting x) e t h = (map_right k x.entries (record { before = x.run; collects = e; tree = t } ∷ []) h).0

@@ -1,0 +1,11 @@
+pub mod Labels
+pub mod Made
+pub mod Texts
+pub mod Counts
+pub mod Fitting
+pub mod Widening
+pub mod Replay
+pub mod Growths
+pub mod Stuck
+pub mod Feeding
+pub mod Running

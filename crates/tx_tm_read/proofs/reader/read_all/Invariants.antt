@@ -1,0 +1,16 @@
+use Rattle.std.proofs.Common.{◌≡◌, ◌+◌, ◌≤◌, length}
+use Rattle.tx_tm_form.specs.Machine.{run, keep, start}
+use Rattle.tx_tm_read.specs.Nodes.{state_nodes}
+use Rattle.tx_tm_read.specs.Spots.{state_of}
+use Rattle.tx_tm_read.specs.Readers.{reader_of}
+use Rattle.tx_tm_read.proofs.reader.read_all.Given as goal
+
+abbrev pub invariant-bytes : goal.invariant-bytes
+invariant-bytes g l =
+    record {
+      going : run keep (reader_of l.reader) l.rest ≡ run keep start l.bytes;
+      counted : l.steps ≤ l.fn.steps + state_nodes (state_of l.reader.spot);
+    }
+
+abbrev pub decreases-bytes : goal.decreases-bytes
+decreases-bytes g l = length l.rest

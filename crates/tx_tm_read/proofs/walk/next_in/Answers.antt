@@ -1,0 +1,14 @@
+use Rattle.tx_tm_read.specs.Blocks.{content_of}
+use Rattle.tx_tm_read.specs.Nodes.{content_nodes}
+use Rattle.tx_tm_read.specs.Spots.{open_of, opens_of}
+use Rattle.tx_tm_read.proofs.Stuck.{tag_rose, block_stuck}
+use Rattle.tx_tm_read.proofs.walk.next_in.Goals as goal
+
+pub returns-in-None-clause-next : goal.returns-in-None-clause-next
+returns-in-None-clause-next g c =
+    block_stuck (content_of c.args.here) c.args.label.now c.args.place (open_of c.args.tag) (opens_of c.args.opens.items) (rw c.in-None.is at c.in_ok-finish_block.ensures.made)
+
+pub returns-in_ok-with_child-in-Some-clause-counted : goal.returns-in_ok-with_child-in-Some-clause-counted
+returns-in_ok-with_child-in-Some-clause-counted g c =
+    let counted = rw c.in-Some.is at c.in_ok-finish_block.ensures.counted in
+    tag_rose _ _ (content_nodes (content_of c.args.here)) c.args.place (open_of c.args.tag) c.in-Some.child (opens_of c.args.opens.items) (open_of c.in_ok-with_child-in-Some.field-0) _ c.in_ok-with_child-in-Some.ensures c.in_place.ensures counted

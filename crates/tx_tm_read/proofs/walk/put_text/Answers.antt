@@ -1,0 +1,15 @@
+use Rattle.tx_tm_form.specs.Parts.{text}
+use Rattle.tx_tm_read.specs.Blocks.{content_of}
+use Rattle.tx_tm_read.specs.Nodes.{content_nodes}
+use Rattle.tx_tm_read.specs.Spots.{opens_of}
+use Rattle.tx_tm_read.proofs.Stuck.{rises}
+use Rattle.tx_tm_read.proofs.walk.put_text.Goals as goal
+
+pub returns-in-None-clause-next : goal.returns-in-None-clause-next
+returns-in-None-clause-next g c = let next = rw c.in-None.is at c.in_ok-with_text.ensures.next in λ h. next _ h.0
+
+pub returns-in-Some-clause-counted : goal.returns-in-Some-clause-counted
+returns-in-Some-clause-counted g c =
+    let next = rw c.in-Some.is at c.in_ok-with_text.ensures.next in
+    let counted = rw c.in-Some.is at c.in_ok-with_text.ensures.counted in
+    rises _ _ (content_nodes (content_of c.args.here)) (content_of c.args.here) (content_of c.in-Some.here) (text c.args.items.now) (opens_of c.args.opens.items) next counted

@@ -1,0 +1,59 @@
+-- What can still become a tree within the limits.
+use Rattle.std.specs.Prelude.{◌≤◌, ◌<◌, ◌+◌, ℕ, suc, List, [], ◌∷◌, length, map}
+use Rattle.std.specs.List.{AllByRecursion}
+use Rattle.tx_tree.specs.declared.TheConstants.{MOST_TEXT, MOST_ARITY, MOST_DEPTH, MOST_SIZE}
+use Rattle.tx_tree.specs.WideTree.{WideTree, text_length_of, arity_of, depth_of, size_of}
+use Rattle.tx_tm_form.specs.declared.places.Stage.{Stage}
+use Rattle.tx_tm_form.specs.declared.places.Stage.TheVariants.{Empty, Alone, Ordinary}
+use Rattle.tx_tm_form.specs.Growing.{Inline, Block, Tags, tree_of_entry, Content, inline, blocks, collecting}
+use Rattle.tx_tm_form.specs.Machine.{Open, State, reading, naming, counting, failed, Bytewise, at, lost, Keeping}
+
+-- a tree within the limits, also with so many nodes round it
+pub record IsSmall (around : ℕ) (t : WideTree) : Type 0 where
+  pub text : text_length_of t ≤ MOST_TEXT
+  pub arity : arity_of t ≤ MOST_ARITY
+  pub depth : depth_of t + around ≤ MOST_DEPTH
+  pub size : size_of t ≤ MOST_SIZE
+
+abbrev pub AreSmall : ℕ → List WideTree → Type 0
+AreSmall around = AllByRecursion (IsSmall around)
+
+pub record LineFits (around : ℕ) (g : Inline) : Type 0 where
+  pub done : AreSmall around g.done
+  pub short : length g.bytes ≤ MOST_TEXT
+
+abbrev pub BlockFitsAt : Stage → ℕ → Block → Type 0
+BlockFitsAt Empty around b = Unit {0}
+BlockFitsAt Alone around b = LineFits around b.now
+BlockFitsAt Ordinary around b = AreSmall around b.full × LineFits around b.now
+
+abbrev pub BlockFits : ℕ → Block → Type 0
+BlockFits around b = BlockFitsAt b.stage around b
+
+abbrev pub TagsFit : ℕ → Tags → Type 0
+TagsFit around x = AreSmall around (map tree_of_entry x.entries)
+
+abbrev pub ContentFits : ℕ → Content → Type 0
+ContentFits around (inline p g) = LineFits around g
+ContentFits around (blocks b) = BlockFits around b
+ContentFits around (collecting x) = TagsFit around x
+
+-- the children of the open tag round the content, of which a collection tag has none
+abbrev pub ChildrenFit : ℕ → Content → List WideTree → Type 0
+ChildrenFit around (inline p g) ts = AreSmall around ts
+ChildrenFit around (blocks b) ts = AreSmall around ts
+ChildrenFit around (collecting x) ts = Unit {0}
+
+abbrev pub OpensFit : Content → List Open → Type 0
+OpensFit here [] = Unit {0}
+OpensFit here (f ∷ fs) = ContentFits (length fs) f.before × ChildrenFit (suc (length fs)) here f.children × OpensFit f.before fs × (length fs < MOST_DEPTH)
+
+abbrev pub StateFits : State → Type 0
+StateFits (reading here fs) = ContentFits (length fs) here × OpensFit here fs
+StateFits (naming name here fs) = ContentFits (length fs) here × OpensFit here fs
+StateFits (counting digits here fs) = (length digits ≤ MOST_TEXT) × ContentFits (length fs) here × OpensFit here fs
+StateFits failed = ⊥
+
+abbrev pub ReaderFits : Bytewise Keeping → Type 0
+ReaderFits (at q k) = StateFits k.state
+ReaderFits lost = ⊥

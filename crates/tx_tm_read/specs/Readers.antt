@@ -1,0 +1,46 @@
+-- What has been read, as a state of the machine.
+use Rattle.std.specs.Prelude.{◌≡◌, ◌≤◌, ◌<◌, ◌+◌, ℕ, true, List, length, take, Option, Some, None}
+use Rattle.std.specs.List.{AllByRecursion}
+use Rattle.tx_tree.specs.WideTree.{WideTree}
+use Rattle.tx_tree.specs.Limits.{IsWithinLimits}
+use Rattle.tx_tm_form.specs.Bytes.{kind_of, is_plain}
+use Rattle.tx_tm_form.specs.Machine.{Bytewise, at, Keeping, keep, run, tree_in, reads}
+use Rattle.tx_tm_read.specs.declared.reader.Reader.{Reader}
+use Rattle.tx_tm_read.specs.declared.reader.Advance.{Advance}
+use Rattle.tx_tm_read.specs.Words.{lex_of}
+use Rattle.tx_tm_read.specs.Fits.{ReaderFits}
+use Rattle.tx_tm_read.specs.Nodes.{state_nodes}
+use Rattle.tx_tm_read.specs.Spots.{state_of}
+
+abbrev pub reader_of : Reader → Bytewise Keeping
+reader_of r = at (lex_of r.lexer) (record { behind_join = r.behind_join; state = state_of r.spot })
+
+-- this, or else no tree within the limits comes of it
+abbrev pub IsReader : Option Reader → Bytewise Keeping → Type 0
+IsReader None w = ReaderFits w → ⊥
+IsReader (Some r) w = reader_of r ≡ w
+
+abbrev pub ReaderRose : ℕ → ℕ → ℕ → Option Reader → Type 0
+ReaderRose before after nodes None = Unit {0}
+ReaderRose before after nodes (Some r) = after + nodes ≤ before + state_nodes (state_of r.spot)
+
+abbrev pub ArePlain : List ℕ → Type 0
+ArePlain = AllByRecursion (λ b. is_plain (kind_of b) ≡ true)
+
+-- behind so many bytes, or else no tree within the limits comes of some
+abbrev pub IsAdvance : Option Advance → Bytewise Keeping → List ℕ → Type 0
+IsAdvance None w bytes = (n : ℕ) × (ReaderFits (run keep w (take n bytes)) → ⊥)
+IsAdvance (Some a) w bytes = (0 < a.taken) × (a.taken ≤ length bytes) × (reader_of a.reader ≡ run keep w (take a.taken bytes))
+
+abbrev pub AdvanceRose : ℕ → ℕ → ℕ → Option Advance → Type 0
+AdvanceRose before after nodes None = Unit {0}
+AdvanceRose before after nodes (Some a) = after + nodes ≤ before + state_nodes (state_of a.reader.spot)
+
+-- the tree that has been read, or else none within the limits
+abbrev pub IsTree : Option WideTree → Bytewise Keeping → Type 0
+IsTree None w = (t : WideTree) → tree_in w ≡ Some t → IsWithinLimits t → ⊥
+IsTree (Some t) w = tree_in w ≡ Some t
+
+abbrev pub IsRead : Option WideTree → List ℕ → Type 0
+IsRead None bytes = (t : WideTree) → reads bytes ≡ Some t → IsWithinLimits t → ⊥
+IsRead (Some t) bytes = reads bytes ≡ Some t

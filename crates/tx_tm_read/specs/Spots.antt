@@ -1,0 +1,41 @@
+-- Where the reader stands, as a state of the machine.
+use Rattle.std.specs.Prelude.{◌≡◌, ◌≤◌, ◌+◌, ℕ, List, map, reverse, Option, Some, None}
+use Rattle.tx_tree.specs.WideTree.{WideTree}
+use Rattle.tx_tm_form.specs.Growing.{Content, inline, blocks, collecting, block_of}
+use Rattle.tx_tm_form.specs.Machine as machine
+use Rattle.tx_tm_form.specs.Machine.{Open, reading, naming, counting}
+use Rattle.tx_tm_read.specs.declared.tags.OpenTag.{OpenTag}
+use Rattle.tx_tm_read.specs.declared.tags.Spot.{Spot}
+use Rattle.tx_tm_read.specs.declared.tags.Spot.TheVariants as spots
+use Rattle.tx_tm_read.specs.Lines.{IsMade}
+use Rattle.tx_tm_read.specs.Blocks.{content_of}
+use Rattle.tx_tm_read.specs.Fits.{StateFits}
+use Rattle.tx_tm_read.specs.Nodes.{state_nodes}
+
+abbrev pub open_of : OpenTag → Open
+open_of o = record { before = content_of o.before; label = o.label; children = o.children.items }
+
+-- the innermost first
+abbrev pub opens_of : List OpenTag → List Open
+opens_of os = reverse (map open_of os)
+
+abbrev pub state_of : Spot → machine.State
+state_of (spots.Reading here os) = reading (content_of here) (opens_of os.items)
+state_of (spots.Naming name here os) = naming name (content_of here) (opens_of os.items)
+state_of (spots.Counting digits here os) = counting digits (content_of here) (opens_of os.items)
+
+-- this state, or else no tree within the limits comes of it
+abbrev pub IsState : Option Spot → machine.State → Type 0
+IsState None m = StateFits m → ⊥
+IsState (Some s) m = state_of s ≡ m
+
+-- the steps rose by no more than the nodes that were made, from so many nodes
+abbrev pub Rose : ℕ → ℕ → ℕ → Option Spot → Type 0
+Rose before after nodes None = Unit {0}
+Rose before after nodes (Some s) = after + nodes ≤ before + state_nodes (state_of s)
+
+-- the tree of a block, or none for an argument or past a limit
+abbrev pub IsBlockTree : Option WideTree → Content → Type 0
+IsBlockTree made (inline p g) = made ≡ None
+IsBlockTree made (blocks b) = IsMade made (block_of (blocks b))
+IsBlockTree made (collecting x) = IsMade made (block_of (collecting x))

@@ -1,0 +1,455 @@
+// Blocks, and content of either kind.
+ghost use Rattle.std.specs.Prelude.{◌≡◌, ◌≤◌, ◌+◌, ◌++◌, ◌∷◌, [], false, map, Option, IfOk, IfSome, Some, None};
+ghost use Rattle.tx_tree.specs.Texts.{IsText};
+ghost use Rattle.tx_tree.specs.WideTree.{nodes_of};
+ghost use Rattle.tx_tm_form.specs.declared.bytes.White.TheVariants.{Spaces};
+ghost use Rattle.tx_tm_form.specs.declared.places.Stage.TheVariants.{Ordinary};
+ghost use Rattle.tx_tm_form.specs.Parts.{gap, text, tag};
+ghost use Rattle.tx_tm_form.specs.Growing.{no_paragraphs, no_tags, longer, ended, resumed, widen, tree_of_block, behind_run, as_block, tree_of_entry, collecting, put, place_of, grow};
+ghost use Rattle.tx_tm_read.specs.Lines.{IsMade};
+ghost use Rattle.tx_tm_read.specs.Blocks.{block_of, tags_of, entry_of, content_of, tag_stage, block_at, IsGoing, IsResumed, IsBlock, IsContent};
+ghost use Rattle.tx_tm_read.specs.Nodes.{nodes_in, line_nodes, block_nodes, tags_nodes, content_nodes};
+
+use std::alloc::Global;
+use std::sync::ledger::Ledger;
+use tx_base::{Memory, Steps};
+use tx_tm_form::{Place, Stage, White};
+use tx_tree::Tree;
+
+use crate::lines::Line;
+use crate::making::{make_document, make_leaf};
+
+/// A block as far as it has been read: the paragraphs that have ended, the one that is open, and the white
+/// behind it.
+#[derive(Drop)]
+pub(crate) struct Paragraphs {
+    full: Vec<Tree>,
+    now: Line,
+    run: Option<White>,
+    stage: Stage,
+}
+
+/// The paragraphs that have ended, and the one that goes on.
+#[derive(Drop)]
+pub(crate) struct Resumed {
+    full: Vec<Tree>,
+    now: Line,
+}
+
+impl Paragraphs {
+    pub(crate) fn new(alloc: Global) -> Paragraphs
+        ensures { block_of result ≡ no_paragraphs }
+    {
+        Paragraphs {
+            full: Vec::new(alloc),
+            now: Line::new(alloc),
+            run: None,
+            stage: Stage::Empty,
+        }
+    }
+
+    // With white.
+    fn with_white(mut self, white: White) -> Paragraphs
+        ensures { block_of result ≡ widen (block_of self) (gap white) }
+    {
+        match self.stage {
+            Stage::Empty => self,
+            Stage::Alone | Stage::Ordinary => {
+                self.run = Some(longer(self.run, white));
+                self
+            }
+        }
+    }
+
+    // With a run, or none.
+    fn behind(self, run: Option<White>) -> Paragraphs
+        ensures { block_of result ≡ behind_run (block_of self) run }
+    {
+        match run {
+            None => self,
+            Some(white) => self.with_white(white),
+        }
+    }
+
+    // Where a part that is no white goes on, or None where a limit is passed.
+    #[tactic(auto, using(crate::proofs::Counts::nodes_both))]
+    fn resume<L: Ledger>(
+        self,
+        alloc: Global,
+        steps: &mut Steps<L>,
+    ) -> Result<Option<Resumed>, Memory>
+        ensures next { IfOk result (λ next. IsResumed next (block_of self)) }
+        ensures counted { IfOk result (λ next. IfSome next (λ r. steps.new + block_nodes (block_of self) ≤ steps.old + (nodes_in r.full.items + line_nodes r.now))) }
+    {
+        let Paragraphs {
+            full,
+            now,
+            run,
+            stage,
+        } = self;
+        match stage {
+            Stage::Empty => Ok(Some(Resumed {
+                full: Vec::new(alloc),
+                now: Line::new(alloc),
+            })),
+            Stage::Alone | Stage::Ordinary => behind_run(alloc, full, now, run, steps),
+        }
+    }
+
+    // With items of a text, or None where a limit is passed.
+    fn with_text<L: Ledger>(
+        self,
+        alloc: Global,
+        items: &[u8],
+        steps: &mut Steps<L>,
+    ) -> Result<Option<Paragraphs>, Memory>
+        requires { IsText items.now }
+        ensures next { IfOk result (λ next. IsBlock next (widen (block_of self) (text items.now))) }
+        ensures counted { IfOk result (λ next. IfSome next (λ b. steps.new + block_nodes (block_of self) ≤ steps.old + block_nodes (block_of b))) }
+    {
+        match self.resume(alloc, steps)? {
+            None => Ok(None),
+            Some(resumed) => resumed.with_text(items),
+        }
+    }
+
+    // With a tag, or None where a limit is passed.
+    fn with_tag<L: Ledger>(
+        self,
+        alloc: Global,
+        collects: bool,
+        tree: Tree,
+        steps: &mut Steps<L>,
+    ) -> Result<Option<Paragraphs>, Memory>
+        ensures next { IfOk result (λ next. IsBlock next (widen (block_of self) (tag collects tree))) }
+        ensures counted { IfOk result (λ next. IfSome next (λ b. steps.new + (block_nodes (block_of self) + nodes_of tree) ≤ steps.old + block_nodes (block_of b))) }
+    {
+        let stage = tag_stage(self.stage, collects);
+        match self.resume(alloc, steps)? {
+            None => Ok(None),
+            Some(resumed) => Ok(Some(resumed.with_tag(alloc, stage, tree)?)),
+        }
+    }
+
+    // The tree, or None where it passes a limit.
+    #[tactic(auto, using(crate::proofs::Counts::nodes_both, crate::proofs::Fitting::last_within))]
+    pub(crate) fn finish<L: Ledger>(
+        self,
+        alloc: Global,
+        steps: &mut Steps<L>,
+    ) -> Result<Option<Tree>, Memory>
+        ensures made { IfOk result (λ made. IsMade made (tree_of_block (block_of self))) }
+        ensures counted { IfOk result (λ made. IfSome made (λ t. steps.new + block_nodes (block_of self) ≤ steps.old + nodes_of t)) }
+    {
+        let Paragraphs {
+            mut full,
+            now,
+            run: _,
+            stage,
+        } = self;
+        match stage {
+            Stage::Empty => {
+                let empty = vec![in alloc; make_leaf(alloc, b"")?]?;
+                make_document(alloc, empty, steps)
+            }
+            Stage::Alone => now.finish(alloc, steps),
+            Stage::Ordinary => match now.finish(alloc, steps)? {
+                None => Ok(None),
+                Some(tree) => {
+                    full.push(tree)?;
+                    make_document(alloc, full, steps)
+                }
+            },
+        }
+    }
+}
+
+impl Resumed {
+    // The block with items of a text more, or None where the text passes its limit.
+    fn with_text(self, items: &[u8]) -> Result<Option<Paragraphs>, Memory>
+        requires { IsText items.now }
+        ensures { IfOk result (λ next. IsBlock next (block_at Ordinary self.full.items (grow self.now (text items.now)))) }
+    {
+        let Resumed { full, now } = self;
+        match now.with_text(items)? {
+            None => Ok(None),
+            Some(now) => Ok(Some(Paragraphs {
+                full,
+                now,
+                run: None,
+                stage: Stage::Ordinary,
+            })),
+        }
+    }
+
+    // The block with a tag more.
+    fn with_tag(self, alloc: Global, stage: Stage, tree: Tree) -> Result<Paragraphs, Memory>
+        ensures { IfOk result (λ b. block_of b ≡ block_at stage self.full.items (grow self.now (tag false tree))) }
+    {
+        let Resumed { full, now } = self;
+        Ok(Paragraphs {
+            full,
+            now: now.with_tag(alloc, tree)?,
+            run: None,
+            stage,
+        })
+    }
+}
+
+// The run of both.
+fn longer(run: Option<White>, white: White) -> White
+    ensures { result ≡ longer run white }
+{
+    match run {
+        None => white,
+        Some(before) => before.plus(white),
+    }
+}
+
+fn tag_stage(stage: Stage, collects: bool) -> Stage
+    ensures { result ≡ tag_stage stage collects }
+{
+    match stage {
+        Stage::Empty => {
+            if collects {
+                Stage::Alone
+            } else {
+                Stage::Ordinary
+            }
+        }
+        Stage::Alone | Stage::Ordinary => Stage::Ordinary,
+    }
+}
+
+// Where a part goes on behind the paragraph and the run.
+#[tactic(auto, using(crate::proofs::Counts::nodes_both, crate::proofs::Fitting::last_small))]
+fn behind_run<L: Ledger>(
+    alloc: Global,
+    mut full: Vec<Tree>,
+    now: Line,
+    run: Option<White>,
+    steps: &mut Steps<L>,
+) -> Result<Option<Resumed>, Memory>
+    ensures next { IfOk result (λ next. IsGoing next (ended run full.items now) (resumed run now)) }
+    ensures counted { IfOk result (λ next. IfSome next (λ r. steps.new + (nodes_in full.items + line_nodes now) ≤ steps.old + (nodes_in r.full.items + line_nodes r.now))) }
+{
+    match run {
+        None => Ok(Some(Resumed { full, now })),
+        Some(White::Break) => match now.finish(alloc, steps)? {
+            None => Ok(None),
+            Some(tree) => {
+                full.push(tree)?;
+                Ok(Some(Resumed {
+                    full,
+                    now: Line::new(alloc),
+                }))
+            }
+        },
+        Some(White::Spaces) => spaced(full, now),
+        Some(White::Line) => spaced(full, now),
+    }
+}
+
+// Where a part goes on behind white that separates no paragraphs.
+fn spaced(full: Vec<Tree>, now: Line) -> Result<Option<Resumed>, Memory>
+    ensures { IfOk result (λ next. IsGoing next full.items (grow now (gap Spaces))) }
+{
+    match now.with_white()? {
+        None => Ok(None),
+        Some(now) => Ok(Some(Resumed { full, now })),
+    }
+}
+
+/// A tag, and the white before it.
+#[derive(Drop)]
+pub(crate) struct TagEntry {
+    before: Option<White>,
+    collects: bool,
+    tree: Tree,
+}
+
+/// The block of what may be a collection tag: tags and white, and nothing else so far.
+#[derive(Drop)]
+pub(crate) struct TagList {
+    entries: Vec<TagEntry>,
+    run: Option<White>,
+}
+
+impl TagList {
+    pub(crate) fn new(alloc: Global) -> TagList
+        ensures { tags_of result ≡ no_tags }
+    {
+        TagList {
+            entries: Vec::new(alloc),
+            run: None,
+        }
+    }
+
+    // With a tag.
+    fn with(self, collects: bool, tree: Tree) -> Result<TagList, Memory>
+        ensures { IfOk result (λ x. collecting (tags_of x) ≡ put (collecting (tags_of self)) (tag collects tree)) }
+    {
+        let TagList { mut entries, run } = self;
+        entries.push(TagEntry {
+            before: run,
+            collects,
+            tree,
+        })?;
+        Ok(TagList { entries, run: None })
+    }
+
+    // The same as an ordinary block, or None where a limit is passed.
+    fn into_paragraphs<L: Ledger>(
+        self,
+        alloc: Global,
+        steps: &mut Steps<L>,
+    ) -> Result<Option<Paragraphs>, Memory>
+        ensures next { IfOk result (λ next. IsBlock next (as_block (tags_of self))) }
+        ensures counted { IfOk result (λ next. IfSome next (λ b. steps.new + tags_nodes (tags_of self) ≤ steps.old + block_nodes (block_of b))) }
+    {
+        let TagList { entries, run } = self;
+        let mut block = Paragraphs::new(alloc);
+        for entry in entries {
+            let behind = block.behind(entry.before);
+            match behind.with_tag(alloc, entry.collects, entry.tree, steps)? {
+                None => return Ok(None),
+                Some(next) => block = next,
+            }
+        }
+        Ok(Some(block.behind(run)))
+    }
+
+    // The ordinary block with items of a text more, or None where a limit is passed.
+    fn with_text<L: Ledger>(
+        self,
+        alloc: Global,
+        items: &[u8],
+        steps: &mut Steps<L>,
+    ) -> Result<Option<Paragraphs>, Memory>
+        requires { IsText items.now }
+        ensures next { IfOk result (λ next. IsBlock next (widen (as_block (tags_of self)) (text items.now))) }
+        ensures counted { IfOk result (λ next. IfSome next (λ b. steps.new + tags_nodes (tags_of self) ≤ steps.old + block_nodes (block_of b))) }
+    {
+        match self.into_paragraphs(alloc, steps)? {
+            None => Ok(None),
+            Some(block) => block.with_text(alloc, items, steps),
+        }
+    }
+
+    // The tree of the ordinary block, or None where a limit is passed.
+    pub(crate) fn finish<L: Ledger>(
+        self,
+        alloc: Global,
+        steps: &mut Steps<L>,
+    ) -> Result<Option<Tree>, Memory>
+        ensures made { IfOk result (λ made. IsMade made (tree_of_block (as_block (tags_of self)))) }
+        ensures counted { IfOk result (λ made. IfSome made (λ t. steps.new + tags_nodes (tags_of self) ≤ steps.old + nodes_of t)) }
+    {
+        match self.into_paragraphs(alloc, steps)? {
+            None => Ok(None),
+            Some(block) => block.finish(alloc, steps),
+        }
+    }
+
+    // The tags alone.
+    pub(crate) fn into_trees(self, alloc: Global) -> Result<Vec<Tree>, Memory>
+        ensures { IfOk result (λ ts. ts.items ≡ map tree_of_entry (map entry_of self.entries.items)) }
+    {
+        let mut trees = Vec::new(alloc);
+        for entry in self.entries {
+            trees.push(entry.tree)?;
+        }
+        Ok(trees)
+    }
+}
+
+/// Content as far as it has been read.
+#[derive(Drop)]
+pub(crate) enum Body {
+    /// An argument of a tag.
+    Argument(Place, Line),
+    /// A block.
+    Block(Paragraphs),
+    /// The block of what may be a collection tag.
+    Tags(TagList),
+}
+
+impl Body {
+    /// Of what the content is an argument, or None for a block.
+    pub(crate) fn place(&self) -> Option<Place>
+        ensures { result ≡ place_of (content_of self.now) }
+    {
+        match self {
+            Body::Argument(place, _) => Some(*place),
+            Body::Block(_) | Body::Tags(_) => None,
+        }
+    }
+
+    /// With white, or None where a limit is passed.
+    pub(crate) fn with_white(self, white: White) -> Result<Option<Body>, Memory>
+        ensures next { IfOk result (λ next. IsContent next (put (content_of self) (gap white))) }
+        ensures counted { IfOk result (λ next. IfSome next (λ b. content_nodes (content_of b) ≡ content_nodes (content_of self))) }
+    {
+        match self {
+            Body::Argument(place, line) => match line.with_white()? {
+                None => Ok(None),
+                Some(line) => Ok(Some(Body::Argument(place, line))),
+            },
+            Body::Block(block) => Ok(Some(Body::Block(block.with_white(white)))),
+            Body::Tags(mut tags) => {
+                tags.run = Some(longer(tags.run, white));
+                Ok(Some(Body::Tags(tags)))
+            }
+        }
+    }
+
+    /// With items of a text, or None where a limit is passed.
+    pub(crate) fn with_text<L: Ledger>(
+        self,
+        alloc: Global,
+        items: &[u8],
+        steps: &mut Steps<L>,
+    ) -> Result<Option<Body>, Memory>
+        requires { IsText items.now }
+        ensures next { IfOk result (λ next. IsContent next (put (content_of self) (text items.now))) }
+        ensures counted { IfOk result (λ next. IfSome next (λ b. steps.new + content_nodes (content_of self) ≤ steps.old + content_nodes (content_of b))) }
+    {
+        match self {
+            Body::Argument(place, line) => match line.with_text(items)? {
+                None => Ok(None),
+                Some(line) => Ok(Some(Body::Argument(place, line))),
+            },
+            Body::Block(block) => match block.with_text(alloc, items, steps)? {
+                None => Ok(None),
+                Some(block) => Ok(Some(Body::Block(block))),
+            },
+            Body::Tags(tags) => match tags.with_text(alloc, items, steps)? {
+                None => Ok(None),
+                Some(block) => Ok(Some(Body::Block(block))),
+            },
+        }
+    }
+
+    /// With a tag, or None where a limit is passed.
+    pub(crate) fn with_tag<L: Ledger>(
+        self,
+        alloc: Global,
+        collects: bool,
+        tree: Tree,
+        steps: &mut Steps<L>,
+    ) -> Result<Option<Body>, Memory>
+        ensures next { IfOk result (λ next. IsContent next (put (content_of self) (tag collects tree))) }
+        ensures counted { IfOk result (λ next. IfSome next (λ b. steps.new + (content_nodes (content_of self) + nodes_of tree) ≤ steps.old + content_nodes (content_of b))) }
+    {
+        match self {
+            Body::Argument(place, line) => {
+                Ok(Some(Body::Argument(place, line.with_tag(alloc, tree)?)))
+            }
+            Body::Block(block) => match block.with_tag(alloc, collects, tree, steps)? {
+                None => Ok(None),
+                Some(block) => Ok(Some(Body::Block(block))),
+            },
+            Body::Tags(tags) => Ok(Some(Body::Tags(tags.with(collects, tree)?))),
+        }
+    }
+}

@@ -1,0 +1,16 @@
+//! The reader of TM: one pass over the bytes, with a stack of open tags.
+//!
+//! What bytes spell stands in `tx_tm_form` (`specs/Forms.antt`). The reader is its machine
+//! (`specs/Machine.antt`), with trees that are made as soon as their ends are read.
+#![tactic(auto)]
+
+mod blocks;
+mod lexer;
+mod lines;
+mod making;
+mod reader;
+mod tags;
+mod taking;
+mod walk;
+
+pub use reader::read;

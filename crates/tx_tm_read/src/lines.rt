@@ -1,0 +1,138 @@
+// Arguments and paragraphs that grow.
+ghost use Rattle.std.specs.Prelude.{◌≡◌, ◌≤◌, ◌+◌, ◌++◌, [], false, length, IfOk, IfSome};
+ghost use Rattle.tx_tree.specs.Texts.{IsText};
+ghost use Rattle.tx_tree.specs.WideTree.{nodes_of};
+ghost use Rattle.tx_tm_form.specs.declared.bytes.White.TheVariants.{Spaces};
+ghost use Rattle.tx_tm_form.specs.Parts.{gap, text, tag, leaf_before};
+ghost use Rattle.tx_tm_form.specs.Growing.{no_parts, grow, grown};
+ghost use Rattle.tx_tm_read.specs.Lines.{IsMade, IsLine};
+ghost use Rattle.tx_tm_read.specs.Nodes.{line_nodes};
+
+use std::alloc::Global;
+use std::marker::Model;
+use std::sync::ledger::Ledger;
+use tx_base::{Memory, Steps};
+use tx_tree::{MOST_TEXT, Tree};
+
+use crate::making::{make_concat, make_leaf};
+
+/// An argument or a paragraph as far as it has been read: its trees, the text behind them, and whether a run
+/// of white ends that.
+#[derive(Drop)]
+pub(crate) struct Line {
+    done: Vec<Tree>,
+    bytes: Vec<u8>,
+    in_run: bool,
+}
+
+impl Model for Line {
+    ghost use Rattle.tx_tm_form.specs.Growing.{Inline};
+    ghost use Rattle.tx_tm_read.specs.Lines.{inline_code, IsLineText};
+
+    ghost Value = { Inline };
+
+    ghost coded = { inline_code };
+
+    ghost view = { λ l. record { done = l.done.items; bytes = l.bytes.items; in_run = l.in_run } };
+
+    ghost invariant = { λ l. IsLineText l.bytes.items };
+}
+
+impl Line {
+    pub(crate) fn new(alloc: Global) -> Line
+        ensures { result ≡ no_parts }
+    {
+        Line {
+            done: Vec::new(alloc),
+            bytes: Vec::new(alloc),
+            in_run: false,
+        }
+    }
+
+    // With items of a text, or None where the text passes its limit.
+    #[tactic(auto, using(crate::proofs::Texts::both))]
+    pub(crate) fn with_text(self, items: &[u8]) -> Result<Option<Line>, Memory>
+        requires { IsText items.now }
+        ensures { IfOk result (λ next. IsLine next (grow self (text items.now))) }
+    {
+        let Line {
+            done,
+            mut bytes,
+            in_run: _,
+        } = self;
+        if items.len() > MOST_TEXT - bytes.len() {
+            return Ok(None);
+        }
+        bytes.extend_from_slice(items)?;
+        Ok(Some(Line {
+            done,
+            bytes,
+            in_run: false,
+        }))
+    }
+
+    // With white.
+    #[tactic(auto, using(crate::proofs::Texts::with_space))]
+    pub(crate) fn with_white(self) -> Result<Option<Line>, Memory>
+        ensures { IfOk result (λ next. IsLine next (grow self (gap Spaces))) }
+    {
+        let Line {
+            done,
+            mut bytes,
+            in_run,
+        } = self;
+        if !in_run {
+            if bytes.len() >= MOST_TEXT {
+                return Ok(None);
+            }
+            bytes.push(b' ')?;
+        }
+        Ok(Some(Line {
+            done,
+            bytes,
+            in_run: true,
+        }))
+    }
+
+    // The trees so far, of which the text is the last, if it has bytes.
+    fn into_trees(self, alloc: Global) -> Result<Vec<Tree>, Memory>
+        ensures { IfOk result (λ ts. ts.items ≡ self.done ++ leaf_before self.bytes []) }
+    {
+        let Line {
+            mut done,
+            bytes,
+            in_run: _,
+        } = self;
+        if !bytes.is_empty() {
+            done.push(make_leaf(alloc, &bytes)?)?;
+        }
+        Ok(done)
+    }
+
+    // With a tag.
+    pub(crate) fn with_tag(self, alloc: Global, tree: Tree) -> Result<Line, Memory>
+        ensures { IfOk result (λ next. next ≡ grow self (tag false tree)) }
+    {
+        let mut done = self.into_trees(alloc)?;
+        done.push(tree)?;
+        Ok(Line {
+            done,
+            bytes: Vec::new(alloc),
+            in_run: false,
+        })
+    }
+
+    // The tree, or None where it passes a limit.
+    #[tactic(auto, using(crate::proofs::Counts::line_trees))]
+    pub(crate) fn finish<L: Ledger>(
+        self,
+        alloc: Global,
+        steps: &mut Steps<L>,
+    ) -> Result<Option<Tree>, Memory>
+        ensures made { IfOk result (λ made. IsMade made (grown self)) }
+        ensures counted { IfOk result (λ made. IfSome made (λ t. steps.new + line_nodes self ≤ steps.old + nodes_of t)) }
+    {
+        let trees = self.into_trees(alloc)?;
+        make_concat(alloc, trees, steps)
+    }
+}

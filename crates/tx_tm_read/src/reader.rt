@@ -1,0 +1,266 @@
+// The tree that bytes spell.
+ghost use Rattle.std.specs.Prelude.{◌≡◌, ◌≤◌, ◌<◌, ◌+◌, [], true, length, take, IfOk, IfErr, IfSome, Some, None};
+ghost use Rattle.tx_tree.specs.WideTree.{WideTree, nodes_of};
+ghost use Rattle.tx_tree.specs.Limits.{IsWithinLimits};
+ghost use Rattle.tx_tm_form.specs.Bytes.{kind_of, is_plain};
+ghost use Rattle.tx_tm_form.specs.Tokens.{is_dropped};
+ghost use Rattle.tx_tm_form.specs.Forms.{Spells};
+ghost use Rattle.tx_tm_form.specs.Machine.{ready, at, keep, step, start, run};
+ghost use Rattle.tx_tm_read.specs.Words.{token_of, IsGoodWord};
+ghost use Rattle.tx_tm_read.specs.Nodes.{state_nodes};
+ghost use Rattle.tx_tm_read.specs.Spots.{state_of};
+ghost use Rattle.tx_tm_read.specs.Readers.{reader_of, IsReader, ReaderRose, ArePlain, IsAdvance, AdvanceRose, IsTree, IsRead};
+
+use std::alloc::Global;
+use std::sync::ledger::Ledger;
+use tx_base::{Memory, Steps};
+use tx_tm_form::{ByteKind, kind_of};
+use tx_tree::{ReadFault, Tree};
+
+use crate::lexer::{Lexed, Lexer, Word};
+use crate::tags::Spot;
+use crate::walk::put_text;
+use crate::blocks::{Body, Paragraphs};
+
+// Whether the byte stands for itself.
+fn is_plain(byte: u8) -> bool
+    ensures { result ≡ is_plain (kind_of byte) }
+{
+    match kind_of(byte) {
+        ByteKind::Name | ByteKind::Hash | ByteKind::Slash | ByteKind::Other => true,
+        _ => false,
+    }
+}
+
+// How many bytes at the front stand for themselves.
+fn text_len(bytes: &[u8]) -> usize
+    ensures within { result ≤ length bytes.now }
+    ensures plain { ArePlain (take result bytes.now) }
+{
+    for (i, byte) in bytes.iter().enumerate() {
+        if !is_plain(*byte) {
+            return i;
+        }
+    }
+    bytes.len()
+}
+
+// Whether the word stands for nothing: a join, or a space or a tab behind one.
+fn is_dropped(behind_join: bool, word: &Word) -> bool
+    ensures { result ≡ is_dropped behind_join (token_of word.now) }
+{
+    match word {
+        Word::Join(_) => true,
+        Word::White(byte) => behind_join && (*byte == b' ' || *byte == b'\t'),
+        _ => false,
+    }
+}
+
+/// What has been read.
+#[derive(Drop)]
+pub(crate) struct Reader {
+    lexer: Lexer,
+    behind_join: bool,
+    spot: Spot,
+}
+
+/// What has been read, and how many bytes that took.
+#[derive(Drop)]
+pub(crate) struct Advance {
+    reader: Reader,
+    taken: usize,
+}
+
+// Behind a word.
+fn behind_word<L: Ledger>(
+    alloc: Global,
+    behind_join: bool,
+    spot: Spot,
+    word: Word,
+    steps: &mut Steps<L>,
+) -> Result<Option<Reader>, Memory>
+    requires { IsGoodWord word }
+    ensures next { IfOk result (λ next. IsReader next (at ready (keep (record { behind_join = behind_join; state = state_of spot }) (token_of word)))) }
+    ensures counted { IfOk result (ReaderRose steps.old steps.new (state_nodes (state_of spot))) }
+{
+    if is_dropped(behind_join, &word) {
+        return Ok(Some(Reader {
+            lexer: Lexer::Ready,
+            behind_join: true,
+            spot,
+        }));
+    }
+    match spot.take(alloc, word, steps)? {
+        None => Ok(None),
+        Some(spot) => Ok(Some(Reader {
+            lexer: Lexer::Ready,
+            behind_join: false,
+            spot,
+        })),
+    }
+}
+
+impl Reader {
+    fn new(alloc: Global) -> Reader
+        ensures { reader_of result ≡ start }
+    {
+        Reader {
+            lexer: Lexer::Ready,
+            behind_join: false,
+            spot: Spot::Reading(Body::Block(Paragraphs::new(alloc)), Vec::new(alloc)),
+        }
+    }
+
+    // Behind a byte, or None where no tree within the limits goes on so.
+    fn step<L: Ledger>(
+        self,
+        alloc: Global,
+        byte: u8,
+        steps: &mut Steps<L>,
+    ) -> Result<Option<Reader>, Memory>
+        ensures next { IfOk result (λ next. IsReader next (step keep (reader_of self) byte)) }
+        ensures counted { IfOk result (ReaderRose steps.old steps.new (state_nodes (state_of self.spot))) }
+    {
+        let Reader {
+            lexer,
+            behind_join,
+            spot,
+        } = self;
+        match lexer.step(alloc, byte)? {
+            None => Ok(None),
+            Some(Lexed::Within(lexer)) => Ok(Some(Reader {
+                lexer,
+                behind_join,
+                spot,
+            })),
+            Some(Lexed::Done(word)) => behind_word(alloc, behind_join, spot, word, steps),
+        }
+    }
+
+    // Behind the first byte.
+    fn first<L: Ledger>(
+        self,
+        alloc: Global,
+        rest: &[u8],
+        steps: &mut Steps<L>,
+    ) -> Result<Option<Advance>, Memory>
+        requires { 0 < length rest.now }
+        ensures next { IfOk result (λ next. IsAdvance next (reader_of self) rest.now) }
+        ensures counted { IfOk result (AdvanceRose steps.old steps.new (state_nodes (state_of self.spot))) }
+    {
+        match self.step(alloc, rest[0], steps)? {
+            None => Ok(None),
+            Some(reader) => Ok(Some(Advance { reader, taken: 1 })),
+        }
+    }
+
+    // Behind the bytes at the front that stand for themselves, or else behind the first byte.
+    fn advance<L: Ledger>(
+        self,
+        alloc: Global,
+        rest: &[u8],
+        steps: &mut Steps<L>,
+    ) -> Result<Option<Advance>, Memory>
+        requires { 0 < length rest.now }
+        ensures next { IfOk result (λ next. IsAdvance next (reader_of self) rest.now) }
+        ensures counted { IfOk result (AdvanceRose steps.old steps.new (state_nodes (state_of self.spot))) }
+    {
+        let Reader {
+            lexer,
+            behind_join,
+            spot,
+        } = self;
+        match (lexer, spot) {
+            (Lexer::Ready, Spot::Reading(here, opens)) => {
+                let taken = text_len(rest);
+                if taken == 0 {
+                    let reader = Reader {
+                        lexer: Lexer::Ready,
+                        behind_join,
+                        spot: Spot::Reading(here, opens),
+                    };
+                    return reader.first(alloc, rest, steps);
+                }
+                match put_text(alloc, &rest[..taken], here, opens, steps)? {
+                    None => Ok(None),
+                    Some(spot) => Ok(Some(Advance {
+                        reader: Reader {
+                            lexer: Lexer::Ready,
+                            behind_join: false,
+                            spot,
+                        },
+                        taken,
+                    })),
+                }
+            }
+            (lexer, spot) => {
+                let reader = Reader {
+                    lexer,
+                    behind_join,
+                    spot,
+                };
+                reader.first(alloc, rest, steps)
+            }
+        }
+    }
+
+    // The tree, or None where the bytes so far spell none within the limits.
+    fn finish<L: Ledger>(
+        self,
+        alloc: Global,
+        steps: &mut Steps<L>,
+    ) -> Result<Option<Tree>, Memory>
+        ensures found { IfOk result (λ found. IsTree found (reader_of self)) }
+        ensures counted { IfOk result (λ found. IfSome found (λ t. steps.new + state_nodes (state_of self.spot) ≤ steps.old + nodes_of t)) }
+    {
+        match (self.lexer, self.spot) {
+            (Lexer::Ready, Spot::Reading(here, mut opens)) => match opens.pop() {
+                None => here.finish_block(alloc, steps),
+                Some(_) => Ok(None),
+            },
+            _ => Ok(None),
+        }
+    }
+}
+
+// The tree that the bytes spell, or None where they spell none within the limits.
+fn read_all<L: Ledger>(
+    alloc: Global,
+    bytes: &[u8],
+    steps: &mut Steps<L>,
+) -> Result<Option<Tree>, Memory>
+    ensures found { IfOk result (λ found. IsRead found bytes.now) }
+    ensures counted { IfOk result (λ found. IfSome found (λ t. steps.new ≤ steps.old + nodes_of t)) }
+{
+    let mut reader = Reader::new(alloc);
+    let mut rest = bytes;
+    'bytes: while !rest.is_empty() {
+        match reader.advance(alloc, rest, steps)? {
+            None => return Ok(None),
+            Some(advance) => {
+                reader = advance.reader;
+                rest = &rest[advance.taken..];
+            }
+        }
+    }
+    reader.finish(alloc, steps)
+}
+
+/// The tree that the bytes spell. Each node that it has is at most one step.
+///
+/// Faults are `NoTree`, exactly where the bytes spell no tree within the limits, and `Memory`.
+pub fn read<L: Ledger>(alloc: Global, bytes: &[u8], steps: &mut Steps<L>) -> Result<Tree, ReadFault>
+    ensures found { IfOk result (λ t. Spells bytes.now t) }
+    ensures within { IfOk result IsWithinLimits }
+    ensures none { IfErr result (λ fault. fault ≡ ReadFault.NoTree → (t : WideTree) → Spells bytes.now t → IsWithinLimits t → ⊥) }
+    ensures counted { IfOk result (λ t. steps.new ≤ steps.old + nodes_of t) }
+{
+    match read_all(alloc, bytes, steps) {
+        Ok(Some(tree)) => {
+            let _size = tree.size();
+            Ok(tree)
+        }
+        Ok(None) => Err(ReadFault::NoTree),
+        Err(Memory) => Err(ReadFault::Memory),
+    }
+}

@@ -1,0 +1,329 @@
+// A word more.
+ghost use Rattle.std.specs.Prelude.{◌≡◌, ◌≤◌, ◌+◌, ◌∷◌, ◌++◌, [], true, false, ◌==◌, ◌||◌, if◌then◌else◌, IfOk, Some, None};
+ghost use Rattle.tx_tree.specs.Texts.{is_name_byte};
+ghost use Rattle.tx_tm_form.specs.Bytes.{escape_of, is_digit};
+ghost use Rattle.tx_tm_form.specs.Tokens.{escape, plain};
+ghost use Rattle.tx_tm_form.specs.Growing.{place_of};
+ghost use Rattle.tx_tm_form.specs.Machine.{reading, naming, counting, open_tag, in_tag, next_argument, last_argument, next_block, last_block, header_place, begun, by_escape, name_byte, name_end, feed_reading, feed_naming, feed_counting, feed};
+ghost use Rattle.tx_tm_read.specs.Words.{token_of, IsGoodWord};
+ghost use Rattle.tx_tm_read.specs.Blocks.{content_of};
+ghost use Rattle.tx_tm_read.specs.Nodes.{state_nodes};
+ghost use Rattle.tx_tm_read.specs.Spots.{opens_of, state_of, IsState, Rose};
+
+use std::alloc::Global;
+use std::sync::ledger::Ledger;
+use tx_base::{Memory, Steps};
+use tx_tm_form::{Escaped, Form, Place, escape_of, white_of};
+use tx_tree::Label;
+
+use crate::blocks::Body;
+use crate::lexer::Word;
+use crate::making::raw_data_label;
+use crate::tags::{Digits, NameFront, OpenTag, Spot};
+use crate::walk::{bar_in, close_in, in_place, last_in, next_in, put_node, put_text, put_white};
+
+// In a tag that begins.
+fn open_tag(
+    alloc: Global,
+    place: Option<Place>,
+    label: Label,
+    here: Body,
+    opens: Vec<OpenTag>,
+) -> Result<Option<Spot>, Memory>
+    ensures next { IfOk result (λ next. IsState next (in_tag place (open_tag (content_of here) label []) (opens_of opens.items))) }
+    ensures counted { IfOk result (Rose 0 0 (state_nodes (reading (content_of here) (opens_of opens.items)))) }
+{
+    let tag = OpenTag {
+        before: here,
+        label,
+        children: Vec::new(alloc),
+    };
+    in_place(alloc, place, tag, opens)
+}
+
+// Behind a block, where a middle or closing tag of this label goes on at the place.
+fn go_on<L: Ledger>(
+    alloc: Global,
+    label: Label,
+    place: Option<Place>,
+    here: Body,
+    mut opens: Vec<OpenTag>,
+    steps: &mut Steps<L>,
+) -> Result<Option<Spot>, Memory>
+    ensures next { IfOk result (λ next. IsState next (next_block (place_of (content_of here)) label place (content_of here) (opens_of opens.items))) }
+    ensures counted { IfOk result (Rose steps.old steps.new (state_nodes (reading (content_of here) (opens_of opens.items)))) }
+{
+    match opens.pop() {
+        None => Ok(None),
+        Some(tag) => next_in(alloc, &label, place, here, tag, opens, steps),
+    }
+}
+
+// Behind a block, where a closing tag of this label without arguments stands.
+fn end_tag<L: Ledger>(
+    alloc: Global,
+    label: Label,
+    here: Body,
+    mut opens: Vec<OpenTag>,
+    steps: &mut Steps<L>,
+) -> Result<Option<Spot>, Memory>
+    ensures next { IfOk result (λ next. IsState next (last_block (place_of (content_of here)) label (content_of here) (opens_of opens.items))) }
+    ensures counted { IfOk result (Rose steps.old steps.new (state_nodes (reading (content_of here) (opens_of opens.items)))) }
+{
+    match opens.pop() {
+        None => Ok(None),
+        Some(tag) => last_in(alloc, &label, here, tag, opens, steps),
+    }
+}
+
+fn header_place(more: bool) -> Option<Place>
+    ensures { result ≡ header_place more }
+{
+    if more { Some(Place::InHeader) } else { None }
+}
+
+// Behind the beginning of a tag.
+fn begin<L: Ledger>(
+    alloc: Global,
+    form: Form,
+    more: bool,
+    label: Label,
+    here: Body,
+    opens: Vec<OpenTag>,
+    steps: &mut Steps<L>,
+) -> Result<Option<Spot>, Memory>
+    ensures next { IfOk result (λ next. IsState next (begun form more label (content_of here) (opens_of opens.items))) }
+    ensures counted { IfOk result (Rose steps.old steps.new (state_nodes (reading (content_of here) (opens_of opens.items)))) }
+{
+    match form {
+        Form::Short => {
+            if more {
+                open_tag(alloc, Some(Place::InShort), label, here, opens)
+            } else {
+                put_node(alloc, label, Vec::new(alloc), here, opens, steps)
+            }
+        }
+        Form::Long => open_tag(alloc, header_place(more), label, here, opens),
+        Form::Middle => go_on(alloc, label, header_place(more), here, opens, steps),
+        Form::Closing => {
+            if more {
+                go_on(alloc, label, Some(Place::InClosing), here, opens, steps)
+            } else {
+                end_tag(alloc, label, here, opens, steps)
+            }
+        }
+    }
+}
+
+// Behind `|`.
+fn take_bar<L: Ledger>(
+    alloc: Global,
+    here: Body,
+    mut opens: Vec<OpenTag>,
+    steps: &mut Steps<L>,
+) -> Result<Option<Spot>, Memory>
+    ensures next { IfOk result (λ next. IsState next (next_argument (place_of (content_of here)) (content_of here) (opens_of opens.items))) }
+    ensures counted { IfOk result (Rose steps.old steps.new (state_nodes (reading (content_of here) (opens_of opens.items)))) }
+{
+    match here {
+        Body::Argument(place, line) => match opens.pop() {
+            None => Ok(None),
+            Some(tag) => bar_in(alloc, place, line, tag, opens, steps),
+        },
+        Body::Block(_) | Body::Tags(_) => Ok(None),
+    }
+}
+
+// Behind `>`.
+fn take_close<L: Ledger>(
+    alloc: Global,
+    here: Body,
+    mut opens: Vec<OpenTag>,
+    steps: &mut Steps<L>,
+) -> Result<Option<Spot>, Memory>
+    ensures next { IfOk result (λ next. IsState next (last_argument (place_of (content_of here)) (content_of here) (opens_of opens.items))) }
+    ensures counted { IfOk result (Rose steps.old steps.new (state_nodes (reading (content_of here) (opens_of opens.items)))) }
+{
+    match here {
+        Body::Argument(place, line) => match opens.pop() {
+            None => Ok(None),
+            Some(tag) => close_in(alloc, place, line, tag, opens, steps),
+        },
+        Body::Block(_) | Body::Tags(_) => Ok(None),
+    }
+}
+
+// Behind a backslash and a byte.
+fn take_escape<L: Ledger>(
+    alloc: Global,
+    byte: u8,
+    here: Body,
+    opens: Vec<OpenTag>,
+    steps: &mut Steps<L>,
+) -> Result<Option<Spot>, Memory>
+    ensures next { IfOk result (λ next. IsState next (by_escape (escape_of byte) byte (content_of here) (opens_of opens.items))) }
+    ensures counted { IfOk result (Rose steps.old steps.new (state_nodes (reading (content_of here) (opens_of opens.items)))) }
+{
+    match escape_of(byte) {
+        Some(Escaped::Mark) => put_text(alloc, &[], here, opens, steps),
+        Some(Escaped::Byte(meant)) => put_text(alloc, &[meant], here, opens, steps),
+        None => {
+            if byte == b'<' {
+                Ok(Some(Spot::Naming(NameFront::new(alloc), here, opens)))
+            } else {
+                Ok(None)
+            }
+        }
+    }
+}
+
+// A word more between parts of the content.
+fn take_part<L: Ledger>(
+    alloc: Global,
+    word: Word,
+    here: Body,
+    opens: Vec<OpenTag>,
+    steps: &mut Steps<L>,
+) -> Result<Option<Spot>, Memory>
+    requires { IsGoodWord word }
+    ensures next { IfOk result (λ next. IsState next (feed_reading (content_of here) (opens_of opens.items) (token_of word))) }
+    ensures counted { IfOk result (Rose steps.old steps.new (state_nodes (reading (content_of here) (opens_of opens.items)))) }
+{
+    match word {
+        Word::White(byte) => put_white(white_of(byte), here, opens),
+        Word::Join(_) => Ok(None),
+        Word::Plain(byte) => put_text(alloc, &[byte], here, opens, steps),
+        Word::Escape(byte) => take_escape(alloc, byte, here, opens, steps),
+        Word::Raw => Ok(Some(Spot::Counting(Digits::new(alloc), here, opens))),
+        Word::Head(form, label, more) => begin(alloc, form, more, label, here, opens, steps),
+        Word::Bar => take_bar(alloc, here, opens, steps),
+        Word::Close => take_close(alloc, here, opens, steps),
+    }
+}
+
+fn is_name_byte(byte: u8) -> bool
+    ensures { result ≡ is_name_byte byte }
+{
+    matches!(byte, b'!'..=b'~') && byte != b'<' && byte != b'>'
+}
+
+fn is_digit(byte: u8) -> bool
+    ensures { result ≡ is_digit byte }
+{
+    matches!(byte, b'0'..=b'9' | b'A'..=b'F' | b'a'..=b'f')
+}
+
+// A byte more of a symbol's name.
+fn name_on(
+    byte: u8,
+    name: NameFront,
+    here: Body,
+    opens: Vec<OpenTag>,
+) -> Result<Option<Spot>, Memory>
+    requires { is_name_byte byte ≡ true }
+    ensures { IfOk result (λ next. IsState next (name_byte true name byte (content_of here) (opens_of opens.items))) }
+{
+    match name.with(byte)? {
+        None => Ok(None),
+        Some(name) => Ok(Some(Spot::Naming(name, here, opens))),
+    }
+}
+
+// At the end of a symbol's name.
+fn name_over<L: Ledger>(
+    alloc: Global,
+    name: NameFront,
+    here: Body,
+    opens: Vec<OpenTag>,
+    steps: &mut Steps<L>,
+) -> Result<Option<Spot>, Memory>
+    ensures next { IfOk result (λ next. IsState next (name_end name (content_of here) (opens_of opens.items))) }
+    ensures counted { IfOk result (Rose steps.old steps.new (state_nodes (reading (content_of here) (opens_of opens.items)))) }
+{
+    if name.is_empty() {
+        return Ok(None);
+    }
+    let symbol = name.symbol(alloc)?;
+    put_text(alloc, &symbol, here, opens, steps)
+}
+
+// A word more in the name of a symbol.
+fn take_name<L: Ledger>(
+    alloc: Global,
+    word: Word,
+    name: NameFront,
+    here: Body,
+    opens: Vec<OpenTag>,
+    steps: &mut Steps<L>,
+) -> Result<Option<Spot>, Memory>
+    ensures next { IfOk result (λ next. IsState next (feed_naming name (content_of here) (opens_of opens.items) (token_of word))) }
+    ensures counted { IfOk result (Rose steps.old steps.new (state_nodes (reading (content_of here) (opens_of opens.items)))) }
+{
+    match word {
+        Word::Plain(byte) => {
+            if is_name_byte(byte) {
+                name_on(byte, name, here, opens)
+            } else {
+                Ok(None)
+            }
+        }
+        Word::Escape(b'>') => name_over(alloc, name, here, opens, steps),
+        Word::Escape(b'|') => name_on(b'|', name, here, opens),
+        Word::Escape(b'\\') => name_on(b'\\', name, here, opens),
+        _ => Ok(None),
+    }
+}
+
+// A word more in raw data.
+fn take_digit<L: Ledger>(
+    alloc: Global,
+    word: Word,
+    digits: Digits,
+    here: Body,
+    opens: Vec<OpenTag>,
+    steps: &mut Steps<L>,
+) -> Result<Option<Spot>, Memory>
+    ensures next { IfOk result (λ next. IsState next (feed_counting digits (content_of here) (opens_of opens.items) (token_of word))) }
+    ensures counted { IfOk result (Rose steps.old steps.new (state_nodes (reading (content_of here) (opens_of opens.items)))) }
+{
+    match word {
+        Word::Plain(byte) => {
+            if !is_digit(byte) {
+                return Ok(None);
+            }
+            match digits.with(byte)? {
+                None => Ok(None),
+                Some(digits) => Ok(Some(Spot::Counting(digits, here, opens))),
+            }
+        }
+        Word::Close => {
+            let leaf = digits.leaf(alloc)?;
+            let label = raw_data_label(alloc)?;
+            put_node(alloc, label, vec![in alloc; leaf]?, here, opens, steps)
+        }
+        _ => Ok(None),
+    }
+}
+
+impl Spot {
+    /// Where the reader stands behind the word, or None where no tree within the limits goes on so.
+    #[tactic(auto, unfolding(tx_tm_form::specs::Machine::feed))]
+    pub(crate) fn take<L: Ledger>(
+        self,
+        alloc: Global,
+        word: Word,
+        steps: &mut Steps<L>,
+    ) -> Result<Option<Spot>, Memory>
+        requires { IsGoodWord word }
+        ensures next { IfOk result (λ next. IsState next (feed (state_of self) (token_of word))) }
+        ensures counted { IfOk result (Rose steps.old steps.new (state_nodes (state_of self))) }
+    {
+        match self {
+            Spot::Reading(here, opens) => take_part(alloc, word, here, opens, steps),
+            Spot::Naming(name, here, opens) => take_name(alloc, word, name, here, opens, steps),
+            Spot::Counting(digits, here, opens) => {
+                take_digit(alloc, word, digits, here, opens, steps)
+            }
+        }
+    }
+}

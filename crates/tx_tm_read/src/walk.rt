@@ -1,0 +1,317 @@
+// From word to word.
+ghost use Rattle.std.specs.Prelude.{◌≡◌, ◌≤◌, ◌+◌, ◌∷◌, [], true, false, if◌then◌else◌, map, IfOk, IfSome, Some, None};
+ghost use Rattle.tx_tree.specs.Texts.{IsText};
+ghost use Rattle.tx_tree.specs.WideTree.{node, forest, nodes_of};
+ghost use Rattle.tx_tm_form.specs.Bytes.{escape_of};
+ghost use Rattle.tx_tm_form.specs.Parts.{gap, text, tag, same, collection_label};
+ghost use Rattle.tx_tm_form.specs.Growing.{inline, grown, put, place_of, block_behind, tree_of_entry};
+ghost use Rattle.tx_tm_form.specs.Machine.{reading, naming, counting, in_tag, with_node, closed, next_argument, last_argument, next_block, last_block, with_child, header_place, begun, by_escape, feed_reading, feed_naming, feed_counting, feed};
+ghost use Rattle.tx_tm_read.specs.Words.{token_of};
+ghost use Rattle.tx_tm_read.specs.Blocks.{content_of, tags_of};
+ghost use Rattle.tx_tm_read.specs.Nodes.{nodes_in, line_nodes, tags_nodes, content_nodes, opens_nodes, open_nodes, state_nodes};
+ghost use Rattle.tx_tm_read.specs.Spots.{open_of, opens_of, state_of, IsState, IsBlockTree, Rose};
+
+use std::alloc::Global;
+use std::sync::ledger::Ledger;
+use tx_base::{Memory, Steps};
+use tx_tm_form::{Escaped, Form, Place, White, escape_of, white_of};
+use tx_tree::{Label, MOST_DEPTH, Tree};
+
+use crate::blocks::{Body, Paragraphs, TagList};
+use crate::lexer::Word;
+use crate::lines::Line;
+use crate::making::{make_collection, make_node};
+use crate::tags::{Digits, NameFront, OpenTag, Spot};
+
+fn same_bytes(one: &[u8], other: &[u8]) -> bool
+    ensures { result ≡ same one.now other.now }
+{
+    one == other
+}
+
+// In an argument of the tag, or None where the tags are too deep.
+#[tactic(auto, using(crate::proofs::Stuck::too_deep))]
+fn in_argument(
+    alloc: Global,
+    place: Place,
+    tag: OpenTag,
+    mut opens: Vec<OpenTag>,
+) -> Result<Option<Spot>, Memory>
+    ensures { IfOk result (λ next. IsState next (in_tag (Some place) (open_of tag) (opens_of opens.items))) }
+{
+    if opens.len() >= MOST_DEPTH as usize {
+        return Ok(None);
+    }
+    opens.push(tag)?;
+    Ok(Some(Spot::Reading(
+        Body::Argument(place, Line::new(alloc)),
+        opens,
+    )))
+}
+
+// Whether the label is that of collections.
+fn is_collection(label: &Label) -> bool
+    ensures { result ≡ same label.now collection_label }
+{
+    same_bytes(label.bytes(), b"collection")
+}
+
+// The content of a block behind these children of a tag.
+#[tactic(auto, using(crate::proofs::Stuck::first_block, crate::proofs::Stuck::other_label, crate::proofs::Stuck::later_block))]
+fn start_block(alloc: Global, label: &Label, children: &Vec<Tree>) -> Body
+    ensures { content_of result ≡ block_behind label.now children.now.items }
+{
+    if !children.is_empty() {
+        return Body::Block(Paragraphs::new(alloc));
+    }
+    if is_collection(label) {
+        return Body::Tags(TagList::new(alloc));
+    }
+    Body::Block(Paragraphs::new(alloc))
+}
+
+// In a block of the tag, or None where the tags are too deep.
+#[tactic(auto, using(crate::proofs::Stuck::too_deep))]
+fn in_block(alloc: Global, tag: OpenTag, mut opens: Vec<OpenTag>) -> Result<Option<Spot>, Memory>
+    ensures { IfOk result (λ next. IsState next (in_tag None (open_of tag) (opens_of opens.items))) }
+{
+    if opens.len() >= MOST_DEPTH as usize {
+        return Ok(None);
+    }
+    let here = start_block(alloc, &tag.label, &tag.children);
+    opens.push(tag)?;
+    Ok(Some(Spot::Reading(here, opens)))
+}
+
+// In an argument or a block.
+pub(crate) fn in_place(
+    alloc: Global,
+    place: Option<Place>,
+    tag: OpenTag,
+    opens: Vec<OpenTag>,
+) -> Result<Option<Spot>, Memory>
+    ensures { IfOk result (λ next. IsState next (in_tag place (open_of tag) (opens_of opens.items))) }
+{
+    match place {
+        Some(place) => in_argument(alloc, place, tag, opens),
+        None => in_block(alloc, tag, opens),
+    }
+}
+
+// Behind a tag.
+fn put_tag<L: Ledger>(
+    alloc: Global,
+    collects: bool,
+    tree: Tree,
+    before: Body,
+    opens: Vec<OpenTag>,
+    steps: &mut Steps<L>,
+) -> Result<Option<Spot>, Memory>
+    ensures next { IfOk result (λ next. IsState next (reading (put (content_of before) (tag collects tree)) (opens_of opens.items))) }
+    ensures counted { IfOk result (Rose steps.old steps.new (content_nodes (content_of before) + nodes_of tree + opens_nodes (content_of before) (opens_of opens.items))) }
+{
+    match before.with_tag(alloc, collects, tree, steps)? {
+        None => Ok(None),
+        Some(here) => Ok(Some(Spot::Reading(here, opens))),
+    }
+}
+
+// Behind white.
+pub(crate) fn put_white(white: White, here: Body, opens: Vec<OpenTag>) -> Result<Option<Spot>, Memory>
+    ensures next { IfOk result (λ next. IsState next (reading (put (content_of here) (gap white)) (opens_of opens.items))) }
+    ensures counted { IfOk result (Rose 0 0 (state_nodes (reading (content_of here) (opens_of opens.items)))) }
+{
+    match here.with_white(white)? {
+        None => Ok(None),
+        Some(here) => Ok(Some(Spot::Reading(here, opens))),
+    }
+}
+
+// Behind items of a text.
+pub(crate) fn put_text<L: Ledger>(
+    alloc: Global,
+    items: &[u8],
+    here: Body,
+    opens: Vec<OpenTag>,
+    steps: &mut Steps<L>,
+) -> Result<Option<Spot>, Memory>
+    requires { IsText items.now }
+    ensures next { IfOk result (λ next. IsState next (reading (put (content_of here) (text items.now)) (opens_of opens.items))) }
+    ensures counted { IfOk result (Rose steps.old steps.new (state_nodes (reading (content_of here) (opens_of opens.items)))) }
+{
+    match here.with_text(alloc, items, steps)? {
+        None => Ok(None),
+        Some(here) => Ok(Some(Spot::Reading(here, opens))),
+    }
+}
+
+// Behind a node.
+pub(crate) fn put_node<L: Ledger>(
+    alloc: Global,
+    label: Label,
+    children: Vec<Tree>,
+    before: Body,
+    opens: Vec<OpenTag>,
+    steps: &mut Steps<L>,
+) -> Result<Option<Spot>, Memory>
+    ensures next { IfOk result (λ next. IsState next (with_node label children.items (content_of before) (opens_of opens.items))) }
+    ensures counted { IfOk result (Rose steps.old steps.new (nodes_in children.items + content_nodes (content_of before) + opens_nodes (content_of before) (opens_of opens.items))) }
+{
+    match make_node(alloc, label, children, steps)? {
+        None => Ok(None),
+        Some(tree) => put_tag(alloc, false, tree, before, opens, steps),
+    }
+}
+
+impl OpenTag {
+    // Behind the tag, which has all its children.
+    fn close<L: Ledger>(
+        self,
+        alloc: Global,
+        opens: Vec<OpenTag>,
+        steps: &mut Steps<L>,
+    ) -> Result<Option<Spot>, Memory>
+        ensures next { IfOk result (λ next. IsState next (closed (open_of self) (opens_of opens.items))) }
+        ensures counted { IfOk result (Rose steps.old steps.new (open_nodes (open_of self) (opens_of opens.items))) }
+    {
+        let OpenTag {
+            before,
+            label,
+            children,
+        } = self;
+        put_node(alloc, label, children, before, opens, steps)
+    }
+
+    // With a child more.
+    fn with_child(mut self, child: Tree) -> Result<OpenTag, Memory>
+        ensures { IfOk result (λ t. open_of t ≡ with_child (open_of self) child) }
+    {
+        self.children.push(child)?;
+        Ok(self)
+    }
+}
+
+impl Body {
+    // The tree of a block, or None for an argument or where it passes a limit.
+    pub(crate) fn finish_block<L: Ledger>(
+        self,
+        alloc: Global,
+        steps: &mut Steps<L>,
+    ) -> Result<Option<Tree>, Memory>
+        ensures made { IfOk result (λ made. IsBlockTree made (content_of self)) }
+        ensures counted { IfOk result (λ made. IfSome made (λ t. steps.new + content_nodes (content_of self) ≤ steps.old + nodes_of t)) }
+    {
+        match self {
+            Body::Argument(_, _) => Ok(None),
+            Body::Block(block) => block.finish(alloc, steps),
+            Body::Tags(tags) => tags.finish(alloc, steps),
+        }
+    }
+}
+
+// Behind `|` in an argument.
+pub(crate) fn bar_in<L: Ledger>(
+    alloc: Global,
+    place: Place,
+    line: Line,
+    tag: OpenTag,
+    opens: Vec<OpenTag>,
+    steps: &mut Steps<L>,
+) -> Result<Option<Spot>, Memory>
+    ensures next { IfOk result (λ next. IsState next (in_tag (Some place) (with_child (open_of tag) (grown line)) (opens_of opens.items))) }
+    ensures counted { IfOk result (Rose steps.old steps.new (line_nodes line + open_nodes (open_of tag) (opens_of opens.items))) }
+{
+    match line.finish(alloc, steps)? {
+        None => Ok(None),
+        Some(child) => in_argument(alloc, place, tag.with_child(child)?, opens),
+    }
+}
+
+// Behind `>` in an argument.
+pub(crate) fn close_in<L: Ledger>(
+    alloc: Global,
+    place: Place,
+    line: Line,
+    tag: OpenTag,
+    opens: Vec<OpenTag>,
+    steps: &mut Steps<L>,
+) -> Result<Option<Spot>, Memory>
+    ensures next { IfOk result (λ next. IsState next (last_argument (Some place) (inline place line) (open_of tag ∷ opens_of opens.items))) }
+    ensures counted { IfOk result (Rose steps.old steps.new (line_nodes line + open_nodes (open_of tag) (opens_of opens.items))) }
+{
+    match line.finish(alloc, steps)? {
+        None => Ok(None),
+        Some(child) => {
+            let tag = tag.with_child(child)?;
+            match place {
+                Place::InHeader => in_block(alloc, tag, opens),
+                Place::InShort => tag.close(alloc, opens, steps),
+                Place::InClosing => tag.close(alloc, opens, steps),
+            }
+        }
+    }
+}
+
+// Behind a block of the tag, where a middle or closing tag of this label goes on at the place.
+pub(crate) fn next_in<L: Ledger>(
+    alloc: Global,
+    label: &Label,
+    place: Option<Place>,
+    here: Body,
+    tag: OpenTag,
+    opens: Vec<OpenTag>,
+    steps: &mut Steps<L>,
+) -> Result<Option<Spot>, Memory>
+    ensures next { IfOk result (λ next. IsState next (next_block (place_of (content_of here)) label.now place (content_of here) (open_of tag ∷ opens_of opens.items))) }
+    ensures counted { IfOk result (Rose steps.old steps.new (content_nodes (content_of here) + open_nodes (open_of tag) (opens_of opens.items))) }
+{
+    if !same_bytes(label.bytes(), tag.label.bytes()) {
+        return Ok(None);
+    }
+    match here.finish_block(alloc, steps)? {
+        None => Ok(None),
+        Some(child) => in_place(alloc, place, tag.with_child(child)?, opens),
+    }
+}
+
+// The collection of these tags.
+fn collection_in<L: Ledger>(
+    alloc: Global,
+    tags: TagList,
+    before: Body,
+    opens: Vec<OpenTag>,
+    steps: &mut Steps<L>,
+) -> Result<Option<Spot>, Memory>
+    ensures next { IfOk result (λ next. IsState next (reading (put (content_of before) (tag true (node collection_label (forest (map tree_of_entry (tags_of tags).entries))))) (opens_of opens.items))) }
+    ensures counted { IfOk result (Rose steps.old steps.new (tags_nodes (tags_of tags) + content_nodes (content_of before) + opens_nodes (content_of before) (opens_of opens.items))) }
+{
+    match make_collection(alloc, tags.into_trees(alloc)?, steps)? {
+        None => Ok(None),
+        Some(tree) => put_tag(alloc, true, tree, before, opens, steps),
+    }
+}
+
+// Behind a block of the tag, where a closing tag of this label without arguments stands.
+pub(crate) fn last_in<L: Ledger>(
+    alloc: Global,
+    label: &Label,
+    here: Body,
+    tag: OpenTag,
+    opens: Vec<OpenTag>,
+    steps: &mut Steps<L>,
+) -> Result<Option<Spot>, Memory>
+    ensures next { IfOk result (λ next. IsState next (last_block (place_of (content_of here)) label.now (content_of here) (open_of tag ∷ opens_of opens.items))) }
+    ensures counted { IfOk result (Rose steps.old steps.new (state_nodes (reading (content_of here) (open_of tag ∷ opens_of opens.items)))) }
+{
+    if !same_bytes(label.bytes(), tag.label.bytes()) {
+        return Ok(None);
+    }
+    match here {
+        Body::Argument(_, _) => Ok(None),
+        Body::Tags(tags) => collection_in(alloc, tags, tag.before, opens, steps),
+        Body::Block(block) => match block.finish(alloc, steps)? {
+            None => Ok(None),
+            Some(child) => tag.with_child(child)?.close(alloc, opens, steps),
+        },
+    }
+}
