@@ -9,3 +9,5 @@ pub mod Counting
 pub mod Runs
 pub mod Exact
 pub mod Spelled
+pub mod Recognised
+pub mod Places

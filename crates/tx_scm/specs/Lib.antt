@@ -3,3 +3,4 @@ pub mod Canonical
 pub mod Kinds
 pub mod Machine
 pub mod States
+pub mod Recognising

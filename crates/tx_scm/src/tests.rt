@@ -1,13 +1,13 @@
 // What is read, on both sides of each rule, as its canonical text.
 ghost use Rattle.std.specs.Prelude.{◌≡◌};
 
-use crate::{read, write};
+use crate::{read, spells, write};
 use std::alloc::{AllocError, Global};
 use std::marker::Brand;
 use std::sync::ledger::{Blank, Ledger};
 use std::test::Fail;
-use tx_base::Steps;
-use tx_tree::ReadFault;
+use tx_base::{Memory, Steps};
+use tx_tree::{ReadFault, Tree};
 
 // The canonical text of the tree that the bytes spell.
 fn text_of<L: Ledger>(alloc: Global, bytes: &[u8], blank: Blank) -> Result<Vec<u8>, ReadFault>
@@ -194,5 +194,84 @@ fn limits_on_both_sides(rt: HostRuntime) -> Result<(), Fail> {
             assert_eq!(rt; read.err(), fault, "at {}, {past}", row.most);
         }
     }
+    Ok(())
+}
+
+// The string of so many of six bytes that has this number.
+fn numbered(alloc: Global, length: usize, number: u32) -> Result<Vec<u8>, AllocError> {
+    let mut bytes = Vec::new(alloc);
+    let mut rest = number;
+    for _ in 0..length {
+        bytes.push(b"()\"\\ a"[(rest % 6) as usize])?;
+        rest /= 6;
+    }
+    Ok(bytes)
+}
+
+// All strings of up to five of six bytes.
+fn short_strings(alloc: Global) -> Result<Vec<Vec<u8>>, AllocError> {
+    let mut strings = Vec::new(alloc);
+    for (length, count) in [1u32, 6, 36, 216, 1_296, 7_776].into_iter().enumerate() {
+        for number in 0..count {
+            strings.push(numbered(alloc, length, number)?)?;
+        }
+    }
+    Ok(strings)
+}
+
+// The tree that is read from each of the strings.
+fn read_each<L: Ledger>(
+    alloc: Global,
+    strings: &[Vec<u8>],
+    blank: Blank,
+) -> Result<Vec<Option<Tree>>, ReadFault>
+    requires name { blank.name ≡ L.name }
+    requires parts { blank.parts ≡ L.parts }
+    requires whole { blank.parts ≡ 1 }
+{
+    let mut steps = Steps::<L>::new(blank);
+    let mut trees = Vec::new(alloc);
+    for string in strings {
+        match read(alloc, string, &mut steps) {
+            Ok(tree) => trees.push(Some(tree))?,
+            Err(ReadFault::NoTree) => trees.push(None)?,
+            Err(ReadFault::Memory) => return Err(ReadFault::Memory),
+        }
+    }
+    Ok(trees)
+}
+
+// Whether the strings that spell the tree are those that are read as a tree of its text.
+fn agrees(
+    alloc: Global,
+    strings: &[Vec<u8>],
+    read: &[Option<Tree>],
+    tree: &Tree,
+) -> Result<bool, Memory> {
+    let mut text = Vec::new(alloc);
+    write(tree, &mut text)?;
+    for (string, found) in strings.iter().zip(read) {
+        let mut other = Vec::new(alloc);
+        if let Some(found) = found {
+            write(found, &mut other)?;
+        }
+        if spells(alloc, string, tree)? != (other.as_slice() == text.as_slice()) {
+            return Ok(false);
+        }
+    }
+    Ok(true)
+}
+
+#[test]
+fn short_strings_are_read_as_they_are_spelled(rt: HostRuntime) -> Result<(), Fail> {
+    let alloc = rt.alloc();
+    let strings = short_strings(alloc)?;
+    let trees = read_each::<Brand>(alloc, &strings, Blank::new(1))?;
+    let mut count = 0u64;
+    for tree in trees.iter().flatten() {
+        assert!(rt; agrees(alloc, &strings, &trees, tree)?, "of tree {count}");
+        count = count.saturating_add(1);
+    }
+    assert_eq!(rt; count, 190);
     Ok(())
 }

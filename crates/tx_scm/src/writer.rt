@@ -22,7 +22,7 @@ fn append_escaped(bytes: &[u8], out: &mut Vec<u8>) -> Result<(), Memory>
 }
 
 // Appends the string of a text.
-fn append_string(bytes: &[u8], out: &mut Vec<u8>) -> Result<(), Memory>
+pub(crate) fn append_string(bytes: &[u8], out: &mut Vec<u8>) -> Result<(), Memory>
     ensures ok { OnOk result (out.new.items ≡ out.old.items ++ string_of bytes.now) }
     ensures grows { take (length out.old.items) out.new.items ≡ out.old.items }
 {
