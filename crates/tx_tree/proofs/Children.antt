@@ -1,6 +1,6 @@
 -- A forest is its list of trees, and what a node knows of its children.
-use Rattle.std.proofs.Common.{◌≡◌, ℕ, ◌+◌, ◌*◌, ◌<◌, ◌≤◌, max, List, [], ◌∷◌, ◌++◌, length, take, get_or, length-append, ap, refl, arith}
-use Rattle.std.proofs.lemmas.List.{take_more}
+use Rattle.std.proofs.Common.{◌≡◌, ℕ, ◌+◌, ◌*◌, ◌<◌, ◌≤◌, max, List, [], ◌∷◌, ◌++◌, length, take, get_or, length-append, ap, refl, sym, ◌∙◌, arith}
+use Rattle.std.proofs.lemmas.List.{take_more, take_all, get_or_default}
 use Rattle.std.proofs.lemmas.Option.{slice_get_read, slice_get_past}
 use Rattle.std.proofs.Math.Nat.{max-le, le-max_left}
 use Rattle.tx_tree.specs.Labels.{IsLabel}
@@ -14,6 +14,21 @@ trees_forest (t ∷ ts) = ap (λ us. t ∷ us) (trees_forest ts)
 pub forest_trees : (ts : Forest) → forest (trees ts) ≡ ts
 forest_trees nil = refl
 forest_trees (cons t ts) = ap (λ us. cons t us) (forest_trees ts)
+
+-- equal nodes have equal children
+pub same_children : (l m : List ℕ) (ss ts : List WideTree) → node l (forest ss) ≡ node m (forest ts) → ss ≡ ts
+same_children l m ss ts e = let same : forest ss ≡ forest ts = cc in sym (trees_forest ss) ∙ ap trees same ∙ trees_forest ts
+
+-- unequal children stand in unequal nodes
+pub differ_at : (l m : List ℕ) (ss ts : List WideTree) (i : ℕ) (s t : WideTree) → i < length ss → i < length ts → s ≡ get_or ss i s → t ≡ get_or ts i t → (s ≡ t → ⊥)
+    → node l (forest ss) ≡ node m (forest ts) → ⊥
+differ_at l m ss ts i s t lt lt' is is' ne e =
+    let same = same_children l m ss ts e in
+    ne (is ∙ ap (λ us. get_or us i s) same ∙ get_or_default ts i s t lt' ∙ sym is')
+
+-- equal labels and children make equal nodes
+pub same_at : (l m : List ℕ) (ss ts : List WideTree) (n : ℕ) → l ≡ m → length ss ≤ n → length ts ≤ n → take n ss ≡ take n ts → node l (forest ss) ≡ node m (forest ts)
+same_at l m ss ts n e le le' t = let same : ss ≡ ts = sym (take_all n ss le) ∙ t ∙ take_all n ts le' in cc
 
 pub ruleset lookups = (trees_forest, slice_get_read, slice_get_past)
 

@@ -222,7 +222,7 @@ begins_some : (bytes : List ℕ) (p : TextPlace) → text_run (Some Between) byt
 unfolding begins_text
 begins_some bytes p e = ap is_some e
 
-begins_none : (bytes : List ℕ) → text_run (Some Between) bytes ≡ None → begins_text bytes ≡ false
+pub begins_none : (bytes : List ℕ) → text_run (Some Between) bytes ≡ None → begins_text bytes ≡ false
 unfolding begins_text
 begins_none bytes e = ap is_some e
 

@@ -1,8 +1,13 @@
 pub mod Texts
 pub mod TextScan
+pub mod Cuts
 pub mod Building
 pub mod Labels
 pub mod WideTree
 pub mod Limits
 pub mod Trees
 pub mod Falls
+pub mod Paths
+pub mod Places
+pub mod PathSpelling
+pub mod PathScan

@@ -8,13 +8,19 @@
 mod building;
 mod faults;
 mod labels;
+mod paths;
+mod places;
+#[cfg(test)]
+mod tests;
 mod texts;
 mod trees;
 
 pub use building::{TextBuilder, text_laws};
-pub use faults::{ReadFault, TreeFault};
+pub use faults::{PathFault, PlaceFault, ReadFault, TreeFault};
 pub use labels::{Label, LabelFault};
-pub use texts::{Text, TextFault};
+pub use paths::Path;
+pub use places::Place;
+pub use texts::{Text, TextFault, cut_laws};
 pub use trees::{Kind, Tree};
 pub use tx_base::Memory;
 
@@ -30,3 +36,9 @@ pub const MOST_ARITY: usize = 65_535;
 pub const MOST_DEPTH: u32 = 400;
 /// The greatest size of a tree, where a leaf has 1 and its bytes, and a node 1 and the sizes of its children.
 pub const MOST_SIZE: u64 = 8_000_000;
+/// The most numbers of a path that bytes spell.
+pub const MOST_STEPS: usize = 400;
+/// The most digits of a number of a path.
+pub const MOST_DIGITS: usize = 10;
+/// The greatest number of a path.
+pub const MOST_NUMBER: u64 = 4_294_967_295;

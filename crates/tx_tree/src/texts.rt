@@ -1,8 +1,12 @@
 // Texts, and the reading of a text byte by byte.
 ghost use Rattle.std.specs.Prelude.{◌≡◌, ℕ, ◌≤◌, ◌↔◌, ◌++◌, ◌∷◌, [], Bool, true, false, IsTrue, length, IfOk, IfErr, OnOk, IfSome, MatchOption, ◌&&◌, nat_lt};
-ghost use Rattle.tx_tree.specs.Texts.{IsText, IsTextFault, is_item_byte, is_name_byte};
+ghost use Rattle.tx_tree.specs.Texts.{IsText, IsCut, IsTextFault, is_item_byte, is_name_byte};
 ghost use Rattle.tx_tree.specs.declared.texts.TextFault.TheVariants.{Memory as NoMemory};
-ghost use Rattle.tx_tree.specs.TextScan.{text_step, fault_at};
+ghost use Rattle.tx_tree.specs.TextScan.{text_step, text_run, fault_at};
+ghost use Rattle.tx_tree.specs.Cuts.{is_cut};
+ghost use Rattle.std.specs.Prelude.{List};
+ghost use Rattle.tx_tree.specs.declared.texts.TextPlace.TheVariants.{Between};
+ghost use Rattle.std.specs.Bool.{OnTrue, OnFalse};
 
 use crate::{MOST_NAME, MOST_TEXT};
 use std::alloc::{AllocError, AllocFailed, Global};
@@ -146,6 +150,20 @@ fn scan(bytes: &[u8]) -> Result<(), TextFault>
     }
 }
 
+// Where the reading of the bytes of a text stands behind them, or None where they begin no text.
+fn read_front(bytes: &[u8]) -> Option<TextPlace>
+    ensures { result ≡ text_run (Some Between) bytes.now }
+{
+    let mut place = TextPlace::Between;
+    for byte in bytes {
+        match place.step(*byte) {
+            Some(next) => place = next,
+            None => return None,
+        }
+    }
+    Some(place)
+}
+
 impl Text {
     /// The text of these bytes.
     pub fn new(alloc: Global, bytes: &[u8]) -> Result<Text, TextFault>
@@ -184,6 +202,23 @@ impl Text {
         &self.bytes
     }
 
+    #[tactic(auto, using(crate::proofs::Cutting::cutting, std::proofs::lemmas::Grind::common_steps))]
+    /// Whether `at` is within the text and no cut, so that to cut there would go through a symbol.
+    pub fn cuts(&self, at: usize) -> bool
+        ensures symbol { OnTrue result ((at ≤ length self.now) × (IsCut self.now at → ⊥)) }
+        ensures cut { OnFalse result (at ≤ length self.now → IsCut self.now at) }
+    {
+        let bytes = self.bytes();
+        if at > bytes.len() {
+            return false;
+        }
+        match read_front(&bytes[..at]) {
+            Some(TextPlace::Between) => false,
+            Some(TextPlace::InSymbol(_)) => true,
+            None => true,
+        }
+    }
+
     /// The same text, which shares the bytes.
     pub fn copy(&self) -> Result<Text, Memory>
         ensures { IfOk result (λ t. t ≡ self.now) }
@@ -193,3 +228,8 @@ impl Text {
         })
     }
 }
+
+/// What the test for cuts means.
+pub fn cut_laws()
+    ensures { (bytes : List ℕ) (n : ℕ) → IsText bytes → (is_cut bytes n ≡ true) ↔ IsCut bytes n }
+{}

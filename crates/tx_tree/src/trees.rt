@@ -1,10 +1,13 @@
 // Nodes and leaves, shared by Rc.
-ghost use Rattle.std.specs.Prelude.{◌≡◌, ◌+◌, length, if◌then◌else◌, IfOk, IfErr, OnOk, MatchOption, IfSome, IfNone, IsNone, None, Some, slice_get};
+ghost use Rattle.std.specs.Prelude.{◌≡◌, ◌+◌, length, if◌then◌else◌, IfOk, IfErr, OnOk, MatchOption, IfSome, IfNone, IsNone, None, Some, slice_get, IsTrue, ◌↔◌};
 ghost use Rattle.tx_tree.specs.WideTree.{leaf, node, forest, children_of, is_leaf, text_of, label_of, size_of, depth_of};
 ghost use Rattle.tx_tree.specs.Limits.{IsWellFormed, IsWithinLimits, IsTreeFault};
+ghost use Rattle.tx_tree.specs.Paths.{subtree};
+ghost use Rattle.tx_tree.specs.Places.{IsOffset, IsOffsetFault};
 
-use crate::faults::TreeFault;
+use crate::faults::{PlaceFault, TreeFault};
 use crate::labels::Label;
+use crate::paths::Path;
 use crate::texts::Text;
 use crate::{MOST_ARITY, MOST_DEPTH, MOST_SIZE};
 use std::alloc::Global;
@@ -206,5 +209,72 @@ impl Tree {
         ensures within { IsWithinLimits self.now }
     {
         self.depth
+    }
+
+    /// The subtree that the path leads to, or None where it doesn't lead.
+    pub fn at(&self, path: &Path) -> Option<&Tree>
+        ensures { MatchOption result (subtree self.now path.now ≡ None) (λ t. subtree self.now path.now ≡ Some t.now) }
+    {
+        let mut tree = self;
+        for step in path.steps() {
+            match tree.child(*step) {
+                Some(child) => tree = child,
+                None => return None,
+            }
+        }
+        Some(tree)
+    }
+
+    #[tactic(auto, using(crate::proofs::Children::same_children, std::proofs::lemmas::Grind::common_steps))]
+    /// Whether the trees are equal. Their sizes and depths are compared before any child is looked at.
+    pub fn same(&self, other: &Tree) -> bool
+        ensures { IsTrue result ↔ (self.now ≡ other.now) }
+    {
+        if self.size != other.size || self.depth != other.depth {
+            return false;
+        }
+        match (&*self.content, &*other.content) {
+            (Content::Leaf(text), Content::Leaf(those)) => text.bytes() == those.bytes(),
+            (Content::Node(label, children), Content::Node(name, those)) => {
+                if label.bytes() != name.bytes() {
+                    return false;
+                }
+                if children.len() != those.len() {
+                    return false;
+                }
+                for i in 0..children.len() {
+                    if !children[i].same(&those[i]) {
+                        return false;
+                    }
+                }
+                true
+            }
+            _ => false,
+        }
+    }
+
+    // Whether the offset is one of this tree.
+    pub(crate) fn check_offset(&self, offset: u32) -> Result<(), PlaceFault>
+        ensures offset { OnOk result (IsOffset self.now offset) }
+        ensures refused { IfErr result (IsOffsetFault self.now offset) }
+    {
+        match &*self.content {
+            Content::Leaf(text) => {
+                let len = text.bytes().len();
+                if offset as usize > len {
+                    return Err(PlaceFault::BadPlace(len as u64));
+                }
+                if text.cuts(offset as usize) {
+                    return Err(PlaceFault::CutsSymbol(u64::from(offset)));
+                }
+                Ok(())
+            }
+            Content::Node(..) => {
+                if offset > 1 {
+                    return Err(PlaceFault::BadPlace(1));
+                }
+                Ok(())
+            }
+        }
     }
 }

@@ -1,0 +1,10 @@
+// Counts of what went wrong outside.
+ghost use Rattle.tx_outside.specs.Counts.{NeverFalls, Rose};
+
+/// The count, raised by one up to its last value.
+pub(crate) fn raised(count: u64) -> u64
+    ensures rose { Rose count result }
+    ensures kept { NeverFalls count result }
+{
+    count.saturating_add(1)
+}

@@ -1,0 +1,54 @@
+//! The program `tmx`: it lends `run` of `tx_session` the real files, input and output, and ends with the
+//! number of its status. The adapters tell no contents; they keep the counts of what went wrong.
+#![tactic(auto)]
+
+ghost use Rattle.std.specs.Prelude.{◌≡◌};
+
+mod counts;
+mod file_store;
+mod standard;
+
+use std::alloc::AllocError;
+use std::env;
+use std::io;
+use std::marker::Brand;
+use std::process::ExitCode;
+use std::rt::{Env, Files};
+use std::sync::ledger::{Blank, Ledger};
+use tx_base::Steps;
+use tx_session::{Status, run};
+
+use file_store::FileStore;
+use standard::{StandardInput, StandardOutput};
+
+// The words of the command line. Words that can't be had, or are no text, are as faulty as none.
+fn words<R: Env + AllocGlobal>(rt: &R) -> Result<Vec<String>, AllocError> {
+    let mut words = Vec::new(rt.alloc());
+    if let Ok(args) = env::args(rt) {
+        for word in args {
+            words.push(word)?;
+        }
+    }
+    Ok(words)
+}
+
+// Runs the program, with a count of steps that nobody asks for.
+fn run_counted<R: Files + Print + Input + AllocGlobal, L: Ledger>(rt: &R, words: &[String], blank: Blank) -> Status
+    requires name { blank.name ≡ L.name }
+    requires parts { blank.parts ≡ L.parts }
+    requires whole { blank.parts ≡ 1 }
+{
+    let mut steps = Steps::<L>::new(blank);
+    let mut store = FileStore::new(rt);
+    let mut input = StandardInput::new(rt.reader());
+    let mut output = StandardOutput::new(io::writer(rt));
+    run(rt.alloc(), words, &mut store, &mut input, &mut output, &mut steps)
+}
+
+fn main(rt: HostRuntime) -> ExitCode {
+    let status = match words(&rt) {
+        Ok(words) => run_counted::<HostRuntime, Brand>(&rt, &words, Blank::new(1)),
+        Err(AllocError) => Status::NoMemory,
+    };
+    ExitCode::from(status.number())
+}

@@ -1,0 +1,17 @@
+// What holds of all lines.
+ghost use Rattle.std.specs.Prelude.{◌≡◌, ◌≢◌, ℕ, List};
+ghost use Rattle.tx_cmd.specs.Commands.{IsCommand};
+ghost use Rattle.tx_cmd.specs.Refusals.{IsCmdFault};
+ghost use Rattle.tx_cmd.specs.declared.command.Command.{Command};
+ghost use Rattle.tx_cmd.specs.declared.command.CmdFault.{CmdFault};
+
+/// A line is at most one command.
+pub fn one_command()
+    ensures { (line : List ℕ) (c d : Command) → IsCommand line c → IsCommand line d → c ≡ d }
+{}
+
+/// A line has at most one cause that makes it no command, want of memory apart, and a command has none.
+pub fn one_answer()
+    ensures cause { (line : List ℕ) (f g : CmdFault) → f ≢ CmdFault.Memory → g ≢ CmdFault.Memory → IsCmdFault line f → IsCmdFault line g → f ≡ g }
+    ensures command { (line : List ℕ) (c : Command) (f : CmdFault) → f ≢ CmdFault.Memory → IsCommand line c → ¬ IsCmdFault line f }
+{}

@@ -1,0 +1,58 @@
+// Trees under names.
+ghost use Rattle.std.specs.Prelude.{◌≡◌, IfOk};
+
+use std::alloc::Global;
+use std::marker::Model;
+use tx_base::Memory;
+use tx_tree::Tree;
+
+/// The name of a buffer: any bytes, of any number.
+///
+/// Contracts see a name as the list of its bytes.
+#[derive(Drop)]
+pub struct Name {
+    bytes: Vec<u8>,
+}
+
+impl Model for Name {
+    ghost use Rattle.std.specs.Prelude.{List, ℕ};
+
+    ghost Value = { List ℕ };
+
+    ghost view = { λ n. n.bytes.items };
+}
+
+impl Name {
+    /// The name's bytes.
+    pub fn bytes(&self) -> &[u8]
+        ensures { result.now ≡ self.now }
+    {
+        &self.bytes
+    }
+
+    /// The same name, with bytes of its own.
+    pub fn copy(&self, alloc: Global) -> Result<Name, Memory>
+        ensures { IfOk result (λ name. name ≡ self.now) }
+    {
+        Ok(Name {
+            bytes: Vec::from_slice(alloc, self.bytes())?,
+        })
+    }
+}
+
+impl From<Vec<u8>> for Name {
+    ghost use Rattle.std.specs.Prelude.{◌≡◌};
+
+    ghost from_gives = { λ bytes name. name ≡ bytes.items };
+
+    fn from(bytes: Vec<u8>) -> Name {
+        Name { bytes }
+    }
+}
+
+/// A tree and the name that it is known by. Buffer 0 of a session is the document, and the others are styles.
+#[derive(Drop)]
+pub struct Buffer {
+    pub name: Name,
+    pub tree: Tree,
+}

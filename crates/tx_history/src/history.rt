@@ -1,0 +1,128 @@
+// Two rings of entries.
+ghost use Rattle.std.specs.Prelude.{◌≡◌, ◌+◌, ◌<◌, ◌≤◌, ◌++◌, ◌∷◌, [], length, if◌then◌else◌, IfOk, IfErr, MatchResult};
+ghost use Rattle.tx_history.specs.Lists.{newest};
+
+use crate::entries::{Entry, Nothing};
+use circular_buffer::HeapCircularBuffer;
+use std::alloc::Global;
+use std::marker::Model;
+use tx_base::Memory;
+
+/// The edits that can be undone and redone.
+#[derive(Drop)]
+pub struct History {
+    past: HeapCircularBuffer<Entry>,
+    future: HeapCircularBuffer<Entry>,
+    depth: usize,
+}
+
+impl Model for History {
+    ghost use Rattle.tx_history.specs.Lists.{Lists};
+    ghost use Rattle.tx_history.specs.Codes.{lists_code};
+
+    ghost Value = { Lists };
+
+    ghost coded = { lists_code };
+
+    ghost use Rattle.tx_history.specs.Rings.{AreRings};
+
+    ghost view = { λ h. record { past = h.past.items; future = h.future.items; depth = h.depth } };
+
+    ghost invariant = { AreRings };
+}
+
+impl History {
+    /// No entries, with room for so many. It takes all the memory that the history needs.
+    pub fn new(alloc: Global, depth: usize) -> Result<History, Memory>
+        requires { 1 ≤ depth }
+        ensures { IfOk result (λ h. h ≡ record { past = []; future = []; depth = depth }) }
+    {
+        Ok(History {
+            past: HeapCircularBuffer::with_capacity(alloc, depth)?,
+            future: HeapCircularBuffer::with_capacity(alloc, depth)?,
+            depth,
+        })
+    }
+
+    /// Puts the entry of a new edit behind the past, drops the oldest where there are more than the depth, and
+    /// empties the future.
+    pub fn done(&mut self, entry: Entry)
+        ensures past { self.new.past ≡ newest self.old.depth (self.old.past ++ entry ∷ []) }
+        ensures future { self.new.future ≡ [] }
+        ensures depth { self.new.depth ≡ self.old.depth }
+    {
+        self.future.clear();
+        self.past.push_back(entry);
+    }
+
+    /// Takes the last entry of the past. `Nothing` comes exactly where there is none, and changes nothing.
+    #[tactic(auto, using(crate::proofs::Ends::with_last, crate::proofs::Ends::without_last, std::proofs::lemmas::Grind::common_steps))]
+    pub fn undo(&mut self) -> Result<Entry, Nothing>
+        ensures taken { IfOk result (λ entry. self.old.past ≡ self.new.past ++ entry ∷ []) }
+        ensures nothing { IfErr result (λ _. (self.old.past ≡ []) × (self.new.past ≡ [])) }
+        ensures future { self.new.future ≡ self.old.future }
+        ensures depth { self.new.depth ≡ self.old.depth }
+    {
+        match self.past.pop_back() {
+            Some(entry) => Ok(entry),
+            None => Err(Nothing),
+        }
+    }
+
+    /// Takes the last entry of the future. `Nothing` comes exactly where there is none, and changes nothing.
+    #[tactic(auto, using(crate::proofs::Ends::with_last, crate::proofs::Ends::without_last, std::proofs::lemmas::Grind::common_steps))]
+    pub fn redo(&mut self) -> Result<Entry, Nothing>
+        ensures taken { IfOk result (λ entry. self.old.future ≡ self.new.future ++ entry ∷ []) }
+        ensures nothing { IfErr result (λ _. (self.old.future ≡ []) × (self.new.future ≡ [])) }
+        ensures past { self.new.past ≡ self.old.past }
+        ensures depth { self.new.depth ≡ self.old.depth }
+    {
+        match self.future.pop_back() {
+            Some(entry) => Ok(entry),
+            None => Err(Nothing),
+        }
+    }
+
+    /// Puts the entry of an edit that was undone behind the future.
+    pub fn undone(&mut self, entry: Entry)
+        requires { length self.old.past + length self.old.future < self.old.depth }
+        ensures future { self.new.future ≡ self.old.future ++ entry ∷ [] }
+        ensures past { self.new.past ≡ self.old.past }
+        ensures depth { self.new.depth ≡ self.old.depth }
+    {
+        self.future.push_back(entry);
+    }
+
+    /// Puts the entry of an edit that was made again behind the past.
+    pub fn redone(&mut self, entry: Entry)
+        requires { length self.old.past + length self.old.future < self.old.depth }
+        ensures past { self.new.past ≡ self.old.past ++ entry ∷ [] }
+        ensures future { self.new.future ≡ self.old.future }
+        ensures depth { self.new.depth ≡ self.old.depth }
+    {
+        self.past.push_back(entry);
+    }
+
+    /// Puts back an entry that was taken and could not be applied: behind the past, or behind the future where
+    /// `past` is false.
+    pub fn keep(&mut self, entry: Entry, past: bool)
+        requires { length self.old.past + length self.old.future < self.old.depth }
+        ensures past { self.new.past ≡ (if past then self.old.past ++ entry ∷ [] else self.old.past) }
+        ensures future { self.new.future ≡ (if past then self.old.future else self.old.future ++ entry ∷ []) }
+        ensures depth { self.new.depth ≡ self.old.depth }
+    {
+        if past {
+            self.redone(entry);
+        } else {
+            self.undone(entry);
+        }
+    }
+
+    /// How many entries the past and the future have together: at most the depth.
+    pub fn len(&self) -> usize
+        ensures len { result ≡ length self.now.past + length self.now.future }
+        ensures within { length self.now.past + length self.now.future ≤ self.now.depth }
+    {
+        self.past.len() + self.future.len()
+    }
+}

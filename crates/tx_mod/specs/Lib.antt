@@ -1,0 +1,6 @@
+pub mod Mods
+pub mod Changes
+pub mod Inverses
+pub mod Moves
+pub mod Measures
+pub mod Sound

@@ -1,0 +1,23 @@
+-- Modifications whose parts are well formed.
+use Rattle.std.specs.Prelude.{◌≡◌, Ok}
+use Rattle.tx_tree.specs.Limits.{IsWellFormed, IsWithinLimits}
+use Rattle.tx_tree.specs.WideTree.{WideTree}
+use Rattle.tx_mod.specs.declared.mods.Mod.{Mod}
+use Rattle.tx_mod.specs.declared.mods.Mod.TheVariants.{Assign, Insert, Remove, Split, Join, AssignNode, InsertNode, RemoveNode}
+use Rattle.tx_mod.specs.Changes.{changed}
+use Rattle.tx_mod.specs.Inverses.{inverse_of}
+
+-- a tree that is put in is well formed
+abbrev pub IsSound : Mod → Type 0
+IsSound (Assign p x) = IsWellFormed x
+IsSound (Insert p i x) = IsWellFormed x
+IsSound (Remove p i n) = Unit {0}
+IsSound (Split p i j) = Unit {0}
+IsSound (Join p i) = Unit {0}
+IsSound (AssignNode p l) = Unit {0}
+IsSound (InsertNode p i x) = IsWellFormed x
+IsSound (RemoveNode p i) = Unit {0}
+
+-- what undoes a modification gives the tree back
+abbrev pub GivesBack : Mod → WideTree → Type 0
+GivesBack m t = (u : WideTree) → IsSound m → IsWellFormed t → IsWithinLimits t → changed m t ≡ Ok u → changed (inverse_of m t) u ≡ Ok t

@@ -1,0 +1,84 @@
+// Whether a modification makes something of a tree, what it makes, and what undoes it.
+ghost use Rattle.std.specs.Prelude.{◌≡◌, ◌≤◌, ◌+◌, length, Ok, Err, IsOk, IfOk, OnOk, IfErr};
+ghost use Rattle.tx_mod.specs.Mods.{path_of};
+ghost use Rattle.tx_mod.specs.Changes.{changed, IsRefusal};
+ghost use Rattle.tx_mod.specs.Inverses.{inverse_of};
+
+use crate::faults::{ApplyFault, ModFault};
+use crate::making::rebuilt;
+use crate::measures::measured;
+use crate::mods::Mod;
+use crate::remaking::remade;
+use crate::undoing::undone;
+use crate::walks::{depth_with, find};
+use std::alloc::Global;
+use std::sync::ledger::Ledger;
+use tx_base::Steps;
+use tx_tree::{MOST_ARITY, MOST_DEPTH, MOST_SIZE, MOST_TEXT, Tree};
+
+/// Whether the modification makes a tree within the limits of this one, and if not, the first cause why.
+pub fn applicable(t: &Tree, m: &Mod) -> Result<(), ModFault>
+    ensures ok { OnOk result (IsOk (changed m.now t.now)) }
+    ensures refused { IfErr result (λ cause. changed m.now t.now ≡ Err cause) }
+{
+    let whole = t.size();
+    let path = m.path();
+    let s = find(t, path)?;
+    let made = measured(s, m)?;
+    if made.text > MOST_TEXT as u64 {
+        return Err(ModFault::TooLong(made.text));
+    }
+    if made.arity > MOST_ARITY as u64 {
+        return Err(ModFault::TooWide(made.arity));
+    }
+    let depth = depth_with(t, path, made.depth);
+    if depth > u64::from(MOST_DEPTH) {
+        return Err(ModFault::TooDeep(depth));
+    }
+    let size = whole - s.size() + made.size;
+    if size > MOST_SIZE {
+        return Err(ModFault::TooBig(size));
+    }
+    Ok(())
+}
+
+#[tactic(auto, using(crate::proofs::Whole::change_within, crate::proofs::Whole::change_is, crate::proofs::Whole::no_change, std::proofs::lemmas::Grind::common_steps))]
+/// The changed tree. Each subtree off the path is shared with the tree, which stays.
+pub fn apply<L: Ledger>(
+    alloc: Global,
+    t: &Tree,
+    m: &Mod,
+    steps: &mut Steps<L>,
+) -> Result<Tree, ApplyFault>
+    ensures ok { IfOk result (λ u. changed m.now t.now ≡ Ok u) }
+    ensures refused { IfErr result (IsRefusal (changed m.now t.now)) }
+    ensures counted { steps.new ≤ steps.old + (length (path_of m.now) + 3) }
+{
+    applicable(t, m)?;
+    let path = m.path();
+    let Some(s) = t.at(path) else {
+        unreachable!();
+    };
+    let new = remade(alloc, s, m, steps)?;
+    Ok(rebuilt(alloc, t, path.steps(), new, steps)?)
+}
+
+#[tactic(auto, using(crate::proofs::Whole::inverse_is, crate::proofs::Whole::no_change, std::proofs::lemmas::Grind::common_steps))]
+/// The modification that gives this tree back from the changed one.
+pub fn inverse<L: Ledger>(
+    alloc: Global,
+    t: &Tree,
+    m: &Mod,
+    steps: &mut Steps<L>,
+) -> Result<Mod, ApplyFault>
+    ensures ok { IfOk result (λ n. n ≡ inverse_of m.now t.now) }
+    ensures applies { OnOk result (IsOk (changed m.now t.now)) }
+    ensures refused { IfErr result (IsRefusal (changed m.now t.now)) }
+    ensures counted { steps.new ≤ steps.old + 1 }
+{
+    applicable(t, m)?;
+    let Some(s) = t.at(m.path()) else {
+        unreachable!();
+    };
+    Ok(undone(alloc, s, m, steps)?)
+}

@@ -1,0 +1,21 @@
+//! Modifications of a tree: the eight kinds, what each makes of a tree, and the modification that undoes it.
+//!
+//! What a modification makes of a tree, or why it makes nothing of it, is `changed` of `specs/Changes.antt`, and the
+//! modification that gives the tree back is `inverse_of` of `specs/Inverses.antt`.
+#![tactic(auto)]
+
+mod applying;
+mod faults;
+mod laws;
+mod making;
+mod measures;
+mod mods;
+mod parts;
+mod remaking;
+mod undoing;
+mod walks;
+
+pub use applying::{applicable, apply, inverse};
+pub use faults::{ApplyFault, ModFault};
+pub use laws::inverse_law;
+pub use mods::Mod;

@@ -1,0 +1,142 @@
+// Making of trees that are known to be within the limits.
+ghost use Rattle.std.specs.Prelude.{◌≡◌, ◌+◌, ◌++◌, ◌≤◌, ◌<◌, length, IfOk, OnOk, IsSome, IsSomeAnd, Some, MatchOption, [], ◌∷◌, take, drop};
+ghost use Rattle.tx_tree.specs.Limits.{IsWithinLimits};
+ghost use Rattle.tx_tree.specs.Paths.{subtree};
+ghost use Rattle.tx_tree.specs.Texts.{IsText};
+ghost use Rattle.tx_tree.specs.WideTree.{leaf, node, forest, children_of};
+ghost use Rattle.tx_mod.specs.Mods.{replaced, with_child};
+
+use crate::parts::{Parts, parts_of};
+use std::alloc::Global;
+use std::sync::ledger::Ledger;
+use tx_base::{Memory, Steps};
+use tx_tree::{Label, MOST_TEXT, Text, TextFault, Tree, TreeFault};
+
+// The leaf of a text.
+#[tactic(auto, using(crate::proofs::Built::sound, std::proofs::lemmas::Grind::common_steps))]
+pub(crate) fn leaf_of(alloc: Global, bytes: &[u8]) -> Result<Tree, Memory>
+    requires text { IsText bytes.now }
+    requires short { length bytes.now ≤ MOST_TEXT }
+    ensures { IfOk result (λ t. t ≡ leaf bytes.now) }
+{
+    match Text::new(alloc, bytes) {
+        Ok(text) => Tree::leaf(alloc, text),
+        Err(TextFault::Memory) => Err(Memory),
+        Err(_) => unreachable!(),
+    }
+}
+
+// The node of this label and these children.
+#[tactic(auto, using(crate::proofs::Built::sound, std::proofs::lemmas::Grind::common_steps))]
+pub(crate) fn node_of<L: Ledger>(
+    alloc: Global,
+    label: &Label,
+    children: Vec<Tree>,
+    steps: &mut Steps<L>,
+) -> Result<Tree, Memory>
+    requires { IsWithinLimits (node label.now (forest children.items)) }
+    ensures made { IfOk result (λ t. t ≡ node label.now (forest children.items)) }
+    ensures counted { steps.new ≤ steps.old + 1 }
+{
+    let label = label.copy()?;
+    match Tree::node(alloc, label, children, steps) {
+        Ok(tree) => Ok(tree),
+        Err(TreeFault::Memory) => Err(Memory),
+        Err(_) => unreachable!(),
+    }
+}
+
+// Adds shares of the trees at the end.
+pub(crate) fn share_onto(into: &mut Vec<Tree>, trees: &[Tree]) -> Result<(), Memory>
+    ensures { OnOk result (into.new.items ≡ into.old.items ++ trees.now) }
+{
+    for tree in trees {
+        into.push(tree.share()?)?;
+    }
+    Ok(())
+}
+
+// Shares of the trees.
+pub(crate) fn shares(alloc: Global, trees: &[Tree]) -> Result<Vec<Tree>, Memory>
+    ensures { IfOk result (λ v. v.items ≡ trees.now) }
+{
+    let mut all = Vec::new(alloc);
+    share_onto(&mut all, trees)?;
+    Ok(all)
+}
+
+// The trees before place `from`, shares of others, and the trees from place `to` on.
+#[tactic(auto, using(crate::proofs::Built::spliced_items, std::proofs::lemmas::Grind::common_steps))]
+pub(crate) fn spliced(
+    alloc: Global,
+    trees: &[Tree],
+    from: usize,
+    to: usize,
+    others: &[Tree],
+) -> Result<Vec<Tree>, Memory>
+    requires order { from ≤ to }
+    requires there { to ≤ length trees.now }
+    ensures { IfOk result (λ v. v.items ≡ take from trees.now ++ others.now ++ drop to trees.now) }
+{
+    let mut all = Vec::new(alloc);
+    share_onto(&mut all, &trees[..from])?;
+    share_onto(&mut all, others)?;
+    share_onto(&mut all, &trees[to..])?;
+    Ok(all)
+}
+
+// The tree with another child in place of its child i.
+#[tactic(auto, using(crate::proofs::Built::with_child_seen, crate::proofs::Built::with_child_within, crate::proofs::Built::children_seen, std::proofs::lemmas::Grind::common_steps))]
+fn with_child<L: Ledger>(
+    alloc: Global,
+    t: &Tree,
+    i: u32,
+    child: Tree,
+    steps: &mut Steps<L>,
+) -> Result<Tree, Memory>
+    requires there { i < length (children_of t.now) }
+    requires within { IsWithinLimits (with_child t.now i child) }
+    ensures made { IfOk result (λ u. u ≡ with_child t.now i child) }
+    ensures counted { steps.new ≤ steps.old + 1 }
+{
+    let Parts::Node(label, children) = parts_of(t) else {
+        unreachable!();
+    };
+    let i = i as usize;
+    let all = spliced(alloc, children, i, i + 1, &[child])?;
+    node_of(alloc, label, all, steps)
+}
+
+// The first number of a path, and the others.
+fn first_step(path: &[u32]) -> Option<(u32, &[u32])>
+    ensures { MatchOption result (path.now ≡ []) (λ p. path.now ≡ p.0 ∷ p.1.now) }
+{
+    match path {
+        [] => None,
+        [i, rest @ ..] => Some((*i, rest)),
+    }
+}
+
+// The tree with another subtree where the path leads. It shares all other subtrees.
+#[tactic(auto, using(crate::proofs::Built::leads_down, crate::proofs::Built::within_down, crate::proofs::Built::replaced_first, crate::proofs::Lists::get_within, std::proofs::lemmas::Grind::common_steps))]
+pub(crate) fn rebuilt<L: Ledger>(
+    alloc: Global,
+    t: &Tree,
+    path: &[u32],
+    new: Tree,
+    steps: &mut Steps<L>,
+) -> Result<Tree, Memory>
+    requires leads { IsSome (subtree t.now path.now) }
+    requires within { IsWithinLimits (replaced t.now path.now new) }
+    ensures made { IfOk result (λ u. u ≡ replaced t.now path.now new) }
+    ensures counted { steps.new ≤ steps.old + length path.now }
+{
+    let Some((i, rest)) = first_step(path) else {
+        return Ok(new);
+    };
+    let Some(child) = t.child(i) else {
+        unreachable!();
+    };
+    let child = rebuilt(alloc, child, rest, new, steps)?;
+    with_child(alloc, t, i, child, steps)
+}

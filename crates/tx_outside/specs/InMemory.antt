@@ -1,0 +1,44 @@
+-- What contracts see of a source, a sink and a store in memory.
+use Rattle.std.specs.Prelude.{ℕ, List, Contains}
+use Rattle.tx_outside.specs.Counts.{raised}
+use Rattle.tx_outside.specs.Files.{Files}
+
+-- the calls of one object: the numbers of those that fail, the number of the next one, and how many failed
+pub record CallsMade : Type 0 where
+  pub failing : List ℕ
+  pub next : ℕ
+  pub faults : ℕ
+
+-- the next call is one of those that fail
+abbrev pub NextFails : CallsMade → Type 0
+NextFails calls = Contains calls.failing calls.next
+
+-- no call was made yet
+abbrev pub no_calls : List ℕ → CallsMade
+no_calls failing = record { failing = failing; next = 0; faults = 0 }
+
+-- one call more
+abbrev pub one_more : CallsMade → CallsMade
+one_more calls = record calls { next = raised calls.next }
+
+-- one call more, and it failed
+abbrev pub one_failed : CallsMade → CallsMade
+one_failed calls = record calls { next = raised calls.next; faults = raised calls.faults }
+
+-- a source: the bytes that are left, and its calls
+pub record MemorySource : Type 0 where
+  pub left : List ℕ
+  pub calls : CallsMade
+
+-- a sink: the bytes that were written, how many it takes at most, and its calls
+pub record MemorySink : Type 0 where
+  pub written : List ℕ
+  pub room : ℕ
+  pub calls : CallsMade
+
+-- a store: its files, its calls, and how many of the files asked for were missing or too long
+pub record MemoryStore : Type 0 where
+  pub files : Files
+  pub calls : CallsMade
+  pub misses : ℕ
+  pub longs : ℕ

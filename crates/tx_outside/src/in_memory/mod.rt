@@ -1,0 +1,13 @@
+// A source, a sink and a store that are kept in memory. They tell all that they hold, and fail at the
+// calls that they are told to.
+mod call_numbers;
+mod file_list;
+mod mem_sink;
+mod mem_source;
+mod mem_store;
+mod stored_file;
+
+pub use mem_sink::MemSink;
+pub use mem_source::MemSource;
+pub use mem_store::MemStore;
+pub use stored_file::StoredFile;

@@ -1,0 +1,24 @@
+//! The outside as values behind three traits: a `Source` of bytes, a `Sink` of bytes, and a `Store` of
+//! files.
+//!
+//! What contracts know of an implementation are its ghost members: the contents, which it may leave
+//! untold, and counts of what went wrong. So the meaning of an answer is a relation between the
+//! contents before and after the call (`append_known` and `prepend_known` of std, `WithFile` and
+//! `OthersKept` of `specs/Files.antt`), and the cause of a fault is a count that rose (`Rose` of
+//! `specs/Counts.antt`). `write_all` writes a whole piece. `MemSource`, `MemSink` and `MemStore` are
+//! the three in memory: they tell all contents, and fail exactly where they are asked to.
+#![tactic(auto)]
+
+mod byte_sink;
+mod byte_source;
+mod faults;
+mod file_store;
+mod in_memory;
+#[cfg(test)]
+mod tests;
+
+pub use byte_sink::{Sink, write_all};
+pub use byte_source::Source;
+pub use faults::{Failed, LoadFault, SaveFault, WriteFault};
+pub use file_store::{MOST_FILE, Store};
+pub use in_memory::{MemSink, MemSource, MemStore, StoredFile};

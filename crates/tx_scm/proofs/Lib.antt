@@ -1,0 +1,13 @@
+pub mod Writing
+pub mod ByteKinds
+pub mod Bounded
+pub mod Complete
+pub mod Sound
+pub mod Naming
+pub mod Keeping
+pub mod Counting
+pub mod Runs
+pub mod Exact
+pub mod Spelled
+pub mod Recognised
+pub mod Places

@@ -1,0 +1,15 @@
+use Rattle.std.proofs.Common.{◌≡◌, ◌≤◌, ◌-◌, [], length, drop}
+use Rattle.tx_scm.specs.Machine.{between, reads}
+use Rattle.tx_scm.specs.States.{state_of, IsCounted}
+use Rattle.tx_scm.proofs.reader.read_all.Given as goal
+
+abbrev pub decreases-loop-at : goal.decreases-loop-at
+decreases-loop-at g l = length l.bytes - l.at
+
+abbrev pub invariant-loop-at : goal.invariant-loop-at
+invariant-loop-at g l =
+    record {
+      same : reads (between []) l.bytes ≡ reads (state_of l.state) (drop l.at l.bytes);
+      counted : IsCounted l.fn.steps l.steps (state_of l.state);
+      rises : l.fn.steps ≤ l.steps;
+    }

@@ -1,0 +1,4 @@
+use Rattle.tx_session.proofs.tests.faults_of_the_outside.Given as goal
+
+abbrev pub ghosts-ended : goal.ghosts-ended
+ghosts-ended g a = record { name = a.blank.name; parts = a.blank.parts }

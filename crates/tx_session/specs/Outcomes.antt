@@ -1,0 +1,88 @@
+-- What a run comes to, from its words and the files.
+use Rattle.std.specs.Prelude.{◌≡◌, ◌^◌, Bool, ◌<◌, ◌≤◌, ℕ, true, false, if◌then◌else◌, List, [], ◌∷◌, ◌++◌, length, codes, Option, Some, None, IfSome, IsSomeAnd}
+use Rattle.tx_outside.specs.Files.{Files, file_of}
+use Rattle.tx_tree.specs.WideTree.{WideTree}
+use Rattle.tx_tree.specs.Limits.{IsWithinLimits}
+use Rattle.tx_scm.specs.Spelling.{Spells}
+use Rattle.tx_scm.specs.Canonical.{scheme_text}
+use Rattle.tx_session.specs.declared.status.Status.{Status}
+use Rattle.tx_session.specs.declared.status.Status.TheVariants as statuses
+use Rattle.tx_session.specs.Names.{buffer_name, is_scheme_name}
+
+pub data Outcome : Type 0 where
+  faulty_words : Outcome
+  other_form : (file : List ℕ) → Outcome
+  missing : (file : List ℕ) → Outcome
+  too_long : (file : List ℕ) → Outcome
+  no_tree : (file : List ℕ) → Outcome
+  store_fault : (file : List ℕ) → Outcome
+  no_memory : Outcome
+  shown : (tree : WideTree) → Outcome
+
+abbrev pub is_nothing : List ℕ → Bool
+is_nothing [] = true
+is_nothing (b ∷ bytes) = false
+
+-- the file that the words name, where they are the program's name and a file with a buffer's name
+abbrev pub file_in : List (List ℕ) → Option (List ℕ)
+file_in (program ∷ file ∷ []) = if is_nothing (buffer_name file) then None else Some file
+file_in _ = None
+
+-- the words name this file, and it is to be read in the Scheme syntax
+abbrev pub Asks : List (List ℕ) → List ℕ → Type 0
+Asks words file = (file_in words ≡ Some file) × (is_scheme_name file ≡ true)
+
+-- no tree within the limits is spelled
+abbrev pub SpellsNoTree : List ℕ → Type 0
+SpellsNoTree bytes = (t : WideTree) → IsWithinLimits t → Spells bytes t → ⊥
+
+-- the file has these bytes, as far as the files are known
+abbrev pub Holds : Option Files → List ℕ → List ℕ → Type 0
+Holds files file bytes = IfSome files (λ all. file_of all file ≡ Some bytes)
+
+-- What the words and the files come to. A fault of the store and want of memory may come wherever the store or memory
+-- is asked.
+abbrev pub ComesTo : List (List ℕ) → Option Files → Outcome → Type 0
+ComesTo words files faulty_words = file_in words ≡ None
+ComesTo words files (other_form file) = (file_in words ≡ Some file) × (is_scheme_name file ≡ false)
+ComesTo words files (missing file) = Asks words file × IfSome files (λ all. file_of all file ≡ None)
+ComesTo words files (too_long file) = Asks words file × IfSome files (λ all. IsSomeAnd (file_of all file) (λ bytes. 2 ^ 24 < length bytes))
+ComesTo words files (no_tree file) = Asks words file × ((bytes : List ℕ) × Holds files file bytes × (length bytes ≤ 2 ^ 24) × SpellsNoTree bytes)
+ComesTo words files (store_fault file) = Asks words file
+ComesTo words files no_memory = (file : List ℕ) × (file_in words ≡ Some file)
+ComesTo words files (shown t) =
+    (file : List ℕ) × Asks words file × ((bytes : List ℕ) × Holds files file bytes × (length bytes ≤ 2 ^ 24) × Spells bytes t × IsWithinLimits t)
+
+abbrev pub status_of : Outcome → Status
+status_of faulty_words = statuses.Words
+status_of (other_form file) = statuses.Refused
+status_of (missing file) = statuses.Missing
+status_of (too_long file) = statuses.Refused
+status_of (no_tree file) = statuses.Refused
+status_of (store_fault file) = statuses.StoreFault
+status_of no_memory = statuses.NoMemory
+status_of (shown t) = statuses.Ok
+
+-- a line ends with byte 10
+abbrev pub line : List ℕ → List ℕ
+line text = text ++ 10 ∷ []
+
+abbrev pub usage : List ℕ
+usage = codes "usage: tmx [--width N] [--height N] FILE [STYLE]..."
+
+-- what is written
+abbrev pub text_of : Outcome → List ℕ
+text_of faulty_words = line usage
+text_of (other_form file) = line (codes "refused " ++ (file ++ codes " other-form"))
+text_of (missing file) = line (codes "missing " ++ file)
+text_of (too_long file) = line (codes "refused " ++ (file ++ codes " long"))
+text_of (no_tree file) = line (codes "refused " ++ file)
+text_of (store_fault file) = line (codes "store " ++ file)
+text_of no_memory = line (codes "memory")
+text_of (shown t) = line (scheme_text t)
+
+-- neither a fault of the store nor want of memory
+abbrev pub IsDecided : Outcome → Type 0
+IsDecided (store_fault file) = ⊥
+IsDecided no_memory = ⊥
+IsDecided _ = Unit {0}

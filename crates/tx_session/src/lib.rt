@@ -1,0 +1,15 @@
+//! The session: the top call `run` of the program, over a store of files, an input and an output.
+//!
+//! What a run comes to is `ComesTo` (`specs/Outcomes.antt`), a relation between its words, the files and its
+//! outcome; each outcome has its status and its text there. `run` answers that status and writes that text.
+#![tactic(auto)]
+
+mod names;
+mod opening;
+mod runs;
+mod status;
+#[cfg(test)]
+mod tests;
+
+pub use runs::{one_outcome, run};
+pub use status::Status;

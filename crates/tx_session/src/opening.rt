@@ -1,0 +1,142 @@
+// The file that the words name, loaded and read.
+ghost use Rattle.std.specs.Prelude.{◌≡◌, ◌≢◌, ◌↔◌, IsTrue, List, ℕ, map, None, Some, [], ◌++◌, IfOk, MatchOption};
+ghost use Rattle.std.specs.String.{string_bytes};
+ghost use Rattle.tx_outside.specs.Counts.{NeverFalls, Rose};
+ghost use Rattle.tx_scm.specs.Canonical.{scheme_text};
+ghost use Rattle.tx_session.specs.Outcomes.{ComesTo, file_in, line, status_of, text_of, too_long, faulty_words};
+ghost use Rattle.tx_session.specs.Openings.{outcome_of};
+
+use crate::names::{buffer_name, is_scheme_name};
+use crate::status::Status;
+use std::alloc::Global;
+use std::sync::ledger::Ledger;
+use tx_base::{Memory, Steps};
+use tx_outside::{LoadFault, Store};
+use tx_tree::{ReadFault, Tree};
+
+/// How the program is called, as a line.
+pub(crate) const USAGE: &[u8] = b"usage: tmx [--width N] [--height N] FILE [STYLE]...\n";
+
+/// What opening the file came to.
+#[derive(Drop)]
+pub(crate) enum Opening<'a> {
+    FaultyWords,
+    OtherForm(&'a [u8]),
+    Missing(&'a [u8]),
+    TooLong(&'a [u8]),
+    NoTree(&'a [u8]),
+    StoreFault(&'a [u8]),
+    NoMemory,
+    Shown(Tree),
+}
+
+// The file that the words name: they are the program's name and a file with a buffer's name.
+fn file_word(words: &[String]) -> Option<&[u8]>
+    ensures { MatchOption result (file_in (map string_bytes words.now) ≡ None) (λ file. file_in (map string_bytes words.now) ≡ Some file.now) }
+{
+    if words.len() != 2 {
+        return None;
+    }
+    let file = words[1].as_bytes();
+    if buffer_name(file).is_empty() {
+        return None;
+    }
+    Some(file)
+}
+
+/// Finds the file that the words name, loads it, and reads it.
+pub(crate) fn open<'a, S: Store, L: Ledger>(
+    alloc: Global,
+    words: &'a [String],
+    store: &mut S,
+    steps: &mut Steps<L>,
+) -> Opening<'a>
+    ensures comes { ComesTo (map string_bytes words.now) (S.files store.old) (outcome_of result) }
+    ensures missing_counted { status_of (outcome_of result) ≡ Status.Missing → Rose (S.misses store.old) (S.misses store.new) }
+    ensures fault_counted { status_of (outcome_of result) ≡ Status.StoreFault → Rose (S.faults store.old) (S.faults store.new) }
+    ensures long_counted { (file : List ℕ) → outcome_of result ≡ too_long file → Rose (S.longs store.old) (S.longs store.new) }
+    ensures files_kept { S.files store.new ≡ S.files store.old }
+    ensures faults_never_fall { NeverFalls (S.faults store.old) (S.faults store.new) }
+    ensures misses_never_fall { NeverFalls (S.misses store.old) (S.misses store.new) }
+    ensures longs_never_fall { NeverFalls (S.longs store.old) (S.longs store.new) }
+{
+    let Some(file) = file_word(words) else {
+        return Opening::FaultyWords;
+    };
+    if !is_scheme_name(file) {
+        return Opening::OtherForm(file);
+    }
+    let mut bytes = Vec::new(alloc);
+    match store.load(file, &mut bytes) {
+        Ok(()) => match tx_scm::read(alloc, &bytes, steps) {
+            Ok(tree) => Opening::Shown(tree),
+            Err(ReadFault::NoTree) => Opening::NoTree(file),
+            Err(ReadFault::Memory) => Opening::NoMemory,
+        },
+        Err(LoadFault::Missing) => Opening::Missing(file),
+        Err(LoadFault::TooLong) => Opening::TooLong(file),
+        Err(LoadFault::Failed) => Opening::StoreFault(file),
+        Err(LoadFault::Memory) => Opening::NoMemory,
+    }
+}
+
+// A line: a word, the file and the rest.
+fn line_of(alloc: Global, word: &[u8], file: &[u8], rest: &[u8]) -> Result<Vec<u8>, Memory>
+    ensures { IfOk result (λ text. text.items ≡ line (word.now ++ (file.now ++ rest.now))) }
+{
+    let mut text = Vec::from_slice(alloc, word)?;
+    text.extend_from_slice(file)?;
+    text.extend_from_slice(rest)?;
+    text.push(b'\n')?;
+    Ok(text)
+}
+
+// The canonical text of a tree, as a line.
+fn tree_line(alloc: Global, tree: &Tree) -> Result<Vec<u8>, Memory>
+    ensures { IfOk result (λ text. text.items ≡ line (scheme_text tree.now)) }
+{
+    let mut text = Vec::new(alloc);
+    tx_scm::write(tree, &mut text)?;
+    text.push(b'\n')?;
+    Ok(text)
+}
+
+impl Opening<'_> {
+    /// Whether the words name no file.
+    pub(crate) fn has_faulty_words(&self) -> bool
+        ensures { IsTrue result ↔ (outcome_of self.now ≡ faulty_words) }
+    {
+        matches!(self, Opening::FaultyWords)
+    }
+
+    /// The status of the run.
+    pub(crate) fn status(&self) -> Status
+        ensures status { result ≡ status_of (outcome_of self.now) }
+        ensures no_output_fault { result ≢ Status.OutputFault }
+    {
+        match self {
+            Opening::FaultyWords => Status::Words,
+            Opening::OtherForm(_) | Opening::TooLong(_) | Opening::NoTree(_) => Status::Refused,
+            Opening::Missing(_) => Status::Missing,
+            Opening::StoreFault(_) => Status::StoreFault,
+            Opening::NoMemory => Status::NoMemory,
+            Opening::Shown(_) => Status::Ok,
+        }
+    }
+
+    /// What the run writes.
+    pub(crate) fn text(&self, alloc: Global) -> Result<Vec<u8>, Memory>
+        ensures { IfOk result (λ text. text.items ≡ text_of (outcome_of self.now)) }
+    {
+        match self {
+            Opening::FaultyWords => Ok(Vec::from_slice(alloc, USAGE)?),
+            Opening::OtherForm(file) => line_of(alloc, b"refused ", file, b" other-form"),
+            Opening::Missing(file) => line_of(alloc, b"missing ", file, b""),
+            Opening::TooLong(file) => line_of(alloc, b"refused ", file, b" long"),
+            Opening::NoTree(file) => line_of(alloc, b"refused ", file, b""),
+            Opening::StoreFault(file) => line_of(alloc, b"store ", file, b""),
+            Opening::NoMemory => line_of(alloc, b"memory", b"", b""),
+            Opening::Shown(tree) => tree_line(alloc, tree),
+        }
+    }
+}

@@ -1,0 +1,45 @@
+// How a run ends.
+ghost use Rattle.std.specs.Prelude.{◌≡◌};
+ghost use Rattle.tx_session.specs.Statuses.{number_of};
+
+/// How a run of the program ends.
+#[derive(Clone, Copy, Debug, PartialEq, Eq)]
+pub enum Status {
+    /// All was done.
+    Ok,
+    /// The words of the command line aren't taken.
+    Words,
+    /// A file isn't there.
+    Missing,
+    /// A file spells no tree, or is too long.
+    Refused,
+    /// The store failed when a file was loaded.
+    StoreFault,
+    /// The input failed.
+    InputFault,
+    /// The output failed.
+    OutputFault,
+    /// Memory ran out.
+    NoMemory,
+    /// The script is too long.
+    ScriptLong,
+}
+
+impl Status {
+    /// The number with which the program ends: 0 for `Ok`, and from 2 to 9 for the others.
+    pub fn number(self) -> u8
+        ensures { result ≡ number_of self }
+    {
+        match self {
+            Status::Ok => 0,
+            Status::Words => 2,
+            Status::Missing => 3,
+            Status::Refused => 4,
+            Status::StoreFault => 5,
+            Status::InputFault => 6,
+            Status::OutputFault => 7,
+            Status::NoMemory => 8,
+            Status::ScriptLong => 9,
+        }
+    }
+}
