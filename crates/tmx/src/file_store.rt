@@ -1,13 +1,11 @@
 // Files by their paths.
 ghost use Rattle.std.specs.Prelude.{None, ◌≡◌, ◌≤◌, [], length, IfOk};
 
-use std::fs;
+use crate::counts::raised;
 use std::io::{self, ErrorKind, Read};
 use std::rt::Files;
-use std::str;
+use std::{fs, str};
 use tx_outside::{LoadFault, MOST_FILE, SaveFault, Store};
-
-use crate::counts::raised;
 
 // How many bytes are asked for at a time.
 const PIECE: usize = 16_384;

@@ -8,18 +8,16 @@ mod counts;
 mod file_store;
 mod standard;
 
+use file_store::FileStore;
+use standard::{StandardInput, StandardOutput};
 use std::alloc::AllocError;
-use std::env;
-use std::io;
 use std::marker::Brand;
 use std::process::ExitCode;
 use std::rt::{Env, Files};
 use std::sync::ledger::{Blank, Ledger};
+use std::{env, io};
 use tx_base::Steps;
 use tx_session::{Status, run};
-
-use file_store::FileStore;
-use standard::{StandardInput, StandardOutput};
 
 // The words of the command line. Words that can't be had, or are no text, are as faulty as none.
 fn words<R: Env + AllocGlobal>(rt: &R) -> Result<Vec<String>, AllocError> {
@@ -33,7 +31,11 @@ fn words<R: Env + AllocGlobal>(rt: &R) -> Result<Vec<String>, AllocError> {
 }
 
 // Runs the program, with a count of steps that nobody asks for.
-fn run_counted<R: Files + Print + Input + AllocGlobal, L: Ledger>(rt: &R, words: &[String], blank: Blank) -> Status
+fn run_counted<R: Files + Print + Input + AllocGlobal, L: Ledger>(
+    rt: &R,
+    words: &[String],
+    blank: Blank,
+) -> Status
     requires name { blank.name ≡ L.name }
     requires parts { blank.parts ≡ L.parts }
     requires whole { blank.parts ≡ 1 }
@@ -42,7 +44,14 @@ fn run_counted<R: Files + Print + Input + AllocGlobal, L: Ledger>(rt: &R, words:
     let mut store = FileStore::new(rt);
     let mut input = StandardInput::new(rt.reader());
     let mut output = StandardOutput::new(io::writer(rt));
-    run(rt.alloc(), words, &mut store, &mut input, &mut output, &mut steps)
+    run(
+        rt.alloc(),
+        words,
+        &mut store,
+        &mut input,
+        &mut output,
+        &mut steps,
+    )
 }
 
 fn main(rt: HostRuntime) -> ExitCode {

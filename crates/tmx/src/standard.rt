@@ -1,10 +1,9 @@
 // The standard input and output.
 ghost use Rattle.std.specs.Prelude.{◌≡◌, None};
 
+use crate::counts::raised;
 use std::io::{self, Read, Write};
 use tx_outside::{Failed, Sink, Source};
-
-use crate::counts::raised;
 
 /// The standard input. It tells no bytes, and counts its failures.
 #[derive(Drop)]
