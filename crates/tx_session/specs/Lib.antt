@@ -1,5 +1,9 @@
 pub mod Names
 pub mod Statuses
+pub mod Lines
+pub mod Plain
+pub mod Layout
+pub mod Paging
 pub mod Outcomes
 pub mod Openings
 pub mod Runs

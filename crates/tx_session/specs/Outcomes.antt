@@ -7,6 +7,7 @@ use Rattle.tx_scm.specs.Spelling.{Spells}
 use Rattle.tx_scm.specs.Canonical.{scheme_text}
 use Rattle.tx_session.specs.declared.status.Status.{Status}
 use Rattle.tx_session.specs.declared.status.Status.TheVariants as statuses
+use Rattle.tx_session.specs.Lines.{line}
 use Rattle.tx_session.specs.Names.{buffer_name, is_scheme_name}
 
 pub data Outcome : Type 0 where
@@ -62,10 +63,6 @@ status_of (no_tree file) = statuses.Refused
 status_of (store_fault file) = statuses.StoreFault
 status_of no_memory = statuses.NoMemory
 status_of (shown t) = statuses.Ok
-
--- a line ends with byte 10
-abbrev pub line : List ℕ → List ℕ
-line text = text ++ 10 ∷ []
 
 abbrev pub usage : List ℕ
 usage = codes "usage: tmx [--width N] [--height N] FILE [STYLE]..."

@@ -8,6 +8,7 @@ mod names;
 mod opening;
 mod runs;
 mod status;
+mod view;
 #[cfg(test)]
 mod tests;
 

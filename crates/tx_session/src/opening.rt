@@ -3,7 +3,8 @@ ghost use Rattle.std.specs.Prelude.{◌≡◌, ◌≢◌, ◌↔◌, IsTrue, Lis
 ghost use Rattle.std.specs.String.{string_bytes};
 ghost use Rattle.tx_outside.specs.Counts.{NeverFalls, Rose};
 ghost use Rattle.tx_scm.specs.Canonical.{scheme_text};
-ghost use Rattle.tx_session.specs.Outcomes.{ComesTo, file_in, line, status_of, text_of, too_long, faulty_words};
+ghost use Rattle.tx_session.specs.Outcomes.{ComesTo, file_in, status_of, text_of, too_long, faulty_words};
+ghost use Rattle.tx_session.specs.Lines.{line};
 ghost use Rattle.tx_session.specs.Openings.{outcome_of};
 
 use crate::names::{buffer_name, is_scheme_name};
