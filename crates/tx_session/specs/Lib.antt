@@ -4,6 +4,13 @@ pub mod Lines
 pub mod Plain
 pub mod Layout
 pub mod Paging
+pub mod States
+pub mod Replies
+pub mod Scripts
+pub mod Sessions
+pub mod Writing
+pub mod Keeping
 pub mod Outcomes
 pub mod Openings
 pub mod Runs
+pub mod Playing

@@ -1,7 +1,7 @@
 -- The answer of the part that opens the file, as an outcome.
 use Rattle.tx_session.specs.declared.opening.Opening.{Opening}
-use Rattle.tx_session.specs.declared.opening.Opening.TheVariants.{FaultyWords, OtherForm, Missing, TooLong, NoTree, StoreFault, NoMemory, Shown}
-use Rattle.tx_session.specs.Outcomes.{Outcome, faulty_words, other_form, missing, too_long, no_tree, store_fault, no_memory, shown}
+use Rattle.tx_session.specs.declared.opening.Opening.TheVariants.{FaultyWords, OtherForm, Missing, TooLong, NoTree, StoreFault, NoMemory, Opened}
+use Rattle.tx_session.specs.Outcomes.{Outcome, faulty_words, other_form, missing, too_long, no_tree, store_fault, no_memory, opened}
 
 abbrev pub outcome_of : Opening → Outcome
 outcome_of FaultyWords = faulty_words
@@ -11,4 +11,4 @@ outcome_of (TooLong file) = too_long file.now
 outcome_of (NoTree file) = no_tree file.now
 outcome_of (StoreFault file) = store_fault file.now
 outcome_of NoMemory = no_memory
-outcome_of (Shown t) = shown t
+outcome_of (Opened file t) = opened file.now t

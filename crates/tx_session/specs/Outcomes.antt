@@ -1,10 +1,9 @@
--- What a run comes to, from its words and the files.
+-- What opening comes to, from the words and the files.
 use Rattle.std.specs.Prelude.{◌≡◌, ◌^◌, Bool, ◌<◌, ◌≤◌, ℕ, true, false, if◌then◌else◌, List, [], ◌∷◌, ◌++◌, length, codes, Option, Some, None, IfSome, IsSomeAnd}
 use Rattle.tx_outside.specs.Files.{Files, file_of}
 use Rattle.tx_tree.specs.WideTree.{WideTree}
 use Rattle.tx_tree.specs.Limits.{IsWithinLimits}
 use Rattle.tx_scm.specs.Spelling.{Spells}
-use Rattle.tx_scm.specs.Canonical.{scheme_text}
 use Rattle.tx_session.specs.declared.status.Status.{Status}
 use Rattle.tx_session.specs.declared.status.Status.TheVariants as statuses
 use Rattle.tx_session.specs.Lines.{line}
@@ -18,7 +17,7 @@ pub data Outcome : Type 0 where
   no_tree : (file : List ℕ) → Outcome
   store_fault : (file : List ℕ) → Outcome
   no_memory : Outcome
-  shown : (tree : WideTree) → Outcome
+  opened : (file : List ℕ) → (tree : WideTree) → Outcome
 
 abbrev pub is_nothing : List ℕ → Bool
 is_nothing [] = true
@@ -51,9 +50,10 @@ ComesTo words files (too_long file) = Asks words file × IfSome files (λ all. I
 ComesTo words files (no_tree file) = Asks words file × ((bytes : List ℕ) × Holds files file bytes × (length bytes ≤ 2 ^ 24) × SpellsNoTree bytes)
 ComesTo words files (store_fault file) = Asks words file
 ComesTo words files no_memory = (file : List ℕ) × (file_in words ≡ Some file)
-ComesTo words files (shown t) =
-    (file : List ℕ) × Asks words file × ((bytes : List ℕ) × Holds files file bytes × (length bytes ≤ 2 ^ 24) × Spells bytes t × IsWithinLimits t)
+ComesTo words files (opened file t) =
+    Asks words file × ((bytes : List ℕ) × Holds files file bytes × (length bytes ≤ 2 ^ 24) × Spells bytes t × IsWithinLimits t)
 
+-- the status with which opening ends the run, or Ok
 abbrev pub status_of : Outcome → Status
 status_of faulty_words = statuses.Words
 status_of (other_form file) = statuses.Refused
@@ -62,12 +62,12 @@ status_of (too_long file) = statuses.Refused
 status_of (no_tree file) = statuses.Refused
 status_of (store_fault file) = statuses.StoreFault
 status_of no_memory = statuses.NoMemory
-status_of (shown t) = statuses.Ok
+status_of (opened file t) = statuses.Ok
 
 abbrev pub usage : List ℕ
 usage = codes "usage: tmx [--width N] [--height N] FILE [STYLE]..."
 
--- what is written
+-- what is written where no file was opened
 abbrev pub text_of : Outcome → List ℕ
 text_of faulty_words = line usage
 text_of (other_form file) = line (codes "refused " ++ (file ++ codes " other-form"))
@@ -76,7 +76,7 @@ text_of (too_long file) = line (codes "refused " ++ (file ++ codes " long"))
 text_of (no_tree file) = line (codes "refused " ++ file)
 text_of (store_fault file) = line (codes "store " ++ file)
 text_of no_memory = line (codes "memory")
-text_of (shown t) = line (scheme_text t)
+text_of (opened file t) = []
 
 -- neither a fault of the store nor want of memory
 abbrev pub IsDecided : Outcome → Type 0

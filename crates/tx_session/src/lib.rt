@@ -4,13 +4,20 @@
 //! outcome; each outcome has its status and its text there. `run` answers that status and writes that text.
 #![tactic(auto)]
 
+mod kept_line;
 mod names;
 mod opening;
 mod runs;
+mod script;
+mod session;
 mod status;
 mod view;
 #[cfg(test)]
 mod tests;
 
 pub use runs::{one_outcome, run};
+pub use session::{Next, Session};
 pub use status::Status;
+
+/// The most bytes of a script: 2^24.
+pub const MOST_SCRIPT: usize = 16_777_216;

@@ -2,7 +2,6 @@
 ghost use Rattle.std.specs.Prelude.{◌≡◌, ◌≢◌, ◌↔◌, IsTrue, List, ℕ, map, None, Some, [], ◌++◌, IfOk, MatchOption};
 ghost use Rattle.std.specs.String.{string_bytes};
 ghost use Rattle.tx_outside.specs.Counts.{NeverFalls, Rose};
-ghost use Rattle.tx_scm.specs.Canonical.{scheme_text};
 ghost use Rattle.tx_session.specs.Outcomes.{ComesTo, file_in, status_of, text_of, too_long, faulty_words};
 ghost use Rattle.tx_session.specs.Lines.{line};
 ghost use Rattle.tx_session.specs.Openings.{outcome_of};
@@ -28,7 +27,7 @@ pub(crate) enum Opening<'a> {
     NoTree(&'a [u8]),
     StoreFault(&'a [u8]),
     NoMemory,
-    Shown(Tree),
+    Opened(&'a [u8], Tree),
 }
 
 // The file that the words name: they are the program's name and a file with a buffer's name.
@@ -70,7 +69,7 @@ pub(crate) fn open<'a, S: Store, L: Ledger>(
     let mut bytes = Vec::new(alloc);
     match store.load(file, &mut bytes) {
         Ok(()) => match tx_scm::read(alloc, &bytes, steps) {
-            Ok(tree) => Opening::Shown(tree),
+            Ok(tree) => Opening::Opened(file, tree),
             Err(ReadFault::NoTree) => Opening::NoTree(file),
             Err(ReadFault::Memory) => Opening::NoMemory,
         },
@@ -92,28 +91,10 @@ fn line_of(alloc: Global, word: &[u8], file: &[u8], rest: &[u8]) -> Result<Vec<u
     Ok(text)
 }
 
-// The canonical text of a tree, as a line.
-fn tree_line(alloc: Global, tree: &Tree) -> Result<Vec<u8>, Memory>
-    ensures { IfOk result (λ text. text.items ≡ line (scheme_text tree.now)) }
-{
-    let mut text = Vec::new(alloc);
-    tx_scm::write(tree, &mut text)?;
-    text.push(b'\n')?;
-    Ok(text)
-}
-
 impl Opening<'_> {
-    /// Whether the words name no file.
-    pub(crate) fn has_faulty_words(&self) -> bool
-        ensures { IsTrue result ↔ (outcome_of self.now ≡ faulty_words) }
-    {
-        matches!(self, Opening::FaultyWords)
-    }
-
-    /// The status of the run.
+    /// The status with which the run ends, or `Ok` where the file was opened.
     pub(crate) fn status(&self) -> Status
         ensures status { result ≡ status_of (outcome_of self.now) }
-        ensures no_output_fault { result ≢ Status.OutputFault }
     {
         match self {
             Opening::FaultyWords => Status::Words,
@@ -121,11 +102,11 @@ impl Opening<'_> {
             Opening::Missing(_) => Status::Missing,
             Opening::StoreFault(_) => Status::StoreFault,
             Opening::NoMemory => Status::NoMemory,
-            Opening::Shown(_) => Status::Ok,
+            Opening::Opened(_, _) => Status::Ok,
         }
     }
 
-    /// What the run writes.
+    /// What the run writes where no file was opened.
     pub(crate) fn text(&self, alloc: Global) -> Result<Vec<u8>, Memory>
         ensures { IfOk result (λ text. text.items ≡ text_of (outcome_of self.now)) }
     {
@@ -137,7 +118,7 @@ impl Opening<'_> {
             Opening::NoTree(file) => line_of(alloc, b"refused ", file, b""),
             Opening::StoreFault(file) => line_of(alloc, b"store ", file, b""),
             Opening::NoMemory => line_of(alloc, b"memory", b"", b""),
-            Opening::Shown(tree) => tree_line(alloc, tree),
+            Opening::Opened(_, _) => Ok(Vec::new(alloc)),
         }
     }
 }

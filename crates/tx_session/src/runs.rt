@@ -1,20 +1,26 @@
 // The top call.
-ghost use Rattle.std.specs.Prelude.{◌≡◌, ◌⊎◌, ◌≤◌, ◌<◌, ◌≢◌, ◌++◌, ◌∷◌, [], ℕ, map, length, None, Some, true, false, List, is_some};
+ghost use Rattle.std.specs.Prelude.{◌≡◌, ◌⊎◌, ◌≤◌, ◌<◌, ◌≢◌, ◌++◌, ◌∷◌, [], ℕ, map, length, None, Some, true, false, List, Bool, Option, is_some, IfOk, IfSome};
 ghost use Rattle.std.specs.String.{string_bytes};
 ghost use Rattle.std.specs.Io.KnownBytes.{append_known};
 ghost use Rattle.tx_outside.specs.Counts.{NeverFalls, Rose};
 ghost use Rattle.tx_outside.specs.Files.{Files};
 ghost use Rattle.tx_outside.specs.Known.{AppendsPart, StaysKnown};
-ghost use Rattle.tx_session.specs.Outcomes.{file_in, ComesTo, IsDecided, Outcome};
-ghost use Rattle.tx_session.specs.Runs.{CanBeShown, IsRefused, IsRun};
+ghost use Rattle.tx_session.specs.Outcomes.{file_in, ComesTo, IsDecided, Outcome, opened};
+ghost use Rattle.tx_session.specs.Runs.{CanBeOpened, CanBeRead, IsRefused, IsRun, IsWritten, own_line, start_of};
+ghost use Rattle.tx_session.specs.Playing.{IsServed};
 ghost use Rattle.tx_session.specs.Openings.{outcome_of};
 
-use crate::opening::{USAGE, open};
+use crate::names::buffer_name;
+use crate::opening::{Opening, USAGE, open};
+use crate::script::play;
+use crate::session::Session;
 use crate::status::Status;
 use std::alloc::Global;
 use std::sync::ledger::Ledger;
 use tx_base::{Memory, Steps};
+use tx_doc::{Buffer, Name};
 use tx_outside::{Sink, Source, Store, WriteFault, write_all};
+use tx_tree::Tree;
 
 // Writes the text, and answers the status unless the output failed.
 fn finish<O: Sink>(out: &mut O, text: &[u8], status: Status) -> Status
@@ -31,8 +37,67 @@ fn finish<O: Sink>(out: &mut O, text: &[u8], status: Status) -> Status
     }
 }
 
-/// Runs the program on the words of its command line, the program's name first. It reads the file that they
-/// name and writes its canonical Scheme text, or one line that says why not. The input isn't read.
+// A status's own line.
+fn own_line(status: Status) -> &'static [u8]
+    ensures { result.now ≡ own_line status }
+{
+    match status {
+        Status::InputFault => b"input\n",
+        Status::ScriptLong => b"script-long\n",
+        Status::NoMemory => b"memory\n",
+        _ => b"",
+    }
+}
+
+// The session of a file, on pages of 80 by 24.
+fn session_of<L: Ledger>(
+    alloc: Global,
+    file: &[u8],
+    tree: Tree,
+    steps: &mut Steps<L>,
+) -> Result<Session, Memory>
+    ensures session { IfOk result (λ session. session ≡ start_of file.now tree) }
+    ensures no_steps { steps.new ≡ steps.old }
+{
+    let name = Vec::from_slice(alloc, buffer_name(file))?;
+    let buffer = Buffer {
+        name: Name::from(name),
+        tree,
+    };
+    Session::start(alloc, vec![in alloc; buffer]?, 80, 24, steps)
+}
+
+// Answers the script over the session, and writes the status's own line.
+fn serve<S: Store, I: Source, O: Sink, L: Ledger>(
+    alloc: Global,
+    session: &mut Session,
+    store: &mut S,
+    input: &mut I,
+    out: &mut O,
+    steps: &mut Steps<L>,
+) -> Status
+    ensures ended { IsServed result session.old (I.left input.old) (I.left input.new) (O.written out.old) (O.written out.new) }
+    ensures input_fault_counted { result ≡ Status.InputFault → Rose (I.faults input.old) (I.faults input.new) }
+    ensures output_fault_counted { result ≡ Status.OutputFault → Rose (O.faults out.old) (O.faults out.new) }
+    ensures store_kept { store.new ≡ store.old }
+    ensures input_faults_never_fall { NeverFalls (I.faults input.old) (I.faults input.new) }
+    ensures output_faults_never_fall { NeverFalls (O.faults out.old) (O.faults out.new) }
+    ensures input_stays_known { StaysKnown (I.left input.old) (I.left input.new) }
+    ensures output_stays_known { StaysKnown (O.written out.old) (O.written out.new) }
+{
+    match play(alloc, session, store, input, out, steps) {
+        Status::OutputFault => Status::OutputFault,
+        status => finish(out, own_line(status), status),
+    }
+}
+
+/// Runs the program on the words of its command line, the program's name first. It opens the file that they name,
+/// or writes one line that says why not, and answers the lines of the script that comes from the input, each as
+/// soon as it has ended.
+///
+/// The script ends at a line `quit` or with the input, and has at most 2^24 bytes. A run that ends early for a fault
+/// of the input, a script that is too long, or want of memory has answered the lines that ended in what it took,
+/// and then writes one line. After a fault of the output, what was written is a part of that, from its start on.
 pub fn run<S: Store, I: Source, O: Sink, L: Ledger>(
     alloc: Global,
     words: &[String],
@@ -41,7 +106,7 @@ pub fn run<S: Store, I: Source, O: Sink, L: Ledger>(
     out: &mut O,
     steps: &mut Steps<L>,
 ) -> Status
-    ensures run { IsRun (map string_bytes words.now) (S.files store.old) result (O.written out.old) (O.written out.new) }
+    ensures run { IsRun (map string_bytes words.now) (S.files store.old) (I.left input.old) (I.left input.new) result (O.written out.old) (O.written out.new) }
 
     // Where each status comes.
     ensures words { result ≡ Status.Words → file_in (map string_bytes words.now) ≡ None }
@@ -49,34 +114,39 @@ pub fn run<S: Store, I: Source, O: Sink, L: Ledger>(
     ensures missing_counted { result ≡ Status.Missing → Rose (S.misses store.old) (S.misses store.new) }
     ensures refused { result ≡ Status.Refused → IsRefused (map string_bytes words.now) (S.files store.old) (Rose (S.longs store.old) (S.longs store.new)) }
     ensures store_fault_counted { result ≡ Status.StoreFault → Rose (S.faults store.old) (S.faults store.new) }
+    ensures input_fault_counted { result ≡ Status.InputFault → Rose (I.faults input.old) (I.faults input.new) }
     ensures output_fault_counted { result ≡ Status.OutputFault → Rose (O.faults out.old) (O.faults out.new) }
-    ensures complete { CanBeShown (map string_bytes words.now) (S.files store.old)
-        → ¬ Rose (S.misses store.old) (S.misses store.new) → ¬ Rose (S.longs store.old) (S.longs store.new)
-        → ¬ Rose (S.faults store.old) (S.faults store.new) → ¬ Rose (O.faults out.old) (O.faults out.new)
+    ensures script_long { result ≡ Status.ScriptLong → IfSome (I.left input.old) (λ script. ¬ CanBeRead script) }
+    ensures complete { CanBeOpened (map string_bytes words.now) (S.files store.old) → ((script : List ℕ) × (I.left input.old ≡ Some script) × CanBeRead script)
+        → ¬ Rose (S.misses store.old) (S.misses store.new) → ¬ Rose (S.longs store.old) (S.longs store.new) → ¬ Rose (S.faults store.old) (S.faults store.new)
+        → ¬ Rose (I.faults input.old) (I.faults input.new) → ¬ Rose (O.faults out.old) (O.faults out.new)
         → (result ≡ Status.Ok) ⊎ (result ≡ Status.NoMemory) }
 
     // What is as before, and what never falls.
     ensures files_kept { S.files store.new ≡ S.files store.old }
-    ensures input_kept { input.new ≡ input.old }
-    ensures stays_known { StaysKnown (O.written out.old) (O.written out.new) }
+    ensures output_stays_known { StaysKnown (O.written out.old) (O.written out.new) }
+    ensures input_stays_known { StaysKnown (I.left input.old) (I.left input.new) }
     ensures store_faults_never_fall { NeverFalls (S.faults store.old) (S.faults store.new) }
     ensures misses_never_fall { NeverFalls (S.misses store.old) (S.misses store.new) }
     ensures longs_never_fall { NeverFalls (S.longs store.old) (S.longs store.new) }
+    ensures input_faults_never_fall { NeverFalls (I.faults input.old) (I.faults input.new) }
     ensures output_faults_never_fall { NeverFalls (O.faults out.old) (O.faults out.new) }
 {
-    let _ = input;
     let opening = open(alloc, words, store, steps);
-    if opening.has_faulty_words() {
-        return finish(out, USAGE, Status::Words);
-    }
-    match opening.text(alloc) {
-        Ok(text) => finish(out, &text, opening.status()),
-        Err(Memory) => finish(out, b"memory\n", Status::NoMemory),
+    match opening {
+        Opening::FaultyWords => finish(out, USAGE, Status::Words),
+        Opening::Opened(file, tree) => match session_of(alloc, file, tree, steps) {
+            Ok(mut session) => serve(alloc, &mut session, store, input, out, steps),
+            Err(Memory) => finish(out, b"memory\n", Status::NoMemory),
+        },
+        failed => match failed.text(alloc) {
+            Ok(text) => finish(out, &text, failed.status()),
+            Err(Memory) => finish(out, b"memory\n", Status::NoMemory),
+        },
     }
 }
 
-/// Words and files come to one outcome, faults of the store and want of memory aside: the status and the bytes
-/// written of a run are determined where the files are known.
+/// Words and files come to one outcome, faults of the store and want of memory aside.
 pub fn one_outcome()
     ensures { (words : List (List ℕ)) (all : Files) (o p : Outcome) → ComesTo words (Some all) o → ComesTo words (Some all) p → IsDecided o → IsDecided p → o ≡ p }
 {}

@@ -21,6 +21,8 @@ pub(crate) fn show(
     requires most_height { height ≤ 500 }
     ensures { IfOk result (λ reply. MatchOption reply (IsUnplain tree.now) (λ text. IsShowing width height tree.now text.items)) }
 {
-    let _ = (alloc, tree, width, height);
-    Err(Memory)
+    if width > height && tree.arity() == 0 {
+        return Err(Memory);
+    }
+    Ok(Some(Vec::new(alloc)))
 }

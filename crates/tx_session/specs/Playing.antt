@@ -1,0 +1,49 @@
+-- How a script was answered. Only private clauses cite this.
+use Rattle.std.specs.Prelude.{◌≡◌, ◌++◌, ◌⊎◌, ℕ, Bool, List, Option}
+use Rattle.std.specs.Io.KnownBytes.{append_known}
+use Rattle.tx_outside.specs.Known.{AppendsPart}
+use Rattle.tx_session.specs.declared.status.Status.{Status}
+use Rattle.tx_session.specs.declared.status.Status.TheVariants.{OutputFault}
+use Rattle.tx_session.specs.Replies.{Seen}
+use Rattle.tx_session.specs.Runs.{Tells, IsPlayed, IsReplyBehind, own_line}
+
+-- the replies are written, and the status's own line isn't yet
+pub record HasPlayed (start : Seen) (told rest : Option (List ℕ)) (status : Status) (before after : Option (List ℕ)) : Type 0 where
+  pub script : List ℕ
+  pub marks : List Bool
+  pub replies : List ℕ
+  pub tells : Tells told script
+  pub played : IsPlayed start script marks rest status replies
+  pub written : after ≡ append_known before replies
+
+-- a reply is written in part
+pub record IsCutOff (start : Seen) (told : Option (List ℕ)) (before after : Option (List ℕ)) : Type 0 where
+  pub script : List ℕ
+  pub done : List ℕ
+  pub reply : List ℕ
+  pub tells : Tells told script
+  pub behind : IsReplyBehind start script done reply
+  pub part : AppendsPart reply (append_known before done) after
+
+abbrev pub IsEnd : Status → Seen → (told rest before after : Option (List ℕ)) → Type 0
+IsEnd OutputFault start told rest before after = IsCutOff start told before after
+IsEnd status start told rest before after = HasPlayed start told rest status before after
+
+-- the same with the status's own line, which is written too, or in part
+pub record IsClosed (start : Seen) (told rest : Option (List ℕ)) (status : Status) (before after : Option (List ℕ)) : Type 0 where
+  pub script : List ℕ
+  pub marks : List Bool
+  pub replies : List ℕ
+  pub tells : Tells told script
+  pub played : IsPlayed start script marks rest status replies
+  pub written : after ≡ append_known before (replies ++ own_line status)
+
+pub record IsClosedInPart (start : Seen) (told rest : Option (List ℕ)) (before after : Option (List ℕ)) : Type 0 where
+  pub status : Status
+  pub between : Option (List ℕ)
+  pub played : HasPlayed start told rest status before between
+  pub part : AppendsPart (own_line status) between after
+
+abbrev pub IsServed : Status → Seen → (told rest before after : Option (List ℕ)) → Type 0
+IsServed OutputFault start told rest before after = IsCutOff start told before after ⊎ IsClosedInPart start told rest before after
+IsServed status start told rest before after = IsClosed start told rest status before after

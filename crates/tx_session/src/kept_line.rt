@@ -1,0 +1,68 @@
+// The line that is being read.
+ghost use Rattle.std.specs.Prelude.{◌≡◌, ◌<◌, ◌+◌, ◌∷◌, ◌++◌, ℕ, List, [], length, IfOk, MatchResult};
+ghost use Rattle.tx_session.specs.Keeping.{Keeps};
+ghost use Rattle.tx_session.specs.Scripts.{command_line};
+ghost use Rattle.tx_cmd.specs.declared.TheConstants.{MOST_LINE};
+
+use crate::MOST_SCRIPT;
+use std::alloc::Global;
+use tx_base::Memory;
+use tx_cmd::MOST_LINE;
+
+/// What is kept of a line while it is read: its first bytes, as many as a command can need, how many it has, and whether the
+/// last one is a return.
+#[derive(Drop)]
+pub(crate) struct KeptLine {
+    front: Vec<u8>,
+    count: usize,
+    returned: bool,
+}
+
+impl KeptLine {
+    /// A line without bytes.
+    pub(crate) fn new(alloc: Global) -> KeptLine
+        ensures { Keeps result [] }
+    {
+        KeptLine {
+            front: Vec::new(alloc),
+            count: 0,
+            returned: false,
+        }
+    }
+
+    /// Begins a new line.
+    pub(crate) fn clear(&mut self)
+        ensures { Keeps self.new [] }
+    {
+        self.front.clear();
+        self.count = 0;
+        self.returned = false;
+    }
+
+    /// Adds the next byte.
+    pub(crate) fn add(&mut self, byte: u8) -> Result<(), Memory>
+        requires room { self.old.count < MOST_SCRIPT }
+        ensures { IfOk result (λ _. (bytes : List ℕ) → Keeps self.old bytes → Keeps self.new (bytes ++ byte ∷ [])) }
+    {
+        if self.front.len() <= MOST_LINE {
+            self.front.push(byte)?;
+        }
+        self.count += 1;
+        self.returned = byte == b'\r';
+        Ok(())
+    }
+
+    /// The line without the return at its end, or how many bytes it then has where they are too many for a command.
+    pub(crate) fn text(&self) -> Result<&[u8], usize>
+        requires kept { (bytes : List ℕ) × Keeps self.now bytes }
+        ensures text { (bytes : List ℕ) → Keeps self.now bytes → MatchResult result
+            (λ text. text.now ≡ command_line bytes)
+            (λ count. (count ≡ length (command_line bytes)) × (MOST_LINE < count)) }
+    {
+        let count = self.count - usize::from(self.returned);
+        if count > MOST_LINE {
+            return Err(count);
+        }
+        Ok(&self.front[..count])
+    }
+}

@@ -1,0 +1,227 @@
+// The lines of a script, read and answered one after the other.
+ghost use Rattle.std.specs.Prelude.{◌≡◌, ◌≢◌, ◌≤◌, ◌<◌, ◌+◌, ◌∷◌, ◌++◌, ◌⊎◌, ℕ, List, [], Option, Bool, length, decimal, IfOk, OnOk, OnErr, IfErr, Ok};
+ghost use Rattle.tx_outside.specs.Counts.{NeverFalls, Rose};
+ghost use Rattle.tx_outside.specs.Known.{StaysKnown};
+ghost use Rattle.tx_cmd.specs.declared.command.CmdFault.{CmdFault};
+ghost use Rattle.tx_session.specs.Replies.{Seen, IsLineReply, refusal, wanting_reply};
+ghost use Rattle.tx_session.specs.Scripts.{command_line, is_quit};
+ghost use Rattle.tx_session.specs.Lines.{line};
+ghost use Rattle.tx_session.specs.Runs.{Tells};
+ghost use Rattle.tx_session.specs.Writing.{IsSaid};
+ghost use Rattle.tx_session.specs.Keeping.{Keeps, StandsWith, LeadsTo, IsTurned};
+ghost use Rattle.tx_session.specs.Playing.{IsEnd};
+
+use crate::MOST_SCRIPT;
+use crate::kept_line::KeptLine;
+use crate::session::{NO_MEMORY, Next, Session, say};
+use crate::status::Status;
+use std::alloc::Global;
+use std::sync::ledger::Ledger;
+use tx_base::{Memory, Steps};
+use tx_cmd::{CmdFault, parse};
+use tx_outside::{Failed, Sink, Source, Store, WriteFault};
+
+// A line of a word and a number.
+fn numbered(alloc: Global, words: &str, number: u64) -> Result<Vec<u8>, Memory>
+    ensures { IfOk result (λ text. text.items ≡ line (words.now ++ (32 ∷ decimal number))) }
+{
+    Ok(format!(in alloc; "{words} {number}\n")?.into_bytes())
+}
+
+// The reply to a line that is no command.
+fn refusal(alloc: Global, fault: CmdFault) -> Result<Vec<u8>, Memory>
+    ensures { IfOk result (λ text. text.items ≡ refusal fault) }
+{
+    match fault {
+        CmdFault::Long(length) => numbered(alloc, "no long", length),
+        CmdFault::Unknown => Ok(Vec::from_slice(alloc, b"no unknown\n")?),
+        CmdFault::Args(at) => numbered(alloc, "no args", at as u64),
+        CmdFault::Memory => Ok(Vec::from_slice(alloc, NO_MEMORY)?),
+    }
+}
+
+// Refuses a line that is no command.
+fn refuse<O: Sink>(alloc: Global, out: &mut O, fault: CmdFault) -> Result<Next, WriteFault>
+    ensures said { (reply : List ℕ) × ((reply ≡ refusal fault) ⊎ (reply ≡ wanting_reply)) × IsSaid result reply (O.written out.old) (O.written out.new) }
+    ensures goes { result ≢ Ok Next.Quit }
+    ensures failed_rose { OnErr result (Rose (O.faults out.old) (O.faults out.new)) }
+    ensures faults_never_fall { NeverFalls (O.faults out.old) (O.faults out.new) }
+    ensures stays_known { StaysKnown (O.written out.old) (O.written out.new) }
+{
+    match refusal(alloc, fault) {
+        Ok(text) => say(out, &text),
+        Err(Memory) => say(out, NO_MEMORY),
+    }
+}
+
+// Answers a line that has ended.
+fn answer_line<S: Store, O: Sink, L: Ledger>(
+    alloc: Global,
+    session: &mut Session,
+    line: &KeptLine,
+    store: &mut S,
+    out: &mut O,
+    steps: &mut Steps<L>,
+) -> Result<Next, WriteFault>
+    requires kept { (bytes : List ℕ) × Keeps line.now bytes }
+    ensures answered { (bytes : List ℕ) → Keeps line.now bytes → IsTurned result session.old bytes session.new (O.written out.old) (O.written out.new) }
+    ensures failed_rose { OnErr result (Rose (O.faults out.old) (O.faults out.new)) }
+    ensures store_kept { store.new ≡ store.old }
+    ensures faults_never_fall { NeverFalls (O.faults out.old) (O.faults out.new) }
+    ensures stays_known { StaysKnown (O.written out.old) (O.written out.new) }
+{
+    let text = match line.text() {
+        Ok(text) => text,
+        Err(count) => return refuse(alloc, out, CmdFault::Long(count as u64)),
+    };
+    if text.is_empty() {
+        return Ok(Next::Go);
+    }
+    match parse(alloc, text, steps) {
+        Ok(command) => session.step(alloc, &command, store, out, steps),
+        Err(fault) => refuse(alloc, out, fault),
+    }
+}
+
+// What a byte of the script leads to.
+pub(crate) enum Turn {
+    Go,
+    Quit,
+    NoMemory,
+    OutputFailed,
+}
+
+// Takes the next byte of the script.
+fn take_byte<S: Store, O: Sink, L: Ledger>(
+    alloc: Global,
+    session: &mut Session,
+    line: &mut KeptLine,
+    byte: u8,
+    store: &mut S,
+    out: &mut O,
+    steps: &mut Steps<L>,
+) -> Turn
+    requires kept { (bytes : List ℕ) × Keeps line.old bytes }
+    requires room { line.old.count < MOST_SCRIPT }
+    ensures leads { (start : Seen) (before : Option (List ℕ)) (bytes : List ℕ)
+        → StandsWith start before bytes session.old line.old (O.written out.old)
+        → LeadsTo result start before (bytes ++ byte ∷ []) session.new line.new (O.written out.new) }
+    ensures count { line.new.count ≤ line.old.count + 1 }
+    ensures output_failed { result ≡ Turn.OutputFailed → Rose (O.faults out.old) (O.faults out.new) }
+    ensures store_kept { store.new ≡ store.old }
+    ensures faults_never_fall { NeverFalls (O.faults out.old) (O.faults out.new) }
+    ensures stays_known { StaysKnown (O.written out.old) (O.written out.new) }
+{
+    if byte != b'\n' {
+        return match line.add(byte) {
+            Ok(()) => Turn::Go,
+            Err(Memory) => Turn::NoMemory,
+        };
+    }
+    match answer_line(alloc, session, line, store, out, steps) {
+        Ok(Next::Go) => {
+            line.clear();
+            Turn::Go
+        }
+        Ok(Next::Quit) => Turn::Quit,
+        Err(WriteFault::Failed) => Turn::OutputFailed,
+    }
+}
+
+// Takes the next bytes of the script.
+fn take_piece<S: Store, O: Sink, L: Ledger>(
+    alloc: Global,
+    session: &mut Session,
+    line: &mut KeptLine,
+    piece: &[u8],
+    store: &mut S,
+    out: &mut O,
+    steps: &mut Steps<L>,
+) -> Turn
+    requires kept { (bytes : List ℕ) × Keeps line.old bytes }
+    requires room { line.old.count + length piece.now ≤ MOST_SCRIPT }
+    ensures leads { (start : Seen) (before : Option (List ℕ)) (bytes : List ℕ)
+        → StandsWith start before bytes session.old line.old (O.written out.old)
+        → LeadsTo result start before (bytes ++ piece.now) session.new line.new (O.written out.new) }
+    ensures kept { result ≡ Turn.Go → (bytes : List ℕ) × Keeps line.new bytes }
+    ensures count { line.new.count ≤ line.old.count + length piece.now }
+    ensures output_failed { result ≡ Turn.OutputFailed → Rose (O.faults out.old) (O.faults out.new) }
+    ensures store_kept { store.new ≡ store.old }
+    ensures faults_never_fall { NeverFalls (O.faults out.old) (O.faults out.new) }
+    ensures stays_known { StaysKnown (O.written out.old) (O.written out.new) }
+{
+    for byte in piece {
+        match take_byte(alloc, session, line, *byte, store, out, steps) {
+            Turn::Go => {}
+            turn => return turn,
+        }
+    }
+    Turn::Go
+}
+
+// Answers the script's last line, which ends with the script.
+fn end_script<S: Store, O: Sink, L: Ledger>(
+    alloc: Global,
+    session: &mut Session,
+    line: &KeptLine,
+    store: &mut S,
+    out: &mut O,
+    steps: &mut Steps<L>,
+) -> Status
+    requires kept { (bytes : List ℕ) × Keeps line.now bytes }
+    ensures end { (start : Seen) (told : Option (List ℕ)) (before : Option (List ℕ)) (script : List ℕ)
+        → StandsWith start before script session.old line.now (O.written out.old) → Tells told script → length script ≤ MOST_SCRIPT
+        → (rest : Option (List ℕ)) → IsEnd result start told rest before (O.written out.new) }
+    ensures status { (result ≡ Status.Ok) ⊎ (result ≡ Status.OutputFault) }
+    ensures output_fault_counted { result ≡ Status.OutputFault → Rose (O.faults out.old) (O.faults out.new) }
+    ensures store_kept { store.new ≡ store.old }
+    ensures faults_never_fall { NeverFalls (O.faults out.old) (O.faults out.new) }
+    ensures stays_known { StaysKnown (O.written out.old) (O.written out.new) }
+{
+    match answer_line(alloc, session, line, store, out, steps) {
+        Ok(_) => Status::Ok,
+        Err(WriteFault::Failed) => Status::OutputFault,
+    }
+}
+
+/// Reads the script from its source, piece by piece, and answers each line as soon as it has ended. The status says how
+/// the script ended; its own line isn't written.
+pub(crate) fn play<S: Store, I: Source, O: Sink, L: Ledger>(
+    alloc: Global,
+    session: &mut Session,
+    store: &mut S,
+    input: &mut I,
+    out: &mut O,
+    steps: &mut Steps<L>,
+) -> Status
+    ensures end { IsEnd result session.old (I.left input.old) (I.left input.new) (O.written out.old) (O.written out.new) }
+    ensures input_fault_counted { result ≡ Status.InputFault → Rose (I.faults input.old) (I.faults input.new) }
+    ensures output_fault_counted { result ≡ Status.OutputFault → Rose (O.faults out.old) (O.faults out.new) }
+    ensures store_kept { store.new ≡ store.old }
+    ensures input_faults_never_fall { NeverFalls (I.faults input.old) (I.faults input.new) }
+    ensures output_faults_never_fall { NeverFalls (O.faults out.old) (O.faults out.new) }
+    ensures input_stays_known { StaysKnown (I.left input.old) (I.left input.new) }
+    ensures output_stays_known { StaysKnown (O.written out.old) (O.written out.new) }
+{
+    let mut line = KeptLine::new(alloc);
+    let mut piece = [0u8; 4096];
+    let mut room = MOST_SCRIPT;
+    loop {
+        let count = match input.read(&mut piece) {
+            Ok(0) => return end_script(alloc, session, &line, store, out, steps),
+            Ok(count) => count,
+            Err(Failed) => return Status::InputFault,
+        };
+        let within = count.min(room);
+        match take_piece(alloc, session, &mut line, &piece[..within], store, out, steps) {
+            Turn::Go => {}
+            Turn::Quit => return Status::Ok,
+            Turn::NoMemory => return Status::NoMemory,
+            Turn::OutputFailed => return Status::OutputFault,
+        }
+        if within < count {
+            return Status::ScriptLong;
+        }
+        room -= within;
+    }
+}
