@@ -1,3 +1,4 @@
 pub mod Cuts
+pub mod KeptLines
 pub mod Causes
 pub mod Single

@@ -1,5 +1,5 @@
 // The line that is being read.
-ghost use Rattle.std.specs.Prelude.{◌≡◌, ◌<◌, ◌+◌, ◌∷◌, ◌++◌, ℕ, List, [], length, IfOk, MatchResult};
+ghost use Rattle.std.specs.Prelude.{◌≡◌, ◌<◌, ◌≤◌, ◌+◌, ◌∷◌, ◌++◌, ℕ, List, [], length, IfOk, MatchResult};
 ghost use Rattle.tx_session.specs.Keeping.{Keeps};
 ghost use Rattle.tx_session.specs.Scripts.{command_line};
 ghost use Rattle.tx_cmd.specs.declared.TheConstants.{MOST_LINE};
@@ -42,14 +42,27 @@ impl KeptLine {
     /// Adds the next byte.
     pub(crate) fn add(&mut self, byte: u8) -> Result<(), Memory>
         requires room { self.old.count < MOST_SCRIPT }
-        ensures { IfOk result (λ _. (bytes : List ℕ) → Keeps self.old bytes → Keeps self.new (bytes ++ byte ∷ [])) }
+        ensures kept { IfOk result (λ _. (bytes : List ℕ) → Keeps self.old bytes → Keeps self.new (bytes ++ byte ∷ [])) }
+        ensures count { self.new.count ≤ self.old.count + 1 }
     {
-        if self.front.len() <= MOST_LINE {
-            self.front.push(byte)?;
-        }
         self.count += 1;
         self.returned = byte == b'\r';
+        if self.front.len() > MOST_LINE {
+            return Ok(());
+        }
+        self.front.push(byte)?;
         Ok(())
+    }
+
+    // How many bytes the line has without the return at its end.
+    fn text_count(&self) -> usize
+        requires kept { (bytes : List ℕ) × Keeps self.now bytes }
+        ensures { (bytes : List ℕ) → Keeps self.now bytes → result ≡ length (command_line bytes) }
+    {
+        if self.returned {
+            return self.count - 1;
+        }
+        self.count
     }
 
     /// The line without the return at its end, or how many bytes it then has where they are too many for a command.
@@ -59,7 +72,7 @@ impl KeptLine {
             (λ text. text.now ≡ command_line bytes)
             (λ count. (count ≡ length (command_line bytes)) × (MOST_LINE < count)) }
     {
-        let count = self.count - usize::from(self.returned);
+        let count = self.text_count();
         if count > MOST_LINE {
             return Err(count);
         }
