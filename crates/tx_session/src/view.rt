@@ -21,8 +21,5 @@ pub(crate) fn show(
     requires most_height { height ≤ 500 }
     ensures { IfOk result (λ reply. MatchOption reply (IsUnplain tree.now) (λ text. IsShowing width height tree.now text.items)) }
 {
-    if width > height && tree.arity() == 0 {
-        return Err(Memory);
-    }
-    Ok(Some(Vec::new(alloc)))
+    Err(Memory)
 }

@@ -1,0 +1,58 @@
+-- Lines that have ended, one byte after the other.
+use Rattle.std.proofs.Common.{◌≡◌, ◌≢◌, ℕ, Bool, true, false, List, [], ◌∷◌, ◌++◌, length, refl, ap, sym, subst, ◌∙◌, Option, Some, None, All, append_assoc, arith}
+use Rattle.std.specs.List.{flat_map}
+use Rattle.std.specs.Io.KnownBytes.{append_known}
+use Rattle.std.proofs.lemmas.List.{append-nil}
+use Rattle.std.proofs.lemmas.Grind.{common_steps, flat_map-append}
+use Rattle.tx_outside.specs.Known.{AppendsPart}
+use Rattle.tx_outside.proofs.Pieces.{append_known-then}
+use Rattle.tx_session.specs.Lines.{line}
+use Rattle.tx_session.specs.Replies.{Seen, IsLineReply}
+use Rattle.tx_session.specs.Scripts.{IsOneLine, HasLines, Answered, command_line, is_quit}
+use Rattle.tx_session.specs.Keeping.{Stands, StandsWith, IsCutAt, Keeps, LeadsTo}
+
+-- no byte
+pub no_lines : HasLines [] [] []
+no_lines = record { whole = refl; each = tt; last = tt }
+
+-- one byte more of a line
+pub line_goes_on : (bytes : List ℕ) (ended : List (List ℕ)) (rest : List ℕ) (b : ℕ) → b ≢ 10 → HasLines bytes ended rest → HasLines (bytes ++ b ∷ []) ended (rest ++ b ∷ [])
+line_goes_on bytes ended rest b other h = record { whole = ap (λ x. x ++ b ∷ []) h.whole ∙ append_assoc (flat_map line ended) rest (b ∷ []); each = h.each; last = grind (arith, common_steps, h.last, other) }
+
+-- a line ends
+pub line_ends : (bytes : List ℕ) (ended : List (List ℕ)) (rest : List ℕ) → HasLines bytes ended rest → HasLines (bytes ++ 10 ∷ []) (ended ++ rest ∷ []) []
+line_ends bytes ended rest h =
+    record { whole = grind (arith, common_steps, flat_map-append, h.whole); each = grind (arith, common_steps, h.each, h.last); last = tt }
+
+-- one line more is answered
+pub answered_next : (seen : Seen) (lines : List (List ℕ)) (marks : List Bool) (between last : Seen) (text reply one : List ℕ) (wanting : Bool)
+    → Answered seen lines marks between text → IsLineReply between (command_line one) wanting last reply → Answered seen (lines ++ one ∷ []) (marks ++ wanting ∷ []) last (text ++ reply)
+answered_next seen [] [] between last text reply one wanting a r =
+    (last, reply, [], subst (λ s. IsLineReply s (command_line one) wanting last reply) a.0 r, (refl, refl), ap (λ x. x ++ reply) a.1 ∙ sym (append-nil reply))
+answered_next seen [] (m ∷ marks) between last text reply one wanting a r = absurd a
+answered_next seen (l ∷ lines) [] between last text reply one wanting a r = absurd a
+answered_next seen (l ∷ lines) (m ∷ marks) between last text reply one wanting a r =
+    (a.0, a.1, a.2 ++ reply, a.3, answered_next a.0 lines marks between last a.2 reply one wanting a.4 r, ap (λ x. x ++ reply) a.5 ∙ append_assoc a.1 a.2 reply)
+
+-- the start of a script
+pub stands_first : (start : Seen) (before : Option (List ℕ)) → before ≡ append_known before [] → Stands start before [] [] start before
+stands_first start before e = record { ended = []; marks = []; replies = []; lines = no_lines; answered = (refl, refl); written = e }
+
+-- the next byte belongs to the line
+pub stands_on : (start : Seen) (before : Option (List ℕ)) (bytes rest : List ℕ) (b : ℕ) (seen : Seen) (after : Option (List ℕ)) → b ≢ 10
+    → Stands start before bytes rest seen after → Stands start before (bytes ++ b ∷ []) (rest ++ b ∷ []) seen after
+stands_on start before bytes rest b seen after other s = record { ended = s.ended; marks = s.marks; replies = s.replies; lines = line_goes_on bytes s.ended rest b other s.lines; answered = s.answered; written = s.written }
+
+-- the next byte ends the line, which is answered
+pub stands_next : (start : Seen) (before : Option (List ℕ)) (bytes rest : List ℕ) (seen next : Seen) (between after : Option (List ℕ))
+    → ((wanting : Bool) × (reply : List ℕ) × IsLineReply seen (command_line rest) wanting next reply × (after ≡ append_known between reply))
+    → Stands start before bytes rest seen between → Stands start before (bytes ++ 10 ∷ []) [] next after
+stands_next start before bytes rest seen next between after r s =
+    record {
+      ended = s.ended ++ rest ∷ [];
+      marks = s.marks ++ r.0 ∷ [];
+      replies = s.replies ++ r.1;
+      lines = line_ends bytes s.ended rest s.lines;
+      answered = answered_next start s.ended s.marks seen next s.replies r.1 rest r.0 s.answered r.2;
+      written = append_known-then before between after s.replies r.1 s.written r.3
+    }
