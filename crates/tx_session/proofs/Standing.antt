@@ -1,19 +1,23 @@
 -- Lines that have ended, one byte after the other.
-use Rattle.std.proofs.Common.{◌≡◌, ◌≢◌, ℕ, Bool, true, false, List, [], ◌∷◌, ◌++◌, length, refl, ap, sym, subst, ◌∙◌, Option, Some, None, All, append_assoc, arith}
+use Rattle.std.proofs.Common.{◌≡◌, ◌≢◌, ℕ, Bool, true, false, List, [], ◌∷◌, ◌++◌, length, refl, ap, sym, subst, ◌∙◌, Option, Some, None, Result, Ok, Err, All, append_assoc, arith}
 use Rattle.std.specs.List.{flat_map}
 use Rattle.std.specs.Io.KnownBytes.{append_known}
 use Rattle.std.proofs.lemmas.List.{append-nil}
+use Rattle.std.proofs.lemmas.List.Elements.{All-nil}
 use Rattle.std.proofs.lemmas.Grind.{common_steps, flat_map-append}
 use Rattle.tx_outside.specs.Known.{AppendsPart}
 use Rattle.tx_outside.proofs.Pieces.{append_known-then}
+use Rattle.tx_outside.specs.declared.faults.WriteFault.{WriteFault}
+use Rattle.tx_session.specs.declared.session.Next.{Next}
+use Rattle.tx_session.specs.declared.session.Next.TheVariants as nexts
 use Rattle.tx_session.specs.Lines.{line}
 use Rattle.tx_session.specs.Replies.{Seen, IsLineReply}
 use Rattle.tx_session.specs.Scripts.{IsOneLine, HasLines, Answered, command_line, is_quit}
-use Rattle.tx_session.specs.Keeping.{Stands, StandsWith, IsCutAt, Keeps, LeadsTo}
+use Rattle.tx_session.specs.Keeping.{Stands, StandsWith, IsCutAt, IsTurned, Keeps, LeadsTo}
 
 -- no byte
 pub no_lines : HasLines [] [] []
-no_lines = record { whole = refl; each = tt; last = tt }
+no_lines = record { whole = refl; each = All-nil IsOneLine; last = All-nil (λ b. b ≢ 10) }
 
 -- one byte more of a line
 pub line_goes_on : (bytes : List ℕ) (ended : List (List ℕ)) (rest : List ℕ) (b : ℕ) → b ≢ 10 → HasLines bytes ended rest → HasLines (bytes ++ b ∷ []) ended (rest ++ b ∷ [])
@@ -22,7 +26,7 @@ line_goes_on bytes ended rest b other h = record { whole = ap (λ x. x ++ b ∷ 
 -- a line ends
 pub line_ends : (bytes : List ℕ) (ended : List (List ℕ)) (rest : List ℕ) → HasLines bytes ended rest → HasLines (bytes ++ 10 ∷ []) (ended ++ rest ∷ []) []
 line_ends bytes ended rest h =
-    record { whole = grind (arith, common_steps, flat_map-append, h.whole); each = grind (arith, common_steps, h.each, h.last); last = tt }
+    record { whole = grind (arith, common_steps, flat_map-append, h.whole); each = grind (arith, common_steps, h.each, h.last); last = All-nil (λ b. b ≢ 10) }
 
 -- one line more is answered
 pub answered_next : (seen : Seen) (lines : List (List ℕ)) (marks : List Bool) (between last : Seen) (text reply one : List ℕ) (wanting : Bool)
@@ -56,3 +60,23 @@ stands_next start before bytes rest seen next between after r s =
       answered = answered_next start s.ended s.marks seen next s.replies r.1 rest r.0 s.answered r.2;
       written = append_known-then before between after s.replies r.1 s.written r.3
     }
+
+-- what a line was turned into, by the answer
+pub turned_go : (n : Next) (seen next : Seen) (bytes : List ℕ) (before after : Option (List ℕ)) → n ≡ nexts.Go → IsTurned (Ok n) seen bytes next before after
+    → (wanting : Bool) × (reply : List ℕ) × IsLineReply seen (command_line bytes) wanting next reply × (after ≡ append_known before reply)
+turned_go nexts.Go seen next bytes before after e t = t
+turned_go nexts.Quit seen next bytes before after e t = cc
+
+pub turned_cut : (result : Result Next WriteFault) (fault : WriteFault) (seen next : Seen) (bytes : List ℕ) (before after : Option (List ℕ)) → result ≡ Err fault → IsTurned result seen bytes next before after
+    → (wanting : Bool) × (reply : List ℕ) × IsLineReply seen (command_line bytes) wanting next reply × AppendsPart reply before after
+turned_cut result fault seen next bytes before after e t = subst (λ r. IsTurned r seen bytes next before after) e t
+
+-- the reply to the line that ends is written in part
+pub cut_at : (start : Seen) (before : Option (List ℕ)) (bytes rest : List ℕ) (seen next : Seen) (between after : Option (List ℕ))
+    → ((wanting : Bool) × (reply : List ℕ) × IsLineReply seen (command_line rest) wanting next reply × AppendsPart reply between after)
+    → Stands start before bytes rest seen between → IsCutAt start before bytes after
+cut_at start before bytes rest seen next between after r s =
+    record { rest = rest; seen = seen; next = next; between = between; wanting = r.0; reply = r.1; stands = s; replied = r.2; part = r.3 }
+
+pub ends_at : (bytes : List ℕ) (b : ℕ) → b ≡ 10 → bytes ++ b ∷ [] ≡ bytes ++ 10 ∷ []
+ends_at bytes b e = ap (λ x. bytes ++ x ∷ []) e

@@ -106,6 +106,7 @@ fn take_byte<S: Store, O: Sink, L: Ledger>(
     ensures leads { (start : Seen) (before : Option (List ℕ)) (bytes : List ℕ)
         → StandsWith start before bytes session.old line.old (O.written out.old)
         → LeadsTo result start before (bytes ++ byte ∷ []) session.new line.new (O.written out.new) }
+    ensures kept { result ≡ Turn.Go → (bytes : List ℕ) × Keeps line.new bytes }
     ensures count { line.new.count ≤ line.old.count + 1 }
     ensures output_failed { result ≡ Turn.OutputFailed → Rose (O.faults out.old) (O.faults out.new) }
     ensures store_kept { store.new ≡ store.old }

@@ -1,0 +1,18 @@
+use Rattle.std.proofs.Common.{◌≡◌, ◌≤◌, ◌+◌, ◌-◌, ◌++◌, ℕ, List, Option, length, take}
+use Rattle.tx_outside.specs.Counts.{NeverFalls}
+use Rattle.tx_outside.specs.Known.{StaysKnown}
+use Rattle.tx_session.specs.Replies.{Seen}
+use Rattle.tx_session.specs.Keeping.{Keeps, StandsWith}
+use Rattle.tx_session.proofs.script.take_piece.Given as goal
+
+abbrev pub invariant-loop-byte : goal.invariant-loop-byte
+invariant-loop-byte g l =
+    record {
+      kept : (bytes : List ℕ) × Keeps l.line bytes;
+      leads : (start : Seen) (before : Option (List ℕ)) (bytes : List ℕ) → StandsWith start before bytes l.fn.session l.fn.line (g.O.Sink.written l.fn.out)
+          → StandsWith start before (bytes ++ take l.byte-index l.piece) l.session l.line (g.O.Sink.written l.out);
+      count : l.line.count ≤ l.fn.line.count + l.byte-index;
+      store : l.store ≡ l.fn.store;
+      faults : NeverFalls (g.O.Sink.faults l.fn.out) (g.O.Sink.faults l.out);
+      known : StaysKnown (g.O.Sink.written l.fn.out) (g.O.Sink.written l.out);
+    }
