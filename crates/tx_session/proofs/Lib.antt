@@ -1,7 +1,9 @@
 pub mod Cuts
 pub mod KeptLines
+pub mod Quits
 pub mod Turning
 pub mod Showing
 pub mod Standing
+pub mod Ending
 pub mod Causes
 pub mod Single

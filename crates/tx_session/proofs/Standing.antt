@@ -1,8 +1,8 @@
 -- Lines that have ended, one byte after the other.
-use Rattle.std.proofs.Common.{◌≡◌, ◌≢◌, ℕ, Bool, true, false, List, [], ◌∷◌, ◌++◌, length, refl, ap, sym, subst, ◌∙◌, Option, Some, None, Result, Ok, Err, All, append_assoc, arith}
+use Rattle.std.proofs.Common.{◌≡◌, ◌≢◌, ℕ, Bool, true, false, List, [], ◌∷◌, ◌++◌, ◌<◌, ◌≤◌, ◌+◌, length, take, drop, slice_index_or, refl, ap, sym, subst, ◌∙◌, Option, Some, None, Result, Ok, Err, All, append_assoc, arith}
 use Rattle.std.specs.List.{flat_map}
 use Rattle.std.specs.Io.KnownBytes.{append_known}
-use Rattle.std.proofs.lemmas.List.{append-nil}
+use Rattle.std.proofs.lemmas.List.{append-nil, take-append-drop, take_all}
 use Rattle.std.proofs.lemmas.List.Elements.{All-nil}
 use Rattle.std.proofs.lemmas.Grind.{common_steps, flat_map-append}
 use Rattle.tx_outside.specs.Known.{AppendsPart}
@@ -10,6 +10,9 @@ use Rattle.tx_outside.proofs.Pieces.{append_known-then}
 use Rattle.tx_outside.specs.declared.faults.WriteFault.{WriteFault}
 use Rattle.tx_session.specs.declared.session.Next.{Next}
 use Rattle.tx_session.specs.declared.session.Next.TheVariants as nexts
+use Rattle.tx_session.specs.declared.kept_line.KeptLine.{KeptLine}
+use Rattle.tx_session.specs.declared.script.Turn.{Turn}
+use Rattle.tx_session.specs.declared.script.Turn.TheVariants as turns
 use Rattle.tx_session.specs.Lines.{line}
 use Rattle.tx_session.specs.Replies.{Seen, IsLineReply}
 use Rattle.tx_session.specs.Scripts.{IsOneLine, HasLines, Answered, command_line, is_quit}
@@ -80,3 +83,33 @@ cut_at start before bytes rest seen next between after r s =
 
 pub ends_at : (bytes : List ℕ) (b : ℕ) → b ≡ 10 → bytes ++ b ∷ [] ≡ bytes ++ 10 ∷ []
 ends_at bytes b e = ap (λ x. bytes ++ x ∷ []) e
+
+-- where a session ended within some bytes, it ended within more of them
+pub stops_within : (turn : Turn) (start : Seen) (before : Option (List ℕ)) (bytes more : List ℕ) (seen : Seen) (kept : KeptLine) (after : Option (List ℕ)) → turn ≢ turns.Go
+    → LeadsTo turn start before bytes seen kept after → LeadsTo turn start before (bytes ++ more) seen kept after
+stops_within turns.Go start before bytes more seen kept after other l = absurd (other refl)
+stops_within turns.Quit start before bytes more seen kept after other l = (l.0, l.1 ++ more, l.2, ap (λ x. x ++ more) l.3 ∙ append_assoc l.0 (10 ∷ l.1) more, l.4, l.5)
+stops_within turns.NoMemory start before bytes more seen kept after other l = (l.0, l.1 ++ more, l.2, ap (λ x. x ++ more) l.3 ∙ append_assoc l.0 l.1 more, l.4)
+stops_within turns.OutputFailed start before bytes more seen kept after other l = (l.0, l.1 ++ more, ap (λ x. x ++ more) l.2 ∙ append_assoc l.0 (10 ∷ l.1) more, l.3)
+
+-- the next byte of a piece
+pub piece_next : (bytes piece : List ℕ) (i : ℕ) → i < length piece → (bytes ++ take i piece) ++ slice_index_or piece i 0 ∷ [] ≡ bytes ++ take (i + 1) piece
+piece_next bytes piece i lt = grind (arith, common_steps)
+
+pub piece_rest : (bytes piece : List ℕ) (i : ℕ) → (bytes ++ take i piece) ++ drop i piece ≡ bytes ++ piece
+piece_rest bytes piece i = append_assoc bytes (take i piece) (drop i piece) ∙ ap (λ x. bytes ++ x) (take-append-drop i piece)
+
+pub stops_in_piece : (turn : Turn) (start : Seen) (before : Option (List ℕ)) (bytes piece : List ℕ) (i : ℕ) (seen : Seen) (kept : KeptLine) (after : Option (List ℕ)) → i < length piece → turn ≢ turns.Go
+    → LeadsTo turn start before ((bytes ++ take i piece) ++ slice_index_or piece i 0 ∷ []) seen kept after → LeadsTo turn start before (bytes ++ piece) seen kept after
+stops_in_piece turn start before bytes piece i seen kept after lt other l =
+    subst (λ bs. LeadsTo turn start before bs seen kept after) (piece_rest bytes piece (i + 1))
+        (stops_within turn start before (bytes ++ take (i + 1) piece) (drop (i + 1) piece) seen kept after other (subst (λ bs. LeadsTo turn start before bs seen kept after) (piece_next bytes piece i lt) l))
+
+pub goes_on_in_piece : (turn : Turn) (start : Seen) (before : Option (List ℕ)) (bytes piece : List ℕ) (i : ℕ) (seen : Seen) (kept : KeptLine) (after : Option (List ℕ)) → i < length piece → turn ≡ turns.Go
+    → LeadsTo turn start before ((bytes ++ take i piece) ++ slice_index_or piece i 0 ∷ []) seen kept after → StandsWith start before (bytes ++ take (i + 1) piece) seen kept after
+goes_on_in_piece turn start before bytes piece i seen kept after lt is l =
+    subst (λ bs. StandsWith start before bs seen kept after) (piece_next bytes piece i lt) (subst (λ t. LeadsTo t start before ((bytes ++ take i piece) ++ slice_index_or piece i 0 ∷ []) seen kept after) is l)
+
+pub whole_piece : (start : Seen) (before : Option (List ℕ)) (bytes piece : List ℕ) (i : ℕ) (seen : Seen) (kept : KeptLine) (after : Option (List ℕ)) → length piece ≤ i
+    → StandsWith start before (bytes ++ take i piece) seen kept after → StandsWith start before (bytes ++ piece) seen kept after
+whole_piece start before bytes piece i seen kept after ge s = subst (λ p. StandsWith start before (bytes ++ p) seen kept after) (take_all i piece ge) s

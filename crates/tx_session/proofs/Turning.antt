@@ -1,5 +1,5 @@
 -- What became of a line that was answered.
-use Rattle.std.proofs.Common.{◌≡◌, ◌≢◌, ◌⊎◌, inl, inr, ℕ, ◌<◌, ◌==◌, Bool, true, false, List, [], ◌∷◌, length, refl, ap, sym, ◌∙◌, Option, Result, Ok, Err, arith}
+use Rattle.std.proofs.Common.{◌≡◌, ◌≢◌, ◌⊎◌, inl, inr, ℕ, ◌<◌, ◌==◌, Bool, true, false, List, [], ◌∷◌, length, refl, ap, sym, subst, ◌∙◌, Option, Result, Ok, Err, arith}
 use Rattle.std.specs.Prelude.{codes}
 use Rattle.std.specs.Str.{bytes_eq}
 use Rattle.std.proofs.lemmas.Slice.Eq.{bytes_eq-Decides}
@@ -18,6 +18,7 @@ use Rattle.tx_session.specs.declared.session.Next.{Next}
 use Rattle.tx_session.specs.declared.session.Next.TheVariants as nexts
 use Rattle.tx_session.specs.Replies.{Seen, Reading, nothing, command, faulty, IsRead, IsReply, IsReplyTo, IsLineReply, IsDone, refusal, wanting_reply}
 use Rattle.tx_session.specs.Scripts.{command_line, is_quit}
+use Rattle.tx_session.proofs.Quits.{quit_spelled}
 use Rattle.tx_session.specs.Writing.{IsSaid}
 use Rattle.tx_session.specs.Keeping.{IsTurned}
 
@@ -44,11 +45,6 @@ refused_turned result seen bytes cause before after goes some named is said =
 pub empty_turned : (seen : Seen) (bytes : List ℕ) (before after : Option (List ℕ)) → command_line bytes ≡ [] → after ≡ append_known before [] → IsTurned (Ok nexts.Go) seen bytes seen before after
 empty_turned seen bytes before after e same = (false, [], (nothing, e, (refl, refl, refl)), same)
 
-quit_spelled : (line : List ℕ) (it : Command) → it ≡ Quit → IsCommand line it → bytes_eq line (codes "quit") ≡ true
-quit_spelled line Quit e is = (bytes_eq-Decides line (codes "quit")).1 is.1
-quit_spelled line Show e is = cc
-quit_spelled line Tree e is = cc
-
 same_seen : (a b : Seen) → a.state ≡ b.state → a.width ≡ b.width → a.height ≡ b.height → a.fresh ≡ b.fresh → a ≡ b
 same_seen a b s w h f = λ i. record { state = s i; width = w i; height = h i; fresh = f i }
 
@@ -65,7 +61,7 @@ pub stepped_turned : (result : Result Next WriteFault) (seen next : Seen) (bytes
 stepped_turned (Ok nexts.Go) seen next bytes it before after some is quits quit silent r =
     (r.0, r.1, (command it, (some, is), ((λ e. let bad = quit e in cc), r.2)), r.3)
 stepped_turned (Ok nexts.Quit) seen next bytes it before after some is quits quit silent r =
-    let done = quit_done seen next it r.0 r.1 (quits refl) r.2 in (quit_spelled (command_line bytes) it (quits refl) is, done, silent (quits refl))
+    let done = quit_done seen next it r.0 r.1 (quits refl) r.2 in (quit_spelled (command_line bytes) (subst (IsCommand (command_line bytes)) (quits refl) is), done, silent (quits refl))
 stepped_turned (Err fault) seen next bytes it before after some is quits quit silent r =
     (r.0, r.1, (command it, (some, is), ((λ e. let bad = quit e in cc), r.2)), r.3)
 

@@ -1,20 +1,27 @@
-use Rattle.std.proofs.Common.{rules, ◌≡◌, ◌≢◌, ◌≤◌, ◌<◌, ◌+◌, ◌∷◌, ◌++◌, ◌⊎◌, ℕ, List, [], Option, Bool, length, decimal, IfOk, OnOk, OnErr, IfErr, Ok, ◌-◌, ◌*◌, ◌/◌, ◌%◌, true, false, nat_eq, nat_lt, slice_index_or, slice_set, bit_and, bit_or, Fits, w8, w32, w64, Bor, MutBor}
-use Rattle.tx_outside.specs.Counts.{NeverFalls, Rose}
-use Rattle.tx_outside.specs.Known.{StaysKnown}
-use Rattle.tx_cmd.specs.declared.command.CmdFault.{CmdFault}
-use Rattle.tx_session.specs.Replies.{Seen, IsLineReply, refusal, wanting_reply}
-use Rattle.tx_session.specs.Scripts.{command_line, is_quit}
-use Rattle.tx_session.specs.Lines.{line}
-use Rattle.tx_session.specs.Runs.{Tells}
-use Rattle.tx_session.specs.Writing.{IsSaid}
-use Rattle.tx_session.specs.Keeping.{Keeps, StandsWith, LeadsTo, IsTurned}
-use Rattle.tx_session.specs.Playing.{IsEnd}
+use Rattle.std.proofs.Common.{◌≡◌, ◌+◌, ℕ, List, [], ◌∷◌, ◌++◌, take, ap, sym, subst, ◌∙◌, arith}
+use Rattle.tx_outside.proofs.Counting.{never_falls_then, then_rose}
+use Rattle.tx_session.proofs.Standing.{stops_in_piece, goes_on_in_piece}
 use Rattle.tx_session.proofs.script.take_piece.Goals as goal
 
--- src/script.rt:157:21
 pub returns-in_default : goal.returns-in_default
-returns-in_default g c = ?
+returns-in_default g c =
+    record {
+      leads = λ start before bytes s. stops_in_piece c.take_byte.result start before bytes c.args.piece.now c.loop-byte.byte-index _ _ _ c.loop-byte-test.true c.in_default.not-Go (c.take_byte.ensures.leads start before (bytes ++ take c.loop-byte.byte-index c.args.piece.now) (c.loop-byte.invariant.leads start before bytes s));
+      kept = λ e. absurd (c.in_default.not-Go e);
+      count = omega (arith, c.take_byte.ensures.count, c.loop-byte.invariant.count, c.loop-byte-test.true);
+      output_failed = λ e. then_rose _ _ _ c.loop-byte.invariant.faults (c.take_byte.ensures.output_failed e);
+      store_kept = c.take_byte.ensures.store_kept ∙ c.loop-byte.invariant.store;
+      faults_never_fall = never_falls_then _ _ _ c.loop-byte.invariant.faults c.take_byte.ensures.faults_never_fall;
+      stays_known = c.take_byte.ensures.stays_known ∙ c.loop-byte.invariant.known
+    }
 
--- src/script.rt:154:5
 pub loop-byte-preserved : goal.loop-byte-preserved
-loop-byte-preserved g c = ?
+loop-byte-preserved g c =
+    record {
+      kept = c.take_byte.ensures.kept c.in-Go.is;
+      leads = λ start before bytes s. goes_on_in_piece c.take_byte.result start before bytes c.args.piece.now c.loop-byte.byte-index _ _ _ c.loop-byte-test.true c.in-Go.is (c.take_byte.ensures.leads start before (bytes ++ take c.loop-byte.byte-index c.args.piece.now) (c.loop-byte.invariant.leads start before bytes s));
+      count = omega (arith, c.take_byte.ensures.count, c.loop-byte.invariant.count);
+      store = c.take_byte.ensures.store_kept ∙ c.loop-byte.invariant.store;
+      faults = never_falls_then _ _ _ c.loop-byte.invariant.faults c.take_byte.ensures.faults_never_fall;
+      known = c.take_byte.ensures.stays_known ∙ c.loop-byte.invariant.known
+    }
