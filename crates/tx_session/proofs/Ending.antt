@@ -1,29 +1,47 @@
 -- How a script that was answered ends.
-use Rattle.std.proofs.Common.{◌≡◌, ◌≢◌, ◌⊎◌, inl, inr, ◌<◌, ◌≤◌, ◌+◌, ℕ, Bool, true, false, List, [], ◌∷◌, ◌++◌, length, take, drop, eqb, ◌-◌, refl, ap, sym, subst, ◌∙◌, Option, Some, None, All, IfSome, append_assoc, length-append, arith}
+use Rattle.std.proofs.Common.{◌≡◌, ◌≢◌, ◌⊎◌, inl, inr, ◌<◌, ◌≤◌, ◌+◌, ℕ, Bool, true, false, List, [], ◌∷◌, ◌++◌, length, take, drop, eqb, ◌-◌, refl, ap, sym, subst, ◌∙◌, Option, Some, None, Result, Ok, Err, All, Contains, IfSome, append_assoc, length-append, arith}
 use Rattle.std.specs.List.{flat_map, before_first}
 use Rattle.std.specs.Io.KnownBytes.{append_known, prepend_known}
+use Rattle.std.proofs.Math.Seq.{take-append-add, take-append_seam, drop-append_seam}
 use Rattle.std.proofs.lemmas.List.{append-nil, take-append-drop, take_all}
-use Rattle.std.proofs.lemmas.List.Elements.{All-nil}
+use Rattle.std.proofs.lemmas.List.Elements.{All-nil, All-append, All-cons, Contains-append_right}
+use Rattle.std.proofs.lemmas.Bool.{cases_lt}
 use Rattle.std.proofs.lemmas.Grind.{common_steps, flat_map-append}
+use Rattle.tx_outside.proofs.Pieces.{append_known-then}
 use Rattle.tx_outside.specs.Known.{AppendsPart}
 use Rattle.tx_session.specs.declared.TheConstants.{MOST_SCRIPT}
 use Rattle.tx_session.specs.Lines.{line}
 use Rattle.tx_session.specs.Replies.{Seen, IsLineReply}
 use Rattle.tx_session.specs.Scripts.{IsOneLine, HasLines, AreLinesOf, Answered, before_quit, command_line, is_quit}
 use Rattle.tx_session.specs.Runs.{Tells, IsPlayed, IsReplyBehind, CanBeRead}
-use Rattle.tx_session.specs.Keeping.{Stands, StandsWith, IsCutAt, Keeps, LeadsTo}
+use Rattle.tx_outside.specs.declared.faults.WriteFault.{WriteFault}
+use Rattle.tx_session.specs.declared.session.Next.{Next}
+use Rattle.tx_session.specs.declared.session.Next.TheVariants as nexts
+use Rattle.tx_session.specs.declared.kept_line.KeptLine.{KeptLine}
+use Rattle.tx_session.specs.declared.script.Turn.{Turn}
+use Rattle.tx_session.specs.declared.script.Turn.TheVariants as turns
+use Rattle.tx_session.specs.declared.status.Status.{Status}
+use Rattle.tx_session.specs.declared.status.Status.TheVariants as statuses
+use Rattle.tx_session.specs.Keeping.{Stands, StandsWith, IsCutAt, IsTurned, Keeps, LeadsTo}
 use Rattle.tx_session.specs.Playing.{HasPlayed, IsCutOff, IsEnd}
 use Rattle.tx_session.proofs.Quits.{replied_goes_on}
-use Rattle.tx_session.proofs.Standing.{line_goes_on, line_ends, no_lines}
+use Rattle.tx_session.proofs.Standing.{line_goes_on, line_ends, no_lines, answered_next}
 
 -- a byte and a list of lines, from the left
 abbrev Lined : List ℕ → Type 0
 Lined bytes = (ended : List (List ℕ)) × (rest : List ℕ) × HasLines bytes ended rest
 
+joined : (e r l x front more : List ℕ) → front ≡ e ++ r → more ≡ l ++ x → front ++ 10 ∷ more ≡ (e ++ ((r ++ 10 ∷ []) ++ l)) ++ x
+joined e r l x front more h k = grind (arith, common_steps)
+
 -- lines side by side
 pub lines_joined : (front more : List ℕ) (ended later : List (List ℕ)) (rest last : List ℕ) → HasLines front ended rest → HasLines more later last → HasLines (front ++ 10 ∷ more) (ended ++ rest ∷ later) last
 lines_joined front more ended later rest last h k =
-    record { whole = grind (arith, common_steps, flat_map-append, h.whole, k.whole); each = grind (arith, common_steps, h.each, h.last, k.each); last = k.last }
+    record {
+      whole = joined (flat_map line ended) rest (flat_map line later) last front more h.whole k.whole ∙ ap (λ x. x ++ last) (sym (flat_map-append line ended (rest ∷ later)));
+      each = All-append IsOneLine ended (rest ∷ later) h.each (All-cons IsOneLine rest later h.last k.each);
+      last = k.last
+    }
 
 -- all bytes have lines
 pub lined_more : (bytes front : List ℕ) → Lined front → Lined (front ++ bytes)
@@ -37,23 +55,39 @@ lined_more (b ∷ bytes) front l = subst Lined (append_assoc front (b ∷ []) by
 pub lined : (bytes : List ℕ) → Lined bytes
 lined bytes = lined_more bytes [] ([], [], no_lines)
 
+take_next : (k b : ℕ) (xs : List ℕ) → take (k + 1) (b ∷ xs) ≡ b ∷ take k xs
+take_next k b xs = grind (arith, common_steps)
+
+take_through : (m : ℕ) (upto more : List ℕ) → length upto < m → take m (upto ++ 10 ∷ more) ≡ upto ++ 10 ∷ take (m - (length upto + 1)) more
+take_through m upto more within =
+    let e : m ≡ length upto + ((m - (length upto + 1)) + 1) = omega arith in
+    ap (λ n. take n (upto ++ 10 ∷ more)) e ∙ take-append-add upto (10 ∷ more) ((m - (length upto + 1)) + 1) ∙ ap (λ x. upto ++ x) (take_next (m - (length upto + 1)) 10 more)
+
+front_through : (script upto more : List ℕ) → script ≡ upto ++ 10 ∷ more → length upto < MOST_SCRIPT → take MOST_SCRIPT script ≡ upto ++ 10 ∷ take (MOST_SCRIPT - (length upto + 1)) more
+front_through script upto more e within = ap (take MOST_SCRIPT) e ∙ take_through MOST_SCRIPT upto more within
+
 -- where a line ends within the limit, it is one of the script's lines
 pub lines_through : (script upto more : List ℕ) (ended : List (List ℕ)) (rest : List ℕ) → script ≡ upto ++ 10 ∷ more → HasLines upto ended rest → length upto < MOST_SCRIPT
     → (later : List (List ℕ)) × AreLinesOf script (ended ++ rest ∷ later)
 lines_through script upto more ended rest e h within = elim (cases script) [ inl short ↦ short_one short | inr long ↦ long_one long ]
   where
     cases : (script : List ℕ) → (length script ≤ MOST_SCRIPT) ⊎ (MOST_SCRIPT < length script)
-    cases script = le_or_lt (length script) MOST_SCRIPT
+    cases script = elim (cases_lt MOST_SCRIPT (length script)) [ inl long ↦ inr long | inr short ↦ inl short ]
     short_one : length script ≤ MOST_SCRIPT → (later : List (List ℕ)) × AreLinesOf script (ended ++ rest ∷ later)
     short_one short =
         let l = lined more in
-        (l.0 ++ l.1 ∷ [], inl (short, ended ++ rest ∷ l.0, l.1, subst (λ s. HasLines s (ended ++ rest ∷ l.0) l.1) (sym e) (lines_joined upto more ended l.0 rest l.1 h l.2), sym (append_assoc ended (rest ∷ l.0) (l.1 ∷ []))))
+        (l.0 ++ l.1 ∷ [], inl (short, (ended ++ rest ∷ l.0, l.1, subst (λ s. HasLines s (ended ++ rest ∷ l.0) l.1) (sym e) (lines_joined upto more ended l.0 rest l.1 h l.2), sym (append_assoc ended (rest ∷ l.0) (l.1 ∷ [])))))
     long_one : MOST_SCRIPT < length script → (later : List (List ℕ)) × AreLinesOf script (ended ++ rest ∷ later)
     long_one long =
         let l = lined (take (MOST_SCRIPT - (length upto + 1)) more) in
-        (l.0, inr (long, l.1, subst (λ s. HasLines s (ended ++ rest ∷ l.0) l.1) (sym (front_through script upto more e within)) (lines_joined upto _ ended l.0 rest l.1 h l.2)))
-    front_through : (script upto more : List ℕ) → script ≡ upto ++ 10 ∷ more → length upto < MOST_SCRIPT → take MOST_SCRIPT script ≡ upto ++ 10 ∷ take (MOST_SCRIPT - (length upto + 1)) more
-    front_through script upto more e within = grind (arith, common_steps)
+        (l.0, inr (long, (l.1, subst (λ s. HasLines s (ended ++ rest ∷ l.0) l.1) (sym (front_through script upto more e within)) (lines_joined upto _ ended l.0 rest l.1 h l.2))))
+
+module _ {A : Type 0} (p : A → Bool) where
+  before_next : (x : A) (xs : List A) → p x ≡ false → before_first p (x ∷ xs) ≡ x ∷ before_first p xs
+  before_next x xs e = grind (arith, common_steps)
+
+  before_stop : (x : A) (xs : List A) → p x ≡ true → before_first p (x ∷ xs) ≡ []
+  before_stop x xs e = grind (arith, common_steps)
 
 -- lines that were answered are none of them `quit`
 pub none_quits : (seen last : Seen) (lines : List (List ℕ)) (marks : List Bool) (text : List ℕ) → Answered seen lines marks last text → before_quit lines ≡ lines
@@ -61,13 +95,116 @@ none_quits seen last [] marks text a = refl
 none_quits seen last (l ∷ lines) [] text a = absurd a
 none_quits seen last (l ∷ lines) (m ∷ marks) text a =
     let goes : is_quit l ≡ false = replied_goes_on seen a.0 (command_line l) m a.1 a.3 in
-    grind (arith, common_steps, goes, none_quits a.0 last lines marks a.2 a.4)
+    before_next is_quit l lines goes ∙ ap (λ x. l ∷ x) (none_quits a.0 last lines marks a.2 a.4)
 
 -- the lines before the first `quit`
 pub up_to_quit : (seen last : Seen) (lines later : List (List ℕ)) (quitting : List ℕ) (marks : List Bool) (text : List ℕ) → Answered seen lines marks last text → is_quit quitting ≡ true
     → before_quit (lines ++ quitting ∷ later) ≡ lines
-up_to_quit seen last [] later quitting marks text a q = grind (arith, common_steps, q)
+up_to_quit seen last [] later quitting marks text a q = before_stop is_quit quitting later q
 up_to_quit seen last (l ∷ lines) later quitting [] text a q = absurd a
 up_to_quit seen last (l ∷ lines) later quitting (m ∷ marks) text a q =
     let goes : is_quit l ≡ false = replied_goes_on seen a.0 (command_line l) m a.1 a.3 in
-    grind (arith, common_steps, goes, up_to_quit a.0 last lines later quitting marks a.2 a.4 q)
+    before_next is_quit l (lines ++ quitting ∷ later) goes ∙ ap (λ x. l ∷ x) (up_to_quit a.0 last lines later quitting marks a.2 a.4 q)
+
+-- the script has ended, and its last line was answered
+pub whole_end : (start seen next : Seen) (told rest before between after : Option (List ℕ)) (script unended : List ℕ) (n : Next) → Tells told script → length script ≤ MOST_SCRIPT
+    → Stands start before script unended seen between → IsTurned (Ok n) seen unended next between after → HasPlayed start told rest statuses.Ok before after
+whole_end start seen next told rest before between after script unended nexts.Go tells short s t =
+    let a = answered_next start s.ended s.marks seen next s.replies t.1 unended t.0 s.answered t.2 in
+    record {
+      script = script; marks = s.marks ++ t.0 ∷ []; replies = s.replies ++ t.1; tells = tells;
+      played = (s.ended ++ unended ∷ [], next, inl (short, (s.ended, unended, s.lines, refl)), inl short, subst (λ ls. Answered start ls (s.marks ++ t.0 ∷ []) next (s.replies ++ t.1)) (sym (none_quits start next (s.ended ++ unended ∷ []) (s.marks ++ t.0 ∷ []) (s.replies ++ t.1) a)) a);
+      written = append_known-then before between after s.replies t.1 s.written t.3
+    }
+whole_end start seen next told rest before between after script unended nexts.Quit tells short s t =
+    record {
+      script = script; marks = s.marks; replies = s.replies; tells = tells;
+      played = (s.ended ++ unended ∷ [], seen, inl (short, (s.ended, unended, s.lines, refl)), inl short, subst (λ ls. Answered start ls s.marks seen s.replies) (sym (up_to_quit start seen s.ended [] unended s.marks s.replies s.answered t.0)) s.answered);
+      written = t.2 ∙ s.written
+    }
+
+-- the same, where the reply to it is written in part
+pub whole_cut : (start seen next : Seen) (told before between after : Option (List ℕ)) (script unended : List ℕ) → Tells told script → length script ≤ MOST_SCRIPT
+    → Stands start before script unended seen between
+    → ((wanting : Bool) × (reply : List ℕ) × IsLineReply seen (command_line unended) wanting next reply × AppendsPart reply between after) → IsCutOff start told before after
+whole_cut start seen next told before between after script unended tells short s r =
+    record {
+      script = script; done = s.replies; reply = r.1; tells = tells;
+      behind = (s.ended ++ unended ∷ [], s.ended, [], unended, s.marks, seen, next, r.0, inl (short, (s.ended, unended, s.lines, refl)), refl, s.answered, r.2);
+      part = subst (λ b. AppendsPart r.1 b after) s.written r.3
+    }
+
+-- what the input told is what was taken and what it still tells
+abbrev pub or_empty : Option (List ℕ) → List ℕ
+or_empty None = []
+or_empty (Some bytes) = bytes
+
+pub tells_both : (told rest : Option (List ℕ)) (taken : List ℕ) → told ≡ prepend_known taken rest → Tells told (taken ++ or_empty rest)
+tells_both told None taken e = subst (λ t. Tells t (taken ++ [])) (sym e) tt
+tells_both told (Some bytes) taken e = subst (λ t. Tells t (taken ++ bytes)) (sym e) refl
+
+pub rest_dropped : (rest : Option (List ℕ)) (taken : List ℕ) → IfSome rest (λ bytes. bytes ≡ drop (length taken) (taken ++ or_empty rest))
+rest_dropped None taken = tt
+rest_dropped (Some bytes) taken = sym (drop-append_seam taken bytes)
+
+-- the input failed
+pub failed_end : (start seen : Seen) (told rest before after : Option (List ℕ)) (taken unended : List ℕ) → told ≡ prepend_known taken rest → length taken ≤ MOST_SCRIPT
+    → Stands start before taken unended seen after → HasPlayed start told rest statuses.InputFault before after
+failed_end start seen told rest before after taken unended e within s =
+    record {
+      script = taken ++ or_empty rest; marks = s.marks; replies = s.replies; tells = tells_both told rest taken e;
+      played = (length taken, s.ended, unended, seen, grind (arith, common_steps), within, rest_dropped rest taken,
+        subst (λ bs. HasLines bs s.ended unended) (sym (take-append_seam taken (or_empty rest))) s.lines, s.answered);
+      written = s.written
+    }
+
+-- more was taken than a script has
+pub long_end : (start seen : Seen) (told rest before after : Option (List ℕ)) (script taken more unended : List ℕ) → Tells told script → script ≡ taken ++ more → length taken ≡ MOST_SCRIPT → 0 < length more
+    → Stands start before taken unended seen after → HasPlayed start told rest statuses.ScriptLong before after
+long_end start seen told rest before after script taken more unended tells e full some s =
+    let long : MOST_SCRIPT < length script = omega (arith, ap length e, length-append taken more) in
+    record {
+      script = script; marks = s.marks; replies = s.replies; tells = tells;
+      played = (s.ended, seen, inr (long, (unended, subst (λ bs. HasLines bs s.ended unended) (sym (ap (take MOST_SCRIPT) e ∙ ap (λ n. take n (taken ++ more)) (sym full) ∙ take-append_seam taken more)) s.lines)), long, s.answered);
+      written = s.written
+    }
+
+abbrev pub status_of_turn : Turn → Status
+status_of_turn turns.Go = statuses.Ok
+status_of_turn turns.Quit = statuses.Ok
+status_of_turn turns.NoMemory = statuses.NoMemory
+status_of_turn turns.OutputFailed = statuses.OutputFault
+
+shorter : (bytes upto later : List ℕ) → bytes ≡ upto ++ 10 ∷ later → length bytes ≤ MOST_SCRIPT → length upto < MOST_SCRIPT
+shorter bytes upto later is within = omega (arith, within, ap length is, length-append upto (10 ∷ later))
+
+holds : (lines : List (List ℕ)) (one : List ℕ) (later : List (List ℕ)) → Contains (lines ++ one ∷ later) one
+holds lines one later = Contains-append_right lines (one ∷ later) one (Contains-first one later)
+
+-- within what was taken: `quit`, want of memory, or a fault of the output
+pub stopped : (turn : Turn) (start seen : Seen) (told rest before after : Option (List ℕ)) (script bytes more : List ℕ) (kept : KeptLine) → turn ≢ turns.Go → Tells told script → script ≡ bytes ++ more
+    → length bytes ≤ MOST_SCRIPT → LeadsTo turn start before bytes seen kept after → IsEnd (status_of_turn turn) start told rest before after
+stopped turns.Go start seen told rest before after script bytes more kept other tells e within l = absurd (other refl)
+stopped turns.Quit start seen told rest before after script bytes more kept other tells e within (upto, later, unended, is, s, q) =
+    let through = lines_through script upto (later ++ more) s.ended unended (e ∙ ap (λ x. x ++ more) is ∙ append_assoc upto (10 ∷ later) more) s.lines (shorter bytes upto later is within) in
+    record {
+      script = script; marks = s.marks; replies = s.replies; tells = tells;
+      played = (s.ended ++ unended ∷ through.0, seen, through.1, inr (s.ended ++ unended ∷ through.0, through.1, (unended, holds s.ended unended through.0, q)),
+        subst (λ ls. Answered start ls s.marks seen s.replies) (sym (up_to_quit start seen s.ended through.0 unended s.marks s.replies s.answered q)) s.answered);
+      written = s.written
+    }
+stopped turns.NoMemory start seen told rest before after script bytes more kept other tells e within (upto, later, unended, is, s) =
+    let whole : script ≡ upto ++ (later ++ more) = e ∙ ap (λ x. x ++ more) is ∙ append_assoc upto later more in
+    record {
+      script = script; marks = s.marks; replies = s.replies; tells = tells;
+      played = (length upto, s.ended, unended, seen, omega (arith, ap length whole, length-append upto (later ++ more)), omega (arith, within, ap length is, length-append upto later),
+        subst (λ bs. HasLines bs s.ended unended) (sym (ap (take (length upto)) whole ∙ take-append_seam upto (later ++ more))) s.lines, s.answered);
+      written = s.written
+    }
+stopped turns.OutputFailed start seen told rest before after script bytes more kept other tells e within (upto, later, is, c) =
+    let through = lines_through script upto (later ++ more) c.stands.ended c.rest (e ∙ ap (λ x. x ++ more) is ∙ append_assoc upto (10 ∷ later) more) c.stands.lines (shorter bytes upto later is within) in
+    record {
+      script = script; done = c.stands.replies; reply = c.reply; tells = tells;
+      behind = (c.stands.ended ++ c.rest ∷ through.0, c.stands.ended, through.0, c.rest, c.stands.marks, c.seen, c.next, c.wanting, through.1, refl, c.stands.answered, c.replied);
+      part = subst (λ b. AppendsPart c.reply b after) c.stands.written c.part
+    }
