@@ -7,7 +7,7 @@ use Rattle.std.proofs.lemmas.List.{append-nil, take-append-drop, take_all}
 use Rattle.std.proofs.lemmas.List.Elements.{All-nil, All-append, All-cons, Contains-append_right}
 use Rattle.std.proofs.lemmas.Bool.{cases_lt}
 use Rattle.std.proofs.lemmas.Grind.{common_steps, flat_map-append}
-use Rattle.tx_outside.proofs.Pieces.{append_known-then}
+use Rattle.tx_outside.proofs.Pieces.{append_known-then, prepend_known-then}
 use Rattle.tx_outside.specs.Known.{AppendsPart}
 use Rattle.tx_session.specs.declared.TheConstants.{MOST_SCRIPT}
 use Rattle.tx_session.specs.Lines.{line}
@@ -179,7 +179,7 @@ shorter : (bytes upto later : List ℕ) → bytes ≡ upto ++ 10 ∷ later → l
 shorter bytes upto later is within = omega (arith, within, ap length is, length-append upto (10 ∷ later))
 
 holds : (lines : List (List ℕ)) (one : List ℕ) (later : List (List ℕ)) → Contains (lines ++ one ∷ later) one
-holds lines one later = Contains-append_right lines (one ∷ later) one (Contains-first one later)
+holds lines one later = Contains-append_right lines (one ∷ later) one (0, grind arith, refl)
 
 -- within what was taken: `quit`, want of memory, or a fault of the output
 pub stopped : (turn : Turn) (start seen : Seen) (told rest before after : Option (List ℕ)) (script bytes more : List ℕ) (kept : KeptLine) → turn ≢ turns.Go → Tells told script → script ≡ bytes ++ more
@@ -208,3 +208,59 @@ stopped turns.OutputFailed start seen told rest before after script bytes more k
       behind = (c.stands.ended ++ c.rest ∷ through.0, c.stands.ended, through.0, c.rest, c.stands.marks, c.seen, c.next, c.wanting, through.1, refl, c.stands.answered, c.replied);
       part = subst (λ b. AppendsPart c.reply b after) c.stands.written c.part
     }
+
+-- a read: its first bytes, and the rest of it
+take_less : (into : List ℕ) (within count : ℕ) → within ≤ count → take within (take count into) ≡ take within into
+take_less into within count le = grind (arith, common_steps)
+
+take_parts : (into : List ℕ) (within count : ℕ) → within ≤ count → take count into ≡ take within into ++ drop within (take count into)
+take_parts into within count le = sym (take-append-drop within (take count into)) ∙ ap (λ x. x ++ drop within (take count into)) (take_less into within count le)
+
+pub read_parts : (taken into tail : List ℕ) (within count : ℕ) → within ≤ count → (taken ++ take count into) ++ tail ≡ (taken ++ take within into) ++ (drop within (take count into) ++ tail)
+read_parts taken into tail within count le =
+    ap (λ x. (taken ++ x) ++ tail) (take_parts into within count le) ∙ ap (λ x. x ++ tail) (sym (append_assoc taken (take within into) (drop within (take count into))))
+    ∙ append_assoc (taken ++ take within into) (drop within (take count into)) tail
+
+pub read_within : (taken into : List ℕ) (within room : ℕ) → within ≤ room → length taken + room ≡ MOST_SCRIPT → length (taken ++ take within into) ≤ MOST_SCRIPT
+read_within taken into within room le e = let short : length (take within into) ≤ within = grind (arith, common_steps) in omega (arith, length-append taken (take within into))
+
+pub read_full : (taken into : List ℕ) (within room : ℕ) → within ≡ room → within ≤ length into → length taken + room ≡ MOST_SCRIPT → length (taken ++ take within into) ≡ MOST_SCRIPT
+read_full taken into within room is le e = let short : length (take within into) ≡ within = grind (arith, common_steps) in omega (arith, length-append taken (take within into))
+
+pub read_more : (into tail : List ℕ) (within count : ℕ) → within < count → count ≤ length into → 0 < length (drop within (take count into) ++ tail)
+read_more into tail within count lt le =
+    let some : length (drop within (take count into)) ≡ count - within = grind (arith, common_steps) in omega (arith, length-append (drop within (take count into)) tail)
+
+-- the end of a session within a read
+pub stopped_in_read : (turn : Turn) (start seen : Seen) (told mid rest before after : Option (List ℕ)) (taken into : List ℕ) (within count room : ℕ) (kept : KeptLine) → turn ≢ turns.Go
+    → told ≡ prepend_known taken mid → mid ≡ prepend_known (take count into) rest → within ≤ count → within ≤ room → length taken + room ≡ MOST_SCRIPT
+    → LeadsTo turn start before (taken ++ take within into) seen kept after → IsEnd (status_of_turn turn) start told rest before after
+stopped_in_read turn start seen told mid rest before after taken into within count room kept other first second part fits e l =
+    stopped turn start seen told rest before after ((taken ++ take count into) ++ or_empty rest) (taken ++ take within into) (drop within (take count into) ++ or_empty rest) kept other
+        (tells_both told rest (taken ++ take count into) (prepend_known-then told mid rest taken (take count into) first second))
+        (read_parts taken into (or_empty rest) within count part) (read_within taken into within room fits e) l
+
+pub long_read : (start seen : Seen) (told mid rest before after : Option (List ℕ)) (taken into : List ℕ) (within count room : ℕ) (kept : KeptLine)
+    → told ≡ prepend_known taken mid → mid ≡ prepend_known (take count into) rest → within < count → within ≡ room → count ≤ length into → length taken + room ≡ MOST_SCRIPT
+    → StandsWith start before (taken ++ take within into) seen kept after → HasPlayed start told rest statuses.ScriptLong before after
+long_read start seen told mid rest before after taken into within count room kept first second part full le e s =
+    long_end start seen told rest before after ((taken ++ take count into) ++ or_empty rest) (taken ++ take within into) (drop within (take count into) ++ or_empty rest) s.rest
+        (tells_both told rest (taken ++ take count into) (prepend_known-then told mid rest taken (take count into) first second))
+        (read_parts taken into (or_empty rest) within count (omega (arith, part))) (read_full taken into within room full (omega (arith, part, le)) e) (read_more into (or_empty rest) within count part le) s.stands
+
+-- the input is at its end
+pub at_end : (told mid rest : Option (List ℕ)) (taken into : List ℕ) (count : ℕ) → count ≡ 0 → told ≡ prepend_known taken mid → mid ≡ prepend_known (take count into) rest → IfSome mid (λ bytes. bytes ≡ []) → Tells told taken
+at_end told None rest taken into count zero first second end = subst (λ t. Tells t taken) (sym first) tt
+at_end told (Some bytes) rest taken into count zero first second end = subst (λ t. Tells t taken) (sym first) (ap (λ x. taken ++ x) end ∙ append-nil taken)
+
+-- the loop goes on
+pub read_on : (told mid rest : Option (List ℕ)) (taken into : List ℕ) (within count : ℕ) → count ≤ within → within ≤ count → told ≡ prepend_known taken mid → mid ≡ prepend_known (take count into) rest
+    → told ≡ prepend_known (taken ++ take within into) rest
+read_on told mid rest taken into within count le ge first second =
+    let e : count ≡ within = omega (arith, le, ge) in prepend_known-then told mid rest taken (take within into) first (second ∙ ap (λ n. prepend_known (take n into) rest) e)
+
+pub room_on : (taken into : List ℕ) (within room : ℕ) → within ≤ room → within ≤ length into → length taken + room ≡ MOST_SCRIPT → length (taken ++ take within into) + (room - within) ≡ MOST_SCRIPT
+room_on taken into within room fits le e = let short : length (take within into) ≡ within = grind (arith, common_steps) in omega (arith, length-append taken (take within into))
+
+pub count_on : (now before room within : ℕ) (into : List ℕ) → now ≤ before + length (take within into) → before + room ≤ MOST_SCRIPT → within ≤ room → now + (room - within) ≤ MOST_SCRIPT
+count_on now before room within into le fits part = let short : length (take within into) ≤ within = grind (arith, common_steps) in omega (arith, short)
