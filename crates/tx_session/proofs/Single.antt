@@ -5,7 +5,7 @@ use Rattle.tx_outside.specs.Files.{Files, file_of}
 use Rattle.tx_scm.specs.Spelling.{Spells}
 use Rattle.tx_scm.proofs.Complete.{spelled_once}
 use Rattle.tx_session.specs.Names.{is_scheme_name}
-use Rattle.tx_session.specs.Outcomes.{Outcome, faulty_words, other_form, missing, too_long, no_tree, store_fault, no_memory, shown, ComesTo, Asks, IsDecided, file_in}
+use Rattle.tx_session.specs.Outcomes.{Outcome, faulty_words, other_form, missing, too_long, no_tree, store_fault, no_memory, opened, ComesTo, Asks, IsDecided, file_in}
 
 some_holds : (P : List ℕ → Type 0) (x : Option (List ℕ)) (bytes : List ℕ) → x ≡ Some bytes → IsSomeAnd x P → P bytes
 some_holds P None bytes e h = absurd cc
@@ -55,7 +55,7 @@ module _ (words : List (List ℕ)) (all : Files) where
   one_outcome faulty_words (missing g) h k d e = let a = k.0.0 in absurd cc
   one_outcome faulty_words (too_long g) h k d e = let a = k.0.0 in absurd cc
   one_outcome faulty_words (no_tree g) h k d e = let a = k.0.0 in absurd cc
-  one_outcome faulty_words (shown u) h k d e = let a = k.1.0 in absurd cc
+  one_outcome faulty_words (opened g u) h k d e = let a = k.0.0 in absurd cc
   one_outcome (other_form f) (store_fault g) h k d e = absurd e
   one_outcome (other_form f) no_memory h k d e = absurd e
   one_outcome (other_form f) faulty_words h k d e = let a = h.0 in absurd cc
@@ -63,7 +63,7 @@ module _ (words : List (List ℕ)) (all : Files) where
   one_outcome (other_form f) (missing g) h k d e = absurd (not_asked f g h.0 h.1 k.0)
   one_outcome (other_form f) (too_long g) h k d e = absurd (not_asked f g h.0 h.1 k.0)
   one_outcome (other_form f) (no_tree g) h k d e = absurd (not_asked f g h.0 h.1 k.0)
-  one_outcome (other_form f) (shown u) h k d e = absurd (not_asked f k.0 h.0 h.1 k.1)
+  one_outcome (other_form f) (opened g u) h k d e = absurd (not_asked f g h.0 h.1 k.0)
   one_outcome (missing f) (store_fault g) h k d e = absurd e
   one_outcome (missing f) no_memory h k d e = absurd e
   one_outcome (missing f) faulty_words h k d e = let a = h.0.0 in absurd cc
@@ -71,7 +71,7 @@ module _ (words : List (List ℕ)) (all : Files) where
   one_outcome (missing f) (missing g) h k d e = ap missing (asked_once f g h.0 k.0)
   one_outcome (missing f) (too_long g) h k d e = absurd (missing_long f g (asked_once f g h.0 k.0) h.1 k.1)
   one_outcome (missing f) (no_tree g) h k d e = absurd (missing_there f g k.1.0 (asked_once f g h.0 k.0) h.1 k.1.1)
-  one_outcome (missing f) (shown u) h k d e = absurd (missing_there f k.0 k.2.0 (asked_once f k.0 h.0 k.1) h.1 k.2.1)
+  one_outcome (missing f) (opened g u) h k d e = absurd (missing_there f g k.1.0 (asked_once f g h.0 k.0) h.1 k.1.1)
   one_outcome (too_long f) (store_fault g) h k d e = absurd e
   one_outcome (too_long f) no_memory h k d e = absurd e
   one_outcome (too_long f) faulty_words h k d e = let a = h.0.0 in absurd cc
@@ -79,7 +79,7 @@ module _ (words : List (List ℕ)) (all : Files) where
   one_outcome (too_long f) (missing g) h k d e = absurd (missing_long g f (asked_once g f k.0 h.0) k.1 h.1)
   one_outcome (too_long f) (too_long g) h k d e = ap too_long (asked_once f g h.0 k.0)
   one_outcome (too_long f) (no_tree g) h k d e = absurd (long_short f g k.1.0 (asked_once f g h.0 k.0) h.1 k.1.1 k.1.2)
-  one_outcome (too_long f) (shown u) h k d e = absurd (long_short f k.0 k.2.0 (asked_once f k.0 h.0 k.1) h.1 k.2.1 k.2.2)
+  one_outcome (too_long f) (opened g u) h k d e = absurd (long_short f g k.1.0 (asked_once f g h.0 k.0) h.1 k.1.1 k.1.2)
   one_outcome (no_tree f) (store_fault g) h k d e = absurd e
   one_outcome (no_tree f) no_memory h k d e = absurd e
   one_outcome (no_tree f) faulty_words h k d e = let a = h.0.0 in absurd cc
@@ -87,18 +87,19 @@ module _ (words : List (List ℕ)) (all : Files) where
   one_outcome (no_tree f) (missing g) h k d e = absurd (missing_there g f h.1.0 (asked_once g f k.0 h.0) k.1 h.1.1)
   one_outcome (no_tree f) (too_long g) h k d e = absurd (long_short g f h.1.0 (asked_once g f k.0 h.0) k.1 h.1.1 h.1.2)
   one_outcome (no_tree f) (no_tree g) h k d e = ap no_tree (asked_once f g h.0 k.0)
-  one_outcome (no_tree f) (shown u) h k d e =
-      let same = bytes_same f k.0 h.1.0 k.2.0 (asked_once f k.0 h.0 k.1) h.1.1 k.2.1 in
-      absurd (h.1.3 u k.2.4 (subst (λ b. Spells b u) (sym same) k.2.3))
-  one_outcome (shown t) (store_fault g) h k d e = absurd e
-  one_outcome (shown t) no_memory h k d e = absurd e
-  one_outcome (shown t) faulty_words h k d e = let a = h.1.0 in absurd cc
-  one_outcome (shown t) (other_form g) h k d e = absurd (not_asked g h.0 k.0 k.1 h.1)
-  one_outcome (shown t) (missing g) h k d e = absurd (missing_there g h.0 h.2.0 (asked_once g h.0 k.0 h.1) k.1 h.2.1)
-  one_outcome (shown t) (too_long g) h k d e = absurd (long_short g h.0 h.2.0 (asked_once g h.0 k.0 h.1) k.1 h.2.1 h.2.2)
-  one_outcome (shown t) (no_tree g) h k d e =
-      let same = bytes_same g h.0 k.1.0 h.2.0 (asked_once g h.0 k.0 h.1) k.1.1 h.2.1 in
-      absurd (k.1.3 t h.2.4 (subst (λ b. Spells b t) (sym same) h.2.3))
-  one_outcome (shown t) (shown u) h k d e =
-      let same = bytes_same h.0 k.0 h.2.0 k.2.0 (asked_once h.0 k.0 h.1 k.1) h.2.1 k.2.1 in
-      ap shown (spelled_once h.2.0 t u h.2.3 (subst (λ b. Spells b u) (sym same) k.2.3))
+  one_outcome (no_tree f) (opened g u) h k d e =
+      let same = bytes_same f g h.1.0 k.1.0 (asked_once f g h.0 k.0) h.1.1 k.1.1 in
+      absurd (h.1.3 u k.1.4 (subst (λ b. Spells b u) (sym same) k.1.3))
+  one_outcome (opened f t) (store_fault g) h k d e = absurd e
+  one_outcome (opened f t) no_memory h k d e = absurd e
+  one_outcome (opened f t) faulty_words h k d e = let a = h.0.0 in absurd cc
+  one_outcome (opened f t) (other_form g) h k d e = absurd (not_asked g f k.0 k.1 h.0)
+  one_outcome (opened f t) (missing g) h k d e = absurd (missing_there g f h.1.0 (asked_once g f k.0 h.0) k.1 h.1.1)
+  one_outcome (opened f t) (too_long g) h k d e = absurd (long_short g f h.1.0 (asked_once g f k.0 h.0) k.1 h.1.1 h.1.2)
+  one_outcome (opened f t) (no_tree g) h k d e =
+      let same = bytes_same g f k.1.0 h.1.0 (asked_once g f k.0 h.0) k.1.1 h.1.1 in
+      absurd (k.1.3 t h.1.4 (subst (λ b. Spells b t) (sym same) h.1.3))
+  one_outcome (opened f t) (opened g u) h k d e =
+      let named = asked_once f g h.0 k.0 in
+      let same = bytes_same f g h.1.0 k.1.0 named h.1.1 k.1.1 in
+      λ i. opened (named i) (spelled_once h.1.0 t u h.1.3 (subst (λ b. Spells b u) (sym same) k.1.3) i)

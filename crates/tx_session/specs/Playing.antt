@@ -1,9 +1,10 @@
 -- How a script was answered. Only private clauses cite this.
-use Rattle.std.specs.Prelude.{◌≡◌, ◌++◌, ◌⊎◌, ℕ, Bool, List, Option}
+use Rattle.std.specs.Prelude.{◌≡◌, ◌≢◌, ◌++◌, ◌⊎◌, ℕ, Bool, List, Option}
 use Rattle.std.specs.Io.KnownBytes.{append_known}
 use Rattle.tx_outside.specs.Known.{AppendsPart}
 use Rattle.tx_session.specs.declared.status.Status.{Status}
 use Rattle.tx_session.specs.declared.status.Status.TheVariants.{OutputFault}
+use Rattle.tx_session.specs.Outcomes.{Outcome, status_of, text_of}
 use Rattle.tx_session.specs.Replies.{Seen}
 use Rattle.tx_session.specs.Runs.{Tells, IsPlayed, IsReplyBehind, own_line}
 
@@ -47,3 +48,8 @@ pub record IsClosedInPart (start : Seen) (told rest : Option (List ℕ)) (before
 abbrev pub IsServed : Status → Seen → (told rest before after : Option (List ℕ)) → Type 0
 IsServed OutputFault start told rest before after = IsCutOff start told before after ⊎ IsClosedInPart start told rest before after
 IsServed status start told rest before after = IsClosed start told rest status before after
+
+-- the line of an outcome that opened no file, which is written, or in part
+pub record IsLine (o : Outcome) (status : Status) (before after : Option (List ℕ)) : Type 0 where
+  pub done : status ≢ OutputFault → (status ≡ status_of o) × (after ≡ append_known before (text_of o))
+  pub cut : status ≡ OutputFault → AppendsPart (text_of o) before after

@@ -5,9 +5,10 @@ ghost use Rattle.std.specs.Io.KnownBytes.{append_known};
 ghost use Rattle.tx_outside.specs.Counts.{NeverFalls, Rose};
 ghost use Rattle.tx_outside.specs.Files.{Files};
 ghost use Rattle.tx_outside.specs.Known.{AppendsPart, StaysKnown};
-ghost use Rattle.tx_session.specs.Outcomes.{file_in, ComesTo, IsDecided, Outcome, opened};
+ghost use Rattle.tx_session.specs.Outcomes.{file_in, ComesTo, IsDecided, Outcome, no_memory, opened};
 ghost use Rattle.tx_session.specs.Runs.{CanBeOpened, CanBeRead, IsRefused, IsRun, IsWritten, own_line, start_of};
-ghost use Rattle.tx_session.specs.Playing.{IsServed};
+ghost use Rattle.tx_session.specs.Playing.{IsServed, IsLine};
+ghost use Rattle.tx_tree.specs.WideTree.{WideTree};
 ghost use Rattle.tx_session.specs.Openings.{outcome_of};
 
 use crate::names::buffer_name;
@@ -34,6 +35,20 @@ fn finish<O: Sink>(out: &mut O, text: &[u8], status: Status) -> Status
     match write_all(out, text) {
         Ok(()) => status,
         Err(WriteFault::Failed) => Status::OutputFault,
+    }
+}
+
+// Writes the line that says why no file was opened.
+fn report<O: Sink>(alloc: Global, opening: &Opening, out: &mut O) -> Status
+    requires unopened { (file : List ℕ) (t : WideTree) → outcome_of opening.now ≢ opened file t }
+    ensures line { IsLine (outcome_of opening.now) result (O.written out.old) (O.written out.new) ⊎ IsLine no_memory result (O.written out.old) (O.written out.new) }
+    ensures counted { result ≡ Status.OutputFault → Rose (O.faults out.old) (O.faults out.new) }
+    ensures faults_never_fall { NeverFalls (O.faults out.old) (O.faults out.new) }
+    ensures stays_known { StaysKnown (O.written out.old) (O.written out.new) }
+{
+    match opening.text(alloc) {
+        Ok(text) => finish(out, &text, opening.status()),
+        Err(Memory) => finish(out, b"memory\n", Status::NoMemory),
     }
 }
 
@@ -139,10 +154,7 @@ pub fn run<S: Store, I: Source, O: Sink, L: Ledger>(
             Ok(mut session) => serve(alloc, &mut session, store, input, out, steps),
             Err(Memory) => finish(out, b"memory\n", Status::NoMemory),
         },
-        failed => match failed.text(alloc) {
-            Ok(text) => finish(out, &text, failed.status()),
-            Err(Memory) => finish(out, b"memory\n", Status::NoMemory),
-        },
+        failed => report(alloc, &failed, out),
     }
 }
 
