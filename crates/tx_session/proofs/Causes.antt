@@ -1,5 +1,5 @@
 -- Why a run ends as it does.
-use Rattle.std.proofs.Common.{◌≡◌, ◌≢◌, ◌⊎◌, inl, inr, ℕ, Bool, List, [], ◌++◌, Option, Some, refl, ap, sym, subst, ◌∙◌}
+use Rattle.std.proofs.Common.{◌≡◌, ◌≢◌, ◌⊎◌, inl, inr, ℕ, Bool, true, false, Bor, List, [], ◌++◌, Option, Some, None, IfSome, refl, ap, sym, subst, ◌∙◌}
 use Rattle.std.specs.Io.KnownBytes.{append_known}
 use Rattle.tx_outside.specs.Files.{Files}
 use Rattle.tx_outside.specs.Known.{AppendsPart}
@@ -7,10 +7,17 @@ use Rattle.tx_outside.proofs.Pieces.{append_known-then, append_known-nil}
 use Rattle.tx_tree.specs.WideTree.{WideTree}
 use Rattle.tx_session.specs.declared.status.Status.{Status}
 use Rattle.tx_session.specs.declared.status.Status.TheVariants as statuses
-use Rattle.tx_session.specs.Outcomes.{Outcome, faulty_words, other_form, missing, too_long, no_tree, store_fault, no_memory, opened, ComesTo, file_in, status_of, text_of}
+use Rattle.tx_session.specs.Outcomes.{Outcome, Holds, faulty_words, other_form, missing, too_long, no_tree, store_fault, no_memory, opened, ComesTo, file_in, status_of, text_of}
 use Rattle.tx_session.specs.Replies.{Seen}
-use Rattle.tx_session.specs.Runs.{IsRun, IsWritten, IsCutShort, IsWhole, IsBeingWritten, own_line, start_of}
-use Rattle.tx_session.specs.Playing.{HasPlayed, IsCutOff, IsEnd, IsClosed, IsClosedInPart, IsServed}
+use Rattle.tx_session.specs.Openings.{outcome_of}
+use Rattle.tx_session.specs.declared.opening.Opening.{Opening}
+use Rattle.tx_session.specs.declared.opening.Opening.TheVariants as openings
+use Rattle.tx_session.specs.Names.{is_scheme_name}
+use Rattle.tx_outside.specs.Files.{file_of}
+use Rattle.tx_scm.specs.Spelling.{Spells}
+use Rattle.tx_session.specs.Runs.{IsRefused, CanBeOpened, CanBeRead, Tells, IsRun, IsWritten, IsCutShort, IsWhole, IsBeingWritten, own_line, start_of}
+use Rattle.tx_session.specs.Playing.{HasPlayed, IsCutOff, IsEnd, IsClosed, IsClosedInPart, IsServed, IsLine}
+use Rattle.tx_session.proofs.Lining.{long_unread}
 
 -- where the words aren't faulty they name a file
 pub taken : (words : List (List ℕ)) (files : Option Files) (o : Outcome) → ComesTo words files o → (o ≡ faulty_words → ⊥) → (file : List ℕ) × (file_in words ≡ Some file)
@@ -131,3 +138,156 @@ opened_run words files told rest file t status before after comes s =
     cut_run words files told rest file t before after comes (inr c) =
         record { outcome = opened file t; done = c.played.replies; part = own_line c.status; comes = comes;
           being = (c.played.script, c.played.tells, inr (c.status, c.played.marks, c.played.played, refl)); cut = subst (λ b. AppendsPart (own_line c.status) b after) c.played.written c.part }
+
+-- the line that says why no file was opened
+module _ (words : List (List ℕ)) (files : Option Files) (o : Outcome) (status : Status) (before after : Option (List ℕ)) (u : IsUnopened o) (n : o ≢ faulty_words) (comes : ComesTo words files o)
+    (line : IsLine o status before after ⊎ IsLine no_memory status before after) where
+  pub reported_run : (told rest : Option (List ℕ)) → IsRun words files told rest status before after
+  reported_run told rest = elim line [
+    inl l ↦ line_run words files told rest o status before after u comes l.done l.cut
+    | inr l ↦ line_run words files told rest no_memory status before after (λ file t e. cc) (taken words files o comes n) l.done l.cut ]
+
+  pub reported_status : status ≢ statuses.OutputFault → (status ≡ status_of o) ⊎ (status ≡ statuses.NoMemory)
+  reported_status m = elim line [ inl l ↦ inl (l.done m).0 | inr l ↦ inr (l.done m).0 ]
+
+-- what became of the words, and why
+unopened : (r : Opening) → ((file : Bor (List ℕ)) (t : WideTree) → r ≡ openings.Opened file t → ⊥) → IsUnopened (outcome_of r)
+unopened openings.FaultyWords n file t e = cc
+unopened (openings.OtherForm f) n file t e = cc
+unopened (openings.Missing f) n file t e = cc
+unopened (openings.TooLong f) n file t e = cc
+unopened (openings.NoTree f) n file t e = cc
+unopened (openings.StoreFault f) n file t e = cc
+unopened openings.NoMemory n file t e = cc
+unopened (openings.Opened f u) n file t e = n f u refl
+
+worded : (r : Opening) → r ≢ openings.FaultyWords → outcome_of r ≢ faulty_words
+worded openings.FaultyWords n e = n refl
+worded (openings.OtherForm f) n e = cc
+worded (openings.Missing f) n e = cc
+worded (openings.TooLong f) n e = cc
+worded (openings.NoTree f) n e = cc
+worded (openings.StoreFault f) n e = cc
+worded openings.NoMemory n e = cc
+worded (openings.Opened f u) n e = cc
+
+-- an outcome that opened no file, with a status
+abbrev pub Fits : Outcome → Status → Type 0
+Fits o status = (status ≡ status_of o) ⊎ (status ≡ statuses.NoMemory)
+
+words_status : (o : Outcome) → o ≢ faulty_words → status_of o ≡ statuses.Words → ⊥
+words_status faulty_words n e = n refl
+words_status (other_form f) n e = cc
+words_status (missing f) n e = cc
+words_status (too_long f) n e = cc
+words_status (no_tree f) n e = cc
+words_status (store_fault f) n e = cc
+words_status no_memory n e = cc
+words_status (opened f t) n e = cc
+
+early_status : (o : Outcome) → (status_of o ≡ statuses.InputFault → ⊥) × (status_of o ≡ statuses.ScriptLong → ⊥) × (status_of o ≡ statuses.OutputFault → ⊥)
+early_status faulty_words = ((λ e. cc), (λ e. cc), (λ e. cc))
+early_status (other_form f) = ((λ e. cc), (λ e. cc), (λ e. cc))
+early_status (missing f) = ((λ e. cc), (λ e. cc), (λ e. cc))
+early_status (too_long f) = ((λ e. cc), (λ e. cc), (λ e. cc))
+early_status (no_tree f) = ((λ e. cc), (λ e. cc), (λ e. cc))
+early_status (store_fault f) = ((λ e. cc), (λ e. cc), (λ e. cc))
+early_status no_memory = ((λ e. cc), (λ e. cc), (λ e. cc))
+early_status (opened f t) = ((λ e. cc), (λ e. cc), (λ e. cc))
+
+refused_outcome : (words : List (List ℕ)) (files : Option Files) (o : Outcome) (long : Type 0) → ComesTo words files o → ((file : List ℕ) → o ≡ too_long file → long) → status_of o ≡ statuses.Refused → IsRefused words files long
+refused_outcome words files (other_form f) long h l e = (f, h.0, inl h.1)
+refused_outcome words files (too_long f) long h l e = (f, h.0.0, inr (inl (l f refl)))
+refused_outcome words files (no_tree f) long h l e = (f, h.0.0, inr (inr (h.1.0, h.1.1, h.1.3)))
+refused_outcome words files faulty_words long h l e = cc
+refused_outcome words files (missing f) long h l e = cc
+refused_outcome words files (store_fault f) long h l e = cc
+refused_outcome words files no_memory long h l e = cc
+refused_outcome words files (opened f t) long h l e = cc
+
+-- a file that can be opened isn't refused
+module _ (words : List (List ℕ)) (files : Option Files) (can : CanBeOpened words files) where
+  opened_outcome : (o : Outcome) → ComesTo words files o → (status_of o ≡ statuses.Missing → ⊥) → ((file : List ℕ) → o ≡ too_long file → ⊥) → (status_of o ≡ statuses.StoreFault → ⊥) → IsUnopened o → o ≢ faulty_words
+      → status_of o ≡ statuses.NoMemory
+  opened_outcome faulty_words h m l f u n = absurd (n refl)
+  opened_outcome (other_form g) h m l f u n = absurd (let same = sym h.0 ∙ can.2.3.0 in let a = h.1 in let b = can.2.3.1 in other_scheme g can.2.0 same a b)
+    where
+      other_scheme : (g file : List ℕ) → Some g ≡ Some file → is_scheme_name g ≡ false → is_scheme_name file ≡ true → ⊥
+      other_scheme g file e a b = cc
+  opened_outcome (missing g) h m l f u n = absurd (m refl)
+  opened_outcome (too_long g) h m l f u n = absurd (l g refl)
+  opened_outcome (no_tree g) h m l f u n = absurd (h.1.3 can.2.2 can.2.7 (subst (λ b. Spells b can.2.2) (same_bytes g can.2.0 h.1.0 can.2.1 (sym h.0.0 ∙ can.2.3.0) (subst (λ fs. Holds fs g h.1.0) can.1 h.1.1) can.2.4) can.2.6))
+    where
+      same_bytes : (g file a b : List ℕ) → Some g ≡ Some file → file_of can.0 g ≡ Some a → file_of can.0 file ≡ Some b → b ≡ a
+      same_bytes g file a b e h k = cc
+  opened_outcome (store_fault g) h m l f u n = absurd (f refl)
+  opened_outcome no_memory h m l f u n = refl
+  opened_outcome (opened g t) h m l f u n = absurd (u g t refl)
+
+-- a served session, by its status
+unread_told : (told : Option (List ℕ)) (script : List ℕ) → Tells told script → (CanBeRead script → ⊥) → IfSome told (λ s. ¬ CanBeRead s)
+unread_told None script tells h = tt
+unread_told (Some s) script tells h = λ r. h (subst CanBeRead tells r)
+
+pub served_long : (status : Status) (start : Seen) (told rest before after : Option (List ℕ)) → IsServed status start told rest before after → status ≡ statuses.ScriptLong → IfSome told (λ s. ¬ CanBeRead s)
+served_long status start told rest before after s e = long told rest (subst (λ st. IsServed st start told rest before after) e s)
+  where
+    long : (told rest : Option (List ℕ)) → IsServed statuses.ScriptLong start told rest before after → IfSome told (λ s. ¬ CanBeRead s)
+    long told rest c = unread_told told c.script c.tells (long_unread c.script start c.played.1 c.played.0 c.marks c.replies c.played.2 c.played.3 c.played.4)
+
+some_unread : (told : Option (List ℕ)) (script : List ℕ) → told ≡ Some script → IfSome told (λ s. ¬ CanBeRead s) → CanBeRead script → ⊥
+some_unread told script e h = subst (λ t. IfSome t (λ s. ¬ CanBeRead s)) e h
+
+pub served_complete : (status : Status) (start : Seen) (told rest before after : Option (List ℕ)) (script : List ℕ) → IsServed status start told rest before after → told ≡ Some script → CanBeRead script
+    → (status ≡ statuses.InputFault → ⊥) → (status ≡ statuses.OutputFault → ⊥) → (status ≡ statuses.Ok) ⊎ (status ≡ statuses.NoMemory)
+served_complete statuses.Ok start told rest before after script s e can i o = inl refl
+served_complete statuses.NoMemory start told rest before after script s e can i o = inr refl
+served_complete statuses.InputFault start told rest before after script s e can i o = absurd (i refl)
+served_complete statuses.OutputFault start told rest before after script s e can i o = absurd (o refl)
+served_complete statuses.ScriptLong start told rest before after script s e can i o = absurd (some_unread told script e (served_long statuses.ScriptLong start told rest before after s refl) can)
+served_complete statuses.Words start told rest before after script s e can i o = absurd s.played
+served_complete statuses.Missing start told rest before after script s e can i o = absurd s.played
+served_complete statuses.Refused start told rest before after script s e can i o = absurd s.played
+served_complete statuses.StoreFault start told rest before after script s e can i o = absurd s.played
+
+-- what became of the words where no file was opened
+pub record Unopened (words : List (List ℕ)) (files : Option Files) (status : Status) (misses longs faults : Type 0) : Type 0 where
+  pub not_words : status ≡ statuses.Words → ⊥
+  pub named : file_in words ≡ None → ⊥
+  pub missing_counted : status ≡ statuses.Missing → misses
+  pub refused : status ≡ statuses.Refused → IsRefused words files longs
+  pub fault_counted : status ≡ statuses.StoreFault → faults
+  pub not_input : status ≡ statuses.InputFault → ⊥
+  pub not_long : status ≡ statuses.ScriptLong → ⊥
+  pub complete : CanBeOpened words files → ¬ misses → ¬ longs → ¬ faults → (status ≡ statuses.OutputFault → ⊥) → status ≡ statuses.NoMemory
+
+module _ (words : List (List ℕ)) (files : Option Files) (r : Opening) (status : Status) (before after : Option (List ℕ)) (misses longs faults : Type 0) (comes : ComesTo words files (outcome_of r))
+    (n : r ≢ openings.FaultyWords) (u : (file : Bor (List ℕ)) (t : WideTree) → r ≡ openings.Opened file t → ⊥)
+    (line : IsLine (outcome_of r) status before after ⊎ IsLine no_memory status before after)
+    (m : status_of (outcome_of r) ≡ statuses.Missing → misses) (f : status_of (outcome_of r) ≡ statuses.StoreFault → faults) (l : (file : List ℕ) → outcome_of r ≡ too_long file → longs) where
+  pub unopened_run : (told rest : Option (List ℕ)) → IsRun words files told rest status before after
+  unopened_run told rest = reported_run words files (outcome_of r) status before after (unopened r u) (worded r n) comes line told rest
+
+  fits : status ≢ statuses.OutputFault → Fits (outcome_of r) status
+  fits d = reported_status words files (outcome_of r) status before after (unopened r u) (worded r n) comes line d
+
+  by_outcome : (s : Status) → status ≡ s → s ≢ statuses.OutputFault → s ≢ statuses.NoMemory → status_of (outcome_of r) ≡ s
+  by_outcome s e o w = elim (fits (λ d. o (sym e ∙ d))) [ inl is ↦ sym is ∙ e | inr is ↦ absurd (w (sym e ∙ is)) ]
+
+  pub unopened_causes : Unopened words files status misses longs faults
+  unopened_causes =
+      record {
+        not_words = λ e. words_status (outcome_of r) (worded r n) (by_outcome statuses.Words e (λ d. cc) (λ d. cc));
+        named = λ e. let t = taken words files (outcome_of r) comes (worded r n) in none_some words t.0 e t.1;
+        missing_counted = λ e. m (by_outcome statuses.Missing e (λ d. cc) (λ d. cc));
+        refused = λ e. refused_outcome words files (outcome_of r) longs comes l (by_outcome statuses.Refused e (λ d. cc) (λ d. cc));
+        fault_counted = λ e. f (by_outcome statuses.StoreFault e (λ d. cc) (λ d. cc));
+        not_input = λ e. (early_status (outcome_of r)).0 (by_outcome statuses.InputFault e (λ d. cc) (λ d. cc));
+        not_long = λ e. (early_status (outcome_of r)).1 (by_outcome statuses.ScriptLong e (λ d. cc) (λ d. cc));
+        complete = λ can nm nl nf d. elim (fits d) [
+          inl is ↦ is ∙ opened_outcome words files can (outcome_of r) comes (λ e. nm (m e)) (λ file e. nl (l file e)) (λ e. nf (f e)) (unopened r u) (worded r n)
+          | inr is ↦ is ]
+      }
+    where
+      none_some : (words : List (List ℕ)) (file : List ℕ) → file_in words ≡ None → file_in words ≡ Some file → ⊥
+      none_some words file e s = cc

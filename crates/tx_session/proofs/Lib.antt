@@ -5,5 +5,6 @@ pub mod Turning
 pub mod Showing
 pub mod Standing
 pub mod Ending
+pub mod Lining
 pub mod Causes
 pub mod Single

@@ -39,15 +39,15 @@ fn finish<O: Sink>(out: &mut O, text: &[u8], status: Status) -> Status
 }
 
 // Writes the line that says why no file was opened.
-fn report<O: Sink>(alloc: Global, opening: &Opening, out: &mut O) -> Status
-    requires unopened { (file : List ℕ) (t : WideTree) → outcome_of opening.now ≢ opened file t }
-    ensures line { IsLine (outcome_of opening.now) result (O.written out.old) (O.written out.new) ⊎ IsLine no_memory result (O.written out.old) (O.written out.new) }
+fn report<O: Sink>(alloc: Global, failed: &Opening, out: &mut O) -> Status
+    requires unopened { (file : List ℕ) (t : WideTree) → outcome_of failed.now ≢ opened file t }
+    ensures line { IsLine (outcome_of failed.now) result (O.written out.old) (O.written out.new) ⊎ IsLine no_memory result (O.written out.old) (O.written out.new) }
     ensures counted { result ≡ Status.OutputFault → Rose (O.faults out.old) (O.faults out.new) }
     ensures faults_never_fall { NeverFalls (O.faults out.old) (O.faults out.new) }
     ensures stays_known { StaysKnown (O.written out.old) (O.written out.new) }
 {
-    match opening.text(alloc) {
-        Ok(text) => finish(out, &text, opening.status()),
+    match failed.text(alloc) {
+        Ok(text) => finish(out, &text, failed.status()),
         Err(Memory) => finish(out, b"memory\n", Status::NoMemory),
     }
 }

@@ -1,32 +1,53 @@
-use Rattle.std.proofs.Common.{rules, ◌≡◌, ◌⊎◌, ◌≤◌, ◌<◌, ◌≢◌, ◌++◌, ◌∷◌, [], ℕ, map, length, None, Some, true, false, List, Bool, Option, is_some, IfOk, IfSome, ◌+◌, ◌-◌, ◌*◌, ◌/◌, ◌%◌, nat_eq, nat_lt, slice_index_or, slice_set, bit_and, bit_or, Fits, w8, w32, w64, Bor, MutBor}
+use Rattle.std.proofs.Common.{◌≡◌, ◌⊎◌, inl, inr, map, Global, refl, ap, sym, subst, ◌∙◌}
 use Rattle.std.specs.String.{string_bytes}
-use Rattle.std.specs.Io.KnownBytes.{append_known}
-use Rattle.tx_outside.specs.Counts.{NeverFalls, Rose}
-use Rattle.tx_outside.specs.Files.{Files}
-use Rattle.tx_outside.specs.Known.{AppendsPart, StaysKnown}
-use Rattle.tx_session.specs.Outcomes.{file_in, ComesTo, IsDecided, Outcome, no_memory, opened}
-use Rattle.tx_session.specs.Runs.{CanBeOpened, CanBeRead, IsRefused, IsRun, IsWritten, own_line, start_of}
-use Rattle.tx_session.specs.Playing.{IsServed, IsLine}
-use Rattle.tx_tree.specs.WideTree.{WideTree}
-use Rattle.tx_session.specs.Openings.{outcome_of}
+use Rattle.tx_outside.specs.Counts.{Rose}
+use Rattle.tx_outside.proofs.Counting.{never_falls_refl}
+use Rattle.tx_session.specs.Playing.{IsServed}
+use Rattle.tx_session.specs.Outcomes.{no_memory}
+use Rattle.tx_session.specs.Runs.{start_of}
+use Rattle.tx_session.proofs.Causes.{opened_run, line_run, served_long, served_complete, unopened_run, unopened_causes}
 use Rattle.tx_session.proofs.runs.run.Goals as goal
 
--- src/runs.rt:116:1
 pub returns-in-Ok-clause-run : goal.returns-in-Ok-clause-run
-returns-in-Ok-clause-run g c = ?
+returns-in-Ok-clause-run g c =
+    opened_run _ _ (g.I.Source.left c.args.input.now) (g.I.Source.left c.serve.new.input) c.in-Opened.file.now c.in-Opened.tree c.serve.result (g.O.Sink.written c.args.out.now) (g.O.Sink.written c.serve.new.out) c.in-Opened.ensures.comes
+        (subst (λ s. IsServed c.serve.result s (g.I.Source.left c.args.input.now) (g.I.Source.left c.serve.new.input) (g.O.Sink.written c.args.out.now) (g.O.Sink.written c.serve.new.out)) c.in-Ok.ensures.session c.serve.ensures.ended)
 
--- src/runs.rt:116:1
 pub returns-in-Ok-clause-script_long : goal.returns-in-Ok-clause-script_long
-returns-in-Ok-clause-script_long g c = ?
+returns-in-Ok-clause-script_long g c = λ e. served_long c.serve.result c.in-Ok.session (g.I.Source.left c.args.input.now) (g.I.Source.left c.serve.new.input) (g.O.Sink.written c.args.out.now) (g.O.Sink.written c.serve.new.out) c.serve.ensures.ended e
 
--- src/runs.rt:116:1
 pub returns-in-Ok-clause-complete : goal.returns-in-Ok-clause-complete
-returns-in-Ok-clause-complete g c = ?
+returns-in-Ok-clause-complete g c = λ can read m l f i o.
+    served_complete c.serve.result c.in-Ok.session (g.I.Source.left c.args.input.now) (g.I.Source.left c.serve.new.input) (g.O.Sink.written c.args.out.now) (g.O.Sink.written c.serve.new.out) read.0 c.serve.ensures.ended read.1 read.2
+        (λ e. i (c.serve.ensures.input_fault_counted e)) (λ e. o (c.serve.ensures.output_fault_counted e))
 
--- src/runs.rt:116:1
 pub returns-in-Err-clause-run : goal.returns-in-Err-clause-run
-returns-in-Err-clause-run g c = ?
+returns-in-Err-clause-run g c =
+    line_run _ _ _ _ no_memory c.finish-in-Err.result _ _ (λ file t e. cc) (c.in-Opened.file.now, c.in-Opened.ensures.comes.0.0) c.finish-in-Err.ensures.done c.finish-in-Err.ensures.cut
 
--- src/runs.rt:116:1
 pub returns-in_default : goal.returns-in_default
-returns-in_default g c = ?
+returns-in_default g c =
+    let run = unopened_run (map (string_bytes {Z = Global}) c.args.words.now) (g.S.Store.files c.args.store.now) c.open-opening.result c.report.result (g.O.Sink.written c.args.out.now) (g.O.Sink.written c.report.new.out) (Rose (g.S.Store.misses c.args.store.now) (g.S.Store.misses c.open-opening.new.store)) (Rose (g.S.Store.longs c.args.store.now) (g.S.Store.longs c.open-opening.new.store)) (Rose (g.S.Store.faults c.args.store.now) (g.S.Store.faults c.open-opening.new.store)) c.open-opening.ensures.comes c.in_default.not-FaultyWords c.in_default.not-Opened
+        c.report.ensures.line c.open-opening.ensures.missing_counted c.open-opening.ensures.fault_counted c.open-opening.ensures.long_counted (g.I.Source.left c.args.input.now) (g.I.Source.left c.args.input.now) in
+    let cause = unopened_causes (map (string_bytes {Z = Global}) c.args.words.now) (g.S.Store.files c.args.store.now) c.open-opening.result c.report.result (g.O.Sink.written c.args.out.now) (g.O.Sink.written c.report.new.out) (Rose (g.S.Store.misses c.args.store.now) (g.S.Store.misses c.open-opening.new.store)) (Rose (g.S.Store.longs c.args.store.now) (g.S.Store.longs c.open-opening.new.store)) (Rose (g.S.Store.faults c.args.store.now) (g.S.Store.faults c.open-opening.new.store)) c.open-opening.ensures.comes c.in_default.not-FaultyWords c.in_default.not-Opened
+        c.report.ensures.line c.open-opening.ensures.missing_counted c.open-opening.ensures.fault_counted c.open-opening.ensures.long_counted in
+    record {
+      run = run;
+      words = λ e. absurd (cause.not_words e);
+      words_only = λ e. absurd (cause.named e);
+      missing_counted = cause.missing_counted;
+      refused = cause.refused;
+      store_fault_counted = cause.fault_counted;
+      input_fault_counted = λ e. absurd (cause.not_input e);
+      output_fault_counted = c.report.ensures.counted;
+      script_long = λ e. absurd (cause.not_long e);
+      complete = λ can read m l f i o. inr (cause.complete can m l f (λ e. o (c.report.ensures.counted e)));
+      files_kept = c.open-opening.ensures.files_kept;
+      output_stays_known = c.report.ensures.stays_known;
+      input_stays_known = refl;
+      store_faults_never_fall = c.open-opening.ensures.faults_never_fall;
+      misses_never_fall = c.open-opening.ensures.misses_never_fall;
+      longs_never_fall = c.open-opening.ensures.longs_never_fall;
+      input_faults_never_fall = never_falls_refl _;
+      output_faults_never_fall = c.report.ensures.faults_never_fall
+    }
