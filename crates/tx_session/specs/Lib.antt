@@ -4,6 +4,8 @@ pub mod Lines
 pub mod Plain
 pub mod Layout
 pub mod Paging
+pub mod Slices
+pub mod Pieces
 pub mod Outcomes
 pub mod Openings
 pub mod Runs

@@ -8,9 +8,10 @@ mod names;
 mod opening;
 mod runs;
 mod status;
-mod view;
 #[cfg(test)]
 mod tests;
+mod view;
 
 pub use runs::{one_outcome, run};
 pub use status::Status;
+pub use view::one_showing;
