@@ -2,7 +2,7 @@
 use Rattle.std.proofs.Common.{◌≡◌, ℕ, zero, suc, ◌+◌, ◌-◌, ◌<◌, ◌≤◌, List, [], ◌∷◌, ◌++◌, length, get_or, take, drop, map, Some, refl, sym, ap, ◌∙◌, subst, inl, inr, arith}
 use Rattle.std.specs.Prelude.{◌≢◌, All, slice_get, slice_range}
 use Rattle.std.specs.List.{flat_map}
-use Rattle.std.proofs.lemmas.List.{take-take, take-append-drop, append-nil, append_assoc, length_push, map_push, take_all, take_rest}
+use Rattle.std.proofs.lemmas.List.{take-take, take-append-drop, append-nil, append_assoc, length_push, map_push, take_rest}
 use Rattle.std.proofs.lemmas.List.Concat.{flat_map-append}
 use Rattle.std.proofs.lemmas.List.Edits.{length-between}
 use Rattle.std.proofs.lemmas.List.Elements.{All-head, All-tail, All-nil, All-push}
@@ -10,7 +10,7 @@ use Rattle.std.proofs.lemmas.Bool.{cases_lt}
 use Rattle.std.proofs.lemmas.Slice.{between_is}
 use Rattle.tx_lines.specs.declared.first_fit.Piece.{Piece}
 use Rattle.tx_lines.proofs.Places.{slice_get-push}
-use Rattle.tx_session.specs.Layout.{Word, spaces, spaced, IsWord, AreWords, piece_of}
+use Rattle.tx_session.specs.Layout.{Word, spaces, spaced, IsWord, piece_of}
 use Rattle.tx_session.specs.Pieces.{ArePieces}
 
 -- what stands at a place stands within the list

@@ -1,9 +1,9 @@
 -- Filled lines, as parts of their text.
-use Rattle.std.proofs.Common.{◌≡◌, ℕ, zero, suc, ◌+◌, ◌-◌, ◌<◌, ◌≤◌, List, [], ◌∷◌, ◌++◌, length, get_or, take, drop, map, Some, min, refl, sym, ap, ◌∙◌, subst, arith}
+use Rattle.std.proofs.Common.{◌≡◌, ℕ, suc, ◌+◌, ◌-◌, ◌<◌, ◌≤◌, List, [], ◌∷◌, ◌++◌, length, get_or, take, drop, map, min, refl, sym, ap, ◌∙◌, subst, arith}
 use Rattle.std.specs.Prelude.{All, slice_range}
 use Rattle.std.specs.Borrow.{Bor}
 use Rattle.std.specs.List.{flat_map}
-use Rattle.std.proofs.lemmas.List.{take-append-drop, append-nil, append_assoc, length-append, length-replicate, length-map, take_at, drop_at, take-map, drop_more, take_more, get_or-map, map_more, nil_from_length, take_all}
+use Rattle.std.proofs.lemmas.List.{take-append-drop, append-nil, append_assoc, length-append, length-replicate, length-map, take_at, drop_at, take-map, drop_more, get_or-map, map_more, nil_from_length, take_all}
 use Rattle.std.proofs.lemmas.List.Concat.{flat_map-append}
 use Rattle.std.proofs.lemmas.List.Edits.{length-between, get_or-between}
 use Rattle.std.proofs.lemmas.List.Elements.{All-head, All-tail, All-weaker, All-map}
@@ -13,7 +13,7 @@ use Rattle.tx_lines.specs.declared.first_fit.Piece.{Piece}
 use Rattle.tx_lines.specs.Cuts.{Partitions}
 use Rattle.tx_lines.specs.FirstFit.{IsFirstFit}
 use Rattle.tx_lines.proofs.Places.{forward}
-use Rattle.tx_session.specs.Layout.{Word, spaces, spaced, IsWord, AreWords, piece_of, line_of, lines_by, AreLines, AreAllLines}
+use Rattle.tx_session.specs.Layout.{Word, spaces, spaced, IsWord, AreWords, piece_of, line_of, lines_by, AreAllLines}
 use Rattle.tx_session.specs.Plain.{IsPlainText}
 use Rattle.tx_session.specs.Slices.{held}
 use Rattle.tx_session.specs.Pieces.{ArePieces, cells_with_spaces, AddsLines}

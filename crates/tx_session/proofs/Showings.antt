@@ -3,15 +3,13 @@ use Rattle.std.proofs.Common.{◌≡◌, ℕ, zero, suc, ◌+◌, ◌<◌, ◌�
 use Rattle.std.specs.Prelude.{◌≢◌, All, slice_get, codes}
 use Rattle.std.specs.List.{flat_map}
 use Rattle.std.proofs.lemmas.Bool.{cases_lt}
-use Rattle.std.proofs.lemmas.List.{append_assoc, append_cancel_left, length-append}
+use Rattle.std.proofs.lemmas.List.{append_assoc, append_cancel_left}
 use Rattle.std.proofs.lemmas.List.Elements.{All-head, All-tail}
-use Rattle.tx_lines.specs.declared.cut.Cut.{Cut}
 use Rattle.tx_lines.proofs.Filling.{one_way}
 use Rattle.tx_lines.specs.FirstFit.{IsFirstFit}
-use Rattle.tx_tree.specs.WideTree.{WideTree, leaf, node, forest}
+use Rattle.tx_tree.specs.WideTree.{WideTree, leaf}
 use Rattle.tx_tree.proofs.Children.{same_children}
-use Rattle.tx_session.specs.Plain.{IsPlainDocument}
-use Rattle.tx_session.specs.Layout.{Word, spaces, spaced, IsWord, AreWords, piece_of, lines_by, AreLines, AreAllLines}
+use Rattle.tx_session.specs.Layout.{Word, spaces, spaced, IsWord, piece_of, lines_by, AreLines, AreAllLines}
 use Rattle.tx_session.specs.Paging.{show_text, IsShowing}
 
 abbrev IsSolid : List ℕ → Type 0

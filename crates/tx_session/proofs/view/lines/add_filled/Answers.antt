@@ -2,7 +2,7 @@ use Rattle.std.proofs.Common.{◌∙◌, ℕ, List, ap, refl, arith, rules}
 use Rattle.std.specs.Borrow.{Bor}
 use Rattle.std.proofs.lemmas.List.{map_push}
 use Rattle.tx_session.specs.Slices.{held}
-use Rattle.tx_session.proofs.Filled.{FitsAt, next_fits, filled_none, filled_more, filled_all}
+use Rattle.tx_session.proofs.Filled.{next_fits, filled_more, filled_all}
 use Rattle.tx_session.proofs.view.lines.add_filled.Goals as goal
 
 pub slice_bounds-on_line-end : goal.slice_bounds-on_line-end

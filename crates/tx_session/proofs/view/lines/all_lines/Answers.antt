@@ -1,5 +1,4 @@
 use Rattle.std.proofs.Common.{List, ℕ, sym, subst, []}
-use Rattle.std.specs.Borrow.{Bor}
 use Rattle.tx_session.specs.Layout.{AreAllLines}
 use Rattle.tx_session.specs.Slices.{held}
 use Rattle.tx_session.proofs.Filled.{all_more, held_more, plain_at}

@@ -1,6 +1,5 @@
-use Rattle.std.proofs.Common.{◌∙◌, sym, subst, rules}
+use Rattle.std.proofs.Common.{◌∙◌, sym, rules}
 use Rattle.std.proofs.lemmas.Bool.{false≢true}
-use Rattle.tx_session.specs.Plain.{IsPlainText}
 use Rattle.tx_session.proofs.Documents.{unplain_child, unplain_text, leaves_more, plain_more, plain_all, same_bytes}
 use Rattle.tx_session.proofs.view.plain.plain_texts.Goals as goal
 

@@ -1,4 +1,4 @@
-use Rattle.std.proofs.Common.{ℕ, ◌++◌, ◌∷◌, [], List, arith}
+use Rattle.std.proofs.Common.{◌++◌, ◌∷◌, [], arith}
 use Rattle.tx_session.proofs.Cutting.{word_between, cut_more, known_more, words_all}
 use Rattle.tx_session.proofs.view.words.pieces_of.Goals as goal
 
