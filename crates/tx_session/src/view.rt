@@ -12,7 +12,7 @@ mod tests;
 mod words;
 
 use self::lines::all_lines;
-use self::pages::pages;
+use self::pages::paged;
 use self::plain::plain_texts;
 use std::alloc::Global;
 use tx_base::Memory;
@@ -36,7 +36,7 @@ pub(crate) fn show(
         return Ok(None);
     };
     let lines = all_lines(alloc, &texts, width)?;
-    Ok(Some(pages(alloc, &lines, height as usize)?))
+    Ok(Some(paged(alloc, &lines, height as usize)?))
 }
 
 /// A law: a tree has at most one showing on pages of a given width and height. That a plain document has one is the

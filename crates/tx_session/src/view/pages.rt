@@ -39,7 +39,7 @@ fn add_page(
 }
 
 /// The reply that shows these lines on pages of this height.
-pub(crate) fn pages(alloc: Global, lines: &[&[u8]], height: usize) -> Result<Vec<u8>, Memory>
+pub(crate) fn paged(alloc: Global, lines: &[&[u8]], height: usize) -> Result<Vec<u8>, Memory>
     requires some_height { 0 < height }
     ensures { IfOk result (λ reply. reply.items ≡ show_text height (held lines.now)) }
 {

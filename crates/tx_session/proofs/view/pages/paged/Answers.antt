@@ -1,6 +1,6 @@
 use Rattle.std.proofs.Common.{arith}
 use Rattle.tx_session.proofs.PageTexts.{pages_all}
-use Rattle.tx_session.proofs.view.pages.pages.Goals as goal
+use Rattle.tx_session.proofs.view.pages.paged.Goals as goal
 
 pub returns : goal.returns
 returns c =
