@@ -8,3 +8,8 @@ pub mod Ending
 pub mod Lining
 pub mod Causes
 pub mod Single
+pub mod Cutting
+pub mod Documents
+pub mod PageTexts
+pub mod Filled
+pub mod Showings

@@ -10,6 +10,8 @@ pub mod Scripts
 pub mod Sessions
 pub mod Writing
 pub mod Keeping
+pub mod Slices
+pub mod Pieces
 pub mod Outcomes
 pub mod Openings
 pub mod Runs

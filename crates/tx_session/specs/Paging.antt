@@ -1,5 +1,5 @@
 -- The pages that show a plain document.
-use Rattle.std.specs.Prelude.{◌≡◌, ◌≤◌, ◌+◌, ◌-◌, ◌*◌, ◌/◌, ℕ, zero, suc, List, [], ◌∷◌, ◌++◌, length, codes, decimal, take, drop}
+use Rattle.std.specs.Prelude.{◌≡◌, ◌+◌, ◌-◌, ◌*◌, ◌/◌, ℕ, zero, suc, List, [], ◌++◌, length, codes, decimal, take, drop}
 use Rattle.std.specs.List.{flat_map}
 use Rattle.tx_tree.specs.WideTree.{WideTree}
 use Rattle.tx_session.specs.Lines.{line}

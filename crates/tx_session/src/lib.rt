@@ -11,13 +11,14 @@ mod runs;
 mod script;
 mod session;
 mod status;
-mod view;
 #[cfg(test)]
 mod tests;
+mod view;
 
 pub use runs::{one_outcome, run};
 pub use session::{Next, Session};
 pub use status::Status;
+pub use view::one_showing;
 
 /// The most bytes of a script: 2^24.
 pub const MOST_SCRIPT: usize = 16_777_216;

@@ -1,8 +1,19 @@
 // The pages of a plain document.
-ghost use Rattle.std.specs.Prelude.{◌≤◌, IfOk, MatchOption};
+ghost use Rattle.std.specs.Prelude.{◌≡◌, ◌≤◌, ℕ, List, IfOk, MatchOption};
+ghost use Rattle.tx_tree.specs.WideTree.{WideTree};
 ghost use Rattle.tx_session.specs.Plain.{IsUnplain};
 ghost use Rattle.tx_session.specs.Paging.{IsShowing};
 
+mod lines;
+mod pages;
+mod plain;
+#[cfg(test)]
+mod tests;
+mod words;
+
+use self::lines::all_lines;
+use self::pages::paged;
+use self::plain::plain_texts;
 use std::alloc::Global;
 use tx_base::Memory;
 use tx_tree::Tree;
@@ -21,5 +32,15 @@ pub(crate) fn show(
     requires most_height { height ≤ 500 }
     ensures { IfOk result (λ reply. MatchOption reply (IsUnplain tree.now) (λ text. IsShowing width height tree.now text.items)) }
 {
-    Err(Memory)
+    let Some(texts) = plain_texts(alloc, tree)? else {
+        return Ok(None);
+    };
+    let lines = all_lines(alloc, &texts, width)?;
+    Ok(Some(paged(alloc, &lines, height as usize)?))
 }
+
+/// A law: a tree has at most one showing on pages of a given width and height. That a plain document has one is the
+/// contract of `show`.
+pub fn one_showing()
+    ensures { (width height : ℕ) (t : WideTree) (a b : List ℕ) → IsShowing width height t a → IsShowing width height t b → a ≡ b }
+{}
