@@ -1,28 +1,62 @@
--- Which line is which command, and the loose grammar of lines.
-use Rattle.std.specs.Prelude.{◌≡◌, ℕ, ◌==◌, ◌≤◌, List, length, codes}
-use Rattle.std.specs.List.{before_first}
+-- Which line is which command.
+use Rattle.std.specs.Prelude.{◌≡◌, ℕ, ◌≤◌, List, [], ◌∷◌, ◌++◌, length}
+use Rattle.tx_mod.specs.declared.mods.Mod.{Mod}
+use Rattle.tx_mod.specs.declared.mods.Mod.TheVariants.{Assign, Insert, Remove, Split, Join, AssignNode, InsertNode, RemoveNode}
+use Rattle.tx_mod.specs.Mods.{path_of}
 use Rattle.tx_cmd.specs.declared.TheConstants.{MOST_LINE}
 use Rattle.tx_cmd.specs.declared.command.Command.{Command}
-use Rattle.tx_cmd.specs.declared.command.Command.TheVariants.{Show, Tree, Quit}
+use Rattle.tx_cmd.specs.declared.command.Command.TheVariants.{Change, Undo, Redo, Go, Cursor, Show, Tree, Quit}
+use Rattle.tx_cmd.specs.declared.words.ModWord.{ModWord}
+use Rattle.tx_cmd.specs.declared.words.ModWord.TheVariants.{Assign as AssignWord, Insert as InsertWord, Remove as RemoveWord, Split as SplitWord, Join as JoinWord, AssignNode as AssignNodeWord, InsertNode as InsertNodeWord, RemoveNode as RemoveNodeWord}
+use Rattle.tx_cmd.specs.declared.words.Word.{Word}
+use Rattle.tx_cmd.specs.declared.words.Word.TheVariants.{Change as ChangeWord, Undo as UndoWord, Redo as RedoWord, Go as GoWord, Cursor as CursorWord, Show as ShowWord, Tree as TreeWord, Quit as QuitWord}
+use Rattle.tx_cmd.specs.Words.{word_text}
+use Rattle.tx_cmd.specs.Values.{Value, a_path, a_number, a_label, a_tree, Mean}
 
--- the words of a command
-abbrev pub spelling : Command → List ℕ
-spelling Show = codes "show"
-spelling Tree = codes "tree"
-spelling Quit = codes "quit"
+-- the first word of a modification
+abbrev pub mod_word : Mod → ModWord
+mod_word (Assign p t) = AssignWord
+mod_word (Insert p i t) = InsertWord
+mod_word (Remove p i n) = RemoveWord
+mod_word (Split p i j) = SplitWord
+mod_word (Join p i) = JoinWord
+mod_word (AssignNode p l) = AssignNodeWord
+mod_word (InsertNode p i t) = InsertNodeWord
+mod_word (RemoveNode p i) = RemoveNodeWord
+
+-- what it takes behind its path
+abbrev pub values_behind : Mod → List Value
+values_behind (Assign p t) = a_tree t ∷ []
+values_behind (Insert p i t) = a_number i ∷ a_tree t ∷ []
+values_behind (Remove p i n) = a_number i ∷ a_number n ∷ []
+values_behind (Split p i j) = a_number i ∷ a_number j ∷ []
+values_behind (Join p i) = a_number i ∷ []
+values_behind (AssignNode p l) = a_label l ∷ []
+values_behind (InsertNode p i t) = a_number i ∷ a_tree t ∷ []
+values_behind (RemoveNode p i) = a_number i ∷ []
+
+-- the first word of a command
+abbrev pub word_of : Command → Word
+word_of (Change m) = ChangeWord (mod_word m)
+word_of Undo = UndoWord
+word_of Redo = RedoWord
+word_of (Go p) = GoWord
+word_of Cursor = CursorWord
+word_of Show = ShowWord
+word_of Tree = TreeWord
+word_of Quit = QuitWord
+
+-- what it takes behind that word
+abbrev pub values_of : Command → List Value
+values_of (Change m) = a_path (path_of m) ∷ values_behind m
+values_of (Go p) = a_path p ∷ []
+values_of Undo = []
+values_of Redo = []
+values_of Cursor = []
+values_of Show = []
+values_of Tree = []
+values_of Quit = []
 
 -- the line is the command, and isn't too long
 abbrev pub IsCommand : List ℕ → Command → Type 0
-IsCommand line command = (length line ≤ MOST_LINE) × (line ≡ spelling command)
-
--- what stands before the first space, or the line where it has none
-abbrev pub first_word : List ℕ → List ℕ
-first_word line = before_first (λ b. b == 32) line
-
--- the word begins some command
-abbrev pub IsKnown : List ℕ → Type 0
-IsKnown word = (command : Command) × (word ≡ first_word (spelling command))
-
--- the line has the form that commands with this first word have
-abbrev pub IsLoose : List ℕ → List ℕ → Type 0
-IsLoose word line = line ≡ word
+IsCommand line command = (length line ≤ MOST_LINE) × ((rest : List ℕ) × Mean rest (values_of command) × (line ≡ word_text (word_of command) ++ rest))

@@ -1,2 +1,5 @@
+pub mod Words
+pub mod Values
 pub mod Commands
+pub mod Pieces
 pub mod Refusals

@@ -1,10 +1,57 @@
 -- Why a line is no command: the first of the causes, in the order in which they stand here.
-use Rattle.std.specs.Prelude.{◌≡◌, ℕ, ◌<◌, ◌≤◌, List, length}
+use Rattle.std.specs.Prelude.{◌≡◌, ℕ, ◌+◌, ◌<◌, ◌≤◌, ◌⊎◌, List, [], ◌∷◌, ◌++◌, length}
 use Rattle.tx_base.specs.Fronts.{IsLongestFront}
+use Rattle.tx_tree.specs.WideTree.{WideTree}
+use Rattle.tx_tree.specs.Limits.{IsWithinLimits}
+use Rattle.tx_tree.specs.PathSpelling.{IsPathFault}
+use Rattle.tx_tree.specs.declared.faults.PathFault.TheVariants.{BadPath}
+use Rattle.tx_tree.specs.declared.faults.ReadFault.TheVariants.{NoTree, Memory as ReadMemory}
+use Rattle.tx_scm.specs.Spelling.{Spells}
 use Rattle.tx_cmd.specs.declared.TheConstants.{MOST_LINE}
 use Rattle.tx_cmd.specs.declared.command.CmdFault.{CmdFault}
-use Rattle.tx_cmd.specs.declared.command.CmdFault.TheVariants.{Long, Unknown, Args, Memory}
-use Rattle.tx_cmd.specs.Commands.{first_word, IsKnown, IsLoose}
+use Rattle.tx_cmd.specs.declared.command.CmdFault.TheVariants.{Long, Unknown, Args, Path, Tree, Memory}
+use Rattle.tx_cmd.specs.declared.words.Argument.{Argument}
+use Rattle.tx_cmd.specs.declared.words.Argument.TheVariants.{Path as PathArgument, Number as NumberArgument, Label as LabelArgument, Tree as TreeArgument}
+use Rattle.tx_cmd.specs.declared.words.Word.{Word}
+use Rattle.tx_cmd.specs.Words.{word_text, arguments_of, first_word, IsKnown, IsLoosePiece, AreLoose, IsLoose}
+use Rattle.tx_cmd.specs.Values.{HasMeaning}
+
+-- the bytes are no path, and so many of the line's bytes, of which the piece begins at this place, begin one
+abbrev pub IsBadPath : List ℕ → ℕ → CmdFault → Type 0
+IsBadPath piece at (Path n) = (m : ℕ) × IsPathFault piece (BadPath m) × (n ≡ at + m)
+IsBadPath piece at (Long n) = ⊥
+IsBadPath piece at Unknown = ⊥
+IsBadPath piece at (Args n) = ⊥
+IsBadPath piece at (Tree fault) = ⊥
+IsBadPath piece at Memory = ⊥
+
+-- the bytes spell no tree within the limits
+abbrev pub IsBadTree : List ℕ → ℕ → CmdFault → Type 0
+IsBadTree piece at (Tree NoTree) = (t : WideTree) → IsWithinLimits t → Spells piece t → ⊥
+IsBadTree piece at (Tree ReadMemory) = ⊥
+IsBadTree piece at (Long n) = ⊥
+IsBadTree piece at Unknown = ⊥
+IsBadTree piece at (Args n) = ⊥
+IsBadTree piece at (Path n) = ⊥
+IsBadTree piece at Memory = ⊥
+
+-- why a piece that may stand for the argument stands for none, where the piece begins at this place of the line
+abbrev pub IsBadPiece : Argument → List ℕ → ℕ → CmdFault → Type 0
+IsBadPiece PathArgument piece at fault = IsBadPath piece at fault
+IsBadPiece TreeArgument piece at fault = IsBadTree piece at fault
+IsBadPiece NumberArgument piece at fault = ⊥
+IsBadPiece LabelArgument piece at fault = ⊥
+
+-- The fault of the first piece that stands for none. The bytes begin at this place of the line.
+abbrev pub IsFirstFault : List Argument → List ℕ → ℕ → CmdFault → Type 0
+IsFirstFault [] bytes at fault = ⊥
+IsFirstFault (a ∷ more) bytes at fault =
+    (piece rest : List ℕ) × (bytes ≡ 32 ∷ (piece ++ rest)) × IsLoosePiece a piece × AreLoose more rest
+    × (IsBadPiece a piece (at + 1) fault ⊎ (HasMeaning a piece × IsFirstFault more rest (at + 1 + length piece) fault))
+
+-- the line has the form of a command, and this is the first fault of its pieces
+abbrev pub IsRefused : List ℕ → CmdFault → Type 0
+IsRefused line fault = (w : Word) × (rest : List ℕ) × (line ≡ word_text w ++ rest) × IsFirstFault (arguments_of w) rest (length (word_text w)) fault
 
 -- The place of `Args` is the end of the longest front of the line that can be continued to a line of the loose grammar.
 abbrev pub IsCmdFault : List ℕ → CmdFault → Type 0
@@ -13,4 +60,6 @@ IsCmdFault line Unknown = (length line ≤ MOST_LINE) × (¬ IsKnown (first_word
 IsCmdFault line (Args n) =
     (length line ≤ MOST_LINE) × IsKnown (first_word line) × (¬ IsLoose (first_word line) line)
     × IsLongestFront (IsLoose (first_word line)) line n
+IsCmdFault line (Path n) = (length line ≤ MOST_LINE) × IsRefused line (Path n)
+IsCmdFault line (Tree fault) = (length line ≤ MOST_LINE) × IsRefused line (Tree fault)
 IsCmdFault line Memory = Unit {0}

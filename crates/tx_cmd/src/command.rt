@@ -1,9 +1,25 @@
 // Commands, and why a line is none.
+ghost use Rattle.std.specs.Prelude.{◌≡◌};
+ghost use Rattle.tx_cmd.specs.declared.command.CmdFault.TheVariants.{Memory as NoMemory};
+
 use thiserror::Error;
+use tx_base::Memory;
+use tx_mod::Mod;
+use tx_tree::{Path, ReadFault};
 
 /// A command of a script.
-#[derive(Debug, Drop)]
+#[derive(Drop)]
 pub enum Command {
+    /// Changes the selected buffer's tree.
+    Change(Mod),
+    /// Takes the last change back.
+    Undo,
+    /// Makes the change again that was taken back last.
+    Redo,
+    /// Puts the cursor at a place. The last number of the path is the offset.
+    Go(Path),
+    /// Prints the cursor's place.
+    Cursor,
     /// Shows the pages of the document.
     Show,
     /// Prints the selected buffer's tree.
@@ -21,10 +37,25 @@ pub enum CmdFault {
     /// No command begins with the line's first word.
     #[error("an unknown command")]
     Unknown,
-    /// So many bytes and no more of the line begin a command with its first word.
+    /// So many bytes and no more of the line begin a command with its first word, where any bytes without a space
+    /// count as a path, and any bytes as a tree.
     #[error("no such arguments, at byte {0}")]
     Args(usize),
+    /// What stands for the path spells none: so many bytes of the line and no more lead to one.
+    #[error("no path, at byte {0}")]
+    Path(usize),
+    /// What stands for the tree spells none within the limits. `ReadFault::Memory` doesn't come here.
+    #[error("no tree: {0}")]
+    Tree(ReadFault),
     /// Memory ran out.
     #[error("out of memory")]
     Memory,
+}
+
+impl From<Memory> for CmdFault {
+    ghost from_gives = { λ _ fault. fault ≡ NoMemory };
+
+    fn from(_cause: Memory) -> CmdFault {
+        CmdFault::Memory
+    }
 }

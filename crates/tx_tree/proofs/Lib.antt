@@ -5,3 +5,4 @@ pub mod Walks
 pub mod Cutting
 pub mod Walking
 pub mod PathReading
+pub mod PathsOnce

@@ -8,6 +8,7 @@
 mod building;
 mod faults;
 mod labels;
+mod path_laws;
 mod paths;
 mod places;
 #[cfg(test)]
@@ -18,6 +19,7 @@ mod trees;
 pub use building::{TextBuilder, text_laws};
 pub use faults::{PathFault, PlaceFault, ReadFault, TreeFault};
 pub use labels::{Label, LabelFault};
+pub use path_laws::path_law;
 pub use paths::Path;
 pub use places::Place;
 pub use texts::{Text, TextFault, cut_laws};

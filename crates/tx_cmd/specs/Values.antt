@@ -1,0 +1,45 @@
+-- What an argument stands for.
+use Rattle.std.specs.Prelude.{◌≡◌, ℕ, ◌+◌, List, [], ◌∷◌, ◌++◌}
+use Rattle.tx_tree.specs.PathSpelling.{SpellsPath, IsNumber}
+use Rattle.tx_tree.specs.Labels.{IsLabel}
+use Rattle.tx_tree.specs.Limits.{IsWithinLimits}
+use Rattle.tx_tree.specs.WideTree.{WideTree, nodes_of}
+use Rattle.tx_scm.specs.Spelling.{Spells}
+use Rattle.tx_cmd.specs.declared.words.Argument.{Argument}
+use Rattle.tx_cmd.specs.declared.words.Argument.TheVariants.{Path as PathArgument, Number as NumberArgument, Label as LabelArgument, Tree as TreeArgument}
+
+pub data Value : Type 0 where
+  a_path : (path : List ℕ) → Value
+  a_number : (n : ℕ) → Value
+  a_label : (label : List ℕ) → Value
+  a_tree : (t : WideTree) → Value
+
+abbrev pub kind_of : Value → Argument
+kind_of (a_path p) = PathArgument
+kind_of (a_number n) = NumberArgument
+kind_of (a_label l) = LabelArgument
+kind_of (a_tree t) = TreeArgument
+
+-- the piece is how the value is written
+abbrev pub Means : List ℕ → Value → Type 0
+Means piece (a_path p) = SpellsPath piece p
+Means piece (a_number n) = IsNumber piece n
+Means piece (a_label l) = IsLabel l × (piece ≡ l)
+Means piece (a_tree t) = Spells piece t × IsWithinLimits t
+
+-- the bytes are a space and a piece for each value
+abbrev pub Mean : List ℕ → List Value → Type 0
+Mean bytes [] = bytes ≡ []
+Mean bytes (v ∷ values) = (piece rest : List ℕ) × Means piece v × Mean rest values × (bytes ≡ 32 ∷ (piece ++ rest))
+
+-- the piece stands for some value of this kind
+abbrev pub HasMeaning : Argument → List ℕ → Type 0
+HasMeaning a piece = (v : Value) × (kind_of v ≡ a) × Means piece v
+
+-- the nodes of trees among the values, leaves aside
+abbrev pub nodes_in : List Value → ℕ
+nodes_in [] = 0
+nodes_in (a_tree t ∷ values) = nodes_of t + nodes_in values
+nodes_in (a_path p ∷ values) = nodes_in values
+nodes_in (a_number n ∷ values) = nodes_in values
+nodes_in (a_label l ∷ values) = nodes_in values

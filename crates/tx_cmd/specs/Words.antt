@@ -1,0 +1,99 @@
+-- The first words of commands, the arguments that stand behind each, and the loose grammar of lines.
+use Rattle.std.specs.Prelude.{◌≡◌, ◌≢◌, ℕ, ◌==◌, Bool, true, false, ◌||◌, List, [], ◌∷◌, ◌++◌, codes}
+use Rattle.std.specs.List.{AllByRecursion, before_first}
+use Rattle.tx_tree.specs.PathSpelling.{IsNumber}
+use Rattle.tx_tree.specs.Labels.{IsLabel}
+use Rattle.tx_cmd.specs.declared.words.ModWord.{ModWord}
+use Rattle.tx_cmd.specs.declared.words.ModWord.TheVariants.{Assign, Insert, Remove, Split, Join, AssignNode, InsertNode, RemoveNode}
+use Rattle.tx_cmd.specs.declared.words.Word.{Word}
+use Rattle.tx_cmd.specs.declared.words.Word.TheVariants.{Change, Undo, Redo, Go, Cursor, Show, Tree, Quit}
+use Rattle.tx_cmd.specs.declared.words.Argument.{Argument}
+use Rattle.tx_cmd.specs.declared.words.Argument.TheVariants.{Path as PathArgument, Number as NumberArgument, Label as LabelArgument, Tree as TreeArgument}
+
+-- a word as it is written
+abbrev pub mod_text : ModWord → List ℕ
+mod_text Assign = codes "assign"
+mod_text Insert = codes "insert"
+mod_text Remove = codes "remove"
+mod_text Split = codes "split"
+mod_text Join = codes "join"
+mod_text AssignNode = codes "assign-node"
+mod_text InsertNode = codes "insert-node"
+mod_text RemoveNode = codes "remove-node"
+
+abbrev pub word_text : Word → List ℕ
+word_text (Change kind) = mod_text kind
+word_text Undo = codes "undo"
+word_text Redo = codes "redo"
+word_text Go = codes "go"
+word_text Cursor = codes "cursor"
+word_text Show = codes "show"
+word_text Tree = codes "tree"
+word_text Quit = codes "quit"
+
+-- what a modification takes behind the path to what is changed
+abbrev pub arguments_behind : ModWord → List Argument
+arguments_behind Assign = TreeArgument ∷ []
+arguments_behind Insert = NumberArgument ∷ TreeArgument ∷ []
+arguments_behind Remove = NumberArgument ∷ NumberArgument ∷ []
+arguments_behind Split = NumberArgument ∷ NumberArgument ∷ []
+arguments_behind Join = NumberArgument ∷ []
+arguments_behind AssignNode = LabelArgument ∷ []
+arguments_behind InsertNode = NumberArgument ∷ TreeArgument ∷ []
+arguments_behind RemoveNode = NumberArgument ∷ []
+
+abbrev pub arguments_of : Word → List Argument
+arguments_of (Change kind) = PathArgument ∷ arguments_behind kind
+arguments_of Go = PathArgument ∷ []
+arguments_of Undo = []
+arguments_of Redo = []
+arguments_of Cursor = []
+arguments_of Show = []
+arguments_of Tree = []
+arguments_of Quit = []
+
+-- what stands before the first space, or the line where it has none
+abbrev pub first_word : List ℕ → List ℕ
+first_word line = before_first (λ b. b == 32) line
+
+-- the bytes are the word of some command
+abbrev pub IsKnown : List ℕ → Type 0
+IsKnown word = (w : Word) × (word ≡ word_text w)
+
+abbrev pub HasNoSpace : List ℕ → Type 0
+HasNoSpace = AllByRecursion (λ b. b ≢ 32)
+
+-- the digits write some number
+abbrev pub IsNumeral : List ℕ → Type 0
+IsNumeral digits = (n : ℕ) × IsNumber digits n
+
+-- The piece may stand for the argument. Any bytes without a space may stand for a path, and any bytes for a tree.
+abbrev pub IsLoosePiece : Argument → List ℕ → Type 0
+IsLoosePiece PathArgument piece = HasNoSpace piece
+IsLoosePiece NumberArgument piece = IsNumeral piece
+IsLoosePiece LabelArgument piece = IsLabel piece
+IsLoosePiece TreeArgument piece = Unit {0}
+
+-- the bytes are a space and a piece that may stand for it, for each argument
+abbrev pub AreLoose : List Argument → List ℕ → Type 0
+AreLoose [] bytes = bytes ≡ []
+AreLoose (a ∷ more) bytes = (piece rest : List ℕ) × IsLoosePiece a piece × AreLoose more rest × (bytes ≡ 32 ∷ (piece ++ rest))
+
+-- the line has the form that commands with this first word have
+abbrev pub IsLoose : List ℕ → List ℕ → Type 0
+IsLoose word line = (w : Word) × (rest : List ℕ) × (word ≡ word_text w) × AreLoose (arguments_of w) rest × (line ≡ word ++ rest)
+
+-- an argument other than a number is stored
+abbrev pub is_stored : Argument → Bool
+is_stored NumberArgument = false
+is_stored PathArgument = true
+is_stored LabelArgument = true
+is_stored TreeArgument = true
+
+abbrev pub some_stored : List Argument → Bool
+some_stored [] = false
+some_stored (a ∷ more) = is_stored a || some_stored more
+
+-- commands with this first word hold something that takes memory
+abbrev pub TakesMemory : List ℕ → Type 0
+TakesMemory word = (w : Word) × (word ≡ word_text w) × (some_stored (arguments_of w) ≡ true)

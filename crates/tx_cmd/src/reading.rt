@@ -1,0 +1,222 @@
+// The command of a line that has the form of one.
+ghost use Rattle.std.specs.Prelude.{◌≡◌, ◌≢◌, ◌+◌, ◌≤◌, ℕ, true, [], ◌∷◌, length, IfOk, IfErr, Err};
+ghost use Rattle.tx_tree.specs.Limits.{IsWithinLimits};
+ghost use Rattle.tx_tree.specs.PathSpelling.{SpellsPath, IsNumber};
+ghost use Rattle.tx_tree.specs.WideTree.{nodes_of};
+ghost use Rattle.tx_scm.specs.Spelling.{Spells};
+ghost use Rattle.tx_mod.specs.Mods.{path_of};
+ghost use Rattle.tx_cmd.specs.Words.{arguments_of, arguments_behind, AreLoose, IsNumeral, some_stored};
+ghost use Rattle.tx_cmd.specs.Values.{Mean, nodes_in, a_path, a_number, a_tree, a_label};
+ghost use Rattle.tx_cmd.specs.Commands.{word_of, values_of, mod_word, values_behind};
+ghost use Rattle.tx_cmd.specs.Refusals.{IsBadPath, IsBadTree, IsFirstFault};
+ghost use Rattle.tx_cmd.specs.declared.command.CmdFault.TheVariants.{Memory as NoMemory};
+
+use crate::pieces::{cut, number};
+use crate::words::{Argument, ModWord, Word};
+use crate::{CmdFault, Command, MOST_LINE};
+use std::alloc::Global;
+use std::sync::ledger::Ledger;
+use tx_base::Steps;
+use tx_mod::Mod;
+use tx_tree::{Label, LabelFault, Path, PathFault, ReadFault, Tree};
+
+// The path of the piece, which stands at this place of the line.
+fn read_path(alloc: Global, piece: &[u8], at: usize) -> Result<Path, CmdFault>
+    requires { at + length piece.now ≤ MOST_LINE }
+    ensures ok { IfOk result (λ p. SpellsPath piece.now p) }
+    ensures refused { IfErr result (λ fault. fault ≢ NoMemory → IsBadPath piece.now at fault) }
+{
+    match Path::parse(alloc, piece) {
+        Ok(path) => Ok(path),
+        Err(PathFault::BadPath(place)) => Err(CmdFault::Path(at + place)),
+        Err(PathFault::Memory) => Err(CmdFault::Memory),
+    }
+}
+
+// The tree of the piece.
+fn read_tree<L: Ledger>(alloc: Global, piece: &[u8], steps: &mut Steps<L>) -> Result<Tree, CmdFault>
+    ensures ok { IfOk result (λ t. Spells piece.now t × IsWithinLimits t) }
+    ensures refused { IfErr result (λ fault. fault ≢ NoMemory → (at : ℕ) → IsBadTree piece.now at fault) }
+    ensures counted { IfOk result (λ t. steps.new ≤ steps.old + nodes_of t) }
+    ensures rises { steps.old ≤ steps.new }
+{
+    match tx_scm::read(alloc, piece, steps) {
+        Ok(tree) => Ok(tree),
+        Err(ReadFault::NoTree) => Err(CmdFault::Tree(ReadFault::NoTree)),
+        Err(ReadFault::Memory) => Err(CmdFault::Memory),
+    }
+}
+
+// The number of a piece that is one.
+fn read_number(piece: &[u8]) -> u32
+    requires { IsNumeral piece.now }
+    ensures { IsNumber piece.now result }
+{
+    match number(piece) {
+        Ok(n) => n,
+        Err(_) => unreachable!(),
+    }
+}
+
+// The tree that is all that is left.
+fn last_tree<L: Ledger>(alloc: Global, bytes: &[u8], steps: &mut Steps<L>) -> Result<Tree, CmdFault>
+    requires { AreLoose (Argument.Tree ∷ []) bytes.now }
+    ensures ok { IfOk result (λ t. Mean bytes.now (a_tree t ∷ [])) }
+    ensures refused { IfErr result (λ fault. fault ≢ NoMemory → (at : ℕ) → IsFirstFault (Argument.Tree ∷ []) bytes.now at fault) }
+    ensures counted { IfOk result (λ t. steps.new ≤ steps.old + nodes_of t) }
+    ensures rises { steps.old ≤ steps.new }
+{
+    let (piece, _) = cut(Argument::Tree, bytes);
+    read_tree(alloc, piece, steps)
+}
+
+// A number, and the tree behind it.
+fn number_and_tree<L: Ledger>(
+    alloc: Global,
+    bytes: &[u8],
+    steps: &mut Steps<L>,
+) -> Result<(u32, Tree), CmdFault>
+    requires { AreLoose (Argument.Number ∷ Argument.Tree ∷ []) bytes.now }
+    ensures ok { IfOk result (λ r. Mean bytes.now (a_number r.0 ∷ a_tree r.1 ∷ [])) }
+    ensures refused { IfErr result (λ fault. fault ≢ NoMemory → (at : ℕ) → IsFirstFault (Argument.Number ∷ Argument.Tree ∷ []) bytes.now at fault) }
+    ensures counted { IfOk result (λ r. steps.new ≤ steps.old + nodes_of r.1) }
+    ensures rises { steps.old ≤ steps.new }
+{
+    let (piece, rest) = cut(Argument::Number, bytes);
+    let n = read_number(piece);
+    let tree = last_tree(alloc, rest, steps)?;
+    Ok((n, tree))
+}
+
+// The number that is all that is left.
+fn last_number(bytes: &[u8]) -> u32
+    requires { AreLoose (Argument.Number ∷ []) bytes.now }
+    ensures { Mean bytes.now (a_number result ∷ []) }
+{
+    let (piece, _) = cut(Argument::Number, bytes);
+    read_number(piece)
+}
+
+// The two numbers that are left.
+fn two_numbers(bytes: &[u8]) -> (u32, u32)
+    requires { AreLoose (Argument.Number ∷ Argument.Number ∷ []) bytes.now }
+    ensures { Mean bytes.now (a_number result.0 ∷ a_number result.1 ∷ []) }
+{
+    let (piece, rest) = cut(Argument::Number, bytes);
+    (read_number(piece), last_number(rest))
+}
+
+// The label that is all that is left.
+fn last_label(alloc: Global, bytes: &[u8]) -> Result<Label, CmdFault>
+    requires { AreLoose (Argument.Label ∷ []) bytes.now }
+    ensures ok { IfOk result (λ l. Mean bytes.now (a_label l ∷ [])) }
+    ensures refused { IfErr result (λ fault. fault ≡ NoMemory) }
+{
+    let (piece, _) = cut(Argument::Label, bytes);
+    match Label::new(alloc, piece) {
+        Ok(label) => Ok(label),
+        Err(LabelFault::BadLabel(_)) => unreachable!(),
+        Err(LabelFault::Memory) => Err(CmdFault::Memory),
+    }
+}
+
+// The modification of this path, by what stands behind the path.
+fn change_at<L: Ledger>(
+    alloc: Global,
+    word: ModWord,
+    path: Path,
+    bytes: &[u8],
+    steps: &mut Steps<L>,
+) -> Result<Mod, CmdFault>
+    requires { AreLoose (arguments_behind word) bytes.now }
+    ensures word { IfOk result (λ m. mod_word m ≡ word) }
+    ensures path { IfOk result (λ m. path_of m ≡ path) }
+    ensures ok { IfOk result (λ m. Mean bytes.now (values_behind m)) }
+    ensures refused { IfErr result (λ fault. fault ≢ NoMemory → (at : ℕ) → IsFirstFault (arguments_behind word) bytes.now at fault) }
+    ensures counted { IfOk result (λ m. steps.new ≤ steps.old + nodes_in (values_behind m)) }
+    ensures rises { steps.old ≤ steps.new }
+{
+    match word {
+        ModWord::Assign => Ok(Mod::Assign(path, last_tree(alloc, bytes, steps)?)),
+        ModWord::Insert => {
+            let (i, tree) = number_and_tree(alloc, bytes, steps)?;
+            Ok(Mod::Insert(path, i, tree))
+        }
+        ModWord::Remove => {
+            let (i, n) = two_numbers(bytes);
+            Ok(Mod::Remove(path, i, n))
+        }
+        ModWord::Split => {
+            let (i, j) = two_numbers(bytes);
+            Ok(Mod::Split(path, i, j))
+        }
+        ModWord::Join => Ok(Mod::Join(path, last_number(bytes))),
+        ModWord::AssignNode => Ok(Mod::AssignNode(path, last_label(alloc, bytes)?)),
+        ModWord::InsertNode => {
+            let (i, tree) = number_and_tree(alloc, bytes, steps)?;
+            Ok(Mod::InsertNode(path, i, tree))
+        }
+        ModWord::RemoveNode => Ok(Mod::RemoveNode(path, last_number(bytes))),
+    }
+}
+
+// The modification of what stands behind its word, at this place of the line.
+fn change<L: Ledger>(
+    alloc: Global,
+    word: ModWord,
+    bytes: &[u8],
+    at: usize,
+    steps: &mut Steps<L>,
+) -> Result<Mod, CmdFault>
+    requires loose { AreLoose (Argument.Path ∷ arguments_behind word) bytes.now }
+    requires place { at + length bytes.now ≤ MOST_LINE }
+    ensures word { IfOk result (λ m. mod_word m ≡ word) }
+    ensures ok { IfOk result (λ m. Mean bytes.now (a_path (path_of m) ∷ values_behind m)) }
+    ensures refused { IfErr result (λ fault. fault ≢ NoMemory → IsFirstFault (Argument.Path ∷ arguments_behind word) bytes.now at fault) }
+    ensures counted { IfOk result (λ m. steps.new ≤ steps.old + nodes_in (values_behind m)) }
+    ensures rises { steps.old ≤ steps.new }
+{
+    let (piece, rest) = cut(Argument::Path, bytes);
+    let path = read_path(alloc, piece, at + 1)?;
+    change_at(alloc, word, path, rest, steps)
+}
+
+// The path that is all that is left, where it begins at this place of the line.
+fn last_path(alloc: Global, bytes: &[u8], at: usize) -> Result<Path, CmdFault>
+    requires loose { AreLoose (Argument.Path ∷ []) bytes.now }
+    requires place { at + length bytes.now ≤ MOST_LINE }
+    ensures ok { IfOk result (λ p. Mean bytes.now (a_path p ∷ [])) }
+    ensures refused { IfErr result (λ fault. fault ≢ NoMemory → IsFirstFault (Argument.Path ∷ []) bytes.now at fault) }
+{
+    let (piece, _) = cut(Argument::Path, bytes);
+    read_path(alloc, piece, at + 1)
+}
+
+// The command of the word and of what stands behind it, at this place of the line.
+pub(crate) fn command<L: Ledger>(
+    alloc: Global,
+    word: Word,
+    bytes: &[u8],
+    at: usize,
+    steps: &mut Steps<L>,
+) -> Result<Command, CmdFault>
+    requires loose { AreLoose (arguments_of word) bytes.now }
+    requires place { at + length bytes.now ≤ MOST_LINE }
+    ensures word { IfOk result (λ c. word_of c ≡ word) }
+    ensures ok { IfOk result (λ c. Mean bytes.now (values_of c)) }
+    ensures refused { IfErr result (λ fault. fault ≢ NoMemory → IsFirstFault (arguments_of word) bytes.now at fault) }
+    ensures memory { result ≡ Err NoMemory → some_stored (arguments_of word) ≡ true }
+    ensures counted { IfOk result (λ c. steps.new ≤ steps.old + nodes_in (values_of c)) }
+    ensures rises { steps.old ≤ steps.new }
+{
+    match word {
+        Word::Change(word) => Ok(Command::Change(change(alloc, word, bytes, at, steps)?)),
+        Word::Undo => Ok(Command::Undo),
+        Word::Redo => Ok(Command::Redo),
+        Word::Go => Ok(Command::Go(last_path(alloc, bytes, at)?)),
+        Word::Cursor => Ok(Command::Cursor),
+        Word::Show => Ok(Command::Show),
+        Word::Tree => Ok(Command::Tree),
+        Word::Quit => Ok(Command::Quit),
+    }
+}

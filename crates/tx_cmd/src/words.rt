@@ -1,0 +1,90 @@
+// The first words of commands, and the arguments that stand behind each.
+ghost use Rattle.std.specs.Prelude.{◌≡◌, MatchOption};
+ghost use Rattle.tx_cmd.specs.Words.{word_text, arguments_of, IsKnown};
+
+/// What stands behind a command's first word.
+#[derive(Clone, Copy)]
+pub(crate) enum Argument {
+    /// A path.
+    Path,
+    /// A number of one to ten digits, at most 4,294,967,295.
+    Number,
+    /// A label.
+    Label,
+    /// A tree in Scheme syntax: all that is left of the line.
+    Tree,
+}
+
+/// The first word of a modification.
+#[derive(Clone, Copy)]
+pub(crate) enum ModWord {
+    Assign,
+    Insert,
+    Remove,
+    Split,
+    Join,
+    AssignNode,
+    InsertNode,
+    RemoveNode,
+}
+
+/// The first word of a command.
+#[derive(Clone, Copy)]
+pub(crate) enum Word {
+    Change(ModWord),
+    Undo,
+    Redo,
+    Go,
+    Cursor,
+    Show,
+    Tree,
+    Quit,
+}
+
+// The word that the bytes are, or None where they are none.
+pub(crate) fn known_word(bytes: &[u8]) -> Option<Word>
+    ensures { MatchOption result (¬ IsKnown bytes.now) (λ w. bytes.now ≡ word_text w) }
+{
+    match bytes {
+        b"assign" => Some(Word::Change(ModWord::Assign)),
+        b"insert" => Some(Word::Change(ModWord::Insert)),
+        b"remove" => Some(Word::Change(ModWord::Remove)),
+        b"split" => Some(Word::Change(ModWord::Split)),
+        b"join" => Some(Word::Change(ModWord::Join)),
+        b"assign-node" => Some(Word::Change(ModWord::AssignNode)),
+        b"insert-node" => Some(Word::Change(ModWord::InsertNode)),
+        b"remove-node" => Some(Word::Change(ModWord::RemoveNode)),
+        b"undo" => Some(Word::Undo),
+        b"redo" => Some(Word::Redo),
+        b"go" => Some(Word::Go),
+        b"cursor" => Some(Word::Cursor),
+        b"show" => Some(Word::Show),
+        b"tree" => Some(Word::Tree),
+        b"quit" => Some(Word::Quit),
+        _ => None,
+    }
+}
+
+impl Word {
+    // What stands behind the word, in order.
+    pub(crate) fn arguments(self) -> &'static [Argument]
+        ensures { result.now ≡ arguments_of self }
+    {
+        match self {
+            Word::Change(ModWord::Assign) => &[Argument::Path, Argument::Tree],
+            Word::Change(ModWord::Insert | ModWord::InsertNode) => {
+                &[Argument::Path, Argument::Number, Argument::Tree]
+            }
+            Word::Change(ModWord::Remove | ModWord::Split) => {
+                &[Argument::Path, Argument::Number, Argument::Number]
+            }
+            Word::Change(ModWord::Join | ModWord::RemoveNode) => &[
+                Argument::Path,
+                Argument::Number,
+            ],
+            Word::Change(ModWord::AssignNode) => &[Argument::Path, Argument::Label],
+            Word::Go => &[Argument::Path],
+            Word::Undo | Word::Redo | Word::Cursor | Word::Show | Word::Tree | Word::Quit => &[],
+        }
+    }
+}
