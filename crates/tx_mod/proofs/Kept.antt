@@ -22,7 +22,7 @@ use Rattle.tx_mod.proofs.Shapes.{get_front, get_behind, get_take, get_drop, put_
 
 -- ---- children that stay
 
-insert_stays : (s x v c : WideTree) (i k : ℕ) → inserted s i x ≡ Ok v → slice_get (children_of s) k ≡ Some c → slice_get (children_of v) (shifted i (extent x) k) ≡ Some c
+pub insert_stays : (s x v c : WideTree) (i k : ℕ) → inserted s i x ≡ Ok v → slice_get (children_of s) k ≡ Some c → slice_get (children_of v) (shifted i (extent x) k) ≡ Some c
 insert_stays (leaf text) x v c i k e f = absurd (cc)
 insert_stays (node l ts) x v c i k e f =
     let h = shape_inserted l ts x v i e in

@@ -11,3 +11,6 @@ pub mod Cases
 pub mod Small
 pub mod Shapes
 pub mod Kept
+pub mod CutPlaces
+pub mod Standing
+pub mod Composed

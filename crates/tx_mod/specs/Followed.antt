@@ -42,3 +42,7 @@ Composes ms ns t q = carried_by_all (ms ++ ns) t q ≡ option_and_then (λ u. op
 abbrev pub StopsAt : List Mod → Mod → List Mod → WideTree → List ℕ → Type 0
 StopsAt ms m ns t q =
     (u : WideTree) (r : List ℕ) → changed_by_all ms t ≡ Some u → carried_by_all ms t q ≡ Some r → carried_path m u r ≡ None → carried_by_all (ms ++ m ∷ ns) t q ≡ None
+
+-- where a path is carried through all modifications, the same subtree stands
+abbrev pub CarriesThroughAll : List Mod → WideTree → List ℕ → Type 0
+CarriesThroughAll ms t q = (u x : WideTree) (r : List ℕ) → changed_by_all ms t ≡ Some u → subtree t q ≡ Some x → carried_by_all ms t q ≡ Some r → subtree u r ≡ Some x

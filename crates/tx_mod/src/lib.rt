@@ -21,6 +21,6 @@ mod ways;
 pub use applying::{applicable, apply, inverse};
 pub use carrying::carried;
 pub use faults::{ApplyFault, ModFault};
-pub use laws::{carried_law, inverse_law};
+pub use laws::{carried_law, carried_list_law, inverse_law, moved_law};
 pub use mods::Mod;
 pub use moving::moved;
