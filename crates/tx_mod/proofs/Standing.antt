@@ -88,12 +88,12 @@ insert_place (leaf text) (leaf more) v i [] o f f' e h =
     let whole : text ≡ take i text ++ drop i text = sym (take-append-drop i text) in
     leaf_place v (put_in text i more) (shifted i (length more) o) (sym (same_tree (leaf (put_in text i more)) v b.1))
     (by_test (IsCut (put_in text i more)) (leb i o) (o + length more) o
-        (λ t. let le' : i ≤ o = leb-true i o t in
-            cut_push (take i text ++ more) (drop i text) (put_in text i more) (o - i) (o + length more) refl (omega (arith, length-append (take i text) more)) (together ha f')
-            (cut_behind (take i text) (drop i text) text o (o - i) whole (omega arith) ha hb h))
-        (λ t. let lt : o < i = leb-false i o t in
-            cut_append (take i text ++ more) (drop i text) (put_in text i more) o refl
-            (cut_append (take i text) more (take i text ++ more) o refl (cut_in_front (take i text) (drop i text) text o whole ha (omega arith) h) f') hb))
+    (λ t. let le' : i ≤ o = leb-true i o t in
+    cut_push (take i text ++ more) (drop i text) (put_in text i more) (o - i) (o + length more) refl (omega (arith, length-append (take i text) more)) (together ha f')
+    (cut_behind (take i text) (drop i text) text o (o - i) whole (omega arith) ha hb h))
+    (λ t. let lt : o < i = leb-false i o t in
+    cut_append (take i text ++ more) (drop i text) (put_in text i more) o refl
+    (cut_append (take i text) more (take i text ++ more) o refl (cut_in_front (take i text) (drop i text) text o whole ha (omega arith) h) f') hb))
   where
     together : IsText (take i text) → IsText more → IsText (take i text ++ more)
     together = texts_together (take i text) more
@@ -116,20 +116,20 @@ remove_place (leaf text) v i n [] o f e h =
     let w : List ℕ = taken_out text i n in
     leaf_place v w (if leb (i + n) o then o - n else (if leb i o then i else o)) (sym (same_tree (leaf w) v c.1))
     (by_test (IsCut w) (leb (i + n) o) (o - n) _
-        (λ t. let le' : i + n ≤ o = leb-true (i + n) o t in
-            cut_push (take i text) (drop (i + n) text) w (o - (i + n)) (o - n) refl (omega arith) ha
-            (cut_behind (take (i + n) text) (drop (i + n) text) text o (o - (i + n)) (sym (take-append-drop (i + n) text)) (omega arith) hc hd h))
-        (λ t. by_test (IsCut w) (leb i o) i o
-            (λ t'. cut_of (take i text) (drop (i + n) text) w i refl (sym front) ha hd)
-            (λ t'. let lt : o < i = leb-false i o t' in
-                cut_append (take i text) (drop (i + n) text) w o refl (cut_in_front (take i text) (drop i text) text o (sym (take-append-drop i text)) ha (omega arith) h) hd)))
+    (λ t. let le' : i + n ≤ o = leb-true (i + n) o t in
+    cut_push (take i text) (drop (i + n) text) w (o - (i + n)) (o - n) refl (omega arith) ha
+    (cut_behind (take (i + n) text) (drop (i + n) text) text o (o - (i + n)) (sym (take-append-drop (i + n) text)) (omega arith) hc hd h))
+    (λ t. by_test (IsCut w) (leb i o) i o
+    (λ t'. cut_of (take i text) (drop (i + n) text) w i refl (sym front) ha hd)
+    (λ t'. let lt : o < i = leb-false i o t' in
+    cut_append (take i text) (drop (i + n) text) w o refl (cut_in_front (take i text) (drop i text) text o (sym (take-append-drop i text)) ha (omega arith) h) hd)))
 remove_place (node l ts) v i n [] o f e h = let g = shape_removed l ts v i n e in node_place v g.label _ o g.is h
 remove_place (node l ts) v i n (k ∷ u) o f e h =
     let g = shape_removed l ts v i n e in
     by_test (Has v) (leb (i + n) k) (place ((k - n) ∷ u) o) _
     (λ t. below_child (node l ts) v k (k - n) u o (λ c q. remove_back (node l ts) v c i n k e (leb-true (i + n) k t) q) h)
     (λ t. by_test (Has v) (leb i k) (place [] 0) (place (k ∷ u) o) (λ t'. node_place v g.label _ 0 g.is (omega arith))
-        (λ t'. below_child (node l ts) v k k u o (λ c q. remove_front (node l ts) v c i n k e (leb-false i k t') q) h))
+    (λ t'. below_child (node l ts) v k k u o (λ c q. remove_front (node l ts) v c i n k e (leb-false i k t') q) h))
 
 -- ---- splitting and joining
 
@@ -143,9 +143,9 @@ split_child_place s v (leaf text) i j [] o f clean fits e g h =
     let whole : text ≡ take j text ++ drop j text = sym (take-append-drop j text) in
     by_test (Has v) (leb j o) (place ((i + 1) ∷ []) (o - j)) (place (i ∷ []) o)
     (λ t. let le : j ≤ o = leb-true j o t in
-        at_child v (leaf (drop j text)) (i + 1) [] (o - j) (split_right s v (leaf text) i j e g) (cut_behind (take j text) (drop j text) text o (o - j) whole (omega arith) ha hb h))
+    at_child v (leaf (drop j text)) (i + 1) [] (o - j) (split_right s v (leaf text) i j e g) (cut_behind (take j text) (drop j text) text o (o - j) whole (omega arith) ha hb h))
     (λ t. let lt : o < j = leb-false j o t in
-        at_child v (leaf (take j text)) i [] o (split_left s v (leaf text) i j e g) (cut_in_front (take j text) (drop j text) text o whole ha (omega arith) h))
+    at_child v (leaf (take j text)) i [] o (split_left s v (leaf text) i j e g) (cut_in_front (take j text) (drop j text) text o whole ha (omega arith) h))
 split_child_place s v (node m us) i j [] o f clean fits e g h =
     by_test (Has v) (eqb o 1) (place ((i + 1) ∷ []) 1) (place (i ∷ []) o)
     (λ t. at_child v (behind (node m us) j) (i + 1) [] 1 (split_right s v (node m us) i j e g) (omega arith))
@@ -153,9 +153,9 @@ split_child_place s v (node m us) i j [] o f clean fits e g h =
 split_child_place s v (node m us) i j (l ∷ w) o f clean fits e g h =
     by_test (Has v) (leb j l) (place ((i + 1) ∷ (l - j) ∷ w) o) (place (i ∷ l ∷ w) o)
     (λ t. at_child v (behind (node m us) j) (i + 1) ((l - j) ∷ w) o (split_right s v (node m us) i j e g)
-        (below_child (node m us) (behind (node m us) j) l (l - j) w o (λ d q. behind_child (node m us) d j l (leb-true j l t) q) h))
+    (below_child (node m us) (behind (node m us) j) l (l - j) w o (λ d q. behind_child (node m us) d j l (leb-true j l t) q) h))
     (λ t. at_child v (before (node m us) j) i (l ∷ w) o (split_left s v (node m us) i j e g)
-        (below_child (node m us) (before (node m us) j) l l w o (λ d q. before_child (node m us) d j l (leb-false j l t) q) h))
+    (below_child (node m us) (before (node m us) j) l l w o (λ d q. before_child (node m us) d j l (leb-false j l t) q) h))
 
 split_place : (s v : WideTree) (i j : ℕ) (r : List ℕ) (o : ℕ) → IsWellFormed s → split s i j ≡ Ok v → IsPlace s r o → Has v (moved_by_split s i j r o)
 split_place (leaf text) v i j r o f e h = absurd (cc)
@@ -166,13 +166,13 @@ split_place (node l ts) v i j (k ∷ u) o f e h =
     by_test (Has v) (ltb i k) (place ((k + 1) ∷ u) o) _
     (λ t. below_child s v k (k + 1) u o (λ c q. split_back s v c i j k e (ltb-true i k t) q) h)
     (λ t. by_test (Has v) (eqb k i) (moved_in_split (child_or_self s i) i j u o) (place (k ∷ u) o)
-        (λ t'. let same : k ≡ i = eqb-true k i t' in
-            subst (λ c. Has v (moved_in_split c i j u o)) (sym (child_is s g.child i g.found))
-            (split_child_place s v g.child i j u o (child_well_formed ts i g.child f.1 g.found) g.clean g.fits e g.found
-                (of_child s g.child i u o g.found (subst (λ n. IsPlace s (n ∷ u) o) same h))))
-        (λ t'. let le : k ≤ i = ltb-false i k t in
-            let ne : k ≡ i → ⊥ = eqb-false k i t' in
-            below_child s v k k u o (λ c q. split_front s v c i j k e (omega arith) q) h))
+    (λ t'. let same : k ≡ i = eqb-true k i t' in
+    subst (λ c. Has v (moved_in_split c i j u o)) (sym (child_is s g.child i g.found))
+    (split_child_place s v g.child i j u o (child_well_formed ts i g.child f.1 g.found) g.clean g.fits e g.found
+    (of_child s g.child i u o g.found (subst (λ n. IsPlace s (n ∷ u) o) same h))))
+    (λ t'. let le : k ≤ i = ltb-false i k t in
+    let ne : k ≡ i → ⊥ = eqb-false k i t' in
+    below_child s v k k u o (λ c q. split_front s v c i j k e (omega arith) q) h))
 
 join_right_place : (v a b c : WideTree) (i : ℕ) (u : List ℕ) (o : ℕ) → IsWellFormed a → slice_get (children_of v) i ≡ Some c → joined a b ≡ Ok c → IsPlace b u o → Has v (moved_in_join b i (extent a) u o)
 join_right_place v a (leaf y) c i (k ∷ w) o f g t h = absurd h
@@ -211,11 +211,11 @@ join_place (node l ts) v i (k ∷ u) o f e h =
     by_test (Has v) (ltb (i + 1) k) (place ((k - 1) ∷ u) o) _
     (λ t. below_child s v k (k - 1) u o (λ c q. join_behind s v c i k e (ltb-true (i + 1) k t) q) h)
     (λ t. by_test (Has v) (eqb k (i + 1)) (moved_in_join (child_or_self s (i + 1)) i (extent (child_or_self s i)) u o) (place (k ∷ u) o)
-        (λ t'. let same : k ≡ i + 1 = eqb-true k (i + 1) t' in
-            subst (λ b. Has v (moved_in_join b i (extent (child_or_self s i)) u o)) (sym (child_is s g.right (i + 1) g.second))
-            (subst (λ a. Has v (moved_in_join g.right i (extent a) u o)) (sym (child_is s g.left i g.first))
-                (join_right_place v g.left g.right g.both i u o fa here g.one (of_child s g.right (i + 1) u o g.second (subst (λ n. IsPlace s (n ∷ u) o) same h)))))
-        (λ t'. stays v g.left g.right g.both here fb g.first g.one (ltb-false (i + 1) k t) (eqb-false k (i + 1) t') e (eqb k i) refl h))
+    (λ t'. let same : k ≡ i + 1 = eqb-true k (i + 1) t' in
+    subst (λ b. Has v (moved_in_join b i (extent (child_or_self s i)) u o)) (sym (child_is s g.right (i + 1) g.second))
+    (subst (λ a. Has v (moved_in_join g.right i (extent a) u o)) (sym (child_is s g.left i g.first))
+    (join_right_place v g.left g.right g.both i u o fa here g.one (of_child s g.right (i + 1) u o g.second (subst (λ n. IsPlace s (n ∷ u) o) same h)))))
+    (λ t'. stays v g.left g.right g.both here fb g.first g.one (ltb-false (i + 1) k t) (eqb-false k (i + 1) t') e (eqb k i) refl h))
   where
     stays : (v a b c : WideTree) → slice_get (children_of v) i ≡ Some c → IsWellFormed b → slice_get (trees ts) i ≡ Some a → joined a b ≡ Ok c → k ≤ i + 1 → (k ≡ i + 1 → ⊥) → joined_at (node l ts) i ≡ Ok v
         → (d : Bool) → eqb k i ≡ d → IsPlace (node l ts) (k ∷ u) o → IsPlace v (k ∷ u) o

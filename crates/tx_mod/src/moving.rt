@@ -5,6 +5,7 @@ ghost use Rattle.tx_tree.specs.WideTree.{WideTree};
 ghost use Rattle.tx_mod.specs.Changes.{changed, changed_at};
 ghost use Rattle.tx_mod.specs.Mods.{extent};
 ghost use Rattle.tx_mod.specs.Moves.{child_or_self, shifted, place, moved_by_insert, moved_by_remove, moved_in_split, moved_by_split, moved_in_join, moved_by_join, moved_by_unwrap, moved_at, moved_place};
+ghost use Rattle.tx_mod.specs.Sound.{IsSound};
 ghost use Rattle.tx_mod.specs.Ways.{numbers_of, StandsAt, AreSmall};
 
 use crate::measures::extent;
@@ -198,9 +199,20 @@ fn moved_at<'a>(m: &Mod, s: &Tree, rest: &'a [u32], offset: u32) -> Stand<'a>
     }
 }
 
-/// Where a place of the tree stands after the modification. A place that is taken out stands where it was taken
-/// out, or before the changed subtree.
-pub fn moved(alloc: Global, t: &Tree, m: &Mod, place: &Place) -> Result<Place, Memory>
+// The trees that the modification puts in are well formed.
+fn sound(m: &Mod)
+    ensures { IsSound m.now }
+{
+    match m {
+        Mod::Assign(_, x) | Mod::Insert(_, _, x) | Mod::InsertNode(_, _, x) => {
+            let _size = x.size();
+        }
+        _ => {}
+    }
+}
+
+// The place, by the tables.
+fn place_after(alloc: Global, t: &Tree, m: &Mod, place: &Place) -> Result<Place, Memory>
     requires applicable { IsOk (changed m.now t.now) }
     requires valid { IsPlace t.now place.now.path place.now.offset }
     ensures { IfOk result (λ at. at ≡ moved_place m.now t.now place.now) }
@@ -217,4 +229,17 @@ pub fn moved(alloc: Global, t: &Tree, m: &Mod, place: &Place) -> Result<Place, M
         path: path_below(alloc, m.path(), stand.way)?,
         offset: stand.offset,
     })
+}
+
+/// Where a place of the tree stands after the modification, which is a place of the changed tree. What is taken out
+/// is left for the place where it was taken out, or for the place before the changed subtree.
+pub fn moved(alloc: Global, t: &Tree, m: &Mod, place: &Place) -> Result<Place, Memory>
+    requires applicable { IsOk (changed m.now t.now) }
+    requires valid { IsPlace t.now place.now.path place.now.offset }
+    ensures place { IfOk result (λ at. at ≡ moved_place m.now t.now place.now) }
+    ensures valid { (u : WideTree) → changed m.now t.now ≡ Ok u → IfOk result (λ at. IsPlace u at.path at.offset) }
+{
+    sound(m);
+    let _size = t.size();
+    place_after(alloc, t, m, place)
 }

@@ -1,13 +1,16 @@
-use Rattle.std.proofs.Common.{subst, sym}
-use Rattle.tx_mod.specs.Ways.{AreSmall}
-use Rattle.tx_mod.proofs.Small.{leads_small, rest_small, place_leads, place_small}
+use Rattle.std.proofs.Common.{◌≡◌, Ok, Err, Result, sym, ap, subst}
+use Rattle.std.specs.Prelude.{IfOk}
+use Rattle.tx_tree.specs.declared.places.Place.{Place}
+use Rattle.tx_tree.specs.Places.{IsPlace}
+use Rattle.tx_tree.specs.WideTree.{WideTree}
+use Rattle.tx_mod.proofs.Standing.{stays_place}
 use Rattle.tx_mod.proofs.moving.moved.Goals as goal
 
-pub moved_at-stand-requires-clause-small : goal.moved_at-stand-requires-clause-small
-moved_at-stand-requires-clause-small c =
-    rest_small c.steps.result.now c.steps-2.result.now c.in-Some-rest_behind.rest.now c.in-Some-rest_behind.ensures
-    (subst AreSmall (sym c.steps-2.ensures)
-    (leads_small c.args.t.now c.args.place.now.path (place_leads c.args.t.now c.args.place.now.path c.args.place.now.offset c.requires.valid) c.size-size.ensures.within))
+valid_if : {E : Type 0} (u : WideTree) (w : Place) (r : Result Place E) → IfOk r (λ at. at ≡ w) → IsPlace u w.path w.offset → IfOk r (λ at. IsPlace u at.path at.offset)
+valid_if u w (Ok at) e h = subst (λ z. IsPlace u z.path z.offset) (sym e) h
+valid_if u w (Err cause) e h = tt
 
-pub moved_at-stand-requires-clause-offset : goal.moved_at-stand-requires-clause-offset
-moved_at-stand-requires-clause-offset c = place_small c.args.t.now c.args.place.now.path c.args.place.now.offset c.requires.valid c.size-size.ensures.within
+pub returns-clause-valid : goal.returns-clause-valid
+returns-clause-valid c =
+    λ u e. valid_if u _ _ c.place_after.ensures
+    (stays_place c.args.m.now c.args.t.now c.args.place.now u c.sound.ensures c.size-size.ensures.well_formed e c.requires.valid)
