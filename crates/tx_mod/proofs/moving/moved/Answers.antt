@@ -1,4 +1,4 @@
-use Rattle.std.proofs.Common.{◌≡◌, Ok, Err, Result, sym, ap, subst}
+use Rattle.std.proofs.Common.{◌≡◌, Ok, Err, Result, sym, subst}
 use Rattle.std.specs.Prelude.{IfOk}
 use Rattle.tx_tree.specs.declared.places.Place.{Place}
 use Rattle.tx_tree.specs.Places.{IsPlace}
