@@ -61,15 +61,15 @@ cut_between a b n h k e =
 
 -- ---- outcomes
 
-ok_asked : (b : Bool) (cause : ModFault) (o : Outcome) (v : WideTree) → asking b cause o ≡ Ok v → (b ≡ true) × (o ≡ Ok v)
+pub ok_asked : (b : Bool) (cause : ModFault) (o : Outcome) (v : WideTree) → asking b cause o ≡ Ok v → (b ≡ true) × (o ≡ Ok v)
 ok_asked true cause o v e = (refl, e)
 ok_asked false cause o v e = absurd (cc)
 
-ok_got : (f : WideTree → Outcome) (cause : ModFault) (o : Option WideTree) (v : WideTree) → option_map_or f o (Err cause) ≡ Ok v → (c : WideTree) × (o ≡ Some c) × (f c ≡ Ok v)
+pub ok_got : (f : WideTree → Outcome) (cause : ModFault) (o : Option WideTree) (v : WideTree) → option_map_or f o (Err cause) ≡ Ok v → (c : WideTree) × (o ≡ Some c) × (f c ≡ Ok v)
 ok_got f cause None v e = absurd (cc)
 ok_got f cause (Some c) v e = (c, refl, e)
 
-same_tree : (a b : WideTree) → ◌≡◌ {A = Outcome} (Ok a) (Ok b) → a ≡ b
+pub same_tree : (a b : WideTree) → ◌≡◌ {A = Outcome} (Ok a) (Ok b) → a ≡ b
 same_tree a b e = cc
 
 yes : (b : Bool) (cause : ModFault) (o : Outcome) → b ≡ true → asking b cause o ≡ o
@@ -211,12 +211,12 @@ resplit (node l ts) (node m us) c h k e =
           ∙ ap (λ n. node n us) named;
     })
 
-child_well_formed : (us : Forest) (i : ℕ) (c : WideTree) → AreWellFormed us → slice_get (trees us) i ≡ Some c → IsWellFormed c
+pub child_well_formed : (us : Forest) (i : ℕ) (c : WideTree) → AreWellFormed us → slice_get (trees us) i ≡ Some c → IsWellFormed c
 child_well_formed nil i c h e = absurd (cc)
 child_well_formed (cons u us) zero c h e = let same : u ≡ c = cc in subst IsWellFormed same h.0
 child_well_formed (cons u us) (suc i) c h e = child_well_formed us i c h.1 e
 
-ok_two : (l : List ℕ) (ts : List WideTree) (i : ℕ) (o : Outcome) (v : WideTree) → in_place_of_two l ts i o ≡ Ok v → (c : WideTree) × (o ≡ Ok c) × (node l (forest (take i ts ++ c ∷ drop (i + 2) ts)) ≡ v)
+pub ok_two : (l : List ℕ) (ts : List WideTree) (i : ℕ) (o : Outcome) (v : WideTree) → in_place_of_two l ts i o ≡ Ok v → (c : WideTree) × (o ≡ Ok c) × (node l (forest (take i ts ++ c ∷ drop (i + 2) ts)) ≡ v)
 ok_two l ts i (Ok c) v e = (c, refl, same_tree _ v e)
 ok_two l ts i (Err cause) v e = absurd (cc)
 
@@ -308,7 +308,7 @@ same_path (AssignNode p l) s = refl
 same_path (InsertNode p i x) s = refl
 same_path (RemoveNode p i) s = refl
 
-well_formed_at : (path : List ℕ) (t s : WideTree) → subtree t path ≡ Some s → IsWellFormed t → IsWellFormed s
+pub well_formed_at : (path : List ℕ) (t s : WideTree) → subtree t path ≡ Some s → IsWellFormed t → IsWellFormed s
 well_formed_at [] t s e h = let same : t ≡ s = cc in subst IsWellFormed same h
 well_formed_at (i ∷ path) t s e h = let d = down t i path s e in well_formed_at path d.child s d.further (child_of t d.child h d.found)
   where

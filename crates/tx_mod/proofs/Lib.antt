@@ -7,3 +7,10 @@ pub mod Built
 pub mod Remade
 pub mod Undone
 pub mod Back
+pub mod Cases
+pub mod Small
+pub mod Shapes
+pub mod Kept
+pub mod CutPlaces
+pub mod Standing
+pub mod Composed

@@ -148,7 +148,7 @@ pub record IsChange (m : Mod) (t s : WideTree) : Type 0 where
   pub is : changed m t ≡ Ok (replaced t (path_of m) made)
   pub small : IsWithinLimits made
 
-path_within : (path : List ℕ) (t s : WideTree) → subtree t path ≡ Some s → IsWithinLimits t → IsWithinLimits s
+pub path_within : (path : List ℕ) (t s : WideTree) → subtree t path ≡ Some s → IsWithinLimits t → IsWithinLimits s
 path_within [] t s e w = let same : t ≡ s = cc in subst IsWithinLimits same w
 path_within (i ∷ path) t s e w = let d = down t i path s e in path_within path d.child s d.further (child_within t d.child i d.found w)
 

@@ -4,3 +4,5 @@ pub mod Inverses
 pub mod Moves
 pub mod Measures
 pub mod Sound
+pub mod Ways
+pub mod Followed

@@ -5,17 +5,22 @@
 #![tactic(auto)]
 
 mod applying;
+mod carrying;
 mod faults;
 mod laws;
 mod making;
 mod measures;
 mod mods;
+mod moving;
 mod parts;
 mod remaking;
 mod undoing;
 mod walks;
+mod ways;
 
 pub use applying::{applicable, apply, inverse};
+pub use carrying::carried;
 pub use faults::{ApplyFault, ModFault};
-pub use laws::inverse_law;
+pub use laws::{carried_law, carried_list_law, inverse_law, moved_law};
 pub use mods::Mod;
+pub use moving::moved;

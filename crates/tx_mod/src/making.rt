@@ -1,5 +1,5 @@
 // Making of trees that are known to be within the limits.
-ghost use Rattle.std.specs.Prelude.{◌≡◌, ◌+◌, ◌++◌, ◌≤◌, ◌<◌, length, IfOk, OnOk, IsSome, IsSomeAnd, Some, MatchOption, [], ◌∷◌, take, drop};
+ghost use Rattle.std.specs.Prelude.{◌≡◌, ◌+◌, ◌++◌, ◌≤◌, ◌<◌, length, IfOk, OnOk, IsSome, [], ◌∷◌, take, drop};
 ghost use Rattle.tx_tree.specs.Limits.{IsWithinLimits};
 ghost use Rattle.tx_tree.specs.Paths.{subtree};
 ghost use Rattle.tx_tree.specs.Texts.{IsText};
@@ -7,6 +7,7 @@ ghost use Rattle.tx_tree.specs.WideTree.{leaf, node, forest, children_of};
 ghost use Rattle.tx_mod.specs.Mods.{replaced, with_child};
 
 use crate::parts::{Parts, parts_of};
+use crate::ways::first_step;
 use std::alloc::Global;
 use std::sync::ledger::Ledger;
 use tx_base::{Memory, Steps};
@@ -105,16 +106,6 @@ fn with_child<L: Ledger>(
     let i = i as usize;
     let all = spliced(alloc, children, i, i + 1, &[child])?;
     node_of(alloc, label, all, steps)
-}
-
-// The first number of a path, and the others.
-fn first_step(path: &[u32]) -> Option<(u32, &[u32])>
-    ensures { MatchOption result (path.now ≡ []) (λ p. path.now ≡ p.0 ∷ p.1.now) }
-{
-    match path {
-        [] => None,
-        [i, rest @ ..] => Some((*i, rest)),
-    }
 }
 
 // The tree with another subtree where the path leads. It shares all other subtrees.
