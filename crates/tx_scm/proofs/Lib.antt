@@ -8,6 +8,7 @@ pub mod Keeping
 pub mod Counting
 pub mod Runs
 pub mod Exact
+pub mod Sizing
 pub mod Spelled
 pub mod Recognised
 pub mod Places

@@ -4,3 +4,4 @@ pub mod Kinds
 pub mod Machine
 pub mod States
 pub mod Recognising
+pub mod Sizes

@@ -1,7 +1,8 @@
 // What a byte is to the syntax.
 ghost use Rattle.std.specs.Prelude.{◌≡◌};
-ghost use Rattle.tx_tree.specs.Labels.{is_label_byte};
 ghost use Rattle.tx_scm.specs.Kinds.{kind_of};
+
+use tx_tree::is_label_byte;
 
 /// What a byte is to the syntax.
 #[derive(Clone, Copy, Debug, PartialEq, Eq)]
@@ -13,31 +14,6 @@ pub(crate) enum Kind {
     Backslash,
     Letter,
     Other,
-}
-
-// Whether the byte may stand in a label.
-#[tactic(auto, unfolding(tx_tree::specs::Labels::is_label_byte))]
-fn is_label_byte(byte: u8) -> bool
-    ensures { result ≡ is_label_byte byte }
-{
-    byte.is_ascii_alphanumeric()
-        || matches!(
-            byte,
-            b'-' | b'_'
-                | b'+'
-                | b'*'
-                | b':'
-                | b'.'
-                | b'?'
-                | b'!'
-                | b'='
-                | b'~'
-                | b'@'
-                | b'$'
-                | b'%'
-                | b'&'
-                | b'^'
-        )
 }
 
 #[tactic(auto, unfolding(crate::specs::Kinds::kind_of))]

@@ -1,10 +1,11 @@
 // The tree that bytes spell.
-ghost use Rattle.std.specs.Prelude.{◌≡◌, ℕ, ◌+◌, ◌<◌, ◌≤◌, List, [], length, drop, Some, None, if◌then◌else◌, IfOk, IfErr, IfSome, OnSome};
+ghost use Rattle.std.specs.Prelude.{◌≡◌, ℕ, ◌+◌, ◌-◌, ◌<◌, ◌≤◌, List, [], length, get_or, drop, Some, None, if◌then◌else◌, IfOk, IfErr, IfSome, OnSome};
 ghost use Rattle.tx_tree.specs.WideTree.{WideTree, node, forest, leaf, nodes_of};
 ghost use Rattle.tx_tree.specs.Limits.{IsWithinLimits};
 ghost use Rattle.tx_scm.specs.Spelling.{Spells};
 ghost use Rattle.tx_scm.specs.Kinds.{kind_of};
-ghost use Rattle.tx_scm.specs.Machine.{Open, within, the_limits, has_room, keeps, put, between, texting, step_between, step_opened, step_naming, step_texting, step_escaping, step_whole, lengthened, step, reads, node_of};
+ghost use Rattle.tx_scm.specs.Machine.{Open, within, the_limits, has_room, keeps, put, between, texting, step_between, step_opened, step_naming, step_texting, step_escaping, step_whole, lengthened, step, tree_in, reads, node_of};
+ghost use Rattle.tx_scm.specs.Sizes.{grown_by, GrowsBy};
 ghost use Rattle.tx_scm.specs.States.{open_of, opens_of, state_of, next_of, made_by, made_in, CountsOn, read_on};
 
 use crate::kinds::{Kind, kind_of};
@@ -13,7 +14,7 @@ use crate::states::{Bracket, State};
 use std::alloc::Global;
 use std::sync::ledger::Ledger;
 use tx_base::{Memory, Steps};
-use tx_tree::{MOST_ARITY, MOST_DEPTH, ReadFault, TextBuilder, Tree, TreeFault};
+use tx_tree::{MOST_ARITY, MOST_DEPTH, MOST_SIZE, ReadFault, TextBuilder, Tree, TreeFault};
 
 // Whether one tree more may stand in the innermost bracket.
 fn has_room(brackets: &Vec<Bracket>) -> bool
@@ -204,18 +205,38 @@ fn step_whole(tree: Tree, kind: Kind) -> Option<State>
     }
 }
 
+// By how much a byte of this kind makes larger what was begun.
+fn grown_by(state: &State, kind: Kind) -> usize
+    ensures by { result ≡ grown_by (state_of state.now) kind }
+    ensures most { result ≤ 1 }
+{
+    match state {
+        State::Between(_) | State::Naming(..) => match kind {
+            Kind::Opens | Kind::Quote => 1,
+            _ => 0,
+        },
+        State::Texting(..) => match kind {
+            Kind::Quote | Kind::Backslash => 0,
+            _ => 1,
+        },
+        State::Escaping(..) => 1,
+        _ => 0,
+    }
+}
+
 // Where the reader stands behind one byte more, or None where no tree goes on so.
 fn step<L: Ledger>(
     alloc: Global,
     state: State,
+    kind: Kind,
     byte: u8,
     steps: &mut Steps<L>,
 ) -> Result<Option<State>, Memory>
+    requires { kind ≡ kind_of byte }
     ensures next { IfOk result (λ next. next_of next ≡ step (within the_limits) (state_of state) (kind_of byte) byte) }
     ensures counted { IfOk result (λ next. OnSome next (steps.new ≡ steps.old + made_in (state_of state) (kind_of byte))) }
     ensures rises { steps.old ≤ steps.new }
 {
-    let kind = kind_of(byte);
     match state {
         State::Between(brackets) => step_between(alloc, brackets, kind, steps),
         State::Opened(brackets) => step_opened(alloc, brackets, kind, byte),
@@ -226,14 +247,21 @@ fn step<L: Ledger>(
     }
 }
 
-// Adds the bytes of a string from `at` on, up to the next quote or backslash, and answers its place, or None
-// where no text goes on so.
-fn text_run(text: &mut TextBuilder, bytes: &[u8], at: usize) -> Result<Option<usize>, Memory>
-    requires { at ≤ length bytes.now }
-    ensures end { IfOk result (λ found. IfSome found (λ end. (at ≤ end) × (end ≤ length bytes.now))) }
+// Adds the bytes of a string from `at` up to `last`, or up to a quote or backslash before, and answers the place
+// behind them, or None where no text goes on so.
+fn text_run(
+    text: &mut TextBuilder,
+    bytes: &[u8],
+    at: usize,
+    last: usize,
+) -> Result<Option<usize>, Memory>
+    requires from { at ≤ last }
+    requires to { last ≤ length bytes.now }
+    ensures end { IfOk result (λ found. IfSome found (λ end. (at ≤ end) × (end ≤ last))) }
+    ensures longer { IfOk result (λ found. IfSome found (λ end. length text.new + at ≡ length text.old + end)) }
     ensures same { (opens : List Open) → IfOk result (λ found. reads (texting text.old opens) (drop at bytes.now) ≡ read_on found (λ end. reads (texting text.new opens) (drop end bytes.now))) }
 {
-    for i in at..bytes.len() {
+    for i in at..last {
         let byte = bytes[i];
         if byte == b'"' || byte == b'\\' {
             return Ok(Some(i));
@@ -242,35 +270,54 @@ fn text_run(text: &mut TextBuilder, bytes: &[u8], at: usize) -> Result<Option<us
             return Ok(None);
         }
     }
-    Ok(Some(bytes.len()))
+    Ok(Some(last))
 }
 
-// Where the reader stands behind the byte at `at`, and behind the plain bytes of a string after it, and the
-// place there, or None where no tree goes on so.
+// Where the reader stands behind the byte at `at`, which is of this kind, and behind at most `room` plain bytes
+// of a string after it, and the place there, or None where no tree goes on so.
 fn advance<L: Ledger>(
     alloc: Global,
     state: State,
+    kind: Kind,
     bytes: &[u8],
     at: usize,
+    room: usize,
     steps: &mut Steps<L>,
 ) -> Result<Option<(State, usize)>, Memory>
-    requires { at < length bytes.now }
+    requires at { at < length bytes.now }
+    requires kind { kind ≡ kind_of (get_or bytes.now at 0) }
     ensures end { IfOk result (λ found. IfSome found (λ next. (at < next.1) × (next.1 ≤ length bytes.now))) }
+    ensures short { IfOk result (λ found. IfSome found (λ next. next.1 ≤ at + 1 + room)) }
     ensures same { IfOk result (λ found. reads (state_of state) (drop at bytes.now) ≡ read_on found (λ next. reads (state_of next.0) (drop next.1 bytes.now))) }
     ensures counted { IfOk result (λ found. IfSome found (λ next. CountsOn (state_of state) steps.old (state_of next.0) steps.new)) }
+    ensures sized { IfOk result (λ found. IfSome found (λ next. GrowsBy (grown_by (state_of state) kind + (next.1 - (at + 1))) (state_of state) (state_of next.0))) }
     ensures rises { steps.old ≤ steps.new }
 {
-    match step(alloc, state, bytes[at], steps)? {
+    match step(alloc, state, kind, bytes[at], steps)? {
         None => Ok(None),
-        Some(State::Texting(mut text, brackets)) => match text_run(&mut text, bytes, at + 1)? {
-            None => Ok(None),
-            Some(end) => Ok(Some((State::Texting(text, brackets), end))),
-        },
+        Some(State::Texting(mut text, brackets)) => {
+            let last = at + 1 + room.min(bytes.len() - at - 1);
+            match text_run(&mut text, bytes, at + 1, last)? {
+                None => Ok(None),
+                Some(end) => Ok(Some((State::Texting(text, brackets), end))),
+            }
+        }
         Some(next) => Ok(Some((next, at + 1))),
     }
 }
 
-// The tree that the bytes spell, or None where they spell none within the limits.
+// The tree that has been read, where it is whole.
+fn tree_in(state: State) -> Option<Tree>
+    ensures { result ≡ tree_in (state_of state) }
+{
+    match state {
+        State::Whole(tree) => Some(tree),
+        _ => None,
+    }
+}
+
+// The tree that the bytes spell, or None where they spell none within the limits. What was begun never passes
+// the greatest size, in whichever brackets it stands.
 fn read_all<L: Ledger>(
     alloc: Global,
     bytes: &[u8],
@@ -280,21 +327,26 @@ fn read_all<L: Ledger>(
     ensures counted { IfOk result (λ found. IfSome found (λ t. steps.new ≤ steps.old + nodes_of t)) }
     ensures rises { steps.old ≤ steps.new }
 {
+    let most = MOST_SIZE as usize;
     let mut at = 0;
+    let mut size = 0;
     let mut state = State::Between(Vec::new(alloc));
     while at < bytes.len() {
-        match advance(alloc, state, bytes, at, steps)? {
+        let kind = kind_of(bytes[at]);
+        size += grown_by(&state, kind);
+        if size > most {
+            return Ok(None);
+        }
+        match advance(alloc, state, kind, bytes, at, most - size, steps)? {
             None => return Ok(None),
             Some((next, end)) => {
+                size += end - at - 1;
                 state = next;
                 at = end;
             }
         }
     }
-    match state {
-        State::Whole(tree) => Ok(Some(tree)),
-        _ => Ok(None),
-    }
+    Ok(tree_in(state))
 }
 
 /// The tree that the bytes spell.

@@ -92,9 +92,7 @@ fn bytes_that_spell_no_tree(rt: HostRuntime) {
 // Appends the part so many times.
 fn repeat(part: &[u8], count: u32, bytes: &mut Vec<u8>) -> Result<(), AllocError> {
     for _ in 0..count {
-        for byte in part {
-            bytes.push(*byte)?;
-        }
+        bytes.extend_from_slice(part)?;
     }
     Ok(())
 }
@@ -129,6 +127,8 @@ fn limits_on_both_sides(rt: HostRuntime) -> Result<(), Fail> {
     leaf[128] = b'"';
     let mut big = Vec::from_slice(alloc, b"(a")?;
     repeat(&leaf, 62_498, &mut big)?;
+    let mut big_string = big.clone()?;
+    big_string.push(b'"')?;
     let rows = [
         Row {
             most: 399,
@@ -184,6 +184,20 @@ fn limits_on_both_sides(rt: HostRuntime) -> Result<(), Fail> {
             front: &big,
             unit: b"(b)",
             middle: b")",
+            closing: b"",
+        },
+        Row {
+            most: 254,
+            front: &big,
+            unit: b"(b",
+            middle: b"\"\")",
+            closing: b")",
+        },
+        Row {
+            most: 254,
+            front: &big_string,
+            unit: b"a",
+            middle: b"\")",
             closing: b"",
         },
     ];

@@ -6,7 +6,7 @@ use Rattle.tx_tree.specs.declared.TheConstants.{MOST_LABEL}
 use Rattle.tx_tree.specs.declared.labels.LabelFault.{LabelFault}
 use Rattle.tx_tree.specs.declared.labels.LabelFault.TheVariants.{BadLabel, Memory}
 
--- a letter, a digit, or one of - _ + * : . ? ! = ~ @ $ % & ^
+-- a letter, a digit, or one of fifteen signs, by their numbers from the minus sign, 45, to the caret, 94
 unfoldable pub is_label_byte : ℕ → Bool
 is_label_byte b =
     (nat_le 97 b && nat_le b 122) || (nat_le 65 b && nat_le b 90) || (nat_le 48 b && nat_le b 57) || b == 45 || b == 95 || b == 43 || b == 42 || b == 58 || b == 46 || b == 63 || b == 33

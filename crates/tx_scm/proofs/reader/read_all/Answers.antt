@@ -1,18 +1,26 @@
-use Rattle.std.proofs.Common.{◌∙◌, sym, arith}
+use Rattle.std.proofs.Common.{◌∙◌, sym, ap, arith, refl}
+use Rattle.tx_scm.specs.Sizes.{grown_by}
 use Rattle.tx_scm.specs.States.{state_of}
-use Rattle.tx_scm.proofs.Runs.{at_end, whole_in, none_in}
+use Rattle.tx_scm.proofs.Runs.{at_end}
+use Rattle.tx_scm.proofs.Sizing.{too_large, sized_on}
 use Rattle.tx_scm.proofs.reader.read_all.Goals as goal
+
+pub returns-then-size-most-clause-found : goal.returns-then-size-most-clause-found
+returns-then-size-most-clause-found g c =
+    too_large c.args.bytes.now (state_of c.loop-at.state) c.loop-at.at _ c.loop-at.size c.loop-at-test.true refl c.loop-at.invariant.sized
+    (omega (arith, c.if-size-most.true, c.grown_by-size.ensures.by, ap (λ k. grown_by (state_of c.loop-at.state) k) c.kind_of-kind.ensures)) c.loop-at.invariant.same
 
 pub loop-at-preserved : goal.loop-at-preserved
 loop-at-preserved g c =
+    let ends = rw c.in-Some.is at c.in_ok-advance.ensures.end in
     record {
       same = c.loop-at.invariant.same ∙ rw c.in-Some.is at c.in_ok-advance.ensures.same;
       counted = (rw c.in-Some.is at c.in_ok-advance.ensures.counted) c.args.steps.now c.loop-at.invariant.counted;
+      sized = sized_on (state_of c.loop-at.state) (state_of c.in-Some.next) c.kind_of-kind.result c.loop-at.size c.grown_by-size.result c.loop-at.at c.in-Some.end _ c.loop-at.invariant.sized
+          (rw c.in-Some.is at c.in_ok-advance.ensures.sized) c.grown_by-size.ensures.by refl;
+      small = omega (arith, c.if-size-most.false, ends.0, rw c.in-Some.is at c.in_ok-advance.ensures.short);
       rises = omega (arith, c.loop-at.invariant.rises, c.advance.ensures.rises);
     }
 
-pub returns-in-Whole-clause-found : goal.returns-in-Whole-clause-found
-returns-in-Whole-clause-found g c = sym (c.loop-at.invariant.same ∙ at_end (state_of c.loop-at.state) c.args.bytes.now c.loop-at.at c.loop-at-test.false ∙ whole_in _ _ c.in-Whole.is)
-
 pub returns-clause-found : goal.returns-clause-found
-returns-clause-found g c = sym (c.loop-at.invariant.same ∙ at_end (state_of c.loop-at.state) c.args.bytes.now c.loop-at.at c.loop-at-test.false ∙ none_in _ c.in_default.not-Whole)
+returns-clause-found g c = c.tree_in.ensures ∙ sym (c.loop-at.invariant.same ∙ at_end (state_of c.loop-at.state) c.args.bytes.now c.loop-at.at c.loop-at-test.false)

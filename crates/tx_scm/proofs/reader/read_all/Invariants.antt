@@ -1,5 +1,6 @@
 use Rattle.std.proofs.Common.{◌≡◌, ◌≤◌, ◌-◌, [], length, drop}
 use Rattle.tx_scm.specs.Machine.{between, reads}
+use Rattle.tx_scm.specs.Sizes.{IsSized}
 use Rattle.tx_scm.specs.States.{state_of, IsCounted}
 use Rattle.tx_scm.proofs.reader.read_all.Given as goal
 
@@ -11,5 +12,7 @@ invariant-loop-at g l =
     record {
       same : reads (between []) l.bytes ≡ reads (state_of l.state) (drop l.at l.bytes);
       counted : IsCounted l.fn.steps l.steps (state_of l.state);
+      sized : IsSized l.size (state_of l.state);
+      small : l.size ≤ 8000000;
       rises : l.fn.steps ≤ l.steps;
     }
