@@ -15,9 +15,9 @@ use Rattle.tx_tm_form.specs.Parts.{Part, gap, text, tag, raw_data_label, collect
 use Rattle.tx_tm_form.specs.Forms.{symbol_bytes}
 use Rattle.tx_tm_form.specs.Growing.{Inline, grown, tree_of_block, as_block, tree_of_entry, Content, inline, blocks, collecting, put, place_of, file_tree, long_of, opening}
 use Rattle.tx_tm_form.specs.Machine.{Open, State, reading, naming, counting, failed, go, with_child, in_tag, closed, next_argument, last_argument, next_block, last_block, header_place, begun, by_escape, name_byte, name_end, feed_reading, feed_naming, feed_counting, feed, ready, slashed, returned, angled, labelled, Lexed, within, done, bad, lex, Bytewise, at, lost, given, step, run, Keeping, keep, tree_of, tree_in}
-use Rattle.tx_tm_read.specs.Fits.{IsSmall, AreSmall, ContentFits, ChildrenFit, OpensFit, StateFits, ReaderFits}
-use Rattle.tx_tm_read.proofs.Fitting.{within_small, left_small, right_small, node_small, grown_fits, tree_fits, tags_fit, put_fits, put_tag_fits}
-use Rattle.tx_tm_read.proofs.Stuck.{block_after}
+use Rattle.tx_tm_read.specs.Fits.{IsSmall, RowFits, ContentFits, ChildrenFit, OpensFit, StateFits, ReaderFits}
+use Rattle.tx_tm_read.proofs.Fitting.{within_small, left_row, right_small, node_small, node_row, grown_fits, tree_fits, tags_fit, put_fits, put_tag_fits}
+use Rattle.tx_tm_read.proofs.Stuck.{children_there}
 
 -- ---- one part more
 
@@ -39,12 +39,7 @@ go_fit false s h = absurd h
 
 -- ---- tags
 
--- what is known of the tag round the content that has begun in it
-children_there : (w : Option Place) (k : ℕ) (l : List ℕ) (ks : List WideTree) (t : WideTree) → ChildrenFit k (opening w l (ks ++ t ∷ [])) (ks ++ t ∷ []) → AreSmall k (ks ++ t ∷ [])
-children_there (Some p) k l ks t h = h
-children_there None k l ks t h = subst (λ c. ChildrenFit k c (ks ++ t ∷ [])) (block_after l ks t) h
-
-any_children : (c : Content) (k : ℕ) (ks : List WideTree) → AreSmall k ks → ChildrenFit k c ks
+any_children : (c : Content) (k : ℕ) (ks : List WideTree) → RowFits k ks → ChildrenFit k c ks
 any_children (inline p g) k ks h = h
 any_children (blocks b) k ks h = h
 any_children (collecting x) k ks h = tt
@@ -52,8 +47,8 @@ any_children (collecting x) k ks h = tt
 tag_fit : (w : Option Place) (c : Content) (f : Open) (t : WideTree) (fs : List Open) → (IsSmall (suc (length fs)) t → ContentFits (suc (length fs)) c) → StateFits (in_tag w (with_child f t) fs) → Fit c (f ∷ fs)
 tag_fit w c f t fs i h =
     let o = h.1 in
-    let ts : AreSmall (suc (length fs)) (f.children ++ t ∷ []) = children_there w (suc (length fs)) f.label f.children t o.1 in
-    (i (right_small (suc (length fs)) f.children (t ∷ []) ts).0, (o.0, any_children c (suc (length fs)) f.children (left_small (suc (length fs)) f.children (t ∷ []) ts), o.2, o.3))
+    let ts : RowFits (suc (length fs)) (f.children ++ t ∷ []) = children_there w (suc (length fs)) f.label f.children t o.1 in
+    (i (right_small (suc (length fs)) f.children (t ∷ []) ts.each).0, (o.0, any_children c (suc (length fs)) f.children (left_row (suc (length fs)) f.children (t ∷ []) ts), o.2, o.3))
 
 depth_there : (k : ℕ) (l : List ℕ) (ts : List WideTree) → IsSmall k (node l (forest ts)) → k < MOST_DEPTH
 depth_there k l ts h = omega (arith, h.depth)
@@ -61,10 +56,10 @@ depth_there k l ts h = omega (arith, h.depth)
 node_fit : (c : Content) (f : Open) (t : WideTree) (fs : List Open) → (IsSmall (suc (length fs)) t → ContentFits (suc (length fs)) c) → StateFits (closed (with_child f t) fs) → Fit c (f ∷ fs)
 node_fit c f t fs i h =
     let n : IsSmall (length fs) (node f.label (forest (f.children ++ t ∷ []))) = put_tag_fits (length fs) f.before false (node f.label (forest (f.children ++ t ∷ []))) h.0 in
-    let ts : AreSmall (suc (length fs)) (f.children ++ t ∷ []) = node_small (length fs) f.label (f.children ++ t ∷ []) n in
+    let ts : RowFits (suc (length fs)) (f.children ++ t ∷ []) = node_row (length fs) f.label (f.children ++ t ∷ []) n in
     let b = part_fit f.before (tag false (node f.label (forest (f.children ++ t ∷ [])))) fs h in (
-      i (right_small (suc (length fs)) f.children (t ∷ []) ts).0,
-      (b.0, any_children c (suc (length fs)) f.children (left_small (suc (length fs)) f.children (t ∷ []) ts), b.1, depth_there (length fs) f.label (f.children ++ t ∷ []) n),
+      i (right_small (suc (length fs)) f.children (t ∷ []) ts.each).0,
+      (b.0, any_children c (suc (length fs)) f.children (left_row (suc (length fs)) f.children (t ∷ []) ts), b.1, depth_there (length fs) f.label (f.children ++ t ∷ []) n),
     )
 
 bar_fit : (c : Content) (fs : List Open) → StateFits (next_argument (place_of c) c fs) → Fit c fs

@@ -1,15 +1,17 @@
 -- What comes of something too big is too big.
-use Rattle.std.proofs.Common.{◌≡◌, ℕ, suc, ◌+◌, ◌≤◌, Bool, true, false, if◌then◌else◌, List, [], ◌∷◌, ◌++◌, length, map, Option, Some, None, refl, subst, length-append, arith}
+use Rattle.std.proofs.Common.{◌≡◌, ℕ, suc, ◌+◌, ◌≤◌, Bool, true, false, if◌then◌else◌, List, [], ◌∷◌, ◌++◌, length, map, Option, Some, None, refl, sym, subst, length-append, arith}
 use Rattle.tx_tree.specs.declared.TheConstants.{MOST_TEXT, MOST_ARITY, MOST_DEPTH, MOST_SIZE}
 use Rattle.tx_tree.specs.Limits.{IsWithinLimits}
 use Rattle.tx_tree.specs.WideTree.{WideTree, node, forest, longest_text, widest, deepest, total_size}
+use Rattle.tx_tree.proofs.Children.{total_size-append}
 use Rattle.tx_tm_form.specs.declared.bytes.White.{White}
 use Rattle.tx_tm_form.specs.declared.bytes.White.TheVariants.{Spaces, Line, Break}
 use Rattle.tx_tm_form.specs.declared.places.Stage.{Stage}
 use Rattle.tx_tm_form.specs.declared.places.Stage.TheVariants.{Empty, Alone, Ordinary}
 use Rattle.tx_tm_form.specs.Parts.{Part, gap, text, tag, leaf_before, concat_of, concat_label, document_label}
 use Rattle.tx_tm_form.specs.Growing.{Inline, no_parts, grow, grown, Block, no_paragraphs, longer, with_white, ended, resumed, first_stage, with_part, widen, tree_at, tree_of_block, Entry, Tags, tree_of_entry, behind_run, with_entries, as_block, Content, inline, blocks, collecting, put}
-use Rattle.tx_tm_read.specs.Fits.{IsSmall, AreSmall, LineFits, BlockFitsAt, BlockFits, TagsFit, ContentFits}
+use Rattle.tx_tm_read.specs.Fits.{IsSmall, AreSmall, RowFits, LineFits, BlockFitsAt, BlockFits, TagsFit, ContentFits}
+use Rattle.tx_tm_read.proofs.Made.{arity_least}
 
 -- ---- trees
 
@@ -50,22 +52,58 @@ last_small k ts t h = small_within k t (right_small k ts (t ∷ []) h).0
 pub last_within : (l : List ℕ) (ts : List WideTree) (t : WideTree) → IsWithinLimits (node l (forest (ts ++ t ∷ []))) → IsWithinLimits t
 last_within l ts t h = last_small 1 ts t (node_small 0 l (ts ++ t ∷ []) (within_small (node l (forest (ts ++ t ∷ []))) h))
 
+-- ---- rows
+
+pub node_row : (k : ℕ) (l : List ℕ) (ts : List WideTree) → IsSmall k (node l (forest ts)) → RowFits (suc k) ts
+node_row k l ts h = record { each = node_small k l ts h; few = omega (arith, h.arity, arity_least l ts); light = omega (arith, h.size) }
+
+pub row_inside : (k : ℕ) (ts : List WideTree) → RowFits (suc k) ts → RowFits k ts
+row_inside k ts h = record { each = all_inside k ts h.each; few = h.few; light = h.light }
+
+pub left_row : (k : ℕ) (ts us : List WideTree) → RowFits k (ts ++ us) → RowFits k ts
+left_row k ts us h = record { each = left_small k ts us h.each; few = omega (arith, h.few, length-append ts us); light = omega (arith, h.light, total_size-append ts us) }
+
+pub no_row : (k : ℕ) → RowFits k []
+no_row k = record { each = tt; few = omega arith; light = omega arith }
+
+one_row : (k : ℕ) (t : WideTree) → IsSmall k t → RowFits k (t ∷ [])
+one_row k t h = record { each = (h, tt); few = omega arith; light = omega (arith, h.size) }
+
+pub last_row : (l : List ℕ) (ts : List WideTree) → ((k : ℕ) → RowFits k ts → ⊥) → IsWithinLimits (node l (forest ts)) → ⊥
+last_row l ts h w = h 1 (node_row 0 l ts (within_small (node l (forest ts)) w))
+
 -- ---- lines
 
-pub concat_small : (k : ℕ) (ts : List WideTree) → IsSmall k (concat_of ts) → AreSmall k ts
-concat_small k [] h = tt
-concat_small k (t ∷ []) h = (h, tt)
-concat_small k (t ∷ u ∷ ts) h = all_inside k (t ∷ u ∷ ts) (node_small k concat_label (t ∷ u ∷ ts) h)
+pub concat_row : (k : ℕ) (ts : List WideTree) → IsSmall k (concat_of ts) → RowFits k ts
+concat_row k [] h = no_row k
+concat_row k (t ∷ []) h = one_row k t h
+concat_row k (t ∷ u ∷ ts) h = row_inside k (t ∷ u ∷ ts) (node_row k concat_label (t ∷ u ∷ ts) h)
+
+pub concat_too_long : (ts : List WideTree) → ((k : ℕ) → RowFits k ts → ⊥) → IsWithinLimits (concat_of ts) → ⊥
+concat_too_long ts h w = h 0 (concat_row 0 ts (within_small (concat_of ts) w))
+
+pub tagged_row : (g : Inline) (t : WideTree) (row : List WideTree) → row ≡ g.done ++ leaf_before g.bytes [] → ((k : ℕ) → RowFits k (row ++ t ∷ []) → ⊥) → (k : ℕ) → LineFits k (grow g (tag false t)) → ⊥
+tagged_row g t row e h k f = h k (subst (λ z. RowFits k (z ++ t ∷ [])) (sym e) f.done)
+
+-- a paragraph that ends is one too many
+pub full_row : (full : List WideTree) (now : Inline) (t : WideTree) → t ≡ grown now → ((k : ℕ) → RowFits k (full ++ t ∷ []) → ⊥) → (k : ℕ) → RowFits k (ended (Some Break) full now) → LineFits k (resumed (Some Break) now) → ⊥
+full_row full now t e h k f i = h k (subst (λ z. RowFits k (full ++ z ∷ [])) (sym e) f)
+
+pub whole_row : (l : List ℕ) (ts : List WideTree) (t u : WideTree) → u ≡ t → ((k : ℕ) → RowFits k (ts ++ u ∷ []) → ⊥) → IsWithinLimits (node l (forest (ts ++ t ∷ []))) → ⊥
+whole_row l ts t u e h = last_row l (ts ++ t ∷ []) (λ k f. h k (subst (λ z. RowFits k (ts ++ z ∷ [])) (sym e) f))
+
+pub tag_row : (g : Inline) (t : WideTree) → ((k : ℕ) → RowFits k (g.done ++ leaf_before g.bytes []) → ⊥) → (k : ℕ) → LineFits k (grow g (tag false t)) → ⊥
+tag_row g t h k f = h k (left_row k (g.done ++ leaf_before g.bytes []) (t ∷ []) f.done)
 
 bytes_short : (k : ℕ) (s : List ℕ) → AreSmall k (leaf_before s []) → length s ≤ MOST_TEXT
 bytes_short k [] h = omega arith
 bytes_short k (b ∷ s) h = h.0.text
 
-trees_fit : (k : ℕ) (g : Inline) → AreSmall k (g.done ++ leaf_before g.bytes []) → LineFits k g
-trees_fit k g h = record { done = left_small k g.done (leaf_before g.bytes []) h; short = bytes_short k g.bytes (right_small k g.done (leaf_before g.bytes []) h) }
+trees_fit : (k : ℕ) (g : Inline) → RowFits k (g.done ++ leaf_before g.bytes []) → LineFits k g
+trees_fit k g h = record { done = left_row k g.done (leaf_before g.bytes []) h; short = bytes_short k g.bytes (right_small k g.done (leaf_before g.bytes []) h.each) }
 
 pub grown_fits : (k : ℕ) (g : Inline) → IsSmall k (grown g) → LineFits k g
-grown_fits k g h = trees_fit k g (concat_small k (g.done ++ leaf_before g.bytes []) h)
+grown_fits k g h = trees_fit k g (concat_row k (g.done ++ leaf_before g.bytes []) h)
 
 space_short : (r : Bool) (s : List ℕ) → length (if r then s else s ++ 32 ∷ []) ≤ MOST_TEXT → length s ≤ MOST_TEXT
 space_short true s h = h
@@ -74,7 +112,7 @@ space_short false s h = omega (arith, length-append s (32 ∷ []))
 pub grow_fits : (k : ℕ) (g : Inline) (p : Part) → LineFits k (grow g p) → LineFits k g
 grow_fits k g (gap w) h = record { done = h.done; short = space_short g.in_run g.bytes h.short }
 grow_fits k g (text x) h = record { done = h.done; short = omega (arith, length-append g.bytes x, h.short) }
-grow_fits k g (tag c t) h = trees_fit k g (left_small k (g.done ++ leaf_before g.bytes []) (t ∷ []) h.done)
+grow_fits k g (tag c t) h = trees_fit k g (left_row k (g.done ++ leaf_before g.bytes []) (t ∷ []) h.done)
 
 -- ---- blocks
 
@@ -84,15 +122,15 @@ tree_fits k b h =
       | Empty ↦ λ i. tt
       | Alone ↦ λ i. grown_fits k b.now i
       | Ordinary ↦ λ i.
-          let all : AreSmall k (b.full ++ grown b.now ∷ []) = all_inside k (b.full ++ grown b.now ∷ []) (node_small k document_label (b.full ++ grown b.now ∷ []) i) in
-          (left_small k b.full (grown b.now ∷ []) all, grown_fits k b.now (right_small k b.full (grown b.now ∷ []) all).0)
+          let all : RowFits k (b.full ++ grown b.now ∷ []) = row_inside k (b.full ++ grown b.now ∷ []) (node_row k document_label (b.full ++ grown b.now ∷ []) i) in
+          (left_row k b.full (grown b.now ∷ []) all, grown_fits k b.now (right_small k b.full (grown b.now ∷ []) all.each).0)
     ] h
 
-ended_fits : (k : ℕ) (r : Option White) (full : List WideTree) (now : Inline) (p : Part) → AreSmall k (ended r full now) → LineFits k (grow (resumed r now) p) → AreSmall k full × LineFits k now
+ended_fits : (k : ℕ) (r : Option White) (full : List WideTree) (now : Inline) (p : Part) → RowFits k (ended r full now) → LineFits k (grow (resumed r now) p) → RowFits k full × LineFits k now
 ended_fits k None full now p h i = (h, grow_fits k now p i)
 ended_fits k (Some Spaces) full now p h i = (h, grow_fits k now (gap Spaces) (grow_fits k (grow now (gap Spaces)) p i))
 ended_fits k (Some Line) full now p h i = (h, grow_fits k now (gap Line) (grow_fits k (grow now (gap Line)) p i))
-ended_fits k (Some Break) full now p h i = (left_small k full (grown now ∷ []) h, grown_fits k now (right_small k full (grown now ∷ []) h).0)
+ended_fits k (Some Break) full now p h i = (left_row k full (grown now ∷ []) h, grown_fits k now (right_small k full (grown now ∷ []) h.each).0)
 
 part_fits : (k : ℕ) (b : Block) (p : Part) (s : Stage) → BlockFits k (with_part s b p) → BlockFitsAt s k b
 part_fits k b p Empty h = tt
@@ -114,7 +152,7 @@ run_fits k b None h = h
 run_fits k b (Some w) h = widen_fits k b (gap w) h
 
 line_tag : (k : ℕ) (g : Inline) (c : Bool) (t : WideTree) → LineFits k (grow g (tag c t)) → IsSmall k t
-line_tag k g c t h = (right_small k (g.done ++ leaf_before g.bytes []) (t ∷ []) h.done).0
+line_tag k g c t h = (right_small k (g.done ++ leaf_before g.bytes []) (t ∷ []) h.done.each).0
 
 first_tag : (k : ℕ) (f : List WideTree) (c : Bool) (t : WideTree) (n : Inline) → BlockFitsAt (first_stage (tag c t)) k (record { full = f; now = grow n (tag c t); run = None; stage = first_stage (tag c t) }) → IsSmall k t
 first_tag k f true t n h = line_tag k n true t h

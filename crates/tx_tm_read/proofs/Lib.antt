@@ -2,6 +2,7 @@ pub mod Labels
 pub mod Made
 pub mod Texts
 pub mod Counts
+pub mod Rowing
 pub mod Fitting
 pub mod Widening
 pub mod Replay

@@ -9,13 +9,13 @@ use Rattle.tx_tm_form.specs.declared.places.Place.{Place}
 use Rattle.tx_tm_form.specs.declared.places.Place.TheVariants.{InShort, InHeader, InClosing}
 use Rattle.tx_tm_form.specs.Parts.{Part, gap, text, tag, same, none, collection_label}
 use Rattle.tx_tm_form.specs.Growing.{Inline, grown, Block, tree_of_block, long_of, Content, inline, blocks, collecting, no_tags, no_paragraphs, put, place_of, block_of, block_behind, opening}
-use Rattle.tx_tm_form.specs.Machine.{Open, State, reading, go, open_tag, with_child, in_tag, next_block, last_block, last_argument}
+use Rattle.tx_tm_form.specs.Machine.{Open, State, reading, go, open_tag, with_child, in_tag, closed, next_block, last_block, last_argument}
 use Rattle.tx_tm_read.specs.declared.tags.OpenTag.{OpenTag}
 use Rattle.tx_tm_read.specs.declared.tags.Spot.{Spot}
-use Rattle.tx_tm_read.specs.Fits.{IsSmall, ChildrenFit, StateFits}
+use Rattle.tx_tm_read.specs.Fits.{IsSmall, RowFits, ChildrenFit, StateFits}
 use Rattle.tx_tm_read.specs.Nodes.{nodes_in, content_nodes, children_nodes, opens_nodes, open_nodes, state_nodes}
 use Rattle.tx_tm_read.specs.Spots.{opens_of, state_of, IsState, Rose, IsBlockTree}
-use Rattle.tx_tm_read.proofs.Fitting.{small_within, right_small, put_tag_fits, last_within}
+use Rattle.tx_tm_read.proofs.Fitting.{small_within, right_small, node_row, put_tag_fits, last_within}
 use Rattle.tx_tm_read.proofs.Counts.{nodes_both}
 
 -- ---- blocks of tags
@@ -55,12 +55,23 @@ length_opens os = simp (length-reverse, length-map) refl
 pub too_deep : (os : List OpenTag) (w : Option Place) (f : Open) → MOST_DEPTH ≤ length os → StateFits (in_tag w f (opens_of os)) → ⊥
 too_deep os w f h i = omega (arith, i.1.3, length_opens os)
 
+-- what is known of the tag round the content that has begun in it
+pub children_there : (w : Option Place) (k : ℕ) (l : List ℕ) (ks : List WideTree) (t : WideTree) → ChildrenFit k (opening w l (ks ++ t ∷ [])) (ks ++ t ∷ []) → RowFits k (ks ++ t ∷ [])
+children_there (Some p) k l ks t h = h
+children_there None k l ks t h = subst (λ c. ChildrenFit k c (ks ++ t ∷ [])) (block_after l ks t) h
+
 opening_child : (w : Option Place) (k : ℕ) (l : List ℕ) (ks : List WideTree) (t : WideTree) → ChildrenFit k (opening w l (ks ++ t ∷ [])) (ks ++ t ∷ []) → IsSmall k t
-opening_child (Some p) k l ks t h = (right_small k ks (t ∷ []) h).0
-opening_child None k l ks t h = let i : ChildrenFit k (blocks no_paragraphs) (ks ++ t ∷ []) = subst (λ c. ChildrenFit k c (ks ++ t ∷ [])) (block_after l ks t) h in (right_small k ks (t ∷ []) i).0
+opening_child w k l ks t h = (right_small k ks (t ∷ []) (children_there w k l ks t h).each).0
 
 pub child_stuck : (w : Option Place) (f : Open) (t : WideTree) (fs : List Open) → (IsWithinLimits t → ⊥) → StateFits (in_tag w (with_child f t) fs) → ⊥
 child_stuck w f t fs h i = h (small_within _ t (opening_child w (suc (length fs)) f.label f.children t i.1.1))
+
+pub child_row_stuck : (w : Option Place) (f : Open) (t : WideTree) (fs : List Open) → ((k : ℕ) → RowFits k (f.children ++ t ∷ []) → ⊥) → StateFits (in_tag w (with_child f t) fs) → ⊥
+child_row_stuck w f t fs h i = h (suc (length fs)) (children_there w (suc (length fs)) f.label f.children t i.1.1)
+
+pub row_stuck : (f : Open) (t : WideTree) (fs : List Open) → ((k : ℕ) → RowFits k (f.children ++ t ∷ []) → ⊥) → StateFits (closed (with_child f t) fs) → ⊥
+row_stuck f t fs h i =
+    h (suc (length fs)) (node_row (length fs) f.label (f.children ++ t ∷ []) (put_tag_fits (length fs) f.before false (node f.label (forest (f.children ++ t ∷ []))) i.0))
 
 pub tag_stuck_there : (c : Content) (e : Bool) (t : WideTree) (fs : List Open) → (IsWithinLimits t → ⊥) → StateFits (reading (put c (tag e t)) fs) → ⊥
 tag_stuck_there c e t fs h i = h (small_within (length fs) t (put_tag_fits (length fs) c e t i.0))

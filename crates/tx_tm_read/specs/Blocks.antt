@@ -4,7 +4,7 @@ use Rattle.tx_tree.specs.WideTree.{WideTree}
 use Rattle.tx_tm_form.specs.declared.places.Stage.{Stage}
 use Rattle.tx_tm_form.specs.declared.places.Stage.TheVariants.{Empty, Alone, Ordinary}
 use Rattle.tx_tm_form.specs.Growing.{Inline, Block, no_parts, ended, resumed, Entry, Tags, Content, inline, blocks, collecting}
-use Rattle.tx_tm_read.specs.Fits.{AreSmall, LineFits, BlockFits, ContentFits}
+use Rattle.tx_tm_read.specs.Fits.{RowFits, LineFits, BlockFits, ContentFits}
 use Rattle.tx_tm_read.specs.declared.blocks.Paragraphs.{Paragraphs}
 use Rattle.tx_tm_read.specs.declared.blocks.Resumed.{Resumed}
 use Rattle.tx_tm_read.specs.declared.blocks.TagEntry.{TagEntry}
@@ -13,7 +13,7 @@ use Rattle.tx_tm_read.specs.declared.blocks.Body.{Body}
 use Rattle.tx_tm_read.specs.declared.blocks.Body.TheVariants as bodies
 
 abbrev pub block_of : Paragraphs → Block
-block_of p = record { full = p.full.items; now = p.now; run = p.run; stage = p.stage }
+block_of p = record { full = p.full; now = p.now; run = p.run; stage = p.stage }
 
 abbrev pub entry_of : TagEntry → Entry
 entry_of e = record { before = e.before; collects = e.collects; tree = e.tree }
@@ -55,12 +55,12 @@ abbrev pub block_at : Stage → List WideTree → Inline → Block
 block_at s full now = record { full = full; now = now; run = None; stage = s }
 
 pub record GoesOn (r : Resumed) (full : List WideTree) (now : Inline) : Type 0 where
-  pub full_is : r.full.items ≡ full
+  pub full_is : r.full ≡ full
   pub now_is : r.now ≡ now
 
 -- these, or else no tree within the limits comes of them
 abbrev pub IsGoing : Option Resumed → List WideTree → Inline → Type 0
-IsGoing None full now = (around : ℕ) → AreSmall around full → LineFits around now → ⊥
+IsGoing None full now = (around : ℕ) → RowFits around full → LineFits around now → ⊥
 IsGoing (Some r) full now = GoesOn r full now
 
 abbrev pub IsResumed : Option Resumed → Block → Type 0
@@ -70,6 +70,11 @@ IsResumed next b = IsGoing next (full_behind b) (now_behind b)
 abbrev pub IsBlock : Option Paragraphs → Block → Type 0
 IsBlock None b = (around : ℕ) → BlockFits around b → ⊥
 IsBlock (Some p) b = block_of p ≡ b
+
+-- with a line that has grown by a tag, or else the line fits nowhere
+abbrev pub IsTagged : Option Paragraphs → Stage → List WideTree → Inline → Type 0
+IsTagged None s full now = (around : ℕ) → LineFits around now → ⊥
+IsTagged (Some p) s full now = block_of p ≡ block_at s full now
 
 abbrev pub IsContent : Option Body → Content → Type 0
 IsContent None c = (around : ℕ) → ContentFits around c → ⊥

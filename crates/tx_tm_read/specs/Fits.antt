@@ -2,7 +2,7 @@
 use Rattle.std.specs.Prelude.{◌≤◌, ◌<◌, ◌+◌, ℕ, suc, List, [], ◌∷◌, length, map}
 use Rattle.std.specs.List.{AllByRecursion}
 use Rattle.tx_tree.specs.declared.TheConstants.{MOST_TEXT, MOST_ARITY, MOST_DEPTH, MOST_SIZE}
-use Rattle.tx_tree.specs.WideTree.{WideTree, text_length_of, arity_of, depth_of, size_of}
+use Rattle.tx_tree.specs.WideTree.{WideTree, forest, text_length_of, arity_of, depth_of, size_of, total_size}
 use Rattle.tx_tm_form.specs.declared.places.Stage.{Stage}
 use Rattle.tx_tm_form.specs.declared.places.Stage.TheVariants.{Empty, Alone, Ordinary}
 use Rattle.tx_tm_form.specs.Growing.{Inline, Block, Tags, tree_of_entry, Content, inline, blocks, collecting}
@@ -18,14 +18,20 @@ pub record IsSmall (around : ℕ) (t : WideTree) : Type 0 where
 abbrev pub AreSmall : ℕ → List WideTree → Type 0
 AreSmall around = AllByRecursion (IsSmall around)
 
+-- trees that one node within the limits can have
+pub record RowFits (around : ℕ) (ts : List WideTree) : Type 0 where
+  pub each : AreSmall around ts
+  pub few : length ts ≤ MOST_ARITY
+  pub light : total_size (forest ts) ≤ MOST_SIZE
+
 pub record LineFits (around : ℕ) (g : Inline) : Type 0 where
-  pub done : AreSmall around g.done
+  pub done : RowFits around g.done
   pub short : length g.bytes ≤ MOST_TEXT
 
 abbrev pub BlockFitsAt : Stage → ℕ → Block → Type 0
 BlockFitsAt Empty around b = Unit {0}
 BlockFitsAt Alone around b = LineFits around b.now
-BlockFitsAt Ordinary around b = AreSmall around b.full × LineFits around b.now
+BlockFitsAt Ordinary around b = RowFits around b.full × LineFits around b.now
 
 abbrev pub BlockFits : ℕ → Block → Type 0
 BlockFits around b = BlockFitsAt b.stage around b
@@ -40,8 +46,8 @@ ContentFits around (collecting x) = TagsFit around x
 
 -- the children of the open tag round the content, of which a collection tag has none
 abbrev pub ChildrenFit : ℕ → Content → List WideTree → Type 0
-ChildrenFit around (inline p g) ts = AreSmall around ts
-ChildrenFit around (blocks b) ts = AreSmall around ts
+ChildrenFit around (inline p g) ts = RowFits around ts
+ChildrenFit around (blocks b) ts = RowFits around ts
 ChildrenFit around (collecting x) ts = Unit {0}
 
 abbrev pub OpensFit : Content → List Open → Type 0

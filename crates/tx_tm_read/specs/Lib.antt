@@ -1,6 +1,7 @@
 pub mod LabelFronts
 pub mod Words
 pub mod Fits
+pub mod Rows
 pub mod Nodes
 pub mod Lines
 pub mod Blocks

@@ -9,11 +9,16 @@ use Rattle.tx_tm_read.specs.declared.tags.Spot.{Spot}
 use Rattle.tx_tm_read.specs.declared.tags.Spot.TheVariants as spots
 use Rattle.tx_tm_read.specs.Lines.{IsMade}
 use Rattle.tx_tm_read.specs.Blocks.{content_of}
-use Rattle.tx_tm_read.specs.Fits.{StateFits}
+use Rattle.tx_tm_read.specs.Fits.{RowFits, StateFits}
 use Rattle.tx_tm_read.specs.Nodes.{state_nodes}
 
 abbrev pub open_of : OpenTag → Open
-open_of o = record { before = content_of o.before; label = o.label; children = o.children.items }
+open_of o = record { before = content_of o.before; label = o.label; children = o.children }
+
+-- this open tag, or else its children are no children of a node within the limits
+abbrev pub IsOpen : Option OpenTag → Open → Type 0
+IsOpen None f = (around : ℕ) → RowFits around f.children → ⊥
+IsOpen (Some o) f = open_of o ≡ f
 
 -- the innermost first
 abbrev pub opens_of : List OpenTag → List Open

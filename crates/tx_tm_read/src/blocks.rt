@@ -7,11 +7,12 @@ ghost use Rattle.tx_tm_form.specs.declared.places.Stage.TheVariants.{Ordinary};
 ghost use Rattle.tx_tm_form.specs.Parts.{gap, text, tag};
 ghost use Rattle.tx_tm_form.specs.Growing.{no_paragraphs, no_tags, longer, ended, resumed, widen, tree_of_block, behind_run, as_block, tree_of_entry, collecting, put, place_of, grow};
 ghost use Rattle.tx_tm_read.specs.Lines.{IsMade};
-ghost use Rattle.tx_tm_read.specs.Blocks.{block_of, tags_of, entry_of, content_of, tag_stage, block_at, IsGoing, IsResumed, IsBlock, IsContent};
+ghost use Rattle.tx_tm_read.specs.Blocks.{block_of, tags_of, entry_of, content_of, tag_stage, block_at, IsGoing, IsResumed, IsBlock, IsTagged, IsContent};
 ghost use Rattle.tx_tm_read.specs.Nodes.{nodes_in, line_nodes, block_nodes, tags_nodes, content_nodes};
 
 use crate::lines::Line;
 use crate::making::{make_document, make_leaf};
+use crate::rows::Row;
 use std::alloc::Global;
 use std::sync::ledger::Ledger;
 use tx_base::{Memory, Steps};
@@ -22,7 +23,7 @@ use tx_tree::Tree;
 /// behind it.
 #[derive(Drop)]
 pub(crate) struct Paragraphs {
-    full: Vec<Tree>,
+    full: Row,
     now: Line,
     run: Option<White>,
     stage: Stage,
@@ -31,7 +32,7 @@ pub(crate) struct Paragraphs {
 /// The paragraphs that have ended, and the one that goes on.
 #[derive(Drop)]
 pub(crate) struct Resumed {
-    full: Vec<Tree>,
+    full: Row,
     now: Line,
 }
 
@@ -40,7 +41,7 @@ impl Paragraphs {
         ensures { block_of result ≡ no_paragraphs }
     {
         Paragraphs {
-            full: Vec::new(alloc),
+            full: Row::new(alloc),
             now: Line::new(alloc),
             run: None,
             stage: Stage::Empty,
@@ -78,7 +79,7 @@ impl Paragraphs {
         steps: &mut Steps<L>,
     ) -> Result<Option<Resumed>, Memory>
         ensures next { IfOk result (λ next. IsResumed next (block_of self)) }
-        ensures counted { IfOk result (λ next. IfSome next (λ r. steps.new + block_nodes (block_of self) ≤ steps.old + (nodes_in r.full.items + line_nodes r.now))) }
+        ensures counted { IfOk result (λ next. IfSome next (λ r. steps.new + block_nodes (block_of self) ≤ steps.old + (nodes_in r.full + line_nodes r.now))) }
     {
         let Paragraphs {
             full,
@@ -88,7 +89,7 @@ impl Paragraphs {
         } = self;
         match stage {
             Stage::Empty => Ok(Some(Resumed {
-                full: Vec::new(alloc),
+                full: Row::new(alloc),
                 now: Line::new(alloc),
             })),
             Stage::Alone | Stage::Ordinary => behind_run(alloc, full, now, run, steps),
@@ -126,7 +127,7 @@ impl Paragraphs {
         let stage = tag_stage(self.stage, collects);
         match self.resume(alloc, steps)? {
             None => Ok(None),
-            Some(resumed) => Ok(Some(resumed.with_tag(alloc, stage, tree)?)),
+            Some(resumed) => resumed.with_tag(alloc, stage, tree),
         }
     }
 
@@ -141,7 +142,7 @@ impl Paragraphs {
         ensures counted { IfOk result (λ made. IfSome made (λ t. steps.new + block_nodes (block_of self) ≤ steps.old + nodes_of t)) }
     {
         let Paragraphs {
-            mut full,
+            full,
             now,
             run: _,
             stage,
@@ -154,10 +155,10 @@ impl Paragraphs {
             Stage::Alone => now.finish(alloc, steps),
             Stage::Ordinary => match now.finish(alloc, steps)? {
                 None => Ok(None),
-                Some(tree) => {
-                    full.push(tree)?;
-                    make_document(alloc, full, steps)
-                }
+                Some(tree) => match full.with(tree)? {
+                    None => Ok(None),
+                    Some(all) => make_document(alloc, all.into_trees(), steps),
+                },
             },
         }
     }
@@ -167,7 +168,7 @@ impl Resumed {
     // The block with items of a text more, or None where the text passes its limit.
     fn with_text(self, items: &[u8]) -> Result<Option<Paragraphs>, Memory>
         requires { IsText items.now }
-        ensures { IfOk result (λ next. IsBlock next (block_at Ordinary self.full.items (grow self.now (text items.now)))) }
+        ensures { IfOk result (λ next. IsBlock next (block_at Ordinary self.full (grow self.now (text items.now)))) }
     {
         let Resumed { full, now } = self;
         match now.with_text(items)? {
@@ -181,17 +182,20 @@ impl Resumed {
         }
     }
 
-    // The block with a tag more.
-    fn with_tag(self, alloc: Global, stage: Stage, tree: Tree) -> Result<Paragraphs, Memory>
-        ensures { IfOk result (λ b. block_of b ≡ block_at stage self.full.items (grow self.now (tag false tree))) }
+    // The block with a tag more, or None where the paragraph passes a limit.
+    fn with_tag(self, alloc: Global, stage: Stage, tree: Tree) -> Result<Option<Paragraphs>, Memory>
+        ensures { IfOk result (λ next. IsTagged next stage self.full (grow self.now (tag false tree))) }
     {
         let Resumed { full, now } = self;
-        Ok(Paragraphs {
-            full,
-            now: now.with_tag(alloc, tree)?,
-            run: None,
-            stage,
-        })
+        match now.with_tag(alloc, tree)? {
+            None => Ok(None),
+            Some(now) => Ok(Some(Paragraphs {
+                full,
+                now,
+                run: None,
+                stage,
+            })),
+        }
     }
 }
 
@@ -224,25 +228,25 @@ fn tag_stage(stage: Stage, collects: bool) -> Stage
 #[tactic(auto, using(crate::proofs::Counts::nodes_both, crate::proofs::Fitting::last_small))]
 fn behind_run<L: Ledger>(
     alloc: Global,
-    mut full: Vec<Tree>,
+    full: Row,
     now: Line,
     run: Option<White>,
     steps: &mut Steps<L>,
 ) -> Result<Option<Resumed>, Memory>
-    ensures next { IfOk result (λ next. IsGoing next (ended run full.items now) (resumed run now)) }
-    ensures counted { IfOk result (λ next. IfSome next (λ r. steps.new + (nodes_in full.items + line_nodes now) ≤ steps.old + (nodes_in r.full.items + line_nodes r.now))) }
+    ensures next { IfOk result (λ next. IsGoing next (ended run full now) (resumed run now)) }
+    ensures counted { IfOk result (λ next. IfSome next (λ r. steps.new + (nodes_in full + line_nodes now) ≤ steps.old + (nodes_in r.full + line_nodes r.now))) }
 {
     match run {
         None => Ok(Some(Resumed { full, now })),
         Some(White::Break) => match now.finish(alloc, steps)? {
             None => Ok(None),
-            Some(tree) => {
-                full.push(tree)?;
-                Ok(Some(Resumed {
+            Some(tree) => match full.with(tree)? {
+                None => Ok(None),
+                Some(full) => Ok(Some(Resumed {
                     full,
                     now: Line::new(alloc),
-                }))
-            }
+                })),
+            },
         },
         Some(White::Spaces) => spaced(full, now),
         Some(White::Line) => spaced(full, now),
@@ -250,8 +254,8 @@ fn behind_run<L: Ledger>(
 }
 
 // Where a part goes on behind white that separates no paragraphs.
-fn spaced(full: Vec<Tree>, now: Line) -> Result<Option<Resumed>, Memory>
-    ensures { IfOk result (λ next. IsGoing next full.items (grow now (gap Spaces))) }
+fn spaced(full: Row, now: Line) -> Result<Option<Resumed>, Memory>
+    ensures { IfOk result (λ next. IsGoing next full (grow now (gap Spaces))) }
 {
     match now.with_white()? {
         None => Ok(None),
@@ -441,9 +445,10 @@ impl Body {
         ensures counted { IfOk result (λ next. IfSome next (λ b. steps.new + (content_nodes (content_of self) + nodes_of tree) ≤ steps.old + content_nodes (content_of b))) }
     {
         match self {
-            Body::Argument(place, line) => {
-                Ok(Some(Body::Argument(place, line.with_tag(alloc, tree)?)))
-            }
+            Body::Argument(place, line) => match line.with_tag(alloc, tree)? {
+                None => Ok(None),
+                Some(line) => Ok(Some(Body::Argument(place, line))),
+            },
             Body::Block(block) => match block.with_tag(alloc, collects, tree, steps)? {
                 None => Ok(None),
                 Some(block) => Ok(Some(Body::Block(block))),

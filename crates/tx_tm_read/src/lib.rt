@@ -9,11 +9,20 @@ mod lexer;
 mod lines;
 mod making;
 mod reader;
+mod rows;
 mod tags;
 mod taking;
 mod walk;
 
 pub use reader::read;
 
+#[cfg(test)]
+mod content_tests;
+#[cfg(test)]
+mod other_tests;
+#[cfg(test)]
+mod printing;
+#[cfg(test)]
+mod tag_tests;
 #[cfg(test)]
 mod tests;

@@ -7,8 +7,10 @@ ghost use Rattle.tx_tm_form.specs.Parts.{gap, text, tag, leaf_before};
 ghost use Rattle.tx_tm_form.specs.Growing.{no_parts, grow, grown};
 ghost use Rattle.tx_tm_read.specs.Lines.{IsMade, IsLine};
 ghost use Rattle.tx_tm_read.specs.Nodes.{line_nodes};
+ghost use Rattle.tx_tm_read.specs.Rows.{IsRowed};
 
 use crate::making::{make_concat, make_leaf};
+use crate::rows::Row;
 use std::alloc::Global;
 use std::marker::Model;
 use std::sync::ledger::Ledger;
@@ -19,7 +21,7 @@ use tx_tree::{MOST_TEXT, Tree};
 /// of white ends that.
 #[derive(Drop)]
 pub(crate) struct Line {
-    done: Vec<Tree>,
+    done: Row,
     bytes: Vec<u8>,
     in_run: bool,
 }
@@ -32,7 +34,7 @@ impl Model for Line {
 
     ghost coded = { inline_code };
 
-    ghost view = { λ l. record { done = l.done.items; bytes = l.bytes.items; in_run = l.in_run } };
+    ghost view = { λ l. record { done = l.done; bytes = l.bytes.items; in_run = l.in_run } };
 
     ghost invariant = { λ l. IsLineText l.bytes.items };
 }
@@ -42,7 +44,7 @@ impl Line {
         ensures { result ≡ no_parts }
     {
         Line {
-            done: Vec::new(alloc),
+            done: Row::new(alloc),
             bytes: Vec::new(alloc),
             in_run: false,
         }
@@ -93,32 +95,37 @@ impl Line {
         }))
     }
 
-    // The trees so far, of which the text is the last, if it has bytes.
-    fn into_trees(self, alloc: Global) -> Result<Vec<Tree>, Memory>
-        ensures { IfOk result (λ ts. ts.items ≡ self.done ++ leaf_before self.bytes []) }
+    // The trees so far, of which the text is the last, if it has bytes, or None where no node within the limits
+    // has them.
+    fn into_row(self, alloc: Global) -> Result<Option<Row>, Memory>
+        ensures { IfOk result (λ row. IsRowed row (self.done ++ leaf_before self.bytes [])) }
     {
         let Line {
-            mut done,
+            done,
             bytes,
             in_run: _,
         } = self;
-        if !bytes.is_empty() {
-            done.push(make_leaf(alloc, &bytes)?)?;
+        if bytes.is_empty() {
+            return Ok(Some(done));
         }
-        Ok(done)
+        done.with(make_leaf(alloc, &bytes)?)
     }
 
-    // With a tag.
-    pub(crate) fn with_tag(self, alloc: Global, tree: Tree) -> Result<Line, Memory>
-        ensures { IfOk result (λ next. next ≡ grow self (tag false tree)) }
+    // With a tag, or None where a limit is passed.
+    pub(crate) fn with_tag(self, alloc: Global, tree: Tree) -> Result<Option<Line>, Memory>
+        ensures { IfOk result (λ next. IsLine next (grow self (tag false tree))) }
     {
-        let mut done = self.into_trees(alloc)?;
-        done.push(tree)?;
-        Ok(Line {
-            done,
-            bytes: Vec::new(alloc),
-            in_run: false,
-        })
+        match self.into_row(alloc)? {
+            None => Ok(None),
+            Some(row) => match row.with(tree)? {
+                None => Ok(None),
+                Some(done) => Ok(Some(Line {
+                    done,
+                    bytes: Vec::new(alloc),
+                    in_run: false,
+                })),
+            },
+        }
     }
 
     // The tree, or None where it passes a limit.
@@ -131,7 +138,9 @@ impl Line {
         ensures made { IfOk result (λ made. IsMade made (grown self)) }
         ensures counted { IfOk result (λ made. IfSome made (λ t. steps.new + line_nodes self ≤ steps.old + nodes_of t)) }
     {
-        let trees = self.into_trees(alloc)?;
-        make_concat(alloc, trees, steps)
+        match self.into_row(alloc)? {
+            None => Ok(None),
+            Some(row) => make_concat(alloc, row.into_trees(), steps),
+        }
     }
 }

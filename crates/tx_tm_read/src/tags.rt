@@ -8,6 +8,7 @@ ghost use Rattle.tx_tm_read.specs.Fronts.{IsPushed, IsNameFront};
 
 use crate::blocks::Body;
 use crate::making::make_leaf;
+use crate::rows::Row;
 use std::alloc::Global;
 use std::marker::Model;
 use tx_base::Memory;
@@ -18,7 +19,7 @@ use tx_tree::{Label, MOST_NAME, MOST_TEXT, Tree};
 pub(crate) struct OpenTag {
     pub(crate) before: Body,
     pub(crate) label: Label,
-    pub(crate) children: Vec<Tree>,
+    pub(crate) children: Row,
 }
 
 /// The first bytes of a symbol's name. Contracts see them.

@@ -13,6 +13,7 @@ ghost use Rattle.tx_tm_read.specs.Spots.{opens_of, state_of, IsState, Rose};
 use crate::blocks::Body;
 use crate::lexer::Word;
 use crate::making::raw_data_label;
+use crate::rows::Row;
 use crate::tags::{Digits, NameFront, OpenTag, Spot};
 use crate::walk::{bar_in, close_in, in_place, last_in, next_in, put_node, put_text, put_white};
 use std::alloc::Global;
@@ -35,7 +36,7 @@ fn open_tag(
     let tag = OpenTag {
         before: here,
         label,
-        children: Vec::new(alloc),
+        children: Row::new(alloc),
     };
     in_place(alloc, place, tag, opens)
 }

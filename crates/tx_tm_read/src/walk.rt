@@ -9,12 +9,13 @@ ghost use Rattle.tx_tm_form.specs.Machine.{reading, naming, counting, in_tag, wi
 ghost use Rattle.tx_tm_read.specs.Words.{token_of};
 ghost use Rattle.tx_tm_read.specs.Blocks.{content_of, tags_of};
 ghost use Rattle.tx_tm_read.specs.Nodes.{nodes_in, line_nodes, tags_nodes, content_nodes, opens_nodes, open_nodes, state_nodes};
-ghost use Rattle.tx_tm_read.specs.Spots.{open_of, opens_of, state_of, IsState, IsBlockTree, Rose};
+ghost use Rattle.tx_tm_read.specs.Spots.{open_of, opens_of, state_of, IsState, IsOpen, IsBlockTree, Rose};
 
 use crate::blocks::{Body, Paragraphs, TagList};
 use crate::lexer::Word;
 use crate::lines::Line;
 use crate::making::{make_collection, make_node};
+use crate::rows::Row;
 use crate::tags::{Digits, NameFront, OpenTag, Spot};
 use std::alloc::Global;
 use std::sync::ledger::Ledger;
@@ -54,8 +55,8 @@ fn is_collection(label: &Label) -> bool
 
 // The content of a block behind these children of a tag.
 #[tactic(auto, using(crate::proofs::Stuck::first_block, crate::proofs::Stuck::other_label, crate::proofs::Stuck::later_block))]
-fn start_block(alloc: Global, label: &Label, children: &Vec<Tree>) -> Body
-    ensures { content_of result ≡ block_behind label.now children.now.items }
+fn start_block(alloc: Global, label: &Label, children: &Row) -> Body
+    ensures { content_of result ≡ block_behind label.now children.now }
 {
     if !children.is_empty() {
         return Body::Block(Paragraphs::new(alloc));
@@ -164,30 +165,59 @@ pub(crate) fn put_node<L: Ledger>(
 }
 
 impl OpenTag {
-    // Behind the tag, which has all its children.
-    fn close<L: Ledger>(
-        self,
-        alloc: Global,
-        opens: Vec<OpenTag>,
-        steps: &mut Steps<L>,
-    ) -> Result<Option<Spot>, Memory>
-        ensures next { IfOk result (λ next. IsState next (closed (open_of self) (opens_of opens.items))) }
-        ensures counted { IfOk result (Rose steps.old steps.new (open_nodes (open_of self) (opens_of opens.items))) }
+    // With a child more, or None where no node within the limits has them all.
+    fn with_child(self, child: Tree) -> Result<Option<OpenTag>, Memory>
+        ensures { IfOk result (λ next. IsOpen next (with_child (open_of self) child)) }
     {
         let OpenTag {
             before,
             label,
             children,
         } = self;
-        put_node(alloc, label, children, before, opens, steps)
+        match children.with(child)? {
+            None => Ok(None),
+            Some(children) => Ok(Some(OpenTag {
+                before,
+                label,
+                children,
+            })),
+        }
     }
 
-    // With a child more.
-    fn with_child(mut self, child: Tree) -> Result<OpenTag, Memory>
-        ensures { IfOk result (λ t. open_of t ≡ with_child (open_of self) child) }
+    // Behind the tag, of which this is the last child.
+    fn close<L: Ledger>(
+        self,
+        alloc: Global,
+        child: Tree,
+        opens: Vec<OpenTag>,
+        steps: &mut Steps<L>,
+    ) -> Result<Option<Spot>, Memory>
+        ensures next { IfOk result (λ next. IsState next (closed (with_child (open_of self) child) (opens_of opens.items))) }
+        ensures counted { IfOk result (Rose steps.old steps.new (open_nodes (with_child (open_of self) child) (opens_of opens.items))) }
     {
-        self.children.push(child)?;
-        Ok(self)
+        match self.with_child(child)? {
+            None => Ok(None),
+            Some(tag) => {
+                let children = tag.children.into_trees();
+                put_node(alloc, tag.label, children, tag.before, opens, steps)
+            }
+        }
+    }
+
+    // In an argument or a block of the tag, behind this child.
+    fn go_on(
+        self,
+        alloc: Global,
+        place: Option<Place>,
+        child: Tree,
+        opens: Vec<OpenTag>,
+    ) -> Result<Option<Spot>, Memory>
+        ensures { IfOk result (λ next. IsState next (in_tag place (with_child (open_of self) child) (opens_of opens.items))) }
+    {
+        match self.with_child(child)? {
+            None => Ok(None),
+            Some(tag) => in_place(alloc, place, tag, opens),
+        }
     }
 }
 
@@ -223,7 +253,7 @@ pub(crate) fn bar_in<L: Ledger>(
 {
     match line.finish(alloc, steps)? {
         None => Ok(None),
-        Some(child) => in_argument(alloc, place, tag.with_child(child)?, opens),
+        Some(child) => tag.go_on(alloc, Some(place), child, opens),
     }
 }
 
@@ -241,14 +271,11 @@ pub(crate) fn close_in<L: Ledger>(
 {
     match line.finish(alloc, steps)? {
         None => Ok(None),
-        Some(child) => {
-            let tag = tag.with_child(child)?;
-            match place {
-                Place::InHeader => in_block(alloc, tag, opens),
-                Place::InShort => tag.close(alloc, opens, steps),
-                Place::InClosing => tag.close(alloc, opens, steps),
-            }
-        }
+        Some(child) => match place {
+            Place::InHeader => tag.go_on(alloc, None, child, opens),
+            Place::InShort => tag.close(alloc, child, opens, steps),
+            Place::InClosing => tag.close(alloc, child, opens, steps),
+        },
     }
 }
 
@@ -270,7 +297,7 @@ pub(crate) fn next_in<L: Ledger>(
     }
     match here.finish_block(alloc, steps)? {
         None => Ok(None),
-        Some(child) => in_place(alloc, place, tag.with_child(child)?, opens),
+        Some(child) => tag.go_on(alloc, place, child, opens),
     }
 }
 
@@ -311,7 +338,7 @@ pub(crate) fn last_in<L: Ledger>(
         Body::Tags(tags) => collection_in(alloc, tags, tag.before, opens, steps),
         Body::Block(block) => match block.finish(alloc, steps)? {
             None => Ok(None),
-            Some(child) => tag.with_child(child)?.close(alloc, opens, steps),
+            Some(child) => tag.close(alloc, child, opens, steps),
         },
     }
 }

@@ -18,8 +18,8 @@ mod trees;
 
 pub use building::{TextBuilder, text_laws};
 pub use faults::{PathFault, PlaceFault, ReadFault, TreeFault};
-pub use path_laws::path_law;
 pub use labels::{Label, LabelFault, is_label_byte};
+pub use path_laws::path_law;
 pub use paths::Path;
 pub use places::Place;
 pub use texts::{Text, TextFault, cut_laws};

@@ -1,4 +1,5 @@
-use Rattle.std.proofs.Common.{None}
+use Rattle.std.proofs.Common.{refl, None}
+use Rattle.tx_tm_form.specs.Machine.{with_child}
 use Rattle.tx_tm_read.specs.Nodes.{line_nodes}
 use Rattle.tx_tm_read.specs.Spots.{open_of, opens_of}
 use Rattle.tx_tm_read.proofs.Stuck.{tag_rose, close_rose, last_stuck}
@@ -10,14 +11,14 @@ returns-in-None-clause-next g c = last_stuck c.args.place c.args.line (open_of c
 pub returns-in-InHeader-clause-counted : goal.returns-in-InHeader-clause-counted
 returns-in-InHeader-clause-counted g c =
     let counted = rw c.in-Some.is at c.in_ok-finish.ensures.counted in
-    tag_rose _ _ (line_nodes c.args.line) None (open_of c.args.tag) c.in-Some.child (opens_of c.args.opens.items) (open_of c.in_ok-tag-in-Some.tag) _ c.in_ok-tag-in-Some.ensures c.in_block.ensures counted
+    tag_rose _ _ (line_nodes c.args.line) None (open_of c.args.tag) c.in-Some.child (opens_of c.args.opens.items) (with_child (open_of c.args.tag) c.in-Some.child) _ refl c.go_on.ensures counted
 
 pub returns-in-InShort-clause-counted : goal.returns-in-InShort-clause-counted
 returns-in-InShort-clause-counted g c =
     let counted = rw c.in-Some.is at c.in_ok-finish.ensures.counted in
-    close_rose _ _ _ (line_nodes c.args.line) (open_of c.args.tag) c.in-Some.child (opens_of c.args.opens.items) (open_of c.in_ok-tag-in-Some.tag) _ c.in_ok-tag-in-Some.ensures c.close.ensures.counted counted
+    close_rose _ _ _ (line_nodes c.args.line) (open_of c.args.tag) c.in-Some.child (opens_of c.args.opens.items) (with_child (open_of c.args.tag) c.in-Some.child) _ refl c.close.ensures.counted counted
 
 pub returns-in-InClosing-clause-counted : goal.returns-in-InClosing-clause-counted
 returns-in-InClosing-clause-counted g c =
     let counted = rw c.in-Some.is at c.in_ok-finish.ensures.counted in
-    close_rose _ _ _ (line_nodes c.args.line) (open_of c.args.tag) c.in-Some.child (opens_of c.args.opens.items) (open_of c.in_ok-tag-in-Some.tag) _ c.in_ok-tag-in-Some.ensures c.close-in-InClosing.ensures.counted counted
+    close_rose _ _ _ (line_nodes c.args.line) (open_of c.args.tag) c.in-Some.child (opens_of c.args.opens.items) (with_child (open_of c.args.tag) c.in-Some.child) _ refl c.close-in-InClosing.ensures.counted counted

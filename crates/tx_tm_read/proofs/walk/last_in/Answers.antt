@@ -1,3 +1,5 @@
+use Rattle.std.proofs.Common.{refl}
+use Rattle.tx_tm_form.specs.Machine.{with_child}
 use Rattle.tx_tm_read.specs.Blocks.{block_of}
 use Rattle.tx_tm_read.specs.Nodes.{block_nodes}
 use Rattle.tx_tm_read.specs.Spots.{open_of, opens_of}
@@ -13,4 +15,4 @@ pub returns-clause-counted : goal.returns-clause-counted
 returns-clause-counted g c =
     let counted = rw c.in-Some.is at c.in_ok-finish-in-Block.ensures.counted in
     rw c.in-Block.is
-    (close_rose _ _ _ (block_nodes (block_of c.in-Block.block)) (open_of c.args.tag) c.in-Some.child (opens_of c.args.opens.items) (open_of c.in_ok-with_child-in-Some.field-0) _ c.in_ok-with_child-in-Some.ensures c.close.ensures.counted counted)
+    (close_rose _ _ _ (block_nodes (block_of c.in-Block.block)) (open_of c.args.tag) c.in-Some.child (opens_of c.args.opens.items) (with_child (open_of c.args.tag) c.in-Some.child) _ refl c.close.ensures.counted counted)

@@ -1,3 +1,5 @@
+use Rattle.std.proofs.Common.{refl}
+use Rattle.tx_tm_form.specs.Machine.{with_child}
 use Rattle.tx_tm_read.specs.Blocks.{content_of}
 use Rattle.tx_tm_read.specs.Nodes.{content_nodes}
 use Rattle.tx_tm_read.specs.Spots.{open_of, opens_of}
@@ -8,7 +10,7 @@ pub returns-in-None-clause-next : goal.returns-in-None-clause-next
 returns-in-None-clause-next g c =
     block_stuck (content_of c.args.here) c.args.label.now c.args.place (open_of c.args.tag) (opens_of c.args.opens.items) (rw c.in-None.is at c.in_ok-finish_block.ensures.made)
 
-pub returns-in_ok-with_child-in-Some-clause-counted : goal.returns-in_ok-with_child-in-Some-clause-counted
-returns-in_ok-with_child-in-Some-clause-counted g c =
+pub returns-in-Some-clause-counted : goal.returns-in-Some-clause-counted
+returns-in-Some-clause-counted g c =
     let counted = rw c.in-Some.is at c.in_ok-finish_block.ensures.counted in
-    tag_rose _ _ (content_nodes (content_of c.args.here)) c.args.place (open_of c.args.tag) c.in-Some.child (opens_of c.args.opens.items) (open_of c.in_ok-with_child-in-Some.field-0) _ c.in_ok-with_child-in-Some.ensures c.in_place.ensures counted
+    tag_rose _ _ (content_nodes (content_of c.args.here)) c.args.place (open_of c.args.tag) c.in-Some.child (opens_of c.args.opens.items) (with_child (open_of c.args.tag) c.in-Some.child) _ refl c.go_on.ensures counted

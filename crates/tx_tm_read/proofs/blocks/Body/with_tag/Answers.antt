@@ -1,12 +1,16 @@
 use Rattle.std.proofs.Common.{arith}
 use Rattle.tx_tm_read.specs.Blocks.{tags_of}
 use Rattle.tx_tm_read.proofs.Counts.{tag_more}
-use Rattle.tx_tm_read.proofs.Widening.{tag_nodes}
+use Rattle.tx_tm_read.proofs.Widening.{line_tagged}
 use Rattle.tx_tm_read.proofs.blocks.Body.with_tag.Goals as goal
 
-pub returns-in_ok-with_tag-in-Argument-clause-counted : goal.returns-in_ok-with_tag-in-Argument-clause-counted
-returns-in_ok-with_tag-in-Argument-clause-counted g c =
-    rw (c.in-Argument.is, c.in_ok-with_tag-in-Argument.ensures) (omega (arith, tag_nodes c.in-Argument.line c.args.tree))
+pub returns-in-None-clause-next : goal.returns-in-None-clause-next
+returns-in-None-clause-next g c = λ k. rw c.in-Argument.is (let h = rw c.in-None.is at c.in_ok-with_tag-in-Argument.ensures in h k)
+
+pub returns-in-Some-clause-counted : goal.returns-in-Some-clause-counted
+returns-in-Some-clause-counted g c =
+    let next = rw c.in-Some.is at c.in_ok-with_tag-in-Argument.ensures in
+    rw c.in-Argument.is (line_tagged c.in-Argument.line c.in-Some.line c.args.tree _ next)
 
 pub returns-in_ok-with-in-Tags-clause-counted : goal.returns-in_ok-with-in-Tags-clause-counted
 returns-in_ok-with-in-Tags-clause-counted g c =

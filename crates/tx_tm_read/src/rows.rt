@@ -1,0 +1,72 @@
+// Trees side by side.
+ghost use Rattle.std.specs.Prelude.{◌≡◌, ◌==◌, ◌++◌, ◌∷◌, [], length, IfOk};
+ghost use Rattle.tx_tm_read.specs.Rows.{IsRowed};
+
+use std::alloc::Global;
+use std::marker::Model;
+use tx_base::Memory;
+use tx_tree::{MOST_ARITY, MOST_SIZE, Tree};
+
+/// Trees that may become the children of one node: no more of them, and no bigger, than the limits of a node
+/// allow. Contracts see the list.
+#[derive(Drop)]
+pub(crate) struct Row {
+    trees: Vec<Tree>,
+    size: u64,
+}
+
+impl Model for Row {
+    ghost use Rattle.std.specs.Prelude.{List};
+    ghost use Rattle.std.specs.Coded.{coded_list};
+    ghost use Rattle.tx_tree.specs.WideTree.{WideTree, coded_WideTree};
+    ghost use Rattle.tx_tm_read.specs.Rows.{IsRow};
+
+    ghost Value = { List WideTree };
+
+    ghost coded = { coded_list coded_WideTree };
+
+    ghost view = { λ r. r.trees.items };
+
+    ghost invariant = { λ r. IsRow r.trees.items r.size };
+}
+
+impl Row {
+    #[tactic(auto, using(crate::proofs::Rowing::no_row))]
+    pub(crate) fn new(alloc: Global) -> Row
+        ensures { result ≡ [] }
+    {
+        Row {
+            trees: Vec::new(alloc),
+            size: 0,
+        }
+    }
+
+    pub(crate) fn is_empty(&self) -> bool
+        ensures { result ≡ (length self.now == 0) }
+    {
+        self.trees.is_empty()
+    }
+
+    // With a tree more, or None where no node within the limits has them all.
+    #[tactic(auto, using(crate::proofs::Rowing::one_more, crate::proofs::Rowing::too_many))]
+    pub(crate) fn with(self, tree: Tree) -> Result<Option<Row>, Memory>
+        ensures { IfOk result (λ next. IsRowed next (self ++ tree ∷ [])) }
+    {
+        let Row { mut trees, size } = self;
+        if trees.len() >= MOST_ARITY {
+            return Ok(None);
+        }
+        let whole = size + tree.size();
+        if whole > MOST_SIZE {
+            return Ok(None);
+        }
+        trees.push(tree)?;
+        Ok(Some(Row { trees, size: whole }))
+    }
+
+    pub(crate) fn into_trees(self) -> Vec<Tree>
+        ensures { result.items ≡ self }
+    {
+        self.trees
+    }
+}
