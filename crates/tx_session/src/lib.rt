@@ -14,4 +14,4 @@ mod view;
 
 pub use runs::{one_outcome, run};
 pub use status::Status;
-pub use view::one_showing;
+pub use view::{one_showing, pages_hold_lines};
