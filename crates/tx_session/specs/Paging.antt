@@ -39,3 +39,8 @@ pub record IsShowing (width height : ℕ) (t : WideTree) (text : List ℕ) : Typ
   pub document : IsPlainDocument t texts
   pub laid : AreAllLines width texts lines
   pub made : text ≡ show_text height lines
+
+-- the lines of the first so many pages, one page after the other
+abbrev pub lines_on : ℕ → List (List ℕ) → ℕ → List (List ℕ)
+lines_on height lines zero = []
+lines_on height lines (suc k) = lines_on height lines k ++ page_lines height lines k

@@ -18,7 +18,7 @@ mod view;
 pub use runs::{one_outcome, run};
 pub use session::{Next, Session};
 pub use status::Status;
-pub use view::one_showing;
+pub use view::{one_showing, pages_hold_lines};
 
 /// The most bytes of a script: 2^24.
 pub const MOST_SCRIPT: usize = 16_777_216;

@@ -1,8 +1,8 @@
 // The pages of a plain document.
-ghost use Rattle.std.specs.Prelude.{◌≡◌, ◌≤◌, ℕ, List, IfOk, MatchOption};
+ghost use Rattle.std.specs.Prelude.{◌≡◌, ◌≤◌, ◌<◌, ◌+◌, ℕ, List, length, IfOk, MatchOption};
 ghost use Rattle.tx_tree.specs.WideTree.{WideTree};
 ghost use Rattle.tx_session.specs.Plain.{IsUnplain};
-ghost use Rattle.tx_session.specs.Paging.{IsShowing};
+ghost use Rattle.tx_session.specs.Paging.{IsShowing, page_count, page_lines, lines_on};
 
 mod lines;
 mod pages;
@@ -43,4 +43,11 @@ pub(crate) fn show(
 /// contract of `show`.
 pub fn one_showing()
     ensures { (width height : ℕ) (t : WideTree) (a b : List ℕ) → IsShowing width height t a → IsShowing width height t b → a ≡ b }
+{}
+
+/// A law: the pages hold all lines, in order; none is empty, and each but the last has as many lines as the height.
+pub fn pages_hold_lines()
+    ensures all { (height : ℕ) (lines : List (List ℕ)) → 1 ≤ height → lines_on height lines (page_count height (length lines)) ≡ lines }
+    ensures some { (height : ℕ) (lines : List (List ℕ)) (k : ℕ) → 1 ≤ height → k < page_count height (length lines) → 0 < length (page_lines height lines k) }
+    ensures full { (height : ℕ) (lines : List (List ℕ)) (k : ℕ) → 1 ≤ height → k + 1 < page_count height (length lines) → length (page_lines height lines k) ≡ height }
 {}
