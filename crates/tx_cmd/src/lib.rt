@@ -18,6 +18,8 @@ mod words;
 pub use command::{CmdFault, Command};
 pub use laws::{one_answer, one_command};
 pub use line::parse;
+pub use pieces::first_word;
+pub use words::{Argument, ModWord, Word};
 
 /// The most bytes of a line.
 pub const MOST_LINE: usize = 1_048_576;

@@ -10,8 +10,8 @@ use std::alloc::Global;
 use tx_base::Memory;
 use tx_tree::{Label, LabelFault, MOST_DIGITS, MOST_NUMBER};
 
-// What stands before the first space, or all bytes where there is none.
-pub(crate) fn first_word(bytes: &[u8]) -> &[u8]
+/// What stands before the first space, or all bytes where there is none.
+pub fn first_word(bytes: &[u8]) -> &[u8]
     ensures { result.now ≡ first_word bytes.now }
 {
     match bytes.iter().position(|byte| *byte == b' ') {

@@ -4,7 +4,7 @@ ghost use Rattle.tx_cmd.specs.Words.{word_text, arguments_of, IsKnown};
 
 /// What stands behind a command's first word.
 #[derive(Clone, Copy)]
-pub(crate) enum Argument {
+pub enum Argument {
     /// A path.
     Path,
     /// A number of one to ten digits, at most 4,294,967,295.
@@ -17,7 +17,7 @@ pub(crate) enum Argument {
 
 /// The first word of a modification.
 #[derive(Clone, Copy)]
-pub(crate) enum ModWord {
+pub enum ModWord {
     Assign,
     Insert,
     Remove,
@@ -30,7 +30,7 @@ pub(crate) enum ModWord {
 
 /// The first word of a command.
 #[derive(Clone, Copy)]
-pub(crate) enum Word {
+pub enum Word {
     Change(ModWord),
     Undo,
     Redo,

@@ -71,6 +71,7 @@ impl KeptLine {
         ensures text { (bytes : List ℕ) → Keeps self.now bytes → MatchResult result
             (λ text. text.now ≡ command_line bytes)
             (λ count. (count ≡ length (command_line bytes)) × (MOST_LINE < count)) }
+        ensures short { IfOk result (λ text. length text.now ≤ MOST_LINE) }
     {
         let count = self.text_count();
         if count > MOST_LINE {

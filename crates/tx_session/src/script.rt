@@ -2,8 +2,9 @@
 ghost use Rattle.std.specs.Prelude.{◌≡◌, ◌≢◌, ◌≤◌, ◌<◌, ◌+◌, ◌∷◌, ◌++◌, ◌⊎◌, ℕ, List, [], Option, Bool, length, decimal, IfOk, OnOk, OnErr, IfErr, Ok};
 ghost use Rattle.tx_outside.specs.Counts.{NeverFalls, Rose};
 ghost use Rattle.tx_outside.specs.Known.{StaysKnown};
+ghost use Rattle.tx_cmd.specs.Words.{first_word};
 ghost use Rattle.tx_cmd.specs.declared.command.CmdFault.{CmdFault};
-ghost use Rattle.tx_session.specs.Replies.{Seen, IsLineReply, refusal, wanting_reply};
+ghost use Rattle.tx_session.specs.Replies.{Seen, IsLineReply, is_answered, refusal, wanting_reply};
 ghost use Rattle.tx_session.specs.Scripts.{command_line, is_quit};
 ghost use Rattle.tx_session.specs.Lines.{line};
 ghost use Rattle.tx_session.specs.Runs.{Tells};
@@ -18,7 +19,7 @@ use crate::status::Status;
 use std::alloc::Global;
 use std::sync::ledger::Ledger;
 use tx_base::{Memory, Steps};
-use tx_cmd::{CmdFault, parse};
+use tx_cmd::{CmdFault, first_word, parse};
 use tx_outside::{Failed, Sink, Source, Store, WriteFault};
 
 // A line of a word and a number.
@@ -36,6 +37,8 @@ fn refusal(alloc: Global, fault: CmdFault) -> Result<Vec<u8>, Memory>
         CmdFault::Long(length) => numbered(alloc, "no long", length),
         CmdFault::Unknown => Ok(Vec::from_slice(alloc, b"no unknown\n")?),
         CmdFault::Args(at) => numbered(alloc, "no args", at as u64),
+        CmdFault::Path(at) => numbered(alloc, "no path", at as u64),
+        CmdFault::Tree(_) => Ok(Vec::from_slice(alloc, b"no tree\n")?),
         CmdFault::Memory => Ok(Vec::from_slice(alloc, NO_MEMORY)?),
     }
 }
@@ -52,6 +55,14 @@ fn refuse<O: Sink>(alloc: Global, out: &mut O, fault: CmdFault) -> Result<Next, 
         Ok(text) => say(out, &text),
         Err(Memory) => say(out, NO_MEMORY),
     }
+}
+
+// Whether the line's first word is one that the session answers.
+fn is_answered(line: &[u8]) -> bool
+    ensures { result ≡ is_answered (first_word line.now) }
+{
+    let word = first_word(line);
+    word == b"show".as_slice() || word == b"tree".as_slice() || word == b"quit".as_slice()
 }
 
 // Answers a line that has ended.
@@ -76,6 +87,9 @@ fn answer_line<S: Store, O: Sink, L: Ledger>(
     };
     if text.is_empty() {
         return Ok(Next::Go);
+    }
+    if !is_answered(text) {
+        return refuse(alloc, out, CmdFault::Unknown);
     }
     match parse(alloc, text, steps) {
         Ok(command) => session.step(alloc, &command, store, out, steps),

@@ -151,6 +151,8 @@ impl Session {
     /// Does a command: changes the state as it says, and writes its reply. Where memory runs out the reply is `no memory`, and
     /// nothing has changed.
     ///
+    /// Commands that edit aren't answered yet: their reply is `no unknown`.
+    ///
     /// After a fault of the output a part of the reply is written, and the state is the one that the command leads to. `quit`
     /// writes nothing, and is the one command that is answered with `Quit`.
     pub fn step<S: Store, O: Sink, L: Ledger>(
@@ -173,6 +175,11 @@ impl Session {
     {
         match command {
             Command::Quit => Ok(Next::Quit),
+            Command::Change(_)
+            | Command::Undo
+            | Command::Redo
+            | Command::Go(_)
+            | Command::Cursor => say(out, b"no unknown\n"),
             Command::Show => match self.refresh(alloc) {
                 Ok(()) => say(out, self.shown()),
                 Err(Memory) => say(out, NO_MEMORY),
