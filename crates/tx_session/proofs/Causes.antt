@@ -76,14 +76,14 @@ pub line_run : (words : List (List ℕ)) (files : Option Files) (told rest : Opt
     → IsRun words files told rest status before after
 line_run words files told rest o status before after u comes done cut =
     run_of words files told rest status before after
-        (λ n. let d = done n in record { outcome = o; marks = []; text = text_of o; comes = comes; whole = subst (λ s. IsWhole o told [] rest s (text_of o)) (sym d.0) (whole_line o told rest u); written = d.1 })
-        (λ e. record { outcome = o; done = []; part = text_of o; comes = comes; being = line_being o told rest u; cut = nothing_before before after (text_of o) (cut e) })
+    (λ n. let d = done n in record { outcome = o; marks = []; text = text_of o; comes = comes; whole = subst (λ s. IsWhole o told [] rest s (text_of o)) (sym d.0) (whole_line o told rest u); written = d.1 })
+    (λ e. record { outcome = o; done = []; part = text_of o; comes = comes; being = line_being o told rest u; cut = nothing_before before after (text_of o) (cut e) })
 
 closed : (start : Seen) (told rest : Option (List ℕ)) (status result : Status) (before between after : Option (List ℕ)) → HasPlayed start told rest status before between
     → (result ≡ status) × (after ≡ append_known between (own_line status)) → IsClosed start told rest result before after
 closed start told rest status result before between after p d =
     subst (λ s. IsClosed start told rest s before after) (sym d.0)
-        (record { script = p.script; marks = p.marks; replies = p.replies; tells = p.tells; played = p.played; written = append_known-then before between after p.replies (own_line status) p.written d.1 })
+    (record { script = p.script; marks = p.marks; replies = p.replies; tells = p.tells; played = p.played; written = append_known-then before between after p.replies (own_line status) p.written d.1 })
 
 -- a session that was served
 pub served : (start : Seen) (told rest : Option (List ℕ)) (status result : Status) (before between after : Option (List ℕ)) → HasPlayed start told rest status before between
@@ -127,25 +127,32 @@ pub opened_run : (words : List (List ℕ)) (files : Option Files) (told rest : O
     → IsServed status (start_of file t) told rest before after → IsRun words files told rest status before after
 opened_run words files told rest file t status before after comes s =
     run_of words files told rest status before after
-        (λ n. let c = served_closed status (start_of file t) told rest before after n s in
-            record { outcome = opened file t; marks = c.marks; text = c.replies ++ own_line status; comes = comes; whole = (c.script, c.replies, c.tells, c.played, refl); written = c.written })
-        (λ e. cut_run words files told rest file t before after comes (subst (λ st. IsServed st (start_of file t) told rest before after) e s))
+    (λ n. let c = served_closed status (start_of file t) told rest before after n s in
+    record { outcome = opened file t; marks = c.marks; text = c.replies ++ own_line status; comes = comes; whole = (c.script, c.replies, c.tells, c.played, refl); written = c.written })
+    (λ e. cut_run words files told rest file t before after comes (subst (λ st. IsServed st (start_of file t) told rest before after) e s))
   where
     cut_run : (words : List (List ℕ)) (files : Option Files) (told rest : Option (List ℕ)) (file : List ℕ) (t : WideTree) (before after : Option (List ℕ)) → ComesTo words files (opened file t)
         → IsCutOff (start_of file t) told before after ⊎ IsClosedInPart (start_of file t) told rest before after → IsCutShort words files told rest before after
     cut_run words files told rest file t before after comes (inl c) =
         record { outcome = opened file t; done = c.done; part = c.reply; comes = comes; being = (c.script, c.tells, inl c.behind); cut = c.part }
     cut_run words files told rest file t before after comes (inr c) =
-        record { outcome = opened file t; done = c.played.replies; part = own_line c.status; comes = comes;
-          being = (c.played.script, c.played.tells, inr (c.status, c.played.marks, c.played.played, refl)); cut = subst (λ b. AppendsPart (own_line c.status) b after) c.played.written c.part }
+        record {
+          outcome = opened file t;
+          done = c.played.replies;
+          part = own_line c.status;
+          comes = comes;
+          being = (c.played.script, c.played.tells, inr (c.status, c.played.marks, c.played.played, refl));
+          cut = subst (λ b. AppendsPart (own_line c.status) b after) c.played.written c.part;
+        }
 
 -- the line that says why no file was opened
 module _ (words : List (List ℕ)) (files : Option Files) (o : Outcome) (status : Status) (before after : Option (List ℕ)) (u : IsUnopened o) (n : o ≢ faulty_words) (comes : ComesTo words files o)
     (line : IsLine o status before after ⊎ IsLine no_memory status before after) where
   pub reported_run : (told rest : Option (List ℕ)) → IsRun words files told rest status before after
   reported_run told rest = elim line [
-    inl l ↦ line_run words files told rest o status before after u comes l.done l.cut
-    | inr l ↦ line_run words files told rest no_memory status before after (λ file t e. cc) (taken words files o comes n) l.done l.cut ]
+    | inl l ↦ line_run words files told rest o status before after u comes l.done l.cut
+    | inr l ↦ line_run words files told rest no_memory status before after (λ file t e. cc) (taken words files o comes n) l.done l.cut
+  ]
 
   pub reported_status : status ≢ statuses.OutputFault → (status ≡ status_of o) ⊎ (status ≡ statuses.NoMemory)
   reported_status m = elim line [ inl l ↦ inl (l.done m).0 | inr l ↦ inr (l.done m).0 ]
@@ -285,8 +292,9 @@ module _ (words : List (List ℕ)) (files : Option Files) (r : Opening) (status 
         not_input = λ e. (early_status (outcome_of r)).0 (by_outcome statuses.InputFault e (λ d. cc) (λ d. cc));
         not_long = λ e. (early_status (outcome_of r)).1 (by_outcome statuses.ScriptLong e (λ d. cc) (λ d. cc));
         complete = λ can nm nl nf d. elim (fits d) [
-          inl is ↦ is ∙ opened_outcome words files can (outcome_of r) comes (λ e. nm (m e)) (λ file e. nl (l file e)) (λ e. nf (f e)) (unopened r u) (worded r n)
-          | inr is ↦ is ]
+          | inl is ↦ is ∙ opened_outcome words files can (outcome_of r) comes (λ e. nm (m e)) (λ file e. nl (l file e)) (λ e. nf (f e)) (unopened r u) (worded r n)
+          | inr is ↦ is
+        ];
       }
     where
       none_some : (words : List (List ℕ)) (file : List ℕ) → file_in words ≡ None → file_in words ≡ Some file → ⊥

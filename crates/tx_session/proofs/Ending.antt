@@ -40,7 +40,7 @@ lines_joined front more ended later rest last h k =
     record {
       whole = joined (flat_map line ended) rest (flat_map line later) last front more h.whole k.whole ∙ ap (λ x. x ++ last) (sym (flat_map-append line ended (rest ∷ later)));
       each = All-append IsOneLine ended (rest ∷ later) h.each (All-cons IsOneLine rest later h.last k.each);
-      last = k.last
+      last = k.last;
     }
 
 -- all bytes have lines
@@ -73,10 +73,12 @@ lines_through script upto more ended rest e h within = elim (cases script) [ inl
   where
     cases : (script : List ℕ) → (length script ≤ MOST_SCRIPT) ⊎ (MOST_SCRIPT < length script)
     cases script = elim (cases_lt MOST_SCRIPT (length script)) [ inl long ↦ inr long | inr short ↦ inl short ]
+
     short_one : length script ≤ MOST_SCRIPT → (later : List (List ℕ)) × AreLinesOf script (ended ++ rest ∷ later)
     short_one short =
         let l = lined more in
         (l.0 ++ l.1 ∷ [], inl (short, (ended ++ rest ∷ l.0, l.1, subst (λ s. HasLines s (ended ++ rest ∷ l.0) l.1) (sym e) (lines_joined upto more ended l.0 rest l.1 h l.2), sym (append_assoc ended (rest ∷ l.0) (l.1 ∷ [])))))
+
     long_one : MOST_SCRIPT < length script → (later : List (List ℕ)) × AreLinesOf script (ended ++ rest ∷ later)
     long_one long =
         let l = lined (take (MOST_SCRIPT - (length upto + 1)) more) in
@@ -112,15 +114,21 @@ pub whole_end : (start seen next : Seen) (told rest before between after : Optio
 whole_end start seen next told rest before between after script unended nexts.Go tells short s t =
     let a = answered_next start s.ended s.marks seen next s.replies t.1 unended t.0 s.answered t.2 in
     record {
-      script = script; marks = s.marks ++ t.0 ∷ []; replies = s.replies ++ t.1; tells = tells;
+      script = script;
+      marks = s.marks ++ t.0 ∷ [];
+      replies = s.replies ++ t.1;
+      tells = tells;
       played = (s.ended ++ unended ∷ [], next, inl (short, (s.ended, unended, s.lines, refl)), inl short, subst (λ ls. Answered start ls (s.marks ++ t.0 ∷ []) next (s.replies ++ t.1)) (sym (none_quits start next (s.ended ++ unended ∷ []) (s.marks ++ t.0 ∷ []) (s.replies ++ t.1) a)) a);
-      written = append_known-then before between after s.replies t.1 s.written t.3
+      written = append_known-then before between after s.replies t.1 s.written t.3;
     }
 whole_end start seen next told rest before between after script unended nexts.Quit tells short s t =
     record {
-      script = script; marks = s.marks; replies = s.replies; tells = tells;
+      script = script;
+      marks = s.marks;
+      replies = s.replies;
+      tells = tells;
       played = (s.ended ++ unended ∷ [], seen, inl (short, (s.ended, unended, s.lines, refl)), inl short, subst (λ ls. Answered start ls s.marks seen s.replies) (sym (up_to_quit start seen s.ended [] unended s.marks s.replies s.answered t.0)) s.answered);
-      written = t.2 ∙ s.written
+      written = t.2 ∙ s.written;
     }
 
 -- the same, where the reply to it is written in part
@@ -129,9 +137,12 @@ pub whole_cut : (start seen next : Seen) (told before between after : Option (Li
     → ((wanting : Bool) × (reply : List ℕ) × IsLineReply seen (command_line unended) wanting next reply × AppendsPart reply between after) → IsCutOff start told before after
 whole_cut start seen next told before between after script unended tells short s r =
     record {
-      script = script; done = s.replies; reply = r.1; tells = tells;
+      script = script;
+      done = s.replies;
+      reply = r.1;
+      tells = tells;
       behind = (s.ended ++ unended ∷ [], s.ended, [], unended, s.marks, seen, next, r.0, inl (short, (s.ended, unended, s.lines, refl)), refl, s.answered, r.2);
-      part = subst (λ b. AppendsPart r.1 b after) s.written r.3
+      part = subst (λ b. AppendsPart r.1 b after) s.written r.3;
     }
 
 -- what the input told is what was taken and what it still tells
@@ -152,10 +163,22 @@ pub failed_end : (start seen : Seen) (told rest before after : Option (List ℕ)
     → Stands start before taken unended seen after → HasPlayed start told rest statuses.InputFault before after
 failed_end start seen told rest before after taken unended e within s =
     record {
-      script = taken ++ or_empty rest; marks = s.marks; replies = s.replies; tells = tells_both told rest taken e;
-      played = (length taken, s.ended, unended, seen, grind (arith, common_steps), within, rest_dropped rest taken,
-        subst (λ bs. HasLines bs s.ended unended) (sym (take-append_seam taken (or_empty rest))) s.lines, s.answered);
-      written = s.written
+      script = taken ++ or_empty rest;
+      marks = s.marks;
+      replies = s.replies;
+      tells = tells_both told rest taken e;
+      played = (
+        length taken,
+        s.ended,
+        unended,
+        seen,
+        grind (arith, common_steps),
+        within,
+        rest_dropped rest taken,
+        subst (λ bs. HasLines bs s.ended unended) (sym (take-append_seam taken (or_empty rest))) s.lines,
+        s.answered,
+      );
+      written = s.written;
     }
 
 -- more was taken than a script has
@@ -164,9 +187,12 @@ pub long_end : (start seen : Seen) (told rest before after : Option (List ℕ)) 
 long_end start seen told rest before after script taken more unended tells e full some s =
     let long : MOST_SCRIPT < length script = omega (arith, ap length e, length-append taken more) in
     record {
-      script = script; marks = s.marks; replies = s.replies; tells = tells;
+      script = script;
+      marks = s.marks;
+      replies = s.replies;
+      tells = tells;
       played = (s.ended, seen, inr (long, (unended, subst (λ bs. HasLines bs s.ended unended) (sym (ap (take MOST_SCRIPT) e ∙ ap (λ n. take n (taken ++ more)) (sym full) ∙ take-append_seam taken more)) s.lines)), long, s.answered);
-      written = s.written
+      written = s.written;
     }
 
 abbrev pub status_of_turn : Turn → Status
@@ -188,25 +214,47 @@ stopped turns.Go start seen told rest before after script bytes more kept other 
 stopped turns.Quit start seen told rest before after script bytes more kept other tells e within (upto, later, unended, is, s, q) =
     let through = lines_through script upto (later ++ more) s.ended unended (e ∙ ap (λ x. x ++ more) is ∙ append_assoc upto (10 ∷ later) more) s.lines (shorter bytes upto later is within) in
     record {
-      script = script; marks = s.marks; replies = s.replies; tells = tells;
-      played = (s.ended ++ unended ∷ through.0, seen, through.1, inr (s.ended ++ unended ∷ through.0, through.1, (unended, holds s.ended unended through.0, q)),
-        subst (λ ls. Answered start ls s.marks seen s.replies) (sym (up_to_quit start seen s.ended through.0 unended s.marks s.replies s.answered q)) s.answered);
-      written = s.written
+      script = script;
+      marks = s.marks;
+      replies = s.replies;
+      tells = tells;
+      played = (
+        s.ended ++ unended ∷ through.0,
+        seen,
+        through.1,
+        inr (s.ended ++ unended ∷ through.0, through.1, (unended, holds s.ended unended through.0, q)),
+        subst (λ ls. Answered start ls s.marks seen s.replies) (sym (up_to_quit start seen s.ended through.0 unended s.marks s.replies s.answered q)) s.answered,
+      );
+      written = s.written;
     }
 stopped turns.NoMemory start seen told rest before after script bytes more kept other tells e within (upto, later, unended, is, s) =
     let whole : script ≡ upto ++ (later ++ more) = e ∙ ap (λ x. x ++ more) is ∙ append_assoc upto later more in
     record {
-      script = script; marks = s.marks; replies = s.replies; tells = tells;
-      played = (length upto, s.ended, unended, seen, omega (arith, ap length whole, length-append upto (later ++ more)), omega (arith, within, ap length is, length-append upto later),
-        subst (λ bs. HasLines bs s.ended unended) (sym (ap (take (length upto)) whole ∙ take-append_seam upto (later ++ more))) s.lines, s.answered);
-      written = s.written
+      script = script;
+      marks = s.marks;
+      replies = s.replies;
+      tells = tells;
+      played = (
+        length upto,
+        s.ended,
+        unended,
+        seen,
+        omega (arith, ap length whole, length-append upto (later ++ more)),
+        omega (arith, within, ap length is, length-append upto later),
+        subst (λ bs. HasLines bs s.ended unended) (sym (ap (take (length upto)) whole ∙ take-append_seam upto (later ++ more))) s.lines,
+        s.answered,
+      );
+      written = s.written;
     }
 stopped turns.OutputFailed start seen told rest before after script bytes more kept other tells e within (upto, later, is, c) =
     let through = lines_through script upto (later ++ more) c.stands.ended c.rest (e ∙ ap (λ x. x ++ more) is ∙ append_assoc upto (10 ∷ later) more) c.stands.lines (shorter bytes upto later is within) in
     record {
-      script = script; done = c.stands.replies; reply = c.reply; tells = tells;
+      script = script;
+      done = c.stands.replies;
+      reply = c.reply;
+      tells = tells;
       behind = (c.stands.ended ++ c.rest ∷ through.0, c.stands.ended, through.0, c.rest, c.stands.marks, c.seen, c.next, c.wanting, through.1, refl, c.stands.answered, c.replied);
-      part = subst (λ b. AppendsPart c.reply b after) c.stands.written c.part
+      part = subst (λ b. AppendsPart c.reply b after) c.stands.written c.part;
     }
 
 -- a read: its first bytes, and the rest of it
@@ -237,16 +285,16 @@ pub stopped_in_read : (turn : Turn) (start seen : Seen) (told mid rest before af
     → LeadsTo turn start before (taken ++ take within into) seen kept after → IsEnd (status_of_turn turn) start told rest before after
 stopped_in_read turn start seen told mid rest before after taken into within count room kept other first second part fits e l =
     stopped turn start seen told rest before after ((taken ++ take count into) ++ or_empty rest) (taken ++ take within into) (drop within (take count into) ++ or_empty rest) kept other
-        (tells_both told rest (taken ++ take count into) (prepend_known-then told mid rest taken (take count into) first second))
-        (read_parts taken into (or_empty rest) within count part) (read_within taken into within room fits e) l
+    (tells_both told rest (taken ++ take count into) (prepend_known-then told mid rest taken (take count into) first second))
+    (read_parts taken into (or_empty rest) within count part) (read_within taken into within room fits e) l
 
 pub long_read : (start seen : Seen) (told mid rest before after : Option (List ℕ)) (taken into : List ℕ) (within count room : ℕ) (kept : KeptLine)
     → told ≡ prepend_known taken mid → mid ≡ prepend_known (take count into) rest → within < count → within ≡ room → count ≤ length into → length taken + room ≡ MOST_SCRIPT
     → StandsWith start before (taken ++ take within into) seen kept after → HasPlayed start told rest statuses.ScriptLong before after
 long_read start seen told mid rest before after taken into within count room kept first second part full le e s =
     long_end start seen told rest before after ((taken ++ take count into) ++ or_empty rest) (taken ++ take within into) (drop within (take count into) ++ or_empty rest) s.rest
-        (tells_both told rest (taken ++ take count into) (prepend_known-then told mid rest taken (take count into) first second))
-        (read_parts taken into (or_empty rest) within count (omega (arith, part))) (read_full taken into within room full (omega (arith, part, le)) e) (read_more into (or_empty rest) within count part le) s.stands
+    (tells_both told rest (taken ++ take count into) (prepend_known-then told mid rest taken (take count into) first second))
+    (read_parts taken into (or_empty rest) within count (omega (arith, part))) (read_full taken into within room full (omega (arith, part, le)) e) (read_more into (or_empty rest) within count part le) s.stands
 
 -- the input is at its end
 pub at_end : (told mid rest : Option (List ℕ)) (taken into : List ℕ) (count : ℕ) → count ≡ 0 → told ≡ prepend_known taken mid → mid ≡ prepend_known (take count into) rest → IfSome mid (λ bytes. bytes ≡ []) → Tells told taken

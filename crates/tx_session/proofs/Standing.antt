@@ -61,7 +61,7 @@ stands_next start before bytes rest seen next between after r s =
       replies = s.replies ++ r.1;
       lines = line_ends bytes s.ended rest s.lines;
       answered = answered_next start s.ended s.marks seen next s.replies r.1 rest r.0 s.answered r.2;
-      written = append_known-then before between after s.replies r.1 s.written r.3
+      written = append_known-then before between after s.replies r.1 s.written r.3;
     }
 
 -- what a line was turned into, by the answer
@@ -103,7 +103,7 @@ pub stops_in_piece : (turn : Turn) (start : Seen) (before : Option (List ℕ)) (
     → LeadsTo turn start before ((bytes ++ take i piece) ++ slice_index_or piece i 0 ∷ []) seen kept after → LeadsTo turn start before (bytes ++ piece) seen kept after
 stops_in_piece turn start before bytes piece i seen kept after lt other l =
     subst (λ bs. LeadsTo turn start before bs seen kept after) (piece_rest bytes piece (i + 1))
-        (stops_within turn start before (bytes ++ take (i + 1) piece) (drop (i + 1) piece) seen kept after other (subst (λ bs. LeadsTo turn start before bs seen kept after) (piece_next bytes piece i lt) l))
+    (stops_within turn start before (bytes ++ take (i + 1) piece) (drop (i + 1) piece) seen kept after other (subst (λ bs. LeadsTo turn start before bs seen kept after) (piece_next bytes piece i lt) l))
 
 pub goes_on_in_piece : (turn : Turn) (start : Seen) (before : Option (List ℕ)) (bytes piece : List ℕ) (i : ℕ) (seen : Seen) (kept : KeptLine) (after : Option (List ℕ)) → i < length piece → turn ≡ turns.Go
     → LeadsTo turn start before ((bytes ++ take i piece) ++ slice_index_or piece i 0 ∷ []) seen kept after → StandsWith start before (bytes ++ take (i + 1) piece) seen kept after

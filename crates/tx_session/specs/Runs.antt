@@ -67,7 +67,7 @@ abbrev pub IsBeingWritten : Outcome → Option (List ℕ) → Option (List ℕ) 
 IsBeingWritten (opened file t) told rest done part =
     (script : List ℕ) × Tells told script
     × (IsReplyBehind (start_of file t) script done part
-       ⊎ ((status : Status) × (marks : List Bool) × IsPlayed (start_of file t) script marks rest status done × (part ≡ own_line status)))
+    ⊎ ((status : Status) × (marks : List Bool) × IsPlayed (start_of file t) script marks rest status done × (part ≡ own_line status)))
 IsBeingWritten unopened told rest done part = (done ≡ []) × (part ≡ text_of unopened)
 
 -- The words and the files come to an outcome, and a run of it ends with the status. After a fault of the output only a part of what was

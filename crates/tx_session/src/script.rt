@@ -228,7 +228,15 @@ pub(crate) fn play<S: Store, I: Source, O: Sink, L: Ledger>(
             Err(Failed) => return Status::InputFault,
         };
         let within = count.min(room);
-        match take_piece(alloc, session, &mut line, &piece[..within], store, out, steps) {
+        match take_piece(
+            alloc,
+            session,
+            &mut line,
+            &piece[..within],
+            store,
+            out,
+            steps,
+        ) {
             Turn::Go => {}
             Turn::Quit => return Status::Ok,
             Turn::NoMemory => return Status::NoMemory,

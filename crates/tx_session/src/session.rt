@@ -175,11 +175,8 @@ impl Session {
     {
         match command {
             Command::Quit => Ok(Next::Quit),
-            Command::Change(_)
-            | Command::Undo
-            | Command::Redo
-            | Command::Go(_)
-            | Command::Cursor => say(out, b"no unknown\n"),
+            Command::Change(_) | Command::Undo | Command::Redo | Command::Go(_) | Command::Cursor =>
+                say(out, b"no unknown\n"),
             Command::Show => match self.refresh(alloc) {
                 Ok(()) => say(out, self.shown()),
                 Err(Memory) => say(out, NO_MEMORY),

@@ -18,5 +18,5 @@ returns-in_default g c =
       input_faults_never_fall = c.play.ensures.input_faults_never_fall;
       output_faults_never_fall = never_falls_then _ _ _ c.play.ensures.output_faults_never_fall c.finish.ensures.faults_never_fall;
       input_stays_known = c.play.ensures.input_stays_known;
-      output_stays_known = c.finish.ensures.stays_known ∙ c.play.ensures.output_stays_known
+      output_stays_known = c.finish.ensures.stays_known ∙ c.play.ensures.output_stays_known;
     }

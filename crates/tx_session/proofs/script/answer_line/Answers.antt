@@ -18,20 +18,20 @@ pub returns-then-not-is_answered-clause-answered : goal.returns-then-not-is_answ
 returns-then-not-is_answered-clause-answered g c = λ bytes k.
     let e = c.in-Ok.ensures.text bytes k in
     unknown_turned c.refuse-then-not-is_answered.result c.args.session.now bytes (g.O.Sink.written c.args.out.now) (g.O.Sink.written c.refuse-then-not-is_answered.new.out) c.refuse-then-not-is_answered.ensures.goes
-        (subst (λ l. l ≢ []) e (some_line _ _ c.is_empty.ensures c.if-is_empty.false)) (subst (λ l. length l ≤ 1048576) e c.in-Ok.ensures.short)
-        (ap (λ l. is_answered (first_word l)) (sym e) ∙ sym c.is_answered.ensures ∙ c.if-not-is_answered.true) c.refuse-then-not-is_answered.ensures.said
+    (subst (λ l. l ≢ []) e (some_line _ _ c.is_empty.ensures c.if-is_empty.false)) (subst (λ l. length l ≤ 1048576) e c.in-Ok.ensures.short)
+    (ap (λ l. is_answered (first_word l)) (sym e) ∙ sym c.is_answered.ensures ∙ c.if-not-is_answered.true) c.refuse-then-not-is_answered.ensures.said
 
 pub returns-in-Ok-parse-clause-answered : goal.returns-in-Ok-parse-clause-answered
 returns-in-Ok-parse-clause-answered g c = λ bytes k.
     let e = c.in-Ok.ensures.text bytes k in
     stepped_turned c.step.result c.args.session.now c.step.new.self bytes c.in-Ok-parse.command _ _
-        (subst IsAsked e (some_line _ _ c.is_empty.ensures c.if-is_empty.false, c.in-Ok.ensures.short, sym c.is_answered.ensures ∙ c.if-not-is_answered.false)) (subst (λ l. IsCommand l c.in-Ok-parse.command) e c.in-Ok-parse.ensures.ok)
-        c.step.ensures.quits.0 c.step.ensures.quits.1 (λ q. ap g.O.Sink.written (c.step.ensures.quit_writes_nothing q)) c.step.ensures.replied
+    (subst IsAsked e (some_line _ _ c.is_empty.ensures c.if-is_empty.false, c.in-Ok.ensures.short, sym c.is_answered.ensures ∙ c.if-not-is_answered.false)) (subst (λ l. IsCommand l c.in-Ok-parse.command) e c.in-Ok-parse.ensures.ok)
+    c.step.ensures.quits.0 c.step.ensures.quits.1 (λ q. ap g.O.Sink.written (c.step.ensures.quit_writes_nothing q)) c.step.ensures.replied
 
 pub returns-in-Err-parse-clause-answered : goal.returns-in-Err-parse-clause-answered
 returns-in-Err-parse-clause-answered g c = λ bytes k.
     let e = c.in-Ok.ensures.text bytes k in
     let answered = sym c.is_answered.ensures ∙ c.if-not-is_answered.false in
     refused_turned c.refuse-in-Err-parse.result c.args.session.now bytes (g.O.Sink.written c.args.out.now) (g.O.Sink.written c.refuse-in-Err-parse.new.out) c.refuse-in-Err-parse.ensures.goes c.in-Err-parse.fault
-        (subst IsAsked e (some_line _ _ c.is_empty.ensures c.if-is_empty.false, c.in-Ok.ensures.short, answered))
-        (is_named _ _ c.in-Ok.text.now c.in-Err-parse.is c.parse.ensures.memory answered) (subst (λ l. IsCmdFault l c.in-Err-parse.fault) e c.in-Err-parse.ensures.refused) c.refuse-in-Err-parse.ensures.said
+    (subst IsAsked e (some_line _ _ c.is_empty.ensures c.if-is_empty.false, c.in-Ok.ensures.short, answered))
+    (is_named _ _ c.in-Ok.text.now c.in-Err-parse.is c.parse.ensures.memory answered) (subst (λ l. IsCmdFault l c.in-Err-parse.fault) e c.in-Err-parse.ensures.refused) c.refuse-in-Err-parse.ensures.said

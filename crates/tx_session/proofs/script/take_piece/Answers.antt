@@ -12,7 +12,7 @@ returns-in_default g c =
       output_failed = λ e. then_rose _ _ _ c.loop-byte.invariant.faults (c.take_byte.ensures.output_failed e);
       store_kept = c.take_byte.ensures.store_kept ∙ c.loop-byte.invariant.store;
       faults_never_fall = never_falls_then _ _ _ c.loop-byte.invariant.faults c.take_byte.ensures.faults_never_fall;
-      stays_known = c.take_byte.ensures.stays_known ∙ c.loop-byte.invariant.known
+      stays_known = c.take_byte.ensures.stays_known ∙ c.loop-byte.invariant.known;
     }
 
 pub loop-byte-preserved : goal.loop-byte-preserved
@@ -23,5 +23,5 @@ loop-byte-preserved g c =
       count = omega (arith, c.take_byte.ensures.count, c.loop-byte.invariant.count);
       store = c.take_byte.ensures.store_kept ∙ c.loop-byte.invariant.store;
       faults = never_falls_then _ _ _ c.loop-byte.invariant.faults c.take_byte.ensures.faults_never_fall;
-      known = c.take_byte.ensures.stays_known ∙ c.loop-byte.invariant.known
+      known = c.take_byte.ensures.stays_known ∙ c.loop-byte.invariant.known;
     }
