@@ -13,3 +13,4 @@ pub mod Documents
 pub mod PageTexts
 pub mod Filled
 pub mod Showings
+pub mod Determined

@@ -66,7 +66,7 @@ module _ (result : Result Next WriteFault) (seen : Seen) (bytes : List ℕ) (bef
 pub empty_turned : (seen : Seen) (bytes : List ℕ) (before after : Option (List ℕ)) → command_line bytes ≡ [] → after ≡ append_known before [] → IsTurned (Ok nexts.Go) seen bytes seen before after
 empty_turned seen bytes before after e same = (false, [], (nothing, e, (refl, refl, refl)), same)
 
-same_seen : (a b : Seen) → a.state ≡ b.state → a.width ≡ b.width → a.height ≡ b.height → a.fresh ≡ b.fresh → a ≡ b
+pub same_seen : (a b : Seen) → a.state ≡ b.state → a.width ≡ b.width → a.height ≡ b.height → a.fresh ≡ b.fresh → a ≡ b
 same_seen a b s w h f = λ i. record { state = s i; width = w i; height = h i; fresh = f i }
 
 quit_done : (seen next : Seen) (it : Command) (wanting : Bool) (reply : List ℕ) → it ≡ Quit → IsReply seen it wanting next reply → next ≡ seen

@@ -9,7 +9,7 @@ use Rattle.tx_scm.specs.Spelling.{Spells}
 use Rattle.tx_doc.specs.declared.buffer.Buffer.{Buffer}
 use Rattle.tx_session.specs.declared.TheConstants.{MOST_SCRIPT}
 use Rattle.tx_session.specs.declared.status.Status.{Status}
-use Rattle.tx_session.specs.declared.status.Status.TheVariants.{Ok, InputFault, OutputFault, NoMemory, ScriptLong}
+use Rattle.tx_session.specs.declared.status.Status.TheVariants.{Ok, StoreFault, InputFault, OutputFault, NoMemory, ScriptLong}
 use Rattle.tx_session.specs.Lines.{line}
 use Rattle.tx_session.specs.Names.{buffer_name, is_scheme_name}
 use Rattle.tx_session.specs.Outcomes.{Outcome, opened, ComesTo, Asks, Holds, SpellsNoTree, file_in, status_of, text_of}
@@ -91,6 +91,14 @@ pub record IsCutShort (words : List (List ℕ)) (files : Option Files) (told : O
 abbrev pub IsRun : List (List ℕ) → Option Files → Option (List ℕ) → Option (List ℕ) → Status → Option (List ℕ) → Option (List ℕ) → Type 0
 IsRun words files told rest OutputFault before after = IsCutShort words files told rest before after
 IsRun words files told rest status before after = IsWritten words files told rest status before after
+
+-- a status that words, files, script and marks determine: no device failed, and memory sufficed
+abbrev pub IsFinal : Status → Type 0
+IsFinal StoreFault = ⊥
+IsFinal InputFault = ⊥
+IsFinal OutputFault = ⊥
+IsFinal NoMemory = ⊥
+IsFinal _ = Unit {0}
 
 -- The file is refused: it is in another form, or a file that was asked for was too long, or its bytes spell no tree within
 -- the limits.

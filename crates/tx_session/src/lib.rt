@@ -15,7 +15,7 @@ mod status;
 mod tests;
 mod view;
 
-pub use runs::{one_outcome, run};
+pub use runs::{one_outcome, one_run, run};
 pub use session::{Next, Session};
 pub use status::Status;
 pub use view::{one_showing, pages_hold_lines};

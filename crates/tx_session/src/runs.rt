@@ -6,9 +6,10 @@ ghost use Rattle.tx_outside.specs.Counts.{NeverFalls, Rose};
 ghost use Rattle.tx_outside.specs.Files.{Files};
 ghost use Rattle.tx_outside.specs.Known.{AppendsPart, StaysKnown};
 ghost use Rattle.tx_session.specs.Outcomes.{file_in, ComesTo, IsDecided, Outcome, no_memory, opened};
-ghost use Rattle.tx_session.specs.Runs.{CanBeOpened, CanBeRead, IsRefused, IsRun, IsWritten, own_line, start_of};
+ghost use Rattle.tx_session.specs.Runs.{IsFinal, IsWhole, CanBeOpened, CanBeRead, IsRefused, IsRun, IsWritten, own_line, start_of};
 ghost use Rattle.tx_session.specs.Playing.{IsServed, IsLine};
 ghost use Rattle.tx_tree.specs.WideTree.{WideTree};
+ghost use Rattle.tx_session.specs.declared.status.Status.{Status};
 ghost use Rattle.tx_session.specs.Openings.{outcome_of};
 
 use crate::names::buffer_name;
@@ -161,4 +162,12 @@ pub fn run<S: Store, I: Source, O: Sink, L: Ledger>(
 /// Words and files come to one outcome, faults of the store and want of memory aside.
 pub fn one_outcome()
     ensures { (words : List (List ℕ)) (all : Files) (o p : Outcome) → ComesTo words (Some all) o → ComesTo words (Some all) p → IsDecided o → IsDecided p → o ≡ p }
+{}
+
+/// A law: words, files, a script and marks, which say at which lines memory ran out, come to one status and one text, where no
+/// device failed and memory sufficed otherwise.
+pub fn one_run()
+    ensures { (words : List (List ℕ)) (all : Files) (script : List ℕ) (marks : List Bool) (o p : Outcome) (r q : Option (List ℕ)) (s t : Status) (a b : List ℕ)
+        → IsFinal s → IsFinal t → ComesTo words (Some all) o → ComesTo words (Some all) p
+        → IsWhole o (Some script) marks r s a → IsWhole p (Some script) marks q t b → (s ≡ t) × (a ≡ b) }
 {}

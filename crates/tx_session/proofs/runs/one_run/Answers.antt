@@ -1,0 +1,5 @@
+use Rattle.tx_session.proofs.Determined.{one_run}
+use Rattle.tx_session.proofs.runs.one_run.Goals as goal
+
+pub returns : goal.returns
+returns c = one_run
