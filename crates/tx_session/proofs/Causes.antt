@@ -1,5 +1,5 @@
 -- Why a run ends as it does.
-use Rattle.std.proofs.Common.{◌≡◌, ◌≢◌, ◌⊎◌, inl, inr, ℕ, Bool, true, false, Bor, List, [], ◌++◌, Option, Some, None, IfSome, refl, ap, sym, subst, ◌∙◌}
+use Rattle.std.proofs.Common.{◌≡◌, ◌≢◌, ◌⊎◌, inl, inr, ℕ, true, false, Bor, List, [], ◌++◌, Option, Some, None, IfSome, refl, sym, subst, ◌∙◌}
 use Rattle.std.specs.Io.KnownBytes.{append_known}
 use Rattle.tx_outside.specs.Files.{Files}
 use Rattle.tx_outside.specs.Known.{AppendsPart}

@@ -1,21 +1,19 @@
 -- Words, files, script and marks come to one run.
-use Rattle.std.proofs.Common.{◌≡◌, ◌≢◌, ◌⊎◌, inl, inr, ◌<◌, ◌≤◌, ℕ, Bool, true, false, List, [], ◌∷◌, ◌++◌, length, refl, ap, sym, subst, ◌∙◌, Option, Some, None, arith}
-use Rattle.std.specs.Prelude.{slice_get}
+use Rattle.std.proofs.Common.{◌≡◌, inl, inr, ℕ, Bool, true, false, List, [], ◌∷◌, ◌++◌, length, refl, ap, sym, subst, ◌∙◌, Option, Some, arith}
 use Rattle.tx_outside.specs.Files.{Files}
 use Rattle.tx_tree.specs.WideTree.{WideTree}
 use Rattle.tx_scm.specs.Canonical.{scheme_text}
 use Rattle.tx_doc.specs.declared.buffer.Buffer.{Buffer}
 use Rattle.tx_cmd.specs.declared.command.Command.{Command}
 use Rattle.tx_cmd.specs.declared.command.Command.TheVariants.{Change, Undo, Redo, Go, Cursor, Show, Tree, Quit}
-use Rattle.tx_cmd.specs.declared.command.CmdFault.{CmdFault}
 use Rattle.tx_cmd.proofs.Once.{one_command, one_cause, no_cause}
 use Rattle.tx_session.specs.declared.status.Status.{Status}
 use Rattle.tx_session.specs.declared.status.Status.TheVariants as statuses
 use Rattle.tx_session.specs.Lines.{line}
 use Rattle.tx_session.specs.States.{State, IsDocument, IsShown, IsAnswer}
-use Rattle.tx_session.specs.Replies.{Seen, Reading, nothing, too_long, unanswered, command, faulty, IsRead, IsReply, IsReplyTo, IsRefusal, IsLineReply, IsDone, refusal, fresh_after}
-use Rattle.tx_session.specs.Scripts.{AreLinesOf, Answered, before_quit, command_line}
-use Rattle.tx_session.specs.Outcomes.{Outcome, faulty_words, other_form, missing, too_long as file_too_long, no_tree, store_fault, no_memory, opened, ComesTo, IsDecided, status_of}
+use Rattle.tx_session.specs.Replies.{Seen, Reading, nothing, too_long, unanswered, command, faulty, IsRead, IsReply, IsReplyTo, IsRefusal, IsLineReply}
+use Rattle.tx_session.specs.Scripts.{Answered, before_quit, command_line}
+use Rattle.tx_session.specs.Outcomes.{Outcome, faulty_words, other_form, missing, too_long as file_too_long, no_tree, store_fault, no_memory, opened, ComesTo, IsDecided}
 use Rattle.tx_session.specs.Runs.{IsWhole, IsPlayed, IsFinal, own_line, start_of}
 use Rattle.tx_session.proofs.Turning.{same_seen}
 use Rattle.tx_session.proofs.Showings.{one_text}

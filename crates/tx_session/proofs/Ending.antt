@@ -1,10 +1,10 @@
 -- How a script that was answered ends.
-use Rattle.std.proofs.Common.{◌≡◌, ◌≢◌, ◌⊎◌, inl, inr, ◌<◌, ◌≤◌, ◌+◌, ℕ, Bool, true, false, List, [], ◌∷◌, ◌++◌, length, take, drop, eqb, ◌-◌, refl, ap, sym, subst, ◌∙◌, Option, Some, None, Result, Ok, Err, All, Contains, IfSome, append_assoc, length-append, arith}
+use Rattle.std.proofs.Common.{◌≡◌, ◌≢◌, ◌⊎◌, inl, inr, ◌<◌, ◌≤◌, ◌+◌, ℕ, Bool, true, false, List, [], ◌∷◌, ◌++◌, length, take, drop, eqb, ◌-◌, refl, ap, sym, subst, ◌∙◌, Option, Some, None, Ok, Contains, IfSome, append_assoc, length-append, arith}
 use Rattle.std.specs.List.{flat_map, before_first}
-use Rattle.std.specs.Io.KnownBytes.{append_known, prepend_known}
+use Rattle.std.specs.Io.KnownBytes.{prepend_known}
 use Rattle.std.proofs.Math.Seq.{take-append-add, take-append_seam, drop-append_seam}
-use Rattle.std.proofs.lemmas.List.{append-nil, take-append-drop, take_all}
-use Rattle.std.proofs.lemmas.List.Elements.{All-nil, All-append, All-cons, Contains-append_right}
+use Rattle.std.proofs.lemmas.List.{append-nil, take-append-drop}
+use Rattle.std.proofs.lemmas.List.Elements.{All-append, All-cons, Contains-append_right}
 use Rattle.std.proofs.lemmas.Bool.{cases_lt}
 use Rattle.std.proofs.lemmas.Grind.{common_steps, flat_map-append}
 use Rattle.tx_outside.proofs.Pieces.{append_known-then, prepend_known-then}
@@ -13,8 +13,7 @@ use Rattle.tx_session.specs.declared.TheConstants.{MOST_SCRIPT}
 use Rattle.tx_session.specs.Lines.{line}
 use Rattle.tx_session.specs.Replies.{Seen, IsLineReply}
 use Rattle.tx_session.specs.Scripts.{IsOneLine, HasLines, AreLinesOf, Answered, before_quit, command_line, is_quit}
-use Rattle.tx_session.specs.Runs.{Tells, IsPlayed, IsReplyBehind, CanBeRead}
-use Rattle.tx_outside.specs.declared.faults.WriteFault.{WriteFault}
+use Rattle.tx_session.specs.Runs.{Tells}
 use Rattle.tx_session.specs.declared.session.Next.{Next}
 use Rattle.tx_session.specs.declared.session.Next.TheVariants as nexts
 use Rattle.tx_session.specs.declared.kept_line.KeptLine.{KeptLine}
@@ -22,7 +21,7 @@ use Rattle.tx_session.specs.declared.script.Turn.{Turn}
 use Rattle.tx_session.specs.declared.script.Turn.TheVariants as turns
 use Rattle.tx_session.specs.declared.status.Status.{Status}
 use Rattle.tx_session.specs.declared.status.Status.TheVariants as statuses
-use Rattle.tx_session.specs.Keeping.{Stands, StandsWith, IsCutAt, IsTurned, Keeps, LeadsTo}
+use Rattle.tx_session.specs.Keeping.{Stands, StandsWith, IsTurned, LeadsTo}
 use Rattle.tx_session.specs.Playing.{HasPlayed, IsCutOff, IsEnd}
 use Rattle.tx_session.proofs.Quits.{replied_goes_on}
 use Rattle.tx_session.proofs.Standing.{line_goes_on, line_ends, no_lines, answered_next}

@@ -1,13 +1,12 @@
 -- Bytes have one list of lines.
-use Rattle.std.proofs.Common.{◌≡◌, ◌≢◌, ◌⊎◌, inl, inr, ◌<◌, ◌≤◌, ◌+◌, ℕ, Bool, true, false, List, [], ◌∷◌, ◌++◌, length, take, get_or, zero, suc, refl, ap, sym, subst, ◌∙◌, All, Contains, Option, Some, append_assoc, arith}
+use Rattle.std.proofs.Common.{◌≡◌, ◌≢◌, inl, inr, ◌<◌, ℕ, Bool, true, false, List, [], ◌∷◌, ◌++◌, length, take, get_or, zero, suc, refl, ap, sym, subst, ◌∙◌, All, append_assoc, arith}
 use Rattle.std.specs.List.{flat_map}
 use Rattle.std.proofs.lemmas.List.Elements.{All-head, All-tail}
 use Rattle.tx_session.specs.declared.TheConstants.{MOST_SCRIPT}
 use Rattle.tx_session.specs.Lines.{line}
 use Rattle.tx_session.specs.Replies.{Seen}
-use Rattle.tx_session.specs.Scripts.{IsOneLine, HasLines, AreLinesOf, Answered, before_quit, command_line, is_quit}
+use Rattle.tx_session.specs.Scripts.{IsOneLine, HasLines, AreLinesOf, Answered, command_line, is_quit}
 use Rattle.tx_session.specs.Runs.{CanBeRead}
-use Rattle.tx_session.proofs.Ending.{none_quits}
 use Rattle.tx_session.proofs.Quits.{replied_goes_on}
 
 head_of : (b : ℕ) (bytes : List ℕ) → IsOneLine (b ∷ bytes) → b ≢ 10

@@ -1,10 +1,9 @@
 -- The line `quit`, among commands and faults.
-use Rattle.std.proofs.Common.{◌≡◌, ◌≢◌, ◌<◌, ◌≤◌, ℕ, Bool, true, false, List, [], ◌∷◌, ◌++◌, length, refl, ap, sym, subst, ◌∙◌, arith}
+use Rattle.std.proofs.Common.{◌≡◌, ◌≢◌, ℕ, Bool, true, false, List, [], ◌++◌, length, refl, ap, sym, ◌∙◌, arith}
 use Rattle.std.specs.Prelude.{codes}
 use Rattle.std.specs.Str.{bytes_eq}
 use Rattle.std.proofs.lemmas.List.{append-nil}
 use Rattle.std.proofs.lemmas.Slice.Eq.{bytes_eq-Decides}
-use Rattle.tx_cmd.specs.declared.TheConstants.{MOST_LINE}
 use Rattle.tx_cmd.specs.declared.words.Word.TheVariants.{Quit as QuitWord}
 use Rattle.tx_cmd.specs.declared.command.Command.{Command}
 use Rattle.tx_cmd.specs.declared.command.Command.TheVariants.{Quit}
@@ -14,7 +13,7 @@ use Rattle.tx_cmd.specs.Words.{first_word, word_text}
 use Rattle.tx_cmd.specs.Commands.{IsCommand}
 use Rattle.tx_cmd.specs.Refusals.{IsCmdFault}
 use Rattle.tx_cmd.proofs.Once.{one_command, no_cause}
-use Rattle.tx_session.specs.Replies.{Seen, Reading, nothing, too_long, unanswered, command, faulty, is_answered, IsLineReply}
+use Rattle.tx_session.specs.Replies.{Seen, nothing, too_long, unanswered, command, faulty, is_answered, IsLineReply}
 
 quit_is : (line : List ℕ) → bytes_eq line (codes "quit") ≡ true → line ≡ codes "quit"
 quit_is line e = (bytes_eq-Decides line (codes "quit")).0 e

@@ -1,10 +1,9 @@
 -- What a session holds shows its document.
-use Rattle.std.proofs.Common.{◌≡◌, ◌≤◌, ℕ, List, [], ◌∷◌, length, refl, ap, sym, subst, ◌∙◌, inl, inr, arith, Vec, Global}
+use Rattle.std.proofs.Common.{◌≡◌, ◌≤◌, ℕ, List, [], ◌∷◌, length, refl, sym, subst, inl, inr, arith, Vec, Global}
 use Rattle.std.specs.Prelude.{codes, slice_get, Some}
 use Rattle.tx_tree.specs.WideTree.{WideTree}
 use Rattle.tx_doc.specs.declared.buffer.Buffer.{Buffer}
-use Rattle.tx_session.specs.declared.session.Shown.{Shown}
-use Rattle.tx_session.specs.declared.session.Shown.TheVariants.{Stale, NoShape, Pages}
+use Rattle.tx_session.specs.declared.session.Shown.TheVariants.{NoShape, Pages}
 use Rattle.tx_session.specs.declared.session.Session.TheInside.{Inside}
 use Rattle.tx_session.specs.Lines.{line}
 use Rattle.tx_session.specs.Paging.{IsShowing}

@@ -1,5 +1,5 @@
 -- Lines that have ended, one byte after the other.
-use Rattle.std.proofs.Common.{◌≡◌, ◌≢◌, ℕ, Bool, true, false, List, [], ◌∷◌, ◌++◌, ◌<◌, ◌≤◌, ◌+◌, length, take, drop, slice_index_or, refl, ap, sym, subst, ◌∙◌, Option, Some, None, Result, Ok, Err, All, append_assoc, arith}
+use Rattle.std.proofs.Common.{◌≡◌, ◌≢◌, ℕ, Bool, List, [], ◌∷◌, ◌++◌, ◌<◌, ◌≤◌, ◌+◌, length, take, drop, slice_index_or, refl, ap, sym, subst, ◌∙◌, Option, Result, Ok, Err, append_assoc, arith}
 use Rattle.std.specs.List.{flat_map}
 use Rattle.std.specs.Io.KnownBytes.{append_known}
 use Rattle.std.proofs.lemmas.List.{append-nil, take-append-drop, take_all}
@@ -15,8 +15,8 @@ use Rattle.tx_session.specs.declared.script.Turn.{Turn}
 use Rattle.tx_session.specs.declared.script.Turn.TheVariants as turns
 use Rattle.tx_session.specs.Lines.{line}
 use Rattle.tx_session.specs.Replies.{Seen, IsLineReply}
-use Rattle.tx_session.specs.Scripts.{IsOneLine, HasLines, Answered, command_line, is_quit}
-use Rattle.tx_session.specs.Keeping.{Stands, StandsWith, IsCutAt, IsTurned, Keeps, LeadsTo}
+use Rattle.tx_session.specs.Scripts.{IsOneLine, HasLines, Answered, command_line}
+use Rattle.tx_session.specs.Keeping.{Stands, StandsWith, IsCutAt, IsTurned, LeadsTo}
 
 -- no byte
 pub no_lines : HasLines [] [] []

@@ -1,12 +1,8 @@
 -- What became of a line that was answered.
 use Rattle.std.proofs.Common.{◌≡◌, ◌≢◌, ◌⊎◌, inl, inr, ℕ, ◌<◌, ◌≤◌, ◌==◌, Bool, true, false, List, [], ◌∷◌, length, refl, ap, sym, subst, ◌∙◌, Option, Result, Ok, Err, arith}
-use Rattle.std.specs.Prelude.{codes}
-use Rattle.std.specs.Str.{bytes_eq}
-use Rattle.std.proofs.lemmas.Slice.Eq.{bytes_eq-Decides}
 use Rattle.std.specs.Io.KnownBytes.{append_known}
 use Rattle.tx_outside.proofs.Pieces.{append_known-nil}
 use Rattle.tx_outside.specs.declared.faults.WriteFault.{WriteFault}
-use Rattle.tx_outside.specs.Known.{AppendsPart}
 use Rattle.tx_cmd.specs.declared.TheConstants.{MOST_LINE}
 use Rattle.tx_cmd.specs.declared.command.Command.{Command}
 use Rattle.tx_cmd.specs.declared.command.Command.TheVariants.{Quit}
@@ -22,8 +18,8 @@ use Rattle.tx_cmd.specs.Commands.{IsCommand}
 use Rattle.tx_cmd.specs.Refusals.{IsCmdFault}
 use Rattle.tx_session.specs.declared.session.Next.{Next}
 use Rattle.tx_session.specs.declared.session.Next.TheVariants as nexts
-use Rattle.tx_session.specs.Replies.{Seen, Reading, nothing, too_long, unanswered, command, faulty, is_answered, IsAsked, IsRefusal, IsRead, IsReply, IsReplyTo, IsLineReply, IsDone, refusal, wanting_reply}
-use Rattle.tx_session.specs.Scripts.{command_line, is_quit}
+use Rattle.tx_session.specs.Replies.{Seen, nothing, too_long, unanswered, command, faulty, is_answered, IsAsked, IsRefusal, IsReply, IsLineReply, refusal, wanting_reply}
+use Rattle.tx_session.specs.Scripts.{command_line}
 use Rattle.tx_session.proofs.Quits.{quit_spelled}
 use Rattle.tx_session.specs.Writing.{IsSaid}
 use Rattle.tx_session.specs.Keeping.{IsTurned}

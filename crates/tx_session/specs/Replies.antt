@@ -1,7 +1,7 @@
 -- Replies to commands and to lines, want of memory included.
 use Rattle.std.specs.Prelude.{◌≡◌, ◌≢◌, ◌<◌, ◌≤◌, ◌||◌, length, ℕ, Bool, true, false, List, [], ◌++◌, codes, decimal}
 use Rattle.tx_cmd.specs.declared.command.Command.{Command}
-use Rattle.tx_cmd.specs.declared.command.Command.TheVariants.{Change, Undo, Redo, Go, Cursor, Show, Tree, Quit}
+use Rattle.tx_cmd.specs.declared.command.Command.TheVariants.{Show, Tree, Quit}
 use Rattle.tx_cmd.specs.declared.command.CmdFault.{CmdFault}
 use Rattle.tx_cmd.specs.declared.command.CmdFault.TheVariants.{Long, Unknown, Args, Path, Tree as BadTree, Memory}
 use Rattle.std.specs.Str.{bytes_eq}

@@ -1,5 +1,5 @@
 -- The lines of a script, and their replies.
-use Rattle.std.specs.Prelude.{◌≡◌, ◌≢◌, ◌⊎◌, ◌<◌, ◌≤◌, ◌-◌, ◌^◌, ℕ, Bool, true, nat_eq, if◌then◌else◌, List, [], ◌∷◌, ◌++◌, length, take, All, Contains, codes}
+use Rattle.std.specs.Prelude.{◌≡◌, ◌≢◌, ◌⊎◌, ◌<◌, ◌≤◌, ◌-◌, ℕ, Bool, nat_eq, if◌then◌else◌, List, [], ◌∷◌, ◌++◌, length, take, All, codes}
 use Rattle.std.specs.List.{flat_map, before_first, ends_with}
 use Rattle.std.specs.Str.{bytes_eq}
 use Rattle.tx_session.specs.declared.TheConstants.{MOST_SCRIPT}

@@ -1,5 +1,5 @@
 -- What is known of a session.
-use Rattle.std.specs.Prelude.{◌≡◌, ◌≢◌, ◌<◌, ◌≤◌, ℕ, Bool, true, false, List, [], ◌∷◌, length, All, Option, Result, Ok, Err, refl}
+use Rattle.std.specs.Prelude.{◌≤◌, ℕ, Bool, true, false, List, length, refl}
 use Rattle.std.specs.Coded.{Coded, code_by, coded×, coded_list, coded_ℕ, coded_bool}
 use Rattle.tx_tree.specs.WideTree.{WideTree}
 use Rattle.tx_doc.specs.declared.buffer.Buffer.{Buffer}
@@ -9,7 +9,7 @@ use Rattle.tx_session.specs.declared.session.Shown.TheVariants.{Stale, NoShape, 
 use Rattle.tx_session.specs.declared.session.Session.TheInside.{Inside}
 use Rattle.tx_session.specs.Plain.{IsUnplain}
 use Rattle.tx_session.specs.Paging.{IsShowing}
-use Rattle.tx_session.specs.States.{State, IsDocument}
+use Rattle.tx_session.specs.States.{IsDocument}
 use Rattle.tx_session.specs.Replies.{Seen}
 
 abbrev pub seen_code : Coded Seen

@@ -1,10 +1,9 @@
-use Rattle.std.proofs.Common.{◌≡◌, ◌⊎◌, inl, inr, map, Global, refl, ap, sym, subst, ◌∙◌}
+use Rattle.std.proofs.Common.{inr, map, Global, refl, subst}
 use Rattle.std.specs.String.{string_bytes}
 use Rattle.tx_outside.specs.Counts.{Rose}
 use Rattle.tx_outside.proofs.Counting.{never_falls_refl}
 use Rattle.tx_session.specs.Playing.{IsServed}
 use Rattle.tx_session.specs.Outcomes.{no_memory}
-use Rattle.tx_session.specs.Runs.{start_of}
 use Rattle.tx_session.proofs.Causes.{opened_run, line_run, served_long, served_complete, unopened_run, unopened_causes}
 use Rattle.tx_session.proofs.runs.run.Goals as goal
 

@@ -1,8 +1,7 @@
-use Rattle.std.proofs.Common.{◌≡◌, ◌≢◌, ◌≤◌, ℕ, List, [], ◌∷◌, ◌++◌, length, take, refl, sym, ap, ◌∙◌, arith}
-use Rattle.std.proofs.lemmas.Grind.{common_steps}
+use Rattle.std.proofs.Common.{[], ◌++◌, take, refl, sym, ap, ◌∙◌, arith}
 use Rattle.std.specs.Io.KnownBytes.{prepend_known}
 use Rattle.tx_outside.proofs.Counting.{never_falls_refl, never_falls_then}
-use Rattle.tx_outside.proofs.Pieces.{append_known-nil, prepend_known-nil, prepend_known-then}
+use Rattle.tx_outside.proofs.Pieces.{append_known-nil, prepend_known-nil}
 use Rattle.tx_session.specs.declared.script.Turn.TheVariants as turns
 use Rattle.tx_session.proofs.Standing.{stands_first}
 use Rattle.tx_session.proofs.Ending.{at_end, failed_end, stopped_in_read, long_read, read_on, room_on, count_on}

@@ -1,4 +1,4 @@
-use Rattle.std.proofs.Common.{◌≡◌, ◌≢◌, ℕ, List, [], ◌∷◌, ◌++◌, refl, ap, sym, subst, ◌∙◌, arith}
+use Rattle.std.proofs.Common.{[], ◌∷◌, ◌++◌, sym, subst}
 use Rattle.tx_session.specs.Keeping.{Stands}
 use Rattle.tx_session.proofs.Standing.{stands_on, stands_next, turned_go, turned_cut, cut_at, ends_at}
 use Rattle.tx_session.proofs.script.take_byte.Goals as goal

@@ -1,4 +1,4 @@
-use Rattle.std.proofs.Common.{◌≡◌, ◌+◌, ℕ, List, [], ◌∷◌, ◌++◌, take, ap, sym, subst, ◌∙◌, arith}
+use Rattle.std.proofs.Common.{◌++◌, take, ◌∙◌, arith}
 use Rattle.tx_outside.proofs.Counting.{never_falls_then, then_rose}
 use Rattle.tx_session.proofs.Standing.{stops_in_piece, goes_on_in_piece}
 use Rattle.tx_session.proofs.script.take_piece.Goals as goal

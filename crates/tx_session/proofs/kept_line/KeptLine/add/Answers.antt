@@ -1,4 +1,4 @@
-use Rattle.std.proofs.Common.{◌≡◌, ap, sym, ◌∙◌, arith, length-append}
+use Rattle.std.proofs.Common.{sym, ◌∙◌, arith}
 use Rattle.std.proofs.lemmas.Grind.{common_steps}
 use Rattle.tx_session.proofs.KeptLines.{returned_next, front_next, front_full}
 use Rattle.tx_session.proofs.kept_line.KeptLine.add.Goals as goal

@@ -1,7 +1,5 @@
-use Rattle.std.proofs.Common.{◌≡◌, length, take, ap, sym, ◌∙◌, arith}
+use Rattle.std.proofs.Common.{length, ap, sym, ◌∙◌, arith}
 use Rattle.std.proofs.lemmas.Grind.{common_steps}
-use Rattle.tx_session.specs.Keeping.{Keeps}
-use Rattle.tx_session.specs.Scripts.{command_line}
 use Rattle.tx_session.proofs.KeptLines.{command_length, kept_text}
 use Rattle.tx_session.proofs.kept_line.KeptLine.text.Goals as goal
 

@@ -1,5 +1,5 @@
-use Rattle.std.proofs.Common.{◌≡◌, ap, sym, ◌∙◌, arith}
-use Rattle.tx_session.proofs.KeptLines.{returned_some, command_length}
+use Rattle.std.proofs.Common.{arith}
+use Rattle.tx_session.proofs.KeptLines.{command_length}
 use Rattle.tx_session.proofs.kept_line.KeptLine.text_count.Goals as goal
 
 pub returns-then-self : goal.returns-then-self

@@ -1,4 +1,4 @@
-use Rattle.std.proofs.Common.{◌≡◌, subst}
+use Rattle.std.proofs.Common.{subst}
 use Rattle.tx_tree.specs.WideTree.{WideTree}
 use Rattle.tx_session.specs.States.{IsDocument, IsShown}
 use Rattle.std.specs.Prelude.{codes}
