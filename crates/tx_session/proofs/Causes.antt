@@ -47,37 +47,37 @@ run_of words files told rest statuses.ScriptLong before after done cut = done (�
 abbrev pub IsUnopened : Outcome → Type 0
 IsUnopened o = (file : List ℕ) (t : WideTree) → o ≢ opened file t
 
-whole_line : (o : Outcome) (told rest : Option (List ℕ)) → IsUnopened o → IsWhole o told [] rest (status_of o) (text_of o)
-whole_line faulty_words told rest u = (refl, refl, refl)
-whole_line (other_form file) told rest u = (refl, refl, refl)
-whole_line (missing file) told rest u = (refl, refl, refl)
-whole_line (too_long file) told rest u = (refl, refl, refl)
-whole_line (no_tree file) told rest u = (refl, refl, refl)
-whole_line (store_fault file) told rest u = (refl, refl, refl)
-whole_line no_memory told rest u = (refl, refl, refl)
-whole_line (opened file t) told rest u = absurd (u file t refl)
+whole_line : (o : Outcome) (told : Option (List ℕ)) → IsUnopened o → IsWhole o told [] told (status_of o) (text_of o)
+whole_line faulty_words told u = (refl, refl, refl, refl)
+whole_line (other_form file) told u = (refl, refl, refl, refl)
+whole_line (missing file) told u = (refl, refl, refl, refl)
+whole_line (too_long file) told u = (refl, refl, refl, refl)
+whole_line (no_tree file) told u = (refl, refl, refl, refl)
+whole_line (store_fault file) told u = (refl, refl, refl, refl)
+whole_line no_memory told u = (refl, refl, refl, refl)
+whole_line (opened file t) told u = absurd (u file t refl)
 
-line_being : (o : Outcome) (told rest : Option (List ℕ)) → IsUnopened o → IsBeingWritten o told rest [] (text_of o)
-line_being faulty_words told rest u = (refl, refl)
-line_being (other_form file) told rest u = (refl, refl)
-line_being (missing file) told rest u = (refl, refl)
-line_being (too_long file) told rest u = (refl, refl)
-line_being (no_tree file) told rest u = (refl, refl)
-line_being (store_fault file) told rest u = (refl, refl)
-line_being no_memory told rest u = (refl, refl)
-line_being (opened file t) told rest u = absurd (u file t refl)
+line_being : (o : Outcome) (told : Option (List ℕ)) → IsUnopened o → IsBeingWritten o told told [] (text_of o)
+line_being faulty_words told u = (refl, refl, refl)
+line_being (other_form file) told u = (refl, refl, refl)
+line_being (missing file) told u = (refl, refl, refl)
+line_being (too_long file) told u = (refl, refl, refl)
+line_being (no_tree file) told u = (refl, refl, refl)
+line_being (store_fault file) told u = (refl, refl, refl)
+line_being no_memory told u = (refl, refl, refl)
+line_being (opened file t) told u = absurd (u file t refl)
 
 nothing_before : (before after : Option (List ℕ)) (part : List ℕ) → AppendsPart part before after → AppendsPart part (append_known before []) after
 nothing_before before after part p = subst (λ b. AppendsPart part b after) (sym (append_known-nil before)) p
 
 -- the line of an outcome that opened no file
-pub line_run : (words : List (List ℕ)) (files : Option Files) (told rest : Option (List ℕ)) (o : Outcome) (status : Status) (before after : Option (List ℕ)) → IsUnopened o → ComesTo words files o
+pub line_run : (words : List (List ℕ)) (files : Option Files) (told : Option (List ℕ)) (o : Outcome) (status : Status) (before after : Option (List ℕ)) → IsUnopened o → ComesTo words files o
     → (status ≢ statuses.OutputFault → (status ≡ status_of o) × (after ≡ append_known before (text_of o))) → (status ≡ statuses.OutputFault → AppendsPart (text_of o) before after)
-    → IsRun words files told rest status before after
-line_run words files told rest o status before after u comes done cut =
-    run_of words files told rest status before after
-    (λ n. let d = done n in record { outcome = o; marks = []; text = text_of o; comes = comes; whole = subst (λ s. IsWhole o told [] rest s (text_of o)) (sym d.0) (whole_line o told rest u); written = d.1 })
-    (λ e. record { outcome = o; done = []; part = text_of o; comes = comes; being = line_being o told rest u; cut = nothing_before before after (text_of o) (cut e) })
+    → IsRun words files told told status before after
+line_run words files told o status before after u comes done cut =
+    run_of words files told told status before after
+    (λ n. let d = done n in record { outcome = o; marks = []; text = text_of o; comes = comes; whole = subst (λ s. IsWhole o told [] told s (text_of o)) (sym d.0) (whole_line o told u); written = d.1 })
+    (λ e. record { outcome = o; done = []; part = text_of o; comes = comes; being = line_being o told u; cut = nothing_before before after (text_of o) (cut e) })
 
 closed : (start : Seen) (told rest : Option (List ℕ)) (status result : Status) (before between after : Option (List ℕ)) → HasPlayed start told rest status before between
     → (result ≡ status) × (after ≡ append_known between (own_line status)) → IsClosed start told rest result before after
@@ -148,11 +148,11 @@ opened_run words files told rest file t status before after comes s =
 -- the line that says why no file was opened
 module _ (words : List (List ℕ)) (files : Option Files) (o : Outcome) (status : Status) (before after : Option (List ℕ)) (u : IsUnopened o) (n : o ≢ faulty_words) (comes : ComesTo words files o)
     (line : IsLine o status before after ⊎ IsLine no_memory status before after) where
-  pub reported_run : (told rest : Option (List ℕ)) → IsRun words files told rest status before after
-  reported_run told rest = elim line [
-    | inl l ↦ line_run words files told rest o status before after u comes l.done l.cut
-    | inr l ↦ line_run words files told rest no_memory status before after (λ file t e. cc) (taken words files o comes n) l.done l.cut
-  ]
+  pub reported_run : (told : Option (List ℕ)) → IsRun words files told told status before after
+  reported_run told =
+      elim line [
+        inl l ↦ line_run words files told o status before after u comes l.done l.cut
+        | inr l ↦ line_run words files told no_memory status before after (λ file t e. cc) (taken words files o comes n) l.done l.cut ]
 
   pub reported_status : status ≢ statuses.OutputFault → (status ≡ status_of o) ⊎ (status ≡ statuses.NoMemory)
   reported_status m = elim line [ inl l ↦ inl (l.done m).0 | inr l ↦ inr (l.done m).0 ]
@@ -205,7 +205,7 @@ early_status (opened f t) = ((λ e. cc), (λ e. cc), (λ e. cc))
 refused_outcome : (words : List (List ℕ)) (files : Option Files) (o : Outcome) (long : Type 0) → ComesTo words files o → ((file : List ℕ) → o ≡ too_long file → long) → status_of o ≡ statuses.Refused → IsRefused words files long
 refused_outcome words files (other_form f) long h l e = (f, h.0, inl h.1)
 refused_outcome words files (too_long f) long h l e = (f, h.0.0, inr (inl (l f refl)))
-refused_outcome words files (no_tree f) long h l e = (f, h.0.0, inr (inr (h.1.0, h.1.1, h.1.3)))
+refused_outcome words files (no_tree f) long h l e = (f, h.0.0, inr (inr (h.1.0, h.1.1, h.1.2, h.1.3)))
 refused_outcome words files faulty_words long h l e = cc
 refused_outcome words files (missing f) long h l e = cc
 refused_outcome words files (store_fault f) long h l e = cc
@@ -272,8 +272,8 @@ module _ (words : List (List ℕ)) (files : Option Files) (r : Opening) (status 
     (n : r ≢ openings.FaultyWords) (u : (file : Bor (List ℕ)) (t : WideTree) → r ≡ openings.Opened file t → ⊥)
     (line : IsLine (outcome_of r) status before after ⊎ IsLine no_memory status before after)
     (m : status_of (outcome_of r) ≡ statuses.Missing → misses) (f : status_of (outcome_of r) ≡ statuses.StoreFault → faults) (l : (file : List ℕ) → outcome_of r ≡ too_long file → longs) where
-  pub unopened_run : (told rest : Option (List ℕ)) → IsRun words files told rest status before after
-  unopened_run told rest = reported_run words files (outcome_of r) status before after (unopened r u) (worded r n) comes line told rest
+  pub unopened_run : (told : Option (List ℕ)) → IsRun words files told told status before after
+  unopened_run told = reported_run words files (outcome_of r) status before after (unopened r u) (worded r n) comes line told
 
   fits : status ≢ statuses.OutputFault → Fits (outcome_of r) status
   fits d = reported_status words files (outcome_of r) status before after (unopened r u) (worded r n) comes line d

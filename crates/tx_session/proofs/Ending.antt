@@ -13,7 +13,7 @@ use Rattle.tx_session.specs.declared.TheConstants.{MOST_SCRIPT}
 use Rattle.tx_session.specs.Lines.{line}
 use Rattle.tx_session.specs.Replies.{Seen, IsLineReply}
 use Rattle.tx_session.specs.Scripts.{IsOneLine, HasLines, AreLinesOf, Answered, before_quit, command_line, is_quit}
-use Rattle.tx_session.specs.Runs.{Tells}
+use Rattle.tx_session.specs.Runs.{EndedByQuit, Tells}
 use Rattle.tx_session.specs.declared.session.Next.{Next}
 use Rattle.tx_session.specs.declared.session.Next.TheVariants as nexts
 use Rattle.tx_session.specs.declared.kept_line.KeptLine.{KeptLine}
@@ -107,26 +107,30 @@ up_to_quit seen last (l ∷ lines) later quitting (m ∷ marks) text a q =
     let goes : is_quit l ≡ false = replied_goes_on seen a.0 (command_line l) m a.1 a.3 in
     before_next is_quit l (lines ++ quitting ∷ later) goes ∙ ap (λ x. l ∷ x) (up_to_quit a.0 last lines later quitting marks a.2 a.4 q)
 
+whole_rest : (script : List ℕ) (rest : Option (List ℕ)) → IfSome rest (λ bytes. bytes ≡ []) → IfSome rest (λ bytes. (bytes ≡ []) ⊎ EndedByQuit script bytes)
+whole_rest script None e = tt
+whole_rest script (Some bytes) e = inl e
+
 -- the script has ended, and its last line was answered
-pub whole_end : (start seen next : Seen) (told rest before between after : Option (List ℕ)) (script unended : List ℕ) (n : Next) → Tells told script → length script ≤ MOST_SCRIPT
+pub whole_end : (start seen next : Seen) (told rest before between after : Option (List ℕ)) (script unended : List ℕ) (n : Next) → Tells told script → length script ≤ MOST_SCRIPT → IfSome rest (λ bytes. bytes ≡ [])
     → Stands start before script unended seen between → IsTurned (Ok n) seen unended next between after → HasPlayed start told rest statuses.Ok before after
-whole_end start seen next told rest before between after script unended nexts.Go tells short s t =
+whole_end start seen next told rest before between after script unended nexts.Go tells short end s t =
     let a = answered_next start s.ended s.marks seen next s.replies t.1 unended t.0 s.answered t.2 in
     record {
       script = script;
       marks = s.marks ++ t.0 ∷ [];
       replies = s.replies ++ t.1;
       tells = tells;
-      played = (s.ended ++ unended ∷ [], next, inl (short, (s.ended, unended, s.lines, refl)), inl short, subst (λ ls. Answered start ls (s.marks ++ t.0 ∷ []) next (s.replies ++ t.1)) (sym (none_quits start next (s.ended ++ unended ∷ []) (s.marks ++ t.0 ∷ []) (s.replies ++ t.1) a)) a);
+      played = (s.ended ++ unended ∷ [], next, inl (short, (s.ended, unended, s.lines, refl)), inl short, subst (λ ls. Answered start ls (s.marks ++ t.0 ∷ []) next (s.replies ++ t.1)) (sym (none_quits start next (s.ended ++ unended ∷ []) (s.marks ++ t.0 ∷ []) (s.replies ++ t.1) a)) a, whole_rest script rest end);
       written = append_known-then before between after s.replies t.1 s.written t.3;
     }
-whole_end start seen next told rest before between after script unended nexts.Quit tells short s t =
+whole_end start seen next told rest before between after script unended nexts.Quit tells short end s t =
     record {
       script = script;
       marks = s.marks;
       replies = s.replies;
       tells = tells;
-      played = (s.ended ++ unended ∷ [], seen, inl (short, (s.ended, unended, s.lines, refl)), inl short, subst (λ ls. Answered start ls s.marks seen s.replies) (sym (up_to_quit start seen s.ended [] unended s.marks s.replies s.answered t.0)) s.answered);
+      played = (s.ended ++ unended ∷ [], seen, inl (short, (s.ended, unended, s.lines, refl)), inl short, subst (λ ls. Answered start ls s.marks seen s.replies) (sym (up_to_quit start seen s.ended [] unended s.marks s.replies s.answered t.0)) s.answered, whole_rest script rest end);
       written = t.2 ∙ s.written;
     }
 
@@ -181,17 +185,19 @@ failed_end start seen told rest before after taken unended e within s =
     }
 
 -- more was taken than a script has
-pub long_end : (start seen : Seen) (told rest before after : Option (List ℕ)) (script taken more unended : List ℕ) → Tells told script → script ≡ taken ++ more → length taken ≡ MOST_SCRIPT → 0 < length more
+long_rest : (script taken front : List ℕ) (rest : Option (List ℕ)) → script ≡ taken ++ (front ++ or_empty rest) → length taken ≡ MOST_SCRIPT → 0 < length front → IfSome rest (λ bytes. MOST_SCRIPT + length bytes < length script)
+long_rest script taken front None e full some = tt
+long_rest script taken front (Some bytes) e full some = omega (arith, ap length e, length-append taken (front ++ bytes), length-append front bytes)
+
+pub long_end : (start seen : Seen) (told rest before after : Option (List ℕ)) (script taken front unended : List ℕ) → Tells told script → script ≡ taken ++ (front ++ or_empty rest) → length taken ≡ MOST_SCRIPT → 0 < length front
     → Stands start before taken unended seen after → HasPlayed start told rest statuses.ScriptLong before after
-long_end start seen told rest before after script taken more unended tells e full some s =
-    let long : MOST_SCRIPT < length script = omega (arith, ap length e, length-append taken more) in
+long_end start seen told rest before after script taken front unended tells e full some s =
+    let long : MOST_SCRIPT < length script = omega (arith, ap length e, length-append taken (front ++ or_empty rest), length-append front (or_empty rest)) in
     record {
-      script = script;
-      marks = s.marks;
-      replies = s.replies;
-      tells = tells;
-      played = (s.ended, seen, inr (long, (unended, subst (λ bs. HasLines bs s.ended unended) (sym (ap (take MOST_SCRIPT) e ∙ ap (λ n. take n (taken ++ more)) (sym full) ∙ take-append_seam taken more)) s.lines)), long, s.answered);
-      written = s.written;
+      script = script; marks = s.marks; replies = s.replies; tells = tells;
+      played = (s.ended, seen, inr (long, (unended, subst (λ bs. HasLines bs s.ended unended) (sym (ap (take MOST_SCRIPT) e ∙ ap (λ n. take n (taken ++ (front ++ or_empty rest))) (sym full) ∙ take-append_seam taken (front ++ or_empty rest))) s.lines)), long, s.answered,
+        long_rest script taken front rest e full some);
+      written = s.written
     }
 
 abbrev pub status_of_turn : Turn → Status
@@ -200,60 +206,47 @@ status_of_turn turns.Quit = statuses.Ok
 status_of_turn turns.NoMemory = statuses.NoMemory
 status_of_turn turns.OutputFailed = statuses.OutputFault
 
-shorter : (bytes upto later : List ℕ) → bytes ≡ upto ++ 10 ∷ later → length bytes ≤ MOST_SCRIPT → length upto < MOST_SCRIPT
-shorter bytes upto later is within = omega (arith, within, ap length is, length-append upto (10 ∷ later))
+shorter : (bytes upto : List ℕ) (b : ℕ) (later : List ℕ) → bytes ≡ upto ++ b ∷ later → length bytes ≤ MOST_SCRIPT → length upto < MOST_SCRIPT
+shorter bytes upto b later is within = omega (arith, within, ap length is, length-append upto (b ∷ later))
 
 holds : (lines : List (List ℕ)) (one : List ℕ) (later : List (List ℕ)) → Contains (lines ++ one ∷ later) one
 holds lines one later = Contains-append_right lines (one ∷ later) one (0, grind arith, refl)
 
+quit_rest : (script upto later more unended : List ℕ) (ended : List (List ℕ)) (rest : Option (List ℕ)) → script ≡ upto ++ 10 ∷ (later ++ more) → HasLines upto ended unended → is_quit unended ≡ true → length (or_empty rest) ≤ length more
+    → IfSome rest (λ bytes. (bytes ≡ []) ⊎ EndedByQuit script bytes)
+quit_rest script upto later more unended ended None e h q le = tt
+quit_rest script upto later more unended ended (Some bytes) e h q le = inr (upto, later ++ more, unended, ended, e, h, q, omega (arith, le, length-append later more))
+
+kept_rest : (later more : List ℕ) (rest : Option (List ℕ)) → length (or_empty rest) ≤ length more → IfSome rest (λ bytes. length bytes ≤ length (later ++ more))
+kept_rest later more None le = tt
+kept_rest later more (Some bytes) le = omega (arith, le, length-append later more)
+
 -- within what was taken: `quit`, want of memory, or a fault of the output
 pub stopped : (turn : Turn) (start seen : Seen) (told rest before after : Option (List ℕ)) (script bytes more : List ℕ) (kept : KeptLine) → turn ≢ turns.Go → Tells told script → script ≡ bytes ++ more
-    → length bytes ≤ MOST_SCRIPT → LeadsTo turn start before bytes seen kept after → IsEnd (status_of_turn turn) start told rest before after
-stopped turns.Go start seen told rest before after script bytes more kept other tells e within l = absurd (other refl)
-stopped turns.Quit start seen told rest before after script bytes more kept other tells e within (upto, later, unended, is, s, q) =
-    let through = lines_through script upto (later ++ more) s.ended unended (e ∙ ap (λ x. x ++ more) is ∙ append_assoc upto (10 ∷ later) more) s.lines (shorter bytes upto later is within) in
+    → length bytes ≤ MOST_SCRIPT → length (or_empty rest) ≤ length more → LeadsTo turn start before bytes seen kept after → IsEnd (status_of_turn turn) start told rest before after
+stopped turns.Go start seen told rest before after script bytes more kept other tells e within le l = absurd (other refl)
+stopped turns.Quit start seen told rest before after script bytes more kept other tells e within le (upto, later, unended, is, s, q) =
+    let whole : script ≡ upto ++ 10 ∷ (later ++ more) = e ∙ ap (λ x. x ++ more) is ∙ append_assoc upto (10 ∷ later) more in
+    let through = lines_through script upto (later ++ more) s.ended unended whole s.lines (shorter bytes upto 10 later is within) in
     record {
-      script = script;
-      marks = s.marks;
-      replies = s.replies;
-      tells = tells;
-      played = (
-        s.ended ++ unended ∷ through.0,
-        seen,
-        through.1,
-        inr (s.ended ++ unended ∷ through.0, through.1, (unended, holds s.ended unended through.0, q)),
+      script = script; marks = s.marks; replies = s.replies; tells = tells;
+      played = (s.ended ++ unended ∷ through.0, seen, through.1, inr (s.ended ++ unended ∷ through.0, through.1, (unended, holds s.ended unended through.0, q)),
         subst (λ ls. Answered start ls s.marks seen s.replies) (sym (up_to_quit start seen s.ended through.0 unended s.marks s.replies s.answered q)) s.answered,
-      );
-      written = s.written;
+        quit_rest script upto later more unended s.ended rest whole s.lines q le);
+      written = s.written
     }
-stopped turns.NoMemory start seen told rest before after script bytes more kept other tells e within (upto, later, unended, is, s) =
-    let whole : script ≡ upto ++ (later ++ more) = e ∙ ap (λ x. x ++ more) is ∙ append_assoc upto later more in
+stopped turns.NoMemory start seen told rest before after script bytes more kept other tells e within le (upto, later, unended, b, is, line, short, s) =
     record {
-      script = script;
-      marks = s.marks;
-      replies = s.replies;
-      tells = tells;
-      played = (
-        length upto,
-        s.ended,
-        unended,
-        seen,
-        omega (arith, ap length whole, length-append upto (later ++ more)),
-        omega (arith, within, ap length is, length-append upto later),
-        subst (λ bs. HasLines bs s.ended unended) (sym (ap (take (length upto)) whole ∙ take-append_seam upto (later ++ more))) s.lines,
-        s.answered,
-      );
-      written = s.written;
+      script = script; marks = s.marks; replies = s.replies; tells = tells;
+      played = (upto, later ++ more, b, s.ended, unended, seen, e ∙ ap (λ x. x ++ more) is ∙ append_assoc upto (b ∷ later) more, line, short, shorter bytes upto b later is within, s.lines, s.answered, kept_rest later more rest le);
+      written = s.written
     }
-stopped turns.OutputFailed start seen told rest before after script bytes more kept other tells e within (upto, later, is, c) =
-    let through = lines_through script upto (later ++ more) c.stands.ended c.rest (e ∙ ap (λ x. x ++ more) is ∙ append_assoc upto (10 ∷ later) more) c.stands.lines (shorter bytes upto later is within) in
+stopped turns.OutputFailed start seen told rest before after script bytes more kept other tells e within le (upto, later, is, c) =
+    let through = lines_through script upto (later ++ more) c.stands.ended c.rest (e ∙ ap (λ x. x ++ more) is ∙ append_assoc upto (10 ∷ later) more) c.stands.lines (shorter bytes upto 10 later is within) in
     record {
-      script = script;
-      done = c.stands.replies;
-      reply = c.reply;
-      tells = tells;
+      script = script; done = c.stands.replies; reply = c.reply; tells = tells;
       behind = (c.stands.ended ++ c.rest ∷ through.0, c.stands.ended, through.0, c.rest, c.stands.marks, c.seen, c.next, c.wanting, through.1, refl, c.stands.answered, c.replied);
-      part = subst (λ b. AppendsPart c.reply b after) c.stands.written c.part;
+      part = subst (λ b. AppendsPart c.reply b after) c.stands.written c.part
     }
 
 -- a read: its first bytes, and the rest of it
@@ -274,9 +267,8 @@ read_within taken into within room le e = let short : length (take within into) 
 pub read_full : (taken into : List ℕ) (within room : ℕ) → within ≡ room → within ≤ length into → length taken + room ≡ MOST_SCRIPT → length (taken ++ take within into) ≡ MOST_SCRIPT
 read_full taken into within room is le e = let short : length (take within into) ≡ within = grind (arith, common_steps) in omega (arith, length-append taken (take within into))
 
-pub read_more : (into tail : List ℕ) (within count : ℕ) → within < count → count ≤ length into → 0 < length (drop within (take count into) ++ tail)
-read_more into tail within count lt le =
-    let some : length (drop within (take count into)) ≡ count - within = grind (arith, common_steps) in omega (arith, length-append (drop within (take count into)) tail)
+pub read_more : (into : List ℕ) (within count : ℕ) → within < count → count ≤ length into → 0 < length (drop within (take count into))
+read_more into within count lt le = let some : length (drop within (take count into)) ≡ count - within = grind (arith, common_steps) in omega (arith, some, lt)
 
 -- the end of a session within a read
 pub stopped_in_read : (turn : Turn) (start seen : Seen) (told mid rest before after : Option (List ℕ)) (taken into : List ℕ) (within count room : ℕ) (kept : KeptLine) → turn ≢ turns.Go
@@ -285,15 +277,15 @@ pub stopped_in_read : (turn : Turn) (start seen : Seen) (told mid rest before af
 stopped_in_read turn start seen told mid rest before after taken into within count room kept other first second part fits e l =
     stopped turn start seen told rest before after ((taken ++ take count into) ++ or_empty rest) (taken ++ take within into) (drop within (take count into) ++ or_empty rest) kept other
     (tells_both told rest (taken ++ take count into) (prepend_known-then told mid rest taken (take count into) first second))
-    (read_parts taken into (or_empty rest) within count part) (read_within taken into within room fits e) l
+    (read_parts taken into (or_empty rest) within count part) (read_within taken into within room fits e) (omega (arith, length-append (drop within (take count into)) (or_empty rest))) l
 
 pub long_read : (start seen : Seen) (told mid rest before after : Option (List ℕ)) (taken into : List ℕ) (within count room : ℕ) (kept : KeptLine)
     → told ≡ prepend_known taken mid → mid ≡ prepend_known (take count into) rest → within < count → within ≡ room → count ≤ length into → length taken + room ≡ MOST_SCRIPT
     → StandsWith start before (taken ++ take within into) seen kept after → HasPlayed start told rest statuses.ScriptLong before after
 long_read start seen told mid rest before after taken into within count room kept first second part full le e s =
-    long_end start seen told rest before after ((taken ++ take count into) ++ or_empty rest) (taken ++ take within into) (drop within (take count into) ++ or_empty rest) s.rest
+    long_end start seen told rest before after ((taken ++ take count into) ++ or_empty rest) (taken ++ take within into) (drop within (take count into)) s.rest
     (tells_both told rest (taken ++ take count into) (prepend_known-then told mid rest taken (take count into) first second))
-    (read_parts taken into (or_empty rest) within count (omega (arith, part))) (read_full taken into within room full (omega (arith, part, le)) e) (read_more into (or_empty rest) within count part le) s.stands
+    (read_parts taken into (or_empty rest) within count (omega (arith, part))) (read_full taken into within room full (omega (arith, part, le)) e) (read_more into within count part le) s.stands
 
 -- the input is at its end
 pub at_end : (told mid rest : Option (List ℕ)) (taken into : List ℕ) (count : ℕ) → count ≡ 0 → told ≡ prepend_known taken mid → mid ≡ prepend_known (take count into) rest → IfSome mid (λ bytes. bytes ≡ []) → Tells told taken
@@ -311,3 +303,11 @@ room_on taken into within room fits le e = let short : length (take within into)
 
 pub count_on : (now before room within : ℕ) (into : List ℕ) → now ≤ before + length (take within into) → before + room ≤ MOST_SCRIPT → within ≤ room → now + (room - within) ≤ MOST_SCRIPT
 count_on now before room within into le fits part = let short : length (take within into) ≤ within = grind (arith, common_steps) in omega (arith, short)
+
+pub nothing_left : (mid rest : Option (List ℕ)) (into : List ℕ) (count : ℕ) → mid ≡ prepend_known (take count into) rest → IfSome mid (λ bytes. bytes ≡ []) → IfSome rest (λ bytes. bytes ≡ [])
+nothing_left mid None into count e end = tt
+nothing_left mid (Some bytes) into count e end = append_nothing (take count into) bytes (subst (λ m. IfSome m (λ bs. bs ≡ [])) e end)
+  where
+    append_nothing : (a b : List ℕ) → a ++ b ≡ [] → b ≡ []
+    append_nothing [] b e = e
+    append_nothing (x ∷ a) b e = cc

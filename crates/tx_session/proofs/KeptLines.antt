@@ -1,5 +1,5 @@
 -- The beginning of a line that is kept.
-use Rattle.std.proofs.Common.{◌≡◌, ℕ, ◌+◌, ◌-◌, ◌<◌, ◌≤◌, Bool, true, nat_eq, eqb, if◌then◌else◌, List, [], ◌∷◌, ◌++◌, length, take, arith}
+use Rattle.std.proofs.Common.{◌≡◌, ℕ, ◌+◌, ◌-◌, ◌<◌, ◌≤◌, Bool, true, nat_eq, eqb, if◌then◌else◌, List, [], ◌∷◌, ◌++◌, length, take, arith, Result, Ok, Err, IfErr}
 use Rattle.std.specs.List.{ends_with}
 use Rattle.std.proofs.lemmas.Grind.{common_steps}
 use Rattle.tx_session.specs.Scripts.{command_line}
@@ -24,3 +24,10 @@ front_next bytes front b most f within = grind (arith, common_steps)
 
 pub front_full : (bytes front : List ℕ) (b most : ℕ) → front ≡ take (most + 1) bytes → most < length front → front ≡ take (most + 1) (bytes ++ b ∷ [])
 front_full bytes front b most f full = grind (arith, common_steps)
+
+pub short_line : (bytes front : List ℕ) (most : ℕ) → front ≡ take (most + 1) bytes → length front ≤ most → length bytes ≤ most
+short_line bytes front most f short = grind (arith, common_steps)
+
+pub err_anyway : {T E : Type 0} (result : Result T E) (P : Type 0) → P → IfErr result (λ _. P)
+err_anyway (Ok x) P p = tt
+err_anyway (Err e) P p = p

@@ -89,7 +89,7 @@ pub stops_within : (turn : Turn) (start : Seen) (before : Option (List ℕ)) (by
     → LeadsTo turn start before bytes seen kept after → LeadsTo turn start before (bytes ++ more) seen kept after
 stops_within turns.Go start before bytes more seen kept after other l = absurd (other refl)
 stops_within turns.Quit start before bytes more seen kept after other l = (l.0, l.1 ++ more, l.2, ap (λ x. x ++ more) l.3 ∙ append_assoc l.0 (10 ∷ l.1) more, l.4, l.5)
-stops_within turns.NoMemory start before bytes more seen kept after other l = (l.0, l.1 ++ more, l.2, ap (λ x. x ++ more) l.3 ∙ append_assoc l.0 l.1 more, l.4)
+stops_within turns.NoMemory start before bytes more seen kept after other l = (l.0, l.1 ++ more, l.2, l.3, ap (λ x. x ++ more) l.4 ∙ append_assoc l.0 (l.3 ∷ l.1) more, l.5, l.6, l.7)
 stops_within turns.OutputFailed start before bytes more seen kept after other l = (l.0, l.1 ++ more, ap (λ x. x ++ more) l.2 ∙ append_assoc l.0 (10 ∷ l.1) more, l.3)
 
 -- the next byte of a piece

@@ -1,5 +1,5 @@
 -- The beginning of a line that is kept while the line is read. Only private clauses cite this.
-use Rattle.std.specs.Prelude.{◌≡◌, ◌+◌, ℕ, Bool, true, nat_eq, List, [], ◌∷◌, ◌++◌, length, take, Option, Result, Ok, Err}
+use Rattle.std.specs.Prelude.{◌≡◌, ◌+◌, ℕ, Bool, true, nat_eq, List, [], ◌∷◌, ◌++◌, length, take, Option, Result, Ok, Err, ◌≤◌, ◌≢◌}
 use Rattle.std.specs.List.{ends_with}
 use Rattle.std.specs.Io.KnownBytes.{append_known}
 use Rattle.tx_cmd.specs.declared.TheConstants.{MOST_LINE}
@@ -60,6 +60,6 @@ LeadsTo turns.Go start before bytes seen line after = StandsWith start before by
 LeadsTo turns.Quit start before bytes seen line after =
     (upto more rest : List ℕ) × (bytes ≡ upto ++ 10 ∷ more) × Stands start before upto rest seen after × (is_quit rest ≡ true)
 LeadsTo turns.NoMemory start before bytes seen line after =
-    (upto more rest : List ℕ) × (bytes ≡ upto ++ more) × Stands start before upto rest seen after
+    (upto more rest : List ℕ) × (b : ℕ) × (bytes ≡ upto ++ b ∷ more) × (b ≢ 10) × (length rest ≤ MOST_LINE) × Stands start before upto rest seen after
 LeadsTo turns.OutputFailed start before bytes seen line after =
     (upto more : List ℕ) × (bytes ≡ upto ++ 10 ∷ more) × IsCutAt start before upto after

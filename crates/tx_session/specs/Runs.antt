@@ -1,11 +1,12 @@
 -- A whole run: its status, and what it wrote.
-use Rattle.std.specs.Prelude.{◌≡◌, ◌⊎◌, ◌<◌, ◌≤◌, ◌^◌, ℕ, Bool, true, false, List, [], ◌∷◌, ◌++◌, length, take, drop, codes, Option, Some, IfSome, Contains}
+use Rattle.std.specs.Prelude.{◌≡◌, ◌⊎◌, ◌<◌, ◌≤◌, ◌^◌, ℕ, Bool, true, false, List, [], ◌∷◌, ◌++◌, length, take, drop, codes, Option, Some, IfSome, Contains, ◌+◌, ◌≢◌}
 use Rattle.std.specs.Io.KnownBytes.{append_known}
 use Rattle.tx_outside.specs.Files.{Files, file_of}
 use Rattle.tx_outside.specs.Known.{AppendsPart}
 use Rattle.tx_tree.specs.WideTree.{WideTree}
 use Rattle.tx_tree.specs.Limits.{IsWithinLimits}
 use Rattle.tx_scm.specs.Spelling.{Spells}
+use Rattle.tx_cmd.specs.declared.TheConstants.{MOST_LINE}
 use Rattle.tx_session.specs.declared.TheConstants.{MOST_SCRIPT}
 use Rattle.tx_session.specs.declared.status.Status.{Status}
 use Rattle.tx_session.specs.declared.status.Status.TheVariants.{Ok, StoreFault, InputFault, OutputFault, NoMemory, ScriptLong}
@@ -27,19 +28,28 @@ Tells told script = IfSome told (λ bytes. bytes ≡ script)
 abbrev pub CanBeRead : List ℕ → Type 0
 CanBeRead script = (length script ≤ MOST_SCRIPT) ⊎ ((lines : List (List ℕ)) × AreLinesOf script lines × ((quitting : List ℕ) × Contains lines quitting × (is_quit quitting ≡ true)))
 
--- How a session ends with a status, over a script of which the input still tells a rest afterwards. The text is the replies. A run that
--- ends early has answered the lines that ended in the bytes that it took, from the first one on, none left out.
+-- a line `quit` ended in what was taken of the script, of which the input still tells this rest
+abbrev pub EndedByQuit : List ℕ → List ℕ → Type 0
+EndedByQuit script rest =
+    (upto more quitting : List ℕ) × (ended : List (List ℕ)) × (script ≡ upto ++ 10 ∷ more) × HasLines upto ended quitting × (is_quit quitting ≡ true) × (length rest ≤ length more)
+
+-- How a session ends with a status, over a script of which the input still tells a rest afterwards. The text is the replies, from the first
+-- line's on, none left out. After a fault of the input they are those to the lines that had ended in what was taken, in a script that is too
+-- long those to the lines that end within the limit, and without memory those to the lines before one of which a byte was taken that couldn't
+-- be kept.
 abbrev pub IsPlayed : Seen → (script : List ℕ) → (marks : List Bool) → (rest : Option (List ℕ)) → Status → (text : List ℕ) → Type 0
 IsPlayed start script marks rest Ok text =
     (lines : List (List ℕ)) × (last : Seen) × AreLinesOf script lines × CanBeRead script × Answered start (before_quit lines) marks last text
+    × IfSome rest (λ bytes. (bytes ≡ []) ⊎ EndedByQuit script bytes)
 IsPlayed start script marks rest ScriptLong text =
     (lines : List (List ℕ)) × (last : Seen) × AreLinesOf script lines × (MOST_SCRIPT < length script) × Answered start lines marks last text
+    × IfSome rest (λ bytes. MOST_SCRIPT + length bytes < length script)
 IsPlayed start script marks rest InputFault text =
     (n : ℕ) × (ended : List (List ℕ)) × (unended : List ℕ) × (last : Seen) × (n ≤ length script) × (n ≤ MOST_SCRIPT) × IfSome rest (λ bytes. bytes ≡ drop n script)
     × HasLines (take n script) ended unended × Answered start ended marks last text
 IsPlayed start script marks rest NoMemory text =
-    (n : ℕ) × (ended : List (List ℕ)) × (unended : List ℕ) × (last : Seen) × (n ≤ length script) × (n ≤ MOST_SCRIPT)
-    × HasLines (take n script) ended unended × Answered start ended marks last text
+    (upto more : List ℕ) × (b : ℕ) × (ended : List (List ℕ)) × (unended : List ℕ) × (last : Seen) × (script ≡ upto ++ b ∷ more) × (b ≢ 10) × (length unended ≤ MOST_LINE) × (length upto < MOST_SCRIPT)
+    × HasLines upto ended unended × Answered start ended marks last text × IfSome rest (λ bytes. length bytes ≤ length more)
 IsPlayed start script marks rest _ text = ⊥
 
 -- a status's own line, behind the replies
@@ -49,11 +59,11 @@ own_line ScriptLong = line (codes "script-long")
 own_line NoMemory = line (codes "memory")
 own_line _ = []
 
--- A session that ends with a status has written this text.
+-- A session that ends with a status has written this text. Where no file was opened, nothing is taken of the input.
 abbrev pub IsWhole : Outcome → Option (List ℕ) → List Bool → Option (List ℕ) → Status → List ℕ → Type 0
 IsWhole (opened file t) told marks rest status text =
     (script : List ℕ) × (replies : List ℕ) × Tells told script × IsPlayed (start_of file t) script marks rest status replies × (text ≡ replies ++ own_line status)
-IsWhole unopened told marks rest status text = (marks ≡ []) × (status ≡ status_of unopened) × (text ≡ text_of unopened)
+IsWhole unopened told marks rest status text = (marks ≡ []) × (status ≡ status_of unopened) × (text ≡ text_of unopened) × (rest ≡ told)
 
 -- the reply to one of the script's lines, behind the replies to all lines before it
 abbrev pub IsReplyBehind : Seen → (script : List ℕ) → (done reply : List ℕ) → Type 0
@@ -67,7 +77,7 @@ IsBeingWritten (opened file t) told rest done part =
     (script : List ℕ) × Tells told script
     × (IsReplyBehind (start_of file t) script done part
     ⊎ ((status : Status) × (marks : List Bool) × IsPlayed (start_of file t) script marks rest status done × (part ≡ own_line status)))
-IsBeingWritten unopened told rest done part = (done ≡ []) × (part ≡ text_of unopened)
+IsBeingWritten unopened told rest done part = (done ≡ []) × (part ≡ text_of unopened) × (rest ≡ told)
 
 -- The words and the files come to an outcome, and a run of it ends with the status. After a fault of the output only a part of what was
 -- being written is written, from its start on.
@@ -99,11 +109,11 @@ IsFinal OutputFault = ⊥
 IsFinal NoMemory = ⊥
 IsFinal _ = Unit {0}
 
--- The file is refused: it is in another form, or a file that was asked for was too long, or its bytes spell no tree within
--- the limits.
+-- The file is refused: it is in another form, or a file that was asked for was too long, or it isn't, and its bytes spell no tree
+-- within the limits.
 abbrev pub IsRefused : List (List ℕ) → Option Files → Type 0 → Type 0
 IsRefused words files too_long =
-    (file : List ℕ) × (file_in words ≡ Some file) × ((is_scheme_name file ≡ false) ⊎ too_long ⊎ ((bytes : List ℕ) × Holds files file bytes × SpellsNoTree bytes))
+    (file : List ℕ) × (file_in words ≡ Some file) × ((is_scheme_name file ≡ false) ⊎ too_long ⊎ ((bytes : List ℕ) × Holds files file bytes × (length bytes ≤ 2 ^ 24) × SpellsNoTree bytes))
 
 -- the words name a file that is there, is no longer than a file may be, and spells a tree within the limits
 abbrev pub CanBeOpened : List (List ℕ) → Option Files → Type 0

@@ -1,5 +1,5 @@
 // The line that is being read.
-ghost use Rattle.std.specs.Prelude.{◌≡◌, ◌<◌, ◌≤◌, ◌+◌, ◌∷◌, ◌++◌, ℕ, List, [], length, IfOk, MatchResult};
+ghost use Rattle.std.specs.Prelude.{◌≡◌, ◌<◌, ◌≤◌, ◌+◌, ◌∷◌, ◌++◌, ℕ, List, [], length, IfOk, IfErr, MatchResult};
 ghost use Rattle.tx_session.specs.Keeping.{Keeps};
 ghost use Rattle.tx_session.specs.Scripts.{command_line};
 ghost use Rattle.tx_cmd.specs.declared.TheConstants.{MOST_LINE};
@@ -44,6 +44,7 @@ impl KeptLine {
         requires room { self.old.count < MOST_SCRIPT }
         ensures kept { IfOk result (λ _. (bytes : List ℕ) → Keeps self.old bytes → Keeps self.new (bytes ++ byte ∷ [])) }
         ensures count { self.new.count ≤ self.old.count + 1 }
+        ensures short { IfErr result (λ _. (bytes : List ℕ) → Keeps self.old bytes → length bytes ≤ MOST_LINE) }
     {
         self.count += 1;
         self.returned = byte == b'\r';

@@ -1,5 +1,5 @@
 // The lines of a script, read and answered one after the other.
-ghost use Rattle.std.specs.Prelude.{◌≡◌, ◌≢◌, ◌≤◌, ◌<◌, ◌+◌, ◌∷◌, ◌++◌, ◌⊎◌, ℕ, List, [], Option, Bool, length, decimal, IfOk, OnOk, OnErr, IfErr, Ok};
+ghost use Rattle.std.specs.Prelude.{◌≡◌, ◌≢◌, ◌≤◌, ◌<◌, ◌+◌, ◌∷◌, ◌++◌, ◌⊎◌, ℕ, List, [], Option, Bool, length, decimal, IfOk, OnOk, OnErr, IfErr, IfSome, Ok};
 ghost use Rattle.tx_outside.specs.Counts.{NeverFalls, Rose};
 ghost use Rattle.tx_outside.specs.Known.{StaysKnown};
 ghost use Rattle.tx_cmd.specs.Words.{first_word};
@@ -186,7 +186,7 @@ fn end_script<S: Store, O: Sink, L: Ledger>(
     requires kept { (bytes : List ℕ) × Keeps line.now bytes }
     ensures end { (start : Seen) (told : Option (List ℕ)) (before : Option (List ℕ)) (script : List ℕ)
         → StandsWith start before script session.old line.now (O.written out.old) → Tells told script → length script ≤ MOST_SCRIPT
-        → (rest : Option (List ℕ)) → IsEnd result start told rest before (O.written out.new) }
+        → (rest : Option (List ℕ)) → IfSome rest (λ bytes. bytes ≡ []) → IsEnd result start told rest before (O.written out.new) }
     ensures status { (result ≡ Status.Ok) ⊎ (result ≡ Status.OutputFault) }
     ensures output_fault_counted { result ≡ Status.OutputFault → Rose (O.faults out.old) (O.faults out.new) }
     ensures store_kept { store.new ≡ store.old }

@@ -22,12 +22,12 @@ returns-in-Ok-clause-complete g c = λ can read m l f i o.
 
 pub returns-in-Err-clause-run : goal.returns-in-Err-clause-run
 returns-in-Err-clause-run g c =
-    line_run _ _ _ _ no_memory c.finish-in-Err.result _ _ (λ file t e. cc) (c.in-Opened.file.now, c.in-Opened.ensures.comes.0.0) c.finish-in-Err.ensures.done c.finish-in-Err.ensures.cut
+    line_run _ _ _ no_memory c.finish-in-Err.result _ _ (λ file t e. cc) (c.in-Opened.file.now, c.in-Opened.ensures.comes.0.0) c.finish-in-Err.ensures.done c.finish-in-Err.ensures.cut
 
 pub returns-in_default : goal.returns-in_default
 returns-in_default g c =
     let run = unopened_run (map (string_bytes {Z = Global}) c.args.words.now) (g.S.Store.files c.args.store.now) c.open-opening.result c.report.result (g.O.Sink.written c.args.out.now) (g.O.Sink.written c.report.new.out) (Rose (g.S.Store.misses c.args.store.now) (g.S.Store.misses c.open-opening.new.store)) (Rose (g.S.Store.longs c.args.store.now) (g.S.Store.longs c.open-opening.new.store)) (Rose (g.S.Store.faults c.args.store.now) (g.S.Store.faults c.open-opening.new.store)) c.open-opening.ensures.comes c.in_default.not-FaultyWords c.in_default.not-Opened
-    c.report.ensures.line c.open-opening.ensures.missing_counted c.open-opening.ensures.fault_counted c.open-opening.ensures.long_counted (g.I.Source.left c.args.input.now) (g.I.Source.left c.args.input.now) in
+    c.report.ensures.line c.open-opening.ensures.missing_counted c.open-opening.ensures.fault_counted c.open-opening.ensures.long_counted (g.I.Source.left c.args.input.now) in
     let cause = unopened_causes (map (string_bytes {Z = Global}) c.args.words.now) (g.S.Store.files c.args.store.now) c.open-opening.result c.report.result (g.O.Sink.written c.args.out.now) (g.O.Sink.written c.report.new.out) (Rose (g.S.Store.misses c.args.store.now) (g.S.Store.misses c.open-opening.new.store)) (Rose (g.S.Store.longs c.args.store.now) (g.S.Store.longs c.open-opening.new.store)) (Rose (g.S.Store.faults c.args.store.now) (g.S.Store.faults c.open-opening.new.store)) c.open-opening.ensures.comes c.in_default.not-FaultyWords c.in_default.not-Opened
     c.report.ensures.line c.open-opening.ensures.missing_counted c.open-opening.ensures.fault_counted c.open-opening.ensures.long_counted in
     record {

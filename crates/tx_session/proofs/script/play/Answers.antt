@@ -4,7 +4,7 @@ use Rattle.tx_outside.proofs.Counting.{never_falls_refl, never_falls_then}
 use Rattle.tx_outside.proofs.Pieces.{append_known-nil, prepend_known-nil}
 use Rattle.tx_session.specs.declared.script.Turn.TheVariants as turns
 use Rattle.tx_session.proofs.Standing.{stands_first}
-use Rattle.tx_session.proofs.Ending.{at_end, failed_end, stopped_in_read, long_read, read_on, room_on, count_on}
+use Rattle.tx_session.proofs.Ending.{at_end, nothing_left, failed_end, stopped_in_read, long_read, read_on, room_on, count_on}
 use Rattle.tx_session.proofs.script.play.Goals as goal
 
 pub loop-session-init : goal.loop-session-init
@@ -24,7 +24,7 @@ pub returns-in-Ok-eq0-clause-end : goal.returns-in-Ok-eq0-clause-end
 returns-in-Ok-eq0-clause-end g c =
     let t = c.loop-session.invariant.taken in
     c.end_script.ensures.end c.args.session.now (g.I.Source.left c.args.input.now) (g.O.Sink.written c.args.out.now) t.0 t.3
-    (at_end _ _ _ t.0 c.read.new.into _ c.in-Ok-eq0.field-0-test t.1 c.in-Ok-eq0.ensures.taken (c.in-Ok-eq0.ensures.zero_at_end c.in-Ok-eq0.field-0-test)) (omega (arith, t.2)) _
+    (at_end _ _ _ t.0 c.read.new.into _ c.in-Ok-eq0.field-0-test t.1 c.in-Ok-eq0.ensures.taken (c.in-Ok-eq0.ensures.zero_at_end c.in-Ok-eq0.field-0-test)) (omega (arith, t.2)) (g.I.Source.left c.read.new.self) (nothing_left _ _ c.read.new.into _ c.in-Ok-eq0.ensures.taken (c.in-Ok-eq0.ensures.zero_at_end c.in-Ok-eq0.field-0-test))
 
 pub returns-in-Err-clause-end : goal.returns-in-Err-clause-end
 returns-in-Err-clause-end g c =

@@ -1,4 +1,4 @@
-use Rattle.std.proofs.Common.{[], ◌∷◌, ◌++◌, sym, subst}
+use Rattle.std.proofs.Common.{refl, [], ◌∷◌, ◌++◌, sym, subst}
 use Rattle.tx_session.specs.Keeping.{Stands}
 use Rattle.tx_session.proofs.Standing.{stands_on, stands_next, turned_go, turned_cut, cut_at, ends_at}
 use Rattle.tx_session.proofs.script.take_byte.Goals as goal
@@ -15,3 +15,6 @@ returns-in-Ok-Go-clause-leads g c = λ start before bytes s.
 pub returns-in-Err-Failed-clause-leads : goal.returns-in-Err-Failed-clause-leads
 returns-in-Err-Failed-clause-leads g c = λ start before bytes s.
     (bytes, [], ends_at bytes _ c.if-byte-ne10.false, cut_at start before bytes s.rest _ _ _ _ (turned_cut _ _ _ _ _ _ _ c.in-Err-Failed.is (c.answer_line.ensures.answered s.rest s.kept)) s.stands)
+
+pub returns-in-Err-clause-leads : goal.returns-in-Err-clause-leads
+returns-in-Err-clause-leads g c = λ start before bytes s. (bytes, [], s.rest, c.args.byte, refl, c.if-byte-ne10.true, c.in-Err.ensures.short s.rest s.kept, s.stands)
