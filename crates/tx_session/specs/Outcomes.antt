@@ -1,5 +1,6 @@
 -- What opening comes to, from the words and the files.
-use Rattle.std.specs.Prelude.{◌≡◌, ◌^◌, Bool, ◌<◌, ◌≤◌, ℕ, true, false, if◌then◌else◌, List, [], ◌∷◌, ◌++◌, length, codes, Option, Some, None, IfSome, IsSomeAnd}
+use Rattle.std.specs.Prelude.{◌≡◌, ◌||◌, ◌^◌, Bool, ◌<◌, ◌≤◌, ℕ, true, false, if◌then◌else◌, List, [], ◌∷◌, ◌++◌, length, codes, Option, Some, None, IfSome, IsSomeAnd}
+use Rattle.std.specs.Str.{bytes_eq}
 use Rattle.tx_outside.specs.Files.{Files, file_of}
 use Rattle.tx_tree.specs.WideTree.{WideTree}
 use Rattle.tx_tree.specs.Limits.{IsWithinLimits}
@@ -23,9 +24,13 @@ abbrev pub is_nothing : List ℕ → Bool
 is_nothing [] = true
 is_nothing (b ∷ bytes) = false
 
--- the file that the words name, where they are the program's name and a file with a buffer's name
+-- the word asks for help
+abbrev pub asks_help : List ℕ → Bool
+asks_help word = bytes_eq word (codes "--help") || bytes_eq word (codes "-h")
+
+-- the file that the words name, where they are the program's name and a file with a buffer's name, and don't ask for help
 abbrev pub file_in : List (List ℕ) → Option (List ℕ)
-file_in (program ∷ file ∷ []) = if is_nothing (buffer_name file) then None else Some file
+file_in (program ∷ file ∷ []) = if is_nothing (buffer_name file) || asks_help file then None else Some file
 file_in _ = None
 
 -- the words name this file, and it is to be read in the Scheme syntax

@@ -3,7 +3,7 @@ use Rattle.std.specs.Prelude.{◌≡◌, ◌≢◌, ◌++◌, ◌⊎◌, ℕ, Bo
 use Rattle.std.specs.Io.KnownBytes.{append_known}
 use Rattle.tx_outside.specs.Known.{AppendsPart}
 use Rattle.tx_session.specs.declared.status.Status.{Status}
-use Rattle.tx_session.specs.declared.status.Status.TheVariants.{OutputFault}
+use Rattle.tx_session.specs.declared.status.Status.TheVariants.{InputFault, OutputFault}
 use Rattle.tx_session.specs.Outcomes.{Outcome, status_of, text_of}
 use Rattle.tx_session.specs.Replies.{Seen}
 use Rattle.tx_session.specs.Runs.{Tells, IsPlayed, IsReplyBehind, own_line}
@@ -39,15 +39,16 @@ pub record IsClosed (start : Seen) (told rest : Option (List ℕ)) (status : Sta
   pub played : IsPlayed start script marks rest status replies
   pub written : after ≡ append_known before (replies ++ own_line status)
 
-pub record IsClosedInPart (start : Seen) (told rest : Option (List ℕ)) (before after : Option (List ℕ)) : Type 0 where
+pub record IsClosedInPart (failed : Type 0) (start : Seen) (told rest : Option (List ℕ)) (before after : Option (List ℕ)) : Type 0 where
   pub status : Status
   pub between : Option (List ℕ)
   pub played : HasPlayed start told rest status before between
   pub part : AppendsPart (own_line status) between after
+  pub caused : status ≡ InputFault → failed
 
-abbrev pub IsServed : Status → Seen → (told rest before after : Option (List ℕ)) → Type 0
-IsServed OutputFault start told rest before after = IsCutOff start told before after ⊎ IsClosedInPart start told rest before after
-IsServed status start told rest before after = IsClosed start told rest status before after
+abbrev pub IsServed : Type 0 → Status → Seen → (told rest before after : Option (List ℕ)) → Type 0
+IsServed failed OutputFault start told rest before after = IsCutOff start told before after ⊎ IsClosedInPart failed start told rest before after
+IsServed failed status start told rest before after = IsClosed start told rest status before after
 
 -- the line of an outcome that opened no file, which is written, or in part
 pub record IsLine (o : Outcome) (status : Status) (before after : Option (List ℕ)) : Type 0 where

@@ -12,7 +12,7 @@ use Rattle.tx_session.specs.declared.status.Status.{Status}
 use Rattle.tx_session.specs.declared.status.Status.TheVariants.{Ok, StoreFault, InputFault, OutputFault, NoMemory, ScriptLong}
 use Rattle.tx_session.specs.Lines.{line}
 use Rattle.tx_session.specs.Names.{buffer_name, is_scheme_name}
-use Rattle.tx_session.specs.Outcomes.{Outcome, opened, ComesTo, Asks, Holds, SpellsNoTree, file_in, status_of, text_of}
+use Rattle.tx_session.specs.Outcomes.{Outcome, missing, too_long, store_fault, opened, ComesTo, Asks, Holds, SpellsNoTree, file_in, status_of, text_of}
 use Rattle.tx_session.specs.Replies.{Seen, IsLineReply}
 use Rattle.tx_session.specs.Scripts.{HasLines, AreLinesOf, Answered, before_quit, command_line, is_quit}
 
@@ -71,13 +71,27 @@ IsReplyBehind start script done reply =
     (lines before behind : List (List ℕ)) × (one : List ℕ) × (marks : List Bool) × (seen next : Seen) × (wanting : Bool)
     × AreLinesOf script lines × (lines ≡ before ++ one ∷ behind) × Answered start before marks seen done × IsLineReply seen (command_line one) wanting next reply
 
+-- whether the counts of misses, of files that are too long, and of faults of the store and of the input rose in a run
+pub record Rises : Type 1 where
+  pub misses : Type 0
+  pub longs : Type 0
+  pub store_faults : Type 0
+  pub input_faults : Type 0
+
+-- an outcome that blames a device comes only where a count rose
+abbrev pub IsCaused : Rises → Outcome → Type 0
+IsCaused rises (missing file) = rises.misses
+IsCaused rises (too_long file) = rises.longs
+IsCaused rises (store_fault file) = rises.store_faults
+IsCaused rises _ = Unit {0}
+
 -- what is being written: some of it is, and this part not yet whole
-abbrev pub IsBeingWritten : Outcome → Option (List ℕ) → Option (List ℕ) → (done part : List ℕ) → Type 0
-IsBeingWritten (opened file t) told rest done part =
+abbrev pub IsBeingWritten : Rises → Outcome → Option (List ℕ) → Option (List ℕ) → (done part : List ℕ) → Type 0
+IsBeingWritten rises (opened file t) told rest done part =
     (script : List ℕ) × Tells told script
     × (IsReplyBehind (start_of file t) script done part
-    ⊎ ((status : Status) × (marks : List Bool) × IsPlayed (start_of file t) script marks rest status done × (part ≡ own_line status)))
-IsBeingWritten unopened told rest done part = (done ≡ []) × (part ≡ text_of unopened) × (rest ≡ told)
+       ⊎ ((status : Status) × (marks : List Bool) × IsPlayed (start_of file t) script marks rest status done × (part ≡ own_line status) × (status ≡ InputFault → rises.input_faults)))
+IsBeingWritten rises unopened told rest done part = (done ≡ []) × (part ≡ text_of unopened) × (rest ≡ told) × IsCaused rises unopened
 
 -- The words and the files come to an outcome, and a run of it ends with the status. After a fault of the output only a part of what was
 -- being written is written, from its start on.
@@ -89,17 +103,17 @@ pub record IsWritten (words : List (List ℕ)) (files : Option Files) (told : Op
   pub whole : IsWhole outcome told marks rest status text
   pub written : after ≡ append_known before text
 
-pub record IsCutShort (words : List (List ℕ)) (files : Option Files) (told : Option (List ℕ)) (rest : Option (List ℕ)) (before after : Option (List ℕ)) : Type 0 where
+pub record IsCutShort (rises : Rises) (words : List (List ℕ)) (files : Option Files) (told : Option (List ℕ)) (rest : Option (List ℕ)) (before after : Option (List ℕ)) : Type 0 where
   pub outcome : Outcome
   pub done : List ℕ
   pub part : List ℕ
   pub comes : ComesTo words files outcome
-  pub being : IsBeingWritten outcome told rest done part
+  pub being : IsBeingWritten rises outcome told rest done part
   pub cut : AppendsPart part (append_known before done) after
 
-abbrev pub IsRun : List (List ℕ) → Option Files → Option (List ℕ) → Option (List ℕ) → Status → Option (List ℕ) → Option (List ℕ) → Type 0
-IsRun words files told rest OutputFault before after = IsCutShort words files told rest before after
-IsRun words files told rest status before after = IsWritten words files told rest status before after
+abbrev pub IsRun : Rises → List (List ℕ) → Option Files → Option (List ℕ) → Option (List ℕ) → Status → Option (List ℕ) → Option (List ℕ) → Type 0
+IsRun rises words files told rest OutputFault before after = IsCutShort rises words files told rest before after
+IsRun rises words files told rest status before after = IsWritten words files told rest status before after
 
 -- a status that words, files, script and marks determine: no device failed, and memory sufficed
 abbrev pub IsFinal : Status → Type 0
@@ -112,8 +126,8 @@ IsFinal _ = Unit {0}
 -- The file is refused: it is in another form, or a file that was asked for was too long, or it isn't, and its bytes spell no tree
 -- within the limits.
 abbrev pub IsRefused : List (List ℕ) → Option Files → Type 0 → Type 0
-IsRefused words files too_long =
-    (file : List ℕ) × (file_in words ≡ Some file) × ((is_scheme_name file ≡ false) ⊎ too_long ⊎ ((bytes : List ℕ) × Holds files file bytes × (length bytes ≤ 2 ^ 24) × SpellsNoTree bytes))
+IsRefused words files long =
+    (file : List ℕ) × (file_in words ≡ Some file) × ((is_scheme_name file ≡ false) ⊎ long ⊎ ((bytes : List ℕ) × Holds files file bytes × (length bytes ≤ 2 ^ 24) × SpellsNoTree bytes))
 
 -- the words name a file that is there, is no longer than a file may be, and spells a tree within the limits
 abbrev pub CanBeOpened : List (List ℕ) → Option Files → Type 0

@@ -2,7 +2,7 @@
 ghost use Rattle.std.specs.Prelude.{◌≡◌, ◌≢◌, ◌↔◌, IsTrue, List, ℕ, map, None, Some, [], ◌++◌, IfOk, MatchOption};
 ghost use Rattle.std.specs.String.{string_bytes};
 ghost use Rattle.tx_outside.specs.Counts.{NeverFalls, Rose};
-ghost use Rattle.tx_session.specs.Outcomes.{ComesTo, file_in, status_of, text_of, too_long, faulty_words};
+ghost use Rattle.tx_session.specs.Outcomes.{asks_help, ComesTo, file_in, status_of, text_of, too_long, faulty_words};
 ghost use Rattle.tx_session.specs.Lines.{line};
 ghost use Rattle.tx_session.specs.Openings.{outcome_of};
 
@@ -30,6 +30,13 @@ pub(crate) enum Opening<'a> {
     Opened(&'a [u8], Tree),
 }
 
+// Whether the word asks for help.
+fn asks_help(word: &[u8]) -> bool
+    ensures { result ≡ asks_help word.now }
+{
+    word == b"--help".as_slice() || word == b"-h".as_slice()
+}
+
 // The file that the words name: they are the program's name and a file with a buffer's name.
 fn file_word(words: &[String]) -> Option<&[u8]>
     ensures { MatchOption result (file_in (map string_bytes words.now) ≡ None) (λ file. file_in (map string_bytes words.now) ≡ Some file.now) }
@@ -38,7 +45,7 @@ fn file_word(words: &[String]) -> Option<&[u8]>
         return None;
     }
     let file = words[1].as_bytes();
-    if buffer_name(file).is_empty() {
+    if buffer_name(file).is_empty() || asks_help(file) {
         return None;
     }
     Some(file)

@@ -92,7 +92,7 @@ fn serve<S: Store, I: Source, O: Sink, L: Ledger>(
     out: &mut O,
     steps: &mut Steps<L>,
 ) -> Status
-    ensures ended { IsServed result session.old (I.left input.old) (I.left input.new) (O.written out.old) (O.written out.new) }
+    ensures ended { IsServed (Rose (I.faults input.old) (I.faults input.new)) result session.old (I.left input.old) (I.left input.new) (O.written out.old) (O.written out.new) }
     ensures input_fault_counted { result ≡ Status.InputFault → Rose (I.faults input.old) (I.faults input.new) }
     ensures output_fault_counted { result ≡ Status.OutputFault → Rose (O.faults out.old) (O.faults out.new) }
     ensures store_kept { store.new ≡ store.old }
@@ -122,7 +122,8 @@ pub fn run<S: Store, I: Source, O: Sink, L: Ledger>(
     out: &mut O,
     steps: &mut Steps<L>,
 ) -> Status
-    ensures run { IsRun (map string_bytes words.now) (S.files store.old) (I.left input.old) (I.left input.new) result (O.written out.old) (O.written out.new) }
+    ensures run { IsRun (record { misses = Rose (S.misses store.old) (S.misses store.new); longs = Rose (S.longs store.old) (S.longs store.new); store_faults = Rose (S.faults store.old) (S.faults store.new); input_faults = Rose (I.faults input.old) (I.faults input.new) })
+        (map string_bytes words.now) (S.files store.old) (I.left input.old) (I.left input.new) result (O.written out.old) (O.written out.new) }
 
     // Where each status comes.
     ensures words { result ≡ Status.Words → file_in (map string_bytes words.now) ≡ None }

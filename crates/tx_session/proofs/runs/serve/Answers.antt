@@ -1,5 +1,6 @@
 use Rattle.std.proofs.Common.{ap, sym, subst, ◌∙◌}
 use Rattle.std.specs.Io.KnownBytes.{append_known}
+use Rattle.tx_outside.specs.Counts.{Rose}
 use Rattle.tx_outside.specs.Known.{AppendsPart}
 use Rattle.tx_outside.proofs.Counting.{never_falls_then, then_rose}
 use Rattle.tx_session.proofs.Causes.{served, end_played}
@@ -8,7 +9,7 @@ use Rattle.tx_session.proofs.runs.serve.Goals as goal
 pub returns-in_default : goal.returns-in_default
 returns-in_default g c =
     record {
-      ended = served c.args.session.now _ _ c.play.result c.finish.result (g.O.Sink.written c.args.out.now) (g.O.Sink.written c.play.new.out) (g.O.Sink.written c.finish.new.out)
+      ended = served (Rose (g.I.Source.faults c.args.input.now) (g.I.Source.faults c.play.new.input)) c.args.session.now _ _ c.play.result c.finish.result (g.O.Sink.written c.args.out.now) (g.O.Sink.written c.play.new.out) (g.O.Sink.written c.finish.new.out) c.play.ensures.input_fault_counted
           (end_played c.play.result c.args.session.now _ _ _ _ c.in_default.not-OutputFault c.play.ensures.end)
           (λ n. let d = c.finish.ensures.done n in (d.0, d.1 ∙ ap (append_known (g.O.Sink.written c.play.new.out)) c.own_line.ensures))
           (λ e. subst (λ part. AppendsPart part (g.O.Sink.written c.play.new.out) (g.O.Sink.written c.finish.new.out)) c.own_line.ensures (c.finish.ensures.cut e));
