@@ -151,8 +151,9 @@ module _ (rises : Rises) (words : List (List ℕ)) (files : Option Files) (o : O
   pub reported_run : (told : Option (List ℕ)) → IsRun rises words files told told status before after
   reported_run told =
       elim line [
-        inl l ↦ line_run rises words files told o status before after caused u comes l.done l.cut
-        | inr l ↦ line_run rises words files told no_memory status before after tt (λ file t e. cc) (taken words files o comes n) l.done l.cut ]
+        | inl l ↦ line_run rises words files told o status before after caused u comes l.done l.cut
+        | inr l ↦ line_run rises words files told no_memory status before after tt (λ file t e. cc) (taken words files o comes n) l.done l.cut
+      ]
 
   pub reported_status : status ≢ statuses.OutputFault → (status ≡ status_of o) ⊎ (status ≡ statuses.NoMemory)
   reported_status m = elim line [ inl l ↦ inl (l.done m).0 | inr l ↦ inr (l.done m).0 ]

@@ -194,10 +194,19 @@ pub long_end : (start seen : Seen) (told rest before after : Option (List ℕ)) 
 long_end start seen told rest before after script taken front unended tells e full some s =
     let long : MOST_SCRIPT < length script = omega (arith, ap length e, length-append taken (front ++ or_empty rest), length-append front (or_empty rest)) in
     record {
-      script = script; marks = s.marks; replies = s.replies; tells = tells;
-      played = (s.ended, seen, inr (long, (unended, subst (λ bs. HasLines bs s.ended unended) (sym (ap (take MOST_SCRIPT) e ∙ ap (λ n. take n (taken ++ (front ++ or_empty rest))) (sym full) ∙ take-append_seam taken (front ++ or_empty rest))) s.lines)), long, s.answered,
-        long_rest script taken front rest e full some);
-      written = s.written
+      script = script;
+      marks = s.marks;
+      replies = s.replies;
+      tells = tells;
+      played = (
+        s.ended,
+        seen,
+        inr (long, (unended, subst (λ bs. HasLines bs s.ended unended) (sym (ap (take MOST_SCRIPT) e ∙ ap (λ n. take n (taken ++ (front ++ or_empty rest))) (sym full) ∙ take-append_seam taken (front ++ or_empty rest))) s.lines)),
+        long,
+        s.answered,
+        long_rest script taken front rest e full some,
+      );
+      written = s.written;
     }
 
 abbrev pub status_of_turn : Turn → Status
@@ -229,24 +238,38 @@ stopped turns.Quit start seen told rest before after script bytes more kept othe
     let whole : script ≡ upto ++ 10 ∷ (later ++ more) = e ∙ ap (λ x. x ++ more) is ∙ append_assoc upto (10 ∷ later) more in
     let through = lines_through script upto (later ++ more) s.ended unended whole s.lines (shorter bytes upto 10 later is within) in
     record {
-      script = script; marks = s.marks; replies = s.replies; tells = tells;
-      played = (s.ended ++ unended ∷ through.0, seen, through.1, inr (s.ended ++ unended ∷ through.0, through.1, (unended, holds s.ended unended through.0, q)),
+      script = script;
+      marks = s.marks;
+      replies = s.replies;
+      tells = tells;
+      played = (
+        s.ended ++ unended ∷ through.0,
+        seen,
+        through.1,
+        inr (s.ended ++ unended ∷ through.0, through.1, (unended, holds s.ended unended through.0, q)),
         subst (λ ls. Answered start ls s.marks seen s.replies) (sym (up_to_quit start seen s.ended through.0 unended s.marks s.replies s.answered q)) s.answered,
-        quit_rest script upto later more unended s.ended rest whole s.lines q le);
-      written = s.written
+        quit_rest script upto later more unended s.ended rest whole s.lines q le,
+      );
+      written = s.written;
     }
 stopped turns.NoMemory start seen told rest before after script bytes more kept other tells e within le (upto, later, unended, b, is, line, short, s) =
     record {
-      script = script; marks = s.marks; replies = s.replies; tells = tells;
+      script = script;
+      marks = s.marks;
+      replies = s.replies;
+      tells = tells;
       played = (upto, later ++ more, b, s.ended, unended, seen, e ∙ ap (λ x. x ++ more) is ∙ append_assoc upto (b ∷ later) more, line, short, shorter bytes upto b later is within, s.lines, s.answered, kept_rest later more rest le);
-      written = s.written
+      written = s.written;
     }
 stopped turns.OutputFailed start seen told rest before after script bytes more kept other tells e within le (upto, later, is, c) =
     let through = lines_through script upto (later ++ more) c.stands.ended c.rest (e ∙ ap (λ x. x ++ more) is ∙ append_assoc upto (10 ∷ later) more) c.stands.lines (shorter bytes upto 10 later is within) in
     record {
-      script = script; done = c.stands.replies; reply = c.reply; tells = tells;
+      script = script;
+      done = c.stands.replies;
+      reply = c.reply;
+      tells = tells;
       behind = (c.stands.ended ++ c.rest ∷ through.0, c.stands.ended, through.0, c.rest, c.stands.marks, c.seen, c.next, c.wanting, through.1, refl, c.stands.answered, c.replied);
-      part = subst (λ b. AppendsPart c.reply b after) c.stands.written c.part
+      part = subst (λ b. AppendsPart c.reply b after) c.stands.written c.part;
     }
 
 -- a read: its first bytes, and the rest of it

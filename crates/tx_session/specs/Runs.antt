@@ -90,7 +90,7 @@ abbrev pub IsBeingWritten : Rises → Outcome → Option (List ℕ) → Option (
 IsBeingWritten rises (opened file t) told rest done part =
     (script : List ℕ) × Tells told script
     × (IsReplyBehind (start_of file t) script done part
-       ⊎ ((status : Status) × (marks : List Bool) × IsPlayed (start_of file t) script marks rest status done × (part ≡ own_line status) × (status ≡ InputFault → rises.input_faults)))
+    ⊎ ((status : Status) × (marks : List Bool) × IsPlayed (start_of file t) script marks rest status done × (part ≡ own_line status) × (status ≡ InputFault → rises.input_faults)))
 IsBeingWritten rises unopened told rest done part = (done ≡ []) × (part ≡ text_of unopened) × (rest ≡ told) × IsCaused rises unopened
 
 -- The words and the files come to an outcome, and a run of it ends with the status. After a fault of the output only a part of what was

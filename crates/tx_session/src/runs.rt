@@ -111,9 +111,10 @@ fn serve<S: Store, I: Source, O: Sink, L: Ledger>(
 /// or writes one line that says why not, and answers the lines of the script that comes from the input, each as
 /// soon as it has ended.
 ///
-/// The script ends at a line `quit` or with the input, and has at most 2^24 bytes. A run that ends early for a fault
-/// of the input, a script that is too long, or want of memory has answered the lines that ended in what it took,
-/// and then writes one line. After a fault of the output, what was written is a part of that, from its start on.
+/// The script ends at a line `quit` or with the input, and has at most 2^24 bytes. After a fault of the input the
+/// lines that had ended in what was taken are answered, of a script that is too long those that end within the limit,
+/// and for want of memory those before the line that couldn't be kept; then one line says why. After a fault of the
+/// output, what was written is a part of that, from its start on.
 pub fn run<S: Store, I: Source, O: Sink, L: Ledger>(
     alloc: Global,
     words: &[String],
@@ -160,7 +161,7 @@ pub fn run<S: Store, I: Source, O: Sink, L: Ledger>(
     }
 }
 
-/// Words and files come to one outcome, faults of the store and want of memory aside.
+/// A law: words and files come to one outcome, faults of the store and want of memory aside.
 pub fn one_outcome()
     ensures { (words : List (List ℕ)) (all : Files) (o p : Outcome) → ComesTo words (Some all) o → ComesTo words (Some all) p → IsDecided o → IsDecided p → o ≡ p }
 {}

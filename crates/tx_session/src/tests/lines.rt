@@ -1,5 +1,5 @@
 // The lines of scripts, and their replies.
-use super::outside::{OF_A, Setting, ended, slowly_ended};
+use super::outside::{OF_A, Setting, ended, slowly_ended, slowly_read};
 use crate::Status;
 use std::marker::Brand;
 use std::sync::ledger::Blank;
@@ -122,5 +122,19 @@ fn a_script_has_a_greatest_length(rt: HostRuntime) -> Result<(), Fail> {
         assert_eq!(rt; ended, status, "at {start} {count}");
         assert_eq!(rt; written.as_slice(), text.as_bytes(), "at {start} {count}");
     }
+    Ok(())
+}
+
+// The reply to the first line can't be written, and no byte behind that line has been asked for.
+#[test]
+fn a_line_is_answered_before_more_is_read(rt: HostRuntime) -> Result<(), Fail> {
+    let setting = Setting {
+        script: b"tree\ntree\n",
+        room: 0,
+        ..OF_A
+    };
+    let (status, reads) = slowly_read::<Brand>(rt.alloc(), &setting, Blank::new(1))?;
+    assert_eq!(rt; status, Status::OutputFault);
+    assert_eq!(rt; reads, 5);
     Ok(())
 }

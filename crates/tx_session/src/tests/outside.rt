@@ -33,10 +33,11 @@ pub(super) const OF_A: Setting<'static> = Setting {
     room: 500,
 };
 
-// A source that gives one byte a call.
+// A source that gives one byte a call, and counts the calls.
 #[derive(Drop)]
 struct SlowSource {
     source: MemSource,
+    reads: usize,
 }
 
 impl Source for SlowSource {
@@ -46,6 +47,7 @@ impl Source for SlowSource {
 
     fn read(&mut self, into: &mut [u8]) -> Result<usize, Failed> {
         let mut one = [0u8];
+        self.reads = self.reads.saturating_add(1);
         let count = self.source.read(&mut one)?;
         if count > 0 {
             into[0] = one[0];
@@ -120,6 +122,25 @@ pub(super) fn slowly_ended<L: Ledger>(
 {
     let mut input = SlowSource {
         source: source_of(alloc, setting)?,
+        reads: 0,
     };
     ended_by::<SlowSource, L>(alloc, setting, &mut input, blank)
+}
+
+// The status, and how often the input was read that gives one byte a call.
+pub(super) fn slowly_read<L: Ledger>(
+    alloc: Global,
+    setting: &Setting,
+    blank: Blank,
+) -> Result<(Status, usize), AllocError>
+    requires name { blank.name ≡ L.name }
+    requires parts { blank.parts ≡ L.parts }
+    requires whole { blank.parts ≡ 1 }
+{
+    let mut input = SlowSource {
+        source: source_of(alloc, setting)?,
+        reads: 0,
+    };
+    let (status, _written) = ended_by::<SlowSource, L>(alloc, setting, &mut input, blank)?;
+    Ok((status, input.reads))
 }

@@ -10,7 +10,7 @@ const USAGE: &[u8] = b"usage: tmx [--width N] [--height N] FILE [STYLE]...\n";
 
 #[test]
 fn each_status_has_its_line(rt: HostRuntime) -> Result<(), Fail> {
-    let rows: [(&str, &[u8], &str, Status, &[u8]); 12] = [
+    let rows: [(&str, &[u8], &str, Status, &[u8]); 14] = [
         (
             "hello.scm",
             b"(document  \"hello\" )",
@@ -39,6 +39,8 @@ fn each_status_has_its_line(rt: HostRuntime) -> Result<(), Fail> {
             Status::Refused,
             b"refused hello.scm\n",
         ),
+        ("a.scm", b"(f)", "tmx|--help", Status::Words, USAGE),
+        ("a.scm", b"(f)", "tmx|-h", Status::Words, USAGE),
         (
             "x.tm",
             b"x",

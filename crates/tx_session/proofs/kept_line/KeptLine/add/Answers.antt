@@ -13,4 +13,4 @@ returns-clause-kept c = λ bytes k. record { front = c.in_ok-push.ensures.items 
 pub returns-in_err-push-clause-short : goal.returns-in_err-push-clause-short
 returns-in_err-push-clause-short c =
     err_anyway c.from_residual.result ((bytes : List ℕ) → Keeps c.args.self.now bytes → length bytes ≤ 1048576)
-        (λ bytes k. short_line bytes c.args.self.now.front.items 1048576 k.front (omega (arith, c.len.ensures, c.if-len-gt-MOST_LINE.false)))
+    (λ bytes k. short_line bytes c.args.self.now.front.items 1048576 k.front (omega (arith, c.len.ensures, c.if-len-gt-MOST_LINE.false)))
