@@ -6,5 +6,7 @@
 
 mod items;
 mod shapes;
+mod writer;
 
 pub use shapes::is_block;
+pub use writer::write;
