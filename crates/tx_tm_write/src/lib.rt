@@ -5,8 +5,10 @@
 #![tactic(auto)]
 
 mod items;
+mod lengths;
 mod shapes;
 mod writer;
 
+pub use lengths::length;
 pub use shapes::is_block;
 pub use writer::write;

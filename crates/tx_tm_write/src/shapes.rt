@@ -164,3 +164,11 @@ pub(crate) fn is_long(label: &Label, children: &[Tree]) -> bool
     }
     has_block(children, 0)
 }
+
+// Whether there is a tree at this place.
+#[tactic(auto, using(crate::proofs::Writing::some_behind))]
+pub(crate) fn has_more(trees: &[Tree], at: usize) -> bool
+    ensures { result ≡ some (forest (drop at trees.now)) }
+{
+    at < trees.len()
+}

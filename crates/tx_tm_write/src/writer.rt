@@ -1,11 +1,13 @@
 // The canonical text of a block.
 ghost use Rattle.std.specs.Prelude.{◌≡◌, ◌<◌, ◌≤◌, ◌+◌, ◌++◌, ◌∷◌, [], true, false, length, take, drop, get_or, OnOk, OnErr};
 ghost use Rattle.tx_tree.specs.WideTree.{forest, children_of, label_of};
-ghost use Rattle.tx_tm_write.specs.Shapes.{some, is_block, has_block, is_raw};
+ghost use Rattle.tx_tm_write.specs.Shapes.{is_block, has_block, is_raw};
 ghost use Rattle.tx_tm_write.specs.Canonical.{opened, next_mark, part_text, content_text, parts_text, arguments_text, long_text, long_part, paragraph_text, between, block_text, paragraphs_text, with_ends, tags_text, tm_text};
 
 use crate::items::append_items;
-use crate::shapes::{has_block, is_block, is_document, is_empty, is_inline, is_long, raw_digits};
+use crate::shapes::{
+    has_block, has_more, is_block, is_document, is_empty, is_inline, is_long, raw_digits,
+};
 use tx_base::Memory;
 use tx_tree::{Label, Tree};
 
@@ -38,14 +40,6 @@ fn next_mark(trees: &[Tree], from: usize) -> u8
     ensures { result ≡ next_mark (has_block (forest (drop from trees.now))) }
 {
     if has_block(trees, from) { b'|' } else { b'/' }
-}
-
-// Whether there is a tree at this place.
-#[tactic(auto, using(crate::proofs::Writing::some_behind))]
-fn has_more(trees: &[Tree], at: usize) -> bool
-    ensures { result ≡ some (forest (drop at trees.now)) }
-{
-    at < trees.len()
 }
 
 // Appends the short tag of a node with this label.
