@@ -7,6 +7,8 @@
 mod items;
 mod lengths;
 mod shapes;
+#[cfg(test)]
+mod tests;
 mod writer;
 
 pub use lengths::length;
