@@ -11,10 +11,10 @@ use tx_tree::{Label, Text, Tree};
 
 fn label_of(letter: u8) -> &'static [u8] {
     match letter {
-        b'D' => b"document",
-        b'C' => b"concat",
-        b'L' => b"collection",
-        b'R' => b"raw-data",
+        b'd' => b"document",
+        b'c' => b"concat",
+        b'l' => b"collection",
+        b'r' => b"raw-data",
         b'f' => b"f",
         _ => b"g",
     }
@@ -59,52 +59,52 @@ fn tree<L: Ledger>(alloc: Global, notation: &[u8], blank: Blank) -> Result<Tree,
 #[test]
 fn blocks_are_written(rt: HostRuntime) -> Result<(), Fail> {
     let rows: [(&[u8], &[u8]); 34] = [
-        (b"\"\"D1", b"\\;"),
-        (b"\" a  b \"\"\"D2", b"\\ a\\ \\ b\\ \n\n\\;"),
-        (b"\"a\"f0C2\"b\"C2D1", b"<concat|a|<f>>b"),
-        (b"\"a b\"D1", b"a b"),
-        (b"\"a  b\"D1", b"a\\ \\ b"),
-        (b"\" \"D1", b"\\ "),
-        (b"\"<a> <b>\"D1", b"\\<a\\> \\<b\\>"),
-        (b"\"<a|\\b>|\\\"D1", b"\\<a\\|\\\\b\\>\\|\\\\"),
+        (b"\"\"d1", b"\\;"),
+        (b"\" a  b \"\"\"d2", b"\\ a\\ \\ b\\ \n\n\\;"),
+        (b"\"a\"f0c2\"b\"c2d1", b"<concat|a|<f>>b"),
+        (b"\"a b\"d1", b"a b"),
+        (b"\"a  b\"d1", b"a\\ \\ b"),
+        (b"\" \"d1", b"\\ "),
+        (b"\"<a> <b>\"d1", b"\\<a\\> \\<b\\>"),
+        (b"\"<a|\\b>|\\\"d1", b"\\<a\\|\\\\b\\>\\|\\\\"),
         (
-            b"\"\x00\x01\x1b\x1c\x1d\x1f\x7f\xff\"D1",
+            b"\"\x00\x01\x1b\x1c\x1d\x1f\x7f\xff\"d1",
             b"\\@\\A\\[\x1c\\]\\_\x7f\xff",
         ),
-        (b"\";#/0I\"D1", b";#/0I"),
-        (b"\"a \"f0\" b\"C3D1", b"a <f> b"),
-        (b"\" a\"f0\"b \"C3D1", b"\\ a<f>b\\ "),
-        (b"\"a  \"f0C2D1", b"a\\ \\ <f>"),
-        (b"f0\" \"g0C3D1", b"<f> <g>"),
-        (b"\"a \"\" b\"C2D1", b"<concat|a\\ |\\ b>"),
-        (b"\"a\"C1D1", b"<concat|a>"),
-        (b"C0D1", b"<concat>"),
-        (b"f0\"\"C2D1", b"<concat|<f>|>"),
-        (b"f0g0C2D1", b"<f><g>"),
-        (b"\"x\"D1f0C2D1", b"<document|x><f>"),
-        (b"\"x\"D1C1D1", b"<\\concat>\nx\n</concat>"),
-        (b"\"\"f1D1", b"<f|>"),
-        (b"\" a \"\"b\"f2D1", b"<f|\\ a\\ |b>"),
-        (b"D0f1D1", b"<f|<document>>"),
+        (b"\";#/0I\"d1", b";#/0I"),
+        (b"\"a \"f0\" b\"c3d1", b"a <f> b"),
+        (b"\" a\"f0\"b \"c3d1", b"\\ a<f>b\\ "),
+        (b"\"a  \"f0c2d1", b"a\\ \\ <f>"),
+        (b"f0\" \"g0c3d1", b"<f> <g>"),
+        (b"\"a \"\" b\"c2d1", b"<concat|a\\ |\\ b>"),
+        (b"\"a\"c1d1", b"<concat|a>"),
+        (b"c0d1", b"<concat>"),
+        (b"f0\"\"c2d1", b"<concat|<f>|>"),
+        (b"f0g0c2d1", b"<f><g>"),
+        (b"\"x\"d1f0c2d1", b"<document|x><f>"),
+        (b"\"x\"d1c1d1", b"<\\concat>\nx\n</concat>"),
+        (b"\"\"f1d1", b"<f|>"),
+        (b"\" a \"\"b\"f2d1", b"<f|\\ a\\ |b>"),
+        (b"d0f1d1", b"<f|<document>>"),
         (
-            b"\"1\"\"x\"D1\"2\"\"y\"D1\"\"D1\"3\"\"\"f7D1",
+            b"\"1\"\"x\"d1\"2\"\"y\"d1\"\"d1\"3\"\"\"f7d1",
             b"<\\f|1>\nx\n<|f|2>\ny\n<|f>\n\\;\n</f|3|>",
         ),
-        (b"\"a\"\"b\"D2f1D1", b"<\\f>\na\n\nb\n</f>"),
+        (b"\"a\"\"b\"d2f1d1", b"<\\f>\na\n\nb\n</f>"),
         (
-            b"\"4aF\"R1\"\"R1\"g\"R1R0\"1\"\"2\"R2D5",
+            b"\"4aF\"r1\"\"r1\"g\"r1r0\"1\"\"2\"r2d5",
             b"<#4aF>\n\n<#>\n\n<raw-data|g>\n\n<raw-data>\n\n<raw-data|1|2>",
         ),
-        (b"f0R1D1", b"<raw-data|<f>>"),
-        (b"L0", b"<\\collection>\n</collection>"),
-        (b"f0\"0\"R1L2", b"<\\collection>\n<f>\n<#0>\n</collection>"),
-        (b"\"x\"D1L1", b"<\\collection>\n<document|x>\n</collection>"),
-        (b"f0L1D1", b"<collection|<f>>"),
+        (b"f0r1d1", b"<raw-data|<f>>"),
+        (b"l0", b"<\\collection>\n</collection>"),
+        (b"f0\"0\"r1l2", b"<\\collection>\n<f>\n<#0>\n</collection>"),
+        (b"\"x\"d1l1", b"<\\collection>\n<document|x>\n</collection>"),
+        (b"f0l1d1", b"<collection|<f>>"),
         (
-            b"f0L1g1D1",
+            b"f0l1g1d1",
             b"<\\g>\n<\\collection>\n<f>\n</collection>\n</g>",
         ),
-        (b"\"x\"L1g1D1", b"<g|<collection|x>>"),
+        (b"\"x\"l1g1d1", b"<g|<collection|x>>"),
     ];
     for (notation, want) in rows {
         let block = tree::<Brand>(rt.alloc(), notation, Blank::new(1))?;
@@ -123,7 +123,7 @@ fn blocks_are_written(rt: HostRuntime) -> Result<(), Fail> {
 
 #[test]
 fn trees_that_are_no_blocks(rt: HostRuntime) -> Result<(), Fail> {
-    let rows: [&[u8]; 5] = [b"\"a\"", b"D0", b"\"a\"L1", b"f0\"a\"L2", b"\"a\"D1f1"];
+    let rows: [&[u8]; 5] = [b"\"a\"", b"d0", b"\"a\"l1", b"f0\"a\"l2", b"\"a\"d1f1"];
     for notation in rows {
         let other = tree::<Brand>(rt.alloc(), notation, Blank::new(1))?;
         assert_eq!(rt; is_block(&other), false, "at {notation:?}");
