@@ -1,0 +1,3 @@
+pub mod Forms
+pub mod Writing
+pub mod Bounds
