@@ -7,6 +7,8 @@ ghost use Rattle.std.specs.Prelude.{◌≡◌};
 mod counts;
 mod file_store;
 mod standard;
+#[cfg(test)]
+mod tests;
 
 use file_store::FileStore;
 use standard::{StandardInput, StandardOutput};

@@ -1,5 +1,6 @@
 // The standard input and output.
-ghost use Rattle.std.specs.Prelude.{◌≡◌, None};
+ghost use Rattle.std.specs.Prelude.{◌≡◌, ◌≤◌, None, length, take, IfOk};
+ghost use Rattle.std.specs.Io.KnownBytes.{Appends};
 
 use crate::counts::raised;
 use std::io::{self, Read, Write};
@@ -13,7 +14,10 @@ pub(crate) struct StandardInput<R: Read + Drop> {
 }
 
 impl<R: Read + Drop> StandardInput<R> {
-    pub(crate) fn new(reader: R) -> StandardInput<R> {
+    pub(crate) fn new(reader: R) -> StandardInput<R>
+        ensures reader { result.reader ≡ reader }
+        ensures faults { result.faults ≡ 0 }
+    {
         StandardInput { reader, faults: 0 }
     }
 }
@@ -42,13 +46,19 @@ pub(crate) struct StandardOutput<W: Write + Drop> {
 }
 
 impl<W: Write + Drop> StandardOutput<W> {
-    pub(crate) fn new(writer: W) -> StandardOutput<W> {
+    pub(crate) fn new(writer: W) -> StandardOutput<W>
+        ensures writer { result.writer ≡ writer }
+        ensures faults { result.faults ≡ 0 }
+    {
         StandardOutput { writer, faults: 0 }
     }
 
     // Writes some of the piece, and flushes it.
+    #[tactic(auto, using(crate::proofs::Known::written_and_flushed))]
     fn write_some(&mut self, piece: &[u8]) -> io::Result<usize>
-        ensures { self.new.faults ≡ self.old.faults }
+        ensures within { IfOk result (λ n. n ≤ length piece.now) }
+        ensures appended { IfOk result (λ n. Appends (W.contents self.old.writer) (W.contents self.new.writer) (take n piece.now)) }
+        ensures faults { self.new.faults ≡ self.old.faults }
     {
         let count = self.writer.write(piece)?;
         self.writer.flush()?;

@@ -5,7 +5,7 @@ use Rattle.tx_base.specs.Fronts.{IsLongestFront}
 use Rattle.tx_cmd.specs.declared.command.CmdFault.{CmdFault}
 use Rattle.tx_cmd.specs.declared.command.CmdFault.TheVariants.{Long, Unknown, Args, Path, Tree, Memory}
 use Rattle.tx_cmd.specs.declared.words.Argument.{Argument}
-use Rattle.tx_cmd.specs.declared.words.Argument.TheVariants.{Path as PathArgument, Number as NumberArgument, Label as LabelArgument, Tree as TreeArgument}
+use Rattle.tx_cmd.specs.declared.words.Argument.TheVariants.{Path as PathArgument, Number as NumberArgument, Label as LabelArgument, Name as NameArgument, Tree as TreeArgument}
 use Rattle.tx_cmd.specs.declared.words.Word.{Word}
 use Rattle.tx_cmd.specs.Words.{first_word, word_text, arguments_of, AreLoose, IsLoose}
 use Rattle.tx_cmd.specs.Values.{Value, kind_of, Means, HasMeaning}
@@ -66,6 +66,7 @@ bad_kind PathArgument piece at f h = bad_path_kind piece at f h
 bad_kind TreeArgument piece at f h = bad_tree_kind piece at f h
 bad_kind NumberArgument piece at f h = absurd h
 bad_kind LabelArgument piece at f h = absurd h
+bad_kind NameArgument piece at f h = absurd h
 
 first_kind : (arguments : List Argument) (bytes : List ℕ) (at : ℕ) (f : CmdFault) → IsFirstFault arguments bytes at f → IsPieceFault f
 first_kind [] bytes at f h = absurd h

@@ -1,6 +1,7 @@
 pub mod Splits
 pub mod Fronts
 pub mod Numerals
+pub mod Names
 pub mod WordTexts
 pub mod LooseFronts
 pub mod Faults

@@ -4,7 +4,7 @@ use Rattle.std.proofs.lemmas.List.{append-nil, take_rest, append_cancel_left}
 use Rattle.std.proofs.lemmas.Bool.{cases_lt}
 use Rattle.tx_base.specs.Fronts.{IsFront, IsLongestFront}
 use Rattle.tx_cmd.specs.declared.words.Argument.{Argument}
-use Rattle.tx_cmd.specs.declared.words.Argument.TheVariants.{Path as PathArgument, Number as NumberArgument, Label as LabelArgument, Tree as TreeArgument}
+use Rattle.tx_cmd.specs.declared.words.Argument.TheVariants.{Path as PathArgument, Number as NumberArgument, Label as LabelArgument, Name as NameArgument, Tree as TreeArgument}
 use Rattle.tx_cmd.specs.declared.words.Word.{Word}
 use Rattle.tx_cmd.specs.Words.{HasNoSpace, IsLoosePiece, AreLoose, IsLoose, arguments_of, word_text}
 use Rattle.tx_cmd.specs.Pieces.{IsTail, EndsPiece, IsCut, tree_is_last, IsMisfit, IsPieceMisfit}
@@ -12,6 +12,7 @@ use Rattle.tx_cmd.proofs.Splits.{one_piece, GoesOn, split_front}
 use Rattle.tx_cmd.proofs.Fronts.{ends_behind}
 use Rattle.tx_cmd.proofs.WordTexts.{one_word}
 use Rattle.tx_cmd.proofs.Numerals.{numeral_no_space, label_no_space, some_numeral, some_label}
+use Rattle.tx_cmd.proofs.Names.{name_no_space, some_name}
 
 -- ---- pieces of each kind
 
@@ -19,6 +20,7 @@ some_piece : (a : Argument) → (piece : List ℕ) × IsLoosePiece a piece
 some_piece PathArgument = ([], tt)
 some_piece NumberArgument = (48 ∷ [], some_numeral)
 some_piece LabelArgument = (97 ∷ [], some_label)
+some_piece NameArgument = (97 ∷ [], some_name)
 some_piece TreeArgument = ([], tt)
 
 pub some_loose : (arguments : List Argument) → (bytes : List ℕ) × AreLoose arguments bytes
@@ -37,6 +39,7 @@ pub last_of : (a : Argument) (more : List Argument) → tree_is_last (a ∷ more
 last_of PathArgument more h = h
 last_of NumberArgument more h = h
 last_of LabelArgument more h = h
+last_of NameArgument more h = h
 last_of TreeArgument more h = subst (λ x. tree_is_last x ≡ true) (sym (nil_tree more h)) refl
 
 -- what stands for the arguments is cut where it ends
@@ -44,6 +47,7 @@ pub loose_ends : (a : Argument) (more : List Argument) (piece rest : List ℕ) �
 loose_ends PathArgument more piece rest o h k = (h, loose_tail more rest k)
 loose_ends NumberArgument more piece rest o h k = (numeral_no_space piece h, loose_tail more rest k)
 loose_ends LabelArgument more piece rest o h k = (label_no_space piece h, loose_tail more rest k)
+loose_ends NameArgument more piece rest o h k = (name_no_space piece h, loose_tail more rest k)
 loose_ends TreeArgument more piece rest o h k = subst (λ x. AreLoose x rest) (nil_tree more o) k
 
 -- ---- there is one way to cut
@@ -52,6 +56,7 @@ pub one_cut : (a : Argument) (p q r s : List ℕ) → 32 ∷ (p ++ r) ≡ 32 ∷
 one_cut PathArgument p q r s e h k = let same : p ++ r ≡ q ++ s = cc in one_piece p q r s same h.0 k.0 h.1 k.1
 one_cut NumberArgument p q r s e h k = let same : p ++ r ≡ q ++ s = cc in one_piece p q r s same h.0 k.0 h.1 k.1
 one_cut LabelArgument p q r s e h k = let same : p ++ r ≡ q ++ s = cc in one_piece p q r s same h.0 k.0 h.1 k.1
+one_cut NameArgument p q r s e h k = let same : p ++ r ≡ q ++ s = cc in one_piece p q r s same h.0 k.0 h.1 k.1
 one_cut TreeArgument p q r s e h k =
     let same : p ++ r ≡ q ++ s = cc in
     (sym (append-nil p) ∙ ap (λ x. p ++ x) (sym h) ∙ same ∙ ap (λ x. q ++ x) k ∙ append-nil q, h ∙ sym k)
@@ -140,6 +145,7 @@ misfit_here : (a : Argument) (more : List Argument) (bytes piece rest : List ℕ
 misfit_here PathArgument more bytes piece rest n c h = absurd (h.1 c.ends.0)
 misfit_here NumberArgument more bytes piece rest n c h = stops_here NumberArgument more bytes piece rest n numeral_no_space c.ends.0 c.ends.1 c.are h
 misfit_here LabelArgument more bytes piece rest n c h = stops_here LabelArgument more bytes piece rest n label_no_space c.ends.0 c.ends.1 c.are h
+misfit_here NameArgument more bytes piece rest n c h = stops_here NameArgument more bytes piece rest n name_no_space c.ends.0 c.ends.1 c.are h
 misfit_here TreeArgument more bytes piece rest n c h = absurd (h.1 tt)
 
 -- ---- pieces behind one that fits
@@ -187,6 +193,7 @@ misfit_behind : (a : Argument) (more : List Argument) (bytes piece rest : List �
 misfit_behind PathArgument more bytes piece rest n o c p h = stops_behind PathArgument more bytes piece rest n (λ q k. k) c.ends.0 c.ends.1 c.are p h
 misfit_behind NumberArgument more bytes piece rest n o c p h = stops_behind NumberArgument more bytes piece rest n numeral_no_space c.ends.0 c.ends.1 c.are p h
 misfit_behind LabelArgument more bytes piece rest n o c p h = stops_behind LabelArgument more bytes piece rest n label_no_space c.ends.0 c.ends.1 c.are p h
+misfit_behind NameArgument more bytes piece rest n o c p h = stops_behind NameArgument more bytes piece rest n name_no_space c.ends.0 c.ends.1 c.are p h
 misfit_behind TreeArgument more bytes piece rest n o c p h = absurd (h.1 (subst (λ x. AreLoose x rest) (sym (nil_tree more o)) c.ends))
 
 -- ---- by the first argument and the others

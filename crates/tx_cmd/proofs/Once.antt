@@ -2,29 +2,29 @@
 use Rattle.std.proofs.Common.{◌≡◌, ◌≢◌, ℕ, ◌+◌, true, List, [], ◌∷◌, ◌++◌, length, ◌⊎◌, ⊎_elim, refl, sym, ap, subst, ◌∙◌, arith}
 use Rattle.std.proofs.lemmas.List.{append_cancel_left}
 use Rattle.tx_tree.specs.Labels.{IsLabel}
-use Rattle.tx_tree.specs.Limits.{IsWithinLimits}
 use Rattle.tx_tree.specs.PathSpelling.{IsPathSpelling, IsPathFault}
-use Rattle.tx_tree.specs.WideTree.{WideTree}
 use Rattle.tx_tree.specs.declared.faults.PathFault.TheVariants.{BadPath}
-use Rattle.tx_tree.specs.declared.faults.ReadFault.TheVariants.{NoTree, Memory as ReadMemory}
+use Rattle.tx_tree.specs.declared.faults.ReadFault.{ReadFault}
+use Rattle.tx_scm.specs.Faults.{IsSchemeFault}
+use Rattle.tx_scm.proofs.OneFault.{once, none}
+use Rattle.tx_cmd.specs.Moved.{moved}
 use Rattle.tx_tree.proofs.PathsOnce.{spelled_once as path_once}
-use Rattle.tx_scm.specs.Spelling.{Spells}
 use Rattle.tx_scm.proofs.Complete.{spelled_once as tree_once}
 use Rattle.tx_mod.specs.declared.mods.Mod.{Mod}
 use Rattle.tx_mod.specs.declared.mods.Mod.TheVariants.{Assign, Insert, Remove, Split, Join, AssignNode, InsertNode, RemoveNode}
 use Rattle.tx_mod.specs.Mods.{path_of}
 use Rattle.tx_cmd.specs.declared.command.Command.{Command}
-use Rattle.tx_cmd.specs.declared.command.Command.TheVariants.{Change, Undo, Redo, Go, Cursor, Show, Tree, Quit}
+use Rattle.tx_cmd.specs.declared.command.Command.TheVariants.{Change, Undo, Redo, Go, Cursor, Show, Tree, Save, Quit}
 use Rattle.tx_cmd.specs.declared.command.CmdFault.{CmdFault}
 use Rattle.tx_cmd.specs.declared.command.CmdFault.TheVariants.{Long, Unknown, Args, Path, Tree as TreeFault, Memory}
 use Rattle.tx_cmd.specs.declared.words.ModWord.{ModWord}
 use Rattle.tx_cmd.specs.declared.words.ModWord.TheVariants.{Assign as AssignWord, Insert as InsertWord, Remove as RemoveWord, Split as SplitWord, Join as JoinWord, AssignNode as AssignNodeWord, InsertNode as InsertNodeWord, RemoveNode as RemoveNodeWord}
 use Rattle.tx_cmd.specs.declared.words.Word.{Word}
-use Rattle.tx_cmd.specs.declared.words.Word.TheVariants.{Change as ChangeWord, Undo as UndoWord, Redo as RedoWord, Go as GoWord, Cursor as CursorWord, Show as ShowWord, Tree as TreeWord}
+use Rattle.tx_cmd.specs.declared.words.Word.TheVariants.{Change as ChangeWord, Undo as UndoWord, Redo as RedoWord, Go as GoWord, Cursor as CursorWord, Show as ShowWord, Tree as TreeWord, Save as SaveWord}
 use Rattle.tx_cmd.specs.declared.words.Argument.{Argument}
-use Rattle.tx_cmd.specs.declared.words.Argument.TheVariants.{Path as PathArgument, Number as NumberArgument, Label as LabelArgument, Tree as TreeArgument}
-use Rattle.tx_cmd.specs.Words.{word_text, arguments_of, arguments_behind, first_word, IsKnown, IsLoosePiece, AreLoose, IsLoose}
-use Rattle.tx_cmd.specs.Values.{Value, a_path, a_number, a_label, a_tree, kind_of, Means, Mean, HasMeaning}
+use Rattle.tx_cmd.specs.declared.words.Argument.TheVariants.{Path as PathArgument, Number as NumberArgument, Label as LabelArgument, Name as NameArgument, Tree as TreeArgument}
+use Rattle.tx_cmd.specs.Words.{word_text, arguments_of, arguments_behind, first_word, IsName, IsKnown, IsLoosePiece, AreLoose, IsLoose}
+use Rattle.tx_cmd.specs.Values.{Value, a_path, a_number, a_label, a_name, a_tree, kind_of, Means, Mean, HasMeaning}
 use Rattle.tx_cmd.specs.Commands.{mod_word, values_behind, word_of, values_of, IsCommand}
 use Rattle.tx_cmd.specs.Pieces.{IsTail, tree_is_last}
 use Rattle.tx_cmd.specs.Refusals.{IsBadPath, IsBadTree, IsBadPiece, IsFirstFault, IsRefused, IsCmdFault}
@@ -44,18 +44,27 @@ one_value : (piece : List ℕ) (v u : Value) → kind_of v ≡ kind_of u → Mea
 one_value piece (a_path p) (a_path q) e h k = ap (λ x. a_path x) (path_once piece p q h k)
 one_value piece (a_path p) (a_number n) e h k = absurd cc
 one_value piece (a_path p) (a_label l) e h k = absurd cc
+one_value piece (a_path p) (a_name n) e h k = absurd cc
 one_value piece (a_path p) (a_tree t) e h k = absurd cc
 one_value piece (a_number n) (a_path p) e h k = absurd cc
 one_value piece (a_number n) (a_number m) e h k = ap (λ x. a_number x) (h.value ∙ sym k.value)
 one_value piece (a_number n) (a_label l) e h k = absurd cc
+one_value piece (a_number n) (a_name m) e h k = absurd cc
 one_value piece (a_number n) (a_tree t) e h k = absurd cc
 one_value piece (a_label l) (a_path p) e h k = absurd cc
 one_value piece (a_label l) (a_number n) e h k = absurd cc
 one_value piece (a_label l) (a_label m) e h k = ap (λ x. a_label x) (sym h.1 ∙ k.1)
+one_value piece (a_label l) (a_name n) e h k = absurd cc
 one_value piece (a_label l) (a_tree t) e h k = absurd cc
+one_value piece (a_name n) (a_path p) e h k = absurd cc
+one_value piece (a_name n) (a_number m) e h k = absurd cc
+one_value piece (a_name n) (a_label l) e h k = absurd cc
+one_value piece (a_name n) (a_name m) e h k = ap (λ x. a_name x) (sym h.1 ∙ k.1)
+one_value piece (a_name n) (a_tree t) e h k = absurd cc
 one_value piece (a_tree t) (a_path p) e h k = absurd cc
 one_value piece (a_tree t) (a_number n) e h k = absurd cc
 one_value piece (a_tree t) (a_label l) e h k = absurd cc
+one_value piece (a_tree t) (a_name n) e h k = absurd cc
 one_value piece (a_tree t) (a_tree u) e h k = ap (λ x. a_tree x) (tree_once piece t u h.0 k.0)
 
 -- what means something may stand for it
@@ -63,6 +72,7 @@ means_loose : (piece : List ℕ) (v : Value) → Means piece v → IsLoosePiece 
 means_loose piece (a_path p) h = path_no_space p piece h
 means_loose piece (a_number n) h = (n, h)
 means_loose piece (a_label l) h = subst IsLabel (sym h.1) h.0
+means_loose piece (a_name n) h = subst IsName (sym h.1) h.0
 means_loose piece (a_tree t) h = tt
 
 mean_loose : (values : List Value) (bytes : List ℕ) → Mean bytes values → AreLoose (kinds values) bytes
@@ -103,6 +113,7 @@ command_kinds (Go p) = refl
 command_kinds Cursor = refl
 command_kinds Show = refl
 command_kinds Tree = refl
+command_kinds (Save n) = refl
 command_kinds Quit = refl
 
 -- the command of a word and values, or quit where there is none
@@ -120,6 +131,7 @@ mod_made word p values = Quit
 abbrev made : Word → List Value → Command
 made (ChangeWord word) (a_path p ∷ values) = mod_made word p values
 made GoWord (a_path p ∷ []) = Go p
+made SaveWord (a_name n ∷ []) = Save n
 made UndoWord [] = Undo
 made RedoWord [] = Redo
 made CursorWord [] = Cursor
@@ -145,6 +157,7 @@ made_again (Go p) = refl
 made_again Cursor = refl
 made_again Show = refl
 made_again Tree = refl
+made_again (Save n) = refl
 made_again Quit = refl
 
 -- the word of a line, and what stands behind it, are the same however it is read
@@ -178,9 +191,8 @@ bad_path_is piece at (Args n) h = absurd h
 bad_path_is piece at (TreeFault fault) h = absurd h
 bad_path_is piece at Memory h = absurd h
 
-bad_tree_is : (piece : List ℕ) (at : ℕ) (f : CmdFault) → IsBadTree piece at f → ((t : WideTree) → IsWithinLimits t → Spells piece t → ⊥) × (f ≡ TreeFault NoTree)
-bad_tree_is piece at (TreeFault NoTree) h = (h, refl)
-bad_tree_is piece at (TreeFault ReadMemory) h = absurd h
+bad_tree_is : (piece : List ℕ) (at : ℕ) (f : CmdFault) → IsBadTree piece at f → (there : ReadFault) × IsSchemeFault piece there × (f ≡ TreeFault (moved at there))
+bad_tree_is piece at (TreeFault fault) h = (h.0, h.1, ap (λ x. TreeFault x) h.2)
 bad_tree_is piece at (Long n) h = absurd h
 bad_tree_is piece at Unknown h = absurd h
 bad_tree_is piece at (Args n) h = absurd h
@@ -192,21 +204,28 @@ one_bad PathArgument piece at f g h k =
     let x = bad_path_is piece at f h in
     let y = bad_path_is piece at g k in
     x.2 ∙ ap (λ n. Path (at + n)) (one_front IsPathSpelling piece x.0 y.0 x.1.0 y.1.0) ∙ sym y.2
-one_bad TreeArgument piece at f g h k = (bad_tree_is piece at f h).1 ∙ sym (bad_tree_is piece at g k).1
+one_bad TreeArgument piece at f g h k =
+    let x = bad_tree_is piece at f h in
+    let y = bad_tree_is piece at g k in
+    x.2 ∙ ap (λ there. TreeFault (moved at there)) (once piece x.0 y.0 x.1 y.1) ∙ sym y.2
 one_bad NumberArgument piece at f g h k = absurd h
 one_bad LabelArgument piece at f g h k = absurd h
+one_bad NameArgument piece at f g h k = absurd h
 
 bad_means_none : (a : Argument) (piece : List ℕ) (at : ℕ) (f : CmdFault) (v : Value) → kind_of v ≡ a → IsBadPiece a piece at f → Means piece v → ⊥
 bad_means_none PathArgument piece at f (a_path p) e h k = (bad_path_is piece at f h).1.1 (p, k)
 bad_means_none PathArgument piece at f (a_number n) e h k = absurd cc
 bad_means_none PathArgument piece at f (a_label l) e h k = absurd cc
+bad_means_none PathArgument piece at f (a_name n) e h k = absurd cc
 bad_means_none PathArgument piece at f (a_tree t) e h k = absurd cc
-bad_means_none TreeArgument piece at f (a_tree t) e h k = (bad_tree_is piece at f h).0 t k.1 k.0
+bad_means_none TreeArgument piece at f (a_tree t) e h k = let x = bad_tree_is piece at f h in none piece x.0 t x.1 k.0 k.1
 bad_means_none TreeArgument piece at f (a_path p) e h k = absurd cc
 bad_means_none TreeArgument piece at f (a_number n) e h k = absurd cc
 bad_means_none TreeArgument piece at f (a_label l) e h k = absurd cc
+bad_means_none TreeArgument piece at f (a_name n) e h k = absurd cc
 bad_means_none NumberArgument piece at f v e h k = h
 bad_means_none LabelArgument piece at f v e h k = h
+bad_means_none NameArgument piece at f v e h k = h
 
 first_loose : (arguments : List Argument) (bytes : List ℕ) (at : ℕ) (f : CmdFault) → IsFirstFault arguments bytes at f → AreLoose arguments bytes
 first_loose [] bytes at f h = absurd h

@@ -6,7 +6,7 @@ use Rattle.std.proofs.lemmas.Bool.{eqb-true}
 use borrow.Author.Tests.{eqb-false}
 use Rattle.tx_cmd.specs.Words.{HasNoSpace, first_word}
 use Rattle.tx_cmd.specs.declared.words.Argument.{Argument}
-use Rattle.tx_cmd.specs.declared.words.Argument.TheVariants.{Path as PathArgument, Number as NumberArgument, Label as LabelArgument, Tree as TreeArgument}
+use Rattle.tx_cmd.specs.declared.words.Argument.TheVariants.{Path as PathArgument, Number as NumberArgument, Label as LabelArgument, Name as NameArgument, Tree as TreeArgument}
 use Rattle.tx_cmd.specs.Pieces.{IsTail, EndsPiece, IsCut}
 
 -- ---- what stands before the first space
@@ -56,6 +56,7 @@ ends_not_tree : (a : Argument) (piece rest : List ℕ) → (a ≡ TreeArgument �
 ends_not_tree PathArgument piece rest other h t = (h, t)
 ends_not_tree NumberArgument piece rest other h t = (h, t)
 ends_not_tree LabelArgument piece rest other h t = (h, t)
+ends_not_tree NameArgument piece rest other h t = (h, t)
 ends_not_tree TreeArgument piece rest other h t = absurd (other refl)
 
 -- behind a space that begins the bytes

@@ -5,7 +5,7 @@ use Rattle.std.proofs.lemmas.Bool.{and_parts}
 use borrow.Author.Tests.{eqb-false}
 use Rattle.tx_cmd.specs.declared.words.ModWord.TheVariants.{Assign, Insert, Remove, Split, Join, AssignNode, InsertNode, RemoveNode}
 use Rattle.tx_cmd.specs.declared.words.Word.{Word}
-use Rattle.tx_cmd.specs.declared.words.Word.TheVariants.{Change, Undo, Redo, Go, Cursor, Show, Tree, Quit}
+use Rattle.tx_cmd.specs.declared.words.Word.TheVariants.{Change, Undo, Redo, Go, Cursor, Show, Tree, Save, Quit}
 use Rattle.tx_cmd.specs.Words.{word_text, arguments_of, HasNoSpace}
 use Rattle.tx_cmd.specs.Pieces.{tree_is_last}
 
@@ -15,7 +15,7 @@ word_named x =
     cond (bytes_eq x (codes "assign")) (Change Assign) (cond (bytes_eq x (codes "insert")) (Change Insert) (cond (bytes_eq x (codes "remove")) (Change Remove) (cond (bytes_eq x (codes "split")) (Change Split)
     (cond (bytes_eq x (codes "join")) (Change Join) (cond (bytes_eq x (codes "assign-node")) (Change AssignNode) (cond (bytes_eq x (codes "insert-node")) (Change InsertNode)
     (cond (bytes_eq x (codes "remove-node")) (Change RemoveNode) (cond (bytes_eq x (codes "undo")) Undo (cond (bytes_eq x (codes "redo")) Redo (cond (bytes_eq x (codes "go")) Go
-    (cond (bytes_eq x (codes "cursor")) Cursor (cond (bytes_eq x (codes "show")) Show (cond (bytes_eq x (codes "tree")) Tree Quit)))))))))))))
+    (cond (bytes_eq x (codes "cursor")) Cursor (cond (bytes_eq x (codes "show")) Show (cond (bytes_eq x (codes "tree")) Tree (cond (bytes_eq x (codes "save")) Save Quit))))))))))))))
 
 named : (w : Word) → word_named (word_text w) ≡ w
 named (Change Assign) = refl
@@ -32,6 +32,7 @@ named Go = refl
 named Cursor = refl
 named Show = refl
 named Tree = refl
+named Save = refl
 named Quit = refl
 
 pub one_word : (w v : Word) → word_text w ≡ word_text v → w ≡ v
@@ -64,6 +65,7 @@ spelled_without Go = refl
 spelled_without Cursor = refl
 spelled_without Show = refl
 spelled_without Tree = refl
+spelled_without Save = refl
 spelled_without Quit = refl
 
 pub word_no_space : (w : Word) → HasNoSpace (word_text w)
@@ -84,4 +86,5 @@ arguments_in_order Go = refl
 arguments_in_order Cursor = refl
 arguments_in_order Show = refl
 arguments_in_order Tree = refl
+arguments_in_order Save = refl
 arguments_in_order Quit = refl

@@ -5,13 +5,13 @@ use Rattle.tx_mod.specs.declared.mods.Mod.TheVariants.{Assign, Insert, Remove, S
 use Rattle.tx_mod.specs.Mods.{path_of}
 use Rattle.tx_cmd.specs.declared.TheConstants.{MOST_LINE}
 use Rattle.tx_cmd.specs.declared.command.Command.{Command}
-use Rattle.tx_cmd.specs.declared.command.Command.TheVariants.{Change, Undo, Redo, Go, Cursor, Show, Tree, Quit}
+use Rattle.tx_cmd.specs.declared.command.Command.TheVariants.{Change, Undo, Redo, Go, Cursor, Show, Tree, Save, Quit}
 use Rattle.tx_cmd.specs.declared.words.ModWord.{ModWord}
 use Rattle.tx_cmd.specs.declared.words.ModWord.TheVariants.{Assign as AssignWord, Insert as InsertWord, Remove as RemoveWord, Split as SplitWord, Join as JoinWord, AssignNode as AssignNodeWord, InsertNode as InsertNodeWord, RemoveNode as RemoveNodeWord}
 use Rattle.tx_cmd.specs.declared.words.Word.{Word}
-use Rattle.tx_cmd.specs.declared.words.Word.TheVariants.{Change as ChangeWord, Undo as UndoWord, Redo as RedoWord, Go as GoWord, Cursor as CursorWord, Show as ShowWord, Tree as TreeWord, Quit as QuitWord}
+use Rattle.tx_cmd.specs.declared.words.Word.TheVariants.{Change as ChangeWord, Undo as UndoWord, Redo as RedoWord, Go as GoWord, Cursor as CursorWord, Show as ShowWord, Tree as TreeWord, Save as SaveWord, Quit as QuitWord}
 use Rattle.tx_cmd.specs.Words.{word_text}
-use Rattle.tx_cmd.specs.Values.{Value, a_path, a_number, a_label, a_tree, Mean}
+use Rattle.tx_cmd.specs.Values.{Value, a_path, a_number, a_label, a_name, a_tree, Mean}
 
 -- the first word of a modification
 abbrev pub mod_word : Mod → ModWord
@@ -44,12 +44,14 @@ word_of (Go p) = GoWord
 word_of Cursor = CursorWord
 word_of Show = ShowWord
 word_of Tree = TreeWord
+word_of (Save n) = SaveWord
 word_of Quit = QuitWord
 
 -- what it takes behind that word
 abbrev pub values_of : Command → List Value
 values_of (Change m) = a_path (path_of m) ∷ values_behind m
 values_of (Go p) = a_path p ∷ []
+values_of (Save n) = a_name n ∷ []
 values_of Undo = []
 values_of Redo = []
 values_of Cursor = []

@@ -2,4 +2,5 @@ pub mod Words
 pub mod Values
 pub mod Commands
 pub mod Pieces
+pub mod Moved
 pub mod Refusals

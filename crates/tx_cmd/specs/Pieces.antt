@@ -4,7 +4,7 @@ use Rattle.tx_base.specs.Fronts.{IsLongestFront}
 use Rattle.tx_tree.specs.declared.TheConstants.{MOST_NUMBER}
 use Rattle.tx_tree.specs.PathSpelling.{is_digit}
 use Rattle.tx_cmd.specs.declared.words.Argument.{Argument}
-use Rattle.tx_cmd.specs.declared.words.Argument.TheVariants.{Path as PathArgument, Number as NumberArgument, Label as LabelArgument, Tree as TreeArgument}
+use Rattle.tx_cmd.specs.declared.words.Argument.TheVariants.{Path as PathArgument, Number as NumberArgument, Label as LabelArgument, Name as NameArgument, Tree as TreeArgument}
 use Rattle.tx_cmd.specs.Words.{HasNoSpace, IsLoosePiece, AreLoose}
 
 -- nothing, or what begins with a space
@@ -18,6 +18,7 @@ EndsPiece TreeArgument piece rest = rest ≡ []
 EndsPiece PathArgument piece rest = HasNoSpace piece × IsTail rest
 EndsPiece NumberArgument piece rest = HasNoSpace piece × IsTail rest
 EndsPiece LabelArgument piece rest = HasNoSpace piece × IsTail rest
+EndsPiece NameArgument piece rest = HasNoSpace piece × IsTail rest
 
 -- the bytes are a space, the piece for the argument, and the rest
 pub record IsCut (a : Argument) (bytes piece rest : List ℕ) : Type 0 where
@@ -32,6 +33,7 @@ tree_is_last (TreeArgument ∷ b ∷ more) = false
 tree_is_last (PathArgument ∷ more) = tree_is_last more
 tree_is_last (NumberArgument ∷ more) = tree_is_last more
 tree_is_last (LabelArgument ∷ more) = tree_is_last more
+tree_is_last (NameArgument ∷ more) = tree_is_last more
 
 -- whether the bytes are pieces that may stand for the arguments, or the end of their longest front that begins such
 abbrev pub IsMisfit : List Argument → List ℕ → Option ℕ → Type 0

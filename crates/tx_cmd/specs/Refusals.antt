@@ -1,20 +1,19 @@
 -- Why a line is no command: the first of the causes, in the order in which they stand here.
 use Rattle.std.specs.Prelude.{◌≡◌, ℕ, ◌+◌, ◌<◌, ◌≤◌, ◌⊎◌, List, [], ◌∷◌, ◌++◌, length}
 use Rattle.tx_base.specs.Fronts.{IsLongestFront}
-use Rattle.tx_tree.specs.WideTree.{WideTree}
-use Rattle.tx_tree.specs.Limits.{IsWithinLimits}
 use Rattle.tx_tree.specs.PathSpelling.{IsPathFault}
 use Rattle.tx_tree.specs.declared.faults.PathFault.TheVariants.{BadPath}
-use Rattle.tx_tree.specs.declared.faults.ReadFault.TheVariants.{NoTree, Memory as ReadMemory}
-use Rattle.tx_scm.specs.Spelling.{Spells}
+use Rattle.tx_tree.specs.declared.faults.ReadFault.{ReadFault}
+use Rattle.tx_scm.specs.Faults.{IsSchemeFault}
 use Rattle.tx_cmd.specs.declared.TheConstants.{MOST_LINE}
 use Rattle.tx_cmd.specs.declared.command.CmdFault.{CmdFault}
 use Rattle.tx_cmd.specs.declared.command.CmdFault.TheVariants.{Long, Unknown, Args, Path, Tree, Memory}
 use Rattle.tx_cmd.specs.declared.words.Argument.{Argument}
-use Rattle.tx_cmd.specs.declared.words.Argument.TheVariants.{Path as PathArgument, Number as NumberArgument, Label as LabelArgument, Tree as TreeArgument}
+use Rattle.tx_cmd.specs.declared.words.Argument.TheVariants.{Path as PathArgument, Number as NumberArgument, Label as LabelArgument, Name as NameArgument, Tree as TreeArgument}
 use Rattle.tx_cmd.specs.declared.words.Word.{Word}
 use Rattle.tx_cmd.specs.Words.{word_text, arguments_of, first_word, IsKnown, IsLoosePiece, AreLoose, IsLoose}
 use Rattle.tx_cmd.specs.Values.{HasMeaning}
+use Rattle.tx_cmd.specs.Moved.{moved}
 
 -- the bytes are no path, and so many of the line's bytes, of which the piece begins at this place, begin one
 abbrev pub IsBadPath : List ℕ → ℕ → CmdFault → Type 0
@@ -25,10 +24,9 @@ IsBadPath piece at (Args n) = ⊥
 IsBadPath piece at (Tree fault) = ⊥
 IsBadPath piece at Memory = ⊥
 
--- the bytes spell no tree within the limits
+-- why the bytes spell no tree within the limits, with all places counted in the line, where the piece begins at this place
 abbrev pub IsBadTree : List ℕ → ℕ → CmdFault → Type 0
-IsBadTree piece at (Tree NoTree) = (t : WideTree) → IsWithinLimits t → Spells piece t → ⊥
-IsBadTree piece at (Tree ReadMemory) = ⊥
+IsBadTree piece at (Tree fault) = (there : ReadFault) × IsSchemeFault piece there × (fault ≡ moved at there)
 IsBadTree piece at (Long n) = ⊥
 IsBadTree piece at Unknown = ⊥
 IsBadTree piece at (Args n) = ⊥
@@ -41,6 +39,7 @@ IsBadPiece PathArgument piece at fault = IsBadPath piece at fault
 IsBadPiece TreeArgument piece at fault = IsBadTree piece at fault
 IsBadPiece NumberArgument piece at fault = ⊥
 IsBadPiece LabelArgument piece at fault = ⊥
+IsBadPiece NameArgument piece at fault = ⊥
 
 -- The fault of the first piece that stands for none. The bytes begin at this place of the line.
 abbrev pub IsFirstFault : List Argument → List ℕ → ℕ → CmdFault → Type 0

@@ -5,19 +5,22 @@ use Rattle.tx_tree.specs.Labels.{IsLabel}
 use Rattle.tx_tree.specs.Limits.{IsWithinLimits}
 use Rattle.tx_tree.specs.WideTree.{WideTree, nodes_of}
 use Rattle.tx_scm.specs.Spelling.{Spells}
+use Rattle.tx_cmd.specs.Words.{IsName}
 use Rattle.tx_cmd.specs.declared.words.Argument.{Argument}
-use Rattle.tx_cmd.specs.declared.words.Argument.TheVariants.{Path as PathArgument, Number as NumberArgument, Label as LabelArgument, Tree as TreeArgument}
+use Rattle.tx_cmd.specs.declared.words.Argument.TheVariants.{Path as PathArgument, Number as NumberArgument, Label as LabelArgument, Name as NameArgument, Tree as TreeArgument}
 
 pub data Value : Type 0 where
   a_path : (path : List ℕ) → Value
   a_number : (n : ℕ) → Value
   a_label : (label : List ℕ) → Value
+  a_name : (name : List ℕ) → Value
   a_tree : (t : WideTree) → Value
 
 abbrev pub kind_of : Value → Argument
 kind_of (a_path p) = PathArgument
 kind_of (a_number n) = NumberArgument
 kind_of (a_label l) = LabelArgument
+kind_of (a_name n) = NameArgument
 kind_of (a_tree t) = TreeArgument
 
 -- the piece is how the value is written
@@ -25,6 +28,7 @@ abbrev pub Means : List ℕ → Value → Type 0
 Means piece (a_path p) = SpellsPath piece p
 Means piece (a_number n) = IsNumber piece n
 Means piece (a_label l) = IsLabel l × (piece ≡ l)
+Means piece (a_name n) = IsName n × (piece ≡ n)
 Means piece (a_tree t) = Spells piece t × IsWithinLimits t
 
 -- the bytes are a space and a piece for each value
@@ -43,3 +47,4 @@ nodes_in (a_tree t ∷ values) = nodes_of t + nodes_in values
 nodes_in (a_path p ∷ values) = nodes_in values
 nodes_in (a_number n ∷ values) = nodes_in values
 nodes_in (a_label l ∷ values) = nodes_in values
+nodes_in (a_name n ∷ values) = nodes_in values

@@ -1,14 +1,15 @@
 -- The first words of commands, the arguments that stand behind each, and the loose grammar of lines.
-use Rattle.std.specs.Prelude.{◌≡◌, ◌≢◌, ℕ, ◌==◌, Bool, true, false, ◌||◌, List, [], ◌∷◌, ◌++◌, codes}
+use Rattle.std.specs.Prelude.{◌≡◌, ◌≢◌, ℕ, ◌≤◌, ◌==◌, Bool, true, false, ◌||◌, ◌&&◌, nat_le, List, [], ◌∷◌, ◌++◌, length, codes}
 use Rattle.std.specs.List.{AllByRecursion, before_first}
 use Rattle.tx_tree.specs.PathSpelling.{IsNumber}
 use Rattle.tx_tree.specs.Labels.{IsLabel}
+use Rattle.tx_cmd.specs.declared.TheConstants.{MOST_NAME}
 use Rattle.tx_cmd.specs.declared.words.ModWord.{ModWord}
 use Rattle.tx_cmd.specs.declared.words.ModWord.TheVariants.{Assign, Insert, Remove, Split, Join, AssignNode, InsertNode, RemoveNode}
 use Rattle.tx_cmd.specs.declared.words.Word.{Word}
-use Rattle.tx_cmd.specs.declared.words.Word.TheVariants.{Change, Undo, Redo, Go, Cursor, Show, Tree, Quit}
+use Rattle.tx_cmd.specs.declared.words.Word.TheVariants.{Change, Undo, Redo, Go, Cursor, Show, Tree, Save, Quit}
 use Rattle.tx_cmd.specs.declared.words.Argument.{Argument}
-use Rattle.tx_cmd.specs.declared.words.Argument.TheVariants.{Path as PathArgument, Number as NumberArgument, Label as LabelArgument, Tree as TreeArgument}
+use Rattle.tx_cmd.specs.declared.words.Argument.TheVariants.{Path as PathArgument, Number as NumberArgument, Label as LabelArgument, Name as NameArgument, Tree as TreeArgument}
 
 -- a word as it is written
 abbrev pub mod_text : ModWord → List ℕ
@@ -29,6 +30,7 @@ word_text Go = codes "go"
 word_text Cursor = codes "cursor"
 word_text Show = codes "show"
 word_text Tree = codes "tree"
+word_text Save = codes "save"
 word_text Quit = codes "quit"
 
 -- what a modification takes behind the path to what is changed
@@ -45,6 +47,7 @@ arguments_behind RemoveNode = NumberArgument ∷ []
 abbrev pub arguments_of : Word → List Argument
 arguments_of (Change kind) = PathArgument ∷ arguments_behind kind
 arguments_of Go = PathArgument ∷ []
+arguments_of Save = NameArgument ∷ []
 arguments_of Undo = []
 arguments_of Redo = []
 arguments_of Cursor = []
@@ -67,11 +70,22 @@ HasNoSpace = AllByRecursion (λ b. b ≢ 32)
 abbrev pub IsNumeral : List ℕ → Type 0
 IsNumeral digits = (n : ℕ) × IsNumber digits n
 
+-- visible ASCII
+abbrev pub is_name_byte : ℕ → Bool
+is_name_byte b = nat_le 33 b && nat_le b 126
+
+-- a name of a file
+pub record IsName (name : List ℕ) : Type 0 where
+  pub each : AllByRecursion (λ b. is_name_byte b ≡ true) name
+  pub some : 1 ≤ length name
+  pub short : length name ≤ MOST_NAME
+
 -- The piece may stand for the argument. Any bytes without a space may stand for a path, and any bytes for a tree.
 abbrev pub IsLoosePiece : Argument → List ℕ → Type 0
 IsLoosePiece PathArgument piece = HasNoSpace piece
 IsLoosePiece NumberArgument piece = IsNumeral piece
 IsLoosePiece LabelArgument piece = IsLabel piece
+IsLoosePiece NameArgument piece = IsName piece
 IsLoosePiece TreeArgument piece = Unit {0}
 
 -- the bytes are a space and a piece that may stand for it, for each argument
@@ -88,6 +102,7 @@ abbrev pub is_stored : Argument → Bool
 is_stored NumberArgument = false
 is_stored PathArgument = true
 is_stored LabelArgument = true
+is_stored NameArgument = true
 is_stored TreeArgument = true
 
 abbrev pub some_stored : List Argument → Bool

@@ -4,6 +4,7 @@ ghost use Rattle.tx_cmd.specs.declared.command.CmdFault.TheVariants.{Memory as N
 
 use thiserror::Error;
 use tx_base::Memory;
+use tx_doc::Name;
 use tx_mod::Mod;
 use tx_tree::{Path, ReadFault};
 
@@ -24,6 +25,8 @@ pub enum Command {
     Show,
     /// Prints the selected buffer's tree.
     Tree,
+    /// Writes the selected buffer's tree into the file of this name.
+    Save(Name),
     /// Ends the script.
     Quit,
 }
@@ -44,7 +47,8 @@ pub enum CmdFault {
     /// What stands for the path spells none: so many bytes of the line and no more lead to one.
     #[error("no path, at byte {0}")]
     Path(usize),
-    /// What stands for the tree spells none within the limits. `ReadFault::Memory` doesn't come here.
+    /// What stands for the tree spells none within the limits: why, with places of the line. `ReadFault::Memory`
+    /// doesn't come here.
     #[error("no tree: {0}")]
     Tree(ReadFault),
     /// Memory ran out.

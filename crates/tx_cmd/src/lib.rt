@@ -12,6 +12,8 @@ mod line;
 mod pieces;
 mod reading;
 #[cfg(test)]
+mod save_tests;
+#[cfg(test)]
 mod tests;
 mod words;
 
@@ -23,3 +25,5 @@ pub use words::{Argument, ModWord, Word};
 
 /// The most bytes of a line.
 pub const MOST_LINE: usize = 1_048_576;
+/// The most bytes of a name.
+pub const MOST_NAME: usize = 255;

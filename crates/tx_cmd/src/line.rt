@@ -17,7 +17,7 @@ use tx_base::Steps;
 /// that.
 ///
 /// Faults are the first that holds of `Long`, `Unknown`, `Args`, `Path` and `Tree` (docs/DECISIONS.md), and `Memory`,
-/// which comes only where commands with the line's first word hold a path, a label or a tree. Each node of the
+/// which comes only where commands with the line's first word hold a path, a label, a name or a tree. Each node of the
 /// line's tree is a step.
 pub fn parse<L: Ledger>(
     alloc: Global,

@@ -1,10 +1,11 @@
 // The pieces of a line that stand for arguments, and where a line stops fitting.
-ghost use Rattle.std.specs.Prelude.{◌≡◌, ◌+◌, ◌≤◌, true, [], length, IfOk, IfErr, IfSome, OnErr};
+ghost use Rattle.std.specs.Prelude.{◌≡◌, ◌+◌, ◌<◌, ◌≤◌, ◌↔◌, IsTrue, true, [], length, IfOk, IfErr, IfSome, OnErr};
 ghost use Rattle.tx_base.specs.Fronts.{IsLongestFront};
 ghost use Rattle.tx_tree.specs.PathSpelling.{IsNumber};
-ghost use Rattle.tx_cmd.specs.Words.{first_word, IsNumeral, is_stored, some_stored};
+ghost use Rattle.tx_cmd.specs.Words.{first_word, is_name_byte, IsNumeral, is_stored, some_stored};
 ghost use Rattle.tx_cmd.specs.Pieces.{IsTail, IsCut, EndsPiece, IsMisfit, IsPieceMisfit, tree_is_last, next_number};
 
+use crate::MOST_NAME;
 use crate::words::Argument;
 use std::alloc::Global;
 use tx_base::Memory;
@@ -72,6 +73,28 @@ pub(crate) fn number(piece: &[u8]) -> Result<u32, usize>
     Ok(value)
 }
 
+// Whether a name may have the byte at this place.
+fn may_stand(byte: u8, place: usize) -> bool
+    ensures { IsTrue result ↔ (is_name_byte byte ≡ true) × (place < MOST_NAME) }
+{
+    byte.is_ascii_graphic() && place < MOST_NAME
+}
+
+// How many bytes of the piece begin a name, or None where it is one.
+fn name_misfit(piece: &[u8]) -> Option<usize>
+    ensures { IsPieceMisfit Argument.Name piece.now result }
+{
+    for (i, byte) in piece.iter().enumerate() {
+        if !may_stand(*byte, i) {
+            return Some(i);
+        }
+    }
+    if piece.is_empty() {
+        return Some(0);
+    }
+    None
+}
+
 // How many bytes of the piece begin one that may stand for the argument, or None where it may itself.
 fn piece_misfit(alloc: Global, argument: Argument, piece: &[u8]) -> Result<Option<usize>, Memory>
     requires { EndsPiece argument piece.now [] }
@@ -89,6 +112,7 @@ fn piece_misfit(alloc: Global, argument: Argument, piece: &[u8]) -> Result<Optio
             Some(LabelFault::BadLabel(place)) => Ok(Some(place)),
             Some(LabelFault::Memory) => Err(Memory),
         },
+        Argument::Name => Ok(name_misfit(piece)),
     }
 }
 

@@ -6,8 +6,9 @@ ghost use Rattle.tx_tree.specs.WideTree.{nodes_of};
 ghost use Rattle.tx_scm.specs.Spelling.{Spells};
 ghost use Rattle.tx_mod.specs.Mods.{path_of};
 ghost use Rattle.tx_cmd.specs.Words.{arguments_of, arguments_behind, AreLoose, IsNumeral, some_stored};
-ghost use Rattle.tx_cmd.specs.Values.{Mean, nodes_in, a_path, a_number, a_tree, a_label};
+ghost use Rattle.tx_cmd.specs.Values.{Mean, nodes_in, a_path, a_number, a_tree, a_label, a_name};
 ghost use Rattle.tx_cmd.specs.Commands.{word_of, values_of, mod_word, values_behind};
+ghost use Rattle.tx_cmd.specs.Moved.{moved, IsWithin};
 ghost use Rattle.tx_cmd.specs.Refusals.{IsBadPath, IsBadTree, IsFirstFault};
 ghost use Rattle.tx_cmd.specs.declared.command.CmdFault.TheVariants.{Memory as NoMemory};
 
@@ -16,7 +17,8 @@ use crate::words::{Argument, ModWord, Word};
 use crate::{CmdFault, Command, MOST_LINE};
 use std::alloc::Global;
 use std::sync::ledger::Ledger;
-use tx_base::Steps;
+use tx_base::{Memory, Steps};
+use tx_doc::Name;
 use tx_mod::Mod;
 use tx_tree::{Label, LabelFault, Path, PathFault, ReadFault, Tree};
 
@@ -33,17 +35,41 @@ fn read_path(alloc: Global, piece: &[u8], at: usize) -> Result<Path, CmdFault>
     }
 }
 
-// The tree of the piece.
-fn read_tree<L: Ledger>(alloc: Global, piece: &[u8], steps: &mut Steps<L>) -> Result<Tree, CmdFault>
+// The fault of bytes that begin at this place of the line.
+fn moved(fault: ReadFault, at: usize) -> ReadFault
+    requires places { IsWithin MOST_LINE fault }
+    requires at { at ≤ MOST_LINE }
+    ensures { result ≡ moved at fault }
+{
+    match fault {
+        ReadFault::Unclosed(n) => ReadFault::Unclosed(at + n),
+        ReadFault::Stray(n) => ReadFault::Stray(at + n),
+        ReadFault::BadEscape(n) => ReadFault::BadEscape(at + n),
+        ReadFault::BadLabel(n) => ReadFault::BadLabel(at + n),
+        ReadFault::BadText(n) => ReadFault::BadText(at + n),
+        ReadFault::Mismatch(m, n) => ReadFault::Mismatch(at + m, at + n),
+        ReadFault::After(n) => ReadFault::After(at + n),
+        ReadFault::Limit(..) | ReadFault::Memory => fault,
+    }
+}
+
+// The tree of the piece, which stands at this place of the line.
+fn read_tree<L: Ledger>(
+    alloc: Global,
+    piece: &[u8],
+    at: usize,
+    steps: &mut Steps<L>,
+) -> Result<Tree, CmdFault>
+    requires { at + length piece.now ≤ MOST_LINE }
     ensures ok { IfOk result (λ t. Spells piece.now t × IsWithinLimits t) }
-    ensures refused { IfErr result (λ fault. fault ≢ NoMemory → (at : ℕ) → IsBadTree piece.now at fault) }
+    ensures refused { IfErr result (λ fault. fault ≢ NoMemory → IsBadTree piece.now at fault) }
     ensures counted { IfOk result (λ t. steps.new ≤ steps.old + nodes_of t) }
     ensures rises { steps.old ≤ steps.new }
 {
     match tx_scm::read(alloc, piece, steps) {
         Ok(tree) => Ok(tree),
-        Err(ReadFault::NoTree) => Err(CmdFault::Tree(ReadFault::NoTree)),
         Err(ReadFault::Memory) => Err(CmdFault::Memory),
+        Err(fault) => Err(CmdFault::Tree(moved(fault, at))),
     }
 }
 
@@ -58,33 +84,41 @@ fn read_number(piece: &[u8]) -> u32
     }
 }
 
-// The tree that is all that is left.
-fn last_tree<L: Ledger>(alloc: Global, bytes: &[u8], steps: &mut Steps<L>) -> Result<Tree, CmdFault>
-    requires { AreLoose (Argument.Tree ∷ []) bytes.now }
+// The tree that is all that is left, where that begins at this place of the line.
+fn last_tree<L: Ledger>(
+    alloc: Global,
+    bytes: &[u8],
+    at: usize,
+    steps: &mut Steps<L>,
+) -> Result<Tree, CmdFault>
+    requires loose { AreLoose (Argument.Tree ∷ []) bytes.now }
+    requires place { at + length bytes.now ≤ MOST_LINE }
     ensures ok { IfOk result (λ t. Mean bytes.now (a_tree t ∷ [])) }
-    ensures refused { IfErr result (λ fault. fault ≢ NoMemory → (at : ℕ) → IsFirstFault (Argument.Tree ∷ []) bytes.now at fault) }
+    ensures refused { IfErr result (λ fault. fault ≢ NoMemory → IsFirstFault (Argument.Tree ∷ []) bytes.now at fault) }
     ensures counted { IfOk result (λ t. steps.new ≤ steps.old + nodes_of t) }
     ensures rises { steps.old ≤ steps.new }
 {
     let (piece, _) = cut(Argument::Tree, bytes);
-    read_tree(alloc, piece, steps)
+    read_tree(alloc, piece, at + 1, steps)
 }
 
-// A number, and the tree behind it.
+// A number, and the tree behind it, where these begin at this place of the line.
 fn number_and_tree<L: Ledger>(
     alloc: Global,
     bytes: &[u8],
+    at: usize,
     steps: &mut Steps<L>,
 ) -> Result<(u32, Tree), CmdFault>
-    requires { AreLoose (Argument.Number ∷ Argument.Tree ∷ []) bytes.now }
+    requires loose { AreLoose (Argument.Number ∷ Argument.Tree ∷ []) bytes.now }
+    requires place { at + length bytes.now ≤ MOST_LINE }
     ensures ok { IfOk result (λ r. Mean bytes.now (a_number r.0 ∷ a_tree r.1 ∷ [])) }
-    ensures refused { IfErr result (λ fault. fault ≢ NoMemory → (at : ℕ) → IsFirstFault (Argument.Number ∷ Argument.Tree ∷ []) bytes.now at fault) }
+    ensures refused { IfErr result (λ fault. fault ≢ NoMemory → IsFirstFault (Argument.Number ∷ Argument.Tree ∷ []) bytes.now at fault) }
     ensures counted { IfOk result (λ r. steps.new ≤ steps.old + nodes_of r.1) }
     ensures rises { steps.old ≤ steps.new }
 {
     let (piece, rest) = cut(Argument::Number, bytes);
     let n = read_number(piece);
-    let tree = last_tree(alloc, rest, steps)?;
+    let tree = last_tree(alloc, rest, at + 1 + piece.len(), steps)?;
     Ok((n, tree))
 }
 
@@ -120,26 +154,45 @@ fn last_label(alloc: Global, bytes: &[u8]) -> Result<Label, CmdFault>
     }
 }
 
-// The modification of this path, by what stands behind the path.
+// The name that the bytes are.
+fn name_of(alloc: Global, bytes: &[u8]) -> Result<Name, Memory>
+    ensures { IfOk result (λ n. n ≡ bytes.now) }
+{
+    Ok(Name::from(Vec::from_slice(alloc, bytes)?))
+}
+
+// The name that is all that is left.
+fn last_name(alloc: Global, bytes: &[u8]) -> Result<Name, CmdFault>
+    requires { AreLoose (Argument.Name ∷ []) bytes.now }
+    ensures ok { IfOk result (λ n. Mean bytes.now (a_name n ∷ [])) }
+    ensures refused { IfErr result (λ fault. fault ≡ NoMemory) }
+{
+    let (piece, _) = cut(Argument::Name, bytes);
+    Ok(name_of(alloc, piece)?)
+}
+
+// The modification of this path, by what stands behind the path, at this place of the line.
 fn change_at<L: Ledger>(
     alloc: Global,
     word: ModWord,
     path: Path,
     bytes: &[u8],
+    at: usize,
     steps: &mut Steps<L>,
 ) -> Result<Mod, CmdFault>
-    requires { AreLoose (arguments_behind word) bytes.now }
+    requires loose { AreLoose (arguments_behind word) bytes.now }
+    requires place { at + length bytes.now ≤ MOST_LINE }
     ensures word { IfOk result (λ m. mod_word m ≡ word) }
     ensures path { IfOk result (λ m. path_of m ≡ path) }
     ensures ok { IfOk result (λ m. Mean bytes.now (values_behind m)) }
-    ensures refused { IfErr result (λ fault. fault ≢ NoMemory → (at : ℕ) → IsFirstFault (arguments_behind word) bytes.now at fault) }
+    ensures refused { IfErr result (λ fault. fault ≢ NoMemory → IsFirstFault (arguments_behind word) bytes.now at fault) }
     ensures counted { IfOk result (λ m. steps.new ≤ steps.old + nodes_in (values_behind m)) }
     ensures rises { steps.old ≤ steps.new }
 {
     match word {
-        ModWord::Assign => Ok(Mod::Assign(path, last_tree(alloc, bytes, steps)?)),
+        ModWord::Assign => Ok(Mod::Assign(path, last_tree(alloc, bytes, at, steps)?)),
         ModWord::Insert => {
-            let (i, tree) = number_and_tree(alloc, bytes, steps)?;
+            let (i, tree) = number_and_tree(alloc, bytes, at, steps)?;
             Ok(Mod::Insert(path, i, tree))
         }
         ModWord::Remove => {
@@ -153,7 +206,7 @@ fn change_at<L: Ledger>(
         ModWord::Join => Ok(Mod::Join(path, last_number(bytes))),
         ModWord::AssignNode => Ok(Mod::AssignNode(path, last_label(alloc, bytes)?)),
         ModWord::InsertNode => {
-            let (i, tree) = number_and_tree(alloc, bytes, steps)?;
+            let (i, tree) = number_and_tree(alloc, bytes, at, steps)?;
             Ok(Mod::InsertNode(path, i, tree))
         }
         ModWord::RemoveNode => Ok(Mod::RemoveNode(path, last_number(bytes))),
@@ -178,7 +231,7 @@ fn change<L: Ledger>(
 {
     let (piece, rest) = cut(Argument::Path, bytes);
     let path = read_path(alloc, piece, at + 1)?;
-    change_at(alloc, word, path, rest, steps)
+    change_at(alloc, word, path, rest, at + 1 + piece.len(), steps)
 }
 
 // The path that is all that is left, where it begins at this place of the line.
@@ -217,6 +270,7 @@ pub(crate) fn command<L: Ledger>(
         Word::Cursor => Ok(Command::Cursor),
         Word::Show => Ok(Command::Show),
         Word::Tree => Ok(Command::Tree),
+        Word::Save => Ok(Command::Save(last_name(alloc, bytes)?)),
         Word::Quit => Ok(Command::Quit),
     }
 }

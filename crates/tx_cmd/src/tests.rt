@@ -8,7 +8,7 @@ use std::sync::ledger::{Blank, Ledger};
 use std::test::Fail;
 use tx_base::{Memory, Steps};
 use tx_mod::Mod;
-use tx_tree::{ReadFault, Tree};
+use tx_tree::{ReadFault, Tree, Which};
 
 fn parsed<L: Ledger>(alloc: Global, line: &[u8], blank: Blank) -> Result<Command, CmdFault>
     requires name { blank.name ≡ L.name }
@@ -64,6 +64,11 @@ fn text_of(alloc: Global, command: &Command) -> Result<Vec<u8>, Memory> {
         Command::Cursor => Ok(Vec::from_slice(alloc, b"cursor")?),
         Command::Show => Ok(Vec::from_slice(alloc, b"show")?),
         Command::Tree => Ok(Vec::from_slice(alloc, b"tree")?),
+        Command::Save(name) => {
+            let mut out = Vec::from_slice(alloc, b"save ")?;
+            out.extend_from_slice(name.bytes())?;
+            Ok(out)
+        }
         Command::Quit => Ok(Vec::from_slice(alloc, b"quit")?),
     }
 }
@@ -159,9 +164,8 @@ fn lines_of_other_forms(rt: HostRuntime) -> Result<(), Fail> {
 }
 
 #[test]
-fn bad_paths_and_trees(rt: HostRuntime) -> Result<(), Fail> {
-    let none = CmdFault::Tree(ReadFault::NoTree);
-    let rows: [(&[u8], CmdFault); 17] = [
+fn bad_paths(rt: HostRuntime) -> Result<(), Fail> {
+    let rows: [(&[u8], CmdFault); 12] = [
         (b"assign /x \"a\"", CmdFault::Path(8)),
         (b"assign /x (f", CmdFault::Path(8)),
         (b"assign  \"a\"", CmdFault::Path(7)),
@@ -174,11 +178,6 @@ fn bad_paths_and_trees(rt: HostRuntime) -> Result<(), Fail> {
         (b"join /a 0", CmdFault::Path(6)),
         (b"assign-node x em", CmdFault::Path(12)),
         (b"insert /0/- 0 \"a\"", CmdFault::Path(10)),
-        (b"assign / ", none),
-        (b"assign /0 (f a)", none),
-        (b"insert /0 1 \"a\" \"b\"", none),
-        (b"insert-node / 0 em", none),
-        (b"assign / \"<\"", none),
     ];
     for (line, want) in rows {
         match answer(rt.alloc(), line) {
@@ -186,6 +185,55 @@ fn bad_paths_and_trees(rt: HostRuntime) -> Result<(), Fail> {
             Err(fault) => assert_eq!(rt; fault, want),
         }
     }
+    Ok(())
+}
+
+// The places of bad trees are counted from the start of the line.
+#[test]
+fn bad_trees(rt: HostRuntime) -> Result<(), Fail> {
+    let rows: [(&[u8], ReadFault); 16] = [
+        (b"assign / ", ReadFault::Unclosed(9)),
+        (b"assign /  ", ReadFault::Unclosed(10)),
+        (b"assign / (f", ReadFault::Unclosed(11)),
+        (b"assign /0 (f a)", ReadFault::Stray(13)),
+        (b"assign / x", ReadFault::Stray(9)),
+        (b"assign / ()", ReadFault::BadLabel(10)),
+        (b"assign / \"\\a\"", ReadFault::BadEscape(11)),
+        (b"assign / \"<\"", ReadFault::BadText(11)),
+        (b"insert /0 1 \"a\" \"b\"", ReadFault::After(16)),
+        (b"insert / 0  (a;", ReadFault::BadLabel(14)),
+        (b"insert /10/2 30 )", ReadFault::Stray(16)),
+        (b"insert / 0 ", ReadFault::Unclosed(11)),
+        (b"insert-node / 0 em", ReadFault::Stray(16)),
+        (b"insert-node / 0 (em)x", ReadFault::After(20)),
+        (b"insert-node /1 7 \"", ReadFault::Unclosed(18)),
+        (b"insert-node /1 7 \">", ReadFault::BadText(18)),
+    ];
+    for (line, want) in rows {
+        match answer(rt.alloc(), line) {
+            Ok(_) => panic!(rt; "a command at {line:?}"),
+            Err(fault) => assert_eq!(rt; fault, CmdFault::Tree(want), "at {line:?}"),
+        }
+    }
+    Ok(())
+}
+
+// The number of a limit is no place.
+#[test]
+fn trees_past_a_limit(rt: HostRuntime) -> Result<(), Fail> {
+    let mut line = Vec::from_slice(rt.alloc(), b"assign /0 ")?;
+    for _ in 0..400u32 {
+        line.extend_from_slice(b"(a")?;
+    }
+    line.extend_from_slice(b"\"\"")?;
+    for _ in 0..400u32 {
+        line.push(b')')?;
+    }
+    let fault = answer(rt.alloc(), &line).err();
+    assert_eq!(rt;
+        fault,
+        Some(CmdFault::Tree(ReadFault::Limit(Which::Depth, 401)))
+    );
     Ok(())
 }
 

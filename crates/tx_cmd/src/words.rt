@@ -11,6 +11,8 @@ pub enum Argument {
     Number,
     /// A label.
     Label,
+    /// A name of 1 to 255 bytes, each from `!` to `~`.
+    Name,
     /// A tree in Scheme syntax: all that is left of the line.
     Tree,
 }
@@ -38,6 +40,7 @@ pub enum Word {
     Cursor,
     Show,
     Tree,
+    Save,
     Quit,
 }
 
@@ -60,6 +63,7 @@ pub(crate) fn known_word(bytes: &[u8]) -> Option<Word>
         b"cursor" => Some(Word::Cursor),
         b"show" => Some(Word::Show),
         b"tree" => Some(Word::Tree),
+        b"save" => Some(Word::Save),
         b"quit" => Some(Word::Quit),
         _ => None,
     }
@@ -84,6 +88,7 @@ impl Word {
             ],
             Word::Change(ModWord::AssignNode) => &[Argument::Path, Argument::Label],
             Word::Go => &[Argument::Path],
+            Word::Save => &[Argument::Name],
             Word::Undo | Word::Redo | Word::Cursor | Word::Show | Word::Tree | Word::Quit => &[],
         }
     }

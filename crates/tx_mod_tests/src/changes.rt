@@ -2,8 +2,8 @@
 ghost use Rattle.std.specs.Prelude.{◌≡◌};
 
 use crate::samples::{
-    Edit, change, comes_back, is_copied, path, path_after, place, place_after, same_change, stays,
-    told_edit, tree,
+    Edit, change, is_copied, path, path_after, place, place_after, same_change, stays, told_edit,
+    tree, undone_and_redone,
 };
 use std::alloc::Global;
 use std::marker::Brand;
@@ -27,6 +27,7 @@ struct Undone {
     changed: bool,
     inverse: bool,
     back: bool,
+    again: bool,
     copied: bool,
 }
 
@@ -37,10 +38,12 @@ fn compared<L: Ledger>(
     undo: &str,
     steps: &mut Steps<L>,
 ) -> Option<Undone> {
+    let redone = undone_and_redone(alloc, edit, steps)?;
     Some(Undone {
         changed: is_tree(alloc, after, &edit.after, steps)?,
         inverse: is_change(alloc, undo, &edit.inverse, steps)?,
-        back: comes_back(alloc, edit, steps)?,
+        back: redone.back,
+        again: redone.again,
         copied: is_copied(alloc, &edit.change)?,
     })
 }
@@ -99,6 +102,7 @@ fn changed_trees_and_inverses(rt: HostRuntime) -> Result<(), Fail> {
         assert!(rt; got.changed, "at {row:?}");
         assert!(rt; got.inverse, "at {row:?}");
         assert!(rt; got.back, "at {row:?}");
+        assert!(rt; got.again, "at {row:?}");
         assert!(rt; got.copied, "at {row:?}");
     }
     Ok(())

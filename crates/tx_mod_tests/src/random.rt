@@ -1,7 +1,9 @@
 // Random trees and modifications, from a fixed number.
 ghost use Rattle.std.specs.Prelude.{◌≡◌};
 
-use crate::samples::{Edit, change, comes_back, edited, path_after, place_after, stays, tree};
+use crate::samples::{
+    Edit, change, edited, path_after, place_after, stays, tree, undone_and_redone,
+};
 use std::alloc::Global;
 use std::marker::Brand;
 use std::sync::ledger::{Blank, Ledger};
@@ -97,6 +99,7 @@ fn random_change(alloc: Global, t: &Tree, dice: &mut Dice) -> Option<String> {
 struct Trial {
     applied: bool,
     back: bool,
+    again: bool,
     kept: bool,
     placed: bool,
     carried: u32,
@@ -151,9 +154,11 @@ fn compared<L: Ledger>(
     steps: &mut Steps<L>,
 ) -> Option<Trial> {
     let (kept, carried) = carried_paths(alloc, edit, dice)?;
+    let redone = undone_and_redone(alloc, edit, steps)?;
     Some(Trial {
         applied: true,
-        back: comes_back(alloc, edit, steps)?,
+        back: redone.back,
+        again: redone.again,
         kept,
         placed: moved_places(alloc, edit, dice)?,
         carried,
@@ -172,6 +177,7 @@ fn tried<L: Ledger>(
         return Some(Trial {
             applied: false,
             back: true,
+            again: true,
             kept: true,
             placed: true,
             carried: 0,
@@ -212,6 +218,7 @@ fn random_modifications(rt: HostRuntime) -> Result<(), Fail> {
     for seed in 0..4000u32 {
         let got = outcome::<Brand>(rt.alloc(), seed * 7919, Blank::new(1)).ok_or("no outcome")?;
         assert!(rt; got.back, "at {seed}");
+        assert!(rt; got.again, "at {seed}");
         assert!(rt; got.kept, "at {seed}");
         assert!(rt; got.placed, "at {seed}");
         if got.applied {

@@ -206,14 +206,25 @@ pub(crate) fn told_edit<L: Ledger>(
     edited(alloc, before, change, steps)
 }
 
-// The inverse gives the tree back.
-pub(crate) fn comes_back<L: Ledger>(
+// What comes of the inverse, and of the modification behind that.
+#[derive(Clone, Copy)]
+pub(crate) struct Redone {
+    pub(crate) back: bool,
+    pub(crate) again: bool,
+}
+
+// The inverse gives the tree back, and the modification of that tree gives the changed tree again.
+pub(crate) fn undone_and_redone<L: Ledger>(
     alloc: Global,
     edit: &Edit,
     steps: &mut Steps<L>,
-) -> Option<bool> {
+) -> Option<Redone> {
     let back = apply(alloc, &edit.after, &edit.inverse, steps).ok()?;
-    Some(back.same(&edit.before))
+    let again = apply(alloc, &back, &edit.change, steps).ok()?;
+    Some(Redone {
+        back: back.same(&edit.before),
+        again: again.same(&edit.after),
+    })
 }
 
 // A copy of the modification is the same.

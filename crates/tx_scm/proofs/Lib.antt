@@ -1,4 +1,5 @@
 pub mod Writing
+pub mod Bounds
 pub mod ByteKinds
 pub mod Bounded
 pub mod Complete
@@ -12,3 +13,9 @@ pub mod Sizing
 pub mod Spelled
 pub mod Recognised
 pub mod Places
+pub mod Measured
+pub mod Wide
+pub mod Following
+pub mod Fronts
+pub mod OneFault
+pub mod SomeFault

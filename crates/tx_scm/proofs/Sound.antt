@@ -48,7 +48,7 @@ Took (escaping text opens) x = (p : List ℕ) × OpensTook opens p × (x ≡ p +
 Took (whole t) x = Spells x t
 Took failed x = Unit {0}
 
-put_took : (opens : List Open) (t : WideTree) (p y : List ℕ) → OpensTook opens p → SpellsTree y t → Took (put t opens) (p ++ y)
+pub put_took : (opens : List Open) (t : WideTree) (p y : List ℕ) → OpensTook opens p → SpellsTree y t → Took (put t opens) (p ++ y)
 put_took [] t p y h k = (p, y, [], h, k, tt, rw append-nil refl)
 put_took (o ∷ opens) t p y h k =
     (h.0, h.1, h.2 ++ (h.3 ++ y), [], h.4, h.5, h.6, one_more o.children t h.2 h.3 y h.7 h.8 k, tt, rw h.9 (simp (append_assoc, append-nil)))
@@ -57,7 +57,7 @@ white_took : (opens : List Open) (x : List ℕ) (b : ℕ) → is_white b ≡ tru
 white_took [] x b w h = all_snoc _ x b h w
 white_took (o ∷ opens) x b w h = (h.0, h.1, h.2, h.3 ++ b ∷ [], h.4, h.5, h.6, h.7, all_snoc _ h.3 b h.8 w, rw h.9 (simp append_assoc))
 
-named_took : (label : List ℕ) (opens : List Open) (x : List ℕ) → Took (naming label opens) x → OpensTook (named label opens) x
+pub named_took : (label : List ℕ) (opens : List Open) (x : List ℕ) → Took (naming label opens) x → OpensTook (named label opens) x
 named_took label opens x h = (h.0, h.1, [], [], h.2, h.3, h.4, refl, tt, rw (h.5, append-nil) refl)
 
 only_took : (c : Bool) (s : State) (x : List ℕ) → (c ≡ true → Took s x) → Took (only_if c s) x
@@ -69,7 +69,7 @@ text_more : (b : ℕ) (text p x : List ℕ) → x ++ b ∷ [] ≡ p ++ 34 ∷ (f
 text_more b text p x e = rw (flat_map-append escaped text (b ∷ []), append-nil (escaped b)) e
 
 module _ (bounds : Bounds) where
-  close_took : (opens : List Open) (x : List ℕ) → OpensTook opens x → Took (closed bounds opens) (x ++ 41 ∷ [])
+  pub close_took : (opens : List Open) (x : List ℕ) → OpensTook opens x → Took (closed bounds opens) (x ++ 41 ∷ [])
   close_took [] x h = tt
   close_took (o ∷ opens) x h =
       let inner = h.1 ++ (o.label ++ (h.2 ++ (h.3 ++ 41 ∷ []))) in

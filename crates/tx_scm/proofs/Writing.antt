@@ -1,5 +1,5 @@
 -- The text of a tree by its parts.
-use Rattle.std.proofs.Common.{◌≡◌, ℕ, List, [], ◌∷◌, ◌++◌, length, take, ap, refl}
+use Rattle.std.proofs.Common.{◌≡◌, ℕ, ◌+◌, List, [], ◌∷◌, ◌++◌, length, length-append, take, ap, refl, arith}
 use Rattle.std.specs.Prelude.{Some}
 use Rattle.tx_tree.specs.WideTree.{WideTree, forest, children_of, label_of, text_of}
 use Rattle.tx_tree.proofs.Walks.{leaf_is, node_is}
@@ -11,6 +11,11 @@ leaf_text t text e = ap scheme_text (leaf_is t text e)
 
 pub node_text : (t : WideTree) (label : List ℕ) → label_of t ≡ Some label → scheme_text t ≡ 40 ∷ (label ++ (scheme_texts (forest (children_of t)) ++ 41 ∷ []))
 node_text t label e = ap scheme_text (node_is t label e)
+
+pub node_length : (t : WideTree) (label : List ℕ) → label_of t ≡ Some label → length (scheme_text t) ≡ 2 + length label + length (scheme_texts (forest (children_of t)))
+node_length t label e =
+    let texts = scheme_texts (forest (children_of t)) in
+    omega (arith, ap length (node_text t label e), length-append label (texts ++ 41 ∷ []), length-append texts (41 ∷ []))
 
 -- what begins a front begins the whole
 pub front_kept : (a b whole : List ℕ) → take (length a) b ≡ a → take (length b) whole ≡ b → take (length a) whole ≡ a

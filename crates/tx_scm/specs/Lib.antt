@@ -1,7 +1,12 @@
 pub mod Spelling
+pub mod Faults
 pub mod Canonical
 pub mod Kinds
 pub mod Machine
 pub mod States
 pub mod Recognising
 pub mod Sizes
+pub mod Spots
+pub mod Measuring
+pub mod Gauges
+pub mod Counts

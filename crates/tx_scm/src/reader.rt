@@ -1,15 +1,19 @@
 // The tree that bytes spell.
-ghost use Rattle.std.specs.Prelude.{◌≡◌, ℕ, ◌+◌, ◌-◌, ◌<◌, ◌≤◌, List, [], length, get_or, drop, Some, None, if◌then◌else◌, IfOk, IfErr, IfSome, OnSome};
+ghost use Rattle.std.specs.Prelude.{◌≡◌, ◌≢◌, ℕ, ◌+◌, ◌-◌, ◌<◌, ◌≤◌, List, [], length, get_or, drop, Some, None, if◌then◌else◌, IfOk, IfErr, IfSome, OnSome};
 ghost use Rattle.tx_tree.specs.WideTree.{WideTree, node, forest, leaf, nodes_of};
 ghost use Rattle.tx_tree.specs.Limits.{IsWithinLimits};
+ghost use Rattle.tx_tree.specs.declared.faults.ReadFault.TheVariants.{Memory as NoMemory};
 ghost use Rattle.tx_scm.specs.Spelling.{Spells};
+ghost use Rattle.tx_scm.specs.Faults.{IsSchemeFault};
 ghost use Rattle.tx_scm.specs.Kinds.{kind_of};
 ghost use Rattle.tx_scm.specs.Machine.{Open, within, the_limits, has_room, keeps, put, between, texting, step_between, step_opened, step_naming, step_texting, step_escaping, step_whole, lengthened, step, tree_in, reads, node_of};
 ghost use Rattle.tx_scm.specs.Sizes.{grown_by, GrowsBy};
 ghost use Rattle.tx_scm.specs.States.{open_of, opens_of, state_of, next_of, made_by, made_in, CountsOn, read_on};
 
 use crate::kinds::{Kind, kind_of};
+use crate::measures::limit;
 use crate::names::LabelBuilder;
+use crate::spots::misspelled;
 use crate::states::{Bracket, State};
 use std::alloc::Global;
 use std::sync::ledger::Ledger;
@@ -349,20 +353,33 @@ fn read_all<L: Ledger>(
     Ok(tree_in(state))
 }
 
+// Why the bytes spell no tree within the limits.
+fn fault(alloc: Global, bytes: &[u8]) -> Result<ReadFault, Memory>
+    requires { (t : WideTree) → IsWithinLimits t → Spells bytes.now t → ⊥ }
+    ensures { IfOk result (IsSchemeFault bytes.now) }
+{
+    match misspelled(bytes) {
+        Some(fault) => Ok(fault),
+        None => {
+            let (which, number) = limit(alloc, bytes)?;
+            Ok(ReadFault::Limit(which, number))
+        }
+    }
+}
+
 /// The tree that the bytes spell.
 ///
-/// Each node that it makes is a step. Faults are `NoTree`, exactly where the bytes spell no tree within the
-/// limits, and `Memory`.
+/// Each node that it makes is a step. A fault, but for `Memory`, is the one that the bytes have, by the table of
+/// `specs/Faults.antt`; it comes exactly where they spell no tree within the limits.
 pub fn read<L: Ledger>(alloc: Global, bytes: &[u8], steps: &mut Steps<L>) -> Result<Tree, ReadFault>
     ensures found { IfOk result (λ t. Spells bytes.now t) }
     ensures within { IfOk result (λ t. IsWithinLimits t) }
-    ensures none { IfErr result (λ fault. fault ≡ ReadFault.NoTree → (t : WideTree) → IsWithinLimits t → Spells bytes.now t → ⊥) }
+    ensures refused { IfErr result (λ fault. fault ≢ NoMemory → IsSchemeFault bytes.now fault) }
     ensures counted { IfOk result (λ t. steps.new ≤ steps.old + nodes_of t) }
     ensures rises { steps.old ≤ steps.new }
 {
-    match read_all(alloc, bytes, steps) {
-        Ok(Some(tree)) => Ok(tree),
-        Ok(None) => Err(ReadFault::NoTree),
-        Err(Memory) => Err(ReadFault::Memory),
+    match read_all(alloc, bytes, steps)? {
+        Some(tree) => Ok(tree),
+        None => Err(fault(alloc, bytes)?),
     }
 }

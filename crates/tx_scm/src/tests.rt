@@ -7,7 +7,7 @@ use std::marker::Brand;
 use std::sync::ledger::{Blank, Ledger};
 use std::test::Fail;
 use tx_base::{Memory, Steps};
-use tx_tree::{ReadFault, Tree};
+use tx_tree::{ReadFault, Tree, Which};
 
 // The canonical text of the tree that the bytes spell.
 fn text_of<L: Ledger>(alloc: Global, bytes: &[u8], blank: Blank) -> Result<Vec<u8>, ReadFault>
@@ -49,48 +49,8 @@ fn trees_that_are_read(rt: HostRuntime) -> Result<(), Fail> {
     Ok(())
 }
 
-#[test]
-fn bytes_that_spell_no_tree(rt: HostRuntime) {
-    let rows: [&[u8]; 30] = [
-        b"",
-        b" \n",
-        b"a",
-        b"(document \"hello\"",
-        b"(",
-        b"( ",
-        b"(a",
-        b"()",
-        b"( )",
-        b")",
-        b"(a))",
-        b"(a)(b)",
-        b"(a) b",
-        b"\"a\"\"b\"",
-        b"\"a\" \"b\"",
-        b"(\"a\")",
-        b"((a))",
-        b"(a b)",
-        b"(a ;)",
-        b"(a\x0c)",
-        b"(a;)",
-        b"(a\xe9)",
-        b"\"a",
-        b"\"a\\\"",
-        b"\"\\a\"",
-        b"\"a\tb\"",
-        b"\"a\nb\"",
-        b"\"a>b\"",
-        b"\"<\"",
-        b"\"<a b>\"",
-    ];
-    for bytes in rows {
-        let read = text_of::<Brand>(rt.alloc(), bytes, Blank::new(1));
-        assert!(rt; matches!(read, Err(ReadFault::NoTree)), "at {bytes:?}");
-    }
-}
-
 // Appends the part so many times.
-fn repeat(part: &[u8], count: u32, bytes: &mut Vec<u8>) -> Result<(), AllocError> {
+pub(crate) fn repeat(part: &[u8], count: u32, bytes: &mut Vec<u8>) -> Result<(), AllocError> {
     for _ in 0..count {
         bytes.extend_from_slice(part)?;
     }
@@ -109,7 +69,7 @@ fn spelled(alloc: Global, row: &Row, past: bool) -> Result<Vec<u8>, AllocError> 
     Ok(bytes)
 }
 
-// Bytes that spell a tree with at most so many units.
+// Bytes that spell a tree with at most so many units, and the fault of one more.
 #[derive(Clone, Copy)]
 struct Row<'a> {
     most: u32,
@@ -117,6 +77,7 @@ struct Row<'a> {
     unit: &'a [u8],
     middle: &'a [u8],
     closing: &'a [u8],
+    fault: ReadFault,
 }
 
 #[test]
@@ -136,6 +97,7 @@ fn limits_on_both_sides(rt: HostRuntime) -> Result<(), Fail> {
             unit: b"(a",
             middle: b"\"\"",
             closing: b")",
+            fault: ReadFault::Limit(Which::Depth, 401),
         },
         Row {
             most: 399,
@@ -143,6 +105,7 @@ fn limits_on_both_sides(rt: HostRuntime) -> Result<(), Fail> {
             unit: b"(a ",
             middle: b"(b)",
             closing: b" )",
+            fault: ReadFault::Limit(Which::Depth, 401),
         },
         Row {
             most: 65_535,
@@ -150,6 +113,7 @@ fn limits_on_both_sides(rt: HostRuntime) -> Result<(), Fail> {
             unit: b"\"\"",
             middle: b")",
             closing: b"",
+            fault: ReadFault::Limit(Which::Arity, 65_536),
         },
         Row {
             most: 1_048_575,
@@ -157,6 +121,7 @@ fn limits_on_both_sides(rt: HostRuntime) -> Result<(), Fail> {
             unit: b"a",
             middle: b"\"",
             closing: b"",
+            fault: ReadFault::Limit(Which::Text, 1_048_576),
         },
         Row {
             most: 1_048_575,
@@ -164,6 +129,7 @@ fn limits_on_both_sides(rt: HostRuntime) -> Result<(), Fail> {
             unit: b"\\\"",
             middle: b"\"",
             closing: b"",
+            fault: ReadFault::Limit(Which::Text, 1_048_576),
         },
         Row {
             most: 64,
@@ -171,6 +137,7 @@ fn limits_on_both_sides(rt: HostRuntime) -> Result<(), Fail> {
             unit: b"a",
             middle: b")",
             closing: b"",
+            fault: ReadFault::BadLabel(65),
         },
         Row {
             most: 48,
@@ -178,6 +145,7 @@ fn limits_on_both_sides(rt: HostRuntime) -> Result<(), Fail> {
             unit: b"a",
             middle: b">\"",
             closing: b"",
+            fault: ReadFault::BadText(50),
         },
         Row {
             most: 255,
@@ -185,6 +153,7 @@ fn limits_on_both_sides(rt: HostRuntime) -> Result<(), Fail> {
             unit: b"(b)",
             middle: b")",
             closing: b"",
+            fault: ReadFault::Limit(Which::Size, 8_000_001),
         },
         Row {
             most: 254,
@@ -192,6 +161,7 @@ fn limits_on_both_sides(rt: HostRuntime) -> Result<(), Fail> {
             unit: b"(b",
             middle: b"\"\")",
             closing: b")",
+            fault: ReadFault::Limit(Which::Size, 8_000_001),
         },
         Row {
             most: 254,
@@ -199,10 +169,11 @@ fn limits_on_both_sides(rt: HostRuntime) -> Result<(), Fail> {
             unit: b"a",
             middle: b"\")",
             closing: b"",
+            fault: ReadFault::Limit(Which::Size, 8_000_001),
         },
     ];
     for row in rows {
-        for (past, fault) in [(false, None), (true, Some(ReadFault::NoTree))] {
+        for (past, fault) in [(false, None), (true, Some(row.fault))] {
             let bytes = spelled(alloc, &row, past)?;
             let read = text_of::<Brand>(alloc, &bytes, Blank::new(1));
             assert_eq!(rt; read.err(), fault, "at {}, {past}", row.most);
@@ -223,7 +194,7 @@ fn numbered(alloc: Global, length: usize, number: u32) -> Result<Vec<u8>, AllocE
 }
 
 // All strings of up to five of six bytes.
-fn short_strings(alloc: Global) -> Result<Vec<Vec<u8>>, AllocError> {
+pub(crate) fn short_strings(alloc: Global) -> Result<Vec<Vec<u8>>, AllocError> {
     let mut strings = Vec::new(alloc);
     for (length, count) in [1u32, 6, 36, 216, 1_296, 7_776].into_iter().enumerate() {
         for number in 0..count {
@@ -248,8 +219,8 @@ fn read_each<L: Ledger>(
     for string in strings {
         match read(alloc, string, &mut steps) {
             Ok(tree) => trees.push(Some(tree))?,
-            Err(ReadFault::NoTree) => trees.push(None)?,
             Err(ReadFault::Memory) => return Err(ReadFault::Memory),
+            Err(_) => trees.push(None)?,
         }
     }
     Ok(trees)

@@ -11,7 +11,8 @@ use Rattle.tx_outside.proofs.Pieces.{append_known-then, prepend_known-then}
 use Rattle.tx_outside.specs.Known.{AppendsPart}
 use Rattle.tx_session.specs.declared.TheConstants.{MOST_SCRIPT}
 use Rattle.tx_session.specs.Lines.{line}
-use Rattle.tx_session.specs.Replies.{Seen, IsLineReply}
+use Rattle.tx_session.specs.Replies.{IsLineReply}
+use Rattle.tx_session.specs.Worlds.{World, Mark}
 use Rattle.tx_session.specs.Scripts.{IsOneLine, HasLines, AreLinesOf, Answered, before_quit, command_line, is_quit}
 use Rattle.tx_session.specs.Runs.{EndedByQuit, Tells}
 use Rattle.tx_session.specs.declared.session.Next.{Next}
@@ -91,7 +92,7 @@ module _ {A : Type 0} (p : A → Bool) where
   before_stop x xs e = grind (arith, common_steps)
 
 -- lines that were answered are none of them `quit`
-pub none_quits : (seen last : Seen) (lines : List (List ℕ)) (marks : List Bool) (text : List ℕ) → Answered seen lines marks last text → before_quit lines ≡ lines
+pub none_quits : (seen last : World) (lines : List (List ℕ)) (marks : List Mark) (text : List ℕ) → Answered seen lines marks last text → before_quit lines ≡ lines
 none_quits seen last [] marks text a = refl
 none_quits seen last (l ∷ lines) [] text a = absurd a
 none_quits seen last (l ∷ lines) (m ∷ marks) text a =
@@ -99,7 +100,7 @@ none_quits seen last (l ∷ lines) (m ∷ marks) text a =
     before_next is_quit l lines goes ∙ ap (λ x. l ∷ x) (none_quits a.0 last lines marks a.2 a.4)
 
 -- the lines before the first `quit`
-pub up_to_quit : (seen last : Seen) (lines later : List (List ℕ)) (quitting : List ℕ) (marks : List Bool) (text : List ℕ) → Answered seen lines marks last text → is_quit quitting ≡ true
+pub up_to_quit : (seen last : World) (lines later : List (List ℕ)) (quitting : List ℕ) (marks : List Mark) (text : List ℕ) → Answered seen lines marks last text → is_quit quitting ≡ true
     → before_quit (lines ++ quitting ∷ later) ≡ lines
 up_to_quit seen last [] later quitting marks text a q = before_stop is_quit quitting later q
 up_to_quit seen last (l ∷ lines) later quitting [] text a q = absurd a
@@ -112,8 +113,8 @@ whole_rest script None e = tt
 whole_rest script (Some bytes) e = inl e
 
 -- the script has ended, and its last line was answered
-pub whole_end : (start seen next : Seen) (told rest before between after : Option (List ℕ)) (script unended : List ℕ) (n : Next) → Tells told script → length script ≤ MOST_SCRIPT → IfSome rest (λ bytes. bytes ≡ [])
-    → Stands start before script unended seen between → IsTurned (Ok n) seen unended next between after → HasPlayed start told rest statuses.Ok before after
+pub whole_end : (start seen next : World) (told rest before between after : Option (List ℕ)) (script unended : List ℕ) (n : Next) → Tells told script → length script ≤ MOST_SCRIPT → IfSome rest (λ bytes. bytes ≡ [])
+    → Stands start before script unended seen between → IsTurned (Ok n) seen unended next between after → HasPlayed start next told rest statuses.Ok before after
 whole_end start seen next told rest before between after script unended nexts.Go tells short end s t =
     let a = answered_next start s.ended s.marks seen next s.replies t.1 unended t.0 s.answered t.2 in
     record {
@@ -121,30 +122,31 @@ whole_end start seen next told rest before between after script unended nexts.Go
       marks = s.marks ++ t.0 ∷ [];
       replies = s.replies ++ t.1;
       tells = tells;
-      played = (s.ended ++ unended ∷ [], next, inl (short, (s.ended, unended, s.lines, refl)), inl short, subst (λ ls. Answered start ls (s.marks ++ t.0 ∷ []) next (s.replies ++ t.1)) (sym (none_quits start next (s.ended ++ unended ∷ []) (s.marks ++ t.0 ∷ []) (s.replies ++ t.1) a)) a, whole_rest script rest end);
+      played = (s.ended ++ unended ∷ [], inl (short, (s.ended, unended, s.lines, refl)), inl short, subst (λ ls. Answered start ls (s.marks ++ t.0 ∷ []) next (s.replies ++ t.1)) (sym (none_quits start next (s.ended ++ unended ∷ []) (s.marks ++ t.0 ∷ []) (s.replies ++ t.1) a)) a, whole_rest script rest end);
       written = append_known-then before between after s.replies t.1 s.written t.3;
     }
 whole_end start seen next told rest before between after script unended nexts.Quit tells short end s t =
-    record {
+    subst (λ w. HasPlayed start w told rest statuses.Ok before after) (sym t.1)
+    (record {
       script = script;
       marks = s.marks;
       replies = s.replies;
       tells = tells;
-      played = (s.ended ++ unended ∷ [], seen, inl (short, (s.ended, unended, s.lines, refl)), inl short, subst (λ ls. Answered start ls s.marks seen s.replies) (sym (up_to_quit start seen s.ended [] unended s.marks s.replies s.answered t.0)) s.answered, whole_rest script rest end);
+      played = (s.ended ++ unended ∷ [], inl (short, (s.ended, unended, s.lines, refl)), inl short, subst (λ ls. Answered start ls s.marks seen s.replies) (sym (up_to_quit start seen s.ended [] unended s.marks s.replies s.answered t.0)) s.answered, whole_rest script rest end);
       written = t.2 ∙ s.written;
-    }
+    })
 
 -- the same, where the reply to it is written in part
-pub whole_cut : (start seen next : Seen) (told before between after : Option (List ℕ)) (script unended : List ℕ) → Tells told script → length script ≤ MOST_SCRIPT
+pub whole_cut : (start seen next : World) (told before between after : Option (List ℕ)) (script unended : List ℕ) → Tells told script → length script ≤ MOST_SCRIPT
     → Stands start before script unended seen between
-    → ((wanting : Bool) × (reply : List ℕ) × IsLineReply seen (command_line unended) wanting next reply × AppendsPart reply between after) → IsCutOff start told before after
+    → ((mark : Mark) × (reply : List ℕ) × IsLineReply seen (command_line unended) mark next reply × AppendsPart reply between after) → IsCutOff start next told before after
 whole_cut start seen next told before between after script unended tells short s r =
     record {
       script = script;
       done = s.replies;
       reply = r.1;
       tells = tells;
-      behind = (s.ended ++ unended ∷ [], s.ended, [], unended, s.marks, seen, next, r.0, inl (short, (s.ended, unended, s.lines, refl)), refl, s.answered, r.2);
+      behind = (s.ended ++ unended ∷ [], s.ended, [], unended, s.marks, seen, r.0, inl (short, (s.ended, unended, s.lines, refl)), refl, s.answered, r.2);
       part = subst (λ b. AppendsPart r.1 b after) s.written r.3;
     }
 
@@ -162,8 +164,8 @@ rest_dropped None taken = tt
 rest_dropped (Some bytes) taken = sym (drop-append_seam taken bytes)
 
 -- the input failed
-pub failed_end : (start seen : Seen) (told rest before after : Option (List ℕ)) (taken unended : List ℕ) → told ≡ prepend_known taken rest → length taken ≤ MOST_SCRIPT
-    → Stands start before taken unended seen after → HasPlayed start told rest statuses.InputFault before after
+pub failed_end : (start seen : World) (told rest before after : Option (List ℕ)) (taken unended : List ℕ) → told ≡ prepend_known taken rest → length taken ≤ MOST_SCRIPT
+    → Stands start before taken unended seen after → HasPlayed start seen told rest statuses.InputFault before after
 failed_end start seen told rest before after taken unended e within s =
     record {
       script = taken ++ or_empty rest;
@@ -174,7 +176,6 @@ failed_end start seen told rest before after taken unended e within s =
         length taken,
         s.ended,
         unended,
-        seen,
         grind (arith, common_steps),
         within,
         rest_dropped rest taken,
@@ -189,8 +190,8 @@ long_rest : (script taken front : List ℕ) (rest : Option (List ℕ)) → scrip
 long_rest script taken front None e full some = tt
 long_rest script taken front (Some bytes) e full some = omega (arith, ap length e, length-append taken (front ++ bytes), length-append front bytes)
 
-pub long_end : (start seen : Seen) (told rest before after : Option (List ℕ)) (script taken front unended : List ℕ) → Tells told script → script ≡ taken ++ (front ++ or_empty rest) → length taken ≡ MOST_SCRIPT → 0 < length front
-    → Stands start before taken unended seen after → HasPlayed start told rest statuses.ScriptLong before after
+pub long_end : (start seen : World) (told rest before after : Option (List ℕ)) (script taken front unended : List ℕ) → Tells told script → script ≡ taken ++ (front ++ or_empty rest) → length taken ≡ MOST_SCRIPT → 0 < length front
+    → Stands start before taken unended seen after → HasPlayed start seen told rest statuses.ScriptLong before after
 long_end start seen told rest before after script taken front unended tells e full some s =
     let long : MOST_SCRIPT < length script = omega (arith, ap length e, length-append taken (front ++ or_empty rest), length-append front (or_empty rest)) in
     record {
@@ -200,7 +201,6 @@ long_end start seen told rest before after script taken front unended tells e fu
       tells = tells;
       played = (
         s.ended,
-        seen,
         inr (long, (unended, subst (λ bs. HasLines bs s.ended unended) (sym (ap (take MOST_SCRIPT) e ∙ ap (λ n. take n (taken ++ (front ++ or_empty rest))) (sym full) ∙ take-append_seam taken (front ++ or_empty rest))) s.lines)),
         long,
         s.answered,
@@ -231,8 +231,8 @@ kept_rest later more None le = tt
 kept_rest later more (Some bytes) le = omega (arith, le, length-append later more)
 
 -- within what was taken: `quit`, want of memory, or a fault of the output
-pub stopped : (turn : Turn) (start seen : Seen) (told rest before after : Option (List ℕ)) (script bytes more : List ℕ) (kept : KeptLine) → turn ≢ turns.Go → Tells told script → script ≡ bytes ++ more
-    → length bytes ≤ MOST_SCRIPT → length (or_empty rest) ≤ length more → LeadsTo turn start before bytes seen kept after → IsEnd (status_of_turn turn) start told rest before after
+pub stopped : (turn : Turn) (start seen : World) (told rest before after : Option (List ℕ)) (script bytes more : List ℕ) (kept : KeptLine) → turn ≢ turns.Go → Tells told script → script ≡ bytes ++ more
+    → length bytes ≤ MOST_SCRIPT → length (or_empty rest) ≤ length more → LeadsTo turn start before bytes seen kept after → IsEnd (status_of_turn turn) start seen told rest before after
 stopped turns.Go start seen told rest before after script bytes more kept other tells e within le l = absurd (other refl)
 stopped turns.Quit start seen told rest before after script bytes more kept other tells e within le (upto, later, unended, is, s, q) =
     let whole : script ≡ upto ++ 10 ∷ (later ++ more) = e ∙ ap (λ x. x ++ more) is ∙ append_assoc upto (10 ∷ later) more in
@@ -244,7 +244,6 @@ stopped turns.Quit start seen told rest before after script bytes more kept othe
       tells = tells;
       played = (
         s.ended ++ unended ∷ through.0,
-        seen,
         through.1,
         inr (s.ended ++ unended ∷ through.0, through.1, (unended, holds s.ended unended through.0, q)),
         subst (λ ls. Answered start ls s.marks seen s.replies) (sym (up_to_quit start seen s.ended through.0 unended s.marks s.replies s.answered q)) s.answered,
@@ -258,7 +257,7 @@ stopped turns.NoMemory start seen told rest before after script bytes more kept 
       marks = s.marks;
       replies = s.replies;
       tells = tells;
-      played = (upto, later ++ more, b, s.ended, unended, seen, e ∙ ap (λ x. x ++ more) is ∙ append_assoc upto (b ∷ later) more, line, short, shorter bytes upto b later is within, s.lines, s.answered, kept_rest later more rest le);
+      played = (upto, later ++ more, b, s.ended, unended, e ∙ ap (λ x. x ++ more) is ∙ append_assoc upto (b ∷ later) more, line, short, shorter bytes upto b later is within, s.lines, s.answered, kept_rest later more rest le);
       written = s.written;
     }
 stopped turns.OutputFailed start seen told rest before after script bytes more kept other tells e within le (upto, later, is, c) =
@@ -268,7 +267,7 @@ stopped turns.OutputFailed start seen told rest before after script bytes more k
       done = c.stands.replies;
       reply = c.reply;
       tells = tells;
-      behind = (c.stands.ended ++ c.rest ∷ through.0, c.stands.ended, through.0, c.rest, c.stands.marks, c.seen, c.next, c.wanting, through.1, refl, c.stands.answered, c.replied);
+      behind = (c.stands.ended ++ c.rest ∷ through.0, c.stands.ended, through.0, c.rest, c.stands.marks, c.seen, c.mark, through.1, refl, c.stands.answered, c.replied);
       part = subst (λ b. AppendsPart c.reply b after) c.stands.written c.part;
     }
 
@@ -294,17 +293,17 @@ pub read_more : (into : List ℕ) (within count : ℕ) → within < count → co
 read_more into within count lt le = let some : length (drop within (take count into)) ≡ count - within = grind (arith, common_steps) in omega (arith, some, lt)
 
 -- the end of a session within a read
-pub stopped_in_read : (turn : Turn) (start seen : Seen) (told mid rest before after : Option (List ℕ)) (taken into : List ℕ) (within count room : ℕ) (kept : KeptLine) → turn ≢ turns.Go
+pub stopped_in_read : (turn : Turn) (start seen : World) (told mid rest before after : Option (List ℕ)) (taken into : List ℕ) (within count room : ℕ) (kept : KeptLine) → turn ≢ turns.Go
     → told ≡ prepend_known taken mid → mid ≡ prepend_known (take count into) rest → within ≤ count → within ≤ room → length taken + room ≡ MOST_SCRIPT
-    → LeadsTo turn start before (taken ++ take within into) seen kept after → IsEnd (status_of_turn turn) start told rest before after
+    → LeadsTo turn start before (taken ++ take within into) seen kept after → IsEnd (status_of_turn turn) start seen told rest before after
 stopped_in_read turn start seen told mid rest before after taken into within count room kept other first second part fits e l =
     stopped turn start seen told rest before after ((taken ++ take count into) ++ or_empty rest) (taken ++ take within into) (drop within (take count into) ++ or_empty rest) kept other
     (tells_both told rest (taken ++ take count into) (prepend_known-then told mid rest taken (take count into) first second))
     (read_parts taken into (or_empty rest) within count part) (read_within taken into within room fits e) (omega (arith, length-append (drop within (take count into)) (or_empty rest))) l
 
-pub long_read : (start seen : Seen) (told mid rest before after : Option (List ℕ)) (taken into : List ℕ) (within count room : ℕ) (kept : KeptLine)
+pub long_read : (start seen : World) (told mid rest before after : Option (List ℕ)) (taken into : List ℕ) (within count room : ℕ) (kept : KeptLine)
     → told ≡ prepend_known taken mid → mid ≡ prepend_known (take count into) rest → within < count → within ≡ room → count ≤ length into → length taken + room ≡ MOST_SCRIPT
-    → StandsWith start before (taken ++ take within into) seen kept after → HasPlayed start told rest statuses.ScriptLong before after
+    → StandsWith start before (taken ++ take within into) seen kept after → HasPlayed start seen told rest statuses.ScriptLong before after
 long_read start seen told mid rest before after taken into within count room kept first second part full le e s =
     long_end start seen told rest before after ((taken ++ take count into) ++ or_empty rest) (taken ++ take within into) (drop within (take count into)) s.rest
     (tells_both told rest (taken ++ take count into) (prepend_known-then told mid rest taken (take count into) first second))

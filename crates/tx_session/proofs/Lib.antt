@@ -1,6 +1,10 @@
+pub mod StoreCalls
+pub mod Saved
+pub mod Counted
 pub mod Cuts
 pub mod KeptLines
 pub mod Quits
+pub mod Going
 pub mod Turning
 pub mod Showing
 pub mod Standing
@@ -14,3 +18,5 @@ pub mod PageTexts
 pub mod Filled
 pub mod Showings
 pub mod Determined
+pub mod Placing
+pub mod Replied

@@ -4,7 +4,7 @@ use Rattle.std.specs.List.{flat_map}
 use Rattle.std.proofs.lemmas.List.Elements.{All-head, All-tail}
 use Rattle.tx_session.specs.declared.TheConstants.{MOST_SCRIPT}
 use Rattle.tx_session.specs.Lines.{line}
-use Rattle.tx_session.specs.Replies.{Seen}
+use Rattle.tx_session.specs.Worlds.{World, Mark}
 use Rattle.tx_session.specs.Scripts.{IsOneLine, HasLines, AreLinesOf, Answered, command_line, is_quit}
 use Rattle.tx_session.specs.Runs.{CanBeRead}
 use Rattle.tx_session.proofs.Quits.{replied_goes_on}
@@ -63,14 +63,14 @@ script_lines_once script a b (inr h) (inl k) = absurd (omega (arith, h.0, k.0))
 script_lines_once script a b (inr h) (inr k) = (lines_once (take MOST_SCRIPT script) a b h.1.0 k.1.0 h.1.1 k.1.1).0
 
 -- no line that was answered is `quit`
-answered_not_quit : (seen last : Seen) (lines : List (List ℕ)) (marks : List Bool) (text one : List ℕ) (k : ℕ) → Answered seen lines marks last text → k < length lines → get_or lines k one ≡ one → is_quit one ≡ true → ⊥
+answered_not_quit : (seen last : World) (lines : List (List ℕ)) (marks : List Mark) (text one : List ℕ) (k : ℕ) → Answered seen lines marks last text → k < length lines → get_or lines k one ≡ one → is_quit one ≡ true → ⊥
 answered_not_quit seen last [] marks text one k a lt e q = omega (arith, lt)
 answered_not_quit seen last (l ∷ lines) [] text one k a lt e q = a
 answered_not_quit seen last (l ∷ lines) (m ∷ marks) text one zero a lt e q = let goes : is_quit l ≡ false = replied_goes_on seen a.0 (command_line l) m a.1 a.3 in cc
 answered_not_quit seen last (l ∷ lines) (m ∷ marks) text one (suc k) a lt e q = answered_not_quit a.0 last lines marks a.2 one k a.4 (omega (arith, lt)) e q
 
 -- a script that is too long and whose lines were all answered can't be read
-pub long_unread : (script : List ℕ) (seen last : Seen) (lines : List (List ℕ)) (marks : List Bool) (text : List ℕ) → AreLinesOf script lines → MOST_SCRIPT < length script → Answered seen lines marks last text → CanBeRead script → ⊥
+pub long_unread : (script : List ℕ) (seen last : World) (lines : List (List ℕ)) (marks : List Mark) (text : List ℕ) → AreLinesOf script lines → MOST_SCRIPT < length script → Answered seen lines marks last text → CanBeRead script → ⊥
 long_unread script seen last lines marks text are long a (inl short) = omega (arith, long, short)
 long_unread script seen last lines marks text are long a (inr (others, those, (one, (k, lt, e), q))) =
     answered_not_quit seen last others marks text one k (subst (λ ls. Answered seen ls marks last text) (script_lines_once script lines others are those) a) lt e q

@@ -1,5 +1,5 @@
 -- The line `quit`, among commands and faults.
-use Rattle.std.proofs.Common.{◌≡◌, ◌≢◌, ℕ, Bool, true, false, List, [], ◌++◌, length, refl, ap, sym, ◌∙◌, arith}
+use Rattle.std.proofs.Common.{◌≡◌, ◌≢◌, ℕ, Bool, true, false, List, [], ◌++◌, length, refl, ap, sym, subst, ◌∙◌, arith}
 use Rattle.std.specs.Prelude.{codes}
 use Rattle.std.specs.Str.{bytes_eq}
 use Rattle.std.proofs.lemmas.List.{append-nil}
@@ -9,11 +9,13 @@ use Rattle.tx_cmd.specs.declared.command.Command.{Command}
 use Rattle.tx_cmd.specs.declared.command.Command.TheVariants.{Quit}
 use Rattle.tx_cmd.specs.declared.command.CmdFault.{CmdFault}
 use Rattle.tx_cmd.specs.declared.command.CmdFault.TheVariants.{Memory}
-use Rattle.tx_cmd.specs.Words.{first_word, word_text}
+use Rattle.tx_cmd.specs.Words.{first_word, word_text, arguments_of, some_stored, TakesMemory}
+use Rattle.tx_cmd.proofs.WordTexts.{one_word}
 use Rattle.tx_cmd.specs.Commands.{IsCommand}
 use Rattle.tx_cmd.specs.Refusals.{IsCmdFault}
 use Rattle.tx_cmd.proofs.Once.{one_command, no_cause}
-use Rattle.tx_session.specs.Replies.{Seen, nothing, too_long, unanswered, command, faulty, is_answered, IsLineReply}
+use Rattle.tx_session.specs.Worlds.{World, Mark}
+use Rattle.tx_session.specs.Replies.{nothing, too_long, unread, command, faulty, IsLineReply}
 
 quit_is : (line : List ℕ) → bytes_eq line (codes "quit") ≡ true → line ≡ codes "quit"
 quit_is line e = (bytes_eq-Decides line (codes "quit")).0 e
@@ -31,19 +33,23 @@ quit_only line it is e = one_command line it Quit is (quit_command line e)
 quit_faultless : (line : List ℕ) (fault : CmdFault) → fault ≢ Memory → IsCmdFault line fault → bytes_eq line (codes "quit") ≡ true → ⊥
 quit_faultless line fault named is e = no_cause line Quit fault named (quit_command line e) is
 
-quit_answered : (line : List ℕ) → bytes_eq line (codes "quit") ≡ true → is_answered (first_word line) ≡ true
-quit_answered line e = ap (λ l. is_answered (first_word l)) (quit_is line e)
+-- reading `quit` takes no memory
+quit_storeless : (line : List ℕ) → bytes_eq line (codes "quit") ≡ true → TakesMemory (first_word line) → ⊥
+quit_storeless line e t =
+    let same : t.0 ≡ QuitWord = one_word t.0 QuitWord (sym t.1 ∙ ap first_word (quit_is line e)) in
+    let stored : some_stored (arguments_of QuitWord) ≡ true = subst (λ w. some_stored (arguments_of w) ≡ true) same t.2 in
+    cc
 
 -- a line that has a reply isn't `quit`
-pub replied_goes_on : (seen next : Seen) (line : List ℕ) (wanting : Bool) (reply : List ℕ) → IsLineReply seen line wanting next reply → bytes_eq line (codes "quit") ≡ false
-replied_goes_on seen next line wanting reply r = not_true (bytes_eq line (codes "quit")) (reads seen next line wanting reply r)
+pub replied_goes_on : (seen next : World) (line : List ℕ) (mark : Mark) (reply : List ℕ) → IsLineReply seen line mark next reply → bytes_eq line (codes "quit") ≡ false
+replied_goes_on seen next line mark reply r = not_true (bytes_eq line (codes "quit")) (reads seen next line mark reply r)
   where
-    reads : (seen next : Seen) (line : List ℕ) (wanting : Bool) (reply : List ℕ) → IsLineReply seen line wanting next reply → bytes_eq line (codes "quit") ≡ true → ⊥
-    reads seen next line wanting reply (nothing, is, r) e = omega (arith, ap length (sym is ∙ quit_is line e))
-    reads seen next line wanting reply (too_long count, is, r) e = omega (arith, is.0, ap length (quit_is line e))
-    reads seen next line wanting reply (unanswered, is, r) e = let yes = quit_answered line e in let other = is.2 in cc
-    reads seen next line wanting reply (command it, is, r) e = r.0 (quit_only line it is.1 e)
-    reads seen next line wanting reply (faulty cause, is, r) e = quit_faultless line cause is.1 is.2 e
+    reads : (seen next : World) (line : List ℕ) (mark : Mark) (reply : List ℕ) → IsLineReply seen line mark next reply → bytes_eq line (codes "quit") ≡ true → ⊥
+    reads seen next line mark reply (nothing, is, r) e = omega (arith, ap length (sym is ∙ quit_is line e))
+    reads seen next line mark reply (too_long count, is, r) e = omega (arith, is.0, ap length (quit_is line e))
+    reads seen next line mark reply (unread, is, r) e = quit_storeless line e is.1
+    reads seen next line mark reply (command it, is, r) e = r.0 (quit_only line it is.1 e)
+    reads seen next line mark reply (faulty cause, is, r) e = quit_faultless line cause is.1 is.2 e
 
     not_true : (b : Bool) → (b ≡ true → ⊥) → b ≡ false
     not_true true h = absurd (h refl)

@@ -10,7 +10,8 @@ use Rattle.tx_session.specs.declared.session.Next.TheVariants as nexts
 use Rattle.tx_session.specs.declared.kept_line.KeptLine.{KeptLine}
 use Rattle.tx_session.specs.declared.script.Turn.{Turn}
 use Rattle.tx_session.specs.declared.script.Turn.TheVariants as turns
-use Rattle.tx_session.specs.Replies.{Seen, IsLineReply}
+use Rattle.tx_session.specs.Replies.{IsLineReply}
+use Rattle.tx_session.specs.Worlds.{World, Mark}
 use Rattle.tx_session.specs.Scripts.{HasLines, Answered, command_line, is_quit}
 
 -- what is kept of a line of these bytes: enough to answer it
@@ -20,46 +21,45 @@ pub record Keeps (line : KeptLine) (bytes : List ℕ) : Type 0 where
   pub returned : line.returned ≡ ends_with nat_eq bytes (13 ∷ [])
 
 -- what became of a line that was kept: it was answered, or it is `quit`, or its reply is written in part
-abbrev pub IsTurned : Result Next WriteFault → Seen → List ℕ → Seen → (before after : Option (List ℕ)) → Type 0
+abbrev pub IsTurned : Result Next WriteFault → World → List ℕ → World → (before after : Option (List ℕ)) → Type 0
 IsTurned (Ok nexts.Go) seen bytes next before after =
-    (wanting : Bool) × (reply : List ℕ) × IsLineReply seen (command_line bytes) wanting next reply × (after ≡ append_known before reply)
+    (mark : Mark) × (reply : List ℕ) × IsLineReply seen (command_line bytes) mark next reply × (after ≡ append_known before reply)
 IsTurned (Ok nexts.Quit) seen bytes next before after = (is_quit bytes ≡ true) × (next ≡ seen) × (after ≡ before)
 IsTurned (Err fault) seen bytes next before after =
-    (wanting : Bool) × (reply : List ℕ) × IsLineReply seen (command_line bytes) wanting next reply × AppendsPart reply before after
+    (mark : Mark) × (reply : List ℕ) × IsLineReply seen (command_line bytes) mark next reply × AppendsPart reply before after
 
 -- the bytes have these lines, which were answered, and the replies written
-pub record Stands (start : Seen) (before : Option (List ℕ)) (bytes rest : List ℕ) (seen : Seen) (after : Option (List ℕ)) : Type 0 where
+pub record Stands (start : World) (before : Option (List ℕ)) (bytes rest : List ℕ) (seen : World) (after : Option (List ℕ)) : Type 0 where
   pub ended : List (List ℕ)
-  pub marks : List Bool
+  pub marks : List Mark
   pub replies : List ℕ
   pub lines : HasLines bytes ended rest
   pub answered : Answered start ended marks seen replies
   pub written : after ≡ append_known before replies
 
 -- the same, and the line that has not ended is kept
-pub record StandsWith (start : Seen) (before : Option (List ℕ)) (bytes : List ℕ) (seen : Seen) (line : KeptLine) (after : Option (List ℕ)) : Type 0 where
+pub record StandsWith (start : World) (before : Option (List ℕ)) (bytes : List ℕ) (seen : World) (line : KeptLine) (after : Option (List ℕ)) : Type 0 where
   pub rest : List ℕ
   pub stands : Stands start before bytes rest seen after
   pub kept : Keeps line rest
 
 -- the lines that ended in the bytes were answered, and the last reply, to the line behind them, is written in part
-pub record IsCutAt (start : Seen) (before : Option (List ℕ)) (bytes : List ℕ) (after : Option (List ℕ)) : Type 0 where
+pub record IsCutAt (start : World) (before : Option (List ℕ)) (bytes : List ℕ) (next : World) (after : Option (List ℕ)) : Type 0 where
   pub rest : List ℕ
-  pub seen : Seen
-  pub next : Seen
+  pub seen : World
   pub between : Option (List ℕ)
-  pub wanting : Bool
+  pub mark : Mark
   pub reply : List ℕ
   pub stands : Stands start before bytes rest seen between
-  pub replied : IsLineReply seen (command_line rest) wanting next reply
+  pub replied : IsLineReply seen (command_line rest) mark next reply
   pub part : AppendsPart reply between after
 
 -- where the bytes end that were taken until now, or that were taken when the session ended
-abbrev pub LeadsTo : Turn → Seen → Option (List ℕ) → List ℕ → Seen → KeptLine → Option (List ℕ) → Type 0
+abbrev pub LeadsTo : Turn → World → Option (List ℕ) → List ℕ → World → KeptLine → Option (List ℕ) → Type 0
 LeadsTo turns.Go start before bytes seen line after = StandsWith start before bytes seen line after
 LeadsTo turns.Quit start before bytes seen line after =
     (upto more rest : List ℕ) × (bytes ≡ upto ++ 10 ∷ more) × Stands start before upto rest seen after × (is_quit rest ≡ true)
 LeadsTo turns.NoMemory start before bytes seen line after =
     (upto more rest : List ℕ) × (b : ℕ) × (bytes ≡ upto ++ b ∷ more) × (b ≢ 10) × (length rest ≤ MOST_LINE) × Stands start before upto rest seen after
 LeadsTo turns.OutputFailed start before bytes seen line after =
-    (upto more : List ℕ) × (bytes ≡ upto ++ 10 ∷ more) × IsCutAt start before upto after
+    (upto more : List ℕ) × (bytes ≡ upto ++ 10 ∷ more) × IsCutAt start before upto seen after

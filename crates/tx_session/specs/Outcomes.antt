@@ -4,18 +4,20 @@ use Rattle.std.specs.Str.{bytes_eq}
 use Rattle.tx_outside.specs.Files.{Files, file_of}
 use Rattle.tx_tree.specs.WideTree.{WideTree}
 use Rattle.tx_tree.specs.Limits.{IsWithinLimits}
-use Rattle.tx_scm.specs.Spelling.{Spells}
+use Rattle.tx_tree.specs.declared.faults.ReadFault.{ReadFault}
+use Rattle.tx_doc.specs.Forms.{form_of}
 use Rattle.tx_session.specs.declared.status.Status.{Status}
 use Rattle.tx_session.specs.declared.status.Status.TheVariants as statuses
 use Rattle.tx_session.specs.Lines.{line}
-use Rattle.tx_session.specs.Names.{buffer_name, is_scheme_name}
+use Rattle.tx_session.specs.Names.{buffer_name}
+use Rattle.tx_session.specs.Forms.{SpellsIn, IsFaultIn}
+use Rattle.tx_session.specs.FaultTexts.{fault_text}
 
 pub data Outcome : Type 0 where
   faulty_words : Outcome
-  other_form : (file : List ℕ) → Outcome
   missing : (file : List ℕ) → Outcome
   too_long : (file : List ℕ) → Outcome
-  no_tree : (file : List ℕ) → Outcome
+  no_tree : (file : List ℕ) → (fault : ReadFault) → Outcome
   store_fault : (file : List ℕ) → Outcome
   no_memory : Outcome
   opened : (file : List ℕ) → (tree : WideTree) → Outcome
@@ -33,13 +35,9 @@ abbrev pub file_in : List (List ℕ) → Option (List ℕ)
 file_in (program ∷ file ∷ []) = if is_nothing (buffer_name file) || asks_help file then None else Some file
 file_in _ = None
 
--- the words name this file, and it is to be read in the Scheme syntax
+-- the words name this file
 abbrev pub Asks : List (List ℕ) → List ℕ → Type 0
-Asks words file = (file_in words ≡ Some file) × (is_scheme_name file ≡ true)
-
--- no tree within the limits is spelled
-abbrev pub SpellsNoTree : List ℕ → Type 0
-SpellsNoTree bytes = (t : WideTree) → IsWithinLimits t → Spells bytes t → ⊥
+Asks words file = file_in words ≡ Some file
 
 -- the file has these bytes, as far as the files are known
 abbrev pub Holds : Option Files → List ℕ → List ℕ → Type 0
@@ -49,22 +47,20 @@ Holds files file bytes = IfSome files (λ all. file_of all file ≡ Some bytes)
 -- is asked.
 abbrev pub ComesTo : List (List ℕ) → Option Files → Outcome → Type 0
 ComesTo words files faulty_words = file_in words ≡ None
-ComesTo words files (other_form file) = (file_in words ≡ Some file) × (is_scheme_name file ≡ false)
 ComesTo words files (missing file) = Asks words file × IfSome files (λ all. file_of all file ≡ None)
 ComesTo words files (too_long file) = Asks words file × IfSome files (λ all. IsSomeAnd (file_of all file) (λ bytes. 2 ^ 24 < length bytes))
-ComesTo words files (no_tree file) = Asks words file × ((bytes : List ℕ) × Holds files file bytes × (length bytes ≤ 2 ^ 24) × SpellsNoTree bytes)
+ComesTo words files (no_tree file fault) = Asks words file × ((bytes : List ℕ) × Holds files file bytes × (length bytes ≤ 2 ^ 24) × IsFaultIn (form_of file) bytes fault)
 ComesTo words files (store_fault file) = Asks words file
 ComesTo words files no_memory = (file : List ℕ) × (file_in words ≡ Some file)
 ComesTo words files (opened file t) =
-    Asks words file × ((bytes : List ℕ) × Holds files file bytes × (length bytes ≤ 2 ^ 24) × Spells bytes t × IsWithinLimits t)
+    Asks words file × ((bytes : List ℕ) × Holds files file bytes × (length bytes ≤ 2 ^ 24) × SpellsIn (form_of file) bytes t × IsWithinLimits t)
 
 -- the status with which opening ends the run, or Ok
 abbrev pub status_of : Outcome → Status
 status_of faulty_words = statuses.Words
-status_of (other_form file) = statuses.Refused
 status_of (missing file) = statuses.Missing
 status_of (too_long file) = statuses.Refused
-status_of (no_tree file) = statuses.Refused
+status_of (no_tree file fault) = statuses.Refused
 status_of (store_fault file) = statuses.StoreFault
 status_of no_memory = statuses.NoMemory
 status_of (opened file t) = statuses.Ok
@@ -75,10 +71,9 @@ usage = codes "usage: tmx [--width N] [--height N] FILE [STYLE]..."
 -- what is written where no file was opened
 abbrev pub text_of : Outcome → List ℕ
 text_of faulty_words = line usage
-text_of (other_form file) = line (codes "refused " ++ (file ++ codes " other-form"))
 text_of (missing file) = line (codes "missing " ++ file)
 text_of (too_long file) = line (codes "refused " ++ (file ++ codes " long"))
-text_of (no_tree file) = line (codes "refused " ++ file)
+text_of (no_tree file fault) = line (codes "refused " ++ (file ++ (32 ∷ fault_text fault)))
 text_of (store_fault file) = line (codes "store " ++ file)
 text_of no_memory = line (codes "memory")
 text_of (opened file t) = []

@@ -1,54 +1,54 @@
 -- How a script was answered. Only private clauses cite this.
-use Rattle.std.specs.Prelude.{◌≡◌, ◌≢◌, ◌++◌, ◌⊎◌, ℕ, Bool, List, Option}
+use Rattle.std.specs.Prelude.{◌≡◌, ◌≢◌, ◌++◌, ◌⊎◌, ℕ, List, Option}
 use Rattle.std.specs.Io.KnownBytes.{append_known}
 use Rattle.tx_outside.specs.Known.{AppendsPart}
 use Rattle.tx_session.specs.declared.status.Status.{Status}
 use Rattle.tx_session.specs.declared.status.Status.TheVariants.{InputFault, OutputFault}
 use Rattle.tx_session.specs.Outcomes.{Outcome, status_of, text_of}
-use Rattle.tx_session.specs.Replies.{Seen}
+use Rattle.tx_session.specs.Worlds.{World, Mark}
 use Rattle.tx_session.specs.Runs.{Tells, IsPlayed, IsReplyBehind, own_line}
 
 -- the replies are written, and the status's own line isn't yet
-pub record HasPlayed (start : Seen) (told rest : Option (List ℕ)) (status : Status) (before after : Option (List ℕ)) : Type 0 where
+pub record HasPlayed (start last : World) (told rest : Option (List ℕ)) (status : Status) (before after : Option (List ℕ)) : Type 0 where
   pub script : List ℕ
-  pub marks : List Bool
+  pub marks : List Mark
   pub replies : List ℕ
   pub tells : Tells told script
-  pub played : IsPlayed start script marks rest status replies
+  pub played : IsPlayed start script marks rest status last replies
   pub written : after ≡ append_known before replies
 
 -- a reply is written in part
-pub record IsCutOff (start : Seen) (told : Option (List ℕ)) (before after : Option (List ℕ)) : Type 0 where
+pub record IsCutOff (start last : World) (told : Option (List ℕ)) (before after : Option (List ℕ)) : Type 0 where
   pub script : List ℕ
   pub done : List ℕ
   pub reply : List ℕ
   pub tells : Tells told script
-  pub behind : IsReplyBehind start script done reply
+  pub behind : IsReplyBehind start script last done reply
   pub part : AppendsPart reply (append_known before done) after
 
-abbrev pub IsEnd : Status → Seen → (told rest before after : Option (List ℕ)) → Type 0
-IsEnd OutputFault start told rest before after = IsCutOff start told before after
-IsEnd status start told rest before after = HasPlayed start told rest status before after
+abbrev pub IsEnd : Status → (start last : World) → (told rest before after : Option (List ℕ)) → Type 0
+IsEnd OutputFault start last told rest before after = IsCutOff start last told before after
+IsEnd status start last told rest before after = HasPlayed start last told rest status before after
 
 -- the same with the status's own line, which is written too, or in part
-pub record IsClosed (start : Seen) (told rest : Option (List ℕ)) (status : Status) (before after : Option (List ℕ)) : Type 0 where
+pub record IsClosed (start last : World) (told rest : Option (List ℕ)) (status : Status) (before after : Option (List ℕ)) : Type 0 where
   pub script : List ℕ
-  pub marks : List Bool
+  pub marks : List Mark
   pub replies : List ℕ
   pub tells : Tells told script
-  pub played : IsPlayed start script marks rest status replies
+  pub played : IsPlayed start script marks rest status last replies
   pub written : after ≡ append_known before (replies ++ own_line status)
 
-pub record IsClosedInPart (failed : Type 0) (start : Seen) (told rest : Option (List ℕ)) (before after : Option (List ℕ)) : Type 0 where
+pub record IsClosedInPart (failed : Type 0) (start last : World) (told rest : Option (List ℕ)) (before after : Option (List ℕ)) : Type 0 where
   pub status : Status
   pub between : Option (List ℕ)
-  pub played : HasPlayed start told rest status before between
+  pub played : HasPlayed start last told rest status before between
   pub part : AppendsPart (own_line status) between after
   pub caused : status ≡ InputFault → failed
 
-abbrev pub IsServed : Type 0 → Status → Seen → (told rest before after : Option (List ℕ)) → Type 0
-IsServed failed OutputFault start told rest before after = IsCutOff start told before after ⊎ IsClosedInPart failed start told rest before after
-IsServed failed status start told rest before after = IsClosed start told rest status before after
+abbrev pub IsServed : Type 0 → Status → (start last : World) → (told rest before after : Option (List ℕ)) → Type 0
+IsServed failed OutputFault start last told rest before after = IsCutOff start last told before after ⊎ IsClosedInPart failed start last told rest before after
+IsServed failed status start last told rest before after = IsClosed start last told rest status before after
 
 -- the line of an outcome that opened no file, which is written, or in part
 pub record IsLine (o : Outcome) (status : Status) (before after : Option (List ℕ)) : Type 0 where

@@ -5,20 +5,23 @@ use Rattle.tx_outside.specs.Files.{Files, file_of}
 use Rattle.tx_outside.specs.Known.{AppendsPart}
 use Rattle.tx_tree.specs.WideTree.{WideTree}
 use Rattle.tx_tree.specs.Limits.{IsWithinLimits}
-use Rattle.tx_scm.specs.Spelling.{Spells}
+use Rattle.tx_doc.specs.Forms.{form_of}
+use Rattle.tx_state.specs.States.{opening}
 use Rattle.tx_cmd.specs.declared.TheConstants.{MOST_LINE}
 use Rattle.tx_session.specs.declared.TheConstants.{MOST_SCRIPT}
 use Rattle.tx_session.specs.declared.status.Status.{Status}
 use Rattle.tx_session.specs.declared.status.Status.TheVariants.{Ok, StoreFault, InputFault, OutputFault, NoMemory, ScriptLong}
 use Rattle.tx_session.specs.Lines.{line}
-use Rattle.tx_session.specs.Names.{buffer_name, is_scheme_name}
-use Rattle.tx_session.specs.Outcomes.{Outcome, missing, too_long, store_fault, opened, ComesTo, Asks, Holds, SpellsNoTree, file_in, status_of, text_of}
-use Rattle.tx_session.specs.Replies.{Seen, IsLineReply}
+use Rattle.tx_session.specs.Names.{buffer_name}
+use Rattle.tx_session.specs.Forms.{SpellsIn, SpellsNoTree}
+use Rattle.tx_session.specs.Outcomes.{Outcome, missing, too_long, store_fault, opened, ComesTo, Asks, Holds, status_of, text_of}
+use Rattle.tx_session.specs.Replies.{IsLineReply}
+use Rattle.tx_session.specs.Worlds.{Seen, Stored, World, Mark, KeepsFiles}
 use Rattle.tx_session.specs.Scripts.{HasLines, AreLinesOf, Answered, before_quit, command_line, is_quit}
 
 -- the session of a file that was opened: pages of 80 by 24, and nothing shown yet
 abbrev pub start_of : List ℕ → WideTree → Seen
-start_of file t = record { state = record { buffers = record { name = buffer_name file; tree = t } ∷ [] }; width = 80; height = 24; fresh = false }
+start_of file t = record { state = opening (record { name = buffer_name file; tree = t } ∷ []); width = 80; height = 24; fresh = false }
 
 -- the script is this one, as far as the input tells it
 abbrev pub Tells : Option (List ℕ) → List ℕ → Type 0
@@ -37,20 +40,20 @@ EndedByQuit script rest =
 -- line's on, none left out. After a fault of the input they are those to the lines that had ended in what was taken, in a script that is too
 -- long those to the lines that end within the limit, and without memory those to the lines before one of which a byte was taken that couldn't
 -- be kept.
-abbrev pub IsPlayed : Seen → (script : List ℕ) → (marks : List Bool) → (rest : Option (List ℕ)) → Status → (text : List ℕ) → Type 0
-IsPlayed start script marks rest Ok text =
-    (lines : List (List ℕ)) × (last : Seen) × AreLinesOf script lines × CanBeRead script × Answered start (before_quit lines) marks last text
+abbrev pub IsPlayed : World → (script : List ℕ) → (marks : List Mark) → (rest : Option (List ℕ)) → Status → (last : World) → (text : List ℕ) → Type 0
+IsPlayed start script marks rest Ok last text =
+    (lines : List (List ℕ)) × AreLinesOf script lines × CanBeRead script × Answered start (before_quit lines) marks last text
     × IfSome rest (λ bytes. (bytes ≡ []) ⊎ EndedByQuit script bytes)
-IsPlayed start script marks rest ScriptLong text =
-    (lines : List (List ℕ)) × (last : Seen) × AreLinesOf script lines × (MOST_SCRIPT < length script) × Answered start lines marks last text
+IsPlayed start script marks rest ScriptLong last text =
+    (lines : List (List ℕ)) × AreLinesOf script lines × (MOST_SCRIPT < length script) × Answered start lines marks last text
     × IfSome rest (λ bytes. MOST_SCRIPT + length bytes < length script)
-IsPlayed start script marks rest InputFault text =
-    (n : ℕ) × (ended : List (List ℕ)) × (unended : List ℕ) × (last : Seen) × (n ≤ length script) × (n ≤ MOST_SCRIPT) × IfSome rest (λ bytes. bytes ≡ drop n script)
+IsPlayed start script marks rest InputFault last text =
+    (n : ℕ) × (ended : List (List ℕ)) × (unended : List ℕ) × (n ≤ length script) × (n ≤ MOST_SCRIPT) × IfSome rest (λ bytes. bytes ≡ drop n script)
     × HasLines (take n script) ended unended × Answered start ended marks last text
-IsPlayed start script marks rest NoMemory text =
-    (upto more : List ℕ) × (b : ℕ) × (ended : List (List ℕ)) × (unended : List ℕ) × (last : Seen) × (script ≡ upto ++ b ∷ more) × (b ≢ 10) × (length unended ≤ MOST_LINE) × (length upto < MOST_SCRIPT)
+IsPlayed start script marks rest NoMemory last text =
+    (upto more : List ℕ) × (b : ℕ) × (ended : List (List ℕ)) × (unended : List ℕ) × (script ≡ upto ++ b ∷ more) × (b ≢ 10) × (length unended ≤ MOST_LINE) × (length upto < MOST_SCRIPT)
     × HasLines upto ended unended × Answered start ended marks last text × IfSome rest (λ bytes. length bytes ≤ length more)
-IsPlayed start script marks rest _ text = ⊥
+IsPlayed start script marks rest _ last text = ⊥
 
 -- a status's own line, behind the replies
 abbrev pub own_line : Status → List ℕ
@@ -59,17 +62,19 @@ own_line ScriptLong = line (codes "script-long")
 own_line NoMemory = line (codes "memory")
 own_line _ = []
 
--- A session that ends with a status has written this text. Where no file was opened, nothing is taken of the input.
-abbrev pub IsWhole : Outcome → Option (List ℕ) → List Bool → Option (List ℕ) → Status → List ℕ → Type 0
-IsWhole (opened file t) told marks rest status text =
-    (script : List ℕ) × (replies : List ℕ) × Tells told script × IsPlayed (start_of file t) script marks rest status replies × (text ≡ replies ++ own_line status)
-IsWhole unopened told marks rest status text = (marks ≡ []) × (status ≡ status_of unopened) × (text ≡ text_of unopened) × (rest ≡ told)
+-- A session that ends with a status has written this text, and the store is then as its commands left it. Where no file was opened, nothing
+-- is taken of the input.
+abbrev pub IsWhole : Outcome → (before after : Stored) → Option (List ℕ) → List Mark → Option (List ℕ) → Status → List ℕ → Type 0
+IsWhole (opened file t) before after told marks rest status text =
+    (script : List ℕ) × (replies : List ℕ) × (first : Stored) × (last : World) × KeepsFiles before first × Tells told script
+    × IsPlayed (record { session = start_of file t; store = first }) script marks rest status last replies × (last.store ≡ after) × (text ≡ replies ++ own_line status)
+IsWhole unopened before after told marks rest status text = (marks ≡ []) × (status ≡ status_of unopened) × (text ≡ text_of unopened) × (rest ≡ told) × KeepsFiles before after
 
 -- the reply to one of the script's lines, behind the replies to all lines before it
-abbrev pub IsReplyBehind : Seen → (script : List ℕ) → (done reply : List ℕ) → Type 0
-IsReplyBehind start script done reply =
-    (lines before behind : List (List ℕ)) × (one : List ℕ) × (marks : List Bool) × (seen next : Seen) × (wanting : Bool)
-    × AreLinesOf script lines × (lines ≡ before ++ one ∷ behind) × Answered start before marks seen done × IsLineReply seen (command_line one) wanting next reply
+abbrev pub IsReplyBehind : World → (script : List ℕ) → (next : World) → (done reply : List ℕ) → Type 0
+IsReplyBehind start script next done reply =
+    (lines before behind : List (List ℕ)) × (one : List ℕ) × (marks : List Mark) × (seen : World) × (mark : Mark)
+    × AreLinesOf script lines × (lines ≡ before ++ one ∷ behind) × Answered start before marks seen done × IsLineReply seen (command_line one) mark next reply
 
 -- whether the counts of misses, of files that are too long, and of faults of the store and of the input rose in a run
 pub record Rises : Type 1 where
@@ -86,34 +91,41 @@ IsCaused rises (store_fault file) = rises.store_faults
 IsCaused rises _ = Unit {0}
 
 -- what is being written: some of it is, and this part not yet whole
-abbrev pub IsBeingWritten : Rises → Outcome → Option (List ℕ) → Option (List ℕ) → (done part : List ℕ) → Type 0
-IsBeingWritten rises (opened file t) told rest done part =
-    (script : List ℕ) × Tells told script
-    × (IsReplyBehind (start_of file t) script done part
-    ⊎ ((status : Status) × (marks : List Bool) × IsPlayed (start_of file t) script marks rest status done × (part ≡ own_line status) × (status ≡ InputFault → rises.input_faults)))
-IsBeingWritten rises unopened told rest done part = (done ≡ []) × (part ≡ text_of unopened) × (rest ≡ told) × IsCaused rises unopened
+abbrev pub IsBeingWritten : Rises → Outcome → (before after : Stored) → Option (List ℕ) → Option (List ℕ) → (done part : List ℕ) → Type 0
+IsBeingWritten rises (opened file t) before after told rest done part =
+    (script : List ℕ) × (first : Stored) × (last : World) × KeepsFiles before first × Tells told script × (last.store ≡ after)
+    × (IsReplyBehind (record { session = start_of file t; store = first }) script last done part
+    ⊎ ((status : Status) × (marks : List Mark) × IsPlayed (record { session = start_of file t; store = first }) script marks rest status last done × (part ≡ own_line status) × (status ≡ InputFault → rises.input_faults)))
+IsBeingWritten rises unopened before after told rest done part = (done ≡ []) × (part ≡ text_of unopened) × (rest ≡ told) × KeepsFiles before after × IsCaused rises unopened
+
+-- what a run has outside itself: a store, what the input tells, and what is written, where the output tells it
+pub record Outside : Type 0 where
+  pub store : Stored
+  pub input : Option (List ℕ)
+  pub output : Option (List ℕ)
 
 -- The words and the files come to an outcome, and a run of it ends with the status. After a fault of the output only a part of what was
 -- being written is written, from its start on.
-pub record IsWritten (words : List (List ℕ)) (files : Option Files) (told : Option (List ℕ)) (rest : Option (List ℕ)) (status : Status) (before after : Option (List ℕ)) : Type 0 where
+pub record IsWritten (rises : Rises) (words : List (List ℕ)) (status : Status) (before after : Outside) : Type 0 where
   pub outcome : Outcome
-  pub marks : List Bool
+  pub marks : List Mark
   pub text : List ℕ
-  pub comes : ComesTo words files outcome
-  pub whole : IsWhole outcome told marks rest status text
-  pub written : after ≡ append_known before text
+  pub comes : ComesTo words before.store.files outcome
+  pub caused : IsCaused rises outcome
+  pub whole : IsWhole outcome before.store after.store before.input marks after.input status text
+  pub written : after.output ≡ append_known before.output text
 
-pub record IsCutShort (rises : Rises) (words : List (List ℕ)) (files : Option Files) (told : Option (List ℕ)) (rest : Option (List ℕ)) (before after : Option (List ℕ)) : Type 0 where
+pub record IsCutShort (rises : Rises) (words : List (List ℕ)) (before after : Outside) : Type 0 where
   pub outcome : Outcome
   pub done : List ℕ
   pub part : List ℕ
-  pub comes : ComesTo words files outcome
-  pub being : IsBeingWritten rises outcome told rest done part
-  pub cut : AppendsPart part (append_known before done) after
+  pub comes : ComesTo words before.store.files outcome
+  pub being : IsBeingWritten rises outcome before.store after.store before.input after.input done part
+  pub cut : AppendsPart part (append_known before.output done) after.output
 
-abbrev pub IsRun : Rises → List (List ℕ) → Option Files → Option (List ℕ) → Option (List ℕ) → Status → Option (List ℕ) → Option (List ℕ) → Type 0
-IsRun rises words files told rest OutputFault before after = IsCutShort rises words files told rest before after
-IsRun rises words files told rest status before after = IsWritten words files told rest status before after
+abbrev pub IsRun : Rises → List (List ℕ) → Status → (before after : Outside) → Type 0
+IsRun rises words OutputFault before after = IsCutShort rises words before after
+IsRun rises words status before after = IsWritten rises words status before after
 
 -- a status that words, files, script and marks determine: no device failed, and memory sufficed
 abbrev pub IsFinal : Status → Type 0
@@ -123,13 +135,12 @@ IsFinal OutputFault = ⊥
 IsFinal NoMemory = ⊥
 IsFinal _ = Unit {0}
 
--- The file is refused: it is in another form, or a file that was asked for was too long, or it isn't, and its bytes spell no tree
--- within the limits.
+-- The file is refused: a file that was asked for was too long, or it isn't, and its bytes spell no tree within the limits.
 abbrev pub IsRefused : List (List ℕ) → Option Files → Type 0 → Type 0
 IsRefused words files long =
-    (file : List ℕ) × (file_in words ≡ Some file) × ((is_scheme_name file ≡ false) ⊎ long ⊎ ((bytes : List ℕ) × Holds files file bytes × (length bytes ≤ 2 ^ 24) × SpellsNoTree bytes))
+    (file : List ℕ) × Asks words file × (long ⊎ ((bytes : List ℕ) × Holds files file bytes × (length bytes ≤ 2 ^ 24) × SpellsNoTree (form_of file) bytes))
 
 -- the words name a file that is there, is no longer than a file may be, and spells a tree within the limits
 abbrev pub CanBeOpened : List (List ℕ) → Option Files → Type 0
 CanBeOpened words files =
-    (all : Files) × (files ≡ Some all) × ((file bytes : List ℕ) × (t : WideTree) × Asks words file × (file_of all file ≡ Some bytes) × (length bytes ≤ 2 ^ 24) × Spells bytes t × IsWithinLimits t)
+    (all : Files) × (files ≡ Some all) × ((file bytes : List ℕ) × (t : WideTree) × Asks words file × (file_of all file ≡ Some bytes) × (length bytes ≤ 2 ^ 24) × SpellsIn (form_of file) bytes t × IsWithinLimits t)

@@ -4,7 +4,8 @@ use Rattle.std.specs.List.{flat_map, before_first, ends_with}
 use Rattle.std.specs.Str.{bytes_eq}
 use Rattle.tx_session.specs.declared.TheConstants.{MOST_SCRIPT}
 use Rattle.tx_session.specs.Lines.{line}
-use Rattle.tx_session.specs.Replies.{Seen, IsLineReply}
+use Rattle.tx_session.specs.Replies.{IsLineReply}
+use Rattle.tx_session.specs.Worlds.{World, Mark}
 
 abbrev pub IsOneLine : List ℕ → Type 0
 IsOneLine text = All (λ b. b ≢ 10) text
@@ -32,10 +33,10 @@ AreLinesOf script lines =
     ((length script ≤ MOST_SCRIPT) × ((ended : List (List ℕ)) × (rest : List ℕ) × HasLines script ended rest × (lines ≡ ended ++ rest ∷ [])))
     ⊎ ((MOST_SCRIPT < length script) × ((rest : List ℕ) × HasLines (take MOST_SCRIPT script) lines rest))
 
--- The lines are answered one after the other, from what a session is to what it is then, and none is `quit`. Each has a mark, which
--- says whether memory ran out at it. The text is all the replies.
-abbrev pub Answered : Seen → List (List ℕ) → (marks : List Bool) → Seen → (text : List ℕ) → Type 0
-Answered seen [] [] last text = (last ≡ seen) × (text ≡ [])
-Answered seen (one ∷ lines) (wanting ∷ marks) last text =
-    (next : Seen) × (reply rest : List ℕ) × IsLineReply seen (command_line one) wanting next reply × Answered next lines marks last rest × (text ≡ reply ++ rest)
-Answered seen _ _ last text = ⊥
+-- The lines are answered one after the other, from what a session and its store are to what they are then, and none is `quit`. Each
+-- has a mark. The text is all the replies.
+abbrev pub Answered : World → List (List ℕ) → (marks : List Mark) → World → (text : List ℕ) → Type 0
+Answered before [] [] last text = (last ≡ before) × (text ≡ [])
+Answered before (one ∷ lines) (mark ∷ marks) last text =
+    (next : World) × (reply rest : List ℕ) × IsLineReply before (command_line one) mark next reply × Answered next lines marks last rest × (text ≡ reply ++ rest)
+Answered before _ _ last text = ⊥

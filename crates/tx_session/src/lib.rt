@@ -6,10 +6,14 @@
 //! relation between words, files, script, status and the bytes written.
 #![tactic(auto)]
 
+mod fault_lines;
 mod kept_line;
 mod names;
 mod opening;
+mod places;
+mod replies;
 mod runs;
+mod saving;
 mod script;
 mod session;
 mod status;
@@ -18,6 +22,7 @@ mod tests;
 mod view;
 
 pub use runs::{one_outcome, one_run, run};
+pub use saving::saved_spells_alone;
 pub use session::{Next, Session};
 pub use status::Status;
 pub use view::{one_showing, pages_hold_lines};

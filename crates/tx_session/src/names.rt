@@ -1,7 +1,7 @@
-// The names of buffers and the forms of files.
+// The names of buffers.
 ghost use Rattle.std.specs.Prelude.{◌≡◌, ◌≤◌, ◌-◌, ◌==◌, not, length};
 ghost use Rattle.std.specs.List.{suffix_len};
-ghost use Rattle.tx_session.specs.Names.{buffer_name, is_scheme_name};
+ghost use Rattle.tx_session.specs.Names.{buffer_name};
 
 // The place behind the last such byte, or 0 where there is none.
 fn behind_last(bytes: &[u8], byte: u8) -> usize
@@ -23,11 +23,4 @@ pub(crate) fn buffer_name(path: &[u8]) -> &[u8]
     let base = &path[behind_last(path, b'/')..];
     let end = behind_last(base, b'.');
     if end > 1 { &base[..end - 1] } else { base }
-}
-
-/// Whether a file of this name is in the Scheme syntax: where it ends in `.scm` or `.stm`.
-pub(crate) fn is_scheme_name(path: &[u8]) -> bool
-    ensures { result ≡ is_scheme_name path.now }
-{
-    path.ends_with(b".scm") || path.ends_with(b".stm")
 }

@@ -1,16 +1,20 @@
 // The file that the words name, loaded and read.
-ghost use Rattle.std.specs.Prelude.{◌≡◌, ◌≢◌, ◌↔◌, IsTrue, List, ℕ, map, None, Some, [], ◌++◌, IfOk, MatchOption};
+ghost use Rattle.std.specs.Prelude.{◌≡◌, ◌≢◌, ◌↔◌, IsTrue, List, ℕ, map, None, Some, [], ◌++◌, IfOk, IfErr, MatchOption};
 ghost use Rattle.std.specs.String.{string_bytes};
 ghost use Rattle.tx_outside.specs.Counts.{NeverFalls, Rose};
 ghost use Rattle.tx_session.specs.Outcomes.{asks_help, ComesTo, file_in, status_of, text_of, too_long, faulty_words};
+ghost use Rattle.tx_session.specs.Forms.{SpellsIn, IsFaultIn};
+ghost use Rattle.tx_tree.specs.Limits.{IsWithinLimits};
 ghost use Rattle.tx_session.specs.Lines.{line};
 ghost use Rattle.tx_session.specs.Openings.{outcome_of};
 
-use crate::names::{buffer_name, is_scheme_name};
+use crate::fault_lines::line_of_fault;
+use crate::names::buffer_name;
 use crate::status::Status;
 use std::alloc::Global;
 use std::sync::ledger::Ledger;
 use tx_base::{Memory, Steps};
+use tx_doc::{Form, form_of};
 use tx_outside::{LoadFault, Store};
 use tx_tree::{ReadFault, Tree};
 
@@ -21,10 +25,9 @@ pub(crate) const USAGE: &[u8] = b"usage: tmx [--width N] [--height N] FILE [STYL
 #[derive(Drop)]
 pub(crate) enum Opening<'a> {
     FaultyWords,
-    OtherForm(&'a [u8]),
     Missing(&'a [u8]),
     TooLong(&'a [u8]),
-    NoTree(&'a [u8]),
+    NoTree(&'a [u8], ReadFault),
     StoreFault(&'a [u8]),
     NoMemory,
     Opened(&'a [u8], Tree),
@@ -51,6 +54,22 @@ fn file_word(words: &[String]) -> Option<&[u8]>
     Some(file)
 }
 
+// The tree that the bytes spell in this form.
+fn read<L: Ledger>(
+    alloc: Global,
+    form: Form,
+    bytes: &[u8],
+    steps: &mut Steps<L>,
+) -> Result<Tree, ReadFault>
+    ensures found { IfOk result (λ t. SpellsIn form bytes.now t × IsWithinLimits t) }
+    ensures refused { IfErr result (λ fault. fault ≢ ReadFault.Memory → IsFaultIn form bytes.now fault) }
+{
+    match form {
+        Form::Scheme => tx_scm::read(alloc, bytes, steps),
+        Form::Tm => tx_tm_read::read(alloc, bytes, steps),
+    }
+}
+
 /// Finds the file that the words name, loads it, and reads it.
 pub(crate) fn open<'a, S: Store, L: Ledger>(
     alloc: Global,
@@ -70,15 +89,12 @@ pub(crate) fn open<'a, S: Store, L: Ledger>(
     let Some(file) = file_word(words) else {
         return Opening::FaultyWords;
     };
-    if !is_scheme_name(file) {
-        return Opening::OtherForm(file);
-    }
     let mut bytes = Vec::new(alloc);
     match store.load(file, &mut bytes) {
-        Ok(()) => match tx_scm::read(alloc, &bytes, steps) {
+        Ok(()) => match read(alloc, form_of(file), &bytes, steps) {
             Ok(tree) => Opening::Opened(file, tree),
-            Err(ReadFault::NoTree) => Opening::NoTree(file),
             Err(ReadFault::Memory) => Opening::NoMemory,
+            Err(fault) => Opening::NoTree(file, fault),
         },
         Err(LoadFault::Missing) => Opening::Missing(file),
         Err(LoadFault::TooLong) => Opening::TooLong(file),
@@ -105,7 +121,7 @@ impl Opening<'_> {
     {
         match self {
             Opening::FaultyWords => Status::Words,
-            Opening::OtherForm(_) | Opening::TooLong(_) | Opening::NoTree(_) => Status::Refused,
+            Opening::TooLong(_) | Opening::NoTree(..) => Status::Refused,
             Opening::Missing(_) => Status::Missing,
             Opening::StoreFault(_) => Status::StoreFault,
             Opening::NoMemory => Status::NoMemory,
@@ -119,10 +135,14 @@ impl Opening<'_> {
     {
         match self {
             Opening::FaultyWords => Ok(Vec::from_slice(alloc, USAGE)?),
-            Opening::OtherForm(file) => line_of(alloc, b"refused ", file, b" other-form"),
             Opening::Missing(file) => line_of(alloc, b"missing ", file, b""),
             Opening::TooLong(file) => line_of(alloc, b"refused ", file, b" long"),
-            Opening::NoTree(file) => line_of(alloc, b"refused ", file, b""),
+            Opening::NoTree(file, fault) => {
+                let mut words = Vec::from_slice(alloc, b"refused ")?;
+                words.extend_from_slice(file)?;
+                words.push(b' ')?;
+                line_of_fault(alloc, &words, *fault)
+            }
             Opening::StoreFault(file) => line_of(alloc, b"store ", file, b""),
             Opening::NoMemory => line_of(alloc, b"memory", b"", b""),
             Opening::Opened(_, _) => Ok(Vec::new(alloc)),

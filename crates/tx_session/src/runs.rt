@@ -8,6 +8,9 @@ ghost use Rattle.tx_outside.specs.Known.{AppendsPart, StaysKnown};
 ghost use Rattle.tx_session.specs.Outcomes.{file_in, ComesTo, IsDecided, Outcome, no_memory, opened};
 ghost use Rattle.tx_session.specs.Runs.{IsFinal, IsWhole, CanBeOpened, CanBeRead, IsRefused, IsRun, IsWritten, own_line, start_of};
 ghost use Rattle.tx_session.specs.Playing.{IsServed, IsLine};
+ghost use Rattle.tx_session.specs.Scripts.{Answered};
+ghost use Rattle.tx_session.specs.Storing.{GoesOn};
+ghost use Rattle.tx_session.specs.Worlds.{Mark, Stored, World, RoseBy, stored, unsaved_in, world};
 ghost use Rattle.tx_tree.specs.WideTree.{WideTree};
 ghost use Rattle.tx_session.specs.declared.status.Status.{Status};
 ghost use Rattle.tx_session.specs.Openings.{outcome_of};
@@ -92,10 +95,10 @@ fn serve<S: Store, I: Source, O: Sink, L: Ledger>(
     out: &mut O,
     steps: &mut Steps<L>,
 ) -> Status
-    ensures ended { IsServed (Rose (I.faults input.old) (I.faults input.new)) result session.old (I.left input.old) (I.left input.new) (O.written out.old) (O.written out.new) }
+    ensures ended { IsServed (Rose (I.faults input.old) (I.faults input.new)) result (world session.old (S.files store.old) (S.faults store.old)) (world session.new (S.files store.new) (S.faults store.new)) (I.left input.old) (I.left input.new) (O.written out.old) (O.written out.new) }
     ensures input_fault_counted { result ≡ Status.InputFault → Rose (I.faults input.old) (I.faults input.new) }
     ensures output_fault_counted { result ≡ Status.OutputFault → Rose (O.faults out.old) (O.faults out.new) }
-    ensures store_kept { store.new ≡ store.old }
+    ensures store_goes_on { GoesOn (S.files store.old) (S.files store.new) (S.faults store.old) (S.faults store.new) (S.misses store.old) (S.misses store.new) (S.longs store.old) (S.longs store.new) }
     ensures input_faults_never_fall { NeverFalls (I.faults input.old) (I.faults input.new) }
     ensures output_faults_never_fall { NeverFalls (O.faults out.old) (O.faults out.new) }
     ensures input_stays_known { StaysKnown (I.left input.old) (I.left input.new) }
@@ -124,7 +127,9 @@ pub fn run<S: Store, I: Source, O: Sink, L: Ledger>(
     steps: &mut Steps<L>,
 ) -> Status
     ensures run { IsRun (record { misses = Rose (S.misses store.old) (S.misses store.new); longs = Rose (S.longs store.old) (S.longs store.new); store_faults = Rose (S.faults store.old) (S.faults store.new); input_faults = Rose (I.faults input.old) (I.faults input.new) })
-        (map string_bytes words.now) (S.files store.old) (I.left input.old) (I.left input.new) result (O.written out.old) (O.written out.new) }
+        (map string_bytes words.now) result
+        (record { store = stored (S.files store.old) (S.faults store.old); input = I.left input.old; output = O.written out.old })
+        (record { store = stored (S.files store.new) (S.faults store.new); input = I.left input.new; output = O.written out.new }) }
 
     // Where each status comes.
     ensures words { result ≡ Status.Words → file_in (map string_bytes words.now) ≡ None }
@@ -141,7 +146,7 @@ pub fn run<S: Store, I: Source, O: Sink, L: Ledger>(
         → (result ≡ Status.Ok) ⊎ (result ≡ Status.NoMemory) }
 
     // What is as before, and what never falls.
-    ensures files_kept { S.files store.new ≡ S.files store.old }
+    ensures files_stay_known { StaysKnown (S.files store.old) (S.files store.new) }
     ensures output_stays_known { StaysKnown (O.written out.old) (O.written out.new) }
     ensures input_stays_known { StaysKnown (I.left input.old) (I.left input.new) }
     ensures store_faults_never_fall { NeverFalls (S.faults store.old) (S.faults store.new) }
@@ -166,10 +171,15 @@ pub fn one_outcome()
     ensures { (words : List (List ℕ)) (all : Files) (o p : Outcome) → ComesTo words (Some all) o → ComesTo words (Some all) p → IsDecided o → IsDecided p → o ≡ p }
 {}
 
-/// A law: words, files, a script and marks, which say at which lines memory ran out, come to one status and one text, where no
-/// device failed and memory sufficed otherwise.
+/// A law: words, files, a script and marks, which say at which lines memory ran out or the store failed, come to one status and one
+/// text, where no device failed otherwise and memory sufficed otherwise.
 pub fn one_run()
-    ensures { (words : List (List ℕ)) (all : Files) (script : List ℕ) (marks : List Bool) (o p : Outcome) (r q : Option (List ℕ)) (s t : Status) (a b : List ℕ)
+    ensures { (words : List (List ℕ)) (all : Files) (script : List ℕ) (marks : List Mark) (o p : Outcome) (v w x y : Stored) (r q : Option (List ℕ)) (s t : Status) (a b : List ℕ)
         → IsFinal s → IsFinal t → ComesTo words (Some all) o → ComesTo words (Some all) p
-        → IsWhole o (Some script) marks r s a → IsWhole p (Some script) marks q t b → (s ≡ t) × (a ≡ b) }
+        → IsWhole o v x (Some script) marks r s a → IsWhole p w y (Some script) marks q t b → (s ≡ t) × (a ≡ b) }
+{}
+
+/// A law: the store's count of faults rises by at least the number of lines that are marked so, or stands at its last value.
+pub fn failures_counted()
+    ensures { (before last : World) (lines : List (List ℕ)) (marks : List Mark) (text : List ℕ) → Answered before lines marks last text → RoseBy (unsaved_in marks) before.store.faults last.store.faults }
 {}

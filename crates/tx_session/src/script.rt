@@ -2,11 +2,11 @@
 ghost use Rattle.std.specs.Prelude.{◌≡◌, ◌≢◌, ◌≤◌, ◌<◌, ◌+◌, ◌∷◌, ◌++◌, ◌⊎◌, ℕ, List, [], Option, Bool, length, decimal, IfOk, OnOk, OnErr, IfErr, IfSome, Ok};
 ghost use Rattle.tx_outside.specs.Counts.{NeverFalls, Rose};
 ghost use Rattle.tx_outside.specs.Known.{StaysKnown};
-ghost use Rattle.tx_cmd.specs.Words.{first_word};
 ghost use Rattle.tx_cmd.specs.declared.command.CmdFault.{CmdFault};
-ghost use Rattle.tx_session.specs.Replies.{Seen, IsLineReply, is_answered, refusal, wanting_reply};
+ghost use Rattle.tx_session.specs.Replies.{refusal, wanting_reply};
+ghost use Rattle.tx_session.specs.Worlds.{World, world};
+ghost use Rattle.tx_session.specs.Storing.{GoesOn};
 ghost use Rattle.tx_session.specs.Scripts.{command_line, is_quit};
-ghost use Rattle.tx_session.specs.Lines.{line};
 ghost use Rattle.tx_session.specs.Runs.{Tells};
 ghost use Rattle.tx_session.specs.Writing.{IsSaid};
 ghost use Rattle.tx_session.specs.Keeping.{Keeps, StandsWith, LeadsTo, IsTurned};
@@ -14,34 +14,14 @@ ghost use Rattle.tx_session.specs.Playing.{IsEnd};
 
 use crate::MOST_SCRIPT;
 use crate::kept_line::KeptLine;
-use crate::session::{NO_MEMORY, Next, Session, say};
+use crate::replies::{say, unread};
+use crate::session::{Next, Session};
 use crate::status::Status;
 use std::alloc::Global;
 use std::sync::ledger::Ledger;
 use tx_base::{Memory, Steps};
-use tx_cmd::{CmdFault, first_word, parse};
+use tx_cmd::{CmdFault, parse};
 use tx_outside::{Failed, Sink, Source, Store, WriteFault};
-
-// A line of a word and a number.
-fn numbered(alloc: Global, words: &str, number: u64) -> Result<Vec<u8>, Memory>
-    ensures { IfOk result (λ text. text.items ≡ line (words.now ++ (32 ∷ decimal number))) }
-{
-    Ok(format!(in alloc; "{words} {number}\n")?.into_bytes())
-}
-
-// The reply to a line that is no command.
-fn refusal(alloc: Global, fault: CmdFault) -> Result<Vec<u8>, Memory>
-    ensures { IfOk result (λ text. text.items ≡ refusal fault) }
-{
-    match fault {
-        CmdFault::Long(length) => numbered(alloc, "no long", length),
-        CmdFault::Unknown => Ok(Vec::from_slice(alloc, b"no unknown\n")?),
-        CmdFault::Args(at) => numbered(alloc, "no args", at as u64),
-        CmdFault::Path(at) => numbered(alloc, "no path", at as u64),
-        CmdFault::Tree(_) => Ok(Vec::from_slice(alloc, b"no tree\n")?),
-        CmdFault::Memory => Ok(Vec::from_slice(alloc, NO_MEMORY)?),
-    }
-}
 
 // Refuses a line that is no command.
 fn refuse<O: Sink>(alloc: Global, out: &mut O, fault: CmdFault) -> Result<Next, WriteFault>
@@ -51,18 +31,7 @@ fn refuse<O: Sink>(alloc: Global, out: &mut O, fault: CmdFault) -> Result<Next, 
     ensures faults_never_fall { NeverFalls (O.faults out.old) (O.faults out.new) }
     ensures stays_known { StaysKnown (O.written out.old) (O.written out.new) }
 {
-    match refusal(alloc, fault) {
-        Ok(text) => say(out, &text),
-        Err(Memory) => say(out, NO_MEMORY),
-    }
-}
-
-// Whether the line's first word is one that the session answers.
-fn is_answered(line: &[u8]) -> bool
-    ensures { result ≡ is_answered (first_word line.now) }
-{
-    let word = first_word(line);
-    word == b"show".as_slice() || word == b"tree".as_slice() || word == b"quit".as_slice()
+    say(out, unread(alloc, fault).text())
 }
 
 // Answers a line that has ended.
@@ -75,9 +44,9 @@ fn answer_line<S: Store, O: Sink, L: Ledger>(
     steps: &mut Steps<L>,
 ) -> Result<Next, WriteFault>
     requires kept { (bytes : List ℕ) × Keeps line.now bytes }
-    ensures answered { (bytes : List ℕ) → Keeps line.now bytes → IsTurned result session.old bytes session.new (O.written out.old) (O.written out.new) }
+    ensures answered { (bytes : List ℕ) → Keeps line.now bytes → IsTurned result (world session.old (S.files store.old) (S.faults store.old)) bytes (world session.new (S.files store.new) (S.faults store.new)) (O.written out.old) (O.written out.new) }
     ensures failed_rose { OnErr result (Rose (O.faults out.old) (O.faults out.new)) }
-    ensures store_kept { store.new ≡ store.old }
+    ensures store_goes_on { GoesOn (S.files store.old) (S.files store.new) (S.faults store.old) (S.faults store.new) (S.misses store.old) (S.misses store.new) (S.longs store.old) (S.longs store.new) }
     ensures faults_never_fall { NeverFalls (O.faults out.old) (O.faults out.new) }
     ensures stays_known { StaysKnown (O.written out.old) (O.written out.new) }
 {
@@ -87,9 +56,6 @@ fn answer_line<S: Store, O: Sink, L: Ledger>(
     };
     if text.is_empty() {
         return Ok(Next::Go);
-    }
-    if !is_answered(text) {
-        return refuse(alloc, out, CmdFault::Unknown);
     }
     match parse(alloc, text, steps) {
         Ok(command) => session.step(alloc, &command, store, out, steps),
@@ -117,13 +83,13 @@ fn take_byte<S: Store, O: Sink, L: Ledger>(
 ) -> Turn
     requires kept { (bytes : List ℕ) × Keeps line.old bytes }
     requires room { line.old.count < MOST_SCRIPT }
-    ensures leads { (start : Seen) (before : Option (List ℕ)) (bytes : List ℕ)
-        → StandsWith start before bytes session.old line.old (O.written out.old)
-        → LeadsTo result start before (bytes ++ byte ∷ []) session.new line.new (O.written out.new) }
+    ensures leads { (start : World) (before : Option (List ℕ)) (bytes : List ℕ)
+        → StandsWith start before bytes (world session.old (S.files store.old) (S.faults store.old)) line.old (O.written out.old)
+        → LeadsTo result start before (bytes ++ byte ∷ []) (world session.new (S.files store.new) (S.faults store.new)) line.new (O.written out.new) }
     ensures kept { result ≡ Turn.Go → (bytes : List ℕ) × Keeps line.new bytes }
     ensures count { line.new.count ≤ line.old.count + 1 }
     ensures output_failed { result ≡ Turn.OutputFailed → Rose (O.faults out.old) (O.faults out.new) }
-    ensures store_kept { store.new ≡ store.old }
+    ensures store_goes_on { GoesOn (S.files store.old) (S.files store.new) (S.faults store.old) (S.faults store.new) (S.misses store.old) (S.misses store.new) (S.longs store.old) (S.longs store.new) }
     ensures faults_never_fall { NeverFalls (O.faults out.old) (O.faults out.new) }
     ensures stays_known { StaysKnown (O.written out.old) (O.written out.new) }
 {
@@ -155,13 +121,13 @@ fn take_piece<S: Store, O: Sink, L: Ledger>(
 ) -> Turn
     requires kept { (bytes : List ℕ) × Keeps line.old bytes }
     requires room { line.old.count + length piece.now ≤ MOST_SCRIPT }
-    ensures leads { (start : Seen) (before : Option (List ℕ)) (bytes : List ℕ)
-        → StandsWith start before bytes session.old line.old (O.written out.old)
-        → LeadsTo result start before (bytes ++ piece.now) session.new line.new (O.written out.new) }
+    ensures leads { (start : World) (before : Option (List ℕ)) (bytes : List ℕ)
+        → StandsWith start before bytes (world session.old (S.files store.old) (S.faults store.old)) line.old (O.written out.old)
+        → LeadsTo result start before (bytes ++ piece.now) (world session.new (S.files store.new) (S.faults store.new)) line.new (O.written out.new) }
     ensures kept { result ≡ Turn.Go → (bytes : List ℕ) × Keeps line.new bytes }
     ensures count { line.new.count ≤ line.old.count + length piece.now }
     ensures output_failed { result ≡ Turn.OutputFailed → Rose (O.faults out.old) (O.faults out.new) }
-    ensures store_kept { store.new ≡ store.old }
+    ensures store_goes_on { GoesOn (S.files store.old) (S.files store.new) (S.faults store.old) (S.faults store.new) (S.misses store.old) (S.misses store.new) (S.longs store.old) (S.longs store.new) }
     ensures faults_never_fall { NeverFalls (O.faults out.old) (O.faults out.new) }
     ensures stays_known { StaysKnown (O.written out.old) (O.written out.new) }
 {
@@ -184,12 +150,12 @@ fn end_script<S: Store, O: Sink, L: Ledger>(
     steps: &mut Steps<L>,
 ) -> Status
     requires kept { (bytes : List ℕ) × Keeps line.now bytes }
-    ensures end { (start : Seen) (told : Option (List ℕ)) (before : Option (List ℕ)) (script : List ℕ)
-        → StandsWith start before script session.old line.now (O.written out.old) → Tells told script → length script ≤ MOST_SCRIPT
-        → (rest : Option (List ℕ)) → IfSome rest (λ bytes. bytes ≡ []) → IsEnd result start told rest before (O.written out.new) }
+    ensures end { (start : World) (told : Option (List ℕ)) (before : Option (List ℕ)) (script : List ℕ)
+        → StandsWith start before script (world session.old (S.files store.old) (S.faults store.old)) line.now (O.written out.old) → Tells told script → length script ≤ MOST_SCRIPT
+        → (rest : Option (List ℕ)) → IfSome rest (λ bytes. bytes ≡ []) → IsEnd result start (world session.new (S.files store.new) (S.faults store.new)) told rest before (O.written out.new) }
     ensures status { (result ≡ Status.Ok) ⊎ (result ≡ Status.OutputFault) }
     ensures output_fault_counted { result ≡ Status.OutputFault → Rose (O.faults out.old) (O.faults out.new) }
-    ensures store_kept { store.new ≡ store.old }
+    ensures store_goes_on { GoesOn (S.files store.old) (S.files store.new) (S.faults store.old) (S.faults store.new) (S.misses store.old) (S.misses store.new) (S.longs store.old) (S.longs store.new) }
     ensures faults_never_fall { NeverFalls (O.faults out.old) (O.faults out.new) }
     ensures stays_known { StaysKnown (O.written out.old) (O.written out.new) }
 {
@@ -209,10 +175,10 @@ pub(crate) fn play<S: Store, I: Source, O: Sink, L: Ledger>(
     out: &mut O,
     steps: &mut Steps<L>,
 ) -> Status
-    ensures end { IsEnd result session.old (I.left input.old) (I.left input.new) (O.written out.old) (O.written out.new) }
+    ensures end { IsEnd result (world session.old (S.files store.old) (S.faults store.old)) (world session.new (S.files store.new) (S.faults store.new)) (I.left input.old) (I.left input.new) (O.written out.old) (O.written out.new) }
     ensures input_fault_counted { result ≡ Status.InputFault → Rose (I.faults input.old) (I.faults input.new) }
     ensures output_fault_counted { result ≡ Status.OutputFault → Rose (O.faults out.old) (O.faults out.new) }
-    ensures store_kept { store.new ≡ store.old }
+    ensures store_goes_on { GoesOn (S.files store.old) (S.files store.new) (S.faults store.old) (S.faults store.new) (S.misses store.old) (S.misses store.new) (S.longs store.old) (S.longs store.new) }
     ensures input_faults_never_fall { NeverFalls (I.faults input.old) (I.faults input.new) }
     ensures output_faults_never_fall { NeverFalls (O.faults out.old) (O.faults out.new) }
     ensures input_stays_known { StaysKnown (I.left input.old) (I.left input.new) }

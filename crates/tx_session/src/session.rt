@@ -1,23 +1,34 @@
 // A session over one document.
-ghost use Rattle.std.specs.Prelude.{◌≡◌, ◌≢◌, ◌≤◌, ◌↔◌, ℕ, List, [], Bool, true, false, length, IfOk, IfErr, OnErr, Ok, slice_get, Some};
+ghost use Rattle.std.specs.Prelude.{◌≡◌, ◌≢◌, ◌≤◌, ◌+◌, ◌↔◌, ℕ, List, [], ◌∷◌, ◌++◌, Bool, true, false, length, IfOk, IfErr, OnErr, Ok, Some};
 ghost use Rattle.tx_outside.specs.Counts.{NeverFalls, Rose};
 ghost use Rattle.tx_outside.specs.Known.{StaysKnown};
 ghost use Rattle.tx_scm.specs.Canonical.{scheme_text};
 ghost use Rattle.tx_session.specs.Lines.{line};
-ghost use Rattle.tx_session.specs.States.{IsDocument, IsShown, NamesDiffer};
-ghost use Rattle.tx_session.specs.Replies.{Seen, IsReply};
+ghost use Rattle.tx_tree.specs.PathSpelling.{place_text};
+ghost use Rattle.tx_state.specs.Buffers.{document_of};
+ghost use Rattle.tx_state.specs.States.{opening};
+ghost use Rattle.tx_session.specs.States.{IsShown, NamesDiffer};
+ghost use Rattle.tx_session.specs.Replies.{IsReply};
+ghost use Rattle.tx_session.specs.Worlds.{Mark, Stored, plain, world};
+ghost use Rattle.tx_session.specs.Storing.{GoesOn};
+ghost use Rattle.tx_session.specs.Saying.{mark_of, text_of};
+ghost use Rattle.tx_cmd.specs.declared.command.Command.{Command};
 ghost use Rattle.tx_session.specs.Writing.{IsSaid};
-ghost use Rattle.tx_tree.specs.WideTree.{WideTree};
 
+use crate::places::place_line;
+use crate::replies::{NO_MEMORY, Reply, astray, refused, say};
+use crate::saving::save;
 use crate::view::show;
 use std::alloc::Global;
 use std::marker::Model;
 use std::sync::ledger::Ledger;
 use tx_base::{Memory, Steps};
 use tx_cmd::Command;
-use tx_doc::Buffer;
-use tx_outside::{Sink, Store, WriteFault, write_all};
-use tx_tree::Tree;
+use tx_doc::{Buffer, Name};
+use tx_mod::{ApplyFault, Mod};
+use tx_outside::{Sink, Store, WriteFault};
+use tx_state::{EditorState, GoFault, UndoFault};
+use tx_tree::Path;
 
 /// What a session does after a command.
 #[derive(Clone, Copy, Debug, PartialEq, Eq)]
@@ -42,14 +53,14 @@ enum Shown {
 /// (`specs/Replies.antt`).
 #[derive(Drop)]
 pub struct Session {
-    buffers: Vec<Buffer>,
+    state: EditorState,
     width: u32,
     height: u32,
     shown: Shown,
 }
 
 impl Model for Session {
-    ghost use Rattle.tx_session.specs.Replies.{Seen};
+    ghost use Rattle.tx_session.specs.Worlds.{Seen};
 
     ghost Value = { Seen };
 
@@ -57,31 +68,16 @@ impl Model for Session {
 
     ghost coded = { seen_code };
 
-    ghost view = { λ s. record { state = record { buffers = s.buffers.items }; width = s.width; height = s.height; fresh = is_fresh s.shown } };
+    ghost view = { λ s. record { state = s.state; width = s.width; height = s.height; fresh = is_fresh s.shown } };
 
     ghost invariant = { IsSession };
-}
-
-/// The reply where memory ran out.
-pub(crate) const NO_MEMORY: &[u8] = b"no memory\n";
-
-/// Writes a reply.
-pub(crate) fn say<O: Sink>(out: &mut O, reply: &[u8]) -> Result<Next, WriteFault>
-    ensures said { IsSaid result reply.now (O.written out.old) (O.written out.new) }
-    ensures goes { result ≢ Ok Next.Quit }
-    ensures failed_rose { OnErr result (Rose (O.faults out.old) (O.faults out.new)) }
-    ensures faults_never_fall { NeverFalls (O.faults out.old) (O.faults out.new) }
-    ensures stays_known { StaysKnown (O.written out.old) (O.written out.new) }
-{
-    write_all(out, reply)?;
-    Ok(Next::Go)
 }
 
 impl Session {
     /// A session over these buffers, the document first, on pages of this width, 20 to 500 cells, and this height, 5 to 500
     /// lines. There are 1 to 16 buffers, no two of one name. The one error is want of memory.
     pub fn start<L: Ledger>(
-        _alloc: Global,
+        alloc: Global,
         buffers: Vec<Buffer>,
         width: u32,
         height: u32,
@@ -94,22 +90,15 @@ impl Session {
         requires most_width { width ≤ 500 }
         requires least_height { 5 ≤ height }
         requires most_height { height ≤ 500 }
-        ensures session { IfOk result (λ s. s ≡ record { state = record { buffers = buffers.items }; width = width; height = height; fresh = false }) }
+        ensures session { IfOk result (λ s. s ≡ record { state = opening buffers.items; width = width; height = height; fresh = false }) }
         ensures no_steps { _steps.new ≡ _steps.old }
     {
         Ok(Session {
-            buffers,
+            state: EditorState::open(alloc, buffers)?,
             width,
             height,
             shown: Shown::Stale,
         })
-    }
-
-    // The tree of the document.
-    fn document(&self) -> &Tree
-        ensures { IsDocument self.now.state result.now }
-    {
-        &self.buffers[0].tree
     }
 
     // Makes what shows the document, where that was not made since it last changed.
@@ -118,7 +107,8 @@ impl Session {
         ensures kept { IfErr result (λ _. (self.new ≡ self.old) × (self.old.fresh ≡ false)) }
     {
         if let Shown::Stale = self.shown {
-            self.shown = match show(alloc, self.document(), self.width, self.height)? {
+            let document = self.state.document();
+            self.shown = match show(alloc, document, self.width, self.height)? {
                 Some(text) => Shown::Pages(text),
                 None => Shown::NoShape,
             };
@@ -129,7 +119,7 @@ impl Session {
     // What shows the document.
     fn shown(&self) -> &[u8]
         requires { self.now.fresh ≡ true }
-        ensures { (t : WideTree) × IsDocument self.now.state t × IsShown self.now.width self.now.height t result.now }
+        ensures { IsShown self.now.width self.now.height (document_of self.now.state.buffers) result.now }
     {
         match &self.shown {
             Shown::Pages(text) => text,
@@ -140,51 +130,136 @@ impl Session {
 
     // The reply to `tree`.
     fn tree_text(&self, alloc: Global) -> Result<Vec<u8>, Memory>
-        ensures { IfOk result (λ text. (t : WideTree) × IsDocument self.now.state t × (text.items ≡ line (scheme_text t))) }
+        ensures { IfOk result (λ text. text.items ≡ line (scheme_text (document_of self.now.state.buffers))) }
     {
         let mut text = Vec::new(alloc);
-        tx_scm::write(self.document(), &mut text)?;
+        tx_scm::write(self.state.document(), &mut text)?;
         text.push(b'\n')?;
         Ok(text)
     }
 
+    // Prints the document.
+    fn tree(&self, alloc: Global) -> Reply
+        ensures { (store : Stored) → IsReply (record { session = self.now; store = store }) Command.Tree (mark_of result) (record { session = self.now; store = store }) (text_of result) }
+    {
+        match self.tree_text(alloc) {
+            Ok(text) => Reply::Made(text),
+            Err(Memory) => Reply::Wanting,
+        }
+    }
+
+    // Changes the document.
+    fn change<L: Ledger>(&mut self, alloc: Global, m: &Mod, steps: &mut Steps<L>) -> Reply
+        ensures { (store : Stored) → IsReply (record { session = self.old; store = store }) (Command.Change m.now) (mark_of result) (record { session = self.new; store = store }) (text_of result) }
+    {
+        match self.state.change(alloc, m, steps) {
+            Ok(()) => {
+                self.shown = Shown::Stale;
+                Reply::Done
+            }
+            Err(ApplyFault::Refused(cause)) => refused(alloc, cause),
+            Err(ApplyFault::Memory) => Reply::Wanting,
+        }
+    }
+
+    // Takes the last edit back.
+    fn undo<L: Ledger>(&mut self, alloc: Global, steps: &mut Steps<L>) -> Reply
+        ensures { (store : Stored) → IsReply (record { session = self.old; store = store }) Command.Undo (mark_of result) (record { session = self.new; store = store }) (text_of result) }
+    {
+        match self.state.undo(alloc, steps) {
+            Ok(()) => {
+                self.shown = Shown::Stale;
+                Reply::Done
+            }
+            Err(UndoFault::Nothing) => Reply::Fixed(b"no undo\n"),
+            Err(UndoFault::Memory) => Reply::Wanting,
+        }
+    }
+
+    // Makes the edit again that was taken back last.
+    fn redo<L: Ledger>(&mut self, alloc: Global, steps: &mut Steps<L>) -> Reply
+        ensures { (store : Stored) → IsReply (record { session = self.old; store = store }) Command.Redo (mark_of result) (record { session = self.new; store = store }) (text_of result) }
+    {
+        match self.state.redo(alloc, steps) {
+            Ok(()) => {
+                self.shown = Shown::Stale;
+                Reply::Done
+            }
+            Err(UndoFault::Nothing) => Reply::Fixed(b"no redo\n"),
+            Err(UndoFault::Memory) => Reply::Wanting,
+        }
+    }
+
+    // Puts the cursor at a place.
+    fn go(&mut self, alloc: Global, numbers: &Path) -> Reply
+        ensures { (store : Stored) → IsReply (record { session = self.old; store = store }) (Command.Go numbers.now) (mark_of result) (record { session = self.new; store = store }) (text_of result) }
+    {
+        match self.state.go(alloc, numbers) {
+            Ok(()) => Reply::Done,
+            Err(GoFault::Astray(cause)) => astray(alloc, cause),
+            Err(GoFault::Memory) => Reply::Wanting,
+        }
+    }
+
+    // Prints the cursor's place, which takes no memory.
+    fn say_cursor<O: Sink>(&self, out: &mut O) -> Result<Next, WriteFault>
+        ensures said { (reply : List ℕ) × ((store : Stored) → IsReply (record { session = self.now; store = store }) Command.Cursor plain (record { session = self.now; store = store }) reply) × IsSaid result reply (O.written out.old) (O.written out.new) }
+        ensures goes { result ≢ Ok Next.Quit }
+        ensures failed_rose { OnErr result (Rose (O.faults out.old) (O.faults out.new)) }
+        ensures faults_never_fall { NeverFalls (O.faults out.old) (O.faults out.new) }
+        ensures stays_known { StaysKnown (O.written out.old) (O.written out.new) }
+    {
+        let _depth = self.state.document().depth();
+        say(out, place_line(self.state.cursor()).as_bytes())
+    }
+
+    // Saves the document.
+    fn save<S: Store>(&self, alloc: Global, name: &Name, store: &mut S) -> Reply
+        ensures saved { IsReply (world self.now (S.files store.old) (S.faults store.old)) (Command.Save name.now) (mark_of result) (world self.now (S.files store.new) (S.faults store.new)) (text_of result) }
+        ensures store_goes_on { GoesOn (S.files store.old) (S.files store.new) (S.faults store.old) (S.faults store.new) (S.misses store.old) (S.misses store.new) (S.longs store.old) (S.longs store.new) }
+    {
+        save(alloc, self.state.document(), name.bytes(), store)
+    }
+
     /// Does a command: changes the state as it says, and writes its reply. Where memory runs out the reply is `no memory`, and
-    /// nothing has changed.
-    ///
-    /// Commands that edit aren't answered yet: their reply is `no unknown`.
+    /// nothing has changed; where the store fails in saving a file the reply is `no store`, and nothing is known of that file.
     ///
     /// After a fault of the output a part of the reply is written, and the state is the one that the command leads to. `quit`
-    /// writes nothing, and is the one command that is answered with `Quit`.
+    /// writes nothing, and is the one command that is answered with `Quit`. `cursor`, and `show` where the pages were made
+    /// since the document last changed, take no memory.
     pub fn step<S: Store, O: Sink, L: Ledger>(
         &mut self,
         alloc: Global,
         command: &Command,
-        _store: &mut S,
+        store: &mut S,
         out: &mut O,
-        _steps: &mut Steps<L>,
+        steps: &mut Steps<L>,
     ) -> Result<Next, WriteFault>
-        ensures replied { (wanting : Bool) × (reply : List ℕ) × IsReply self.old command.now wanting self.new reply
+        ensures replied { (mark : Mark) × (reply : List ℕ)
+            × IsReply (world self.old (S.files store.old) (S.faults store.old)) command.now mark (world self.new (S.files store.new) (S.faults store.new)) reply
             × IsSaid result reply (O.written out.old) (O.written out.new) }
         ensures quits { result ≡ Ok Next.Quit ↔ command.now ≡ Command.Quit }
         ensures quit_writes_nothing { command.now ≡ Command.Quit → out.new ≡ out.old }
         ensures failed_rose { OnErr result (Rose (O.faults out.old) (O.faults out.new)) }
-        ensures store_kept { _store.new ≡ _store.old }
-        ensures no_steps { _steps.new ≡ _steps.old }
+
+        // What stays, and what never falls.
+        ensures store_goes_on { GoesOn (S.files store.old) (S.files store.new) (S.faults store.old) (S.faults store.new) (S.misses store.old) (S.misses store.new) (S.longs store.old) (S.longs store.new) }
         ensures faults_never_fall { NeverFalls (O.faults out.old) (O.faults out.new) }
         ensures stays_known { StaysKnown (O.written out.old) (O.written out.new) }
     {
         match command {
             Command::Quit => Ok(Next::Quit),
-            Command::Change(_) | Command::Undo | Command::Redo | Command::Go(_) | Command::Cursor =>
-                say(out, b"no unknown\n"),
+            Command::Cursor => self.say_cursor(out),
             Command::Show => match self.refresh(alloc) {
                 Ok(()) => say(out, self.shown()),
                 Err(Memory) => say(out, NO_MEMORY),
             },
-            Command::Tree => match self.tree_text(alloc) {
-                Ok(text) => say(out, &text),
-                Err(Memory) => say(out, NO_MEMORY),
-            },
+            Command::Tree => say(out, self.tree(alloc).text()),
+            Command::Change(m) => say(out, self.change(alloc, m, steps).text()),
+            Command::Undo => say(out, self.undo(alloc, steps).text()),
+            Command::Redo => say(out, self.redo(alloc, steps).text()),
+            Command::Go(numbers) => say(out, self.go(alloc, numbers).text()),
+            Command::Save(name) => say(out, self.save(alloc, name, store).text()),
         }
     }
 }

@@ -11,7 +11,7 @@ pub enum Status {
     Words,
     /// A file isn't there.
     Missing,
-    /// A file is in another form, is too long, or spells no tree within the limits.
+    /// A file is too long, or spells no tree within the limits.
     Refused,
     /// The store failed when a file was loaded.
     StoreFault,

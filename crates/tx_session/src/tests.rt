@@ -1,6 +1,8 @@
 // Runs and sessions over memory.
+mod edits;
 mod faults;
 mod lines;
 mod outside;
 mod pages;
+mod saves;
 mod statuses;

@@ -288,11 +288,11 @@ two_whites Empty f g r v w = refl
 two_whites Alone f g r v w = ap (λ z. record { full = f; now = g; run = Some z; stage = Alone }) (longer_plus r v w)
 two_whites Ordinary f g r v w = ap (λ z. record { full = f; now = g; run = Some z; stage = Ordinary }) (longer_plus r v w)
 
-longer_run : (b : Block) (r : Option White) (w : White) → behind_run b (Some (longer r w)) ≡ widen (behind_run b r) (gap w)
+pub longer_run : (b : Block) (r : Option White) (w : White) → behind_run b (Some (longer r w)) ≡ widen (behind_run b r) (gap w)
 longer_run b None w = refl
 longer_run b (Some v) w = two_whites b.stage b.full b.now b.run v w
 
-entries_append : (es fs : List Entry) (b : Block) → with_entries b (es ++ fs) ≡ with_entries (with_entries b es) fs
+pub entries_append : (es fs : List Entry) (b : Block) → with_entries b (es ++ fs) ≡ with_entries (with_entries b es) fs
 entries_append [] fs b = refl
 entries_append (e ∷ es) fs b = entries_append es fs (widen (behind_run b e.before) (tag e.collects e.tree))
 

@@ -4,3 +4,14 @@ pub mod Words
 pub mod Formed
 pub mod Sound
 pub mod Taken
+pub mod Stops
+pub mod Closing
+pub mod Longest
+pub mod Begun
+pub mod Marking
+pub mod Passing
+pub mod Standing
+pub mod Rows
+pub mod Stopping
+pub mod OneFault
+pub mod Weights

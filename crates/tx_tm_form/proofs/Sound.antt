@@ -102,15 +102,15 @@ ended_children_more (b ∷ bs) c xs =
     ∙ ap (λ z. block (parts_of b.body) ∷ z) (sym (append_assoc (children_of b.behind) (ended_children bs) (block (parts_of c) ∷ children_of xs)))
 
 -- the same blocks, from the first one on, and c as the last
-abbrev first_body : List Ended → Pieces → Pieces
+abbrev pub first_body : List Ended → Pieces → Pieces
 first_body [] c = c
 first_body (b ∷ bs) c = b.body
 
-abbrev other_bodies : List Ended → Pieces → Blocks
+abbrev pub other_bodies : List Ended → Pieces → Blocks
 other_bodies [] c = no_block
 other_bodies (b ∷ bs) c = middle_tag b.behind (first_body bs c) (other_bodies bs c)
 
-bodies_tokens : (l : List ℕ) (bs : List Ended) (c : Pieces) → tokens_of (first_body bs c) ++ tokens_of_blocks l (other_bodies bs c) ≡ ended_tokens l bs ++ tokens_of c
+pub bodies_tokens : (l : List ℕ) (bs : List Ended) (c : Pieces) → tokens_of (first_body bs c) ++ tokens_of_blocks l (other_bodies bs c) ≡ ended_tokens l bs ++ tokens_of c
 bodies_tokens l [] c = append-nil (tokens_of c)
 bodies_tokens l (b ∷ bs) c =
     ap (λ z. tokens_of b.body ++ (beginning Middle l b.behind ++ z)) (bodies_tokens l bs c)
@@ -187,7 +187,7 @@ into_tag : (w : Option Place) (f : Open) (fs : List Open) (u q ts : List Token) 
 into_tag w f fs u q ts h k e = (w, u, q, nothing, h, k, refl, rw (e, append-nil q) refl)
 
 -- where the content stands
-place_there : (w : Option Place) (l : List ℕ) (ks : List WideTree) → place_of (opening w l ks) ≡ w
+pub place_there : (w : Option Place) (l : List ℕ) (ks : List WideTree) → place_of (opening w l ks) ≡ w
 place_there (Some p) l ks = refl
 place_there None l ks = no_place l ks
 
@@ -196,7 +196,7 @@ Inner w f here fs ts =
     (u : List Token) × (q : List Token) × (c : Pieces) × Here f.before fs u × Frame w f.label f.children q
     × (here ≡ puts (opening w f.label f.children) (parts_of c)) × (ts ≡ u ++ (q ++ tokens_of c))
 
-inner : (f : Open) (here : Content) (fs : List Open) (ts : List Token) → Here here (f ∷ fs) ts → (w : Option Place) × (place_of here ≡ w) × Inner w f here fs ts
+pub inner : (f : Open) (here : Content) (fs : List Open) (ts : List Token) → Here here (f ∷ fs) ts → (w : Option Place) × (place_of here ≡ w) × Inner w f here fs ts
 inner f here fs ts h =
     (h.0, ap place_of h.6 ∙ place_is (parts_of h.3) (opening h.0 f.label f.children) ∙ place_there h.0 f.label f.children, (h.1, h.2, h.3, h.4, h.5, h.6, h.7))
 

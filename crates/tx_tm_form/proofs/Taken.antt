@@ -10,12 +10,14 @@ use Rattle.tx_tree.specs.WideTree.{WideTree}
 use Rattle.tx_tm_form.specs.declared.bytes.ByteKind.{ByteKind}
 use Rattle.tx_tm_form.specs.declared.bytes.ByteKind.TheVariants.{Name, Blank, Newline, Return, Less, Greater, Bar, Backslash, Hash, Slash, Other}
 use Rattle.tx_tm_form.specs.declared.places.Form.{Form}
+use Rattle.tx_tm_form.specs.declared.places.Form.TheVariants.{Short, Long, Middle, Closing}
 use Rattle.tx_tm_form.specs.Bytes.{kind_of, is_white, is_plain, can_escape}
 use Rattle.tx_tm_form.specs.Tokens.{Token, escape, head, mark_of, end_of, written, IsToken, is_dropped, kept}
 use Rattle.tx_tm_form.specs.Parts.{block}
 use Rattle.tx_tm_form.specs.Forms.{Pieces, nothing, tokens_of, parts_of, Spells}
 use Rattle.tx_tm_form.specs.Growing.{file_tree}
 use Rattle.tx_tm_form.specs.Machine.{State, reading, naming, counting, failed, feeds, Lex, ready, slashed, returned, angled, labelled, Lexed, within, done, bad, if_good, lex_ready, lex_slashed, lex_returned, lex_angled, lex_labelled, lex, Bytewise, at, lost, given, step, run, Keeping, keep, keeps, start, tree_of, tree_in, reads}
+use Rattle.tx_tm_form.specs.Faults.{begun_bytes, HasByte, IsBegun}
 use Rattle.tx_tm_form.proofs.Growth.{file_is}
 use Rattle.tx_tm_form.proofs.Words.{newline_only, return_only, keeps_state, file_state, file_start}
 use Rattle.tx_tm_form.proofs.Sound.{Took, feeds_took}
@@ -52,20 +54,8 @@ label_last : (a : List ℕ) (x : ℕ) → AllByRecursion (λ b. is_label_byte b 
 label_last [] x h k = (k, tt)
 label_last (b ∷ a) x h k = (h.0, label_last a x h.1 k)
 
--- the bytes of a token that has begun
-abbrev pub begun_bytes : Lex → List ℕ
-begun_bytes ready = []
-begun_bytes slashed = 92 ∷ []
-begun_bytes returned = 92 ∷ 13 ∷ []
-begun_bytes angled = 60 ∷ []
-begun_bytes (labelled form l) = 60 ∷ (mark_of form ++ l)
-
-abbrev pub Good : Lex → Type 0
-Good (labelled form l) = AllByRecursion (λ b. is_label_byte b ≡ true) l × (length l ≤ MOST_LABEL)
-Good _ = Unit {0}
-
 abbrev pub Comes : List ℕ → Lexed → Type 0
-Comes x (within q) = Good q × (x ≡ begun_bytes q)
+Comes x (within q) = IsBegun q × (x ≡ begun_bytes q)
 Comes x (done t) = IsToken t × (x ≡ written t)
 Comes x bad = Unit {0}
 
@@ -73,8 +63,8 @@ if_comes : (c : Bool) (x : List ℕ) (r : Lexed) → (c ≡ true → Comes x r) 
 if_comes true x r h = h refl
 if_comes false x r h = tt
 
-head_comes : (form : Form) (l : List ℕ) (more : Bool) (b : ℕ) → Good (labelled form l) → b ≡ end_of more → 1 ≤ length l → Comes (begun_bytes (labelled form l) ++ b ∷ []) (done (head form l more))
-head_comes form l more b h e n = (record { each = h.0; some = n; short = h.1 }, ap (λ z. 60 ∷ z) (append_assoc (mark_of form) l (b ∷ [])) ∙ ap (λ z. 60 ∷ (mark_of form ++ (l ++ z ∷ []))) e)
+head_comes : (form : Form) (l : List ℕ) (more : Bool) (b : ℕ) → IsBegun (labelled form l) → b ≡ end_of more → 1 ≤ length l → Comes (begun_bytes (labelled form l) ++ b ∷ []) (done (head form l more))
+head_comes form l more b h e n = (record { each = h.0.0; some = n; short = h.0.1 }, ap (λ z. 60 ∷ z) (append_assoc (mark_of form) l (b ∷ [])) ∙ ap (λ z. 60 ∷ (mark_of form ++ (l ++ z ∷ []))) e)
 
 ready_comes : (k : ByteKind) (b : ℕ) → kind_of b ≡ k → Comes (b ∷ []) (lex_ready k b)
 unfolding lex_ready
@@ -103,23 +93,29 @@ returned_comes _ b e = tt
 
 angled_comes : (k : ByteKind) (b : ℕ) → kind_of b ≡ k → Comes (60 ∷ b ∷ []) (lex_angled k b)
 unfolding lex_angled
-angled_comes Backslash b e = ((tt, omega arith), ap (λ z. 60 ∷ z ∷ []) (backslash_only b e))
-angled_comes Bar b e = ((tt, omega arith), ap (λ z. 60 ∷ z ∷ []) (bar_only b e))
-angled_comes Slash b e = ((tt, omega arith), ap (λ z. 60 ∷ z ∷ []) (slash_only b e))
+angled_comes Backslash b e = (((tt, omega arith), tt), ap (λ z. 60 ∷ z ∷ []) (backslash_only b e))
+angled_comes Bar b e = (((tt, omega arith), tt), ap (λ z. 60 ∷ z ∷ []) (bar_only b e))
+angled_comes Slash b e = (((tt, omega arith), tt), ap (λ z. 60 ∷ z ∷ []) (slash_only b e))
 angled_comes Hash b e = (tt, ap (λ z. 60 ∷ z ∷ []) (hash_only b e))
-angled_comes Name b e = (((name_only b e, tt), omega arith), refl)
+angled_comes Name b e = ((((name_only b e, tt), omega arith), omega arith), refl)
 angled_comes _ b e = tt
 
-labelled_comes : (k : ByteKind) (form : Form) (l : List ℕ) (b : ℕ) → kind_of b ≡ k → Good (labelled form l) → Comes (begun_bytes (labelled form l) ++ b ∷ []) (lex_labelled form l k b)
+has_byte : (form : Form) (l : List ℕ) (b : ℕ) → HasByte form (l ++ b ∷ [])
+has_byte Short l b = omega (arith, length-append l (b ∷ []))
+has_byte Long l b = tt
+has_byte Middle l b = tt
+has_byte Closing l b = tt
+
+labelled_comes : (k : ByteKind) (form : Form) (l : List ℕ) (b : ℕ) → kind_of b ≡ k → IsBegun (labelled form l) → Comes (begun_bytes (labelled form l) ++ b ∷ []) (lex_labelled form l k b)
 unfolding lex_labelled
 labelled_comes Name form l b e h =
     if_comes (nat_lt (length l) MOST_LABEL) (begun_bytes (labelled form l) ++ b ∷ []) (within (labelled form (l ++ b ∷ [])))
-    (λ n. ((label_last l b h.0 (name_only b e), omega (arith, length-append l (b ∷ []), ltb-true _ _ n)), ap (λ z. 60 ∷ z) (append_assoc (mark_of form) l (b ∷ []))))
+    (λ n. (((label_last l b h.0.0 (name_only b e), omega (arith, length-append l (b ∷ []), ltb-true _ _ n)), has_byte form l b), ap (λ z. 60 ∷ z) (append_assoc (mark_of form) l (b ∷ []))))
 labelled_comes Bar form l b e h = if_comes (nat_le 1 (length l)) (begun_bytes (labelled form l) ++ b ∷ []) (done (head form l true)) (λ n. head_comes form l true b h (bar_only b e) (leb-true _ _ n))
 labelled_comes Greater form l b e h = if_comes (nat_le 1 (length l)) (begun_bytes (labelled form l) ++ b ∷ []) (done (head form l false)) (λ n. head_comes form l false b h (greater_only b e) (leb-true _ _ n))
 labelled_comes _ form l b e h = tt
 
-lex_comes : (q : Lex) (b : ℕ) → Good q → Comes (begun_bytes q ++ b ∷ []) (lex q (kind_of b) b)
+lex_comes : (q : Lex) (b : ℕ) → IsBegun q → Comes (begun_bytes q ++ b ∷ []) (lex q (kind_of b) b)
 lex_comes ready b h = ready_comes (kind_of b) b refl
 lex_comes slashed b h = slashed_comes (kind_of b) b refl
 lex_comes returned b h = returned_comes (kind_of b) b refl
@@ -136,7 +132,7 @@ keeps_last (u ∷ ts) k t = keeps_last ts (keep k u) t
 
 -- the bytes so far are whole tokens and one that has begun
 abbrev pub Scanned : Bytewise Keeping → List ℕ → Type 0
-Scanned (at q k) x = (ts : List Token) × AllByRecursion IsToken ts × (k ≡ keeps file_start ts) × Good q × (x ≡ flat_map written ts ++ begun_bytes q)
+Scanned (at q k) x = (ts : List Token) × AllByRecursion IsToken ts × (k ≡ keeps file_start ts) × IsBegun q × (x ≡ flat_map written ts ++ begun_bytes q)
 Scanned lost x = Unit {0}
 
 given_scanned : (r : Lexed) (q : Lex) (k : Keeping) (x : List ℕ) (b : ℕ) → Scanned (at q k) x → Comes (begun_bytes q ++ b ∷ []) r → Scanned (given keep k r) (x ++ b ∷ [])

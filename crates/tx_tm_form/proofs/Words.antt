@@ -24,11 +24,11 @@ pub newline_kind : kind_of 10 ≡ Newline
 unfolding kind_of is_label_byte
 newline_kind = refl
 
-return_kind : kind_of 13 ≡ Return
+pub return_kind : kind_of 13 ≡ Return
 unfolding kind_of is_label_byte
 return_kind = refl
 
-less_kind : kind_of 60 ≡ Less
+pub less_kind : kind_of 60 ≡ Less
 unfolding kind_of is_label_byte
 less_kind = refl
 
@@ -36,11 +36,11 @@ greater_kind : kind_of 62 ≡ Greater
 unfolding kind_of is_label_byte
 greater_kind = refl
 
-bar_kind : kind_of 124 ≡ Bar
+pub bar_kind : kind_of 124 ≡ Bar
 unfolding kind_of is_label_byte
 bar_kind = refl
 
-backslash_kind : kind_of 92 ≡ Backslash
+pub backslash_kind : kind_of 92 ≡ Backslash
 unfolding kind_of is_label_byte
 backslash_kind = refl
 
@@ -48,11 +48,11 @@ pub hash_kind : kind_of 35 ≡ Hash
 unfolding kind_of is_label_byte
 hash_kind = refl
 
-slash_kind : kind_of 47 ≡ Slash
+pub slash_kind : kind_of 47 ≡ Slash
 unfolding kind_of is_label_byte
 slash_kind = refl
 
-name_kind : (b : ℕ) → is_label_byte b ≡ true → kind_of b ≡ Name
+pub name_kind : (b : ℕ) → is_label_byte b ≡ true → kind_of b ≡ Name
 unfolding kind_of
 name_kind b h = grind arith
 
@@ -101,24 +101,24 @@ lexed_escape Newline b e h = absurd (newline_not b e h)
 lexed_escape Return b e h = absurd (return_not b e h)
 lexed_escape _ b e h = ap (λ c. if_good c (done (escape b))) h
 
-lexed_first : (k : ByteKind) (b : ℕ) → k ≡ Name → lex angled k b ≡ within (labelled Short (b ∷ []))
+pub lexed_first : (k : ByteKind) (b : ℕ) → k ≡ Name → lex angled k b ≡ within (labelled Short (b ∷ []))
 unfolding lex_angled
 lexed_first k b h = ap (λ k. lex angled k b) h
 
-lexed_letter : (form : Form) (m : List ℕ) (k : ByteKind) (b : ℕ) → k ≡ Name → length m < MOST_LABEL → lex (labelled form m) k b ≡ within (labelled form (m ++ b ∷ []))
+pub lexed_letter : (form : Form) (m : List ℕ) (k : ByteKind) (b : ℕ) → k ≡ Name → length m < MOST_LABEL → lex (labelled form m) k b ≡ within (labelled form (m ++ b ∷ []))
 unfolding lex_labelled
 lexed_letter form m k b h n = ap (λ k. lex (labelled form m) k b) h ∙ ap (λ c. if_good c (within (labelled form (m ++ b ∷ [])))) (lt-ltb _ _ n)
 
 module _ (S : Type 0) (fd : S → Token → S) where
   -- a byte of a known kind
-  byte_of : (k : ByteKind) (b : ℕ) (q : Lex) (s : S) (y : List ℕ) → kind_of b ≡ k → run fd (at q s) (b ∷ y) ≡ run fd (given fd s (lex q k b)) y
+  pub byte_of : (k : ByteKind) (b : ℕ) (q : Lex) (s : S) (y : List ℕ) → kind_of b ≡ k → run fd (at q s) (b ∷ y) ≡ run fd (given fd s (lex q k b)) y
   byte_of k b q s y e = ap (λ k. run fd (given fd s (lex q k b)) y) e
 
-  backslash_step : (s : S) (y : List ℕ) → run fd (at ready s) (92 ∷ y) ≡ run fd (at slashed s) y
+  pub backslash_step : (s : S) (y : List ℕ) → run fd (at ready s) (92 ∷ y) ≡ run fd (at slashed s) y
   unfolding lex_ready
   backslash_step s y = byte_of Backslash 92 ready s y backslash_kind
 
-  less_step : (s : S) (y : List ℕ) → run fd (at ready s) (60 ∷ y) ≡ run fd (at angled s) y
+  pub less_step : (s : S) (y : List ℕ) → run fd (at ready s) (60 ∷ y) ≡ run fd (at angled s) y
   unfolding lex_ready
   less_step s y = byte_of Less 60 ready s y less_kind
 

@@ -4,3 +4,7 @@ pub mod Parts
 pub mod Forms
 pub mod Growing
 pub mod Machine
+pub mod Fronts
+pub mod Marks
+pub mod Faults
+pub mod Measures

@@ -1,10 +1,15 @@
 // The laws of the definition.
-ghost use Rattle.std.specs.Prelude.{◌≡◌, ℕ, List, Some};
+ghost use Rattle.std.specs.Prelude.{◌≡◌, ◌⊎◌, ℕ, List, ◌++◌, true, Some, None};
 ghost use Rattle.tx_tree.specs.WideTree.{WideTree};
-ghost use Rattle.tx_tree.specs.Limits.{IsWellFormed};
+ghost use Rattle.tx_tree.specs.declared.faults.ReadFault.{ReadFault};
+ghost use Rattle.tx_tree.specs.Limits.{IsWellFormed, IsWithinLimits};
 ghost use Rattle.tx_tm_form.specs.Tokens.{Token, IsTokenList};
 ghost use Rattle.tx_tm_form.specs.Forms.{Spells};
-ghost use Rattle.tx_tm_form.specs.Machine.{reads};
+ghost use Rattle.tx_tm_form.specs.Machine.{reads, keep, start, run};
+ghost use Rattle.tx_tm_form.specs.Fronts.{goes_on, StopsAt, IsLongestTmFront};
+ghost use Rattle.tx_tm_form.specs.Faults.{IsTmFault};
+ghost use Rattle.tx_tm_form.specs.Marks.{fault_of};
+ghost use Rattle.tx_tm_form.specs.Measures.{keep_gauge, start_gauge, IsMeasured};
 
 /// The tokens of bytes are one list.
 pub fn bytes_have_one_list_of_tokens()
@@ -25,4 +30,35 @@ pub fn spelled_is_well_formed()
 pub fn machine_reads_what_is_spelled()
     ensures complete { (bytes : List ℕ) (t : WideTree) → Spells bytes t → reads bytes ≡ Some t }
     ensures sound { (bytes : List ℕ) (t : WideTree) → reads bytes ≡ Some t → Spells bytes t }
+{}
+
+/// Bytes that the machine has taken can be continued to bytes that spell a tree, exactly where it goes on: what stands
+/// open has a closing text, and where it cannot go on, no bytes help.
+pub fn machine_goes_on_along_fronts()
+    ensures closed { (bytes : List ℕ) → goes_on (run keep start bytes) ≡ true → (more : List ℕ) × (t : WideTree) × Spells (bytes ++ more) t }
+    ensures stopped { (bytes more : List ℕ) (t : WideTree) → Spells (bytes ++ more) t → goes_on (run keep start bytes) ≡ true }
+{}
+
+/// The longest front of bytes ends exactly where the machine stops.
+pub fn longest_front_ends_at_the_stop()
+    ensures ends { (bytes : List ℕ) (n : ℕ) → StopsAt bytes n → IsLongestTmFront bytes n }
+    ensures only { (bytes : List ℕ) (n : ℕ) → IsLongestTmFront bytes n → StopsAt bytes n }
+{}
+
+/// Bytes have at most one fault, none where they spell a tree within the limits, and one where they don't.
+pub fn bytes_have_one_fault()
+    ensures once { (bytes : List ℕ) (one other : ReadFault) → IsTmFault bytes one → IsTmFault bytes other → one ≡ other }
+    ensures none { (bytes : List ℕ) (fault : ReadFault) (t : WideTree) → IsTmFault bytes fault → Spells bytes t → IsWithinLimits t → ⊥ }
+    ensures some { (bytes : List ℕ) → ((t : WideTree) × Spells bytes t × IsWithinLimits t) ⊎ ((fault : ReadFault) × IsTmFault bytes fault) }
+{}
+
+/// The machine with marks tells the fault of bytes that spell no tree, and tells none where they spell one.
+pub fn marks_tell_the_fault()
+    ensures fault { (bytes : List ℕ) (fault : ReadFault) → fault_of bytes ≡ Some fault → IsTmFault bytes fault }
+    ensures tree { (bytes : List ℕ) → fault_of bytes ≡ None → (t : WideTree) × Spells bytes t }
+{}
+
+/// The machine with measures has those of the tree that the bytes spell.
+pub fn measures_are_those_of_the_tree()
+    ensures { (bytes : List ℕ) (t : WideTree) → Spells bytes t → IsMeasured (run keep_gauge start_gauge bytes) t }
 {}

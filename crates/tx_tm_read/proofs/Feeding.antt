@@ -1,4 +1,5 @@
 -- What the machine feeds on only grows: what fits behind a token fitted before it.
+use mathlib.Core.Logic.{inl}
 use Rattle.std.proofs.Common.{◌≡◌, ℕ, suc, ◌<◌, ◌≤◌, Bool, true, false, ◌&&◌, ◌||◌, ◌==◌, nat_lt, nat_le, if◌then◌else◌, List, [], ◌∷◌, ◌++◌, length, map, Option, Some, None, sym, subst, length-append, arith}
 use Rattle.tx_tree.specs.declared.TheConstants.{MOST_TEXT, MOST_DEPTH, MOST_NAME}
 use Rattle.tx_tree.specs.Limits.{IsWithinLimits}
@@ -13,7 +14,7 @@ use Rattle.tx_tm_form.specs.Bytes.{kind_of, escape_of, escaped_bytes, is_digit, 
 use Rattle.tx_tm_form.specs.Tokens.{Token, white, join, plain, escape, raw, head, bar, close, is_dropped}
 use Rattle.tx_tm_form.specs.Parts.{Part, gap, text, tag, raw_data_label, collection_label, same}
 use Rattle.tx_tm_form.specs.Forms.{symbol_bytes}
-use Rattle.tx_tm_form.specs.Growing.{Inline, grown, tree_of_block, as_block, tree_of_entry, Content, inline, blocks, collecting, put, place_of, file_tree, long_of, opening}
+use Rattle.tx_tm_form.specs.Growing.{Inline, grown, tree_of_block, as_block, tree_of_entry, Content, inline, blocks, collecting, put, place_of, file_tree, long_of}
 use Rattle.tx_tm_form.specs.Machine.{Open, State, reading, naming, counting, failed, go, with_child, in_tag, closed, next_argument, last_argument, next_block, last_block, header_place, begun, by_escape, name_byte, name_end, feed_reading, feed_naming, feed_counting, feed, ready, slashed, returned, angled, labelled, Lexed, within, done, bad, lex, Bytewise, at, lost, given, step, run, Keeping, keep, tree_of, tree_in}
 use Rattle.tx_tm_read.specs.Fits.{IsSmall, RowFits, ContentFits, ChildrenFit, OpensFit, StateFits, ReaderFits}
 use Rattle.tx_tm_read.proofs.Fitting.{within_small, left_row, right_small, node_small, node_row, grown_fits, tree_fits, tags_fit, put_fits, put_tag_fits}
@@ -101,7 +102,7 @@ last_fit l (collecting x) (f ∷ fs) h =
     let i = go_fit (same l f.label) (reading (put f.before (long_of f.label f.children (collecting x))) fs) h in
     let n : IsSmall (length fs) (node collection_label (forest (map tree_of_entry x.entries))) = put_tag_fits (length fs) f.before true (node collection_label (forest (map tree_of_entry x.entries))) i.0 in
     let b = part_fit f.before (tag true (node collection_label (forest (map tree_of_entry x.entries)))) fs i in
-    (node_small (length fs) collection_label (map tree_of_entry x.entries) n, (b.0, tt, b.1, depth_there (length fs) collection_label (map tree_of_entry x.entries) n))
+    (inl (node_row (length fs) collection_label (map tree_of_entry x.entries) n), (b.0, tt, b.1, depth_there (length fs) collection_label (map tree_of_entry x.entries) n))
 
 begun_fit : (form : Form) (more : Bool) (l : List ℕ) (c : Content) (fs : List Open) → StateFits (begun form more l c fs) → Fit c fs
 begun_fit Short true l c fs h = (h.1.0, h.1.2)

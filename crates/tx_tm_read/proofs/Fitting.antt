@@ -1,8 +1,10 @@
 -- What comes of something too big is too big.
+use mathlib.Core.Logic.{inl, inr}
 use Rattle.std.proofs.Common.{◌≡◌, ℕ, suc, ◌+◌, ◌≤◌, Bool, true, false, if◌then◌else◌, List, [], ◌∷◌, ◌++◌, length, map, Option, Some, None, refl, sym, subst, length-append, arith}
+use Rattle.std.proofs.lemmas.List.{map-append}
 use Rattle.tx_tree.specs.declared.TheConstants.{MOST_TEXT, MOST_ARITY, MOST_DEPTH, MOST_SIZE}
 use Rattle.tx_tree.specs.Limits.{IsWithinLimits}
-use Rattle.tx_tree.specs.WideTree.{WideTree, node, forest, longest_text, widest, deepest, total_size}
+use Rattle.tx_tree.specs.WideTree.{WideTree, node, forest, longest_text, widest, deepest, size_of, total_size}
 use Rattle.tx_tree.proofs.Children.{total_size-append}
 use Rattle.tx_tm_form.specs.declared.bytes.White.{White}
 use Rattle.tx_tm_form.specs.declared.bytes.White.TheVariants.{Spaces, Line, Break}
@@ -10,7 +12,7 @@ use Rattle.tx_tm_form.specs.declared.places.Stage.{Stage}
 use Rattle.tx_tm_form.specs.declared.places.Stage.TheVariants.{Empty, Alone, Ordinary}
 use Rattle.tx_tm_form.specs.Parts.{Part, gap, text, tag, leaf_before, concat_of, concat_label, document_label}
 use Rattle.tx_tm_form.specs.Growing.{Inline, no_parts, grow, grown, Block, no_paragraphs, longer, with_white, ended, resumed, first_stage, with_part, widen, tree_at, tree_of_block, Entry, Tags, tree_of_entry, behind_run, with_entries, as_block, Content, inline, blocks, collecting, put}
-use Rattle.tx_tm_read.specs.Fits.{IsSmall, AreSmall, RowFits, LineFits, BlockFitsAt, BlockFits, TagsFit, ContentFits}
+use Rattle.tx_tm_read.specs.Fits.{IsSmall, AreSmall, RowFits, LineFits, BlockFitsAt, BlockFits, TagRowFits, TagsFit, ContentFits}
 use Rattle.tx_tm_read.proofs.Made.{arity_least}
 
 -- ---- trees
@@ -109,6 +111,20 @@ space_short : (r : Bool) (s : List ℕ) → length (if r then s else s ++ 32 ∷
 space_short true s h = h
 space_short false s h = omega (arith, length-append s (32 ∷ []))
 
+-- a paragraph is as big as its trees
+concat_light : (ts : List WideTree) → total_size (forest ts) ≤ size_of (concat_of ts)
+concat_light [] = omega arith
+concat_light (t ∷ []) = omega arith
+concat_light (t ∷ u ∷ ts) = omega arith
+
+pub grown_light : (g : Inline) → total_size (forest g.done) ≤ size_of (grown g)
+grown_light g = omega (arith, concat_light (g.done ++ leaf_before g.bytes []), total_size-append g.done (leaf_before g.bytes []))
+
+pub grow_light : (g : Inline) (p : Part) → total_size (forest g.done) ≤ total_size (forest (grow g p).done)
+grow_light g (gap w) = omega arith
+grow_light g (text x) = omega arith
+grow_light g (tag c t) = omega (arith, total_size-append (g.done ++ leaf_before g.bytes []) (t ∷ []), total_size-append g.done (leaf_before g.bytes []))
+
 pub grow_fits : (k : ℕ) (g : Inline) (p : Part) → LineFits k (grow g p) → LineFits k g
 grow_fits k g (gap w) h = record { done = h.done; short = space_short g.in_run g.bytes h.short }
 grow_fits k g (text x) h = record { done = h.done; short = omega (arith, length-append g.bytes x, h.short) }
@@ -122,20 +138,31 @@ tree_fits k b h =
       | Empty ↦ λ i. tt
       | Alone ↦ λ i. grown_fits k b.now i
       | Ordinary ↦ λ i.
-          let all : RowFits k (b.full ++ grown b.now ∷ []) = row_inside k (b.full ++ grown b.now ∷ []) (node_row k document_label (b.full ++ grown b.now ∷ []) i) in
-          (left_row k b.full (grown b.now ∷ []) all, grown_fits k b.now (right_small k b.full (grown b.now ∷ []) all.each).0)
+          let all : RowFits k (b.full ++ grown b.now ∷ []) = row_inside k (b.full ++ grown b.now ∷ []) (node_row k document_label (b.full ++ grown b.now ∷ []) i) in (
+            left_row k b.full (grown b.now ∷ []) all,
+            grown_fits k b.now (right_small k b.full (grown b.now ∷ []) all.each).0,
+            omega (arith, all.light, total_size-append b.full (grown b.now ∷ []), grown_light b.now),
+          )
     ] h
 
-ended_fits : (k : ℕ) (r : Option White) (full : List WideTree) (now : Inline) (p : Part) → RowFits k (ended r full now) → LineFits k (grow (resumed r now) p) → RowFits k full × LineFits k now
-ended_fits k None full now p h i = (h, grow_fits k now p i)
-ended_fits k (Some Spaces) full now p h i = (h, grow_fits k now (gap Spaces) (grow_fits k (grow now (gap Spaces)) p i))
-ended_fits k (Some Line) full now p h i = (h, grow_fits k now (gap Line) (grow_fits k (grow now (gap Line)) p i))
-ended_fits k (Some Break) full now p h i = (left_row k full (grown now ∷ []) h, grown_fits k now (right_small k full (grown now ∷ []) h.each).0)
+-- what an ordinary block has to be
+abbrev Both : ℕ → List WideTree → Inline → Type 0
+Both k full now = RowFits k full × LineFits k now × (total_size (forest full) + total_size (forest now.done) ≤ MOST_SIZE)
+
+ended_fits : (k : ℕ) (r : Option White) (full : List WideTree) (now : Inline) (p : Part) → Both k (ended r full now) (grow (resumed r now) p) → Both k full now
+ended_fits k None full now p h = (h.0, grow_fits k now p h.1, omega (arith, h.2, grow_light now p))
+ended_fits k (Some Spaces) full now p h = (h.0, grow_fits k now (gap Spaces) (grow_fits k (grow now (gap Spaces)) p h.1), omega (arith, h.2, grow_light (grow now (gap Spaces)) p))
+ended_fits k (Some Line) full now p h = (h.0, grow_fits k now (gap Line) (grow_fits k (grow now (gap Line)) p h.1), omega (arith, h.2, grow_light (grow now (gap Line)) p))
+ended_fits k (Some Break) full now p h = (
+  left_row k full (grown now ∷ []) h.0,
+  grown_fits k now (right_small k full (grown now ∷ []) h.0.each).0,
+  omega (arith, h.0.light, total_size-append full (grown now ∷ []), grown_light now),
+)
 
 part_fits : (k : ℕ) (b : Block) (p : Part) (s : Stage) → BlockFits k (with_part s b p) → BlockFitsAt s k b
 part_fits k b p Empty h = tt
-part_fits k b p Alone h = (ended_fits k b.run b.full b.now p h.0 h.1).1
-part_fits k b p Ordinary h = ended_fits k b.run b.full b.now p h.0 h.1
+part_fits k b p Alone h = (ended_fits k b.run b.full b.now p h).1
+part_fits k b p Ordinary h = ended_fits k b.run b.full b.now p h
 
 white_fits : (k : ℕ) (s : Stage) (b : Block) (w : White) → b.stage ≡ s → BlockFits k (with_white s b w) → BlockFitsAt s k b
 white_fits k Empty b w e h = tt
@@ -171,27 +198,40 @@ entries_fit k (e ∷ es) b h =
     let i = entries_fit k es (widen (behind_run b e.before) (tag e.collects e.tree)) h in
     (run_fits k b e.before (widen_fits k (behind_run b e.before) (tag e.collects e.tree) i.0), (block_tag k (behind_run b e.before) e.collects e.tree (behind_run b e.before).stage i.0, i.1))
 
+pub entries_more : (es fs : List Entry) (b : Block) → with_entries b (es ++ fs) ≡ with_entries (with_entries b es) fs
+entries_more [] fs b = refl
+entries_more (e ∷ es) fs b = entries_more es fs (widen (behind_run b e.before) (tag e.collects e.tree))
+
 pub tags_fit : (k : ℕ) (x : Tags) → BlockFits k (as_block x) → TagsFit k x
-tags_fit k x h = (entries_fit k x.entries no_paragraphs (run_fits k (with_entries no_paragraphs x.entries) x.run h)).1
+tags_fit k x h = inr (run_fits k (with_entries no_paragraphs x.entries) x.run h)
 
 -- ---- content
 
-map_left : (k : ℕ) (es fs : List Entry) → AreSmall k (map tree_of_entry (es ++ fs)) → AreSmall k (map tree_of_entry es)
-map_left k [] fs h = tt
-map_left k (e ∷ es) fs h = (h.0, map_left k es fs h.1)
+abbrev Wider : Tags → Bool → WideTree → List Entry
+Wider x c t = x.entries ++ record { before = x.run; collects = c; tree = t } ∷ []
 
-map_right : (k : ℕ) (es fs : List Entry) → AreSmall k (map tree_of_entry (es ++ fs)) → AreSmall k (map tree_of_entry fs)
-map_right k [] fs h = h
-map_right k (e ∷ es) fs h = map_right k es fs h.1
+wider_block : (k : ℕ) (x : Tags) (c : Bool) (t : WideTree) → BlockFits k (with_entries no_paragraphs (Wider x c t)) → BlockFits k (widen (as_block x) (tag c t))
+wider_block k x c t h = subst (BlockFits k) (entries_more x.entries (record { before = x.run; collects = c; tree = t } ∷ []) no_paragraphs) h
+
+wider_row : (k : ℕ) (x : Tags) (c : Bool) (t : WideTree) → RowFits k (map tree_of_entry (Wider x c t)) → RowFits k (map tree_of_entry x.entries ++ t ∷ [])
+wider_row k x c t h = subst (RowFits k) (map-append tree_of_entry x.entries (record { before = x.run; collects = c; tree = t } ∷ [])) h
+
+fewer_tags : (k : ℕ) (x : Tags) (c : Bool) (t : WideTree) → TagRowFits k (Wider x c t) → TagsFit k x
+fewer_tags k x c t (inl h) = inl (left_row k (map tree_of_entry x.entries) (t ∷ []) (wider_row k x c t h))
+fewer_tags k x c t (inr h) = tags_fit k x (widen_fits k (as_block x) (tag c t) (wider_block k x c t h))
+
+last_tag : (k : ℕ) (x : Tags) (c : Bool) (t : WideTree) → TagRowFits k (Wider x c t) → IsSmall k t
+last_tag k x c t (inl h) = (right_small k (map tree_of_entry x.entries) (t ∷ []) (wider_row k x c t h).each).0
+last_tag k x c t (inr h) = block_tag k (as_block x) c t (as_block x).stage (wider_block k x c t h)
 
 pub put_fits : (k : ℕ) (c : Content) (p : Part) → ContentFits k (put c p) → ContentFits k c
 put_fits k (inline q g) p h = grow_fits k g p h
 put_fits k (blocks b) p h = widen_fits k b p h
 put_fits k (collecting x) (gap w) h = h
 put_fits k (collecting x) (text s) h = tags_fit k x (widen_fits k (as_block x) (text s) h)
-put_fits k (collecting x) (tag c t) h = map_left k x.entries (record { before = x.run; collects = c; tree = t } ∷ []) h
+put_fits k (collecting x) (tag c t) h = fewer_tags k x c t h
 
 pub put_tag_fits : (k : ℕ) (c : Content) (e : Bool) (t : WideTree) → ContentFits k (put c (tag e t)) → IsSmall k t
 put_tag_fits k (inline q g) e t h = line_tag k g e t h
 put_tag_fits k (blocks b) e t h = block_tag k b e t b.stage h
-put_tag_fits k (collecting x) e t h = (map_right k x.entries (record { before = x.run; collects = e; tree = t } ∷ []) h).0
+put_tag_fits k (collecting x) e t h = last_tag k x e t h

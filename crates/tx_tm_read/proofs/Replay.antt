@@ -6,14 +6,15 @@ use Rattle.tx_tm_form.specs.declared.bytes.White.{White}
 use Rattle.tx_tm_form.specs.declared.places.Stage.{Stage}
 use Rattle.tx_tm_form.specs.declared.places.Stage.TheVariants.{Empty, Alone, Ordinary}
 use Rattle.tx_tm_form.specs.Parts.{tag}
-use Rattle.tx_tm_form.specs.Growing.{Block, no_paragraphs, longer, with_white, widen, Entry, tree_of_entry, behind_run, with_entries, as_block}
-use Rattle.tx_tm_read.specs.declared.blocks.TagEntry.{TagEntry}
+use Rattle.tx_tm_form.specs.Growing.{Block, no_paragraphs, longer, with_white, widen, tree_of_entry, behind_run, with_entries, as_block}
+use Rattle.tx_tm_read.specs.declared.tag_rows.TagEntry.{TagEntry}
 use Rattle.tx_tm_read.specs.declared.blocks.TagList.{TagList}
 use Rattle.tx_tm_read.specs.Fits.{BlockFits}
 use Rattle.tx_tm_read.specs.Nodes.{nodes_in, block_nodes_at, block_nodes}
-use Rattle.tx_tm_read.specs.Blocks.{entry_of, tags_of}
+use Rattle.tx_tm_read.specs.Blocks.{tags_of}
+use Rattle.tx_tm_read.specs.TagRows.{entry_of}
 use Rattle.tx_tm_read.proofs.Counts.{entries_nodes}
-use Rattle.tx_tm_read.proofs.Fitting.{entries_fit, run_fits}
+use Rattle.tx_tm_read.proofs.Fitting.{entries_fit, entries_more, run_fits}
 
 -- the entries so far are in the block, and so many steps were taken
 pub record IsReplayed (before after : ℕ) (all es rest : List TagEntry) (b : Block) : Type 0 where
@@ -30,10 +31,6 @@ pub run_nodes : (b : Block) (r : Option White) → block_nodes (behind_run b r) 
 run_nodes b None = refl
 run_nodes b (Some w) = white_nodes b.stage b w refl
 
-entries_more : (es fs : List Entry) (b : Block) → with_entries b (es ++ fs) ≡ with_entries (with_entries b es) fs
-entries_more [] fs b = refl
-entries_more (e ∷ es) fs b = entries_more es fs (widen (behind_run b e.before) (tag e.collects e.tree))
-
 pub replayed_more : (before m n : ℕ) (all es rest more : List TagEntry) (e : TagEntry) (b a d : Block) → IsReplayed before m all es rest b → rest ≡ e ∷ more → a ≡ behind_run b e.before → d ≡ widen a (tag e.collects e.tree)
     → n + (block_nodes a + nodes_of e.tree) ≤ m + block_nodes d → IsReplayed before n all (es ++ e ∷ []) more d
 replayed_more before m n all es rest more e b a d h r o i j =
@@ -44,10 +41,10 @@ replayed_more before m n all es rest more e b a d h r o i j =
       counted = rw entries (omega (arith, h.counted, j, ap block_nodes o ∙ run_nodes b e.before, entries_nodes (map entry_of es) (entry_of e)));
     }
 
-pub replay_stuck : (before m : ℕ) (x : TagList) (es rest fs : List TagEntry) (e : TagEntry) (b a : Block) → IsReplayed before m x.entries.items es rest b → rest ≡ e ∷ fs → a ≡ behind_run b e.before
+pub replay_stuck : (before m : ℕ) (x : TagList) (es rest fs : List TagEntry) (e : TagEntry) (b a : Block) → IsReplayed before m x.entries es rest b → rest ≡ e ∷ fs → a ≡ behind_run b e.before
     → ((k : ℕ) → BlockFits k (widen a (tag e.collects e.tree)) → ⊥) → (k : ℕ) → BlockFits k (as_block (tags_of x)) → ⊥
 replay_stuck before m x es rest fs e b a h i o j k l =
-    let z : BlockFits k (with_entries no_paragraphs (map entry_of x.entries.items)) = run_fits k (with_entries no_paragraphs (map entry_of x.entries.items)) x.run l in
+    let z : BlockFits k (with_entries no_paragraphs (map entry_of x.entries)) = run_fits k (with_entries no_paragraphs (map entry_of x.entries)) x.run l in
     let c : BlockFits k (with_entries no_paragraphs (map entry_of es ++ entry_of e ∷ map entry_of fs)) = subst (λ z. BlockFits k (with_entries no_paragraphs z)) (ap (map entry_of) (h.left ∙ ap (λ z. es ++ z) i) ∙ map-append entry_of es (e ∷ fs)) z in
     let d : BlockFits k (with_entries (with_entries no_paragraphs (map entry_of es)) (entry_of e ∷ map entry_of fs)) = subst (BlockFits k) (entries_more (map entry_of es) (entry_of e ∷ map entry_of fs) no_paragraphs) c in
     let f : BlockFits k (with_entries b (entry_of e ∷ map entry_of fs)) = subst (λ z. BlockFits k (with_entries z (entry_of e ∷ map entry_of fs))) (sym h.block) d in

@@ -1,5 +1,5 @@
 -- Trees side by side, with one more.
-use Rattle.std.proofs.Common.{◌≡◌, ℕ, ◌+◌, ◌≤◌, ◌<◌, List, [], ◌∷◌, ◌++◌, length, refl, length-append, arith}
+use Rattle.std.proofs.Common.{ℕ, ◌+◌, ◌≤◌, ◌<◌, List, [], ◌∷◌, ◌++◌, length, refl, length-append, arith}
 use Rattle.tx_tree.specs.declared.TheConstants.{MOST_ARITY, MOST_SIZE}
 use Rattle.tx_tree.specs.WideTree.{WideTree, size_of}
 use Rattle.tx_tree.proofs.Children.{total_size-append}

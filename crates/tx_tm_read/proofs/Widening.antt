@@ -33,7 +33,7 @@ tag_widens b c t = tag_at b.stage b c t
 -- where no part goes on, no block comes of it
 pub text_stuck : (b : Block) (x : List ℕ) → ((k : ℕ) → RowFits k (full_behind b) → LineFits k (now_behind b) → ⊥) → (k : ℕ) → BlockFits k (widen b (text x)) → ⊥
 text_stuck b x h k i =
-    let j : RowFits k (full_behind b) × LineFits k (grow (now_behind b) (text x)) = subst (BlockFits k) (text_widens b x) i in h k j.0 (grow_fits k (now_behind b) (text x) j.1)
+    let j : BlockFits k (block_at Ordinary (full_behind b) (grow (now_behind b) (text x))) = subst (BlockFits k) (text_widens b x) i in h k j.0 (grow_fits k (now_behind b) (text x) j.1)
 
 tag_stuck_at : (s : Stage) (b : Block) (c : Bool) (t : WideTree) → ((k : ℕ) → RowFits k (full_at s b) → LineFits k (now_at s b) → ⊥) → (k : ℕ) → BlockFits k (with_part s b (tag c t)) → ⊥
 tag_stuck_at Empty b c t h k i = h k (no_row k) (record { done = no_row k; short = omega arith })

@@ -3,11 +3,11 @@ use Rattle.std.specs.Prelude.{◌≡◌, ℕ, Bool, true, false, List, [], map, 
 use Rattle.tx_tree.specs.WideTree.{WideTree}
 use Rattle.tx_tm_form.specs.declared.places.Stage.{Stage}
 use Rattle.tx_tm_form.specs.declared.places.Stage.TheVariants.{Empty, Alone, Ordinary}
-use Rattle.tx_tm_form.specs.Growing.{Inline, Block, no_parts, ended, resumed, Entry, Tags, Content, inline, blocks, collecting}
+use Rattle.tx_tm_form.specs.Growing.{Inline, Block, no_parts, ended, resumed, Tags, Content, inline, blocks, collecting}
+use Rattle.tx_tm_read.specs.TagRows.{entry_of}
 use Rattle.tx_tm_read.specs.Fits.{RowFits, LineFits, BlockFits, ContentFits}
 use Rattle.tx_tm_read.specs.declared.blocks.Paragraphs.{Paragraphs}
 use Rattle.tx_tm_read.specs.declared.blocks.Resumed.{Resumed}
-use Rattle.tx_tm_read.specs.declared.blocks.TagEntry.{TagEntry}
 use Rattle.tx_tm_read.specs.declared.blocks.TagList.{TagList}
 use Rattle.tx_tm_read.specs.declared.blocks.Body.{Body}
 use Rattle.tx_tm_read.specs.declared.blocks.Body.TheVariants as bodies
@@ -15,11 +15,8 @@ use Rattle.tx_tm_read.specs.declared.blocks.Body.TheVariants as bodies
 abbrev pub block_of : Paragraphs → Block
 block_of p = record { full = p.full; now = p.now; run = p.run; stage = p.stage }
 
-abbrev pub entry_of : TagEntry → Entry
-entry_of e = record { before = e.before; collects = e.collects; tree = e.tree }
-
 abbrev pub tags_of : TagList → Tags
-tags_of x = record { entries = map entry_of x.entries.items; run = x.run }
+tags_of x = record { entries = map entry_of x.entries; run = x.run }
 
 abbrev pub content_of : Body → Content
 content_of (bodies.Argument p g) = inline p g
@@ -75,6 +72,11 @@ IsBlock (Some p) b = block_of p ≡ b
 abbrev pub IsTagged : Option Paragraphs → Stage → List WideTree → Inline → Type 0
 IsTagged None s full now = (around : ℕ) → LineFits around now → ⊥
 IsTagged (Some p) s full now = block_of p ≡ block_at s full now
+
+-- with a tag more, or else no tree within the limits comes of it
+abbrev pub IsTagList : Option TagList → Content → Type 0
+IsTagList None c = (around : ℕ) → ContentFits around c → ⊥
+IsTagList (Some x) c = collecting (tags_of x) ≡ c
 
 abbrev pub IsContent : Option Body → Content → Type 0
 IsContent None c = (around : ℕ) → ContentFits around c → ⊥

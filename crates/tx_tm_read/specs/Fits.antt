@@ -1,11 +1,11 @@
 -- What can still become a tree within the limits.
-use Rattle.std.specs.Prelude.{◌≤◌, ◌<◌, ◌+◌, ℕ, suc, List, [], ◌∷◌, length, map}
+use Rattle.std.specs.Prelude.{◌≤◌, ◌<◌, ◌+◌, ◌⊎◌, ℕ, suc, List, [], ◌∷◌, length, map}
 use Rattle.std.specs.List.{AllByRecursion}
 use Rattle.tx_tree.specs.declared.TheConstants.{MOST_TEXT, MOST_ARITY, MOST_DEPTH, MOST_SIZE}
 use Rattle.tx_tree.specs.WideTree.{WideTree, forest, text_length_of, arity_of, depth_of, size_of, total_size}
 use Rattle.tx_tm_form.specs.declared.places.Stage.{Stage}
 use Rattle.tx_tm_form.specs.declared.places.Stage.TheVariants.{Empty, Alone, Ordinary}
-use Rattle.tx_tm_form.specs.Growing.{Inline, Block, Tags, tree_of_entry, Content, inline, blocks, collecting}
+use Rattle.tx_tm_form.specs.Growing.{Inline, Block, no_paragraphs, Entry, Tags, tree_of_entry, with_entries, Content, inline, blocks, collecting}
 use Rattle.tx_tm_form.specs.Machine.{Open, State, reading, naming, counting, failed, Bytewise, at, lost, Keeping}
 
 -- a tree within the limits, also with so many nodes round it
@@ -31,13 +31,17 @@ pub record LineFits (around : ℕ) (g : Inline) : Type 0 where
 abbrev pub BlockFitsAt : Stage → ℕ → Block → Type 0
 BlockFitsAt Empty around b = Unit {0}
 BlockFitsAt Alone around b = LineFits around b.now
-BlockFitsAt Ordinary around b = RowFits around b.full × LineFits around b.now
+BlockFitsAt Ordinary around b = RowFits around b.full × LineFits around b.now × (total_size (forest b.full) + total_size (forest b.now.done) ≤ MOST_SIZE)
 
 abbrev pub BlockFits : ℕ → Block → Type 0
 BlockFits around b = BlockFitsAt b.stage around b
 
+-- as the children of a collection, or as an ordinary block
+abbrev pub TagRowFits : ℕ → List Entry → Type 0
+TagRowFits around es = RowFits around (map tree_of_entry es) ⊎ BlockFits around (with_entries no_paragraphs es)
+
 abbrev pub TagsFit : ℕ → Tags → Type 0
-TagsFit around x = AreSmall around (map tree_of_entry x.entries)
+TagsFit around x = TagRowFits around x.entries
 
 abbrev pub ContentFits : ℕ → Content → Type 0
 ContentFits around (inline p g) = LineFits around g

@@ -1,10 +1,15 @@
 pub mod LabelFronts
 pub mod Words
+pub mod Tallies
 pub mod Fits
 pub mod Rows
+pub mod TagRows
 pub mod Nodes
 pub mod Lines
 pub mod Blocks
 pub mod Fronts
 pub mod Spots
 pub mod Readers
+pub mod Stands
+pub mod Scans
+pub mod Gauges

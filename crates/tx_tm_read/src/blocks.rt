@@ -7,12 +7,14 @@ ghost use Rattle.tx_tm_form.specs.declared.places.Stage.TheVariants.{Ordinary};
 ghost use Rattle.tx_tm_form.specs.Parts.{gap, text, tag};
 ghost use Rattle.tx_tm_form.specs.Growing.{no_paragraphs, no_tags, longer, ended, resumed, widen, tree_of_block, behind_run, as_block, tree_of_entry, collecting, put, place_of, grow};
 ghost use Rattle.tx_tm_read.specs.Lines.{IsMade};
-ghost use Rattle.tx_tm_read.specs.Blocks.{block_of, tags_of, entry_of, content_of, tag_stage, block_at, IsGoing, IsResumed, IsBlock, IsTagged, IsContent};
+ghost use Rattle.tx_tm_read.specs.Blocks.{block_of, tags_of, content_of, tag_stage, block_at, IsGoing, IsResumed, IsBlock, IsTagged, IsTagList, IsContent};
+ghost use Rattle.tx_tm_read.specs.TagRows.{entry_of};
 ghost use Rattle.tx_tm_read.specs.Nodes.{nodes_in, line_nodes, block_nodes, tags_nodes, content_nodes};
 
 use crate::lines::Line;
 use crate::making::{make_document, make_leaf};
 use crate::rows::Row;
+use crate::tag_rows::{TagEntry, TagRow};
 use std::alloc::Global;
 use std::sync::ledger::Ledger;
 use tx_base::{Memory, Steps};
@@ -200,7 +202,7 @@ impl Resumed {
 }
 
 // The run of both.
-fn longer(run: Option<White>, white: White) -> White
+pub(crate) fn longer(run: Option<White>, white: White) -> White
     ensures { result ≡ longer run white }
 {
     match run {
@@ -263,18 +265,10 @@ fn spaced(full: Row, now: Line) -> Result<Option<Resumed>, Memory>
     }
 }
 
-/// A tag, and the white before it.
-#[derive(Drop)]
-pub(crate) struct TagEntry {
-    before: Option<White>,
-    collects: bool,
-    tree: Tree,
-}
-
 /// The block of what may be a collection tag: tags and white, and nothing else so far.
 #[derive(Drop)]
 pub(crate) struct TagList {
-    entries: Vec<TagEntry>,
+    entries: TagRow,
     run: Option<White>,
 }
 
@@ -283,22 +277,25 @@ impl TagList {
         ensures { tags_of result ≡ no_tags }
     {
         TagList {
-            entries: Vec::new(alloc),
+            entries: TagRow::new(alloc),
             run: None,
         }
     }
 
-    // With a tag.
-    fn with(self, collects: bool, tree: Tree) -> Result<TagList, Memory>
-        ensures { IfOk result (λ x. collecting (tags_of x) ≡ put (collecting (tags_of self)) (tag collects tree)) }
+    // With a tag, or None where a limit is passed.
+    fn with(self, collects: bool, tree: Tree) -> Result<Option<TagList>, Memory>
+        ensures { IfOk result (λ next. IsTagList next (put (collecting (tags_of self)) (tag collects tree))) }
     {
-        let TagList { mut entries, run } = self;
-        entries.push(TagEntry {
+        let TagList { entries, run } = self;
+        let entry = TagEntry {
             before: run,
             collects,
             tree,
-        })?;
-        Ok(TagList { entries, run: None })
+        };
+        match entries.with(entry)? {
+            None => Ok(None),
+            Some(entries) => Ok(Some(TagList { entries, run: None })),
+        }
     }
 
     // The same as an ordinary block, or None where a limit is passed.
@@ -312,7 +309,7 @@ impl TagList {
     {
         let TagList { entries, run } = self;
         let mut block = Paragraphs::new(alloc);
-        for entry in entries {
+        for entry in entries.into_entries() {
             let behind = block.behind(entry.before);
             match behind.with_tag(alloc, entry.collects, entry.tree, steps)? {
                 None => return Ok(None),
@@ -356,10 +353,10 @@ impl TagList {
 
     // The tags alone.
     pub(crate) fn into_trees(self, alloc: Global) -> Result<Vec<Tree>, Memory>
-        ensures { IfOk result (λ ts. ts.items ≡ map tree_of_entry (map entry_of self.entries.items)) }
+        ensures { IfOk result (λ ts. ts.items ≡ map tree_of_entry (map entry_of self.entries)) }
     {
         let mut trees = Vec::new(alloc);
-        for entry in self.entries {
+        for entry in self.entries.into_entries() {
             trees.push(entry.tree)?;
         }
         Ok(trees)
@@ -453,7 +450,10 @@ impl Body {
                 None => Ok(None),
                 Some(block) => Ok(Some(Body::Block(block))),
             },
-            Body::Tags(tags) => Ok(Some(Body::Tags(tags.with(collects, tree)?))),
+            Body::Tags(tags) => match tags.with(collects, tree)? {
+                None => Ok(None),
+                Some(tags) => Ok(Some(Body::Tags(tags))),
+            },
         }
     }
 }

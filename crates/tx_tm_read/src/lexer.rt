@@ -43,6 +43,12 @@ impl LabelFront {
         self.bytes.len()
     }
 
+    pub(crate) fn bytes(&self) -> &[u8]
+        ensures { result.now ≡ self.now }
+    {
+        &self.bytes
+    }
+
     // With a byte more.
     #[tactic(auto, using(crate::proofs::Labels::one_more))]
     fn with(self, byte: u8) -> Result<LabelFront, Memory>

@@ -8,8 +8,13 @@ mod blocks;
 mod lexer;
 mod lines;
 mod making;
+mod marking;
+mod measuring;
 mod reader;
 mod rows;
+mod scan;
+mod sums;
+mod tag_rows;
 mod tags;
 mod taking;
 mod walk;
@@ -18,6 +23,12 @@ pub use reader::read;
 
 #[cfg(test)]
 mod content_tests;
+#[cfg(test)]
+mod fault_tests;
+#[cfg(test)]
+mod limit_tests;
+#[cfg(test)]
+mod measure_tests;
 #[cfg(test)]
 mod other_tests;
 #[cfg(test)]

@@ -1,10 +1,11 @@
 // The tree that bytes spell.
-ghost use Rattle.std.specs.Prelude.{◌≡◌, ◌≤◌, ◌<◌, ◌+◌, [], true, length, take, IfOk, IfErr, IfSome, Some, None};
+ghost use Rattle.std.specs.Prelude.{◌≡◌, ◌≢◌, ◌≤◌, ◌<◌, ◌+◌, [], true, length, take, IfOk, IfErr, IfSome, Some, None};
 ghost use Rattle.tx_tree.specs.WideTree.{WideTree, nodes_of};
 ghost use Rattle.tx_tree.specs.Limits.{IsWithinLimits};
 ghost use Rattle.tx_tm_form.specs.Bytes.{kind_of, is_plain};
 ghost use Rattle.tx_tm_form.specs.Tokens.{is_dropped};
 ghost use Rattle.tx_tm_form.specs.Forms.{Spells};
+ghost use Rattle.tx_tm_form.specs.Faults.{IsTmFault};
 ghost use Rattle.tx_tm_form.specs.Machine.{ready, at, keep, step, start, run};
 ghost use Rattle.tx_tm_read.specs.Words.{token_of, IsGoodWord};
 ghost use Rattle.tx_tm_read.specs.Nodes.{state_nodes};
@@ -13,6 +14,8 @@ ghost use Rattle.tx_tm_read.specs.Readers.{reader_of, IsReader, ReaderRose, AreP
 
 use crate::blocks::{Body, Paragraphs};
 use crate::lexer::{Lexed, Lexer, Word};
+use crate::measuring::limit;
+use crate::scan::misspelled;
 use crate::tags::Spot;
 use crate::walk::put_text;
 use std::alloc::Global;
@@ -45,7 +48,7 @@ fn text_len(bytes: &[u8]) -> usize
 }
 
 // Whether the word stands for nothing: a join, or a space or a tab behind one.
-fn is_dropped(behind_join: bool, word: &Word) -> bool
+pub(crate) fn is_dropped(behind_join: bool, word: &Word) -> bool
     ensures { result ≡ is_dropped behind_join (token_of word.now) }
 {
     match word {
@@ -241,13 +244,29 @@ fn read_all<L: Ledger>(
     reader.finish(alloc, steps)
 }
 
+// Why the bytes spell no tree within the limits.
+fn fault_of(alloc: Global, bytes: &[u8]) -> ReadFault
+    requires { (t : WideTree) → Spells bytes.now t → IsWithinLimits t → ⊥ }
+    ensures { result ≢ ReadFault.Memory → IsTmFault bytes.now result }
+{
+    match misspelled(alloc, bytes) {
+        Ok(Some(fault)) => fault,
+        Ok(None) => match limit(alloc, bytes) {
+            Ok((which, number)) => ReadFault::Limit(which, number),
+            Err(Memory) => ReadFault::Memory,
+        },
+        Err(Memory) => ReadFault::Memory,
+    }
+}
+
 /// The tree that the bytes spell. Each node that it has is at most one step.
 ///
-/// Faults are `NoTree`, exactly where the bytes spell no tree within the limits, and `Memory`.
+/// A fault other than `Memory` comes exactly where the bytes spell no tree within the limits, and is the one that the
+/// table of faults gives (`IsTmFault` of `tx_tm_form`). It is found in one or two passes more, which make no tree.
 pub fn read<L: Ledger>(alloc: Global, bytes: &[u8], steps: &mut Steps<L>) -> Result<Tree, ReadFault>
     ensures found { IfOk result (λ t. Spells bytes.now t) }
     ensures within { IfOk result IsWithinLimits }
-    ensures none { IfErr result (λ fault. fault ≡ ReadFault.NoTree → (t : WideTree) → Spells bytes.now t → IsWithinLimits t → ⊥) }
+    ensures refused { IfErr result (λ fault. fault ≢ ReadFault.Memory → IsTmFault bytes.now fault) }
     ensures counted { IfOk result (λ t. steps.new ≤ steps.old + nodes_of t) }
 {
     match read_all(alloc, bytes, steps) {
@@ -255,7 +274,7 @@ pub fn read<L: Ledger>(alloc: Global, bytes: &[u8], steps: &mut Steps<L>) -> Res
             let _size = tree.size();
             Ok(tree)
         }
-        Ok(None) => Err(ReadFault::NoTree),
+        Ok(None) => Err(fault_of(alloc, bytes)),
         Err(Memory) => Err(ReadFault::Memory),
     }
 }

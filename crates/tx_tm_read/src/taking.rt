@@ -76,7 +76,7 @@ fn end_tag<L: Ledger>(
     }
 }
 
-fn header_place(more: bool) -> Option<Place>
+pub(crate) fn header_place(more: bool) -> Option<Place>
     ensures { result ≡ header_place more }
 {
     if more { Some(Place::InHeader) } else { None }
@@ -201,13 +201,13 @@ fn take_part<L: Ledger>(
     }
 }
 
-fn is_name_byte(byte: u8) -> bool
+pub(crate) fn is_name_byte(byte: u8) -> bool
     ensures { result ≡ is_name_byte byte }
 {
     matches!(byte, b'!'..=b'~') && byte != b'<' && byte != b'>'
 }
 
-fn is_digit(byte: u8) -> bool
+pub(crate) fn is_digit(byte: u8) -> bool
     ensures { result ≡ is_digit byte }
 {
     matches!(byte, b'0'..=b'9' | b'A'..=b'F' | b'a'..=b'f')

@@ -82,34 +82,34 @@ fn trees_that_are_read(rt: HostRuntime) -> Result<(), Fail> {
 
 #[test]
 fn bytes_that_spell_no_tree(rt: HostRuntime) {
-    let rows: [&[u8]; 24] = [
-        b"a\\Ib",
-        b"\\<a\\>\\<b",
-        b"a>b",
-        b"a|b",
-        b"\\>",
-        b"\\",
-        b"\\\r",
-        b"\\\r>",
-        b"\\<\\>",
-        b"\\<a|b\\>",
-        b"\\<a b\\>",
-        b"<",
-        b"<a",
-        b"<>",
-        b"<|a>",
-        b"</a>",
-        b"<f|</g>",
-        b"<\\a></b>",
-        b"<\\a></a >",
-        b"<\\a|</a>",
-        b"<#4G>",
-        b"<#4|>",
-        b"<\\a>x|</a>",
-        b"<a\\\n>",
+    let rows: [(&[u8], ReadFault); 24] = [
+        (b"a\\Ib", ReadFault::BadEscape(2)),
+        (b"\\<a\\>\\<b", ReadFault::Unclosed(8)),
+        (b"a>b", ReadFault::Stray(1)),
+        (b"a|b", ReadFault::Stray(1)),
+        (b"\\>", ReadFault::BadText(1)),
+        (b"\\", ReadFault::Unclosed(1)),
+        (b"\\\r", ReadFault::Unclosed(2)),
+        (b"\\\r>", ReadFault::BadEscape(2)),
+        (b"\\<\\>", ReadFault::BadText(3)),
+        (b"\\<a|b\\>", ReadFault::BadText(3)),
+        (b"\\<a b\\>", ReadFault::BadText(3)),
+        (b"<", ReadFault::Unclosed(1)),
+        (b"<a", ReadFault::Unclosed(2)),
+        (b"<>", ReadFault::BadLabel(1)),
+        (b"<|a>", ReadFault::Stray(1)),
+        (b"</a>", ReadFault::Stray(1)),
+        (b"<f|</g>", ReadFault::Stray(4)),
+        (b"<\\a></b>", ReadFault::Mismatch(0, 6)),
+        (b"<\\a></a >", ReadFault::Mismatch(0, 7)),
+        (b"<\\a|</a>", ReadFault::Stray(5)),
+        (b"<#4G>", ReadFault::Stray(3)),
+        (b"<#4|>", ReadFault::Stray(3)),
+        (b"<\\a>x|</a>", ReadFault::Stray(5)),
+        (b"<a\\\n>", ReadFault::BadLabel(2)),
     ];
-    for bytes in rows {
+    for (bytes, fault) in rows {
         let found = printed::<Brand>(rt.alloc(), bytes, Blank::new(1));
-        assert_eq!(rt; found.err(), Some(ReadFault::NoTree), "at {bytes:?}");
+        assert_eq!(rt; found.err(), Some(fault), "at {bytes:?}");
     }
 }

@@ -23,7 +23,7 @@ use tx_base::{Memory, Steps};
 use tx_tm_form::{Escaped, Form, Place, White, escape_of, white_of};
 use tx_tree::{Label, MOST_DEPTH, Tree};
 
-fn same_bytes(one: &[u8], other: &[u8]) -> bool
+pub(crate) fn same_bytes(one: &[u8], other: &[u8]) -> bool
     ensures { result ≡ same one.now other.now }
 {
     one == other
@@ -47,7 +47,7 @@ fn in_argument(
 }
 
 // Whether the label is that of collections.
-fn is_collection(label: &Label) -> bool
+pub(crate) fn is_collection(label: &Label) -> bool
     ensures { result ≡ same label.now collection_label }
 {
     same_bytes(label.bytes(), b"collection")

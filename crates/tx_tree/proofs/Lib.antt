@@ -6,3 +6,4 @@ pub mod Cutting
 pub mod Walking
 pub mod PathReading
 pub mod PathsOnce
+pub mod OneFault

@@ -164,7 +164,7 @@ run_took [] bytes (Some p) h = subst (λ x. Took p x) (sym (append-nil bytes)) h
 run_took (b ∷ more) bytes (Some p) h =
     subst (λ x. TookAll (text_run (text_step p b) more) x) (append_assoc bytes (b ∷ []) more) (run_took more (bytes ++ b ∷ []) (text_step p b) (step_took p b bytes h (text_step p b) refl))
 
-no_bytes : IsText []
+pub no_bytes : IsText []
 no_bytes = ([], tt, refl)
 
 pub took : (bytes : List ℕ) → TookAll (text_run (Some Between) bytes) bytes
@@ -211,7 +211,7 @@ begins_tested bytes more h =
 
 -- ---- the longest front
 
-take_less : (bytes : List ℕ) (i m : ℕ) → i ≤ m → (rest : List ℕ) × (take m bytes ≡ take i bytes ++ rest)
+pub take_less : (bytes : List ℕ) (i m : ℕ) → i ≤ m → (rest : List ℕ) × (take m bytes ≡ take i bytes ++ rest)
 take_less bytes zero m h = (take m bytes, refl)
 take_less bytes (suc i) zero h = absurd (omega arith)
 take_less [] (suc i) (suc m) h = ([], refl)

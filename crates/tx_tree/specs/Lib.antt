@@ -5,6 +5,7 @@ pub mod Building
 pub mod Labels
 pub mod WideTree
 pub mod Limits
+pub mod ReadFaults
 pub mod Trees
 pub mod Falls
 pub mod Paths

@@ -25,12 +25,49 @@ pub enum TreeFault {
     Memory,
 }
 
-/// Why a reader found no tree.
+/// A limit of trees.
+#[derive(Clone, Copy, Debug, PartialEq, Eq)]
+pub enum Which {
+    /// The most bytes of a text.
+    Text,
+    /// The most children of a node.
+    Arity,
+    /// The greatest depth.
+    Depth,
+    /// The greatest size.
+    Size,
+}
+
+/// Why a reader found no tree. A place is the number of bytes before it: so many bytes can be continued to bytes that
+/// spell a tree, and no more. Which fault comes where is `IsFault` of `specs/ReadFaults.antt`, with a table for each
+/// syntax.
 #[derive(Clone, Copy, Debug, PartialEq, Eq, Error)]
 pub enum ReadFault {
-    /// The bytes spell no tree within the limits.
-    #[error("no tree within the limits")]
-    NoTree,
+    /// All the bytes, so many, can be continued, and they spell no tree.
+    #[error("unfinished at {0}")]
+    Unclosed(usize),
+    /// At this place stands a byte that none of the other faults is for.
+    #[error("a stray byte at {0}")]
+    Stray(usize),
+    /// At this place stands a byte that no escape has.
+    #[error("no escape at {0}")]
+    BadEscape(usize),
+    /// At this place stands a byte with which no label goes on.
+    #[error("no label at {0}")]
+    BadLabel(usize),
+    /// At this place stands a byte with which no text goes on.
+    #[error("no text at {0}")]
+    BadText(usize),
+    /// The tag that is open begins at the first place, and at the second one stands a byte that differs from its label.
+    #[error("another label at {1} than that of the tag at {0}")]
+    Mismatch(usize, usize),
+    /// At this place, behind the tree, stands a byte that is no white.
+    #[error("more than a tree at {0}")]
+    After(usize),
+    /// The bytes spell a tree that passes this limit first, in the order text, arity, depth, size. The number is the
+    /// greatest text length, the greatest arity, the depth or the size.
+    #[error("a tree past the limit {0:?}, with {1}")]
+    Limit(Which, u64),
     /// Memory ran out.
     #[error("out of memory")]
     Memory,
@@ -64,6 +101,14 @@ impl<T: Drop> From<AllocFailed<T>> for ReadFault {
     ghost from_gives = { λ _ fault. fault ≡ ReadMemory };
 
     fn from(_cause: AllocFailed<T>) -> ReadFault {
+        ReadFault::Memory
+    }
+}
+
+impl From<Memory> for ReadFault {
+    ghost from_gives = { λ _ fault. fault ≡ ReadMemory };
+
+    fn from(_cause: Memory) -> ReadFault {
         ReadFault::Memory
     }
 }

@@ -17,12 +17,12 @@ mod texts;
 mod trees;
 
 pub use building::{TextBuilder, text_laws};
-pub use faults::{PathFault, PlaceFault, ReadFault, TreeFault};
+pub use faults::{PathFault, PlaceFault, ReadFault, TreeFault, Which};
 pub use labels::{Label, LabelFault, is_label_byte};
 pub use path_laws::path_law;
 pub use paths::Path;
 pub use places::Place;
-pub use texts::{Text, TextFault, cut_laws};
+pub use texts::{Text, TextFault, TextPlace, cut_laws};
 pub use trees::{Kind, Tree};
 pub use tx_base::Memory;
 

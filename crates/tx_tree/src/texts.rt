@@ -48,10 +48,12 @@ impl<T: Drop> From<AllocFailed<T>> for TextFault {
     }
 }
 
-// Where the reading of a text stands: between two items, or behind so many bytes of a symbol's name.
+/// Where the reading of a text stands.
 #[derive(Clone, Copy, Debug, PartialEq, Eq)]
-pub(crate) enum TextPlace {
+pub enum TextPlace {
+    /// Between two items, or at an edge.
     Between,
+    /// In a symbol, behind so many bytes of its name.
     InSymbol(usize),
 }
 
@@ -68,9 +70,9 @@ fn is_name_byte(byte: u8) -> bool
 }
 
 impl TextPlace {
-    // The place behind one byte more, or None where no text goes on so.
+    /// The place behind one byte more, or None where no text goes on so.
     #[tactic(auto, unfolding(crate::specs::TextScan::text_step))]
-    pub(crate) fn step(self, byte: u8) -> Option<TextPlace>
+    pub fn step(self, byte: u8) -> Option<TextPlace>
         ensures { result ≡ text_step self byte }
     {
         match self {

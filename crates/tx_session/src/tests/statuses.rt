@@ -10,7 +10,7 @@ const USAGE: &[u8] = b"usage: tmx [--width N] [--height N] FILE [STYLE]...\n";
 
 #[test]
 fn each_status_has_its_line(rt: HostRuntime) -> Result<(), Fail> {
-    let rows: [(&str, &[u8], &str, Status, &[u8]); 14] = [
+    let rows: [(&str, &[u8], &str, Status, &[u8]); 19] = [
         (
             "hello.scm",
             b"(document  \"hello\" )",
@@ -30,30 +30,53 @@ fn each_status_has_its_line(rt: HostRuntime) -> Result<(), Fail> {
             b"(document \"hello\"",
             "tmx|hello.scm",
             Status::Refused,
-            b"refused hello.scm\n",
+            b"refused hello.scm unclosed 17\n",
         ),
         (
             "hello.scm",
             b"",
             "tmx|hello.scm",
             Status::Refused,
-            b"refused hello.scm\n",
+            b"refused hello.scm unclosed 0\n",
         ),
         ("a.scm", b"(f)", "tmx|--help", Status::Words, USAGE),
         ("a.scm", b"(f)", "tmx|-h", Status::Words, USAGE),
         (
-            "x.tm",
-            b"x",
-            "tmx|x.tm",
+            "a.tm",
+            b"an <em|important> note",
+            "tmx|a.tm",
+            Status::Ok,
+            b"(document (concat \"an \" (em \"important\") \" note\"))\n",
+        ),
+        ("e.tm", b"", "tmx|e.tm", Status::Ok, b"(document \"\")\n"),
+        ("scm", b"x", "tmx|scm", Status::Ok, b"(document \"x\")\n"),
+        (
+            "t.tm",
+            b"<em|imp",
+            "tmx|t.tm",
             Status::Refused,
-            b"refused x.tm other-form\n",
+            b"refused t.tm unclosed 7\n",
         ),
         (
-            "scm",
-            b"x",
-            "tmx|scm",
+            "t.tm",
+            b"<\\a></b>",
+            "tmx|t.tm",
             Status::Refused,
-            b"refused scm other-form\n",
+            b"refused t.tm mismatch 0 6\n",
+        ),
+        (
+            "t.tm",
+            b"a\\Ib",
+            "tmx|t.tm",
+            Status::Refused,
+            b"refused t.tm bad-escape 2\n",
+        ),
+        (
+            "t.tm",
+            b"a>b",
+            "tmx|t.tm",
+            Status::Refused,
+            b"refused t.tm stray 1\n",
         ),
         (
             "a.scm",

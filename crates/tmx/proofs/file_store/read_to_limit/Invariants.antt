@@ -1,5 +1,9 @@
 use Rattle.std.proofs.Common.{◌≤◌, length}
+use Rattle.std.specs.Io.KnownBytes.{Consumes}
 use Rattle.tmx.proofs.file_store.read_to_limit.Given as goal
 
 abbrev pub invariant-loop : goal.invariant-loop
-invariant-loop g l = length l.out.items ≤ 16777216
+invariant-loop g l = record {
+  held : Consumes (g.F.Read.remaining l.fn.file) (g.F.Read.remaining l.file) l.out.items;
+  within : length l.out.items ≤ 16777216;
+}

@@ -1,4 +1,4 @@
-use Rattle.std.proofs.Common.{◌≢◌, ◌+◌, ℕ, [], ◌∷◌, refl}
+use Rattle.std.proofs.Common.{◌≢◌, ◌+◌, [], ◌∷◌, refl}
 use Rattle.std.proofs.lemmas.Result.{IfErr-weaker}
 use Rattle.tx_cmd.specs.declared.command.CmdFault.TheVariants.{Memory}
 use Rattle.tx_cmd.specs.declared.words.Argument.TheVariants.{Tree as TreeArgument}
@@ -8,6 +8,6 @@ use Rattle.tx_cmd.proofs.reading.last_tree.Goals as goal
 
 pub returns-clause-refused : goal.returns-clause-refused
 returns-clause-refused g c =
-    IfErr-weaker c.read_tree.result (λ f. f ≢ Memory → (at : ℕ) → IsBadTree c.cut.result.0.now at f) (λ f. f ≢ Memory → (at : ℕ) → IsFirstFault (TreeArgument ∷ []) c.args.bytes.now at f)
-    (λ f bad some at. fault_here TreeArgument [] c.args.bytes.now c.cut.result.0.now c.cut.result.1.now at f refl c.cut.ensures c.requires (bad some (at + 1)))
+    IfErr-weaker c.read_tree.result (λ f. f ≢ Memory → IsBadTree c.cut.result.0.now (c.args.at + 1) f) (λ f. f ≢ Memory → IsFirstFault (TreeArgument ∷ []) c.args.bytes.now c.args.at f)
+    (λ f bad some. fault_here TreeArgument [] c.args.bytes.now c.cut.result.0.now c.cut.result.1.now c.args.at f refl c.cut.ensures c.requires.loose (bad some))
     c.read_tree.ensures.refused

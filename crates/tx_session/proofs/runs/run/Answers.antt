@@ -1,34 +1,40 @@
-use Rattle.std.proofs.Common.{inr, map, Global, refl, subst}
+use Rattle.std.proofs.Common.{inr, map, Global, refl, ap, subst, ◌∙◌}
+use Rattle.std.specs.Prelude.{is_some}
 use Rattle.std.specs.String.{string_bytes}
 use Rattle.tx_outside.specs.Counts.{Rose}
-use Rattle.tx_outside.proofs.Counting.{never_falls_refl}
+use Rattle.tx_outside.proofs.Counting.{never_falls_refl, never_falls_then}
 use Rattle.tx_session.specs.Playing.{IsServed}
 use Rattle.tx_session.specs.Outcomes.{no_memory}
+use Rattle.tx_session.specs.Worlds.{stored, world}
 use Rattle.tx_session.proofs.Causes.{opened_run, line_run, served_long, served_complete, unopened_run, unopened_causes}
 use Rattle.tx_session.proofs.runs.run.Goals as goal
 
 pub returns-in-Ok-clause-run : goal.returns-in-Ok-clause-run
 returns-in-Ok-clause-run g c =
-    opened_run (record { misses = Rose (g.S.Store.misses c.args.store.now) (g.S.Store.misses c.serve.new.store); longs = Rose (g.S.Store.longs c.args.store.now) (g.S.Store.longs c.serve.new.store); store_faults = Rose (g.S.Store.faults c.args.store.now) (g.S.Store.faults c.serve.new.store); input_faults = Rose (g.I.Source.faults c.args.input.now) (g.I.Source.faults c.serve.new.input) }) _ _ (g.I.Source.left c.args.input.now) (g.I.Source.left c.serve.new.input) c.in-Opened.file.now c.in-Opened.tree c.serve.result (g.O.Sink.written c.args.out.now) (g.O.Sink.written c.serve.new.out) c.in-Opened.ensures.comes
-    (subst (λ s. IsServed (Rose (g.I.Source.faults c.args.input.now) (g.I.Source.faults c.serve.new.input)) c.serve.result s (g.I.Source.left c.args.input.now) (g.I.Source.left c.serve.new.input) (g.O.Sink.written c.args.out.now) (g.O.Sink.written c.serve.new.out)) c.in-Ok.ensures.session c.serve.ensures.ended)
+    opened_run (record { misses = Rose (g.S.Store.misses c.args.store.now) (g.S.Store.misses c.serve.new.store); longs = Rose (g.S.Store.longs c.args.store.now) (g.S.Store.longs c.serve.new.store); store_faults = Rose (g.S.Store.faults c.args.store.now) (g.S.Store.faults c.serve.new.store); input_faults = Rose (g.I.Source.faults c.args.input.now) (g.I.Source.faults c.serve.new.input) })
+    (map (string_bytes {Z = Global}) c.args.words.now) (stored (g.S.Store.files c.args.store.now) (g.S.Store.faults c.args.store.now)) (stored (g.S.Store.files c.open-opening.new.store) (g.S.Store.faults c.open-opening.new.store))
+    (world c.serve.new.session (g.S.Store.files c.serve.new.store) (g.S.Store.faults c.serve.new.store)) (g.I.Source.left c.args.input.now) (g.I.Source.left c.serve.new.input) c.in-Opened.file.now c.in-Opened.tree (g.O.Sink.written c.args.out.now) (g.O.Sink.written c.serve.new.out)
+    (c.open-opening.ensures.files_kept, c.open-opening.ensures.faults_never_fall) c.in-Opened.ensures.comes c.serve.result
+    (subst (λ s. IsServed (Rose (g.I.Source.faults c.args.input.now) (g.I.Source.faults c.serve.new.input)) c.serve.result (world s (g.S.Store.files c.open-opening.new.store) (g.S.Store.faults c.open-opening.new.store)) (world c.serve.new.session (g.S.Store.files c.serve.new.store) (g.S.Store.faults c.serve.new.store)) (g.I.Source.left c.args.input.now) (g.I.Source.left c.serve.new.input) (g.O.Sink.written c.args.out.now) (g.O.Sink.written c.serve.new.out)) c.in-Ok.ensures.session c.serve.ensures.ended)
 
 pub returns-in-Ok-clause-script_long : goal.returns-in-Ok-clause-script_long
-returns-in-Ok-clause-script_long g c = λ e. served_long (Rose (g.I.Source.faults c.args.input.now) (g.I.Source.faults c.serve.new.input)) c.serve.result c.in-Ok.session (g.I.Source.left c.args.input.now) (g.I.Source.left c.serve.new.input) (g.O.Sink.written c.args.out.now) (g.O.Sink.written c.serve.new.out) c.serve.ensures.ended e
+returns-in-Ok-clause-script_long g c = λ e. served_long (Rose (g.I.Source.faults c.args.input.now) (g.I.Source.faults c.serve.new.input)) c.serve.result _ _ (g.I.Source.left c.args.input.now) (g.I.Source.left c.serve.new.input) (g.O.Sink.written c.args.out.now) (g.O.Sink.written c.serve.new.out) c.serve.ensures.ended e
 
 pub returns-in-Ok-clause-complete : goal.returns-in-Ok-clause-complete
 returns-in-Ok-clause-complete g c = λ can read m l f i o.
-    served_complete (Rose (g.I.Source.faults c.args.input.now) (g.I.Source.faults c.serve.new.input)) c.serve.result c.in-Ok.session (g.I.Source.left c.args.input.now) (g.I.Source.left c.serve.new.input) (g.O.Sink.written c.args.out.now) (g.O.Sink.written c.serve.new.out) read.0 c.serve.ensures.ended read.1 read.2
+    served_complete (Rose (g.I.Source.faults c.args.input.now) (g.I.Source.faults c.serve.new.input)) c.serve.result _ _ (g.I.Source.left c.args.input.now) (g.I.Source.left c.serve.new.input) (g.O.Sink.written c.args.out.now) (g.O.Sink.written c.serve.new.out) read.0 c.serve.ensures.ended read.1 read.2
     (λ e. i (c.serve.ensures.input_fault_counted e)) (λ e. o (c.serve.ensures.output_fault_counted e))
 
 pub returns-in-Err-clause-run : goal.returns-in-Err-clause-run
 returns-in-Err-clause-run g c =
-    line_run (record { misses = Rose (g.S.Store.misses c.args.store.now) (g.S.Store.misses c.open-opening.new.store); longs = Rose (g.S.Store.longs c.args.store.now) (g.S.Store.longs c.open-opening.new.store); store_faults = Rose (g.S.Store.faults c.args.store.now) (g.S.Store.faults c.open-opening.new.store); input_faults = Rose (g.I.Source.faults c.args.input.now) (g.I.Source.faults c.args.input.now) }) _ _ _ no_memory c.finish-in-Err.result _ _ tt (λ file t e. cc) (c.in-Opened.file.now, c.in-Opened.ensures.comes.0.0) c.finish-in-Err.ensures.done c.finish-in-Err.ensures.cut
+    line_run (record { misses = Rose (g.S.Store.misses c.args.store.now) (g.S.Store.misses c.open-opening.new.store); longs = Rose (g.S.Store.longs c.args.store.now) (g.S.Store.longs c.open-opening.new.store); store_faults = Rose (g.S.Store.faults c.args.store.now) (g.S.Store.faults c.open-opening.new.store); input_faults = Rose (g.I.Source.faults c.args.input.now) (g.I.Source.faults c.args.input.now) })
+    _ (stored (g.S.Store.files c.args.store.now) (g.S.Store.faults c.args.store.now)) (stored (g.S.Store.files c.open-opening.new.store) (g.S.Store.faults c.open-opening.new.store)) _ no_memory c.finish-in-Err.result _ _ (c.open-opening.ensures.files_kept, c.open-opening.ensures.faults_never_fall) tt (λ file t e. cc) (c.in-Opened.file.now, c.in-Opened.ensures.comes.0) c.finish-in-Err.ensures.done c.finish-in-Err.ensures.cut
 
 pub returns-in_default : goal.returns-in_default
 returns-in_default g c =
-    let run = unopened_run (map (string_bytes {Z = Global}) c.args.words.now) (g.S.Store.files c.args.store.now) c.open-opening.result c.report.result (g.O.Sink.written c.args.out.now) (g.O.Sink.written c.report.new.out) (Rose (g.S.Store.misses c.args.store.now) (g.S.Store.misses c.open-opening.new.store)) (Rose (g.S.Store.longs c.args.store.now) (g.S.Store.longs c.open-opening.new.store)) (Rose (g.S.Store.faults c.args.store.now) (g.S.Store.faults c.open-opening.new.store)) (Rose (g.I.Source.faults c.args.input.now) (g.I.Source.faults c.args.input.now)) c.open-opening.ensures.comes c.in_default.not-FaultyWords c.in_default.not-Opened
+    let run = unopened_run (map (string_bytes {Z = Global}) c.args.words.now) (stored (g.S.Store.files c.args.store.now) (g.S.Store.faults c.args.store.now)) (stored (g.S.Store.files c.open-opening.new.store) (g.S.Store.faults c.open-opening.new.store)) c.open-opening.result c.report.result (g.O.Sink.written c.args.out.now) (g.O.Sink.written c.report.new.out) (Rose (g.S.Store.misses c.args.store.now) (g.S.Store.misses c.open-opening.new.store)) (Rose (g.S.Store.longs c.args.store.now) (g.S.Store.longs c.open-opening.new.store)) (Rose (g.S.Store.faults c.args.store.now) (g.S.Store.faults c.open-opening.new.store)) (Rose (g.I.Source.faults c.args.input.now) (g.I.Source.faults c.args.input.now)) (c.open-opening.ensures.files_kept, c.open-opening.ensures.faults_never_fall) c.open-opening.ensures.comes c.in_default.not-FaultyWords c.in_default.not-Opened
     c.report.ensures.line c.open-opening.ensures.missing_counted c.open-opening.ensures.fault_counted c.open-opening.ensures.long_counted (g.I.Source.left c.args.input.now) in
-    let cause = unopened_causes (map (string_bytes {Z = Global}) c.args.words.now) (g.S.Store.files c.args.store.now) c.open-opening.result c.report.result (g.O.Sink.written c.args.out.now) (g.O.Sink.written c.report.new.out) (Rose (g.S.Store.misses c.args.store.now) (g.S.Store.misses c.open-opening.new.store)) (Rose (g.S.Store.longs c.args.store.now) (g.S.Store.longs c.open-opening.new.store)) (Rose (g.S.Store.faults c.args.store.now) (g.S.Store.faults c.open-opening.new.store)) (Rose (g.I.Source.faults c.args.input.now) (g.I.Source.faults c.args.input.now)) c.open-opening.ensures.comes c.in_default.not-FaultyWords c.in_default.not-Opened
+    let cause = unopened_causes (map (string_bytes {Z = Global}) c.args.words.now) (stored (g.S.Store.files c.args.store.now) (g.S.Store.faults c.args.store.now)) (stored (g.S.Store.files c.open-opening.new.store) (g.S.Store.faults c.open-opening.new.store)) c.open-opening.result c.report.result (g.O.Sink.written c.args.out.now) (g.O.Sink.written c.report.new.out) (Rose (g.S.Store.misses c.args.store.now) (g.S.Store.misses c.open-opening.new.store)) (Rose (g.S.Store.longs c.args.store.now) (g.S.Store.longs c.open-opening.new.store)) (Rose (g.S.Store.faults c.args.store.now) (g.S.Store.faults c.open-opening.new.store)) (Rose (g.I.Source.faults c.args.input.now) (g.I.Source.faults c.args.input.now)) (c.open-opening.ensures.files_kept, c.open-opening.ensures.faults_never_fall) c.open-opening.ensures.comes c.in_default.not-FaultyWords c.in_default.not-Opened
     c.report.ensures.line c.open-opening.ensures.missing_counted c.open-opening.ensures.fault_counted c.open-opening.ensures.long_counted in
     record {
       run = run;
@@ -41,7 +47,7 @@ returns-in_default g c =
       output_fault_counted = c.report.ensures.counted;
       script_long = λ e. absurd (cause.not_long e);
       complete = λ can read m l f i o. inr (cause.complete can m l f (λ e. o (c.report.ensures.counted e)));
-      files_kept = c.open-opening.ensures.files_kept;
+      files_stay_known = ap is_some c.open-opening.ensures.files_kept;
       output_stays_known = c.report.ensures.stays_known;
       input_stays_known = refl;
       store_faults_never_fall = c.open-opening.ensures.faults_never_fall;

@@ -1,3 +1,4 @@
+use Rattle.tx_session.specs.Worlds.{world}
 use Rattle.std.proofs.Common.{refl, [], ◌∷◌, ◌++◌, sym, subst}
 use Rattle.tx_session.specs.Keeping.{Stands}
 use Rattle.tx_session.proofs.Standing.{stands_on, stands_next, turned_go, turned_cut, cut_at, ends_at}
@@ -10,7 +11,7 @@ returns-in-Ok-clause-leads g c = λ start before bytes s.
 pub returns-in-Ok-Go-clause-leads : goal.returns-in-Ok-Go-clause-leads
 returns-in-Ok-Go-clause-leads g c = λ start before bytes s.
     let went = turned_go c.in-Ok-Go.field-0 _ _ _ _ _ c.in-Ok-Go.field-0-is (c.in-Ok-Go.ensures.answered s.rest s.kept) in
-    record { rest = []; stands = subst (λ bs. Stands start before bs [] c.answer_line.new.session (g.O.Sink.written c.answer_line.new.out)) (sym (ends_at bytes _ c.if-byte-ne10.false)) (stands_next start before bytes s.rest _ _ _ _ went s.stands); kept = c.clear.ensures }
+    record { rest = []; stands = subst (λ bs. Stands start before bs [] (world c.answer_line.new.session (g.S.Store.files c.answer_line.new.store) (g.S.Store.faults c.answer_line.new.store)) (g.O.Sink.written c.answer_line.new.out)) (sym (ends_at bytes _ c.if-byte-ne10.false)) (stands_next start before bytes s.rest _ _ _ _ went s.stands); kept = c.clear.ensures }
 
 pub returns-in-Err-Failed-clause-leads : goal.returns-in-Err-Failed-clause-leads
 returns-in-Err-Failed-clause-leads g c = λ start before bytes s.

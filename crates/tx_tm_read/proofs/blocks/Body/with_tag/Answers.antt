@@ -12,6 +12,7 @@ returns-in-Some-clause-counted g c =
     let next = rw c.in-Some.is at c.in_ok-with_tag-in-Argument.ensures in
     rw c.in-Argument.is (line_tagged c.in-Argument.line c.in-Some.line c.args.tree _ next)
 
-pub returns-in_ok-with-in-Tags-clause-counted : goal.returns-in_ok-with-in-Tags-clause-counted
-returns-in_ok-with-in-Tags-clause-counted g c =
-    rw c.in-Tags.is (omega (arith, tag_more (tags_of c.in_ok-with-in-Tags.field-0) (tags_of c.in-Tags.tags) c.args.collects c.args.tree c.in_ok-with-in-Tags.ensures))
+pub returns-in-Some-3-clause-counted : goal.returns-in-Some-3-clause-counted
+returns-in-Some-3-clause-counted g c =
+    let next = rw c.in-Some-3.is at c.in_ok-with-in-Tags.ensures in
+    rw c.in-Tags.is (omega (arith, tag_more (tags_of c.in-Some-3.tags) (tags_of c.in-Tags.tags) c.args.collects c.args.tree next))

@@ -3,4 +3,4 @@ use Rattle.tx_tm_read.proofs.Replay.{IsReplayed}
 use Rattle.tx_tm_read.proofs.blocks.TagList.into_paragraphs.Given as goal
 
 abbrev pub invariant-loop-entry : goal.invariant-loop-entry
-invariant-loop-entry g l = IsReplayed l.fn.steps l.steps l.fn.self.entries.items l.yielded l.entry-iterator.rest.items (block_of l.block)
+invariant-loop-entry g l = IsReplayed l.fn.steps l.steps l.fn.self.entries l.yielded l.entry-iterator.rest.items (block_of l.block)

@@ -1,0 +1,60 @@
+// The length of the canonical text. A count stands still at its greatest value, which no text within the limits
+// reaches.
+ghost use Rattle.std.specs.Prelude.{◌≡◌, ◌+◌, length};
+ghost use Rattle.std.specs.List.{flat_map};
+ghost use Rattle.tx_scm.specs.Spelling.{escaped};
+ghost use Rattle.tx_scm.specs.Canonical.{scheme_text};
+ghost use Rattle.tx_scm.specs.Counts.{capped};
+
+use tx_tree::Tree;
+
+fn plus(count: u64, more: u64) -> u64
+    ensures { result ≡ capped (count + more) }
+{
+    count.saturating_add(more)
+}
+
+fn byte_length(byte: u8) -> u64
+    ensures { result ≡ length (escaped byte) }
+{
+    if byte == b'"' || byte == b'\\' { 2 } else { 1 }
+}
+
+// The length of a text as it stands in a string.
+#[tactic(auto, using(std::proofs::lemmas::Grind::common_steps))]
+fn escaped_length(bytes: &[u8]) -> u64
+    ensures { result ≡ capped (length (flat_map escaped bytes.now)) }
+{
+    let mut count = 0;
+    for byte in bytes {
+        count = plus(count, byte_length(*byte));
+    }
+    count
+}
+
+// The length of the text of a tree.
+#[tactic(auto, using(tx_tree::proofs::Walks::leaf_or_node, tx_tree::proofs::Walks::item_shallower, crate::proofs::Writing::leaf_text, crate::proofs::Writing::node_length, std::proofs::lemmas::Grind::common_steps))]
+fn tree_length(t: &Tree) -> u64
+    ensures { result ≡ capped (length (scheme_text t.now)) }
+{
+    if let Some(text) = t.text() {
+        return plus(2, escaped_length(text.bytes()));
+    }
+    let Some(label) = t.label() else {
+        unreachable!()
+    };
+    let mut count = 2 + label.bytes().len() as u64;
+    for child in t.children() {
+        count = plus(count, plus(1, tree_length(child)));
+    }
+    count
+}
+
+/// The bytes of the canonical text of the tree, counted without writing.
+#[tactic(auto, using(crate::proofs::Bounds::text_short))]
+pub fn length(t: &Tree) -> u64
+    ensures { result ≡ length (scheme_text t.now) }
+{
+    let _size = t.size();
+    tree_length(t)
+}

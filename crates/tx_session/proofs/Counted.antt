@@ -1,0 +1,76 @@
+-- Replies `no store` are counted by the store.
+use Rattle.std.proofs.Common.{◌≡◌, ℕ, ◌+◌, ◌-◌, ◌^◌, ◌<◌, ◌≤◌, List, [], ◌∷◌, Option, Some, None, inl, inr, refl, ap, sym, subst, arith}
+use Rattle.tx_outside.specs.Counts.{NeverFalls, Rose}
+use Rattle.tx_outside.proofs.Counting.{never_falls_refl, never_falls_then}
+use Rattle.tx_session.specs.Replies.{Reading, nothing, too_long, unread, command, faulty, IsReply, IsReplyTo}
+use Rattle.tx_session.specs.Scripts.{Answered}
+use Rattle.tx_session.specs.Worlds.{World, Stored, Mark, plain, lacking, unsaved, Stores, RoseBy, unsaved_in}
+use Rattle.tx_cmd.specs.declared.command.Command.{Command}
+
+-- the count after a line with this mark
+abbrev Counts : Mark → ℕ → ℕ → Type 0
+Counts unsaved before after = Rose before after × NeverFalls before after
+Counts mark before after = NeverFalls before after
+
+same_count : (a b : World) → b ≡ a → NeverFalls a.store.faults b.store.faults
+same_count a b e = subst (λ w. NeverFalls a.store.faults w.store.faults) (sym e) (never_falls_refl a.store.faults)
+
+stores_count : (o : Option (List ℕ × List ℕ)) (a b : Stored) → Stores o a b → NeverFalls a.faults b.faults
+stores_count None a b e = subst (λ s. NeverFalls a.faults s.faults) (sym e) (never_falls_refl a.faults)
+stores_count (Some file) a b h = h.1
+
+reply_count : (a b : World) (it : Command) (mark : Mark) (reply : List ℕ) → IsReply a it mark b reply → Counts mark a.store.faults b.store.faults
+reply_count a b it plain reply h = stores_count _ a.store b.store h.stored
+reply_count a b it lacking reply h = h.2.1
+reply_count a b it unsaved reply h = (h.4.1, h.4.2)
+
+line_count : (a b : World) (reading : Reading) (mark : Mark) (reply : List ℕ) → IsReplyTo a reading mark b reply → Counts mark a.store.faults b.store.faults
+line_count a b nothing plain reply h = same_count a b h.1
+line_count a b nothing lacking reply h = same_count a b h.1
+line_count a b nothing unsaved reply h = let other = h.0 in absurd cc
+line_count a b (too_long n) plain reply h = same_count a b h.0
+line_count a b (too_long n) lacking reply h = same_count a b h.0
+line_count a b (too_long n) unsaved reply h = absurd h
+line_count a b unread plain reply h = same_count a b h.1
+line_count a b unread lacking reply h = same_count a b h.1
+line_count a b unread unsaved reply h = let other = h.0 in absurd cc
+line_count a b (command c) mark reply h = reply_count a b c mark reply h.1
+line_count a b (faulty f) plain reply h = same_count a b h.0
+line_count a b (faulty f) lacking reply h = same_count a b h.0
+line_count a b (faulty f) unsaved reply h = absurd h
+
+most : (b c : ℕ) → b ≡ 2 ^ 64 - 1 → NeverFalls b c → c ≡ 2 ^ 64 - 1
+most b c e never = let le : c ≤ 2 ^ 64 - 1 = never.within (omega arith) in omega (arith, never.kept)
+
+one_more : (n a b c : ℕ) → Rose a b → RoseBy n b c → NeverFalls b c → RoseBy (1 + n) a c
+one_more n a b c (inl above) (inl more) never = inl (omega arith)
+one_more n a b c (inl above) (inr last) never = inr last
+one_more n a b c (inr last) more never = inr (most b c last never)
+
+no_more : (n a b c : ℕ) → NeverFalls a b → RoseBy n b c → RoseBy n a c
+no_more n a b c never (inl more) = inl (omega (arith, never.kept))
+no_more n a b c never (inr last) = inr last
+
+never_falls : (mark : Mark) (a b : ℕ) → Counts mark a b → NeverFalls a b
+never_falls plain a b h = h
+never_falls lacking a b h = h
+never_falls unsaved a b h = h.1
+
+all_never : (a b : World) (lines : List (List ℕ)) (marks : List Mark) (text : List ℕ) → Answered a lines marks b text → NeverFalls a.store.faults b.store.faults
+all_never a b [] [] text h = same_count a b h.0
+all_never a b [] (m ∷ marks) text h = absurd h
+all_never a b (l ∷ lines) [] text h = absurd h
+all_never a b (l ∷ lines) (m ∷ marks) text h =
+    never_falls_then _ _ _ (never_falls m _ _ (line_count a h.0 h.3.0 m h.1 h.3.2)) (all_never h.0 b lines marks h.2 h.4)
+
+count_next : (m : Mark) (marks : List Mark) (a b c : ℕ) → Counts m a b → RoseBy (unsaved_in marks) b c → NeverFalls b c → RoseBy (unsaved_in (m ∷ marks)) a c
+count_next plain marks a b c h more never = no_more (unsaved_in marks) a b c h more
+count_next lacking marks a b c h more never = no_more (unsaved_in marks) a b c h more
+count_next unsaved marks a b c h more never = one_more (unsaved_in marks) a b c h.0 more never
+
+pub failures_counted : (a b : World) (lines : List (List ℕ)) (marks : List Mark) (text : List ℕ) → Answered a lines marks b text → RoseBy (unsaved_in marks) a.store.faults b.store.faults
+failures_counted a b [] [] text h = let never = same_count a b h.0 in inl (omega (arith, never.kept))
+failures_counted a b [] (m ∷ marks) text h = absurd h
+failures_counted a b (l ∷ lines) [] text h = absurd h
+failures_counted a b (l ∷ lines) (m ∷ marks) text h =
+    count_next m marks a.store.faults h.0.store.faults b.store.faults (line_count a h.0 h.3.0 m h.1 h.3.2) (failures_counted h.0 b lines marks h.2 h.4) (all_never h.0 b lines marks h.2 h.4)

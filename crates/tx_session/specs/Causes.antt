@@ -1,0 +1,28 @@
+-- Why an edit or a move of the cursor is refused, as it is printed.
+use Rattle.std.specs.Prelude.{ℕ, List, ◌++◌, codes, decimal}
+use Rattle.tx_tree.specs.declared.faults.PlaceFault.{PlaceFault}
+use Rattle.tx_tree.specs.declared.faults.PlaceFault.TheVariants as places
+use Rattle.tx_mod.specs.declared.faults.ModFault.{ModFault}
+use Rattle.tx_mod.specs.declared.faults.ModFault.TheVariants.{NoPath, NotString, NotNode, BadPlace, Differ, CutsSymbol, TooLong, TooWide, TooDeep, TooBig}
+use Rattle.tx_session.specs.Lines.{line}
+
+-- a line of words and a number
+abbrev pub numbered : List ℕ → ℕ → List ℕ
+numbered words n = line (words ++ decimal n)
+
+abbrev pub cause_reply : ModFault → List ℕ
+cause_reply (NoPath n) = numbered (codes "no path-end ") n
+cause_reply NotString = line (codes "no not-string")
+cause_reply NotNode = line (codes "no not-node")
+cause_reply (BadPlace n) = numbered (codes "no bad-place ") n
+cause_reply Differ = line (codes "no differ")
+cause_reply (CutsSymbol n) = numbered (codes "no cuts-symbol ") n
+cause_reply (TooLong n) = numbered (codes "no too-long ") n
+cause_reply (TooWide n) = numbered (codes "no too-wide ") n
+cause_reply (TooDeep n) = numbered (codes "no too-deep ") n
+cause_reply (TooBig n) = numbered (codes "no too-big ") n
+
+abbrev pub astray_reply : PlaceFault → List ℕ
+astray_reply (places.NoPath n) = numbered (codes "no path-end ") n
+astray_reply (places.BadPlace n) = numbered (codes "no bad-place ") n
+astray_reply (places.CutsSymbol n) = numbered (codes "no cuts-symbol ") n

@@ -1,0 +1,60 @@
+-- A session with its store, and marks of lines.
+use Rattle.std.specs.Prelude.{◌≡◌, ◌≤◌, ◌⊎◌, ◌+◌, ◌-◌, ◌^◌, ℕ, Bool, List, [], ◌∷◌, Option, Some, None}
+use Rattle.tx_outside.specs.Counts.{NeverFalls, Rose}
+use Rattle.tx_outside.specs.Files.{Files, WithFile, OthersKept}
+use Rattle.tx_outside.specs.Known.{WhereKnown}
+use Rattle.tx_state.specs.States.{State}
+
+-- What contracts see of a session: its state, the width and the height of its pages, and whether what it shows was made
+-- since the state last changed. Showing that again takes no memory.
+pub record Seen : Type 0 where
+  pub state : State
+  pub width : ℕ
+  pub height : ℕ
+  pub fresh : Bool
+
+-- the files of a store, where it tells them, and how often it has failed
+pub record Stored : Type 0 where
+  pub files : Option Files
+  pub faults : ℕ
+
+abbrev pub stored : Option Files → ℕ → Stored
+stored files faults = record { files = files; faults = faults }
+
+-- a session with its store
+pub record World : Type 0 where
+  pub session : Seen
+  pub store : Stored
+
+abbrev pub world : Seen → Option Files → ℕ → World
+world session files faults = record { session = session; store = stored files faults }
+
+-- what the reply to a line owes to the machine outside: nothing, or that memory ran out, or that the store failed
+pub data Mark : Type 0 where
+  plain : Mark
+  lacking : Mark
+  unsaved : Mark
+
+-- the store did nothing, or keeps this file
+abbrev pub Stores : Option (List ℕ × List ℕ) → Stored → Stored → Type 0
+Stores None before after = after ≡ before
+Stores (Some file) before after = WhereKnown (WithFile file.0 file.1) before.files after.files × NeverFalls before.faults after.faults
+
+-- the files are as before
+abbrev pub KeepsFiles : Stored → Stored → Type 0
+KeepsFiles before after = (after.files ≡ before.files) × NeverFalls before.faults after.faults
+
+-- the store failed in saving the file of this name, of which nothing is known then
+abbrev pub FailsToStore : List ℕ → Stored → Stored → Type 0
+FailsToStore name before after = WhereKnown (OthersKept name) before.files after.files × Rose before.faults after.faults × NeverFalls before.faults after.faults
+
+-- how many lines are marked as not saved
+abbrev pub unsaved_in : List Mark → ℕ
+unsaved_in [] = 0
+unsaved_in (unsaved ∷ marks) = 1 + unsaved_in marks
+unsaved_in (plain ∷ marks) = unsaved_in marks
+unsaved_in (lacking ∷ marks) = unsaved_in marks
+
+-- a count rose by at least n, or stands at its last value
+abbrev pub RoseBy : ℕ → ℕ → ℕ → Type 0
+RoseBy n before after = (n + before ≤ after) ⊎ (after ≡ 2 ^ 64 - 1)

@@ -1,0 +1,127 @@
+// Replies, and how they are written.
+ghost use Rattle.std.specs.Prelude.{◌≡◌, ◌≢◌, ◌++◌, ◌⊎◌, ◌≤◌, ℕ, length, codes, decimal, IfOk, OnErr, Ok};
+ghost use Rattle.tx_outside.specs.Counts.{NeverFalls, Rose};
+ghost use Rattle.tx_outside.specs.Known.{StaysKnown};
+ghost use Rattle.tx_session.specs.Causes.{cause_reply, astray_reply, numbered};
+ghost use Rattle.tx_session.specs.FaultTexts.{fault_text};
+ghost use Rattle.tx_session.specs.Lines.{line};
+ghost use Rattle.tx_session.specs.Replies.{refusal};
+ghost use Rattle.tx_session.specs.Saying.{Says, text_of};
+ghost use Rattle.tx_session.specs.Writing.{IsSaid};
+
+use crate::fault_lines::line_of_fault;
+use crate::session::Next;
+use std::alloc::Global;
+use tx_base::Memory;
+use tx_cmd::CmdFault;
+use tx_mod::ModFault;
+use tx_outside::{Sink, WriteFault, write_all};
+use tx_tree::{PlaceFault, ReadFault};
+
+/// The reply where memory ran out.
+pub(crate) const NO_MEMORY: &[u8] = b"no memory\n";
+
+/// The reply to a command.
+#[derive(Drop)]
+pub(crate) enum Reply {
+    /// What was asked for is done.
+    Done,
+    /// A reply that is always the same.
+    Fixed(&'static [u8]),
+    /// A reply that was made.
+    Made(Vec<u8>),
+    /// Memory ran out, and nothing was done.
+    Wanting,
+    /// The store failed in saving a file.
+    Unsaved,
+}
+
+impl Reply {
+    /// The reply's bytes.
+    pub(crate) fn text(&self) -> &[u8]
+        ensures { result.now ≡ text_of self.now }
+    {
+        match self {
+            Reply::Done => b"ok\n",
+            Reply::Fixed(text) => text,
+            Reply::Made(text) => text,
+            Reply::Wanting => NO_MEMORY,
+            Reply::Unsaved => b"no store\n",
+        }
+    }
+}
+
+/// A line of words and a number.
+pub(crate) fn numbered(alloc: Global, words: &str, number: u64) -> Reply
+    ensures { Says result (numbered words.now number) }
+{
+    match format!(in alloc; "{words}{number}\n") {
+        Ok(text) => Reply::Made(text.into_bytes()),
+        Err(_) => Reply::Wanting,
+    }
+}
+
+/// The reply to an edit that is refused.
+pub(crate) fn refused(alloc: Global, cause: ModFault) -> Reply
+    ensures { Says result (cause_reply cause) }
+{
+    match cause {
+        ModFault::NoPath(n) => numbered(alloc, "no path-end ", u64::from(n)),
+        ModFault::NotString => Reply::Fixed(b"no not-string\n"),
+        ModFault::NotNode => Reply::Fixed(b"no not-node\n"),
+        ModFault::BadPlace(n) => numbered(alloc, "no bad-place ", n),
+        ModFault::Differ => Reply::Fixed(b"no differ\n"),
+        ModFault::CutsSymbol(n) => numbered(alloc, "no cuts-symbol ", n),
+        ModFault::TooLong(n) => numbered(alloc, "no too-long ", n),
+        ModFault::TooWide(n) => numbered(alloc, "no too-wide ", n),
+        ModFault::TooDeep(n) => numbered(alloc, "no too-deep ", n),
+        ModFault::TooBig(n) => numbered(alloc, "no too-big ", n),
+    }
+}
+
+// The reply where a line's tree is none.
+fn no_tree(alloc: Global, fault: ReadFault) -> Reply
+    ensures { Says result (line (codes "no tree " ++ fault_text fault)) }
+{
+    match line_of_fault(alloc, b"no tree ", fault) {
+        Ok(text) => Reply::Made(text),
+        Err(Memory) => Reply::Wanting,
+    }
+}
+
+/// The reply to a line that is no command.
+pub(crate) fn unread(alloc: Global, fault: CmdFault) -> Reply
+    ensures { Says result (refusal fault) }
+{
+    match fault {
+        CmdFault::Long(length) => numbered(alloc, "no long ", length),
+        CmdFault::Unknown => Reply::Fixed(b"no unknown\n"),
+        CmdFault::Args(at) => numbered(alloc, "no args ", at as u64),
+        CmdFault::Path(at) => numbered(alloc, "no path ", at as u64),
+        CmdFault::Tree(fault) => no_tree(alloc, fault),
+        CmdFault::Memory => Reply::Wanting,
+    }
+}
+
+/// The reply to a move of the cursor to what is no place.
+pub(crate) fn astray(alloc: Global, cause: PlaceFault) -> Reply
+    ensures { Says result (astray_reply cause) }
+{
+    match cause {
+        PlaceFault::NoPath(n) => numbered(alloc, "no path-end ", u64::from(n)),
+        PlaceFault::BadPlace(n) => numbered(alloc, "no bad-place ", n),
+        PlaceFault::CutsSymbol(n) => numbered(alloc, "no cuts-symbol ", n),
+    }
+}
+
+/// Writes a reply.
+pub(crate) fn say<O: Sink>(out: &mut O, reply: &[u8]) -> Result<Next, WriteFault>
+    ensures said { IsSaid result reply.now (O.written out.old) (O.written out.new) }
+    ensures goes { result ≢ Ok Next.Quit }
+    ensures failed_rose { OnErr result (Rose (O.faults out.old) (O.faults out.new)) }
+    ensures faults_never_fall { NeverFalls (O.faults out.old) (O.faults out.new) }
+    ensures stays_known { StaysKnown (O.written out.old) (O.written out.new) }
+{
+    write_all(out, reply)?;
+    Ok(Next::Go)
+}

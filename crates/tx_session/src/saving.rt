@@ -1,0 +1,97 @@
+// The file of a tree, and saving it.
+ghost use Rattle.std.specs.Prelude.{◌≡◌, ◌≢◌, ℕ, List, true, length, IfOk};
+ghost use Rattle.tx_session.specs.Forms.{has_text_in, saving, text_in, SpellsAloneIn, writes};
+ghost use Rattle.tx_session.specs.Lines.{line};
+ghost use Rattle.tx_session.specs.Saves.{IsKeepReply, IsSaveReply};
+ghost use Rattle.tx_session.specs.Worlds.{stored};
+ghost use Rattle.tx_session.specs.Storing.{GoesOn};
+ghost use Rattle.tx_tree.specs.WideTree.{WideTree};
+ghost use Rattle.tx_tree.specs.Limits.{IsWellFormed};
+ghost use Rattle.tx_doc.specs.declared.forms.Form.{Form as Syntax};
+
+use crate::replies::{Reply, numbered};
+use std::alloc::Global;
+use tx_base::Memory;
+use tx_doc::{Form, form_of};
+use tx_outside::{MOST_FILE, SaveFault, Store};
+use tx_tm_write::is_block;
+use tx_tree::Tree;
+
+// Whether the tree has a text in this form.
+fn has_text_in(form: Form, tree: &Tree) -> bool
+    ensures { result ≡ has_text_in form tree.now }
+{
+    match form {
+        Form::Scheme => true,
+        Form::Tm => is_block(tree),
+    }
+}
+
+// How many bytes the tree's file has.
+#[tactic(auto, using(crate::proofs::Saved::scheme_short, crate::proofs::Saved::tm_short, std::proofs::lemmas::Grind::common_steps))]
+fn file_length(form: Form, tree: &Tree) -> u64
+    requires { has_text_in form tree.now ≡ true }
+    ensures { result ≡ length (line (text_in form tree.now)) }
+{
+    let _size = tree.size();
+    match form {
+        Form::Scheme => tx_scm::length(tree) + 1,
+        Form::Tm => tx_tm_write::length(tree) + 1,
+    }
+}
+
+// The bytes of the tree's file.
+fn file_bytes(alloc: Global, form: Form, tree: &Tree) -> Result<Vec<u8>, Memory>
+    requires { has_text_in form tree.now ≡ true }
+    ensures { IfOk result (λ bytes. bytes.items ≡ line (text_in form tree.now)) }
+{
+    let mut bytes = Vec::new(alloc);
+    match form {
+        Form::Scheme => tx_scm::write(tree, &mut bytes)?,
+        Form::Tm => tx_tm_write::write(tree, &mut bytes)?,
+    }
+    bytes.push(b'\n')?;
+    Ok(bytes)
+}
+
+/// Saves the tree in the file of this name, in the form that the name says.
+pub(crate) fn save<S: Store>(alloc: Global, tree: &Tree, name: &[u8], store: &mut S) -> Reply
+    ensures saved { IsSaveReply name.now tree.now result (stored (S.files store.old) (S.faults store.old)) (stored (S.files store.new) (S.faults store.new)) }
+    ensures store_goes_on { GoesOn (S.files store.old) (S.files store.new) (S.faults store.old) (S.faults store.new) (S.misses store.old) (S.misses store.new) (S.longs store.old) (S.longs store.new) }
+{
+    let form = form_of(name);
+    if !has_text_in(form, tree) {
+        return Reply::Fixed(b"no form\n");
+    }
+    let count = file_length(form, tree);
+    if count > MOST_FILE as u64 {
+        return numbered(alloc, "no file-long ", count);
+    }
+    let reply = numbered(alloc, "saved ", count);
+    match file_bytes(alloc, form, tree) {
+        Ok(bytes) => keep(name, &bytes, reply, store),
+        Err(Memory) => Reply::Wanting,
+    }
+}
+
+// Stores the bytes, and answers this reply unless the store fails or memory ran out.
+#[tactic(auto, using(crate::proofs::Saved::keeps_given, std::proofs::lemmas::Grind::common_steps))]
+fn keep<S: Store>(name: &[u8], bytes: &[u8], reply: Reply, store: &mut S) -> Reply
+    requires { reply ≢ Reply.Unsaved }
+    ensures kept { IsKeepReply name.now bytes.now reply result (stored (S.files store.old) (S.faults store.old)) (stored (S.files store.new) (S.faults store.new)) }
+    ensures store_goes_on { GoesOn (S.files store.old) (S.files store.new) (S.faults store.old) (S.faults store.new) (S.misses store.old) (S.misses store.new) (S.longs store.old) (S.longs store.new) }
+{
+    if let Reply::Wanting = reply {
+        return Reply::Wanting;
+    }
+    match store.save(name, bytes) {
+        Ok(()) => reply,
+        Err(SaveFault::Failed) => Reply::Unsaved,
+        Err(SaveFault::Memory) => Reply::Wanting,
+    }
+}
+
+/// A law: what is saved spells the tree that was saved, and no other, in the form that the name says.
+pub fn saved_spells_alone()
+    ensures { (form : Syntax) (t : WideTree) (bytes : List ℕ) → IsWellFormed t → saving form t ≡ writes bytes → SpellsAloneIn form bytes t }
+{}

@@ -1,0 +1,5 @@
+pub mod Trees
+pub mod Moments
+pub mod Turning
+pub mod Leaves
+pub mod Keeping

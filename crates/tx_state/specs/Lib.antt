@@ -1,0 +1,7 @@
+pub mod Buffers
+pub mod Cursors
+pub mod States
+pub mod Edits
+pub mod Entries
+pub mod Kept
+pub mod Walks

@@ -1,0 +1,91 @@
+// Trees changed by modifications, and what changes them back.
+ghost use Rattle.std.specs.Prelude.{◌≡◌, ◌≤◌, ◌+◌, ◌<◌, ℕ, length, IfOk, IfErr, Some, Ok, Err};
+ghost use Rattle.tx_tree.specs.WideTree.{WideTree};
+ghost use Rattle.tx_mod.specs.Changes.{changed, IsRefusal};
+ghost use Rattle.tx_mod.specs.Followed.{changed_by_all};
+ghost use Rattle.tx_mod.specs.Mods.{path_of};
+ghost use Rattle.tx_mod.specs.Sound.{IsSound};
+ghost use Rattle.tx_state.specs.Buffers.{tree_of};
+
+use std::alloc::Global;
+use std::sync::ledger::Ledger;
+use tx_base::{Memory, Steps};
+use tx_doc::Buffer;
+use tx_history::{Entry, Mods};
+use tx_mod::{ApplyFault, Mod, apply, inverse, inverse_law};
+use tx_tree::Tree;
+
+// The trees that the modification puts in are well formed.
+fn sound(m: &Mod)
+    ensures { IsSound m.now }
+{
+    match m {
+        Mod::Assign(_, x) | Mod::Insert(_, _, x) | Mod::InsertNode(_, _, x) => {
+            let _size = x.size();
+        }
+        _ => {}
+    }
+}
+
+// The changed tree, and the modification that gives the tree back.
+pub(crate) fn change_both_ways<L: Ledger>(
+    alloc: Global,
+    t: &Tree,
+    m: &Mod,
+    steps: &mut Steps<L>,
+) -> Result<(Tree, Mod), ApplyFault>
+    ensures there { IfOk result (λ r. changed m.now t.now ≡ Ok r.0) }
+    ensures back { IfOk result (λ r. changed r.1 r.0 ≡ Ok t.now) }
+    ensures refused { IfErr result (IsRefusal (changed m.now t.now)) }
+    ensures counted { steps.new ≤ steps.old + (length (path_of m.now) + 4) }
+{
+    let _size = t.size();
+    sound(m);
+    inverse_law();
+    let inverse = inverse(alloc, t, m, steps)?;
+    let tree = apply(alloc, t, m, steps)?;
+    Ok((tree, inverse))
+}
+
+// The tree changed by all modifications, one after the other, and those that give the tree back.
+pub(crate) fn change_by_all<L: Ledger>(
+    alloc: Global,
+    t: &Tree,
+    mods: &[Mod],
+    steps: &mut Steps<L>,
+) -> Result<(Tree, Mods), Memory>
+    requires { (u : WideTree) × (changed_by_all mods.now t.now ≡ Some u) }
+    ensures there { IfOk result (λ r. changed_by_all mods.now t.now ≡ Some r.0) }
+    ensures back { IfOk result (λ r. changed_by_all r.1 r.0 ≡ Some t.now) }
+{
+    let mut tree = t.share()?;
+    let mut back = Vec::new(alloc);
+    for m in mods {
+        match change_both_ways(alloc, &tree, m, steps) {
+            Ok((next, inverse)) => {
+                back.push(inverse)?;
+                tree = next;
+            }
+            Err(ApplyFault::Memory) => return Err(Memory),
+            Err(ApplyFault::Refused(_)) => unreachable!(),
+        }
+    }
+    back.reverse();
+    Ok((tree, Mods::new(back)))
+}
+
+// What an entry makes of its buffer's tree, and the modifications that lead back.
+pub(crate) fn step_along<L: Ledger>(
+    alloc: Global,
+    buffers: &[Buffer],
+    entry: &Entry,
+    steps: &mut Steps<L>,
+) -> Result<(Tree, Mods), Memory>
+    requires within { entry.now.buffer < length buffers.now }
+    requires applies { (u : WideTree) × (changed_by_all entry.now.mods (tree_of buffers.now entry.now.buffer) ≡ Some u) }
+    ensures there { IfOk result (λ r. changed_by_all entry.now.mods (tree_of buffers.now entry.now.buffer) ≡ Some r.0) }
+    ensures back { IfOk result (λ r. changed_by_all r.1 r.0 ≡ Some (tree_of buffers.now entry.now.buffer)) }
+{
+    let tree = &buffers[entry.buffer as usize].tree;
+    change_by_all(alloc, tree, entry.mods.as_slice(), steps)
+}

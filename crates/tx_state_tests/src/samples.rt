@@ -1,0 +1,199 @@
+// States, commands and replies from words, for tests.
+
+use std::alloc::Global;
+use std::sync::ledger::Ledger;
+use tx_base::Steps;
+use tx_doc::{Buffer, Name};
+use tx_mod::{ApplyFault, Mod, ModFault};
+use tx_state::{EditorState, GoFault, UndoFault};
+use tx_tree::{Label, Path, PlaceFault, Tree};
+
+pub(crate) fn tree<L: Ledger>(alloc: Global, words: &str, steps: &mut Steps<L>) -> Option<Tree> {
+    tx_scm::read(alloc, words.as_bytes(), steps).ok()
+}
+
+// The tree in the Scheme syntax.
+pub(crate) fn text_of(alloc: Global, t: &Tree) -> Option<String> {
+    let mut bytes = Vec::new(alloc);
+    tx_scm::write(t, &mut bytes).ok()?;
+    String::from_utf8(bytes).ok()
+}
+
+fn buffer<L: Ledger>(
+    alloc: Global,
+    name: &str,
+    words: &str,
+    steps: &mut Steps<L>,
+) -> Option<Buffer> {
+    let name = Vec::from_slice(alloc, name.as_bytes()).ok()?;
+    Some(Buffer {
+        name: Name::from(name),
+        tree: tree(alloc, words, steps)?,
+    })
+}
+
+// The state with this document, and a style beside it.
+pub(crate) fn opened<L: Ledger>(
+    alloc: Global,
+    words: &str,
+    steps: &mut Steps<L>,
+) -> Option<EditorState> {
+    let document = buffer(alloc, "d", words, steps)?;
+    let style = buffer(alloc, "s", "(document \"style\")", steps)?;
+    EditorState::open(alloc, vec![in alloc; document, style].ok()?).ok()
+}
+
+pub(crate) fn path(alloc: Global, word: &str) -> Option<Path> {
+    Path::parse(alloc, word.as_bytes()).ok()
+}
+
+fn number(word: &str) -> Option<u32> {
+    word.parse::<u32>().ok()
+}
+
+// Two numbers, and none behind them.
+fn numbers(words: &str) -> Option<(u32, u32)> {
+    let (i, n) = words.split_once(' ')?;
+    Some((number(i)?, number(n)?))
+}
+
+// A number and a tree.
+fn number_and_tree<L: Ledger>(
+    alloc: Global,
+    words: &str,
+    steps: &mut Steps<L>,
+) -> Option<(u32, Tree)> {
+    let (i, rest) = words.split_once(' ')?;
+    Some((number(i)?, tree(alloc, rest, steps)?))
+}
+
+pub(crate) fn change<L: Ledger>(alloc: Global, words: &str, steps: &mut Steps<L>) -> Option<Mod> {
+    let (kind, rest) = words.split_once(' ')?;
+    let (to, rest) = rest.split_once(' ')?;
+    let path = path(alloc, to)?;
+    if kind == "assign" {
+        return Some(Mod::Assign(path, tree(alloc, rest, steps)?));
+    }
+    if kind == "insert" {
+        let (i, x) = number_and_tree(alloc, rest, steps)?;
+        return Some(Mod::Insert(path, i, x));
+    }
+    if kind == "remove" {
+        let (i, n) = numbers(rest)?;
+        return Some(Mod::Remove(path, i, n));
+    }
+    if kind == "split" {
+        let (i, j) = numbers(rest)?;
+        return Some(Mod::Split(path, i, j));
+    }
+    if kind == "join" {
+        return Some(Mod::Join(path, number(rest)?));
+    }
+    if kind == "assign-node" {
+        return Some(Mod::AssignNode(path, Label::new(alloc, rest.as_bytes()).ok()?));
+    }
+    if kind == "insert-node" {
+        let (i, x) = number_and_tree(alloc, rest, steps)?;
+        return Some(Mod::InsertNode(path, i, x));
+    }
+    if kind == "remove-node" {
+        return Some(Mod::RemoveNode(path, number(rest)?));
+    }
+    None
+}
+
+fn change_fault(alloc: Global, cause: ModFault) -> Option<String> {
+    let line = match cause {
+        ModFault::NoPath(n) => format!(in alloc; "no path-end {n}"),
+        ModFault::NotString => format!(in alloc; "no not-string"),
+        ModFault::NotNode => format!(in alloc; "no not-node"),
+        ModFault::BadPlace(n) => format!(in alloc; "no bad-place {n}"),
+        ModFault::Differ => format!(in alloc; "no differ"),
+        ModFault::CutsSymbol(n) => format!(in alloc; "no cuts-symbol {n}"),
+        ModFault::TooLong(n) => format!(in alloc; "no too-long {n}"),
+        ModFault::TooWide(n) => format!(in alloc; "no too-wide {n}"),
+        ModFault::TooDeep(n) => format!(in alloc; "no too-deep {n}"),
+        ModFault::TooBig(n) => format!(in alloc; "no too-big {n}"),
+    };
+    line.ok()
+}
+
+// None is want of memory, here and below.
+pub(crate) fn change_reply(alloc: Global, answer: Result<(), ApplyFault>) -> Option<String> {
+    match answer {
+        Ok(()) => format!(in alloc; "ok").ok(),
+        Err(ApplyFault::Refused(cause)) => change_fault(alloc, cause),
+        Err(ApplyFault::Memory) => None,
+    }
+}
+
+pub(crate) fn turn_reply(
+    alloc: Global,
+    answer: Result<(), UndoFault>,
+    command: &str,
+) -> Option<String> {
+    match answer {
+        Ok(()) => format!(in alloc; "ok").ok(),
+        Err(UndoFault::Nothing) => format!(in alloc; "no {command}").ok(),
+        Err(UndoFault::Memory) => None,
+    }
+}
+
+pub(crate) fn place_fault(alloc: Global, cause: PlaceFault) -> Option<String> {
+    let line = match cause {
+        PlaceFault::NoPath(n) => format!(in alloc; "no path-end {n}"),
+        PlaceFault::BadPlace(n) => format!(in alloc; "no bad-place {n}"),
+        PlaceFault::CutsSymbol(n) => format!(in alloc; "no cuts-symbol {n}"),
+    };
+    line.ok()
+}
+
+fn go_reply(alloc: Global, answer: Result<(), GoFault>) -> Option<String> {
+    match answer {
+        Ok(()) => format!(in alloc; "ok").ok(),
+        Err(GoFault::Astray(cause)) => place_fault(alloc, cause),
+        Err(GoFault::Memory) => None,
+    }
+}
+
+pub(crate) fn cursor_of(alloc: Global, state: &EditorState) -> Option<String> {
+    let at = state.cursor();
+    format!(in alloc; "{at}").ok()
+}
+
+// What a command that changes the state or moves the cursor replies.
+fn command_reply<L: Ledger>(
+    alloc: Global,
+    state: &mut EditorState,
+    line: &str,
+    steps: &mut Steps<L>,
+) -> Option<String> {
+    if line == "undo" {
+        return turn_reply(alloc, state.undo(alloc, steps), line);
+    }
+    if line == "redo" {
+        return turn_reply(alloc, state.redo(alloc, steps), line);
+    }
+    if let Some(to) = line.strip_prefix("go ") {
+        let numbers = path(alloc, to)?;
+        return go_reply(alloc, state.go(alloc, &numbers));
+    }
+    let m = change(alloc, line, steps)?;
+    change_reply(alloc, state.change(alloc, &m, steps))
+}
+
+// What a command replies.
+pub(crate) fn reply<L: Ledger>(
+    alloc: Global,
+    state: &mut EditorState,
+    line: &str,
+    steps: &mut Steps<L>,
+) -> Option<String> {
+    if line == "tree" {
+        return text_of(alloc, state.document());
+    }
+    if line == "cursor" {
+        return cursor_of(alloc, state);
+    }
+    command_reply(alloc, state, line, steps)
+}

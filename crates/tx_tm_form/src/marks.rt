@@ -1,0 +1,26 @@
+// What stands open round a byte.
+
+use crate::places::Place;
+use tx_tree::Label;
+
+/// An open tag.
+#[derive(Drop)]
+pub struct Mark {
+    /// The place of its `<`: so many bytes are before it.
+    pub at: usize,
+    /// Its label.
+    pub label: Label,
+    /// The argument of it that stands open, or None where a block does.
+    pub inner: Option<Place>,
+}
+
+/// In what of the innermost content a byte stands.
+#[derive(Clone, Copy, Debug, PartialEq, Eq)]
+pub enum Inside {
+    /// Between its parts.
+    Parts,
+    /// In a symbol, behind so many bytes of its name.
+    Symbol(usize),
+    /// In the digits of raw data.
+    Digits,
+}

@@ -1,0 +1,24 @@
+-- Where measuring stands, as a state of the machine with measures.
+use Rattle.std.specs.Prelude.{◌≡◌, List, reverse, Option, Some, None}
+use Rattle.tx_tm_form.specs.declared.measures.OpenSums.{OpenSums}
+use Rattle.tx_tm_form.specs.Machine.{Bytewise, at, lost}
+use Rattle.tx_tm_form.specs.Measures as machine
+use Rattle.tx_tm_form.specs.Measures.{Gauged}
+use Rattle.tx_tm_read.specs.declared.measuring.Gauge.{Gauge}
+use Rattle.tx_tm_read.specs.declared.measuring.Meter.{Meter}
+use Rattle.tx_tm_read.specs.Words.{lex_of}
+
+-- the innermost first
+abbrev pub opens_of : List OpenSums → List OpenSums
+opens_of os = reverse os
+
+abbrev pub gauge_of : Gauge → machine.Gauge
+gauge_of g = record { within = g.within; here = g.here; opens = opens_of g.opens.items }
+
+abbrev pub meter_of : Meter → Bytewise Gauged
+meter_of m = at (lex_of m.lexer) (record { behind_join = m.behind_join; gauge = gauge_of m.gauge })
+
+-- this, or else the bytes are no words
+abbrev pub IsMeter : Option Meter → Bytewise Gauged → Type 0
+IsMeter None w = w ≡ lost
+IsMeter (Some m) w = meter_of m ≡ w

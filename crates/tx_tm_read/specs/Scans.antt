@@ -1,0 +1,24 @@
+-- Where the scan stands, as a state of the machine with marks.
+use Rattle.std.specs.Prelude.{◌≡◌, ℕ, false, List, Option, Some, None}
+use Rattle.tx_tree.specs.declared.faults.ReadFault.{ReadFault}
+use Rattle.tx_tree.specs.ReadFaults.{SpellsSome}
+use Rattle.tx_tm_form.specs.Forms.{Spells}
+use Rattle.tx_tm_form.specs.Machine.{Bytewise, at}
+use Rattle.tx_tm_form.specs.Marks.{Marked, marks_go_on}
+use Rattle.tx_tm_form.specs.Faults.{IsTmFault}
+use Rattle.tx_tm_read.specs.declared.scan.Scan.{Scan}
+use Rattle.tx_tm_read.specs.Stands.{standing_of}
+use Rattle.tx_tm_read.specs.Words.{lex_of}
+
+abbrev pub scan_of : Scan → Bytewise Marked
+scan_of s = at (lex_of s.lexer) (record { taken = s.taken; behind_join = s.behind_join; now = Some (standing_of s.stand) })
+
+-- this, or else the machine cannot go on
+abbrev pub IsScan : Option Scan → Bytewise Marked → Type 0
+IsScan None w = marks_go_on w ≡ false
+IsScan (Some s) w = scan_of s ≡ w
+
+-- this is the fault, or else the bytes spell a tree
+abbrev pub Tells : List ℕ → Option ReadFault → Type 0
+Tells bytes None = SpellsSome Spells bytes
+Tells bytes (Some fault) = IsTmFault bytes fault

@@ -1,0 +1,358 @@
+// The measures of the tree that bytes spell, and the limit that it passes.
+ghost use Rattle.std.specs.Prelude.{◌≡◌, ◌+◌, ◌∷◌, [], ◌==◌, true, false, length, reverse, if◌then◌else◌, IfOk, Some, None};
+ghost use Rattle.tx_tree.specs.WideTree.{WideTree};
+ghost use Rattle.tx_tree.specs.Limits.{IsWithinLimits};
+ghost use Rattle.tx_tree.specs.ReadFaults.{IsPassed};
+ghost use Rattle.tx_tm_form.specs.Bytes.{escape_of, escaped_bytes};
+ghost use Rattle.tx_tm_form.specs.Parts.{same, collection_label};
+ghost use Rattle.tx_tm_form.specs.Forms.{Spells};
+ghost use Rattle.tx_tm_form.specs.Machine.{ready, at, step};
+ghost use Rattle.tx_tm_form.specs.Measures.{sums_of, between, in_open, child_in, closed_open, bar_gauge, close_gauge, next_gauge, last_gauge, begun_gauge, escape_gauge, part_gauge, symbol_gauge, digit_gauge, feed_gauge, keep_gauge, start_gauge, put_sums};
+ghost use Rattle.tx_tm_read.specs.Words.{token_of};
+ghost use Rattle.tx_tm_read.specs.Gauges.{opens_of, gauge_of, meter_of, IsMeter};
+
+use crate::lexer::{Lexed, Lexer, Word};
+use crate::reader::is_dropped;
+use crate::sums::{
+    add, body_sums, both, empty_file, leaf_sums, line_sums, long_sums, no_sums, node_sums,
+    opening_sums, put_sums,
+};
+use crate::taking::header_place;
+use crate::walk::is_collection;
+use std::alloc::Global;
+use tx_base::Memory;
+use tx_tm_form::{
+    ContentSums, Escaped, Form, OpenSums, PartSums, Place, Sums, Within, escape_of, white_of,
+};
+use tx_tree::{Label, MOST_ARITY, MOST_DEPTH, MOST_SIZE, MOST_TEXT, Which};
+
+/// What was measured so far: of the innermost content, and of the open tags round it, the innermost last.
+#[derive(Drop)]
+pub(crate) struct Gauge {
+    within: Within,
+    here: ContentSums,
+    opens: Vec<OpenSums>,
+}
+
+fn between(here: ContentSums, opens: Vec<OpenSums>) -> Gauge
+    ensures { gauge_of result ≡ between here (opens_of opens.items) }
+{
+    Gauge {
+        within: Within::Parts,
+        here,
+        opens,
+    }
+}
+
+// In an argument or a block of the tag.
+fn in_open(inner: Option<Place>, tag: OpenSums, mut opens: Vec<OpenSums>) -> Result<Gauge, Memory>
+    ensures { IfOk result (λ next. gauge_of next ≡ in_open inner tag (opens_of opens.items)) }
+{
+    let here = opening_sums(inner, tag.collects, tag.children);
+    opens.push(tag)?;
+    Ok(between(here, opens))
+}
+
+fn child_in(tag: OpenSums, child: Sums) -> Result<OpenSums, Memory>
+    ensures { IfOk result (λ next. next ≡ child_in tag child) }
+{
+    Ok(OpenSums {
+        before: tag.before,
+        collects: tag.collects,
+        children: both(tag.children, child)?,
+    })
+}
+
+// Behind the tag.
+fn closed_open(tag: OpenSums, opens: Vec<OpenSums>) -> Result<Gauge, Memory>
+    ensures { IfOk result (λ next. gauge_of next ≡ closed_open tag (opens_of opens.items)) }
+{
+    let node = PartSums::Tag(false, node_sums(tag.children)?);
+    Ok(between(put_sums(tag.before, node)?, opens))
+}
+
+fn bar_gauge(here: ContentSums, mut opens: Vec<OpenSums>) -> Result<Gauge, Memory>
+    ensures { IfOk result (λ next. gauge_of next ≡ bar_gauge here (opens_of opens.items)) }
+{
+    match here {
+        ContentSums::Argument(place, line) => match opens.pop() {
+            None => Ok(between(here, opens)),
+            Some(tag) => in_open(Some(place), child_in(tag, line_sums(line)?)?, opens),
+        },
+        ContentSums::Block(_) | ContentSums::Tags(_, _) => Ok(between(here, opens)),
+    }
+}
+
+fn close_gauge(here: ContentSums, mut opens: Vec<OpenSums>) -> Result<Gauge, Memory>
+    ensures { IfOk result (λ next. gauge_of next ≡ close_gauge here (opens_of opens.items)) }
+{
+    match here {
+        ContentSums::Argument(place, line) => match opens.pop() {
+            None => Ok(between(here, opens)),
+            Some(tag) => {
+                let tag = child_in(tag, line_sums(line)?)?;
+                match place {
+                    Place::InHeader => in_open(None, tag, opens),
+                    Place::InShort | Place::InClosing => closed_open(tag, opens),
+                }
+            }
+        },
+        ContentSums::Block(_) | ContentSums::Tags(_, _) => Ok(between(here, opens)),
+    }
+}
+
+fn next_gauge(
+    inner: Option<Place>,
+    here: ContentSums,
+    mut opens: Vec<OpenSums>,
+) -> Result<Gauge, Memory>
+    ensures { IfOk result (λ next. gauge_of next ≡ next_gauge inner here (opens_of opens.items)) }
+{
+    match opens.pop() {
+        None => Ok(between(here, opens)),
+        Some(tag) => in_open(inner, child_in(tag, body_sums(here)?)?, opens),
+    }
+}
+
+fn last_gauge(here: ContentSums, mut opens: Vec<OpenSums>) -> Result<Gauge, Memory>
+    ensures { IfOk result (λ next. gauge_of next ≡ last_gauge here (opens_of opens.items)) }
+{
+    match opens.pop() {
+        None => Ok(between(here, opens)),
+        Some(tag) => {
+            let part = long_sums(tag.children, here)?;
+            Ok(between(put_sums(tag.before, part)?, opens))
+        }
+    }
+}
+
+// In a tag that begins.
+fn new_open(
+    inner: Option<Place>,
+    label: &Label,
+    here: ContentSums,
+    opens: Vec<OpenSums>,
+) -> Result<Gauge, Memory>
+    ensures { IfOk result (λ next. gauge_of next ≡ in_open inner (record { before = here; collects = same label.now collection_label; children = sums_of [] }) (opens_of opens.items)) }
+{
+    let tag = OpenSums {
+        before: here,
+        collects: is_collection(label),
+        children: no_sums(),
+    };
+    in_open(inner, tag, opens)
+}
+
+// Behind the beginning of a tag.
+fn begun_gauge(
+    form: Form,
+    more: bool,
+    label: &Label,
+    here: ContentSums,
+    opens: Vec<OpenSums>,
+) -> Result<Gauge, Memory>
+    ensures { IfOk result (λ next. gauge_of next ≡ begun_gauge form more label.now here (opens_of opens.items)) }
+{
+    match form {
+        Form::Short => {
+            if more {
+                return new_open(Some(Place::InShort), label, here, opens);
+            }
+            let node = PartSums::Tag(false, node_sums(no_sums())?);
+            Ok(between(put_sums(here, node)?, opens))
+        }
+        Form::Long => new_open(header_place(more), label, here, opens),
+        Form::Middle => next_gauge(header_place(more), here, opens),
+        Form::Closing => {
+            if more {
+                next_gauge(Some(Place::InClosing), here, opens)
+            } else {
+                last_gauge(here, opens)
+            }
+        }
+    }
+}
+
+// Behind so many bytes of a text.
+fn text_gauge(length: u64, here: ContentSums, opens: Vec<OpenSums>) -> Result<Gauge, Memory>
+    ensures { IfOk result (λ next. gauge_of next ≡ between (put_sums here (PartSums.Text length)) (opens_of opens.items)) }
+{
+    Ok(between(put_sums(here, PartSums::Text(length))?, opens))
+}
+
+// Behind a backslash and a byte.
+fn escape_gauge(byte: u8, here: ContentSums, opens: Vec<OpenSums>) -> Result<Gauge, Memory>
+    ensures { IfOk result (λ next. gauge_of next ≡ escape_gauge (escape_of byte) here (opens_of opens.items)) }
+{
+    match escape_of(byte) {
+        Some(Escaped::Mark) => text_gauge(0, here, opens),
+        Some(Escaped::Byte(_)) => text_gauge(1, here, opens),
+        None => Ok(Gauge {
+            within: Within::Symbol(0),
+            here,
+            opens,
+        }),
+    }
+}
+
+// A word more between parts.
+fn part_gauge(here: ContentSums, opens: Vec<OpenSums>, word: &Word) -> Result<Gauge, Memory>
+    ensures { IfOk result (λ next. gauge_of next ≡ part_gauge here (opens_of opens.items) (token_of word.now)) }
+{
+    match word {
+        Word::White(byte) => {
+            let gap = PartSums::Gap(white_of(*byte));
+            Ok(between(put_sums(here, gap)?, opens))
+        }
+        Word::Join(_) => Ok(between(here, opens)),
+        Word::Plain(_) => text_gauge(1, here, opens),
+        Word::Escape(byte) => escape_gauge(*byte, here, opens),
+        Word::Raw => Ok(Gauge {
+            within: Within::Digits(0),
+            here,
+            opens,
+        }),
+        Word::Head(form, label, more) => begun_gauge(*form, *more, label, here, opens),
+        Word::Bar => bar_gauge(here, opens),
+        Word::Close => close_gauge(here, opens),
+    }
+}
+
+// A word more in the name of a symbol, behind so many bytes of it.
+fn symbol_gauge(
+    length: u64,
+    here: ContentSums,
+    opens: Vec<OpenSums>,
+    word: &Word,
+) -> Result<Gauge, Memory>
+    ensures { IfOk result (λ next. gauge_of next ≡ symbol_gauge length here (opens_of opens.items) (token_of word.now)) }
+{
+    match word {
+        Word::Escape(b'>') => text_gauge(add(length, 2)?, here, opens),
+        _ => Ok(Gauge {
+            within: Within::Symbol(add(length, 1)?),
+            here,
+            opens,
+        }),
+    }
+}
+
+// A word more in raw data, behind so many digits.
+fn digit_gauge(
+    length: u64,
+    here: ContentSums,
+    opens: Vec<OpenSums>,
+    word: &Word,
+) -> Result<Gauge, Memory>
+    ensures { IfOk result (λ next. gauge_of next ≡ digit_gauge length here (opens_of opens.items) (token_of word.now)) }
+{
+    match word {
+        Word::Close => {
+            let node = PartSums::Tag(false, node_sums(leaf_sums(length)?)?);
+            Ok(between(put_sums(here, node)?, opens))
+        }
+        _ => Ok(Gauge {
+            within: Within::Digits(add(length, 1)?),
+            here,
+            opens,
+        }),
+    }
+}
+
+impl Gauge {
+    // Behind the word.
+    fn take(self, word: &Word) -> Result<Gauge, Memory>
+        ensures { IfOk result (λ next. gauge_of next ≡ feed_gauge (gauge_of self) (token_of word.now)) }
+    {
+        match self.within {
+            Within::Parts => part_gauge(self.here, self.opens, word),
+            Within::Symbol(length) => symbol_gauge(length, self.here, self.opens, word),
+            Within::Digits(length) => digit_gauge(length, self.here, self.opens, word),
+        }
+    }
+}
+
+/// What has been read, with measures in place of trees.
+#[derive(Drop)]
+pub(crate) struct Meter {
+    lexer: Lexer,
+    behind_join: bool,
+    gauge: Gauge,
+}
+
+impl Meter {
+    fn new(alloc: Global) -> Meter
+        ensures { meter_of result ≡ start_gauge }
+    {
+        Meter {
+            lexer: Lexer::Ready,
+            behind_join: false,
+            gauge: between(empty_file(), Vec::new(alloc)),
+        }
+    }
+
+    // Behind a byte, or None where no word goes on so.
+    fn step(self, alloc: Global, byte: u8) -> Result<Option<Meter>, Memory>
+        ensures { IfOk result (λ next. IsMeter next (step keep_gauge (meter_of self) byte)) }
+    {
+        let Meter {
+            lexer,
+            behind_join,
+            gauge,
+        } = self;
+        match lexer.step(alloc, byte)? {
+            None => Ok(None),
+            Some(Lexed::Within(lexer)) => Ok(Some(Meter {
+                lexer,
+                behind_join,
+                gauge,
+            })),
+            Some(Lexed::Done(word)) => {
+                let dropped = is_dropped(behind_join, &word);
+                let gauge = if dropped { gauge } else { gauge.take(&word)? };
+                Ok(Some(Meter {
+                    lexer: Lexer::Ready,
+                    behind_join: dropped,
+                    gauge,
+                }))
+            }
+        }
+    }
+}
+
+// The measures of the tree that the bytes spell.
+fn measure(alloc: Global, bytes: &[u8]) -> Result<Sums, Memory>
+    ensures { IfOk result (λ sums. (t : WideTree) → Spells bytes.now t → sums ≡ sums_of (t ∷ [])) }
+{
+    let mut meter = Meter::new(alloc);
+    for byte in bytes {
+        match meter.step(alloc, *byte)? {
+            None => return Ok(no_sums()),
+            Some(next) => meter = next,
+        }
+    }
+    body_sums(meter.gauge.here)
+}
+
+// The first limit that is passed, and the number there, where one is.
+fn first_passed(sums: Sums) -> (Which, u64)
+    ensures { (t : WideTree) → sums ≡ sums_of (t ∷ []) → (IsWithinLimits t → ⊥) → IsPassed t result.0 result.1 }
+{
+    if sums.text > MOST_TEXT as u64 {
+        (Which::Text, sums.text)
+    } else if sums.arity > MOST_ARITY as u64 {
+        (Which::Arity, sums.arity)
+    } else if sums.depth > MOST_DEPTH as u64 {
+        (Which::Depth, sums.depth)
+    } else {
+        (Which::Size, sums.size)
+    }
+}
+
+/// The first limit that the tree passes that the bytes spell, and its number there.
+pub(crate) fn limit(alloc: Global, bytes: &[u8]) -> Result<(Which, u64), Memory>
+    ensures { IfOk result (λ passed. (t : WideTree) → Spells bytes.now t → (IsWithinLimits t → ⊥) → IsPassed t passed.0 passed.1) }
+{
+    let sums = measure(alloc, bytes)?;
+    Ok(first_passed(sums))
+}

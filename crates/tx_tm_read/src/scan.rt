@@ -1,0 +1,253 @@
+// Why bytes spell no tree: a second pass, with no trees.
+ghost use Rattle.std.specs.Prelude.{◌≡◌, ◌≤◌, ◌<◌, ◌+◌, ◌^◌, ◌||◌, length, true, false, if◌then◌else◌, option_copied, Some, None, IfOk};
+ghost use Rattle.tx_tm_form.specs.Tokens.{mark_of, written};
+ghost use Rattle.tx_tm_form.specs.Machine.{ready, at, step};
+ghost use Rattle.tx_tm_form.specs.Fronts.{begins};
+ghost use Rattle.tx_tm_form.specs.Marks.{is_parts, is_symbol, begins_marks, form_goes_on, keep_marks, start_marks, marks_go_on, mismatch, fault_by, stop_fault, is_whole, spells_whole};
+ghost use Rattle.tx_tm_read.specs.Words.{token_of, lex_of};
+ghost use Rattle.tx_tm_read.specs.Stands.{marks_of, first_mark, standing_of};
+ghost use Rattle.tx_tm_read.specs.Scans.{scan_of, IsScan, Tells};
+
+use crate::lexer::{LabelFront, Lexed, Lexer, Word};
+use crate::marking::Stand;
+use crate::reader::is_dropped;
+use std::alloc::Global;
+use tx_base::Memory;
+use tx_tm_form::{Form, Inside, Mark};
+use tx_tree::ReadFault;
+
+// The innermost open tag.
+#[tactic(auto, using(crate::proofs::Innermost::last_is_first))]
+fn innermost(marks: &[Mark]) -> Option<&Mark>
+    ensures { option_copied result ≡ first_mark (marks_of marks.now) }
+{
+    marks.last()
+}
+
+// Whether the bytes are the first of others, or all.
+#[tactic(auto, using(crate::proofs::Innermost::begins_is))]
+fn begins(bytes: &[u8], others: &[u8]) -> bool
+    ensures { result ≡ begins bytes.now others.now }
+{
+    others.starts_with(bytes)
+}
+
+// Whether the label so far goes on to that of the innermost tag, of which a block stands open.
+fn begins_marks(label: &LabelFront, marks: &[Mark]) -> bool
+    ensures { result ≡ begins_marks label.now (marks_of marks.now) }
+{
+    match innermost(marks) {
+        None => false,
+        Some(mark) => mark.inner.is_none() && begins(label.bytes(), mark.label.bytes()),
+    }
+}
+
+fn form_goes_on(form: Form, label: &LabelFront, marks: &[Mark]) -> bool
+    ensures { result ≡ form_goes_on form label.now (marks_of marks.now) }
+{
+    match form {
+        Form::Short | Form::Long => true,
+        Form::Middle | Form::Closing => begins_marks(label, marks),
+    }
+}
+
+fn is_parts(inside: Inside) -> bool
+    ensures { result ≡ is_parts inside }
+{
+    matches!(inside, Inside::Parts)
+}
+
+fn is_symbol(inside: Inside) -> bool
+    ensures { result ≡ is_symbol inside }
+{
+    matches!(inside, Inside::Symbol(_))
+}
+
+// The fault of a byte in the label of a middle or closing tag.
+fn mismatch(marks: &[Mark], place: usize) -> ReadFault
+    ensures { result ≡ mismatch (marks_of marks.now) place }
+{
+    match innermost(marks) {
+        None => ReadFault::Stray(place),
+        Some(mark) => ReadFault::Mismatch(mark.at, place),
+    }
+}
+
+fn mark_len(form: Form) -> usize
+    ensures { result ≡ length (mark_of form) }
+{
+    match form {
+        Form::Short => 0,
+        Form::Long | Form::Middle | Form::Closing => 1,
+    }
+}
+
+// How many bytes the word has.
+#[tactic(auto, using(crate::proofs::Innermost::head_length))]
+fn word_len(word: &Word) -> usize
+    ensures is { result ≡ length (written (token_of word.now)) }
+    ensures short { result < 2 ^ 32 }
+{
+    match word {
+        Word::White(_) | Word::Plain(_) | Word::Bar | Word::Close => 1,
+        Word::Escape(_) | Word::Raw => 2,
+        Word::Join(returned) => { if *returned { 3 } else { 2 } }
+        Word::Head(form, label, _) => mark_len(*form) + label.bytes().len() + 2,
+    }
+}
+
+/// What has been read: as whole words, so many bytes, and of a word that has begun.
+#[derive(Drop)]
+pub(crate) struct Scan {
+    lexer: Lexer,
+    taken: usize,
+    behind_join: bool,
+    stand: Stand,
+}
+
+// Behind a word.
+fn behind_word(
+    taken: usize,
+    behind_join: bool,
+    stand: Stand,
+    word: Word,
+) -> Result<Option<Scan>, Memory>
+    requires { taken < 2 ^ 63 }
+    ensures { IfOk result (λ next. IsScan next (at ready (keep_marks (record { taken = taken; behind_join = behind_join; now = Some (standing_of stand) }) (token_of word)))) }
+{
+    let length = word_len(&word);
+    if is_dropped(behind_join, &word) {
+        return Ok(Some(Scan {
+            lexer: Lexer::Ready,
+            taken: taken + length,
+            behind_join: true,
+            stand,
+        }));
+    }
+    match stand.take(taken, word)? {
+        None => Ok(None),
+        Some(stand) => Ok(Some(Scan {
+            lexer: Lexer::Ready,
+            taken: taken + length,
+            behind_join: false,
+            stand,
+        })),
+    }
+}
+
+impl Scan {
+    fn new(alloc: Global) -> Scan
+        ensures { scan_of result ≡ start_marks }
+    {
+        Scan {
+            lexer: Lexer::Ready,
+            taken: 0,
+            behind_join: false,
+            stand: Stand {
+                inside: Inside::Parts,
+                marks: Vec::new(alloc),
+            },
+        }
+    }
+
+    // Whether a word that has begun can go on to one that may stand here.
+    fn goes_on(&self) -> bool
+        ensures { result ≡ marks_go_on (scan_of self.now) }
+    {
+        match &self.lexer {
+            Lexer::Ready | Lexer::Slashed | Lexer::Returned => true,
+            Lexer::Angled => is_parts(self.stand.inside),
+            Lexer::Labelled(form, label) => {
+                is_parts(self.stand.inside) && form_goes_on(*form, label, &self.stand.marks)
+            }
+        }
+    }
+
+    // The fault of the byte at the place, where no tree goes on with it.
+    fn fault(&self, byte: u8, place: usize) -> ReadFault
+        ensures { result ≡ stop_fault (scan_of self.now) byte place }
+    {
+        match &self.lexer {
+            Lexer::Ready => {
+                if is_symbol(self.stand.inside) {
+                    ReadFault::BadText(place)
+                } else {
+                    ReadFault::Stray(place)
+                }
+            }
+            Lexer::Slashed => {
+                if is_symbol(self.stand.inside) || byte == b'>' {
+                    ReadFault::BadText(place)
+                } else {
+                    ReadFault::BadEscape(place)
+                }
+            }
+            Lexer::Returned => ReadFault::BadEscape(place),
+            Lexer::Angled => {
+                if byte == b'|' || byte == b'/' {
+                    ReadFault::Stray(place)
+                } else {
+                    ReadFault::BadLabel(place)
+                }
+            }
+            Lexer::Labelled(Form::Short | Form::Long, _) => ReadFault::BadLabel(place),
+            Lexer::Labelled(Form::Middle | Form::Closing, _) => mismatch(&self.stand.marks, place),
+        }
+    }
+
+    // Behind a byte, or None where no word goes on so, or where it cannot stand there.
+    fn step(self, alloc: Global, byte: u8) -> Result<Option<Scan>, Memory>
+        requires { self.taken < 2 ^ 63 }
+        ensures { IfOk result (λ next. IsScan next (step keep_marks (scan_of self) byte)) }
+    {
+        let Scan {
+            lexer,
+            taken,
+            behind_join,
+            stand,
+        } = self;
+        match lexer.step(alloc, byte)? {
+            None => Ok(None),
+            Some(Lexed::Within(lexer)) => Ok(Some(Scan {
+                lexer,
+                taken,
+                behind_join,
+                stand,
+            })),
+            Some(Lexed::Done(word)) => behind_word(taken, behind_join, stand, word),
+        }
+    }
+
+    // Whether the bytes so far spell a tree.
+    fn is_whole(&self) -> bool
+        ensures { result ≡ spells_whole (scan_of self.now) }
+    {
+        match &self.lexer {
+            Lexer::Ready => is_parts(self.stand.inside) && self.stand.marks.is_empty(),
+            _ => false,
+        }
+    }
+}
+
+/// Why the bytes spell no tree, whatever its size, or None where they spell one.
+pub(crate) fn misspelled(alloc: Global, bytes: &[u8]) -> Result<Option<ReadFault>, Memory>
+    ensures { IfOk result (λ found. Tells bytes.now found) }
+{
+    let mut scan = Scan::new(alloc);
+    for (place, byte) in bytes.iter().enumerate() {
+        let fault = scan.fault(*byte, place);
+        match scan.step(alloc, *byte)? {
+            None => return Ok(Some(fault)),
+            Some(next) => {
+                if !next.goes_on() {
+                    return Ok(Some(fault));
+                }
+                scan = next;
+            }
+        }
+    }
+    if scan.is_whole() {
+        return Ok(None);
+    }
+    Ok(Some(ReadFault::Unclosed(bytes.len())))
+}
