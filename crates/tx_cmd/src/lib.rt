@@ -8,6 +8,7 @@
 
 mod command;
 mod laws;
+mod limits;
 mod line;
 mod pieces;
 mod reading;
@@ -19,6 +20,7 @@ mod words;
 
 pub use command::{CmdFault, Command};
 pub use laws::{one_answer, one_command};
+pub use limits::line_limit_laws;
 pub use line::parse;
 pub use pieces::first_word;
 pub use words::{Argument, ModWord, Word};

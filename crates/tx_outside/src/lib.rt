@@ -14,6 +14,7 @@ mod byte_source;
 mod faults;
 mod file_store;
 mod in_memory;
+mod limits;
 #[cfg(test)]
 mod tests;
 
@@ -22,3 +23,4 @@ pub use byte_source::Source;
 pub use faults::{Failed, LoadFault, SaveFault, WriteFault};
 pub use file_store::{MOST_FILE, Store};
 pub use in_memory::{MemSink, MemSource, MemStore, StoredFile};
+pub use limits::file_limit_law;

@@ -8,6 +8,7 @@
 
 mod fault_lines;
 mod kept_line;
+mod limits;
 mod names;
 mod opening;
 mod places;
@@ -21,6 +22,7 @@ mod status;
 mod tests;
 mod view;
 
+pub use limits::script_limit_law;
 pub use runs::{one_outcome, one_run, run};
 pub use saving::saved_spells_alone;
 pub use session::{Next, Session};

@@ -7,9 +7,11 @@
 mod changing;
 mod cursors;
 mod faults;
+mod limits;
 mod state;
 
 pub use faults::{GoFault, UndoFault};
+pub use limits::undo_limit_law;
 pub use state::EditorState;
 
 /// The most edits that can be undone.

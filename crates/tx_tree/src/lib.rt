@@ -8,6 +8,7 @@
 mod building;
 mod faults;
 mod labels;
+mod limits;
 mod path_laws;
 mod paths;
 mod places;
@@ -19,6 +20,7 @@ mod trees;
 pub use building::{TextBuilder, text_laws};
 pub use faults::{PathFault, PlaceFault, ReadFault, TreeFault, Which};
 pub use labels::{Label, LabelFault, is_label_byte};
+pub use limits::limit_laws;
 pub use path_laws::path_law;
 pub use paths::Path;
 pub use places::Place;
