@@ -128,6 +128,21 @@ not_stuck x more t h e =
     let all : None ≡ Some Whole = sym (spots_none more) ∙ ap (λ s. spots s more) (sym e) ∙ sym (spots-append x more start) ∙ whole_scan (x ++ more) t h in
     absurd cc
 
+-- behind bytes that can be continued the scan stands, and behind no others
+pub front_closes : (x : List ℕ) → is_some (spots start x) ≡ true → GoesOn x
+front_closes x h = by_spot (spots start x) refl h
+  where
+    by_spot : (p : Option Spot) → spots start x ≡ p → is_some p ≡ true → GoesOn x
+    by_spot (Some s) e h = goes_on x s e
+    by_spot None e h = absurd cc
+
+pub front_stands : (x more : List ℕ) → SpellsSome Spells (x ++ more) → is_some (spots start x) ≡ true
+front_stands x more h = by_spot (spots start x) refl
+  where
+    by_spot : (p : Option Spot) → spots start x ≡ p → is_some p ≡ true
+    by_spot (Some s) e = refl
+    by_spot None e = absurd (not_stuck x more h.0 h.1 e)
+
 module _ (bytes : List ℕ) (i : ℕ) (s : Spot) (lt : i < length bytes) (e : spots start (take i bytes) ≡ Some s) where
   pub scan_more : spots start (take (i + 1) bytes) ≡ step s (kind_of (get_or bytes i 0)) (get_or bytes i 0)
   scan_more =

@@ -1,4 +1,4 @@
--- How far bytes can be the beginning of a tree, byte by byte. Only private clauses cite it.
+-- How far bytes can be the beginning of a tree, byte by byte.
 use Rattle.std.specs.Prelude.{ℕ, zero, suc, ◌+◌, Bool, true, false, nat_lt, is_some, List, [], ◌∷◌, Option, Some, None}
 use Rattle.tx_tree.specs.declared.TheConstants.{MOST_LABEL}
 use Rattle.tx_tree.specs.declared.texts.TextPlace.{TextPlace}
@@ -101,3 +101,7 @@ fault_at (Naming length depth) at = BadLabel at
 fault_at (Texting place depth) at = BadText at
 fault_at (Escaping place depth) at = BadEscape at
 fault_at Whole at = After at
+
+-- the scan of a file stands somewhere behind these first bytes
+abbrev pub scan_goes_on : List ℕ → Bool
+scan_goes_on bytes = is_some (spots (Some (Between 0)) bytes)

@@ -1,16 +1,25 @@
 // What holds of all spellings and of all canonical texts.
-ghost use Rattle.std.specs.Prelude.{◌≡◌, ℕ, ◌⊎◌, List, [], ◌∷◌, ◌++◌};
+ghost use Rattle.std.specs.Prelude.{◌≡◌, ℕ, ◌⊎◌, true, List, [], ◌∷◌, ◌++◌};
 ghost use Rattle.tx_tree.specs.WideTree.{WideTree};
 ghost use Rattle.tx_tree.specs.Limits.{IsWellFormed, IsWithinLimits};
 ghost use Rattle.tx_tree.specs.declared.faults.ReadFault.{ReadFault};
 ghost use Rattle.tx_scm.specs.Spelling.{Spells, SpellsAlone};
+ghost use Rattle.tx_tree.specs.ReadFaults.{SpellsSome};
 ghost use Rattle.tx_scm.specs.Faults.{IsSchemeFault};
+ghost use Rattle.tx_scm.specs.Spots.{scan_goes_on};
 ghost use Rattle.tx_scm.specs.Canonical.{scheme_text};
 
 /// The same bytes spell at most one tree, and a well formed one, within the limits or not.
 pub fn spelling_laws()
     ensures once { (bytes : List ℕ) (t u : WideTree) → Spells bytes t → Spells bytes u → t ≡ u }
     ensures well_formed { (bytes : List ℕ) (t : WideTree) → Spells bytes t → IsWellFormed t }
+{}
+
+/// First bytes can be continued to bytes that spell a tree exactly where the scan, which takes bytes one by one, goes on behind
+/// them: what stands open has a closing text, and behind a byte that can't be taken no bytes help.
+pub fn scan_goes_on_along_fronts()
+    ensures closed { (bytes : List ℕ) → scan_goes_on bytes ≡ true → (more : List ℕ) × SpellsSome Spells (bytes ++ more) }
+    ensures stopped { (bytes more : List ℕ) → SpellsSome Spells (bytes ++ more) → scan_goes_on bytes ≡ true }
 {}
 
 /// Bytes have at most one fault, none where they spell a tree within the limits, and one where they don't.

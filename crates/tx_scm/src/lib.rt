@@ -25,7 +25,7 @@ mod tests;
 mod vector_tests;
 mod writer;
 
-pub use laws::{canonical_laws, fault_laws, spelling_laws};
+pub use laws::{canonical_laws, fault_laws, scan_goes_on_along_fronts, spelling_laws};
 pub use lengths::length;
 pub use reader::read;
 pub use recogniser::spells;

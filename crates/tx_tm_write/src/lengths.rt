@@ -195,10 +195,10 @@ fn block_length(t: &Tree) -> u64
     tags_length(t)
 }
 
-/// The bytes of the canonical text of a block, counted without writing.
+/// The bytes of the canonical text of a block, counted without writing. Of a tree that is no block it is the length of what
+/// `tm_text` gives there, which is no text of that tree.
 #[tactic(auto, using(crate::proofs::Bounds::block_short))]
 pub fn length(t: &Tree) -> u64
-    requires block { is_block t.now ≡ true }
     ensures { result ≡ length (tm_text t.now) }
 {
     let _size = t.size();
