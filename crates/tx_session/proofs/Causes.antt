@@ -16,6 +16,7 @@ use Rattle.tx_doc.specs.Forms.{form_of}
 use Rattle.tx_session.specs.Forms.{SpellsIn, IsFaultIn}
 use Rattle.tx_outside.specs.Files.{file_of}
 use Rattle.tx_session.specs.Runs.{Rises, Outside, IsCaused, IsRefused, CanBeOpened, CanBeRead, Tells, IsRun, IsWritten, IsCutShort, IsWhole, IsBeingWritten, own_line, start_of}
+use Rattle.tx_session.specs.Differences.{EndsAtOpening}
 use Rattle.tx_session.specs.Playing.{HasPlayed, IsCutOff, IsEnd, IsClosed, IsClosedInPart, IsServed, IsLine}
 use Rattle.tx_session.proofs.Lining.{long_unread}
 use Rattle.tx_session.proofs.Single.{no_fault}
@@ -309,3 +310,15 @@ module _ (words : List (List ℕ)) (stored later : Stored) (r : Opening) (status
     where
       none_some : (words : List (List ℕ)) (file : List ℕ) → file_in words ≡ None → file_in words ≡ Some file → ⊥
       none_some words file e s = cc
+
+-- a session that was served has opened its file
+pub served_unread : (failed : Type 0) (status : Status) (start last : World) (told rest before after : Option (List ℕ)) → IsServed failed status start last told rest before after → EndsAtOpening status → ⊥
+served_unread failed statuses.Words start last told rest before after h e = h.played
+served_unread failed statuses.Missing start last told rest before after h e = h.played
+served_unread failed statuses.Refused start last told rest before after h e = h.played
+served_unread failed statuses.StoreFault start last told rest before after h e = h.played
+served_unread failed statuses.Ok start last told rest before after h e = e
+served_unread failed statuses.InputFault start last told rest before after h e = e
+served_unread failed statuses.OutputFault start last told rest before after h e = e
+served_unread failed statuses.NoMemory start last told rest before after h e = e
+served_unread failed statuses.ScriptLong start last told rest before after h e = e

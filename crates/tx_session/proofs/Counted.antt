@@ -3,7 +3,11 @@ use Rattle.std.proofs.Common.{◌≡◌, ℕ, ◌+◌, ◌-◌, ◌^◌, ◌<◌
 use Rattle.tx_outside.specs.Counts.{NeverFalls, Rose}
 use Rattle.tx_outside.proofs.Counting.{never_falls_refl, never_falls_then}
 use Rattle.tx_session.specs.Replies.{Reading, nothing, too_long, unread, command, faulty, IsReply, IsReplyTo}
-use Rattle.tx_session.specs.Scripts.{Answered}
+use Rattle.tx_session.specs.declared.status.Status.{Status}
+use Rattle.tx_session.specs.declared.status.Status.TheVariants as statuses
+use Rattle.tx_session.specs.Outcomes.{Outcome, faulty_words, missing, too_long as file_too_long, no_tree, store_fault, no_memory, opened}
+use Rattle.tx_session.specs.Runs.{IsPlayed, IsWhole, start_of}
+use Rattle.tx_session.specs.Scripts.{Answered, before_quit}
 use Rattle.tx_session.specs.Worlds.{World, Stored, Mark, plain, lacking, unsaved, Stores, RoseBy, unsaved_in}
 use Rattle.tx_cmd.specs.declared.command.Command.{Command}
 
@@ -74,3 +78,31 @@ failures_counted a b [] (m ∷ marks) text h = absurd h
 failures_counted a b (l ∷ lines) [] text h = absurd h
 failures_counted a b (l ∷ lines) (m ∷ marks) text h =
     count_next m marks a.store.faults h.0.store.faults b.store.faults (line_count a h.0 h.3.0 m h.1 h.3.2) (failures_counted h.0 b lines marks h.2 h.4) (all_never h.0 b lines marks h.2 h.4)
+
+-- ---- of a whole run
+
+played_counted : (v x : World) (script : List ℕ) (marks : List Mark) (r : Option (List ℕ)) (s : Status) (a : List ℕ) → IsPlayed v script marks r s x a → RoseBy (unsaved_in marks) v.store.faults x.store.faults
+played_counted v x script marks r statuses.Ok a h = failures_counted v x (before_quit h.0) marks a h.3
+played_counted v x script marks r statuses.ScriptLong a h = failures_counted v x h.0 marks a h.3
+played_counted v x script marks r statuses.InputFault a h = failures_counted v x h.1 marks a h.7
+played_counted v x script marks r statuses.NoMemory a h = failures_counted v x h.3 marks a h.10
+played_counted v x script marks r statuses.Words a h = absurd h
+played_counted v x script marks r statuses.Missing a h = absurd h
+played_counted v x script marks r statuses.Refused a h = absurd h
+played_counted v x script marks r statuses.StoreFault a h = absurd h
+played_counted v x script marks r statuses.OutputFault a h = absurd h
+
+unopened_counted : (v x : Stored) (marks : List Mark) → marks ≡ [] → NeverFalls v.faults x.faults → RoseBy (unsaved_in marks) v.faults x.faults
+unopened_counted v x marks e never = subst (λ ms. RoseBy (unsaved_in ms) v.faults x.faults) (sym e) (inl (omega (arith, never.kept)))
+
+pub whole_counted : (o : Outcome) (v x : Stored) (told r : Option (List ℕ)) (marks : List Mark) (s : Status) (a : List ℕ) → IsWhole o v x told marks r s a → RoseBy (unsaved_in marks) v.faults x.faults
+whole_counted (opened f u) v x told r marks s a h =
+    let first : World = record { session = start_of f u; store = h.2 } in
+    let played : RoseBy (unsaved_in marks) h.2.faults h.3.store.faults = played_counted first h.3 h.0 marks r s h.1 h.6 in
+    subst (λ z. RoseBy (unsaved_in marks) v.faults z.faults) h.7 (no_more (unsaved_in marks) v.faults h.2.faults h.3.store.faults h.4.1 played)
+whole_counted faulty_words v x told r marks s a h = unopened_counted v x marks h.0 h.4.1
+whole_counted (missing f) v x told r marks s a h = unopened_counted v x marks h.0 h.4.1
+whole_counted (file_too_long f) v x told r marks s a h = unopened_counted v x marks h.0 h.4.1
+whole_counted (no_tree f c) v x told r marks s a h = unopened_counted v x marks h.0 h.4.1
+whole_counted (store_fault f) v x told r marks s a h = unopened_counted v x marks h.0 h.4.1
+whole_counted no_memory v x told r marks s a h = unopened_counted v x marks h.0 h.4.1

@@ -26,7 +26,7 @@ use Rattle.tx_session.proofs.Lining.{script_lines_once, long_unread}
 use Rattle.tx_session.proofs.Single.{one_outcome}
 
 -- of two readings without want of memory
-one_reading : (text : List ℕ) (a b : Reading) → a ≢ unread → b ≢ unread → IsRead text a → IsRead text b → a ≡ b
+pub one_reading : (text : List ℕ) (a b : Reading) → a ≢ unread → b ≢ unread → IsRead text a → IsRead text b → a ≡ b
 one_reading text unread b n m h k = absurd (n refl)
 one_reading text nothing unread n m h k = absurd (m refl)
 one_reading text (too_long c) unread n m h k = absurd (m refl)
@@ -111,11 +111,11 @@ lacked v (command c) next reply h = (h.1.1, h.1.3)
 lacked v (faulty f) next reply h = (ap (λ x. x.session) h.0, h.1)
 
 -- with another mark the line was read
-abbrev IsSomeMark : Mark → Type 0
+abbrev pub IsSomeMark : Mark → Type 0
 IsSomeMark lacking = ⊥
 IsSomeMark mark = Unit {0}
 
-was_read : (v : World) (reading : Reading) (mark : Mark) (next : World) (reply : List ℕ) → IsSomeMark mark → IsReplyTo v reading mark next reply → reading ≢ unread
+pub was_read : (v : World) (reading : Reading) (mark : Mark) (next : World) (reply : List ℕ) → IsSomeMark mark → IsReplyTo v reading mark next reply → reading ≢ unread
 was_read v nothing mark next reply m h e = cc
 was_read v (too_long n) mark next reply m h e = cc
 was_read v unread mark next reply m h e = subst IsSomeMark h.0 m
@@ -174,7 +174,7 @@ played_once v w x y script marks r q statuses.ScriptLong statuses.OutputFault a 
 played_once v w x y script marks r q statuses.ScriptLong statuses.NoMemory a b e f g h k = absurd g
 
 -- a run that ends with a final status had no fault of the store and no want of memory at opening
-decided : (o : Outcome) (before after : Stored) (told r : Option (List ℕ)) (marks : List Mark) (s : Status) (a : List ℕ) → IsFinal s → IsWhole o before after told marks r s a → IsDecided o
+pub decided : (o : Outcome) (before after : Stored) (told r : Option (List ℕ)) (marks : List Mark) (s : Status) (a : List ℕ) → IsFinal s → IsWhole o before after told marks r s a → IsDecided o
 decided (store_fault f) before after told r marks s a fin w = absurd (subst IsFinal w.1 fin)
 decided no_memory before after told r marks s a fin w = absurd (subst IsFinal w.1 fin)
 decided faulty_words before after told r marks s a fin w = tt

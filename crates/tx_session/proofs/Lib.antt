@@ -20,3 +20,5 @@ pub mod Showings
 pub mod Determined
 pub mod Placing
 pub mod Replied
+pub mod Plainly
+pub mod SameFiles

@@ -2,6 +2,7 @@
 use Rattle.std.proofs.Common.{◌≡◌, ℕ, ◌+◌, ◌-◌, ◌^◌, ◌≤◌, ◌<◌, Bool, true, false, List, [], ◌∷◌, ◌++◌, length, Option, Some, None, refl, sym, ap, subst, ◌∙◌, length-append, arith}
 use Rattle.std.specs.Prelude.{if◌then◌else◌, nat_le, codes}
 use Rattle.tx_outside.specs.declared.file_store.TheConstants.{MOST_FILE}
+use Rattle.tx_outside.specs.Files.{Files, file_of}
 use Rattle.tx_outside.proofs.Counting.{never_falls_refl}
 use Rattle.tx_tree.specs.Limits.{IsWellFormed, IsWithinLimits}
 use Rattle.tx_tree.specs.WideTree.{WideTree, size_of}
@@ -19,10 +20,12 @@ use Rattle.tx_session.specs.declared.replies.Reply.TheVariants.{Done, Fixed, Mad
 use Rattle.tx_session.specs.Causes.{numbered}
 use Rattle.tx_session.specs.Forms.{Saving, no_form, file_long, writes, fitting, saving, has_text_in, text_in, SpellsAloneIn}
 use Rattle.tx_session.specs.Lines.{line}
+use Rattle.tx_session.specs.Outcomes.{Outcome, opened, ComesTo, Asks, IsDecided}
 use Rattle.tx_session.specs.Saying.{text_of, Says}
 use Rattle.tx_session.specs.Saves.{IsSaveReply, IsKeepReply}
 use Rattle.tx_session.specs.States.{save_reply, file_saved}
 use Rattle.tx_session.specs.Worlds.{Stored, Stores}
+use Rattle.tx_session.proofs.Single.{one_outcome}
 
 -- ---- what saving comes to
 
@@ -40,6 +43,9 @@ fits_is bytes b e f = ap (λ c. if c then writes bytes else file_long (length by
 
 too_many : (n : ℕ) → MOST_FILE < n → nat_le n MOST_FILE ≡ false
 too_many n lt = grind arith
+
+at_most : (n : ℕ) → nat_le n MOST_FILE ≡ true → n ≤ MOST_FILE
+at_most n e = grind arith
 
 few_enough : (n : ℕ) → n ≤ MOST_FILE → nat_le n MOST_FILE ≡ true
 few_enough n le = grind arith
@@ -114,3 +120,25 @@ pub saved_alone : (form : Form) (t : WideTree) (bytes : List ℕ) → IsWellForm
 saved_alone form t bytes formed e =
     let text = saved_text form t bytes (has_text_in form t) refl e in
     subst (λ bs. SpellsAloneIn form bs t) (sym text.1) (line_alone form t formed text.0)
+
+-- ---- and opens again
+
+saved_short : (form : Form) (t : WideTree) (bytes : List ℕ) → saving form t ≡ writes bytes → length bytes ≤ MOST_FILE
+saved_short form t bytes e = by_form (has_text_in form t) refl
+  where
+    by_size : has_text_in form t ≡ true → (c : Bool) → nat_le (length (line (text_in form t))) MOST_FILE ≡ c → length bytes ≤ MOST_FILE
+    by_size h false k = let long : file_long (length (line (text_in form t))) ≡ writes bytes = sym (saves_fitting form t h ∙ fits_not (line (text_in form t)) false k refl) ∙ e in absurd cc
+    by_size h true k =
+        let same : writes (line (text_in form t)) ≡ writes bytes = sym (saves_fitting form t h ∙ fits_is (line (text_in form t)) true k refl) ∙ e in
+        let is : line (text_in form t) ≡ bytes = cc in
+        subst (λ bs. length bs ≤ MOST_FILE) is (at_most (length (line (text_in form t))) k)
+
+    by_form : (b : Bool) → has_text_in form t ≡ b → length bytes ≤ MOST_FILE
+    by_form false h = let none : no_form ≡ writes bytes = sym (saves_nothing form t h) ∙ e in absurd cc
+    by_form true h = by_size h (nat_le (length (line (text_in form t))) MOST_FILE) refl
+
+pub opens_again : (words : List (List ℕ)) (all : Files) (name bytes : List ℕ) (t : WideTree) (o : Outcome) → IsWellFormed t → IsWithinLimits t → saving (form_of name) t ≡ writes bytes
+    → Asks words name → file_of all name ≡ Some bytes → ComesTo words (Some all) o → IsDecided o → o ≡ opened name t
+opens_again words all name bytes t o formed within e asks held comes decided =
+    one_outcome words all o (opened name t) comes
+    (asks, (bytes, held, omega (arith, saved_short (form_of name) t bytes e), (saved_alone (form_of name) t bytes formed e).0, within)) decided tt

@@ -10,6 +10,7 @@ pub mod Causes
 pub mod States
 pub mod Worlds
 pub mod Replies
+pub mod Differences
 pub mod Scripts
 pub mod Sessions
 pub mod Saying

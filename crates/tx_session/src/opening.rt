@@ -81,6 +81,7 @@ pub(crate) fn open<'a, S: Store, L: Ledger>(
     ensures missing_counted { status_of (outcome_of result) ≡ Status.Missing → Rose (S.misses store.old) (S.misses store.new) }
     ensures fault_counted { status_of (outcome_of result) ≡ Status.StoreFault → Rose (S.faults store.old) (S.faults store.new) }
     ensures long_counted { (file : List ℕ) → outcome_of result ≡ too_long file → Rose (S.longs store.old) (S.longs store.new) }
+    ensures untouched { file_in (map string_bytes words.now) ≡ None → (store.new ≡ store.old) × (steps.new ≡ steps.old) }
     ensures files_kept { S.files store.new ≡ S.files store.old }
     ensures faults_never_fall { NeverFalls (S.faults store.old) (S.faults store.new) }
     ensures misses_never_fall { NeverFalls (S.misses store.old) (S.misses store.new) }

@@ -1,12 +1,15 @@
 // Replies, and how they are written.
-ghost use Rattle.std.specs.Prelude.{◌≡◌, ◌≢◌, ◌++◌, ◌⊎◌, ◌≤◌, ℕ, length, codes, decimal, IfOk, OnErr, Ok};
+ghost use Rattle.std.specs.Prelude.{◌≡◌, ◌≢◌, ◌++◌, ◌⊎◌, ◌≤◌, ℕ, List, length, codes, decimal, IfOk, OnErr, Ok};
+ghost use Rattle.tx_cmd.specs.declared.command.Command.{Command};
 ghost use Rattle.tx_outside.specs.Counts.{NeverFalls, Rose};
 ghost use Rattle.tx_outside.specs.Known.{StaysKnown};
 ghost use Rattle.tx_session.specs.Causes.{cause_reply, astray_reply, numbered};
 ghost use Rattle.tx_session.specs.FaultTexts.{fault_text};
 ghost use Rattle.tx_session.specs.Lines.{line};
-ghost use Rattle.tx_session.specs.Replies.{refusal};
+ghost use Rattle.tx_session.specs.Differences.{IsPlainReply};
+ghost use Rattle.tx_session.specs.Replies.{IsDone, refusal};
 ghost use Rattle.tx_session.specs.Saying.{Says, text_of};
+ghost use Rattle.tx_session.specs.Worlds.{World};
 ghost use Rattle.tx_session.specs.Writing.{IsSaid};
 
 use crate::fault_lines::line_of_fault;
@@ -125,3 +128,10 @@ pub(crate) fn say<O: Sink>(out: &mut O, reply: &[u8]) -> Result<Next, WriteFault
     write_all(out, reply)?;
     Ok(Next::Go)
 }
+
+/// A law: what is said of a command that was done, and of a line that is no command, is never the line where memory ran out or the
+/// one where the store failed.
+pub fn replies_tell_marks()
+    ensures done { (before after : World) (it : Command) (reply : List ℕ) → IsDone before it after reply → IsPlainReply reply }
+    ensures refused { (cause : CmdFault) → cause ≢ CmdFault.Memory → IsPlainReply (refusal cause) }
+{}

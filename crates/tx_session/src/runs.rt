@@ -7,6 +7,7 @@ ghost use Rattle.tx_outside.specs.Files.{Files};
 ghost use Rattle.tx_outside.specs.Known.{AppendsPart, StaysKnown};
 ghost use Rattle.tx_session.specs.Outcomes.{file_in, ComesTo, IsDecided, Outcome, no_memory, opened};
 ghost use Rattle.tx_session.specs.Runs.{IsFinal, IsWhole, CanBeOpened, CanBeRead, IsRefused, IsRun, IsWritten, own_line, start_of};
+ghost use Rattle.tx_session.specs.Differences.{EndsAtOpening, HoldSameFiles};
 ghost use Rattle.tx_session.specs.Playing.{IsServed, IsLine};
 ghost use Rattle.tx_session.specs.Scripts.{Answered};
 ghost use Rattle.tx_session.specs.Storing.{GoesOn};
@@ -146,6 +147,8 @@ pub fn run<S: Store, I: Source, O: Sink, L: Ledger>(
         → (result ≡ Status.Ok) ⊎ (result ≡ Status.NoMemory) }
 
     // What is as before, and what never falls.
+    ensures words_touch_nothing { file_in (map string_bytes words.now) ≡ None → (store.new ≡ store.old) × (input.new ≡ input.old) × (steps.new ≡ steps.old) }
+    ensures unread { EndsAtOpening result → input.new ≡ input.old }
     ensures files_stay_known { StaysKnown (S.files store.old) (S.files store.new) }
     ensures output_stays_known { StaysKnown (O.written out.old) (O.written out.new) }
     ensures input_stays_known { StaysKnown (I.left input.old) (I.left input.new) }
@@ -172,14 +175,16 @@ pub fn one_outcome()
 {}
 
 /// A law: words, files, a script and marks, which say at which lines memory ran out or the store failed, come to one status and one
-/// text, where no device failed otherwise and memory sufficed otherwise.
+/// text, where no device failed otherwise and memory sufficed otherwise. Where the store never failed, they leave the same files.
 pub fn one_run()
     ensures { (words : List (List ℕ)) (all : Files) (script : List ℕ) (marks : List Mark) (o p : Outcome) (v w x y : Stored) (r q : Option (List ℕ)) (s t : Status) (a b : List ℕ)
-        → IsFinal s → IsFinal t → ComesTo words (Some all) o → ComesTo words (Some all) p
-        → IsWhole o v x (Some script) marks r s a → IsWhole p w y (Some script) marks q t b → (s ≡ t) × (a ≡ b) }
+        → IsFinal s → IsFinal t → v.files ≡ Some all → w.files ≡ Some all → ComesTo words (Some all) o → ComesTo words (Some all) p
+        → IsWhole o v x (Some script) marks r s a → IsWhole p w y (Some script) marks q t b → (s ≡ t) × (a ≡ b) × (unsaved_in marks ≡ 0 → HoldSameFiles x.files y.files) }
 {}
 
-/// A law: the store's count of faults rises by at least the number of lines that are marked so, or stands at its last value.
+/// A law: the store's count of faults rises by at least the number of lines that are marked so, or stands at its last value: over lines
+/// that are answered, and over a whole run.
 pub fn failures_counted()
-    ensures { (before last : World) (lines : List (List ℕ)) (marks : List Mark) (text : List ℕ) → Answered before lines marks last text → RoseBy (unsaved_in marks) before.store.faults last.store.faults }
+    ensures lines { (before last : World) (lines : List (List ℕ)) (marks : List Mark) (text : List ℕ) → Answered before lines marks last text → RoseBy (unsaved_in marks) before.store.faults last.store.faults }
+    ensures whole { (o : Outcome) (before after : Stored) (told rest : Option (List ℕ)) (marks : List Mark) (status : Status) (text : List ℕ) → IsWhole o before after told marks rest status text → RoseBy (unsaved_in marks) before.faults after.faults }
 {}

@@ -1,12 +1,16 @@
 // The file of a tree, and saving it.
-ghost use Rattle.std.specs.Prelude.{◌≡◌, ◌≢◌, ℕ, List, true, length, IfOk};
+ghost use Rattle.std.specs.Prelude.{◌≡◌, ◌≢◌, ℕ, List, true, length, IfOk, Some, None};
+ghost use Rattle.tx_outside.specs.Files.{Files, file_of};
 ghost use Rattle.tx_session.specs.Forms.{has_text_in, saving, text_in, SpellsAloneIn, writes};
 ghost use Rattle.tx_session.specs.Lines.{line};
+ghost use Rattle.tx_session.specs.Outcomes.{Outcome, opened, ComesTo, Asks, IsDecided};
 ghost use Rattle.tx_session.specs.Saves.{IsKeepReply, IsSaveReply};
+ghost use Rattle.tx_session.specs.States.{file_saved};
 ghost use Rattle.tx_session.specs.Worlds.{stored};
 ghost use Rattle.tx_session.specs.Storing.{GoesOn};
 ghost use Rattle.tx_tree.specs.WideTree.{WideTree};
-ghost use Rattle.tx_tree.specs.Limits.{IsWellFormed};
+ghost use Rattle.tx_tree.specs.Limits.{IsWellFormed, IsWithinLimits};
+ghost use Rattle.tx_doc.specs.Forms.{form_of};
 ghost use Rattle.tx_doc.specs.declared.forms.Form.{Form as Syntax};
 
 use crate::replies::{Reply, numbered};
@@ -58,6 +62,7 @@ fn file_bytes(alloc: Global, form: Form, tree: &Tree) -> Result<Vec<u8>, Memory>
 pub(crate) fn save<S: Store>(alloc: Global, tree: &Tree, name: &[u8], store: &mut S) -> Reply
     ensures saved { IsSaveReply name.now tree.now result (stored (S.files store.old) (S.faults store.old)) (stored (S.files store.new) (S.faults store.new)) }
     ensures store_goes_on { GoesOn (S.files store.old) (S.files store.new) (S.faults store.old) (S.faults store.new) (S.misses store.old) (S.misses store.new) (S.longs store.old) (S.longs store.new) }
+    ensures store_untouched { file_saved name.now (saving (form_of name.now) tree.now) ≡ None → store.new ≡ store.old }
 {
     let form = form_of(name);
     if !has_text_in(form, tree) {
@@ -94,4 +99,11 @@ fn keep<S: Store>(name: &[u8], bytes: &[u8], reply: Reply, store: &mut S) -> Rep
 /// A law: what is saved spells the tree that was saved, and no other, in the form that the name says.
 pub fn saved_spells_alone()
     ensures { (form : Syntax) (t : WideTree) (bytes : List ℕ) → IsWellFormed t → saving form t ≡ writes bytes → SpellsAloneIn form bytes t }
+{}
+
+/// A law: a file that was saved within the limits opens again, and as the tree that was saved, faults of the store and want of
+/// memory aside.
+pub fn saved_opens_again()
+    ensures { (words : List (List ℕ)) (all : Files) (name bytes : List ℕ) (t : WideTree) (o : Outcome) → IsWellFormed t → IsWithinLimits t → saving (form_of name) t ≡ writes bytes
+        → Asks words name → file_of all name ≡ Some bytes → ComesTo words (Some all) o → IsDecided o → o ≡ opened name t }
 {}

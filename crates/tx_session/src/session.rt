@@ -1,14 +1,15 @@
 // A session over one document.
-ghost use Rattle.std.specs.Prelude.{◌≡◌, ◌≢◌, ◌≤◌, ◌+◌, ◌↔◌, ℕ, List, [], ◌∷◌, ◌++◌, Bool, true, false, length, IfOk, IfErr, OnErr, Ok, Some};
+ghost use Rattle.std.specs.Prelude.{◌≡◌, ◌≢◌, ◌≤◌, ◌+◌, ◌↔◌, ℕ, List, [], ◌∷◌, ◌++◌, Bool, true, false, length, IfOk, IfErr, OnOk, OnErr, Ok, Some, None};
 ghost use Rattle.tx_outside.specs.Counts.{NeverFalls, Rose};
 ghost use Rattle.tx_outside.specs.Known.{StaysKnown};
 ghost use Rattle.tx_scm.specs.Canonical.{scheme_text};
 ghost use Rattle.tx_session.specs.Lines.{line};
 ghost use Rattle.tx_tree.specs.PathSpelling.{place_text};
+ghost use Rattle.tx_tree.specs.Places.{IsPlace};
 ghost use Rattle.tx_state.specs.Buffers.{document_of};
 ghost use Rattle.tx_state.specs.States.{opening};
-ghost use Rattle.tx_session.specs.States.{IsShown, NamesDiffer};
-ghost use Rattle.tx_session.specs.Replies.{IsReply};
+ghost use Rattle.tx_session.specs.States.{IsShown, NamesDiffer, saved_by};
+ghost use Rattle.tx_session.specs.Replies.{IsReply, unsaved_reply};
 ghost use Rattle.tx_session.specs.Worlds.{Mark, Stored, plain, world};
 ghost use Rattle.tx_session.specs.Storing.{GoesOn};
 ghost use Rattle.tx_session.specs.Saying.{mark_of, text_of};
@@ -50,7 +51,7 @@ enum Shown {
 /// A session over a document and its styles, on pages of one size.
 ///
 /// Contracts see its state, the size of its pages, and whether what it shows was made since its state last changed
-/// (`specs/Replies.antt`).
+/// (`specs/Worlds.antt`).
 #[derive(Drop)]
 pub struct Session {
     state: EditorState,
@@ -91,10 +92,13 @@ impl Session {
         requires least_height { 5 ≤ height }
         requires most_height { height ≤ 500 }
         ensures session { IfOk result (λ s. s ≡ record { state = opening buffers.items; width = width; height = height; fresh = false }) }
+        ensures cursor { IfOk result (λ s. IsPlace (document_of s.state.buffers) s.state.cursor.path s.state.cursor.offset) }
         ensures no_steps { _steps.new ≡ _steps.old }
     {
+        let state = EditorState::open(alloc, buffers)?;
+        let _cursor = state.cursor();
         Ok(Session {
-            state: EditorState::open(alloc, buffers)?,
+            state,
             width,
             height,
             shown: Shown::Stale,
@@ -217,8 +221,45 @@ impl Session {
     fn save<S: Store>(&self, alloc: Global, name: &Name, store: &mut S) -> Reply
         ensures saved { IsReply (world self.now (S.files store.old) (S.faults store.old)) (Command.Save name.now) (mark_of result) (world self.now (S.files store.new) (S.faults store.new)) (text_of result) }
         ensures store_goes_on { GoesOn (S.files store.old) (S.files store.new) (S.faults store.old) (S.faults store.new) (S.misses store.old) (S.misses store.new) (S.longs store.old) (S.longs store.new) }
+        ensures store_untouched { saved_by self.now.state (Command.Save name.now) ≡ None → store.new ≡ store.old }
     {
         save(alloc, self.state.document(), name.bytes(), store)
+    }
+
+    // Does a command, and writes its reply.
+    fn answer<S: Store, O: Sink, L: Ledger>(
+        &mut self,
+        alloc: Global,
+        command: &Command,
+        store: &mut S,
+        out: &mut O,
+        steps: &mut Steps<L>,
+    ) -> Result<Next, WriteFault>
+        ensures replied { (mark : Mark) × (reply : List ℕ)
+            × IsReply (world self.old (S.files store.old) (S.faults store.old)) command.now mark (world self.new (S.files store.new) (S.faults store.new)) reply
+            × IsSaid result reply (O.written out.old) (O.written out.new) }
+        ensures quits { result ≡ Ok Next.Quit ↔ command.now ≡ Command.Quit }
+        ensures quit_writes_nothing { command.now ≡ Command.Quit → out.new ≡ out.old }
+        ensures failed_rose { OnErr result (Rose (O.faults out.old) (O.faults out.new)) }
+        ensures store_untouched { saved_by self.old.state command.now ≡ None → store.new ≡ store.old }
+        ensures store_goes_on { GoesOn (S.files store.old) (S.files store.new) (S.faults store.old) (S.faults store.new) (S.misses store.old) (S.misses store.new) (S.longs store.old) (S.longs store.new) }
+        ensures faults_never_fall { NeverFalls (O.faults out.old) (O.faults out.new) }
+        ensures stays_known { StaysKnown (O.written out.old) (O.written out.new) }
+    {
+        match command {
+            Command::Quit => Ok(Next::Quit),
+            Command::Cursor => self.say_cursor(out),
+            Command::Show => match self.refresh(alloc) {
+                Ok(()) => say(out, self.shown()),
+                Err(Memory) => say(out, NO_MEMORY),
+            },
+            Command::Tree => say(out, self.tree(alloc).text()),
+            Command::Change(m) => say(out, self.change(alloc, m, steps).text()),
+            Command::Undo => say(out, self.undo(alloc, steps).text()),
+            Command::Redo => say(out, self.redo(alloc, steps).text()),
+            Command::Go(numbers) => say(out, self.go(alloc, numbers).text()),
+            Command::Save(name) => say(out, self.save(alloc, name, store).text()),
+        }
     }
 
     /// Does a command: changes the state as it says, and writes its reply. Where memory runs out the reply is `no memory`, and
@@ -241,25 +282,17 @@ impl Session {
         ensures quits { result ≡ Ok Next.Quit ↔ command.now ≡ Command.Quit }
         ensures quit_writes_nothing { command.now ≡ Command.Quit → out.new ≡ out.old }
         ensures failed_rose { OnErr result (Rose (O.faults out.old) (O.faults out.new)) }
+        ensures no_store_counted { OnOk result ((before : List ℕ) → O.written out.old ≡ Some before → O.written out.new ≡ Some (before ++ unsaved_reply) → Rose (S.faults store.old) (S.faults store.new)) }
+        ensures cursor { IsPlace (document_of self.new.state.buffers) self.new.state.cursor.path self.new.state.cursor.offset }
 
         // What stays, and what never falls.
+        ensures store_untouched { saved_by self.old.state command.now ≡ None → store.new ≡ store.old }
         ensures store_goes_on { GoesOn (S.files store.old) (S.files store.new) (S.faults store.old) (S.faults store.new) (S.misses store.old) (S.misses store.new) (S.longs store.old) (S.longs store.new) }
         ensures faults_never_fall { NeverFalls (O.faults out.old) (O.faults out.new) }
         ensures stays_known { StaysKnown (O.written out.old) (O.written out.new) }
     {
-        match command {
-            Command::Quit => Ok(Next::Quit),
-            Command::Cursor => self.say_cursor(out),
-            Command::Show => match self.refresh(alloc) {
-                Ok(()) => say(out, self.shown()),
-                Err(Memory) => say(out, NO_MEMORY),
-            },
-            Command::Tree => say(out, self.tree(alloc).text()),
-            Command::Change(m) => say(out, self.change(alloc, m, steps).text()),
-            Command::Undo => say(out, self.undo(alloc, steps).text()),
-            Command::Redo => say(out, self.redo(alloc, steps).text()),
-            Command::Go(numbers) => say(out, self.go(alloc, numbers).text()),
-            Command::Save(name) => say(out, self.save(alloc, name, store).text()),
-        }
+        let next = self.answer(alloc, command, store, out, steps);
+        let _cursor = self.state.cursor();
+        next
     }
 }

@@ -1,4 +1,4 @@
-use Rattle.tx_session.proofs.Determined.{one_run}
+use Rattle.tx_session.proofs.SameFiles.{one_run}
 use Rattle.tx_session.proofs.runs.one_run.Goals as goal
 
 pub returns : goal.returns

@@ -6,7 +6,7 @@ use Rattle.tx_outside.proofs.Counting.{never_falls_refl, never_falls_then}
 use Rattle.tx_session.specs.Playing.{IsServed}
 use Rattle.tx_session.specs.Outcomes.{no_memory}
 use Rattle.tx_session.specs.Worlds.{stored, world}
-use Rattle.tx_session.proofs.Causes.{opened_run, line_run, served_long, served_complete, unopened_run, unopened_causes}
+use Rattle.tx_session.proofs.Causes.{opened_run, line_run, served_long, served_complete, served_unread, unopened_run, unopened_causes}
 use Rattle.tx_session.proofs.runs.run.Goals as goal
 
 pub returns-in-Ok-clause-run : goal.returns-in-Ok-clause-run
@@ -24,6 +24,15 @@ pub returns-in-Ok-clause-complete : goal.returns-in-Ok-clause-complete
 returns-in-Ok-clause-complete g c = λ can read m l f i o.
     served_complete (Rose (g.I.Source.faults c.args.input.now) (g.I.Source.faults c.serve.new.input)) c.serve.result _ _ (g.I.Source.left c.args.input.now) (g.I.Source.left c.serve.new.input) (g.O.Sink.written c.args.out.now) (g.O.Sink.written c.serve.new.out) read.0 c.serve.ensures.ended read.1 read.2
     (λ e. i (c.serve.ensures.input_fault_counted e)) (λ e. o (c.serve.ensures.output_fault_counted e))
+
+pub returns-in-Ok-clause-words_touch_nothing : goal.returns-in-Ok-clause-words_touch_nothing
+returns-in-Ok-clause-words_touch_nothing g c = λ e. absurd (let named = c.in-Opened.ensures.comes.0 in cc)
+
+pub returns-in-Ok-clause-unread : goal.returns-in-Ok-clause-unread
+returns-in-Ok-clause-unread g c = λ e. absurd (served_unread (Rose (g.I.Source.faults c.args.input.now) (g.I.Source.faults c.serve.new.input)) c.serve.result _ _ (g.I.Source.left c.args.input.now) (g.I.Source.left c.serve.new.input) (g.O.Sink.written c.args.out.now) (g.O.Sink.written c.serve.new.out) c.serve.ensures.ended e)
+
+pub returns-in-Err-clause-words_touch_nothing : goal.returns-in-Err-clause-words_touch_nothing
+returns-in-Err-clause-words_touch_nothing g c = λ e. absurd (let named = c.in-Opened.ensures.comes.0 in cc)
 
 pub returns-in-Err-clause-run : goal.returns-in-Err-clause-run
 returns-in-Err-clause-run g c =
@@ -47,6 +56,8 @@ returns-in_default g c =
       output_fault_counted = c.report.ensures.counted;
       script_long = λ e. absurd (cause.not_long e);
       complete = λ can read m l f i o. inr (cause.complete can m l f (λ e. o (c.report.ensures.counted e)));
+      words_touch_nothing = λ e. absurd (cause.named e);
+      unread = λ e. refl;
       files_stay_known = ap is_some c.open-opening.ensures.files_kept;
       output_stays_known = c.report.ensures.stays_known;
       input_stays_known = refl;
