@@ -82,6 +82,7 @@ impl Paragraphs {
     ) -> Result<Option<Resumed>, Memory>
         ensures next { IfOk result (λ next. IsResumed next (block_of self)) }
         ensures counted { IfOk result (λ next. IfSome next (λ r. steps.new + block_nodes (block_of self) ≤ steps.old + (nodes_in r.full + line_nodes r.now))) }
+        ensures rises { steps.old ≤ steps.new }
     {
         let Paragraphs {
             full,
@@ -108,6 +109,7 @@ impl Paragraphs {
         requires { IsText items.now }
         ensures next { IfOk result (λ next. IsBlock next (widen (block_of self) (text items.now))) }
         ensures counted { IfOk result (λ next. IfSome next (λ b. steps.new + block_nodes (block_of self) ≤ steps.old + block_nodes (block_of b))) }
+        ensures rises { steps.old ≤ steps.new }
     {
         match self.resume(alloc, steps)? {
             None => Ok(None),
@@ -125,6 +127,7 @@ impl Paragraphs {
     ) -> Result<Option<Paragraphs>, Memory>
         ensures next { IfOk result (λ next. IsBlock next (widen (block_of self) (tag collects tree))) }
         ensures counted { IfOk result (λ next. IfSome next (λ b. steps.new + (block_nodes (block_of self) + nodes_of tree) ≤ steps.old + block_nodes (block_of b))) }
+        ensures rises { steps.old ≤ steps.new }
     {
         let stage = tag_stage(self.stage, collects);
         match self.resume(alloc, steps)? {
@@ -142,6 +145,7 @@ impl Paragraphs {
     ) -> Result<Option<Tree>, Memory>
         ensures made { IfOk result (λ made. IsMade made (tree_of_block (block_of self))) }
         ensures counted { IfOk result (λ made. IfSome made (λ t. steps.new + block_nodes (block_of self) ≤ steps.old + nodes_of t)) }
+        ensures rises { steps.old ≤ steps.new }
     {
         let Paragraphs {
             full,
@@ -237,6 +241,7 @@ fn behind_run<L: Ledger>(
 ) -> Result<Option<Resumed>, Memory>
     ensures next { IfOk result (λ next. IsGoing next (ended run full now) (resumed run now)) }
     ensures counted { IfOk result (λ next. IfSome next (λ r. steps.new + (nodes_in full + line_nodes now) ≤ steps.old + (nodes_in r.full + line_nodes r.now))) }
+    ensures rises { steps.old ≤ steps.new }
 {
     match run {
         None => Ok(Some(Resumed { full, now })),
@@ -306,6 +311,7 @@ impl TagList {
     ) -> Result<Option<Paragraphs>, Memory>
         ensures next { IfOk result (λ next. IsBlock next (as_block (tags_of self))) }
         ensures counted { IfOk result (λ next. IfSome next (λ b. steps.new + tags_nodes (tags_of self) ≤ steps.old + block_nodes (block_of b))) }
+        ensures rises { steps.old ≤ steps.new }
     {
         let TagList { entries, run } = self;
         let mut block = Paragraphs::new(alloc);
@@ -329,6 +335,7 @@ impl TagList {
         requires { IsText items.now }
         ensures next { IfOk result (λ next. IsBlock next (widen (as_block (tags_of self)) (text items.now))) }
         ensures counted { IfOk result (λ next. IfSome next (λ b. steps.new + tags_nodes (tags_of self) ≤ steps.old + block_nodes (block_of b))) }
+        ensures rises { steps.old ≤ steps.new }
     {
         match self.into_paragraphs(alloc, steps)? {
             None => Ok(None),
@@ -344,6 +351,7 @@ impl TagList {
     ) -> Result<Option<Tree>, Memory>
         ensures made { IfOk result (λ made. IsMade made (tree_of_block (as_block (tags_of self)))) }
         ensures counted { IfOk result (λ made. IfSome made (λ t. steps.new + tags_nodes (tags_of self) ≤ steps.old + nodes_of t)) }
+        ensures rises { steps.old ≤ steps.new }
     {
         match self.into_paragraphs(alloc, steps)? {
             None => Ok(None),
@@ -413,6 +421,7 @@ impl Body {
         requires { IsText items.now }
         ensures next { IfOk result (λ next. IsContent next (put (content_of self) (text items.now))) }
         ensures counted { IfOk result (λ next. IfSome next (λ b. steps.new + content_nodes (content_of self) ≤ steps.old + content_nodes (content_of b))) }
+        ensures rises { steps.old ≤ steps.new }
     {
         match self {
             Body::Argument(place, line) => match line.with_text(items)? {
@@ -440,6 +449,7 @@ impl Body {
     ) -> Result<Option<Body>, Memory>
         ensures next { IfOk result (λ next. IsContent next (put (content_of self) (tag collects tree))) }
         ensures counted { IfOk result (λ next. IfSome next (λ b. steps.new + (content_nodes (content_of self) + nodes_of tree) ≤ steps.old + content_nodes (content_of b))) }
+        ensures rises { steps.old ≤ steps.new }
     {
         match self {
             Body::Argument(place, line) => match line.with_tag(alloc, tree)? {

@@ -137,6 +137,7 @@ impl Line {
     ) -> Result<Option<Tree>, Memory>
         ensures made { IfOk result (λ made. IsMade made (grown self)) }
         ensures counted { IfOk result (λ made. IfSome made (λ t. steps.new + line_nodes self ≤ steps.old + nodes_of t)) }
+        ensures rises { steps.old ≤ steps.new }
     {
         match self.into_row(alloc)? {
             None => Ok(None),

@@ -67,6 +67,7 @@ pub(crate) fn make_concat<L: Ledger>(
 ) -> Result<Option<Tree>, Memory>
     ensures made { IfOk result (λ made. IsMade made (concat_of trees.items)) }
     ensures counted { IfOk result (λ made. IfSome made (λ t. steps.new + nodes_in trees.items ≤ steps.old + nodes_of t)) }
+    ensures rises { steps.old ≤ steps.new }
 {
     if trees.len() >= 2 {
         let label = make_label(alloc, b"concat")?;
@@ -87,6 +88,7 @@ pub(crate) fn make_document<L: Ledger>(
 ) -> Result<Option<Tree>, Memory>
     ensures made { IfOk result (λ made. IsMade made (node document_label (forest paragraphs.items))) }
     ensures counted { IfOk result (λ made. IfSome made (λ t. steps.new + nodes_in paragraphs.items ≤ steps.old + nodes_of t)) }
+    ensures rises { steps.old ≤ steps.new }
 {
     let label = make_label(alloc, b"document")?;
     make_node(alloc, label, paragraphs, steps)
@@ -101,6 +103,7 @@ pub(crate) fn make_collection<L: Ledger>(
 ) -> Result<Option<Tree>, Memory>
     ensures made { IfOk result (λ made. IsMade made (node collection_label (forest tags.items))) }
     ensures counted { IfOk result (λ made. IfSome made (λ t. steps.new + nodes_in tags.items ≤ steps.old + nodes_of t)) }
+    ensures rises { steps.old ≤ steps.new }
 {
     let label = make_label(alloc, b"collection")?;
     make_node(alloc, label, tags, steps)

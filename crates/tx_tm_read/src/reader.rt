@@ -84,6 +84,7 @@ fn behind_word<L: Ledger>(
     requires { IsGoodWord word }
     ensures next { IfOk result (λ next. IsReader next (at ready (keep (record { behind_join = behind_join; state = state_of spot }) (token_of word)))) }
     ensures counted { IfOk result (ReaderRose steps.old steps.new (state_nodes (state_of spot))) }
+    ensures rises { steps.old ≤ steps.new }
 {
     if is_dropped(behind_join, &word) {
         return Ok(Some(Reader {
@@ -122,6 +123,7 @@ impl Reader {
     ) -> Result<Option<Reader>, Memory>
         ensures next { IfOk result (λ next. IsReader next (step keep (reader_of self) byte)) }
         ensures counted { IfOk result (ReaderRose steps.old steps.new (state_nodes (state_of self.spot))) }
+        ensures rises { steps.old ≤ steps.new }
     {
         let Reader {
             lexer,
@@ -149,6 +151,7 @@ impl Reader {
         requires { 0 < length rest.now }
         ensures next { IfOk result (λ next. IsAdvance next (reader_of self) rest.now) }
         ensures counted { IfOk result (AdvanceRose steps.old steps.new (state_nodes (state_of self.spot))) }
+        ensures rises { steps.old ≤ steps.new }
     {
         match self.step(alloc, rest[0], steps)? {
             None => Ok(None),
@@ -166,6 +169,7 @@ impl Reader {
         requires { 0 < length rest.now }
         ensures next { IfOk result (λ next. IsAdvance next (reader_of self) rest.now) }
         ensures counted { IfOk result (AdvanceRose steps.old steps.new (state_nodes (state_of self.spot))) }
+        ensures rises { steps.old ≤ steps.new }
     {
         let Reader {
             lexer,
@@ -210,6 +214,7 @@ impl Reader {
     fn finish<L: Ledger>(self, alloc: Global, steps: &mut Steps<L>) -> Result<Option<Tree>, Memory>
         ensures found { IfOk result (λ found. IsTree found (reader_of self)) }
         ensures counted { IfOk result (λ found. IfSome found (λ t. steps.new + state_nodes (state_of self.spot) ≤ steps.old + nodes_of t)) }
+        ensures rises { steps.old ≤ steps.new }
     {
         match (self.lexer, self.spot) {
             (Lexer::Ready, Spot::Reading(here, mut opens)) => match opens.pop() {
@@ -229,6 +234,7 @@ fn read_all<L: Ledger>(
 ) -> Result<Option<Tree>, Memory>
     ensures found { IfOk result (λ found. IsRead found bytes.now) }
     ensures counted { IfOk result (λ found. IfSome found (λ t. steps.new ≤ steps.old + nodes_of t)) }
+    ensures rises { steps.old ≤ steps.new }
 {
     let mut reader = Reader::new(alloc);
     let mut rest = bytes;
@@ -268,6 +274,7 @@ pub fn read<L: Ledger>(alloc: Global, bytes: &[u8], steps: &mut Steps<L>) -> Res
     ensures within { IfOk result IsWithinLimits }
     ensures refused { IfErr result (λ fault. fault ≢ ReadFault.Memory → IsTmFault bytes.now fault) }
     ensures counted { IfOk result (λ t. steps.new ≤ steps.old + nodes_of t) }
+    ensures rises { steps.old ≤ steps.new }
 {
     match read_all(alloc, bytes, steps) {
         Ok(Some(tree)) => {

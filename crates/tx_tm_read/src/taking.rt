@@ -52,6 +52,7 @@ fn go_on<L: Ledger>(
 ) -> Result<Option<Spot>, Memory>
     ensures next { IfOk result (λ next. IsState next (next_block (place_of (content_of here)) label place (content_of here) (opens_of opens.items))) }
     ensures counted { IfOk result (Rose steps.old steps.new (state_nodes (reading (content_of here) (opens_of opens.items)))) }
+    ensures rises { steps.old ≤ steps.new }
 {
     match opens.pop() {
         None => Ok(None),
@@ -69,6 +70,7 @@ fn end_tag<L: Ledger>(
 ) -> Result<Option<Spot>, Memory>
     ensures next { IfOk result (λ next. IsState next (last_block (place_of (content_of here)) label (content_of here) (opens_of opens.items))) }
     ensures counted { IfOk result (Rose steps.old steps.new (state_nodes (reading (content_of here) (opens_of opens.items)))) }
+    ensures rises { steps.old ≤ steps.new }
 {
     match opens.pop() {
         None => Ok(None),
@@ -94,6 +96,7 @@ fn begin<L: Ledger>(
 ) -> Result<Option<Spot>, Memory>
     ensures next { IfOk result (λ next. IsState next (begun form more label (content_of here) (opens_of opens.items))) }
     ensures counted { IfOk result (Rose steps.old steps.new (state_nodes (reading (content_of here) (opens_of opens.items)))) }
+    ensures rises { steps.old ≤ steps.new }
 {
     match form {
         Form::Short => {
@@ -124,6 +127,7 @@ fn take_bar<L: Ledger>(
 ) -> Result<Option<Spot>, Memory>
     ensures next { IfOk result (λ next. IsState next (next_argument (place_of (content_of here)) (content_of here) (opens_of opens.items))) }
     ensures counted { IfOk result (Rose steps.old steps.new (state_nodes (reading (content_of here) (opens_of opens.items)))) }
+    ensures rises { steps.old ≤ steps.new }
 {
     match here {
         Body::Argument(place, line) => match opens.pop() {
@@ -143,6 +147,7 @@ fn take_close<L: Ledger>(
 ) -> Result<Option<Spot>, Memory>
     ensures next { IfOk result (λ next. IsState next (last_argument (place_of (content_of here)) (content_of here) (opens_of opens.items))) }
     ensures counted { IfOk result (Rose steps.old steps.new (state_nodes (reading (content_of here) (opens_of opens.items)))) }
+    ensures rises { steps.old ≤ steps.new }
 {
     match here {
         Body::Argument(place, line) => match opens.pop() {
@@ -163,6 +168,7 @@ fn take_escape<L: Ledger>(
 ) -> Result<Option<Spot>, Memory>
     ensures next { IfOk result (λ next. IsState next (by_escape (escape_of byte) byte (content_of here) (opens_of opens.items))) }
     ensures counted { IfOk result (Rose steps.old steps.new (state_nodes (reading (content_of here) (opens_of opens.items)))) }
+    ensures rises { steps.old ≤ steps.new }
 {
     match escape_of(byte) {
         Some(Escaped::Mark) => put_text(alloc, &[], here, opens, steps),
@@ -188,6 +194,7 @@ fn take_part<L: Ledger>(
     requires { IsGoodWord word }
     ensures next { IfOk result (λ next. IsState next (feed_reading (content_of here) (opens_of opens.items) (token_of word))) }
     ensures counted { IfOk result (Rose steps.old steps.new (state_nodes (reading (content_of here) (opens_of opens.items)))) }
+    ensures rises { steps.old ≤ steps.new }
 {
     match word {
         Word::White(byte) => put_white(white_of(byte), here, opens),
@@ -239,6 +246,7 @@ fn name_over<L: Ledger>(
 ) -> Result<Option<Spot>, Memory>
     ensures next { IfOk result (λ next. IsState next (name_end name (content_of here) (opens_of opens.items))) }
     ensures counted { IfOk result (Rose steps.old steps.new (state_nodes (reading (content_of here) (opens_of opens.items)))) }
+    ensures rises { steps.old ≤ steps.new }
 {
     if name.is_empty() {
         return Ok(None);
@@ -258,6 +266,7 @@ fn take_name<L: Ledger>(
 ) -> Result<Option<Spot>, Memory>
     ensures next { IfOk result (λ next. IsState next (feed_naming name (content_of here) (opens_of opens.items) (token_of word))) }
     ensures counted { IfOk result (Rose steps.old steps.new (state_nodes (reading (content_of here) (opens_of opens.items)))) }
+    ensures rises { steps.old ≤ steps.new }
 {
     match word {
         Word::Plain(byte) => {
@@ -285,6 +294,7 @@ fn take_digit<L: Ledger>(
 ) -> Result<Option<Spot>, Memory>
     ensures next { IfOk result (λ next. IsState next (feed_counting digits (content_of here) (opens_of opens.items) (token_of word))) }
     ensures counted { IfOk result (Rose steps.old steps.new (state_nodes (reading (content_of here) (opens_of opens.items)))) }
+    ensures rises { steps.old ≤ steps.new }
 {
     match word {
         Word::Plain(byte) => {
@@ -317,6 +327,7 @@ impl Spot {
         requires { IsGoodWord word }
         ensures next { IfOk result (λ next. IsState next (feed (state_of self) (token_of word))) }
         ensures counted { IfOk result (Rose steps.old steps.new (state_nodes (state_of self))) }
+        ensures rises { steps.old ≤ steps.new }
     {
         match self {
             Spot::Reading(here, opens) => take_part(alloc, word, here, opens, steps),

@@ -106,6 +106,7 @@ fn put_tag<L: Ledger>(
 ) -> Result<Option<Spot>, Memory>
     ensures next { IfOk result (λ next. IsState next (reading (put (content_of before) (tag collects tree)) (opens_of opens.items))) }
     ensures counted { IfOk result (Rose steps.old steps.new (content_nodes (content_of before) + nodes_of tree + opens_nodes (content_of before) (opens_of opens.items))) }
+    ensures rises { steps.old ≤ steps.new }
 {
     match before.with_tag(alloc, collects, tree, steps)? {
         None => Ok(None),
@@ -139,6 +140,7 @@ pub(crate) fn put_text<L: Ledger>(
     requires { IsText items.now }
     ensures next { IfOk result (λ next. IsState next (reading (put (content_of here) (text items.now)) (opens_of opens.items))) }
     ensures counted { IfOk result (Rose steps.old steps.new (state_nodes (reading (content_of here) (opens_of opens.items)))) }
+    ensures rises { steps.old ≤ steps.new }
 {
     match here.with_text(alloc, items, steps)? {
         None => Ok(None),
@@ -157,6 +159,7 @@ pub(crate) fn put_node<L: Ledger>(
 ) -> Result<Option<Spot>, Memory>
     ensures next { IfOk result (λ next. IsState next (with_node label children.items (content_of before) (opens_of opens.items))) }
     ensures counted { IfOk result (Rose steps.old steps.new (nodes_in children.items + content_nodes (content_of before) + opens_nodes (content_of before) (opens_of opens.items))) }
+    ensures rises { steps.old ≤ steps.new }
 {
     match make_node(alloc, label, children, steps)? {
         None => Ok(None),
@@ -194,6 +197,7 @@ impl OpenTag {
     ) -> Result<Option<Spot>, Memory>
         ensures next { IfOk result (λ next. IsState next (closed (with_child (open_of self) child) (opens_of opens.items))) }
         ensures counted { IfOk result (Rose steps.old steps.new (open_nodes (with_child (open_of self) child) (opens_of opens.items))) }
+        ensures rises { steps.old ≤ steps.new }
     {
         match self.with_child(child)? {
             None => Ok(None),
@@ -230,6 +234,7 @@ impl Body {
     ) -> Result<Option<Tree>, Memory>
         ensures made { IfOk result (λ made. IsBlockTree made (content_of self)) }
         ensures counted { IfOk result (λ made. IfSome made (λ t. steps.new + content_nodes (content_of self) ≤ steps.old + nodes_of t)) }
+        ensures rises { steps.old ≤ steps.new }
     {
         match self {
             Body::Argument(_, _) => Ok(None),
@@ -250,6 +255,7 @@ pub(crate) fn bar_in<L: Ledger>(
 ) -> Result<Option<Spot>, Memory>
     ensures next { IfOk result (λ next. IsState next (in_tag (Some place) (with_child (open_of tag) (grown line)) (opens_of opens.items))) }
     ensures counted { IfOk result (Rose steps.old steps.new (line_nodes line + open_nodes (open_of tag) (opens_of opens.items))) }
+    ensures rises { steps.old ≤ steps.new }
 {
     match line.finish(alloc, steps)? {
         None => Ok(None),
@@ -268,6 +274,7 @@ pub(crate) fn close_in<L: Ledger>(
 ) -> Result<Option<Spot>, Memory>
     ensures next { IfOk result (λ next. IsState next (last_argument (Some place) (inline place line) (open_of tag ∷ opens_of opens.items))) }
     ensures counted { IfOk result (Rose steps.old steps.new (line_nodes line + open_nodes (open_of tag) (opens_of opens.items))) }
+    ensures rises { steps.old ≤ steps.new }
 {
     match line.finish(alloc, steps)? {
         None => Ok(None),
@@ -291,6 +298,7 @@ pub(crate) fn next_in<L: Ledger>(
 ) -> Result<Option<Spot>, Memory>
     ensures next { IfOk result (λ next. IsState next (next_block (place_of (content_of here)) label.now place (content_of here) (open_of tag ∷ opens_of opens.items))) }
     ensures counted { IfOk result (Rose steps.old steps.new (content_nodes (content_of here) + open_nodes (open_of tag) (opens_of opens.items))) }
+    ensures rises { steps.old ≤ steps.new }
 {
     if !same_bytes(label.bytes(), tag.label.bytes()) {
         return Ok(None);
@@ -311,6 +319,7 @@ fn collection_in<L: Ledger>(
 ) -> Result<Option<Spot>, Memory>
     ensures next { IfOk result (λ next. IsState next (reading (put (content_of before) (tag true (node collection_label (forest (map tree_of_entry (tags_of tags).entries))))) (opens_of opens.items))) }
     ensures counted { IfOk result (Rose steps.old steps.new (tags_nodes (tags_of tags) + content_nodes (content_of before) + opens_nodes (content_of before) (opens_of opens.items))) }
+    ensures rises { steps.old ≤ steps.new }
 {
     match make_collection(alloc, tags.into_trees(alloc)?, steps)? {
         None => Ok(None),
@@ -329,6 +338,7 @@ pub(crate) fn last_in<L: Ledger>(
 ) -> Result<Option<Spot>, Memory>
     ensures next { IfOk result (λ next. IsState next (last_block (place_of (content_of here)) label.now (content_of here) (open_of tag ∷ opens_of opens.items))) }
     ensures counted { IfOk result (Rose steps.old steps.new (state_nodes (reading (content_of here) (open_of tag ∷ opens_of opens.items)))) }
+    ensures rises { steps.old ≤ steps.new }
 {
     if !same_bytes(label.bytes(), tag.label.bytes()) {
         return Ok(None);

@@ -10,6 +10,7 @@ invariant-bytes g l =
     record {
       going : run keep (reader_of l.reader) l.rest ≡ run keep start l.bytes;
       counted : l.steps ≤ l.fn.steps + state_nodes (state_of l.reader.spot);
+      rises : l.fn.steps ≤ l.steps;
     }
 
 abbrev pub decreases-bytes : goal.decreases-bytes
