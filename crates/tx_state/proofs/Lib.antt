@@ -3,3 +3,4 @@ pub mod Moments
 pub mod Turning
 pub mod Leaves
 pub mod Keeping
+pub mod Restoring

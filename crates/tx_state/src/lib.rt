@@ -7,10 +7,12 @@
 mod changing;
 mod cursors;
 mod faults;
+mod laws;
 mod limits;
 mod state;
 
 pub use faults::{GoFault, UndoFault};
+pub use laws::undo_law;
 pub use limits::undo_limit_law;
 pub use state::EditorState;
 
