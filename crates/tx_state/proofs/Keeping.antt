@@ -69,7 +69,7 @@ edit_kept s next m n u d mods kept h =
     record { buffers = h.buffers; cursor = h.cursor; past = past; future = ap reverse h.future; depth = h.depth ∙ kept.depth } in (
       next_kept next (with_tree bs 0 u) d (take MOST_UNDO (entry_of 0 mods s.cursor ∷ reverse s.history.past)) [] is
           (subst (λ k. 1 ≤ k) (sym (length_put bs 0 u lt)) kept.some) (subst (λ t. IsPlace t d.path d.offset) (sym (tree_put bs 0 u lt)) h.place)
-          (edit_leads bs s.cursor u mods (reverse s.history.past) lt leads kept.cursor kept.past) tt,
+          (edit_leads bs s.cursor u mods (reverse s.history.past) lt (ap length h.alone) leads kept.cursor kept.past) tt,
       edit_seen m bs s.cursor d u mods (reverse s.history.past) (reverse s.history.future) lt h.there leads h.stands
           ∙ ap (λ z. Ok z) (next_is next (with_tree bs 0 u) d (take MOST_UNDO (entry_of 0 mods s.cursor ∷ reverse s.history.past)) [] is),
     )
@@ -78,6 +78,7 @@ edit_kept s next m n u d mods kept h =
 pub record IsStepped (s next : Inside) (e : Entry) (u : WideTree) (mods : List Mod) : Type 0 where
   pub there : changed_by_all e.mods (tree_of s.buffers.items e.buffer) ≡ Some u
   pub back : changed_by_all mods u ≡ Some (tree_of s.buffers.items e.buffer)
+  pub one : length mods ≡ 1
   pub buffers : next.buffers.items ≡ with_tree s.buffers.items e.buffer u
   pub cursor : next.cursor ≡ e.cursor
   pub depth : next.history.depth ≡ s.history.depth
@@ -94,7 +95,7 @@ undo_kept s next e u mods rest kept h was past future =
     record { buffers = h.buffers; cursor = h.cursor; past = ap reverse past; future = turned s.history.future (entry_of e.buffer mods s.cursor) next.history.future future; depth = h.depth ∙ kept.depth } in (
       next_kept next (with_tree bs e.buffer u) e.cursor (reverse rest) (entry_of e.buffer mods s.cursor ∷ reverse s.history.future) is
           (subst (λ k. 1 ≤ k) (sym (length_put bs e.buffer u lt)) kept.some) (step_place bs e u h.there all.0)
-          (step_leads bs e u (reverse rest) h.there all) (lead_back bs e.buffer u mods s.cursor (reverse s.history.future) lt h.back kept.cursor kept.future),
+          (step_leads bs e u (reverse rest) h.there all) (lead_back bs e.buffer u mods s.cursor (reverse s.history.future) lt h.one h.back kept.cursor kept.future),
       ap (λ es. undone (seen bs s.cursor es (reverse s.history.future))) first
           ∙ undo_seen bs s.cursor e u mods (reverse rest) (reverse s.history.future) lt h.there h.back
           ∙ ap (λ z. Some z) (next_is next (with_tree bs e.buffer u) e.cursor (reverse rest) (entry_of e.buffer mods s.cursor ∷ reverse s.history.future) is),
@@ -112,7 +113,7 @@ redo_kept s next e u mods rest kept h was future past =
     record { buffers = h.buffers; cursor = h.cursor; past = turned s.history.past (entry_of e.buffer mods s.cursor) next.history.past past; future = ap reverse future; depth = h.depth ∙ kept.depth } in (
       next_kept next (with_tree bs e.buffer u) e.cursor (entry_of e.buffer mods s.cursor ∷ reverse s.history.past) (reverse rest) is
           (subst (λ k. 1 ≤ k) (sym (length_put bs e.buffer u lt)) kept.some) (step_place bs e u h.there all.0)
-          (lead_back bs e.buffer u mods s.cursor (reverse s.history.past) lt h.back kept.cursor kept.past) (step_leads bs e u (reverse rest) h.there all),
+          (lead_back bs e.buffer u mods s.cursor (reverse s.history.past) lt h.one h.back kept.cursor kept.past) (step_leads bs e u (reverse rest) h.there all),
       ap (λ es. redone (seen bs s.cursor (reverse s.history.past) es)) first
           ∙ redo_seen bs s.cursor e u mods (reverse s.history.past) (reverse rest) lt h.there h.back
           ∙ ap (λ z. Some z) (next_is next (with_tree bs e.buffer u) e.cursor (entry_of e.buffer mods s.cursor ∷ reverse s.history.past) (reverse rest) is),

@@ -4,3 +4,4 @@ pub mod Turning
 pub mod Leaves
 pub mod Keeping
 pub mod Restoring
+pub mod Short

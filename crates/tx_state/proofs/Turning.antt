@@ -27,11 +27,12 @@ pub by_one : (m : Mod) (t u : WideTree) → changed m t ≡ Ok u → changed_by_
 by_one m t u e = ap (λ o. option_and_then (changed_by_all []) (made_of o)) e
 
 -- the entry that leads back from where buffer k has the tree u
-pub leads_back : (bs : List Buffer) (k : ℕ) (u : WideTree) (mods : List Mod) (c : Place) → k < length bs → changed_by_all mods u ≡ Some (tree_of bs k)
+pub leads_back : (bs : List Buffer) (k : ℕ) (u : WideTree) (mods : List Mod) (c : Place) → k < length bs → length mods ≡ 1 → changed_by_all mods u ≡ Some (tree_of bs k)
     → IsPlace (document_of bs) c.path c.offset → Leads (with_tree bs k u) (entry_of k mods c)
-leads_back bs k u mods c lt h place =
+leads_back bs k u mods c lt one h place =
     record {
       buffer = subst (λ n. k < n) (sym (length_put bs k u lt)) lt;
+      one = one;
       applies = (tree_of bs k, (ap (changed_by_all mods) (tree_put bs k u lt) ∙ h));
       cursor = subst (λ cs. IsPlace (document_of cs) c.path c.offset) (sym (led_back bs k u mods c lt h)) place;
     }
@@ -41,10 +42,10 @@ pub moments_back : (bs : List Buffer) (k : ℕ) (u : WideTree) (mods : List Mod)
     → moments (with_tree bs k u) (entry_of k mods c ∷ es) ≡ record { buffers = bs; cursor = c } ∷ moments bs es
 moments_back bs k u mods c es lt h = ap (λ cs. record { buffers = cs; cursor = c } ∷ moments cs es) (led_back bs k u mods c lt h)
 
-pub lead_back : (bs : List Buffer) (k : ℕ) (u : WideTree) (mods : List Mod) (c : Place) (es : List Entry) → k < length bs → changed_by_all mods u ≡ Some (tree_of bs k)
+pub lead_back : (bs : List Buffer) (k : ℕ) (u : WideTree) (mods : List Mod) (c : Place) (es : List Entry) → k < length bs → length mods ≡ 1 → changed_by_all mods u ≡ Some (tree_of bs k)
     → IsPlace (document_of bs) c.path c.offset → AllLead bs es → AllLead (with_tree bs k u) (entry_of k mods c ∷ es)
-lead_back bs k u mods c es lt h place all =
-    (leads_back bs k u mods c lt h place, subst (λ cs. AllLead cs es) (sym (led_back bs k u mods c lt h)) all)
+lead_back bs k u mods c es lt one h place all =
+    (leads_back bs k u mods c lt one h place, subst (λ cs. AllLead cs es) (sym (led_back bs k u mods c lt h)) all)
 
 -- ---- edits
 
@@ -60,9 +61,9 @@ edit_seen m bs c d u mods past future lt made back stands =
     ∙ ap (λ ms. Ok (at_moment (record { buffers = with_tree bs 0 u; cursor = d }) ms [])) (sym behind)
 
 pub edit_leads : (bs : List Buffer) (c : Place) (u : WideTree) (mods : List Mod) (past : List Entry)
-    → 0 < length bs → changed_by_all mods u ≡ Some (tree_of bs 0) → IsPlace (document_of bs) c.path c.offset → AllLead bs past
+    → 0 < length bs → length mods ≡ 1 → changed_by_all mods u ≡ Some (tree_of bs 0) → IsPlace (document_of bs) c.path c.offset → AllLead bs past
     → AllLead (with_tree bs 0 u) (take MOST_UNDO (entry_of 0 mods c ∷ past))
-edit_leads bs c u mods past lt back place all = lead_of_take MOST_UNDO (with_tree bs 0 u) (entry_of 0 mods c ∷ past) (lead_back bs 0 u mods c past lt back place all)
+edit_leads bs c u mods past lt one back place all = lead_of_take MOST_UNDO (with_tree bs 0 u) (entry_of 0 mods c ∷ past) (lead_back bs 0 u mods c past lt one back place all)
 
 -- ---- undo and redo
 

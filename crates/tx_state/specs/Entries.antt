@@ -17,9 +17,10 @@ abbrev pub moments : List Buffer → List Entry → List Moment
 moments buffers [] = []
 moments buffers (entry ∷ entries) = record { buffers = led_to buffers entry; cursor = entry.cursor } ∷ moments (led_to buffers entry) entries
 
--- the modifications of an entry apply, and its cursor is a place of the document that they lead to
+-- the one modification of an entry applies, and its cursor is a place of the document that it leads to
 pub record Leads (buffers : List Buffer) (entry : Entry) : Type 0 where
   pub buffer : entry.buffer < length buffers
+  pub one : length entry.mods ≡ 1
   pub applies : (u : WideTree) × (changed_by_all entry.mods (tree_of buffers entry.buffer) ≡ Some u)
   pub cursor : IsPlace (document_of (led_to buffers entry)) entry.cursor.path entry.cursor.offset
 
