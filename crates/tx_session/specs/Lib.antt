@@ -11,6 +11,7 @@ pub mod States
 pub mod Worlds
 pub mod Replies
 pub mod Differences
+pub mod Costs
 pub mod Scripts
 pub mod Sessions
 pub mod Saying

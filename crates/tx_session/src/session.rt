@@ -8,8 +8,10 @@ ghost use Rattle.tx_tree.specs.PathSpelling.{place_text};
 ghost use Rattle.tx_tree.specs.Places.{IsPlace};
 ghost use Rattle.tx_state.specs.Buffers.{document_of};
 ghost use Rattle.tx_state.specs.States.{opening};
+ghost use Rattle.tx_mod.specs.Mods.{path_of};
 ghost use Rattle.tx_session.specs.States.{IsShown, NamesDiffer, saved_by};
 ghost use Rattle.tx_session.specs.Replies.{IsReply, unsaved_reply};
+ghost use Rattle.tx_session.specs.Costs.{most_steps};
 ghost use Rattle.tx_session.specs.Worlds.{Mark, Stored, plain, world};
 ghost use Rattle.tx_session.specs.Storing.{GoesOn};
 ghost use Rattle.tx_session.specs.Saying.{mark_of, text_of};
@@ -154,7 +156,8 @@ impl Session {
 
     // Changes the document.
     fn change<L: Ledger>(&mut self, alloc: Global, m: &Mod, steps: &mut Steps<L>) -> Reply
-        ensures { (store : Stored) → IsReply (record { session = self.old; store = store }) (Command.Change m.now) (mark_of result) (record { session = self.new; store = store }) (text_of result) }
+        ensures replied { (store : Stored) → IsReply (record { session = self.old; store = store }) (Command.Change m.now) (mark_of result) (record { session = self.new; store = store }) (text_of result) }
+        ensures counted { steps.new ≤ steps.old + (length (path_of m.now) + 4) }
     {
         match self.state.change(alloc, m, steps) {
             Ok(()) => {
@@ -168,7 +171,8 @@ impl Session {
 
     // Takes the last edit back.
     fn undo<L: Ledger>(&mut self, alloc: Global, steps: &mut Steps<L>) -> Reply
-        ensures { (store : Stored) → IsReply (record { session = self.old; store = store }) Command.Undo (mark_of result) (record { session = self.new; store = store }) (text_of result) }
+        ensures replied { (store : Stored) → IsReply (record { session = self.old; store = store }) Command.Undo (mark_of result) (record { session = self.new; store = store }) (text_of result) }
+        ensures counted { steps.new ≤ steps.old + 403 }
     {
         match self.state.undo(alloc, steps) {
             Ok(()) => {
@@ -182,7 +186,8 @@ impl Session {
 
     // Makes the edit again that was taken back last.
     fn redo<L: Ledger>(&mut self, alloc: Global, steps: &mut Steps<L>) -> Reply
-        ensures { (store : Stored) → IsReply (record { session = self.old; store = store }) Command.Redo (mark_of result) (record { session = self.new; store = store }) (text_of result) }
+        ensures replied { (store : Stored) → IsReply (record { session = self.old; store = store }) Command.Redo (mark_of result) (record { session = self.new; store = store }) (text_of result) }
+        ensures counted { steps.new ≤ steps.old + 403 }
     {
         match self.state.redo(alloc, steps) {
             Ok(()) => {
@@ -242,6 +247,7 @@ impl Session {
         ensures quit_writes_nothing { command.now ≡ Command.Quit → out.new ≡ out.old }
         ensures failed_rose { OnErr result (Rose (O.faults out.old) (O.faults out.new)) }
         ensures store_untouched { saved_by self.old.state command.now ≡ None → store.new ≡ store.old }
+        ensures counted { steps.new ≤ steps.old + most_steps command.now }
         ensures store_goes_on { GoesOn (S.files store.old) (S.files store.new) (S.faults store.old) (S.faults store.new) (S.misses store.old) (S.misses store.new) (S.longs store.old) (S.longs store.new) }
         ensures faults_never_fall { NeverFalls (O.faults out.old) (O.faults out.new) }
         ensures stays_known { StaysKnown (O.written out.old) (O.written out.new) }
@@ -287,6 +293,7 @@ impl Session {
 
         // What stays, and what never falls.
         ensures store_untouched { saved_by self.old.state command.now ≡ None → store.new ≡ store.old }
+        ensures counted { steps.new ≤ steps.old + most_steps command.now }
         ensures store_goes_on { GoesOn (S.files store.old) (S.files store.new) (S.faults store.old) (S.faults store.new) (S.misses store.old) (S.misses store.new) (S.longs store.old) (S.longs store.new) }
         ensures faults_never_fall { NeverFalls (O.faults out.old) (O.faults out.new) }
         ensures stays_known { StaysKnown (O.written out.old) (O.written out.new) }
