@@ -12,5 +12,6 @@ pub mod Stuck
 pub mod Feeding
 pub mod Running
 pub mod Innermost
+pub mod Lexing
 pub mod Spotting
 pub mod Metering

@@ -1,10 +1,10 @@
 -- Measuring, from byte to byte.
-use Rattle.std.proofs.Common.{◌≡◌, ℕ, suc, ◌+◌, ◌<◌, ◌≤◌, List, [], ◌∷◌, ◌++◌, length, take, drop, get_or, refl, sym, ap, subst, ◌∙◌, arith}
+use Rattle.std.proofs.Common.{◌≡◌, ℕ, suc, ◌+◌, ◌<◌, ◌≤◌, List, [], ◌∷◌, length, take, drop, get_or, refl, sym, ap, subst, ◌∙◌, arith}
 use Rattle.std.proofs.Math.Seq.{take-suc}
 use Rattle.std.proofs.lemmas.List.{take_all, take-append-drop}
 use Rattle.tx_tree.specs.WideTree.{WideTree}
 use Rattle.tx_tm_form.specs.Forms.{Spells}
-use Rattle.tx_tm_form.specs.Machine.{Bytewise, at, lost, step, run}
+use Rattle.tx_tm_form.specs.Machine.{Bytewise, lost, step, run}
 use Rattle.tx_tm_form.specs.Measures.{sums_of, body_sums, Gauged, keep_gauge, start_gauge, IsMeasured}
 use Rattle.tx_tm_form.proofs.Begun.{run_behind}
 use Rattle.tx_tm_form.proofs.Weights.{measured}

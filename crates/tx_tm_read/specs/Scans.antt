@@ -10,13 +10,13 @@ use Rattle.tx_tm_read.specs.declared.scan.Scan.{Scan}
 use Rattle.tx_tm_read.specs.Stands.{standing_of}
 use Rattle.tx_tm_read.specs.Words.{lex_of}
 
-abbrev pub scan_of : Scan → Bytewise Marked
-scan_of s = at (lex_of s.lexer) (record { taken = s.taken; behind_join = s.behind_join; now = Some (standing_of s.stand) })
+abbrev pub scan_of : List ℕ → Scan → Bytewise Marked
+scan_of bytes s = at (lex_of s.lexer) (record { taken = s.taken; behind_join = s.behind_join; now = Some (standing_of bytes s.stand) })
 
 -- this, or else the machine cannot go on
-abbrev pub IsScan : Option Scan → Bytewise Marked → Type 0
-IsScan None w = marks_go_on w ≡ false
-IsScan (Some s) w = scan_of s ≡ w
+abbrev pub IsScan : List ℕ → Option Scan → Bytewise Marked → Type 0
+IsScan bytes None w = marks_go_on w ≡ false
+IsScan bytes (Some s) w = scan_of bytes s ≡ w
 
 -- this is the fault, or else the bytes spell a tree
 abbrev pub Tells : List ℕ → Option ReadFault → Type 0

@@ -1,25 +1,26 @@
 // Why bytes spell no tree: a second pass, with no trees.
-ghost use Rattle.std.specs.Prelude.{◌≡◌, ◌≤◌, ◌<◌, ◌+◌, ◌^◌, ◌||◌, length, true, false, if◌then◌else◌, option_copied, Some, None, IfOk};
+ghost use Rattle.std.specs.Prelude.{◌≡◌, ℕ, ◌≤◌, ◌<◌, ◌+◌, ◌^◌, ◌∷◌, [], ◌++◌, ◌||◌, List, length, reverse, true, false, if◌then◌else◌, option_copied, Some, None, IfOk};
 ghost use Rattle.tx_tm_form.specs.Tokens.{mark_of, written};
 ghost use Rattle.tx_tm_form.specs.Machine.{ready, at, step};
 ghost use Rattle.tx_tm_form.specs.Fronts.{begins};
+ghost use Rattle.tx_tm_form.specs.Faults.{begun_bytes};
 ghost use Rattle.tx_tm_form.specs.Marks.{is_parts, is_symbol, begins_marks, form_goes_on, keep_marks, start_marks, marks_go_on, mismatch, fault_by, stop_fault, is_whole, spells_whole};
 ghost use Rattle.tx_tm_read.specs.Words.{token_of, lex_of};
-ghost use Rattle.tx_tm_read.specs.Stands.{marks_of, first_mark, standing_of};
+ghost use Rattle.tx_tm_read.specs.Stands.{marks_of, first_mark, standing_of, StandsAt};
 ghost use Rattle.tx_tm_read.specs.Scans.{scan_of, IsScan, Tells};
 
 use crate::lexer::{LabelFront, Lexed, Lexer, Word};
-use crate::marking::Stand;
+use crate::marking::{OpenMark, Stand};
 use crate::reader::is_dropped;
 use std::alloc::Global;
 use tx_base::Memory;
-use tx_tm_form::{Form, Inside, Mark};
+use tx_tm_form::{Form, Inside};
 use tx_tree::ReadFault;
 
 // The innermost open tag.
 #[tactic(auto, using(crate::proofs::Innermost::last_is_first))]
-fn innermost(marks: &[Mark]) -> Option<&Mark>
-    ensures { option_copied result ≡ first_mark (marks_of marks.now) }
+fn innermost(marks: &[OpenMark]) -> Option<&OpenMark>
+    ensures { option_copied result ≡ first_mark (reverse marks.now) }
 {
     marks.last()
 }
@@ -33,21 +34,21 @@ fn begins(bytes: &[u8], others: &[u8]) -> bool
 }
 
 // Whether the label so far goes on to that of the innermost tag, of which a block stands open.
-fn begins_marks(label: &LabelFront, marks: &[Mark]) -> bool
-    ensures { result ≡ begins_marks label.now (marks_of marks.now) }
+fn begins_marks(bytes: &[u8], label: &LabelFront, marks: &[OpenMark]) -> bool
+    ensures { result ≡ begins_marks label.now (marks_of bytes.now marks.now) }
 {
     match innermost(marks) {
         None => false,
-        Some(mark) => mark.inner.is_none() && begins(label.bytes(), mark.label.bytes()),
+        Some(mark) => mark.inner.is_none() && begins(label.bytes(), mark.label(bytes)),
     }
 }
 
-fn form_goes_on(form: Form, label: &LabelFront, marks: &[Mark]) -> bool
-    ensures { result ≡ form_goes_on form label.now (marks_of marks.now) }
+fn form_goes_on(bytes: &[u8], form: Form, label: &LabelFront, marks: &[OpenMark]) -> bool
+    ensures { result ≡ form_goes_on form label.now (marks_of bytes.now marks.now) }
 {
     match form {
         Form::Short | Form::Long => true,
-        Form::Middle | Form::Closing => begins_marks(label, marks),
+        Form::Middle | Form::Closing => begins_marks(bytes, label, marks),
     }
 }
 
@@ -64,8 +65,8 @@ fn is_symbol(inside: Inside) -> bool
 }
 
 // The fault of a byte in the label of a middle or closing tag.
-fn mismatch(marks: &[Mark], place: usize) -> ReadFault
-    ensures { result ≡ mismatch (marks_of marks.now) place }
+fn mismatch(marks: &[OpenMark], place: usize) -> ReadFault
+    ensures { (bytes : List ℕ) → result ≡ mismatch (marks_of bytes marks.now) place }
 {
     match innermost(marks) {
         None => ReadFault::Stray(place),
@@ -107,16 +108,18 @@ pub(crate) struct Scan {
 
 // Behind a word.
 fn behind_word(
+    bytes: &[u8],
     taken: usize,
     behind_join: bool,
     stand: Stand,
-    word: Word,
+    word: &Word,
 ) -> Result<Option<Scan>, Memory>
-    requires { taken < 2 ^ 63 }
-    ensures { IfOk result (λ next. IsScan next (at ready (keep_marks (record { taken = taken; behind_join = behind_join; now = Some (standing_of stand) }) (token_of word)))) }
+    requires small { taken < 2 ^ 63 }
+    requires there { StandsAt bytes.now taken (written (token_of word.now)) }
+    ensures { IfOk result (λ next. IsScan bytes.now next (at ready (keep_marks (record { taken = taken; behind_join = behind_join; now = Some (standing_of bytes.now stand) }) (token_of word.now)))) }
 {
-    let length = word_len(&word);
-    if is_dropped(behind_join, &word) {
+    let length = word_len(word);
+    if is_dropped(behind_join, word) {
         return Ok(Some(Scan {
             lexer: Lexer::Ready,
             taken: taken + length,
@@ -124,7 +127,7 @@ fn behind_word(
             stand,
         }));
     }
-    match stand.take(taken, word)? {
+    match stand.take(bytes, taken, word)? {
         None => Ok(None),
         Some(stand) => Ok(Some(Scan {
             lexer: Lexer::Ready,
@@ -137,7 +140,7 @@ fn behind_word(
 
 impl Scan {
     fn new(alloc: Global) -> Scan
-        ensures { scan_of result ≡ start_marks }
+        ensures { (bytes : List ℕ) → scan_of bytes result ≡ start_marks }
     {
         Scan {
             lexer: Lexer::Ready,
@@ -151,21 +154,21 @@ impl Scan {
     }
 
     // Whether a word that has begun can go on to one that may stand here.
-    fn goes_on(&self) -> bool
-        ensures { result ≡ marks_go_on (scan_of self.now) }
+    fn goes_on(&self, bytes: &[u8]) -> bool
+        ensures { result ≡ marks_go_on (scan_of bytes.now self.now) }
     {
         match &self.lexer {
             Lexer::Ready | Lexer::Slashed | Lexer::Returned => true,
             Lexer::Angled => is_parts(self.stand.inside),
             Lexer::Labelled(form, label) => {
-                is_parts(self.stand.inside) && form_goes_on(*form, label, &self.stand.marks)
+                is_parts(self.stand.inside) && form_goes_on(bytes, *form, label, &self.stand.marks)
             }
         }
     }
 
     // The fault of the byte at the place, where no tree goes on with it.
     fn fault(&self, byte: u8, place: usize) -> ReadFault
-        ensures { result ≡ stop_fault (scan_of self.now) byte place }
+        ensures { (bytes : List ℕ) → result ≡ stop_fault (scan_of bytes self.now) byte place }
     {
         match &self.lexer {
             Lexer::Ready => {
@@ -196,9 +199,10 @@ impl Scan {
     }
 
     // Behind a byte, or None where no word goes on so, or where it cannot stand there.
-    fn step(self, alloc: Global, byte: u8) -> Result<Option<Scan>, Memory>
-        requires { self.taken < 2 ^ 63 }
-        ensures { IfOk result (λ next. IsScan next (step keep_marks (scan_of self) byte)) }
+    fn step(self, alloc: Global, bytes: &[u8], byte: u8) -> Result<Option<Scan>, Memory>
+        requires small { self.taken < 2 ^ 63 }
+        requires there { StandsAt bytes.now self.taken (begun_bytes (lex_of self.lexer) ++ byte ∷ []) }
+        ensures { IfOk result (λ next. IsScan bytes.now next (step keep_marks (scan_of bytes.now self) byte)) }
     {
         let Scan {
             lexer,
@@ -214,13 +218,13 @@ impl Scan {
                 behind_join,
                 stand,
             })),
-            Some(Lexed::Done(word)) => behind_word(taken, behind_join, stand, word),
+            Some(Lexed::Done(word)) => behind_word(bytes, taken, behind_join, stand, &word),
         }
     }
 
     // Whether the bytes so far spell a tree.
     fn is_whole(&self) -> bool
-        ensures { result ≡ spells_whole (scan_of self.now) }
+        ensures { (bytes : List ℕ) → result ≡ spells_whole (scan_of bytes self.now) }
     {
         match &self.lexer {
             Lexer::Ready => is_parts(self.stand.inside) && self.stand.marks.is_empty(),
@@ -236,10 +240,10 @@ pub(crate) fn misspelled(alloc: Global, bytes: &[u8]) -> Result<Option<ReadFault
     let mut scan = Scan::new(alloc);
     for (place, byte) in bytes.iter().enumerate() {
         let fault = scan.fault(*byte, place);
-        match scan.step(alloc, *byte)? {
+        match scan.step(alloc, bytes, *byte)? {
             None => return Ok(Some(fault)),
             Some(next) => {
-                if !next.goes_on() {
+                if !next.goes_on(bytes) {
                     return Ok(Some(fault));
                 }
                 scan = next;

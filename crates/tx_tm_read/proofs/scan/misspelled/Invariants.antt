@@ -7,7 +7,7 @@ use Rattle.tx_tm_read.proofs.scan.misspelled.Given as goal
 abbrev pub invariant-loop-place : goal.invariant-loop-place
 invariant-loop-place l =
     record {
-      same : run keep_marks start_marks (take l.place l.bytes) ≡ scan_of l.scan;
-      on : marks_go_on (scan_of l.scan) ≡ true;
+      same : run keep_marks start_marks (take l.place l.bytes) ≡ scan_of l.bytes l.scan;
+      on : marks_go_on (scan_of l.bytes l.scan) ≡ true;
       counted : l.scan.taken ≤ l.place;
     }
