@@ -207,7 +207,7 @@ fn places_in_tags(rt: HostRuntime) -> Result<(), Fail> {
         letters: b"<>\\a/|",
         most: 4,
         closing: b"</>\\a",
-        most_closing: 5,
+        most_closing: 4,
         label: b'a',
     };
     let got = judged::<Brand>(rt.alloc(), &search, Blank::new(1)).ok_or("no answers")?;
@@ -224,7 +224,7 @@ fn places_in_raw_data(rt: HostRuntime) -> Result<(), Fail> {
         letters: b"<#\\;>1",
         most: 4,
         closing: b"</>\\1\n",
-        most_closing: 4,
+        most_closing: 3,
         label: b'1',
     };
     let got = judged::<Brand>(rt.alloc(), &search, Blank::new(1)).ok_or("no answers")?;
