@@ -11,7 +11,7 @@ use tx_tree::{Path, ReadFault};
 /// A command of a script.
 #[derive(Drop)]
 pub enum Command {
-    /// Changes the selected buffer's tree.
+    /// Changes the document.
     Change(Mod),
     /// Takes the last change back.
     Undo,
@@ -23,9 +23,9 @@ pub enum Command {
     Cursor,
     /// Shows the pages of the document.
     Show,
-    /// Prints the selected buffer's tree.
+    /// Prints the document's tree.
     Tree,
-    /// Writes the selected buffer's tree into the file of this name.
+    /// Writes the document's tree into the file of this name.
     Save(Name),
     /// Ends the script.
     Quit,

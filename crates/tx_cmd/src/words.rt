@@ -20,27 +20,44 @@ pub enum Argument {
 /// The first word of a modification.
 #[derive(Clone, Copy)]
 pub enum ModWord {
+    /// `assign`
     Assign,
+    /// `insert`
     Insert,
+    /// `remove`
     Remove,
+    /// `split`
     Split,
+    /// `join`
     Join,
+    /// `assign-node`
     AssignNode,
+    /// `insert-node`
     InsertNode,
+    /// `remove-node`
     RemoveNode,
 }
 
 /// The first word of a command.
 #[derive(Clone, Copy)]
 pub enum Word {
+    /// That of a modification.
     Change(ModWord),
+    /// `undo`
     Undo,
+    /// `redo`
     Redo,
+    /// `go`
     Go,
+    /// `cursor`
     Cursor,
+    /// `show`
     Show,
+    /// `tree`
     Tree,
+    /// `save`
     Save,
+    /// `quit`
     Quit,
 }
 

@@ -53,6 +53,8 @@ impl From<Vec<u8>> for Name {
 /// A tree and the name that it is known by. Buffer 0 of a session is the document, and the others are styles.
 #[derive(Drop)]
 pub struct Buffer {
+    /// What it is known by.
     pub name: Name,
+    /// What it holds.
     pub tree: Tree,
 }

@@ -32,7 +32,7 @@ impl Model for History {
 }
 
 impl History {
-    /// No entries, with room for so many. It takes all the memory that the history needs.
+    /// No entries, with room for so many, at least 1. It takes all the memory that the history needs.
     pub fn new(alloc: Global, depth: usize) -> Result<History, Memory>
         requires { 1 ≤ depth }
         ensures { IfOk result (λ h. h ≡ record { past = []; future = []; depth = depth }) }
@@ -83,7 +83,7 @@ impl History {
         }
     }
 
-    /// Puts the entry of an edit that was undone behind the future.
+    /// Puts the entry of an edit that was undone behind the future. Both lists together have fewer entries than the depth.
     pub fn undone(&mut self, entry: Entry)
         requires { length self.old.past + length self.old.future < self.old.depth }
         ensures future { self.new.future ≡ self.old.future ++ entry ∷ [] }
@@ -93,7 +93,7 @@ impl History {
         self.future.push_back(entry);
     }
 
-    /// Puts the entry of an edit that was made again behind the past.
+    /// Puts the entry of an edit that was made again behind the past. Both lists together have fewer entries than the depth.
     pub fn redone(&mut self, entry: Entry)
         requires { length self.old.past + length self.old.future < self.old.depth }
         ensures past { self.new.past ≡ self.old.past ++ entry ∷ [] }
@@ -104,7 +104,7 @@ impl History {
     }
 
     /// Puts back an entry that was taken and could not be applied: behind the past, or behind the future where
-    /// `past` is false.
+    /// `past` is false. Both lists together have fewer entries than the depth.
     pub fn keep(&mut self, entry: Entry, past: bool)
         requires { length self.old.past + length self.old.future < self.old.depth }
         ensures past { self.new.past ≡ (if past then self.old.past ++ entry ∷ [] else self.old.past) }

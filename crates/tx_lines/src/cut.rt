@@ -3,6 +3,8 @@
 /// The places of a list from `from` up to, and without, `to`.
 #[derive(Clone, Copy, Debug, PartialEq, Eq)]
 pub struct Cut {
+    /// The first place.
     pub from: u32,
+    /// The place behind the last one.
     pub to: u32,
 }

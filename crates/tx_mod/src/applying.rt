@@ -43,7 +43,8 @@ pub fn applicable(t: &Tree, m: &Mod) -> Result<(), ModFault>
 }
 
 #[tactic(auto, using(crate::proofs::Whole::change_within, crate::proofs::Whole::change_is, crate::proofs::Whole::no_change, std::proofs::lemmas::Grind::common_steps))]
-/// The changed tree. Each subtree off the path is shared with the tree, which stays.
+/// The changed tree, or the first cause why there is none. Each subtree off the path is shared with the tree, which stays.
+/// It takes at most the path's length and three steps.
 pub fn apply<L: Ledger>(
     alloc: Global,
     t: &Tree,
@@ -64,7 +65,7 @@ pub fn apply<L: Ledger>(
 }
 
 #[tactic(auto, using(crate::proofs::Whole::inverse_is, crate::proofs::Whole::no_change, std::proofs::lemmas::Grind::common_steps))]
-/// The modification that gives this tree back from the changed one.
+/// The modification that gives this tree back from the changed one. It is refused as `apply` is, and takes at most one step.
 pub fn inverse<L: Ledger>(
     alloc: Global,
     t: &Tree,

@@ -127,7 +127,7 @@ fn carried_at<'a>(m: &Mod, s: &Tree, rest: &'a [u32]) -> Option<Way<'a>>
 }
 
 /// Where the subtree that the path leads to stands after the modification, or None where it is taken out, changed
-/// or not a subtree any more.
+/// or not a subtree any more. The modification applies, and the path leads to a subtree.
 pub fn carried(alloc: Global, t: &Tree, m: &Mod, path: &Path) -> Result<Option<Path>, Memory>
     requires applicable { IsOk (changed m.now t.now) }
     requires leads { IsSome (subtree t.now path.now) }

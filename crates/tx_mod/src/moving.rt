@@ -231,7 +231,7 @@ fn place_after(alloc: Global, t: &Tree, m: &Mod, place: &Place) -> Result<Place,
     })
 }
 
-/// Where a place of the tree stands after the modification, which is a place of the changed tree. What is taken out
+/// Where a place of the tree stands after the modification, which applies; it is a place of the changed tree. What is taken out
 /// is left for the place where it was taken out, or for the place before the changed subtree.
 pub fn moved(alloc: Global, t: &Tree, m: &Mod, place: &Place) -> Result<Place, Memory>
     requires applicable { IsOk (changed m.now t.now) }

@@ -5,7 +5,7 @@ ghost use Rattle.tx_scan.specs.Stops.{is_stop, first_stop_from};
 use crate::stop_set::{BLOCK_SIZE, Stops};
 
 /// The least place at or after `from` whose byte is in the set or below 32, or the length of `bytes`
-/// where there is none. Places are counted from the start of `bytes`.
+/// where there is none. Places are counted from the start of `bytes`, and `from` is at most its length.
 pub fn first_stop(bytes: &[u8], from: usize, stops: &Stops) -> usize
     requires { from ≤ length bytes.now }
     ensures value { result ≡ first_stop_from stops.now bytes.now from }

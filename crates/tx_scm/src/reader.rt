@@ -369,8 +369,9 @@ fn fault(alloc: Global, bytes: &[u8]) -> Result<ReadFault, Memory>
 
 /// The tree that the bytes spell.
 ///
-/// Each node that it makes is a step. A fault, but for `Memory`, is the one that the bytes have, by the table of
-/// `specs/Faults.antt`; it comes exactly where they spell no tree within the limits.
+/// Where it answers a tree, the steps rise by at most the nodes of the tree that aren't leaves. A fault, but for `Memory`,
+/// is the one that the bytes have, by the table of `specs/Faults.antt`; it comes exactly where they spell no tree within
+/// the limits.
 pub fn read<L: Ledger>(alloc: Global, bytes: &[u8], steps: &mut Steps<L>) -> Result<Tree, ReadFault>
     ensures found { IfOk result (λ t. Spells bytes.now t) }
     ensures within { IfOk result (λ t. IsWithinLimits t) }

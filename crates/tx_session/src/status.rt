@@ -5,7 +5,7 @@ ghost use Rattle.tx_session.specs.Statuses.{number_of};
 /// How a run of the program ends.
 #[derive(Clone, Copy, Debug, PartialEq, Eq)]
 pub enum Status {
-    /// All was done.
+    /// The script was read to its end or to `quit`.
     Ok,
     /// The words of the command line aren't taken.
     Words,
@@ -19,7 +19,7 @@ pub enum Status {
     InputFault,
     /// The output failed.
     OutputFault,
-    /// Memory ran out.
+    /// Memory ran out at opening, or a line of the script couldn't be kept.
     NoMemory,
     /// The script is too long.
     ScriptLong,

@@ -39,8 +39,8 @@ pub(crate) fn show(
     Ok(Some(paged(alloc, &lines, height as usize)?))
 }
 
-/// A law: a tree has at most one showing on pages of a given width and height. That a plain document has one is the
-/// contract of `show`.
+/// A law: a tree has at most one showing on pages of a given width and height. That a plain document has one is
+/// part of what `Session::step` answers.
 pub fn one_showing()
     ensures { (width height : ℕ) (t : WideTree) (a b : List ℕ) → IsShowing width height t a → IsShowing width height t b → a ≡ b }
 {}

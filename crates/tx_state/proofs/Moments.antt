@@ -27,6 +27,14 @@ pub led_back : (bs : List Buffer) (k : ℕ) (u : WideTree) (mods : List Mod) (c 
 led_back bs k u mods c lt h =
     led_there (with_tree bs k u) (entry_of k mods c) (tree_of bs k) (ap (changed_by_all mods) (tree_put bs k u lt) ∙ h) ∙ put_back bs k u lt
 
+-- each entry leads to one moment
+number_of_moments : (bs : List Buffer) (es : List Entry) → length (moments bs es) ≡ length es
+number_of_moments bs [] = refl
+number_of_moments bs (e ∷ es) = ap suc (number_of_moments (led_to bs e) es)
+
+pub number_of_turned : (bs : List Buffer) (es : List Entry) → length (moments bs (reverse es)) ≡ length es
+number_of_turned bs es = number_of_moments bs (reverse es) ∙ length-reverse es
+
 -- the first moments are those of the first entries
 pub moments_of_take : (n : ℕ) (bs : List Buffer) (es : List Entry) → moments bs (take n es) ≡ take n (moments bs es)
 moments_of_take zero bs es = refl

@@ -3,24 +3,13 @@ use Rattle.std.proofs.Common.{◌≡◌, ℕ, ◌+◌, ◌≤◌, List, [], ◌�
 use Rattle.std.specs.Prelude.{IsOk, option_and_then}
 use Rattle.tx_tree.specs.Limits.{IsWithinLimits}
 use Rattle.tx_tree.specs.Paths.{subtree}
-use Rattle.tx_tree.specs.WideTree.{WideTree, leaf, node, depth_of}
-use Rattle.tx_tree.proofs.Walks.{child_shallower}
+use Rattle.tx_tree.specs.WideTree.{WideTree}
+use Rattle.tx_tree.proofs.ShortPaths.{path_short}
 use Rattle.tx_mod.specs.declared.mods.Mod.{Mod}
 use Rattle.tx_mod.specs.Changes.{Outcome, changed}
 use Rattle.tx_mod.specs.Followed.{changed_by_all, tree_of as made_of}
 use Rattle.tx_mod.specs.Mods.{path_of}
-use Rattle.tx_mod.proofs.Replacing.{down}
 use Rattle.tx_mod.proofs.Whole.{no_change}
-
-some_depth : (t : WideTree) → 1 ≤ depth_of t
-some_depth (leaf text) = omega arith
-some_depth (node label ts) = omega arith
-
--- a path that leads is no longer than the tree is deep
-pub path_short : (t s : WideTree) (path : List ℕ) → subtree t path ≡ Some s → length path + 1 ≤ depth_of t
-path_short t s [] e = omega (arith, some_depth t)
-path_short t s (i ∷ path) e =
-    let d = down t i path s e in omega (arith, path_short d.child s path d.further, child_shallower t d.child i d.found)
 
 pub mod_short : (m : Mod) (t : WideTree) → IsOk (changed m t) → IsWithinLimits t → length (path_of m) ≤ 399
 mod_short m t applies within = by_subtree (subtree t (path_of m)) refl

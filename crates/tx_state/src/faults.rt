@@ -11,7 +11,7 @@ use tx_tree::PlaceFault;
 /// Why no edit was undone or redone.
 #[derive(Clone, Copy, Debug, PartialEq, Eq, Error)]
 pub enum UndoFault {
-    /// There is none.
+    /// There is no edit to take back, or to make again.
     #[error("nothing to undo or to redo")]
     Nothing,
     /// Memory ran out.

@@ -85,11 +85,14 @@ impl EditorState {
         })
     }
 
-    /// The buffers, the document first.
+    /// The buffers, the document first. At most 1,000 edits can be undone or redone, at any time.
+    #[tactic(auto, using(crate::proofs::Moments::number_of_turned, std::proofs::lemmas::Grind::common_steps))]
     pub fn buffers(&self) -> &[Buffer]
         ensures buffers { result.now ≡ self.now.buffers }
         ensures some { 1 ≤ length self.now.buffers }
+        ensures few { length self.now.past + length self.now.future ≤ 1000 }
     {
+        let _len = self.history.len();
         &self.buffers
     }
 
@@ -109,7 +112,8 @@ impl EditorState {
     }
 
     /// Changes the document, and moves the cursor with it. The moment before can be undone, of the last 1,000, and what was
-    /// undone can't be redone any more. After an error the state is as before.
+    /// undone can't be redone any more. After an error the state is as before. It takes at most the path's length and four
+    /// steps.
     pub fn change<L: Ledger>(
         &mut self,
         alloc: Global,
@@ -191,8 +195,8 @@ impl EditorState {
         }
     }
 
-    /// Puts the cursor at the place that these numbers name, of which the last one is the offset. After an error the state is
-    /// as before.
+    /// Puts the cursor at the place that these numbers name, of which the last one is the offset. Without a number there is
+    /// no place (`NoPath(0)`). After an error the state is as before.
     pub fn go(&mut self, alloc: Global, numbers: &Path) -> Result<(), GoFault>
         ensures ok { OnOk result (Goes self.old numbers.now self.new) }
         ensures astray { IfErr result (λ fault. (cause : PlaceCause) → fault ≡ GoFault.Astray cause → IsAstray self.old numbers.now cause) }

@@ -1,7 +1,8 @@
 // What a byte is to the syntax.
 ghost use Rattle.std.specs.Prelude.{◌≡◌};
-ghost use Rattle.tx_tree.specs.Labels.{is_label_byte};
 ghost use Rattle.tx_tm_form.specs.Bytes.{kind_of, escape_of, white_of, plus};
+
+use tx_tree::is_label_byte;
 
 /// What a byte is to the syntax.
 #[derive(Clone, Copy, Debug, PartialEq, Eq)]
@@ -48,30 +49,6 @@ pub enum White {
     Line,
     /// Two or more, which separate paragraphs.
     Break,
-}
-
-#[tactic(auto, unfolding(tx_tree::specs::Labels::is_label_byte))]
-fn is_label_byte(byte: u8) -> bool
-    ensures { result ≡ is_label_byte byte }
-{
-    byte.is_ascii_alphanumeric()
-        || matches!(
-            byte,
-            b'-' | b'_'
-                | b'+'
-                | b'*'
-                | b':'
-                | b'.'
-                | b'?'
-                | b'!'
-                | b'='
-                | b'~'
-                | b'@'
-                | b'$'
-                | b'%'
-                | b'&'
-                | b'^'
-        )
 }
 
 /// What the byte is to the syntax.

@@ -11,7 +11,7 @@ ghost use Rattle.tx_tm_form.specs.Faults.{IsTmFault};
 ghost use Rattle.tx_tm_form.specs.Marks.{fault_of};
 ghost use Rattle.tx_tm_form.specs.Measures.{keep_gauge, start_gauge, IsMeasured};
 
-/// The tokens of bytes are one list.
+/// Bytes have at most one list of tokens.
 pub fn bytes_have_one_list_of_tokens()
     ensures { (bytes : List ℕ) (ts us : List Token) → IsTokenList bytes ts → IsTokenList bytes us → ts ≡ us }
 {}

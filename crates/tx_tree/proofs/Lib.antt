@@ -2,6 +2,7 @@ pub mod Scanning
 pub mod Labelling
 pub mod Children
 pub mod Walks
+pub mod ShortPaths
 pub mod Cutting
 pub mod Walking
 pub mod PathReading

@@ -13,7 +13,9 @@ use tx_base::Memory;
 /// a node it is 0, before the node, or 1, behind it.
 #[derive(Drop)]
 pub struct Place {
+    /// The way from the root to the leaf or node.
     pub path: Path,
+    /// Where it is there.
     pub offset: u32,
 }
 

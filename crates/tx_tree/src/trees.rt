@@ -19,7 +19,9 @@ use tx_base::{Memory, Steps};
 /// Whether a tree is a text or a label with children.
 #[derive(Clone, Copy, Debug, PartialEq, Eq)]
 pub enum Kind {
+    /// A text.
     Leaf,
+    /// A label with children.
     Node,
 }
 
@@ -76,7 +78,8 @@ impl Tree {
         })
     }
 
-    /// The node with this label and these children, unless it passes a limit.
+    /// The node with this label and these children, unless it passes a limit: the fault is the first one that it passes, of
+    /// children, depth and size. It is one step, whatever it answers.
     pub fn node<L: Ledger>(
         alloc: Global,
         label: Label,
