@@ -1,5 +1,5 @@
--- No number that is counted passes one and a half for each byte.
-use Rattle.std.proofs.Common.{◌≡◌, ℕ, zero, suc, ◌+◌, ◌-◌, ◌*◌, ◌^◌, ◌<◌, ◌≤◌, max, min, Bool, true, false, ◌==◌, ◌&&◌, if◌then◌else◌, List, [], ◌∷◌, ◌++◌, length, reverse, take, nat_lt, nat_le, Option, Some, None, refl, sym, ap, subst, ◌∙◌, arith}
+-- What is counted of a slice fits 64 bits: its bounds rise by at most 3 for each 2 bytes.
+use Rattle.std.proofs.Common.{◌≡◌, ℕ, zero, suc, ◌+◌, ◌*◌, ◌^◌, ◌<◌, ◌≤◌, Bool, true, false, ◌==◌, ◌&&◌, if◌then◌else◌, List, [], ◌∷◌, ◌++◌, length, reverse, take, nat_lt, nat_le, Option, Some, None, refl, ap, subst, ◌∙◌, arith}
 use Rattle.std.proofs.lemmas.List.{length-take, reverse-append}
 use Rattle.tx_tree.specs.declared.TheConstants.{MOST_LABEL}
 use Rattle.tx_tm_form.specs.declared.bytes.ByteKind.{ByteKind}
@@ -24,14 +24,14 @@ use Rattle.tx_tm_form.specs.declared.measures.PartSums.TheVariants.{Gap, Text, T
 use Rattle.tx_tm_form.specs.declared.measures.OpenSums.{OpenSums}
 use Rattle.tx_tm_form.specs.declared.measures.Within.{Within}
 use Rattle.tx_tm_form.specs.declared.measures.Within.TheVariants.{Parts, Symbol, Digits}
-use Rattle.tx_tm_form.specs.Measures.{no_sums, both, leaf_sums, node_sums, concat_sums, line_of, no_line, ended_line, line_sums, grow_line, no_block, ended_sums, resumed_line, white_block, part_block, widen_block, block_at, block_sums, put_sums, body_sums, long_sums, body_behind, opening_sums, Gauge, between, open_of, in_open, child_in, closed_open, bar_gauge, close_gauge, next_gauge, last_gauge, begun_gauge, escape_gauge, part_gauge, name_gauge, symbol_gauge, digit_gauge, feed_in, feed_gauge, Gauged, keep_gauge, start_gauge}
+use Rattle.tx_tm_form.specs.Measures.{no_sums, both, leaf_sums, node_sums, concat_sums, no_line, ended_line, line_sums, grow_line, no_block, ended_sums, resumed_line, white_block, part_block, widen_block, block_at, block_sums, put_sums, body_sums, long_sums, opening_sums, Gauge, child_in, closed_open, bar_gauge, close_gauge, next_gauge, last_gauge, begun_gauge, escape_gauge, part_gauge, name_gauge, symbol_gauge, digit_gauge, feed_in, feed_gauge, Gauged, keep_gauge, start_gauge}
 use Rattle.tx_tm_form.specs.Bytes.{kind_of, escape_of, white_of, can_escape}
 use Rattle.tx_tm_form.specs.Tokens.{Token, white, join, plain, escape, raw, head, bar, close, is_dropped}
 use Rattle.tx_tm_form.specs.Parts.{collection_label, same}
 use Rattle.tx_tm_form.specs.Machine.{header_place, Lex, ready, slashed, returned, angled, labelled, Lexed, within, done, bad, if_good, lex_ready, lex_slashed, lex_returned, lex_angled, lex_labelled, lex, Bytewise, at, lost, given, step, run}
 use Rattle.tx_tm_read.specs.declared.measuring.Meter.{Meter}
 use Rattle.tx_tm_read.specs.Gauges.{opens_of, gauge_of, meter_of}
-use Rattle.tx_tm_read.specs.Bounds.{IsSmall, most_of, most_in_line, most_in_part, of_run, most_in_block, of_place, most_in_content, most_in_open, most_in_opens, most_within, most_at, most_in}
+use Rattle.tx_tm_read.specs.Bounds.{IsSmall, most_of, most_in_line, most_in_part, of_run, most_in_block, most_in_content, most_in_open, most_in_opens, most_within, most_at, most_in}
 
 -- ---- trees
 
@@ -157,7 +157,7 @@ opening_most None collects s = chosen_most (collects && s.count == 0)
 
 -- ---- tokens
 
--- by how much a token makes the most greater
+-- what a token adds at most
 abbrev cost : Token → ℕ
 cost (head form label more) = 4
 cost raw = 3
@@ -257,7 +257,7 @@ keep_most k t =
       | false ↦ feed_most k.gauge t
     ]
 
--- what stands open, the innermost apart
+-- the innermost tag apart from the others
 pub popped_most : (here : ContentSums) (items rest : List OpenSums) (o : OpenSums) → items ≡ rest ++ o ∷ [] → most_at here (opens_of items) ≡ most_in_content here + (most_in_open o + most_in_opens (opens_of rest))
 popped_most here items rest o e = ap (λ os. most_at here (reverse os)) e ∙ ap (most_at here) (reverse-append rest (o ∷ []))
 
@@ -271,7 +271,7 @@ begun_by angled = 1
 begun_by returned = 2
 begun_by (labelled form label) = 2
 
--- a byte more pays for what it gives
+-- twice what a token adds is at most 3 for each of its bytes
 abbrev IsPaid : ℕ → Lexed → Type 0
 IsPaid n (within q) = begun_by q ≤ n + 1
 IsPaid n (done t) = 2 * cost t ≤ 3 * n + 3

@@ -1,7 +1,4 @@
-use Rattle.std.proofs.Common.{◌≡◌, ◌∙◌, ◌^◌, ◌<◌, ◌∷◌, [], length, arith}
-use Rattle.tx_tree.specs.WideTree.{WideTree}
-use Rattle.tx_tm_form.specs.Forms.{Spells}
-use Rattle.tx_tm_form.specs.Measures.{sums_of}
+use Rattle.std.proofs.Common.{◌∙◌, ◌^◌, ◌<◌, length, arith}
 use Rattle.tx_tm_read.proofs.Metering.{meter_more, meter_lost, metered}
 use Rattle.tx_tm_read.proofs.Bounding.{metered_small, metered_end}
 use Rattle.tx_tm_read.proofs.measuring.measure.Goals as goal

@@ -1,5 +1,4 @@
-use Rattle.std.proofs.Common.{◌≡◌, ◌+◌, ◌≤◌, arith}
-use Rattle.tx_tm_read.specs.Bounds.{IsSmall, most_of, most_in_content, most_in_open, most_at, HasRoom}
+use Rattle.std.proofs.Common.{arith}
 use Rattle.tx_tm_read.proofs.Bounding.{body_small, popped_most}
 use Rattle.tx_tm_read.proofs.measuring.next_gauge.Goals as goal
 

@@ -1,5 +1,4 @@
-use Rattle.std.proofs.Common.{◌≡◌, ◌+◌, ◌≤◌, arith}
-use Rattle.tx_tm_read.specs.Bounds.{IsSmall, most_in_line, most_in_part, of_run}
+use Rattle.std.proofs.Common.{arith}
 use Rattle.tx_tm_read.proofs.Bounding.{resumed_most}
 use Rattle.tx_tm_read.proofs.sums.later_block.Goals as goal
 

@@ -1,5 +1,4 @@
-use Rattle.std.proofs.Common.{◌≡◌, ◌+◌, ◌≤◌, arith}
-use Rattle.tx_tm_read.specs.Bounds.{IsSmall, most_of, most_in_content}
+use Rattle.std.proofs.Common.{arith}
 use Rattle.tx_tm_read.proofs.Bounding.{both_small, body_small}
 use Rattle.tx_tm_read.proofs.sums.long_sums.Goals as goal
 
