@@ -13,3 +13,4 @@ pub mod Readers
 pub mod Stands
 pub mod Scans
 pub mod Gauges
+pub mod Bounds

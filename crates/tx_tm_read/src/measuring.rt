@@ -10,12 +10,13 @@ ghost use Rattle.tx_tm_form.specs.Machine.{ready, at, step};
 ghost use Rattle.tx_tm_form.specs.Measures.{sums_of, between, in_open, child_in, closed_open, bar_gauge, close_gauge, next_gauge, last_gauge, begun_gauge, escape_gauge, part_gauge, symbol_gauge, digit_gauge, feed_gauge, keep_gauge, start_gauge, put_sums};
 ghost use Rattle.tx_tm_read.specs.Words.{token_of};
 ghost use Rattle.tx_tm_read.specs.Gauges.{opens_of, gauge_of, meter_of, IsMeter};
+ghost use Rattle.tx_tm_read.specs.Bounds.{IsSmall, most_of, most_in_content, most_in_open, most_in, HasRoom};
 
 use crate::lexer::{Lexed, Lexer, Word};
 use crate::reader::is_dropped;
 use crate::sums::{
-    add, body_sums, both, empty_file, leaf_sums, line_sums, long_sums, no_sums, node_sums,
-    opening_sums, put_sums,
+    body_sums, both, empty_file, leaf_sums, line_sums, long_sums, no_sums, node_sums, opening_sums,
+    put_sums,
 };
 use crate::taking::header_place;
 use crate::walk::is_collection;
@@ -53,47 +54,51 @@ fn in_open(inner: Option<Place>, tag: OpenSums, mut opens: Vec<OpenSums>) -> Res
     Ok(between(here, opens))
 }
 
-fn child_in(tag: OpenSums, child: Sums) -> Result<OpenSums, Memory>
-    ensures { IfOk result (λ next. next ≡ child_in tag child) }
+fn child_in(tag: OpenSums, child: Sums) -> OpenSums
+    requires { IsSmall (most_of tag.children + most_of child) }
+    ensures { result ≡ child_in tag child }
 {
-    Ok(OpenSums {
+    OpenSums {
         before: tag.before,
         collects: tag.collects,
-        children: both(tag.children, child)?,
-    })
+        children: both(tag.children, child),
+    }
 }
 
 // Behind the tag.
-fn closed_open(tag: OpenSums, opens: Vec<OpenSums>) -> Result<Gauge, Memory>
-    ensures { IfOk result (λ next. gauge_of next ≡ closed_open tag (opens_of opens.items)) }
+fn closed_open(tag: OpenSums, opens: Vec<OpenSums>) -> Gauge
+    requires { IsSmall (most_in_open tag + 1) }
+    ensures { gauge_of result ≡ closed_open tag (opens_of opens.items) }
 {
-    let node = PartSums::Tag(false, node_sums(tag.children)?);
-    Ok(between(put_sums(tag.before, node)?, opens))
+    let node = PartSums::Tag(false, node_sums(tag.children));
+    between(put_sums(tag.before, node), opens)
 }
 
 fn bar_gauge(here: ContentSums, mut opens: Vec<OpenSums>) -> Result<Gauge, Memory>
+    requires { HasRoom here (opens_of opens.items) }
     ensures { IfOk result (λ next. gauge_of next ≡ bar_gauge here (opens_of opens.items)) }
 {
     match here {
         ContentSums::Argument(place, line) => match opens.pop() {
             None => Ok(between(here, opens)),
-            Some(tag) => in_open(Some(place), child_in(tag, line_sums(line)?)?, opens),
+            Some(tag) => in_open(Some(place), child_in(tag, line_sums(line)), opens),
         },
         ContentSums::Block(_) | ContentSums::Tags(_, _) => Ok(between(here, opens)),
     }
 }
 
 fn close_gauge(here: ContentSums, mut opens: Vec<OpenSums>) -> Result<Gauge, Memory>
+    requires { HasRoom here (opens_of opens.items) }
     ensures { IfOk result (λ next. gauge_of next ≡ close_gauge here (opens_of opens.items)) }
 {
     match here {
         ContentSums::Argument(place, line) => match opens.pop() {
             None => Ok(between(here, opens)),
             Some(tag) => {
-                let tag = child_in(tag, line_sums(line)?)?;
+                let tag = child_in(tag, line_sums(line));
                 match place {
                     Place::InHeader => in_open(None, tag, opens),
-                    Place::InShort | Place::InClosing => closed_open(tag, opens),
+                    Place::InShort | Place::InClosing => Ok(closed_open(tag, opens)),
                 }
             }
         },
@@ -106,22 +111,24 @@ fn next_gauge(
     here: ContentSums,
     mut opens: Vec<OpenSums>,
 ) -> Result<Gauge, Memory>
+    requires { HasRoom here (opens_of opens.items) }
     ensures { IfOk result (λ next. gauge_of next ≡ next_gauge inner here (opens_of opens.items)) }
 {
     match opens.pop() {
         None => Ok(between(here, opens)),
-        Some(tag) => in_open(inner, child_in(tag, body_sums(here)?)?, opens),
+        Some(tag) => in_open(inner, child_in(tag, body_sums(here)), opens),
     }
 }
 
-fn last_gauge(here: ContentSums, mut opens: Vec<OpenSums>) -> Result<Gauge, Memory>
-    ensures { IfOk result (λ next. gauge_of next ≡ last_gauge here (opens_of opens.items)) }
+fn last_gauge(here: ContentSums, mut opens: Vec<OpenSums>) -> Gauge
+    requires { HasRoom here (opens_of opens.items) }
+    ensures { gauge_of result ≡ last_gauge here (opens_of opens.items) }
 {
     match opens.pop() {
-        None => Ok(between(here, opens)),
+        None => between(here, opens),
         Some(tag) => {
-            let part = long_sums(tag.children, here)?;
-            Ok(between(put_sums(tag.before, part)?, opens))
+            let part = long_sums(tag.children, here);
+            between(put_sums(tag.before, part), opens)
         }
     }
 }
@@ -151,6 +158,7 @@ fn begun_gauge(
     here: ContentSums,
     opens: Vec<OpenSums>,
 ) -> Result<Gauge, Memory>
+    requires { HasRoom here (opens_of opens.items) }
     ensures { IfOk result (λ next. gauge_of next ≡ begun_gauge form more label.now here (opens_of opens.items)) }
 {
     match form {
@@ -158,8 +166,8 @@ fn begun_gauge(
             if more {
                 return new_open(Some(Place::InShort), label, here, opens);
             }
-            let node = PartSums::Tag(false, node_sums(no_sums())?);
-            Ok(between(put_sums(here, node)?, opens))
+            let node = PartSums::Tag(false, node_sums(no_sums()));
+            Ok(between(put_sums(here, node), opens))
         }
         Form::Long => new_open(header_place(more), label, here, opens),
         Form::Middle => next_gauge(header_place(more), here, opens),
@@ -167,46 +175,49 @@ fn begun_gauge(
             if more {
                 next_gauge(Some(Place::InClosing), here, opens)
             } else {
-                last_gauge(here, opens)
+                Ok(last_gauge(here, opens))
             }
         }
     }
 }
 
 // Behind so many bytes of a text.
-fn text_gauge(length: u64, here: ContentSums, opens: Vec<OpenSums>) -> Result<Gauge, Memory>
-    ensures { IfOk result (λ next. gauge_of next ≡ between (put_sums here (PartSums.Text length)) (opens_of opens.items)) }
+fn text_gauge(length: u64, here: ContentSums, opens: Vec<OpenSums>) -> Gauge
+    requires { IsSmall (most_in_content here + length) }
+    ensures { gauge_of result ≡ between (put_sums here (PartSums.Text length)) (opens_of opens.items) }
 {
-    Ok(between(put_sums(here, PartSums::Text(length))?, opens))
+    between(put_sums(here, PartSums::Text(length)), opens)
 }
 
 // Behind a backslash and a byte.
-fn escape_gauge(byte: u8, here: ContentSums, opens: Vec<OpenSums>) -> Result<Gauge, Memory>
-    ensures { IfOk result (λ next. gauge_of next ≡ escape_gauge (escape_of byte) here (opens_of opens.items)) }
+fn escape_gauge(byte: u8, here: ContentSums, opens: Vec<OpenSums>) -> Gauge
+    requires { IsSmall (most_in_content here + 1) }
+    ensures { gauge_of result ≡ escape_gauge (escape_of byte) here (opens_of opens.items) }
 {
     match escape_of(byte) {
         Some(Escaped::Mark) => text_gauge(0, here, opens),
         Some(Escaped::Byte(_)) => text_gauge(1, here, opens),
-        None => Ok(Gauge {
+        None => Gauge {
             within: Within::Symbol(0),
             here,
             opens,
-        }),
+        },
     }
 }
 
 // A word more between parts.
 fn part_gauge(here: ContentSums, opens: Vec<OpenSums>, word: &Word) -> Result<Gauge, Memory>
+    requires { HasRoom here (opens_of opens.items) }
     ensures { IfOk result (λ next. gauge_of next ≡ part_gauge here (opens_of opens.items) (token_of word.now)) }
 {
     match word {
         Word::White(byte) => {
             let gap = PartSums::Gap(white_of(*byte));
-            Ok(between(put_sums(here, gap)?, opens))
+            Ok(between(put_sums(here, gap), opens))
         }
         Word::Join(_) => Ok(between(here, opens)),
-        Word::Plain(_) => text_gauge(1, here, opens),
-        Word::Escape(byte) => escape_gauge(*byte, here, opens),
+        Word::Plain(_) => Ok(text_gauge(1, here, opens)),
+        Word::Escape(byte) => Ok(escape_gauge(*byte, here, opens)),
         Word::Raw => Ok(Gauge {
             within: Within::Digits(0),
             here,
@@ -219,55 +230,48 @@ fn part_gauge(here: ContentSums, opens: Vec<OpenSums>, word: &Word) -> Result<Ga
 }
 
 // A word more in the name of a symbol, behind so many bytes of it.
-fn symbol_gauge(
-    length: u64,
-    here: ContentSums,
-    opens: Vec<OpenSums>,
-    word: &Word,
-) -> Result<Gauge, Memory>
-    ensures { IfOk result (λ next. gauge_of next ≡ symbol_gauge length here (opens_of opens.items) (token_of word.now)) }
+fn symbol_gauge(length: u64, here: ContentSums, opens: Vec<OpenSums>, word: &Word) -> Gauge
+    requires { IsSmall (length + most_in_content here + 2) }
+    ensures { gauge_of result ≡ symbol_gauge length here (opens_of opens.items) (token_of word.now) }
 {
     match word {
-        Word::Escape(b'>') => text_gauge(add(length, 2)?, here, opens),
-        _ => Ok(Gauge {
-            within: Within::Symbol(add(length, 1)?),
+        Word::Escape(b'>') => text_gauge(length + 2, here, opens),
+        _ => Gauge {
+            within: Within::Symbol(length + 1),
             here,
             opens,
-        }),
+        },
     }
 }
 
 // A word more in raw data, behind so many digits.
-fn digit_gauge(
-    length: u64,
-    here: ContentSums,
-    opens: Vec<OpenSums>,
-    word: &Word,
-) -> Result<Gauge, Memory>
-    ensures { IfOk result (λ next. gauge_of next ≡ digit_gauge length here (opens_of opens.items) (token_of word.now)) }
+fn digit_gauge(length: u64, here: ContentSums, opens: Vec<OpenSums>, word: &Word) -> Gauge
+    requires { IsSmall (length + most_in_content here + 4) }
+    ensures { gauge_of result ≡ digit_gauge length here (opens_of opens.items) (token_of word.now) }
 {
     match word {
         Word::Close => {
-            let node = PartSums::Tag(false, node_sums(leaf_sums(length)?)?);
-            Ok(between(put_sums(here, node)?, opens))
+            let node = PartSums::Tag(false, node_sums(leaf_sums(length)));
+            between(put_sums(here, node), opens)
         }
-        _ => Ok(Gauge {
-            within: Within::Digits(add(length, 1)?),
+        _ => Gauge {
+            within: Within::Digits(length + 1),
             here,
             opens,
-        }),
+        },
     }
 }
 
 impl Gauge {
     // Behind the word.
     fn take(self, word: &Word) -> Result<Gauge, Memory>
+        requires { IsSmall (most_in (gauge_of self) + 4) }
         ensures { IfOk result (λ next. gauge_of next ≡ feed_gauge (gauge_of self) (token_of word.now)) }
     {
         match self.within {
             Within::Parts => part_gauge(self.here, self.opens, word),
-            Within::Symbol(length) => symbol_gauge(length, self.here, self.opens, word),
-            Within::Digits(length) => digit_gauge(length, self.here, self.opens, word),
+            Within::Symbol(length) => { Ok(symbol_gauge(length, self.here, self.opens, word)) }
+            Within::Digits(length) => Ok(digit_gauge(length, self.here, self.opens, word)),
         }
     }
 }
@@ -293,6 +297,7 @@ impl Meter {
 
     // Behind a byte, or None where no word goes on so.
     fn step(self, alloc: Global, byte: u8) -> Result<Option<Meter>, Memory>
+        requires { IsSmall (most_in (gauge_of self.gauge) + 4) }
         ensures { IfOk result (λ next. IsMeter next (step keep_gauge (meter_of self) byte)) }
     {
         let Meter {
@@ -331,7 +336,7 @@ fn measure(alloc: Global, bytes: &[u8]) -> Result<Sums, Memory>
             Some(next) => meter = next,
         }
     }
-    body_sums(meter.gauge.here)
+    Ok(body_sums(meter.gauge.here))
 }
 
 // The first limit that is passed, and the number there, where one is.

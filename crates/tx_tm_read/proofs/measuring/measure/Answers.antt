@@ -1,9 +1,6 @@
-use Rattle.std.proofs.Common.{◌≡◌, ◌∙◌, ◌∷◌, [], arith}
-use Rattle.std.proofs.lemmas.Result.{IfOk-weaker}
-use Rattle.tx_tree.specs.WideTree.{WideTree}
-use Rattle.tx_tm_form.specs.Forms.{Spells}
-use Rattle.tx_tm_form.specs.Measures.{sums_of, body_sums}
+use Rattle.std.proofs.Common.{◌∙◌, ◌^◌, ◌<◌, length, arith}
 use Rattle.tx_tm_read.proofs.Metering.{meter_more, meter_lost, metered}
+use Rattle.tx_tm_read.proofs.Bounding.{metered_small, metered_end}
 use Rattle.tx_tm_read.proofs.measuring.measure.Goals as goal
 
 pub returns-in-None : goal.returns-in-None
@@ -16,7 +13,15 @@ loop-byte-preserved c =
     let next = rw c.in-Some.is at c.in_ok-step.ensures in
     meter_more c.args.bytes.now c.loop-byte.byte-index c.loop-byte.meter c.in-Some.next c.loop-byte-test.true c.loop-byte.invariant next
 
+pub step-requires : goal.step-requires
+step-requires c =
+    let short : length c.args.bytes.now < 2 ^ 63 = omega arith in
+    metered_small c.args.bytes.now c.loop-byte.byte-index c.loop-byte.meter short c.loop-byte.invariant
+
+pub body_sums-requires : goal.body_sums-requires
+body_sums-requires c =
+    let short : length c.args.bytes.now < 2 ^ 63 = omega arith in
+    metered_end c.args.bytes.now c.loop-byte.byte-index c.loop-byte.meter short c.loop-byte.invariant
+
 pub returns : goal.returns
-returns c =
-    IfOk-weaker c.body_sums.result (λ sums. sums ≡ body_sums c.loop-byte.meter.gauge.here) (λ sums. (t : WideTree) → Spells c.args.bytes.now t → sums ≡ sums_of (t ∷ []))
-    (λ sums is t h. is ∙ metered c.args.bytes.now c.loop-byte.byte-index c.loop-byte.meter t (omega (arith, c.loop-byte-test.false)) c.loop-byte.invariant h) c.body_sums.ensures
+returns c = λ t h. c.body_sums.ensures ∙ metered c.args.bytes.now c.loop-byte.byte-index c.loop-byte.meter t (omega (arith, c.loop-byte-test.false)) c.loop-byte.invariant h
