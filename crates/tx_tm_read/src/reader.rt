@@ -265,7 +265,7 @@ fn fault_of(alloc: Global, bytes: &[u8]) -> ReadFault
     }
 }
 
-/// The tree that the bytes spell. Each node that it has is at most one step.
+/// The tree that the bytes spell. Where it answers one, the steps rise by at most its nodes that aren't leaves.
 ///
 /// A fault other than `Memory` comes exactly where the bytes spell no tree within the limits, and is the one that the
 /// table of faults gives (`IsTmFault` of `tx_tm_form`). It is found in one or two passes more, which make no tree.
