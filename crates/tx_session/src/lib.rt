@@ -18,8 +18,6 @@ mod saving;
 mod script;
 mod session;
 mod status;
-#[cfg(test)]
-mod tests;
 mod view;
 
 pub use limits::script_limit_law;

@@ -7,8 +7,6 @@ ghost use Rattle.tx_session.specs.Paging.{IsShowing, page_count, page_lines, lin
 mod lines;
 mod pages;
 mod plain;
-#[cfg(test)]
-mod tests;
 mod words;
 
 use self::lines::all_lines;

@@ -1,0 +1,17 @@
+//! Tests of runs and sessions over memory. Each test is a table and asks for its first wrong row.
+#![tactic(auto)]
+
+#[cfg(test)]
+mod edits;
+#[cfg(test)]
+mod faults;
+#[cfg(test)]
+mod lines;
+#[cfg(test)]
+mod outside;
+#[cfg(test)]
+mod pages;
+#[cfg(test)]
+mod saves;
+#[cfg(test)]
+mod statuses;
