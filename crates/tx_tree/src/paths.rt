@@ -5,6 +5,7 @@ ghost use Rattle.tx_tree.specs.PathScan.{path_state, path_step};
 
 use crate::faults::PathFault;
 use crate::{MOST_DIGITS, MOST_NUMBER, MOST_STEPS};
+use smallvec::SmallVec;
 use std::alloc::Global;
 use std::fmt;
 use std::marker::Model;
@@ -17,12 +18,13 @@ enum PathPlace {
     Number(usize, u32),
 }
 
-/// The numbers of the children, from 0, on a way down from the root.
+/// The numbers of the children, from 0, on a way down from the root. Up to six of them are held in place, without an
+/// allocation.
 ///
 /// Contracts see a path as the list of its numbers.
 #[derive(Drop)]
 pub struct Path {
-    numbers: Vec<u32>,
+    numbers: SmallVec<u32, 6>,
 }
 
 impl Model for Path {
@@ -39,7 +41,7 @@ impl Path {
         ensures { result ≡ [] }
     {
         Path {
-            numbers: Vec::new(alloc),
+            numbers: SmallVec::new(alloc),
         }
     }
 
@@ -63,7 +65,7 @@ impl Path {
     pub fn steps(&self) -> &[u32]
         ensures { result.now ≡ self.now }
     {
-        &self.numbers
+        self.numbers.as_slice()
     }
 
     /// The same path, with numbers of its own.
@@ -71,7 +73,7 @@ impl Path {
         ensures { IfOk result (λ p. p ≡ self.now) }
     {
         Ok(Path {
-            numbers: Vec::from_slice(alloc, &self.numbers)?,
+            numbers: SmallVec::from_slice(alloc, self.steps())?,
         })
     }
 
@@ -121,7 +123,7 @@ impl PathPlace {
             }
             PathPlace::Number(digits, value) => {
                 if byte == b'/' {
-                    if digits == 0 || path.numbers.len() >= MOST_STEPS - 1 {
+                    if digits == 0 || path.steps().len() >= MOST_STEPS - 1 {
                         return Ok(None);
                     }
                     path.push(value)?;
@@ -146,10 +148,10 @@ impl fmt::Display for Path {
     ghost output = { λ p. Some (path_text p) };
 
     fn fmt<W: fmt::Write>(&self, f: &mut fmt::Formatter<W>) -> fmt::Result {
-        if self.numbers.is_empty() {
+        if self.steps().is_empty() {
             return write!(f, "/");
         }
-        for number in &self.numbers {
+        for number in self.steps() {
             write!(f, "/{number}")?;
         }
         Ok(())

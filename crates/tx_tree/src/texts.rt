@@ -1,15 +1,20 @@
 // Texts, and the reading of a text byte by byte.
-ghost use Rattle.std.specs.Prelude.{◌≡◌, ℕ, ◌≤◌, ◌↔◌, ◌++◌, ◌∷◌, [], Bool, true, false, IsTrue, length, IfOk, IfErr, OnOk, IfSome, MatchOption, ◌&&◌, nat_lt};
+ghost use Rattle.std.specs.Prelude.{◌≡◌, ℕ, ◌≤◌, ◌↔◌, ◌++◌, ◌∷◌, [], Bool, true, false, IsTrue, length, IfOk, IfErr, OnOk, IfSome, MatchOption, ◌&&◌, nat_lt, nat_eq};
 ghost use Rattle.tx_tree.specs.Texts.{IsText, IsCut, IsTextFault, is_item_byte, is_name_byte};
 ghost use Rattle.tx_tree.specs.declared.texts.TextFault.TheVariants.{Memory as NoMemory};
 ghost use Rattle.tx_tree.specs.TextScan.{text_step, text_run, fault_at};
 ghost use Rattle.tx_tree.specs.Cuts.{is_cut};
 ghost use Rattle.std.specs.Prelude.{List};
+ghost use Rattle.std.specs.Cmp.{partial_equiv_from_equiv};
+ghost use Rattle.std.specs.Cmp.Lexicographic.{pointwise, nat_list_eq_equiv};
+ghost use Rattle.std.specs.Cmp.Rules.{hashing};
+ghost use Rattle.std.proofs.Common.{rules};
 ghost use Rattle.tx_tree.specs.declared.texts.TextPlace.TheVariants.{Between};
 ghost use Rattle.std.specs.Bool.{OnTrue, OnFalse};
 
 use crate::{MOST_NAME, MOST_TEXT};
 use std::alloc::{AllocError, AllocFailed, Global};
+use std::hash::{Hash, Hasher};
 use std::marker::Model;
 use std::rc::Rc;
 use thiserror::Error;
@@ -228,6 +233,32 @@ impl Text {
         Ok(Text {
             bytes: self.bytes.clone()?,
         })
+    }
+}
+
+// Texts are equal where their bytes are.
+impl PartialEq for Text {
+    ghost eq = { pointwise nat_eq };
+
+    ghost laws = { partial_equiv_from_equiv nat_list_eq_equiv };
+
+    fn eq(&self, other: &Text) -> bool {
+        self.bytes() == other.bytes()
+    }
+}
+
+impl Eq for Text {
+    ghost laws = { nat_list_eq_equiv };
+}
+
+// All the bytes are hashed in one piece.
+impl Hash for Text {
+    ghost hash_input = { λ t. t ∷ [] };
+
+    ghost respects_eq = { Prim.search (hashing, rules) };
+
+    fn hash<H: Hasher>(&self, state: &mut H) {
+        state.write(self.bytes());
     }
 }
 
