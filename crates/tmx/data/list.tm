@@ -1,0 +1,3 @@
+bread
+
+milk and <em|two> eggs
