@@ -1,5 +1,5 @@
 -- Trees that are made within the limits.
-use Rattle.std.proofs.Common.{◌≡◌, ℕ, zero, suc, ◌+◌, ◌-◌, ◌<◌, ◌≤◌, List, [], ◌∷◌, ◌++◌, length, take, drop, set, Some, refl, sym, ap, subst, ◌∙◌, append_assoc, arith}
+use Rattle.std.proofs.Common.{◌≡◌, ◌≢◌, ℕ, zero, suc, ◌+◌, ◌-◌, ◌<◌, ◌≤◌, List, [], ◌∷◌, ◌++◌, length, take, drop, set, Some, refl, sym, ap, subst, ◌∙◌, append_assoc, arith}
 use Rattle.std.specs.Prelude.{slice_get, IsSome}
 use Rattle.std.proofs.lemmas.List.{append-nil, take_all, take_rest}
 use Rattle.tx_tree.specs.Limits.{IsWithinLimits, IsTreeFault}
@@ -11,24 +11,24 @@ use Rattle.tx_tree.specs.declared.faults.TreeFault.{TreeFault}
 use Rattle.tx_tree.specs.declared.faults.TreeFault.TheVariants.{TooWide, TooDeep, TooBig, Memory as TreeMemory}
 use Rattle.tx_tree.specs.WideTree.{WideTree, node, forest, children_of, depth_of, arity_of, text_length_of}
 use Rattle.tx_tree.proofs.Children.{trees_forest, count-forest}
+use Rattle.tx_tree.proofs.TextFaults.{text_has_no_fault}
+use Rattle.tx_tree.proofs.TreeFaults.{tree_has_no_fault}
 use Rattle.tx_mod.specs.Mods.{with_child, replaced}
 use Rattle.tx_mod.proofs.Lists.{drop_past}
 use Rattle.tx_mod.proofs.Replacing.{subtree_down, replaced_down, text_in_replaced, arity_in_replaced, size_of_subtree, depth_with, with_same_child, child_of_with}
 
--- a text has no fault but want of memory
-pub sound_text : (bytes : List ℕ) (fault : TextFault) → IsText bytes → length bytes ≤ 1048575 → IsTextFault bytes fault → fault ≡ TextMemory
-sound_text bytes (TooLong n) h short f = absurd (omega (arith, f.0))
-sound_text bytes (BadByte n) h short f = let most = f.1.longest (length bytes) (omega arith, ([], subst IsText (sym (append-nil (take (length bytes) bytes) ∙ take_all (length bytes) bytes (omega arith))) h)) in absurd (omega (arith, f.2, most))
-sound_text bytes (BadSymbol n) h short f =
-    let most = f.1.longest (length bytes) (omega arith, ([], subst IsText (sym (append-nil (take (length bytes) bytes) ∙ take_all (length bytes) bytes (omega arith))) h)) in
-    absurd (f.2 (subst IsText (sym (take_all n bytes most)) h))
+-- what makes no text of a text is want of memory
+pub sound_text : (bytes : List ℕ) (fault : TextFault) → IsText bytes → length bytes ≤ 1048575 → (fault ≢ TextMemory → IsTextFault bytes fault) → fault ≡ TextMemory
+sound_text bytes (TooLong n) h short f = absurd (text_has_no_fault bytes (TooLong n) h short (f (λ e. cc)))
+sound_text bytes (BadByte n) h short f = absurd (text_has_no_fault bytes (BadByte n) h short (f (λ e. cc)))
+sound_text bytes (BadSymbol n) h short f = absurd (text_has_no_fault bytes (BadSymbol n) h short (f (λ e. cc)))
 sound_text bytes TextMemory h short f = refl
 
--- and a node within the limits none either
-pub sound_node : (label : List ℕ) (ts : List WideTree) (fault : TreeFault) → IsWithinLimits (node label (forest ts)) → IsTreeFault label ts fault → fault ≡ TreeMemory
-sound_node label ts (TooWide n) w f = absurd (omega (arith, w.arity, f.0, count-forest ts))
-sound_node label ts (TooDeep n) w f = absurd (omega (arith, w.depth, f.1))
-sound_node label ts (TooBig n) w f = absurd (omega (arith, w.size, f.2))
+-- and what makes no node of a node within the limits too
+pub sound_node : (label : List ℕ) (ts : List WideTree) (fault : TreeFault) → IsWithinLimits (node label (forest ts)) → (fault ≢ TreeMemory → IsTreeFault label ts fault) → fault ≡ TreeMemory
+sound_node label ts (TooWide n) w f = absurd (tree_has_no_fault label ts (TooWide n) w (f (λ e. cc)))
+sound_node label ts (TooDeep n) w f = absurd (tree_has_no_fault label ts (TooDeep n) w (f (λ e. cc)))
+sound_node label ts (TooBig n) w f = absurd (tree_has_no_fault label ts (TooBig n) w (f (λ e. cc)))
 sound_node label ts TreeMemory w f = refl
 
 pub ruleset sound = (sound_text, sound_node)

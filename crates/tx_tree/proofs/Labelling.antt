@@ -6,7 +6,7 @@ use Rattle.std.proofs.lemmas.Bool.{cases_lt}
 use Rattle.tx_base.specs.Fronts.{IsLongestFront}
 use Rattle.tx_tree.specs.Labels.{is_label_byte, IsLabel}
 
-abbrev AreLabelBytes : List ℕ → Type 0
+abbrev pub AreLabelBytes : List ℕ → Type 0
 AreLabelBytes = AllByRecursion (λ b. is_label_byte b ≡ true)
 
 all_append : (a b : List ℕ) → AreLabelBytes a → AreLabelBytes b → AreLabelBytes (a ++ b)

@@ -8,3 +8,9 @@ pub mod Walking
 pub mod PathReading
 pub mod PathsOnce
 pub mod OneFault
+pub mod TextFaults
+pub mod LabelFaults
+pub mod PathFaults
+pub mod PlaceFaults
+pub mod TreeFaults
+pub mod PathsPrinted

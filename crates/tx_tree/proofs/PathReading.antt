@@ -199,7 +199,7 @@ took : (bytes : List ℕ) (s : PathState) → path_run (Some (start [])) bytes �
 took bytes s e = subst (λ q. TookAll q bytes) e (run_took bytes [] (Some (start [])) (refl, refl))
 
 -- numbers that are not too many spell a path
-spelled_numbers : (finished bytes : List ℕ) (n : ℕ) → AreNumbers bytes (finished ++ n ∷ []) → length finished < 400 → SpellsPath bytes (finished ++ n ∷ [])
+pub spelled_numbers : (finished bytes : List ℕ) (n : ℕ) → AreNumbers bytes (finished ++ n ∷ []) → length finished < 400 → SpellsPath bytes (finished ++ n ∷ [])
 spelled_numbers [] bytes n h few = (h, omega arith)
 spelled_numbers (m ∷ finished) bytes n h few = (h, omega (arith, length-append finished (n ∷ [])))
 

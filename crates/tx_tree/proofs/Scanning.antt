@@ -218,7 +218,7 @@ take_less [] (suc i) (suc m) h = ([], refl)
 take_less (b ∷ bytes) (suc i) (suc m) h = let t = take_less bytes i m (omega arith) in (t.0, ap (λ x. b ∷ x) t.1)
 
 -- what is read can be continued
-begins_some : (bytes : List ℕ) (p : TextPlace) → text_run (Some Between) bytes ≡ Some p → begins_text bytes ≡ true
+pub begins_some : (bytes : List ℕ) (p : TextPlace) → text_run (Some Between) bytes ≡ Some p → begins_text bytes ≡ true
 unfolding begins_text
 begins_some bytes p e = ap is_some e
 

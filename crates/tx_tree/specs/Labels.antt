@@ -20,4 +20,4 @@ pub record IsLabel (label : List ℕ) : Type 0 where
 -- why bytes are no label: so many of them and no more begin one
 abbrev pub IsLabelFault : List ℕ → LabelFault → Type 0
 IsLabelFault bytes (BadLabel n) = IsLongestFront IsLabel bytes n × (IsLabel bytes → ⊥)
-IsLabelFault bytes Memory = Unit {0}
+IsLabelFault bytes Memory = ⊥

@@ -32,4 +32,4 @@ IsTreeFault label ts (TooDeep n) =
 IsTreeFault label ts (TooBig n) =
     (length ts ≤ MOST_ARITY) × (depth_of (node label (forest ts)) ≤ MOST_DEPTH) × (MOST_SIZE < size_of (node label (forest ts)))
     × (n ≡ size_of (node label (forest ts)))
-IsTreeFault label ts Memory = Unit {0}
+IsTreeFault label ts Memory = ⊥

@@ -39,7 +39,7 @@ IsPathSpelling bytes = (path : List ℕ) × SpellsPath bytes path
 -- why bytes spell no path: so many of them and no more can be continued to a spelling
 abbrev pub IsPathFault : List ℕ → PathFault → Type 0
 IsPathFault bytes (BadPath n) = IsLongestFront IsPathSpelling bytes n × (IsPathSpelling bytes → ⊥)
-IsPathFault bytes Memory = Unit {0}
+IsPathFault bytes Memory = ⊥
 
 -- a / and the digits of each number
 abbrev pub numbers_text : List ℕ → List ℕ

@@ -15,6 +15,10 @@ pub data Item : Type 0 where
 abbrev pub is_item_byte : ℕ → Bool
 is_item_byte b = not (b == 9 || b == 10 || b == 13 || b == 60 || b == 62)
 
+-- a byte with which no item begins: a tab, a newline, a return or >
+abbrev pub begins_no_item : ℕ → Bool
+begins_no_item b = b == 9 || b == 10 || b == 13 || b == 62
+
 -- a byte of a symbol's name: visible ASCII, but < and >
 abbrev pub is_name_byte : ℕ → Bool
 is_name_byte b = nat_le 33 b && nat_le b 126 && not (b == 60 || b == 62)
@@ -50,4 +54,4 @@ abbrev pub IsTextFault : List ℕ → TextFault → Type 0
 IsTextFault bytes (TooLong n) = (MOST_TEXT < length bytes) × (n ≡ length bytes)
 IsTextFault bytes (BadByte n) = (length bytes ≤ MOST_TEXT) × IsLongestFront IsText bytes n × (n < length bytes) × IsText (take n bytes)
 IsTextFault bytes (BadSymbol n) = (length bytes ≤ MOST_TEXT) × IsLongestFront IsText bytes n × (IsText (take n bytes) → ⊥)
-IsTextFault bytes Memory = Unit {0}
+IsTextFault bytes Memory = ⊥

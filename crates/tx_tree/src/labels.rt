@@ -1,5 +1,5 @@
 // Labels of nodes.
-ghost use Rattle.std.specs.Prelude.{◌≡◌, IfOk, IfErr, OnOk};
+ghost use Rattle.std.specs.Prelude.{◌≡◌, ◌≢◌, IfOk, IfErr, OnOk};
 ghost use Rattle.tx_tree.specs.Labels.{is_label_byte, IsLabel, IsLabelFault};
 ghost use Rattle.tx_tree.specs.declared.labels.LabelFault.TheVariants.{Memory as NoMemory};
 
@@ -86,7 +86,7 @@ impl Label {
     pub fn new(alloc: Global, bytes: &[u8]) -> Result<Label, LabelFault>
         ensures ok { IfOk result (λ l. l ≡ bytes.now) }
         ensures label { OnOk result (IsLabel bytes.now) }
-        ensures refused { IfErr result (IsLabelFault bytes.now) }
+        ensures refused { IfErr result (λ fault. fault ≢ LabelFault.Memory → IsLabelFault bytes.now fault) }
     {
         for (i, byte) in bytes.iter().enumerate() {
             if i == MOST_LABEL || !is_label_byte(*byte) {

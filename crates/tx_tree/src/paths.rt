@@ -1,5 +1,5 @@
 // Paths from the root of a tree.
-ghost use Rattle.std.specs.Prelude.{◌≡◌, ◌++◌, ◌∷◌, [], OnOk, OnErr, IfOk, IfErr, MatchOption, Some, None};
+ghost use Rattle.std.specs.Prelude.{◌≡◌, ◌≢◌, ◌++◌, ◌∷◌, [], OnOk, OnErr, IfOk, IfErr, MatchOption, Some, None};
 ghost use Rattle.tx_tree.specs.PathSpelling.{SpellsPath, IsPathFault};
 ghost use Rattle.tx_tree.specs.PathScan.{path_state, path_step};
 
@@ -81,7 +81,7 @@ impl Path {
     /// digits, which are at most 4,294,967,295.
     pub fn parse(alloc: Global, bytes: &[u8]) -> Result<Path, PathFault>
         ensures ok { IfOk result (λ p. SpellsPath bytes.now p) }
-        ensures refused { IfErr result (IsPathFault bytes.now) }
+        ensures refused { IfErr result (λ fault. fault ≢ PathFault.Memory → IsPathFault bytes.now fault) }
     {
         let mut path = Path::root(alloc);
         let mut place = PathPlace::Start;

@@ -1,5 +1,5 @@
 // Texts, and the reading of a text byte by byte.
-ghost use Rattle.std.specs.Prelude.{◌≡◌, ℕ, ◌≤◌, ◌↔◌, ◌++◌, ◌∷◌, [], Bool, true, false, IsTrue, length, IfOk, IfErr, OnOk, IfSome, MatchOption, ◌&&◌, nat_lt, nat_eq};
+ghost use Rattle.std.specs.Prelude.{◌≡◌, ◌≢◌, ℕ, ◌≤◌, ◌↔◌, ◌++◌, ◌∷◌, [], Bool, true, false, IsTrue, length, IfOk, IfErr, OnOk, IfSome, MatchOption, ◌&&◌, nat_lt, nat_eq};
 ghost use Rattle.tx_tree.specs.Texts.{IsText, IsCut, IsTextFault, is_item_byte, is_name_byte};
 ghost use Rattle.tx_tree.specs.declared.texts.TextFault.TheVariants.{Memory as NoMemory};
 ghost use Rattle.tx_tree.specs.TextScan.{text_step, text_run, fault_at};
@@ -177,7 +177,7 @@ impl Text {
         ensures ok { IfOk result (λ t. t ≡ bytes.now) }
         ensures text { OnOk result (IsText bytes.now) }
         ensures short { OnOk result (length bytes.now ≤ MOST_TEXT) }
-        ensures refused { IfErr result (IsTextFault bytes.now) }
+        ensures refused { IfErr result (λ fault. fault ≢ TextFault.Memory → IsTextFault bytes.now fault) }
     {
         if bytes.len() > MOST_TEXT {
             return Err(TextFault::TooLong(bytes.len() as u64));

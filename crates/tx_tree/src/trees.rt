@@ -1,5 +1,5 @@
 // Nodes and leaves, shared by Rc.
-ghost use Rattle.std.specs.Prelude.{◌≡◌, ◌+◌, length, if◌then◌else◌, IfOk, IfErr, OnOk, MatchOption, IfSome, IfNone, IsNone, None, Some, slice_get, IsTrue, ◌↔◌};
+ghost use Rattle.std.specs.Prelude.{◌≡◌, ◌≢◌, ◌+◌, length, if◌then◌else◌, IfOk, IfErr, OnOk, MatchOption, IfSome, IfNone, IsNone, None, Some, slice_get, IsTrue, ◌↔◌};
 ghost use Rattle.tx_tree.specs.WideTree.{leaf, node, forest, children_of, is_leaf, text_of, label_of, size_of, depth_of};
 ghost use Rattle.tx_tree.specs.Limits.{IsWellFormed, IsWithinLimits, IsTreeFault};
 ghost use Rattle.tx_tree.specs.Paths.{subtree};
@@ -88,7 +88,7 @@ impl Tree {
     ) -> Result<Tree, TreeFault>
         ensures ok { IfOk result (λ t. t ≡ node label (forest children.items)) }
         ensures within { OnOk result (IsWithinLimits (node label (forest children.items))) }
-        ensures refused { IfErr result (IsTreeFault label children.items) }
+        ensures refused { IfErr result (λ fault. fault ≢ TreeFault.Memory → IsTreeFault label children.items fault) }
         ensures counted { steps.new ≡ steps.old + 1 }
     {
         steps.tick();

@@ -6,7 +6,7 @@ use Rattle.tx_tree.proofs.PathReading.{run_more, stops_at, ends_at_start, ends_a
 use Rattle.tx_tree.proofs.paths.Path.parse.Goals as goal
 
 pub returns-in-None-clause-refused : goal.returns-in-None-clause-refused
-returns-in-None-clause-refused c = stops_at c.args.bytes.now c.loop-i.i _ c.loop-i-test.true c.loop-i.invariant (rw c.in-None.is at c.in_ok-next.ensures)
+returns-in-None-clause-refused c = λ other. stops_at c.args.bytes.now c.loop-i.i _ c.loop-i-test.true c.loop-i.invariant (rw c.in-None.is at c.in_ok-next.ensures)
 
 pub loop-i-preserved : goal.loop-i-preserved
 loop-i-preserved c = run_more c.args.bytes.now c.loop-i.i _ c.loop-i-test.true c.loop-i.invariant ∙ (rw c.in-Some.is at c.in_ok-next.ensures)
@@ -16,11 +16,11 @@ returns-then-not-is_empty-clause-refused c =
     let e = ap (path_state c.loop-i.path) c.in-Number-eq0-default.is in
     let there : path_state c.loop-i.path c.loop-i.place ≡ reading c.loop-i.path 0 c.in-Number-eq0-default.field-1 = cc in
     let some : 1 ≤ length c.loop-i.path = grind arith in
-    ends_at_slash c.args.bytes.now c.loop-i.path c.in-Number-eq0-default.field-1 (whole_run c.args.bytes.now c.loop-i.i _ _ c.loop-i-test.false c.loop-i.invariant there) some
+    λ other. ends_at_slash c.args.bytes.now c.loop-i.path c.in-Number-eq0-default.field-1 (whole_run c.args.bytes.now c.loop-i.i _ _ c.loop-i-test.false c.loop-i.invariant there) some
 
 pub returns-in-Start-clause-refused : goal.returns-in-Start-clause-refused
 returns-in-Start-clause-refused c =
-    ends_at_start c.args.bytes.now c.loop-i.path (whole_run c.args.bytes.now c.loop-i.i _ _ c.loop-i-test.false c.loop-i.invariant (ap (path_state c.loop-i.path) c.in-Start.is))
+    λ other. ends_at_start c.args.bytes.now c.loop-i.path (whole_run c.args.bytes.now c.loop-i.i _ _ c.loop-i-test.false c.loop-i.invariant (ap (path_state c.loop-i.path) c.in-Start.is))
 
 pub returns-else-not-is_empty-clause-ok : goal.returns-else-not-is_empty-clause-ok
 returns-else-not-is_empty-clause-ok c =
