@@ -1,0 +1,12 @@
+//! Display texts of the items of a text, and its clusters: extended grapheme clusters of its display text, with their widths.
+#![tactic(auto)]
+
+mod cutting;
+mod displays;
+mod glyphs;
+mod showing;
+mod tables;
+
+pub use cutting::{Cluster, clusters, item_laws};
+pub use glyphs::Glyphs;
+pub use showing::show_item;
