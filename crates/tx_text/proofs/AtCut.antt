@@ -135,9 +135,9 @@ symbol_here text bytes at name same h other opened e =
 
 pub byte_here : (text bytes : List ℕ) (at : ℕ) → bytes ≡ text → IsCut text at → (at ≡ length bytes → ⊥) → (get_or bytes at 0 ≡ 60 → ⊥)
     → Stands text at (byte (get_or bytes at 0))
-byte_here text bytes at same h other no =
+byte_here text bytes at same h other unopened =
     let P : List ℕ → Type 0 = λ l. Stands text at (byte (get_or l at 0)) in
-    subst P (sym same) (byte_stands text at h (inside text bytes at same h other) (λ k. no (ap (λ l. get_or l at 0) same ∙ k)))
+    subst P (sym same) (byte_stands text at h (inside text bytes at same h other) (λ k. unopened (ap (λ l. get_or l at 0) same ∙ k)))
 
 pub byte_shows : (text : List ℕ) (at b code : ℕ) → Stands text at (byte b) → code ≡ byte_code b → encode_utf8 code ≡ display_text (item_at text at)
 byte_shows text at b code s e = ap encode_utf8 e ∙ sym (append-nil (encode_utf8 (byte_code b))) ∙ sym (text_there text at (byte b) s)
