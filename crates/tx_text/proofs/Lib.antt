@@ -5,3 +5,4 @@ pub mod Table
 pub mod Plain
 pub mod AtCut
 pub mod Own
+pub mod Holding

@@ -168,3 +168,8 @@ plain_text bs h =
 
 pub plain_by_test : (bs : List ℕ) → list_all is_plain_byte bs ≡ true → clusters_of (items_of bs) ≡ plain_clusters 0 bs
 plain_by_test bs h = plain_text bs (plain_from_test bs h)
+
+pub plain_utf8 : (bs : List ℕ) → list_all is_plain_byte bs ≡ true → IsUtf8 (display_text (items_of bs))
+plain_utf8 bs h =
+    let plain = plain_from_test bs h in
+    subst IsUtf8 (sym (ap display_text (plain_items bs plain) ∙ plain_display bs plain)) (IsUtf8-from_ascii bs (plain_ascii bs plain))

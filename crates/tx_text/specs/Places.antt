@@ -1,6 +1,7 @@
 -- Where the bytes of a display text come from, byte by byte, and clusters of plain bytes.
 use Rattle.std.specs.Int.{is_in_range}
-use Rattle.std.specs.Prelude.{ℕ, Bool, not, ◌&&◌, ◌+◌, ◌-◌, ◌==◌, min, false, List, [], ◌∷◌, ◌++◌, length, get_or, replicate, chars}
+use Rattle.std.specs.Prelude.{ℕ, Bool, not, ◌&&◌, ◌+◌, ◌-◌, ◌==◌, min, false, List, [], ◌∷◌, ◌++◌, length, get_or, replicate}
+use Rattle.std.specs.Prelude.{chars}
 use Rattle.tx_tree.specs.Texts.{Item, item_bytes}
 use Rattle.unicode_width.specs.Width.{str_width}
 use Rattle.tx_text.specs.Displays.{item_text}
@@ -11,7 +12,8 @@ use Rattle.tx_text.specs.declared.cutting.Cluster.{Cluster}
 abbrev pub spread : ℕ → List Item → List Stretch
 spread at [] = []
 spread at (item ∷ items) =
-    replicate (length (item_text item)) (record { from = at; to = at + length (item_bytes item) }) ++ spread (at + length (item_bytes item)) items
+    replicate (length (item_text item)) (record { from = at; to = at + length (item_bytes item) })
+    ++ spread (at + length (item_bytes item)) items
 
 abbrev pub nowhere : Stretch
 nowhere = record { from = 0; to = 0 }

@@ -1,8 +1,10 @@
 -- The tables of what is shown: bytes by rows, and symbols by name.
-use Rattle.std.specs.Prelude.{ℕ, ◌+◌, ◌-◌, ◌&&◌, nat_le, nat_lt, List, [], ◌∷◌, ◌++◌, length, get_or, Option, Some, None, if◌then◌else◌, codes}
+use Rattle.std.specs.Prelude.{ℕ, ◌+◌, ◌-◌, ◌&&◌, nat_le, nat_lt, List, [], ◌∷◌, ◌++◌, length, get_or, Option, Some, None}
+use Rattle.std.specs.Prelude.{if◌then◌else◌, codes}
 use Rattle.std.specs.Str.{bytes_eq}
 
--- The rows of the table of bytes, each by its first byte, with the code points that this byte and those behind it show as.
+-- The rows of the table of bytes, each by its first byte, with the code points that this byte and those behind it show
+-- as.
 abbrev pub byte_rows : List (ℕ × List ℕ)
 byte_rows =
     (0, 0x60 ∷ 0xB4 ∷ 0x2C6 ∷ 0x2DC ∷ 0xA8 ∷ 0x2DD ∷ 0x2DA ∷ 0x2C7 ∷ 0x2D8 ∷ []) ∷
@@ -27,7 +29,8 @@ byte_rows =
 -- the code point that rows give a byte; a byte of no row shows as itself
 abbrev pub code_by : List (ℕ × List ℕ) → ℕ → ℕ
 code_by [] b = b
-code_by ((first, row) ∷ rows) b = if nat_le first b && nat_lt b (first + length row) then get_or row (b - first) b else code_by rows b
+code_by ((first, row) ∷ rows) b =
+    if nat_le first b && nat_lt b (first + length row) then get_or row (b - first) b else code_by rows b
 
 -- the code point that a byte shows as
 unfoldable pub byte_code : ℕ → ℕ
@@ -46,11 +49,13 @@ small_letters =
     codes "theta" ∷ codes "iota" ∷ codes "kappa" ∷ codes "lambda" ∷ codes "mu" ∷ codes "nu" ∷ codes "xi" ∷
     codes "omicron" ∷ codes "pi" ∷ codes "rho" ∷ []
     )
-    ++ named_from 0x3C3 (codes "sigma" ∷ codes "tau" ∷ codes "upsilon" ∷ codes "phi" ∷ codes "chi" ∷ codes "psi" ∷ codes "omega" ∷ [])
+    ++ named_from 0x3C3 (
+    codes "sigma" ∷ codes "tau" ∷ codes "upsilon" ∷ codes "phi" ∷ codes "chi" ∷ codes "psi" ∷ codes "omega" ∷ []
+    )
 
--- the great ones that no Latin letter looks like
-abbrev pub great_letters : List (List ℕ × ℕ)
-great_letters =
+-- the capital ones that no Latin letter looks like
+abbrev pub capital_letters : List (List ℕ × ℕ)
+capital_letters =
     (codes "Gamma", 0x393) ∷ (codes "Delta", 0x394) ∷ (codes "Theta", 0x398) ∷ (codes "Lambda", 0x39B) ∷
     (codes "Xi", 0x39E) ∷ (codes "Pi", 0x3A0) ∷ (codes "Sigma", 0x3A3) ∷ (codes "Upsilon", 0x3A5) ∷
     (codes "Phi", 0x3A6) ∷ (codes "Psi", 0x3A8) ∷ (codes "Omega", 0x3A9) ∷ []
@@ -64,7 +69,7 @@ signs =
 
 -- the symbols that show as one code point by their name
 abbrev pub named_symbols : List (List ℕ × ℕ)
-named_symbols = small_letters ++ great_letters ++ signs
+named_symbols = small_letters ++ capital_letters ++ signs
 
 -- the code point that a list gives a name
 abbrev pub code_among : List (List ℕ × ℕ) → List ℕ → Option ℕ

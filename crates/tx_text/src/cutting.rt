@@ -1,12 +1,13 @@
 // The clusters of a text.
-ghost use Rattle.std.specs.Prelude.{◌≡◌, ℕ, ◌+◌, ◌≤◌, ◌<◌, ◌++◌, List, length, map, true, All, replicate, IfOk, OnOk, string_bytes};
+ghost use Rattle.std.specs.Prelude.{◌≡◌, ℕ, ◌+◌, ◌≤◌, ◌<◌, ◌++◌, List, length, map, true, All, replicate, IfOk, OnOk};
+ghost use Rattle.std.specs.Prelude.{string_bytes};
 ghost use Rattle.std.specs.List.{AllByRecursion, list_all, flat_map};
 ghost use Rattle.tx_tree.specs.declared.TheConstants.{MOST_TEXT};
 ghost use Rattle.tx_tree.specs.Texts.{Item, IsItem, item_bytes, byte as Byte, symbol as Symbol};
 ghost use Rattle.unicode_segmentation.specs.Grapheme.{graphemes};
 ghost use Rattle.unicode_segmentation.specs.Segments.{with_offsets};
 ghost use Rattle.tx_text.specs.Displays.{item_text, display_text};
-ghost use Rattle.tx_text.specs.Clusters.{items_of, clusters_of};
+ghost use Rattle.tx_text.specs.Clusters.{items_of, clusters_of, HoldsByte, item_start, item_end};
 ghost use Rattle.tx_text.specs.Places.{spread, cluster_at, is_plain_byte, plain_clusters};
 
 use crate::displays::{push_byte, push_symbol};
@@ -174,9 +175,11 @@ fn plain_clusters(alloc: Global, bytes: &[u8]) -> Result<Vec<Cluster>, Memory>
     Ok(found)
 }
 
-/// The clusters of a text's display text, in order. The one error is want of memory.
+/// The clusters of a text, in order: the extended grapheme clusters of its display text. Their characters, one after the
+/// other, are the display text. The one error is want of memory.
 pub fn clusters(alloc: Global, text: &Text) -> Result<Vec<Cluster>, Memory>
     ensures clusters { IfOk result (λ found. found.items ≡ clusters_of (items_of text.now)) }
+    ensures whole { IfOk result (λ found. flat_map (λ cluster. cluster.glyphs) found.items ≡ display_text (items_of text.now)) }
     ensures narrow { IfOk result (λ found. All (λ cluster. cluster.cells ≤ 2) found.items) }
 {
     let bytes = text.bytes();
@@ -187,7 +190,10 @@ pub fn clusters(alloc: Global, text: &Text) -> Result<Vec<Cluster>, Memory>
     cut_display(alloc, display.text.as_str(), &display.places)
 }
 
-/// The items that the bytes of a text are read as are those that they spell.
-pub fn item_laws()
-    ensures { (items : List Item) → AllByRecursion IsItem items → items_of (flat_map item_bytes items) ≡ items }
+/// What the definition of clusters rests on: the items of the bytes that items spell are these items, and the two places
+/// that a byte of their display text has in the text are those of the one item that it is a byte of.
+pub fn cluster_laws()
+    ensures items { (items : List Item) → AllByRecursion IsItem items → items_of (flat_map item_bytes items) ≡ items }
+    ensures places { (items : List Item) (n : ℕ) → n < length (display_text items)
+        → HoldsByte items n (item_start 0 items n) (item_end 0 items n) }
 {}

@@ -1,5 +1,6 @@
 // What the items of a text show as, behind other text.
-ghost use Rattle.std.specs.Prelude.{◌≡◌, ◌≤◌, ◌++◌, ◌∷◌, [], length, nat_lt, if◌then◌else◌, Some, None, OnOk, encode_utf8_all, string_bytes};
+ghost use Rattle.std.specs.Prelude.{◌≡◌, ◌≤◌, ◌++◌, length, nat_lt, if◌then◌else◌, Some, None, OnOk};
+ghost use Rattle.std.specs.Prelude.{encode_utf8_all, string_bytes};
 ghost use Rattle.std.specs.Char.{digit_value};
 ghost use Rattle.tx_text.specs.Displays.{hex_behind, symbol_code, numbered_code, item_text};
 ghost use Rattle.tx_tree.specs.Texts.{byte as Byte, symbol as Symbol};

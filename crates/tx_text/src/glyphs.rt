@@ -9,8 +9,8 @@ use tx_base::Memory;
 // The most bytes that a value holds in itself, so that it takes 16 bytes in all.
 const MOST_HERE: usize = 14;
 
-/// The characters of a cluster in UTF-8. Up to 14 bytes stand in the value itself, more in shared memory. Contracts see them
-/// as the list of these bytes.
+/// The characters of a cluster in UTF-8. Up to 14 bytes stand in the value itself, more in memory that copies share.
+/// Contracts see them as the list of these bytes.
 #[derive(Drop)]
 pub struct Glyphs {
     kept: Kept,

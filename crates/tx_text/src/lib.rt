@@ -1,4 +1,5 @@
-//! Display texts of the items of a text, and its clusters: extended grapheme clusters of its display text, with their widths.
+//! Display texts of the items of a text, and its clusters: the extended grapheme clusters of its display text, with their
+//! widths.
 #![tactic(auto)]
 
 mod cutting;
@@ -7,6 +8,6 @@ mod glyphs;
 mod showing;
 mod tables;
 
-pub use cutting::{Cluster, clusters, item_laws};
+pub use cutting::{Cluster, cluster_laws, clusters};
 pub use glyphs::Glyphs;
 pub use showing::show_item;

@@ -57,9 +57,9 @@ fn name_of(bytes: &[u8]) -> &[u8]
     &bytes[..name_len(bytes)]
 }
 
-/// Puts the display text of the item that begins at a cut of a text at the start of a buffer, in UTF-8, and answers the number
-/// of its bytes, at most 50, and the cut behind the item. None comes exactly at the end of the text, and the buffer is then as
-/// before. It takes no memory.
+/// Puts the display text of the item that begins at a cut of a text at the start of a buffer, in UTF-8, and answers the
+/// number of its bytes, at most 50, and the cut behind the item. None comes exactly at the end of the text, and the buffer
+/// is then as before. It takes no memory.
 pub fn show_item(text: &Text, at: usize, into: &mut [u8]) -> Option<(usize, usize)>
     requires cut { IsCut text.now at }
     requires room { 300 ≤ length into.old }

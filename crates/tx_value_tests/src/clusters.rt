@@ -144,7 +144,7 @@ const CUTS: &[(&[u8], &str)] = &[
     (b"", "end "),
     (b"a", "a:1:1 end "),
     (b"\xFFa", "\u{DF}:2:1 a:1:2 end "),
-    (b"<alpha>b<#1F1E9>", "\u{3B1}:2:7 b:1:8 \u{1F1E9}:4:17 end "),
+    (b"<alpha>b<#1F1E9>", "\u{3B1}:2:7 b:1:8 \u{1F1E9}:4:16 end "),
     (b"<#110000><less>", "<#110000>:9:9 <:1:15 end "),
     (b"x<quad>", "x:1:1 <quad>:6:7 end "),
     (
@@ -166,7 +166,7 @@ const CLUSTERS: &[(&[u8], &str)] = &[
     (b"<#7F>", "<:1:0:5 #:1:0:5 7:1:0:5 F:1:0:5 >:1:0:5 "),
     (b"<#9F>", "<:1:0:5 #:1:0:5 9:1:0:5 F:1:0:5 >:1:0:5 "),
     (b"<#a0>", "\u{A0}:1:0:5 "),
-    (b"<#D7FF>", "\u{D7FF}:0:0:7 "),
+    (b"<#D7FF>", "\u{D7FF}:1:0:7 "),
     (
         b"<#D800>",
         "<:1:0:7 #:1:0:7 D:1:0:7 8:1:0:7 0:1:0:7 0:1:0:7 >:1:0:7 ",
@@ -189,10 +189,10 @@ const CLUSTERS: &[(&[u8], &str)] = &[
     (b"e<#301>x", "e\u{301}:1:0:7 x:1:7:1 "),
     (b"<#301><#308>", "\u{301}\u{308}:0:0:12 "),
     (b"<q><#301>", "<:1:0:3 q:1:0:3 >\u{301}:1:0:9 "),
-    (b"<#1F1E9><#1F1EA>x", "\u{1F1E9}\u{1F1EA}:2:0:18 x:1:18:1 "),
+    (b"<#1F1E9><#1F1EA>x", "\u{1F1E9}\u{1F1EA}:2:0:16 x:1:16:1 "),
     (
         b"<#1F1E9><#1F1EA><#1F1E9>",
-        "\u{1F1E9}\u{1F1EA}:2:0:18 \u{1F1E9}:1:18:9 ",
+        "\u{1F1E9}\u{1F1EA}:2:0:16 \u{1F1E9}:1:16:8 ",
     ),
     (
         b"<#1F468><#200D><#1F469>",
@@ -433,7 +433,7 @@ fn first_miscut(alloc: Global, rows: &[(&[u8], &str)]) -> Option<usize> {
     None
 }
 
-// A text of so many pieces, and the number of its clusters, with the end of the last one and the bytes of its characters.
+// The number of the clusters of a text of so many pieces, the end of the last one, and the bytes of its characters.
 fn cut_of_many(
     alloc: Global,
     first: &[u8],
