@@ -1,11 +1,11 @@
 -- What stands at a cut of a text: an item, and behind it another cut.
-use Rattle.std.proofs.Common.{◌≡◌, ℕ, ◌+◌, ◌-◌, ◌<◌, ◌≤◌, Bool, true, false, not, ◌==◌, cond, List, [], ◌∷◌, ◌++◌, length, take, drop, get_or, refl, sym, ap, subst, ◌∙◌, arith, append_assoc, length-append, append-nil}
+use Rattle.std.proofs.Common.{◌≡◌, ℕ, ◌+◌, ◌-◌, ◌<◌, ◌≤◌, true, not, ◌==◌, cond, List, [], ◌∷◌, ◌++◌, length, take, drop, get_or, refl, sym, ap, subst, ◌∙◌, arith, append_assoc, length-append, append-nil}
 use Rattle.std.specs.Prelude.{encode_utf8}
 use Rattle.std.specs.List.{AllByRecursion, flat_map, prefix_len, take_while}
 use Rattle.std.proofs.lemmas.List.{drop_at, drop-drop, take_at, take_rest, get_or-drop}
 use Rattle.std.proofs.lemmas.List.Concat.{flat_map-append}
 use Rattle.std.proofs.lemmas.Bool.Decides.{nat_tests}
-use Rattle.tx_tree.specs.Texts.{Item, byte, symbol, item_bytes, IsItem, IsName, IsCut, is_name_byte, is_item_byte}
+use Rattle.tx_tree.specs.Texts.{Item, byte, symbol, item_bytes, IsItem, IsName, IsCut, is_name_byte}
 use Rattle.tx_text.specs.Tables.{byte_code}
 use Rattle.tx_text.specs.Displays.{item_text, display_text}
 use Rattle.tx_text.specs.Clusters.{items_of, item_at}

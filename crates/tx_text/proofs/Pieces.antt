@@ -1,14 +1,11 @@
 -- The clusters of a display text by their offsets.
-use Rattle.std.proofs.Common.{◌≡◌, ℕ, zero, suc, ◌+◌, ◌-◌, ◌<◌, ◌≤◌, true, List, [], ◌∷◌, ◌++◌, map, length, refl, sym, ap, ◌∙◌, subst, arith, append_assoc, length-append, append-nil}
+use Rattle.std.proofs.Common.{◌≡◌, ℕ, ◌+◌, ◌<◌, ◌≤◌, true, List, [], ◌∷◌, ◌++◌, map, length, sym, ap, ◌∙◌, arith, append_assoc, length-append, append-nil}
 use Rattle.std.specs.List.{All, concat}
 use Rattle.std.specs.Str.{IsUtf8}
-use Rattle.std.proofs.lemmas.List.Elements.{All-nil, All-cons, All-head, All-rest}
+use Rattle.std.proofs.lemmas.List.Elements.{All-nil, All-cons}
 use Rattle.unicode_segmentation.specs.Grapheme.{graphemes, is_grapheme_break}
 use Rattle.unicode_segmentation.specs.Segments.{with_offsets}
 use Rattle.unicode_segmentation.proofs.SegmentsLemmas.{AllPieces, segments_nonempty, concat-segments}
-use Rattle.tx_text.specs.Places.{cluster_at}
-use Rattle.tx_text.specs.declared.cutting.Stretch.{Stretch}
-use Rattle.tx_text.specs.declared.cutting.Cluster.{Cluster}
 
 -- a piece with its offset is not empty, and ends within so many bytes
 pub record IsInside (n : ℕ) (x : ℕ × List ℕ) : Type 0 where

@@ -1,11 +1,11 @@
 -- The items of a text, byte by byte.
-use Rattle.std.proofs.Common.{◌≡◌, ℕ, zero, suc, ◌+◌, ◌-◌, ◌<◌, ◌≤◌, Bool, true, false, ◌==◌, cond, List, [], ◌∷◌, ◌++◌, length, take, drop, get_or, replicate, Option, Some, None, refl, sym, ap, ap₂, ◌∙◌, subst, arith, append_assoc, length-append, eqb-true, append-nil}
+use Rattle.std.proofs.Common.{◌≡◌, ℕ, ◌+◌, ◌-◌, ◌<◌, ◌≤◌, Bool, true, false, ◌==◌, cond, List, [], ◌∷◌, ◌++◌, length, take, drop, get_or, replicate, Option, Some, None, refl, sym, ap, ap₂, ◌∙◌, subst, arith, append_assoc, length-append, append-nil}
 use Rattle.std.specs.Prelude.{slice_range}
 use Rattle.std.proofs.lemmas.List.{take_more, drop_more, get_or-drop, length-drop, length-take-le}
 use Rattle.std.proofs.Math.ListN.{length-replicate}
 use Rattle.std.specs.List.{AllByRecursion, flat_map}
 use Rattle.std.proofs.lemmas.Bool.Decides.{nat_tests}
-use Rattle.tx_tree.specs.Texts.{Item, byte, symbol, item_bytes, IsItem, is_name_byte, is_item_byte}
+use Rattle.tx_tree.specs.Texts.{Item, byte, symbol, item_bytes, IsItem, is_name_byte}
 use Rattle.tx_text.specs.Displays.{item_text, display_text}
 use Rattle.tx_text.specs.Clusters.{items_of, items_behind}
 use Rattle.tx_text.specs.Places.{spread}

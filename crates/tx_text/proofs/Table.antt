@@ -1,9 +1,9 @@
 -- The table of bytes is what the code's arrays say, by computing each of the 256 answers.
-use Rattle.std.proofs.Common.{◌≡◌, ℕ, zero, suc, ◌+◌, ◌-◌, ◌<◌, ◌≤◌, Bool, true, false, not, ◌&&◌, ◌||◌, ◌==◌, get_or, refl, sym, ap, ◌∙◌, inl, inr, arith}
+use Rattle.std.proofs.Common.{◌≡◌, ℕ, zero, suc, ◌+◌, ◌-◌, ◌<◌, ◌≤◌, Bool, true, not, ◌&&◌, ◌||◌, ◌==◌, get_or, refl, sym, ap, ◌∙◌, inl, inr, arith}
 use Rattle.std.specs.Int.{is_in_range}
 use Rattle.std.proofs.lemmas.Bool.{and_parts, cases_order}
 use Rattle.std.proofs.lemmas.Bool.Decides.{nat_tests}
-use Rattle.tx_text.specs.Tables.{byte_code, named_code, named_symbols, code_among}
+use Rattle.tx_text.specs.Tables.{byte_code}
 use Rattle.tx_text.specs.declared.tables.TheConstants.{FIRST, MIDDLE}
 
 all_below : (ℕ → Bool) → ℕ → Bool

@@ -1,7 +1,5 @@
-use Rattle.std.proofs.Common.{rules, ◌≡◌, ℕ, ◌+◌, ◌≤◌, ◌<◌, ◌++◌, ◌∷◌, [], List, length, map, sym, ap, ◌∙◌, subst, false, true, refl, append_assoc}
-use Rattle.std.specs.List.{All}
+use Rattle.std.proofs.Common.{length, refl}
 use Rattle.std.proofs.lemmas.List.Elements.{All-head, All-rest}
-use Rattle.unicode_segmentation.specs.Iter.{grapheme_indices_left}
 use Rattle.tx_text.specs.Places.{cluster_at}
 use Rattle.tx_text.proofs.Pieces.{IsInside, clusters_inside, cut_more, cut_all}
 use Rattle.tx_text.proofs.cutting.cut_display.Goals as goal

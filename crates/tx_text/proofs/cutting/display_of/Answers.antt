@@ -1,6 +1,5 @@
-use Rattle.std.proofs.Common.{rules, ◌≡◌, ℕ, ◌+◌, ◌≤◌, ◌<◌, ◌++◌, List, length, sym, ap, ◌∙◌, subst, false, true, refl}
-use Rattle.std.specs.Prelude.{string_bytes}
-use Rattle.tx_text.proofs.Reading.{ReadTo, shows_symbol, shows_byte, goes_on, begins}
+use Rattle.std.proofs.Common.{rules, refl}
+use Rattle.tx_text.proofs.Reading.{shows_symbol, shows_byte, goes_on, begins}
 use Rattle.tx_text.proofs.cutting.display_of.Goals as goal
 use Rattle.tx_text.proofs.cutting.display_of.Goals.{in-true-eq62+in_ok-add_symbol-in-true-eq62, in-true-default, in-false-eq60, in-false-default+in_ok-add_byte-in-false-default}
 

@@ -1,4 +1,4 @@
-use Rattle.std.proofs.Common.{◌≡◌, ◌==◌, not, take, ap, ◌∙◌}
+use Rattle.std.proofs.Common.{◌==◌, not, take, ap, ◌∙◌}
 use Rattle.std.proofs.lemmas.List.Folds.{length-prefix_len}
 use Rattle.tx_text.proofs.showing.name_of.Goals as goal
 

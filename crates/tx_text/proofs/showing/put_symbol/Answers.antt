@@ -1,4 +1,4 @@
-use Rattle.std.proofs.Common.{◌≡◌, ◌+◌, ◌≤◌, ◌∷◌, [], ◌++◌, length, drop, sym, ap, ◌∙◌, arith, length-append}
+use Rattle.std.proofs.Common.{◌+◌, ◌∷◌, [], ◌++◌, length, drop, sym, ap, ◌∙◌, arith, length-append}
 use Rattle.tx_text.proofs.Own.{own_text, symbol_put}
 use Rattle.tx_text.proofs.showing.put_symbol.Goals as goal
 

@@ -1,5 +1,4 @@
-use Rattle.std.proofs.Common.{◌≡◌, ◌+◌, ◌++◌, drop, length, refl, sym, ap, ◌∙◌, arith}
-use Rattle.tx_tree.specs.Texts.{byte, symbol}
+use Rattle.std.proofs.Common.{◌+◌, ◌++◌, drop, length, refl, sym, ap, ◌∙◌, arith}
 use Rattle.tx_text.proofs.AtCut.{symbol_here, byte_here, byte_shows, text_there, long_there, cut_behind, items_behind_it}
 use Rattle.tx_text.proofs.showing.show_item.Goals as goal
 
