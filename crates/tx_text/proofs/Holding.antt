@@ -1,6 +1,6 @@
 -- The places that a byte of a display text has are those of its item, and clusters lose no character.
-use Rattle.std.proofs.Common.{◌≡◌, ℕ, ◌+◌, ◌-◌, ◌<◌, ◌≤◌, true, inl, inr, List, [], ◌∷◌, ◌++◌, map, length, refl, sym, ap}
-use Rattle.std.proofs.Common.{◌∙◌, arith, length-append}
+use Rattle.std.proofs.Common.{◌≡◌, ℕ, ◌+◌, ◌-◌, ◌<◌, ◌≤◌, true, inl, inr, List, [], ◌∷◌, ◌++◌, map, length, refl, sym}
+use Rattle.std.proofs.Common.{ap, ◌∙◌, arith, length-append}
 use Rattle.std.specs.List.{concat, flat_map}
 use Rattle.std.specs.Str.{IsUtf8}
 use Rattle.std.proofs.lemmas.Bool.{cases_lt, cond_below, cond_above}
@@ -32,7 +32,8 @@ holds_from from (item ∷ items) n lt =
     length-append (item_text item) (display_text items) in
     elim (cases_lt n k) [
       | inl low ↦
-          let starts : from ≡ item_start from (item ∷ items) n = cond_below n k from (item_start next items (n - k)) low in
+          let starts : from ≡ item_start from (item ∷ items) n =
+          cond_below n k from (item_start next items (n - k)) low in
           let stops : next ≡ item_end from (item ∷ items) n = cond_below n k next (item_end next items (n - k)) low in
           record {
             before = [];
@@ -69,7 +70,8 @@ holds_from from (item ∷ items) n lt =
           }
     ]
 
-pub holds : (items : List Item) (n : ℕ) → n < length (display_text items) → HoldsByte items n (item_start 0 items n) (item_end 0 items n)
+pub holds : (items : List Item) (n : ℕ) → n < length (display_text items)
+    → HoldsByte items n (item_start 0 items n) (item_end 0 items n)
 holds items n lt =
     let found = holds_from 0 items n lt in
     let starts = found.starts in
@@ -91,6 +93,8 @@ glyphs_of items at [] = refl
 glyphs_of items at (piece ∷ pieces) = ap (λ l. piece ++ l) (glyphs_of items (at + length piece) pieces)
 
 -- the characters of all clusters are the display text
-pub whole : (items : List Item) → IsUtf8 (display_text items) → flat_map (λ cluster. cluster.glyphs) (clusters_of items) ≡ display_text items
+pub whole : (items : List Item) → IsUtf8 (display_text items)
+    → flat_map (λ cluster. cluster.glyphs) (clusters_of items) ≡ display_text items
 whole items utf8 =
-    glyphs_of items 0 (graphemes true (display_text items)) ∙ concat-segments (is_grapheme_break true) (display_text items) utf8
+    glyphs_of items 0 (graphemes true (display_text items))
+    ∙ concat-segments (is_grapheme_break true) (display_text items) utf8

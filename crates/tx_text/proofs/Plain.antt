@@ -1,5 +1,7 @@
 -- Plain bytes are a cluster each.
-use Rattle.std.proofs.Common.{◌≡◌, ◌≢◌, ℕ, zero, suc, ◌+◌, ◌-◌, ◌<◌, ◌≤◌, true, false, not, ◌&&◌, ◌||◌, ◌==◌, cond, min, List, [], ◌∷◌, ◌++◌, map, length, get_or, slice_index, replicate, Some, None, refl, sym, ap, ap₂, ◌∙◌, subst, arith, append_assoc, length-append, append-nil, lit<}
+use Rattle.std.proofs.Common.{◌≡◌, ◌≢◌, ℕ, zero, suc, ◌+◌, ◌-◌, ◌<◌, ◌≤◌, Bool, true, false, not, ◌&&◌, ◌||◌, ◌==◌}
+use Rattle.std.proofs.Common.{cond, min, List, [], ◌∷◌, ◌++◌, map, length, get_or, slice_index, replicate, Some, None}
+use Rattle.std.proofs.Common.{refl, sym, ap, ap₂, ◌∙◌, subst, arith, append_assoc, length-append, append-nil, lit<}
 use Rattle.std.specs.Prelude.{encode_utf8, encode_utf8_all}
 use Rattle.std.specs.Int.{is_in_range}
 use Rattle.std.specs.List.{list_all}
@@ -10,8 +12,10 @@ use Rattle.std.proofs.lemmas.Bool.Decides.{nat_tests}
 use Rattle.std.proofs.lemmas.Str.{chars-IsAscii, encode_ascii, IsUtf8-from_ascii}
 use Rattle.ucd_table.proofs.Facts.{Stepped-below}
 use Rattle.ucd_breaks.specs.GraphemeClusterBreak.{grapheme_cluster_break, grapheme_cluster_break_number}
+use Rattle.ucd_breaks.specs.declared.GraphemeClusterBreak.{GraphemeClusterBreak}
 use Rattle.ucd_breaks.specs.declared.GraphemeClusterBreak.TheVariants.{Other}
-use Rattle.ucd_breaks.proofs.GraphemeClusterBreakLemmas.{grapheme_cluster_break_stepped, grapheme_cluster_break_number_injective}
+use Rattle.ucd_breaks.proofs.GraphemeClusterBreakLemmas.{grapheme_cluster_break_stepped}
+use Rattle.ucd_breaks.proofs.GraphemeClusterBreakLemmas.{grapheme_cluster_break_number_injective}
 use Rattle.ucd_breaks.proofs.Computing.{ucd_breaks}
 use Rattle.unicode_segmentation.specs.Grapheme.{graphemes, is_grapheme_break}
 use Rattle.unicode_segmentation.specs.Segments.{prepend, cut, segments, with_offsets}
@@ -32,10 +36,14 @@ eq_from_test : (a b : ℕ) → (a == b) ≡ true → a ≡ b
 eq_from_test a b h = grind (arith, nat_tests)
 
 -- no table speaks of a plain byte
-plain_other_below : (c : ℕ) → c < 127 → (not (is_in_range 32 126 c) || (grapheme_cluster_break_number (grapheme_cluster_break c) == grapheme_cluster_break_number Other)) ≡ true
+abbrev is_other : GraphemeClusterBreak → Bool
+is_other value = grapheme_cluster_break_number value == grapheme_cluster_break_number Other
+
+plain_other_below : (c : ℕ) → c < 127 → (not (is_in_range 32 126 c) || is_other (grapheme_cluster_break c)) ≡ true
 unfolding ucd_breaks
 plain_other_below c below =
-    Stepped-below grapheme_cluster_break grapheme_cluster_break_stepped (λ x v. not (is_in_range 32 126 x) || (grapheme_cluster_break_number v == grapheme_cluster_break_number Other)) 127 refl c below
+    Stepped-below grapheme_cluster_break grapheme_cluster_break_stepped
+    (λ x value. not (is_in_range 32 126 x) || is_other value) 127 refl c below
 
 pub record IsPlain (b : ℕ) : Type 0 where
   pub low : 32 ≤ b
@@ -43,7 +51,8 @@ pub record IsPlain (b : ℕ) : Type 0 where
   pub no_open : b ≢ 60
 
 plain_fact : (b : ℕ) → is_plain_byte b ≡ true → IsPlain b
-plain_fact b h = record { low = grind (arith, nat_tests); high = grind (arith, nat_tests); no_open = λ e. grind (arith, nat_tests) }
+plain_fact b h =
+    record { low = grind (arith, nat_tests); high = grind (arith, nat_tests); no_open = λ e. grind (arith, nat_tests) }
 
 plain_range : (b : ℕ) → IsPlain b → is_in_range 32 126 b ≡ true
 plain_range b h = let l = h.low in let k = h.high in grind (arith, nat_tests)
@@ -51,10 +60,11 @@ plain_range b h = let l = h.low in let k = h.high in grind (arith, nat_tests)
 plain_other : (b : ℕ) → IsPlain b → Other ≡ grapheme_cluster_break b
 plain_other b h =
     let top = h.high in
-    let t : (not (is_in_range 32 126 b) || (grapheme_cluster_break_number (grapheme_cluster_break b) == grapheme_cluster_break_number Other)) ≡ true = plain_other_below b (omega arith) in
-    let inside : (grapheme_cluster_break_number (grapheme_cluster_break b) == grapheme_cluster_break_number Other) ≡ true =
-    ap (λ r. not r || (grapheme_cluster_break_number (grapheme_cluster_break b) == grapheme_cluster_break_number Other)) (sym (plain_range b h)) ∙ t in
-    sym (grapheme_cluster_break_number_injective (grapheme_cluster_break b) Other (eq_from_test _ _ inside))
+    let test : (not (is_in_range 32 126 b) || is_other (grapheme_cluster_break b)) ≡ true =
+    plain_other_below b (omega arith) in
+    let other : is_other (grapheme_cluster_break b) ≡ true =
+    ap (λ r. not r || is_other (grapheme_cluster_break b)) (sym (plain_range b h)) ∙ test in
+    sym (grapheme_cluster_break_number_injective (grapheme_cluster_break b) Other (eq_from_test _ _ other))
 
 -- plain bytes, one behind another
 abbrev pub ArePlain : List ℕ → Type 0
@@ -63,14 +73,17 @@ ArePlain (b ∷ bs) = IsPlain b × ArePlain bs
 
 pub plain_from_test : (bs : List ℕ) → list_all is_plain_byte bs ≡ true → ArePlain bs
 plain_from_test [] h = tt
-plain_from_test (b ∷ bs) h = let parts = and_parts (is_plain_byte b) (list_all is_plain_byte bs) h in (plain_fact b parts.0, plain_from_test bs parts.1)
+plain_from_test (b ∷ bs) h =
+    let parts = and_parts (is_plain_byte b) (list_all is_plain_byte bs) h in
+    (plain_fact b parts.0, plain_from_test bs parts.1)
 
 -- 1. they are items
 plain_items : (bs : List ℕ) → ArePlain bs → items_behind None bs ≡ map byte bs
 plain_items [] h = refl
 plain_items (b ∷ bs) h =
     let other : (b == 60) ≡ false = let n = h.0.no_open in grind (arith, nat_tests) in
-    ap (λ t. cond t (items_behind (Some []) bs) (byte b ∷ items_behind None bs)) other ∙ ap (λ items. byte b ∷ items) (plain_items bs h.1)
+    ap (λ t. cond t (items_behind (Some []) bs) (byte b ∷ items_behind None bs)) other
+    ∙ ap (λ items. byte b ∷ items) (plain_items bs h.1)
 
 -- 2. they show as themselves
 plain_shown : (b : ℕ) → IsPlain b → item_text (byte b) ≡ b ∷ []
@@ -88,19 +101,23 @@ plain_display (b ∷ bs) h = ap₂ (λ x y. x ++ y) (plain_shown b h.0) (plain_d
 abbrev single : ℕ → List ℕ
 single b = b ∷ []
 
-plain_break : (before : List ℕ) (b : ℕ) (bs : List ℕ) → IsPlain b → ArePlain bs → is_grapheme_break true (b ∷ before) (bs ++ []) ≡ true
+plain_break : (before : List ℕ) (b : ℕ) (bs : List ℕ) → IsPlain b → ArePlain bs
+    → is_grapheme_break true (b ∷ before) (bs ++ []) ≡ true
 unfolding is_grapheme_break
 plain_break before b [] p ps = refl
 plain_break before b (c ∷ bs) p ps =
     let top = ps.0.high in
-    sym (is_grapheme_break-others true (b ∷ before) c (bs ++ []) (omega arith) (omega arith) (plain_other b p) (plain_other c ps.0))
+    sym
+    (is_grapheme_break-others true (b ∷ before) c (bs ++ []) (omega arith) (omega arith) (plain_other b p)
+    (plain_other c ps.0))
 
 plain_cut : (before bs : List ℕ) → ArePlain bs → cut (is_grapheme_break true) before bs [] ≡ map single bs
 unfolding cut
 plain_cut before [] h = refl
 plain_cut before (b ∷ bs) h =
     let rest : List (List ℕ) = cut (is_grapheme_break true) (b ∷ before) bs [] in
-    ap (λ t. cond t ((b ∷ []) ∷ rest) (prepend (b ∷ []) rest)) (plain_break before b bs h.0 h.1) ∙ ap (λ ps. (b ∷ []) ∷ ps) (plain_cut (b ∷ before) bs h.1)
+    ap (λ t. cond t ((b ∷ []) ∷ rest) (prepend (b ∷ []) rest)) (plain_break before b bs h.0 h.1)
+    ∙ ap (λ ps. (b ∷ []) ∷ ps) (plain_cut (b ∷ before) bs h.1)
 
 plain_ascii : (bs : List ℕ) → ArePlain bs → (i : ℕ) → slice_index bs i < 128
 plain_ascii [] h i = lit< tt
@@ -125,13 +142,18 @@ plain_width b h =
     ap (str_width false) (chars-IsAscii (b ∷ []) (plain_ascii (b ∷ []) (h, tt)))
     ∙ str_width-printable false (b ∷ []) (ap (λ t. t && true) (plain_range b h))
 
-plain_spread : (at b : ℕ) (bs : List ℕ) → IsPlain b → spread at (map byte (b ∷ bs)) ≡ record { from = at; to = at + 1 } ∷ spread (at + 1) (map byte bs)
-plain_spread at b bs h = ap (λ shown. replicate (length shown) (record { from = at; to = at + 1 }) ++ spread (at + 1) (map byte bs)) (plain_shown b h)
+plain_spread : (at b : ℕ) (bs : List ℕ) → IsPlain b
+    → spread at (map byte (b ∷ bs)) ≡ record { from = at; to = at + 1 } ∷ spread (at + 1) (map byte bs)
+plain_spread at b bs h =
+    ap (λ shown. replicate (length shown) (record { from = at; to = at + 1 }) ++ spread (at + 1) (map byte bs))
+    (plain_shown b h)
 
-plain_head : (places : List Stretch) (at b : ℕ) → IsPlain b → get_or places at nowhere ≡ record { from = at; to = at + 1 }
+plain_head : (places : List Stretch) (at b : ℕ) → IsPlain b
+    → get_or places at nowhere ≡ record { from = at; to = at + 1 }
     → cluster_at places (at, b ∷ []) ≡ record { glyphs = b ∷ []; cells = 1; start = at; len = 1 }
 plain_head places at b h there =
-    let made : ℕ → Stretch → Stretch → Cluster = λ w f l. record { glyphs = b ∷ []; cells = min 2 w; start = f.from; len = l.to - f.from } in
+    let made : ℕ → Stretch → Stretch → Cluster =
+    λ w f l. record { glyphs = b ∷ []; cells = min 2 w; start = f.from; len = l.to - f.from } in
     let stand : Stretch = record { from = at; to = at + 1 } in
     let place : at + 1 - 1 ≡ at = omega arith in
     let one : at + 1 - at ≡ 1 = omega arith in
@@ -148,18 +170,24 @@ plain_at front at (b ∷ bs) h e =
     let here : Stretch = record { from = at; to = at + 1 } in
     let later : List Stretch = spread (at + 1) (map byte bs) in
     let whole : List Stretch = front ++ here ∷ later in
-    let Q : List Stretch → Type 0 = λ places. map (cluster_at places) (with_offsets (at + 1) (map single bs)) ≡ plain_clusters (at + 1) bs in
+    let Q : List Stretch → Type 0 =
+    λ places. map (cluster_at places) (with_offsets (at + 1) (map single bs)) ≡ plain_clusters (at + 1) bs in
     let longer : length (front ++ here ∷ []) ≡ at + 1 = length-append front (here ∷ []) ∙ ap (λ n. n + 1) e in
-    let there : get_or whole at nowhere ≡ here = ap (λ n. get_or whole n nowhere) (sym e) ∙ get_or-append_seam front here later nowhere in
-    let head : cluster_at whole (at, b ∷ []) ≡ record { glyphs = b ∷ []; cells = 1; start = at; len = 1 } = plain_head whole at b h.0 there in
-    let tail : Q whole = subst Q (append_assoc front (here ∷ []) later) (plain_at (front ++ here ∷ []) (at + 1) bs h.1 longer) in
-    ap (λ places. map (cluster_at (front ++ places)) (with_offsets at (map single (b ∷ bs)))) (plain_spread at b bs h.0) ∙ ap₂ (λ x xs. x ∷ xs) head tail
+    let there : get_or whole at nowhere ≡ here =
+    ap (λ n. get_or whole n nowhere) (sym e) ∙ get_or-append_seam front here later nowhere in
+    let head : cluster_at whole (at, b ∷ []) ≡ record { glyphs = b ∷ []; cells = 1; start = at; len = 1 } =
+    plain_head whole at b h.0 there in
+    let tail : Q whole =
+    subst Q (append_assoc front (here ∷ []) later) (plain_at (front ++ here ∷ []) (at + 1) bs h.1 longer) in
+    ap (λ places. map (cluster_at (front ++ places)) (with_offsets at (map single (b ∷ bs))))
+    (plain_spread at b bs h.0) ∙ ap₂ (λ x xs. x ∷ xs) head tail
 
 -- plain bytes are clusters, each where it stands
 pub plain_text : (bs : List ℕ) → ArePlain bs → clusters_of (items_of bs) ≡ plain_clusters 0 bs
 plain_text bs h =
     let itself : display_text (map byte bs) ≡ bs = plain_display bs h in
-    let utf8 : IsUtf8 (display_text (map byte bs)) = subst IsUtf8 (sym itself) (IsUtf8-from_ascii bs (plain_ascii bs h)) in
+    let utf8 : IsUtf8 (display_text (map byte bs)) =
+    subst IsUtf8 (sym itself) (IsUtf8-from_ascii bs (plain_ascii bs h)) in
     ap clusters_of (plain_items bs h)
     ∙ sym (by_places (map byte bs) utf8)
     ∙ ap (λ text. map (cluster_at (spread 0 (map byte bs))) (with_offsets 0 (graphemes true text))) itself
@@ -172,4 +200,5 @@ plain_by_test bs h = plain_text bs (plain_from_test bs h)
 pub plain_utf8 : (bs : List ℕ) → list_all is_plain_byte bs ≡ true → IsUtf8 (display_text (items_of bs))
 plain_utf8 bs h =
     let plain = plain_from_test bs h in
-    subst IsUtf8 (sym (ap display_text (plain_items bs plain) ∙ plain_display bs plain)) (IsUtf8-from_ascii bs (plain_ascii bs plain))
+    subst IsUtf8 (sym (ap display_text (plain_items bs plain) ∙ plain_display bs plain))
+    (IsUtf8-from_ascii bs (plain_ascii bs plain))

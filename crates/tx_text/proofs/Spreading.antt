@@ -1,5 +1,6 @@
 -- The stretches of a display text say where its items begin and end, so clusters by stretches are those by items.
-use Rattle.std.proofs.Common.{◌≡◌, ℕ, ◌+◌, ◌-◌, ◌<◌, ◌≤◌, false, true, inl, inr, min, List, [], ◌∷◌, ◌++◌, map, length, get_or, replicate, refl, ap, subst, ap₂, ◌∙◌, arith, length-append}
+use Rattle.std.proofs.Common.{◌≡◌, ℕ, ◌+◌, ◌-◌, ◌<◌, ◌≤◌, false, true, inl, inr, min, List, [], ◌∷◌, ◌++◌, map, length}
+use Rattle.std.proofs.Common.{get_or, replicate, refl, ap, subst, ap₂, ◌∙◌, arith, length-append}
 use Rattle.std.specs.Prelude.{chars}
 use Rattle.std.specs.List.{All}
 use Rattle.std.specs.Str.{IsUtf8}
@@ -26,11 +27,14 @@ spread_at from (item ∷ items) n lt =
     let here : Stretch = record { from = from; to = after } in
     let both : ℕ → ℕ → Stretch = λ f t. record { from = f; to = t } in
     let later : ℕ = n - k in
-    let long : length (item_text item ++ display_text items) ≡ k + length (display_text items) = length-append (item_text item) (display_text items) in
+    let long : length (item_text item ++ display_text items) ≡ k + length (display_text items) =
+    length-append (item_text item) (display_text items) in
     elim (cases_lt n k) [
       | inl low ↦
-          get_or_append_left (replicate k here) (spread after items) nowhere n (omega (arith, length-replicate k here)) ∙ get_or-replicate k n here nowhere low
-          ∙ ap₂ both (cond_below n k from (item_start after items later) low) (cond_below n k after (item_end after items later) low)
+          get_or_append_left (replicate k here) (spread after items) nowhere n
+          (omega (arith, length-replicate k here)) ∙ get_or-replicate k n here nowhere low
+          ∙ ap₂ both (cond_below n k from (item_start after items later) low)
+          (cond_below n k after (item_end after items later) low)
       | inr high ↦
           get_or-append_right (replicate k here) (spread after items) k n nowhere (length-replicate k here) high
           ∙ spread_at after items later (omega arith)
@@ -38,11 +42,14 @@ spread_at from (item ∷ items) n lt =
           (cond_above n k after (item_end after items later) (item_end after items later) high refl)
     ]
 
-same_cluster : (items : List Item) (x : ℕ × List ℕ) → IsInside (length (display_text items)) x → cluster_at (spread 0 items) x ≡ cluster_of items x
+same_cluster : (items : List Item) (x : ℕ × List ℕ) → IsInside (length (display_text items)) x
+    → cluster_at (spread 0 items) x ≡ cluster_of items x
 same_cluster items (n, glyphs) inside =
     let some = inside.some in
     let within = inside.within in
-    let made : Stretch → Stretch → Cluster = λ f l. record { glyphs = glyphs; cells = min 2 (str_width false (chars glyphs)); start = f.from; len = l.to - f.from } in
+    let made : Stretch → Stretch → Cluster =
+    λ f l. record
+    { glyphs = glyphs; cells = min 2 (str_width false (chars glyphs)); start = f.from; len = l.to - f.from } in
     ap₂ made (spread_at 0 items n (omega arith)) (spread_at 0 items (n + length glyphs - 1) (omega arith))
 
 same_clusters : (items : List Item) (xs : List (ℕ × List ℕ)) → All (IsInside (length (display_text items))) xs
@@ -66,11 +73,14 @@ narrow items =
     let least : (w : ℕ) → min 2 w ≤ 2 = λ w. omega arith in
     let P : Cluster → Type 0 = λ cluster. cluster.cells ≤ 2 in
     All-map P (cluster_of items) pieces
-    (All-from_get_or (λ x. P (cluster_of items x)) pieces (0, []) (λ i lt. least (str_width false (chars (get_or pieces i (0, [])).1))))
+    (All-from_get_or (λ x. P (cluster_of items x)) pieces (0, [])
+    (λ i lt. least (str_width false (chars (get_or pieces i (0, [])).1))))
 
 -- the clusters of a display text that was read from bytes
-pub cut_is : (text bytes shown : List ℕ) (places : List Stretch) → bytes ≡ text → shown ≡ display_text (items_of bytes) → places ≡ spread 0 (items_of bytes)
+pub cut_is : (text bytes shown : List ℕ) (places : List Stretch) → bytes ≡ text
+    → shown ≡ display_text (items_of bytes) → places ≡ spread 0 (items_of bytes)
     → IsUtf8 shown → map (cluster_at places) (with_offsets 0 (graphemes true shown)) ≡ clusters_of (items_of text)
 cut_is text bytes shown places same e f utf8 =
-    ap₂ (λ ps t. map (cluster_at ps) (with_offsets 0 (graphemes true t))) f e ∙ by_places (items_of bytes) (subst IsUtf8 e utf8)
+    ap₂ (λ ps t. map (cluster_at ps) (with_offsets 0 (graphemes true t))) f e
+    ∙ by_places (items_of bytes) (subst IsUtf8 e utf8)
     ∙ ap (λ b. clusters_of (items_of b)) same

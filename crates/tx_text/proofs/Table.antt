@@ -1,5 +1,6 @@
 -- The table of bytes is what the code's arrays say, by computing each of the 256 answers.
-use Rattle.std.proofs.Common.{◌≡◌, ℕ, zero, suc, ◌+◌, ◌-◌, ◌<◌, ◌≤◌, Bool, true, not, ◌&&◌, ◌||◌, ◌==◌, get_or, refl, sym, ap, ◌∙◌, inl, inr, arith}
+use Rattle.std.proofs.Common.{◌≡◌, ℕ, zero, suc, ◌+◌, ◌-◌, ◌<◌, ◌≤◌, Bool, true, not, ◌&&◌, ◌||◌, ◌==◌, get_or, refl}
+use Rattle.std.proofs.Common.{sym, ap, ◌∙◌, inl, inr, arith}
 use Rattle.std.specs.Int.{is_in_range}
 use Rattle.std.proofs.lemmas.Bool.{and_parts, cases_order}
 use Rattle.std.proofs.lemmas.Bool.Decides.{nat_tests}
@@ -28,14 +29,17 @@ eq_from_test a b h = grind (arith, nat_tests)
 pub first_code : (b i : ℕ) → i ≡ b → b ≤ 31 → get_or FIRST i 0 ≡ byte_code b
 unfolding byte_code all_below
 first_code b i e le =
-    ap (λ x. get_or FIRST x 0) e ∙ eq_from_test (get_or FIRST b 0) (byte_code b) (all_below-at (λ x. get_or FIRST x 0 == byte_code x) 32 refl b (omega arith))
+    ap (λ x. get_or FIRST x 0) e
+    ∙ eq_from_test (get_or FIRST b 0) (byte_code b)
+    (all_below-at (λ x. get_or FIRST x 0 == byte_code x) 32 refl b (omega arith))
 
 pub middle_code : (b i : ℕ) → i ≡ b → 127 ≤ b → b ≤ 191 → get_or MIDDLE (i - 127) 0 ≡ byte_code b
 unfolding byte_code all_below
 middle_code b i e low high =
     let back : 127 + (b - 127) ≡ b = omega arith in
     ap (λ x. get_or MIDDLE (x - 127) 0) e
-    ∙ eq_from_test (get_or MIDDLE (b - 127) 0) (byte_code (127 + (b - 127))) (all_below-at (λ x. get_or MIDDLE x 0 == byte_code (127 + x)) 65 refl (b - 127) (omega arith))
+    ∙ eq_from_test (get_or MIDDLE (b - 127) 0) (byte_code (127 + (b - 127)))
+    (all_below-at (λ x. get_or MIDDLE x 0 == byte_code (127 + x)) 65 refl (b - 127) (omega arith))
     ∙ ap byte_code back
 
 pub byte_code-215 : 338 ≡ byte_code 215
@@ -68,7 +72,8 @@ pub ascii_code : (b i : ℕ) → i ≡ b → 32 ≤ b → b ≤ 126 → i ≡ by
 unfolding shows_itself
 ascii_code b i e low high = e ∙ sym (itself b (omega arith) (grind (arith, nat_tests)))
 
-pub late_code : (b i : ℕ) → i ≡ b → b < 256 → (b < 192 → ⊥) → (b ≡ 215 → ⊥) → (b ≡ 223 → ⊥) → (b ≡ 247 → ⊥) → (b ≡ 255 → ⊥) → i ≡ byte_code b
+pub late_code : (b i : ℕ) → i ≡ b → b < 256 → (b < 192 → ⊥) → (b ≡ 215 → ⊥) → (b ≡ 223 → ⊥) → (b ≡ 247 → ⊥)
+    → (b ≡ 255 → ⊥) → i ≡ byte_code b
 unfolding shows_itself
 late_code b i e lt low n1 n2 n3 n4 = e ∙ sym (itself b lt (grind (arith, nat_tests)))
 

@@ -1,7 +1,7 @@
--- The clusters of a text: its display text cut into extended grapheme clusters, each with the part of the text that shows
--- as it.
-use Rattle.std.specs.Prelude.{◌≡◌, ℕ, ◌+◌, ◌-◌, ◌≤◌, ◌<◌, ◌==◌, nat_lt, min, false, true, List, [], ◌∷◌, ◌++◌, map, length, take, drop}
-use Rattle.std.specs.Prelude.{chars, Option, Some, None, if◌then◌else◌}
+-- The clusters of a text: its display text cut into extended grapheme clusters, each with the part of the text that
+-- shows as it.
+use Rattle.std.specs.Prelude.{◌≡◌, ℕ, ◌+◌, ◌-◌, ◌≤◌, ◌<◌, ◌==◌, nat_lt, min, false, true, List, [], ◌∷◌, ◌++◌, map}
+use Rattle.std.specs.Prelude.{length, take, drop, chars, Option, Some, None, if◌then◌else◌}
 use Rattle.std.specs.List.{flat_map}
 use Rattle.tx_tree.specs.Texts.{Item, byte, symbol, item_bytes}
 use Rattle.unicode_segmentation.specs.Grapheme.{graphemes}
@@ -47,7 +47,8 @@ pub record HoldsByte (items : List Item) (n start stop : ℕ) : Type 0 where
   pub not_before : length (display_text before) ≤ n
   pub not_after : n < length (display_text before) + length (item_text item)
 
--- A cluster by where it begins in the display text of items, and its characters: it stands for the text from the start of
+-- A cluster by where it begins in the display text of items, and its characters: it stands for the text from the start
+-- of
 -- the item of its first byte to the end of the item of its last.
 abbrev pub cluster_of : List Item → ℕ × List ℕ → Cluster
 cluster_of items (n, glyphs) =

@@ -1,7 +1,7 @@
 -- Where the bytes of a display text come from, byte by byte, and clusters of plain bytes.
 use Rattle.std.specs.Int.{is_in_range}
-use Rattle.std.specs.Prelude.{ℕ, Bool, not, ◌&&◌, ◌+◌, ◌-◌, ◌==◌, min, false, List, [], ◌∷◌, ◌++◌, length, get_or, replicate}
-use Rattle.std.specs.Prelude.{chars}
+use Rattle.std.specs.Prelude.{ℕ, Bool, not, ◌&&◌, ◌+◌, ◌-◌, ◌==◌, min, false, List, [], ◌∷◌, ◌++◌, length, get_or}
+use Rattle.std.specs.Prelude.{replicate, chars}
 use Rattle.tx_tree.specs.Texts.{Item, item_bytes}
 use Rattle.unicode_width.specs.Width.{str_width}
 use Rattle.tx_text.specs.Displays.{item_text}

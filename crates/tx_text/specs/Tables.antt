@@ -1,10 +1,9 @@
 -- The tables of what is shown: bytes by rows, and symbols by name.
-use Rattle.std.specs.Prelude.{ℕ, ◌+◌, ◌-◌, ◌&&◌, nat_le, nat_lt, List, [], ◌∷◌, ◌++◌, length, get_or, Option, Some, None}
-use Rattle.std.specs.Prelude.{if◌then◌else◌, codes}
+use Rattle.std.specs.Prelude.{ℕ, ◌+◌, ◌-◌, ◌&&◌, nat_le, nat_lt, List, [], ◌∷◌, ◌++◌, length, get_or, Option, Some}
+use Rattle.std.specs.Prelude.{None, if◌then◌else◌, codes}
 use Rattle.std.specs.Str.{bytes_eq}
 
--- The rows of the table of bytes, each by its first byte, with the code points that this byte and those behind it show
--- as.
+-- The rows of the table of bytes: a first byte, and what it and those behind it show as.
 abbrev pub byte_rows : List (ℕ × List ℕ)
 byte_rows =
     (0, 0x60 ∷ 0xB4 ∷ 0x2C6 ∷ 0x2DC ∷ 0xA8 ∷ 0x2DD ∷ 0x2DA ∷ 0x2C7 ∷ 0x2D8 ∷ []) ∷

@@ -66,7 +66,8 @@ impl DisplayText {
     fn add_byte(&mut self, byte: u8, here: Stretch) -> Result<(), Memory>
         requires { length self.old.places.items ≡ length (string_bytes self.old.text) }
         ensures text { OnOk result (string_bytes self.new.text ≡ string_bytes self.old.text ++ item_text (Byte byte)) }
-        ensures places { OnOk result (self.new.places.items ≡ self.old.places.items ++ replicate (length (item_text (Byte byte))) here) }
+        ensures places { OnOk result (self.new.places.items
+            ≡ self.old.places.items ++ replicate (length (item_text (Byte byte))) here) }
     {
         push_byte(&mut self.text, byte)?;
         self.places.resize(self.text.len(), here)?;
@@ -76,8 +77,10 @@ impl DisplayText {
     // Adds the display text of the symbol that stands here.
     fn add_symbol(&mut self, name: &[u8], here: Stretch) -> Result<(), Memory>
         requires { length self.old.places.items ≡ length (string_bytes self.old.text) }
-        ensures text { OnOk result (string_bytes self.new.text ≡ string_bytes self.old.text ++ item_text (Symbol name.now)) }
-        ensures places { OnOk result (self.new.places.items ≡ self.old.places.items ++ replicate (length (item_text (Symbol name.now))) here) }
+        ensures text { OnOk result (string_bytes self.new.text
+            ≡ string_bytes self.old.text ++ item_text (Symbol name.now)) }
+        ensures places { OnOk result (self.new.places.items
+            ≡ self.old.places.items ++ replicate (length (item_text (Symbol name.now))) here) }
     {
         push_symbol(&mut self.text, name)?;
         self.places.resize(self.text.len(), here)?;
@@ -140,7 +143,8 @@ fn cluster_at(alloc: Global, places: &[Stretch], at: usize, glyphs: &str) -> Res
 // The clusters of a display text whose bytes come from these places.
 fn cut_display(alloc: Global, display: &str, places: &[Stretch]) -> Result<Vec<Cluster>, Memory>
     requires { length display.now ≤ length places.now }
-    ensures { IfOk result (λ found. found.items ≡ map (cluster_at places.now) (with_offsets 0 (graphemes true display.now))) }
+    ensures { IfOk result (λ found. found.items
+        ≡ map (cluster_at places.now) (with_offsets 0 (graphemes true display.now))) }
 {
     let mut found = Vec::new(alloc);
     for (at, glyphs) in display.grapheme_indices(true) {
@@ -175,11 +179,12 @@ fn plain_clusters(alloc: Global, bytes: &[u8]) -> Result<Vec<Cluster>, Memory>
     Ok(found)
 }
 
-/// The clusters of a text, in order: the extended grapheme clusters of its display text. Their characters, one after the
-/// other, are the display text. The one error is want of memory.
+/// The clusters of a text, in order: the extended grapheme clusters of its display text. Their characters, one after
+/// the other, are the display text. The one error is want of memory.
 pub fn clusters(alloc: Global, text: &Text) -> Result<Vec<Cluster>, Memory>
     ensures clusters { IfOk result (λ found. found.items ≡ clusters_of (items_of text.now)) }
-    ensures whole { IfOk result (λ found. flat_map (λ cluster. cluster.glyphs) found.items ≡ display_text (items_of text.now)) }
+    ensures whole { IfOk result (λ found. flat_map (λ cluster. cluster.glyphs) found.items
+        ≡ display_text (items_of text.now)) }
     ensures narrow { IfOk result (λ found. All (λ cluster. cluster.cells ≤ 2) found.items) }
 {
     let bytes = text.bytes();
@@ -190,8 +195,8 @@ pub fn clusters(alloc: Global, text: &Text) -> Result<Vec<Cluster>, Memory>
     cut_display(alloc, display.text.as_str(), &display.places)
 }
 
-/// What the definition of clusters rests on: the items of the bytes that items spell are these items, and the two places
-/// that a byte of their display text has in the text are those of the one item that it is a byte of.
+/// What the definition of clusters rests on: the items of the bytes that items spell are these items, and the two
+/// places that a byte of their display text has in the text are those of the one item that it is a byte of.
 pub fn cluster_laws()
     ensures items { (items : List Item) → AllByRecursion IsItem items → items_of (flat_map item_bytes items) ≡ items }
     ensures places { (items : List Item) (n : ℕ) → n < length (display_text items)

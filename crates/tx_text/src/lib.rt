@@ -1,5 +1,5 @@
-//! Display texts of the items of a text, and its clusters: the extended grapheme clusters of its display text, with their
-//! widths.
+//! Display texts of the items of a text, and its clusters: the extended grapheme clusters of its display text, with
+//! their widths.
 #![tactic(auto)]
 
 mod cutting;

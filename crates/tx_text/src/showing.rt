@@ -57,21 +57,23 @@ fn name_of(bytes: &[u8]) -> &[u8]
     &bytes[..name_len(bytes)]
 }
 
-/// Puts the display text of the item that begins at a cut of a text at the start of a buffer, in UTF-8, and answers the
-/// number of its bytes, at most 50, and the cut behind the item. None comes exactly at the end of the text, and the buffer
-/// is then as before. It takes no memory.
+/// Puts the display text of the item that begins at a cut of a text at the start of a buffer, in UTF-8, and answers
+/// the number of its bytes, at most 50, and the cut behind the item. None comes exactly at the end of the text, and
+/// the buffer is then as before. It takes no memory.
 pub fn show_item(text: &Text, at: usize, into: &mut [u8]) -> Option<(usize, usize)>
     requires cut { IsCut text.now at }
     requires room { 300 ≤ length into.old }
     ensures at_end { (result ≡ None) ↔ (at ≡ length text.now) }
     ensures untouched { result ≡ None → into.new ≡ into.old }
-    ensures shown { IfSome result (λ (count, next). into.new ≡ display_text (item_at text.now at) ++ drop count into.old) }
+    ensures shown { IfSome result (λ (count, next). into.new
+        ≡ display_text (item_at text.now at) ++ drop count into.old) }
     ensures count { IfSome result (λ (count, next). count ≡ length (display_text (item_at text.now at))) }
     ensures short { IfSome result (λ (count, next). count ≤ 50) }
     ensures next { IfSome result (λ (count, next). next ≡ at + length (flat_map item_bytes (item_at text.now at))) }
     ensures further { IfSome result (λ (count, next). at < next) }
     ensures next_cut { IfSome result (λ (count, next). IsCut text.now next) }
-    ensures rest { IfSome result (λ (count, next). items_of (drop at text.now) ≡ item_at text.now at ++ items_of (drop next text.now)) }
+    ensures rest { IfSome result (λ (count, next). items_of (drop at text.now)
+        ≡ item_at text.now at ++ items_of (drop next text.now)) }
 {
     let bytes = text.bytes();
     if at == bytes.len() {

@@ -379,17 +379,14 @@ fn shown_at_cuts(alloc: Global, bytes: &[u8]) -> Option<String> {
     Some(shown)
 }
 
-// The clusters of a text.
+// The clusters of a text, each copied once.
 fn cut(alloc: Global, bytes: &[u8]) -> Option<String> {
     let text = Text::new(alloc, bytes).ok()?;
     let mut printed = String::new(alloc);
     for cluster in &clusters(alloc, &text).ok()? {
-        let glyphs = std::str::from_utf8(cluster.glyphs.bytes()).ok()?;
-        let one = format!(in alloc;
-            "{glyphs}:{}:{}:{} ",
-            cluster.cells, cluster.start, cluster.len
-        )
-        .ok()?;
+        let copy = cluster.copy().ok()?;
+        let glyphs = std::str::from_utf8(copy.glyphs.bytes()).ok()?;
+        let one = format!(in alloc; "{glyphs}:{}:{}:{} ", copy.cells, copy.start, copy.len).ok()?;
         printed.push_str(one.as_str()).ok()?;
     }
     Some(printed)

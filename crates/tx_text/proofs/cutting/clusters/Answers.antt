@@ -19,7 +19,9 @@ pub returns-then-is_plain-clause-clusters : goal.returns-then-is_plain-clause-cl
 returns-then-is_plain-clause-clusters c =
     let same = c.bytes-bytes.ensures.bytes in
     let test = ap (list_all is_plain_byte) (sym same) ∙ sym c.is_plain.ensures ∙ c.if-is_plain.true in
-    IfOk-weaker c.plain_clusters.result _ _ (λ found is. is ∙ ap (plain_clusters 0) same ∙ sym (plain_by_test c.args.text.now test)) c.plain_clusters.ensures
+    IfOk-weaker c.plain_clusters.result _ _
+    (λ found is. is ∙ ap (plain_clusters 0) same ∙ sym (plain_by_test c.args.text.now test))
+    c.plain_clusters.ensures
 
 pub returns-then-is_plain-clause-narrow : goal.returns-then-is_plain-clause-narrow
 returns-then-is_plain-clause-narrow c =
@@ -27,7 +29,8 @@ returns-then-is_plain-clause-narrow c =
     let test = ap (list_all is_plain_byte) (sym same) ∙ sym c.is_plain.ensures ∙ c.if-is_plain.true in
     let P : List Cluster → Type 0 = λ l. All (λ cluster. cluster.cells ≤ 2) l in
     IfOk-weaker c.plain_clusters.result _ _
-    (λ found is. subst P (sym (is ∙ ap (plain_clusters 0) same ∙ sym (plain_by_test c.args.text.now test))) (narrow (items_of c.args.text.now)))
+    (λ found is. subst P (sym (is ∙ ap (plain_clusters 0) same ∙ sym (plain_by_test c.args.text.now test)))
+    (narrow (items_of c.args.text.now)))
     c.plain_clusters.ensures
 
 pub returns-then-is_plain-clause-whole : goal.returns-then-is_plain-clause-whole
@@ -44,7 +47,9 @@ pub returns-clause-clusters : goal.returns-clause-clusters
 returns-clause-clusters c =
     let shown = c.as_str.ensures.value ∙ c.in_ok-display.ensures.text in
     let places = c.deref.ensures.value ∙ c.in_ok-display.ensures.places in
-    IfOk-weaker c.cut_display.result _ _ (λ found is. is ∙ cut_is c.args.text.now _ _ _ c.bytes-bytes.ensures.bytes shown places c.as_str.utf8) c.cut_display.ensures
+    IfOk-weaker c.cut_display.result _ _
+    (λ found is. is ∙ cut_is c.args.text.now _ _ _ c.bytes-bytes.ensures.bytes shown places c.as_str.utf8)
+    c.cut_display.ensures
 
 pub returns-clause-narrow : goal.returns-clause-narrow
 returns-clause-narrow c =
@@ -52,7 +57,9 @@ returns-clause-narrow c =
     let places = c.deref.ensures.value ∙ c.in_ok-display.ensures.places in
     let P : List Cluster → Type 0 = λ l. All (λ cluster. cluster.cells ≤ 2) l in
     IfOk-weaker c.cut_display.result _ _
-    (λ found is. subst P (sym (is ∙ cut_is c.args.text.now _ _ _ c.bytes-bytes.ensures.bytes shown places c.as_str.utf8)) (narrow (items_of c.args.text.now)))
+    (λ found is. subst P
+    (sym (is ∙ cut_is c.args.text.now _ _ _ c.bytes-bytes.ensures.bytes shown places c.as_str.utf8))
+    (narrow (items_of c.args.text.now)))
     c.cut_display.ensures
 
 pub returns-clause-whole : goal.returns-clause-whole

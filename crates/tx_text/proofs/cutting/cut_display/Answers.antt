@@ -15,13 +15,15 @@ cluster_at-requires-clause-some c =
 
 pub cluster_at-requires-clause-within : goal.cluster_at-requires-clause-within
 cluster_at-requires-clause-within c =
-    (All-head (IsInside (length c.args.places.now)) _ _ (rw c.in-Some.ensures.steps at c.loop-at.invariant.inside)).within
+    (All-head (IsInside (length c.args.places.now)) _ _
+    (rw c.in-Some.ensures.steps at c.loop-at.invariant.inside)).within
 
 pub loop-at-preserved : goal.loop-at-preserved
 loop-at-preserved c = record {
   so_far =
       rw c.in_ok-push.ensures.items
-      (cut_more (cluster_at c.args.places.now) _ _ _ _ (c.in-Some.at, c.in-Some.glyphs.now) _ c.in-Some.ensures.steps c.in_ok-cluster_at.ensures c.loop-at.invariant.so_far);
+      (cut_more (cluster_at c.args.places.now) _ _ _ _ (c.in-Some.at, c.in-Some.glyphs.now) _ c.in-Some.ensures.steps
+      c.in_ok-cluster_at.ensures c.loop-at.invariant.so_far);
   inside = All-rest (IsInside (length c.args.places.now)) _ _ _ c.in-Some.ensures.steps c.loop-at.invariant.inside;
 }
 

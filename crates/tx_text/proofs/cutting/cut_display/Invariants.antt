@@ -9,6 +9,7 @@ use Rattle.tx_text.proofs.cutting.cut_display.Given as goal
 
 abbrev pub invariant-loop-at : goal.invariant-loop-at
 invariant-loop-at l = record {
-  so_far : l.found.items ++ map (cluster_at l.places) (grapheme_indices_left l.at-iterator) ≡ map (cluster_at l.places) (with_offsets 0 (graphemes true l.display));
+  so_far : l.found.items ++ map (cluster_at l.places) (grapheme_indices_left l.at-iterator) ≡
+      map (cluster_at l.places) (with_offsets 0 (graphemes true l.display));
   inside : All (IsInside (length l.places)) (grapheme_indices_left l.at-iterator);
 }

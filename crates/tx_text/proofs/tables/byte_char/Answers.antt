@@ -1,6 +1,7 @@
 use Rattle.std.proofs.Common.{rules, sym, ap, ◌∙◌}
 use Rattle.tx_text.specs.Tables.{byte_code}
-use Rattle.tx_text.proofs.Table.{first_code, middle_code, ascii_code, late_code, byte_code-215, byte_code-223, byte_code-247, byte_code-255}
+use Rattle.tx_text.proofs.Table.{first_code, middle_code, ascii_code, late_code, byte_code-215, byte_code-223}
+use Rattle.tx_text.proofs.Table.{byte_code-247, byte_code-255}
 use Rattle.tx_text.proofs.tables.byte_char.Goals as goal
 
 pub returns-in-215 : goal.returns-in-215
