@@ -1,0 +1,5 @@
+//! Tests of what documents show and of values: tables row by row.
+#![tactic(auto)]
+
+#[cfg(test)]
+mod clusters;
