@@ -22,9 +22,11 @@ path_below base (Some origin) = base ++ origin
 
 abbrev pub coded_RelativePlace : Coded RelativePlace
 coded_RelativePlace =
-    code_by (List ℕ × ℕ) (coded× (coded_list coded_ℕ) coded_ℕ) (λ p. (p.origin, p.offset)) (λ c. record { origin = c.0; offset = c.1 }) (λ _. refl)
+    code_by (List ℕ × ℕ) (coded× (coded_list coded_ℕ) coded_ℕ) (λ p. (p.origin, p.offset))
+    (λ c. record { origin = c.0; offset = c.1 }) (λ _. refl)
 
 abbrev pub coded_BasedPlace : Coded BasedPlace
 coded_BasedPlace =
-    code_by (List ℕ × (Option (List ℕ) × ℕ)) (coded× (coded_list coded_ℕ) (coded× (coded_option (coded_list coded_ℕ)) coded_ℕ))
+    code_by (List ℕ × (Option (List ℕ) × ℕ))
+    (coded× (coded_list coded_ℕ) (coded× (coded_option (coded_list coded_ℕ)) coded_ℕ))
     (λ p. (p.base, (p.origin, p.offset))) (λ c. record { base = c.0; origin = c.1.0; offset = c.1.1 }) (λ _. refl)

@@ -82,7 +82,8 @@ at_code = coded_option (coded_list coded_ℕ)
 abbrev mutual
   code_of : WideValue → Gv
   code_of (text words at) = gcons (gnum 0) (gcons (bytes_code.code words) (at_code.code at))
-  code_of (made label parts at) = gcons (gnum 1) (gcons (bytes_code.code label) (gcons (code_of_all parts) (at_code.code at)))
+  code_of (made label parts at) =
+      gcons (gnum 1) (gcons (bytes_code.code label) (gcons (code_of_all parts) (at_code.code at)))
 
   code_of_all : WideValues → Gv
   code_of_all none = gnil

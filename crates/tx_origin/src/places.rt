@@ -8,8 +8,8 @@ use std::marker::Model;
 use tx_base::Memory;
 use tx_tree::{Path, Place};
 
-/// An origin, and an offset in what stands there. Contracts see it as a place whose path begins where another path ends,
-/// as that of a unit.
+/// An origin, and an offset in what stands there. Contracts see it as a place whose path begins where another path
+/// ends, as that of a unit.
 #[derive(Drop)]
 pub struct At {
     origin: Ip,
@@ -75,8 +75,8 @@ impl At {
     }
 }
 
-/// A path, an origin below it or none, and an offset. Contracts see what it was made of; the place that it stands for has
-/// the path with the origin behind it.
+/// A path, an origin below it or none, and an offset. Contracts see what it was made of; the place that it stands for
+/// has the path with the origin behind it.
 #[derive(Drop)]
 pub struct Spot<'a> {
     base: &'a Path,

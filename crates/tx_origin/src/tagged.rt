@@ -40,7 +40,8 @@ impl Tagged {
     /// The child of this number with its origin, or None where there is none.
     #[tactic(auto, using(crate::proofs::Kids::kid_rules, std::proofs::lemmas::Grind::common_steps))]
     pub fn child(&self, alloc: Global, i: u32) -> Result<Option<Tagged>, Memory>
-        ensures { IfOk result (λ r. MatchOption r (slice_get (kids_of (tagged_of self.now)) i ≡ None) (λ t. slice_get (kids_of (tagged_of self.now)) i ≡ Some (tagged_of t))) }
+        ensures { let kid = slice_get (kids_of (tagged_of self.now)) i in
+            IfOk result (λ r. MatchOption r (kid ≡ None) (λ t. kid ≡ Some (tagged_of t))) }
     {
         let Some(kid) = self.tree.child(i) else {
             return Ok(None);

@@ -14,8 +14,8 @@ use std::sync::ledger::Ledger;
 use tx_base::{Memory, Steps};
 use tx_tree::{Label, Text, Tree};
 
-/// A tree each of whose nodes has an origin or none. It is within the limits of trees, and answers its size, its depth and
-/// the number of its nodes without a walk. Values share their parts.
+/// A tree each of whose nodes has an origin or none. It is within the limits of trees, and answers its size, its depth
+/// and the number of its nodes without a walk. Values share their parts.
 ///
 /// Contracts see a value as a wide value (`specs/Values.antt`), which is a value without limits.
 #[cycle(value)]
@@ -174,7 +174,8 @@ impl Value {
     /// The part of this number, from 0, or None where there is none.
     #[tactic(auto, using(crate::proofs::Parts::lookups, std::proofs::lemmas::Grind::common_steps))]
     pub fn child(&self, i: u32) -> Option<&Value>
-        ensures { MatchOption result (slice_get (value_parts self.now) i ≡ None) (λ v. slice_get (value_parts self.now) i ≡ Some v.now) }
+        ensures { let part = slice_get (value_parts self.now) i in
+            MatchOption result (part ≡ None) (λ v. part ≡ Some v.now) }
     {
         match &*self.content {
             Content::Text(..) => None,
@@ -222,9 +223,9 @@ impl Value {
         self.nodes
     }
 
-    /// The tree that stands at this origin, with the origins of its parts. It shares the tree's texts, and keeps the tree, so
-    /// that `plain` of it or of one of its nodes copies nothing.
-    #[tactic(auto, using(crate::proofs::Wholes::whole_rules, tx_tree::proofs::Walks::leaf_or_node, tx_tree::proofs::Walks::child_shallower, std::proofs::lemmas::Grind::common_steps))]
+    /// The tree that stands at this origin, with the origins of its parts. It shares the tree's texts, and keeps the
+    /// tree, so that `plain` of it or of one of its nodes copies nothing.
+    #[tactic(auto, using(crate::proofs::Wholes::whole_rules, std::proofs::lemmas::Grind::common_steps))]
     pub fn whole(alloc: Global, tree: &Tree, at: &Option<Ip>) -> Result<Value, Memory>
         ensures value { IfOk result (λ v. v ≡ whole at.now tree.now) }
         ensures plain { IfOk result (λ v. plain v ≡ tree.now) }
@@ -248,8 +249,8 @@ impl Value {
         Value::node_from(alloc, label.copy()?, parts, share_origin(at)?, from)
     }
 
-    /// The tree without origins. At `Ok` it has taken a step for each node that isn't a leaf. A node that was taken from a
-    /// tree gives that tree, shared; only nodes that were made anew are made again.
+    /// The tree without origins. At `Ok` it has taken a step for each node that isn't a leaf. A node that was taken
+    /// from a tree gives that tree, shared; only nodes that were made anew are made again.
     pub fn plain<L: Ledger>(&self, alloc: Global, steps: &mut Steps<L>) -> Result<Tree, Memory>
         ensures ok { IfOk result (λ t. t ≡ plain self.now) }
         ensures counted { OnOk result (steps.new ≡ steps.old + nodes_of (plain self.now)) }

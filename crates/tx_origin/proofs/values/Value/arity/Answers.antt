@@ -7,6 +7,8 @@ use Rattle.tx_origin.proofs.values.Value.arity.Goals as goal
 
 pub overflow_cast-result : goal.overflow_cast-result
 overflow_cast-result c =
-    let same : arity_of (plain (wide_value_of c.self.inside.content.value)) ≡ arity_of (node c.in-Node.field-0 (plains (vals c.in-Node.parts.items))) = ap (λ x. arity_of (plain (wide_value_of x))) (sym c.deref.ensures ∙ c.in-Node.is) in
+    let parts = plains (vals c.in-Node.parts.items) in
+    let same : arity_of (plain (wide_value_of c.self.inside.content.value)) ≡ arity_of (node c.in-Node.field-0 parts) =
+    ap (λ x. arity_of (plain (wide_value_of x))) (sym c.deref.ensures ∙ c.in-Node.is) in
     let le = few_parts c.in-Node.field-0 c.in-Node.parts.items in
     omega (arith, c.self.invariant.within.arity)
