@@ -1,0 +1,6 @@
+pub mod Finding
+pub mod Maps
+pub mod Undoing
+pub mod Capping
+pub mod Scopes
+pub mod Overlays

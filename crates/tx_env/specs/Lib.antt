@@ -1,0 +1,4 @@
+pub mod Pairs
+pub mod Environments
+pub mod Changes
+pub mod ScopedView

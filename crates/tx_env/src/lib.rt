@@ -1,0 +1,11 @@
+//! The environment: what names have, with scopes that can be left again.
+#![tactic(auto)]
+
+mod environment;
+mod pairs;
+mod scoped;
+mod writes;
+
+pub use environment::{Env, Mark};
+pub use pairs::Pairs;
+pub use writes::Writes;

@@ -1,0 +1,77 @@
+// A list of names with what they have, found by hashing.
+ghost use Rattle.std.specs.Prelude.{◌≡◌, [], MatchOption, OnOk, OnErr, None, Some, is_some, IsSome};
+ghost use Rattle.tx_env.specs.Pairs.{find, listed, put};
+
+use indexmap::IndexMap;
+use std::alloc::Global;
+use std::marker::Model;
+use tx_base::Memory;
+use tx_tree::{Text, Tree};
+
+/// What names have: a tree, or nothing. A name is found by one hash of its bytes.
+///
+/// Contracts see a list of pairs, in the order in which the names first came.
+#[derive(Drop)]
+pub struct Pairs {
+    map: IndexMap<Text, Option<Tree>>,
+}
+
+impl Model for Pairs {
+    ghost use Rattle.std.specs.Prelude.{List, ℕ, Option};
+    ghost use Rattle.tx_tree.specs.WideTree.{WideTree};
+    ghost use Rattle.tx_env.specs.Pairs.{coded_Pairs};
+
+    ghost Value = { List (List ℕ × Option WideTree) };
+
+    ghost coded = { coded_Pairs };
+
+    ghost view = { λ p. p.map.entries };
+}
+
+impl Pairs {
+    /// No names. It takes no memory until the first.
+    pub fn new(alloc: Global) -> Pairs
+        ensures { result ≡ [] }
+    {
+        Pairs {
+            map: IndexMap::new(alloc),
+        }
+    }
+
+    /// What the name has, or None where it has nothing.
+    pub fn get(&self, name: &Text) -> Option<&Tree>
+        ensures { MatchOption result (find name.now self.now ≡ None) (λ t. find name.now self.now ≡ Some t.now) }
+    {
+        match self.map.get(name) {
+            None => None,
+            Some(value) => value.as_ref(),
+        }
+    }
+
+    /// Whether the name is listed, also where it has nothing.
+    pub fn lists(&self, name: &Text) -> bool
+        ensures { result ≡ is_some (listed name.now self.now) }
+    {
+        self.map.contains_key(name)
+    }
+
+    /// Puts this at the name. For want of memory all stays.
+    pub fn put(&mut self, name: Text, value: Option<Tree>) -> Result<(), Memory>
+        ensures ok { OnOk result (self.new ≡ put name value self.old) }
+        ensures err { OnErr result (self.new ≡ self.old) }
+    {
+        let _before = self.map.insert(name, value)?;
+        Ok(())
+    }
+
+    /// Puts this at a name that is listed. It takes no memory.
+    pub fn put_back(&mut self, name: Text, value: Option<Tree>)
+        requires { IsSome (listed name self.old) }
+        ensures { self.new ≡ put name value self.old }
+    {
+        match self.map.insert(name, value) {
+            Ok(_) => (),
+            Err(_) => unreachable!(),
+        }
+    }
+}

@@ -1,0 +1,4 @@
+pub mod Kids
+pub mod Numbers
+pub mod Parts
+pub mod Wholes

@@ -1,0 +1,12 @@
+//! Where the parts of an evaluated tree come from: inverse paths, and values whose nodes have origins.
+#![tactic(auto)]
+
+mod paths;
+mod places;
+mod tagged;
+mod values;
+
+pub use paths::Ip;
+pub use places::{At, Spot};
+pub use tagged::{Tagged, share_origin};
+pub use values::Value;

@@ -1,0 +1,278 @@
+// Values: trees whose nodes have origins, shared by Rc.
+ghost use Rattle.std.specs.Prelude.{◌≡◌, ◌+◌, ◌<◌, ◌≤◌, length, IfOk, OnOk, IfSome, MatchOption, None, Some, slice_get};
+ghost use Rattle.tx_tree.specs.WideTree.{size_of, depth_of, nodes_of, deepest, total_size};
+ghost use Rattle.tx_tree.specs.declared.TheConstants.{MOST_ARITY, MOST_DEPTH, MOST_SIZE};
+ghost use Rattle.tx_tree.specs.Limits.{IsWellFormed, IsWithinLimits};
+ghost use Rattle.tx_origin.specs.Values.{text, made, vals, value_parts, value_text, value_label, value_origin, plain, plains, whole, IsFrom};
+
+use crate::paths::Ip;
+use crate::tagged::{child_at, share_origin};
+use std::alloc::Global;
+use std::marker::Model;
+use std::rc::Rc;
+use std::sync::ledger::Ledger;
+use tx_base::{Memory, Steps};
+use tx_tree::{Label, Text, Tree};
+
+/// A tree each of whose nodes has an origin or none. It is within the limits of trees, and answers its size, its depth
+/// and the number of its nodes without a walk. Values share their parts.
+///
+/// Contracts see a value as a wide value (`specs/Values.antt`), which is a value without limits.
+#[cycle(value)]
+#[derive(Drop)]
+pub struct Value {
+    size: u64,
+    depth: u32,
+    nodes: u64,
+    content: Rc<Content>,
+}
+
+#[cycle(value)]
+#[derive(Drop)]
+enum Content {
+    Text(Text, Option<Ip>),
+    // the tree that the node was taken from, if it was
+    Node(Label, Vec<Value>, Option<Ip>, Option<Tree>),
+}
+
+impl Model for Value {
+    ghost use Rattle.std.specs.Prelude.{◌≡◌};
+    ghost use Rattle.tx_tree.specs.WideTree.{depth_of};
+    ghost use Rattle.tx_origin.specs.Values.{WideValue, coded_WideValue, plain};
+
+    ghost Value = { WideValue };
+
+    ghost coded = { coded_WideValue };
+
+    ghost use Rattle.tx_origin.specs.ValueView.{wide_value_of, IsKept};
+
+    ghost view = { λ v. wide_value_of v.content.value };
+
+    ghost invariant = { IsKept };
+
+    ghost size = { λ v. depth_of (plain v) };
+
+    ghost use Rattle.tx_origin.specs.ValueFalls.{depth_falls};
+
+    ghost size_decreases = { λ v h. depth_falls v.content.value };
+}
+
+impl Value {
+    /// The text with this origin.
+    pub fn leaf(alloc: Global, words: Text, at: Option<Ip>) -> Result<Value, Memory>
+        ensures { IfOk result (λ v. v ≡ text words at) }
+    {
+        let size = 1 + words.bytes().len() as u64;
+        Ok(Value {
+            size,
+            depth: 1,
+            nodes: 0,
+            content: Rc::new(alloc, Content::Text(words, at))?,
+        })
+    }
+
+    /// The node with this label, these parts and this origin, made anew.
+    pub fn node(
+        alloc: Global,
+        label: Label,
+        parts: Vec<Value>,
+        at: Option<Ip>,
+    ) -> Result<Value, Memory>
+        requires arity { length parts.items ≤ MOST_ARITY }
+        requires depth { deepest (plains (vals parts.items)) < MOST_DEPTH }
+        requires size { total_size (plains (vals parts.items)) < MOST_SIZE }
+        ensures { IfOk result (λ v. v ≡ made label (vals parts.items) at) }
+    {
+        Value::node_from(alloc, label, parts, at, None)
+    }
+
+    // The node with this label, these parts and this origin, which was taken from this tree or from none.
+    fn node_from(
+        alloc: Global,
+        label: Label,
+        parts: Vec<Value>,
+        at: Option<Ip>,
+        from: Option<Tree>,
+    ) -> Result<Value, Memory>
+        requires arity { length parts.items ≤ MOST_ARITY }
+        requires depth { deepest (plains (vals parts.items)) < MOST_DEPTH }
+        requires size { total_size (plains (vals parts.items)) < MOST_SIZE }
+        requires from { IsFrom label parts.items from }
+        ensures { IfOk result (λ v. v ≡ made label (vals parts.items) at) }
+    {
+        let _bytes = label.bytes();
+        let mut size = 1u64;
+        let mut deepest = 0u32;
+        let mut nodes = 1u64;
+        for part in &parts {
+            size += part.size();
+            deepest = deepest.max(part.depth());
+            nodes += part.nodes();
+        }
+        Ok(Value {
+            size,
+            depth: deepest + 1,
+            nodes,
+            content: Rc::new(alloc, Content::Node(label, parts, at, from))?,
+        })
+    }
+
+    /// The same value, which shares all its parts: no node is copied.
+    pub fn share(&self) -> Result<Value, Memory>
+        ensures { IfOk result (λ v. v ≡ self.now) }
+    {
+        Ok(Value {
+            size: self.size,
+            depth: self.depth,
+            nodes: self.nodes,
+            content: self.content.clone()?,
+        })
+    }
+
+    /// The label of a node, or None for a text.
+    pub fn label(&self) -> Option<&Label>
+        ensures { MatchOption result (value_label self.now ≡ None) (λ l. value_label self.now ≡ Some l.now) }
+    {
+        match &*self.content {
+            Content::Text(..) => None,
+            Content::Node(label, ..) => Some(label),
+        }
+    }
+
+    /// The text, or None for a node.
+    pub fn text(&self) -> Option<&Text>
+        ensures { MatchOption result (value_text self.now ≡ None) (λ t. value_text self.now ≡ Some t.now) }
+    {
+        match &*self.content {
+            Content::Text(words, _) => Some(words),
+            Content::Node(..) => None,
+        }
+    }
+
+    /// The parts of a node, or none for a text.
+    #[tactic(auto, using(crate::proofs::Parts::lookups, std::proofs::lemmas::Grind::common_steps))]
+    pub fn parts(&self) -> &[Value]
+        ensures { result.now ≡ value_parts self.now }
+    {
+        match &*self.content {
+            Content::Text(..) => &[],
+            Content::Node(_, parts, ..) => parts,
+        }
+    }
+
+    /// How many parts the value has, 0 for a text.
+    #[tactic(auto, using(crate::proofs::Parts::lookups, std::proofs::lemmas::Grind::common_steps))]
+    pub fn arity(&self) -> u32
+        ensures { result ≡ length (value_parts self.now) }
+    {
+        match &*self.content {
+            Content::Text(..) => 0,
+            Content::Node(_, parts, ..) => parts.len() as u32,
+        }
+    }
+
+    /// The part of this number, from 0, or None where there is none.
+    #[tactic(auto, using(crate::proofs::Parts::lookups, std::proofs::lemmas::Grind::common_steps))]
+    pub fn child(&self, i: u32) -> Option<&Value>
+        ensures { let part = slice_get (value_parts self.now) i in
+            MatchOption result (part ≡ None) (λ v. part ≡ Some v.now) }
+    {
+        match &*self.content {
+            Content::Text(..) => None,
+            Content::Node(_, parts, ..) => {
+                if (i as usize) < parts.len() {
+                    Some(&parts[i as usize])
+                } else {
+                    None
+                }
+            }
+        }
+    }
+
+    /// The origin, or None where there is none.
+    pub fn origin(&self) -> Option<&Ip>
+        ensures { MatchOption result (value_origin self.now ≡ None) (λ p. value_origin self.now ≡ Some p.now) }
+    {
+        match &*self.content {
+            Content::Text(_, at) => at.as_ref(),
+            Content::Node(_, _, at, _) => at.as_ref(),
+        }
+    }
+
+    /// The size of the tree.
+    pub fn size(&self) -> u64
+        ensures value { result ≡ size_of (plain self.now) }
+        ensures well_formed { IsWellFormed (plain self.now) }
+        ensures within { IsWithinLimits (plain self.now) }
+    {
+        self.size
+    }
+
+    /// The depth of the tree.
+    pub fn depth(&self) -> u32
+        ensures value { result ≡ depth_of (plain self.now) }
+        ensures within { IsWithinLimits (plain self.now) }
+    {
+        self.depth
+    }
+
+    /// How many nodes of the tree aren't leaves.
+    pub fn nodes(&self) -> u64
+        ensures value { result ≡ nodes_of (plain self.now) }
+    {
+        self.nodes
+    }
+
+    /// The tree that stands at this origin, with the origins of its parts. It shares the tree's texts, and keeps the
+    /// tree, so that `plain` of it or of one of its nodes copies nothing.
+    #[tactic(auto, using(crate::proofs::Wholes::whole_rules, std::proofs::lemmas::Grind::common_steps))]
+    pub fn whole(alloc: Global, tree: &Tree, at: &Option<Ip>) -> Result<Value, Memory>
+        ensures value { IfOk result (λ v. v ≡ whole at.now tree.now) }
+        ensures plain { IfOk result (λ v. plain v ≡ tree.now) }
+    {
+        if let Some(words) = tree.text() {
+            return Value::leaf(alloc, words.copy()?, share_origin(at)?);
+        }
+        let Some(label) = tree.label() else {
+            unreachable!()
+        };
+        let _size = tree.size();
+        let mut parts = Vec::new(alloc);
+        for i in 0..tree.arity() {
+            let Some(kid) = tree.child(i) else {
+                unreachable!()
+            };
+            let origin = child_at(alloc, at, i)?;
+            parts.push(Value::whole(alloc, kid, &origin)?)?;
+        }
+        let from = Some(tree.share()?);
+        Value::node_from(alloc, label.copy()?, parts, share_origin(at)?, from)
+    }
+
+    /// The tree without origins. At `Ok` it has taken a step for each node that isn't a leaf. A node that was taken
+    /// from a tree gives that tree, shared; only nodes that were made anew are made again.
+    pub fn plain<L: Ledger>(&self, alloc: Global, steps: &mut Steps<L>) -> Result<Tree, Memory>
+        ensures ok { IfOk result (λ t. t ≡ plain self.now) }
+        ensures counted { OnOk result (steps.new ≡ steps.old + nodes_of (plain self.now)) }
+    {
+        match &*self.content {
+            Content::Text(words, _) => Tree::leaf(alloc, words.copy()?),
+            Content::Node(label, parts, _, from) => {
+                if let Some(tree) = from {
+                    let same = tree.share()?;
+                    steps.add(self.nodes);
+                    return Ok(same);
+                }
+                let mut children = Vec::new(alloc);
+                for part in parts {
+                    children.push(part.plain(alloc, steps)?)?;
+                }
+                match Tree::node(alloc, label.copy()?, children, steps) {
+                    Ok(tree) => Ok(tree),
+                    // A value is within the limits, so there is no other fault.
+                    Err(_) => Err(Memory),
+                }
+            }
+        }
+    }
+}
