@@ -1,17 +1,9 @@
 //! The program `tmx`: it lends `run` of `tx_session` the real files, input and output, and ends with the
-//! number of its status. The adapters tell no contents; they keep the counts of what went wrong.
+//! number of its status. The adapters are those of `tx_system`.
 #![tactic(auto)]
 
 ghost use Rattle.std.specs.Prelude.{◌≡◌};
 
-mod counts;
-mod file_store;
-mod standard;
-#[cfg(test)]
-mod tests;
-
-use file_store::FileStore;
-use standard::{StandardInput, StandardOutput};
 use std::alloc::AllocError;
 use std::marker::Brand;
 use std::process::ExitCode;
@@ -20,6 +12,7 @@ use std::sync::ledger::{Blank, Ledger};
 use std::{env, io};
 use tx_base::Steps;
 use tx_session::{Status, run};
+use tx_system::{FileStore, StandardInput, StandardOutput};
 
 // The words of the command line. Words that can't be had, or are no text, are as faulty as none.
 fn words<R: Env + AllocGlobal>(rt: &R) -> Result<Vec<String>, AllocError> {
@@ -43,7 +36,7 @@ fn run_counted<R: Files + Print + Input + AllocGlobal, L: Ledger>(
     requires whole { blank.parts ≡ 1 }
 {
     let mut steps = Steps::<L>::new(blank);
-    let mut store = FileStore::new(rt);
+    let mut store = FileStore::new(rt.alloc(), rt);
     let mut input = StandardInput::new(rt.reader());
     let mut output = StandardOutput::new(io::writer(rt));
     run(

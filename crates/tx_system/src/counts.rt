@@ -1,4 +1,4 @@
-// Counts of what went wrong outside.
+// Counts of what went wrong.
 ghost use Rattle.tx_outside.specs.Counts.{NeverFalls, Rose};
 
 /// The count, raised by one up to its last value.

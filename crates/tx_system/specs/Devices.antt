@@ -1,0 +1,20 @@
+-- What stands behind the standard input and output, and how often they have failed.
+use Rattle.std.specs.Prelude.{ℕ}
+use Rattle.tx_system.specs.declared.standard.StandardInput.{StandardInput}
+use Rattle.tx_system.specs.declared.standard.StandardOutput.{StandardOutput}
+
+-- the reader that the input takes its bytes from
+abbrev pub reader_of : {R : Type 0} → StandardInput R → R
+reader_of input = input.reader
+
+-- how often the input has failed
+abbrev pub input_faults : {R : Type 0} → StandardInput R → ℕ
+input_faults input = input.faults
+
+-- the writer that the output puts its bytes into
+abbrev pub writer_of : {W : Type 0} → StandardOutput W → W
+writer_of output = output.writer
+
+-- how often the output has failed
+abbrev pub output_faults : {W : Type 0} → StandardOutput W → ℕ
+output_faults output = output.faults
