@@ -132,5 +132,5 @@ pub node_kept : (size depth nodes : ℕ) (label : List ℕ) (vs : List WideValue
 node_kept size depth nodes label vs h named wide deep big =
     let narrow = max-le (omega (arith, count-plains vs, wide)) h.narrow in
     let within : IsWithinLimits (node label (plains (vals vs))) =
-      record { text = h.short; arity = narrow; depth = omega (arith, deep); size = omega (arith, big) } in
+    record { text = h.short; arity = narrow; depth = omega (arith, deep); size = omega (arith, big) } in
     ((named, h.well_formed), within)
