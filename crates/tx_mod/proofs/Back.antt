@@ -298,7 +298,7 @@ back_at (AssignNode p l) s v h k e = label_back s v l e
 back_at (InsertNode p i x) s v h k e = wrap_back s x v i e
 back_at (RemoveNode p i) s v h k e = unwrap_back s v i e
 
-same_path : (m : Mod) (s : WideTree) → path_of (inverse_at m s) ≡ path_of m
+pub same_path : (m : Mod) (s : WideTree) → path_of (inverse_at m s) ≡ path_of m
 same_path (Assign p x) s = refl
 same_path (Insert p i x) s = refl
 same_path (Remove p i n) s = refl

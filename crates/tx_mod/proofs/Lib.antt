@@ -14,3 +14,6 @@ pub mod Kept
 pub mod CutPlaces
 pub mod Standing
 pub mod Composed
+pub mod Formed
+pub mod Twice
+pub mod InTurn

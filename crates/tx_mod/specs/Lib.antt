@@ -6,3 +6,4 @@ pub mod Measures
 pub mod Sound
 pub mod Ways
 pub mod Followed
+pub mod InTurn

@@ -1,5 +1,6 @@
 -- Modifications whose parts are well formed.
 use Rattle.std.specs.Prelude.{◌≡◌, Ok}
+use Rattle.tx_tree.specs.Labels.{IsLabel}
 use Rattle.tx_tree.specs.Limits.{IsWellFormed, IsWithinLimits}
 use Rattle.tx_tree.specs.WideTree.{WideTree}
 use Rattle.tx_mod.specs.declared.mods.Mod.{Mod}
@@ -7,17 +8,25 @@ use Rattle.tx_mod.specs.declared.mods.Mod.TheVariants.{Assign, Insert, Remove, S
 use Rattle.tx_mod.specs.Changes.{changed}
 use Rattle.tx_mod.specs.Inverses.{inverse_of}
 
--- a tree that is put in is well formed
+-- a tree that is put in is well formed, and a label that is given is a label
 abbrev pub IsSound : Mod → Type 0
 IsSound (Assign p x) = IsWellFormed x
 IsSound (Insert p i x) = IsWellFormed x
 IsSound (Remove p i n) = Unit {0}
 IsSound (Split p i j) = Unit {0}
 IsSound (Join p i) = Unit {0}
-IsSound (AssignNode p l) = Unit {0}
+IsSound (AssignNode p l) = IsLabel l
 IsSound (InsertNode p i x) = IsWellFormed x
 IsSound (RemoveNode p i) = Unit {0}
+
+-- what a modification makes of a well formed tree is well formed and within the limits
+abbrev pub StaysWellFormed : Mod → WideTree → Type 0
+StaysWellFormed m t = (u : WideTree) → IsSound m → IsWellFormed t → changed m t ≡ Ok u → IsWellFormed u × IsWithinLimits u
 
 -- what undoes a modification gives the tree back
 abbrev pub GivesBack : Mod → WideTree → Type 0
 GivesBack m t = (u : WideTree) → IsSound m → IsWellFormed t → IsWithinLimits t → changed m t ≡ Ok u → changed (inverse_of m t) u ≡ Ok t
+
+-- what undoes the undoing, in the changed tree, is the modification itself
+abbrev pub IsMadeAgain : Mod → WideTree → Type 0
+IsMadeAgain m t = (u : WideTree) → changed m t ≡ Ok u → inverse_of (inverse_of m t) u ≡ m

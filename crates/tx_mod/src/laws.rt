@@ -4,13 +4,45 @@ ghost use Rattle.tx_tree.specs.WideTree.{WideTree};
 ghost use Rattle.tx_tree.specs.declared.places.Place.{Place as Position};
 ghost use Rattle.tx_mod.specs.declared.mods.Mod.{Mod as Change};
 ghost use Rattle.tx_mod.specs.Changes.{changed};
-ghost use Rattle.tx_mod.specs.Followed.{StaysPlace, CarriesSubtree, CarriesThroughAll, Composes, StopsAt, carried_by_all};
+ghost use Rattle.tx_mod.specs.Followed.{StaysPlace, CarriesSubtree, CarriesThroughAll, Composes, StopsAt, carried_by_all, changed_by_all, tree_of};
 ghost use Rattle.tx_mod.specs.Moves.{carried_path};
-ghost use Rattle.tx_mod.specs.Sound.{GivesBack};
+ghost use Rattle.tx_mod.specs.InTurn.{CanBeUndone, changed_in_turn};
+ghost use Rattle.tx_mod.specs.Sound.{IsSound, StaysWellFormed, GivesBack, IsMadeAgain};
 
-/// What undoes a modification, applied to the changed tree, gives the tree back.
+use crate::mods::Mod;
+
+/// The parts of a modification in hand are well formed: trees that are put in, and the label that is given.
+pub fn sound(m: &Mod)
+    ensures { IsSound m.now }
+{
+    match m {
+        Mod::Assign(_, x) | Mod::Insert(_, _, x) | Mod::InsertNode(_, _, x) => {
+            let _size = x.size();
+        }
+        Mod::AssignNode(_, label) => {
+            let _bytes = label.bytes();
+        }
+        _ => {}
+    }
+}
+
+/// What a modification makes of a well formed tree is well formed, and within the limits.
+pub fn well_formed_law()
+    ensures { (m : Change) (t : WideTree) → StaysWellFormed m t }
+{}
+
+/// What undoes a modification, applied to the changed tree, gives the tree back, and what undoes that is the modification itself.
 pub fn inverse_law()
-    ensures { (m : Change) (t : WideTree) → GivesBack m t }
+    ensures back { (m : Change) (t : WideTree) → GivesBack m t }
+    ensures again { (m : Change) (t : WideTree) → IsMadeAgain m t }
+{}
+
+/// What undoes a list of modifications, the inverses from the last to the first, gives the tree back, and what undoes that is
+/// the list itself. The tree in between is well formed and within the limits. A list makes a tree where no modification of it
+/// is refused.
+pub fn list_inverse_law()
+    ensures undone { (ms : List Change) (t : WideTree) → CanBeUndone ms t }
+    ensures tree { (ms : List Change) (t : WideTree) → tree_of (changed_in_turn ms t) ≡ changed_by_all ms t }
 {}
 
 /// A moved place is a place of the changed tree.

@@ -8,6 +8,7 @@ mod applying;
 mod carrying;
 mod faults;
 mod laws;
+mod list;
 mod making;
 mod measures;
 mod mods;
@@ -18,9 +19,12 @@ mod undoing;
 mod walks;
 mod ways;
 
-pub use applying::{applicable, apply, inverse};
+pub use applying::{applicable, apply, apply_and_inverse, inverse};
 pub use carrying::carried;
 pub use faults::{ApplyFault, ModFault};
-pub use laws::{carried_law, carried_list_law, inverse_law, moved_law};
+pub use laws::{
+    carried_law, carried_list_law, inverse_law, list_inverse_law, moved_law, sound, well_formed_law,
+};
+pub use list::ModList;
 pub use mods::Mod;
 pub use moving::moved;

@@ -30,23 +30,44 @@ pub enum Mod {
     RemoveNode(Path, u32),
 }
 
+// The arms of `copy` that share a tree or a label.
+fn assign_copy(alloc: Global, path: &Path, tree: &Tree) -> Result<Mod, Memory>
+    ensures { IfOk result (λ m. m ≡ Mod.Assign path.now tree.now) }
+{
+    Ok(Mod::Assign(path.copy(alloc)?, tree.share()?))
+}
+
+fn insert_copy(alloc: Global, path: &Path, i: u32, tree: &Tree) -> Result<Mod, Memory>
+    ensures { IfOk result (λ m. m ≡ Mod.Insert path.now i tree.now) }
+{
+    Ok(Mod::Insert(path.copy(alloc)?, i, tree.share()?))
+}
+
+fn assign_node_copy(alloc: Global, path: &Path, label: &Label) -> Result<Mod, Memory>
+    ensures { IfOk result (λ m. m ≡ Mod.AssignNode path.now label.now) }
+{
+    Ok(Mod::AssignNode(path.copy(alloc)?, label.copy()?))
+}
+
+fn insert_node_copy(alloc: Global, path: &Path, i: u32, tree: &Tree) -> Result<Mod, Memory>
+    ensures { IfOk result (λ m. m ≡ Mod.InsertNode path.now i tree.now) }
+{
+    Ok(Mod::InsertNode(path.copy(alloc)?, i, tree.share()?))
+}
+
 impl Mod {
     /// An equal modification, which shares trees and labels.
     pub fn copy(&self, alloc: Global) -> Result<Mod, Memory>
         ensures { IfOk result (λ m. m ≡ self.now) }
     {
         match self {
-            Mod::Assign(path, tree) => Ok(Mod::Assign(path.copy(alloc)?, tree.share()?)),
-            Mod::Insert(path, i, tree) => Ok(Mod::Insert(path.copy(alloc)?, *i, tree.share()?)),
+            Mod::Assign(path, tree) => assign_copy(alloc, path, tree),
+            Mod::Insert(path, i, tree) => insert_copy(alloc, path, *i, tree),
             Mod::Remove(path, i, n) => Ok(Mod::Remove(path.copy(alloc)?, *i, *n)),
             Mod::Split(path, i, j) => Ok(Mod::Split(path.copy(alloc)?, *i, *j)),
             Mod::Join(path, i) => Ok(Mod::Join(path.copy(alloc)?, *i)),
-            Mod::AssignNode(path, label) => Ok(Mod::AssignNode(path.copy(alloc)?, label.copy()?)),
-            Mod::InsertNode(path, i, tree) => Ok(Mod::InsertNode(
-                path.copy(alloc)?,
-                *i,
-                tree.share()?,
-            )),
+            Mod::AssignNode(path, label) => assign_node_copy(alloc, path, label),
+            Mod::InsertNode(path, i, tree) => insert_node_copy(alloc, path, *i, tree),
             Mod::RemoveNode(path, i) => Ok(Mod::RemoveNode(path.copy(alloc)?, *i)),
         }
     }

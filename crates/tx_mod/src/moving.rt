@@ -5,9 +5,9 @@ ghost use Rattle.tx_tree.specs.WideTree.{WideTree};
 ghost use Rattle.tx_mod.specs.Changes.{changed, changed_at};
 ghost use Rattle.tx_mod.specs.Mods.{extent};
 ghost use Rattle.tx_mod.specs.Moves.{child_or_self, shifted, place, moved_by_insert, moved_by_remove, moved_in_split, moved_by_split, moved_in_join, moved_by_join, moved_by_unwrap, moved_at, moved_place};
-ghost use Rattle.tx_mod.specs.Sound.{IsSound};
 ghost use Rattle.tx_mod.specs.Ways.{numbers_of, StandsAt, AreSmall};
 
+use crate::laws::sound;
 use crate::measures::extent;
 use crate::mods::Mod;
 use crate::parts::{Parts, parts_of};
@@ -196,18 +196,6 @@ fn moved_at<'a>(m: &Mod, s: &Tree, rest: &'a [u32], offset: u32) -> Stand<'a>
         Mod::AssignNode(..) => Way::Rest(rest).at(offset),
         Mod::InsertNode(_, i, _) => Way::Step(*i, rest).at(offset),
         Mod::RemoveNode(_, i) => moved_by_unwrap(*i, rest, offset),
-    }
-}
-
-// The trees that the modification puts in are well formed.
-fn sound(m: &Mod)
-    ensures { IsSound m.now }
-{
-    match m {
-        Mod::Assign(_, x) | Mod::Insert(_, _, x) | Mod::InsertNode(_, _, x) => {
-            let _size = x.size();
-        }
-        _ => {}
     }
 }
 
