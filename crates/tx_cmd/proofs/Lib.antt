@@ -1,5 +1,4 @@
 pub mod Splits
-pub mod Fronts
 pub mod Numerals
 pub mod Names
 pub mod WordTexts

@@ -9,7 +9,7 @@ use Rattle.tx_cmd.specs.declared.words.Word.{Word}
 use Rattle.tx_cmd.specs.Words.{HasNoSpace, IsLoosePiece, AreLoose, IsLoose, arguments_of, word_text}
 use Rattle.tx_cmd.specs.Pieces.{IsTail, EndsPiece, IsCut, tree_is_last, IsMisfit, IsPieceMisfit}
 use Rattle.tx_cmd.proofs.Splits.{one_piece, GoesOn, split_front}
-use Rattle.tx_cmd.proofs.Fronts.{ends_behind}
+use Rattle.tx_base.proofs.Fronts.{ends_behind}
 use Rattle.tx_cmd.proofs.WordTexts.{one_word}
 use Rattle.tx_cmd.proofs.Numerals.{numeral_no_space, label_no_space, some_numeral, some_label}
 use Rattle.tx_cmd.proofs.Names.{name_no_space, some_name}

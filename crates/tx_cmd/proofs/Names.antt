@@ -4,7 +4,7 @@ use Rattle.std.specs.List.{AllByRecursion}
 use Rattle.std.proofs.lemmas.List.{append-nil, take_more, length-take-le}
 use Rattle.tx_base.specs.Fronts.{IsLongestFront}
 use Rattle.tx_cmd.specs.Words.{HasNoSpace, is_name_byte, IsName}
-use Rattle.tx_cmd.proofs.Fronts.{ends_before, ends_behind}
+use Rattle.tx_base.proofs.Fronts.{ends_before, ends_behind}
 
 -- bytes of a name that aren't too many
 pub record AreRead (bytes : List ℕ) : Type 0 where

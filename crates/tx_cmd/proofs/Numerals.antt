@@ -9,7 +9,7 @@ use Rattle.tx_tree.specs.Labels.{is_label_byte, IsLabel}
 use Rattle.tx_tree.specs.PathSpelling.{is_digit, number_after, IsNumber, AreNumbers, SpellsPath}
 use Rattle.tx_cmd.specs.Words.{HasNoSpace, IsNumeral}
 use Rattle.tx_cmd.specs.Pieces.{next_number}
-use Rattle.tx_cmd.proofs.Fronts.{ends_before, ends_behind}
+use Rattle.tx_base.proofs.Fronts.{ends_before, ends_behind}
 
 abbrev AreDigits : List ℕ → Type 0
 AreDigits = AllByRecursion (λ b. is_digit b ≡ true)

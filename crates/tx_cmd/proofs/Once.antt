@@ -28,7 +28,7 @@ use Rattle.tx_cmd.specs.Values.{Value, a_path, a_number, a_label, a_name, a_tree
 use Rattle.tx_cmd.specs.Commands.{mod_word, values_behind, word_of, values_of, IsCommand}
 use Rattle.tx_cmd.specs.Pieces.{IsTail, tree_is_last}
 use Rattle.tx_cmd.specs.Refusals.{IsBadPath, IsBadTree, IsBadPiece, IsFirstFault, IsRefused, IsCmdFault}
-use Rattle.tx_cmd.proofs.Fronts.{one_front}
+use Rattle.tx_base.proofs.Fronts.{one_front}
 use Rattle.tx_cmd.proofs.Splits.{word_is}
 use Rattle.tx_cmd.proofs.Numerals.{path_no_space}
 use Rattle.tx_cmd.proofs.WordTexts.{one_word, word_no_space, arguments_in_order}

@@ -7,12 +7,7 @@ use Rattle.tx_tm_form.specs.Forms.{Spells, IsTmFront}
 use Rattle.tx_tm_form.specs.Fronts.{goes_on, StopsAt, IsLongestTmFront}
 use Rattle.tx_tm_form.proofs.Stops.{run_stops, run_append, front_goes_on}
 use Rattle.tx_tm_form.proofs.Closing.{goes_on_is_front}
-
-take_less : (bytes : List ℕ) (i m : ℕ) → i ≤ m → (rest : List ℕ) × (take m bytes ≡ take i bytes ++ rest)
-take_less bytes zero m h = (take m bytes, refl)
-take_less bytes (suc i) zero h = absurd (omega arith)
-take_less [] (suc i) (suc m) h = ([], refl)
-take_less (b ∷ bytes) (suc i) (suc m) h = let t = take_less bytes i m (omega arith) in (t.0, ap (λ x. b ∷ x) t.1)
+use Rattle.tx_base.proofs.Fronts.{take_less}
 
 no_front : (bytes : List ℕ) (i m : ℕ) → i ≤ m → goes_on (run keep start (take i bytes)) ≡ false → IsTmFront bytes m → ⊥
 no_front bytes i m h e f =
