@@ -6,6 +6,8 @@ mod edits;
 #[cfg(test)]
 mod faults;
 #[cfg(test)]
+mod greatest;
+#[cfg(test)]
 mod lines;
 #[cfg(test)]
 mod outside;
