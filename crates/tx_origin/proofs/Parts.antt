@@ -6,6 +6,7 @@ use Rattle.tx_tree.specs.Labels.{IsLabel}
 use Rattle.tx_tree.specs.Limits.{AreWellFormed, IsWellFormed, IsWithinLimits}
 use Rattle.tx_tree.specs.WideTree.{WideTree, Forest, leaf, nil, cons, node, forest, size_of, total_size, depth_of, deepest, arity_of, nodes_of, total_nodes, count, widest, longest_text}
 use Rattle.std.proofs.Math.Nat.{max-le, le-max_left}
+use Rattle.tx_tree.proofs.Children.{count-forest}
 use Rattle.tx_origin.specs.Values.{WideValue, WideValues, none, also, vals, each_of, plain, plains}
 
 pub each_vals : (vs : List WideValue) → each_of (vals vs) ≡ vs
@@ -130,7 +131,9 @@ pub node_kept : (size depth nodes : ℕ) (label : List ℕ) (vs : List WideValue
     → IsLabel label → length vs ≤ 65535 → deepest (plains (vals vs)) < 400 → total_size (plains (vals vs)) < 8000000
     → IsWellFormed (node label (plains (vals vs))) × IsWithinLimits (node label (plains (vals vs)))
 node_kept size depth nodes label vs h named wide deep big =
-    let narrow = max-le (omega (arith, count-plains vs, wide)) h.narrow in
+    let narrow : arity_of (node label (plains (vals vs))) ≤ 65535 = max-le (omega (arith, count-plains vs, wide)) h.narrow in
     let within : IsWithinLimits (node label (plains (vals vs))) =
     record { text = h.short; arity = narrow; depth = omega (arith, deep); size = omega (arith, big) } in
     ((named, h.well_formed), within)
+
+pub ruleset fault_rules = (count-forest)

@@ -58,19 +58,15 @@ whole_made at t label i vs e le h =
     ap (λ ps. made label ps at) (all_parts at i (children_of t) vs le h) ∙ sym (ap (whole at) (node_is t label e))
 
 -- the tree is the node with these parts without their origins
-pub whole_from : (at : Option (List ℕ)) (t : WideTree) (label : List ℕ) (i : ℕ) (vs : List WideValue)
-    → label_of t ≡ Some label → length (children_of t) ≤ i
-    → vs ++ from at i (children_of t) ≡ from at 0 (children_of t) → t ≡ node label (plains (vals vs))
-whole_from at t label i vs e le h = sym (ap plain (whole_made at t label i vs e le h) ∙ plain_whole at t)
+pub whole_from : (at : Option (List ℕ)) (t : WideTree) (label : List ℕ) (vs : List WideValue)
+    → made label (vals vs) at ≡ whole at t → t ≡ node label (plains (vals vs))
+whole_from at t label vs e = sym (ap plain e ∙ plain_whole at t)
 
-pub whole_within : (at : Option (List ℕ)) (t : WideTree) (label : List ℕ) (i : ℕ) (vs : List WideValue)
-    → label_of t ≡ Some label → length (children_of t) ≤ i
-    → vs ++ from at i (children_of t) ≡ from at 0 (children_of t) → IsWithinLimits t
-    → IsWithinLimits (node label (plains (vals vs)))
-whole_within at t label i vs e le h w =
-    subst IsWithinLimits (whole_from at t label i vs e le h) w
+pub whole_within : (at : Option (List ℕ)) (t : WideTree) (label : List ℕ) (vs : List WideValue)
+    → made label (vals vs) at ≡ whole at t → IsWithinLimits t → IsWithinLimits (node label (plains (vals vs)))
+whole_within at t label vs e w = subst IsWithinLimits (whole_from at t label vs e) w
 
-pub whole_start : (at : Option (List ℕ)) (ts : List WideTree) → [] ++ from at 0 ts ≡ from at 0 ts
-whole_start at ts = refl
+pub plain_is : (at : Option (List ℕ)) (t : WideTree) (v : WideValue) → v ≡ whole at t → plain v ≡ t
+plain_is at t v e = ap plain e ∙ plain_whole at t
 
-pub ruleset whole_rules = (whole_leaf, whole_next, whole_made, whole_within, plain_whole, leaf_or_node, child_shallower)
+pub ruleset whole_rules = (whole_leaf, whole_next, whole_made, plain_is, leaf_or_node, child_shallower)

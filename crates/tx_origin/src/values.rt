@@ -1,6 +1,6 @@
 // Values: trees whose nodes have origins, shared by Rc.
 ghost use Rattle.std.specs.Prelude.{◌≡◌, ◌+◌, ◌<◌, ◌≤◌, length, IfOk, OnOk, IfSome, MatchOption, None, Some, slice_get};
-ghost use Rattle.tx_tree.specs.WideTree.{size_of, depth_of, nodes_of, deepest, total_size};
+ghost use Rattle.tx_tree.specs.WideTree.{leaf, node, forest, size_of, depth_of, nodes_of, deepest, total_size};
 ghost use Rattle.tx_tree.specs.declared.TheConstants.{MOST_ARITY, MOST_DEPTH, MOST_SIZE};
 ghost use Rattle.tx_tree.specs.Limits.{IsWellFormed, IsWithinLimits};
 ghost use Rattle.tx_origin.specs.Values.{text, made, vals, value_parts, value_text, value_label, value_origin, plain, plains, whole, IsFrom};
@@ -12,7 +12,7 @@ use std::marker::Model;
 use std::rc::Rc;
 use std::sync::ledger::Ledger;
 use tx_base::{Memory, Steps};
-use tx_tree::{Label, Text, Tree};
+use tx_tree::{Label, Text, Tree, TreeFault};
 
 /// A tree each of whose nodes has an origin or none. It is within the limits of trees, and answers its size, its depth
 /// and the number of its nodes without a walk. Values share their parts.
@@ -231,12 +231,11 @@ impl Value {
         ensures plain { IfOk result (λ v. plain v ≡ tree.now) }
     {
         if let Some(words) = tree.text() {
-            return Value::leaf(alloc, words.copy()?, share_origin(at)?);
+            return whole_leaf(alloc, words, at);
         }
         let Some(label) = tree.label() else {
             unreachable!()
         };
-        let _size = tree.size();
         let mut parts = Vec::new(alloc);
         for i in 0..tree.arity() {
             let Some(kid) = tree.child(i) else {
@@ -245,8 +244,7 @@ impl Value {
             let origin = child_at(alloc, at, i)?;
             parts.push(Value::whole(alloc, kid, &origin)?)?;
         }
-        let from = Some(tree.share()?);
-        Value::node_from(alloc, label.copy()?, parts, share_origin(at)?, from)
+        whole_node(alloc, tree, label, parts, at)
     }
 
     /// The tree without origins. At `Ok` it has taken a step for each node that isn't a leaf. A node that was taken
@@ -256,23 +254,80 @@ impl Value {
         ensures counted { OnOk result (steps.new ≡ steps.old + nodes_of (plain self.now)) }
     {
         match &*self.content {
-            Content::Text(words, _) => Tree::leaf(alloc, words.copy()?),
+            Content::Text(words, _) => plain_leaf(alloc, words),
             Content::Node(label, parts, _, from) => {
                 if let Some(tree) = from {
-                    let same = tree.share()?;
-                    steps.add(self.nodes);
-                    return Ok(same);
+                    return taken(tree, self.nodes, steps);
                 }
                 let mut children = Vec::new(alloc);
                 for part in parts {
                     children.push(part.plain(alloc, steps)?)?;
                 }
-                match Tree::node(alloc, label.copy()?, children, steps) {
-                    Ok(tree) => Ok(tree),
-                    // A value is within the limits, so there is no other fault.
-                    Err(_) => Err(Memory),
-                }
+                plain_node(alloc, label, children, steps)
             }
         }
+    }
+}
+
+// The value of a text that stands at this origin.
+fn whole_leaf(alloc: Global, words: &Text, at: &Option<Ip>) -> Result<Value, Memory>
+    ensures { IfOk result (λ v. v ≡ text words.now at.now) }
+{
+    Value::leaf(alloc, words.copy()?, share_origin(at)?)
+}
+
+// The value of this tree at this origin, whose label and parts these are.
+fn whole_node(
+    alloc: Global,
+    tree: &Tree,
+    label: &Label,
+    parts: Vec<Value>,
+    at: &Option<Ip>,
+) -> Result<Value, Memory>
+    requires { made label.now (vals parts.items) at.now ≡ whole at.now tree.now }
+    ensures { IfOk result (λ v. v ≡ whole at.now tree.now) }
+{
+    let _size = tree.size();
+    let label = label.copy()?;
+    let from = tree.share()?;
+    let origin = share_origin(at)?;
+    Value::node_from(alloc, label, parts, origin, Some(from))
+}
+
+// A leaf with the same text.
+fn plain_leaf(alloc: Global, words: &Text) -> Result<Tree, Memory>
+    ensures { IfOk result (λ t. t ≡ leaf words.now) }
+{
+    Tree::leaf(alloc, words.copy()?)
+}
+
+// The same tree, with as many steps.
+fn taken<L: Ledger>(tree: &Tree, nodes: u64, steps: &mut Steps<L>) -> Result<Tree, Memory>
+    ensures ok { IfOk result (λ t. t ≡ tree.now) }
+    ensures counted { OnOk result (steps.new ≡ steps.old + nodes) }
+{
+    let same = tree.share()?;
+    steps.add(nodes);
+    Ok(same)
+}
+
+// The node with this label and these children, which is within the limits.
+#[tactic(auto, using(crate::proofs::Parts::fault_rules, std::proofs::lemmas::Grind::common_steps))]
+fn plain_node<L: Ledger>(
+    alloc: Global,
+    label: &Label,
+    children: Vec<Tree>,
+    steps: &mut Steps<L>,
+) -> Result<Tree, Memory>
+    requires { IsWithinLimits (node label.now (forest children.items)) }
+    ensures ok { IfOk result (λ t. t ≡ node label.now (forest children.items)) }
+    ensures counted { OnOk result (steps.new ≡ steps.old + 1) }
+{
+    match Tree::node(alloc, label.copy()?, children, steps) {
+        Ok(tree) => Ok(tree),
+        Err(TreeFault::Memory) => Err(Memory),
+        Err(TreeFault::TooWide(_)) => unreachable!(),
+        Err(TreeFault::TooDeep(_)) => unreachable!(),
+        Err(TreeFault::TooBig(_)) => unreachable!(),
     }
 }
