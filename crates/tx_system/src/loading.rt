@@ -16,7 +16,8 @@ pub fn read_to_limit<F: Read>(file: &mut F, out: &mut Vec<u8>) -> Result<(), Loa
     ensures all { OnOk result (IfSome (F.remaining file.old) (λ bytes. out.new.items ≡ bytes)) }
     ensures end { OnOk result (IsAtEnd (F.remaining file.new)) }
     ensures within { OnOk result (length out.new.items ≤ MOST_FILE) }
-    ensures too_long { IsErrOf result LoadFault.TooLong → IfSome (F.remaining file.old) (λ bytes. MOST_FILE < length bytes) }
+    ensures too_long { IsErrOf result LoadFault.TooLong
+        → IfSome (F.remaining file.old) (λ bytes. MOST_FILE < length bytes) }
     ensures there { IfErr result (λ fault. fault ≢ LoadFault.Missing) }
 {
     let mut piece = [0u8; PIECE];

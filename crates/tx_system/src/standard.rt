@@ -37,10 +37,12 @@ impl<R: Read + Drop> Source for StandardInput<R> {
 
         // What the reader gave.
         ensures within { IfOk result (λ n. n ≤ length into.old) }
-        ensures consumed { IfOk result (λ n. Consumes (R.remaining (reader_of self.old)) (R.remaining (reader_of self.new)) (take n into.new)) }
+        ensures consumed { IfOk result (λ n.
+            Consumes (R.remaining (reader_of self.old)) (R.remaining (reader_of self.new)) (take n into.new)) }
         ensures end { IfOk result (λ n. n ≡ 0 → IsAtEnd (R.remaining (reader_of self.new))) }
         ensures failed_rose { OnErr result (Rose (input_faults self.old) (input_faults self.new)) }
-        ensures failed_takes_nothing { OnErr result (Keeps (R.remaining (reader_of self.old)) (R.remaining (reader_of self.new))) }
+        ensures failed_takes_nothing { OnErr result
+            (Keeps (R.remaining (reader_of self.old)) (R.remaining (reader_of self.new))) }
         ensures faults_never_fall { NeverFalls (input_faults self.old) (input_faults self.new) }
     {
         match self.reader.read(into) {
@@ -73,7 +75,8 @@ impl<W: Write + Drop> StandardOutput<W> {
     #[tactic(auto, using(crate::proofs::Known::written_and_flushed))]
     fn write_some(&mut self, piece: &[u8]) -> io::Result<usize>
         ensures within { IfOk result (λ n. n ≤ length piece.now) }
-        ensures appended { IfOk result (λ n. Appends (W.contents self.old.writer) (W.contents self.new.writer) (take n piece.now)) }
+        ensures appended { IfOk result (λ n.
+            Appends (W.contents self.old.writer) (W.contents self.new.writer) (take n piece.now)) }
         ensures faults { self.new.faults ≡ self.old.faults }
     {
         let count = self.writer.write(piece)?;
@@ -92,7 +95,8 @@ impl<W: Write + Drop> Sink for StandardOutput<W> {
     fn write(&mut self, piece: &[u8]) -> Result<usize, Failed>
         ensures some { IfOk result (λ n. 0 < n) }
         ensures within { IfOk result (λ n. n ≤ length piece.now) }
-        ensures put { IfOk result (λ n. Appends (W.contents (writer_of self.old)) (W.contents (writer_of self.new)) (take n piece.now)) }
+        ensures put { IfOk result (λ n.
+            Appends (W.contents (writer_of self.old)) (W.contents (writer_of self.new)) (take n piece.now)) }
         ensures failed_rose { OnErr result (Rose (output_faults self.old) (output_faults self.new)) }
         ensures faults_never_fall { NeverFalls (output_faults self.old) (output_faults self.new) }
     {

@@ -1,5 +1,7 @@
 // Files in memory: one file `old.tm`, its folder, and a new file beside it. They note each call, and fail at the
 // calls that they are asked to.
+ghost use Rattle.std.specs.Io.{ReadsAtMost, WritesAtMost};
+
 use std::alloc::{Allocator, Global};
 use std::cell::{RefCell, RefMut};
 use std::fs::{Metadata, OpenFile, OpenOptions, Permissions};
@@ -64,7 +66,9 @@ impl Disk {
         Ok(())
     }
 
-    fn give(&mut self, into: &mut [u8], at: usize) -> io::Result<usize> {
+    fn give(&mut self, into: &mut [u8], at: usize) -> io::Result<usize>
+        ensures { ReadsAtMost result into.new }
+    {
         self.note(Call::Read)?;
         let rest = self.old.get(at..).unwrap_or(&[]);
         let count = rest.len().min(into.len()).min(4);
@@ -72,7 +76,9 @@ impl Disk {
         Ok(count)
     }
 
-    fn take(&mut self, piece: &[u8]) -> io::Result<usize> {
+    fn take(&mut self, piece: &[u8]) -> io::Result<usize>
+        ensures { WritesAtMost result piece.now }
+    {
         self.note(Call::Write)?;
         let count = piece.len().min(3);
         self.new.extend_from_slice(&piece[..count])?;
@@ -184,22 +190,29 @@ impl OpenFile for FakeFile<'_> {
     }
 }
 
+impl FakeFiles<'_> {
+    fn opened(&self, how: &OpenOptions, path: &str) -> io::Result<Which> {
+        let mut disk = lent(self.disk)?;
+        if how.asks_create_new() {
+            disk.create()?;
+            Ok(Which::New)
+        } else if path == FOLDER {
+            disk.note(Call::Folder)?;
+            Ok(Which::Folder)
+        } else {
+            disk.note(Call::Open)?;
+            Ok(Which::Old)
+        }
+    }
+}
+
 impl<'a> Files for FakeFiles<'a> {
     type File = FakeFile<'a>;
 
     type Dir = FakeFile<'a>;
 
     fn open_file(&self, how: &OpenOptions, path: &str) -> io::Result<FakeFile<'a>> {
-        let which = if how.asks_create_new() {
-            lent(self.disk)?.create()?;
-            Which::New
-        } else if path == FOLDER {
-            lent(self.disk)?.note(Call::Folder)?;
-            Which::Folder
-        } else {
-            lent(self.disk)?.note(Call::Open)?;
-            Which::Old
-        };
+        let which = self.opened(how, path)?;
         Ok(FakeFile {
             disk: self.disk,
             which,

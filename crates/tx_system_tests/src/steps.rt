@@ -1,8 +1,6 @@
 // Saves at which one step fails, and loads.
-ghost use Rattle.std.specs.Prelude.{◌≡◌, [], ◌≤◌, length};
-
 use crate::fake_files::{Call, Disk, FakeFiles, NAME};
-use std::alloc::{AllocError, Global};
+use std::alloc::Global;
 use std::cell::RefCell;
 use std::io::{self, ErrorKind};
 use std::test::Fail;
