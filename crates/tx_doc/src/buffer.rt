@@ -1,5 +1,6 @@
 // Trees under names.
 ghost use Rattle.std.specs.Prelude.{◌≡◌, IfOk};
+ghost use Rattle.tx_doc.specs.Buffers.{AreFormed, number_of};
 
 use std::alloc::Global;
 use std::marker::Model;
@@ -57,4 +58,22 @@ pub struct Buffer {
     pub name: Name,
     /// What it holds.
     pub tree: Tree,
+}
+
+/// The number of the first buffer of this name, from 0. None comes exactly where no buffer has it.
+pub fn number_of(buffers: &[Buffer], name: &[u8]) -> Option<usize>
+    ensures { result ≡ number_of buffers.now name.now }
+{
+    buffers
+        .iter()
+        .position(|buffer| buffer.name.bytes() == name)
+}
+
+/// A law: every buffer's tree is well formed, and within the limits.
+pub fn formed_law(buffers: &[Buffer])
+    ensures { AreFormed buffers.now }
+{
+    for buffer in buffers {
+        let _size = buffer.tree.size();
+    }
 }

@@ -1,28 +1,33 @@
 // Two rings of entries.
-ghost use Rattle.std.specs.Prelude.{◌≡◌, ◌+◌, ◌<◌, ◌≤◌, ◌++◌, ◌∷◌, [], length, if◌then◌else◌, IfOk, IfErr, MatchResult};
-ghost use Rattle.tx_history.specs.Lists.{newest};
+ghost use Rattle.std.specs.Prelude.{◌≡◌, ◌+◌, ◌<◌, ◌≤◌, ◌++◌, ◌∷◌, [], length, if◌then◌else◌, IfOk, IfErr, option_copied};
+ghost use Rattle.tx_history.specs.Lists.{newest, last};
 
-use crate::entries::{Entry, Nothing};
 use circular_buffer::HeapCircularBuffer;
 use std::alloc::Global;
 use std::marker::Model;
+use thiserror::Error;
 use tx_base::Memory;
 
-/// The edits that can be undone and redone.
+/// There is no entry to take.
+#[derive(Clone, Copy, Debug, PartialEq, Eq, Error)]
+#[error("nothing to undo or to redo")]
+pub struct Nothing;
+
+/// The edits that can be undone and redone, each an entry of any type.
 #[derive(Drop)]
-pub struct History {
-    past: HeapCircularBuffer<Entry>,
-    future: HeapCircularBuffer<Entry>,
+pub struct History<E: Drop> {
+    past: HeapCircularBuffer<E>,
+    future: HeapCircularBuffer<E>,
     depth: usize,
 }
 
-impl Model for History {
+impl<E: Drop> Model for History<E> {
     ghost use Rattle.tx_history.specs.Lists.{Lists};
     ghost use Rattle.tx_history.specs.Codes.{lists_code};
 
-    ghost Value = { Lists };
+    ghost Value = { Lists E };
 
-    ghost coded = { lists_code };
+    ghost coded = { lists_code E.code };
 
     ghost use Rattle.tx_history.specs.Rings.{AreRings};
 
@@ -31,9 +36,9 @@ impl Model for History {
     ghost invariant = { AreRings };
 }
 
-impl History {
+impl<E: Drop> History<E> {
     /// No entries, with room for so many, at least 1. It takes all the memory that the history needs.
-    pub fn new(alloc: Global, depth: usize) -> Result<History, Memory>
+    pub fn new(alloc: Global, depth: usize) -> Result<History<E>, Memory>
         requires { 1 ≤ depth }
         ensures { IfOk result (λ h. h ≡ record { past = []; future = []; depth = depth }) }
     {
@@ -46,7 +51,7 @@ impl History {
 
     /// Puts the entry of a new edit behind the past, drops the oldest where there are more than the depth, and
     /// empties the future.
-    pub fn done(&mut self, entry: Entry)
+    pub fn done(&mut self, entry: E)
         ensures past { self.new.past ≡ newest self.old.depth (self.old.past ++ entry ∷ []) }
         ensures future { self.new.future ≡ [] }
         ensures depth { self.new.depth ≡ self.old.depth }
@@ -57,7 +62,7 @@ impl History {
 
     /// Takes the last entry of the past. `Nothing` comes exactly where there is none, and changes nothing.
     #[tactic(auto, using(crate::proofs::Ends::with_last, crate::proofs::Ends::without_last, std::proofs::lemmas::Grind::common_steps))]
-    pub fn undo(&mut self) -> Result<Entry, Nothing>
+    pub fn undo(&mut self) -> Result<E, Nothing>
         ensures taken { IfOk result (λ entry. self.old.past ≡ self.new.past ++ entry ∷ []) }
         ensures nothing { IfErr result (λ _. (self.old.past ≡ []) × (self.new.past ≡ [])) }
         ensures future { self.new.future ≡ self.old.future }
@@ -71,7 +76,7 @@ impl History {
 
     /// Takes the last entry of the future. `Nothing` comes exactly where there is none, and changes nothing.
     #[tactic(auto, using(crate::proofs::Ends::with_last, crate::proofs::Ends::without_last, std::proofs::lemmas::Grind::common_steps))]
-    pub fn redo(&mut self) -> Result<Entry, Nothing>
+    pub fn redo(&mut self) -> Result<E, Nothing>
         ensures taken { IfOk result (λ entry. self.old.future ≡ self.new.future ++ entry ∷ []) }
         ensures nothing { IfErr result (λ _. (self.old.future ≡ []) × (self.new.future ≡ [])) }
         ensures past { self.new.past ≡ self.old.past }
@@ -83,8 +88,22 @@ impl History {
         }
     }
 
+    /// The last entry of the past, which `undo` would take.
+    pub fn last_done(&self) -> Option<&E>
+        ensures { option_copied result ≡ last self.now.past }
+    {
+        self.past.back()
+    }
+
+    /// The last entry of the future, which `redo` would take.
+    pub fn last_undone(&self) -> Option<&E>
+        ensures { option_copied result ≡ last self.now.future }
+    {
+        self.future.back()
+    }
+
     /// Puts the entry of an edit that was undone behind the future. Both lists together have fewer entries than the depth.
-    pub fn undone(&mut self, entry: Entry)
+    pub fn undone(&mut self, entry: E)
         requires { length self.old.past + length self.old.future < self.old.depth }
         ensures future { self.new.future ≡ self.old.future ++ entry ∷ [] }
         ensures past { self.new.past ≡ self.old.past }
@@ -94,7 +113,7 @@ impl History {
     }
 
     /// Puts the entry of an edit that was made again behind the past. Both lists together have fewer entries than the depth.
-    pub fn redone(&mut self, entry: Entry)
+    pub fn redone(&mut self, entry: E)
         requires { length self.old.past + length self.old.future < self.old.depth }
         ensures past { self.new.past ≡ self.old.past ++ entry ∷ [] }
         ensures future { self.new.future ≡ self.old.future }
@@ -105,7 +124,7 @@ impl History {
 
     /// Puts back an entry that was taken and could not be applied: behind the past, or behind the future where
     /// `past` is false. Both lists together have fewer entries than the depth.
-    pub fn keep(&mut self, entry: Entry, past: bool)
+    pub fn keep(&mut self, entry: E, past: bool)
         requires { length self.old.past + length self.old.future < self.old.depth }
         ensures past { self.new.past ≡ (if past then self.old.past ++ entry ∷ [] else self.old.past) }
         ensures future { self.new.future ≡ (if past then self.old.future else self.old.future ++ entry ∷ []) }

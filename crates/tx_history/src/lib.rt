@@ -4,10 +4,6 @@
 //! (`specs/Lists.antt`). Both lists together never have more. All memory is taken in `History::new`.
 #![tactic(auto)]
 
-mod entries;
 mod history;
-#[cfg(test)]
-mod tests;
 
-pub use entries::{Entry, Mods, Nothing};
-pub use history::History;
+pub use history::{History, Nothing};

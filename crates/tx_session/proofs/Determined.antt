@@ -4,7 +4,7 @@ use Rattle.std.specs.Prelude.{codes}
 use Rattle.tx_outside.specs.Files.{Files}
 use Rattle.tx_tree.specs.WideTree.{WideTree}
 use Rattle.tx_mod.specs.declared.faults.ModFault.{ModFault}
-use Rattle.tx_state.specs.Buffers.{document_of}
+use Rattle.tx_doc.specs.Buffers.{document_of}
 use Rattle.tx_state.specs.States.{State}
 use Rattle.tx_state.specs.Edits.{edited, undone, redone}
 use Rattle.tx_cmd.specs.declared.command.Command.{Command}

@@ -8,7 +8,7 @@ use Rattle.tx_tree.specs.declared.faults.PlaceFault.{PlaceFault}
 use Rattle.tx_tree.specs.declared.faults.PlaceFault.TheVariants.{NoPath, BadPlace, CutsSymbol}
 use Rattle.tx_tree.proofs.Cutting.{cut_within}
 use Rattle.tx_mod.specs.Moves.{place}
-use Rattle.tx_state.specs.Buffers.{document_of}
+use Rattle.tx_doc.specs.Buffers.{document_of}
 use Rattle.tx_state.specs.States.{State}
 use Rattle.tx_state.specs.Edits.{Goes, IsAstray}
 

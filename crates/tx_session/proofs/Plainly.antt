@@ -13,7 +13,7 @@ use Rattle.tx_mod.specs.declared.faults.ModFault.TheVariants.{NoPath, NotString,
 use Rattle.tx_tree.specs.declared.faults.PlaceFault.{PlaceFault}
 use Rattle.tx_tree.specs.declared.faults.PlaceFault.TheVariants as places
 use Rattle.tx_doc.specs.Forms.{form_of}
-use Rattle.tx_state.specs.Buffers.{document_of}
+use Rattle.tx_doc.specs.Buffers.{document_of}
 use Rattle.tx_state.specs.States.{State}
 use Rattle.tx_state.specs.Edits.{edited, undone, redone}
 use Rattle.tx_cmd.specs.declared.command.Command.{Command}

@@ -1,7 +1,7 @@
 -- What a session holds shows its document.
 use Rattle.std.proofs.Common.{◌≡◌, ℕ, List, refl, sym, subst, inl, inr, Vec, Global}
 use Rattle.std.specs.Prelude.{codes}
-use Rattle.tx_state.specs.Buffers.{document_of}
+use Rattle.tx_doc.specs.Buffers.{document_of}
 use Rattle.tx_session.specs.declared.session.Shown.TheVariants.{NoShape, Pages}
 use Rattle.tx_session.specs.declared.session.Session.TheInside.{Inside}
 use Rattle.tx_session.specs.Lines.{line}

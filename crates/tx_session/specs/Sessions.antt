@@ -2,7 +2,7 @@
 use Rattle.std.specs.Prelude.{◌≤◌, ℕ, Bool, true, false, refl}
 use Rattle.std.specs.Coded.{Coded, code_by, coded×, coded_ℕ, coded_bool}
 use Rattle.tx_tree.specs.WideTree.{WideTree}
-use Rattle.tx_state.specs.Buffers.{document_of}
+use Rattle.tx_doc.specs.Buffers.{document_of}
 use Rattle.tx_state.specs.States.{State}
 use Rattle.tx_state.specs.contracts.state.EditorState as one_state
 use Rattle.tx_session.specs.declared.session.Shown.{Shown}

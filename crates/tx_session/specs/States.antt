@@ -1,12 +1,11 @@
 -- The answer to a command: what it makes of the state, and the reply.
-use Rattle.std.specs.Prelude.{◌≡◌, ◌≢◌, ◌⊎◌, ℕ, List, [], ◌∷◌, All, codes, length, Option, Some, None, Result, Ok, Err}
+use Rattle.std.specs.Prelude.{◌≡◌, ◌⊎◌, ℕ, List, [], codes, length, Option, Some, None, Result, Ok, Err}
 use Rattle.tx_tree.specs.PathSpelling.{place_text}
 use Rattle.tx_tree.specs.WideTree.{WideTree}
 use Rattle.tx_tree.specs.declared.faults.PlaceFault.{PlaceFault}
 use Rattle.tx_mod.specs.declared.faults.ModFault.{ModFault}
 use Rattle.tx_scm.specs.Canonical.{scheme_text}
-use Rattle.tx_doc.specs.declared.buffer.Buffer.{Buffer}
-use Rattle.tx_state.specs.Buffers.{document_of}
+use Rattle.tx_doc.specs.Buffers.{document_of}
 use Rattle.tx_state.specs.States.{State}
 use Rattle.tx_state.specs.Edits.{edited, undone, redone, Goes, IsAstray}
 use Rattle.tx_cmd.specs.declared.command.Command.{Command}
@@ -17,11 +16,6 @@ use Rattle.tx_session.specs.Paging.{IsShowing}
 use Rattle.tx_session.specs.Causes.{numbered, cause_reply, astray_reply}
 use Rattle.tx_session.specs.Forms.{Saving, no_form, file_long, writes, saving}
 use Rattle.tx_doc.specs.Forms.{form_of}
-
--- no two buffers have one name
-abbrev pub NamesDiffer : List Buffer → Type 0
-NamesDiffer [] = Unit {0}
-NamesDiffer (buffer ∷ others) = All (λ other. other.name ≢ buffer.name) others × NamesDiffer others
 
 -- the reply to `show`, from nothing but the tree and the size of a page
 abbrev pub IsShown : ℕ → ℕ → WideTree → List ℕ → Type 0

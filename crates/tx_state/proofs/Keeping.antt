@@ -8,11 +8,11 @@ use Rattle.tx_mod.specs.Changes.{changed}
 use Rattle.tx_mod.specs.Followed.{changed_by_all}
 use Rattle.tx_mod.specs.Moves.{moved_place}
 use Rattle.tx_history.specs.Lists.{newest}
-use Rattle.tx_history.specs.declared.entries.Entry.{Entry}
+use Rattle.tx_state.specs.declared.edits.Entry.{Entry}
 use Rattle.tx_doc.specs.declared.buffer.Buffer.{Buffer}
 use Rattle.tx_state.specs.declared.TheConstants.{MOST_UNDO}
 use Rattle.tx_state.specs.declared.state.EditorState.TheInside.{Inside}
-use Rattle.tx_state.specs.Buffers.{tree_of, with_tree, document_of}
+use Rattle.tx_doc.specs.Buffers.{tree_of, with_tree, document_of}
 use Rattle.tx_state.specs.Edits.{edited, undone, redone}
 use Rattle.tx_state.specs.Entries.{AllLead}
 use Rattle.tx_state.specs.Kept.{state_of, IsKept}

@@ -8,9 +8,9 @@ use Rattle.tx_tree.specs.declared.places.Place.{Place}
 use Rattle.tx_mod.specs.declared.mods.Mod.{Mod}
 use Rattle.tx_mod.specs.Followed.{changed_by_all}
 use Rattle.tx_history.specs.Lists.{newest}
-use Rattle.tx_history.specs.declared.entries.Entry.{Entry}
+use Rattle.tx_state.specs.declared.edits.Entry.{Entry}
 use Rattle.tx_doc.specs.declared.buffer.Buffer.{Buffer}
-use Rattle.tx_state.specs.Buffers.{tree_of, with_tree}
+use Rattle.tx_doc.specs.Buffers.{tree_of, with_tree}
 use Rattle.tx_state.specs.Entries.{led_to, moments, AllLead}
 use Rattle.tx_state.proofs.Trees.{tree_put, put_back}
 

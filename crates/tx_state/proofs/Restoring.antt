@@ -8,7 +8,7 @@ use Rattle.tx_mod.specs.declared.mods.Mod.{Mod}
 use Rattle.tx_mod.specs.declared.faults.ModFault.{ModFault}
 use Rattle.tx_mod.specs.Changes.{Outcome, changed}
 use Rattle.tx_state.specs.declared.TheConstants.{MOST_UNDO}
-use Rattle.tx_state.specs.Buffers.{document_of}
+use Rattle.tx_doc.specs.Buffers.{document_of}
 use Rattle.tx_state.specs.States.{State, Moment, present, at_moment}
 use Rattle.tx_state.specs.Edits.{edited, edited_to, with_outcome, back_to, on_to, undone, redone}
 use Rattle.tx_state.specs.Undoing.{IsEditedBy, times, Restores, RunsOut}

@@ -5,7 +5,7 @@ use Rattle.std.specs.Option.{option_map_or}
 use Rattle.tx_tree.specs.WideTree.{WideTree, leaf}
 use Rattle.tx_mod.proofs.Lists.{get_of_set, set_to_same}
 use Rattle.tx_doc.specs.declared.buffer.Buffer.{Buffer}
-use Rattle.tx_state.specs.Buffers.{tree_of, with_tree}
+use Rattle.tx_doc.specs.Buffers.{tree_of, with_tree}
 
 pub buffer_at : (bs : List Buffer) (k : ℕ) → k < length bs → (b : Buffer) × (slice_get bs k ≡ Some b)
 buffer_at [] k lt = absurd (omega arith)

@@ -9,10 +9,10 @@ use Rattle.tx_mod.specs.declared.mods.Mod.{Mod}
 use Rattle.tx_mod.specs.Changes.{changed}
 use Rattle.tx_mod.specs.Followed.{changed_by_all, tree_of as made_of}
 use Rattle.tx_mod.specs.Moves.{moved_place}
-use Rattle.tx_history.specs.declared.entries.Entry.{Entry}
+use Rattle.tx_state.specs.declared.edits.Entry.{Entry}
 use Rattle.tx_doc.specs.declared.buffer.Buffer.{Buffer}
 use Rattle.tx_state.specs.declared.TheConstants.{MOST_UNDO}
-use Rattle.tx_state.specs.Buffers.{tree_of, with_tree, document_of}
+use Rattle.tx_doc.specs.Buffers.{tree_of, with_tree, document_of}
 use Rattle.tx_state.specs.States.{State, at_moment}
 use Rattle.tx_state.specs.Edits.{edited, with_outcome, undone, redone}
 use Rattle.tx_state.specs.Entries.{moments, Leads, AllLead}

@@ -9,7 +9,7 @@ use Rattle.tx_mod.specs.declared.faults.ModFault.{ModFault}
 use Rattle.tx_mod.specs.Changes.{Outcome, changed}
 use Rattle.tx_mod.specs.Moves.{place, moved_place}
 use Rattle.tx_state.specs.declared.TheConstants.{MOST_UNDO}
-use Rattle.tx_state.specs.Buffers.{document_of, with_tree}
+use Rattle.tx_doc.specs.Buffers.{document_of, with_tree}
 use Rattle.tx_state.specs.States.{State, Moment, present, at_moment}
 
 -- The state where the modification makes the tree u of the document. The former moment can be taken back, of as many as are

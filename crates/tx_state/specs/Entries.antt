@@ -3,9 +3,9 @@ use Rattle.std.specs.Prelude.{◌≡◌, ◌<◌, List, [], ◌∷◌, length, u
 use Rattle.tx_tree.specs.WideTree.{WideTree}
 use Rattle.tx_tree.specs.Places.{IsPlace}
 use Rattle.tx_mod.specs.Followed.{changed_by_all}
-use Rattle.tx_history.specs.declared.entries.Entry.{Entry}
+use Rattle.tx_state.specs.declared.edits.Entry.{Entry}
 use Rattle.tx_doc.specs.declared.buffer.Buffer.{Buffer}
-use Rattle.tx_state.specs.Buffers.{tree_of, with_tree, document_of}
+use Rattle.tx_doc.specs.Buffers.{tree_of, with_tree, document_of}
 use Rattle.tx_state.specs.States.{Moment}
 
 -- the buffers after the modifications of an entry

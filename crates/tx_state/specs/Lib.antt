@@ -1,4 +1,3 @@
-pub mod Buffers
 pub mod Cursors
 pub mod States
 pub mod Edits

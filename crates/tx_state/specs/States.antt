@@ -2,7 +2,7 @@
 use Rattle.std.specs.Prelude.{List, []}
 use Rattle.tx_tree.specs.declared.places.Place.{Place}
 use Rattle.tx_doc.specs.declared.buffer.Buffer.{Buffer}
-use Rattle.tx_state.specs.Buffers.{document_of}
+use Rattle.tx_doc.specs.Buffers.{document_of}
 use Rattle.tx_state.specs.Cursors.{first_cursor}
 
 -- all buffers, whole, and the cursor in buffer 0

@@ -4,28 +4,15 @@ ghost use Rattle.tx_tree.specs.WideTree.{WideTree};
 ghost use Rattle.tx_mod.specs.Changes.{changed, IsRefusal};
 ghost use Rattle.tx_mod.specs.Followed.{changed_by_all};
 ghost use Rattle.tx_mod.specs.Mods.{path_of};
-ghost use Rattle.tx_mod.specs.Sound.{IsSound};
-ghost use Rattle.tx_state.specs.Buffers.{tree_of};
+ghost use Rattle.tx_doc.specs.Buffers.{tree_of};
 
+use crate::edits::Entry;
 use std::alloc::Global;
 use std::sync::ledger::Ledger;
 use tx_base::{Memory, Steps};
 use tx_doc::Buffer;
-use tx_history::{Entry, Mods};
-use tx_mod::{ApplyFault, Mod, apply, inverse, inverse_law};
+use tx_mod::{ApplyFault, Mod, ModList, apply_and_inverse, inverse_law, sound};
 use tx_tree::Tree;
-
-// The trees that the modification puts in are well formed.
-fn sound(m: &Mod)
-    ensures { IsSound m.now }
-{
-    match m {
-        Mod::Assign(_, x) | Mod::Insert(_, _, x) | Mod::InsertNode(_, _, x) => {
-            let _size = x.size();
-        }
-        _ => {}
-    }
-}
 
 // The changed tree, and the modification that gives the tree back.
 pub(crate) fn change_both_ways<L: Ledger>(
@@ -42,8 +29,7 @@ pub(crate) fn change_both_ways<L: Ledger>(
     let _size = t.size();
     sound(m);
     inverse_law();
-    let inverse = inverse(alloc, t, m, steps)?;
-    let tree = apply(alloc, t, m, steps)?;
+    let (tree, inverse) = apply_and_inverse(alloc, t, m, steps)?;
     Ok((tree, inverse))
 }
 
@@ -83,7 +69,7 @@ pub(crate) fn change_by_all<L: Ledger>(
     t: &Tree,
     mods: &[Mod],
     steps: &mut Steps<L>,
-) -> Result<(Tree, Mods), Memory>
+) -> Result<(Tree, ModList), Memory>
     requires { (u : WideTree) × (changed_by_all mods.now t.now ≡ Some u) }
     ensures there { IfOk result (λ r. changed_by_all mods.now t.now ≡ Some r.0) }
     ensures back { IfOk result (λ r. changed_by_all r.1 r.0 ≡ Some t.now) }
@@ -98,7 +84,7 @@ pub(crate) fn change_by_all<L: Ledger>(
         tree = next;
     }
     back.reverse();
-    Ok((tree, Mods::new(back)))
+    Ok((tree, ModList::from(back)))
 }
 
 // What an entry of one modification makes of its buffer's tree, and the one that leads back.
@@ -107,7 +93,7 @@ pub(crate) fn step_along<L: Ledger>(
     buffers: &[Buffer],
     entry: &Entry,
     steps: &mut Steps<L>,
-) -> Result<(Tree, Mods), Memory>
+) -> Result<(Tree, ModList), Memory>
     requires within { entry.now.buffer < length buffers.now }
     requires one { length entry.now.mods ≡ 1 }
     requires applies { (u : WideTree) × (changed_by_all entry.now.mods (tree_of buffers.now entry.now.buffer) ≡ Some u) }

@@ -6,11 +6,13 @@
 
 mod changing;
 mod cursors;
+mod edits;
 mod faults;
 mod laws;
 mod limits;
 mod state;
 
+pub use edits::Entry;
 pub use faults::{GoFault, UndoFault};
 pub use laws::undo_law;
 pub use limits::undo_limit_law;

@@ -7,13 +7,14 @@ ghost use Rattle.tx_mod.specs.declared.faults.ModFault.{ModFault as Cause};
 ghost use Rattle.tx_tree.specs.declared.faults.PlaceFault.{PlaceFault as PlaceCause};
 ghost use Rattle.tx_state.specs.declared.faults.GoFault.{GoFault};
 ghost use Rattle.tx_state.specs.declared.faults.UndoFault.{UndoFault};
-ghost use Rattle.tx_state.specs.Buffers.{document_of, with_tree};
+ghost use Rattle.tx_doc.specs.Buffers.{document_of, with_tree};
 ghost use Rattle.tx_state.specs.States.{opening};
 ghost use Rattle.tx_state.specs.Edits.{edited, undone, redone, Goes, IsAstray};
 
 use crate::MOST_UNDO;
 use crate::changing::{change_both_ways, step_along};
 use crate::cursors::first_cursor;
+use crate::edits::Entry;
 use crate::faults::{GoFault, UndoFault};
 use std::alloc::Global;
 use std::marker::Model;
@@ -21,8 +22,8 @@ use std::mem;
 use std::sync::ledger::Ledger;
 use tx_base::{Memory, Steps};
 use tx_doc::Buffer;
-use tx_history::{Entry, History, Mods};
-use tx_mod::{ApplyFault, Mod, moved};
+use tx_history::History;
+use tx_mod::{ApplyFault, Mod, ModList, moved};
 use tx_tree::{Path, Place, PlaceFault, Tree};
 
 /// The buffers of a session, the document first, with a cursor in the document, and the edits that can be undone and redone.
@@ -32,7 +33,7 @@ use tx_tree::{Path, Place, PlaceFault, Tree};
 pub struct EditorState {
     buffers: Vec<Buffer>,
     cursor: Place,
-    history: History,
+    history: History<Entry>,
 }
 
 impl Model for EditorState {
@@ -128,7 +129,7 @@ impl EditorState {
         let _size = self.document().size();
         let (tree, inverse) = change_both_ways(alloc, self.document(), m, steps)?;
         let cursor = moved(alloc, self.document(), m, &self.cursor)?;
-        let mods = Mods::new(vec![in alloc; inverse]?);
+        let mods = ModList::from(vec![in alloc; inverse]?);
         let former = exchange(&mut self.buffers, &mut self.cursor, 0, tree, cursor);
         self.history.done(Entry {
             buffer: 0,

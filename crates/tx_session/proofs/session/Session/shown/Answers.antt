@@ -1,6 +1,6 @@
 use Rattle.std.proofs.Common.{subst}
 use Rattle.std.specs.Prelude.{codes}
-use Rattle.tx_state.specs.Buffers.{document_of}
+use Rattle.tx_doc.specs.Buffers.{document_of}
 use Rattle.tx_session.specs.Lines.{line}
 use Rattle.tx_session.specs.States.{IsShown}
 use Rattle.tx_session.proofs.Showing.{shows_pages, shows_nothing}

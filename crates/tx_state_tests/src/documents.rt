@@ -1,12 +1,12 @@
 // Buffers and their names, made and read; the form by a name; a body.
 ghost use Rattle.std.specs.Prelude.{◌≡◌};
 
-use crate::{Buffer, Form, Name, body, form_of};
 use std::alloc::Global;
 use std::marker::Brand;
 use std::sync::ledger::{Blank, Ledger};
 use std::test::Fail;
 use tx_base::Steps;
+use tx_doc::{Buffer, Form, Name, body, form_of};
 use tx_tree::{Label, Text, Tree};
 
 #[test]
