@@ -1,5 +1,5 @@
 -- The rows on numbers, lengths and truths.
-use Rattle.std.specs.Prelude.{ℕ, Bool, true, false, not, ◌&&◌, nat_le, if◌then◌else◌, List, [], ◌∷◌, ℤ, pos, neg_ℤ, ◌+ℤ◌, ◌-ℤ◌, ◌*ℤ◌, int_div, count_by, Option, Some, None, option_and_then}
+use Rattle.std.specs.Prelude.{ℕ, Bool, true, false, not, nat_le, nat_lt, if◌then◌else◌, List, [], ◌∷◌, length, ℤ, pos, neg_ℤ, ◌+ℤ◌, ◌-ℤ◌, ◌*ℤ◌, int_div, count_by, Option, Some, None, option_and_then}
 use Rattle.std.specs.List.{list_all, list_any}
 use Rattle.std.specs.declared.cmp.Ordering.{Ordering}
 use Rattle.std.specs.Ordering.{int_eq, int_cmp, nat_cmp, is_lt, is_le, is_gt, is_ge}
@@ -72,20 +72,27 @@ times (a ∷ others) =
     then if_held (list_any is_length (a ∷ others)) (folded Multiply (size_in a) others)
     else Failed Bad
 
--- the quotient is cut toward zero, and the remainder has the sign of the first
-abbrev pub remainder : ℤ → ℤ → ℤ
-remainder x y = x -ℤ y *ℤ int_div x y
+-- the quotient, cut toward zero
+abbrev pub divided : Bool → ℤ → ℤ → Answer
+divided long x y = if int_eq y (pos 0) then Failed Zero else if_held long (if_fits (int_div x y))
 
 abbrev pub quotient : Amount → Amount → Answer
+quotient (Number x) (Number y) = divided false x y
+quotient (Length x) (Number y) = divided true x y
+quotient (Length x) (Length y) = divided false x y
 quotient (Number x) (Length y) = Failed Bad
-quotient a b =
-    if int_eq (size_in b) (pos 0) then Failed Zero else if_held (is_length a && not (is_length b)) (if_fits (int_div (size_in a) (size_in b)))
 
-abbrev pub rest_of : Amount → Amount → Answer
-rest_of a b =
-    if are_alike a b
-    then (if int_eq (size_in b) (pos 0) then Failed Zero else if_held (is_length a) (if_fits (remainder (size_in a) (size_in b))))
-    else Failed Bad
+-- the first less their quotient times the second, which is no further from 0 than the first
+abbrev pub rest_of : ℤ → ℤ → ℤ
+rest_of x y = x -ℤ int_div x y *ℤ y
+
+abbrev pub left_over : Bool → ℤ → ℤ → Answer
+left_over long x y = if int_eq y (pos 0) then Failed Zero else Value (amount long (rest_of x y))
+
+abbrev pub remainder : Amount → Amount → Answer
+remainder (Number x) (Number y) = left_over false x y
+remainder (Length x) (Length y) = left_over true x y
+remainder a b = Failed Bad
 
 -- of two operands
 abbrev pub of_two : (Amount → Amount → Answer) → List Amount → Answer
@@ -113,13 +120,12 @@ abbrev pub sameness : Bool → List WideTree → Answer
 sameness wanted (s ∷ t ∷ []) = Truth (if wanted then is_same s t else not (is_same s t))
 sameness wanted operands = Failed Bad
 
+-- one or more
 abbrev pub all_true : List Bool → Answer
-all_true [] = Failed Bad
-all_true (b ∷ others) = Truth (list_all (λ x. x) (b ∷ others))
+all_true truths = if nat_lt 0 (length truths) then Truth (list_all (λ x. x) truths) else Failed Bad
 
 abbrev pub some_true : List Bool → Answer
-some_true [] = Failed Bad
-some_true (b ∷ others) = Truth (list_any (λ x. x) (b ∷ others))
+some_true truths = if nat_lt 0 (length truths) then Truth (list_any (λ x. x) truths) else Failed Bad
 
 abbrev pub one_true : List Bool → Answer
 one_true (a ∷ b ∷ []) = Truth (if a then not b else b)

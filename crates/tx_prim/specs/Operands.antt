@@ -2,7 +2,8 @@
 use Rattle.std.specs.Prelude.{◌≡◌, ◌≤◌, ℕ, ◌-◌, Bool, true, false, ◌&&◌, nat_le, if◌then◌else◌, List, [], ◌∷◌, length, take, drop, ℤ, pos, negsuc, codes, Option, Some, None, option_and_then}
 use Rattle.std.specs.Option.{option_map}
 use Rattle.std.specs.Str.{bytes_eq}
-use Rattle.tx_tree.specs.WideTree.{WideTree, leaf, node, trees, text_of}
+use Rattle.tx_tree.specs.declared.TheConstants.{MOST_TEXT, MOST_ARITY}
+use Rattle.tx_tree.specs.WideTree.{WideTree, leaf, node, trees, forest, deepest, widest, longest_text, text_of}
 use Rattle.tx_prim.specs.declared.amounts.Amount.{Amount}
 use Rattle.tx_prim.specs.declared.amounts.Amount.TheVariants.{Number, Length}
 use Rattle.tx_prim.specs.Numbers.{number_of}
@@ -45,6 +46,12 @@ tuple_in (node label ts) = if bytes_eq label (codes "tuple") then Some (trees ts
 abbrev pub part : {A : Type 0} → ℤ → ℤ → List A → Option (List A)
 part (pos i) (pos j) xs = if nat_le i j && nat_le j (length xs) then Some (take (j - i) (drop i xs)) else None
 part i j xs = None
+
+-- no tree is deeper than a child may be, and none is past a limit
+pub record AreShallow (ts : List WideTree) : Type 0 where
+  pub depth : deepest (forest ts) ≤ 399
+  pub text : longest_text (forest ts) ≤ MOST_TEXT
+  pub arity : widest (forest ts) ≤ MOST_ARITY
 
 -- i and j are these places of a list of n elements
 abbrev pub IsRising : ℤ → ℤ → ℕ → Option (ℕ × ℕ) → Type 0

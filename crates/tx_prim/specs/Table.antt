@@ -20,7 +20,7 @@ use Rattle.tx_prim.specs.declared.table.Connective.TheVariants.{AllTrue, SomeTru
 use Rattle.tx_prim.specs.Lengths.{length_text}
 use Rattle.tx_prim.specs.Items.{items_of, joined_lists}
 use Rattle.tx_prim.specs.Operands.{every, number_in, amount_in, truth_in, tuple_in, part}
-use Rattle.tx_prim.specs.Arithmetic.{plus, minus, times, quotient, rest_of, of_two, compared, sameness, all_true, some_true, one_true, none_true}
+use Rattle.tx_prim.specs.Arithmetic.{plus, minus, times, quotient, remainder, of_two, compared, sameness, all_true, some_true, one_true, none_true}
 use Rattle.tx_prim.specs.Names.{name_of, fault_text}
 
 -- ---- answers as trees
@@ -118,7 +118,7 @@ calculated Sum = plus
 calculated Difference = minus
 calculated Product = times
 calculated Quotient = of_two quotient
-calculated Remainder = of_two rest_of
+calculated Remainder = of_two remainder
 
 abbrev pub connected : Connective → List Bool → Answer
 connected AllTrue = all_true

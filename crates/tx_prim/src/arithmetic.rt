@@ -1,8 +1,9 @@
 // The rows on numbers and lengths.
-ghost use Rattle.std.specs.Prelude.{◌≡◌, false, pos};
+ghost use Rattle.std.specs.Prelude.{◌≡◌, false, pos, count_by};
+ghost use Rattle.std.specs.List.{list_all, list_any};
 ghost use Rattle.std.specs.Ordering.{int_eq};
 ghost use Rattle.tx_prim.specs.Numbers.{if_fits};
-ghost use Rattle.tx_prim.specs.Arithmetic.{if_held, operation, folded, total, minus, times, remainder, quotient, rest_of, of_two};
+ghost use Rattle.tx_prim.specs.Arithmetic.{if_held, is_length, are_alike, rest_of, operation, folded, total, minus, times, divided, quotient, left_over, remainder, of_two};
 
 use crate::amounts::{Amount, Answer, Operation, ValueFault};
 
@@ -41,6 +42,24 @@ fn folded(operation: Operation, first: i64, others: &[Amount]) -> Option<i64>
     Some(so_far)
 }
 
+fn are_like(first: Amount, others: &[Amount]) -> bool
+    ensures { result ≡ list_all (are_alike first) others.now }
+{
+    others.iter().all(|other| first.is_like(*other))
+}
+
+fn count_lengths(amounts: &[Amount]) -> usize
+    ensures { result ≡ count_by is_length amounts.now }
+{
+    amounts.iter().filter(|amount| amount.is_length()).count()
+}
+
+fn has_length(amounts: &[Amount]) -> bool
+    ensures { result ≡ list_any is_length amounts.now }
+{
+    amounts.iter().any(|amount| amount.is_length())
+}
+
 // The operation over one or more numbers, or one or more lengths.
 pub(crate) fn total(operation: Operation, amounts: &[Amount]) -> Answer
     ensures { result ≡ total operation amounts.now }
@@ -48,7 +67,7 @@ pub(crate) fn total(operation: Operation, amounts: &[Amount]) -> Answer
     match amounts {
         [] => BAD,
         [first, others @ ..] => {
-            if !others.iter().all(|other| first.is_like(*other)) {
+            if !are_like(*first, others) {
                 return BAD;
             }
             if_held(first.is_length(), folded(operation, first.size(), others))
@@ -68,54 +87,70 @@ pub(crate) fn minus(amounts: &[Amount]) -> Answer
 pub(crate) fn times(amounts: &[Amount]) -> Answer
     ensures { result ≡ times amounts.now }
 {
-    let lengths = amounts.iter().filter(|amount| amount.is_length()).count();
     match amounts {
         [] => BAD,
         [first, others @ ..] => {
-            if lengths > 1 {
+            if count_lengths(amounts) > 1 {
                 return BAD;
             }
             if_held(
-                lengths == 1,
+                has_length(amounts),
                 folded(Operation::Multiply, first.size(), others),
             )
         }
     }
 }
 
+// The quotient, cut toward zero.
+fn divided(long: bool, x: i64, y: i64) -> Answer
+    ensures { result ≡ divided long x y }
+{
+    if y == 0 {
+        return Answer::Failed(ValueFault::Zero);
+    }
+    if_held(long, x.checked_div(y))
+}
+
 fn quotient(a: Amount, b: Amount) -> Answer
     ensures { result ≡ quotient a b }
 {
-    if b.is_length() && !a.is_length() {
-        return BAD;
+    match (a, b) {
+        (Amount::Number(x), Amount::Number(y)) => divided(false, x, y),
+        (Amount::Length(x), Amount::Number(y)) => divided(true, x, y),
+        (Amount::Length(x), Amount::Length(y)) => divided(false, x, y),
+        (Amount::Number(_), Amount::Length(_)) => BAD,
     }
-    if b.size() == 0 {
-        return Answer::Failed(ValueFault::Zero);
-    }
-    if_held(
-        a.is_length() && !b.is_length(),
-        a.size().checked_div(b.size()),
-    )
 }
 
-// The first less the second times their quotient, where the second isn't 0.
-fn remainder(x: i64, y: i64) -> Option<i64>
+// The first less the second times their quotient.
+fn rest_of(x: i64, y: i64) -> i64
     requires { int_eq y (pos 0) ≡ false }
-    ensures { result ≡ if_fits (remainder x y) }
+    ensures { result ≡ rest_of x y }
 {
-    if y == -1 { Some(0) } else { Some(x % y) }
+    if y == -1 {
+        return 0;
+    }
+    x % y
 }
 
-fn rest_of(a: Amount, b: Amount) -> Answer
-    ensures { result ≡ rest_of a b }
+fn left_over(long: bool, x: i64, y: i64) -> Answer
+    ensures { result ≡ left_over long x y }
 {
-    if !a.is_like(b) {
-        return BAD;
-    }
-    if b.size() == 0 {
+    if y == 0 {
         return Answer::Failed(ValueFault::Zero);
     }
-    if_held(a.is_length(), remainder(a.size(), b.size()))
+    Answer::Value(Amount::new(long, rest_of(x, y)))
+}
+
+fn remainder(a: Amount, b: Amount) -> Answer
+    ensures { result ≡ remainder a b }
+{
+    match (a, b) {
+        (Amount::Number(x), Amount::Number(y)) => left_over(false, x, y),
+        (Amount::Length(x), Amount::Length(y)) => left_over(true, x, y),
+        (Amount::Number(_), Amount::Length(_)) => BAD,
+        (Amount::Length(_), Amount::Number(_)) => BAD,
+    }
 }
 
 pub(crate) fn div(amounts: &[Amount]) -> Answer
@@ -128,10 +163,10 @@ pub(crate) fn div(amounts: &[Amount]) -> Answer
 }
 
 pub(crate) fn modulo(amounts: &[Amount]) -> Answer
-    ensures { result ≡ of_two rest_of amounts.now }
+    ensures { result ≡ of_two remainder amounts.now }
 {
     match amounts {
-        [a, b] => rest_of(*a, *b),
+        [a, b] => remainder(*a, *b),
         _ => BAD,
     }
 }

@@ -1,5 +1,6 @@
 // The rows that compare or test operands.
 ghost use Rattle.std.specs.Prelude.{◌≡◌};
+ghost use Rattle.std.specs.List.{list_all, list_any};
 ghost use Rattle.tx_prim.specs.Operands.{amount_of};
 ghost use Rattle.tx_prim.specs.Arithmetic.{accepts, order_of, compared, sameness, all_true, some_true, one_true, none_true};
 
@@ -63,9 +64,24 @@ pub(crate) fn sameness(wanted: bool, operands: &[Tree]) -> Answer
     ensures { result ≡ sameness wanted operands.now }
 {
     match operands {
-        [a, b] => Answer::Truth(a.same(b) == wanted),
+        [a, b] => {
+            let same = a.same(b);
+            Answer::Truth(if wanted { same } else { !same })
+        }
         _ => BAD,
     }
+}
+
+fn are_all(truths: &[bool]) -> bool
+    ensures { result ≡ list_all (λ x. x) truths.now }
+{
+    truths.iter().all(|truth| *truth)
+}
+
+fn is_any(truths: &[bool]) -> bool
+    ensures { result ≡ list_any (λ x. x) truths.now }
+{
+    truths.iter().any(|truth| *truth)
 }
 
 pub(crate) fn all_true(truths: &[bool]) -> Answer
@@ -74,7 +90,7 @@ pub(crate) fn all_true(truths: &[bool]) -> Answer
     if truths.is_empty() {
         return BAD;
     }
-    Answer::Truth(truths.iter().all(|truth| *truth))
+    Answer::Truth(are_all(truths))
 }
 
 pub(crate) fn some_true(truths: &[bool]) -> Answer
@@ -83,7 +99,7 @@ pub(crate) fn some_true(truths: &[bool]) -> Answer
     if truths.is_empty() {
         return BAD;
     }
-    Answer::Truth(truths.iter().any(|truth| *truth))
+    Answer::Truth(is_any(truths))
 }
 
 pub(crate) fn one_true(truths: &[bool]) -> Answer

@@ -1,9 +1,8 @@
 // Lengths as they stand in texts.
-ghost use Rattle.std.specs.Prelude.{◌≡◌, ◌<◌, ◌++◌, ◌*◌, true, codes, take, ℤ, IfOk};
-ghost use Rattle.std.specs.List.{list_all};
+ghost use Rattle.std.specs.Prelude.{◌≡◌, ◌<◌, ◌≤◌, ◌-◌, ◌++◌, true, codes, length, take, IfOk, IfSome};
+ghost use Rattle.std.specs.List.{list_all, prefix_len};
 ghost use Rattle.std.specs.Str.{bytes_eq};
 ghost use Rattle.tx_tree.specs.PathSpelling.{is_digit, number_after};
-ghost use Rattle.tx_prim.specs.Numbers.{has_minus, behind_minus, signed, if_fits};
 ghost use Rattle.tx_prim.specs.Lengths.{unit_of, measured, digits_front, digits_rest, length_behind, length_of, length_text};
 
 use crate::MOST_WHOLE;
@@ -21,7 +20,9 @@ fn is_word(bytes: &[u8], word: &[u8]) -> bool
 
 // The thousandths of a cell of the unit with this name.
 fn unit_of(name: &[u8]) -> Option<u64>
-    ensures { result ≡ unit_of name.now }
+    ensures is { result ≡ unit_of name.now }
+    ensures some { IfSome result (λ u. 1 ≤ u) }
+    ensures small { IfSome result (λ u. u ≤ 12700) }
 {
     if is_word(name, b"mcell") {
         Some(1)
@@ -46,20 +47,27 @@ fn unit_of(name: &[u8]) -> Option<u64>
     }
 }
 
+// The number of digits in front.
+fn count_digits(bytes: &[u8]) -> usize
+    ensures count { result ≡ prefix_len is_digit bytes.now }
+    ensures within { result ≤ length bytes.now }
+{
+    for (i, byte) in bytes.iter().enumerate() {
+        if !is_digit(*byte) {
+            return i;
+        }
+    }
+    bytes.len()
+}
+
 // The digits in front, and what stands behind them.
+#[tactic(auto, using(crate::proofs::Digits::digits_seen, std::proofs::lemmas::Grind::common_steps))]
 fn split_digits(bytes: &[u8]) -> (&[u8], &[u8])
     ensures front { result.0.now ≡ digits_front bytes.now }
     ensures rest { result.1.now ≡ digits_rest bytes.now }
     ensures digits { list_all is_digit result.0.now ≡ true }
 {
-    let mut count = 0;
-    for byte in bytes {
-        if !is_digit(*byte) {
-            break;
-        }
-        count += 1;
-    }
-    bytes.split_at(count)
+    bytes.split_at(count_digits(bytes))
 }
 
 // The number of the digit.

@@ -8,6 +8,7 @@ mod amounts;
 mod arithmetic;
 mod comparing;
 mod items;
+mod laws;
 mod lengths;
 mod lists;
 mod making;
@@ -18,6 +19,8 @@ mod shapes;
 mod table;
 
 pub use amounts::{Amount, Answer, ValueFault};
+pub use items::item_laws;
+pub use laws::{length_laws, name_law, number_law, sameness_law};
 pub use lengths::{parse_length, print_length};
 pub use names::Prim;
 pub use numbers::parse_number;

@@ -1,15 +1,17 @@
 // The rows on texts and tuples whose values are parts of their operands, or these joined.
-ghost use Rattle.std.specs.Prelude.{◌≡◌, ◌≤◌, ◌+◌, length, IfOk, OnOk, MatchOption, None, Some, slice_get, IsTrue, ◌↔◌};
+ghost use Rattle.std.specs.Prelude.{◌≡◌, ◌≤◌, ◌+◌, length, IfOk, OnOk, MatchOption, IfSome, None, Some};
 ghost use Rattle.std.specs.Option.{option_map};
 ghost use Rattle.std.specs.Prelude.{◌++◌};
 ghost use Rattle.tx_tree.specs.WideTree.{forest, total_size, text_of};
+ghost use Rattle.tx_tree.specs.Limits.{IsWithinLimits};
+ghost use Rattle.tx_tree.specs.Texts.{IsText};
 ghost use Rattle.tx_prim.specs.Items.{joined_lists, items_of};
-ghost use Rattle.tx_prim.specs.Operands.{every, tuple_in, part, IsRising};
-ghost use Rattle.tx_prim.specs.Table.{merged, joined_texts, ranged, part_of, looked_up, label_told, text_part, tuple_part, child_at};
+ghost use Rattle.tx_prim.specs.Operands.{every, tuple_in, part, IsRising, AreShallow};
+ghost use Rattle.tx_prim.specs.Table.{merged, joined_texts, ranged, part_of, looked_up, label_told, text_part, tuple_part, tuple_node, child_at};
 
 use crate::MOST_OPERANDS;
 use crate::amounts::ValueFault;
-use crate::items::{bytes_of_items, item_count};
+use crate::items::{item_count, items_between};
 use crate::making::{failure, leaf_of, tuple_of};
 use crate::names::Prim;
 use crate::operands::{number_in, tuple_in};
@@ -19,8 +21,10 @@ use tx_base::Steps;
 use tx_tree::{Kind, MOST_ARITY, Memory, Text, Tree};
 
 // The bytes of all texts, or None where an operand is none.
+#[tactic(auto, using(crate::proofs::Collecting::collecting, std::proofs::lemmas::Grind::common_steps))]
 fn joined_texts(alloc: Global, operands: &[Tree]) -> Result<Option<Vec<u8>>, Memory>
-    ensures { IfOk result (λ found. MatchOption found (every text_of operands.now ≡ None) (λ v. option_map joined_lists (every text_of operands.now) ≡ Some v.items)) }
+    ensures is { IfOk result (λ found. MatchOption found (every text_of operands.now ≡ None) (λ v. option_map joined_lists (every text_of operands.now) ≡ Some v.items)) }
+    ensures text { IfOk result (λ found. IfSome found (λ v. IsText v.items)) }
 {
     let mut all = Vec::new(alloc);
     for operand in operands {
@@ -42,9 +46,20 @@ fn share_onto(into: &mut Vec<Tree>, trees: &[Tree]) -> Result<(), Memory>
     Ok(())
 }
 
+// Shares of the trees.
+fn shares(alloc: Global, trees: &[Tree]) -> Result<Vec<Tree>, Memory>
+    ensures { IfOk result (λ v. v.items ≡ trees.now) }
+{
+    let mut all = Vec::new(alloc);
+    share_onto(&mut all, trees)?;
+    Ok(all)
+}
+
 // The children of all tuples, or None where an operand is none.
+#[tactic(auto, using(crate::proofs::Collecting::collecting, std::proofs::lemmas::Grind::common_steps))]
 fn joined_tuples(alloc: Global, operands: &[Tree]) -> Result<Option<Vec<Tree>>, Memory>
-    ensures { IfOk result (λ found. MatchOption found (every tuple_in operands.now ≡ None) (λ v. option_map joined_lists (every tuple_in operands.now) ≡ Some v.items)) }
+    ensures is { IfOk result (λ found. MatchOption found (every tuple_in operands.now ≡ None) (λ v. option_map joined_lists (every tuple_in operands.now) ≡ Some v.items)) }
+    ensures shallow { IfOk result (λ found. IfSome found (λ v. AreShallow v.items)) }
 {
     let mut all = Vec::new(alloc);
     for operand in operands {
@@ -57,6 +72,7 @@ fn joined_tuples(alloc: Global, operands: &[Tree]) -> Result<Option<Vec<Tree>>, 
 }
 
 // The tuples joined, where all operands are tuples.
+#[tactic(auto, using(crate::proofs::Within::within, std::proofs::lemmas::Grind::common_steps))]
 fn merge_tuples<L: Ledger>(
     alloc: Global,
     operands: &[Tree],
@@ -78,6 +94,7 @@ fn merge_tuples<L: Ledger>(
 }
 
 // Texts joined, or tuples.
+#[tactic(auto, using(crate::proofs::Within::within, std::proofs::lemmas::Grind::common_steps))]
 pub(crate) fn merge<L: Ledger>(
     alloc: Global,
     operands: &[Tree],
@@ -100,14 +117,15 @@ pub(crate) fn merge<L: Ledger>(
 fn rising(i: i64, j: i64, n: usize) -> Option<(usize, usize)>
     ensures { IsRising i j n result }
 {
-    if 0 <= i && i <= j && j <= n as i64 {
-        Some((i as usize, j as usize))
-    } else {
-        None
+    if i < 0 || j < 0 {
+        return None;
     }
+    let (i, j) = (i as usize, j as usize);
+    if i <= j && j <= n { Some((i, j)) } else { None }
 }
 
 // The items from place i to before j.
+#[tactic(auto, using(crate::proofs::ItemRuns::between, std::proofs::lemmas::Grind::common_steps))]
 fn part_of_text<L: Ledger>(
     alloc: Global,
     text: &Text,
@@ -122,15 +140,14 @@ fn part_of_text<L: Ledger>(
     match rising(i, j, item_count(bytes)) {
         None => failure(alloc, ValueFault::NoPart, Prim::Range, steps),
         Some((i, j)) => {
-            let start = bytes_of_items(bytes, i);
-            let end = bytes_of_items(bytes, j);
             steps.tick();
-            leaf_of(alloc, &bytes[start..end])
+            leaf_of(alloc, items_between(bytes, i, j))
         }
     }
 }
 
 // The children from place i to before j.
+#[tactic(auto, using(crate::proofs::Within::within, std::proofs::lemmas::Grind::common_steps))]
 fn part_of_tuple<L: Ledger>(
     alloc: Global,
     children: &[Tree],
@@ -138,14 +155,14 @@ fn part_of_tuple<L: Ledger>(
     j: i64,
     steps: &mut Steps<L>,
 ) -> Result<Tree, Memory>
+    requires { IsWithinLimits (tuple_node children.now) }
     ensures made { IfOk result (λ t. t ≡ tuple_part (part i j children.now)) }
     ensures counted { OnOk result (steps.new ≡ steps.old + 1) }
 {
     match rising(i, j, children.len()) {
         None => failure(alloc, ValueFault::NoPart, Prim::Range, steps),
         Some((i, j)) => {
-            let mut part = Vec::new(alloc);
-            share_onto(&mut part, &children[i..j])?;
+            let part = shares(alloc, &children[i..j])?;
             tuple_of(alloc, part, steps)
         }
     }
@@ -193,8 +210,12 @@ pub(crate) fn range<L: Ledger>(
 fn child_at(children: &[Tree], i: i64) -> Option<&Tree>
     ensures { MatchOption result (child_at children.now i ≡ None) (λ t. child_at children.now i ≡ Some t.now) }
 {
-    if 0 <= i && i < children.len() as i64 {
-        Some(&children[i as usize])
+    if i < 0 {
+        return None;
+    }
+    let i = i as usize;
+    if i < children.len() {
+        Some(&children[i])
     } else {
         None
     }

@@ -16,6 +16,7 @@ use tx_base::Steps;
 use tx_tree::{Label, LabelFault, MOST_TEXT, Memory, Text, TextFault, Tree, TreeFault};
 
 // The text of these bytes.
+#[tactic(auto, using(crate::proofs::Sound::right, std::proofs::lemmas::Grind::common_steps))]
 pub(crate) fn text_of(alloc: Global, bytes: &[u8]) -> Result<Text, Memory>
     requires text { IsText bytes.now }
     requires short { length bytes.now ≤ MOST_TEXT }
@@ -39,6 +40,7 @@ pub(crate) fn leaf_of(alloc: Global, bytes: &[u8]) -> Result<Tree, Memory>
 }
 
 // The node of these children.
+#[tactic(auto, using(crate::proofs::Sound::right, std::proofs::lemmas::Grind::common_steps))]
 fn node_of<L: Ledger>(
     alloc: Global,
     label: &[u8],
@@ -76,6 +78,7 @@ pub(crate) fn tuple_of<L: Ledger>(
 }
 
 // The error of this primitive.
+#[tactic(auto, using(crate::proofs::Within::failure_within, std::proofs::lemmas::Grind::common_steps))]
 pub(crate) fn failure<L: Ledger>(
     alloc: Global,
     fault: ValueFault,

@@ -1,5 +1,6 @@
 // The names of the primitives, and the words of their errors.
-ghost use Rattle.std.specs.Prelude.{◌≡◌};
+ghost use Rattle.std.specs.Prelude.{◌≡◌, find};
+ghost use Rattle.std.specs.Str.{bytes_eq};
 ghost use Rattle.tx_prim.specs.Names.{name_of, named, fault_text};
 
 use crate::amounts::ValueFault;
@@ -78,6 +79,18 @@ const PRIMITIVES: [Prim; 22] = [
     Prim::GetArity,
 ];
 
+// The first of the primitives that has the name.
+fn find_named(all: &[Prim], name: &[u8]) -> Option<Prim>
+    ensures { result ≡ find (λ p. bytes_eq (name_of p) name.now) all.now }
+{
+    for which in all {
+        if which.name() == name {
+            return Some(*which);
+        }
+    }
+    None
+}
+
 impl Prim {
     /// The name by which trees call it.
     pub fn name(self) -> &'static [u8]
@@ -113,12 +126,7 @@ impl Prim {
     pub fn named(name: &[u8]) -> Option<Prim>
         ensures { result ≡ named name.now }
     {
-        for which in &PRIMITIVES {
-            if which.name() == name {
-                return Some(*which);
-            }
-        }
-        None
+        find_named(&PRIMITIVES, name)
     }
 }
 

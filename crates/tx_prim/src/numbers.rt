@@ -1,5 +1,5 @@
 // Numbers as they stand in texts.
-ghost use Rattle.std.specs.Prelude.{◌≡◌, ◌<◌, ◌^◌, ℕ, true, pos};
+ghost use Rattle.std.specs.Prelude.{◌≡◌, ◌<◌, ◌+◌, ◌-◌, ◌*◌, ◌^◌, true};
 ghost use Rattle.std.specs.List.{list_all};
 ghost use Rattle.std.specs.Option.{SomeIff};
 ghost use Rattle.tx_tree.specs.PathSpelling.{is_digit, number_after};
@@ -24,6 +24,14 @@ pub(crate) fn split_minus(bytes: &[u8]) -> (bool, &[u8])
     }
 }
 
+// The value with one digit more, where it is below 2 ^ 64.
+fn next_value(value: u64, digit: u8) -> Option<u64>
+    requires { is_digit digit ≡ true }
+    ensures { SomeIff result (value * 10 + (digit - 48) < 2 ^ 64) (value * 10 + (digit - 48)) }
+{
+    value.checked_mul(10)?.checked_add(u64::from(digit - b'0'))
+}
+
 // What the digits write, where it is below 2 ^ 64.
 pub(crate) fn digits_value(digits: &[u8]) -> Option<u64>
     requires { list_all is_digit digits.now ≡ true }
@@ -31,9 +39,7 @@ pub(crate) fn digits_value(digits: &[u8]) -> Option<u64>
 {
     let mut value = 0u64;
     for digit in digits {
-        value = value
-            .checked_mul(10)?
-            .checked_add(u64::from(*digit - b'0'))?;
+        value = next_value(value, *digit)?;
     }
     Some(value)
 }
@@ -49,11 +55,17 @@ pub(crate) fn signed(minus: bool, magnitude: u64) -> Option<i64>
     }
 }
 
+fn all_digits(bytes: &[u8]) -> bool
+    ensures { result ≡ list_all is_digit bytes.now }
+{
+    bytes.iter().all(|byte| is_digit(*byte))
+}
+
 // Whether the bytes are one digit or more.
 fn are_digits(bytes: &[u8]) -> bool
     ensures { result ≡ are_digits bytes.now }
 {
-    !bytes.is_empty() && bytes.iter().all(|byte| is_digit(*byte))
+    !bytes.is_empty() && all_digits(bytes)
 }
 
 // The number that the bytes write, if they do and 64 bits hold it.

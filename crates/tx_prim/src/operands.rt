@@ -1,7 +1,7 @@
 // What operands are read as.
-ghost use Rattle.std.specs.Prelude.{◌≡◌, MatchOption, None, Some, IfOk, IsTrue, ◌↔◌, is_some};
-ghost use Rattle.std.specs.Str.{bytes_eq};
-ghost use Rattle.tx_tree.specs.WideTree.{trees};
+ghost use Rattle.std.specs.Prelude.{◌≡◌, MatchOption, None, Some, IfOk, IfSome, is_some};
+ghost use Rattle.tx_tree.specs.Limits.{IsWithinLimits};
+ghost use Rattle.tx_prim.specs.Table.{tuple_node};
 ghost use Rattle.tx_prim.specs.Operands.{every, number_in, amount_of, amount_in, truth_of, truth_in, tuple_in};
 
 use crate::amounts::Amount;
@@ -42,6 +42,7 @@ fn amount_in(t: &Tree) -> Option<Amount>
 }
 
 // What the operands write, where each is a number or a length.
+#[tactic(auto, using(crate::proofs::Collecting::collecting, std::proofs::lemmas::Grind::common_steps))]
 pub(crate) fn amounts(alloc: Global, operands: &[Tree]) -> Result<Option<Vec<Amount>>, Memory>
     ensures { IfOk result (λ found. MatchOption found (every amount_in operands.now ≡ None) (λ all. every amount_in operands.now ≡ Some all.items)) }
 {
@@ -78,6 +79,7 @@ fn truth_in(t: &Tree) -> Option<bool>
 }
 
 // What the operands say, where each is one of the texts true and false.
+#[tactic(auto, using(crate::proofs::Collecting::collecting, std::proofs::lemmas::Grind::common_steps))]
 pub(crate) fn truths(alloc: Global, operands: &[Tree]) -> Result<Option<Vec<bool>>, Memory>
     ensures { IfOk result (λ found. MatchOption found (every truth_in operands.now ≡ None) (λ all. every truth_in operands.now ≡ Some all.items)) }
 {
@@ -102,9 +104,12 @@ pub(crate) fn is_labelled_tuple(t: &Tree) -> bool
 }
 
 // The children of a tuple.
+#[tactic(auto, using(crate::proofs::Within::within, std::proofs::lemmas::Grind::common_steps))]
 pub(crate) fn tuple_in(t: &Tree) -> Option<&[Tree]>
-    ensures { MatchOption result (tuple_in t.now ≡ None) (λ ts. tuple_in t.now ≡ Some ts.now) }
+    ensures is { MatchOption result (tuple_in t.now ≡ None) (λ ts. tuple_in t.now ≡ Some ts.now) }
+    ensures within { IfSome result (λ ts. IsWithinLimits (tuple_node ts.now)) }
 {
+    let _size = t.size();
     if is_labelled_tuple(t) {
         Some(t.children())
     } else {
