@@ -1,4 +1,4 @@
-//! Tests of what documents show, of values and of environments: tables row by row.
+//! Tests of what documents show, of values, of environments and of primitives: tables row by row.
 #![tactic(auto)]
 
 #[cfg(test)]
@@ -7,3 +7,5 @@ mod clusters;
 mod environments;
 #[cfg(test)]
 mod origins;
+#[cfg(test)]
+mod primitives;

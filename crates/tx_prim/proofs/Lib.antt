@@ -1,0 +1,11 @@
+pub mod Sound
+pub mod Plain
+pub mod Collecting
+pub mod ItemRuns
+pub mod Sames
+pub mod Digits
+pub mod Within
+pub mod Remainders
+pub mod Folding
+pub mod Printing
+pub mod Naming
