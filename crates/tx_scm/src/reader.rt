@@ -73,6 +73,7 @@ fn step_between<L: Ledger>(
 ) -> Result<Option<State>, Memory>
     ensures next { IfOk result (λ next. next_of next ≡ step_between (within the_limits) (opens_of brackets.items) kind) }
     ensures counted { IfOk result (λ next. OnSome next (steps.new ≡ steps.old + made_by kind)) }
+    ensures bounded { steps.new ≤ steps.old + 1 }
     ensures rises { steps.old ≤ steps.new }
 {
     match kind {
@@ -131,6 +132,7 @@ fn step_naming<L: Ledger>(
     requires { kind ≡ kind_of byte }
     ensures next { IfOk result (λ next. next_of next ≡ step_naming (within the_limits) label (opens_of brackets.items) kind byte) }
     ensures counted { IfOk result (λ next. OnSome next (steps.new ≡ steps.old + made_by kind)) }
+    ensures bounded { steps.new ≤ steps.old + 1 }
     ensures rises { steps.old ≤ steps.new }
 {
     match kind {
@@ -239,6 +241,7 @@ fn step<L: Ledger>(
     requires { kind ≡ kind_of byte }
     ensures next { IfOk result (λ next. next_of next ≡ step (within the_limits) (state_of state) (kind_of byte) byte) }
     ensures counted { IfOk result (λ next. OnSome next (steps.new ≡ steps.old + made_in (state_of state) (kind_of byte))) }
+    ensures bounded { steps.new ≤ steps.old + 1 }
     ensures rises { steps.old ≤ steps.new }
 {
     match state {
@@ -295,6 +298,7 @@ fn advance<L: Ledger>(
     ensures same { IfOk result (λ found. reads (state_of state) (drop at bytes.now) ≡ read_on found (λ next. reads (state_of next.0) (drop next.1 bytes.now))) }
     ensures counted { IfOk result (λ found. IfSome found (λ next. CountsOn (state_of state) steps.old (state_of next.0) steps.new)) }
     ensures sized { IfOk result (λ found. IfSome found (λ next. GrowsBy (grown_by (state_of state) kind + (next.1 - (at + 1))) (state_of state) (state_of next.0))) }
+    ensures bounded { steps.new ≤ steps.old + 1 }
     ensures rises { steps.old ≤ steps.new }
 {
     match step(alloc, state, kind, bytes[at], steps)? {
@@ -329,6 +333,7 @@ fn read_all<L: Ledger>(
 ) -> Result<Option<Tree>, Memory>
     ensures found { IfOk result (λ found. found ≡ reads (between []) bytes.now) }
     ensures counted { IfOk result (λ found. IfSome found (λ t. steps.new ≤ steps.old + nodes_of t)) }
+    ensures bounded { steps.new ≤ steps.old + length bytes.now }
     ensures rises { steps.old ≤ steps.new }
 {
     let most = MOST_SIZE as usize;
@@ -369,14 +374,15 @@ fn fault(alloc: Global, bytes: &[u8]) -> Result<ReadFault, Memory>
 
 /// The tree that the bytes spell.
 ///
-/// Where it answers a tree, the steps rise by at most the nodes of the tree that aren't leaves. A fault, but for `Memory`,
-/// is the one that the bytes have, by the table of `specs/Faults.antt`; it comes exactly where they spell no tree within
-/// the limits.
+/// The steps rise by at most the bytes, and where it answers a tree by at most the nodes of the tree that aren't leaves. A
+/// fault, but for `Memory`, is the one that the bytes have, by the table of `specs/Faults.antt`; it comes exactly where they
+/// spell no tree within the limits.
 pub fn read<L: Ledger>(alloc: Global, bytes: &[u8], steps: &mut Steps<L>) -> Result<Tree, ReadFault>
     ensures found { IfOk result (λ t. Spells bytes.now t) }
     ensures within { IfOk result (λ t. IsWithinLimits t) }
     ensures refused { IfErr result (λ fault. fault ≢ NoMemory → IsSchemeFault bytes.now fault) }
     ensures counted { IfOk result (λ t. steps.new ≤ steps.old + nodes_of t) }
+    ensures bounded { steps.new ≤ steps.old + length bytes.now }
     ensures rises { steps.old ≤ steps.new }
 {
     match read_all(alloc, bytes, steps)? {

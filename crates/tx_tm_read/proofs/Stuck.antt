@@ -14,7 +14,7 @@ use Rattle.tx_tm_read.specs.declared.tags.OpenTag.{OpenTag}
 use Rattle.tx_tm_read.specs.declared.tags.Spot.{Spot}
 use Rattle.tx_tm_read.specs.Fits.{IsSmall, RowFits, ChildrenFit, StateFits}
 use Rattle.tx_tm_read.specs.Nodes.{nodes_in, content_nodes, children_nodes, opens_nodes, open_nodes, state_nodes}
-use Rattle.tx_tm_read.specs.Spots.{opens_of, state_of, IsState, Rose, IsBlockTree}
+use Rattle.tx_tm_read.specs.Spots.{opens_of, behind_argument, state_of, IsState, Rose, IsBlockTree}
 use Rattle.tx_tm_read.proofs.Fitting.{small_within, right_small, node_row, put_tag_fits, last_within}
 use Rattle.tx_tm_read.proofs.Counts.{nodes_both}
 
@@ -116,10 +116,8 @@ block_stuck (inline p g) l w f fs h i = i
 block_stuck (blocks b) l w f fs h i = go_stuck (same l f.label) (in_tag w (with_child f (block_of (blocks b))) fs) (child_stuck w f (block_of (blocks b)) fs h) i
 block_stuck (collecting x) l w f fs h i = go_stuck (same l f.label) (in_tag w (with_child f (block_of (collecting x))) fs) (child_stuck w f (block_of (collecting x)) fs h) i
 
-pub last_block_stuck : (b : Block) (l : List ℕ) (f : Open) (fs : List Open) → (IsWithinLimits (tree_of_block b) → ⊥) → StateFits (last_block None l (blocks b) (f ∷ fs)) → ⊥
-last_block_stuck b l f fs h i =
-    go_stuck (same l f.label) (reading (put f.before (tag false (node f.label (forest (f.children ++ tree_of_block b ∷ []))))) fs)
-    (tag_stuck_there f.before false (node f.label (forest (f.children ++ tree_of_block b ∷ []))) fs (λ w. h (last_within f.label f.children (tree_of_block b) w))) i
+pub closed_stuck : (f : Open) (t : WideTree) (fs : List Open) → (IsWithinLimits t → ⊥) → StateFits (closed (with_child f t) fs) → ⊥
+closed_stuck f t fs h i = tag_stuck_there f.before false (node f.label (forest (f.children ++ t ∷ []))) fs (λ w. h (last_within f.label f.children t w)) i
 
 pub no_next : (w : Option Place) (l : List ℕ) (p : Option Place) (c : Content) → StateFits (next_block w l p c []) → ⊥
 no_next None l p c h = h
@@ -180,3 +178,19 @@ open_rose w here l fs (Ok (Some s)) h =
     let all : state_nodes (state_of s) ≡ open_nodes (open_tag here l []) fs = ap state_nodes h ∙ in_tag_nodes w (open_tag here l []) fs in
     omega (arith, all)
 open_rose w here l fs (Err y) h = tt
+
+pub in_tag_rose : (n : ℕ) (w : Option Place) (f : Open) (fs : List Open) (r : Result (Option Spot) Memory) → IfOk r (λ next. IsState next (in_tag w f fs)) → IfOk r (Rose n n (open_nodes f fs))
+in_tag_rose n w f fs (Ok None) h = tt
+in_tag_rose n w f fs (Ok (Some s)) h = let all : state_nodes (state_of s) ≡ open_nodes f fs = ap state_nodes h ∙ in_tag_nodes w f fs in omega (arith, all)
+in_tag_rose n w f fs (Err y) h = tt
+
+-- ---- the end of an argument
+
+pub argument_is_last : (p : Place) (g : Inline) (f : Open) (fs : List Open) → behind_argument p (with_child f (grown g)) fs ≡ last_argument (Some p) (inline p g) (f ∷ fs)
+argument_is_last InHeader g f fs = refl
+argument_is_last InShort g f fs = refl
+argument_is_last InClosing g f fs = refl
+
+pub last_is : (p : Place) (g : Inline) (f : Open) (fs : List Open) (t : WideTree) (r : Result (Option Spot) Memory) → t ≡ grown g → IfOk r (λ next. IsState next (behind_argument p (with_child f t) fs))
+    → IfOk r (λ next. IsState next (last_argument (Some p) (inline p g) (f ∷ fs)))
+last_is p g f fs t r e h = subst (λ m. IfOk r (λ next. IsState next m)) (ap (λ u. behind_argument p (with_child f u) fs) e ∙ argument_is_last p g f fs) h

@@ -4,7 +4,7 @@ use Rattle.std.specs.List.{AllByRecursion}
 use Rattle.tx_tree.specs.WideTree.{WideTree}
 use Rattle.tx_tree.specs.Limits.{IsWithinLimits}
 use Rattle.tx_tm_form.specs.Bytes.{kind_of, is_plain}
-use Rattle.tx_tm_form.specs.Machine.{Bytewise, at, Keeping, keep, run, tree_in, reads}
+use Rattle.tx_tm_form.specs.Machine.{Bytewise, at, Keeping, State, keep, run, tree_of, tree_in, reads}
 use Rattle.tx_tm_read.specs.declared.reader.Reader.{Reader}
 use Rattle.tx_tm_read.specs.declared.reader.Advance.{Advance}
 use Rattle.tx_tm_read.specs.Words.{lex_of}
@@ -35,6 +35,11 @@ IsAdvance (Some a) w bytes = (0 < a.taken) × (a.taken ≤ length bytes) × (rea
 abbrev pub AdvanceRose : ℕ → ℕ → ℕ → Option Advance → Type 0
 AdvanceRose before after nodes None = Unit {0}
 AdvanceRose before after nodes (Some a) = after + nodes ≤ before + state_nodes (state_of a.reader.spot)
+
+-- the tree that has been read with no word begun, or else none within the limits
+abbrev pub IsTreeOf : Option WideTree → State → Type 0
+IsTreeOf None s = (t : WideTree) → tree_of s ≡ Some t → IsWithinLimits t → ⊥
+IsTreeOf (Some t) s = tree_of s ≡ Some t
 
 -- the tree that has been read, or else none within the limits
 abbrev pub IsTree : Option WideTree → Bytewise Keeping → Type 0

@@ -3,7 +3,9 @@ use Rattle.std.specs.Prelude.{◌≡◌, ◌≤◌, ◌+◌, ℕ, List, map, rev
 use Rattle.tx_tree.specs.WideTree.{WideTree}
 use Rattle.tx_tm_form.specs.Growing.{Content, inline, blocks, collecting, block_of}
 use Rattle.tx_tm_form.specs.Machine as machine
-use Rattle.tx_tm_form.specs.Machine.{Open, reading, naming, counting}
+use Rattle.tx_tm_form.specs.declared.places.Place.{Place}
+use Rattle.tx_tm_form.specs.declared.places.Place.TheVariants.{InHeader}
+use Rattle.tx_tm_form.specs.Machine.{Open, in_tag, closed, reading, naming, counting}
 use Rattle.tx_tm_read.specs.declared.tags.OpenTag.{OpenTag}
 use Rattle.tx_tm_read.specs.declared.tags.Spot.{Spot}
 use Rattle.tx_tm_read.specs.declared.tags.Spot.TheVariants as spots
@@ -28,6 +30,11 @@ abbrev pub state_of : Spot → machine.State
 state_of (spots.Reading here os) = reading (content_of here) (opens_of os.items)
 state_of (spots.Naming name here os) = naming name (content_of here) (opens_of os.items)
 state_of (spots.Counting digits here os) = counting digits (content_of here) (opens_of os.items)
+
+-- behind > in an argument of a tag that has this child, too
+abbrev pub behind_argument : Place → Open → List Open → machine.State
+behind_argument InHeader f fs = in_tag None f fs
+behind_argument p f fs = closed f fs
 
 -- this state, or else no tree within the limits comes of it
 abbrev pub IsState : Option Spot → machine.State → Type 0

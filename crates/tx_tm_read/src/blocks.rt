@@ -1,11 +1,11 @@
 // Blocks, and content of either kind.
 ghost use Rattle.std.specs.Prelude.{◌≡◌, ◌≤◌, ◌+◌, ◌++◌, ◌∷◌, [], false, map, Option, IfOk, IfSome, Some, None};
 ghost use Rattle.tx_tree.specs.Texts.{IsText};
-ghost use Rattle.tx_tree.specs.WideTree.{nodes_of};
+ghost use Rattle.tx_tree.specs.WideTree.{leaf, node, forest, nodes_of};
 ghost use Rattle.tx_tm_form.specs.declared.bytes.White.TheVariants.{Spaces};
 ghost use Rattle.tx_tm_form.specs.declared.places.Stage.TheVariants.{Ordinary};
-ghost use Rattle.tx_tm_form.specs.Parts.{gap, text, tag};
-ghost use Rattle.tx_tm_form.specs.Growing.{no_paragraphs, no_tags, longer, ended, resumed, widen, tree_of_block, behind_run, as_block, tree_of_entry, collecting, put, place_of, grow};
+ghost use Rattle.tx_tm_form.specs.Parts.{gap, text, tag, document_label};
+ghost use Rattle.tx_tm_form.specs.Growing.{no_paragraphs, no_tags, grown, longer, ended, resumed, widen, tree_of_block, behind_run, as_block, tree_of_entry, collecting, put, place_of, grow};
 ghost use Rattle.tx_tm_read.specs.Lines.{IsMade};
 ghost use Rattle.tx_tm_read.specs.Blocks.{block_of, tags_of, content_of, tag_stage, block_at, IsGoing, IsResumed, IsBlock, IsTagged, IsTagList, IsContent};
 ghost use Rattle.tx_tm_read.specs.TagRows.{entry_of};
@@ -137,7 +137,6 @@ impl Paragraphs {
     }
 
     // The tree, or None where it passes a limit.
-    #[tactic(auto, using(crate::proofs::Counts::nodes_both, crate::proofs::Fitting::last_within))]
     pub(crate) fn finish<L: Ledger>(
         self,
         alloc: Global,
@@ -154,18 +153,9 @@ impl Paragraphs {
             stage,
         } = self;
         match stage {
-            Stage::Empty => {
-                let empty = vec![in alloc; make_leaf(alloc, b"")?]?;
-                make_document(alloc, empty, steps)
-            }
+            Stage::Empty => empty_document(alloc, steps),
             Stage::Alone => now.finish(alloc, steps),
-            Stage::Ordinary => match now.finish(alloc, steps)? {
-                None => Ok(None),
-                Some(tree) => match full.with(tree)? {
-                    None => Ok(None),
-                    Some(all) => make_document(alloc, all.into_trees(), steps),
-                },
-            },
+            Stage::Ordinary => document_of(alloc, full, now, steps),
         }
     }
 }
@@ -202,6 +192,37 @@ impl Resumed {
                 stage,
             })),
         }
+    }
+}
+
+// The document of one empty paragraph.
+fn empty_document<L: Ledger>(alloc: Global, steps: &mut Steps<L>) -> Result<Option<Tree>, Memory>
+    ensures made { IfOk result (λ made. IsMade made (node document_label (forest (leaf [] ∷ [])))) }
+    ensures counted { IfOk result (λ made. IfSome made (λ t. steps.new ≤ steps.old + nodes_of t)) }
+    ensures rises { steps.old ≤ steps.new }
+{
+    let empty = vec![in alloc; make_leaf(alloc, b"")?]?;
+    make_document(alloc, empty, steps)
+}
+
+// The document of the paragraphs that have ended and the one that is open, or None where it passes a limit.
+#[tactic(auto, using(crate::proofs::Counts::nodes_both, crate::proofs::Fitting::last_within))]
+fn document_of<L: Ledger>(
+    alloc: Global,
+    full: Row,
+    now: Line,
+    steps: &mut Steps<L>,
+) -> Result<Option<Tree>, Memory>
+    ensures made { IfOk result (λ made. IsMade made (node document_label (forest (full ++ grown now ∷ [])))) }
+    ensures counted { IfOk result (λ made. IfSome made (λ t. steps.new + (nodes_in full + line_nodes now) ≤ steps.old + nodes_of t)) }
+    ensures rises { steps.old ≤ steps.new }
+{
+    match now.finish(alloc, steps)? {
+        None => Ok(None),
+        Some(tree) => match full.with(tree)? {
+            None => Ok(None),
+            Some(all) => make_document(alloc, all.into_trees(), steps),
+        },
     }
 }
 

@@ -6,17 +6,18 @@ ghost use Rattle.tx_tm_form.specs.Bytes.{kind_of, is_plain};
 ghost use Rattle.tx_tm_form.specs.Tokens.{is_dropped};
 ghost use Rattle.tx_tm_form.specs.Forms.{Spells};
 ghost use Rattle.tx_tm_form.specs.Faults.{IsTmFault};
-ghost use Rattle.tx_tm_form.specs.Machine.{ready, at, keep, step, start, run};
-ghost use Rattle.tx_tm_read.specs.Words.{token_of, IsGoodWord};
+ghost use Rattle.tx_tm_form.specs.Machine.{ready, at, reading, given, keep, step, start, run};
+ghost use Rattle.tx_tm_read.specs.Words.{token_of, IsGoodWord, lexed_of, IsGoodLexed};
+ghost use Rattle.tx_tm_read.specs.Blocks.{content_of};
 ghost use Rattle.tx_tm_read.specs.Nodes.{state_nodes};
-ghost use Rattle.tx_tm_read.specs.Spots.{state_of};
-ghost use Rattle.tx_tm_read.specs.Readers.{reader_of, IsReader, ReaderRose, ArePlain, IsAdvance, AdvanceRose, IsTree, IsRead};
+ghost use Rattle.tx_tm_read.specs.Spots.{opens_of, state_of};
+ghost use Rattle.tx_tm_read.specs.Readers.{reader_of, IsReader, ReaderRose, ArePlain, IsAdvance, AdvanceRose, IsTreeOf, IsTree, IsRead};
 
 use crate::blocks::{Body, Paragraphs};
 use crate::lexer::{Lexed, Lexer, Word};
 use crate::measuring::limit;
 use crate::scan::misspelled;
-use crate::tags::Spot;
+use crate::tags::{OpenTag, Spot};
 use crate::walk::put_text;
 use std::alloc::Global;
 use std::sync::ledger::Ledger;
@@ -103,6 +104,67 @@ fn behind_word<L: Ledger>(
     }
 }
 
+// Behind what a byte gave.
+fn behind_lexed<L: Ledger>(
+    alloc: Global,
+    behind_join: bool,
+    spot: Spot,
+    lexed: Option<Lexed>,
+    steps: &mut Steps<L>,
+) -> Result<Option<Reader>, Memory>
+    requires { IsGoodLexed lexed }
+    ensures next { IfOk result (λ next. IsReader next (given keep (record { behind_join = behind_join; state = state_of spot }) (lexed_of lexed))) }
+    ensures counted { IfOk result (ReaderRose steps.old steps.new (state_nodes (state_of spot))) }
+    ensures rises { steps.old ≤ steps.new }
+{
+    match lexed {
+        None => {
+            spot.let_go();
+            Ok(None)
+        }
+        Some(Lexed::Within(lexer)) => Ok(Some(Reader {
+            lexer,
+            behind_join,
+            spot,
+        })),
+        Some(Lexed::Done(word)) => behind_word(alloc, behind_join, spot, word, steps),
+    }
+}
+
+// The tree of content outside all tags, or None where a tag is open or a limit is passed.
+fn whole_tree<L: Ledger>(
+    alloc: Global,
+    here: Body,
+    mut opens: Vec<OpenTag>,
+    steps: &mut Steps<L>,
+) -> Result<Option<Tree>, Memory>
+    ensures found { IfOk result (λ found. IsTreeOf found (reading (content_of here) (opens_of opens.items))) }
+    ensures counted { IfOk result (λ found. IfSome found (λ t. steps.new + state_nodes (reading (content_of here) (opens_of opens.items)) ≤ steps.old + nodes_of t)) }
+    ensures rises { steps.old ≤ steps.new }
+{
+    match opens.pop() {
+        None => here.finish_block(alloc, steps),
+        Some(_) => Ok(None),
+    }
+}
+
+impl Spot {
+    // Drops what was read. A function that drops a spot at an exit of its own takes the prover long.
+    fn let_go(self) {}
+
+    // The tree, or None where what was read spells none within the limits.
+    fn finish<L: Ledger>(self, alloc: Global, steps: &mut Steps<L>) -> Result<Option<Tree>, Memory>
+        ensures found { IfOk result (λ found. IsTreeOf found (state_of self)) }
+        ensures counted { IfOk result (λ found. IfSome found (λ t. steps.new + state_nodes (state_of self) ≤ steps.old + nodes_of t)) }
+        ensures rises { steps.old ≤ steps.new }
+    {
+        match self {
+            Spot::Reading(here, opens) => whole_tree(alloc, here, opens, steps),
+            _ => Ok(None),
+        }
+    }
+}
+
 impl Reader {
     fn new(alloc: Global) -> Reader
         ensures { reader_of result ≡ start }
@@ -130,14 +192,12 @@ impl Reader {
             behind_join,
             spot,
         } = self;
-        match lexer.step(alloc, byte)? {
-            None => Ok(None),
-            Some(Lexed::Within(lexer)) => Ok(Some(Reader {
-                lexer,
-                behind_join,
-                spot,
-            })),
-            Some(Lexed::Done(word)) => behind_word(alloc, behind_join, spot, word, steps),
+        match lexer.step(alloc, byte) {
+            Ok(lexed) => behind_lexed(alloc, behind_join, spot, lexed, steps),
+            Err(Memory) => {
+                spot.let_go();
+                Err(Memory)
+            }
         }
     }
 
@@ -216,12 +276,17 @@ impl Reader {
         ensures counted { IfOk result (λ found. IfSome found (λ t. steps.new + state_nodes (state_of self.spot) ≤ steps.old + nodes_of t)) }
         ensures rises { steps.old ≤ steps.new }
     {
-        match (self.lexer, self.spot) {
-            (Lexer::Ready, Spot::Reading(here, mut opens)) => match opens.pop() {
-                None => here.finish_block(alloc, steps),
-                Some(_) => Ok(None),
-            },
-            _ => Ok(None),
+        let Reader {
+            lexer,
+            behind_join: _,
+            spot,
+        } = self;
+        match lexer {
+            Lexer::Ready => spot.finish(alloc, steps),
+            _ => {
+                spot.let_go();
+                Ok(None)
+            }
         }
     }
 }

@@ -1,10 +1,12 @@
 // A word more.
 ghost use Rattle.std.specs.Prelude.{◌≡◌, ◌≤◌, ◌+◌, ◌∷◌, ◌++◌, [], true, false, ◌==◌, ◌||◌, if◌then◌else◌, IfOk, Some, None};
 ghost use Rattle.tx_tree.specs.Texts.{is_name_byte};
+ghost use Rattle.tx_tree.specs.WideTree.{leaf};
 ghost use Rattle.tx_tm_form.specs.Bytes.{escape_of, is_digit};
 ghost use Rattle.tx_tm_form.specs.Tokens.{escape, plain};
+ghost use Rattle.tx_tm_form.specs.Parts.{raw_data_label};
 ghost use Rattle.tx_tm_form.specs.Growing.{place_of};
-ghost use Rattle.tx_tm_form.specs.Machine.{reading, naming, counting, open_tag, in_tag, next_argument, last_argument, next_block, last_block, header_place, begun, by_escape, name_byte, name_end, feed_reading, feed_naming, feed_counting, feed};
+ghost use Rattle.tx_tm_form.specs.Machine.{go, with_node, reading, naming, counting, open_tag, in_tag, next_argument, last_argument, next_block, last_block, header_place, begun, by_escape, name_byte, name_end, feed_reading, feed_naming, feed_counting, feed};
 ghost use Rattle.tx_tm_read.specs.Words.{token_of, IsGoodWord};
 ghost use Rattle.tx_tm_read.specs.Blocks.{content_of};
 ghost use Rattle.tx_tm_read.specs.Nodes.{state_nodes};
@@ -20,7 +22,7 @@ use std::alloc::Global;
 use std::sync::ledger::Ledger;
 use tx_base::{Memory, Steps};
 use tx_tm_form::{Escaped, Form, Place, escape_of, white_of};
-use tx_tree::Label;
+use tx_tree::{Label, Tree};
 
 // In a tag that begins.
 fn open_tag(
@@ -236,6 +238,21 @@ fn name_on(
     }
 }
 
+// A byte that stands for itself more, which may be none of a name.
+fn plain_on(
+    byte: u8,
+    name: NameFront,
+    here: Body,
+    opens: Vec<OpenTag>,
+) -> Result<Option<Spot>, Memory>
+    ensures { IfOk result (λ next. IsState next (name_byte (is_name_byte byte) name byte (content_of here) (opens_of opens.items))) }
+{
+    if !is_name_byte(byte) {
+        return Ok(None);
+    }
+    name_on(byte, name, here, opens)
+}
+
 // At the end of a symbol's name.
 fn name_over<L: Ledger>(
     alloc: Global,
@@ -258,24 +275,18 @@ fn name_over<L: Ledger>(
 // A word more in the name of a symbol.
 fn take_name<L: Ledger>(
     alloc: Global,
-    word: Word,
+    word: &Word,
     name: NameFront,
     here: Body,
     opens: Vec<OpenTag>,
     steps: &mut Steps<L>,
 ) -> Result<Option<Spot>, Memory>
-    ensures next { IfOk result (λ next. IsState next (feed_naming name (content_of here) (opens_of opens.items) (token_of word))) }
+    ensures next { IfOk result (λ next. IsState next (feed_naming name (content_of here) (opens_of opens.items) (token_of word.now))) }
     ensures counted { IfOk result (Rose steps.old steps.new (state_nodes (reading (content_of here) (opens_of opens.items)))) }
     ensures rises { steps.old ≤ steps.new }
 {
     match word {
-        Word::Plain(byte) => {
-            if is_name_byte(byte) {
-                name_on(byte, name, here, opens)
-            } else {
-                Ok(None)
-            }
-        }
+        Word::Plain(byte) => plain_on(*byte, name, here, opens),
         Word::Escape(b'>') => name_over(alloc, name, here, opens, steps),
         Word::Escape(b'|') => name_on(b'|', name, here, opens),
         Word::Escape(b'\\') => name_on(b'\\', name, here, opens),
@@ -283,34 +294,66 @@ fn take_name<L: Ledger>(
     }
 }
 
-// A word more in raw data.
-fn take_digit<L: Ledger>(
+// A byte more of raw data.
+fn digit_on(
+    byte: u8,
+    digits: Digits,
+    here: Body,
+    opens: Vec<OpenTag>,
+) -> Result<Option<Spot>, Memory>
+    ensures { IfOk result (λ next. IsState next (go (is_digit byte) (counting (digits ++ byte ∷ []) (content_of here) (opens_of opens.items)))) }
+{
+    if !is_digit(byte) {
+        return Ok(None);
+    }
+    match digits.with(byte)? {
+        None => Ok(None),
+        Some(digits) => Ok(Some(Spot::Counting(digits, here, opens))),
+    }
+}
+
+// The label of raw data, and its one child.
+fn raw_parts(alloc: Global, digits: Digits) -> Result<(Label, Vec<Tree>), Memory>
+    ensures label { IfOk result (λ parts. parts.0 ≡ raw_data_label) }
+    ensures children { IfOk result (λ parts. parts.1.items ≡ leaf digits ∷ []) }
+{
+    let leaf = digits.leaf(alloc)?;
+    let children = vec![in alloc; leaf]?;
+    Ok((raw_data_label(alloc)?, children))
+}
+
+// At the end of raw data.
+fn digits_over<L: Ledger>(
     alloc: Global,
-    word: Word,
     digits: Digits,
     here: Body,
     opens: Vec<OpenTag>,
     steps: &mut Steps<L>,
 ) -> Result<Option<Spot>, Memory>
-    ensures next { IfOk result (λ next. IsState next (feed_counting digits (content_of here) (opens_of opens.items) (token_of word))) }
+    ensures next { IfOk result (λ next. IsState next (with_node raw_data_label (leaf digits ∷ []) (content_of here) (opens_of opens.items))) }
+    ensures counted { IfOk result (Rose steps.old steps.new (state_nodes (reading (content_of here) (opens_of opens.items)))) }
+    ensures rises { steps.old ≤ steps.new }
+{
+    let (label, children) = raw_parts(alloc, digits)?;
+    put_node(alloc, label, children, here, opens, steps)
+}
+
+// A word more in raw data.
+fn take_digit<L: Ledger>(
+    alloc: Global,
+    word: &Word,
+    digits: Digits,
+    here: Body,
+    opens: Vec<OpenTag>,
+    steps: &mut Steps<L>,
+) -> Result<Option<Spot>, Memory>
+    ensures next { IfOk result (λ next. IsState next (feed_counting digits (content_of here) (opens_of opens.items) (token_of word.now))) }
     ensures counted { IfOk result (Rose steps.old steps.new (state_nodes (reading (content_of here) (opens_of opens.items)))) }
     ensures rises { steps.old ≤ steps.new }
 {
     match word {
-        Word::Plain(byte) => {
-            if !is_digit(byte) {
-                return Ok(None);
-            }
-            match digits.with(byte)? {
-                None => Ok(None),
-                Some(digits) => Ok(Some(Spot::Counting(digits, here, opens))),
-            }
-        }
-        Word::Close => {
-            let leaf = digits.leaf(alloc)?;
-            let label = raw_data_label(alloc)?;
-            put_node(alloc, label, vec![in alloc; leaf]?, here, opens, steps)
-        }
+        Word::Plain(byte) => digit_on(*byte, digits, here, opens),
+        Word::Close => digits_over(alloc, digits, here, opens, steps),
         _ => Ok(None),
     }
 }
@@ -331,9 +374,9 @@ impl Spot {
     {
         match self {
             Spot::Reading(here, opens) => take_part(alloc, word, here, opens, steps),
-            Spot::Naming(name, here, opens) => take_name(alloc, word, name, here, opens, steps),
+            Spot::Naming(name, here, opens) => take_name(alloc, &word, name, here, opens, steps),
             Spot::Counting(digits, here, opens) => {
-                take_digit(alloc, word, digits, here, opens, steps)
+                take_digit(alloc, &word, digits, here, opens, steps)
             }
         }
     }

@@ -4,12 +4,13 @@ ghost use Rattle.tx_tree.specs.Texts.{IsText};
 ghost use Rattle.tx_tree.specs.WideTree.{node, forest, nodes_of};
 ghost use Rattle.tx_tm_form.specs.Bytes.{escape_of};
 ghost use Rattle.tx_tm_form.specs.Parts.{gap, text, tag, same, collection_label};
-ghost use Rattle.tx_tm_form.specs.Growing.{inline, grown, put, place_of, block_behind, tree_of_entry};
+ghost use Rattle.tx_tm_form.specs.Growing.{inline, grown, put, place_of, block_behind, tree_of_block, tree_of_entry};
 ghost use Rattle.tx_tm_form.specs.Machine.{reading, naming, counting, in_tag, with_node, closed, next_argument, last_argument, next_block, last_block, with_child, header_place, begun, by_escape, feed_reading, feed_naming, feed_counting, feed};
 ghost use Rattle.tx_tm_read.specs.Words.{token_of};
-ghost use Rattle.tx_tm_read.specs.Blocks.{content_of, tags_of};
-ghost use Rattle.tx_tm_read.specs.Nodes.{nodes_in, line_nodes, tags_nodes, content_nodes, opens_nodes, open_nodes, state_nodes};
-ghost use Rattle.tx_tm_read.specs.Spots.{open_of, opens_of, state_of, IsState, IsOpen, IsBlockTree, Rose};
+ghost use Rattle.tx_tm_read.specs.Lines.{IsMade};
+ghost use Rattle.tx_tm_read.specs.Blocks.{block_of, content_of, tags_of};
+ghost use Rattle.tx_tm_read.specs.Nodes.{nodes_in, line_nodes, block_nodes, tags_nodes, content_nodes, opens_nodes, open_nodes, state_nodes};
+ghost use Rattle.tx_tm_read.specs.Spots.{open_of, opens_of, behind_argument, state_of, IsState, IsOpen, IsBlockTree, Rose};
 
 use crate::blocks::{Body, Paragraphs, TagList};
 use crate::lexer::Word;
@@ -168,6 +169,9 @@ pub(crate) fn put_node<L: Ledger>(
 }
 
 impl OpenTag {
+    // Drops the tag and those round it. A function that drops them at an exit of its own takes the prover long.
+    fn let_go(self, _opens: Vec<OpenTag>) {}
+
     // With a child more, or None where no node within the limits has them all.
     fn with_child(self, child: Tree) -> Result<Option<OpenTag>, Memory>
         ensures { IfOk result (λ next. IsOpen next (with_child (open_of self) child)) }
@@ -258,8 +262,31 @@ pub(crate) fn bar_in<L: Ledger>(
     ensures rises { steps.old ≤ steps.new }
 {
     match line.finish(alloc, steps)? {
-        None => Ok(None),
+        None => {
+            tag.let_go(opens);
+            Ok(None)
+        }
         Some(child) => tag.go_on(alloc, Some(place), child, opens),
+    }
+}
+
+// Behind `>` in an argument of the tag, of which this is the tree.
+fn argument_in<L: Ledger>(
+    alloc: Global,
+    place: Place,
+    child: Tree,
+    tag: OpenTag,
+    opens: Vec<OpenTag>,
+    steps: &mut Steps<L>,
+) -> Result<Option<Spot>, Memory>
+    ensures next { IfOk result (λ next. IsState next (behind_argument place (with_child (open_of tag) child) (opens_of opens.items))) }
+    ensures counted { IfOk result (Rose steps.old steps.new (open_nodes (with_child (open_of tag) child) (opens_of opens.items))) }
+    ensures rises { steps.old ≤ steps.new }
+{
+    match place {
+        Place::InHeader => tag.go_on(alloc, None, child, opens),
+        Place::InShort => tag.close(alloc, child, opens, steps),
+        Place::InClosing => tag.close(alloc, child, opens, steps),
     }
 }
 
@@ -277,12 +304,11 @@ pub(crate) fn close_in<L: Ledger>(
     ensures rises { steps.old ≤ steps.new }
 {
     match line.finish(alloc, steps)? {
-        None => Ok(None),
-        Some(child) => match place {
-            Place::InHeader => tag.go_on(alloc, None, child, opens),
-            Place::InShort => tag.close(alloc, child, opens, steps),
-            Place::InClosing => tag.close(alloc, child, opens, steps),
-        },
+        None => {
+            tag.let_go(opens);
+            Ok(None)
+        }
+        Some(child) => argument_in(alloc, place, child, tag, opens, steps),
     }
 }
 
@@ -303,9 +329,45 @@ pub(crate) fn next_in<L: Ledger>(
     if !same_bytes(label.bytes(), tag.label.bytes()) {
         return Ok(None);
     }
+    behind_block(alloc, label, place, here, tag, opens, steps)
+}
+
+// The same, of the tag with this label.
+fn behind_block<L: Ledger>(
+    alloc: Global,
+    label: &Label,
+    place: Option<Place>,
+    here: Body,
+    tag: OpenTag,
+    opens: Vec<OpenTag>,
+    steps: &mut Steps<L>,
+) -> Result<Option<Spot>, Memory>
+    requires { same label.now tag.label ≡ true }
+    ensures next { IfOk result (λ next. IsState next (next_block (place_of (content_of here)) label.now place (content_of here) (open_of tag ∷ opens_of opens.items))) }
+    ensures counted { IfOk result (Rose steps.old steps.new (content_nodes (content_of here) + open_nodes (open_of tag) (opens_of opens.items))) }
+    ensures rises { steps.old ≤ steps.new }
+{
     match here.finish_block(alloc, steps)? {
-        None => Ok(None),
+        None => {
+            tag.let_go(opens);
+            Ok(None)
+        }
         Some(child) => tag.go_on(alloc, place, child, opens),
+    }
+}
+
+impl TagList {
+    // The collection, or None where it passes a limit.
+    fn collection<L: Ledger>(
+        self,
+        alloc: Global,
+        steps: &mut Steps<L>,
+    ) -> Result<Option<Tree>, Memory>
+        ensures made { IfOk result (λ made. IsMade made (node collection_label (forest (map tree_of_entry (tags_of self).entries)))) }
+        ensures counted { IfOk result (λ made. IfSome made (λ t. steps.new + tags_nodes (tags_of self) ≤ steps.old + nodes_of t)) }
+        ensures rises { steps.old ≤ steps.new }
+    {
+        make_collection(alloc, self.into_trees(alloc)?, steps)
     }
 }
 
@@ -321,7 +383,7 @@ fn collection_in<L: Ledger>(
     ensures counted { IfOk result (Rose steps.old steps.new (tags_nodes (tags_of tags) + content_nodes (content_of before) + opens_nodes (content_of before) (opens_of opens.items))) }
     ensures rises { steps.old ≤ steps.new }
 {
-    match make_collection(alloc, tags.into_trees(alloc)?, steps)? {
+    match tags.collection(alloc, steps)? {
         None => Ok(None),
         Some(tree) => put_tag(alloc, true, tree, before, opens, steps),
     }
@@ -343,12 +405,47 @@ pub(crate) fn last_in<L: Ledger>(
     if !same_bytes(label.bytes(), tag.label.bytes()) {
         return Ok(None);
     }
+    behind_last(alloc, label, here, tag, opens, steps)
+}
+
+// The same, of the tag with this label.
+fn behind_last<L: Ledger>(
+    alloc: Global,
+    label: &Label,
+    here: Body,
+    tag: OpenTag,
+    opens: Vec<OpenTag>,
+    steps: &mut Steps<L>,
+) -> Result<Option<Spot>, Memory>
+    requires { same label.now tag.label ≡ true }
+    ensures next { IfOk result (λ next. IsState next (last_block (place_of (content_of here)) label.now (content_of here) (open_of tag ∷ opens_of opens.items))) }
+    ensures counted { IfOk result (Rose steps.old steps.new (state_nodes (reading (content_of here) (open_of tag ∷ opens_of opens.items)))) }
+    ensures rises { steps.old ≤ steps.new }
+{
     match here {
         Body::Argument(_, _) => Ok(None),
         Body::Tags(tags) => collection_in(alloc, tags, tag.before, opens, steps),
-        Body::Block(block) => match block.finish(alloc, steps)? {
-            None => Ok(None),
-            Some(child) => tag.close(alloc, child, opens, steps),
-        },
+        Body::Block(block) => block_in(alloc, block, tag, opens, steps),
+    }
+}
+
+// Behind a tag, of which this block is the last child.
+fn block_in<L: Ledger>(
+    alloc: Global,
+    block: Paragraphs,
+    tag: OpenTag,
+    opens: Vec<OpenTag>,
+    steps: &mut Steps<L>,
+) -> Result<Option<Spot>, Memory>
+    ensures next { IfOk result (λ next. IsState next (closed (with_child (open_of tag) (tree_of_block (block_of block))) (opens_of opens.items))) }
+    ensures counted { IfOk result (Rose steps.old steps.new (block_nodes (block_of block) + open_nodes (open_of tag) (opens_of opens.items))) }
+    ensures rises { steps.old ≤ steps.new }
+{
+    match block.finish(alloc, steps)? {
+        None => {
+            tag.let_go(opens);
+            Ok(None)
+        }
+        Some(child) => tag.close(alloc, child, opens, steps),
     }
 }

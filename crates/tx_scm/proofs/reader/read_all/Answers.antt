@@ -19,8 +19,13 @@ loop-at-preserved g c =
       sized = sized_on (state_of c.loop-at.state) (state_of c.in-Some.next) c.kind_of-kind.result c.loop-at.size c.grown_by-size.result c.loop-at.at c.in-Some.end _ c.loop-at.invariant.sized
           (rw c.in-Some.is at c.in_ok-advance.ensures.sized) c.grown_by-size.ensures.by refl;
       small = omega (arith, c.if-size-most.false, ends.0, rw c.in-Some.is at c.in_ok-advance.ensures.short);
+      within = ends.1;
+      bounded = omega (arith, c.loop-at.invariant.bounded, c.advance.ensures.bounded, ends.0);
       rises = omega (arith, c.loop-at.invariant.rises, c.advance.ensures.rises);
     }
 
 pub returns-clause-found : goal.returns-clause-found
 returns-clause-found g c = c.tree_in.ensures ∙ sym (c.loop-at.invariant.same ∙ at_end (state_of c.loop-at.state) c.args.bytes.now c.loop-at.at c.loop-at-test.false)
+
+pub returns-clause-bounded : goal.returns-clause-bounded
+returns-clause-bounded g c = omega (arith, c.loop-at.invariant.bounded, c.loop-at.invariant.within)

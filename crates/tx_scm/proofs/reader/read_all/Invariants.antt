@@ -1,4 +1,4 @@
-use Rattle.std.proofs.Common.{◌≡◌, ◌≤◌, ◌-◌, [], length, drop}
+use Rattle.std.proofs.Common.{◌≡◌, ◌≤◌, ◌+◌, ◌-◌, [], length, drop}
 use Rattle.tx_scm.specs.Machine.{between, reads}
 use Rattle.tx_scm.specs.Sizes.{IsSized}
 use Rattle.tx_scm.specs.States.{state_of, IsCounted}
@@ -14,5 +14,7 @@ invariant-loop-at g l =
       counted : IsCounted l.fn.steps l.steps (state_of l.state);
       sized : IsSized l.size (state_of l.state);
       small : l.size ≤ 8000000;
+      within : l.at ≤ length l.bytes;
+      bounded : l.steps ≤ l.fn.steps + l.at;
       rises : l.fn.steps ≤ l.steps;
     }

@@ -4,7 +4,7 @@ use Rattle.tx_tm_read.specs.Blocks.{content_of}
 use Rattle.tx_tm_read.specs.Nodes.{content_nodes}
 use Rattle.tx_tm_read.specs.Spots.{open_of, opens_of}
 use Rattle.tx_tm_read.proofs.Stuck.{tag_rose, block_stuck}
-use Rattle.tx_tm_read.proofs.walk.next_in.Goals as goal
+use Rattle.tx_tm_read.proofs.walk.behind_block.Goals as goal
 
 pub returns-in-None-clause-next : goal.returns-in-None-clause-next
 returns-in-None-clause-next g c =
