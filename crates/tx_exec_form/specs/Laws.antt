@@ -20,10 +20,20 @@ Agrees e looks = (x : Name) (found : Option WideTree) → get looks x ≡ Some f
 abbrev pub Supports : Trace → TaggedTree → Type 0
 Supports trace t = (k c : ℕ) (e : Before) → Agrees e trace.looks → trace.cost ≤ c → trace.height ≤ k → evaluated_in k c t e ≡ Done trace
 
--- The origin, if it is one, is the root's with a path behind it that leads to a subtree of which this is true.
+-- The origin is the root's with a path behind it, which leads to a subtree of which P is true.
+pub record LeadsIn (root : TaggedTree) (origin : List ℕ) (P : WideTree → Type 0) : Type 0 where
+  pub base : List ℕ
+  pub path : List ℕ
+  pub there : WideTree
+  pub is_base : root.at ≡ Some base
+  pub is_behind : origin ≡ base ++ path
+  pub leads : subtree root.tree path ≡ Some there
+  pub holds : P there
+
+-- where there is an origin
 abbrev pub LeadsTo : TaggedTree → Option (List ℕ) → (WideTree → Type 0) → Type 0
 LeadsTo root None P = Unit {0}
-LeadsTo root (Some p) P = (q r : List ℕ) × (u : WideTree) × (root.at ≡ Some q) × (p ≡ q ++ r) × (subtree root.tree r ≡ Some u) × P u
+LeadsTo root (Some origin) P = LeadsIn root origin P
 
 -- Each text that has an origin is the text that stands there, and the origin of each node leads in the tree.
 abbrev mutual

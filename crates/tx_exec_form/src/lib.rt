@@ -4,10 +4,12 @@
 //! `specs/Rows.antt`.
 #![tactic(auto)]
 
+mod laws;
 mod looks;
 mod rows;
 mod traces;
 
+pub use laws::{origin_law, size_law, trace_laws};
 pub use looks::Looks;
 pub use rows::{Row, Taking, Unary, row_for};
 pub use traces::{Outcome, Trace};
