@@ -7,7 +7,7 @@ use Rattle.tx_tree.specs.WideTree.{WideTree, Forest, leaf, node, nil, cons, tree
 use Rattle.tx_tree.specs.Paths.{subtree}
 use Rattle.tx_origin.specs.Values.{WideValue, WideValues, text, made, none, also, vals, value_text, plain, child_at, whole, wholes}
 use Rattle.tx_origin.specs.TaggedTrees.{TaggedTree, kids_from, kids_of}
-use Rattle.tx_exec_form.specs.Maps.{Name}
+use Rattle.tx_env.specs.Pairs.{Name}
 use Rattle.tx_exec_form.specs.Runs.{Before, State, Ran, Over, Done, Run, on_done, ◌>>=◌, ◌>>◌, give, pay, need, look, set}
 use Rattle.tx_exec_form.specs.Frames.{Frame, top, call, caller_of, Found, Unbound, Missing, Here, first_of, others_of, argument, argument_in}
 use Rattle.tx_exec_form.specs.Numbers.{numbers_of, kid_at, part_of}

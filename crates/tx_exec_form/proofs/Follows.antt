@@ -7,7 +7,10 @@ use Rattle.std.proofs.lemmas.Grind.{common_steps}
 use Rattle.tx_tree.specs.WideTree.{WideTree, leaf, node, children_of}
 use Rattle.tx_origin.specs.Values.{WideValue, text, made, vals, value_text, plain}
 use Rattle.tx_origin.specs.TaggedTrees.{TaggedTree, kids_from}
-use Rattle.tx_exec_form.specs.Maps.{Name, Map, with_at, noted}
+use Rattle.tx_env.specs.Pairs.{Name}
+use Rattle.tx_env.specs.Environments.{NameMap}
+use Rattle.tx_env.specs.Changes.{with_pair}
+use Rattle.tx_exec_form.specs.Maps.{noted}
 use Rattle.tx_exec_form.specs.Runs.{Before, State, Ran, Over, Done, Run, on_done, ◌>>=◌, ◌>>◌, give, over, pay, need, look, from_own, set}
 use Rattle.tx_exec_form.specs.Frames.{Frame, top, caller_of, Found, Unbound, Missing, Here, argument_in}
 use Rattle.tx_exec_form.specs.Numbers.{numbers_of, part_of}
@@ -60,7 +63,7 @@ module _ (k k' : ℕ) where
   bind {m = m} {m' = m'} {f = f} {f' = f'} h g = record { runs = λ e s q. bind_holds m' f f' e s (m e s) (h.runs e s q) g }
 
   -- What doesn't look and doesn't pay.
-  pub quiet : {A : Type 0} (a : Map WideTree → A) (g : Map WideTree → Map WideTree) → Follows k k' (λ e s. Done (a s.own) (record s { own = g s.own })) (λ e s. Done (a s.own) (record s { own = g s.own }))
+  pub quiet : {A : Type 0} (a : NameMap → A) (g : NameMap → NameMap) → Follows k k' (λ e s. Done (a s.own) (record s { own = g s.own })) (λ e s. Done (a s.own) (record s { own = g s.own }))
   quiet a g = record { runs = λ e s h. record {
       agrees = h;
       grows = λ e' q. q;
@@ -76,7 +79,7 @@ module _ (k k' : ℕ) where
   gives a = quiet (λ _. a) (λ own. own)
 
   pub sets : (x : Name) (t : Option WideTree) → Follows k k' (set x t) (set x t)
-  sets x t = quiet (λ _. tt) (λ own. with_at own x t)
+  sets x t = quiet (λ _. tt) (with_pair x t)
 
   needed : (n : ℕ) (e : Before) (s : State) (b : Bool) → b ≡ nat_le n k → Agrees e s.looks → Holds {A = Unit {0}} k k' (need n k') e s (if b then Done tt (record s { slack = min s.slack (k - n) }) else Over)
   unfolding need

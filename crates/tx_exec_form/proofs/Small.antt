@@ -8,7 +8,7 @@ use Rattle.tx_origin.specs.Values.{WideValue, text, made, vals, value_text, plai
 use Rattle.tx_origin.specs.TaggedTrees.{TaggedTree, kids_from}
 use Rattle.tx_origin.proofs.Parts.{total_size-append, deepest-append}
 use Rattle.tx_origin.proofs.Wholes.{plain_whole}
-use Rattle.tx_exec_form.specs.Maps.{Name}
+use Rattle.tx_env.specs.Pairs.{Name}
 use Rattle.tx_exec_form.specs.Runs.{Before, State, Ran, Over, Done, Run, on_done, ◌>>=◌, ◌>>◌, give, pay, need, look, from_own}
 use Rattle.tx_exec_form.specs.Frames.{Frame, caller_of, Found, Unbound, Missing, Here, argument_in}
 use Rattle.tx_exec_form.specs.Numbers.{numbers_of, part_of}

@@ -2,7 +2,7 @@
 use Rattle.std.specs.Prelude.{ℕ, List, [], ◌∷◌, Option, Some, None, if◌then◌else◌}
 use Rattle.std.specs.Str.{bytes_eq}
 use Rattle.tx_origin.specs.TaggedTrees.{TaggedTree}
-use Rattle.tx_exec_form.specs.Maps.{Name}
+use Rattle.tx_env.specs.Pairs.{Name}
 
 pub data Frame : Type 0 where
   top : Frame

@@ -5,20 +5,19 @@ use Rattle.tx_tree.specs.WideTree.{WideTree, leaf}
 use Rattle.tx_tree.specs.Paths.{subtree}
 use Rattle.tx_origin.specs.Values.{WideValue, WideValues, text, made, none, also}
 use Rattle.tx_origin.specs.TaggedTrees.{TaggedTree}
-use Rattle.tx_exec_form.specs.Maps.{Name, Map}
+use Rattle.tx_env.specs.Pairs.{Name}
+use Rattle.tx_exec_form.specs.Maps.{LookMap}
 use Rattle.tx_exec_form.specs.Runs.{Before}
-use Rattle.tx_exec_form.specs.Evaluated.{evaluated_in}
-use Rattle.tx_exec_form.specs.declared.traces.Trace.{Trace}
-use Rattle.tx_exec_form.specs.declared.traces.Outcome.TheVariants.{Done}
+use Rattle.tx_exec_form.specs.Evaluated.{WideTrace, evaluated_in}
 
 -- Each name of the looks has what they say.
-abbrev pub Agrees : Before → Map (Option WideTree) → Type 0
+abbrev pub Agrees : Before → LookMap → Type 0
 Agrees e looks = (x : Name) (found : Option WideTree) → get looks x ≡ Some found → e x ≡ found
 
 -- In every environment that agrees with its looks this is the trace of the tree, wherever its cost and its height are
 -- allowed.
-abbrev pub Supports : Trace → TaggedTree → Type 0
-Supports trace t = (k c : ℕ) (e : Before) → Agrees e trace.looks → trace.cost ≤ c → trace.height ≤ k → evaluated_in k c t e ≡ Done trace
+abbrev pub Supports : WideTrace → TaggedTree → Type 0
+Supports trace t = (k c : ℕ) (e : Before) → Agrees e trace.looks → trace.cost ≤ c → trace.height ≤ k → evaluated_in k c t e ≡ Some trace
 
 -- The origin is the root's with a path behind it, which leads to a subtree of which P is true.
 pub record LeadsIn (root : TaggedTree) (origin : List ℕ) (P : WideTree → Type 0) : Type 0 where

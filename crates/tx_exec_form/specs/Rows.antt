@@ -6,7 +6,8 @@ use Rattle.std.specs.FinMap.{get}
 use Rattle.tx_tree.specs.WideTree.{WideTree, leaf, node, children_of, size_of, depth_of}
 use Rattle.tx_origin.specs.Values.{WideValue, text, made, none, vals, value_text, plain, whole}
 use Rattle.tx_origin.specs.TaggedTrees.{TaggedTree, kids_from}
-use Rattle.tx_exec_form.specs.Maps.{Name, Map}
+use Rattle.tx_env.specs.Pairs.{Name}
+use Rattle.tx_env.specs.Environments.{NameMap}
 use Rattle.tx_exec_form.specs.Runs.{Run, Over, Done, ◌>>=◌, ◌>>◌, give, over, pay, need, look, set}
 use Rattle.tx_exec_form.specs.Frames.{Frame, call, caller_of, Found, Unbound, Missing, Here, argument_in}
 use Rattle.tx_exec_form.specs.Numbers.{numbers_of, part_of}
@@ -99,7 +100,7 @@ sizes [] = 0
 sizes (p ∷ ps) = size_in p.1 + sizes ps
 
 -- the names with what the evaluation has set them to, or nothing
-abbrev pub kept_of : Sets → Map WideTree → Sets
+abbrev pub kept_of : Sets → NameMap → Sets
 kept_of [] own = []
 kept_of (p ∷ ps) own = (p.0, get own p.0) ∷ kept_of ps own
 

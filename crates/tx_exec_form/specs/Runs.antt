@@ -2,7 +2,10 @@
 use Rattle.std.specs.Prelude.{ℕ, ◌-◌, min, nat_le, if◌then◌else◌, Option, Some, None}
 use Rattle.std.specs.FinMap.{get}
 use Rattle.tx_tree.specs.WideTree.{WideTree}
-use Rattle.tx_exec_form.specs.Maps.{Name, Map, with_at, noted}
+use Rattle.tx_env.specs.Pairs.{Name}
+use Rattle.tx_env.specs.Environments.{NameMap}
+use Rattle.tx_env.specs.Changes.{with_pair}
+use Rattle.tx_exec_form.specs.Maps.{LookMap, noted}
 
 -- what names have before the evaluation
 abbrev pub Before : Type 0
@@ -11,8 +14,8 @@ Before = Name → Option WideTree
 -- What the evaluation has set so far, what it has looked up, the steps that are left, and how many levels were left
 -- where the fewest were.
 pub record State : Type 0 where
-  pub own : Map WideTree
-  pub looks : Map (Option WideTree)
+  pub own : NameMap
+  pub looks : LookMap
   pub left : ℕ
   pub slack : ℕ
 
@@ -58,4 +61,4 @@ unfoldable pub look : Name → Run (Option WideTree)
 look x = λ e s. from_own x (get s.own x) e s
 
 abbrev pub set : Name → Option WideTree → Run (Unit {0})
-set x t = λ e s. Done tt (record s { own = with_at s.own x t })
+set x t = λ e s. Done tt (record s { own = with_pair x t s.own })
