@@ -1,0 +1,5 @@
+pub mod Agreeing
+pub mod Follows
+pub mod Small
+pub mod Coming
+pub mod Tracing

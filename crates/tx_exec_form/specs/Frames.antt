@@ -1,0 +1,36 @@
+-- Frames: the parameters of a macro with their arguments, and the frame of the caller.
+use Rattle.std.specs.Prelude.{ℕ, List, [], ◌∷◌, Option, Some, None, if◌then◌else◌}
+use Rattle.std.specs.Str.{bytes_eq}
+use Rattle.tx_origin.specs.TaggedTrees.{TaggedTree}
+use Rattle.tx_env.specs.Pairs.{Name}
+
+pub data Frame : Type 0 where
+  top : Frame
+  call : (parameters : List Name) → (arguments : List TaggedTree) → (caller : Frame) → Frame
+
+abbrev pub caller_of : Frame → Frame
+caller_of top = top
+caller_of (call parameters arguments caller) = caller
+
+-- What a name has in a frame.
+pub data Found : Type 0 where
+  Unbound : Found
+  Missing : Found
+  Here : TaggedTree → Found
+
+abbrev pub first_of : List TaggedTree → Found
+first_of [] = Missing
+first_of (t ∷ ts) = Here t
+
+abbrev pub others_of : List TaggedTree → List TaggedTree
+others_of [] = []
+others_of (t ∷ ts) = ts
+
+-- Each parameter has the argument at its own place, and the first of equal parameters counts.
+abbrev pub argument : Name → List Name → List TaggedTree → Found
+argument x [] ts = Unbound
+argument x (p ∷ ps) ts = if bytes_eq p x then first_of ts else argument x ps (others_of ts)
+
+abbrev pub argument_in : Name → Frame → Found
+argument_in x top = Unbound
+argument_in x (call parameters arguments caller) = argument x parameters arguments

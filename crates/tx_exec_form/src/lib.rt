@@ -1,0 +1,13 @@
+//! Evaluation of trees: its definition, and its laws.
+//!
+//! `evaluated` of `specs/Evaluated.antt` is what a tree comes to in an environment, and its table is `specs/Rows.antt`.
+#![tactic(auto)]
+
+mod laws;
+mod rows;
+
+pub use laws::{origin_law, size_law, trace_laws};
+pub use rows::{Row, Taking, Unary, row_for};
+
+/// How many levels an evaluation has.
+pub const MOST_LEVELS: u32 = 400;
