@@ -1,6 +1,6 @@
 // The length of the canonical text. A count stands still at its greatest value, which no text within the limits
 // reaches.
-ghost use Rattle.std.specs.Prelude.{◌≡◌, ◌+◌, length};
+ghost use Rattle.std.specs.Prelude.{◌≡◌, ◌<◌, ◌+◌, ◌^◌, length};
 ghost use Rattle.std.specs.List.{flat_map};
 ghost use Rattle.tx_scm.specs.Spelling.{escaped};
 ghost use Rattle.tx_scm.specs.Canonical.{scheme_text};
@@ -50,10 +50,11 @@ fn tree_length(t: &Tree) -> u64
     count
 }
 
-/// The bytes of the canonical text of the tree, counted without writing.
+/// The bytes of the canonical text of the tree, counted without writing. There is room for one byte more in 64 bits.
 #[tactic(auto, using(crate::proofs::Bounds::text_short))]
 pub fn length(t: &Tree) -> u64
-    ensures { result ≡ length (scheme_text t.now) }
+    ensures value { result ≡ length (scheme_text t.now) }
+    ensures short { result + 1 < 2 ^ 64 }
 {
     let _size = t.size();
     tree_length(t)

@@ -6,12 +6,8 @@ use Rattle.tx_outside.specs.Files.{Files, file_of}
 use Rattle.tx_outside.proofs.Counting.{never_falls_refl}
 use Rattle.tx_tree.specs.Limits.{IsWellFormed, IsWithinLimits}
 use Rattle.tx_tree.specs.WideTree.{WideTree, size_of}
-use Rattle.tx_scm.specs.Canonical.{scheme_text}
-use Rattle.tx_scm.proofs.Bounds.{text_short}
 use Rattle.tx_scm.proofs.Spelled.{line_alone as scheme_alone}
-use Rattle.tx_tm_write.specs.Canonical.{tm_text}
-use Rattle.tx_tm_write.proofs.Bounds.{block_short}
-use Rattle.tx_tm_laws.proofs.Spelling.{line_alone as tm_alone}
+use Rattle.tx_tm_write.proofs.Spelling.{line_alone as tm_alone}
 use Rattle.tx_doc.specs.declared.forms.Form.{Form}
 use Rattle.tx_doc.specs.declared.forms.Form.TheVariants.{Tm, Scheme}
 use Rattle.tx_doc.specs.Forms.{form_of}
@@ -55,14 +51,6 @@ saves_too_many form t e lt = saves_fitting form t e ∙ fits_not (line (text_in 
 
 pub saves_bytes : (form : Form) (t : WideTree) → has_text_in form t ≡ true → length (line (text_in form t)) ≤ MOST_FILE → saving form t ≡ writes (line (text_in form t))
 saves_bytes form t e le = saves_fitting form t e ∙ fits_is (line (text_in form t)) true (few_enough _ le) refl
-
--- ---- the length of a file
-
-pub scheme_short : (t : WideTree) → IsWellFormed t → IsWithinLimits t → length (scheme_text t) + 1 < 2 ^ 64
-scheme_short t formed within = omega (arith, text_short t formed, within.size)
-
-pub tm_short : (t : WideTree) → IsWellFormed t → IsWithinLimits t → length (tm_text t) + 1 < 2 ^ 64
-tm_short t formed within = omega (arith, block_short t formed, within.size)
 
 -- ---- replies
 

@@ -32,12 +32,11 @@ fn has_text_in(form: Form, tree: &Tree) -> bool
 }
 
 // How many bytes the tree's file has.
-#[tactic(auto, using(crate::proofs::Saved::scheme_short, crate::proofs::Saved::tm_short, std::proofs::lemmas::Grind::common_steps))]
+#[tactic(auto, using(std::proofs::lemmas::Grind::common_steps))]
 fn file_length(form: Form, tree: &Tree) -> u64
     requires { has_text_in form tree.now ≡ true }
     ensures { result ≡ length (line (text_in form tree.now)) }
 {
-    let _size = tree.size();
     match form {
         Form::Scheme => tx_scm::length(tree) + 1,
         Form::Tm => tx_tm_write::length(tree) + 1,

@@ -1,3 +1,9 @@
 pub mod Forms
 pub mod Writing
 pub mod Bounds
+pub mod Standing
+pub mod TextItems
+pub mod Contents
+pub mod Paragraphs
+pub mod Tags
+pub mod Spelling

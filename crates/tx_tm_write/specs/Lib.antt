@@ -1,3 +1,4 @@
 pub mod Shapes
 pub mod Canonical
 pub mod Counts
+pub mod Alone

@@ -1,6 +1,6 @@
 // The length of the canonical text. A count stands still at its greatest value, which no text within the limits
 // reaches.
-ghost use Rattle.std.specs.Prelude.{◌≡◌, ◌<◌, ◌≤◌, ◌+◌, ◌++◌, ◌∷◌, [], true, false, length, take, drop};
+ghost use Rattle.std.specs.Prelude.{◌≡◌, ◌<◌, ◌≤◌, ◌+◌, ◌^◌, ◌++◌, ◌∷◌, [], true, false, length, take, drop};
 ghost use Rattle.tx_tree.specs.WideTree.{forest, children_of, label_of};
 ghost use Rattle.tx_tm_write.specs.Shapes.{some, is_block, has_block, is_raw};
 ghost use Rattle.tx_tm_write.specs.Canonical.{byte_text, items_text, opened, part_text, content_text, parts_text, arguments_text, long_text, long_part, paragraph_text, between, block_text, paragraphs_text, with_ends, tags_text, tm_text};
@@ -195,11 +195,12 @@ fn block_length(t: &Tree) -> u64
     tags_length(t)
 }
 
-/// The bytes of the canonical text of a block, counted without writing. Of a tree that is no block it is the length of what
-/// `tm_text` gives there, which is no text of that tree.
+/// The bytes of the canonical text of a block, counted without writing. Whatever the tree, there is room for one byte more in
+/// 64 bits.
 #[tactic(auto, using(crate::proofs::Bounds::block_short))]
 pub fn length(t: &Tree) -> u64
-    ensures { result ≡ length (tm_text t.now) }
+    ensures value { is_block t.now ≡ true → result ≡ length (tm_text t.now) }
+    ensures short { result + 1 < 2 ^ 64 }
 {
     let _size = t.size();
     block_length(t)

@@ -17,8 +17,8 @@ use Rattle.tx_tm_form.specs.Forms.{AreDigits, Pieces, Arguments, Blocks, blank, 
 use Rattle.tx_tm_form.proofs.Sound.{same_is}
 use Rattle.tx_tm_write.specs.Shapes.{all_digits, is_one_of_digits, is_raw, digits_of}
 use Rattle.tx_tm_write.specs.Canonical.{is_marked}
-use Rattle.tx_tm_laws.proofs.Items.{other_plain}
-use Rattle.tx_tm_laws.proofs.Standing.{AreWords, no_word, both_words, one_word, word_before, Stands, one_stands}
+use Rattle.tx_tm_write.proofs.TextItems.{other_plain}
+use Rattle.tx_tm_write.proofs.Standing.{AreWords, no_word, both_words, one_word, word_before, Stands, one_stands}
 
 -- ---- raw data
 

@@ -11,7 +11,7 @@ use Rattle.tx_tm_form.specs.Tokens.{white, plain, escape, written}
 use Rattle.tx_tm_form.specs.Parts.{Part, gap, text}
 use Rattle.tx_tm_form.specs.Forms.{blank, letter, escaped, symbol as symbol_piece, name_token, symbol_bytes}
 use Rattle.tx_tm_write.specs.Canonical.{is_marked, is_control, byte_text, is_held, items_text}
-use Rattle.tx_tm_laws.proofs.Standing.{IsWord, AreWords, both_words, one_word, word_before, Stands, nothing_stands, both_stand, one_stands}
+use Rattle.tx_tm_write.proofs.Standing.{IsWord, AreWords, both_words, one_word, word_before, Stands, nothing_stands, both_stand, one_stands}
 
 -- ---- one byte
 

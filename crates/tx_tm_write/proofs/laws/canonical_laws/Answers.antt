@@ -1,5 +1,5 @@
-use Rattle.tx_tm_laws.proofs.Spelling.{text_alone, line_alone}
-use Rattle.tx_tm_laws.proofs.laws.canonical_laws.Goals as goal
+use Rattle.tx_tm_write.proofs.Spelling.{text_alone, line_alone}
+use Rattle.tx_tm_write.proofs.laws.canonical_laws.Goals as goal
 
 pub returns-clause-text : goal.returns-clause-text
 returns-clause-text c = text_alone

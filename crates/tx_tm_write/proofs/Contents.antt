@@ -13,7 +13,7 @@ use Rattle.tx_tm_form.specs.Forms.{symbol_bytes}
 use Rattle.tx_tm_form.proofs.Sound.{same_is}
 use Rattle.tx_tm_write.specs.Shapes.{some, is_empty, are_apart, has_two, is_inline}
 use Rattle.tx_tm_write.specs.Canonical.{is_held}
-use Rattle.tx_tm_laws.proofs.Items.{byte_part, item_parts}
+use Rattle.tx_tm_write.proofs.TextItems.{byte_part, item_parts}
 
 -- ---- the parts of content
 

@@ -4,7 +4,7 @@ ghost use Rattle.tx_tree.specs.WideTree.{WideTree};
 ghost use Rattle.tx_tree.specs.Limits.{IsWellFormed};
 ghost use Rattle.tx_tm_write.specs.Shapes.{is_block};
 ghost use Rattle.tx_tm_write.specs.Canonical.{tm_text};
-ghost use Rattle.tx_tm_laws.specs.Alone.{SpellsAlone};
+ghost use Rattle.tx_tm_write.specs.Alone.{SpellsAlone};
 
 /// The canonical text of a block spells that block and no other tree, and still does with a newline behind it.
 pub fn canonical_laws()
