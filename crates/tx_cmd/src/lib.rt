@@ -12,10 +12,6 @@ mod limits;
 mod line;
 mod pieces;
 mod reading;
-#[cfg(test)]
-mod save_tests;
-#[cfg(test)]
-mod tests;
 mod words;
 
 pub use command::{CmdFault, Command};

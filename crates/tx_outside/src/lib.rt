@@ -15,8 +15,6 @@ mod faults;
 mod file_store;
 mod in_memory;
 mod limits;
-#[cfg(test)]
-mod tests;
 
 pub use byte_sink::{Sink, write_all};
 pub use byte_source::Source;

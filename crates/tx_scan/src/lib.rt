@@ -12,6 +12,3 @@ mod stop_set;
 pub use count::count_of;
 pub use search::first_stop;
 pub use stop_set::Stops;
-
-#[cfg(test)]
-mod tests;

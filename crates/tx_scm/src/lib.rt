@@ -4,25 +4,15 @@
 //! `Spells` (`specs/Spelling.antt`), and the writer's text is `scheme_text` (`specs/Canonical.antt`).
 #![tactic(auto)]
 
-#[cfg(test)]
-mod fault_tests;
 mod kinds;
 mod laws;
-#[cfg(test)]
-mod length_tests;
 mod lengths;
-#[cfg(test)]
-mod limit_tests;
 mod measures;
 mod names;
 mod reader;
 mod recogniser;
 mod spots;
 mod states;
-#[cfg(test)]
-mod tests;
-#[cfg(test)]
-mod vector_tests;
 mod writer;
 
 pub use laws::{canonical_laws, fault_laws, scan_goes_on_along_fronts, spelling_laws};

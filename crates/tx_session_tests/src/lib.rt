@@ -10,10 +10,16 @@ mod greatest;
 #[cfg(test)]
 mod lines;
 #[cfg(test)]
+mod long_files;
+#[cfg(test)]
 mod outside;
 #[cfg(test)]
 mod pages;
 #[cfg(test)]
+mod sample;
+#[cfg(test)]
 mod saves;
+#[cfg(test)]
+mod saving;
 #[cfg(test)]
 mod statuses;

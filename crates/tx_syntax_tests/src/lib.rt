@@ -1,16 +1,32 @@
-//! Tests of both syntaxes through readers, writers and sessions: files saved and opened again, random blocks, and the places
-//! of faults.
+//! Tests of the readers and writers of both syntaxes: what is read and written on both sides of each rule, the places of
+//! faults, trees at the limits, and random blocks.
 #![tactic(auto)]
 
+#[cfg(test)]
+mod beginnings;
 #[cfg(test)]
 mod blocks;
 #[cfg(test)]
 mod fronts;
 #[cfg(test)]
-mod long_files;
+mod scheme_faults;
 #[cfg(test)]
-mod prefixes;
+mod scheme_limits;
 #[cfg(test)]
-mod sample;
+mod scheme_trees;
 #[cfg(test)]
-mod saving;
+mod short_strings;
+#[cfg(test)]
+mod tables;
+#[cfg(test)]
+mod tm_content;
+#[cfg(test)]
+mod tm_faults;
+#[cfg(test)]
+mod tm_files;
+#[cfg(test)]
+mod tm_limits;
+#[cfg(test)]
+mod tm_tags;
+#[cfg(test)]
+mod tm_texts;

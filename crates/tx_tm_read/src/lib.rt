@@ -20,20 +20,3 @@ mod taking;
 mod walk;
 
 pub use reader::read;
-
-#[cfg(test)]
-mod content_tests;
-#[cfg(test)]
-mod fault_tests;
-#[cfg(test)]
-mod limit_tests;
-#[cfg(test)]
-mod measure_tests;
-#[cfg(test)]
-mod other_tests;
-#[cfg(test)]
-mod printing;
-#[cfg(test)]
-mod tag_tests;
-#[cfg(test)]
-mod tests;

@@ -8,8 +8,6 @@ mod items;
 mod laws;
 mod lengths;
 mod shapes;
-#[cfg(test)]
-mod tests;
 mod writer;
 
 pub use laws::canonical_laws;

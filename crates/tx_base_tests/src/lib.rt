@@ -1,0 +1,15 @@
+//! Tests of the crates that stand lowest: lines of pieces, byte search, what is outside in memory, and command lines.
+#![tactic(auto)]
+
+#[cfg(test)]
+mod command_faults;
+#[cfg(test)]
+mod commands;
+#[cfg(test)]
+mod lines;
+#[cfg(test)]
+mod sinks;
+#[cfg(test)]
+mod stops;
+#[cfg(test)]
+mod stores;

@@ -1,4 +1,0 @@
-use Rattle.tx_tm_write.proofs.tests.blocks_are_written.Given as goal
-
-abbrev pub ghosts-tree : goal.ghosts-tree
-ghosts-tree g a = record { name = a.blank.name; parts = a.blank.parts }
