@@ -28,12 +28,12 @@ pub record IsPut (s next : Inside) (p : Prepared) : Type 0 where
   pub depth : next.history.depth ≡ s.history.depth
 
 led : (s : Inside) (p : Prepared) → IsKept s → IsReady (state_of s) p → IsLedBack s.buffers.items p.buffer p.tree p.back s.cursor
-led s p kept r = record { within = r.buffer; back = r.back; place = kept.cursor }
+led s p kept r = record { within = r.buffer; returns = r.back; place = kept.cursor }
 
 -- the fields behind a change, with the entries that are known
 record IsNext (s next : Inside) (p : Prepared) (past future : List Entry) : Type 0 where
-  past : reverse next.history.past ≡ past
-  future : reverse next.history.future ≡ future
+  done : reverse next.history.past ≡ past
+  left : reverse next.history.future ≡ future
   back : AllLead (with_tree s.buffers.items p.buffer p.tree) past
   on : AllLead (with_tree s.buffers.items p.buffer p.tree) future
 
@@ -48,8 +48,8 @@ next_kept s next p past future kept r put h =
       names = subst NamesDiffer same (names_put s.buffers.items p.buffer p.tree r.buffer kept.names);
       selected = subst (λ n. next.selected < n) long (subst (λ n. n < length s.buffers.items) (sym put.selected) kept.selected);
       cursor = subst (λ d. IsPlace (document_of next.buffers.items) d.path d.offset) (sym put.cursor) (subst (λ cs. IsPlace (document_of cs) p.cursor.path p.cursor.offset) same r.cursor);
-      past = subst (AllLead next.buffers.items) (sym h.past) (subst (λ cs. AllLead cs past) same h.back);
-      future = subst (AllLead next.buffers.items) (sym h.future) (subst (λ cs. AllLead cs future) same h.on);
+      past = subst (AllLead next.buffers.items) (sym h.done) (subst (λ cs. AllLead cs past) same h.back);
+      future = subst (AllLead next.buffers.items) (sym h.left) (subst (λ cs. AllLead cs future) same h.on);
       depth = put.depth ∙ kept.depth;
     }
 
@@ -63,7 +63,7 @@ next_is : (s next : Inside) (p : Prepared) (past future : List Entry) → IsPut 
     }
     ≡ state_of next
 next_is s next p past future put h =
-    rw (put.buffers, put.selected, put.cursor, h.past, h.future) refl
+    rw (put.buffers, put.selected, put.cursor, h.done, h.left) refl
 
 pub edit_kept : (s next : Inside) (p : Prepared) → IsKept s → IsReady (state_of s) p → IsPut s next p
     → next.history.past ≡ newest s.history.depth (s.history.past ++ entry_of p.buffer p.back s.cursor ∷ []) → next.history.future ≡ []
@@ -77,8 +77,8 @@ edit_kept s next p kept r put was empty =
     ap reverse was ∙ newest_turned s.history.depth s.history.past e ∙ ap (λ k. take k es) kept.depth in
     let h : IsNext s next p (take MOST_UNDO es) [] =
     record {
-      past = past;
-      future = ap reverse empty;
+      done = past;
+      left = ap reverse empty;
       back = lead_of_take MOST_UNDO (with_tree bs p.buffer p.tree) es (lead_back bs p.buffer p.tree p.back s.cursor (reverse s.history.past) l kept.past);
       on = tt;
     } in
@@ -106,8 +106,8 @@ undo_kept s next p e rest kept r put was past future =
     let there : led_to bs e ≡ with_tree bs p.buffer p.tree = ap (λ x. x.buffers) (same_state _ (with_undo (state_of s) p) (sym goes ∙ r.is)) in
     let h : IsNext s next p (reverse rest) (f ∷ reverse s.history.future) =
     record {
-      past = ap reverse past;
-      future = turned_round s.history.future f next.history.future future;
+      done = ap reverse past;
+      left = turned_round s.history.future f next.history.future future;
       back = subst (λ cs. AllLead cs (reverse rest)) there all.1;
       on = lead_back bs p.buffer p.tree p.back s.cursor (reverse s.history.future) l kept.future;
     } in
@@ -136,8 +136,8 @@ redo_kept s next p e rest kept r put was future past =
     let there : led_to bs e ≡ with_tree bs p.buffer p.tree = ap (λ x. x.buffers) (same_state _ (with_redo (state_of s) p) (sym goes ∙ r.is)) in
     let h : IsNext s next p (f ∷ reverse s.history.past) (reverse rest) =
     record {
-      past = turned_round s.history.past f next.history.past past;
-      future = ap reverse future;
+      done = turned_round s.history.past f next.history.past past;
+      left = ap reverse future;
       back = lead_back bs p.buffer p.tree p.back s.cursor (reverse s.history.past) l kept.past;
       on = subst (λ cs. AllLead cs (reverse rest)) there all.1;
     } in

@@ -38,7 +38,7 @@ pub record IsMadeReady (s : State) (edit : Edit) (p : Prepared) (place : Option 
   pub tree : changed_in_turn edit.mods (tree_of s.buffers edit.buffer) ≡ Ok p.tree
   pub back : p.back ≡ inverses_of edit.mods (tree_of s.buffers edit.buffer)
   pub undone : AreUndone edit.mods (tree_of s.buffers edit.buffer) p.tree
-  pub place : place ≡ option_map (moved_in_turn edit.mods (tree_of s.buffers edit.buffer)) (if edit.buffer == 0 then Some s.cursor else None)
+  pub moved : place ≡ option_map (moved_in_turn edit.mods (tree_of s.buffers edit.buffer)) (if edit.buffer == 0 then Some s.cursor else None)
   pub valid : IsPlaceIn p.tree place
   pub cursor : p.cursor ≡ option_map_or (λ q. q) edit.cursor (option_map_or (λ q. q) place s.cursor)
 
@@ -73,11 +73,11 @@ made_ready s edit p place at gives m =
     let zero_if : (edit.buffer == 0) ≡ true → edit.buffer ≡ 0 = λ t. eqb-true edit.buffer 0 t in
     let some_if : (edit.buffer == 0) ≡ false → 0 < edit.buffer = λ t. some_number edit.buffer (eqb-false edit.buffer 0 t) in
     let is : p.cursor ≡ cursor_after edit s =
-    m.cursor ∙ ap (λ d. option_map_or (λ q. q) edit.cursor d) (unless_given s edit (edit.buffer == 0) place zero_if m.place) in
+    m.cursor ∙ ap (λ d. option_map_or (λ q. q) edit.cursor d) (unless_given s edit (edit.buffer == 0) place zero_if m.moved) in
     let valid : IsPlace (document_of (with_tree s.buffers edit.buffer p.tree)) p.cursor.path p.cursor.offset =
     subst (λ d. IsPlace (document_of (with_tree s.buffers edit.buffer p.tree)) d.path d.offset) (sym m.cursor)
     (valid_cursor s edit p.tree edit.cursor (option_map_or (λ q. q) place s.cursor) (gives p.tree m.tree)
-    (valid_unless s edit p.tree (edit.buffer == 0) place m.within zero_if some_if m.place m.valid at)) in (
+    (valid_unless s edit p.tree (edit.buffer == 0) place m.within zero_if some_if m.moved m.valid at)) in (
       record {
         buffer = rw m.buffer m.within;
         tree = rw (m.buffer, m.mods) m.tree;

@@ -17,16 +17,16 @@ use Rattle.tx_state.proofs.Moments.{How, entry_of, led_back}
 -- a tree that was put into buffer k, with what leads back, to the cursor c
 pub record IsLedBack (bs : List Buffer) (k : ℕ) (u : WideTree) (back : List Mod) (c : Place) : Type 0 where
   pub within : k < length bs
-  pub back : changed_in_turn back u ≡ Ok (tree_of bs k)
+  pub returns : changed_in_turn back u ≡ Ok (tree_of bs k)
   pub place : IsPlace (document_of bs) c.path c.offset
 
 pub lead_back : (bs : List Buffer) (k : ℕ) (u : WideTree) (back : List Mod) (c : Place) (es : List Entry) → IsLedBack bs k u back c → AllLead bs es
     → AllLead (with_tree bs k u) (entry_of k back c ∷ es)
 lead_back bs k u back c es h all =
-    let there : led_to (with_tree bs k u) (entry_of k back c) ≡ bs = led_back bs k u back c h.within h.back in (
+    let there : led_to (with_tree bs k u) (entry_of k back c) ≡ bs = led_back bs k u back c h.within h.returns in (
       record {
         buffer = subst (λ n. k < n) (sym (length_put bs k u h.within)) h.within;
-        applies = (tree_of bs k, (ap (changed_in_turn back) (tree_put bs k u h.within) ∙ h.back));
+        applies = (tree_of bs k, (ap (changed_in_turn back) (tree_put bs k u h.within) ∙ h.returns));
         cursor = subst (λ cs. IsPlace (document_of cs) c.path c.offset) (sym there) h.place;
       },
       subst (λ cs. AllLead cs es) (sym there) all,
@@ -37,7 +37,7 @@ edits_back : (how : How) (bs : List Buffer) (k : ℕ) (u : WideTree) (back mods 
     → how (with_tree bs k u) (entry_of k back c) ≡ mods
     → kept_edits how (with_tree bs k u) (entry_of k back c ∷ es) ≡ record { moment = record { buffers = bs; cursor = c }; buffer = k; mods = mods } ∷ kept_edits how bs es
 edits_back how bs k u back mods c es h e =
-    ap (λ cs. record { moment = record { buffers = cs; cursor = c }; buffer = k; mods = how (with_tree bs k u) (entry_of k back c) } ∷ kept_edits how cs es) (led_back bs k u back c h.within h.back)
+    ap (λ cs. record { moment = record { buffers = cs; cursor = c }; buffer = k; mods = how (with_tree bs k u) (entry_of k back c) } ∷ kept_edits how cs es) (led_back bs k u back c h.within h.returns)
     ∙ ap (λ ms. record { moment = record { buffers = bs; cursor = c }; buffer = k; mods = ms } ∷ kept_edits how bs es) e
 
 pub undoes_back : (bs : List Buffer) (k : ℕ) (u : WideTree) (back mods : List Mod) (c : Place) (es : List Entry) → IsLedBack bs k u back c → inverses_of back u ≡ mods
