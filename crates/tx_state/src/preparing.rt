@@ -14,7 +14,15 @@ use std::sync::ledger::Ledger;
 use tx_base::{Memory, Steps};
 use tx_doc::Buffer;
 use tx_mod::{ApplyFault, ModList};
-use tx_tree::Place;
+use tx_tree::{Place, Tree};
+
+// The tree of a buffer.
+pub(crate) fn tree_at(buffers: &[Buffer], buffer: u32) -> &Tree
+    requires { buffer < length buffers.now }
+    ensures { result.now ≡ tree_of buffers.now buffer }
+{
+    &buffers[buffer as usize].tree
+}
 
 // The first place that there is, of one that was given, one that was moved, and the cursor.
 pub(crate) fn chosen(

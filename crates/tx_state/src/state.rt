@@ -17,7 +17,7 @@ use crate::changing::change_in_turn;
 use crate::cursors::first_cursor;
 use crate::edits::{Edit, Entry, Prepared};
 use crate::faults::{GoFault, NoBuffer, UndoFault};
-use crate::preparing::{chosen, step_along};
+use crate::preparing::{chosen, step_along, tree_at};
 use crate::{MOST_BUFFERS, MOST_UNDO};
 use std::alloc::Global;
 use std::marker::Model;
@@ -178,7 +178,7 @@ impl EditorState {
         ensures counted { steps.new ≤ steps.old + cost_both_ways edit.mods }
     {
         let moving = self.moving_cursor(alloc, &edit)?;
-        let tree = &self.buffers[edit.buffer as usize].tree;
+        let tree = tree_at(&self.buffers, edit.buffer);
         let changed = change_in_turn(alloc, tree, edit.mods.as_slice(), moving, steps)?;
         let Edit {
             buffer,
