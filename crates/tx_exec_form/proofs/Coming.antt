@@ -63,7 +63,7 @@ module _ (root : TaggedTree) where
         is_base = h.is_base;
         is_behind = ap (λ x. x ++ i ∷ []) h.is_behind ∙ append_assoc h.base h.path (i ∷ []);
         leads = subtree_push root.tree h.path i u v (h.leads ∙ ap Some h.holds) g;
-        holds = refl
+        holds = refl;
       }
 
   -- each of these stands at its number, counted from i, behind the origin

@@ -51,8 +51,8 @@ module _ (k k' : ℕ) where
         fewer = omega (arith, h.fewer, g.fewer);
         tighter = omega (arith, h.tighter, g.tighter);
         again = λ e' c' left' i j q r u v.
-          ap (on_done e' f') (h.again e' c' (left' + (s1.left - s2.left)) i (j + (s1.slack - s2.slack)) (g.grows e' q) (omega (arith, r, h.fewer, g.fewer)) u (omega (arith, v, h.tighter, g.tighter)))
-          ∙ g.again e' (left' + (s1.left - s2.left)) left' (j + (s1.slack - s2.slack)) j q (omega (arith, g.fewer)) (omega (arith, v, g.tighter)) v
+            ap (on_done e' f') (h.again e' c' (left' + (s1.left - s2.left)) i (j + (s1.slack - s2.slack)) (g.grows e' q) (omega (arith, r, h.fewer, g.fewer)) u (omega (arith, v, h.tighter, g.tighter)))
+            ∙ g.again e' (left' + (s1.left - s2.left)) left' (j + (s1.slack - s2.slack)) j q (omega (arith, g.fewer)) (omega (arith, v, g.tighter)) v;
       }
 
   bind_holds : {A B : Type 0} (m' : Run A) (f f' : A → Run B) (e : Before) (s : State) (r : Ran A) → Holds k k' m' e s r → ((a : A) → Follows k k' (f a) (f' a)) → Holds k k' (m' >>= f') e s (on_done e f r)
@@ -64,16 +64,18 @@ module _ (k k' : ℕ) where
 
   -- What doesn't look and doesn't pay.
   pub quiet : {A : Type 0} (a : NameMap → A) (g : NameMap → NameMap) → Follows k k' (λ e s. Done (a s.own) (record s { own = g s.own })) (λ e s. Done (a s.own) (record s { own = g s.own }))
-  quiet a g = record { runs = λ e s h. record {
+  quiet a g = record {
+    runs = λ e s h. record {
       agrees = h;
       grows = λ e' q. q;
       fewer = omega arith;
       tighter = omega arith;
       again = λ e' c' left' i j q r u v.
-        let same : c' ≡ left' = omega arith in
-        let even : i ≡ j = omega arith in
-        ap (λ n. Done (a s.own) (record { own = g s.own; looks = s.looks; left = n; slack = i })) same ∙ ap (λ n. Done (a s.own) (record { own = g s.own; looks = s.looks; left = left'; slack = n })) even
-    } }
+          let same : c' ≡ left' = omega arith in
+          let even : i ≡ j = omega arith in
+          ap (λ n. Done (a s.own) (record { own = g s.own; looks = s.looks; left = n; slack = i })) same ∙ ap (λ n. Done (a s.own) (record { own = g s.own; looks = s.looks; left = left'; slack = n })) even;
+    };
+  }
 
   pub gives : {A : Type 0} (a : A) → Follows k k' (give a) (give a)
   gives a = quiet (λ _. a) (λ own. own)
@@ -92,11 +94,11 @@ module _ (k k' : ℕ) where
         fewer = omega arith;
         tighter = omega arith;
         again = λ e' c' left' i j g r u v.
-          let same : c' ≡ left' = omega (arith, r) in
-          let less : n ≤ k' = omega (arith, enough, u, v) in
-          let test : nat_le n k' ≡ true = grind (arith, common_steps, less) in
-          let even : min i (k' - n) ≡ j = omega (arith, enough, u, v) in
-          cond-true (nat_le n k') _ _ test ∙ ap (λ l. Done tt (record s { left = l; slack = min i (k' - n) })) same ∙ ap (λ l. Done tt (record s { left = left'; slack = l })) even
+            let same : c' ≡ left' = omega (arith, r) in
+            let less : n ≤ k' = omega (arith, enough, u, v) in
+            let test : nat_le n k' ≡ true = grind (arith, common_steps, less) in
+            let even : min i (k' - n) ≡ j = omega (arith, enough, u, v) in
+            cond-true (nat_le n k') _ _ test ∙ ap (λ l. Done tt (record s { left = l; slack = min i (k' - n) })) same ∙ ap (λ l. Done tt (record s { left = left'; slack = l })) even;
       }
 
   pub needs : (n : ℕ) → Follows k k' (need n k) (need n k')
@@ -107,22 +109,21 @@ module _ (k k' : ℕ) where
   unfolding pay
   paid n e s false q h = tt
   paid n e s true q h = record {
-      agrees = h;
-      grows = λ e' g. g;
-      fewer = omega arith;
-      tighter = omega arith;
-      again = λ e' c' left' i j g r u v.
+    agrees = h;
+    grows = λ e' g. g;
+    fewer = omega arith;
+    tighter = omega arith;
+    again = λ e' c' left' i j g r u v.
         let enough : n ≤ s.left = grind (arith, common_steps, q) in
         let same : c' - n ≡ left' = omega (arith, r, enough) in
         let even : i ≡ j = omega (arith, u, v) in
         let test : nat_le n c' ≡ true = grind (arith, common_steps, r, enough) in
-        cond-true (nat_le n c') _ _ test ∙ ap (λ l. Done tt (record s { left = l; slack = i })) same ∙ ap (λ l. Done tt (record s { left = left'; slack = l })) even
-    }
+        cond-true (nat_le n c') _ _ test ∙ ap (λ l. Done tt (record s { left = l; slack = i })) same ∙ ap (λ l. Done tt (record s { left = left'; slack = l })) even;
+  }
 
   pub pays : (n : ℕ) → Follows k k' (pay n) (pay n)
   unfolding pay
   pays n = record { runs = λ e s h. paid n e s (nat_le n s.left) refl h }
-
 
 -- ---- looks
 
@@ -130,15 +131,15 @@ module _ (k k' : ℕ) where
   looked : (x : Name) (e : Before) (s : State) (r : Option WideTree) → get s.own x ≡ r → Agrees e s.looks → Holds k k' (look x) e s (from_own x r e s)
   unfolding look
   looked x e s (Some t) q h = record {
-      agrees = h;
-      grows = λ e' g. g;
-      fewer = omega arith;
-      tighter = omega arith;
-      again = λ e' c' left' i j g r u v.
+    agrees = h;
+    grows = λ e' g. g;
+    fewer = omega arith;
+    tighter = omega arith;
+    again = λ e' c' left' i j g r u v.
         let same : c' ≡ left' = omega (arith, r) in
         let even : i ≡ j = omega (arith, u, v) in
-        ap (λ o. from_own x o e' (record s { left = c'; slack = i })) q ∙ ap (λ n. Done (Some t) (record s { left = n; slack = i })) same ∙ ap (λ n. Done (Some t) (record s { left = left'; slack = n })) even
-    }
+        ap (λ o. from_own x o e' (record s { left = c'; slack = i })) q ∙ ap (λ n. Done (Some t) (record s { left = n; slack = i })) same ∙ ap (λ n. Done (Some t) (record s { left = left'; slack = n })) even;
+  }
   looked x e s None q h =
       let back = λ (e' : Before) (g : Agrees e' (noted s.looks x (e x))). agrees_noted_back e e' x s.looks h g in
       record {
@@ -147,10 +148,10 @@ module _ (k k' : ℕ) where
         fewer = omega arith;
         tighter = omega arith;
         again = λ e' c' left' i j g r u v.
-          let same : c' ≡ left' = omega (arith, r) in
-          let even : i ≡ j = omega (arith, u, v) in
-          ap (λ o. from_own x o e' (record s { left = c'; slack = i })) q ∙ ap (λ t. Done t (record s { looks = noted s.looks x t; left = c'; slack = i })) (back e' g).0
-          ∙ ap (λ n. Done (e x) (record s { looks = noted s.looks x (e x); left = n; slack = i })) same ∙ ap (λ n. Done (e x) (record s { looks = noted s.looks x (e x); left = left'; slack = n })) even
+            let same : c' ≡ left' = omega (arith, r) in
+            let even : i ≡ j = omega (arith, u, v) in
+            ap (λ o. from_own x o e' (record s { left = c'; slack = i })) q ∙ ap (λ t. Done t (record s { looks = noted s.looks x t; left = c'; slack = i })) (back e' g).0
+            ∙ ap (λ n. Done (e x) (record s { looks = noted s.looks x (e x); left = n; slack = i })) same ∙ ap (λ n. Done (e x) (record s { looks = noted s.looks x (e x); left = left'; slack = n })) even;
       }
 
   pub lookss : (x : Name) → Follows k k' (look x) (look x)
@@ -320,12 +321,12 @@ overs k k' m = record { runs = λ e s h. tt }
 lift_holds : {A : Type 0} (k k' : ℕ) (m' : Run A) (e : Before) (s : State) (r : Ran A) → Holds k k' m' e s r → Holds (suc k) (suc k') m' e s r
 lift_holds k k' m' e s Over h = tt
 lift_holds k k' m' e s (Done a s') h = record {
-    agrees = h.agrees;
-    grows = h.grows;
-    fewer = h.fewer;
-    tighter = h.tighter;
-    again = λ e' c' left' i j g r u v. h.again e' c' left' i j g r (omega (arith, u)) (omega (arith, v))
-  }
+  agrees = h.agrees;
+  grows = h.grows;
+  fewer = h.fewer;
+  tighter = h.tighter;
+  again = λ e' c' left' i j g r u v. h.again e' c' left' i j g r (omega (arith, u)) (omega (arith, v));
+}
 
 lift : {A : Type 0} (k k' : ℕ) (m m' : Run A) → Follows k k' m m' → Follows (suc k) (suc k') m m'
 lift k k' m m' h = record { runs = λ e s g. lift_holds k k' m' e s (m e s) (h.runs e s g) }
@@ -349,12 +350,12 @@ never_holds : {A : Type 0} (k n : ℕ) (m : Run A) (e : Before) (s : State) (r :
 unfolding IsTight
 never_holds k n m e s Over h b = tt
 never_holds k n m e s (Done a s') h b = record {
-    agrees = h.agrees;
-    grows = h.grows;
-    fewer = h.fewer;
-    tighter = h.tighter;
-    again = λ e' c' left' i j g r u v. absurd (omega (arith, v, b))
-  }
+  agrees = h.agrees;
+  grows = h.grows;
+  fewer = h.fewer;
+  tighter = h.tighter;
+  again = λ e' c' left' i j g r u v. absurd (omega (arith, v, b));
+}
 
 never : {A : Type 0} (k : ℕ) (f : Unit {0} → Run A) → ((a : Unit {0}) → Follows (suc k) (suc k) (f a) (f a)) → Follows (suc k) zero (need 1 (suc k) >>= f) over
 unfolding need

@@ -183,7 +183,7 @@ module _ (j : ℕ) where
       eachs [] vs l l' i i' a b c = record { runs = λ e s h. record { size = omega (arith, a, h.left); depth = omega (arith, b, h.slack); slack = omega (arith, c, h.slack) } }
       eachs (t ∷ ts) vs l l' i i' a b c =
           after l j i (belows t f l i)
-            (λ v p q. eachs ts (vs ++ v ∷ []) (l - size_of (plain v)) l' (min i (j - depth_of (plain v))) i' (omega (arith, a, p, size_push vs v)) (omega (arith, b, q, depth_push vs v)) (omega (arith, c)))
+          (λ v p q. eachs ts (vs ++ v ∷ []) (l - size_of (plain v)) l' (min i (j - depth_of (plain v))) i' (omega (arith, a, p, size_push vs v)) (omega (arith, b, q, depth_push vs v)) (omega (arith, c)))
 
       mades : (label : List ℕ) (at : Option (List ℕ)) (l i : ℕ) (vs : List WideValue) → Leads (FitAll l j i vs) (give (made label (vals vs) at)) (Fits (suc l) (suc j) i)
       mades label at l i vs = record { runs = λ e s h. record { size = omega (arith, h.size); depth = omega (arith, h.depth); slack = h.slack } }
@@ -198,26 +198,26 @@ module _ (j : ℕ) where
       assigns label at (x ∷ []) l i le = bads label l (suc l) i i (omega arith) (omega arith)
       assigns label at (x ∷ t ∷ []) l i le =
           after l j i (belows x f l i)
-            (λ name p q. nameds (l - size_of (plain name)) (suc l) (min i (j - depth_of (plain name))) i label (λ n. below t f >>= stored label at name n) (value_text name) (omega arith) (omega arith)
-              (λ n. after (l - size_of (plain name)) j (min i (j - depth_of (plain name))) (belows t f (l - size_of (plain name)) (min i (j - depth_of (plain name))))
-                (λ w r o. storeds label at name n w (l - size_of (plain name) - size_of (plain w)) l (min (min i (j - depth_of (plain name))) (j - depth_of (plain w))) i (omega (arith, p, r)) (omega (arith, q)) (omega (arith, o)) (omega arith))))
+          (λ name p q. nameds (l - size_of (plain name)) (suc l) (min i (j - depth_of (plain name))) i label (λ n. below t f >>= stored label at name n) (value_text name) (omega arith) (omega arith)
+          (λ n. after (l - size_of (plain name)) j (min i (j - depth_of (plain name))) (belows t f (l - size_of (plain name)) (min i (j - depth_of (plain name))))
+          (λ w r o. storeds label at name n w (l - size_of (plain name) - size_of (plain w)) l (min (min i (j - depth_of (plain name))) (j - depth_of (plain w))) i (omega (arith, p, r)) (omega (arith, q)) (omega (arith, o)) (omega arith))))
       assigns label at (x ∷ t ∷ y ∷ ts) l i le = bads label l (suc l) i i (omega arith) (omega arith)
 
       bodies : (label : List ℕ) (at : Option (List ℕ)) (vs : List WideValue) (ps : Sets) (b : TaggedTree) (l l' i i' : ℕ) → total_size (plains (vals vs)) + l ≤ l' → deepest (plains (vals vs)) + i ≤ j → i ≤ i' → Leads (At l i) (with_body below f label at vs ps b) (Fits (suc l') (suc j) i')
       unfolding with_body
       bodies label at vs ps b l l' i i' p q r =
           pays l i _ (λ a. keeps _ i ps (λ old. set_alls _ i ps (after (l - sizes ps) j i (belows b f (l - sizes ps) i)
-            (λ v c d. set_alls _ _ old (gives _ _ (suc l') (suc j) i' _ (omega (arith, a, c, p, size_push vs v)) (omega (arith, q, d, depth_push vs v)) (omega (arith, r)))))))
+          (λ v c d. set_alls _ _ old (gives _ _ (suc l') (suc j) i' _ (omega (arith, a, c, p, size_push vs v)) (omega (arith, q, d, depth_push vs v)) (omega (arith, r)))))))
 
       withs : (label : List ℕ) (at : Option (List ℕ)) (vs : List WideValue) (ps : Sets) (kids : List TaggedTree) (l l' i i' : ℕ) → total_size (plains (vals vs)) + l ≤ l' → deepest (plains (vals vs)) + i ≤ j → i ≤ i' → Leads (At l i) (with_parts (suc j) below f label at vs ps kids) (Fits (suc l') (suc j) i')
       withs label at vs ps [] l l' i i' p q r = bads label l (suc l') i i' (omega (arith, p)) r
       withs label at vs ps (b ∷ []) l l' i i' p q r = bodies label at vs ps b l l' i i' p q r
       withs label at vs ps (x ∷ t ∷ ts) l l' i i' p q r =
           after l j i (belows x f l i)
-            (λ name a b. nameds (l - size_of (plain name)) (suc l') (min i (j - depth_of (plain name))) i' label _ (value_text name) (omega (arith, p)) (omega (arith, r))
-              (λ n. after (l - size_of (plain name)) j (min i (j - depth_of (plain name))) (belows t f (l - size_of (plain name)) (min i (j - depth_of (plain name))))
-                (λ w c d. withs label at (vs ++ name ∷ w ∷ []) (ps ++ (n, Some (plain w)) ∷ []) ts (l - size_of (plain name) - size_of (plain w)) l' (min (min i (j - depth_of (plain name))) (j - depth_of (plain w))) i'
-                  (omega (arith, p, a, c, size_two vs name w)) (omega (arith, q, b, d, depth_two vs name w)) (omega (arith, r)))))
+          (λ name a b. nameds (l - size_of (plain name)) (suc l') (min i (j - depth_of (plain name))) i' label _ (value_text name) (omega (arith, p)) (omega (arith, r))
+          (λ n. after (l - size_of (plain name)) j (min i (j - depth_of (plain name))) (belows t f (l - size_of (plain name)) (min i (j - depth_of (plain name))))
+          (λ w c d. withs label at (vs ++ name ∷ w ∷ []) (ps ++ (n, Some (plain w)) ∷ []) ts (l - size_of (plain name) - size_of (plain w)) l' (min (min i (j - depth_of (plain name))) (j - depth_of (plain w))) i'
+          (omega (arith, p, a, c, size_two vs name w)) (omega (arith, q, b, d, depth_two vs name w)) (omega (arith, r)))))
 
       eval_ofs : (v : WideValue) (l l' i i' : ℕ) → l ≤ l' → i ≤ i' → Leads (At l i) (eval_of below f v) (Fits l' (suc j) i')
       unfolding eval_of
@@ -257,7 +257,7 @@ module _ (j : ℕ) where
       arg_founds taking label x numbers l i Missing le = wrongs l (suc l) i i (codes "missing") x (omega arith) (omega arith)
       arg_founds taking label x numbers l i (Here t) le =
           bind (eachs numbers [] l l i i (omega arith) (omega (arith, le)) (omega arith))
-            (behind_numbers (λ vs. numbered taking (suc j) below f label x t (numbers_of vs)) l i (λ vs. numbereds taking label x t (numbers_of vs) l (suc l) i i (omega arith) (omega arith)))
+          (behind_numbers (λ vs. numbered taking (suc j) below f label x t (numbers_of vs)) l i (λ vs. numbereds taking label x t (numbers_of vs) l (suc l) i i (omega arith) (omega arith)))
 
       arg_nameds : (taking : Taking) (label : List ℕ) (numbers : List TaggedTree) (l i : ℕ) (t : WideTree) → i ≤ j → Leads (At l i) (arg_named taking (suc j) below f label numbers t) (Fits (suc l) (suc j) i)
       unfolding arg_of

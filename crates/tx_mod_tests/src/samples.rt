@@ -6,7 +6,7 @@ use std::alloc::Global;
 use std::mem;
 use std::sync::ledger::Ledger;
 use tx_base::Steps;
-use tx_mod::{Mod, applicable, apply, carried, inverse, moved};
+use tx_mod::{Mod, ModList, applicable, apply, apply_and_inverse, carried, inverse, moved};
 use tx_tree::{Label, Path, Place, Text, Tree};
 
 // A node that isn't closed.
@@ -213,21 +213,24 @@ pub(crate) struct Redone {
     pub(crate) again: bool,
 }
 
-// The inverse gives the tree back, and the modification of that tree gives the changed tree again.
+// The inverse gives the tree back, its own inverse is the modification, and that gives the changed tree again.
 pub(crate) fn undone_and_redone<L: Ledger>(
     alloc: Global,
     edit: &Edit,
     steps: &mut Steps<L>,
 ) -> Option<Redone> {
-    let back = apply(alloc, &edit.after, &edit.inverse, steps).ok()?;
+    let (back, twice) = apply_and_inverse(alloc, &edit.after, &edit.inverse, steps).ok()?;
     let again = apply(alloc, &back, &edit.change, steps).ok()?;
     Some(Redone {
         back: back.same(&edit.before),
-        again: again.same(&edit.after),
+        again: again.same(&edit.after) && same_change(&twice, &edit.change),
     })
 }
 
-// A copy of the modification is the same.
+// A copy of the modification in a list is the same.
 pub(crate) fn is_copied(alloc: Global, m: &Mod) -> Option<bool> {
-    Some(same_change(&m.copy(alloc).ok()?, m))
+    let list = ModList::from(vec![in alloc; m.copy(alloc).ok()?].ok()?);
+    let copy = list.copy(alloc).ok()?;
+    let one = copy.as_slice().first()?;
+    Some(same_change(one, m))
 }

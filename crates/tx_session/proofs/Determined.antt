@@ -13,7 +13,7 @@ use Rattle.tx_cmd.proofs.Once.{one_command, one_cause, no_cause}
 use Rattle.tx_session.specs.declared.status.Status.{Status}
 use Rattle.tx_session.specs.declared.status.Status.TheVariants as statuses
 use Rattle.tx_session.specs.Causes.{astray_reply}
-use Rattle.tx_session.specs.States.{IsShown, IsAnswer, IsEditAnswer, IsStepAnswer, IsGoAnswer}
+use Rattle.tx_session.specs.States.{document_edit, IsShown, IsAnswer, IsEditAnswer, IsStepAnswer, IsGoAnswer}
 use Rattle.tx_session.specs.Worlds.{World, Stored, Mark, plain, lacking, unsaved}
 use Rattle.tx_session.specs.Replies.{fresh_after, Reading, nothing, too_long, unread, command, faulty, wanting_reply, IsRead, IsReply, IsReplyTo, IsRefusal, IsLineReply}
 use Rattle.tx_session.specs.Scripts.{Answered, before_quit, command_line}
@@ -73,7 +73,7 @@ one_answer : (width height : ℕ) (state : State) (it : Command) (s t : State) (
 one_answer width height state Show s t a b h k = (h.0 ∙ sym k.0, one_shown width height (document_of state.buffers) a b h.1 k.1)
 one_answer width height state Tree s t a b h k = (h.0 ∙ sym k.0, h.1 ∙ sym k.1)
 one_answer width height state Quit s t a b h k = (h.0 ∙ sym k.0, h.1 ∙ sym k.1)
-one_answer width height state (Change m) s t a b h k = one_edit state (edited m state) s t a b h k
+one_answer width height state (Change m) s t a b h k = one_edit state (edited (document_edit m) state) s t a b h k
 one_answer width height state Undo s t a b h k = one_step state (codes "no undo") (undone state) s t a b h k
 one_answer width height state Redo s t a b h k = one_step state (codes "no redo") (redone state) s t a b h k
 one_answer width height state (Go numbers) s t a b h k = one_go state numbers s t a b h k

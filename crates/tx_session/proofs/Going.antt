@@ -62,7 +62,7 @@ place_sound t p o f h k = by_subtree (subtree t p) h k
 pub goes_once : (state : State) (numbers : List ℕ) (s t : State) → Goes state numbers s → Goes state numbers t → s ≡ t
 goes_once state numbers s t h k =
     let same = last_once h.0 k.0 h.1 k.1 (sym h.2 ∙ k.2) in
-    h.4 ∙ (λ i. record { buffers = state.buffers; cursor = place (same.0 i) (same.1 i); past = state.past; future = state.future }) ∙ sym k.4
+    h.4 ∙ (λ i. record state { cursor = place (same.0 i) (same.1 i) }) ∙ sym k.4
 
 pub goes_or_not : (state : State) (numbers : List ℕ) (s : State) (f : PlaceFault) → Goes state numbers s → IsAstray state numbers f → ⊥
 goes_or_not state numbers s f h (inl k) = none_last h.0 h.1 (sym k.0 ∙ h.2)

@@ -27,7 +27,7 @@ use Rattle.tx_session.specs.Forms.{Saving, no_form, file_long, writes, saving}
 use Rattle.tx_session.specs.Lines.{line}
 use Rattle.tx_session.specs.Paging.{show_text}
 use Rattle.tx_session.specs.Replies.{wanting_reply, unsaved_reply, refusal, IsDone, IsReply}
-use Rattle.tx_session.specs.States.{IsShown, IsAnswer, IsEditAnswer, IsStepAnswer, IsGoAnswer, done_reply, save_reply}
+use Rattle.tx_session.specs.States.{document_edit, IsShown, IsAnswer, IsEditAnswer, IsStepAnswer, IsGoAnswer, done_reply, save_reply}
 use Rattle.tx_session.specs.Worlds.{World, Mark, plain, lacking, unsaved}
 use Rattle.tx_session.specs.Writing.{IsSaid}
 
@@ -97,7 +97,7 @@ plain_go state numbers next reply (inl h) = kept reply done_reply h.1 plain_ok
 plain_go state numbers next reply (inr h) = kept reply (astray_reply h.0) h.3 (plain_astray h.0)
 
 plain_answer : (width height : ℕ) (state : State) (it : Command) (next : State) (reply : List ℕ) → IsAnswer width height state it next reply → IsPlainReply reply
-plain_answer width height state (Change m) next reply h = plain_edit state (edited m state) next reply h
+plain_answer width height state (Change m) next reply h = plain_edit state (edited (document_edit m) state) next reply h
 plain_answer width height state Undo next reply h = plain_step state (codes "no undo") (undone state) next reply (begun (line (codes "no undo")) refl) h
 plain_answer width height state Redo next reply h = plain_step state (codes "no redo") (redone state) next reply (begun (line (codes "no redo")) refl) h
 plain_answer width height state (Go numbers) next reply h = plain_go state numbers next reply h

@@ -12,7 +12,7 @@ use Rattle.tx_session.specs.Lines.{line}
 use Rattle.tx_state.specs.States.{State}
 use Rattle.tx_state.specs.Edits.{edited, undone, redone}
 use Rattle.tx_session.specs.FaultTexts.{fault_text}
-use Rattle.tx_session.specs.States.{IsAnswer, saved_by, unknown_reply}
+use Rattle.tx_session.specs.States.{IsAnswer, document_edit, saved_by, unknown_reply}
 use Rattle.tx_session.specs.Worlds.{Seen, World, Mark, plain, lacking, unsaved, Stores, KeepsFiles, FailsToStore}
 
 -- the reply where memory ran out
@@ -32,7 +32,7 @@ MayLack seen _ = Unit {0}
 
 -- the command is refused, or changes no buffer
 abbrev pub keeps_buffers : State → Command → Bool
-keeps_buffers state (Change m) = is_err (edited m state)
+keeps_buffers state (Change m) = is_err (edited (document_edit m) state)
 keeps_buffers state Undo = is_none (undone state)
 keeps_buffers state Redo = is_none (redone state)
 keeps_buffers state _ = true

@@ -1,5 +1,5 @@
 -- The answer to a command: what it makes of the state, and the reply.
-use Rattle.std.specs.Prelude.{◌≡◌, ◌⊎◌, ℕ, List, [], codes, length, Option, Some, None, Result, Ok, Err}
+use Rattle.std.specs.Prelude.{◌≡◌, ◌⊎◌, ℕ, List, [], ◌∷◌, codes, length, Option, Some, None, Result, Ok, Err}
 use Rattle.tx_tree.specs.PathSpelling.{place_text}
 use Rattle.tx_tree.specs.WideTree.{WideTree}
 use Rattle.tx_tree.specs.declared.faults.PlaceFault.{PlaceFault}
@@ -8,6 +8,8 @@ use Rattle.tx_scm.specs.Canonical.{scheme_text}
 use Rattle.tx_doc.specs.Buffers.{document_of}
 use Rattle.tx_state.specs.States.{State}
 use Rattle.tx_state.specs.Edits.{edited, undone, redone, Goes, IsAstray}
+use Rattle.tx_state.specs.declared.edits.Edit.{Edit}
+use Rattle.tx_mod.specs.declared.mods.Mod.{Mod}
 use Rattle.tx_cmd.specs.declared.command.Command.{Command}
 use Rattle.tx_cmd.specs.declared.command.Command.TheVariants.{Change, Undo, Redo, Go, Cursor, Show, Tree, Save, Quit}
 use Rattle.tx_session.specs.Lines.{line}
@@ -28,6 +30,10 @@ unknown_reply = line (codes "no unknown")
 -- the reply where something was done that has no reply of its own
 abbrev pub done_reply : List ℕ
 done_reply = line (codes "ok")
+
+-- one modification of the document, which moves the cursor
+abbrev pub document_edit : Mod → Edit
+document_edit m = record { buffer = 0; mods = m ∷ []; cursor = None }
 
 -- an edit was done, or refused
 abbrev pub IsEditAnswer : State → Result State ModFault → State → List ℕ → Type 0
@@ -61,7 +67,7 @@ saved_by state _ = None
 
 -- the next state and the reply to a command, on pages of this width and height
 abbrev pub IsAnswer : ℕ → ℕ → State → Command → State → List ℕ → Type 0
-IsAnswer width height state (Change m) next reply = IsEditAnswer state (edited m state) next reply
+IsAnswer width height state (Change m) next reply = IsEditAnswer state (edited (document_edit m) state) next reply
 IsAnswer width height state Undo next reply = IsStepAnswer state (codes "no undo") (undone state) next reply
 IsAnswer width height state Redo next reply = IsStepAnswer state (codes "no redo") (redone state) next reply
 IsAnswer width height state (Go numbers) next reply = IsGoAnswer state numbers next reply

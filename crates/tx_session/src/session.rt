@@ -6,10 +6,11 @@ ghost use Rattle.tx_scm.specs.Canonical.{scheme_text};
 ghost use Rattle.tx_session.specs.Lines.{line};
 ghost use Rattle.tx_tree.specs.PathSpelling.{place_text};
 ghost use Rattle.tx_tree.specs.Places.{IsPlace};
-ghost use Rattle.tx_doc.specs.Buffers.{document_of, NamesDiffer};
+ghost use Rattle.tx_doc.specs.Buffers.{document_of, NamesDiffer, AreFormed};
 ghost use Rattle.tx_state.specs.States.{opening};
-ghost use Rattle.tx_mod.specs.Mods.{path_of};
-ghost use Rattle.tx_session.specs.States.{IsShown, saved_by};
+ghost use Rattle.tx_state.specs.Ready.{cost_both_ways, first_cost};
+ghost use Rattle.tx_state.specs.Edits.{edited};
+ghost use Rattle.tx_session.specs.States.{IsShown, document_edit, saved_by};
 ghost use Rattle.tx_session.specs.Replies.{IsReply, unsaved_reply};
 ghost use Rattle.tx_session.specs.Costs.{most_steps};
 ghost use Rattle.tx_session.specs.Worlds.{Mark, Stored, plain, world};
@@ -28,9 +29,9 @@ use std::sync::ledger::Ledger;
 use tx_base::{Memory, Steps};
 use tx_cmd::Command;
 use tx_doc::{Buffer, Name};
-use tx_mod::{ApplyFault, Mod};
+use tx_mod::{ApplyFault, Mod, ModList};
 use tx_outside::{Sink, Store, WriteFault};
-use tx_state::{EditorState, GoFault, UndoFault};
+use tx_state::{Edit, EditorState, GoFault, UndoFault};
 use tx_tree::Path;
 
 /// What a session does after a command.
@@ -76,6 +77,18 @@ impl Model for Session {
     ghost invariant = { IsSession };
 }
 
+// One modification of the document, which moves the cursor.
+fn document_edit(alloc: Global, m: &Mod) -> Result<Edit, Memory>
+    ensures { IfOk result (λ edit. edit ≡ document_edit m.now) }
+{
+    let mods = vec![in alloc; m.copy(alloc)?]?;
+    Ok(Edit {
+        buffer: 0,
+        mods: ModList::from(mods),
+        cursor: None,
+    })
+}
+
 impl Session {
     /// A session over these buffers, the document first, on pages of this width, 20 to 500 cells, and this height, 5 to 500
     /// lines. There are 1 to 16 buffers, no two of one name. The one error is want of memory.
@@ -95,10 +108,13 @@ impl Session {
         requires most_height { height ≤ 500 }
         ensures session { IfOk result (λ s. s ≡ record { state = opening buffers.items; width = width; height = height; fresh = false }) }
         ensures cursor { IfOk result (λ s. IsPlace (document_of s.state.buffers) s.state.cursor.path s.state.cursor.offset) }
+        ensures names { IfOk result (λ s. NamesDiffer s.state.buffers) }
+        ensures formed { IfOk result (λ s. AreFormed s.state.buffers) }
         ensures no_steps { _steps.new ≡ _steps.old }
     {
         let state = EditorState::open(alloc, buffers)?;
         let _cursor = state.cursor();
+        let _buffers = state.buffers();
         Ok(Session {
             state,
             width,
@@ -157,10 +173,15 @@ impl Session {
     // Changes the document.
     fn change<L: Ledger>(&mut self, alloc: Global, m: &Mod, steps: &mut Steps<L>) -> Reply
         ensures replied { (store : Stored) → IsReply (record { session = self.old; store = store }) (Command.Change m.now) (mark_of result) (record { session = self.new; store = store }) (text_of result) }
-        ensures counted { steps.new ≤ steps.old + (length (path_of m.now) + 4) }
+        ensures counted { steps.new ≤ steps.old + cost_both_ways (m.now ∷ []) }
     {
-        match self.state.change(alloc, m, steps) {
-            Ok(()) => {
+        let _buffers = self.state.buffers();
+        let Ok(edit) = document_edit(alloc, m) else {
+            return Reply::Wanting;
+        };
+        match self.state.prepare_edit(alloc, edit, steps) {
+            Ok(prepared) => {
+                let _former = self.state.finish_edit(prepared);
                 self.shown = Shown::Stale;
                 Reply::Done
             }
@@ -172,10 +193,11 @@ impl Session {
     // Takes the last edit back.
     fn undo<L: Ledger>(&mut self, alloc: Global, steps: &mut Steps<L>) -> Reply
         ensures replied { (store : Stored) → IsReply (record { session = self.old; store = store }) Command.Undo (mark_of result) (record { session = self.new; store = store }) (text_of result) }
-        ensures counted { steps.new ≤ steps.old + 403 }
+        ensures counted { steps.new ≤ steps.old + first_cost self.old.state.past }
     {
-        match self.state.undo(alloc, steps) {
-            Ok(()) => {
+        match self.state.prepare_undo(alloc, steps) {
+            Ok(prepared) => {
+                let _former = self.state.finish_undo(prepared);
                 self.shown = Shown::Stale;
                 Reply::Done
             }
@@ -187,10 +209,11 @@ impl Session {
     // Makes the edit again that was taken back last.
     fn redo<L: Ledger>(&mut self, alloc: Global, steps: &mut Steps<L>) -> Reply
         ensures replied { (store : Stored) → IsReply (record { session = self.old; store = store }) Command.Redo (mark_of result) (record { session = self.new; store = store }) (text_of result) }
-        ensures counted { steps.new ≤ steps.old + 403 }
+        ensures counted { steps.new ≤ steps.old + first_cost self.old.state.future }
     {
-        match self.state.redo(alloc, steps) {
-            Ok(()) => {
+        match self.state.prepare_redo(alloc, steps) {
+            Ok(prepared) => {
+                let _former = self.state.finish_redo(prepared);
                 self.shown = Shown::Stale;
                 Reply::Done
             }
@@ -247,7 +270,7 @@ impl Session {
         ensures quit_writes_nothing { command.now ≡ Command.Quit → out.new ≡ out.old }
         ensures failed_rose { OnErr result (Rose (O.faults out.old) (O.faults out.new)) }
         ensures store_untouched { saved_by self.old.state command.now ≡ None → store.new ≡ store.old }
-        ensures counted { steps.new ≤ steps.old + most_steps command.now }
+        ensures counted { steps.new ≤ steps.old + most_steps self.old.state command.now }
         ensures store_goes_on { GoesOn (S.files store.old) (S.files store.new) (S.faults store.old) (S.faults store.new) (S.misses store.old) (S.misses store.new) (S.longs store.old) (S.longs store.new) }
         ensures faults_never_fall { NeverFalls (O.faults out.old) (O.faults out.new) }
         ensures stays_known { StaysKnown (O.written out.old) (O.written out.new) }
@@ -290,16 +313,20 @@ impl Session {
         ensures failed_rose { OnErr result (Rose (O.faults out.old) (O.faults out.new)) }
         ensures no_store_counted { OnOk result ((before : List ℕ) → O.written out.old ≡ Some before → O.written out.new ≡ Some (before ++ unsaved_reply) → Rose (S.faults store.old) (S.faults store.new)) }
         ensures cursor { IsPlace (document_of self.new.state.buffers) self.new.state.cursor.path self.new.state.cursor.offset }
+        ensures few { length self.new.state.buffers ≤ 16 }
+        ensures names { NamesDiffer self.new.state.buffers }
+        ensures formed { AreFormed self.new.state.buffers }
 
         // What stays, and what never falls.
         ensures store_untouched { saved_by self.old.state command.now ≡ None → store.new ≡ store.old }
-        ensures counted { steps.new ≤ steps.old + most_steps command.now }
+        ensures counted { steps.new ≤ steps.old + most_steps self.old.state command.now }
         ensures store_goes_on { GoesOn (S.files store.old) (S.files store.new) (S.faults store.old) (S.faults store.new) (S.misses store.old) (S.misses store.new) (S.longs store.old) (S.longs store.new) }
         ensures faults_never_fall { NeverFalls (O.faults out.old) (O.faults out.new) }
         ensures stays_known { StaysKnown (O.written out.old) (O.written out.new) }
     {
         let next = self.answer(alloc, command, store, out, steps);
         let _cursor = self.state.cursor();
+        let _buffers = self.state.buffers();
         next
     }
 }

@@ -1,120 +1,154 @@
--- A state in hand after an edit, an undo and a redo.
-use Rattle.std.proofs.Common.{◌≡◌, ◌<◌, ◌≤◌, List, [], ◌∷◌, ◌++◌, length, take, reverse, Some, Ok, sym, ap, ◌∙◌, subst}
+-- A state in hand after a change is put in place.
+use Rattle.std.proofs.Common.{◌≡◌, ◌<◌, ◌≤◌, ℕ, List, [], ◌∷◌, ◌++◌, length, take, drop, reverse, Some, Ok, refl, sym, ap, ◌∙◌, subst, Option}
 use Rattle.tx_tree.specs.WideTree.{WideTree}
 use Rattle.tx_tree.specs.Places.{IsPlace}
 use Rattle.tx_tree.specs.declared.places.Place.{Place}
 use Rattle.tx_mod.specs.declared.mods.Mod.{Mod}
-use Rattle.tx_mod.specs.Changes.{changed}
-use Rattle.tx_mod.specs.Followed.{changed_by_all}
-use Rattle.tx_mod.specs.Moves.{moved_place}
 use Rattle.tx_history.specs.Lists.{newest}
-use Rattle.tx_state.specs.declared.edits.Entry.{Entry}
 use Rattle.tx_doc.specs.declared.buffer.Buffer.{Buffer}
+use Rattle.tx_doc.specs.Buffers.{tree_of, with_tree, document_of, NamesDiffer}
 use Rattle.tx_state.specs.declared.TheConstants.{MOST_UNDO}
+use Rattle.tx_state.specs.declared.edits.Entry.{Entry}
+use Rattle.tx_state.specs.declared.edits.Prepared.{Prepared}
 use Rattle.tx_state.specs.declared.state.EditorState.TheInside.{Inside}
-use Rattle.tx_doc.specs.Buffers.{tree_of, with_tree, document_of}
-use Rattle.tx_state.specs.Edits.{edited, undone, redone}
-use Rattle.tx_state.specs.Entries.{AllLead}
+use Rattle.tx_state.specs.States.{State, KeptEdit}
+use Rattle.tx_state.specs.Edits.{undone, redone}
+use Rattle.tx_state.specs.Ready.{IsReady, IsReadyUndo, IsReadyRedo, with_edit, with_undo, with_redo}
+use Rattle.tx_state.specs.Entries.{led_to, kept_edits, undoes, redoes, AllLead}
 use Rattle.tx_state.specs.Kept.{state_of, IsKept}
-use Rattle.tx_state.proofs.Trees.{tree_put, length_put}
-use Rattle.tx_state.proofs.Moments.{entry_of, newest_turned}
-use Rattle.tx_state.proofs.Turning.{seen, by_one, edit_seen, edit_leads, undo_seen, redo_seen, step_leads, step_place, lead_back, turned}
+use Rattle.tx_state.proofs.Trees.{tree_put, length_put, names_put}
+use Rattle.tx_state.proofs.Moments.{How, entry_of, newest_turned, edits_of_take, lead_of_take}
+use Rattle.tx_state.proofs.Turning.{IsLedBack, lead_back, undoes_back, redoes_back, turned_round}
 
--- the state after, which is known, is the one that is said
-pub record IsNext (s : Inside) (bs : List Buffer) (c : Place) (back on : List Entry) : Type 0 where
-  pub buffers : s.buffers.items ≡ bs
-  pub cursor : s.cursor ≡ c
-  pub past : reverse s.history.past ≡ back
-  pub future : reverse s.history.future ≡ on
-  pub depth : s.history.depth ≡ MOST_UNDO
+-- what is put in place, apart from the history
+pub record IsPut (s next : Inside) (p : Prepared) : Type 0 where
+  pub buffers : next.buffers.items ≡ with_tree s.buffers.items p.buffer p.tree
+  pub selected : next.selected ≡ s.selected
+  pub cursor : next.cursor ≡ p.cursor
+  pub depth : next.history.depth ≡ s.history.depth
 
-pub next_is : (s : Inside) (bs : List Buffer) (c : Place) (past future : List Entry) → IsNext s bs c past future → seen bs c past future ≡ state_of s
-next_is s bs c past future h =
-    ap (λ cs. seen cs c past future) (sym h.buffers) ∙ ap (λ d. seen s.buffers.items d past future) (sym h.cursor)
-    ∙ ap (λ es. seen s.buffers.items s.cursor es future) (sym h.past) ∙ ap (λ es. seen s.buffers.items s.cursor (reverse s.history.past) es) (sym h.future)
+led : (s : Inside) (p : Prepared) → IsKept s → IsReady (state_of s) p → IsLedBack s.buffers.items p.buffer p.tree p.back s.cursor
+led s p kept r = record { within = r.buffer; returns = r.back; place = kept.cursor }
 
-pub next_kept : (s : Inside) (bs : List Buffer) (c : Place) (past future : List Entry) → IsNext s bs c past future
-    → 1 ≤ length bs → IsPlace (document_of bs) c.path c.offset → AllLead bs past → AllLead bs future → IsKept s
-next_kept s bs c past future h some place back on =
+-- the fields behind a change, with the entries that are known
+record IsNext (s next : Inside) (p : Prepared) (past future : List Entry) : Type 0 where
+  done : reverse next.history.past ≡ past
+  left : reverse next.history.future ≡ future
+  back : AllLead (with_tree s.buffers.items p.buffer p.tree) past
+  on : AllLead (with_tree s.buffers.items p.buffer p.tree) future
+
+next_kept : (s next : Inside) (p : Prepared) (past future : List Entry) → IsKept s → IsReady (state_of s) p → IsPut s next p → IsNext s next p past future → IsKept next
+next_kept s next p past future kept r put h =
+    let bs : List Buffer = with_tree s.buffers.items p.buffer p.tree in
+    let same : bs ≡ next.buffers.items = sym put.buffers in
+    let long : length s.buffers.items ≡ length next.buffers.items = sym (length_put s.buffers.items p.buffer p.tree r.buffer) ∙ ap length same in
     record {
-      some = subst (λ cs. 1 ≤ length cs) (sym h.buffers) some;
-      cursor = subst (λ d. IsPlace (document_of s.buffers.items) d.path d.offset) (sym h.cursor) (subst (λ cs. IsPlace (document_of cs) c.path c.offset) (sym h.buffers) place);
-      past = subst (AllLead s.buffers.items) (sym h.past) (subst (λ cs. AllLead cs past) (sym h.buffers) back);
-      future = subst (AllLead s.buffers.items) (sym h.future) (subst (λ cs. AllLead cs future) (sym h.buffers) on);
-      depth = h.depth;
+      some = subst (λ n. 1 ≤ n) long kept.some;
+      few = subst (λ n. n ≤ 16) long kept.few;
+      names = subst NamesDiffer same (names_put s.buffers.items p.buffer p.tree r.buffer kept.names);
+      selected = subst (λ n. next.selected < n) long (subst (λ n. n < length s.buffers.items) (sym put.selected) kept.selected);
+      cursor = subst (λ d. IsPlace (document_of next.buffers.items) d.path d.offset) (sym put.cursor) (subst (λ cs. IsPlace (document_of cs) p.cursor.path p.cursor.offset) same r.cursor);
+      past = subst (AllLead next.buffers.items) (sym h.done) (subst (λ cs. AllLead cs past) same h.back);
+      future = subst (AllLead next.buffers.items) (sym h.left) (subst (λ cs. AllLead cs future) same h.on);
+      depth = put.depth ∙ kept.depth;
     }
 
--- what an edit makes of the fields
-pub record IsEdited (s next : Inside) (m n : Mod) (u : WideTree) (d : Place) (mods : List Mod) : Type 0 where
-  pub there : changed m (document_of s.buffers.items) ≡ Ok u
-  pub back : changed n u ≡ Ok (document_of s.buffers.items)
-  pub alone : mods ≡ n ∷ []
-  pub stands : d ≡ moved_place m (document_of s.buffers.items) s.cursor
-  pub place : IsPlace u d.path d.offset
-  pub buffers : next.buffers.items ≡ with_tree s.buffers.items 0 u
-  pub cursor : next.cursor ≡ d
-  pub past : next.history.past ≡ newest s.history.depth (s.history.past ++ entry_of 0 mods s.cursor ∷ [])
-  pub future : next.history.future ≡ []
-  pub depth : next.history.depth ≡ s.history.depth
+next_is : (s next : Inside) (p : Prepared) (past future : List Entry) → IsPut s next p → IsNext s next p past future
+    → record {
+      buffers = with_tree s.buffers.items p.buffer p.tree;
+      selected = s.selected;
+      cursor = p.cursor;
+      past = kept_edits undoes (with_tree s.buffers.items p.buffer p.tree) past;
+      future = kept_edits redoes (with_tree s.buffers.items p.buffer p.tree) future;
+    }
+    ≡ state_of next
+next_is s next p past future put h =
+    rw (put.buffers, put.selected, put.cursor, h.done, h.left) refl
 
-pub edit_kept : (s next : Inside) (m n : Mod) (u : WideTree) (d : Place) (mods : List Mod) → IsKept s → IsEdited s next m n u d mods
-    → IsKept next × (edited m (state_of s) ≡ Ok (state_of next))
-edit_kept s next m n u d mods kept h =
+pub edit_kept : (s next : Inside) (p : Prepared) → IsKept s → IsReady (state_of s) p → IsPut s next p
+    → next.history.past ≡ newest s.history.depth (s.history.past ++ entry_of p.buffer p.back s.cursor ∷ []) → next.history.future ≡ []
+    → IsKept next × (with_edit (state_of s) p ≡ state_of next)
+edit_kept s next p kept r put was empty =
     let bs : List Buffer = s.buffers.items in
-    let lt : 0 < length bs = kept.some in
-    let leads : changed_by_all mods u ≡ Some (tree_of bs 0) = ap (λ ms. changed_by_all ms u) h.alone ∙ by_one n u (tree_of bs 0) h.back in
-    let past : reverse next.history.past ≡ take MOST_UNDO (entry_of 0 mods s.cursor ∷ reverse s.history.past) =
-    ap reverse h.past ∙ newest_turned s.history.depth s.history.past (entry_of 0 mods s.cursor) ∙ ap (λ k. take k (entry_of 0 mods s.cursor ∷ reverse s.history.past)) kept.depth in
-    let is : IsNext next (with_tree bs 0 u) d (take MOST_UNDO (entry_of 0 mods s.cursor ∷ reverse s.history.past)) [] =
-    record { buffers = h.buffers; cursor = h.cursor; past = past; future = ap reverse h.future; depth = h.depth ∙ kept.depth } in (
-      next_kept next (with_tree bs 0 u) d (take MOST_UNDO (entry_of 0 mods s.cursor ∷ reverse s.history.past)) [] is
-          (subst (λ k. 1 ≤ k) (sym (length_put bs 0 u lt)) kept.some) (subst (λ t. IsPlace t d.path d.offset) (sym (tree_put bs 0 u lt)) h.place)
-          (edit_leads bs s.cursor u mods (reverse s.history.past) lt (ap length h.alone) leads kept.cursor kept.past) tt,
-      edit_seen m bs s.cursor d u mods (reverse s.history.past) (reverse s.history.future) lt h.there leads h.stands
-          ∙ ap (λ z. Ok z) (next_is next (with_tree bs 0 u) d (take MOST_UNDO (entry_of 0 mods s.cursor ∷ reverse s.history.past)) [] is),
+    let l = led s p kept r in
+    let e : Entry = entry_of p.buffer p.back s.cursor in
+    let es : List Entry = e ∷ reverse s.history.past in
+    let past : reverse next.history.past ≡ take MOST_UNDO es =
+    ap reverse was ∙ newest_turned s.history.depth s.history.past e ∙ ap (λ k. take k es) kept.depth in
+    let h : IsNext s next p (take MOST_UNDO es) [] =
+    record {
+      done = past;
+      left = ap reverse empty;
+      back = lead_of_take MOST_UNDO (with_tree bs p.buffer p.tree) es (lead_back bs p.buffer p.tree p.back s.cursor (reverse s.history.past) l kept.past);
+      on = tt;
+    } in
+    let seen : kept_edits undoes (with_tree bs p.buffer p.tree) (take MOST_UNDO es)
+    ≡ take MOST_UNDO (record { moment = record { buffers = bs; cursor = s.cursor }; buffer = p.buffer; mods = p.mods } ∷ kept_edits undoes bs (reverse s.history.past)) =
+    edits_of_take undoes MOST_UNDO (with_tree bs p.buffer p.tree) es ∙ ap (take MOST_UNDO) (undoes_back bs p.buffer p.tree p.back p.mods s.cursor (reverse s.history.past) l r.again) in (
+      next_kept s next p (take MOST_UNDO es) [] kept r put h,
+      ap (λ ks. record { buffers = with_tree bs p.buffer p.tree; selected = s.selected; cursor = p.cursor; past = ks; future = [] }) (sym seen)
+          ∙ next_is s next p (take MOST_UNDO es) [] put h,
     )
 
--- what a step to the moment of an entry makes of the fields, apart from the history
-pub record IsStepped (s next : Inside) (e : Entry) (u : WideTree) (mods : List Mod) : Type 0 where
-  pub there : changed_by_all e.mods (tree_of s.buffers.items e.buffer) ≡ Some u
-  pub back : changed_by_all mods u ≡ Some (tree_of s.buffers.items e.buffer)
-  pub one : length mods ≡ 1
-  pub buffers : next.buffers.items ≡ with_tree s.buffers.items e.buffer u
-  pub cursor : next.cursor ≡ e.cursor
-  pub depth : next.history.depth ≡ s.history.depth
+same_state : (s t : State) → ◌≡◌ {A = Option State} (Some s) (Some t) → s ≡ t
+same_state s t e = cc
 
-pub undo_kept : (s next : Inside) (e : Entry) (u : WideTree) (mods : List Mod) (rest : List Entry) → IsKept s → IsStepped s next e u mods
-    → s.history.past ≡ rest ++ e ∷ [] → next.history.past ≡ rest → next.history.future ≡ s.history.future ++ entry_of e.buffer mods s.cursor ∷ []
+pub undo_kept : (s next : Inside) (p : Prepared) (e : Entry) (rest : List Entry) → IsKept s → IsReadyUndo (state_of s) p → IsPut s next p
+    → s.history.past ≡ rest ++ e ∷ [] → next.history.past ≡ rest → next.history.future ≡ s.history.future ++ entry_of p.buffer p.back s.cursor ∷ []
     → IsKept next × (undone (state_of s) ≡ Some (state_of next))
-undo_kept s next e u mods rest kept h was past future =
+undo_kept s next p e rest kept r put was past future =
     let bs : List Buffer = s.buffers.items in
-    let first : reverse s.history.past ≡ e ∷ reverse rest = turned rest e s.history.past was in
+    let l = led s p kept r.ready in
+    let f : Entry = entry_of p.buffer p.back s.cursor in
+    let first : reverse s.history.past ≡ e ∷ reverse rest = turned_round rest e s.history.past was in
     let all : AllLead bs (e ∷ reverse rest) = subst (AllLead bs) first kept.past in
-    let lt : e.buffer < length bs = all.0.buffer in
-    let is : IsNext next (with_tree bs e.buffer u) e.cursor (reverse rest) (entry_of e.buffer mods s.cursor ∷ reverse s.history.future) =
-    record { buffers = h.buffers; cursor = h.cursor; past = ap reverse past; future = turned s.history.future (entry_of e.buffer mods s.cursor) next.history.future future; depth = h.depth ∙ kept.depth } in (
-      next_kept next (with_tree bs e.buffer u) e.cursor (reverse rest) (entry_of e.buffer mods s.cursor ∷ reverse s.history.future) is
-          (subst (λ k. 1 ≤ k) (sym (length_put bs e.buffer u lt)) kept.some) (step_place bs e u h.there all.0)
-          (step_leads bs e u (reverse rest) h.there all) (lead_back bs e.buffer u mods s.cursor (reverse s.history.future) lt h.one h.back kept.cursor kept.future),
-      ap (λ es. undone (seen bs s.cursor es (reverse s.history.future))) first
-          ∙ undo_seen bs s.cursor e u mods (reverse rest) (reverse s.history.future) lt h.there h.back
-          ∙ ap (λ z. Some z) (next_is next (with_tree bs e.buffer u) e.cursor (reverse rest) (entry_of e.buffer mods s.cursor ∷ reverse s.history.future) is),
+    let goes : undone (state_of s) ≡ undone (seen_from s (e ∷ reverse rest)) = ap (λ es. undone (seen_from s es)) first in
+    let there : led_to bs e ≡ with_tree bs p.buffer p.tree = ap (λ x. x.buffers) (same_state _ (with_undo (state_of s) p) (sym goes ∙ r.is)) in
+    let h : IsNext s next p (reverse rest) (f ∷ reverse s.history.future) =
+    record {
+      done = ap reverse past;
+      left = turned_round s.history.future f next.history.future future;
+      back = subst (λ cs. AllLead cs (reverse rest)) there all.1;
+      on = lead_back bs p.buffer p.tree p.back s.cursor (reverse s.history.future) l kept.future;
+    } in
+    let behind : drop 1 (kept_edits undoes bs (reverse s.history.past)) ≡ kept_edits undoes (with_tree bs p.buffer p.tree) (reverse rest) =
+    ap (λ es. drop 1 (kept_edits undoes bs es)) first ∙ ap (λ cs. kept_edits undoes cs (reverse rest)) there in (
+      next_kept s next p (reverse rest) (f ∷ reverse s.history.future) kept r.ready put h,
+      r.is
+          ∙ ap (λ ks. Some (record { buffers = with_tree bs p.buffer p.tree; selected = s.selected; cursor = p.cursor; past = ks; future = record { moment = record { buffers = bs; cursor = s.cursor }; buffer = p.buffer; mods = p.back } ∷ kept_edits redoes bs (reverse s.history.future) })) behind
+          ∙ ap (λ ks. Some (record { buffers = with_tree bs p.buffer p.tree; selected = s.selected; cursor = p.cursor; past = kept_edits undoes (with_tree bs p.buffer p.tree) (reverse rest); future = ks })) (sym (redoes_back bs p.buffer p.tree p.back s.cursor (reverse s.history.future) l))
+          ∙ ap (λ z. Some z) (next_is s next p (reverse rest) (f ∷ reverse s.history.future) put h),
     )
+  where
+    seen_from : Inside → List Entry → State
+    seen_from s es = record { buffers = s.buffers.items; selected = s.selected; cursor = s.cursor; past = kept_edits undoes s.buffers.items es; future = kept_edits redoes s.buffers.items (reverse s.history.future) }
 
-pub redo_kept : (s next : Inside) (e : Entry) (u : WideTree) (mods : List Mod) (rest : List Entry) → IsKept s → IsStepped s next e u mods
-    → s.history.future ≡ rest ++ e ∷ [] → next.history.future ≡ rest → next.history.past ≡ s.history.past ++ entry_of e.buffer mods s.cursor ∷ []
+pub redo_kept : (s next : Inside) (p : Prepared) (e : Entry) (rest : List Entry) → IsKept s → IsReadyRedo (state_of s) p → IsPut s next p
+    → s.history.future ≡ rest ++ e ∷ [] → next.history.future ≡ rest → next.history.past ≡ s.history.past ++ entry_of p.buffer p.back s.cursor ∷ []
     → IsKept next × (redone (state_of s) ≡ Some (state_of next))
-redo_kept s next e u mods rest kept h was future past =
+redo_kept s next p e rest kept r put was future past =
     let bs : List Buffer = s.buffers.items in
-    let first : reverse s.history.future ≡ e ∷ reverse rest = turned rest e s.history.future was in
+    let l = led s p kept r.ready in
+    let f : Entry = entry_of p.buffer p.back s.cursor in
+    let first : reverse s.history.future ≡ e ∷ reverse rest = turned_round rest e s.history.future was in
     let all : AllLead bs (e ∷ reverse rest) = subst (AllLead bs) first kept.future in
-    let lt : e.buffer < length bs = all.0.buffer in
-    let is : IsNext next (with_tree bs e.buffer u) e.cursor (entry_of e.buffer mods s.cursor ∷ reverse s.history.past) (reverse rest) =
-    record { buffers = h.buffers; cursor = h.cursor; past = turned s.history.past (entry_of e.buffer mods s.cursor) next.history.past past; future = ap reverse future; depth = h.depth ∙ kept.depth } in (
-      next_kept next (with_tree bs e.buffer u) e.cursor (entry_of e.buffer mods s.cursor ∷ reverse s.history.past) (reverse rest) is
-          (subst (λ k. 1 ≤ k) (sym (length_put bs e.buffer u lt)) kept.some) (step_place bs e u h.there all.0)
-          (lead_back bs e.buffer u mods s.cursor (reverse s.history.past) lt h.one h.back kept.cursor kept.past) (step_leads bs e u (reverse rest) h.there all),
-      ap (λ es. redone (seen bs s.cursor (reverse s.history.past) es)) first
-          ∙ redo_seen bs s.cursor e u mods (reverse s.history.past) (reverse rest) lt h.there h.back
-          ∙ ap (λ z. Some z) (next_is next (with_tree bs e.buffer u) e.cursor (entry_of e.buffer mods s.cursor ∷ reverse s.history.past) (reverse rest) is),
+    let goes : redone (state_of s) ≡ redone (seen_on s (e ∷ reverse rest)) = ap (λ es. redone (seen_on s es)) first in
+    let there : led_to bs e ≡ with_tree bs p.buffer p.tree = ap (λ x. x.buffers) (same_state _ (with_redo (state_of s) p) (sym goes ∙ r.is)) in
+    let h : IsNext s next p (f ∷ reverse s.history.past) (reverse rest) =
+    record {
+      done = turned_round s.history.past f next.history.past past;
+      left = ap reverse future;
+      back = lead_back bs p.buffer p.tree p.back s.cursor (reverse s.history.past) l kept.past;
+      on = subst (λ cs. AllLead cs (reverse rest)) there all.1;
+    } in
+    let behind : drop 1 (kept_edits redoes bs (reverse s.history.future)) ≡ kept_edits redoes (with_tree bs p.buffer p.tree) (reverse rest) =
+    ap (λ es. drop 1 (kept_edits redoes bs es)) first ∙ ap (λ cs. kept_edits redoes cs (reverse rest)) there in (
+      next_kept s next p (f ∷ reverse s.history.past) (reverse rest) kept r.ready put h,
+      r.is
+          ∙ ap (λ ks. Some (record { buffers = with_tree bs p.buffer p.tree; selected = s.selected; cursor = p.cursor; past = record { moment = record { buffers = bs; cursor = s.cursor }; buffer = p.buffer; mods = p.mods } ∷ kept_edits undoes bs (reverse s.history.past); future = ks })) behind
+          ∙ ap (λ ks. Some (record { buffers = with_tree bs p.buffer p.tree; selected = s.selected; cursor = p.cursor; past = ks; future = kept_edits redoes (with_tree bs p.buffer p.tree) (reverse rest) })) (sym (undoes_back bs p.buffer p.tree p.back p.mods s.cursor (reverse s.history.past) l r.ready.again))
+          ∙ ap (λ z. Some z) (next_is s next p (f ∷ reverse s.history.past) (reverse rest) put h),
     )
+  where
+    seen_on : Inside → List Entry → State
+    seen_on s es = record { buffers = s.buffers.items; selected = s.selected; cursor = s.cursor; past = kept_edits undoes s.buffers.items (reverse s.history.past); future = kept_edits redoes s.buffers.items es }

@@ -4,4 +4,5 @@ pub mod Turning
 pub mod Leaves
 pub mod Keeping
 pub mod Restoring
-pub mod Short
+pub mod MadeReady
+pub mod Costs

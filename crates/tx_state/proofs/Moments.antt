@@ -1,45 +1,59 @@
--- What entries lead to.
-use Rattle.std.proofs.Common.{◌≡◌, ℕ, zero, suc, ◌<◌, ◌≤◌, ◌-◌, List, [], ◌∷◌, ◌++◌, length, take, drop, reverse, Some, refl, sym, ap, ◌∙◌, arith, ⊎_elim}
+-- The edits that entries lead along.
+use Rattle.std.proofs.Common.{◌≡◌, ℕ, zero, suc, ◌<◌, ◌≤◌, ◌-◌, List, [], ◌∷◌, ◌++◌, length, take, drop, reverse, Ok, refl, sym, ap, ◌∙◌, arith, ⊎_elim}
 use Rattle.std.specs.Prelude.{unwrap_or}
 use Rattle.std.proofs.lemmas.List.{reverse-append, take-append-drop, take_at, take_all, length-drop, length-reverse}
 use Rattle.std.proofs.lemmas.Bool.{cases_lt}
 use Rattle.tx_tree.specs.WideTree.{WideTree}
 use Rattle.tx_tree.specs.declared.places.Place.{Place}
 use Rattle.tx_mod.specs.declared.mods.Mod.{Mod}
-use Rattle.tx_mod.specs.Followed.{changed_by_all}
+use Rattle.tx_mod.specs.Followed.{tree_of as made_of}
+use Rattle.tx_mod.specs.InTurn.{changed_in_turn}
 use Rattle.tx_history.specs.Lists.{newest}
 use Rattle.tx_state.specs.declared.edits.Entry.{Entry}
 use Rattle.tx_doc.specs.declared.buffer.Buffer.{Buffer}
 use Rattle.tx_doc.specs.Buffers.{tree_of, with_tree}
-use Rattle.tx_state.specs.Entries.{led_to, moments, AllLead}
+use Rattle.tx_state.specs.Entries.{led_to, kept_edits, undoes, redoes, AllLead}
+use Rattle.tx_state.specs.States.{KeptEdit}
 use Rattle.tx_state.proofs.Trees.{tree_put, put_back}
 
 -- an entry leads to what its modifications make
-pub led_there : (bs : List Buffer) (e : Entry) (u : WideTree) → changed_by_all e.mods (tree_of bs e.buffer) ≡ Some u → led_to bs e ≡ with_tree bs e.buffer u
-led_there bs e u h = ap (λ o. with_tree bs e.buffer (unwrap_or o (tree_of bs e.buffer))) h
+pub led_there : (bs : List Buffer) (e : Entry) (u : WideTree) → changed_in_turn e.mods (tree_of bs e.buffer) ≡ Ok u → led_to bs e ≡ with_tree bs e.buffer u
+led_there bs e u h = ap (λ o. with_tree bs e.buffer (unwrap_or (made_of o) (tree_of bs e.buffer))) h
 
 abbrev pub entry_of : ℕ → List Mod → Place → Entry
 entry_of k mods c = record { buffer = k; mods = mods; cursor = c }
 
 -- what leads back from there leads to the buffers as they were
-pub led_back : (bs : List Buffer) (k : ℕ) (u : WideTree) (mods : List Mod) (c : Place) → k < length bs → changed_by_all mods u ≡ Some (tree_of bs k)
+pub led_back : (bs : List Buffer) (k : ℕ) (u : WideTree) (mods : List Mod) (c : Place) → k < length bs → changed_in_turn mods u ≡ Ok (tree_of bs k)
     → led_to (with_tree bs k u) (entry_of k mods c) ≡ bs
 led_back bs k u mods c lt h =
-    led_there (with_tree bs k u) (entry_of k mods c) (tree_of bs k) (ap (changed_by_all mods) (tree_put bs k u lt) ∙ h) ∙ put_back bs k u lt
+    led_there (with_tree bs k u) (entry_of k mods c) (tree_of bs k) (ap (changed_in_turn mods) (tree_put bs k u lt) ∙ h) ∙ put_back bs k u lt
 
--- each entry leads to one moment
-number_of_moments : (bs : List Buffer) (es : List Entry) → length (moments bs es) ≡ length es
-number_of_moments bs [] = refl
-number_of_moments bs (e ∷ es) = ap suc (number_of_moments (led_to bs e) es)
+abbrev pub How : Type 0
+How = List Buffer → Entry → List Mod
 
-pub number_of_turned : (bs : List Buffer) (es : List Entry) → length (moments bs (reverse es)) ≡ length es
-number_of_turned bs es = number_of_moments bs (reverse es) ∙ length-reverse es
+abbrev pub kept_edit : How → List Buffer → Entry → KeptEdit
+kept_edit how bs e = record { moment = record { buffers = led_to bs e; cursor = e.cursor }; buffer = e.buffer; mods = how bs e }
 
--- the first moments are those of the first entries
-pub moments_of_take : (n : ℕ) (bs : List Buffer) (es : List Entry) → moments bs (take n es) ≡ take n (moments bs es)
-moments_of_take zero bs es = refl
-moments_of_take (suc n) bs [] = refl
-moments_of_take (suc n) bs (e ∷ es) = ap (λ ms. record { buffers = led_to bs e; cursor = e.cursor } ∷ ms) (moments_of_take n (led_to bs e) es)
+-- each entry leads along one edit
+number_of_edits : (how : How) (bs : List Buffer) (es : List Entry) → length (kept_edits how bs es) ≡ length es
+number_of_edits how bs [] = refl
+number_of_edits how bs (e ∷ es) = ap suc (number_of_edits how (led_to bs e) es)
+
+number_of_turned : (how : How) (bs : List Buffer) (es : List Entry) → length (kept_edits how bs (reverse es)) ≡ length es
+number_of_turned how bs es = number_of_edits how bs (reverse es) ∙ length-reverse es
+
+pub number_of_past : (bs : List Buffer) (es : List Entry) → length (kept_edits undoes bs (reverse es)) ≡ length es
+number_of_past bs es = number_of_turned undoes bs es
+
+pub number_of_future : (bs : List Buffer) (es : List Entry) → length (kept_edits redoes bs (reverse es)) ≡ length es
+number_of_future bs es = number_of_turned redoes bs es
+
+-- the first edits are those of the first entries
+pub edits_of_take : (how : How) (n : ℕ) (bs : List Buffer) (es : List Entry) → kept_edits how bs (take n es) ≡ take n (kept_edits how bs es)
+edits_of_take how zero bs es = refl
+edits_of_take how (suc n) bs [] = refl
+edits_of_take how (suc n) bs (e ∷ es) = ap (λ ks. kept_edit how bs e ∷ ks) (edits_of_take how n (led_to bs e) es)
 
 pub lead_of_take : (n : ℕ) (bs : List Buffer) (es : List Entry) → AllLead bs es → AllLead bs (take n es)
 lead_of_take zero bs es h = tt

@@ -4,13 +4,14 @@ use Rattle.std.specs.Prelude.{Result, option_and_then}
 use Rattle.std.proofs.lemmas.List.{length-take, take_all, take-take}
 use Rattle.std.proofs.lemmas.Option.{option_and_then_some}
 use Rattle.tx_tree.specs.WideTree.{WideTree}
-use Rattle.tx_mod.specs.declared.mods.Mod.{Mod}
+use Rattle.tx_state.specs.declared.edits.Edit.{Edit}
 use Rattle.tx_mod.specs.declared.faults.ModFault.{ModFault}
-use Rattle.tx_mod.specs.Changes.{Outcome, changed}
+use Rattle.tx_mod.specs.Changes.{Outcome}
+use Rattle.tx_mod.specs.InTurn.{changed_in_turn}
 use Rattle.tx_state.specs.declared.TheConstants.{MOST_UNDO}
-use Rattle.tx_doc.specs.Buffers.{document_of}
-use Rattle.tx_state.specs.States.{State, Moment, present, at_moment}
-use Rattle.tx_state.specs.Edits.{edited, edited_to, with_outcome, back_to, on_to, undone, redone}
+use Rattle.tx_doc.specs.Buffers.{tree_of}
+use Rattle.tx_state.specs.States.{State, KeptEdit, present}
+use Rattle.tx_state.specs.Edits.{edited, edited_to, cursor_after, with_outcome, turned, at_moment, back_to, on_to, undone, redone}
 use Rattle.tx_state.specs.Undoing.{IsEditedBy, times, Restores, RunsOut}
 
 same_state : (s t : State) → ◌≡◌ {A = Option State} (Some s) (Some t) → s ≡ t
@@ -45,20 +46,20 @@ all_back go back one (suc n) s t e =
 undo_led_back : (s t : State) → undone s ≡ Some t → redone t ≡ Some s
 undo_led_back s t e = by_past s.past refl e
   where
-    by_past : (ps : List Moment) → s.past ≡ ps → back_to s ps ≡ Some t → redone t ≡ Some s
+    by_past : (ps : List KeptEdit) → s.past ≡ ps → back_to s ps ≡ Some t → redone t ≡ Some s
     by_past [] h f = absurd (cc)
-    by_past (former ∷ ps) h f =
-        ap redone (sym (same_state (at_moment former ps (present s ∷ s.future)) t f))
-        ∙ ap (λ qs. Some (at_moment (present s) qs s.future)) (sym h)
+    by_past (kept ∷ ps) h f =
+        ap redone (sym (same_state (at_moment s kept ps (turned s kept ∷ s.future)) t f))
+        ∙ ap (λ qs. Some (record s { past = qs })) (sym h)
 
 redo_led_back : (s t : State) → redone s ≡ Some t → undone t ≡ Some s
 redo_led_back s t e = by_future s.future refl e
   where
-    by_future : (ps : List Moment) → s.future ≡ ps → on_to s ps ≡ Some t → undone t ≡ Some s
+    by_future : (ps : List KeptEdit) → s.future ≡ ps → on_to s ps ≡ Some t → undone t ≡ Some s
     by_future [] h f = absurd (cc)
-    by_future (later ∷ ps) h f =
-        ap undone (sym (same_state (at_moment later (present s ∷ s.past) ps) t f))
-        ∙ ap (λ qs. Some (at_moment (present s) s.past qs)) (sym h)
+    by_future (kept ∷ ps) h f =
+        ap undone (sym (same_state (at_moment s kept (turned s kept ∷ s.past) ps) t f))
+        ∙ ap (λ qs. Some (record s { future = qs })) (sym h)
 
 pub redoes : (n : ℕ) (u v : State) → times undone n u ≡ Some v → times redone n v ≡ Some u
 redoes n u v e = all_back undone redone undo_led_back n u v e
@@ -68,65 +69,79 @@ undoes n u v e = all_back redone undone redo_led_back n u v e
 
 -- ---- an edit
 
-edit_made : (m : Mod) (s u : State) (o : Outcome) → with_outcome m s o ≡ Ok u → (w : WideTree) × (u ≡ edited_to m s w)
-edit_made m s u (Ok w) e = (w, same_result (edited_to m s w) u e)
+-- the state after an edit that makes the tree w
+abbrev made : Edit → State → WideTree → State
+made e s w = edited_to e.buffer e.mods w (cursor_after e s) s
+
+edit_made : (e : Edit) (s u : State) (o : Outcome) → with_outcome e s o ≡ Ok u → (w : WideTree) × (u ≡ made e s w)
+edit_made e s u (Ok w) h = (w, same_result (made e s w) u h)
   where
     same_result : (a b : State) → ◌≡◌ {A = Result State ModFault} (Ok a) (Ok b) → b ≡ a
     same_result a b f = cc
-edit_made m s u (Err cause) e = absurd (cc)
+edit_made e s u (Err cause) h = absurd (cc)
 
-edit_past : (m : Mod) (s u : State) → edited m s ≡ Ok u → u.past ≡ take MOST_UNDO (present s ∷ s.past)
-edit_past m s u e = let made = edit_made m s u (changed m (document_of s.buffers)) e in ap (λ x. x.past) made.1
+found : (e : Edit) (s u : State) → edited e s ≡ Ok u → (w : WideTree) × (u ≡ made e s w)
+found e s u h = edit_made e s u (changed_in_turn e.mods (tree_of s.buffers e.buffer)) h
 
-pub no_redo : (m : Mod) (s u : State) → edited m s ≡ Ok u → redone u ≡ None
-no_redo m s u e = let made = edit_made m s u (changed m (document_of s.buffers)) e in ap redone made.1
+abbrev kept_of : Edit → State → KeptEdit
+kept_of e s = record { moment = present s; buffer = e.buffer; mods = e.mods }
+
+edit_past : (e : Edit) (s u : State) → edited e s ≡ Ok u → u.past ≡ take MOST_UNDO (kept_of e s ∷ s.past)
+edit_past e s u h = ap (λ x. x.past) (found e s u h).1
+
+edit_selected : (e : Edit) (s u : State) → edited e s ≡ Ok u → u.selected ≡ s.selected
+edit_selected e s u h = ap (λ x. x.selected) (found e s u h).1
+
+pub no_redo : (e : Edit) (s u : State) → edited e s ≡ Ok u → redone u ≡ None
+no_redo e s u h = ap redone (found e s u h).1
 
 -- ---- undos
 
-undo_to : (u : State) (former : Moment) (ps : List Moment) → u.past ≡ former ∷ ps → undone u ≡ Some (at_moment former ps (present u ∷ u.future))
-undo_to u former ps h = ap (back_to u) h
+undo_to : (u : State) (kept : KeptEdit) (ps : List KeptEdit) → u.past ≡ kept ∷ ps → undone u ≡ Some (at_moment u kept ps (turned u kept ∷ u.future))
+undo_to u kept ps h = ap (back_to u) h
 
--- the moments before the last k edits
-kept_before : (d k : ℕ) (p : Moment) (ps : List Moment) → suc k ≤ d → take (d - k) (take d (p ∷ ps)) ≡ p ∷ take (d - suc k) ps
+-- the edits before the last k
+kept_before : (d k : ℕ) (p : KeptEdit) (ps : List KeptEdit) → suc k ≤ d → take (d - k) (take d (p ∷ ps)) ≡ p ∷ take (d - suc k) ps
 kept_before d k p ps le =
     let less : d - k ≤ d = omega arith in
     let one : d - k ≡ suc (d - suc k) = omega arith in
     take-take (d - k) d (p ∷ ps) less ∙ ap (λ n. take n (p ∷ ps)) one
 
-few_kept : (m : Mod) (s u : State) → edited m s ≡ Ok u → length u.past ≡ min MOST_UNDO (suc (length s.past))
-few_kept m s u e = ap length (edit_past m s u e) ∙ length-take MOST_UNDO (present s ∷ s.past)
+few_kept : (e : Edit) (s u : State) → edited e s ≡ Ok u → length u.past ≡ min MOST_UNDO (suc (length s.past))
+few_kept e s u h = ap length (edit_past e s u h) ∙ length-take MOST_UNDO (kept_of e s ∷ s.past)
 
-pub restores : (ms : List Mod) (s u : State) → Restores ms s u
-restores [] s u le e =
-    (u, refl, record { buffers = ap (λ x. x.buffers) e; cursor = ap (λ x. x.cursor) e; past = λ few. ap (λ x. x.past) e ∙ sym (take_all MOST_UNDO s.past few) })
-restores (m ∷ ms) s u le e =
-    let next : State = e.0 in
-    let less : length ms ≤ MOST_UNDO = omega arith in
-    let few : length next.past ≤ MOST_UNDO = omega (arith, few_kept m s next e.1) in
-    let again = restores ms next u less e.2 in
+pub restores : (es : List Edit) (s u : State) → Restores es s u
+restores [] s u le h =
+    (u, refl, record { buffers = ap (λ x. x.buffers) h; selected = ap (λ x. x.selected) h; cursor = ap (λ x. x.cursor) h; past = λ few. ap (λ x. x.past) h ∙ sym (take_all MOST_UNDO s.past few) })
+restores (e ∷ es) s u le h =
+    let next : State = h.0 in
+    let less : length es ≤ MOST_UNDO = omega arith in
+    let few : length next.past ≤ MOST_UNDO = omega (arith, few_kept e s next h.1) in
+    let again = restores es next u less h.2 in
     let v : State = again.0 in
-    let behind : v.past ≡ present s ∷ take (MOST_UNDO - suc (length ms)) s.past =
-    again.2.past few ∙ ap (take (MOST_UNDO - length ms)) (edit_past m s next e.1) ∙ kept_before MOST_UNDO (length ms) (present s) s.past le in (
-      at_moment (present s) (take (MOST_UNDO - suc (length ms)) s.past) (present v ∷ v.future),
-      last_step undone (length ms) u ∙ ap (option_and_then undone) again.1 ∙ undo_to v (present s) (take (MOST_UNDO - suc (length ms)) s.past) behind,
-      record { buffers = refl; cursor = refl; past = λ _. refl },
+    let rest : List KeptEdit = take (MOST_UNDO - suc (length es)) s.past in
+    let behind : v.past ≡ kept_of e s ∷ rest =
+    again.2.past few ∙ ap (take (MOST_UNDO - length es)) (edit_past e s next h.1) ∙ kept_before MOST_UNDO (length es) (kept_of e s) s.past le in (
+      at_moment v (kept_of e s) rest (turned v (kept_of e s) ∷ v.future),
+      last_step undone (length es) u ∙ ap (option_and_then undone) again.1 ∙ undo_to v (kept_of e s) rest behind,
+      record { buffers = refl; selected = again.2.selected ∙ edit_selected e s next h.1; cursor = refl; past = λ _. refl },
     )
 
 -- all that can be taken back is taken back
-drained : (ps : List Moment) (u : State) → u.past ≡ ps → (w : State) × (times undone (length ps) u ≡ Some w) × (undone w ≡ None)
+drained : (ps : List KeptEdit) (u : State) → u.past ≡ ps → (w : State) × (times undone (length ps) u ≡ Some w) × (undone w ≡ None)
 drained [] u h = (u, refl, ap (back_to u) h)
 drained (p ∷ ps) u h =
-    let further = drained ps (at_moment p ps (present u ∷ u.future)) refl in
+    let further = drained ps (at_moment u p ps (turned u p ∷ u.future)) refl in
     (further.0, ap (option_and_then (times undone (length ps))) (undo_to u p ps h) ∙ further.1, further.2)
 
-past_length : (ms : List Mod) (s u : State) → length s.past ≤ MOST_UNDO → IsEditedBy ms s u → length u.past ≡ min (length s.past + length ms) MOST_UNDO
-past_length [] s u few e = omega (arith, ap (λ x. length x.past) e)
-past_length (m ∷ ms) s u few e =
-    let kept = few_kept m s e.0 e.1 in
-    let within : length e.0.past ≤ MOST_UNDO = omega (arith, kept) in
-    omega (arith, past_length ms e.0 u within e.2, kept)
+past_length : (es : List Edit) (s u : State) → length s.past ≤ MOST_UNDO → IsEditedBy es s u → length u.past ≡ min (length s.past + length es) MOST_UNDO
+past_length [] s u few h = omega (arith, ap (λ x. length x.past) h)
+past_length (e ∷ es) s u few h =
+    let kept = few_kept e s h.0 h.1 in
+    let within : length h.0.past ≤ MOST_UNDO = omega (arith, kept) in
+    omega (arith, past_length es h.0 u within h.2, kept)
 
-pub runs_out : (ms : List Mod) (s u : State) → RunsOut ms s u
-runs_out ms s u few e =
+pub runs_out : (es : List Edit) (s u : State) → RunsOut es s u
+runs_out es s u few h =
     let all = drained u.past u refl in
-    (all.0, subst (λ n. times undone n u ≡ Some all.0) (past_length ms s u few e) all.1, all.2)
+    (all.0, subst (λ n. times undone n u ≡ Some all.0) (past_length es s u few h) all.1, all.2)

@@ -1,11 +1,12 @@
 -- Buffers with one tree in place of another.
-use Rattle.std.proofs.Common.{◌≡◌, ℕ, zero, suc, ◌<◌, List, [], ◌∷◌, length, set, Some, refl, ap, ◌∙◌, arith}
-use Rattle.std.specs.Prelude.{slice_get, slice_set}
+use Rattle.std.proofs.Common.{◌≡◌, ℕ, zero, suc, ◌<◌, List, [], ◌∷◌, length, set, Some, refl, sym, ap, subst, ◌∙◌, arith}
+use Rattle.std.specs.Prelude.{slice_get, slice_set, ◌≢◌}
+use Rattle.std.specs.List.{AllByRecursion}
 use Rattle.std.specs.Option.{option_map_or}
 use Rattle.tx_tree.specs.WideTree.{WideTree, leaf}
 use Rattle.tx_mod.proofs.Lists.{get_of_set, set_to_same}
 use Rattle.tx_doc.specs.declared.buffer.Buffer.{Buffer}
-use Rattle.tx_doc.specs.Buffers.{tree_of, with_tree}
+use Rattle.tx_doc.specs.Buffers.{tree_of, with_tree, document_of, NamesDiffer}
 
 pub buffer_at : (bs : List Buffer) (k : ℕ) → k < length bs → (b : Buffer) × (slice_get bs k ≡ Some b)
 buffer_at [] k lt = absurd (omega arith)
@@ -52,3 +53,36 @@ put_back bs k u lt =
     ∙ put_at (set bs k (record { name = b.name; tree = u })) k (record { name = b.name; tree = u }) b.tree there
     ∙ set_again bs k (record { name = b.name; tree = u }) b
     ∙ set_to_same bs k b found.1
+
+-- the tree of another buffer stays
+get_other : (bs : List Buffer) (k : ℕ) (b : Buffer) → slice_get (set bs (suc k) b) 0 ≡ slice_get bs 0
+get_other [] k b = refl
+get_other (a ∷ bs) k b = refl
+
+pub document_kept : (bs : List Buffer) (k : ℕ) (u : WideTree) → 0 < k → k < length bs → document_of (with_tree bs k u) ≡ document_of bs
+document_kept bs zero u some lt = absurd (omega arith)
+document_kept bs (suc k) u some lt =
+    let found = buffer_at bs (suc k) lt in
+    ap document_of (put_at bs (suc k) found.0 u found.1)
+    ∙ ap (λ o. option_map_or (λ b. b.tree) o (leaf [])) (get_other bs k (record { name = found.0.name; tree = u }))
+
+-- ---- names
+
+abbrev with_same_name : Buffer → WideTree → Buffer
+with_same_name b u = record { name = b.name; tree = u }
+
+differ_put : (n : List ℕ) (bs : List Buffer) (k : ℕ) (b : Buffer) (u : WideTree) → slice_get bs k ≡ Some b → AllByRecursion (λ o. o.name ≢ n) bs
+    → AllByRecursion (λ o. o.name ≢ n) (set bs k (with_same_name b u))
+differ_put n [] k b u e h = absurd (cc)
+differ_put n (a ∷ bs) zero b u e h = let same : a ≡ b = cc in (subst (λ x. x.name ≢ n) same h.0, h.1)
+differ_put n (a ∷ bs) (suc k) b u e h = (h.0, differ_put n bs k b u e h.1)
+
+names_set : (bs : List Buffer) (k : ℕ) (b : Buffer) (u : WideTree) → slice_get bs k ≡ Some b → NamesDiffer bs → NamesDiffer (set bs k (with_same_name b u))
+names_set [] k b u e h = absurd (cc)
+names_set (a ∷ bs) zero b u e h = let same : a ≡ b = cc in (subst (λ x. AllByRecursion (λ o. o.name ≢ x.name) bs) same h.0, h.1)
+names_set (a ∷ bs) (suc k) b u e h = (differ_put a.name bs k b u e h.0, names_set bs k b u e h.1)
+
+pub names_put : (bs : List Buffer) (k : ℕ) (u : WideTree) → k < length bs → NamesDiffer bs → NamesDiffer (with_tree bs k u)
+names_put bs k u lt h =
+    let found = buffer_at bs k lt in
+    subst NamesDiffer (sym (put_at bs k found.0 u found.1)) (names_set bs k found.0 u found.1 h)

@@ -1,44 +1,73 @@
--- What edits, undo, redo and a move of the cursor make of a state.
-use Rattle.std.specs.Prelude.{◌≡◌, ◌⊎◌, ℕ, List, [], ◌∷◌, ◌++◌, take, Option, Some, None, Result, Ok, Err}
+-- What edits, undo, redo, a move of the cursor and a choice of a buffer make of a state.
+use Rattle.std.specs.Prelude.{◌≡◌, ◌⊎◌, ◌==◌, ℕ, if◌then◌else◌, List, [], ◌∷◌, ◌++◌, take, Option, Some, None, Result, Ok, Err, IfSome}
+use Rattle.std.specs.Option.{option_map_or}
 use Rattle.tx_tree.specs.WideTree.{WideTree}
 use Rattle.tx_tree.specs.Places.{IsPlace, IsPlaceFault}
 use Rattle.tx_tree.specs.declared.faults.PlaceFault.{PlaceFault}
 use Rattle.tx_tree.specs.declared.faults.PlaceFault.TheVariants.{NoPath}
+use Rattle.tx_tree.specs.declared.places.Place.{Place}
 use Rattle.tx_mod.specs.declared.mods.Mod.{Mod}
 use Rattle.tx_mod.specs.declared.faults.ModFault.{ModFault}
-use Rattle.tx_mod.specs.Changes.{Outcome, changed}
-use Rattle.tx_mod.specs.Moves.{place, moved_place}
+use Rattle.tx_mod.specs.Changes.{Outcome}
+use Rattle.tx_mod.specs.InTurn.{changed_in_turn, moved_in_turn}
+use Rattle.tx_mod.specs.Moves.{place}
+use Rattle.tx_doc.specs.Buffers.{tree_of, with_tree, document_of, number_of}
 use Rattle.tx_state.specs.declared.TheConstants.{MOST_UNDO}
-use Rattle.tx_doc.specs.Buffers.{document_of, with_tree}
-use Rattle.tx_state.specs.States.{State, Moment, present, at_moment}
+use Rattle.tx_state.specs.declared.edits.Edit.{Edit}
+use Rattle.tx_state.specs.States.{State, KeptEdit, present}
 
--- The state where the modification makes the tree u of the document. The former moment can be taken back, of as many as are
--- kept, and what was taken back before can't be made again.
-abbrev pub edited_to : Mod → State → WideTree → State
-edited_to m state u =
-    at_moment (record { buffers = with_tree state.buffers 0 u; cursor = moved_place m (document_of state.buffers) state.cursor })
-    (take MOST_UNDO (present state ∷ state.past)) []
+-- Where the cursor stands after an edit: where the edit says, or where its modifications of the document move it. An edit of
+-- another buffer leaves it.
+abbrev pub cursor_after : Edit → State → Place
+cursor_after edit state =
+    option_map_or (λ at. at) edit.cursor (if edit.buffer == 0 then moved_in_turn edit.mods (document_of state.buffers) state.cursor else state.cursor)
 
-abbrev pub with_outcome : Mod → State → Outcome → Result State ModFault
-with_outcome m state (Ok u) = Ok (edited_to m state u)
-with_outcome m state (Err cause) = Err cause
+-- a cursor that the edit gives is a place of the document afterwards
+abbrev pub GivesPlace : Edit → State → Type 0
+GivesPlace edit state =
+    (u : WideTree) → changed_in_turn edit.mods (tree_of state.buffers edit.buffer) ≡ Ok u
+    → IfSome edit.cursor (λ at. IsPlace (document_of (with_tree state.buffers edit.buffer u)) at.path at.offset)
 
--- the state after the modification of the document, or the first cause why there is none
-abbrev pub edited : Mod → State → Result State ModFault
-edited m state = with_outcome m state (changed m (document_of state.buffers))
+-- The state with the tree u in this buffer and this cursor, where modifications led there. The former moment can be taken back, of
+-- as many as are kept, and what was taken back before can't be made again.
+abbrev pub edited_to : ℕ → List Mod → WideTree → Place → State → State
+edited_to buffer mods u cursor state =
+    record {
+      buffers = with_tree state.buffers buffer u;
+      selected = state.selected;
+      cursor = cursor;
+      past = take MOST_UNDO (record { moment = present state; buffer = buffer; mods = mods } ∷ state.past);
+      future = [];
+    }
 
--- the last edit is taken back, if there is one: the moment before it is the present one again
-abbrev pub back_to : State → List Moment → Option State
+abbrev pub with_outcome : Edit → State → Outcome → Result State ModFault
+with_outcome edit state (Ok u) = Ok (edited_to edit.buffer edit.mods u (cursor_after edit state) state)
+with_outcome edit state (Err cause) = Err cause
+
+-- the state after the edit, or the first cause why there is none
+abbrev pub edited : Edit → State → Result State ModFault
+edited edit state = with_outcome edit state (changed_in_turn edit.mods (tree_of state.buffers edit.buffer))
+
+-- the same edit, seen from its other side
+abbrev pub turned : State → KeptEdit → KeptEdit
+turned state kept = record { moment = present state; buffer = kept.buffer; mods = kept.mods }
+
+-- the moment beside a kept edit is the present one
+abbrev pub at_moment : State → KeptEdit → (past future : List KeptEdit) → State
+at_moment state kept past future = record { buffers = kept.moment.buffers; selected = state.selected; cursor = kept.moment.cursor; past = past; future = future }
+
+-- the last edit is taken back, if there is one
+abbrev pub back_to : State → List KeptEdit → Option State
 back_to state [] = None
-back_to state (former ∷ past) = Some (at_moment former past (present state ∷ state.future))
+back_to state (kept ∷ past) = Some (at_moment state kept past (turned state kept ∷ state.future))
 
 abbrev pub undone : State → Option State
 undone state = back_to state state.past
 
 -- the edit that was taken back last is made again, if there is one
-abbrev pub on_to : State → List Moment → Option State
+abbrev pub on_to : State → List KeptEdit → Option State
 on_to state [] = None
-on_to state (later ∷ future) = Some (at_moment later (present state ∷ state.past) future)
+on_to state (kept ∷ future) = Some (at_moment state kept (turned state kept ∷ state.past) future)
 
 abbrev pub redone : State → Option State
 redone state = on_to state state.future
@@ -47,10 +76,14 @@ redone state = on_to state state.future
 abbrev pub Goes : State → List ℕ → State → Type 0
 Goes state numbers next =
     (path : List ℕ) × (offset : ℕ) × (numbers ≡ path ++ offset ∷ []) × IsPlace (document_of state.buffers) path offset
-    × (next ≡ record { buffers = state.buffers; cursor = place path offset; past = state.past; future = state.future })
+    × (next ≡ record state { cursor = place path offset })
 
 -- Why the numbers name no place of the document. Without a number there is no offset.
 abbrev pub IsAstray : State → List ℕ → PlaceFault → Type 0
 IsAstray state numbers fault =
     ((numbers ≡ []) × (fault ≡ NoPath 0))
     ⊎ ((path : List ℕ) × (offset : ℕ) × (numbers ≡ path ++ offset ∷ []) × IsPlaceFault (document_of state.buffers) path offset fault)
+
+-- the buffer of this name is selected
+abbrev pub Selects : State → List ℕ → State → Type 0
+Selects state name next = (k : ℕ) × (number_of state.buffers name ≡ Some k) × (next ≡ record state { selected = k })

@@ -1,27 +1,36 @@
 -- What the entries of a history lead back to. Only private clauses cite this.
-use Rattle.std.specs.Prelude.{◌≡◌, ◌<◌, List, [], ◌∷◌, length, unwrap_or, Some}
+use Rattle.std.specs.Prelude.{◌≡◌, ◌<◌, List, [], ◌∷◌, length, unwrap_or, Ok}
 use Rattle.tx_tree.specs.WideTree.{WideTree}
 use Rattle.tx_tree.specs.Places.{IsPlace}
-use Rattle.tx_mod.specs.Followed.{changed_by_all}
-use Rattle.tx_state.specs.declared.edits.Entry.{Entry}
-use Rattle.tx_doc.specs.declared.buffer.Buffer.{Buffer}
+use Rattle.tx_mod.specs.declared.mods.Mod.{Mod}
+use Rattle.tx_mod.specs.Followed.{tree_of as made_of}
+use Rattle.tx_mod.specs.InTurn.{changed_in_turn, inverses_of}
 use Rattle.tx_doc.specs.Buffers.{tree_of, with_tree, document_of}
-use Rattle.tx_state.specs.States.{Moment}
+use Rattle.tx_doc.specs.declared.buffer.Buffer.{Buffer}
+use Rattle.tx_state.specs.declared.edits.Entry.{Entry}
+use Rattle.tx_state.specs.States.{KeptEdit}
 
 -- the buffers after the modifications of an entry
 abbrev pub led_to : List Buffer → Entry → List Buffer
-led_to buffers entry = with_tree buffers entry.buffer (unwrap_or (changed_by_all entry.mods (tree_of buffers entry.buffer)) (tree_of buffers entry.buffer))
+led_to buffers entry = with_tree buffers entry.buffer (unwrap_or (made_of (changed_in_turn entry.mods (tree_of buffers entry.buffer))) (tree_of buffers entry.buffer))
 
--- the moments that entries lead to, one after the other
-abbrev pub moments : List Buffer → List Entry → List Moment
-moments buffers [] = []
-moments buffers (entry ∷ entries) = record { buffers = led_to buffers entry; cursor = entry.cursor } ∷ moments (led_to buffers entry) entries
+-- an entry of the past holds what takes the edit back, and one of the future the edit itself
+abbrev pub undoes : List Buffer → Entry → List Mod
+undoes buffers entry = inverses_of entry.mods (tree_of buffers entry.buffer)
 
--- the one modification of an entry applies, and its cursor is a place of the document that it leads to
+abbrev pub redoes : List Buffer → Entry → List Mod
+redoes buffers entry = entry.mods
+
+-- the edits that entries lead along, one after the other
+abbrev pub kept_edits : (List Buffer → Entry → List Mod) → List Buffer → List Entry → List KeptEdit
+kept_edits mods buffers [] = []
+kept_edits mods buffers (entry ∷ entries) =
+    record { moment = record { buffers = led_to buffers entry; cursor = entry.cursor }; buffer = entry.buffer; mods = mods buffers entry } ∷ kept_edits mods (led_to buffers entry) entries
+
+-- the modifications of an entry apply, and its cursor is a place of the document that it leads to
 pub record Leads (buffers : List Buffer) (entry : Entry) : Type 0 where
   pub buffer : entry.buffer < length buffers
-  pub one : length entry.mods ≡ 1
-  pub applies : (u : WideTree) × (changed_by_all entry.mods (tree_of buffers entry.buffer) ≡ Some u)
+  pub applies : (u : WideTree) × (changed_in_turn entry.mods (tree_of buffers entry.buffer) ≡ Ok u)
   pub cursor : IsPlace (document_of (led_to buffers entry)) entry.cursor.path entry.cursor.offset
 
 -- the same of all entries, one after the other

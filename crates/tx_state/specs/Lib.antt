@@ -1,7 +1,9 @@
 pub mod Cursors
 pub mod States
 pub mod Edits
+pub mod Ready
 pub mod Undoing
 pub mod Entries
 pub mod Kept
 pub mod Walks
+pub mod Changing

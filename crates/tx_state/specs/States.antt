@@ -1,8 +1,9 @@
 -- The state of a session: what is edited, where the cursor is, and what can be taken back and made again.
-use Rattle.std.specs.Prelude.{List, []}
+use Rattle.std.specs.Prelude.{ℕ, List, []}
 use Rattle.tx_tree.specs.declared.places.Place.{Place}
-use Rattle.tx_doc.specs.declared.buffer.Buffer.{Buffer}
+use Rattle.tx_mod.specs.declared.mods.Mod.{Mod}
 use Rattle.tx_doc.specs.Buffers.{document_of}
+use Rattle.tx_doc.specs.declared.buffer.Buffer.{Buffer}
 use Rattle.tx_state.specs.Cursors.{first_cursor}
 
 -- all buffers, whole, and the cursor in buffer 0
@@ -10,21 +11,25 @@ pub record Moment : Type 0 where
   pub buffers : List Buffer
   pub cursor : Place
 
--- The present moment; those before the edits that can be taken back, the last edit first; and those behind the edits that were
+-- An edit that can be taken back, with the moment before it, or one that can be made again, with the moment behind it: the buffer
+-- that it changes, and its modifications.
+pub record KeptEdit : Type 0 where
+  pub moment : Moment
+  pub buffer : ℕ
+  pub mods : List Mod
+
+-- The present moment and the number of the selected buffer; the edits that can be taken back, the last one first; and those that were
 -- taken back, the last one taken back first.
 pub record State : Type 0 where
   pub buffers : List Buffer
+  pub selected : ℕ
   pub cursor : Place
-  pub past : List Moment
-  pub future : List Moment
+  pub past : List KeptEdit
+  pub future : List KeptEdit
 
 abbrev pub present : State → Moment
 present state = record { buffers = state.buffers; cursor = state.cursor }
 
--- the moment as the present one, with this past and this future
-abbrev pub at_moment : Moment → (past future : List Moment) → State
-at_moment moment past future = record { buffers = moment.buffers; cursor = moment.cursor; past = past; future = future }
-
--- a session begins with these buffers
+-- a session begins with these buffers, the document selected
 abbrev pub opening : List Buffer → State
-opening buffers = at_moment (record { buffers = buffers; cursor = first_cursor (document_of buffers) }) [] []
+opening buffers = record { buffers = buffers; selected = 0; cursor = first_cursor (document_of buffers); past = []; future = [] }

@@ -1,107 +1,98 @@
-// Trees changed by modifications, and what changes them back.
-ghost use Rattle.std.specs.Prelude.{◌≡◌, ◌≤◌, ◌+◌, ◌*◌, ◌<◌, ℕ, length, IsOk, IfOk, IfErr, Some, Ok, Err};
+// A tree changed by modifications in turn, with what changes it back and where a place moves.
+ghost use Rattle.std.specs.Prelude.{◌≡◌, ◌≤◌, ◌+◌, ◌++◌, ◌∷◌, [], length, IsOk, IfOk, IfErr, OnOk, Ok, option_map};
 ghost use Rattle.tx_tree.specs.WideTree.{WideTree};
 ghost use Rattle.tx_mod.specs.Changes.{changed, IsRefusal};
-ghost use Rattle.tx_mod.specs.Followed.{changed_by_all};
+ghost use Rattle.tx_mod.specs.InTurn.{changed_in_turn, inverses_of, moved_in_turn, AreUndone};
+ghost use Rattle.tx_mod.specs.Inverses.{inverse_of};
 ghost use Rattle.tx_mod.specs.Mods.{path_of};
-ghost use Rattle.tx_doc.specs.Buffers.{tree_of};
+ghost use Rattle.tx_mod.specs.Moves.{moved_place};
+ghost use Rattle.tx_mod.specs.Sound.{IsSound};
+ghost use Rattle.tx_state.specs.Changing.{IsPlaceIn};
+ghost use Rattle.tx_state.specs.Ready.{cost_both_ways};
 
-use crate::edits::Entry;
 use std::alloc::Global;
 use std::sync::ledger::Ledger;
 use tx_base::{Memory, Steps};
-use tx_doc::Buffer;
-use tx_mod::{ApplyFault, Mod, ModList, apply_and_inverse, inverse_law, sound};
-use tx_tree::Tree;
+use tx_mod::{ApplyFault, Mod, apply_and_inverse, list_inverse_law, moved, sound};
+use tx_tree::{Place, Tree};
 
-// The changed tree, and the modification that gives the tree back.
-pub(crate) fn change_both_ways<L: Ledger>(
+// A tree on its way, the inverses of what changed it so far, the first one first, and a place of it.
+#[derive(Drop)]
+pub(crate) struct Changing {
+    pub tree: Tree,
+    pub back: Vec<Mod>,
+    pub place: Option<Place>,
+}
+
+// Where the place stands afterwards, if there is one.
+fn moved_if(
     alloc: Global,
     t: &Tree,
     m: &Mod,
-    steps: &mut Steps<L>,
-) -> Result<(Tree, Mod), ApplyFault>
-    ensures there { IfOk result (λ r. changed m.now t.now ≡ Ok r.0) }
-    ensures back { IfOk result (λ r. changed r.1 r.0 ≡ Ok t.now) }
-    ensures refused { IfErr result (IsRefusal (changed m.now t.now)) }
-    ensures counted { steps.new ≤ steps.old + (length (path_of m.now) + 4) }
+    place: &Option<Place>,
+) -> Result<Option<Place>, Memory>
+    requires applicable { IsOk (changed m.now t.now) }
+    requires valid { IsPlaceIn t.now place.now }
+    ensures place { IfOk result (λ at. at ≡ option_map (moved_place m.now t.now) place.now) }
+    ensures valid { (u : WideTree) → changed m.now t.now ≡ Ok u → IfOk result (λ at. IsPlaceIn u at) }
 {
-    let _size = t.size();
-    sound(m);
-    inverse_law();
-    let (tree, inverse) = apply_and_inverse(alloc, t, m, steps)?;
-    Ok((tree, inverse))
-}
-
-#[tactic(auto, using(crate::proofs::Short::mod_short, std::proofs::lemmas::Grind::common_steps))]
-// The path of a modification that applies is short.
-fn short(t: &Tree, m: &Mod)
-    requires { IsOk (changed m.now t.now) }
-    ensures { length (path_of m.now) ≤ 399 }
-{
-    let _size = t.size();
-}
-
-// The same of a modification that applies, which only want of memory keeps from being made.
-fn change_that_applies<L: Ledger>(
-    alloc: Global,
-    t: &Tree,
-    m: &Mod,
-    steps: &mut Steps<L>,
-) -> Result<(Tree, Mod), Memory>
-    requires { IsOk (changed m.now t.now) }
-    ensures there { IfOk result (λ r. changed m.now t.now ≡ Ok r.0) }
-    ensures back { IfOk result (λ r. changed r.1 r.0 ≡ Ok t.now) }
-    ensures counted { steps.new ≤ steps.old + 403 }
-{
-    short(t, m);
-    match change_both_ways(alloc, t, m, steps) {
-        Ok(changed) => Ok(changed),
-        Err(ApplyFault::Memory) => Err(Memory),
-        Err(ApplyFault::Refused(_)) => unreachable!(),
+    match place {
+        Some(at) => Ok(Some(moved(alloc, t, m, at)?)),
+        None => Ok(None),
     }
 }
 
-#[tactic(auto, using(crate::proofs::Short::first_applies, std::proofs::lemmas::Grind::common_steps))]
-// The tree changed by all modifications, one after the other, and those that give the tree back.
-pub(crate) fn change_by_all<L: Ledger>(
+// One modification more.
+fn change_once<L: Ledger>(
+    alloc: Global,
+    now: &mut Changing,
+    m: &Mod,
+    steps: &mut Steps<L>,
+) -> Result<(), ApplyFault>
+    requires { IsPlaceIn now.old.tree now.old.place }
+    ensures tree { OnOk result (changed m.now now.old.tree ≡ Ok now.new.tree) }
+    ensures back { OnOk result (now.new.back.items ≡ now.old.back.items ++ inverse_of m.now now.old.tree ∷ []) }
+    ensures place { OnOk result (now.new.place ≡ option_map (moved_place m.now now.old.tree) now.old.place) }
+    ensures valid { OnOk result (IsPlaceIn now.new.tree now.new.place) }
+    ensures refused { IfErr result (IsRefusal (changed m.now now.old.tree)) }
+    ensures sound { IsSound m.now }
+    ensures counted { steps.new ≤ steps.old + (length (path_of m.now) + 4) }
+{
+    sound(m);
+    let (tree, inverse) = apply_and_inverse(alloc, &now.tree, m, steps)?;
+    now.place = moved_if(alloc, &now.tree, m, &now.place)?;
+    now.back.push(inverse)?;
+    now.tree = tree;
+    Ok(())
+}
+
+// The tree changed by all modifications, their inverses from the last to the first, and where the place stands.
+pub(crate) fn change_in_turn<L: Ledger>(
     alloc: Global,
     t: &Tree,
     mods: &[Mod],
+    place: Option<Place>,
     steps: &mut Steps<L>,
-) -> Result<(Tree, ModList), Memory>
-    requires { (u : WideTree) × (changed_by_all mods.now t.now ≡ Some u) }
-    ensures there { IfOk result (λ r. changed_by_all mods.now t.now ≡ Some r.0) }
-    ensures back { IfOk result (λ r. changed_by_all r.1 r.0 ≡ Some t.now) }
-    ensures number { IfOk result (λ r. length r.1 ≡ length mods.now) }
-    ensures counted { steps.new ≤ steps.old + 403 * length mods.now }
+) -> Result<Changing, ApplyFault>
+    requires { IsPlaceIn t.now place }
+    ensures tree { IfOk result (λ r. changed_in_turn mods.now t.now ≡ Ok r.tree) }
+    ensures back { IfOk result (λ r. r.back.items ≡ inverses_of mods.now t.now) }
+    ensures undone { IfOk result (λ r. AreUndone mods.now t.now r.tree) }
+    ensures place { IfOk result (λ r. r.place ≡ option_map (moved_in_turn mods.now t.now) place) }
+    ensures valid { IfOk result (λ r. IsPlaceIn r.tree r.place) }
+    ensures refused { IfErr result (IsRefusal (changed_in_turn mods.now t.now)) }
+    ensures counted { steps.new ≤ steps.old + cost_both_ways mods.now }
 {
-    let mut tree = t.share()?;
-    let mut back = Vec::new(alloc);
+    let _size = t.size();
+    list_inverse_law();
+    let mut now = Changing {
+        tree: t.share()?,
+        back: Vec::new(alloc),
+        place,
+    };
     for m in mods {
-        let (next, inverse) = change_that_applies(alloc, &tree, m, steps)?;
-        back.push(inverse)?;
-        tree = next;
+        change_once(alloc, &mut now, m, steps)?;
     }
-    back.reverse();
-    Ok((tree, ModList::from(back)))
-}
-
-// What an entry of one modification makes of its buffer's tree, and the one that leads back.
-pub(crate) fn step_along<L: Ledger>(
-    alloc: Global,
-    buffers: &[Buffer],
-    entry: &Entry,
-    steps: &mut Steps<L>,
-) -> Result<(Tree, ModList), Memory>
-    requires within { entry.now.buffer < length buffers.now }
-    requires one { length entry.now.mods ≡ 1 }
-    requires applies { (u : WideTree) × (changed_by_all entry.now.mods (tree_of buffers.now entry.now.buffer) ≡ Some u) }
-    ensures there { IfOk result (λ r. changed_by_all entry.now.mods (tree_of buffers.now entry.now.buffer) ≡ Some r.0) }
-    ensures back { IfOk result (λ r. changed_by_all r.1 r.0 ≡ Some (tree_of buffers.now entry.now.buffer)) }
-    ensures one { IfOk result (λ r. length r.1 ≡ 1) }
-    ensures counted { steps.new ≤ steps.old + 403 }
-{
-    let tree = &buffers[entry.buffer as usize].tree;
-    change_by_all(alloc, tree, entry.mods.as_slice(), steps)
+    now.back.reverse();
+    Ok(now)
 }

@@ -1,11 +1,10 @@
 // Why a state stays as it is.
 ghost use Rattle.std.specs.Prelude.{◌≡◌};
 ghost use Rattle.tx_state.specs.declared.faults.GoFault.TheVariants.{Memory as GoMemory};
-ghost use Rattle.tx_state.specs.declared.faults.UndoFault.TheVariants.{Nothing as NothingLeft, Memory as UndoMemory};
+ghost use Rattle.tx_state.specs.declared.faults.UndoFault.TheVariants.{Memory as UndoMemory};
 
 use thiserror::Error;
 use tx_base::Memory;
-use tx_history::Nothing;
 use tx_tree::PlaceFault;
 
 /// Why no edit was undone or redone.
@@ -27,14 +26,6 @@ impl From<Memory> for UndoFault {
     }
 }
 
-impl From<Nothing> for UndoFault {
-    ghost from_gives = { λ _ fault. fault ≡ NothingLeft };
-
-    fn from(_cause: Nothing) -> UndoFault {
-        UndoFault::Nothing
-    }
-}
-
 /// Why the cursor stays where it is.
 #[derive(Clone, Copy, Debug, PartialEq, Eq, Error)]
 pub enum GoFault {
@@ -53,3 +44,8 @@ impl From<Memory> for GoFault {
         GoFault::Memory
     }
 }
+
+/// No buffer has the name.
+#[derive(Clone, Copy, Debug, PartialEq, Eq, Error)]
+#[error("no buffer of this name")]
+pub struct NoBuffer;

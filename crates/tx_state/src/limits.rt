@@ -1,9 +1,10 @@
-// The depth of undo as a number.
+// Limits as numbers.
 ghost use Rattle.std.specs.Prelude.{◌≡◌};
 
-use crate::MOST_UNDO;
+use crate::{MOST_BUFFERS, MOST_UNDO};
 
-/// A law: the most edits that can be undone, by which contracts and definitions name them, are 1,000.
-pub fn undo_limit_law()
-    ensures { MOST_UNDO ≡ 1000 }
+/// A law: the limits, by which contracts and definitions name them, are these numbers.
+pub fn limit_law()
+    ensures undo { MOST_UNDO ≡ 1000 }
+    ensures buffers { MOST_BUFFERS ≡ 16 }
 {}

@@ -1,37 +1,42 @@
 // The buffers, the cursor and the history.
-ghost use Rattle.std.specs.Prelude.{◌≡◌, ◌≤◌, ◌<◌, ◌+◌, length, IfOk, IfErr, OnOk, OnErr, Some, None, Ok, Err};
+ghost use Rattle.std.specs.Prelude.{◌≡◌, ◌≤◌, ◌<◌, ◌+◌, ◌∷◌, ◌==◌, List, length, if◌then◌else◌, IfOk, IfErr, OnOk, OnErr, Some, None, Ok, Err};
+ghost use Rattle.std.specs.Option.{option_map_or};
 ghost use Rattle.tx_tree.specs.Places.{IsPlace};
-ghost use Rattle.tx_mod.specs.Mods.{path_of};
+ghost use Rattle.tx_mod.specs.InTurn.{inverses_of};
 ghost use Rattle.tx_mod.specs.declared.faults.ApplyFault.{ApplyFault};
 ghost use Rattle.tx_mod.specs.declared.faults.ModFault.{ModFault as Cause};
 ghost use Rattle.tx_tree.specs.declared.faults.PlaceFault.{PlaceFault as PlaceCause};
+ghost use Rattle.tx_doc.specs.Buffers.{document_of, tree_of, with_tree, number_of, NamesDiffer, AreFormed};
 ghost use Rattle.tx_state.specs.declared.faults.GoFault.{GoFault};
 ghost use Rattle.tx_state.specs.declared.faults.UndoFault.{UndoFault};
-ghost use Rattle.tx_doc.specs.Buffers.{document_of, with_tree};
-ghost use Rattle.tx_state.specs.States.{opening};
-ghost use Rattle.tx_state.specs.Edits.{edited, undone, redone, Goes, IsAstray};
+ghost use Rattle.tx_state.specs.States.{KeptEdit, opening};
+ghost use Rattle.tx_state.specs.Edits.{edited, undone, redone, cursor_after, GivesPlace, Goes, IsAstray, Selects};
+ghost use Rattle.tx_state.specs.Ready.{IsReady, IsReadyUndo, IsReadyRedo, with_edit, cost_both_ways, first_cost};
 
-use crate::MOST_UNDO;
-use crate::changing::{change_both_ways, step_along};
+use crate::changing::change_in_turn;
 use crate::cursors::first_cursor;
-use crate::edits::Entry;
-use crate::faults::{GoFault, UndoFault};
+use crate::edits::{Edit, Entry, Prepared};
+use crate::faults::{GoFault, NoBuffer, UndoFault};
+use crate::preparing::{chosen, step_along, tree_at};
+use crate::{MOST_BUFFERS, MOST_UNDO};
 use std::alloc::Global;
 use std::marker::Model;
 use std::mem;
 use std::sync::ledger::Ledger;
 use tx_base::{Memory, Steps};
-use tx_doc::Buffer;
+use tx_doc::{Buffer, formed_law, number_of};
 use tx_history::History;
-use tx_mod::{ApplyFault, Mod, ModList, moved};
+use tx_mod::{ApplyFault, ModList};
 use tx_tree::{Path, Place, PlaceFault, Tree};
 
 /// The buffers of a session, the document first, with a cursor in the document, and the edits that can be undone and redone.
 ///
-/// Contracts see the buffers, the cursor, and all former and later moments whole (`specs/States.antt`).
+/// Contracts see the buffers, the number of the selected one, the cursor, and all former and later moments whole, with the edits
+/// between them (`specs/States.antt`).
 #[derive(Drop)]
 pub struct EditorState {
     buffers: Vec<Buffer>,
+    selected: usize,
     cursor: Place,
     history: History<Entry>,
 }
@@ -50,30 +55,33 @@ impl Model for EditorState {
     ghost invariant = { IsKept };
 }
 
-// Puts a tree and a cursor in place of the present ones, and answers the former cursor.
+// Puts a tree and a cursor in place of the present ones, and answers the former ones.
 fn exchange(
     buffers: &mut Vec<Buffer>,
     cursor: &mut Place,
     buffer: u32,
     tree: Tree,
     to: Place,
-) -> Place
+) -> (Tree, Place)
     requires { buffer < length buffers.old.items }
     ensures buffers { buffers.new.items ≡ with_tree buffers.old.items buffer tree }
     ensures cursor { cursor.new ≡ to }
-    ensures former { result ≡ cursor.old }
+    ensures tree { result.0 ≡ tree_of buffers.old.items buffer }
+    ensures former { result.1 ≡ cursor.old }
 {
-    buffers[buffer as usize].tree = tree;
-    mem::replace(cursor, to)
+    let former = mem::replace(&mut buffers[buffer as usize].tree, tree);
+    (former, mem::replace(cursor, to))
 }
 
 impl EditorState {
     #[tactic(auto, using(crate::proofs::Leaves::first_place, std::proofs::lemmas::Grind::common_steps))]
-    /// The state in which a session begins with these buffers, of which there is at least one. The cursor is before the first
-    /// leaf of the document's body, or before the body where it has none, or before the root where there is no body. The one
-    /// error is want of memory.
+    /// The state in which a session begins with these buffers, of which there are 1 to 16, no two of one name. The document is
+    /// selected. The cursor is before the first leaf of the document's body, or before the body where it has none, or before the
+    /// root where there is no body. The one error is want of memory.
     pub fn open(alloc: Global, buffers: Vec<Buffer>) -> Result<EditorState, Memory>
         requires some { 1 ≤ length buffers.items }
+        requires few { length buffers.items ≤ MOST_BUFFERS }
+        requires names { NamesDiffer buffers.items }
         ensures { IfOk result (λ state. state ≡ opening buffers.items) }
     {
         let document = &buffers[0].tree;
@@ -81,20 +89,34 @@ impl EditorState {
         let cursor = first_cursor(alloc, document)?;
         Ok(EditorState {
             buffers,
+            selected: 0,
             cursor,
             history: History::new(alloc, MOST_UNDO)?,
         })
     }
 
-    /// The buffers, the document first. At most 1,000 edits can be undone or redone, at any time.
-    #[tactic(auto, using(crate::proofs::Moments::number_of_turned, std::proofs::lemmas::Grind::common_steps))]
+    /// The buffers, the document first: 1 to 16, no two of one name, each tree well formed and within the limits. At most 1,000
+    /// edits can be undone or redone, at any time.
+    #[tactic(auto, using(crate::proofs::Moments::number_of_past, crate::proofs::Moments::number_of_future, std::proofs::lemmas::Grind::common_steps))]
     pub fn buffers(&self) -> &[Buffer]
         ensures buffers { result.now ≡ self.now.buffers }
         ensures some { 1 ≤ length self.now.buffers }
-        ensures few { length self.now.past + length self.now.future ≤ 1000 }
+        ensures few { length self.now.buffers ≤ MOST_BUFFERS }
+        ensures names { NamesDiffer self.now.buffers }
+        ensures formed { AreFormed self.now.buffers }
+        ensures kept { length self.now.past + length self.now.future ≤ MOST_UNDO }
     {
         let _len = self.history.len();
+        formed_law(&self.buffers);
         &self.buffers
+    }
+
+    /// The number of the selected buffer.
+    pub fn selected(&self) -> usize
+        ensures selected { result ≡ self.now.selected }
+        ensures within { self.now.selected < length self.now.buffers }
+    {
+        self.selected
     }
 
     /// The tree of the document.
@@ -112,88 +134,179 @@ impl EditorState {
         &self.cursor
     }
 
-    /// Changes the document, and moves the cursor with it. The moment before can be undone, of the last 1,000, and what was
-    /// undone can't be redone any more. After an error the state is as before. It takes at most the path's length and four
-    /// steps.
-    pub fn change<L: Ledger>(
-        &mut self,
+    /// Selects the buffer of this name. `NoBuffer` comes exactly where no buffer has it, and changes nothing.
+    pub fn select(&mut self, name: &[u8]) -> Result<(), NoBuffer>
+        ensures ok { OnOk result (Selects self.old name.now self.new) }
+        ensures none { OnErr result (number_of self.old.buffers name.now ≡ None) }
+        ensures kept { OnErr result (self.new ≡ self.old) }
+    {
+        match number_of(&self.buffers, name) {
+            Some(k) => {
+                self.selected = k;
+                Ok(())
+            }
+            None => Err(NoBuffer),
+        }
+    }
+
+    // The cursor, where the edit's modifications move it.
+    fn moving_cursor(&self, alloc: Global, edit: &Edit) -> Result<Option<Place>, Memory>
+        ensures { IfOk result (λ at. at ≡ (if edit.now.buffer == 0 then Some self.now.cursor else None)) }
+    {
+        if edit.buffer == 0 {
+            Ok(Some(self.cursor.copy(alloc)?))
+        } else {
+            Ok(None)
+        }
+    }
+
+    /// Makes an edit ready: its modifications are applied in order, and the first cause why one can't be refuses the whole. A cursor
+    /// that the edit gives is a place of the document afterwards. The state stays as it is. It takes at most twice as many steps as
+    /// all paths have numbers, and six more for each modification.
+    pub fn prepare_edit<L: Ledger>(
+        &self,
         alloc: Global,
-        m: &Mod,
+        edit: Edit,
         steps: &mut Steps<L>,
-    ) -> Result<(), ApplyFault>
-        ensures ok { OnOk result (edited m.now self.old ≡ Ok self.new) }
-        ensures refused { IfErr result (λ fault. (cause : Cause) → fault ≡ ApplyFault.Refused cause → edited m.now self.old ≡ Err cause) }
-        ensures kept { OnErr result (self.new ≡ self.old) }
-        ensures counted { steps.new ≤ steps.old + (length (path_of m.now) + 4) }
+    ) -> Result<Prepared, ApplyFault>
+        requires buffer { edit.buffer < length self.now.buffers }
+        requires cursor { GivesPlace edit self.now }
+        ensures ready { IfOk result (IsReady self.now) }
+        ensures edit { IfOk result (λ p. (p.buffer ≡ edit.buffer) × (p.mods ≡ edit.mods) × (p.cursor ≡ cursor_after edit self.now)) }
+        ensures ok { IfOk result (λ p. edited edit self.now ≡ Ok (with_edit self.now p)) }
+        ensures refused { IfErr result (λ fault. (cause : Cause) → fault ≡ ApplyFault.Refused cause → edited edit self.now ≡ Err cause) }
+        ensures counted { steps.new ≤ steps.old + cost_both_ways edit.mods }
     {
-        let _size = self.document().size();
-        let (tree, inverse) = change_both_ways(alloc, self.document(), m, steps)?;
-        let cursor = moved(alloc, self.document(), m, &self.cursor)?;
-        let mods = ModList::from(vec![in alloc; inverse]?);
-        let former = exchange(&mut self.buffers, &mut self.cursor, 0, tree, cursor);
-        self.history.done(Entry {
-            buffer: 0,
+        let moving = self.moving_cursor(alloc, &edit)?;
+        let tree = tree_at(&self.buffers, edit.buffer);
+        let changed = change_in_turn(alloc, tree, edit.mods.as_slice(), moving, steps)?;
+        let Edit {
+            buffer,
             mods,
-            cursor: former,
+            cursor,
+        } = edit;
+        let cursor = chosen(alloc, cursor, changed.place, &self.cursor)?;
+        Ok(Prepared {
+            buffer,
+            tree: changed.tree,
+            mods,
+            back: ModList::from(changed.back),
+            cursor,
+        })
+    }
+
+    /// Puts an edit in place that was made ready for this state, and answers the buffer's former tree. It takes no memory. The moment
+    /// before can be undone, of the last 1,000, and what was undone can't be redone any more.
+    pub fn finish_edit(&mut self, prepared: Prepared) -> Tree
+        requires { IsReady self.old prepared }
+        ensures done { self.new ≡ with_edit self.old prepared }
+        ensures former { result ≡ tree_of self.old.buffers prepared.buffer }
+    {
+        let Prepared {
+            buffer,
+            tree,
+            back,
+            cursor,
+            ..
+        } = prepared;
+        let (former, at) = exchange(&mut self.buffers, &mut self.cursor, buffer, tree, cursor);
+        self.history.done(Entry {
+            buffer,
+            mods: back,
+            cursor: at,
         });
-        Ok(())
+        former
     }
 
-    /// Takes the last edit back: buffers and cursor are those before it. `Nothing` comes exactly where there is none of the
-    /// last 1,000 edits left to take back. After an error the state is as before. It takes at most 403 steps: a path has at
-    /// most 399 numbers, and 4 more are for the change and its inverse.
-    pub fn undo<L: Ledger>(&mut self, alloc: Global, steps: &mut Steps<L>) -> Result<(), UndoFault>
-        ensures ok { OnOk result (undone self.old ≡ Some self.new) }
-        ensures nothing { result ≡ Err UndoFault.Nothing → undone self.old ≡ None }
-        ensures kept { OnErr result (self.new ≡ self.old) }
-        ensures counted { steps.new ≤ steps.old + 403 }
+    /// Makes ready that the last edit is taken back, by the inverses of its modifications, from the last to the first. `Nothing` comes
+    /// exactly where there is none of the last 1,000 edits left to take back. The state stays as it is. As many steps are allowed as
+    /// for the edit.
+    pub fn prepare_undo<L: Ledger>(
+        &self,
+        alloc: Global,
+        steps: &mut Steps<L>,
+    ) -> Result<Prepared, UndoFault>
+        ensures ready { IfOk result (IsReadyUndo self.now) }
+        ensures inverses { IfOk result (λ p. (e : KeptEdit) (past : List KeptEdit) → self.now.past ≡ e ∷ past → (p.buffer ≡ e.buffer) × (p.mods ≡ inverses_of e.mods (tree_of e.moment.buffers e.buffer))) }
+        ensures nothing { result ≡ Err UndoFault.Nothing → undone self.now ≡ None }
+        ensures counted { steps.new ≤ steps.old + first_cost self.now.past }
     {
-        let _len = self.history.len();
-        let entry = self.history.undo()?;
-        match step_along(alloc, &self.buffers, &entry, steps) {
-            Ok((tree, mods)) => {
-                let Entry { buffer, cursor, .. } = entry;
-                let former = exchange(&mut self.buffers, &mut self.cursor, buffer, tree, cursor);
-                self.history.undone(Entry {
-                    buffer,
-                    mods,
-                    cursor: former,
-                });
-                Ok(())
-            }
-            Err(Memory) => {
-                self.history.keep(entry, true);
-                Err(UndoFault::Memory)
-            }
+        match self.history.last_done() {
+            Some(entry) => Ok(step_along(alloc, &self.buffers, entry, steps)?),
+            None => Err(UndoFault::Nothing),
         }
     }
 
-    /// Makes the edit again that was taken back last. `Nothing` comes exactly where there is none. After an error the state
-    /// is as before. It takes at most 403 steps, as `undo` does.
-    pub fn redo<L: Ledger>(&mut self, alloc: Global, steps: &mut Steps<L>) -> Result<(), UndoFault>
-        ensures ok { OnOk result (redone self.old ≡ Some self.new) }
-        ensures nothing { result ≡ Err UndoFault.Nothing → redone self.old ≡ None }
-        ensures kept { OnErr result (self.new ≡ self.old) }
-        ensures counted { steps.new ≤ steps.old + 403 }
+    /// Puts in place that the last edit is taken back, as it was made ready for this state, and answers the buffer's former tree. It
+    /// takes no memory. Buffers and cursor are those before the edit.
+    pub fn finish_undo(&mut self, prepared: Prepared) -> Tree
+        requires { IsReadyUndo self.old prepared }
+        ensures done { undone self.old ≡ Some self.new }
+        ensures former { result ≡ tree_of self.old.buffers prepared.buffer }
     {
         let _len = self.history.len();
-        let entry = self.history.redo()?;
-        match step_along(alloc, &self.buffers, &entry, steps) {
-            Ok((tree, mods)) => {
-                let Entry { buffer, cursor, .. } = entry;
-                let former = exchange(&mut self.buffers, &mut self.cursor, buffer, tree, cursor);
-                self.history.redone(Entry {
-                    buffer,
-                    mods,
-                    cursor: former,
-                });
-                Ok(())
-            }
-            Err(Memory) => {
-                self.history.keep(entry, false);
-                Err(UndoFault::Memory)
-            }
+        let Ok(_entry) = self.history.undo() else {
+            unreachable!();
+        };
+        let Prepared {
+            buffer,
+            tree,
+            back,
+            cursor,
+            ..
+        } = prepared;
+        let (former, at) = exchange(&mut self.buffers, &mut self.cursor, buffer, tree, cursor);
+        self.history.undone(Entry {
+            buffer,
+            mods: back,
+            cursor: at,
+        });
+        former
+    }
+
+    /// Makes ready that the edit is made again that was taken back last, by its modifications. `Nothing` comes exactly where there is
+    /// none. The state stays as it is. As many steps are allowed as for the edit.
+    pub fn prepare_redo<L: Ledger>(
+        &self,
+        alloc: Global,
+        steps: &mut Steps<L>,
+    ) -> Result<Prepared, UndoFault>
+        ensures ready { IfOk result (IsReadyRedo self.now) }
+        ensures same { IfOk result (λ p. (e : KeptEdit) (future : List KeptEdit) → self.now.future ≡ e ∷ future → (p.buffer ≡ e.buffer) × (p.mods ≡ e.mods)) }
+        ensures nothing { result ≡ Err UndoFault.Nothing → redone self.now ≡ None }
+        ensures counted { steps.new ≤ steps.old + first_cost self.now.future }
+    {
+        match self.history.last_undone() {
+            Some(entry) => Ok(step_along(alloc, &self.buffers, entry, steps)?),
+            None => Err(UndoFault::Nothing),
         }
+    }
+
+    /// Puts in place that an edit is made again, as it was made ready for this state, and answers the buffer's former tree. It takes no
+    /// memory.
+    pub fn finish_redo(&mut self, prepared: Prepared) -> Tree
+        requires { IsReadyRedo self.old prepared }
+        ensures done { redone self.old ≡ Some self.new }
+        ensures former { result ≡ tree_of self.old.buffers prepared.buffer }
+    {
+        let _len = self.history.len();
+        let Ok(_entry) = self.history.redo() else {
+            unreachable!();
+        };
+        let Prepared {
+            buffer,
+            tree,
+            back,
+            cursor,
+            ..
+        } = prepared;
+        let (former, at) = exchange(&mut self.buffers, &mut self.cursor, buffer, tree, cursor);
+        self.history.redone(Entry {
+            buffer,
+            mods: back,
+            cursor: at,
+        });
+        former
     }
 
     /// Puts the cursor at the place that these numbers name, of which the last one is the offset. Without a number there is

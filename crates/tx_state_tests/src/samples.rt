@@ -1,11 +1,12 @@
 // States, commands and replies from words, for tests.
+ghost use Rattle.std.specs.Prelude.{◌≡◌, IfSome};
 
 use std::alloc::Global;
 use std::sync::ledger::Ledger;
 use tx_base::Steps;
 use tx_doc::{Buffer, Name};
-use tx_mod::{ApplyFault, Mod, ModFault};
-use tx_state::{EditorState, GoFault, UndoFault};
+use tx_mod::{ApplyFault, Mod, ModFault, ModList};
+use tx_state::{Edit, EditorState, GoFault, UndoFault};
 use tx_tree::{Label, Path, PlaceFault, Tree};
 
 pub(crate) fn tree<L: Ledger>(alloc: Global, words: &str, steps: &mut Steps<L>) -> Option<Tree> {
@@ -21,11 +22,13 @@ pub(crate) fn text_of(alloc: Global, t: &Tree) -> Option<String> {
 
 fn buffer<L: Ledger>(
     alloc: Global,
-    name: &str,
+    name: &[u8],
     words: &str,
     steps: &mut Steps<L>,
-) -> Option<Buffer> {
-    let name = Vec::from_slice(alloc, name.as_bytes()).ok()?;
+) -> Option<Buffer>
+    ensures { IfSome result (λ b. b.name ≡ name.now) }
+{
+    let name = Vec::from_slice(alloc, name).ok()?;
     Some(Buffer {
         name: Name::from(name),
         tree: tree(alloc, words, steps)?,
@@ -38,9 +41,49 @@ pub(crate) fn opened<L: Ledger>(
     words: &str,
     steps: &mut Steps<L>,
 ) -> Option<EditorState> {
-    let document = buffer(alloc, "d", words, steps)?;
-    let style = buffer(alloc, "s", "(document \"style\")", steps)?;
-    EditorState::open(alloc, vec![in alloc; document, style].ok()?).ok()
+    let document = buffer(alloc, b"d", words, steps)?;
+    let style = buffer(alloc, b"s", "(document \"style\")", steps)?;
+    let buffers = vec![in alloc; document, style].ok()?;
+    EditorState::open(alloc, buffers).ok()
+}
+
+// Makes one modification of the document.
+pub(crate) fn edit<L: Ledger>(
+    alloc: Global,
+    state: &mut EditorState,
+    m: &Mod,
+    steps: &mut Steps<L>,
+) -> Result<(), ApplyFault> {
+    let mods = vec![in alloc; m.copy(alloc)?]?;
+    let _buffers = state.buffers();
+    let edit = Edit {
+        buffer: 0,
+        mods: ModList::from(mods),
+        cursor: None,
+    };
+    let prepared = state.prepare_edit(alloc, edit, steps)?;
+    let _former = state.finish_edit(prepared);
+    Ok(())
+}
+
+pub(crate) fn undo<L: Ledger>(
+    alloc: Global,
+    state: &mut EditorState,
+    steps: &mut Steps<L>,
+) -> Result<(), UndoFault> {
+    let prepared = state.prepare_undo(alloc, steps)?;
+    let _former = state.finish_undo(prepared);
+    Ok(())
+}
+
+pub(crate) fn redo<L: Ledger>(
+    alloc: Global,
+    state: &mut EditorState,
+    steps: &mut Steps<L>,
+) -> Result<(), UndoFault> {
+    let prepared = state.prepare_redo(alloc, steps)?;
+    let _former = state.finish_redo(prepared);
+    Ok(())
 }
 
 pub(crate) fn path(alloc: Global, word: &str) -> Option<Path> {
@@ -169,17 +212,17 @@ fn command_reply<L: Ledger>(
     steps: &mut Steps<L>,
 ) -> Option<String> {
     if line == "undo" {
-        return turn_reply(alloc, state.undo(alloc, steps), line);
+        return turn_reply(alloc, undo(alloc, state, steps), line);
     }
     if line == "redo" {
-        return turn_reply(alloc, state.redo(alloc, steps), line);
+        return turn_reply(alloc, redo(alloc, state, steps), line);
     }
     if let Some(to) = line.strip_prefix("go ") {
         let numbers = path(alloc, to)?;
         return go_reply(alloc, state.go(alloc, &numbers));
     }
     let m = change(alloc, line, steps)?;
-    change_reply(alloc, state.change(alloc, &m, steps))
+    change_reply(alloc, edit(alloc, state, &m, steps))
 }
 
 // What a command replies.

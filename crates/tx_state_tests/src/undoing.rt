@@ -1,7 +1,7 @@
 // Undo to its end, and edits that pass a limit.
 ghost use Rattle.std.specs.Prelude.{◌≡◌};
 
-use crate::samples::{change, cursor_of, opened, reply, text_of};
+use crate::samples::{change, cursor_of, edit, opened, redo, reply, text_of, undo};
 use std::alloc::Global;
 use std::marker::Brand;
 use std::sync::ledger::{Blank, Ledger};
@@ -31,7 +31,7 @@ fn repeat<L: Ledger>(
     steps: &mut Steps<L>,
 ) -> Option<u64> {
     for i in 0..count {
-        state.change(alloc, m, steps).ok()?;
+        edit(alloc, state, m, steps).ok()?;
         if size_told(alloc, state)? != i.saturating_add(3) {
             return None;
         }
@@ -48,7 +48,7 @@ fn undo_all<L: Ledger>(
 ) -> Option<u64> {
     for i in 0..count {
         let size = size_told(alloc, state)?;
-        match state.undo(alloc, steps) {
+        match undo(alloc, state, steps) {
             Ok(()) => {}
             Err(UndoFault::Nothing) => return Some(i),
             Err(UndoFault::Memory) => return None,
@@ -69,7 +69,7 @@ fn redo_all<L: Ledger>(
 ) -> Option<u64> {
     for i in 0..count {
         let size = size_told(alloc, state)?;
-        match state.redo(alloc, steps) {
+        match redo(alloc, state, steps) {
             Ok(()) => {}
             Err(UndoFault::Nothing) => return Some(i),
             Err(UndoFault::Memory) => return None,
@@ -165,9 +165,9 @@ fn refused_on<L: Ledger>(
 ) -> Option<String> {
     let mut state = opened(alloc, words, steps)?;
     let got = reply(alloc, &mut state, line, steps)?;
-    let undo = reply(alloc, &mut state, "undo", steps)?;
+    let after = reply(alloc, &mut state, "undo", steps)?;
     let text = text_of(alloc, state.document())?;
-    if undo.as_str() == "no undo" && text.as_str() == words {
+    if after.as_str() == "no undo" && text.as_str() == words {
         Some(got)
     } else {
         None
