@@ -1,0 +1,11 @@
+pub mod Noting
+pub mod Levels
+pub mod Kids
+pub mod Each
+pub mod Shapes
+pub mod Sizes
+pub mod Bodies
+pub mod SettingLoops
+pub mod WithLoop
+pub mod Leading
+pub mod Ending

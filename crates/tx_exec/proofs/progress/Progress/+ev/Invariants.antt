@@ -1,0 +1,86 @@
+use Rattle.std.proofs.Common.{◌≡◌, ◌+◌, ◌-◌, ◌*◌, ◌≤◌, drop, length, []}
+use Rattle.tx_tree.specs.WideTree.{total_size, deepest}
+use Rattle.tx_origin.specs.Values.{vals, plains}
+use Rattle.tx_origin.specs.TaggedTrees.{tagged_of, kids_of}
+use Rattle.tx_exec_form.specs.Rows.{ex, each, with_parts}
+use Rattle.tx_exec.specs.FrameView.{frame_in}
+use Rattle.tx_exec.specs.States.{state_of, before_of}
+use Rattle.tx_exec.specs.Settings.{sets_of}
+use Rattle.tx_exec.proofs.WithLoop.{IsTold}
+use Rattle.tx_exec.proofs.progress.Progress.+ev.Given as goal
+
+abbrev pub decreases-ev : goal.decreases-ev
+decreases-ev g l = 10 * l.levels + 3
+
+abbrev pub decreases-level : goal.decreases-level
+decreases-level g l = 10 * l.levels + 2
+
+abbrev pub decreases-node : goal.decreases-node
+decreases-node g l = 10 * l.levels + 1
+
+abbrev pub decreases-row : goal.decreases-row
+decreases-row g l = 10 * l.levels
+
+abbrev pub decreases-rebuilt : goal.decreases-rebuilt
+decreases-rebuilt g l = 10 * l.levels - 2
+
+abbrev pub decreases-each : goal.decreases-each
+decreases-each g l = 10 * l.levels + 4
+
+abbrev pub decreases-assign : goal.decreases-assign
+decreases-assign g l = 10 * l.levels - 1
+
+abbrev pub decreases-assigned : goal.decreases-assigned
+decreases-assigned g l = 10 * l.levels - 2
+
+abbrev pub invariant-each-loop-i : goal.invariant-each-loop-i
+invariant-each-loop-i g l = record {
+    run : each (ex l.levels) (frame_in l.frame) l.values.items (drop l.i (kids_of (tagged_of l.t))) (before_of l.env) (state_of l.self) ≡ each (ex l.fn.levels) (frame_in l.fn.frame) [] (drop l.fn.first (kids_of (tagged_of l.fn.t))) (before_of l.fn.env) (state_of l.fn.self);
+    paid : l.steps + l.self.left ≡ l.fn.steps + l.fn.self.left;
+    arity : length l.values.items + l.fn.first ≡ l.i;
+    size : total_size (plains (vals l.values.items)) + l.self.left ≤ l.fn.self.left;
+    depth : deepest (plains (vals l.values.items)) ≤ l.fn.levels;
+  }
+
+abbrev pub decreases-tag : goal.decreases-tag
+decreases-tag g l = 10 * l.levels - 1
+
+abbrev pub decreases-call : goal.decreases-call
+decreases-call g l = 10 * l.levels - 2
+
+abbrev pub decreases-arg : goal.decreases-arg
+decreases-arg g l = 10 * l.levels - 1
+
+abbrev pub decreases-arg_of : goal.decreases-arg_of
+decreases-arg_of g l = 10 * l.levels - 2
+
+abbrev pub decreases-only : goal.decreases-only
+decreases-only g l = 10 * l.levels - 1
+
+abbrev pub decreases-again : goal.decreases-again
+decreases-again g l = 10 * l.levels - 3
+
+abbrev pub decreases-with_row : goal.decreases-with_row
+decreases-with_row g l = 10 * l.levels - 1
+
+abbrev pub decreases-with_parts : goal.decreases-with_parts
+decreases-with_parts g l = 10 * l.levels - 2
+
+abbrev pub decreases-with_body : goal.decreases-with_body
+decreases-with_body g l = 10 * l.levels - 3
+
+abbrev pub invariant-with_parts-loop-i : goal.invariant-with_parts-loop-i
+invariant-with_parts-loop-i g l = record {
+    run : with_parts l.levels (ex (l.levels - 1)) (frame_in l.frame) l.label l.t.at l.values.items (sets_of l.settings.items) (drop (2 * l.i) (kids_of (tagged_of l.t))) (before_of l.env) (state_of l.self) ≡ with_parts l.fn.levels (ex (l.fn.levels - 1)) (frame_in l.fn.frame) l.fn.label l.fn.t.at [] [] (kids_of (tagged_of l.fn.t)) (before_of l.fn.env) (state_of l.fn.self);
+    paid : l.steps + l.self.left ≡ l.fn.steps + l.fn.self.left;
+    told : IsTold l.values.items l.settings.items l.total l.nodes l.self.left l.fn.self.left (l.fn.levels - 1) l.i;
+  }
+
+abbrev pub decreases-only_child : goal.decreases-only_child
+decreases-only_child g l = 10 * l.levels - 2
+
+abbrev pub decreases-arg_part : goal.decreases-arg_part
+decreases-arg_part g l = 10 * l.levels - 3
+
+abbrev pub decreases-used : goal.decreases-used
+decreases-used g l = 10 * l.levels - 4

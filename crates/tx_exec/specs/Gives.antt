@@ -1,0 +1,28 @@
+-- What a function of the evaluator answers is what the definition gives.
+use Rattle.std.specs.Prelude.{◌≡◌, ℕ, ◌+◌, Result, Ok, Err}
+use Rattle.tx_exec_form.specs.Runs.{State, Ran, Over, Done}
+use Rattle.tx_exec.specs.declared.stop.Stop.{Stop}
+use Rattle.tx_exec.specs.declared.stop.Stop.TheVariants as stops
+
+abbrev pub Fails : {A : Type 0} → Stop → Ran A → Type 0
+Fails stops.Memory r = Unit {0}
+Fails stops.Over r = r ≡ Over
+
+-- unless memory ran out
+abbrev pub Gives : {X A : Type 0} → (X → A) → Result X Stop → Ran A → State → Type 0
+Gives view (Ok x) r s = r ≡ Done (view x) s
+Gives view (Err e) r s = Fails e r
+
+abbrev pub CountsAtStop : Stop → ℕ → ℕ → Type 0
+CountsAtStop stops.Memory a b = Unit {0}
+CountsAtStop stops.Over a b = b ≡ a
+
+-- the steps taken and those that are left are as many as before, unless memory ran out
+abbrev pub Counts : {X : Type 0} → Result X Stop → ℕ → ℕ → Type 0
+Counts (Ok x) a b = b ≡ a
+Counts (Err e) a b = CountsAtStop e a b
+
+-- the same, but so many steps are counted later
+abbrev pub CountsBut : {X : Type 0} → ℕ → Result X Stop → ℕ → ℕ → Type 0
+CountsBut later (Ok x) a b = b + later ≡ a
+CountsBut later (Err e) a b = CountsAtStop e a b

@@ -1,0 +1,6 @@
+pub mod FrameCode
+pub mod FrameView
+pub mod States
+pub mod Gives
+pub mod Settings
+pub mod Outcomes

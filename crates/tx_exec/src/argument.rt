@@ -1,0 +1,13 @@
+// What a name has in a frame.
+use tx_origin::Tagged;
+
+/// What a name has in a frame.
+#[derive(Drop)]
+pub enum Argument {
+    /// There is no such parameter.
+    Unbound,
+    /// There is no argument for it.
+    Missing,
+    /// The argument.
+    Here(Tagged),
+}

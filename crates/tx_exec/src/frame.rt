@@ -1,0 +1,75 @@
+// Frames.
+ghost use Rattle.std.specs.Prelude.{◌≡◌, IfOk, Option, Some, None};
+ghost use Rattle.tx_tree.specs.WideTree.{children_of};
+ghost use Rattle.tx_origin.specs.TaggedTrees.{tagged_of, kids_of};
+ghost use Rattle.tx_exec_form.specs.Frames.{call, argument_in, caller_of};
+ghost use Rattle.tx_exec.specs.FrameView.{frame_in, params_of, found_of};
+
+use crate::argument::Argument;
+use crate::macros::argument_of;
+use std::alloc::Global;
+use std::marker::Model;
+use tx_base::Memory;
+use tx_origin::Tagged;
+use tx_tree::Tree;
+
+/// A frame: a macro, whose parameters they are, the tag that calls it, whose children are the arguments, and the caller's
+/// frame.
+#[derive(Drop)]
+pub struct Call<'a> {
+    meaning: &'a Tree,
+    tag: &'a Tagged,
+    caller: Option<&'a Call<'a>>,
+}
+
+impl<'a> Model for Call<'a> {
+    ghost use Rattle.tx_exec_form.specs.Frames.{Frame};
+    ghost use Rattle.tx_exec.specs.FrameCode.{coded_Frame};
+
+    ghost Value = { Frame };
+
+    ghost coded = { coded_Frame };
+
+    ghost use Rattle.tx_exec.specs.FrameView.{frame_of, frame_depth};
+
+    ghost view = { frame_of };
+
+    ghost size = { frame_depth };
+}
+
+impl<'a> Call<'a> {
+    /// The frame of this macro, called by this tag in the frame of the caller.
+    pub fn new(meaning: &'a Tree, tag: &'a Tagged, caller: Option<&'a Call<'a>>) -> Call<'a>
+        ensures { result ≡ call (params_of (children_of meaning.now)) (kids_of (tagged_of tag.now)) (frame_in caller.entry) }
+    {
+        Call {
+            meaning,
+            tag,
+            caller,
+        }
+    }
+
+    /// The frame of the caller.
+    pub fn caller(&self) -> Option<&'a Call<'a>>
+        ensures { frame_in result ≡ caller_of self.now }
+    {
+        self.caller
+    }
+
+    /// What the name has.
+    pub fn argument(&self, alloc: Global, name: &[u8]) -> Result<Argument, Memory>
+        ensures { IfOk result (λ r. found_of r ≡ argument_in name.now self.now) }
+    {
+        argument_of(alloc, self.meaning, self.tag, name)
+    }
+}
+
+/// The frame of the caller, or none where there is no frame.
+pub fn caller_in<'a>(frame: Option<&Call<'a>>) -> Option<&'a Call<'a>>
+    ensures { frame_in result ≡ caller_of (frame_in frame.entry) }
+{
+    match frame {
+        None => None,
+        Some(call) => call.caller(),
+    }
+}

@@ -1,0 +1,125 @@
+// Rows that look names up, and rows without evaluation.
+ghost use Rattle.std.specs.Prelude.{◌≡◌, ◌+◌, ◌<◌, ◌≤◌, [], Ok, Some, None, Option, IfOk, length};
+ghost use Rattle.tx_origin.specs.Values.{plain, made, none};
+ghost use Rattle.tx_origin.specs.TaggedTrees.{tagged_of, kids_of};
+ghost use Rattle.tx_exec_form.specs.Runs.{Before};
+ghost use Rattle.tx_exec_form.specs.Rows.{value_of, provides_of, quote, macro, truth};
+ghost use Rattle.tx_exec.specs.Gives.{Gives, Counts};
+ghost use Rattle.tx_exec.specs.States.{state_of, before_of};
+
+use crate::errors::text_of;
+use crate::children::kid;
+use crate::progress::Progress;
+use crate::stop::Stop;
+use std::alloc::Global;
+use std::sync::ledger::Ledger;
+use tx_base::{Memory, Steps};
+use tx_env::Env;
+use tx_origin::{Tagged, Value, share_origin};
+use tx_tree::{Label, Text, Tree};
+
+impl Progress {
+    /// `value` of a name: its tree.
+    #[tactic(auto, unfolding(tx_exec_form::specs::Rows::value_of))]
+    pub fn value_of<L: Ledger>(
+        &mut self,
+        alloc: Global,
+        env: &Env,
+        steps: &mut Steps<L>,
+        label: &Label,
+        name: &Value,
+        levels: u32,
+    ) -> Result<Value, Stop>
+        ensures gives { Gives (λ v. v) result (value_of levels label.now name.now (before_of env.now) (state_of self.old)) (state_of self.new) }
+        ensures paid { Counts result (steps.old + self.old.left) (steps.new + self.new.left) }
+    {
+        match name.text() {
+            None => self.wrong(alloc, steps, levels, b"bad".as_slice(), label.bytes()),
+            Some(words) => match self.look(env, words)? {
+                None => self.wrong(alloc, steps, levels, b"undefined".as_slice(), words.bytes()),
+                Some(tree) => self.taken(alloc, steps, &tree, &None, levels),
+            },
+        }
+    }
+
+    /// `provides` of a name: whether it has a tree.
+    #[tactic(auto, unfolding(tx_exec_form::specs::Rows::provides_of))]
+    pub fn provides_of<L: Ledger>(
+        &mut self,
+        alloc: Global,
+        env: &Env,
+        steps: &mut Steps<L>,
+        label: &Label,
+        name: &Value,
+        levels: u32,
+    ) -> Result<Value, Stop>
+        ensures gives { Gives (λ v. v) result (provides_of levels label.now name.now (before_of env.now) (state_of self.old)) (state_of self.new) }
+        ensures paid { Counts result (steps.old + self.old.left) (steps.new + self.new.left) }
+    {
+        match name.text() {
+            None => self.wrong(alloc, steps, levels, b"bad".as_slice(), label.bytes()),
+            Some(words) => {
+                let found = self.look(env, words)?;
+                let truth = truth_of(alloc, &found)?;
+                self.word(alloc, steps, truth, levels)
+            }
+        }
+    }
+
+    /// `quote`: the child as it stands.
+    #[tactic(auto, using(crate::proofs::Shapes::quote_rules, std::proofs::lemmas::Grind::common_steps))]
+    pub fn quote<L: Ledger>(
+        &mut self,
+        alloc: Global,
+        steps: &mut Steps<L>,
+        t: &Tagged,
+        label: &Label,
+        levels: u32,
+    ) -> Result<Value, Stop>
+        ensures gives { (e : Before) → Gives (λ v. v) result (quote levels label.now (kids_of (tagged_of t.now)) e (state_of self.old)) (state_of self.new) }
+        ensures paid { Counts result (steps.old + self.old.left) (steps.new + self.new.left) }
+    {
+        if t.arity() != 1 {
+            return self.wrong(alloc, steps, levels, b"bad".as_slice(), label.bytes());
+        }
+        let quoted = kid(alloc, t, 0)?;
+        self.taken(alloc, steps, &quoted.tree, &quoted.at, levels)
+    }
+
+    /// `macro`: itself.
+    #[tactic(auto, using(crate::proofs::Shapes::macro_rules, tx_origin::proofs::Wholes::plain_whole, std::proofs::lemmas::Grind::common_steps))]
+    pub fn macro_itself<L: Ledger>(
+        &mut self,
+        alloc: Global,
+        steps: &mut Steps<L>,
+        t: &Tagged,
+        label: &Label,
+        levels: u32,
+    ) -> Result<Value, Stop>
+        ensures gives { (e : Before) → Gives (λ v. v) result (macro levels label.now (tagged_of t.now) (kids_of (tagged_of t.now)) e (state_of self.old)) (state_of self.new) }
+        ensures paid { Counts result (steps.old + self.old.left) (steps.new + self.new.left) }
+    {
+        if t.arity() == 0 {
+            return self.wrong(alloc, steps, levels, b"bad".as_slice(), label.bytes());
+        }
+        self.need(t.tree.depth(), levels)?;
+        self.pay(steps, t.tree.size() - 1)?;
+        Ok(Value::whole(alloc, &t.tree, &t.at)?)
+    }
+}
+
+fn truth_of(alloc: Global, found: &Option<Tree>) -> Result<Text, Memory>
+    ensures { IfOk result (λ t. t ≡ truth found.now) }
+{
+    match found {
+        None => text_of(alloc, b"false".as_slice()),
+        Some(_) => text_of(alloc, b"true".as_slice()),
+    }
+}
+
+/// The node with this label and this origin, and no parts.
+pub fn without_parts(alloc: Global, label: &Label, t: &Tagged) -> Result<Value, Memory>
+    ensures { IfOk result (λ v. v ≡ made label.now none t.now.at) }
+{
+    Value::node(alloc, label.copy()?, Vec::new(alloc), share_origin(&t.at)?)
+}

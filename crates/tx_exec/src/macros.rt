@@ -1,0 +1,84 @@
+// Macros, their bodies and their arguments.
+ghost use Rattle.std.specs.Prelude.{◌≡◌, ◌+◌, ◌≤◌, Ok, Some, None, Option, IfOk, MatchOption, length};
+ghost use Rattle.tx_tree.specs.WideTree.{children_of};
+ghost use Rattle.tx_origin.specs.TaggedTrees.{tagged_of, kids_of};
+ghost use Rattle.std.specs.Prelude.{drop};
+ghost use Rattle.tx_exec_form.specs.Frames.{argument, first_of};
+ghost use Rattle.tx_exec_form.specs.Rows.{is_macro, macro_in};
+ghost use Rattle.tx_exec.specs.FrameView.{params_of, found_of, word_of};
+ghost use Rattle.std.specs.Prelude.{◌<◌};
+
+use crate::argument::Argument;
+use std::alloc::Global;
+use tx_base::Memory;
+use tx_origin::Tagged;
+use tx_tree::{Text, Tree};
+
+/// Whether the tree is a `macro`.
+pub fn is_macro(tree: &Tree) -> bool
+    ensures { result ≡ is_macro tree.now }
+{
+    match tree.label() {
+        None => false,
+        Some(label) => label.bytes() == b"macro".as_slice(),
+    }
+}
+
+/// The last child, where all before it are texts.
+#[tactic(auto, using(crate::proofs::Bodies::body_rules, std::proofs::lemmas::Grind::common_steps))]
+pub fn body_of(tree: &Tree) -> Option<&Tree>
+    ensures { MatchOption result (macro_in (children_of tree.now) ≡ None) (λ b. macro_in (children_of tree.now) ≡ Some (params_of (children_of tree.now), b.now)) }
+{
+    let kids = tree.children();
+    if kids.is_empty() {
+        return None;
+    }
+    let last = kids.len() - 1;
+    for i in 0..last {
+        if kids[i].text().is_none() {
+            return None;
+        }
+    }
+    Some(&kids[last])
+}
+
+// The text of a leaf, or nothing.
+fn word_of(tree: &Tree) -> &[u8]
+    ensures { result.now ≡ word_of tree.now }
+{
+    match tree.text() {
+        None => &[],
+        Some(text) => text.bytes(),
+    }
+}
+
+/// What the name has where these are the parameters of a macro and these the arguments.
+#[tactic(auto, using(crate::proofs::Bodies::argument_rules, tx_origin::proofs::Kids::kid_rules, std::proofs::lemmas::Grind::common_steps))]
+pub fn argument_of(alloc: Global, meaning: &Tree, tag: &Tagged, name: &[u8]) -> Result<Argument, Memory>
+    ensures { IfOk result (λ r. found_of r ≡ argument name.now (params_of (children_of meaning.now)) (kids_of (tagged_of tag.now))) }
+{
+    let count = meaning.arity();
+    if count == 0 {
+        return Ok(Argument::Unbound);
+    }
+    for i in 0..count - 1 {
+        let Some(kid) = meaning.child(i) else {
+            unreachable!()
+        };
+        if word_of(kid) == name {
+            return argument_at(alloc, tag, i);
+        }
+    }
+    Ok(Argument::Unbound)
+}
+
+// The argument of this number.
+#[tactic(auto, using(crate::proofs::Bodies::first_rules, std::proofs::lemmas::Grind::common_steps))]
+fn argument_at(alloc: Global, tag: &Tagged, i: u32) -> Result<Argument, Memory>
+    ensures { IfOk result (λ r. found_of r ≡ first_of (drop i (kids_of (tagged_of tag.now)))) }
+{
+    match tag.child(alloc, i)? {
+        None => Ok(Argument::Missing),
+        Some(found) => Ok(Argument::Here(found)),
+    }
+}

@@ -1,0 +1,90 @@
+// The trace of a tree.
+ghost use Rattle.std.specs.Prelude.{◌≡◌, ◌+◌, ◌≤◌, Some, IfOk};
+ghost use Rattle.tx_origin.specs.TaggedTrees.{tagged_of};
+ghost use Rattle.tx_exec_form.specs.Evaluated.{evaluated, paid, trace_of};
+ghost use Rattle.tx_exec.specs.States.{before_of, state_of};
+ghost use Rattle.tx_exec.specs.Outcomes.{wide_outcome};
+
+use crate::looks::Looks;
+use crate::progress::Progress;
+use crate::stop::Stop;
+use std::alloc::Global;
+use std::sync::ledger::Ledger;
+use tx_base::{Memory, Steps};
+use tx_env::{Env, Writes};
+use tx_origin::{Tagged, Value};
+
+/// What a tree comes to where it is evaluated.
+#[derive(Drop)]
+pub struct Trace {
+    /// Its value.
+    pub value: Value,
+    /// The names that were looked up and not set before, with what they had. Each stands once.
+    pub looks: Looks,
+    /// The names that are set at the end, with their trees. Each stands once.
+    pub writes: Writes,
+    /// The fewest steps that suffice.
+    pub cost: u64,
+    /// The fewest levels that suffice.
+    pub height: u32,
+}
+
+/// A trace, or that steps or levels ran out.
+#[derive(Drop)]
+pub enum Outcome {
+    /// The trace.
+    Done(Trace),
+    /// Steps or levels ran out.
+    Over,
+}
+
+/// The trace of the tree without a frame, where this many steps are allowed, at most 1,000,000, and 400 levels.
+///
+/// `Over` is answered exactly where the cost passes the allowance or the height passes 400. The steps rise by the cost, or
+/// by the allowance where it is over. The environment is as before after every answer.
+pub fn eval<L: Ledger>(
+    alloc: Global,
+    t: &Tagged,
+    env: &mut Env,
+    allowance: u64,
+    steps: &mut Steps<L>,
+) -> Result<Outcome, Memory>
+    requires { allowance ≤ 1000000 }
+    ensures exact { IfOk result (λ o. wide_outcome o ≡ evaluated (tagged_of t.now) (before_of env.old) allowance) }
+    ensures counted { IfOk result (λ o. steps.new ≡ steps.old + paid allowance (wide_outcome o)) }
+    ensures env { env.new ≡ env.old }
+{
+    let mut progress = Progress::begin(alloc, allowance);
+    match progress.ev(alloc, env, steps, t, None, 400) {
+        Ok(value) => trace_from(alloc, value, progress, allowance),
+        Err(Stop::Over) => {
+            steps.add(progress.left);
+            Ok(Outcome::Over)
+        }
+        Err(Stop::Memory) => Err(Memory),
+    }
+}
+
+// The trace of this value, where the rest was used.
+fn trace_from(
+    alloc: Global,
+    value: Value,
+    progress: Progress,
+    allowance: u64,
+) -> Result<Outcome, Memory>
+    requires left { progress.left ≤ allowance }
+    requires slack { progress.slack ≤ 400 }
+    ensures { IfOk result (λ o. wide_outcome o ≡ Some (trace_of 400 allowance value (state_of progress))) }
+{
+    let cost = allowance - progress.left;
+    let height = 400 - progress.slack;
+    let looks = progress.looks.into_looks(alloc)?;
+    let writes = progress.own.into_writes(alloc)?;
+    Ok(Outcome::Done(Trace {
+        value,
+        looks,
+        writes,
+        cost,
+        height,
+    }))
+}
