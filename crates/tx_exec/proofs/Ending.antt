@@ -24,7 +24,6 @@ use Rattle.tx_exec_form.specs.Evaluated.{WideTrace, start, trace_of, traced, eva
 use Rattle.tx_exec_form.proofs.Agreeing.{same}
 use Rattle.tx_exec.specs.States.{set_pairs}
 
-
 not_set : (x : Name) (ps : Pairs) → AllByRecursion (λ y. bytes_eq x y ≡ false) (keys_of ps) → find (slice_cmp nat_cmp) x (set_pairs ps) ≡ None
 not_set x [] h = refl
 not_set x ((y, None) ∷ ps) h = not_set x ps h.1

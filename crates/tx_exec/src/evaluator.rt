@@ -11,9 +11,9 @@ ghost use Rattle.tx_exec.specs.Settings.{sets_of, nodes_in};
 ghost use Rattle.tx_exec.specs.States.{state_of, before_of};
 
 use crate::argument::Argument;
+use crate::children::kid;
 use crate::errors::text_of;
 use crate::frame::{Call, caller_in};
-use crate::children::kid;
 use crate::looking::without_parts;
 use crate::macros::{body_of, is_macro};
 use crate::numbers::{numbers_in, part_at};
@@ -140,7 +140,16 @@ impl Progress {
             Row::Eval => self.only(alloc, env, steps, t, label, Unary::Eval, frame, levels),
             Row::Macro => self.macro_itself(alloc, steps, t, label, levels),
             Row::Quote => self.quote(alloc, steps, t, label, levels),
-            Row::Arg => self.arg(alloc, env, steps, t, label, Taking::Evaluated, frame, levels),
+            Row::Arg => self.arg(
+                alloc,
+                env,
+                steps,
+                t,
+                label,
+                Taking::Evaluated,
+                frame,
+                levels,
+            ),
             Row::QuoteArg => {
                 self.arg(alloc, env, steps, t, label, Taking::Quoted, frame, levels)
             }
@@ -517,7 +526,9 @@ impl Progress {
                 self.wrong(alloc, steps, levels, b"missing".as_slice(), name.bytes())
             }
             Argument::Here(found) => {
-                self.arg_part(alloc, env, steps, t, &found, label, name, taking, frame, levels)
+                self.arg_part(
+                    alloc, env, steps, t, &found, label, name, taking, frame, levels,
+                )
             }
         }
     }
@@ -575,9 +586,7 @@ impl Progress {
         ensures paid { Counts result (steps.old + self.old.left) (steps.new + self.new.left) }
     {
         match taking {
-            Taking::Evaluated => {
-                self.ev(alloc, env, steps, part, caller_in(frame), levels - 1)
-            }
+            Taking::Evaluated => { self.ev(alloc, env, steps, part, caller_in(frame), levels - 1) }
             Taking::Quoted => self.taken(alloc, steps, &part.tree, &part.at, levels),
         }
     }

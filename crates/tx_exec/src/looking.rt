@@ -7,8 +7,8 @@ ghost use Rattle.tx_exec_form.specs.Rows.{value_of, provides_of, quote, macro, t
 ghost use Rattle.tx_exec.specs.Gives.{Gives, Counts};
 ghost use Rattle.tx_exec.specs.States.{state_of, before_of};
 
-use crate::errors::text_of;
 use crate::children::kid;
+use crate::errors::text_of;
 use crate::progress::Progress;
 use crate::stop::Stop;
 use std::alloc::Global;

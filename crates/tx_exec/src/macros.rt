@@ -54,7 +54,12 @@ fn word_of(tree: &Tree) -> &[u8]
 
 /// What the name has where these are the parameters of a macro and these the arguments.
 #[tactic(auto, using(crate::proofs::Bodies::argument_rules, tx_origin::proofs::Kids::kid_rules, std::proofs::lemmas::Grind::common_steps))]
-pub fn argument_of(alloc: Global, meaning: &Tree, tag: &Tagged, name: &[u8]) -> Result<Argument, Memory>
+pub fn argument_of(
+    alloc: Global,
+    meaning: &Tree,
+    tag: &Tagged,
+    name: &[u8],
+) -> Result<Argument, Memory>
     ensures { IfOk result (λ r. found_of r ≡ argument name.now (params_of (children_of meaning.now)) (kids_of (tagged_of tag.now))) }
 {
     let count = meaning.arity();

@@ -96,11 +96,7 @@ pub fn pairs_in(arity: u32) -> Option<u32>
     ensures { MatchOption result ((n : ℕ) × (arity ≡ 2 * n)) (λ n. arity ≡ 2 * n + 1) }
 {
     let half = arity / 2;
-    if arity == 2 * half {
-        None
-    } else {
-        Some(half)
-    }
+    if arity == 2 * half { None } else { Some(half) }
 }
 
 /// The text of a value, or None where it is a node.

@@ -26,8 +26,8 @@ level-returns-clause-gives g t c =
 pub assign-returns-clause-gives : goal.assign-returns-clause-gives
 assign-returns-clause-gives g t c =
     gives_as (λ v. v) c.assigned.result _ _ _
-      (ap (λ m. m (before_of c.args.env.now) (state_of c.args.self.now)) (two_kids c.args.levels (ex (c.args.levels - 1)) (frame_in c.args.frame) c.args.label.now c.args.t.now.at (kids_of (tagged_of c.args.t.now)) (tagged_of c.in_ok-x.x) (tagged_of c.in_ok-v.v) (search rules) c.in_ok-x.ensures c.in_ok-v.ensures))
-      c.assigned.ensures.gives
+    (ap (λ m. m (before_of c.args.env.now) (state_of c.args.self.now)) (two_kids c.args.levels (ex (c.args.levels - 1)) (frame_in c.args.frame) c.args.label.now c.args.t.now.at (kids_of (tagged_of c.args.t.now)) (tagged_of c.in_ok-x.x) (tagged_of c.in_ok-v.v) (search rules) c.in_ok-x.ensures c.in_ok-v.ensures))
+    c.assigned.ensures.gives
 
 pub each-returns-in_err-value-clause-gives : goal.each-returns-in_err-value-clause-gives
 each-returns-in_err-value-clause-gives g t c =
@@ -44,12 +44,11 @@ each-loop-i-preserved g t c =
       depth = next_depth _ _ _ _ c.in_ok-push.ensures.items c.loop-i.invariant.depth c.in_ok-value.ensures.depth;
     }
 
-
 pub with_row-returns-in-Some-clause-gives : goal.with_row-returns-in-Some-clause-gives
 with_row-returns-in-Some-clause-gives g t c =
     gives_as (λ v. v) c.with_parts.result _ _ _
-      (ap (λ m. m (before_of c.args.env.now) (state_of c.args.self.now)) (row_odd c.args.levels (ex (c.args.levels - 1)) (frame_in c.args.frame) c.args.label.now c.args.t.now.at (kids_of (tagged_of c.args.t.now)) c.in-Some.pairs (search (rules, c.in-Some.ensures, c.arity.ensures))))
-      c.with_parts.ensures.gives
+    (ap (λ m. m (before_of c.args.env.now) (state_of c.args.self.now)) (row_odd c.args.levels (ex (c.args.levels - 1)) (frame_in c.args.frame) c.args.label.now c.args.t.now.at (kids_of (tagged_of c.args.t.now)) c.in-Some.pairs (search (rules, c.in-Some.ensures, c.arity.ensures))))
+    c.with_parts.ensures.gives
 
 pub with_row-returns-in-None-clause-gives : goal.with_row-returns-in-None-clause-gives
 with_row-returns-in-None-clause-gives g t c =

@@ -35,12 +35,12 @@ decreases-assigned g l = 10 * l.levels - 2
 
 abbrev pub invariant-each-loop-i : goal.invariant-each-loop-i
 invariant-each-loop-i g l = record {
-    run : each (ex l.levels) (frame_in l.frame) l.values.items (drop l.i (kids_of (tagged_of l.t))) (before_of l.env) (state_of l.self) ≡ each (ex l.fn.levels) (frame_in l.fn.frame) [] (drop l.fn.first (kids_of (tagged_of l.fn.t))) (before_of l.fn.env) (state_of l.fn.self);
-    paid : l.steps + l.self.left ≡ l.fn.steps + l.fn.self.left;
-    arity : length l.values.items + l.fn.first ≡ l.i;
-    size : total_size (plains (vals l.values.items)) + l.self.left ≤ l.fn.self.left;
-    depth : deepest (plains (vals l.values.items)) ≤ l.fn.levels;
-  }
+  run : each (ex l.levels) (frame_in l.frame) l.values.items (drop l.i (kids_of (tagged_of l.t))) (before_of l.env) (state_of l.self) ≡ each (ex l.fn.levels) (frame_in l.fn.frame) [] (drop l.fn.first (kids_of (tagged_of l.fn.t))) (before_of l.fn.env) (state_of l.fn.self);
+  paid : l.steps + l.self.left ≡ l.fn.steps + l.fn.self.left;
+  arity : length l.values.items + l.fn.first ≡ l.i;
+  size : total_size (plains (vals l.values.items)) + l.self.left ≤ l.fn.self.left;
+  depth : deepest (plains (vals l.values.items)) ≤ l.fn.levels;
+}
 
 abbrev pub decreases-tag : goal.decreases-tag
 decreases-tag g l = 10 * l.levels - 1
@@ -71,10 +71,10 @@ decreases-with_body g l = 10 * l.levels - 3
 
 abbrev pub invariant-with_parts-loop-i : goal.invariant-with_parts-loop-i
 invariant-with_parts-loop-i g l = record {
-    run : with_parts l.levels (ex (l.levels - 1)) (frame_in l.frame) l.label l.t.at l.values.items (sets_of l.settings.items) (drop (2 * l.i) (kids_of (tagged_of l.t))) (before_of l.env) (state_of l.self) ≡ with_parts l.fn.levels (ex (l.fn.levels - 1)) (frame_in l.fn.frame) l.fn.label l.fn.t.at [] [] (kids_of (tagged_of l.fn.t)) (before_of l.fn.env) (state_of l.fn.self);
-    paid : l.steps + l.self.left ≡ l.fn.steps + l.fn.self.left;
-    told : IsTold l.values.items l.settings.items l.total l.nodes l.self.left l.fn.self.left (l.fn.levels - 1) l.i;
-  }
+  run : with_parts l.levels (ex (l.levels - 1)) (frame_in l.frame) l.label l.t.at l.values.items (sets_of l.settings.items) (drop (2 * l.i) (kids_of (tagged_of l.t))) (before_of l.env) (state_of l.self) ≡ with_parts l.fn.levels (ex (l.fn.levels - 1)) (frame_in l.fn.frame) l.fn.label l.fn.t.at [] [] (kids_of (tagged_of l.fn.t)) (before_of l.fn.env) (state_of l.fn.self);
+  paid : l.steps + l.self.left ≡ l.fn.steps + l.fn.self.left;
+  told : IsTold l.values.items l.settings.items l.total l.nodes l.self.left l.fn.self.left (l.fn.levels - 1) l.i;
+}
 
 abbrev pub decreases-only_child : goal.decreases-only_child
 decreases-only_child g l = 10 * l.levels - 2

@@ -7,6 +7,6 @@ use Rattle.tx_exec.proofs.progress.Progress.set_all.Given as goal
 
 abbrev pub invariant-loop-held : goal.invariant-loop-held
 invariant-loop-held l = record {
-    run : (e : Before) → set_all (held_of (take l.held-index l.names)) e (state_of l.fn.self) ≡ Done tt (state_of l.self);
-    left : l.self.left ≡ l.fn.self.left;
-  }
+  run : (e : Before) → set_all (held_of (take l.held-index l.names)) e (state_of l.fn.self) ≡ Done tt (state_of l.self);
+  left : l.self.left ≡ l.fn.self.left;
+}
