@@ -72,7 +72,7 @@ const FAULTS: &[Faulty<'static>] = &[
 
 fn first_wrong_fault<L: Ledger>(
     alloc: Global,
-    rows: &[Faulty<'_>],
+    rows: &[Faulty<'static>],
     blank: Blank,
 ) -> Result<Option<usize>, AllocError>
     requires name { blank.name ≡ L.name }
@@ -115,7 +115,7 @@ const CUTS: &[Cut<'static>] = &[
 
 fn first_wrong_cut<L: Ledger>(
     alloc: Global,
-    rows: &[Cut<'_>],
+    rows: &[Cut<'static>],
     blank: Blank,
 ) -> Result<Option<usize>, AllocError>
     requires name { blank.name ≡ L.name }

@@ -33,7 +33,8 @@ fn add_deep(bytes: &mut Vec<u8>, nodes: usize) -> Result<(), AllocError> {
     add_times(bytes, "(document ", 1)?;
     add_times(bytes, "(a ", nodes)?;
     add_times(bytes, "\"x\"", 1)?;
-    add_times(bytes, ")", nodes + 1)
+    add_times(bytes, ")", nodes)?;
+    add_times(bytes, ")", 1)
 }
 
 fn add_text(bytes: &mut Vec<u8>, part: &str, times: usize) -> Result<(), AllocError> {
@@ -248,7 +249,7 @@ const SHOWN: &[Run<'static>] = &[
 
 fn ends_greatly<L: Ledger>(
     alloc: Global,
-    row: &Run,
+    row: &Run<'static>,
     steps: &mut Steps<L>,
 ) -> Result<bool, AllocError> {
     let mut bytes = Vec::new(alloc);
@@ -273,7 +274,7 @@ fn ends_greatly<L: Ledger>(
 
 fn first_wrong_run<L: Ledger>(
     alloc: Global,
-    rows: &[Run<'_>],
+    rows: &[Run<'static>],
     blank: Blank,
 ) -> Result<Option<usize>, AllocError>
     requires name { blank.name ≡ L.name }

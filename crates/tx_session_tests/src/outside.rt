@@ -161,7 +161,7 @@ pub fn ends<L: Ledger>(
 // The first row whose script, over the file `a.scm` with this tree, doesn't end well with this text.
 pub fn first_wrong_reply<L: Ledger>(
     alloc: Global,
-    rows: &[(&str, &str, &str)],
+    rows: &[(&'static str, &'static str, &'static str)],
     slowly: bool,
     blank: Blank,
 ) -> Result<Option<usize>, AllocError>

@@ -69,7 +69,7 @@ const SAVED: &[Saved<'static>] = &[
 
 fn first_wrong_save<L: Ledger>(
     alloc: Global,
-    rows: &[Saved<'_>],
+    rows: &[Saved<'static>],
     blank: Blank,
 ) -> Result<Option<usize>, AllocError>
     requires name { blank.name ≡ L.name }
@@ -113,7 +113,7 @@ const UNSAVED: &[Unsaved<'static>] = &[
 
 fn first_wrong_failure<L: Ledger>(
     alloc: Global,
-    rows: &[Unsaved<'_>],
+    rows: &[Unsaved<'static>],
     blank: Blank,
 ) -> Result<Option<usize>, AllocError>
     requires name { blank.name ≡ L.name }

@@ -91,21 +91,31 @@ struct Turns {
     back: u64,
 }
 
+fn turns<L: Ledger>(
+    alloc: Global,
+    state: &mut EditorState,
+    m: &Mod,
+    count: u64,
+    steps: &mut Steps<L>,
+) -> Option<Turns> {
+    Some(Turns {
+        edited: repeat(alloc, state, m, count, steps)?,
+        undone: undo_all(alloc, state, 2000, steps)?,
+        left: size_told(alloc, state)?,
+        redone: redo_all(alloc, state, 2000, steps)?,
+        back: size_told(alloc, state)?,
+    })
+}
+
 fn to_the_end<L: Ledger>(alloc: Global, count: u64, blank: Blank) -> Option<Turns>
     requires name { blank.name ≡ L.name }
     requires parts { blank.parts ≡ L.parts }
     requires whole { blank.parts ≡ 1 }
 {
     let mut steps = Steps::<L>::new(blank);
-    let mut state = opened(alloc, "(document \"\")", &mut steps)?;
     let m = change(alloc, "insert /0 0 \"x\"", &mut steps)?;
-    Some(Turns {
-        edited: repeat(alloc, &mut state, &m, count, &mut steps)?,
-        undone: undo_all(alloc, &mut state, 2000, &mut steps)?,
-        left: size_told(alloc, &state)?,
-        redone: redo_all(alloc, &mut state, 2000, &mut steps)?,
-        back: size_told(alloc, &state)?,
-    })
+    let mut state = opened(alloc, "(document \"\")", &mut steps)?;
+    turns(alloc, &mut state, &m, count, &mut steps)
 }
 
 #[test]

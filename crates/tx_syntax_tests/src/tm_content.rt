@@ -72,6 +72,9 @@ const CONTENT: &[TreeRow] = &[
     (b"a\tb", b"(document \"a b\")"),
     (b"a\rb", b"(document \"a b\")"),
     (b"a\nb", b"(document \"a b\")"),
+];
+
+const MORE_CONTENT: &[TreeRow] = &[
     (b"a \t\r\n b", b"(document \"a b\")"),
     (b"a\n\nb", b"(document \"a\" \"b\")"),
     (b"a\n \t\r\nb", b"(document \"a\" \"b\")"),
@@ -109,6 +112,9 @@ const CONTENT: &[TreeRow] = &[
     (b"a \\\nb", b"(document \"a b\")"),
     (b"a\\\n\nb", b"(document \"a b\")"),
     (b"a\\\n\n\nb", b"(document \"a\" \"b\")"),
+];
+
+const FURTHER_CONTENT: &[TreeRow] = &[
     (b"a\n\\\nb", b"(document \"a b\")"),
     (b"a\n\\\n \n b", b"(document \"a\" \"b\")"),
     (b"a\\\n\rb", b"(document \"a b\")"),
@@ -146,6 +152,9 @@ const CONTENT: &[TreeRow] = &[
     (b"\\;\n\n\\;", b"(document \"\" \"\")"),
     (b"\\;\n\n", b"(document \"\")"),
     (b"<f|\\;>", b"(document (f \"\"))"),
+];
+
+const LAST_CONTENT: &[TreeRow] = &[
     (b"<f|\\; >", b"(document (f \" \"))"),
     (b"a\n\n\\;\n\nb", b"(document \"a\" \"\" \"b\")"),
     (b"<f>\\;<g>", b"(document (concat (f) (g)))"),
@@ -191,4 +200,19 @@ const CONTENT: &[TreeRow] = &[
 #[test]
 fn content_in_tm(rt: HostRuntime) {
     assert_eq!(rt; first_misread(rt.alloc(), Form::Tm, CONTENT), None);
+}
+
+#[test]
+fn content_in_tm_more(rt: HostRuntime) {
+    assert_eq!(rt; first_misread(rt.alloc(), Form::Tm, MORE_CONTENT), None);
+}
+
+#[test]
+fn content_in_tm_and_more(rt: HostRuntime) {
+    assert_eq!(rt; first_misread(rt.alloc(), Form::Tm, FURTHER_CONTENT), None);
+}
+
+#[test]
+fn content_in_tm_last(rt: HostRuntime) {
+    assert_eq!(rt; first_misread(rt.alloc(), Form::Tm, LAST_CONTENT), None);
 }

@@ -64,6 +64,9 @@ const FAULTS: &[FaultRow] = &[
     (b"\\<a\\0\\>", ReadFault::BadText(4)),
     (b"\\<\\<a\\>\\>", ReadFault::BadText(3)),
     (b"\\<a\n\\>", ReadFault::BadText(3)),
+];
+
+const MORE_FAULTS: &[FaultRow] = &[
     (b"\\<<f>\\>", ReadFault::BadText(2)),
     (b"\\<a\\\r\\>", ReadFault::BadEscape(5)),
     (
@@ -134,6 +137,9 @@ const FAULTS: &[FaultRow] = &[
     (b"<#\\>", ReadFault::BadText(3)),
     (b"</f>", ReadFault::Stray(1)),
     (b"<|f>", ReadFault::Stray(1)),
+];
+
+const FURTHER_FAULTS: &[FaultRow] = &[
     (b"<\\collection>", ReadFault::Unclosed(13)),
     (
         b"<\\collection><a></collections>",
@@ -207,6 +213,9 @@ const FAULTS: &[FaultRow] = &[
     (b"a\\>", ReadFault::BadText(2)),
     (b"<#\\>", ReadFault::BadText(3)),
     (b"<#4\\>", ReadFault::BadText(4)),
+];
+
+const LAST_FAULTS: &[FaultRow] = &[
     (b"\\<\\>", ReadFault::BadText(3)),
     (b"\\<a|b\\>", ReadFault::BadText(3)),
     (b"\\<a b\\>", ReadFault::BadText(3)),
@@ -278,4 +287,19 @@ const FAULTS: &[FaultRow] = &[
 #[test]
 fn faults_in_tm(rt: HostRuntime) {
     assert_eq!(rt; first_unrefused(rt.alloc(), Form::Tm, FAULTS), None);
+}
+
+#[test]
+fn faults_in_tm_more(rt: HostRuntime) {
+    assert_eq!(rt; first_unrefused(rt.alloc(), Form::Tm, MORE_FAULTS), None);
+}
+
+#[test]
+fn faults_in_tm_and_more(rt: HostRuntime) {
+    assert_eq!(rt; first_unrefused(rt.alloc(), Form::Tm, FURTHER_FAULTS), None);
+}
+
+#[test]
+fn faults_in_tm_last(rt: HostRuntime) {
+    assert_eq!(rt; first_unrefused(rt.alloc(), Form::Tm, LAST_FAULTS), None);
 }
