@@ -91,7 +91,7 @@ struct Turns {
     back: u64,
 }
 
-fn turns<L: Ledger>(
+fn turned_over<L: Ledger>(
     alloc: Global,
     state: &mut EditorState,
     m: &Mod,
@@ -115,7 +115,7 @@ fn to_the_end<L: Ledger>(alloc: Global, count: u64, blank: Blank) -> Option<Turn
     let mut steps = Steps::<L>::new(blank);
     let m = change(alloc, "insert /0 0 \"x\"", &mut steps)?;
     let mut state = opened(alloc, "(document \"\")", &mut steps)?;
-    turns(alloc, &mut state, &m, count, &mut steps)
+    turned_over(alloc, &mut state, &m, count, &mut steps)
 }
 
 #[test]
