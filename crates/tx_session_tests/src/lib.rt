@@ -1,0 +1,13 @@
+//! Tests of runs and sessions over memory. Each test is a table and asks for its first wrong row.
+#![tactic(auto)]
+
+#[cfg(test)]
+mod edits;
+#[cfg(test)]
+mod lines;
+#[cfg(test)]
+mod outside;
+#[cfg(test)]
+mod pages;
+#[cfg(test)]
+mod statuses;

@@ -1,0 +1,185 @@
+// What a run has outside itself: files, an input and an output in memory; and whether it ends as is wanted.
+ghost use Rattle.std.specs.Prelude.{◌≡◌, Some};
+
+use std::alloc::{AllocError, Global};
+use std::sync::ledger::{Blank, Ledger};
+use tx_base::Steps;
+use tx_outside::{Failed, MemSink, MemSource, MemStore, Source, StoredFile};
+use tx_session::{Status, run};
+
+// How a run is set up: the one file of the store, the words between bars, the script, the calls of the store, of the input and
+// of the sink that fail, the room of the sink, and whether the input gives one byte a call.
+#[derive(Clone, Copy)]
+pub struct Setting<'a> {
+    pub name: &'a str,
+    pub bytes: &'a [u8],
+    pub words: &'a str,
+    pub script: &'a [u8],
+    pub store_failing: &'a [u64],
+    pub input_failing: &'a [u64],
+    pub sink_failing: &'a [u64],
+    pub room: usize,
+    pub slowly: bool,
+}
+
+// The file `a.scm` with the tree `(f)`, and no fault.
+pub const OF_A: Setting<'static> = Setting {
+    name: "a.scm",
+    bytes: b"(f )",
+    words: "tmx|a.scm",
+    script: b"",
+    store_failing: &[],
+    input_failing: &[],
+    sink_failing: &[],
+    room: 500,
+    slowly: false,
+};
+
+// A source that gives one byte a call, and counts the calls.
+#[derive(Drop)]
+pub struct SlowSource {
+    source: MemSource,
+    pub reads: usize,
+}
+
+impl Source for SlowSource {
+    ghost left = { λ slow. Some slow.source.left };
+
+    ghost faults = { λ slow. slow.source.calls.faults };
+
+    fn read(&mut self, into: &mut [u8]) -> Result<usize, Failed> {
+        let mut one = [0u8];
+        self.reads = self.reads.saturating_add(1);
+        let count = self.source.read(&mut one)?;
+        if count > 0 {
+            into[0] = one[0];
+        }
+        Ok(count)
+    }
+}
+
+// What a run is given.
+#[derive(Drop)]
+pub struct Outside {
+    words: Vec<String>,
+    pub store: MemStore,
+    pub input: SlowSource,
+    pub out: MemSink,
+}
+
+fn words_of(alloc: Global, words: &str) -> Result<Vec<String>, AllocError> {
+    let mut owned = Vec::new(alloc);
+    for word in words.split('|') {
+        owned.push(String::from_str(alloc, word)?)?;
+    }
+    Ok(owned)
+}
+
+fn store_of(alloc: Global, setting: &Setting) -> Result<MemStore, AllocError> {
+    let name = Vec::from_slice(alloc, setting.name.as_bytes())?;
+    let file = StoredFile::new(name, Vec::from_slice(alloc, setting.bytes)?);
+    let files = vec![in alloc; file]?;
+    Ok(MemStore::new(files, Vec::from_slice(alloc, setting.store_failing)?))
+}
+
+fn source_of(alloc: Global, setting: &Setting) -> Result<SlowSource, AllocError> {
+    let failing = Vec::from_slice(alloc, setting.input_failing)?;
+    let source = MemSource::new(Vec::from_slice(alloc, setting.script)?, failing);
+    Ok(SlowSource { source, reads: 0 })
+}
+
+pub fn sink_of(alloc: Global, room: usize, failing: &[u64]) -> Result<MemSink, AllocError> {
+    match MemSink::new(alloc, room, Vec::from_slice(alloc, failing)?) {
+        Ok(sink) => Ok(sink),
+        Err(_) => Err(AllocError),
+    }
+}
+
+pub fn outside_of(alloc: Global, setting: &Setting) -> Result<Outside, AllocError> {
+    Ok(Outside {
+        words: words_of(alloc, setting.words)?,
+        store: store_of(alloc, setting)?,
+        input: source_of(alloc, setting)?,
+        out: sink_of(alloc, setting.room, setting.sink_failing)?,
+    })
+}
+
+// The status of the run.
+pub fn ended<L: Ledger>(
+    alloc: Global,
+    outside: &mut Outside,
+    slowly: bool,
+    steps: &mut Steps<L>,
+) -> Status {
+    let Outside {
+        words,
+        store,
+        input,
+        out,
+    } = outside;
+    if slowly {
+        run(alloc, words, store, input, out, steps)
+    } else {
+        run(alloc, words, store, &mut input.source, out, steps)
+    }
+}
+
+// Whether the run ends with this status, has written this text, and this file then holds these bytes.
+pub fn ends_with<L: Ledger>(
+    alloc: Global,
+    setting: &Setting,
+    wanted: (Status, &[u8]),
+    file: (&str, &[u8]),
+    steps: &mut Steps<L>,
+) -> Result<bool, AllocError> {
+    let mut outside = outside_of(alloc, setting)?;
+    let status = ended(alloc, &mut outside, setting.slowly, steps);
+    Ok(
+        status == wanted.0
+            && outside.out.written() == wanted.1
+            && outside.store.file(file.0.as_bytes()).unwrap_or(b"none") == file.1,
+    )
+}
+
+// Whether the run ends with this status and has written this text.
+pub fn ends<L: Ledger>(
+    alloc: Global,
+    setting: &Setting,
+    status: Status,
+    text: &str,
+    steps: &mut Steps<L>,
+) -> Result<bool, AllocError> {
+    ends_with(
+        alloc,
+        setting,
+        (status, text.as_bytes()),
+        ("", b"none"),
+        steps,
+    )
+}
+
+// The first row whose script, over the file `a.scm` with this tree, doesn't end well with this text.
+pub fn first_wrong_reply<L: Ledger>(
+    alloc: Global,
+    rows: &[(&'static str, &'static str, &'static str)],
+    slowly: bool,
+    blank: Blank,
+) -> Result<Option<usize>, AllocError>
+    requires name { blank.name ≡ L.name }
+    requires parts { blank.parts ≡ L.parts }
+    requires whole { blank.parts ≡ 1 }
+{
+    let mut steps = Steps::<L>::new(blank);
+    for (number, row) in rows.iter().enumerate() {
+        let setting = Setting {
+            bytes: row.0.as_bytes(),
+            script: row.1.as_bytes(),
+            slowly,
+            ..OF_A
+        };
+        if !ends(alloc, &setting, Status::Ok, row.2, &mut steps)? {
+            return Ok(Some(number));
+        }
+    }
+    Ok(None)
+}
