@@ -1,5 +1,5 @@
 -- What was set at the end, as a finite map.
-use Rattle.std.proofs.Common.{◌≡◌, ℕ, Bool, true, false, cond, List, [], ◌∷◌, ◌++◌, append_assoc, refl, sym, ap, ◌∙◌}
+use Rattle.std.proofs.Common.{◌≡◌, ℕ, Bool, true, false, cond, List, [], ◌∷◌, ◌++◌, append_assoc, refl, sym, ap, subst, ◌↔◌, ◌∙◌}
 use Rattle.std.specs.Prelude.{Option, Some, None}
 use Rattle.std.specs.List.{IsDistinct, AllByRecursion}
 use Rattle.std.specs.Map.{keys_of}
@@ -22,7 +22,12 @@ use Rattle.tx_exec_form.specs.Frames.{top}
 use Rattle.tx_exec_form.specs.Rows.{ex}
 use Rattle.tx_exec_form.specs.Evaluated.{WideTrace, start, trace_of, traced, evaluated_in, evaluated}
 use Rattle.tx_exec_form.proofs.Agreeing.{same}
+use Rattle.tx_exec_form.specs.Laws.{IsPast}
+use Rattle.tx_exec_form.proofs.Tracing.{over_past, past_over}
 use Rattle.tx_exec.specs.States.{set_pairs}
+use Rattle.tx_exec.specs.Outcomes.{wide_trace, wide_outcome}
+use Rattle.tx_exec.specs.declared.outcome.Outcome.{Outcome}
+use Rattle.tx_exec.specs.declared.outcome.Outcome.TheVariants as outcomes
 
 not_set : (x : Name) (ps : Pairs) → AllByRecursion (λ y. bytes_eq x y ≡ false) (keys_of ps) → find (slice_cmp nat_cmp) x (set_pairs ps) ≡ None
 not_set x [] h = refl
@@ -99,3 +104,27 @@ module _ (t : TaggedTree) (e : Before) (c : ℕ) (own looks : Pairs) (left slack
   pub eval_over : ex 400 t top e (record { own = map_of own; looks = from_entries looks; left = left; slack = slack }) ≡ Over → None ≡ evaluated t e c
   unfolding evaluated_in
   eval_over h = sym (ap (traced 400 c) (sym begun ∙ h))
+
+none_among : (x : Name) (ps : Pairs) → AllByRecursion (λ y. bytes_eq x y ≡ false) (keys_of ps) → AllByRecursion (λ y. bytes_eq x y ≡ false) (keys_of (set_pairs ps))
+none_among x [] h = tt
+none_among x ((y, None) ∷ ps) h = none_among x ps h.1
+none_among x ((y, Some t) ∷ ps) h = (h.0, none_among x ps h.1)
+
+distinct_sets : (ps : Pairs) → IsDistinct bytes_eq (keys_of ps) → IsDistinct bytes_eq (keys_of (set_pairs ps))
+unfolding IsDistinct
+distinct_sets [] h = tt
+distinct_sets ((y, None) ∷ ps) h = distinct_sets ps h.1
+distinct_sets ((y, Some t) ∷ ps) h = (none_among y ps h.0, distinct_sets ps h.1)
+
+-- names that stand once in what was noted do so in what was set
+pub sets_once : (ps : Pairs) (ws : List (Name × WideTree)) → ws ≡ set_pairs ps → IsDistinct bytes_eq (keys_of ps) → IsDistinct bytes_eq (keys_of ws)
+sets_once ps ws e h = subst (λ us. IsDistinct bytes_eq (keys_of us)) (sym e) (distinct_sets ps h)
+
+pub looks_once : (ps ls : Pairs) → ls ≡ ps → IsDistinct bytes_eq (keys_of ps) → IsDistinct bytes_eq (keys_of ls)
+looks_once ps ls e h = subst (λ us. IsDistinct bytes_eq (keys_of us)) (sym e) h
+
+-- over exactly where every trace of the tree costs more or is higher
+pub over_iff : (o : Outcome) (t : TaggedTree) (e : Before) (c : ℕ) → wide_outcome o ≡ evaluated t e c → (o ≡ outcomes.Over) ↔ IsPast 400 c t e
+over_iff outcomes.Over t e c h = (λ _. over_past 400 c t e (sym h), λ _. refl)
+over_iff (outcomes.Done trace) t e c h =
+    (λ q. absurd cc, λ past. let none : evaluated t e c ≡ None = past_over 400 c t e past in let off : Some (wide_trace trace) ≡ None = h ∙ none in absurd cc)

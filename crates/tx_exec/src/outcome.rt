@@ -1,9 +1,11 @@
 // The trace of a tree.
-ghost use Rattle.std.specs.Prelude.{◌≡◌, ◌+◌, ◌≤◌, Some, IfOk};
+ghost use Rattle.std.specs.Prelude.{◌≡◌, ◌+◌, ◌≤◌, ◌↔◌, Some, IfOk};
 ghost use Rattle.tx_origin.specs.TaggedTrees.{tagged_of};
+ghost use Rattle.tx_exec_form.specs.Laws.{IsPast};
 ghost use Rattle.tx_exec_form.specs.Evaluated.{evaluated, paid, trace_of};
 ghost use Rattle.tx_exec.specs.States.{before_of, state_of};
-ghost use Rattle.tx_exec.specs.Outcomes.{wide_outcome};
+ghost use Rattle.tx_exec.specs.Outcomes.{wide_outcome, NamesOnce};
+ghost use Rattle.tx_exec.specs.declared.outcome.Outcome.TheVariants.{Over};
 
 use crate::looks::Looks;
 use crate::progress::Progress;
@@ -42,6 +44,7 @@ pub enum Outcome {
 ///
 /// `Over` is answered exactly where the cost passes the allowance or the height passes 400. The steps rise by the cost, or
 /// by the allowance where it is over. The environment is as before after every answer.
+#[tactic(auto, using(crate::proofs::Ending::over_iff, std::proofs::lemmas::Grind::common_steps))]
 pub fn eval<L: Ledger>(
     alloc: Global,
     t: &Tagged,
@@ -51,8 +54,27 @@ pub fn eval<L: Ledger>(
 ) -> Result<Outcome, Memory>
     requires { allowance ≤ 1000000 }
     ensures exact { IfOk result (λ o. wide_outcome o ≡ evaluated (tagged_of t.now) (before_of env.old) allowance) }
+    ensures over { IfOk result (λ o. (o ≡ Over) ↔ IsPast 400 allowance (tagged_of t.now) (before_of env.old)) }
+    ensures once { IfOk result NamesOnce }
     ensures counted { IfOk result (λ o. steps.new ≡ steps.old + paid allowance (wide_outcome o)) }
     ensures env { env.new ≡ env.old }
+{
+    let outcome = evaluate(alloc, t, env, allowance, steps)?;
+    Ok(outcome)
+}
+
+// The same, in an environment that is only read.
+fn evaluate<L: Ledger>(
+    alloc: Global,
+    t: &Tagged,
+    env: &Env,
+    allowance: u64,
+    steps: &mut Steps<L>,
+) -> Result<Outcome, Memory>
+    requires { allowance ≤ 1000000 }
+    ensures exact { IfOk result (λ o. wide_outcome o ≡ evaluated (tagged_of t.now) (before_of env.now) allowance) }
+    ensures once { IfOk result NamesOnce }
+    ensures counted { IfOk result (λ o. steps.new ≡ steps.old + paid allowance (wide_outcome o)) }
 {
     let mut progress = Progress::begin(alloc, allowance);
     match progress.ev(alloc, env, steps, t, None, 400) {
@@ -74,7 +96,8 @@ fn trace_from(
 ) -> Result<Outcome, Memory>
     requires left { progress.left ≤ allowance }
     requires slack { progress.slack ≤ 400 }
-    ensures { IfOk result (λ o. wide_outcome o ≡ Some (trace_of 400 allowance value (state_of progress))) }
+    ensures trace { IfOk result (λ o. wide_outcome o ≡ Some (trace_of 400 allowance value (state_of progress))) }
+    ensures once { IfOk result NamesOnce }
 {
     let cost = allowance - progress.left;
     let height = 400 - progress.slack;

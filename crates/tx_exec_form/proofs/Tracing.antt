@@ -1,6 +1,7 @@
 -- Traces of one tree.
 use Rattle.std.proofs.Common.{◌≡◌, ℕ, ◌+◌, ◌-◌, ◌<◌, ◌≤◌, max, ◌⊎◌, inl, inr, ap, refl, sym, subst, ◌∙◌, arith}
 use Rattle.std.specs.Prelude.{Option, Some, None}
+use Rattle.std.proofs.lemmas.Bool.{cases_lt}
 use Rattle.tx_tree.specs.WideTree.{size_of, depth_of}
 use Rattle.tx_origin.specs.Values.{WideValue, plain}
 use Rattle.tx_origin.specs.TaggedTrees.{TaggedTree}
@@ -8,7 +9,7 @@ use Rattle.tx_exec_form.specs.Runs.{Before, State, Ran, Over, Done}
 use Rattle.tx_exec_form.specs.Frames.{top}
 use Rattle.tx_exec_form.specs.Rows.{ex}
 use Rattle.tx_exec_form.specs.Evaluated.{WideTrace, start, trace_of, traced, evaluated_in}
-use Rattle.tx_exec_form.specs.Laws.{Agrees, Supports, ComesFrom}
+use Rattle.tx_exec_form.specs.Laws.{Agrees, Supports, IsPast, ComesFrom}
 use Rattle.tx_exec_form.proofs.Follows.{Held, follows_start}
 use Rattle.tx_exec_form.proofs.Small.{Fits, fits}
 use Rattle.tx_exec_form.proofs.Coming.{value_comes}
@@ -91,3 +92,21 @@ comes k c t e trace h = by (came k c t e trace h)
   where
     by : Came k c t e trace → ComesFrom t trace.value
     by w = subst (λ (u : WideTrace). ComesFrom t u.value) (sym w.is) (value_comes t k e (start k c) w.state w.result w.run)
+
+-- a trace that costs no more and is no higher would be there
+past_by : (k c : ℕ) (t : TaggedTree) (e : Before) (trace : WideTrace) → evaluated_in k c t e ≡ None → Supports trace t → Agrees e trace.looks → (c < trace.cost) ⊎ (trace.cost ≤ c) → (k < trace.height) ⊎ (trace.height ≤ k) → (c < trace.cost) ⊎ (k < trace.height)
+past_by k c t e trace none h g (inl few) q = inl few
+past_by k c t e trace none h g (inr enough) (inl low) = inr low
+past_by k c t e trace none h g (inr enough) (inr high) = let off : None ≡ Some trace = sym none ∙ h k c e g enough high in absurd cc
+
+pub over_past : (k c : ℕ) (t : TaggedTree) (e : Before) → evaluated_in k c t e ≡ None → IsPast k c t e
+over_past k c t e none = λ trace h g. past_by k c t e trace none h g (cases_lt c trace.cost) (cases_lt k trace.height)
+
+past_none : (k c : ℕ) (t : TaggedTree) (e : Before) (o : Option WideTrace) → evaluated_in k c t e ≡ o → IsPast k c t e → o ≡ None
+past_none k c t e None q h = refl
+past_none k c t e (Some trace) q h =
+    let bounds : (trace.cost ≤ c) × (trace.height ≤ k) = allowed k c t e trace q in
+    elim (h trace (supports k c t e trace q) (agrees k c t e trace q)) as (λ _. Some trace ≡ None) [ inl few ↦ absurd (omega (arith, few, bounds.0)) | inr low ↦ absurd (omega (arith, low, bounds.1)) ]
+
+pub past_over : (k c : ℕ) (t : TaggedTree) (e : Before) → IsPast k c t e → evaluated_in k c t e ≡ None
+past_over k c t e h = past_none k c t e (evaluated_in k c t e) refl h

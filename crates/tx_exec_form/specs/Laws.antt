@@ -1,5 +1,5 @@
 -- What is true of each trace.
-use Rattle.std.specs.Prelude.{◌≡◌, ◌≤◌, ℕ, List, ◌++◌, Option, Some, None}
+use Rattle.std.specs.Prelude.{◌≡◌, ◌≤◌, ◌<◌, ◌⊎◌, ℕ, List, ◌++◌, Option, Some, None}
 use Rattle.std.specs.FinMap.{get}
 use Rattle.tx_tree.specs.WideTree.{WideTree, leaf}
 use Rattle.tx_tree.specs.Paths.{subtree}
@@ -18,6 +18,10 @@ Agrees e looks = (x : Name) (found : Option WideTree) → get looks x ≡ Some f
 -- allowed.
 abbrev pub Supports : WideTrace → TaggedTree → Type 0
 Supports trace t = (k c : ℕ) (e : Before) → Agrees e trace.looks → trace.cost ≤ c → trace.height ≤ k → evaluated_in k c t e ≡ Some trace
+
+-- Whatever trace the tree has where names have this, its cost passes c or its height passes k.
+abbrev pub IsPast : ℕ → ℕ → TaggedTree → Before → Type 0
+IsPast k c t e = (trace : WideTrace) → Supports trace t → Agrees e trace.looks → (c < trace.cost) ⊎ (k < trace.height)
 
 -- The origin is the root's with a path behind it, which leads to a subtree of which P is true.
 pub record LeadsIn (root : TaggedTree) (origin : List ℕ) (P : WideTree → Type 0) : Type 0 where

@@ -1,17 +1,18 @@
 // Laws of evaluation.
-ghost use Rattle.std.specs.Prelude.{Some, None, ◌≡◌, ◌<◌, ◌≤◌, ◌⊎◌, ℕ};
+ghost use Rattle.std.specs.Prelude.{Some, None, ◌≡◌, ◌<◌, ◌≤◌, ◌⊎◌, ◌↔◌, ℕ};
 ghost use Rattle.tx_tree.specs.WideTree.{size_of, depth_of};
 ghost use Rattle.tx_origin.specs.Values.{plain};
 ghost use Rattle.tx_origin.specs.TaggedTrees.{TaggedTree};
 ghost use Rattle.tx_exec_form.specs.Runs.{Before};
 ghost use Rattle.tx_exec_form.specs.Evaluated.{WideTrace, evaluated_in};
-ghost use Rattle.tx_exec_form.specs.Laws.{Agrees, Supports, ComesFrom};
+ghost use Rattle.tx_exec_form.specs.Laws.{Agrees, Supports, IsPast, ComesFrom};
 
 /// A trace supports its tree: in every environment that agrees with its looks the tree has this trace, exactly where
 /// cost and height are allowed.
 pub fn trace_laws()
     ensures supports { (k c : ℕ) (t : TaggedTree) (e : Before) (trace : WideTrace) → evaluated_in k c t e ≡ Some trace → Supports trace t }
     ensures over { (k c : ℕ) (t : TaggedTree) (e : Before) (trace : WideTrace) → evaluated_in k c t e ≡ Some trace → (k' c' : ℕ) (e' : Before) → Agrees e' trace.looks → (c' < trace.cost) ⊎ (k' < trace.height) → evaluated_in k' c' t e' ≡ None }
+    ensures exactly { (k c : ℕ) (t : TaggedTree) (e : Before) → (evaluated_in k c t e ≡ None) ↔ IsPast k c t e }
     ensures agrees { (k c : ℕ) (t : TaggedTree) (e : Before) (trace : WideTrace) → evaluated_in k c t e ≡ Some trace → Agrees e trace.looks }
     ensures allowed { (k c : ℕ) (t : TaggedTree) (e : Before) (trace : WideTrace) → evaluated_in k c t e ≡ Some trace → (trace.cost ≤ c) × (trace.height ≤ k) }
 {}
