@@ -11,7 +11,7 @@ use crate::ways::first_step;
 use std::alloc::Global;
 use std::sync::ledger::Ledger;
 use tx_base::{Memory, Steps};
-use tx_tree::{Label, MOST_TEXT, Text, TextFault, Tree, TreeFault};
+use tx_tree::{Label, MOST_TEXT, Text, TextFault, Tree, TreeFault, share_onto};
 
 // The leaf of a text.
 #[tactic(auto, using(crate::proofs::Built::sound, std::proofs::lemmas::Grind::common_steps))]
@@ -45,25 +45,6 @@ pub(crate) fn node_of<L: Ledger>(
         Err(TreeFault::Memory) => Err(Memory),
         Err(_) => unreachable!(),
     }
-}
-
-// Adds shares of the trees at the end.
-pub(crate) fn share_onto(into: &mut Vec<Tree>, trees: &[Tree]) -> Result<(), Memory>
-    ensures { OnOk result (into.new.items ≡ into.old.items ++ trees.now) }
-{
-    for tree in trees {
-        into.push(tree.share()?)?;
-    }
-    Ok(())
-}
-
-// Shares of the trees.
-pub(crate) fn shares(alloc: Global, trees: &[Tree]) -> Result<Vec<Tree>, Memory>
-    ensures { IfOk result (λ v. v.items ≡ trees.now) }
-{
-    let mut all = Vec::new(alloc);
-    share_onto(&mut all, trees)?;
-    Ok(all)
 }
 
 // The trees before place `from`, shares of others, and the trees from place `to` on.

@@ -7,14 +7,14 @@ ghost use Rattle.tx_mod.specs.Mods.{tuple, extent};
 ghost use Rattle.tx_mod.specs.Changes.{changed_at, removed, unwrapped};
 ghost use Rattle.tx_mod.specs.Inverses.{inverse_at, removed_part, without_child};
 
-use crate::making::{leaf_of, node_of, shares, spliced};
+use crate::making::{leaf_of, node_of, spliced};
 use crate::measures::extent;
 use crate::mods::{Mod, TUPLE};
 use crate::parts::{Parts, parts_of};
 use std::alloc::Global;
 use std::sync::ledger::Ledger;
 use tx_base::{Memory, Steps};
-use tx_tree::{Label, LabelFault, Path, Tree};
+use tx_tree::{Label, LabelFault, Path, Tree, shares};
 
 // The label of what is put among children.
 fn tuple_label(alloc: Global) -> Result<Label, Memory>

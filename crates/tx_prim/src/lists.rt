@@ -18,7 +18,7 @@ use crate::operands::{number_in, tuple_in};
 use std::alloc::Global;
 use std::sync::ledger::Ledger;
 use tx_base::Steps;
-use tx_tree::{Kind, MOST_ARITY, Memory, Text, Tree};
+use tx_tree::{Kind, MOST_ARITY, Memory, Text, Tree, share_onto, shares};
 
 // The bytes of all texts, or None where an operand is none.
 #[tactic(auto, using(crate::proofs::Collecting::collecting, std::proofs::lemmas::Grind::common_steps))]
@@ -34,25 +34,6 @@ fn joined_texts(alloc: Global, operands: &[Tree]) -> Result<Option<Vec<u8>>, Mem
         }
     }
     Ok(Some(all))
-}
-
-// Adds shares of the trees at the end.
-fn share_onto(into: &mut Vec<Tree>, trees: &[Tree]) -> Result<(), Memory>
-    ensures { OnOk result (into.new.items ≡ into.old.items ++ trees.now) }
-{
-    for tree in trees {
-        into.push(tree.share()?)?;
-    }
-    Ok(())
-}
-
-// Shares of the trees.
-fn shares(alloc: Global, trees: &[Tree]) -> Result<Vec<Tree>, Memory>
-    ensures { IfOk result (λ v. v.items ≡ trees.now) }
-{
-    let mut all = Vec::new(alloc);
-    share_onto(&mut all, trees)?;
-    Ok(all)
 }
 
 // The children of all tuples, or None where an operand is none.

@@ -12,7 +12,8 @@ use Rattle.tx_tree.specs.TextScan.{text_step, begins_text}
 use Rattle.tx_tree.specs.Labels.{is_label_byte, IsLabel}
 use Rattle.tx_tree.specs.WideTree.{WideTree, leaf, node, nil}
 use Rattle.tx_tree.specs.ReadFaults.{SpellsSome}
-use Rattle.tx_tree.proofs.Scanning.{no_bytes, begins_test, take_less}
+use Rattle.tx_tree.proofs.Scanning.{no_bytes, begins_test}
+use Rattle.tx_base.proofs.Fronts.{take_less}
 use Rattle.tx_scm.specs.declared.kinds.Kind.{Kind}
 use Rattle.tx_scm.specs.declared.kinds.Kind.TheVariants.{White, Opens, Closes, Quote}
 use Rattle.tx_scm.specs.declared.spots.Spot.{Spot}

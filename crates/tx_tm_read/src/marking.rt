@@ -9,12 +9,12 @@ ghost use Rattle.tx_tm_read.specs.Words.{token_of};
 ghost use Rattle.tx_tm_read.specs.Stands.{label_in, mark_in, marks_of, stood, StandsAt};
 
 use crate::lexer::Word;
-use crate::taking::{header_place, is_digit, is_name_byte};
+use crate::taking::{header_place, is_digit};
 use crate::walk::same_bytes;
 use std::alloc::Global;
 use tx_base::Memory;
 use tx_tm_form::{Escaped, Form, Inside, Place, escape_of};
-use tx_tree::{Label, MOST_NAME};
+use tx_tree::{Label, MOST_NAME, is_name_byte};
 
 /// An open tag. Its label is kept by its place in the bytes, so that each takes 24 bytes.
 #[derive(Clone, Copy)]

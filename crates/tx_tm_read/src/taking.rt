@@ -22,7 +22,7 @@ use std::alloc::Global;
 use std::sync::ledger::Ledger;
 use tx_base::{Memory, Steps};
 use tx_tm_form::{Escaped, Form, Place, escape_of, white_of};
-use tx_tree::{Label, Tree};
+use tx_tree::{Label, Tree, is_name_byte};
 
 // In a tag that begins.
 fn open_tag(
@@ -208,12 +208,6 @@ fn take_part<L: Ledger>(
         Word::Bar => take_bar(alloc, here, opens, steps),
         Word::Close => take_close(alloc, here, opens, steps),
     }
-}
-
-pub(crate) fn is_name_byte(byte: u8) -> bool
-    ensures { result ≡ is_name_byte byte }
-{
-    matches!(byte, b'!'..=b'~') && byte != b'<' && byte != b'>'
 }
 
 pub(crate) fn is_digit(byte: u8) -> bool

@@ -6,6 +6,7 @@ use Rattle.std.proofs.lemmas.Bool.{ltb-true, leb-true, eqb-true, and_parts, case
 use Rattle.tx_base.specs.Fronts.{IsLongestFront}
 use Rattle.tx_tree.specs.PathSpelling.{is_digit, number_after, IsNumber, AreNumbers, SpellsPath, IsPathSpelling}
 use Rattle.tx_tree.specs.PathScan.{PathState, start, reading, ends_number, takes_digit, path_step, path_run}
+use Rattle.tx_base.proofs.Fronts.{take_less}
 
 abbrev AreDigits : List ℕ → Type 0
 AreDigits = AllByRecursion (λ b. is_digit b ≡ true)
@@ -234,12 +235,6 @@ close_path (reading finished (suc k) v) bytes h =
     ([], (finished ++ v ∷ [], spelled_numbers finished (bytes ++ []) v (subst (λ x. AreNumbers x (finished ++ v ∷ [])) (sym h.are ∙ sym (append-nil bytes)) numbers) h.few))
 
 -- ---- the longest front
-
-take_less : (bytes : List ℕ) (i m : ℕ) → i ≤ m → (rest : List ℕ) × (take m bytes ≡ take i bytes ++ rest)
-take_less bytes zero m h = (take m bytes, refl)
-take_less bytes (suc i) zero h = absurd (omega arith)
-take_less [] (suc i) (suc m) h = ([], refl)
-take_less (b ∷ bytes) (suc i) (suc m) h = let t = take_less bytes i m (omega arith) in (t.0, ap (λ x. b ∷ x) t.1)
 
 -- one byte more
 pub run_more : (bytes : List ℕ) (i : ℕ) (s : PathState) → i < length bytes → path_run (Some (start [])) (take i bytes) ≡ Some s

@@ -10,6 +10,7 @@ use Rattle.tx_tree.specs.declared.texts.TextPlace.{TextPlace}
 use Rattle.tx_tree.specs.declared.texts.TextPlace.TheVariants.{Between, InSymbol}
 use Rattle.tx_tree.specs.Texts.{Item, byte, symbol, is_item_byte, is_name_byte, IsName, IsItem, item_bytes, IsText, IsTextFault}
 use Rattle.tx_tree.specs.TextScan.{text_step, text_run, is_between, is_text, begins_text, fault_at, takes_byte}
+use Rattle.tx_base.proofs.Fronts.{take_less}
 
 -- ---- what is a text is read
 
@@ -210,12 +211,6 @@ begins_tested bytes more h =
     some_before None e = let n = none_run more in absurd cc
 
 -- ---- the longest front
-
-pub take_less : (bytes : List ℕ) (i m : ℕ) → i ≤ m → (rest : List ℕ) × (take m bytes ≡ take i bytes ++ rest)
-take_less bytes zero m h = (take m bytes, refl)
-take_less bytes (suc i) zero h = absurd (omega arith)
-take_less [] (suc i) (suc m) h = ([], refl)
-take_less (b ∷ bytes) (suc i) (suc m) h = let t = take_less bytes i m (omega arith) in (t.0, ap (λ x. b ∷ x) t.1)
 
 -- what is read can be continued
 pub begins_some : (bytes : List ℕ) (p : TextPlace) → text_run (Some Between) bytes ≡ Some p → begins_text bytes ≡ true

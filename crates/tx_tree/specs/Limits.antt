@@ -3,7 +3,8 @@ use Rattle.std.specs.Prelude.{◌≤◌, ◌<◌, ℕ, ◌≡◌, List, length}
 use Rattle.tx_tree.specs.declared.TheConstants.{MOST_TEXT, MOST_ARITY, MOST_DEPTH, MOST_SIZE}
 use Rattle.tx_tree.specs.Texts.{IsText}
 use Rattle.tx_tree.specs.Labels.{IsLabel}
-use Rattle.tx_tree.specs.WideTree.{WideTree, Forest, leaf, node, nil, cons, size_of, depth_of, arity_of, text_length_of, forest}
+use Rattle.tx_tree.specs.WideTree.{WideTree, Forest, leaf, node, nil, cons, size_of, depth_of, arity_of, text_length_of}
+use Rattle.tx_tree.specs.WideTree.{forest}
 use Rattle.tx_tree.specs.declared.faults.TreeFault.{TreeFault}
 use Rattle.tx_tree.specs.declared.faults.TreeFault.TheVariants.{TooWide, TooDeep, TooBig, Memory}
 
@@ -28,8 +29,10 @@ pub record IsWithinLimits (t : WideTree) : Type 0 where
 abbrev pub IsTreeFault : List ℕ → List WideTree → TreeFault → Type 0
 IsTreeFault label ts (TooWide n) = (MOST_ARITY < length ts) × (n ≡ length ts)
 IsTreeFault label ts (TooDeep n) =
-    (length ts ≤ MOST_ARITY) × (MOST_DEPTH < depth_of (node label (forest ts))) × (n ≡ depth_of (node label (forest ts)))
+    (length ts ≤ MOST_ARITY) × (MOST_DEPTH < depth_of (node label (forest ts)))
+    × (n ≡ depth_of (node label (forest ts)))
 IsTreeFault label ts (TooBig n) =
-    (length ts ≤ MOST_ARITY) × (depth_of (node label (forest ts)) ≤ MOST_DEPTH) × (MOST_SIZE < size_of (node label (forest ts)))
+    (length ts ≤ MOST_ARITY) × (depth_of (node label (forest ts)) ≤ MOST_DEPTH)
+    × (MOST_SIZE < size_of (node label (forest ts)))
     × (n ≡ size_of (node label (forest ts)))
 IsTreeFault label ts Memory = ⊥

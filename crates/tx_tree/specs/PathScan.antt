@@ -1,5 +1,6 @@
 -- Reading a path byte by byte.
-use Rattle.std.specs.Prelude.{ℕ, ◌+◌, ◌-◌, ◌*◌, Bool, ◌==◌, ◌&&◌, nat_lt, nat_le, if◌then◌else◌, List, [], ◌∷◌, ◌++◌, length, Option, Some, None}
+use Rattle.std.specs.Prelude.{ℕ, ◌+◌, ◌-◌, ◌*◌, Bool, ◌==◌, ◌&&◌, nat_lt, nat_le, if◌then◌else◌, List, [], ◌∷◌, ◌++◌}
+use Rattle.std.specs.Prelude.{length, Option, Some, None}
 use Rattle.tx_tree.specs.declared.TheConstants.{MOST_STEPS, MOST_DIGITS, MOST_NUMBER}
 use Rattle.tx_tree.specs.declared.paths.PathPlace.{PathPlace}
 use Rattle.tx_tree.specs.declared.paths.PathPlace.TheVariants.{Start, Number}

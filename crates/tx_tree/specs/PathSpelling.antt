@@ -1,5 +1,6 @@
 -- How paths are spelled: a / alone, or a / before each of 1 to 400 numbers.
-use Rattle.std.specs.Prelude.{◌≡◌, ℕ, ◌+◌, ◌-◌, ◌*◌, ◌≤◌, Bool, true, ◌&&◌, nat_le, List, [], ◌∷◌, ◌++◌, length, decimal}
+use Rattle.std.specs.Prelude.{◌≡◌, ℕ, ◌+◌, ◌-◌, ◌*◌, ◌≤◌, Bool, true, ◌&&◌, nat_le, List, [], ◌∷◌, ◌++◌, length}
+use Rattle.std.specs.Prelude.{decimal}
 use Rattle.std.specs.List.{AllByRecursion, flat_map}
 use Rattle.tx_base.specs.Fronts.{IsLongestFront}
 use Rattle.tx_tree.specs.declared.TheConstants.{MOST_STEPS, MOST_DIGITS, MOST_NUMBER}
@@ -25,7 +26,8 @@ pub record IsNumber (digits : List ℕ) (n : ℕ) : Type 0 where
 -- the bytes are a / and a number, for each number of the path
 abbrev pub AreNumbers : List ℕ → List ℕ → Type 0
 AreNumbers bytes [] = bytes ≡ []
-AreNumbers bytes (n ∷ path) = (digits rest : List ℕ) × IsNumber digits n × (bytes ≡ 47 ∷ (digits ++ rest)) × AreNumbers rest path
+AreNumbers bytes (n ∷ path) = (digits rest : List ℕ) × IsNumber digits n × (bytes ≡ 47 ∷ (digits ++ rest))
+    × AreNumbers rest path
 
 -- the bytes spell the path
 abbrev pub SpellsPath : List ℕ → List ℕ → Type 0

@@ -27,6 +27,8 @@ IsOffsetFault (node label ts) o (CutsSymbol n) = ⊥
 abbrev pub IsPlace : WideTree → List ℕ → ℕ → Type 0
 IsPlace t path o = IsSomeAnd (subtree t path) (λ s. IsOffset s o)
 
--- why a path and an offset are no place of the tree: not all numbers of the path lead, or the offset is none of the subtree
+-- why a path and an offset are no place of the tree: not all numbers of the path lead, or the offset is none of the
+-- subtree
 abbrev pub IsPlaceFault : WideTree → List ℕ → ℕ → PlaceFault → Type 0
-IsPlaceFault t path o fault = MatchOption (subtree t path) (fault ≡ NoPath (leading t path)) (λ s. IsOffsetFault s o fault)
+IsPlaceFault t path o fault = MatchOption (subtree t path) (fault ≡ NoPath (leading t path))
+    (λ s. IsOffsetFault s o fault)

@@ -1,5 +1,6 @@
 -- Reading a text byte by byte.
-use Rattle.std.specs.Prelude.{ℕ, ◌+◌, Bool, true, false, ◌==◌, ◌&&◌, nat_lt, is_some, if◌then◌else◌, List, [], ◌∷◌, ◌++◌, length, Option, Some, None}
+use Rattle.std.specs.Prelude.{ℕ, ◌+◌, Bool, true, false, ◌==◌, ◌&&◌, nat_lt, is_some, if◌then◌else◌, List, [], ◌∷◌}
+use Rattle.std.specs.Prelude.{◌++◌, length, Option, Some, None}
 use Rattle.tx_tree.specs.declared.TheConstants.{MOST_NAME, MOST_TEXT}
 use Rattle.tx_tree.specs.declared.texts.TextPlace.{TextPlace}
 use Rattle.tx_tree.specs.declared.texts.TextPlace.TheVariants.{Between, InSymbol}
@@ -11,7 +12,8 @@ use Rattle.tx_tree.specs.Texts.{is_item_byte, is_name_byte}
 unfoldable pub text_step : TextPlace → ℕ → Option TextPlace
 text_step Between b = if b == 60 then Some (InSymbol 0) else (if is_item_byte b then Some Between else None)
 text_step (InSymbol n) b =
-    if b == 62 then (if n == 0 then None else Some Between) else (if is_name_byte b && nat_lt n MOST_NAME then Some (InSymbol (n + 1)) else None)
+    if b == 62 then (if n == 0 then None else Some Between)
+    else (if is_name_byte b && nat_lt n MOST_NAME then Some (InSymbol (n + 1)) else None)
 
 -- behind bytes more
 abbrev pub text_run : Option TextPlace → List ℕ → Option TextPlace

@@ -1,5 +1,6 @@
 -- Texts: lists of items, each a byte or a symbol, and the cuts between items.
-use Rattle.std.specs.Prelude.{◌≡◌, ℕ, ◌≤◌, ◌<◌, Bool, true, ◌==◌, ◌||◌, ◌&&◌, not, nat_le, List, [], ◌∷◌, ◌++◌, length, take}
+use Rattle.std.specs.Prelude.{◌≡◌, ℕ, ◌≤◌, ◌<◌, Bool, true, ◌==◌, ◌||◌, ◌&&◌, not, nat_le, List, [], ◌∷◌, ◌++◌, length}
+use Rattle.std.specs.Prelude.{take}
 use Rattle.std.specs.List.{AllByRecursion, flat_map}
 use Rattle.tx_base.specs.Fronts.{IsLongestFront}
 use Rattle.tx_tree.specs.declared.TheConstants.{MOST_NAME, MOST_TEXT}
@@ -45,13 +46,16 @@ IsText bytes = (items : List Item) × AllByRecursion IsItem items × (bytes ≡ 
 -- Place n of the bytes lies between two items, or at an edge.
 abbrev pub IsCut : List ℕ → ℕ → Type 0
 IsCut bytes n =
-    (before after : List Item) × AllByRecursion IsItem before × AllByRecursion IsItem after × (bytes ≡ flat_map item_bytes before ++ flat_map item_bytes after)
+    (before after : List Item) × AllByRecursion IsItem before × AllByRecursion IsItem after
+    × (bytes ≡ flat_map item_bytes before ++ flat_map item_bytes after)
     × (n ≡ length (flat_map item_bytes before))
 
--- why bytes are no text within the limit: they are too many, or so many of them and no more begin a text, and behind these
--- stands a byte that is no item, or a symbol is unfinished
+-- why bytes are no text within the limit: they are too many, or so many of them and no more begin a text, and behind
+-- these stands a byte that is no item, or a symbol is unfinished
 abbrev pub IsTextFault : List ℕ → TextFault → Type 0
 IsTextFault bytes (TooLong n) = (MOST_TEXT < length bytes) × (n ≡ length bytes)
-IsTextFault bytes (BadByte n) = (length bytes ≤ MOST_TEXT) × IsLongestFront IsText bytes n × (n < length bytes) × IsText (take n bytes)
-IsTextFault bytes (BadSymbol n) = (length bytes ≤ MOST_TEXT) × IsLongestFront IsText bytes n × (IsText (take n bytes) → ⊥)
+IsTextFault bytes (BadByte n) = (length bytes ≤ MOST_TEXT) × IsLongestFront IsText bytes n × (n < length bytes)
+    × IsText (take n bytes)
+IsTextFault bytes (BadSymbol n) = (length bytes ≤ MOST_TEXT) × IsLongestFront IsText bytes n
+    × (IsText (take n bytes) → ⊥)
 IsTextFault bytes Memory = ⊥

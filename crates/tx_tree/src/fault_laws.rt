@@ -16,38 +16,53 @@ use crate::texts::TextFault;
 /// A law: bytes are a text within the limit, or have one fault. At a `BadByte` stands a tab, a newline, a return or
 /// `>`, and with the byte at a fault no text goes on.
 pub fn text_fault_laws()
-    ensures once { (bytes : List ℕ) (one other : TextFault) → IsTextFault bytes one → IsTextFault bytes other → one ≡ other }
-    ensures none { (bytes : List ℕ) (fault : TextFault) → IsText bytes → length bytes ≤ MOST_TEXT → IsTextFault bytes fault → ⊥ }
-    ensures some { (bytes : List ℕ) → (IsText bytes × (length bytes ≤ MOST_TEXT)) ⊎ ((fault : TextFault) × IsTextFault bytes fault) }
-    ensures bad_byte { (bytes : List ℕ) (n b : ℕ) → IsTextFault bytes (TextFault.BadByte n) → slice_get bytes n ≡ Some b → begins_no_item b ≡ true }
-    ensures stops_at_byte { (bytes more : List ℕ) (n : ℕ) → IsTextFault bytes (TextFault.BadByte n) → IsText (take (n + 1) bytes ++ more) → ⊥ }
-    ensures stops_in_symbol { (bytes more : List ℕ) (n : ℕ) → IsTextFault bytes (TextFault.BadSymbol n) → n < length bytes → IsText (take (n + 1) bytes ++ more) → ⊥ }
+    ensures once { (bytes : List ℕ) (one other : TextFault) → IsTextFault bytes one → IsTextFault bytes other →
+        one ≡ other }
+    ensures none { (bytes : List ℕ) (fault : TextFault) → IsText bytes → length bytes ≤ MOST_TEXT →
+        IsTextFault bytes fault → ⊥ }
+    ensures some { (bytes : List ℕ) → (IsText bytes × (length bytes ≤ MOST_TEXT))
+        ⊎ ((fault : TextFault) × IsTextFault bytes fault) }
+    ensures bad_byte { (bytes : List ℕ) (n b : ℕ) → IsTextFault bytes (TextFault.BadByte n) →
+        slice_get bytes n ≡ Some b → begins_no_item b ≡ true }
+    ensures stops_at_byte { (bytes more : List ℕ) (n : ℕ) → IsTextFault bytes (TextFault.BadByte n) →
+        IsText (take (n + 1) bytes ++ more) → ⊥ }
+    ensures stops_in_symbol { (bytes more : List ℕ) (n : ℕ) → IsTextFault bytes (TextFault.BadSymbol n) →
+        n < length bytes → IsText (take (n + 1) bytes ++ more) → ⊥ }
 {}
 
 /// A law: bytes are a label or have one fault.
 pub fn label_fault_laws()
-    ensures once { (bytes : List ℕ) (one other : LabelFault) → IsLabelFault bytes one → IsLabelFault bytes other → one ≡ other }
+    ensures once { (bytes : List ℕ) (one other : LabelFault) → IsLabelFault bytes one → IsLabelFault bytes other →
+        one ≡ other }
     ensures none { (bytes : List ℕ) (fault : LabelFault) → IsLabel bytes → IsLabelFault bytes fault → ⊥ }
     ensures some { (bytes : List ℕ) → IsLabel bytes ⊎ ((fault : LabelFault) × IsLabelFault bytes fault) }
 {}
 
 /// A law: bytes spell a path or have one fault.
 pub fn path_fault_laws()
-    ensures once { (bytes : List ℕ) (one other : PathFault) → IsPathFault bytes one → IsPathFault bytes other → one ≡ other }
+    ensures once { (bytes : List ℕ) (one other : PathFault) → IsPathFault bytes one → IsPathFault bytes other →
+        one ≡ other }
     ensures none { (bytes path : List ℕ) (fault : PathFault) → SpellsPath bytes path → IsPathFault bytes fault → ⊥ }
-    ensures some { (bytes : List ℕ) → ((path : List ℕ) × SpellsPath bytes path) ⊎ ((fault : PathFault) × IsPathFault bytes fault) }
+    ensures some { (bytes : List ℕ) → ((path : List ℕ) × SpellsPath bytes path)
+        ⊎ ((fault : PathFault) × IsPathFault bytes fault) }
 {}
 
 /// A law: a path and an offset are a place of a tree or have one fault.
 pub fn place_fault_laws()
-    ensures once { (t : WideTree) (path : List ℕ) (o : ℕ) (one other : PlaceFault) → IsPlaceFault t path o one → IsPlaceFault t path o other → one ≡ other }
-    ensures none { (t : WideTree) (path : List ℕ) (o : ℕ) (fault : PlaceFault) → IsPlace t path o → IsPlaceFault t path o fault → ⊥ }
-    ensures some { (t : WideTree) (path : List ℕ) (o : ℕ) → IsPlace t path o ⊎ ((fault : PlaceFault) × IsPlaceFault t path o fault) }
+    ensures once { (t : WideTree) (path : List ℕ) (o : ℕ) (one other : PlaceFault) → IsPlaceFault t path o one →
+        IsPlaceFault t path o other → one ≡ other }
+    ensures none { (t : WideTree) (path : List ℕ) (o : ℕ) (fault : PlaceFault) → IsPlace t path o →
+        IsPlaceFault t path o fault → ⊥ }
+    ensures some { (t : WideTree) (path : List ℕ) (o : ℕ) → IsPlace t path o
+        ⊎ ((fault : PlaceFault) × IsPlaceFault t path o fault) }
 {}
 
 /// A law: a label and trees within the limits make a node within the limits or have one fault.
 pub fn tree_fault_laws()
-    ensures once { (label : List ℕ) (ts : List WideTree) (one other : TreeFault) → IsTreeFault label ts one → IsTreeFault label ts other → one ≡ other }
-    ensures none { (label : List ℕ) (ts : List WideTree) (fault : TreeFault) → IsWithinLimits (node label (forest ts)) → IsTreeFault label ts fault → ⊥ }
-    ensures some { (label : List ℕ) (ts : List WideTree) → AllByRecursion IsWithinLimits ts → IsWithinLimits (node label (forest ts)) ⊎ ((fault : TreeFault) × IsTreeFault label ts fault) }
+    ensures once { (label : List ℕ) (ts : List WideTree) (one other : TreeFault) → IsTreeFault label ts one →
+        IsTreeFault label ts other → one ≡ other }
+    ensures none { (label : List ℕ) (ts : List WideTree) (fault : TreeFault) → IsWithinLimits (node label (forest ts)) →
+        IsTreeFault label ts fault → ⊥ }
+    ensures some { (label : List ℕ) (ts : List WideTree) → AllByRecursion IsWithinLimits ts →
+        IsWithinLimits (node label (forest ts)) ⊎ ((fault : TreeFault) × IsTreeFault label ts fault) }
 {}

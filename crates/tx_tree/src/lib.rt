@@ -13,6 +13,7 @@ mod limits;
 mod path_laws;
 mod paths;
 mod places;
+mod sharing;
 #[cfg(test)]
 mod tests;
 mod texts;
@@ -28,7 +29,8 @@ pub use limits::limit_laws;
 pub use path_laws::path_law;
 pub use paths::Path;
 pub use places::Place;
-pub use texts::{Text, TextFault, TextPlace, cut_laws};
+pub use sharing::{share_onto, shares};
+pub use texts::{Text, TextFault, TextPlace, cut_laws, is_name_byte};
 pub use trees::{Kind, Tree};
 pub use tx_base::Memory;
 

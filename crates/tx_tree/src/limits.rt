@@ -6,7 +6,8 @@ use crate::{
     MOST_TEXT,
 };
 
-/// A law: the limits of texts, labels, trees and paths, by which contracts and definitions name them, are these numbers.
+/// A law: the limits of texts, labels, trees and paths, by which contracts and definitions name them, are these
+/// numbers.
 pub fn limit_laws()
     ensures text { MOST_TEXT ≡ 1048575 }
     ensures label { MOST_LABEL ≡ 64 }

@@ -9,6 +9,8 @@ use crate::{MOST_NUMBER, MOST_STEPS};
 /// numbers, and a place as it is printed spells its path with the offset behind it.
 pub fn path_law()
     ensures once { (bytes p q : List ℕ) → SpellsPath bytes p → SpellsPath bytes q → p ≡ q }
-    ensures path { (path : List ℕ) → length path ≤ MOST_STEPS → AllByRecursion (λ n. n ≤ MOST_NUMBER) path → SpellsPath (path_text path) path }
-    ensures place { (path : List ℕ) (o : ℕ) → length path < MOST_STEPS → AllByRecursion (λ n. n ≤ MOST_NUMBER) path → o ≤ MOST_NUMBER → SpellsPath (place_text path o) (path ++ o ∷ []) }
+    ensures path { (path : List ℕ) → length path ≤ MOST_STEPS → AllByRecursion (λ n. n ≤ MOST_NUMBER) path →
+        SpellsPath (path_text path) path }
+    ensures place { (path : List ℕ) (o : ℕ) → length path < MOST_STEPS → AllByRecursion (λ n. n ≤ MOST_NUMBER) path →
+        o ≤ MOST_NUMBER → SpellsPath (place_text path o) (path ++ o ∷ []) }
 {}

@@ -111,7 +111,8 @@ impl PathPlace {
     // The place behind one byte more, or None where no path goes on so. A number that ends here is pushed.
     #[tactic(auto, unfolding(crate::specs::PathScan::path_step))]
     fn step(self, path: &mut Path, byte: u8) -> Result<Option<PathPlace>, Memory>
-        ensures { IfOk result (λ next. MatchOption next (path_step (path_state path.old self) byte ≡ None) (λ p. path_step (path_state path.old self) byte ≡ Some (path_state path.new p))) }
+        ensures { IfOk result (λ next. MatchOption next (path_step (path_state path.old self) byte ≡ None)
+            (λ p. path_step (path_state path.old self) byte ≡ Some (path_state path.new p))) }
     {
         match self {
             PathPlace::Start => {

@@ -1,5 +1,6 @@
 // Texts, and the reading of a text byte by byte.
-ghost use Rattle.std.specs.Prelude.{◌≡◌, ◌≢◌, ℕ, ◌≤◌, ◌↔◌, ◌++◌, ◌∷◌, [], Bool, true, false, IsTrue, length, IfOk, IfErr, OnOk, IfSome, MatchOption, ◌&&◌, nat_lt, nat_eq};
+ghost use Rattle.std.specs.Prelude.{◌≡◌, ◌≢◌, ℕ, ◌≤◌, ◌↔◌, ◌++◌, ◌∷◌, [], Bool, true, false, IsTrue, length, IfOk};
+ghost use Rattle.std.specs.Prelude.{IfErr, OnOk, IfSome, MatchOption, ◌&&◌, nat_lt, nat_eq};
 ghost use Rattle.tx_tree.specs.Texts.{IsText, IsCut, IsTextFault, is_item_byte, is_name_byte};
 ghost use Rattle.tx_tree.specs.declared.texts.TextFault.TheVariants.{Memory as NoMemory};
 ghost use Rattle.tx_tree.specs.TextScan.{text_step, text_run, fault_at};
@@ -68,7 +69,8 @@ fn is_item_byte(byte: u8) -> bool
     !matches!(byte, b'\t' | b'\n' | b'\r' | b'<' | b'>')
 }
 
-fn is_name_byte(byte: u8) -> bool
+/// Whether the name of a symbol has the byte: all visible ones but `<` and `>`.
+pub fn is_name_byte(byte: u8) -> bool
     ensures { result ≡ is_name_byte byte }
 {
     matches!(byte, b'!'..=b'~') && byte != b'<' && byte != b'>'

@@ -1,6 +1,8 @@
 // Nodes and leaves, shared by Rc.
-ghost use Rattle.std.specs.Prelude.{◌≡◌, ◌≢◌, ◌+◌, length, if◌then◌else◌, IfOk, IfErr, OnOk, MatchOption, IfSome, IfNone, IsNone, None, Some, slice_get, IsTrue, ◌↔◌};
-ghost use Rattle.tx_tree.specs.WideTree.{leaf, node, forest, children_of, is_leaf, text_of, label_of, size_of, depth_of};
+ghost use Rattle.std.specs.Prelude.{◌≡◌, ◌≢◌, ◌+◌, length, if◌then◌else◌, IfOk, IfErr, OnOk, MatchOption, IfSome};
+ghost use Rattle.std.specs.Prelude.{IfNone, IsNone, None, Some, slice_get, IsTrue, ◌↔◌};
+ghost use Rattle.tx_tree.specs.WideTree.{leaf, node, forest, children_of, is_leaf, text_of, label_of, size_of};
+ghost use Rattle.tx_tree.specs.WideTree.{depth_of};
 ghost use Rattle.tx_tree.specs.Limits.{IsWellFormed, IsWithinLimits, IsTreeFault};
 ghost use Rattle.tx_tree.specs.Paths.{subtree};
 ghost use Rattle.tx_tree.specs.Places.{IsOffset, IsOffsetFault};
@@ -78,8 +80,8 @@ impl Tree {
         })
     }
 
-    /// The node with this label and these children, unless it passes a limit: the fault is the first one that it passes, of
-    /// children, depth and size. It is one step, whatever it answers.
+    /// The node with this label and these children, unless it passes a limit: the fault is the first one that it
+    /// passes, of children, depth and size. It is one step, whatever it answers.
     pub fn node<L: Ledger>(
         alloc: Global,
         label: Label,
@@ -182,7 +184,8 @@ impl Tree {
     /// The child of this number, from 0, or None where there is none.
     #[tactic(auto, using(crate::proofs::Children::lookups, std::proofs::lemmas::Grind::common_steps))]
     pub fn child(&self, i: u32) -> Option<&Tree>
-        ensures { MatchOption result (slice_get (children_of self.now) i ≡ None) (λ t. slice_get (children_of self.now) i ≡ Some t.now) }
+        ensures { MatchOption result (slice_get (children_of self.now) i ≡ None)
+            (λ t. slice_get (children_of self.now) i ≡ Some t.now) }
     {
         match &*self.content {
             Content::Leaf(_) => None,

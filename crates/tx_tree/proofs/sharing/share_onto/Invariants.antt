@@ -1,5 +1,5 @@
 use Rattle.std.proofs.Common.{◌≡◌, ◌++◌, take}
-use Rattle.tx_mod.proofs.making.share_onto.Given as goal
+use Rattle.tx_tree.proofs.sharing.share_onto.Given as goal
 
 abbrev pub invariant-loop-tree : goal.invariant-loop-tree
 invariant-loop-tree l = l.into.items ≡ l.fn.into.items ++ take l.tree-index l.trees
