@@ -60,20 +60,17 @@ pub capped_next : (n i : ℕ) (ps qs us : List Past) (p x : Past) → i < length
     → p.name ≡ x.name → p.before ≡ x.before → us ≡ set ps i p → IsCappedTo n i ps qs → IsCappedTo n (i + 1) us qs
 capped_next n i ps qs us p x lt is s m b e h = rw (e, add-one) (next n i ps qs p x lt is s m b h)
 
-all : (n i : ℕ) (ps qs : List Past) → length ps ≤ i → IsCappedTo n i ps qs → changes_of ps ≡ capped n (changes_of qs)
-all n zero [] qs le h = subst (λ zs. [] ≡ capped n (changes_of zs)) h refl
-all n zero (p ∷ ps) qs le h = absurd (omega arith)
-all n (suc i) [] [] le h = refl
-all n (suc i) [] (q ∷ qs) le h = absurd h
-all n (suc i) (p ∷ ps) [] le h = absurd h
-all n (suc i) (p ∷ ps) (q ∷ qs) le h =
+pub capped_all : (n i : ℕ) (ps qs : List Past) → length ps ≤ i → IsCappedTo n i ps qs
+    → changes_of ps ≡ capped n (changes_of qs)
+capped_all n zero [] qs le h = subst (λ zs. [] ≡ capped n (changes_of zs)) h refl
+capped_all n zero (p ∷ ps) qs le h = absurd (omega arith)
+capped_all n (suc i) [] [] le h = refl
+capped_all n (suc i) [] (q ∷ qs) le h = absurd h
+capped_all n (suc i) (p ∷ ps) [] le h = absurd h
+capped_all n (suc i) (p ∷ ps) (q ∷ qs) le h =
     let scope = h.0 in
     let name = h.1 in
     let before = h.2 in
-    rw (scope, name, before) (ap (λ cs. (min q.scope n, (q.name, q.before)) ∷ cs) (all n i ps qs (omega arith) h.3))
-
-pub capped_all : (n i : ℕ) (ps qs : List Past) → length ps ≤ i → IsCappedTo n i ps qs
-    → changes_of ps ≡ capped n (changes_of qs)
-capped_all n i ps qs le h = all n i ps qs le h
+    rw (scope, name, before) (ap (λ cs. (min q.scope n, (q.name, q.before)) ∷ cs) (capped_all n i ps qs (omega arith) h.3))
 
 pub ruleset capped_rules = (capped_next, capped_all)

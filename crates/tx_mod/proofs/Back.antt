@@ -13,6 +13,7 @@ use Rattle.tx_tree.specs.Paths.{subtree, leading}
 use Rattle.tx_tree.specs.WideTree.{WideTree, Forest, leaf, node, nil, cons, forest, trees, children_of, label_of}
 use Rattle.tx_tree.proofs.Children.{trees_forest, forest_trees}
 use Rattle.tx_tree.proofs.Cutting.{text_cut, cut_tested}
+use Rattle.tx_tree.proofs.Walks.{drop_item}
 use Rattle.tx_mod.specs.declared.faults.ModFault.{ModFault}
 use Rattle.tx_mod.specs.declared.faults.ModFault.TheVariants.{NoPath, NotNode, BadPlace, CutsSymbol, Differ}
 use Rattle.tx_mod.specs.declared.mods.Mod.{Mod}
@@ -22,8 +23,8 @@ use Rattle.tx_mod.specs.Changes.{Outcome, asking, inserted, removed, split, spli
 use Rattle.tx_mod.specs.Inverses.{removed_part, without_child, inverse_at}
 use Rattle.tx_mod.specs.Sound.{IsSound, GivesBack}
 use Rattle.tx_mod.proofs.Lists.{list_at, get_within}
-use Rattle.tx_mod.proofs.Measuring.{join_is, split_is, unwrap_is, drop_get}
-use Rattle.tx_mod.proofs.Remade.{texts_together, text_before, text_behind}
+use Rattle.tx_mod.proofs.Measuring.{join_is, split_is, unwrap_is}
+use Rattle.tx_mod.proofs.Remade.{texts_together, text_before, text_behind, asked_ok}
 use Rattle.tx_mod.proofs.Replacing.{down, subtree_of_replaced, replaced_again, replaced_by_same}
 use Rattle.tx_mod.proofs.Whole.{changed_is, limited_ok, limited_within}
 
@@ -72,9 +73,6 @@ ok_got f cause (Some c) v e = (c, refl, e)
 pub same_tree : (a b : WideTree) → ◌≡◌ {A = Outcome} (Ok a) (Ok b) → a ≡ b
 same_tree a b e = cc
 
-yes : (b : Bool) (cause : ModFault) (o : Outcome) → b ≡ true → asking b cause o ≡ o
-yes b cause o e = ap (λ c. asking c cause o) e
-
 eq_self : (l : List ℕ) → bytes_eq l l ≡ true
 eq_self l = (bytes_eq-Decides l l).1 refl
 
@@ -94,9 +92,9 @@ insert_back (leaf text) (leaf more) v i h k e =
     cut_between (take i text ++ more) (drop i text) (i + length more) (texts_together (take i text) more t1 k) t2 (length-append (take i text) more ∙ ap (λ n. n + length more) front) in
     let fits : i + length more ≤ length w = omega (arith, length-append (take i text ++ more) (drop i text), length-append (take i text) more, front) in
     ap (λ z. removed z i (length more)) (sym (same_tree (leaf w) v b.1))
-    ∙ yes (leb (i + length more) (length w)) (BadPlace (length w)) _ (le-leb (i + length more) (length w) fits)
-    ∙ yes (is_cut w i) (CutsSymbol i) _ cut1
-    ∙ yes (is_cut w (i + length more)) (CutsSymbol (i + length more)) _ cut2
+    ∙ asked_ok (leb (i + length more) (length w)) (BadPlace (length w)) _ (le-leb (i + length more) (length w) fits)
+    ∙ asked_ok (is_cut w i) (CutsSymbol i) _ cut1
+    ∙ asked_ok (is_cut w (i + length more)) (CutsSymbol (i + length more)) _ cut2
     ∙ ap (λ z. Ok (leaf z)) (put_taken text more i le)
 insert_back (leaf text) (node m us) v i h k e = absurd (cc)
 insert_back (node l ts) (leaf more) v i h k e = absurd (cc)
@@ -110,7 +108,7 @@ insert_back (node l ts) (node m us) v i h k e =
     omega (arith, length-append (take i (trees ts) ++ trees us) (drop i (trees ts)), length-append (take i (trees ts)) (trees us), length-take-le i (trees ts) le) in
     ap (λ z. removed z i n) (sym (same_tree (node l (forest ws)) v b.1))
     ∙ ap (λ zs. asking (leb (i + n) (length zs)) (BadPlace (length zs)) (Ok (node l (forest (taken_out zs i n))))) (trees_forest ws)
-    ∙ yes (leb (i + n) (length ws)) (BadPlace (length ws)) _ (le-leb (i + n) (length ws) fits)
+    ∙ asked_ok (leb (i + n) (length ws)) (BadPlace (length ws)) _ (le-leb (i + n) (length ws) fits)
     ∙ ap (λ zs. Ok (node l (forest zs))) (put_taken (trees ts) (trees us) i le)
     ∙ ap (λ f. Ok (node l f)) (forest_trees ts)
 
@@ -125,8 +123,8 @@ remove_back (leaf text) v i n h e =
     let cut : is_cut w i ≡ true = cut_between (take i text) (drop (i + n) text) i (text_before text i h b.0) (text_behind text (i + n) h c.0) front in
     let fits : i ≤ length w = omega (arith, length-append (take i text) (drop (i + n) text), front) in
     ap (λ z. inserted z i (leaf (part_of text i n))) (sym (same_tree (leaf w) v c.1))
-    ∙ yes (leb i (length w)) (BadPlace (length w)) _ (le-leb i (length w) fits)
-    ∙ yes (is_cut w i) (CutsSymbol i) _ cut
+    ∙ asked_ok (leb i (length w)) (BadPlace (length w)) _ (le-leb i (length w) fits)
+    ∙ asked_ok (is_cut w i) (CutsSymbol i) _ cut
     ∙ ap (λ z. Ok (leaf z)) (taken_put text i n le)
 remove_back (node l ts) v i n h e =
     let a = ok_asked (leb (i + n) (length (trees ts))) (BadPlace (length (trees ts))) _ v e in
@@ -137,8 +135,8 @@ remove_back (node l ts) v i n h e =
     ap (λ z. inserted z i (node tuple (forest us))) (sym (same_tree (node l (forest ws)) v a.1))
     ∙ ap (λ zs. asking (bytes_eq tuple tuple) NotNode (asking (leb i (length zs)) (BadPlace (length zs)) (Ok (node l (forest (put_in zs i (trees (forest us)))))))) (trees_forest ws)
     ∙ ap (λ zs. asking (bytes_eq tuple tuple) NotNode (asking (leb i (length ws)) (BadPlace (length ws)) (Ok (node l (forest (put_in ws i zs)))))) (trees_forest us)
-    ∙ yes (bytes_eq tuple tuple) NotNode _ (eq_self tuple)
-    ∙ yes (leb i (length ws)) (BadPlace (length ws)) _ (le-leb i (length ws) fits)
+    ∙ asked_ok (bytes_eq tuple tuple) NotNode _ (eq_self tuple)
+    ∙ asked_ok (leb i (length ws)) (BadPlace (length ws)) _ (le-leb i (length ws) fits)
     ∙ ap (λ zs. Ok (node l (forest zs))) (taken_put (trees ts) i n le)
     ∙ ap (λ f. Ok (node l f)) (forest_trees ts)
 
@@ -147,7 +145,7 @@ remove_back (node l ts) v i n h e =
 rejoined : (c : WideTree) (j : ℕ) → joined (before c j) (behind c j) ≡ Ok c
 rejoined (leaf text) j = ap (λ z. Ok (leaf z)) (take-append-drop j text)
 rejoined (node l ts) j =
-    yes (bytes_eq l l) Differ _ (eq_self l)
+    asked_ok (bytes_eq l l) Differ _ (eq_self l)
     ∙ ap (λ zs. Ok (node l (forest (zs ++ trees (forest (drop j (trees ts))))))) (trees_forest (take j (trees ts)))
     ∙ ap (λ zs. Ok (node l (forest (take j (trees ts) ++ zs)))) (trees_forest (drop j (trees ts)))
     ∙ ap (λ zs. Ok (node l (forest zs))) (take-append-drop j (trees ts))
@@ -242,11 +240,11 @@ join_back (node l ts) v i h e =
     let two : drop (i + 1) ws ≡ rest =
     ap (drop (i + 1)) (sym (append_assoc (take i T) (c ∷ []) rest)) ∙ drop_at (take i T ++ c ∷ []) rest (i + 1) (omega (arith, length-append (take i T) (c ∷ []), front)) in
     let next : (i + 1) + 1 ≡ i + 2 = omega arith in
-    let tail : drop (i + 1) T ≡ b ∷ rest = drop_get T (i + 1) b k.1 ∙ ap (λ n. b ∷ drop n T) next in
+    let tail : drop (i + 1) T ≡ b ∷ rest = drop_item T (i + 1) b k.1 ∙ ap (λ n. b ∷ drop n T) next in
     ap (λ o. split v i (option_map_or extent o 0)) g.1
     ∙ split_is v l ws i j c (sym t.2) found
-    ∙ yes (leb j (extent c)) (BadPlace (extent c)) _ (le-leb j (extent c) r.there)
-    ∙ yes (is_clean c j) (CutsSymbol j) _ r.clean
+    ∙ asked_ok (leb j (extent c)) (BadPlace (extent c)) _ (le-leb j (extent c) r.there)
+    ∙ asked_ok (is_clean c j) (CutsSymbol j) _ r.clean
     ∙ ap (λ z. Ok (node l (forest (take i ws ++ z ∷ behind c j ∷ drop (i + 1) ws)))) r.front
     ∙ ap (λ z. Ok (node l (forest (take i ws ++ a ∷ z ∷ drop (i + 1) ws)))) r.back
     ∙ ap (λ zs. Ok (node l (forest (zs ++ a ∷ b ∷ drop (i + 1) ws)))) one
@@ -279,9 +277,9 @@ unwrap_back (node l ts) v i e =
     let within : i < length T = get_within T i v found in
     let ws : List WideTree = taken_out T i 1 in
     let fits : i ≤ length ws = omega (arith, length-append (take i T) (drop (i + 1) T), length-take-le i T (omega arith)) in
-    let part : part_of T i 1 ≡ v ∷ [] = ap (take 1) (drop_get T i v found) in
+    let part : part_of T i 1 ≡ v ∷ [] = ap (take 1) (drop_item T i v found) in
     ap (λ zs. asking (leb i (length zs)) (BadPlace (length zs)) (Ok (node l (forest (put_in zs i (v ∷ [])))))) (trees_forest ws)
-    ∙ yes (leb i (length ws)) (BadPlace (length ws)) _ (le-leb i (length ws) fits)
+    ∙ asked_ok (leb i (length ws)) (BadPlace (length ws)) _ (le-leb i (length ws) fits)
     ∙ ap (λ zs. Ok (node l (forest (put_in ws i zs)))) (sym part)
     ∙ ap (λ zs. Ok (node l (forest zs))) (taken_put T i 1 (omega arith))
     ∙ ap (λ f. Ok (node l f)) (forest_trees ts)

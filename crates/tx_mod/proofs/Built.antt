@@ -13,9 +13,10 @@ use Rattle.tx_tree.specs.WideTree.{WideTree, node, forest, children_of, depth_of
 use Rattle.tx_tree.proofs.Children.{trees_forest, count-forest}
 use Rattle.tx_tree.proofs.TextFaults.{text_has_no_fault}
 use Rattle.tx_tree.proofs.TreeFaults.{tree_has_no_fault}
+use Rattle.tx_tree.proofs.Walking.{step_down}
 use Rattle.tx_mod.specs.Mods.{with_child, replaced}
 use Rattle.tx_mod.proofs.Lists.{drop_past}
-use Rattle.tx_mod.proofs.Replacing.{subtree_down, replaced_down, text_in_replaced, arity_in_replaced, size_of_subtree, depth_with, with_same_child, child_of_with}
+use Rattle.tx_mod.proofs.Replacing.{replaced_down, text_in_replaced, arity_in_replaced, size_of_subtree, depth_with, with_same_child, child_of_with}
 
 -- what makes no text of a text is want of memory
 pub sound_text : (bytes : List ℕ) (fault : TextFault) → IsText bytes → length bytes ≤ 1048575 → (fault ≢ TextMemory → IsTextFault bytes fault) → fault ≡ TextMemory
@@ -59,7 +60,7 @@ with_child_within t v i l ts us e lt is w = rw is (subst IsWithinLimits (with_ch
 -- ---- the first step of a path
 
 pub leads_down : (t c : WideTree) (path rest : List ℕ) (i : ℕ) → slice_get (children_of t) i ≡ Some c → path ≡ i ∷ rest → IsSome (subtree t path) → IsSome (subtree c rest)
-leads_down t c path rest i f e h = subst (λ o. IsSome o) (ap (subtree t) e ∙ subtree_down t c i rest f) h
+leads_down t c path rest i f e h = subst (λ o. IsSome o) (ap (subtree t) e ∙ step_down t c i rest f) h
 
 pub replaced_first : (t c u : WideTree) (path rest : List ℕ) (i : ℕ) → slice_get (children_of t) i ≡ Some c → path ≡ i ∷ rest → replaced t path u ≡ with_child t i (replaced c rest u)
 replaced_first t c u path rest i f e = ap (λ p. replaced t p u) e ∙ replaced_down t c i rest u f
@@ -69,7 +70,7 @@ pub child_within : (t c : WideTree) (i : ℕ) → slice_get (children_of t) i �
 child_within t c i f w =
     let e : replaced t (i ∷ []) c ≡ with_child t i c = replaced_down t c i [] c f in
     let same : with_child t i c ≡ t = with_same_child t c i f in
-    let path : subtree t (i ∷ []) ≡ Some c = subtree_down t c i [] f in
+    let path : subtree t (i ∷ []) ≡ Some c = step_down t c i [] f in
     record {
       text = omega (arith, w.text, text_in_replaced (i ∷ []) t c c path, ap text_length_of e, ap text_length_of same);
       arity = omega (arith, w.arity, arity_in_replaced (i ∷ []) t c c path, ap arity_of e, ap arity_of same);

@@ -58,12 +58,12 @@ both_inverses (m ∷ ms) ns t v e =
     ∙ append_assoc (inverses_of ns v) (inverses_of ms b.next) (inverse_of m t ∷ [])
     ∙ ap (λ z. inverses_of ns v ++ z) (sym (inverses_from m ms t b.next b.first))
 
-cost_of_both : (ms ns : List Mod) → cost_of (ms ++ ns) ≡ cost_of ms + cost_of ns
+pub cost_of_both : (ms ns : List Mod) → cost_of (ms ++ ns) ≡ cost_of ms + cost_of ns
 cost_of_both [] ns = omega arith
 cost_of_both (m ∷ ms) ns = omega (arith, cost_of_both ms ns)
 
 -- what undoes a modification has its path
-path_of_inverse : (m : Mod) (t : WideTree) → path_of (inverse_of m t) ≡ path_of m
+pub path_of_inverse : (m : Mod) (t : WideTree) → path_of (inverse_of m t) ≡ path_of m
 path_of_inverse m t = by_subtree (subtree t (path_of m))
   where
     by_subtree : (o : Option WideTree) → path_of (option_map_or (inverse_at m) o m) ≡ path_of m

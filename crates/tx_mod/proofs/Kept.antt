@@ -7,6 +7,7 @@ use Rattle.std.proofs.lemmas.Bool.{leb-true, leb-false, ltb-true, ltb-false, eqb
 use Rattle.std.proofs.lemmas.List.{length-take-le}
 use Rattle.tx_tree.specs.Paths.{subtree}
 use Rattle.tx_tree.specs.WideTree.{WideTree, leaf, node, forest, trees, children_of}
+use Rattle.tx_tree.proofs.Walking.{step_down}
 use Rattle.tx_mod.specs.declared.faults.ModFault.TheVariants.{Differ}
 use Rattle.tx_mod.specs.declared.mods.Mod.{Mod}
 use Rattle.tx_mod.specs.declared.mods.Mod.TheVariants.{Assign, Insert, Remove, Split, Join, AssignNode, InsertNode, RemoveNode}
@@ -16,7 +17,7 @@ use Rattle.tx_mod.specs.Moves.{rest_behind, child_or_self, shifted, some_path, c
 use Rattle.tx_mod.specs.Followed.{CarriesSubtree}
 use Rattle.tx_mod.proofs.Cases.{by_test}
 use Rattle.tx_mod.proofs.Lists.{get_within}
-use Rattle.tx_mod.proofs.Replacing.{down, subtree_down, replaced_down, child_of_with, other_child_of_with, subtree_of_replaced}
+use Rattle.tx_mod.proofs.Replacing.{down, replaced_down, child_of_with, other_child_of_with, subtree_of_replaced}
 use Rattle.tx_mod.proofs.Back.{ok_asked, same_tree, made_of}
 use Rattle.tx_mod.proofs.Shapes.{get_front, get_behind, get_take, get_drop, put_before, put_behind, left_before, left_behind, child_in, child_is, child_stays, shape_inserted, shape_removed, shape_split, shape_joined, shape_labelled, shape_wrapped, shape_unwrapped}
 
@@ -176,9 +177,9 @@ split_child_keeps s v x c i j [] r e g f = keeps_none v x r
 split_child_keeps s v x c i j (l ∷ w) r e g f =
     by_test (Keeps v x r) (leb j l) (Some ((i + 1) ∷ (l - j) ∷ w)) (Some (i ∷ l ∷ w))
     (λ t. keeps_some v x r ((i + 1) ∷ (l - j) ∷ w)
-    (subtree_down v (behind c j) (i + 1) ((l - j) ∷ w) (split_right s v c i j e g) ∙ child_stays c (behind c j) l (l - j) w x (λ d h. behind_child c d j l (leb-true j l t) h) f))
+    (step_down v (behind c j) (i + 1) ((l - j) ∷ w) (split_right s v c i j e g) ∙ child_stays c (behind c j) l (l - j) w x (λ d h. behind_child c d j l (leb-true j l t) h) f))
     (λ t. keeps_some v x r (i ∷ l ∷ w)
-    (subtree_down v (before c j) i (l ∷ w) (split_left s v c i j e g) ∙ child_stays c (before c j) l l w x (λ d h. before_child c d j l (leb-false j l t) h) f))
+    (step_down v (before c j) i (l ∷ w) (split_left s v c i j e g) ∙ child_stays c (before c j) l l w x (λ d h. before_child c d j l (leb-false j l t) h) f))
 
 split_keeps : (s v x : WideTree) (i j : ℕ) (q r : List ℕ) → split s i j ≡ Ok v → subtree s q ≡ Some x → Keeps v x r (carried_by_split i j q)
 split_keeps s v x i j [] r e f = keeps_none v x r
@@ -197,12 +198,12 @@ join_child_keeps : (s v x a b c : WideTree) (i n : ℕ) (q r : List ℕ) → sli
 join_child_keeps s v x a b c i n [] r g t is f = keeps_none v x r
 join_child_keeps s v x a b c i n (l ∷ w) r g t is f =
     keeps_some v x r (i ∷ (l + n) ∷ w)
-    (subtree_down v c i ((l + n) ∷ w) g ∙ child_stays b c l (l + n) w x (λ d h. subst (λ m. slice_get (children_of c) (l + m) ≡ Some d) (sym is) (right_child a b c d l t h)) f)
+    (step_down v c i ((l + n) ∷ w) g ∙ child_stays b c l (l + n) w x (λ d h. subst (λ m. slice_get (children_of c) (l + m) ≡ Some d) (sym is) (right_child a b c d l t h)) f)
 
 left_keeps : (v x a b c : WideTree) (i : ℕ) (q r : List ℕ) → slice_get (children_of v) i ≡ Some c → joined a b ≡ Ok c → subtree a q ≡ Some x
     → Keeps v x r (option_map (λ w. i ∷ w) (some_path q))
 left_keeps v x a b c i [] r g t f = keeps_none v x r
-left_keeps v x a b c i (l ∷ w) r g t f = keeps_some v x r (i ∷ l ∷ w) (subtree_down v c i (l ∷ w) g ∙ child_stays a c l l w x (λ d h. left_child a b c d l t h) f)
+left_keeps v x a b c i (l ∷ w) r g t f = keeps_some v x r (i ∷ l ∷ w) (step_down v c i (l ∷ w) g ∙ child_stays a c l l w x (λ d h. left_child a b c d l t h) f)
 
 join_keeps : (s v x : WideTree) (i : ℕ) (q r : List ℕ) → joined_at s i ≡ Ok v → subtree s q ≡ Some x → Keeps v x r (carried_by_join i (extent (child_or_self s i)) q)
 join_keeps s v x i [] r e f = keeps_none v x r
@@ -241,7 +242,7 @@ unwrap_keeps s v x i [] r e f = keeps_none v x r
 unwrap_keeps s v x i (k ∷ u) r e f =
     by_test (Keeps v x r) (eqb k i) (Some u) None
     (λ t. let same : k ≡ i = eqb-true k i t in
-    let here : subtree s (i ∷ u) ≡ subtree v u = subtree_down s v i u (shape_unwrapped s v i e) in
+    let here : subtree s (i ∷ u) ≡ subtree v u = step_down s v i u (shape_unwrapped s v i e) in
     keeps_some v x r u (sym here ∙ subst (λ n. subtree s (n ∷ u) ≡ Some x) same f))
     (λ t. keeps_none v x r)
 
@@ -254,7 +255,7 @@ keeps_at (Remove p i n) s v x q r e f = remove_keeps s v x i n q r e f
 keeps_at (Split p i j) s v x q r e f = split_keeps s v x i j q r e f
 keeps_at (Join p i) s v x q r e f = join_keeps s v x i q r e f
 keeps_at (AssignNode p l) s v x q r e f = label_keeps s v x l q r e f
-keeps_at (InsertNode p i y) s v x q r e f = keeps_some v x r (i ∷ q) (subtree_down v s i q (shape_wrapped s y v i e) ∙ f)
+keeps_at (InsertNode p i y) s v x q r e f = keeps_some v x r (i ∷ q) (step_down v s i q (shape_wrapped s y v i e) ∙ f)
 keeps_at (RemoveNode p i) s v x q r e f = unwrap_keeps s v x i q r e f
 
 -- ---- paths of the whole tree
@@ -262,7 +263,7 @@ keeps_at (RemoveNode p i) s v x q r e f = unwrap_keeps s v x i q r e f
 -- a path behind another leads on from where that leads
 pub subtree_behind : (p q : List ℕ) (t s : WideTree) → subtree t p ≡ Some s → subtree t (p ++ q) ≡ subtree s q
 subtree_behind [] q t s e = let same : t ≡ s = cc in ap (λ z. subtree z q) same
-subtree_behind (i ∷ p) q t s e = let d = down t i p s e in subtree_down t d.child i (p ++ q) d.found ∙ subtree_behind p q d.child s d.further
+subtree_behind (i ∷ p) q t s e = let d = down t i p s e in step_down t d.child i (p ++ q) d.found ∙ subtree_behind p q d.child s d.further
 
 pub rest_is : (p q r : List ℕ) → rest_behind p q ≡ Some r → q ≡ p ++ r
 rest_is [] q r e = cc
@@ -286,7 +287,7 @@ parted (i ∷ p) (k ∷ q) t s v e f g =
     tested c n true true t1 t2 found ih h h' =
         let same : i ≡ k = eqb-true i k t1 in
         subst (λ z. subtree (with_child t i n) (z ∷ q) ≡ subtree t (z ∷ q)) same
-        (subtree_down (with_child t i n) n i q (child_of_with t c n i found) ∙ ih h h' ∙ sym (subtree_down t c i q found))
+        (step_down (with_child t i n) n i q (child_of_with t c n i found) ∙ ih h h' ∙ sym (step_down t c i q found))
     tested c n true false t1 t2 found ih h h' = absurd (eqb-false k i t2 (sym (eqb-true i k t1)))
     tested c n false b' t1 t2 found ih h h' =
         let ne : k ≡ i → ⊥ = λ z. eqb-false i k t1 (sym z) in

@@ -1,5 +1,5 @@
 -- The measure of what a modification makes of a subtree.
-use Rattle.std.proofs.Common.{◌≡◌, ℕ, zero, suc, ◌+◌, ◌<◌, ◌≤◌, max, Bool, true, false, leb, List, [], ◌∷◌, ◌++◌, length, take, drop, get_or, Option, Some, None, Ok, Err, refl, sym, ap, subst, ◌∙◌, length-append, length-take, length-drop, arith}
+use Rattle.std.proofs.Common.{◌≡◌, ℕ, ◌+◌, ◌<◌, ◌≤◌, max, Bool, true, false, leb, List, [], ◌∷◌, ◌++◌, length, take, drop, get_or, Option, Some, None, Ok, Err, refl, sym, ap, subst, ◌∙◌, length-append, length-take, length-drop, arith}
 use Rattle.std.specs.Prelude.{slice_get}
 use Rattle.std.specs.Option.{option_map_or}
 use Rattle.std.specs.Str.{bytes_eq}
@@ -10,13 +10,14 @@ use Rattle.std.proofs.lemmas.Bool.{le-leb}
 use Rattle.tx_tree.specs.Limits.{IsWithinLimits}
 use Rattle.tx_tree.specs.WideTree.{WideTree, Forest, leaf, node, nil, cons, forest, trees, size_of, total_size, depth_of, deepest, arity_of, widest, count, text_length_of, longest_text}
 use Rattle.tx_tree.proofs.Children.{trees_forest, forest_trees, total_size-append, deepest-append, widest-append, longest_text-append, count-forest}
+use Rattle.tx_tree.proofs.Walks.{drop_item}
 use Rattle.tx_mod.specs.declared.faults.ModFault.{ModFault}
 use Rattle.tx_mod.specs.declared.faults.ModFault.TheVariants.{NotNode, BadPlace, CutsSymbol, Differ}
 use Rattle.tx_mod.specs.declared.measures.Measure.{Measure}
 use Rattle.tx_mod.specs.Mods.{tuple, put_in, taken_out, extent, is_clean, before, behind}
 use Rattle.tx_mod.specs.Changes.{Outcome, asking, inserted, removed, split, split_child, joined, joined_at, in_place_of_two, wrapped, unwrapped}
 use Rattle.tx_mod.specs.Measures.{IsPeak, IsMade}
-use Rattle.tx_mod.proofs.Lists.{list_at, drop_past}
+use Rattle.tx_mod.proofs.Lists.{list_at}
 
 pub some_size : (t : WideTree) → 1 ≤ size_of t
 some_size (leaf text) = omega arith
@@ -258,11 +259,6 @@ wrap_made s x l ts i a e le w v text arity depth size =
 
 -- ---- joining of two children
 
-pub drop_get : {X : Type 0} → (xs : List X) (i : ℕ) (x : X) → slice_get xs i ≡ Some x → drop i xs ≡ x ∷ drop (i + 1) xs
-drop_get [] i x e = absurd (cc)
-drop_get (y ∷ xs) zero x e = let same : y ≡ x = cc in ap (λ z. z ∷ xs) same
-drop_get {X} (y ∷ xs) (suc i) x e = let rest : drop i xs ≡ x ∷ drop (i + 1) xs = drop_get {X = X} xs i x e in rest ∙ ap (λ z. x ∷ z) (sym (drop_past xs y i))
-
 pub join_is : (s : WideTree) (l : List ℕ) (ts : List WideTree) (i : ℕ) (a b : WideTree) → s ≡ node l (forest ts) → slice_get ts i ≡ Some a → slice_get ts (i + 1) ≡ Some b
     → joined_at s i ≡ in_place_of_two l ts i (joined a b)
 join_is s l ts i a b e f g =
@@ -314,7 +310,7 @@ join_made s l ts i a b pair whole e f g h w text arity depth size =
     let j = joint a b c h.is in
     let r = of_round ts i a f in
     let back : List WideTree = drop (i + 2) ts in
-    let tail : drop (i + 1) ts ≡ b ∷ back = drop_get ts (i + 1) b g ∙ ap (λ k. b ∷ drop k ts) (let two : (i + 1) + 1 ≡ i + 2 = omega arith in two) in
+    let tail : drop (i + 1) ts ≡ b ∷ back = drop_item ts (i + 1) b g ∙ ap (λ k. b ∷ drop k ts) (let two : (i + 1) + 1 ≡ i + 2 = omega arith in two) in
     let after : List WideTree = drop (i + 1) ts in
     let tail_size : total_size (forest after) ≡ size_of b + total_size (forest back) = ap (λ us. total_size (forest us)) tail in
     let tail_depth : deepest (forest after) ≡ max (depth_of b) (deepest (forest back)) = ap (λ us. deepest (forest us)) tail in

@@ -264,6 +264,3 @@ pub found_same : (ts : List WideTree) (i : ℕ) (c d : WideTree) → slice_get t
 found_same [] i c d e f = absurd (cc)
 found_same (t ∷ ts) zero c d e f = let same : t ≡ c = cc in f ∙ same
 found_same (t ∷ ts) (suc i) c d e f = found_same ts i c d e f
-
-pub same_Some_ok : (a b : WideTree) → ◌≡◌ {A = Outcome} (Ok a) (Ok b) → a ≡ b
-same_Some_ok a b e = cc

@@ -1,11 +1,12 @@
 -- A tree in which the subtree of a path is replaced.
 use Rattle.std.proofs.Common.{◌≡◌, ℕ, zero, suc, ◌+◌, ◌≤◌, max, List, [], ◌∷◌, take, drop, set, Some, refl, sym, ap, ◌∙◌, arith}
-use Rattle.std.specs.Prelude.{slice_get, option_and_then}
+use Rattle.std.specs.Prelude.{slice_get}
 use Rattle.std.specs.Option.{option_map_or}
 use Rattle.std.proofs.lemmas.Option.{option_and_then_some}
 use Rattle.tx_tree.specs.Paths.{subtree}
 use Rattle.tx_tree.specs.WideTree.{WideTree, Forest, leaf, node, nil, cons, forest, trees, children_of, size_of, total_size, depth_of, deepest, arity_of, widest, count, text_length_of, longest_text}
 use Rattle.tx_tree.proofs.Children.{trees_forest, forest_trees}
+use Rattle.tx_tree.proofs.Walking.{step_down}
 use Rattle.tx_mod.specs.Mods.{with_child, replaced}
 use Rattle.tx_mod.proofs.Lists.{get_of_set, get_of_set_other, set_to_same, total_size_of_set, deepest_of_set, longest_text_of_set, text_length_in_set, widest_of_set, arity_in_set, count_of_set}
 
@@ -17,9 +18,6 @@ pub record IsDown (t : WideTree) (i : ℕ) (path : List ℕ) (s : WideTree) : Ty
 
 pub down : (t : WideTree) (i : ℕ) (path : List ℕ) (s : WideTree) → subtree t (i ∷ path) ≡ Some s → IsDown t i path s
 down t i path s e = option_and_then_some (λ u. subtree u path) (slice_get (children_of t) i) s e (λ c f g. record { child = c; found = f; further = g })
-
-pub subtree_down : (t c : WideTree) (i : ℕ) (path : List ℕ) → slice_get (children_of t) i ≡ Some c → subtree t (i ∷ path) ≡ subtree c path
-subtree_down t c i path e = ap (option_and_then (λ u. subtree u path)) e
 
 pub replaced_down : (t c : WideTree) (i : ℕ) (path : List ℕ) (u : WideTree) → slice_get (children_of t) i ≡ Some c → replaced t (i ∷ path) u ≡ with_child t i (replaced c path u)
 replaced_down t c i path u e = ap (λ o. option_map_or (λ x. with_child t i (replaced x path u)) o t) e
@@ -54,7 +52,7 @@ subtree_of_replaced [] t s u e = refl
 subtree_of_replaced (i ∷ path) t s u e =
     let d = down t i path s e in
     ap (λ x. subtree x (i ∷ path)) (replaced_down t d.child i path u d.found)
-    ∙ subtree_down (with_child t i (replaced d.child path u)) (replaced d.child path u) i path (child_of_with t d.child (replaced d.child path u) i d.found)
+    ∙ step_down (with_child t i (replaced d.child path u)) (replaced d.child path u) i path (child_of_with t d.child (replaced d.child path u) i d.found)
     ∙ subtree_of_replaced path d.child s u d.further
 
 pub replaced_again : (path : List ℕ) (t s u v : WideTree) → subtree t path ≡ Some s → replaced (replaced t path u) path v ≡ replaced t path v

@@ -8,12 +8,13 @@ use Rattle.std.proofs.lemmas.List.{length-take-le}
 use Rattle.tx_tree.specs.Paths.{subtree}
 use Rattle.tx_tree.specs.WideTree.{WideTree, leaf, node, forest, trees, children_of}
 use Rattle.tx_tree.proofs.Children.{trees_forest, forest_trees}
+use Rattle.tx_tree.proofs.Walking.{step_down}
 use Rattle.tx_mod.specs.declared.faults.ModFault.TheVariants.{NotNode, BadPlace, CutsSymbol}
 use Rattle.tx_mod.specs.Mods.{tuple, put_in, taken_out, extent, is_clean, before, behind}
 use Rattle.tx_mod.specs.Changes.{inserted, removed, split, split_child, joined, joined_at, in_place_of_two, labelled, wrapped, unwrapped}
 use Rattle.tx_mod.specs.Moves.{child_or_self}
 use Rattle.tx_mod.proofs.Lists.{get_within}
-use Rattle.tx_mod.proofs.Replacing.{down, subtree_down}
+use Rattle.tx_mod.proofs.Replacing.{down}
 use Rattle.tx_mod.proofs.Back.{ok_asked, ok_got, ok_two, same_tree}
 
 -- ---- elements of lists
@@ -70,7 +71,7 @@ child_is s c i e = ap (λ o. option_map_or (λ z. z) o s) e
 -- where a child is child j of another tree, paths below it lead to the same
 pub child_stays : (s v : WideTree) (k j : ℕ) (u : List ℕ) (x : WideTree) → ((c : WideTree) → slice_get (children_of s) k ≡ Some c → slice_get (children_of v) j ≡ Some c) → subtree s (k ∷ u) ≡ Some x
     → subtree v (j ∷ u) ≡ Some x
-child_stays s v k j u x f e = let d = down s k u x e in subtree_down v d.child j u (f d.child d.found) ∙ d.further
+child_stays s v k j u x f e = let d = down s k u x e in step_down v d.child j u (f d.child d.found) ∙ d.further
 
 -- ---- kinds
 

@@ -12,6 +12,7 @@ use Rattle.tx_tree.specs.Paths.{subtree}
 use Rattle.tx_tree.specs.Places.{IsOffset, IsPlace}
 use Rattle.tx_tree.specs.Texts.{IsText, IsCut}
 use Rattle.tx_tree.specs.WideTree.{WideTree, Forest, leaf, node, forest, trees, children_of}
+use Rattle.tx_tree.proofs.Walking.{step_down}
 use Rattle.tx_mod.specs.declared.faults.ModFault.TheVariants.{Differ, BadPlace, CutsSymbol}
 use Rattle.tx_mod.specs.declared.mods.Mod.{Mod}
 use Rattle.tx_mod.specs.declared.mods.Mod.TheVariants.{Assign, Insert, Remove, Split, Join, AssignNode, InsertNode, RemoveNode}
@@ -21,7 +22,7 @@ use Rattle.tx_mod.specs.Moves.{rest_behind, place, below, child_or_self, shifted
 use Rattle.tx_mod.specs.Sound.{IsSound}
 use Rattle.tx_mod.specs.Followed.{StaysPlace}
 use Rattle.tx_mod.proofs.Cases.{by_test}
-use Rattle.tx_mod.proofs.Replacing.{down, subtree_down, replaced_down, child_of_with, other_child_of_with, subtree_of_replaced}
+use Rattle.tx_mod.proofs.Replacing.{down, replaced_down, child_of_with, other_child_of_with, subtree_of_replaced}
 use Rattle.tx_mod.proofs.Remade.{texts_together, text_before, text_behind}
 use Rattle.tx_mod.proofs.Back.{ok_asked, same_tree, made_of, child_well_formed, well_formed_at}
 use Rattle.tx_mod.proofs.CutPlaces.{cut_of, cut_push, cut_append, cut_in_front, cut_behind}
@@ -58,10 +59,10 @@ below_child s v k j u o f h = let a = place_at s (k ∷ u) o h in place_of v (j 
 
 -- a place of child i
 at_child : (v c : WideTree) (i : ℕ) (u : List ℕ) (o : ℕ) → slice_get (children_of v) i ≡ Some c → IsPlace c u o → IsPlace v (i ∷ u) o
-at_child v c i u o e h = subst (λ z. IsSomeAnd z (λ x. IsOffset x o)) (sym (subtree_down v c i u e)) h
+at_child v c i u o e h = subst (λ z. IsSomeAnd z (λ x. IsOffset x o)) (sym (step_down v c i u e)) h
 
 of_child : (s c : WideTree) (i : ℕ) (u : List ℕ) (o : ℕ) → slice_get (children_of s) i ≡ Some c → IsPlace s (i ∷ u) o → IsPlace c u o
-of_child s c i u o e h = subst (λ z. IsSomeAnd z (λ x. IsOffset x o)) (subtree_down s c i u e) h
+of_child s c i u o e h = subst (λ z. IsSomeAnd z (λ x. IsOffset x o)) (step_down s c i u e) h
 
 node_place : (v : WideTree) (l : List ℕ) (ts : Forest) (o : ℕ) → v ≡ node l ts → o ≤ 1 → IsPlace v [] o
 node_place v l ts o e h = subst (λ z. IsOffset z o) (sym e) h

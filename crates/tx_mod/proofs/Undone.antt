@@ -1,6 +1,6 @@
 -- What gives a changed subtree back.
-use Rattle.std.proofs.Common.{◌≡◌, ℕ, ◌+◌, ◌-◌, ◌≤◌, true, List, ◌++◌, take, drop, None, Result, Ok, Err, refl, sym, ap, subst, ◌∙◌, length-take, length-drop, arith}
-use Rattle.std.specs.Prelude.{IsOkAnd, IfOk}
+use Rattle.std.proofs.Common.{◌≡◌, ℕ, ◌+◌, ◌-◌, ◌≤◌, true, List, ◌++◌, take, drop, None, refl, sym, ap, subst, ◌∙◌, length-take, length-drop, arith}
+use Rattle.std.specs.Prelude.{IsOkAnd}
 use Rattle.std.proofs.lemmas.List.{take-append-drop, drop-take, take-take, drop-drop}
 use Rattle.tx_tree.specs.Cuts.{is_cut}
 use Rattle.tx_tree.specs.Labels.{is_label_byte, IsLabel}
@@ -75,10 +75,6 @@ without_is s l ts us i e is = rw (e, trees_forest ts, is) refl
 pub tuple_is_label : IsLabel tuple
 unfolding is_label_byte
 tuple_is_label = record { each = (refl, (refl, (refl, (refl, (refl, tt))))); some = omega arith; short = omega arith }
-
-pub same_ok : {E : Type 0} (v w : WideTree) (r : Result WideTree E) → v ≡ w → IfOk r (λ t. t ≡ w) → IfOk r (λ u. u ≡ v)
-same_ok v w (Ok u) e h = h ∙ sym e
-same_ok v w (Err x) e h = h
 
 pub sub_add : (i n : ℕ) → (i + n) - i ≡ n
 sub_add i n = omega arith

@@ -138,13 +138,13 @@ NoLetter-open y = NoLetter-kind 40 Opens y opens_kind (λ e. cc)
 pub NoLetter-close : (y : List ℕ) → NoLetter (41 ∷ y)
 NoLetter-close y = NoLetter-kind 41 Closes y closes_kind (λ e. cc)
 
-leaf_parts : (bytes text y : List ℕ) → bytes ≡ string_of text → bytes ++ y ≡ 34 ∷ (flat_map escaped text ++ 34 ∷ y)
+pub leaf_parts : (bytes text y : List ℕ) → bytes ≡ string_of text → bytes ++ y ≡ 34 ∷ (flat_map escaped text ++ 34 ∷ y)
 leaf_parts bytes text y e = rw e (simp append_assoc)
 
-node_parts : (bytes before label x behind y : List ℕ) → bytes ≡ 40 ∷ (before ++ (label ++ (x ++ (behind ++ 41 ∷ [])))) → bytes ++ y ≡ 40 ∷ (before ++ (label ++ (x ++ (behind ++ 41 ∷ y))))
+pub node_parts : (bytes before label x behind y : List ℕ) → bytes ≡ 40 ∷ (before ++ (label ++ (x ++ (behind ++ 41 ∷ [])))) → bytes ++ y ≡ 40 ∷ (before ++ (label ++ (x ++ (behind ++ 41 ∷ y))))
 node_parts bytes before label x behind y e = rw e (simp append_assoc)
 
-cons_parts : (bytes w x z y : List ℕ) → bytes ≡ w ++ (x ++ z) → bytes ++ y ≡ w ++ (x ++ (z ++ y))
+pub cons_parts : (bytes w x z y : List ℕ) → bytes ≡ w ++ (x ++ z) → bytes ++ y ≡ w ++ (x ++ (z ++ y))
 cons_parts bytes w x z y e = rw e (simp append_assoc)
 
 NoLetter-tree : (t : WideTree) (x y : List ℕ) → SpellsTree x t → NoLetter (x ++ y)

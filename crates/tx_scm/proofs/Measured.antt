@@ -9,9 +9,10 @@ use Rattle.tx_scm.specs.declared.kinds.Kind.TheVariants.{Opens, Closes, Quote, B
 use Rattle.tx_scm.specs.declared.measures.Part.{Part}
 use Rattle.tx_scm.specs.declared.measures.Part.TheVariants.{Outside, Inside, Escaped}
 use Rattle.tx_scm.specs.Kinds.{kind_of}
-use Rattle.tx_scm.specs.Spelling.{AreWhite, escaped, string_of, SpellsTree, SpellsTrees, Spells}
+use Rattle.tx_scm.specs.Spelling.{AreWhite, escaped, SpellsTree, SpellsTrees, Spells}
 use Rattle.tx_scm.specs.Measuring.{Gauge, counted, closed, longer, outside_step, inside_step, step, step_in, measured, nothing, Measures, AreSmall, IsShort, IsSmall}
 use Rattle.tx_scm.proofs.ByteKinds.{white_kind, letter_kind, opens_kind, closes_kind, quote_kind, backslash_kind, EscapedAs, escaped_as}
+use Rattle.tx_scm.proofs.Complete.{leaf_parts, node_parts, cons_parts}
 
 -- a gauge by its parts
 abbrev at_rest : List ℕ → ℕ → ℕ → ℕ → ℕ → Gauge
@@ -69,15 +70,6 @@ text_run counts text arity depth size n (b ∷ more) y =
     ∙ text_run counts text arity depth (size + 1) (n + 1) more y
     ∙ ap (λ m. measured (at_rest (counted counts) (max text m) arity depth (size + 1 + length more)) y) (omega arith)
     ∙ ap (λ m. measured (at_rest (counted counts) (max text (n + length (b ∷ more))) arity depth m) y) (omega arith)
-
-leaf_parts : (bytes text y : List ℕ) → bytes ≡ string_of text → bytes ++ y ≡ 34 ∷ (flat_map escaped text ++ 34 ∷ y)
-leaf_parts bytes text y e = rw e (simp append_assoc)
-
-node_parts : (bytes before label x behind y : List ℕ) → bytes ≡ 40 ∷ (before ++ (label ++ (x ++ (behind ++ 41 ∷ [])))) → bytes ++ y ≡ 40 ∷ (before ++ (label ++ (x ++ (behind ++ 41 ∷ y))))
-node_parts bytes before label x behind y e = rw e (simp append_assoc)
-
-cons_parts : (bytes w x z y : List ℕ) → bytes ≡ w ++ (x ++ z) → bytes ++ y ≡ w ++ (x ++ (z ++ y))
-cons_parts bytes w x z y e = rw e (simp append_assoc)
 
 -- equal numbers make equal gauges
 same_gauge : (counts : List ℕ) (text text' arity arity' depth depth' size size' : ℕ) (y : List ℕ) → text ≡ text' → arity ≡ arity' → depth ≡ depth' → size ≡ size'

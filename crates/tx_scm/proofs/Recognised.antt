@@ -7,6 +7,7 @@ use Rattle.tx_tree.specs.Limits.{IsWellFormed, AreWellFormed}
 use Rattle.tx_tree.specs.WideTree.{WideTree, Forest, leaf, node, nil, cons}
 use Rattle.tx_scm.specs.Spelling.{is_white, AreWhite, string_of, SpellsTree, SpellsTrees, Spells}
 use Rattle.tx_scm.proofs.ByteKinds.{white_kind, letter_kind}
+use Rattle.tx_scm.proofs.Complete.{node_parts, cons_parts}
 use Rattle.tx_scm.specs.Recognising.{behind_white, behind_bytes, and_then, behind_tree, behind_trees}
 
 -- ---- white
@@ -68,12 +69,6 @@ node_regroup bytes x y z rest w v label mid a b c d = rw (a, b, c, d) (simp appe
 regroup : (w a b rest : List ℕ) → w ++ (a ++ (b ++ rest)) ≡ (w ++ (a ++ b)) ++ rest
 regroup w a b rest = simp append_assoc
 
-node_bytes : (bytes before label x behind y : List ℕ) → bytes ≡ 40 ∷ (before ++ (label ++ (x ++ (behind ++ 41 ∷ [])))) → bytes ++ y ≡ 40 ∷ (before ++ (label ++ (x ++ (behind ++ 41 ∷ y))))
-node_bytes bytes before label x behind y e = rw e (simp append_assoc)
-
-cons_bytes : (bytes w x z y : List ℕ) → bytes ≡ w ++ (x ++ z) → bytes ++ y ≡ w ++ (x ++ (z ++ y))
-cons_bytes bytes w x z y e = rw e (simp append_assoc)
-
 mutual
   pub tree_parts : (t : WideTree) (bytes rest : List ℕ) → IsWellFormed t → behind_tree t bytes ≡ Some rest → (first : List ℕ) × SpellsTree first t × (bytes ≡ first ++ rest)
   tree_parts (leaf text) bytes rest h e = (string_of text, (h, refl), bytes_parts (string_of text) bytes rest e)
@@ -119,7 +114,7 @@ mutual
   tree_behind (leaf text) x rest h = ap (λ x. behind_bytes (string_of text) (x ++ rest)) h.1 ∙ bytes_behind (string_of text) rest
   tree_behind (node label ts) x rest h =
       let y : List ℕ = h.1 ++ (h.2 ++ 41 ∷ rest) in
-      ap (λ x. behind_tree (node label ts) x) (node_bytes x h.0 label h.1 h.2 rest h.7)
+      ap (λ x. behind_tree (node label ts) x) (node_parts x h.0 label h.1 h.2 rest h.7)
       ∙ ap (λ x. and_then (behind_bytes label x) (λ y. and_then (behind_trees ts y) (λ z. behind_bytes (41 ∷ []) (behind_white z)))) (white_skipped h.0 (label ++ y) h.3 (label_no_white label y h.4))
       ∙ ap (λ o. and_then o (λ y. and_then (behind_trees ts y) (λ z. behind_bytes (41 ∷ []) (behind_white z)))) (bytes_behind label y)
       ∙ ap (λ o. and_then o (λ z. behind_bytes (41 ∷ []) (behind_white z))) (trees_behind ts h.1 (h.2 ++ 41 ∷ rest) h.5)
@@ -128,7 +123,7 @@ mutual
   pub trees_behind : (ts : Forest) (x rest : List ℕ) → SpellsTrees x ts → behind_trees ts (x ++ rest) ≡ Some rest
   trees_behind nil x rest h = ap (λ x. Some (x ++ rest)) h
   trees_behind (cons t ts) x rest h =
-      ap (λ x. behind_trees (cons t ts) x) (cons_bytes x h.0 h.1 h.2 rest h.6)
+      ap (λ x. behind_trees (cons t ts) x) (cons_parts x h.0 h.1 h.2 rest h.6)
       ∙ ap (λ x. and_then (behind_tree t x) (λ x. behind_trees ts x)) (white_skipped h.0 (h.1 ++ (h.2 ++ rest)) h.3 (NoWhite-tree t h.1 (h.2 ++ rest) h.4))
       ∙ ap (λ o. and_then o (λ x. behind_trees ts x)) (tree_behind t h.1 (h.2 ++ rest) h.4)
       ∙ trees_behind ts h.2 rest h.5

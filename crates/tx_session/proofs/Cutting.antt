@@ -8,16 +8,11 @@ use Rattle.std.proofs.lemmas.List.Edits.{length-between}
 use Rattle.std.proofs.lemmas.List.Elements.{All-head, All-tail, All-nil, All-push}
 use Rattle.std.proofs.lemmas.Bool.{cases_lt}
 use Rattle.std.proofs.lemmas.Slice.{between_is}
+use Rattle.std.proofs.lemmas.Option.{slice_get_within}
 use Rattle.tx_lines.specs.declared.first_fit.Piece.{Piece}
 use Rattle.tx_lines.proofs.Places.{slice_get-push}
 use Rattle.tx_session.specs.Layout.{Word, spaces, spaced, IsWord, piece_of}
 use Rattle.tx_session.specs.Pieces.{ArePieces}
-
--- what stands at a place stands within the list
-pub slice_get_within : {X : Type 0} → (xs : List X) (k : ℕ) (x : X) → slice_get xs k ≡ Some x → k < length xs
-slice_get_within [] k x e = absurd cc
-slice_get_within (y ∷ xs) zero x e = omega arith
-slice_get_within (y ∷ xs) (suc k) x e = omega (arith, slice_get_within xs k x e)
 
 -- what holds of each element holds of the one at a place
 pub all_at : {X : Type 0} → (P : X → Type 0) (xs : List X) (k : ℕ) (x : X) → All P xs → slice_get xs k ≡ Some x → P x

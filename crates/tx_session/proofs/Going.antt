@@ -1,12 +1,8 @@
 -- Numbers name one place, or have one cause why they name none.
-use Rattle.std.proofs.Common.{◌≡◌, inl, inr, ℕ, List, [], ◌∷◌, ◌++◌, length, Option, Some, None, refl, ap, sym, subst, ◌∙◌, length-append, arith}
-use Rattle.std.specs.Prelude.{IsSomeAnd, MatchOption}
-use Rattle.tx_tree.specs.WideTree.{WideTree, leaf, node}
-use Rattle.tx_tree.specs.Paths.{subtree, leading}
-use Rattle.tx_tree.specs.Places.{IsOffset, IsOffsetFault, IsPlace, IsPlaceFault}
+use Rattle.std.proofs.Common.{◌≡◌, inl, inr, ℕ, List, [], ◌∷◌, ◌++◌, length, refl, ap, sym, subst, ◌∙◌, length-append, arith}
+use Rattle.tx_tree.specs.Places.{IsPlaceFault}
 use Rattle.tx_tree.specs.declared.faults.PlaceFault.{PlaceFault}
-use Rattle.tx_tree.specs.declared.faults.PlaceFault.TheVariants.{NoPath, BadPlace, CutsSymbol}
-use Rattle.tx_tree.proofs.Cutting.{cut_within}
+use Rattle.tx_tree.proofs.PlaceFaults.{place_fault_once, place_has_no_fault}
 use Rattle.tx_mod.specs.Moves.{place}
 use Rattle.tx_doc.specs.Buffers.{document_of}
 use Rattle.tx_state.specs.States.{State}
@@ -26,39 +22,6 @@ last_once (x ∷ p) (y ∷ q) a b e =
 none_last : (p : List ℕ) (a : ℕ) → [] ≡ p ++ a ∷ [] → ⊥
 none_last p a e = omega (arith, ap length e, length-append p (a ∷ []))
 
-offset_once : (s : WideTree) (o : ℕ) (f g : PlaceFault) → IsOffsetFault s o f → IsOffsetFault s o g → f ≡ g
-offset_once s o (NoPath n) g h k = absurd h
-offset_once s o (BadPlace n) (NoPath m) h k = absurd k
-offset_once s o (BadPlace n) (BadPlace m) h k = ap (λ n. BadPlace n) (h.1 ∙ sym k.1)
-offset_once (leaf text) o (BadPlace n) (CutsSymbol m) h k = absurd (omega (arith, h.0, k.0))
-offset_once (node label ts) o (BadPlace n) (CutsSymbol m) h k = absurd k
-offset_once s o (CutsSymbol n) (NoPath m) h k = absurd k
-offset_once (leaf text) o (CutsSymbol n) (BadPlace m) h k = absurd (omega (arith, h.0, k.0))
-offset_once (node label ts) o (CutsSymbol n) (BadPlace m) h k = absurd h
-offset_once (leaf text) o (CutsSymbol n) (CutsSymbol m) h k = ap (λ n. CutsSymbol n) (h.2 ∙ sym k.2)
-offset_once (node label ts) o (CutsSymbol n) (CutsSymbol m) h k = absurd h
-
-offset_sound : (s : WideTree) (o : ℕ) (f : PlaceFault) → IsOffset s o → IsOffsetFault s o f → ⊥
-offset_sound s o (NoPath n) h k = k
-offset_sound (leaf text) o (BadPlace n) h k = omega (arith, cut_within text o h, k.0)
-offset_sound (node label ts) o (BadPlace n) h k = omega (arith, h, k.0)
-offset_sound (leaf text) o (CutsSymbol n) h k = k.1 h
-offset_sound (node label ts) o (CutsSymbol n) h k = k
-
-fault_once : (t : WideTree) (p : List ℕ) (o : ℕ) (f g : PlaceFault) → IsPlaceFault t p o f → IsPlaceFault t p o g → f ≡ g
-fault_once t p o f g h k = by_subtree (subtree t p) h k
-  where
-    by_subtree : (u : Option WideTree) → MatchOption u (f ≡ NoPath (leading t p)) (λ s. IsOffsetFault s o f) → MatchOption u (g ≡ NoPath (leading t p)) (λ s. IsOffsetFault s o g) → f ≡ g
-    by_subtree None h k = h ∙ sym k
-    by_subtree (Some s) h k = offset_once s o f g h k
-
-place_sound : (t : WideTree) (p : List ℕ) (o : ℕ) (f : PlaceFault) → IsPlace t p o → IsPlaceFault t p o f → ⊥
-place_sound t p o f h k = by_subtree (subtree t p) h k
-  where
-    by_subtree : (u : Option WideTree) → IsSomeAnd u (λ s. IsOffset s o) → MatchOption u (f ≡ NoPath (leading t p)) (λ s. IsOffsetFault s o f) → ⊥
-    by_subtree None h k = h
-    by_subtree (Some s) h k = offset_sound s o f h k
-
 pub goes_once : (state : State) (numbers : List ℕ) (s t : State) → Goes state numbers s → Goes state numbers t → s ≡ t
 goes_once state numbers s t h k =
     let same = last_once h.0 k.0 h.1 k.1 (sym h.2 ∙ k.2) in
@@ -68,7 +31,7 @@ pub goes_or_not : (state : State) (numbers : List ℕ) (s : State) (f : PlaceFau
 goes_or_not state numbers s f h (inl k) = none_last h.0 h.1 (sym k.0 ∙ h.2)
 goes_or_not state numbers s f h (inr k) =
     let same = last_once k.0 h.0 k.1 h.1 (sym k.2 ∙ h.2) in
-    place_sound (document_of state.buffers) h.0 h.1 f h.3 (subst (λ p. IsPlaceFault (document_of state.buffers) p h.1 f) same.0 (subst (λ o. IsPlaceFault (document_of state.buffers) k.0 o f) same.1 k.3))
+    place_has_no_fault (document_of state.buffers) h.0 h.1 f h.3 (subst (λ p. IsPlaceFault (document_of state.buffers) p h.1 f) same.0 (subst (λ o. IsPlaceFault (document_of state.buffers) k.0 o f) same.1 k.3))
 
 pub astray_once : (state : State) (numbers : List ℕ) (f g : PlaceFault) → IsAstray state numbers f → IsAstray state numbers g → f ≡ g
 astray_once state numbers f g (inl h) (inl k) = h.1 ∙ sym k.1
@@ -76,4 +39,4 @@ astray_once state numbers f g (inl h) (inr k) = absurd (none_last k.0 k.1 (sym h
 astray_once state numbers f g (inr h) (inl k) = absurd (none_last h.0 h.1 (sym k.0 ∙ h.2))
 astray_once state numbers f g (inr h) (inr k) =
     let same = last_once k.0 h.0 k.1 h.1 (sym k.2 ∙ h.2) in
-    fault_once (document_of state.buffers) h.0 h.1 f g h.3 (subst (λ p. IsPlaceFault (document_of state.buffers) p h.1 g) same.0 (subst (λ o. IsPlaceFault (document_of state.buffers) k.0 o g) same.1 k.3))
+    place_fault_once (document_of state.buffers) h.0 h.1 f g h.3 (subst (λ p. IsPlaceFault (document_of state.buffers) p h.1 g) same.0 (subst (λ o. IsPlaceFault (document_of state.buffers) k.0 o g) same.1 k.3))

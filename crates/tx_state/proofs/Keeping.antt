@@ -1,24 +1,22 @@
 -- A state in hand after a change is put in place.
-use Rattle.std.proofs.Common.{◌≡◌, ◌<◌, ◌≤◌, ℕ, List, [], ◌∷◌, ◌++◌, length, take, drop, reverse, Some, Ok, refl, sym, ap, ◌∙◌, subst, Option}
-use Rattle.tx_tree.specs.WideTree.{WideTree}
+use Rattle.std.proofs.Common.{◌≡◌, ◌<◌, ◌≤◌, List, [], ◌∷◌, ◌++◌, length, take, drop, reverse, Some, refl, sym, ap, ◌∙◌, subst}
 use Rattle.tx_tree.specs.Places.{IsPlace}
-use Rattle.tx_tree.specs.declared.places.Place.{Place}
-use Rattle.tx_mod.specs.declared.mods.Mod.{Mod}
 use Rattle.tx_history.specs.Lists.{newest}
 use Rattle.tx_doc.specs.declared.buffer.Buffer.{Buffer}
-use Rattle.tx_doc.specs.Buffers.{tree_of, with_tree, document_of, NamesDiffer}
+use Rattle.tx_doc.specs.Buffers.{with_tree, document_of, NamesDiffer}
 use Rattle.tx_state.specs.declared.TheConstants.{MOST_UNDO}
 use Rattle.tx_state.specs.declared.edits.Entry.{Entry}
 use Rattle.tx_state.specs.declared.edits.Prepared.{Prepared}
 use Rattle.tx_state.specs.declared.state.EditorState.TheInside.{Inside}
-use Rattle.tx_state.specs.States.{State, KeptEdit}
+use Rattle.tx_state.specs.States.{State}
 use Rattle.tx_state.specs.Edits.{undone, redone}
 use Rattle.tx_state.specs.Ready.{IsReady, IsReadyUndo, IsReadyRedo, with_edit, with_undo, with_redo}
 use Rattle.tx_state.specs.Entries.{led_to, kept_edits, undoes, redoes, AllLead}
 use Rattle.tx_state.specs.Kept.{state_of, IsKept}
-use Rattle.tx_state.proofs.Trees.{tree_put, length_put, names_put}
-use Rattle.tx_state.proofs.Moments.{How, entry_of, newest_turned, edits_of_take, lead_of_take}
+use Rattle.tx_state.proofs.Trees.{length_put, names_put}
+use Rattle.tx_state.proofs.Moments.{entry_of, newest_turned, edits_of_take, lead_of_take}
 use Rattle.tx_state.proofs.Turning.{IsLedBack, lead_back, undoes_back, redoes_back, turned_round}
+use Rattle.tx_state.proofs.Restoring.{same_state}
 
 -- what is put in place, apart from the history
 pub record IsPut (s next : Inside) (p : Prepared) : Type 0 where
@@ -89,9 +87,6 @@ edit_kept s next p kept r put was empty =
       ap (λ ks. record { buffers = with_tree bs p.buffer p.tree; selected = s.selected; cursor = p.cursor; past = ks; future = [] }) (sym seen)
           ∙ next_is s next p (take MOST_UNDO es) [] put h,
     )
-
-same_state : (s t : State) → ◌≡◌ {A = Option State} (Some s) (Some t) → s ≡ t
-same_state s t e = cc
 
 pub undo_kept : (s next : Inside) (p : Prepared) (e : Entry) (rest : List Entry) → IsKept s → IsReadyUndo (state_of s) p → IsPut s next p
     → s.history.past ≡ rest ++ e ∷ [] → next.history.past ≡ rest → next.history.future ≡ s.history.future ++ entry_of p.buffer p.back s.cursor ∷ []

@@ -14,7 +14,7 @@ use Rattle.tx_state.specs.States.{State, KeptEdit, present}
 use Rattle.tx_state.specs.Edits.{edited, edited_to, cursor_after, with_outcome, turned, at_moment, back_to, on_to, undone, redone}
 use Rattle.tx_state.specs.Undoing.{IsEditedBy, times, Restores, RunsOut}
 
-same_state : (s t : State) → ◌≡◌ {A = Option State} (Some s) (Some t) → s ≡ t
+pub same_state : (s t : State) → ◌≡◌ {A = Option State} (Some s) (Some t) → s ≡ t
 same_state s t e = cc
 
 -- ---- steps, and steps that lead back

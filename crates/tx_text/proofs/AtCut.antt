@@ -1,5 +1,5 @@
 -- What stands at a cut of a text: an item, and behind it another cut.
-use Rattle.std.proofs.Common.{◌≡◌, ℕ, ◌+◌, ◌-◌, ◌<◌, ◌≤◌, true, not, ◌==◌, cond, List, [], ◌∷◌, ◌++◌, length, take}
+use Rattle.std.proofs.Common.{◌≡◌, ℕ, ◌+◌, ◌-◌, ◌<◌, true, not, ◌==◌, cond, List, [], ◌∷◌, ◌++◌, length, take}
 use Rattle.std.proofs.Common.{drop, get_or, refl, sym, ap, subst, ◌∙◌, arith, append_assoc, length-append, append-nil}
 use Rattle.std.specs.Prelude.{encode_utf8}
 use Rattle.std.specs.List.{AllByRecursion, flat_map, prefix_len, take_while}
@@ -7,6 +7,7 @@ use Rattle.std.proofs.lemmas.List.{drop_at, drop-drop, take_at, take_rest, get_o
 use Rattle.std.proofs.lemmas.List.Concat.{flat_map-append}
 use Rattle.std.proofs.lemmas.Bool.Decides.{nat_tests}
 use Rattle.tx_tree.specs.Texts.{Item, byte, symbol, item_bytes, IsItem, IsName, IsCut, is_name_byte}
+use Rattle.tx_tree.proofs.Cutting.{cut_within}
 use Rattle.tx_text.specs.Tables.{byte_code}
 use Rattle.tx_text.specs.Displays.{item_text, display_text}
 use Rattle.tx_text.specs.Clusters.{items_of, item_at}
@@ -64,10 +65,6 @@ stands bytes at h lt = by h.1 h.3 h.4
         → bytes ≡ flat_map item_bytes h.0 ++ flat_map item_bytes after → (item : Item) × Stands bytes at item
     by [] ia whole = absurd (omega (arith, h.5, ap length whole ∙ ap length (append-nil (flat_map item_bytes h.0))))
     by (item ∷ after) ia whole = (item, stands_before bytes at h.0 item after h.2 ia whole h.5)
-
--- at the end of the text stands nothing
-pub at_end : (bytes : List ℕ) (at : ℕ) → IsCut bytes at → at ≤ length bytes
-at_end bytes at h = omega (arith, h.5, ap length h.4, length-append (flat_map item_bytes h.0) (flat_map item_bytes h.1))
 
 first_byte : (bytes : List ℕ) (at b : ℕ) (rest : List ℕ) → drop at bytes ≡ b ∷ rest → get_or bytes at 0 ≡ b
 first_byte bytes at b rest e =
@@ -144,7 +141,7 @@ items_behind_it text at n item s e =
 
 inside : (text bytes : List ℕ) (at : ℕ) → bytes ≡ text → IsCut text at → (at ≡ length bytes → ⊥) → at < length text
 inside text bytes at same h other =
-    let le = at_end text at h in let long : length bytes ≡ length text = ap length same in grind arith
+    let le = cut_within text at h in let long : length bytes ≡ length text = ap length same in grind arith
 
 pub symbol_here : (text bytes : List ℕ) (at : ℕ) (name : List ℕ) → bytes ≡ text → IsCut text at
     → (at ≡ length bytes → ⊥) → get_or bytes at 0 ≡ 60

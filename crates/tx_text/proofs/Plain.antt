@@ -29,11 +29,8 @@ use Rattle.tx_text.specs.Clusters.{items_of, items_behind, clusters_of}
 use Rattle.tx_text.specs.Places.{spread, cluster_at, is_plain_byte, plain_clusters, nowhere}
 use Rattle.tx_text.specs.declared.cutting.Stretch.{Stretch}
 use Rattle.tx_text.specs.declared.cutting.Cluster.{Cluster}
-use Rattle.tx_text.proofs.Table.{byte_code-ascii}
+use Rattle.tx_text.proofs.Table.{byte_code-ascii, eq_from_test}
 use Rattle.tx_text.proofs.Spreading.{by_places}
-
-eq_from_test : (a b : ℕ) → (a == b) ≡ true → a ≡ b
-eq_from_test a b h = grind (arith, nat_tests)
 
 -- no table speaks of a plain byte
 abbrev is_other : GraphemeClusterBreak → Bool

@@ -22,7 +22,7 @@ all_below-at p (suc n) h b lt =
       | inr (inr high) ↦ absurd (omega arith)
     ]
 
-eq_from_test : (a b : ℕ) → (a == b) ≡ true → a ≡ b
+pub eq_from_test : (a b : ℕ) → (a == b) ≡ true → a ≡ b
 eq_from_test a b h = grind (arith, nat_tests)
 
 -- the arms of the code

@@ -20,9 +20,10 @@ use Rattle.tx_tm_form.specs.Faults.{IsBegun}
 use Rattle.tx_tm_form.proofs.Growth.{place_is, no_place}
 use Rattle.tx_tm_form.proofs.Complete.{same_self}
 use Rattle.tx_tm_form.proofs.Words.{newline_kind, hash_kind, token_run, label_run, keeps_state, file_state}
-use Rattle.tx_tm_form.proofs.Sound.{is_same_number, Frame, Here, Took, feeds_took}
+use Rattle.tx_tm_form.proofs.Sound.{Frame, Here, Took, feeds_took}
 use Rattle.tx_tm_form.proofs.Taken.{Scanned, run_scanned, kept_tokens, read_is_spelled}
 use Rattle.tx_tm_form.proofs.Stops.{keeping, run_append}
+use Rattle.tx_tm_form.proofs.Formed.{is_same_number}
 
 -- ---- what stands open
 

@@ -61,7 +61,7 @@ second_block l ks us ps qs vs =
 
 -- ---- symbols and raw data
 
-no_end : (b : ℕ) → (b == 124 || b == 92) ≡ true → (b == 62) ≡ false
+pub no_end : (b : ℕ) → (b == 124 || b == 92) ≡ true → (b == 62) ≡ false
 no_end b e = grind arith
 
 name_step : (b : ℕ) (m : List ℕ) (here : Content) (fs : List Open) → is_name_byte b ≡ true → length m < MOST_NAME
@@ -173,7 +173,7 @@ last_step ps f fs =
     ∙ ap (λ c. go c (reading (put f.before (long_of f.label f.children (puts (block_behind f.label f.children) ps))) fs)) (same_self f.label)
     ∙ ap (λ x. reading (put f.before x) fs) (long_is f.label f.children ps)
 
-regrouped : (a b c y : List Token) → (a ++ (b ++ c)) ++ y ≡ a ++ (b ++ (c ++ y))
+pub regrouped : (a b c y : List Token) → (a ++ (b ++ c)) ++ y ≡ a ++ (b ++ (c ++ y))
 regrouped a b c y = simp append_assoc refl
 
 -- an argument and those behind it

@@ -33,13 +33,13 @@ one_byte_text b h = (byte b ∷ [], (h, tt), refl)
 pub symbol_text : (n : List ℕ) → IsName n → IsText (symbol_bytes n)
 symbol_text n h = (symbol n ∷ [], (h, tt), sym (append-nil (symbol_bytes n)))
 
-is_that : (b c : ℕ) → (b == c) ≡ true → b ≡ c
-is_that b c e = grind arith
+pub is_same_number : (b c : ℕ) → (b == c) ≡ true → b ≡ c
+is_same_number b c e = grind arith
 
-other_byte : (b n : ℕ) → is_plain (kind_of n) ≡ false → is_plain (kind_of b) ≡ true → (b == n) ≡ false
+pub other_byte : (b n : ℕ) → is_plain (kind_of n) ≡ false → is_plain (kind_of b) ≡ true → (b == n) ≡ false
 other_byte b n h k =
     elim (b == n) as (λ z. (b == n) ≡ z → z ≡ false) [
-      | true ↦ λ e. let g : is_plain (kind_of n) ≡ true = subst (λ m. is_plain (kind_of m) ≡ true) (is_that b n e) k in absurd cc
+      | true ↦ λ e. let g : is_plain (kind_of n) ≡ true = subst (λ m. is_plain (kind_of m) ≡ true) (is_same_number b n e) k in absurd cc
       | false ↦ λ e. refl
     ] refl
 
@@ -90,7 +90,7 @@ pub escaped_text : (b : ℕ) (e : Escaped) → escape_of b ≡ Some e → IsText
 escaped_text b Mark h = no_text
 escaped_text b (Byte v) h = one_byte_text v (escaped_item b v h)
 
-digit_item : (b : ℕ) → is_digit b ≡ true → is_item_byte b ≡ true
+pub digit_item : (b : ℕ) → is_digit b ≡ true → is_item_byte b ≡ true
 digit_item b h = grind arith
 
 pub digits_text : (ds : List ℕ) → AreDigits ds → IsText ds

@@ -16,7 +16,7 @@ use Rattle.tx_tm_form.specs.Forms.{AreDigits, Piece, Pieces, Arguments, Blocks, 
 use Rattle.tx_tm_form.specs.Machine.{header_place}
 use Rattle.tx_tm_form.specs.Marks.{Standing, standing, new_mark, if_marked, escape_marks, name_marks, symbol_marks, feed_marks, feed_standing, Marked, keep_marks}
 use Rattle.tx_tm_form.specs.Faults.{IsInBlock}
-use Rattle.tx_tm_form.proofs.Complete.{same_self, no_escape_less}
+use Rattle.tx_tm_form.proofs.Complete.{same_self, no_escape_less, no_end}
 use Rattle.tx_tm_form.proofs.Words.{folds}
 
 abbrev pub marked : ℕ → Bool → Option Standing → Marked
@@ -70,9 +70,6 @@ one_passes : (s w : Option Standing) (t : Token) → ((n : ℕ) → feed_standin
 one_passes s w t h = then_pass s w t [] (λ n. subst (λ z. Passes z w []) (sym (h n)) (nothing_passes w))
 
 -- ---- symbols and raw data
-
-no_end : (b : ℕ) → (b == 124 || b == 92) ≡ true → (b == 62) ≡ false
-no_end b e = grind arith
 
 name_step : (b m n : ℕ) (ms : List Mark) → is_name_byte b ≡ true → m < MOST_NAME → feed_standing n (standing (Symbol m) ms) (name_token b) ≡ standing (Symbol (suc m)) ms
 name_step b m n ms h lt =

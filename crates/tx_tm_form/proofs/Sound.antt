@@ -19,7 +19,8 @@ use Rattle.tx_tm_form.specs.Forms.{AreDigits, Piece, Pieces, Arguments, Blocks, 
 use Rattle.tx_tm_form.specs.Growing.{Content, inline, blocks, no_parts, no_paragraphs, put, place_of, content_of, block_of, long_of, block_behind, opening}
 use Rattle.tx_tm_form.specs.Machine.{Open, State, reading, naming, counting, failed, go, open_tag, with_child, in_tag, next_argument, last_argument, next_block, last_block, header_place, begun, by_escape, name_byte, name_end, feed_reading, feed_naming, feed_counting, feed, feeds}
 use Rattle.tx_tm_form.proofs.Growth.{puts, puts_inline, puts_append, grown_is_content, place_is, no_place, block_is, long_is}
-use Rattle.tx_tm_form.proofs.Complete.{child_behind, second_block}
+use Rattle.tx_tm_form.proofs.Complete.{child_behind, second_block, regrouped}
+use Rattle.tx_tm_form.proofs.Formed.{is_same_number, other_byte}
 
 -- ---- lists
 
@@ -29,9 +30,6 @@ all_last P (b ∷ a) x h k = (h.0, all_last P a x h.1 k)
 
 left_three : (a b c y : List Token) → a ++ (b ++ (c ++ y)) ≡ (a ++ (b ++ c)) ++ y
 left_three a b c y = simp append_assoc refl
-
-pub is_same_number : (b c : ℕ) → (b == c) ≡ true → b ≡ c
-is_same_number b c e = grind arith
 
 -- ---- forms with one more
 
@@ -167,9 +165,6 @@ Took failed ts = Unit {0}
 put_more : (here start : Content) (c : Pieces) (p : Piece) (x : Part) → here ≡ puts start (parts_of c) → part_of p ≡ x → put here x ≡ puts start (parts_of (with_piece c p))
 put_more here start c p x e k = rw (parts_more c p, puts_append (parts_of c) (part_of p ∷ []) start, ← e, k) refl
 
-regroup_more : (u q c d : List Token) → (u ++ (q ++ c)) ++ d ≡ u ++ (q ++ (c ++ d))
-regroup_more u q c d = simp append_assoc refl
-
 add_piece : (fs : List Open) (p : Piece) (x : Part) (here : Content) (ts us : List Token) → Here here fs ts → part_of p ≡ x → us ≡ ts ++ tokens_of_piece p → Here (put here x) fs us
 add_piece [] p x here ts us h e k = (with_piece h.0 p, put_more here (blocks no_paragraphs) h.0 p x h.1 e, rw (k, h.2, tokens_more h.0 p) refl)
 add_piece (f ∷ fs) p x here ts us h e k = (
@@ -180,7 +175,7 @@ add_piece (f ∷ fs) p x here ts us h e k = (
   h.4,
   h.5,
   put_more here (opening h.0 f.label f.children) h.3 p x h.6 e,
-  rw (k, h.7, tokens_more h.3 p) (regroup_more h.1 h.2 (tokens_of h.3) (tokens_of_piece p)),
+  rw (k, h.7, tokens_more h.3 p) (regrouped h.1 h.2 (tokens_of h.3) (tokens_of_piece p)),
 )
 
 into_tag : (w : Option Place) (f : Open) (fs : List Open) (u q ts : List Token) → Here f.before fs u → Frame w f.label f.children q → ts ≡ u ++ q → Took (in_tag w f fs) ts
@@ -207,7 +202,7 @@ block_there : (l : List ℕ) (ks : List WideTree) (c : Pieces) (here : Content) 
 block_there l ks c here e = ap block_of e ∙ block_is l ks (parts_of c)
 
 more_tokens : (ts u q c d : List Token) → ts ≡ u ++ (q ++ c) → ts ++ d ≡ u ++ (q ++ (c ++ d))
-more_tokens ts u q c d e = ap (λ z. z ++ d) e ∙ regroup_more u q c d
+more_tokens ts u q c d e = ap (λ z. z ++ d) e ∙ regrouped u q c d
 
 -- ---- where an argument ends
 
@@ -422,13 +417,6 @@ name_ends n here fs ts h k =
     add_piece fs (symbol n (record { each = h.2.each; some = k; short = h.2.short })) (text (symbol_bytes n)) here h.0 (ts ++ escape 62 ∷ []) h.1 refl
     (rw h.3 (append_assoc h.0 (escape 60 ∷ map name_token n) (escape 62 ∷ [])))
 
-plain_no : (b n : ℕ) → is_plain (kind_of n) ≡ false → is_plain (kind_of b) ≡ true → (b == n) ≡ false
-plain_no b n h k =
-    elim (b == n) as (λ z. (b == n) ≡ z → z ≡ false) [
-      | true ↦ λ e. let g : is_plain (kind_of n) ≡ true = subst (λ m. is_plain (kind_of m) ≡ true) (is_same_number b n e) k in absurd cc
-      | false ↦ λ e. refl
-    ] refl
-
 no_bar : is_plain (kind_of 124) ≡ false
 unfolding kind_of Rattle.tx_tree.specs.Labels.is_label_byte
 no_bar = refl
@@ -438,7 +426,7 @@ unfolding kind_of Rattle.tx_tree.specs.Labels.is_label_byte
 no_backslash = refl
 
 plain_token : (b : ℕ) → is_plain (kind_of b) ≡ true → name_token b ≡ plain b
-plain_token b h = rw (plain_no b 124 no_bar h, plain_no b 92 no_backslash h) refl
+plain_token b h = rw (other_byte b 124 no_bar h, other_byte b 92 no_backslash h) refl
 
 escaped_token : (b : ℕ) → (b == 124 || b == 92) ≡ true → name_token b ≡ escape b
 escaped_token b h = ap (λ z. if z then escape b else plain b) h

@@ -1,5 +1,5 @@
 -- What stands open behind bytes that the machine has taken, by their tokens.
-use Rattle.std.proofs.Common.{◌≡◌, ℕ, Bool, true, false, ◌==◌, ◌||◌, ◌&&◌, nat_lt, if◌then◌else◌, List, [], ◌∷◌, ◌++◌, length, map, Option, Some, None, refl, sym, ap, subst, ◌∙◌, append_assoc, arith}
+use Rattle.std.proofs.Common.{◌≡◌, ℕ, Bool, true, false, ◌==◌, ◌||◌, ◌&&◌, nat_lt, if◌then◌else◌, List, [], ◌∷◌, ◌++◌, length, map, Option, Some, None, refl, sym, ap, subst, ◌∙◌, append_assoc}
 use Rattle.std.specs.List.{flat_map}
 use Rattle.std.proofs.lemmas.List.{append_cancel_right}
 use Rattle.tx_tree.specs.declared.TheConstants.{MOST_NAME}
@@ -16,7 +16,7 @@ use Rattle.tx_tm_form.specs.Growing.{Content, place_of}
 use Rattle.tx_tm_form.specs.Machine.{Open, State, reading, naming, counting, failed, go, by_escape, name_byte, name_end, feed, feeds, Lex, Bytewise, at, run, Keeping, keep, start}
 use Rattle.tx_tm_form.specs.Marks.{Standing, standing, new_mark, is_symbol, is_parts, begins_mark, begins_marks, Marked, keep_marks, start_marks}
 use Rattle.tx_tm_form.specs.Faults.{begun_bytes, IsScanned, IsInSymbol, IsInBlock}
-use Rattle.tx_tm_form.proofs.Complete.{no_escape_less}
+use Rattle.tx_tm_form.proofs.Complete.{no_escape_less, no_end}
 use Rattle.tx_tm_form.proofs.Words.{keeps_state, file_state, one_token_list}
 use Rattle.tx_tm_form.proofs.Sound.{BlockFrame, Took, feeds_took, first_body, other_bodies, bodies_tokens, ended_tokens, inner, Inner}
 use Rattle.tx_tm_form.proofs.Taken.{kept_tokens}
@@ -42,9 +42,6 @@ symbol_begins (reading here fs) = subst (λ o. IsNaming (by_escape o 60 here fs)
 symbol_begins (naming n here fs) = tt
 symbol_begins (counting ds here fs) = tt
 symbol_begins failed = tt
-
-no_end : (b : ℕ) → (b == 124 || b == 92) ≡ true → (b == 62) ≡ false
-no_end b e = grind arith
 
 name_goes_on : (s : State) (b : ℕ) → IsNaming s → IsNaming (feed s (name_token b))
 unfolding feed
@@ -195,7 +192,7 @@ same_tokens x q r ts us e h k =
     let same : flat_map written ts ≡ flat_map written us = append_cancel_right (flat_map written ts) (flat_map written us) (begun_bytes q) (sym h.all ∙ k.all ∙ ap (λ p. flat_map written us ++ begun_bytes p) (sym e)) in
     one_token_list (flat_map written ts) ts us (record { each = h.each; all = refl }) (record { each = k.each; all = same })
 
-same_marked : (q r : Lex) (j k : Marked) → (let x : Bytewise Marked = at q j in x) ≡ at r k → j ≡ k
+pub same_marked : (q r : Lex) (j k : Marked) → (let x : Bytewise Marked = at q j in x) ≡ at r k → j ≡ k
 same_marked q r j k e = cc
 
 has_tag : (ts : List Token) (z : Standing) (place : ℕ) → IsInBlock ts place → (marks_fold (marked 0 false (standing Parts [])) ts).now ≡ Some z → HasTag ts z.marks

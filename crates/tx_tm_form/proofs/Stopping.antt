@@ -17,7 +17,7 @@ use Rattle.tx_tm_form.specs.Fronts.{goes_on, IsLongestTmFront}
 use Rattle.tx_tm_form.specs.Marks.{Standing, is_symbol, is_parts, standing_goes_on, Marked, keep_marks, start_marks, marks_go_on, mismatch, fault_by, standing_fault, stop_fault, is_whole, spells_whole}
 use Rattle.tx_tm_form.specs.Faults.{IsKind, IsTmFault}
 use Rattle.tx_tm_form.proofs.Words.{keeps_state, file_state, spelled_is_read}
-use Rattle.tx_tm_form.proofs.Sound.{is_same_number, Took, feeds_took}
+use Rattle.tx_tm_form.proofs.Sound.{Took, feeds_took}
 use Rattle.tx_tm_form.proofs.Taken.{kept_tokens, read_is_spelled}
 use Rattle.tx_tm_form.proofs.Closing.{goes_on_is_front, here_placed, file_closes}
 use Rattle.tx_tm_form.proofs.Longest.{stop_is_longest}
@@ -25,6 +25,7 @@ use Rattle.tx_tm_form.proofs.Begun.{run_behind, read_behind}
 use Rattle.tx_tm_form.proofs.Marking.{IsStanding, IsMarked, IsKept, IsSame, marks_same, go_on_same}
 use Rattle.tx_tm_form.proofs.Standing.{is_taken}
 use Rattle.tx_tm_form.proofs.Rows.{kind_there}
+use Rattle.tx_tm_form.proofs.Formed.{is_same_number}
 
 -- ---- both machines
 

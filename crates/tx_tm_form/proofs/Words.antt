@@ -87,7 +87,7 @@ lexed_white Newline b h = refl
 lexed_white Return b h = refl
 lexed_white _ b h = absurd cc
 
-lexed_plain : (k : ByteKind) (b : ℕ) → is_plain k ≡ true → lex ready k b ≡ done (plain b)
+pub lexed_plain : (k : ByteKind) (b : ℕ) → is_plain k ≡ true → lex ready k b ≡ done (plain b)
 unfolding lex_ready
 lexed_plain Name b h = refl
 lexed_plain Hash b h = refl

@@ -12,6 +12,7 @@ use Rattle.tx_tm_form.specs.declared.places.Stage.{Stage}
 use Rattle.tx_tm_form.specs.declared.places.Stage.TheVariants.{Empty, Alone, Ordinary}
 use Rattle.tx_tm_form.specs.Parts.{Part, gap, text, tag, leaf_before, concat_of, concat_label, document_label}
 use Rattle.tx_tm_form.specs.Growing.{Inline, no_parts, grow, grown, Block, no_paragraphs, longer, with_white, ended, resumed, first_stage, with_part, widen, tree_at, tree_of_block, Entry, Tags, tree_of_entry, behind_run, with_entries, as_block, Content, inline, blocks, collecting, put}
+use Rattle.tx_tm_form.proofs.Growth.{entries_append}
 use Rattle.tx_tm_read.specs.Fits.{IsSmall, AreSmall, RowFits, LineFits, BlockFitsAt, BlockFits, TagRowFits, TagsFit, ContentFits}
 use Rattle.tx_tm_read.proofs.Made.{arity_least}
 
@@ -198,10 +199,6 @@ entries_fit k (e ∷ es) b h =
     let i = entries_fit k es (widen (behind_run b e.before) (tag e.collects e.tree)) h in
     (run_fits k b e.before (widen_fits k (behind_run b e.before) (tag e.collects e.tree) i.0), (block_tag k (behind_run b e.before) e.collects e.tree (behind_run b e.before).stage i.0, i.1))
 
-pub entries_more : (es fs : List Entry) (b : Block) → with_entries b (es ++ fs) ≡ with_entries (with_entries b es) fs
-entries_more [] fs b = refl
-entries_more (e ∷ es) fs b = entries_more es fs (widen (behind_run b e.before) (tag e.collects e.tree))
-
 pub tags_fit : (k : ℕ) (x : Tags) → BlockFits k (as_block x) → TagsFit k x
 tags_fit k x h = inr (run_fits k (with_entries no_paragraphs x.entries) x.run h)
 
@@ -211,7 +208,7 @@ abbrev Wider : Tags → Bool → WideTree → List Entry
 Wider x c t = x.entries ++ record { before = x.run; collects = c; tree = t } ∷ []
 
 wider_block : (k : ℕ) (x : Tags) (c : Bool) (t : WideTree) → BlockFits k (with_entries no_paragraphs (Wider x c t)) → BlockFits k (widen (as_block x) (tag c t))
-wider_block k x c t h = subst (BlockFits k) (entries_more x.entries (record { before = x.run; collects = c; tree = t } ∷ []) no_paragraphs) h
+wider_block k x c t h = subst (BlockFits k) (entries_append x.entries (record { before = x.run; collects = c; tree = t } ∷ []) no_paragraphs) h
 
 wider_row : (k : ℕ) (x : Tags) (c : Bool) (t : WideTree) → RowFits k (map tree_of_entry (Wider x c t)) → RowFits k (map tree_of_entry x.entries ++ t ∷ [])
 wider_row k x c t h = subst (RowFits k) (map-append tree_of_entry x.entries (record { before = x.run; collects = c; tree = t } ∷ [])) h

@@ -7,6 +7,7 @@ use Rattle.tx_tm_form.specs.declared.places.Stage.{Stage}
 use Rattle.tx_tm_form.specs.declared.places.Stage.TheVariants.{Empty, Alone, Ordinary}
 use Rattle.tx_tm_form.specs.Parts.{tag}
 use Rattle.tx_tm_form.specs.Growing.{Block, no_paragraphs, longer, with_white, widen, tree_of_entry, behind_run, with_entries, as_block}
+use Rattle.tx_tm_form.proofs.Growth.{entries_append}
 use Rattle.tx_tm_read.specs.declared.tag_rows.TagEntry.{TagEntry}
 use Rattle.tx_tm_read.specs.declared.blocks.TagList.{TagList}
 use Rattle.tx_tm_read.specs.Fits.{BlockFits}
@@ -14,7 +15,7 @@ use Rattle.tx_tm_read.specs.Nodes.{nodes_in, block_nodes_at, block_nodes}
 use Rattle.tx_tm_read.specs.Blocks.{tags_of}
 use Rattle.tx_tm_read.specs.TagRows.{entry_of}
 use Rattle.tx_tm_read.proofs.Counts.{entries_nodes}
-use Rattle.tx_tm_read.proofs.Fitting.{entries_fit, entries_more, run_fits}
+use Rattle.tx_tm_read.proofs.Fitting.{entries_fit, run_fits}
 
 -- the entries so far are in the block, and so many steps were taken
 pub record IsReplayed (before after : ℕ) (all es rest : List TagEntry) (b : Block) : Type 0 where
@@ -37,7 +38,7 @@ replayed_more before m n all es rest more e b a d h r o i j =
     let entries : map entry_of (es ++ e ∷ []) ≡ map entry_of es ++ entry_of e ∷ [] = map-append entry_of es (e ∷ []) in
     record {
       left = h.left ∙ ap (λ z. es ++ z) r ∙ sym (append_assoc es (e ∷ []) more);
-      block = i ∙ ap (λ z. widen z (tag e.collects e.tree)) o ∙ ap (λ z. widen (behind_run z e.before) (tag e.collects e.tree)) h.block ∙ sym (entries_more (map entry_of es) (entry_of e ∷ []) no_paragraphs) ∙ ap (with_entries no_paragraphs) (sym entries);
+      block = i ∙ ap (λ z. widen z (tag e.collects e.tree)) o ∙ ap (λ z. widen (behind_run z e.before) (tag e.collects e.tree)) h.block ∙ sym (entries_append (map entry_of es) (entry_of e ∷ []) no_paragraphs) ∙ ap (with_entries no_paragraphs) (sym entries);
       counted = rw entries (omega (arith, h.counted, j, ap block_nodes o ∙ run_nodes b e.before, entries_nodes (map entry_of es) (entry_of e)));
     }
 
@@ -46,6 +47,6 @@ pub replay_stuck : (before m : ℕ) (x : TagList) (es rest fs : List TagEntry) (
 replay_stuck before m x es rest fs e b a h i o j k l =
     let z : BlockFits k (with_entries no_paragraphs (map entry_of x.entries)) = run_fits k (with_entries no_paragraphs (map entry_of x.entries)) x.run l in
     let c : BlockFits k (with_entries no_paragraphs (map entry_of es ++ entry_of e ∷ map entry_of fs)) = subst (λ z. BlockFits k (with_entries no_paragraphs z)) (ap (map entry_of) (h.left ∙ ap (λ z. es ++ z) i) ∙ map-append entry_of es (e ∷ fs)) z in
-    let d : BlockFits k (with_entries (with_entries no_paragraphs (map entry_of es)) (entry_of e ∷ map entry_of fs)) = subst (BlockFits k) (entries_more (map entry_of es) (entry_of e ∷ map entry_of fs) no_paragraphs) c in
+    let d : BlockFits k (with_entries (with_entries no_paragraphs (map entry_of es)) (entry_of e ∷ map entry_of fs)) = subst (BlockFits k) (entries_append (map entry_of es) (entry_of e ∷ map entry_of fs) no_paragraphs) c in
     let f : BlockFits k (with_entries b (entry_of e ∷ map entry_of fs)) = subst (λ z. BlockFits k (with_entries z (entry_of e ∷ map entry_of fs))) (sym h.block) d in
     j k (subst (λ y. BlockFits k (widen y (tag e.collects e.tree))) (sym o) (entries_fit k (map entry_of fs) (widen (behind_run b e.before) (tag e.collects e.tree)) f).0)

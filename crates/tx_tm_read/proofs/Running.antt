@@ -3,16 +3,15 @@ use Rattle.std.proofs.Common.{◌≡◌, ℕ, ◌+◌, ◌-◌, ◌<◌, ◌≤�
 use Rattle.std.proofs.lemmas.List.{take-append-drop, take_more, take_all}
 use Rattle.tx_tree.specs.Texts.{IsText}
 use Rattle.tx_tree.specs.WideTree.{WideTree}
-use Rattle.tx_tm_form.specs.declared.bytes.ByteKind.{ByteKind}
-use Rattle.tx_tm_form.specs.declared.bytes.ByteKind.TheVariants.{Name, Hash, Slash, Other}
 use Rattle.tx_tm_form.specs.declared.places.Stage.{Stage}
 use Rattle.tx_tm_form.specs.declared.places.Stage.TheVariants.{Empty, Alone, Ordinary}
 use Rattle.tx_tm_form.specs.Bytes.{kind_of, is_plain}
-use Rattle.tx_tm_form.specs.Tokens.{plain}
 use Rattle.tx_tm_form.specs.Parts.{text}
 use Rattle.tx_tm_form.specs.Growing.{Inline, no_parts, grow, ended, resumed, Block, with_part, widen, as_block, Content, inline, blocks, collecting, put}
-use Rattle.tx_tm_form.specs.Machine.{Open, reading, feed, ready, done, lex, lex_ready, Bytewise, at, given, step, run, Keeping, keep, tree_in, start, reads}
+use Rattle.tx_tm_form.specs.Machine.{Open, reading, feed, ready, done, Bytewise, at, given, step, run, Keeping, keep, tree_in, start, reads}
 use Rattle.tx_tm_form.proofs.Formed.{text_text, no_text}
+use Rattle.tx_tm_form.proofs.Words.{lexed_plain}
+use Rattle.tx_tm_form.proofs.Stops.{run_append}
 use Rattle.tx_tm_read.specs.Blocks.{block_at}
 use Rattle.tx_tm_read.specs.Fits.{StateFits, ReaderFits}
 use Rattle.tx_tm_read.specs.Readers.{reader_of, ArePlain, IsAdvance, IsTree, IsRead}
@@ -45,20 +44,12 @@ put_both (collecting t) x y = ap blocks (widen_both (as_block t).stage (as_block
 
 -- ---- a run of bytes that stand for themselves
 
-plain_lexed : (k : ByteKind) (b : ℕ) → is_plain k ≡ true → lex ready k b ≡ done (plain b)
-unfolding lex_ready
-plain_lexed Name b h = refl
-plain_lexed Hash b h = refl
-plain_lexed Slash b h = refl
-plain_lexed Other b h = refl
-plain_lexed _ b h = absurd cc
-
 abbrev between : Bool → Content → List Open → Bytewise Keeping
 between j c fs = at ready (record { behind_join = j; state = reading c fs })
 
 plain_step : (b : ℕ) (j : Bool) (c : Content) (fs : List Open) → is_plain (kind_of b) ≡ true → step keep (between j c fs) b ≡ between false (put c (text (b ∷ []))) fs
 unfolding feed
-plain_step b j c fs h = ap (given keep (record { behind_join = j; state = reading c fs })) (plain_lexed (kind_of b) b h)
+plain_step b j c fs h = ap (given keep (record { behind_join = j; state = reading c fs })) (lexed_plain (kind_of b) b h)
 
 pub plain_run : (x : List ℕ) (b : ℕ) (j : Bool) (c : Content) (fs : List Open) → ArePlain (b ∷ x) → run keep (between j c fs) (b ∷ x) ≡ between false (put c (text (b ∷ x))) fs
 plain_run [] b j c fs h = plain_step b j c fs h.0
@@ -73,17 +64,13 @@ text_run (b ∷ x) j c fs n h = plain_run x b j c fs h
 
 -- ---- the loop
 
-run_both : (x y : List ℕ) (w : Bytewise Keeping) → run keep w (x ++ y) ≡ run keep (run keep w x) y
-run_both [] y w = refl
-run_both (b ∷ x) y w = run_both x y (step keep w b)
-
 pub run_on : (w v : Bytewise Keeping) (n : ℕ) (rest all : List ℕ) → run keep w rest ≡ run keep start all → v ≡ run keep w (take n rest) → run keep v (drop n rest) ≡ run keep start all
-run_on w v n rest all h e = ap (λ z. run keep z (drop n rest)) e ∙ sym (run_both (take n rest) (drop n rest) w) ∙ ap (run keep w) (take-append-drop n rest) ∙ h
+run_on w v n rest all h e = ap (λ z. run keep z (drop n rest)) e ∙ sym (run_append (take n rest) (drop n rest) w) ∙ ap (run keep w) (take-append-drop n rest) ∙ h
 
 pub none_on : (w : Bytewise Keeping) (n : ℕ) (rest all : List ℕ) → run keep w rest ≡ run keep start all → (ReaderFits (run keep w (take n rest)) → ⊥) → IsRead None all
 unfolding reads
 none_on w n rest all h e t i j =
-    let whole : run keep (run keep w (take n rest)) (drop n rest) ≡ run keep start all = sym (run_both (take n rest) (drop n rest) w) ∙ ap (run keep w) (take-append-drop n rest) ∙ h in
+    let whole : run keep (run keep w (take n rest)) (drop n rest) ≡ run keep start all = sym (run_append (take n rest) (drop n rest) w) ∙ ap (run keep w) (take-append-drop n rest) ∙ h in
     e (reader_fits (run keep w (take n rest)) (drop n rest) t (ap tree_in whole ∙ i) j)
 
 pub read_over : (found : Option WideTree) (w : Bytewise Keeping) (all : List ℕ) → w ≡ run keep start all → IsTree found w → IsRead found all

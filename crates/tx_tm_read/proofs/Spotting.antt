@@ -3,7 +3,7 @@ use Rattle.std.proofs.Common.{◌≡◌, ℕ, suc, ◌+◌, ◌<◌, ◌≤◌, 
 use Rattle.std.specs.List.{flat_map}
 use Rattle.std.proofs.lemmas.List.{length-take, take-append-drop, take_more}
 use Rattle.tx_tm_form.specs.Tokens.{written}
-use Rattle.tx_tm_form.specs.Machine.{Lex, Bytewise, at, step, run}
+use Rattle.tx_tm_form.specs.Machine.{Lex, at, step, run}
 use Rattle.tx_tm_form.specs.Marks.{Marked, keep_marks, start_marks}
 use Rattle.tx_tm_form.specs.Faults.{begun_bytes}
 use Rattle.tx_tm_read.specs.declared.scan.Scan.{Scan}
@@ -14,10 +14,8 @@ use Rattle.tx_tm_form.proofs.Begun.{scanned_run, read_behind}
 use Rattle.tx_tm_form.proofs.Passing.{marks_fold, taken_behind}
 use Rattle.tx_tm_form.proofs.OneFault.{file_marked}
 use Rattle.tx_tm_form.proofs.Stopping.{read_too, one_more}
+use Rattle.tx_tm_form.proofs.Standing.{same_marked}
 use Rattle.tx_tm_read.proofs.Lexing.{part_there}
-
-same_marked : (q r : Lex) (j k : Marked) → (let x : Bytewise Marked = at q j in x) ≡ at r k → j ≡ k
-same_marked q r j k e = cc
 
 -- whole words, of so many bytes, and one that has begun
 abbrev Taken : List ℕ → Lex → ℕ → Type 0

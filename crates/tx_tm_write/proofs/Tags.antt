@@ -3,7 +3,6 @@ use Rattle.std.proofs.Common.{◌≡◌, ℕ, true, false, ◌==◌, List, [], �
 use Rattle.std.specs.List.{flat_map}
 use Rattle.std.proofs.lemmas.List.{append-nil}
 use Rattle.std.proofs.lemmas.Bool.{and_parts}
-use Rattle.tx_tree.specs.Texts.{is_item_byte}
 use Rattle.tx_tree.specs.Labels.{is_label_byte, IsLabel}
 use Rattle.tx_tree.specs.WideTree.{WideTree, Forest, leaf, node, nil, cons, forest, trees}
 use Rattle.tx_tree.proofs.Children.{forest_trees}
@@ -15,15 +14,13 @@ use Rattle.tx_tm_form.specs.Tokens.{Token, white, plain, raw, bar, close, mark_o
 use Rattle.tx_tm_form.specs.Parts.{Part, gap, tag, content, block, long_tag, same, has_no_items, tags_of, collection_label, raw_data_label}
 use Rattle.tx_tm_form.specs.Forms.{AreDigits, Pieces, Arguments, Blocks, blank, raw_data, short_tag, long_tag_of, no_argument, argument, no_block, middle_tag, tokens_of, beginning, more_arguments, tokens_of_blocks, parts_of, children_of, children_of_blocks}
 use Rattle.tx_tm_form.proofs.Sound.{same_is}
+use Rattle.tx_tm_form.proofs.Formed.{digit_item}
 use Rattle.tx_tm_write.specs.Shapes.{all_digits, is_one_of_digits, is_raw, digits_of}
 use Rattle.tx_tm_write.specs.Canonical.{is_marked}
 use Rattle.tx_tm_write.proofs.TextItems.{other_plain}
 use Rattle.tx_tm_write.proofs.Standing.{AreWords, no_word, both_words, one_word, word_before, Stands, one_stands}
 
 -- ---- raw data
-
-digit_item : (b : ℕ) → is_digit b ≡ true → is_item_byte b ≡ true
-digit_item b h = grind arith
 
 digit_no_space : (b : ℕ) → is_digit b ≡ true → (b == 32) ≡ false
 digit_no_space b h = grind arith

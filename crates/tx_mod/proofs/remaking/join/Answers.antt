@@ -1,10 +1,11 @@
 use Rattle.std.proofs.Common.{◌≡◌, ◌+◌, ◌++◌, ◌∷◌, [], take, drop, sym, ap, subst, ◌∙◌, append_assoc, arith, Ok}
-use Rattle.tx_mod.proofs.Remade.{node_joined, found_same, third_within, same_Some_ok, items_within, node_is, made_ok}
+use Rattle.tx_mod.proofs.Remade.{node_joined, found_same, third_within, items_within, node_is, made_ok}
 use Rattle.tx_mod.proofs.remaking.join.Goals as goal
 use Rattle.std.specs.Prelude.{IsOkAnd}
 use Rattle.tx_tree.specs.Limits.{IsWithinLimits}
 use Rattle.tx_mod.specs.Changes.{joined}
 use Rattle.tx_mod.proofs.Lists.{get_within}
+use Rattle.tx_mod.proofs.Back.{same_tree}
 
 pub bounds-children-i : goal.bounds-children-i
 bounds-children-i g c =
@@ -36,7 +37,7 @@ node_of-requires g c =
     let one = found_same c.in-Node.children.now c.args.i r.first c.index-children-i.result r.found c.index-children-i.is in
     let two = found_same c.in-Node.children.now (c.args.i + 1) r.second c.index-children-i-2.result r.next c.index-children-i-2.is in
     let made : joined c.index-children-i.result c.index-children-i-2.result ≡ Ok r.third = rw (one, two) r.made in
-    let same : c.in_ok-one.one ≡ r.third = same_Some_ok c.in_ok-one.one r.third (sym c.in_ok-one.ensures.made ∙ made) in
+    let same : c.in_ok-one.one ≡ r.third = same_tree c.in_ok-one.one r.third (sym c.in_ok-one.ensures.made ∙ made) in
     let items : c.in_ok-all.all.items ≡ take c.args.i c.in-Node.children.now ++ r.third ∷ drop (c.args.i + 2) c.in-Node.children.now =
     c.in_ok-all.ensures ∙ append_assoc (take c.args.i c.in-Node.children.now) (c.in_ok-one.one ∷ []) (drop (c.args.i + 2) c.in-Node.children.now)
     ∙ ap (λ x. take c.args.i c.in-Node.children.now ++ x ∷ drop (c.args.i + 2) c.in-Node.children.now) same in
@@ -48,7 +49,7 @@ returns-clause-made g c =
     let one = found_same c.in-Node.children.now c.args.i r.first c.index-children-i.result r.found c.index-children-i.is in
     let two = found_same c.in-Node.children.now (c.args.i + 1) r.second c.index-children-i-2.result r.next c.index-children-i-2.is in
     let made : joined c.index-children-i.result c.index-children-i-2.result ≡ Ok r.third = rw (one, two) r.made in
-    let same : c.in_ok-one.one ≡ r.third = same_Some_ok c.in_ok-one.one r.third (sym c.in_ok-one.ensures.made ∙ made) in
+    let same : c.in_ok-one.one ≡ r.third = same_tree c.in_ok-one.one r.third (sym c.in_ok-one.ensures.made ∙ made) in
     let items : c.in_ok-all.all.items ≡ take c.args.i c.in-Node.children.now ++ r.third ∷ drop (c.args.i + 2) c.in-Node.children.now =
     c.in_ok-all.ensures ∙ append_assoc (take c.args.i c.in-Node.children.now) (c.in_ok-one.one ∷ []) (drop (c.args.i + 2) c.in-Node.children.now)
     ∙ ap (λ x. take c.args.i c.in-Node.children.now ++ x ∷ drop (c.args.i + 2) c.in-Node.children.now) same in

@@ -1,6 +1,6 @@
 use Rattle.std.proofs.Common.{◌+◌, ◌-◌, take, drop, ap, refl, ◌∙◌, arith}
-use Rattle.tx_mod.proofs.Remade.{leaf_removed, node_removed}
-use Rattle.tx_mod.proofs.Undone.{text_between, part_within, part_is, same_ok, sub_add}
+use Rattle.tx_mod.proofs.Remade.{leaf_removed, node_removed, same_ok}
+use Rattle.tx_mod.proofs.Undone.{text_between, part_within, part_is, sub_add}
 use Rattle.tx_mod.proofs.undoing.removed_part.Goals as goal
 
 pub leaf_of-requires-clause-text : goal.leaf_of-requires-clause-text

@@ -1,7 +1,7 @@
 use Rattle.std.proofs.Common.{◌+◌, take, drop, arith}
 use Rattle.tx_mod.proofs.Lists.{get_within}
-use Rattle.tx_mod.proofs.Remade.{node_unwrapped, nil_between}
-use Rattle.tx_mod.proofs.Undone.{taken_within, without_is, same_ok}
+use Rattle.tx_mod.proofs.Remade.{node_unwrapped, nil_between, same_ok}
+use Rattle.tx_mod.proofs.Undone.{taken_within, without_is}
 use Rattle.tx_mod.proofs.undoing.without_child.Goals as goal
 
 pub spliced-requires-clause-there : goal.spliced-requires-clause-there
