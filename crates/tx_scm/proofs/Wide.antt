@@ -5,13 +5,14 @@ use Rattle.std.proofs.lemmas.List.{append-nil}
 use Rattle.tx_tree.specs.Texts.{IsText}
 use Rattle.tx_tree.specs.TextScan.{begins_text}
 use Rattle.tx_tree.specs.WideTree.{WideTree, Forest, forest, trees, count, depth_of, deepest, arity_of, widest, text_length_of, longest_text, size_of, total_size}
+use Rattle.tx_tree.specs.Labels.{BeginsLabel}
 use Rattle.tx_tree.proofs.Scanning.{begins_tested}
 use Rattle.tx_tree.proofs.Children.{forest_trees, trees_forest}
 use Rattle.tx_scm.specs.declared.kinds.Kind.{Kind}
 use Rattle.tx_scm.specs.declared.kinds.Kind.TheVariants.{Opens, Closes, Quote, Backslash, Letter}
 use Rattle.tx_scm.specs.Kinds.{kind_of}
 use Rattle.tx_scm.specs.Spelling.{escaped, SpellsTrees, Spells}
-use Rattle.tx_scm.specs.Faults.{AreOpen, BeginsLabel, IsLabelOpen, IsStringOpen, IsEscapeOpen}
+use Rattle.tx_scm.specs.Faults.{AreOpen, IsLabelOpen, IsStringOpen, IsEscapeOpen}
 use Rattle.tx_scm.specs.Machine.{Open, State, Bounds, Limits, between, opened, naming, texting, escaping, whole, failed, put, only_if, within, node_of, closed, named, lengthened, step_between, step_opened, step_naming, step_texting, step_escaping, step, run}
 use Rattle.tx_scm.proofs.ByteKinds.{letter_kind, backslash_kind, escaped_as}
 use Rattle.tx_scm.proofs.Bounded.{AreBelow}

@@ -1,11 +1,10 @@
 -- Why bytes spell no tree within the limits in the Scheme syntax: what stands open at the end of the first bytes, and
 -- the table by which the next byte is a fault.
 use Rattle.std.specs.Prelude.{◌≡◌, ℕ, zero, suc, ◌≤◌, Bool, true, false, ◌==◌, ◌||◌, List, [], ◌∷◌, ◌++◌, length, take, get_or}
-use Rattle.std.specs.List.{AllByRecursion, flat_map}
-use Rattle.tx_tree.specs.declared.TheConstants.{MOST_LABEL}
+use Rattle.std.specs.List.{flat_map}
 use Rattle.tx_tree.specs.declared.faults.ReadFault.{ReadFault}
 use Rattle.tx_tree.specs.declared.faults.ReadFault.TheVariants.{Stray, BadEscape, BadLabel, BadText, After}
-use Rattle.tx_tree.specs.Labels.{is_label_byte, IsLabel}
+use Rattle.tx_tree.specs.Labels.{IsLabel, BeginsLabel}
 use Rattle.tx_tree.specs.Texts.{IsText}
 use Rattle.tx_tree.specs.WideTree.{Forest}
 use Rattle.tx_tree.specs.ReadFaults.{SpellsSome, IsFault, Row}
@@ -17,10 +16,6 @@ AreOpen zero x = AreWhite x
 AreOpen (suc n) x =
     (outer before label children behind : List ℕ) × (ts : Forest) × AreOpen n outer × AreWhite before × IsLabel label × SpellsTrees children ts × AreWhite behind
     × (x ≡ outer ++ 40 ∷ (before ++ (label ++ (children ++ behind))))
-
--- the first bytes of a label, also none
-abbrev pub BeginsLabel : List ℕ → Type 0
-BeginsLabel label = AllByRecursion (λ b. is_label_byte b ≡ true) label × (length label ≤ MOST_LABEL)
 
 -- behind the brackets a `(`, white, and these first bytes of its label
 abbrev pub IsLabelOpen : List ℕ → List ℕ → Type 0

@@ -2,10 +2,9 @@
 -- which the next byte is a fault.
 use Rattle.std.specs.Prelude.{◌≡◌, ◌⊎◌, ℕ, ◌≤◌, Bool, true, false, ◌==◌, ◌||◌, List, [], ◌∷◌, ◌++◌, length, take, get_or, map}
 use Rattle.std.specs.List.{AllByRecursion, flat_map}
-use Rattle.tx_tree.specs.declared.TheConstants.{MOST_LABEL}
 use Rattle.tx_tree.specs.declared.faults.ReadFault.{ReadFault}
 use Rattle.tx_tree.specs.declared.faults.ReadFault.TheVariants.{Stray, BadEscape, BadLabel, BadText, Mismatch}
-use Rattle.tx_tree.specs.Labels.{is_label_byte}
+use Rattle.tx_tree.specs.Labels.{BeginsLabel}
 use Rattle.tx_tree.specs.ReadFaults.{IsFault, Row}
 use Rattle.tx_tm_form.specs.declared.places.Form.{Form}
 use Rattle.tx_tm_form.specs.declared.places.Form.TheVariants.{Short, Long, Middle, Closing}
@@ -22,10 +21,6 @@ begun_bytes slashed = 92 ∷ []
 begun_bytes returned = 92 ∷ 13 ∷ []
 begun_bytes angled = 60 ∷ []
 begun_bytes (labelled form label) = 60 ∷ (mark_of form ++ label)
-
--- the first bytes of a label
-abbrev pub BeginsLabel : List ℕ → Type 0
-BeginsLabel label = AllByRecursion (λ b. is_label_byte b ≡ true) label × (length label ≤ MOST_LABEL)
 
 -- a short tag begins with a byte of its label
 abbrev pub HasByte : Form → List ℕ → Type 0
