@@ -1,15 +1,21 @@
 -- Which line is which command.
 use Rattle.std.specs.Prelude.{◌≡◌, ℕ, ◌≤◌, List, [], ◌∷◌, ◌++◌, length}
 use Rattle.tx_mod.specs.declared.mods.Mod.{Mod}
-use Rattle.tx_mod.specs.declared.mods.Mod.TheVariants.{Assign, Insert, Remove, Split, Join, AssignNode, InsertNode, RemoveNode}
+use Rattle.tx_mod.specs.declared.mods.Mod.TheVariants.{Assign, Insert, Remove, Split, Join}
+use Rattle.tx_mod.specs.declared.mods.Mod.TheVariants.{AssignNode, InsertNode, RemoveNode}
 use Rattle.tx_mod.specs.Mods.{path_of}
 use Rattle.tx_cmd.specs.declared.TheConstants.{MOST_LINE}
 use Rattle.tx_cmd.specs.declared.command.Command.{Command}
 use Rattle.tx_cmd.specs.declared.command.Command.TheVariants.{Change, Undo, Redo, Go, Cursor, Show, Tree, Save, Quit}
 use Rattle.tx_cmd.specs.declared.words.ModWord.{ModWord}
-use Rattle.tx_cmd.specs.declared.words.ModWord.TheVariants.{Assign as AssignWord, Insert as InsertWord, Remove as RemoveWord, Split as SplitWord, Join as JoinWord, AssignNode as AssignNodeWord, InsertNode as InsertNodeWord, RemoveNode as RemoveNodeWord}
+use Rattle.tx_cmd.specs.declared.words.ModWord.TheVariants.{Assign as AssignWord, Insert as InsertWord}
+use Rattle.tx_cmd.specs.declared.words.ModWord.TheVariants.{Remove as RemoveWord, Split as SplitWord}
+use Rattle.tx_cmd.specs.declared.words.ModWord.TheVariants.{Join as JoinWord, AssignNode as AssignNodeWord}
+use Rattle.tx_cmd.specs.declared.words.ModWord.TheVariants.{InsertNode as InsertNodeWord, RemoveNode as RemoveNodeWord}
 use Rattle.tx_cmd.specs.declared.words.Word.{Word}
-use Rattle.tx_cmd.specs.declared.words.Word.TheVariants.{Change as ChangeWord, Undo as UndoWord, Redo as RedoWord, Go as GoWord, Cursor as CursorWord, Show as ShowWord, Tree as TreeWord, Save as SaveWord, Quit as QuitWord}
+use Rattle.tx_cmd.specs.declared.words.Word.TheVariants.{Change as ChangeWord, Undo as UndoWord, Redo as RedoWord}
+use Rattle.tx_cmd.specs.declared.words.Word.TheVariants.{Go as GoWord, Cursor as CursorWord, Show as ShowWord}
+use Rattle.tx_cmd.specs.declared.words.Word.TheVariants.{Tree as TreeWord, Save as SaveWord, Quit as QuitWord}
 use Rattle.tx_cmd.specs.Words.{word_text}
 use Rattle.tx_cmd.specs.Values.{Value, a_path, a_number, a_label, a_name, a_tree, Mean}
 
@@ -61,4 +67,5 @@ values_of Quit = []
 
 -- the line is the command, and isn't too long
 abbrev pub IsCommand : List ℕ → Command → Type 0
-IsCommand line command = (length line ≤ MOST_LINE) × ((rest : List ℕ) × Mean rest (values_of command) × (line ≡ word_text (word_of command) ++ rest))
+IsCommand line command = (length line ≤ MOST_LINE)
+    × ((rest : List ℕ) × Mean rest (values_of command) × (line ≡ word_text (word_of command) ++ rest))

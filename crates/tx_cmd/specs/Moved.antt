@@ -1,7 +1,8 @@
 -- Faults of a reader, with places counted from another start.
 use Rattle.std.specs.Prelude.{ℕ, ◌+◌, ◌≤◌}
 use Rattle.tx_tree.specs.declared.faults.ReadFault.{ReadFault}
-use Rattle.tx_tree.specs.declared.faults.ReadFault.TheVariants.{Unclosed, Stray, BadEscape, BadLabel, BadText, Mismatch, After}
+use Rattle.tx_tree.specs.declared.faults.ReadFault.TheVariants.{Unclosed, Stray, BadEscape}
+use Rattle.tx_tree.specs.declared.faults.ReadFault.TheVariants.{BadLabel, BadText, Mismatch, After}
 
 -- the fault of bytes that begin at this place
 abbrev pub moved : ℕ → ReadFault → ReadFault

@@ -1,10 +1,13 @@
 -- How a line is cut into pieces. Private clauses alone cite this.
-use Rattle.std.specs.Prelude.{◌≡◌, ℕ, ◌+◌, ◌-◌, ◌*◌, Bool, true, false, nat_le, if◌then◌else◌, List, [], ◌∷◌, ◌++◌, Option, Some, None}
+use Rattle.std.specs.Prelude.{◌≡◌, ℕ, ◌+◌, ◌-◌, ◌*◌, Bool, true, false, nat_le}
+use Rattle.std.specs.Prelude.{if◌then◌else◌, List, [], ◌∷◌, ◌++◌, Option, Some, None}
 use Rattle.tx_base.specs.Fronts.{IsLongestFront}
 use Rattle.tx_tree.specs.declared.TheConstants.{MOST_NUMBER}
 use Rattle.tx_tree.specs.PathSpelling.{is_digit}
 use Rattle.tx_cmd.specs.declared.words.Argument.{Argument}
-use Rattle.tx_cmd.specs.declared.words.Argument.TheVariants.{Path as PathArgument, Number as NumberArgument, Label as LabelArgument, Name as NameArgument, Tree as TreeArgument}
+use Rattle.tx_cmd.specs.declared.words.Argument.TheVariants.{Path as PathArgument, Number as NumberArgument}
+use Rattle.tx_cmd.specs.declared.words.Argument.TheVariants.{Label as LabelArgument}
+use Rattle.tx_cmd.specs.declared.words.Argument.TheVariants.{Name as NameArgument, Tree as TreeArgument}
 use Rattle.tx_cmd.specs.Words.{HasNoSpace, IsLoosePiece, AreLoose}
 
 -- nothing, or what begins with a space
@@ -47,4 +50,5 @@ IsPieceMisfit a piece (Some n) = IsLongestFront (IsLoosePiece a) piece n × (IsL
 
 -- the number with one digit more, where the byte is one and the number isn't too great
 unfoldable pub next_number : ℕ → ℕ → Option ℕ
-next_number v b = if is_digit b then (if nat_le (v * 10 + (b - 48)) MOST_NUMBER then Some (v * 10 + (b - 48)) else None) else None
+next_number v b =
+    if is_digit b then (if nat_le (v * 10 + (b - 48)) MOST_NUMBER then Some (v * 10 + (b - 48)) else None) else None

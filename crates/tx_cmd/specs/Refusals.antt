@@ -9,7 +9,9 @@ use Rattle.tx_cmd.specs.declared.TheConstants.{MOST_LINE}
 use Rattle.tx_cmd.specs.declared.command.CmdFault.{CmdFault}
 use Rattle.tx_cmd.specs.declared.command.CmdFault.TheVariants.{Long, Unknown, Args, Path, Tree, Memory}
 use Rattle.tx_cmd.specs.declared.words.Argument.{Argument}
-use Rattle.tx_cmd.specs.declared.words.Argument.TheVariants.{Path as PathArgument, Number as NumberArgument, Label as LabelArgument, Name as NameArgument, Tree as TreeArgument}
+use Rattle.tx_cmd.specs.declared.words.Argument.TheVariants.{Path as PathArgument, Number as NumberArgument}
+use Rattle.tx_cmd.specs.declared.words.Argument.TheVariants.{Label as LabelArgument}
+use Rattle.tx_cmd.specs.declared.words.Argument.TheVariants.{Name as NameArgument, Tree as TreeArgument}
 use Rattle.tx_cmd.specs.declared.words.Word.{Word}
 use Rattle.tx_cmd.specs.Words.{word_text, arguments_of, first_word, IsKnown, IsLoosePiece, AreLoose, IsLoose}
 use Rattle.tx_cmd.specs.Values.{HasMeaning}
@@ -24,7 +26,8 @@ IsBadPath piece at (Args n) = ⊥
 IsBadPath piece at (Tree fault) = ⊥
 IsBadPath piece at Memory = ⊥
 
--- why the bytes spell no tree within the limits, with all places counted in the line, where the piece begins at this place
+-- why the bytes spell no tree within the limits, with all places counted in the line, where the piece begins at this
+-- place
 abbrev pub IsBadTree : List ℕ → ℕ → CmdFault → Type 0
 IsBadTree piece at (Tree fault) = (there : ReadFault) × IsSchemeFault piece there × (fault ≡ moved at there)
 IsBadTree piece at (Long n) = ⊥
@@ -50,7 +53,8 @@ IsFirstFault (a ∷ more) bytes at fault =
 
 -- the line has the form of a command, and this is the first fault of its pieces
 abbrev pub IsRefused : List ℕ → CmdFault → Type 0
-IsRefused line fault = (w : Word) × (rest : List ℕ) × (line ≡ word_text w ++ rest) × IsFirstFault (arguments_of w) rest (length (word_text w)) fault
+IsRefused line fault = (w : Word) × (rest : List ℕ) × (line ≡ word_text w ++ rest)
+    × IsFirstFault (arguments_of w) rest (length (word_text w)) fault
 
 -- The place of `Args` is the end of the longest front of the line that can be continued to a line of the loose grammar.
 abbrev pub IsCmdFault : List ℕ → CmdFault → Type 0

@@ -7,7 +7,9 @@ use Rattle.tx_tree.specs.WideTree.{WideTree, nodes_of}
 use Rattle.tx_scm.specs.Spelling.{Spells}
 use Rattle.tx_cmd.specs.Words.{IsName}
 use Rattle.tx_cmd.specs.declared.words.Argument.{Argument}
-use Rattle.tx_cmd.specs.declared.words.Argument.TheVariants.{Path as PathArgument, Number as NumberArgument, Label as LabelArgument, Name as NameArgument, Tree as TreeArgument}
+use Rattle.tx_cmd.specs.declared.words.Argument.TheVariants.{Path as PathArgument, Number as NumberArgument}
+use Rattle.tx_cmd.specs.declared.words.Argument.TheVariants.{Label as LabelArgument}
+use Rattle.tx_cmd.specs.declared.words.Argument.TheVariants.{Name as NameArgument, Tree as TreeArgument}
 
 pub data Value : Type 0 where
   a_path : (path : List ℕ) → Value

@@ -1,15 +1,19 @@
 -- The first words of commands, the arguments that stand behind each, and the loose grammar of lines.
-use Rattle.std.specs.Prelude.{◌≡◌, ◌≢◌, ℕ, ◌≤◌, ◌==◌, Bool, true, false, ◌||◌, ◌&&◌, nat_le, List, [], ◌∷◌, ◌++◌, length, codes}
+use Rattle.std.specs.Prelude.{◌≡◌, ◌≢◌, ℕ, ◌≤◌, ◌==◌, Bool, true, false, ◌||◌}
+use Rattle.std.specs.Prelude.{◌&&◌, nat_le, List, [], ◌∷◌, ◌++◌, length, codes}
 use Rattle.std.specs.List.{AllByRecursion, before_first}
 use Rattle.tx_tree.specs.PathSpelling.{IsNumber}
 use Rattle.tx_tree.specs.Labels.{IsLabel}
 use Rattle.tx_cmd.specs.declared.TheConstants.{MOST_NAME}
 use Rattle.tx_cmd.specs.declared.words.ModWord.{ModWord}
-use Rattle.tx_cmd.specs.declared.words.ModWord.TheVariants.{Assign, Insert, Remove, Split, Join, AssignNode, InsertNode, RemoveNode}
+use Rattle.tx_cmd.specs.declared.words.ModWord.TheVariants.{Assign, Insert, Remove, Split, Join}
+use Rattle.tx_cmd.specs.declared.words.ModWord.TheVariants.{AssignNode, InsertNode, RemoveNode}
 use Rattle.tx_cmd.specs.declared.words.Word.{Word}
 use Rattle.tx_cmd.specs.declared.words.Word.TheVariants.{Change, Undo, Redo, Go, Cursor, Show, Tree, Save, Quit}
 use Rattle.tx_cmd.specs.declared.words.Argument.{Argument}
-use Rattle.tx_cmd.specs.declared.words.Argument.TheVariants.{Path as PathArgument, Number as NumberArgument, Label as LabelArgument, Name as NameArgument, Tree as TreeArgument}
+use Rattle.tx_cmd.specs.declared.words.Argument.TheVariants.{Path as PathArgument, Number as NumberArgument}
+use Rattle.tx_cmd.specs.declared.words.Argument.TheVariants.{Label as LabelArgument}
+use Rattle.tx_cmd.specs.declared.words.Argument.TheVariants.{Name as NameArgument, Tree as TreeArgument}
 
 -- a word as it is written
 abbrev pub mod_text : ModWord → List ℕ
@@ -91,11 +95,13 @@ IsLoosePiece TreeArgument piece = Unit {0}
 -- the bytes are a space and a piece that may stand for it, for each argument
 abbrev pub AreLoose : List Argument → List ℕ → Type 0
 AreLoose [] bytes = bytes ≡ []
-AreLoose (a ∷ more) bytes = (piece rest : List ℕ) × IsLoosePiece a piece × AreLoose more rest × (bytes ≡ 32 ∷ (piece ++ rest))
+AreLoose (a ∷ more) bytes =
+    (piece rest : List ℕ) × IsLoosePiece a piece × AreLoose more rest × (bytes ≡ 32 ∷ (piece ++ rest))
 
 -- the line has the form that commands with this first word have
 abbrev pub IsLoose : List ℕ → List ℕ → Type 0
-IsLoose word line = (w : Word) × (rest : List ℕ) × (word ≡ word_text w) × AreLoose (arguments_of w) rest × (line ≡ word ++ rest)
+IsLoose word line =
+    (w : Word) × (rest : List ℕ) × (word ≡ word_text w) × AreLoose (arguments_of w) rest × (line ≡ word ++ rest)
 
 -- an argument other than a number is stored
 abbrev pub is_stored : Argument → Bool

@@ -12,6 +12,8 @@ pub fn one_command()
 
 /// A line has at most one cause that makes it no command, want of memory apart, and a command has none.
 pub fn one_answer()
-    ensures cause { (line : List ℕ) (f g : CmdFault) → f ≢ CmdFault.Memory → g ≢ CmdFault.Memory → IsCmdFault line f → IsCmdFault line g → f ≡ g }
-    ensures command { (line : List ℕ) (c : Command) (f : CmdFault) → f ≢ CmdFault.Memory → IsCommand line c → ¬ IsCmdFault line f }
+    ensures cause { (line : List ℕ) (f g : CmdFault) → f ≢ CmdFault.Memory → g ≢ CmdFault.Memory → IsCmdFault line f
+        → IsCmdFault line g → f ≡ g }
+    ensures command { (line : List ℕ) (c : Command) (f : CmdFault) → f ≢ CmdFault.Memory → IsCommand line c
+        → ¬ IsCmdFault line f }
 {}

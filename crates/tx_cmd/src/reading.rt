@@ -112,7 +112,8 @@ fn number_and_tree<L: Ledger>(
     requires loose { AreLoose (Argument.Number ∷ Argument.Tree ∷ []) bytes.now }
     requires place { at + length bytes.now ≤ MOST_LINE }
     ensures ok { IfOk result (λ r. Mean bytes.now (a_number r.0 ∷ a_tree r.1 ∷ [])) }
-    ensures refused { IfErr result (λ fault. fault ≢ NoMemory → IsFirstFault (Argument.Number ∷ Argument.Tree ∷ []) bytes.now at fault) }
+    ensures refused { IfErr result (λ fault.
+        fault ≢ NoMemory → IsFirstFault (Argument.Number ∷ Argument.Tree ∷ []) bytes.now at fault) }
     ensures counted { IfOk result (λ r. steps.new ≤ steps.old + nodes_of r.1) }
     ensures rises { steps.old ≤ steps.new }
 {
@@ -185,7 +186,8 @@ fn change_at<L: Ledger>(
     ensures word { IfOk result (λ m. mod_word m ≡ word) }
     ensures path { IfOk result (λ m. path_of m ≡ path) }
     ensures ok { IfOk result (λ m. Mean bytes.now (values_behind m)) }
-    ensures refused { IfErr result (λ fault. fault ≢ NoMemory → IsFirstFault (arguments_behind word) bytes.now at fault) }
+    ensures refused { IfErr result (λ fault.
+        fault ≢ NoMemory → IsFirstFault (arguments_behind word) bytes.now at fault) }
     ensures counted { IfOk result (λ m. steps.new ≤ steps.old + nodes_in (values_behind m)) }
     ensures rises { steps.old ≤ steps.new }
 {
@@ -225,7 +227,8 @@ fn change<L: Ledger>(
     requires place { at + length bytes.now ≤ MOST_LINE }
     ensures word { IfOk result (λ m. mod_word m ≡ word) }
     ensures ok { IfOk result (λ m. Mean bytes.now (a_path (path_of m) ∷ values_behind m)) }
-    ensures refused { IfErr result (λ fault. fault ≢ NoMemory → IsFirstFault (Argument.Path ∷ arguments_behind word) bytes.now at fault) }
+    ensures refused { IfErr result (λ fault.
+        fault ≢ NoMemory → IsFirstFault (Argument.Path ∷ arguments_behind word) bytes.now at fault) }
     ensures counted { IfOk result (λ m. steps.new ≤ steps.old + nodes_in (values_behind m)) }
     ensures rises { steps.old ≤ steps.new }
 {

@@ -22,7 +22,8 @@ tree_of buffers k = option_map_or (λ b. b.tree) (slice_get buffers k) (leaf [])
 
 -- the buffers, buffer k with this tree
 abbrev pub with_tree : List Buffer → ℕ → WideTree → List Buffer
-with_tree buffers k t = option_map_or (λ b. slice_set buffers k (record { name = b.name; tree = t })) (slice_get buffers k) buffers
+with_tree buffers k t =
+    option_map_or (λ b. slice_set buffers k (record { name = b.name; tree = t })) (slice_get buffers k) buffers
 
 -- the tree of the document, which is buffer 0
 abbrev pub document_of : List Buffer → WideTree

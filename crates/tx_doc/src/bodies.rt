@@ -32,8 +32,8 @@ fn body_child(t: &Tree) -> Option<usize>
     t.children().iter().position(is_body)
 }
 
-/// The path to the body of a buffer with this tree. Where the root is a `document` with a child `body`, that is the first
-/// child of the first such child; of every other tree it is the root. None comes exactly where that `body` has no
+/// The path to the body of a buffer with this tree. Where the root is a `document` with a child `body`, that is the
+/// first child of the first such child; of every other tree it is the root. None comes exactly where that `body` has no
 /// child.
 pub fn body(alloc: Global, t: &Tree) -> Result<Option<Path>, Memory>
     ensures { IfOk result (λ path. path ≡ body_of t.now) }

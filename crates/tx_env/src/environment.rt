@@ -1,5 +1,6 @@
 // The environment.
-ghost use Rattle.std.specs.Prelude.{◌≡◌, ◌+◌, ◌-◌, ◌<◌, ◌^◌, ◌++◌, ◌∷◌, [], length, MatchOption, OnOk, OnErr, None, Some};
+ghost use Rattle.std.specs.Prelude.{◌≡◌, ◌+◌, ◌-◌, ◌<◌, ◌^◌, ◌++◌, ◌∷◌, []};
+ghost use Rattle.std.specs.Prelude.{length, MatchOption, OnOk, OnErr, None, Some};
 ghost use Rattle.std.specs.FinMap as maps;
 ghost use Rattle.tx_env.specs.Environments.{overlaid};
 

@@ -1,5 +1,6 @@
 // Pairs with scopes.
-ghost use Rattle.std.specs.Prelude.{◌≡◌, ℕ, ◌+◌, ◌-◌, ◌<◌, ◌^◌, ◌++◌, ◌∷◌, [], length, MatchOption, IfOk, OnOk, OnErr, None, Some};
+ghost use Rattle.std.specs.Prelude.{◌≡◌, ℕ, ◌+◌, ◌-◌, ◌<◌, ◌^◌, ◌++◌, ◌∷◌, [], length};
+ghost use Rattle.std.specs.Prelude.{MatchOption, IfOk, OnOk, OnErr, None, Some};
 ghost use Rattle.std.specs.FinMap as maps;
 ghost use Rattle.tx_env.specs.Changes.{capped, with_pair};
 ghost use Rattle.tx_env.specs.Environments.{NameMap};

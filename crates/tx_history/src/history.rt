@@ -1,5 +1,6 @@
 // Two rings of entries.
-ghost use Rattle.std.specs.Prelude.{◌≡◌, ◌+◌, ◌<◌, ◌≤◌, ◌++◌, ◌∷◌, [], length, if◌then◌else◌, IfOk, IfErr, option_copied};
+ghost use Rattle.std.specs.Prelude.{◌≡◌, ◌+◌, ◌<◌, ◌≤◌, ◌++◌, ◌∷◌, [], length};
+ghost use Rattle.std.specs.Prelude.{if◌then◌else◌, IfOk, IfErr, option_copied};
 ghost use Rattle.tx_history.specs.Lists.{newest, last};
 
 use circular_buffer::HeapCircularBuffer;
@@ -102,7 +103,8 @@ impl<E: Drop> History<E> {
         self.future.back()
     }
 
-    /// Puts the entry of an edit that was undone behind the future. Both lists together have fewer entries than the depth.
+    /// Puts the entry of an edit that was undone behind the future. Both lists together have fewer entries than the
+    /// depth.
     pub fn undone(&mut self, entry: E)
         requires { length self.old.past + length self.old.future < self.old.depth }
         ensures future { self.new.future ≡ self.old.future ++ entry ∷ [] }
@@ -112,7 +114,8 @@ impl<E: Drop> History<E> {
         self.future.push_back(entry);
     }
 
-    /// Puts the entry of an edit that was made again behind the past. Both lists together have fewer entries than the depth.
+    /// Puts the entry of an edit that was made again behind the past. Both lists together have fewer entries than the
+    /// depth.
     pub fn redone(&mut self, entry: E)
         requires { length self.old.past + length self.old.future < self.old.depth }
         ensures past { self.new.past ≡ self.old.past ++ entry ∷ [] }

@@ -13,11 +13,13 @@ use Rattle.tx_mod.specs.Sound.{IsSound}
 -- a moved place is a place of the changed tree
 abbrev pub StaysPlace : Mod → WideTree → Place → Type 0
 StaysPlace m t at =
-    (u : WideTree) → IsSound m → IsWellFormed t → changed m t ≡ Ok u → IsPlace t at.path at.offset → IsPlace u (moved_place m t at).path (moved_place m t at).offset
+    (u : WideTree) → IsSound m → IsWellFormed t → changed m t ≡ Ok u → IsPlace t at.path at.offset
+    → IsPlace u (moved_place m t at).path (moved_place m t at).offset
 
 -- where a path is carried, the same subtree stands
 abbrev pub CarriesSubtree : Mod → WideTree → List ℕ → Type 0
-CarriesSubtree m t q = (u x : WideTree) (r : List ℕ) → changed m t ≡ Ok u → subtree t q ≡ Some x → carried_path m t q ≡ Some r → subtree u r ≡ Some x
+CarriesSubtree m t q = (u x : WideTree) (r : List ℕ) → changed m t ≡ Ok u → subtree t q ≡ Some x
+    → carried_path m t q ≡ Some r → subtree u r ≡ Some x
 
 -- the tree of an outcome
 abbrev pub tree_of : Outcome → Option WideTree
@@ -32,17 +34,21 @@ changed_by_all (m ∷ ms) t = option_and_then (changed_by_all ms) (tree_of (chan
 -- where the subtree at q stands after all modifications, one after the other
 abbrev pub carried_by_all : List Mod → WideTree → List ℕ → Option (List ℕ)
 carried_by_all [] t q = Some q
-carried_by_all (m ∷ ms) t q = option_and_then (λ u. option_and_then (carried_by_all ms u) (carried_path m t q)) (tree_of (changed m t))
+carried_by_all (m ∷ ms) t q =
+    option_and_then (λ u. option_and_then (carried_by_all ms u) (carried_path m t q)) (tree_of (changed m t))
 
 -- carried through two lists is carried through one and then the other
 abbrev pub Composes : List Mod → List Mod → WideTree → List ℕ → Type 0
-Composes ms ns t q = carried_by_all (ms ++ ns) t q ≡ option_and_then (λ u. option_and_then (carried_by_all ns u) (carried_by_all ms t q)) (changed_by_all ms t)
+Composes ms ns t q = carried_by_all (ms ++ ns) t q
+    ≡ option_and_then (λ u. option_and_then (carried_by_all ns u) (carried_by_all ms t q)) (changed_by_all ms t)
 
 -- where one step leads nowhere, all lead nowhere
 abbrev pub StopsAt : List Mod → Mod → List Mod → WideTree → List ℕ → Type 0
 StopsAt ms m ns t q =
-    (u : WideTree) (r : List ℕ) → changed_by_all ms t ≡ Some u → carried_by_all ms t q ≡ Some r → carried_path m u r ≡ None → carried_by_all (ms ++ m ∷ ns) t q ≡ None
+    (u : WideTree) (r : List ℕ) → changed_by_all ms t ≡ Some u → carried_by_all ms t q ≡ Some r
+    → carried_path m u r ≡ None → carried_by_all (ms ++ m ∷ ns) t q ≡ None
 
 -- where a path is carried through all modifications, the same subtree stands
 abbrev pub CarriesThroughAll : List Mod → WideTree → List ℕ → Type 0
-CarriesThroughAll ms t q = (u x : WideTree) (r : List ℕ) → changed_by_all ms t ≡ Some u → subtree t q ≡ Some x → carried_by_all ms t q ≡ Some r → subtree u r ≡ Some x
+CarriesThroughAll ms t q = (u x : WideTree) (r : List ℕ) → changed_by_all ms t ≡ Some u → subtree t q ≡ Some x
+    → carried_by_all ms t q ≡ Some r → subtree u r ≡ Some x

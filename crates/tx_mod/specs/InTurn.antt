@@ -31,7 +31,8 @@ inverses_of (m ∷ ms) t = option_map_or (inverses_of ms) (tree_of (changed m t)
 -- where a place of the tree t stands after all modifications
 abbrev pub moved_in_turn : List Mod → WideTree → Place → Place
 moved_in_turn [] t at = at
-moved_in_turn (m ∷ ms) t at = option_map_or (λ u. moved_in_turn ms u (moved_place m t at)) (tree_of (changed m t)) (moved_place m t at)
+moved_in_turn (m ∷ ms) t at =
+    option_map_or (λ u. moved_in_turn ms u (moved_place m t at)) (tree_of (changed m t)) (moved_place m t at)
 
 -- the steps that are allowed for one change along all paths
 abbrev pub cost_of : List Mod → ℕ
@@ -41,8 +42,8 @@ cost_of (m ∷ ms) = length (path_of m) + 3 + cost_of ms
 abbrev pub AreSound : List Mod → Type 0
 AreSound = AllByRecursion IsSound
 
--- what is known of modifications that are sound and apply to a well formed tree: the tree afterwards is well formed, what undoes them
--- gives the tree back and is allowed as many steps, and what undoes the undoing are they themselves
+-- what is known of modifications that are sound and apply to a well formed tree: the tree afterwards is well formed,
+-- what undoes them gives the tree back and is allowed as many steps, and what undoes the undoing are they themselves
 pub record AreUndone (ms : List Mod) (t u : WideTree) : Type 0 where
   pub formed : IsWellFormed u
   pub within : IsWithinLimits u
@@ -51,4 +52,5 @@ pub record AreUndone (ms : List Mod) (t u : WideTree) : Type 0 where
   pub cost : cost_of (inverses_of ms t) ≡ cost_of ms
 
 abbrev pub CanBeUndone : List Mod → WideTree → Type 0
-CanBeUndone ms t = (u : WideTree) → AreSound ms → IsWellFormed t → IsWithinLimits t → changed_in_turn ms t ≡ Ok u → AreUndone ms t u
+CanBeUndone ms t =
+    (u : WideTree) → AreSound ms → IsWellFormed t → IsWithinLimits t → changed_in_turn ms t ≡ Ok u → AreUndone ms t u

@@ -1,11 +1,13 @@
 -- Where places and paths stand after a modification.
-use Rattle.std.specs.Prelude.{ℕ, ◌+◌, ◌-◌, ◌==◌, nat_le, nat_lt, if◌then◌else◌, List, [], ◌∷◌, ◌++◌, Option, Some, None, is_some, option_map, slice_get}
+use Rattle.std.specs.Prelude.{ℕ, ◌+◌, ◌-◌, ◌==◌, nat_le, nat_lt, if◌then◌else◌, List, []}
+use Rattle.std.specs.Prelude.{◌∷◌, ◌++◌, Option, Some, None, is_some, option_map, slice_get}
 use Rattle.std.specs.Option.{option_map_or}
 use Rattle.tx_tree.specs.declared.places.Place.{Place}
 use Rattle.tx_tree.specs.Paths.{subtree}
 use Rattle.tx_tree.specs.WideTree.{WideTree, leaf, node, children_of}
 use Rattle.tx_mod.specs.declared.mods.Mod.{Mod}
-use Rattle.tx_mod.specs.declared.mods.Mod.TheVariants.{Assign, Insert, Remove, Split, Join, AssignNode, InsertNode, RemoveNode}
+use Rattle.tx_mod.specs.declared.mods.Mod.TheVariants.{Assign, Insert, Remove, Split, Join}
+use Rattle.tx_mod.specs.declared.mods.Mod.TheVariants.{AssignNode, InsertNode, RemoveNode}
 use Rattle.tx_mod.specs.Mods.{path_of, extent}
 
 -- what stands behind p in q, where q begins with p
@@ -39,7 +41,8 @@ moved_by_insert (node l ts) i n (k ∷ u) o = place (shifted i n k ∷ u) o
 abbrev pub moved_by_remove : WideTree → ℕ → ℕ → List ℕ → ℕ → Place
 moved_by_remove (leaf text) i n r o = place r (if nat_le (i + n) o then o - n else (if nat_le i o then i else o))
 moved_by_remove (node l ts) i n [] o = place [] o
-moved_by_remove (node l ts) i n (k ∷ u) o = if nat_le (i + n) k then place ((k - n) ∷ u) o else (if nat_le i k then place [] 0 else place (k ∷ u) o)
+moved_by_remove (node l ts) i n (k ∷ u) o =
+    if nat_le (i + n) k then place ((k - n) ∷ u) o else (if nat_le i k then place [] 0 else place (k ∷ u) o)
 
 -- a place of child i, which becomes two before and from j
 abbrev pub moved_in_split : WideTree → ℕ → ℕ → List ℕ → ℕ → Place
@@ -49,7 +52,10 @@ moved_in_split (node l ts) i j (k ∷ w) o = if nat_le j k then place ((i + 1) �
 
 abbrev pub moved_by_split : WideTree → ℕ → ℕ → List ℕ → ℕ → Place
 moved_by_split s i j [] o = place [] o
-moved_by_split s i j (k ∷ u) o = if nat_lt i k then place ((k + 1) ∷ u) o else (if k == i then moved_in_split (child_or_self s i) i j u o else place (k ∷ u) o)
+moved_by_split s i j (k ∷ u) o =
+    if nat_lt i k
+    then place ((k + 1) ∷ u) o
+    else (if k == i then moved_in_split (child_or_self s i) i j u o else place (k ∷ u) o)
 
 -- a place of child i + 1, which becomes the end of child i, behind n bytes or children
 abbrev pub moved_in_join : WideTree → ℕ → ℕ → List ℕ → ℕ → Place
@@ -60,7 +66,11 @@ moved_in_join (node l ts) i n (k ∷ w) o = place (i ∷ (k + n) ∷ w) o
 abbrev pub moved_by_join : WideTree → ℕ → List ℕ → ℕ → Place
 moved_by_join s i [] o = place [] o
 moved_by_join s i (k ∷ u) o =
-    if nat_lt (i + 1) k then place ((k - 1) ∷ u) o else (if k == i + 1 then moved_in_join (child_or_self s (i + 1)) i (extent (child_or_self s i)) u o else place (k ∷ u) o)
+    if nat_lt (i + 1) k
+    then place ((k - 1) ∷ u) o
+    else (if k == i + 1
+    then moved_in_join (child_or_self s (i + 1)) i (extent (child_or_self s i)) u o
+    else place (k ∷ u) o)
 
 abbrev pub moved_by_unwrap : ℕ → List ℕ → ℕ → Place
 moved_by_unwrap i [] o = place [] 0
@@ -79,7 +89,9 @@ moved_at (RemoveNode p i) s r o = moved_by_unwrap i r o
 -- where a place of the tree t stands afterwards
 abbrev pub moved_place : Mod → WideTree → Place → Place
 moved_place m t at =
-    option_map_or (λ s. option_map_or (λ r. below (path_of m) (moved_at m s r at.offset)) (rest_behind (path_of m) at.path) at) (subtree t (path_of m)) at
+    option_map_or (λ s.
+    option_map_or (λ r. below (path_of m) (moved_at m s r at.offset)) (rest_behind (path_of m) at.path) at)
+    (subtree t (path_of m)) at
 
 -- the path, unless it is that of the changed subtree itself
 abbrev pub some_path : List ℕ → Option (List ℕ)
@@ -88,7 +100,8 @@ some_path (k ∷ u) = Some (k ∷ u)
 
 abbrev pub carried_by_remove : ℕ → ℕ → List ℕ → Option (List ℕ)
 carried_by_remove i n [] = None
-carried_by_remove i n (k ∷ u) = if nat_le (i + n) k then Some ((k - n) ∷ u) else (if nat_le i k then None else Some (k ∷ u))
+carried_by_remove i n (k ∷ u) =
+    if nat_le (i + n) k then Some ((k - n) ∷ u) else (if nat_le i k then None else Some (k ∷ u))
 
 abbrev pub carried_in_split : ℕ → ℕ → List ℕ → Option (List ℕ)
 carried_in_split i j [] = None
@@ -96,7 +109,8 @@ carried_in_split i j (k ∷ w) = if nat_le j k then Some ((i + 1) ∷ (k - j) �
 
 abbrev pub carried_by_split : ℕ → ℕ → List ℕ → Option (List ℕ)
 carried_by_split i j [] = None
-carried_by_split i j (k ∷ u) = if nat_lt i k then Some ((k + 1) ∷ u) else (if k == i then carried_in_split i j u else Some (k ∷ u))
+carried_by_split i j (k ∷ u) =
+    if nat_lt i k then Some ((k + 1) ∷ u) else (if k == i then carried_in_split i j u else Some (k ∷ u))
 
 abbrev pub carried_in_join : ℕ → ℕ → List ℕ → Option (List ℕ)
 carried_in_join i n [] = None
@@ -106,8 +120,11 @@ carried_in_join i n (k ∷ w) = Some (i ∷ (k + n) ∷ w)
 abbrev pub carried_by_join : ℕ → ℕ → List ℕ → Option (List ℕ)
 carried_by_join i n [] = None
 carried_by_join i n (k ∷ u) =
-    if nat_lt (i + 1) k then Some ((k - 1) ∷ u)
-    else (if k == i + 1 then carried_in_join i n u else (if k == i then option_map (λ w. i ∷ w) (some_path u) else Some (k ∷ u)))
+    if nat_lt (i + 1) k
+    then Some ((k - 1) ∷ u)
+    else (if k == i + 1
+    then carried_in_join i n u
+    else (if k == i then option_map (λ w. i ∷ w) (some_path u) else Some (k ∷ u)))
 
 abbrev pub carried_by_unwrap : ℕ → List ℕ → Option (List ℕ)
 carried_by_unwrap i [] = None
@@ -130,5 +147,7 @@ carried_at (RemoveNode p i) s r = carried_by_unwrap i r
 -- where the unchanged subtree of t at q stands afterwards
 abbrev pub carried_path : Mod → WideTree → List ℕ → Option (List ℕ)
 carried_path m t q =
-    option_map_or (λ s. option_map_or (λ r. option_map (λ v. path_of m ++ v) (carried_at m s r)) (rest_behind (path_of m) q) (if is_some (rest_behind q (path_of m)) then None else Some q))
+    option_map_or (λ s.
+    option_map_or (λ r. option_map (λ v. path_of m ++ v) (carried_at m s r))
+    (rest_behind (path_of m) q) (if is_some (rest_behind q (path_of m)) then None else Some q))
     (subtree t (path_of m)) None

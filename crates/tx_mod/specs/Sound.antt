@@ -4,7 +4,8 @@ use Rattle.tx_tree.specs.Labels.{IsLabel}
 use Rattle.tx_tree.specs.Limits.{IsWellFormed, IsWithinLimits}
 use Rattle.tx_tree.specs.WideTree.{WideTree}
 use Rattle.tx_mod.specs.declared.mods.Mod.{Mod}
-use Rattle.tx_mod.specs.declared.mods.Mod.TheVariants.{Assign, Insert, Remove, Split, Join, AssignNode, InsertNode, RemoveNode}
+use Rattle.tx_mod.specs.declared.mods.Mod.TheVariants.{Assign, Insert, Remove, Split, Join}
+use Rattle.tx_mod.specs.declared.mods.Mod.TheVariants.{AssignNode, InsertNode, RemoveNode}
 use Rattle.tx_mod.specs.Changes.{changed}
 use Rattle.tx_mod.specs.Inverses.{inverse_of}
 
@@ -21,11 +22,13 @@ IsSound (RemoveNode p i) = Unit {0}
 
 -- what a modification makes of a well formed tree is well formed and within the limits
 abbrev pub StaysWellFormed : Mod → WideTree → Type 0
-StaysWellFormed m t = (u : WideTree) → IsSound m → IsWellFormed t → changed m t ≡ Ok u → IsWellFormed u × IsWithinLimits u
+StaysWellFormed m t =
+    (u : WideTree) → IsSound m → IsWellFormed t → changed m t ≡ Ok u → IsWellFormed u × IsWithinLimits u
 
 -- what undoes a modification gives the tree back
 abbrev pub GivesBack : Mod → WideTree → Type 0
-GivesBack m t = (u : WideTree) → IsSound m → IsWellFormed t → IsWithinLimits t → changed m t ≡ Ok u → changed (inverse_of m t) u ≡ Ok t
+GivesBack m t = (u : WideTree) → IsSound m → IsWellFormed t → IsWithinLimits t → changed m t ≡ Ok u
+    → changed (inverse_of m t) u ≡ Ok t
 
 -- what undoes the undoing, in the changed tree, is the modification itself
 abbrev pub IsMadeAgain : Mod → WideTree → Type 0

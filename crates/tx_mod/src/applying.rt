@@ -62,8 +62,8 @@ fn applied_at<L: Ledger>(
 }
 
 #[tactic(auto, using(crate::proofs::Whole::no_change, std::proofs::lemmas::Grind::common_steps))]
-/// The changed tree, or the first cause why there is none. Each subtree off the path is shared with the tree, which stays.
-/// It takes at most the path's length and three steps.
+/// The changed tree, or the first cause why there is none. Each subtree off the path is shared with the tree, which
+/// stays. It takes at most the path's length and three steps.
 pub fn apply<L: Ledger>(
     alloc: Global,
     t: &Tree,
@@ -82,7 +82,8 @@ pub fn apply<L: Ledger>(
 }
 
 #[tactic(auto, using(crate::proofs::Whole::inverse_is, crate::proofs::Whole::no_change, std::proofs::lemmas::Grind::common_steps))]
-/// The modification that gives this tree back from the changed one. It is refused as `apply` is, and takes at most one step.
+/// The modification that gives this tree back from the changed one. It is refused as `apply` is, and takes at most one
+/// step.
 pub fn inverse<L: Ledger>(
     alloc: Global,
     t: &Tree,
@@ -102,8 +103,8 @@ pub fn inverse<L: Ledger>(
 }
 
 #[tactic(auto, using(crate::proofs::Whole::inverse_is, crate::proofs::Whole::no_change, std::proofs::lemmas::Grind::common_steps))]
-/// The changed tree, and the modification that gives this one back, or the first cause why there is none. It takes at most the
-/// path's length and four steps, and looks once at whether the modification applies.
+/// The changed tree, and the modification that gives this one back, or the first cause why there is none. It takes at
+/// most the path's length and four steps, and looks once at whether the modification applies.
 pub fn apply_and_inverse<L: Ledger>(
     alloc: Global,
     t: &Tree,

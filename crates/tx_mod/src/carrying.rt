@@ -2,7 +2,9 @@
 ghost use Rattle.std.specs.Prelude.{◌≡◌, ◌≤◌, IfOk, IsOk, IsSome, None, Some, MatchOption};
 ghost use Rattle.tx_tree.specs.Paths.{subtree};
 ghost use Rattle.tx_mod.specs.Changes.{changed};
-ghost use Rattle.tx_mod.specs.Moves.{carried_by_insert, carried_by_remove, carried_in_split, carried_by_split, carried_in_join, carried_by_join, carried_by_unwrap, carried_at, carried_path, some_path};
+ghost use Rattle.tx_mod.specs.Moves.{carried_by_insert, carried_by_remove, carried_in_split};
+ghost use Rattle.tx_mod.specs.Moves.{carried_by_split, carried_in_join, carried_by_join};
+ghost use Rattle.tx_mod.specs.Moves.{carried_by_unwrap, carried_at, carried_path, some_path};
 ghost use Rattle.tx_mod.specs.Ways.{numbers_of, AreSmall};
 
 use crate::mods::Mod;
@@ -15,14 +17,16 @@ use tx_tree::{Path, Tree};
 fn carried_by_insert(i: u32, n: u32, rest: &[u32]) -> Option<Way<'_>>
     requires extent { n ≤ 1048575 }
     requires small { AreSmall rest.now }
-    ensures { MatchOption result (carried_by_insert i n rest.now ≡ None) (λ w. carried_by_insert i n rest.now ≡ Some (numbers_of w)) }
+    ensures { MatchOption result (carried_by_insert i n rest.now ≡ None)
+        (λ w. carried_by_insert i n rest.now ≡ Some (numbers_of w)) }
 {
     let (k, others) = first_step(rest)?;
     Some(Way::Step(shifted(i, n, k), others))
 }
 
 fn carried_by_remove(i: u32, n: u32, rest: &[u32]) -> Option<Way<'_>>
-    ensures { MatchOption result (carried_by_remove i n rest.now ≡ None) (λ w. carried_by_remove i n rest.now ≡ Some (numbers_of w)) }
+    ensures { MatchOption result (carried_by_remove i n rest.now ≡ None)
+        (λ w. carried_by_remove i n rest.now ≡ Some (numbers_of w)) }
 {
     let end = u64::from(i) + u64::from(n);
     let (k, others) = first_step(rest)?;
@@ -38,7 +42,8 @@ fn carried_by_remove(i: u32, n: u32, rest: &[u32]) -> Option<Way<'_>>
 // A path below child i, which becomes two before and from j.
 fn carried_in_split(i: u32, j: u32, rest: &[u32]) -> Option<Way<'_>>
     requires child { i ≤ 65535 }
-    ensures { MatchOption result (carried_in_split i j rest.now ≡ None) (λ w. carried_in_split i j rest.now ≡ Some (numbers_of w)) }
+    ensures { MatchOption result (carried_in_split i j rest.now ≡ None)
+        (λ w. carried_in_split i j rest.now ≡ Some (numbers_of w)) }
 {
     let (k, others) = first_step(rest)?;
     if j <= k {
@@ -50,7 +55,8 @@ fn carried_in_split(i: u32, j: u32, rest: &[u32]) -> Option<Way<'_>>
 
 fn carried_by_split(i: u32, j: u32, rest: &[u32]) -> Option<Way<'_>>
     requires small { AreSmall rest.now }
-    ensures { MatchOption result (carried_by_split i j rest.now ≡ None) (λ w. carried_by_split i j rest.now ≡ Some (numbers_of w)) }
+    ensures { MatchOption result (carried_by_split i j rest.now ≡ None)
+        (λ w. carried_by_split i j rest.now ≡ Some (numbers_of w)) }
 {
     let (k, others) = first_step(rest)?;
     if i < k {
@@ -66,7 +72,8 @@ fn carried_by_split(i: u32, j: u32, rest: &[u32]) -> Option<Way<'_>>
 fn carried_in_join(i: u32, n: u32, rest: &[u32]) -> Option<Way<'_>>
     requires extent { n ≤ 1048575 }
     requires small { AreSmall rest.now }
-    ensures { MatchOption result (carried_in_join i n rest.now ≡ None) (λ w. carried_in_join i n rest.now ≡ Some (numbers_of w)) }
+    ensures { MatchOption result (carried_in_join i n rest.now ≡ None)
+        (λ w. carried_in_join i n rest.now ≡ Some (numbers_of w)) }
 {
     let (k, others) = first_step(rest)?;
     Some(Way::Steps(i, k + n, others))
@@ -75,7 +82,8 @@ fn carried_in_join(i: u32, n: u32, rest: &[u32]) -> Option<Way<'_>>
 fn carried_by_join(i: u32, n: u32, rest: &[u32]) -> Option<Way<'_>>
     requires extent { n ≤ 1048575 }
     requires small { AreSmall rest.now }
-    ensures { MatchOption result (carried_by_join i n rest.now ≡ None) (λ w. carried_by_join i n rest.now ≡ Some (numbers_of w)) }
+    ensures { MatchOption result (carried_by_join i n rest.now ≡ None)
+        (λ w. carried_by_join i n rest.now ≡ Some (numbers_of w)) }
 {
     let (k, others) = first_step(rest)?;
     let next = u64::from(i) + 1;
@@ -92,7 +100,8 @@ fn carried_by_join(i: u32, n: u32, rest: &[u32]) -> Option<Way<'_>>
 }
 
 fn carried_by_unwrap(i: u32, rest: &[u32]) -> Option<Way<'_>>
-    ensures { MatchOption result (carried_by_unwrap i rest.now ≡ None) (λ w. carried_by_unwrap i rest.now ≡ Some (numbers_of w)) }
+    ensures { MatchOption result (carried_by_unwrap i rest.now ≡ None)
+        (λ w. carried_by_unwrap i rest.now ≡ Some (numbers_of w)) }
 {
     let (k, others) = first_step(rest)?;
     if k == i {
@@ -112,7 +121,8 @@ fn some_path(rest: &[u32]) -> Option<Way<'_>>
 
 fn carried_at<'a>(m: &Mod, s: &Tree, rest: &'a [u32]) -> Option<Way<'a>>
     requires small { AreSmall rest.now }
-    ensures { MatchOption result (carried_at m.now s.now rest.now ≡ None) (λ w. carried_at m.now s.now rest.now ≡ Some (numbers_of w)) }
+    ensures { MatchOption result (carried_at m.now s.now rest.now ≡ None)
+        (λ w. carried_at m.now s.now rest.now ≡ Some (numbers_of w)) }
 {
     match m {
         Mod::Assign(..) => None,

@@ -4,7 +4,8 @@ ghost use Rattle.tx_tree.specs.WideTree.{WideTree};
 ghost use Rattle.tx_tree.specs.declared.places.Place.{Place as Position};
 ghost use Rattle.tx_mod.specs.declared.mods.Mod.{Mod as Change};
 ghost use Rattle.tx_mod.specs.Changes.{changed};
-ghost use Rattle.tx_mod.specs.Followed.{StaysPlace, CarriesSubtree, CarriesThroughAll, Composes, StopsAt, carried_by_all, changed_by_all, tree_of};
+ghost use Rattle.tx_mod.specs.Followed.{StaysPlace, CarriesSubtree, CarriesThroughAll, Composes};
+ghost use Rattle.tx_mod.specs.Followed.{StopsAt, carried_by_all, changed_by_all, tree_of};
 ghost use Rattle.tx_mod.specs.Moves.{carried_path};
 ghost use Rattle.tx_mod.specs.InTurn.{CanBeUndone, changed_in_turn};
 ghost use Rattle.tx_mod.specs.Sound.{IsSound, StaysWellFormed, GivesBack, IsMadeAgain};
@@ -31,15 +32,16 @@ pub fn well_formed_law()
     ensures { (m : Change) (t : WideTree) → StaysWellFormed m t }
 {}
 
-/// What undoes a modification, applied to the changed tree, gives the tree back, and what undoes that is the modification itself.
+/// What undoes a modification, applied to the changed tree, gives the tree back, and what undoes that is the
+/// modification itself.
 pub fn inverse_law()
     ensures back { (m : Change) (t : WideTree) → GivesBack m t }
     ensures again { (m : Change) (t : WideTree) → IsMadeAgain m t }
 {}
 
-/// What undoes a list of modifications, the inverses from the last to the first, gives the tree back, and what undoes that is
-/// the list itself. The tree in between is well formed and within the limits. A list makes a tree where no modification of it
-/// is refused.
+/// What undoes a list of modifications, the inverses from the last to the first, gives the tree back, and what undoes
+/// that is the list itself. The tree in between is well formed and within the limits. A list makes a tree where no
+/// modification of it is refused.
 pub fn list_inverse_law()
     ensures undone { (ms : List Change) (t : WideTree) → CanBeUndone ms t }
     ensures tree { (ms : List Change) (t : WideTree) → tree_of (changed_in_turn ms t) ≡ changed_by_all ms t }
@@ -58,8 +60,10 @@ pub fn carried_law()
 /// A path carried through a list of modifications is carried by one after the other, nowhere where one of them
 /// carries it nowhere, and leads to the same subtree afterwards.
 pub fn carried_list_law()
-    ensures one { (m : Change) (t u : WideTree) (q : List ℕ) → changed m t ≡ Ok u → carried_by_all (m ∷ []) t q ≡ carried_path m t q }
+    ensures one { (m : Change) (t u : WideTree) (q : List ℕ) → changed m t ≡ Ok u
+        → carried_by_all (m ∷ []) t q ≡ carried_path m t q }
     ensures composed { (ms ns : List Change) (t : WideTree) (q : List ℕ) → Composes ms ns t q }
-    ensures stops { (ms : List Change) (m : Change) (ns : List Change) (t : WideTree) (q : List ℕ) → StopsAt ms m ns t q }
+    ensures stops { (ms : List Change) (m : Change) (ns : List Change) (t : WideTree) (q : List ℕ)
+        → StopsAt ms m ns t q }
     ensures same { (ms : List Change) (t : WideTree) (q : List ℕ) → CarriesThroughAll ms t q }
 {}

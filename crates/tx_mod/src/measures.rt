@@ -2,7 +2,8 @@
 ghost use Rattle.std.specs.Prelude.{◌≡◌, ◌≤◌, ℕ, List, length, Ok, IfOk};
 ghost use Rattle.tx_tree.specs.WideTree.{forest, total_size, deepest};
 ghost use Rattle.tx_mod.specs.Mods.{extent, is_clean};
-ghost use Rattle.tx_mod.specs.Changes.{changed_at, inserted, removed, split, joined, joined_at, labelled, wrapped, unwrapped};
+ghost use Rattle.tx_mod.specs.Changes.{changed_at, inserted, removed, split, joined};
+ghost use Rattle.tx_mod.specs.Changes.{joined_at, labelled, wrapped, unwrapped};
 ghost use Rattle.tx_mod.specs.Measures.{IsMade, Measures, IsSmall};
 
 use crate::faults::ModFault;

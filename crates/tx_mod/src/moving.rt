@@ -4,7 +4,9 @@ ghost use Rattle.tx_tree.specs.Places.{IsPlace};
 ghost use Rattle.tx_tree.specs.WideTree.{WideTree};
 ghost use Rattle.tx_mod.specs.Changes.{changed, changed_at};
 ghost use Rattle.tx_mod.specs.Mods.{extent};
-ghost use Rattle.tx_mod.specs.Moves.{child_or_self, shifted, place, moved_by_insert, moved_by_remove, moved_in_split, moved_by_split, moved_in_join, moved_by_join, moved_by_unwrap, moved_at, moved_place};
+ghost use Rattle.tx_mod.specs.Moves.{child_or_self, shifted, place, moved_by_insert};
+ghost use Rattle.tx_mod.specs.Moves.{moved_by_remove, moved_in_split, moved_by_split, moved_in_join};
+ghost use Rattle.tx_mod.specs.Moves.{moved_by_join, moved_by_unwrap, moved_at, moved_place};
 ghost use Rattle.tx_mod.specs.Ways.{numbers_of, StandsAt, AreSmall};
 
 use crate::laws::sound;
@@ -219,8 +221,8 @@ fn place_after(alloc: Global, t: &Tree, m: &Mod, place: &Place) -> Result<Place,
     })
 }
 
-/// Where a place of the tree stands after the modification, which applies; it is a place of the changed tree. What is taken out
-/// is left for the place where it was taken out, or for the place before the changed subtree.
+/// Where a place of the tree stands after the modification, which applies; it is a place of the changed tree. What is
+/// taken out is left for the place where it was taken out, or for the place before the changed subtree.
 pub fn moved(alloc: Global, t: &Tree, m: &Mod, place: &Place) -> Result<Place, Memory>
     requires applicable { IsOk (changed m.now t.now) }
     requires valid { IsPlace t.now place.now.path place.now.offset }

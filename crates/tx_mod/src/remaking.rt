@@ -2,7 +2,8 @@
 ghost use Rattle.std.specs.Prelude.{◌≡◌, ◌+◌, ◌++◌, ◌≤◌, length, take, drop, true, Ok, IfOk, IsOkAnd};
 ghost use Rattle.tx_tree.specs.Limits.{IsWithinLimits};
 ghost use Rattle.tx_mod.specs.Mods.{before, behind, extent, is_clean};
-ghost use Rattle.tx_mod.specs.Changes.{changed_at, inserted, removed, split, joined, joined_at, labelled, wrapped, unwrapped};
+ghost use Rattle.tx_mod.specs.Changes.{changed_at, inserted, removed, split, joined};
+ghost use Rattle.tx_mod.specs.Changes.{joined_at, labelled, wrapped, unwrapped};
 
 use crate::making::{leaf_of, node_of, spliced};
 use crate::mods::Mod;

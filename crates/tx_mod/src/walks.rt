@@ -10,7 +10,8 @@ use tx_tree::{Path, Tree};
 
 // The subtree that the path leads to.
 pub(crate) fn find<'a>(t: &'a Tree, path: &Path) -> Result<&'a Tree, ModFault>
-    ensures { MatchResult result (λ s. subtree t.now path.now ≡ Some s.now) (λ cause. (subtree t.now path.now ≡ None) × (cause ≡ ModFault.NoPath (leading t.now path.now))) }
+    ensures { MatchResult result (λ s. subtree t.now path.now ≡ Some s.now)
+        (λ cause. (subtree t.now path.now ≡ None) × (cause ≡ ModFault.NoPath (leading t.now path.now))) }
 {
     let _depth = t.depth();
     let mut tree = t;

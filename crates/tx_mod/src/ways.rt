@@ -43,7 +43,8 @@ pub(crate) fn first_step(path: &[u32]) -> Option<(u32, &[u32])>
 
 // What stands behind the path in the other, where that begins with it.
 pub(crate) fn rest_behind<'a>(path: &[u32], other: &'a [u32]) -> Option<&'a [u32]>
-    ensures { MatchOption result (rest_behind path.now other.now ≡ None) (λ r. rest_behind path.now other.now ≡ Some r.now) }
+    ensures { MatchOption result (rest_behind path.now other.now ≡ None)
+        (λ r. rest_behind path.now other.now ≡ Some r.now) }
 {
     let mut rest = other;
     for step in path {

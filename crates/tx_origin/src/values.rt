@@ -3,7 +3,8 @@ ghost use Rattle.std.specs.Prelude.{◌≡◌, ◌+◌, ◌<◌, ◌≤◌, leng
 ghost use Rattle.tx_tree.specs.WideTree.{leaf, node, forest, size_of, depth_of, nodes_of, deepest, total_size};
 ghost use Rattle.tx_tree.specs.declared.TheConstants.{MOST_ARITY, MOST_DEPTH, MOST_SIZE};
 ghost use Rattle.tx_tree.specs.Limits.{IsWellFormed, IsWithinLimits};
-ghost use Rattle.tx_origin.specs.Values.{text, made, vals, value_parts, value_text, value_label, value_origin, plain, plains, whole, IsFrom};
+ghost use Rattle.tx_origin.specs.Values.{text, made, vals, value_parts, value_text, value_label};
+ghost use Rattle.tx_origin.specs.Values.{value_origin, plain, plains, whole, IsFrom};
 
 use crate::paths::Ip;
 use crate::tagged::{child_at, share_origin};

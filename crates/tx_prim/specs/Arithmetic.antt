@@ -1,5 +1,6 @@
 -- The rows on numbers, lengths and truths.
-use Rattle.std.specs.Prelude.{ℕ, Bool, true, false, not, nat_le, nat_lt, if◌then◌else◌, List, [], ◌∷◌, length, ℤ, pos, neg_ℤ, ◌+ℤ◌, ◌-ℤ◌, ◌*ℤ◌, int_div, count_by, Option, Some, None, option_and_then}
+use Rattle.std.specs.Prelude.{ℕ, Bool, true, false, not, nat_le, nat_lt, if◌then◌else◌, List, [], ◌∷◌, length, ℤ}
+use Rattle.std.specs.Prelude.{pos, neg_ℤ, ◌+ℤ◌, ◌-ℤ◌, ◌*ℤ◌, int_div, count_by, Option, Some, None, option_and_then}
 use Rattle.std.specs.List.{list_all, list_any}
 use Rattle.std.specs.declared.cmp.Ordering.{Ordering}
 use Rattle.std.specs.Ordering.{int_eq, int_cmp, nat_cmp, is_lt, is_le, is_gt, is_ge}
@@ -55,7 +56,8 @@ folded op x (a ∷ others) = option_and_then (λ z. folded op z others) (if_fits
 -- one or more numbers, or one or more lengths
 abbrev pub total : Operation → List Amount → Answer
 total op [] = Failed Bad
-total op (a ∷ others) = if list_all (are_alike a) others then if_held (is_length a) (folded op (size_in a) others) else Failed Bad
+total op (a ∷ others) =
+    if list_all (are_alike a) others then if_held (is_length a) (folded op (size_in a) others) else Failed Bad
 
 abbrev pub plus : List Amount → Answer
 plus amounts = total Add amounts

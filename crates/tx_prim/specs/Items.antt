@@ -10,7 +10,8 @@ abbrev mutual
   -- behind the beginning of a symbol
   pub symbol_items : List ℕ → List ℕ → List (List ℕ)
   symbol_items symbol [] = symbol ∷ []
-  symbol_items symbol (b ∷ bytes) = if b == 62 then (symbol ++ b ∷ []) ∷ items_of bytes else symbol_items (symbol ++ b ∷ []) bytes
+  symbol_items symbol (b ∷ bytes) =
+      if b == 62 then (symbol ++ b ∷ []) ∷ items_of bytes else symbol_items (symbol ++ b ∷ []) bytes
 
 abbrev pub joined_lists : {A : Type 0} → List (List A) → List A
 joined_lists lists = flat_map (λ l. l) lists

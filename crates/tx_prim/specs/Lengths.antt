@@ -1,5 +1,7 @@
--- Lengths: a minus sign or none, digits, a point and digits or none, and a unit. They are counted in thousandths of a cell.
-use Rattle.std.specs.Prelude.{ℕ, ◌*◌, ◌/◌, Bool, ◌==◌, nat_lt, if◌then◌else◌, List, [], ◌∷◌, ◌++◌, length, take, drop, ℤ, codes, take_while, Option, Some, None, option_and_then}
+-- Lengths: a minus sign or none, digits, a point and digits or none, and a unit. They are counted in thousandths of a
+-- cell.
+use Rattle.std.specs.Prelude.{ℕ, ◌*◌, ◌/◌, Bool, ◌==◌, nat_lt, if◌then◌else◌, List, [], ◌∷◌, ◌++◌, length}
+use Rattle.std.specs.Prelude.{take, drop, ℤ, codes, take_while, Option, Some, None, option_and_then}
 use Rattle.std.specs.Str.{bytes_eq}
 use Rattle.std.specs.Fmt.{signed_decimal}
 use Rattle.tx_tree.specs.PathSpelling.{is_digit, number_after}
@@ -26,7 +28,8 @@ thousandths whole decimals = number_after 0 (whole ++ take 3 (decimals ++ codes 
 
 -- so many thousandths of the unit, cut toward zero
 abbrev pub measured : Bool → List ℕ → List ℕ → List ℕ → Option ℤ
-measured minus whole decimals unit = option_and_then (λ u. if_fits (signed minus (thousandths whole decimals * u / 1000))) (unit_of unit)
+measured minus whole decimals unit =
+    option_and_then (λ u. if_fits (signed minus (thousandths whole decimals * u / 1000))) (unit_of unit)
 
 -- the digits in front, and what stands behind them
 abbrev pub digits_front : List ℕ → List ℕ
@@ -40,7 +43,8 @@ abbrev pub length_behind : Bool → List ℕ → List ℕ → Option ℤ
 length_behind minus whole [] = None
 length_behind minus whole (b ∷ bytes) =
     if b == 46
-    then (if nat_lt 0 (length (digits_front bytes)) then measured minus whole (digits_front bytes) (digits_rest bytes) else None)
+    then (if nat_lt 0 (length (digits_front bytes))
+    then measured minus whole (digits_front bytes) (digits_rest bytes) else None)
     else (if nat_lt 0 (length whole) then measured minus whole [] (b ∷ bytes) else None)
 
 -- the length that the bytes write

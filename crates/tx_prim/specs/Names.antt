@@ -2,7 +2,9 @@
 use Rattle.std.specs.Prelude.{ℕ, Bool, List, [], ◌∷◌, codes, find, Option}
 use Rattle.std.specs.Str.{bytes_eq}
 use Rattle.tx_prim.specs.declared.names.Prim.{Prim}
-use Rattle.tx_prim.specs.declared.names.Prim.TheVariants.{Plus, Minus, Times, Div, Mod, Equal, Unequal, Less, LessEq, Greater, GreaterEq, And, Or, Xor, Not, Merge, Length, Range, IsTuple, LookUp, GetLabel, GetArity}
+use Rattle.tx_prim.specs.declared.names.Prim.TheVariants.{Plus, Minus, Times, Div, Mod, Equal, Unequal, Less}
+use Rattle.tx_prim.specs.declared.names.Prim.TheVariants.{LessEq, Greater, GreaterEq, And, Or, Xor, Not, Merge}
+use Rattle.tx_prim.specs.declared.names.Prim.TheVariants.{Length, Range, IsTuple, LookUp, GetLabel, GetArity}
 use Rattle.tx_prim.specs.declared.amounts.ValueFault.{ValueFault}
 use Rattle.tx_prim.specs.declared.amounts.ValueFault.TheVariants.{Bad, Overflow, Zero, NoPart, Limit}
 
@@ -32,7 +34,8 @@ name_of GetArity = codes "get-arity"
 
 abbrev pub primitives : List Prim
 primitives =
-    Plus ∷ Minus ∷ Times ∷ Div ∷ Mod ∷ Equal ∷ Unequal ∷ Less ∷ LessEq ∷ Greater ∷ GreaterEq ∷ And ∷ Or ∷ Xor ∷ Not ∷ Merge ∷ Length ∷ Range ∷ IsTuple
+    Plus ∷ Minus ∷ Times ∷ Div ∷ Mod ∷ Equal ∷ Unequal ∷ Less ∷ LessEq ∷ Greater ∷ GreaterEq ∷ And ∷ Or ∷ Xor ∷ Not
+    ∷ Merge ∷ Length ∷ Range ∷ IsTuple
     ∷ LookUp ∷ GetLabel ∷ GetArity ∷ []
 
 -- the primitive of this name

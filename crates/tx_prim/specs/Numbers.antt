@@ -1,5 +1,6 @@
 -- Numbers: a minus sign or none, and one digit or more, within 64 bits.
-use Rattle.std.specs.Prelude.{ℕ, ◌^◌, Bool, true, false, ◌==◌, ◌&&◌, nat_lt, if◌then◌else◌, List, [], ◌∷◌, length, ℤ, pos, negsuc, neg_ℤ, Option, Some, None}
+use Rattle.std.specs.Prelude.{ℕ, ◌^◌, Bool, true, false, ◌==◌, ◌&&◌, nat_lt, if◌then◌else◌}
+use Rattle.std.specs.Prelude.{List, [], ◌∷◌, length, ℤ, pos, negsuc, neg_ℤ, Option, Some, None}
 use Rattle.std.specs.List.{list_all}
 use Rattle.tx_tree.specs.PathSpelling.{is_digit, number_after}
 
@@ -30,4 +31,7 @@ are_digits bytes = nat_lt 0 (length bytes) && list_all is_digit bytes
 
 -- the number that the bytes write
 abbrev pub number_of : List ℕ → Option ℤ
-number_of bytes = if are_digits (behind_minus bytes) then if_fits (signed (has_minus bytes) (number_after 0 (behind_minus bytes))) else None
+number_of bytes =
+    if are_digits (behind_minus bytes)
+    then if_fits (signed (has_minus bytes) (number_after 0 (behind_minus bytes)))
+    else None

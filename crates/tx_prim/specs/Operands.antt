@@ -1,5 +1,6 @@
 -- What operands are read as.
-use Rattle.std.specs.Prelude.{◌≡◌, ◌≤◌, ℕ, ◌-◌, Bool, true, false, ◌&&◌, nat_le, if◌then◌else◌, List, [], ◌∷◌, length, take, drop, ℤ, pos, negsuc, codes, Option, Some, None, option_and_then}
+use Rattle.std.specs.Prelude.{◌≡◌, ◌≤◌, ℕ, ◌-◌, Bool, true, false, ◌&&◌, nat_le, if◌then◌else◌, List, [], ◌∷◌}
+use Rattle.std.specs.Prelude.{length, take, drop, ℤ, pos, negsuc, codes, Option, Some, None, option_and_then}
 use Rattle.std.specs.Option.{option_map}
 use Rattle.std.specs.Str.{bytes_eq}
 use Rattle.tx_tree.specs.declared.TheConstants.{MOST_TEXT, MOST_ARITY}
@@ -32,7 +33,8 @@ amount_in t = option_and_then amount_of (text_of t)
 
 -- one of the texts true and false
 abbrev pub truth_of : List ℕ → Option Bool
-truth_of text = if bytes_eq text (codes "true") then Some true else (if bytes_eq text (codes "false") then Some false else None)
+truth_of text =
+    if bytes_eq text (codes "true") then Some true else (if bytes_eq text (codes "false") then Some false else None)
 
 abbrev pub truth_in : WideTree → Option Bool
 truth_in t = option_and_then truth_of (text_of t)

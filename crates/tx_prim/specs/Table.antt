@@ -1,5 +1,6 @@
 -- The table: what each primitive makes of its operands.
-use Rattle.std.specs.Prelude.{ℕ, Bool, true, false, not, nat_le, if◌then◌else◌, List, [], ◌∷◌, length, ℤ, pos, codes, is_some, Option, Some, None, slice_get, option_and_then}
+use Rattle.std.specs.Prelude.{ℕ, Bool, true, false, not, nat_le, if◌then◌else◌, List, [], ◌∷◌, length}
+use Rattle.std.specs.Prelude.{ℤ, pos, codes, is_some, Option, Some, None, slice_get, option_and_then}
 use Rattle.std.specs.Fmt.{signed_decimal}
 use Rattle.std.specs.Option.{option_map_or}
 use Rattle.tx_tree.specs.declared.TheConstants.{MOST_ARITY}
@@ -11,7 +12,9 @@ use Rattle.tx_prim.specs.declared.amounts.ValueFault.TheVariants.{Bad, NoPart, L
 use Rattle.tx_prim.specs.declared.amounts.Answer.{Answer}
 use Rattle.tx_prim.specs.declared.amounts.Answer.TheVariants.{Value, Truth, Failed}
 use Rattle.tx_prim.specs.declared.names.Prim.{Prim}
-use Rattle.tx_prim.specs.declared.names.Prim.TheVariants.{Plus, Minus, Times, Div, Mod, Equal, Unequal, Less, LessEq, Greater, GreaterEq, And, Or, Xor, Not, Merge, Length, Range, IsTuple, LookUp, GetLabel, GetArity}
+use Rattle.tx_prim.specs.declared.names.Prim.TheVariants.{Plus, Minus, Times, Div, Mod, Equal, Unequal, Less}
+use Rattle.tx_prim.specs.declared.names.Prim.TheVariants.{LessEq, Greater, GreaterEq, And, Or, Xor, Not, Merge}
+use Rattle.tx_prim.specs.declared.names.Prim.TheVariants.{Length, Range, IsTuple, LookUp, GetLabel, GetArity}
 use Rattle.tx_prim.specs.declared.comparing.Comparison.TheVariants.{Before, NotBehind, Behind, NotBefore}
 use Rattle.tx_prim.specs.declared.table.Calculation.{Calculation}
 use Rattle.tx_prim.specs.declared.table.Calculation.TheVariants.{Sum, Difference, Product, Quotient, Remainder}
@@ -20,7 +23,8 @@ use Rattle.tx_prim.specs.declared.table.Connective.TheVariants.{AllTrue, SomeTru
 use Rattle.tx_prim.specs.Lengths.{length_text}
 use Rattle.tx_prim.specs.Items.{items_of, joined_lists}
 use Rattle.tx_prim.specs.Operands.{every, number_in, amount_in, truth_in, tuple_in, part}
-use Rattle.tx_prim.specs.Arithmetic.{plus, minus, times, quotient, remainder, of_two, compared, sameness, all_true, some_true, one_true, none_true}
+use Rattle.tx_prim.specs.Arithmetic.{plus, minus, times, quotient, remainder, of_two, compared}
+use Rattle.tx_prim.specs.Arithmetic.{sameness, all_true, some_true, one_true, none_true}
 use Rattle.tx_prim.specs.Names.{name_of, fault_text}
 
 -- ---- answers as trees
@@ -65,7 +69,8 @@ count n = Value (Count (pos n))
 
 abbrev pub joined_texts : Option (List (List ℕ)) → Option (List (List WideTree)) → WideTree
 joined_texts (Some texts) tuples = leaf (joined_lists texts)
-joined_texts None (Some tuples) = if nat_le (length (joined_lists tuples)) MOST_ARITY then tuple_node (joined_lists tuples) else failure Limit Merge
+joined_texts None (Some tuples) =
+    if nat_le (length (joined_lists tuples)) MOST_ARITY then tuple_node (joined_lists tuples) else failure Limit Merge
 joined_texts None None = failure Bad Merge
 
 abbrev pub merged : List WideTree → WideTree
@@ -81,10 +86,13 @@ tuple_part (Some ts) = tuple_node ts
 
 abbrev pub part_of : WideTree → ℤ → ℤ → WideTree
 part_of (leaf text) i j = text_part (part i j (items_of text))
-part_of (node label ts) i j = option_map_or (λ us. tuple_part (part i j us)) (tuple_in (node label ts)) (failure Bad Range)
+part_of (node label ts) i j =
+    option_map_or (λ us. tuple_part (part i j us)) (tuple_in (node label ts)) (failure Bad Range)
 
 abbrev pub ranged : List WideTree → WideTree
-ranged (t ∷ i ∷ j ∷ []) = option_map_or (λ m. option_map_or (λ n. part_of t m n) (number_in j) (failure Bad Range)) (number_in i) (failure Bad Range)
+ranged (t ∷ i ∷ j ∷ []) =
+    option_map_or (λ m. option_map_or (λ n. part_of t m n) (number_in j) (failure Bad Range))
+    (number_in i) (failure Bad Range)
 ranged operands = failure Bad Range
 
 -- the child of this number
@@ -93,7 +101,9 @@ child_at ts (pos n) = slice_get ts n
 child_at ts z = None
 
 abbrev pub looked_up : List WideTree → WideTree
-looked_up (node label ts ∷ i ∷ []) = option_map_or (λ n. option_map_or (λ t. t) (child_at (trees ts) n) (failure NoPart LookUp)) (number_in i) (failure Bad LookUp)
+looked_up (node label ts ∷ i ∷ []) =
+    option_map_or (λ n. option_map_or (λ t. t) (child_at (trees ts) n) (failure NoPart LookUp))
+    (number_in i) (failure Bad LookUp)
 looked_up operands = failure Bad LookUp
 
 abbrev pub label_told : List WideTree → WideTree

@@ -3,7 +3,8 @@ ghost use Rattle.std.specs.Prelude.{◌≡◌, false, pos, count_by};
 ghost use Rattle.std.specs.List.{list_all, list_any};
 ghost use Rattle.std.specs.Ordering.{int_eq};
 ghost use Rattle.tx_prim.specs.Numbers.{if_fits};
-ghost use Rattle.tx_prim.specs.Arithmetic.{if_held, is_length, are_alike, rest_of, operation, folded, total, minus, times, divided, quotient, left_over, remainder, of_two};
+ghost use Rattle.tx_prim.specs.Arithmetic.{if_held, is_length, are_alike, rest_of, operation, folded, total};
+ghost use Rattle.tx_prim.specs.Arithmetic.{minus, times, divided, quotient, left_over, remainder, of_two};
 
 use crate::amounts::{Amount, Answer, Operation, ValueFault};
 

@@ -2,7 +2,8 @@
 ghost use Rattle.std.specs.Prelude.{◌≡◌};
 ghost use Rattle.std.specs.List.{list_all, list_any};
 ghost use Rattle.tx_prim.specs.Operands.{amount_of};
-ghost use Rattle.tx_prim.specs.Arithmetic.{accepts, order_of, compared, sameness, all_true, some_true, one_true, none_true};
+ghost use Rattle.tx_prim.specs.Arithmetic.{accepts, order_of, compared, sameness};
+ghost use Rattle.tx_prim.specs.Arithmetic.{all_true, some_true, one_true, none_true};
 
 use crate::amounts::{Amount, Answer};
 use crate::arithmetic::BAD;

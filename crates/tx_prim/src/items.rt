@@ -57,5 +57,6 @@ pub(crate) fn items_between(bytes: &[u8], i: usize, j: usize) -> &[u8]
 
 /// The items of a text, counted by where symbols begin and end, are those that it is made of.
 pub fn item_laws()
-    ensures { (items : List Item) → AllByRecursion IsItem items → items_of (flat_map item_bytes items) ≡ map item_bytes items }
+    ensures { (items : List Item) → AllByRecursion IsItem items
+        → items_of (flat_map item_bytes items) ≡ map item_bytes items }
 {}

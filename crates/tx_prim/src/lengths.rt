@@ -3,7 +3,8 @@ ghost use Rattle.std.specs.Prelude.{◌≡◌, ◌<◌, ◌≤◌, ◌-◌, ◌+
 ghost use Rattle.std.specs.List.{list_all, prefix_len};
 ghost use Rattle.std.specs.Str.{bytes_eq};
 ghost use Rattle.tx_tree.specs.PathSpelling.{is_digit, number_after};
-ghost use Rattle.tx_prim.specs.Lengths.{unit_of, measured, digits_front, digits_rest, length_behind, length_of, length_text};
+ghost use Rattle.tx_prim.specs.Lengths.{unit_of, measured, digits_front, digits_rest};
+ghost use Rattle.tx_prim.specs.Lengths.{length_behind, length_of, length_text};
 
 use crate::MOST_WHOLE;
 use crate::making::text_of;
@@ -141,8 +142,8 @@ pub(crate) fn length_of(bytes: &[u8]) -> Option<i64>
     length_behind(minus, whole, rest)
 }
 
-/// The length that the text writes, in thousandths of a cell, cut toward zero: a minus sign or none, at most 18 digits, a
-/// point and digits or none, and a unit, with a digit somewhere and one behind a point. Digits past the third behind
+/// The length that the text writes, in thousandths of a cell, cut toward zero: a minus sign or none, at most 18 digits,
+/// a point and digits or none, and a unit, with a digit somewhere and one behind a point. Digits past the third behind
 /// the point don't count. None where the text writes no length, or one that 64 bits don't hold.
 pub fn parse_length(t: &Text) -> Option<i64>
     ensures { result ≡ length_of t.now }

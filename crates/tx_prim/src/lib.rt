@@ -1,7 +1,7 @@
 //! The primitives of the style language on values: arithmetic, comparisons, texts and tuples.
 //!
-//! What a primitive makes of its operands is one table over wide trees, a row a name (`specs/Table.antt`). Numbers there
-//! are integers without bounds, and 64 bits are a bound that the table names (`specs/Numbers.antt`).
+//! What a primitive makes of its operands is one table over wide trees, a row a name (`specs/Table.antt`). Numbers
+//! there are integers without bounds, and 64 bits are a bound that the table names (`specs/Numbers.antt`).
 #![tactic(auto)]
 
 mod amounts;

@@ -7,7 +7,8 @@ ghost use Rattle.tx_tree.specs.Limits.{IsWithinLimits};
 ghost use Rattle.tx_tree.specs.Texts.{IsText};
 ghost use Rattle.tx_prim.specs.Items.{joined_lists, items_of};
 ghost use Rattle.tx_prim.specs.Operands.{every, tuple_in, part, IsRising, AreShallow};
-ghost use Rattle.tx_prim.specs.Table.{merged, joined_texts, ranged, part_of, looked_up, label_told, text_part, tuple_part, tuple_node, child_at};
+ghost use Rattle.tx_prim.specs.Table.{merged, joined_texts, ranged, part_of, looked_up};
+ghost use Rattle.tx_prim.specs.Table.{label_told, text_part, tuple_part, tuple_node, child_at};
 
 use crate::MOST_OPERANDS;
 use crate::amounts::ValueFault;
@@ -23,7 +24,8 @@ use tx_tree::{Kind, MOST_ARITY, Memory, Text, Tree, share_onto, shares};
 // The bytes of all texts, or None where an operand is none.
 #[tactic(auto, using(crate::proofs::Collecting::collecting, std::proofs::lemmas::Grind::common_steps))]
 fn joined_texts(alloc: Global, operands: &[Tree]) -> Result<Option<Vec<u8>>, Memory>
-    ensures is { IfOk result (λ found. MatchOption found (every text_of operands.now ≡ None) (λ v. option_map joined_lists (every text_of operands.now) ≡ Some v.items)) }
+    ensures is { IfOk result (λ found. MatchOption found (every text_of operands.now ≡ None)
+        (λ v. option_map joined_lists (every text_of operands.now) ≡ Some v.items)) }
     ensures text { IfOk result (λ found. IfSome found (λ v. IsText v.items)) }
 {
     let mut all = Vec::new(alloc);
@@ -39,7 +41,8 @@ fn joined_texts(alloc: Global, operands: &[Tree]) -> Result<Option<Vec<u8>>, Mem
 // The children of all tuples, or None where an operand is none.
 #[tactic(auto, using(crate::proofs::Collecting::collecting, std::proofs::lemmas::Grind::common_steps))]
 fn joined_tuples(alloc: Global, operands: &[Tree]) -> Result<Option<Vec<Tree>>, Memory>
-    ensures is { IfOk result (λ found. MatchOption found (every tuple_in operands.now ≡ None) (λ v. option_map joined_lists (every tuple_in operands.now) ≡ Some v.items)) }
+    ensures is { IfOk result (λ found. MatchOption found (every tuple_in operands.now ≡ None)
+        (λ v. option_map joined_lists (every tuple_in operands.now) ≡ Some v.items)) }
     ensures shallow { IfOk result (λ found. IfSome found (λ v. AreShallow v.items)) }
 {
     let mut all = Vec::new(alloc);

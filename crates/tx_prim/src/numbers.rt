@@ -79,8 +79,8 @@ pub(crate) fn number_of(bytes: &[u8]) -> Option<i64>
     signed(minus, digits_value(digits)?)
 }
 
-/// The number that the text writes: a minus sign or none, and one digit or more. None where it writes none, or one that 64
-/// bits don't hold.
+/// The number that the text writes: a minus sign or none, and one digit or more. None where it writes none, or one that
+/// 64 bits don't hold.
 pub fn parse_number(t: &Text) -> Option<i64>
     ensures { result ≡ number_of t.now }
 {

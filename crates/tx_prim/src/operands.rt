@@ -44,7 +44,8 @@ fn amount_in(t: &Tree) -> Option<Amount>
 // What the operands write, where each is a number or a length.
 #[tactic(auto, using(crate::proofs::Collecting::collecting, std::proofs::lemmas::Grind::common_steps))]
 pub(crate) fn amounts(alloc: Global, operands: &[Tree]) -> Result<Option<Vec<Amount>>, Memory>
-    ensures { IfOk result (λ found. MatchOption found (every amount_in operands.now ≡ None) (λ all. every amount_in operands.now ≡ Some all.items)) }
+    ensures { IfOk result (λ found. MatchOption found (every amount_in operands.now ≡ None)
+        (λ all. every amount_in operands.now ≡ Some all.items)) }
 {
     let mut all = Vec::new(alloc);
     for operand in operands {
@@ -81,7 +82,8 @@ fn truth_in(t: &Tree) -> Option<bool>
 // What the operands say, where each is one of the texts true and false.
 #[tactic(auto, using(crate::proofs::Collecting::collecting, std::proofs::lemmas::Grind::common_steps))]
 pub(crate) fn truths(alloc: Global, operands: &[Tree]) -> Result<Option<Vec<bool>>, Memory>
-    ensures { IfOk result (λ found. MatchOption found (every truth_in operands.now ≡ None) (λ all. every truth_in operands.now ≡ Some all.items)) }
+    ensures { IfOk result (λ found.
+        MatchOption found (every truth_in operands.now ≡ None) (λ all. every truth_in operands.now ≡ Some all.items)) }
 {
     let mut all = Vec::new(alloc);
     for operand in operands {

@@ -1,5 +1,6 @@
 // The set of bytes that end a run, and its test of 32 bytes at once.
-ghost use Rattle.std.specs.Prelude.{◌≡◌, ◌↔◌, ℕ, ◌+◌, ◌-◌, ◌<◌, ◌≤◌, List, ◌++◌, length, take, replicate, IsTrue, IsSome, IfSome};
+ghost use Rattle.std.specs.Prelude.{◌≡◌, ◌↔◌, ℕ, ◌+◌, ◌-◌, ◌<◌, ◌≤◌, List, ◌++◌};
+ghost use Rattle.std.specs.Prelude.{length, take, replicate, IsTrue, IsSome, IfSome};
 ghost use Rattle.std.specs.List.{position_or_len};
 ghost use Rattle.std.specs.Simd.Lanes.{chunk};
 ghost use Rattle.tx_scan.specs.Stops.{is_stop};

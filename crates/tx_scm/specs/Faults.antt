@@ -1,6 +1,7 @@
 -- Why bytes spell no tree within the limits in the Scheme syntax: what stands open at the end of the first bytes, and
 -- the table by which the next byte is a fault.
-use Rattle.std.specs.Prelude.{◌≡◌, ℕ, zero, suc, ◌≤◌, Bool, true, false, ◌==◌, ◌||◌, List, [], ◌∷◌, ◌++◌, length, take, get_or}
+use Rattle.std.specs.Prelude.{◌≡◌, ℕ, zero, suc, ◌≤◌, Bool, true, false, ◌==◌}
+use Rattle.std.specs.Prelude.{◌||◌, List, [], ◌∷◌, ◌++◌, length, take, get_or}
 use Rattle.std.specs.List.{flat_map}
 use Rattle.tx_tree.specs.declared.faults.ReadFault.{ReadFault}
 use Rattle.tx_tree.specs.declared.faults.ReadFault.TheVariants.{Stray, BadEscape, BadLabel, BadText, After}
@@ -14,16 +15,19 @@ use Rattle.tx_scm.specs.Spelling.{is_white, AreWhite, escaped, SpellsTrees, Spel
 abbrev pub AreOpen : ℕ → List ℕ → Type 0
 AreOpen zero x = AreWhite x
 AreOpen (suc n) x =
-    (outer before label children behind : List ℕ) × (ts : Forest) × AreOpen n outer × AreWhite before × IsLabel label × SpellsTrees children ts × AreWhite behind
+    (outer before label children behind : List ℕ) × (ts : Forest) × AreOpen n outer × AreWhite before × IsLabel label
+    × SpellsTrees children ts × AreWhite behind
     × (x ≡ outer ++ 40 ∷ (before ++ (label ++ (children ++ behind))))
 
 -- behind the brackets a `(`, white, and these first bytes of its label
 abbrev pub IsLabelOpen : List ℕ → List ℕ → Type 0
-IsLabelOpen label x = (n : ℕ) × (outer before : List ℕ) × AreOpen n outer × AreWhite before × BeginsLabel label × (x ≡ outer ++ 40 ∷ (before ++ label))
+IsLabelOpen label x = (n : ℕ) × (outer before : List ℕ) × AreOpen n outer × AreWhite before × BeginsLabel label
+    × (x ≡ outer ++ 40 ∷ (before ++ label))
 
 -- behind the brackets a quote and the first bytes of a text
 abbrev pub IsStringOpen : List ℕ → Type 0
-IsStringOpen x = (n : ℕ) × (outer text more : List ℕ) × AreOpen n outer × IsText (text ++ more) × (x ≡ outer ++ 34 ∷ flat_map escaped text)
+IsStringOpen x = (n : ℕ) × (outer text more : List ℕ) × AreOpen n outer × IsText (text ++ more)
+    × (x ≡ outer ++ 34 ∷ flat_map escaped text)
 
 -- an open string, and a backslash that begins an escape
 abbrev pub IsEscapeOpen : List ℕ → Type 0
@@ -38,8 +42,8 @@ ends_label b = is_white b || b == 34 || b == 40 || b == 41
 abbrev pub IsInLabelPlace : List ℕ → ℕ → Type 0
 IsInLabelPlace x b = (label : List ℕ) × IsLabelOpen label x × (1 ≤ length label → ends_label b ≡ false)
 
--- The byte b at place n, behind the longest front x, is this fault. In a string it continues no text, since nothing longer is
--- a front.
+-- The byte b at place n, behind the longest front x, is this fault. In a string it continues no text, since nothing
+-- longer is a front.
 abbrev pub IsStop : List ℕ → ℕ → ℕ → ReadFault → Type 0
 IsStop x b n fault =
     Row (IsInLabelPlace x b) (fault ≡ BadLabel n)

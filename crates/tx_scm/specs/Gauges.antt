@@ -8,4 +8,12 @@ abbrev pub counts_of : List ℕ → List ℕ
 counts_of counts = reverse counts
 
 abbrev pub gauge_of : program.Gauge → Gauge
-gauge_of g = record { part = g.part; counts = counts_of g.counts.items; text = g.text; arity = g.arity; depth = g.depth; size = g.size }
+gauge_of g =
+    record {
+      part = g.part;
+      counts = counts_of g.counts.items;
+      text = g.text;
+      arity = g.arity;
+      depth = g.depth;
+      size = g.size;
+    }

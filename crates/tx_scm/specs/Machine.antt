@@ -1,5 +1,6 @@
 -- Reading byte by byte.
-use Rattle.std.specs.Prelude.{ℕ, Bool, true, false, nat_lt, nat_le, ◌&&◌, List, [], ◌∷◌, ◌++◌, length, Option, Some, None}
+use Rattle.std.specs.Prelude.{ℕ, Bool, true, false, nat_lt, nat_le, ◌&&◌}
+use Rattle.std.specs.Prelude.{List, [], ◌∷◌, ◌++◌, length, Option, Some, None}
 use Rattle.tx_tree.specs.declared.TheConstants.{MOST_TEXT, MOST_ARITY, MOST_DEPTH, MOST_SIZE, MOST_LABEL}
 use Rattle.tx_tree.specs.TextScan.{is_text, begins_text}
 use Rattle.tx_tree.specs.WideTree.{WideTree, leaf, node, forest, text_length_of, arity_of, depth_of, size_of}
@@ -46,10 +47,12 @@ abbrev pub has_room : Limits → List Open → Bool
 has_room limits opens = nat_lt (length opens) limits.depth && has_place limits opens
 
 unfoldable pub keeps : Limits → WideTree → Bool
-keeps limits t = nat_le (text_length_of t) limits.text && (nat_le (arity_of t) limits.arity && (nat_le (depth_of t) limits.depth && nat_le (size_of t) limits.size))
+keeps limits t = nat_le (text_length_of t) limits.text
+    && (nat_le (arity_of t) limits.arity && (nat_le (depth_of t) limits.depth && nat_le (size_of t) limits.size))
 
 abbrev pub within : Limits → Bounds
-within limits = record { room = has_room limits; longer = λ text. nat_lt (length text) limits.text; keeps = keeps limits }
+within limits =
+    record { room = has_room limits; longer = λ text. nat_lt (length text) limits.text; keeps = keeps limits }
 
 abbrev pub only_if : Bool → State → State
 only_if true s = s
@@ -88,7 +91,8 @@ step_naming bounds label opens kind b = step_between bounds (named label opens) 
 
 -- a byte more in a string
 abbrev pub lengthened : Bounds → List ℕ → List Open → ℕ → State
-lengthened bounds text opens b = only_if (bounds.longer text && begins_text (text ++ b ∷ [])) (texting (text ++ b ∷ []) opens)
+lengthened bounds text opens b =
+    only_if (bounds.longer text && begins_text (text ++ b ∷ [])) (texting (text ++ b ∷ []) opens)
 
 unfoldable pub step_texting : Bounds → List ℕ → List Open → Kind → ℕ → State
 step_texting bounds text opens Quote b = only_if (is_text text) (put (leaf text) opens)

@@ -8,8 +8,8 @@ use Rattle.tx_scm.specs.declared.measures.Part.{Part}
 use Rattle.tx_scm.specs.declared.measures.Part.TheVariants.{Outside, Inside, Escaped}
 use Rattle.tx_scm.specs.Kinds.{kind_of}
 
--- What was measured: the greatest text length, arity and depth, the size, and the children so far of each open bracket, of the
--- innermost first.
+-- What was measured: the greatest text length, arity and depth, the size, and the children so far of each open bracket,
+-- of the innermost first.
 pub record Gauge : Type 0 where
   pub part : Part
   pub counts : List ℕ
@@ -25,12 +25,28 @@ counted (n ∷ counts) = (n + 1) ∷ counts
 
 -- a tree begins
 abbrev pub begun : Gauge → Part → List ℕ → Gauge
-begun g part counts = record { part = part; counts = counts; text = g.text; arity = g.arity; depth = max g.depth (length g.counts + 1); size = g.size + 1 }
+begun g part counts =
+    record {
+      part = part;
+      counts = counts;
+      text = g.text;
+      arity = g.arity;
+      depth = max g.depth (length g.counts + 1);
+      size = g.size + 1;
+    }
 
 -- the innermost bracket closes
 abbrev pub closed : Gauge → List ℕ → Gauge
 closed g [] = g
-closed g (n ∷ counts) = record { part = g.part; counts = counted counts; text = g.text; arity = max g.arity n; depth = g.depth; size = g.size }
+closed g (n ∷ counts) =
+    record {
+      part = g.part;
+      counts = counted counts;
+      text = g.text;
+      arity = max g.arity n;
+      depth = g.depth;
+      size = g.size;
+    }
 
 unfoldable pub outside_step : Gauge → Kind → Gauge
 outside_step g Opens = begun g g.part (0 ∷ g.counts)
@@ -40,11 +56,28 @@ outside_step g _ = g
 
 -- a byte more of a text of so many
 abbrev pub longer : Gauge → ℕ → Gauge
-longer g n = record { part = Inside (n + 1); counts = g.counts; text = g.text; arity = g.arity; depth = g.depth; size = g.size + 1 }
+longer g n =
+    record {
+      part = Inside (n + 1);
+      counts = g.counts;
+      text = g.text;
+      arity = g.arity;
+      depth = g.depth;
+      size = g.size + 1;
+    }
 
 unfoldable pub inside_step : Gauge → ℕ → Kind → Gauge
-inside_step g n Quote = record { part = Outside; counts = counted g.counts; text = max g.text n; arity = g.arity; depth = g.depth; size = g.size }
-inside_step g n Backslash = record { part = Escaped n; counts = g.counts; text = g.text; arity = g.arity; depth = g.depth; size = g.size }
+inside_step g n Quote =
+    record {
+      part = Outside;
+      counts = counted g.counts;
+      text = max g.text n;
+      arity = g.arity;
+      depth = g.depth;
+      size = g.size;
+    }
+inside_step g n Backslash =
+    record { part = Escaped n; counts = g.counts; text = g.text; arity = g.arity; depth = g.depth; size = g.size }
 inside_step g n _ = longer g n
 
 abbrev pub step_in : Part → Gauge → Kind → Gauge

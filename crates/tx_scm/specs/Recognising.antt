@@ -22,7 +22,10 @@ abbrev mutual
   pub behind_tree : WideTree → List ℕ → Option (List ℕ)
   behind_tree (leaf text) bytes = behind_bytes (string_of text) bytes
   behind_tree (node label ts) bytes =
-      and_then (behind_bytes (40 ∷ []) bytes) (λ x. and_then (behind_bytes label (behind_white x)) (λ y. and_then (behind_trees ts y) (λ z. behind_bytes (41 ∷ []) (behind_white z))))
+      and_then (behind_bytes (40 ∷ []) bytes) (λ x.
+      and_then (behind_bytes label (behind_white x)) (λ y.
+      and_then (behind_trees ts y) (λ z.
+      behind_bytes (41 ∷ []) (behind_white z))))
 
   pub behind_trees : Forest → List ℕ → Option (List ℕ)
   behind_trees nil bytes = Some bytes

@@ -20,8 +20,8 @@ escaped b = if b == 34 || b == 92 then 92 ∷ b ∷ [] else b ∷ []
 abbrev pub string_of : List ℕ → List ℕ
 string_of text = 34 ∷ (flat_map escaped text ++ 34 ∷ [])
 
--- The bytes are the tree, with no white round it. White may stand behind an opening bracket, before each child, and before the
--- closing bracket.
+-- The bytes are the tree, with no white round it. White may stand behind an opening bracket, before each child, and
+-- before the closing bracket.
 abbrev mutual
   pub SpellsTree : List ℕ → WideTree → Type 0
   SpellsTree bytes (leaf text) = IsText text × (bytes ≡ string_of text)
@@ -32,11 +32,13 @@ abbrev mutual
   -- trees one after the other
   pub SpellsTrees : List ℕ → Forest → Type 0
   SpellsTrees bytes nil = bytes ≡ []
-  SpellsTrees bytes (cons t ts) = (white first others : List ℕ) × AreWhite white × SpellsTree first t × SpellsTrees others ts × (bytes ≡ white ++ (first ++ others))
+  SpellsTrees bytes (cons t ts) = (white first others : List ℕ) × AreWhite white × SpellsTree first t
+      × SpellsTrees others ts × (bytes ≡ white ++ (first ++ others))
 
 -- the bytes are the tree, with white on both sides
 abbrev pub Spells : List ℕ → WideTree → Type 0
-Spells bytes t = (before tree behind : List ℕ) × AreWhite before × SpellsTree tree t × AreWhite behind × (bytes ≡ before ++ (tree ++ behind))
+Spells bytes t = (before tree behind : List ℕ) × AreWhite before × SpellsTree tree t × AreWhite behind
+    × (bytes ≡ before ++ (tree ++ behind))
 
 -- the bytes spell this tree and no other wide tree
 pub record SpellsAlone (bytes : List ℕ) (t : WideTree) : Type 0 where

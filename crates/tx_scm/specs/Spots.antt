@@ -64,7 +64,8 @@ abbrev pub text_ends : TextPlace → ℕ → Option Spot
 text_ends BetweenItems depth = Some (after_tree depth)
 text_ends (InSymbol length) depth = None
 
--- A backslash escapes a quote or a backslash. A text goes on with both, or with neither, so a quote stands for both here.
+-- A backslash escapes a quote or a backslash. A text goes on with both, or with neither, so a quote stands for both
+-- here.
 unfoldable pub texting_step : TextPlace → ℕ → Kind → ℕ → Option Spot
 texting_step place depth Quote b = text_ends place depth
 texting_step place depth Backslash b = only_if (is_some (text_step place 34)) (Escaping place depth)

@@ -15,18 +15,21 @@ pub fn spelling_laws()
     ensures well_formed { (bytes : List ℕ) (t : WideTree) → Spells bytes t → IsWellFormed t }
 {}
 
-/// First bytes can be continued to bytes that spell a tree exactly where the scan, which takes bytes one by one, goes on behind
-/// them: what stands open has a closing text, and behind a byte that can't be taken no bytes help.
+/// First bytes can be continued to bytes that spell a tree exactly where the scan, which takes bytes one by one, goes
+/// on behind them: what stands open has a closing text, and behind a byte that can't be taken no bytes help.
 pub fn scan_goes_on_along_fronts()
-    ensures closed { (bytes : List ℕ) → scan_goes_on bytes ≡ true → (more : List ℕ) × SpellsSome Spells (bytes ++ more) }
+    ensures closed { (bytes : List ℕ) → scan_goes_on bytes ≡ true
+        → (more : List ℕ) × SpellsSome Spells (bytes ++ more) }
     ensures stopped { (bytes more : List ℕ) → SpellsSome Spells (bytes ++ more) → scan_goes_on bytes ≡ true }
 {}
 
 /// Bytes have at most one fault, none where they spell a tree within the limits, and one where they don't.
 pub fn fault_laws()
     ensures once { (bytes : List ℕ) (f g : ReadFault) → IsSchemeFault bytes f → IsSchemeFault bytes g → f ≡ g }
-    ensures none { (bytes : List ℕ) (f : ReadFault) (t : WideTree) → IsSchemeFault bytes f → Spells bytes t → IsWithinLimits t → ⊥ }
-    ensures some { (bytes : List ℕ) → ((t : WideTree) × Spells bytes t × IsWithinLimits t) ⊎ ((f : ReadFault) × IsSchemeFault bytes f) }
+    ensures none { (bytes : List ℕ) (f : ReadFault) (t : WideTree) → IsSchemeFault bytes f → Spells bytes t
+        → IsWithinLimits t → ⊥ }
+    ensures some { (bytes : List ℕ)
+        → ((t : WideTree) × Spells bytes t × IsWithinLimits t) ⊎ ((f : ReadFault) × IsSchemeFault bytes f) }
 {}
 
 /// The canonical text of a tree spells that tree and no other, and still does with a newline behind it.

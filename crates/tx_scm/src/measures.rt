@@ -159,7 +159,8 @@ fn first_passed(gauge: &Gauge) -> (Which, u64)
 
 // The first limit that the tree passes that the bytes spell, and its number there.
 pub(crate) fn limit(alloc: Global, bytes: &[u8]) -> Result<(Which, u64), Memory>
-    ensures { IfOk result (λ passed. (t : WideTree) → Spells bytes.now t → (IsWithinLimits t → ⊥) → IsPassed t passed.0 passed.1) }
+    ensures { IfOk result (λ passed.
+        (t : WideTree) → Spells bytes.now t → (IsWithinLimits t → ⊥) → IsPassed t passed.0 passed.1) }
 {
     let gauge = measure(alloc, bytes)?;
     Ok(first_passed(&gauge))

@@ -1,12 +1,15 @@
 // The tree that bytes spell.
-ghost use Rattle.std.specs.Prelude.{◌≡◌, ◌≢◌, ℕ, ◌+◌, ◌-◌, ◌<◌, ◌≤◌, List, [], length, get_or, drop, Some, None, if◌then◌else◌, IfOk, IfErr, IfSome, OnSome};
+ghost use Rattle.std.specs.Prelude.{◌≡◌, ◌≢◌, ℕ, ◌+◌, ◌-◌, ◌<◌, ◌≤◌, List, [], length, get_or};
+ghost use Rattle.std.specs.Prelude.{drop, Some, None, if◌then◌else◌, IfOk, IfErr, IfSome, OnSome};
 ghost use Rattle.tx_tree.specs.WideTree.{WideTree, node, forest, leaf, nodes_of};
 ghost use Rattle.tx_tree.specs.Limits.{IsWithinLimits};
 ghost use Rattle.tx_tree.specs.declared.faults.ReadFault.TheVariants.{Memory as NoMemory};
 ghost use Rattle.tx_scm.specs.Spelling.{Spells};
 ghost use Rattle.tx_scm.specs.Faults.{IsSchemeFault};
 ghost use Rattle.tx_scm.specs.Kinds.{kind_of};
-ghost use Rattle.tx_scm.specs.Machine.{Open, within, the_limits, has_room, keeps, put, between, texting, step_between, step_opened, step_naming, step_texting, step_escaping, step_whole, lengthened, step, tree_in, reads, node_of};
+ghost use Rattle.tx_scm.specs.Machine.{Open, within, the_limits, has_room, keeps, put, between};
+ghost use Rattle.tx_scm.specs.Machine.{texting, step_between, step_opened, step_naming, step_texting};
+ghost use Rattle.tx_scm.specs.Machine.{step_escaping, step_whole, lengthened, step, tree_in, reads, node_of};
 ghost use Rattle.tx_scm.specs.Sizes.{grown_by, GrowsBy};
 ghost use Rattle.tx_scm.specs.States.{open_of, opens_of, state_of, next_of, made_by, made_in, CountsOn, read_on};
 
@@ -52,7 +55,8 @@ fn node_of<L: Ledger>(
     bracket: Bracket,
     steps: &mut Steps<L>,
 ) -> Result<Option<Tree>, Memory>
-    ensures found { IfOk result (λ found. found ≡ (if keeps the_limits (node_of (open_of bracket)) then Some (node_of (open_of bracket)) else None)) }
+    ensures found { IfOk result (λ found.
+        found ≡ (if keeps the_limits (node_of (open_of bracket)) then Some (node_of (open_of bracket)) else None)) }
     ensures counted { steps.new ≡ steps.old + 1 }
 {
     match Tree::node(alloc, bracket.label, bracket.children, steps) {
@@ -71,7 +75,8 @@ fn step_between<L: Ledger>(
     kind: Kind,
     steps: &mut Steps<L>,
 ) -> Result<Option<State>, Memory>
-    ensures next { IfOk result (λ next. next_of next ≡ step_between (within the_limits) (opens_of brackets.items) kind) }
+    ensures next { IfOk result (λ next.
+        next_of next ≡ step_between (within the_limits) (opens_of brackets.items) kind) }
     ensures counted { IfOk result (λ next. OnSome next (steps.new ≡ steps.old + made_by kind)) }
     ensures bounded { steps.new ≤ steps.old + 1 }
     ensures rises { steps.old ≤ steps.new }
@@ -130,7 +135,8 @@ fn step_naming<L: Ledger>(
     steps: &mut Steps<L>,
 ) -> Result<Option<State>, Memory>
     requires { kind ≡ kind_of byte }
-    ensures next { IfOk result (λ next. next_of next ≡ step_naming (within the_limits) label (opens_of brackets.items) kind byte) }
+    ensures next { IfOk result (λ next.
+        next_of next ≡ step_naming (within the_limits) label (opens_of brackets.items) kind byte) }
     ensures counted { IfOk result (λ next. OnSome next (steps.new ≡ steps.old + made_by kind)) }
     ensures bounded { steps.new ≤ steps.old + 1 }
     ensures rises { steps.old ≤ steps.new }
@@ -174,7 +180,8 @@ fn step_texting(
     kind: Kind,
     byte: u8,
 ) -> Result<Option<State>, Memory>
-    ensures { IfOk result (λ next. next_of next ≡ step_texting (within the_limits) text (opens_of brackets.items) kind byte) }
+    ensures { IfOk result (λ next.
+        next_of next ≡ step_texting (within the_limits) text (opens_of brackets.items) kind byte) }
 {
     match kind {
         Kind::Quote => match text.finish(alloc)? {
@@ -193,7 +200,8 @@ fn step_escaping(
     kind: Kind,
     byte: u8,
 ) -> Result<Option<State>, Memory>
-    ensures { IfOk result (λ next. next_of next ≡ step_escaping (within the_limits) text (opens_of brackets.items) kind byte) }
+    ensures { IfOk result (λ next.
+        next_of next ≡ step_escaping (within the_limits) text (opens_of brackets.items) kind byte) }
 {
     match kind {
         Kind::Quote | Kind::Backslash => lengthened(text, brackets, byte),
@@ -240,7 +248,8 @@ fn step<L: Ledger>(
 ) -> Result<Option<State>, Memory>
     requires { kind ≡ kind_of byte }
     ensures next { IfOk result (λ next. next_of next ≡ step (within the_limits) (state_of state) (kind_of byte) byte) }
-    ensures counted { IfOk result (λ next. OnSome next (steps.new ≡ steps.old + made_in (state_of state) (kind_of byte))) }
+    ensures counted { IfOk result (λ next.
+        OnSome next (steps.new ≡ steps.old + made_in (state_of state) (kind_of byte))) }
     ensures bounded { steps.new ≤ steps.old + 1 }
     ensures rises { steps.old ≤ steps.new }
 {
@@ -266,7 +275,8 @@ fn text_run(
     requires to { last ≤ length bytes.now }
     ensures end { IfOk result (λ found. IfSome found (λ end. (at ≤ end) × (end ≤ last))) }
     ensures longer { IfOk result (λ found. IfSome found (λ end. length text.new + at ≡ length text.old + end)) }
-    ensures same { (opens : List Open) → IfOk result (λ found. reads (texting text.old opens) (drop at bytes.now) ≡ read_on found (λ end. reads (texting text.new opens) (drop end bytes.now))) }
+    ensures same { (opens : List Open) → IfOk result (λ found. reads (texting text.old opens) (drop at bytes.now)
+        ≡ read_on found (λ end. reads (texting text.new opens) (drop end bytes.now))) }
 {
     for i in at..last {
         let byte = bytes[i];
@@ -295,9 +305,12 @@ fn advance<L: Ledger>(
     requires kind { kind ≡ kind_of (get_or bytes.now at 0) }
     ensures end { IfOk result (λ found. IfSome found (λ next. (at < next.1) × (next.1 ≤ length bytes.now))) }
     ensures short { IfOk result (λ found. IfSome found (λ next. next.1 ≤ at + 1 + room)) }
-    ensures same { IfOk result (λ found. reads (state_of state) (drop at bytes.now) ≡ read_on found (λ next. reads (state_of next.0) (drop next.1 bytes.now))) }
-    ensures counted { IfOk result (λ found. IfSome found (λ next. CountsOn (state_of state) steps.old (state_of next.0) steps.new)) }
-    ensures sized { IfOk result (λ found. IfSome found (λ next. GrowsBy (grown_by (state_of state) kind + (next.1 - (at + 1))) (state_of state) (state_of next.0))) }
+    ensures same { IfOk result (λ found. reads (state_of state) (drop at bytes.now)
+        ≡ read_on found (λ next. reads (state_of next.0) (drop next.1 bytes.now))) }
+    ensures counted { IfOk result (λ found.
+        IfSome found (λ next. CountsOn (state_of state) steps.old (state_of next.0) steps.new)) }
+    ensures sized { IfOk result (λ found. IfSome found (λ next.
+        GrowsBy (grown_by (state_of state) kind + (next.1 - (at + 1))) (state_of state) (state_of next.0))) }
     ensures bounded { steps.new ≤ steps.old + 1 }
     ensures rises { steps.old ≤ steps.new }
 {
@@ -374,9 +387,9 @@ fn fault(alloc: Global, bytes: &[u8]) -> Result<ReadFault, Memory>
 
 /// The tree that the bytes spell.
 ///
-/// The steps rise by at most the bytes, and where it answers a tree by at most the nodes of the tree that aren't leaves. A
-/// fault, but for `Memory`, is the one that the bytes have, by the table of `specs/Faults.antt`; it comes exactly where they
-/// spell no tree within the limits.
+/// The steps rise by at most the bytes, and where it answers a tree by at most the nodes of the tree that aren't
+/// leaves. A fault, but for `Memory`, is the one that the bytes have, by the table of `specs/Faults.antt`; it comes
+/// exactly where they spell no tree within the limits.
 pub fn read<L: Ledger>(alloc: Global, bytes: &[u8], steps: &mut Steps<L>) -> Result<Tree, ReadFault>
     ensures found { IfOk result (λ t. Spells bytes.now t) }
     ensures within { IfOk result (λ t. IsWithinLimits t) }

@@ -4,7 +4,8 @@ ghost use Rattle.tx_tree.specs.ReadFaults.{SpellsSome};
 ghost use Rattle.tx_scm.specs.Spelling.{Spells};
 ghost use Rattle.tx_scm.specs.Faults.{IsSchemeFault};
 ghost use Rattle.tx_scm.specs.Kinds.{kind_of};
-ghost use Rattle.tx_scm.specs.Spots.{depth_in, after_tree, between_step, opened_step, naming_step, lengthened, texting_step, escaping_step, step, fault_at};
+ghost use Rattle.tx_scm.specs.Spots.{depth_in, after_tree, between_step, opened_step, naming_step};
+ghost use Rattle.tx_scm.specs.Spots.{lengthened, texting_step, escaping_step, step, fault_at};
 
 use crate::kinds::{Kind, kind_of};
 use tx_tree::{MOST_LABEL, ReadFault, TextPlace};

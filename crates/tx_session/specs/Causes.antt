@@ -3,7 +3,8 @@ use Rattle.std.specs.Prelude.{ℕ, List, ◌++◌, codes, decimal}
 use Rattle.tx_tree.specs.declared.faults.PlaceFault.{PlaceFault}
 use Rattle.tx_tree.specs.declared.faults.PlaceFault.TheVariants as places
 use Rattle.tx_mod.specs.declared.faults.ModFault.{ModFault}
-use Rattle.tx_mod.specs.declared.faults.ModFault.TheVariants.{NoPath, NotString, NotNode, BadPlace, Differ, CutsSymbol, TooLong, TooWide, TooDeep, TooBig}
+use Rattle.tx_mod.specs.declared.faults.ModFault.TheVariants.{NoPath, NotString, NotNode, BadPlace, Differ}
+use Rattle.tx_mod.specs.declared.faults.ModFault.TheVariants.{CutsSymbol, TooLong, TooWide, TooDeep, TooBig}
 use Rattle.tx_session.specs.Lines.{line}
 
 -- a line of words and a number

@@ -8,7 +8,8 @@ use Rattle.tx_session.specs.Replies.{wanting_reply, unsaved_reply}
 
 -- both hold the same bytes under each name, where they tell it
 abbrev pub HoldSameFiles : Option Files → Option Files → Type 0
-HoldSameFiles files others = WhereKnown (λ all more. (name : List ℕ) → file_of more name ≡ file_of all name) files others
+HoldSameFiles files others =
+    WhereKnown (λ all more. (name : List ℕ) → file_of more name ≡ file_of all name) files others
 
 -- neither the reply where memory ran out nor the one where the store failed
 abbrev pub IsPlainReply : List ℕ → Type 0

@@ -3,7 +3,8 @@ use Rattle.std.specs.Prelude.{ℕ, List, [], ◌∷◌, ◌++◌, codes, decimal
 use Rattle.tx_tree.specs.declared.faults.Which.{Which}
 use Rattle.tx_tree.specs.declared.faults.Which.TheVariants.{Text, Arity, Depth, Size}
 use Rattle.tx_tree.specs.declared.faults.ReadFault.{ReadFault}
-use Rattle.tx_tree.specs.declared.faults.ReadFault.TheVariants.{Unclosed, Stray, BadEscape, BadLabel, BadText, Mismatch, After, Limit, Memory}
+use Rattle.tx_tree.specs.declared.faults.ReadFault.TheVariants.{Unclosed, Stray, BadEscape, BadLabel}
+use Rattle.tx_tree.specs.declared.faults.ReadFault.TheVariants.{BadText, Mismatch, After, Limit, Memory}
 
 abbrev pub limit_word : Which → List ℕ
 limit_word Text = codes "text "

@@ -41,8 +41,8 @@ abbrev pub text_in : Form → WideTree → List ℕ
 text_in Scheme t = scheme_text t
 text_in Tm t = tm_text t
 
--- What saving a tree comes to: the tree has no text in this form, or the file would have so many bytes, which are too many, or it has
--- these bytes.
+-- What saving a tree comes to: the tree has no text in this form, or the file would have so many bytes, which are too
+-- many, or it has these bytes.
 pub data Saving : Type 0 where
   no_form : Saving
   file_long : (count : ℕ) → Saving

@@ -1,5 +1,6 @@
 -- The beginning of a line that is kept while the line is read. Only private clauses cite this.
-use Rattle.std.specs.Prelude.{◌≡◌, ◌+◌, ℕ, Bool, true, nat_eq, List, [], ◌∷◌, ◌++◌, length, take, Option, Result, Ok, Err, ◌≤◌, ◌≢◌}
+use Rattle.std.specs.Prelude.{◌≡◌, ◌+◌, ℕ, Bool, true, nat_eq, List, [], ◌∷◌, ◌++◌}
+use Rattle.std.specs.Prelude.{length, take, Option, Result, Ok, Err, ◌≤◌, ◌≢◌}
 use Rattle.std.specs.List.{ends_with}
 use Rattle.std.specs.Io.KnownBytes.{append_known}
 use Rattle.tx_cmd.specs.declared.TheConstants.{MOST_LINE}
@@ -23,13 +24,16 @@ pub record Keeps (line : KeptLine) (bytes : List ℕ) : Type 0 where
 -- what became of a line that was kept: it was answered, or it is `quit`, or its reply is written in part
 abbrev pub IsTurned : Result Next WriteFault → World → List ℕ → World → (before after : Option (List ℕ)) → Type 0
 IsTurned (Ok nexts.Go) seen bytes next before after =
-    (mark : Mark) × (reply : List ℕ) × IsLineReply seen (command_line bytes) mark next reply × (after ≡ append_known before reply)
+    (mark : Mark) × (reply : List ℕ) × IsLineReply seen (command_line bytes) mark next reply
+    × (after ≡ append_known before reply)
 IsTurned (Ok nexts.Quit) seen bytes next before after = (is_quit bytes ≡ true) × (next ≡ seen) × (after ≡ before)
 IsTurned (Err fault) seen bytes next before after =
-    (mark : Mark) × (reply : List ℕ) × IsLineReply seen (command_line bytes) mark next reply × AppendsPart reply before after
+    (mark : Mark) × (reply : List ℕ) × IsLineReply seen (command_line bytes) mark next reply
+    × AppendsPart reply before after
 
 -- the bytes have these lines, which were answered, and the replies written
-pub record Stands (start : World) (before : Option (List ℕ)) (bytes rest : List ℕ) (seen : World) (after : Option (List ℕ)) : Type 0 where
+pub record Stands (start : World) (before : Option (List ℕ)) (bytes rest : List ℕ) (seen : World)
+    (after : Option (List ℕ)) : Type 0 where
   pub ended : List (List ℕ)
   pub marks : List Mark
   pub replies : List ℕ
@@ -38,13 +42,15 @@ pub record Stands (start : World) (before : Option (List ℕ)) (bytes rest : Lis
   pub written : after ≡ append_known before replies
 
 -- the same, and the line that has not ended is kept
-pub record StandsWith (start : World) (before : Option (List ℕ)) (bytes : List ℕ) (seen : World) (line : KeptLine) (after : Option (List ℕ)) : Type 0 where
+pub record StandsWith (start : World) (before : Option (List ℕ)) (bytes : List ℕ) (seen : World) (line : KeptLine)
+    (after : Option (List ℕ)) : Type 0 where
   pub rest : List ℕ
   pub stands : Stands start before bytes rest seen after
   pub kept : Keeps line rest
 
 -- the lines that ended in the bytes were answered, and the last reply, to the line behind them, is written in part
-pub record IsCutAt (start : World) (before : Option (List ℕ)) (bytes : List ℕ) (next : World) (after : Option (List ℕ)) : Type 0 where
+pub record IsCutAt (start : World) (before : Option (List ℕ)) (bytes : List ℕ) (next : World)
+    (after : Option (List ℕ)) : Type 0 where
   pub rest : List ℕ
   pub seen : World
   pub between : Option (List ℕ)
@@ -58,8 +64,10 @@ pub record IsCutAt (start : World) (before : Option (List ℕ)) (bytes : List �
 abbrev pub LeadsTo : Turn → World → Option (List ℕ) → List ℕ → World → KeptLine → Option (List ℕ) → Type 0
 LeadsTo turns.Go start before bytes seen line after = StandsWith start before bytes seen line after
 LeadsTo turns.Quit start before bytes seen line after =
-    (upto more rest : List ℕ) × (bytes ≡ upto ++ 10 ∷ more) × Stands start before upto rest seen after × (is_quit rest ≡ true)
+    (upto more rest : List ℕ) × (bytes ≡ upto ++ 10 ∷ more) × Stands start before upto rest seen after
+    × (is_quit rest ≡ true)
 LeadsTo turns.NoMemory start before bytes seen line after =
-    (upto more rest : List ℕ) × (b : ℕ) × (bytes ≡ upto ++ b ∷ more) × (b ≢ 10) × (length rest ≤ MOST_LINE) × Stands start before upto rest seen after
+    (upto more rest : List ℕ) × (b : ℕ) × (bytes ≡ upto ++ b ∷ more) × (b ≢ 10) × (length rest ≤ MOST_LINE)
+    × Stands start before upto rest seen after
 LeadsTo turns.OutputFailed start before bytes seen line after =
     (upto more : List ℕ) × (bytes ≡ upto ++ 10 ∷ more) × IsCutAt start before upto seen after

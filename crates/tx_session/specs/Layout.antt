@@ -1,5 +1,6 @@
 -- The lines of a plain text: its words, cut into pieces no wider than a line, stand on lines first-fit.
-use Rattle.std.specs.Prelude.{◌≡◌, ◌≢◌, ◌<◌, ◌≤◌, ◌+◌, ℕ, List, [], ◌∷◌, ◌++◌, length, map, All, replicate, slice_get, slice_range, Some}
+use Rattle.std.specs.Prelude.{◌≡◌, ◌≢◌, ◌<◌, ◌≤◌, ◌+◌, ℕ, List, [], ◌∷◌, ◌++◌, length}
+use Rattle.std.specs.Prelude.{map, All, replicate, slice_get, slice_range, Some}
 use Rattle.std.specs.List.{flat_map}
 use Rattle.tx_lines.specs.declared.cut.Cut.{Cut}
 use Rattle.tx_lines.specs.declared.first_fit.Piece.{Piece}
@@ -23,12 +24,13 @@ pub record IsWord (width : ℕ) (word : Word) : Type 0 where
   pub narrow : length word.bytes ≤ width
   pub solid : All (λ b. b ≢ 32) word.bytes
 
--- The text is cut into these words, with spaces behind the last one. A word that stands right behind another one is the rest
--- of a wider word, whose greatest front that fits on a line comes before it.
+-- The text is cut into these words, with spaces behind the last one. A word that stands right behind another one is the
+-- rest of a wider word, whose greatest front that fits on a line comes before it.
 pub record AreWords (width : ℕ) (text : List ℕ) (words : List Word) : Type 0 where
   pub written : (behind : ℕ) × (text ≡ flat_map spaced words ++ spaces behind)
   pub each : All (IsWord width) words
-  pub greatest : (k : ℕ) (word next : Word) → slice_get words k ≡ Some word → slice_get words (k + 1) ≡ Some next → next.before ≡ 0 → length word.bytes ≡ width
+  pub greatest : (k : ℕ) (word next : Word) → slice_get words k ≡ Some word → slice_get words (k + 1) ≡ Some next
+      → next.before ≡ 0 → length word.bytes ≡ width
 
 -- what first-fit knows of a word
 abbrev pub piece_of : Word → Piece

@@ -1,6 +1,7 @@
 -- The answer of the part that opens the file, as an outcome.
 use Rattle.tx_session.specs.declared.opening.Opening.{Opening}
-use Rattle.tx_session.specs.declared.opening.Opening.TheVariants.{FaultyWords, Missing, TooLong, NoTree, StoreFault, NoMemory, Opened}
+use Rattle.tx_session.specs.declared.opening.Opening.TheVariants.{FaultyWords, Missing, TooLong}
+use Rattle.tx_session.specs.declared.opening.Opening.TheVariants.{NoTree, StoreFault, NoMemory, Opened}
 use Rattle.tx_session.specs.Outcomes.{Outcome, faulty_words, missing, too_long, no_tree, store_fault, no_memory, opened}
 
 abbrev pub outcome_of : Opening → Outcome

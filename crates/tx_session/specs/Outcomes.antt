@@ -1,5 +1,6 @@
 -- What opening comes to, from the words and the files.
-use Rattle.std.specs.Prelude.{◌≡◌, ◌||◌, ◌^◌, Bool, ◌<◌, ◌≤◌, ℕ, true, false, if◌then◌else◌, List, [], ◌∷◌, ◌++◌, length, codes, Option, Some, None, IfSome, IsSomeAnd}
+use Rattle.std.specs.Prelude.{◌≡◌, ◌||◌, ◌^◌, Bool, ◌<◌, ◌≤◌, ℕ, true, false, if◌then◌else◌, List}
+use Rattle.std.specs.Prelude.{[], ◌∷◌, ◌++◌, length, codes, Option, Some, None, IfSome, IsSomeAnd}
 use Rattle.std.specs.Str.{bytes_eq}
 use Rattle.tx_outside.specs.Files.{Files, file_of}
 use Rattle.tx_tree.specs.WideTree.{WideTree}
@@ -30,7 +31,8 @@ is_nothing (b ∷ bytes) = false
 abbrev pub asks_help : List ℕ → Bool
 asks_help word = bytes_eq word (codes "--help") || bytes_eq word (codes "-h")
 
--- the file that the words name, where they are the program's name and a file with a buffer's name, and don't ask for help
+-- the file that the words name, where they are the program's name and a file with a buffer's name, and don't ask for
+-- help
 abbrev pub file_in : List (List ℕ) → Option (List ℕ)
 file_in (program ∷ file ∷ []) = if is_nothing (buffer_name file) || asks_help file then None else Some file
 file_in _ = None
@@ -48,12 +50,15 @@ Holds files file bytes = IfSome files (λ all. file_of all file ≡ Some bytes)
 abbrev pub ComesTo : List (List ℕ) → Option Files → Outcome → Type 0
 ComesTo words files faulty_words = file_in words ≡ None
 ComesTo words files (missing file) = Asks words file × IfSome files (λ all. file_of all file ≡ None)
-ComesTo words files (too_long file) = Asks words file × IfSome files (λ all. IsSomeAnd (file_of all file) (λ bytes. 2 ^ 24 < length bytes))
-ComesTo words files (no_tree file fault) = Asks words file × ((bytes : List ℕ) × Holds files file bytes × (length bytes ≤ 2 ^ 24) × IsFaultIn (form_of file) bytes fault)
+ComesTo words files (too_long file) =
+    Asks words file × IfSome files (λ all. IsSomeAnd (file_of all file) (λ bytes. 2 ^ 24 < length bytes))
+ComesTo words files (no_tree file fault) = Asks words file
+    × ((bytes : List ℕ) × Holds files file bytes × (length bytes ≤ 2 ^ 24) × IsFaultIn (form_of file) bytes fault)
 ComesTo words files (store_fault file) = Asks words file
 ComesTo words files no_memory = (file : List ℕ) × (file_in words ≡ Some file)
 ComesTo words files (opened file t) =
-    Asks words file × ((bytes : List ℕ) × Holds files file bytes × (length bytes ≤ 2 ^ 24) × SpellsIn (form_of file) bytes t × IsWithinLimits t)
+    Asks words file × ((bytes : List ℕ) × Holds files file bytes × (length bytes ≤ 2 ^ 24)
+    × SpellsIn (form_of file) bytes t × IsWithinLimits t)
 
 -- the status with which opening ends the run, or Ok
 abbrev pub status_of : Outcome → Status

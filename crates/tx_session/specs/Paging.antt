@@ -30,7 +30,8 @@ counts_line pages rows = line (codes "pages " ++ (decimal pages ++ (codes " rows
 -- the counts, and then all pages
 abbrev pub show_text : ℕ → List (List ℕ) → List ℕ
 show_text height lines =
-    counts_line (page_count height (length lines)) (length lines) ++ pages_text height lines (page_count height (length lines))
+    counts_line (page_count height (length lines)) (length lines)
+    ++ pages_text height lines (page_count height (length lines))
 
 -- the text shows the tree, which is a plain document, on pages of this width and height
 pub record IsShowing (width height : ℕ) (t : WideTree) (text : List ℕ) : Type 0 where

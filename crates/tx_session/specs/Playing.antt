@@ -9,7 +9,8 @@ use Rattle.tx_session.specs.Worlds.{World, Mark}
 use Rattle.tx_session.specs.Runs.{Tells, IsPlayed, IsReplyBehind, own_line}
 
 -- the replies are written, and the status's own line isn't yet
-pub record HasPlayed (start last : World) (told rest : Option (List ℕ)) (status : Status) (before after : Option (List ℕ)) : Type 0 where
+pub record HasPlayed (start last : World) (told rest : Option (List ℕ)) (status : Status)
+    (before after : Option (List ℕ)) : Type 0 where
   pub script : List ℕ
   pub marks : List Mark
   pub replies : List ℕ
@@ -31,7 +32,8 @@ IsEnd OutputFault start last told rest before after = IsCutOff start last told b
 IsEnd status start last told rest before after = HasPlayed start last told rest status before after
 
 -- the same with the status's own line, which is written too, or in part
-pub record IsClosed (start last : World) (told rest : Option (List ℕ)) (status : Status) (before after : Option (List ℕ)) : Type 0 where
+pub record IsClosed (start last : World) (told rest : Option (List ℕ)) (status : Status)
+    (before after : Option (List ℕ)) : Type 0 where
   pub script : List ℕ
   pub marks : List Mark
   pub replies : List ℕ
@@ -39,7 +41,8 @@ pub record IsClosed (start last : World) (told rest : Option (List ℕ)) (status
   pub played : IsPlayed start script marks rest status last replies
   pub written : after ≡ append_known before (replies ++ own_line status)
 
-pub record IsClosedInPart (failed : Type 0) (start last : World) (told rest : Option (List ℕ)) (before after : Option (List ℕ)) : Type 0 where
+pub record IsClosedInPart (failed : Type 0) (start last : World) (told rest : Option (List ℕ))
+    (before after : Option (List ℕ)) : Type 0 where
   pub status : Status
   pub between : Option (List ℕ)
   pub played : HasPlayed start last told rest status before between
@@ -47,7 +50,8 @@ pub record IsClosedInPart (failed : Type 0) (start last : World) (told rest : Op
   pub caused : status ≡ InputFault → failed
 
 abbrev pub IsServed : Type 0 → Status → (start last : World) → (told rest before after : Option (List ℕ)) → Type 0
-IsServed failed OutputFault start last told rest before after = IsCutOff start last told before after ⊎ IsClosedInPart failed start last told rest before after
+IsServed failed OutputFault start last told rest before after =
+    IsCutOff start last told before after ⊎ IsClosedInPart failed start last told rest before after
 IsServed failed status start last told rest before after = IsClosed start last told rest status before after
 
 -- the line of an outcome that opened no file, which is written, or in part

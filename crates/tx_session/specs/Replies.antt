@@ -1,5 +1,6 @@
 -- Replies to commands and to lines, want of memory included.
-use Rattle.std.specs.Prelude.{◌≡◌, ◌≢◌, ◌<◌, ◌≤◌, ◌&&◌, is_err, is_none, length, ℕ, Bool, Some, true, false, List, [], ◌++◌, codes, decimal}
+use Rattle.std.specs.Prelude.{◌≡◌, ◌≢◌, ◌<◌, ◌≤◌, ◌&&◌, is_err, is_none, length, ℕ}
+use Rattle.std.specs.Prelude.{Bool, Some, true, false, List, [], ◌++◌, codes, decimal}
 use Rattle.tx_cmd.specs.declared.command.Command.{Command}
 use Rattle.tx_cmd.specs.declared.command.Command.TheVariants.{Change, Undo, Redo, Cursor, Show, Quit}
 use Rattle.tx_cmd.specs.declared.command.CmdFault.{CmdFault}
@@ -44,7 +45,8 @@ fresh_after seen command = keeps_buffers seen.state command && seen.fresh
 
 -- the command is done
 pub record IsDone (before : World) (command : Command) (after : World) (reply : List ℕ) : Type 0 where
-  pub answer : IsAnswer before.session.width before.session.height before.session.state command after.session.state reply
+  pub answer : IsAnswer before.session.width before.session.height before.session.state command
+      after.session.state reply
   pub fresh : after.session.fresh ≡ fresh_after before.session command
   pub width : after.session.width ≡ before.session.width
   pub height : after.session.height ≡ before.session.height
@@ -53,12 +55,14 @@ pub record IsDone (before : World) (command : Command) (after : World) (reply : 
 -- the store failed where the command saves a file
 abbrev pub IsUnsaved : World → Command → World → List ℕ → Type 0
 IsUnsaved before command after reply =
-    (name bytes : List ℕ) × (saved_by before.session.state command ≡ Some (name, bytes)) × (after.session ≡ before.session) × FailsToStore name before.store after.store × (reply ≡ unsaved_reply)
+    (name bytes : List ℕ) × (saved_by before.session.state command ≡ Some (name, bytes))
+    × (after.session ≡ before.session) × FailsToStore name before.store after.store × (reply ≡ unsaved_reply)
 
 -- what a session and its store are after a command, and the reply, by the mark
 abbrev pub IsReply : World → Command → Mark → World → List ℕ → Type 0
 IsReply before command plain after reply = IsDone before command after reply
-IsReply before command lacking after reply = MayLack before.session command × (after.session ≡ before.session) × KeepsFiles before.store after.store × (reply ≡ wanting_reply)
+IsReply before command lacking after reply = MayLack before.session command × (after.session ≡ before.session)
+    × KeepsFiles before.store after.store × (reply ≡ wanting_reply)
 IsReply before command unsaved after reply = IsUnsaved before command after reply
 
 -- the reply to a line that is no command
@@ -105,4 +109,5 @@ IsReplyTo before (command it) mark after reply = (it ≢ Quit) × IsReply before
 IsReplyTo before (faulty cause) mark after reply = IsRefusal before (refusal cause) mark after reply
 
 abbrev pub IsLineReply : World → List ℕ → Mark → World → List ℕ → Type 0
-IsLineReply before text mark after reply = (reading : Reading) × IsRead text reading × IsReplyTo before reading mark after reply
+IsLineReply before text mark after reply =
+    (reading : Reading) × IsRead text reading × IsReplyTo before reading mark after reply

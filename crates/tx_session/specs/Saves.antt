@@ -12,8 +12,10 @@ use Rattle.tx_session.specs.Worlds.{Stored, Stores, KeepsFiles, FailsToStore}
 -- the reply to saving the tree under this name
 abbrev pub IsSaveReply : List ℕ → WideTree → Reply → (before after : Stored) → Type 0
 IsSaveReply name t Wanting before after = KeepsFiles before after
-IsSaveReply name t Unsaved before after = (bytes : List ℕ) × (saving (form_of name) t ≡ writes bytes) × FailsToStore name before after
-IsSaveReply name t reply before after = (text_of reply ≡ save_reply (saving (form_of name) t)) × Stores (file_saved name (saving (form_of name) t)) before after
+IsSaveReply name t Unsaved before after =
+    (bytes : List ℕ) × (saving (form_of name) t ≡ writes bytes) × FailsToStore name before after
+IsSaveReply name t reply before after = (text_of reply ≡ save_reply (saving (form_of name) t))
+    × Stores (file_saved name (saving (form_of name) t)) before after
 
 -- the reply to storing these bytes, where another was given for success
 abbrev pub IsKeepReply : List ℕ → List ℕ → (given : Reply) → Reply → (before after : Stored) → Type 0

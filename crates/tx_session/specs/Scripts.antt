@@ -1,5 +1,6 @@
 -- The lines of a script, and their replies.
-use Rattle.std.specs.Prelude.{◌≡◌, ◌≢◌, ◌⊎◌, ◌<◌, ◌≤◌, ◌-◌, ℕ, Bool, nat_eq, if◌then◌else◌, List, [], ◌∷◌, ◌++◌, length, take, All, codes}
+use Rattle.std.specs.Prelude.{◌≡◌, ◌≢◌, ◌⊎◌, ◌<◌, ◌≤◌, ◌-◌, ℕ, Bool, nat_eq}
+use Rattle.std.specs.Prelude.{if◌then◌else◌, List, [], ◌∷◌, ◌++◌, length, take, All, codes}
 use Rattle.std.specs.List.{flat_map, before_first, ends_with}
 use Rattle.std.specs.Str.{bytes_eq}
 use Rattle.tx_session.specs.declared.TheConstants.{MOST_SCRIPT}
@@ -26,17 +27,19 @@ is_quit text = bytes_eq (command_line text) (codes "quit")
 abbrev pub before_quit : List (List ℕ) → List (List ℕ)
 before_quit lines = before_first is_quit lines
 
--- The lines of a script. What stands behind the last byte 10 is a line too, since the script ends there. Of a script that is too
--- long they are those that end within the limit.
+-- The lines of a script. What stands behind the last byte 10 is a line too, since the script ends there. Of a script
+-- that is too long they are those that end within the limit.
 abbrev pub AreLinesOf : List ℕ → List (List ℕ) → Type 0
 AreLinesOf script lines =
-    ((length script ≤ MOST_SCRIPT) × ((ended : List (List ℕ)) × (rest : List ℕ) × HasLines script ended rest × (lines ≡ ended ++ rest ∷ [])))
+    ((length script ≤ MOST_SCRIPT)
+    × ((ended : List (List ℕ)) × (rest : List ℕ) × HasLines script ended rest × (lines ≡ ended ++ rest ∷ [])))
     ⊎ ((MOST_SCRIPT < length script) × ((rest : List ℕ) × HasLines (take MOST_SCRIPT script) lines rest))
 
--- The lines are answered one after the other, from what a session and its store are to what they are then, and none is `quit`. Each
--- has a mark. The text is all the replies.
+-- The lines are answered one after the other, from what a session and its store are to what they are then, and none is
+-- `quit`. Each has a mark. The text is all the replies.
 abbrev pub Answered : World → List (List ℕ) → (marks : List Mark) → World → (text : List ℕ) → Type 0
 Answered before [] [] last text = (last ≡ before) × (text ≡ [])
 Answered before (one ∷ lines) (mark ∷ marks) last text =
-    (next : World) × (reply rest : List ℕ) × IsLineReply before (command_line one) mark next reply × Answered next lines marks last rest × (text ≡ reply ++ rest)
+    (next : World) × (reply rest : List ℕ) × IsLineReply before (command_line one) mark next reply
+    × Answered next lines marks last rest × (text ≡ reply ++ rest)
 Answered before _ _ last text = ⊥

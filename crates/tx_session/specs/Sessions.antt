@@ -15,7 +15,8 @@ use Rattle.tx_session.specs.Worlds.{Seen}
 abbrev pub seen_code : Coded Seen
 seen_code =
     code_by (State × (ℕ × (ℕ × Bool))) (coded× one_state.the_row.coded (coded× coded_ℕ (coded× coded_ℕ coded_bool)))
-    (λ s. (s.state, (s.width, (s.height, s.fresh)))) (λ p. record { state = p.0; width = p.1.0; height = p.1.1.0; fresh = p.1.1.1 }) (λ _. refl)
+    (λ s. (s.state, (s.width, (s.height, s.fresh))))
+    (λ p. record { state = p.0; width = p.1.0; height = p.1.1.0; fresh = p.1.1.1 }) (λ _. refl)
 
 abbrev pub is_fresh : Shown → Bool
 is_fresh Stale = false

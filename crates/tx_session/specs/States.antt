@@ -48,7 +48,8 @@ IsStepAnswer state none None next reply = (next ≡ state) × (reply ≡ line no
 -- the cursor went to a place, or there was no such place
 abbrev pub IsGoAnswer : State → List ℕ → State → List ℕ → Type 0
 IsGoAnswer state numbers next reply =
-    (Goes state numbers next × (reply ≡ done_reply)) ⊎ ((fault : PlaceFault) × IsAstray state numbers fault × (next ≡ state) × (reply ≡ astray_reply fault))
+    (Goes state numbers next × (reply ≡ done_reply))
+    ⊎ ((fault : PlaceFault) × IsAstray state numbers fault × (next ≡ state) × (reply ≡ astray_reply fault))
 
 -- the tree was saved, or why it wasn't
 abbrev pub save_reply : Saving → List ℕ
@@ -71,8 +72,10 @@ IsAnswer width height state (Change m) next reply = IsEditAnswer state (edited (
 IsAnswer width height state Undo next reply = IsStepAnswer state (codes "no undo") (undone state) next reply
 IsAnswer width height state Redo next reply = IsStepAnswer state (codes "no redo") (redone state) next reply
 IsAnswer width height state (Go numbers) next reply = IsGoAnswer state numbers next reply
-IsAnswer width height state Cursor next reply = (next ≡ state) × (reply ≡ line (place_text state.cursor.path state.cursor.offset))
+IsAnswer width height state Cursor next reply =
+    (next ≡ state) × (reply ≡ line (place_text state.cursor.path state.cursor.offset))
 IsAnswer width height state Show next reply = (next ≡ state) × IsShown width height (document_of state.buffers) reply
 IsAnswer width height state Tree next reply = (next ≡ state) × (reply ≡ line (scheme_text (document_of state.buffers)))
-IsAnswer width height state (Save name) next reply = (next ≡ state) × (reply ≡ save_reply (saving (form_of name) (document_of state.buffers)))
+IsAnswer width height state (Save name) next reply =
+    (next ≡ state) × (reply ≡ save_reply (saving (form_of name) (document_of state.buffers)))
 IsAnswer width height state Quit next reply = (next ≡ state) × (reply ≡ [])

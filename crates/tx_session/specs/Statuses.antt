@@ -1,7 +1,8 @@
 -- The numbers of the statuses.
 use Rattle.std.specs.Prelude.{ℕ}
 use Rattle.tx_session.specs.declared.status.Status.{Status}
-use Rattle.tx_session.specs.declared.status.Status.TheVariants.{Ok, Words, Missing, Refused, StoreFault, InputFault, OutputFault, NoMemory, ScriptLong}
+use Rattle.tx_session.specs.declared.status.Status.TheVariants.{Ok, Words, Missing, Refused, StoreFault}
+use Rattle.tx_session.specs.declared.status.Status.TheVariants.{InputFault, OutputFault, NoMemory, ScriptLong}
 
 abbrev pub number_of : Status → ℕ
 number_of Ok = 0

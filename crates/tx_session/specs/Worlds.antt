@@ -38,7 +38,8 @@ pub data Mark : Type 0 where
 -- the store did nothing, or keeps this file
 abbrev pub Stores : Option (List ℕ × List ℕ) → Stored → Stored → Type 0
 Stores None before after = after ≡ before
-Stores (Some file) before after = WhereKnown (WithFile file.0 file.1) before.files after.files × NeverFalls before.faults after.faults
+Stores (Some file) before after =
+    WhereKnown (WithFile file.0 file.1) before.files after.files × NeverFalls before.faults after.faults
 
 -- the files are as before
 abbrev pub KeepsFiles : Stored → Stored → Type 0
@@ -46,7 +47,8 @@ KeepsFiles before after = (after.files ≡ before.files) × NeverFalls before.fa
 
 -- the store failed in saving the file of this name, of which nothing is known then
 abbrev pub FailsToStore : List ℕ → Stored → Stored → Type 0
-FailsToStore name before after = WhereKnown (OthersKept name) before.files after.files × Rose before.faults after.faults × NeverFalls before.faults after.faults
+FailsToStore name before after = WhereKnown (OthersKept name) before.files after.files × Rose before.faults after.faults
+    × NeverFalls before.faults after.faults
 
 -- how many lines are marked as not saved
 abbrev pub unsaved_in : List Mark → ℕ

@@ -9,8 +9,8 @@ use std::alloc::Global;
 use tx_base::Memory;
 use tx_cmd::MOST_LINE;
 
-/// What is kept of a line while it is read: its first bytes, as many as a command can need, how many it has, and whether the
-/// last one is a return.
+/// What is kept of a line while it is read: its first bytes, as many as a command can need, how many it has, and
+/// whether the last one is a return.
 #[derive(Drop)]
 pub(crate) struct KeptLine {
     front: Vec<u8>,
@@ -42,7 +42,8 @@ impl KeptLine {
     /// Adds the next byte.
     pub(crate) fn add(&mut self, byte: u8) -> Result<(), Memory>
         requires room { self.old.count < MOST_SCRIPT }
-        ensures kept { IfOk result (λ _. (bytes : List ℕ) → Keeps self.old bytes → Keeps self.new (bytes ++ byte ∷ [])) }
+        ensures kept { IfOk result (λ _.
+            (bytes : List ℕ) → Keeps self.old bytes → Keeps self.new (bytes ++ byte ∷ [])) }
         ensures count { self.new.count ≤ self.old.count + 1 }
         ensures short { IfErr result (λ _. (bytes : List ℕ) → Keeps self.old bytes → length bytes ≤ MOST_LINE) }
     {

@@ -1,5 +1,6 @@
 // The file that the words name, loaded and read.
-ghost use Rattle.std.specs.Prelude.{◌≡◌, ◌≢◌, ◌↔◌, IsTrue, List, ℕ, map, None, Some, [], ◌++◌, IfOk, IfErr, MatchOption};
+ghost use Rattle.std.specs.Prelude.{◌≡◌, ◌≢◌, ◌↔◌, IsTrue, List, ℕ, map, None};
+ghost use Rattle.std.specs.Prelude.{Some, [], ◌++◌, IfOk, IfErr, MatchOption};
 ghost use Rattle.std.specs.String.{string_bytes};
 ghost use Rattle.tx_outside.specs.Counts.{NeverFalls, Rose};
 ghost use Rattle.tx_session.specs.Outcomes.{asks_help, ComesTo, file_in, status_of, text_of, too_long, faulty_words};
@@ -42,7 +43,8 @@ fn asks_help(word: &[u8]) -> bool
 
 // The file that the words name: they are the program's name and a file with a buffer's name.
 fn file_word(words: &[String]) -> Option<&[u8]>
-    ensures { MatchOption result (file_in (map string_bytes words.now) ≡ None) (λ file. file_in (map string_bytes words.now) ≡ Some file.now) }
+    ensures { MatchOption result (file_in (map string_bytes words.now) ≡ None)
+        (λ file. file_in (map string_bytes words.now) ≡ Some file.now) }
 {
     if words.len() != 2 {
         return None;
@@ -78,10 +80,14 @@ pub(crate) fn open<'a, S: Store, L: Ledger>(
     steps: &mut Steps<L>,
 ) -> Opening<'a>
     ensures comes { ComesTo (map string_bytes words.now) (S.files store.old) (outcome_of result) }
-    ensures missing_counted { status_of (outcome_of result) ≡ Status.Missing → Rose (S.misses store.old) (S.misses store.new) }
-    ensures fault_counted { status_of (outcome_of result) ≡ Status.StoreFault → Rose (S.faults store.old) (S.faults store.new) }
-    ensures long_counted { (file : List ℕ) → outcome_of result ≡ too_long file → Rose (S.longs store.old) (S.longs store.new) }
-    ensures untouched { file_in (map string_bytes words.now) ≡ None → (store.new ≡ store.old) × (steps.new ≡ steps.old) }
+    ensures missing_counted { status_of (outcome_of result) ≡ Status.Missing
+        → Rose (S.misses store.old) (S.misses store.new) }
+    ensures fault_counted { status_of (outcome_of result) ≡ Status.StoreFault
+        → Rose (S.faults store.old) (S.faults store.new) }
+    ensures long_counted { (file : List ℕ) → outcome_of result ≡ too_long file
+        → Rose (S.longs store.old) (S.longs store.new) }
+    ensures untouched { file_in (map string_bytes words.now) ≡ None
+        → (store.new ≡ store.old) × (steps.new ≡ steps.old) }
     ensures files_kept { S.files store.new ≡ S.files store.old }
     ensures faults_never_fall { NeverFalls (S.faults store.old) (S.faults store.new) }
     ensures misses_never_fall { NeverFalls (S.misses store.old) (S.misses store.new) }

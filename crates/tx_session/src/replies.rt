@@ -129,9 +129,10 @@ pub(crate) fn say<O: Sink>(out: &mut O, reply: &[u8]) -> Result<Next, WriteFault
     Ok(Next::Go)
 }
 
-/// A law: what is said of a command that was done, and of a line that is no command, is never the line where memory ran out or the
-/// one where the store failed.
+/// A law: what is said of a command that was done, and of a line that is no command, is never the line where memory ran
+/// out or the one where the store failed.
 pub fn replies_tell_marks()
-    ensures done { (before after : World) (it : Command) (reply : List ℕ) → IsDone before it after reply → IsPlainReply reply }
+    ensures done { (before after : World) (it : Command) (reply : List ℕ) → IsDone before it after reply
+        → IsPlainReply reply }
     ensures refused { (cause : CmdFault) → cause ≢ CmdFault.Memory → IsPlainReply (refusal cause) }
 {}

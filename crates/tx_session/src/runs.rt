@@ -1,12 +1,14 @@
 // The top call.
-ghost use Rattle.std.specs.Prelude.{◌≡◌, ◌⊎◌, ◌≤◌, ◌<◌, ◌≢◌, ◌++◌, ◌∷◌, [], ℕ, map, length, None, Some, true, false, List, Bool, Option, is_some, IfOk, IfSome};
+ghost use Rattle.std.specs.Prelude.{◌≡◌, ◌⊎◌, ◌≤◌, ◌<◌, ◌≢◌, ◌++◌, ◌∷◌, [], ℕ, map, length, None};
+ghost use Rattle.std.specs.Prelude.{Some, true, false, List, Bool, Option, is_some, IfOk, IfSome};
 ghost use Rattle.std.specs.String.{string_bytes};
 ghost use Rattle.std.specs.Io.KnownBytes.{append_known};
 ghost use Rattle.tx_outside.specs.Counts.{NeverFalls, Rose};
 ghost use Rattle.tx_outside.specs.Files.{Files};
 ghost use Rattle.tx_outside.specs.Known.{AppendsPart, StaysKnown};
 ghost use Rattle.tx_session.specs.Outcomes.{file_in, ComesTo, IsDecided, Outcome, no_memory, opened};
-ghost use Rattle.tx_session.specs.Runs.{IsFinal, IsWhole, CanBeOpened, CanBeRead, IsRefused, IsRun, IsWritten, own_line, start_of};
+ghost use Rattle.tx_session.specs.Runs.{IsFinal, IsWhole, CanBeOpened, CanBeRead};
+ghost use Rattle.tx_session.specs.Runs.{IsRefused, IsRun, IsWritten, own_line, start_of};
 ghost use Rattle.tx_session.specs.Differences.{EndsAtOpening, HoldSameFiles};
 ghost use Rattle.tx_session.specs.Playing.{IsServed, IsLine};
 ghost use Rattle.tx_session.specs.Scripts.{Answered};
@@ -31,7 +33,8 @@ use tx_tree::Tree;
 // Writes the text, and answers the status unless the output failed.
 fn finish<O: Sink>(out: &mut O, text: &[u8], status: Status) -> Status
     requires { status ≢ Status.OutputFault }
-    ensures done { result ≢ Status.OutputFault → (result ≡ status) × (O.written out.new ≡ append_known (O.written out.old) text.now) }
+    ensures done { result ≢ Status.OutputFault
+        → (result ≡ status) × (O.written out.new ≡ append_known (O.written out.old) text.now) }
     ensures cut { result ≡ Status.OutputFault → AppendsPart text.now (O.written out.old) (O.written out.new) }
     ensures counted { result ≡ Status.OutputFault → Rose (O.faults out.old) (O.faults out.new) }
     ensures faults_never_fall { NeverFalls (O.faults out.old) (O.faults out.new) }
@@ -46,7 +49,8 @@ fn finish<O: Sink>(out: &mut O, text: &[u8], status: Status) -> Status
 // Writes the line that says why no file was opened.
 fn report<O: Sink>(alloc: Global, failed: &Opening, out: &mut O) -> Status
     requires unopened { (file : List ℕ) (t : WideTree) → outcome_of failed.now ≢ opened file t }
-    ensures line { IsLine (outcome_of failed.now) result (O.written out.old) (O.written out.new) ⊎ IsLine no_memory result (O.written out.old) (O.written out.new) }
+    ensures line { IsLine (outcome_of failed.now) result (O.written out.old) (O.written out.new)
+        ⊎ IsLine no_memory result (O.written out.old) (O.written out.new) }
     ensures counted { result ≡ Status.OutputFault → Rose (O.faults out.old) (O.faults out.new) }
     ensures faults_never_fall { NeverFalls (O.faults out.old) (O.faults out.new) }
     ensures stays_known { StaysKnown (O.written out.old) (O.written out.new) }
@@ -96,10 +100,14 @@ fn serve<S: Store, I: Source, O: Sink, L: Ledger>(
     out: &mut O,
     steps: &mut Steps<L>,
 ) -> Status
-    ensures ended { IsServed (Rose (I.faults input.old) (I.faults input.new)) result (world session.old (S.files store.old) (S.faults store.old)) (world session.new (S.files store.new) (S.faults store.new)) (I.left input.old) (I.left input.new) (O.written out.old) (O.written out.new) }
+    ensures ended { IsServed (Rose (I.faults input.old) (I.faults input.new)) result
+        (world session.old (S.files store.old) (S.faults store.old))
+        (world session.new (S.files store.new) (S.faults store.new)) (I.left input.old) (I.left input.new)
+        (O.written out.old) (O.written out.new) }
     ensures input_fault_counted { result ≡ Status.InputFault → Rose (I.faults input.old) (I.faults input.new) }
     ensures output_fault_counted { result ≡ Status.OutputFault → Rose (O.faults out.old) (O.faults out.new) }
-    ensures store_goes_on { GoesOn (S.files store.old) (S.files store.new) (S.faults store.old) (S.faults store.new) (S.misses store.old) (S.misses store.new) (S.longs store.old) (S.longs store.new) }
+    ensures store_goes_on { GoesOn (S.files store.old) (S.files store.new) (S.faults store.old) (S.faults store.new)
+        (S.misses store.old) (S.misses store.new) (S.longs store.old) (S.longs store.new) }
     ensures input_faults_never_fall { NeverFalls (I.faults input.old) (I.faults input.new) }
     ensures output_faults_never_fall { NeverFalls (O.faults out.old) (O.faults out.new) }
     ensures input_stays_known { StaysKnown (I.left input.old) (I.left input.new) }
@@ -127,27 +135,46 @@ pub fn run<S: Store, I: Source, O: Sink, L: Ledger>(
     out: &mut O,
     steps: &mut Steps<L>,
 ) -> Status
-    ensures run { IsRun (record { misses = Rose (S.misses store.old) (S.misses store.new); longs = Rose (S.longs store.old) (S.longs store.new); store_faults = Rose (S.faults store.old) (S.faults store.new); input_faults = Rose (I.faults input.old) (I.faults input.new) })
+    ensures run { IsRun
+        (record {
+          misses = Rose (S.misses store.old) (S.misses store.new);
+          longs = Rose (S.longs store.old) (S.longs store.new);
+          store_faults = Rose (S.faults store.old) (S.faults store.new);
+          input_faults = Rose (I.faults input.old) (I.faults input.new);
+        })
         (map string_bytes words.now) result
-        (record { store = stored (S.files store.old) (S.faults store.old); input = I.left input.old; output = O.written out.old })
-        (record { store = stored (S.files store.new) (S.faults store.new); input = I.left input.new; output = O.written out.new }) }
+        (record {
+          store = stored (S.files store.old) (S.faults store.old);
+          input = I.left input.old;
+          output = O.written out.old;
+        })
+        (record {
+          store = stored (S.files store.new) (S.faults store.new);
+          input = I.left input.new;
+          output = O.written out.new;
+        }) }
 
     // Where each status comes.
     ensures words { result ≡ Status.Words → file_in (map string_bytes words.now) ≡ None }
-    ensures words_only { file_in (map string_bytes words.now) ≡ None → (result ≡ Status.Words) ⊎ (result ≡ Status.OutputFault) }
+    ensures words_only { file_in (map string_bytes words.now) ≡ None
+        → (result ≡ Status.Words) ⊎ (result ≡ Status.OutputFault) }
     ensures missing_counted { result ≡ Status.Missing → Rose (S.misses store.old) (S.misses store.new) }
-    ensures refused { result ≡ Status.Refused → IsRefused (map string_bytes words.now) (S.files store.old) (Rose (S.longs store.old) (S.longs store.new)) }
+    ensures refused { result ≡ Status.Refused
+        → IsRefused (map string_bytes words.now) (S.files store.old) (Rose (S.longs store.old) (S.longs store.new)) }
     ensures store_fault_counted { result ≡ Status.StoreFault → Rose (S.faults store.old) (S.faults store.new) }
     ensures input_fault_counted { result ≡ Status.InputFault → Rose (I.faults input.old) (I.faults input.new) }
     ensures output_fault_counted { result ≡ Status.OutputFault → Rose (O.faults out.old) (O.faults out.new) }
     ensures script_long { result ≡ Status.ScriptLong → IfSome (I.left input.old) (λ script. ¬ CanBeRead script) }
-    ensures complete { CanBeOpened (map string_bytes words.now) (S.files store.old) → ((script : List ℕ) × (I.left input.old ≡ Some script) × CanBeRead script)
-        → ¬ Rose (S.misses store.old) (S.misses store.new) → ¬ Rose (S.longs store.old) (S.longs store.new) → ¬ Rose (S.faults store.old) (S.faults store.new)
+    ensures complete { CanBeOpened (map string_bytes words.now) (S.files store.old)
+        → ((script : List ℕ) × (I.left input.old ≡ Some script) × CanBeRead script)
+        → ¬ Rose (S.misses store.old) (S.misses store.new) → ¬ Rose (S.longs store.old) (S.longs store.new)
+        → ¬ Rose (S.faults store.old) (S.faults store.new)
         → ¬ Rose (I.faults input.old) (I.faults input.new) → ¬ Rose (O.faults out.old) (O.faults out.new)
         → (result ≡ Status.Ok) ⊎ (result ≡ Status.NoMemory) }
 
     // What is as before, and what never falls.
-    ensures words_touch_nothing { file_in (map string_bytes words.now) ≡ None → (store.new ≡ store.old) × (input.new ≡ input.old) × (steps.new ≡ steps.old) }
+    ensures words_touch_nothing { file_in (map string_bytes words.now) ≡ None
+        → (store.new ≡ store.old) × (input.new ≡ input.old) × (steps.new ≡ steps.old) }
     ensures unread { EndsAtOpening result → input.new ≡ input.old }
     ensures files_stay_known { StaysKnown (S.files store.old) (S.files store.new) }
     ensures output_stays_known { StaysKnown (O.written out.old) (O.written out.new) }
@@ -171,20 +198,28 @@ pub fn run<S: Store, I: Source, O: Sink, L: Ledger>(
 
 /// A law: words and files come to one outcome, faults of the store and want of memory aside.
 pub fn one_outcome()
-    ensures { (words : List (List ℕ)) (all : Files) (o p : Outcome) → ComesTo words (Some all) o → ComesTo words (Some all) p → IsDecided o → IsDecided p → o ≡ p }
+    ensures { (words : List (List ℕ)) (all : Files) (o p : Outcome) → ComesTo words (Some all) o
+        → ComesTo words (Some all) p → IsDecided o → IsDecided p → o ≡ p }
 {}
 
-/// A law: words, files, a script and marks, which say at which lines memory ran out or the store failed, come to one status and one
-/// text, where no device failed otherwise and memory sufficed otherwise. Where the store never failed, they leave the same files.
+/// A law: words, files, a script and marks, which say at which lines memory ran out or the store failed, come to one
+/// status and one text, where no device failed otherwise and memory sufficed otherwise. Where the store never failed,
+/// they leave the same files.
 pub fn one_run()
-    ensures { (words : List (List ℕ)) (all : Files) (script : List ℕ) (marks : List Mark) (o p : Outcome) (v w x y : Stored) (r q : Option (List ℕ)) (s t : Status) (a b : List ℕ)
-        → IsFinal s → IsFinal t → v.files ≡ Some all → w.files ≡ Some all → ComesTo words (Some all) o → ComesTo words (Some all) p
-        → IsWhole o v x (Some script) marks r s a → IsWhole p w y (Some script) marks q t b → (s ≡ t) × (a ≡ b) × (unsaved_in marks ≡ 0 → HoldSameFiles x.files y.files) }
+    ensures { (words : List (List ℕ)) (all : Files) (script : List ℕ) (marks : List Mark) (o p : Outcome)
+        (v w x y : Stored) (r q : Option (List ℕ)) (s t : Status) (a b : List ℕ)
+        → IsFinal s → IsFinal t → v.files ≡ Some all → w.files ≡ Some all → ComesTo words (Some all) o
+        → ComesTo words (Some all) p
+        → IsWhole o v x (Some script) marks r s a → IsWhole p w y (Some script) marks q t b
+        → (s ≡ t) × (a ≡ b) × (unsaved_in marks ≡ 0 → HoldSameFiles x.files y.files) }
 {}
 
-/// A law: the store's count of faults rises by at least the number of lines that are marked so, or stands at its last value: over lines
-/// that are answered, and over a whole run.
+/// A law: the store's count of faults rises by at least the number of lines that are marked so, or stands at its last
+/// value: over lines that are answered, and over a whole run.
 pub fn failures_counted()
-    ensures lines { (before last : World) (lines : List (List ℕ)) (marks : List Mark) (text : List ℕ) → Answered before lines marks last text → RoseBy (unsaved_in marks) before.store.faults last.store.faults }
-    ensures whole { (o : Outcome) (before after : Stored) (told rest : Option (List ℕ)) (marks : List Mark) (status : Status) (text : List ℕ) → IsWhole o before after told marks rest status text → RoseBy (unsaved_in marks) before.faults after.faults }
+    ensures lines { (before last : World) (lines : List (List ℕ)) (marks : List Mark) (text : List ℕ)
+        → Answered before lines marks last text → RoseBy (unsaved_in marks) before.store.faults last.store.faults }
+    ensures whole { (o : Outcome) (before after : Stored) (told rest : Option (List ℕ)) (marks : List Mark)
+        (status : Status) (text : List ℕ) → IsWhole o before after told marks rest status text
+        → RoseBy (unsaved_in marks) before.faults after.faults }
 {}

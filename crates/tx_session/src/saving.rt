@@ -59,8 +59,10 @@ fn file_bytes(alloc: Global, form: Form, tree: &Tree) -> Result<Vec<u8>, Memory>
 
 /// Saves the tree in the file of this name, in the form that the name says.
 pub(crate) fn save<S: Store>(alloc: Global, tree: &Tree, name: &[u8], store: &mut S) -> Reply
-    ensures saved { IsSaveReply name.now tree.now result (stored (S.files store.old) (S.faults store.old)) (stored (S.files store.new) (S.faults store.new)) }
-    ensures store_goes_on { GoesOn (S.files store.old) (S.files store.new) (S.faults store.old) (S.faults store.new) (S.misses store.old) (S.misses store.new) (S.longs store.old) (S.longs store.new) }
+    ensures saved { IsSaveReply name.now tree.now result (stored (S.files store.old) (S.faults store.old))
+        (stored (S.files store.new) (S.faults store.new)) }
+    ensures store_goes_on { GoesOn (S.files store.old) (S.files store.new) (S.faults store.old) (S.faults store.new)
+        (S.misses store.old) (S.misses store.new) (S.longs store.old) (S.longs store.new) }
     ensures store_untouched { file_saved name.now (saving (form_of name.now) tree.now) ≡ None → store.new ≡ store.old }
 {
     let form = form_of(name);
@@ -82,8 +84,10 @@ pub(crate) fn save<S: Store>(alloc: Global, tree: &Tree, name: &[u8], store: &mu
 #[tactic(auto, using(crate::proofs::Saved::keeps_given, std::proofs::lemmas::Grind::common_steps))]
 fn keep<S: Store>(name: &[u8], bytes: &[u8], reply: Reply, store: &mut S) -> Reply
     requires { reply ≢ Reply.Unsaved }
-    ensures kept { IsKeepReply name.now bytes.now reply result (stored (S.files store.old) (S.faults store.old)) (stored (S.files store.new) (S.faults store.new)) }
-    ensures store_goes_on { GoesOn (S.files store.old) (S.files store.new) (S.faults store.old) (S.faults store.new) (S.misses store.old) (S.misses store.new) (S.longs store.old) (S.longs store.new) }
+    ensures kept { IsKeepReply name.now bytes.now reply result (stored (S.files store.old) (S.faults store.old))
+        (stored (S.files store.new) (S.faults store.new)) }
+    ensures store_goes_on { GoesOn (S.files store.old) (S.files store.new) (S.faults store.old) (S.faults store.new)
+        (S.misses store.old) (S.misses store.new) (S.longs store.old) (S.longs store.new) }
 {
     if let Reply::Wanting = reply {
         return Reply::Wanting;
@@ -97,12 +101,15 @@ fn keep<S: Store>(name: &[u8], bytes: &[u8], reply: Reply, store: &mut S) -> Rep
 
 /// A law: what is saved spells the tree that was saved, and no other, in the form that the name says.
 pub fn saved_spells_alone()
-    ensures { (form : Syntax) (t : WideTree) (bytes : List ℕ) → IsWellFormed t → saving form t ≡ writes bytes → SpellsAloneIn form bytes t }
+    ensures { (form : Syntax) (t : WideTree) (bytes : List ℕ) → IsWellFormed t → saving form t ≡ writes bytes
+        → SpellsAloneIn form bytes t }
 {}
 
-/// A law: a file that was saved within the limits opens again, and as the tree that was saved, faults of the store and want of
-/// memory aside.
+/// A law: a file that was saved within the limits opens again, and as the tree that was saved, faults of the store and
+/// want of memory aside.
 pub fn saved_opens_again()
-    ensures { (words : List (List ℕ)) (all : Files) (name bytes : List ℕ) (t : WideTree) (o : Outcome) → IsWellFormed t → IsWithinLimits t → saving (form_of name) t ≡ writes bytes
-        → Asks words name → file_of all name ≡ Some bytes → ComesTo words (Some all) o → IsDecided o → o ≡ opened name t }
+    ensures { (words : List (List ℕ)) (all : Files) (name bytes : List ℕ) (t : WideTree) (o : Outcome) → IsWellFormed t
+        → IsWithinLimits t → saving (form_of name) t ≡ writes bytes
+        → Asks words name → file_of all name ≡ Some bytes → ComesTo words (Some all) o → IsDecided o
+        → o ≡ opened name t }
 {}

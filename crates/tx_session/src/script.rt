@@ -1,5 +1,6 @@
 // The lines of a script, read and answered one after the other.
-ghost use Rattle.std.specs.Prelude.{◌≡◌, ◌≢◌, ◌≤◌, ◌<◌, ◌+◌, ◌∷◌, ◌++◌, ◌⊎◌, ℕ, List, [], Option, Bool, length, decimal, IfOk, OnOk, OnErr, IfErr, IfSome, Ok};
+ghost use Rattle.std.specs.Prelude.{◌≡◌, ◌≢◌, ◌≤◌, ◌<◌, ◌+◌, ◌∷◌, ◌++◌, ◌⊎◌, ℕ, List, [], Option};
+ghost use Rattle.std.specs.Prelude.{Bool, length, decimal, IfOk, OnOk, OnErr, IfErr, IfSome, Ok};
 ghost use Rattle.tx_outside.specs.Counts.{NeverFalls, Rose};
 ghost use Rattle.tx_outside.specs.Known.{StaysKnown};
 ghost use Rattle.tx_cmd.specs.declared.command.CmdFault.{CmdFault};
@@ -25,7 +26,8 @@ use tx_outside::{Failed, Sink, Source, Store, WriteFault};
 
 // Refuses a line that is no command.
 fn refuse<O: Sink>(alloc: Global, out: &mut O, fault: CmdFault) -> Result<Next, WriteFault>
-    ensures said { (reply : List ℕ) × ((reply ≡ refusal fault) ⊎ (reply ≡ wanting_reply)) × IsSaid result reply (O.written out.old) (O.written out.new) }
+    ensures said { (reply : List ℕ) × ((reply ≡ refusal fault) ⊎ (reply ≡ wanting_reply))
+        × IsSaid result reply (O.written out.old) (O.written out.new) }
     ensures goes { result ≢ Ok Next.Quit }
     ensures failed_rose { OnErr result (Rose (O.faults out.old) (O.faults out.new)) }
     ensures faults_never_fall { NeverFalls (O.faults out.old) (O.faults out.new) }
@@ -44,9 +46,12 @@ fn answer_line<S: Store, O: Sink, L: Ledger>(
     steps: &mut Steps<L>,
 ) -> Result<Next, WriteFault>
     requires kept { (bytes : List ℕ) × Keeps line.now bytes }
-    ensures answered { (bytes : List ℕ) → Keeps line.now bytes → IsTurned result (world session.old (S.files store.old) (S.faults store.old)) bytes (world session.new (S.files store.new) (S.faults store.new)) (O.written out.old) (O.written out.new) }
+    ensures answered { (bytes : List ℕ) → Keeps line.now bytes
+        → IsTurned result (world session.old (S.files store.old) (S.faults store.old)) bytes
+        (world session.new (S.files store.new) (S.faults store.new)) (O.written out.old) (O.written out.new) }
     ensures failed_rose { OnErr result (Rose (O.faults out.old) (O.faults out.new)) }
-    ensures store_goes_on { GoesOn (S.files store.old) (S.files store.new) (S.faults store.old) (S.faults store.new) (S.misses store.old) (S.misses store.new) (S.longs store.old) (S.longs store.new) }
+    ensures store_goes_on { GoesOn (S.files store.old) (S.files store.new) (S.faults store.old) (S.faults store.new)
+        (S.misses store.old) (S.misses store.new) (S.longs store.old) (S.longs store.new) }
     ensures faults_never_fall { NeverFalls (O.faults out.old) (O.faults out.new) }
     ensures stays_known { StaysKnown (O.written out.old) (O.written out.new) }
 {
@@ -84,12 +89,15 @@ fn take_byte<S: Store, O: Sink, L: Ledger>(
     requires kept { (bytes : List ℕ) × Keeps line.old bytes }
     requires room { line.old.count < MOST_SCRIPT }
     ensures leads { (start : World) (before : Option (List ℕ)) (bytes : List ℕ)
-        → StandsWith start before bytes (world session.old (S.files store.old) (S.faults store.old)) line.old (O.written out.old)
-        → LeadsTo result start before (bytes ++ byte ∷ []) (world session.new (S.files store.new) (S.faults store.new)) line.new (O.written out.new) }
+        → StandsWith start before bytes (world session.old (S.files store.old) (S.faults store.old)) line.old
+        (O.written out.old)
+        → LeadsTo result start before (bytes ++ byte ∷ [])
+        (world session.new (S.files store.new) (S.faults store.new)) line.new (O.written out.new) }
     ensures kept { result ≡ Turn.Go → (bytes : List ℕ) × Keeps line.new bytes }
     ensures count { line.new.count ≤ line.old.count + 1 }
     ensures output_failed { result ≡ Turn.OutputFailed → Rose (O.faults out.old) (O.faults out.new) }
-    ensures store_goes_on { GoesOn (S.files store.old) (S.files store.new) (S.faults store.old) (S.faults store.new) (S.misses store.old) (S.misses store.new) (S.longs store.old) (S.longs store.new) }
+    ensures store_goes_on { GoesOn (S.files store.old) (S.files store.new) (S.faults store.old) (S.faults store.new)
+        (S.misses store.old) (S.misses store.new) (S.longs store.old) (S.longs store.new) }
     ensures faults_never_fall { NeverFalls (O.faults out.old) (O.faults out.new) }
     ensures stays_known { StaysKnown (O.written out.old) (O.written out.new) }
 {
@@ -122,12 +130,15 @@ fn take_piece<S: Store, O: Sink, L: Ledger>(
     requires kept { (bytes : List ℕ) × Keeps line.old bytes }
     requires room { line.old.count + length piece.now ≤ MOST_SCRIPT }
     ensures leads { (start : World) (before : Option (List ℕ)) (bytes : List ℕ)
-        → StandsWith start before bytes (world session.old (S.files store.old) (S.faults store.old)) line.old (O.written out.old)
-        → LeadsTo result start before (bytes ++ piece.now) (world session.new (S.files store.new) (S.faults store.new)) line.new (O.written out.new) }
+        → StandsWith start before bytes (world session.old (S.files store.old) (S.faults store.old)) line.old
+        (O.written out.old)
+        → LeadsTo result start before (bytes ++ piece.now)
+        (world session.new (S.files store.new) (S.faults store.new)) line.new (O.written out.new) }
     ensures kept { result ≡ Turn.Go → (bytes : List ℕ) × Keeps line.new bytes }
     ensures count { line.new.count ≤ line.old.count + length piece.now }
     ensures output_failed { result ≡ Turn.OutputFailed → Rose (O.faults out.old) (O.faults out.new) }
-    ensures store_goes_on { GoesOn (S.files store.old) (S.files store.new) (S.faults store.old) (S.faults store.new) (S.misses store.old) (S.misses store.new) (S.longs store.old) (S.longs store.new) }
+    ensures store_goes_on { GoesOn (S.files store.old) (S.files store.new) (S.faults store.old) (S.faults store.new)
+        (S.misses store.old) (S.misses store.new) (S.longs store.old) (S.longs store.new) }
     ensures faults_never_fall { NeverFalls (O.faults out.old) (O.faults out.new) }
     ensures stays_known { StaysKnown (O.written out.old) (O.written out.new) }
 {
@@ -151,11 +162,14 @@ fn end_script<S: Store, O: Sink, L: Ledger>(
 ) -> Status
     requires kept { (bytes : List ℕ) × Keeps line.now bytes }
     ensures end { (start : World) (told : Option (List ℕ)) (before : Option (List ℕ)) (script : List ℕ)
-        → StandsWith start before script (world session.old (S.files store.old) (S.faults store.old)) line.now (O.written out.old) → Tells told script → length script ≤ MOST_SCRIPT
-        → (rest : Option (List ℕ)) → IfSome rest (λ bytes. bytes ≡ []) → IsEnd result start (world session.new (S.files store.new) (S.faults store.new)) told rest before (O.written out.new) }
+        → StandsWith start before script (world session.old (S.files store.old) (S.faults store.old)) line.now
+        (O.written out.old) → Tells told script → length script ≤ MOST_SCRIPT
+        → (rest : Option (List ℕ)) → IfSome rest (λ bytes. bytes ≡ []) → IsEnd result start
+        (world session.new (S.files store.new) (S.faults store.new)) told rest before (O.written out.new) }
     ensures status { (result ≡ Status.Ok) ⊎ (result ≡ Status.OutputFault) }
     ensures output_fault_counted { result ≡ Status.OutputFault → Rose (O.faults out.old) (O.faults out.new) }
-    ensures store_goes_on { GoesOn (S.files store.old) (S.files store.new) (S.faults store.old) (S.faults store.new) (S.misses store.old) (S.misses store.new) (S.longs store.old) (S.longs store.new) }
+    ensures store_goes_on { GoesOn (S.files store.old) (S.files store.new) (S.faults store.old) (S.faults store.new)
+        (S.misses store.old) (S.misses store.new) (S.longs store.old) (S.longs store.new) }
     ensures faults_never_fall { NeverFalls (O.faults out.old) (O.faults out.new) }
     ensures stays_known { StaysKnown (O.written out.old) (O.written out.new) }
 {
@@ -175,10 +189,13 @@ pub(crate) fn play<S: Store, I: Source, O: Sink, L: Ledger>(
     out: &mut O,
     steps: &mut Steps<L>,
 ) -> Status
-    ensures end { IsEnd result (world session.old (S.files store.old) (S.faults store.old)) (world session.new (S.files store.new) (S.faults store.new)) (I.left input.old) (I.left input.new) (O.written out.old) (O.written out.new) }
+    ensures end { IsEnd result (world session.old (S.files store.old) (S.faults store.old))
+        (world session.new (S.files store.new) (S.faults store.new)) (I.left input.old) (I.left input.new)
+        (O.written out.old) (O.written out.new) }
     ensures input_fault_counted { result ≡ Status.InputFault → Rose (I.faults input.old) (I.faults input.new) }
     ensures output_fault_counted { result ≡ Status.OutputFault → Rose (O.faults out.old) (O.faults out.new) }
-    ensures store_goes_on { GoesOn (S.files store.old) (S.files store.new) (S.faults store.old) (S.faults store.new) (S.misses store.old) (S.misses store.new) (S.longs store.old) (S.longs store.new) }
+    ensures store_goes_on { GoesOn (S.files store.old) (S.files store.new) (S.faults store.old) (S.faults store.new)
+        (S.misses store.old) (S.misses store.new) (S.longs store.old) (S.longs store.new) }
     ensures input_faults_never_fall { NeverFalls (I.faults input.old) (I.faults input.new) }
     ensures output_faults_never_fall { NeverFalls (O.faults out.old) (O.faults out.new) }
     ensures input_stays_known { StaysKnown (I.left input.old) (I.left input.new) }

@@ -1,5 +1,6 @@
 // A session over one document.
-ghost use Rattle.std.specs.Prelude.{◌≡◌, ◌≢◌, ◌≤◌, ◌+◌, ◌↔◌, ℕ, List, [], ◌∷◌, ◌++◌, Bool, true, false, length, IfOk, IfErr, OnOk, OnErr, Ok, Some, None};
+ghost use Rattle.std.specs.Prelude.{◌≡◌, ◌≢◌, ◌≤◌, ◌+◌, ◌↔◌, ℕ, List, [], ◌∷◌, ◌++◌, Bool, true};
+ghost use Rattle.std.specs.Prelude.{false, length, IfOk, IfErr, OnOk, OnErr, Ok, Some, None};
 ghost use Rattle.tx_outside.specs.Counts.{NeverFalls, Rose};
 ghost use Rattle.tx_outside.specs.Known.{StaysKnown};
 ghost use Rattle.tx_scm.specs.Canonical.{scheme_text};
@@ -90,8 +91,8 @@ fn document_edit(alloc: Global, m: &Mod) -> Result<Edit, Memory>
 }
 
 impl Session {
-    /// A session over these buffers, the document first, on pages of this width, 20 to 500 cells, and this height, 5 to 500
-    /// lines. There are 1 to 16 buffers, no two of one name. The one error is want of memory.
+    /// A session over these buffers, the document first, on pages of this width, 20 to 500 cells, and this height, 5 to
+    /// 500 lines. There are 1 to 16 buffers, no two of one name. The one error is want of memory.
     pub fn start<L: Ledger>(
         alloc: Global,
         buffers: Vec<Buffer>,
@@ -106,8 +107,10 @@ impl Session {
         requires most_width { width ≤ 500 }
         requires least_height { 5 ≤ height }
         requires most_height { height ≤ 500 }
-        ensures session { IfOk result (λ s. s ≡ record { state = opening buffers.items; width = width; height = height; fresh = false }) }
-        ensures cursor { IfOk result (λ s. IsPlace (document_of s.state.buffers) s.state.cursor.path s.state.cursor.offset) }
+        ensures session { IfOk result (λ s.
+            s ≡ record { state = opening buffers.items; width = width; height = height; fresh = false }) }
+        ensures cursor { IfOk result (λ s.
+            IsPlace (document_of s.state.buffers) s.state.cursor.path s.state.cursor.offset) }
         ensures names { IfOk result (λ s. NamesDiffer s.state.buffers) }
         ensures formed { IfOk result (λ s. AreFormed s.state.buffers) }
         ensures no_steps { _steps.new ≡ _steps.old }
@@ -162,7 +165,8 @@ impl Session {
 
     // Prints the document.
     fn tree(&self, alloc: Global) -> Reply
-        ensures { (store : Stored) → IsReply (record { session = self.now; store = store }) Command.Tree (mark_of result) (record { session = self.now; store = store }) (text_of result) }
+        ensures { (store : Stored) → IsReply (record { session = self.now; store = store }) Command.Tree
+            (mark_of result) (record { session = self.now; store = store }) (text_of result) }
     {
         match self.tree_text(alloc) {
             Ok(text) => Reply::Made(text),
@@ -172,7 +176,8 @@ impl Session {
 
     // Changes the document.
     fn change<L: Ledger>(&mut self, alloc: Global, m: &Mod, steps: &mut Steps<L>) -> Reply
-        ensures replied { (store : Stored) → IsReply (record { session = self.old; store = store }) (Command.Change m.now) (mark_of result) (record { session = self.new; store = store }) (text_of result) }
+        ensures replied { (store : Stored) → IsReply (record { session = self.old; store = store })
+            (Command.Change m.now) (mark_of result) (record { session = self.new; store = store }) (text_of result) }
         ensures counted { steps.new ≤ steps.old + cost_both_ways (m.now ∷ []) }
     {
         let _buffers = self.state.buffers();
@@ -192,7 +197,8 @@ impl Session {
 
     // Takes the last edit back.
     fn undo<L: Ledger>(&mut self, alloc: Global, steps: &mut Steps<L>) -> Reply
-        ensures replied { (store : Stored) → IsReply (record { session = self.old; store = store }) Command.Undo (mark_of result) (record { session = self.new; store = store }) (text_of result) }
+        ensures replied { (store : Stored) → IsReply (record { session = self.old; store = store }) Command.Undo
+            (mark_of result) (record { session = self.new; store = store }) (text_of result) }
         ensures counted { steps.new ≤ steps.old + first_cost self.old.state.past }
     {
         match self.state.prepare_undo(alloc, steps) {
@@ -208,7 +214,8 @@ impl Session {
 
     // Makes the edit again that was taken back last.
     fn redo<L: Ledger>(&mut self, alloc: Global, steps: &mut Steps<L>) -> Reply
-        ensures replied { (store : Stored) → IsReply (record { session = self.old; store = store }) Command.Redo (mark_of result) (record { session = self.new; store = store }) (text_of result) }
+        ensures replied { (store : Stored) → IsReply (record { session = self.old; store = store }) Command.Redo
+            (mark_of result) (record { session = self.new; store = store }) (text_of result) }
         ensures counted { steps.new ≤ steps.old + first_cost self.old.state.future }
     {
         match self.state.prepare_redo(alloc, steps) {
@@ -224,7 +231,8 @@ impl Session {
 
     // Puts the cursor at a place.
     fn go(&mut self, alloc: Global, numbers: &Path) -> Reply
-        ensures { (store : Stored) → IsReply (record { session = self.old; store = store }) (Command.Go numbers.now) (mark_of result) (record { session = self.new; store = store }) (text_of result) }
+        ensures { (store : Stored) → IsReply (record { session = self.old; store = store }) (Command.Go numbers.now)
+            (mark_of result) (record { session = self.new; store = store }) (text_of result) }
     {
         match self.state.go(alloc, numbers) {
             Ok(()) => Reply::Done,
@@ -235,7 +243,9 @@ impl Session {
 
     // Prints the cursor's place, which takes no memory.
     fn say_cursor<O: Sink>(&self, out: &mut O) -> Result<Next, WriteFault>
-        ensures said { (reply : List ℕ) × ((store : Stored) → IsReply (record { session = self.now; store = store }) Command.Cursor plain (record { session = self.now; store = store }) reply) × IsSaid result reply (O.written out.old) (O.written out.new) }
+        ensures said { (reply : List ℕ) × ((store : Stored) → IsReply (record { session = self.now; store = store })
+            Command.Cursor plain (record { session = self.now; store = store }) reply)
+            × IsSaid result reply (O.written out.old) (O.written out.new) }
         ensures goes { result ≢ Ok Next.Quit }
         ensures failed_rose { OnErr result (Rose (O.faults out.old) (O.faults out.new)) }
         ensures faults_never_fall { NeverFalls (O.faults out.old) (O.faults out.new) }
@@ -247,8 +257,10 @@ impl Session {
 
     // Saves the document.
     fn save<S: Store>(&self, alloc: Global, name: &Name, store: &mut S) -> Reply
-        ensures saved { IsReply (world self.now (S.files store.old) (S.faults store.old)) (Command.Save name.now) (mark_of result) (world self.now (S.files store.new) (S.faults store.new)) (text_of result) }
-        ensures store_goes_on { GoesOn (S.files store.old) (S.files store.new) (S.faults store.old) (S.faults store.new) (S.misses store.old) (S.misses store.new) (S.longs store.old) (S.longs store.new) }
+        ensures saved { IsReply (world self.now (S.files store.old) (S.faults store.old)) (Command.Save name.now)
+            (mark_of result) (world self.now (S.files store.new) (S.faults store.new)) (text_of result) }
+        ensures store_goes_on { GoesOn (S.files store.old) (S.files store.new) (S.faults store.old) (S.faults store.new)
+            (S.misses store.old) (S.misses store.new) (S.longs store.old) (S.longs store.new) }
         ensures store_untouched { saved_by self.now.state (Command.Save name.now) ≡ None → store.new ≡ store.old }
     {
         save(alloc, self.state.document(), name.bytes(), store)
@@ -264,14 +276,16 @@ impl Session {
         steps: &mut Steps<L>,
     ) -> Result<Next, WriteFault>
         ensures replied { (mark : Mark) × (reply : List ℕ)
-            × IsReply (world self.old (S.files store.old) (S.faults store.old)) command.now mark (world self.new (S.files store.new) (S.faults store.new)) reply
+            × IsReply (world self.old (S.files store.old) (S.faults store.old)) command.now mark
+            (world self.new (S.files store.new) (S.faults store.new)) reply
             × IsSaid result reply (O.written out.old) (O.written out.new) }
         ensures quits { result ≡ Ok Next.Quit ↔ command.now ≡ Command.Quit }
         ensures quit_writes_nothing { command.now ≡ Command.Quit → out.new ≡ out.old }
         ensures failed_rose { OnErr result (Rose (O.faults out.old) (O.faults out.new)) }
         ensures store_untouched { saved_by self.old.state command.now ≡ None → store.new ≡ store.old }
         ensures counted { steps.new ≤ steps.old + most_steps self.old.state command.now }
-        ensures store_goes_on { GoesOn (S.files store.old) (S.files store.new) (S.faults store.old) (S.faults store.new) (S.misses store.old) (S.misses store.new) (S.longs store.old) (S.longs store.new) }
+        ensures store_goes_on { GoesOn (S.files store.old) (S.files store.new) (S.faults store.old) (S.faults store.new)
+            (S.misses store.old) (S.misses store.new) (S.longs store.old) (S.longs store.new) }
         ensures faults_never_fall { NeverFalls (O.faults out.old) (O.faults out.new) }
         ensures stays_known { StaysKnown (O.written out.old) (O.written out.new) }
     {
@@ -291,12 +305,13 @@ impl Session {
         }
     }
 
-    /// Does a command: changes the state as it says, and writes its reply. Where memory runs out the reply is `no memory`, and
-    /// nothing has changed; where the store fails in saving a file the reply is `no store`, and nothing is known of that file.
+    /// Does a command: changes the state as it says, and writes its reply. Where memory runs out the reply is
+    /// `no memory`, and nothing has changed; where the store fails in saving a file the reply is `no store`, and
+    /// nothing is known of that file.
     ///
-    /// After a fault of the output a part of the reply is written, and the state is the one that the command leads to. `quit`
-    /// writes nothing, and is the one command that is answered with `Quit`. `cursor`, and `show` where the pages were made
-    /// since the document last changed, take no memory.
+    /// After a fault of the output a part of the reply is written, and the state is the one that the command leads to.
+    /// `quit` writes nothing, and is the one command that is answered with `Quit`. `cursor`, and `show` where the pages
+    /// were made since the document last changed, take no memory.
     pub fn step<S: Store, O: Sink, L: Ledger>(
         &mut self,
         alloc: Global,
@@ -306,13 +321,16 @@ impl Session {
         steps: &mut Steps<L>,
     ) -> Result<Next, WriteFault>
         ensures replied { (mark : Mark) × (reply : List ℕ)
-            × IsReply (world self.old (S.files store.old) (S.faults store.old)) command.now mark (world self.new (S.files store.new) (S.faults store.new)) reply
+            × IsReply (world self.old (S.files store.old) (S.faults store.old)) command.now mark
+            (world self.new (S.files store.new) (S.faults store.new)) reply
             × IsSaid result reply (O.written out.old) (O.written out.new) }
         ensures quits { result ≡ Ok Next.Quit ↔ command.now ≡ Command.Quit }
         ensures quit_writes_nothing { command.now ≡ Command.Quit → out.new ≡ out.old }
         ensures failed_rose { OnErr result (Rose (O.faults out.old) (O.faults out.new)) }
-        ensures no_store_counted { OnOk result ((before : List ℕ) → O.written out.old ≡ Some before → O.written out.new ≡ Some (before ++ unsaved_reply) → Rose (S.faults store.old) (S.faults store.new)) }
-        ensures cursor { IsPlace (document_of self.new.state.buffers) self.new.state.cursor.path self.new.state.cursor.offset }
+        ensures no_store_counted { OnOk result ((before : List ℕ) → O.written out.old ≡ Some before
+            → O.written out.new ≡ Some (before ++ unsaved_reply) → Rose (S.faults store.old) (S.faults store.new)) }
+        ensures cursor { IsPlace (document_of self.new.state.buffers)
+            self.new.state.cursor.path self.new.state.cursor.offset }
         ensures few { length self.new.state.buffers ≤ 16 }
         ensures names { NamesDiffer self.new.state.buffers }
         ensures formed { AreFormed self.new.state.buffers }
@@ -320,7 +338,8 @@ impl Session {
         // What stays, and what never falls.
         ensures store_untouched { saved_by self.old.state command.now ≡ None → store.new ≡ store.old }
         ensures counted { steps.new ≤ steps.old + most_steps self.old.state command.now }
-        ensures store_goes_on { GoesOn (S.files store.old) (S.files store.new) (S.faults store.old) (S.faults store.new) (S.misses store.old) (S.misses store.new) (S.longs store.old) (S.longs store.new) }
+        ensures store_goes_on { GoesOn (S.files store.old) (S.files store.new) (S.faults store.old) (S.faults store.new)
+            (S.misses store.old) (S.misses store.new) (S.longs store.old) (S.longs store.new) }
         ensures faults_never_fall { NeverFalls (O.faults out.old) (O.faults out.new) }
         ensures stays_known { StaysKnown (O.written out.old) (O.written out.new) }
     {

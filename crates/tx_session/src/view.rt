@@ -28,7 +28,8 @@ pub(crate) fn show(
     requires most_width { width ≤ 500 }
     requires least_height { 5 ≤ height }
     requires most_height { height ≤ 500 }
-    ensures { IfOk result (λ reply. MatchOption reply (IsUnplain tree.now) (λ text. IsShowing width height tree.now text.items)) }
+    ensures { IfOk result (λ reply.
+        MatchOption reply (IsUnplain tree.now) (λ text. IsShowing width height tree.now text.items)) }
 {
     let Some(texts) = plain_texts(alloc, tree)? else {
         return Ok(None);
@@ -40,12 +41,16 @@ pub(crate) fn show(
 /// A law: a tree has at most one showing on pages of a given width and height. That a plain document has one is
 /// part of what `Session::step` answers.
 pub fn one_showing()
-    ensures { (width height : ℕ) (t : WideTree) (a b : List ℕ) → IsShowing width height t a → IsShowing width height t b → a ≡ b }
+    ensures { (width height : ℕ) (t : WideTree) (a b : List ℕ) → IsShowing width height t a
+        → IsShowing width height t b → a ≡ b }
 {}
 
 /// A law: the pages hold all lines, in order; none is empty, and each but the last has as many lines as the height.
 pub fn pages_hold_lines()
-    ensures all { (height : ℕ) (lines : List (List ℕ)) → 1 ≤ height → lines_on height lines (page_count height (length lines)) ≡ lines }
-    ensures some { (height : ℕ) (lines : List (List ℕ)) (k : ℕ) → 1 ≤ height → k < page_count height (length lines) → 0 < length (page_lines height lines k) }
-    ensures full { (height : ℕ) (lines : List (List ℕ)) (k : ℕ) → 1 ≤ height → k + 1 < page_count height (length lines) → length (page_lines height lines k) ≡ height }
+    ensures all { (height : ℕ) (lines : List (List ℕ)) → 1 ≤ height
+        → lines_on height lines (page_count height (length lines)) ≡ lines }
+    ensures some { (height : ℕ) (lines : List (List ℕ)) (k : ℕ) → 1 ≤ height → k < page_count height (length lines)
+        → 0 < length (page_lines height lines k) }
+    ensures full { (height : ℕ) (lines : List (List ℕ)) (k : ℕ) → 1 ≤ height → k + 1 < page_count height (length lines)
+        → length (page_lines height lines k) ≡ height }
 {}

@@ -1,5 +1,6 @@
 -- What edits, undo, redo, a move of the cursor and a choice of a buffer make of a state.
-use Rattle.std.specs.Prelude.{◌≡◌, ◌⊎◌, ◌==◌, ℕ, if◌then◌else◌, List, [], ◌∷◌, ◌++◌, take, Option, Some, None, Result, Ok, Err, IfSome}
+use Rattle.std.specs.Prelude.{◌≡◌, ◌⊎◌, ◌==◌, ℕ, if◌then◌else◌, List, [], ◌∷◌, ◌++◌}
+use Rattle.std.specs.Prelude.{take, Option, Some, None, Result, Ok, Err, IfSome}
 use Rattle.std.specs.Option.{option_map_or}
 use Rattle.tx_tree.specs.WideTree.{WideTree}
 use Rattle.tx_tree.specs.Places.{IsPlace, IsPlaceFault}
@@ -16,11 +17,12 @@ use Rattle.tx_state.specs.declared.TheConstants.{MOST_UNDO}
 use Rattle.tx_state.specs.declared.edits.Edit.{Edit}
 use Rattle.tx_state.specs.States.{State, KeptEdit, present}
 
--- Where the cursor stands after an edit: where the edit says, or where its modifications of the document move it. An edit of
--- another buffer leaves it.
+-- Where the cursor stands after an edit: where the edit says, or where its modifications of the document move it. An
+-- edit of another buffer leaves it.
 abbrev pub cursor_after : Edit → State → Place
 cursor_after edit state =
-    option_map_or (λ at. at) edit.cursor (if edit.buffer == 0 then moved_in_turn edit.mods (document_of state.buffers) state.cursor else state.cursor)
+    option_map_or (λ at. at) edit.cursor
+    (if edit.buffer == 0 then moved_in_turn edit.mods (document_of state.buffers) state.cursor else state.cursor)
 
 -- a cursor that the edit gives is a place of the document afterwards
 abbrev pub GivesPlace : Edit → State → Type 0
@@ -28,8 +30,8 @@ GivesPlace edit state =
     (u : WideTree) → changed_in_turn edit.mods (tree_of state.buffers edit.buffer) ≡ Ok u
     → IfSome edit.cursor (λ at. IsPlace (document_of (with_tree state.buffers edit.buffer u)) at.path at.offset)
 
--- The state with the tree u in this buffer and this cursor, where modifications led there. The former moment can be taken back, of
--- as many as are kept, and what was taken back before can't be made again.
+-- The state with the tree u in this buffer and this cursor, where modifications led there. The former moment can be
+-- taken back, of as many as are kept, and what was taken back before can't be made again.
 abbrev pub edited_to : ℕ → List Mod → WideTree → Place → State → State
 edited_to buffer mods u cursor state =
     record {
@@ -54,7 +56,14 @@ turned state kept = record { moment = present state; buffer = kept.buffer; mods 
 
 -- the moment beside a kept edit is the present one
 abbrev pub at_moment : State → KeptEdit → (past future : List KeptEdit) → State
-at_moment state kept past future = record { buffers = kept.moment.buffers; selected = state.selected; cursor = kept.moment.cursor; past = past; future = future }
+at_moment state kept past future =
+    record {
+      buffers = kept.moment.buffers;
+      selected = state.selected;
+      cursor = kept.moment.cursor;
+      past = past;
+      future = future;
+    }
 
 -- the last edit is taken back, if there is one
 abbrev pub back_to : State → List KeptEdit → Option State
@@ -82,7 +91,8 @@ Goes state numbers next =
 abbrev pub IsAstray : State → List ℕ → PlaceFault → Type 0
 IsAstray state numbers fault =
     ((numbers ≡ []) × (fault ≡ NoPath 0))
-    ⊎ ((path : List ℕ) × (offset : ℕ) × (numbers ≡ path ++ offset ∷ []) × IsPlaceFault (document_of state.buffers) path offset fault)
+    ⊎ ((path : List ℕ) × (offset : ℕ) × (numbers ≡ path ++ offset ∷ [])
+    × IsPlaceFault (document_of state.buffers) path offset fault)
 
 -- the buffer of this name is selected
 abbrev pub Selects : State → List ℕ → State → Type 0

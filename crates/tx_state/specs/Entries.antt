@@ -12,7 +12,8 @@ use Rattle.tx_state.specs.States.{KeptEdit}
 
 -- the buffers after the modifications of an entry
 abbrev pub led_to : List Buffer → Entry → List Buffer
-led_to buffers entry = with_tree buffers entry.buffer (unwrap_or (made_of (changed_in_turn entry.mods (tree_of buffers entry.buffer))) (tree_of buffers entry.buffer))
+led_to buffers entry = with_tree buffers entry.buffer
+    (unwrap_or (made_of (changed_in_turn entry.mods (tree_of buffers entry.buffer))) (tree_of buffers entry.buffer))
 
 -- an entry of the past holds what takes the edit back, and one of the future the edit itself
 abbrev pub undoes : List Buffer → Entry → List Mod
@@ -25,7 +26,11 @@ redoes buffers entry = entry.mods
 abbrev pub kept_edits : (List Buffer → Entry → List Mod) → List Buffer → List Entry → List KeptEdit
 kept_edits mods buffers [] = []
 kept_edits mods buffers (entry ∷ entries) =
-    record { moment = record { buffers = led_to buffers entry; cursor = entry.cursor }; buffer = entry.buffer; mods = mods buffers entry } ∷ kept_edits mods (led_to buffers entry) entries
+    record {
+      moment = record { buffers = led_to buffers entry; cursor = entry.cursor };
+      buffer = entry.buffer;
+      mods = mods buffers entry;
+    } ∷ kept_edits mods (led_to buffers entry) entries
 
 -- the modifications of an entry apply, and its cursor is a place of the document that it leads to
 pub record Leads (buffers : List Buffer) (entry : Entry) : Type 0 where

@@ -15,18 +15,22 @@ use Rattle.tx_state.specs.States.{State, Moment, KeptEdit}
 use Rattle.tx_state.specs.Entries.{kept_edits, undoes, redoes, AllLead}
 
 abbrev moment_code : Coded Moment
-moment_code = code_by (List Buffer × Place) (coded× (coded_list one_buffer.the_row.coded) one_place.the_row.coded) (λ m. (m.buffers, m.cursor)) (λ p. record { buffers = p.0; cursor = p.1 }) (λ _. refl)
+moment_code = code_by (List Buffer × Place) (coded× (coded_list one_buffer.the_row.coded) one_place.the_row.coded)
+    (λ m. (m.buffers, m.cursor)) (λ p. record { buffers = p.0; cursor = p.1 }) (λ _. refl)
 
 abbrev edit_code : Coded KeptEdit
 edit_code =
-    code_by (Moment × (ℕ × List Mod)) (coded× moment_code (coded× coded_ℕ (coded_list one_mod.the_row.coded))) (λ e. (e.moment, (e.buffer, e.mods)))
+    code_by (Moment × (ℕ × List Mod)) (coded× moment_code (coded× coded_ℕ (coded_list one_mod.the_row.coded)))
+    (λ e. (e.moment, (e.buffer, e.mods)))
     (λ p. record { moment = p.0; buffer = p.1.0; mods = p.1.1 }) (λ _. refl)
 
 abbrev pub state_code : Coded State
 state_code =
-    code_by (Moment × (ℕ × (List KeptEdit × List KeptEdit))) (coded× moment_code (coded× coded_ℕ (coded× (coded_list edit_code) (coded_list edit_code))))
+    code_by (Moment × (ℕ × (List KeptEdit × List KeptEdit)))
+    (coded× moment_code (coded× coded_ℕ (coded× (coded_list edit_code) (coded_list edit_code))))
     (λ s. (record { buffers = s.buffers; cursor = s.cursor }, (s.selected, (s.past, s.future))))
-    (λ p. record { buffers = p.0.buffers; selected = p.1.0; cursor = p.0.cursor; past = p.1.1.0; future = p.1.1.1 }) (λ _. refl)
+    (λ p. record { buffers = p.0.buffers; selected = p.1.0; cursor = p.0.cursor; past = p.1.1.0; future = p.1.1.1 })
+    (λ _. refl)
 
 -- the newest entry leads from the present moment
 abbrev pub state_of : Inside → State

@@ -9,8 +9,8 @@ use Rattle.tx_state.specs.declared.edits.Prepared.{Prepared}
 use Rattle.tx_state.specs.Edits.{edited_to, undone, redone}
 use Rattle.tx_state.specs.States.{State, KeptEdit, present}
 
--- What stands ready leads from the state: its modifications make its tree of the buffer's tree, those that lead back are their
--- inverses and are undone by them, and its cursor is a place of the document afterwards.
+-- What stands ready leads from the state: its modifications make its tree of the buffer's tree, those that lead back
+-- are their inverses and are undone by them, and its cursor is a place of the document afterwards.
 pub record IsReady (state : State) (p : Prepared) : Type 0 where
   pub buffer : p.buffer < length state.buffers
   pub tree : changed_in_turn p.mods (tree_of state.buffers p.buffer) ≡ Ok p.tree

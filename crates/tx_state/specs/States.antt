@@ -11,15 +11,15 @@ pub record Moment : Type 0 where
   pub buffers : List Buffer
   pub cursor : Place
 
--- An edit that can be taken back, with the moment before it, or one that can be made again, with the moment behind it: the buffer
--- that it changes, and its modifications.
+-- An edit that can be taken back, with the moment before it, or one that can be made again, with the moment behind it:
+-- the buffer that it changes, and its modifications.
 pub record KeptEdit : Type 0 where
   pub moment : Moment
   pub buffer : ℕ
   pub mods : List Mod
 
--- The present moment and the number of the selected buffer; the edits that can be taken back, the last one first; and those that were
--- taken back, the last one taken back first.
+-- The present moment and the number of the selected buffer; the edits that can be taken back, the last one first; and
+-- those that were taken back, the last one taken back first.
 pub record State : Type 0 where
   pub buffers : List Buffer
   pub selected : ℕ
@@ -32,4 +32,5 @@ present state = record { buffers = state.buffers; cursor = state.cursor }
 
 -- a session begins with these buffers, the document selected
 abbrev pub opening : List Buffer → State
-opening buffers = record { buffers = buffers; selected = 0; cursor = first_cursor (document_of buffers); past = []; future = [] }
+opening buffers =
+    record { buffers = buffers; selected = 0; cursor = first_cursor (document_of buffers); past = []; future = [] }

@@ -1,5 +1,6 @@
 -- States after many edits, undos and redos.
-use Rattle.std.specs.Prelude.{◌≡◌, ◌≤◌, ◌+◌, ◌-◌, ℕ, zero, suc, min, List, [], ◌∷◌, length, take, Option, Some, None, Ok, option_and_then}
+use Rattle.std.specs.Prelude.{◌≡◌, ◌≤◌, ◌+◌, ◌-◌, ℕ, zero, suc, min, List, [], ◌∷◌}
+use Rattle.std.specs.Prelude.{length, take, Option, Some, None, Ok, option_and_then}
 use Rattle.tx_state.specs.declared.TheConstants.{MOST_UNDO}
 use Rattle.tx_state.specs.declared.edits.Edit.{Edit}
 use Rattle.tx_state.specs.States.{State}
@@ -21,8 +22,8 @@ undone_times = times undone
 abbrev pub redone_times : ℕ → State → Option State
 redone_times = times redone
 
--- v is s again after n edits and n undos: what is edited, the selected buffer, the cursor, and the edits before, of which the
--- oldest made room
+-- v is s again after n edits and n undos: what is edited, the selected buffer, the cursor, and the edits before, of
+-- which the oldest made room
 pub record IsRestored (n : ℕ) (s v : State) : Type 0 where
   pub buffers : v.buffers ≡ s.buffers
   pub selected : v.selected ≡ s.selected
@@ -31,7 +32,8 @@ pub record IsRestored (n : ℕ) (s v : State) : Type 0 where
 
 -- as many undos as edits, if they are no more than are kept, restore the state
 abbrev pub Restores : List Edit → State → State → Type 0
-Restores es s u = length es ≤ MOST_UNDO → IsEditedBy es s u → (v : State) × (undone_times (length es) u ≡ Some v) × IsRestored (length es) s v
+Restores es s u = length es ≤ MOST_UNDO → IsEditedBy es s u
+    → (v : State) × (undone_times (length es) u ≡ Some v) × IsRestored (length es) s v
 
 -- There are as many undos as there were before and edits were made, of as many as are kept, and then no more.
 abbrev pub RunsOut : List Edit → State → State → Type 0

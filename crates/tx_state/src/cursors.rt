@@ -27,8 +27,8 @@ fn to_first_leaf(t: &Tree, path: &mut Path) -> Result<bool, Memory>
     Ok(false)
 }
 
-/// The cursor at first: before the first leaf of the body, or before the body where it has none, or before the root where
-/// there is no body.
+/// The cursor at first: before the first leaf of the body, or before the body where it has none, or before the root
+/// where there is no body.
 pub(crate) fn first_cursor(alloc: Global, t: &Tree) -> Result<Place, Memory>
     ensures { IfOk result (λ at. at ≡ first_cursor t.now) }
 {

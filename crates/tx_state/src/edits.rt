@@ -3,8 +3,8 @@
 use tx_mod::ModList;
 use tx_tree::{Place, Tree};
 
-/// An edit: modifications of one buffer, in the order in which they are applied, and the cursor afterwards. Without a cursor, the
-/// modifications of the document move it, and those of another buffer leave it.
+/// An edit: modifications of one buffer, in the order in which they are applied, and the cursor afterwards. Without a
+/// cursor, the modifications of the document move it, and those of another buffer leave it.
 #[derive(Drop)]
 pub struct Edit {
     /// The number of the buffer, from 0.

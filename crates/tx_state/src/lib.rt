@@ -1,8 +1,8 @@
 //! The state of an editing session: the buffers, the cursor, and the edits that can be undone and redone.
 //!
-//! Contracts see whole former moments, and the edits between them (`specs/States.antt`). What edits, undo, redo, moves of the cursor
-//! and a choice of a buffer make of a state is in `specs/Edits.antt`. Edits, undo and redo are prepared first and then put in place
-//! (`specs/Ready.antt`). The code keeps the modifications that lead from moment to moment.
+//! Contracts see whole former moments, and the edits between them (`specs/States.antt`). What edits, undo, redo, moves
+//! of the cursor and a choice of a buffer make of a state is in `specs/Edits.antt`. Edits, undo and redo are prepared
+//! first and then put in place (`specs/Ready.antt`). The code keeps the modifications that lead from moment to moment.
 #![tactic(auto)]
 
 mod changing;

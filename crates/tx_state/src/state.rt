@@ -1,5 +1,6 @@
 // The buffers, the cursor and the history.
-ghost use Rattle.std.specs.Prelude.{◌≡◌, ◌≤◌, ◌<◌, ◌+◌, ◌∷◌, ◌==◌, List, length, if◌then◌else◌, IfOk, IfErr, OnOk, OnErr, Some, None, Ok, Err};
+ghost use Rattle.std.specs.Prelude.{◌≡◌, ◌≤◌, ◌<◌, ◌+◌, ◌∷◌, ◌==◌, List, length, if◌then◌else◌};
+ghost use Rattle.std.specs.Prelude.{IfOk, IfErr, OnOk, OnErr, Some, None, Ok, Err};
 ghost use Rattle.std.specs.Option.{option_map_or};
 ghost use Rattle.tx_tree.specs.Places.{IsPlace};
 ghost use Rattle.tx_mod.specs.InTurn.{inverses_of};
@@ -29,10 +30,11 @@ use tx_history::History;
 use tx_mod::{ApplyFault, ModList};
 use tx_tree::{Path, Place, PlaceFault, Tree};
 
-/// The buffers of a session, the document first, with a cursor in the document, and the edits that can be undone and redone.
+/// The buffers of a session, the document first, with a cursor in the document, and the edits that can be undone and
+/// redone.
 ///
-/// Contracts see the buffers, the number of the selected one, the cursor, and all former and later moments whole, with the edits
-/// between them (`specs/States.antt`).
+/// Contracts see the buffers, the number of the selected one, the cursor, and all former and later moments whole, with
+/// the edits between them (`specs/States.antt`).
 #[derive(Drop)]
 pub struct EditorState {
     buffers: Vec<Buffer>,
@@ -75,9 +77,9 @@ fn exchange(
 
 impl EditorState {
     #[tactic(auto, using(crate::proofs::Leaves::first_place, std::proofs::lemmas::Grind::common_steps))]
-    /// The state in which a session begins with these buffers, of which there are 1 to 16, no two of one name. The document is
-    /// selected. The cursor is before the first leaf of the document's body, or before the body where it has none, or before the
-    /// root where there is no body. The one error is want of memory.
+    /// The state in which a session begins with these buffers, of which there are 1 to 16, no two of one name. The
+    /// document is selected. The cursor is before the first leaf of the document's body, or before the body where it
+    /// has none, or before the root where there is no body. The one error is want of memory.
     pub fn open(alloc: Global, buffers: Vec<Buffer>) -> Result<EditorState, Memory>
         requires some { 1 ≤ length buffers.items }
         requires few { length buffers.items ≤ MOST_BUFFERS }
@@ -95,8 +97,8 @@ impl EditorState {
         })
     }
 
-    /// The buffers, the document first: 1 to 16, no two of one name, each tree well formed and within the limits. At most 1,000
-    /// edits can be undone or redone, at any time.
+    /// The buffers, the document first: 1 to 16, no two of one name, each tree well formed and within the limits. At
+    /// most 1,000 edits can be undone or redone, at any time.
     #[tactic(auto, using(crate::proofs::Moments::number_of_past, crate::proofs::Moments::number_of_future, std::proofs::lemmas::Grind::common_steps))]
     pub fn buffers(&self) -> &[Buffer]
         ensures buffers { result.now ≡ self.now.buffers }
@@ -160,9 +162,9 @@ impl EditorState {
         }
     }
 
-    /// Makes an edit ready: its modifications are applied in order, and the first cause why one can't be refuses the whole. A cursor
-    /// that the edit gives is a place of the document afterwards. The state stays as it is. It takes at most twice as many steps as
-    /// all paths have numbers, and six more for each modification.
+    /// Makes an edit ready: its modifications are applied in order, and the first cause why one can't be refuses the
+    /// whole. A cursor that the edit gives is a place of the document afterwards. The state stays as it is. It takes at
+    /// most twice as many steps as all paths have numbers, and six more for each modification.
     pub fn prepare_edit<L: Ledger>(
         &self,
         alloc: Global,
@@ -172,9 +174,11 @@ impl EditorState {
         requires buffer { edit.buffer < length self.now.buffers }
         requires cursor { GivesPlace edit self.now }
         ensures ready { IfOk result (IsReady self.now) }
-        ensures edit { IfOk result (λ p. (p.buffer ≡ edit.buffer) × (p.mods ≡ edit.mods) × (p.cursor ≡ cursor_after edit self.now)) }
+        ensures edit { IfOk result (λ p.
+            (p.buffer ≡ edit.buffer) × (p.mods ≡ edit.mods) × (p.cursor ≡ cursor_after edit self.now)) }
         ensures ok { IfOk result (λ p. edited edit self.now ≡ Ok (with_edit self.now p)) }
-        ensures refused { IfErr result (λ fault. (cause : Cause) → fault ≡ ApplyFault.Refused cause → edited edit self.now ≡ Err cause) }
+        ensures refused { IfErr result (λ fault.
+            (cause : Cause) → fault ≡ ApplyFault.Refused cause → edited edit self.now ≡ Err cause) }
         ensures counted { steps.new ≤ steps.old + cost_both_ways edit.mods }
     {
         let moving = self.moving_cursor(alloc, &edit)?;
@@ -195,8 +199,8 @@ impl EditorState {
         })
     }
 
-    /// Puts an edit in place that was made ready for this state, and answers the buffer's former tree. It takes no memory. The moment
-    /// before can be undone, of the last 1,000, and what was undone can't be redone any more.
+    /// Puts an edit in place that was made ready for this state, and answers the buffer's former tree. It takes no
+    /// memory. The moment before can be undone, of the last 1,000, and what was undone can't be redone any more.
     pub fn finish_edit(&mut self, prepared: Prepared) -> Tree
         requires { IsReady self.old prepared }
         ensures done { self.new ≡ with_edit self.old prepared }
@@ -218,16 +222,17 @@ impl EditorState {
         former
     }
 
-    /// Makes ready that the last edit is taken back, by the inverses of its modifications, from the last to the first. `Nothing` comes
-    /// exactly where there is none of the last 1,000 edits left to take back. The state stays as it is. As many steps are allowed as
-    /// for the edit.
+    /// Makes ready that the last edit is taken back, by the inverses of its modifications, from the last to the first.
+    /// `Nothing` comes exactly where there is none of the last 1,000 edits left to take back. The state stays as it is.
+    /// As many steps are allowed as for the edit.
     pub fn prepare_undo<L: Ledger>(
         &self,
         alloc: Global,
         steps: &mut Steps<L>,
     ) -> Result<Prepared, UndoFault>
         ensures ready { IfOk result (IsReadyUndo self.now) }
-        ensures inverses { IfOk result (λ p. (e : KeptEdit) (past : List KeptEdit) → self.now.past ≡ e ∷ past → (p.buffer ≡ e.buffer) × (p.mods ≡ inverses_of e.mods (tree_of e.moment.buffers e.buffer))) }
+        ensures inverses { IfOk result (λ p. (e : KeptEdit) (past : List KeptEdit) → self.now.past ≡ e ∷ past
+            → (p.buffer ≡ e.buffer) × (p.mods ≡ inverses_of e.mods (tree_of e.moment.buffers e.buffer))) }
         ensures nothing { result ≡ Err UndoFault.Nothing → undone self.now ≡ None }
         ensures counted { steps.new ≤ steps.old + first_cost self.now.past }
     {
@@ -237,8 +242,8 @@ impl EditorState {
         }
     }
 
-    /// Puts in place that the last edit is taken back, as it was made ready for this state, and answers the buffer's former tree. It
-    /// takes no memory. Buffers and cursor are those before the edit.
+    /// Puts in place that the last edit is taken back, as it was made ready for this state, and answers the buffer's
+    /// former tree. It takes no memory. Buffers and cursor are those before the edit.
     pub fn finish_undo(&mut self, prepared: Prepared) -> Tree
         requires { IsReadyUndo self.old prepared }
         ensures done { undone self.old ≡ Some self.new }
@@ -264,15 +269,16 @@ impl EditorState {
         former
     }
 
-    /// Makes ready that the edit is made again that was taken back last, by its modifications. `Nothing` comes exactly where there is
-    /// none. The state stays as it is. As many steps are allowed as for the edit.
+    /// Makes ready that the edit is made again that was taken back last, by its modifications. `Nothing` comes exactly
+    /// where there is none. The state stays as it is. As many steps are allowed as for the edit.
     pub fn prepare_redo<L: Ledger>(
         &self,
         alloc: Global,
         steps: &mut Steps<L>,
     ) -> Result<Prepared, UndoFault>
         ensures ready { IfOk result (IsReadyRedo self.now) }
-        ensures same { IfOk result (λ p. (e : KeptEdit) (future : List KeptEdit) → self.now.future ≡ e ∷ future → (p.buffer ≡ e.buffer) × (p.mods ≡ e.mods)) }
+        ensures same { IfOk result (λ p. (e : KeptEdit) (future : List KeptEdit) → self.now.future ≡ e ∷ future
+            → (p.buffer ≡ e.buffer) × (p.mods ≡ e.mods)) }
         ensures nothing { result ≡ Err UndoFault.Nothing → redone self.now ≡ None }
         ensures counted { steps.new ≤ steps.old + first_cost self.now.future }
     {
@@ -282,8 +288,8 @@ impl EditorState {
         }
     }
 
-    /// Puts in place that an edit is made again, as it was made ready for this state, and answers the buffer's former tree. It takes no
-    /// memory.
+    /// Puts in place that an edit is made again, as it was made ready for this state, and answers the buffer's former
+    /// tree. It takes no memory.
     pub fn finish_redo(&mut self, prepared: Prepared) -> Tree
         requires { IsReadyRedo self.old prepared }
         ensures done { redone self.old ≡ Some self.new }
@@ -309,11 +315,12 @@ impl EditorState {
         former
     }
 
-    /// Puts the cursor at the place that these numbers name, of which the last one is the offset. Without a number there is
-    /// no place (`NoPath(0)`). After an error the state is as before.
+    /// Puts the cursor at the place that these numbers name, of which the last one is the offset. Without a number
+    /// there is no place (`NoPath(0)`). After an error the state is as before.
     pub fn go(&mut self, alloc: Global, numbers: &Path) -> Result<(), GoFault>
         ensures ok { OnOk result (Goes self.old numbers.now self.new) }
-        ensures astray { IfErr result (λ fault. (cause : PlaceCause) → fault ≡ GoFault.Astray cause → IsAstray self.old numbers.now cause) }
+        ensures astray { IfErr result (λ fault.
+            (cause : PlaceCause) → fault ≡ GoFault.Astray cause → IsAstray self.old numbers.now cause) }
         ensures kept { OnErr result (self.new ≡ self.old) }
     {
         let mut path = numbers.copy(alloc)?;

@@ -1,8 +1,10 @@
 -- What a byte is to the syntax of TM.
-use Rattle.std.specs.Prelude.{ℕ, ◌-◌, Bool, true, false, ◌==◌, ◌||◌, ◌&&◌, nat_le, is_some, if◌then◌else◌, List, [], ◌∷◌, Option, Some, None}
+use Rattle.std.specs.Prelude.{ℕ, ◌-◌, Bool, true, false, ◌==◌, ◌||◌, ◌&&◌, nat_le}
+use Rattle.std.specs.Prelude.{is_some, if◌then◌else◌, List, [], ◌∷◌, Option, Some, None}
 use Rattle.tx_tree.specs.Labels.{is_label_byte}
 use Rattle.tx_tm_form.specs.declared.bytes.ByteKind.{ByteKind}
-use Rattle.tx_tm_form.specs.declared.bytes.ByteKind.TheVariants.{Name, Blank, Newline, Return, Less, Greater, Bar, Backslash, Hash, Slash, Other}
+use Rattle.tx_tm_form.specs.declared.bytes.ByteKind.TheVariants.{Name, Blank, Newline, Return, Less}
+use Rattle.tx_tm_form.specs.declared.bytes.ByteKind.TheVariants.{Greater, Bar, Backslash, Hash, Slash, Other}
 use Rattle.tx_tm_form.specs.declared.bytes.Escaped.{Escaped}
 use Rattle.tx_tm_form.specs.declared.bytes.Escaped.TheVariants.{Mark, Byte}
 use Rattle.tx_tm_form.specs.declared.bytes.White.{White}

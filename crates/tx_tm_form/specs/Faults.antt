@@ -1,6 +1,7 @@
 -- Why bytes spell no tree within the limits in the TM syntax: what stands open behind the first bytes, and the table by
 -- which the next byte is a fault.
-use Rattle.std.specs.Prelude.{◌≡◌, ◌⊎◌, ℕ, ◌≤◌, Bool, true, false, ◌==◌, ◌||◌, List, [], ◌∷◌, ◌++◌, length, take, get_or, map}
+use Rattle.std.specs.Prelude.{◌≡◌, ◌⊎◌, ℕ, ◌≤◌, Bool, true, false, ◌==◌, ◌||◌}
+use Rattle.std.specs.Prelude.{List, [], ◌∷◌, ◌++◌, length, take, get_or, map}
 use Rattle.std.specs.List.{AllByRecursion, flat_map}
 use Rattle.tx_tree.specs.declared.faults.ReadFault.{ReadFault}
 use Rattle.tx_tree.specs.declared.faults.ReadFault.TheVariants.{Stray, BadEscape, BadLabel, BadText, Mismatch}
@@ -9,7 +10,8 @@ use Rattle.tx_tree.specs.ReadFaults.{IsFault, Row}
 use Rattle.tx_tm_form.specs.declared.places.Form.{Form}
 use Rattle.tx_tm_form.specs.declared.places.Form.TheVariants.{Short, Long, Middle, Closing}
 use Rattle.tx_tm_form.specs.Tokens.{Token, escape, head, mark_of, written, IsToken, kept}
-use Rattle.tx_tm_form.specs.Forms.{Pieces, Arguments, Blocks, name_token, tokens_of, beginning, tokens_of_blocks, Spells}
+use Rattle.tx_tm_form.specs.Forms.{Pieces, Arguments, Blocks, name_token}
+use Rattle.tx_tm_form.specs.Forms.{tokens_of, beginning, tokens_of_blocks, Spells}
 use Rattle.tx_tm_form.specs.Machine.{Lex, ready, slashed, returned, angled, labelled}
 
 -- ---- a token that has begun
@@ -42,7 +44,8 @@ pub record IsScanned (bytes : List ℕ) (tokens : List Token) (q : Lex) : Type 0
 
 -- a symbol: `\<`, and the bytes of its name so far
 abbrev pub IsInSymbol : List Token → Type 0
-IsInSymbol tokens = (before : List Token) × (name : List ℕ) × (kept false tokens ≡ before ++ escape 60 ∷ map name_token name)
+IsInSymbol tokens =
+    (before : List Token) × (name : List ℕ) × (kept false tokens ≡ before ++ escape 60 ∷ map name_token name)
 
 -- A block of the long tag whose < is at this place: from there on stand its beginning, its blocks with the middle tags
 -- between them, and nothing of its end.
@@ -55,18 +58,21 @@ pub record IsInBlock (tokens : List Token) (place : ℕ) : Type 0 where
   pub first : Pieces
   pub others : Blocks
   pub found : tokens ≡ before ++ head Long label more ∷ behind
-  pub formed : head Long label more ∷ kept false behind ≡ beginning Long label arguments ++ (tokens_of first ++ tokens_of_blocks label others)
+  pub formed : head Long label more ∷ kept false behind
+      ≡ beginning Long label arguments ++ (tokens_of first ++ tokens_of_blocks label others)
   pub there : place ≡ length (flat_map written before)
 
 -- ---- the table
 
 -- in the label of a middle or closing tag
 abbrev pub IsInRepeated : List ℕ → List Token → Type 0
-IsInRepeated bytes tokens = (label : List ℕ) × (IsScanned bytes tokens (labelled Middle label) ⊎ IsScanned bytes tokens (labelled Closing label))
+IsInRepeated bytes tokens = (label : List ℕ)
+    × (IsScanned bytes tokens (labelled Middle label) ⊎ IsScanned bytes tokens (labelled Closing label))
 
 -- In another label, or behind all its bytes. The byte that ends a label of one byte at least can always be taken there.
 abbrev pub IsInLabel : List ℕ → Type 0
-IsInLabel bytes = (tokens : List Token) × (label : List ℕ) × (IsScanned bytes tokens (labelled Short label) ⊎ IsScanned bytes tokens (labelled Long label))
+IsInLabel bytes = (tokens : List Token) × (label : List ℕ)
+    × (IsScanned bytes tokens (labelled Short label) ⊎ IsScanned bytes tokens (labelled Long label))
 
 -- at the start of a tag, and neither | nor /
 abbrev pub IsNoForm : List ℕ → ℕ → Type 0
@@ -92,7 +98,8 @@ IsOpenTag bytes place = (tokens : List Token) × IsInRepeated bytes tokens × Is
 -- differs from that of the open tag, since nothing longer is a front.
 abbrev pub IsByteFault : List ℕ → ℕ → ℕ → ReadFault → Type 0
 IsByteFault front b n fault =
-    Row ((tokens : List Token) × IsInRepeated front tokens) ((place : ℕ) × IsOpenTag front place × (fault ≡ Mismatch place n))
+    Row ((tokens : List Token) × IsInRepeated front tokens)
+    ((place : ℕ) × IsOpenTag front place × (fault ≡ Mismatch place n))
     (Row (IsInLabel front ⊎ IsNoForm front b) (fault ≡ BadLabel n)
     (Row ((IsEscapeOpen front × ((b == 62) ≡ false)) ⊎ IsJoinOpen front) (fault ≡ BadEscape n)
     (Row (IsSymbolOpen front ⊎ (IsEscapeOpen front × ((b == 62) ≡ true))) (fault ≡ BadText n)

@@ -15,8 +15,8 @@ use Rattle.tx_tm_form.specs.Parts.{Part, gap, text, tag, content, block, long_ta
 abbrev pub AreDigits : List ℕ → Type 0
 AreDigits = AllByRecursion (λ b. is_digit b ≡ true)
 
--- A piece of content: a byte of white, a byte that stands for itself, an escape, a symbol, raw data, a short tag with its
--- arguments, or a long tag with its arguments, its first block, the middle tags, and the arguments of its end.
+-- A piece of content: a byte of white, a byte that stands for itself, an escape, a symbol, raw data, a short tag with
+-- its arguments, or a long tag with its arguments, its first block, the middle tags, and the arguments of its end.
 mutual
   pub data Piece : Type 0 where
     blank : (b : ℕ) → Piece
@@ -25,7 +25,8 @@ mutual
     symbol : (name : List ℕ) → IsName name → Piece
     raw_data : (digits : List ℕ) → AreDigits digits → Piece
     short_tag : (label : List ℕ) → IsLabel label → (arguments : Arguments) → Piece
-    long_tag_of : (label : List ℕ) → IsLabel label → (arguments : Arguments) (first : Pieces) (others : Blocks) (last : Arguments) → Piece
+    long_tag_of : (label : List ℕ) → IsLabel label
+        → (arguments : Arguments) (first : Pieces) (others : Blocks) (last : Arguments) → Piece
 
   -- content, or a block
   pub data Pieces : Type 0 where
@@ -89,7 +90,8 @@ abbrev mutual
   part_of (symbol name h) = text (symbol_bytes name)
   part_of (raw_data digits h) = tag false (node raw_data_label (forest (leaf digits ∷ [])))
   part_of (short_tag l h xs) = tag false (node l (forest (children_of xs)))
-  part_of (long_tag_of l h xs first others last) = long_tag l (children_of xs) (parts_of first) (children_of_blocks others (children_of last))
+  part_of (long_tag_of l h xs first others last) =
+      long_tag l (children_of xs) (parts_of first) (children_of_blocks others (children_of last))
 
   pub parts_of : Pieces → List Part
   parts_of nothing = []

@@ -1,5 +1,6 @@
 -- Where the machine can go on.
-use Rattle.std.specs.Prelude.{◌≡◌, ◌⊎◌, ◌≤◌, ℕ, suc, Bool, true, false, ◌==◌, ◌&&◌, List, [], ◌∷◌, length, take, Option, None}
+use Rattle.std.specs.Prelude.{◌≡◌, ◌⊎◌, ◌≤◌, ℕ, suc, Bool, true, false, ◌==◌}
+use Rattle.std.specs.Prelude.{◌&&◌, List, [], ◌∷◌, length, take, Option, None}
 use Rattle.tx_base.specs.Fronts.{IsLongestFront}
 use Rattle.tx_tree.specs.WideTree.{WideTree}
 use Rattle.tx_tm_form.specs.declared.places.Form.{Form}
@@ -7,7 +8,8 @@ use Rattle.tx_tm_form.specs.declared.places.Form.TheVariants.{Short, Long, Middl
 use Rattle.tx_tm_form.specs.declared.places.Place.{Place}
 use Rattle.tx_tm_form.specs.Forms.{Spells}
 use Rattle.tx_tm_form.specs.Growing.{Content, place_of}
-use Rattle.tx_tm_form.specs.Machine.{Open, State, reading, failed, Lex, ready, slashed, returned, angled, labelled, Bytewise, at, lost, Keeping, keep, start, run}
+use Rattle.tx_tm_form.specs.Machine.{Open, State, reading, failed, Lex, ready, slashed, returned}
+use Rattle.tx_tm_form.specs.Machine.{angled, labelled, Bytewise, at, lost, Keeping, keep, start, run}
 
 -- the bytes l are the first of m, or all
 abbrev pub begins : List ℕ → List ℕ → Bool

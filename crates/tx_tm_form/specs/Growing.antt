@@ -7,7 +7,8 @@ use Rattle.tx_tm_form.specs.declared.places.Place.{Place}
 use Rattle.tx_tm_form.specs.declared.places.Stage.{Stage}
 use Rattle.tx_tm_form.specs.declared.places.Stage.TheVariants.{Empty, Alone, Ordinary}
 use Rattle.tx_tm_form.specs.Bytes.{plus}
-use Rattle.tx_tm_form.specs.Parts.{Part, gap, text, tag, leaf_before, concat_of, document_label, collection_label, same, none}
+use Rattle.tx_tm_form.specs.Parts.{Part, gap, text, tag, leaf_before, concat_of}
+use Rattle.tx_tm_form.specs.Parts.{document_label, collection_label, same, none}
 
 -- ---- an argument, or a paragraph
 
@@ -65,7 +66,8 @@ first_stage p = Ordinary
 
 abbrev pub with_part : Stage → Block → Part → Block
 with_part Empty b p = record { full = []; now = grow no_parts p; run = None; stage = first_stage p }
-with_part s b p = record { full = ended b.run b.full b.now; now = grow (resumed b.run b.now) p; run = None; stage = Ordinary }
+with_part s b p =
+    record { full = ended b.run b.full b.now; now = grow (resumed b.run b.now) p; run = None; stage = Ordinary }
 
 abbrev pub widen : Block → Part → Block
 widen b (gap w) = with_white b.stage b w
@@ -122,7 +124,8 @@ abbrev pub put : Content → Part → Content
 put (inline place g) p = inline place (grow g p)
 put (blocks b) p = blocks (widen b p)
 put (collecting x) (gap w) = collecting (record { entries = x.entries; run = Some (longer x.run w) })
-put (collecting x) (tag c t) = collecting (record { entries = x.entries ++ record { before = x.run; collects = c; tree = t } ∷ []; run = None })
+put (collecting x) (tag c t) =
+    collecting (record { entries = x.entries ++ record { before = x.run; collects = c; tree = t } ∷ []; run = None })
 put (collecting x) (text s) = blocks (widen (as_block x) (text s))
 
 -- the argument's place, or none for a block
@@ -155,7 +158,8 @@ long_of label before c = tag false (node label (forest (before ++ block_of c ∷
 
 -- a block that follows these children of a long tag
 abbrev pub block_behind : List ℕ → List WideTree → Content
-block_behind label before = if same label collection_label && none before then collecting no_tags else blocks no_paragraphs
+block_behind label before =
+    if same label collection_label && none before then collecting no_tags else blocks no_paragraphs
 
 abbrev pub opening : Option Place → List ℕ → List WideTree → Content
 opening (Some place) label before = inline place no_parts

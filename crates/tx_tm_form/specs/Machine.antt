@@ -1,10 +1,12 @@
 -- Reading token by token, and byte by byte.
-use Rattle.std.specs.Prelude.{ℕ, Bool, true, false, ◌==◌, ◌||◌, ◌&&◌, nat_lt, nat_le, if◌then◌else◌, List, [], ◌∷◌, ◌++◌, length, Option, Some, None}
+use Rattle.std.specs.Prelude.{ℕ, Bool, true, false, ◌==◌, ◌||◌, ◌&&◌, nat_lt, nat_le}
+use Rattle.std.specs.Prelude.{if◌then◌else◌, List, [], ◌∷◌, ◌++◌, length, Option, Some, None}
 use Rattle.tx_tree.specs.declared.TheConstants.{MOST_NAME, MOST_LABEL}
 use Rattle.tx_tree.specs.Texts.{is_name_byte}
 use Rattle.tx_tree.specs.WideTree.{WideTree, leaf, node, forest}
 use Rattle.tx_tm_form.specs.declared.bytes.ByteKind.{ByteKind}
-use Rattle.tx_tm_form.specs.declared.bytes.ByteKind.TheVariants.{Name, Blank, Newline, Return, Less, Greater, Bar, Backslash, Hash, Slash}
+use Rattle.tx_tm_form.specs.declared.bytes.ByteKind.TheVariants.{Name, Blank, Newline, Return, Less}
+use Rattle.tx_tm_form.specs.declared.bytes.ByteKind.TheVariants.{Greater, Bar, Backslash, Hash, Slash}
 use Rattle.tx_tm_form.specs.declared.bytes.Escaped.{Escaped}
 use Rattle.tx_tm_form.specs.declared.places.Form.{Form}
 use Rattle.tx_tm_form.specs.declared.places.Form.TheVariants.{Short, Long, Middle, Closing}
@@ -14,7 +16,8 @@ use Rattle.tx_tm_form.specs.Bytes.{kind_of, escape_of, escaped_bytes, can_escape
 use Rattle.tx_tm_form.specs.Tokens.{Token, white, join, plain, escape, raw, head, bar, close, is_dropped}
 use Rattle.tx_tm_form.specs.Parts.{gap, text, tag, raw_data_label, same}
 use Rattle.tx_tm_form.specs.Forms.{symbol_bytes}
-use Rattle.tx_tm_form.specs.Growing.{Content, blocks, no_paragraphs, put, place_of, content_of, block_of, file_tree, long_of, opening}
+use Rattle.tx_tm_form.specs.Growing.{Content, blocks, no_paragraphs, put, place_of}
+use Rattle.tx_tm_form.specs.Growing.{content_of, block_of, file_tree, long_of, opening}
 
 -- ---- tokens
 
@@ -69,7 +72,8 @@ next_block _ label p here fs = failed
 
 -- behind a block, where a closing tag without arguments stands
 abbrev pub last_block : Option Place → List ℕ → Content → List Open → State
-last_block None label here (f ∷ fs) = go (same label f.label) (reading (put f.before (long_of f.label f.children here)) fs)
+last_block None label here (f ∷ fs) =
+    go (same label f.label) (reading (put f.before (long_of f.label f.children here)) fs)
 last_block _ label here fs = failed
 
 abbrev pub header_place : Bool → Option Place
@@ -106,7 +110,8 @@ name_end name here fs = go (nat_le 1 (length name)) (reading (put here (text (sy
 
 abbrev pub feed_naming : List ℕ → Content → List Open → Token → State
 feed_naming name here fs (plain b) = name_byte (is_name_byte b) name b here fs
-feed_naming name here fs (escape b) = if b == 62 then name_end name here fs else name_byte (b == 124 || b == 92) name b here fs
+feed_naming name here fs (escape b) =
+    if b == 62 then name_end name here fs else name_byte (b == 124 || b == 92) name b here fs
 feed_naming name here fs _ = failed
 
 abbrev pub feed_counting : List ℕ → Content → List Open → Token → State
@@ -210,7 +215,10 @@ pub record Keeping : Type 0 where
   pub state : State
 
 abbrev pub keep : Keeping → Token → Keeping
-keep k t = if is_dropped k.behind_join t then record { behind_join = true; state = k.state } else record { behind_join = false; state = feed k.state t }
+keep k t =
+    if is_dropped k.behind_join t
+    then record { behind_join = true; state = k.state }
+    else record { behind_join = false; state = feed k.state t }
 
 abbrev pub keeps : Keeping → List Token → Keeping
 keeps k [] = k

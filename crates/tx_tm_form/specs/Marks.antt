@@ -1,5 +1,6 @@
 -- The machine once more, with no trees and with the places of the open tags, and the fault where it stops.
-use Rattle.std.specs.Prelude.{ℕ, suc, ◌+◌, Bool, true, false, ◌==◌, ◌||◌, ◌&&◌, nat_lt, nat_le, if◌then◌else◌, List, [], ◌∷◌, length, Option, Some, None}
+use Rattle.std.specs.Prelude.{ℕ, suc, ◌+◌, Bool, true, false, ◌==◌, ◌||◌, ◌&&◌, nat_lt}
+use Rattle.std.specs.Prelude.{nat_le, if◌then◌else◌, List, [], ◌∷◌, length, Option, Some, None}
 use Rattle.tx_tree.specs.declared.TheConstants.{MOST_NAME}
 use Rattle.tx_tree.specs.declared.faults.ReadFault.{ReadFault}
 use Rattle.tx_tree.specs.declared.faults.ReadFault.TheVariants.{Unclosed, Stray, BadEscape, BadLabel, BadText, Mismatch}
@@ -15,7 +16,8 @@ use Rattle.tx_tm_form.specs.declared.marks.Inside.TheVariants.{Parts, Symbol, Di
 use Rattle.tx_tm_form.specs.Bytes.{escape_of, is_digit}
 use Rattle.tx_tm_form.specs.Tokens.{Token, white, join, plain, escape, raw, head, bar, close, written, is_dropped}
 use Rattle.tx_tm_form.specs.Parts.{same}
-use Rattle.tx_tm_form.specs.Machine.{header_place, Lex, ready, slashed, returned, angled, labelled, Bytewise, at, lost, step}
+use Rattle.tx_tm_form.specs.Machine.{header_place, Lex, ready, slashed, returned}
+use Rattle.tx_tm_form.specs.Machine.{angled, labelled, Bytewise, at, lost, step}
 use Rattle.tx_tm_form.specs.Fronts.{begins}
 
 -- where a byte stands, and the open tags round it, the innermost first
@@ -101,7 +103,8 @@ name_marks good length ms = if_marked (good && nat_lt length MOST_NAME) (Symbol 
 
 abbrev pub symbol_marks : ℕ → List Mark → Token → Option Standing
 symbol_marks length ms (plain b) = name_marks (is_name_byte b) length ms
-symbol_marks length ms (escape b) = if b == 62 then if_marked (nat_le 1 length) Parts ms else name_marks (b == 124 || b == 92) length ms
+symbol_marks length ms (escape b) =
+    if b == 62 then if_marked (nat_le 1 length) Parts ms else name_marks (b == 124 || b == 92) length ms
 symbol_marks length ms _ = None
 
 abbrev pub digit_marks : List Mark → Token → Option Standing
@@ -119,7 +122,8 @@ abbrev pub feed_standing : ℕ → Option Standing → Token → Option Standing
 feed_standing n None t = None
 feed_standing n (Some s) t = feed_marks n s.inside s.marks t
 
--- how many bytes have been read as tokens, whether a join and but spaces and tabs stand last, and where the next byte stands
+-- how many bytes have been read as tokens, whether a join and but spaces and tabs stand last, and where the next byte
+-- stands
 pub record Marked : Type 0 where
   pub taken : ℕ
   pub behind_join : Bool
@@ -210,7 +214,10 @@ spells_whole _ = false
 -- from place n on
 abbrev pub fault_from : ℕ → Bytewise Marked → List ℕ → Option ReadFault
 fault_from n w [] = if spells_whole w then None else Some (Unclosed n)
-fault_from n w (b ∷ bytes) = if marks_go_on (step keep_marks w b) then fault_from (suc n) (step keep_marks w b) bytes else Some (stop_fault w b n)
+fault_from n w (b ∷ bytes) =
+    if marks_go_on (step keep_marks w b)
+    then fault_from (suc n) (step keep_marks w b) bytes
+    else Some (stop_fault w b n)
 
 unfoldable pub fault_of : List ℕ → Option ReadFault
 fault_of bytes = fault_from 0 start_marks bytes

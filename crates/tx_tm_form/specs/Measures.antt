@@ -1,5 +1,7 @@
--- The machine once more, with the measures of trees in place of the trees. It takes every token, also one that is no token there.
-use Rattle.std.specs.Prelude.{◌≡◌, ℕ, ◌+◌, max, Bool, true, false, ◌==◌, ◌&&◌, if◌then◌else◌, List, [], ◌∷◌, length, Option, Some, None}
+-- The machine once more, with the measures of trees in place of the trees. It takes every token, also one that is no
+-- token there.
+use Rattle.std.specs.Prelude.{◌≡◌, ℕ, ◌+◌, max, Bool, true, false, ◌==◌, ◌&&◌}
+use Rattle.std.specs.Prelude.{if◌then◌else◌, List, [], ◌∷◌, length, Option, Some, None}
 use Rattle.tx_tree.specs.WideTree.{WideTree, forest, longest_text, widest, deepest, total_size}
 use Rattle.tx_tm_form.specs.declared.bytes.White.{White}
 use Rattle.tx_tm_form.specs.declared.bytes.White.TheVariants.{Break}
@@ -30,13 +32,27 @@ use Rattle.tx_tm_form.specs.Machine.{header_place, ready, Bytewise, at, lost}
 
 -- the measures of these trees
 abbrev pub sums_of : List WideTree → Sums
-sums_of ts = record { count = length ts; text = longest_text (forest ts); arity = widest (forest ts); depth = deepest (forest ts); size = total_size (forest ts) }
+sums_of ts =
+    record {
+      count = length ts;
+      text = longest_text (forest ts);
+      arity = widest (forest ts);
+      depth = deepest (forest ts);
+      size = total_size (forest ts);
+    }
 
 abbrev pub no_sums : Sums
 no_sums = record { count = 0; text = 0; arity = 0; depth = 0; size = 0 }
 
 abbrev pub both : Sums → Sums → Sums
-both a b = record { count = a.count + b.count; text = max a.text b.text; arity = max a.arity b.arity; depth = max a.depth b.depth; size = a.size + b.size }
+both a b =
+    record {
+      count = a.count + b.count;
+      text = max a.text b.text;
+      arity = max a.arity b.arity;
+      depth = max a.depth b.depth;
+      size = a.size + b.size;
+    }
 
 -- a leaf of so many bytes
 abbrev pub leaf_sums : ℕ → Sums
@@ -188,7 +204,8 @@ last_gauge here (o ∷ os) = between (put_sums o.before (long_sums o.children he
 abbrev pub begun_gauge : Form → Bool → List ℕ → ContentSums → List OpenSums → Gauge
 begun_gauge Short true label here os = in_open (Some InShort) (open_of here (same label collection_label) no_sums) os
 begun_gauge Short false label here os = between (put_sums here (Tag false (node_sums no_sums))) os
-begun_gauge Long more label here os = in_open (header_place more) (open_of here (same label collection_label) no_sums) os
+begun_gauge Long more label here os =
+    in_open (header_place more) (open_of here (same label collection_label) no_sums) os
 begun_gauge Middle more label here os = next_gauge (header_place more) here os
 begun_gauge Closing true label here os = next_gauge (Some InClosing) here os
 begun_gauge Closing false label here os = last_gauge here os
@@ -232,7 +249,10 @@ pub record Gauged : Type 0 where
   pub gauge : Gauge
 
 abbrev pub keep_gauge : Gauged → Token → Gauged
-keep_gauge k t = if is_dropped k.behind_join t then record { behind_join = true; gauge = k.gauge } else record { behind_join = false; gauge = feed_gauge k.gauge t }
+keep_gauge k t =
+    if is_dropped k.behind_join t
+    then record { behind_join = true; gauge = k.gauge }
+    else record { behind_join = false; gauge = feed_gauge k.gauge t }
 
 abbrev pub start_gauge : Bytewise Gauged
 start_gauge = at ready (record { behind_join = false; gauge = between (Block no_block) [] })

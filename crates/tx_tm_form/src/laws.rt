@@ -35,8 +35,10 @@ pub fn machine_reads_what_is_spelled()
 /// Bytes that the machine has taken can be continued to bytes that spell a tree, exactly where it goes on: what stands
 /// open has a closing text, and where it cannot go on, no bytes help.
 pub fn machine_goes_on_along_fronts()
-    ensures closed { (bytes : List ℕ) → goes_on (run keep start bytes) ≡ true → (more : List ℕ) × (t : WideTree) × Spells (bytes ++ more) t }
-    ensures stopped { (bytes more : List ℕ) (t : WideTree) → Spells (bytes ++ more) t → goes_on (run keep start bytes) ≡ true }
+    ensures closed { (bytes : List ℕ) → goes_on (run keep start bytes) ≡ true
+        → (more : List ℕ) × (t : WideTree) × Spells (bytes ++ more) t }
+    ensures stopped { (bytes more : List ℕ) (t : WideTree) → Spells (bytes ++ more) t
+        → goes_on (run keep start bytes) ≡ true }
 {}
 
 /// The longest front of bytes ends exactly where the machine stops.
@@ -47,9 +49,12 @@ pub fn longest_front_ends_at_the_stop()
 
 /// Bytes have at most one fault, none where they spell a tree within the limits, and one where they don't.
 pub fn bytes_have_one_fault()
-    ensures once { (bytes : List ℕ) (one other : ReadFault) → IsTmFault bytes one → IsTmFault bytes other → one ≡ other }
-    ensures none { (bytes : List ℕ) (fault : ReadFault) (t : WideTree) → IsTmFault bytes fault → Spells bytes t → IsWithinLimits t → ⊥ }
-    ensures some { (bytes : List ℕ) → ((t : WideTree) × Spells bytes t × IsWithinLimits t) ⊎ ((fault : ReadFault) × IsTmFault bytes fault) }
+    ensures once { (bytes : List ℕ) (one other : ReadFault) → IsTmFault bytes one → IsTmFault bytes other
+        → one ≡ other }
+    ensures none { (bytes : List ℕ) (fault : ReadFault) (t : WideTree) → IsTmFault bytes fault → Spells bytes t
+        → IsWithinLimits t → ⊥ }
+    ensures some { (bytes : List ℕ)
+        → ((t : WideTree) × Spells bytes t × IsWithinLimits t) ⊎ ((fault : ReadFault) × IsTmFault bytes fault) }
 {}
 
 /// The machine with marks tells the fault of bytes that spell no tree, and tells none where they spell one.

@@ -5,7 +5,8 @@ use Rattle.tx_tree.specs.declared.TheConstants.{MOST_TEXT, MOST_ARITY, MOST_DEPT
 use Rattle.tx_tree.specs.WideTree.{WideTree, forest, text_length_of, arity_of, depth_of, size_of, total_size}
 use Rattle.tx_tm_form.specs.declared.places.Stage.{Stage}
 use Rattle.tx_tm_form.specs.declared.places.Stage.TheVariants.{Empty, Alone, Ordinary}
-use Rattle.tx_tm_form.specs.Growing.{Inline, Block, no_paragraphs, Entry, Tags, tree_of_entry, with_entries, Content, inline, blocks, collecting}
+use Rattle.tx_tm_form.specs.Growing.{Inline, Block, no_paragraphs, Entry, Tags, tree_of_entry}
+use Rattle.tx_tm_form.specs.Growing.{with_entries, Content, inline, blocks, collecting}
 use Rattle.tx_tm_form.specs.Machine.{Open, State, reading, naming, counting, failed, Bytewise, at, lost, Keeping}
 
 -- a tree within the limits, also with so many nodes round it
@@ -31,7 +32,8 @@ pub record LineFits (around : ℕ) (g : Inline) : Type 0 where
 abbrev pub BlockFitsAt : Stage → ℕ → Block → Type 0
 BlockFitsAt Empty around b = Unit {0}
 BlockFitsAt Alone around b = LineFits around b.now
-BlockFitsAt Ordinary around b = RowFits around b.full × LineFits around b.now × (total_size (forest b.full) + total_size (forest b.now.done) ≤ MOST_SIZE)
+BlockFitsAt Ordinary around b = RowFits around b.full × LineFits around b.now
+    × (total_size (forest b.full) + total_size (forest b.now.done) ≤ MOST_SIZE)
 
 abbrev pub BlockFits : ℕ → Block → Type 0
 BlockFits around b = BlockFitsAt b.stage around b
@@ -56,7 +58,8 @@ ChildrenFit around (collecting x) ts = Unit {0}
 
 abbrev pub OpensFit : Content → List Open → Type 0
 OpensFit here [] = Unit {0}
-OpensFit here (f ∷ fs) = ContentFits (length fs) f.before × ChildrenFit (suc (length fs)) here f.children × OpensFit f.before fs × (length fs < MOST_DEPTH)
+OpensFit here (f ∷ fs) = ContentFits (length fs) f.before × ChildrenFit (suc (length fs)) here f.children
+    × OpensFit f.before fs × (length fs < MOST_DEPTH)
 
 abbrev pub StateFits : State → Type 0
 StateFits (reading here fs) = ContentFits (length fs) here × OpensFit here fs

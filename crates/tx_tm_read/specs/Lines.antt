@@ -10,7 +10,8 @@ use Rattle.tx_tm_read.specs.Fits.{LineFits}
 
 abbrev pub inline_code : Coded Inline
 inline_code =
-    code_by (List WideTree × (List ℕ × Bool)) (coded× (coded_list coded_WideTree) (coded× (coded_list coded_ℕ) coded_bool)) (λ g. (g.done, (g.bytes, g.in_run)))
+    code_by (List WideTree × (List ℕ × Bool))
+    (coded× (coded_list coded_WideTree) (coded× (coded_list coded_ℕ) coded_bool)) (λ g. (g.done, (g.bytes, g.in_run)))
     (λ p. record { done = p.0; bytes = p.1.0; in_run = p.1.1 }) (λ _. refl)
 
 -- the bytes behind the last tag are a text within the limit

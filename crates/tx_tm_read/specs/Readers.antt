@@ -30,7 +30,8 @@ ArePlain = AllByRecursion (λ b. is_plain (kind_of b) ≡ true)
 -- behind so many bytes, or else no tree within the limits comes of some
 abbrev pub IsAdvance : Option Advance → Bytewise Keeping → List ℕ → Type 0
 IsAdvance None w bytes = (n : ℕ) × (ReaderFits (run keep w (take n bytes)) → ⊥)
-IsAdvance (Some a) w bytes = (0 < a.taken) × (a.taken ≤ length bytes) × (reader_of a.reader ≡ run keep w (take a.taken bytes))
+IsAdvance (Some a) w bytes =
+    (0 < a.taken) × (a.taken ≤ length bytes) × (reader_of a.reader ≡ run keep w (take a.taken bytes))
 
 abbrev pub AdvanceRose : ℕ → ℕ → ℕ → Option Advance → Type 0
 AdvanceRose before after nodes None = Unit {0}

@@ -11,7 +11,8 @@ use Rattle.tx_tm_read.specs.Stands.{standing_of}
 use Rattle.tx_tm_read.specs.Words.{lex_of}
 
 abbrev pub scan_of : List ℕ → Scan → Bytewise Marked
-scan_of bytes s = at (lex_of s.lexer) (record { taken = s.taken; behind_join = s.behind_join; now = Some (standing_of bytes s.stand) })
+scan_of bytes s = at (lex_of s.lexer)
+    (record { taken = s.taken; behind_join = s.behind_join; now = Some (standing_of bytes s.stand) })
 
 -- this, or else the machine cannot go on
 abbrev pub IsScan : List ℕ → Option Scan → Bytewise Marked → Type 0

@@ -5,9 +5,11 @@ ghost use Rattle.tx_tree.specs.WideTree.{leaf, node, forest, nodes_of};
 ghost use Rattle.tx_tm_form.specs.declared.bytes.White.TheVariants.{Spaces};
 ghost use Rattle.tx_tm_form.specs.declared.places.Stage.TheVariants.{Ordinary};
 ghost use Rattle.tx_tm_form.specs.Parts.{gap, text, tag, document_label};
-ghost use Rattle.tx_tm_form.specs.Growing.{no_paragraphs, no_tags, grown, longer, ended, resumed, widen, tree_of_block, behind_run, as_block, tree_of_entry, collecting, put, place_of, grow};
+ghost use Rattle.tx_tm_form.specs.Growing.{no_paragraphs, no_tags, grown, longer, ended, resumed, widen, tree_of_block};
+ghost use Rattle.tx_tm_form.specs.Growing.{behind_run, as_block, tree_of_entry, collecting, put, place_of, grow};
 ghost use Rattle.tx_tm_read.specs.Lines.{IsMade};
-ghost use Rattle.tx_tm_read.specs.Blocks.{block_of, tags_of, content_of, tag_stage, block_at, IsGoing, IsResumed, IsBlock, IsTagged, IsTagList, IsContent};
+ghost use Rattle.tx_tm_read.specs.Blocks.{block_of, tags_of, content_of, tag_stage, block_at};
+ghost use Rattle.tx_tm_read.specs.Blocks.{IsGoing, IsResumed, IsBlock, IsTagged, IsTagList, IsContent};
 ghost use Rattle.tx_tm_read.specs.TagRows.{entry_of};
 ghost use Rattle.tx_tm_read.specs.Nodes.{nodes_in, line_nodes, block_nodes, tags_nodes, content_nodes};
 
@@ -81,7 +83,8 @@ impl Paragraphs {
         steps: &mut Steps<L>,
     ) -> Result<Option<Resumed>, Memory>
         ensures next { IfOk result (λ next. IsResumed next (block_of self)) }
-        ensures counted { IfOk result (λ next. IfSome next (λ r. steps.new + block_nodes (block_of self) ≤ steps.old + (nodes_in r.full + line_nodes r.now))) }
+        ensures counted { IfOk result (λ next. IfSome next (λ r.
+            steps.new + block_nodes (block_of self) ≤ steps.old + (nodes_in r.full + line_nodes r.now))) }
         ensures rises { steps.old ≤ steps.new }
     {
         let Paragraphs {
@@ -108,7 +111,8 @@ impl Paragraphs {
     ) -> Result<Option<Paragraphs>, Memory>
         requires { IsText items.now }
         ensures next { IfOk result (λ next. IsBlock next (widen (block_of self) (text items.now))) }
-        ensures counted { IfOk result (λ next. IfSome next (λ b. steps.new + block_nodes (block_of self) ≤ steps.old + block_nodes (block_of b))) }
+        ensures counted { IfOk result (λ next.
+            IfSome next (λ b. steps.new + block_nodes (block_of self) ≤ steps.old + block_nodes (block_of b))) }
         ensures rises { steps.old ≤ steps.new }
     {
         match self.resume(alloc, steps)? {
@@ -126,7 +130,8 @@ impl Paragraphs {
         steps: &mut Steps<L>,
     ) -> Result<Option<Paragraphs>, Memory>
         ensures next { IfOk result (λ next. IsBlock next (widen (block_of self) (tag collects tree))) }
-        ensures counted { IfOk result (λ next. IfSome next (λ b. steps.new + (block_nodes (block_of self) + nodes_of tree) ≤ steps.old + block_nodes (block_of b))) }
+        ensures counted { IfOk result (λ next. IfSome next (λ b.
+            steps.new + (block_nodes (block_of self) + nodes_of tree) ≤ steps.old + block_nodes (block_of b))) }
         ensures rises { steps.old ≤ steps.new }
     {
         let stage = tag_stage(self.stage, collects);
@@ -143,7 +148,8 @@ impl Paragraphs {
         steps: &mut Steps<L>,
     ) -> Result<Option<Tree>, Memory>
         ensures made { IfOk result (λ made. IsMade made (tree_of_block (block_of self))) }
-        ensures counted { IfOk result (λ made. IfSome made (λ t. steps.new + block_nodes (block_of self) ≤ steps.old + nodes_of t)) }
+        ensures counted { IfOk result (λ made.
+            IfSome made (λ t. steps.new + block_nodes (block_of self) ≤ steps.old + nodes_of t)) }
         ensures rises { steps.old ≤ steps.new }
     {
         let Paragraphs {
@@ -214,7 +220,8 @@ fn document_of<L: Ledger>(
     steps: &mut Steps<L>,
 ) -> Result<Option<Tree>, Memory>
     ensures made { IfOk result (λ made. IsMade made (node document_label (forest (full ++ grown now ∷ [])))) }
-    ensures counted { IfOk result (λ made. IfSome made (λ t. steps.new + (nodes_in full + line_nodes now) ≤ steps.old + nodes_of t)) }
+    ensures counted { IfOk result (λ made.
+        IfSome made (λ t. steps.new + (nodes_in full + line_nodes now) ≤ steps.old + nodes_of t)) }
     ensures rises { steps.old ≤ steps.new }
 {
     match now.finish(alloc, steps)? {
@@ -261,7 +268,8 @@ fn behind_run<L: Ledger>(
     steps: &mut Steps<L>,
 ) -> Result<Option<Resumed>, Memory>
     ensures next { IfOk result (λ next. IsGoing next (ended run full now) (resumed run now)) }
-    ensures counted { IfOk result (λ next. IfSome next (λ r. steps.new + (nodes_in full + line_nodes now) ≤ steps.old + (nodes_in r.full + line_nodes r.now))) }
+    ensures counted { IfOk result (λ next. IfSome next (λ r.
+        steps.new + (nodes_in full + line_nodes now) ≤ steps.old + (nodes_in r.full + line_nodes r.now))) }
     ensures rises { steps.old ≤ steps.new }
 {
     match run {
@@ -331,7 +339,8 @@ impl TagList {
         steps: &mut Steps<L>,
     ) -> Result<Option<Paragraphs>, Memory>
         ensures next { IfOk result (λ next. IsBlock next (as_block (tags_of self))) }
-        ensures counted { IfOk result (λ next. IfSome next (λ b. steps.new + tags_nodes (tags_of self) ≤ steps.old + block_nodes (block_of b))) }
+        ensures counted { IfOk result (λ next.
+            IfSome next (λ b. steps.new + tags_nodes (tags_of self) ≤ steps.old + block_nodes (block_of b))) }
         ensures rises { steps.old ≤ steps.new }
     {
         let TagList { entries, run } = self;
@@ -355,7 +364,8 @@ impl TagList {
     ) -> Result<Option<Paragraphs>, Memory>
         requires { IsText items.now }
         ensures next { IfOk result (λ next. IsBlock next (widen (as_block (tags_of self)) (text items.now))) }
-        ensures counted { IfOk result (λ next. IfSome next (λ b. steps.new + tags_nodes (tags_of self) ≤ steps.old + block_nodes (block_of b))) }
+        ensures counted { IfOk result (λ next.
+            IfSome next (λ b. steps.new + tags_nodes (tags_of self) ≤ steps.old + block_nodes (block_of b))) }
         ensures rises { steps.old ≤ steps.new }
     {
         match self.into_paragraphs(alloc, steps)? {
@@ -371,7 +381,8 @@ impl TagList {
         steps: &mut Steps<L>,
     ) -> Result<Option<Tree>, Memory>
         ensures made { IfOk result (λ made. IsMade made (tree_of_block (as_block (tags_of self)))) }
-        ensures counted { IfOk result (λ made. IfSome made (λ t. steps.new + tags_nodes (tags_of self) ≤ steps.old + nodes_of t)) }
+        ensures counted { IfOk result (λ made.
+            IfSome made (λ t. steps.new + tags_nodes (tags_of self) ≤ steps.old + nodes_of t)) }
         ensures rises { steps.old ≤ steps.new }
     {
         match self.into_paragraphs(alloc, steps)? {
@@ -417,7 +428,8 @@ impl Body {
     /// With white, or None where a limit is passed.
     pub(crate) fn with_white(self, white: White) -> Result<Option<Body>, Memory>
         ensures next { IfOk result (λ next. IsContent next (put (content_of self) (gap white))) }
-        ensures counted { IfOk result (λ next. IfSome next (λ b. content_nodes (content_of b) ≡ content_nodes (content_of self))) }
+        ensures counted { IfOk result (λ next.
+            IfSome next (λ b. content_nodes (content_of b) ≡ content_nodes (content_of self))) }
     {
         match self {
             Body::Argument(place, line) => match line.with_white()? {
@@ -441,7 +453,8 @@ impl Body {
     ) -> Result<Option<Body>, Memory>
         requires { IsText items.now }
         ensures next { IfOk result (λ next. IsContent next (put (content_of self) (text items.now))) }
-        ensures counted { IfOk result (λ next. IfSome next (λ b. steps.new + content_nodes (content_of self) ≤ steps.old + content_nodes (content_of b))) }
+        ensures counted { IfOk result (λ next.
+            IfSome next (λ b. steps.new + content_nodes (content_of self) ≤ steps.old + content_nodes (content_of b))) }
         ensures rises { steps.old ≤ steps.new }
     {
         match self {
@@ -469,7 +482,8 @@ impl Body {
         steps: &mut Steps<L>,
     ) -> Result<Option<Body>, Memory>
         ensures next { IfOk result (λ next. IsContent next (put (content_of self) (tag collects tree))) }
-        ensures counted { IfOk result (λ next. IfSome next (λ b. steps.new + (content_nodes (content_of self) + nodes_of tree) ≤ steps.old + content_nodes (content_of b))) }
+        ensures counted { IfOk result (λ next. IfSome next (λ b.
+            steps.new + (content_nodes (content_of self) + nodes_of tree) ≤ steps.old + content_nodes (content_of b))) }
         ensures rises { steps.old ≤ steps.new }
     {
         match self {

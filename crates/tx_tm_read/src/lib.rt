@@ -1,4 +1,5 @@
-//! The reader of TM: one pass over the bytes, with a stack of open tags, and one or two passes more where they are refused.
+//! The reader of TM: one pass over the bytes, with a stack of open tags, and one or two passes more where they are
+//! refused.
 //!
 //! What bytes spell stands in `tx_tm_form` (`specs/Forms.antt`). The reader is its machine
 //! (`specs/Machine.antt`), with trees that are made as soon as their ends are read.

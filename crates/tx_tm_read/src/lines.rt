@@ -136,7 +136,8 @@ impl Line {
         steps: &mut Steps<L>,
     ) -> Result<Option<Tree>, Memory>
         ensures made { IfOk result (λ made. IsMade made (grown self)) }
-        ensures counted { IfOk result (λ made. IfSome made (λ t. steps.new + line_nodes self ≤ steps.old + nodes_of t)) }
+        ensures counted { IfOk result (λ made.
+            IfSome made (λ t. steps.new + line_nodes self ≤ steps.old + nodes_of t)) }
         ensures rises { steps.old ≤ steps.new }
     {
         match self.into_row(alloc)? {

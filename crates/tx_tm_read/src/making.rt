@@ -66,7 +66,8 @@ pub(crate) fn make_concat<L: Ledger>(
     steps: &mut Steps<L>,
 ) -> Result<Option<Tree>, Memory>
     ensures made { IfOk result (λ made. IsMade made (concat_of trees.items)) }
-    ensures counted { IfOk result (λ made. IfSome made (λ t. steps.new + nodes_in trees.items ≤ steps.old + nodes_of t)) }
+    ensures counted { IfOk result (λ made.
+        IfSome made (λ t. steps.new + nodes_in trees.items ≤ steps.old + nodes_of t)) }
     ensures rises { steps.old ≤ steps.new }
 {
     if trees.len() >= 2 {
@@ -87,7 +88,8 @@ pub(crate) fn make_document<L: Ledger>(
     steps: &mut Steps<L>,
 ) -> Result<Option<Tree>, Memory>
     ensures made { IfOk result (λ made. IsMade made (node document_label (forest paragraphs.items))) }
-    ensures counted { IfOk result (λ made. IfSome made (λ t. steps.new + nodes_in paragraphs.items ≤ steps.old + nodes_of t)) }
+    ensures counted { IfOk result (λ made.
+        IfSome made (λ t. steps.new + nodes_in paragraphs.items ≤ steps.old + nodes_of t)) }
     ensures rises { steps.old ≤ steps.new }
 {
     let label = make_label(alloc, b"document")?;
@@ -102,7 +104,8 @@ pub(crate) fn make_collection<L: Ledger>(
     steps: &mut Steps<L>,
 ) -> Result<Option<Tree>, Memory>
     ensures made { IfOk result (λ made. IsMade made (node collection_label (forest tags.items))) }
-    ensures counted { IfOk result (λ made. IfSome made (λ t. steps.new + nodes_in tags.items ≤ steps.old + nodes_of t)) }
+    ensures counted { IfOk result (λ made.
+        IfSome made (λ t. steps.new + nodes_in tags.items ≤ steps.old + nodes_of t)) }
     ensures rises { steps.old ≤ steps.new }
 {
     let label = make_label(alloc, b"collection")?;

@@ -1,10 +1,13 @@
 // A word more, with the places of the open tags in place of their trees.
-ghost use Rattle.std.specs.Prelude.{◌≡◌, ℕ, ◌≤◌, ◌<◌, ◌+◌, ◌^◌, ◌∷◌, ◌==◌, ◌||◌, List, length, reverse, true, nat_lt, nat_le, if◌then◌else◌, IfOk, None};
+ghost use Rattle.std.specs.Prelude.{◌≡◌, ℕ, ◌≤◌, ◌<◌, ◌+◌, ◌^◌, ◌∷◌, ◌==◌, ◌||◌, List, length};
+ghost use Rattle.std.specs.Prelude.{reverse, true, nat_lt, nat_le, if◌then◌else◌, IfOk, None};
 ghost use Rattle.tx_tree.specs.Texts.{is_name_byte};
 ghost use Rattle.tx_tm_form.specs.Bytes.{escape_of, is_digit};
 ghost use Rattle.tx_tm_form.specs.Parts.{same};
 ghost use Rattle.tx_tm_form.specs.Tokens.{mark_of, written};
-ghost use Rattle.tx_tm_form.specs.Marks.{with_inner, mark_bar, mark_close, mark_next, mark_last, bar_marks, close_marks, next_marks, last_marks, begun_marks, escape_marks, part_marks, name_marks, symbol_marks, digit_marks, feed_marks};
+ghost use Rattle.tx_tm_form.specs.Marks.{with_inner, mark_bar, mark_close, mark_next, mark_last, bar_marks};
+ghost use Rattle.tx_tm_form.specs.Marks.{close_marks, next_marks, last_marks, begun_marks, escape_marks};
+ghost use Rattle.tx_tm_form.specs.Marks.{part_marks, name_marks, symbol_marks, digit_marks, feed_marks};
 ghost use Rattle.tx_tm_read.specs.Words.{token_of};
 ghost use Rattle.tx_tm_read.specs.Stands.{label_in, mark_in, marks_of, stood, StandsAt};
 
@@ -48,7 +51,8 @@ pub(crate) struct Stand {
 
 // Between parts.
 fn between(marks: Vec<OpenMark>) -> Option<Stand>
-    ensures { (bytes : List ℕ) → stood bytes result ≡ Some (record { inside = Inside.Parts; marks = marks_of bytes marks.items }) }
+    ensures { (bytes : List ℕ)
+        → stood bytes result ≡ Some (record { inside = Inside.Parts; marks = marks_of bytes marks.items }) }
 {
     Some(Stand {
         inside: Inside::Parts,
@@ -62,7 +66,10 @@ fn within(
     inner: Option<Place>,
     mut marks: Vec<OpenMark>,
 ) -> Result<Option<Stand>, Memory>
-    ensures { (bytes : List ℕ) → IfOk result (λ next. stood bytes next ≡ Some (record { inside = Inside.Parts; marks = with_inner inner (mark_in bytes mark) ∷ marks_of bytes marks.items })) }
+    ensures { (bytes : List ℕ) → IfOk result (λ next. stood bytes next ≡ Some (record {
+      inside = Inside.Parts;
+      marks = with_inner inner (mark_in bytes mark) ∷ marks_of bytes marks.items;
+    })) }
 {
     mark.inner = inner;
     marks.push(mark)?;
@@ -71,7 +78,8 @@ fn within(
 
 // Behind `|` in what stands open of the tag.
 fn bar_in(mark: OpenMark, marks: Vec<OpenMark>) -> Result<Option<Stand>, Memory>
-    ensures { (bytes : List ℕ) → IfOk result (λ next. stood bytes next ≡ mark_bar mark.inner (mark_in bytes mark ∷ marks_of bytes marks.items)) }
+    ensures { (bytes : List ℕ) → IfOk result (λ next.
+        stood bytes next ≡ mark_bar mark.inner (mark_in bytes mark ∷ marks_of bytes marks.items)) }
 {
     match mark.inner {
         None => Ok(None),
@@ -81,7 +89,8 @@ fn bar_in(mark: OpenMark, marks: Vec<OpenMark>) -> Result<Option<Stand>, Memory>
 
 // Behind `>` there.
 fn close_in(mark: OpenMark, marks: Vec<OpenMark>) -> Result<Option<Stand>, Memory>
-    ensures { (bytes : List ℕ) → IfOk result (λ next. stood bytes next ≡ mark_close mark.inner (mark_in bytes mark) (marks_of bytes marks.items)) }
+    ensures { (bytes : List ℕ) → IfOk result (λ next.
+        stood bytes next ≡ mark_close mark.inner (mark_in bytes mark) (marks_of bytes marks.items)) }
 {
     match mark.inner {
         None => Ok(None),
@@ -98,7 +107,8 @@ fn next_in(
     mark: OpenMark,
     marks: Vec<OpenMark>,
 ) -> Result<Option<Stand>, Memory>
-    ensures { IfOk result (λ next. stood bytes.now next ≡ mark_next mark.inner label.now inner (mark_in bytes.now mark) (marks_of bytes.now marks.items)) }
+    ensures { IfOk result (λ next. stood bytes.now next
+        ≡ mark_next mark.inner label.now inner (mark_in bytes.now mark) (marks_of bytes.now marks.items)) }
 {
     if mark.inner.is_some() || !same_bytes(label.bytes(), mark.label(bytes)) {
         return Ok(None);
@@ -108,7 +118,8 @@ fn next_in(
 
 // Behind a closing tag of this label without arguments.
 fn last_in(bytes: &[u8], label: &Label, mark: OpenMark, marks: Vec<OpenMark>) -> Option<Stand>
-    ensures { stood bytes.now result ≡ mark_last mark.inner label.now (mark_in bytes.now mark) (marks_of bytes.now marks.items) }
+    ensures { stood bytes.now result
+        ≡ mark_last mark.inner label.now (mark_in bytes.now mark) (marks_of bytes.now marks.items) }
 {
     if mark.inner.is_some() || !same_bytes(label.bytes(), mark.label(bytes)) {
         return None;
@@ -165,7 +176,11 @@ fn new_mark(
     inner: Option<Place>,
     marks: Vec<OpenMark>,
 ) -> Result<Option<Stand>, Memory>
-    ensures { (bytes : List ℕ) → StandsAt bytes label_at label.now → IfOk result (λ next. stood bytes next ≡ Some (record { inside = Inside.Parts; marks = record { at = at; label = label.now; inner = inner } ∷ marks_of bytes marks.items })) }
+    ensures { (bytes : List ℕ) → StandsAt bytes label_at label.now
+        → IfOk result (λ next. stood bytes next ≡ Some (record {
+          inside = Inside.Parts;
+          marks = record { at = at; label = label.now; inner = inner } ∷ marks_of bytes marks.items;
+        })) }
 {
     let mark = OpenMark {
         at,
@@ -187,7 +202,8 @@ fn begun_marks(
 ) -> Result<Option<Stand>, Memory>
     requires small { at < 2 ^ 63 }
     requires there { StandsAt bytes.now (at + (1 + length (mark_of form))) label.now }
-    ensures { IfOk result (λ next. stood bytes.now next ≡ begun_marks at form more label.now (marks_of bytes.now marks.items)) }
+    ensures { IfOk result (λ next.
+        stood bytes.now next ≡ begun_marks at form more label.now (marks_of bytes.now marks.items)) }
 {
     match form {
         Form::Short => {
@@ -238,7 +254,8 @@ fn part_marks(
 ) -> Result<Option<Stand>, Memory>
     requires small { at < 2 ^ 63 }
     requires there { StandsAt bytes.now at (written (token_of word.now)) }
-    ensures { IfOk result (λ next. stood bytes.now next ≡ part_marks at (marks_of bytes.now marks.items) (token_of word.now)) }
+    ensures { IfOk result (λ next.
+        stood bytes.now next ≡ part_marks at (marks_of bytes.now marks.items) (token_of word.now)) }
 {
     match word {
         Word::White(_) | Word::Plain(_) => Ok(between(marks)),
@@ -269,7 +286,8 @@ fn name_marks(good: bool, length: usize, marks: Vec<OpenMark>) -> Option<Stand>
 
 // A word more in the name of a symbol, behind so many bytes of it.
 fn symbol_marks(length: usize, marks: Vec<OpenMark>, word: &Word) -> Option<Stand>
-    ensures { (bytes : List ℕ) → stood bytes result ≡ symbol_marks length (marks_of bytes marks.items) (token_of word.now) }
+    ensures { (bytes : List ℕ)
+        → stood bytes result ≡ symbol_marks length (marks_of bytes marks.items) (token_of word.now) }
 {
     match word {
         Word::Plain(byte) => name_marks(is_name_byte(*byte), length, marks),
@@ -308,7 +326,8 @@ impl Stand {
     pub(crate) fn take(self, bytes: &[u8], at: usize, word: &Word) -> Result<Option<Stand>, Memory>
         requires small { at < 2 ^ 63 }
         requires there { StandsAt bytes.now at (written (token_of word.now)) }
-        ensures { IfOk result (λ next. stood bytes.now next ≡ feed_marks at self.inside (marks_of bytes.now self.marks.items) (token_of word.now)) }
+        ensures { IfOk result (λ next. stood bytes.now next
+            ≡ feed_marks at self.inside (marks_of bytes.now self.marks.items) (token_of word.now)) }
     {
         match self.inside {
             Inside::Parts => part_marks(bytes, at, self.marks, word),

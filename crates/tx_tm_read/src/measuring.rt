@@ -1,5 +1,6 @@
 // The measures of the tree that bytes spell, and the limit that it passes.
-ghost use Rattle.std.specs.Prelude.{◌≡◌, ◌+◌, ◌∷◌, [], ◌==◌, true, false, length, reverse, if◌then◌else◌, IfOk, Some, None};
+ghost use Rattle.std.specs.Prelude.{◌≡◌, ◌+◌, ◌∷◌, [], ◌==◌, true, false, length};
+ghost use Rattle.std.specs.Prelude.{reverse, if◌then◌else◌, IfOk, Some, None};
 ghost use Rattle.tx_tree.specs.WideTree.{WideTree};
 ghost use Rattle.tx_tree.specs.Limits.{IsWithinLimits};
 ghost use Rattle.tx_tree.specs.ReadFaults.{IsPassed};
@@ -7,7 +8,9 @@ ghost use Rattle.tx_tm_form.specs.Bytes.{escape_of, escaped_bytes};
 ghost use Rattle.tx_tm_form.specs.Parts.{same, collection_label};
 ghost use Rattle.tx_tm_form.specs.Forms.{Spells};
 ghost use Rattle.tx_tm_form.specs.Machine.{ready, at, step};
-ghost use Rattle.tx_tm_form.specs.Measures.{sums_of, between, in_open, child_in, closed_open, bar_gauge, close_gauge, next_gauge, last_gauge, begun_gauge, escape_gauge, part_gauge, symbol_gauge, digit_gauge, feed_gauge, keep_gauge, start_gauge, put_sums};
+ghost use Rattle.tx_tm_form.specs.Measures.{sums_of, between, in_open, child_in, closed_open, bar_gauge, close_gauge};
+ghost use Rattle.tx_tm_form.specs.Measures.{next_gauge, last_gauge, begun_gauge, escape_gauge, part_gauge};
+ghost use Rattle.tx_tm_form.specs.Measures.{symbol_gauge, digit_gauge, feed_gauge, keep_gauge, start_gauge, put_sums};
 ghost use Rattle.tx_tm_read.specs.Words.{token_of};
 ghost use Rattle.tx_tm_read.specs.Gauges.{opens_of, gauge_of, meter_of, IsMeter};
 ghost use Rattle.tx_tm_read.specs.Bounds.{IsSmall, most_of, most_in_content, most_in_open, most_in, HasRoom};
@@ -140,7 +143,9 @@ fn new_open(
     here: ContentSums,
     opens: Vec<OpenSums>,
 ) -> Result<Gauge, Memory>
-    ensures { IfOk result (λ next. gauge_of next ≡ in_open inner (record { before = here; collects = same label.now collection_label; children = sums_of [] }) (opens_of opens.items)) }
+    ensures { IfOk result (λ next. gauge_of next
+        ≡ in_open inner (record { before = here; collects = same label.now collection_label; children = sums_of [] })
+        (opens_of opens.items)) }
 {
     let tag = OpenSums {
         before: here,
@@ -356,7 +361,8 @@ fn first_passed(sums: Sums) -> (Which, u64)
 
 /// The first limit that the tree passes that the bytes spell, and its number there.
 pub(crate) fn limit(alloc: Global, bytes: &[u8]) -> Result<(Which, u64), Memory>
-    ensures { IfOk result (λ passed. (t : WideTree) → Spells bytes.now t → (IsWithinLimits t → ⊥) → IsPassed t passed.0 passed.1) }
+    ensures { IfOk result (λ passed.
+        (t : WideTree) → Spells bytes.now t → (IsWithinLimits t → ⊥) → IsPassed t passed.0 passed.1) }
 {
     let sums = measure(alloc, bytes)?;
     Ok(first_passed(sums))

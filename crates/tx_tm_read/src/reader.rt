@@ -11,7 +11,8 @@ ghost use Rattle.tx_tm_read.specs.Words.{token_of, IsGoodWord, lexed_of, IsGoodL
 ghost use Rattle.tx_tm_read.specs.Blocks.{content_of};
 ghost use Rattle.tx_tm_read.specs.Nodes.{state_nodes};
 ghost use Rattle.tx_tm_read.specs.Spots.{opens_of, state_of};
-ghost use Rattle.tx_tm_read.specs.Readers.{reader_of, IsReader, ReaderRose, ArePlain, IsAdvance, AdvanceRose, IsTreeOf, IsTree, IsRead};
+ghost use Rattle.tx_tm_read.specs.Readers.{reader_of, IsReader, ReaderRose, ArePlain};
+ghost use Rattle.tx_tm_read.specs.Readers.{IsAdvance, AdvanceRose, IsTreeOf, IsTree, IsRead};
 
 use crate::blocks::{Body, Paragraphs};
 use crate::lexer::{Lexed, Lexer, Word};
@@ -83,7 +84,8 @@ fn behind_word<L: Ledger>(
     steps: &mut Steps<L>,
 ) -> Result<Option<Reader>, Memory>
     requires { IsGoodWord word }
-    ensures next { IfOk result (λ next. IsReader next (at ready (keep (record { behind_join = behind_join; state = state_of spot }) (token_of word)))) }
+    ensures next { IfOk result (λ next.
+        IsReader next (at ready (keep (record { behind_join = behind_join; state = state_of spot }) (token_of word)))) }
     ensures counted { IfOk result (ReaderRose steps.old steps.new (state_nodes (state_of spot))) }
     ensures rises { steps.old ≤ steps.new }
 {
@@ -113,7 +115,8 @@ fn behind_lexed<L: Ledger>(
     steps: &mut Steps<L>,
 ) -> Result<Option<Reader>, Memory>
     requires { IsGoodLexed lexed }
-    ensures next { IfOk result (λ next. IsReader next (given keep (record { behind_join = behind_join; state = state_of spot }) (lexed_of lexed))) }
+    ensures next { IfOk result (λ next.
+        IsReader next (given keep (record { behind_join = behind_join; state = state_of spot }) (lexed_of lexed))) }
     ensures counted { IfOk result (ReaderRose steps.old steps.new (state_nodes (state_of spot))) }
     ensures rises { steps.old ≤ steps.new }
 {
@@ -139,7 +142,8 @@ fn whole_tree<L: Ledger>(
     steps: &mut Steps<L>,
 ) -> Result<Option<Tree>, Memory>
     ensures found { IfOk result (λ found. IsTreeOf found (reading (content_of here) (opens_of opens.items))) }
-    ensures counted { IfOk result (λ found. IfSome found (λ t. steps.new + state_nodes (reading (content_of here) (opens_of opens.items)) ≤ steps.old + nodes_of t)) }
+    ensures counted { IfOk result (λ found. IfSome found (λ t.
+        steps.new + state_nodes (reading (content_of here) (opens_of opens.items)) ≤ steps.old + nodes_of t)) }
     ensures rises { steps.old ≤ steps.new }
 {
     match opens.pop() {
@@ -155,7 +159,8 @@ impl Spot {
     // The tree, or None where what was read spells none within the limits.
     fn finish<L: Ledger>(self, alloc: Global, steps: &mut Steps<L>) -> Result<Option<Tree>, Memory>
         ensures found { IfOk result (λ found. IsTreeOf found (state_of self)) }
-        ensures counted { IfOk result (λ found. IfSome found (λ t. steps.new + state_nodes (state_of self) ≤ steps.old + nodes_of t)) }
+        ensures counted { IfOk result (λ found.
+            IfSome found (λ t. steps.new + state_nodes (state_of self) ≤ steps.old + nodes_of t)) }
         ensures rises { steps.old ≤ steps.new }
     {
         match self {
@@ -273,7 +278,8 @@ impl Reader {
     // The tree, or None where the bytes so far spell none within the limits.
     fn finish<L: Ledger>(self, alloc: Global, steps: &mut Steps<L>) -> Result<Option<Tree>, Memory>
         ensures found { IfOk result (λ found. IsTree found (reader_of self)) }
-        ensures counted { IfOk result (λ found. IfSome found (λ t. steps.new + state_nodes (state_of self.spot) ≤ steps.old + nodes_of t)) }
+        ensures counted { IfOk result (λ found.
+            IfSome found (λ t. steps.new + state_nodes (state_of self.spot) ≤ steps.old + nodes_of t)) }
         ensures rises { steps.old ≤ steps.new }
     {
         let Reader {

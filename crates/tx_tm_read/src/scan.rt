@@ -1,10 +1,12 @@
 // Why bytes spell no tree: a second pass, with no trees.
-ghost use Rattle.std.specs.Prelude.{◌≡◌, ℕ, ◌≤◌, ◌<◌, ◌+◌, ◌^◌, ◌∷◌, [], ◌++◌, ◌||◌, List, length, reverse, true, false, if◌then◌else◌, option_copied, Some, None, IfOk};
+ghost use Rattle.std.specs.Prelude.{◌≡◌, ℕ, ◌≤◌, ◌<◌, ◌+◌, ◌^◌, ◌∷◌, [], ◌++◌, ◌||◌, List, length};
+ghost use Rattle.std.specs.Prelude.{reverse, true, false, if◌then◌else◌, option_copied, Some, None, IfOk};
 ghost use Rattle.tx_tm_form.specs.Tokens.{mark_of, written};
 ghost use Rattle.tx_tm_form.specs.Machine.{ready, at, step};
 ghost use Rattle.tx_tm_form.specs.Fronts.{begins};
 ghost use Rattle.tx_tm_form.specs.Faults.{begun_bytes};
-ghost use Rattle.tx_tm_form.specs.Marks.{is_parts, is_symbol, begins_marks, form_goes_on, keep_marks, start_marks, marks_go_on, mismatch, fault_by, stop_fault, is_whole, spells_whole};
+ghost use Rattle.tx_tm_form.specs.Marks.{is_parts, is_symbol, begins_marks, form_goes_on, keep_marks, start_marks};
+ghost use Rattle.tx_tm_form.specs.Marks.{marks_go_on, mismatch, fault_by, stop_fault, is_whole, spells_whole};
 ghost use Rattle.tx_tm_read.specs.Words.{token_of, lex_of};
 ghost use Rattle.tx_tm_read.specs.Stands.{marks_of, first_mark, standing_of, StandsAt};
 ghost use Rattle.tx_tm_read.specs.Scans.{scan_of, IsScan, Tells};
@@ -116,7 +118,10 @@ fn behind_word(
 ) -> Result<Option<Scan>, Memory>
     requires small { taken < 2 ^ 63 }
     requires there { StandsAt bytes.now taken (written (token_of word.now)) }
-    ensures { IfOk result (λ next. IsScan bytes.now next (at ready (keep_marks (record { taken = taken; behind_join = behind_join; now = Some (standing_of bytes.now stand) }) (token_of word.now)))) }
+    ensures { IfOk result (λ next. IsScan bytes.now next (at ready
+        (keep_marks
+        (record { taken = taken; behind_join = behind_join; now = Some (standing_of bytes.now stand) })
+        (token_of word.now)))) }
 {
     let length = word_len(word);
     if is_dropped(behind_join, word) {

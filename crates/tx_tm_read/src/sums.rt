@@ -1,11 +1,15 @@
 // Measures of content that grows.
 //
-// What is added up fits 64 bits: each function requires it, by a bound of what it is given (`specs/Bounds.antt`). The bounds rise
-// by at most 3 for each 2 bytes, and a slice has fewer than 2^63.
+// What is added up fits 64 bits: each function requires it, by a bound of what it is given (`specs/Bounds.antt`). The
+// bounds rise by at most 3 for each 2 bytes, and a slice has fewer than 2^63.
 ghost use Rattle.std.specs.Prelude.{◌≡◌, ◌+◌, max, ◌==◌, ◌&&◌, if◌then◌else◌, true, false, Some, None};
 ghost use Rattle.tx_tm_form.specs.Growing.{longer};
-ghost use Rattle.tx_tm_form.specs.Measures.{no_sums, both, leaf_sums, node_sums, concat_sums, no_line, ended_line, line_sums, grow_line, no_block, first_stage_of, ended_sums, resumed_line, white_block, part_block, widen_block, block_at, block_sums, put_sums, body_sums, long_sums, body_behind, opening_sums};
-ghost use Rattle.tx_tm_read.specs.Bounds.{IsSmall, most_of, most_in_line, most_in_part, of_run, most_in_block, most_in_content};
+ghost use Rattle.tx_tm_form.specs.Measures.{no_sums, both, leaf_sums, node_sums, concat_sums, no_line, ended_line};
+ghost use Rattle.tx_tm_form.specs.Measures.{line_sums, grow_line, no_block, first_stage_of, ended_sums};
+ghost use Rattle.tx_tm_form.specs.Measures.{resumed_line, white_block, part_block, widen_block, block_at};
+ghost use Rattle.tx_tm_form.specs.Measures.{block_sums, put_sums, body_sums, long_sums, body_behind, opening_sums};
+ghost use Rattle.tx_tm_read.specs.Bounds.{IsSmall, most_of, most_in_line, most_in_part};
+ghost use Rattle.tx_tm_read.specs.Bounds.{of_run, most_in_block, most_in_content};
 
 use crate::blocks::longer;
 use tx_tm_form::{BlockSums, ContentSums, LineSums, PartSums, Place, Stage, Sums, White};

@@ -1,12 +1,15 @@
 // A word more.
-ghost use Rattle.std.specs.Prelude.{◌≡◌, ◌≤◌, ◌+◌, ◌∷◌, ◌++◌, [], true, false, ◌==◌, ◌||◌, if◌then◌else◌, IfOk, Some, None};
+ghost use Rattle.std.specs.Prelude.{◌≡◌, ◌≤◌, ◌+◌, ◌∷◌, ◌++◌, [], true, false};
+ghost use Rattle.std.specs.Prelude.{◌==◌, ◌||◌, if◌then◌else◌, IfOk, Some, None};
 ghost use Rattle.tx_tree.specs.Texts.{is_name_byte};
 ghost use Rattle.tx_tree.specs.WideTree.{leaf};
 ghost use Rattle.tx_tm_form.specs.Bytes.{escape_of, is_digit};
 ghost use Rattle.tx_tm_form.specs.Tokens.{escape, plain};
 ghost use Rattle.tx_tm_form.specs.Parts.{raw_data_label};
 ghost use Rattle.tx_tm_form.specs.Growing.{place_of};
-ghost use Rattle.tx_tm_form.specs.Machine.{go, with_node, reading, naming, counting, open_tag, in_tag, next_argument, last_argument, next_block, last_block, header_place, begun, by_escape, name_byte, name_end, feed_reading, feed_naming, feed_counting, feed};
+ghost use Rattle.tx_tm_form.specs.Machine.{go, with_node, reading, naming, counting, open_tag, in_tag, next_argument};
+ghost use Rattle.tx_tm_form.specs.Machine.{last_argument, next_block, last_block, header_place, begun, by_escape};
+ghost use Rattle.tx_tm_form.specs.Machine.{name_byte, name_end, feed_reading, feed_naming, feed_counting, feed};
 ghost use Rattle.tx_tm_read.specs.Words.{token_of, IsGoodWord};
 ghost use Rattle.tx_tm_read.specs.Blocks.{content_of};
 ghost use Rattle.tx_tm_read.specs.Nodes.{state_nodes};
@@ -32,7 +35,8 @@ fn open_tag(
     here: Body,
     opens: Vec<OpenTag>,
 ) -> Result<Option<Spot>, Memory>
-    ensures next { IfOk result (λ next. IsState next (in_tag place (open_tag (content_of here) label []) (opens_of opens.items))) }
+    ensures next { IfOk result (λ next.
+        IsState next (in_tag place (open_tag (content_of here) label []) (opens_of opens.items))) }
     ensures counted { IfOk result (Rose 0 0 (state_nodes (reading (content_of here) (opens_of opens.items)))) }
 {
     let tag = OpenTag {
@@ -52,8 +56,10 @@ fn go_on<L: Ledger>(
     mut opens: Vec<OpenTag>,
     steps: &mut Steps<L>,
 ) -> Result<Option<Spot>, Memory>
-    ensures next { IfOk result (λ next. IsState next (next_block (place_of (content_of here)) label place (content_of here) (opens_of opens.items))) }
-    ensures counted { IfOk result (Rose steps.old steps.new (state_nodes (reading (content_of here) (opens_of opens.items)))) }
+    ensures next { IfOk result (λ next.
+        IsState next (next_block (place_of (content_of here)) label place (content_of here) (opens_of opens.items))) }
+    ensures counted { IfOk result
+        (Rose steps.old steps.new (state_nodes (reading (content_of here) (opens_of opens.items)))) }
     ensures rises { steps.old ≤ steps.new }
 {
     match opens.pop() {
@@ -70,8 +76,10 @@ fn end_tag<L: Ledger>(
     mut opens: Vec<OpenTag>,
     steps: &mut Steps<L>,
 ) -> Result<Option<Spot>, Memory>
-    ensures next { IfOk result (λ next. IsState next (last_block (place_of (content_of here)) label (content_of here) (opens_of opens.items))) }
-    ensures counted { IfOk result (Rose steps.old steps.new (state_nodes (reading (content_of here) (opens_of opens.items)))) }
+    ensures next { IfOk result (λ next.
+        IsState next (last_block (place_of (content_of here)) label (content_of here) (opens_of opens.items))) }
+    ensures counted { IfOk result
+        (Rose steps.old steps.new (state_nodes (reading (content_of here) (opens_of opens.items)))) }
     ensures rises { steps.old ≤ steps.new }
 {
     match opens.pop() {
@@ -97,7 +105,8 @@ fn begin<L: Ledger>(
     steps: &mut Steps<L>,
 ) -> Result<Option<Spot>, Memory>
     ensures next { IfOk result (λ next. IsState next (begun form more label (content_of here) (opens_of opens.items))) }
-    ensures counted { IfOk result (Rose steps.old steps.new (state_nodes (reading (content_of here) (opens_of opens.items)))) }
+    ensures counted { IfOk result
+        (Rose steps.old steps.new (state_nodes (reading (content_of here) (opens_of opens.items)))) }
     ensures rises { steps.old ≤ steps.new }
 {
     match form {
@@ -127,8 +136,10 @@ fn take_bar<L: Ledger>(
     mut opens: Vec<OpenTag>,
     steps: &mut Steps<L>,
 ) -> Result<Option<Spot>, Memory>
-    ensures next { IfOk result (λ next. IsState next (next_argument (place_of (content_of here)) (content_of here) (opens_of opens.items))) }
-    ensures counted { IfOk result (Rose steps.old steps.new (state_nodes (reading (content_of here) (opens_of opens.items)))) }
+    ensures next { IfOk result (λ next.
+        IsState next (next_argument (place_of (content_of here)) (content_of here) (opens_of opens.items))) }
+    ensures counted { IfOk result
+        (Rose steps.old steps.new (state_nodes (reading (content_of here) (opens_of opens.items)))) }
     ensures rises { steps.old ≤ steps.new }
 {
     match here {
@@ -147,8 +158,10 @@ fn take_close<L: Ledger>(
     mut opens: Vec<OpenTag>,
     steps: &mut Steps<L>,
 ) -> Result<Option<Spot>, Memory>
-    ensures next { IfOk result (λ next. IsState next (last_argument (place_of (content_of here)) (content_of here) (opens_of opens.items))) }
-    ensures counted { IfOk result (Rose steps.old steps.new (state_nodes (reading (content_of here) (opens_of opens.items)))) }
+    ensures next { IfOk result (λ next.
+        IsState next (last_argument (place_of (content_of here)) (content_of here) (opens_of opens.items))) }
+    ensures counted { IfOk result
+        (Rose steps.old steps.new (state_nodes (reading (content_of here) (opens_of opens.items)))) }
     ensures rises { steps.old ≤ steps.new }
 {
     match here {
@@ -168,8 +181,10 @@ fn take_escape<L: Ledger>(
     opens: Vec<OpenTag>,
     steps: &mut Steps<L>,
 ) -> Result<Option<Spot>, Memory>
-    ensures next { IfOk result (λ next. IsState next (by_escape (escape_of byte) byte (content_of here) (opens_of opens.items))) }
-    ensures counted { IfOk result (Rose steps.old steps.new (state_nodes (reading (content_of here) (opens_of opens.items)))) }
+    ensures next { IfOk result (λ next.
+        IsState next (by_escape (escape_of byte) byte (content_of here) (opens_of opens.items))) }
+    ensures counted { IfOk result
+        (Rose steps.old steps.new (state_nodes (reading (content_of here) (opens_of opens.items)))) }
     ensures rises { steps.old ≤ steps.new }
 {
     match escape_of(byte) {
@@ -194,8 +209,10 @@ fn take_part<L: Ledger>(
     steps: &mut Steps<L>,
 ) -> Result<Option<Spot>, Memory>
     requires { IsGoodWord word }
-    ensures next { IfOk result (λ next. IsState next (feed_reading (content_of here) (opens_of opens.items) (token_of word))) }
-    ensures counted { IfOk result (Rose steps.old steps.new (state_nodes (reading (content_of here) (opens_of opens.items)))) }
+    ensures next { IfOk result (λ next.
+        IsState next (feed_reading (content_of here) (opens_of opens.items) (token_of word))) }
+    ensures counted { IfOk result
+        (Rose steps.old steps.new (state_nodes (reading (content_of here) (opens_of opens.items)))) }
     ensures rises { steps.old ≤ steps.new }
 {
     match word {
@@ -239,7 +256,8 @@ fn plain_on(
     here: Body,
     opens: Vec<OpenTag>,
 ) -> Result<Option<Spot>, Memory>
-    ensures { IfOk result (λ next. IsState next (name_byte (is_name_byte byte) name byte (content_of here) (opens_of opens.items))) }
+    ensures { IfOk result (λ next.
+        IsState next (name_byte (is_name_byte byte) name byte (content_of here) (opens_of opens.items))) }
 {
     if !is_name_byte(byte) {
         return Ok(None);
@@ -256,7 +274,8 @@ fn name_over<L: Ledger>(
     steps: &mut Steps<L>,
 ) -> Result<Option<Spot>, Memory>
     ensures next { IfOk result (λ next. IsState next (name_end name (content_of here) (opens_of opens.items))) }
-    ensures counted { IfOk result (Rose steps.old steps.new (state_nodes (reading (content_of here) (opens_of opens.items)))) }
+    ensures counted { IfOk result
+        (Rose steps.old steps.new (state_nodes (reading (content_of here) (opens_of opens.items)))) }
     ensures rises { steps.old ≤ steps.new }
 {
     if name.is_empty() {
@@ -275,8 +294,10 @@ fn take_name<L: Ledger>(
     opens: Vec<OpenTag>,
     steps: &mut Steps<L>,
 ) -> Result<Option<Spot>, Memory>
-    ensures next { IfOk result (λ next. IsState next (feed_naming name (content_of here) (opens_of opens.items) (token_of word.now))) }
-    ensures counted { IfOk result (Rose steps.old steps.new (state_nodes (reading (content_of here) (opens_of opens.items)))) }
+    ensures next { IfOk result (λ next.
+        IsState next (feed_naming name (content_of here) (opens_of opens.items) (token_of word.now))) }
+    ensures counted { IfOk result
+        (Rose steps.old steps.new (state_nodes (reading (content_of here) (opens_of opens.items)))) }
     ensures rises { steps.old ≤ steps.new }
 {
     match word {
@@ -295,7 +316,8 @@ fn digit_on(
     here: Body,
     opens: Vec<OpenTag>,
 ) -> Result<Option<Spot>, Memory>
-    ensures { IfOk result (λ next. IsState next (go (is_digit byte) (counting (digits ++ byte ∷ []) (content_of here) (opens_of opens.items)))) }
+    ensures { IfOk result (λ next.
+        IsState next (go (is_digit byte) (counting (digits ++ byte ∷ []) (content_of here) (opens_of opens.items)))) }
 {
     if !is_digit(byte) {
         return Ok(None);
@@ -324,8 +346,10 @@ fn digits_over<L: Ledger>(
     opens: Vec<OpenTag>,
     steps: &mut Steps<L>,
 ) -> Result<Option<Spot>, Memory>
-    ensures next { IfOk result (λ next. IsState next (with_node raw_data_label (leaf digits ∷ []) (content_of here) (opens_of opens.items))) }
-    ensures counted { IfOk result (Rose steps.old steps.new (state_nodes (reading (content_of here) (opens_of opens.items)))) }
+    ensures next { IfOk result (λ next.
+        IsState next (with_node raw_data_label (leaf digits ∷ []) (content_of here) (opens_of opens.items))) }
+    ensures counted { IfOk result
+        (Rose steps.old steps.new (state_nodes (reading (content_of here) (opens_of opens.items)))) }
     ensures rises { steps.old ≤ steps.new }
 {
     let (label, children) = raw_parts(alloc, digits)?;
@@ -341,8 +365,10 @@ fn take_digit<L: Ledger>(
     opens: Vec<OpenTag>,
     steps: &mut Steps<L>,
 ) -> Result<Option<Spot>, Memory>
-    ensures next { IfOk result (λ next. IsState next (feed_counting digits (content_of here) (opens_of opens.items) (token_of word.now))) }
-    ensures counted { IfOk result (Rose steps.old steps.new (state_nodes (reading (content_of here) (opens_of opens.items)))) }
+    ensures next { IfOk result (λ next.
+        IsState next (feed_counting digits (content_of here) (opens_of opens.items) (token_of word.now))) }
+    ensures counted { IfOk result
+        (Rose steps.old steps.new (state_nodes (reading (content_of here) (opens_of opens.items)))) }
     ensures rises { steps.old ≤ steps.new }
 {
     match word {

@@ -5,12 +5,16 @@ ghost use Rattle.tx_tree.specs.WideTree.{node, forest, nodes_of};
 ghost use Rattle.tx_tm_form.specs.Bytes.{escape_of};
 ghost use Rattle.tx_tm_form.specs.Parts.{gap, text, tag, same, collection_label};
 ghost use Rattle.tx_tm_form.specs.Growing.{inline, grown, put, place_of, block_behind, tree_of_block, tree_of_entry};
-ghost use Rattle.tx_tm_form.specs.Machine.{reading, naming, counting, in_tag, with_node, closed, next_argument, last_argument, next_block, last_block, with_child, header_place, begun, by_escape, feed_reading, feed_naming, feed_counting, feed};
+ghost use Rattle.tx_tm_form.specs.Machine.{reading, naming, counting, in_tag, with_node, closed, next_argument};
+ghost use Rattle.tx_tm_form.specs.Machine.{last_argument, next_block, last_block, with_child, header_place};
+ghost use Rattle.tx_tm_form.specs.Machine.{begun, by_escape, feed_reading, feed_naming, feed_counting, feed};
 ghost use Rattle.tx_tm_read.specs.Words.{token_of};
 ghost use Rattle.tx_tm_read.specs.Lines.{IsMade};
 ghost use Rattle.tx_tm_read.specs.Blocks.{block_of, content_of, tags_of};
-ghost use Rattle.tx_tm_read.specs.Nodes.{nodes_in, line_nodes, block_nodes, tags_nodes, content_nodes, opens_nodes, open_nodes, state_nodes};
-ghost use Rattle.tx_tm_read.specs.Spots.{open_of, opens_of, behind_argument, state_of, IsState, IsOpen, IsBlockTree, Rose};
+ghost use Rattle.tx_tm_read.specs.Nodes.{nodes_in, line_nodes, block_nodes, tags_nodes};
+ghost use Rattle.tx_tm_read.specs.Nodes.{content_nodes, opens_nodes, open_nodes, state_nodes};
+ghost use Rattle.tx_tm_read.specs.Spots.{open_of, opens_of, behind_argument};
+ghost use Rattle.tx_tm_read.specs.Spots.{state_of, IsState, IsOpen, IsBlockTree, Rose};
 
 use crate::blocks::{Body, Paragraphs, TagList};
 use crate::lexer::Word;
@@ -105,8 +109,10 @@ fn put_tag<L: Ledger>(
     opens: Vec<OpenTag>,
     steps: &mut Steps<L>,
 ) -> Result<Option<Spot>, Memory>
-    ensures next { IfOk result (λ next. IsState next (reading (put (content_of before) (tag collects tree)) (opens_of opens.items))) }
-    ensures counted { IfOk result (Rose steps.old steps.new (content_nodes (content_of before) + nodes_of tree + opens_nodes (content_of before) (opens_of opens.items))) }
+    ensures next { IfOk result (λ next.
+        IsState next (reading (put (content_of before) (tag collects tree)) (opens_of opens.items))) }
+    ensures counted { IfOk result (Rose steps.old steps.new
+        (content_nodes (content_of before) + nodes_of tree + opens_nodes (content_of before) (opens_of opens.items))) }
     ensures rises { steps.old ≤ steps.new }
 {
     match before.with_tag(alloc, collects, tree, steps)? {
@@ -121,7 +127,8 @@ pub(crate) fn put_white(
     here: Body,
     opens: Vec<OpenTag>,
 ) -> Result<Option<Spot>, Memory>
-    ensures next { IfOk result (λ next. IsState next (reading (put (content_of here) (gap white)) (opens_of opens.items))) }
+    ensures next { IfOk result (λ next.
+        IsState next (reading (put (content_of here) (gap white)) (opens_of opens.items))) }
     ensures counted { IfOk result (Rose 0 0 (state_nodes (reading (content_of here) (opens_of opens.items)))) }
 {
     match here.with_white(white)? {
@@ -139,8 +146,10 @@ pub(crate) fn put_text<L: Ledger>(
     steps: &mut Steps<L>,
 ) -> Result<Option<Spot>, Memory>
     requires { IsText items.now }
-    ensures next { IfOk result (λ next. IsState next (reading (put (content_of here) (text items.now)) (opens_of opens.items))) }
-    ensures counted { IfOk result (Rose steps.old steps.new (state_nodes (reading (content_of here) (opens_of opens.items)))) }
+    ensures next { IfOk result (λ next.
+        IsState next (reading (put (content_of here) (text items.now)) (opens_of opens.items))) }
+    ensures counted { IfOk result
+        (Rose steps.old steps.new (state_nodes (reading (content_of here) (opens_of opens.items)))) }
     ensures rises { steps.old ≤ steps.new }
 {
     match here.with_text(alloc, items, steps)? {
@@ -158,8 +167,10 @@ pub(crate) fn put_node<L: Ledger>(
     opens: Vec<OpenTag>,
     steps: &mut Steps<L>,
 ) -> Result<Option<Spot>, Memory>
-    ensures next { IfOk result (λ next. IsState next (with_node label children.items (content_of before) (opens_of opens.items))) }
-    ensures counted { IfOk result (Rose steps.old steps.new (nodes_in children.items + content_nodes (content_of before) + opens_nodes (content_of before) (opens_of opens.items))) }
+    ensures next { IfOk result (λ next.
+        IsState next (with_node label children.items (content_of before) (opens_of opens.items))) }
+    ensures counted { IfOk result (Rose steps.old steps.new (nodes_in children.items + content_nodes (content_of before)
+        + opens_nodes (content_of before) (opens_of opens.items))) }
     ensures rises { steps.old ≤ steps.new }
 {
     match make_node(alloc, label, children, steps)? {
@@ -199,8 +210,10 @@ impl OpenTag {
         opens: Vec<OpenTag>,
         steps: &mut Steps<L>,
     ) -> Result<Option<Spot>, Memory>
-        ensures next { IfOk result (λ next. IsState next (closed (with_child (open_of self) child) (opens_of opens.items))) }
-        ensures counted { IfOk result (Rose steps.old steps.new (open_nodes (with_child (open_of self) child) (opens_of opens.items))) }
+        ensures next { IfOk result (λ next.
+            IsState next (closed (with_child (open_of self) child) (opens_of opens.items))) }
+        ensures counted { IfOk result
+            (Rose steps.old steps.new (open_nodes (with_child (open_of self) child) (opens_of opens.items))) }
         ensures rises { steps.old ≤ steps.new }
     {
         match self.with_child(child)? {
@@ -220,7 +233,8 @@ impl OpenTag {
         child: Tree,
         opens: Vec<OpenTag>,
     ) -> Result<Option<Spot>, Memory>
-        ensures { IfOk result (λ next. IsState next (in_tag place (with_child (open_of self) child) (opens_of opens.items))) }
+        ensures { IfOk result (λ next.
+            IsState next (in_tag place (with_child (open_of self) child) (opens_of opens.items))) }
     {
         match self.with_child(child)? {
             None => Ok(None),
@@ -237,7 +251,8 @@ impl Body {
         steps: &mut Steps<L>,
     ) -> Result<Option<Tree>, Memory>
         ensures made { IfOk result (λ made. IsBlockTree made (content_of self)) }
-        ensures counted { IfOk result (λ made. IfSome made (λ t. steps.new + content_nodes (content_of self) ≤ steps.old + nodes_of t)) }
+        ensures counted { IfOk result (λ made.
+            IfSome made (λ t. steps.new + content_nodes (content_of self) ≤ steps.old + nodes_of t)) }
         ensures rises { steps.old ≤ steps.new }
     {
         match self {
@@ -257,8 +272,10 @@ pub(crate) fn bar_in<L: Ledger>(
     opens: Vec<OpenTag>,
     steps: &mut Steps<L>,
 ) -> Result<Option<Spot>, Memory>
-    ensures next { IfOk result (λ next. IsState next (in_tag (Some place) (with_child (open_of tag) (grown line)) (opens_of opens.items))) }
-    ensures counted { IfOk result (Rose steps.old steps.new (line_nodes line + open_nodes (open_of tag) (opens_of opens.items))) }
+    ensures next { IfOk result (λ next.
+        IsState next (in_tag (Some place) (with_child (open_of tag) (grown line)) (opens_of opens.items))) }
+    ensures counted { IfOk result
+        (Rose steps.old steps.new (line_nodes line + open_nodes (open_of tag) (opens_of opens.items))) }
     ensures rises { steps.old ≤ steps.new }
 {
     match line.finish(alloc, steps)? {
@@ -279,8 +296,10 @@ fn argument_in<L: Ledger>(
     opens: Vec<OpenTag>,
     steps: &mut Steps<L>,
 ) -> Result<Option<Spot>, Memory>
-    ensures next { IfOk result (λ next. IsState next (behind_argument place (with_child (open_of tag) child) (opens_of opens.items))) }
-    ensures counted { IfOk result (Rose steps.old steps.new (open_nodes (with_child (open_of tag) child) (opens_of opens.items))) }
+    ensures next { IfOk result (λ next.
+        IsState next (behind_argument place (with_child (open_of tag) child) (opens_of opens.items))) }
+    ensures counted { IfOk result
+        (Rose steps.old steps.new (open_nodes (with_child (open_of tag) child) (opens_of opens.items))) }
     ensures rises { steps.old ≤ steps.new }
 {
     match place {
@@ -299,8 +318,10 @@ pub(crate) fn close_in<L: Ledger>(
     opens: Vec<OpenTag>,
     steps: &mut Steps<L>,
 ) -> Result<Option<Spot>, Memory>
-    ensures next { IfOk result (λ next. IsState next (last_argument (Some place) (inline place line) (open_of tag ∷ opens_of opens.items))) }
-    ensures counted { IfOk result (Rose steps.old steps.new (line_nodes line + open_nodes (open_of tag) (opens_of opens.items))) }
+    ensures next { IfOk result (λ next.
+        IsState next (last_argument (Some place) (inline place line) (open_of tag ∷ opens_of opens.items))) }
+    ensures counted { IfOk result
+        (Rose steps.old steps.new (line_nodes line + open_nodes (open_of tag) (opens_of opens.items))) }
     ensures rises { steps.old ≤ steps.new }
 {
     match line.finish(alloc, steps)? {
@@ -322,8 +343,10 @@ pub(crate) fn next_in<L: Ledger>(
     opens: Vec<OpenTag>,
     steps: &mut Steps<L>,
 ) -> Result<Option<Spot>, Memory>
-    ensures next { IfOk result (λ next. IsState next (next_block (place_of (content_of here)) label.now place (content_of here) (open_of tag ∷ opens_of opens.items))) }
-    ensures counted { IfOk result (Rose steps.old steps.new (content_nodes (content_of here) + open_nodes (open_of tag) (opens_of opens.items))) }
+    ensures next { IfOk result (λ next. IsState next (next_block (place_of (content_of here)) label.now place
+        (content_of here) (open_of tag ∷ opens_of opens.items))) }
+    ensures counted { IfOk result
+        (Rose steps.old steps.new (content_nodes (content_of here) + open_nodes (open_of tag) (opens_of opens.items))) }
     ensures rises { steps.old ≤ steps.new }
 {
     if !same_bytes(label.bytes(), tag.label.bytes()) {
@@ -343,8 +366,10 @@ fn behind_block<L: Ledger>(
     steps: &mut Steps<L>,
 ) -> Result<Option<Spot>, Memory>
     requires { same label.now tag.label ≡ true }
-    ensures next { IfOk result (λ next. IsState next (next_block (place_of (content_of here)) label.now place (content_of here) (open_of tag ∷ opens_of opens.items))) }
-    ensures counted { IfOk result (Rose steps.old steps.new (content_nodes (content_of here) + open_nodes (open_of tag) (opens_of opens.items))) }
+    ensures next { IfOk result (λ next. IsState next (next_block (place_of (content_of here)) label.now place
+        (content_of here) (open_of tag ∷ opens_of opens.items))) }
+    ensures counted { IfOk result
+        (Rose steps.old steps.new (content_nodes (content_of here) + open_nodes (open_of tag) (opens_of opens.items))) }
     ensures rises { steps.old ≤ steps.new }
 {
     match here.finish_block(alloc, steps)? {
@@ -363,8 +388,10 @@ impl TagList {
         alloc: Global,
         steps: &mut Steps<L>,
     ) -> Result<Option<Tree>, Memory>
-        ensures made { IfOk result (λ made. IsMade made (node collection_label (forest (map tree_of_entry (tags_of self).entries)))) }
-        ensures counted { IfOk result (λ made. IfSome made (λ t. steps.new + tags_nodes (tags_of self) ≤ steps.old + nodes_of t)) }
+        ensures made { IfOk result (λ made.
+            IsMade made (node collection_label (forest (map tree_of_entry (tags_of self).entries)))) }
+        ensures counted { IfOk result (λ made.
+            IfSome made (λ t. steps.new + tags_nodes (tags_of self) ≤ steps.old + nodes_of t)) }
         ensures rises { steps.old ≤ steps.new }
     {
         make_collection(alloc, self.into_trees(alloc)?, steps)
@@ -379,8 +406,12 @@ fn collection_in<L: Ledger>(
     opens: Vec<OpenTag>,
     steps: &mut Steps<L>,
 ) -> Result<Option<Spot>, Memory>
-    ensures next { IfOk result (λ next. IsState next (reading (put (content_of before) (tag true (node collection_label (forest (map tree_of_entry (tags_of tags).entries))))) (opens_of opens.items))) }
-    ensures counted { IfOk result (Rose steps.old steps.new (tags_nodes (tags_of tags) + content_nodes (content_of before) + opens_nodes (content_of before) (opens_of opens.items))) }
+    ensures next { IfOk result (λ next. IsState next (reading
+        (put (content_of before)
+        (tag true (node collection_label (forest (map tree_of_entry (tags_of tags).entries)))))
+        (opens_of opens.items))) }
+    ensures counted { IfOk result (Rose steps.old steps.new (tags_nodes (tags_of tags)
+        + content_nodes (content_of before) + opens_nodes (content_of before) (opens_of opens.items))) }
     ensures rises { steps.old ≤ steps.new }
 {
     match tags.collection(alloc, steps)? {
@@ -398,8 +429,10 @@ pub(crate) fn last_in<L: Ledger>(
     opens: Vec<OpenTag>,
     steps: &mut Steps<L>,
 ) -> Result<Option<Spot>, Memory>
-    ensures next { IfOk result (λ next. IsState next (last_block (place_of (content_of here)) label.now (content_of here) (open_of tag ∷ opens_of opens.items))) }
-    ensures counted { IfOk result (Rose steps.old steps.new (state_nodes (reading (content_of here) (open_of tag ∷ opens_of opens.items)))) }
+    ensures next { IfOk result (λ next. IsState next
+        (last_block (place_of (content_of here)) label.now (content_of here) (open_of tag ∷ opens_of opens.items))) }
+    ensures counted { IfOk result
+        (Rose steps.old steps.new (state_nodes (reading (content_of here) (open_of tag ∷ opens_of opens.items)))) }
     ensures rises { steps.old ≤ steps.new }
 {
     if !same_bytes(label.bytes(), tag.label.bytes()) {
@@ -418,8 +451,10 @@ fn behind_last<L: Ledger>(
     steps: &mut Steps<L>,
 ) -> Result<Option<Spot>, Memory>
     requires { same label.now tag.label ≡ true }
-    ensures next { IfOk result (λ next. IsState next (last_block (place_of (content_of here)) label.now (content_of here) (open_of tag ∷ opens_of opens.items))) }
-    ensures counted { IfOk result (Rose steps.old steps.new (state_nodes (reading (content_of here) (open_of tag ∷ opens_of opens.items)))) }
+    ensures next { IfOk result (λ next. IsState next
+        (last_block (place_of (content_of here)) label.now (content_of here) (open_of tag ∷ opens_of opens.items))) }
+    ensures counted { IfOk result
+        (Rose steps.old steps.new (state_nodes (reading (content_of here) (open_of tag ∷ opens_of opens.items)))) }
     ensures rises { steps.old ≤ steps.new }
 {
     match here {
@@ -437,8 +472,10 @@ fn block_in<L: Ledger>(
     opens: Vec<OpenTag>,
     steps: &mut Steps<L>,
 ) -> Result<Option<Spot>, Memory>
-    ensures next { IfOk result (λ next. IsState next (closed (with_child (open_of tag) (tree_of_block (block_of block))) (opens_of opens.items))) }
-    ensures counted { IfOk result (Rose steps.old steps.new (block_nodes (block_of block) + open_nodes (open_of tag) (opens_of opens.items))) }
+    ensures next { IfOk result (λ next.
+        IsState next (closed (with_child (open_of tag) (tree_of_block (block_of block))) (opens_of opens.items))) }
+    ensures counted { IfOk result
+        (Rose steps.old steps.new (block_nodes (block_of block) + open_nodes (open_of tag) (opens_of opens.items))) }
     ensures rises { steps.old ≤ steps.new }
 {
     match block.finish(alloc, steps)? {

@@ -1,12 +1,13 @@
 -- The canonical TM text of a block.
-use Rattle.std.specs.Prelude.{ℕ, ◌+◌, Bool, true, false, ◌&&◌, ◌||◌, ◌==◌, not, nat_lt, if◌then◌else◌, List, [], ◌∷◌, ◌++◌}
+use Rattle.std.specs.Prelude.{ℕ, ◌+◌, Bool, true, false, ◌&&◌, ◌||◌, ◌==◌}
+use Rattle.std.specs.Prelude.{not, nat_lt, if◌then◌else◌, List, [], ◌∷◌, ◌++◌}
 use Rattle.tx_tree.specs.WideTree.{WideTree, Forest, leaf, node, nil, cons}
 use Rattle.tx_tm_form.specs.Parts.{same, document_label, collection_label}
 use Rattle.tx_tm_write.specs.Shapes.{some, is_block, has_block, is_empty, is_inline, is_raw, is_long, digits_of}
 
 -- ---- items
--- In a text, < and > stand only round the name of a symbol, and a name has no spaces and no control bytes. So items can be
--- written byte by byte.
+-- In a text, < and > stand only round the name of a symbol, and a name has no spaces and no control bytes. So items can
+-- be written byte by byte.
 
 -- a byte that stands behind a backslash as it is
 abbrev pub is_marked : ℕ → Bool
@@ -29,11 +30,12 @@ abbrev pub is_held : Bool → List ℕ → Bool
 is_held behind [] = behind
 is_held behind (b ∷ text) = not (b == 32)
 
--- The items of a text. A space is raw where a part that is no space stands on both sides. The two tests tell whether one
--- stands before and behind the text.
+-- The items of a text. A space is raw where a part that is no space stands on both sides. The two tests tell whether
+-- one stands before and behind the text.
 abbrev pub items_text : Bool → Bool → List ℕ → List ℕ
 items_text before behind [] = []
-items_text before behind (b ∷ text) = byte_text (before && is_held behind text) b ++ items_text (not (b == 32)) behind text
+items_text before behind (b ∷ text) =
+    byte_text (before && is_held behind text) b ++ items_text (not (b == 32)) behind text
 
 -- ---- trees
 
@@ -76,7 +78,8 @@ abbrev mutual
 
   pub content_text : WideTree → List ℕ
   content_text (leaf text) = items_text false false text
-  content_text (node label ts) = if is_inline label ts then parts_text false ts else tag_text label ts (long_text label ts) (arguments_text ts)
+  content_text (node label ts) =
+      if is_inline label ts then parts_text false ts else tag_text label ts (long_text label ts) (arguments_text ts)
 
   -- parts side by side
   pub parts_text : Bool → Forest → List ℕ
@@ -91,7 +94,9 @@ abbrev mutual
   -- behind the beginning of a long tag: its arguments, its blocks, and its other tags
   pub long_text : List ℕ → Forest → List ℕ
   long_text label nil = 62 ∷ []
-  long_text label (cons t ts) = (if is_block t then with_lines label (has_block ts) (block_text t) else 124 ∷ content_text t) ++ long_text label ts
+  long_text label (cons t ts) =
+      (if is_block t then with_lines label (has_block ts) (block_text t) else 124 ∷ content_text t)
+      ++ long_text label ts
 
   -- the text of a block
   pub block_text : WideTree → List ℕ

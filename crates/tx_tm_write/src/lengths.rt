@@ -3,7 +3,9 @@
 ghost use Rattle.std.specs.Prelude.{◌≡◌, ◌<◌, ◌≤◌, ◌+◌, ◌^◌, ◌++◌, ◌∷◌, [], true, false, length, take, drop};
 ghost use Rattle.tx_tree.specs.WideTree.{forest, children_of, label_of};
 ghost use Rattle.tx_tm_write.specs.Shapes.{some, is_block, has_block, is_raw};
-ghost use Rattle.tx_tm_write.specs.Canonical.{byte_text, items_text, opened, part_text, content_text, parts_text, arguments_text, long_text, long_part, paragraph_text, between, block_text, paragraphs_text, with_ends, tags_text, tm_text};
+ghost use Rattle.tx_tm_write.specs.Canonical.{byte_text, items_text, opened, part_text, content_text, parts_text};
+ghost use Rattle.tx_tm_write.specs.Canonical.{arguments_text, long_text, long_part, paragraph_text, between};
+ghost use Rattle.tx_tm_write.specs.Canonical.{block_text, paragraphs_text, with_ends, tags_text, tm_text};
 ghost use Rattle.tx_tm_write.specs.Counts.{capped};
 
 use crate::items::{is_control, is_held, is_marked};
@@ -195,8 +197,8 @@ fn block_length(t: &Tree) -> u64
     tags_length(t)
 }
 
-/// The bytes of the canonical text of a block, counted without writing. Whatever the tree, there is room for one byte more in
-/// 64 bits.
+/// The bytes of the canonical text of a block, counted without writing. Whatever the tree, there is room for one byte
+/// more in 64 bits.
 #[tactic(auto, using(crate::proofs::Bounds::block_short))]
 pub fn length(t: &Tree) -> u64
     ensures value { is_block t.now ≡ true → result ≡ length (tm_text t.now) }

@@ -3,7 +3,8 @@ ghost use Rattle.std.specs.Prelude.{◌≡◌, ◌≤◌, ◌+◌, length, drop,
 ghost use Rattle.tx_tree.specs.WideTree.{is_leaf, forest};
 ghost use Rattle.tx_tm_form.specs.Bytes.{is_digit};
 ghost use Rattle.tx_tm_form.specs.Parts.{same, document_label, collection_label, concat_label, raw_data_label};
-ghost use Rattle.tx_tm_write.specs.Shapes.{some, has_two, is_block, are_nodes, has_block, is_empty, are_apart, is_inline, all_digits, is_digits, is_raw, is_long, IsRaw};
+ghost use Rattle.tx_tm_write.specs.Shapes.{some, has_two, is_block, are_nodes, has_block, is_empty, are_apart};
+ghost use Rattle.tx_tm_write.specs.Shapes.{is_inline, all_digits, is_digits, is_raw, is_long, IsRaw};
 
 use tx_tree::{Kind, Label, Text, Tree};
 
@@ -138,7 +139,8 @@ fn all_digits(text: &[u8]) -> bool
 // The digits of raw data that is written by them alone.
 #[tactic(auto, using(crate::proofs::Forms::not_one, crate::proofs::Forms::only_one, crate::proofs::Forms::digits_one, crate::proofs::Forms::digits_leaf, crate::proofs::Forms::text_leaf, crate::proofs::Forms::digits_node, std::proofs::lemmas::Grind::common_steps))]
 pub(crate) fn raw_digits<'a>(label: &Label, children: &'a [Tree]) -> Option<&'a Text>
-    ensures { MatchOption result (is_raw label.now (forest children.now) ≡ false) (λ d. IsRaw label.now children.now d.now) }
+    ensures { MatchOption result (is_raw label.now (forest children.now) ≡ false)
+        (λ d. IsRaw label.now children.now d.now) }
 {
     if children.len() != 1 {
         return None;

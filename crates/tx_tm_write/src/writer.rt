@@ -1,8 +1,11 @@
 // The canonical text of a block.
-ghost use Rattle.std.specs.Prelude.{◌≡◌, ◌<◌, ◌≤◌, ◌+◌, ◌++◌, ◌∷◌, [], true, false, length, take, drop, get_or, OnOk, OnErr};
+ghost use Rattle.std.specs.Prelude.{◌≡◌, ◌<◌, ◌≤◌, ◌+◌, ◌++◌, ◌∷◌, [], true};
+ghost use Rattle.std.specs.Prelude.{false, length, take, drop, get_or, OnOk, OnErr};
 ghost use Rattle.tx_tree.specs.WideTree.{forest, children_of, label_of};
 ghost use Rattle.tx_tm_write.specs.Shapes.{is_block, has_block, is_raw};
-ghost use Rattle.tx_tm_write.specs.Canonical.{opened, next_mark, part_text, content_text, parts_text, arguments_text, long_text, long_part, paragraph_text, between, block_text, paragraphs_text, with_ends, tags_text, tm_text};
+ghost use Rattle.tx_tm_write.specs.Canonical.{opened, next_mark, part_text, content_text, parts_text};
+ghost use Rattle.tx_tm_write.specs.Canonical.{arguments_text, long_text, long_part, paragraph_text, between};
+ghost use Rattle.tx_tm_write.specs.Canonical.{block_text, paragraphs_text, with_ends, tags_text, tm_text};
 
 use crate::items::append_items;
 use crate::shapes::{
@@ -46,7 +49,8 @@ fn next_mark(trees: &[Tree], from: usize) -> u8
 #[cycle(writing)]
 #[tactic(auto, using(tx_tree::proofs::Walks::item_shallower, std::proofs::lemmas::Grind::common_steps))]
 fn append_short(label: &Label, t: &Tree, out: &mut Vec<u8>) -> Result<(), Memory>
-    ensures ok { OnOk result (out.new.items ≡ out.old.items ++ 60 ∷ (label.now ++ (arguments_text (forest (children_of t.now)) ++ 62 ∷ []))) }
+    ensures ok { OnOk result (out.new.items
+        ≡ out.old.items ++ 60 ∷ (label.now ++ (arguments_text (forest (children_of t.now)) ++ 62 ∷ []))) }
     ensures grows { take (length out.old.items) out.new.items ≡ out.old.items }
 {
     out.push(b'<')?;
@@ -83,7 +87,8 @@ fn append_long_child(
     out: &mut Vec<u8>,
 ) -> Result<(), Memory>
     requires { i < length children.now }
-    ensures ok { OnOk result (out.new.items ≡ out.old.items ++ long_part label.now (forest (drop (i + 1) children.now)) child.now) }
+    ensures ok { OnOk result
+        (out.new.items ≡ out.old.items ++ long_part label.now (forest (drop (i + 1) children.now)) child.now) }
     ensures grows { take (length out.old.items) out.new.items ≡ out.old.items }
 {
     if is_block(child) {
@@ -98,7 +103,8 @@ fn append_long_child(
 #[cycle(writing)]
 #[tactic(auto, using(tx_tree::proofs::Walks::item_shallower, crate::proofs::Forms::drop_tree, std::proofs::lemmas::Grind::common_steps))]
 fn append_long(label: &Label, t: &Tree, out: &mut Vec<u8>) -> Result<(), Memory>
-    ensures ok { OnOk result (out.new.items ≡ out.old.items ++ (opened 92 label.now ++ long_text label.now (forest (children_of t.now)))) }
+    ensures ok { OnOk result
+        (out.new.items ≡ out.old.items ++ (opened 92 label.now ++ long_text label.now (forest (children_of t.now)))) }
     ensures grows { take (length out.old.items) out.new.items ≡ out.old.items }
 {
     append_opened(b'\\', label.bytes(), out)?;

@@ -57,7 +57,8 @@ impl Source for MemSource {
         ensures failed_into { OnErr result (into.new ≡ into.old) }
 
         ensures count { IfOk result (λ n. n ≡ min (length self.old.left) (length into.old)) }
-        ensures source { IfOk result (λ n. self.new ≡ record { left = drop n self.old.left; calls = one_more self.old.calls }) }
+        ensures source { IfOk result (λ n.
+            self.new ≡ record { left = drop n self.old.left; calls = one_more self.old.calls }) }
         ensures into { IfOk result (λ n. into.new ≡ take n self.old.left ++ drop n into.old) }
 
         ensures failed_rose { OnErr result (Rose self.old.calls.faults self.new.calls.faults) }

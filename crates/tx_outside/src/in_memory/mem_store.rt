@@ -123,7 +123,8 @@ impl Store for MemStore {
         ensures saved { OnOk result (WithFile name.now bytes.now self.old.files self.new.files) }
 
         // What the store is.
-        ensures saved_store { OnOk result (self.new ≡ record self.old { files = self.new.files; calls = one_more self.old.calls }) }
+        ensures saved_store { OnOk result
+            (self.new ≡ record self.old { files = self.new.files; calls = one_more self.old.calls }) }
         ensures failed_store { IsErrOf result SaveFault.Failed
             → self.new ≡ record self.old { calls = one_failed self.old.calls } }
         ensures memory_store { IsErrOf result SaveFault.Memory

@@ -36,7 +36,8 @@ fn is_plain_text(text: &[u8]) -> bool
 
 /// The texts of a plain document's paragraphs, or None where the tree is no plain document.
 pub(crate) fn plain_texts(alloc: Global, tree: &Tree) -> Result<Option<Vec<&[u8]>>, Memory>
-    ensures { IfOk result (λ found. MatchOption found (IsUnplain tree.now) (λ texts. IsPlainDocument tree.now (held texts.items))) }
+    ensures { IfOk result (λ found.
+        MatchOption found (IsUnplain tree.now) (λ texts. IsPlainDocument tree.now (held texts.items))) }
 {
     let Some(label) = tree.label() else {
         return Ok(None);
