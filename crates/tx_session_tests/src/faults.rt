@@ -9,7 +9,8 @@ use std::test::Fail;
 use tx_base::Steps;
 use tx_session::Status;
 
-// A script, the call of the store, of the input and of the sink that fails, the room of the sink, the status and the text.
+// A script, the call of the store, of the input and of the sink that fails, the room of the sink, the status and the
+// text.
 type Faulty<'a> = (
     &'a str,
     Option<u64>,
@@ -163,8 +164,8 @@ fn first_wrong_cut<L: Ledger>(
 
 const WHOLE: &[u8] = b"(f)\nno shape\nno unknown\ninput\n";
 
-// Whether what is written, where this call of the output fails, is a part of the whole, from its start on; it is cut where
-// the call is one of the first four.
+// Whether what is written, where this call of the output fails, is a part of the whole, from its start on; it is cut
+// where the call is one of the first four.
 fn is_front<L: Ledger>(alloc: Global, call: u64, steps: &mut Steps<L>) -> Result<bool, AllocError> {
     let setup = Setup {
         script: b"tree\nshow\nfoo\n",

@@ -141,7 +141,7 @@ const SAVED: &[Run<'static>] = &[
     ),
 ];
 
-const CHANGED: &[Run<'static>] = &[
+const DEEPEST: &[Run<'static>] = &[
     (
         "a.scm",
         Great::Deep(398),
@@ -173,11 +173,15 @@ const CHANGED: &[Run<'static>] = &[
         Status::Ok,
         "ok\nok\n",
     ),
+];
+
+const WIDEST: &[Run<'static>] = &[
     (
         "a.scm",
         Great::Wide(0, 65_534, 0),
         (
-            "insert / 0 (tuple \"x\")\nremove / 0 1\ninsert / 65534 (tuple \"z\")\nsplit / 0 0\njoin / 0\nsplit / 0 0\n",
+            "insert / 0 (tuple \"x\")\nremove / 0 1\ninsert / 65534 (tuple \"z\")\nsplit / 0 0\njoin / 0\n\
+              split / 0 0\n",
             "",
             0,
             "",
@@ -189,7 +193,8 @@ const CHANGED: &[Run<'static>] = &[
         "a.scm",
         Great::Wide(0, 65_534, 0),
         (
-            "assign-node / d\ninsert-node /0 0 (f)\nremove-node /0 0\nassign /65534 \"y\"\nundo\nundo\nundo\nundo\nsave o.scm\n",
+            "assign-node / d\ninsert-node /0 0 (f)\nremove-node /0 0\nassign /65534 \"y\"\nundo\nundo\nundo\nundo\n\
+              save o.scm\n",
             "",
             0,
             "",
@@ -197,6 +202,9 @@ const CHANGED: &[Run<'static>] = &[
         Status::Ok,
         "ok\nok\nok\nok\nok\nok\nok\nok\nsaved 196616\n",
     ),
+];
+
+const BIGGEST: &[Run<'static>] = &[
     (
         "a.scm",
         Great::Wide(78, 65_040, 122),
@@ -221,14 +229,15 @@ const CHANGED: &[Run<'static>] = &[
         Status::Ok,
         "ok\nok\nno too-big 8000001\nok\nok\nok\n",
     ),
-    (
-        "a.scm",
-        Great::Words(1, 1),
-        ("assign /0 \"", "a", 1_048_564, "\"\nsave o.scm\n"),
-        Status::Ok,
-        "ok\nsaved 1048578\n",
-    ),
 ];
+
+const LONGEST: &[Run<'static>] = &[(
+    "a.scm",
+    Great::Words(1, 1),
+    ("assign /0 \"", "a", 1_048_564, "\"\nsave o.scm\n"),
+    Status::Ok,
+    "ok\nsaved 1048578\n",
+)];
 
 const SHOWN: &[Run<'static>] = &[
     (
@@ -298,10 +307,34 @@ fn the_greatest_files_are_saved(rt: HostRuntime) -> Result<(), Fail> {
     Ok(())
 }
 
-// Each kind of edit at the greatest depth, arity or size, and a line of exactly the limit.
+// Edits at the greatest depth.
 #[test]
-fn the_greatest_trees_are_changed(rt: HostRuntime) -> Result<(), Fail> {
-    let wrong = first_wrong_run::<Brand>(rt.alloc(), CHANGED, Blank::new(1))?;
+fn the_deepest_trees_are_changed(rt: HostRuntime) -> Result<(), Fail> {
+    let wrong = first_wrong_run::<Brand>(rt.alloc(), DEEPEST, Blank::new(1))?;
+    assert_eq!(rt; wrong, None);
+    Ok(())
+}
+
+// Each kind of edit at the greatest arity.
+#[test]
+fn the_widest_trees_are_changed(rt: HostRuntime) -> Result<(), Fail> {
+    let wrong = first_wrong_run::<Brand>(rt.alloc(), WIDEST, Blank::new(1))?;
+    assert_eq!(rt; wrong, None);
+    Ok(())
+}
+
+// Each kind of edit at the greatest size.
+#[test]
+fn the_biggest_trees_are_changed(rt: HostRuntime) -> Result<(), Fail> {
+    let wrong = first_wrong_run::<Brand>(rt.alloc(), BIGGEST, Blank::new(1))?;
+    assert_eq!(rt; wrong, None);
+    Ok(())
+}
+
+// A line of exactly the limit.
+#[test]
+fn the_longest_lines_are_commands(rt: HostRuntime) -> Result<(), Fail> {
+    let wrong = first_wrong_run::<Brand>(rt.alloc(), LONGEST, Blank::new(1))?;
     assert_eq!(rt; wrong, None);
     Ok(())
 }

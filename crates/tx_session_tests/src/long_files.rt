@@ -86,10 +86,10 @@ fn saved_hundred<L: Ledger>(
     saved_tree(alloc, tree, name, &mut steps)
 }
 
-// In the Scheme syntax an inner document has 10 + 65,535 * 3 bytes, and the outer one 10 + 100 * (1 + 196,615). In TM an
-// inner one that is a paragraph is a short tag of 10 + 65,535 bytes, and 99 empty lines stand between them. As a block it has
-// 65,535 * 2 + 65,534 * 2 bytes, and 3 more for `>` and two newlines; a hundred of these have 3 bytes of a tag before each of
-// them and behind the last, and then `>`. Each file has a newline at its end.
+// In the Scheme syntax an inner document has 10 + 65,535 * 3 bytes, and the outer one 10 + 100 * (1 + 196,615). In TM
+// an inner one that is a paragraph is a short tag of 10 + 65,535 bytes, and 99 empty lines stand between them. As a
+// block it has 65,535 * 2 + 65,534 * 2 bytes, and 3 more for `>` and two newlines; a hundred of these have 3 bytes of a
+// tag before each of them and behind the last, and then `>`. Each file has a newline at its end.
 #[test]
 fn files_that_are_too_long(rt: HostRuntime) -> Result<(), Fail> {
     let rows: [(bool, &[u8], &[u8], Option<usize>); 4] = [
