@@ -1,7 +1,7 @@
 // The tables of modifications, each with values from the rules.
 ghost use Rattle.std.specs.Prelude.{◌≡◌};
 
-use crate::remade::{Remade, is_copied, told_edit, undone_and_redone};
+use crate::inverses::{Remade, is_copied, told_edit, undone_and_redone};
 use crate::samples::{change, path, path_after, place, place_after, same_change, stays, tree};
 use std::alloc::Global;
 use std::marker::Brand;

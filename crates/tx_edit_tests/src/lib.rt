@@ -7,13 +7,13 @@ mod changes;
 #[cfg(test)]
 mod documents;
 #[cfg(test)]
+mod inverses;
+#[cfg(test)]
 mod lists;
 #[cfg(test)]
 mod machine;
 #[cfg(test)]
 mod random;
-#[cfg(test)]
-mod remade;
 #[cfg(test)]
 mod replies;
 #[cfg(test)]

@@ -1,8 +1,8 @@
 // Random modifications of random trees, from fixed numbers.
 ghost use Rattle.std.specs.Prelude.{◌≡◌};
 
+use crate::inverses::{Remade, edited, undone_and_redone};
 use crate::random::{random_change, random_path, random_words};
-use crate::remade::{Remade, edited, undone_and_redone};
 use crate::samples::{change, path_after, place_after, stays, tree};
 use std::alloc::Global;
 use std::marker::Brand;
