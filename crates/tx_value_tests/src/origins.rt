@@ -54,16 +54,12 @@ fn ip_of(alloc: Global, path: &Path) -> Option<Ip> {
     Some(ip)
 }
 
-fn path(alloc: Global, word: &str) -> Option<Path> {
-    Path::parse(alloc, word.as_bytes()).ok()
-}
-
 // The origin of a word, where `-` is none.
 fn origin(alloc: Global, word: &str) -> Option<Option<Ip>> {
     if word == "-" {
         return Some(None);
     }
-    let path = path(alloc, word)?;
+    let path = Path::parse(alloc, word.as_bytes()).ok()?;
     Some(Some(ip_of(alloc, &path)?))
 }
 
@@ -75,7 +71,7 @@ fn is_origin(alloc: Global, ip: Option<&Ip>, word: &str) -> Option<bool> {
     if word == "-" {
         return Some(false);
     }
-    let want = path(alloc, word)?;
+    let want = Path::parse(alloc, word.as_bytes()).ok()?;
     let steps = want.steps();
     for i in 0..=ip.len() {
         if ip.step(i) != steps.get(i).copied() {
@@ -122,7 +118,7 @@ fn holds<L: Ledger>(
 ) -> Option<bool> {
     let tree = read(alloc, row.0.as_bytes(), steps).ok()?;
     let at = origin(alloc, row.1)?;
-    let way = path(alloc, row.2)?;
+    let way = Path::parse(alloc, row.2.as_bytes()).ok()?;
     let value = Value::whole(alloc, &tree, &at).ok()?;
     let found = is_origin(alloc, part(&value, &way)?.origin(), row.3)?;
     let plain = is_plain(alloc, &value, &tree, steps)?;
@@ -160,7 +156,7 @@ fn is_at(alloc: Global, origin: Ip, offset: u32) -> Option<bool> {
 }
 
 fn is_place(alloc: Global, row: &(&str, &str, u32, &str)) -> Option<bool> {
-    let base = path(alloc, row.0)?;
+    let base = Path::parse(alloc, row.0.as_bytes()).ok()?;
     let origin = origin(alloc, row.1)?;
     let place = Spot::new(&base, origin.as_ref(), row.2).place(alloc).ok()?;
     let printed = is_printed(alloc, &place, row.3)?;
