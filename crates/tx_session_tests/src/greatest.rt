@@ -256,6 +256,15 @@ const SHOWN: &[Run<'static>] = &[
     ),
 ];
 
+// The words that open the file.
+fn words_of(name: &'static str) -> &'static str {
+    if name == "a.tm" {
+        "tmx|a.tm"
+    } else {
+        "tmx|a.scm"
+    }
+}
+
 fn ends_greatly<L: Ledger>(
     alloc: Global,
     row: &Run<'static>,
@@ -265,15 +274,10 @@ fn ends_greatly<L: Ledger>(
     add_great(&mut bytes, row.1)?;
     let mut script = Vec::new(alloc);
     add_script(&mut script, row.2)?;
-    let (name, words) = if row.0 == "a.tm" {
-        ("a.tm", "tmx|a.tm")
-    } else {
-        ("a.scm", "tmx|a.scm")
-    };
     let setup = Setup {
-        name,
+        name: row.0,
         bytes: &bytes,
-        words,
+        words: words_of(row.0),
         script: &script,
         room: row.4.len(),
         ..OF_A
