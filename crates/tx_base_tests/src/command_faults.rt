@@ -119,8 +119,8 @@ fn lines_that_are_no_commands(rt: HostRuntime) {
     assert_eq!(rt; first_unrefused(rt.alloc(), FAULTS), None);
 }
 
-// Pieces with commas between them, each behind how often it is repeated and a space; and the fault of the line, or None where it is
-// a command that is written like that.
+// Pieces with commas between them, each behind how often it is repeated and a space; and the fault of the line, or None
+// where it is a command that is written like that.
 const LONG: &[(&str, Option<CmdFault>)] = &[
     // The number of a limit is no place.
     (

@@ -4,10 +4,22 @@
 #[cfg(test)]
 mod edits;
 #[cfg(test)]
+mod faults;
+#[cfg(test)]
+mod greatest;
+#[cfg(test)]
 mod lines;
+#[cfg(test)]
+mod long_files;
 #[cfg(test)]
 mod outside;
 #[cfg(test)]
 mod pages;
+#[cfg(test)]
+mod sample;
+#[cfg(test)]
+mod saves;
+#[cfg(test)]
+mod saving;
 #[cfg(test)]
 mod statuses;

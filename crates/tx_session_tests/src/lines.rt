@@ -1,7 +1,7 @@
 // The lines of scripts, and their replies.
 ghost use Rattle.std.specs.Prelude.{◌≡◌};
 
-use crate::outside::{OF_A, Setting, ended, ends, first_wrong_reply, outside_of};
+use crate::outside::{OF_A, Setup, ended, ends, first_wrong_reply, outside_of};
 use std::alloc::{AllocError, Global};
 use std::marker::Brand;
 use std::sync::ledger::{Blank, Ledger};
@@ -168,11 +168,11 @@ fn first_wrong_length<L: Ledger>(
     let mut steps = Steps::<L>::new(blank);
     for (number, row) in rows.iter().enumerate() {
         let script = long_script(alloc, row)?;
-        let setting = Setting {
+        let setup = Setup {
             script: &script,
             ..OF_A
         };
-        if !ends(alloc, &setting, row.4, row.5, &mut steps)? {
+        if !ends(alloc, &setup, row.4, row.5, &mut steps)? {
             return Ok(Some(number));
         }
     }
@@ -186,12 +186,12 @@ fn reads_before_a_reply<L: Ledger>(alloc: Global, blank: Blank) -> Result<usize,
     requires whole { blank.parts ≡ 1 }
 {
     let mut steps = Steps::<L>::new(blank);
-    let setting = Setting {
+    let setup = Setup {
         script: b"tree\ntree\n",
         room: 0,
         ..OF_A
     };
-    let mut outside = outside_of(alloc, &setting)?;
+    let mut outside = outside_of(alloc, &setup)?;
     match ended(alloc, &mut outside, true, &mut steps) {
         Status::OutputFault => Ok(outside.input.reads),
         _ => Ok(0),

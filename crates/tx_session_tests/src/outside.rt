@@ -7,30 +7,30 @@ use tx_base::Steps;
 use tx_outside::{Failed, MemSink, MemSource, MemStore, Source, StoredFile};
 use tx_session::{Status, run};
 
-// How a run is set up: the one file of the store, the words between bars, the script, the calls of the store, of the input and
-// of the sink that fail, the room of the sink, and whether the input gives one byte a call.
+// How a run is set up: the one file of the store, the words between bars, the script, the call of the store, of the
+// input and of the sink that fails, if one does, the room of the sink, and whether the input gives one byte a call.
 #[derive(Clone, Copy)]
-pub struct Setting<'a> {
+pub struct Setup<'a> {
     pub name: &'a str,
     pub bytes: &'a [u8],
     pub words: &'a str,
     pub script: &'a [u8],
-    pub store_failing: &'a [u64],
-    pub input_failing: &'a [u64],
-    pub sink_failing: &'a [u64],
+    pub store_failing: Option<u64>,
+    pub input_failing: Option<u64>,
+    pub sink_failing: Option<u64>,
     pub room: usize,
     pub slowly: bool,
 }
 
 // The file `a.scm` with the tree `(f)`, and no fault.
-pub const OF_A: Setting<'static> = Setting {
+pub const OF_A: Setup<'static> = Setup {
     name: "a.scm",
     bytes: b"(f )",
     words: "tmx|a.scm",
     script: b"",
-    store_failing: &[],
-    input_failing: &[],
-    sink_failing: &[],
+    store_failing: None,
+    input_failing: None,
+    sink_failing: None,
     room: 500,
     slowly: false,
 };
@@ -75,37 +75,50 @@ fn words_of(alloc: Global, words: &str) -> Result<Vec<String>, AllocError> {
     Ok(owned)
 }
 
-fn store_of(alloc: Global, setting: &Setting) -> Result<MemStore, AllocError> {
-    let name = Vec::from_slice(alloc, setting.name.as_bytes())?;
-    let file = StoredFile::new(name, Vec::from_slice(alloc, setting.bytes)?);
-    let files = vec![in alloc; file]?;
-    Ok(MemStore::new(files, Vec::from_slice(alloc, setting.store_failing)?))
+// The list of the call that fails, if one does.
+fn failing_calls(alloc: Global, failing: Option<u64>) -> Result<Vec<u64>, AllocError> {
+    let mut calls = Vec::new(alloc);
+    if let Some(call) = failing {
+        calls.push(call)?;
+    }
+    Ok(calls)
 }
 
-fn source_of(alloc: Global, setting: &Setting) -> Result<SlowSource, AllocError> {
-    let failing = Vec::from_slice(alloc, setting.input_failing)?;
-    let source = MemSource::new(Vec::from_slice(alloc, setting.script)?, failing);
+fn store_of(alloc: Global, setup: &Setup) -> Result<MemStore, AllocError> {
+    let name = Vec::from_slice(alloc, setup.name.as_bytes())?;
+    let file = StoredFile::new(name, Vec::from_slice(alloc, setup.bytes)?);
+    let files = vec![in alloc; file]?;
+    Ok(MemStore::new(files, failing_calls(alloc, setup.store_failing)?))
+}
+
+fn source_of(alloc: Global, setup: &Setup) -> Result<SlowSource, AllocError> {
+    let failing = failing_calls(alloc, setup.input_failing)?;
+    let source = MemSource::new(Vec::from_slice(alloc, setup.script)?, failing);
     Ok(SlowSource { source, reads: 0 })
 }
 
-pub fn sink_of(alloc: Global, room: usize, failing: &[u64]) -> Result<MemSink, AllocError> {
-    match MemSink::new(alloc, room, Vec::from_slice(alloc, failing)?) {
+pub(crate) fn sink_of(
+    alloc: Global,
+    room: usize,
+    failing: Option<u64>,
+) -> Result<MemSink, AllocError> {
+    match MemSink::new(alloc, room, failing_calls(alloc, failing)?) {
         Ok(sink) => Ok(sink),
         Err(_) => Err(AllocError),
     }
 }
 
-pub fn outside_of(alloc: Global, setting: &Setting) -> Result<Outside, AllocError> {
+pub(crate) fn outside_of(alloc: Global, setup: &Setup) -> Result<Outside, AllocError> {
     Ok(Outside {
-        words: words_of(alloc, setting.words)?,
-        store: store_of(alloc, setting)?,
-        input: source_of(alloc, setting)?,
-        out: sink_of(alloc, setting.room, setting.sink_failing)?,
+        words: words_of(alloc, setup.words)?,
+        store: store_of(alloc, setup)?,
+        input: source_of(alloc, setup)?,
+        out: sink_of(alloc, setup.room, setup.sink_failing)?,
     })
 }
 
 // The status of the run.
-pub fn ended<L: Ledger>(
+pub(crate) fn ended<L: Ledger>(
     alloc: Global,
     outside: &mut Outside,
     slowly: bool,
@@ -125,15 +138,15 @@ pub fn ended<L: Ledger>(
 }
 
 // Whether the run ends with this status, has written this text, and this file then holds these bytes.
-pub fn ends_with<L: Ledger>(
+pub(crate) fn ends_with<L: Ledger>(
     alloc: Global,
-    setting: &Setting,
+    setup: &Setup,
     wanted: (Status, &[u8]),
     file: (&str, &[u8]),
     steps: &mut Steps<L>,
 ) -> Result<bool, AllocError> {
-    let mut outside = outside_of(alloc, setting)?;
-    let status = ended(alloc, &mut outside, setting.slowly, steps);
+    let mut outside = outside_of(alloc, setup)?;
+    let status = ended(alloc, &mut outside, setup.slowly, steps);
     Ok(
         status == wanted.0
             && outside.out.written() == wanted.1
@@ -142,16 +155,16 @@ pub fn ends_with<L: Ledger>(
 }
 
 // Whether the run ends with this status and has written this text.
-pub fn ends<L: Ledger>(
+pub(crate) fn ends<L: Ledger>(
     alloc: Global,
-    setting: &Setting,
+    setup: &Setup,
     status: Status,
     text: &str,
     steps: &mut Steps<L>,
 ) -> Result<bool, AllocError> {
     ends_with(
         alloc,
-        setting,
+        setup,
         (status, text.as_bytes()),
         ("", b"none"),
         steps,
@@ -159,7 +172,7 @@ pub fn ends<L: Ledger>(
 }
 
 // The first row whose script, over the file `a.scm` with this tree, doesn't end well with this text.
-pub fn first_wrong_reply<L: Ledger>(
+pub(crate) fn first_wrong_reply<L: Ledger>(
     alloc: Global,
     rows: &[(&'static str, &'static str, &'static str)],
     slowly: bool,
@@ -171,13 +184,13 @@ pub fn first_wrong_reply<L: Ledger>(
 {
     let mut steps = Steps::<L>::new(blank);
     for (number, row) in rows.iter().enumerate() {
-        let setting = Setting {
+        let setup = Setup {
             bytes: row.0.as_bytes(),
             script: row.1.as_bytes(),
             slowly,
             ..OF_A
         };
-        if !ends(alloc, &setting, Status::Ok, row.2, &mut steps)? {
+        if !ends(alloc, &setup, Status::Ok, row.2, &mut steps)? {
             return Ok(Some(number));
         }
     }

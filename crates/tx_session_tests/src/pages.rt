@@ -46,7 +46,7 @@ fn world_of<L: Ledger>(
     Ok(World {
         session: session_of(alloc, document, steps)?,
         store: MemStore::new(Vec::new(alloc), Vec::new(alloc)),
-        out: sink_of(alloc, room, &[])?,
+        out: sink_of(alloc, room, None)?,
     })
 }
 

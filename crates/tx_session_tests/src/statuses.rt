@@ -1,7 +1,7 @@
 // Each way in which a file is opened or not, with its status and its line.
 ghost use Rattle.std.specs.Prelude.{◌≡◌};
 
-use crate::outside::{OF_A, Setting, ends};
+use crate::outside::{OF_A, Setup, ends};
 use std::alloc::{AllocError, Global};
 use std::marker::Brand;
 use std::sync::ledger::{Blank, Ledger};
@@ -108,14 +108,14 @@ fn first_wrong_status<L: Ledger>(
 {
     let mut steps = Steps::<L>::new(blank);
     for (number, row) in rows.iter().enumerate() {
-        let setting = Setting {
+        let setup = Setup {
             name: row.0,
             bytes: row.1.as_bytes(),
             words: row.2,
             script: b"tree",
             ..OF_A
         };
-        if !ends(alloc, &setting, row.3, row.4, &mut steps)? {
+        if !ends(alloc, &setup, row.3, row.4, &mut steps)? {
             return Ok(Some(number));
         }
     }
@@ -130,14 +130,14 @@ fn long_is_refused<L: Ledger>(alloc: Global, blank: Blank) -> Result<bool, Alloc
 {
     let mut steps = Steps::<L>::new(blank);
     let long = vec![in alloc; b' '; MOST_FILE + 1]?;
-    let setting = Setting {
+    let setup = Setup {
         bytes: &long,
         script: b"tree",
         ..OF_A
     };
     ends(
         alloc,
-        &setting,
+        &setup,
         Status::Refused,
         "refused a.scm long\n",
         &mut steps,

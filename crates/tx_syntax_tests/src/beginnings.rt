@@ -17,7 +17,8 @@ fn beginnings_in_scheme(rt: HostRuntime) {
 }
 
 const TM: &[u8] =
-    b"a\\<b\\|\\\\c\\> \\;\\P\\0\n\n<\\f|x\\\r\n  y|\\|><g|<#4a\\\nB>>\n\n<|f|z>\n<\\collection>\n<h>\n</collection>\n<|f></f|<\\k></k>|>\\ \n";
+    b"a\\<b\\|\\\\c\\> \\;\\P\\0\n\n<\\f|x\\\r\n  y|\\|><g|<#4a\\\nB>>\n\n<|f|z>\n<\\collection>\n<h>\n\
+      </collection>\n<|f></f|<\\k></k>|>\\ \n";
 
 // The length of the first beginning that neither spells a tree nor is unfinished.
 fn first_refused(alloc: Global, form: Form, bytes: &[u8]) -> Option<usize> {
@@ -36,11 +37,13 @@ fn beginnings_in_tm(rt: HostRuntime) {
 }
 
 // A usual document.
-const DOCUMENT: &[u8] =
-    b"<TeXmacs|2.1>\n\n<style|generic>\n\n<\\body>\n  <section|First steps>\n\n  An <em|important> note, \\Pquoted\\Q.\n\n  <\\itemize>\n    <item>one\n\n    <item>two\n  </itemize>\n</body>\n\n<\\initial>\n  <\\collection>\n    <associate|page-medium|paper>\n  </collection>\n</initial>\n";
+const DOCUMENT: &[u8] = b"<TeXmacs|2.1>\n\n<style|generic>\n\n\
+      <\\body>\n  <section|First steps>\n\n  An <em|important> note, \\Pquoted\\Q.\n\n  <\\itemize>\n    \
+      <item>one\n\n    <item>two\n  </itemize>\n</body>\n\n\
+      <\\initial>\n  <\\collection>\n    <associate|page-medium|paper>\n  </collection>\n</initial>\n";
 
-// Whole are the empty document, those that end round the lines of the two short tags, behind the body, and behind the last
-// tag.
+// Whole are the empty document, those that end round the lines of the two short tags, behind the body, and behind the
+// last tag.
 const WHOLE: &[usize] = &[0, 13, 14, 15, 30, 31, 32, 166, 167, 168, 255];
 
 #[test]

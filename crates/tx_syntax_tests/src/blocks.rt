@@ -6,22 +6,8 @@ use std::marker::Brand;
 use std::sync::ledger::{Blank, Ledger};
 use std::test::Fail;
 use tx_base::Steps;
+use tx_dice::Dice;
 use tx_tree::{Label, Text, Tree};
-
-// Numbers that look random.
-#[derive(Drop)]
-struct Dice {
-    state: u32,
-}
-
-impl Dice {
-    // A number below n, or 0 where n is 0.
-    fn roll(&mut self, n: u32) -> u32 {
-        let next = (u64::from(self.state) * 1_103_515_245 + 12_345) % 2_147_483_648;
-        self.state = next as u32;
-        (next as u32 >> 16) % n.max(1)
-    }
-}
 
 // What texts are made of.
 const PIECES: [&[u8]; 16] = [
@@ -126,8 +112,8 @@ fn random_block<L: Ledger>(alloc: Global, dice: &mut Dice, steps: &mut Steps<L>)
     Tree::node(alloc, Label::new(alloc, name).ok()?, children, steps).ok()
 }
 
-// What is compared of a text: that its length is the one that is told, and that it is read as the tree, also with a newline
-// behind it.
+// What is compared of a text: that its length is the one that is told, and that it is read as the tree, also with a
+// newline behind it.
 #[derive(Drop)]
 struct Written {
     text: Vec<u8>,

@@ -1,5 +1,5 @@
-//! Tests of the readers and writers of both syntaxes: what is read and written on both sides of each rule, the places of
-//! faults, trees at the limits, and random blocks.
+//! Tests of the readers and writers of both syntaxes: what is read and written on both sides of each rule, the places
+//! of faults, trees at the limits, and random blocks.
 #![tactic(auto)]
 
 #[cfg(test)]

@@ -45,7 +45,8 @@ pub(crate) fn refusal(alloc: Global, form: Form, bytes: &[u8]) -> Option<ReadFau
     read(alloc, form, bytes).err()
 }
 
-// Prints the tree, down to so many levels: a text between quotes as it is, a node as its label and its children in brackets.
+// Prints the tree, down to so many levels: a text between quotes as it is, a node as its label and its children in
+// brackets.
 fn print(tree: &Tree, levels: u32, out: &mut Vec<u8>) -> Result<(), AllocError> {
     if levels == 0 {
         return Ok(());

@@ -119,7 +119,8 @@ const MORE_FAULTS: &[FaultRow] = &[
         ReadFault::BadLabel(65),
     ),
     (
-        b"<\\lllllllllllllllllllllllllllllllllllllllllllllllllllllllllllllllll></lllllllllllllllllllllllllllllllllllllllllllllllllllllllllllllllll>",
+        b"<\\lllllllllllllllllllllllllllllllllllllllllllllllllllllllllllllllll>\
+          </lllllllllllllllllllllllllllllllllllllllllllllllllllllllllllllllll>",
         ReadFault::BadLabel(66),
     ),
     (b"<#", ReadFault::Unclosed(2)),
@@ -249,7 +250,8 @@ const LAST_FAULTS: &[FaultRow] = &[
     (b"<\\a></a\\", ReadFault::Mismatch(0, 7)),
     (b"<\\a>\\\n</A>", ReadFault::Mismatch(0, 8)),
     (
-        b"<\\llllllllllllllllllllllllllllllllllllllllllllllllllllllllllllllll></lllllllllllllllllllllllllllllllllllllllllllllllllllllllllllllllll>",
+        b"<\\llllllllllllllllllllllllllllllllllllllllllllllllllllllllllllllll>\
+          </lllllllllllllllllllllllllllllllllllllllllllllllllllllllllllllllll>",
         ReadFault::Mismatch(0, 133),
     ),
     (b"<\\a><|a></a/>", ReadFault::Mismatch(0, 11)),

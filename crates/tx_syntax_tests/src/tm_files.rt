@@ -20,7 +20,8 @@ const FILES: &[TreeRow] = &[
     ),
     (
         b"<f|y\n|<\\g|<\\g| x ></g>>\n<f|bc|a x |<f|\\ |\\ | x >>\n\n x \n\nbc</g>>",
-        b"(document (f \"y \" (g (g \" x \" (document \"\")) (document (f \"bc\" \"a x \" (f \" \" \" \" \" x \")) \"x\" \"bc\"))))",
+        b"(document (f \"y \" (g (g \" x \" (document \"\")) (document (f \"bc\" \"a x \" (f \" \" \" \" \" x \")) \
+          \"x\" \"bc\"))))",
     ),
     (
         b"<f|\\<alpha\\>|<\\g|\\<alpha\\>|<f|\\ |\\<alpha\\>|\\<alpha\\>>>\n</g>|y\n>",
@@ -55,15 +56,18 @@ const FILES: &[TreeRow] = &[
     ),
     (
         b"<f|<f|\\;>bc|\\;|<\\g|y\n>\nbc<|g><f|<f|\\;|\\;>></g| x >>",
-        b"(document (f (concat (f \"\") \"bc\") \"\" (g \"y \" (document \"bc\") (document (f (f \"\" \"\"))) \" x \")))",
+        b"(document (f (concat (f \"\") \"bc\") \"\" (g \"y \" (document \"bc\") (document (f (f \"\" \"\"))) \" x \
+          \")))",
     ),
     (
         b" x <\\g>bc\n\n\\<alpha\\>\n\nbc</g>\\ <f|<f|\\ | x >><f|\\<alpha\\>|bc x >",
-        b"(document (concat \"x \" (g (document \"bc\" \"<alpha>\" \"bc\")) \" \" (f (f \" \" \" x \")) (f \"<alpha>\" \"bc x \")))",
+        b"(document (concat \"x \" (g (document \"bc\" \"<alpha>\" \"bc\")) \" \" (f (f \" \" \" x \")) (f \
+          \"<alpha>\" \"bc x \")))",
     ),
     (
         b"<\\g|\\ |<\\g|\\ <\\g|bc>\n\\<alpha\\>\n\nbc</g>>\\ <|g>\\<alpha\\></g|y\n>></g>",
-        b"(document (g \" \" (g (concat \" \" (g \"bc\" (document \"<alpha>\" \"bc\"))) (document \" \") (document \"<alpha>\") \"y \") (document \"\")))",
+        b"(document (g \" \" (g (concat \" \" (g \"bc\" (document \"<alpha>\" \"bc\"))) (document \" \") (document \
+          \"<alpha>\") \"y \") (document \"\")))",
     ),
     (
         b"bcy\n\\;\\<alpha\\><f|<\\g|y\n>\\;\n\na</g>>",
@@ -97,7 +101,8 @@ const FILES: &[TreeRow] = &[
     ),
     (
         b"<f|\\ |\\;|<f|\\;|<\\g| x |bc>\na</g><\\g>\na\n\n\\ \n\n\\;</g|bc>|y\n>>",
-        b"(document (f \" \" \"\" (f \"\" (concat (g \" x \" \"bc\" (document \"a\")) (g (document \"a\" \" \" \"\") \"bc\")) \"y \")))",
+        b"(document (f \" \" \"\" (f \"\" (concat (g \" x \" \"bc\" (document \"a\")) (g (document \"a\" \" \" \"\") \
+          \"bc\")) \"y \")))",
     ),
     (
         b"<\\collection>\n<associate|y\n>\n</collection>",
@@ -105,7 +110,8 @@ const FILES: &[TreeRow] = &[
     ),
     (
         b"<f|<\\g>\n</g|<\\g|bcy\n|bc>\n<\\g|\\ |y\n>\n</g><|g><f|y\n| x ></g>>>",
-        b"(document (f (g (document \"\") (g \"bcy \" \"bc\" (document (g \" \" \"y \" (document \"\"))) (document (f \"y \" \" x \"))))))",
+        b"(document (f (g (document \"\") (g \"bcy \" \"bc\" (document (g \" \" \"y \" (document \"\"))) (document \
+          (f \"y \" \" x \"))))))",
     ),
     (
         b"<\\g| x <f|y\n>>\\ </g>",
@@ -133,7 +139,8 @@ const FILES: &[TreeRow] = &[
     ),
     (
         b"<f|<\\g>\n</g|<\\g|<f|bc>|\\;>\n<\\g>\\ <|g>y\n</g>\n\n x </g>>>",
-        b"(document (f (g (document \"\") (g (f \"bc\") \"\" (document (g (document \" \") (document \"y\")) \"x\")))))",
+        b"(document (f (g (document \"\") (g (f \"bc\") \"\" (document (g (document \" \") (document \"y\")) \
+          \"x\")))))",
     ),
     (
         b"<\\g|\\;>\n<f| x |<\\collection>\n\n</collection>|\\ ></g|\\ >",
@@ -149,7 +156,8 @@ const FILES: &[TreeRow] = &[
     ),
     (
         b"<\\g| x ></g|<\\g>\n x </g><\\g|\\ |\\ >\n<f| x |\\<alpha\\>></g>>",
-        b"(document (g \" x \" (document \"\") (concat (g (document \"x\")) (g \" \" \" \" (document (f \" x \" \"<alpha>\"))))))",
+        b"(document (g \" x \" (document \"\") (concat (g (document \"x\")) (g \" \" \" \" (document (f \" x \" \
+          \"<alpha>\"))))))",
     ),
     (
         b"a\\<alpha\\>bc<\\g|\\;></g| x > x ",
@@ -158,7 +166,8 @@ const FILES: &[TreeRow] = &[
     (b"<f|bc|y\n>", b"(document (f \"bc\" \"y \"))"),
     (
         b"<f|<f|y\n|<f|\\ |<f|\\ |\\ >>|<f|y\n|\\;|bc>\\;y\n\\<alpha\\> x >|\\<alpha\\>>",
-        b"(document (f (f \"y \" (f \" \" (f \" \" \" \")) (concat (f \"y \" \"\" \"bc\") \"y <alpha> x \")) \"<alpha>\"))",
+        b"(document (f (f \"y \" (f \" \" (f \" \" \" \")) (concat (f \"y \" \"\" \"bc\") \"y <alpha> x \")) \
+          \"<alpha>\"))",
     ),
     (
         b"<#4A>\\P\\@\n\n\t",
@@ -191,7 +200,8 @@ const FILES: &[TreeRow] = &[
     ),
     (
         b"<\\collection>\n\n</collection><f|<f| x >|\\ ><f|<f|<\\g|\\;|bc>\n<|g>y\n</g>|y\n x >|a>",
-        b"(document (concat (collection) (f (f \" x \") \" \") (f (f (g \"\" \"bc\" (document \"\") (document \"y\")) \"y x \") \"a\")))",
+        b"(document (concat (collection) (f (f \" x \") \" \") (f (f (g \"\" \"bc\" (document \"\") (document \
+          \"y\")) \"y x \") \"a\")))",
     ),
     (b"<\\g>\n</g>", b"(document (g (document \"\")))"),
     (
@@ -206,7 +216,8 @@ const FILES: &[TreeRow] = &[
     ),
     (
         b"<\\g| x >\n<f|\\ |<f|a>|\\<alpha\\><\\g|y\n>a<|g> x </g>>\n\n\\;</g>",
-        b"(document (g \" x \" (document (f \" \" (f \"a\") (concat \"<alpha>\" (g \"y \" (document \"a\") (document \"x\")))) \"\")))",
+        b"(document (g \" x \" (document (f \" \" (f \"a\") (concat \"<alpha>\" (g \"y \" (document \"a\") (document \
+          \"x\")))) \"\")))",
     ),
     (b"<f|a|bc| x >", b"(document (f \"a\" \"bc\" \" x \"))"),
     (
@@ -215,11 +226,13 @@ const FILES: &[TreeRow] = &[
     ),
     (
         b"<\\g><f| x | x ><|g><f|a x \\;|\\;\\<alpha\\>\\;></g|<f|<\\g>\\ \n\n\\;\n\n x </g>>>\\<alpha\\>",
-        b"(document (concat (g (document (f \" x \" \" x \")) (document (f \"a x \" \"<alpha>\")) (f (g (document \" \" \"\" \"x\")))) \"<alpha>\"))",
+        b"(document (concat (g (document (f \" x \" \" x \")) (document (f \"a x \" \"<alpha>\")) (f (g (document \" \
+          \" \"\" \"x\")))) \"<alpha>\"))",
     ),
     (
         b"<f|\\<alpha\\>|\\<alpha\\>>\\<alpha\\><\\g|y\n>\n<\\g></g| x ></g>",
-        b"(document (concat (f \"<alpha>\" \"<alpha>\") \"<alpha>\" (g \"y \" (document (g (document \"\") \" x \")))))",
+        b"(document (concat (f \"<alpha>\" \"<alpha>\") \"<alpha>\" (g \"y \" (document (g (document \"\") \" x \
+          \")))))",
     ),
     (
         b"<\\collection>\n<associate|\\<alpha\\>>\n</collection>",
@@ -227,7 +240,8 @@ const FILES: &[TreeRow] = &[
     ),
     (
         b" x <f|\\ |\\ ><\\g|<f|\\; x \\ |<f|bc|y\n>|<\\g|\\<alpha\\>|bc>\n\\ \n\n\\ \n\ny\n</g>>|a>\n</g>",
-        b"(document (concat \"x \" (f \" \" \" \") (g (f \" x  \" (f \"bc\" \"y \") (g \"<alpha>\" \"bc\" (document \" \" \" \" \"y\"))) \"a\" (document \"\"))))",
+        b"(document (concat \"x \" (f \" \" \" \") (g (f \" x  \" (f \"bc\" \"y \") (g \"<alpha>\" \"bc\" (document \
+          \" \" \" \" \"y\"))) \"a\" (document \"\"))))",
     ),
     (
         b"\\; x a\\ <\\g>\n<|g>a</g|bc>\\<alpha\\> x ",

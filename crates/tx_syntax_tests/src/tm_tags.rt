@@ -102,12 +102,21 @@ const TAGS: &[TreeRow] = &[
         b"(document (concat (document \"a\") \"b\"))",
     ),
     (
-        b"<TeXmacs|2.1>\n\n<style|generic>\n\n<\\body>\n  <section|First steps>\n\n  An <em|important> note, \\Pquoted\\Q.\n\n  <\\itemize>\n    <item>one\n\n    <item>two\n  </itemize>\n</body>\n\n<\\initial>\n  <\\collection>\n    <associate|page-medium|paper>\n  </collection>\n</initial>\n",
-        b"(document (TeXmacs \"2.1\") (style \"generic\") (body (document (section \"First steps\") (concat \"An \" (em \"important\") \" note, \x10quoted\x11.\") (itemize (document (concat (item) \"one\") (concat (item) \"two\"))))) (initial (collection (associate \"page-medium\" \"paper\"))))",
+        b"<TeXmacs|2.1>\n\n<style|generic>\n\n\
+          <\\body>\n  <section|First steps>\n\n  An <em|important> note, \\Pquoted\\Q.\n\n  <\\itemize>\n    \
+          <item>one\n\n    <item>two\n  </itemize>\n</body>\n\n\
+          <\\initial>\n  <\\collection>\n    <associate|page-medium|paper>\n  </collection>\n</initial>\n",
+        b"(document (TeXmacs \"2.1\") (style \"generic\") (body (document (section \"First steps\") (concat \"An \" \
+          (em \"important\") \" note, \x10quoted\x11.\") (itemize (document (concat (item) \"one\") (concat (item) \
+          \"two\"))))) (initial (collection (associate \"page-medium\" \"paper\"))))",
     ),
     (
-        b"<TeXmacs|2.1>\n\n<style|generic>\n\n<\\body>\n<section|First steps>\n\nAn <em|important> note, \\Pquoted\\Q.\n\n<\\itemize>\n<item>one\n\n<item>two\n</itemize>\n</body>\n\n<\\initial>\n<\\collection>\n<associate|page-medium|paper>\n</collection>\n</initial>\n",
-        b"(document (TeXmacs \"2.1\") (style \"generic\") (body (document (section \"First steps\") (concat \"An \" (em \"important\") \" note, \x10quoted\x11.\") (itemize (document (concat (item) \"one\") (concat (item) \"two\"))))) (initial (collection (associate \"page-medium\" \"paper\"))))",
+        b"<TeXmacs|2.1>\n\n<style|generic>\n\n<\\body>\n<section|First steps>\n\n\
+          An <em|important> note, \\Pquoted\\Q.\n\n<\\itemize>\n<item>one\n\n<item>two\n</itemize>\n</body>\n\n\
+          <\\initial>\n<\\collection>\n<associate|page-medium|paper>\n</collection>\n</initial>\n",
+        b"(document (TeXmacs \"2.1\") (style \"generic\") (body (document (section \"First steps\") (concat \"An \" \
+          (em \"important\") \" note, \x10quoted\x11.\") (itemize (document (concat (item) \"one\") (concat (item) \
+          \"two\"))))) (initial (collection (associate \"page-medium\" \"paper\"))))",
     ),
     // Collection tags, and long tags of that label that are none.
     (b"<\\collection></collection>", b"(collection)"),

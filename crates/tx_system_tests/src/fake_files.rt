@@ -15,7 +15,7 @@ const FOLDER: &str = "./";
 
 // What was called.
 #[derive(Clone, Copy, Debug, PartialEq, Eq)]
-pub enum Call {
+pub enum FileCall {
     Look,
     Metadata,
     Open,
@@ -37,14 +37,14 @@ pub struct Disk {
     pub old: Vec<u8>,
     pub new: Vec<u8>,
     pub is_new_there: bool,
-    pub calls: Vec<Call>,
+    pub calls: Vec<FileCall>,
     pub failing: Vec<usize>,
     pub kind: ErrorKind,
 }
 
 impl Disk {
     // A disk with some bytes in `old.tm`, whose call of that number fails.
-    pub fn new(alloc: Global, failing: usize, kind: ErrorKind) -> io::Result<Disk> {
+    pub(crate) fn new(alloc: Global, failing: usize, kind: ErrorKind) -> io::Result<Disk> {
         let mut numbers = Vec::new(alloc);
         numbers.push(failing)?;
         Ok(Disk {
@@ -57,7 +57,7 @@ impl Disk {
         })
     }
 
-    fn note(&mut self, call: Call) -> io::Result<()> {
+    fn note(&mut self, call: FileCall) -> io::Result<()> {
         let number = self.calls.len();
         self.calls.push(call)?;
         if self.failing.contains(&number) {
@@ -69,7 +69,7 @@ impl Disk {
     fn give(&mut self, into: &mut [u8], at: usize) -> io::Result<usize>
         ensures { ReadsAtMost result into.new }
     {
-        self.note(Call::Read)?;
+        self.note(FileCall::Read)?;
         let rest = self.old.get(at..).unwrap_or(&[]);
         let count = rest.len().min(into.len()).min(4);
         into[..count].copy_from_slice(&rest[..count]);
@@ -79,14 +79,14 @@ impl Disk {
     fn take(&mut self, piece: &[u8]) -> io::Result<usize>
         ensures { WritesAtMost result piece.now }
     {
-        self.note(Call::Write)?;
+        self.note(FileCall::Write)?;
         let count = piece.len().min(3);
         self.new.extend_from_slice(&piece[..count])?;
         Ok(count)
     }
 
     fn rename(&mut self) -> io::Result<()> {
-        self.note(Call::Rename)?;
+        self.note(FileCall::Rename)?;
         if !self.is_new_there {
             return Err(io::Error::from(ErrorKind::NotFound));
         }
@@ -97,13 +97,13 @@ impl Disk {
     }
 
     fn remove(&mut self) -> io::Result<()> {
-        self.note(Call::Remove)?;
+        self.note(FileCall::Remove)?;
         self.is_new_there = false;
         Ok(())
     }
 
     fn create(&mut self) -> io::Result<()> {
-        self.note(Call::Create)?;
+        self.note(FileCall::Create)?;
         self.is_new_there = true;
         Ok(())
     }
@@ -153,7 +153,7 @@ impl Write for FakeFile<'_> {
     }
 
     fn flush(&mut self) -> io::Result<()> {
-        lent(self.disk)?.note(Call::Flush)
+        lent(self.disk)?.note(FileCall::Flush)
     }
 }
 
@@ -174,9 +174,9 @@ impl OpenFile for FakeFile<'_> {
 
     fn sync_all(&self) -> io::Result<()> {
         let call = if self.which == Which::Folder {
-            Call::SyncFolder
+            FileCall::SyncFolder
         } else {
-            Call::Sync
+            FileCall::Sync
         };
         lent(self.disk)?.note(call)
     }
@@ -186,7 +186,7 @@ impl OpenFile for FakeFile<'_> {
     }
 
     fn set_permissions(&self, _perm: Permissions) -> io::Result<()> {
-        lent(self.disk)?.note(Call::Permit)
+        lent(self.disk)?.note(FileCall::Permit)
     }
 }
 
@@ -197,10 +197,10 @@ impl FakeFiles<'_> {
             disk.create()?;
             Ok(Which::New)
         } else if path == FOLDER {
-            disk.note(Call::Folder)?;
+            disk.note(FileCall::Folder)?;
             Ok(Which::Folder)
         } else {
-            disk.note(Call::Open)?;
+            disk.note(FileCall::Open)?;
             Ok(Which::Old)
         }
     }
@@ -225,12 +225,12 @@ impl<'a> Files for FakeFiles<'a> {
     }
 
     fn metadata(&self, _path: &str) -> io::Result<Metadata> {
-        lent(self.disk)?.note(Call::Metadata)?;
+        lent(self.disk)?.note(FileCall::Metadata)?;
         Ok(Metadata::of_file(9))
     }
 
     fn symlink_metadata(&self, _path: &str) -> io::Result<Metadata> {
-        lent(self.disk)?.note(Call::Look)?;
+        lent(self.disk)?.note(FileCall::Look)?;
         Ok(Metadata::of_file(9))
     }
 
@@ -246,11 +246,11 @@ impl<'a> Files for FakeFiles<'a> {
         lent(self.disk)?.remove()
     }
 
-    fn create_dir(&self, _path: &str) -> io::Result<()> {
+    fn create_dir(&self, _new: &str) -> io::Result<()> {
         Err(unsupported())
     }
 
-    fn remove_dir(&self, _path: &str) -> io::Result<()> {
+    fn remove_dir(&self, _old: &str) -> io::Result<()> {
         Err(unsupported())
     }
 
@@ -259,6 +259,7 @@ impl<'a> Files for FakeFiles<'a> {
     }
 }
 
+// What a call that no test makes answers.
 fn unsupported() -> io::Error {
     io::Error::from(ErrorKind::Unsupported)
 }

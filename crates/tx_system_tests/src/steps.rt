@@ -1,5 +1,5 @@
 // Saves at which one step fails, and loads.
-use crate::fake_files::{Call, Disk, FakeFiles, NAME};
+use crate::fake_files::{Disk, FakeFiles, FileCall, NAME};
 use std::alloc::Global;
 use std::cell::RefCell;
 use std::io::{self, ErrorKind};
@@ -8,19 +8,19 @@ use tx_outside::{LoadFault, SaveFault, Store};
 use tx_system::FileStore;
 
 // The calls of a save of five bytes, in their order.
-const SAVING: &[Call] = &[
-    Call::Look,
-    Call::Metadata,
-    Call::Open,
-    Call::Folder,
-    Call::Create,
-    Call::Permit,
-    Call::Write,
-    Call::Write,
-    Call::Flush,
-    Call::Sync,
-    Call::Rename,
-    Call::SyncFolder,
+const SAVING: &[FileCall] = &[
+    FileCall::Look,
+    FileCall::Metadata,
+    FileCall::Open,
+    FileCall::Folder,
+    FileCall::Create,
+    FileCall::Permit,
+    FileCall::Write,
+    FileCall::Write,
+    FileCall::Flush,
+    FileCall::Sync,
+    FileCall::Rename,
+    FileCall::SyncFolder,
 ];
 
 const NEVER: usize = 1_000;

@@ -1,5 +1,11 @@
-//! Tests of what documents show: display texts and clusters, row by row.
+//! Tests of what documents show, of values, of environments and of primitives: tables row by row.
 #![tactic(auto)]
 
 #[cfg(test)]
 mod clusters;
+#[cfg(test)]
+mod environments;
+#[cfg(test)]
+mod origins;
+#[cfg(test)]
+mod primitives;

@@ -1,0 +1,4 @@
+use Rattle.tx_edit_tests.proofs.rows.edits_undo_and_redo.Given as goal
+
+abbrev pub ghosts-stray : goal.ghosts-stray
+ghosts-stray g a = record { name = a.blank.name; parts = a.blank.parts }

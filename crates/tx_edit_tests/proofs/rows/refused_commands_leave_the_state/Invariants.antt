@@ -1,0 +1,4 @@
+use Rattle.tx_edit_tests.proofs.rows.refused_commands_leave_the_state.Given as goal
+
+abbrev pub ghosts-refused : goal.ghosts-refused
+ghosts-refused g a = record { name = a.blank.name; parts = a.blank.parts }

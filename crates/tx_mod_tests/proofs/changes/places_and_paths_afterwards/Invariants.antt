@@ -1,4 +1,0 @@
-use Rattle.tx_mod_tests.proofs.changes.places_and_paths_afterwards.Given as goal
-
-abbrev pub ghosts-following : goal.ghosts-following
-ghosts-following g a = record { name = a.blank.name; parts = a.blank.parts }

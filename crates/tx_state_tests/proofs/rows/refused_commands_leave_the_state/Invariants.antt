@@ -1,4 +1,0 @@
-use Rattle.tx_state_tests.proofs.rows.refused_commands_leave_the_state.Given as goal
-
-abbrev pub ghosts-refused : goal.ghosts-refused
-ghosts-refused g a = record { name = a.blank.name; parts = a.blank.parts }

@@ -1,4 +1,0 @@
-use Rattle.tx_state_tests.proofs.undoing.a_thousand_edits_are_undone.Given as goal
-
-abbrev pub ghosts-to_the_end : goal.ghosts-to_the_end
-ghosts-to_the_end g a = record { name = a.blank.name; parts = a.blank.parts }
