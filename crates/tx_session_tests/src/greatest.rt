@@ -111,6 +111,9 @@ const SAVED: &[Run<'static>] = &[
         Status::Ok,
         "saved 8130092\nsaved 8065039\n",
     ),
+];
+
+const SAVED_TEXTS: &[Run<'static>] = &[
     (
         "a.tm",
         Great::Letters("<#", 1_048_575, ">"),
@@ -303,10 +306,18 @@ fn first_wrong_run<L: Ledger>(
     Ok(None)
 }
 
-// Blocks that are as deep, as wide and as big as a tree may be, and texts and raw data at the limit and past it.
+// Blocks that are as deep, as wide and as big as a tree may be.
 #[test]
 fn the_greatest_files_are_saved(rt: HostRuntime) -> Result<(), Fail> {
     let wrong = first_wrong_run::<Brand>(rt.alloc(), SAVED, Blank::new(1))?;
+    assert_eq!(rt; wrong, None);
+    Ok(())
+}
+
+// Texts and raw data at the limit and past it.
+#[test]
+fn the_longest_texts_are_saved(rt: HostRuntime) -> Result<(), Fail> {
+    let wrong = first_wrong_run::<Brand>(rt.alloc(), SAVED_TEXTS, Blank::new(1))?;
     assert_eq!(rt; wrong, None);
     Ok(())
 }

@@ -167,14 +167,21 @@ fn numbered(alloc: Global, number: u32) -> Option<Text> {
     name_of(alloc, word.as_bytes())
 }
 
+// Sets the name of one number to another number. The scopes stay, whatever comes.
+fn set_name(alloc: Global, env: &mut Env, number: u32, value: u32) -> Option<()>
+    ensures { env.new.scopes ≡ env.old.scopes }
+{
+    let value = Tree::leaf(alloc, numbered(alloc, value)?).ok()?;
+    env.set(numbered(alloc, number)?, value).ok()
+}
+
 // Gives each of the first names its number, counted on from `from`.
 fn set_names(alloc: Global, env: &mut Env, count: u32, from: u32) -> Option<()>
     requires { count + from < 2 ^ 32 }
     ensures { IfSome result (λ _. env.new.scopes ≡ env.old.scopes) }
 {
     for number in 0..count {
-        let value = Tree::leaf(alloc, numbered(alloc, number + from)?).ok()?;
-        env.set(numbered(alloc, number)?, value).ok()?;
+        set_name(alloc, env, number, number + from)?;
     }
     Some(())
 }
