@@ -7,6 +7,8 @@ use borrow.Author.Tests.{leb-false}
 use Rattle.tx_base.specs.Fronts.{IsLongestFront}
 use Rattle.tx_tree.specs.Labels.{is_label_byte, IsLabel}
 use Rattle.tx_tree.specs.PathSpelling.{is_digit, number_after, IsNumber, AreNumbers, SpellsPath}
+use Rattle.tx_tree.proofs.PathReading.{number_grows, number_after-append}
+use Rattle.tx_tree.proofs.Scanning.{all_snoc}
 use Rattle.tx_cmd.specs.Words.{HasNoSpace, IsNumeral}
 use Rattle.tx_cmd.specs.Pieces.{next_number}
 use Rattle.tx_base.proofs.Fronts.{ends_before, ends_behind}
@@ -15,18 +17,6 @@ abbrev AreDigits : List ℕ → Type 0
 AreDigits = AllByRecursion (λ b. is_digit b ≡ true)
 
 -- ---- reading a number
-
-number_grows : (v : ℕ) (digits : List ℕ) → v ≤ number_after v digits
-number_grows v [] = omega arith
-number_grows v (b ∷ digits) = omega (arith, number_grows (v * 10 + (b - 48)) digits)
-
-number_after-append : (v : ℕ) (x y : List ℕ) → number_after v (x ++ y) ≡ number_after (number_after v x) y
-number_after-append v [] y = refl
-number_after-append v (b ∷ x) y = number_after-append (v * 10 + (b - 48)) x y
-
-digits_snoc : (x : List ℕ) (b : ℕ) → AreDigits x → is_digit b ≡ true → AreDigits (x ++ b ∷ [])
-digits_snoc [] b h k = (k, tt)
-digits_snoc (y ∷ x) b h k = (h.0, digits_snoc x b h.1 k)
 
 -- digits whose number isn't too great, and that aren't too many
 pub record AreRead (digits : List ℕ) (v : ℕ) : Type 0 where
@@ -43,7 +33,7 @@ read_more : (bytes : List ℕ) (i v : ℕ) → i < length bytes → AreRead (tak
 read_more bytes i v lt h d few fits =
     let b = get_or bytes i 0 in
     rw (take_more bytes i 0 lt) (record {
-      each = digits_snoc (take i bytes) b h.each d;
+      each = all_snoc _ (take i bytes) b h.each d;
       short = omega (arith, length-append (take i bytes) (b ∷ []), length-take-le i bytes (omega arith));
       value = ap (λ n. n * 10 + (b - 48)) h.value ∙ sym (number_after-append 0 (take i bytes) (b ∷ []));
       fits = fits;

@@ -1,18 +1,19 @@
 -- What is known of a subtree where a modification makes something of it.
 use Rattle.std.proofs.Common.{◌≡◌, ℕ, zero, suc, ◌+◌, ◌≤◌, max, Bool, true, false, leb, List, [], ◌∷◌, ◌++◌, length, take, drop, get_or, Option, Some, None, Ok, Err, refl, sym, ap, subst, ◌∙◌, arith}
 use Rattle.std.specs.Prelude.{slice_get, IsOkAnd, IfOk, Result}
-use Rattle.std.specs.List.{AllByRecursion, flat_map}
+use Rattle.std.specs.List.{flat_map}
 use Rattle.std.specs.Option.{option_map_or}
 use Rattle.std.specs.Str.{bytes_eq}
 use Rattle.std.proofs.lemmas.Bool.{leb-true}
 use Rattle.std.proofs.lemmas.List.{take-append-drop, append-nil, take_all, drop_all}
 use Rattle.std.proofs.lemmas.List.Concat.{flat_map-append}
 use Rattle.tx_tree.specs.Cuts.{is_cut}
-use Rattle.tx_tree.specs.Texts.{Item, IsItem, item_bytes, IsText}
+use Rattle.tx_tree.specs.Texts.{item_bytes, IsText}
 use Rattle.tx_tree.specs.Limits.{IsWithinLimits}
 use Rattle.tx_tree.specs.WideTree.{WideTree, leaf, node, forest, size_of, depth_of, arity_of, text_length_of}
 use Rattle.tx_tree.proofs.Children.{trees_forest}
 use Rattle.tx_tree.proofs.Cutting.{cut_test, cut_text, text_rest}
+use Rattle.tx_tree.proofs.PlaceFaults.{items_append}
 use Rattle.tx_mod.specs.declared.faults.ModFault.{ModFault}
 use Rattle.tx_mod.specs.declared.faults.ModFault.TheVariants.{NotNode, BadPlace, CutsSymbol, Differ}
 use Rattle.tx_mod.specs.Mods.{tuple, put_in, taken_out, extent, is_clean, before, behind}
@@ -21,13 +22,9 @@ use Rattle.tx_mod.proofs.Measuring.{some_size, halves, of_both}
 
 -- ---- texts
 
-all_items : (a b : List Item) → AllByRecursion IsItem a → AllByRecursion IsItem b → AllByRecursion IsItem (a ++ b)
-all_items [] b h k = k
-all_items (i ∷ a) b h k = (h.0, all_items a b h.1 k)
-
 -- two texts are one
 pub texts_together : (a b : List ℕ) → IsText a → IsText b → IsText (a ++ b)
-texts_together a b h k = (h.0 ++ k.0, all_items h.0 k.0 h.1 k.1, ap (λ x. x ++ b) h.2 ∙ ap (λ y. flat_map item_bytes h.0 ++ y) k.2 ∙ sym (flat_map-append item_bytes h.0 k.0))
+texts_together a b h k = (h.0 ++ k.0, items_append h.0 k.0 h.1 k.1, ap (λ x. x ++ b) h.2 ∙ ap (λ y. flat_map item_bytes h.0 ++ y) k.2 ∙ sym (flat_map-append item_bytes h.0 k.0))
 
 -- a text before a cut, and from there on
 pub text_before : (text : List ℕ) (i : ℕ) → IsText text → is_cut text i ≡ true → IsText (take i text)

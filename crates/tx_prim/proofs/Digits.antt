@@ -1,22 +1,14 @@
 -- What digits write.
-use Rattle.std.proofs.Common.{◌≡◌, ℕ, zero, suc, ◌+◌, ◌-◌, ◌*◌, ◌/◌, ◌^◌, ◌<◌, ◌≤◌, Bool, true, false, ◌&&◌, nat_lt, List, [], ◌∷◌, ◌++◌, length, take, drop, get_or, ℤ, pos, negsuc, neg_ℤ, Option, Some, None, refl, sym, ap, subst, ◌∙◌, codes, arith, cond}
+use Rattle.std.proofs.Common.{◌≡◌, ℕ, zero, suc, ◌+◌, ◌-◌, ◌*◌, ◌/◌, ◌^◌, ◌<◌, ◌≤◌, Bool, true, false, List, [], ◌∷◌, ◌++◌, length, take, drop, get_or, Some, None, refl, sym, ap, subst, ◌∙◌, codes, arith, cond}
 use Rattle.std.specs.List.{list_all, prefix_len}
-use Rattle.std.proofs.lemmas.Bool.{and_parts, and_from, le-ltb}
+use Rattle.std.proofs.lemmas.Bool.{and_from, le-ltb}
 use Rattle.std.proofs.lemmas.List.{at_drop_more, at_drop_all}
 use Rattle.tx_tree.specs.PathSpelling.{is_digit, number_after}
-use Rattle.tx_prim.specs.Numbers.{fits, if_fits, signed}
+use Rattle.tx_tree.proofs.PathReading.{number_grows, number_after-append}
+use Rattle.tx_prim.specs.Numbers.{if_fits, signed}
 use Rattle.std.specs.Prelude.{option_and_then}
 use Rattle.std.proofs.Math.Nat.{mul-le-mul_left}
 use Rattle.tx_prim.specs.Lengths.{thousandths, unit_of, measured}
-
--- digits only make a number greater
-pub number_grows : (v : ℕ) (digits : List ℕ) → v ≤ number_after v digits
-number_grows v [] = omega arith
-number_grows v (b ∷ digits) = omega (arith, number_grows (v * 10 + (b - 48)) digits)
-
-pub number_after-append : (v : ℕ) (x y : List ℕ) → number_after v (x ++ y) ≡ number_after (number_after v x) y
-number_after-append v [] y = refl
-number_after-append v (b ∷ x) y = number_after-append (v * 10 + (b - 48)) x y
 
 -- three digits behind the point
 pub three : (v : ℕ) (decimals : List ℕ) → number_after v (take 3 (decimals ++ codes "000")) ≡ v * 1000 + number_after 0 (take 3 (decimals ++ codes "000"))

@@ -1,9 +1,10 @@
 -- Items of a text, byte by byte.
-use Rattle.std.proofs.Common.{◌≡◌, ℕ, zero, suc, ◌+◌, ◌-◌, ◌≤◌, ◌<◌, Bool, true, false, cond, ◌==◌, eqb, List, [], ◌∷◌, ◌++◌, map, length, take, drop, refl, sym, ap, subst, ◌∙◌, append_assoc, arith, take-add, get_or, not}
+use Rattle.std.proofs.Common.{◌≡◌, ℕ, zero, suc, ◌+◌, ◌-◌, ◌≤◌, ◌<◌, Bool, true, false, cond, ◌==◌, List, [], ◌∷◌, ◌++◌, map, length, take, drop, refl, sym, ap, subst, ◌∙◌, append_assoc, arith, take-add, get_or, not}
 use Rattle.std.specs.List.{AllByRecursion, flat_map}
 use Rattle.std.proofs.lemmas.List.{append-nil, length-append, at_drop_more, take-append-drop, take_at, drop_at}
 use Rattle.std.proofs.lemmas.List.Concat.{flat_map-append}
-use Rattle.tx_tree.specs.Texts.{Item, byte, symbol, is_item_byte, is_name_byte, IsItem, item_bytes, IsText}
+use Rattle.tx_tree.specs.Texts.{Item, byte, symbol, is_name_byte, IsItem, item_bytes, IsText}
+use Rattle.tx_tree.proofs.PlaceFaults.{items_append}
 use Rattle.tx_prim.specs.Items.{items_of, symbol_items, joined_lists}
 
 by_test : {A : Type 0} (P : A → Type 0) (b : Bool) (x y : A) → (b ≡ true → P x) → (b ≡ false → P y) → P (cond b x y)
@@ -186,13 +187,9 @@ pub items_are : (items : List Item) → AllByRecursion IsItem items → items_of
 items_are [] h = refl
 items_are (item ∷ items) h = item_front item (flat_map item_bytes items) h.0 ∙ ap (λ z. item_bytes item ∷ z) (items_are items h.1)
 
-all_append : (a b : List Item) → AllByRecursion IsItem a → AllByRecursion IsItem b → AllByRecursion IsItem (a ++ b)
-all_append [] b h k = k
-all_append (i ∷ a) b h k = (h.0, all_append a b h.1 k)
-
 -- two texts are one
 pub one_text : (a b : List ℕ) → IsText a → IsText b → IsText (a ++ b)
-one_text a b h k = (h.0 ++ k.0, all_append h.0 k.0 h.1 k.1, ap (λ x. x ++ b) h.2 ∙ ap (λ y. flat_map item_bytes h.0 ++ y) k.2 ∙ sym (flat_map-append item_bytes h.0 k.0))
+one_text a b h k = (h.0 ++ k.0, items_append h.0 k.0 h.1 k.1, ap (λ x. x ++ b) h.2 ∙ ap (λ y. flat_map item_bytes h.0 ++ y) k.2 ∙ sym (flat_map-append item_bytes h.0 k.0))
 
 pub no_text : IsText []
 no_text = ([], tt, refl)

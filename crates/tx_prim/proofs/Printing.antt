@@ -7,10 +7,11 @@ use Rattle.std.proofs.lemmas.Bool.{and_parts, and_from, lt-ltb, le-ltb, false_fr
 use Rattle.std.proofs.lemmas.List.{append-nil, take_at, drop_at}
 use Rattle.std.proofs.lemmas.Fmt.{decimal_by_steps, decimal_nonempty, length-decimal-le}
 use Rattle.tx_tree.specs.PathSpelling.{is_digit, number_after}
+use Rattle.tx_tree.proofs.PathReading.{number_after-append}
 use Rattle.tx_prim.specs.Numbers.{fits, if_fits, signed, has_minus, behind_minus, are_digits, number_of}
 use Rattle.tx_prim.specs.Lengths.{digits_front, digits_rest, length_behind, length_of, length_text, measured}
 use Rattle.tx_prim.proofs.Plain.{decimal_digits}
-use Rattle.tx_prim.proofs.Digits.{number_after-append, measured_is}
+use Rattle.tx_prim.proofs.Digits.{measured_is}
 
 -- ---- the digits of a number
 

@@ -1,7 +1,7 @@
 -- A label by its bytes.
 use Rattle.std.proofs.Common.{◌≡◌, ℕ, ◌<◌, true, List, [], ◌∷◌, ◌++◌, length, length-append, arith}
 use Rattle.tx_tree.specs.Labels.{is_label_byte, IsLabel}
-use Rattle.tx_scm.proofs.Sound.{all_snoc}
+use Rattle.tx_tree.proofs.Scanning.{all_snoc}
 
 pub label_of_one : (b : ℕ) → is_label_byte b ≡ true → IsLabel (b ∷ [])
 label_of_one b h = record { each = (h, tt); some = omega arith; short = omega arith }

@@ -1,6 +1,6 @@
 -- What is read is spelled so, and is within the limits.
 use Rattle.std.proofs.Common.{◌≡◌, ℕ, ◌≤◌, Bool, true, false, ltb, ◌&&◌, List, [], ◌∷◌, ◌++◌, length, Some, refl, sym, subst, append_assoc, length-append, arith}
-use Rattle.std.specs.List.{AllByRecursion, flat_map}
+use Rattle.std.specs.List.{flat_map}
 use Rattle.std.proofs.lemmas.List.{append-nil}
 use Rattle.std.proofs.lemmas.List.Concat.{flat_map-append}
 use Rattle.std.proofs.lemmas.Bool.{ltb-true, and_parts}
@@ -8,7 +8,7 @@ use Rattle.tx_tree.specs.Limits.{IsWithinLimits}
 use Rattle.tx_tree.specs.Labels.{IsLabel}
 use Rattle.tx_tree.specs.TextScan.{is_text, begins_text}
 use Rattle.tx_tree.specs.WideTree.{WideTree, leaf, forest}
-use Rattle.tx_tree.proofs.Scanning.{text_test}
+use Rattle.tx_tree.proofs.Scanning.{text_test, all_snoc}
 use Rattle.tx_scm.specs.declared.kinds.Kind.{Kind}
 use Rattle.tx_scm.specs.declared.kinds.Kind.TheVariants.{White, Opens, Closes, Quote, Backslash, Letter, Other}
 use Rattle.tx_scm.specs.Spelling.{is_white, AreWhite, escaped, string_of, SpellsTree, SpellsTrees, Spells}
@@ -18,10 +18,6 @@ use Rattle.tx_scm.proofs.ByteKinds.{is_white_kind, is_letter_kind, is_opens_kind
 use Rattle.tx_scm.proofs.Bounded.{below_kept, within_below}
 
 -- ---- lists
-
-pub all_snoc : (P : ℕ → Type 0) (a : List ℕ) (x : ℕ) → AllByRecursion P a → P x → AllByRecursion P (a ++ x ∷ [])
-all_snoc P [] x h k = (k, tt)
-all_snoc P (y ∷ a) x h k = (h.0, all_snoc P a x h.1 k)
 
 -- ---- trees
 

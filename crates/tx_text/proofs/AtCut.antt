@@ -8,6 +8,7 @@ use Rattle.std.proofs.lemmas.List.Concat.{flat_map-append}
 use Rattle.std.proofs.lemmas.Bool.Decides.{nat_tests}
 use Rattle.tx_tree.specs.Texts.{Item, byte, symbol, item_bytes, IsItem, IsName, IsCut, is_name_byte}
 use Rattle.tx_tree.proofs.Cutting.{cut_within}
+use Rattle.tx_tree.proofs.PlaceFaults.{items_append}
 use Rattle.tx_text.specs.Tables.{byte_code}
 use Rattle.tx_text.specs.Displays.{item_text, display_text}
 use Rattle.tx_text.specs.Clusters.{items_of, item_at}
@@ -20,11 +21,6 @@ pub record Stands (bytes : List ℕ) (at : ℕ) (item : Item) : Type 0 where
   pub goes_on : items_of (drop at bytes) ≡ item ∷ items_of (drop (at + length (item_bytes item)) bytes)
   pub next : IsCut bytes (at + length (item_bytes item))
   pub spelled : drop at bytes ≡ item_bytes item ++ drop (at + length (item_bytes item)) bytes
-
-all_append : (xs ys : List Item) → AllByRecursion IsItem xs → AllByRecursion IsItem ys
-    → AllByRecursion IsItem (xs ++ ys)
-all_append [] ys hx hy = hy
-all_append (x ∷ xs) ys hx hy = (hx.0, all_append xs ys hx.1 hy)
 
 stands_before : (bytes : List ℕ) (at : ℕ) (before : List Item) (item : Item) (after : List Item)
     → AllByRecursion IsItem before → AllByRecursion IsItem (item ∷ after)
@@ -50,7 +46,7 @@ stands_before bytes at before item after ib ia whole place =
       next = (
         before ++ item ∷ [],
         after,
-        all_append before (item ∷ []) ib (ia.0, tt),
+        items_append before (item ∷ []) ib (ia.0, tt),
         ia.1,
         whole ∙ sym (append_assoc front (item_bytes item) rest) ∙ ap (λ z. z ++ rest) (sym joined),
         ap (λ n. n + k) place ∙ sym (length-append front (item_bytes item)) ∙ ap length (sym joined),

@@ -3,10 +3,11 @@ use Rattle.std.proofs.Common.{◌≡◌, ℕ, ◌-◌, Bool, true, false, ◌&&�
 use Rattle.std.specs.List.{AllByRecursion}
 use Rattle.std.proofs.lemmas.List.{append-nil}
 use Rattle.std.proofs.lemmas.List.Concat.{flat_map-append}
-use Rattle.tx_tree.specs.Texts.{Item, byte, symbol, is_item_byte, IsItem, item_bytes, IsText, IsName}
+use Rattle.tx_tree.specs.Texts.{byte, symbol, is_item_byte, item_bytes, IsText, IsName}
 use Rattle.tx_tree.specs.Labels.{is_label_byte, IsLabel}
 use Rattle.tx_tree.specs.WideTree.{WideTree, node, forest}
 use Rattle.tx_tree.specs.Limits.{IsWellFormed, AreWellFormed}
+use Rattle.tx_tree.proofs.PlaceFaults.{items_append}
 use Rattle.tx_tm_form.specs.declared.bytes.Escaped.{Escaped}
 use Rattle.tx_tm_form.specs.declared.bytes.Escaped.TheVariants.{Mark, Byte}
 use Rattle.tx_tm_form.specs.declared.bytes.White.{White}
@@ -17,12 +18,8 @@ use Rattle.tx_tm_form.specs.Forms.{AreDigits, Piece, Pieces, Arguments, Blocks, 
 
 -- ---- texts
 
-all_both : (xs ys : List Item) → AllByRecursion IsItem xs → AllByRecursion IsItem ys → AllByRecursion IsItem (xs ++ ys)
-all_both [] ys h k = k
-all_both (x ∷ xs) ys h k = (h.0, all_both xs ys h.1 k)
-
 pub text_text : (a b : List ℕ) → IsText a → IsText b → IsText (a ++ b)
-text_text a b h k = (h.0 ++ k.0, all_both h.0 k.0 h.1 k.1, rw (h.2, k.2) (sym (flat_map-append item_bytes h.0 k.0)))
+text_text a b h k = (h.0 ++ k.0, items_append h.0 k.0 h.1 k.1, rw (h.2, k.2) (sym (flat_map-append item_bytes h.0 k.0)))
 
 pub no_text : IsText []
 no_text = ([], tt, refl)

@@ -7,6 +7,7 @@ use Rattle.tx_tree.specs.declared.TheConstants.{MOST_NAME}
 use Rattle.tx_tree.specs.Texts.{is_name_byte}
 use Rattle.tx_tree.specs.Labels.{IsLabel}
 use Rattle.tx_tree.specs.WideTree.{WideTree, node, forest}
+use Rattle.tx_tree.proofs.Scanning.{all_snoc}
 use Rattle.tx_tm_form.specs.declared.bytes.Escaped.{Escaped}
 use Rattle.tx_tm_form.specs.declared.places.Form.{Form}
 use Rattle.tx_tm_form.specs.declared.places.Form.TheVariants.{Short, Long, Middle, Closing}
@@ -23,10 +24,6 @@ use Rattle.tx_tm_form.proofs.Complete.{child_behind, second_block, regrouped}
 use Rattle.tx_tm_form.proofs.Formed.{is_same_number, other_byte}
 
 -- ---- lists
-
-all_last : (P : ℕ → Type 0) (a : List ℕ) (x : ℕ) → AllByRecursion P a → P x → AllByRecursion P (a ++ x ∷ [])
-all_last P [] x h k = (k, tt)
-all_last P (b ∷ a) x h k = (h.0, all_last P a x h.1 k)
 
 left_three : (a b c y : List Token) → a ++ (b ++ (c ++ y)) ≡ (a ++ (b ++ c)) ++ y
 left_three a b c y = simp append_assoc refl
@@ -408,7 +405,7 @@ name_more : (b : ℕ) (n : List ℕ) (t : Token) (here : Content) (fs : List Ope
 name_more b n t here fs ts h e i k = (
   h.0,
   h.1,
-  record { each = all_last _ n b h.2.each i; short = omega (arith, length-append n (b ∷ [])) },
+  record { each = all_snoc _ n b h.2.each i; short = omega (arith, length-append n (b ∷ [])) },
   rw (h.3, map-append name_token n (b ∷ []), e) (append_assoc h.0 (escape 60 ∷ map name_token n) (t ∷ [])),
 )
 
@@ -453,7 +450,7 @@ naming_took _ n here fs ts v h = tt
 counting_took : (t : Token) (ds : List ℕ) (here : Content) (fs : List Open) (ts : List Token) → Took (counting ds here fs) ts → Took (feed_counting ds here fs t) (ts ++ t ∷ [])
 counting_took (plain b) ds here fs ts h =
     go_took (is_digit b) (counting (ds ++ b ∷ []) here fs) (ts ++ plain b ∷ []) (λ e.
-    (h.0, h.1, all_last _ ds b h.2 e, rw (h.3, map-append plain ds (b ∷ [])) (append_assoc h.0 (raw ∷ map plain ds) (plain b ∷ []))))
+    (h.0, h.1, all_snoc _ ds b h.2 e, rw (h.3, map-append plain ds (b ∷ [])) (append_assoc h.0 (raw ∷ map plain ds) (plain b ∷ []))))
 counting_took close ds here fs ts h = add_piece fs (raw_data ds h.2) _ here h.0 _ h.1 refl (rw h.3 (append_assoc h.0 (raw ∷ map plain ds) (close ∷ [])))
 counting_took _ ds here fs ts h = tt
 

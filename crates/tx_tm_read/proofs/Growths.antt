@@ -1,23 +1,19 @@
 -- Names and digits that grow.
 use Rattle.std.proofs.Common.{◌≡◌, ℕ, ◌<◌, ◌≤◌, ◌==◌, true, false, Some, List, [], ◌∷◌, ◌++◌, length, length-append, arith}
-use Rattle.std.specs.List.{AllByRecursion}
 use Rattle.tx_tree.specs.declared.TheConstants.{MOST_NAME, MOST_TEXT}
 use Rattle.tx_tree.specs.Texts.{is_name_byte, IsText}
+use Rattle.tx_tree.proofs.Scanning.{all_snoc}
 use Rattle.tx_tm_form.specs.Bytes.{is_digit, kind_of, is_plain, escape_of}
 use Rattle.tx_tm_form.specs.declared.bytes.Escaped.TheVariants.{Byte}
 use Rattle.tx_tm_form.specs.Forms.{symbol_bytes}
 use Rattle.tx_tm_form.proofs.Formed.{digits_text, symbol_text, escaped_text, one_byte_text, plain_item}
 use Rattle.tx_tm_read.specs.Fronts.{IsNameFront, IsDigitFront}
 
-all_more : (P : ℕ → Type 0) (l : List ℕ) (b : ℕ) → AllByRecursion P l → P b → AllByRecursion P (l ++ b ∷ [])
-all_more P [] b h k = (k, tt)
-all_more P (a ∷ l) b h k = (h.0, all_more P l b h.1 k)
-
 pub name_more : (l : List ℕ) (b : ℕ) → IsNameFront l → is_name_byte b ≡ true → length l < MOST_NAME → IsNameFront (l ++ b ∷ [])
-name_more l b h k n = record { each = all_more (λ b. is_name_byte b ≡ true) l b h.each k; short = omega (arith, length-append l (b ∷ [])) }
+name_more l b h k n = record { each = all_snoc (λ b. is_name_byte b ≡ true) l b h.each k; short = omega (arith, length-append l (b ∷ [])) }
 
 pub digit_more : (l : List ℕ) (b : ℕ) → IsDigitFront l → is_digit b ≡ true → length l < MOST_TEXT → IsDigitFront (l ++ b ∷ [])
-digit_more l b h k n = record { each = all_more (λ b. is_digit b ≡ true) l b h.each k; short = omega (arith, length-append l (b ∷ [])) }
+digit_more l b h k n = record { each = all_snoc (λ b. is_digit b ≡ true) l b h.each k; short = omega (arith, length-append l (b ∷ [])) }
 
 pub digits_are_text : (l : List ℕ) → IsDigitFront l → IsText l
 digits_are_text l h = digits_text l h.each

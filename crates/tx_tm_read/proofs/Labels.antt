@@ -1,18 +1,14 @@
 -- Labels that grow.
 use Rattle.std.proofs.Common.{◌≡◌, ℕ, ◌<◌, ◌≤◌, true, List, [], ◌∷◌, ◌++◌, length, length-append, arith}
-use Rattle.std.specs.List.{AllByRecursion}
 use Rattle.tx_tree.specs.declared.TheConstants.{MOST_LABEL}
 use Rattle.tx_tree.specs.Labels.{is_label_byte, IsLabel}
+use Rattle.tx_tree.proofs.Scanning.{all_snoc}
 use Rattle.tx_tm_form.specs.declared.bytes.ByteKind.TheVariants.{Name}
 use Rattle.tx_tm_form.specs.Bytes.{kind_of}
 use Rattle.tx_tm_read.specs.LabelFronts.{IsLabelFront}
 
-all_more : (l : List ℕ) (b : ℕ) → AllByRecursion (λ b. is_label_byte b ≡ true) l → is_label_byte b ≡ true → AllByRecursion (λ b. is_label_byte b ≡ true) (l ++ b ∷ [])
-all_more [] b h k = (k, tt)
-all_more (a ∷ l) b h k = (h.0, all_more l b h.1 k)
-
 pub one_more : (l : List ℕ) (b : ℕ) → IsLabelFront l → is_label_byte b ≡ true → length l < MOST_LABEL → IsLabelFront (l ++ b ∷ [])
-one_more l b h k n = record { each = all_more l b h.each k; short = omega (arith, length-append l (b ∷ [])) }
+one_more l b h k n = record { each = all_snoc _ l b h.each k; short = omega (arith, length-append l (b ∷ [])) }
 
 pub no_fault : (l : List ℕ) → IsLabelFront l → 1 ≤ length l → IsLabel l
 no_fault l h n = record { each = h.each; some = n; short = h.short }
