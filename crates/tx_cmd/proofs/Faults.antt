@@ -4,8 +4,8 @@ use Rattle.std.specs.Result.{IfErr, result_err}
 use Rattle.tx_base.specs.Fronts.{IsLongestFront}
 use Rattle.tx_cmd.specs.declared.command.CmdFault.{CmdFault}
 use Rattle.tx_cmd.specs.declared.command.CmdFault.TheVariants.{Long, Unknown, Args, Path, Tree, Memory}
-use Rattle.tx_cmd.specs.declared.words.Argument.{Argument}
-use Rattle.tx_cmd.specs.declared.words.Argument.TheVariants.{Path as PathArgument, Number as NumberArgument, Label as LabelArgument, Name as NameArgument, Tree as TreeArgument}
+use Rattle.tx_cmd.specs.declared.words.ArgumentKind.{ArgumentKind}
+use Rattle.tx_cmd.specs.declared.words.ArgumentKind.TheVariants.{Path as PathArgument, Number as NumberArgument, Label as LabelArgument, Name as NameArgument, Tree as TreeArgument}
 use Rattle.tx_cmd.specs.declared.words.Word.{Word}
 use Rattle.tx_cmd.specs.Words.{first_word, word_text, arguments_of, AreLoose, IsLoose}
 use Rattle.tx_cmd.specs.Values.{Value, kind_of, Means, HasMeaning}
@@ -15,12 +15,12 @@ use Rattle.tx_cmd.specs.declared.TheConstants.{MOST_LINE}
 use Rattle.tx_cmd.proofs.LooseFronts.{loose_cut, line_misfit}
 
 -- the first piece is bad
-pub fault_here : (a : Argument) (more : List Argument) (bytes piece rest : List ℕ) (at : ℕ) (fault : CmdFault) → tree_is_last (a ∷ more) ≡ true → IsCut a bytes piece rest → AreLoose (a ∷ more) bytes
+pub fault_here : (a : ArgumentKind) (more : List ArgumentKind) (bytes piece rest : List ℕ) (at : ℕ) (fault : CmdFault) → tree_is_last (a ∷ more) ≡ true → IsCut a bytes piece rest → AreLoose (a ∷ more) bytes
     → IsBadPiece a piece (at + 1) fault → IsFirstFault (a ∷ more) bytes at fault
 fault_here a more bytes piece rest at fault o c h bad = let w = loose_cut a more bytes piece rest o c h in (piece, rest, c.are, w.0, w.1, inl bad)
 
 -- the first piece is good, and one behind it is bad
-pub fault_behind : (v : Value) (more : List Argument) (bytes piece rest : List ℕ) (at : ℕ) (fault : CmdFault) → tree_is_last (kind_of v ∷ more) ≡ true → IsCut (kind_of v) bytes piece rest
+pub fault_behind : (v : Value) (more : List ArgumentKind) (bytes piece rest : List ℕ) (at : ℕ) (fault : CmdFault) → tree_is_last (kind_of v ∷ more) ≡ true → IsCut (kind_of v) bytes piece rest
     → AreLoose (kind_of v ∷ more) bytes → Means piece v → IsFirstFault more rest (at + 1 + length piece) fault → IsFirstFault (kind_of v ∷ more) bytes at fault
 fault_behind v more bytes piece rest at fault o c h means bad = let w = loose_cut (kind_of v) more bytes piece rest o c h in (piece, rest, c.are, w.0, w.1, inr ((v, refl, means), bad))
 
@@ -61,14 +61,14 @@ bad_tree_kind piece at Unknown h = h
 bad_tree_kind piece at (Args n) h = h
 bad_tree_kind piece at Memory h = h
 
-bad_kind : (a : Argument) (piece : List ℕ) (at : ℕ) (f : CmdFault) → IsBadPiece a piece at f → IsPieceFault f
+bad_kind : (a : ArgumentKind) (piece : List ℕ) (at : ℕ) (f : CmdFault) → IsBadPiece a piece at f → IsPieceFault f
 bad_kind PathArgument piece at f h = bad_path_kind piece at f h
 bad_kind TreeArgument piece at f h = bad_tree_kind piece at f h
 bad_kind NumberArgument piece at f h = absurd h
 bad_kind LabelArgument piece at f h = absurd h
 bad_kind NameArgument piece at f h = absurd h
 
-first_kind : (arguments : List Argument) (bytes : List ℕ) (at : ℕ) (f : CmdFault) → IsFirstFault arguments bytes at f → IsPieceFault f
+first_kind : (arguments : List ArgumentKind) (bytes : List ℕ) (at : ℕ) (f : CmdFault) → IsFirstFault arguments bytes at f → IsPieceFault f
 first_kind [] bytes at f h = absurd h
 first_kind (a ∷ more) bytes at f h =
     ⊎_elim (λ (x : IsBadPiece a h.0 (at + 1) f). bad_kind a h.0 (at + 1) f x) (λ (y : HasMeaning a h.0 × IsFirstFault more h.1 (at + 1 + length h.0) f). first_kind more h.1 (at + 1 + length h.0) f y.1) h.5

@@ -3,8 +3,8 @@ use Rattle.std.proofs.Common.{◌≡◌, ℕ, zero, suc, ◌+◌, ◌-◌, ◌<�
 use Rattle.std.proofs.lemmas.List.{append-nil, take_rest, append_cancel_left}
 use Rattle.std.proofs.lemmas.Bool.{cases_lt}
 use Rattle.tx_base.specs.Fronts.{IsFront, IsLongestFront}
-use Rattle.tx_cmd.specs.declared.words.Argument.{Argument}
-use Rattle.tx_cmd.specs.declared.words.Argument.TheVariants.{Path as PathArgument, Number as NumberArgument, Label as LabelArgument, Name as NameArgument, Tree as TreeArgument}
+use Rattle.tx_cmd.specs.declared.words.ArgumentKind.{ArgumentKind}
+use Rattle.tx_cmd.specs.declared.words.ArgumentKind.TheVariants.{Path as PathArgument, Number as NumberArgument, Label as LabelArgument, Name as NameArgument, Tree as TreeArgument}
 use Rattle.tx_cmd.specs.declared.words.Word.{Word}
 use Rattle.tx_cmd.specs.Words.{HasNoSpace, IsLoosePiece, AreLoose, IsLoose, arguments_of, word_text}
 use Rattle.tx_cmd.specs.Pieces.{IsTail, EndsPiece, IsCut, tree_is_last, IsMisfit, IsPieceMisfit}
@@ -16,26 +16,26 @@ use Rattle.tx_cmd.proofs.Names.{name_no_space, some_name}
 
 -- ---- pieces of each kind
 
-some_piece : (a : Argument) → (piece : List ℕ) × IsLoosePiece a piece
+some_piece : (a : ArgumentKind) → (piece : List ℕ) × IsLoosePiece a piece
 some_piece PathArgument = ([], tt)
 some_piece NumberArgument = (48 ∷ [], some_numeral)
 some_piece LabelArgument = (97 ∷ [], some_label)
 some_piece NameArgument = (97 ∷ [], some_name)
 some_piece TreeArgument = ([], tt)
 
-pub some_loose : (arguments : List Argument) → (bytes : List ℕ) × AreLoose arguments bytes
+pub some_loose : (arguments : List ArgumentKind) → (bytes : List ℕ) × AreLoose arguments bytes
 some_loose [] = ([], refl)
 some_loose (a ∷ more) = let p = some_piece a in let r = some_loose more in (32 ∷ (p.0 ++ r.0), (p.0, r.0, p.1, r.1, refl))
 
-pub loose_tail : (arguments : List Argument) (bytes : List ℕ) → AreLoose arguments bytes → IsTail bytes
+pub loose_tail : (arguments : List ArgumentKind) (bytes : List ℕ) → AreLoose arguments bytes → IsTail bytes
 loose_tail [] bytes h = subst IsTail (sym h) tt
 loose_tail (a ∷ more) bytes h = subst IsTail (sym h.4) refl
 
-nil_tree : (more : List Argument) → tree_is_last (TreeArgument ∷ more) ≡ true → more ≡ []
+nil_tree : (more : List ArgumentKind) → tree_is_last (TreeArgument ∷ more) ≡ true → more ≡ []
 nil_tree [] h = refl
 nil_tree (b ∷ more) h = absurd cc
 
-pub last_of : (a : Argument) (more : List Argument) → tree_is_last (a ∷ more) ≡ true → tree_is_last more ≡ true
+pub last_of : (a : ArgumentKind) (more : List ArgumentKind) → tree_is_last (a ∷ more) ≡ true → tree_is_last more ≡ true
 last_of PathArgument more h = h
 last_of NumberArgument more h = h
 last_of LabelArgument more h = h
@@ -43,7 +43,7 @@ last_of NameArgument more h = h
 last_of TreeArgument more h = subst (λ x. tree_is_last x ≡ true) (sym (nil_tree more h)) refl
 
 -- what stands for the arguments is cut where it ends
-pub loose_ends : (a : Argument) (more : List Argument) (piece rest : List ℕ) → tree_is_last (a ∷ more) ≡ true → IsLoosePiece a piece → AreLoose more rest → EndsPiece a piece rest
+pub loose_ends : (a : ArgumentKind) (more : List ArgumentKind) (piece rest : List ℕ) → tree_is_last (a ∷ more) ≡ true → IsLoosePiece a piece → AreLoose more rest → EndsPiece a piece rest
 loose_ends PathArgument more piece rest o h k = (h, loose_tail more rest k)
 loose_ends NumberArgument more piece rest o h k = (numeral_no_space piece h, loose_tail more rest k)
 loose_ends LabelArgument more piece rest o h k = (label_no_space piece h, loose_tail more rest k)
@@ -52,7 +52,7 @@ loose_ends TreeArgument more piece rest o h k = subst (λ x. AreLoose x rest) (n
 
 -- ---- there is one way to cut
 
-pub one_cut : (a : Argument) (p q r s : List ℕ) → 32 ∷ (p ++ r) ≡ 32 ∷ (q ++ s) → EndsPiece a p r → EndsPiece a q s → (p ≡ q) × (r ≡ s)
+pub one_cut : (a : ArgumentKind) (p q r s : List ℕ) → 32 ∷ (p ++ r) ≡ 32 ∷ (q ++ s) → EndsPiece a p r → EndsPiece a q s → (p ≡ q) × (r ≡ s)
 one_cut PathArgument p q r s e h k = let same : p ++ r ≡ q ++ s = cc in one_piece p q r s same h.0 k.0 h.1 k.1
 one_cut NumberArgument p q r s e h k = let same : p ++ r ≡ q ++ s = cc in one_piece p q r s same h.0 k.0 h.1 k.1
 one_cut LabelArgument p q r s e h k = let same : p ++ r ≡ q ++ s = cc in one_piece p q r s same h.0 k.0 h.1 k.1
@@ -62,18 +62,18 @@ one_cut TreeArgument p q r s e h k =
     (sym (append-nil p) ∙ ap (λ x. p ++ x) (sym h) ∙ same ∙ ap (λ x. q ++ x) k ∙ append-nil q, h ∙ sym k)
 
 -- pieces that stand for the arguments are those that the bytes are cut into
-pub loose_cut : (a : Argument) (more : List Argument) (bytes piece rest : List ℕ) → tree_is_last (a ∷ more) ≡ true → IsCut a bytes piece rest → AreLoose (a ∷ more) bytes → IsLoosePiece a piece × AreLoose more rest
+pub loose_cut : (a : ArgumentKind) (more : List ArgumentKind) (bytes piece rest : List ℕ) → tree_is_last (a ∷ more) ≡ true → IsCut a bytes piece rest → AreLoose (a ∷ more) bytes → IsLoosePiece a piece × AreLoose more rest
 loose_cut a more bytes piece rest o c h =
     let w = one_cut a h.0 piece h.1 rest (sym h.4 ∙ c.are) (loose_ends a more h.0 h.1 o h.2 h.3) c.ends in
     (subst (IsLoosePiece a) w.0 h.2, subst (AreLoose more) w.1 h.3)
 
 -- ---- where the arguments or the bytes are at an end
 
-none_left : (a : Argument) (more : List Argument) (bytes : List ℕ) → length bytes ≡ 0 → IsMisfit (a ∷ more) bytes (Some 0)
+none_left : (a : ArgumentKind) (more : List ArgumentKind) (bytes : List ℕ) → length bytes ≡ 0 → IsMisfit (a ∷ more) bytes (Some 0)
 none_left a more [] e = ends_behind (AreLoose (a ∷ more)) [] (some_loose (a ∷ more)) (λ h. let none = h.4 in absurd cc)
 none_left a more (b ∷ bytes) e = absurd (omega arith)
 
-pub some_left : (arguments : List Argument) (bytes : List ℕ) → 1 ≤ length arguments → length bytes ≡ 0 → IsMisfit arguments bytes (Some 0)
+pub some_left : (arguments : List ArgumentKind) (bytes : List ℕ) → 1 ≤ length arguments → length bytes ≡ 0 → IsMisfit arguments bytes (Some 0)
 some_left [] bytes some e = absurd (omega arith)
 some_left (a ∷ more) bytes some e = none_left a more bytes e
 
@@ -89,7 +89,7 @@ take_past n [] y = let e : 0 + n ≡ n = omega arith in ap (λ k. take k y) e
 take_past n (b ∷ x) y = let e : suc (length x) + n ≡ suc (length x + n) = omega arith in ap (λ k. take k (b ∷ (x ++ y))) e ∙ ap (λ z. b ∷ z) (take_past n x y)
 
 -- the bytes begin pieces where the first one is begun
-begun : (a : Argument) (more : List Argument) (piece rest : List ℕ) (n : ℕ) → IsFront (IsLoosePiece a) piece n → IsFront (AreLoose (a ∷ more)) (32 ∷ (piece ++ rest)) (1 + n)
+begun : (a : ArgumentKind) (more : List ArgumentKind) (piece rest : List ℕ) (n : ℕ) → IsFront (IsLoosePiece a) piece n → IsFront (AreLoose (a ∷ more)) (32 ∷ (piece ++ rest)) (1 + n)
 begun a more piece rest n f =
     let r = some_loose more in
     let one : 1 + n ≡ suc n = omega arith in (
@@ -107,21 +107,21 @@ begun a more piece rest n f =
       ),
     )
 
-abbrev IsSpaceless : Argument → Type 0
+abbrev IsSpaceless : ArgumentKind → Type 0
 IsSpaceless a = (piece : List ℕ) → IsLoosePiece a piece → HasNoSpace piece
 
 tails_of : (x y : List ℕ) → 32 ∷ x ≡ 32 ∷ y → x ≡ y
 tails_of x y e = cc
 
 -- how a front of the bytes is continued to pieces
-continued : (a : Argument) (more : List Argument) (piece rest : List ℕ) (m : ℕ) → IsSpaceless a → HasNoSpace piece → IsTail rest → (f : IsFront (AreLoose (a ∷ more)) (32 ∷ (piece ++ rest)) (suc m))
+continued : (a : ArgumentKind) (more : List ArgumentKind) (piece rest : List ℕ) (m : ℕ) → IsSpaceless a → HasNoSpace piece → IsTail rest → (f : IsFront (AreLoose (a ∷ more)) (32 ∷ (piece ++ rest)) (suc m))
     → GoesOn piece rest m f.1.0 f.1.1.0 f.1.1.1
 continued a more piece rest m spaceless hp hr f =
     let w = f.1.1 in
     let same : take m (piece ++ rest) ++ f.1.0 ≡ w.0 ++ w.1 = tails_of _ _ w.4 in
     split_front piece rest w.0 w.1 f.1.0 m same (omega (arith, f.0)) hp hr (spaceless w.0 w.2) (loose_tail more w.1 w.3)
 
-stops_here : (a : Argument) (more : List Argument) (bytes piece rest : List ℕ) (n : ℕ) → IsSpaceless a → HasNoSpace piece → IsTail rest → bytes ≡ 32 ∷ (piece ++ rest)
+stops_here : (a : ArgumentKind) (more : List ArgumentKind) (bytes piece rest : List ℕ) (n : ℕ) → IsSpaceless a → HasNoSpace piece → IsTail rest → bytes ≡ 32 ∷ (piece ++ rest)
     → IsPieceMisfit a piece (Some n) → IsMisfit (a ∷ more) bytes (Some (1 + n))
 stops_here a more bytes piece rest n spaceless hp hr are h =
     subst (λ x. IsMisfit (a ∷ more) x (Some (1 + n))) (sym are) (record { front = begun a more piece rest n h.0.front; longest = no_longer }, none)
@@ -141,7 +141,7 @@ stops_here a more bytes piece rest n spaceless hp hr are h =
         let w = one_piece k.0 piece k.1 rest (tails_of _ _ (sym k.4)) (spaceless k.0 k.2) hp (loose_tail more k.1 k.3) hr in
         h.1 (subst (IsLoosePiece a) w.0 k.2)
 
-misfit_here : (a : Argument) (more : List Argument) (bytes piece rest : List ℕ) (n : ℕ) → IsCut a bytes piece rest → IsPieceMisfit a piece (Some n) → IsMisfit (a ∷ more) bytes (Some (1 + n))
+misfit_here : (a : ArgumentKind) (more : List ArgumentKind) (bytes piece rest : List ℕ) (n : ℕ) → IsCut a bytes piece rest → IsPieceMisfit a piece (Some n) → IsMisfit (a ∷ more) bytes (Some (1 + n))
 misfit_here PathArgument more bytes piece rest n c h = absurd (h.1 c.ends.0)
 misfit_here NumberArgument more bytes piece rest n c h = stops_here NumberArgument more bytes piece rest n numeral_no_space c.ends.0 c.ends.1 c.are h
 misfit_here LabelArgument more bytes piece rest n c h = stops_here LabelArgument more bytes piece rest n label_no_space c.ends.0 c.ends.1 c.are h
@@ -150,7 +150,7 @@ misfit_here TreeArgument more bytes piece rest n c h = absurd (h.1 tt)
 
 -- ---- pieces behind one that fits
 
-begun_behind : (a : Argument) (more : List Argument) (piece rest : List ℕ) (n : ℕ) → IsLoosePiece a piece → IsFront (AreLoose more) rest n
+begun_behind : (a : ArgumentKind) (more : List ArgumentKind) (piece rest : List ℕ) (n : ℕ) → IsLoosePiece a piece → IsFront (AreLoose more) rest n
     → IsFront (AreLoose (a ∷ more)) (32 ∷ (piece ++ rest)) (1 + length piece + n)
 begun_behind a more piece rest n p f =
     let one : 1 + length piece + n ≡ suc (length piece + n) = omega arith in (
@@ -167,7 +167,7 @@ begun_behind a more piece rest n p f =
       ),
     )
 
-stops_behind : (a : Argument) (more : List Argument) (bytes piece rest : List ℕ) (n : ℕ) → IsSpaceless a → HasNoSpace piece → IsTail rest → bytes ≡ 32 ∷ (piece ++ rest) → IsLoosePiece a piece
+stops_behind : (a : ArgumentKind) (more : List ArgumentKind) (bytes piece rest : List ℕ) (n : ℕ) → IsSpaceless a → HasNoSpace piece → IsTail rest → bytes ≡ 32 ∷ (piece ++ rest) → IsLoosePiece a piece
     → IsMisfit more rest (Some n) → IsMisfit (a ∷ more) bytes (Some (1 + length piece + n))
 stops_behind a more bytes piece rest n spaceless hp hr are p h =
     subst (λ x. IsMisfit (a ∷ more) x (Some (1 + length piece + n))) (sym are) (record { front = begun_behind a more piece rest n p h.0.front; longest = no_longer }, none)
@@ -188,7 +188,7 @@ stops_behind a more bytes piece rest n spaceless hp hr are p h =
         let w = one_piece k.0 piece k.1 rest (tails_of _ _ (sym k.4)) (spaceless k.0 k.2) hp (loose_tail more k.1 k.3) hr in
         h.1 (subst (AreLoose more) w.1 k.3)
 
-misfit_behind : (a : Argument) (more : List Argument) (bytes piece rest : List ℕ) (n : ℕ) → tree_is_last (a ∷ more) ≡ true → IsCut a bytes piece rest → IsPieceMisfit a piece None → IsMisfit more rest (Some n)
+misfit_behind : (a : ArgumentKind) (more : List ArgumentKind) (bytes piece rest : List ℕ) (n : ℕ) → tree_is_last (a ∷ more) ≡ true → IsCut a bytes piece rest → IsPieceMisfit a piece None → IsMisfit more rest (Some n)
     → IsMisfit (a ∷ more) bytes (Some (1 + length piece + n))
 misfit_behind PathArgument more bytes piece rest n o c p h = stops_behind PathArgument more bytes piece rest n (λ q k. k) c.ends.0 c.ends.1 c.are p h
 misfit_behind NumberArgument more bytes piece rest n o c p h = stops_behind NumberArgument more bytes piece rest n numeral_no_space c.ends.0 c.ends.1 c.are p h
@@ -198,12 +198,12 @@ misfit_behind TreeArgument more bytes piece rest n o c p h = absurd (h.1 (subst 
 
 -- ---- by the first argument and the others
 
-pub misfit_first : (arguments : List Argument) (bytes piece rest : List ℕ) (n : ℕ) → 1 ≤ length arguments → IsCut (get_or arguments 0 PathArgument) bytes piece rest
+pub misfit_first : (arguments : List ArgumentKind) (bytes piece rest : List ℕ) (n : ℕ) → 1 ≤ length arguments → IsCut (get_or arguments 0 PathArgument) bytes piece rest
     → IsPieceMisfit (get_or arguments 0 PathArgument) piece (Some n) → IsMisfit arguments bytes (Some (1 + n))
 misfit_first [] bytes piece rest n some c h = absurd (omega arith)
 misfit_first (a ∷ more) bytes piece rest n some c h = misfit_here a more bytes piece rest n c h
 
-pub misfit_later : (arguments : List Argument) (bytes piece rest : List ℕ) (n : ℕ) → 1 ≤ length arguments → tree_is_last arguments ≡ true → IsCut (get_or arguments 0 PathArgument) bytes piece rest
+pub misfit_later : (arguments : List ArgumentKind) (bytes piece rest : List ℕ) (n : ℕ) → 1 ≤ length arguments → tree_is_last arguments ≡ true → IsCut (get_or arguments 0 PathArgument) bytes piece rest
     → IsPieceMisfit (get_or arguments 0 PathArgument) piece None → IsMisfit (take (length arguments - 1) (drop 1 arguments)) rest (Some n) → IsMisfit arguments bytes (Some (1 + length piece + n))
 misfit_later [] bytes piece rest n some o c p h = absurd (omega arith)
 misfit_later (a ∷ more) bytes piece rest n some o c p h = misfit_behind a more bytes piece rest n o c p (subst (λ x. IsMisfit x rest (Some n)) (take_rest (a ∷ more) 1) h)

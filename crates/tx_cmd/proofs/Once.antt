@@ -21,8 +21,8 @@ use Rattle.tx_cmd.specs.declared.words.ModWord.{ModWord}
 use Rattle.tx_cmd.specs.declared.words.ModWord.TheVariants.{Assign as AssignWord, Insert as InsertWord, Remove as RemoveWord, Split as SplitWord, Join as JoinWord, AssignNode as AssignNodeWord, InsertNode as InsertNodeWord, RemoveNode as RemoveNodeWord}
 use Rattle.tx_cmd.specs.declared.words.Word.{Word}
 use Rattle.tx_cmd.specs.declared.words.Word.TheVariants.{Change as ChangeWord, Undo as UndoWord, Redo as RedoWord, Go as GoWord, Cursor as CursorWord, Show as ShowWord, Tree as TreeWord, Save as SaveWord}
-use Rattle.tx_cmd.specs.declared.words.Argument.{Argument}
-use Rattle.tx_cmd.specs.declared.words.Argument.TheVariants.{Path as PathArgument, Number as NumberArgument, Label as LabelArgument, Name as NameArgument, Tree as TreeArgument}
+use Rattle.tx_cmd.specs.declared.words.ArgumentKind.{ArgumentKind}
+use Rattle.tx_cmd.specs.declared.words.ArgumentKind.TheVariants.{Path as PathArgument, Number as NumberArgument, Label as LabelArgument, Name as NameArgument, Tree as TreeArgument}
 use Rattle.tx_cmd.specs.Words.{word_text, arguments_of, arguments_behind, first_word, IsName, IsKnown, IsLoosePiece, AreLoose, IsLoose}
 use Rattle.tx_cmd.specs.Values.{Value, a_path, a_number, a_label, a_name, a_tree, kind_of, Means, Mean, HasMeaning}
 use Rattle.tx_cmd.specs.Commands.{mod_word, values_behind, word_of, values_of, IsCommand}
@@ -36,7 +36,7 @@ use Rattle.tx_cmd.proofs.LooseFronts.{loose_tail, loose_ends, one_cut, last_of}
 
 -- ---- values
 
-abbrev kinds : List Value → List Argument
+abbrev kinds : List Value → List ArgumentKind
 kinds [] = []
 kinds (v ∷ values) = kind_of v ∷ kinds values
 
@@ -199,7 +199,7 @@ bad_tree_is piece at (Args n) h = absurd h
 bad_tree_is piece at (Path n) h = absurd h
 bad_tree_is piece at Memory h = absurd h
 
-one_bad : (a : Argument) (piece : List ℕ) (at : ℕ) (f g : CmdFault) → IsBadPiece a piece at f → IsBadPiece a piece at g → f ≡ g
+one_bad : (a : ArgumentKind) (piece : List ℕ) (at : ℕ) (f g : CmdFault) → IsBadPiece a piece at f → IsBadPiece a piece at g → f ≡ g
 one_bad PathArgument piece at f g h k =
     let x = bad_path_is piece at f h in
     let y = bad_path_is piece at g k in
@@ -212,7 +212,7 @@ one_bad NumberArgument piece at f g h k = absurd h
 one_bad LabelArgument piece at f g h k = absurd h
 one_bad NameArgument piece at f g h k = absurd h
 
-bad_means_none : (a : Argument) (piece : List ℕ) (at : ℕ) (f : CmdFault) (v : Value) → kind_of v ≡ a → IsBadPiece a piece at f → Means piece v → ⊥
+bad_means_none : (a : ArgumentKind) (piece : List ℕ) (at : ℕ) (f : CmdFault) (v : Value) → kind_of v ≡ a → IsBadPiece a piece at f → Means piece v → ⊥
 bad_means_none PathArgument piece at f (a_path p) e h k = (bad_path_is piece at f h).1.1 (p, k)
 bad_means_none PathArgument piece at f (a_number n) e h k = absurd cc
 bad_means_none PathArgument piece at f (a_label l) e h k = absurd cc
@@ -227,15 +227,15 @@ bad_means_none NumberArgument piece at f v e h k = h
 bad_means_none LabelArgument piece at f v e h k = h
 bad_means_none NameArgument piece at f v e h k = h
 
-first_loose : (arguments : List Argument) (bytes : List ℕ) (at : ℕ) (f : CmdFault) → IsFirstFault arguments bytes at f → AreLoose arguments bytes
+first_loose : (arguments : List ArgumentKind) (bytes : List ℕ) (at : ℕ) (f : CmdFault) → IsFirstFault arguments bytes at f → AreLoose arguments bytes
 first_loose [] bytes at f h = absurd h
 first_loose (a ∷ more) bytes at f h = (h.0, h.1, h.3, h.4, h.2)
 
 -- the piece is bad, or it is good and one behind it is bad
-abbrev HasFault : Argument → List Argument → ℕ → CmdFault → List ℕ → List ℕ → Type 0
+abbrev HasFault : ArgumentKind → List ArgumentKind → ℕ → CmdFault → List ℕ → List ℕ → Type 0
 HasFault a more at f piece rest = IsBadPiece a piece (at + 1) f ⊎ (HasMeaning a piece × IsFirstFault more rest (at + 1 + length piece) f)
 
-one_first : (arguments : List Argument) (bytes : List ℕ) (at : ℕ) (f g : CmdFault) → tree_is_last arguments ≡ true → IsFirstFault arguments bytes at f → IsFirstFault arguments bytes at g → f ≡ g
+one_first : (arguments : List ArgumentKind) (bytes : List ℕ) (at : ℕ) (f g : CmdFault) → tree_is_last arguments ≡ true → IsFirstFault arguments bytes at f → IsFirstFault arguments bytes at g → f ≡ g
 one_first [] bytes at f g o h k = absurd h
 one_first (a ∷ more) bytes at f g o h k =
     let w = one_cut a h.0 k.0 h.1 k.1 (sym h.2 ∙ k.2) (loose_ends a more h.0 h.1 o h.3 h.4) (loose_ends a more k.0 k.1 o k.3 k.4) in

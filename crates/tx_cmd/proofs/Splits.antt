@@ -5,8 +5,8 @@ use Rattle.std.proofs.lemmas.List.{take_rest}
 use Rattle.std.proofs.lemmas.Bool.{eqb-true}
 use borrow.Author.Tests.{eqb-false}
 use Rattle.tx_cmd.specs.Words.{HasNoSpace, first_word}
-use Rattle.tx_cmd.specs.declared.words.Argument.{Argument}
-use Rattle.tx_cmd.specs.declared.words.Argument.TheVariants.{Path as PathArgument, Number as NumberArgument, Label as LabelArgument, Name as NameArgument, Tree as TreeArgument}
+use Rattle.tx_cmd.specs.declared.words.ArgumentKind.{ArgumentKind}
+use Rattle.tx_cmd.specs.declared.words.ArgumentKind.TheVariants.{Path as PathArgument, Number as NumberArgument, Label as LabelArgument, Name as NameArgument, Tree as TreeArgument}
 use Rattle.tx_cmd.specs.Pieces.{IsTail, EndsPiece, IsCut}
 
 -- ---- what stands before the first space
@@ -52,7 +52,7 @@ behind_is bytes =
 
 -- ---- cutting a piece off
 
-ends_not_tree : (a : Argument) (piece rest : List ℕ) → (a ≡ TreeArgument → ⊥) → HasNoSpace piece → IsTail rest → EndsPiece a piece rest
+ends_not_tree : (a : ArgumentKind) (piece rest : List ℕ) → (a ≡ TreeArgument → ⊥) → HasNoSpace piece → IsTail rest → EndsPiece a piece rest
 ends_not_tree PathArgument piece rest other h t = (h, t)
 ends_not_tree NumberArgument piece rest other h t = (h, t)
 ends_not_tree LabelArgument piece rest other h t = (h, t)
@@ -60,7 +60,7 @@ ends_not_tree NameArgument piece rest other h t = (h, t)
 ends_not_tree TreeArgument piece rest other h t = absurd (other refl)
 
 -- behind a space that begins the bytes
-cut_behind : (a : Argument) (b : ℕ) (x z piece : List ℕ) → (a ≡ TreeArgument → ⊥) → b ≡ 32 → z ≡ x → piece ≡ first_word z
+cut_behind : (a : ArgumentKind) (b : ℕ) (x z piece : List ℕ) → (a ≡ TreeArgument → ⊥) → b ≡ 32 → z ≡ x → piece ≡ first_word z
     → IsCut a (b ∷ x) piece (take (length z - length piece) (drop (length piece) z))
 cut_behind a b x z piece other space same e =
     let w = behind_is z in
@@ -68,7 +68,7 @@ cut_behind a b x z piece other space same e =
     let at_first : IsCut a (b ∷ x) p (drop (length p) z) = record { are = ap (λ k. k ∷ x) space ∙ ap (λ k. 32 ∷ k) (sym same ∙ w.1); ends = ends_not_tree a p (drop (length p) z) other (before_space z) w.0 } in
     subst (λ q. IsCut a (b ∷ x) q (take (length z - length q) (drop (length q) z))) (sym e) (subst (IsCut a (b ∷ x) p) (sym (take_rest z (length p))) at_first)
 
-pub cut_at : (a : Argument) (bytes piece : List ℕ) → (a ≡ TreeArgument → ⊥) → 1 ≤ length bytes → IsTail bytes → piece ≡ first_word (take (length bytes - 1) (drop 1 bytes))
+pub cut_at : (a : ArgumentKind) (bytes piece : List ℕ) → (a ≡ TreeArgument → ⊥) → 1 ≤ length bytes → IsTail bytes → piece ≡ first_word (take (length bytes - 1) (drop 1 bytes))
     → IsCut a bytes piece (take (length (take (length bytes - 1) (drop 1 bytes)) - length piece) (drop (length piece) (take (length bytes - 1) (drop 1 bytes))))
 cut_at a [] piece other some tail e = absurd (omega arith)
 cut_at a (b ∷ x) piece other some tail e = cut_behind a b x (take (length (b ∷ x) - 1) (drop 1 (b ∷ x))) piece other tail (take_rest (b ∷ x) 1) e

@@ -4,10 +4,10 @@ use Rattle.std.specs.Prelude.{if◌then◌else◌, List, [], ◌∷◌, ◌++◌
 use Rattle.tx_base.specs.Fronts.{IsLongestFront}
 use Rattle.tx_tree.specs.declared.TheConstants.{MOST_NUMBER}
 use Rattle.tx_tree.specs.PathSpelling.{is_digit}
-use Rattle.tx_cmd.specs.declared.words.Argument.{Argument}
-use Rattle.tx_cmd.specs.declared.words.Argument.TheVariants.{Path as PathArgument, Number as NumberArgument}
-use Rattle.tx_cmd.specs.declared.words.Argument.TheVariants.{Label as LabelArgument}
-use Rattle.tx_cmd.specs.declared.words.Argument.TheVariants.{Name as NameArgument, Tree as TreeArgument}
+use Rattle.tx_cmd.specs.declared.words.ArgumentKind.{ArgumentKind}
+use Rattle.tx_cmd.specs.declared.words.ArgumentKind.TheVariants.{Path as PathArgument, Number as NumberArgument}
+use Rattle.tx_cmd.specs.declared.words.ArgumentKind.TheVariants.{Label as LabelArgument}
+use Rattle.tx_cmd.specs.declared.words.ArgumentKind.TheVariants.{Name as NameArgument, Tree as TreeArgument}
 use Rattle.tx_cmd.specs.Words.{HasNoSpace, IsLoosePiece, AreLoose}
 
 -- nothing, or what begins with a space
@@ -16,7 +16,7 @@ IsTail [] = Unit {0}
 IsTail (b ∷ bytes) = b ≡ 32
 
 -- a piece for the argument ends at a space or at the end, and one for a tree at the end alone
-abbrev pub EndsPiece : Argument → List ℕ → List ℕ → Type 0
+abbrev pub EndsPiece : ArgumentKind → List ℕ → List ℕ → Type 0
 EndsPiece TreeArgument piece rest = rest ≡ []
 EndsPiece PathArgument piece rest = HasNoSpace piece × IsTail rest
 EndsPiece NumberArgument piece rest = HasNoSpace piece × IsTail rest
@@ -24,12 +24,12 @@ EndsPiece LabelArgument piece rest = HasNoSpace piece × IsTail rest
 EndsPiece NameArgument piece rest = HasNoSpace piece × IsTail rest
 
 -- the bytes are a space, the piece for the argument, and the rest
-pub record IsCut (a : Argument) (bytes piece rest : List ℕ) : Type 0 where
+pub record IsCut (a : ArgumentKind) (bytes piece rest : List ℕ) : Type 0 where
   pub are : bytes ≡ 32 ∷ (piece ++ rest)
   pub ends : EndsPiece a piece rest
 
 -- no argument stands behind a tree
-abbrev pub tree_is_last : List Argument → Bool
+abbrev pub tree_is_last : List ArgumentKind → Bool
 tree_is_last [] = true
 tree_is_last (TreeArgument ∷ []) = true
 tree_is_last (TreeArgument ∷ b ∷ more) = false
@@ -39,12 +39,12 @@ tree_is_last (LabelArgument ∷ more) = tree_is_last more
 tree_is_last (NameArgument ∷ more) = tree_is_last more
 
 -- whether the bytes are pieces that may stand for the arguments, or the end of their longest front that begins such
-abbrev pub IsMisfit : List Argument → List ℕ → Option ℕ → Type 0
+abbrev pub IsMisfit : List ArgumentKind → List ℕ → Option ℕ → Type 0
 IsMisfit arguments bytes None = AreLoose arguments bytes
 IsMisfit arguments bytes (Some n) = IsLongestFront (AreLoose arguments) bytes n × (AreLoose arguments bytes → ⊥)
 
 -- the same of one piece
-abbrev pub IsPieceMisfit : Argument → List ℕ → Option ℕ → Type 0
+abbrev pub IsPieceMisfit : ArgumentKind → List ℕ → Option ℕ → Type 0
 IsPieceMisfit a piece None = IsLoosePiece a piece
 IsPieceMisfit a piece (Some n) = IsLongestFront (IsLoosePiece a) piece n × (IsLoosePiece a piece → ⊥)
 

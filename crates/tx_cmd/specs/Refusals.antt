@@ -8,10 +8,10 @@ use Rattle.tx_scm.specs.Faults.{IsSchemeFault}
 use Rattle.tx_cmd.specs.declared.TheConstants.{MOST_LINE}
 use Rattle.tx_cmd.specs.declared.command.CmdFault.{CmdFault}
 use Rattle.tx_cmd.specs.declared.command.CmdFault.TheVariants.{Long, Unknown, Args, Path, Tree, Memory}
-use Rattle.tx_cmd.specs.declared.words.Argument.{Argument}
-use Rattle.tx_cmd.specs.declared.words.Argument.TheVariants.{Path as PathArgument, Number as NumberArgument}
-use Rattle.tx_cmd.specs.declared.words.Argument.TheVariants.{Label as LabelArgument}
-use Rattle.tx_cmd.specs.declared.words.Argument.TheVariants.{Name as NameArgument, Tree as TreeArgument}
+use Rattle.tx_cmd.specs.declared.words.ArgumentKind.{ArgumentKind}
+use Rattle.tx_cmd.specs.declared.words.ArgumentKind.TheVariants.{Path as PathArgument, Number as NumberArgument}
+use Rattle.tx_cmd.specs.declared.words.ArgumentKind.TheVariants.{Label as LabelArgument}
+use Rattle.tx_cmd.specs.declared.words.ArgumentKind.TheVariants.{Name as NameArgument, Tree as TreeArgument}
 use Rattle.tx_cmd.specs.declared.words.Word.{Word}
 use Rattle.tx_cmd.specs.Words.{word_text, arguments_of, first_word, IsKnown, IsLoosePiece, AreLoose, IsLoose}
 use Rattle.tx_cmd.specs.Values.{HasMeaning}
@@ -37,7 +37,7 @@ IsBadTree piece at (Path n) = ⊥
 IsBadTree piece at Memory = ⊥
 
 -- why a piece that may stand for the argument stands for none, where the piece begins at this place of the line
-abbrev pub IsBadPiece : Argument → List ℕ → ℕ → CmdFault → Type 0
+abbrev pub IsBadPiece : ArgumentKind → List ℕ → ℕ → CmdFault → Type 0
 IsBadPiece PathArgument piece at fault = IsBadPath piece at fault
 IsBadPiece TreeArgument piece at fault = IsBadTree piece at fault
 IsBadPiece NumberArgument piece at fault = ⊥
@@ -45,7 +45,7 @@ IsBadPiece LabelArgument piece at fault = ⊥
 IsBadPiece NameArgument piece at fault = ⊥
 
 -- The fault of the first piece that stands for none. The bytes begin at this place of the line.
-abbrev pub IsFirstFault : List Argument → List ℕ → ℕ → CmdFault → Type 0
+abbrev pub IsFirstFault : List ArgumentKind → List ℕ → ℕ → CmdFault → Type 0
 IsFirstFault [] bytes at fault = ⊥
 IsFirstFault (a ∷ more) bytes at fault =
     (piece rest : List ℕ) × (bytes ≡ 32 ∷ (piece ++ rest)) × IsLoosePiece a piece × AreLoose more rest

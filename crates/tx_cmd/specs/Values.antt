@@ -6,10 +6,10 @@ use Rattle.tx_tree.specs.Limits.{IsWithinLimits}
 use Rattle.tx_tree.specs.WideTree.{WideTree, nodes_of}
 use Rattle.tx_scm.specs.Spelling.{Spells}
 use Rattle.tx_cmd.specs.Words.{IsName}
-use Rattle.tx_cmd.specs.declared.words.Argument.{Argument}
-use Rattle.tx_cmd.specs.declared.words.Argument.TheVariants.{Path as PathArgument, Number as NumberArgument}
-use Rattle.tx_cmd.specs.declared.words.Argument.TheVariants.{Label as LabelArgument}
-use Rattle.tx_cmd.specs.declared.words.Argument.TheVariants.{Name as NameArgument, Tree as TreeArgument}
+use Rattle.tx_cmd.specs.declared.words.ArgumentKind.{ArgumentKind}
+use Rattle.tx_cmd.specs.declared.words.ArgumentKind.TheVariants.{Path as PathArgument, Number as NumberArgument}
+use Rattle.tx_cmd.specs.declared.words.ArgumentKind.TheVariants.{Label as LabelArgument}
+use Rattle.tx_cmd.specs.declared.words.ArgumentKind.TheVariants.{Name as NameArgument, Tree as TreeArgument}
 
 pub data Value : Type 0 where
   a_path : (path : List ℕ) → Value
@@ -18,7 +18,7 @@ pub data Value : Type 0 where
   a_name : (name : List ℕ) → Value
   a_tree : (t : WideTree) → Value
 
-abbrev pub kind_of : Value → Argument
+abbrev pub kind_of : Value → ArgumentKind
 kind_of (a_path p) = PathArgument
 kind_of (a_number n) = NumberArgument
 kind_of (a_label l) = LabelArgument
@@ -39,7 +39,7 @@ Mean bytes [] = bytes ≡ []
 Mean bytes (v ∷ values) = (piece rest : List ℕ) × Means piece v × Mean rest values × (bytes ≡ 32 ∷ (piece ++ rest))
 
 -- the piece stands for some value of this kind
-abbrev pub HasMeaning : Argument → List ℕ → Type 0
+abbrev pub HasMeaning : ArgumentKind → List ℕ → Type 0
 HasMeaning a piece = (v : Value) × (kind_of v ≡ a) × Means piece v
 
 -- the nodes of trees among the values, leaves aside

@@ -10,10 +10,10 @@ use Rattle.tx_cmd.specs.declared.words.ModWord.TheVariants.{Assign, Insert, Remo
 use Rattle.tx_cmd.specs.declared.words.ModWord.TheVariants.{AssignNode, InsertNode, RemoveNode}
 use Rattle.tx_cmd.specs.declared.words.Word.{Word}
 use Rattle.tx_cmd.specs.declared.words.Word.TheVariants.{Change, Undo, Redo, Go, Cursor, Show, Tree, Save, Quit}
-use Rattle.tx_cmd.specs.declared.words.Argument.{Argument}
-use Rattle.tx_cmd.specs.declared.words.Argument.TheVariants.{Path as PathArgument, Number as NumberArgument}
-use Rattle.tx_cmd.specs.declared.words.Argument.TheVariants.{Label as LabelArgument}
-use Rattle.tx_cmd.specs.declared.words.Argument.TheVariants.{Name as NameArgument, Tree as TreeArgument}
+use Rattle.tx_cmd.specs.declared.words.ArgumentKind.{ArgumentKind}
+use Rattle.tx_cmd.specs.declared.words.ArgumentKind.TheVariants.{Path as PathArgument, Number as NumberArgument}
+use Rattle.tx_cmd.specs.declared.words.ArgumentKind.TheVariants.{Label as LabelArgument}
+use Rattle.tx_cmd.specs.declared.words.ArgumentKind.TheVariants.{Name as NameArgument, Tree as TreeArgument}
 
 -- a word as it is written
 abbrev pub mod_text : ModWord → List ℕ
@@ -38,7 +38,7 @@ word_text Save = codes "save"
 word_text Quit = codes "quit"
 
 -- what a modification takes behind the path to what is changed
-abbrev pub arguments_behind : ModWord → List Argument
+abbrev pub arguments_behind : ModWord → List ArgumentKind
 arguments_behind Assign = TreeArgument ∷ []
 arguments_behind Insert = NumberArgument ∷ TreeArgument ∷ []
 arguments_behind Remove = NumberArgument ∷ NumberArgument ∷ []
@@ -48,7 +48,7 @@ arguments_behind AssignNode = LabelArgument ∷ []
 arguments_behind InsertNode = NumberArgument ∷ TreeArgument ∷ []
 arguments_behind RemoveNode = NumberArgument ∷ []
 
-abbrev pub arguments_of : Word → List Argument
+abbrev pub arguments_of : Word → List ArgumentKind
 arguments_of (Change kind) = PathArgument ∷ arguments_behind kind
 arguments_of Go = PathArgument ∷ []
 arguments_of Save = NameArgument ∷ []
@@ -85,7 +85,7 @@ pub record IsName (name : List ℕ) : Type 0 where
   pub short : length name ≤ MOST_NAME
 
 -- The piece may stand for the argument. Any bytes without a space may stand for a path, and any bytes for a tree.
-abbrev pub IsLoosePiece : Argument → List ℕ → Type 0
+abbrev pub IsLoosePiece : ArgumentKind → List ℕ → Type 0
 IsLoosePiece PathArgument piece = HasNoSpace piece
 IsLoosePiece NumberArgument piece = IsNumeral piece
 IsLoosePiece LabelArgument piece = IsLabel piece
@@ -93,7 +93,7 @@ IsLoosePiece NameArgument piece = IsName piece
 IsLoosePiece TreeArgument piece = Unit {0}
 
 -- the bytes are a space and a piece that may stand for it, for each argument
-abbrev pub AreLoose : List Argument → List ℕ → Type 0
+abbrev pub AreLoose : List ArgumentKind → List ℕ → Type 0
 AreLoose [] bytes = bytes ≡ []
 AreLoose (a ∷ more) bytes =
     (piece rest : List ℕ) × IsLoosePiece a piece × AreLoose more rest × (bytes ≡ 32 ∷ (piece ++ rest))
@@ -104,14 +104,14 @@ IsLoose word line =
     (w : Word) × (rest : List ℕ) × (word ≡ word_text w) × AreLoose (arguments_of w) rest × (line ≡ word ++ rest)
 
 -- an argument other than a number is stored
-abbrev pub is_stored : Argument → Bool
+abbrev pub is_stored : ArgumentKind → Bool
 is_stored NumberArgument = false
 is_stored PathArgument = true
 is_stored LabelArgument = true
 is_stored NameArgument = true
 is_stored TreeArgument = true
 
-abbrev pub some_stored : List Argument → Bool
+abbrev pub some_stored : List ArgumentKind → Bool
 some_stored [] = false
 some_stored (a ∷ more) = is_stored a || some_stored more
 

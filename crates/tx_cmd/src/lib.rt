@@ -19,7 +19,7 @@ pub use laws::{one_answer, one_command};
 pub use limits::line_limit_laws;
 pub use line::parse;
 pub use pieces::first_word;
-pub use words::{Argument, ModWord, Word};
+pub use words::{ArgumentKind, ModWord, Word};
 
 /// The most bytes of a line.
 pub const MOST_LINE: usize = 1_048_576;

@@ -6,7 +6,7 @@ ghost use Rattle.tx_cmd.specs.Words.{first_word, is_name_byte, IsNumeral, is_sto
 ghost use Rattle.tx_cmd.specs.Pieces.{IsTail, IsCut, EndsPiece, IsMisfit, IsPieceMisfit, tree_is_last, next_number};
 
 use crate::MOST_NAME;
-use crate::words::Argument;
+use crate::words::ArgumentKind;
 use std::alloc::Global;
 use tx_base::Memory;
 use tx_tree::{Label, LabelFault, MOST_DIGITS, MOST_NUMBER};
@@ -22,14 +22,14 @@ pub fn first_word(bytes: &[u8]) -> &[u8]
 }
 
 // The piece for the argument, behind the space that the bytes begin with, and what stands behind the piece.
-pub(crate) fn cut(argument: Argument, bytes: &[u8]) -> (&[u8], &[u8])
+pub(crate) fn cut(argument: ArgumentKind, bytes: &[u8]) -> (&[u8], &[u8])
     requires some { 1 ≤ length bytes.now }
     requires tail { IsTail bytes.now }
     ensures { IsCut argument bytes.now result.0.now result.1.now }
 {
     let behind = &bytes[1..];
     match argument {
-        Argument::Tree => (behind, &[]),
+        ArgumentKind::Tree => (behind, &[]),
         _ => {
             let piece = first_word(behind);
             (piece, &behind[piece.len()..])
@@ -82,7 +82,7 @@ fn may_stand(byte: u8, place: usize) -> bool
 
 // How many bytes of the piece begin a name, or None where it is one.
 fn name_misfit(piece: &[u8]) -> Option<usize>
-    ensures { IsPieceMisfit Argument.Name piece.now result }
+    ensures { IsPieceMisfit ArgumentKind.Name piece.now result }
 {
     for (i, byte) in piece.iter().enumerate() {
         if !may_stand(*byte, i) {
@@ -96,23 +96,27 @@ fn name_misfit(piece: &[u8]) -> Option<usize>
 }
 
 // How many bytes of the piece begin one that may stand for the argument, or None where it may itself.
-fn piece_misfit(alloc: Global, argument: Argument, piece: &[u8]) -> Result<Option<usize>, Memory>
+fn piece_misfit(
+    alloc: Global,
+    argument: ArgumentKind,
+    piece: &[u8],
+) -> Result<Option<usize>, Memory>
     requires { EndsPiece argument piece.now [] }
     ensures misfit { IfOk result (IsPieceMisfit argument piece.now) }
     ensures memory { OnErr result (is_stored argument ≡ true) }
 {
     match argument {
-        Argument::Path | Argument::Tree => Ok(None),
-        Argument::Number => match number(piece) {
+        ArgumentKind::Path | ArgumentKind::Tree => Ok(None),
+        ArgumentKind::Number => match number(piece) {
             Ok(_) => Ok(None),
             Err(place) => Ok(Some(place)),
         },
-        Argument::Label => match Label::new(alloc, piece).err() {
+        ArgumentKind::Label => match Label::new(alloc, piece).err() {
             None => Ok(None),
             Some(LabelFault::BadLabel(place)) => Ok(Some(place)),
             Some(LabelFault::Memory) => Err(Memory),
         },
-        Argument::Name => Ok(name_misfit(piece)),
+        ArgumentKind::Name => Ok(name_misfit(piece)),
     }
 }
 
@@ -120,7 +124,7 @@ fn piece_misfit(alloc: Global, argument: Argument, piece: &[u8]) -> Result<Optio
 // pieces themselves, each behind a space.
 pub(crate) fn misfit(
     alloc: Global,
-    arguments: &[Argument],
+    arguments: &[ArgumentKind],
     bytes: &[u8],
 ) -> Result<Option<usize>, Memory>
     requires tail { IsTail bytes.now }

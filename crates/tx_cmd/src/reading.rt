@@ -13,7 +13,7 @@ ghost use Rattle.tx_cmd.specs.Refusals.{IsBadPath, IsBadTree, IsFirstFault};
 ghost use Rattle.tx_cmd.specs.declared.command.CmdFault.TheVariants.{Memory as NoMemory};
 
 use crate::pieces::{cut, number};
-use crate::words::{Argument, ModWord, Word};
+use crate::words::{ArgumentKind, ModWord, Word};
 use crate::{CmdFault, Command, MOST_LINE};
 use std::alloc::Global;
 use std::sync::ledger::Ledger;
@@ -91,14 +91,15 @@ fn last_tree<L: Ledger>(
     at: usize,
     steps: &mut Steps<L>,
 ) -> Result<Tree, CmdFault>
-    requires loose { AreLoose (Argument.Tree ∷ []) bytes.now }
+    requires loose { AreLoose (ArgumentKind.Tree ∷ []) bytes.now }
     requires place { at + length bytes.now ≤ MOST_LINE }
     ensures ok { IfOk result (λ t. Mean bytes.now (a_tree t ∷ [])) }
-    ensures refused { IfErr result (λ fault. fault ≢ NoMemory → IsFirstFault (Argument.Tree ∷ []) bytes.now at fault) }
+    ensures refused { IfErr result (λ fault.
+        fault ≢ NoMemory → IsFirstFault (ArgumentKind.Tree ∷ []) bytes.now at fault) }
     ensures counted { IfOk result (λ t. steps.new ≤ steps.old + nodes_of t) }
     ensures rises { steps.old ≤ steps.new }
 {
-    let (piece, _) = cut(Argument::Tree, bytes);
+    let (piece, _) = cut(ArgumentKind::Tree, bytes);
     read_tree(alloc, piece, at + 1, steps)
 }
 
@@ -109,15 +110,15 @@ fn number_and_tree<L: Ledger>(
     at: usize,
     steps: &mut Steps<L>,
 ) -> Result<(u32, Tree), CmdFault>
-    requires loose { AreLoose (Argument.Number ∷ Argument.Tree ∷ []) bytes.now }
+    requires loose { AreLoose (ArgumentKind.Number ∷ ArgumentKind.Tree ∷ []) bytes.now }
     requires place { at + length bytes.now ≤ MOST_LINE }
     ensures ok { IfOk result (λ r. Mean bytes.now (a_number r.0 ∷ a_tree r.1 ∷ [])) }
     ensures refused { IfErr result (λ fault.
-        fault ≢ NoMemory → IsFirstFault (Argument.Number ∷ Argument.Tree ∷ []) bytes.now at fault) }
+        fault ≢ NoMemory → IsFirstFault (ArgumentKind.Number ∷ ArgumentKind.Tree ∷ []) bytes.now at fault) }
     ensures counted { IfOk result (λ r. steps.new ≤ steps.old + nodes_of r.1) }
     ensures rises { steps.old ≤ steps.new }
 {
-    let (piece, rest) = cut(Argument::Number, bytes);
+    let (piece, rest) = cut(ArgumentKind::Number, bytes);
     let n = read_number(piece);
     let tree = last_tree(alloc, rest, at + 1 + piece.len(), steps)?;
     Ok((n, tree))
@@ -125,29 +126,29 @@ fn number_and_tree<L: Ledger>(
 
 // The number that is all that is left.
 fn last_number(bytes: &[u8]) -> u32
-    requires { AreLoose (Argument.Number ∷ []) bytes.now }
+    requires { AreLoose (ArgumentKind.Number ∷ []) bytes.now }
     ensures { Mean bytes.now (a_number result ∷ []) }
 {
-    let (piece, _) = cut(Argument::Number, bytes);
+    let (piece, _) = cut(ArgumentKind::Number, bytes);
     read_number(piece)
 }
 
 // The two numbers that are left.
 fn two_numbers(bytes: &[u8]) -> (u32, u32)
-    requires { AreLoose (Argument.Number ∷ Argument.Number ∷ []) bytes.now }
+    requires { AreLoose (ArgumentKind.Number ∷ ArgumentKind.Number ∷ []) bytes.now }
     ensures { Mean bytes.now (a_number result.0 ∷ a_number result.1 ∷ []) }
 {
-    let (piece, rest) = cut(Argument::Number, bytes);
+    let (piece, rest) = cut(ArgumentKind::Number, bytes);
     (read_number(piece), last_number(rest))
 }
 
 // The label that is all that is left.
 fn last_label(alloc: Global, bytes: &[u8]) -> Result<Label, CmdFault>
-    requires { AreLoose (Argument.Label ∷ []) bytes.now }
+    requires { AreLoose (ArgumentKind.Label ∷ []) bytes.now }
     ensures ok { IfOk result (λ l. Mean bytes.now (a_label l ∷ [])) }
     ensures refused { IfErr result (λ fault. fault ≡ NoMemory) }
 {
-    let (piece, _) = cut(Argument::Label, bytes);
+    let (piece, _) = cut(ArgumentKind::Label, bytes);
     match Label::new(alloc, piece) {
         Ok(label) => Ok(label),
         Err(LabelFault::BadLabel(_)) => unreachable!(),
@@ -164,11 +165,11 @@ fn name_of(alloc: Global, bytes: &[u8]) -> Result<Name, Memory>
 
 // The name that is all that is left.
 fn last_name(alloc: Global, bytes: &[u8]) -> Result<Name, CmdFault>
-    requires { AreLoose (Argument.Name ∷ []) bytes.now }
+    requires { AreLoose (ArgumentKind.Name ∷ []) bytes.now }
     ensures ok { IfOk result (λ n. Mean bytes.now (a_name n ∷ [])) }
     ensures refused { IfErr result (λ fault. fault ≡ NoMemory) }
 {
-    let (piece, _) = cut(Argument::Name, bytes);
+    let (piece, _) = cut(ArgumentKind::Name, bytes);
     Ok(name_of(alloc, piece)?)
 }
 
@@ -223,28 +224,29 @@ fn change<L: Ledger>(
     at: usize,
     steps: &mut Steps<L>,
 ) -> Result<Mod, CmdFault>
-    requires loose { AreLoose (Argument.Path ∷ arguments_behind word) bytes.now }
+    requires loose { AreLoose (ArgumentKind.Path ∷ arguments_behind word) bytes.now }
     requires place { at + length bytes.now ≤ MOST_LINE }
     ensures word { IfOk result (λ m. mod_word m ≡ word) }
     ensures ok { IfOk result (λ m. Mean bytes.now (a_path (path_of m) ∷ values_behind m)) }
     ensures refused { IfErr result (λ fault.
-        fault ≢ NoMemory → IsFirstFault (Argument.Path ∷ arguments_behind word) bytes.now at fault) }
+        fault ≢ NoMemory → IsFirstFault (ArgumentKind.Path ∷ arguments_behind word) bytes.now at fault) }
     ensures counted { IfOk result (λ m. steps.new ≤ steps.old + nodes_in (values_behind m)) }
     ensures rises { steps.old ≤ steps.new }
 {
-    let (piece, rest) = cut(Argument::Path, bytes);
+    let (piece, rest) = cut(ArgumentKind::Path, bytes);
     let path = read_path(alloc, piece, at + 1)?;
     change_at(alloc, word, path, rest, at + 1 + piece.len(), steps)
 }
 
 // The path that is all that is left, where it begins at this place of the line.
 fn last_path(alloc: Global, bytes: &[u8], at: usize) -> Result<Path, CmdFault>
-    requires loose { AreLoose (Argument.Path ∷ []) bytes.now }
+    requires loose { AreLoose (ArgumentKind.Path ∷ []) bytes.now }
     requires place { at + length bytes.now ≤ MOST_LINE }
     ensures ok { IfOk result (λ p. Mean bytes.now (a_path p ∷ [])) }
-    ensures refused { IfErr result (λ fault. fault ≢ NoMemory → IsFirstFault (Argument.Path ∷ []) bytes.now at fault) }
+    ensures refused { IfErr result (λ fault.
+        fault ≢ NoMemory → IsFirstFault (ArgumentKind.Path ∷ []) bytes.now at fault) }
 {
-    let (piece, _) = cut(Argument::Path, bytes);
+    let (piece, _) = cut(ArgumentKind::Path, bytes);
     read_path(alloc, piece, at + 1)
 }
 

@@ -4,7 +4,7 @@ ghost use Rattle.tx_cmd.specs.Words.{word_text, arguments_of, IsKnown};
 
 /// What stands behind a command's first word.
 #[derive(Clone, Copy)]
-pub enum Argument {
+pub enum ArgumentKind {
     /// A path.
     Path,
     /// A number of one to ten digits, at most 4,294,967,295.
@@ -88,24 +88,28 @@ pub(crate) fn known_word(bytes: &[u8]) -> Option<Word>
 
 impl Word {
     // What stands behind the word, in order.
-    pub(crate) fn arguments(self) -> &'static [Argument]
+    pub(crate) fn arguments(self) -> &'static [ArgumentKind]
         ensures { result.now ≡ arguments_of self }
     {
         match self {
-            Word::Change(ModWord::Assign) => &[Argument::Path, Argument::Tree],
+            Word::Change(ModWord::Assign) => &[ArgumentKind::Path, ArgumentKind::Tree],
             Word::Change(ModWord::Insert | ModWord::InsertNode) => {
-                &[Argument::Path, Argument::Number, Argument::Tree]
+                &[ArgumentKind::Path, ArgumentKind::Number, ArgumentKind::Tree]
             }
             Word::Change(ModWord::Remove | ModWord::Split) => {
-                &[Argument::Path, Argument::Number, Argument::Number]
+                &[
+                    ArgumentKind::Path,
+                    ArgumentKind::Number,
+                    ArgumentKind::Number,
+                ]
             }
             Word::Change(ModWord::Join | ModWord::RemoveNode) => &[
-                Argument::Path,
-                Argument::Number,
+                ArgumentKind::Path,
+                ArgumentKind::Number,
             ],
-            Word::Change(ModWord::AssignNode) => &[Argument::Path, Argument::Label],
-            Word::Go => &[Argument::Path],
-            Word::Save => &[Argument::Name],
+            Word::Change(ModWord::AssignNode) => &[ArgumentKind::Path, ArgumentKind::Label],
+            Word::Go => &[ArgumentKind::Path],
+            Word::Save => &[ArgumentKind::Name],
             Word::Undo | Word::Redo | Word::Cursor | Word::Show | Word::Tree | Word::Quit => &[],
         }
     }

@@ -5,8 +5,8 @@ use Rattle.std.proofs.lemmas.List.{append-nil}
 use Rattle.tx_tree.specs.declared.TheConstants.{MOST_LABEL}
 use Rattle.tx_tree.specs.Labels.{is_label_byte}
 use Rattle.tx_tm_form.specs.declared.bytes.ByteKind.TheVariants.{Return, Backslash, Bar, Slash}
-use Rattle.tx_tm_form.specs.declared.places.Form.{Form}
-use Rattle.tx_tm_form.specs.declared.places.Form.TheVariants.{Short, Long, Middle, Closing}
+use Rattle.tx_tm_form.specs.declared.places.TagForm.{TagForm}
+use Rattle.tx_tm_form.specs.declared.places.TagForm.TheVariants.{Short, Long, Middle, Closing}
 use Rattle.tx_tm_form.specs.Bytes.{kind_of}
 use Rattle.tx_tm_form.specs.Tokens.{Token, mark_of, written}
 use Rattle.tx_tm_form.specs.Machine.{Lex, ready, slashed, returned, angled, labelled, lex_slashed, lex_angled, Bytewise, at, given, step, run, Keeping, keep, keeps, start}
@@ -15,14 +15,14 @@ use Rattle.tx_tm_form.proofs.Words.{return_kind, bar_kind, backslash_kind, slash
 use Rattle.tx_tm_form.proofs.Taken.{Scanned, run_scanned}
 
 module _ (S : Type 0) (fd : S → Token → S) where
-  letters_run : (l m : List ℕ) (form : Form) (s : S) → AllByRecursion (λ b. is_label_byte b ≡ true) l → length m + length l ≤ MOST_LABEL → run fd (at (labelled form m) s) l ≡ at (labelled form (m ++ l)) s
+  letters_run : (l m : List ℕ) (form : TagForm) (s : S) → AllByRecursion (λ b. is_label_byte b ≡ true) l → length m + length l ≤ MOST_LABEL → run fd (at (labelled form m) s) l ≡ at (labelled form (m ++ l)) s
   letters_run [] m form s h n = ap (λ a. run fd (at (labelled form a) s) []) (sym (append-nil m))
   letters_run (b ∷ l) m form s h n =
       ap (λ r. run fd (given fd s r) l) (lexed_letter form m (kind_of b) b (name_kind b h.0) (omega arith))
       ∙ letters_run l (m ++ b ∷ []) form s h.1 (omega (arith, length-append m (b ∷ [])))
       ∙ ap (λ a. run fd (at (labelled form a) s) []) (append_assoc m (b ∷ []) l)
 
-  label_begun : (form : Form) (l : List ℕ) (s : S) → IsBegun (labelled form l) → run fd (at angled s) (mark_of form ++ l) ≡ at (labelled form l) s
+  label_begun : (form : TagForm) (l : List ℕ) (s : S) → IsBegun (labelled form l) → run fd (at angled s) (mark_of form ++ l) ≡ at (labelled form l) s
   unfolding lex_angled
   label_begun Short [] s h = absurd (omega (arith, h.1))
   label_begun Short (b ∷ l) s h =

@@ -5,10 +5,10 @@ use Rattle.std.proofs.lemmas.List.{append-nil}
 use Rattle.std.proofs.lemmas.Bool.{le-leb, and_parts}
 use Rattle.tx_tree.specs.Labels.{is_label_byte, IsLabel}
 use Rattle.tx_tree.specs.WideTree.{WideTree, node, forest, leaf}
-use Rattle.tx_tm_form.specs.declared.places.Form.{Form}
-use Rattle.tx_tm_form.specs.declared.places.Form.TheVariants.{Short, Long, Middle, Closing}
-use Rattle.tx_tm_form.specs.declared.places.Place.{Place}
-use Rattle.tx_tm_form.specs.declared.places.Place.TheVariants.{InShort, InHeader, InClosing}
+use Rattle.tx_tm_form.specs.declared.places.TagForm.{TagForm}
+use Rattle.tx_tm_form.specs.declared.places.TagForm.TheVariants.{Short, Long, Middle, Closing}
+use Rattle.tx_tm_form.specs.declared.places.TagPlace.{TagPlace}
+use Rattle.tx_tm_form.specs.declared.places.TagPlace.TheVariants.{InShort, InHeader, InClosing}
 use Rattle.tx_tm_form.specs.Bytes.{kind_of, is_plain, escape_of, can_escape}
 use Rattle.tx_tm_form.specs.Tokens.{Token, plain, escape, head, close, written, IsToken, is_dropped, kept}
 use Rattle.tx_tm_form.specs.Parts.{Part, text, tag, raw_data_label}
@@ -38,7 +38,7 @@ IsOpened (naming n here fs) = IsPlaced here fs
 IsOpened (counting ds here fs) = IsPlaced here fs
 IsOpened failed = Unit {0}
 
-frame_label : (w : Option Place) (l : List ℕ) (ks : List WideTree) (q : List Token) → Frame w l ks q → IsLabel l
+frame_label : (w : Option TagPlace) (l : List ℕ) (ks : List WideTree) (q : List Token) → Frame w l ks q → IsLabel l
 frame_label (Some InShort) l ks q h = h.1
 frame_label (Some InHeader) l ks q h = ⊎_elim (λ k. k.1) (λ k. k.4.2) h
 frame_label (Some InClosing) l ks q h = h.4.2
@@ -100,7 +100,7 @@ block_closes f fs here j e v h =
 new_block_closes : (f : Open) (fs : List Open) (ts : List WideTree) → IsLabel f.label → IsPlaced f.before fs → Closes fs → Closable (at ready (keeping false (in_tag None (open_tag f.before f.label ts) fs)))
 new_block_closes f fs ts v p h = block_closes (open_tag f.before f.label ts) fs (block_behind f.label ts) false (no_place f.label ts) (v, p) h
 
-tag_closes : (w : Option Place) (f : Open) (fs : List Open) (here : Content) (j : Bool) → place_of here ≡ w → IsPlaced here (f ∷ fs) → Closes fs → Closable (at ready (keeping j (reading here (f ∷ fs))))
+tag_closes : (w : Option TagPlace) (f : Open) (fs : List Open) (here : Content) (j : Bool) → place_of here ≡ w → IsPlaced here (f ∷ fs) → Closes fs → Closable (at ready (keeping j (reading here (f ∷ fs))))
 unfolding feed
 tag_closes None f fs here j e v h = block_closes f fs here j e v h
 tag_closes (Some InShort) f fs here j e v h =
@@ -154,7 +154,7 @@ letter_a : is_label_byte 97 ≡ true
 unfolding is_label_byte
 letter_a = refl
 
-by_label : (form : Form) (m r : List ℕ) (j : Bool) (s z : State) → IsLabel (m ++ r) → AllByRecursion (λ b. is_label_byte b ≡ true) r → feed s (head form (m ++ r) false) ≡ z
+by_label : (form : TagForm) (m r : List ℕ) (j : Bool) (s z : State) → IsLabel (m ++ r) → AllByRecursion (λ b. is_label_byte b ≡ true) r → feed s (head form (m ++ r) false) ≡ z
     → Closable (at ready (keeping false z)) → Closable (at (labelled form m) (keeping j s))
 by_label form m r j s z v a e h = (
   r ++ 62 ∷ h.0,
@@ -175,23 +175,23 @@ all_right P [] b h = h
 all_right P (x ∷ a) b h = all_right P a b h.1
 
 -- the label of the open tag, to its end
-open_label_closes : (form : Form) (m : List ℕ) (j : Bool) (here : Content) (f : Open) (fs : List Open) (z : State) → IsLabel f.label → begins m f.label ≡ true
+open_label_closes : (form : TagForm) (m : List ℕ) (j : Bool) (here : Content) (f : Open) (fs : List Open) (z : State) → IsLabel f.label → begins m f.label ≡ true
     → feed (reading here (f ∷ fs)) (head form f.label false) ≡ z → Closable (at ready (keeping false z)) → Closable (at (labelled form m) (keeping j (reading here (f ∷ fs))))
 open_label_closes form m j here f fs z v b e h =
     let r = begins_rest m f.label b in
     let good : IsLabel (m ++ r.0) = subst IsLabel r.1 v in
     by_label form m r.0 j (reading here (f ∷ fs)) z good (all_right _ m r.0 good.each) (subst (λ l. feed (reading here (f ∷ fs)) (head form l false) ≡ z) r.1 e) h
 
-goes_through : (w : Option Place) (m : List ℕ) (f : Open) (fs : List Open) → begins_open w m (f ∷ fs) ≡ true → (w ≡ None) × (begins m f.label ≡ true)
+goes_through : (w : Option TagPlace) (m : List ℕ) (f : Open) (fs : List Open) → begins_open w m (f ∷ fs) ≡ true → (w ≡ None) × (begins m f.label ≡ true)
 goes_through None m f fs h = (refl, h)
 goes_through (Some p) m f fs h = absurd cc
 
-none_open : (w : Option Place) (m : List ℕ) → begins_open w m [] ≡ true → ⊥
+none_open : (w : Option TagPlace) (m : List ℕ) → begins_open w m [] ≡ true → ⊥
 none_open None m h = cc
 none_open (Some p) m h = cc
 
 -- any label
-new_label_closes : (form : Form) (m : List ℕ) (j : Bool) (here : Content) (fs : List Open) → IsBegun (labelled form m)
+new_label_closes : (form : TagForm) (m : List ℕ) (j : Bool) (here : Content) (fs : List Open) → IsBegun (labelled form m)
     → ((l : List ℕ) → IsLabel l → (z : State) × (feed (reading here fs) (head form l false) ≡ z) × Closable (at ready (keeping false z))) → Closable (at (labelled form m) (keeping j (reading here fs)))
 new_label_closes form [] j here fs g h =
     let v : IsLabel (97 ∷ []) = record { each = (letter_a, tt); some = omega arith; short = omega arith } in
@@ -202,7 +202,7 @@ new_label_closes form (b ∷ m) j here fs g h =
     let k = h ((b ∷ m) ++ []) v in
     by_label form (b ∷ m) [] j (reading here fs) k.0 v tt k.1 k.2
 
-label_closes : (form : Form) (m : List ℕ) (j : Bool) (here : Content) (fs : List Open) → IsPlaced here fs → IsBegun (labelled form m) → can_begin form m here fs ≡ true → Closable (at (labelled form m) (keeping j (reading here fs)))
+label_closes : (form : TagForm) (m : List ℕ) (j : Bool) (here : Content) (fs : List Open) → IsPlaced here fs → IsBegun (labelled form m) → can_begin form m here fs ≡ true → Closable (at (labelled form m) (keeping j (reading here fs)))
 unfolding feed
 label_closes Short m j here fs v g h =
     new_label_closes Short m j here fs g (λ l k.

@@ -6,10 +6,10 @@ use Rattle.std.proofs.lemmas.Bool.{lt-ltb, le-leb, and_from}
 use Rattle.tx_tree.specs.declared.TheConstants.{MOST_NAME}
 use Rattle.tx_tree.specs.Texts.{is_name_byte, IsName}
 use Rattle.tx_tree.specs.WideTree.{WideTree, leaf, node, forest}
-use Rattle.tx_tm_form.specs.declared.places.Form.{Form}
-use Rattle.tx_tm_form.specs.declared.places.Form.TheVariants.{Short, Long, Middle, Closing}
-use Rattle.tx_tm_form.specs.declared.places.Place.{Place}
-use Rattle.tx_tm_form.specs.declared.places.Place.TheVariants.{InShort, InHeader, InClosing}
+use Rattle.tx_tm_form.specs.declared.places.TagForm.{TagForm}
+use Rattle.tx_tm_form.specs.declared.places.TagForm.TheVariants.{Short, Long, Middle, Closing}
+use Rattle.tx_tm_form.specs.declared.places.TagPlace.{TagPlace}
+use Rattle.tx_tm_form.specs.declared.places.TagPlace.TheVariants.{InShort, InHeader, InClosing}
 use Rattle.tx_tm_form.specs.Bytes.{escape_of}
 use Rattle.tx_tm_form.specs.Tokens.{Token, plain, escape, raw, head, bar, close}
 use Rattle.tx_tm_form.specs.Parts.{Part, text, tag, content, block, long_tag, same, none, has_no_items, collection_label, raw_data_label}
@@ -115,7 +115,7 @@ read_raw ds here fs y h =
 -- ---- the tags
 
 -- behind the last argument of a beginning or an end
-abbrev pub after_arguments : Place → Open → List Open → State
+abbrev pub after_arguments : TagPlace → Open → List Open → State
 after_arguments InShort f fs = closed f fs
 after_arguments InHeader f fs = in_tag None f fs
 after_arguments InClosing f fs = closed f fs
@@ -124,25 +124,25 @@ abbrev pub with_children : Open → List WideTree → Open
 with_children f ts = open_tag f.before f.label (f.children ++ ts)
 
 -- an argument that has been read
-abbrev at_argument : Place → List Part → Open → List Open → State
+abbrev at_argument : TagPlace → List Part → Open → List Open → State
 at_argument p ps f fs = reading (puts (inline p no_parts) ps) (f ∷ fs)
 
 -- a block that has been read
 abbrev at_block : List Part → Open → List Open → State
 at_block ps f fs = reading (puts (block_behind f.label f.children) ps) (f ∷ fs)
 
-close_argument : (p : Place) (t : WideTree) (here : Content) (f : Open) (fs : List Open) → content_of here ≡ t → last_argument (Some p) here (f ∷ fs) ≡ after_arguments p (with_child f t) fs
+close_argument : (p : TagPlace) (t : WideTree) (here : Content) (f : Open) (fs : List Open) → content_of here ≡ t → last_argument (Some p) here (f ∷ fs) ≡ after_arguments p (with_child f t) fs
 close_argument InShort t here f fs e = ap (λ z. closed (with_child f z) fs) e
 close_argument InHeader t here f fs e = ap (λ z. in_tag None (with_child f z) fs) e
 close_argument InClosing t here f fs e = ap (λ z. closed (with_child f z) fs) e
 
-close_step : (p : Place) (ps : List Part) (f : Open) (fs : List Open) → feed (at_argument p ps f fs) close ≡ after_arguments p (with_child f (content ps)) fs
+close_step : (p : TagPlace) (ps : List Part) (f : Open) (fs : List Open) → feed (at_argument p ps f fs) close ≡ after_arguments p (with_child f (content ps)) fs
 unfolding feed
 close_step p ps f fs =
     ap (λ c. last_argument (place_of c) c (f ∷ fs)) (puts_inline ps p no_parts)
     ∙ close_argument p (content ps) (inline p (grows no_parts ps)) f fs (grown_is_content ps)
 
-bar_step : (p : Place) (ps : List Part) (f : Open) (fs : List Open) → feed (at_argument p ps f fs) bar ≡ in_tag (Some p) (with_child f (content ps)) fs
+bar_step : (p : TagPlace) (ps : List Part) (f : Open) (fs : List Open) → feed (at_argument p ps f fs) bar ≡ in_tag (Some p) (with_child f (content ps)) fs
 unfolding feed
 bar_step p ps f fs =
     ap (λ c. next_argument (place_of c) c (f ∷ fs)) (puts_inline ps p no_parts)
@@ -151,7 +151,7 @@ bar_step p ps f fs =
 block_place : (ps : List Part) (l : List ℕ) (ks : List WideTree) → place_of (puts (block_behind l ks) ps) ≡ None
 block_place ps l ks = place_is ps (block_behind l ks) ∙ no_place l ks
 
-next_step : (ps : List Part) (p : Option Place) (f : Open) (fs : List Open)
+next_step : (ps : List Part) (p : Option TagPlace) (f : Open) (fs : List Open)
     → next_block (place_of (puts (block_behind f.label f.children) ps)) f.label p (puts (block_behind f.label f.children) ps) (f ∷ fs) ≡ in_tag p (with_child f (block ps)) fs
 next_step ps p f fs =
     ap (λ o. next_block o f.label p (puts (block_behind f.label f.children) ps) (f ∷ fs)) (block_place ps f.label f.children)
@@ -177,7 +177,7 @@ pub regrouped : (a b c y : List Token) → (a ++ (b ++ c)) ++ y ≡ a ++ (b ++ (
 regrouped a b c y = simp append_assoc refl
 
 -- an argument and those behind it
-arguments_from : (x : Pieces) (xs : Arguments) (p : Place) (f : Open) (fs : List Open) (y : List Token)
+arguments_from : (x : Pieces) (xs : Arguments) (p : TagPlace) (f : Open) (fs : List Open) (y : List Token)
     → feeds (in_tag (Some p) f fs) (tokens_of x ++ (more_arguments xs ++ y)) ≡ feeds (at_argument p (parts_of x) f fs) (more_arguments xs ++ y)
     → feeds (at_argument p (parts_of x) f fs) (more_arguments xs ++ y) ≡ feeds (after_arguments p (with_children f (children_of (argument x xs))) fs) y
     → feeds (in_tag (Some p) f fs) ((tokens_of x ++ more_arguments xs) ++ y) ≡ feeds (after_arguments p (with_children f (children_of (argument x xs))) fs) y
@@ -190,7 +190,7 @@ no_children : (f : Open) → f ≡ with_children f []
 no_children f = ap (open_tag f.before f.label) (sym (append-nil f.children))
 
 -- what a tag's beginning does
-abbrev Begins : State → Form → Place → Open → List Open → Type 0
+abbrev Begins : State → TagForm → TagPlace → Open → List Open → Type 0
 Begins s form p f fs = (feed s (head form f.label true) ≡ in_tag (Some p) f fs) × (feed s (head form f.label false) ≡ after_arguments p f fs)
 
 -- what the end of a long tag does behind any block
@@ -224,7 +224,7 @@ mutual
       ∙ read_pieces ps (put here (part_of p)) fs y
 
   -- the arguments behind one that has been read
-  read_more : (xs : Arguments) (p : Place) (ps : List Part) (f : Open) (fs : List Open) (y : List Token)
+  read_more : (xs : Arguments) (p : TagPlace) (ps : List Part) (f : Open) (fs : List Open) (y : List Token)
       → feeds (at_argument p ps f fs) (more_arguments xs ++ y) ≡ feeds (after_arguments p (with_children f (content ps ∷ children_of xs)) fs) y
   read_more no_argument p ps f fs y = ap (λ s. feeds s y) (close_step p ps f fs)
   read_more (argument x xs) p ps f fs y =
@@ -234,7 +234,7 @@ mutual
       (read_more xs p (parts_of x) (with_child f (content ps)) fs y)
       ∙ ap (λ g. feeds (after_arguments p g fs) y) (children_more f (content ps) (children_of (argument x xs)))
 
-  read_beginning : (xs : Arguments) (s : State) (form : Form) (p : Place) (f : Open) (fs : List Open) (y : List Token) → Begins s form p f fs
+  read_beginning : (xs : Arguments) (s : State) (form : TagForm) (p : TagPlace) (f : Open) (fs : List Open) (y : List Token) → Begins s form p f fs
       → feeds s (beginning form f.label xs ++ y) ≡ feeds (after_arguments p (with_children f (children_of xs)) fs) y
   read_beginning no_argument s form p f fs y h = ap (λ z. feeds z y) h.1 ∙ ap (λ g. feeds (after_arguments p g fs) y) (no_children f)
   read_beginning (argument x xs) s form p f fs y h =

@@ -4,7 +4,7 @@ use Rattle.std.proofs.lemmas.List.{append-nil, map-append}
 use Rattle.tx_tree.specs.WideTree.{WideTree, leaf, node, forest}
 use Rattle.tx_tm_form.specs.declared.bytes.White.{White}
 use Rattle.tx_tm_form.specs.declared.bytes.White.TheVariants.{Spaces, Line, Break}
-use Rattle.tx_tm_form.specs.declared.places.Place.{Place}
+use Rattle.tx_tm_form.specs.declared.places.TagPlace.{TagPlace}
 use Rattle.tx_tm_form.specs.declared.places.Stage.{Stage}
 use Rattle.tx_tm_form.specs.declared.places.Stage.TheVariants.{Empty, Alone, Ordinary}
 use Rattle.tx_tm_form.specs.Bytes.{plus}
@@ -334,7 +334,7 @@ no_items_block (text s ∷ ps) x h = absurd cc
 
 -- ---- content of either kind
 
-pub puts_inline : (ps : List Part) (p : Place) (g : Inline) → puts (inline p g) ps ≡ inline p (grows g ps)
+pub puts_inline : (ps : List Part) (p : TagPlace) (g : Inline) → puts (inline p g) ps ≡ inline p (grows g ps)
 puts_inline [] p g = refl
 puts_inline (q ∷ ps) p g = puts_inline ps p (grow g q)
 

@@ -8,9 +8,9 @@ use Rattle.tx_tree.specs.ReadFaults.{SpellsSome, IsPassed, Row}
 use Rattle.tx_tree.specs.Limits.{IsWithinLimits}
 use Rattle.tx_tree.specs.WideTree.{WideTree}
 use Rattle.tx_tree.proofs.OneFault.{passed_once, no_fault, passed}
-use Rattle.tx_tm_form.specs.declared.marks.Mark.{Mark}
+use Rattle.tx_tm_form.specs.declared.marks.TagMark.{TagMark}
 use Rattle.tx_tm_form.specs.declared.marks.Inside.TheVariants.{Parts}
-use Rattle.tx_tm_form.specs.declared.places.Form.TheVariants.{Middle, Closing}
+use Rattle.tx_tm_form.specs.declared.places.TagForm.TheVariants.{Middle, Closing}
 use Rattle.tx_tm_form.specs.Tokens.{Token}
 use Rattle.tx_tm_form.specs.Forms.{Spells}
 use Rattle.tx_tm_form.specs.Machine.{Lex, labelled, Bytewise, at, lost, step, run, keep, start}
@@ -37,7 +37,7 @@ goes_on_some : (q : Lex) (o : Option Standing) → standing_goes_on q o ≡ true
 goes_on_some q None e = absurd cc
 goes_on_some q (Some z) e = (z, refl)
 
-abbrev first_at : List Mark → ℕ
+abbrev first_at : List TagMark → ℕ
 first_at [] = 0
 first_at (m ∷ ms) = m.at
 

@@ -5,10 +5,10 @@ use Rattle.std.proofs.lemmas.List.{append-nil}
 use Rattle.std.proofs.lemmas.Bool.{lt-ltb, le-leb, and_from}
 use Rattle.tx_tree.specs.declared.TheConstants.{MOST_NAME}
 use Rattle.tx_tree.specs.Texts.{is_name_byte, IsName}
-use Rattle.tx_tm_form.specs.declared.places.Form.TheVariants.{Short, Long, Middle, Closing}
-use Rattle.tx_tm_form.specs.declared.places.Place.{Place}
-use Rattle.tx_tm_form.specs.declared.places.Place.TheVariants.{InShort, InHeader, InClosing}
-use Rattle.tx_tm_form.specs.declared.marks.Mark.{Mark}
+use Rattle.tx_tm_form.specs.declared.places.TagForm.TheVariants.{Short, Long, Middle, Closing}
+use Rattle.tx_tm_form.specs.declared.places.TagPlace.{TagPlace}
+use Rattle.tx_tm_form.specs.declared.places.TagPlace.TheVariants.{InShort, InHeader, InClosing}
+use Rattle.tx_tm_form.specs.declared.marks.TagMark.{TagMark}
 use Rattle.tx_tm_form.specs.declared.marks.Inside.{Inside}
 use Rattle.tx_tm_form.specs.declared.marks.Inside.TheVariants.{Parts, Symbol, Digits}
 use Rattle.tx_tm_form.specs.Tokens.{Token, white, plain, escape, raw, head, bar, close, written, is_dropped, kept}
@@ -71,7 +71,7 @@ one_passes s w t h = then_pass s w t [] (λ n. subst (λ z. Passes z w []) (sym 
 
 -- ---- symbols and raw data
 
-name_step : (b m n : ℕ) (ms : List Mark) → is_name_byte b ≡ true → m < MOST_NAME → feed_standing n (standing (Symbol m) ms) (name_token b) ≡ standing (Symbol (suc m)) ms
+name_step : (b m n : ℕ) (ms : List TagMark) → is_name_byte b ≡ true → m < MOST_NAME → feed_standing n (standing (Symbol m) ms) (name_token b) ≡ standing (Symbol (suc m)) ms
 name_step b m n ms h lt =
     elim (b == 124 || b == 92) as (λ c. (b == 124 || b == 92) ≡ c → symbol_marks m ms (if c then escape b else plain b) ≡ standing (Symbol (suc m)) ms) [
       | true ↦ λ e.
@@ -80,22 +80,22 @@ name_step b m n ms h lt =
       | false ↦ λ e. ap (λ c. if_marked c (Symbol (suc m)) ms) (and_from _ _ h (lt-ltb _ _ lt))
     ] refl
 
-end_step : (m n : ℕ) (ms : List Mark) → 1 ≤ m → feed_standing n (standing (Symbol m) ms) (escape 62) ≡ standing Parts ms
+end_step : (m n : ℕ) (ms : List TagMark) → 1 ≤ m → feed_standing n (standing (Symbol m) ms) (escape 62) ≡ standing Parts ms
 end_step m n ms h = ap (λ c. if_marked c Parts ms) (le-leb 1 m h)
 
-name_passes : (name : List ℕ) (m : ℕ) (ms : List Mark) → AllByRecursion (λ b. is_name_byte b ≡ true) name → m + length name ≤ MOST_NAME → 1 ≤ m + length name
+name_passes : (name : List ℕ) (m : ℕ) (ms : List TagMark) → AllByRecursion (λ b. is_name_byte b ≡ true) name → m + length name ≤ MOST_NAME → 1 ≤ m + length name
     → Passes (standing (Symbol m) ms) (standing Parts ms) (map name_token name ++ escape 62 ∷ [])
 name_passes [] m ms h n k = one_passes (standing (Symbol m) ms) (standing Parts ms) (escape 62) (λ i. end_step m i ms (omega (arith, k)))
 name_passes (b ∷ name) m ms h n k =
     then_pass (standing (Symbol m) ms) (standing Parts ms) (name_token b) (map name_token name ++ escape 62 ∷ []) (λ i.
     subst (λ z. Passes z (standing Parts ms) (map name_token name ++ escape 62 ∷ [])) (sym (name_step b m i ms h.0 (omega (arith, n)))) (name_passes name (suc m) ms h.1 (omega (arith, n)) (omega arith)))
 
-symbol_passes : (name : List ℕ) (ms : List Mark) → IsName name → Passes (standing Parts ms) (standing Parts ms) (escape 60 ∷ (map name_token name ++ escape 62 ∷ []))
+symbol_passes : (name : List ℕ) (ms : List TagMark) → IsName name → Passes (standing Parts ms) (standing Parts ms) (escape 60 ∷ (map name_token name ++ escape 62 ∷ []))
 symbol_passes name ms h =
     then_pass (standing Parts ms) (standing Parts ms) (escape 60) (map name_token name ++ escape 62 ∷ []) (λ i.
     subst (λ o. Passes (escape_marks o 60 ms) (standing Parts ms) (map name_token name ++ escape 62 ∷ [])) (sym no_escape_less) (name_passes name 0 ms h.each (omega (arith, h.short)) (omega (arith, h.some))))
 
-digits_pass : (ds : List ℕ) (ms : List Mark) → AreDigits ds → Passes (standing Digits ms) (standing Parts ms) (map plain ds ++ close ∷ [])
+digits_pass : (ds : List ℕ) (ms : List TagMark) → AreDigits ds → Passes (standing Digits ms) (standing Parts ms) (map plain ds ++ close ∷ [])
 digits_pass [] ms h = one_passes (standing Digits ms) (standing Parts ms) close (λ i. refl)
 digits_pass (b ∷ ds) ms h =
     then_pass (standing Digits ms) (standing Parts ms) (plain b) (map plain ds ++ close ∷ []) (λ i.
@@ -104,34 +104,34 @@ digits_pass (b ∷ ds) ms h =
 -- ---- tags
 
 -- behind the last argument of a beginning or an end
-abbrev behind_last : Place → ℕ → List ℕ → List Mark → List Mark
+abbrev behind_last : TagPlace → ℕ → List ℕ → List TagMark → List TagMark
 behind_last InShort n l ms = ms
 behind_last InHeader n l ms = new_mark n l None ∷ ms
 behind_last InClosing n l ms = ms
 
-abbrev in_argument : Place → ℕ → List ℕ → List Mark → Option Standing
+abbrev in_argument : TagPlace → ℕ → List ℕ → List TagMark → Option Standing
 in_argument p n l ms = standing Parts (new_mark n l (Some p) ∷ ms)
 
-abbrev in_block : ℕ → List ℕ → List Mark → Option Standing
+abbrev in_block : ℕ → List ℕ → List TagMark → Option Standing
 in_block n l ms = standing Parts (new_mark n l None ∷ ms)
 
-close_passes : (p : Place) (n : ℕ) (l : List ℕ) (ms : List Mark) → Passes (in_argument p n l ms) (standing Parts (behind_last p n l ms)) (close ∷ [])
+close_passes : (p : TagPlace) (n : ℕ) (l : List ℕ) (ms : List TagMark) → Passes (in_argument p n l ms) (standing Parts (behind_last p n l ms)) (close ∷ [])
 close_passes InShort n l ms = one_passes (in_argument InShort n l ms) (standing Parts ms) close (λ i. refl)
 close_passes InHeader n l ms = one_passes (in_argument InHeader n l ms) (in_block n l ms) close (λ i. refl)
 close_passes InClosing n l ms = one_passes (in_argument InClosing n l ms) (standing Parts ms) close (λ i. refl)
 
 -- in a block, a middle or closing tag begins
-middle_step : (more : Bool) (n i : ℕ) (l : List ℕ) (ms : List Mark) → feed_standing i (in_block n l ms) (head Middle l more) ≡ standing Parts (new_mark n l (header_place more) ∷ ms)
+middle_step : (more : Bool) (n i : ℕ) (l : List ℕ) (ms : List TagMark) → feed_standing i (in_block n l ms) (head Middle l more) ≡ standing Parts (new_mark n l (header_place more) ∷ ms)
 middle_step more n i l ms = ap (λ c. if_marked c Parts (new_mark n l (header_place more) ∷ ms)) (same_self l)
 
-closing_step : (n i : ℕ) (l : List ℕ) (ms : List Mark) → feed_standing i (in_block n l ms) (head Closing l true) ≡ in_argument InClosing n l ms
+closing_step : (n i : ℕ) (l : List ℕ) (ms : List TagMark) → feed_standing i (in_block n l ms) (head Closing l true) ≡ in_argument InClosing n l ms
 closing_step n i l ms = ap (λ c. if_marked c Parts (new_mark n l (Some InClosing) ∷ ms)) (same_self l)
 
-last_step : (n i : ℕ) (l : List ℕ) (ms : List Mark) → feed_standing i (in_block n l ms) (head Closing l false) ≡ standing Parts ms
+last_step : (n i : ℕ) (l : List ℕ) (ms : List TagMark) → feed_standing i (in_block n l ms) (head Closing l false) ≡ standing Parts ms
 last_step n i l ms = ap (λ c. if_marked c Parts ms) (same_self l)
 
 mutual
-  piece_passes : (p : Piece) (ms : List Mark) → Passes (standing Parts ms) (standing Parts ms) (tokens_of_piece p)
+  piece_passes : (p : Piece) (ms : List TagMark) → Passes (standing Parts ms) (standing Parts ms) (tokens_of_piece p)
   piece_passes (blank b) ms = one_passes (standing Parts ms) (standing Parts ms) (white b) (λ n. refl)
   piece_passes (letter b h) ms = one_passes (standing Parts ms) (standing Parts ms) (plain b) (λ n. refl)
   piece_passes (escaped b e h) ms = one_passes (standing Parts ms) (standing Parts ms) (escape b) (λ n. ap (λ o. escape_marks o b ms) h)
@@ -152,17 +152,17 @@ mutual
       (both_pass (in_block n l ms) (in_block n l ms) (standing Parts ms) (tokens_of first) (tokens_of_blocks l others ++ beginning Closing l last) (pieces_pass first (new_mark n l None ∷ ms))
       (both_pass (in_block n l ms) (in_block n l ms) (standing Parts ms) (tokens_of_blocks l others) (beginning Closing l last) (blocks_pass others n l ms) (end_passes last n l ms))))
 
-  pub pieces_pass : (c : Pieces) (ms : List Mark) → Passes (standing Parts ms) (standing Parts ms) (tokens_of c)
+  pub pieces_pass : (c : Pieces) (ms : List TagMark) → Passes (standing Parts ms) (standing Parts ms) (tokens_of c)
   pieces_pass nothing ms = nothing_passes (standing Parts ms)
   pieces_pass (piece p c) ms = both_pass (standing Parts ms) (standing Parts ms) (standing Parts ms) (tokens_of_piece p) (tokens_of c) (piece_passes p ms) (pieces_pass c ms)
 
-  pub more_pass : (xs : Arguments) (p : Place) (n : ℕ) (l : List ℕ) (ms : List Mark) → Passes (in_argument p n l ms) (standing Parts (behind_last p n l ms)) (more_arguments xs)
+  pub more_pass : (xs : Arguments) (p : TagPlace) (n : ℕ) (l : List ℕ) (ms : List TagMark) → Passes (in_argument p n l ms) (standing Parts (behind_last p n l ms)) (more_arguments xs)
   more_pass no_argument p n l ms = close_passes p n l ms
   more_pass (argument x xs) p n l ms =
       then_pass (in_argument p n l ms) (standing Parts (behind_last p n l ms)) bar (tokens_of x ++ more_arguments xs) (λ i.
       both_pass (in_argument p n l ms) (in_argument p n l ms) (standing Parts (behind_last p n l ms)) (tokens_of x) (more_arguments xs) (pieces_pass x (new_mark n l (Some p) ∷ ms)) (more_pass xs p n l ms))
 
-  pub blocks_pass : (bs : Blocks) (n : ℕ) (l : List ℕ) (ms : List Mark) → Passes (in_block n l ms) (in_block n l ms) (tokens_of_blocks l bs)
+  pub blocks_pass : (bs : Blocks) (n : ℕ) (l : List ℕ) (ms : List TagMark) → Passes (in_block n l ms) (in_block n l ms) (tokens_of_blocks l bs)
   blocks_pass no_block n l ms = nothing_passes (in_block n l ms)
   blocks_pass (middle_tag no_argument b bs) n l ms =
       then_pass (in_block n l ms) (in_block n l ms) (head Middle l false) (tokens_of b ++ tokens_of_blocks l bs) (λ i.
@@ -175,7 +175,7 @@ mutual
       (both_pass (in_argument InHeader n l ms) (in_argument InHeader n l ms) (in_block n l ms) (tokens_of x) (more_arguments xs) (pieces_pass x (new_mark n l (Some InHeader) ∷ ms)) (more_pass xs InHeader n l ms))
       (both_pass (in_block n l ms) (in_block n l ms) (in_block n l ms) (tokens_of b) (tokens_of_blocks l bs) (pieces_pass b (new_mark n l None ∷ ms)) (blocks_pass bs n l ms))))
 
-  end_passes : (xs : Arguments) (n : ℕ) (l : List ℕ) (ms : List Mark) → Passes (in_block n l ms) (standing Parts ms) (beginning Closing l xs)
+  end_passes : (xs : Arguments) (n : ℕ) (l : List ℕ) (ms : List TagMark) → Passes (in_block n l ms) (standing Parts ms) (beginning Closing l xs)
   end_passes no_argument n l ms = one_passes (in_block n l ms) (standing Parts ms) (head Closing l false) (λ i. last_step n i l ms)
   end_passes (argument x xs) n l ms =
       then_pass (in_block n l ms) (standing Parts ms) (head Closing l true) (tokens_of x ++ more_arguments xs) (λ i.
@@ -185,7 +185,7 @@ mutual
 -- ---- the mark of an open long tag
 
 -- the tokens behind its beginning
-behind_head : (xs : Arguments) (l : List ℕ) (more : Bool) (n : ℕ) (ms : List Mark) (x y : List Token) → head Long l more ∷ x ≡ beginning Long l xs ++ y
+behind_head : (xs : Arguments) (l : List ℕ) (more : Bool) (n : ℕ) (ms : List TagMark) (x y : List Token) → head Long l more ∷ x ≡ beginning Long l xs ++ y
     → (z : List Token) × (x ≡ z ++ y) × Passes (standing Parts (new_mark n l (header_place more) ∷ ms)) (in_block n l ms) z
 behind_head no_argument l more n ms x y e =
     let p = beginnings l more false x y e in
@@ -237,7 +237,7 @@ fold_append (t ∷ a) b m = fold_append a b (keep_marks m t)
 
 -- from where a long tag begins to where its block stands open
 abbrev Opens : ℕ → Option Standing → Type 0
-Opens place o = (l : List ℕ) × (ms : List Mark) × (o ≡ standing Parts (new_mark place l None ∷ ms))
+Opens place o = (l : List ℕ) × (ms : List TagMark) × (o ≡ standing Parts (new_mark place l None ∷ ms))
 
 no_some : (s : Standing) (o : Option Standing) → o ≡ None → o ≡ Some s → ⊥
 no_some s o e h = cc
@@ -246,7 +246,7 @@ now_is : (o p : Option Standing) (m k : Marked) → m.now ≡ o → m ≡ k → 
 now_is o p m k e f g = sym e ∙ ap (λ x. x.now) f ∙ g
 
 block_opens : (h : Option Standing) (place : ℕ) (j : Bool) (label : List ℕ) (more : Bool) (behind : List Token) (xs : Arguments) (y : List Token)
-    → head Long label more ∷ kept false behind ≡ beginning Long label xs ++ y → ((n : ℕ) (ms : List Mark) → Passes (in_block n label ms) (in_block n label ms) y)
+    → head Long label more ∷ kept false behind ≡ beginning Long label xs ++ y → ((n : ℕ) (ms : List TagMark) → Passes (in_block n label ms) (in_block n label ms) y)
     → (s : Standing) → (marks_fold (marked place j h) (head Long label more ∷ behind)).now ≡ Some s → Opens place (Some s)
 block_opens None place j label more behind xs y e k s r = absurd (no_some s _ (no_standing (head Long label more ∷ behind) place j) r)
 block_opens (Some z) place j label more behind xs y e k s r = opens z.inside r

@@ -9,10 +9,10 @@ use Rattle.tx_tree.specs.Labels.{IsLabel}
 use Rattle.tx_tree.specs.WideTree.{WideTree, node, forest}
 use Rattle.tx_tree.proofs.Scanning.{all_snoc}
 use Rattle.tx_tm_form.specs.declared.bytes.Escaped.{Escaped}
-use Rattle.tx_tm_form.specs.declared.places.Form.{Form}
-use Rattle.tx_tm_form.specs.declared.places.Form.TheVariants.{Short, Long, Middle, Closing}
-use Rattle.tx_tm_form.specs.declared.places.Place.{Place}
-use Rattle.tx_tm_form.specs.declared.places.Place.TheVariants.{InShort, InHeader, InClosing}
+use Rattle.tx_tm_form.specs.declared.places.TagForm.{TagForm}
+use Rattle.tx_tm_form.specs.declared.places.TagForm.TheVariants.{Short, Long, Middle, Closing}
+use Rattle.tx_tm_form.specs.declared.places.TagPlace.{TagPlace}
+use Rattle.tx_tm_form.specs.declared.places.TagPlace.TheVariants.{InShort, InHeader, InClosing}
 use Rattle.tx_tm_form.specs.Bytes.{kind_of, is_plain, escape_of, is_digit}
 use Rattle.tx_tm_form.specs.Tokens.{Token, white, join, plain, escape, raw, head, bar, close, IsToken}
 use Rattle.tx_tm_form.specs.Parts.{Part, text, tag, content, block, long_tag, same}
@@ -58,7 +58,7 @@ more_with : (xs : List Pieces) (c : Pieces) → more_arguments (arguments_with x
 more_with [] c = refl
 more_with (x ∷ xs) c = ap (λ z. bar ∷ (tokens_of x ++ z)) (more_with xs c) ∙ ap (λ z. bar ∷ z) (sym (append_assoc (tokens_of x) (bar ∷ with_bars xs) (tokens_of c ++ close ∷ [])))
 
-beginning_with : (form : Form) (l : List ℕ) (xs : List Pieces) (c : Pieces) → beginning form l (arguments_with xs c) ≡ head form l true ∷ (with_bars xs ++ (tokens_of c ++ close ∷ []))
+beginning_with : (form : TagForm) (l : List ℕ) (xs : List Pieces) (c : Pieces) → beginning form l (arguments_with xs c) ≡ head form l true ∷ (with_bars xs ++ (tokens_of c ++ close ∷ []))
 beginning_with form l [] c = refl
 beginning_with form l (x ∷ xs) c = ap (λ z. head form l true ∷ (tokens_of x ++ z)) (more_with xs c) ∙ ap (λ z. head form l true ∷ z) (sym (append_assoc (tokens_of x) (bar ∷ with_bars xs) (tokens_of c ++ close ∷ [])))
 
@@ -126,16 +126,16 @@ abbrev pub BlockFrame : List ℕ → List WideTree → List Token → Type 0
 BlockFrame l ks q = (xs : Arguments) × (bs : List Ended) × IsLabel l × (ks ≡ children_of xs ++ ended_children bs) × (q ≡ beginning Long l xs ++ ended_tokens l bs)
 
 -- .. to where its present argument begins
-abbrev pub ArgumentFrame : Form → List ℕ → List WideTree → List Token → Type 0
+abbrev pub ArgumentFrame : TagForm → List ℕ → List WideTree → List Token → Type 0
 ArgumentFrame form l ks q = (xs : List Pieces) × IsLabel l × (ks ≡ map child_of xs) × (q ≡ head form l true ∷ with_bars xs)
 
 -- .. where that stands behind a block
-abbrev pub BehindFrame : Form → List ℕ → List WideTree → List Token → Type 0
+abbrev pub BehindFrame : TagForm → List ℕ → List WideTree → List Token → Type 0
 BehindFrame form l ks q =
     (us : List WideTree) × (r : List Token) × (c : Pieces) × (xs : List Pieces) × BlockFrame l us r
     × (ks ≡ us ++ block (parts_of c) ∷ map child_of xs) × (q ≡ r ++ (tokens_of c ++ head form l true ∷ with_bars xs))
 
-abbrev pub Frame : Option Place → List ℕ → List WideTree → List Token → Type 0
+abbrev pub Frame : Option TagPlace → List ℕ → List WideTree → List Token → Type 0
 Frame (Some InShort) l ks q = ArgumentFrame Short l ks q
 Frame (Some InHeader) l ks q = ArgumentFrame Long l ks q ⊎ BehindFrame Middle l ks q
 Frame (Some InClosing) l ks q = BehindFrame Closing l ks q
@@ -144,7 +144,7 @@ Frame None l ks q = BlockFrame l ks q
 abbrev pub Here : Content → List Open → List Token → Type 0
 Here here [] ts = (c : Pieces) × (here ≡ puts (blocks no_paragraphs) (parts_of c)) × (ts ≡ tokens_of c)
 Here here (f ∷ fs) ts =
-    (w : Option Place) × (u : List Token) × (q : List Token) × (c : Pieces) × Here f.before fs u × Frame w f.label f.children q
+    (w : Option TagPlace) × (u : List Token) × (q : List Token) × (c : Pieces) × Here f.before fs u × Frame w f.label f.children q
     × (here ≡ puts (opening w f.label f.children) (parts_of c)) × (ts ≡ u ++ (q ++ tokens_of c))
 
 pub record NameSoFar (n : List ℕ) : Type 0 where
@@ -175,24 +175,24 @@ add_piece (f ∷ fs) p x here ts us h e k = (
   rw (k, h.7, tokens_more h.3 p) (regrouped h.1 h.2 (tokens_of h.3) (tokens_of_piece p)),
 )
 
-into_tag : (w : Option Place) (f : Open) (fs : List Open) (u q ts : List Token) → Here f.before fs u → Frame w f.label f.children q → ts ≡ u ++ q → Took (in_tag w f fs) ts
+into_tag : (w : Option TagPlace) (f : Open) (fs : List Open) (u q ts : List Token) → Here f.before fs u → Frame w f.label f.children q → ts ≡ u ++ q → Took (in_tag w f fs) ts
 into_tag w f fs u q ts h k e = (w, u, q, nothing, h, k, refl, rw (e, append-nil q) refl)
 
 -- where the content stands
-pub place_there : (w : Option Place) (l : List ℕ) (ks : List WideTree) → place_of (opening w l ks) ≡ w
+pub place_there : (w : Option TagPlace) (l : List ℕ) (ks : List WideTree) → place_of (opening w l ks) ≡ w
 place_there (Some p) l ks = refl
 place_there None l ks = no_place l ks
 
-abbrev pub Inner : Option Place → Open → Content → List Open → List Token → Type 0
+abbrev pub Inner : Option TagPlace → Open → Content → List Open → List Token → Type 0
 Inner w f here fs ts =
     (u : List Token) × (q : List Token) × (c : Pieces) × Here f.before fs u × Frame w f.label f.children q
     × (here ≡ puts (opening w f.label f.children) (parts_of c)) × (ts ≡ u ++ (q ++ tokens_of c))
 
-pub inner : (f : Open) (here : Content) (fs : List Open) (ts : List Token) → Here here (f ∷ fs) ts → (w : Option Place) × (place_of here ≡ w) × Inner w f here fs ts
+pub inner : (f : Open) (here : Content) (fs : List Open) (ts : List Token) → Here here (f ∷ fs) ts → (w : Option TagPlace) × (place_of here ≡ w) × Inner w f here fs ts
 inner f here fs ts h =
     (h.0, ap place_of h.6 ∙ place_is (parts_of h.3) (opening h.0 f.label f.children) ∙ place_there h.0 f.label f.children, (h.1, h.2, h.3, h.4, h.5, h.6, h.7))
 
-argument_is : (p : Place) (c : Pieces) (here : Content) → here ≡ puts (inline p no_parts) (parts_of c) → content_of here ≡ child_of c
+argument_is : (p : TagPlace) (c : Pieces) (here : Content) → here ≡ puts (inline p no_parts) (parts_of c) → content_of here ≡ child_of c
 argument_is p c here e = ap content_of (e ∙ puts_inline (parts_of c) p no_parts) ∙ grown_is_content (parts_of c)
 
 block_there : (l : List ℕ) (ks : List WideTree) (c : Pieces) (here : Content) → here ≡ puts (block_behind l ks) (parts_of c) → block_of here ≡ block (parts_of c)
@@ -203,12 +203,12 @@ more_tokens ts u q c d e = ap (λ z. z ++ d) e ∙ regrouped u q c d
 
 -- ---- where an argument ends
 
-argument_bar : (form : Form) (l : List ℕ) (ks : List WideTree) (q : List Token) (c : Pieces) (t : WideTree) → ArgumentFrame form l ks q → t ≡ child_of c
+argument_bar : (form : TagForm) (l : List ℕ) (ks : List WideTree) (q : List Token) (c : Pieces) (t : WideTree) → ArgumentFrame form l ks q → t ≡ child_of c
     → ArgumentFrame form l (ks ++ t ∷ []) (q ++ (tokens_of c ++ bar ∷ []))
 argument_bar form l ks q c t h e =
     (h.0 ++ c ∷ [], h.1, rw (h.2, map-append child_of h.0 (c ∷ []), e) refl, rw (h.3, bars_more h.0 c) refl)
 
-behind_bar : (form : Form) (l : List ℕ) (ks : List WideTree) (q : List Token) (c : Pieces) (t : WideTree) → BehindFrame form l ks q → t ≡ child_of c
+behind_bar : (form : TagForm) (l : List ℕ) (ks : List WideTree) (q : List Token) (c : Pieces) (t : WideTree) → BehindFrame form l ks q → t ≡ child_of c
     → BehindFrame form l (ks ++ t ∷ []) (q ++ (tokens_of c ++ bar ∷ []))
 behind_bar form l ks q c t h e = (
   h.0,
@@ -257,7 +257,7 @@ long_ends l ks q c last before fs u us x h k i e =
     (e ∙ ap (λ z. u ++ z) (ap (λ z. z ++ (tokens_of c ++ beginning Closing l last)) h.4
     ∙ regroup_blocks (beginning Long l h.0) (ended_tokens l h.1) (tokens_of c) (beginning Closing l last) (tokens_of (first_body h.1 c)) (tokens_of_blocks l (other_bodies h.1 c)) (bodies_tokens l h.1 c)))
 
-bar_in : (w : Option Place) (f : Open) (here : Content) (fs : List Open) (ts : List Token) → Inner w f here fs ts → Took (next_argument w here (f ∷ fs)) (ts ++ bar ∷ [])
+bar_in : (w : Option TagPlace) (f : Open) (here : Content) (fs : List Open) (ts : List Token) → Inner w f here fs ts → Took (next_argument w here (f ∷ fs)) (ts ++ bar ∷ [])
 bar_in None f here fs ts h = tt
 bar_in (Some InShort) f here fs ts h =
     into_tag (Some InShort) (with_child f (content_of here)) fs h.0 (h.1 ++ (tokens_of h.2 ++ bar ∷ [])) (ts ++ bar ∷ []) h.3
@@ -270,7 +270,7 @@ bar_in (Some InHeader) f here fs ts h =
     (⊎_elim (λ k. inl (argument_bar Long f.label f.children h.1 h.2 (content_of here) k (argument_is InHeader h.2 here h.5))) (λ k. inr (behind_bar Middle f.label f.children h.1 h.2 (content_of here) k (argument_is InHeader h.2 here h.5))) h.4)
     (more_tokens ts h.0 h.1 (tokens_of h.2) (bar ∷ []) h.6)
 
-close_in : (w : Option Place) (f : Open) (here : Content) (fs : List Open) (ts : List Token) → Inner w f here fs ts → Took (last_argument w here (f ∷ fs)) (ts ++ close ∷ [])
+close_in : (w : Option TagPlace) (f : Open) (here : Content) (fs : List Open) (ts : List Token) → Inner w f here fs ts → Took (last_argument w here (f ∷ fs)) (ts ++ close ∷ [])
 close_in None f here fs ts h = tt
 close_in (Some InHeader) f here fs ts h =
     into_tag None (with_child f (content_of here)) fs h.0 (h.1 ++ (tokens_of h.2 ++ close ∷ [])) (ts ++ close ∷ []) h.3
@@ -301,12 +301,12 @@ go_took : (c : Bool) (s : State) (ts : List Token) → (c ≡ true → Took s ts
 go_took true s ts h = h refl
 go_took false s ts h = tt
 
-abbrev Goes : Option Place → Form → Bool → Open → Content → Type 0
+abbrev Goes : Option TagPlace → TagForm → Bool → Open → Content → Type 0
 Goes p form more f here =
     (c : Pieces) (q : List Token) → BlockFrame f.label f.children q → block_of here ≡ block (parts_of c)
     → Frame p f.label (f.children ++ block_of here ∷ []) (q ++ (tokens_of c ++ head form f.label more ∷ []))
 
-next_in : (w : Option Place) (f : Open) (l : List ℕ) (p : Option Place) (form : Form) (more : Bool) (here : Content) (fs : List Open) (ts : List Token) → Inner w f here fs ts
+next_in : (w : Option TagPlace) (f : Open) (l : List ℕ) (p : Option TagPlace) (form : TagForm) (more : Bool) (here : Content) (fs : List Open) (ts : List Token) → Inner w f here fs ts
     → Goes p form more f here → Took (next_block w l p here (f ∷ fs)) (ts ++ head form l more ∷ [])
 next_in (Some w) f l p form more here fs ts h k = tt
 next_in None f l p form more here fs ts h k =
@@ -315,7 +315,7 @@ next_in None f l p form more here fs ts h k =
     (k h.2 h.1 h.4 (block_there f.label f.children h.2 here h.5))
     (ap (λ z. ts ++ head form z more ∷ []) (same_is l f.label e) ∙ more_tokens ts h.0 h.1 (tokens_of h.2) (head form f.label more ∷ []) h.6))
 
-goes_behind : (form : Form) (f : Open) (here : Content) (c : Pieces) (q : List Token) → BlockFrame f.label f.children q → block_of here ≡ block (parts_of c)
+goes_behind : (form : TagForm) (f : Open) (here : Content) (c : Pieces) (q : List Token) → BlockFrame f.label f.children q → block_of here ≡ block (parts_of c)
     → BehindFrame form f.label (f.children ++ block_of here ∷ []) (q ++ (tokens_of c ++ head form f.label true ∷ []))
 goes_behind form f here c q h e = (f.children, q, c, [], h, ap (λ z. f.children ++ z ∷ []) e, refl)
 
@@ -324,7 +324,7 @@ goes_middle true f here c q h e = inr (goes_behind Middle f here c q h e)
 goes_middle false f here c q h e =
     one_block_more f.label f.children q c no_argument (f.children ++ block_of here ∷ []) (q ++ (tokens_of c ++ head Middle f.label false ∷ [])) h (ap (λ z. f.children ++ z ∷ []) e) refl
 
-last_in : (w : Option Place) (f : Open) (l : List ℕ) (here : Content) (fs : List Open) (ts : List Token) → Inner w f here fs ts
+last_in : (w : Option TagPlace) (f : Open) (l : List ℕ) (here : Content) (fs : List Open) (ts : List Token) → Inner w f here fs ts
     → Took (last_block w l here (f ∷ fs)) (ts ++ head Closing l false ∷ [])
 last_in (Some w) f l here fs ts h = tt
 last_in None f l here fs ts h =
@@ -333,26 +333,26 @@ last_in None f l here fs ts h =
     (sym (ap (long_of f.label f.children) h.5 ∙ long_is f.label f.children (parts_of h.2)))
     (ap (λ z. ts ++ head Closing z false ∷ []) (same_is l f.label e) ∙ more_tokens ts h.0 h.1 (tokens_of h.2) (head Closing f.label false ∷ []) h.6))
 
-middle_took : (l : List ℕ) (p : Option Place) (form : Form) (more : Bool) (here : Content) (fs : List Open) (ts : List Token) → Here here fs ts
+middle_took : (l : List ℕ) (p : Option TagPlace) (form : TagForm) (more : Bool) (here : Content) (fs : List Open) (ts : List Token) → Here here fs ts
     → ((f : Open) → Goes p form more f here) → Took (next_block (place_of here) l p here fs) (ts ++ head form l more ∷ [])
 middle_took l p form more here [] ts h k =
-    let P : Option Place → Type 0 = λ w. Took (next_block w l p here []) (ts ++ head form l more ∷ []) in
+    let P : Option TagPlace → Type 0 = λ w. Took (next_block w l p here []) (ts ++ head form l more ∷ []) in
     elim (place_of here) as P [ None ↦ tt | Some w ↦ tt ]
 middle_took l p form more here (f ∷ fs) ts h k =
     let i = inner f here fs ts h in
-    let P : Option Place → Type 0 = λ w. Took (next_block w l p here (f ∷ fs)) (ts ++ head form l more ∷ []) in
+    let P : Option TagPlace → Type 0 = λ w. Took (next_block w l p here (f ∷ fs)) (ts ++ head form l more ∷ []) in
     subst P (sym i.1) (next_in i.0 f l p form more here fs ts i.2 (k f))
 
 ending_took : (l : List ℕ) (here : Content) (fs : List Open) (ts : List Token) → Here here fs ts → Took (last_block (place_of here) l here fs) (ts ++ head Closing l false ∷ [])
 ending_took l here [] ts h =
-    let P : Option Place → Type 0 = λ w. Took (last_block w l here []) (ts ++ head Closing l false ∷ []) in
+    let P : Option TagPlace → Type 0 = λ w. Took (last_block w l here []) (ts ++ head Closing l false ∷ []) in
     elim (place_of here) as P [ None ↦ tt | Some w ↦ tt ]
 ending_took l here (f ∷ fs) ts h =
     let i = inner f here fs ts h in
-    let P : Option Place → Type 0 = λ w. Took (last_block w l here (f ∷ fs)) (ts ++ head Closing l false ∷ []) in
+    let P : Option TagPlace → Type 0 = λ w. Took (last_block w l here (f ∷ fs)) (ts ++ head Closing l false ∷ []) in
     subst P (sym i.1) (last_in i.0 f l here fs ts i.2)
 
-begun_took : (form : Form) (more : Bool) (l : List ℕ) (here : Content) (fs : List Open) (ts : List Token) → IsLabel l → Here here fs ts → Took (begun form more l here fs) (ts ++ head form l more ∷ [])
+begun_took : (form : TagForm) (more : Bool) (l : List ℕ) (here : Content) (fs : List Open) (ts : List Token) → IsLabel l → Here here fs ts → Took (begun form more l here fs) (ts ++ head form l more ∷ [])
 begun_took Short true l here fs ts v h = into_tag (Some InShort) (open_tag here l []) fs ts (head Short l true ∷ []) _ h ([], v, refl, refl) refl
 begun_took Short false l here fs ts v h = add_piece fs (short_tag l v no_argument) _ here ts _ h refl refl
 begun_took Long true l here fs ts v h = into_tag (Some InHeader) (open_tag here l []) fs ts (head Long l true ∷ []) _ h (inl ([], v, refl, refl)) refl
@@ -365,14 +365,14 @@ begun_took Closing false l here fs ts v h = ending_took l here fs ts h
 
 bar_took : (here : Content) (fs : List Open) (ts : List Token) → Here here fs ts → Took (next_argument (place_of here) here fs) (ts ++ bar ∷ [])
 bar_took here [] ts h =
-    let P : Option Place → Type 0 = λ w. Took (next_argument w here []) (ts ++ bar ∷ []) in
+    let P : Option TagPlace → Type 0 = λ w. Took (next_argument w here []) (ts ++ bar ∷ []) in
     elim (place_of here) as P [ None ↦ tt | Some w ↦ tt ]
 bar_took here (f ∷ fs) ts h =
     let i = inner f here fs ts h in
-    let P : Option Place → Type 0 = λ w. Took (next_argument w here (f ∷ fs)) (ts ++ bar ∷ []) in
+    let P : Option TagPlace → Type 0 = λ w. Took (next_argument w here (f ∷ fs)) (ts ++ bar ∷ []) in
     subst P (sym i.1) (bar_in i.0 f here fs ts i.2)
 
-no_last : (w : Option Place) (here : Content) (ts : List Token) → Took (last_argument w here []) ts
+no_last : (w : Option TagPlace) (here : Content) (ts : List Token) → Took (last_argument w here []) ts
 no_last None here ts = tt
 no_last (Some InShort) here ts = tt
 no_last (Some InHeader) here ts = tt
@@ -382,7 +382,7 @@ close_took : (here : Content) (fs : List Open) (ts : List Token) → Here here f
 close_took here [] ts h = no_last (place_of here) here (ts ++ close ∷ [])
 close_took here (f ∷ fs) ts h =
     let i = inner f here fs ts h in
-    let P : Option Place → Type 0 = λ w. Took (last_argument w here (f ∷ fs)) (ts ++ close ∷ []) in
+    let P : Option TagPlace → Type 0 = λ w. Took (last_argument w here (f ∷ fs)) (ts ++ close ∷ []) in
     subst P (sym i.1) (close_in i.0 f here fs ts i.2)
 
 escape_took : (o : Option Escaped) (b : ℕ) (here : Content) (fs : List Open) (ts : List Token) → escape_of b ≡ o → Here here fs ts → Took (by_escape o b here fs) (ts ++ escape b ∷ [])

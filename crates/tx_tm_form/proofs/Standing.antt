@@ -4,10 +4,10 @@ use Rattle.std.specs.List.{flat_map}
 use Rattle.std.proofs.lemmas.List.{append_cancel_right}
 use Rattle.tx_tree.specs.declared.TheConstants.{MOST_NAME}
 use Rattle.tx_tree.specs.Texts.{is_name_byte}
-use Rattle.tx_tm_form.specs.declared.places.Form.{Form}
-use Rattle.tx_tm_form.specs.declared.places.Form.TheVariants.{Long}
-use Rattle.tx_tm_form.specs.declared.places.Place.{Place}
-use Rattle.tx_tm_form.specs.declared.marks.Mark.{Mark}
+use Rattle.tx_tm_form.specs.declared.places.TagForm.{TagForm}
+use Rattle.tx_tm_form.specs.declared.places.TagForm.TheVariants.{Long}
+use Rattle.tx_tm_form.specs.declared.places.TagPlace.{TagPlace}
+use Rattle.tx_tm_form.specs.declared.marks.TagMark.{TagMark}
 use Rattle.tx_tm_form.specs.declared.marks.Inside.{Inside}
 use Rattle.tx_tm_form.specs.declared.marks.Inside.TheVariants.{Parts, Symbol, Digits}
 use Rattle.tx_tm_form.specs.Tokens.{Token, plain, escape, head, written, is_dropped, kept}
@@ -67,7 +67,7 @@ symbol_is_named ts h =
     subst (λ s. IsNaming s) (sym (ap (feeds file_state) h.2 ∙ feeds_append h.0 (escape 60 ∷ map name_token h.1) file_state))
     (names_go_on h.1 (feed (feeds file_state h.0) (escape 60)) (symbol_begins (feeds file_state h.0)))
 
-named_is_symbol : (s : State) (inside : Inside) (ms : List Mark) (ts : List Token) → IsStanding s inside ms → is_symbol inside ≡ true → Took s (kept false ts) → IsInSymbol ts
+named_is_symbol : (s : State) (inside : Inside) (ms : List TagMark) (ts : List Token) → IsStanding s inside ms → is_symbol inside ≡ true → Took s (kept false ts) → IsInSymbol ts
 named_is_symbol (naming n here fs) (Symbol j) ms ts h e k = (k.0, n, k.3)
 named_is_symbol (reading here fs) Parts ms ts h e k = absurd cc
 named_is_symbol (counting ds here fs) Digits ms ts h e k = absurd cc
@@ -81,7 +81,7 @@ named_is_symbol failed Parts ms ts h e k = absurd h
 named_is_symbol failed (Symbol j) ms ts h e k = absurd h
 named_is_symbol failed Digits ms ts h e k = absurd h
 
-no_symbol_there : (s : State) (inside : Inside) (ms : List Mark) → IsStanding s inside ms → is_symbol inside ≡ false → IsNaming s → ⊥
+no_symbol_there : (s : State) (inside : Inside) (ms : List TagMark) → IsStanding s inside ms → is_symbol inside ≡ false → IsNaming s → ⊥
 no_symbol_there (naming n here fs) (Symbol j) ms h e k = absurd cc
 no_symbol_there (reading here fs) inside ms h e k = k
 no_symbol_there (counting ds here fs) inside ms h e k = k
@@ -98,7 +98,7 @@ first_head no_argument l = (false, [], refl)
 first_head (argument x xs) l = (true, tokens_of x ++ more_arguments xs, refl)
 
 -- the tokens before and behind a kept beginning of a tag
-split_head : (ts u v : List Token) (form : Form) (l : List ℕ) (more j : Bool) → kept j ts ≡ u ++ head form l more ∷ v
+split_head : (ts u v : List Token) (form : TagForm) (l : List ℕ) (more j : Bool) → kept j ts ≡ u ++ head form l more ∷ v
     → (before : List Token) × (behind : List Token) × (ts ≡ before ++ head form l more ∷ behind) × (kept false behind ≡ v)
 split_head [] [] v form l more j e = absurd cc
 split_head [] (t ∷ u) v form l more j e = absurd cc
@@ -144,26 +144,26 @@ block_there ts u q c l ks h e =
       },
     )
 
-block_of_here : (w : Option Place) (here : Content) (f : Open) (fs : List Open) (ts : List Token) → place_of here ≡ None → place_of here ≡ w → Inner w f here fs (kept false ts) → (place : ℕ) × IsInBlock ts place
+block_of_here : (w : Option TagPlace) (here : Content) (f : Open) (fs : List Open) (ts : List Token) → place_of here ≡ None → place_of here ≡ w → Inner w f here fs (kept false ts) → (place : ℕ) × IsInBlock ts place
 block_of_here None here f fs ts e k h = block_there ts h.0 h.1 h.2 f.label f.children h.4 h.6
 block_of_here (Some p) here f fs ts e k h = absurd cc
 
-no_block_there : (w : Option Place) (l : List ℕ) (m : Mark) → begins_mark w l m ≡ true → w ≡ None
+no_block_there : (w : Option TagPlace) (l : List ℕ) (m : TagMark) → begins_mark w l m ≡ true → w ≡ None
 no_block_there None l m e = refl
 no_block_there (Some p) l m e = absurd cc
 
 -- the first mark is that of the tag whose block stands open
-abbrev pub HasTag : List Token → List Mark → Type 0
-HasTag ts ms = (m : Mark) × (rest : List Mark) × (ms ≡ m ∷ rest) × IsInBlock ts m.at
+abbrev pub HasTag : List Token → List TagMark → Type 0
+HasTag ts ms = (m : TagMark) × (rest : List TagMark) × (ms ≡ m ∷ rest) × IsInBlock ts m.at
 
-same_mark : (z : Standing) (inside : Inside) (place : ℕ) (l : List ℕ) (rest : List Mark) → (let o : Option Standing = Some z in o) ≡ standing inside (new_mark place l None ∷ rest) → z.marks ≡ new_mark place l None ∷ rest
+same_mark : (z : Standing) (inside : Inside) (place : ℕ) (l : List ℕ) (rest : List TagMark) → (let o : Option Standing = Some z in o) ≡ standing inside (new_mark place l None ∷ rest) → z.marks ≡ new_mark place l None ∷ rest
 same_mark z inside place l rest e = ap marks_in e
   where
-    marks_in : Option Standing → List Mark
+    marks_in : Option Standing → List TagMark
     marks_in None = []
     marks_in (Some z) = z.marks
 
-tag_there : (s : State) (inside : Inside) (ms : List Mark) (l : List ℕ) (ts : List Token) → IsStanding s inside ms → Took s (kept false ts) → is_parts inside ≡ true → begins_marks l ms ≡ true → (place : ℕ) × IsInBlock ts place
+tag_there : (s : State) (inside : Inside) (ms : List TagMark) (l : List ℕ) (ts : List Token) → IsStanding s inside ms → Took s (kept false ts) → is_parts inside ≡ true → begins_marks l ms ≡ true → (place : ℕ) × IsInBlock ts place
 tag_there (reading here []) Parts [] l ts h k i e = absurd cc
 tag_there (reading here (f ∷ fs)) Parts [] l ts h k i e = absurd cc
 tag_there (reading here []) Parts (m ∷ ms) l ts h k i e = absurd h

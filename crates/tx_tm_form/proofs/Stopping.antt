@@ -6,8 +6,8 @@ use Rattle.tx_tree.specs.declared.faults.ReadFault.{ReadFault}
 use Rattle.tx_tree.specs.declared.faults.ReadFault.TheVariants.{Unclosed, Stray, BadEscape, BadLabel, BadText, Limit}
 use Rattle.tx_tree.specs.ReadFaults.{SpellsSome}
 use Rattle.tx_tree.specs.WideTree.{WideTree}
-use Rattle.tx_tm_form.specs.declared.places.Form.TheVariants.{Short, Long, Middle, Closing}
-use Rattle.tx_tm_form.specs.declared.marks.Mark.{Mark}
+use Rattle.tx_tm_form.specs.declared.places.TagForm.TheVariants.{Short, Long, Middle, Closing}
+use Rattle.tx_tm_form.specs.declared.marks.TagMark.{TagMark}
 use Rattle.tx_tm_form.specs.declared.marks.Inside.{Inside}
 use Rattle.tx_tm_form.specs.declared.marks.Inside.TheVariants.{Parts, Symbol, Digits}
 use Rattle.tx_tm_form.specs.Tokens.{Token, kept}
@@ -65,7 +65,7 @@ IsPlaced (Unclosed n) = ⊥
 IsPlaced (Limit which n) = ⊥
 IsPlaced _ = Unit {0}
 
-mismatch_placed : (ms : List Mark) (n : ℕ) → IsPlaced (mismatch ms n)
+mismatch_placed : (ms : List TagMark) (n : ℕ) → IsPlaced (mismatch ms n)
 mismatch_placed [] n = tt
 mismatch_placed (m ∷ ms) n = tt
 
@@ -73,7 +73,7 @@ if_placed : (c : Bool) (f g : ReadFault) → IsPlaced f → IsPlaced g → IsPla
 if_placed true f g h k = h
 if_placed false f g h k = k
 
-fault_placed : (q : Lex) (inside : Inside) (ms : List Mark) (b n : ℕ) → IsPlaced (fault_by q inside ms b n)
+fault_placed : (q : Lex) (inside : Inside) (ms : List TagMark) (b n : ℕ) → IsPlaced (fault_by q inside ms b n)
 fault_placed ready inside ms b n = if_placed (is_symbol inside) (BadText n) (Stray n) tt tt
 fault_placed slashed inside ms b n = if_placed (is_symbol inside || b == 62) (BadText n) (BadEscape n) tt tt
 fault_placed returned inside ms b n = tt
@@ -104,10 +104,10 @@ stop_there (at q m) bytes n lt e on stop = stop_at q m m.now bytes n refl lt e o
 
 -- ---- the end
 
-no_mark : (m : Mark) (ms : List Mark) → (length (m ∷ ms) == 0) ≡ true → ⊥
+no_mark : (m : TagMark) (ms : List TagMark) → (length (m ∷ ms) == 0) ≡ true → ⊥
 no_mark m ms e = omega (arith, is_same_number (length (m ∷ ms)) 0 e)
 
-whole_in : (s : State) (inside : Inside) (ms : List Mark) (t : WideTree) → IsStanding s inside ms → tree_of s ≡ Some t → (is_parts inside && length ms == 0) ≡ true
+whole_in : (s : State) (inside : Inside) (ms : List TagMark) (t : WideTree) → IsStanding s inside ms → tree_of s ≡ Some t → (is_parts inside && length ms == 0) ≡ true
 whole_in (reading here []) Parts [] t h e = refl
 whole_in (reading here []) Parts (m ∷ ms) t h e = absurd h
 whole_in (reading here []) (Symbol j) ms t h e = absurd h
@@ -148,7 +148,7 @@ end_there (at q m) bytes e on h =
       no_tree bytes q m e h,
     )
 
-file_read_in : (s : State) (inside : Inside) (ms : List Mark) (ts : List Token) → IsStanding s inside ms → (is_parts inside && length ms == 0) ≡ true → Took s ts → (t : WideTree) × (tree_of s ≡ Some t)
+file_read_in : (s : State) (inside : Inside) (ms : List TagMark) (ts : List Token) → IsStanding s inside ms → (is_parts inside && length ms == 0) ≡ true → Took s ts → (t : WideTree) × (tree_of s ≡ Some t)
 file_read_in s (Symbol j) ms ts h e k = absurd cc
 file_read_in s Digits ms ts h e k = absurd cc
 file_read_in s Parts (m ∷ ms) ts h e k = absurd (no_mark m ms e)

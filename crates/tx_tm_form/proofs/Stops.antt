@@ -4,10 +4,10 @@ use Rattle.std.proofs.lemmas.Bool.{and_parts, and_from}
 use Rattle.tx_tree.specs.WideTree.{WideTree}
 use Rattle.tx_tm_form.specs.declared.bytes.ByteKind.{ByteKind}
 use Rattle.tx_tm_form.specs.declared.bytes.ByteKind.TheVariants.{Name, Greater, Bar, Backslash, Hash, Slash}
-use Rattle.tx_tm_form.specs.declared.places.Form.{Form}
-use Rattle.tx_tm_form.specs.declared.places.Form.TheVariants.{Short, Long, Middle, Closing}
-use Rattle.tx_tm_form.specs.declared.places.Place.{Place}
-use Rattle.tx_tm_form.specs.declared.places.Place.TheVariants.{InClosing}
+use Rattle.tx_tm_form.specs.declared.places.TagForm.{TagForm}
+use Rattle.tx_tm_form.specs.declared.places.TagForm.TheVariants.{Short, Long, Middle, Closing}
+use Rattle.tx_tm_form.specs.declared.places.TagPlace.{TagPlace}
+use Rattle.tx_tm_form.specs.declared.places.TagPlace.TheVariants.{InClosing}
 use Rattle.tx_tm_form.specs.Bytes.{kind_of}
 use Rattle.tx_tm_form.specs.Tokens.{Token, head, is_dropped}
 use Rattle.tx_tm_form.specs.Parts.{same}
@@ -54,12 +54,12 @@ by_contra : (a b : Bool) → (a ≡ true → b ≡ true) → b ≡ false → a �
 by_contra true b h e = absurd (let k = h refl in cc)
 by_contra false b h e = refl
 
-open_less : (w : Option Place) (l : List ℕ) (fs : List Open) (b : ℕ) → begins_open w (l ++ b ∷ []) fs ≡ true → begins_open w l fs ≡ true
+open_less : (w : Option TagPlace) (l : List ℕ) (fs : List Open) (b : ℕ) → begins_open w (l ++ b ∷ []) fs ≡ true → begins_open w l fs ≡ true
 open_less None l (f ∷ fs) b h = begins_less l f.label b h
 open_less None l [] b h = absurd cc
 open_less (Some p) l fs b h = absurd cc
 
-begin_less : (form : Form) (l : List ℕ) (here : Content) (fs : List Open) (b : ℕ) → can_begin form (l ++ b ∷ []) here fs ≡ true → can_begin form l here fs ≡ true
+begin_less : (form : TagForm) (l : List ℕ) (here : Content) (fs : List Open) (b : ℕ) → can_begin form (l ++ b ∷ []) here fs ≡ true → can_begin form l here fs ≡ true
 begin_less Short l here fs b h = refl
 begin_less Long l here fs b h = refl
 begin_less Middle l here fs b h = open_less (place_of here) l fs b h
@@ -69,17 +69,17 @@ go_false : (c : Bool) (s : State) → c ≡ false → go c s ≡ failed
 go_false true s e = absurd cc
 go_false false s e = refl
 
-next_fails : (w : Option Place) (l : List ℕ) (p : Option Place) (here : Content) (fs : List Open) → begins_open w l fs ≡ false → next_block w l p here fs ≡ failed
+next_fails : (w : Option TagPlace) (l : List ℕ) (p : Option TagPlace) (here : Content) (fs : List Open) → begins_open w l fs ≡ false → next_block w l p here fs ≡ failed
 next_fails (Some w) l p here fs e = refl
 next_fails None l p here [] e = refl
 next_fails None l p here (f ∷ fs) e = go_false (same l f.label) (in_tag p (with_child f (block_of here)) fs) (by_contra (same l f.label) (begins l f.label) (same_begins l f.label) e)
 
-last_fails : (w : Option Place) (l : List ℕ) (here : Content) (fs : List Open) → begins_open w l fs ≡ false → last_block w l here fs ≡ failed
+last_fails : (w : Option TagPlace) (l : List ℕ) (here : Content) (fs : List Open) → begins_open w l fs ≡ false → last_block w l here fs ≡ failed
 last_fails (Some w) l here fs e = refl
 last_fails None l here [] e = refl
 last_fails None l here (f ∷ fs) e = go_false (same l f.label) (reading (put f.before (long_of f.label f.children here)) fs) (by_contra (same l f.label) (begins l f.label) (same_begins l f.label) e)
 
-head_fails : (form : Form) (l : List ℕ) (more : Bool) (here : Content) (fs : List Open) → can_begin form l here fs ≡ false → feed (reading here fs) (head form l more) ≡ failed
+head_fails : (form : TagForm) (l : List ℕ) (more : Bool) (here : Content) (fs : List Open) → can_begin form l here fs ≡ false → feed (reading here fs) (head form l more) ≡ failed
 unfolding feed
 head_fails Short l more here fs e = absurd cc
 head_fails Long l more here fs e = absurd cc
@@ -110,20 +110,20 @@ if_good_stops : (d : Bool) (k : Keeping) (r : Lexed) → goes_on (given keep k r
 if_good_stops true k r h = h
 if_good_stops false k r h = refl
 
-head_stops : (form : Form) (l : List ℕ) (more j : Bool) (s : State) → can_go_on (labelled form l) s ≡ false → goes_on (given keep (keeping j s) (done (head form l more))) ≡ false
+head_stops : (form : TagForm) (l : List ℕ) (more j : Bool) (s : State) → can_go_on (labelled form l) s ≡ false → goes_on (given keep (keeping j s) (done (head form l more))) ≡ false
 unfolding feed
 head_stops form l more j (reading here fs) h = ap (λ s. can_go_on ready s) (head_fails form l more here fs h)
 head_stops form l more j (naming n here fs) h = refl
 head_stops form l more j (counting n here fs) h = refl
 head_stops form l more j failed h = refl
 
-letter_stops : (form : Form) (l : List ℕ) (b : ℕ) (s : State) → can_go_on (labelled form l) s ≡ false → can_go_on (labelled form (l ++ b ∷ [])) s ≡ false
+letter_stops : (form : TagForm) (l : List ℕ) (b : ℕ) (s : State) → can_go_on (labelled form l) s ≡ false → can_go_on (labelled form (l ++ b ∷ [])) s ≡ false
 letter_stops form l b (reading here fs) h = by_contra (can_begin form (l ++ b ∷ []) here fs) (can_begin form l here fs) (begin_less form l here fs b) h
 letter_stops form l b (naming n here fs) h = refl
 letter_stops form l b (counting n here fs) h = refl
 letter_stops form l b failed h = refl
 
-labelled_stops : (k : ByteKind) (form : Form) (l : List ℕ) (b : ℕ) (j : Bool) (s : State) → can_go_on (labelled form l) s ≡ false → goes_on (given keep (keeping j s) (lex_labelled form l k b)) ≡ false
+labelled_stops : (k : ByteKind) (form : TagForm) (l : List ℕ) (b : ℕ) (j : Bool) (s : State) → can_go_on (labelled form l) s ≡ false → goes_on (given keep (keeping j s) (lex_labelled form l k b)) ≡ false
 unfolding lex_labelled
 labelled_stops Name form l b j s h = if_good_stops _ (keeping j s) (within (labelled form (l ++ b ∷ []))) (letter_stops form l b s h)
 labelled_stops Bar form l b j s h = if_good_stops _ (keeping j s) (done (head form l true)) (head_stops form l true j s h)

@@ -9,8 +9,8 @@ use Rattle.tx_tree.specs.Labels.{is_label_byte}
 use Rattle.tx_tree.specs.WideTree.{WideTree}
 use Rattle.tx_tm_form.specs.declared.bytes.ByteKind.{ByteKind}
 use Rattle.tx_tm_form.specs.declared.bytes.ByteKind.TheVariants.{Name, Blank, Newline, Return, Less, Greater, Bar, Backslash, Hash, Slash, Other}
-use Rattle.tx_tm_form.specs.declared.places.Form.{Form}
-use Rattle.tx_tm_form.specs.declared.places.Form.TheVariants.{Short, Long, Middle, Closing}
+use Rattle.tx_tm_form.specs.declared.places.TagForm.{TagForm}
+use Rattle.tx_tm_form.specs.declared.places.TagForm.TheVariants.{Short, Long, Middle, Closing}
 use Rattle.tx_tm_form.specs.Bytes.{kind_of, is_white, is_plain, can_escape}
 use Rattle.tx_tm_form.specs.Tokens.{Token, escape, head, mark_of, end_of, written, IsToken, is_dropped, kept}
 use Rattle.tx_tm_form.specs.Parts.{block}
@@ -63,7 +63,7 @@ if_comes : (c : Bool) (x : List ℕ) (r : Lexed) → (c ≡ true → Comes x r) 
 if_comes true x r h = h refl
 if_comes false x r h = tt
 
-head_comes : (form : Form) (l : List ℕ) (more : Bool) (b : ℕ) → IsBegun (labelled form l) → b ≡ end_of more → 1 ≤ length l → Comes (begun_bytes (labelled form l) ++ b ∷ []) (done (head form l more))
+head_comes : (form : TagForm) (l : List ℕ) (more : Bool) (b : ℕ) → IsBegun (labelled form l) → b ≡ end_of more → 1 ≤ length l → Comes (begun_bytes (labelled form l) ++ b ∷ []) (done (head form l more))
 head_comes form l more b h e n = (record { each = h.0.0; some = n; short = h.0.1 }, ap (λ z. 60 ∷ z) (append_assoc (mark_of form) l (b ∷ [])) ∙ ap (λ z. 60 ∷ (mark_of form ++ (l ++ z ∷ []))) e)
 
 ready_comes : (k : ByteKind) (b : ℕ) → kind_of b ≡ k → Comes (b ∷ []) (lex_ready k b)
@@ -100,13 +100,13 @@ angled_comes Hash b e = (tt, ap (λ z. 60 ∷ z ∷ []) (hash_only b e))
 angled_comes Name b e = ((((name_only b e, tt), omega arith), omega arith), refl)
 angled_comes _ b e = tt
 
-has_byte : (form : Form) (l : List ℕ) (b : ℕ) → HasByte form (l ++ b ∷ [])
+has_byte : (form : TagForm) (l : List ℕ) (b : ℕ) → HasByte form (l ++ b ∷ [])
 has_byte Short l b = omega (arith, length-append l (b ∷ []))
 has_byte Long l b = tt
 has_byte Middle l b = tt
 has_byte Closing l b = tt
 
-labelled_comes : (k : ByteKind) (form : Form) (l : List ℕ) (b : ℕ) → kind_of b ≡ k → IsBegun (labelled form l) → Comes (begun_bytes (labelled form l) ++ b ∷ []) (lex_labelled form l k b)
+labelled_comes : (k : ByteKind) (form : TagForm) (l : List ℕ) (b : ℕ) → kind_of b ≡ k → IsBegun (labelled form l) → Comes (begun_bytes (labelled form l) ++ b ∷ []) (lex_labelled form l k b)
 unfolding lex_labelled
 labelled_comes Name form l b e h =
     if_comes (nat_lt (length l) MOST_LABEL) (begun_bytes (labelled form l) ++ b ∷ []) (within (labelled form (l ++ b ∷ [])))

@@ -8,10 +8,10 @@ use Rattle.tx_tree.proofs.Children.{count-forest, total_size-append, deepest-app
 use Rattle.tx_tm_form.specs.declared.bytes.White.{White}
 use Rattle.tx_tm_form.specs.declared.bytes.White.TheVariants.{Spaces, Line, Break}
 use Rattle.tx_tm_form.specs.declared.bytes.Escaped.{Escaped}
-use Rattle.tx_tm_form.specs.declared.places.Form.{Form}
-use Rattle.tx_tm_form.specs.declared.places.Form.TheVariants.{Short, Long, Middle, Closing}
-use Rattle.tx_tm_form.specs.declared.places.Place.{Place}
-use Rattle.tx_tm_form.specs.declared.places.Place.TheVariants.{InShort, InHeader, InClosing}
+use Rattle.tx_tm_form.specs.declared.places.TagForm.{TagForm}
+use Rattle.tx_tm_form.specs.declared.places.TagForm.TheVariants.{Short, Long, Middle, Closing}
+use Rattle.tx_tm_form.specs.declared.places.TagPlace.{TagPlace}
+use Rattle.tx_tm_form.specs.declared.places.TagPlace.TheVariants.{InShort, InHeader, InClosing}
 use Rattle.tx_tm_form.specs.declared.places.Stage.{Stage}
 use Rattle.tx_tm_form.specs.declared.places.Stage.TheVariants.{Empty, Alone, Ordinary}
 use Rattle.tx_tm_form.specs.declared.measures.Sums.{Sums}
@@ -201,7 +201,7 @@ chosen : (c : Bool) → of_content (if c then collecting no_tags else blocks no_
 chosen true = refl
 chosen false = refl
 
-opening_is : (w : Option Place) (l : List ℕ) (ks : List WideTree) → of_content (opening w l ks) ≡ opening_sums w (same l collection_label) (sums_of ks)
+opening_is : (w : Option TagPlace) (l : List ℕ) (ks : List WideTree) → of_content (opening w l ks) ≡ opening_sums w (same l collection_label) (sums_of ks)
 opening_is (Some p) l ks = refl
 opening_is None l ks = chosen (same l collection_label && none ks) ∙ ap (λ z. if same l collection_label && z then of.Tags no_sums no_block else of.Block no_block) (none_counted ks)
 
@@ -227,7 +227,7 @@ go_weighed false s g h = tt
 put_weighed : (here : Content) (fs : List Open) (p : Part) (q : PartSums) → of_part p ≡ q → between (put_sums (of_content here) q) (map of_open fs) ≡ gauge_at Parts (put here p) fs
 put_weighed here fs p q e = ap (λ c. between c (map of_open fs)) (ap (put_sums (of_content here)) (sym e) ∙ sym (put_is here p))
 
-tag_weighed : (p : Option Place) (f : Open) (o : OpenSums) (fs : List Open) → of_open f ≡ o → in_open p o (map of_open fs) ≡ gauge_at Parts (opening p f.label f.children) (f ∷ fs)
+tag_weighed : (p : Option TagPlace) (f : Open) (o : OpenSums) (fs : List Open) → of_open f ≡ o → in_open p o (map of_open fs) ≡ gauge_at Parts (opening p f.label f.children) (f ∷ fs)
 tag_weighed p f o fs e = ap (λ x. in_open p x (map of_open fs)) (sym e) ∙ ap (λ c. between c (of_open f ∷ map of_open fs)) (sym (opening_is p f.label f.children))
 
 child_weighed : (f : Open) (t : WideTree) (s : Sums) → sums_of (t ∷ []) ≡ s → of_open (with_child f t) ≡ child_in (of_open f) s
@@ -254,21 +254,21 @@ close_weighed (inline InClosing g) (f ∷ fs) = closed_weighed f (grown g) (line
 close_weighed (blocks b) fs = tt
 close_weighed (collecting x) fs = tt
 
-next_weighed : (w : Option Place) (l : List ℕ) (p : Option Place) (here : Content) (fs : List Open) → IsWeighed (next_block w l p here fs) (next_gauge p (of_content here) (map of_open fs))
+next_weighed : (w : Option TagPlace) (l : List ℕ) (p : Option TagPlace) (here : Content) (fs : List Open) → IsWeighed (next_block w l p here fs) (next_gauge p (of_content here) (map of_open fs))
 next_weighed (Some w) l p here fs = tt
 next_weighed None l p here [] = tt
 next_weighed None l p here (f ∷ fs) =
     go_weighed (same l f.label) (in_tag p (with_child f (block_of here)) fs) _
     (tag_weighed p (with_child f (block_of here)) (child_in (of_open f) (body_sums (of_content here))) fs (child_weighed f (block_of here) (body_sums (of_content here)) (body_is here)))
 
-last_weighed : (w : Option Place) (l : List ℕ) (here : Content) (fs : List Open) → IsWeighed (last_block w l here fs) (last_gauge (of_content here) (map of_open fs))
+last_weighed : (w : Option TagPlace) (l : List ℕ) (here : Content) (fs : List Open) → IsWeighed (last_block w l here fs) (last_gauge (of_content here) (map of_open fs))
 last_weighed (Some w) l here fs = tt
 last_weighed None l here [] = tt
 last_weighed None l here (f ∷ fs) =
     go_weighed (same l f.label) (reading (put f.before (long_of f.label f.children here)) fs) _
     (put_weighed f.before fs (long_of f.label f.children here) (long_sums (sums_of f.children) (of_content here)) (long_is_of f.label f.children here))
 
-begun_weighed : (form : Form) (more : Bool) (l : List ℕ) (here : Content) (fs : List Open) → IsWeighed (begun form more l here fs) (begun_gauge form more l (of_content here) (map of_open fs))
+begun_weighed : (form : TagForm) (more : Bool) (l : List ℕ) (here : Content) (fs : List Open) → IsWeighed (begun form more l here fs) (begun_gauge form more l (of_content here) (map of_open fs))
 begun_weighed Short true l here fs = tag_weighed (Some InShort) (open_tag here l []) (of_open (open_tag here l [])) fs refl
 begun_weighed Short false l here fs = put_weighed here fs (tag false (node l (forest []))) (Tag false (node_sums no_sums)) (ap (Tag false) (sums_node l []))
 begun_weighed Long more l here fs = tag_weighed (header_place more) (open_tag here l []) (of_open (open_tag here l [])) fs refl

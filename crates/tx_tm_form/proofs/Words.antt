@@ -8,8 +8,8 @@ use Rattle.tx_tree.specs.Labels.{is_label_byte, IsLabel}
 use Rattle.tx_tree.specs.WideTree.{WideTree}
 use Rattle.tx_tm_form.specs.declared.bytes.ByteKind.{ByteKind}
 use Rattle.tx_tm_form.specs.declared.bytes.ByteKind.TheVariants.{Name, Blank, Newline, Return, Less, Greater, Bar, Backslash, Hash, Slash, Other}
-use Rattle.tx_tm_form.specs.declared.places.Form.{Form}
-use Rattle.tx_tm_form.specs.declared.places.Form.TheVariants.{Short, Long, Middle, Closing}
+use Rattle.tx_tm_form.specs.declared.places.TagForm.{TagForm}
+use Rattle.tx_tm_form.specs.declared.places.TagForm.TheVariants.{Short, Long, Middle, Closing}
 use Rattle.tx_tm_form.specs.Bytes.{kind_of, is_white, is_plain, escape_of, can_escape}
 use Rattle.tx_tm_form.specs.Tokens.{Token, white, join, plain, escape, raw, head, bar, close, mark_of, end_of, written, IsToken, IsTokenList, is_dropped, kept}
 use Rattle.tx_tm_form.specs.Forms.{tokens_of, parts_of, Spells}
@@ -105,7 +105,7 @@ pub lexed_first : (k : ByteKind) (b : ℕ) → k ≡ Name → lex angled k b ≡
 unfolding lex_angled
 lexed_first k b h = ap (λ k. lex angled k b) h
 
-pub lexed_letter : (form : Form) (m : List ℕ) (k : ByteKind) (b : ℕ) → k ≡ Name → length m < MOST_LABEL → lex (labelled form m) k b ≡ within (labelled form (m ++ b ∷ []))
+pub lexed_letter : (form : TagForm) (m : List ℕ) (k : ByteKind) (b : ℕ) → k ≡ Name → length m < MOST_LABEL → lex (labelled form m) k b ≡ within (labelled form (m ++ b ∷ []))
 unfolding lex_labelled
 lexed_letter form m k b h n = ap (λ k. lex (labelled form m) k b) h ∙ ap (λ c. if_good c (within (labelled form (m ++ b ∷ [])))) (lt-ltb _ _ n)
 
@@ -122,12 +122,12 @@ module _ (S : Type 0) (fd : S → Token → S) where
   unfolding lex_ready
   less_step s y = byte_of Less 60 ready s y less_kind
 
-  end_step : (more : Bool) (form : Form) (m : List ℕ) (s : S) (y : List ℕ) → 1 ≤ length m → run fd (at (labelled form m) s) (end_of more ∷ y) ≡ run fd (at ready (fd s (head form m more))) y
+  end_step : (more : Bool) (form : TagForm) (m : List ℕ) (s : S) (y : List ℕ) → 1 ≤ length m → run fd (at (labelled form m) s) (end_of more ∷ y) ≡ run fd (at ready (fd s (head form m more))) y
   unfolding lex_labelled
   end_step true form m s y n = byte_of Bar 124 (labelled form m) s y bar_kind ∙ ap (λ c. run fd (given fd s (if_good c (done (head form m true)))) y) (le-leb _ _ n)
   end_step false form m s y n = byte_of Greater 62 (labelled form m) s y greater_kind ∙ ap (λ c. run fd (given fd s (if_good c (done (head form m false)))) y) (le-leb _ _ n)
 
-  pub label_run : (l m : List ℕ) (more : Bool) (form : Form) (s : S) (y : List ℕ) → AllByRecursion (λ b. is_label_byte b ≡ true) l → length m + length l ≤ MOST_LABEL → 1 ≤ length m + length l
+  pub label_run : (l m : List ℕ) (more : Bool) (form : TagForm) (s : S) (y : List ℕ) → AllByRecursion (λ b. is_label_byte b ≡ true) l → length m + length l ≤ MOST_LABEL → 1 ≤ length m + length l
       → run fd (at (labelled form m) s) (l ++ end_of more ∷ y) ≡ run fd (at ready (fd s (head form (m ++ l) more))) y
   label_run [] m more form s y h n k = end_step more form m s y (omega (arith, k)) ∙ ap (λ a. run fd (at ready (fd s (head form a more))) y) (sym (append-nil m))
   label_run (b ∷ l) m more form s y h n k =
@@ -135,7 +135,7 @@ module _ (S : Type 0) (fd : S → Token → S) where
       ∙ label_run l (m ++ b ∷ []) more form s y h.1 (omega (arith, length-append m (b ∷ []))) (omega (arith, length-append m (b ∷ [])))
       ∙ ap (λ a. run fd (at ready (fd s (head form a more))) y) (append_assoc m (b ∷ []) l)
 
-  mark_run : (form : Form) (l : List ℕ) (more : Bool) (s : S) (y : List ℕ) → IsLabel l → run fd (at angled s) (mark_of form ++ (l ++ end_of more ∷ y)) ≡ run fd (at ready (fd s (head form l more))) y
+  mark_run : (form : TagForm) (l : List ℕ) (more : Bool) (s : S) (y : List ℕ) → IsLabel l → run fd (at angled s) (mark_of form ++ (l ++ end_of more ∷ y)) ≡ run fd (at ready (fd s (head form l more))) y
   unfolding lex_angled
   mark_run Short [] more s y h = absurd (omega (arith, h.some))
   mark_run Short (b ∷ l) more s y h =

@@ -7,8 +7,8 @@ use Rattle.tx_tree.specs.declared.faults.ReadFault.{ReadFault}
 use Rattle.tx_tree.specs.declared.faults.ReadFault.TheVariants.{Stray, BadEscape, BadLabel, BadText, Mismatch}
 use Rattle.tx_tree.specs.Labels.{BeginsLabel}
 use Rattle.tx_tree.specs.ReadFaults.{IsFault, Row}
-use Rattle.tx_tm_form.specs.declared.places.Form.{Form}
-use Rattle.tx_tm_form.specs.declared.places.Form.TheVariants.{Short, Long, Middle, Closing}
+use Rattle.tx_tm_form.specs.declared.places.TagForm.{TagForm}
+use Rattle.tx_tm_form.specs.declared.places.TagForm.TheVariants.{Short, Long, Middle, Closing}
 use Rattle.tx_tm_form.specs.Tokens.{Token, escape, head, mark_of, written, IsToken, kept}
 use Rattle.tx_tm_form.specs.Forms.{Pieces, Arguments, Blocks, name_token}
 use Rattle.tx_tm_form.specs.Forms.{tokens_of, beginning, tokens_of_blocks, Spells}
@@ -25,7 +25,7 @@ begun_bytes angled = 60 ∷ []
 begun_bytes (labelled form label) = 60 ∷ (mark_of form ++ label)
 
 -- a short tag begins with a byte of its label
-abbrev pub HasByte : Form → List ℕ → Type 0
+abbrev pub HasByte : TagForm → List ℕ → Type 0
 HasByte Short label = 1 ≤ length label
 HasByte _ label = Unit {0}
 

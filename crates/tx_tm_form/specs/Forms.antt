@@ -6,8 +6,8 @@ use Rattle.tx_tree.specs.Texts.{IsName}
 use Rattle.tx_tree.specs.Labels.{IsLabel}
 use Rattle.tx_tree.specs.WideTree.{WideTree, leaf, node, forest}
 use Rattle.tx_tm_form.specs.declared.bytes.Escaped.{Escaped}
-use Rattle.tx_tm_form.specs.declared.places.Form.{Form}
-use Rattle.tx_tm_form.specs.declared.places.Form.TheVariants.{Short, Long, Middle, Closing}
+use Rattle.tx_tm_form.specs.declared.places.TagForm.{TagForm}
+use Rattle.tx_tm_form.specs.declared.places.TagForm.TheVariants.{Short, Long, Middle, Closing}
 use Rattle.tx_tm_form.specs.Bytes.{kind_of, is_plain, escape_of, escaped_bytes, is_digit, white_of}
 use Rattle.tx_tm_form.specs.Tokens.{Token, white, plain, escape, raw, head, bar, close, IsTokenList, kept}
 use Rattle.tx_tm_form.specs.Parts.{Part, gap, text, tag, content, block, long_tag, raw_data_label}
@@ -65,7 +65,7 @@ abbrev mutual
   tokens_of (piece p ps) = tokens_of_piece p ++ tokens_of ps
 
   -- a tag's beginning, or its end: < to >
-  pub beginning : Form → List ℕ → Arguments → List Token
+  pub beginning : TagForm → List ℕ → Arguments → List Token
   beginning form l no_argument = head form l false ∷ []
   beginning form l (argument x xs) = head form l true ∷ (tokens_of x ++ more_arguments xs)
 

@@ -3,9 +3,9 @@ use Rattle.std.specs.Prelude.{◌≡◌, ◌⊎◌, ◌≤◌, ℕ, suc, Bool, t
 use Rattle.std.specs.Prelude.{◌&&◌, List, [], ◌∷◌, length, take, Option, None}
 use Rattle.tx_base.specs.Fronts.{IsLongestFront}
 use Rattle.tx_tree.specs.WideTree.{WideTree}
-use Rattle.tx_tm_form.specs.declared.places.Form.{Form}
-use Rattle.tx_tm_form.specs.declared.places.Form.TheVariants.{Short, Long, Middle, Closing}
-use Rattle.tx_tm_form.specs.declared.places.Place.{Place}
+use Rattle.tx_tm_form.specs.declared.places.TagForm.{TagForm}
+use Rattle.tx_tm_form.specs.declared.places.TagForm.TheVariants.{Short, Long, Middle, Closing}
+use Rattle.tx_tm_form.specs.declared.places.TagPlace.{TagPlace}
 use Rattle.tx_tm_form.specs.Forms.{Spells}
 use Rattle.tx_tm_form.specs.Growing.{Content, place_of}
 use Rattle.tx_tm_form.specs.Machine.{Open, State, reading, failed, Lex, ready, slashed, returned}
@@ -18,12 +18,12 @@ begins (b ∷ l) [] = false
 begins (b ∷ l) (c ∷ m) = b == c && begins l m
 
 -- in a block of an open long tag, l is its label so far
-abbrev pub begins_open : Option Place → List ℕ → List Open → Bool
+abbrev pub begins_open : Option TagPlace → List ℕ → List Open → Bool
 begins_open None l (f ∷ fs) = begins l f.label
 begins_open _ l fs = false
 
 -- a tag may begin so here
-abbrev pub can_begin : Form → List ℕ → Content → List Open → Bool
+abbrev pub can_begin : TagForm → List ℕ → Content → List Open → Bool
 can_begin Short l here fs = true
 can_begin Long l here fs = true
 can_begin Middle l here fs = begins_open (place_of here) l fs

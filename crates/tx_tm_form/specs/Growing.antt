@@ -3,7 +3,7 @@ use Rattle.std.specs.Prelude.{ℕ, Bool, true, false, ◌&&◌, if◌then◌else
 use Rattle.tx_tree.specs.WideTree.{WideTree, leaf, node, forest}
 use Rattle.tx_tm_form.specs.declared.bytes.White.{White}
 use Rattle.tx_tm_form.specs.declared.bytes.White.TheVariants.{Break}
-use Rattle.tx_tm_form.specs.declared.places.Place.{Place}
+use Rattle.tx_tm_form.specs.declared.places.TagPlace.{TagPlace}
 use Rattle.tx_tm_form.specs.declared.places.Stage.{Stage}
 use Rattle.tx_tm_form.specs.declared.places.Stage.TheVariants.{Empty, Alone, Ordinary}
 use Rattle.tx_tm_form.specs.Bytes.{plus}
@@ -116,7 +116,7 @@ as_block x = behind_run (with_entries no_paragraphs x.entries) x.run
 -- ---- either
 
 pub data Content : Type 0 where
-  inline : (place : Place) (line : Inline) → Content
+  inline : (place : TagPlace) (line : Inline) → Content
   blocks : (block : Block) → Content
   collecting : (tags : Tags) → Content
 
@@ -129,7 +129,7 @@ put (collecting x) (tag c t) =
 put (collecting x) (text s) = blocks (widen (as_block x) (text s))
 
 -- the argument's place, or none for a block
-abbrev pub place_of : Content → Option Place
+abbrev pub place_of : Content → Option TagPlace
 place_of (inline place g) = Some place
 place_of (blocks b) = None
 place_of (collecting x) = None
@@ -161,6 +161,6 @@ abbrev pub block_behind : List ℕ → List WideTree → Content
 block_behind label before =
     if same label collection_label && none before then collecting no_tags else blocks no_paragraphs
 
-abbrev pub opening : Option Place → List ℕ → List WideTree → Content
+abbrev pub opening : Option TagPlace → List ℕ → List WideTree → Content
 opening (Some place) label before = inline place no_parts
 opening None label before = block_behind label before

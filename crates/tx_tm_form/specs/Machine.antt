@@ -8,10 +8,10 @@ use Rattle.tx_tm_form.specs.declared.bytes.ByteKind.{ByteKind}
 use Rattle.tx_tm_form.specs.declared.bytes.ByteKind.TheVariants.{Name, Blank, Newline, Return, Less}
 use Rattle.tx_tm_form.specs.declared.bytes.ByteKind.TheVariants.{Greater, Bar, Backslash, Hash, Slash}
 use Rattle.tx_tm_form.specs.declared.bytes.Escaped.{Escaped}
-use Rattle.tx_tm_form.specs.declared.places.Form.{Form}
-use Rattle.tx_tm_form.specs.declared.places.Form.TheVariants.{Short, Long, Middle, Closing}
-use Rattle.tx_tm_form.specs.declared.places.Place.{Place}
-use Rattle.tx_tm_form.specs.declared.places.Place.TheVariants.{InShort, InHeader, InClosing}
+use Rattle.tx_tm_form.specs.declared.places.TagForm.{TagForm}
+use Rattle.tx_tm_form.specs.declared.places.TagForm.TheVariants.{Short, Long, Middle, Closing}
+use Rattle.tx_tm_form.specs.declared.places.TagPlace.{TagPlace}
+use Rattle.tx_tm_form.specs.declared.places.TagPlace.TheVariants.{InShort, InHeader, InClosing}
 use Rattle.tx_tm_form.specs.Bytes.{kind_of, escape_of, escaped_bytes, can_escape, is_digit, white_of}
 use Rattle.tx_tm_form.specs.Tokens.{Token, white, join, plain, escape, raw, head, bar, close, is_dropped}
 use Rattle.tx_tm_form.specs.Parts.{gap, text, tag, raw_data_label, same}
@@ -45,14 +45,14 @@ abbrev pub with_child : Open → WideTree → Open
 with_child f t = open_tag f.before f.label (f.children ++ t ∷ [])
 
 -- the next argument or block of an open tag
-abbrev pub in_tag : Option Place → Open → List Open → State
+abbrev pub in_tag : Option TagPlace → Open → List Open → State
 in_tag p f fs = reading (opening p f.label f.children) (f ∷ fs)
 
 abbrev pub with_node : List ℕ → List WideTree → Content → List Open → State
 with_node label children before fs = reading (put before (tag false (node label (forest children)))) fs
 
 -- behind | in an argument
-abbrev pub next_argument : Option Place → Content → List Open → State
+abbrev pub next_argument : Option TagPlace → Content → List Open → State
 next_argument (Some p) here (f ∷ fs) = in_tag (Some p) (with_child f (content_of here)) fs
 next_argument _ here fs = failed
 
@@ -60,27 +60,27 @@ abbrev pub closed : Open → List Open → State
 closed f fs = with_node f.label f.children f.before fs
 
 -- behind > in an argument
-abbrev pub last_argument : Option Place → Content → List Open → State
+abbrev pub last_argument : Option TagPlace → Content → List Open → State
 last_argument (Some InHeader) here (f ∷ fs) = in_tag None (with_child f (content_of here)) fs
 last_argument (Some p) here (f ∷ fs) = closed (with_child f (content_of here)) fs
 last_argument _ here fs = failed
 
 -- behind a block, where a middle or closing tag goes on
-abbrev pub next_block : Option Place → List ℕ → Option Place → Content → List Open → State
+abbrev pub next_block : Option TagPlace → List ℕ → Option TagPlace → Content → List Open → State
 next_block None label p here (f ∷ fs) = go (same label f.label) (in_tag p (with_child f (block_of here)) fs)
 next_block _ label p here fs = failed
 
 -- behind a block, where a closing tag without arguments stands
-abbrev pub last_block : Option Place → List ℕ → Content → List Open → State
+abbrev pub last_block : Option TagPlace → List ℕ → Content → List Open → State
 last_block None label here (f ∷ fs) =
     go (same label f.label) (reading (put f.before (long_of f.label f.children here)) fs)
 last_block _ label here fs = failed
 
-abbrev pub header_place : Bool → Option Place
+abbrev pub header_place : Bool → Option TagPlace
 header_place true = Some InHeader
 header_place false = None
 
-abbrev pub begun : Form → Bool → List ℕ → Content → List Open → State
+abbrev pub begun : TagForm → Bool → List ℕ → Content → List Open → State
 begun Short true label here fs = in_tag (Some InShort) (open_tag here label []) fs
 begun Short false label here fs = with_node label [] here fs
 begun Long more label here fs = in_tag (header_place more) (open_tag here label []) fs
@@ -137,7 +137,7 @@ pub data Lex : Type 0 where
   slashed : Lex
   returned : Lex
   angled : Lex
-  labelled : (form : Form) (label : List ℕ) → Lex
+  labelled : (form : TagForm) (label : List ℕ) → Lex
 
 -- after a byte: within a token, or at its end
 pub data Lexed : Type 0 where
@@ -176,7 +176,7 @@ lex_angled Hash b = done raw
 lex_angled Name b = within (labelled Short (b ∷ []))
 lex_angled _ b = bad
 
-unfoldable pub lex_labelled : Form → List ℕ → ByteKind → ℕ → Lexed
+unfoldable pub lex_labelled : TagForm → List ℕ → ByteKind → ℕ → Lexed
 lex_labelled form label Name b = if_good (nat_lt (length label) MOST_LABEL) (within (labelled form (label ++ b ∷ [])))
 lex_labelled form label Bar b = if_good (nat_le 1 (length label)) (done (head form label true))
 lex_labelled form label Greater b = if_good (nat_le 1 (length label)) (done (head form label false))

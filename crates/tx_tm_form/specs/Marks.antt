@@ -6,11 +6,11 @@ use Rattle.tx_tree.specs.declared.faults.ReadFault.{ReadFault}
 use Rattle.tx_tree.specs.declared.faults.ReadFault.TheVariants.{Unclosed, Stray, BadEscape, BadLabel, BadText, Mismatch}
 use Rattle.tx_tree.specs.Texts.{is_name_byte}
 use Rattle.tx_tm_form.specs.declared.bytes.Escaped.{Escaped}
-use Rattle.tx_tm_form.specs.declared.places.Form.{Form}
-use Rattle.tx_tm_form.specs.declared.places.Form.TheVariants.{Short, Long, Middle, Closing}
-use Rattle.tx_tm_form.specs.declared.places.Place.{Place}
-use Rattle.tx_tm_form.specs.declared.places.Place.TheVariants.{InShort, InHeader, InClosing}
-use Rattle.tx_tm_form.specs.declared.marks.Mark.{Mark}
+use Rattle.tx_tm_form.specs.declared.places.TagForm.{TagForm}
+use Rattle.tx_tm_form.specs.declared.places.TagForm.TheVariants.{Short, Long, Middle, Closing}
+use Rattle.tx_tm_form.specs.declared.places.TagPlace.{TagPlace}
+use Rattle.tx_tm_form.specs.declared.places.TagPlace.TheVariants.{InShort, InHeader, InClosing}
+use Rattle.tx_tm_form.specs.declared.marks.TagMark.{TagMark}
 use Rattle.tx_tm_form.specs.declared.marks.Inside.{Inside}
 use Rattle.tx_tm_form.specs.declared.marks.Inside.TheVariants.{Parts, Symbol, Digits}
 use Rattle.tx_tm_form.specs.Bytes.{escape_of, is_digit}
@@ -23,60 +23,60 @@ use Rattle.tx_tm_form.specs.Fronts.{begins}
 -- where a byte stands, and the open tags round it, the innermost first
 pub record Standing : Type 0 where
   pub inside : Inside
-  pub marks : List Mark
+  pub marks : List TagMark
 
-abbrev pub standing : Inside → List Mark → Option Standing
+abbrev pub standing : Inside → List TagMark → Option Standing
 standing inside ms = Some (record { inside = inside; marks = ms })
 
-abbrev pub with_inner : Option Place → Mark → Mark
+abbrev pub with_inner : Option TagPlace → TagMark → TagMark
 with_inner p m = record { at = m.at; label = m.label; inner = p }
 
-abbrev pub new_mark : ℕ → List ℕ → Option Place → Mark
+abbrev pub new_mark : ℕ → List ℕ → Option TagPlace → TagMark
 new_mark n label p = record { at = n; label = label; inner = p }
 
-abbrev pub if_marked : Bool → Inside → List Mark → Option Standing
+abbrev pub if_marked : Bool → Inside → List TagMark → Option Standing
 if_marked true inside ms = standing inside ms
 if_marked false inside ms = None
 
 -- behind | in an argument
-abbrev pub mark_bar : Option Place → List Mark → Option Standing
+abbrev pub mark_bar : Option TagPlace → List TagMark → Option Standing
 mark_bar (Some p) ms = standing Parts ms
 mark_bar None ms = None
 
 -- behind > in an argument of the first tag
-abbrev pub mark_close : Option Place → Mark → List Mark → Option Standing
+abbrev pub mark_close : Option TagPlace → TagMark → List TagMark → Option Standing
 mark_close (Some InHeader) m ms = standing Parts (with_inner None m ∷ ms)
 mark_close (Some p) m ms = standing Parts ms
 mark_close None m ms = None
 
 -- behind a block of the first tag, where a middle or closing tag goes on
-abbrev pub mark_next : Option Place → List ℕ → Option Place → Mark → List Mark → Option Standing
+abbrev pub mark_next : Option TagPlace → List ℕ → Option TagPlace → TagMark → List TagMark → Option Standing
 mark_next None label p m ms = if_marked (same label m.label) Parts (with_inner p m ∷ ms)
 mark_next (Some w) label p m ms = None
 
 -- behind a block of the first tag, where a closing tag without arguments stands
-abbrev pub mark_last : Option Place → List ℕ → Mark → List Mark → Option Standing
+abbrev pub mark_last : Option TagPlace → List ℕ → TagMark → List TagMark → Option Standing
 mark_last None label m ms = if_marked (same label m.label) Parts ms
 mark_last (Some w) label m ms = None
 
-abbrev pub bar_marks : List Mark → Option Standing
+abbrev pub bar_marks : List TagMark → Option Standing
 bar_marks [] = None
 bar_marks (m ∷ ms) = mark_bar m.inner (m ∷ ms)
 
-abbrev pub close_marks : List Mark → Option Standing
+abbrev pub close_marks : List TagMark → Option Standing
 close_marks [] = None
 close_marks (m ∷ ms) = mark_close m.inner m ms
 
-abbrev pub next_marks : List ℕ → Option Place → List Mark → Option Standing
+abbrev pub next_marks : List ℕ → Option TagPlace → List TagMark → Option Standing
 next_marks label p [] = None
 next_marks label p (m ∷ ms) = mark_next m.inner label p m ms
 
-abbrev pub last_marks : List ℕ → List Mark → Option Standing
+abbrev pub last_marks : List ℕ → List TagMark → Option Standing
 last_marks label [] = None
 last_marks label (m ∷ ms) = mark_last m.inner label m ms
 
 -- behind the beginning of a tag, whose < is at place n
-abbrev pub begun_marks : ℕ → Form → Bool → List ℕ → List Mark → Option Standing
+abbrev pub begun_marks : ℕ → TagForm → Bool → List ℕ → List TagMark → Option Standing
 begun_marks n Short true label ms = standing Parts (new_mark n label (Some InShort) ∷ ms)
 begun_marks n Short false label ms = standing Parts ms
 begun_marks n Long more label ms = standing Parts (new_mark n label (header_place more) ∷ ms)
@@ -84,11 +84,11 @@ begun_marks n Middle more label ms = next_marks label (header_place more) ms
 begun_marks n Closing true label ms = next_marks label (Some InClosing) ms
 begun_marks n Closing false label ms = last_marks label ms
 
-abbrev pub escape_marks : Option Escaped → ℕ → List Mark → Option Standing
+abbrev pub escape_marks : Option Escaped → ℕ → List TagMark → Option Standing
 escape_marks (Some e) b ms = standing Parts ms
 escape_marks None b ms = if_marked (b == 60) (Symbol 0) ms
 
-abbrev pub part_marks : ℕ → List Mark → Token → Option Standing
+abbrev pub part_marks : ℕ → List TagMark → Token → Option Standing
 part_marks n ms (white b) = standing Parts ms
 part_marks n ms (join r) = None
 part_marks n ms (plain b) = standing Parts ms
@@ -98,22 +98,22 @@ part_marks n ms (head form label more) = begun_marks n form more label ms
 part_marks n ms bar = bar_marks ms
 part_marks n ms close = close_marks ms
 
-abbrev pub name_marks : Bool → ℕ → List Mark → Option Standing
+abbrev pub name_marks : Bool → ℕ → List TagMark → Option Standing
 name_marks good length ms = if_marked (good && nat_lt length MOST_NAME) (Symbol (suc length)) ms
 
-abbrev pub symbol_marks : ℕ → List Mark → Token → Option Standing
+abbrev pub symbol_marks : ℕ → List TagMark → Token → Option Standing
 symbol_marks length ms (plain b) = name_marks (is_name_byte b) length ms
 symbol_marks length ms (escape b) =
     if b == 62 then if_marked (nat_le 1 length) Parts ms else name_marks (b == 124 || b == 92) length ms
 symbol_marks length ms _ = None
 
-abbrev pub digit_marks : List Mark → Token → Option Standing
+abbrev pub digit_marks : List TagMark → Token → Option Standing
 digit_marks ms (plain b) = if_marked (is_digit b) Digits ms
 digit_marks ms close = standing Parts ms
 digit_marks ms _ = None
 
 -- behind a token at place n, or None where it cannot stand
-abbrev pub feed_marks : ℕ → Inside → List Mark → Token → Option Standing
+abbrev pub feed_marks : ℕ → Inside → List TagMark → Token → Option Standing
 feed_marks n Parts ms t = part_marks n ms t
 feed_marks n (Symbol length) ms t = symbol_marks length ms t
 feed_marks n Digits ms t = digit_marks ms t
@@ -147,22 +147,22 @@ is_symbol (Symbol length) = true
 is_symbol _ = false
 
 -- the label of a middle or closing tag goes on to that of the first tag, of which a block stands open
-abbrev pub begins_mark : Option Place → List ℕ → Mark → Bool
+abbrev pub begins_mark : Option TagPlace → List ℕ → TagMark → Bool
 begins_mark None label m = begins label m.label
 begins_mark (Some p) label m = false
 
-abbrev pub begins_marks : List ℕ → List Mark → Bool
+abbrev pub begins_marks : List ℕ → List TagMark → Bool
 begins_marks label [] = false
 begins_marks label (m ∷ ms) = begins_mark m.inner label m
 
-abbrev pub form_goes_on : Form → List ℕ → List Mark → Bool
+abbrev pub form_goes_on : TagForm → List ℕ → List TagMark → Bool
 form_goes_on Short label ms = true
 form_goes_on Long label ms = true
 form_goes_on Middle label ms = begins_marks label ms
 form_goes_on Closing label ms = begins_marks label ms
 
 -- a token that has begun can go on to one that may stand there
-abbrev pub lex_goes_on : Lex → Inside → List Mark → Bool
+abbrev pub lex_goes_on : Lex → Inside → List TagMark → Bool
 lex_goes_on ready inside ms = true
 lex_goes_on slashed inside ms = true
 lex_goes_on returned inside ms = true
@@ -179,11 +179,11 @@ marks_go_on lost = false
 
 -- ---- the fault where the machine stops: the byte b at place n
 
-abbrev pub mismatch : List Mark → ℕ → ReadFault
+abbrev pub mismatch : List TagMark → ℕ → ReadFault
 mismatch [] n = Stray n
 mismatch (m ∷ ms) n = Mismatch m.at n
 
-abbrev pub fault_by : Lex → Inside → List Mark → ℕ → ℕ → ReadFault
+abbrev pub fault_by : Lex → Inside → List TagMark → ℕ → ℕ → ReadFault
 fault_by ready inside ms b n = if is_symbol inside then BadText n else Stray n
 fault_by slashed inside ms b n = if is_symbol inside || b == 62 then BadText n else BadEscape n
 fault_by returned inside ms b n = BadEscape n

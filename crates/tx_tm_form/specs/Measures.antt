@@ -6,10 +6,10 @@ use Rattle.tx_tree.specs.WideTree.{WideTree, forest, longest_text, widest, deepe
 use Rattle.tx_tm_form.specs.declared.bytes.White.{White}
 use Rattle.tx_tm_form.specs.declared.bytes.White.TheVariants.{Break}
 use Rattle.tx_tm_form.specs.declared.bytes.Escaped.{Escaped}
-use Rattle.tx_tm_form.specs.declared.places.Form.{Form}
-use Rattle.tx_tm_form.specs.declared.places.Form.TheVariants.{Short, Long, Middle, Closing}
-use Rattle.tx_tm_form.specs.declared.places.Place.{Place}
-use Rattle.tx_tm_form.specs.declared.places.Place.TheVariants.{InShort, InHeader, InClosing}
+use Rattle.tx_tm_form.specs.declared.places.TagForm.{TagForm}
+use Rattle.tx_tm_form.specs.declared.places.TagForm.TheVariants.{Short, Long, Middle, Closing}
+use Rattle.tx_tm_form.specs.declared.places.TagPlace.{TagPlace}
+use Rattle.tx_tm_form.specs.declared.places.TagPlace.TheVariants.{InShort, InHeader, InClosing}
 use Rattle.tx_tm_form.specs.declared.places.Stage.{Stage}
 use Rattle.tx_tm_form.specs.declared.places.Stage.TheVariants.{Empty, Alone, Ordinary}
 use Rattle.tx_tm_form.specs.declared.measures.Sums.{Sums}
@@ -135,7 +135,7 @@ put_sums (Tags s b) (Gap w) = Tags s (widen_block b (Gap w))
 put_sums (Tags s b) (Tag c t) = Tags (both s t) (widen_block b (Tag c t))
 put_sums (Tags s b) (Text n) = Block (widen_block b (Text n))
 
-abbrev pub place_in : ContentSums → Option Place
+abbrev pub place_in : ContentSums → Option TagPlace
 place_in (Argument p g) = Some p
 place_in _ = None
 
@@ -158,7 +158,7 @@ long_sums children c = Tag false (node_sums (both children (body_sums c)))
 abbrev pub body_behind : Bool → Sums → ContentSums
 body_behind collects children = if collects && children.count == 0 then Tags no_sums no_block else Block no_block
 
-abbrev pub opening_sums : Option Place → Bool → Sums → ContentSums
+abbrev pub opening_sums : Option TagPlace → Bool → Sums → ContentSums
 opening_sums (Some p) collects children = Argument p no_line
 opening_sums None collects children = body_behind collects children
 
@@ -175,7 +175,7 @@ between here os = record { within = Parts; here = here; opens = os }
 abbrev pub open_of : ContentSums → Bool → Sums → OpenSums
 open_of before collects children = record { before = before; collects = collects; children = children }
 
-abbrev pub in_open : Option Place → OpenSums → List OpenSums → Gauge
+abbrev pub in_open : Option TagPlace → OpenSums → List OpenSums → Gauge
 in_open p o os = between (opening_sums p o.collects o.children) (o ∷ os)
 
 abbrev pub child_in : OpenSums → Sums → OpenSums
@@ -193,7 +193,7 @@ close_gauge (Argument InHeader g) (o ∷ os) = in_open None (child_in o (line_su
 close_gauge (Argument p g) (o ∷ os) = closed_open (child_in o (line_sums g)) os
 close_gauge here os = between here os
 
-abbrev pub next_gauge : Option Place → ContentSums → List OpenSums → Gauge
+abbrev pub next_gauge : Option TagPlace → ContentSums → List OpenSums → Gauge
 next_gauge p here [] = between here []
 next_gauge p here (o ∷ os) = in_open p (child_in o (body_sums here)) os
 
@@ -201,7 +201,7 @@ abbrev pub last_gauge : ContentSums → List OpenSums → Gauge
 last_gauge here [] = between here []
 last_gauge here (o ∷ os) = between (put_sums o.before (long_sums o.children here)) os
 
-abbrev pub begun_gauge : Form → Bool → List ℕ → ContentSums → List OpenSums → Gauge
+abbrev pub begun_gauge : TagForm → Bool → List ℕ → ContentSums → List OpenSums → Gauge
 begun_gauge Short true label here os = in_open (Some InShort) (open_of here (same label collection_label) no_sums) os
 begun_gauge Short false label here os = between (put_sums here (Tag false (node_sums no_sums))) os
 begun_gauge Long more label here os =

@@ -3,8 +3,8 @@ use Rattle.std.specs.Prelude.{◌≡◌, ℕ, Bool, true, false, ◌==◌, ◌||
 use Rattle.std.specs.List.{AllByRecursion, flat_map}
 use Rattle.tx_tree.specs.Labels.{IsLabel}
 use Rattle.tx_tm_form.specs.Bytes.{kind_of, is_white, is_plain, can_escape}
-use Rattle.tx_tm_form.specs.declared.places.Form.{Form}
-use Rattle.tx_tm_form.specs.declared.places.Form.TheVariants.{Short, Long, Middle, Closing}
+use Rattle.tx_tm_form.specs.declared.places.TagForm.{TagForm}
+use Rattle.tx_tm_form.specs.declared.places.TagForm.TheVariants.{Short, Long, Middle, Closing}
 
 -- a byte of white, a join, a byte that stands for itself, a backslash and a byte, <#, the beginning of a tag up to
 -- its first | (more is true) or up to its >, and | and > alone
@@ -14,12 +14,12 @@ pub data Token : Type 0 where
   plain : (b : ℕ) → Token
   escape : (b : ℕ) → Token
   raw : Token
-  head : (form : Form) (label : List ℕ) (more : Bool) → Token
+  head : (form : TagForm) (label : List ℕ) (more : Bool) → Token
   bar : Token
   close : Token
 
 -- what stands between < and a label
-abbrev pub mark_of : Form → List ℕ
+abbrev pub mark_of : TagForm → List ℕ
 mark_of Short = []
 mark_of Long = 92 ∷ []
 mark_of Middle = 124 ∷ []

@@ -15,6 +15,6 @@ pub use laws::{
     longest_front_ends_at_the_stop, machine_goes_on_along_fronts, machine_reads_what_is_spelled,
     marks_tell_the_fault, measures_are_those_of_the_tree, spelled_is_well_formed,
 };
-pub use marks::{Inside, Mark};
+pub use marks::{Inside, TagMark};
 pub use measures::{BlockSums, ContentSums, LineSums, OpenSums, PartSums, Sums, Within};
-pub use places::{Form, Place, Stage};
+pub use places::{Stage, TagForm, TagPlace};

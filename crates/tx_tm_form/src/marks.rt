@@ -1,17 +1,17 @@
 // What stands open round a byte.
 
-use crate::places::Place;
+use crate::places::TagPlace;
 use tx_tree::Label;
 
 /// An open tag.
 #[derive(Drop)]
-pub struct Mark {
+pub struct TagMark {
     /// The place of its `<`: so many bytes are before it.
     pub at: usize,
     /// Its label.
     pub label: Label,
     /// The argument of it that stands open, or None where a block does.
-    pub inner: Option<Place>,
+    pub inner: Option<TagPlace>,
 }
 
 /// In what of the innermost content a byte stands.

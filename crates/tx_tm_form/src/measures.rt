@@ -1,7 +1,7 @@
 // What is counted of trees in place of the trees.
 
 use crate::bytes::White;
-use crate::places::{Place, Stage};
+use crate::places::{Stage, TagPlace};
 
 /// The measures of some trees.
 #[derive(Clone, Copy, Debug, PartialEq, Eq)]
@@ -46,7 +46,7 @@ pub struct BlockSums {
 #[derive(Clone, Copy, Debug, PartialEq, Eq)]
 pub enum ContentSums {
     /// Of an argument.
-    Argument(Place, LineSums),
+    Argument(TagPlace, LineSums),
     /// Of a block.
     Block(BlockSums),
     /// Of the tags of what may be a collection tag, and of the same as an ordinary block.

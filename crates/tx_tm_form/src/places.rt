@@ -2,7 +2,7 @@
 
 /// How a tag's beginning is written.
 #[derive(Clone, Copy, Debug, PartialEq, Eq)]
-pub enum Form {
+pub enum TagForm {
     /// `<label`: a short tag.
     Short,
     /// `<\label`: a long tag.
@@ -15,7 +15,7 @@ pub enum Form {
 
 /// Of what an argument is one.
 #[derive(Clone, Copy, Debug, PartialEq, Eq)]
-pub enum Place {
+pub enum TagPlace {
     /// Of a short tag.
     InShort,
     /// Of the beginning of a long tag, or of a middle tag.

@@ -8,10 +8,10 @@ use Rattle.tx_tm_form.specs.declared.bytes.White.{White}
 use Rattle.tx_tm_form.specs.declared.bytes.White.TheVariants.{Spaces, Line, Break}
 use Rattle.tx_tm_form.specs.declared.bytes.Escaped.{Escaped}
 use Rattle.tx_tm_form.specs.declared.bytes.Escaped.TheVariants.{Mark, Byte}
-use Rattle.tx_tm_form.specs.declared.places.Form.{Form}
-use Rattle.tx_tm_form.specs.declared.places.Form.TheVariants.{Short, Long, Middle, Closing}
-use Rattle.tx_tm_form.specs.declared.places.Place.{Place}
-use Rattle.tx_tm_form.specs.declared.places.Place.TheVariants.{InShort, InHeader, InClosing}
+use Rattle.tx_tm_form.specs.declared.places.TagForm.{TagForm}
+use Rattle.tx_tm_form.specs.declared.places.TagForm.TheVariants.{Short, Long, Middle, Closing}
+use Rattle.tx_tm_form.specs.declared.places.TagPlace.{TagPlace}
+use Rattle.tx_tm_form.specs.declared.places.TagPlace.TheVariants.{InShort, InHeader, InClosing}
 use Rattle.tx_tm_form.specs.declared.places.Stage.{Stage}
 use Rattle.tx_tm_form.specs.declared.places.Stage.TheVariants.{Empty, Alone, Ordinary}
 use Rattle.tx_tm_form.specs.declared.measures.Sums.{Sums}
@@ -149,7 +149,7 @@ chosen_most : (c : Bool) → most_in_content (if c then of.Tags no_sums no_block
 chosen_most true = omega arith
 chosen_most false = omega arith
 
-opening_most : (p : Option Place) (collects : Bool) (s : Sums) → most_in_content (opening_sums p collects s) ≤ 2
+opening_most : (p : Option TagPlace) (collects : Bool) (s : Sums) → most_in_content (opening_sums p collects s) ≤ 2
 opening_most (Some InHeader) collects s = omega arith
 opening_most (Some InShort) collects s = omega arith
 opening_most (Some InClosing) collects s = omega arith
@@ -186,7 +186,7 @@ close_most (of.Argument InClosing g) (o ∷ os) = omega (arith, closed_with o g 
 close_most (of.Block b) os = omega arith
 close_most (of.Tags s b) os = omega arith
 
-next_most : (p : Option Place) (here : ContentSums) (os : List OpenSums) → most_in (next_gauge p here os) ≤ most_at here os + 2
+next_most : (p : Option TagPlace) (here : ContentSums) (os : List OpenSums) → most_in (next_gauge p here os) ≤ most_at here os + 2
 next_most p here [] = omega arith
 next_most p here (o ∷ os) = omega (arith, both_most o.children (body_sums here), body_most here, opening_most p o.collects (both o.children (body_sums here)))
 
@@ -194,7 +194,7 @@ last_most : (here : ContentSums) (os : List OpenSums) → most_in (last_gauge he
 last_most here [] = omega arith
 last_most here (o ∷ os) = omega (arith, put_most o.before (long_sums o.children here), long_most o.children here)
 
-begun_most : (form : Form) (more : Bool) (label : List ℕ) (here : ContentSums) (os : List OpenSums) → most_in (begun_gauge form more label here os) ≤ most_at here os + 4
+begun_most : (form : TagForm) (more : Bool) (label : List ℕ) (here : ContentSums) (os : List OpenSums) → most_in (begun_gauge form more label here os) ≤ most_at here os + 4
 begun_most Short true label here os = omega arith
 begun_most Short false label here os = omega (arith, put_most here (Tag false (node_sums no_sums)))
 begun_most Long more label here os = omega (arith, opening_most (header_place more) (same label collection_label) no_sums)
@@ -323,7 +323,7 @@ angled_paid Hash b = omega arith
 angled_paid Name b = omega arith
 angled_paid _ b = tt
 
-labelled_paid : (form : Form) (label : List ℕ) (k : ByteKind) (b : ℕ) → IsPaid 2 (lex_labelled form label k b)
+labelled_paid : (form : TagForm) (label : List ℕ) (k : ByteKind) (b : ℕ) → IsPaid 2 (lex_labelled form label k b)
 unfolding lex_labelled
 labelled_paid form label Name b = if_paid (nat_lt (length label) MOST_LABEL) 2 (within (labelled form (label ++ b ∷ []))) (omega arith)
 labelled_paid form label Bar b = if_paid (nat_le 1 (length label)) 2 (done (head form label true)) (omega arith)

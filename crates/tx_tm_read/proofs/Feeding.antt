@@ -6,10 +6,10 @@ use Rattle.tx_tree.specs.Limits.{IsWithinLimits}
 use Rattle.tx_tree.specs.Texts.{is_name_byte}
 use Rattle.tx_tree.specs.WideTree.{WideTree, leaf, node, forest}
 use Rattle.tx_tm_form.specs.declared.bytes.Escaped.{Escaped}
-use Rattle.tx_tm_form.specs.declared.places.Form.{Form}
-use Rattle.tx_tm_form.specs.declared.places.Form.TheVariants.{Short, Long, Middle, Closing}
-use Rattle.tx_tm_form.specs.declared.places.Place.{Place}
-use Rattle.tx_tm_form.specs.declared.places.Place.TheVariants.{InShort, InHeader, InClosing}
+use Rattle.tx_tm_form.specs.declared.places.TagForm.{TagForm}
+use Rattle.tx_tm_form.specs.declared.places.TagForm.TheVariants.{Short, Long, Middle, Closing}
+use Rattle.tx_tm_form.specs.declared.places.TagPlace.{TagPlace}
+use Rattle.tx_tm_form.specs.declared.places.TagPlace.TheVariants.{InShort, InHeader, InClosing}
 use Rattle.tx_tm_form.specs.Bytes.{kind_of, escape_of, escaped_bytes, is_digit, white_of}
 use Rattle.tx_tm_form.specs.Tokens.{Token, white, join, plain, escape, raw, head, bar, close, is_dropped}
 use Rattle.tx_tm_form.specs.Parts.{Part, gap, text, tag, raw_data_label, collection_label, same}
@@ -45,7 +45,7 @@ any_children (inline p g) k ks h = h
 any_children (blocks b) k ks h = h
 any_children (collecting x) k ks h = tt
 
-tag_fit : (w : Option Place) (c : Content) (f : Open) (t : WideTree) (fs : List Open) → (IsSmall (suc (length fs)) t → ContentFits (suc (length fs)) c) → StateFits (in_tag w (with_child f t) fs) → Fit c (f ∷ fs)
+tag_fit : (w : Option TagPlace) (c : Content) (f : Open) (t : WideTree) (fs : List Open) → (IsSmall (suc (length fs)) t → ContentFits (suc (length fs)) c) → StateFits (in_tag w (with_child f t) fs) → Fit c (f ∷ fs)
 tag_fit w c f t fs i h =
     let o = h.1 in
     let ts : RowFits (suc (length fs)) (f.children ++ t ∷ []) = children_there w (suc (length fs)) f.label f.children t o.1 in
@@ -69,12 +69,12 @@ bar_fit (inline p g) (f ∷ fs) h = tag_fit (Some p) (inline p g) f (grown g) fs
 bar_fit (blocks b) fs h = absurd h
 bar_fit (collecting x) fs h = absurd h
 
-close_there : (p : Place) (g : Inline) (f : Open) (fs : List Open) → StateFits (last_argument (Some p) (inline p g) (f ∷ fs)) → Fit (inline p g) (f ∷ fs)
+close_there : (p : TagPlace) (g : Inline) (f : Open) (fs : List Open) → StateFits (last_argument (Some p) (inline p g) (f ∷ fs)) → Fit (inline p g) (f ∷ fs)
 close_there InHeader g f fs h = tag_fit None (inline InHeader g) f (grown g) fs (grown_fits (suc (length fs)) g) h
 close_there InShort g f fs h = node_fit (inline InShort g) f (grown g) fs (grown_fits (suc (length fs)) g) h
 close_there InClosing g f fs h = node_fit (inline InClosing g) f (grown g) fs (grown_fits (suc (length fs)) g) h
 
-no_close : (p : Place) (c : Content) → StateFits (last_argument (Some p) c []) → ⊥
+no_close : (p : TagPlace) (c : Content) → StateFits (last_argument (Some p) c []) → ⊥
 no_close InShort c h = h
 no_close InHeader c h = h
 no_close InClosing c h = h
@@ -85,7 +85,7 @@ close_fit (inline p g) (f ∷ fs) h = close_there p g f fs h
 close_fit (blocks b) fs h = absurd h
 close_fit (collecting x) fs h = absurd h
 
-next_fit : (l : List ℕ) (w : Option Place) (c : Content) (fs : List Open) → StateFits (next_block (place_of c) l w c fs) → Fit c fs
+next_fit : (l : List ℕ) (w : Option TagPlace) (c : Content) (fs : List Open) → StateFits (next_block (place_of c) l w c fs) → Fit c fs
 next_fit l w (inline p g) fs h = absurd h
 next_fit l w (blocks b) [] h = absurd h
 next_fit l w (collecting x) [] h = absurd h
@@ -104,7 +104,7 @@ last_fit l (collecting x) (f ∷ fs) h =
     let b = part_fit f.before (tag true (node collection_label (forest (map tree_of_entry x.entries)))) fs i in
     (inl (node_row (length fs) collection_label (map tree_of_entry x.entries) n), (b.0, tt, b.1, depth_there (length fs) collection_label (map tree_of_entry x.entries) n))
 
-begun_fit : (form : Form) (more : Bool) (l : List ℕ) (c : Content) (fs : List Open) → StateFits (begun form more l c fs) → Fit c fs
+begun_fit : (form : TagForm) (more : Bool) (l : List ℕ) (c : Content) (fs : List Open) → StateFits (begun form more l c fs) → Fit c fs
 begun_fit Short true l c fs h = (h.1.0, h.1.2)
 begun_fit Short false l c fs h = part_fit c (tag false (node l (forest []))) fs h
 begun_fit Long more l c fs h = (h.1.0, h.1.2)

@@ -6,8 +6,8 @@ use Rattle.std.proofs.lemmas.List.{get_or-reverse, length-reverse}
 use Rattle.std.proofs.lemmas.Option.{slice_get-get_or}
 use Rattle.tx_tree.specs.declared.faults.ReadFault.{ReadFault}
 use Rattle.tx_tree.specs.declared.faults.ReadFault.TheVariants.{Stray, Mismatch}
-use Rattle.tx_tm_form.specs.declared.places.Place.{Place}
-use Rattle.tx_tm_form.specs.declared.places.Form.{Form}
+use Rattle.tx_tm_form.specs.declared.places.TagPlace.{TagPlace}
+use Rattle.tx_tm_form.specs.declared.places.TagForm.{TagForm}
 use Rattle.tx_tm_form.specs.Tokens.{mark_of, end_of, written, head}
 use Rattle.tx_tm_form.specs.Fronts.{begins}
 use Rattle.tx_tm_form.specs.Marks.{mismatch, begins_mark, begins_marks}
@@ -27,7 +27,7 @@ last_is_first (m ∷ ms) =
     ∙ ap Some (sym (get_or-reverse (m ∷ ms) 0 m (omega arith)))
     ∙ sym (first_get (reverse (m ∷ ms)) m (omega (arith, length-reverse (m ∷ ms))))
 
-pub head_length : (form : Form) (l : List ℕ) (more : Bool) → length (written (head form l more)) ≡ length (mark_of form) + length l + 2
+pub head_length : (form : TagForm) (l : List ℕ) (more : Bool) → length (written (head form l more)) ≡ length (mark_of form) + length l + 2
 head_length form l more = omega (arith, length-append (mark_of form) (l ++ end_of more ∷ []), length-append l (end_of more ∷ []))
 
 pub begins_is : (l m : List ℕ) → starts_with nat_eq m l ≡ begins l m
@@ -61,11 +61,11 @@ module _ (bytes : List ℕ) where
   begins_some l [] m e = absurd cc
   begins_some l (k ∷ ms) m e = ap (λ o. begins_there o l) (sym e)
 
-  block_begins : (w : Option Place) (l : List ℕ) (m : OpenMark) → is_some w ≡ false → begins l (label_in bytes m) ≡ begins_mark w l (mark_in bytes m)
+  block_begins : (w : Option TagPlace) (l : List ℕ) (m : OpenMark) → is_some w ≡ false → begins l (label_in bytes m) ≡ begins_mark w l (mark_in bytes m)
   block_begins None l m e = refl
   block_begins (Some p) l m e = absurd cc
 
-  argument_begins : (w : Option Place) (l : List ℕ) (m : OpenMark) → is_some w ≡ true → false ≡ begins_mark w l (mark_in bytes m)
+  argument_begins : (w : Option TagPlace) (l : List ℕ) (m : OpenMark) → is_some w ≡ true → false ≡ begins_mark w l (mark_in bytes m)
   argument_begins (Some p) l m e = refl
   argument_begins None l m e = absurd cc
 

@@ -5,7 +5,7 @@ use Rattle.std.proofs.lemmas.List.{take-append-drop, drop-drop}
 use Rattle.tx_tree.specs.declared.TheConstants.{MOST_LABEL}
 use Rattle.tx_tm_form.specs.declared.bytes.ByteKind.{ByteKind}
 use Rattle.tx_tm_form.specs.declared.bytes.ByteKind.TheVariants.{Name, Blank, Newline, Return, Less, Greater, Bar, Backslash, Hash, Slash, Other}
-use Rattle.tx_tm_form.specs.declared.places.Form.{Form}
+use Rattle.tx_tm_form.specs.declared.places.TagForm.{TagForm}
 use Rattle.tx_tm_form.specs.Bytes.{kind_of, can_escape}
 use Rattle.tx_tm_form.specs.Tokens.{Token, escape, head, mark_of, end_of, written}
 use Rattle.tx_tm_form.specs.Machine.{Lex, ready, slashed, returned, angled, labelled, Lexed, within, done, if_good, lex_ready, lex_slashed, lex_returned, lex_angled, lex_labelled, lex}
@@ -73,10 +73,10 @@ angled_done Hash b e = ap (λ z. 60 ∷ z ∷ []) (hash_only b e)
 angled_done Name b e = tt
 angled_done _ b e = tt
 
-head_bytes : (form : Form) (l : List ℕ) (more : Bool) (b : ℕ) → b ≡ end_of more → begun_bytes (labelled form l) ++ b ∷ [] ≡ written (head form l more)
+head_bytes : (form : TagForm) (l : List ℕ) (more : Bool) (b : ℕ) → b ≡ end_of more → begun_bytes (labelled form l) ++ b ∷ [] ≡ written (head form l more)
 head_bytes form l more b e = ap (λ z. 60 ∷ z) (append_assoc (mark_of form) l (b ∷ [])) ∙ ap (λ z. 60 ∷ (mark_of form ++ (l ++ z ∷ []))) e
 
-labelled_done : (k : ByteKind) (form : Form) (l : List ℕ) (b : ℕ) → kind_of b ≡ k → IsDone (begun_bytes (labelled form l) ++ b ∷ []) (lex_labelled form l k b)
+labelled_done : (k : ByteKind) (form : TagForm) (l : List ℕ) (b : ℕ) → kind_of b ≡ k → IsDone (begun_bytes (labelled form l) ++ b ∷ []) (lex_labelled form l k b)
 unfolding lex_labelled
 labelled_done Name form l b e = if_within (nat_lt (length l) MOST_LABEL) (begun_bytes (labelled form l) ++ b ∷ []) (labelled form (l ++ b ∷ []))
 labelled_done Bar form l b e = if_done (nat_le 1 (length l)) (begun_bytes (labelled form l) ++ b ∷ []) (head form l true) (head_bytes form l true b (bar_only b e))
@@ -103,7 +103,7 @@ pub part_there : (u v w x : List ℕ) → x ≡ u ++ (v ++ w) → StandsAt x (le
 part_there u v w x e = ap (λ z. take (length v) (drop (length u) z)) e ∙ ap (take (length v)) (drop-append_seam u (v ++ w)) ∙ take-append_seam v w
 
 -- the label of a word that stands there
-pub label_there : (bytes : List ℕ) (n : ℕ) (form : Form) (l : List ℕ) (more : Bool) → StandsAt bytes n (written (head form l more)) → StandsAt bytes (n + (1 + length (mark_of form))) l
+pub label_there : (bytes : List ℕ) (n : ℕ) (form : TagForm) (l : List ℕ) (more : Bool) → StandsAt bytes n (written (head form l more)) → StandsAt bytes (n + (1 + length (mark_of form))) l
 label_there bytes n form l more h =
     let rest = drop (length (written (head form l more))) (drop n bytes) in
     let all : drop n bytes ≡ (60 ∷ mark_of form) ++ (l ++ (end_of more ∷ rest)) =

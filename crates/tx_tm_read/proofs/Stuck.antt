@@ -5,8 +5,8 @@ use Rattle.tx_base.specs.declared.out_of_memory.Memory.{Memory}
 use Rattle.tx_tree.specs.declared.TheConstants.{MOST_DEPTH}
 use Rattle.tx_tree.specs.Limits.{IsWithinLimits}
 use Rattle.tx_tree.specs.WideTree.{WideTree, node, forest, nodes_of}
-use Rattle.tx_tm_form.specs.declared.places.Place.{Place}
-use Rattle.tx_tm_form.specs.declared.places.Place.TheVariants.{InShort, InHeader, InClosing}
+use Rattle.tx_tm_form.specs.declared.places.TagPlace.{TagPlace}
+use Rattle.tx_tm_form.specs.declared.places.TagPlace.TheVariants.{InShort, InHeader, InClosing}
 use Rattle.tx_tm_form.specs.Parts.{Part, gap, text, tag, same, none, collection_label}
 use Rattle.tx_tm_form.specs.Growing.{Inline, grown, Block, tree_of_block, long_of, Content, inline, blocks, collecting, no_tags, no_paragraphs, put, place_of, block_of, block_behind, opening}
 use Rattle.tx_tm_form.specs.Machine.{Open, State, reading, go, open_tag, with_child, in_tag, closed, next_block, last_block, last_argument}
@@ -52,21 +52,21 @@ later_block l ks h = ap (λ z. if same l collection_label && z then collecting n
 length_opens : (os : List OpenTag) → length (opens_of os) ≡ length os
 length_opens os = simp (length-reverse, length-map) refl
 
-pub too_deep : (os : List OpenTag) (w : Option Place) (f : Open) → MOST_DEPTH ≤ length os → StateFits (in_tag w f (opens_of os)) → ⊥
+pub too_deep : (os : List OpenTag) (w : Option TagPlace) (f : Open) → MOST_DEPTH ≤ length os → StateFits (in_tag w f (opens_of os)) → ⊥
 too_deep os w f h i = omega (arith, i.1.3, length_opens os)
 
 -- what is known of the tag round the content that has begun in it
-pub children_there : (w : Option Place) (k : ℕ) (l : List ℕ) (ks : List WideTree) (t : WideTree) → ChildrenFit k (opening w l (ks ++ t ∷ [])) (ks ++ t ∷ []) → RowFits k (ks ++ t ∷ [])
+pub children_there : (w : Option TagPlace) (k : ℕ) (l : List ℕ) (ks : List WideTree) (t : WideTree) → ChildrenFit k (opening w l (ks ++ t ∷ [])) (ks ++ t ∷ []) → RowFits k (ks ++ t ∷ [])
 children_there (Some p) k l ks t h = h
 children_there None k l ks t h = subst (λ c. ChildrenFit k c (ks ++ t ∷ [])) (block_after l ks t) h
 
-opening_child : (w : Option Place) (k : ℕ) (l : List ℕ) (ks : List WideTree) (t : WideTree) → ChildrenFit k (opening w l (ks ++ t ∷ [])) (ks ++ t ∷ []) → IsSmall k t
+opening_child : (w : Option TagPlace) (k : ℕ) (l : List ℕ) (ks : List WideTree) (t : WideTree) → ChildrenFit k (opening w l (ks ++ t ∷ [])) (ks ++ t ∷ []) → IsSmall k t
 opening_child w k l ks t h = (right_small k ks (t ∷ []) (children_there w k l ks t h).each).0
 
-pub child_stuck : (w : Option Place) (f : Open) (t : WideTree) (fs : List Open) → (IsWithinLimits t → ⊥) → StateFits (in_tag w (with_child f t) fs) → ⊥
+pub child_stuck : (w : Option TagPlace) (f : Open) (t : WideTree) (fs : List Open) → (IsWithinLimits t → ⊥) → StateFits (in_tag w (with_child f t) fs) → ⊥
 child_stuck w f t fs h i = h (small_within _ t (opening_child w (suc (length fs)) f.label f.children t i.1.1))
 
-pub child_row_stuck : (w : Option Place) (f : Open) (t : WideTree) (fs : List Open) → ((k : ℕ) → RowFits k (f.children ++ t ∷ []) → ⊥) → StateFits (in_tag w (with_child f t) fs) → ⊥
+pub child_row_stuck : (w : Option TagPlace) (f : Open) (t : WideTree) (fs : List Open) → ((k : ℕ) → RowFits k (f.children ++ t ∷ []) → ⊥) → StateFits (in_tag w (with_child f t) fs) → ⊥
 child_row_stuck w f t fs h i = h (suc (length fs)) (children_there w (suc (length fs)) f.label f.children t i.1.1)
 
 pub row_stuck : (f : Open) (t : WideTree) (fs : List Open) → ((k : ℕ) → RowFits k (f.children ++ t ∷ []) → ⊥) → StateFits (closed (with_child f t) fs) → ⊥
@@ -96,13 +96,13 @@ block_nodes_behind l [] n =
     elim (same l collection_label && true) as (λ z. content_nodes (if z then collecting no_tags else blocks no_paragraphs) + (children_nodes (if z then collecting no_tags else blocks no_paragraphs) [] + n) ≡ 0 + n) [ true ↦ omega arith | false ↦ omega arith ]
 block_nodes_behind l (k ∷ ks) n = ap (λ z. content_nodes (if z then collecting no_tags else blocks no_paragraphs) + (children_nodes (if z then collecting no_tags else blocks no_paragraphs) (k ∷ ks) + n)) (and_false (same l collection_label)) ∙ omega arith
 
-pub in_tag_nodes : (w : Option Place) (f : Open) (fs : List Open) → state_nodes (in_tag w f fs) ≡ open_nodes f fs
+pub in_tag_nodes : (w : Option TagPlace) (f : Open) (fs : List Open) → state_nodes (in_tag w f fs) ≡ open_nodes f fs
 in_tag_nodes (Some p) f fs = omega arith
 in_tag_nodes None f fs = omega (arith, block_nodes_behind f.label f.children (content_nodes f.before + opens_nodes f.before fs))
 
 -- ---- answers of the steps
 
-pub last_stuck : (p : Place) (g : Inline) (f : Open) (fs : List Open) → (IsWithinLimits (grown g) → ⊥) → StateFits (last_argument (Some p) (inline p g) (f ∷ fs)) → ⊥
+pub last_stuck : (p : TagPlace) (g : Inline) (f : Open) (fs : List Open) → (IsWithinLimits (grown g) → ⊥) → StateFits (last_argument (Some p) (inline p g) (f ∷ fs)) → ⊥
 last_stuck InHeader g f fs h i = child_stuck None f (grown g) fs h i
 last_stuck InShort g f fs h i = tag_stuck_there f.before false (node f.label (forest (f.children ++ grown g ∷ []))) fs (λ w. h (last_within f.label f.children (grown g) w)) i
 last_stuck InClosing g f fs h i = tag_stuck_there f.before false (node f.label (forest (f.children ++ grown g ∷ []))) fs (λ w. h (last_within f.label f.children (grown g) w)) i
@@ -111,7 +111,7 @@ go_stuck : (c : Bool) (s : State) → (StateFits s → ⊥) → StateFits (go c 
 go_stuck true s h i = h i
 go_stuck false s h i = i
 
-pub block_stuck : (c : Content) (l : List ℕ) (w : Option Place) (f : Open) (fs : List Open) → IsBlockTree None c → StateFits (next_block (place_of c) l w c (f ∷ fs)) → ⊥
+pub block_stuck : (c : Content) (l : List ℕ) (w : Option TagPlace) (f : Open) (fs : List Open) → IsBlockTree None c → StateFits (next_block (place_of c) l w c (f ∷ fs)) → ⊥
 block_stuck (inline p g) l w f fs h i = i
 block_stuck (blocks b) l w f fs h i = go_stuck (same l f.label) (in_tag w (with_child f (block_of (blocks b))) fs) (child_stuck w f (block_of (blocks b)) fs h) i
 block_stuck (collecting x) l w f fs h i = go_stuck (same l f.label) (in_tag w (with_child f (block_of (collecting x))) fs) (child_stuck w f (block_of (collecting x)) fs h) i
@@ -119,25 +119,25 @@ block_stuck (collecting x) l w f fs h i = go_stuck (same l f.label) (in_tag w (w
 pub closed_stuck : (f : Open) (t : WideTree) (fs : List Open) → (IsWithinLimits t → ⊥) → StateFits (closed (with_child f t) fs) → ⊥
 closed_stuck f t fs h i = tag_stuck_there f.before false (node f.label (forest (f.children ++ t ∷ []))) fs (λ w. h (last_within f.label f.children t w)) i
 
-pub no_next : (w : Option Place) (l : List ℕ) (p : Option Place) (c : Content) → StateFits (next_block w l p c []) → ⊥
+pub no_next : (w : Option TagPlace) (l : List ℕ) (p : Option TagPlace) (c : Content) → StateFits (next_block w l p c []) → ⊥
 no_next None l p c h = h
 no_next (Some q) l p c h = h
 
-pub no_last : (w : Option Place) (l : List ℕ) (c : Content) → StateFits (last_block w l c []) → ⊥
+pub no_last : (w : Option TagPlace) (l : List ℕ) (c : Content) → StateFits (last_block w l c []) → ⊥
 no_last None l c h = h
 no_last (Some q) l c h = h
 
-pub other_next : (w : Option Place) (l : List ℕ) (p : Option Place) (c : Content) (f : Open) (fs : List Open) → same l f.label ≡ false → StateFits (next_block w l p c (f ∷ fs)) → ⊥
+pub other_next : (w : Option TagPlace) (l : List ℕ) (p : Option TagPlace) (c : Content) (f : Open) (fs : List Open) → same l f.label ≡ false → StateFits (next_block w l p c (f ∷ fs)) → ⊥
 other_next None l p c f fs e h = let i : StateFits (go false (in_tag p (with_child f (block_of c)) fs)) = subst (λ z. StateFits (go z (in_tag p (with_child f (block_of c)) fs))) e h in i
 other_next (Some q) l p c f fs e h = h
 
-pub other_last : (w : Option Place) (l : List ℕ) (c : Content) (f : Open) (fs : List Open) → same l f.label ≡ false → StateFits (last_block w l c (f ∷ fs)) → ⊥
+pub other_last : (w : Option TagPlace) (l : List ℕ) (c : Content) (f : Open) (fs : List Open) → same l f.label ≡ false → StateFits (last_block w l c (f ∷ fs)) → ⊥
 other_last None l c f fs e h = let i : StateFits (go false (reading (put f.before (long_of f.label f.children c)) fs)) = subst (λ z. StateFits (go z (reading (put f.before (long_of f.label f.children c)) fs))) e h in i
 other_last (Some q) l c f fs e h = h
 
 -- ---- what the steps cost
 
-pub tag_rose : (m n x : ℕ) (w : Option Place) (f : Open) (t : WideTree) (fs : List Open) (g : Open) (r : Result (Option Spot) Memory) → g ≡ with_child f t → IfOk r (λ next. IsState next (in_tag w g fs)) → m + x ≤ n + nodes_of t
+pub tag_rose : (m n x : ℕ) (w : Option TagPlace) (f : Open) (t : WideTree) (fs : List Open) (g : Open) (r : Result (Option Spot) Memory) → g ≡ with_child f t → IfOk r (λ next. IsState next (in_tag w g fs)) → m + x ≤ n + nodes_of t
     → IfOk r (Rose n m (x + open_nodes f fs))
 tag_rose m n x w f t fs g (Ok None) e h i = tt
 tag_rose m n x w f t fs g (Ok (Some s)) e h i =
@@ -172,25 +172,25 @@ round_less c f fs =
     let k : opens_nodes c (f ∷ fs) ≡ children_nodes c f.children + content_nodes f.before + opens_nodes f.before fs = rows c f fs in
     omega (arith, children_less c f.children, k)
 
-pub open_rose : (w : Option Place) (here : Content) (l : List ℕ) (fs : List Open) (r : Result (Option Spot) Memory) → IfOk r (λ next. IsState next (in_tag w (open_tag here l []) fs)) → IfOk r (Rose 0 0 (content_nodes here + opens_nodes here fs))
+pub open_rose : (w : Option TagPlace) (here : Content) (l : List ℕ) (fs : List Open) (r : Result (Option Spot) Memory) → IfOk r (λ next. IsState next (in_tag w (open_tag here l []) fs)) → IfOk r (Rose 0 0 (content_nodes here + opens_nodes here fs))
 open_rose w here l fs (Ok None) h = tt
 open_rose w here l fs (Ok (Some s)) h =
     let all : state_nodes (state_of s) ≡ open_nodes (open_tag here l []) fs = ap state_nodes h ∙ in_tag_nodes w (open_tag here l []) fs in
     omega (arith, all)
 open_rose w here l fs (Err y) h = tt
 
-pub in_tag_rose : (n : ℕ) (w : Option Place) (f : Open) (fs : List Open) (r : Result (Option Spot) Memory) → IfOk r (λ next. IsState next (in_tag w f fs)) → IfOk r (Rose n n (open_nodes f fs))
+pub in_tag_rose : (n : ℕ) (w : Option TagPlace) (f : Open) (fs : List Open) (r : Result (Option Spot) Memory) → IfOk r (λ next. IsState next (in_tag w f fs)) → IfOk r (Rose n n (open_nodes f fs))
 in_tag_rose n w f fs (Ok None) h = tt
 in_tag_rose n w f fs (Ok (Some s)) h = let all : state_nodes (state_of s) ≡ open_nodes f fs = ap state_nodes h ∙ in_tag_nodes w f fs in omega (arith, all)
 in_tag_rose n w f fs (Err y) h = tt
 
 -- ---- the end of an argument
 
-pub argument_is_last : (p : Place) (g : Inline) (f : Open) (fs : List Open) → behind_argument p (with_child f (grown g)) fs ≡ last_argument (Some p) (inline p g) (f ∷ fs)
+pub argument_is_last : (p : TagPlace) (g : Inline) (f : Open) (fs : List Open) → behind_argument p (with_child f (grown g)) fs ≡ last_argument (Some p) (inline p g) (f ∷ fs)
 argument_is_last InHeader g f fs = refl
 argument_is_last InShort g f fs = refl
 argument_is_last InClosing g f fs = refl
 
-pub last_is : (p : Place) (g : Inline) (f : Open) (fs : List Open) (t : WideTree) (r : Result (Option Spot) Memory) → t ≡ grown g → IfOk r (λ next. IsState next (behind_argument p (with_child f t) fs))
+pub last_is : (p : TagPlace) (g : Inline) (f : Open) (fs : List Open) (t : WideTree) (r : Result (Option Spot) Memory) → t ≡ grown g → IfOk r (λ next. IsState next (behind_argument p (with_child f t) fs))
     → IfOk r (λ next. IsState next (last_argument (Some p) (inline p g) (f ∷ fs)))
 last_is p g f fs t r e h = subst (λ m. IfOk r (λ next. IsState next m)) (ap (λ u. behind_argument p (with_child f u) fs) e ∙ argument_is_last p g f fs) h

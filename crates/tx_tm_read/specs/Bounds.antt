@@ -1,8 +1,8 @@
 -- Bounds of what is counted of the bytes that were read. They rise by at most 3 for each 2 bytes.
 use Rattle.std.specs.Prelude.{ℕ, ◌+◌, ◌^◌, ◌<◌, max, min, List, [], ◌∷◌, Option, Some, None}
 use Rattle.tx_tm_form.specs.declared.bytes.White.{White}
-use Rattle.tx_tm_form.specs.declared.places.Place.{Place}
-use Rattle.tx_tm_form.specs.declared.places.Place.TheVariants.{InHeader}
+use Rattle.tx_tm_form.specs.declared.places.TagPlace.{TagPlace}
+use Rattle.tx_tm_form.specs.declared.places.TagPlace.TheVariants.{InHeader}
 use Rattle.tx_tm_form.specs.declared.measures.Sums.{Sums}
 use Rattle.tx_tm_form.specs.declared.measures.LineSums.{LineSums}
 use Rattle.tx_tm_form.specs.declared.measures.BlockSums.{BlockSums}
@@ -43,7 +43,7 @@ abbrev pub most_in_block : BlockSums → ℕ
 most_in_block b = most_of b.full + most_in_line b.now + of_run b.run + 1
 
 -- a block follows a header
-abbrev pub of_place : Place → ℕ
+abbrev pub of_place : TagPlace → ℕ
 of_place InHeader = 1
 of_place p = 0
 

@@ -3,8 +3,8 @@ use Rattle.std.specs.Prelude.{◌≡◌, ◌≤◌, ◌+◌, ℕ, List, map, rev
 use Rattle.tx_tree.specs.WideTree.{WideTree}
 use Rattle.tx_tm_form.specs.Growing.{Content, inline, blocks, collecting, block_of}
 use Rattle.tx_tm_form.specs.Machine as machine
-use Rattle.tx_tm_form.specs.declared.places.Place.{Place}
-use Rattle.tx_tm_form.specs.declared.places.Place.TheVariants.{InHeader}
+use Rattle.tx_tm_form.specs.declared.places.TagPlace.{TagPlace}
+use Rattle.tx_tm_form.specs.declared.places.TagPlace.TheVariants.{InHeader}
 use Rattle.tx_tm_form.specs.Machine.{Open, in_tag, closed, reading, naming, counting}
 use Rattle.tx_tm_read.specs.declared.tags.OpenTag.{OpenTag}
 use Rattle.tx_tm_read.specs.declared.tags.Spot.{Spot}
@@ -32,7 +32,7 @@ state_of (spots.Naming name here os) = naming name (content_of here) (opens_of o
 state_of (spots.Counting digits here os) = counting digits (content_of here) (opens_of os.items)
 
 -- behind > in an argument of a tag that has this child, too
-abbrev pub behind_argument : Place → Open → List Open → machine.State
+abbrev pub behind_argument : TagPlace → Open → List Open → machine.State
 behind_argument InHeader f fs = in_tag None f fs
 behind_argument p f fs = closed f fs
 

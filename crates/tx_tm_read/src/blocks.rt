@@ -20,7 +20,7 @@ use crate::tag_rows::{TagEntry, TagRow};
 use std::alloc::Global;
 use std::sync::ledger::Ledger;
 use tx_base::{Memory, Steps};
-use tx_tm_form::{Place, Stage, White};
+use tx_tm_form::{Stage, TagPlace, White};
 use tx_tree::Tree;
 
 /// A block as far as it has been read: the paragraphs that have ended, the one that is open, and the white
@@ -407,7 +407,7 @@ impl TagList {
 #[derive(Drop)]
 pub(crate) enum Body {
     /// An argument of a tag.
-    Argument(Place, Line),
+    Argument(TagPlace, Line),
     /// A block.
     Block(Paragraphs),
     /// The block of what may be a collection tag.
@@ -416,7 +416,7 @@ pub(crate) enum Body {
 
 impl Body {
     /// Of what the content is an argument, or None for a block.
-    pub(crate) fn place(&self) -> Option<Place>
+    pub(crate) fn place(&self) -> Option<TagPlace>
         ensures { result ≡ place_of (content_of self.now) }
     {
         match self {

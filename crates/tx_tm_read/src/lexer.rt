@@ -8,7 +8,7 @@ ghost use Rattle.tx_tm_read.specs.Words.{lex_of, lexed_of, IsGoodLexed};
 use std::alloc::Global;
 use std::marker::Model;
 use tx_base::Memory;
-use tx_tm_form::{ByteKind, Form, escape_of, kind_of};
+use tx_tm_form::{ByteKind, TagForm, escape_of, kind_of};
 use tx_tree::{Label, LabelFault, MOST_LABEL};
 
 /// The first bytes of a label, which may be none. Contracts see them.
@@ -89,7 +89,7 @@ pub(crate) enum Word {
     /// `<#`.
     Raw,
     /// The beginning of a tag, and whether an argument follows.
-    Head(Form, Label, bool),
+    Head(TagForm, Label, bool),
     /// `|`.
     Bar,
     /// `>`.
@@ -108,7 +108,7 @@ pub(crate) enum Lexer {
     /// `<`.
     Angled,
     /// The beginning of a tag, up to some bytes of its label.
-    Labelled(Form, LabelFront),
+    Labelled(TagForm, LabelFront),
 }
 
 /// What a byte more gives.
@@ -179,11 +179,14 @@ fn lex_angled(alloc: Global, kind: ByteKind, byte: u8) -> Result<Option<Lexed>, 
 {
     let label = LabelFront::new(alloc);
     match kind {
-        ByteKind::Backslash => Ok(Some(Lexed::Within(Lexer::Labelled(Form::Long, label)))),
-        ByteKind::Bar => Ok(Some(Lexed::Within(Lexer::Labelled(Form::Middle, label)))),
-        ByteKind::Slash => Ok(Some(Lexed::Within(Lexer::Labelled(Form::Closing, label)))),
+        ByteKind::Backslash => Ok(Some(Lexed::Within(Lexer::Labelled(TagForm::Long, label)))),
+        ByteKind::Bar => Ok(Some(Lexed::Within(Lexer::Labelled(TagForm::Middle, label)))),
+        ByteKind::Slash => Ok(Some(Lexed::Within(Lexer::Labelled(TagForm::Closing, label)))),
         ByteKind::Hash => Ok(Some(Lexed::Done(Word::Raw))),
-        ByteKind::Name => Ok(Some(Lexed::Within(Lexer::Labelled(Form::Short, label.with(byte)?)))),
+        ByteKind::Name => Ok(Some(Lexed::Within(Lexer::Labelled(
+            TagForm::Short,
+            label.with(byte)?,
+        )))),
         _ => Ok(None),
     }
 }
@@ -191,7 +194,7 @@ fn lex_angled(alloc: Global, kind: ByteKind, byte: u8) -> Result<Option<Lexed>, 
 #[tactic(auto, unfolding(tx_tm_form::specs::Machine::lex_labelled), using(crate::proofs::Labels::is_name))]
 fn lex_labelled(
     alloc: Global,
-    form: Form,
+    form: TagForm,
     label: LabelFront,
     kind: ByteKind,
     byte: u8,

@@ -16,7 +16,7 @@ use crate::taking::{header_place, is_digit};
 use crate::walk::same_bytes;
 use std::alloc::Global;
 use tx_base::Memory;
-use tx_tm_form::{Escaped, Form, Inside, Place, escape_of};
+use tx_tm_form::{Escaped, Inside, TagForm, TagPlace, escape_of};
 use tx_tree::{Label, MOST_NAME, is_name_byte};
 
 /// An open tag. Its label is kept by its place in the bytes, so that each takes 24 bytes.
@@ -29,7 +29,7 @@ pub(crate) struct OpenMark {
     /// How many bytes the label has.
     pub(crate) label_len: u8,
     /// The argument of it that stands open, or None where a block does.
-    pub(crate) inner: Option<Place>,
+    pub(crate) inner: Option<TagPlace>,
 }
 
 impl OpenMark {
@@ -63,7 +63,7 @@ fn between(marks: Vec<OpenMark>) -> Option<Stand>
 // In an argument of the tag, or in a block of it.
 fn within(
     mut mark: OpenMark,
-    inner: Option<Place>,
+    inner: Option<TagPlace>,
     mut marks: Vec<OpenMark>,
 ) -> Result<Option<Stand>, Memory>
     ensures { (bytes : List ℕ) → IfOk result (λ next. stood bytes next ≡ Some (record {
@@ -94,8 +94,8 @@ fn close_in(mark: OpenMark, marks: Vec<OpenMark>) -> Result<Option<Stand>, Memor
 {
     match mark.inner {
         None => Ok(None),
-        Some(Place::InHeader) => within(mark, None, marks),
-        Some(Place::InShort | Place::InClosing) => Ok(between(marks)),
+        Some(TagPlace::InHeader) => within(mark, None, marks),
+        Some(TagPlace::InShort | TagPlace::InClosing) => Ok(between(marks)),
     }
 }
 
@@ -103,7 +103,7 @@ fn close_in(mark: OpenMark, marks: Vec<OpenMark>) -> Result<Option<Stand>, Memor
 fn next_in(
     bytes: &[u8],
     label: &Label,
-    inner: Option<Place>,
+    inner: Option<TagPlace>,
     mark: OpenMark,
     marks: Vec<OpenMark>,
 ) -> Result<Option<Stand>, Memory>
@@ -148,7 +148,7 @@ fn close_marks(mut marks: Vec<OpenMark>) -> Result<Option<Stand>, Memory>
 fn next_marks(
     bytes: &[u8],
     label: &Label,
-    inner: Option<Place>,
+    inner: Option<TagPlace>,
     mut marks: Vec<OpenMark>,
 ) -> Result<Option<Stand>, Memory>
     ensures { IfOk result (λ next. stood bytes.now next ≡ next_marks label.now inner (marks_of bytes.now marks.items)) }
@@ -173,7 +173,7 @@ fn new_mark(
     at: usize,
     label_at: usize,
     label: &Label,
-    inner: Option<Place>,
+    inner: Option<TagPlace>,
     marks: Vec<OpenMark>,
 ) -> Result<Option<Stand>, Memory>
     ensures { (bytes : List ℕ) → StandsAt bytes label_at label.now
@@ -195,7 +195,7 @@ fn new_mark(
 fn begun_marks(
     bytes: &[u8],
     at: usize,
-    form: Form,
+    form: TagForm,
     more: bool,
     label: &Label,
     marks: Vec<OpenMark>,
@@ -206,18 +206,18 @@ fn begun_marks(
         stood bytes.now next ≡ begun_marks at form more label.now (marks_of bytes.now marks.items)) }
 {
     match form {
-        Form::Short => {
+        TagForm::Short => {
             if more {
-                new_mark(at, at + 1, label, Some(Place::InShort), marks)
+                new_mark(at, at + 1, label, Some(TagPlace::InShort), marks)
             } else {
                 Ok(between(marks))
             }
         }
-        Form::Long => new_mark(at, at + 2, label, header_place(more), marks),
-        Form::Middle => next_marks(bytes, label, header_place(more), marks),
-        Form::Closing => {
+        TagForm::Long => new_mark(at, at + 2, label, header_place(more), marks),
+        TagForm::Middle => next_marks(bytes, label, header_place(more), marks),
+        TagForm::Closing => {
             if more {
-                next_marks(bytes, label, Some(Place::InClosing), marks)
+                next_marks(bytes, label, Some(TagPlace::InClosing), marks)
             } else {
                 Ok(last_marks(bytes, label, marks))
             }

@@ -26,7 +26,7 @@ use crate::walk::is_collection;
 use std::alloc::Global;
 use tx_base::Memory;
 use tx_tm_form::{
-    ContentSums, Escaped, Form, OpenSums, PartSums, Place, Sums, Within, escape_of, white_of,
+    ContentSums, Escaped, OpenSums, PartSums, Sums, TagForm, TagPlace, Within, escape_of, white_of,
 };
 use tx_tree::{Label, MOST_ARITY, MOST_DEPTH, MOST_SIZE, MOST_TEXT, Which};
 
@@ -49,7 +49,11 @@ fn between(here: ContentSums, opens: Vec<OpenSums>) -> Gauge
 }
 
 // In an argument or a block of the tag.
-fn in_open(inner: Option<Place>, tag: OpenSums, mut opens: Vec<OpenSums>) -> Result<Gauge, Memory>
+fn in_open(
+    inner: Option<TagPlace>,
+    tag: OpenSums,
+    mut opens: Vec<OpenSums>,
+) -> Result<Gauge, Memory>
     ensures { IfOk result (λ next. gauge_of next ≡ in_open inner tag (opens_of opens.items)) }
 {
     let here = opening_sums(inner, tag.collects, tag.children);
@@ -100,8 +104,8 @@ fn close_gauge(here: ContentSums, mut opens: Vec<OpenSums>) -> Result<Gauge, Mem
             Some(tag) => {
                 let tag = child_in(tag, line_sums(line));
                 match place {
-                    Place::InHeader => in_open(None, tag, opens),
-                    Place::InShort | Place::InClosing => Ok(closed_open(tag, opens)),
+                    TagPlace::InHeader => in_open(None, tag, opens),
+                    TagPlace::InShort | TagPlace::InClosing => Ok(closed_open(tag, opens)),
                 }
             }
         },
@@ -110,7 +114,7 @@ fn close_gauge(here: ContentSums, mut opens: Vec<OpenSums>) -> Result<Gauge, Mem
 }
 
 fn next_gauge(
-    inner: Option<Place>,
+    inner: Option<TagPlace>,
     here: ContentSums,
     mut opens: Vec<OpenSums>,
 ) -> Result<Gauge, Memory>
@@ -138,7 +142,7 @@ fn last_gauge(here: ContentSums, mut opens: Vec<OpenSums>) -> Gauge
 
 // In a tag that begins.
 fn new_open(
-    inner: Option<Place>,
+    inner: Option<TagPlace>,
     label: &Label,
     here: ContentSums,
     opens: Vec<OpenSums>,
@@ -157,7 +161,7 @@ fn new_open(
 
 // Behind the beginning of a tag.
 fn begun_gauge(
-    form: Form,
+    form: TagForm,
     more: bool,
     label: &Label,
     here: ContentSums,
@@ -167,18 +171,18 @@ fn begun_gauge(
     ensures { IfOk result (λ next. gauge_of next ≡ begun_gauge form more label.now here (opens_of opens.items)) }
 {
     match form {
-        Form::Short => {
+        TagForm::Short => {
             if more {
-                return new_open(Some(Place::InShort), label, here, opens);
+                return new_open(Some(TagPlace::InShort), label, here, opens);
             }
             let node = PartSums::Tag(false, node_sums(no_sums()));
             Ok(between(put_sums(here, node), opens))
         }
-        Form::Long => new_open(header_place(more), label, here, opens),
-        Form::Middle => next_gauge(header_place(more), here, opens),
-        Form::Closing => {
+        TagForm::Long => new_open(header_place(more), label, here, opens),
+        TagForm::Middle => next_gauge(header_place(more), here, opens),
+        TagForm::Closing => {
             if more {
-                next_gauge(Some(Place::InClosing), here, opens)
+                next_gauge(Some(TagPlace::InClosing), here, opens)
             } else {
                 Ok(last_gauge(here, opens))
             }

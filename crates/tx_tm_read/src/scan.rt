@@ -16,7 +16,7 @@ use crate::marking::{OpenMark, Stand};
 use crate::reader::is_dropped;
 use std::alloc::Global;
 use tx_base::Memory;
-use tx_tm_form::{Form, Inside};
+use tx_tm_form::{Inside, TagForm};
 use tx_tree::ReadFault;
 
 // The innermost open tag.
@@ -45,12 +45,12 @@ fn begins_marks(bytes: &[u8], label: &LabelFront, marks: &[OpenMark]) -> bool
     }
 }
 
-fn form_goes_on(bytes: &[u8], form: Form, label: &LabelFront, marks: &[OpenMark]) -> bool
+fn form_goes_on(bytes: &[u8], form: TagForm, label: &LabelFront, marks: &[OpenMark]) -> bool
     ensures { result ≡ form_goes_on form label.now (marks_of bytes.now marks.now) }
 {
     match form {
-        Form::Short | Form::Long => true,
-        Form::Middle | Form::Closing => begins_marks(bytes, label, marks),
+        TagForm::Short | TagForm::Long => true,
+        TagForm::Middle | TagForm::Closing => begins_marks(bytes, label, marks),
     }
 }
 
@@ -76,12 +76,12 @@ fn mismatch(marks: &[OpenMark], place: usize) -> ReadFault
     }
 }
 
-fn mark_len(form: Form) -> usize
+fn mark_len(form: TagForm) -> usize
     ensures { result ≡ length (mark_of form) }
 {
     match form {
-        Form::Short => 0,
-        Form::Long | Form::Middle | Form::Closing => 1,
+        TagForm::Short => 0,
+        TagForm::Long | TagForm::Middle | TagForm::Closing => 1,
     }
 }
 
@@ -198,8 +198,11 @@ impl Scan {
                     ReadFault::BadLabel(place)
                 }
             }
-            Lexer::Labelled(Form::Short | Form::Long, _) => ReadFault::BadLabel(place),
-            Lexer::Labelled(Form::Middle | Form::Closing, _) => mismatch(&self.stand.marks, place),
+            Lexer::Labelled(TagForm::Short | TagForm::Long, _) => ReadFault::BadLabel(place),
+            Lexer::Labelled(TagForm::Middle | TagForm::Closing, _) => mismatch(
+                &self.stand.marks,
+                place,
+            ),
         }
     }
 

@@ -12,7 +12,7 @@ ghost use Rattle.tx_tm_read.specs.Bounds.{IsSmall, most_of, most_in_line, most_i
 ghost use Rattle.tx_tm_read.specs.Bounds.{of_run, most_in_block, most_in_content};
 
 use crate::blocks::longer;
-use tx_tm_form::{BlockSums, ContentSums, LineSums, PartSums, Place, Stage, Sums, White};
+use tx_tm_form::{BlockSums, ContentSums, LineSums, PartSums, Stage, Sums, TagPlace, White};
 
 pub(crate) fn no_sums() -> Sums
     ensures { result ≡ no_sums }
@@ -311,7 +311,7 @@ fn body_behind(collects: bool, children: Sums) -> ContentSums
 }
 
 // Of what stands open next of a tag with these children.
-pub(crate) fn opening_sums(inner: Option<Place>, collects: bool, children: Sums) -> ContentSums
+pub(crate) fn opening_sums(inner: Option<TagPlace>, collects: bool, children: Sums) -> ContentSums
     ensures { result ≡ opening_sums inner collects children }
 {
     match inner {

@@ -24,13 +24,13 @@ use crate::walk::{bar_in, close_in, in_place, last_in, next_in, put_node, put_te
 use std::alloc::Global;
 use std::sync::ledger::Ledger;
 use tx_base::{Memory, Steps};
-use tx_tm_form::{Escaped, Form, Place, escape_of, white_of};
+use tx_tm_form::{Escaped, TagForm, TagPlace, escape_of, white_of};
 use tx_tree::{Label, Tree, is_name_byte};
 
 // In a tag that begins.
 fn open_tag(
     alloc: Global,
-    place: Option<Place>,
+    place: Option<TagPlace>,
     label: Label,
     here: Body,
     opens: Vec<OpenTag>,
@@ -51,7 +51,7 @@ fn open_tag(
 fn go_on<L: Ledger>(
     alloc: Global,
     label: Label,
-    place: Option<Place>,
+    place: Option<TagPlace>,
     here: Body,
     mut opens: Vec<OpenTag>,
     steps: &mut Steps<L>,
@@ -88,16 +88,16 @@ fn end_tag<L: Ledger>(
     }
 }
 
-pub(crate) fn header_place(more: bool) -> Option<Place>
+pub(crate) fn header_place(more: bool) -> Option<TagPlace>
     ensures { result ≡ header_place more }
 {
-    if more { Some(Place::InHeader) } else { None }
+    if more { Some(TagPlace::InHeader) } else { None }
 }
 
 // Behind the beginning of a tag.
 fn begin<L: Ledger>(
     alloc: Global,
-    form: Form,
+    form: TagForm,
     more: bool,
     label: Label,
     here: Body,
@@ -110,18 +110,18 @@ fn begin<L: Ledger>(
     ensures rises { steps.old ≤ steps.new }
 {
     match form {
-        Form::Short => {
+        TagForm::Short => {
             if more {
-                open_tag(alloc, Some(Place::InShort), label, here, opens)
+                open_tag(alloc, Some(TagPlace::InShort), label, here, opens)
             } else {
                 put_node(alloc, label, Vec::new(alloc), here, opens, steps)
             }
         }
-        Form::Long => open_tag(alloc, header_place(more), label, here, opens),
-        Form::Middle => go_on(alloc, label, header_place(more), here, opens, steps),
-        Form::Closing => {
+        TagForm::Long => open_tag(alloc, header_place(more), label, here, opens),
+        TagForm::Middle => go_on(alloc, label, header_place(more), here, opens, steps),
+        TagForm::Closing => {
             if more {
-                go_on(alloc, label, Some(Place::InClosing), here, opens, steps)
+                go_on(alloc, label, Some(TagPlace::InClosing), here, opens, steps)
             } else {
                 end_tag(alloc, label, here, opens, steps)
             }

@@ -25,7 +25,7 @@ use crate::tags::{Digits, NameFront, OpenTag, Spot};
 use std::alloc::Global;
 use std::sync::ledger::Ledger;
 use tx_base::{Memory, Steps};
-use tx_tm_form::{Escaped, Form, Place, White, escape_of, white_of};
+use tx_tm_form::{Escaped, TagForm, TagPlace, White, escape_of, white_of};
 use tx_tree::{Label, MOST_DEPTH, Tree};
 
 pub(crate) fn same_bytes(one: &[u8], other: &[u8]) -> bool
@@ -38,7 +38,7 @@ pub(crate) fn same_bytes(one: &[u8], other: &[u8]) -> bool
 #[tactic(auto, using(crate::proofs::Stuck::too_deep))]
 fn in_argument(
     alloc: Global,
-    place: Place,
+    place: TagPlace,
     tag: OpenTag,
     mut opens: Vec<OpenTag>,
 ) -> Result<Option<Spot>, Memory>
@@ -88,7 +88,7 @@ fn in_block(alloc: Global, tag: OpenTag, mut opens: Vec<OpenTag>) -> Result<Opti
 // In an argument or a block.
 pub(crate) fn in_place(
     alloc: Global,
-    place: Option<Place>,
+    place: Option<TagPlace>,
     tag: OpenTag,
     opens: Vec<OpenTag>,
 ) -> Result<Option<Spot>, Memory>
@@ -229,7 +229,7 @@ impl OpenTag {
     fn go_on(
         self,
         alloc: Global,
-        place: Option<Place>,
+        place: Option<TagPlace>,
         child: Tree,
         opens: Vec<OpenTag>,
     ) -> Result<Option<Spot>, Memory>
@@ -266,7 +266,7 @@ impl Body {
 // Behind `|` in an argument.
 pub(crate) fn bar_in<L: Ledger>(
     alloc: Global,
-    place: Place,
+    place: TagPlace,
     line: Line,
     tag: OpenTag,
     opens: Vec<OpenTag>,
@@ -290,7 +290,7 @@ pub(crate) fn bar_in<L: Ledger>(
 // Behind `>` in an argument of the tag, of which this is the tree.
 fn argument_in<L: Ledger>(
     alloc: Global,
-    place: Place,
+    place: TagPlace,
     child: Tree,
     tag: OpenTag,
     opens: Vec<OpenTag>,
@@ -303,16 +303,16 @@ fn argument_in<L: Ledger>(
     ensures rises { steps.old ≤ steps.new }
 {
     match place {
-        Place::InHeader => tag.go_on(alloc, None, child, opens),
-        Place::InShort => tag.close(alloc, child, opens, steps),
-        Place::InClosing => tag.close(alloc, child, opens, steps),
+        TagPlace::InHeader => tag.go_on(alloc, None, child, opens),
+        TagPlace::InShort => tag.close(alloc, child, opens, steps),
+        TagPlace::InClosing => tag.close(alloc, child, opens, steps),
     }
 }
 
 // Behind `>` in an argument.
 pub(crate) fn close_in<L: Ledger>(
     alloc: Global,
-    place: Place,
+    place: TagPlace,
     line: Line,
     tag: OpenTag,
     opens: Vec<OpenTag>,
@@ -337,7 +337,7 @@ pub(crate) fn close_in<L: Ledger>(
 pub(crate) fn next_in<L: Ledger>(
     alloc: Global,
     label: &Label,
-    place: Option<Place>,
+    place: Option<TagPlace>,
     here: Body,
     tag: OpenTag,
     opens: Vec<OpenTag>,
@@ -359,7 +359,7 @@ pub(crate) fn next_in<L: Ledger>(
 fn behind_block<L: Ledger>(
     alloc: Global,
     label: &Label,
-    place: Option<Place>,
+    place: Option<TagPlace>,
     here: Body,
     tag: OpenTag,
     opens: Vec<OpenTag>,

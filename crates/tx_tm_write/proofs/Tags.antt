@@ -6,8 +6,8 @@ use Rattle.std.proofs.lemmas.Bool.{and_parts}
 use Rattle.tx_tree.specs.Labels.{is_label_byte, IsLabel}
 use Rattle.tx_tree.specs.WideTree.{WideTree, Forest, leaf, node, nil, cons, forest, trees}
 use Rattle.tx_tree.proofs.Children.{forest_trees}
-use Rattle.tx_tm_form.specs.declared.places.Form.{Form}
-use Rattle.tx_tm_form.specs.declared.places.Form.TheVariants.{Short, Long, Middle, Closing}
+use Rattle.tx_tm_form.specs.declared.places.TagForm.{TagForm}
+use Rattle.tx_tm_form.specs.declared.places.TagForm.TheVariants.{Short, Long, Middle, Closing}
 use Rattle.tx_tm_form.specs.declared.bytes.White.TheVariants.{Line}
 use Rattle.tx_tm_form.specs.Bytes.{kind_of, is_white, is_plain, is_digit}
 use Rattle.tx_tm_form.specs.Tokens.{Token, white, plain, raw, bar, close, mark_of, written}
@@ -59,7 +59,7 @@ raw_tag label ts e = let p = and_parts (same label raw_data_label) (is_one_of_di
 -- ---- beginnings of tags
 
 -- behind a label: arguments, the end of the tag, and more
-begin : (form : Form) (label : List ℕ) (xs : Arguments) (y : List ℕ) (more : List Token) → IsLabel label → AreWords y (more_arguments xs ++ more)
+begin : (form : TagForm) (label : List ℕ) (xs : Arguments) (y : List ℕ) (more : List Token) → IsLabel label → AreWords y (more_arguments xs ++ more)
     → AreWords (60 ∷ (mark_of form ++ (label ++ y))) (beginning form label xs ++ more)
 begin form label no_argument y more l h =
     record {
@@ -92,7 +92,7 @@ one_more x y ps t ts h e k =
       trees = ap (λ z. z ∷ children_of k.arguments) (ap content h.parts ∙ e) ∙ ap (λ z. t ∷ z) k.trees;
     }
 
-begun : (form : Form) (label : List ℕ) (xs : Arguments) (y : List ℕ) → IsLabel label → AreWords y (more_arguments xs) → AreWords (60 ∷ (mark_of form ++ (label ++ y))) (beginning form label xs)
+begun : (form : TagForm) (label : List ℕ) (xs : Arguments) (y : List ℕ) → IsLabel label → AreWords y (more_arguments xs) → AreWords (60 ∷ (mark_of form ++ (label ++ y))) (beginning form label xs)
 begun form label xs y l h =
     subst (AreWords (60 ∷ (mark_of form ++ (label ++ y)))) (append-nil (beginning form label xs)) (begin form label xs y [] l (subst (AreWords y) (sym (append-nil (more_arguments xs))) h))
 

@@ -1,7 +1,7 @@
 use Rattle.std.proofs.Common.{◌≢◌, ◌+◌, ◌∷◌, length}
 use Rattle.std.proofs.lemmas.Result.{err_from_is_err_and, IfErr-weaker}
 use Rattle.tx_cmd.specs.declared.command.CmdFault.TheVariants.{Memory}
-use Rattle.tx_cmd.specs.declared.words.Argument.TheVariants.{Path as PathArgument}
+use Rattle.tx_cmd.specs.declared.words.ArgumentKind.TheVariants.{Path as PathArgument}
 use Rattle.tx_cmd.specs.declared.words.Word.TheVariants.{Change}
 use Rattle.tx_cmd.specs.Words.{arguments_behind}
 use Rattle.tx_cmd.specs.Values.{a_path}

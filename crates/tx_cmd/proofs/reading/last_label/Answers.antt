@@ -1,6 +1,6 @@
 use Rattle.std.proofs.Common.{[], refl, sym, subst}
 use Rattle.tx_tree.specs.Labels.{IsLabel}
-use Rattle.tx_cmd.specs.declared.words.Argument.TheVariants.{Label as LabelArgument}
+use Rattle.tx_cmd.specs.declared.words.ArgumentKind.TheVariants.{Label as LabelArgument}
 use Rattle.tx_cmd.proofs.LooseFronts.{loose_cut}
 use Rattle.tx_cmd.proofs.reading.last_label.Goals as goal
 

@@ -1,5 +1,5 @@
 use Rattle.std.proofs.Common.{[], refl, sym, subst}
-use Rattle.tx_cmd.specs.declared.words.Argument.TheVariants.{Name as NameArgument}
+use Rattle.tx_cmd.specs.declared.words.ArgumentKind.TheVariants.{Name as NameArgument}
 use Rattle.tx_cmd.specs.Words.{IsName}
 use Rattle.tx_cmd.proofs.LooseFronts.{loose_cut}
 use Rattle.tx_cmd.proofs.reading.last_name.Goals as goal

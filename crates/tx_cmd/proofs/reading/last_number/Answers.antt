@@ -1,5 +1,5 @@
 use Rattle.std.proofs.Common.{[], refl}
-use Rattle.tx_cmd.specs.declared.words.Argument.TheVariants.{Number as NumberArgument}
+use Rattle.tx_cmd.specs.declared.words.ArgumentKind.TheVariants.{Number as NumberArgument}
 use Rattle.tx_cmd.proofs.LooseFronts.{loose_cut}
 use Rattle.tx_cmd.proofs.reading.last_number.Goals as goal
 

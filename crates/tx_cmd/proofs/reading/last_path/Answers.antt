@@ -2,7 +2,7 @@ use Rattle.std.proofs.Common.{◌≢◌, ◌+◌, [], ◌∷◌, refl}
 use Rattle.std.proofs.lemmas.Result.{IfErr-weaker, IfOk-weaker}
 use Rattle.tx_tree.specs.PathSpelling.{SpellsPath}
 use Rattle.tx_cmd.specs.declared.command.CmdFault.TheVariants.{Memory}
-use Rattle.tx_cmd.specs.declared.words.Argument.TheVariants.{Path as PathArgument}
+use Rattle.tx_cmd.specs.declared.words.ArgumentKind.TheVariants.{Path as PathArgument}
 use Rattle.tx_cmd.specs.Values.{a_path, Mean}
 use Rattle.tx_cmd.specs.Refusals.{IsBadPath, IsFirstFault}
 use Rattle.tx_cmd.proofs.LooseFronts.{loose_cut}

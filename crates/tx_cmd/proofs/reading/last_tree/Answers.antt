@@ -1,7 +1,7 @@
 use Rattle.std.proofs.Common.{◌≢◌, ◌+◌, [], ◌∷◌, refl}
 use Rattle.std.proofs.lemmas.Result.{IfErr-weaker}
 use Rattle.tx_cmd.specs.declared.command.CmdFault.TheVariants.{Memory}
-use Rattle.tx_cmd.specs.declared.words.Argument.TheVariants.{Tree as TreeArgument}
+use Rattle.tx_cmd.specs.declared.words.ArgumentKind.TheVariants.{Tree as TreeArgument}
 use Rattle.tx_cmd.specs.Refusals.{IsBadTree, IsFirstFault}
 use Rattle.tx_cmd.proofs.Faults.{fault_here}
 use Rattle.tx_cmd.proofs.reading.last_tree.Goals as goal

@@ -1,6 +1,6 @@
 use Rattle.std.proofs.Common.{[], ◌∷◌, refl}
 use Rattle.std.proofs.lemmas.Result.{err_from_is_err_and}
-use Rattle.tx_cmd.specs.declared.words.Argument.TheVariants.{Number as NumberArgument, Tree as TreeArgument}
+use Rattle.tx_cmd.specs.declared.words.ArgumentKind.TheVariants.{Number as NumberArgument, Tree as TreeArgument}
 use Rattle.tx_cmd.specs.Values.{a_number}
 use Rattle.tx_cmd.proofs.LooseFronts.{loose_cut}
 use Rattle.tx_cmd.proofs.Faults.{fault_behind}
