@@ -47,7 +47,7 @@ put_before {X} xs ys i k x lt e = get_front {X = X} (take i xs ++ ys) (drop i xs
 
 pub put_behind : {X : Type 0} (xs ys : List X) (i k : ℕ) (x : X) → i ≤ k → slice_get xs k ≡ Some x → slice_get (put_in xs i ys) (k + length ys) ≡ Some x
 put_behind {X} xs ys i k x le e =
-    let within : k < length xs = slice_get_within {X = X} xs k x e in
+    let within : k < length xs = slice_get_within {A = X} xs k x e in
     let front : length (take i xs) ≡ i = length-take-le {A = X} i xs (omega arith) in
     get_behind {X = X} (take i xs ++ ys) (drop i xs) (k + length ys) (k - i) x (omega (arith, front, length-append {A = X} (take i xs) ys)) (get_drop {X = X} xs i k (k - i) x e (omega arith))
 
@@ -56,7 +56,7 @@ left_before {X} xs i n k x lt e = get_front {X = X} (take i xs) (drop (i + n) xs
 
 pub left_behind : {X : Type 0} (xs : List X) (i n k : ℕ) (x : X) → i + n ≤ k → slice_get xs k ≡ Some x → slice_get (taken_out xs i n) (k - n) ≡ Some x
 left_behind {X} xs i n k x le e =
-    let within : k < length xs = slice_get_within {X = X} xs k x e in
+    let within : k < length xs = slice_get_within {A = X} xs k x e in
     let front : length (take i xs) ≡ i = length-take-le {A = X} i xs (omega arith) in
     get_behind {X = X} (take i xs) (drop (i + n) xs) (k - n) (k - (i + n)) x (omega arith) (get_drop {X = X} xs (i + n) k (k - (i + n)) x e (omega arith))
 
