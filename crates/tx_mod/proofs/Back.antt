@@ -6,6 +6,7 @@ use Rattle.std.specs.Str.{bytes_eq}
 use Rattle.std.proofs.lemmas.Bool.{le-leb, leb-true}
 use Rattle.std.proofs.lemmas.List.{take-append-drop, take_at, drop_at, length-take-le, drop-drop}
 use Rattle.std.proofs.lemmas.Slice.Eq.{bytes_eq-Decides}
+use Rattle.std.proofs.lemmas.Option.{slice_get_within}
 use Rattle.tx_tree.specs.Cuts.{is_cut}
 use Rattle.tx_tree.specs.Texts.{IsText}
 use Rattle.tx_tree.specs.Limits.{IsWellFormed, AreWellFormed}
@@ -22,7 +23,7 @@ use Rattle.tx_mod.specs.Mods.{path_of, tuple, put_in, taken_out, part_of, extent
 use Rattle.tx_mod.specs.Changes.{Outcome, asking, inserted, removed, split, split_child, joined, joined_at, in_place_of_two, labelled, wrapped, unwrapped, changed_at, limited, put_back, changed}
 use Rattle.tx_mod.specs.Inverses.{removed_part, without_child, inverse_at}
 use Rattle.tx_mod.specs.Sound.{IsSound, GivesBack}
-use Rattle.tx_mod.proofs.Lists.{list_at, get_within}
+use Rattle.tx_mod.proofs.Lists.{list_at}
 use Rattle.tx_mod.proofs.Measuring.{join_is, split_is, unwrap_is}
 use Rattle.tx_mod.proofs.Remade.{texts_together, text_before, text_behind, asked_ok}
 use Rattle.tx_mod.proofs.Replacing.{down, subtree_of_replaced, replaced_again, replaced_by_same}
@@ -161,7 +162,7 @@ split_back (node l ts) v i j e =
     let b = ok_asked (is_clean c j) (CutsSymbol j) _ v a.1 in
     let rest : List WideTree = drop (i + 1) T in
     let ws : List WideTree = take i T ++ before c j ∷ behind c j ∷ rest in
-    let within : i < length T = get_within T i c g.1 in
+    let within : i < length T = slice_get_within T i c g.1 in
     let front : length (take i T) ≡ i = length-take-le i T (omega arith) in
     let first : slice_get ws i ≡ Some (before c j) = get_at (take i T) (before c j) (behind c j ∷ rest) i front in
     let regrouped : ws ≡ (take i T ++ before c j ∷ []) ++ behind c j ∷ rest = sym (append_assoc (take i T) (before c j ∷ []) (behind c j ∷ rest)) in
@@ -233,7 +234,7 @@ join_back (node l ts) v i h e =
     let j : ℕ = extent a in
     let rest : List WideTree = drop (i + 2) T in
     let ws : List WideTree = take i T ++ c ∷ rest in
-    let within : i < length T = get_within T i a g.1 in
+    let within : i < length T = slice_get_within T i a g.1 in
     let front : length (take i T) ≡ i = length-take-le i T (omega arith) in
     let found : slice_get ws i ≡ Some c = get_at (take i T) c rest i front in
     let one : take i ws ≡ take i T = take_at (take i T) (c ∷ rest) i front in
@@ -274,7 +275,7 @@ unwrap_back (node l ts) v i e =
     let T : List WideTree = trees ts in
     let g = ok_got (λ c. Ok c) (BadPlace (length T)) (slice_get T i) v e in
     let found : slice_get T i ≡ Some v = g.1 ∙ ap (λ z. Some z) (same_tree g.0 v g.2) in
-    let within : i < length T = get_within T i v found in
+    let within : i < length T = slice_get_within T i v found in
     let ws : List WideTree = taken_out T i 1 in
     let fits : i ≤ length ws = omega (arith, length-append (take i T) (drop (i + 1) T), length-take-le i T (omega arith)) in
     let part : part_of T i 1 ≡ v ∷ [] = ap (take 1) (drop_item T i v found) in

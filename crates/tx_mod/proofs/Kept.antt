@@ -5,6 +5,7 @@ use Rattle.std.specs.Option.{option_map_or}
 use Rattle.std.specs.Str.{bytes_eq}
 use Rattle.std.proofs.lemmas.Bool.{leb-true, leb-false, ltb-true, ltb-false, eqb-true, eqb-false}
 use Rattle.std.proofs.lemmas.List.{length-take-le}
+use Rattle.std.proofs.lemmas.Option.{slice_get_within}
 use Rattle.tx_tree.specs.Paths.{subtree}
 use Rattle.tx_tree.specs.WideTree.{WideTree, leaf, node, forest, trees, children_of}
 use Rattle.tx_tree.proofs.Walking.{step_down}
@@ -16,7 +17,6 @@ use Rattle.tx_mod.specs.Changes.{inserted, removed, split, joined, joined_at, la
 use Rattle.tx_mod.specs.Moves.{rest_behind, child_or_self, shifted, some_path, carried_by_insert, carried_by_remove, carried_in_split, carried_by_split, carried_in_join, carried_by_join, carried_by_unwrap, carried_at}
 use Rattle.tx_mod.specs.Followed.{CarriesSubtree}
 use Rattle.tx_mod.proofs.Cases.{by_test}
-use Rattle.tx_mod.proofs.Lists.{get_within}
 use Rattle.tx_mod.proofs.Replacing.{down, replaced_down, child_of_with, other_child_of_with, subtree_of_replaced}
 use Rattle.tx_mod.proofs.Back.{ok_asked, same_tree, made_of}
 use Rattle.tx_mod.proofs.Shapes.{get_front, get_behind, get_take, get_drop, put_before, put_behind, left_before, left_behind, child_in, child_is, child_stays, shape_inserted, shape_removed, shape_split, shape_joined, shape_labelled, shape_wrapped, shape_unwrapped}
@@ -64,7 +64,7 @@ split_back s v c i j k e lt f =
     let h = shape_split s v i j e in
     let T : List WideTree = children_of s in
     let rest : List WideTree = before h.child j ∷ behind h.child j ∷ drop (i + 1) T in
-    let within : i < length T = get_within T i h.child h.found in
+    let within : i < length T = slice_get_within T i h.child h.found in
     child_in v h.label (take i T ++ rest) (k + 1) c h.is
     (at_cut T rest i (k + 1) (2 + (k - (i + 1))) c (omega arith) (omega arith)
     (get_behind (before h.child j ∷ behind h.child j ∷ []) (drop (i + 1) T) (2 + (k - (i + 1))) (k - (i + 1)) c refl (get_drop T (i + 1) k (k - (i + 1)) c f (omega arith))))
@@ -74,7 +74,7 @@ split_left s v c i j e f =
     let h = shape_split s v i j e in
     let T : List WideTree = children_of s in
     let rest : List WideTree = before h.child j ∷ behind h.child j ∷ drop (i + 1) T in
-    let within : i < length T = get_within T i h.child h.found in
+    let within : i < length T = slice_get_within T i h.child h.found in
     let same : h.child ≡ c = same_some h.child c (sym h.found ∙ f) in
     child_in v h.label (take i T ++ rest) i (before c j) h.is (at_cut T rest i i 0 (before c j) (omega arith) (omega arith) (ap (λ z. Some (before z j)) same))
   where
@@ -86,7 +86,7 @@ split_right s v c i j e f =
     let h = shape_split s v i j e in
     let T : List WideTree = children_of s in
     let rest : List WideTree = before h.child j ∷ behind h.child j ∷ drop (i + 1) T in
-    let within : i < length T = get_within T i h.child h.found in
+    let within : i < length T = slice_get_within T i h.child h.found in
     let same : h.child ≡ c = same_some h.child c (sym h.found ∙ f) in
     child_in v h.label (take i T ++ rest) (i + 1) (behind c j) h.is (at_cut T rest i (i + 1) 1 (behind c j) (omega arith) (omega arith) (ap (λ z. Some (behind z j)) same))
   where
@@ -111,7 +111,7 @@ pub join_behind : (s v c : WideTree) (i k : ℕ) → joined_at s i ≡ Ok v → 
 join_behind s v c i k e lt f =
     let h = shape_joined s v i e in
     let T : List WideTree = children_of s in
-    let within : i < length T = get_within T i h.left h.first in
+    let within : i < length T = slice_get_within T i h.left h.first in
     child_in v h.label (take i T ++ h.both ∷ drop (i + 2) T) (k - 1) c h.is
     (at_cut T (h.both ∷ drop (i + 2) T) i (k - 1) (1 + (k - (i + 2))) c (omega arith) (omega arith)
     (get_behind (h.both ∷ []) (drop (i + 2) T) (1 + (k - (i + 2))) (k - (i + 2)) c refl (get_drop T (i + 2) k (k - (i + 2)) c f (omega arith))))
@@ -121,7 +121,7 @@ pub join_at : (s v a b c : WideTree) (i : ℕ) → joined_at s i ≡ Ok v → sl
 join_at s v a b c i e f g t =
     let h = shape_joined s v i e in
     let T : List WideTree = children_of s in
-    let within : i < length T = get_within T i h.left h.first in
+    let within : i < length T = slice_get_within T i h.left h.first in
     let left : h.left ≡ a = same_some h.left a (sym h.first ∙ f) in
     let right : h.right ≡ b = same_some h.right b (sym h.second ∙ g) in
     let both : h.both ≡ c = same_tree h.both c (sym h.one ∙ ap (λ z. joined z h.right) left ∙ ap (joined a) right ∙ t) in

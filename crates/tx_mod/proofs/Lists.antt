@@ -1,12 +1,7 @@
 -- Elements of lists, and lists of trees.
-use Rattle.std.proofs.Common.{◌≡◌, ℕ, zero, suc, ◌+◌, ◌<◌, ◌≤◌, max, List, [], ◌∷◌, ◌++◌, length, take, drop, set, Some, refl, sym, ap, ◌∙◌, arith}
+use Rattle.std.proofs.Common.{◌≡◌, ℕ, zero, suc, ◌+◌, ◌≤◌, max, List, [], ◌∷◌, ◌++◌, take, drop, set, Some, refl, sym, ap, ◌∙◌, arith}
 use Rattle.std.specs.Prelude.{slice_get}
 use Rattle.tx_tree.specs.WideTree.{WideTree, forest, size_of, total_size, depth_of, deepest, arity_of, widest, count, text_length_of, longest_text}
-
-pub get_within : {X : Type 0} → (xs : List X) (i : ℕ) (x : X) → slice_get xs i ≡ Some x → i < length xs
-get_within [] i x e = absurd (cc)
-get_within (y ∷ xs) zero x e = omega arith
-get_within {X} (y ∷ xs) (suc i) x e = omega (arith, get_within {X = X} xs i x e)
 
 pub get_of_set : {X : Type 0} → (xs : List X) (i : ℕ) (x v : X) → slice_get xs i ≡ Some x → slice_get (set xs i v) i ≡ Some v
 get_of_set [] i x v e = absurd (cc)

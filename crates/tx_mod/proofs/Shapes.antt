@@ -5,6 +5,7 @@ use Rattle.std.specs.Option.{option_map_or}
 use Rattle.std.specs.Str.{bytes_eq}
 use Rattle.std.proofs.lemmas.Bool.{leb-true}
 use Rattle.std.proofs.lemmas.List.{length-take-le}
+use Rattle.std.proofs.lemmas.Option.{slice_get_within}
 use Rattle.tx_tree.specs.Paths.{subtree}
 use Rattle.tx_tree.specs.WideTree.{WideTree, leaf, node, forest, trees, children_of}
 use Rattle.tx_tree.proofs.Children.{trees_forest, forest_trees}
@@ -13,7 +14,6 @@ use Rattle.tx_mod.specs.declared.faults.ModFault.TheVariants.{NotNode, BadPlace,
 use Rattle.tx_mod.specs.Mods.{tuple, put_in, taken_out, extent, is_clean, before, behind}
 use Rattle.tx_mod.specs.Changes.{inserted, removed, split, split_child, joined, joined_at, in_place_of_two, labelled, wrapped, unwrapped}
 use Rattle.tx_mod.specs.Moves.{child_or_self}
-use Rattle.tx_mod.proofs.Lists.{get_within}
 use Rattle.tx_mod.proofs.Replacing.{down}
 use Rattle.tx_mod.proofs.Back.{ok_asked, ok_got, ok_two, same_tree}
 
@@ -47,7 +47,7 @@ put_before {X} xs ys i k x lt e = get_front {X = X} (take i xs ++ ys) (drop i xs
 
 pub put_behind : {X : Type 0} (xs ys : List X) (i k : ℕ) (x : X) → i ≤ k → slice_get xs k ≡ Some x → slice_get (put_in xs i ys) (k + length ys) ≡ Some x
 put_behind {X} xs ys i k x le e =
-    let within : k < length xs = get_within {X = X} xs k x e in
+    let within : k < length xs = slice_get_within {A = X} xs k x e in
     let front : length (take i xs) ≡ i = length-take-le {A = X} i xs (omega arith) in
     get_behind {X = X} (take i xs ++ ys) (drop i xs) (k + length ys) (k - i) x (omega (arith, front, length-append {A = X} (take i xs) ys)) (get_drop {X = X} xs i k (k - i) x e (omega arith))
 
@@ -56,7 +56,7 @@ left_before {X} xs i n k x lt e = get_front {X = X} (take i xs) (drop (i + n) xs
 
 pub left_behind : {X : Type 0} (xs : List X) (i n k : ℕ) (x : X) → i + n ≤ k → slice_get xs k ≡ Some x → slice_get (taken_out xs i n) (k - n) ≡ Some x
 left_behind {X} xs i n k x le e =
-    let within : k < length xs = get_within {X = X} xs k x e in
+    let within : k < length xs = slice_get_within {A = X} xs k x e in
     let front : length (take i xs) ≡ i = length-take-le {A = X} i xs (omega arith) in
     get_behind {X = X} (take i xs) (drop (i + n) xs) (k - n) (k - (i + n)) x (omega arith) (get_drop {X = X} xs (i + n) k (k - (i + n)) x e (omega arith))
 

@@ -1,5 +1,6 @@
 -- Numbers of paths that lead, and offsets of places, are small.
 use Rattle.std.proofs.Common.{◌≡◌, ℕ, ◌≤◌, eqb, List, [], ◌∷◌, Option, Some, None, refl, subst, arith}
+use Rattle.std.proofs.lemmas.Option.{slice_get_within}
 use Rattle.std.specs.Prelude.{slice_get, IsSome, IsSomeAnd}
 use Rattle.tx_tree.specs.Limits.{IsWithinLimits}
 use Rattle.tx_tree.specs.Paths.{subtree}
@@ -11,13 +12,12 @@ use Rattle.tx_mod.specs.Moves.{rest_behind}
 use Rattle.tx_mod.specs.Ways.{AreSmall}
 use Rattle.tx_mod.proofs.Built.{child_within}
 use Rattle.tx_mod.proofs.Cases.{by_test}
-use Rattle.tx_mod.proofs.Lists.{get_within}
 use Rattle.tx_mod.proofs.Replacing.{down}
 use Rattle.tx_mod.proofs.Whole.{path_within}
 
 number_small : (t c : WideTree) (i : ℕ) → slice_get (children_of t) i ≡ Some c → IsWithinLimits t → i ≤ 65535
 number_small (leaf text) c i e w = absurd (cc)
-number_small (node l ts) c i e w = omega (arith, get_within (children_of (node l ts)) i c e, arity_le l ts, w.arity)
+number_small (node l ts) c i e w = omega (arith, slice_get_within (children_of (node l ts)) i c e, arity_le l ts, w.arity)
 
 path_small : (path : List ℕ) (t s : WideTree) → subtree t path ≡ Some s → IsWithinLimits t → AreSmall path
 path_small [] t s e w = tt

@@ -6,6 +6,7 @@ use Rattle.std.specs.Str.{bytes_eq}
 use Rattle.std.proofs.lemmas.Bool.{leb-true}
 use Rattle.std.proofs.lemmas.List.{take_at, drop_at, length-take-le}
 use Rattle.std.proofs.lemmas.Slice.Eq.{bytes_eq-Decides}
+use Rattle.std.proofs.lemmas.Option.{slice_get_within}
 use Rattle.tx_tree.specs.Cuts.{is_cut}
 use Rattle.tx_tree.specs.Paths.{subtree}
 use Rattle.tx_tree.specs.WideTree.{WideTree, leaf, node, forest, trees, children_of, label_of}
@@ -18,7 +19,6 @@ use Rattle.tx_mod.specs.Changes.{inserted, removed, split, split_child, labelled
 use Rattle.tx_mod.specs.Inverses.{removed_part, without_child, inverse_at, inverse_of}
 use Rattle.tx_mod.specs.Sound.{IsMadeAgain}
 use Rattle.tx_mod.proofs.Back.{ok_asked, ok_got, same_tree, get_at, put_taken, made_of, same_path}
-use Rattle.tx_mod.proofs.Lists.{get_within}
 use Rattle.tx_mod.proofs.Replacing.{subtree_of_replaced}
 
 -- what was put in among others is the part there
@@ -66,7 +66,7 @@ split_again (node l ts) v i j e =
     let c : WideTree = g.0 in
     let a = ok_asked (leb j (extent c)) (BadPlace (extent c)) _ v g.2 in
     let b = ok_asked (is_clean c j) (CutsSymbol j) _ v a.1 in
-    let within : i < length T = get_within T i c g.1 in
+    let within : i < length T = slice_get_within T i c g.1 in
     let rest : List WideTree = behind c j ∷ drop (i + 1) T in
     let ws : List WideTree = take i T ++ before c j ∷ rest in
     ap (λ z. option_map_or extent (slice_get (children_of z) i) 0) (sym (same_tree (node l (forest ws)) v b.1))

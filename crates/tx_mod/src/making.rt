@@ -90,7 +90,7 @@ fn with_child<L: Ledger>(
 }
 
 // The tree with another subtree where the path leads. It shares all other subtrees.
-#[tactic(auto, using(crate::proofs::Built::leads_down, crate::proofs::Built::within_down, crate::proofs::Built::replaced_first, crate::proofs::Lists::get_within, std::proofs::lemmas::Grind::common_steps))]
+#[tactic(auto, using(crate::proofs::Built::leads_down, crate::proofs::Built::within_down, crate::proofs::Built::replaced_first, std::proofs::lemmas::Option::slice_get_within, std::proofs::lemmas::Grind::common_steps))]
 pub(crate) fn rebuilt<L: Ledger>(
     alloc: Global,
     t: &Tree,

@@ -1,21 +1,21 @@
 use Rattle.std.proofs.Common.{◌≡◌, ◌+◌, ◌++◌, ◌∷◌, [], take, drop, sym, ap, subst, ◌∙◌, append_assoc, arith, Ok}
+use Rattle.std.proofs.lemmas.Option.{slice_get_within}
 use Rattle.tx_mod.proofs.Remade.{node_joined, found_same, third_within, items_within, node_is, made_ok}
 use Rattle.tx_mod.proofs.remaking.join.Goals as goal
 use Rattle.std.specs.Prelude.{IsOkAnd}
 use Rattle.tx_tree.specs.Limits.{IsWithinLimits}
 use Rattle.tx_mod.specs.Changes.{joined}
-use Rattle.tx_mod.proofs.Lists.{get_within}
 use Rattle.tx_mod.proofs.Back.{same_tree}
 
 pub bounds-children-i : goal.bounds-children-i
 bounds-children-i g c =
     let r = node_joined c.args.s.now c.in-Node.label.now c.in-Node.children.now c.args.i c.in-Node.ensures c.requires in
-    get_within c.in-Node.children.now c.args.i r.first r.found
+    slice_get_within c.in-Node.children.now c.args.i r.first r.found
 
 pub bounds-children-i-2 : goal.bounds-children-i-2
 bounds-children-i-2 g c =
     let r = node_joined c.args.s.now c.in-Node.label.now c.in-Node.children.now c.args.i c.in-Node.ensures c.requires in
-    get_within c.in-Node.children.now (c.args.i + 1) r.second r.next
+    slice_get_within c.in-Node.children.now (c.args.i + 1) r.second r.next
 
 pub join_pair-requires : goal.join_pair-requires
 join_pair-requires g c =
@@ -28,7 +28,7 @@ join_pair-requires g c =
 pub spliced-requires-clause-there : goal.spliced-requires-clause-there
 spliced-requires-clause-there g c =
     let r = node_joined c.args.s.now c.in-Node.label.now c.in-Node.children.now c.args.i c.in-Node.ensures c.requires in
-    let within = get_within c.in-Node.children.now (c.args.i + 1) r.second r.next in
+    let within = slice_get_within c.in-Node.children.now (c.args.i + 1) r.second r.next in
     omega arith
 
 pub node_of-requires : goal.node_of-requires

@@ -1,13 +1,13 @@
 use Rattle.std.proofs.Common.{◌≡◌, ◌+◌, ◌++◌, ◌∷◌, [], take, drop, ap, ◌∙◌, append_assoc, arith}
+use Rattle.std.proofs.lemmas.Option.{slice_get_within}
 use Rattle.tx_mod.specs.Mods.{before, behind}
 use Rattle.tx_mod.proofs.Remade.{node_split, found_same, items_within, node_is, made_ok}
 use Rattle.tx_mod.proofs.remaking.split.Goals as goal
-use Rattle.tx_mod.proofs.Lists.{get_within}
 
 pub bounds-children-i : goal.bounds-children-i
 bounds-children-i g c =
     let r = node_split c.args.s.now c.in-Node.label.now c.in-Node.children.now c.args.i c.args.j c.in-Node.ensures c.requires in
-    get_within c.in-Node.children.now c.args.i r.child r.found
+    slice_get_within c.in-Node.children.now c.args.i r.child r.found
 
 pub front-requires-clause-there : goal.front-requires-clause-there
 front-requires-clause-there g c =
@@ -36,7 +36,7 @@ back-requires-clause-clean g c =
 pub spliced-requires-clause-there : goal.spliced-requires-clause-there
 spliced-requires-clause-there g c =
     let r = node_split c.args.s.now c.in-Node.label.now c.in-Node.children.now c.args.i c.args.j c.in-Node.ensures c.requires in
-    let within = get_within c.in-Node.children.now c.args.i r.child r.found in
+    let within = slice_get_within c.in-Node.children.now c.args.i r.child r.found in
     omega arith
 
 pub node_of-requires : goal.node_of-requires

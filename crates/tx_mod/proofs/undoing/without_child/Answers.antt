@@ -1,5 +1,5 @@
 use Rattle.std.proofs.Common.{◌+◌, take, drop, arith}
-use Rattle.tx_mod.proofs.Lists.{get_within}
+use Rattle.std.proofs.lemmas.Option.{slice_get_within}
 use Rattle.tx_mod.proofs.Remade.{node_unwrapped, nil_between, same_ok}
 use Rattle.tx_mod.proofs.Undone.{taken_within, without_is}
 use Rattle.tx_mod.proofs.undoing.without_child.Goals as goal
@@ -7,7 +7,7 @@ use Rattle.tx_mod.proofs.undoing.without_child.Goals as goal
 pub spliced-requires-clause-there : goal.spliced-requires-clause-there
 spliced-requires-clause-there g c =
     let r = node_unwrapped c.args.s.now c.in-Node.label.now c.in-Node.children.now c.args.i c.in-Node.ensures c.requires in
-    let within = get_within c.in-Node.children.now c.args.i r.0 r.1 in
+    let within = slice_get_within c.in-Node.children.now c.args.i r.0 r.1 in
     omega arith
 
 pub node_of-requires : goal.node_of-requires
