@@ -26,7 +26,7 @@ unfolding path_step
 digit_step finished k v b h lt le = grind arith
 
 -- digits only make a number greater
-number_grows : (v : ℕ) (digits : List ℕ) → v ≤ number_after v digits
+pub number_grows : (v : ℕ) (digits : List ℕ) → v ≤ number_after v digits
 number_grows v [] = omega arith
 number_grows v (b ∷ digits) = omega (arith, number_grows (v * 10 + (b - 48)) digits)
 
@@ -107,7 +107,7 @@ numbers_snoc [] before digits n h k = subst (λ x. AreNumbers (x ++ 47 ∷ digit
 numbers_snoc (m ∷ path) before digits n h k =
     (h.0, h.1 ++ 47 ∷ digits, h.2, ap (λ x. x ++ 47 ∷ digits) h.3 ∙ ap (λ x. 47 ∷ x) (append_assoc h.0 h.1 (47 ∷ digits)), numbers_snoc path h.1 digits n h.4 k)
 
-number_after-append : (v : ℕ) (x y : List ℕ) → number_after v (x ++ y) ≡ number_after (number_after v x) y
+pub number_after-append : (v : ℕ) (x y : List ℕ) → number_after v (x ++ y) ≡ number_after (number_after v x) y
 number_after-append v [] y = refl
 number_after-append v (b ∷ x) y = number_after-append (v * 10 + (b - 48)) x y
 

@@ -36,7 +36,7 @@ offset_has_no_fault (node label ts) o (BadPlace n) h k = omega (arith, h, k.0)
 offset_has_no_fault (leaf text) o (CutsSymbol n) h k = k.1 h
 offset_has_no_fault (node label ts) o (CutsSymbol n) h k = k
 
-items_append : (x y : List Item) → AllByRecursion IsItem x → AllByRecursion IsItem y → AllByRecursion IsItem (x ++ y)
+pub items_append : (x y : List Item) → AllByRecursion IsItem x → AllByRecursion IsItem y → AllByRecursion IsItem (x ++ y)
 items_append [] y h k = k
 items_append (i ∷ x) y h k = (h.0, items_append x y h.1 k)
 

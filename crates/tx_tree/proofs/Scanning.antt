@@ -64,7 +64,7 @@ text_run-append (b ∷ x) y (Some p) = text_run-append x y (text_step p b)
 
 -- ---- what is read is a text
 
-all_snoc : (P : ℕ → Type 0) (a : List ℕ) (x : ℕ) → AllByRecursion P a → P x → AllByRecursion P (a ++ x ∷ [])
+pub all_snoc : (P : ℕ → Type 0) (a : List ℕ) (x : ℕ) → AllByRecursion P a → P x → AllByRecursion P (a ++ x ∷ [])
 all_snoc P [] x h k = (k, tt)
 all_snoc P (y ∷ a) x h k = (h.0, all_snoc P a x h.1 k)
 
