@@ -22,3 +22,4 @@ pub mod Placing
 pub mod Replied
 pub mod Plainly
 pub mod SameFiles
+pub mod InASession

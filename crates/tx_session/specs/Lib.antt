@@ -25,3 +25,4 @@ pub mod Outcomes
 pub mod Openings
 pub mod Runs
 pub mod Playing
+pub mod Savings

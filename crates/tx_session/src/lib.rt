@@ -23,7 +23,7 @@ mod view;
 pub use limits::script_limit_law;
 pub use replies::replies_tell_marks;
 pub use runs::{failures_counted, one_outcome, one_run, run};
-pub use saving::{saved_opens_again, saved_spells_alone};
+pub use saving::{saved_in_a_session, saved_opens_again, saved_spells_alone};
 pub use session::{Next, Session};
 pub use status::Status;
 pub use view::{one_showing, pages_hold_lines};

@@ -1,12 +1,19 @@
 // The file of a tree, and saving it.
-ghost use Rattle.std.specs.Prelude.{◌≡◌, ◌≢◌, ℕ, List, true, length, IfOk, Some, None};
+ghost use Rattle.std.specs.Prelude.{◌≡◌, ◌≢◌, ◌⊎◌, ◌∷◌, ◌++◌, ℕ, List, Option, true, length, IfOk, Some, None};
 ghost use Rattle.tx_outside.specs.Files.{Files, file_of};
 ghost use Rattle.tx_session.specs.Forms.{has_text_in, saving, text_in, SpellsAloneIn, writes};
 ghost use Rattle.tx_session.specs.Lines.{line};
 ghost use Rattle.tx_session.specs.Outcomes.{Outcome, opened, ComesTo, Asks, IsDecided};
 ghost use Rattle.tx_session.specs.Saves.{IsKeepReply, IsSaveReply};
 ghost use Rattle.tx_session.specs.States.{file_saved};
-ghost use Rattle.tx_session.specs.Worlds.{stored};
+ghost use Rattle.tx_session.specs.Worlds.{World, Stored, Mark, plain, stored};
+ghost use Rattle.tx_session.specs.Savings.{IsSavedAlone, IsNotSaved, StandsAmong};
+ghost use Rattle.tx_session.specs.Scripts.{Answered, command_line};
+ghost use Rattle.tx_session.specs.Replies.{IsLineReply};
+ghost use Rattle.tx_session.specs.Runs.{start_of};
+ghost use Rattle.tx_cmd.specs.Commands.{IsCommand};
+ghost use Rattle.tx_cmd.specs.declared.command.Command.{Command};
+ghost use Rattle.tx_doc.specs.Buffers.{document_of};
 ghost use Rattle.tx_session.specs.Storing.{GoesOn};
 ghost use Rattle.tx_tree.specs.WideTree.{WideTree};
 ghost use Rattle.tx_tree.specs.Limits.{IsWellFormed, IsWithinLimits};
@@ -112,4 +119,20 @@ pub fn saved_opens_again()
         → IsWithinLimits t → saving (form_of name) t ≡ writes bytes
         → Asks words name → file_of all name ≡ Some bytes → ComesTo words (Some all) o → IsDecided o
         → o ≡ opened name t }
+{}
+
+/// A law: what the lines `save` of a session leave, whatever its lines are. `among`: each of the lines that were answered has
+/// its place among them. `saved`: in a session of a file that was opened, a line `save` at which neither memory nor the store
+/// failed leaves a file that spells the present document and no other, or the store as it was, with the reason.
+pub fn saved_in_a_session()
+    ensures among { (start : World) (before : List (List ℕ)) (one : List ℕ) (behind : List (List ℕ)) (marks : List Mark)
+        (last : World) (text : List ℕ) → Answered start (before ++ one ∷ behind) marks last text →
+        StandsAmong start before one behind marks last text }
+    ensures saved { (words : List (List ℕ)) (files : Option Files) (file : List ℕ) (t : WideTree) (first : Stored) →
+        ComesTo words files (opened file t) → (lines : List (List ℕ)) (marks : List Mark) (seen : World) (done : List ℕ) →
+        Answered (record { session = start_of file t; store = first }) lines marks seen done →
+        (one name reply : List ℕ) (next : World) → IsCommand (command_line one) (Command.Save name) →
+        IsLineReply seen (command_line one) plain next reply →
+        IsSavedAlone name (document_of seen.session.state.buffers) seen.store next.store reply
+        ⊎ IsNotSaved seen.store next.store reply }
 {}

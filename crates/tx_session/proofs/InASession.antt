@@ -1,0 +1,237 @@
+-- Every buffer of a session is well formed, at present and at each moment that is kept.
+use Rattle.std.proofs.Common.{◌≡◌, ◌⊎◌, inl, inr, ℕ, zero, suc, ◌≤◌, ◌<◌, Bool, true, false, List, [], ◌∷◌, ◌++◌, length, set, take, Option, Some, None, Result, Ok, Err, refl, sym, ap, subst, ◌∙◌, append_assoc, arith}
+use Rattle.std.specs.Prelude.{◌≢◌, slice_get, slice_set, codes, nat_le, if◌then◌else◌}
+use Rattle.std.specs.List.{AllByRecursion}
+use Rattle.std.specs.Option.{option_map_or}
+use Rattle.tx_outside.specs.Files.{Files}
+use Rattle.tx_outside.specs.declared.file_store.TheConstants.{MOST_FILE}
+use Rattle.tx_tree.specs.Limits.{IsWellFormed, IsWithinLimits}
+use Rattle.tx_tree.specs.WideTree.{WideTree, leaf}
+use Rattle.tx_scm.proofs.Spelled.{well_formed}
+use Rattle.tx_tm_form.proofs.Formed.{spelled_tree}
+use Rattle.tx_mod.specs.declared.faults.ModFault.{ModFault}
+use Rattle.tx_mod.specs.declared.mods.Mod.{Mod}
+use Rattle.tx_mod.specs.declared.mods.Mod.TheVariants.{Assign, Insert, Remove, Split, Join, AssignNode, InsertNode, RemoveNode}
+use Rattle.tx_mod.specs.Changes.{Outcome as Changed, changed}
+use Rattle.tx_mod.specs.InTurn.{changed_in_turn}
+use Rattle.tx_mod.specs.Mods.{path_of}
+use Rattle.tx_mod.specs.Sound.{IsSound}
+use Rattle.tx_mod.proofs.InTurn.{can_be_undone}
+use Rattle.tx_doc.specs.declared.buffer.Buffer.{Buffer}
+use Rattle.tx_doc.specs.declared.forms.Form.{Form}
+use Rattle.tx_doc.specs.declared.forms.Form.TheVariants.{Tm, Scheme}
+use Rattle.tx_doc.specs.Buffers.{tree_of, with_tree, document_of, AreFormed}
+use Rattle.tx_doc.specs.Forms.{form_of}
+use Rattle.tx_state.specs.States.{State, KeptEdit, present}
+use Rattle.tx_state.specs.Edits.{edited_to, with_outcome, back_to, on_to, cursor_after}
+use Rattle.tx_state.specs.declared.TheConstants.{MOST_UNDO}
+use Rattle.tx_state.specs.declared.edits.Edit.{Edit}
+use Rattle.tx_cmd.specs.declared.command.Command.{Command}
+use Rattle.tx_cmd.specs.declared.command.Command.TheVariants.{Change, Undo, Redo, Go, Cursor, Show, Tree, Save, Quit}
+use Rattle.tx_cmd.specs.Commands.{IsCommand}
+use Rattle.tx_session.specs.Causes.{numbered}
+use Rattle.tx_session.specs.Forms.{Saving, no_form, file_long, writes, fitting, saving, has_text_in, text_in, SpellsIn, SpellsAloneIn}
+use Rattle.tx_session.specs.Lines.{line}
+use Rattle.tx_session.specs.Outcomes.{opened, ComesTo}
+use Rattle.tx_session.specs.Replies.{Reading, nothing, too_long, unread, command, faulty, IsRead, IsReply, IsReplyTo, IsRefusal, IsLineReply, IsDone}
+use Rattle.tx_session.specs.Runs.{start_of}
+use Rattle.tx_session.specs.Savings.{IsSavedAlone, IsNotSaved, StandsAmong}
+use Rattle.tx_session.specs.Scripts.{Answered, command_line}
+use Rattle.tx_session.specs.States.{IsAnswer, IsEditAnswer, IsStepAnswer, document_edit, save_reply, file_saved}
+use Rattle.tx_session.specs.Worlds.{World, Stored, Stores, Mark, plain, lacking, unsaved}
+use Rattle.tx_session.proofs.Determined.{one_reading, was_read}
+use Rattle.tx_session.proofs.Saved.{saved_alone}
+
+abbrev IsFormedTree : WideTree → Type 0
+IsFormedTree t = IsWellFormed t × IsWithinLimits t
+
+abbrev AreFormedAt : List KeptEdit → Type 0
+AreFormedAt = AllByRecursion (λ kept. AreFormed kept.moment.buffers)
+
+record IsFormed (s : State) : Type 0 where
+  now : AreFormed s.buffers
+  past : AreFormedAt s.past
+  future : AreFormedAt s.future
+
+-- ---- buffers
+
+tree_formed : (bs : List Buffer) (k : ℕ) → AreFormed bs → IsFormedTree (tree_of bs k)
+tree_formed [] k h = (cc, cc)
+tree_formed (b ∷ bs) zero h = h.0
+tree_formed (b ∷ bs) (suc k) h = tree_formed bs k h.1
+
+put_formed : (bs : List Buffer) (k : ℕ) (u : WideTree) → AreFormed bs → IsFormedTree u → AreFormed (with_tree bs k u)
+put_formed [] k u h f = tt
+put_formed (b ∷ bs) zero u h f = (f, h.1)
+put_formed (b ∷ bs) (suc k) u h f = by_found (slice_get bs k) refl
+  where
+    by_found : (o : Option Buffer) → slice_get bs k ≡ o → AreFormed (with_tree (b ∷ bs) (suc k) u)
+    by_found None e = subst (λ p. AreFormed (option_map_or (λ c. slice_set (b ∷ bs) (suc k) (record { name = c.name; tree = u })) p (b ∷ bs))) (sym e) h
+    by_found (Some c) e =
+        subst (λ p. AreFormed (option_map_or (λ c. slice_set (b ∷ bs) (suc k) (record { name = c.name; tree = u })) p (b ∷ bs))) (sym e)
+        (h.0, subst (λ p. AreFormed (option_map_or (λ c. slice_set bs k (record { name = c.name; tree = u })) p bs)) e (put_formed bs k u h.1 f))
+
+first_kept : (n : ℕ) (es : List KeptEdit) → AreFormedAt es → AreFormedAt (take n es)
+first_kept zero es h = tt
+first_kept (suc n) [] h = tt
+first_kept (suc n) (e ∷ es) h = (h.0, first_kept n es h.1)
+
+-- ---- commands
+
+-- the parts that a line puts in are well formed
+sound_change : (text : List ℕ) (m : Mod) → IsCommand text (Change m) → IsSound m
+sound_change text (Assign p t) h = well_formed h.1.1.3.0 t h.1.1.3.2.0
+sound_change text (Insert p i t) h = well_formed h.1.1.3.3.0 t h.1.1.3.3.2.0
+sound_change text (Remove p i n) h = tt
+sound_change text (Split p i j) h = tt
+sound_change text (Join p i) h = tt
+sound_change text (AssignNode p l) h = h.1.1.3.2.0
+sound_change text (InsertNode p i t) h = well_formed h.1.1.3.3.0 t h.1.1.3.3.2.0
+sound_change text (RemoveNode p i) h = tt
+
+edit_formed : (text : List ℕ) (m : Mod) (s next : State) (reply : List ℕ) (o : Changed) → IsCommand text (Change m) → IsFormed s
+    → changed_in_turn (m ∷ []) (document_of s.buffers) ≡ o → IsEditAnswer s (with_outcome (document_edit m) s o) next reply → IsFormed next
+edit_formed text m s next reply (Err cause) h f e a = subst IsFormed (sym a.0) f
+edit_formed text m s next reply (Ok u) h f e a =
+    let before : IsFormedTree (document_of s.buffers) = tree_formed s.buffers 0 f.now in
+    let r = can_be_undone (m ∷ []) (document_of s.buffers) u (sound_change text m h, tt) before.0 before.1 e in
+    let kept : List KeptEdit = record { moment = present s; buffer = 0; mods = m ∷ [] } ∷ s.past in
+    let made : IsFormed (edited_to 0 (m ∷ []) u (cursor_after (document_edit m) s) s) = record {
+      now = put_formed s.buffers 0 u f.now (r.formed, r.within);
+      past = first_kept MOST_UNDO kept (f.now, f.past);
+      future = tt;
+    } in
+    subst IsFormed (sym a.0) made
+
+undo_formed : (s next : State) (none reply : List ℕ) (past : List KeptEdit) → IsFormed s → AreFormedAt past
+    → IsStepAnswer s none (back_to s past) next reply → IsFormed next
+undo_formed s next none reply [] f h a = subst IsFormed (sym a.0) f
+undo_formed s next none reply (kept ∷ past) f h a = subst IsFormed (sym a.0) (record { now = h.0; past = h.1; future = (f.now, f.future) })
+
+redo_formed : (s next : State) (none reply : List ℕ) (future : List KeptEdit) → IsFormed s → AreFormedAt future
+    → IsStepAnswer s none (on_to s future) next reply → IsFormed next
+redo_formed s next none reply [] f h a = subst IsFormed (sym a.0) f
+redo_formed s next none reply (kept ∷ future) f h a = subst IsFormed (sym a.0) (record { now = h.0; past = (f.now, f.past); future = h.1 })
+
+-- ---- lines
+
+answer_formed : (text : List ℕ) (it : Command) (width height : ℕ) (s next : State) (reply : List ℕ) → IsCommand text it → IsFormed s
+    → IsAnswer width height s it next reply → IsFormed next
+answer_formed text (Change m) width height s next reply h f a = edit_formed text m s next reply (changed_in_turn (m ∷ []) (document_of s.buffers)) h f refl a
+answer_formed text Undo width height s next reply h f a = undo_formed s next (codes "no undo") reply s.past f f.past a
+answer_formed text Redo width height s next reply h f a = redo_formed s next (codes "no redo") reply s.future f f.future a
+answer_formed text (Go numbers) width height s next reply h f (inl a) =
+    subst IsFormed (sym a.0.4) (record { now = f.now; past = f.past; future = f.future })
+answer_formed text (Go numbers) width height s next reply h f (inr a) = subst IsFormed (sym a.3) f
+answer_formed text Cursor width height s next reply h f a = subst IsFormed (sym a.0) f
+answer_formed text Show width height s next reply h f a = subst IsFormed (sym a.0) f
+answer_formed text Tree width height s next reply h f a = subst IsFormed (sym a.0) f
+answer_formed text (Save name) width height s next reply h f a = subst IsFormed (sym a.0) f
+answer_formed text Quit width height s next reply h f a = subst IsFormed (sym a.0) f
+
+abbrev IsFormedWorld : World → Type 0
+IsFormedWorld world = IsFormed world.session.state
+
+same_formed : (before after : World) → after ≡ before → IsFormedWorld before → IsFormedWorld after
+same_formed before after e f = subst IsFormedWorld (sym e) f
+
+command_formed : (text : List ℕ) (it : Command) (before next : World) (mark : Mark) (reply : List ℕ) → IsCommand text it → IsFormedWorld before
+    → IsReply before it mark next reply → IsFormedWorld next
+command_formed text it before next plain reply h f a =
+    answer_formed text it before.session.width before.session.height before.session.state next.session.state reply h f a.answer
+command_formed text it before next lacking reply h f a = subst (λ x. IsFormed x.state) (sym a.1) f
+command_formed text it before next unsaved reply h f a = subst (λ x. IsFormed x.state) (sym a.3) f
+
+refusal_formed : (before next : World) (text : List ℕ) (mark : Mark) (reply : List ℕ) → IsFormedWorld before → IsRefusal before text mark next reply → IsFormedWorld next
+refusal_formed before next text plain reply f a = same_formed before next a.0 f
+refusal_formed before next text lacking reply f a = same_formed before next a.0 f
+refusal_formed before next text unsaved reply f a = absurd a
+
+reply_formed : (text : List ℕ) (reading : Reading) (before next : World) (mark : Mark) (reply : List ℕ) → IsRead text reading → IsFormedWorld before
+    → IsReplyTo before reading mark next reply → IsFormedWorld next
+reply_formed text nothing before next mark reply h f a = same_formed before next a.1 f
+reply_formed text (too_long count) before next mark reply h f a = refusal_formed before next _ mark reply f a
+reply_formed text unread before next mark reply h f a = same_formed before next a.1 f
+reply_formed text (command it) before next mark reply h f a = command_formed text it before next mark reply h.1 f a.1
+reply_formed text (faulty cause) before next mark reply h f a = refusal_formed before next _ mark reply f a
+
+lines_formed : (before last : World) (lines : List (List ℕ)) (marks : List Mark) (text : List ℕ) → IsFormedWorld before
+    → Answered before lines marks last text → IsFormedWorld last
+lines_formed before last [] [] text f a = same_formed before last a.0 f
+lines_formed before last [] (mark ∷ marks) text f a = absurd a
+lines_formed before last (one ∷ lines) [] text f a = absurd a
+lines_formed before last (one ∷ lines) (mark ∷ marks) text f a =
+    let next : World = a.0 in
+    let replied = a.3 in
+    lines_formed next last lines marks a.2 (reply_formed (command_line one) replied.0 before next mark a.1 replied.1 f replied.2) a.4
+
+-- ---- saving
+
+-- the line of a command is one that is asked
+read_as : (text name : List ℕ) → IsCommand text (Save name) → IsRead text (command (Save name))
+read_as text name h = ((not_empty, h.0), h)
+  where
+    not_empty : text ≢ []
+    not_empty e = let whole : [] ≡ codes "save" ++ h.1.0 = sym e ∙ h.1.2 in absurd cc
+
+opened_formed : (form : Form) (bytes : List ℕ) (t : WideTree) → SpellsIn form bytes t → IsWellFormed t
+opened_formed Scheme bytes t h = well_formed bytes t h
+opened_formed Tm bytes t h = spelled_tree bytes t h
+
+start_formed : (file : List ℕ) (t : WideTree) → IsFormedTree t → IsFormed (start_of file t).state
+start_formed file t f = record { now = (f, tt); past = tt; future = tt }
+
+long_file : (bytes : List ℕ) (b : Bool) → nat_le (length bytes) MOST_FILE ≡ b → (n : ℕ) → (if b then writes bytes else file_long (length bytes)) ≡ file_long n → MOST_FILE < n
+long_file bytes true e n h = absurd cc
+long_file bytes false e n h = grind (arith, e, h)
+
+long_saving : (form : Form) (t : WideTree) (b : Bool) (n : ℕ) → (if b then fitting (line (text_in form t)) else no_form) ≡ file_long n → MOST_FILE < n
+long_saving form t true n h = long_file (line (text_in form t)) (nat_le (length (line (text_in form t))) MOST_FILE) refl n h
+long_saving form t false n h = absurd cc
+
+saved_so : (name : List ℕ) (t : WideTree) (before after : Stored) (reply : List ℕ) (x : Saving) → IsWellFormed t → saving (form_of name) t ≡ x
+    → reply ≡ save_reply x → Stores (file_saved name x) before after → IsSavedAlone name t before after reply ⊎ IsNotSaved before after reply
+saved_so name t before after reply no_form f e r s = inr (s, inl r)
+saved_so name t before after reply (file_long n) f e r s = inr (s, inr (n, long_saving (form_of name) t (has_text_in (form_of name) t) n e, r))
+saved_so name t before after reply (writes bytes) f e r s =
+    inl (record { bytes = bytes; alone = saved_alone (form_of name) t bytes f e; said = r; kept = s.0 })
+
+-- a line `save` of a formed session
+save_line : (text name : List ℕ) (reading : Reading) (before next : World) (reply : List ℕ) → reading ≡ command (Save name) → IsFormedWorld before
+    → IsReplyTo before reading plain next reply
+    → IsSavedAlone name (document_of before.session.state.buffers) before.store next.store reply ⊎ IsNotSaved before.store next.store reply
+save_line text name reading before next reply e f a =
+    let done : (command (Save name) ≡ command (Save name)) × IsReply before (Save name) plain next reply = (refl, (subst (λ r. IsReplyTo before r plain next reply) e a).1) in
+    let t : WideTree = document_of before.session.state.buffers in
+    saved_so name t before.store next.store reply (saving (form_of name) t) (tree_formed before.session.state.buffers 0 f.now).0 refl done.1.answer.1 done.1.stored
+
+pub saves_alone : (words : List (List ℕ)) (files : Option Files) (file : List ℕ) (t : WideTree) (first : Stored) → ComesTo words files (opened file t)
+    → (lines : List (List ℕ)) (marks : List Mark) (seen : World) (done : List ℕ)
+    → Answered (record { session = start_of file t; store = first }) lines marks seen done
+    → (one name reply : List ℕ) (next : World) → IsCommand (command_line one) (Save name) → IsLineReply seen (command_line one) plain next reply
+    → IsSavedAlone name (document_of seen.session.state.buffers) seen.store next.store reply ⊎ IsNotSaved seen.store next.store reply
+saves_alone words files file t first opens lines marks seen done a one name reply next c r =
+    let spelled = opens.1 in
+    let formed : IsFormedTree t = (opened_formed (form_of file) spelled.0 t spelled.3, spelled.4) in
+    let now : IsFormedWorld seen = lines_formed (record { session = start_of file t; store = first }) seen lines marks done (start_formed file t formed) a in
+    let asked : IsRead (command_line one) (command (Save name)) = read_as (command_line one) name c in
+    let is : r.0 ≡ command (Save name) = one_reading (command_line one) r.0 (command (Save name)) (was_read seen r.0 plain next reply tt r.2) cc r.1 asked in
+    save_line (command_line one) name r.0 seen next reply is now r.2
+
+-- one line among others
+pub stands_among : (start : World) (before : List (List ℕ)) (one : List ℕ) (behind : List (List ℕ)) (marks : List Mark) (last : World) (text : List ℕ)
+    → Answered start (before ++ one ∷ behind) marks last text → StandsAmong start before one behind marks last text
+stands_among start [] one behind [] last text a = absurd a
+stands_among start [] one behind (mark ∷ marks) last text a = record {
+    marks_before = []; mark = mark; marks_behind = marks; seen = start; next = a.0; done = []; reply = a.1; rest = a.2;
+    answered = (refl, refl); replied = a.3; others = a.4; marked = refl; written = a.5;
+  }
+stands_among start (two ∷ before) one behind [] last text a = absurd a
+stands_among start (two ∷ before) one behind (mark ∷ marks) last text a =
+    let r = stands_among a.0 before one behind marks last a.2 a.4 in record {
+      marks_before = mark ∷ r.marks_before; mark = r.mark; marks_behind = r.marks_behind; seen = r.seen; next = r.next;
+      done = a.1 ++ r.done; reply = r.reply; rest = r.rest;
+      answered = (a.0, a.1, r.done, a.3, r.answered, refl); replied = r.replied; others = r.others;
+      marked = ap (λ ms. mark ∷ ms) r.marked;
+      written = a.5 ∙ ap (λ x. a.1 ++ x) r.written ∙ sym (append_assoc a.1 r.done (r.reply ++ r.rest));
+    }
