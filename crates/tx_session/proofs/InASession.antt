@@ -223,15 +223,34 @@ pub stands_among : (start : World) (before : List (List ℕ)) (one : List ℕ) (
     → Answered start (before ++ one ∷ behind) marks last text → StandsAmong start before one behind marks last text
 stands_among start [] one behind [] last text a = absurd a
 stands_among start [] one behind (mark ∷ marks) last text a = record {
-    marks_before = []; mark = mark; marks_behind = marks; seen = start; next = a.0; done = []; reply = a.1; rest = a.2;
-    answered = (refl, refl); replied = a.3; others = a.4; marked = refl; written = a.5;
-  }
+  marks_before = [];
+  mark = mark;
+  marks_behind = marks;
+  seen = start;
+  next = a.0;
+  done = [];
+  reply = a.1;
+  rest = a.2;
+  answered = (refl, refl);
+  replied = a.3;
+  others = a.4;
+  marked = refl;
+  written = a.5;
+}
 stands_among start (two ∷ before) one behind [] last text a = absurd a
 stands_among start (two ∷ before) one behind (mark ∷ marks) last text a =
     let r = stands_among a.0 before one behind marks last a.2 a.4 in record {
-      marks_before = mark ∷ r.marks_before; mark = r.mark; marks_behind = r.marks_behind; seen = r.seen; next = r.next;
-      done = a.1 ++ r.done; reply = r.reply; rest = r.rest;
-      answered = (a.0, a.1, r.done, a.3, r.answered, refl); replied = r.replied; others = r.others;
+      marks_before = mark ∷ r.marks_before;
+      mark = r.mark;
+      marks_behind = r.marks_behind;
+      seen = r.seen;
+      next = r.next;
+      done = a.1 ++ r.done;
+      reply = r.reply;
+      rest = r.rest;
+      answered = (a.0, a.1, r.done, a.3, r.answered, refl);
+      replied = r.replied;
+      others = r.others;
       marked = ap (λ ms. mark ∷ ms) r.marked;
       written = a.5 ∙ ap (λ x. a.1 ++ x) r.written ∙ sym (append_assoc a.1 r.done (r.reply ++ r.rest));
     }

@@ -121,15 +121,17 @@ pub fn saved_opens_again()
         → o ≡ opened name t }
 {}
 
-/// A law: what the lines `save` of a session leave, whatever its lines are. `among`: each of the lines that were answered has
-/// its place among them. `saved`: in a session of a file that was opened, a line `save` at which neither memory nor the store
-/// failed leaves a file that spells the present document and no other, or the store as it was, with the reason.
+/// A law: what the lines `save` of a session leave, whatever its lines are. `among`: each of the lines that were
+/// answered has its place among them. `saved`: in a session of a file that was opened, a line `save` at which neither
+/// memory nor the store failed leaves a file that spells the present document and no other, or the store as it was,
+/// with the reason.
 pub fn saved_in_a_session()
     ensures among { (start : World) (before : List (List ℕ)) (one : List ℕ) (behind : List (List ℕ)) (marks : List Mark)
         (last : World) (text : List ℕ) → Answered start (before ++ one ∷ behind) marks last text →
         StandsAmong start before one behind marks last text }
     ensures saved { (words : List (List ℕ)) (files : Option Files) (file : List ℕ) (t : WideTree) (first : Stored) →
-        ComesTo words files (opened file t) → (lines : List (List ℕ)) (marks : List Mark) (seen : World) (done : List ℕ) →
+        ComesTo words files (opened file t) →
+        (lines : List (List ℕ)) (marks : List Mark) (seen : World) (done : List ℕ) →
         Answered (record { session = start_of file t; store = first }) lines marks seen done →
         (one name reply : List ℕ) (next : World) → IsCommand (command_line one) (Command.Save name) →
         IsLineReply seen (command_line one) plain next reply →
