@@ -7,6 +7,7 @@ use Rattle.tx_outside.specs.Files.{Files}
 use Rattle.tx_outside.specs.declared.file_store.TheConstants.{MOST_FILE}
 use Rattle.tx_tree.specs.Limits.{IsWellFormed, IsWithinLimits}
 use Rattle.tx_tree.specs.WideTree.{WideTree, leaf}
+use Rattle.tx_tree.proofs.Scanning.{no_bytes}
 use Rattle.tx_scm.proofs.Spelled.{well_formed}
 use Rattle.tx_tm_form.proofs.Formed.{spelled_tree}
 use Rattle.tx_mod.specs.declared.faults.ModFault.{ModFault}
@@ -55,21 +56,30 @@ record IsFormed (s : State) : Type 0 where
 
 -- ---- buffers
 
+-- the empty text stands where there is no buffer
+nothing_formed : IsFormedTree (leaf [])
+nothing_formed = (no_bytes, record { text = omega arith; arity = omega arith; depth = omega arith; size = omega arith })
+
 tree_formed : (bs : List Buffer) (k : ℕ) → AreFormed bs → IsFormedTree (tree_of bs k)
-tree_formed [] k h = (cc, cc)
+tree_formed [] zero h = nothing_formed
+tree_formed [] (suc k) h = nothing_formed
 tree_formed (b ∷ bs) zero h = h.0
 tree_formed (b ∷ bs) (suc k) h = tree_formed bs k h.1
 
+-- the buffers, with the tree u where one of them was found
+abbrev put_where : List Buffer → ℕ → WideTree → Option Buffer → List Buffer
+put_where bs k u found = option_map_or (λ c. slice_set bs k (record { name = c.name; tree = u })) found bs
+
+put_behind : (b : Buffer) (bs : List Buffer) (k : ℕ) (u : WideTree) (found : Option Buffer)
+    → AreFormed (b ∷ bs) → AreFormed (put_where bs k u found) → AreFormed (put_where (b ∷ bs) (suc k) u found)
+put_behind b bs k u None h rest = h
+put_behind b bs k u (Some c) h rest = (h.0, rest)
+
 put_formed : (bs : List Buffer) (k : ℕ) (u : WideTree) → AreFormed bs → IsFormedTree u → AreFormed (with_tree bs k u)
-put_formed [] k u h f = tt
+put_formed [] zero u h f = tt
+put_formed [] (suc k) u h f = tt
 put_formed (b ∷ bs) zero u h f = (f, h.1)
-put_formed (b ∷ bs) (suc k) u h f = by_found (slice_get bs k) refl
-  where
-    by_found : (o : Option Buffer) → slice_get bs k ≡ o → AreFormed (with_tree (b ∷ bs) (suc k) u)
-    by_found None e = subst (λ p. AreFormed (option_map_or (λ c. slice_set (b ∷ bs) (suc k) (record { name = c.name; tree = u })) p (b ∷ bs))) (sym e) h
-    by_found (Some c) e =
-        subst (λ p. AreFormed (option_map_or (λ c. slice_set (b ∷ bs) (suc k) (record { name = c.name; tree = u })) p (b ∷ bs))) (sym e)
-        (h.0, subst (λ p. AreFormed (option_map_or (λ c. slice_set bs k (record { name = c.name; tree = u })) p bs)) e (put_formed bs k u h.1 f))
+put_formed (b ∷ bs) (suc k) u h f = put_behind b bs k u (slice_get bs k) h (put_formed bs k u h.1 f)
 
 first_kept : (n : ℕ) (es : List KeptEdit) → AreFormedAt es → AreFormedAt (take n es)
 first_kept zero es h = tt
