@@ -132,7 +132,7 @@ answer_formed text Undo width height s next reply h f a = undo_formed s next (co
 answer_formed text Redo width height s next reply h f a = redo_formed s next (codes "no redo") reply s.future f f.future a
 answer_formed text (Go numbers) width height s next reply h f (inl a) =
     subst IsFormed (sym a.0.4) (record { now = f.now; past = f.past; future = f.future })
-answer_formed text (Go numbers) width height s next reply h f (inr a) = subst IsFormed (sym a.3) f
+answer_formed text (Go numbers) width height s next reply h f (inr a) = subst IsFormed (sym a.2) f
 answer_formed text Cursor width height s next reply h f a = subst IsFormed (sym a.0) f
 answer_formed text Show width height s next reply h f a = subst IsFormed (sym a.0) f
 answer_formed text Tree width height s next reply h f a = subst IsFormed (sym a.0) f
@@ -182,7 +182,10 @@ read_as : (text name : List ℕ) → IsCommand text (Save name) → IsRead text 
 read_as text name h = ((not_empty, h.0), h)
   where
     not_empty : text ≢ []
-    not_empty e = let whole : [] ≡ codes "save" ++ h.1.0 = sym e ∙ h.1.2 in absurd cc
+    not_empty e = let count : 0 ≡ 4 + length h.1.0 = ap length (sym e ∙ h.1.2) in absurd (omega (arith, count))
+
+not_unread : (it : Command) → command it ≢ unread
+not_unread it e = cc
 
 opened_formed : (form : Form) (bytes : List ℕ) (t : WideTree) → SpellsIn form bytes t → IsWellFormed t
 opened_formed Scheme bytes t h = well_formed bytes t h
@@ -191,9 +194,18 @@ opened_formed Tm bytes t h = spelled_tree bytes t h
 start_formed : (file : List ℕ) (t : WideTree) → IsFormedTree t → IsFormed (start_of file t).state
 start_formed file t f = record { now = (f, tt); past = tt; future = tt }
 
-long_file : (bytes : List ℕ) (b : Bool) → nat_le (length bytes) MOST_FILE ≡ b → (n : ℕ) → (if b then writes bytes else file_long (length bytes)) ≡ file_long n → MOST_FILE < n
+count_in : Saving → ℕ
+count_in no_form = 0
+count_in (file_long n) = n
+count_in (writes bytes) = 0
+
+past : (n : ℕ) → nat_le n MOST_FILE ≡ false → MOST_FILE < n
+past n e = grind arith
+
+long_file : (bytes : List ℕ) (b : Bool) → nat_le (length bytes) MOST_FILE ≡ b → (n : ℕ)
+    → (if b then writes bytes else file_long (length bytes)) ≡ file_long n → MOST_FILE < n
 long_file bytes true e n h = absurd cc
-long_file bytes false e n h = grind (arith, e, h)
+long_file bytes false e n h = subst (λ m. MOST_FILE < m) (ap count_in h) (past (length bytes) e)
 
 long_saving : (form : Form) (t : WideTree) (b : Bool) (n : ℕ) → (if b then fitting (line (text_in form t)) else no_form) ≡ file_long n → MOST_FILE < n
 long_saving form t true n h = long_file (line (text_in form t)) (nat_le (length (line (text_in form t))) MOST_FILE) refl n h
@@ -225,7 +237,7 @@ saves_alone words files file t first opens lines marks seen done a one name repl
     let formed : IsFormedTree t = (opened_formed (form_of file) spelled.0 t spelled.3, spelled.4) in
     let now : IsFormedWorld seen = lines_formed (record { session = start_of file t; store = first }) seen lines marks done (start_formed file t formed) a in
     let asked : IsRead (command_line one) (command (Save name)) = read_as (command_line one) name c in
-    let is : r.0 ≡ command (Save name) = one_reading (command_line one) r.0 (command (Save name)) (was_read seen r.0 plain next reply tt r.2) cc r.1 asked in
+    let is : r.0 ≡ command (Save name) = one_reading (command_line one) r.0 (command (Save name)) (was_read seen r.0 plain next reply tt r.2) (not_unread (Save name)) r.1 asked in
     save_line (command_line one) name r.0 seen next reply is now r.2
 
 -- one line among others
