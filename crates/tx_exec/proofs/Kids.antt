@@ -9,6 +9,8 @@ use Rattle.tx_origin.proofs.Kids.{kid_count}
 use Rattle.tx_exec_form.specs.Frames.{Frame}
 use Rattle.tx_exec_form.specs.Rows.{Eval}
 use Rattle.tx_exec.specs.PartRuns.{run_in, kid_run}
+use Rattle.tx_origin.proofs.Wholes.{plain_whole}
+use Rattle.std.proofs.lemmas.Grind.{common_steps}
 
 pub past_none : {A : Type 0} (xs : List A) (i : ℕ) → slice_get xs i ≡ None → length xs ≤ i
 past_none [] i e = omega arith
@@ -28,3 +30,7 @@ pub kid_run_is : (below : Eval) (f : Frame) (kids : List TaggedTree) (i : ℕ) (
     → kid_run below f kids i ≡ below t f
 unfolding kid_run
 kid_run_is below f kids i t h = ap (run_in below f) h
+
+pub ruleset kid_rules = (few_kids, common_steps)
+
+pub ruleset whole_rules = (plain_whole, common_steps)

@@ -12,6 +12,8 @@ use Rattle.tx_exec_form.specs.Rows.{Sets, set_all, kept_of}
 use Rattle.tx_exec.specs.Settings.{sets_of, held_of, nodes_in}
 use Rattle.tx_exec.specs.declared.withs.Setting.{Setting}
 use Rattle.tx_exec.specs.declared.withs.Held.{Held}
+use Rattle.tx_exec_form.proofs.Small.{size_push, depth_push}
+use Rattle.std.proofs.lemmas.Grind.{common_steps}
 
 pub held_push : (hs : List Held) (h : Held) → held_of (hs ++ h ∷ []) ≡ held_of hs ++ (h.name, h.tree) ∷ []
 held_push [] h = refl
@@ -67,3 +69,14 @@ unfolding set_all
 set_none e s = refl
 
 pub ruleset set_rules = (set_next, set_none)
+
+pub two_more : (vs us ws : List WideValue) (u w : WideValue) → us ≡ vs ++ u ∷ [] → ws ≡ us ++ w ∷ [] → ws ≡ vs ++ u ∷ w ∷ []
+two_more vs us ws u w a b = b ∙ ap (λ zs. zs ++ w ∷ []) a ∙ by vs
+  where
+    by : (vs : List WideValue) → (vs ++ u ∷ []) ++ w ∷ [] ≡ vs ++ u ∷ w ∷ []
+    by [] = refl
+    by (v ∷ vs) = ap (λ zs. v ∷ zs) (by vs)
+
+pub ruleset pair_rules = (sets_more, nodes_more, two_more, common_steps)
+
+pub ruleset push_rules = (size_push, depth_push, common_steps)

@@ -9,6 +9,8 @@ use Rattle.tx_exec_form.specs.Frames.{Frame}
 use Rattle.tx_exec_form.specs.Rows.{Eval, wrong, assign, taken, quote, macro, only, only_child, arg, arg_of}
 use Rattle.tx_exec_form.specs.declared.rows.Unary.{Unary}
 use Rattle.tx_exec_form.specs.declared.rows.Taking.{Taking}
+use Rattle.tx_origin.proofs.Wholes.{plain_whole}
+use Rattle.std.proofs.lemmas.Grind.{common_steps}
 
 pub not_two : (k : ℕ) (below : Eval) (f : Frame) (label : List ℕ) (at : Option (List ℕ)) (ts : List TaggedTree) → (length ts ≡ 2 → ⊥) → assign k below f label at ts ≡ wrong k (codes "bad") label
 not_two k below f label at [] n = refl
@@ -38,7 +40,7 @@ pub macro_some : (k : ℕ) (label : List ℕ) (t : TaggedTree) (ts : List Tagged
 macro_some k label t [] n = absurd (omega (arith, n))
 macro_some k label t (x ∷ ts) n = refl
 
-pub ruleset macro_rules = (macro_none, macro_some)
+pub ruleset macro_rules = (macro_none, macro_some, plain_whole, common_steps)
 
 pub only_one : (unary : Unary) (k : ℕ) (below : Eval) (f : Frame) (label : List ℕ) (ts : List TaggedTree) (x : TaggedTree) → length ts ≡ 1 → slice_get ts 0 ≡ Some x → only unary k below f label ts ≡ only_child unary k below f label x
 only_one unary k below f label [] x n a = absurd (omega (arith, n))

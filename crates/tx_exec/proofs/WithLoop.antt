@@ -22,6 +22,7 @@ use Rattle.tx_exec.specs.declared.withs.Setting.{Setting}
 use Rattle.tx_exec.specs.declared.withs.Pair.{Pair}
 use Rattle.tx_exec.proofs.Each.{stop_bind, fails_as}
 use Rattle.tx_exec.proofs.Kids.{there, kid_run_is}
+use Rattle.tx_exec.proofs.SettingLoops.{two_more}
 use Rattle.tx_exec_form.proofs.Small.{size_push, depth_push}
 
 pub odd_false : (ts : List TaggedTree) (n : ℕ) → length ts ≡ 2 * n → is_odd ts ≡ false
@@ -46,13 +47,6 @@ two_front : (ts : List TaggedTree) (i : ℕ) (x v : TaggedTree) → slice_get ts
 two_front ts i x v a b =
     let next : 2 * i + 1 + 1 ≡ 2 * (i + 1) = omega arith in
     drop_item ts (2 * i) x a ∙ ap (λ us. x ∷ us) (drop_item ts (2 * i + 1) v b) ∙ ap (λ n. x ∷ v ∷ drop n ts) next
-
-pub two_more : (vs us ws : List WideValue) (u w : WideValue) → us ≡ vs ++ u ∷ [] → ws ≡ us ++ w ∷ [] → ws ≡ vs ++ u ∷ w ∷ []
-two_more vs us ws u w a b = b ∙ ap (λ zs. zs ++ w ∷ []) a ∙ by vs
-  where
-    by : (vs : List WideValue) → (vs ++ u ∷ []) ++ w ∷ [] ≡ vs ++ u ∷ w ∷ []
-    by [] = refl
-    by (v ∷ vs) = ap (λ zs. v ∷ zs) (by vs)
 
 -- a name and what is behind it, at once
 module _ (k : ℕ) (label : List ℕ) (e : Before) (behind : Run WideValue) (go : Pair → Run WideValue) where
@@ -100,7 +94,7 @@ module _ (k : ℕ) (below : Eval) (f : Frame) (label : List ℕ) (at : Option (L
   further : Pair → Run WideValue
   further p =
       with_parts k below f label at (vs ++ p.name ∷ p.value ∷ []) (ps ++ (p.words, Some (plain p.value)) ∷ [])
-        (drop (2 * (i + 1)) ts)
+      (drop (2 * (i + 1)) ts)
 
   opened : r ≡ on_done e (paired k label further) (pair_run below f ts (2 * i) e s)
   unfolding further
@@ -177,6 +171,14 @@ with_last k below f label at vs ps ts n e s l =
     ap (λ us. with_parts k below f label at vs ps us e s) (drop_item ts (2 * n) b.0 b.1 ∙ ap (λ us. b.0 ∷ us) last)
     ∙ body_is below f label at vs ps ts (2 * n) b.0 e s b.1
 
+pub with_unpaid : (below : Eval) (f : Frame) (label : List ℕ) (at : Option (List ℕ)) (vs : List WideValue) (ps : Sets)
+    (ts : List TaggedTree) (i : ℕ) (e : Before) (s : State) (n : ℕ) (x : Stop) → n ≡ sizes ps → Fails x (pay n e s)
+    → Fails x (with_run below f label at vs ps ts i e s)
+unfolding with_run
+with_unpaid below f label at vs ps ts i e s n x hn h =
+    let rest : Unit {0} → Run WideValue = λ _. held_run below f ps ts i >>= ended label at vs in
+    fails_as x _ _ (ap (λ m. on_done e rest (pay m e s)) (sym hn)) (stop_bind x e rest (pay n e s) h)
+
 pub with_begun : (below : Eval) (f : Frame) (label : List ℕ) (at : Option (List ℕ)) (vs : List WideValue) (ps qs : Sets)
     (ts : List TaggedTree) (i : ℕ) (e : Before) (s s1 : State) (n : ℕ) → n ≡ sizes ps → qs ≡ ps → pay n e s ≡ Done tt s1
     → with_run below f label at vs ps ts i e s ≡ on_done e (ended label at vs) (held_run below f qs ts i e s1)
@@ -237,3 +239,5 @@ told_within vs ss sum count left start levels i h g =
 
 pub double_fits : (i pairs : ℕ) → i < pairs → pairs < 32768 → 2 * i + 1 < 65536
 double_fits i pairs a b = omega (arith, a, b)
+
+pub ruleset with_rules = (told_within, double_fits, common_steps)

@@ -41,7 +41,7 @@ impl Progress {
         requires left { self.old.left ≤ 1000000 }
         ensures gives { Gives (λ v. v) result
             (arg taking levels (ex (levels - 1)) (frame_in frame.entry) label.now (kids_of (tagged_of t.now))
-                (before_of env.now) (state_of self.old))
+            (before_of env.now) (state_of self.old))
             (state_of self.new) }
         ensures paid { Counts result (steps.old + self.old.left) (steps.new + self.new.left) }
     {
@@ -76,7 +76,7 @@ impl Progress {
         requires kids { 0 < length (kids_of (tagged_of t.now)) }
         ensures gives { Gives (λ v. v) result
             (arg_of taking levels (ex (levels - 1)) (frame_in frame.entry) label.now name.now
-                (drop 1 (kids_of (tagged_of t.now))) (before_of env.now) (state_of self.old))
+            (drop 1 (kids_of (tagged_of t.now))) (before_of env.now) (state_of self.old))
             (state_of self.new) }
         ensures paid { Counts result (steps.old + self.old.left) (steps.new + self.new.left) }
     {
@@ -120,8 +120,8 @@ impl Progress {
         requires kids { 0 < length (kids_of (tagged_of t.now)) }
         ensures gives { Gives (λ v. v) result
             (arg_part taking levels (ex (levels - 1)) (frame_in frame.entry) label.now name.now (tagged_of found.now)
-                (drop 1 (kids_of (tagged_of t.now)))
-                (before_of env.now) (state_of self.old))
+            (drop 1 (kids_of (tagged_of t.now)))
+            (before_of env.now) (state_of self.old))
             (state_of self.new) }
         ensures paid { Counts result (steps.old + self.old.left) (steps.new + self.new.left) }
     {
@@ -151,8 +151,8 @@ impl Progress {
         requires left { self.old.left ≤ 1000000 }
         ensures gives { Gives (λ v. v) result
             (numbered taking levels (ex (levels - 1)) (frame_in frame.entry) label.now name.now (tagged_of found.now)
-                (numbers_of values.now)
-                (before_of env.now) (state_of self.old))
+            (numbers_of values.now)
+            (before_of env.now) (state_of self.old))
             (state_of self.new) }
         ensures paid { Counts result (steps.old + self.old.left) (steps.new + self.new.left) }
     {
@@ -183,7 +183,7 @@ impl Progress {
         requires left { self.old.left ≤ 1000000 }
         ensures gives { Gives (λ v. v) result
             (used taking levels (ex (levels - 1)) (frame_in frame.entry) (tagged_of part.now)
-                (before_of env.now) (state_of self.old))
+            (before_of env.now) (state_of self.old))
             (state_of self.new) }
         ensures paid { Counts result (steps.old + self.old.left) (steps.new + self.new.left) }
     {

@@ -14,7 +14,7 @@ ghost use Rattle.tx_exec.specs.States.{state_of, before_of};
 use crate::frame::Call;
 use crate::progress::Progress;
 use crate::stop::Stop;
-use crate::withs::{Held, Pair, Parts, made_with, pairs_in, trees_of, words_of};
+use crate::withs::{Held, Pair, Parts, made_with, pairs_in, words_of};
 use std::alloc::Global;
 use std::sync::ledger::Ledger;
 use tx_base::Steps;
@@ -43,7 +43,7 @@ impl Progress {
         requires fits { first < 65535 }
         ensures gives { Gives (λ p. p) result
             (pair_run (ex levels) (frame_in frame.entry) (kids_of (tagged_of t.now)) first
-                (before_of env.now) (state_of self.old))
+            (before_of env.now) (state_of self.old))
             (state_of self.new) }
         ensures paid { Counts result (steps.old + self.old.left) (steps.new + self.new.left) }
         ensures size { IfOk result (λ p. size_in_pair p + self.new.left ≤ self.old.left) }
@@ -77,7 +77,7 @@ impl Progress {
         requires left { self.old.left ≤ 1000000 }
         ensures gives { Gives (λ v. v) result
             (assign levels (ex (levels - 1)) (frame_in frame.entry) label.now t.now.at (kids_of (tagged_of t.now))
-                (before_of env.now) (state_of self.old))
+            (before_of env.now) (state_of self.old))
             (state_of self.new) }
         ensures paid { Counts result (steps.old + self.old.left) (steps.new + self.new.left) }
     {
@@ -106,7 +106,7 @@ impl Progress {
         requires two { length (kids_of (tagged_of t.now)) ≡ 2 }
         ensures gives { Gives (λ v. v) result
             (assign_run levels (ex (levels - 1)) (frame_in frame.entry) label.now t.now.at (kids_of (tagged_of t.now))
-                (before_of env.now) (state_of self.old))
+            (before_of env.now) (state_of self.old))
             (state_of self.new) }
         ensures paid { Counts result (steps.old + self.old.left) (steps.new + self.new.left) }
     {
@@ -134,7 +134,7 @@ impl Progress {
         requires left { self.old.left ≤ 1000000 }
         ensures gives { Gives (λ v. v) result
             (with_row levels (ex (levels - 1)) (frame_in frame.entry) label.now t.now.at (kids_of (tagged_of t.now))
-                (before_of env.now) (state_of self.old))
+            (before_of env.now) (state_of self.old))
             (state_of self.new) }
         ensures paid { Counts result (steps.old + self.old.left) (steps.new + self.new.left) }
     {
@@ -147,8 +147,7 @@ impl Progress {
 
     // The names and values, in order, and what is done with them.
     #[cycle(ev)]
-    #[tactic(auto, using(crate::proofs::WithLoop::told_within, crate::proofs::WithLoop::double_fits,
-        std::proofs::lemmas::Grind::common_steps))]
+    #[tactic(auto, using(crate::proofs::WithLoop::with_rules))]
     fn with_parts<L: Ledger>(
         &mut self,
         alloc: Global,
@@ -167,12 +166,14 @@ impl Progress {
         requires fits { pairs < 32768 }
         ensures gives { Gives (λ v. v) result
             (with_parts levels (ex (levels - 1)) (frame_in frame.entry) label.now t.now.at [] []
-                (kids_of (tagged_of t.now)) (before_of env.now) (state_of self.old))
+            (kids_of (tagged_of t.now)) (before_of env.now) (state_of self.old))
             (state_of self.new) }
         ensures paid { Counts result (steps.old + self.old.left) (steps.new + self.new.left) }
     {
         let mut parts = Parts::new(alloc);
-        match self.all_pairs(alloc, env, steps, t, label, pairs, &mut parts, frame, levels)? {
+        match self.all_pairs(
+            alloc, env, steps, t, label, pairs, &mut parts, frame, levels,
+        )? {
             Some(error) => Ok(error),
             None => self.with_body(alloc, env, steps, t, label, pairs, parts, frame, levels),
         }
@@ -205,17 +206,19 @@ impl Progress {
         requires nodes { parts.old.nodes ≡ 0 }
         ensures goes { GoesOn result
             (with_parts levels (ex (levels - 1)) (frame_in frame.entry) label.now t.now.at [] []
-                (kids_of (tagged_of t.now)) (before_of env.now) (state_of self.old))
+            (kids_of (tagged_of t.now)) (before_of env.now) (state_of self.old))
             (with_parts levels (ex (levels - 1)) (frame_in frame.entry) label.now t.now.at parts.new.values.items
-                (sets_of parts.new.settings.items) (drop (2 * pairs) (kids_of (tagged_of t.now)))
-                (before_of env.now) (state_of self.new))
+            (sets_of parts.new.settings.items) (drop (2 * pairs) (kids_of (tagged_of t.now)))
+            (before_of env.now) (state_of self.new))
             (state_of self.new) }
         ensures paid { Counts result (steps.old + self.old.left) (steps.new + self.new.left) }
         ensures told { IfOk result (ToldIfNone (IsTold parts.new self.new.left self.old.left (levels - 1) pairs)) }
     {
         for i in 0..pairs {
-            let Some(pair) = self.pair(alloc, env, steps, t, 2 * i, frame, levels - 1)? else {
-                return Ok(Some(self.wrong(alloc, steps, levels, b"bad".as_slice(), label.bytes())?));
+            let found = self.pair(alloc, env, steps, t, 2 * i, frame, levels - 1)?;
+            let Some(pair) = found else {
+                let bad = self.wrong(alloc, steps, levels, b"bad".as_slice(), label.bytes())?;
+                return Ok(Some(bad));
             };
             parts.add(pair)?;
         }
@@ -244,13 +247,12 @@ impl Progress {
         requires told { IsTold parts self.old.left 1000000 (levels - 1) pairs }
         ensures gives { Gives (λ v. v) result
             (with_run (ex (levels - 1)) (frame_in frame.entry) label.now t.now.at parts.values.items
-                (sets_of parts.settings.items) (kids_of (tagged_of t.now)) (2 * pairs)
-                (before_of env.now) (state_of self.old))
+            (sets_of parts.settings.items) (kids_of (tagged_of t.now)) (2 * pairs)
+            (before_of env.now) (state_of self.old))
             (state_of self.new) }
         ensures paid { Counts result (steps.old + self.old.left) (steps.new + self.new.left) }
     {
-        self.charge(steps, parts.total, parts.nodes)?;
-        let trees = trees_of(alloc, steps, &parts.settings)?;
+        let trees = self.charged(alloc, steps, &parts)?;
         let value = self.with_names(alloc, env, steps, t, 2 * pairs, &trees, frame, levels - 1)?;
         Ok(made_with(alloc, t, label, parts.values, value)?)
     }
@@ -274,7 +276,7 @@ impl Progress {
         requires number { number < length (kids_of (tagged_of t.now)) }
         ensures gives { Gives (λ v. v) result
             (held_run (ex levels) (frame_in frame.entry) (held_of names.now) (kids_of (tagged_of t.now)) number
-                (before_of env.now) (state_of self.old))
+            (before_of env.now) (state_of self.old))
             (state_of self.new) }
         ensures paid { Counts result (steps.old + self.old.left) (steps.new + self.new.left) }
         ensures size { IfOk result (λ v. size_of (plain v) + self.new.left ≤ self.old.left) }

@@ -30,7 +30,7 @@ impl Progress {
         requires detail { length detail.now ≤ 1048575 }
         ensures gives { (e : Before) → Gives (λ v. v) result
             (wrong levels kind.now detail.now
-                e (state_of self.old))
+            e (state_of self.old))
             (state_of self.new) }
         ensures paid { Counts result (steps.old + self.old.left) (steps.new + self.new.left) }
     {
@@ -51,7 +51,7 @@ impl Progress {
     ) -> Result<Value, Stop>
         ensures gives { (e : Before) → Gives (λ v. v) result
             (leaf_run levels words.now at.now
-                e (state_of self.old))
+            e (state_of self.old))
             (state_of self.new) }
         ensures paid { Counts result (steps.old + self.old.left) (steps.new + self.new.left) }
     {
@@ -71,7 +71,7 @@ impl Progress {
     ) -> Result<Value, Stop>
         ensures gives { (e : Before) → Gives (λ v. v) result
             (taken levels (text words None)
-                e (state_of self.old))
+            e (state_of self.old))
             (state_of self.new) }
         ensures paid { Counts result (steps.old + self.old.left) (steps.new + self.new.left) }
     {
@@ -81,8 +81,7 @@ impl Progress {
     }
 
     /// The tree as it stands at this origin.
-    #[tactic(auto, unfolding(tx_exec_form::specs::Rows::taken),
-        using(tx_origin::proofs::Wholes::plain_whole, std::proofs::lemmas::Grind::common_steps))]
+    #[tactic(auto, unfolding(tx_exec_form::specs::Rows::taken), using(crate::proofs::Kids::whole_rules))]
     pub(crate) fn taken<L: Ledger>(
         &mut self,
         alloc: Global,
@@ -93,7 +92,7 @@ impl Progress {
     ) -> Result<Value, Stop>
         ensures gives { (e : Before) → Gives (λ v. v) result
             (taken levels (whole at.now tree.now)
-                e (state_of self.old))
+            e (state_of self.old))
             (state_of self.new) }
         ensures paid { Counts result (steps.old + self.old.left) (steps.new + self.new.left) }
     {

@@ -41,7 +41,7 @@ impl Progress {
         requires left { self.old.left ≤ 1000000 }
         ensures gives { Gives (λ v. v) result
             (ex levels (tagged_of t.now) (frame_in frame.entry)
-                (before_of env.now) (state_of self.old))
+            (before_of env.now) (state_of self.old))
             (state_of self.new) }
         ensures paid { Counts result (steps.old + self.old.left) (steps.new + self.new.left) }
         ensures size { IfOk result (λ v. size_of (plain v) + self.new.left ≤ self.old.left) }
@@ -53,8 +53,7 @@ impl Progress {
 
     // One level.
     #[cycle(ev)]
-    #[tactic(auto, using(crate::proofs::Levels::level_rules, tx_tree::proofs::Walks::leaf_or_node,
-        std::proofs::lemmas::Grind::common_steps))]
+    #[tactic(auto, using(crate::proofs::Levels::level_rules))]
     fn level<L: Ledger>(
         &mut self,
         alloc: Global,
@@ -68,7 +67,7 @@ impl Progress {
         requires left { self.old.left ≤ 1000000 }
         ensures gives { Gives (λ v. v) result
             (ex levels (tagged_of t.now) (frame_in frame.entry)
-                (before_of env.now) (state_of self.old))
+            (before_of env.now) (state_of self.old))
             (state_of self.new) }
         ensures paid { Counts result (steps.old + self.old.left) (steps.new + self.new.left) }
     {
@@ -102,7 +101,7 @@ impl Progress {
         requires left { self.old.left ≤ 1000000 }
         ensures gives { Gives (λ v. v) result
             (node_run levels (ex (levels - 1)) (tagged_of t.now) label.now (kids_of (tagged_of t.now))
-                (frame_in frame.entry) (before_of env.now) (state_of self.old))
+            (frame_in frame.entry) (before_of env.now) (state_of self.old))
             (state_of self.new) }
         ensures paid { Counts result (steps.old + self.old.left) (steps.new + self.new.left) }
     {
@@ -131,7 +130,7 @@ impl Progress {
         requires left { self.old.left ≤ 1000000 }
         ensures gives { Gives (λ v. v) result
             (row kind levels (ex (levels - 1)) (tagged_of t.now) label.now (kids_of (tagged_of t.now))
-                (frame_in frame.entry) (before_of env.now) (state_of self.old))
+            (frame_in frame.entry) (before_of env.now) (state_of self.old))
             (state_of self.new) }
         ensures paid { Counts result (steps.old + self.old.left) (steps.new + self.new.left) }
     {
@@ -164,7 +163,7 @@ impl Progress {
         requires left { self.old.left ≤ 1000000 }
         ensures gives { Gives (λ v. v) result
             (row kind levels (ex (levels - 1)) (tagged_of t.now) label.now (kids_of (tagged_of t.now))
-                (frame_in frame.entry) (before_of env.now) (state_of self.old))
+            (frame_in frame.entry) (before_of env.now) (state_of self.old))
             (state_of self.new) }
         ensures paid { Counts result (steps.old + self.old.left) (steps.new + self.new.left) }
     {
@@ -172,7 +171,16 @@ impl Progress {
             Row::Value => self.only(alloc, env, steps, t, label, Unary::Value, frame, levels),
             Row::Provides => self.only(alloc, env, steps, t, label, Unary::Provides, frame, levels),
             Row::Eval => self.only(alloc, env, steps, t, label, Unary::Eval, frame, levels),
-            Row::Arg => self.arg(alloc, env, steps, t, label, Taking::Evaluated, frame, levels),
+            Row::Arg => self.arg(
+                alloc,
+                env,
+                steps,
+                t,
+                label,
+                Taking::Evaluated,
+                frame,
+                levels,
+            ),
             Row::QuoteArg => self.arg(alloc, env, steps, t, label, Taking::Quoted, frame, levels),
             other => self.still_row(alloc, steps, t, label, other, levels),
         }
@@ -180,8 +188,7 @@ impl Progress {
 
     // The same node of evaluated children.
     #[cycle(ev)]
-    #[tactic(auto, unfolding(tx_exec_form::specs::Rows::rebuilt),
-        using(crate::proofs::Kids::few_kids, std::proofs::lemmas::Grind::common_steps))]
+    #[tactic(auto, unfolding(tx_exec_form::specs::Rows::rebuilt), using(crate::proofs::Kids::kid_rules))]
     fn rebuilt<L: Ledger>(
         &mut self,
         alloc: Global,
@@ -197,7 +204,7 @@ impl Progress {
         requires left { self.old.left ≤ 1000000 }
         ensures gives { Gives (λ v. v) result
             (rebuilt (ex (levels - 1)) (frame_in frame.entry) label.now (kids_of (tagged_of t.now)) t.now.at
-                (before_of env.now) (state_of self.old))
+            (before_of env.now) (state_of self.old))
             (state_of self.new) }
         ensures paid { Counts result (steps.old + self.old.left) (steps.new + self.new.left) }
     {
@@ -223,7 +230,7 @@ impl Progress {
         requires first { first ≤ length (kids_of (tagged_of t.now)) }
         ensures gives { Gives (λ v. v.items) result
             (each (ex levels) (frame_in frame.entry) [] (drop first (kids_of (tagged_of t.now)))
-                (before_of env.now) (state_of self.old))
+            (before_of env.now) (state_of self.old))
             (state_of self.new) }
         ensures paid { Counts result (steps.old + self.old.left) (steps.new + self.new.left) }
         ensures arity { IfOk result (λ v. length v.items + first ≡ length (kids_of (tagged_of t.now))) }
@@ -256,7 +263,7 @@ impl Progress {
         requires number { number < length (kids_of (tagged_of t.now)) }
         ensures gives { Gives (λ v. v) result
             (kid_run (ex levels) (frame_in frame.entry) (kids_of (tagged_of t.now)) number
-                (before_of env.now) (state_of self.old))
+            (before_of env.now) (state_of self.old))
             (state_of self.new) }
         ensures paid { Counts result (steps.old + self.old.left) (steps.new + self.new.left) }
         ensures size { IfOk result (λ v. size_of (plain v) + self.new.left ≤ self.old.left) }
@@ -285,7 +292,7 @@ impl Progress {
         requires left { self.old.left ≤ 1000000 }
         ensures gives { Gives (λ v. v) result
             (only unary levels (ex (levels - 1)) (frame_in frame.entry) label.now (kids_of (tagged_of t.now))
-                (before_of env.now) (state_of self.old))
+            (before_of env.now) (state_of self.old))
             (state_of self.new) }
         ensures paid { Counts result (steps.old + self.old.left) (steps.new + self.new.left) }
     {
@@ -315,7 +322,7 @@ impl Progress {
         requires left { self.old.left ≤ 1000000 }
         ensures gives { Gives (λ v. v) result
             (only_child unary levels (ex (levels - 1)) (frame_in frame.entry) label.now (tagged_of child.now)
-                (before_of env.now) (state_of self.old))
+            (before_of env.now) (state_of self.old))
             (state_of self.new) }
         ensures paid { Counts result (steps.old + self.old.left) (steps.new + self.new.left) }
     {
@@ -344,7 +351,7 @@ impl Progress {
         requires left { self.old.left ≤ 1000000 }
         ensures gives { Gives (λ v. v) result
             (eval_of (ex (levels - 1)) (frame_in frame.entry) value.now
-                (before_of env.now) (state_of self.old))
+            (before_of env.now) (state_of self.old))
             (state_of self.new) }
         ensures paid { Counts result (steps.old + self.old.left) (steps.new + self.new.left) }
     {
@@ -371,7 +378,7 @@ impl Progress {
         requires left { self.old.left ≤ 1000000 }
         ensures gives { Gives (λ v. v) result
             (tag_run levels (ex (levels - 1)) label.now t.now.at (kids_of (tagged_of t.now))
-                (frame_in frame.entry) (before_of env.now) (state_of self.old))
+            (frame_in frame.entry) (before_of env.now) (state_of self.old))
             (state_of self.new) }
         ensures paid { Counts result (steps.old + self.old.left) (steps.new + self.new.left) }
     {
@@ -401,7 +408,7 @@ impl Progress {
         requires left { self.old.left ≤ 1000000 }
         ensures gives { Gives (λ v. v) result
             (called levels (ex (levels - 1)) label.now (kids_of (tagged_of t.now)) (frame_in frame.entry) meaning.now
-                (before_of env.now) (state_of self.old))
+            (before_of env.now) (state_of self.old))
             (state_of self.new) }
         ensures paid { Counts result (steps.old + self.old.left) (steps.new + self.new.left) }
     {

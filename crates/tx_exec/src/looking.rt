@@ -36,7 +36,7 @@ impl Progress {
         requires kind { IsStill kind }
         ensures gives { (e : Before) → Gives (λ v. v) result
             (row kind levels nothing (tagged_of t.now) label.now (kids_of (tagged_of t.now)) top
-                e (state_of self.old))
+            e (state_of self.old))
             (state_of self.new) }
         ensures paid { Counts result (steps.old + self.old.left) (steps.new + self.new.left) }
     {
@@ -65,7 +65,7 @@ impl Progress {
     ) -> Result<Value, Stop>
         ensures gives { Gives (λ v. v) result
             (value_of levels label.now name.now
-                (before_of env.now) (state_of self.old))
+            (before_of env.now) (state_of self.old))
             (state_of self.new) }
         ensures paid { Counts result (steps.old + self.old.left) (steps.new + self.new.left) }
     {
@@ -91,7 +91,7 @@ impl Progress {
     ) -> Result<Value, Stop>
         ensures gives { Gives (λ v. v) result
             (provides_of levels label.now name.now
-                (before_of env.now) (state_of self.old))
+            (before_of env.now) (state_of self.old))
             (state_of self.new) }
         ensures paid { Counts result (steps.old + self.old.left) (steps.new + self.new.left) }
     {
@@ -117,7 +117,7 @@ impl Progress {
     ) -> Result<Value, Stop>
         ensures gives { (e : Before) → Gives (λ v. v) result
             (quote levels label.now (kids_of (tagged_of t.now))
-                e (state_of self.old))
+            e (state_of self.old))
             (state_of self.new) }
         ensures paid { Counts result (steps.old + self.old.left) (steps.new + self.new.left) }
     {
@@ -129,8 +129,7 @@ impl Progress {
     }
 
     /// `macro`: itself.
-    #[tactic(auto, using(crate::proofs::Shapes::macro_rules, tx_origin::proofs::Wholes::plain_whole,
-        std::proofs::lemmas::Grind::common_steps))]
+    #[tactic(auto, using(crate::proofs::Shapes::macro_rules))]
     pub(crate) fn macro_itself<L: Ledger>(
         &mut self,
         alloc: Global,
@@ -141,7 +140,7 @@ impl Progress {
     ) -> Result<Value, Stop>
         ensures gives { (e : Before) → Gives (λ v. v) result
             (macro levels label.now (tagged_of t.now) (kids_of (tagged_of t.now))
-                e (state_of self.old))
+            e (state_of self.old))
             (state_of self.new) }
         ensures paid { Counts result (steps.old + self.old.left) (steps.new + self.new.left) }
     {

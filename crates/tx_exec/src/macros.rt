@@ -54,8 +54,7 @@ fn word_of(tree: &Tree) -> &[u8]
 }
 
 /// What the name has where these are the parameters of a macro and these the arguments.
-#[tactic(auto, using(crate::proofs::Bodies::argument_rules, tx_origin::proofs::Kids::kid_rules,
-    std::proofs::lemmas::Grind::common_steps))]
+#[tactic(auto, using(crate::proofs::Bodies::argument_rules))]
 pub(crate) fn argument_of(
     alloc: Global,
     meaning: &Tree,

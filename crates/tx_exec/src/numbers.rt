@@ -35,8 +35,7 @@ pub(crate) fn numbers_in(alloc: Global, values: &[Value]) -> Result<Option<Vec<i
 }
 
 // The child of this number.
-#[tactic(auto, using(crate::proofs::Leading::kid_rules, crate::proofs::Kids::few_kids,
-    std::proofs::lemmas::Grind::common_steps))]
+#[tactic(auto, using(crate::proofs::Leading::kid_rules))]
 fn kid_at(alloc: Global, t: &Tagged, number: i64) -> Result<Option<Tagged>, Memory>
     ensures { IfOk result (λ r. option_map tagged_of r ≡ kid_at (tagged_of t.now) number) }
 {

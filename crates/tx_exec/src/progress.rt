@@ -113,8 +113,7 @@ impl Progress {
     }
 
     /// What a name has: what the evaluation has set, or else what it had before, which is a look.
-    #[tactic(auto, unfolding(tx_exec_form::specs::Runs::look),
-        using(crate::proofs::Noting::look_rules, std::proofs::lemmas::Grind::common_steps))]
+    #[tactic(auto, unfolding(tx_exec_form::specs::Runs::look), using(crate::proofs::Noting::look_rules))]
     pub(crate) fn look(&mut self, env: &Env, name: &Text) -> Result<Option<Tree>, Memory>
         ensures gives { IfOk result
             (λ t. look name.now (before_of env.now) (state_of self.old) ≡ Done t (state_of self.new)) }

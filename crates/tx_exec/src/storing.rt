@@ -5,11 +5,12 @@ ghost use Rattle.tx_origin.specs.Values.{plain};
 ghost use Rattle.tx_exec_form.specs.Runs.{Before, pay};
 ghost use Rattle.tx_exec_form.specs.Rows.{stored};
 ghost use Rattle.tx_exec.specs.Gives.{Gives, Counts};
+ghost use Rattle.tx_exec.specs.Settings.{sets_of, held_of, nodes_in};
 ghost use Rattle.tx_exec.specs.States.{state_of};
 
 use crate::progress::Progress;
 use crate::stop::Stop;
-use crate::withs::{Pair, made_of_two};
+use crate::withs::{Held, Pair, Parts, made_of_two, trees_of};
 use std::alloc::Global;
 use std::sync::ledger::Ledger;
 use tx_base::Steps;
@@ -33,7 +34,7 @@ impl Progress {
         requires value_depth { depth_of (plain pair.value) < 400 }
         ensures gives { (e : Before) → Gives (λ v. v) result
             (stored label.now t.now.at pair.name pair.words pair.value
-                e (state_of self.old))
+            e (state_of self.old))
             (state_of self.new) }
         ensures paid { Counts result (steps.old + self.old.left) (steps.new + self.new.left) }
     {
@@ -58,5 +59,23 @@ impl Progress {
     {
         self.charge(steps, value.size(), value.nodes())?;
         Ok(value.plain(alloc, steps)?)
+    }
+    /// The names with the trees of the values, paid by their sizes at once.
+    pub(crate) fn charged<L: Ledger>(
+        &mut self,
+        alloc: Global,
+        steps: &mut Steps<L>,
+        parts: &Parts,
+    ) -> Result<Vec<Held>, Stop>
+        requires few { parts.now.nodes ≤ parts.now.total }
+        requires nodes { parts.now.nodes ≡ nodes_in parts.now.settings.items }
+        ensures over { (e : Before) → Gives (λ h. tt) result
+            (pay parts.now.total e (state_of self.old)) (state_of self.new) }
+        ensures trees { IfOk result (λ h. held_of h.items ≡ sets_of parts.now.settings.items) }
+        ensures paid { Counts result (steps.old + self.old.left) (steps.new + self.new.left) }
+        ensures left { IfOk result (λ h. self.new.left ≤ self.old.left) }
+    {
+        self.charge(steps, parts.total, parts.nodes)?;
+        Ok(trees_of(alloc, steps, &parts.settings)?)
     }
 }

@@ -38,8 +38,8 @@ pub(crate) struct Pair {
     pub value: Value,
 }
 
-/// The names and values of a `with`, in order: the parts of its value, what is to be set, and the sizes and the nodes of
-/// all values together.
+/// The names and values of a `with`, in order: the parts of its value, what is to be set, and the sizes and the nodes
+/// of all values together.
 #[derive(Drop)]
 pub(crate) struct Parts {
     pub values: Vec<Value>,
@@ -64,8 +64,7 @@ impl Parts {
     }
 
     /// Puts the pair behind the others.
-    #[tactic(auto, using(crate::proofs::SettingLoops::sets_more, crate::proofs::SettingLoops::nodes_more,
-        crate::proofs::WithLoop::two_more, std::proofs::lemmas::Grind::common_steps))]
+    #[tactic(auto, using(crate::proofs::SettingLoops::pair_rules))]
     pub(crate) fn add(&mut self, pair: Pair) -> Result<(), Memory>
         requires total { self.old.total + size_of (plain pair.value) ≤ 1000000 }
         requires nodes { self.old.nodes + nodes_of (plain pair.value) ≤ 1000000 }
@@ -172,8 +171,7 @@ pub(crate) fn words_of(value: &Value) -> Result<Option<Text>, Memory>
 }
 
 /// The node with this value behind the others.
-#[tactic(auto, using(tx_exec_form::proofs::Small::size_push, tx_exec_form::proofs::Small::depth_push,
-    std::proofs::lemmas::Grind::common_steps))]
+#[tactic(auto, using(crate::proofs::SettingLoops::push_rules))]
 pub(crate) fn made_with(
     alloc: Global,
     t: &Tagged,

@@ -90,9 +90,9 @@ decreases-used g l = 10 * l.levels - 6
 abbrev pub invariant-each-loop-i : goal.invariant-each-loop-i
 invariant-each-loop-i g l = record {
   run :
-    each (ex l.levels) (frame_in l.frame) l.values.items (drop l.i (kids_of (tagged_of l.t)))
+      each (ex l.levels) (frame_in l.frame) l.values.items (drop l.i (kids_of (tagged_of l.t)))
       (before_of l.env) (state_of l.self)
-    ≡ each (ex l.fn.levels) (frame_in l.fn.frame) [] (drop l.fn.first (kids_of (tagged_of l.fn.t)))
+      ≡ each (ex l.fn.levels) (frame_in l.fn.frame) [] (drop l.fn.first (kids_of (tagged_of l.fn.t)))
       (before_of l.fn.env) (state_of l.fn.self);
   paid : l.steps + l.self.left ≡ l.fn.steps + l.fn.self.left;
   arity : length l.values.items + l.fn.first ≡ l.i;
@@ -103,9 +103,9 @@ invariant-each-loop-i g l = record {
 abbrev pub invariant-all_pairs-loop-i : goal.invariant-all_pairs-loop-i
 invariant-all_pairs-loop-i g l = record {
   run :
-    with_parts l.levels (ex (l.levels - 1)) (frame_in l.frame) l.label l.t.at l.parts.values.items
+      with_parts l.levels (ex (l.levels - 1)) (frame_in l.frame) l.label l.t.at l.parts.values.items
       (sets_of l.parts.settings.items) (drop (2 * l.i) (kids_of (tagged_of l.t))) (before_of l.env) (state_of l.self)
-    ≡ with_parts l.fn.levels (ex (l.fn.levels - 1)) (frame_in l.fn.frame) l.fn.label l.fn.t.at [] []
+      ≡ with_parts l.fn.levels (ex (l.fn.levels - 1)) (frame_in l.fn.frame) l.fn.label l.fn.t.at [] []
       (kids_of (tagged_of l.fn.t)) (before_of l.fn.env) (state_of l.fn.self);
   paid : l.steps + l.self.left ≡ l.fn.steps + l.fn.self.left;
   told : IsTold l.parts l.self.left l.fn.self.left (l.fn.levels - 1) l.i;
