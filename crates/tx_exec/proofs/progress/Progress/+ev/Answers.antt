@@ -121,7 +121,7 @@ with_names-returns-clause-gives g t c =
 
 pub with_body-returns-in_err-trees-clause-gives : goal.with_body-returns-in_err-trees-clause-gives
 with_body-returns-in_err-trees-clause-gives g t c =
-    let p = err_from_is_err_and c.from_residual-in_err-trees.result c.from_residual-in_err-trees.ensures.1 in
+    let p = err_from_is_err_and c.from_residual.result c.from_residual.ensures.1 in
     let e = before_of c.args.env.now in
     let unpaid =
     with_unpaid (ex (c.args.levels - 1)) (frame_in c.args.frame) c.args.label.now c.args.t.now.at
@@ -159,7 +159,7 @@ with_body-returns-clause-gives g t c =
 
 pub all_pairs-returns-in_err-found-clause-goes : goal.all_pairs-returns-in_err-found-clause-goes
 all_pairs-returns-in_err-found-clause-goes g t c =
-    let p = err_from_is_err_and c.from_residual-in_err-found.result c.from_residual-in_err-found.ensures.1 in
+    let p = err_from_is_err_and c.from_residual.result c.from_residual.ensures.1 in
     let k = c.args.levels in
     let below = ex (c.args.levels - 1) in
     let f = frame_in c.args.frame in
@@ -241,7 +241,7 @@ all_pairs-loop-i-preserved g t c =
     let s1 = state_of c.pair.new.self in
     let next = pair_next k below f label at kids c.loop-i.i vs ps e s whole lt run c.in-Some.pair s1 in
     let added = c.in_ok-add.ensures in
-    let parts = c.add.new.parts in
+    let parts = c.add.new.self in
     record {
       run = next parts.values.items (sets_of parts.settings.items) (search rules) added.values added.settings;
       paid = omega (arith, c.loop-i.invariant.paid, c.in_ok-found.ensures.paid);
