@@ -10,6 +10,7 @@ use Rattle.tx_origin.specs.TaggedTrees.{TaggedTree}
 use Rattle.tx_exec_form.specs.Frames.{Found, Unbound, Missing, Here, first_of, others_of, argument}
 use Rattle.tx_exec.specs.FrameView.{word_of, params_of}
 use Rattle.tx_exec_form.specs.Rows.{and_name, macro_in}
+use Rattle.tx_origin.proofs.Kids.{kid_rules}
 
 abbrev pub IsLeafy : List WideTree → Type 0
 IsLeafy [] = Unit {0}
@@ -90,7 +91,7 @@ pub argument_none : (x : List ℕ) (kids : List WideTree) (args : List TaggedTre
 argument_none x [] args e = refl
 argument_none x (t ∷ ts) args e = absurd (omega (arith, e))
 
-pub ruleset argument_rules = (argument_next, argument_none)
+pub ruleset argument_rules = (argument_next, argument_none, kid_rules, common_steps)
 
 pub first_some : (ts : List TaggedTree) (i : ℕ) (t : TaggedTree) → slice_get ts i ≡ Some t → first_of (drop i ts) ≡ Here t
 first_some ts i t e = ap first_of (drop_item ts i t e)

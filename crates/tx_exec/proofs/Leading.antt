@@ -7,6 +7,7 @@ use Rattle.std.proofs.lemmas.Grind.{common_steps}
 use Rattle.tx_origin.specs.Values.{WideValue}
 use Rattle.tx_origin.specs.TaggedTrees.{TaggedTree, kids_of}
 use Rattle.tx_exec_form.specs.Numbers.{value_number, numbers_of, kid_at, part_of}
+use Rattle.tx_exec.proofs.Kids.{few_kids}
 
 item_drop : (vs : List WideValue) (i : ℕ) (v : WideValue) → i < length vs → v ≡ get_or vs i v → drop i vs ≡ v ∷ drop (i + 1) vs
 item_drop vs i v lt is = rw add-one (drop-cons vs i v lt ∙ ap (λ w. w ∷ drop (suc i) vs) (sym is))
@@ -68,7 +69,7 @@ pub kid_far : (t : TaggedTree) (z : ℤ) → pos 4294967295 <ℤ z → length (k
 kid_far t (pos i) h few = past (kids_of t) i (omega (arith, ints, h, few))
 kid_far t (negsuc i) h few = refl
 
-pub ruleset kid_rules = (kid_pos, kid_neg, kid_far)
+pub ruleset kid_rules = (kid_pos, kid_neg, kid_far, few_kids, common_steps)
 
 pub part_here : (t : TaggedTree) (ns : List ℤ) → ns ≡ [] → part_of t ns ≡ Some t
 part_here t ns h = ap (part_of t) h

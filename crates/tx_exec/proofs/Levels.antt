@@ -6,6 +6,8 @@ use Rattle.tx_origin.specs.TaggedTrees.{TaggedTree, kids_of}
 use Rattle.tx_exec_form.specs.Runs.{Before, State, Over}
 use Rattle.tx_exec_form.specs.Frames.{Frame}
 use Rattle.tx_exec_form.specs.Rows.{Eval, leaf_run, node_run, level, ex}
+use Rattle.tx_tree.proofs.Walks.{leaf_or_node}
+use Rattle.std.proofs.lemmas.Grind.{common_steps}
 
 pub ex_none : (k : ℕ) (t : TaggedTree) (f : Frame) (e : Before) (s : State) → k ≡ 0 → ex k t f e s ≡ Over
 unfolding ex
@@ -30,4 +32,4 @@ unfolding ex
 ex_node zero t f l e s lt h = absurd (omega (arith, lt))
 ex_node (suc k) t f l e s lt h = let same : suc k - 1 ≡ k = omega arith in ap (λ m. m e s) (level_node (suc k) (ex k) t f t.tree l h) ∙ ap (λ n. node_run (suc k) (ex n) t l (kids_of t) f e s) (sym same)
 
-pub ruleset level_rules = (ex_none, ex_leaf, ex_node)
+pub ruleset level_rules = (ex_none, ex_leaf, ex_node, leaf_or_node, common_steps)

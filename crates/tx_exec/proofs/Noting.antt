@@ -14,6 +14,7 @@ use Rattle.tx_env.proofs.Finding.{listed_put}
 use Rattle.tx_exec_form.specs.Maps.{LookMap, noted}
 use Rattle.tx_exec_form.specs.Runs.{Before, State, Done, look, from_own}
 use Rattle.tx_exec_form.proofs.Agreeing.{same}
+use Rattle.std.proofs.lemmas.Grind.{common_steps}
 
 find_listed : (ps : Pairs) (q : Name) → find (slice_cmp nat_cmp) q ps ≡ listed q ps
 find_listed [] q = refl
@@ -56,4 +57,4 @@ module _ (x : Name) (e : Before) (own looks : Pairs) (left slack : ℕ) where
   look_anew u h g l =
       looked None h ∙ ap (λ m. Done (e x) (record { own = map_of own; looks = m; left = left; slack = slack })) (anew looks x (e x) l) ∙ ap (λ r. Done r (at (put x r looks))) g
 
-pub ruleset look_rules = (look_own, look_again, look_anew)
+pub ruleset look_rules = (look_own, look_again, look_anew, common_steps)

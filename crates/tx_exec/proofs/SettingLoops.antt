@@ -3,7 +3,7 @@ use Rattle.std.proofs.Common.{◌≡◌, ℕ, zero, suc, ◌+◌, ◌<◌, ◌�
 use Rattle.std.specs.Prelude.{Option, Some, None}
 use Rattle.std.proofs.lemmas.List.{take_more}
 use Rattle.tx_tree.specs.WideTree.{WideTree, nodes_of}
-use Rattle.tx_origin.specs.Values.{plain}
+use Rattle.tx_origin.specs.Values.{WideValue, plain}
 use Rattle.std.specs.FinMap.{get}
 use Rattle.tx_env.specs.Environments.{NameMap}
 use Rattle.tx_env.specs.Changes.{with_pair}
@@ -12,6 +12,8 @@ use Rattle.tx_exec_form.specs.Rows.{Sets, set_all, kept_of}
 use Rattle.tx_exec.specs.Settings.{sets_of, held_of, nodes_in}
 use Rattle.tx_exec.specs.declared.withs.Setting.{Setting}
 use Rattle.tx_exec.specs.declared.withs.Held.{Held}
+use Rattle.tx_exec_form.proofs.Small.{size_push, depth_push}
+use Rattle.std.proofs.lemmas.Grind.{common_steps}
 
 pub held_push : (hs : List Held) (h : Held) → held_of (hs ++ h ∷ []) ≡ held_of hs ++ (h.name, h.tree) ∷ []
 held_push [] h = refl
@@ -24,6 +26,17 @@ sets_push (t ∷ ss) s = ap (λ zs. (t.name, Some (plain t.value)) ∷ zs) (sets
 pub nodes_push : (ss : List Setting) (s : Setting) → nodes_in (ss ++ s ∷ []) ≡ nodes_in ss + nodes_of (plain s.value)
 nodes_push [] s = omega arith
 nodes_push (t ∷ ss) s = omega (arith, nodes_push ss s)
+
+-- the same of a setting whose parts are known
+pub sets_more : (ss ts : List Setting) (s : Setting) (x : List ℕ) (v : WideValue) → ts ≡ ss ++ s ∷ [] → s.name ≡ x
+    → s.value ≡ v → sets_of ts ≡ sets_of ss ++ (x, Some (plain v)) ∷ []
+sets_more ss ts s x v e n w =
+    ap sets_of e ∙ sets_push ss s ∙ ap (λ y. sets_of ss ++ (y, Some (plain s.value)) ∷ []) n
+    ∙ ap (λ y. sets_of ss ++ (x, Some (plain y)) ∷ []) w
+
+pub nodes_more : (ss ts : List Setting) (s : Setting) (v : WideValue) → ts ≡ ss ++ s ∷ [] → s.value ≡ v
+    → nodes_in ts ≡ nodes_in ss + nodes_of (plain v)
+nodes_more ss ts s v e w = ap nodes_in e ∙ nodes_push ss s ∙ ap (λ y. nodes_in ss + nodes_of (plain y)) w
 
 pub tree_next : (items : List Setting) (i : ℕ) (s : Setting) (hs gs : List Held) (h : Held) → i < length items → s ≡ get_or items i s → held_of hs ≡ sets_of (take i items) → gs ≡ hs ++ h ∷ [] → h.name ≡ s.name → h.tree ≡ Some (plain s.value) → held_of gs ≡ sets_of (take (i + 1) items)
 tree_next items i s hs gs h lt is run e n t = rw (take_more items i s lt, ← is, e) (held_push hs h ∙ ap (λ zs. zs ++ (h.name, h.tree) ∷ []) run ∙ ap (λ x. sets_of (take i items) ++ (x, h.tree) ∷ []) n ∙ ap (λ x. sets_of (take i items) ++ (s.name, x) ∷ []) t ∙ sym (sets_push (take i items) s))
@@ -56,3 +69,14 @@ unfolding set_all
 set_none e s = refl
 
 pub ruleset set_rules = (set_next, set_none)
+
+pub two_more : (vs us ws : List WideValue) (u w : WideValue) → us ≡ vs ++ u ∷ [] → ws ≡ us ++ w ∷ [] → ws ≡ vs ++ u ∷ w ∷ []
+two_more vs us ws u w a b = b ∙ ap (λ zs. zs ++ w ∷ []) a ∙ by vs
+  where
+    by : (vs : List WideValue) → (vs ++ u ∷ []) ++ w ∷ [] ≡ vs ++ u ∷ w ∷ []
+    by [] = refl
+    by (v ∷ vs) = ap (λ zs. v ∷ zs) (by vs)
+
+pub ruleset pair_rules = (sets_more, nodes_more, two_more, common_steps)
+
+pub ruleset push_rules = (size_push, depth_push, common_steps)

@@ -6,15 +6,11 @@ use Rattle.tx_origin.specs.Values.{whole}
 use Rattle.tx_origin.specs.TaggedTrees.{TaggedTree}
 use Rattle.tx_exec_form.specs.Runs.{◌>>=◌, ◌>>◌, need, pay, give}
 use Rattle.tx_exec_form.specs.Frames.{Frame}
-use Rattle.tx_exec_form.specs.Rows.{Eval, wrong, assign, assigned, taken, quote, macro, only, only_child, arg, arg_of}
+use Rattle.tx_exec_form.specs.Rows.{Eval, wrong, assign, taken, quote, macro, only, only_child, arg, arg_of}
 use Rattle.tx_exec_form.specs.declared.rows.Unary.{Unary}
 use Rattle.tx_exec_form.specs.declared.rows.Taking.{Taking}
-
-pub two_kids : (k : ℕ) (below : Eval) (f : Frame) (label : List ℕ) (at : Option (List ℕ)) (ts : List TaggedTree) (x v : TaggedTree) → length ts ≡ 2 → slice_get ts 0 ≡ Some x → slice_get ts 1 ≡ Some v → assign k below f label at ts ≡ assigned k below f label at x v
-two_kids k below f label at [] x v n a b = absurd (omega (arith, n))
-two_kids k below f label at (y ∷ []) x v n a b = absurd (omega (arith, n))
-two_kids k below f label at (y ∷ z ∷ []) x v n a b = let first : y ≡ x = cc in let second : z ≡ v = cc in cc
-two_kids k below f label at (y ∷ z ∷ w ∷ ts) x v n a b = absurd (omega (arith, n))
+use Rattle.tx_origin.proofs.Wholes.{plain_whole}
+use Rattle.std.proofs.lemmas.Grind.{common_steps}
 
 pub not_two : (k : ℕ) (below : Eval) (f : Frame) (label : List ℕ) (at : Option (List ℕ)) (ts : List TaggedTree) → (length ts ≡ 2 → ⊥) → assign k below f label at ts ≡ wrong k (codes "bad") label
 not_two k below f label at [] n = refl
@@ -22,7 +18,7 @@ not_two k below f label at (y ∷ []) n = refl
 not_two k below f label at (y ∷ z ∷ []) n = absurd (n refl)
 not_two k below f label at (y ∷ z ∷ w ∷ ts) n = refl
 
-pub ruleset assign_rules = (two_kids, not_two)
+pub ruleset assign_rules = (not_two)
 
 pub quote_one : (k : ℕ) (label : List ℕ) (ts : List TaggedTree) (x : TaggedTree) → length ts ≡ 1 → slice_get ts 0 ≡ Some x → quote k label ts ≡ taken k (whole x.at x.tree)
 quote_one k label [] x n a = absurd (omega (arith, n))
@@ -44,7 +40,7 @@ pub macro_some : (k : ℕ) (label : List ℕ) (t : TaggedTree) (ts : List Tagged
 macro_some k label t [] n = absurd (omega (arith, n))
 macro_some k label t (x ∷ ts) n = refl
 
-pub ruleset macro_rules = (macro_none, macro_some)
+pub ruleset macro_rules = (macro_none, macro_some, plain_whole, common_steps)
 
 pub only_one : (unary : Unary) (k : ℕ) (below : Eval) (f : Frame) (label : List ℕ) (ts : List TaggedTree) (x : TaggedTree) → length ts ≡ 1 → slice_get ts 0 ≡ Some x → only unary k below f label ts ≡ only_child unary k below f label x
 only_one unary k below f label [] x n a = absurd (omega (arith, n))

@@ -10,13 +10,19 @@ use Rattle.tx_origin.proofs.Parts.{nodes_le_size}
 use Rattle.tx_env.specs.Pairs.{Name}
 use Rattle.tx_exec_form.specs.Runs.{Before, State, Ran, Over, Done, Run, on_done, ◌>>=◌, ◌>>◌, give, pay}
 use Rattle.tx_exec_form.specs.Frames.{Frame}
-use Rattle.tx_exec_form.specs.Rows.{Eval, wrong, named, Sets, sizes, size_in, kept, kept_of, set_all, is_odd, with_body, with_parts, with_row}
+use Rattle.tx_exec_form.specs.Rows.{Eval, wrong, named, Sets, sizes, kept, kept_of, set_all, is_odd}
+use Rattle.tx_exec_form.specs.Rows.{assign, assigned, with_body, with_parts, with_row}
 use Rattle.tx_exec.specs.declared.stop.Stop.{Stop}
 use Rattle.tx_exec.specs.Gives.{Gives, Fails}
 use Rattle.tx_exec.specs.Settings.{sets_of, nodes_in}
+use Rattle.tx_exec.specs.Told.{IsCounted}
+use Rattle.tx_exec.specs.PartRuns.{kid_run, pair_named, pair_run, paired, stored_pair, assign_run}
+use Rattle.tx_exec.specs.PartRuns.{size_in_pair, IsShallowPair, held_run, ended, with_run}
 use Rattle.tx_exec.specs.declared.withs.Setting.{Setting}
+use Rattle.tx_exec.specs.declared.withs.Pair.{Pair}
 use Rattle.tx_exec.proofs.Each.{stop_bind, fails_as}
-use Rattle.tx_exec.proofs.SettingLoops.{sets_push, nodes_push}
+use Rattle.tx_exec.proofs.Kids.{there, kid_run_is}
+use Rattle.tx_exec.proofs.SettingLoops.{two_more}
 use Rattle.tx_exec_form.proofs.Small.{size_push, depth_push}
 
 pub odd_false : (ts : List TaggedTree) (n : ℕ) → length ts ≡ 2 * n → is_odd ts ≡ false
@@ -42,106 +48,196 @@ two_front ts i x v a b =
     let next : 2 * i + 1 + 1 ≡ 2 * (i + 1) = omega arith in
     drop_item ts (2 * i) x a ∙ ap (λ us. x ∷ us) (drop_item ts (2 * i + 1) v b) ∙ ap (λ n. x ∷ v ∷ drop n ts) next
 
-module _ (k : ℕ) (below : Eval) (f : Frame) (label : List ℕ) (at : Option (List ℕ)) (ts : List TaggedTree) (i : ℕ) (x v : TaggedTree) (vs : List WideValue) (ss : List Setting) (e : Before) (s : State) (r : Ran WideValue) (first : slice_get ts (2 * i) ≡ Some x) (second : slice_get ts (2 * i + 1) ≡ Some v) (run : with_parts k below f label at vs (sets_of ss) (drop (2 * i) ts) e s ≡ r) where
-  -- what is done behind a value
-  further : WideValue → Name → WideValue → Run WideValue
-  further name n w = with_parts k below f label at (vs ++ name ∷ w ∷ []) (sets_of ss ++ (n, Some (plain w)) ∷ []) (drop (2 * (i + 1)) ts)
+-- a name and what is behind it, at once
+module _ (k : ℕ) (label : List ℕ) (e : Before) (behind : Run WideValue) (go : Pair → Run WideValue) where
+  by_value : (name : WideValue) (x : Name) (r : Ran WideValue)
+      → on_done e (λ v. go (record { name = name; words = x; value = v })) r
+      ≡ on_done e (paired k label go) (on_done e (λ v. give (Some (record { name = name; words = x; value = v }))) r)
+  by_value name x Over = refl
+  by_value name x (Done v s) = refl
 
-  -- what is done behind a name
-  behind : WideValue → Run WideValue
+  by_words : (name : WideValue) (o : Option Name) (s : State)
+      → named k label (λ x. behind >>= λ v. go (record { name = name; words = x; value = v })) o e s
+      ≡ on_done e (paired k label go) (pair_named behind name o e s)
+  by_words name None s = refl
+  by_words name (Some x) s = by_value name x (behind e s)
+
+  by_pair : (r : Ran WideValue)
+      → on_done e (λ name. named k label (λ x. behind >>= λ v. go (record { name = name; words = x; value = v })) (value_text name)) r
+      ≡ on_done e (paired k label go) (on_done e (λ name. pair_named behind name (value_text name)) r)
+  by_pair Over = refl
+  by_pair (Done name s) = by_words name (value_text name) s
+
+pub front_run : (k : ℕ) (below : Eval) (f : Frame) (label : List ℕ) (ts : List TaggedTree) (i : ℕ) (x v : TaggedTree)
+    (go : Pair → Run WideValue) (e : Before) (s : State) → slice_get ts i ≡ Some x → slice_get ts (i + 1) ≡ Some v
+    → on_done e (λ name. named k label (λ n. below v f >>= λ w. go (record { name = name; words = n; value = w })) (value_text name)) (below x f e s)
+    ≡ on_done e (paired k label go) (pair_run below f ts i e s)
+unfolding pair_run
+front_run k below f label ts i x v go e s a b =
+    ap (λ m. on_done e (λ name. named k label (λ n. m >>= λ w. go (record { name = name; words = n; value = w })) (value_text name)) (below x f e s)) (sym (kid_run_is below f ts (i + 1) v b))
+    ∙ ap (λ m. on_done e (λ name. named k label (λ n. kid_run below f ts (i + 1) >>= λ w. go (record { name = name; words = n; value = w })) (value_text name)) (m e s)) (sym (kid_run_is below f ts i x a))
+    ∙ by_pair k label e (kid_run below f ts (i + 1)) go (kid_run below f ts i e s)
+
+pub two_kids : (k : ℕ) (below : Eval) (f : Frame) (label : List ℕ) (at : Option (List ℕ)) (ts : List TaggedTree)
+    (e : Before) (s : State) → length ts ≡ 2 → assign k below f label at ts e s ≡ assign_run k below f label at ts e s
+unfolding assigned assign_run
+two_kids k below f label at [] e s n = absurd (omega (arith, n))
+two_kids k below f label at (x ∷ []) e s n = absurd (omega (arith, n))
+two_kids k below f label at (x ∷ v ∷ []) e s n =
+    front_run k below f label (x ∷ v ∷ []) 0 x v (stored_pair label at) e s refl refl
+two_kids k below f label at (x ∷ v ∷ w ∷ ts) e s n = absurd (omega (arith, n))
+
+module _ (k : ℕ) (below : Eval) (f : Frame) (label : List ℕ) (at : Option (List ℕ)) (ts : List TaggedTree) (i : ℕ)
+    (vs : List WideValue) (ps : Sets) (e : Before) (s : State) (r : Ran WideValue) (lt : 2 * i + 1 < length ts)
+    (run : with_parts k below f label at vs ps (drop (2 * i) ts) e s ≡ r) where
+  -- what is done behind a name and its value
+  further : Pair → Run WideValue
+  further p =
+      with_parts k below f label at (vs ++ p.name ∷ p.value ∷ []) (ps ++ (p.words, Some (plain p.value)) ∷ [])
+      (drop (2 * (i + 1)) ts)
+
+  opened : r ≡ on_done e (paired k label further) (pair_run below f ts (2 * i) e s)
   unfolding further
-  behind name = named k label (λ n. below v f >>= further name n) (value_text name)
+  opened =
+      let x = there ts (2 * i) (omega (arith, lt)) in
+      let v = there ts (2 * i + 1) lt in
+      sym run ∙ ap (λ us. with_parts k below f label at vs ps us e s) (two_front ts i x.0 v.0 x.1 v.1)
+      ∙ front_run k below f label ts (2 * i) x.0 v.0 further e s x.1 v.1
 
-  opened : r ≡ on_done e behind (below x f e s)
-  unfolding behind further
-  opened = sym run ∙ ap (λ us. with_parts k below f label at vs (sets_of ss) us e s) (two_front ts i x v first second)
+  pub pair_stop : (p : Stop) → Fails p (pair_run below f ts (2 * i) e s) → Fails p r
+  pair_stop p h =
+      fails_as p r _ opened (stop_bind p e (paired k label further) (pair_run below f ts (2 * i) e s) h)
 
-  pub with_stop : (p : Stop) → Fails p (below x f e s) → Fails p r
-  with_stop p h = fails_as p r (on_done e behind (below x f e s)) opened (stop_bind p e behind (below x f e s) h)
+  pub pair_bad : (s1 : State) → pair_run below f ts (2 * i) e s ≡ Done None s1 → r ≡ wrong k (codes "bad") label e s1
+  pair_bad s1 h = opened ∙ ap (on_done e (paired k label further)) h
 
-  module _ (name : WideValue) (s1 : State) (got : below x f e s ≡ Done name s1) where
-    named_here : r ≡ behind name e s1
-    named_here = opened ∙ ap (on_done e behind) got
+  pub pair_next : (p : Pair) (s1 : State) (us : List WideValue) (qs : Sets)
+      → pair_run below f ts (2 * i) e s ≡ Done (Some p) s1 → us ≡ vs ++ p.name ∷ p.value ∷ []
+      → qs ≡ ps ++ (p.words, Some (plain p.value)) ∷ []
+      → with_parts k below f label at us qs (drop (2 * (i + 1)) ts) e s1 ≡ r
+  unfolding further
+  pair_next p s1 us qs h a b =
+      ap (λ ws. with_parts k below f label at ws qs (drop (2 * (i + 1)) ts) e s1) a
+      ∙ ap (λ xs. with_parts k below f label at (vs ++ p.name ∷ p.value ∷ []) xs (drop (2 * (i + 1)) ts) e s1) b
+      ∙ sym (opened ∙ ap (on_done e (paired k label further)) h)
 
-    pub with_bad : value_text name ≡ None → r ≡ wrong k (codes "bad") label e s1
-    unfolding behind
-    with_bad h = named_here ∙ ap (λ o. named k label (λ n. below v f >>= further name n) o e s1) h
-
-    with_words : (n : Name) → value_text name ≡ Some n → r ≡ on_done e (further name n) (below v f e s1)
-    unfolding behind
-    with_words n h = named_here ∙ ap (λ o. named k label (λ m. below v f >>= further name m) o e s1) h
-
-    pub with_stop_value : (n : Name) (p : Stop) → value_text name ≡ Some n → Fails p (below v f e s1) → Fails p r
-    with_stop_value n p h g = fails_as p r _ (with_words n h) (stop_bind p e (further name n) (below v f e s1) g)
-
-    pub with_next : (n : Name) (w : WideValue) (s2 : State) (us : List WideValue) (qs : List Setting) (q : Setting) → value_text name ≡ Some n → below v f e s1 ≡ Done w s2 → us ≡ vs ++ name ∷ w ∷ [] → qs ≡ ss ++ q ∷ [] → q.name ≡ n → q.value ≡ w
-        → with_parts k below f label at us (sets_of qs) (drop (2 * (i + 1)) ts) e s2 ≡ r
-    unfolding further
-    with_next n w s2 us qs q h g a b c d =
-        let named_set : (q.name, Some (plain q.value)) ≡ (n, Some (plain w)) = ap (λ y. (y, Some (plain q.value))) c ∙ ap (λ y. (n, Some (plain y))) d in
-        let sets : sets_of qs ≡ sets_of ss ++ (n, Some (plain w)) ∷ [] = ap sets_of b ∙ sets_push ss q ∙ ap (λ p. sets_of ss ++ p ∷ []) named_set in
-        ap (λ ws. with_parts k below f label at ws (sets_of qs) (drop (2 * (i + 1)) ts) e s2) a ∙ ap (λ ps. with_parts k below f label at (vs ++ name ∷ w ∷ []) ps (drop (2 * (i + 1)) ts) e s2) sets
-        ∙ sym (with_words n h ∙ ap (on_done e (further name n)) g)
-
-pub with_end : (k : ℕ) (below : Eval) (f : Frame) (label : List ℕ) (at : Option (List ℕ)) (ts : List TaggedTree) (i n : ℕ) (b : TaggedTree) (vs : List WideValue) (ps : Sets) (e : Before) (s : State) (r : Ran WideValue) → n ≤ i → i ≤ n → length ts ≡ 2 * n + 1 → slice_get ts (2 * n) ≡ Some b → with_parts k below f label at vs ps (drop (2 * i) ts) e s ≡ r → r ≡ with_body below f label at vs ps b e s
-with_end k below f label at ts i n b vs ps e s r le ge l a run =
-    let q : i ≡ n = omega (arith, le, ge) in
-    let last : drop (2 * n + 1) ts ≡ [] = grind (arith, common_steps, l) in
-    sym run ∙ ap (λ j. with_parts k below f label at vs ps (drop (2 * j) ts) e s) q ∙ ap (λ us. with_parts k below f label at vs ps us e s) (drop_item ts (2 * n) b a ∙ ap (λ us. b ∷ us) last)
-
-pub two_more : (vs us ws : List WideValue) (u w : WideValue) → us ≡ vs ++ u ∷ [] → ws ≡ us ++ w ∷ [] → ws ≡ vs ++ u ∷ w ∷ []
-two_more vs us ws u w a b = b ∙ ap (λ zs. zs ++ w ∷ []) a ∙ by vs
-  where
-    by : (vs : List WideValue) → (vs ++ u ∷ []) ++ w ∷ [] ≡ vs ++ u ∷ w ∷ []
-    by [] = refl
-    by (v ∷ vs) = ap (λ zs. v ∷ zs) (by vs)
-
-sizes_push : (ss : List Setting) (q : Setting) → sizes (sets_of (ss ++ q ∷ [])) ≡ sizes (sets_of ss) + size_of (plain q.value)
-sizes_push [] q = omega arith
-sizes_push (p ∷ ss) q = omega (arith, sizes_push ss q)
-
--- what the loop counts
-pub record IsTold (values : List WideValue) (ss : List Setting) (sum count left start levels i : ℕ) : Type 0 where
-  pub total : sum ≡ sizes (sets_of ss)
-  pub nodes : count ≡ nodes_in ss
-  pub few : count ≤ sum
-  pub small : total_size (plains (vals values)) + left ≤ start
-  pub part : sum ≤ total_size (plains (vals values))
-  pub depth : deepest (plains (vals values)) ≤ levels
-  pub arity : length values ≡ 2 * i
-
-pub told_next : (vs us ws : List WideValue) (ss qs : List Setting) (q : Setting) (total nodes total' nodes' left left1 left2 start levels i : ℕ) (u w : WideValue) → IsTold vs ss total nodes left start levels i → us ≡ vs ++ u ∷ [] → ws ≡ us ++ w ∷ [] → qs ≡ ss ++ q ∷ [] → q.value ≡ w
-    → total' ≡ total + size_of (plain w) → nodes' ≡ nodes + nodes_of (plain w) → size_of (plain u) + left1 ≤ left → size_of (plain w) + left2 ≤ left1 → depth_of (plain u) ≤ levels → depth_of (plain w) ≤ levels
-    → IsTold ws qs total' nodes' left2 start levels (i + 1)
-told_next vs us ws ss qs q total nodes total' nodes' left left1 left2 start levels i u w h a b c d et en f g du dw =
-    rw (b, a, c) (record {
-      total = omega (arith, h.total, et, sizes_push ss q, ap (λ y. size_of (plain y)) d);
-      nodes = omega (arith, h.nodes, en, nodes_push ss q, ap (λ y. nodes_of (plain y)) d);
-      few = omega (arith, h.few, et, en, nodes_le_size (plain w));
-      small = omega (arith, h.small, f, g, size_push vs u, size_push (vs ++ u ∷ []) w);
-      part = omega (arith, h.part, et, size_push vs u, size_push (vs ++ u ∷ []) w);
-      depth = omega (arith, h.depth, du, dw, depth_push vs u, depth_push (vs ++ u ∷ []) w);
-      arity = grind (arith, common_steps, h.arity);
-    })
-
-pub double_fits : (i pairs : ℕ) → i < pairs → pairs < 32768 → 2 * i + 1 < 65536
-double_fits i pairs a b = omega (arith, a, b)
+-- ---- the body
 
 -- what is done behind the body
 abbrev pub closed : List ℕ → Option (List ℕ) → List WideValue → Sets → WideValue → Run WideValue
 closed label at vs old v = set_all old >> give (made label (vals (vs ++ v ∷ [])) at)
 
-pub body_run : (below : Eval) (f : Frame) (label : List ℕ) (at : Option (List ℕ)) (vs : List WideValue) (ps qs old : Sets) (b : TaggedTree) (e : Before) (s s1 s2 : State) (n : ℕ) → n ≡ sizes ps → qs ≡ ps → old ≡ kept_of qs s1.own → pay n e s ≡ Done tt s1 → set_all qs e s1 ≡ Done tt s2
-    → with_body below f label at vs ps b e s ≡ on_done e (closed label at vs old) (below b f e s2)
-unfolding with_body kept
-body_run below f label at vs ps qs old b e s s1 s2 n hn hq ho hp hs =
-    let paid : pay (sizes ps) e s ≡ Done tt s1 = ap (λ m. pay m e s) (sym hn) ∙ hp in
-    let setted : set_all ps e s1 ≡ Done tt s2 = ap (λ xs. set_all xs e s1) (sym hq) ∙ hs in
-    let olds : kept_of ps s1.own ≡ old = ap (λ xs. kept_of xs s1.own) (sym hq) ∙ sym ho in
-    ap (on_done {A = Unit {0}} e (λ _. kept ps >>= λ o. set_all ps >> (below b f >>= closed label at vs o))) paid
-    ∙ ap (λ o. on_done {A = Unit {0}} e (λ _. below b f >>= closed label at vs o) (set_all ps e s1)) olds
-    ∙ ap (on_done {A = Unit {0}} e (λ _. below b f >>= closed label at vs old)) setted
+abbrev pub set_back : Sets → WideValue → Run WideValue
+set_back old v = set_all old >> give v
 
-pub body_done : (below : Eval) (f : Frame) (label : List ℕ) (at : Option (List ℕ)) (vs : List WideValue) (old : Sets) (b : TaggedTree) (v : WideValue) (e : Before) (s2 s3 s4 : State) → below b f e s2 ≡ Done v s3 → set_all old e s3 ≡ Done tt s4
-    → on_done e (closed label at vs old) (below b f e s2) ≡ Done (made label (vals (vs ++ v ∷ [])) at) s4
-body_done below f label at vs old b v e s2 s3 s4 h g = ap (on_done e (closed label at vs old)) h ∙ ap (on_done {A = Unit {0}} e (λ _. give (made label (vals (vs ++ v ∷ [])) at))) g
+module _ (label : List ℕ) (at : Option (List ℕ)) (vs : List WideValue) (e : Before) (m : Run WideValue) (ps : Sets) where
+  by_closed : (v : WideValue) (r : Ran (Unit {0}))
+      → on_done {A = Unit {0}} e (λ _. give (made label (vals (vs ++ v ∷ [])) at)) r
+      ≡ on_done e (ended label at vs) (on_done {A = Unit {0}} e (λ _. give v) r)
+  by_closed v Over = refl
+  by_closed v (Done u s) = refl
+
+  by_body : (old : Sets) (r : Ran WideValue)
+      → on_done e (closed label at vs old) r ≡ on_done e (ended label at vs) (on_done e (set_back old) r)
+  by_body old Over = refl
+  by_body old (Done v s) = by_closed v (set_all old e s)
+
+  by_set : (old : Sets) (r : Ran (Unit {0})) → on_done {A = Unit {0}} e (λ _. m >>= closed label at vs old) r
+      ≡ on_done e (ended label at vs) (on_done {A = Unit {0}} e (λ _. m >>= set_back old) r)
+  by_set old Over = refl
+  by_set old (Done u s) = by_body old (m e s)
+
+  by_paid : (r : Ran (Unit {0}))
+      → on_done {A = Unit {0}} e (λ _. kept ps >>= λ o. set_all ps >> (m >>= closed label at vs o)) r
+      ≡ on_done {A = Unit {0}} e (λ _. (kept ps >>= λ o. set_all ps >> (m >>= set_back o)) >>= ended label at vs) r
+  unfolding kept
+  by_paid Over = refl
+  by_paid (Done u s) = by_set (kept_of ps s.own) (set_all ps e s)
+
+body_is : (below : Eval) (f : Frame) (label : List ℕ) (at : Option (List ℕ)) (vs : List WideValue) (ps : Sets)
+    (ts : List TaggedTree) (i : ℕ) (b : TaggedTree) (e : Before) (s : State) → slice_get ts i ≡ Some b
+    → with_body below f label at vs ps b e s ≡ with_run below f label at vs ps ts i e s
+unfolding with_body with_run held_run
+body_is below f label at vs ps ts i b e s h =
+    ap (λ m. on_done {A = Unit {0}} e (λ _. kept ps >>= λ o. set_all ps >> (m >>= closed label at vs o)) (pay (sizes ps) e s)) (sym (kid_run_is below f ts i b h))
+    ∙ by_paid label at vs e (kid_run below f ts i) ps (pay (sizes ps) e s)
+
+pub with_last : (k : ℕ) (below : Eval) (f : Frame) (label : List ℕ) (at : Option (List ℕ)) (vs : List WideValue) (ps : Sets)
+    (ts : List TaggedTree) (n : ℕ) (e : Before) (s : State) → length ts ≡ 2 * n + 1
+    → with_parts k below f label at vs ps (drop (2 * n) ts) e s ≡ with_run below f label at vs ps ts (2 * n) e s
+with_last k below f label at vs ps ts n e s l =
+    let b = there ts (2 * n) (omega (arith, l)) in
+    let last : drop (2 * n + 1) ts ≡ [] = grind (arith, common_steps, l) in
+    ap (λ us. with_parts k below f label at vs ps us e s) (drop_item ts (2 * n) b.0 b.1 ∙ ap (λ us. b.0 ∷ us) last)
+    ∙ body_is below f label at vs ps ts (2 * n) b.0 e s b.1
+
+pub with_unpaid : (below : Eval) (f : Frame) (label : List ℕ) (at : Option (List ℕ)) (vs : List WideValue) (ps : Sets)
+    (ts : List TaggedTree) (i : ℕ) (e : Before) (s : State) (n : ℕ) (x : Stop) → n ≡ sizes ps → Fails x (pay n e s)
+    → Fails x (with_run below f label at vs ps ts i e s)
+unfolding with_run
+with_unpaid below f label at vs ps ts i e s n x hn h =
+    let rest : Unit {0} → Run WideValue = λ _. held_run below f ps ts i >>= ended label at vs in
+    fails_as x _ _ (ap (λ m. on_done e rest (pay m e s)) (sym hn)) (stop_bind x e rest (pay n e s) h)
+
+pub with_begun : (below : Eval) (f : Frame) (label : List ℕ) (at : Option (List ℕ)) (vs : List WideValue) (ps qs : Sets)
+    (ts : List TaggedTree) (i : ℕ) (e : Before) (s s1 : State) (n : ℕ) → n ≡ sizes ps → qs ≡ ps → pay n e s ≡ Done tt s1
+    → with_run below f label at vs ps ts i e s ≡ on_done e (ended label at vs) (held_run below f qs ts i e s1)
+unfolding with_run
+with_begun below f label at vs ps qs ts i e s s1 n hn hq hp =
+    let paid : pay (sizes ps) e s ≡ Done tt s1 = ap (λ m. pay m e s) (sym hn) ∙ hp in
+    ap (on_done {A = Unit {0}} e (λ _. held_run below f ps ts i >>= ended label at vs)) paid
+    ∙ ap (λ xs. on_done e (ended label at vs) (held_run below f xs ts i e s1)) (sym hq)
+
+pub held_begun : (below : Eval) (f : Frame) (ps old : Sets) (ts : List TaggedTree) (i : ℕ) (e : Before) (s s1 : State)
+    → old ≡ kept_of ps s.own → set_all ps e s ≡ Done tt s1
+    → held_run below f ps ts i e s ≡ on_done e (set_back old) (kid_run below f ts i e s1)
+unfolding held_run kept
+held_begun below f ps old ts i e s s1 ho hs =
+    ap (λ o. on_done {A = Unit {0}} e (λ _. kid_run below f ts i >>= set_back o) (set_all ps e s)) (sym ho)
+    ∙ ap (on_done {A = Unit {0}} e (λ _. kid_run below f ts i >>= set_back old)) hs
+
+pub held_done : (old : Sets) (v : WideValue) (e : Before) (r : Ran WideValue) (s s1 : State) → r ≡ Done v s
+    → set_all old e s ≡ Done tt s1 → on_done e (set_back old) r ≡ Done v s1
+held_done old v e r s s1 h g = ap (on_done e (set_back old)) h ∙ ap (on_done {A = Unit {0}} e (λ _. give v)) g
+
+-- ---- what is counted
+
+sizes_more : (ps : Sets) (x : Name) (v : WideValue) → sizes (ps ++ (x, Some (plain v)) ∷ []) ≡ sizes ps + size_of (plain v)
+sizes_more [] x v = omega arith
+sizes_more (p ∷ ps) x v = omega (arith, sizes_more ps x v)
+
+pub told_next : (vs us : List WideValue) (ss qs : List Setting) (p : Pair)
+    (sum count sum' count' left left' start levels i : ℕ) → IsCounted vs ss sum count left start levels i
+    → us ≡ vs ++ p.name ∷ p.value ∷ [] → sets_of qs ≡ sets_of ss ++ (p.words, Some (plain p.value)) ∷ []
+    → nodes_in qs ≡ nodes_in ss + nodes_of (plain p.value) → sum' ≡ sum + size_of (plain p.value)
+    → count' ≡ count + nodes_of (plain p.value) → size_in_pair (Some p) + left' ≤ left → IsShallowPair levels (Some p)
+    → IsCounted us qs sum' count' left' start levels (i + 1)
+told_next vs us ss qs p sum count sum' count' left left' start levels i h a b c et en g d =
+    let two : us ≡ (vs ++ p.name ∷ []) ++ p.value ∷ [] = a ∙ sym (two_more vs _ _ p.name p.value refl refl) in
+    record {
+      total = omega (arith, h.total, et, ap sizes b, sizes_more (sets_of ss) p.words p.value);
+      nodes = omega (arith, h.nodes, en, c);
+      few = omega (arith, h.few, et, en, nodes_le_size (plain p.value));
+      small = rw two (omega (arith, h.small, g, size_push vs p.name, size_push (vs ++ p.name ∷ []) p.value));
+      part = rw two (omega (arith, h.part, et, size_push vs p.name, size_push (vs ++ p.name ∷ []) p.value));
+      depth = rw two (omega (arith, h.depth, d.0, d.1, depth_push vs p.name, depth_push (vs ++ p.name ∷ []) p.value));
+      arity = rw two (grind (arith, common_steps, h.arity));
+    }
+
+pub told_within : (vs : List WideValue) (ss : List Setting) (sum count left start levels i : ℕ)
+    → IsCounted vs ss sum count left start levels i → start ≤ 1000000 → IsCounted vs ss sum count left 1000000 levels i
+told_within vs ss sum count left start levels i h g =
+    record {
+      total = h.total;
+      nodes = h.nodes;
+      few = h.few;
+      small = omega (arith, h.small, g);
+      part = h.part;
+      depth = h.depth;
+      arity = h.arity;
+    }
+
+pub double_fits : (i pairs : ℕ) → i < pairs → pairs < 32768 → 2 * i + 1 < 65536
+double_fits i pairs a b = omega (arith, a, b)
+
+pub ruleset with_rules = (told_within, double_fits, common_steps)

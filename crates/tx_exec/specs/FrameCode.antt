@@ -8,7 +8,9 @@ use Rattle.tx_origin.specs.TaggedTrees.{TaggedTree}
 use Rattle.tx_exec_form.specs.Frames.{Frame, top, call}
 
 pub tag_code : Coded TaggedTree
-tag_code = code_by (WideTree × Option (List ℕ)) (coded× coded_WideTree (coded_option (coded_list coded_ℕ))) (λ t. (t.tree, t.at)) (λ p. record { tree = p.0; at = p.1 }) (λ _. refl)
+tag_code =
+    code_by (WideTree × Option (List ℕ)) (coded× coded_WideTree (coded_option (coded_list coded_ℕ)))
+    (λ t. (t.tree, t.at)) (λ p. record { tree = p.0; at = p.1 }) (λ _. refl)
 
 pub names_code : Coded (List (List ℕ))
 names_code = coded_list (coded_list coded_ℕ)

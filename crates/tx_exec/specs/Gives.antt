@@ -1,5 +1,5 @@
 -- What a function of the evaluator answers is what the definition gives.
-use Rattle.std.specs.Prelude.{◌≡◌, ℕ, ◌+◌, Result, Ok, Err}
+use Rattle.std.specs.Prelude.{◌≡◌, ℕ, ◌+◌, Option, Some, None, Result, Ok, Err}
 use Rattle.tx_exec_form.specs.Runs.{State, Ran, Over, Done}
 use Rattle.tx_exec.specs.declared.stop.Stop.{Stop}
 use Rattle.tx_exec.specs.declared.stop.Stop.TheVariants as stops
@@ -12,6 +12,12 @@ Fails stops.Over r = r ≡ Over
 abbrev pub Gives : {X A : Type 0} → (X → A) → Result X Stop → Ran A → State → Type 0
 Gives view (Ok x) r s = r ≡ Done (view x) s
 Gives view (Err e) r s = Fails e r
+
+-- the whole goes on with the rest where there is no value yet
+abbrev pub GoesOn : {X : Type 0} → Result (Option X) Stop → Ran X → Ran X → State → Type 0
+GoesOn (Ok None) whole rest s = whole ≡ rest
+GoesOn (Ok (Some x)) whole rest s = whole ≡ Done x s
+GoesOn (Err e) whole rest s = Fails e whole
 
 abbrev pub CountsAtStop : Stop → ℕ → ℕ → Type 0
 CountsAtStop stops.Memory a b = Unit {0}

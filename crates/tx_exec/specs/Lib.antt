@@ -4,3 +4,6 @@ pub mod States
 pub mod Gives
 pub mod Settings
 pub mod Outcomes
+pub mod Kinds
+pub mod PartRuns
+pub mod Told

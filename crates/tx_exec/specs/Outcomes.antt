@@ -11,7 +11,13 @@ use Rattle.tx_exec.specs.declared.outcome.Outcome.TheVariants as outcomes
 
 abbrev pub wide_trace : Trace → WideTrace
 wide_trace t =
-    record { value = t.value; looks = from_entries t.looks; writes = from_entries t.writes; cost = t.cost; height = t.height }
+    record {
+      value = t.value;
+      looks = from_entries t.looks;
+      writes = from_entries t.writes;
+      cost = t.cost;
+      height = t.height;
+    }
 
 -- None where it is over
 abbrev pub wide_outcome : Outcome → Option WideTrace

@@ -3,7 +3,7 @@ use tx_origin::Tagged;
 
 /// What a name has in a frame.
 #[derive(Drop)]
-pub enum Argument {
+pub(crate) enum Argument {
     /// There is no such parameter.
     Unbound,
     /// There is no argument for it.

@@ -18,7 +18,7 @@ use tx_tree::{Label, Text, Tree};
 impl Progress {
     /// The error node of this kind and this detail.
     #[tactic(auto, unfolding(tx_exec_form::specs::Rows::wrong))]
-    pub fn wrong<L: Ledger>(
+    pub(crate) fn wrong<L: Ledger>(
         &mut self,
         alloc: Global,
         steps: &mut Steps<L>,
@@ -28,7 +28,10 @@ impl Progress {
     ) -> Result<Value, Stop>
         requires kind { length kind.now ≤ 1048575 }
         requires detail { length detail.now ≤ 1048575 }
-        ensures gives { (e : Before) → Gives (λ v. v) result (wrong levels kind.now detail.now e (state_of self.old)) (state_of self.new) }
+        ensures gives { (e : Before) → Gives (λ v. v) result
+            (wrong levels kind.now detail.now
+            e (state_of self.old))
+            (state_of self.new) }
         ensures paid { Counts result (steps.old + self.old.left) (steps.new + self.new.left) }
     {
         self.need(2, levels)?;
@@ -38,7 +41,7 @@ impl Progress {
 
     /// A text.
     #[tactic(auto, unfolding(tx_exec_form::specs::Rows::leaf_run))]
-    pub fn leaf<L: Ledger>(
+    pub(crate) fn leaf<L: Ledger>(
         &mut self,
         alloc: Global,
         steps: &mut Steps<L>,
@@ -46,7 +49,10 @@ impl Progress {
         at: &Option<Ip>,
         levels: u32,
     ) -> Result<Value, Stop>
-        ensures gives { (e : Before) → Gives (λ v. v) result (leaf_run levels words.now at.now e (state_of self.old)) (state_of self.new) }
+        ensures gives { (e : Before) → Gives (λ v. v) result
+            (leaf_run levels words.now at.now
+            e (state_of self.old))
+            (state_of self.new) }
         ensures paid { Counts result (steps.old + self.old.left) (steps.new + self.new.left) }
     {
         self.need(1, levels)?;
@@ -56,14 +62,17 @@ impl Progress {
 
     /// A word of the evaluator's own.
     #[tactic(auto, unfolding(tx_exec_form::specs::Rows::taken))]
-    pub fn word<L: Ledger>(
+    pub(crate) fn word<L: Ledger>(
         &mut self,
         alloc: Global,
         steps: &mut Steps<L>,
         words: Text,
         levels: u32,
     ) -> Result<Value, Stop>
-        ensures gives { (e : Before) → Gives (λ v. v) result (taken levels (text words None) e (state_of self.old)) (state_of self.new) }
+        ensures gives { (e : Before) → Gives (λ v. v) result
+            (taken levels (text words None)
+            e (state_of self.old))
+            (state_of self.new) }
         ensures paid { Counts result (steps.old + self.old.left) (steps.new + self.new.left) }
     {
         self.need(1, levels)?;
@@ -72,8 +81,8 @@ impl Progress {
     }
 
     /// The tree as it stands at this origin.
-    #[tactic(auto, unfolding(tx_exec_form::specs::Rows::taken), using(tx_origin::proofs::Wholes::plain_whole, std::proofs::lemmas::Grind::common_steps))]
-    pub fn taken<L: Ledger>(
+    #[tactic(auto, unfolding(tx_exec_form::specs::Rows::taken), using(crate::proofs::Kids::whole_rules))]
+    pub(crate) fn taken<L: Ledger>(
         &mut self,
         alloc: Global,
         steps: &mut Steps<L>,
@@ -81,7 +90,10 @@ impl Progress {
         at: &Option<Ip>,
         levels: u32,
     ) -> Result<Value, Stop>
-        ensures gives { (e : Before) → Gives (λ v. v) result (taken levels (whole at.now tree.now) e (state_of self.old)) (state_of self.new) }
+        ensures gives { (e : Before) → Gives (λ v. v) result
+            (taken levels (whole at.now tree.now)
+            e (state_of self.old))
+            (state_of self.new) }
         ensures paid { Counts result (steps.old + self.old.left) (steps.new + self.new.left) }
     {
         self.need(tree.depth(), levels)?;
@@ -91,7 +103,7 @@ impl Progress {
 }
 
 /// The text of these bytes.
-pub fn text_of(alloc: Global, bytes: &[u8]) -> Result<Text, Memory>
+pub(crate) fn text_of(alloc: Global, bytes: &[u8]) -> Result<Text, Memory>
     ensures ok { IfOk result (λ t. t ≡ bytes.now) }
 {
     match Text::new(alloc, bytes) {

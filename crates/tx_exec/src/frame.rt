@@ -13,10 +13,10 @@ use tx_base::Memory;
 use tx_origin::Tagged;
 use tx_tree::Tree;
 
-/// A frame: a macro, whose parameters they are, the tag that calls it, whose children are the arguments, and the caller's
-/// frame.
+/// A frame: a macro, whose parameters they are, the tag that calls it, whose children are the arguments, and the
+/// caller's frame.
 #[derive(Drop)]
-pub struct Call<'a> {
+pub(crate) struct Call<'a> {
     meaning: &'a Tree,
     tag: &'a Tagged,
     caller: Option<&'a Call<'a>>,
@@ -39,8 +39,9 @@ impl<'a> Model for Call<'a> {
 
 impl<'a> Call<'a> {
     /// The frame of this macro, called by this tag in the frame of the caller.
-    pub fn new(meaning: &'a Tree, tag: &'a Tagged, caller: Option<&'a Call<'a>>) -> Call<'a>
-        ensures { result ≡ call (params_of (children_of meaning.now)) (kids_of (tagged_of tag.now)) (frame_in caller.entry) }
+    pub(crate) fn new(meaning: &'a Tree, tag: &'a Tagged, caller: Option<&'a Call<'a>>) -> Call<'a>
+        ensures { result
+            ≡ call (params_of (children_of meaning.now)) (kids_of (tagged_of tag.now)) (frame_in caller.entry) }
     {
         Call {
             meaning,
@@ -50,14 +51,14 @@ impl<'a> Call<'a> {
     }
 
     /// The frame of the caller.
-    pub fn caller(&self) -> Option<&'a Call<'a>>
+    pub(crate) fn caller(&self) -> Option<&'a Call<'a>>
         ensures { frame_in result ≡ caller_of self.now }
     {
         self.caller
     }
 
     /// What the name has.
-    pub fn argument(&self, alloc: Global, name: &[u8]) -> Result<Argument, Memory>
+    pub(crate) fn argument(&self, alloc: Global, name: &[u8]) -> Result<Argument, Memory>
         ensures { IfOk result (λ r. found_of r ≡ argument_in name.now self.now) }
     {
         argument_of(alloc, self.meaning, self.tag, name)
@@ -65,7 +66,7 @@ impl<'a> Call<'a> {
 }
 
 /// The frame of the caller, or none where there is no frame.
-pub fn caller_in<'a>(frame: Option<&Call<'a>>) -> Option<&'a Call<'a>>
+pub(crate) fn caller_in<'a>(frame: Option<&Call<'a>>) -> Option<&'a Call<'a>>
     ensures { frame_in result ≡ caller_of (frame_in frame.entry) }
 {
     match frame {

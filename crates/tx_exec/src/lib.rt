@@ -3,7 +3,9 @@
 //! What a tree comes to is `evaluated` of `tx_exec_form`, and `eval` answers exactly that.
 #![tactic(auto)]
 
+mod arg_rows;
 mod argument;
+mod assigning;
 mod children;
 mod errors;
 mod evaluator;
@@ -19,8 +21,5 @@ mod stop;
 mod storing;
 mod withs;
 
-pub use frame::Call;
 pub use looks::Looks;
 pub use outcome::{Outcome, Trace, eval};
-pub use progress::Progress;
-pub use stop::Stop;

@@ -3,8 +3,10 @@ ghost use Rattle.std.specs.Prelude.{◌≡◌, ◌+◌, ◌<◌, ◌≤◌, [], 
 ghost use Rattle.tx_origin.specs.Values.{plain, made, none};
 ghost use Rattle.tx_origin.specs.TaggedTrees.{tagged_of, kids_of};
 ghost use Rattle.tx_exec_form.specs.Runs.{Before};
-ghost use Rattle.tx_exec_form.specs.Rows.{value_of, provides_of, quote, macro, truth};
+ghost use Rattle.tx_exec_form.specs.Frames.{top};
+ghost use Rattle.tx_exec_form.specs.Rows.{row, value_of, provides_of, quote, macro, truth};
 ghost use Rattle.tx_exec.specs.Gives.{Gives, Counts};
+ghost use Rattle.tx_exec.specs.Kinds.{IsStill, nothing};
 ghost use Rattle.tx_exec.specs.States.{state_of, before_of};
 
 use crate::children::kid;
@@ -15,13 +17,44 @@ use std::alloc::Global;
 use std::sync::ledger::Ledger;
 use tx_base::{Memory, Steps};
 use tx_env::Env;
+use tx_exec_form::Row;
 use tx_origin::{Tagged, Value, share_origin};
 use tx_tree::{Label, Text, Tree};
 
 impl Progress {
+    /// Rows that evaluate no part.
+    #[tactic(auto, unfolding(tx_exec_form::specs::Rows::row))]
+    pub(crate) fn still_row<L: Ledger>(
+        &mut self,
+        alloc: Global,
+        steps: &mut Steps<L>,
+        t: &Tagged,
+        label: &Label,
+        kind: Row,
+        levels: u32,
+    ) -> Result<Value, Stop>
+        requires kind { IsStill kind }
+        ensures gives { (e : Before) → Gives (λ v. v) result
+            (row kind levels nothing (tagged_of t.now) label.now (kids_of (tagged_of t.now)) top
+            e (state_of self.old))
+            (state_of self.new) }
+        ensures paid { Counts result (steps.old + self.old.left) (steps.new + self.new.left) }
+    {
+        match kind {
+            Row::Refused => {
+                self.wrong(alloc, steps, levels, b"refused".as_slice(), label.bytes())
+            }
+            Row::RawData => Ok(without_parts(alloc, label, t)?),
+            Row::DrdProps => Ok(Value::leaf(alloc, text_of(alloc, &[])?, None)?),
+            Row::Macro => self.macro_itself(alloc, steps, t, label, levels),
+            Row::Quote => self.quote(alloc, steps, t, label, levels),
+            _ => unreachable!(),
+        }
+    }
+
     /// `value` of a name: its tree.
     #[tactic(auto, unfolding(tx_exec_form::specs::Rows::value_of))]
-    pub fn value_of<L: Ledger>(
+    pub(crate) fn value_of<L: Ledger>(
         &mut self,
         alloc: Global,
         env: &Env,
@@ -30,7 +63,10 @@ impl Progress {
         name: &Value,
         levels: u32,
     ) -> Result<Value, Stop>
-        ensures gives { Gives (λ v. v) result (value_of levels label.now name.now (before_of env.now) (state_of self.old)) (state_of self.new) }
+        ensures gives { Gives (λ v. v) result
+            (value_of levels label.now name.now
+            (before_of env.now) (state_of self.old))
+            (state_of self.new) }
         ensures paid { Counts result (steps.old + self.old.left) (steps.new + self.new.left) }
     {
         match name.text() {
@@ -44,7 +80,7 @@ impl Progress {
 
     /// `provides` of a name: whether it has a tree.
     #[tactic(auto, unfolding(tx_exec_form::specs::Rows::provides_of))]
-    pub fn provides_of<L: Ledger>(
+    pub(crate) fn provides_of<L: Ledger>(
         &mut self,
         alloc: Global,
         env: &Env,
@@ -53,7 +89,10 @@ impl Progress {
         name: &Value,
         levels: u32,
     ) -> Result<Value, Stop>
-        ensures gives { Gives (λ v. v) result (provides_of levels label.now name.now (before_of env.now) (state_of self.old)) (state_of self.new) }
+        ensures gives { Gives (λ v. v) result
+            (provides_of levels label.now name.now
+            (before_of env.now) (state_of self.old))
+            (state_of self.new) }
         ensures paid { Counts result (steps.old + self.old.left) (steps.new + self.new.left) }
     {
         match name.text() {
@@ -68,7 +107,7 @@ impl Progress {
 
     /// `quote`: the child as it stands.
     #[tactic(auto, using(crate::proofs::Shapes::quote_rules, std::proofs::lemmas::Grind::common_steps))]
-    pub fn quote<L: Ledger>(
+    pub(crate) fn quote<L: Ledger>(
         &mut self,
         alloc: Global,
         steps: &mut Steps<L>,
@@ -76,7 +115,10 @@ impl Progress {
         label: &Label,
         levels: u32,
     ) -> Result<Value, Stop>
-        ensures gives { (e : Before) → Gives (λ v. v) result (quote levels label.now (kids_of (tagged_of t.now)) e (state_of self.old)) (state_of self.new) }
+        ensures gives { (e : Before) → Gives (λ v. v) result
+            (quote levels label.now (kids_of (tagged_of t.now))
+            e (state_of self.old))
+            (state_of self.new) }
         ensures paid { Counts result (steps.old + self.old.left) (steps.new + self.new.left) }
     {
         if t.arity() != 1 {
@@ -87,8 +129,8 @@ impl Progress {
     }
 
     /// `macro`: itself.
-    #[tactic(auto, using(crate::proofs::Shapes::macro_rules, tx_origin::proofs::Wholes::plain_whole, std::proofs::lemmas::Grind::common_steps))]
-    pub fn macro_itself<L: Ledger>(
+    #[tactic(auto, using(crate::proofs::Shapes::macro_rules))]
+    pub(crate) fn macro_itself<L: Ledger>(
         &mut self,
         alloc: Global,
         steps: &mut Steps<L>,
@@ -96,7 +138,10 @@ impl Progress {
         label: &Label,
         levels: u32,
     ) -> Result<Value, Stop>
-        ensures gives { (e : Before) → Gives (λ v. v) result (macro levels label.now (tagged_of t.now) (kids_of (tagged_of t.now)) e (state_of self.old)) (state_of self.new) }
+        ensures gives { (e : Before) → Gives (λ v. v) result
+            (macro levels label.now (tagged_of t.now) (kids_of (tagged_of t.now))
+            e (state_of self.old))
+            (state_of self.new) }
         ensures paid { Counts result (steps.old + self.old.left) (steps.new + self.new.left) }
     {
         if t.arity() == 0 {
@@ -118,7 +163,7 @@ fn truth_of(alloc: Global, found: &Option<Tree>) -> Result<Text, Memory>
 }
 
 /// The node with this label and this origin, and no parts.
-pub fn without_parts(alloc: Global, label: &Label, t: &Tagged) -> Result<Value, Memory>
+pub(crate) fn without_parts(alloc: Global, label: &Label, t: &Tagged) -> Result<Value, Memory>
     ensures { IfOk result (λ v. v ≡ made label.now none t.now.at) }
 {
     Value::node(alloc, label.copy()?, Vec::new(alloc), share_origin(&t.at)?)

@@ -15,7 +15,7 @@ use tx_origin::Tagged;
 use tx_tree::{Text, Tree};
 
 /// Whether the tree is a `macro`.
-pub fn is_macro(tree: &Tree) -> bool
+pub(crate) fn is_macro(tree: &Tree) -> bool
     ensures { result ≡ is_macro tree.now }
 {
     match tree.label() {
@@ -26,8 +26,9 @@ pub fn is_macro(tree: &Tree) -> bool
 
 /// The last child, where all before it are texts.
 #[tactic(auto, using(crate::proofs::Bodies::body_rules, std::proofs::lemmas::Grind::common_steps))]
-pub fn body_of(tree: &Tree) -> Option<&Tree>
-    ensures { MatchOption result (macro_in (children_of tree.now) ≡ None) (λ b. macro_in (children_of tree.now) ≡ Some (params_of (children_of tree.now), b.now)) }
+pub(crate) fn body_of(tree: &Tree) -> Option<&Tree>
+    ensures { MatchOption result (macro_in (children_of tree.now) ≡ None)
+        (λ b. macro_in (children_of tree.now) ≡ Some (params_of (children_of tree.now), b.now)) }
 {
     let kids = tree.children();
     if kids.is_empty() {
@@ -53,14 +54,15 @@ fn word_of(tree: &Tree) -> &[u8]
 }
 
 /// What the name has where these are the parameters of a macro and these the arguments.
-#[tactic(auto, using(crate::proofs::Bodies::argument_rules, tx_origin::proofs::Kids::kid_rules, std::proofs::lemmas::Grind::common_steps))]
-pub fn argument_of(
+#[tactic(auto, using(crate::proofs::Bodies::argument_rules))]
+pub(crate) fn argument_of(
     alloc: Global,
     meaning: &Tree,
     tag: &Tagged,
     name: &[u8],
 ) -> Result<Argument, Memory>
-    ensures { IfOk result (λ r. found_of r ≡ argument name.now (params_of (children_of meaning.now)) (kids_of (tagged_of tag.now))) }
+    ensures { IfOk result (λ r. found_of r
+        ≡ argument name.now (params_of (children_of meaning.now)) (kids_of (tagged_of tag.now))) }
 {
     let count = meaning.arity();
     if count == 0 {

@@ -14,10 +14,10 @@ use tx_base::Memory;
 use tx_env::Writes;
 use tx_tree::{Text, Tree};
 
-/// Names with what was noted of them: a tree, or nothing. Contracts see a list of pairs, in the order in which the names
-/// first came.
+/// Names with what was noted of them: a tree, or nothing. Contracts see a list of pairs, in the order in which the
+/// names first came.
 #[derive(Drop)]
-pub struct Names {
+pub(crate) struct Names {
     map: IndexMap<Text, Option<Tree>>,
 }
 
@@ -35,7 +35,7 @@ impl Model for Names {
 
 impl Names {
     /// No names. It takes no memory until the first.
-    pub fn new(alloc: Global) -> Names
+    pub(crate) fn new(alloc: Global) -> Names
         ensures { result ≡ [] }
     {
         Names {
@@ -44,7 +44,7 @@ impl Names {
     }
 
     /// The tree that was noted of the name.
-    pub fn get(&self, name: &Text) -> Option<&Tree>
+    pub(crate) fn get(&self, name: &Text) -> Option<&Tree>
         ensures { MatchOption result (find name.now self.now ≡ None) (λ t. find name.now self.now ≡ Some t.now) }
     {
         match self.map.get(name) {
@@ -54,14 +54,14 @@ impl Names {
     }
 
     /// Whether anything was noted of the name.
-    pub fn has(&self, name: &Text) -> bool
+    pub(crate) fn has(&self, name: &Text) -> bool
         ensures { result ≡ is_some (listed name.now self.now) }
     {
         self.map.contains_key(name)
     }
 
     /// Notes this of the name. For want of memory all stays.
-    pub fn note(&mut self, name: Text, value: Option<Tree>) -> Result<(), Memory>
+    pub(crate) fn note(&mut self, name: Text, value: Option<Tree>) -> Result<(), Memory>
         ensures ok { OnOk result (self.new ≡ put name value self.old) }
         ensures err { OnErr result (self.new ≡ self.old) }
     {
@@ -71,7 +71,7 @@ impl Names {
 
     /// All that was noted, each name once.
     #[tactic(auto, using(crate::proofs::Ending::drain_rules, std::proofs::lemmas::Grind::common_steps))]
-    pub fn into_looks(self, alloc: Global) -> Result<Looks, Memory>
+    pub(crate) fn into_looks(self, alloc: Global) -> Result<Looks, Memory>
         ensures all { IfOk result (λ l. l ≡ self) }
         ensures once { IsDistinct bytes_eq (keys_of self) }
     {
@@ -84,7 +84,7 @@ impl Names {
 
     /// The names of which a tree was noted, each once.
     #[tactic(auto, using(crate::proofs::Ending::drain_rules, std::proofs::lemmas::Grind::common_steps))]
-    pub fn into_writes(self, alloc: Global) -> Result<Writes, Memory>
+    pub(crate) fn into_writes(self, alloc: Global) -> Result<Writes, Memory>
         ensures all { IfOk result (λ w. w ≡ set_pairs self) }
         ensures once { IsDistinct bytes_eq (keys_of self) }
     {

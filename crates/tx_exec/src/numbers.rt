@@ -21,7 +21,7 @@ fn number_in(value: &Value) -> Option<i64>
 
 /// Each of the values as a number, or None where one of them is none.
 #[tactic(auto, using(crate::proofs::Leading::number_rules, std::proofs::lemmas::Grind::common_steps))]
-pub fn numbers_in(alloc: Global, values: &[Value]) -> Result<Option<Vec<i64>>, Memory>
+pub(crate) fn numbers_in(alloc: Global, values: &[Value]) -> Result<Option<Vec<i64>>, Memory>
     ensures { IfOk result (λ r. option_map (λ ns. ns.items) r ≡ numbers_of values.now) }
 {
     let mut numbers = Vec::new(alloc);
@@ -35,7 +35,7 @@ pub fn numbers_in(alloc: Global, values: &[Value]) -> Result<Option<Vec<i64>>, M
 }
 
 // The child of this number.
-#[tactic(auto, using(crate::proofs::Leading::kid_rules, crate::proofs::Kids::few_kids, std::proofs::lemmas::Grind::common_steps))]
+#[tactic(auto, using(crate::proofs::Leading::kid_rules))]
 fn kid_at(alloc: Global, t: &Tagged, number: i64) -> Result<Option<Tagged>, Memory>
     ensures { IfOk result (λ r. option_map tagged_of r ≡ kid_at (tagged_of t.now) number) }
 {
@@ -51,7 +51,7 @@ fn kid_at(alloc: Global, t: &Tagged, number: i64) -> Result<Option<Tagged>, Memo
 
 /// The part to which the numbers lead, with its origin, or None where one of them doesn't lead.
 #[tactic(auto, using(crate::proofs::Leading::part_rules, std::proofs::lemmas::Grind::common_steps))]
-pub fn part_at(alloc: Global, t: &Tagged, numbers: &[i64]) -> Result<Option<Tagged>, Memory>
+pub(crate) fn part_at(alloc: Global, t: &Tagged, numbers: &[i64]) -> Result<Option<Tagged>, Memory>
     ensures { IfOk result (λ r. option_map tagged_of r ≡ part_of (tagged_of t.now) numbers.now) }
 {
     let [first, others @ ..] = numbers else {

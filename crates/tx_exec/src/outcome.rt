@@ -42,8 +42,8 @@ pub enum Outcome {
 
 /// The trace of the tree without a frame, where this many steps are allowed, at most 1,000,000, and 400 levels.
 ///
-/// `Over` is answered exactly where the cost passes the allowance or the height passes 400. The steps rise by the cost, or
-/// by the allowance where it is over. The environment is as before after every answer.
+/// `Over` is answered exactly where the cost passes the allowance or the height passes 400. The steps rise by the cost,
+/// or by the allowance where it is over. The environment is as before after every answer.
 #[tactic(auto, using(crate::proofs::Ending::over_iff, std::proofs::lemmas::Grind::common_steps))]
 pub fn eval<L: Ledger>(
     alloc: Global,

@@ -15,9 +15,10 @@ use tx_base::{Memory, Steps};
 use tx_env::Env;
 use tx_tree::{Text, Tree};
 
-/// What an evaluation has set and looked up, the steps that are left, and how many levels were left where the fewest were.
+/// What an evaluation has set and looked up, the steps that are left, and how many levels were left where the fewest
+/// were.
 #[derive(Drop)]
-pub struct Progress {
+pub(crate) struct Progress {
     pub(crate) own: Names,
     pub(crate) looks: Names,
     pub(crate) left: u64,
@@ -26,7 +27,7 @@ pub struct Progress {
 
 impl Progress {
     /// Nothing set and nothing looked up, with so many steps and 400 levels.
-    pub fn begin(alloc: Global, allowance: u64) -> Progress
+    pub(crate) fn begin(alloc: Global, allowance: u64) -> Progress
         ensures own { result.own ≡ [] }
         ensures looks { result.looks ≡ [] }
         ensures left { result.left ≡ allowance }
@@ -42,7 +43,7 @@ impl Progress {
 
     /// Takes n steps.
     #[tactic(auto, unfolding(tx_exec_form::specs::Runs::pay))]
-    pub fn pay<L: Ledger>(&mut self, steps: &mut Steps<L>, n: u64) -> Result<(), Stop>
+    pub(crate) fn pay<L: Ledger>(&mut self, steps: &mut Steps<L>, n: u64) -> Result<(), Stop>
         ensures gives { (e : Before) → Gives (λ u. tt) result (pay n e (state_of self.old)) (state_of self.new) }
         ensures paid { Counts result (steps.old + self.old.left) (steps.new + self.new.left) }
         ensures left { IfOk result (λ u. self.new.left + n ≡ self.old.left) }
@@ -57,7 +58,7 @@ impl Progress {
 
     /// Takes n steps, of which so many are counted later.
     #[tactic(auto, unfolding(tx_exec_form::specs::Runs::pay))]
-    pub fn charge<L: Ledger>(
+    pub(crate) fn charge<L: Ledger>(
         &mut self,
         steps: &mut Steps<L>,
         n: u64,
@@ -78,8 +79,9 @@ impl Progress {
 
     /// Of these levels n are needed.
     #[tactic(auto, unfolding(tx_exec_form::specs::Runs::need))]
-    pub fn need(&mut self, n: u32, levels: u32) -> Result<(), Stop>
-        ensures gives { (e : Before) → Gives (λ u. tt) result (need n levels e (state_of self.old)) (state_of self.new) }
+    pub(crate) fn need(&mut self, n: u32, levels: u32) -> Result<(), Stop>
+        ensures gives { (e : Before) → Gives (λ u. tt) result
+            (need n levels e (state_of self.old)) (state_of self.new) }
         ensures left { self.new.left ≡ self.old.left }
     {
         if n > levels {
@@ -91,7 +93,7 @@ impl Progress {
 
     /// What the evaluation has set the name to.
     #[tactic(auto, using(tx_env::proofs::Maps::map_rules, std::proofs::lemmas::Grind::common_steps))]
-    pub fn own_tree(&self, name: &Text) -> Result<Option<Tree>, Memory>
+    pub(crate) fn own_tree(&self, name: &Text) -> Result<Option<Tree>, Memory>
         ensures { IfOk result (λ t. t ≡ maps.get (map_of self.now.own) name.now) }
     {
         match self.own.get(name) {
@@ -102,17 +104,19 @@ impl Progress {
 
     /// Sets the name to this.
     #[tactic(auto, using(tx_env::proofs::Maps::map_rules, std::proofs::lemmas::Grind::common_steps))]
-    pub fn set(&mut self, name: Text, tree: Option<Tree>) -> Result<(), Memory>
-        ensures own { OnOk result (state_of self.new ≡ record (state_of self.old) { own = with_pair name tree (state_of self.old).own }) }
+    pub(crate) fn set(&mut self, name: Text, tree: Option<Tree>) -> Result<(), Memory>
+        ensures own { OnOk result (state_of self.new
+            ≡ record (state_of self.old) { own = with_pair name tree (state_of self.old).own }) }
         ensures left { self.new.left ≡ self.old.left }
     {
         self.own.note(name, tree)
     }
 
     /// What a name has: what the evaluation has set, or else what it had before, which is a look.
-    #[tactic(auto, unfolding(tx_exec_form::specs::Runs::look), using(crate::proofs::Noting::look_rules, std::proofs::lemmas::Grind::common_steps))]
-    pub fn look(&mut self, env: &Env, name: &Text) -> Result<Option<Tree>, Memory>
-        ensures gives { IfOk result (λ t. look name.now (before_of env.now) (state_of self.old) ≡ Done t (state_of self.new)) }
+    #[tactic(auto, unfolding(tx_exec_form::specs::Runs::look), using(crate::proofs::Noting::look_rules))]
+    pub(crate) fn look(&mut self, env: &Env, name: &Text) -> Result<Option<Tree>, Memory>
+        ensures gives { IfOk result
+            (λ t. look name.now (before_of env.now) (state_of self.old) ≡ Done t (state_of self.new)) }
         ensures left { self.new.left ≡ self.old.left }
     {
         if let Some(found) = self.own.get(name) {

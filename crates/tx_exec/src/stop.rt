@@ -4,7 +4,7 @@ use tx_base::Memory;
 
 /// Why an evaluation stops.
 #[derive(Clone, Copy, Debug, PartialEq, Eq)]
-pub enum Stop {
+pub(crate) enum Stop {
     /// Memory ran out.
     Memory,
     /// The steps or the levels ran out.

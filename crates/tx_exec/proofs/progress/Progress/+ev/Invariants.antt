@@ -6,7 +6,7 @@ use Rattle.tx_exec_form.specs.Rows.{ex, each, with_parts}
 use Rattle.tx_exec.specs.FrameView.{frame_in}
 use Rattle.tx_exec.specs.States.{state_of, before_of}
 use Rattle.tx_exec.specs.Settings.{sets_of}
-use Rattle.tx_exec.proofs.WithLoop.{IsTold}
+use Rattle.tx_exec.specs.Told.{IsTold}
 use Rattle.tx_exec.proofs.progress.Progress.+ev.Given as goal
 
 abbrev pub decreases-ev : goal.decreases-ev
@@ -21,26 +21,26 @@ decreases-node g l = 10 * l.levels + 1
 abbrev pub decreases-row : goal.decreases-row
 decreases-row g l = 10 * l.levels
 
+abbrev pub decreases-other_row : goal.decreases-other_row
+decreases-other_row g l = 10 * l.levels - 1
+
 abbrev pub decreases-rebuilt : goal.decreases-rebuilt
 decreases-rebuilt g l = 10 * l.levels - 2
 
 abbrev pub decreases-each : goal.decreases-each
-decreases-each g l = 10 * l.levels + 4
+decreases-each g l = 10 * l.levels + 5
 
-abbrev pub decreases-assign : goal.decreases-assign
-decreases-assign g l = 10 * l.levels - 1
+abbrev pub decreases-kid_value : goal.decreases-kid_value
+decreases-kid_value g l = 10 * l.levels + 4
 
-abbrev pub decreases-assigned : goal.decreases-assigned
-decreases-assigned g l = 10 * l.levels - 2
+abbrev pub decreases-only : goal.decreases-only
+decreases-only g l = 10 * l.levels - 2
 
-abbrev pub invariant-each-loop-i : goal.invariant-each-loop-i
-invariant-each-loop-i g l = record {
-  run : each (ex l.levels) (frame_in l.frame) l.values.items (drop l.i (kids_of (tagged_of l.t))) (before_of l.env) (state_of l.self) ≡ each (ex l.fn.levels) (frame_in l.fn.frame) [] (drop l.fn.first (kids_of (tagged_of l.fn.t))) (before_of l.fn.env) (state_of l.fn.self);
-  paid : l.steps + l.self.left ≡ l.fn.steps + l.fn.self.left;
-  arity : length l.values.items + l.fn.first ≡ l.i;
-  size : total_size (plains (vals l.values.items)) + l.self.left ≤ l.fn.self.left;
-  depth : deepest (plains (vals l.values.items)) ≤ l.fn.levels;
-}
+abbrev pub decreases-only_child : goal.decreases-only_child
+decreases-only_child g l = 10 * l.levels - 3
+
+abbrev pub decreases-again : goal.decreases-again
+decreases-again g l = 10 * l.levels - 4
 
 abbrev pub decreases-tag : goal.decreases-tag
 decreases-tag g l = 10 * l.levels - 1
@@ -48,17 +48,14 @@ decreases-tag g l = 10 * l.levels - 1
 abbrev pub decreases-call : goal.decreases-call
 decreases-call g l = 10 * l.levels - 2
 
-abbrev pub decreases-arg : goal.decreases-arg
-decreases-arg g l = 10 * l.levels - 1
+abbrev pub decreases-pair : goal.decreases-pair
+decreases-pair g l = 10 * l.levels + 5
 
-abbrev pub decreases-arg_of : goal.decreases-arg_of
-decreases-arg_of g l = 10 * l.levels - 2
+abbrev pub decreases-assign : goal.decreases-assign
+decreases-assign g l = 10 * l.levels - 1
 
-abbrev pub decreases-only : goal.decreases-only
-decreases-only g l = 10 * l.levels - 1
-
-abbrev pub decreases-again : goal.decreases-again
-decreases-again g l = 10 * l.levels - 3
+abbrev pub decreases-assigned : goal.decreases-assigned
+decreases-assigned g l = 10 * l.levels - 2
 
 abbrev pub decreases-with_row : goal.decreases-with_row
 decreases-with_row g l = 10 * l.levels - 1
@@ -66,21 +63,50 @@ decreases-with_row g l = 10 * l.levels - 1
 abbrev pub decreases-with_parts : goal.decreases-with_parts
 decreases-with_parts g l = 10 * l.levels - 2
 
+abbrev pub decreases-all_pairs : goal.decreases-all_pairs
+decreases-all_pairs g l = 10 * l.levels - 3
+
 abbrev pub decreases-with_body : goal.decreases-with_body
 decreases-with_body g l = 10 * l.levels - 3
 
-abbrev pub invariant-with_parts-loop-i : goal.invariant-with_parts-loop-i
-invariant-with_parts-loop-i g l = record {
-  run : with_parts l.levels (ex (l.levels - 1)) (frame_in l.frame) l.label l.t.at l.values.items (sets_of l.settings.items) (drop (2 * l.i) (kids_of (tagged_of l.t))) (before_of l.env) (state_of l.self) ≡ with_parts l.fn.levels (ex (l.fn.levels - 1)) (frame_in l.fn.frame) l.fn.label l.fn.t.at [] [] (kids_of (tagged_of l.fn.t)) (before_of l.fn.env) (state_of l.fn.self);
-  paid : l.steps + l.self.left ≡ l.fn.steps + l.fn.self.left;
-  told : IsTold l.values.items l.settings.items l.total l.nodes l.self.left l.fn.self.left (l.fn.levels - 1) l.i;
-}
+abbrev pub decreases-with_names : goal.decreases-with_names
+decreases-with_names g l = 10 * l.levels + 5
 
-abbrev pub decreases-only_child : goal.decreases-only_child
-decreases-only_child g l = 10 * l.levels - 2
+abbrev pub decreases-arg : goal.decreases-arg
+decreases-arg g l = 10 * l.levels - 2
+
+abbrev pub decreases-arg_of : goal.decreases-arg_of
+decreases-arg_of g l = 10 * l.levels - 3
 
 abbrev pub decreases-arg_part : goal.decreases-arg_part
-decreases-arg_part g l = 10 * l.levels - 3
+decreases-arg_part g l = 10 * l.levels - 4
+
+abbrev pub decreases-numbered : goal.decreases-numbered
+decreases-numbered g l = 10 * l.levels - 5
 
 abbrev pub decreases-used : goal.decreases-used
-decreases-used g l = 10 * l.levels - 4
+decreases-used g l = 10 * l.levels - 6
+
+abbrev pub invariant-each-loop-i : goal.invariant-each-loop-i
+invariant-each-loop-i g l = record {
+  run :
+      each (ex l.levels) (frame_in l.frame) l.values.items (drop l.i (kids_of (tagged_of l.t)))
+      (before_of l.env) (state_of l.self)
+      ≡ each (ex l.fn.levels) (frame_in l.fn.frame) [] (drop l.fn.first (kids_of (tagged_of l.fn.t)))
+      (before_of l.fn.env) (state_of l.fn.self);
+  paid : l.steps + l.self.left ≡ l.fn.steps + l.fn.self.left;
+  arity : length l.values.items + l.fn.first ≡ l.i;
+  size : total_size (plains (vals l.values.items)) + l.self.left ≤ l.fn.self.left;
+  depth : deepest (plains (vals l.values.items)) ≤ l.fn.levels;
+}
+
+abbrev pub invariant-all_pairs-loop-i : goal.invariant-all_pairs-loop-i
+invariant-all_pairs-loop-i g l = record {
+  run :
+      with_parts l.levels (ex (l.levels - 1)) (frame_in l.frame) l.label l.t.at l.parts.values.items
+      (sets_of l.parts.settings.items) (drop (2 * l.i) (kids_of (tagged_of l.t))) (before_of l.env) (state_of l.self)
+      ≡ with_parts l.fn.levels (ex (l.fn.levels - 1)) (frame_in l.fn.frame) l.fn.label l.fn.t.at [] []
+      (kids_of (tagged_of l.fn.t)) (before_of l.fn.env) (state_of l.fn.self);
+  paid : l.steps + l.self.left ≡ l.fn.steps + l.fn.self.left;
+  told : IsTold l.parts l.self.left l.fn.self.left (l.fn.levels - 1) l.i;
+}

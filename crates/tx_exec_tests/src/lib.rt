@@ -1,0 +1,11 @@
+//! Tests of evaluation: tables row by row, each at its cost and below it, and at the greatest height and above it.
+#![tactic(auto)]
+
+#[cfg(test)]
+mod cases;
+#[cfg(test)]
+mod heights;
+#[cfg(test)]
+mod rows;
+#[cfg(test)]
+mod traces;
