@@ -177,13 +177,6 @@ lines_formed before last (one ∷ lines) (mark ∷ marks) text f a =
 
 -- ---- saving
 
--- the line of a command is one that is asked
-read_as : (text name : List ℕ) → IsCommand text (Save name) → IsRead text (command (Save name))
-read_as text name h = ((not_empty, h.0), h)
-  where
-    not_empty : text ≢ []
-    not_empty e = let count : 0 ≡ 4 + length h.1.0 = ap length (sym e ∙ h.1.2) in absurd (omega (arith, count))
-
 not_unread : (it : Command) → command it ≢ unread
 not_unread it e = cc
 
@@ -194,7 +187,7 @@ opened_formed Tm bytes t h = spelled_tree bytes t h
 start_formed : (file : List ℕ) (t : WideTree) → IsFormedTree t → IsFormed (start_of file t).state
 start_formed file t f = record { now = (f, tt); past = tt; future = tt }
 
-count_in : Saving → ℕ
+abbrev count_in : Saving → ℕ
 count_in no_form = 0
 count_in (file_long n) = n
 count_in (writes bytes) = 0
@@ -230,14 +223,13 @@ save_line text name reading before next reply e f a =
 pub saves_alone : (words : List (List ℕ)) (files : Option Files) (file : List ℕ) (t : WideTree) (first : Stored) → ComesTo words files (opened file t)
     → (lines : List (List ℕ)) (marks : List Mark) (seen : World) (done : List ℕ)
     → Answered (record { session = start_of file t; store = first }) lines marks seen done
-    → (one name reply : List ℕ) (next : World) → IsCommand (command_line one) (Save name) → IsLineReply seen (command_line one) plain next reply
+    → (one name reply : List ℕ) (next : World) → IsRead (command_line one) (command (Save name)) → IsLineReply seen (command_line one) plain next reply
     → IsSavedAlone name (document_of seen.session.state.buffers) seen.store next.store reply ⊎ IsNotSaved seen.store next.store reply
 saves_alone words files file t first opens lines marks seen done a one name reply next c r =
     let spelled = opens.1 in
     let formed : IsFormedTree t = (opened_formed (form_of file) spelled.0 t spelled.3, spelled.4) in
     let now : IsFormedWorld seen = lines_formed (record { session = start_of file t; store = first }) seen lines marks done (start_formed file t formed) a in
-    let asked : IsRead (command_line one) (command (Save name)) = read_as (command_line one) name c in
-    let is : r.0 ≡ command (Save name) = one_reading (command_line one) r.0 (command (Save name)) (was_read seen r.0 plain next reply tt r.2) (not_unread (Save name)) r.1 asked in
+    let is : r.0 ≡ command (Save name) = one_reading (command_line one) r.0 (command (Save name)) (was_read seen r.0 plain next reply tt r.2) (not_unread (Save name)) r.1 c in
     save_line (command_line one) name r.0 seen next reply is now r.2
 
 -- one line among others

@@ -9,9 +9,8 @@ ghost use Rattle.tx_session.specs.States.{file_saved};
 ghost use Rattle.tx_session.specs.Worlds.{World, Stored, Mark, plain, stored};
 ghost use Rattle.tx_session.specs.Savings.{IsSavedAlone, IsNotSaved, StandsAmong};
 ghost use Rattle.tx_session.specs.Scripts.{Answered, command_line};
-ghost use Rattle.tx_session.specs.Replies.{IsLineReply};
+ghost use Rattle.tx_session.specs.Replies.{command, IsRead, IsLineReply};
 ghost use Rattle.tx_session.specs.Runs.{start_of};
-ghost use Rattle.tx_cmd.specs.Commands.{IsCommand};
 ghost use Rattle.tx_cmd.specs.declared.command.Command.{Command};
 ghost use Rattle.tx_doc.specs.Buffers.{document_of};
 ghost use Rattle.tx_session.specs.Storing.{GoesOn};
@@ -133,7 +132,7 @@ pub fn saved_in_a_session()
         ComesTo words files (opened file t) →
         (lines : List (List ℕ)) (marks : List Mark) (seen : World) (done : List ℕ) →
         Answered (record { session = start_of file t; store = first }) lines marks seen done →
-        (one name reply : List ℕ) (next : World) → IsCommand (command_line one) (Command.Save name) →
+        (one name reply : List ℕ) (next : World) → IsRead (command_line one) (command (Command.Save name)) →
         IsLineReply seen (command_line one) plain next reply →
         IsSavedAlone name (document_of seen.session.state.buffers) seen.store next.store reply
         ⊎ IsNotSaved seen.store next.store reply }
