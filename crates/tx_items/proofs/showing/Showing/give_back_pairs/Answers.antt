@@ -1,0 +1,17 @@
+use Rattle.std.proofs.Common.{◌∙◌, ◌≤◌, arith, rules}
+use Rattle.tx_items.proofs.Pairs.{back_next}
+use Rattle.tx_items.proofs.showing.Showing.give_back_pairs.Goals as goal
+
+pub loop-at-preserved : goal.loop-at-preserved
+loop-at-preserved c =
+    let even = c.loop-at.invariant.even in
+    let two : 2 ≤ c.loop-at.at = omega arith in
+    record {
+      back = back_next _ _ _ _ c.args.parts.now c.loop-at.at c.index-parts-at.result two c.loop-at.invariant.within
+          c.index-parts-at.is c.in_ok-give_back.ensures.attrs_are c.loop-at.invariant.back;
+      run = c.in_ok-give_back.ensures.run ∙ c.loop-at.invariant.run;
+      paragraphs = search rules;
+      errors = search rules;
+      even = omega arith;
+      within = omega arith;
+    }
