@@ -8,3 +8,4 @@ mod Pairs
 mod Ending
 mod Wording
 mod Narrowing
+mod PlanViews

@@ -4,12 +4,15 @@ use Rattle.std.proofs.Common.{List, [], ◌∷◌, ◌++◌, length, get_or, tak
 use Rattle.std.proofs.Common.{subst, arith}
 use Rattle.std.specs.Prelude.{codes, option_and_then, ℤ}
 use Rattle.std.proofs.lemmas.List.{take_more}
+use Rattle.std.proofs.lemmas.Option.{slice_get_read, slice_get_past}
+use Rattle.std.specs.List.{list_any}
 use Rattle.tx_prim.specs.Lengths.{length_of}
 use Rattle.tx_tree.specs.WideTree.{WideTree, Forest, leaf, node, nil, cons, forest, trees, children_of, is_leaf}
 use Rattle.tx_origin.specs.Values.{WideValue, WideValues, text, made, none, also, vals, each_of, value_parts, value_text}
 use Rattle.tx_origin.specs.Values.{value_label}
 use Rattle.tx_origin.proofs.Parts.{vals_each}
 use Rattle.tx_items.specs.declared.attributes.Attrs.{Attrs}
+use Rattle.tx_items.proofs.Walks.{text_or_node, part_shallower, last_shallower, last_there}
 use Rattle.tx_items.specs.declared.drawing.Item.{Item}
 use Rattle.tx_items.specs.declared.drawing.Item.TheVariants.{Gap, Down}
 use Rattle.tx_items.specs.Attributes.{with_named, attribute_in}
@@ -165,12 +168,12 @@ mutual
   last_is_line (also v none) h = leaf_is_line v h
   last_is_line (also x (also v vs)) h = last_is_line vs h
 
-plan_at : (xs : List WideValue) (i : ℕ) (x : WideValue) → i < length xs → x ≡ get_or xs i x
-    → get_or (trees (plans_of (vals xs))) i line_plan ≡ plan_of x
+part_at : (d : WideTree) (xs : List WideValue) (i : ℕ) (x : WideValue) → i < length xs → x ≡ get_or xs i x
+    → get_or (trees (plans_of (vals xs))) i d ≡ plan_of x
 unfolding plan_of
-plan_at [] i x h e = absurd (omega arith)
-plan_at (y ∷ xs) zero x h e = ap plan_of (sym e)
-plan_at (y ∷ xs) (suc i) x h e = plan_at xs i x (omega arith) e
+part_at d [] i x h e = absurd (omega arith)
+part_at d (y ∷ xs) zero x h e = ap plan_of (sym e)
+part_at d (y ∷ xs) (suc i) x h e = part_at d xs i x (omega arith) e
 
 no_parts : (p q : Bool) → (not p || q) ≡ false → (p ≡ true) × (q ≡ false)
 no_parts true q h = (refl, h)
@@ -185,11 +188,6 @@ none_lists (y ∷ xs) zero x f h e =
 none_lists (y ∷ xs) (suc i) x f h e =
     none_lists xs i x (no_parts (is_leaf (plan_of y)) (some_list (plans_of (vals xs))) f).1 (omega arith) e
 
-count_plans : (xs : List WideValue) → length (trees (plans_of (vals xs))) ≡ length xs
-unfolding plan_of
-count_plans [] = refl
-count_plans (x ∷ xs) = ap suc (count_plans xs)
-
 -- where the parts stand side by side
 pub joint_part : (p : WideTree) (xs : List WideValue) (i : ℕ) (x : WideValue) → p ≡ joint_plan (plans_of (vals xs))
     → i < length xs → x ≡ get_or xs i x → part_plan p i ≡ plan_of x
@@ -197,26 +195,14 @@ joint_part p xs i x is h e = ap (λ q. part_plan q i) is ∙ pick (some_list (pl
   where
     pick : (b : Bool) → some_list (plans_of (vals xs)) ≡ b
         → part_plan (cond b (list_plan (plans_of (vals xs))) line_plan) i ≡ plan_of x
-    pick true k = plan_at xs i x h e
+    pick true k = part_at (list_plan (plans_of (vals xs))) xs i x h e
     pick false k = sym (leaf_is_line x (none_lists xs i x k h e))
-
-pub joint_there : (p : WideTree) (xs : List WideValue) (i : ℕ) → p ≡ joint_plan (plans_of (vals xs)) → i < length xs
-    → is_leaf p ≡ false → i < length (children_of p)
-joint_there p xs i is h f = rw is (pick (some_list (plans_of (vals xs))) (ap is_leaf (sym is) ∙ f))
-  where
-    pick : (b : Bool) → is_leaf (cond b (list_plan (plans_of (vals xs))) line_plan) ≡ false
-        → i < length (children_of (cond b (list_plan (plans_of (vals xs))) line_plan))
-    pick true k = rw (count_plans xs) h
-    pick false k = absurd cc
 
 -- where each is a paragraph
 pub list_part : (p : WideTree) (xs : List WideValue) (i : ℕ) (x : WideValue) → p ≡ list_plan (plans_of (vals xs))
     → i < length xs → x ≡ get_or xs i x → part_plan p i ≡ plan_of x
-list_part p xs i x is h e = ap (λ q. part_plan q i) is ∙ plan_at xs i x h e
-
-pub list_there : (p : WideTree) (xs : List WideValue) (i : ℕ) → p ≡ list_plan (plans_of (vals xs)) → i < length xs
-    → i < length (children_of p)
-list_there p xs i is h = rw (is, count_plans xs) h
+list_part p xs i x is h e =
+    ap (λ q. part_plan q i) is ∙ part_at (list_plan (plans_of (vals xs))) xs i x h e
 
 -- ---- the plan of a value, row by row
 
@@ -234,6 +220,23 @@ plan_row (made l vs at) label r e f =
     ap (λ m. rule_plan (rule_of m) (plans_of vs) (last_plan vs)) same
     ∙ ap (λ q. rule_plan q (plans_of vs) (last_plan vs)) (sym f)
     ∙ ap (λ us. rule_plan r (plans_of us) (last_plan us)) (sym (vals_each vs))
+
+-- what the plan is that a value's rule is given
+pub plan_joint : (v : WideValue) (p : WideTree) (label bytes : List ℕ) → p ≡ plan_of v → value_label v ≡ Some label
+    → bytes ≡ label → rules.Concat ≡ rule_of bytes → p ≡ joint_plan (plans_of (vals (value_parts v)))
+plan_joint v p label bytes is e same r = is ∙ plan_row v label rules.Concat e (r ∙ ap rule_of same)
+
+pub plan_tag : (v : WideValue) (p : WideTree) (label bytes : List ℕ) → p ≡ plan_of v → value_label v ≡ Some label
+    → bytes ≡ label → rules.Other ≡ rule_of bytes → p ≡ joint_plan (plans_of (vals (value_parts v)))
+plan_tag v p label bytes is e same r = is ∙ plan_row v label rules.Other e (r ∙ ap rule_of same)
+
+pub plan_list : (v : WideValue) (p : WideTree) (label bytes : List ℕ) → p ≡ plan_of v → value_label v ≡ Some label
+    → bytes ≡ label → rules.Document ≡ rule_of bytes → p ≡ list_plan (plans_of (vals (value_parts v)))
+plan_list v p label bytes is e same r = is ∙ plan_row v label rules.Document e (r ∙ ap rule_of same)
+
+pub plan_with : (v : WideValue) (p : WideTree) (label bytes : List ℕ) → p ≡ plan_of v → value_label v ≡ Some label
+    → bytes ≡ label → rules.With ≡ rule_of bytes → p ≡ last_plan (vals (value_parts v))
+plan_with v p label bytes is e same r = is ∙ plan_row v label rules.With e (r ∙ ap rule_of same)
 
 -- ---- loops that make plans
 
@@ -257,6 +260,10 @@ pub plans_next : (items : List WideValue) (i : ℕ) (x : WideValue) (ts us : Lis
     → t ≡ plan_of x → forest us ≡ plans_of (vals (take (i + 1) items))
 plans_next items i x ts us t lt is h e p = rw (take_more items i x lt, ← is, e) (forest_push ts t (take i items) x h p)
 
+pub some_any : (ts : List WideTree) → some_list (forest ts) ≡ list_any (λ p. not (is_leaf p)) ts
+some_any [] = refl
+some_any (t ∷ ts) = ap (λ b. not (is_leaf t) || b) (some_any ts)
+
 pub last_even : (xs : List WideValue) → length xs % 2 ≡ 0 → last_plan (vals xs) ≡ line_plan
 unfolding plan_of
 last_even [] h = refl
@@ -277,11 +284,14 @@ last_odd (y ∷ (v ∷ xs)) x h e =
     last_place zero h = absurd (h refl)
     last_place (suc n) h = omega arith
 
-pub ruleset joint = (joint_part, joint_there)
+pub ruleset joint = (joint_part, part_shallower)
 
-pub ruleset listing = (list_part, list_there)
+pub ruleset listing = (list_part, part_shallower)
 
-pub ruleset making = (plan_text, plan_row, plans_none, plans_next, last_even, last_odd)
+pub ruleset items = (slice_get_read, slice_get_past)
+
+pub ruleset making =
+    (plan_text, plan_row, plans_none, plans_next, last_even, last_odd, part_shallower, last_shallower, last_there)
 
 -- ---- what the plan tells of what is shown
 
@@ -300,3 +310,5 @@ list_by_plan a v p is f = shows_list a v ∙ ap is_leaf (sym is) ∙ pick (is_le
     pick : (b : Bool) → not b ≡ true → b ≡ false
     pick true h = absurd cc
     pick false h = refl
+
+pub ruleset choosing = (text_or_node, plan_joint, plan_tag, plan_list, plan_with)

@@ -67,6 +67,14 @@ run_none : (barred : Bool) (s : State) → HasRun (show_all barred s.attrs none)
 unfolding show_all
 run_none barred s = record { after = refl; errors = sym (append-nil s.errors); goes = goes_nothing s }
 
+-- no items
+pub run_nothing : (s : State) → HasShown (in_line s.attrs []) s s
+run_nothing s = record {
+  after = refl;
+  errors = sym (append-nil s.errors);
+  adds = (sym (beside_empty s.run), refl);
+}
+
 -- items alone
 goes_inline : (r : Run) (a : Attrs) (s u : State) → (u.run ≡ beside s.run r) × (u.paragraphs ≡ s.paragraphs)
     → Goes ((inline r, a) ∷ []) s u

@@ -49,7 +49,6 @@ unfoldable mutual
   last_plan (also v none) = plan_of v
   last_plan (also x (also v vs)) = last_plan vs
 
--- the plan of a part: the parts of what shows in a line do too
+-- the plan of a part: the parts of what shows in a line have the same one
 abbrev pub part_plan : WideTree → ℕ → WideTree
-part_plan (leaf words) i = leaf words
-part_plan (node label ps) i = get_or (trees ps) i line_plan
+part_plan p i = get_or (children_of p) i p

@@ -23,8 +23,12 @@ pub record State : Type 0 where
   pub errors : List ErrorAt
 
 abbrev pub state_of : Showing → State
-state_of s =
-    record { attrs = s.attrs; run = run_of s.first s.run.items; paragraphs = s.paragraphs.items; errors = s.errors.items }
+state_of s = record {
+  attrs = s.attrs;
+  run = run_of s.first s.run.items;
+  paragraphs = s.paragraphs.items;
+  errors = s.errors.items;
+}
 
 -- items go behind the run; a list stands behind no run, and its last run may still be open
 abbrev pub Adds : Form → State → State → Type 0

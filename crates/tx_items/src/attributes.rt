@@ -126,7 +126,8 @@ impl Attrs {
     /// Sets the variable of this name to this text, or to a value that is no text. Names of other variables change
     /// nothing. No text, and for the last three attributes no length, counts as what `initial` gives.
     pub fn set(&mut self, alloc: Global, name: &Text, value: Option<&Text>) -> Result<(), Memory>
-        ensures set { OnOk result (self.new ≡ with_named (attribute_named name.now) (option_copied value.entry) self.old) }
+        ensures set { OnOk result (self.new
+            ≡ with_named (attribute_named name.now) (option_copied value.entry) self.old) }
     {
         match field_of(name.bytes()) {
             Some(field) => self.set_field(alloc, field, value),

@@ -1,8 +1,10 @@
 // Which parts of a value show as lists of paragraphs, told before anything is shown.
-ghost use Rattle.std.specs.Prelude.{◌≡◌, ◌<◌, not, false, length, IfOk};
-ghost use Rattle.tx_tree.specs.WideTree.{forest, children_of, is_leaf};
+ghost use Rattle.std.specs.Prelude.{◌≡◌, not, get_or, IfOk};
+ghost use Rattle.std.specs.List.{list_any};
+ghost use Rattle.tx_tree.specs.WideTree.{forest, is_leaf};
 ghost use Rattle.tx_origin.specs.Values.{vals, value_parts};
-ghost use Rattle.tx_items.specs.Plans.{plan_of, plans_of, last_plan, joint_plan, part_plan, some_list, line_plan, list_plan};
+ghost use Rattle.tx_items.specs.Plans.{plan_of, plans_of, last_plan, joint_plan, part_plan, some_list};
+ghost use Rattle.tx_items.specs.Plans.{line_plan, list_plan};
 
 use crate::rows::{Row, row_of};
 use std::alloc::Global;
@@ -70,19 +72,18 @@ impl Plan {
         }
     }
 
-    // The plan of a part.
+    // The plan of a part: that of a value in a line is its own.
     pub(crate) fn part(&self, i: usize) -> &Plan
-        requires { is_leaf self.now ≡ false → i < length (children_of self.now) }
         ensures { result.now ≡ part_plan self.now i }
     {
         match &self.form {
             Form::Line => self,
-            Form::List(parts) => &parts[i],
+            Form::List(parts) => item_or(parts, i, self),
         }
     }
 
     // The plan of a value.
-    #[tactic(auto, using(crate::proofs::Planning::making, crate::proofs::Walks::walks, std::proofs::lemmas::Grind::common_steps))]
+    #[tactic(auto, using(crate::proofs::Planning::making, std::proofs::lemmas::Grind::common_steps))]
     #[cycle(plan_of)]
     pub(crate) fn of(alloc: Global, value: &Value) -> Result<Plan, Memory>
         ensures { IfOk result (λ p. p ≡ plan_of value.now) }
@@ -106,7 +107,7 @@ impl Plan {
     }
 
     // The plans of the parts.
-    #[tactic(auto, using(crate::proofs::Planning::making, crate::proofs::Walks::walks, std::proofs::lemmas::Grind::common_steps))]
+    #[tactic(auto, using(crate::proofs::Planning::making, std::proofs::lemmas::Grind::common_steps))]
     #[cycle(plan_of)]
     fn all(alloc: Global, value: &Value) -> Result<Vec<Plan>, Memory>
         ensures { IfOk result (λ ps. forest ps.items ≡ plans_of (vals (value_parts value.now))) }
@@ -132,7 +133,7 @@ impl Plan {
     }
 
     // The plan of the last part behind pairs.
-    #[tactic(auto, using(crate::proofs::Planning::making, crate::proofs::Walks::walks, std::proofs::lemmas::Grind::common_steps))]
+    #[tactic(auto, using(crate::proofs::Planning::making, std::proofs::lemmas::Grind::common_steps))]
     #[cycle(plan_of)]
     fn last(alloc: Global, value: &Value) -> Result<Plan, Memory>
         ensures { IfOk result (λ p. p ≡ last_plan (vals (value_parts value.now))) }
@@ -145,9 +146,26 @@ impl Plan {
     }
 }
 
+// The plan at i, or another one where there is none.
+#[tactic(auto, using(crate::proofs::Planning::items, std::proofs::lemmas::Grind::common_steps))]
+fn item_or<'a>(plans: &'a [Plan], i: usize, otherwise: &'a Plan) -> &'a Plan
+    ensures { result.now ≡ get_or plans.now i otherwise.now }
+{
+    match plans.get(i) {
+        Some(plan) => plan,
+        None => otherwise,
+    }
+}
+
 // Whether one of the plans is that of a list.
 fn some_list(plans: &[Plan]) -> bool
     ensures { result ≡ some_list (forest plans.now) }
+{
+    any_list(plans)
+}
+
+fn any_list(plans: &[Plan]) -> bool
+    ensures { result ≡ list_any (λ p. not (is_leaf p)) plans.now }
 {
     plans.iter().any(|plan| plan.is_list())
 }

@@ -15,8 +15,8 @@ ghost use Rattle.tx_items.specs.Shows.{in_line, error_items, failed, bad, made_e
 ghost use Rattle.tx_items.specs.Shows.{cells_of, space_shown, error_shown, tag_shown, show, show_all, show_with};
 ghost use Rattle.tx_items.specs.Shows.{inline, run_of, empty};
 ghost use Rattle.tx_items.specs.Plans.{plan_of, plans_of, last_plan, joint_plan, list_plan};
-ghost use Rattle.tx_items.specs.Running.{state_of, first_of, HasShown, HasRun, HasPars, EndsRun, EndsParagraph, HasAttrs};
-ghost use Rattle.tx_items.specs.Running.{one_of, bar_of, set_by_pairs, given_back_by_pairs, Finishes};
+ghost use Rattle.tx_items.specs.Running.{state_of, first_of, HasShown, HasRun, HasPars, EndsRun, EndsParagraph};
+ghost use Rattle.tx_items.specs.Running.{HasAttrs, one_of, bar_of, set_by_pairs, given_back_by_pairs, Finishes};
 ghost use Rattle.tx_items.specs.Running.{tag_front, space_item, length_alone};
 
 use crate::attributes::{Attrs, Field, field_of};
@@ -58,7 +58,8 @@ enum Space {
 impl Showing {
     // Nothing is shown yet.
     pub(crate) fn new(alloc: Global, attrs: &Attrs) -> Result<Showing, Memory>
-        ensures { IfOk result (λ s. state_of s ≡ record { attrs = attrs.now; run = empty; paragraphs = []; errors = [] }) }
+        ensures { IfOk result (λ s. state_of s
+            ≡ record { attrs = attrs.now; run = empty; paragraphs = []; errors = [] }) }
     {
         Ok(Showing {
             attrs: attrs.copy()?,
@@ -182,7 +183,8 @@ impl Showing {
     // Sets the attribute that a name names.
     #[tactic(auto, using(crate::proofs::ByRule::copied_text, std::proofs::lemmas::Grind::common_steps))]
     fn set(&mut self, alloc: Global, name: &Value, to: &Value) -> Result<(), Memory>
-        ensures { OnOk result (HasAttrs (with_named (attribute_in (value_text name.now)) (value_text to.now) self.old.attrs)
+        ensures { OnOk result (HasAttrs
+            (with_named (attribute_in (value_text name.now)) (value_text to.now) self.old.attrs)
             (state_of self.old) (state_of self.new)) }
     {
         match name.text() {
@@ -194,7 +196,8 @@ impl Showing {
     // Sets what pairs of a name and a value set.
     #[tactic(auto, using(crate::proofs::Pairs::setting, std::proofs::lemmas::Grind::common_steps))]
     fn set_pairs(&mut self, alloc: Global, parts: &[Value]) -> Result<(), Memory>
-        ensures { OnOk result (HasAttrs (set_by_pairs self.old.attrs (vals parts.now)) (state_of self.old) (state_of self.new)) }
+        ensures { OnOk result (HasAttrs (set_by_pairs self.old.attrs (vals parts.now))
+            (state_of self.old) (state_of self.new)) }
     {
         let mut at = 0;
         while parts.len() - at > 1 {
@@ -267,7 +270,8 @@ impl Showing {
         label: &Label,
         value: &Value,
     ) -> Result<(), Memory>
-        ensures { OnOk result (HasShown (space_shown (space_item space) self.old.attrs label.now (vals (value_parts value.now)))
+        ensures { OnOk result (HasShown
+            (space_shown (space_item space) self.old.attrs label.now (vals (value_parts value.now)))
             (state_of self.old) (state_of self.new)) }
     {
         match length_alone(value) {
@@ -311,7 +315,7 @@ impl Showing {
     }
 
     // Adds a value, which has this plan.
-    #[tactic(auto, using(crate::proofs::Walks::walks, std::proofs::lemmas::Grind::common_steps))]
+    #[tactic(auto, using(crate::proofs::Planning::choosing, std::proofs::lemmas::Grind::common_steps))]
     #[cycle(show)]
     pub(crate) fn show(&mut self, alloc: Global, value: &Value, plan: &Plan) -> Result<(), Memory>
         requires { plan.now ≡ plan_of value.now }
@@ -339,7 +343,7 @@ impl Showing {
     }
 
     // Adds the last part, with the attributes that the pairs before it set.
-    #[tactic(auto, using(crate::proofs::Walks::walks, crate::proofs::Planning::making, std::proofs::lemmas::Grind::common_steps))]
+    #[tactic(auto, using(crate::proofs::Planning::making, std::proofs::lemmas::Grind::common_steps))]
     #[cycle(show)]
     fn with(
         &mut self,
@@ -350,7 +354,8 @@ impl Showing {
     ) -> Result<(), Memory>
         requires { plan.now ≡ last_plan (vals (value_parts value.now)) }
         ensures { OnOk result (HasShown (with_shown self.old.attrs label.now
-            (show_with self.old.attrs self.old.attrs (vals (value_parts value.now)))) (state_of self.old) (state_of self.new)) }
+            (show_with self.old.attrs self.old.attrs (vals (value_parts value.now))))
+            (state_of self.old) (state_of self.new)) }
     {
         let parts = value.parts();
         if parts.len() % 2 == 0 {
@@ -377,7 +382,7 @@ impl Showing {
     }
 
     // Adds the parts side by side, each behind a bar or not.
-    #[tactic(auto, using(crate::proofs::Walks::walks, crate::proofs::Planning::joint, std::proofs::lemmas::Grind::common_steps))]
+    #[tactic(auto, using(crate::proofs::Planning::joint, std::proofs::lemmas::Grind::common_steps))]
     #[cycle(show)]
     fn each(
         &mut self,
@@ -420,7 +425,8 @@ impl Showing {
     #[cycle(show)]
     fn paragraph(&mut self, alloc: Global, part: &Value, plan: &Plan) -> Result<(), Memory>
         requires { plan.now ≡ plan_of part.now }
-        ensures { OnOk result (HasPars (one_of (show self.old.attrs part.now)) (state_of self.old) (state_of self.new)) }
+        ensures { OnOk result (HasPars (one_of (show self.old.attrs part.now))
+            (state_of self.old) (state_of self.new)) }
     {
         self.show(alloc, part, plan)?;
         if plan.is_list() {
@@ -430,7 +436,7 @@ impl Showing {
     }
 
     // Adds the parts, each as paragraphs.
-    #[tactic(auto, using(crate::proofs::Walks::walks, crate::proofs::Planning::listing, std::proofs::lemmas::Grind::common_steps))]
+    #[tactic(auto, using(crate::proofs::Planning::listing, std::proofs::lemmas::Grind::common_steps))]
     #[cycle(show)]
     fn document(&mut self, alloc: Global, value: &Value, plan: &Plan) -> Result<(), Memory>
         requires { plan.now ≡ list_plan (plans_of (vals (value_parts value.now))) }

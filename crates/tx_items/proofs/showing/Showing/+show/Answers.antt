@@ -6,7 +6,7 @@ use Rattle.tx_items.specs.Rules.{rule_of}
 use Rattle.tx_items.specs.Rules as rules
 use Rattle.tx_items.specs.Shows.{Shown, show, show_all, show_with, with_shown}
 use Rattle.tx_items.specs.Running.{state_of, HasShown, HasRun}
-use Rattle.tx_items.proofs.Runs.{part_inline, part_listed, run_joined, run_tag, each_more, each_done}
+use Rattle.tx_items.proofs.Runs.{part_inline, part_listed, run_joined, run_nothing, run_tag, each_more, each_done}
 use Rattle.tx_items.proofs.Documents.{par_inline, par_listed, pars_document, pars_next, pars_done}
 use Rattle.tx_items.proofs.Planning.{inline_by_plan, list_by_plan}
 use Rattle.tx_items.proofs.ByRule.{show_text, show_row, copied_origin}
@@ -43,21 +43,21 @@ paragraph-returns t c =
 
 pub document-loop-i-preserved : goal.document-loop-i-preserved
 document-loop-i-preserved t c = λ w rest.
-    c.loop-i.invariant w (pars_next _ _ _ _ _ _ c.loop-i-test.true c.part-item.is c.in_ok-paragraph.ensures rest)
+    c.loop-i.invariant w (pars_next _ _ _ _ _ _ c.loop-i-test.true c.index-parts-i.is c.in_ok-paragraph.ensures rest)
 
 pub document-returns : goal.document-returns
 document-returns t c =
-    rw (← c.parts.ensures)
+    rw (← c.parts-parts.ensures)
     (c.loop-i.invariant (state_of c.loop-i.self) (pars_done _ _ (state_of c.loop-i.self) c.loop-i-test.false))
 
 pub each-loop-i-preserved : goal.each-loop-i-preserved
 each-loop-i-preserved t c = λ w rest.
     c.loop-i.invariant w
-    (each_more _ _ _ _ _ _ _ _ c.loop-i-test.true c.part-item.is c.in_ok-add_bar.ensures c.in_ok-part.ensures rest)
+    (each_more _ _ _ _ _ _ _ _ c.loop-i-test.true c.index-parts-i.is c.in_ok-add_bar.ensures c.in_ok-part.ensures rest)
 
 pub each-returns : goal.each-returns
 each-returns t c =
-    rw (← c.parts.ensures)
+    rw (← c.parts-parts.ensures)
     (c.loop-i.invariant (state_of c.loop-i.self) (each_done _ _ _ (state_of c.loop-i.self) c.loop-i-test.false))
 
 pub show-returns-in-Some : goal.show-returns-in-Some
@@ -150,7 +150,7 @@ tag-returns t c =
 
 pub with-returns-then-parts-eq0 : goal.with-returns-then-parts-eq0
 with-returns-then-parts-eq0 t c =
-    let same = c.parts.ensures in
+    let same = c.parts-parts.ensures in
     let a = c.args.self.now.attrs in
     let P : Shown → Type 0 = λ x. HasShown x (state_of c.args.self.now) (state_of c.bad.new.self) in
     let none = with_even a a (value_parts c.args.value.now) (rw same at c.if-parts-eq0.true) in
@@ -158,9 +158,19 @@ with-returns-then-parts-eq0 t c =
 
 pub with-returns : goal.with-returns
 with-returns t c =
-    rw (← c.parts.ensures)
+    rw (← c.parts-parts.ensures)
     (on_ok_weaker c.give_back_pairs.result
-    (λ back. with_whole c.parts.result.now c.index-parts.result c.args.label.now (state_of c.args.self.now)
+    (λ back. with_whole c.parts-parts.result.now c.index-parts-parts.result c.args.label.now (state_of c.args.self.now)
     (state_of c.set_pairs.new.self) (state_of c.show.new.self) (state_of c.give_back_pairs.new.self)
-    c.in_ok-before.before c.in_ok-before.ensures c.if-parts-eq0.false c.index-parts.is c.in_ok-set_pairs.ensures
+    c.in_ok-before.before c.in_ok-before.ensures c.if-parts-eq0.false c.index-parts-parts.is c.in_ok-set_pairs.ensures
     c.in_ok-show.ensures back) c.give_back_pairs.ensures)
+
+pub show-returns-in-Silent : goal.show-returns-in-Silent
+show-returns-in-Silent t c =
+    let P : Shown → Type 0 = λ x. HasShown x (state_of c.args.self.now) (state_of c.args.self.now) in
+    let row = show_row c.args.self.now.attrs c.args.value.now _ rules.Silent c.in-Some-label.ensures
+    (c.in-Silent.ensures ∙ ap rule_of c.bytes.ensures.bytes) in
+    subst P (sym row) (run_nothing (state_of c.args.self.now))
+
+pub show-with-requires : goal.show-with-requires
+show-with-requires t c = ?

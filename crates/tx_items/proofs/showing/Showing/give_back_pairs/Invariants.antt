@@ -7,8 +7,8 @@ abbrev pub invariant-loop-at : goal.invariant-loop-at
 invariant-loop-at l = record {
   back : l.self.attrs ≡ given_back_by_pairs (vals (drop l.at l.parts)) l.before l.fn.self.attrs;
   run : (state_of l.self).run ≡ (state_of l.fn.self).run;
-  paragraphs : l.self.paragraphs ≡ l.fn.self.paragraphs;
-  errors : l.self.errors ≡ l.fn.self.errors;
+  paragraphs : (state_of l.self).paragraphs ≡ (state_of l.fn.self).paragraphs;
+  errors : (state_of l.self).errors ≡ (state_of l.fn.self).errors;
   even : l.at % 2 ≡ 0;
   within : l.at < length l.parts;
 }

@@ -7,8 +7,8 @@ abbrev pub invariant-loop-at : goal.invariant-loop-at
 invariant-loop-at l = record {
   pairs : set_by_pairs l.self.attrs (vals (drop l.at l.parts)) ≡ set_by_pairs l.fn.self.attrs (vals l.parts);
   run : (state_of l.self).run ≡ (state_of l.fn.self).run;
-  paragraphs : l.self.paragraphs ≡ l.fn.self.paragraphs;
-  errors : l.self.errors ≡ l.fn.self.errors;
+  paragraphs : (state_of l.self).paragraphs ≡ (state_of l.fn.self).paragraphs;
+  errors : (state_of l.self).errors ≡ (state_of l.fn.self).errors;
   within : l.at ≤ length l.parts;
 }
 
