@@ -1,7 +1,7 @@
 -- What a value shows, by the rule of its label.
-use Rattle.std.proofs.Common.{◌≡◌, ◌≢◌, ℕ, zero, suc, ◌+◌, ◌<◌, ◌≤◌, Bool, List, [], ◌∷◌, length, get_or, Option, Some}
-use Rattle.std.proofs.Common.{None, refl, sym, ap, ap₂, ◌∙◌, subst, arith}
-use Rattle.std.specs.Prelude.{codes, MatchOption, option_and_then, ℤ}
+use Rattle.std.proofs.Common.{◌≡◌, ◌≢◌, ℕ, List, [], ◌∷◌, length, get_or, Option, Some}
+use Rattle.std.proofs.Common.{None, refl, sym, ap, ap₂, ◌∙◌, arith}
+use Rattle.std.specs.Prelude.{MatchOption, option_and_then}
 use Rattle.std.specs.Option.{option_copied}
 use Rattle.std.specs.Borrow.{Bor}
 use Rattle.tx_prim.specs.Lengths.{length_of}
@@ -13,7 +13,7 @@ use Rattle.tx_items.specs.declared.drawing.Item.{Item}
 use Rattle.tx_items.specs.Attributes.{with_named, attribute_in}
 use Rattle.tx_items.specs.Drawing.{drawn}
 use Rattle.tx_items.specs.Rules.{Rule, rule_of}
-use Rattle.tx_items.specs.Shows.{empty, inline, Shown, in_line, bad, assign_shown, cells_of, space_by, space_shown}
+use Rattle.tx_items.specs.Shows.{empty, inline, in_line, bad, assign_shown, space_by, space_shown}
 use Rattle.tx_items.specs.Shows.{error_by, error_shown, rule_shown, show, show_all, show_with}
 use Rattle.tx_items.specs.Running.{length_alone}
 

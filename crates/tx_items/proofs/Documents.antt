@@ -1,10 +1,10 @@
 -- How the paragraphs of a document come together.
-use Rattle.std.proofs.Common.{◌≡◌, ℕ, ◌+◌, ◌<◌, ◌≤◌, Bool, true, false, List, [], ◌∷◌, ◌++◌, length, drop, get_or}
+use Rattle.std.proofs.Common.{◌≡◌, ℕ, ◌+◌, ◌<◌, ◌≤◌, true, false, List, [], ◌∷◌, ◌++◌, length, drop, get_or}
 use Rattle.std.proofs.Common.{refl, sym, ap, ap₂, ◌∙◌, subst, append_assoc, append-nil}
 use Rattle.std.proofs.lemmas.List.{drop_all}
 use Rattle.tx_origin.specs.Values.{WideValue, WideValues, none, also, vals}
 use Rattle.tx_items.specs.declared.attributes.Attrs.{Attrs}
-use Rattle.tx_items.specs.Shows.{Run, empty, beside, ended, whole_run, Form, inline, listed, Shown, AllShown, is_inline}
+use Rattle.tx_items.specs.Shows.{empty, beside, ended, whole_run, Form, inline, listed, Shown, AllShown, is_inline}
 use Rattle.tx_items.specs.Shows.{one_by_one, document_shown, show, show_all}
 use Rattle.tx_items.specs.Running.{State, Adds, HasShown, HasPars, EndsRun, EndsParagraph, one_of, both}
 use Rattle.tx_items.proofs.Runs.{inline_case, list_case, show_all_also, item_first}

@@ -1,9 +1,9 @@
 -- The end of a unit.
-use Rattle.std.proofs.Common.{◌≡◌, Bool, true, false, not, List, [], ◌∷◌, ◌++◌, refl, sym, ap, ap₂, ◌∙◌, subst}
+use Rattle.std.proofs.Common.{◌≡◌, Bool, true, false, not, [], ◌∷◌, ◌++◌, refl, sym, ap, ap₂, ◌∙◌}
 use Rattle.tx_tree.specs.WideTree.{WideTree, is_leaf}
 use Rattle.tx_origin.specs.Values.{WideValue}
 use Rattle.tx_items.specs.declared.attributes.Attrs.{Attrs}
-use Rattle.tx_items.specs.Shows.{Run, empty, beside, whole_run, ended, Form, inline, listed, is_inline, show}
+use Rattle.tx_items.specs.Shows.{empty, beside, whole_run, Form, inline, listed, is_inline, show}
 use Rattle.tx_items.specs.Shows.{or_one, unit_paragraphs, shown_paragraphs}
 use Rattle.tx_items.specs.Plans.{plan_of}
 use Rattle.tx_items.specs.Running.{State, Adds, HasShown, finished, Finishes}

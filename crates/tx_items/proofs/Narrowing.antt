@@ -1,5 +1,5 @@
 -- No cluster that is shown is wider than 2 cells.
-use Rattle.std.proofs.Common.{◌≡◌, ℕ, ◌≤◌, Bool, true, false, cond, List, [], ◌∷◌, ◌++◌, map, get_or, Option, Some, None, refl}
+use Rattle.std.proofs.Common.{ℕ, ◌≤◌, Bool, true, false, cond, List, [], ◌∷◌, ◌++◌, get_or, Option, Some, None}
 use Rattle.std.specs.Prelude.{All, codes, ℤ, option_and_then}
 use Rattle.std.proofs.lemmas.List.Elements.{All-nil, All-cons, All-append, All-map}
 use Rattle.tx_prim.specs.Lengths.{length_of}
@@ -19,7 +19,7 @@ use Rattle.tx_items.specs.Rules as rules
 use Rattle.tx_items.specs.Shows.{Run, empty, begun, run_of, beside, whole_run, ended, Form, inline, listed, Shown, AllShown}
 use Rattle.tx_items.specs.Shows.{all_inline, side_by_side, paragraphs_of, joined, one_by_one, error_items, with_shown}
 use Rattle.tx_items.specs.Shows.{assign_shown, cells_of, space_by, space_shown, error_by, error_shown, made_form, tag_shown}
-use Rattle.tx_items.specs.Shows.{behind_bar, rule_shown, giving_back, show, show_all, show_with, or_one, unit_paragraphs}
+use Rattle.tx_items.specs.Shows.{rule_shown, giving_back, show, show_all, show_with, or_one, unit_paragraphs}
 use Rattle.tx_items.specs.Shows.{shown_paragraphs}
 use Rattle.tx_items.specs.Narrow.{IsNarrow}
 

@@ -1,11 +1,10 @@
 -- Pairs that set attributes, and give them back.
 use Rattle.std.proofs.Common.{◌≡◌, ◌≢◌, ℕ, zero, suc, ◌+◌, ◌-◌, ◌%◌, ◌<◌, ◌≤◌, List, [], ◌∷◌, ◌++◌, length, drop, get_or}
 use Rattle.std.proofs.Common.{Option, Some, None, refl, sym, ap, ap₂, ◌∙◌, subst, arith}
-use Rattle.tx_origin.specs.Values.{WideValue, WideValues, none, also, vals, value_text}
+use Rattle.tx_origin.specs.Values.{WideValue, vals, value_text}
 use Rattle.tx_items.specs.declared.attributes.Attrs.{Attrs}
-use Rattle.tx_items.specs.declared.drawing.Paragraph.{Paragraph}
 use Rattle.tx_items.specs.Attributes.{with_named, given_back, attribute_in}
-use Rattle.tx_items.specs.Shows.{Run, ended, beside, Form, inline, listed, Shown, bad, with_shown, giving_back, show}
+use Rattle.tx_items.specs.Shows.{ended, beside, Form, inline, listed, Shown, with_shown, giving_back, show}
 use Rattle.tx_items.specs.Shows.{show_with}
 use Rattle.tx_items.specs.Running.{State, Adds, HasShown, HasAttrs, set_by_pairs, given_back_by_pairs}
 

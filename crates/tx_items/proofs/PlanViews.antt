@@ -14,7 +14,14 @@ line_part p f i view is =
     let leaf_is : p ≡ plan_view Line = view ∙ ap plan_view is in
     sym (ap (λ q. get_or (children_of q) i p) leaf_is)
 
-pub list_children : (p : WideTree) (f : Form) (parts : _) → p ≡ plan_view f → f ≡ Listed parts
-    → children_of p ≡ parts.items
-list_children p f parts view is =
-    ap children_of (view ∙ ap plan_view is) ∙ trees_again parts.items
+-- the plans of the parts
+abbrev pub view_parts : Form → List WideTree
+view_parts Line = []
+view_parts (Listed parts) = parts.items
+
+viewed : (f : Form) → children_of (plan_view f) ≡ view_parts f
+viewed Line = refl
+viewed (Listed parts) = trees_again parts.items
+
+pub list_children : (p : WideTree) (f : Form) → p ≡ plan_view f → children_of p ≡ view_parts f
+list_children p f view = ap children_of view ∙ viewed f

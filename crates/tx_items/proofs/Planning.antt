@@ -1,14 +1,14 @@
 -- Plans: that they tell which values show as lists, and what the plans of the parts are.
-use Rattle.std.proofs.Common.{◌≡◌, ◌≢◌, ℕ, zero, suc, ◌+◌, ◌-◌, ◌%◌, ◌<◌, ◌≤◌, Bool, true, false, not, ◌||◌, ◌&&◌, cond}
-use Rattle.std.proofs.Common.{List, [], ◌∷◌, ◌++◌, length, get_or, take, drop, Option, Some, None, refl, sym, ap, ap₂, ◌∙◌}
-use Rattle.std.proofs.Common.{subst, arith}
+use Rattle.std.proofs.Common.{◌≡◌, ◌≢◌, ℕ, zero, suc, ◌+◌, ◌-◌, ◌%◌, ◌<◌, Bool, true, false, not, ◌||◌, ◌&&◌, cond}
+use Rattle.std.proofs.Common.{List, [], ◌∷◌, ◌++◌, length, get_or, take, Option, Some, None, refl, sym, ap, ap₂, ◌∙◌}
+use Rattle.std.proofs.Common.{arith}
 use Rattle.std.specs.Prelude.{codes, option_and_then, ℤ}
 use Rattle.std.proofs.lemmas.List.{take_more}
 use Rattle.std.proofs.lemmas.Option.{slice_get_read, slice_get_past}
 use Rattle.std.specs.List.{list_any}
 use Rattle.tx_prim.specs.Lengths.{length_of}
-use Rattle.tx_tree.specs.WideTree.{WideTree, Forest, leaf, node, nil, cons, forest, trees, children_of, is_leaf}
-use Rattle.tx_origin.specs.Values.{WideValue, WideValues, text, made, none, also, vals, each_of, value_parts, value_text}
+use Rattle.tx_tree.specs.WideTree.{WideTree, Forest, nil, cons, forest, trees, is_leaf}
+use Rattle.tx_origin.specs.Values.{WideValue, WideValues, text, made, none, also, vals, value_parts, value_text}
 use Rattle.tx_origin.specs.Values.{value_label}
 use Rattle.tx_origin.proofs.Parts.{vals_each}
 use Rattle.tx_items.specs.declared.attributes.Attrs.{Attrs}
@@ -20,8 +20,8 @@ use Rattle.tx_items.specs.Drawing.{drawn}
 use Rattle.tx_items.specs.Rules.{Rule, rule_of}
 use Rattle.tx_items.specs.Rules as rules
 use Rattle.tx_items.specs.Shows.{Run, empty, run_of, Form, inline, listed, Shown, AllShown, is_inline, all_inline}
-use Rattle.tx_items.specs.Shows.{side_by_side, paragraphs_of, joined, bad, with_shown, assign_shown, space_by, space_shown}
-use Rattle.tx_items.specs.Shows.{error_by, error_shown, made_form, tag_shown, rule_shown, giving_back, show, show_all}
+use Rattle.tx_items.specs.Shows.{side_by_side, paragraphs_of, joined, with_shown, assign_shown, space_by, space_shown}
+use Rattle.tx_items.specs.Shows.{error_by, error_shown, made_form, rule_shown, giving_back, show, show_all}
 use Rattle.tx_items.specs.Shows.{show_with}
 use Rattle.tx_items.specs.Plans.{line_plan, list_plan, some_list, joint_plan, rule_plan, plan_of, plans_of, last_plan}
 use Rattle.tx_items.specs.Plans.{part_plan}

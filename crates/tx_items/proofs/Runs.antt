@@ -1,16 +1,15 @@
 -- How what is shown side by side comes together.
-use Rattle.std.proofs.Common.{◌≡◌, ℕ, ◌+◌, ◌<◌, ◌≤◌, Bool, true, false, ◌&&◌, cond, List, [], ◌∷◌, ◌++◌, length, drop}
-use Rattle.std.proofs.Common.{get_or, Option, None, refl, sym, ap, ap₂, ◌∙◌, subst, append_assoc, append-nil}
+use Rattle.std.proofs.Common.{◌≡◌, ℕ, ◌+◌, ◌<◌, ◌≤◌, Bool, true, false, cond, List, [], ◌∷◌, ◌++◌, length, drop}
+use Rattle.std.proofs.Common.{get_or, None, refl, sym, ap, ap₂, ◌∙◌, subst, append_assoc, append-nil}
 use Rattle.std.specs.Prelude.{codes}
 use Rattle.std.proofs.lemmas.List.{drop_more, drop_all}
 use Rattle.tx_origin.specs.Values.{WideValue, WideValues, none, also, vals}
 use Rattle.tx_items.specs.declared.attributes.Attrs.{Attrs}
-use Rattle.tx_items.specs.declared.drawing.Item.{Item}
 use Rattle.tx_items.specs.declared.drawing.Paragraph.{Paragraph}
 use Rattle.tx_items.specs.Drawing.{drawn}
 use Rattle.tx_items.specs.Shows.{Run, empty, begun, run_of, beside, ended, Form, inline, listed, Shown, AllShown}
-use Rattle.tx_items.specs.Shows.{all_inline, is_inline, side_by_side, paragraphs_of, joined, concat_shown, in_line}
-use Rattle.tx_items.specs.Shows.{made_error, made_form, tag_shown, show, show_all}
+use Rattle.tx_items.specs.Shows.{all_inline, is_inline, side_by_side, paragraphs_of, concat_shown, in_line}
+use Rattle.tx_items.specs.Shows.{made_error, tag_shown, show, show_all}
 use Rattle.tx_items.specs.Running.{State, Adds, HasShown, Goes, HasRun, EndsRun, one_of, bar_of, both, tag_front}
 
 pub beside_empty : (r : Run) → beside r empty ≡ r

@@ -1,12 +1,12 @@
 -- Items behind items, and what errors show.
-use Rattle.std.proofs.Common.{◌≡◌, ℕ, zero, suc, ◌==◌, Bool, true, false, List, [], ◌∷◌, ◌++◌, length, Option, None}
-use Rattle.std.proofs.Common.{refl, sym, ap, ◌∙◌, subst, append_assoc, append-nil, eqb-true, arith}
+use Rattle.std.proofs.Common.{◌≡◌, ℕ, suc, ◌==◌, true, false, List, [], ◌∷◌, ◌++◌, length, None}
+use Rattle.std.proofs.Common.{refl, sym, ap, ◌∙◌, subst, append-nil, eqb-true, arith}
 use Rattle.std.specs.Prelude.{codes}
 use Rattle.tx_items.specs.declared.attributes.Attrs.{Attrs}
 use Rattle.tx_items.specs.declared.drawing.Item.{Item}
 use Rattle.tx_items.specs.declared.drawing.ErrorAt.{ErrorAt}
 use Rattle.tx_items.specs.Drawing.{drawn}
-use Rattle.tx_items.specs.Shows.{Run, empty, begun, run_of, beside, inline, Shown, in_line, error_items}
+use Rattle.tx_items.specs.Shows.{begun, run_of, beside, inline, in_line, error_items}
 use Rattle.tx_items.specs.Running.{State, HasShown, first_of}
 use Rattle.tx_items.proofs.Runs.{beside_assoc}
 

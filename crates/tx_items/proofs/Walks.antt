@@ -1,6 +1,6 @@
 -- Walks down a value.
-use Rattle.std.proofs.Common.{◌≡◌, ◌≢◌, ℕ, zero, suc, ◌+◌, ◌-◌, ◌%◌, ◌<◌, ◌≤◌, List, [], ◌∷◌, length, get_or, refl, arith}
-use Rattle.std.specs.Prelude.{Option, Some, None}
+use Rattle.std.proofs.Common.{◌≡◌, ◌≢◌, ℕ, zero, suc, ◌-◌, ◌%◌, ◌<◌, ◌≤◌, length, get_or, refl, arith}
+use Rattle.std.specs.Prelude.{None}
 use Rattle.tx_tree.specs.WideTree.{depth_of, deepest}
 use Rattle.tx_origin.specs.Values.{WideValue, WideValues, text, made, none, also, each_of, value_parts, value_text}
 use Rattle.tx_origin.specs.Values.{value_label, plain, plains}

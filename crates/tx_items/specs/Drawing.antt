@@ -5,9 +5,8 @@ use Rattle.tx_text.specs.declared.cutting.Cluster.{Cluster}
 use Rattle.tx_text.specs.Clusters.{items_of, clusters_of}
 use Rattle.tx_items.specs.declared.attributes.Attrs.{Attrs}
 use Rattle.tx_items.specs.Looks.{WideLook}
-use Rattle.tx_items.specs.declared.drawing.Drawn.{Drawn}
 use Rattle.tx_items.specs.declared.drawing.Item.{Item}
-use Rattle.tx_items.specs.declared.drawing.Item.TheVariants.{Glyph, Space, Gap, Break, PageEnd, Down}
+use Rattle.tx_items.specs.declared.drawing.Item.TheVariants.{Glyph, Space}
 use Rattle.tx_items.specs.declared.drawing.Paragraph.{Paragraph}
 
 -- one space

@@ -1,8 +1,8 @@
 -- Which parts of a value show as lists, told before anything is shown. A plan is seen as a tree without words: a leaf
 -- for what shows in a line, a node with the plans of the parts for a list.
-use Rattle.std.specs.Prelude.{ℕ, ◌+◌, ◌≤◌, max, Bool, true, false, not, ◌||◌, List, [], ◌∷◌, length, get_or}
-use Rattle.std.specs.Prelude.{Option, Some, None, if◌then◌else◌}
-use Rattle.tx_tree.specs.WideTree.{WideTree, Forest, leaf, node, nil, cons, forest, trees, children_of, is_leaf}
+use Rattle.std.specs.Prelude.{ℕ, Bool, false, not, ◌||◌, [], get_or}
+use Rattle.std.specs.Prelude.{if◌then◌else◌}
+use Rattle.tx_tree.specs.WideTree.{WideTree, Forest, leaf, node, nil, cons, children_of, is_leaf}
 use Rattle.tx_origin.specs.Values.{WideValue, WideValues, text, made, none, also}
 use Rattle.tx_items.specs.Rules.{Rule, rule_of}
 use Rattle.tx_items.specs.Rules as rules

@@ -1,14 +1,14 @@
 -- What the code adds to what is shown so far.
 use Rattle.std.specs.Prelude.{◌≡◌, ℕ, Bool, true, false, List, [], ◌∷◌, ◌++◌, Option, None, option_and_then, ℤ, codes}
 use Rattle.tx_prim.specs.Lengths.{length_of}
-use Rattle.tx_origin.specs.Values.{WideValue, WideValues, none, also, vals, value_text}
+use Rattle.tx_origin.specs.Values.{WideValues, none, also, value_text}
 use Rattle.tx_items.specs.declared.attributes.Attrs.{Attrs}
 use Rattle.tx_items.specs.declared.drawing.Item.{Item}
 use Rattle.tx_items.specs.declared.drawing.Paragraph.{Paragraph}
 use Rattle.tx_items.specs.declared.drawing.ErrorAt.{ErrorAt}
 use Rattle.tx_items.specs.declared.showing.Showing.{Showing}
 use Rattle.tx_items.specs.Attributes.{with_named, given_back, attribute_in}
-use Rattle.tx_items.specs.Shows.{Run, empty, begun, run_of, beside, whole_run, ended, Form, inline, listed, Shown}
+use Rattle.tx_items.specs.Shows.{Run, empty, run_of, beside, whole_run, ended, Form, inline, listed, Shown}
 use Rattle.tx_items.specs.Shows.{AllShown, all_inline, side_by_side, paragraphs_of, one_by_one, behind_bar, or_one}
 use Rattle.tx_items.specs.Drawing.{drawn}
 use Rattle.tx_items.specs.declared.drawing.Item.TheVariants.{Gap, Down as Lower}

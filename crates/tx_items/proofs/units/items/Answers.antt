@@ -1,4 +1,4 @@
-use Rattle.std.proofs.Common.{◌≡◌, sym, ap, ◌∙◌, subst, refl}
+use Rattle.std.proofs.Common.{sym, subst}
 use Rattle.std.specs.Prelude.{All}
 use Rattle.tx_items.specs.Narrow.{IsNarrow}
 use Rattle.tx_items.proofs.Narrowing.{shown_narrow}

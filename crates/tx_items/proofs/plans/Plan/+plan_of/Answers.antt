@@ -1,9 +1,8 @@
-use Rattle.std.proofs.Common.{◌≡◌, sym, ap, ◌∙◌}
+use Rattle.std.proofs.Common.{sym, ap, ◌∙◌}
 use Rattle.std.proofs.lemmas.Result.{IfOk-weaker}
-use Rattle.tx_tree.specs.WideTree.{WideTree}
 use Rattle.tx_items.specs.Rules.{rule_of}
 use Rattle.tx_items.specs.Rules as rules
-use Rattle.tx_items.specs.Plans.{plan_of, list_plan}
+use Rattle.tx_items.specs.Plans.{list_plan}
 use Rattle.tx_items.proofs.Planning.{plan_row}
 use Rattle.tx_items.proofs.plans.Plan.+plan_of.Goals as goal
 

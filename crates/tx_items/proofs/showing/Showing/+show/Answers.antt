@@ -1,10 +1,10 @@
-use Rattle.std.proofs.Common.{◌≡◌, List, length, sym, ap, ◌∙◌, not, false, true, subst}
+use Rattle.std.proofs.Common.{sym, ap, ◌∙◌, true, subst}
 use Rattle.std.proofs.lemmas.Result.{on_ok_weaker}
 use Rattle.tx_origin.specs.Values.{vals, value_parts}
 use Rattle.tx_items.specs.declared.attributes.Attrs.{Attrs}
 use Rattle.tx_items.specs.Rules.{rule_of}
 use Rattle.tx_items.specs.Rules as rules
-use Rattle.tx_items.specs.Shows.{Shown, show, show_all, show_with, with_shown}
+use Rattle.tx_items.specs.Shows.{Shown, show, show_all, with_shown}
 use Rattle.tx_items.specs.Running.{state_of, HasShown, HasRun}
 use Rattle.tx_items.proofs.Runs.{part_inline, part_listed, run_joined, run_nothing, run_tag, each_more, each_done}
 use Rattle.tx_items.proofs.Documents.{par_inline, par_listed, pars_document, pars_next, pars_done}
@@ -171,6 +171,3 @@ show-returns-in-Silent t c =
     let row = show_row c.args.self.now.attrs c.args.value.now _ rules.Silent c.in-Some-label.ensures
     (c.in-Silent.ensures ∙ ap rule_of c.bytes.ensures.bytes) in
     subst P (sym row) (run_nothing (state_of c.args.self.now))
-
-pub show-with-requires : goal.show-with-requires
-show-with-requires t c = ?

@@ -1,4 +1,4 @@
-use Rattle.std.proofs.Common.{◌≡◌, ◌+◌, ◌*◌, drop, false}
+use Rattle.std.proofs.Common.{◌+◌, ◌*◌, drop, false}
 use Rattle.tx_tree.specs.WideTree.{depth_of}
 use Rattle.tx_origin.specs.Values.{vals, plain}
 use Rattle.tx_items.specs.Shows.{show_all}

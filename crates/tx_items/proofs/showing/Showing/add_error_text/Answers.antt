@@ -1,4 +1,3 @@
-use Rattle.std.proofs.Common.{rules}
 use Rattle.std.proofs.lemmas.Result.{on_ok_weaker}
 use Rattle.tx_items.proofs.Texts.{error_short, error_long}
 use Rattle.tx_items.proofs.showing.Showing.add_error_text.Goals as goal
