@@ -169,13 +169,15 @@ const ATTRIBUTES: &[Row] = &[
         "medium right black left 5000 0 0",
     ),
     (
-        br#"(concat (assign "font-series" "bold") (assign "font-shape" "x") (assign "color" "y") (assign "par-mode" "z"))"#,
+        br#"(concat (assign "font-series" "bold") (assign "font-shape" "x") (assign "color" "y")
+            (assign "par-mode" "z"))"#,
         "[z 0 0 0]/",
         "bold x y z 0 0 0",
     ),
     (
-        br#"(concat (assign "font-series" "b") (assign "font-series" (f)) (assign "font-shape" "b") (assign "font-shape" (f))
-            (assign "par-mode" "b") (assign "par-mode" (f)) (assign "par-first" "1cm") (assign "par-first" (f)))"#,
+        br#"(concat (assign "font-series" "b") (assign "font-series" (f)) (assign "font-shape" "b")
+            (assign "font-shape" (f)) (assign "par-mode" "b") (assign "par-mode" (f))
+            (assign "par-first" "1cm") (assign "par-first" (f)))"#,
         "/",
         "medium right black left 0 0 0",
     ),
@@ -196,35 +198,41 @@ const ATTRIBUTES: &[Row] = &[
     ),
 ];
 
-// A value, and the places of its clusters.
-const PLACES: &[(&[u8], &str)] = &[
-    (br#""a<alpha>b""#, "/0 /1 /8 "),
-    (br#"(concat "ab" "c")"#, "/0/0 /0/1 /1/0 "),
+// A value, its paragraphs and the places of its clusters.
+const PLACES: &[Row] = &[
+    (br#""a<alpha>b""#, "a\u{3b1}b/", "/0 /1 /8 "),
+    (br#"(concat "ab" "c")"#, "abc/", "/0/0 /0/1 /1/0 "),
     (
         br#"(concat "a" (f "c") (error "k" "") (with "x" "y" "d"))"#,
+        "a<f|c><!k>d/",
         "/0/0 - - - /1/0/0 - - - - - /3/2/0 ",
     ),
     (
         br#"(document "a" (document "b c"))"#,
+        "a/b_c/",
         "/0/0 /1/0/0 /1/0/1 /1/0/2 ",
     ),
-    (br#"(concat (hspace "1cm") (next-line) "")"#, ""),
+    (
+        br#"(concat (hspace "1cm") (next-line) "")"#,
+        "<gap 5><break>/",
+        "",
+    ),
 ];
 
 #[derive(Clone, Copy)]
-enum Kind {
-    Paragraphs,
+enum Told {
     Errors,
     Behind,
     Places,
 }
 
-// Whether the value shows this.
+// Whether the value has these paragraphs, and these errors, attributes or places.
 fn is_shown<L: Ledger>(
     alloc: Global,
     words: &[u8],
-    kind: Kind,
-    want: &[u8],
+    shown: &[u8],
+    kind: Told,
+    told: &[u8],
     blank: Blank,
 ) -> Option<bool>
     requires name { blank.name ≡ L.name }
@@ -235,37 +243,62 @@ fn is_shown<L: Ledger>(
         return None;
     };
     let mut steps = Steps::<L>::new(blank);
-    let got = match kind {
-        Kind::Paragraphs => paragraphs(alloc, words, &mut steps)?,
-        Kind::Errors => errors(alloc, words, &mut steps)?,
-        Kind::Behind => behind(alloc, words, &mut steps)?,
-        Kind::Places => places(alloc, words, &mut steps)?,
+    let got = paragraphs(alloc, words, &mut steps)?;
+    let other = match kind {
+        Told::Errors => errors(alloc, words, &mut steps)?,
+        Told::Behind => behind(alloc, words, &mut steps)?,
+        Told::Places => places(alloc, words, &mut steps)?,
     };
-    Some(got.as_bytes() == want)
+    Some(got.as_bytes() == shown && other.as_bytes() == told)
 }
 
 #[test]
-fn paragraphs_and_errors(rt: HostRuntime) -> Result<(), Fail> {
+fn lists_of_paragraphs(rt: HostRuntime) -> Result<(), Fail> {
     let alloc = rt.alloc();
-    for rows in [LISTS, ERRORS, SPACES] {
-        for (words, shown, listed) in rows {
-            let is = is_shown::<Brand>(
-                alloc,
-                words,
-                Kind::Paragraphs,
-                shown.as_bytes(),
-                Blank::new(1),
-            );
-            assert_eq!(rt; is, Some(true), "paragraphs at {words:?}");
-            let is = is_shown::<Brand>(
-                alloc,
-                words,
-                Kind::Errors,
-                listed.as_bytes(),
-                Blank::new(1),
-            );
-            assert_eq!(rt; is, Some(true), "errors at {words:?}");
-        }
+    for (words, shown, told) in LISTS {
+        let is = is_shown::<Brand>(
+            alloc,
+            words,
+            shown.as_bytes(),
+            Told::Errors,
+            told.as_bytes(),
+            Blank::new(1),
+        );
+        assert_eq!(rt; is, Some(true), "at {words:?}");
+    }
+    Ok(())
+}
+
+#[test]
+fn errors_that_are_shown(rt: HostRuntime) -> Result<(), Fail> {
+    let alloc = rt.alloc();
+    for (words, shown, told) in ERRORS {
+        let is = is_shown::<Brand>(
+            alloc,
+            words,
+            shown.as_bytes(),
+            Told::Errors,
+            told.as_bytes(),
+            Blank::new(1),
+        );
+        assert_eq!(rt; is, Some(true), "at {words:?}");
+    }
+    Ok(())
+}
+
+#[test]
+fn spaces(rt: HostRuntime) -> Result<(), Fail> {
+    let alloc = rt.alloc();
+    for (words, shown, told) in SPACES {
+        let is = is_shown::<Brand>(
+            alloc,
+            words,
+            shown.as_bytes(),
+            Told::Errors,
+            told.as_bytes(),
+            Blank::new(1),
+        );
+        assert_eq!(rt; is, Some(true), "at {words:?}");
     }
     Ok(())
 }
@@ -273,17 +306,16 @@ fn paragraphs_and_errors(rt: HostRuntime) -> Result<(), Fail> {
 #[test]
 fn attributes(rt: HostRuntime) -> Result<(), Fail> {
     let alloc = rt.alloc();
-    for (words, shown, attrs) in ATTRIBUTES {
+    for (words, shown, told) in ATTRIBUTES {
         let is = is_shown::<Brand>(
             alloc,
             words,
-            Kind::Paragraphs,
             shown.as_bytes(),
+            Told::Behind,
+            told.as_bytes(),
             Blank::new(1),
         );
-        assert_eq!(rt; is, Some(true), "paragraphs at {words:?}");
-        let is = is_shown::<Brand>(alloc, words, Kind::Behind, attrs.as_bytes(), Blank::new(1));
-        assert_eq!(rt; is, Some(true), "attributes behind {words:?}");
+        assert_eq!(rt; is, Some(true), "at {words:?}");
     }
     Ok(())
 }
@@ -291,9 +323,16 @@ fn attributes(rt: HostRuntime) -> Result<(), Fail> {
 #[test]
 fn places_of_clusters(rt: HostRuntime) -> Result<(), Fail> {
     let alloc = rt.alloc();
-    for (words, want) in PLACES {
-        let is = is_shown::<Brand>(alloc, words, Kind::Places, want.as_bytes(), Blank::new(1));
-        assert_eq!(rt; is, Some(true), "places at {words:?}");
+    for (words, shown, told) in PLACES {
+        let is = is_shown::<Brand>(
+            alloc,
+            words,
+            shown.as_bytes(),
+            Told::Places,
+            told.as_bytes(),
+            Blank::new(1),
+        );
+        assert_eq!(rt; is, Some(true), "at {words:?}");
     }
     Ok(())
 }
@@ -321,8 +360,9 @@ fn values_of_the_greatest_depth(rt: HostRuntime) -> Result<(), Fail> {
         let is = is_shown::<Brand>(
             alloc,
             words.as_bytes(),
-            Kind::Paragraphs,
             b"x/",
+            Told::Errors,
+            b"",
             Blank::new(1),
         );
         assert_eq!(rt; is, Some(true), "at {label}");
