@@ -1,0 +1,9 @@
+pub mod Once
+pub mod Gathering
+pub mod Within
+pub mod Numbering
+pub mod Finding
+pub mod Sound
+pub mod Written
+pub mod Few
+pub mod Placing
