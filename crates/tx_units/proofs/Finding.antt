@@ -27,9 +27,12 @@ section_is label t o d f =
     ap (λ b. if b then option_and_then (λ part. slice_get (children_of part) 0) (find (is_labelled label) (children_of t)) else None) d
     ∙ ap (option_and_then (λ part. slice_get (children_of part) 0)) f
 
-pub section_at : (label : List ℕ) (t part : WideTree) (i : ℕ) → is_document t ≡ true → position (is_labelled label) (children_of t) ≡ Some i
-    → part ≡ get_or (children_of t) i part → section label t ≡ slice_get (children_of part) 0
-section_at label t part i d e is = section_is label t (Some part) d (found_at (is_labelled label) (children_of t) i part e is)
+-- the child is one of the list of the children
+pub section_at : (label : List ℕ) (t part : WideTree) (ts : List WideTree) (i : ℕ) → ts ≡ children_of t → is_document t ≡ true
+    → position (is_labelled label) (children_of t) ≡ Some i → part ≡ get_or ts i part → section label t ≡ slice_get (children_of part) 0
+section_at label t part ts i same d e is =
+    section_is label t (Some part) d (found_at (is_labelled label) (children_of t) i part e (is ∙ ap (λ us. get_or us i part) same))
 
-pub no_section : (label : List ℕ) (t : WideTree) → is_document t ≡ true → position (is_labelled label) (children_of t) ≡ None → section label t ≡ None
+pub no_section : (label : List ℕ) (t : WideTree) → is_document t ≡ true → position (is_labelled label) (children_of t) ≡ None
+    → section label t ≡ None
 no_section label t d e = section_is label t None d (not_found (is_labelled label) (children_of t) e)

@@ -1,5 +1,5 @@
 -- Units that are gathered, one part of a list after the other.
-use Rattle.std.proofs.Common.{◌≡◌, ℕ, ◌+◌, ◌<◌, ◌≤◌, List, [], ◌∷◌, ◌++◌, length, take, drop, get_or, refl, sym, ap, arith, ◌∙◌}
+use Rattle.std.proofs.Common.{◌≡◌, ℕ, ◌+◌, ◌<◌, ◌≤◌, List, [], ◌∷◌, ◌++◌, length, take, drop, get_or, refl, sym, ap, subst, arith, ◌∙◌}
 use Rattle.std.specs.List.{flat_map, sum_by}
 use Rattle.std.proofs.lemmas.List.{take_more, flat_map_more, take-append-drop}
 use Rattle.std.proofs.lemmas.List.Sums.{sum_by-append}
@@ -41,3 +41,10 @@ module _ {X : Type 0} (g : X → List DocUnit) where
             ∙ ap nodes_made (flat_map-append g (take i xs) (drop i xs))
             ∙ nodes_made-append (flat_map g (take i xs)) (flat_map g (drop i xs)) in
       omega (arith, so, all)
+
+  -- where it ends at a part
+  pub nodes_stop : (xs ys : List X) (i : ℕ) (x : X) (from s n : ℕ) → xs ≡ ys → i < length xs → x ≡ get_or xs i x
+      → s ≤ from + nodes_made (flat_map g (take i xs)) → n ≤ s + nodes_made (g x) → n ≤ from + nodes_made (flat_map g ys)
+  nodes_stop xs ys i x from s n same lt is so more =
+      subst (λ zs. n ≤ from + nodes_made (flat_map g zs)) same
+          (nodes_first xs (i + 1) from n (nodes_next xs i x from s n lt is so more))

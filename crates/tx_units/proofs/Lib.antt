@@ -7,3 +7,4 @@ pub mod Sound
 pub mod Written
 pub mod Few
 pub mod Placing
+pub mod Pairs

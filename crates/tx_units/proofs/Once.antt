@@ -7,9 +7,8 @@ use Rattle.std.specs.Cmp.Lexicographic.{bytes_decides}
 use Rattle.std.proofs.lemmas.List.{append-nil, take_more}
 use Rattle.std.proofs.lemmas.List.Elements.{filter-append, filter_map-append}
 use Rattle.std.proofs.lemmas.Map.Views.{any-filter_same}
-use Rattle.indexmap.specs.IndexSet.{insert_key}
 use Rattle.tx_tree.specs.WideTree.{WideTree, text_of}
-use Rattle.tx_units.specs.Documents.{each_once}
+use Rattle.tx_units.specs.Documents.{each_once, put}
 
 abbrev Names : Type 0
 Names = List (List ℕ)
@@ -18,12 +17,8 @@ Names = List (List ℕ)
 abbrev is_other : List ℕ → List ℕ → Bool
 is_other m n = not (bytes_eq n m)
 
--- the names with n behind them, if it isn't one of them
-abbrev pub put : Names → List ℕ → Names
-put ks n = insert_key bytes_eq ks n
-
 -- where n is m, it goes with it
-goes : (m n : List ℕ) (ks : Names) → bytes_eq n m ≡ true → filter (is_other m) (put ks n) ≡ filter (is_other m) ks
+goes : (m n : List ℕ) (ks : Names) → bytes_eq n m ≡ true → filter (is_other m) (put ks (Some n)) ≡ filter (is_other m) ks
 goes m n ks e = by (list_any (bytes_eq n) ks)
   where
     by : (b : Bool) → filter (is_other m) (if b then ks else ks ++ n ∷ []) ≡ filter (is_other m) ks
@@ -34,7 +29,7 @@ goes m n ks e = by (list_any (bytes_eq n) ks)
         ∙ append-nil (filter (is_other m) ks)
 
 -- where n is another name, it stays
-stays : (m n : List ℕ) (ks : Names) → bytes_eq n m ≡ false → filter (is_other m) (put ks n) ≡ put (filter (is_other m) ks) n
+stays : (m n : List ℕ) (ks : Names) → bytes_eq n m ≡ false → filter (is_other m) (put ks (Some n)) ≡ put (filter (is_other m) ks) (Some n)
 stays m n ks e = by (list_any (bytes_eq n) ks) ∙ ap (λ b. if b then kept else kept ++ n ∷ []) (sym same_any)
   where
     kept : Names
@@ -48,14 +43,14 @@ stays m n ks e = by (list_any (bytes_eq n) ks) ∙ ap (λ b. if b then kept else
     by false = filter-append (is_other m) ks (n ∷ []) ∙ ap (λ b. filter (is_other m) ks ++ cond (not b) (n ∷ []) []) e
 
 -- one name more
-pub once_more : (names : Names) (n : List ℕ) → each_once (names ++ n ∷ []) ≡ put (each_once names) n
+pub once_more : (names : Names) (n : List ℕ) → each_once (names ++ n ∷ []) ≡ put (each_once names) (Some n)
 once_more [] n = refl
 once_more (m ∷ ms) n = ap (λ ks. m ∷ filter (is_other m) ks) (once_more ms n) ∙ by (bytes_eq n m) refl
   where
     rest : Names
     rest = filter (is_other m) (each_once ms)
     by : (b : Bool) → bytes_eq n m ≡ b
-        → m ∷ filter (is_other m) (put (each_once ms) n) ≡ (if b || list_any (bytes_eq n) (filter (is_other m) (each_once ms)) then m ∷ filter (is_other m) (each_once ms) else m ∷ (filter (is_other m) (each_once ms) ++ n ∷ []))
+        → m ∷ filter (is_other m) (put (each_once ms) (Some n)) ≡ (if b || list_any (bytes_eq n) (filter (is_other m) (each_once ms)) then m ∷ filter (is_other m) (each_once ms) else m ∷ (filter (is_other m) (each_once ms) ++ n ∷ []))
     by true e = ap (λ ks. m ∷ ks) (goes m n (each_once ms) e)
     by false e = ap (λ ks. m ∷ ks) (stays m n (each_once ms) e) ∙ spread (list_any (bytes_eq n) (filter (is_other m) (each_once ms))) (filter (is_other m) (each_once ms))
       where
@@ -70,18 +65,12 @@ name_more ts i t lt is =
     ap (filter_map text_of) (take_more ts i t lt ∙ ap (λ u. take i ts ++ u ∷ []) (sym is))
     ∙ filter_map-append text_of (take i ts) (t ∷ [])
 
-pub text_next : (ts : List WideTree) (i : ℕ) (t : WideTree) (n : List ℕ) (old new : Names) → i < length ts → t ≡ get_or ts i t
-    → text_of t ≡ Some n → old ≡ each_once (filter_map text_of (take i ts)) → new ≡ put old n
+pub name_next : (ts : List WideTree) (i : ℕ) (t : WideTree) (old new : Names) → i < length ts → t ≡ get_or ts i t
+    → old ≡ each_once (filter_map text_of (take i ts)) → new ≡ put old (text_of t)
     → new ≡ each_once (filter_map text_of (take (i + 1) ts))
-text_next ts i t n old new lt is name so put_in =
-    put_in
-    ∙ ap (λ ks. put ks n) so
-    ∙ sym (once_more (filter_map text_of (take i ts)) n)
-    ∙ ap each_once (ap (λ o. filter_map text_of (take i ts) ++ cons_option o []) (sym name) ∙ sym (name_more ts i t lt is))
-
-pub node_next : (ts : List WideTree) (i : ℕ) (t : WideTree) (old : Names) → i < length ts → t ≡ get_or ts i t
-    → text_of t ≡ None → old ≡ each_once (filter_map text_of (take i ts))
-    → old ≡ each_once (filter_map text_of (take (i + 1) ts))
-node_next ts i t old lt is name so =
-    so ∙ ap each_once (sym (append-nil (filter_map text_of (take i ts)))
-        ∙ ap (λ o. filter_map text_of (take i ts) ++ cons_option o []) (sym name) ∙ sym (name_more ts i t lt is))
+name_next ts i t old new lt is so more =
+    more ∙ ap (λ ks. put ks (text_of t)) so ∙ by (text_of t) ∙ ap each_once (sym (name_more ts i t lt is))
+  where
+    by : (o : Option (List ℕ)) → put (each_once (filter_map text_of (take i ts))) o ≡ each_once (filter_map text_of (take i ts) ++ cons_option o [])
+    by None = ap each_once (sym (append-nil (filter_map text_of (take i ts))))
+    by (Some n) = sym (once_more (filter_map text_of (take i ts)) n)

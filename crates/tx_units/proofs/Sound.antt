@@ -9,22 +9,7 @@ use Rattle.tx_tree.specs.Texts.{IsText}
 use Rattle.tx_tree.specs.TextScan.{is_text, text_step}
 use Rattle.tx_tree.specs.WideTree.{WideTree, Forest, leaf, node, nil, cons, size_of, depth_of, arity_of, text_length_of}
 use Rattle.tx_tree.proofs.Scanning.{text_test}
-
-abbrev pub is_label : List ℕ → Bool
-is_label label = list_all is_label_byte label && (nat_le 1 (length label) && nat_le (length label) 64)
-
-abbrev mutual
-  pub is_formed : WideTree → Bool
-  is_formed (leaf text) = is_text text
-  is_formed (node label ts) = is_label label && are_formed ts
-
-  pub are_formed : Forest → Bool
-  are_formed nil = true
-  are_formed (cons t ts) = is_formed t && are_formed ts
-
-abbrev pub is_within : WideTree → Bool
-is_within t =
-    (nat_le (text_length_of t) 1048575 && nat_le (arity_of t) 65535) && (nat_le (depth_of t) 400 && nat_le (size_of t) 8000000)
+use Rattle.tx_units.specs.Sound.{is_label, is_formed, are_formed, is_within}
 
 each_byte : (bytes : List ℕ) → list_all is_label_byte bytes ≡ true → AllByRecursion (λ b. is_label_byte b ≡ true) bytes
 each_byte [] e = tt

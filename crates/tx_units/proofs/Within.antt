@@ -1,5 +1,5 @@
 -- Parts of a tree are smaller than it, less deep, and no wider.
-use Rattle.std.proofs.Common.{◌≡◌, ℕ, zero, suc, ◌+◌, ◌<◌, ◌≤◌, Bool, true, false, cond, List, [], ◌∷◌, length, get_or, refl, ap, sym, arith, ◌∙◌}
+use Rattle.std.proofs.Common.{◌≡◌, ℕ, zero, suc, ◌+◌, ◌<◌, ◌≤◌, Bool, true, false, cond, List, [], ◌∷◌, length, get_or, refl, ap, sym, subst, arith, ◌∙◌}
 use Rattle.std.specs.Prelude.{codes, if◌then◌else◌, Option, Some, None, option_and_then, slice_get}
 use Rattle.std.specs.List.{find}
 use Rattle.std.specs.Option.{option_map_or}
@@ -125,5 +125,8 @@ entry_inside t s i lt is = in_section (section (codes "initial") t) refl lt is
     in_section None f l e = absurd (omega arith)
     in_section (Some c) f l e = in_collection c (is_labelled (codes "collection") c) f l e
 
-pub entry_small : (t s : WideTree) (i : ℕ) → IsWithinLimits t → i < length (entries t) → s ≡ get_or (entries t) i s → (size_of s < 8000000) × (depth_of s < 400)
-entry_small t s i w lt is = let h = entry_inside t s i lt is in (omega (arith, h.smaller, w.size), omega (arith, h.shallower, w.depth))
+pub entry_small : (t s : WideTree) (ts : List WideTree) (i : ℕ) → IsWithinLimits t → ts ≡ entries t → i < length ts → s ≡ get_or ts i s
+    → (size_of s < 8000000) × (depth_of s < 400)
+entry_small t s ts i w same lt is =
+    let h = entry_inside t s i (subst (λ us. i < length us) same lt) (is ∙ ap (λ us. get_or us i s) same) in
+    (omega (arith, h.smaller, w.size), omega (arith, h.shallower, w.depth))

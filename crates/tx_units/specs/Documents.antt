@@ -1,6 +1,6 @@
 -- The parts of a document: its sections, the styles that it names, and its paragraphs.
-use Rattle.std.specs.Prelude.{ℕ, Bool, not, if◌then◌else◌, List, [], ◌∷◌, codes, Option, Some, None, option_and_then, slice_get}
-use Rattle.std.specs.List.{find, filter, filter_map}
+use Rattle.std.specs.Prelude.{ℕ, Bool, not, ◌++◌, if◌then◌else◌, List, [], ◌∷◌, codes, Option, Some, None, option_and_then, slice_get}
+use Rattle.std.specs.List.{find, filter, filter_map, list_any}
 use Rattle.std.specs.Option.{option_map_or}
 use Rattle.std.specs.Str.{bytes_eq}
 use Rattle.tx_tree.specs.WideTree.{WideTree, leaf, node, trees, children_of, text_of}
@@ -27,6 +27,11 @@ names_in (node label ts) = if bytes_eq label (codes "tuple") then filter_map tex
 abbrev pub each_once : List (List ℕ) → List (List ℕ)
 each_once [] = []
 each_once (name ∷ names) = name ∷ filter (λ other. not (bytes_eq other name)) (each_once names)
+
+-- the names, and behind them another that isn't one of them
+abbrev pub put : List (List ℕ) → Option (List ℕ) → List (List ℕ)
+put names None = names
+put names (Some name) = if list_any (bytes_eq name) names then names else names ++ name ∷ []
 
 -- the styles that a document with this tree names
 abbrev pub style_names : WideTree → List (List ℕ)

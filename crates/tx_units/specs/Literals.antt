@@ -1,8 +1,9 @@
 -- What literals stand for.
-use Rattle.std.specs.Prelude.{ℕ, List, [], ◌∷◌, map, Bor}
-use Rattle.tx_tree.specs.Limits.{IsWellFormed, IsWithinLimits}
+use Rattle.std.specs.Prelude.{ℕ, Bool, ◌&&◌, List, map}
+use Rattle.std.specs.Borrow.{Bor}
 use Rattle.tx_tree.specs.WideTree.{WideTree, Forest, leaf, node, nil, cons}
 use Rattle.tx_units.specs.BaseStyle.{assign}
+use Rattle.tx_units.specs.Sound.{is_formed, is_within}
 use Rattle.tx_units.specs.Units.{unit}
 use Rattle.tx_units.specs.declared.kinds.Unit.{Unit as DocUnit}
 use Rattle.tx_units.specs.declared.kinds.UnitKind.TheVariants.{Base}
@@ -11,7 +12,7 @@ use Rattle.tx_units.specs.declared.literals.Literal.{Literal, Leaf, Node', Row_o
 abbrev mutual
   pub literal_tree : Literal → WideTree
   literal_tree (Leaf words) = leaf words.now
-  literal_tree (Node' name _ parts) = node name.now (literal_forest parts)
+  literal_tree (Node' name _ _ parts) = node name.now (literal_forest parts)
 
   pub literal_forest : {n : _} → Row_of-Literal n → Forest
   literal_forest end_of-Literal = nil
@@ -25,8 +26,6 @@ row_tree name value = assign (leaf name) (literal_tree value)
 abbrev pub row_units : List (Bor (List ℕ) × Literal) → List DocUnit
 row_units rows = map (λ row. unit Base (row_tree row.0.now row.1)) rows
 
--- each row's tree is well formed and within the limits
-abbrev pub AreSound : List (Bor (List ℕ) × Literal) → Type 0
-AreSound [] = Unit {0}
-AreSound (row ∷ rows) =
-    (IsWellFormed (row_tree row.0.now row.1) × IsWithinLimits (row_tree row.0.now row.1)) × AreSound rows
+-- a row's tree is well formed and within the limits
+abbrev pub is_sound : Bor (List ℕ) × Literal → Bool
+is_sound row = is_formed (row_tree row.0.now row.1) && is_within (row_tree row.0.now row.1)

@@ -1,8 +1,9 @@
 // The base style.
-ghost use Rattle.std.specs.Prelude.{◌≡◌, ◌+◌, ◌≤◌, codes, map, IfOk};
+ghost use Rattle.std.specs.Prelude.{◌≡◌, ◌+◌, ◌≤◌, true, codes, IfOk};
+ghost use Rattle.std.specs.List.{list_all};
 ghost use Rattle.tx_tree.specs.Limits.{IsWellFormed, IsWithinLimits};
 ghost use Rattle.tx_tree.specs.WideTree.{nodes_of};
-ghost use Rattle.tx_units.specs.Literals.{AreSound, row_tree, row_units};
+ghost use Rattle.tx_units.specs.Literals.{is_sound, row_tree, row_units};
 ghost use Rattle.tx_units.specs.Units.{unit, base_units, nodes_made};
 ghost use Rattle.tx_units.specs.declared.kinds.UnitKind.TheVariants.{Base};
 
@@ -147,7 +148,7 @@ fn rows_units<L: Ledger>(
     rows: &[(&str, Literal)],
     steps: &mut Steps<L>,
 ) -> Result<Vec<Unit>, Memory>
-    requires { AreSound rows.now }
+    requires { list_all is_sound rows.now ≡ true }
     ensures ok { IfOk result (λ us. us.items ≡ row_units rows.now) }
     ensures counted { steps.new ≤ steps.old + nodes_made (row_units rows.now) }
 {
@@ -159,6 +160,16 @@ fn rows_units<L: Ledger>(
     Ok(units)
 }
 
+#[tactic(
+    auto,
+    unfolding(
+        tx_tree::specs::Labels::is_label_byte,
+        tx_tree::specs::TextScan::is_text,
+        tx_tree::specs::TextScan::text_step,
+        crate::specs::Units::base_units,
+        crate::specs::BaseStyle::base_style
+    )
+)]
 /// The units of the base style, each of which assigns a value to a name. The steps rise by at most the nodes of their
 /// trees that aren't leaves.
 pub fn base_units<L: Ledger>(alloc: Global, steps: &mut Steps<L>) -> Result<Vec<Unit>, Memory>

@@ -1,10 +1,10 @@
 // The parts of a document.
-ghost use Rattle.std.specs.Prelude.{◌≡◌, [], codes, IfOk, MatchOption, None, Some};
-ghost use Rattle.std.specs.List.{filter_map};
+ghost use Rattle.std.specs.Prelude.{◌≡◌, [], codes, IfOk, OnOk, MatchOption, None, Some};
+ghost use Rattle.std.specs.List.{filter_map, position};
 ghost use Rattle.std.specs.Option.{option_map_or};
-ghost use Rattle.tx_tree.specs.WideTree.{text_of};
+ghost use Rattle.tx_tree.specs.WideTree.{children_of, text_of};
 ghost use Rattle.tx_doc.specs.Bodies.{is_labelled};
-ghost use Rattle.tx_units.specs.Documents.{is_document, section, names_in, each_once, style_names, entries, paragraphs_in, paragraphs};
+ghost use Rattle.tx_units.specs.Documents.{is_document, section, names_in, each_once, put, style_names, entries, paragraphs_in, paragraphs};
 
 use indexmap::IndexSet;
 use std::alloc::Global;
@@ -30,6 +30,15 @@ pub(crate) fn is_document(t: &Tree) -> bool
     is_labelled(t, b"document")
 }
 
+// The number of the first child with this label.
+fn first_labelled(t: &Tree, label: &[u8]) -> Option<usize>
+    ensures { result ≡ position (is_labelled label.now) (children_of t.now) }
+{
+    t.children()
+        .iter()
+        .position(|part| is_labelled(part, label))
+}
+
 // The first child of the first section with this label.
 fn section<'a>(t: &'a Tree, label: &[u8]) -> Option<&'a Tree>
     ensures { MatchOption result (section label.now t.now ≡ None) (λ c. section label.now t.now ≡ Some c.now) }
@@ -37,9 +46,8 @@ fn section<'a>(t: &'a Tree, label: &[u8]) -> Option<&'a Tree>
     if !is_document(t) {
         return None;
     }
-    let parts = t.children();
-    match parts.iter().position(|part| is_labelled(part, label)) {
-        Some(i) => parts[i].child(0),
+    match first_labelled(t, label) {
+        Some(i) => t.children()[i].child(0),
         None => None,
     }
 }
@@ -67,15 +75,26 @@ fn style_trees(document: &Tree) -> &[Tree]
     }
 }
 
+// Adds the text of a leaf, unless it is there already.
+fn add_name(names: &mut IndexSet<Text>, tree: &Tree) -> Result<(), Memory>
+    ensures { OnOk result (names.new.keys ≡ put names.old.keys (text_of tree.now)) }
+{
+    match tree.text() {
+        None => Ok(()),
+        Some(name) => {
+            names.insert(name.copy()?)?;
+            Ok(())
+        }
+    }
+}
+
 // The texts among the trees, each once, in their order.
 fn names_among(alloc: Global, trees: &[Tree]) -> Result<IndexSet<Text>, Memory>
     ensures { IfOk result (λ names. names.keys ≡ each_once (filter_map text_of trees.now)) }
 {
     let mut names = IndexSet::new(alloc);
     for tree in trees {
-        if let Some(name) = tree.text() {
-            names.insert(name.copy()?)?;
-        }
+        add_name(&mut names, tree)?;
     }
     Ok(names)
 }

@@ -1,5 +1,5 @@
 // The list of units.
-ghost use Rattle.std.specs.Prelude.{◌≡◌, ◌+◌, ◌≤◌, ◌<◌, ◌^◌, ◌++◌, drop, length, IfOk};
+ghost use Rattle.std.specs.Prelude.{◌≡◌, ◌+◌, ◌≤◌, ◌<◌, ◌^◌, ◌++◌, drop, length, IfOk, OnOk};
 ghost use Rattle.tx_doc.specs.Buffers.{document_of};
 ghost use Rattle.tx_units.specs.Units.{body_units, units, style_units, initial_units, nodes_made, made};
 
