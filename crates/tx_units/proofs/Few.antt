@@ -171,6 +171,7 @@ few_paragraphs t h = by (body_of t)
     there : (path : List ℕ) (o : Option WideTree) → subtree t path ≡ o → length (option_map_or paragraphs_in o []) ≤ 65535
     there path None e = omega arith
     there path (Some s) e = few_in s (omega (arith, narrow_at t s path e, h))
+
     by : (o : Option (List ℕ)) → length (option_map_or (λ path. option_map_or paragraphs_in (subtree t path) []) o []) ≤ 65535
     by None = omega arith
     by (Some path) = there path (subtree t path) refl
@@ -180,8 +181,13 @@ few_at path t h = by (is_document t)
   where
     by : (b : Bool) → length (if b then map (λ p. body_unit p.1 (path ++ p.0 ∷ [])) (enumerate_from 0 (children_of t)) else body_unit t path ∷ []) ≤ 65535
     by true =
-        omega (arith, few_children t, h, length-enumerate_from 0 (children_of t),
-            length-map (enumerate_from 0 (children_of t)) (λ p. body_unit p.1 (path ++ p.0 ∷ [])))
+        omega (
+          arith,
+          few_children t,
+          h,
+          length-enumerate_from 0 (children_of t),
+          length-map (enumerate_from 0 (children_of t)) (λ p. body_unit p.1 (path ++ p.0 ∷ [])),
+        )
     by false = omega arith
 
 few_body : (t : WideTree) → arity_of t ≤ 65535 → length (body_units t) ≤ 65535
@@ -190,6 +196,7 @@ few_body t h = by (body_of t)
     there : (path : List ℕ) (o : Option WideTree) → subtree t path ≡ o → length (option_map_or (units_at path) o []) ≤ 65535
     there path None e = omega arith
     there path (Some s) e = few_at path s (omega (arith, narrow_at t s path e, h))
+
     by : (o : Option (List ℕ)) → length (option_map_or (λ path. option_map_or (units_at path) (subtree t path) []) o []) ≤ 65535
     by None = omega arith
     by (Some path) = there path (subtree t path) refl
@@ -209,6 +216,7 @@ few_of_name bs n h = by (bytes_eq n (codes "generic"))
     loaded None e = omega arith
     loaded (Some k) e =
         rw (number_named bs n k e) (omega (arith, length-map (paragraphs (tree_of bs k)) (unit (Style (k + 1))), few_paragraphs (tree_of bs k) (formed_at bs k h)))
+
     by : (b : Bool) → length (if b then [] else option_map_or (λ k. loaded_units (k + 1) (tree_of bs k)) (number_of bs n) (absent_unit n ∷ [])) ≤ 1 + 65535 * one_if (named_by bs n)
     by true = omega arith
     by false = loaded (number_of bs n) refl
@@ -270,6 +278,7 @@ few_entries t h = by (section (codes "initial") t) refl
     in_collection : (c : WideTree) (b : Bool) → arity_of c ≤ 65535 → length (if b then children_of c else []) ≤ 65535
     in_collection c true k = omega (arith, few_children c, k)
     in_collection c false k = omega arith
+
     by : (o : Option WideTree) → section (codes "initial") t ≡ o
         → length (option_map_or (λ c. if is_labelled (codes "collection") c then children_of c else []) o []) ≤ 65535
     by None e = omega arith
@@ -284,9 +293,18 @@ base_count = refl
 few_behind : (t : WideTree) (bs : List Buffer) → arity_of t ≤ 65535 → AreFormed bs → length bs ≤ 63
     → length (front_units t bs ++ body_units t) < 8388608
 few_behind t bs h k few =
-    omega (arith, base_count, few_styles t bs h k, few_of_entries (entries t), few_entries t h, few_body t h,
-        length-append base_units (style_units t bs ++ initial_units t), length-append (style_units t bs) (initial_units t),
-        length-append (front_units t bs) (body_units t), few)
+    omega (
+      arith,
+      base_count,
+      few_styles t bs h k,
+      few_of_entries (entries t),
+      few_entries t h,
+      few_body t h,
+      length-append base_units (style_units t bs ++ initial_units t),
+      length-append (style_units t bs) (initial_units t),
+      length-append (front_units t bs) (body_units t),
+      few,
+    )
 
 pub few_units : (bs : List Buffer) → AreFormed bs → length bs ≤ 64 → length (units bs) < 8388608
 few_units [] h few = few_behind (leaf []) [] (omega arith) tt (omega arith)

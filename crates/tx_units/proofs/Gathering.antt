@@ -37,9 +37,9 @@ module _ {X : Type 0} (g : X → List DocUnit) where
       → n ≤ from + nodes_made (flat_map g xs)
   nodes_first xs i from n so =
       let all : nodes_made (flat_map g xs) ≡ nodes_made (flat_map g (take i xs)) + nodes_made (flat_map g (drop i xs))
-          = ap (λ ys. nodes_made (flat_map g ys)) (sym (take-append-drop i xs))
-            ∙ ap nodes_made (flat_map-append g (take i xs) (drop i xs))
-            ∙ nodes_made-append (flat_map g (take i xs)) (flat_map g (drop i xs)) in
+      = ap (λ ys. nodes_made (flat_map g ys)) (sym (take-append-drop i xs))
+      ∙ ap nodes_made (flat_map-append g (take i xs) (drop i xs))
+      ∙ nodes_made-append (flat_map g (take i xs)) (flat_map g (drop i xs)) in
       omega (arith, so, all)
 
   -- where it ends at a part
@@ -47,4 +47,4 @@ module _ {X : Type 0} (g : X → List DocUnit) where
       → s ≤ from + nodes_made (flat_map g (take i xs)) → n ≤ s + nodes_made (g x) → n ≤ from + nodes_made (flat_map g ys)
   nodes_stop xs ys i x from s n same lt is so more =
       subst (λ zs. n ≤ from + nodes_made (flat_map g zs)) same
-          (nodes_first xs (i + 1) from n (nodes_next xs i x from s n lt is so more))
+      (nodes_first xs (i + 1) from n (nodes_next xs i x from s n lt is so more))

@@ -29,8 +29,8 @@ numbered_next path xs i x start us vs lt is so more =
     let f : ℕ × WideTree → DocUnit = λ p. body_unit p.1 (path ++ p.0 ∷ []) in
     let many : 0 + length (take i xs) ≡ i = omega (arith, length-take i xs) in
     let step : enumerate_from 0 (take (i + 1) xs) ≡ enumerate_from 0 (take i xs) ++ (i, x) ∷ []
-        = ap (enumerate_from 0) (take_more xs i x lt ∙ ap (λ y. take i xs ++ y ∷ []) (sym is))
-          ∙ enumerate_more 0 (take i xs) x
-          ∙ ap (λ n. enumerate_from 0 (take i xs) ++ (n, x) ∷ []) many in
+    = ap (enumerate_from 0) (take_more xs i x lt ∙ ap (λ y. take i xs ++ y ∷ []) (sym is))
+    ∙ enumerate_more 0 (take i xs) x
+    ∙ ap (λ n. enumerate_from 0 (take i xs) ++ (n, x) ∷ []) many in
     more ∙ ap (λ ws. ws ++ f (i, x) ∷ []) so ∙ append_assoc start (map f (enumerate_from 0 (take i xs))) (f (i, x) ∷ [])
     ∙ ap (λ ws. start ++ ws) (sym (map-append f (enumerate_from 0 (take i xs)) ((i, x) ∷ [])) ∙ ap (map f) (sym step))

@@ -34,10 +34,13 @@ stays m n ks e = by (list_any (bytes_eq n) ks) ∙ ap (λ b. if b then kept else
   where
     kept : Names
     kept = filter (is_other m) ks
+
     is_kept : (k : List ℕ) → bytes_eq n k ≡ true → is_other m k ≡ true
     is_kept k t = let same : n ≡ k = (bytes_decides n k).0 t in ap (λ x. not (bytes_eq x m)) (sym same) ∙ ap not e
+
     same_any : list_any (bytes_eq n) (filter (is_other m) ks) ≡ list_any (bytes_eq n) ks
     same_any = any-filter_same (bytes_eq n) (is_other m) true is_kept ks
+
     by : (b : Bool) → filter (is_other m) (if b then ks else ks ++ n ∷ []) ≡ (if b then filter (is_other m) ks else filter (is_other m) ks ++ n ∷ [])
     by true = refl
     by false = filter-append (is_other m) ks (n ∷ []) ∙ ap (λ b. filter (is_other m) ks ++ cond (not b) (n ∷ []) []) e
@@ -49,6 +52,7 @@ once_more (m ∷ ms) n = ap (λ ks. m ∷ filter (is_other m) ks) (once_more ms 
   where
     rest : Names
     rest = filter (is_other m) (each_once ms)
+
     by : (b : Bool) → bytes_eq n m ≡ b
         → m ∷ filter (is_other m) (put (each_once ms) (Some n)) ≡ (if b || list_any (bytes_eq n) (filter (is_other m) (each_once ms)) then m ∷ filter (is_other m) (each_once ms) else m ∷ (filter (is_other m) (each_once ms) ++ n ∷ []))
     by true e = ap (λ ks. m ∷ ks) (goes m n (each_once ms) e)

@@ -30,14 +30,16 @@ module _ (path : List ℕ) where
       → AllByRecursion (StandsIn t) (map (λ p. body_unit p.1 (path ++ p.0 ∷ [])) (enumerate_from k ts))
   all_stand t k [] h = tt
   all_stand t k (c ∷ ts) h =
-      let here : k + 0 ≡ k = omega arith in
-      (record {
-        path = path ++ k ∷ [];
-        has_path = refl;
-        leads = subst (λ n. subtree t (path ++ n ∷ []) ≡ Some c) here (h 0 c refl);
-        at_root = refl;
-        is_body = refl;
-      }, all_stand t (k + 1) ts (λ j d e. let on : k + suc j ≡ (k + 1) + j = omega arith in subst (λ n. subtree t (path ++ n ∷ []) ≡ Some d) on (h (suc j) d e)))
+      let here : k + 0 ≡ k = omega arith in (
+        record {
+          path = path ++ k ∷ [];
+          has_path = refl;
+          leads = subst (λ n. subtree t (path ++ n ∷ []) ≡ Some c) here (h 0 c refl);
+          at_root = refl;
+          is_body = refl;
+        },
+        all_stand t (k + 1) ts (λ j d e. let on : k + suc j ≡ (k + 1) + j = omega arith in subst (λ n. subtree t (path ++ n ∷ []) ≡ Some d) on (h (suc j) d e)),
+      )
 
   -- paths of one length that end otherwise
   ends_apart : (m n : ℕ) → (m ≡ n → ⊥) → AreApart (Some (path ++ m ∷ [])) (Some (path ++ n ∷ []))
@@ -46,6 +48,7 @@ module _ (path : List ℕ) where
       at_end : (ps : List ℕ) (k : ℕ) → get_or (ps ++ k ∷ []) (length ps) 0 ≡ k
       at_end [] k = refl
       at_end (x ∷ ps) k = at_end ps k
+
       apart : (p more : List ℕ) (m n : ℕ) → (m ≡ n → ⊥) → Some (path ++ m ∷ []) ≡ Some p → Some (path ++ n ∷ []) ≡ Some (p ++ more) → ⊥
       apart p [] m n ne e f =
           let one : path ++ m ∷ [] ≡ p = cc in
@@ -90,6 +93,7 @@ body_stands t = by (body_of t)
     there : (path : List ℕ) (o : Option WideTree) → subtree t path ≡ o → AllByRecursion (StandsIn t) (option_map_or (units_at path) o [])
     there path None e = tt
     there path (Some s) e = stand_at t s path e
+
     by : (o : Option (List ℕ)) → AllByRecursion (StandsIn t) (option_map_or (λ path. option_map_or (units_at path) (subtree t path) []) o [])
     by None = tt
     by (Some path) = there path (subtree t path) refl
@@ -100,6 +104,7 @@ body_apart t = by (body_of t)
     there : (path : List ℕ) (o : Option WideTree) → NoneBegins (option_map_or (units_at path) o [])
     there path None = tt
     there path (Some s) = apart_at s path
+
     by : (o : Option (List ℕ)) → NoneBegins (option_map_or (λ path. option_map_or (units_at path) (subtree t path) []) o [])
     by None = tt
     by (Some path) = there path (subtree t path)

@@ -28,19 +28,19 @@ pub record IsOneOf (s : WideTree) (ts : Forest) : Type 0 where
 
 pub later : (s t : WideTree) (ts : Forest) → IsOneOf s ts → IsOneOf s (cons t ts)
 later s t ts h = record {
-    smaller = omega (arith, h.smaller);
-    shallower = omega (arith, h.shallower);
-    no_wider = omega (arith, h.no_wider, le-max_right (arity_of t) (widest ts));
-    no_longer = omega (arith, h.no_longer, le-max_right (text_length_of t) (longest_text ts));
-  }
+  smaller = omega (arith, h.smaller);
+  shallower = omega (arith, h.shallower);
+  no_wider = omega (arith, h.no_wider, le-max_right (arity_of t) (widest ts));
+  no_longer = omega (arith, h.no_longer, le-max_right (text_length_of t) (longest_text ts));
+}
 
 pub first : (s : WideTree) (ts : Forest) → IsOneOf s (cons s ts)
 first s ts = record {
-    smaller = omega arith;
-    shallower = omega arith;
-    no_wider = le-max_left (arity_of s) (widest ts);
-    no_longer = le-max_left (text_length_of s) (longest_text ts);
-  }
+  smaller = omega arith;
+  shallower = omega arith;
+  no_wider = le-max_left (arity_of s) (widest ts);
+  no_longer = le-max_left (text_length_of s) (longest_text ts);
+}
 
 got : (ts : Forest) (i : ℕ) (s : WideTree) → slice_get (trees ts) i ≡ Some s → IsOneOf s ts
 got nil i s e = absurd cc
@@ -55,18 +55,18 @@ item_of (cons t ts) (suc i) s lt e = later s t ts (item_of ts i s (omega arith) 
 -- a child of a node within the limits is within them
 pub within_of : (label : List ℕ) (ts : Forest) (s : WideTree) → IsOneOf s ts → IsWithinLimits (node label ts) → IsWithinLimits s
 within_of label ts s h w = record {
-    text = omega (arith, h.no_longer, w.text);
-    arity = omega (arith, h.no_wider, w.arity, le-max_right (count ts) (widest ts));
-    depth = omega (arith, h.shallower, w.depth);
-    size = omega (arith, h.smaller, w.size);
-  }
+  text = omega (arith, h.no_longer, w.text);
+  arity = omega (arith, h.no_wider, w.arity, le-max_right (count ts) (widest ts));
+  depth = omega (arith, h.shallower, w.depth);
+  size = omega (arith, h.smaller, w.size);
+}
 
 below : (label : List ℕ) (ts : Forest) (s : WideTree) → IsOneOf s ts → IsInside 1 s (node label ts)
 below label ts s h = record {
-    smaller = omega (arith, h.smaller);
-    shallower = omega (arith, h.shallower);
-    no_wider = omega (arith, h.no_wider, le-max_right (count ts) (widest ts));
-  }
+  smaller = omega (arith, h.smaller);
+  shallower = omega (arith, h.shallower);
+  no_wider = omega (arith, h.no_wider, le-max_right (count ts) (widest ts));
+}
 
 found : (p : WideTree → Bool) (ts : Forest) (s : WideTree) → find p (trees ts) ≡ Some s → IsOneOf s ts
 found p nil s e = absurd cc
@@ -90,10 +90,10 @@ found_inside p (node label ts) s e = below label ts s (found p ts s e)
 
 deeper : (m n : ℕ) (r s t : WideTree) → IsInside m r s → IsInside n s t → IsInside (m + n) r t
 deeper m n r s t h k = record {
-    smaller = omega (arith, h.smaller, k.smaller);
-    shallower = omega (arith, h.shallower, k.shallower);
-    no_wider = omega (arith, h.no_wider, k.no_wider);
-  }
+  smaller = omega (arith, h.smaller, k.smaller);
+  shallower = omega (arith, h.shallower, k.shallower);
+  no_wider = omega (arith, h.no_wider, k.no_wider);
+}
 
 -- a section is a child of a child
 pub section_inside : (label : List ℕ) (t s : WideTree) → section label t ≡ Some s → IsInside 2 s t
@@ -103,6 +103,7 @@ section_inside label t s e = by (is_document t) refl e
         → option_and_then (λ part. slice_get (children_of part) 0) o ≡ Some s → IsInside 2 s t
     in_part None f h = absurd cc
     in_part (Some part) f h = deeper 1 1 s part t (child_inside part s 0 h) (found_inside (is_labelled label) t part f)
+
     by : (b : Bool) → is_document t ≡ b
         → (if b then option_and_then (λ part. slice_get (children_of part) 0) (find (is_labelled label) (children_of t)) else None) ≡ Some s
         → IsInside 2 s t
@@ -115,10 +116,12 @@ entry_inside t s i lt is = in_section (section (codes "initial") t) refl lt is
   where
     of_section : WideTree → List WideTree
     of_section c = if is_labelled (codes "collection") c then children_of c else []
+
     in_collection : (c : WideTree) (b : Bool) → section (codes "initial") t ≡ Some c → i < length (if b then children_of c else [])
         → s ≡ get_or (if b then children_of c else []) i s → IsInside 3 s t
     in_collection c true f l e = deeper 1 2 s c t (item_inside c s i l e) (section_inside (codes "initial") t c f)
     in_collection c false f l e = absurd (omega arith)
+
     in_section : (o : Option WideTree) → section (codes "initial") t ≡ o
         → i < length (option_map_or (λ c. if is_labelled (codes "collection") c then children_of c else []) o [])
         → s ≡ get_or (option_map_or (λ c. if is_labelled (codes "collection") c then children_of c else []) o []) i s → IsInside 3 s t

@@ -2,7 +2,6 @@
 use Rattle.std.proofs.Common.{◌≡◌, ℕ, zero, suc, ◌+◌, ◌<◌, ◌≤◌, Bool, true, List, [], ◌∷◌, ◌++◌, length, map, take, get_or, refl, sym, ap, subst, arith, ◌∙◌}
 use Rattle.std.specs.Borrow.{Bor}
 use Rattle.std.proofs.lemmas.List.{take_more, map-append}
-use Rattle.tx_tree.specs.Labels.{IsLabel}
 use Rattle.tx_tree.specs.Limits.{IsWellFormed, AreWellFormed, IsWithinLimits}
 use Rattle.tx_tree.specs.WideTree.{WideTree, Forest, leaf, node, nil, cons, forest, nodes_of, total_nodes}
 use Rattle.std.specs.List.{list_all, take-map}
@@ -55,35 +54,35 @@ pub part_formed : (l p : Literal) (name : Bor (List ℕ)) (parts : Bor (List Lit
     → p ≡ get_or parts.now i p → IsWellFormed (literal_tree l) → IsWellFormed (literal_tree p)
 part_formed l p name parts i e lt is h =
     let whole : IsWellFormed (node name.now (forest (map literal_tree parts.now)))
-        = subst IsWellFormed (ap literal_tree e ∙ tree_node name parts) h in
+    = subst IsWellFormed (ap literal_tree e ∙ tree_node name parts) h in
     formed_part parts.now i p lt is whole.1
 
 pub part_within : (l p : Literal) (name : Bor (List ℕ)) (parts : Bor (List Literal)) (i : ℕ) → l ≡ Node name parts → i < length parts.now
     → p ≡ get_or parts.now i p → IsWithinLimits (literal_tree l) → IsWithinLimits (literal_tree p)
 part_within l p name parts i e lt is h =
     within_of name.now (forest (map literal_tree parts.now)) (literal_tree p) (one_part parts.now i p lt is)
-        (subst IsWithinLimits (ap literal_tree e ∙ tree_node name parts) h)
+    (subst IsWithinLimits (ap literal_tree e ∙ tree_node name parts) h)
 
--- the name of a literal that is well formed
-pub name_formed : (l : Literal) (name : Bor (List ℕ)) (parts : Bor (List Literal)) → l ≡ Node name parts → IsWellFormed (literal_tree l) → IsLabel name.now
-name_formed l name parts e h =
-    let whole : IsWellFormed (node name.now (forest (map literal_tree parts.now)))
-        = subst IsWellFormed (ap literal_tree e ∙ tree_node name parts) h in
-    whole.0
+-- one part more is made
+pub parts_next : (ps : List Literal) (i : ℕ) (p : Literal) (ts us : List WideTree) (t : WideTree) → i < length ps → p ≡ get_or ps i p
+    → ts ≡ map literal_tree (take i ps) → us ≡ ts ++ t ∷ [] → t ≡ literal_tree p → us ≡ map literal_tree (take (i + 1) ps)
+parts_next ps i p ts us t lt is so more e =
+    more ∙ ap (λ vs. vs ++ t ∷ []) so ∙ ap (λ u. map literal_tree (take i ps) ++ u ∷ []) e ∙ sym (parts_more ps i p lt is)
 
--- all parts are the children
-pub all_parts : (l : Literal) (name : Bor (List ℕ)) (parts : Bor (List Literal)) (i : ℕ) (ts : List WideTree) → l ≡ Node name parts → length parts.now ≤ i
-    → ts ≡ map literal_tree (take i parts.now) → literal_tree l ≡ node name.now (forest ts)
-all_parts l name parts i ts e le so =
+-- the tree is made of its label and all parts
+pub all_made : (l : Literal) (name : Bor (List ℕ)) (parts : Bor (List Literal)) (i : ℕ) (label : List ℕ) (ts : List WideTree) → l ≡ Node name parts
+    → length parts.now ≤ i → label ≡ name.now → ts ≡ map literal_tree (take i parts.now) → literal_tree l ≡ node label (forest ts)
+all_made l name parts i label ts e le named so =
     ap literal_tree e ∙ tree_node name parts
-    ∙ ap (λ ps. node name.now (forest (map literal_tree ps))) (sym (take_all i parts.now le)) ∙ ap (λ us. node name.now (forest us)) (sym so)
+    ∙ ap (λ ps. node name.now (forest (map literal_tree ps))) (sym (take_all i parts.now le))
+    ∙ ap (λ us. node name.now (forest us)) (sym so) ∙ ap (λ n. node n (forest ts)) (sym named)
 
 pub part_counted : (parts : List Literal) (i : ℕ) (p : Literal) (from s n : ℕ) → i < length parts → p ≡ get_or parts i p
     → s ≤ from + total_nodes (forest (map literal_tree (take i parts))) → n ≤ s + nodes_of (literal_tree p)
     → n ≤ from + total_nodes (forest (map literal_tree (take (i + 1) parts)))
 part_counted parts i p from s n lt is so more =
     let sum : total_nodes (forest (map literal_tree (take (i + 1) parts))) ≡ total_nodes (forest (map literal_tree (take i parts))) + nodes_of (literal_tree p)
-        = ap (λ ts. total_nodes (forest ts)) (parts_more parts i p lt is) ∙ nodes_append (map literal_tree (take i parts)) (literal_tree p) in
+    = ap (λ ts. total_nodes (forest ts)) (parts_more parts i p lt is) ∙ nodes_append (map literal_tree (take i parts)) (literal_tree p) in
     omega (arith, so, more, sum)
 
 first_counted : (parts : List Literal) (i : ℕ) → total_nodes (forest (map literal_tree (take i parts))) ≤ total_nodes (forest (map literal_tree parts))
@@ -112,8 +111,8 @@ row_sound row e =
 pub row_at : (rows : List Row) (i : ℕ) (d : Row) → i < length rows → list_all is_sound rows ≡ true
     → IsWellFormed (row_tree (get_or rows i d).0.now (get_or rows i d).1) × IsWithinLimits (row_tree (get_or rows i d).0.now (get_or rows i d).1)
 row_at [] i d lt e = absurd (omega arith)
-row_at (r ∷ rows) zero d lt e = let p = and_parts _ _ e in row_sound r p.0
-row_at (r ∷ rows) (suc i) d lt e = let p = and_parts _ _ e in row_at rows i d (omega arith) p.1
+row_at (r ∷ rows) zero d lt e = row_sound r (and_parts (is_sound r) (list_all is_sound rows) e).0
+row_at (r ∷ rows) (suc i) d lt e = row_at rows i d (omega arith) (and_parts (is_sound r) (list_all is_sound rows) e).1
 
 pub row_counted : (rows : List Row) (i : ℕ) (d : Row) (from s n : ℕ) → i < length rows
     → s ≤ from + nodes_made (row_units (take i rows)) → n ≤ s + nodes_of (row_tree (get_or rows i d).0.now (get_or rows i d).1)
@@ -122,15 +121,15 @@ row_counted rows i d from s n lt so more =
     let row : Row = get_or rows i d in
     let one : nodes_made (unit Base (row_tree row.0.now row.1) ∷ []) ≡ nodes_of (row_tree row.0.now row.1) = omega arith in
     let sum : nodes_made (row_units (take (i + 1) rows)) ≡ nodes_made (row_units (take i rows)) + nodes_made (unit Base (row_tree row.0.now row.1) ∷ [])
-        = ap (λ rs. nodes_made (row_units rs)) (take_more rows i d lt)
-          ∙ ap nodes_made (map-append (λ r. unit Base (row_tree r.0.now r.1)) (take i rows) (row ∷ []))
-          ∙ nodes_made-append (row_units (take i rows)) (unit Base (row_tree row.0.now row.1) ∷ []) in
+    = ap (λ rs. nodes_made (row_units rs)) (take_more rows i d lt)
+    ∙ ap nodes_made (map-append (λ r. unit Base (row_tree r.0.now r.1)) (take i rows) (row ∷ []))
+    ∙ nodes_made-append (row_units (take i rows)) (unit Base (row_tree row.0.now row.1) ∷ []) in
     omega (arith, so, more, one, sum)
 
 rows_first : (rows : List Row) (i : ℕ) → nodes_made (row_units (take i rows)) ≤ nodes_made (row_units rows)
 rows_first rows i =
     subst (λ us. nodes_made us ≤ nodes_made (row_units rows)) (take-map (λ r. unit Base (row_tree r.0.now r.1)) i rows)
-        (sum_by-take-le (λ u. made_as u.kind u.tagged.tree) (row_units rows) i)
+    (sum_by-take-le (λ u. made_as u.kind u.tagged.tree) (row_units rows) i)
 
 pub row_stopped : (rows : List Row) (i : ℕ) (d : Row) (from s n : ℕ) → i < length rows
     → s ≤ from + nodes_made (row_units (take i rows)) → n ≤ s + nodes_of (row_tree (get_or rows i d).0.now (get_or rows i d).1)

@@ -44,38 +44,38 @@ wider margin by = leaf margin ∷ plus (value margin) by ∷ []
 abbrev list_of : List ℕ → WideTree
 list_of kind =
     macro_of (codes "b" ∷ []) (tag (codes "with") (wider (codes "par-left") (codes "2spc")
-        ++ leaf (codes "item-kind") ∷ leaf kind ∷ leaf (codes "item-nr") ∷ leaf (codes "0") ∷ arg (codes "b") ∷ []))
+    ++ leaf (codes "item-kind") ∷ leaf kind ∷ leaf (codes "item-nr") ∷ leaf (codes "0") ∷ arg (codes "b") ∷ []))
 
 -- ---- the macros
 
 abbrev section : WideTree
 section =
     macro_of (codes "t" ∷ []) (joined (counted (codes "section-nr") ∷ assign (leaf (codes "subsection-nr")) (leaf (codes "0"))
-        ∷ styled (codes "font-series") (codes "bold")
-            (joined (value (codes "section-nr") ∷ leaf (codes " ") ∷ arg (codes "t") ∷ [])) ∷ []))
+    ∷ styled (codes "font-series") (codes "bold")
+    (joined (value (codes "section-nr") ∷ leaf (codes " ") ∷ arg (codes "t") ∷ [])) ∷ []))
 
 abbrev subsection : WideTree
 subsection =
     macro_of (codes "t" ∷ []) (joined (counted (codes "subsection-nr") ∷ styled (codes "font-series") (codes "bold")
-        (joined (value (codes "section-nr") ∷ leaf (codes ".") ∷ value (codes "subsection-nr") ∷ leaf (codes " ")
-            ∷ arg (codes "t") ∷ [])) ∷ []))
+    (joined (value (codes "section-nr") ∷ leaf (codes ".") ∷ value (codes "subsection-nr") ∷ leaf (codes " ")
+    ∷ arg (codes "t") ∷ [])) ∷ []))
 
 -- the number and a point in a list that is numbered, and else a dash
 abbrev item : WideTree
 item =
     macro_of [] (joined (counted (codes "item-nr") ∷ tag (codes "if")
-        (tag (codes "equal") (value (codes "item-kind") ∷ leaf (codes "number") ∷ [])
-            ∷ tag (codes "merge") (value (codes "item-nr") ∷ leaf (codes ". ") ∷ []) ∷ leaf (codes "- ") ∷ []) ∷ []))
+    (tag (codes "equal") (value (codes "item-kind") ∷ leaf (codes "number") ∷ [])
+    ∷ tag (codes "merge") (value (codes "item-nr") ∷ leaf (codes ". ") ∷ []) ∷ leaf (codes "- ") ∷ []) ∷ []))
 
 abbrev quotation : WideTree
 quotation =
     macro_of (codes "b" ∷ []) (tag (codes "with") (wider (codes "par-left") (codes "4spc")
-        ++ wider (codes "par-right") (codes "4spc") ++ arg (codes "b") ∷ []))
+    ++ wider (codes "par-right") (codes "4spc") ++ arg (codes "b") ∷ []))
 
 abbrev fraction : WideTree
 fraction =
     macro_of (codes "a" ∷ codes "b" ∷ []) (joined (leaf (codes "(") ∷ arg (codes "a") ∷ leaf (codes ")/(")
-        ∷ arg (codes "b") ∷ leaf (codes ")") ∷ []))
+    ∷ arg (codes "b") ∷ leaf (codes ")") ∷ []))
 
 abbrev root : WideTree
 root = macro_of (codes "x" ∷ []) (joined (leaf (codes "sqrt(") ∷ arg (codes "x") ∷ leaf (codes ")") ∷ []))

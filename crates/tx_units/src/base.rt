@@ -25,56 +25,172 @@ const BASE_STYLE: &[(&str, Literal)] = &[
     ("par-left", Leaf("0mcell")),
     ("par-right", Leaf("0mcell")),
     ("par-first", Leaf("0mcell")),
-    ("em", Node("macro", &[Leaf("x"), Node("with", &[Leaf("font-shape"), Leaf("italic"), X])])),
-    ("strong", Node("macro", &[Leaf("x"), Node("with", &[Leaf("font-series"), Leaf("bold"), X])])),
+    (
+        "em",
+        Node(
+            "macro",
+            &[
+                Leaf("x"),
+                Node("with", &[Leaf("font-shape"), Leaf("italic"), X]),
+            ],
+        ),
+    ),
+    (
+        "strong",
+        Node(
+            "macro",
+            &[
+                Leaf("x"),
+                Node("with", &[Leaf("font-series"), Leaf("bold"), X]),
+            ],
+        ),
+    ),
     ("section-nr", Leaf("0")),
     ("subsection-nr", Leaf("0")),
-    ("section", Node("macro", &[Leaf("t"), Node("concat", &[NEXT_SECTION, NO_SUBSECTION, SECTION_TITLE])])),
-    ("subsection", Node("macro", &[Leaf("t"), Node("concat", &[NEXT_SUBSECTION, SUBSECTION_TITLE])])),
+    (
+        "section",
+        Node(
+            "macro",
+            &[
+                Leaf("t"),
+                Node("concat", &[NEXT_SECTION, NO_SUBSECTION, SECTION_TITLE]),
+            ],
+        ),
+    ),
+    (
+        "subsection",
+        Node(
+            "macro",
+            &[
+                Leaf("t"),
+                Node("concat", &[NEXT_SUBSECTION, SUBSECTION_TITLE]),
+            ],
+        ),
+    ),
     ("item-kind", Leaf("bullet")),
     ("item-nr", Leaf("0")),
-    ("item", Node("macro", &[Node("concat", &[NEXT_ITEM, ITEM_SIGN])])),
+    (
+        "item",
+        Node("macro", &[Node("concat", &[NEXT_ITEM, ITEM_SIGN])]),
+    ),
     ("itemize", Node("macro", &[Leaf("b"), BULLETS])),
     ("enumerate", Node("macro", &[Leaf("b"), NUMBERS])),
     ("quotation", Node("macro", &[Leaf("b"), QUOTED])),
-    ("center", Node("macro", &[Leaf("b"), Node("with", &[Leaf("par-mode"), Leaf("center"), B])])),
-    ("verbatim", Node("macro", &[Leaf("x"), Node("with", &[Leaf("font-family"), Leaf("tt"), X])])),
-    ("math", Node("macro", &[Leaf("x"), Node("with", &[Leaf("mode"), Leaf("math"), X])])),
-    ("frac", Node("macro", &[Leaf("a"), Leaf("b"), Node("concat", &[Leaf("("), A, Leaf(")/("), B, Leaf(")")])])),
-    ("sqrt", Node("macro", &[Leaf("x"), Node("concat", &[Leaf("sqrt("), X, Leaf(")")])])),
-    ("rsub", Node("macro", &[Leaf("x"), Node("concat", &[Leaf("_"), X])])),
-    ("rsup", Node("macro", &[Leaf("x"), Node("concat", &[Leaf("^"), X])])),
+    (
+        "center",
+        Node(
+            "macro",
+            &[
+                Leaf("b"),
+                Node("with", &[Leaf("par-mode"), Leaf("center"), B]),
+            ],
+        ),
+    ),
+    (
+        "verbatim",
+        Node(
+            "macro",
+            &[
+                Leaf("x"),
+                Node("with", &[Leaf("font-family"), Leaf("tt"), X]),
+            ],
+        ),
+    ),
+    (
+        "math",
+        Node(
+            "macro",
+            &[Leaf("x"), Node("with", &[Leaf("mode"), Leaf("math"), X])],
+        ),
+    ),
+    (
+        "frac",
+        Node(
+            "macro",
+            &[
+                Leaf("a"),
+                Leaf("b"),
+                Node("concat", &[Leaf("("), A, Leaf(")/("), B, Leaf(")")]),
+            ],
+        ),
+    ),
+    (
+        "sqrt",
+        Node(
+            "macro",
+            &[Leaf("x"), Node("concat", &[Leaf("sqrt("), X, Leaf(")")])],
+        ),
+    ),
+    (
+        "rsub",
+        Node("macro", &[Leaf("x"), Node("concat", &[Leaf("_"), X])]),
+    ),
+    (
+        "rsup",
+        Node("macro", &[Leaf("x"), Node("concat", &[Leaf("^"), X])]),
+    ),
 ];
 
 // Arguments.
 const A: Literal = Node("arg", &[Leaf("a")]);
+
 const B: Literal = Node("arg", &[Leaf("b")]);
+
 const T: Literal = Node("arg", &[Leaf("t")]);
+
 const X: Literal = Node("arg", &[Leaf("x")]);
 
 // Headings: what counts them, and what shows.
 const SECTION_NR: Literal = Node("value", &[Leaf("section-nr")]);
+
 const SUBSECTION_NR: Literal = Node("value", &[Leaf("subsection-nr")]);
-const NEXT_SECTION: Literal = Node("assign", &[Leaf("section-nr"), Node("plus", &[SECTION_NR, Leaf("1")])]);
+
+const NEXT_SECTION: Literal = Node(
+    "assign",
+    &[Leaf("section-nr"), Node("plus", &[SECTION_NR, Leaf("1")])],
+);
+
 const NO_SUBSECTION: Literal = Node("assign", &[Leaf("subsection-nr"), Leaf("0")]);
-const NEXT_SUBSECTION: Literal = Node("assign", &[Leaf("subsection-nr"), Node("plus", &[SUBSECTION_NR, Leaf("1")])]);
+
+const NEXT_SUBSECTION: Literal = Node(
+    "assign",
+    &[
+        Leaf("subsection-nr"),
+        Node("plus", &[SUBSECTION_NR, Leaf("1")]),
+    ],
+);
+
 const SECTION_TITLE: Literal = Node(
     "with",
-    &[Leaf("font-series"), Leaf("bold"), Node("concat", &[SECTION_NR, Leaf(" "), T])],
+    &[
+        Leaf("font-series"),
+        Leaf("bold"),
+        Node("concat", &[SECTION_NR, Leaf(" "), T]),
+    ],
 );
+
 const SUBSECTION_TITLE: Literal = Node(
     "with",
     &[
         Leaf("font-series"),
         Leaf("bold"),
-        Node("concat", &[SECTION_NR, Leaf("."), SUBSECTION_NR, Leaf(" "), T]),
+        Node(
+            "concat",
+            &[SECTION_NR, Leaf("."), SUBSECTION_NR, Leaf(" "), T],
+        ),
     ],
 );
 
 // Items of lists: a number and a point, or a dash.
 const ITEM_NR: Literal = Node("value", &[Leaf("item-nr")]);
+
 const ITEM_KIND: Literal = Node("value", &[Leaf("item-kind")]);
-const NEXT_ITEM: Literal = Node("assign", &[Leaf("item-nr"), Node("plus", &[ITEM_NR, Leaf("1")])]);
+
+const NEXT_ITEM: Literal = Node(
+    "assign",
+    &[Leaf("item-nr"), Node("plus", &[ITEM_NR, Leaf("1")])],
+);
+
 const ITEM_SIGN: Literal = Node(
     "if",
     &[
@@ -86,7 +202,9 @@ const ITEM_SIGN: Literal = Node(
 
 // What stands within other margins.
 const PAR_LEFT: Literal = Node("value", &[Leaf("par-left")]);
+
 const PAR_RIGHT: Literal = Node("value", &[Leaf("par-right")]);
+
 const BULLETS: Literal = Node(
     "with",
     &[
@@ -99,6 +217,7 @@ const BULLETS: Literal = Node(
         B,
     ],
 );
+
 const NUMBERS: Literal = Node(
     "with",
     &[
@@ -111,6 +230,7 @@ const NUMBERS: Literal = Node(
         B,
     ],
 );
+
 const QUOTED: Literal = Node(
     "with",
     &[
@@ -160,16 +280,6 @@ fn rows_units<L: Ledger>(
     Ok(units)
 }
 
-#[tactic(
-    auto,
-    unfolding(
-        tx_tree::specs::Labels::is_label_byte,
-        tx_tree::specs::TextScan::is_text,
-        tx_tree::specs::TextScan::text_step,
-        crate::specs::Units::base_units,
-        crate::specs::BaseStyle::base_style
-    )
-)]
 /// The units of the base style, each of which assigns a value to a name. The steps rise by at most the nodes of their
 /// trees that aren't leaves.
 pub fn base_units<L: Ledger>(alloc: Global, steps: &mut Steps<L>) -> Result<Vec<Unit>, Memory>

@@ -11,7 +11,12 @@ use tx_doc::body;
 use tx_tree::{Path, Tree};
 
 // Adds the paragraphs of a body that is a `document` and stands at this path.
-fn add_paragraphs(alloc: Global, units: &mut Vec<Unit>, path: &Path, body: &Tree) -> Result<(), Memory>
+fn add_paragraphs(
+    alloc: Global,
+    units: &mut Vec<Unit>,
+    path: &Path,
+    body: &Tree,
+) -> Result<(), Memory>
     requires { is_document body.now ≡ true }
     ensures { OnOk result (units.new.items ≡ units.old.items ++ units_at path.now body.now) }
 {

@@ -65,7 +65,12 @@ fn initial_unit<L: Ledger>(
 {
     let _size = name.size();
     let _sizes = value.size();
-    let quoted = tag(alloc, labels.quote.copy()?, vec![in alloc; value.share()?]?, steps)?;
+    let quoted = tag(
+        alloc,
+        labels.quote.copy()?,
+        vec![in alloc; value.share()?]?,
+        steps,
+    )?;
     let children = vec![in alloc; name.share()?, quoted]?;
     let tree = tag(alloc, labels.assign.copy()?, children, steps)?;
     Ok(Unit::new(UnitKind::Initial, tree))

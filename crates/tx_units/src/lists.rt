@@ -27,7 +27,7 @@ fn add_front<L: Ledger>(
         ++ (style_units (document_of buffers.now) (drop 1 buffers.now) ++ initial_units (document_of buffers.now))) }
     ensures counted { steps.new ≤ steps.old
         + (nodes_made (style_units (document_of buffers.now) (drop 1 buffers.now))
-            + nodes_made (initial_units (document_of buffers.now))) }
+        + nodes_made (initial_units (document_of buffers.now))) }
 {
     let Some((document, styles)) = buffers.split_first() else {
         unreachable!()
@@ -54,7 +54,7 @@ pub fn front_units<L: Ledger>(
         ++ (style_units (document_of buffers.now) (drop 1 buffers.now) ++ initial_units (document_of buffers.now))) }
     ensures counted { steps.new ≤ steps.old
         + (nodes_made (style_units (document_of buffers.now) (drop 1 buffers.now))
-            + nodes_made (initial_units (document_of buffers.now))) }
+        + nodes_made (initial_units (document_of buffers.now))) }
 {
     let mut units = Vec::with_capacity(alloc, base.len())?;
     share_onto(alloc, &mut units, base)?;

@@ -45,11 +45,17 @@ const ROWS: &[(&str, &str)] = &[
     // bodies
     ("d \"\"", "Body / / \"\";"),
     ("d (concat \"a\" \"b\")", "Body / / (concat \"a\" \"b\");"),
-    ("d (document \"a\" (em \"b\"))", "Body /0 / \"a\";Body /1 / (em \"b\");"),
+    (
+        "d (document \"a\" (em \"b\"))",
+        "Body /0 / \"a\";Body /1 / (em \"b\");",
+    ),
     ("d (document)", ""),
     ("d (document (body))", ""),
     ("d (document (body) (body \"x\"))", ""),
-    ("d (document \"a\" (body \"x\" \"y\") (body \"z\"))", "Body /1/0 / \"x\";"),
+    (
+        "d (document \"a\" (body \"x\" \"y\") (body \"z\"))",
+        "Body /1/0 / \"x\";",
+    ),
     (
         "d (document (body (document \"a\" (document \"b\"))))",
         "Body /0/0/0 / \"a\";Body /0/0/1 / (document \"b\");",
@@ -57,7 +63,10 @@ const ROWS: &[(&str, &str)] = &[
     ("d (document (body (document)))", ""),
     ("d (body \"x\")", "Body / / (body \"x\");"),
     // styles
-    ("d (document (style \"s\") (body \"\"));s \"p\"", "Style(1) - - \"p\";Body /1/0 / \"\";"),
+    (
+        "d (document (style \"s\") (body \"\"));s \"p\"",
+        "Style(1) - - \"p\";Body /1/0 / \"\";",
+    ),
     (
         "d (document (style \"s\") (body \"\"));s (document \"p\" (q))",
         "Style(1) - - \"p\";Style(1) - - (q);Body /1/0 / \"\";",
@@ -66,7 +75,10 @@ const ROWS: &[(&str, &str)] = &[
         "d (document (style \"s\") (body \"\"));s (document (style \"z\") (body (document \"p\")))",
         "Style(1) - - \"p\";Body /1/0 / \"\";",
     ),
-    ("d (document (style \"s\") (body \"\"));s (document (body))", "Body /1/0 / \"\";"),
+    (
+        "d (document (style \"s\") (body \"\"));s (document (body))",
+        "Body /1/0 / \"\";",
+    ),
     (
         "d (document (style \"s\") (body \"\"))",
         "Absent - - (error \"undefined-style\" \"s\");Body /1/0 / \"\";",
@@ -75,7 +87,10 @@ const ROWS: &[(&str, &str)] = &[
         "d (document (style \"s\"))",
         "Absent - - (error \"undefined-style\" \"s\");Body /0 / (style \"s\");",
     ),
-    ("d (document (style \"generic\") (body \"\"));generic \"p\"", "Body /1/0 / \"\";"),
+    (
+        "d (document (style \"generic\") (body \"\"));generic \"p\"",
+        "Body /1/0 / \"\";",
+    ),
     (
         "d (document (style \"d\") (body \"\"))",
         "Absent - - (error \"undefined-style\" \"d\");Body /1/0 / \"\";",
@@ -84,13 +99,22 @@ const ROWS: &[(&str, &str)] = &[
         "d (document (style (tuple \"b\" \"a\" (x) \"b\" \"generic\" \"c\" \"c\" \"a\")) (body \"\"));a \"A\";b (document \"B\" \"C\")",
         "Style(2) - - \"B\";Style(2) - - \"C\";Style(1) - - \"A\";Absent - - (error \"undefined-style\" \"c\");Body /1/0 / \"\";",
     ),
-    ("d (document (style (concat \"a\")) (body \"\"));a \"A\"", "Body /1/0 / \"\";"),
-    ("d (document (style) (style \"a\") (body \"\"));a \"A\"", "Body /2/0 / \"\";"),
+    (
+        "d (document (style (concat \"a\")) (body \"\"));a \"A\"",
+        "Body /1/0 / \"\";",
+    ),
+    (
+        "d (document (style) (style \"a\") (body \"\"));a \"A\"",
+        "Body /2/0 / \"\";",
+    ),
     (
         "d (document (style \"a\" \"b\") (style \"b\") (body \"\"));b \"B\";a \"A\"",
         "Style(2) - - \"A\";Body /2/0 / \"\";",
     ),
-    ("d (concat (style \"a\"));a \"A\"", "Body / / (concat (style \"a\"));"),
+    (
+        "d (concat (style \"a\"));a \"A\"",
+        "Body / / (concat (style \"a\"));",
+    ),
     (
         "d (document (style \"\") (body \"\"))",
         "Absent - - (error \"undefined-style\" \"\");Body /1/0 / \"\";",
@@ -104,7 +128,10 @@ const ROWS: &[(&str, &str)] = &[
         "d (document (body \"\") (initial (collection (associate \"x\") \"t\" (associate \"x\" \"y\" \"z\") (assign \"x\" \"y\") (associate \"x\" \"y\"))))",
         "Initial - - (assign \"x\" (quote \"y\"));Body /0/0 / \"\";",
     ),
-    ("d (document (body \"\") (initial (tuple (associate \"x\" \"y\"))))", "Body /0/0 / \"\";"),
+    (
+        "d (document (body \"\") (initial (tuple (associate \"x\" \"y\"))))",
+        "Body /0/0 / \"\";",
+    ),
     (
         "d (document (body \"\") (initial) (initial (collection (associate \"x\" \"y\"))))",
         "Body /0/0 / \"\";",
@@ -117,11 +144,7 @@ const ROWS: &[(&str, &str)] = &[
 ];
 
 // The buffers that are told.
-fn told_buffers<L: Ledger>(
-    alloc: Global,
-    told: &str,
-    steps: &mut Steps<L>,
-) -> Option<Vec<Buffer>> {
+fn told_buffers<L: Ledger>(alloc: Global, told: &str, steps: &mut Steps<L>) -> Option<Vec<Buffer>> {
     let mut buffers = Vec::new(alloc);
     for part in told.split(';') {
         let (name, words) = part.split_once(' ')?;
