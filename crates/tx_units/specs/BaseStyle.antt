@@ -50,7 +50,8 @@ list_of kind =
 
 abbrev section : WideTree
 section =
-    macro_of (codes "t" ∷ []) (joined (counted (codes "section-nr") ∷ assign (leaf (codes "subsection-nr")) (leaf (codes "0"))
+    macro_of (codes "t" ∷ []) (joined (counted (codes "section-nr")
+    ∷ assign (leaf (codes "subsection-nr")) (leaf (codes "0"))
     ∷ styled (codes "font-series") (codes "bold")
     (joined (value (codes "section-nr") ∷ leaf (codes " ") ∷ arg (codes "t") ∷ [])) ∷ []))
 

@@ -1,5 +1,6 @@
 -- The parts of a document: its sections, the styles that it names, and its paragraphs.
-use Rattle.std.specs.Prelude.{ℕ, Bool, not, ◌++◌, if◌then◌else◌, List, [], ◌∷◌, codes, Option, Some, None, option_and_then, slice_get}
+use Rattle.std.specs.Prelude.{ℕ, Bool, not, ◌++◌, if◌then◌else◌, List, [], ◌∷◌, codes, Option, Some, None}
+use Rattle.std.specs.Prelude.{option_and_then, slice_get}
 use Rattle.std.specs.List.{find, filter, filter_map, list_any}
 use Rattle.std.specs.Option.{option_map_or}
 use Rattle.std.specs.Str.{bytes_eq}
@@ -13,8 +14,8 @@ is_document t = is_labelled (codes "document") t
 -- child 0 of the first child with this label, where the root is a `document`
 abbrev pub section : List ℕ → WideTree → Option WideTree
 section label t =
-    if is_document t then option_and_then (λ part. slice_get (children_of part) 0) (find (is_labelled label) (children_of t))
-    else None
+    if is_document t
+    then option_and_then (λ part. slice_get (children_of part) 0) (find (is_labelled label) (children_of t)) else None
 
 -- ---- styles
 
@@ -42,7 +43,8 @@ style_names t = each_once (option_map_or names_in (section (codes "style") t) []
 -- the children of the `collection`
 abbrev pub entries : WideTree → List WideTree
 entries t =
-    option_map_or (λ c. if is_labelled (codes "collection") c then children_of c else []) (section (codes "initial") t) []
+    option_map_or (λ c. if is_labelled (codes "collection") c then children_of c else [])
+    (section (codes "initial") t) []
 
 -- ---- the body
 

@@ -7,7 +7,8 @@ use Rattle.tx_units.specs.Sound.{is_formed, is_within}
 use Rattle.tx_units.specs.Units.{unit}
 use Rattle.tx_units.specs.declared.kinds.Unit.{Unit as DocUnit}
 use Rattle.tx_units.specs.declared.kinds.UnitKind.TheVariants.{Base}
-use Rattle.tx_units.specs.declared.literals.Literal.{Literal, Leaf, Node', Row_of-Literal, end_of-Literal, more_of-Literal}
+use Rattle.tx_units.specs.declared.literals.Literal.{Literal, Leaf, Node'}
+use Rattle.tx_units.specs.declared.literals.Literal.{Row_of-Literal, end_of-Literal, more_of-Literal}
 
 abbrev mutual
   pub literal_tree : Literal → WideTree

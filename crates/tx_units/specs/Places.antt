@@ -16,7 +16,8 @@ pub record StandsIn (document : WideTree) (u : DocUnit) : Type 0 where
 
 -- no path is another, or begins it
 abbrev pub AreApart : Option (List ℕ) → Option (List ℕ) → Type 0
-AreApart p q = (path more : List ℕ) → (p ≡ Some path → q ≡ Some (path ++ more) → ⊥) × (q ≡ Some path → p ≡ Some (path ++ more) → ⊥)
+AreApart p q = (path more : List ℕ)
+    → (p ≡ Some path → q ≡ Some (path ++ more) → ⊥) × (q ≡ Some path → p ≡ Some (path ++ more) → ⊥)
 
 abbrev pub NoneBegins : List DocUnit → Type 0
 NoneBegins [] = Unit {0}

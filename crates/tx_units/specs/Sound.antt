@@ -19,4 +19,5 @@ abbrev mutual
 
 abbrev pub is_within : WideTree → Bool
 is_within t =
-    (nat_le (text_length_of t) 1048575 && nat_le (arity_of t) 65535) && (nat_le (depth_of t) 400 && nat_le (size_of t) 8000000)
+    (nat_le (text_length_of t) 1048575 && nat_le (arity_of t) 65535)
+    && (nat_le (depth_of t) 400 && nat_le (size_of t) 8000000)

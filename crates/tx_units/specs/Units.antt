@@ -67,7 +67,8 @@ units_at path body =
     else body_unit body path ∷ []
 
 abbrev pub body_units : WideTree → List DocUnit
-body_units document = option_map_or (λ path. option_map_or (units_at path) (subtree document path) []) (body_of document) []
+body_units document =
+    option_map_or (λ path. option_map_or (units_at path) (subtree document path) []) (body_of document) []
 
 -- ---- all of them
 
@@ -81,8 +82,8 @@ units buffers = front_units (document_of buffers) (drop 1 buffers) ++ body_units
 
 -- ---- what they are made of
 
--- How many nodes of a unit's tree, leaves aside, stand in no buffer: all of a base unit's, the error of an absent style, and
--- the two nodes that an entry of the initial environment gets.
+-- How many nodes of a unit's tree, leaves aside, stand in no buffer: all of a base unit's, the error of an absent style,
+-- and the two nodes that an entry of the initial environment gets.
 abbrev pub made_as : UnitKind → WideTree → ℕ
 made_as Base t = nodes_of t
 made_as (Style k) t = 0

@@ -4,7 +4,8 @@ ghost use Rattle.std.specs.List.{filter_map, position};
 ghost use Rattle.std.specs.Option.{option_map_or};
 ghost use Rattle.tx_tree.specs.WideTree.{children_of, text_of};
 ghost use Rattle.tx_doc.specs.Bodies.{is_labelled};
-ghost use Rattle.tx_units.specs.Documents.{is_document, section, names_in, each_once, put, style_names, entries, paragraphs_in, paragraphs};
+ghost use Rattle.tx_units.specs.Documents.{is_document, section, names_in, each_once, put, style_names, entries};
+ghost use Rattle.tx_units.specs.Documents.{paragraphs_in, paragraphs};
 
 use indexmap::IndexSet;
 use std::alloc::Global;

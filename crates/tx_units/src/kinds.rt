@@ -22,8 +22,8 @@ pub enum UnitKind {
     Body,
 }
 
-/// A tree that is evaluated by itself, behind the units before it. It needs no memory of its own: its tree is shared, and
-/// a path of up to six numbers is held in place.
+/// A tree that is evaluated by itself, behind the units before it. It needs no memory of its own: its tree is shared,
+/// and a path of up to six numbers is held in place.
 #[derive(Drop)]
 pub struct Unit {
     /// Where it comes from.

@@ -22,14 +22,22 @@ const BASE: &[&str] = &[
     r#"(assign "strong" (macro "x" (with "font-series" "bold" (arg "x"))))"#,
     r#"(assign "section-nr" "0")"#,
     r#"(assign "subsection-nr" "0")"#,
-    r#"(assign "section" (macro "t" (concat (assign "section-nr" (plus (value "section-nr") "1")) (assign "subsection-nr" "0") (with "font-series" "bold" (concat (value "section-nr") " " (arg "t"))))))"#,
-    r#"(assign "subsection" (macro "t" (concat (assign "subsection-nr" (plus (value "subsection-nr") "1")) (with "font-series" "bold" (concat (value "section-nr") "." (value "subsection-nr") " " (arg "t"))))))"#,
+    "(assign \"section\" (macro \"t\" (concat (assign \"section-nr\" (plus (value \"section-nr\") \
+        \"1\")) (assign \"subsection-nr\" \"0\") (with \"font-series\" \"bold\" (concat (value \
+        \"section-nr\") \" \" (arg \"t\"))))))",
+    "(assign \"subsection\" (macro \"t\" (concat (assign \"subsection-nr\" (plus (value \
+        \"subsection-nr\") \"1\")) (with \"font-series\" \"bold\" (concat (value \"section-nr\") \".\" \
+        (value \"subsection-nr\") \" \" (arg \"t\"))))))",
     r#"(assign "item-kind" "bullet")"#,
     r#"(assign "item-nr" "0")"#,
-    r#"(assign "item" (macro (concat (assign "item-nr" (plus (value "item-nr") "1")) (if (equal (value "item-kind") "number") (merge (value "item-nr") ". ") "- "))))"#,
-    r#"(assign "itemize" (macro "b" (with "par-left" (plus (value "par-left") "2spc") "item-kind" "bullet" "item-nr" "0" (arg "b"))))"#,
-    r#"(assign "enumerate" (macro "b" (with "par-left" (plus (value "par-left") "2spc") "item-kind" "number" "item-nr" "0" (arg "b"))))"#,
-    r#"(assign "quotation" (macro "b" (with "par-left" (plus (value "par-left") "4spc") "par-right" (plus (value "par-right") "4spc") (arg "b"))))"#,
+    "(assign \"item\" (macro (concat (assign \"item-nr\" (plus (value \"item-nr\") \"1\")) (if (equal \
+        (value \"item-kind\") \"number\") (merge (value \"item-nr\") \". \") \"- \"))))",
+    "(assign \"itemize\" (macro \"b\" (with \"par-left\" (plus (value \"par-left\") \"2spc\") \
+        \"item-kind\" \"bullet\" \"item-nr\" \"0\" (arg \"b\"))))",
+    "(assign \"enumerate\" (macro \"b\" (with \"par-left\" (plus (value \"par-left\") \"2spc\") \
+        \"item-kind\" \"number\" \"item-nr\" \"0\" (arg \"b\"))))",
+    "(assign \"quotation\" (macro \"b\" (with \"par-left\" (plus (value \"par-left\") \"4spc\") \
+        \"par-right\" (plus (value \"par-right\") \"4spc\") (arg \"b\"))))",
     r#"(assign "center" (macro "b" (with "par-mode" "center" (arg "b"))))"#,
     r#"(assign "verbatim" (macro "x" (with "font-family" "tt" (arg "x"))))"#,
     r#"(assign "math" (macro "x" (with "mode" "math" (arg "x"))))"#,
@@ -39,8 +47,8 @@ const BASE: &[&str] = &[
     r#"(assign "rsup" (macro "x" (concat "^" (arg "x"))))"#,
 ];
 
-// Buffers, each a name and a tree, `;` between them, and the units behind those of the base style: of each the kind, the
-// path, the origin and the tree.
+// Buffers, each a name and a tree, `;` between them, and the units behind those of the base style: of each the kind,
+// the path, the origin and the tree.
 const ROWS: &[(&str, &str)] = &[
     // bodies
     ("d \"\"", "Body / / \"\";"),
@@ -96,8 +104,10 @@ const ROWS: &[(&str, &str)] = &[
         "Absent - - (error \"undefined-style\" \"d\");Body /1/0 / \"\";",
     ),
     (
-        "d (document (style (tuple \"b\" \"a\" (x) \"b\" \"generic\" \"c\" \"c\" \"a\")) (body \"\"));a \"A\";b (document \"B\" \"C\")",
-        "Style(2) - - \"B\";Style(2) - - \"C\";Style(1) - - \"A\";Absent - - (error \"undefined-style\" \"c\");Body /1/0 / \"\";",
+        "d (document (style (tuple \"b\" \"a\" (x) \"b\" \"generic\" \"c\" \"c\" \"a\")) (body \"\"));a \
+            \"A\";b (document \"B\" \"C\")",
+        "Style(2) - - \"B\";Style(2) - - \"C\";Style(1) - - \"A\";Absent - - (error \"undefined-style\" \
+            \"c\");Body /1/0 / \"\";",
     ),
     (
         "d (document (style (concat \"a\")) (body \"\"));a \"A\"",
@@ -121,11 +131,14 @@ const ROWS: &[(&str, &str)] = &[
     ),
     // initial environments
     (
-        "d (document (body \"\") (initial (collection (associate \"x\" \"y\") (associate (f) (macro \"a\" (arg \"a\"))))))",
-        "Initial - - (assign \"x\" (quote \"y\"));Initial - - (assign (f) (quote (macro \"a\" (arg \"a\"))));Body /0/0 / \"\";",
+        "d (document (body \"\") (initial (collection (associate \"x\" \"y\") (associate (f) (macro \
+            \"a\" (arg \"a\"))))))",
+        "Initial - - (assign \"x\" (quote \"y\"));Initial - - (assign (f) (quote (macro \"a\" (arg \
+            \"a\"))));Body /0/0 / \"\";",
     ),
     (
-        "d (document (body \"\") (initial (collection (associate \"x\") \"t\" (associate \"x\" \"y\" \"z\") (assign \"x\" \"y\") (associate \"x\" \"y\"))))",
+        "d (document (body \"\") (initial (collection (associate \"x\") \"t\" (associate \"x\" \"y\" \
+            \"z\") (assign \"x\" \"y\") (associate \"x\" \"y\"))))",
         "Initial - - (assign \"x\" (quote \"y\"));Body /0/0 / \"\";",
     ),
     (
@@ -138,8 +151,10 @@ const ROWS: &[(&str, &str)] = &[
     ),
     // all of them
     (
-        "d (document (initial (collection (associate \"x\" \"y\"))) (body (document \"p\")) (style (tuple \"s\" \"t\")));s \"S\"",
-        "Style(1) - - \"S\";Absent - - (error \"undefined-style\" \"t\");Initial - - (assign \"x\" (quote \"y\"));Body /1/0/0 / \"p\";",
+        "d (document (initial (collection (associate \"x\" \"y\"))) (body (document \"p\")) (style \
+            (tuple \"s\" \"t\")));s \"S\"",
+        "Style(1) - - \"S\";Absent - - (error \"undefined-style\" \"t\");Initial - - (assign \"x\" \
+            (quote \"y\"));Body /1/0/0 / \"p\";",
     ),
 ];
 
