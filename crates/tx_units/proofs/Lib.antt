@@ -4,7 +4,6 @@ pub mod Within
 pub mod Numbering
 pub mod Finding
 pub mod Sound
-pub mod Written
 pub mod Few
 pub mod Placing
 pub mod Pairs

@@ -2,5 +2,3 @@ pub mod BaseStyle
 pub mod Documents
 pub mod Units
 pub mod Places
-pub mod Sound
-pub mod Literals

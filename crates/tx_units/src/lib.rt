@@ -6,18 +6,15 @@
 //! and where a document has its styles, its initial environment and its paragraphs is in `specs/Documents.antt`.
 #![tactic(auto)]
 
-mod base;
 mod bodies;
 mod documents;
 mod initial;
 mod kinds;
 mod laws;
 mod lists;
-mod literals;
 mod styles;
 mod tags;
 
-pub use base::base_units;
 pub use kinds::{Unit, UnitKind};
 pub use laws::{body_laws, unit_count_law};
-pub use lists::{front_units, units, with_body};
+pub use lists::{front_units, with_body};
