@@ -7,3 +7,4 @@ pub mod Sound
 pub mod Few
 pub mod Placing
 pub mod Pairs
+pub mod Spelled

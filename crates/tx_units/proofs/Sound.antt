@@ -8,14 +8,14 @@ use Rattle.tx_tree.specs.Texts.{IsText}
 use Rattle.tx_tree.specs.TextScan.{is_text, text_step}
 use Rattle.tx_tree.proofs.Scanning.{text_test}
 
-abbrev is_label : List ℕ → Bool
+abbrev pub is_label : List ℕ → Bool
 is_label label = list_all is_label_byte label && (nat_le 1 (length label) && nat_le (length label) 64)
 
 each_byte : (bytes : List ℕ) → list_all is_label_byte bytes ≡ true → AllByRecursion (λ b. is_label_byte b ≡ true) bytes
 each_byte [] e = tt
 each_byte (b ∷ bytes) e = let p = and_parts _ _ e in (p.0, each_byte bytes p.1)
 
-label_by : (label : List ℕ) → is_label label ≡ true → IsLabel label
+pub label_by : (label : List ℕ) → is_label label ≡ true → IsLabel label
 label_by label e =
     let p = and_parts _ _ e in
     let q = and_parts _ _ p.1 in

@@ -2,3 +2,4 @@ pub mod BaseStyle
 pub mod Documents
 pub mod Units
 pub mod Places
+pub mod BaseTexts

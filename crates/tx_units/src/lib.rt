@@ -6,6 +6,7 @@
 //! and where a document has its styles, its initial environment and its paragraphs is in `specs/Documents.antt`.
 #![tactic(auto)]
 
+mod base;
 mod bodies;
 mod documents;
 mod initial;
@@ -15,6 +16,7 @@ mod lists;
 mod styles;
 mod tags;
 
+pub use base::base_units;
 pub use kinds::{Unit, UnitKind};
 pub use laws::{body_laws, unit_count_law};
-pub use lists::{front_units, with_body};
+pub use lists::{front_units, units, with_body};

@@ -1,8 +1,9 @@
 // The list of units.
 ghost use Rattle.std.specs.Prelude.{◌≡◌, ◌+◌, ◌≤◌, ◌<◌, ◌^◌, ◌++◌, drop, length, IfOk, OnOk};
 ghost use Rattle.tx_doc.specs.Buffers.{document_of};
-ghost use Rattle.tx_units.specs.Units.{body_units, style_units, initial_units, nodes_made};
+ghost use Rattle.tx_units.specs.Units.{body_units, units, style_units, initial_units, nodes_made, made};
 
+use crate::base::base_units;
 use crate::bodies::add_body;
 use crate::initial::add_initial;
 use crate::kinds::{Unit, share_onto};
@@ -68,5 +69,27 @@ pub fn with_body(alloc: Global, front: &[Unit], document: &Tree) -> Result<Vec<U
     let mut units = Vec::with_capacity(alloc, front.len())?;
     share_onto(alloc, &mut units, front)?;
     add_body(alloc, &mut units, document)?;
+    Ok(units)
+}
+
+/// The units of buffers, in the order in which they are evaluated: those of the base style, of the styles that the
+/// document names, of its initial environment, and the paragraphs of its body. Buffer 0 is the document, and the others
+/// are the loaded styles.
+///
+/// The steps rise by at most the nodes that are made, those of the base style included. A caller that makes units again
+/// after each edit keeps `front_units` and calls `with_body`.
+pub fn units<L: Ledger>(
+    alloc: Global,
+    buffers: &[Buffer],
+    steps: &mut Steps<L>,
+) -> Result<Vec<Unit>, Memory>
+    requires some { 1 ≤ length buffers.now }
+    requires few { length buffers.now < 2 ^ 32 }
+    ensures units { IfOk result (λ us. us.items ≡ units buffers.now) }
+    ensures counted { OnOk result (steps.new ≤ steps.old + made buffers.now) }
+{
+    let mut units = base_units(alloc, steps)?;
+    add_front(alloc, &mut units, buffers, steps)?;
+    add_body(alloc, &mut units, &buffers[0].tree)?;
     Ok(units)
 }
