@@ -1,6 +1,5 @@
 -- An `associate` of two.
 use Rattle.std.proofs.Common.{◌≡◌, ℕ, true, List, length, get_or, arith}
-use Rattle.std.specs.Str.{bytes_eq}
 use Rattle.std.specs.Cmp.Lexicographic.{bytes_decides}
 use Rattle.tx_doc.specs.Bodies.{is_labelled}
 use Rattle.tx_tree.specs.WideTree.{WideTree, Forest, leaf, node, nil, cons, trees, children_of}

@@ -1,6 +1,6 @@
 -- The base style by texts that spell its trees.
 use Rattle.std.proofs.Common.{◌≡◌, ℕ, zero, suc, ◌+◌, ◌<◌, ◌≤◌, Bool, true, List, [], ◌∷◌, ◌++◌, length, map, take, get_or}
-use Rattle.std.proofs.Common.{refl, sym, ap, subst, arith, ◌∙◌}
+use Rattle.std.proofs.Common.{refl, ap, arith, ◌∙◌}
 use Rattle.std.specs.Prelude.{◌&&◌, nat_le, IfOk}
 use Rattle.std.proofs.Common.{Result, Ok, Err, Vec, Global}
 use Rattle.tx_base.specs.declared.out_of_memory.Memory.{Memory}
@@ -8,7 +8,6 @@ use Rattle.std.specs.List.{list_all}
 use Rattle.std.proofs.lemmas.Bool.{leb-true, and_parts}
 use Rattle.std.proofs.lemmas.List.{take_more, map-append}
 use Rattle.tx_scm.specs.Canonical.{scheme_text}
-use Rattle.tx_scm.specs.Spelling.{Spells, SpellsAlone}
 use Rattle.tx_scm.proofs.Spelled.{text_alone}
 use Rattle.tx_tree.specs.Labels.{is_label_byte}
 use Rattle.tx_tree.specs.Limits.{IsWellFormed, AreWellFormed, IsWithinLimits}

@@ -1,4 +1,3 @@
-use Rattle.std.proofs.Common.{◌≡◌}
 use Rattle.tx_units.specs.BaseStyle.{base_style}
 use Rattle.tx_units.proofs.Spelled.{base_spelled, base_same, when_ok}
 use Rattle.tx_units.proofs.base.base_units.Goals as goal
