@@ -82,8 +82,8 @@ units buffers = front_units (document_of buffers) (drop 1 buffers) ++ body_units
 
 -- ---- what they are made of
 
--- How many nodes of a unit's tree, leaves aside, stand in no buffer: all of a base unit's, the error of an absent style,
--- and the two nodes that an entry of the initial environment gets.
+-- How many nodes of a unit's tree, leaves aside, stand in no buffer: all of a base unit's, the error of an absent
+-- style, and the two nodes that an entry of the initial environment gets.
 abbrev pub made_as : UnitKind → WideTree → ℕ
 made_as Base t = nodes_of t
 made_as (Style k) t = 0
