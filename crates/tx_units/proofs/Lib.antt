@@ -1,0 +1,10 @@
+pub mod Once
+pub mod Gathering
+pub mod Within
+pub mod Numbering
+pub mod Finding
+pub mod Sound
+pub mod Few
+pub mod Placing
+pub mod Pairs
+pub mod Spelled

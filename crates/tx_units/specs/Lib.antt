@@ -1,0 +1,5 @@
+pub mod BaseStyle
+pub mod Documents
+pub mod Units
+pub mod Places
+pub mod BaseTexts

@@ -1,0 +1,96 @@
+// A unit, and what it is of.
+ghost use Rattle.std.specs.Prelude.{◌≡◌, ◌++◌, IfOk, OnOk};
+ghost use Rattle.tx_units.specs.Units.{unit, body_unit};
+
+use std::alloc::Global;
+use tx_base::Memory;
+use tx_origin::{Ip, Tagged, share_origin};
+use tx_tree::{Path, Tree};
+
+/// Where a unit comes from.
+#[derive(Clone, Copy, Debug, PartialEq, Eq)]
+pub enum UnitKind {
+    /// The base style.
+    Base,
+    /// The loaded style in the buffer of this number, from 1 on.
+    Style(u32),
+    /// A style that the document names and that isn't loaded.
+    Absent,
+    /// An entry of the document's initial environment.
+    Initial,
+    /// A paragraph of the document's body.
+    Body,
+}
+
+/// A tree that is evaluated by itself, behind the units before it. It needs no memory of its own: its tree is shared,
+/// and a path of up to six numbers is held in place.
+#[derive(Drop)]
+pub struct Unit {
+    /// Where it comes from.
+    pub kind: UnitKind,
+    /// Its tree. At a paragraph of the body the root is the origin, and no other unit has one.
+    pub tagged: Tagged,
+    /// The path of a paragraph of the body in the document's tree. No other unit has one.
+    pub path: Option<Path>,
+}
+
+impl Unit {
+    /// A unit that is no paragraph of the body.
+    pub(crate) fn new(kind: UnitKind, tree: Tree) -> Unit
+        ensures { result ≡ unit kind tree }
+    {
+        Unit {
+            kind,
+            tagged: Tagged { tree, at: None },
+            path: None,
+        }
+    }
+
+    /// The paragraph of the body that stands at this path.
+    pub(crate) fn of_body(tree: Tree, path: Path) -> Unit
+        ensures { result ≡ body_unit tree path }
+    {
+        Unit {
+            kind: UnitKind::Body,
+            tagged: Tagged {
+                tree,
+                at: Some(Ip::root()),
+            },
+            path: Some(path),
+        }
+    }
+
+    /// The same unit, which shares its tree.
+    pub fn share(&self, alloc: Global) -> Result<Unit, Memory>
+        ensures { IfOk result (λ u. u ≡ self.now) }
+    {
+        Ok(Unit {
+            kind: self.kind,
+            tagged: Tagged {
+                tree: self.tagged.tree.share()?,
+                at: share_origin(&self.tagged.at)?,
+            },
+            path: copy_path(alloc, &self.path)?,
+        })
+    }
+}
+
+// The same path, or none again.
+fn copy_path(alloc: Global, path: &Option<Path>) -> Result<Option<Path>, Memory>
+    ensures { IfOk result (λ p. p ≡ path.now) }
+{
+    match path {
+        None => Ok(None),
+        Some(path) => Ok(Some(path.copy(alloc)?)),
+    }
+}
+
+// Adds shares of the units. After a fault some of them may stand there.
+pub(crate) fn share_onto(alloc: Global, into: &mut Vec<Unit>, units: &[Unit]) -> Result<(), Memory>
+    ensures { OnOk result (into.new.items ≡ into.old.items ++ units.now) }
+{
+    for unit in units {
+        into.push(unit.share(alloc)?)?;
+    }
+    Ok(())
+}
