@@ -1,0 +1,29 @@
+//! The lines of a paragraph of items, and the pages of lines.
+//!
+//! [`lines`] gives the lines of a paragraph on a page of some width. Which lines these are is `IsShape` of
+//! `specs/Shapes.antt`, over the first-fit relation of `tx_lines`: it speaks of finished lines, and not of how they are
+//! found. By [`one_shape`] at most one list of lines meets it, and by [`items_kept`] these lines hold every glyph and
+//! every gap once and in order. [`pages`] cuts lines into pages, which [`one_paging`] and [`lines_kept`] say the same of.
+#![tactic(auto)]
+
+mod layout;
+mod measures;
+mod paging;
+mod pieces;
+mod segments;
+mod shapes;
+
+pub use layout::{Line, LineItems, items_kept, lines, one_shape};
+pub use measures::{Frame, Side, frame_of};
+pub use paging::{lines_kept, one_paging, pages};
+pub use pieces::Span;
+pub use tx_lines::Cut;
+
+/// The least width of a page, in cells.
+pub const LEAST_WIDTH: u32 = 20;
+/// The greatest width of a page, in cells.
+pub const MOST_WIDTH: u32 = 500;
+/// The least height of a page, in lines.
+pub const LEAST_HEIGHT: u32 = 5;
+/// The greatest height of a page, in lines.
+pub const MOST_HEIGHT: u32 = 500;
