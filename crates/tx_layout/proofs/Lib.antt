@@ -1,0 +1,7 @@
+mod Slices
+mod Spans
+mod Widths
+mod Marks
+mod Once
+mod Kept
+mod Paged

@@ -1,5 +1,5 @@
 -- Lines by the places of their items in a paragraph.
-use Rattle.std.specs.Prelude.{◌≡◌, ℕ, ◌+◌, ◌-◌, ◌<◌, ◌≤◌, min, Bool, false, List, [], ◌∷◌, map, length, slice_range, get_or}
+use Rattle.std.specs.Prelude.{◌≡◌, ℕ, ◌+◌, ◌-◌, ◌<◌, ◌≤◌, min, Bool, true, false, List, [], ◌∷◌, map, length, slice_range, get_or}
 use Rattle.tx_items.specs.declared.drawing.Item.{Item}
 use Rattle.tx_lines.specs.declared.cut.Cut.{Cut}
 use Rattle.tx_lines.specs.declared.first_fit.Piece.{Piece}
@@ -11,7 +11,7 @@ use Rattle.tx_layout.specs.declared.layout.Line.{Line}
 use Rattle.tx_layout.specs.Frames.{least_width}
 use Rattle.tx_layout.specs.Words.{cells_across, item_cells, SpansFrom}
 use Rattle.tx_layout.specs.Segments.{shift, piece_of, width_at, indent_at, no_span, HasWords}
-use Rattle.tx_layout.specs.Shapes.{or_empty}
+use Rattle.tx_layout.specs.Shapes.{behind_cut_by, or_single, or_empty}
 
 -- the line with the items at these places
 abbrev pub line_at : List Item → Row → Line
@@ -20,6 +20,15 @@ line_at items row =
 
 abbrev pub empty_row : Row
 empty_row = record { indent = 0; from = 0; to = 0; page_end = false }
+
+abbrev pub row_ending : Row → Row
+row_ending row = record row { page_end = true }
+
+abbrev pub rows_behind : Item → List Row → List Row
+rows_behind cut rows = behind_cut_by row_ending empty_row cut rows
+
+abbrev pub rows_or_empty : Bool → Bool → List Row → List Row
+rows_or_empty is_first is_last rows = or_single empty_row is_first is_last rows
 
 -- the places are within so many items
 abbrev pub IsWithin : ℕ → Row → Type 0

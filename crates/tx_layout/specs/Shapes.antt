@@ -31,25 +31,31 @@ empty_line = record { indent = 0; items = []; page_end = false }
 abbrev pub page_ending : Line → Line
 page_ending line = record line { page_end = true }
 
--- the last of the lines is the last of its page
-abbrev pub marked : List Line → List Line
-marked [] = []
-marked (line ∷ []) = page_ending line ∷ []
-marked (line ∷ (next ∷ lines)) = line ∷ marked (next ∷ lines)
+-- the last element is changed
+abbrev pub with_last : {X : Type 0} → (X → X) → List X → List X
+with_last change [] = []
+with_last change (x ∷ []) = change x ∷ []
+with_last change (x ∷ (y ∷ ys)) = x ∷ with_last change (y ∷ ys)
 
--- what a cut makes of the lines of the segment before it
+-- what a cut makes of the lines of the segment before it, by what marks a line and an empty line
+abbrev pub behind_cut_by : {X : Type 0} → (X → X) → X → Item → List X → List X
+behind_cut_by mark empty (Glyph d) lines = lines
+behind_cut_by mark empty (Space d) lines = lines
+behind_cut_by mark empty (Gap n) lines = lines
+behind_cut_by mark empty Break lines = lines
+behind_cut_by mark empty PageEnd lines = with_last mark lines
+behind_cut_by mark empty (Down n) lines = lines ++ replicate n empty
+
 abbrev pub behind_cut : Item → List Line → List Line
-behind_cut (Glyph d) lines = lines
-behind_cut (Space d) lines = lines
-behind_cut (Gap n) lines = lines
-behind_cut Break lines = lines
-behind_cut PageEnd lines = marked lines
-behind_cut (Down n) lines = lines ++ replicate n empty_line
+behind_cut cut lines = behind_cut_by page_ending empty_line cut lines
 
 -- a segment without a word gives an empty line, but none where it is the last, behind a cut
+abbrev pub or_single : {X : Type 0} → X → Bool → Bool → List X → List X
+or_single empty is_first is_last [] = if is_last && not is_first then [] else empty ∷ []
+or_single empty is_first is_last (line ∷ lines) = line ∷ lines
+
 abbrev pub or_empty : Bool → Bool → List Line → List Line
-or_empty is_first is_last [] = if is_last && not is_first then [] else empty_line ∷ []
-or_empty is_first is_last (line ∷ lines) = line ∷ lines
+or_empty is_first is_last lines = or_single empty_line is_first is_last lines
 
 -- the lines of the first segment of a paragraph and those behind it, or of later ones alone
 pub data HasLines (frame : Frame) : Bool → List Item → List Line → Type 0 where

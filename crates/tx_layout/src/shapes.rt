@@ -3,8 +3,8 @@ ghost use Rattle.std.specs.Prelude.{◌≡◌, ◌≤◌, ◌<◌, ◌+◌, ◌^
 ghost use Rattle.std.specs.Prelude.{slice_range};
 ghost use Rattle.tx_items.specs.declared.drawing.Item.{Item};
 ghost use Rattle.tx_layout.specs.Frames.{least_width};
-ghost use Rattle.tx_layout.specs.Shapes.{is_cut, Cutting, Whole, behind_cut, HasLines};
-ghost use Rattle.tx_layout.specs.Rows.{Narrow, IsFrame, IsWithin, line_at, OwnLines};
+ghost use Rattle.tx_layout.specs.Shapes.{is_cut, Cutting, Whole, HasLines};
+ghost use Rattle.tx_layout.specs.Rows.{Narrow, IsFrame, IsWithin, line_at, rows_behind, rows_or_empty, OwnLines};
 
 use crate::measures::Frame;
 use crate::segments::{Row, rows_of};
@@ -51,7 +51,21 @@ fn cut_place(items: &[Item], from: usize) -> usize
     end
 }
 
-// The lines of the segment between two places, without a word an empty one, but none where it is the last, behind a cut.
+// Without a word an empty line, but none in the last segment, behind a cut.
+fn or_empty(rows: &mut Vec<Row>, is_first: bool, is_last: bool) -> Result<(), Memory>
+    ensures { OnOk result (rows.new.items ≡ rows_or_empty is_first is_last rows.old.items) }
+{
+    if !rows.is_empty() {
+        return Ok(());
+    }
+    if is_last && !is_first {
+        return Ok(());
+    }
+    rows.push(EMPTY)?;
+    Ok(())
+}
+
+// The lines of the segment between two places.
 fn own_rows(
     alloc: Global,
     frame: Frame,
@@ -71,17 +85,13 @@ fn own_rows(
     ensures within { IfOk result (λ rows. All (IsWithin (length items.now)) rows.items) }
 {
     let mut rows = rows_of(alloc, frame, is_first, start as u32, &items[start..end])?;
-    if rows.is_empty() && (is_first || !is_last) {
-        rows.push(EMPTY)?;
-    }
+    or_empty(&mut rows, is_first, is_last)?;
     Ok(rows)
 }
 
 // What a cut makes of the lines before it.
 fn add_cut(own: &mut Vec<Row>, cut: &Item) -> Result<(), Memory>
-    ensures lines { OnOk result ((items : List Item) →
-        map (line_at items) own.new.items ≡ behind_cut cut.now (map (line_at items) own.old.items)) }
-    ensures within { OnOk result ((len : ℕ) → All (IsWithin len) own.old.items → All (IsWithin len) own.new.items) }
+    ensures { OnOk result (own.new.items ≡ rows_behind cut.now own.old.items) }
 {
     match cut {
         Item::Glyph(_) => {}
