@@ -13,10 +13,10 @@ use Rattle.tx_items.specs.declared.drawing.Item.{Item}
 use Rattle.tx_layout.specs.declared.measures.Frame.{Frame}
 use Rattle.tx_layout.specs.declared.pieces.Span.{Span}
 use Rattle.tx_layout.specs.declared.segments.Row.{Row}
-use Rattle.tx_layout.specs.Frames.{least_width}
+use Rattle.tx_layout.specs.Frames.{least_width, IsFrame}
 use Rattle.tx_layout.specs.Words.{cells_across, Solid, Blank, IsSpan, SpansFrom}
 use Rattle.tx_layout.specs.Segments.{piece_of, width_at}
-use Rattle.tx_layout.specs.Rows.{Rises, row_at, rows_at, IsFrame, capped_piece}
+use Rattle.tx_layout.specs.Rows.{Rises, row_at, rows_at, capped_piece}
 
 -- one piece more
 pub span_more : (least : ℕ) (items : List Item) (spans spans' : List Span) (s : Span) → spans' ≡ spans ++ s ∷ []

@@ -15,10 +15,10 @@ use Rattle.tx_items.specs.Narrow.{IsNarrow}
 use Rattle.tx_layout.specs.declared.measures.Frame.{Frame}
 use Rattle.tx_layout.specs.declared.pieces.Span.{Span}
 use Rattle.tx_layout.specs.declared.segments.Row.{Row}
-use Rattle.tx_layout.specs.Frames.{least_width}
+use Rattle.tx_layout.specs.Frames.{least_width, IsFrame}
 use Rattle.tx_layout.specs.Words.{capped, item_cells, SpansFrom}
 use Rattle.tx_layout.specs.Segments.{piece_of, width_at}
-use Rattle.tx_layout.specs.Rows.{capped_piece, Narrow, IsFrame, rows_at, AreRows}
+use Rattle.tx_layout.specs.Rows.{capped_piece, Narrow, rows_at, AreRows}
 use Rattle.tx_layout.proofs.Spans.{is_width}
 
 abbrev beside : Piece → ℕ

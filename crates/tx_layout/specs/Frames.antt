@@ -1,6 +1,7 @@
 -- Indents, widths and the side of a paragraph's lines.
-use Rattle.std.specs.Prelude.{ℕ, ◌+◌, ◌-◌, ◌/◌, min, Bool, nat_le, List, ℤ, pos, negsuc, if◌then◌else◌, codes}
+use Rattle.std.specs.Prelude.{ℕ, ◌+◌, ◌-◌, ◌/◌, ◌≤◌, min, Bool, nat_le, List, ℤ, pos, negsuc, if◌then◌else◌, codes}
 use Rattle.std.specs.Str.{bytes_eq}
+use Rattle.tx_lines.specs.FirstFit.{IsWidth}
 use Rattle.tx_items.specs.declared.drawing.Paragraph.{Paragraph}
 use Rattle.tx_layout.specs.declared.measures.Side.{Side}
 use Rattle.tx_layout.specs.declared.measures.Side.TheVariants.{Left, Center, Right}
@@ -49,3 +50,10 @@ frame_of p width =
 -- the narrower of the two widths
 abbrev pub least_width : Frame → ℕ
 least_width frame = min frame.first_width frame.later_width
+
+-- both widths are those of lines, and indents are on a page
+pub record IsFrame (frame : Frame) : Type 0 where
+  pub first : IsWidth frame.first_width
+  pub later : IsWidth frame.later_width
+  pub first_fits : frame.first_indent ≤ 500
+  pub later_fits : frame.later_indent ≤ 500

@@ -3,7 +3,7 @@ use Rattle.std.specs.Prelude.{◌≡◌, ℕ, ◌+◌, ◌-◌, ◌<◌, ◌≤�
 use Rattle.tx_items.specs.declared.drawing.Item.{Item}
 use Rattle.tx_lines.specs.declared.cut.Cut.{Cut}
 use Rattle.tx_lines.specs.declared.first_fit.Piece.{Piece}
-use Rattle.tx_lines.specs.FirstFit.{IsFirstFit, IsWidth}
+use Rattle.tx_lines.specs.FirstFit.{IsFirstFit}
 use Rattle.tx_layout.specs.declared.measures.Frame.{Frame}
 use Rattle.tx_layout.specs.declared.pieces.Span.{Span}
 use Rattle.tx_layout.specs.declared.segments.Row.{Row}
@@ -37,13 +37,6 @@ IsWithin len row = (row.from ≤ row.to) × (row.to ≤ len)
 -- an item is no wider than this
 abbrev pub Narrow : ℕ → Item → Type 0
 Narrow least item = item_cells item ≤ least
-
--- both widths are those of lines, and indents are on a page
-pub record IsFrame (frame : Frame) : Type 0 where
-  pub first : IsWidth frame.first_width
-  pub later : IsWidth frame.later_width
-  pub first_indent : frame.first_indent ≤ 500
-  pub later_indent : frame.later_indent ≤ 500
 
 -- the row of a cut of the pieces of a segment that begins at a place
 abbrev pub row_at : Frame → Bool → ℕ → List Item → List Span → Cut → Row

@@ -18,12 +18,3 @@ pub use measures::{Frame, Side, frame_of};
 pub use paging::{lines_kept, one_paging, pages};
 pub use pieces::Span;
 pub use tx_lines::Cut;
-
-/// The least width of a page, in cells.
-pub const LEAST_WIDTH: u32 = 20;
-/// The greatest width of a page, in cells.
-pub const MOST_WIDTH: u32 = 500;
-/// The least height of a page, in lines.
-pub const LEAST_HEIGHT: u32 = 5;
-/// The greatest height of a page, in lines.
-pub const MOST_HEIGHT: u32 = 500;

@@ -1,8 +1,7 @@
 // Indents, widths and the side of a paragraph's lines.
 ghost use Rattle.std.specs.Prelude.{◌≡◌, ◌≤◌};
 ghost use Rattle.tx_layout.specs.Frames.{whole_cells, moved_by, left_margin, right_margin, first_indent};
-ghost use Rattle.tx_layout.specs.Frames.{side_of, frame_of};
-ghost use Rattle.tx_layout.specs.Rows.{IsFrame};
+ghost use Rattle.tx_layout.specs.Frames.{side_of, frame_of, IsFrame};
 
 use tx_items::Paragraph;
 

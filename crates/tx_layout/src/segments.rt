@@ -1,9 +1,9 @@
 // The lines of a segment's words.
 ghost use Rattle.std.specs.Prelude.{◌≡◌, ◌≤◌, ◌<◌, ◌+◌, ◌^◌, min, map, length, All, IfOk};
 ghost use Rattle.tx_lines.specs.Cuts.{Partitions};
-ghost use Rattle.tx_layout.specs.Frames.{least_width};
+ghost use Rattle.tx_layout.specs.Frames.{least_width, IsFrame};
 ghost use Rattle.tx_layout.specs.Segments.{shift, width_at};
-ghost use Rattle.tx_layout.specs.Rows.{Narrow, IsFrame, IsWithin, Rises, row_at, rows_at, AreRows};
+ghost use Rattle.tx_layout.specs.Rows.{Narrow, Rises, row_at, rows_at, AreRows};
 
 use crate::measures::{Frame, Side};
 use crate::pieces::{Span, capped_cells, pieces_of, spans_of};

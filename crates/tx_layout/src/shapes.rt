@@ -2,9 +2,9 @@
 ghost use Rattle.std.specs.Prelude.{◌≡◌, ◌≤◌, ◌<◌, ◌+◌, ◌^◌, ℕ, List, map, true, length, All, IfOk, OnOk};
 ghost use Rattle.std.specs.Prelude.{slice_range};
 ghost use Rattle.tx_items.specs.declared.drawing.Item.{Item};
-ghost use Rattle.tx_layout.specs.Frames.{least_width};
+ghost use Rattle.tx_layout.specs.Frames.{least_width, IsFrame};
 ghost use Rattle.tx_layout.specs.Shapes.{is_cut, Cutting, Whole, HasLines};
-ghost use Rattle.tx_layout.specs.Rows.{Narrow, IsFrame, IsWithin, line_at, rows_behind, rows_or_empty, OwnLines};
+ghost use Rattle.tx_layout.specs.Rows.{Narrow, IsWithin, line_at, rows_behind, rows_or_empty, OwnLines};
 
 use crate::measures::Frame;
 use crate::segments::{Row, rows_of};

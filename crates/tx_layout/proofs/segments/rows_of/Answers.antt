@@ -49,6 +49,6 @@ returns c =
         c.args.segment.now c.in_ok-spans.spans.items c.deref.result.now c.deref-3.result.now c.in_ok-pieces.pieces.items
         c.deref-2.result.now c.in_ok-cuts.cuts.items c.deref-4.result.now rows.items c.requires.frame
         c.least_width-least.ensures c.width_at.ensures c.in_ok-spans.ensures c.deref.ensures.value
-        c.in_ok-pieces.ensures c.deref-2.ensures.value c.in_ok-cuts.ensures c.deref-3.ensures.value
+        c.in_ok-pieces.ensures c.deref-2.ensures.value c.in_ok-cuts.ensures.first_fit c.deref-3.ensures.value
         c.deref-4.ensures.value made)
     c.cut_rows.ensures
