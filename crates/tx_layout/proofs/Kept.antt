@@ -59,12 +59,12 @@ blanks_dry (x ∷ xs) h =
 -- ---- the pieces of a segment
 
 -- where the spaces before a piece begin
-abbrev place : ℕ → List Span → ℕ → ℕ
+abbrev pub place : ℕ → List Span → ℕ → ℕ
 place at ss zero = at
 place at [] (suc k) = at
 place at (s ∷ ss) (suc k) = place s.to ss k
 
-span_at : (least : ℕ) (items : List Item) (at : ℕ) (ss : List Span) (k : ℕ) (d : Span) → SpansFrom least items at ss
+pub span_at : (least : ℕ) (items : List Item) (at : ℕ) (ss : List Span) (k : ℕ) (d : Span) → SpansFrom least items at ss
     → k < length ss → ((get_or ss k d).spaces ≡ place at ss k) × IsSpan least items (get_or ss k d)
 span_at least items at [] k d h lt = absurd (omega arith)
 span_at least items at (s ∷ ss) zero d h lt = (h.0, h.1)
@@ -75,7 +75,7 @@ blank_end : (least : ℕ) (items : List Item) (at : ℕ) (ss : List Span) → Sp
 blank_end least items at [] h = h
 blank_end least items at (s ∷ ss) h = blank_end least items s.to ss h.2
 
-place_behind : (at : ℕ) (ss : List Span) (k : ℕ) (d : Span) → k < length ss
+pub place_behind : (at : ℕ) (ss : List Span) (k : ℕ) (d : Span) → k < length ss
     → place at ss (suc k) ≡ (get_or ss k d).to
 place_behind at [] k d lt = absurd (omega arith)
 place_behind at (s ∷ ss) zero d lt = refl
@@ -87,7 +87,7 @@ words_kept : (frame : Frame) (b : Bool) (least : ℕ) (items : List Item) (spans
     → ink (on_lines (lines_of frame b items spans cuts)) ≡ ink (drop (place 0 spans k) items)
 words_kept frame b least items spans [] k h order =
     sym (ap (λ n. ink (drop (place 0 spans n) items)) order
-        ∙ blanks_dry (drop (place 0 spans (length spans)) items) (blank_end least items 0 spans h))
+    ∙ blanks_dry (drop (place 0 spans (length spans)) items) (blank_end least items 0 spans h))
 words_kept frame b least items spans (cut ∷ cuts) k h order =
     let begins : cut.from ≡ k = order.0 in
     let some : k < cut.to = order.1 in
@@ -101,17 +101,17 @@ words_kept frame b least items spans (cut ∷ cuts) k h order =
     let le : first.from ≤ last.to = rise.0 in
     let next : suc (cut.to - 1) ≡ cut.to = omega arith in
     let behind : place 0 spans cut.to ≡ last.to =
-        ap (place 0 spans) (sym next) ∙ place_behind 0 spans (cut.to - 1) no_span (omega arith) in
+    ap (place 0 spans) (sym next) ∙ place_behind 0 spans (cut.to - 1) no_span (omega arith) in
     let line : List Item = slice_range items first.from last.to in
     let rest : List Item = drop last.to items in
     let later = words_kept frame false least items spans cuts cut.to h order.2 in
     let spaces : List Item = slice_range items first.spaces first.from in
     let whole : drop (place 0 spans k) items ≡ spaces ++ (line ++ rest) =
-        ap (λ n. drop n items) (sym at) ∙ drop_split items first.spaces first.from on
-        ∙ ap (λ l. spaces ++ l) (drop_split items first.from last.to le) in
+    ap (λ n. drop n items) (sym at) ∙ drop_split items first.spaces first.from on
+    ∙ ap (λ l. spaces ++ l) (drop_split items first.from last.to le) in
     let shown : ink (drop (place 0 spans k) items) ≡ ink line ++ ink rest =
-        ap ink whole ∙ filter-append is_ink spaces (line ++ rest)
-        ∙ ap (λ l. l ++ ink (line ++ rest)) (blanks_dry spaces own.1.blank) ∙ filter-append is_ink line rest in
+    ap ink whole ∙ filter-append is_ink spaces (line ++ rest)
+    ∙ ap (λ l. l ++ ink (line ++ rest)) (blanks_dry spaces own.1.blank) ∙ filter-append is_ink line rest in
     filter-append is_ink line (on_lines (lines_of frame false items spans cuts))
     ∙ ap (λ l. ink line ++ l) (later ∙ ap (λ n. ink (drop n items)) behind) ∙ sym shown
 
@@ -160,8 +160,8 @@ shape_kept frame b items lines (then_cut b' is segment cut rest words others par
     let first : ink (on_lines words) ≡ ink segment = segment_kept frame b segment words h in
     let later : ink (on_lines others) ≡ ink rest = shape_kept frame false rest others more in
     let whole : ink items ≡ ink segment ++ ink rest =
-        ap ink parts ∙ filter-append is_ink segment (cut ∷ rest)
-        ∙ ap (λ l. ink segment ++ l) (dry_first cut rest (cut_dry cut cuts)) in
+    ap ink parts ∙ filter-append is_ink segment (cut ∷ rest)
+    ∙ ap (λ l. ink segment ++ l) (dry_first cut rest (cut_dry cut cuts)) in
     ap ink (flat_map-append (λ (line : Line). line.items) (behind_cut cut own) others)
     ∙ filter-append is_ink (on_lines (behind_cut cut own)) (on_lines others)
     ∙ ap₂ (λ k l. k ++ l) (ap ink here ∙ first) later ∙ sym whole

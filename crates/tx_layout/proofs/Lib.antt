@@ -4,4 +4,5 @@ mod Widths
 mod Marks
 mod Once
 mod Kept
+mod Room
 mod Paged

@@ -88,10 +88,10 @@ one_line frame b items start end spans cut on within rise some there =
     let inside : to ≤ length segment = placed.1 in
     let size : length segment ≡ end - start = long items start end on within in
     let line : List Item → Line = λ is. record {
-        indent = indent_at frame b + shift frame.side (width_at frame b - cells_across (slice_range segment from to));
-        items = is;
-        page_end = false;
-      } in
+      indent = indent_at frame b + shift frame.side (width_at frame b - cells_across (slice_range segment from to));
+      items = is;
+      page_end = false;
+    } in
     ap line (sym (slice_slice items start end from to le (omega arith)))
 
 words_map : (frame : Frame) (b : Bool) (items : List Item) (start end : ℕ) (spans : List Span) (cuts : List Cut) (at : ℕ)
@@ -140,7 +140,7 @@ own_lines frame b last items start end rows rows' on within h e =
     let rise = rises (least_width frame) segment h.spans h.spelled in
     let order = in_order frame b start segment rows h in
     let made : map (line_at items) rows ≡ lines_of frame b segment h.spans h.cuts =
-        ap (map (line_at items)) h.made ∙ words_map frame b items start end h.spans h.cuts 0 on within rise order in
+    ap (map (line_at items)) h.made ∙ words_map frame b items start end h.spans h.cuts 0 on within rise order in
     record {
       words = map (line_at items) rows;
       filled = record { spans = h.spans; cuts = h.cuts; spelled = h.spelled; filled = h.filled; made = made };
@@ -165,7 +165,7 @@ own_within frame b last items start end rows rows' on within h e =
     let P : List Row → Type 0 = λ rs. All (IsWithin (length items)) rs in
     subst P (sym e)
     (single_within (length items) b last rows
-        (subst P (sym h.made) (words_within frame b items start end h.spans h.cuts 0 on within rise order)))
+    (subst P (sym h.made) (words_within frame b items start end h.spans h.cuts 0 on within rise order)))
 
 last_within : (len : ℕ) (xs : List Row) → All (IsWithin len) xs → All (IsWithin len) (with_last row_ending xs)
 last_within len [] h = h
@@ -210,41 +210,41 @@ pub shape_more : (frame : Frame) (items : List Item) (b : Bool) (start end : ℕ
     → OwnLines frame b false (slice_range items start end) (map (line_at items) own) → own' ≡ rows_behind cut own
     → rows' ≡ rows ++ own'
     → ((more : List Line) → HasLines frame b (drop start items) more
-        → HasLines frame true items (map (line_at items) rows ++ more))
+    → HasLines frame true items (map (line_at items) rows ++ more))
     → (more : List Line) → HasLines frame false (drop (end + 1) items) more
     → HasLines frame true items (map (line_at items) rows' ++ more)
 shape_more frame items b start end rows rows' own own' cut on there whole cutting is ours e f so_far more h =
     let segment : List Item = slice_range items start end in
     let f' : Row → Line = line_at items in
     let parts : drop start items ≡ segment ++ cut ∷ drop (end + 1) items =
-        drop_split items start end on
-        ∙ ap (λ l. segment ++ l) (drop_more items end cut there ∙ ap (λ i. i ∷ drop (end + 1) items) (sym is)) in
+    drop_split items start end on
+    ∙ ap (λ l. segment ++ l) (drop_more items end cut there ∙ ap (λ i. i ∷ drop (end + 1) items) (sym is)) in
     let cuts : is_cut cut ≡ true =
-        subst Cutting (sym is) (at_slice Cutting items end (end + 1) end cut cutting (omega arith) (omega arith) (omega arith)) in
+    subst Cutting (sym is) (at_slice Cutting items end (end + 1) end cut cutting (omega arith) (omega arith) (omega arith)) in
     let lines : List Line = behind_cut cut (or_empty b false ours.words) in
     let same : map f' rows' ≡ map f' rows ++ lines =
-        ap (map f') (f ∙ ap (λ o. rows ++ o) e) ∙ map-append f' rows (rows_behind cut own)
-        ∙ ap (λ l. map f' rows ++ l) (behind_map items cut own ∙ ap (behind_cut cut) ours.made) in
+    ap (map f') (f ∙ ap (λ o. rows ++ o) e) ∙ map-append f' rows (rows_behind cut own)
+    ∙ ap (λ l. map f' rows ++ l) (behind_map items cut own ∙ ap (behind_cut cut) ours.made) in
     let P : List Line → Type 0 = λ l. HasLines frame true items l in
     subst P (sym (ap (λ l. l ++ more) same ∙ append_assoc (map f' rows) lines more))
     (so_far (lines ++ more)
-        (then_cut b (drop start items) segment cut (drop (end + 1) items) ours.words more parts whole cuts ours.filled h))
+    (then_cut b (drop start items) segment cut (drop (end + 1) items) ours.words more parts whole cuts ours.filled h))
 
 pub shape_done : (frame : Frame) (items : List Item) (b : Bool) (start end : ℕ) (rows rows' own : List Row)
     → start ≤ end → end ≤ length items → length items ≤ end → All Whole (slice_range items start end)
     → OwnLines frame b true (slice_range items start end) (map (line_at items) own) → rows' ≡ rows ++ own
     → ((more : List Line) → HasLines frame b (drop start items) more
-        → HasLines frame true items (map (line_at items) rows ++ more))
+    → HasLines frame true items (map (line_at items) rows ++ more))
     → HasLines frame true items (map (line_at items) rows')
 shape_done frame items b start end rows rows' own on within past whole ours f so_far =
     let segment : List Item = slice_range items start end in
     let f' : Row → Line = line_at items in
     let all : segment ≡ drop start items =
-        take_all (end - start) (drop start items) (omega (arith, length-drop start items)) in
+    take_all (end - start) (drop start items) (omega (arith, length-drop start items)) in
     let Q : List Item → Type 0 = λ is. HasLines frame b is (or_empty b true ours.words) in
     let P : List Line → Type 0 = λ l. HasLines frame true items l in
     let same : map f' rows' ≡ map f' rows ++ or_empty b true ours.words =
-        ap (map f') f ∙ map-append f' rows own ∙ ap (λ l. map f' rows ++ l) ours.made in
+    ap (map f') f ∙ map-append f' rows own ∙ ap (λ l. map f' rows ++ l) ours.made in
     subst P (sym same)
     (so_far (or_empty b true ours.words) (subst Q all (last_segment b segment ours.words whole ours.filled)))
 
@@ -255,9 +255,9 @@ pub laid_out : (p : Paragraph) (width least : ℕ) (frame : Frame) (items shown 
     → held ≡ shown → lent ≡ rows → lines ≡ map (line_at held) lent → IsShape p width lines
 laid_out p width least frame items shown given held rows lent lines f e i s g h k l m =
     let all : given ≡ items_shown p width =
-        g ∙ s ∙ ap₂ (λ n is. map (capped n) is) (e ∙ ap least_width f) i in
+    g ∙ s ∙ ap₂ (λ n is. map (capped n) is) (e ∙ ap least_width f) i in
     let same : lines ≡ map (line_at given) rows =
-        m ∙ ap₂ (λ is rs. map (line_at is) rs) (k ∙ sym g) l in
+    m ∙ ap₂ (λ is rs. map (line_at is) rs) (k ∙ sym g) l in
     let P : Frame → List Item → List Line → Type 0 = λ a is ls. HasLines a true is ls in
     subst (λ (a : Frame). P a (items_shown p width) lines) f
     (subst (λ (is : List Item). P frame is lines) all (subst (P frame given) (sym same) h))

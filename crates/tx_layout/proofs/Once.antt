@@ -29,9 +29,9 @@ no_earlier least items x y e p q =
       | inl less ↦
           let a = p.onward in let b = p.some in let c = q.some in let w = q.within in
           let blank : Blank (get_or items x.from Break) =
-              at_slice Blank items y.spaces y.from x.from Break q.blank (omega arith) less (omega arith) in
+          at_slice Blank items y.spaces y.from x.from Break q.blank (omega arith) less (omega arith) in
           let solid : Solid (get_or items x.from Break) =
-              at_slice Solid items x.from x.to x.from Break p.solid (omega arith) b p.within in
+          at_slice Solid items x.from x.to x.from Break p.solid (omega arith) b p.within in
           absurd (no_both (get_or items x.from Break) blank solid)
       | inr more ↦ more
     ]
@@ -46,15 +46,15 @@ no_shorter least items x y e p q =
           elim (p.greatest (omega arith)) [
             | inl blanks ↦
                 let blank : Blank (get_or items x.to Break) =
-                    at_slice Blank items x.to (x.to + 1) x.to Break blanks (omega arith) (omega arith) (omega arith) in
+                at_slice Blank items x.to (x.to + 1) x.to Break blanks (omega arith) (omega arith) (omega arith) in
                 let solid : Solid (get_or items x.to Break) =
-                    at_slice Solid items y.from y.to x.to Break q.solid (omega arith) less w in
+                at_slice Solid items y.from y.to x.to Break q.solid (omega arith) less w in
                 absurd (no_both (get_or items x.to Break) blank solid)
             | inr wide ↦
                 let more : cells_across (slice_range items x.from (x.to + 1)) ≤ cells_across (slice_range items x.from y.to) =
-                    cells_le items x.from (x.to + 1) y.to (omega arith) in
+                cells_le items x.from (x.to + 1) y.to (omega arith) in
                 let same : cells_across (slice_range items x.from y.to) ≡ cells_across (slice_range items y.from y.to) =
-                    ap (λ i. cells_across (slice_range items i y.to)) e in
+                ap (λ i. cells_across (slice_range items i y.to)) e in
                 let fits = q.narrow in
                 absurd (omega arith)
           ]
@@ -88,7 +88,7 @@ spans_once least items at (x ∷ xs) (y ∷ ys) h k =
     let d = no_shorter least items y x (sym begins) k.1 h.1 in
     let finish : x.to ≡ y.to = omega arith in
     let rest : xs ≡ ys = spans_once least items x.to xs ys h.2
-        (subst (λ (n : ℕ). SpansFrom least items n ys) (sym finish) k.2) in
+    (subst (λ (n : ℕ). SpansFrom least items n ys) (sym finish) k.2) in
     ap₂ (λ s ss. s ∷ ss) (same_span x y starts begins finish) rest
 
 words_once : (frame : Frame) (b : Bool) (items : List Item) (lines others : List Line) → HasWords frame b items lines
@@ -97,8 +97,8 @@ words_once frame b items lines others h k =
     let spans : h.spans ≡ k.spans = spans_once (least_width frame) items 0 h.spans k.spans h.spelled k.spelled in
     let P : List Span → Type 0 = λ ss. IsFirstFit (map (piece_of items) ss) (width_at frame b) frame.later_width k.cuts in
     let cuts : h.cuts ≡ k.cuts =
-        one_way (map (piece_of items) h.spans) (width_at frame b) frame.later_width h.cuts k.cuts h.filled
-        (subst P (sym spans) k.filled) in
+    one_way (map (piece_of items) h.spans) (width_at frame b) frame.later_width h.cuts k.cuts h.filled
+    (subst P (sym spans) k.filled) in
     h.made ∙ ap₂ (λ ss cs. lines_of frame b items ss cs) spans cuts ∙ sym k.made
 
 -- ---- segments
@@ -142,13 +142,13 @@ pub shape_once : (frame : Frame) (b : Bool) (items : List Item) (lines others : 
 shape_once frame b items lines others (last_segment b' is words w h) (last_segment b'' is' words' w' h') =
     ap (or_empty b true) (words_once frame b items words words' h h')
 shape_once frame b items lines others (last_segment b' is words w h)
-  (then_cut b'' is' segment cut rest words' others' parts w' cuts h' more) =
+    (then_cut b'' is' segment cut rest words' others' parts w' cuts h' more) =
     absurd (none_inside segment cut rest cuts (subst (All Whole) parts w))
 shape_once frame b items lines others (then_cut b' is segment cut rest words others' parts w cuts h more)
-  (last_segment b'' is' words' w' h') =
+    (last_segment b'' is' words' w' h') =
     absurd (none_inside segment cut rest cuts (subst (All Whole) parts w'))
 shape_once frame b items lines others (then_cut b' is segment cut rest words next parts w cuts h more)
-  (then_cut b'' is' segment' cut' rest' words' next' parts' w' cuts' h' more') =
+    (then_cut b'' is' segment' cut' rest' words' next' parts' w' cuts' h' more') =
     let same = same_cut segment segment' cut cut' rest rest' (sym parts ∙ parts') w w' cuts cuts' in
     let P : List Item → Type 0 = λ l. HasWords frame b l words' in
     let Q : List Item → Type 0 = λ l. HasLines frame false l next' in

@@ -55,11 +55,11 @@ no_shorter lines height x y e p q =
             | inl full ↦ absurd (omega arith)
             | inr ends ↦
                 let last : EndsPage (get_or lines (x.to - 1) empty_line) =
-                    at_slice EndsPage lines (x.to - 1) x.to (x.to - 1) empty_line ends (omega arith) (omega arith)
-                    (omega arith) in
+                at_slice EndsPage lines (x.to - 1) x.to (x.to - 1) empty_line ends (omega arith) (omega arith)
+                (omega arith) in
                 let none : Unmarked (get_or lines (x.to - 1) empty_line) =
-                    at_slice Unmarked lines y.from (y.to - 1) (x.to - 1) empty_line q.unmarked (omega arith) (omega arith)
-                    (omega arith) in
+                at_slice Unmarked lines y.from (y.to - 1) (x.to - 1) empty_line q.unmarked (omega arith) (omega arith)
+                (omega arith) in
                 absurd (not_both (get_or lines (x.to - 1) empty_line) last none)
           ]
       | inr more ↦ more
@@ -82,5 +82,5 @@ pages_once lines height at (x ∷ xs) (y ∷ ys) h k =
     let b = no_shorter lines height y x (sym begins) k.1 h.1 in
     let finish : x.to ≡ y.to = omega arith in
     let rest : xs ≡ ys = pages_once lines height x.to xs ys h.2
-        (subst (λ (n : ℕ). PagesFrom lines height n ys) (sym finish) k.2) in
+    (subst (λ (n : ℕ). PagesFrom lines height n ys) (sym finish) k.2) in
     ap₂ (λ s ss. s ∷ ss) (same_cut x y begins finish) rest

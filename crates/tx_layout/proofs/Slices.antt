@@ -16,7 +16,7 @@ slice_push xs from at x le lt is =
     let within : at - from < length (drop from xs) = omega (arith, length-drop from xs) in
     let place : from + (at - from) ≡ at = omega arith in
     let last : get_or (drop from xs) (at - from) x ≡ x =
-        get_or-drop from xs (at - from) x ∙ ap (λ i. get_or xs i x) place ∙ sym is in
+    get_or-drop from xs (at - from) x ∙ ap (λ i. get_or xs i x) place ∙ sym is in
     ap (λ n. take n (drop from xs)) longer ∙ take_more (drop from xs) (at - from) x within
     ∙ ap (λ y. slice_range xs from at ++ y ∷ []) last
 
@@ -62,11 +62,11 @@ pub at_slice : {X : Type 0} (P : X → Type 0) (xs : List X) (from to k : ℕ) (
 at_slice P xs from to k d h le lt within =
     let inside : k - from < to - from = omega arith in
     let long : length (slice_range xs from to) ≡ to - from =
-        length-take-le (to - from) (drop from xs) (omega (arith, length-drop from xs)) in
+    length-take-le (to - from) (drop from xs) (omega (arith, length-drop from xs)) in
     let place : from + (k - from) ≡ k = omega arith in
     let same : get_or (slice_range xs from to) (k - from) d ≡ get_or xs k d =
-        get_or-take (to - from) (drop from xs) (k - from) d inside ∙ get_or-drop from xs (k - from) d
-        ∙ ap (λ i. get_or xs i d) place in
+    get_or-take (to - from) (drop from xs) (k - from) d inside ∙ get_or-drop from xs (k - from) d
+    ∙ ap (λ i. get_or xs i d) place in
     subst P same (h (k - from) d (omega arith))
 
 pub at_drop : {X : Type 0} (P : X → Type 0) (xs : List X) (from k : ℕ) (d : X) → All P (drop from xs) → from ≤ k
@@ -74,7 +74,7 @@ pub at_drop : {X : Type 0} (P : X → Type 0) (xs : List X) (from k : ℕ) (d : 
 at_drop P xs from k d h le lt =
     let place : from + (k - from) ≡ k = omega arith in
     let same : get_or (drop from xs) (k - from) d ≡ get_or xs k d =
-        get_or-drop from xs (k - from) d ∙ ap (λ i. get_or xs i d) place in
+    get_or-drop from xs (k - from) d ∙ ap (λ i. get_or xs i d) place in
     subst P same (h (k - from) d (omega (arith, length-drop from xs)))
 
 -- ---- cells
@@ -92,9 +92,9 @@ pub cells_le : (xs : List Item) (from m n : ℕ) → m ≤ n
     → cells_across (slice_range xs from m) ≤ cells_across (slice_range xs from n)
 cells_le xs from m n le =
     let shorter : take (m - from) (take (n - from) (drop from xs)) ≡ take (m - from) (drop from xs) =
-        take-take (m - from) (n - from) (drop from xs) (omega arith) in
+    take-take (m - from) (n - from) (drop from xs) (omega arith) in
     let same : cells_across (take (m - from) (take (n - from) (drop from xs))) ≡ cells_across (slice_range xs from m) =
-        ap cells_across shorter in
+    ap cells_across shorter in
     let less : cells_across (take (m - from) (take (n - from) (drop from xs))) ≤ cells_across (slice_range xs from n) =
-        sum_by-take-le item_cells (take (n - from) (drop from xs)) (m - from) in
+    sum_by-take-le item_cells (take (n - from) (drop from xs)) (m - from) in
     omega arith

@@ -34,7 +34,7 @@ pub spans_done : (least : ℕ) (items : List Item) (spans : List Span) (at from 
     → SpansFrom least items 0 spans
 spans_done least items spans at from so_far on within past blank =
     let whole : slice_range items at from ≡ drop at items =
-        take_all (from - at) (drop at items) (omega (arith, length-drop at items)) in
+    take_all (from - at) (drop at items) (omega (arith, length-drop at items)) in
     let P : List Span → Type 0 = λ ss. SpansFrom least items 0 ss in
     subst P (append-nil spans) (so_far [] (subst (All Blank) whole blank))
 
@@ -109,7 +109,7 @@ pub cut_step : (cuts : List Cut) (i at len : ℕ) (cut : Cut) → i < length cut
     → Partitions (drop i cuts) at len → (cut.from < cut.to) × (cut.to ≤ len) × Partitions (drop (i + 1) cuts) cut.to len
 cut_step cuts i at len cut there is h =
     let first : drop i cuts ≡ cut ∷ drop (i + 1) cuts =
-        drop_more cuts i cut there ∙ ap (λ c. c ∷ drop (i + 1) cuts) (sym is) in
+    drop_more cuts i cut there ∙ ap (λ c. c ∷ drop (i + 1) cuts) (sym is) in
     let P : List Cut → Type 0 = λ cs. Partitions cs at len in
     let parts = subst P first h in
     let begins : cut.from ≡ at = parts.0 in
@@ -123,7 +123,7 @@ pub row_step : (frame : Frame) (b : Bool) (start : ℕ) (items : List Item) (spa
     → rows' ++ rows_at frame false start items spans (drop (i + 1) cuts) ≡ whole
 row_step frame b start items spans cuts i cut rows rows' whole row there is e f so_far =
     let first : drop i cuts ≡ cut ∷ drop (i + 1) cuts =
-        drop_more cuts i cut there ∙ ap (λ c. c ∷ drop (i + 1) cuts) (sym is) in
+    drop_more cuts i cut there ∙ ap (λ c. c ∷ drop (i + 1) cuts) (sym is) in
     let later : List Row = rows_at frame false start items spans (drop (i + 1) cuts) in
     ap (λ rs. rs ++ later) e ∙ append_assoc rows (row ∷ []) later ∙ ap (λ r. rows ++ r ∷ later) f
     ∙ ap (λ cs. rows ++ rows_at frame b start items spans cs) (sym first) ∙ so_far

@@ -76,7 +76,7 @@ uncapped ps first later lines a b h = record {
       omega arith;
   full = λ k line next e f.
       let full : width_of first later k < line_cells (map capped_piece ps) line.from (next.from + 1) =
-          h.full k line next e f in
+      h.full k line next e f in
       let shape = line_map ps line.from (next.from + 1) in
       let less = cells_le (slice_range ps line.from (next.from + 1)) in
       omega arith;
@@ -123,7 +123,7 @@ are_rows frame b start least width segment spans given shown pieces filling cuts
     let first = is_width frame b hf in
     let later = hf.later in
     let all : filling ≡ map (λ s. capped_piece (piece_of segment s)) spans =
-        q ∙ p ∙ ap (map (λ s. capped_piece (piece_of segment s))) g in
+    q ∙ p ∙ ap (map (λ s. capped_piece (piece_of segment s))) g in
     record {
       spans = spans;
       cuts = cuts;

@@ -64,7 +64,7 @@ capped_piece p = record { before = min p.before 501; cells = min p.cells 501 }
 abbrev pub Rises : List Item → List Span → Type 0
 Rises items spans =
     (i j : ℕ) (d e : Span) → i ≤ j → j < length spans →
-        ((get_or spans i d).from ≤ (get_or spans j e).to) × ((get_or spans j e).to ≤ length items)
+    ((get_or spans i d).from ≤ (get_or spans j e).to) × ((get_or spans j e).to ≤ length items)
 
 -- the rows of a segment's words
 pub record AreRows (frame : Frame) (is_first : Bool) (start : ℕ) (segment : List Item) (rows : List Row) : Type 0 where

@@ -5,7 +5,7 @@ ghost use Rattle.tx_items.specs.declared.drawing.Item.{Item};
 ghost use Rattle.tx_items.specs.declared.drawing.Paragraph.{Paragraph};
 ghost use Rattle.tx_items.specs.Narrow.{IsNarrow};
 ghost use Rattle.tx_layout.specs.declared.layout.Line.{Line};
-ghost use Rattle.tx_layout.specs.Words.{capped};
+ghost use Rattle.tx_layout.specs.Words.{capped, cells_across};
 ghost use Rattle.tx_layout.specs.Shapes.{items_shown, IsShape, is_ink};
 ghost use Rattle.tx_layout.specs.Rows.{IsWithin, line_at};
 
@@ -139,4 +139,10 @@ pub fn one_shape()
 pub fn items_kept()
     ensures { (p : Paragraph) (width : ℕ) (lines : List Line) → IsShape p width lines →
         filter is_ink (flat_map (λ line. line.items) lines) ≡ filter is_ink (items_shown p width) }
+{}
+
+/// A law: no line of a paragraph reaches beyond its page.
+pub fn within_page()
+    ensures { (p : Paragraph) (width : ℕ) (lines : List Line) → IsShape p width lines →
+        All (λ line. line.indent + cells_across line.items ≤ width) lines }
 {}

@@ -134,11 +134,7 @@ pub(crate) fn spans_of(alloc: Global, items: &[Item], least: u32) -> Result<Vec<
 }
 
 // The pieces as first-fit knows them, where more spaces than a line has room for count as 501.
-pub(crate) fn pieces_of(
-    alloc: Global,
-    items: &[Item],
-    spans: &[Span],
-) -> Result<Vec<Piece>, Memory>
+pub(crate) fn pieces_of(alloc: Global, items: &[Item], spans: &[Span]) -> Result<Vec<Piece>, Memory>
     requires onward { All (λ s. s.spaces ≤ s.from) spans.now }
     requires some { All (λ s. s.from ≤ s.to) spans.now }
     requires within { All (λ s. s.to ≤ length items.now) spans.now }

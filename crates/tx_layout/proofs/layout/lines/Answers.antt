@@ -16,8 +16,8 @@ pub returns-clause-shape : goal.returns-clause-shape
 returns-clause-shape g c =
     IfOk-weaker c.share_out.result _ _
     (λ lines made. laid_out c.args.paragraph.now c.args.width c.least_width.result c.frame_of-frame.result
-        c.all-items.result.now c.in_ok-shown.shown.items c.deref.result.now c.in_ok-new.field-0.value.items
-        c.in_ok-rows.rows.items c.deref-2.result.now lines.items c.frame_of-frame.ensures.measures
-        c.least_width.ensures c.all-items.ensures c.in_ok-shown.ensures c.deref.ensures.value
-        c.in_ok-rows.ensures.lines (ap (λ v. v.items) c.in_ok-new.ensures.ok) c.deref-2.ensures.value made)
+    c.all-items.result.now c.in_ok-shown.shown.items c.deref.result.now c.in_ok-new.field-0.value.items
+    c.in_ok-rows.rows.items c.deref-2.result.now lines.items c.frame_of-frame.ensures.measures
+    c.least_width.ensures c.all-items.ensures c.in_ok-shown.ensures c.deref.ensures.value
+    c.in_ok-rows.ensures.lines (ap (λ v. v.items) c.in_ok-new.ensures.ok) c.deref-2.ensures.value made)
     c.share_out.ensures

@@ -8,7 +8,7 @@ invariant-loop-last l = record {
   onward : l.from ≤ l.last;
   there : l.last < length l.lines;
   fits : l.last < l.from + l.height;
-  unmarked : All Unmarked (slice_range l.lines l.from l.last)
+  unmarked : All Unmarked (slice_range l.lines l.from l.last);
 }
 
 abbrev pub decreases-loop-last : goal.decreases-loop-last

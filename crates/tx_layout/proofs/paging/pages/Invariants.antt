@@ -7,7 +7,7 @@ abbrev pub invariant-loop-from : goal.invariant-loop-from
 invariant-loop-from l = record {
   so_far : (rest : List Cut) → PagesFrom l.lines l.height l.from rest
       → PagesFrom l.lines l.height 0 (l.pages.items ++ rest);
-  within : l.from ≤ length l.lines
+  within : l.from ≤ length l.lines;
 }
 
 abbrev pub decreases-loop-from : goal.decreases-loop-from

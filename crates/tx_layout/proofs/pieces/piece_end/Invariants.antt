@@ -9,7 +9,7 @@ invariant-loop-end l = record {
   within : l.end ≤ length l.items;
   solid : All Solid (slice_range l.items l.from l.end);
   used : l.used ≡ cells_across (slice_range l.items l.from l.end);
-  narrow : l.used ≤ l.least
+  narrow : l.used ≤ l.least;
 }
 
 abbrev pub decreases-loop-end : goal.decreases-loop-end

@@ -11,7 +11,7 @@ invariant-loop-from l = record {
   onward : l.at ≤ l.from;
   within : l.from ≤ length l.items;
   blank : All Blank (slice_range l.items l.at l.from);
-  begins : l.from < length l.items → All Solid (slice_range l.items l.from (l.from + 1))
+  begins : l.from < length l.items → All Solid (slice_range l.items l.from (l.from + 1));
 }
 
 abbrev pub decreases-loop-from : goal.decreases-loop-from

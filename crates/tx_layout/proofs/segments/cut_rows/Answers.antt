@@ -8,14 +8,14 @@ row_of-requires-clause-some c =
     let i = c.loop-cut.cut-index in
     let cut = get_or c.args.cuts.now i (record { from = 0; to = 0 }) in
     (cut_step c.args.cuts.now i _ _ cut c.loop-cut-test.true
-        (get_or_default c.args.cuts.now i _ _ c.loop-cut-test.true) c.loop-cut.invariant.rest.1).0
+    (get_or_default c.args.cuts.now i _ _ c.loop-cut-test.true) c.loop-cut.invariant.rest.1).0
 
 pub row_of-requires-clause-within : goal.row_of-requires-clause-within
 row_of-requires-clause-within c =
     let i = c.loop-cut.cut-index in
     let cut = get_or c.args.cuts.now i (record { from = 0; to = 0 }) in
     (cut_step c.args.cuts.now i _ _ cut c.loop-cut-test.true
-        (get_or_default c.args.cuts.now i _ _ c.loop-cut-test.true) c.loop-cut.invariant.rest.1).1
+    (get_or_default c.args.cuts.now i _ _ c.loop-cut-test.true) c.loop-cut.invariant.rest.1).1
 
 pub loop-cut-preserved : goal.loop-cut-preserved
 loop-cut-preserved c =

@@ -22,10 +22,10 @@ pieces_of-requires-clause-within c =
 pub fill-requires-clause-few_pieces : goal.fill-requires-clause-few_pieces
 fill-requires-clause-few_pieces c =
     let few = few_spans c.least_width-least.result c.args.segment.now 0 c.in_ok-spans.spans.items c.in_ok-spans.ensures
-        (omega arith) in
+    (omega arith) in
     let same = ap length c.deref-2.ensures.value ∙ ap length c.in_ok-pieces.ensures
-        ∙ length-map c.deref.result.now (λ s. capped_piece (piece_of c.args.segment.now s))
-        ∙ ap length c.deref.ensures.value in
+    ∙ length-map c.deref.result.now (λ s. capped_piece (piece_of c.args.segment.now s))
+    ∙ ap length c.deref.ensures.value in
     let short = c.requires.few in
     omega arith
 
@@ -36,7 +36,7 @@ fill-requires-clause-narrow_pieces c =
     let least = at_least frame c.args.is_first in
     rw (c.deref-2.ensures.value, c.in_ok-pieces.ensures, c.width_at.ensures)
     (narrow_pieces c.least_width-least.result (width_at frame c.args.is_first) frame.later_width c.args.segment.now 0
-        c.deref.result.now (rw c.deref.ensures.value c.in_ok-spans.ensures) (omega arith) (omega arith))
+    c.deref.result.now (rw c.deref.ensures.value c.in_ok-spans.ensures) (omega arith) (omega arith))
 
 pub cut_rows-requires-clause-rise : goal.cut_rows-requires-clause-rise
 cut_rows-requires-clause-rise c =
@@ -46,9 +46,9 @@ pub returns : goal.returns
 returns c =
     IfOk-weaker c.cut_rows.result _ _
     (λ rows made. are_rows c.args.frame c.args.is_first c.args.start c.least_width-least.result c.width_at.result
-        c.args.segment.now c.in_ok-spans.spans.items c.deref.result.now c.deref-3.result.now c.in_ok-pieces.pieces.items
-        c.deref-2.result.now c.in_ok-cuts.cuts.items c.deref-4.result.now rows.items c.requires.frame
-        c.least_width-least.ensures c.width_at.ensures c.in_ok-spans.ensures c.deref.ensures.value
-        c.in_ok-pieces.ensures c.deref-2.ensures.value c.in_ok-cuts.ensures.first_fit c.deref-3.ensures.value
-        c.deref-4.ensures.value made)
+    c.args.segment.now c.in_ok-spans.spans.items c.deref.result.now c.deref-3.result.now c.in_ok-pieces.pieces.items
+    c.deref-2.result.now c.in_ok-cuts.cuts.items c.deref-4.result.now rows.items c.requires.frame
+    c.least_width-least.ensures c.width_at.ensures c.in_ok-spans.ensures c.deref.ensures.value
+    c.in_ok-pieces.ensures c.deref-2.ensures.value c.in_ok-cuts.ensures.first_fit c.deref-3.ensures.value
+    c.deref-4.ensures.value made)
     c.cut_rows.ensures

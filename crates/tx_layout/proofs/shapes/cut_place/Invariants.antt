@@ -7,7 +7,7 @@ abbrev pub invariant-loop-end : goal.invariant-loop-end
 invariant-loop-end l = record {
   onward : l.from ≤ l.end;
   within : l.end ≤ length l.items;
-  whole : All Whole (slice_range l.items l.from l.end)
+  whole : All Whole (slice_range l.items l.from l.end);
 }
 
 abbrev pub decreases-loop-end : goal.decreases-loop-end

@@ -13,7 +13,7 @@ invariant-loop-end l = record {
   onward : l.start ≤ l.end;
   within : l.end ≤ length l.items;
   whole : All Whole (slice_range l.items l.start l.end);
-  cut : l.end < length l.items → All Cutting (slice_range l.items l.end (l.end + 1))
+  cut : l.end < length l.items → All Cutting (slice_range l.items l.end (l.end + 1));
 }
 
 abbrev pub decreases-loop-end : goal.decreases-loop-end
