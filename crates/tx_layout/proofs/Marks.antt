@@ -94,7 +94,8 @@ one_line frame b items start end spans cut on within rise some there =
     } in
     ap line (sym (slice_slice items start end from to le (omega arith)))
 
-words_map : (frame : Frame) (b : Bool) (items : List Item) (start end : ℕ) (spans : List Span) (cuts : List Cut) (at : ℕ)
+words_map : (frame : Frame) (b : Bool) (items : List Item) (start end : ℕ) (spans : List Span) (cuts : List Cut)
+    (at : ℕ)
     → start ≤ end → end ≤ length items → Rises (slice_range items start end) spans → Partitions cuts at (length spans)
     → map (line_at items) (rows_at frame b start (slice_range items start end) spans cuts)
     ≡ lines_of frame b (slice_range items start end) spans cuts
@@ -131,7 +132,8 @@ in_order frame b start segment rows h =
 
 -- ---- the lines of one segment
 
-pub own_lines : (frame : Frame) (b last : Bool) (items : List Item) (start end : ℕ) (rows rows' : List Row) → start ≤ end
+pub own_lines : (frame : Frame) (b last : Bool) (items : List Item) (start end : ℕ) (rows rows' : List Row)
+    → start ≤ end
     → end ≤ length items → (h : AreRows frame b start (slice_range items start end) rows)
     → rows' ≡ rows_or_empty b last rows
     → OwnLines frame b last (slice_range items start end) (map (line_at items) rows')
@@ -147,14 +149,19 @@ own_lines frame b last items start end rows rows' on within h e =
       made = ap (map (line_at items)) e ∙ single_map items b last rows;
     }
 
-single_within : (len : ℕ) (a b : Bool) (xs : List Row) → All (IsWithin len) xs → All (IsWithin len) (rows_or_empty a b xs)
-single_within len true true [] h = All-cons (IsWithin len) empty_row [] (omega arith, omega arith) (All-nil (IsWithin len))
-single_within len true false [] h = All-cons (IsWithin len) empty_row [] (omega arith, omega arith) (All-nil (IsWithin len))
+alone : (len : ℕ) → All (IsWithin len) (empty_row ∷ [])
+alone len = All-cons (IsWithin len) empty_row [] (omega arith, omega arith) (All-nil (IsWithin len))
+
+single_within : (len : ℕ) (a b : Bool) (xs : List Row) → All (IsWithin len) xs
+    → All (IsWithin len) (rows_or_empty a b xs)
+single_within len true true [] h = alone len
+single_within len true false [] h = alone len
 single_within len false true [] h = All-nil (IsWithin len)
-single_within len false false [] h = All-cons (IsWithin len) empty_row [] (omega arith, omega arith) (All-nil (IsWithin len))
+single_within len false false [] h = alone len
 single_within len a b (x ∷ xs) h = h
 
-pub own_within : (frame : Frame) (b last : Bool) (items : List Item) (start end : ℕ) (rows rows' : List Row) → start ≤ end
+pub own_within : (frame : Frame) (b last : Bool) (items : List Item) (start end : ℕ) (rows rows' : List Row)
+    → start ≤ end
     → end ≤ length items → (h : AreRows frame b start (slice_range items start end) rows)
     → rows' ≡ rows_or_empty b last rows
     → All (IsWithin (length items)) rows'
@@ -220,7 +227,8 @@ shape_more frame items b start end rows rows' own own' cut on there whole cuttin
     drop_split items start end on
     ∙ ap (λ l. segment ++ l) (drop_more items end cut there ∙ ap (λ i. i ∷ drop (end + 1) items) (sym is)) in
     let cuts : is_cut cut ≡ true =
-    subst Cutting (sym is) (at_slice Cutting items end (end + 1) end cut cutting (omega arith) (omega arith) (omega arith)) in
+    subst Cutting (sym is)
+        (at_slice Cutting items end (end + 1) end cut cutting (omega arith) (omega arith) (omega arith)) in
     let lines : List Line = behind_cut cut (or_empty b false ours.words) in
     let same : map f' rows' ≡ map f' rows ++ lines =
     ap (map f') (f ∙ ap (λ o. rows ++ o) e) ∙ map-append f' rows (rows_behind cut own)

@@ -51,7 +51,8 @@ no_shorter least items x y e p q =
                 at_slice Solid items y.from y.to x.to Break q.solid (omega arith) less w in
                 absurd (no_both (get_or items x.to Break) blank solid)
             | inr wide ↦
-                let more : cells_across (slice_range items x.from (x.to + 1)) ≤ cells_across (slice_range items x.from y.to) =
+                let more : cells_across (slice_range items x.from (x.to + 1))
+                    ≤ cells_across (slice_range items x.from y.to) =
                 cells_le items x.from (x.to + 1) y.to (omega arith) in
                 let same : cells_across (slice_range items x.from y.to) ≡ cells_across (slice_range items y.from y.to) =
                 ap (λ i. cells_across (slice_range items i y.to)) e in
@@ -95,7 +96,8 @@ words_once : (frame : Frame) (b : Bool) (items : List Item) (lines others : List
     → HasWords frame b items others → lines ≡ others
 words_once frame b items lines others h k =
     let spans : h.spans ≡ k.spans = spans_once (least_width frame) items 0 h.spans k.spans h.spelled k.spelled in
-    let P : List Span → Type 0 = λ ss. IsFirstFit (map (piece_of items) ss) (width_at frame b) frame.later_width k.cuts in
+    let P : List Span → Type 0 =
+        λ ss. IsFirstFit (map (piece_of items) ss) (width_at frame b) frame.later_width k.cuts in
     let cuts : h.cuts ≡ k.cuts =
     one_way (map (piece_of items) h.spans) (width_at frame b) frame.later_width h.cuts k.cuts h.filled
     (subst P (sym spans) k.filled) in
@@ -137,7 +139,8 @@ same_cut (i ∷ x) (j ∷ y) a b s t e h k p q =
       behind = rest.behind;
     }
 
-pub shape_once : (frame : Frame) (b : Bool) (items : List Item) (lines others : List Line) → HasLines frame b items lines
+pub shape_once : (frame : Frame) (b : Bool) (items : List Item) (lines others : List Line)
+    → HasLines frame b items lines
     → HasLines frame b items others → lines ≡ others
 shape_once frame b items lines others (last_segment b' is words w h) (last_segment b'' is' words' w' h') =
     ap (or_empty b true) (words_once frame b items words words' h h')

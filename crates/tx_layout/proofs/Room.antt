@@ -76,7 +76,8 @@ run_cells least items ss i (suc n) h lt =
     let some : next.from < next.to = own.1.some in
     let rise = rises least items ss h i (i + n) no_span no_span (omega arith) before in
     let le : first.from ≤ last.to = rise.0 in
-    let grown : line_cells pieces i (m + 1) ≡ line_cells pieces i m + ((piece_of items next).before + (piece_of items next).cells) =
+    let grown : line_cells pieces i (m + 1)
+        ≡ line_cells pieces i m + ((piece_of items next).before + (piece_of items next).cells) =
     cells_of_more pieces i m (piece_of items no_span) (omega arith) (omega arith)
     ∙ ap (λ (p : Piece). line_cells pieces i m + (p.before + p.cells)) (get_or-map (piece_of items) ss m no_span) in
     let rest : line_cells pieces i m ≡ cells_across (slice_range items first.from next.spaces) =
@@ -87,7 +88,8 @@ run_cells least items ss i (suc n) h lt =
     ap (λ k. line_cells pieces i (k + 1)) e ∙ whole
     ∙ ap (λ k. cells_across (slice_range items first.from (get_or ss k no_span).to)) (sym e)
 
-cut_cells : (least : ℕ) (items : List Item) (ss : List Span) (cut : Cut) → SpansFrom least items 0 ss → cut.from < cut.to
+cut_cells : (least : ℕ) (items : List Item) (ss : List Span) (cut : Cut) → SpansFrom least items 0 ss
+    → cut.from < cut.to
     → cut.to ≤ length ss → line_cells (map (piece_of items) ss) cut.from cut.to
     ≡ cells_across (slice_range items (get_or ss cut.from no_span).from (get_or ss (cut.to - 1) no_span).to)
 cut_cells least items ss cut h some within =
@@ -184,7 +186,8 @@ lines_room frame b width items lines first later (last_segment b' is words w h) 
 lines_room frame b width items lines first later (then_cut b' is segment cut rest words others parts w cuts h more) =
     let own : List Line = or_empty b false words in
     All-append (Within width) (behind_cut cut own) others
-    (behind_room width cut own (single_room width b false words (segment_room frame b width segment words first later h)))
+    (behind_room width cut own
+        (single_room width b false words (segment_room frame b width segment words first later h)))
     (lines_room frame false width rest others first later more)
 
 -- ---- both widths are within the page

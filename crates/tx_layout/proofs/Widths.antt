@@ -128,7 +128,8 @@ are_rows frame b start least width segment spans given shown pieces filling cuts
       spans = spans;
       cuts = cuts;
       spelled = subst P e h;
-      filled = filled segment spans filling (width_at frame b) frame.later_width cuts first.1 later.1 all (subst Q w fit);
+      filled = filled segment spans filling (width_at frame b) frame.later_width cuts first.1 later.1 all
+          (subst Q w fit);
       made = r ∙ ap₂ (λ ss cs. rows_at frame b start segment ss cs) s t;
     }
 

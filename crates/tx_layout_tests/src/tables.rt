@@ -19,18 +19,9 @@ const WORDS: &[Row] = &[
         br#""the quick brown fox jumps over the lazy dog""#,
         "0:the quick brown fox/0:jumps over the lazy/0:dog/",
     ),
-    (
-        br#""abcdefghij klmnopqrs ""#,
-        "0:abcdefghij klmnopqrs/",
-    ),
-    (
-        br#""abcdefghij klmnopqrst""#,
-        "0:abcdefghij/0:klmnopqrst/",
-    ),
-    (
-        br#""abcdefghij           k""#,
-        "0:abcdefghij/0:k/",
-    ),
+    (br#""abcdefghij klmnopqrs ""#, "0:abcdefghij klmnopqrs/"),
+    (br#""abcdefghij klmnopqrst""#, "0:abcdefghij/0:klmnopqrst/"),
+    (br#""abcdefghij           k""#, "0:abcdefghij/0:k/"),
     (
         br#""xxxxxxxxxxxxxxxxxxxxxxxxxxxxxxxxxxxxxxxxxxxxx""#,
         "0:xxxxxxxxxxxxxxxxxxxx/0:xxxxxxxxxxxxxxxxxxxx/0:xxxxx/",
@@ -55,10 +46,7 @@ const WORDS: &[Row] = &[
     // gaps
     (br#"(concat "ab" (hspace "3spc") "c")"#, "0:ab<3>c/"),
     (br#"(hspace "0spc")"#, "0:<0>/"),
-    (
-        br#"(concat "a" (hspace "500spc") "b")"#,
-        "0:a/0:<20>/0:b/",
-    ),
+    (br#"(concat "a" (hspace "500spc") "b")"#, "0:a/0:<20>/0:b/"),
     (
         br#"(concat (hspace "30spc") (hspace "20spc") (hspace "5spc") (hspace "15spc"))"#,
         "0:<20>/0:<20>/0:<5><15>/",
@@ -69,7 +57,10 @@ const CUTS: &[Row] = &[
     (br#"(concat "a" (next-line) "b")"#, "0:a/0:b/"),
     (br#"(concat "a" (next-line) "")"#, "0:a/"),
     (br#"(concat (next-line) " a")"#, "0:/0:a/"),
-    (br#"(concat "a" (next-line) " " (next-line) "b")"#, "0:a/0:/0:b/"),
+    (
+        br#"(concat "a" (next-line) " " (next-line) "b")"#,
+        "0:a/0:/0:b/",
+    ),
     (br#"(next-line)"#, "0:/"),
     (br#"(concat "a b" (new-page) "c")"#, "0:a b*/0:c/"),
     (br#"(new-page)"#, "0:*/"),
@@ -77,7 +68,10 @@ const CUTS: &[Row] = &[
     (br#"(concat "a" (vspace "2spc") "b")"#, "0:a/0:/0:/0:b/"),
     (br#"(concat (vspace "1spc") "a")"#, "0:/0:/0:a/"),
     (br#"(concat "a" (vspace "0spc") "b")"#, "0:a/0:b/"),
-    (br#"(concat "a" (vspace "1spc") (new-page) "b")"#, "0:a/0:/0:*/0:b/"),
+    (
+        br#"(concat "a" (vspace "1spc") (new-page) "b")"#,
+        "0:a/0:/0:*/0:b/",
+    ),
 ];
 
 const FRAMES: &[Row] = &[
@@ -101,11 +95,26 @@ const FRAMES: &[Row] = &[
         br#"(with "par-left" "3spc" "par-first" "2spc" (concat "a" (next-line) "b"))"#,
         "5:a/3:b/",
     ),
-    (br#"(with "par-left" "3spc" "par-first" "-2spc" "a")"#, "1:a/"),
-    (br#"(with "par-left" "3spc" "par-first" "-5spc" "a")"#, "0:a/"),
-    (br#"(with "par-left" "3spc" "par-first" "-1mcell" "a")"#, "2:a/"),
-    (br#"(with "par-left" "-3spc" "par-right" "-4spc" "a")"#, "0:a/"),
-    (br#"(with "par-left" "1500mcell" "par-first" "500mcell" "a")"#, "1:a/"),
+    (
+        br#"(with "par-left" "3spc" "par-first" "-2spc" "a")"#,
+        "1:a/",
+    ),
+    (
+        br#"(with "par-left" "3spc" "par-first" "-5spc" "a")"#,
+        "0:a/",
+    ),
+    (
+        br#"(with "par-left" "3spc" "par-first" "-1mcell" "a")"#,
+        "2:a/",
+    ),
+    (
+        br#"(with "par-left" "-3spc" "par-right" "-4spc" "a")"#,
+        "0:a/",
+    ),
+    (
+        br#"(with "par-left" "1500mcell" "par-first" "500mcell" "a")"#,
+        "1:a/",
+    ),
     // margins that leave 10 cells, and 9
     (
         br#"(with "par-left" "5spc" "par-right" "5spc" "abcdefghij klm")"#,
@@ -116,7 +125,10 @@ const FRAMES: &[Row] = &[
         "0:abcdefghij klm/",
     ),
     // the first indent leaves 10 cells, and the narrower width cuts the words
-    (br#"(with "par-first" "15spc" "abcdefghijk")"#, "10:abcdefghij/0:k/"),
+    (
+        br#"(with "par-first" "15spc" "abcdefghijk")"#,
+        "10:abcdefghij/0:k/",
+    ),
     (
         br#"(with "par-first" "5spc" "ab abcdefghijklmnopqr")"#,
         "5:ab/0:abcdefghijklmnopqr/",
@@ -134,8 +146,14 @@ const PAGES: &[Row] = &[
     (br#"(concat "a" (vspace "4spc") "b")"#, "0-5 5-6 "),
     (br#"(concat "a" (vspace "10spc"))"#, "0-5 5-10 10-11 "),
     (br#"(concat "a" (new-page) "b")"#, "0-1 1-2 "),
-    (br#"(concat "a" (vspace "3spc") (new-page) "b")"#, "0-5 5-6 "),
-    (br#"(concat "a" (vspace "2spc") (new-page) (vspace "4spc"))"#, "0-4 4-9 "),
+    (
+        br#"(concat "a" (vspace "3spc") (new-page) "b")"#,
+        "0-5 5-6 ",
+    ),
+    (
+        br#"(concat "a" (vspace "2spc") (new-page) (vspace "4spc"))"#,
+        "0-4 4-9 ",
+    ),
     (br#"(concat (new-page) (new-page))"#, "0-1 1-2 "),
 ];
 

@@ -6,8 +6,8 @@ use Rattle.tx_layout.proofs.pieces.piece_end.Goals as goal
 pub returns-then-more-least-clause-greatest : goal.returns-then-more-least-clause-greatest
 returns-then-more-least-clause-greatest c = λ there.
     let some = c.loop-end.invariant.some in
-    let grown = cells_push c.args.items.now c.args.from c.loop-end.end c.index-items-end-in-loop-end.result (omega arith)
-    there c.index-items-end-in-loop-end.is in
+    let grown = cells_push c.args.items.now c.args.from c.loop-end.end c.index-items-end-in-loop-end.result
+        (omega arith) there c.index-items-end-in-loop-end.is in
     let used = c.loop-end.invariant.used in
     let own = c.item_cells.ensures in
     inr (omega arith)
@@ -15,8 +15,8 @@ returns-then-more-least-clause-greatest c = λ there.
 pub loop-end-preserved : goal.loop-end-preserved
 loop-end-preserved c =
     let some = c.loop-end.invariant.some in
-    let grown = cells_push c.args.items.now c.args.from c.loop-end.end c.index-items-end-in-loop-end.result (omega arith)
-    c.loop-end-test.true c.index-items-end-in-loop-end.is in
+    let grown = cells_push c.args.items.now c.args.from c.loop-end.end c.index-items-end-in-loop-end.result
+        (omega arith) c.loop-end-test.true c.index-items-end-in-loop-end.is in
     let used = c.loop-end.invariant.used in
     let own = c.item_cells.ensures in
     record {
