@@ -1,0 +1,11 @@
+mod Walks
+mod Runs
+mod Documents
+mod Planning
+mod ByRule
+mod Texts
+mod Pairs
+mod Ending
+mod Wording
+mod Narrowing
+mod PlanViews

@@ -1,0 +1,14 @@
+pub mod Words
+pub mod Attributes
+pub mod Fields
+pub mod Looks
+pub mod LookView
+pub mod Drawing
+pub mod Rules
+pub mod Rows
+pub mod Shows
+pub mod Narrow
+pub mod Plans
+pub mod PlanView
+pub mod PlanFalls
+pub mod Running

@@ -1,0 +1,128 @@
+-- What the code adds to what is shown so far.
+use Rattle.std.specs.Prelude.{◌≡◌, ℕ, Bool, true, false, List, [], ◌∷◌, ◌++◌, Option, None, option_and_then, ℤ, codes}
+use Rattle.tx_prim.specs.Lengths.{length_of}
+use Rattle.tx_origin.specs.Values.{WideValues, none, also, value_text}
+use Rattle.tx_items.specs.declared.attributes.Attrs.{Attrs}
+use Rattle.tx_items.specs.declared.drawing.Item.{Item}
+use Rattle.tx_items.specs.declared.drawing.Paragraph.{Paragraph}
+use Rattle.tx_items.specs.declared.drawing.ErrorAt.{ErrorAt}
+use Rattle.tx_items.specs.declared.showing.Showing.{Showing}
+use Rattle.tx_items.specs.Attributes.{with_named, given_back, attribute_in}
+use Rattle.tx_items.specs.Shows.{Run, empty, run_of, beside, whole_run, ended, Form, inline, listed, Shown}
+use Rattle.tx_items.specs.Shows.{AllShown, all_inline, side_by_side, paragraphs_of, one_by_one, behind_bar, or_one}
+use Rattle.tx_items.specs.Drawing.{drawn}
+use Rattle.tx_items.specs.declared.drawing.Item.TheVariants.{Gap, Down as Lower}
+use Rattle.tx_items.specs.declared.showing.Space.{Space}
+use Rattle.tx_items.specs.declared.showing.Space.TheVariants.{Across, Down}
+
+-- what is shown so far: the finished paragraphs, and the run that may still grow
+pub record State : Type 0 where
+  pub attrs : Attrs
+  pub run : Run
+  pub paragraphs : List Paragraph
+  pub errors : List ErrorAt
+
+abbrev pub state_of : Showing → State
+state_of s = record {
+  attrs = s.attrs;
+  run = run_of s.first s.run.items;
+  paragraphs = s.paragraphs.items;
+  errors = s.errors.items;
+}
+
+-- items go behind the run; a list stands behind no run, and its last run may still be open
+abbrev pub Adds : Form → State → State → Type 0
+Adds (inline r) s u = (u.run ≡ beside s.run r) × (u.paragraphs ≡ s.paragraphs)
+Adds (listed ps) s u = s.run ≡ empty → u.paragraphs ++ ended u.run ≡ s.paragraphs ++ ps
+
+pub record HasShown (one : Shown) (s u : State) : Type 0 where
+  pub after : u.attrs ≡ one.after
+  pub errors : u.errors ≡ s.errors ++ one.errors
+  pub adds : Adds one.form s u
+
+-- several, of which each list ends the run before it and its own
+pub record Goes (fs : List (Form × Attrs)) (s u : State) : Type 0 where
+  pub pars : (rest : List (Form × Attrs))
+      → u.paragraphs ++ paragraphs_of u.run rest ≡ s.paragraphs ++ paragraphs_of s.run (fs ++ rest)
+  pub side : all_inline fs ≡ true → (u.run ≡ beside s.run (side_by_side fs)) × (u.paragraphs ≡ s.paragraphs)
+
+pub record HasRun (all : AllShown) (s u : State) : Type 0 where
+  pub after : u.attrs ≡ all.after
+  pub errors : u.errors ≡ s.errors ++ all.errors
+  pub goes : Goes all.each s u
+
+-- the same where each is paragraphs of its own, behind no run
+pub record HasPars (all : AllShown) (s u : State) : Type 0 where
+  pub after : u.attrs ≡ all.after
+  pub errors : u.errors ≡ s.errors ++ all.errors
+  pub pars : s.run ≡ empty → (u.run ≡ empty) × (u.paragraphs ≡ s.paragraphs ++ one_by_one all.each)
+
+-- the attributes at the first item of what will be the run
+abbrev pub first_of : List Item → Attrs → Attrs → Attrs
+first_of [] first attrs = attrs
+first_of (x ∷ xs) first attrs = first
+
+pub record EndsRun (s u : State) : Type 0 where
+  pub attrs : u.attrs ≡ s.attrs
+  pub errors : u.errors ≡ s.errors
+  pub run : u.run ≡ empty
+  pub paragraphs : u.paragraphs ≡ s.paragraphs ++ ended s.run
+
+pub record EndsParagraph (s u : State) : Type 0 where
+  pub attrs : u.attrs ≡ s.attrs
+  pub errors : u.errors ≡ s.errors
+  pub run : u.run ≡ empty
+  pub paragraphs : u.paragraphs ≡ s.paragraphs ++ whole_run s.run s.attrs ∷ []
+
+-- one value, and a bar before it
+abbrev pub one_of : Shown → AllShown
+one_of one = record { each = (one.form, one.after) ∷ []; after = one.after; errors = one.errors }
+
+abbrev pub bar_of : Bool → Attrs → AllShown
+bar_of barred a = record { each = behind_bar barred a []; after = a; errors = [] }
+
+abbrev pub both : AllShown → AllShown → AllShown
+both x y = record { each = x.each ++ y.each; after = y.after; errors = x.errors ++ y.errors }
+
+-- the attributes are these, and nothing else is changed
+pub record HasAttrs (attrs : Attrs) (s u : State) : Type 0 where
+  pub attrs_are : u.attrs ≡ attrs
+  pub run : u.run ≡ s.run
+  pub paragraphs : u.paragraphs ≡ s.paragraphs
+  pub errors : u.errors ≡ s.errors
+
+-- the attributes behind pairs of a name and a value
+abbrev pub set_by_pairs : Attrs → WideValues → Attrs
+set_by_pairs a none = a
+set_by_pairs a (also v none) = a
+set_by_pairs a (also x (also v vs)) = set_by_pairs (with_named (attribute_in (value_text x)) (value_text v) a) vs
+
+-- those that pairs name are what they were before, those of the first pair last
+abbrev pub given_back_by_pairs : WideValues → Attrs → Attrs → Attrs
+given_back_by_pairs none before a = a
+given_back_by_pairs (also v none) before a = a
+given_back_by_pairs (also x (also v vs)) before a =
+    given_back (attribute_in (value_text x)) before (given_back_by_pairs vs before a)
+
+-- the paragraphs at the end of a unit that shows as a list, or in a line
+abbrev pub finished : Bool → State → List Paragraph
+finished false s = s.paragraphs ++ whole_run s.run s.attrs ∷ []
+finished true s = or_one s.attrs (s.paragraphs ++ ended s.run)
+
+pub record Finishes (is_list : Bool) (s u : State) : Type 0 where
+  pub errors : u.errors ≡ s.errors
+  pub paragraphs : u.paragraphs ≡ finished is_list s
+
+-- what a tag that nothing says how to show begins with
+abbrev pub tag_front : Attrs → List ℕ → List Item
+tag_front a label = drawn a None (codes "<less>") ++ drawn a None label
+
+abbrev pub space_item : Space → ℕ → Item
+space_item Across cells = Gap cells
+space_item Down cells = Lower cells
+
+-- the length that is the one part
+abbrev pub length_alone : WideValues → Option ℤ
+length_alone none = None
+length_alone (also v none) = option_and_then length_of (value_text v)
+length_alone (also v (also w vs)) = None

@@ -1,0 +1,14 @@
+//! What an evaluated tree shows: paragraphs of items with their attributes, and errors.
+#![tactic(auto)]
+
+mod attributes;
+mod drawing;
+mod plans;
+mod rows;
+mod showing;
+mod units;
+mod words;
+
+pub use attributes::Attrs;
+pub use drawing::{Drawn, ErrorAt, Item, Items, Look, Paragraph};
+pub use units::{after, items};

@@ -1,0 +1,76 @@
+// The texts that the rules make by themselves.
+ghost use Rattle.std.specs.Prelude.{◌≡◌, ◌≤◌, length, IfOk};
+ghost use Rattle.tx_tree.specs.declared.TheConstants.{MOST_TEXT};
+ghost use Rattle.tx_tree.specs.Texts.{IsText};
+ghost use Rattle.tx_items.specs.Words.{word_bytes};
+
+use std::alloc::Global;
+use tx_base::Memory;
+use tx_tree::{Text, TextFault};
+
+// A text that the rules make.
+#[derive(Clone, Copy)]
+pub(crate) enum Word {
+    // what stands before the kind of an error
+    ErrorFront,
+    // what stands before the label of a tag that nothing says how to show
+    TagFront,
+    // what ends both
+    End,
+    // what stands before each part of such a tag
+    Bar,
+    // what stands before the detail of an error
+    Blank,
+    // the kind of the error of a tag whose parts aren't as its rule wants
+    Bad,
+    // the kind of the error of a tag that nothing says how to show
+    UndefinedTag,
+    // the series, the shape, the colour and the mode where nothing else is set
+    Medium,
+    Right,
+    Black,
+    Left,
+}
+
+impl Word {
+    // The bytes of the text.
+    fn bytes(self) -> &'static [u8]
+        ensures { result.now ≡ word_bytes self }
+    {
+        match self {
+            Word::ErrorFront => b"<less>!",
+            Word::TagFront => b"<less>",
+            Word::End => b"<gtr>",
+            Word::Bar => b"|",
+            Word::Blank => b" ",
+            Word::Bad => b"bad",
+            Word::UndefinedTag => b"undefined-tag",
+            Word::Medium => b"medium",
+            Word::Right => b"right",
+            Word::Black => b"black",
+            Word::Left => b"left",
+        }
+    }
+
+    // The text.
+    #[tactic(auto, using(crate::proofs::Wording::words, std::proofs::lemmas::Grind::common_steps))]
+    pub(crate) fn text(self, alloc: Global) -> Result<Text, Memory>
+        ensures { IfOk result (λ t. t ≡ word_bytes self) }
+    {
+        text_of(alloc, self.bytes())
+    }
+}
+
+// The text of these bytes.
+#[tactic(auto, using(crate::proofs::Wording::words, std::proofs::lemmas::Grind::common_steps))]
+pub(crate) fn text_of(alloc: Global, bytes: &[u8]) -> Result<Text, Memory>
+    requires text { IsText bytes.now }
+    requires short { length bytes.now ≤ MOST_TEXT }
+    ensures { IfOk result (λ t. t ≡ bytes.now) }
+{
+    match Text::new(alloc, bytes) {
+        Ok(text) => Ok(text),
+        Err(TextFault::Memory) => Err(Memory),
+        Err(_) => unreachable!(),
+    }
+}
