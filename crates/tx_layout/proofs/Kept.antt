@@ -1,11 +1,11 @@
 -- The lines of a paragraph hold its glyphs and gaps, each once and in order.
-use Rattle.std.proofs.Common.{◌≡◌, ℕ, zero, suc, ◌+◌, ◌-◌, ◌<◌, ◌≤◌, List, [], ◌∷◌, ◌++◌, map, length, take, drop, filter}
+use Rattle.std.proofs.Common.{◌≡◌, ℕ, zero, suc, ◌-◌, ◌<◌, ◌≤◌, List, [], ◌∷◌, ◌++◌, length, drop, filter}
 use Rattle.std.proofs.Common.{replicate, cond, get_or, refl, sym, ap, ap₂, ◌∙◌, subst, arith, Bool, true, false}
-use Rattle.std.proofs.Common.{append_assoc, append-nil}
+use Rattle.std.proofs.Common.{append-nil}
 use Rattle.std.specs.Prelude.{slice_range, All}
 use Rattle.std.specs.List.{flat_map}
 use Rattle.std.proofs.lemmas.Grind.{flat_map-append}
-use Rattle.std.proofs.lemmas.List.{length-map, drop_all}
+use Rattle.std.proofs.lemmas.List.{length-map}
 use Rattle.std.proofs.lemmas.List.Folds.{drop_split}
 use Rattle.std.proofs.lemmas.List.Elements.{All-head, All-tail, filter-append}
 use Rattle.tx_lines.specs.declared.cut.Cut.{Cut}
@@ -18,10 +18,9 @@ use Rattle.tx_layout.specs.declared.pieces.Span.{Span}
 use Rattle.tx_layout.specs.declared.layout.Line.{Line}
 use Rattle.tx_layout.specs.Frames.{least_width}
 use Rattle.tx_layout.specs.Words.{Blank, IsSpan, SpansFrom}
-use Rattle.tx_layout.specs.Segments.{piece_of, no_span, line_of, lines_of, HasWords}
+use Rattle.tx_layout.specs.Segments.{piece_of, no_span, lines_of, HasWords}
 use Rattle.tx_layout.specs.Shapes.{is_cut, empty_line, page_ending, with_last, behind_cut, or_empty, is_ink}
 use Rattle.tx_layout.specs.Shapes.{HasLines, last_segment, then_cut}
-use Rattle.tx_layout.specs.Rows.{Rises}
 use Rattle.tx_layout.proofs.Spans.{rises}
 
 abbrev ink : List Item → List Item

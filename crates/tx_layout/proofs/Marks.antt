@@ -1,5 +1,5 @@
 -- Rows of segments as lines of a paragraph.
-use Rattle.std.proofs.Common.{◌≡◌, ℕ, zero, suc, ◌+◌, ◌-◌, ◌<◌, ◌≤◌, List, [], ◌∷◌, ◌++◌, map, length, take, drop}
+use Rattle.std.proofs.Common.{◌≡◌, ℕ, zero, suc, ◌+◌, ◌-◌, ◌<◌, ◌≤◌, List, [], ◌∷◌, ◌++◌, map, length, drop}
 use Rattle.std.proofs.Common.{replicate, get_or, refl, sym, ap, ap₂, ◌∙◌, subst, arith, Bool, true, false, append_assoc}
 use Rattle.std.proofs.Math.ListN.{set}
 use Rattle.std.proofs.lemmas.List.{take_all, length-drop, length-map, length-take-le, map-append, drop_more}
@@ -18,9 +18,9 @@ use Rattle.tx_layout.specs.declared.segments.Row.{Row}
 use Rattle.tx_layout.specs.declared.layout.Line.{Line}
 use Rattle.tx_layout.specs.Frames.{least_width, frame_of}
 use Rattle.tx_layout.specs.Words.{cells_across, capped}
-use Rattle.tx_layout.specs.Segments.{shift, piece_of, width_at, indent_at, no_span, line_of, lines_of, HasWords}
-use Rattle.tx_layout.specs.Shapes.{is_cut, Cutting, Whole, empty_line, page_ending, with_last, behind_cut_by, behind_cut}
-use Rattle.tx_layout.specs.Shapes.{or_single, or_empty, HasLines, last_segment, then_cut, items_shown, IsShape}
+use Rattle.tx_layout.specs.Segments.{shift, piece_of, width_at, indent_at, no_span, line_of, lines_of}
+use Rattle.tx_layout.specs.Shapes.{is_cut, Cutting, Whole, empty_line, page_ending, with_last, behind_cut}
+use Rattle.tx_layout.specs.Shapes.{or_empty, HasLines, last_segment, then_cut, items_shown, IsShape}
 use Rattle.tx_layout.specs.Rows.{line_at, empty_row, row_ending, rows_behind, rows_or_empty, IsWithin, row_at, rows_at}
 use Rattle.tx_layout.specs.Rows.{Rises, AreRows, OwnLines}
 use Rattle.tx_layout.proofs.Slices.{slice_slice, at_slice}
@@ -228,7 +228,7 @@ shape_more frame items b start end rows rows' own own' cut on there whole cuttin
     ∙ ap (λ l. segment ++ l) (drop_more items end cut there ∙ ap (λ i. i ∷ drop (end + 1) items) (sym is)) in
     let cuts : is_cut cut ≡ true =
     subst Cutting (sym is)
-        (at_slice Cutting items end (end + 1) end cut cutting (omega arith) (omega arith) (omega arith)) in
+    (at_slice Cutting items end (end + 1) end cut cutting (omega arith) (omega arith) (omega arith)) in
     let lines : List Line = behind_cut cut (or_empty b false ours.words) in
     let same : map f' rows' ≡ map f' rows ++ lines =
     ap (map f') (f ∙ ap (λ o. rows ++ o) e) ∙ map-append f' rows (rows_behind cut own)

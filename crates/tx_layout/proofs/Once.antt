@@ -1,10 +1,9 @@
 -- A paragraph has one list of lines.
-use Rattle.std.proofs.Common.{◌≡◌, ℕ, zero, suc, ◌+◌, ◌-◌, ◌<◌, ◌≤◌, ◌⊎◌, inl, inr, min, List, [], ◌∷◌, ◌++◌, map, length}
-use Rattle.std.proofs.Common.{take, drop, get_or, refl, sym, ap, ap₂, ◌∙◌, subst, arith, Bool, true, false}
+use Rattle.std.proofs.Common.{◌≡◌, ℕ, ◌+◌, ◌≤◌, inl, inr, List, [], ◌∷◌, ◌++◌, map}
+use Rattle.std.proofs.Common.{drop, get_or, refl, sym, ap, ap₂, ◌∙◌, subst, arith, Bool, true, false}
 use Rattle.std.specs.Prelude.{slice_range, All}
 use Rattle.std.proofs.lemmas.Bool.{cases_lt}
 use Rattle.std.proofs.lemmas.List.Elements.{All-head, All-tail}
-use Rattle.tx_lines.specs.declared.cut.Cut.{Cut}
 use Rattle.tx_lines.proofs.Filling.{one_way}
 use Rattle.tx_lines.specs.FirstFit.{IsFirstFit}
 use Rattle.tx_items.specs.declared.drawing.Item.{Item}
@@ -13,7 +12,7 @@ use Rattle.tx_layout.specs.declared.measures.Frame.{Frame}
 use Rattle.tx_layout.specs.declared.pieces.Span.{Span}
 use Rattle.tx_layout.specs.declared.layout.Line.{Line}
 use Rattle.tx_layout.specs.Frames.{least_width}
-use Rattle.tx_layout.specs.Words.{is_blank, cells_across, Solid, Blank, IsSpan, SpansFrom}
+use Rattle.tx_layout.specs.Words.{cells_across, Solid, Blank, IsSpan, SpansFrom}
 use Rattle.tx_layout.specs.Segments.{piece_of, width_at, lines_of, HasWords}
 use Rattle.tx_layout.specs.Shapes.{Whole, is_cut, behind_cut, or_empty, HasLines, last_segment, then_cut}
 use Rattle.tx_layout.proofs.Slices.{at_slice, at_drop, cells_le}
@@ -52,7 +51,7 @@ no_shorter least items x y e p q =
                 absurd (no_both (get_or items x.to Break) blank solid)
             | inr wide ↦
                 let more : cells_across (slice_range items x.from (x.to + 1))
-                    ≤ cells_across (slice_range items x.from y.to) =
+                ≤ cells_across (slice_range items x.from y.to) =
                 cells_le items x.from (x.to + 1) y.to (omega arith) in
                 let same : cells_across (slice_range items x.from y.to) ≡ cells_across (slice_range items y.from y.to) =
                 ap (λ i. cells_across (slice_range items i y.to)) e in
@@ -97,7 +96,7 @@ words_once : (frame : Frame) (b : Bool) (items : List Item) (lines others : List
 words_once frame b items lines others h k =
     let spans : h.spans ≡ k.spans = spans_once (least_width frame) items 0 h.spans k.spans h.spelled k.spelled in
     let P : List Span → Type 0 =
-        λ ss. IsFirstFit (map (piece_of items) ss) (width_at frame b) frame.later_width k.cuts in
+    λ ss. IsFirstFit (map (piece_of items) ss) (width_at frame b) frame.later_width k.cuts in
     let cuts : h.cuts ≡ k.cuts =
     one_way (map (piece_of items) h.spans) (width_at frame b) frame.later_width h.cuts k.cuts h.filled
     (subst P (sym spans) k.filled) in

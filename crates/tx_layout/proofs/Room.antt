@@ -1,8 +1,8 @@
 -- No line reaches beyond its page.
-use Rattle.std.proofs.Common.{◌≡◌, ℕ, zero, suc, ◌+◌, ◌-◌, ◌/◌, ◌<◌, ◌≤◌, min, List, [], ◌∷◌, ◌++◌, map, length, take, drop}
+use Rattle.std.proofs.Common.{◌≡◌, ℕ, zero, suc, ◌+◌, ◌-◌, ◌<◌, ◌≤◌, min, List, [], ◌∷◌, map, length, take, drop}
 use Rattle.std.proofs.Common.{replicate, cond, get_or, refl, sym, ap, ap₂, ◌∙◌, subst, arith, Bool, true, false, nat_le, Some}
 use Rattle.std.proofs.Math.ListN.{get_or-map}
-use Rattle.std.specs.Prelude.{slice_range, slice_get, All, sum_by}
+use Rattle.std.specs.Prelude.{slice_range, slice_get, All}
 use Rattle.std.proofs.lemmas.Bool.{leb-true}
 use Rattle.std.proofs.lemmas.List.{length-map, take-take, drop-take, drop-drop}
 use Rattle.std.proofs.lemmas.List.Sums.{sum_by-take-drop}
@@ -10,7 +10,7 @@ use Rattle.std.proofs.lemmas.List.Elements.{All-nil, All-cons, All-head, All-tai
 use Rattle.tx_lines.specs.declared.cut.Cut.{Cut}
 use Rattle.tx_lines.specs.declared.first_fit.Piece.{Piece}
 use Rattle.tx_lines.specs.Cuts.{Partitions}
-use Rattle.tx_lines.specs.FirstFit.{line_cells, width_of, IsFirstFit}
+use Rattle.tx_lines.specs.FirstFit.{line_cells, width_of}
 use Rattle.tx_lines.proofs.Cells.{cells_of_one, cells_of_more}
 use Rattle.tx_lines.proofs.Places.{forward}
 use Rattle.tx_items.specs.declared.drawing.Item.{Item}
@@ -21,9 +21,9 @@ use Rattle.tx_layout.specs.declared.measures.Side.TheVariants.{Left, Center, Rig
 use Rattle.tx_layout.specs.declared.measures.Frame.{Frame}
 use Rattle.tx_layout.specs.declared.pieces.Span.{Span}
 use Rattle.tx_layout.specs.declared.layout.Line.{Line}
-use Rattle.tx_layout.specs.Frames.{whole_cells, moved_by, has_room, left_margin, right_margin, first_indent}
+use Rattle.tx_layout.specs.Frames.{whole_cells, moved_by, has_room, left_margin, right_margin}
 use Rattle.tx_layout.specs.Frames.{frame_of, least_width}
-use Rattle.tx_layout.specs.Words.{item_cells, cells_across, IsSpan, SpansFrom}
+use Rattle.tx_layout.specs.Words.{item_cells, cells_across, SpansFrom}
 use Rattle.tx_layout.specs.Segments.{shift, piece_of, width_at, indent_at, no_span, line_of, lines_of, HasWords}
 use Rattle.tx_layout.specs.Shapes.{empty_line, page_ending, with_last, behind_cut, or_empty, items_shown, IsShape}
 use Rattle.tx_layout.specs.Shapes.{HasLines, last_segment, then_cut}
@@ -77,7 +77,7 @@ run_cells least items ss i (suc n) h lt =
     let rise = rises least items ss h i (i + n) no_span no_span (omega arith) before in
     let le : first.from ≤ last.to = rise.0 in
     let grown : line_cells pieces i (m + 1)
-        ≡ line_cells pieces i m + ((piece_of items next).before + (piece_of items next).cells) =
+    ≡ line_cells pieces i m + ((piece_of items next).before + (piece_of items next).cells) =
     cells_of_more pieces i m (piece_of items no_span) (omega arith) (omega arith)
     ∙ ap (λ (p : Piece). line_cells pieces i m + (p.before + p.cells)) (get_or-map (piece_of items) ss m no_span) in
     let rest : line_cells pieces i m ≡ cells_across (slice_range items first.from next.spaces) =
@@ -187,7 +187,7 @@ lines_room frame b width items lines first later (then_cut b' is segment cut res
     let own : List Line = or_empty b false words in
     All-append (Within width) (behind_cut cut own) others
     (behind_room width cut own
-        (single_room width b false words (segment_room frame b width segment words first later h)))
+    (single_room width b false words (segment_room frame b width segment words first later h)))
     (lines_room frame false width rest others first later more)
 
 -- ---- both widths are within the page

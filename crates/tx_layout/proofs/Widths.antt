@@ -1,7 +1,7 @@
 -- Spaces that no line has room for may be counted as 501.
-use Rattle.std.proofs.Common.{◌≡◌, ℕ, zero, suc, ◌+◌, ◌-◌, ◌<◌, ◌≤◌, min, List, [], ◌∷◌, ◌++◌, map, length, take, drop}
-use Rattle.std.proofs.Common.{refl, sym, ap, ap₂, ◌∙◌, subst, arith, Bool, true, false}
-use Rattle.std.specs.Prelude.{slice_range, slice_get, sum_by, Some, All}
+use Rattle.std.proofs.Common.{◌≡◌, ℕ, zero, suc, ◌+◌, ◌-◌, ◌<◌, ◌≤◌, List, [], ◌∷◌, map, take, drop}
+use Rattle.std.proofs.Common.{refl, sym, ap, ap₂, ◌∙◌, subst, arith, Bool}
+use Rattle.std.specs.Prelude.{slice_range, sum_by, All}
 use Rattle.std.proofs.lemmas.List.{length-map, take-map}
 use Rattle.std.proofs.lemmas.List.Sums.{sum_by-cons}
 use Rattle.std.proofs.lemmas.List.Elements.{All-nil, All-cons, All-head, All-tail}
@@ -16,7 +16,7 @@ use Rattle.tx_layout.specs.declared.measures.Frame.{Frame}
 use Rattle.tx_layout.specs.declared.pieces.Span.{Span}
 use Rattle.tx_layout.specs.declared.segments.Row.{Row}
 use Rattle.tx_layout.specs.Frames.{least_width, IsFrame}
-use Rattle.tx_layout.specs.Words.{capped, item_cells, SpansFrom}
+use Rattle.tx_layout.specs.Words.{capped, SpansFrom}
 use Rattle.tx_layout.specs.Segments.{piece_of, width_at}
 use Rattle.tx_layout.specs.Rows.{capped_piece, Narrow, rows_at, AreRows}
 use Rattle.tx_layout.proofs.Spans.{is_width}

@@ -1,5 +1,5 @@
 -- The lines of the words between two cuts.
-use Rattle.std.specs.Prelude.{◌≡◌, ℕ, ◌+◌, ◌-◌, ◌/◌, Bool, true, false, List, [], ◌∷◌, map, slice_range, get_or}
+use Rattle.std.specs.Prelude.{◌≡◌, ℕ, ◌+◌, ◌-◌, ◌/◌, Bool, false, List, [], ◌∷◌, map, slice_range, get_or}
 use Rattle.std.specs.Prelude.{if◌then◌else◌}
 use Rattle.tx_items.specs.declared.drawing.Item.{Item}
 use Rattle.tx_lines.specs.declared.cut.Cut.{Cut}

@@ -1,4 +1,3 @@
-use Rattle.std.proofs.Common.{true}
 use Rattle.tx_layout.proofs.Room.{shape_room}
 use Rattle.tx_layout.proofs.layout.within_page.Goals as goal
 

@@ -1,4 +1,3 @@
-use Rattle.std.proofs.Common.{true}
 use Rattle.tx_layout.proofs.Paged.{all_lines}
 use Rattle.tx_layout.proofs.paging.lines_kept.Goals as goal
 

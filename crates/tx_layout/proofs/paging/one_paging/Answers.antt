@@ -1,4 +1,3 @@
-use Rattle.std.proofs.Common.{true}
 use Rattle.tx_layout.proofs.Paged.{pages_once}
 use Rattle.tx_layout.proofs.paging.one_paging.Goals as goal
 

@@ -1,4 +1,4 @@
-use Rattle.std.proofs.Common.{◌≡◌, ℕ, ◌+◌, ◌≤◌, arith, rules}
+use Rattle.std.proofs.Common.{◌≤◌, arith, rules}
 use Rattle.tx_layout.specs.Paging.{Unmarked}
 use Rattle.tx_layout.proofs.Slices.{all_push}
 use Rattle.tx_layout.proofs.paging.page_end.Goals as goal

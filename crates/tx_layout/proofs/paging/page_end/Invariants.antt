@@ -1,4 +1,4 @@
-use Rattle.std.proofs.Common.{◌≡◌, ◌+◌, ◌-◌, ◌<◌, ◌≤◌, length}
+use Rattle.std.proofs.Common.{◌+◌, ◌-◌, ◌<◌, ◌≤◌, length}
 use Rattle.std.specs.Prelude.{slice_range, All}
 use Rattle.tx_layout.specs.Paging.{Unmarked}
 use Rattle.tx_layout.proofs.paging.page_end.Given as goal

@@ -1,4 +1,3 @@
-use Rattle.std.proofs.Common.{◌≡◌, ℕ, arith}
 use Rattle.tx_layout.proofs.Paged.{page_more, pages_done}
 use Rattle.tx_layout.proofs.paging.pages.Goals as goal
 

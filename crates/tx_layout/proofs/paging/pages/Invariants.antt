@@ -1,4 +1,4 @@
-use Rattle.std.proofs.Common.{◌≡◌, ◌-◌, ◌≤◌, ◌++◌, List, length}
+use Rattle.std.proofs.Common.{◌-◌, ◌≤◌, ◌++◌, List, length}
 use Rattle.tx_lines.specs.declared.cut.Cut.{Cut}
 use Rattle.tx_layout.specs.Paging.{PagesFrom}
 use Rattle.tx_layout.proofs.paging.pages.Given as goal

@@ -1,4 +1,4 @@
-use Rattle.std.proofs.Common.{◌≡◌, ℕ, ◌∙◌, sym, ap, ◌+◌, inr, arith}
+use Rattle.std.proofs.Common.{sym, inr, arith}
 use Rattle.tx_layout.specs.Words.{Solid}
 use Rattle.tx_layout.proofs.Slices.{cells_push, all_push}
 use Rattle.tx_layout.proofs.pieces.piece_end.Goals as goal
@@ -7,7 +7,7 @@ pub returns-then-more-least-clause-greatest : goal.returns-then-more-least-claus
 returns-then-more-least-clause-greatest c = λ there.
     let some = c.loop-end.invariant.some in
     let grown = cells_push c.args.items.now c.args.from c.loop-end.end c.index-items-end-in-loop-end.result
-        (omega arith) there c.index-items-end-in-loop-end.is in
+    (omega arith) there c.index-items-end-in-loop-end.is in
     let used = c.loop-end.invariant.used in
     let own = c.item_cells.ensures in
     inr (omega arith)
@@ -16,7 +16,7 @@ pub loop-end-preserved : goal.loop-end-preserved
 loop-end-preserved c =
     let some = c.loop-end.invariant.some in
     let grown = cells_push c.args.items.now c.args.from c.loop-end.end c.index-items-end-in-loop-end.result
-        (omega arith) c.loop-end-test.true c.index-items-end-in-loop-end.is in
+    (omega arith) c.loop-end-test.true c.index-items-end-in-loop-end.is in
     let used = c.loop-end.invariant.used in
     let own = c.item_cells.ensures in
     record {

@@ -1,4 +1,3 @@
-use Rattle.std.proofs.Common.{◌≡◌, ℕ, arith}
 use Rattle.tx_layout.proofs.Spans.{span_more, spans_done}
 use Rattle.tx_layout.proofs.pieces.spans_of.Goals as goal
 

@@ -1,4 +1,4 @@
-use Rattle.std.proofs.Common.{◌≡◌, ◌+◌, ◌-◌, ◌<◌, ◌≤◌, ◌++◌, List, length}
+use Rattle.std.proofs.Common.{◌+◌, ◌-◌, ◌<◌, ◌≤◌, ◌++◌, List, length}
 use Rattle.std.specs.Prelude.{slice_range, All}
 use Rattle.tx_layout.specs.Words.{Solid, Blank, SpansFrom}
 use Rattle.tx_layout.specs.declared.pieces.Span.{Span}

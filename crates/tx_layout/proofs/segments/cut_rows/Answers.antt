@@ -1,4 +1,4 @@
-use Rattle.std.proofs.Common.{◌≡◌, ℕ, arith, refl, get_or}
+use Rattle.std.proofs.Common.{get_or}
 use Rattle.std.proofs.lemmas.List.{get_or_default}
 use Rattle.tx_layout.proofs.Spans.{cut_step, row_step}
 use Rattle.tx_layout.proofs.segments.cut_rows.Goals as goal

@@ -1,4 +1,4 @@
-use Rattle.std.proofs.Common.{◌≡◌, ℕ, arith, length, ap, ◌∙◌, map, sym}
+use Rattle.std.proofs.Common.{arith, length, ap, ◌∙◌}
 use Rattle.std.proofs.lemmas.List.{length-map}
 use Rattle.std.proofs.lemmas.Result.{IfOk-weaker}
 use Rattle.tx_layout.specs.Segments.{piece_of, width_at}

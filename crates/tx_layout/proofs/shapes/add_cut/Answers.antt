@@ -1,4 +1,4 @@
-use Rattle.std.proofs.Common.{◌≡◌, ℕ, arith, rules}
+use Rattle.std.proofs.Common.{rules}
 use Rattle.tx_layout.proofs.Marks.{mark_last}
 use Rattle.tx_layout.proofs.shapes.add_cut.Goals as goal
 

@@ -1,4 +1,4 @@
-use Rattle.std.proofs.Common.{◌≡◌, ◌-◌, ◌≤◌, length}
+use Rattle.std.proofs.Common.{◌-◌, ◌≤◌, length}
 use Rattle.std.specs.Prelude.{slice_range, All}
 use Rattle.tx_layout.specs.Shapes.{Whole}
 use Rattle.tx_layout.proofs.shapes.cut_place.Given as goal

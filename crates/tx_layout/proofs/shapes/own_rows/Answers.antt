@@ -1,4 +1,3 @@
-use Rattle.std.proofs.Common.{◌≡◌, ℕ, arith, rules}
 use Rattle.tx_layout.proofs.Marks.{own_lines, own_within}
 use Rattle.tx_layout.proofs.shapes.own_rows.Goals as goal
 

@@ -1,4 +1,4 @@
-use Rattle.std.proofs.Common.{◌≡◌, ℕ, arith, rules, length}
+use Rattle.std.proofs.Common.{length}
 use Rattle.tx_layout.proofs.Marks.{shape_more, shape_done, within_more}
 use Rattle.tx_layout.proofs.shapes.shape.Goals as goal
 

@@ -1,4 +1,4 @@
-use Rattle.std.proofs.Common.{◌≡◌, ◌+◌, ◌-◌, ◌<◌, ◌≤◌, ◌++◌, List, length, drop, map, true}
+use Rattle.std.proofs.Common.{◌+◌, ◌-◌, ◌<◌, ◌≤◌, ◌++◌, List, length, drop, map, true}
 use Rattle.std.specs.Prelude.{slice_range, All}
 use Rattle.tx_layout.specs.Shapes.{Whole, Cutting, HasLines}
 use Rattle.tx_layout.specs.Rows.{line_at, IsWithin}
