@@ -1,0 +1,8 @@
+mod Slices
+mod Spans
+mod Widths
+mod Marks
+mod Once
+mod Kept
+mod Room
+mod Paged

@@ -1,0 +1,14 @@
+use Rattle.std.proofs.Common.{◌-◌, ◌≤◌, length}
+use Rattle.std.specs.Prelude.{slice_range, All}
+use Rattle.tx_layout.specs.Shapes.{Whole}
+use Rattle.tx_layout.proofs.shapes.cut_place.Given as goal
+
+abbrev pub invariant-loop-end : goal.invariant-loop-end
+invariant-loop-end l = record {
+  onward : l.from ≤ l.end;
+  within : l.end ≤ length l.items;
+  whole : All Whole (slice_range l.items l.from l.end);
+}
+
+abbrev pub decreases-loop-end : goal.decreases-loop-end
+decreases-loop-end l = length l.items - l.end

@@ -1,0 +1,6 @@
+pub mod Frames
+pub mod Words
+pub mod Segments
+pub mod Shapes
+pub mod Rows
+pub mod Paging

@@ -1,0 +1,58 @@
+-- The words of a segment, cut into pieces no wider than the least width, by places.
+use Rattle.std.specs.Prelude.{◌≡◌, ℕ, ◌+◌, ◌<◌, ◌≤◌, ◌⊎◌, min, Bool, true, false, List, [], ◌∷◌, length, drop}
+use Rattle.std.specs.Prelude.{All, sum_by, slice_range}
+use Rattle.tx_items.specs.declared.drawing.Item.{Item}
+use Rattle.tx_items.specs.declared.drawing.Item.TheVariants.{Glyph, Space, Gap, Break, PageEnd, Down}
+use Rattle.tx_layout.specs.declared.pieces.Span.{Span}
+
+-- a gap counts as at most the least width
+abbrev pub capped : ℕ → Item → Item
+capped least (Glyph d) = Glyph d
+capped least (Space d) = Space d
+capped least (Gap n) = Gap (min n least)
+capped least Break = Break
+capped least PageEnd = PageEnd
+capped least (Down n) = Down n
+
+-- the cells that an item takes on its line
+abbrev pub item_cells : Item → ℕ
+item_cells (Glyph d) = d.cluster.cells
+item_cells (Space d) = d.cluster.cells
+item_cells (Gap n) = n
+item_cells Break = 0
+item_cells PageEnd = 0
+item_cells (Down n) = 0
+
+abbrev pub cells_across : List Item → ℕ
+cells_across items = sum_by item_cells items
+
+abbrev pub is_blank : Item → Bool
+is_blank (Glyph d) = false
+is_blank (Space d) = true
+is_blank (Gap n) = false
+is_blank Break = false
+is_blank PageEnd = false
+is_blank (Down n) = false
+
+abbrev pub Blank : Item → Type 0
+Blank item = is_blank item ≡ true
+
+abbrev pub Solid : Item → Type 0
+Solid item = is_blank item ≡ false
+
+-- spaces, and a piece of a word behind them, which ends at a space, at the end of the items, or where one item more
+-- would make it too wide
+pub record IsSpan (least : ℕ) (items : List Item) (s : Span) : Type 0 where
+  pub onward : s.spaces ≤ s.from
+  pub some : s.from < s.to
+  pub within : s.to ≤ length items
+  pub blank : All Blank (slice_range items s.spaces s.from)
+  pub solid : All Solid (slice_range items s.from s.to)
+  pub narrow : cells_across (slice_range items s.from s.to) ≤ least
+  pub greatest : s.to < length items →
+      All Blank (slice_range items s.to (s.to + 1)) ⊎ (least < cells_across (slice_range items s.from (s.to + 1)))
+
+-- from a place on the items are these pieces, one behind the other, and spaces
+abbrev pub SpansFrom : ℕ → List Item → ℕ → List Span → Type 0
+SpansFrom least items at [] = All Blank (drop at items)
+SpansFrom least items at (s ∷ ss) = (s.spaces ≡ at) × IsSpan least items s × SpansFrom least items s.to ss

@@ -1,0 +1,148 @@
+// The lines of a paragraph.
+ghost use Rattle.std.specs.Prelude.{◌≡◌, ℕ, ◌≤◌, ◌<◌, ◌+◌, ◌^◌, List, map, length, All, IfOk, filter};
+ghost use Rattle.std.specs.List.{flat_map};
+ghost use Rattle.tx_items.specs.declared.drawing.Item.{Item};
+ghost use Rattle.tx_items.specs.declared.drawing.Paragraph.{Paragraph};
+ghost use Rattle.tx_items.specs.Narrow.{IsNarrow};
+ghost use Rattle.tx_layout.specs.declared.layout.Line.{Line};
+ghost use Rattle.tx_layout.specs.Words.{capped, cells_across};
+ghost use Rattle.tx_layout.specs.Shapes.{items_shown, IsShape, is_ink};
+ghost use Rattle.tx_layout.specs.Rows.{IsWithin, line_at};
+
+use crate::measures::frame_of;
+use crate::segments::{Row, least_width};
+use crate::shapes::shape;
+use std::alloc::Global;
+use std::marker::Model;
+use std::rc::Rc;
+use std::sync::ledger::Ledger;
+use tx_base::{Memory, Steps};
+use tx_items::{Item, Paragraph};
+
+/// The items on a line. Contracts see their list. All lines of a paragraph share its items.
+#[derive(Drop)]
+pub struct LineItems {
+    all: Rc<Vec<Item>>,
+    from: u32,
+    to: u32,
+}
+
+impl Model for LineItems {
+    ghost use Rattle.std.specs.Prelude.{List, ◌≤◌, length, slice_range};
+    ghost use Rattle.tx_items.specs.declared.drawing.Item.{Item};
+
+    ghost Value = { List Item };
+
+    ghost view = { λ l. slice_range l.all.value.items l.from l.to };
+
+    ghost invariant = { λ l. (l.from ≤ l.to) × (l.to ≤ length l.all.value.items) };
+}
+
+impl LineItems {
+    /// The items.
+    pub fn all(&self) -> &[Item]
+        ensures { result.now ≡ self.now }
+    {
+        &self.all[self.from as usize..self.to as usize]
+    }
+}
+
+/// A line of a paragraph.
+#[derive(Drop)]
+pub struct Line {
+    /// The free cells before it.
+    pub indent: u32,
+    /// What stands on it, a gap with the cells that it takes here.
+    pub items: LineItems,
+    /// Whether it is the last of its page.
+    pub page_end: bool,
+}
+
+// The item as it stands on a line of a paragraph with this least width.
+fn item_shown(item: &Item, least: u32) -> Result<Item, Memory>
+    ensures { IfOk result (λ i. i ≡ capped least item.now) }
+{
+    match item {
+        Item::Glyph(drawn) => Ok(Item::Glyph(drawn.copy()?)),
+        Item::Space(drawn) => Ok(Item::Space(drawn.copy()?)),
+        Item::Gap(cells) => Ok(Item::Gap((*cells).min(least))),
+        Item::Break => Ok(Item::Break),
+        Item::PageEnd => Ok(Item::PageEnd),
+        Item::Down(count) => Ok(Item::Down(*count)),
+    }
+}
+
+// The items as they stand on lines.
+fn items_shown(alloc: Global, items: &[Item], least: u32) -> Result<Vec<Item>, Memory>
+    ensures { IfOk result (λ shown. shown.items ≡ map (capped least) items.now) }
+{
+    let mut shown = Vec::new(alloc);
+    for item in items {
+        shown.push(item_shown(item, least)?)?;
+    }
+    shown.shrink_to_fit();
+    Ok(shown)
+}
+
+// Lines that share their items.
+fn share_out(alloc: Global, items: &Rc<Vec<Item>>, rows: &[Row]) -> Result<Vec<Line>, Memory>
+    requires { All (IsWithin (length items.now.value.items)) rows.now }
+    ensures { IfOk result (λ lines. lines.items ≡ map (line_at items.now.value.items) rows.now) }
+{
+    let mut lines = Vec::new(alloc);
+    for row in rows {
+        lines.push(Line {
+            indent: row.indent,
+            items: LineItems {
+                all: items.clone()?,
+                from: row.from,
+                to: row.to,
+            },
+            page_end: row.page_end,
+        })?;
+    }
+    Ok(lines)
+}
+
+/// The lines of a paragraph on a page of this width, from 20 to 500 cells. The paragraph has fewer than 2^32 items, and
+/// no cluster has more than 2 cells. The steps rise by the number of its items. The one error is want of memory.
+pub fn lines<L: Ledger>(
+    alloc: Global,
+    paragraph: &Paragraph,
+    width: u32,
+    steps: &mut Steps<L>,
+) -> Result<Vec<Line>, Memory>
+    requires least_width { 20 ≤ width }
+    requires most_width { width ≤ 500 }
+    requires few { length paragraph.now.items < 2 ^ 32 }
+    requires narrow { All IsNarrow paragraph.now.items }
+    ensures shape { IfOk result (λ lines. IsShape paragraph.now width lines.items) }
+    ensures steps { steps.new ≡ steps.old + length paragraph.now.items }
+{
+    let items = paragraph.items.all();
+    steps.add(items.len() as u64);
+    let frame = frame_of(paragraph, width);
+    let shown = items_shown(alloc, items, least_width(frame))?;
+    let rows = shape(alloc, frame, &shown)?;
+    share_out(alloc, &Rc::new(alloc, shown)?, &rows)
+}
+
+/// A law: a paragraph has at most one list of lines on a page of given width. That there is one is the contract of
+/// [`lines`].
+pub fn one_shape()
+    ensures { (p : Paragraph) (width : ℕ) (lines others : List Line) →
+        IsShape p width lines → IsShape p width others → lines ≡ others }
+{}
+
+/// A law: the lines of a paragraph hold each glyph and each gap of it once and in order, a gap with the cells that it
+/// takes on a line.
+pub fn items_kept()
+    ensures { (p : Paragraph) (width : ℕ) (lines : List Line) → IsShape p width lines →
+        filter is_ink (flat_map (λ line. line.items) lines) ≡ filter is_ink (items_shown p width) }
+{}
+
+/// A law: no line of a paragraph reaches beyond its page.
+pub fn within_page()
+    ensures { (p : Paragraph) (width : ℕ) (lines : List Line) → IsShape p width lines →
+        All (λ line. line.indent + cells_across line.items ≤ width) lines }
+{}
