@@ -3,7 +3,7 @@
 // A line is its indent, a colon, what stands on it, a star where it is the last of its page, and a stroke. A gap stands
 // in pointed brackets. A page is its first line and the one behind its last.
 
-ghost use Rattle.std.specs.Prelude.{◌≤◌, All, MatchOption};
+ghost use Rattle.std.specs.Prelude.{◌≤◌, All};
 ghost use Rattle.tx_items.specs.Narrow.{IsNarrow};
 
 use std::alloc::Global;
@@ -41,17 +41,26 @@ fn push_line(alloc: Global, text: &mut String, line: &Line) -> Option<()> {
     text.push('/').ok()
 }
 
-// The first paragraph of the value that the words spell in the Scheme syntax.
-fn paragraph<L: Ledger>(alloc: Global, words: &[u8], steps: &mut Steps<L>) -> Option<Paragraph>
-    ensures { MatchOption result (Unit {0}) (λ p. All IsNarrow p.items) }
+// The lines of the first paragraph, on a page of this width.
+fn first_lines<L: Ledger>(
+    alloc: Global,
+    paragraphs: &[Paragraph],
+    width: u32,
+    steps: &mut Steps<L>,
+) -> Option<Vec<Line>>
+    requires narrow { All (λ p. All IsNarrow p.items) paragraphs.now }
+    requires least { 20 ≤ width }
+    requires most { width ≤ 500 }
 {
-    let tree = tx_scm::read(alloc, words, steps).ok()?;
-    let value = Value::whole(alloc, &tree, &Some(Ip::root())).ok()?;
-    let (mut paragraphs, _) = items(alloc, &value, &Attrs::initial(alloc).ok()?).ok()?;
-    paragraphs.pop()
+    for paragraph in paragraphs {
+        if paragraph.items.all().len() < 1_000_000 {
+            return lines(alloc, paragraph, width, steps).ok();
+        }
+    }
+    None
 }
 
-// Its lines on a page of this width.
+// The lines of the value that the words spell in the Scheme syntax.
 fn lines_of<L: Ledger>(
     alloc: Global,
     words: &[u8],
@@ -61,11 +70,13 @@ fn lines_of<L: Ledger>(
     requires least { 20 ≤ width }
     requires most { width ≤ 500 }
 {
-    let paragraph = paragraph(alloc, words, steps)?;
-    if paragraph.items.all().len() >= 1_000_000 {
-        return None;
+    let tree = tx_scm::read(alloc, words, steps).ok()?;
+    let value = Value::whole(alloc, &tree, &Some(Ip::root())).ok()?;
+    let attrs = Attrs::initial(alloc).ok()?;
+    match items(alloc, &value, &attrs) {
+        Ok((paragraphs, _)) => first_lines(alloc, &paragraphs, width, steps),
+        Err(_) => None,
     }
-    lines(alloc, &paragraph, width, steps).ok()
 }
 
 fn lines_text(alloc: Global, lines: &[Line]) -> Option<String> {
