@@ -4,8 +4,12 @@
 #[cfg(test)]
 mod cases;
 #[cfg(test)]
+mod found;
+#[cfg(test)]
 mod heights;
 #[cfg(test)]
 mod rows;
 #[cfg(test)]
 mod traces;
+#[cfg(test)]
+mod worked;
