@@ -8,8 +8,8 @@ use std::alloc::Global;
 use tx_base::Memory;
 use tx_tree::{Path, Tree};
 
-// Whether the tree is a node with this label.
-fn is_labelled(t: &Tree, label: &[u8]) -> bool
+/// Whether the tree is a node with this label.
+pub fn is_labelled(t: &Tree, label: &[u8]) -> bool
     ensures { result ≡ is_labelled label.now t.now }
 {
     match t.label() {

@@ -10,6 +10,6 @@ mod bodies;
 mod buffer;
 mod forms;
 
-pub use bodies::body;
+pub use bodies::{body, is_labelled};
 pub use buffer::{Buffer, Name, formed_law, number_of};
 pub use forms::{Form, form_of};

@@ -4,3 +4,4 @@ pub mod Undoing
 pub mod Capping
 pub mod Scopes
 pub mod Overlays
+pub mod Listing

@@ -1,5 +1,8 @@
 // A list of names with what they have, found by hashing.
-ghost use Rattle.std.specs.Prelude.{◌≡◌, [], MatchOption, OnOk, OnErr, None, Some, is_some, IsSome};
+ghost use Rattle.std.specs.Prelude.{◌≡◌, [], MatchOption, OnOk, OnErr, IfOk, None, Some, is_some, IsSome};
+ghost use Rattle.std.specs.List.{IsDistinct};
+ghost use Rattle.std.specs.Map.{keys_of};
+ghost use Rattle.std.specs.Str.{bytes_eq};
 ghost use Rattle.tx_env.specs.Pairs.{find, listed, put};
 
 use indexmap::IndexMap;
@@ -73,5 +76,18 @@ impl Pairs {
             Ok(_) => (),
             Err(_) => unreachable!(),
         }
+    }
+
+    /// All pairs, each name once, in the order in which the names first came.
+    #[tactic(auto, using(crate::proofs::Listing::listed_next))]
+    pub fn into_vec(self, alloc: Global) -> Result<Vec<(Text, Option<Tree>)>, Memory>
+        ensures all { IfOk result (λ v. v.items ≡ self) }
+        ensures once { IsDistinct bytes_eq (keys_of self) }
+    {
+        let mut pairs = Vec::new(alloc);
+        for pair in self.map {
+            pairs.push(pair)?;
+        }
+        Ok(pairs)
     }
 }

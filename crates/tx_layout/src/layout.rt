@@ -45,6 +45,17 @@ impl LineItems {
     {
         &self.all[self.from as usize..self.to as usize]
     }
+
+    // The same items, shared.
+    fn share(&self) -> Result<LineItems, Memory>
+        ensures { IfOk result (λ l. l ≡ self.now) }
+    {
+        Ok(LineItems {
+            all: self.all.clone()?,
+            from: self.from,
+            to: self.to,
+        })
+    }
 }
 
 /// A line of a paragraph.
@@ -56,6 +67,19 @@ pub struct Line {
     pub items: LineItems,
     /// Whether it is the last of its page.
     pub page_end: bool,
+}
+
+impl Line {
+    /// The same line, which shares its items.
+    pub fn share(&self) -> Result<Line, Memory>
+        ensures { IfOk result (λ l. l ≡ self.now) }
+    {
+        Ok(Line {
+            indent: self.indent,
+            items: self.items.share()?,
+            page_end: self.page_end,
+        })
+    }
 }
 
 // The item as it stands on a line of a paragraph with this least width.

@@ -11,10 +11,9 @@ use Rattle.tx_scm.specs.declared.spots.Spot.{Spot}
 use Rattle.tx_scm.specs.declared.spots.Spot.TheVariants.{Between, Opened, Naming, Escaping, Whole}
 use Rattle.tx_scm.specs.Kinds.{kind_of}
 use Rattle.tx_scm.specs.Machine as machine
-use Rattle.tx_scm.specs.Machine.{Open, State, between, opened, naming, texting, escaping, whole, failed, put, node_of, named, step_between, step_opened, step_naming, step_texting, step_escaping, step_whole, run}
+use Rattle.tx_scm.specs.Machine.{Open, State, wide, between, opened, naming, texting, escaping, whole, failed, put, node_of, named, step_between, step_opened, step_naming, step_texting, step_escaping, step_whole, run}
 use Rattle.tx_scm.specs.Spots.{after_tree, closed, only_if, between_step, opened_step, naming_step, in_text, lengthened, texting_step, escaping_step, whole_step, step, spots}
 use Rattle.tx_scm.proofs.ByteKinds.{is_quote_kind, is_backslash_kind}
-use Rattle.tx_scm.proofs.Wide.{wide}
 
 -- in an escape, where it can be ended
 abbrev pub in_escape : Option TextPlace → ℕ → Option Spot

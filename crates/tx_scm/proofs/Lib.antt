@@ -15,6 +15,7 @@ pub mod Recognised
 pub mod Places
 pub mod Measured
 pub mod Wide
+pub mod Making
 pub mod Following
 pub mod Fronts
 pub mod OneFault

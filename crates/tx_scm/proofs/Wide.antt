@@ -13,14 +13,11 @@ use Rattle.tx_scm.specs.declared.kinds.Kind.TheVariants.{Opens, Closes, Quote, B
 use Rattle.tx_scm.specs.Kinds.{kind_of}
 use Rattle.tx_scm.specs.Spelling.{escaped, SpellsTrees, Spells}
 use Rattle.tx_scm.specs.Faults.{AreOpen, IsLabelOpen, IsStringOpen, IsEscapeOpen}
-use Rattle.tx_scm.specs.Machine.{Open, State, Bounds, Limits, between, opened, naming, texting, escaping, whole, failed, put, only_if, within, node_of, closed, named, lengthened, step_between, step_opened, step_naming, step_texting, step_escaping, step, run}
+use Rattle.tx_scm.specs.Machine.{Open, State, Bounds, Limits, between, opened, naming, texting, escaping, whole, failed, put, only_if, within, wide, node_of, closed, named, lengthened, step_between, step_opened, step_naming, step_texting, step_escaping, step, run}
 use Rattle.tx_scm.proofs.ByteKinds.{letter_kind, backslash_kind, escaped_as}
 use Rattle.tx_scm.proofs.Bounded.{AreBelow}
 use Rattle.tx_scm.proofs.Complete.{open_of, NoLetter, NoLetter-white, NoLetter-open, NoLetter-quote, NoLetter-trees, white_run, white_run_opened, label_run, name_run, text_byte, open_step, quote_step, complete_trees, whole_run}
 use Rattle.tx_scm.proofs.Sound.{OpensTook}
-
-abbrev pub wide : Bounds
-wide = record { room = λ opens. true; longer = λ text. true; keeps = λ t. true }
 
 -- ---- a machine with bounds does the same, or fails
 
@@ -68,7 +65,7 @@ module _ (bounds : Bounds) where
   escaping_agrees Backslash b text opens = lengthened_agrees text opens b
   escaping_agrees _ b text opens = inr refl
 
-  step_agrees : (s : State) (k : Kind) (b : ℕ) → (step bounds s k b ≡ failed) ⊎ (step bounds s k b ≡ step wide s k b)
+  pub step_agrees : (s : State) (k : Kind) (b : ℕ) → (step bounds s k b ≡ failed) ⊎ (step bounds s k b ≡ step wide s k b)
   step_agrees (between opens) k b = between_agrees k opens
   step_agrees (naming label opens) k b = naming_agrees k b label opens
   step_agrees (texting text opens) k b = texting_agrees k b text opens

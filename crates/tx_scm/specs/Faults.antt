@@ -1,6 +1,6 @@
 -- Why bytes spell no tree within the limits in the Scheme syntax: what stands open at the end of the first bytes, and
 -- the table by which the next byte is a fault.
-use Rattle.std.specs.Prelude.{◌≡◌, ℕ, zero, suc, ◌≤◌, Bool, true, false, ◌==◌}
+use Rattle.std.specs.Prelude.{◌≡◌, ℕ, zero, suc, ◌≤◌, Bool, false, ◌==◌}
 use Rattle.std.specs.Prelude.{◌||◌, List, [], ◌∷◌, ◌++◌, length, take, get_or}
 use Rattle.std.specs.List.{flat_map}
 use Rattle.tx_tree.specs.declared.faults.ReadFault.{ReadFault}

@@ -54,6 +54,10 @@ abbrev pub within : Limits → Bounds
 within limits =
     record { room = has_room limits; longer = λ text. nat_lt (length text) limits.text; keeps = keeps limits }
 
+-- everything is let in
+abbrev pub wide : Bounds
+wide = record { room = λ opens. true; longer = λ text. true; keeps = λ t. true }
+
 abbrev pub only_if : Bool → State → State
 only_if true s = s
 only_if false s = failed
@@ -132,3 +136,7 @@ completes bounds s bytes = tree_in (run bounds s bytes)
 -- the same within the limits of trees
 unfoldable pub reads : State → List ℕ → Option WideTree
 reads s bytes = completes (within the_limits) s bytes
+
+-- where the bytes lead, whatever the limits
+unfoldable pub leads : State → List ℕ → State
+leads s bytes = run wide s bytes

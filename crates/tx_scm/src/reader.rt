@@ -9,7 +9,7 @@ ghost use Rattle.tx_scm.specs.Faults.{IsSchemeFault};
 ghost use Rattle.tx_scm.specs.Kinds.{kind_of};
 ghost use Rattle.tx_scm.specs.Machine.{Open, within, the_limits, has_room, keeps, put, between};
 ghost use Rattle.tx_scm.specs.Machine.{texting, step_between, step_opened, step_naming, step_texting};
-ghost use Rattle.tx_scm.specs.Machine.{step_escaping, step_whole, lengthened, step, tree_in, reads, node_of};
+ghost use Rattle.tx_scm.specs.Machine.{step_escaping, step_whole, lengthened, step, tree_in, reads, leads, node_of};
 ghost use Rattle.tx_scm.specs.Sizes.{grown_by, GrowsBy};
 ghost use Rattle.tx_scm.specs.States.{open_of, opens_of, state_of, next_of, made_by, made_in, CountsOn, read_on};
 
@@ -78,7 +78,7 @@ fn step_between<L: Ledger>(
     ensures next { IfOk result (λ next.
         next_of next ≡ step_between (within the_limits) (opens_of brackets.items) kind) }
     ensures counted { IfOk result (λ next. OnSome next (steps.new ≡ steps.old + made_by kind)) }
-    ensures bounded { steps.new ≤ steps.old + 1 }
+    ensures made { steps.new ≤ steps.old + made_by kind }
     ensures rises { steps.old ≤ steps.new }
 {
     match kind {
@@ -138,7 +138,7 @@ fn step_naming<L: Ledger>(
     ensures next { IfOk result (λ next.
         next_of next ≡ step_naming (within the_limits) label (opens_of brackets.items) kind byte) }
     ensures counted { IfOk result (λ next. OnSome next (steps.new ≡ steps.old + made_by kind)) }
-    ensures bounded { steps.new ≤ steps.old + 1 }
+    ensures made { steps.new ≤ steps.old + made_by kind }
     ensures rises { steps.old ≤ steps.new }
 {
     match kind {
@@ -250,7 +250,7 @@ fn step<L: Ledger>(
     ensures next { IfOk result (λ next. next_of next ≡ step (within the_limits) (state_of state) (kind_of byte) byte) }
     ensures counted { IfOk result (λ next.
         OnSome next (steps.new ≡ steps.old + made_in (state_of state) (kind_of byte))) }
-    ensures bounded { steps.new ≤ steps.old + 1 }
+    ensures made { steps.new ≤ steps.old + made_in (state_of state) kind }
     ensures rises { steps.old ≤ steps.new }
 {
     match state {
@@ -277,6 +277,8 @@ fn text_run(
     ensures longer { IfOk result (λ found. IfSome found (λ end. length text.new + at ≡ length text.old + end)) }
     ensures same { (opens : List Open) → IfOk result (λ found. reads (texting text.old opens) (drop at bytes.now)
         ≡ read_on found (λ end. reads (texting text.new opens) (drop end bytes.now))) }
+    ensures led { (opens : List Open) → IfOk result (λ found. IfSome found (λ end.
+        leads (texting text.old opens) (drop at bytes.now) ≡ leads (texting text.new opens) (drop end bytes.now))) }
 {
     for i in at..last {
         let byte = bytes[i];
@@ -307,11 +309,13 @@ fn advance<L: Ledger>(
     ensures short { IfOk result (λ found. IfSome found (λ next. next.1 ≤ at + 1 + room)) }
     ensures same { IfOk result (λ found. reads (state_of state) (drop at bytes.now)
         ≡ read_on found (λ next. reads (state_of next.0) (drop next.1 bytes.now))) }
+    ensures led { IfOk result (λ found. IfSome found (λ next.
+        leads (state_of state) (drop at bytes.now) ≡ leads (state_of next.0) (drop next.1 bytes.now))) }
     ensures counted { IfOk result (λ found.
         IfSome found (λ next. CountsOn (state_of state) steps.old (state_of next.0) steps.new)) }
     ensures sized { IfOk result (λ found. IfSome found (λ next.
         GrowsBy (grown_by (state_of state) kind + (next.1 - (at + 1))) (state_of state) (state_of next.0))) }
-    ensures bounded { steps.new ≤ steps.old + 1 }
+    ensures made { steps.new ≤ steps.old + made_in (state_of state) kind }
     ensures rises { steps.old ≤ steps.new }
 {
     match step(alloc, state, kind, bytes[at], steps)? {
@@ -346,6 +350,7 @@ fn read_all<L: Ledger>(
 ) -> Result<Option<Tree>, Memory>
     ensures found { IfOk result (λ found. found ≡ reads (between []) bytes.now) }
     ensures counted { IfOk result (λ found. IfSome found (λ t. steps.new ≤ steps.old + nodes_of t)) }
+    ensures made { (t : WideTree) → Spells bytes.now t → steps.new ≤ steps.old + nodes_of t }
     ensures bounded { steps.new ≤ steps.old + length bytes.now }
     ensures rises { steps.old ≤ steps.new }
 {
@@ -387,14 +392,15 @@ fn fault(alloc: Global, bytes: &[u8]) -> Result<ReadFault, Memory>
 
 /// The tree that the bytes spell.
 ///
-/// The steps rise by at most the bytes, and where it answers a tree by at most the nodes of the tree that aren't
-/// leaves. A fault, but for `Memory`, is the one that the bytes have, by the table of `specs/Faults.antt`; it comes
-/// exactly where they spell no tree within the limits.
+/// Whatever it answers, the steps rise by at most the bytes, and where the bytes spell a tree by at most the nodes of
+/// the tree that aren't leaves, also where the tree is past the limits. A fault, but for `Memory`, is the one that the
+/// bytes have, by the table of `specs/Faults.antt`; it comes exactly where they spell no tree within the limits.
 pub fn read<L: Ledger>(alloc: Global, bytes: &[u8], steps: &mut Steps<L>) -> Result<Tree, ReadFault>
     ensures found { IfOk result (λ t. Spells bytes.now t) }
     ensures within { IfOk result (λ t. IsWithinLimits t) }
     ensures refused { IfErr result (λ fault. fault ≢ NoMemory → IsSchemeFault bytes.now fault) }
     ensures counted { IfOk result (λ t. steps.new ≤ steps.old + nodes_of t) }
+    ensures made { (t : WideTree) → Spells bytes.now t → steps.new ≤ steps.old + nodes_of t }
     ensures bounded { steps.new ≤ steps.old + length bytes.now }
     ensures rises { steps.old ≤ steps.new }
 {

@@ -1,13 +1,14 @@
 -- The base style by texts that spell its trees.
 use Rattle.std.proofs.Common.{◌≡◌, ℕ, zero, suc, ◌+◌, ◌<◌, ◌≤◌, Bool, true, List, [], ◌∷◌, ◌++◌, length, map, take, get_or}
-use Rattle.std.proofs.Common.{refl, ap, arith, ◌∙◌}
+use Rattle.std.proofs.Common.{refl, sym, ap, arith, drop, ◌∙◌}
 use Rattle.std.specs.Prelude.{◌&&◌, nat_le, IfOk}
 use Rattle.std.proofs.Common.{Result, Ok, Err, Vec, Global}
 use Rattle.tx_base.specs.declared.out_of_memory.Memory.{Memory}
 use Rattle.std.specs.List.{list_all}
 use Rattle.std.proofs.lemmas.Bool.{leb-true, and_parts}
-use Rattle.std.proofs.lemmas.List.{take_more, map-append}
+use Rattle.std.proofs.lemmas.List.{take_more, map-append, take-append-drop}
 use Rattle.tx_scm.specs.Canonical.{scheme_text}
+use Rattle.tx_scm.specs.Spelling.{Spells}
 use Rattle.tx_scm.proofs.Spelled.{text_alone}
 use Rattle.tx_tree.specs.Labels.{is_label_byte}
 use Rattle.tx_tree.specs.Limits.{IsWellFormed, AreWellFormed, IsWithinLimits}
@@ -97,6 +98,18 @@ trees_sound = refl
 pub base_spelled : AreSpelled (map scheme_text base_trees)
 base_spelled = all_spelled base_trees trees_sound
 
+-- the base style's own units are of these texts
+all_of_texts : (ts : List WideTree) → list_all is_sound ts ≡ true → AreOfTexts (map scheme_text ts) (map (unit Base) ts)
+all_of_texts [] e = tt
+all_of_texts (t ∷ ts) e =
+    let p = and_parts (is_sound t) (list_all is_sound ts) e in
+    let q = and_parts (is_formed t) (is_within t) p.0 in
+    (record { spelled = (text_alone t (formed_by t q.0)).spelled; is = refl }, all_of_texts ts p.1)
+
+pub base_texts : AreOfTexts (map scheme_text base_trees) base_units
+unfolding base_units base_style
+base_texts = all_of_texts base_trees trees_sound
+
 pub base_same : (us : List DocUnit) → AreOfTexts (map scheme_text base_trees) us → us ≡ base_units
 unfolding base_units base_style
 base_same us h = all_same base_trees us trees_sound h
@@ -122,13 +135,36 @@ texts_next f xs i d us vs u lt h k more =
     = ap (map f) (take_more xs i d lt) ∙ map-append f (take i xs) (get_or xs i d ∷ []) in
     rw (texts, more) (more_of_texts (map f (take i xs)) us (f (get_or xs i d)) u h k)
 
-pub units_counted : (us vs : List DocUnit) (u : DocUnit) (from s n : ℕ) → u ≡ unit Base u.tagged.tree → vs ≡ us ++ u ∷ []
-    → s ≤ from + nodes_made us → n ≤ s + nodes_of u.tagged.tree → n ≤ from + nodes_made vs
-units_counted us vs u from s n is more so step =
+-- the unit of a text among texts
+unit_at : {X : Type 0} (f : X → List ℕ) (xs : List X) (i : ℕ) (d : X) (us : List DocUnit) → i < length xs → AreOfTexts (map f xs) us
+    → (u : DocUnit) × IsOfText (f (get_or xs i d)) u × (take (suc i) us ≡ take i us ++ u ∷ [])
+unit_at f [] i d us lt h = absurd (omega arith)
+unit_at f (x ∷ xs) i d [] lt h = absurd h
+unit_at f (x ∷ xs) zero d (u ∷ us) lt h = (u, h.0, refl)
+unit_at {X} f (x ∷ xs) (suc i) d (u ∷ us) lt h =
+    let r = unit_at {X = X} f xs i d us (omega arith) h.1 in
+    (r.0, r.1, ap (λ vs. u ∷ vs) r.2)
+
+-- the nodes of one unit more
+pub made_next : {X : Type 0} (f : X → List ℕ) (xs : List X) (i : ℕ) (d : X) (us : List DocUnit) (from s n : ℕ) → i < length xs
+    → AreOfTexts (map f xs) us → s ≤ from + nodes_made (take i us) → ((t : WideTree) → Spells (f (get_or xs i d)) t → n ≤ s + nodes_of t)
+    → n ≤ from + nodes_made (take (i + 1) us)
+made_next {X} f xs i d us from s n lt h so step =
+    let found = unit_at {X = X} f xs i d us lt h in
+    let u : DocUnit = found.0 in
     let one : nodes_made (unit Base u.tagged.tree ∷ []) ≡ nodes_of u.tagged.tree = omega arith in
-    let last : nodes_made (u ∷ []) ≡ nodes_made (unit Base u.tagged.tree ∷ []) = ap (λ v. nodes_made (v ∷ [])) is in
-    let sum : nodes_made vs ≡ nodes_made us + nodes_made (u ∷ []) = ap nodes_made more ∙ nodes_made-append us (u ∷ []) in
-    omega (arith, so, step, one, last, sum)
+    let last : nodes_made (u ∷ []) ≡ nodes_made (unit Base u.tagged.tree ∷ []) = ap (λ v. nodes_made (v ∷ [])) found.1.is in
+    let index : i + 1 ≡ suc i = omega arith in
+    let sum : nodes_made (take (i + 1) us) ≡ nodes_made (take i us) + nodes_made (u ∷ [])
+    = ap (λ k. nodes_made (take k us)) index ∙ ap nodes_made found.2 ∙ nodes_made-append (take i us) (u ∷ []) in
+    omega (arith, so, step u.tagged.tree found.1.spelled, one, last, sum)
+
+-- the first units make no more than all of them
+pub made_all : (i : ℕ) (us : List DocUnit) (from n : ℕ) → n ≤ from + nodes_made (take i us) → n ≤ from + nodes_made us
+made_all i us from n so =
+    let all : nodes_made us ≡ nodes_made (take i us) + nodes_made (drop i us)
+    = ap nodes_made (sym (take-append-drop i us)) ∙ nodes_made-append (take i us) (drop i us) in
+    omega (arith, so, all)
 
 pub when_ok : (r : Result (Vec DocUnit Global) Memory) → ((us : List DocUnit) → AreOfTexts (map scheme_text base_trees) us → us ≡ base_units)
     → IfOk r (λ v. AreOfTexts (map scheme_text base_trees) v.items) → IfOk r (λ v. v.items ≡ base_units)

@@ -1,9 +1,10 @@
 // The base style.
-ghost use Rattle.std.specs.Prelude.{◌≡◌, ◌+◌, ◌≤◌, map, IfOk, OnOk};
+ghost use Rattle.std.specs.Prelude.{◌≡◌, ◌+◌, ◌≤◌, List, map, IfOk, OnOk};
 ghost use Rattle.tx_scm.specs.Spelling.{Spells};
-ghost use Rattle.tx_tree.specs.WideTree.{nodes_of};
+ghost use Rattle.tx_tree.specs.WideTree.{WideTree, nodes_of};
 ghost use Rattle.tx_units.specs.BaseTexts.{IsSpelled, AreSpelled, IsOfText, AreOfTexts};
 ghost use Rattle.tx_units.specs.Units.{base_units, nodes_made};
+ghost use Rattle.tx_units.specs.declared.kinds.Unit.{Unit as DocUnit};
 
 use crate::kinds::{Unit, UnitKind};
 use std::alloc::Global;
@@ -53,7 +54,7 @@ const BASE_STYLE: [&str; 26] = [
 fn spelled<L: Ledger>(alloc: Global, text: &str, steps: &mut Steps<L>) -> Result<Tree, Memory>
     requires { IsSpelled text.now }
     ensures found { IfOk result (λ t. Spells text.now t) }
-    ensures counted { IfOk result (λ t. steps.new ≤ steps.old + nodes_of t) }
+    ensures made { (t : WideTree) → Spells text.now t → steps.new ≤ steps.old + nodes_of t }
 {
     match tx_scm::read(alloc, text.as_bytes(), steps) {
         Ok(tree) => Ok(tree),
@@ -73,7 +74,7 @@ fn spelled<L: Ledger>(alloc: Global, text: &str, steps: &mut Steps<L>) -> Result
 fn spelled_unit<L: Ledger>(alloc: Global, text: &str, steps: &mut Steps<L>) -> Result<Unit, Memory>
     requires { IsSpelled text.now }
     ensures ok { IfOk result (IsOfText text.now) }
-    ensures counted { IfOk result (λ u. steps.new ≤ steps.old + nodes_of u.tagged.tree) }
+    ensures made { (t : WideTree) → Spells text.now t → steps.new ≤ steps.old + nodes_of t }
 {
     Ok(Unit::new(UnitKind::Base, spelled(alloc, text, steps)?))
 }
@@ -86,7 +87,8 @@ fn spelled_units<L: Ledger>(
 ) -> Result<Vec<Unit>, Memory>
     requires { AreSpelled (map (λ text. text.now) texts.now) }
     ensures ok { IfOk result (λ us. AreOfTexts (map (λ text. text.now) texts.now) us.items) }
-    ensures counted { IfOk result (λ us. steps.new ≤ steps.old + nodes_made us.items) }
+    ensures made { (us : List DocUnit) → AreOfTexts (map (λ text. text.now) texts.now) us
+        → steps.new ≤ steps.old + nodes_made us }
 {
     let mut units = Vec::with_capacity(alloc, texts.len())?;
     for text in texts {
@@ -95,11 +97,11 @@ fn spelled_units<L: Ledger>(
     Ok(units)
 }
 
-/// The units of the base style, each of which assigns a value to a name. Where it answers them, the steps rose by at
-/// most the nodes of their trees that aren't leaves.
+/// The units of the base style, each of which assigns a value to a name. Whatever it answers, the steps rise by at most
+/// the nodes of their trees that aren't leaves.
 pub fn base_units<L: Ledger>(alloc: Global, steps: &mut Steps<L>) -> Result<Vec<Unit>, Memory>
     ensures units { IfOk result (λ us. us.items ≡ base_units) }
-    ensures counted { IfOk result (λ us. steps.new ≤ steps.old + nodes_made us.items) }
+    ensures counted { steps.new ≤ steps.old + nodes_made base_units }
 {
     spelled_units(alloc, &BASE_STYLE, steps)
 }

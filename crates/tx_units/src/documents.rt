@@ -11,18 +11,8 @@ use indexmap::IndexSet;
 use std::alloc::Global;
 use std::slice;
 use tx_base::Memory;
-use tx_doc::body;
+use tx_doc::{body, is_labelled};
 use tx_tree::{Text, Tree};
-
-// Whether the tree is a node with this label.
-pub(crate) fn is_labelled(t: &Tree, label: &[u8]) -> bool
-    ensures { result ≡ is_labelled label.now t.now }
-{
-    match t.label() {
-        Some(own) => own.bytes() == label,
-        None => false,
-    }
-}
 
 // Whether the tree is a `document`.
 pub(crate) fn is_document(t: &Tree) -> bool

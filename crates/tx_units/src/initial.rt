@@ -6,12 +6,13 @@ ghost use Rattle.tx_units.specs.BaseStyle.{tag, assign};
 ghost use Rattle.tx_units.specs.Units.{unit, entry_units, initial_units, nodes_made};
 ghost use Rattle.tx_units.specs.declared.kinds.UnitKind.TheVariants.{Initial};
 
-use crate::documents::{entries, is_labelled};
+use crate::documents::entries;
 use crate::kinds::{Unit, UnitKind};
 use crate::tags::{label, tag};
 use std::alloc::Global;
 use std::sync::ledger::Ledger;
 use tx_base::{Memory, Steps};
+use tx_doc::is_labelled;
 use tx_tree::{Label, Tree};
 
 // The labels of the two nodes that an entry gets.

@@ -76,8 +76,8 @@ pub fn with_body(alloc: Global, front: &[Unit], document: &Tree) -> Result<Vec<U
 /// document names, of its initial environment, and the paragraphs of its body. Buffer 0 is the document, and the others
 /// are the loaded styles.
 ///
-/// The steps rise by at most the nodes that are made, those of the base style included. A caller that makes units again
-/// after each edit keeps `front_units` and calls `with_body`.
+/// Whatever it answers, the steps rise by at most the nodes that are made, those of the base style included. A caller
+/// that makes units again after each edit keeps `front_units` and calls `with_body`.
 pub fn units<L: Ledger>(
     alloc: Global,
     buffers: &[Buffer],
@@ -86,7 +86,7 @@ pub fn units<L: Ledger>(
     requires some { 1 ≤ length buffers.now }
     requires few { length buffers.now < 2 ^ 32 }
     ensures units { IfOk result (λ us. us.items ≡ units buffers.now) }
-    ensures counted { OnOk result (steps.new ≤ steps.old + made buffers.now) }
+    ensures counted { steps.new ≤ steps.old + made buffers.now }
 {
     let mut units = base_units(alloc, steps)?;
     add_front(alloc, &mut units, buffers, steps)?;

@@ -2,6 +2,7 @@ use Rattle.std.proofs.Common.{◌∙◌, refl, sym, ap}
 use Rattle.tx_scm.specs.States.{state_of, next_of, opens_of}
 use Rattle.tx_scm.proofs.Runs.{step_more, step_fails, counts_on}
 use Rattle.tx_scm.proofs.Sizing.{step_grows, run_grows}
+use Rattle.tx_scm.proofs.Making.{stands, leads_more}
 use Rattle.tx_scm.proofs.reader.advance.Goals as goal
 
 pub returns-in-None-clause-same : goal.returns-in-None-clause-same
@@ -37,3 +38,12 @@ returns-in-Some-2-clause-sized g c =
 
 pub returns-in-Some-clause-sized : goal.returns-in-Some-clause-sized
 returns-in-Some-clause-sized g c = step_grows (state_of c.args.state) c.args.kind _ c.requires.kind _ c.args.at (sym (ap next_of c.in-Some.is) ∙ c.in_ok-step.ensures.next)
+
+pub returns-in-Some-2-clause-led : goal.returns-in-Some-2-clause-led
+returns-in-Some-2-clause-led g c =
+    let stepped = sym (ap next_of c.in-Some-Texting.is ∙ ap state_of c.in-Some-Texting.field-0-is) ∙ c.in_ok-step.ensures.next in
+    leads_more c.args.bytes.now (state_of c.args.state) c.args.at _ c.requires.at refl _ (λ e. cc) stepped ∙ rw c.in-Some-2.is at c.in_ok-text_run-in-Some-Texting.ensures.led (opens_of c.in-Some-Texting.brackets.items)
+
+pub returns-in-Some-clause-led : goal.returns-in-Some-clause-led
+returns-in-Some-clause-led g c =
+    leads_more c.args.bytes.now (state_of c.args.state) c.args.at _ c.requires.at refl _ (stands c.in-Some.next) (sym (ap next_of c.in-Some.is) ∙ c.in_ok-step.ensures.next)

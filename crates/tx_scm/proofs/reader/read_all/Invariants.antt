@@ -1,5 +1,5 @@
 use Rattle.std.proofs.Common.{◌≡◌, ◌≤◌, ◌+◌, ◌-◌, [], length, drop}
-use Rattle.tx_scm.specs.Machine.{between, reads}
+use Rattle.tx_scm.specs.Machine.{between, reads, leads}
 use Rattle.tx_scm.specs.Sizes.{IsSized}
 use Rattle.tx_scm.specs.States.{state_of, IsCounted}
 use Rattle.tx_scm.proofs.reader.read_all.Given as goal
@@ -11,6 +11,7 @@ abbrev pub invariant-loop-at : goal.invariant-loop-at
 invariant-loop-at g l =
     record {
       same : reads (between []) l.bytes ≡ reads (state_of l.state) (drop l.at l.bytes);
+      led : leads (between []) l.bytes ≡ leads (state_of l.state) (drop l.at l.bytes);
       counted : IsCounted l.fn.steps l.steps (state_of l.state);
       sized : IsSized l.size (state_of l.state);
       small : l.size ≤ 8000000;

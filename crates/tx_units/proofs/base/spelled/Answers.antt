@@ -1,6 +1,7 @@
-use Rattle.std.proofs.Common.{◌≡◌, rules, subst}
+use Rattle.std.proofs.Common.{◌≡◌, rules, subst, sym}
 use Rattle.tx_scm.proofs.OneFault.{none}
 use Rattle.tx_scm.specs.Faults.{IsSchemeFault}
+use Rattle.tx_scm.specs.Spelling.{Spells}
 use Rattle.tx_tree.specs.declared.faults.ReadFault.TheVariants.{Unclosed, Stray, BadEscape, BadLabel, BadText, Mismatch}
 use Rattle.tx_tree.specs.declared.faults.ReadFault.TheVariants.{After, Limit}
 use Rattle.tx_units.proofs.base.spelled.Goals as goal
@@ -60,3 +61,8 @@ unreachable-requires-in-Err-Limit g c =
     let same : c.as_bytes.result.now ≡ c.args.text.now = search rules in
     let bad = subst (λ b. IsSchemeFault b (Limit c.in-Err-Limit.field-0-0 c.in-Err-Limit.field-0-1)) same (refused (λ e. cc)) in
     none c.args.text.now (Limit c.in-Err-Limit.field-0-0 c.in-Err-Limit.field-0-1) c.requires.tree bad c.requires.spelled c.requires.within
+
+pub returns-in-Ok-clause-made : goal.returns-in-Ok-clause-made
+returns-in-Ok-clause-made g c = λ t spelled.
+    let same : c.as_bytes.result.now ≡ c.args.text.now = search rules in
+    c.read.ensures.made t (subst (λ bytes. Spells bytes t) (sym same) spelled)
