@@ -73,13 +73,8 @@ more_some ps qs x t e = ap set_pairs e ∙ by ps
 pub ruleset sets_rules = (more_none, more_some)
 
 -- what was gone through and what is left are the whole
-pub listed_next : (ps qs rest whole : Pairs) (x : Name × Option WideTree) → qs ≡ ps ++ x ∷ [] → ps ++ x ∷ rest ≡ whole → qs ++ rest ≡ whole
-listed_next ps qs rest whole x e h = ap (λ us. us ++ rest) e ∙ append_assoc ps (x ∷ []) rest ∙ h
-
 pub next_some : (ps qs : List (Name × WideTree)) (rest : Pairs) (whole : List (Name × WideTree)) (n : Name) (t : WideTree) → qs ≡ ps ++ (n, t) ∷ [] → ps ++ (n, t) ∷ set_pairs rest ≡ whole → qs ++ set_pairs rest ≡ whole
 next_some ps qs rest whole n t e h = ap (λ us. us ++ set_pairs rest) e ∙ append_assoc ps ((n, t) ∷ []) (set_pairs rest) ∙ h
-
-pub ruleset drain_rules = (listed_next, next_some)
 
 abbrev record_of : WideValue → LookMap → NameMap → ℕ → ℕ → WideTrace
 record_of v looks writes cost height = record { value = v; looks = looks; writes = writes; cost = cost; height = height }

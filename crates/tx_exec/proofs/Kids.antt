@@ -1,7 +1,7 @@
 -- How many children there are.
-use Rattle.std.proofs.Common.{◌≡◌, ℕ, zero, suc, ◌+◌, ◌<◌, ◌≤◌, List, [], ◌∷◌, length, arith, refl, ap}
+use Rattle.std.proofs.Common.{◌≡◌, ℕ, zero, suc, ◌<◌, ◌≤◌, List, [], ◌∷◌, length, arith, refl, ap}
 use Rattle.std.specs.Prelude.{Option, Some, None, slice_get}
-use Rattle.tx_tree.specs.WideTree.{WideTree, leaf, node}
+use Rattle.tx_tree.specs.WideTree.{WideTree, leaf, node, size_of}
 use Rattle.tx_tree.specs.Limits.{IsWithinLimits}
 use Rattle.tx_tree.proofs.Children.{arity_le}
 use Rattle.tx_origin.specs.TaggedTrees.{TaggedTree, kids_at}
@@ -31,6 +31,10 @@ pub kid_run_is : (below : Eval) (f : Frame) (kids : List TaggedTree) (i : ℕ) (
 unfolding kid_run
 kid_run_is below f kids i t h = ap (run_in below f) h
 
+pub some_size : (t : WideTree) → 1 ≤ size_of t
+some_size (leaf words) = omega arith
+some_size (node label ts) = omega arith
+
 pub ruleset kid_rules = (few_kids, common_steps)
 
-pub ruleset whole_rules = (plain_whole, common_steps)
+pub ruleset whole_rules = (plain_whole, some_size, common_steps)

@@ -9,7 +9,7 @@ use Rattle.tx_origin.specs.TaggedTrees.{TaggedTree, kids_of}
 use Rattle.tx_exec_form.specs.Numbers.{value_number, numbers_of, kid_at, part_of}
 use Rattle.tx_exec.proofs.Kids.{few_kids}
 
-item_drop : (vs : List WideValue) (i : ℕ) (v : WideValue) → i < length vs → v ≡ get_or vs i v → drop i vs ≡ v ∷ drop (i + 1) vs
+pub item_drop : (vs : List WideValue) (i : ℕ) (v : WideValue) → i < length vs → v ≡ get_or vs i v → drop i vs ≡ v ∷ drop (i + 1) vs
 item_drop vs i v lt is = rw add-one (drop-cons vs i v lt ∙ ap (λ w. w ∷ drop (suc i) vs) (sym is))
 
 behind : (ns : List ℤ) (n : ℤ) (o : Option (List ℤ)) → option_map (λ ms. ns ++ ms) (option_map (λ ms. n ∷ ms) o) ≡ option_map (λ ms. (ns ++ n ∷ []) ++ ms) o

@@ -9,3 +9,9 @@ pub mod SettingLoops
 pub mod WithLoop
 pub mod Leading
 pub mod Ending
+pub mod AllArguments
+pub mod Tupling
+pub mod MapCalls
+pub mod Computing
+pub mod Choosing
+pub mod Turning

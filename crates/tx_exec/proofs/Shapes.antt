@@ -6,7 +6,7 @@ use Rattle.tx_origin.specs.Values.{whole}
 use Rattle.tx_origin.specs.TaggedTrees.{TaggedTree}
 use Rattle.tx_exec_form.specs.Runs.{◌>>=◌, ◌>>◌, need, pay, give}
 use Rattle.tx_exec_form.specs.Frames.{Frame}
-use Rattle.tx_exec_form.specs.Rows.{Eval, wrong, assign, taken, quote, macro, only, only_child, arg, arg_of}
+use Rattle.tx_exec_form.specs.Rows.{Eval, EvalAll, wrong, assign, taken, quote, macro, only, only_child, arg, arg_named, arg_of}
 use Rattle.tx_exec_form.specs.declared.rows.Unary.{Unary}
 use Rattle.tx_exec_form.specs.declared.rows.Taking.{Taking}
 use Rattle.tx_origin.proofs.Wholes.{plain_whole}
@@ -54,24 +54,30 @@ only_not unary k below f label (y ∷ z ∷ ts) n = refl
 
 pub ruleset only_rules = (only_one, only_not)
 
-module _ (taking : Taking) (k : ℕ) (below : Eval) (f : Frame) (label : List ℕ) where
-  pub arg_named_by : (ts : List TaggedTree) (x : TaggedTree) (n : List ℕ) → slice_get ts 0 ≡ Some x → text_of x.tree ≡ Some n → arg taking k below f label ts ≡ arg_of taking k below f label n (drop 1 ts)
+module _ (taking : Taking) (k : ℕ) (below : Eval) (below_all : EvalAll) (f : Frame) (label : List ℕ) where
+  by_leaf : (t : WideTree) (ts : List TaggedTree) (n : List ℕ) → text_of t ≡ Some n
+      → arg_named taking k below below_all f label ts t ≡ arg_of taking k below below_all f label n ts
+  by_leaf (leaf m) ts n h = let e : m ≡ n = cc in ap (λ z. arg_of taking k below below_all f label z ts) e
+  by_leaf (node m us) ts n h = absurd cc
+
+  by_node : (t : WideTree) (ts : List TaggedTree) → text_of t ≡ None
+      → arg_named taking k below below_all f label ts t ≡ wrong k (codes "bad") label
+  by_node (leaf m) ts h = absurd cc
+  by_node (node m us) ts h = refl
+
+  pub arg_named_by : (ts : List TaggedTree) (x : TaggedTree) (n : List ℕ) → slice_get ts 0 ≡ Some x
+      → text_of x.tree ≡ Some n
+      → arg taking k below below_all f label ts ≡ arg_of taking k below below_all f label n (drop 1 ts)
   arg_named_by [] x n a b = absurd cc
-  arg_named_by (y ∷ ts) x n a b = let same : y ≡ x = cc in by y.tree (ap (λ z. text_of z.tree) same ∙ b)
-    where
-      by : (t : WideTree) → text_of t ≡ Some n → arg taking k below f label (record { tree = t; at = y.at } ∷ ts) ≡ arg_of taking k below f label n ts
-      by (leaf m) h = let e : m ≡ n = cc in ap (λ z. arg_of taking k below f label z ts) e
-      by (node m us) h = absurd cc
+  arg_named_by (y ∷ ts) x n a b = let same : y ≡ x = cc in by_leaf y.tree ts n (ap (λ z. text_of z.tree) same ∙ b)
 
-  pub arg_node : (ts : List TaggedTree) (x : TaggedTree) → slice_get ts 0 ≡ Some x → text_of x.tree ≡ None → arg taking k below f label ts ≡ wrong k (codes "bad") label
+  pub arg_node : (ts : List TaggedTree) (x : TaggedTree) → slice_get ts 0 ≡ Some x → text_of x.tree ≡ None
+      → arg taking k below below_all f label ts ≡ wrong k (codes "bad") label
   arg_node [] x a b = absurd cc
-  arg_node (y ∷ ts) x a b = let same : y ≡ x = cc in by y.tree (ap (λ z. text_of z.tree) same ∙ b)
-    where
-      by : (t : WideTree) → text_of t ≡ None → arg taking k below f label (record { tree = t; at = y.at } ∷ ts) ≡ wrong k (codes "bad") label
-      by (leaf m) h = absurd cc
-      by (node m us) h = refl
+  arg_node (y ∷ ts) x a b = let same : y ≡ x = cc in by_node y.tree ts (ap (λ z. text_of z.tree) same ∙ b)
 
-  pub arg_none : (ts : List TaggedTree) → length ts ≡ 0 → arg taking k below f label ts ≡ wrong k (codes "bad") label
+  pub arg_none : (ts : List TaggedTree) → length ts ≡ 0
+      → arg taking k below below_all f label ts ≡ wrong k (codes "bad") label
   arg_none [] l = refl
   arg_none (y ∷ ts) l = absurd (omega (arith, l))
 

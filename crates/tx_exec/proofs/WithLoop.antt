@@ -43,7 +43,7 @@ row_even k below f label at ts a n h q = rw (odd_false ts n (omega (arith, h, q)
 pub row_odd : (k : ℕ) (below : Eval) (f : Frame) (label : List ℕ) (at : Option (List ℕ)) (ts : List TaggedTree) (n : ℕ) → length ts ≡ 2 * n + 1 → with_row k below f label at ts ≡ with_parts k below f label at [] [] ts
 row_odd k below f label at ts n h = rw (odd_true ts n h) refl
 
-two_front : (ts : List TaggedTree) (i : ℕ) (x v : TaggedTree) → slice_get ts (2 * i) ≡ Some x → slice_get ts (2 * i + 1) ≡ Some v → drop (2 * i) ts ≡ x ∷ v ∷ drop (2 * (i + 1)) ts
+pub two_front : (ts : List TaggedTree) (i : ℕ) (x v : TaggedTree) → slice_get ts (2 * i) ≡ Some x → slice_get ts (2 * i + 1) ≡ Some v → drop (2 * i) ts ≡ x ∷ v ∷ drop (2 * (i + 1)) ts
 two_front ts i x v a b =
     let next : 2 * i + 1 + 1 ≡ 2 * (i + 1) = omega arith in
     drop_item ts (2 * i) x a ∙ ap (λ us. x ∷ us) (drop_item ts (2 * i + 1) v b) ∙ ap (λ n. x ∷ v ∷ drop n ts) next

@@ -19,6 +19,11 @@ GoesOn (Ok None) whole rest s = whole ≡ rest
 GoesOn (Ok (Some x)) whole rest s = whole ≡ Done x s
 GoesOn (Err e) whole rest s = Fails e whole
 
+-- the whole goes on as what was found says
+abbrev pub LeadsOn : {X A : Type 0} → Result X Stop → Ran A → (X → Ran A) → Type 0
+LeadsOn (Ok x) whole rest = whole ≡ rest x
+LeadsOn (Err e) whole rest = Fails e whole
+
 abbrev pub CountsAtStop : Stop → ℕ → ℕ → Type 0
 CountsAtStop stops.Memory a b = Unit {0}
 CountsAtStop stops.Over a b = b ≡ a

@@ -1,5 +1,6 @@
 pub mod FrameCode
 pub mod FrameView
+pub mod FrameFalls
 pub mod States
 pub mod Gives
 pub mod Settings
@@ -7,3 +8,5 @@ pub mod Outcomes
 pub mod Kinds
 pub mod PartRuns
 pub mod Told
+pub mod FlowRuns
+pub mod CallRuns

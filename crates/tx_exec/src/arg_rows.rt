@@ -2,12 +2,14 @@
 ghost use Rattle.std.specs.Prelude.{◌≡◌, ◌+◌, ◌-◌, ◌<◌, ◌≤◌, Ok, Some, None, Option, drop, length};
 ghost use Rattle.tx_origin.specs.TaggedTrees.{tagged_of, kids_of};
 ghost use Rattle.tx_exec_form.specs.Numbers.{numbers_of};
-ghost use Rattle.tx_exec_form.specs.Rows.{ex, arg, arg_of, arg_part, numbered, used};
+ghost use Rattle.tx_exec_form.specs.Rows.{ex, ex_all, arg, arg_of, arg_part, numbered, used};
+ghost use Rattle.tx_exec_form.specs.Rows.{all_part, all_numbered, all_used, tuple_run};
 ghost use Rattle.tx_exec.specs.FrameView.{frame_in};
 ghost use Rattle.tx_exec.specs.Gives.{Gives, Counts};
 ghost use Rattle.tx_exec.specs.States.{state_of, before_of};
 
 use crate::argument::Argument;
+use crate::calls::label_of;
 use crate::children::kid;
 use crate::frame::{Call, caller_in};
 use crate::numbers::{numbers_in, part_at};
@@ -40,8 +42,8 @@ impl Progress {
         requires levels { levels ≤ 400 }
         requires left { self.old.left ≤ 1000000 }
         ensures gives { Gives (λ v. v) result
-            (arg taking levels (ex (levels - 1)) (frame_in frame.entry) label.now (kids_of (tagged_of t.now))
-            (before_of env.now) (state_of self.old))
+            (arg taking levels (ex (levels - 1)) (ex_all (levels - 1)) (frame_in frame.entry) label.now
+            (kids_of (tagged_of t.now)) (before_of env.now) (state_of self.old))
             (state_of self.new) }
         ensures paid { Counts result (steps.old + self.old.left) (steps.new + self.new.left) }
     {
@@ -75,7 +77,7 @@ impl Progress {
         requires left { self.old.left ≤ 1000000 }
         requires kids { 0 < length (kids_of (tagged_of t.now)) }
         ensures gives { Gives (λ v. v) result
-            (arg_of taking levels (ex (levels - 1)) (frame_in frame.entry) label.now name.now
+            (arg_of taking levels (ex (levels - 1)) (ex_all (levels - 1)) (frame_in frame.entry) label.now name.now
             (drop 1 (kids_of (tagged_of t.now))) (before_of env.now) (state_of self.old))
             (state_of self.new) }
         ensures paid { Counts result (steps.old + self.old.left) (steps.new + self.new.left) }
@@ -93,6 +95,11 @@ impl Progress {
             Argument::Here(found) => {
                 self.arg_part(
                     alloc, env, steps, t, &found, label, name, taking, frame, levels,
+                )
+            }
+            Argument::All(tag) => {
+                self.all_part(
+                    alloc, env, steps, t, &tag, label, name, taking, frame, levels,
                 )
             }
         }
@@ -191,5 +198,153 @@ impl Progress {
             Taking::Evaluated => { self.ev(alloc, env, steps, part, caller_in(frame), levels - 1) }
             Taking::Quoted => self.taken(alloc, steps, &part.tree, &part.at, levels),
         }
+    }
+
+    // The numbers behind the parameter of an `xmacro`, and what they lead to.
+    #[cycle(ev)]
+    #[tactic(auto, unfolding(tx_exec_form::specs::Rows::all_part))]
+    fn all_part<L: Ledger>(
+        &mut self,
+        alloc: Global,
+        env: &Env,
+        steps: &mut Steps<L>,
+        t: &Tagged,
+        tag: &Tagged,
+        label: &Label,
+        name: &Text,
+        taking: Taking,
+        frame: Option<&Call>,
+        levels: u32,
+    ) -> Result<Value, Stop>
+        requires some { 0 < levels }
+        requires levels { levels ≤ 400 }
+        requires left { self.old.left ≤ 1000000 }
+        requires kids { 0 < length (kids_of (tagged_of t.now)) }
+        ensures gives { Gives (λ v. v) result
+            (all_part taking levels (ex (levels - 1)) (ex_all (levels - 1)) (frame_in frame.entry) label.now name.now
+            (kids_of (tagged_of tag.now)) (drop 1 (kids_of (tagged_of t.now)))
+            (before_of env.now) (state_of self.old))
+            (state_of self.new) }
+        ensures paid { Counts result (steps.old + self.old.left) (steps.new + self.new.left) }
+    {
+        let values = self.each(alloc, env, steps, t, 1, frame, levels - 1)?;
+        self.all_numbered(
+            alloc, env, steps, tag, &values, label, name, taking, frame, levels,
+        )
+    }
+
+    // The argument that the first of these values picks, or its part, or all arguments.
+    #[cycle(ev)]
+    #[tactic(auto, using(crate::proofs::AllArguments::first_number_rules, std::proofs::lemmas::Grind::common_steps))]
+    fn all_numbered<L: Ledger>(
+        &mut self,
+        alloc: Global,
+        env: &Env,
+        steps: &mut Steps<L>,
+        tag: &Tagged,
+        values: &[Value],
+        label: &Label,
+        name: &Text,
+        taking: Taking,
+        frame: Option<&Call>,
+        levels: u32,
+    ) -> Result<Value, Stop>
+        requires some { 0 < levels }
+        requires levels { levels ≤ 400 }
+        requires left { self.old.left ≤ 1000000 }
+        ensures gives { Gives (λ v. v) result
+            (all_numbered taking levels (ex (levels - 1)) (ex_all (levels - 1)) (frame_in frame.entry) label.now
+            name.now (kids_of (tagged_of tag.now)) (numbers_of values.now)
+            (before_of env.now) (state_of self.old))
+            (state_of self.new) }
+        ensures paid { Counts result (steps.old + self.old.left) (steps.new + self.new.left) }
+    {
+        if values.is_empty() {
+            return self.all_used(alloc, env, steps, tag, taking, frame, levels);
+        }
+        self.numbered(
+            alloc, env, steps, tag, values, label, name, taking, frame, levels,
+        )
+    }
+
+    // All arguments: evaluated in the frame of the caller, or as they stand.
+    #[cycle(ev)]
+    #[tactic(auto, unfolding(tx_exec_form::specs::Rows::all_used))]
+    fn all_used<L: Ledger>(
+        &mut self,
+        alloc: Global,
+        env: &Env,
+        steps: &mut Steps<L>,
+        tag: &Tagged,
+        taking: Taking,
+        frame: Option<&Call>,
+        levels: u32,
+    ) -> Result<Value, Stop>
+        requires some { 0 < levels }
+        requires levels { levels ≤ 400 }
+        requires left { self.old.left ≤ 1000000 }
+        ensures gives { Gives (λ v. v) result
+            (all_used taking levels (ex_all (levels - 1)) (frame_in frame.entry) (kids_of (tagged_of tag.now))
+            (before_of env.now) (state_of self.old))
+            (state_of self.new) }
+        ensures paid { Counts result (steps.old + self.old.left) (steps.new + self.new.left) }
+    {
+        match taking {
+            Taking::Evaluated => self.all(alloc, env, steps, tag, caller_in(frame), levels - 1),
+            Taking::Quoted => self.all_taken(alloc, steps, tag, levels),
+        }
+    }
+
+    // The tuple of the values of all arguments.
+    #[cycle(ev)]
+    #[tactic(auto, using(crate::proofs::AllArguments::ex_all_rules))]
+    fn all<L: Ledger>(
+        &mut self,
+        alloc: Global,
+        env: &Env,
+        steps: &mut Steps<L>,
+        tag: &Tagged,
+        frame: Option<&Call>,
+        levels: u32,
+    ) -> Result<Value, Stop>
+        requires levels { levels < 400 }
+        requires left { self.old.left ≤ 1000000 }
+        ensures gives { Gives (λ v. v) result
+            (ex_all levels (kids_of (tagged_of tag.now)) (frame_in frame.entry)
+            (before_of env.now) (state_of self.old))
+            (state_of self.new) }
+        ensures paid { Counts result (steps.old + self.old.left) (steps.new + self.new.left) }
+    {
+        if levels == 0 {
+            return Err(Stop::Over);
+        }
+        self.all_values(alloc, env, steps, tag, frame, levels)
+    }
+
+    // The same, where there is a level.
+    #[cycle(ev)]
+    #[tactic(auto, unfolding(tx_exec_form::specs::Rows::tuple_run))]
+    fn all_values<L: Ledger>(
+        &mut self,
+        alloc: Global,
+        env: &Env,
+        steps: &mut Steps<L>,
+        tag: &Tagged,
+        frame: Option<&Call>,
+        levels: u32,
+    ) -> Result<Value, Stop>
+        requires some { 0 < levels }
+        requires levels { levels ≤ 400 }
+        requires left { self.old.left ≤ 1000000 }
+        ensures gives { Gives (λ v. v) result
+            (tuple_run levels (ex (levels - 1)) (kids_of (tagged_of tag.now)) (frame_in frame.entry)
+            (before_of env.now) (state_of self.old))
+            (state_of self.new) }
+        ensures paid { Counts result (steps.old + self.old.left) (steps.new + self.new.left) }
+    {
+        let label = label_of(alloc, b"tuple".as_slice())?;
+        self.need(1, levels)?;
+        self.pay(steps, 1)?;
+        self.rebuilt(alloc, env, steps, tag, &label, &None, frame, levels)
     }
 }

@@ -10,4 +10,6 @@ pub(crate) enum Argument {
     Missing,
     /// The argument.
     Here(Tagged),
+    /// The parameter of an `xmacro`: all children of this tag.
+    All(Tagged),
 }

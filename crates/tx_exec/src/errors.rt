@@ -1,7 +1,7 @@
 // Error nodes, and texts.
 ghost use Rattle.std.specs.Prelude.{◌≡◌, ◌+◌, Ok, Some, None, Option, IfOk, ◌≤◌, length};
 ghost use Rattle.tx_exec_form.specs.Runs.{Before};
-ghost use Rattle.tx_exec_form.specs.Rows.{wrong, leaf_run, taken, error_node};
+ghost use Rattle.tx_exec_form.specs.Rows.{wrong, leaf_run, taken, itself, error_node};
 ghost use Rattle.tx_origin.specs.Values.{plain, whole, text};
 ghost use Rattle.tx_origin.specs.TaggedTrees.{tagged_of};
 ghost use Rattle.tx_exec.specs.Gives.{Gives, Counts};
@@ -98,6 +98,27 @@ impl Progress {
     {
         self.need(tree.depth(), levels)?;
         self.pay(steps, tree.size())?;
+        Ok(Value::whole(alloc, tree, at)?)
+    }
+
+    /// The tree as it stands at this origin, of whose size one step is paid already.
+    #[tactic(auto, using(crate::proofs::Kids::whole_rules))]
+    pub(crate) fn itself<L: Ledger>(
+        &mut self,
+        alloc: Global,
+        steps: &mut Steps<L>,
+        tree: &Tree,
+        at: &Option<Ip>,
+        levels: u32,
+    ) -> Result<Value, Stop>
+        ensures gives { (e : Before) → Gives (λ v. v) result
+            (itself levels (record { tree = tree.now; at = at.now })
+            e (state_of self.old))
+            (state_of self.new) }
+        ensures paid { Counts result (steps.old + self.old.left) (steps.new + self.new.left) }
+    {
+        self.need(tree.depth(), levels)?;
+        self.pay(steps, tree.size() - 1)?;
         Ok(Value::whole(alloc, tree, at)?)
     }
 }

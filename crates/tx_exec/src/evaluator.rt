@@ -1,19 +1,22 @@
 // The evaluator: functions that lead back to the evaluation of a part.
 ghost use Rattle.std.specs.Prelude.{◌≡◌, ◌+◌, ◌-◌, ◌<◌, ◌≤◌, [], Ok, Some, None, Option, IfOk, drop, length};
-ghost use Rattle.tx_tree.specs.WideTree.{size_of, depth_of, total_size, deepest};
+ghost use Rattle.tx_tree.specs.WideTree.{size_of, depth_of, total_size, deepest, children_of};
 ghost use Rattle.tx_origin.specs.Values.{vals, plain, plains};
 ghost use Rattle.tx_origin.specs.TaggedTrees.{tagged_of, kids_of};
-ghost use Rattle.tx_exec_form.specs.Rows.{ex, each, rebuilt, node_run, row, tag_run, called, only, only_child, eval_of};
-ghost use Rattle.tx_exec.specs.FrameView.{frame_in};
+ghost use Rattle.tx_exec_form.specs.Rows.{ex, ex_all, each, rebuilt, node_run, row, by_name, tag_run, called};
+ghost use Rattle.tx_exec_form.specs.Rows.{only, only_child, eval_of};
+ghost use Rattle.tx_prim.specs.Names.{named};
+ghost use Rattle.tx_exec.specs.FrameView.{frame_in, frame_by};
 ghost use Rattle.tx_exec.specs.Gives.{Gives, Counts};
 ghost use Rattle.tx_exec.specs.Kinds.{IsOther};
 ghost use Rattle.tx_exec.specs.PartRuns.{kid_run};
 ghost use Rattle.tx_exec.specs.States.{state_of, before_of};
 
+use crate::binding::Binding;
 use crate::children::kid;
 use crate::errors::text_of;
 use crate::frame::Call;
-use crate::macros::{body_of, is_macro};
+use crate::macros::{body_behind, body_of, is_macro, is_xmacro};
 use crate::progress::Progress;
 use crate::stop::Stop;
 use std::alloc::Global;
@@ -21,7 +24,8 @@ use std::sync::ledger::Ledger;
 use tx_base::Steps;
 use tx_env::Env;
 use tx_exec_form::{Row, Taking, Unary, row_for};
-use tx_origin::{Tagged, Value, share_origin};
+use tx_origin::{Ip, Tagged, Value, share_origin};
+use tx_prim::Prim;
 use tx_tree::{Label, Tree};
 
 impl Progress {
@@ -100,8 +104,8 @@ impl Progress {
         requires levels { levels ≤ 400 }
         requires left { self.old.left ≤ 1000000 }
         ensures gives { Gives (λ v. v) result
-            (node_run levels (ex (levels - 1)) (tagged_of t.now) label.now (kids_of (tagged_of t.now))
-            (frame_in frame.entry) (before_of env.now) (state_of self.old))
+            (node_run levels (ex (levels - 1)) (ex_all (levels - 1)) (tagged_of t.now) label.now
+            (kids_of (tagged_of t.now)) (frame_in frame.entry) (before_of env.now) (state_of self.old))
             (state_of self.new) }
         ensures paid { Counts result (steps.old + self.old.left) (steps.new + self.new.left) }
     {
@@ -129,16 +133,16 @@ impl Progress {
         requires levels { levels ≤ 400 }
         requires left { self.old.left ≤ 1000000 }
         ensures gives { Gives (λ v. v) result
-            (row kind levels (ex (levels - 1)) (tagged_of t.now) label.now (kids_of (tagged_of t.now))
-            (frame_in frame.entry) (before_of env.now) (state_of self.old))
+            (row kind levels (ex (levels - 1)) (ex_all (levels - 1)) (tagged_of t.now) label.now
+            (kids_of (tagged_of t.now)) (frame_in frame.entry) (before_of env.now) (state_of self.old))
             (state_of self.new) }
         ensures paid { Counts result (steps.old + self.old.left) (steps.new + self.new.left) }
     {
         match kind {
-            Row::Same => self.rebuilt(alloc, env, steps, t, label, frame, levels),
+            Row::Same => self.rebuilt(alloc, env, steps, t, label, &t.at, frame, levels),
             Row::Assign => self.assign(alloc, env, steps, t, label, frame, levels),
             Row::With => self.with_row(alloc, env, steps, t, label, frame, levels),
-            Row::Tag => self.tag(alloc, env, steps, t, label, frame, levels),
+            Row::Tag => self.by_name(alloc, env, steps, t, label, frame, levels),
             other => self.other_row(alloc, env, steps, t, label, other, frame, levels),
         }
     }
@@ -162,8 +166,8 @@ impl Progress {
         requires levels { levels ≤ 400 }
         requires left { self.old.left ≤ 1000000 }
         ensures gives { Gives (λ v. v) result
-            (row kind levels (ex (levels - 1)) (tagged_of t.now) label.now (kids_of (tagged_of t.now))
-            (frame_in frame.entry) (before_of env.now) (state_of self.old))
+            (row kind levels (ex (levels - 1)) (ex_all (levels - 1)) (tagged_of t.now) label.now
+            (kids_of (tagged_of t.now)) (frame_in frame.entry) (before_of env.now) (state_of self.old))
             (state_of self.new) }
         ensures paid { Counts result (steps.old + self.old.left) (steps.new + self.new.left) }
     {
@@ -182,20 +186,21 @@ impl Progress {
                 levels,
             ),
             Row::QuoteArg => self.arg(alloc, env, steps, t, label, Taking::Quoted, frame, levels),
-            other => self.still_row(alloc, steps, t, label, other, levels),
+            other => self.flow_row(alloc, env, steps, t, label, other, frame, levels),
         }
     }
 
-    // The same node of evaluated children.
+    // The node with this label and this origin, of the children evaluated.
     #[cycle(ev)]
     #[tactic(auto, unfolding(tx_exec_form::specs::Rows::rebuilt), using(crate::proofs::Kids::kid_rules))]
-    fn rebuilt<L: Ledger>(
+    pub(crate) fn rebuilt<L: Ledger>(
         &mut self,
         alloc: Global,
         env: &Env,
         steps: &mut Steps<L>,
         t: &Tagged,
         label: &Label,
+        at: &Option<Ip>,
         frame: Option<&Call>,
         levels: u32,
     ) -> Result<Value, Stop>
@@ -203,14 +208,14 @@ impl Progress {
         requires levels { levels ≤ 400 }
         requires left { self.old.left ≤ 1000000 }
         ensures gives { Gives (λ v. v) result
-            (rebuilt (ex (levels - 1)) (frame_in frame.entry) label.now (kids_of (tagged_of t.now)) t.now.at
+            (rebuilt (ex (levels - 1)) (frame_in frame.entry) label.now (kids_of (tagged_of t.now)) at.now
             (before_of env.now) (state_of self.old))
             (state_of self.new) }
         ensures paid { Counts result (steps.old + self.old.left) (steps.new + self.new.left) }
     {
         let _size = t.tree.size();
         let values = self.each(alloc, env, steps, t, 0, frame, levels - 1)?;
-        Ok(Value::node(alloc, label.copy()?, values, share_origin(&t.at)?)?)
+        Ok(Value::node(alloc, label.copy()?, values, share_origin(at)?)?)
     }
 
     // The values of the children from the first of these numbers on.
@@ -360,6 +365,34 @@ impl Progress {
         self.ev(alloc, env, steps, &t, frame, levels - 1)
     }
 
+    // The name of a primitive, or any other tag.
+    #[cycle(ev)]
+    fn by_name<L: Ledger>(
+        &mut self,
+        alloc: Global,
+        env: &Env,
+        steps: &mut Steps<L>,
+        t: &Tagged,
+        label: &Label,
+        frame: Option<&Call>,
+        levels: u32,
+    ) -> Result<Value, Stop>
+        requires some { 0 < levels }
+        requires levels { levels ≤ 400 }
+        requires left { self.old.left ≤ 1000000 }
+        ensures gives { Gives (λ v. v) result
+            (by_name levels (ex (levels - 1)) label.now t.now.at (kids_of (tagged_of t.now))
+            (frame_in frame.entry) (named label.now)
+            (before_of env.now) (state_of self.old))
+            (state_of self.new) }
+        ensures paid { Counts result (steps.old + self.old.left) (steps.new + self.new.left) }
+    {
+        match Prim::named(label.bytes()) {
+            None => self.tag(alloc, env, steps, t, label, frame, levels),
+            Some(which) => self.primitive(alloc, env, steps, t, which, frame, levels),
+        }
+    }
+
     // A tag that the environment gives a meaning, or that stays.
     #[cycle(ev)]
     #[tactic(auto, unfolding(tx_exec_form::specs::Rows::tag_run))]
@@ -384,7 +417,7 @@ impl Progress {
     {
         let name = text_of(alloc, label.bytes())?;
         match self.look(env, &name)? {
-            None => self.rebuilt(alloc, env, steps, t, label, frame, levels),
+            None => self.rebuilt(alloc, env, steps, t, label, &t.at, frame, levels),
             Some(meaning) => self.call(alloc, env, steps, t, label, &meaning, frame, levels),
         }
     }
@@ -412,17 +445,52 @@ impl Progress {
             (state_of self.new) }
         ensures paid { Counts result (steps.old + self.old.left) (steps.new + self.new.left) }
     {
-        if !is_macro(meaning) {
-            return self.wrong(alloc, steps, levels, b"not-macro".as_slice(), label.bytes());
+        if is_macro(meaning) {
+            let Some(body) = body_of(meaning) else {
+                return self.wrong(alloc, steps, levels, b"bad".as_slice(), label.bytes());
+            };
+            let each = Binding::Each;
+            return self.applied(alloc, env, steps, t, meaning, body, each, frame, levels);
         }
-        let Some(body) = body_of(meaning) else {
-            return self.wrong(alloc, steps, levels, b"bad".as_slice(), label.bytes());
-        };
+        if is_xmacro(meaning) {
+            let Some(body) = body_behind(meaning) else {
+                return self.wrong(alloc, steps, levels, b"bad".as_slice(), label.bytes());
+            };
+            let all = Binding::All;
+            return self.applied(alloc, env, steps, t, meaning, body, all, frame, levels);
+        }
+        self.wrong(alloc, steps, levels, b"not-macro".as_slice(), label.bytes())
+    }
+
+    // The body, without origins, in the frame of this call.
+    #[cycle(ev)]
+    fn applied<L: Ledger>(
+        &mut self,
+        alloc: Global,
+        env: &Env,
+        steps: &mut Steps<L>,
+        t: &Tagged,
+        meaning: &Tree,
+        body: &Tree,
+        binding: Binding,
+        frame: Option<&Call>,
+        levels: u32,
+    ) -> Result<Value, Stop>
+        requires some { 0 < levels }
+        requires levels { levels ≤ 400 }
+        requires left { self.old.left ≤ 1000000 }
+        ensures gives { Gives (λ v. v) result
+            (ex (levels - 1) (record { tree = body.now; at = None })
+            (frame_by binding (children_of meaning.now) (kids_of (tagged_of t.now)) (frame_in frame.entry))
+            (before_of env.now) (state_of self.old))
+            (state_of self.new) }
+        ensures paid { Counts result (steps.old + self.old.left) (steps.new + self.new.left) }
+    {
         let body = Tagged {
             tree: body.share()?,
             at: None,
         };
-        let call = Call::new(meaning, t, frame);
+        let call = Call::new(binding, meaning, t, frame);
         self.ev(alloc, env, steps, &body, Some(&call), levels - 1)
     }
 }

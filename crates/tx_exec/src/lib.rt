@@ -6,19 +6,26 @@
 mod arg_rows;
 mod argument;
 mod assigning;
+mod binding;
+mod calls;
 mod children;
 mod errors;
 mod evaluator;
+mod flow;
 mod frame;
 mod looking;
 mod looks;
 mod macros;
+mod mapping;
 mod names;
 mod numbers;
 mod outcome;
+mod picks;
+mod primitives;
 mod progress;
 mod stop;
 mod storing;
+mod tuples;
 mod withs;
 
 pub use looks::Looks;

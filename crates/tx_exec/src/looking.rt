@@ -4,9 +4,9 @@ ghost use Rattle.tx_origin.specs.Values.{plain, made, none};
 ghost use Rattle.tx_origin.specs.TaggedTrees.{tagged_of, kids_of};
 ghost use Rattle.tx_exec_form.specs.Runs.{Before};
 ghost use Rattle.tx_exec_form.specs.Frames.{top};
-ghost use Rattle.tx_exec_form.specs.Rows.{row, value_of, provides_of, quote, macro, truth};
+ghost use Rattle.tx_exec_form.specs.Rows.{row, value_of, provides_of, quote, macro, xmacro, truth};
 ghost use Rattle.tx_exec.specs.Gives.{Gives, Counts};
-ghost use Rattle.tx_exec.specs.Kinds.{IsStill, nothing};
+ghost use Rattle.tx_exec.specs.Kinds.{IsStill, nothing, nothing_all};
 ghost use Rattle.tx_exec.specs.States.{state_of, before_of};
 
 use crate::children::kid;
@@ -35,7 +35,7 @@ impl Progress {
     ) -> Result<Value, Stop>
         requires kind { IsStill kind }
         ensures gives { (e : Before) → Gives (λ v. v) result
-            (row kind levels nothing (tagged_of t.now) label.now (kids_of (tagged_of t.now)) top
+            (row kind levels nothing nothing_all (tagged_of t.now) label.now (kids_of (tagged_of t.now)) top
             e (state_of self.old))
             (state_of self.new) }
         ensures paid { Counts result (steps.old + self.old.left) (steps.new + self.new.left) }
@@ -47,6 +47,7 @@ impl Progress {
             Row::RawData => Ok(without_parts(alloc, label, t)?),
             Row::DrdProps => Ok(Value::leaf(alloc, text_of(alloc, &[])?, None)?),
             Row::Macro => self.macro_itself(alloc, steps, t, label, levels),
+            Row::XMacro => self.xmacro_itself(alloc, steps, t, label, levels),
             Row::Quote => self.quote(alloc, steps, t, label, levels),
             _ => unreachable!(),
         }
@@ -150,6 +151,28 @@ impl Progress {
         self.need(t.tree.depth(), levels)?;
         self.pay(steps, t.tree.size() - 1)?;
         Ok(Value::whole(alloc, &t.tree, &t.at)?)
+    }
+
+    /// `xmacro`: itself.
+    #[tactic(auto, using(crate::proofs::AllArguments::xmacro_rules))]
+    pub(crate) fn xmacro_itself<L: Ledger>(
+        &mut self,
+        alloc: Global,
+        steps: &mut Steps<L>,
+        t: &Tagged,
+        label: &Label,
+        levels: u32,
+    ) -> Result<Value, Stop>
+        ensures gives { (e : Before) → Gives (λ v. v) result
+            (xmacro levels label.now (tagged_of t.now) (kids_of (tagged_of t.now))
+            e (state_of self.old))
+            (state_of self.new) }
+        ensures paid { Counts result (steps.old + self.old.left) (steps.new + self.new.left) }
+    {
+        if t.arity() != 2 {
+            return self.wrong(alloc, steps, levels, b"bad".as_slice(), label.bytes());
+        }
+        self.itself(alloc, steps, &t.tree, &t.at, levels)
     }
 }
 

@@ -3,15 +3,15 @@ ghost use Rattle.std.specs.Prelude.{◌≡◌, ◌+◌, ◌≤◌, Ok, Some, Non
 ghost use Rattle.tx_tree.specs.WideTree.{children_of};
 ghost use Rattle.tx_origin.specs.TaggedTrees.{tagged_of, kids_of};
 ghost use Rattle.std.specs.Prelude.{drop};
-ghost use Rattle.tx_exec_form.specs.Frames.{argument, first_of};
-ghost use Rattle.tx_exec_form.specs.Rows.{is_macro, macro_in};
-ghost use Rattle.tx_exec.specs.FrameView.{params_of, found_of, word_of};
+ghost use Rattle.tx_exec_form.specs.Frames.{argument, argument_in, call_all, top, first_of};
+ghost use Rattle.tx_exec_form.specs.Rows.{is_macro, is_xmacro, macro_in, xmacro_in};
+ghost use Rattle.tx_exec.specs.FrameView.{params_of, found_of, word_of, first_word};
 ghost use Rattle.std.specs.Prelude.{◌<◌};
 
 use crate::argument::Argument;
 use std::alloc::Global;
 use tx_base::Memory;
-use tx_origin::Tagged;
+use tx_origin::{Tagged, share_origin};
 use tx_tree::{Text, Tree};
 
 /// Whether the tree is a `macro`.
@@ -22,6 +22,32 @@ pub(crate) fn is_macro(tree: &Tree) -> bool
         None => false,
         Some(label) => label.bytes() == b"macro".as_slice(),
     }
+}
+
+/// Whether the tree is an `xmacro`.
+pub(crate) fn is_xmacro(tree: &Tree) -> bool
+    ensures { result ≡ is_xmacro tree.now }
+{
+    match tree.label() {
+        None => false,
+        Some(label) => label.bytes() == b"xmacro".as_slice(),
+    }
+}
+
+/// The second of two children, where the first is a text.
+#[tactic(auto, using(crate::proofs::AllArguments::body_rules, std::proofs::lemmas::Grind::common_steps))]
+pub(crate) fn body_behind(tree: &Tree) -> Option<&Tree>
+    ensures { MatchOption result (xmacro_in (children_of tree.now) ≡ None)
+        (λ b. xmacro_in (children_of tree.now) ≡ Some (first_word (children_of tree.now), b.now)) }
+{
+    let kids = tree.children();
+    if kids.len() != 2 {
+        return None;
+    }
+    if kids[0].text().is_none() {
+        return None;
+    }
+    Some(&kids[1])
 }
 
 /// The last child, where all before it are texts.
@@ -75,6 +101,31 @@ pub(crate) fn argument_of(
         if word_of(kid) == name {
             return argument_at(alloc, tag, i);
         }
+    }
+    Ok(Argument::Unbound)
+}
+
+// The text of the first child, or nothing.
+#[tactic(auto, using(crate::proofs::AllArguments::first_rules, std::proofs::lemmas::Grind::common_steps))]
+fn first_word(tree: &Tree) -> &[u8]
+    ensures { result.now ≡ first_word (children_of tree.now) }
+{
+    match tree.child(0) {
+        None => &[],
+        Some(kid) => word_of(kid),
+    }
+}
+
+/// What the name has where this is an `xmacro` and these are the arguments.
+pub(crate) fn all_arguments(meaning: &Tree, tag: &Tagged, name: &[u8]) -> Result<Argument, Memory>
+    ensures { IfOk result (λ r. found_of r
+        ≡ argument_in name.now (call_all (first_word (children_of meaning.now)) (kids_of (tagged_of tag.now)) top)) }
+{
+    if first_word(meaning) == name {
+        return Ok(Argument::All(Tagged {
+            tree: tag.tree.share()?,
+            at: share_origin(&tag.at)?,
+        }));
     }
     Ok(Argument::Unbound)
 }

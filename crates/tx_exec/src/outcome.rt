@@ -8,6 +8,7 @@ ghost use Rattle.tx_exec.specs.Outcomes.{wide_outcome, NamesOnce};
 ghost use Rattle.tx_exec.specs.declared.outcome.Outcome.TheVariants.{Over};
 
 use crate::looks::Looks;
+use crate::names::{looks_of, writes_of};
 use crate::progress::Progress;
 use crate::stop::Stop;
 use std::alloc::Global;
@@ -101,8 +102,8 @@ fn trace_from(
 {
     let cost = allowance - progress.left;
     let height = 400 - progress.slack;
-    let looks = progress.looks.into_looks(alloc)?;
-    let writes = progress.own.into_writes(alloc)?;
+    let looks = looks_of(progress.looks, alloc)?;
+    let writes = writes_of(progress.own, alloc)?;
     Ok(Outcome::Done(Trace {
         value,
         looks,

@@ -7,20 +7,19 @@ ghost use Rattle.tx_exec_form.specs.Runs.{Before, Done, pay, need, look};
 ghost use Rattle.tx_exec.specs.Gives.{Gives, Counts, CountsBut};
 ghost use Rattle.tx_exec.specs.States.{state_of, before_of};
 
-use crate::names::Names;
 use crate::stop::Stop;
 use std::alloc::Global;
 use std::sync::ledger::Ledger;
 use tx_base::{Memory, Steps};
-use tx_env::Env;
+use tx_env::{Env, Pairs};
 use tx_tree::{Text, Tree};
 
 /// What an evaluation has set and looked up, the steps that are left, and how many levels were left where the fewest
 /// were.
 #[derive(Drop)]
 pub(crate) struct Progress {
-    pub(crate) own: Names,
-    pub(crate) looks: Names,
+    pub(crate) own: Pairs,
+    pub(crate) looks: Pairs,
     pub(crate) left: u64,
     pub(crate) slack: u32,
 }
@@ -34,8 +33,8 @@ impl Progress {
         ensures slack { result.slack ≡ 400 }
     {
         Progress {
-            own: Names::new(alloc),
-            looks: Names::new(alloc),
+            own: Pairs::new(alloc),
+            looks: Pairs::new(alloc),
             left: allowance,
             slack: 400,
         }
@@ -109,7 +108,7 @@ impl Progress {
             ≡ record (state_of self.old) { own = with_pair name tree (state_of self.old).own }) }
         ensures left { self.new.left ≡ self.old.left }
     {
-        self.own.note(name, tree)
+        self.own.put(name, tree)
     }
 
     /// What a name has: what the evaluation has set, or else what it had before, which is a look.
@@ -126,7 +125,7 @@ impl Progress {
             None => None,
             Some(tree) => Some(tree.share()?),
         };
-        if self.looks.has(name) {
+        if self.looks.lists(name) {
             return Ok(found);
         }
         self.note(name, found)
@@ -142,7 +141,7 @@ impl Progress {
             None => None,
             Some(tree) => Some(tree.share()?),
         };
-        self.looks.note(name.copy()?, kept)?;
+        self.looks.put(name.copy()?, kept)?;
         Ok(found)
     }
 }

@@ -3,3 +3,4 @@ pub mod Follows
 pub mod Small
 pub mod Coming
 pub mod Tracing
+pub mod LabelTest

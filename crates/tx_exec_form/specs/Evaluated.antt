@@ -10,7 +10,8 @@ use Rattle.tx_exec_form.specs.Frames.{top}
 use Rattle.tx_exec_form.specs.Rows.{ex}
 use Rattle.tx_exec_form.specs.declared.TheConstants.{MOST_LEVELS}
 
--- the value, what was looked up and not set before, what is set at the end, and the fewest steps and levels that suffice
+-- the value, what was looked up and not set before, what is set at the end, and the fewest steps and levels that
+-- suffice
 pub record WideTrace : Type 0 where
   pub value : WideValue
   pub looks : LookMap
@@ -29,7 +30,8 @@ abbrev pub traced : ℕ → ℕ → Ran WideValue → Option WideTrace
 traced k c Over = None
 traced k c (Done v s) = Some (trace_of k c v s)
 
--- The trace of the tree without a frame, with k levels and c steps, where names have this before. None where it is over.
+-- The trace of the tree without a frame, with k levels and c steps, where names have this before. None where it is
+-- over.
 unfoldable pub evaluated_in : ℕ → ℕ → TaggedTree → Before → Option WideTrace
 evaluated_in k c t e = traced k c (ex k t top e (start k c))
 

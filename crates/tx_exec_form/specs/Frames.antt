@@ -1,5 +1,6 @@
--- Frames: the parameters of a macro with their arguments, and the frame of the caller.
-use Rattle.std.specs.Prelude.{ℕ, List, [], ◌∷◌, Option, Some, None, if◌then◌else◌}
+-- Frames: the parameters of a `macro` with their arguments, or the one parameter of an `xmacro` with all arguments, and
+-- the frame of the caller.
+use Rattle.std.specs.Prelude.{List, [], ◌∷◌, if◌then◌else◌}
 use Rattle.std.specs.Str.{bytes_eq}
 use Rattle.tx_origin.specs.TaggedTrees.{TaggedTree}
 use Rattle.tx_env.specs.Pairs.{Name}
@@ -7,16 +8,19 @@ use Rattle.tx_env.specs.Pairs.{Name}
 pub data Frame : Type 0 where
   top : Frame
   call : (parameters : List Name) → (arguments : List TaggedTree) → (caller : Frame) → Frame
+  call_all : (parameter : Name) → (arguments : List TaggedTree) → (caller : Frame) → Frame
 
 abbrev pub caller_of : Frame → Frame
 caller_of top = top
 caller_of (call parameters arguments caller) = caller
+caller_of (call_all parameter arguments caller) = caller
 
--- What a name has in a frame.
+-- What a name has in a frame: no parameter, a parameter without an argument, an argument, or all arguments.
 pub data Found : Type 0 where
   Unbound : Found
   Missing : Found
   Here : TaggedTree → Found
+  All : List TaggedTree → Found
 
 abbrev pub first_of : List TaggedTree → Found
 first_of [] = Missing
@@ -34,3 +38,4 @@ argument x (p ∷ ps) ts = if bytes_eq p x then first_of ts else argument x ps (
 abbrev pub argument_in : Name → Frame → Found
 argument_in x top = Unbound
 argument_in x (call parameters arguments caller) = argument x parameters arguments
+argument_in x (call_all parameter arguments caller) = if bytes_eq parameter x then All arguments else Unbound

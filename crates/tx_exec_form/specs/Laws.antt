@@ -17,7 +17,8 @@ Agrees e looks = (x : Name) (found : Option WideTree) → get looks x ≡ Some f
 -- In every environment that agrees with its looks this is the trace of the tree, wherever its cost and its height are
 -- allowed.
 abbrev pub Supports : WideTrace → TaggedTree → Type 0
-Supports trace t = (k c : ℕ) (e : Before) → Agrees e trace.looks → trace.cost ≤ c → trace.height ≤ k → evaluated_in k c t e ≡ Some trace
+Supports trace t = (k c : ℕ) (e : Before) → Agrees e trace.looks → trace.cost ≤ c → trace.height ≤ k →
+    evaluated_in k c t e ≡ Some trace
 
 -- Whatever trace the tree has where names have this, its cost passes c or its height passes k.
 abbrev pub IsPast : ℕ → ℕ → TaggedTree → Before → Type 0

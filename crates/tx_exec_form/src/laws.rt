@@ -1,29 +1,43 @@
 // Laws of evaluation.
-ghost use Rattle.std.specs.Prelude.{Some, None, ◌≡◌, ◌<◌, ◌≤◌, ◌⊎◌, ◌↔◌, ℕ};
+ghost use Rattle.std.specs.Prelude.{Some, None, ◌≡◌, ◌<◌, ◌≤◌, ◌⊎◌, ◌↔◌, ℕ, List, true};
 ghost use Rattle.tx_tree.specs.WideTree.{size_of, depth_of};
+ghost use Rattle.tx_tree.specs.Labels.{IsLabel};
 ghost use Rattle.tx_origin.specs.Values.{plain};
 ghost use Rattle.tx_origin.specs.TaggedTrees.{TaggedTree};
 ghost use Rattle.tx_exec_form.specs.Runs.{Before};
+ghost use Rattle.tx_exec_form.specs.Words.{is_label};
 ghost use Rattle.tx_exec_form.specs.Evaluated.{WideTrace, evaluated_in};
 ghost use Rattle.tx_exec_form.specs.Laws.{Agrees, Supports, IsPast, ComesFrom};
 
 /// A trace supports its tree: in every environment that agrees with its looks the tree has this trace, exactly where
 /// cost and height are allowed.
 pub fn trace_laws()
-    ensures supports { (k c : ℕ) (t : TaggedTree) (e : Before) (trace : WideTrace) → evaluated_in k c t e ≡ Some trace → Supports trace t }
-    ensures over { (k c : ℕ) (t : TaggedTree) (e : Before) (trace : WideTrace) → evaluated_in k c t e ≡ Some trace → (k' c' : ℕ) (e' : Before) → Agrees e' trace.looks → (c' < trace.cost) ⊎ (k' < trace.height) → evaluated_in k' c' t e' ≡ None }
+    ensures supports { (k c : ℕ) (t : TaggedTree) (e : Before) (trace : WideTrace) → evaluated_in k c t e ≡ Some trace →
+        Supports trace t }
+    ensures over { (k c : ℕ) (t : TaggedTree) (e : Before) (trace : WideTrace) → evaluated_in k c t e ≡ Some trace →
+        (k' c' : ℕ) (e' : Before) → Agrees e' trace.looks → (c' < trace.cost) ⊎ (k' < trace.height) →
+        evaluated_in k' c' t e' ≡ None }
     ensures exactly { (k c : ℕ) (t : TaggedTree) (e : Before) → (evaluated_in k c t e ≡ None) ↔ IsPast k c t e }
-    ensures agrees { (k c : ℕ) (t : TaggedTree) (e : Before) (trace : WideTrace) → evaluated_in k c t e ≡ Some trace → Agrees e trace.looks }
-    ensures allowed { (k c : ℕ) (t : TaggedTree) (e : Before) (trace : WideTrace) → evaluated_in k c t e ≡ Some trace → (trace.cost ≤ c) × (trace.height ≤ k) }
+    ensures agrees { (k c : ℕ) (t : TaggedTree) (e : Before) (trace : WideTrace) → evaluated_in k c t e ≡ Some trace →
+        Agrees e trace.looks }
+    ensures allowed { (k c : ℕ) (t : TaggedTree) (e : Before) (trace : WideTrace) → evaluated_in k c t e ≡ Some trace →
+        (trace.cost ≤ c) × (trace.height ≤ k) }
 {}
 
 /// A value is no larger than its cost, and no deeper than its height.
 pub fn size_law()
-    ensures { (k c : ℕ) (t : TaggedTree) (e : Before) (trace : WideTrace) → evaluated_in k c t e ≡ Some trace → (size_of (plain trace.value) ≤ trace.cost) × (depth_of (plain trace.value) ≤ trace.height) }
+    ensures { (k c : ℕ) (t : TaggedTree) (e : Before) (trace : WideTrace) → evaluated_in k c t e ≡ Some trace →
+        (size_of (plain trace.value) ≤ trace.cost) × (depth_of (plain trace.value) ≤ trace.height) }
 {}
 
 /// Where the tree has an origin, each text of its value that has one is the text that stands there in the tree, and the
 /// origin of each node leads in it. A tree without an origin gives a value without origins.
 pub fn origin_law()
-    ensures { (k c : ℕ) (t : TaggedTree) (e : Before) (trace : WideTrace) → evaluated_in k c t e ≡ Some trace → ComesFrom t trace.value }
+    ensures { (k c : ℕ) (t : TaggedTree) (e : Before) (trace : WideTrace) → evaluated_in k c t e ≡ Some trace →
+        ComesFrom t trace.value }
+{}
+
+/// `map-args` takes for its two tags just what is a label.
+pub fn label_law()
+    ensures { (l : List ℕ) → (is_label l ≡ true) ↔ IsLabel l }
 {}

@@ -6,8 +6,11 @@
 mod laws;
 mod rows;
 
-pub use laws::{origin_law, size_law, trace_laws};
+pub use laws::{label_law, origin_law, size_law, trace_laws};
 pub use rows::{Row, Taking, Unary, row_for};
 
 /// How many levels an evaluation has.
 pub const MOST_LEVELS: u32 = 400;
+
+/// How many turns a `while` has at most.
+pub const MOST_TURNS: u32 = 65_535;

@@ -1,6 +1,6 @@
 // The row of the table of evaluation that a label has.
 ghost use Rattle.std.specs.Prelude.{◌≡◌};
-ghost use Rattle.tx_exec_form.specs.Words.{is_same, is_refused, row_of};
+ghost use Rattle.tx_exec_form.specs.Words.{is_same, is_refused, name_row_of, row_of};
 
 /// A row of the table of evaluation.
 #[derive(Clone, Copy, Debug, PartialEq, Eq)]
@@ -25,13 +25,23 @@ pub enum Row {
     Eval,
     /// `macro`
     Macro,
+    /// `xmacro`
+    XMacro,
     /// `quote`
     Quote,
     /// `arg`
     Arg,
     /// `quote-arg`
     QuoteArg,
-    /// Any other tag.
+    /// `map-args`
+    MapArgs,
+    /// `if`
+    If,
+    /// `case`
+    Case,
+    /// `while`
+    While,
+    /// The name of a primitive, or any other tag.
     Tag,
 }
 
@@ -77,6 +87,37 @@ fn is_refused(label: &[u8]) -> bool
         || label == b"action".as_slice()
 }
 
+// The row that names variables or keeps trees, or that of any other tag.
+fn name_row(label: &[u8]) -> Row
+    ensures { result ≡ name_row_of label.now }
+{
+    if label == b"assign".as_slice() {
+        return Row::Assign;
+    }
+    if label == b"with".as_slice() {
+        return Row::With;
+    }
+    if label == b"value".as_slice() {
+        return Row::Value;
+    }
+    if label == b"provides".as_slice() {
+        return Row::Provides;
+    }
+    if label == b"macro".as_slice() {
+        return Row::Macro;
+    }
+    if label == b"xmacro".as_slice() {
+        return Row::XMacro;
+    }
+    if label == b"quote".as_slice() {
+        return Row::Quote;
+    }
+    if label == b"eval".as_slice() {
+        return Row::Eval;
+    }
+    Row::Tag
+}
+
 /// The row of this label.
 pub fn row_for(label: &[u8]) -> Row
     ensures { result ≡ row_of label.now }
@@ -93,32 +134,23 @@ pub fn row_for(label: &[u8]) -> Row
     if label == b"drd-props".as_slice() {
         return Row::DrdProps;
     }
-    if label == b"assign".as_slice() {
-        return Row::Assign;
-    }
-    if label == b"with".as_slice() {
-        return Row::With;
-    }
-    if label == b"value".as_slice() {
-        return Row::Value;
-    }
-    if label == b"provides".as_slice() {
-        return Row::Provides;
-    }
-    if label == b"macro".as_slice() {
-        return Row::Macro;
-    }
-    if label == b"quote".as_slice() {
-        return Row::Quote;
-    }
-    if label == b"eval".as_slice() {
-        return Row::Eval;
-    }
     if label == b"arg".as_slice() {
         return Row::Arg;
     }
     if label == b"quote-arg".as_slice() {
         return Row::QuoteArg;
     }
-    Row::Tag
+    if label == b"map-args".as_slice() {
+        return Row::MapArgs;
+    }
+    if label == b"if".as_slice() {
+        return Row::If;
+    }
+    if label == b"case".as_slice() {
+        return Row::Case;
+    }
+    if label == b"while".as_slice() {
+        return Row::While;
+    }
+    name_row(label)
 }

@@ -4,6 +4,10 @@
 #[cfg(test)]
 mod cases;
 #[cfg(test)]
+mod computed;
+#[cfg(test)]
+mod conditions;
+#[cfg(test)]
 mod found;
 #[cfg(test)]
 mod heights;

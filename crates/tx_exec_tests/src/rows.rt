@@ -2,6 +2,8 @@
 ghost use Rattle.std.specs.Prelude.{◌≡◌, ◌≤◌};
 
 use crate::cases::{Case, at_root, set_all, tree_of};
+use crate::computed::{COMPUTED, COMPUTED_TOO};
+use crate::conditions::{ALL_ARGUMENTS, CONDITIONS, FLOW};
 use crate::found::{FOUND, FOUND_TOO};
 use crate::heights::passed;
 use crate::traces::is_trace;
@@ -118,4 +120,29 @@ fn trees_of_an_independent_reader(rt: HostRuntime) {
 #[test]
 fn more_trees_of_an_independent_reader(rt: HostRuntime) {
     assert!(rt; first_wrong::<Brand>(rt.alloc(), FOUND_TOO, Blank::new(1)) == None);
+}
+
+#[test]
+fn conditions_and_loops(rt: HostRuntime) {
+    assert!(rt; first_wrong::<Brand>(rt.alloc(), CONDITIONS, Blank::new(1)) == None);
+}
+
+#[test]
+fn macros_with_all_arguments(rt: HostRuntime) {
+    assert!(rt; first_wrong::<Brand>(rt.alloc(), ALL_ARGUMENTS, Blank::new(1)) == None);
+}
+
+#[test]
+fn flow_of_an_independent_reader(rt: HostRuntime) {
+    assert!(rt; first_wrong::<Brand>(rt.alloc(), FLOW, Blank::new(1)) == None);
+}
+
+#[test]
+fn primitives_of_an_independent_reader(rt: HostRuntime) {
+    assert!(rt; first_wrong::<Brand>(rt.alloc(), COMPUTED, Blank::new(1)) == None);
+}
+
+#[test]
+fn more_primitives_of_an_independent_reader(rt: HostRuntime) {
+    assert!(rt; first_wrong::<Brand>(rt.alloc(), COMPUTED_TOO, Blank::new(1)) == None);
 }

@@ -1,23 +1,28 @@
 use Rattle.std.proofs.Common.{rules, [], ◌≡◌, ◌+◌, ◌*◌, ◌-◌, ◌<◌, drop, arith, ap, sym, ◌∙◌, refl, length, ◌≤◌}
 use Rattle.std.proofs.lemmas.Grind.{common_steps}
 use Rattle.std.proofs.lemmas.Result.{err_from_is_err_and}
-use Rattle.std.specs.Prelude.{codes}
+use Rattle.std.specs.Prelude.{codes, Some, None, true, false}
 use Rattle.tx_tree.specs.WideTree.{size_of}
 use Rattle.tx_origin.specs.Values.{plain}
 use Rattle.tx_origin.specs.TaggedTrees.{tagged_of, kids_of}
 use Rattle.tx_origin.proofs.Parts.{nodes_le_size}
 use Rattle.tx_exec_form.specs.Runs.{on_done}
-use Rattle.tx_exec_form.specs.Rows.{ex, each, with_parts, wrong}
+use Rattle.tx_exec_form.specs.declared.TheConstants.{MOST_TURNS}
+use Rattle.tx_exec_form.specs.Rows.{ex, each, with_parts, wrong, chosen, turns}
 use Rattle.tx_exec.specs.FrameView.{frame_in}
 use Rattle.tx_exec.specs.States.{state_of, before_of}
 use Rattle.tx_exec.specs.Settings.{sets_of, held_of}
 use Rattle.tx_exec.specs.Gives.{Fails}
+use Rattle.tx_exec.specs.FlowRuns.{truth_run}
 use Rattle.tx_exec.specs.PartRuns.{kid_run, paired, stored_pair, ended}
 use Rattle.tx_exec.proofs.Each.{gives_as, fails_as, stop_bind, each_next, each_stop}
 use Rattle.tx_exec.proofs.Sizes.{next_size, next_depth}
 use Rattle.tx_exec.proofs.Levels.{ex_leaf, ex_node}
 use Rattle.tx_exec.proofs.WithLoop.{row_odd, row_even, two_kids, pair_stop, pair_bad, pair_next, with_last, told_next}
 use Rattle.tx_exec.proofs.WithLoop.{set_back, with_unpaid, with_begun, held_begun, held_done}
+use Rattle.tx_exec.proofs.Choosing.{pick_stop, pick_bad, pick_true, pick_false, pick_last, pick_nothing, found_as, odd_count}
+use Rattle.tx_exec.proofs.Turning.{turn_stop, turn_bad, turn_end, body_stop, turn_next, last_stop, last_bad, last_holds}
+use Rattle.tx_exec.proofs.Turning.{one_less}
 use Rattle.tx_exec.proofs.progress.Progress.+ev.Goals as goal
 
 pub level-returns-in-Some-clause-gives : goal.level-returns-in-Some-clause-gives
@@ -268,3 +273,319 @@ with_parts-returns-in-None-clause-gives g t c =
     search rules in
     let last = with_last k below f label at vs ps kids c.args.pairs e s1 c.requires.pairs in
     gives_as (λ v. v) c.with_body.result _ _ _ (goes ∙ last) c.with_body.ensures.gives
+
+pub pick-returns-in_err-found-clause-goes : goal.pick-returns-in_err-found-clause-goes
+pick-returns-in_err-found-clause-goes g t c =
+    let k = c.args.levels in
+    let below = ex (c.args.levels - 1) in
+    let f = frame_in c.args.frame in
+    let label = c.args.label.now in
+    let e = before_of c.args.env.now in
+    let kids = kids_of (tagged_of c.args.t.now) in
+    let i = c.loop-i.i in
+    let s = state_of c.loop-i.self in
+    let whole = chosen k below f label kids e (state_of c.args.self.now) in
+    let run = c.loop-i.invariant.run in
+    let lt : 2 * i + 1 < length kids =
+    omega (arith, c.loop-i-test.true, c.half-pairs.ensures.least, c.arity-count.ensures) in
+    let here = c.in_ok-condition.ensures in
+    let condition = tagged_of c.in_ok-condition.condition in
+    let p = err_from_is_err_and c.from_residual-in_err-found.result c.from_residual-in_err-found.ensures.1 in
+    let stop = pick_stop k below f label kids i condition e s whole here lt run in
+    rw (p.1, p.2) (stop c.in_err-found.field-0.0 c.in_err-found.ensures.gives)
+
+pub pick-returns-in_default-clause-goes : goal.pick-returns-in_default-clause-goes
+pick-returns-in_default-clause-goes g t c =
+    let k = c.args.levels in
+    let below = ex (c.args.levels - 1) in
+    let f = frame_in c.args.frame in
+    let label = c.args.label.now in
+    let e = before_of c.args.env.now in
+    let kids = kids_of (tagged_of c.args.t.now) in
+    let i = c.loop-i.i in
+    let s = state_of c.loop-i.self in
+    let whole = chosen k below f label kids e (state_of c.args.self.now) in
+    let run = c.loop-i.invariant.run in
+    let lt : 2 * i + 1 < length kids =
+    omega (arith, c.loop-i-test.true, c.half-pairs.ensures.least, c.arity-count.ensures) in
+    let here = c.in_ok-condition.ensures in
+    let condition = tagged_of c.in_ok-condition.condition in
+    let gave = truth_run below f condition e s in
+    let found =
+    found_as gave c.in_ok-found.found None (state_of c.truth.new.self)
+    c.in_ok-found.ensures.gives c.in_default.is in
+    pick_bad k below f label kids i condition e s whole here lt run (state_of c.truth.new.self) found
+
+pub pick-returns-then-holds-clause-goes : goal.pick-returns-then-holds-clause-goes
+pick-returns-then-holds-clause-goes g t c =
+    let k = c.args.levels in
+    let below = ex (c.args.levels - 1) in
+    let f = frame_in c.args.frame in
+    let label = c.args.label.now in
+    let e = before_of c.args.env.now in
+    let kids = kids_of (tagged_of c.args.t.now) in
+    let i = c.loop-i.i in
+    let s = state_of c.loop-i.self in
+    let whole = chosen k below f label kids e (state_of c.args.self.now) in
+    let run = c.loop-i.invariant.run in
+    let lt : 2 * i + 1 < length kids =
+    omega (arith, c.loop-i-test.true, c.half-pairs.ensures.least, c.arity-count.ensures) in
+    let here = c.in_ok-condition.ensures in
+    let condition = tagged_of c.in_ok-condition.condition in
+    let gave = truth_run below f condition e s in
+    let found =
+    found_as gave c.in_ok-found.found (Some true) (state_of c.truth.new.self)
+    c.in_ok-found.ensures.gives (c.in-Some.is ∙ ap Some c.if-holds.true) in
+    pick_true k below f label kids i condition e s whole here lt run (state_of c.truth.new.self) found
+
+pub pick-loop-i-preserved : goal.pick-loop-i-preserved
+pick-loop-i-preserved g t c =
+    let k = c.args.levels in
+    let below = ex (c.args.levels - 1) in
+    let f = frame_in c.args.frame in
+    let label = c.args.label.now in
+    let e = before_of c.args.env.now in
+    let kids = kids_of (tagged_of c.args.t.now) in
+    let i = c.loop-i.i in
+    let s = state_of c.loop-i.self in
+    let whole = chosen k below f label kids e (state_of c.args.self.now) in
+    let run = c.loop-i.invariant.run in
+    let lt : 2 * i + 1 < length kids =
+    omega (arith, c.loop-i-test.true, c.half-pairs.ensures.least, c.arity-count.ensures) in
+    let here = c.in_ok-condition.ensures in
+    let condition = tagged_of c.in_ok-condition.condition in
+    let gave = truth_run below f condition e s in
+    let found =
+    found_as gave c.in_ok-found.found (Some false) (state_of c.truth.new.self)
+    c.in_ok-found.ensures.gives (c.in-Some.is ∙ ap Some c.if-holds.false) in
+    record {
+      run = pick_false k below f label kids i condition e s whole here lt run (state_of c.truth.new.self) found;
+      paid = omega (arith, c.loop-i.invariant.paid, c.in_ok-found.ensures.paid);
+      left = omega (arith, c.loop-i.invariant.left, c.in_ok-found.ensures.left);
+    }
+
+pub pick-returns-then-count-pairs-clause-goes : goal.pick-returns-then-count-pairs-clause-goes
+pick-returns-then-count-pairs-clause-goes g t c =
+    let k = c.args.levels in
+    let below = ex (c.args.levels - 1) in
+    let f = frame_in c.args.frame in
+    let label = c.args.label.now in
+    let e = before_of c.args.env.now in
+    let kids = kids_of (tagged_of c.args.t.now) in
+    let i = c.loop-i.i in
+    let s = state_of c.loop-i.self in
+    let whole = chosen k below f label kids e (state_of c.args.self.now) in
+    let run = c.loop-i.invariant.run in
+    let all : i ≡ c.half-pairs.result = omega (arith, c.loop-i-test.false, c.loop-i.auto.i-end) in
+    pick_nothing k below f label kids i c.half-pairs.result e s whole all run
+    (omega (arith, c.arity-count.ensures, c.if-count-pairs.true))
+
+pub pick-returns-clause-goes : goal.pick-returns-clause-goes
+pick-returns-clause-goes g t c =
+    let k = c.args.levels in
+    let below = ex (c.args.levels - 1) in
+    let f = frame_in c.args.frame in
+    let label = c.args.label.now in
+    let e = before_of c.args.env.now in
+    let kids = kids_of (tagged_of c.args.t.now) in
+    let i = c.loop-i.i in
+    let s = state_of c.loop-i.self in
+    let whole = chosen k below f label kids e (state_of c.args.self.now) in
+    let run = c.loop-i.invariant.run in
+    let all : i ≡ c.half-pairs.result = omega (arith, c.loop-i-test.false, c.loop-i.auto.i-end) in
+    let odd =
+    odd_count c.arity-count.result c.half-pairs.result c.half-pairs.ensures.least c.half-pairs.ensures.most
+    c.if-count-pairs.false in
+    pick_last k below f label kids i c.half-pairs.result e s whole all run (omega (arith, c.arity-count.ensures, odd))
+
+pub all_turns-returns-in_err-found-clause-goes : goal.all_turns-returns-in_err-found-clause-goes
+all_turns-returns-in_err-found-clause-goes g t c =
+    let k = c.args.levels in
+    let below = ex (c.args.levels - 1) in
+    let f = frame_in c.args.frame in
+    let label = c.args.label.now in
+    let e = before_of c.args.env.now in
+    let condition = tagged_of c.args.condition.now in
+    let body = tagged_of c.args.body.now in
+    let i = c.loop-turn.turn in
+    let vs = c.loop-turn.values.items in
+    let s = state_of c.loop-turn.self in
+    let whole = turns MOST_TURNS k below f label condition body [] e (state_of c.args.self.now) in
+    let run = c.loop-turn.invariant.run in
+    let more = one_less MOST_TURNS i c.loop-turn-test.true in
+    let left = MOST_TURNS - i in
+    let next = MOST_TURNS - (i + 1) in
+    let p = err_from_is_err_and c.from_residual.result c.from_residual.ensures.1 in
+    let stop = turn_stop k below f label condition body vs e s whole left next more run in
+    rw (p.1, p.2) (stop c.in_err-found.field-0.0 c.in_err-found.ensures.gives)
+
+pub all_turns-returns-in_default-clause-goes : goal.all_turns-returns-in_default-clause-goes
+all_turns-returns-in_default-clause-goes g t c =
+    let k = c.args.levels in
+    let below = ex (c.args.levels - 1) in
+    let f = frame_in c.args.frame in
+    let label = c.args.label.now in
+    let e = before_of c.args.env.now in
+    let condition = tagged_of c.args.condition.now in
+    let body = tagged_of c.args.body.now in
+    let i = c.loop-turn.turn in
+    let vs = c.loop-turn.values.items in
+    let s = state_of c.loop-turn.self in
+    let whole = turns MOST_TURNS k below f label condition body [] e (state_of c.args.self.now) in
+    let run = c.loop-turn.invariant.run in
+    let more = one_less MOST_TURNS i c.loop-turn-test.true in
+    let left = MOST_TURNS - i in
+    let next = MOST_TURNS - (i + 1) in
+    let gave = truth_run below f condition e s in
+    let found =
+    found_as gave c.in_ok-found.found None (state_of c.truth.new.self)
+    c.in_ok-found.ensures.gives c.in_default.is in
+    turn_bad k below f label condition body vs e s whole left next more run (state_of c.truth.new.self) found
+
+pub all_turns-returns-then-not-holds-clause-goes : goal.all_turns-returns-then-not-holds-clause-goes
+all_turns-returns-then-not-holds-clause-goes g t c =
+    let k = c.args.levels in
+    let below = ex (c.args.levels - 1) in
+    let f = frame_in c.args.frame in
+    let label = c.args.label.now in
+    let e = before_of c.args.env.now in
+    let condition = tagged_of c.args.condition.now in
+    let body = tagged_of c.args.body.now in
+    let i = c.loop-turn.turn in
+    let vs = c.loop-turn.values.items in
+    let s = state_of c.loop-turn.self in
+    let whole = turns MOST_TURNS k below f label condition body [] e (state_of c.args.self.now) in
+    let run = c.loop-turn.invariant.run in
+    let more = one_less MOST_TURNS i c.loop-turn-test.true in
+    let left = MOST_TURNS - i in
+    let next = MOST_TURNS - (i + 1) in
+    let gave = truth_run below f condition e s in
+    let found =
+    found_as gave c.in_ok-found.found (Some false) (state_of c.truth.new.self)
+    c.in_ok-found.ensures.gives (c.in-Some.is ∙ ap Some c.if-not-holds.true) in
+    turn_end k below f label condition body vs e s whole left next more run (state_of c.truth.new.self) found
+
+pub all_turns-returns-in_err-value-clause-goes : goal.all_turns-returns-in_err-value-clause-goes
+all_turns-returns-in_err-value-clause-goes g t c =
+    let k = c.args.levels in
+    let below = ex (c.args.levels - 1) in
+    let f = frame_in c.args.frame in
+    let label = c.args.label.now in
+    let e = before_of c.args.env.now in
+    let condition = tagged_of c.args.condition.now in
+    let body = tagged_of c.args.body.now in
+    let i = c.loop-turn.turn in
+    let vs = c.loop-turn.values.items in
+    let s = state_of c.loop-turn.self in
+    let whole = turns MOST_TURNS k below f label condition body [] e (state_of c.args.self.now) in
+    let run = c.loop-turn.invariant.run in
+    let more = one_less MOST_TURNS i c.loop-turn-test.true in
+    let left = MOST_TURNS - i in
+    let next = MOST_TURNS - (i + 1) in
+    let p = err_from_is_err_and c.from_residual-in_err-value.result c.from_residual-in_err-value.ensures.1 in
+    let gave = truth_run below f condition e s in
+    let found =
+    found_as gave c.in_ok-found.found (Some true) (state_of c.truth.new.self)
+    c.in_ok-found.ensures.gives (c.in-Some.is ∙ ap Some c.if-not-holds.false) in
+    let stop = body_stop k below f label condition body vs e s whole left next more run (state_of c.truth.new.self) in
+    rw (p.1, p.2) (stop c.in_err-value.field-0.0 found c.in_err-value.ensures.gives)
+
+pub all_turns-loop-turn-preserved : goal.all_turns-loop-turn-preserved
+all_turns-loop-turn-preserved g t c =
+    let k = c.args.levels in
+    let below = ex (c.args.levels - 1) in
+    let f = frame_in c.args.frame in
+    let label = c.args.label.now in
+    let e = before_of c.args.env.now in
+    let condition = tagged_of c.args.condition.now in
+    let body = tagged_of c.args.body.now in
+    let i = c.loop-turn.turn in
+    let vs = c.loop-turn.values.items in
+    let s = state_of c.loop-turn.self in
+    let whole = turns MOST_TURNS k below f label condition body [] e (state_of c.args.self.now) in
+    let run = c.loop-turn.invariant.run in
+    let more = one_less MOST_TURNS i c.loop-turn-test.true in
+    let left = MOST_TURNS - i in
+    let next = MOST_TURNS - (i + 1) in
+    let gave = truth_run below f condition e s in
+    let found =
+    found_as gave c.in_ok-found.found (Some true) (state_of c.truth.new.self)
+    c.in_ok-found.ensures.gives (c.in-Some.is ∙ ap Some c.if-not-holds.false) in
+    let held = c.loop-turn.invariant in
+    let pushed = c.in_ok-push.ensures.items in
+    record {
+      run =
+          turn_next k below f label condition body vs e s whole left next more run (state_of c.truth.new.self)
+          (state_of c.ev.new.self) c.in_ok-value.value c.push.new.self.items found c.in_ok-value.ensures.gives pushed;
+      paid = omega (arith, held.paid, c.in_ok-found.ensures.paid, c.in_ok-value.ensures.paid);
+      few = grind (arith, common_steps, held.few, pushed);
+      size =
+          next_size _ _ _ _ _ _ pushed (omega (arith, held.size, c.in_ok-found.ensures.left))
+          c.in_ok-value.ensures.size;
+      depth = next_depth _ _ _ _ pushed held.depth c.in_ok-value.ensures.depth;
+    }
+
+pub all_turns-returns-in_err-last-clause-goes : goal.all_turns-returns-in_err-last-clause-goes
+all_turns-returns-in_err-last-clause-goes g t c =
+    let k = c.args.levels in
+    let below = ex (c.args.levels - 1) in
+    let f = frame_in c.args.frame in
+    let label = c.args.label.now in
+    let e = before_of c.args.env.now in
+    let condition = tagged_of c.args.condition.now in
+    let body = tagged_of c.args.body.now in
+    let i = c.loop-turn.turn in
+    let vs = c.loop-turn.values.items in
+    let s = state_of c.loop-turn.self in
+    let whole = turns MOST_TURNS k below f label condition body [] e (state_of c.args.self.now) in
+    let run = c.loop-turn.invariant.run in
+    let left = MOST_TURNS - i in
+    let none : left ≡ 0 = omega (arith, c.loop-turn-test.false, c.loop-turn.auto.turn-end) in
+    let p = err_from_is_err_and c.from_residual-in_err-last.result c.from_residual-in_err-last.ensures.1 in
+    let stop = last_stop k below f label condition body vs e s whole left none run in
+    rw (p.1, p.2) (stop c.in_err-last.field-0.0 c.in_err-last.ensures.gives)
+
+pub all_turns-returns-in-None-clause-goes : goal.all_turns-returns-in-None-clause-goes
+all_turns-returns-in-None-clause-goes g t c =
+    let k = c.args.levels in
+    let below = ex (c.args.levels - 1) in
+    let f = frame_in c.args.frame in
+    let label = c.args.label.now in
+    let e = before_of c.args.env.now in
+    let condition = tagged_of c.args.condition.now in
+    let body = tagged_of c.args.body.now in
+    let i = c.loop-turn.turn in
+    let vs = c.loop-turn.values.items in
+    let s = state_of c.loop-turn.self in
+    let whole = turns MOST_TURNS k below f label condition body [] e (state_of c.args.self.now) in
+    let run = c.loop-turn.invariant.run in
+    let left = MOST_TURNS - i in
+    let none : left ≡ 0 = omega (arith, c.loop-turn-test.false, c.loop-turn.auto.turn-end) in
+    let gave = truth_run below f condition e s in
+    let found =
+    found_as gave c.in_ok-last.last None (state_of c.truth-2.new.self)
+    c.in_ok-last.ensures.gives c.in-None.is in
+    last_bad k below f label condition body vs e s whole left none run (state_of c.truth-2.new.self) found
+
+pub all_turns-returns-in-Some-last-clause-goes : goal.all_turns-returns-in-Some-last-clause-goes
+all_turns-returns-in-Some-last-clause-goes g t c =
+    let k = c.args.levels in
+    let below = ex (c.args.levels - 1) in
+    let f = frame_in c.args.frame in
+    let label = c.args.label.now in
+    let e = before_of c.args.env.now in
+    let condition = tagged_of c.args.condition.now in
+    let body = tagged_of c.args.body.now in
+    let i = c.loop-turn.turn in
+    let vs = c.loop-turn.values.items in
+    let s = state_of c.loop-turn.self in
+    let whole = turns MOST_TURNS k below f label condition body [] e (state_of c.args.self.now) in
+    let run = c.loop-turn.invariant.run in
+    let left = MOST_TURNS - i in
+    let none : left ≡ 0 = omega (arith, c.loop-turn-test.false, c.loop-turn.auto.turn-end) in
+    let gave = truth_run below f condition e s in
+    let found =
+    found_as gave c.in_ok-last.last (Some c.in-Some-last.holds) (state_of c.truth-2.new.self)
+    c.in_ok-last.ensures.gives c.in-Some-last.is in
+    let ends = last_holds k below f label condition body vs e s whole left none run c.in-Some-last.holds in
+    ends (state_of c.truth-2.new.self) c.last_ending.result found c.last_ending.ensures
