@@ -1,0 +1,10 @@
+pub mod Finding
+pub mod NearPlaces
+pub mod Numbering
+pub mod UnitRows
+pub mod Lining
+pub mod Stopping
+pub mod Taking
+pub mod Prefixes
+pub mod Overlaying
+pub mod Evaluating

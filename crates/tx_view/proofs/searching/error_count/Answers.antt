@@ -1,0 +1,15 @@
+use Rattle.std.proofs.Common.{◌-◌, length, refl, ap, arith}
+use Rattle.tx_view_form.specs.Views.{UnitView}
+use Rattle.tx_view.specs.Units.{unit_views, error_counts}
+use Rattle.tx_view.proofs.Numbering.{sums_length}
+use Rattle.tx_view.proofs.UnitRows.{last_is, placed_errors, as_many_errors}
+use Rattle.tx_view.proofs.searching.error_count.Goals as goal
+
+pub overflow_sub-result : goal.overflow_sub-result
+overflow_sub-result c = omega (arith, ap length c.requires, sums_length 0 (error_counts (unit_views c.args.units.now)))
+
+pub bounds-firsts-firsts : goal.bounds-firsts-firsts
+bounds-firsts-firsts c = omega (arith, ap length c.requires, sums_length 0 (error_counts (unit_views c.args.units.now)))
+
+pub returns : goal.returns
+returns c = last_is placed_errors (λ (x : UnitView). length x.errors) as_many_errors (unit_views c.args.units.now) c.args.firsts.now (length c.args.firsts.now - 1) c.requires refl

@@ -1,0 +1,10 @@
+use Rattle.std.proofs.Common.{◌≡◌, ◌++◌, ◌∷◌, [], length, take}
+use Rattle.tx_view_form.specs.Errors.{errors_of}
+use Rattle.tx_view.specs.Units.{unit_views, sums_from, error_counts}
+use Rattle.tx_view.proofs.searching.first_errors.Given as goal
+
+abbrev pub invariant-loop-unit : goal.invariant-loop-unit
+invariant-loop-unit l = record {
+  firsts_are : l.firsts.items ++ l.count ∷ [] ≡ sums_from 0 (error_counts (unit_views (take l.unit-index l.units)));
+  count_is : l.count ≡ length (errors_of (unit_views (take l.unit-index l.units)));
+}

@@ -1,0 +1,15 @@
+use Rattle.std.proofs.Common.{◌≡◌, ◌++◌, List, [], sym, subst, rules}
+use Rattle.tx_layout.specs.declared.layout.Line.{Line}
+use Rattle.tx_view_form.specs.Views.{AreLines, no_lines}
+use Rattle.tx_view.proofs.Lining.{lines_next}
+use Rattle.tx_view.proofs.shown.lines_of.Goals as goal
+
+pub loop-paragraph-init : goal.loop-paragraph-init
+loop-paragraph-init g c = subst (λ (ls : List Line). AreLines c.args.width [] ls) (sym c.new-all.ensures.items) no_lines
+
+pub loop-paragraph-preserved : goal.loop-paragraph-preserved
+loop-paragraph-preserved g c =
+    let e : c.append.new.self.items ≡ c.loop-paragraph.all.items ++ c.in_ok-own.own.items = search (rules, c.in_ok-append.ensures) in
+    lines_next c.args.width c.args.paragraphs.now c.loop-paragraph.paragraph-index c.paragraph-item.result c.loop-paragraph.all.items
+    c.in_ok-own.own.items c.append.new.self.items c.loop-paragraph-test.true c.paragraph-item.is c.loop-paragraph.invariant
+    c.in_ok-own.ensures.shape e

@@ -1,0 +1,6 @@
+use Rattle.std.proofs.Common.{take}
+use Rattle.tx_view_form.specs.Views.{AreLines}
+use Rattle.tx_view.proofs.shown.lines_of.Given as goal
+
+abbrev pub invariant-loop-paragraph : goal.invariant-loop-paragraph
+invariant-loop-paragraph g l = AreLines l.width (take l.paragraph-index l.paragraphs) l.all.items

@@ -1,0 +1,6 @@
+pub mod Variables
+pub mod Marks
+pub mod Units
+pub mod Rows
+pub mod Moments
+pub mod WholeViews

@@ -1,0 +1,35 @@
+-- What is kept of units, as the view has it.
+use Rattle.std.specs.Prelude.{◌≡◌, ℕ, ◌+◌, ◌-◌, ◌<◌, ◌^◌, nat_lt, List, [], ◌∷◌, map, length, Option, None, Some, All}
+use Rattle.std.specs.Prelude.{if◌then◌else◌}
+use Rattle.std.specs.Option.{option_map}
+use Rattle.tx_view_form.specs.Views.{UnitView}
+use Rattle.tx_view_form.specs.Positions.{IsShort}
+use Rattle.tx_view.specs.declared.shown.Shown.{Shown}
+
+abbrev pub unit_view : Shown → UnitView
+unit_view s = record { path = s.path; errors = s.errors.items; paragraphs = s.paragraphs.items; lines = s.lines.items }
+
+abbrev pub unit_views : List Shown → List UnitView
+unit_views xs = map unit_view xs
+
+-- the sums of the numbers before each, and of all
+abbrev pub sums_from : ℕ → List ℕ → List ℕ
+sums_from n [] = n ∷ []
+sums_from n (k ∷ ks) = n ∷ sums_from (n + k) ks
+
+abbrev pub row_counts : List UnitView → List ℕ
+row_counts xs = map (λ x. length x.lines) xs
+
+abbrev pub error_counts : List UnitView → List ℕ
+error_counts xs = map (λ x. length x.errors) xs
+
+-- of lists with so many elements, the one in which an element of all stands, and its number there
+abbrev pub number_in : List ℕ → ℕ → Option (ℕ × ℕ)
+number_in [] k = None
+number_in (n ∷ ns) k = if nat_lt k n then Some (0, k) else option_map (λ p. (p.0 + 1, p.1)) (number_in ns (k - n))
+
+-- only a unit with a path has lines, and the places of their clusters are short
+pub record IsReadable (x : UnitView) : Type 0 where
+  pub placed : x.path ≡ None → x.lines ≡ []
+  pub short : All (λ line. All IsShort line.items) x.lines
+  pub short_items : All (λ p. All IsShort p.items) x.paragraphs

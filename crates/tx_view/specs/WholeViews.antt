@@ -1,0 +1,68 @@
+-- A view, as contracts see it.
+use Rattle.std.specs.Prelude.{◌≡◌, ℕ, ◌≤◌, ◌<◌, ◌^◌, Bool, true, List, length, Option, All, refl}
+use Rattle.std.specs.Coded.{Coded, code_by, coded×, coded_list, coded_option, coded_ℕ, coded_bool}
+use Rattle.tx_doc.specs.contracts.buffer.Buffer as one_buffer
+use Rattle.tx_doc.specs.declared.buffer.Buffer.{Buffer}
+use Rattle.tx_items.specs.contracts.drawing.ErrorAt as one_error
+use Rattle.tx_items.specs.contracts.drawing.Paragraph as one_paragraph
+use Rattle.tx_layout.specs.contracts.layout.Line as one_line
+use Rattle.tx_lines.specs.contracts.cut.Cut as one_cut
+use Rattle.tx_lines.specs.declared.cut.Cut.{Cut}
+use Rattle.tx_items.specs.declared.drawing.ErrorAt.{ErrorAt}
+use Rattle.tx_items.specs.declared.drawing.Paragraph.{Paragraph}
+use Rattle.tx_layout.specs.declared.layout.Line.{Line}
+use Rattle.tx_view_form.specs.Views.{UnitView, WideView, IsView, lines_of}
+use Rattle.tx_view_form.specs.Errors.{errors_of}
+use Rattle.tx_view.specs.Units.{unit_view, unit_views, sums_from, row_counts, error_counts, IsReadable}
+use Rattle.tx_view.specs.declared.view.View.TheInside.{Inside}
+
+-- the buffers, the size of pages, whether it is fresh, and what is shown
+pub record WholeView : Type 0 where
+  pub buffers : List Buffer
+  pub width : ℕ
+  pub height : ℕ
+  pub fresh : Bool
+  pub shown : WideView
+
+abbrev pub whole_of : Inside → WholeView
+whole_of v =
+    record {
+      buffers = v.buffers.items;
+      width = v.width;
+      height = v.height;
+      fresh = v.fresh;
+      shown = record { units = unit_views v.units.items; pages = v.pages.items };
+    }
+
+-- what the fields have to do with one another
+pub record IsKept (v : Inside) : Type 0 where
+  pub some : 1 ≤ length v.buffers.items
+  pub few : length v.buffers.items ≤ 64
+  pub least_width : 20 ≤ v.width
+  pub most_width : v.width ≤ 500
+  pub least_height : 5 ≤ v.height
+  pub most_height : v.height ≤ 500
+  pub fresh : v.fresh ≡ true → IsView v.buffers.items v.width v.height (whole_of v).shown
+  pub rows : v.rows.items ≡ sums_from 0 (row_counts (unit_views v.units.items))
+  pub errors : v.errors.items ≡ sums_from 0 (error_counts (unit_views v.units.items))
+  pub readable : All (λ s. IsReadable (unit_view s)) v.units.items
+
+-- ---- the code by which proofs tell views apart
+
+abbrev unit_code : Coded UnitView
+unit_code = code_by (Option (List ℕ) × (List ErrorAt × (List Paragraph × List Line)))
+    (coded× (coded_option (coded_list coded_ℕ))
+    (coded× (coded_list one_error.the_row.coded)
+    (coded× (coded_list one_paragraph.the_row.coded) (coded_list one_line.the_row.coded))))
+    (λ x. (x.path, (x.errors, (x.paragraphs, x.lines))))
+    (λ p. record { path = p.0; errors = p.1.0; paragraphs = p.1.1.0; lines = p.1.1.1 }) (λ _. refl)
+
+abbrev view_code : Coded WideView
+view_code = code_by (List UnitView × List Cut) (coded× (coded_list unit_code) (coded_list one_cut.the_row.coded))
+    (λ v. (v.units, v.pages)) (λ p. record { units = p.0; pages = p.1 }) (λ _. refl)
+
+abbrev pub whole_code : Coded WholeView
+whole_code = code_by (List Buffer × (ℕ × (ℕ × (Bool × WideView))))
+    (coded× (coded_list one_buffer.the_row.coded) (coded× coded_ℕ (coded× coded_ℕ (coded× coded_bool view_code))))
+    (λ v. (v.buffers, (v.width, (v.height, (v.fresh, v.shown)))))
+    (λ p. record { buffers = p.0; width = p.1.0; height = p.1.1.0; fresh = p.1.1.1.0; shown = p.1.1.1.1 }) (λ _. refl)

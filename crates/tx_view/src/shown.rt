@@ -1,0 +1,88 @@
+// What is shown of a unit.
+ghost use Rattle.std.specs.Prelude.{◌≡◌, ◌≤◌, ◌<◌, ◌^◌, length, All, IfOk};
+ghost use Rattle.tx_tree.specs.WideTree.{size_of};
+ghost use Rattle.tx_origin.specs.Values.{plain};
+ghost use Rattle.tx_items.specs.Narrow.{IsNarrow};
+ghost use Rattle.tx_items.specs.Shows.{shown_paragraphs};
+ghost use Rattle.tx_view_form.specs.Views.{AreLines, IsShown};
+ghost use Rattle.tx_view_form.specs.Weights.{weight_of};
+ghost use Rattle.tx_view.specs.Units.{unit_view, IsReadable};
+
+use std::alloc::Global;
+use std::sync::ledger::Ledger;
+use tx_base::{Memory, Steps};
+use tx_items::{Attrs, ErrorAt, Paragraph, items};
+use tx_layout::{Line, lines};
+use tx_origin::Value;
+use tx_tree::Path;
+use tx_view_form::{short_law, weight_laws};
+
+/// What is shown of a unit. Nothing in it is told from where the unit stands among others.
+#[derive(Drop)]
+pub(crate) struct Shown {
+    /// The path of a unit that stands on pages.
+    pub(crate) path: Option<Path>,
+    pub(crate) errors: Vec<ErrorAt>,
+    pub(crate) paragraphs: Vec<Paragraph>,
+    pub(crate) lines: Vec<Line>,
+}
+
+// The lines of paragraphs, one paragraph after the other.
+fn lines_of<L: Ledger>(
+    alloc: Global,
+    paragraphs: &[Paragraph],
+    width: u32,
+    steps: &mut Steps<L>,
+) -> Result<Vec<Line>, Memory>
+    requires least_width { 20 ≤ width }
+    requires most_width { width ≤ 500 }
+    requires few { All (λ p. length p.items < 2 ^ 32) paragraphs.now }
+    requires narrow { All (λ p. All IsNarrow p.items) paragraphs.now }
+    ensures { IfOk result (λ ls. AreLines width paragraphs.now ls.items) }
+{
+    let mut all = Vec::new(alloc);
+    for paragraph in paragraphs {
+        let mut own = lines(alloc, paragraph, width, steps)?;
+        all.append(&mut own)?;
+    }
+    Ok(all)
+}
+
+/// What a unit with this path shows on pages of this width, where these are its value and the attributes before it.
+pub(crate) fn show<L: Ledger>(
+    alloc: Global,
+    path: &Option<Path>,
+    value: &Value,
+    attrs: &Attrs,
+    width: u32,
+    steps: &mut Steps<L>,
+) -> Result<Shown, Memory>
+    requires least_width { 20 ≤ width }
+    requires most_width { width ≤ 500 }
+    requires small { size_of (plain value.now) ≤ 1000000 }
+    ensures shown { IfOk result (λ s. IsShown width attrs.now value.now path.now (unit_view s)) }
+    ensures readable { IfOk result (λ s. IsReadable (unit_view s)) }
+    ensures few_lines { IfOk result (λ s. length s.lines.items ≤ weight_of (shown_paragraphs attrs.now value.now)) }
+    ensures few_errors { IfOk result (λ s. length s.errors.items ≤ size_of (plain value.now)) }
+{
+    let _size = value.size();
+    weight_laws();
+    short_law();
+    let (paragraphs, errors) = items(alloc, value, attrs)?;
+    let Some(path) = path else {
+        return Ok(Shown {
+            path: None,
+            errors,
+            paragraphs: Vec::new(alloc),
+            lines: Vec::new(alloc),
+        });
+    };
+    let own = path.copy(alloc)?;
+    let lines = lines_of(alloc, &paragraphs, width, steps)?;
+    Ok(Shown {
+        path: Some(own),
+        errors,
+        paragraphs,
+        lines,
+    })
+}

@@ -1,0 +1,16 @@
+mod LineCounts
+mod ErrorCounts
+mod ClusterCounts
+mod FormWeights
+mod ShownWeights
+mod Parting
+mod Single
+mod ClusterCuts
+mod ShownItems
+mod Marking
+mod OnLines
+mod Shortness
+mod Behind
+mod PathUnits
+mod Located
+mod Placing

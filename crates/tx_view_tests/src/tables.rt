@@ -1,0 +1,274 @@
+// Documents, and what their views show.
+ghost use Rattle.std.specs.Prelude.{◌≡◌};
+
+use crate::told::{errors_told, pages_told, place_told, stops_told, view_of};
+use std::alloc::Global;
+use std::marker::Brand;
+use std::sync::ledger::{Blank, Ledger};
+use std::test::Fail;
+use tx_base::Steps;
+
+// Buffers, the width and the height of pages, the lines with a stroke behind each line and each page, and the errors.
+type Shown = (&'static str, (u32, u32), &'static str, &'static str);
+
+const SHOWN: &[Shown] = &[
+    ("d (document)", (80, 24), "", ""),
+    (
+        "d (document (concat \"an \" (em \"important\") \" note\"))",
+        (80, 24),
+        "an important note//",
+        "",
+    ),
+    (
+        "d (document \"the quick brown fox jumps over the lazy dog\")",
+        (20, 24),
+        "the quick brown fox/jumps over the lazy/dog//",
+        "",
+    ),
+    (
+        "d (document \"xxxxxxxxxxxxxxxxxxxxxxxxxxxxxxxxxxxxxxxxxxxxx\")",
+        (20, 24),
+        "xxxxxxxxxxxxxxxxxxxx/xxxxxxxxxxxxxxxxxxxx/xxxxx//",
+        "",
+    ),
+    ("d (document \"a<alpha>b\")", (80, 24), "a\u{3b1}b//", ""),
+    (
+        "d (document (concat (with \"x\" \"1\" (assign \"x\" \"2\")) (provides \"x\")))",
+        (80, 24),
+        "false//",
+        "",
+    ),
+    (
+        "d (document (assign \"n\" \"1\") \"text\" (value \"n\"))",
+        (80, 24),
+        "/text/1//",
+        "",
+    ),
+    (
+        "d (document \"x\" (g))",
+        (80, 24),
+        "x/<g>//",
+        "/1 undefined-tag g/",
+    ),
+    (
+        "d (document (assign \"g\" (macro \"G\")) \"x\" (g))",
+        (80, 24),
+        "/x/G//",
+        "",
+    ),
+    (
+        "d (document (while \"true\" \"abcdefghij\") (while \"true\" \"a\") \"b\")",
+        (80, 24),
+        "<!over>/<!limit while>/b//",
+        "/0 over //1 limit while/",
+    ),
+    (
+        "d (document (plus \"1cm\" \"2mm\") (plus \"1\" \"a\") (plus \"9223372036854775807\" \"1\"))",
+        (80, 24),
+        "6000mcell/<!bad plus>/<!overflow plus>//",
+        "/1 bad plus//2 overflow plus/",
+    ),
+    (
+        "d (document (style \"s\") (body (document (hi \"x\"))));s (document (assign \"hi\" (macro \"x\" \
+            (concat \"Hi \" (arg \"x\")))))",
+        (80, 24),
+        "Hi x//",
+        "",
+    ),
+    (
+        "d (document (style \"article\") (body (document \"a\")))",
+        (80, 24),
+        "a//",
+        "- undefined-style article/",
+    ),
+    (
+        "d (document (style (tuple \"article\" \"article\")) (body (document \"a\")))",
+        (80, 24),
+        "a//",
+        "- undefined-style article/",
+    ),
+    (
+        "d (document \"a\" \"b\" \"c\" \"d\" \"e\" \"f\")",
+        (20, 5),
+        "a/b/c/d/e//f//",
+        "",
+    ),
+    (
+        "d (document (quote (with \"a\" \"b\")))",
+        (80, 24),
+        "<!bad with>//",
+        "/0 bad with/",
+    ),
+    // an attribute that a unit leaves holds for the units behind it
+    (
+        "d (document (assign \"par-left\" \"2spc\") \"a\" (with \"par-left\" \"4spc\" \"b\") \"c\")",
+        (80, 24),
+        "/  a/    b/  c//",
+        "",
+    ),
+];
+
+// Buffers, a width, a row, a column, and the place there, or a dash past the view.
+type Placed = (&'static str, u32, (u32, u32), &'static str);
+
+const CALL: &str =
+    "d (document (assign \"f\" (macro \"x\" (concat \"[\" (arg \"x\") \"]\"))) (f \"abcde\"))";
+
+const MOVED: &str =
+    "d (document \"top\" (assign \"f\" (macro \"x\" (concat \"[\" (arg \"x\") \"]\"))) (f \"abcde\"))";
+
+const PLACED: &[Placed] = &[
+    (CALL, 80, (1, 4), "/1/0/3"),
+    (CALL, 80, (1, 6), "/1/0/5"),
+    (CALL, 80, (1, 0), "/1/0/0"),
+    (CALL, 80, (0, 0), "/0/0"),
+    (CALL, 80, (1, 79), "/1/0/5"),
+    (CALL, 80, (1, 80), "-"),
+    (CALL, 80, (2, 0), "-"),
+    (MOVED, 80, (2, 4), "/2/0/3"),
+    ("d (document \"<#4E2D>x\")", 80, (0, 0), "/0/0"),
+    ("d (document \"<#4E2D>x\")", 80, (0, 1), "/0/0"),
+    ("d (document \"<#4E2D>x\")", 80, (0, 2), "/0/7"),
+    ("d (document \"<#4E2D>x\")", 80, (0, 3), "/0/8"),
+    ("d \"\"", 80, (0, 0), "/0"),
+    // before an indented line, behind its end, and in a gap
+    (
+        "d (document (with \"par-left\" \"2spc\" \"ab\"))",
+        80,
+        (0, 0),
+        "/0/2/0",
+    ),
+    (
+        "d (document (with \"par-left\" \"2spc\" \"ab\"))",
+        80,
+        (0, 3),
+        "/0/2/1",
+    ),
+    (
+        "d (document (with \"par-left\" \"2spc\" \"ab\"))",
+        80,
+        (0, 4),
+        "/0/2/2",
+    ),
+    (
+        "d (document (concat \"a\" (hspace \"3spc\") \"b\"))",
+        80,
+        (0, 2),
+        "/0/0/1",
+    ),
+    (
+        "d (document (concat (hspace \"3spc\") \"b\"))",
+        80,
+        (0, 2),
+        "/0/1/0",
+    ),
+    ("d (document (hspace \"3spc\"))", 80, (0, 2), "/0/0"),
+    // a space at the end of a line stands on none, and the place behind is the last one of its line
+    (
+        "d (document \"abcdefghij klmnopqrst\")",
+        20,
+        (0, 10),
+        "/0/10",
+    ),
+    (
+        "d (document \"abcdefghij klmnopqrst\")",
+        20,
+        (1, 0),
+        "/0/11",
+    ),
+    (
+        "d (document (concat \"a\" (next-line) \"b\"))",
+        80,
+        (1, 0),
+        "/0/2/0",
+    ),
+];
+
+const STOPS: &[(&str, &str)] = &[
+    ("d (document \"ab\")", "/0/0 /0/1 /0/2 "),
+    (
+        "d (document \"abc\" \"d\")",
+        "/0/0 /0/1 /0/2 /0/3 /1/0 /1/1 ",
+    ),
+    ("d (document \"\" (g))", "/0/0 /1/0 "),
+    (
+        "d (document (assign \"f\" (macro \"x\" (concat (arg \"x\") (arg \"x\")))) (f \"a\") \"b\")",
+        "/0/0 /1/0/0 /1/0/1 /2/0 /2/1 ",
+    ),
+    ("d \"a \"", "/0 /1 /2 "),
+];
+
+fn is_shown<L: Ledger>(alloc: Global, row: &Shown, steps: &mut Steps<L>) -> Option<bool> {
+    let view = view_of(alloc, row.0, row.1, steps)?;
+    let pages = pages_told(alloc, &view)?;
+    let errors = errors_told(alloc, &view)?;
+    Some(view.fresh() && pages.as_str() == row.2 && errors.as_str() == row.3)
+}
+
+fn is_placed<L: Ledger>(alloc: Global, row: &Placed, steps: &mut Steps<L>) -> Option<bool> {
+    let view = view_of(alloc, row.0, (row.1, 24), steps)?;
+    let (r, c) = row.2;
+    Some(place_told(alloc, &view, r, c)?.as_str() == row.3)
+}
+
+fn has_stops<L: Ledger>(alloc: Global, row: &(&str, &str), steps: &mut Steps<L>) -> Option<bool> {
+    let view = view_of(alloc, row.0, (80, 24), steps)?;
+    Some(stops_told(alloc, &view)?.as_str() == row.1)
+}
+
+fn not_shown<L: Ledger>(alloc: Global, blank: Blank) -> Option<usize>
+    requires name { blank.name ≡ L.name }
+    requires parts { blank.parts ≡ L.parts }
+    requires whole { blank.parts ≡ 1 }
+{
+    let mut steps = Steps::<L>::new(blank);
+    for (i, row) in SHOWN.iter().enumerate() {
+        if is_shown(alloc, row, &mut steps) != Some(true) {
+            return Some(i);
+        }
+    }
+    None
+}
+
+fn not_placed<L: Ledger>(alloc: Global, blank: Blank) -> Option<usize>
+    requires name { blank.name ≡ L.name }
+    requires parts { blank.parts ≡ L.parts }
+    requires whole { blank.parts ≡ 1 }
+{
+    let mut steps = Steps::<L>::new(blank);
+    for (i, row) in PLACED.iter().enumerate() {
+        if is_placed(alloc, row, &mut steps) != Some(true) {
+            return Some(i);
+        }
+    }
+    None
+}
+
+fn not_stopped<L: Ledger>(alloc: Global, blank: Blank) -> Option<usize>
+    requires name { blank.name ≡ L.name }
+    requires parts { blank.parts ≡ L.parts }
+    requires whole { blank.parts ≡ 1 }
+{
+    let mut steps = Steps::<L>::new(blank);
+    for (i, row) in STOPS.iter().enumerate() {
+        if has_stops(alloc, row, &mut steps) != Some(true) {
+            return Some(i);
+        }
+    }
+    None
+}
+
+#[test]
+fn pages_and_errors(rt: HostRuntime) {
+    assert_eq!(rt; not_shown::<Brand>(rt.alloc(), Blank::new(1)), None);
+}
+
+#[test]
+fn places_of_cells(rt: HostRuntime) {
+    assert_eq!(rt; not_placed::<Brand>(rt.alloc(), Blank::new(1)), None);
+}
+
+#[test]
+fn stops(rt: HostRuntime) {
+    assert_eq!(rt; not_stopped::<Brand>(rt.alloc(), Blank::new(1)), None);
+}

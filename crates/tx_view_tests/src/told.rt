@@ -1,0 +1,121 @@
+// Views of buffers, as text.
+ghost use Rattle.std.specs.Prelude.{◌≤◌};
+
+use std::alloc::Global;
+use std::sync::ledger::Ledger;
+use tx_base::Steps;
+use tx_doc::{Buffer, Name};
+use tx_items::Item;
+use tx_layout::Line;
+use tx_view::View;
+
+// The buffers that are told: of each a name and a tree, `;` between them.
+fn buffers_of<L: Ledger>(alloc: Global, told: &str, steps: &mut Steps<L>) -> Option<Vec<Buffer>> {
+    let mut buffers = Vec::new(alloc);
+    for part in told.split(';') {
+        let (name, words) = part.split_once(' ')?;
+        let name = Name::from(Vec::from_slice(alloc, name.as_bytes()).ok()?);
+        let tree = tx_scm::read(alloc, words.as_bytes(), steps).ok()?;
+        buffers.push(Buffer { name, tree }).ok()?;
+    }
+    Some(buffers)
+}
+
+/// The fresh view of the buffers that are told, on pages of this width and height.
+pub(crate) fn view_of<L: Ledger>(
+    alloc: Global,
+    told: &str,
+    size: (u32, u32),
+    steps: &mut Steps<L>,
+) -> Option<View> {
+    let buffers = buffers_of(alloc, told, steps)?;
+    let (width, height) = size;
+    if buffers.is_empty()
+        || buffers.len() > 16
+        || width < 20
+        || width > 500
+        || height < 5
+        || height > 500
+    {
+        return None;
+    }
+    let mut view = View::new(alloc, &buffers, width, height).ok()?;
+    view.refresh(alloc, steps).ok()?;
+    Some(view)
+}
+
+fn push_item(text: &mut String, item: &Item) -> Option<()> {
+    match item {
+        Item::Glyph(drawn) => text
+            .push_str(str::from_utf8(drawn.cluster.glyphs.bytes()).ok()?)
+            .ok(),
+        Item::Space(_) => text.push(' ').ok(),
+        Item::Gap(_) => text.push('_').ok(),
+        _ => text.push('!').ok(),
+    }
+}
+
+fn push_line(text: &mut String, line: &Line) -> Option<()> {
+    for _ in 0..line.indent {
+        text.push(' ').ok()?;
+    }
+    for item in line.items.all() {
+        push_item(text, item)?;
+    }
+    text.push('/').ok()
+}
+
+/// The lines of all pages, a stroke behind each line and each page.
+pub(crate) fn pages_told(alloc: Global, view: &View) -> Option<String> {
+    let mut text = String::new(alloc);
+    for page in view.pages() {
+        for r in page.from..page.to {
+            push_line(&mut text, view.line(r)?)?;
+        }
+        text.push('/').ok()?;
+    }
+    Some(text)
+}
+
+/// The errors, each with the path of its unit or a dash.
+pub(crate) fn errors_told(alloc: Global, view: &View) -> Option<String> {
+    let mut text = String::new(alloc);
+    for k in 0..view.errors() {
+        let (path, error) = view.error(k)?;
+        match path {
+            None => text.push('-').ok()?,
+            Some(path) => text
+                .push_str(format!(in alloc; "{path}").ok()?.as_str())
+                .ok()?,
+        }
+        text.push(' ').ok()?;
+        text.push_str(str::from_utf8(error.kind.bytes()).ok()?)
+            .ok()?;
+        text.push(' ').ok()?;
+        text.push_str(str::from_utf8(error.detail.bytes()).ok()?)
+            .ok()?;
+        text.push('/').ok()?;
+    }
+    Some(text)
+}
+
+/// The place behind each column of a row, or of all that are past the view.
+pub(crate) fn place_told(alloc: Global, view: &View, r: u32, c: u32) -> Option<String> {
+    match view.position(r, c) {
+        None => Some(format!(in alloc; "-").ok()?),
+        Some(spot) => {
+            let place = spot.place(alloc).ok()?;
+            Some(format!(in alloc; "{place}").ok()?)
+        }
+    }
+}
+
+/// All stops.
+pub(crate) fn stops_told(alloc: Global, view: &View) -> Option<String> {
+    let mut text = String::new(alloc);
+    for place in &view.stops(alloc).ok()? {
+        text.push_str(format!(in alloc; "{place} ").ok()?.as_str())
+            .ok()?;
+    }
+    Some(text)
+}
