@@ -8,6 +8,8 @@ mod computed;
 #[cfg(test)]
 mod conditions;
 #[cfg(test)]
+mod flows;
+#[cfg(test)]
 mod found;
 #[cfg(test)]
 mod heights;

@@ -3,7 +3,8 @@ ghost use Rattle.std.specs.Prelude.{◌≡◌, ◌≤◌};
 
 use crate::cases::{Case, at_root, set_all, tree_of};
 use crate::computed::{COMPUTED, COMPUTED_TOO};
-use crate::conditions::{ALL_ARGUMENTS, CONDITIONS, FLOW};
+use crate::conditions::{ALL_ARGUMENTS, CONDITIONS};
+use crate::flows::FLOW;
 use crate::found::{FOUND, FOUND_TOO};
 use crate::heights::passed;
 use crate::traces::is_trace;
