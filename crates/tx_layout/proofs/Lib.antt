@@ -1,5 +1,5 @@
 mod Slices
-mod Spans
+pub mod Spans
 mod Widths
 mod Marks
 mod Once

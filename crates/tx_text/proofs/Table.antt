@@ -7,11 +7,11 @@ use Rattle.std.proofs.lemmas.Bool.Decides.{nat_tests}
 use Rattle.tx_text.specs.Tables.{byte_code}
 use Rattle.tx_text.specs.declared.tables.TheConstants.{FIRST, MIDDLE}
 
-all_below : (ℕ → Bool) → ℕ → Bool
+unfoldable pub all_below : (ℕ → Bool) → ℕ → Bool
 all_below p zero = true
 all_below p (suc n) = p n && all_below p n
 
-all_below-at : (p : ℕ → Bool) (n : ℕ) → all_below p n ≡ true → (b : ℕ) → b < n → p b ≡ true
+pub all_below-at : (p : ℕ → Bool) (n : ℕ) → all_below p n ≡ true → (b : ℕ) → b < n → p b ≡ true
 unfolding all_below
 all_below-at p zero h b lt = absurd (omega arith)
 all_below-at p (suc n) h b lt =

@@ -1,10 +1,10 @@
 -- How many clusters texts have: at most four for each byte of any text, and one for each byte of a label.
 use Rattle.std.proofs.Common.{◌≡◌, ℕ, zero, suc, ◌+◌, ◌-◌, ◌*◌, ◌<◌, ◌≤◌, Bool, true, false, not, ◌&&◌, ◌||◌, ◌==◌}
-use Rattle.std.proofs.Common.{cond, List, [], ◌∷◌, ◌++◌, map, length, Option, Some, None, refl, sym, ap, ◌∙◌, subst, inl}
-use Rattle.std.proofs.Common.{inr, arith, length-append, codes, nat_le, leb-true, le-leb, ne_eqb, true≢false, lit<}
+use Rattle.std.proofs.Common.{cond, List, [], ◌∷◌, ◌++◌, map, length, Option, Some, None, refl, sym, ap, ◌∙◌, subst}
+use Rattle.std.proofs.Common.{inl, inr, arith, length-append, codes, nat_le, leb-true, le-leb, ne_eqb, true≢false, lit<}
 use Rattle.std.specs.Char.{encode_utf8}
 use Rattle.std.specs.List.{AllByRecursion}
-use Rattle.std.proofs.lemmas.Bool.{and_parts, cases_lt, cases_order}
+use Rattle.std.proofs.lemmas.Bool.{and_parts, cases_lt}
 use Rattle.std.proofs.lemmas.List.{length-map}
 use Rattle.std.proofs.lemmas.List.Sums.{sum_by-cons}
 use Rattle.std.proofs.lemmas.Str.{length-encode, len_utf8_bounds}
@@ -18,6 +18,7 @@ use Rattle.tx_text.specs.declared.cutting.Cluster.{Cluster}
 use Rattle.tx_text.specs.Displays.{symbol_code, symbol_codes, item_text, display_text}
 use Rattle.tx_text.specs.Clusters.{items_behind, items_of, cluster_of, clusters_of}
 use Rattle.tx_text.specs.Tables.{byte_code, named_code}
+use Rattle.tx_text.proofs.Table.{all_below, all_below-at}
 use Rattle.tx_items.specs.declared.attributes.Attrs.{Attrs}
 use Rattle.tx_items.specs.declared.drawing.Item.TheVariants.{Glyph, Space}
 use Rattle.tx_items.specs.Looks.{WideLook}
@@ -132,21 +133,6 @@ most_behind (Some name) (b ∷ bs) =
     pick false h k = omega (arith, length-append name (b ∷ []))
 
 -- ---- the bytes of a label
-
-all_below : (ℕ → Bool) → ℕ → Bool
-all_below p zero = true
-all_below p (suc n) = p n && all_below p n
-
-all_below-at : (p : ℕ → Bool) (n : ℕ) → all_below p n ≡ true → (b : ℕ) → b < n → p b ≡ true
-unfolding all_below
-all_below-at p zero h b lt = absurd (omega arith)
-all_below-at p (suc n) h b lt =
-    let parts = and_parts (p n) (all_below p n) h in
-    elim (cases_order b n) [
-      | inl e ↦ ap p e ∙ parts.0
-      | inr (inl low) ↦ all_below-at p n parts.1 b low
-      | inr (inr high) ↦ absurd (omega arith)
-    ]
 
 -- no byte behind ASCII's signs
 too_late : (b : ℕ) → 127 ≤ b → is_label_byte b ≡ false

@@ -13,10 +13,11 @@ use Rattle.tx_layout.specs.declared.measures.Frame.{Frame}
 use Rattle.tx_layout.specs.declared.pieces.Span.{Span}
 use Rattle.tx_layout.specs.declared.layout.Line.{Line}
 use Rattle.tx_layout.specs.Frames.{frame_of, least_width}
-use Rattle.tx_layout.specs.Words.{capped, SpansFrom}
+use Rattle.tx_layout.specs.Words.{capped}
 use Rattle.tx_layout.specs.Segments.{piece_of, lines_of, HasWords}
 use Rattle.tx_layout.specs.Shapes.{empty_line, page_ending, with_last, behind_cut, or_empty, items_shown, HasLines}
 use Rattle.tx_layout.specs.Shapes.{last_segment, then_cut}
+use Rattle.tx_layout.proofs.Spans.{few_spans}
 use Rattle.tx_view_form.specs.Views.{AreLines, no_lines, lines_then}
 use Rattle.tx_view_form.specs.Weights.{item_weight, items_weight, weight_of}
 
@@ -52,17 +53,6 @@ all_items (p ∷ ps) =
     omega arith
 
 -- ---- lines of words
-
-few_spans : (least : ℕ) (items : List Item) (at : ℕ) (ss : List Span) → SpansFrom least items at ss
-    → at ≤ length items → at + length ss ≤ length items
-few_spans least items at [] h le = omega arith
-few_spans least items at (s ∷ ss) h le =
-    let begins : s.spaces ≡ at = h.0 in
-    let onward : s.spaces ≤ s.from = h.1.onward in
-    let some : s.from < s.to = h.1.some in
-    let within : s.to ≤ length items = h.1.within in
-    let rest : s.to + length ss ≤ length items = few_spans least items s.to ss h.2 within in
-    omega arith
 
 few_cuts : (cuts : List Cut) (from to : ℕ) → Partitions cuts from to → from + length cuts ≤ to
 few_cuts [] from to h = let same : from ≡ to = h in omega arith
