@@ -17,5 +17,5 @@ mod shapes;
 pub use layout::{Line, LineItems, items_kept, lines, one_shape, within_page};
 pub use measures::{Frame, Side, frame_of};
 pub use paging::{lines_kept, one_paging, pages};
-pub use pieces::Span;
+pub use pieces::{Span, item_cells};
 pub use tx_lines::Cut;

@@ -37,8 +37,8 @@ fn is_blank(item: &Item) -> bool
     }
 }
 
-// The cells that an item takes on its line.
-fn item_cells(item: &Item) -> u32
+/// The cells that an item takes on its line: those of its cluster or of its gap, and none for a break or a cut.
+pub fn item_cells(item: &Item) -> u32
     ensures { result ≡ item_cells item.now }
 {
     match item {

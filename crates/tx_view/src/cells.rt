@@ -1,10 +1,9 @@
 // What stands at a column of a line.
 ghost use Rattle.std.specs.Prelude.{◌≡◌, ◌+◌, ◌≤◌, ◌^◌, ◌<◌, length, MatchOption, None, Some, option_and_then};
-ghost use Rattle.tx_layout.specs.Words.{item_cells};
 ghost use Rattle.tx_view_form.specs.Cells.{items_before, item_number, item_at, drawn_in, drawn_at};
 
 use tx_items::{Drawn, Item};
-use tx_layout::Line;
+use tx_layout::{Line, item_cells};
 
 /// The cluster of an item.
 pub(crate) fn drawn_in(item: &Item) -> Option<&Drawn>
@@ -20,20 +19,6 @@ pub(crate) fn drawn_in(item: &Item) -> Option<&Drawn>
     }
 }
 
-// The cells that an item takes on its line.
-fn cells_of(item: &Item) -> u32
-    ensures { result ≡ item_cells item.now }
-{
-    match item {
-        Item::Glyph(drawn) => u32::from(drawn.cluster.cells),
-        Item::Space(drawn) => u32::from(drawn.cluster.cells),
-        Item::Gap(cells) => *cells,
-        Item::Break => 0,
-        Item::PageEnd => 0,
-        Item::Down(_) => 0,
-    }
-}
-
 /// The number of the item of a line that covers a column, or of the first behind it.
 pub(crate) fn item_number(line: &Line, column: u32) -> usize
     ensures number { result ≡ item_number line.now column }
@@ -42,7 +27,7 @@ pub(crate) fn item_number(line: &Line, column: u32) -> usize
     let items = line.items.all();
     let mut at = u64::from(line.indent);
     for (i, item) in items.iter().enumerate() {
-        at += u64::from(cells_of(item));
+        at += u64::from(item_cells(item));
         if at > u64::from(column) {
             return i;
         }
