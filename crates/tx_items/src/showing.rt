@@ -23,12 +23,12 @@ use crate::attributes::{Attrs, Field, field_of};
 use crate::drawing::{ErrorAt, Item, Look, Paragraph, push_clusters};
 use crate::plans::Plan;
 use crate::rows::{Row, row_of};
-use crate::words::{Word, text_of};
+use crate::words::Word;
 use std::alloc::Global;
 use std::mem;
 use tx_base::Memory;
 use tx_origin::{Ip, Value};
-use tx_prim::parse_length;
+use tx_prim::{parse_length, text_of};
 use tx_text::clusters;
 use tx_tree::{Label, Text};
 

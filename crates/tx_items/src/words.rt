@@ -1,12 +1,11 @@
 // The texts that the rules make by themselves.
-ghost use Rattle.std.specs.Prelude.{◌≡◌, ◌≤◌, length, IfOk};
-ghost use Rattle.tx_tree.specs.declared.TheConstants.{MOST_TEXT};
-ghost use Rattle.tx_tree.specs.Texts.{IsText};
+ghost use Rattle.std.specs.Prelude.{◌≡◌, IfOk};
 ghost use Rattle.tx_items.specs.Words.{word_bytes};
 
 use std::alloc::Global;
 use tx_base::Memory;
-use tx_tree::{Text, TextFault};
+use tx_prim::text_of;
+use tx_tree::Text;
 
 // A text that the rules make.
 #[derive(Clone, Copy)]
@@ -58,19 +57,5 @@ impl Word {
         ensures { IfOk result (λ t. t ≡ word_bytes self) }
     {
         text_of(alloc, self.bytes())
-    }
-}
-
-// The text of these bytes.
-#[tactic(auto, using(crate::proofs::Wording::words, std::proofs::lemmas::Grind::common_steps))]
-pub(crate) fn text_of(alloc: Global, bytes: &[u8]) -> Result<Text, Memory>
-    requires text { IsText bytes.now }
-    requires short { length bytes.now ≤ MOST_TEXT }
-    ensures { IfOk result (λ t. t ≡ bytes.now) }
-{
-    match Text::new(alloc, bytes) {
-        Ok(text) => Ok(text),
-        Err(TextFault::Memory) => Err(Memory),
-        Err(_) => unreachable!(),
     }
 }

@@ -15,9 +15,9 @@ use std::sync::ledger::Ledger;
 use tx_base::Steps;
 use tx_tree::{Label, LabelFault, MOST_TEXT, Memory, Text, TextFault, Tree, TreeFault};
 
-// The text of these bytes.
+/// The text of these bytes, which are one within the limit. The one error is want of memory.
 #[tactic(auto, using(crate::proofs::Sound::right, std::proofs::lemmas::Grind::common_steps))]
-pub(crate) fn text_of(alloc: Global, bytes: &[u8]) -> Result<Text, Memory>
+pub fn text_of(alloc: Global, bytes: &[u8]) -> Result<Text, Memory>
     requires text { IsText bytes.now }
     requires short { length bytes.now ≤ MOST_TEXT }
     ensures { IfOk result (λ t. t ≡ bytes.now) }
