@@ -1,5 +1,6 @@
 -- A line is one command, or has one cause.
-use Rattle.std.proofs.Common.{◌≡◌, ◌≢◌, ℕ, ◌+◌, true, List, [], ◌∷◌, ◌++◌, length, ◌⊎◌, ⊎_elim, refl, sym, ap, subst, ◌∙◌, arith}
+use Rattle.std.proofs.Common.{◌≡◌, ◌≢◌, ℕ, ◌+◌, true, List, [], ◌∷◌, ◌++◌, length, ◌⊎◌, ⊎_elim, refl, sym, ap, subst}
+use Rattle.std.proofs.Common.{◌∙◌, arith}
 use Rattle.std.proofs.lemmas.List.{append_cancel_left}
 use Rattle.tx_tree.specs.Labels.{IsLabel}
 use Rattle.tx_tree.specs.PathSpelling.{IsPathSpelling, IsPathFault}
@@ -11,19 +12,28 @@ use Rattle.tx_cmd.specs.Moved.{moved}
 use Rattle.tx_tree.proofs.PathsOnce.{spelled_once as path_once}
 use Rattle.tx_scm.proofs.Complete.{spelled_once as tree_once}
 use Rattle.tx_mod.specs.declared.mods.Mod.{Mod}
-use Rattle.tx_mod.specs.declared.mods.Mod.TheVariants.{Assign, Insert, Remove, Split, Join, AssignNode, InsertNode, RemoveNode}
+use Rattle.tx_mod.specs.declared.mods.Mod.TheVariants.{Assign, Insert, Remove, Split, Join, AssignNode, InsertNode}
+use Rattle.tx_mod.specs.declared.mods.Mod.TheVariants.{RemoveNode}
 use Rattle.tx_mod.specs.Mods.{path_of}
 use Rattle.tx_cmd.specs.declared.command.Command.{Command}
 use Rattle.tx_cmd.specs.declared.command.Command.TheVariants.{Change, Undo, Redo, Go, Cursor, Show, Tree, Save, Quit}
 use Rattle.tx_cmd.specs.declared.command.CmdFault.{CmdFault}
 use Rattle.tx_cmd.specs.declared.command.CmdFault.TheVariants.{Long, Unknown, Args, Path, Tree as TreeFault, Memory}
 use Rattle.tx_cmd.specs.declared.words.ModWord.{ModWord}
-use Rattle.tx_cmd.specs.declared.words.ModWord.TheVariants.{Assign as AssignWord, Insert as InsertWord, Remove as RemoveWord, Split as SplitWord, Join as JoinWord, AssignNode as AssignNodeWord, InsertNode as InsertNodeWord, RemoveNode as RemoveNodeWord}
+use Rattle.tx_cmd.specs.declared.words.ModWord.TheVariants.{Assign as AssignWord, Insert as InsertWord}
+use Rattle.tx_cmd.specs.declared.words.ModWord.TheVariants.{Remove as RemoveWord, Split as SplitWord, Join as JoinWord}
+use Rattle.tx_cmd.specs.declared.words.ModWord.TheVariants.{AssignNode as AssignNodeWord, InsertNode as InsertNodeWord}
+use Rattle.tx_cmd.specs.declared.words.ModWord.TheVariants.{RemoveNode as RemoveNodeWord}
 use Rattle.tx_cmd.specs.declared.words.Word.{Word}
-use Rattle.tx_cmd.specs.declared.words.Word.TheVariants.{Change as ChangeWord, Undo as UndoWord, Redo as RedoWord, Go as GoWord, Cursor as CursorWord, Show as ShowWord, Tree as TreeWord, Save as SaveWord}
+use Rattle.tx_cmd.specs.declared.words.Word.TheVariants.{Change as ChangeWord, Undo as UndoWord, Redo as RedoWord}
+use Rattle.tx_cmd.specs.declared.words.Word.TheVariants.{Go as GoWord, Cursor as CursorWord, Show as ShowWord}
+use Rattle.tx_cmd.specs.declared.words.Word.TheVariants.{Tree as TreeWord, Save as SaveWord}
 use Rattle.tx_cmd.specs.declared.words.ArgumentKind.{ArgumentKind}
-use Rattle.tx_cmd.specs.declared.words.ArgumentKind.TheVariants.{Path as PathArgument, Number as NumberArgument, Label as LabelArgument, Name as NameArgument, Tree as TreeArgument}
-use Rattle.tx_cmd.specs.Words.{word_text, arguments_of, arguments_behind, first_word, IsName, IsKnown, IsLoosePiece, AreLoose, IsLoose}
+use Rattle.tx_cmd.specs.declared.words.ArgumentKind.TheVariants.{Path as PathArgument, Number as NumberArgument}
+use Rattle.tx_cmd.specs.declared.words.ArgumentKind.TheVariants.{Label as LabelArgument, Name as NameArgument}
+use Rattle.tx_cmd.specs.declared.words.ArgumentKind.TheVariants.{Tree as TreeArgument}
+use Rattle.tx_cmd.specs.Words.{word_text, arguments_of, arguments_behind, first_word, IsName, IsKnown, IsLoosePiece}
+use Rattle.tx_cmd.specs.Words.{AreLoose, IsLoose}
 use Rattle.tx_cmd.specs.Values.{Value, a_path, a_number, a_label, a_name, a_tree, kind_of, Means, Mean, HasMeaning}
 use Rattle.tx_cmd.specs.Commands.{mod_word, values_behind, word_of, values_of, IsCommand}
 use Rattle.tx_cmd.specs.Pieces.{IsTail, tree_is_last}

@@ -1,9 +1,11 @@
 -- The operands of a primitive, and what its value costs.
-use Rattle.std.proofs.Common.{◌≡◌, ℕ, suc, ◌+◌, ◌-◌, ◌<◌, ◌≤◌, Bool, true, false, List, [], ◌∷◌, ◌++◌, length, drop, get_or, map, drop-cons, append_assoc, refl, sym, ap, min, ◌∙◌, ⊎_elim, add-one, arith}
+use Rattle.std.proofs.Common.{◌≡◌, ℕ, suc, ◌+◌, ◌-◌, ◌<◌, ◌≤◌, Bool, true, false, List, [], ◌∷◌, ◌++◌, length, drop}
+use Rattle.std.proofs.Common.{get_or, map, drop-cons, append_assoc, refl, sym, ap, min, ◌∙◌, ⊎_elim, add-one, arith}
 use Rattle.std.specs.Prelude.{if◌then◌else◌, nat_le, None}
 use Rattle.std.proofs.lemmas.Grind.{common_steps}
 use Rattle.std.proofs.lemmas.Bool.{cases_lt}
-use Rattle.tx_tree.specs.WideTree.{WideTree, leaf, node, forest, cons, nodes_of, total_nodes, total_size, size_of, depth_of}
+use Rattle.tx_tree.specs.WideTree.{WideTree, leaf, node, forest, cons, nodes_of, total_nodes, total_size, size_of}
+use Rattle.tx_tree.specs.WideTree.{depth_of}
 use Rattle.tx_prim.specs.declared.names.Prim.{Prim}
 use Rattle.tx_prim.specs.Table.{value_of as primitive_value}
 use Rattle.tx_origin.specs.Values.{WideValue, vals, plain, plains, whole}

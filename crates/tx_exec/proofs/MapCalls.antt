@@ -1,5 +1,6 @@
 -- The words, the numbers and the call of `map-args`.
-use Rattle.std.proofs.Common.{◌≡◌, ℕ, ◌+◌, ◌-◌, ◌<◌, ◌≤◌, Bool, true, false, List, [], ◌∷◌, ◌++◌, length, drop, get_or, map, refl, sym, ap, ◌∙◌, arith}
+use Rattle.std.proofs.Common.{◌≡◌, ℕ, ◌+◌, ◌-◌, ◌<◌, ◌≤◌, Bool, true, false, List, [], ◌∷◌, ◌++◌, length, drop, get_or}
+use Rattle.std.proofs.Common.{map, refl, sym, ap, ◌∙◌, arith}
 use Rattle.std.proofs.lemmas.Int.{ints}
 use Rattle.std.proofs.lemmas.Grind.{common_steps}
 use Rattle.std.proofs.lemmas.List.FromFn.{map-range_with_len_more}
@@ -10,7 +11,8 @@ use Rattle.tx_origin.specs.TaggedTrees.{TaggedTree}
 use Rattle.tx_exec_form.specs.Frames.{Frame}
 use Rattle.tx_exec_form.specs.Words.{is_label}
 use Rattle.tx_exec_form.specs.Numbers.{from_number, to_number, numbers_between}
-use Rattle.tx_exec_form.specs.Rows.{Eval, wrong, map_args, map_named, map_of, map_numbered, mapped, evaluated_made, item_call, call_over}
+use Rattle.tx_exec_form.specs.Rows.{Eval, wrong, map_args, map_named, map_of, map_numbered, mapped, evaluated_made}
+use Rattle.tx_exec_form.specs.Rows.{item_call, call_over}
 use Rattle.tx_exec.specs.CallRuns.{label_in}
 
 -- ---- the words

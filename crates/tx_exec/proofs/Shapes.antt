@@ -6,7 +6,8 @@ use Rattle.tx_origin.specs.Values.{whole}
 use Rattle.tx_origin.specs.TaggedTrees.{TaggedTree}
 use Rattle.tx_exec_form.specs.Runs.{◌>>=◌, ◌>>◌, need, pay, give}
 use Rattle.tx_exec_form.specs.Frames.{Frame}
-use Rattle.tx_exec_form.specs.Rows.{Eval, EvalAll, wrong, assign, taken, quote, macro, only, only_child, arg, arg_named, arg_of}
+use Rattle.tx_exec_form.specs.Rows.{Eval, EvalAll, wrong, assign, taken, quote, macro, only, only_child, arg, arg_named}
+use Rattle.tx_exec_form.specs.Rows.{arg_of}
 use Rattle.tx_exec_form.specs.declared.rows.Unary.{Unary}
 use Rattle.tx_exec_form.specs.declared.rows.Taking.{Taking}
 use Rattle.tx_origin.proofs.Wholes.{plain_whole}

@@ -1,8 +1,10 @@
 -- The tuple of all arguments.
-use Rattle.std.proofs.Common.{◌≡◌, ℕ, ◌+◌, ◌<◌, ◌≤◌, List, [], ◌∷◌, ◌++◌, length, drop, append_assoc, ap, refl, sym, ◌∙◌, arith}
+use Rattle.std.proofs.Common.{◌≡◌, ℕ, ◌+◌, ◌<◌, ◌≤◌, List, [], ◌∷◌, ◌++◌, length, drop, append_assoc, ap, refl, sym}
+use Rattle.std.proofs.Common.{◌∙◌, arith}
 use Rattle.std.specs.Prelude.{map, Option, Some, None, slice_get, codes}
 use Rattle.std.proofs.lemmas.Grind.{common_steps}
-use Rattle.tx_tree.specs.WideTree.{WideTree, Forest, leaf, node, nil, cons, label_of, size_of, depth_of, total_size, deepest}
+use Rattle.tx_tree.specs.WideTree.{WideTree, Forest, leaf, node, nil, cons, label_of, size_of, depth_of, total_size}
+use Rattle.tx_tree.specs.WideTree.{deepest}
 use Rattle.tx_tree.specs.Limits.{IsWithinLimits}
 use Rattle.tx_tree.proofs.Walks.{drop_item}
 use Rattle.tx_origin.specs.Values.{WideValue, made, vals, plain, plains, whole, child_at}

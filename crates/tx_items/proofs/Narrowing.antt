@@ -16,9 +16,11 @@ use Rattle.tx_items.specs.Attributes.{with_named, attribute_in}
 use Rattle.tx_items.specs.Drawing.{is_space, look_of, item_of, drawn, paragraph}
 use Rattle.tx_items.specs.Rules.{Rule, rule_of}
 use Rattle.tx_items.specs.Rules as rules
-use Rattle.tx_items.specs.Shows.{Run, empty, begun, run_of, beside, whole_run, ended, Form, inline, listed, Shown, AllShown}
+use Rattle.tx_items.specs.Shows.{Run, empty, begun, run_of, beside, whole_run, ended, Form, inline, listed, Shown}
+use Rattle.tx_items.specs.Shows.{AllShown}
 use Rattle.tx_items.specs.Shows.{all_inline, side_by_side, paragraphs_of, joined, one_by_one, error_items, with_shown}
-use Rattle.tx_items.specs.Shows.{assign_shown, cells_of, space_by, space_shown, error_by, error_shown, made_form, tag_shown}
+use Rattle.tx_items.specs.Shows.{assign_shown, cells_of, space_by, space_shown, error_by, error_shown, made_form}
+use Rattle.tx_items.specs.Shows.{tag_shown}
 use Rattle.tx_items.specs.Shows.{rule_shown, giving_back, show, show_all, show_with, or_one, unit_paragraphs}
 use Rattle.tx_items.specs.Shows.{shown_paragraphs}
 use Rattle.tx_items.specs.Narrow.{IsNarrow}

@@ -1,5 +1,6 @@
 -- Lines by the places of their items in a paragraph.
-use Rattle.std.specs.Prelude.{◌≡◌, ℕ, ◌+◌, ◌-◌, ◌<◌, ◌≤◌, min, Bool, true, false, List, [], ◌∷◌, map, length, slice_range, get_or}
+use Rattle.std.specs.Prelude.{◌≡◌, ℕ, ◌+◌, ◌-◌, ◌<◌, ◌≤◌, min, Bool, true, false, List, [], ◌∷◌, map, length}
+use Rattle.std.specs.Prelude.{slice_range, get_or}
 use Rattle.tx_items.specs.declared.drawing.Item.{Item}
 use Rattle.tx_lines.specs.declared.cut.Cut.{Cut}
 use Rattle.tx_lines.specs.declared.first_fit.Piece.{Piece}

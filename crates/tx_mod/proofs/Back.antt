@@ -1,5 +1,7 @@
 -- What undoes a modification gives the tree back.
-use Rattle.std.proofs.Common.{◌≡◌, ℕ, zero, suc, ◌+◌, ◌<◌, ◌≤◌, Bool, true, false, leb, List, [], ◌∷◌, ◌++◌, length, take, drop, Option, Some, None, Ok, Err, refl, sym, ap, subst, ◌∙◌, length-append, append_assoc, arith}
+use Rattle.std.proofs.Common.{◌≡◌, ℕ, zero, suc, ◌+◌, ◌<◌, ◌≤◌, Bool, true, false, leb, List, [], ◌∷◌, ◌++◌, length}
+use Rattle.std.proofs.Common.{take, drop, Option, Some, None, Ok, Err, refl, sym, ap, subst, ◌∙◌, length-append}
+use Rattle.std.proofs.Common.{append_assoc, arith}
 use Rattle.std.specs.Prelude.{slice_get, IsOk, is_ok, unwrap_or}
 use Rattle.std.specs.Option.{option_map_or}
 use Rattle.std.specs.Str.{bytes_eq}
@@ -18,9 +20,11 @@ use Rattle.tx_tree.proofs.Walks.{drop_item}
 use Rattle.tx_mod.specs.declared.faults.ModFault.{ModFault}
 use Rattle.tx_mod.specs.declared.faults.ModFault.TheVariants.{NoPath, NotNode, BadPlace, CutsSymbol, Differ}
 use Rattle.tx_mod.specs.declared.mods.Mod.{Mod}
-use Rattle.tx_mod.specs.declared.mods.Mod.TheVariants.{Assign, Insert, Remove, Split, Join, AssignNode, InsertNode, RemoveNode}
+use Rattle.tx_mod.specs.declared.mods.Mod.TheVariants.{Assign, Insert, Remove, Split, Join, AssignNode, InsertNode}
+use Rattle.tx_mod.specs.declared.mods.Mod.TheVariants.{RemoveNode}
 use Rattle.tx_mod.specs.Mods.{path_of, tuple, put_in, taken_out, part_of, extent, is_clean, before, behind, replaced}
-use Rattle.tx_mod.specs.Changes.{Outcome, asking, inserted, removed, split, split_child, joined, joined_at, in_place_of_two, labelled, wrapped, unwrapped, changed_at, limited, put_back, changed}
+use Rattle.tx_mod.specs.Changes.{Outcome, asking, inserted, removed, split, split_child, joined, joined_at}
+use Rattle.tx_mod.specs.Changes.{in_place_of_two, labelled, wrapped, unwrapped, changed_at, limited, put_back, changed}
 use Rattle.tx_mod.specs.Inverses.{removed_part, without_child, inverse_at}
 use Rattle.tx_mod.specs.Sound.{IsSound, GivesBack}
 use Rattle.tx_mod.proofs.Lists.{list_at}

@@ -1,5 +1,6 @@
 -- Trees that are made within the limits.
-use Rattle.std.proofs.Common.{◌≡◌, ◌≢◌, ℕ, zero, suc, ◌+◌, ◌-◌, ◌<◌, ◌≤◌, List, [], ◌∷◌, ◌++◌, length, take, drop, set, Some, refl, sym, ap, subst, ◌∙◌, append_assoc, arith}
+use Rattle.std.proofs.Common.{◌≡◌, ◌≢◌, ℕ, zero, suc, ◌+◌, ◌-◌, ◌<◌, ◌≤◌, List, [], ◌∷◌, ◌++◌, length, take, drop, set}
+use Rattle.std.proofs.Common.{Some, refl, sym, ap, subst, ◌∙◌, append_assoc, arith}
 use Rattle.std.specs.Prelude.{slice_get, IsSome}
 use Rattle.std.proofs.lemmas.List.{append-nil, take_all, take_rest}
 use Rattle.tx_tree.specs.Limits.{IsWithinLimits, IsTreeFault}
@@ -16,7 +17,8 @@ use Rattle.tx_tree.proofs.TreeFaults.{tree_has_no_fault}
 use Rattle.tx_tree.proofs.Walking.{step_down}
 use Rattle.tx_mod.specs.Mods.{with_child, replaced}
 use Rattle.tx_mod.proofs.Lists.{drop_past}
-use Rattle.tx_mod.proofs.Replacing.{replaced_down, text_in_replaced, arity_in_replaced, size_of_subtree, depth_with, with_same_child, child_of_with}
+use Rattle.tx_mod.proofs.Replacing.{replaced_down, text_in_replaced, arity_in_replaced, size_of_subtree, depth_with}
+use Rattle.tx_mod.proofs.Replacing.{with_same_child, child_of_with}
 
 -- what makes no text of a text is want of memory
 pub sound_text : (bytes : List ℕ) (fault : TextFault) → IsText bytes → length bytes ≤ 1048575 → (fault ≢ TextMemory → IsTextFault bytes fault) → fault ≡ TextMemory

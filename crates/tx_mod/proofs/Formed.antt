@@ -1,5 +1,6 @@
 -- What a modification makes of a well formed tree is well formed.
-use Rattle.std.proofs.Common.{◌≡◌, ℕ, zero, suc, ◌+◌, List, [], ◌∷◌, ◌++◌, length, take, drop, set, Some, Ok, Err, refl, sym, ap, subst, ◌∙◌, true}
+use Rattle.std.proofs.Common.{◌≡◌, ℕ, zero, suc, ◌+◌, List, [], ◌∷◌, ◌++◌, length, take, drop, set, Some, Ok, Err, refl}
+use Rattle.std.proofs.Common.{sym, ap, subst, ◌∙◌, true}
 use Rattle.std.specs.Option.{option_map_or}
 use Rattle.std.specs.Prelude.{slice_get, is_ok}
 use Rattle.std.specs.Str.{bytes_eq}
@@ -12,9 +13,11 @@ use Rattle.tx_tree.proofs.Children.{forest_trees, AreWellFormed-append}
 use Rattle.tx_mod.specs.declared.faults.ModFault.{ModFault}
 use Rattle.tx_mod.specs.declared.faults.ModFault.TheVariants.{NotNode, BadPlace, CutsSymbol, Differ}
 use Rattle.tx_mod.specs.declared.mods.Mod.{Mod}
-use Rattle.tx_mod.specs.declared.mods.Mod.TheVariants.{Assign, Insert, Remove, Split, Join, AssignNode, InsertNode, RemoveNode}
+use Rattle.tx_mod.specs.declared.mods.Mod.TheVariants.{Assign, Insert, Remove, Split, Join, AssignNode, InsertNode}
+use Rattle.tx_mod.specs.declared.mods.Mod.TheVariants.{RemoveNode}
 use Rattle.tx_mod.specs.Mods.{path_of, tuple, put_in, taken_out, is_clean, extent, before, behind, with_child, replaced}
-use Rattle.tx_mod.specs.Changes.{inserted, removed, split, split_child, joined, joined_at, in_place_of_two, limited, labelled, wrapped, unwrapped, changed_at, changed}
+use Rattle.tx_mod.specs.Changes.{inserted, removed, split, split_child, joined, joined_at, in_place_of_two, limited}
+use Rattle.tx_mod.specs.Changes.{labelled, wrapped, unwrapped, changed_at, changed}
 use Rattle.tx_mod.specs.Sound.{IsSound, StaysWellFormed}
 use Rattle.tx_mod.proofs.Back.{ok_asked, ok_got, ok_two, same_tree, child_well_formed, well_formed_at, made_of}
 use Rattle.tx_mod.proofs.Remade.{texts_together, text_before, text_behind, text_put_in, text_taken_out}

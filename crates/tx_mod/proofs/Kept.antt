@@ -1,5 +1,6 @@
 -- Where a path is carried, the same subtree stands.
-use Rattle.std.proofs.Common.{◌≡◌, ℕ, ◌+◌, ◌-◌, ◌<◌, ◌≤◌, Bool, true, false, leb, ltb, eqb, List, [], ◌∷◌, ◌++◌, length, take, drop, Option, Some, None, Ok, refl, sym, ap, subst, ◌∙◌, arith}
+use Rattle.std.proofs.Common.{◌≡◌, ℕ, ◌+◌, ◌-◌, ◌<◌, ◌≤◌, Bool, true, false, leb, ltb, eqb, List, [], ◌∷◌, ◌++◌, length}
+use Rattle.std.proofs.Common.{take, drop, Option, Some, None, Ok, refl, sym, ap, subst, ◌∙◌, arith}
 use Rattle.std.specs.Prelude.{slice_get, if◌then◌else◌, is_some, option_and_then, option_map}
 use Rattle.std.specs.Option.{option_map_or}
 use Rattle.std.specs.Str.{bytes_eq}
@@ -11,15 +12,20 @@ use Rattle.tx_tree.specs.WideTree.{WideTree, leaf, node, forest, trees, children
 use Rattle.tx_tree.proofs.Walking.{step_down}
 use Rattle.tx_mod.specs.declared.faults.ModFault.TheVariants.{Differ}
 use Rattle.tx_mod.specs.declared.mods.Mod.{Mod}
-use Rattle.tx_mod.specs.declared.mods.Mod.TheVariants.{Assign, Insert, Remove, Split, Join, AssignNode, InsertNode, RemoveNode}
+use Rattle.tx_mod.specs.declared.mods.Mod.TheVariants.{Assign, Insert, Remove, Split, Join, AssignNode, InsertNode}
+use Rattle.tx_mod.specs.declared.mods.Mod.TheVariants.{RemoveNode}
 use Rattle.tx_mod.specs.Mods.{path_of, put_in, taken_out, extent, before, behind, with_child, replaced}
 use Rattle.tx_mod.specs.Changes.{inserted, removed, split, joined, joined_at, labelled, unwrapped, changed_at}
-use Rattle.tx_mod.specs.Moves.{rest_behind, child_or_self, shifted, some_path, carried_by_insert, carried_by_remove, carried_in_split, carried_by_split, carried_in_join, carried_by_join, carried_by_unwrap, carried_at}
+use Rattle.tx_mod.specs.Moves.{rest_behind, child_or_self, shifted, some_path, carried_by_insert, carried_by_remove}
+use Rattle.tx_mod.specs.Moves.{carried_in_split, carried_by_split, carried_in_join, carried_by_join, carried_by_unwrap}
+use Rattle.tx_mod.specs.Moves.{carried_at}
 use Rattle.tx_mod.specs.Followed.{CarriesSubtree}
 use Rattle.tx_mod.proofs.Cases.{by_test}
 use Rattle.tx_mod.proofs.Replacing.{down, replaced_down, child_of_with, other_child_of_with, subtree_of_replaced}
 use Rattle.tx_mod.proofs.Back.{ok_asked, same_tree, made_of}
-use Rattle.tx_mod.proofs.Shapes.{get_front, get_behind, get_take, get_drop, put_before, put_behind, left_before, left_behind, child_in, child_is, child_stays, shape_inserted, shape_removed, shape_split, shape_joined, shape_labelled, shape_wrapped, shape_unwrapped}
+use Rattle.tx_mod.proofs.Shapes.{get_front, get_behind, get_take, get_drop, put_before, put_behind, left_before}
+use Rattle.tx_mod.proofs.Shapes.{left_behind, child_in, child_is, child_stays, shape_inserted, shape_removed}
+use Rattle.tx_mod.proofs.Shapes.{shape_split, shape_joined, shape_labelled, shape_wrapped, shape_unwrapped}
 
 -- ---- children that stay
 

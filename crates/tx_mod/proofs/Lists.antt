@@ -1,7 +1,9 @@
 -- Elements of lists, and lists of trees.
-use Rattle.std.proofs.Common.{◌≡◌, ℕ, zero, suc, ◌+◌, ◌≤◌, max, List, [], ◌∷◌, ◌++◌, take, drop, set, Some, refl, sym, ap, ◌∙◌, arith}
+use Rattle.std.proofs.Common.{◌≡◌, ℕ, zero, suc, ◌+◌, ◌≤◌, max, List, [], ◌∷◌, ◌++◌, take, drop, set, Some, refl, sym}
+use Rattle.std.proofs.Common.{ap, ◌∙◌, arith}
 use Rattle.std.specs.Prelude.{slice_get}
-use Rattle.tx_tree.specs.WideTree.{WideTree, forest, size_of, total_size, depth_of, deepest, arity_of, widest, count, text_length_of, longest_text}
+use Rattle.tx_tree.specs.WideTree.{WideTree, forest, size_of, total_size, depth_of, deepest, arity_of, widest, count}
+use Rattle.tx_tree.specs.WideTree.{text_length_of, longest_text}
 
 pub get_of_set : {X : Type 0} → (xs : List X) (i : ℕ) (x v : X) → slice_get xs i ≡ Some x → slice_get (set xs i v) i ≡ Some v
 get_of_set [] i x v e = absurd (cc)

@@ -1,5 +1,7 @@
 -- The measure of what a modification makes of a subtree.
-use Rattle.std.proofs.Common.{◌≡◌, ℕ, ◌+◌, ◌<◌, ◌≤◌, max, Bool, true, false, leb, List, [], ◌∷◌, ◌++◌, length, take, drop, get_or, Option, Some, None, Ok, Err, refl, sym, ap, subst, ◌∙◌, length-append, length-take, length-drop, arith}
+use Rattle.std.proofs.Common.{◌≡◌, ℕ, ◌+◌, ◌<◌, ◌≤◌, max, Bool, true, false, leb, List, [], ◌∷◌, ◌++◌, length, take}
+use Rattle.std.proofs.Common.{drop, get_or, Option, Some, None, Ok, Err, refl, sym, ap, subst, ◌∙◌, length-append}
+use Rattle.std.proofs.Common.{length-take, length-drop, arith}
 use Rattle.std.specs.Prelude.{slice_get}
 use Rattle.std.specs.Option.{option_map_or}
 use Rattle.std.specs.Str.{bytes_eq}
@@ -8,14 +10,17 @@ use Rattle.std.proofs.lemmas.Option.{slice_get_past, slice_get_read}
 use Rattle.std.proofs.lemmas.Slice.Eq.{bytes_eq-Decides}
 use Rattle.std.proofs.lemmas.Bool.{le-leb}
 use Rattle.tx_tree.specs.Limits.{IsWithinLimits}
-use Rattle.tx_tree.specs.WideTree.{WideTree, Forest, leaf, node, nil, cons, forest, trees, size_of, total_size, depth_of, deepest, arity_of, widest, count, text_length_of, longest_text}
-use Rattle.tx_tree.proofs.Children.{trees_forest, forest_trees, total_size-append, deepest-append, widest-append, longest_text-append, count-forest}
+use Rattle.tx_tree.specs.WideTree.{WideTree, Forest, leaf, node, nil, cons, forest, trees, size_of, total_size}
+use Rattle.tx_tree.specs.WideTree.{depth_of, deepest, arity_of, widest, count, text_length_of, longest_text}
+use Rattle.tx_tree.proofs.Children.{trees_forest, forest_trees, total_size-append, deepest-append, widest-append}
+use Rattle.tx_tree.proofs.Children.{longest_text-append, count-forest}
 use Rattle.tx_tree.proofs.Walks.{drop_item}
 use Rattle.tx_mod.specs.declared.faults.ModFault.{ModFault}
 use Rattle.tx_mod.specs.declared.faults.ModFault.TheVariants.{NotNode, BadPlace, CutsSymbol, Differ}
 use Rattle.tx_mod.specs.declared.measures.Measure.{Measure}
 use Rattle.tx_mod.specs.Mods.{tuple, put_in, taken_out, extent, is_clean, before, behind}
-use Rattle.tx_mod.specs.Changes.{Outcome, asking, inserted, removed, split, split_child, joined, joined_at, in_place_of_two, wrapped, unwrapped}
+use Rattle.tx_mod.specs.Changes.{Outcome, asking, inserted, removed, split, split_child, joined, joined_at}
+use Rattle.tx_mod.specs.Changes.{in_place_of_two, wrapped, unwrapped}
 use Rattle.tx_mod.specs.Measures.{IsPeak, IsMade}
 use Rattle.tx_mod.proofs.Lists.{list_at}
 

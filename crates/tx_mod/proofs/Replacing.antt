@@ -1,14 +1,17 @@
 -- A tree in which the subtree of a path is replaced.
-use Rattle.std.proofs.Common.{◌≡◌, ℕ, zero, suc, ◌+◌, ◌≤◌, max, List, [], ◌∷◌, take, drop, set, Some, refl, sym, ap, ◌∙◌, arith}
+use Rattle.std.proofs.Common.{◌≡◌, ℕ, zero, suc, ◌+◌, ◌≤◌, max, List, [], ◌∷◌, take, drop, set, Some, refl, sym, ap}
+use Rattle.std.proofs.Common.{◌∙◌, arith}
 use Rattle.std.specs.Prelude.{slice_get}
 use Rattle.std.specs.Option.{option_map_or}
 use Rattle.std.proofs.lemmas.Option.{option_and_then_some}
 use Rattle.tx_tree.specs.Paths.{subtree}
-use Rattle.tx_tree.specs.WideTree.{WideTree, Forest, leaf, node, nil, cons, forest, trees, children_of, size_of, total_size, depth_of, deepest, arity_of, widest, count, text_length_of, longest_text}
+use Rattle.tx_tree.specs.WideTree.{WideTree, Forest, leaf, node, nil, cons, forest, trees, children_of, size_of}
+use Rattle.tx_tree.specs.WideTree.{total_size, depth_of, deepest, arity_of, widest, count, text_length_of, longest_text}
 use Rattle.tx_tree.proofs.Children.{trees_forest, forest_trees}
 use Rattle.tx_tree.proofs.Walking.{step_down}
 use Rattle.tx_mod.specs.Mods.{with_child, replaced}
-use Rattle.tx_mod.proofs.Lists.{get_of_set, get_of_set_other, set_to_same, total_size_of_set, deepest_of_set, longest_text_of_set, text_length_in_set, widest_of_set, arity_in_set, count_of_set}
+use Rattle.tx_mod.proofs.Lists.{get_of_set, get_of_set_other, set_to_same, total_size_of_set, deepest_of_set}
+use Rattle.tx_mod.proofs.Lists.{longest_text_of_set, text_length_in_set, widest_of_set, arity_in_set, count_of_set}
 
 -- a path that leads goes to a child first
 pub record IsDown (t : WideTree) (i : ℕ) (path : List ℕ) (s : WideTree) : Type 0 where

@@ -1,5 +1,6 @@
 -- A moved place is a place of the changed tree.
-use Rattle.std.proofs.Common.{◌≡◌, ℕ, ◌+◌, ◌-◌, ◌<◌, ◌≤◌, Bool, true, false, leb, ltb, eqb, List, [], ◌∷◌, ◌++◌, length, take, drop, Option, Some, None, Ok, refl, sym, ap, subst, ◌∙◌, length-append, arith}
+use Rattle.std.proofs.Common.{◌≡◌, ℕ, ◌+◌, ◌-◌, ◌<◌, ◌≤◌, Bool, true, false, leb, ltb, eqb, List, [], ◌∷◌, ◌++◌, length}
+use Rattle.std.proofs.Common.{take, drop, Option, Some, None, Ok, refl, sym, ap, subst, ◌∙◌, length-append, arith}
 use Rattle.std.specs.Prelude.{slice_get, if◌then◌else◌, IsSomeAnd}
 use Rattle.std.specs.Option.{option_map_or}
 use Rattle.std.specs.Str.{bytes_eq}
@@ -15,10 +16,13 @@ use Rattle.tx_tree.specs.WideTree.{WideTree, Forest, leaf, node, forest, trees, 
 use Rattle.tx_tree.proofs.Walking.{step_down}
 use Rattle.tx_mod.specs.declared.faults.ModFault.TheVariants.{Differ, BadPlace, CutsSymbol}
 use Rattle.tx_mod.specs.declared.mods.Mod.{Mod}
-use Rattle.tx_mod.specs.declared.mods.Mod.TheVariants.{Assign, Insert, Remove, Split, Join, AssignNode, InsertNode, RemoveNode}
+use Rattle.tx_mod.specs.declared.mods.Mod.TheVariants.{Assign, Insert, Remove, Split, Join, AssignNode, InsertNode}
+use Rattle.tx_mod.specs.declared.mods.Mod.TheVariants.{RemoveNode}
 use Rattle.tx_mod.specs.Mods.{path_of, put_in, taken_out, extent, is_clean, before, behind, with_child, replaced}
 use Rattle.tx_mod.specs.Changes.{inserted, removed, split, joined, joined_at, labelled, unwrapped, changed_at}
-use Rattle.tx_mod.specs.Moves.{rest_behind, place, below, child_or_self, shifted, moved_by_insert, moved_by_remove, moved_in_split, moved_by_split, moved_in_join, moved_by_join, moved_by_unwrap, moved_at, moved_place}
+use Rattle.tx_mod.specs.Moves.{rest_behind, place, below, child_or_self, shifted, moved_by_insert, moved_by_remove}
+use Rattle.tx_mod.specs.Moves.{moved_in_split, moved_by_split, moved_in_join, moved_by_join, moved_by_unwrap, moved_at}
+use Rattle.tx_mod.specs.Moves.{moved_place}
 use Rattle.tx_mod.specs.Sound.{IsSound}
 use Rattle.tx_mod.specs.Followed.{StaysPlace}
 use Rattle.tx_mod.proofs.Cases.{by_test}
@@ -26,8 +30,11 @@ use Rattle.tx_mod.proofs.Replacing.{down, replaced_down, child_of_with, other_ch
 use Rattle.tx_mod.proofs.Remade.{texts_together, text_before, text_behind}
 use Rattle.tx_mod.proofs.Back.{ok_asked, same_tree, made_of, child_well_formed, well_formed_at}
 use Rattle.tx_mod.proofs.CutPlaces.{cut_of, cut_push, cut_append, cut_in_front, cut_behind}
-use Rattle.tx_mod.proofs.Shapes.{child_in, child_is, child_stays, shape_inserted, shape_removed, shape_split, shape_joined, shape_labelled, shape_wrapped, shape_unwrapped}
-use Rattle.tx_mod.proofs.Kept.{insert_stays, remove_front, remove_back, split_front, split_back, split_left, split_right, before_child, behind_child, join_front, join_behind, join_at, left_child, right_child, subtree_behind, rest_is}
+use Rattle.tx_mod.proofs.Shapes.{child_in, child_is, child_stays, shape_inserted, shape_removed, shape_split}
+use Rattle.tx_mod.proofs.Shapes.{shape_joined, shape_labelled, shape_wrapped, shape_unwrapped}
+use Rattle.tx_mod.proofs.Kept.{insert_stays, remove_front, remove_back, split_front, split_back, split_left}
+use Rattle.tx_mod.proofs.Kept.{split_right, before_child, behind_child, join_front, join_behind, join_at, left_child}
+use Rattle.tx_mod.proofs.Kept.{right_child, subtree_behind, rest_is}
 
 -- ---- places
 

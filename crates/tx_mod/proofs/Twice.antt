@@ -1,5 +1,6 @@
 -- What undoes the undoing of a modification is the modification itself.
-use Rattle.std.proofs.Common.{◌≡◌, ℕ, ◌+◌, ◌<◌, ◌≤◌, leb, List, [], ◌∷◌, ◌++◌, length, take, drop, Some, Ok, refl, sym, ap, ◌∙◌, length-drop, append_assoc, arith}
+use Rattle.std.proofs.Common.{◌≡◌, ℕ, ◌+◌, ◌<◌, ◌≤◌, leb, List, [], ◌∷◌, ◌++◌, length, take, drop, Some, Ok, refl, sym}
+use Rattle.std.proofs.Common.{ap, ◌∙◌, length-drop, append_assoc, arith}
 use Rattle.std.specs.Prelude.{slice_get, unwrap_or}
 use Rattle.std.specs.Option.{option_map_or}
 use Rattle.std.specs.Str.{bytes_eq}
@@ -13,7 +14,8 @@ use Rattle.tx_tree.specs.WideTree.{WideTree, leaf, node, forest, trees, children
 use Rattle.tx_tree.proofs.Children.{trees_forest, forest_trees}
 use Rattle.tx_mod.specs.declared.faults.ModFault.TheVariants.{NotNode, BadPlace, CutsSymbol}
 use Rattle.tx_mod.specs.declared.mods.Mod.{Mod}
-use Rattle.tx_mod.specs.declared.mods.Mod.TheVariants.{Assign, Insert, Remove, Split, Join, AssignNode, InsertNode, RemoveNode}
+use Rattle.tx_mod.specs.declared.mods.Mod.TheVariants.{Assign, Insert, Remove, Split, Join, AssignNode, InsertNode}
+use Rattle.tx_mod.specs.declared.mods.Mod.TheVariants.{RemoveNode}
 use Rattle.tx_mod.specs.Mods.{path_of, tuple, put_in, taken_out, part_of, extent, is_clean, before, behind}
 use Rattle.tx_mod.specs.Changes.{inserted, removed, split, split_child, labelled, wrapped, changed_at}
 use Rattle.tx_mod.specs.Inverses.{removed_part, without_child, inverse_at, inverse_of}

@@ -1,5 +1,6 @@
 -- What gives a changed subtree back.
-use Rattle.std.proofs.Common.{◌≡◌, ℕ, ◌+◌, ◌-◌, ◌≤◌, true, List, ◌++◌, take, drop, None, refl, sym, ap, subst, ◌∙◌, length-take, length-drop, arith}
+use Rattle.std.proofs.Common.{◌≡◌, ℕ, ◌+◌, ◌-◌, ◌≤◌, true, List, ◌++◌, take, drop, None, refl, sym, ap, subst, ◌∙◌}
+use Rattle.std.proofs.Common.{length-take, length-drop, arith}
 use Rattle.std.specs.Prelude.{IsOkAnd}
 use Rattle.std.proofs.lemmas.List.{take-append-drop, drop-take, take-take, drop-drop}
 use Rattle.tx_tree.specs.Cuts.{is_cut}

@@ -1,5 +1,6 @@
 -- What a modification makes of a whole tree.
-use Rattle.std.proofs.Common.{◌≡◌, ℕ, ◌+◌, ◌<◌, ◌≤◌, max, Bool, true, false, leb, List, [], ◌∷◌, length, drop, get_or, Some, None, Ok, Err, refl, sym, ap, subst, ◌∙◌, arith}
+use Rattle.std.proofs.Common.{◌≡◌, ℕ, ◌+◌, ◌<◌, ◌≤◌, max, Bool, true, false, leb, List, [], ◌∷◌, length, drop, get_or}
+use Rattle.std.proofs.Common.{Some, None, Ok, Err, refl, sym, ap, subst, ◌∙◌, arith}
 use Rattle.std.specs.Prelude.{slice_get, IsOk, IsOkAnd}
 use Rattle.std.specs.Option.{option_map_or}
 use Rattle.std.proofs.lemmas.List.{drop_more}
@@ -14,7 +15,8 @@ use Rattle.tx_mod.specs.declared.mods.Mod.{Mod}
 use Rattle.tx_mod.specs.Mods.{path_of, replaced}
 use Rattle.tx_mod.specs.Changes.{Outcome, asking, changed_at, limited, put_back, changed}
 use Rattle.tx_mod.specs.Measures.{IsPeak, IsMade}
-use Rattle.tx_mod.proofs.Replacing.{aside, size_of_replaced, depth_of_replaced, text_of_replaced, text_in_replaced, arity_of_replaced, arity_in_replaced, subtree_of_replaced, down}
+use Rattle.tx_mod.proofs.Replacing.{aside, size_of_replaced, depth_of_replaced, text_of_replaced, text_in_replaced}
+use Rattle.tx_mod.proofs.Replacing.{arity_of_replaced, arity_in_replaced, subtree_of_replaced, down}
 use Rattle.tx_mod.specs.Inverses.{inverse_at, inverse_of}
 use Rattle.tx_mod.proofs.Built.{child_within}
 

@@ -1,10 +1,12 @@
 -- The parts of a value, and what a node knows of them.
-use Rattle.std.proofs.Common.{◌≡◌, ℕ, ◌+◌, ◌*◌, ◌<◌, ◌≤◌, max, List, [], ◌∷◌, ◌++◌, length, take, get_or, length-append, ap, refl, arith}
+use Rattle.std.proofs.Common.{◌≡◌, ℕ, ◌+◌, ◌*◌, ◌<◌, ◌≤◌, max, List, [], ◌∷◌, ◌++◌, length, take, get_or, length-append}
+use Rattle.std.proofs.Common.{ap, refl, arith}
 use Rattle.std.proofs.lemmas.List.{take_more}
 use Rattle.std.proofs.lemmas.Option.{slice_get_read, slice_get_past}
 use Rattle.tx_tree.specs.Labels.{IsLabel}
 use Rattle.tx_tree.specs.Limits.{AreWellFormed, IsWellFormed, IsWithinLimits}
-use Rattle.tx_tree.specs.WideTree.{WideTree, Forest, leaf, nil, cons, node, forest, size_of, total_size, depth_of, deepest, arity_of, nodes_of, total_nodes, count, widest, longest_text}
+use Rattle.tx_tree.specs.WideTree.{WideTree, Forest, leaf, nil, cons, node, forest, size_of, total_size, depth_of}
+use Rattle.tx_tree.specs.WideTree.{deepest, arity_of, nodes_of, total_nodes, count, widest, longest_text}
 use Rattle.std.proofs.Math.Nat.{max-le, le-max_left}
 use Rattle.tx_tree.proofs.Children.{count-forest}
 use Rattle.tx_origin.specs.Values.{WideValue, WideValues, none, also, vals, each_of, plain, plains}

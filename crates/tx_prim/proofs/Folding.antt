@@ -1,5 +1,6 @@
 -- A step of a fold over numbers and lengths.
-use Rattle.std.proofs.Common.{◌≡◌, ℕ, ◌+◌, ◌<◌, Bool, true, false, cond, List, [], ◌∷◌, length, drop, get_or, ℤ, pos, negsuc, Option, Some, None, FitsSigned, to_z, of_z, to_z-of_z, refl, sym, ap, ◌∙◌}
+use Rattle.std.proofs.Common.{◌≡◌, ℕ, ◌+◌, ◌<◌, Bool, true, false, cond, List, [], ◌∷◌, length, drop, get_or, ℤ, pos}
+use Rattle.std.proofs.Common.{negsuc, Option, Some, None, FitsSigned, to_z, of_z, to_z-of_z, refl, sym, ap, ◌∙◌}
 use Rattle.std.specs.Prelude.{option_and_then}
 use Rattle.std.specs.Int.{w64}
 use Rattle.std.proofs.lemmas.List.{at_drop_more}

@@ -1,5 +1,7 @@
 -- Items of a text, byte by byte.
-use Rattle.std.proofs.Common.{◌≡◌, ℕ, zero, suc, ◌+◌, ◌-◌, ◌≤◌, ◌<◌, Bool, true, false, cond, ◌==◌, List, [], ◌∷◌, ◌++◌, map, length, take, drop, refl, sym, ap, subst, ◌∙◌, append_assoc, arith, take-add, get_or, not}
+use Rattle.std.proofs.Common.{◌≡◌, ℕ, zero, suc, ◌+◌, ◌-◌, ◌≤◌, ◌<◌, Bool, true, false, cond, ◌==◌, List, [], ◌∷◌, ◌++◌}
+use Rattle.std.proofs.Common.{map, length, take, drop, refl, sym, ap, subst, ◌∙◌, append_assoc, arith, take-add, get_or}
+use Rattle.std.proofs.Common.{not}
 use Rattle.std.specs.List.{AllByRecursion, flat_map}
 use Rattle.std.proofs.lemmas.List.{append-nil, length-append, at_drop_more, take-append-drop, take_at, drop_at}
 use Rattle.std.proofs.lemmas.List.Concat.{flat_map-append}

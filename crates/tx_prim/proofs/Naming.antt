@@ -1,7 +1,9 @@
 -- Each primitive is found by its name.
 use Rattle.std.proofs.Common.{◌≡◌, Some, refl}
 use Rattle.tx_prim.specs.declared.names.Prim.{Prim}
-use Rattle.tx_prim.specs.declared.names.Prim.TheVariants.{Plus, Minus, Times, Div, Mod, Equal, Unequal, Less, LessEq, Greater, GreaterEq, And, Or, Xor, Not, Merge, Length, Range, IsTuple, LookUp, GetLabel, GetArity}
+use Rattle.tx_prim.specs.declared.names.Prim.TheVariants.{Plus, Minus, Times, Div, Mod, Equal, Unequal, Less, LessEq}
+use Rattle.tx_prim.specs.declared.names.Prim.TheVariants.{Greater, GreaterEq, And, Or, Xor, Not, Merge, Length, Range}
+use Rattle.tx_prim.specs.declared.names.Prim.TheVariants.{IsTuple, LookUp, GetLabel, GetArity}
 use Rattle.tx_prim.specs.Names.{name_of, named}
 
 pub found : (p : Prim) → named (name_of p) ≡ Some p

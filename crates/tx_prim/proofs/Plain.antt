@@ -1,9 +1,12 @@
 -- Bytes without symbols are texts: names, words, labels and numbers.
-use Rattle.std.proofs.Common.{◌≡◌, ℕ, zero, suc, ◌+◌, ◌%◌, ◌^◌, ◌<◌, ◌≤◌, Bool, true, false, not, ◌&&◌, ◌||◌, eqb, leb, ◌==◌, nat_le, nat_lt, List, [], ◌∷◌, ◌++◌, length, map, ℤ, pos, negsuc, refl, sym, ap, subst, ◌∙◌, codes, decimal, arith, FitsSigned}
+use Rattle.std.proofs.Common.{◌≡◌, ℕ, zero, suc, ◌+◌, ◌%◌, ◌^◌, ◌<◌, ◌≤◌, Bool, true, false, not, ◌&&◌, ◌||◌, eqb, leb}
+use Rattle.std.proofs.Common.{◌==◌, nat_le, nat_lt, List, [], ◌∷◌, ◌++◌, length, map, ℤ, pos, negsuc, refl, sym, ap}
+use Rattle.std.proofs.Common.{subst, ◌∙◌, codes, decimal, arith, FitsSigned}
 use Rattle.std.specs.Int.{w64}
 use Rattle.std.specs.List.{AllByRecursion, list_all, flat_map}
 use Rattle.std.specs.Fmt.{signed_decimal}
-use Rattle.std.proofs.lemmas.Bool.{and_parts, and_from, eqb-true, cases_Bool, false_from_ne_true, leb-true, ltb-true, lt-ltb, le-leb}
+use Rattle.std.proofs.lemmas.Bool.{and_parts, and_from, eqb-true, cases_Bool, false_from_ne_true, leb-true, ltb-true}
+use Rattle.std.proofs.lemmas.Bool.{lt-ltb, le-leb}
 use Rattle.std.proofs.lemmas.List.{length-append}
 use Rattle.std.proofs.lemmas.List.Folds.{list_all-append}
 use Rattle.std.proofs.lemmas.Fmt.{decimal_by_steps, length_signed_le}
@@ -11,7 +14,9 @@ use Rattle.tx_tree.specs.Texts.{Item, byte, is_item_byte, IsItem, item_bytes, Is
 use Rattle.tx_tree.specs.Labels.{is_label_byte, IsLabel}
 use Rattle.tx_tree.specs.PathSpelling.{is_digit}
 use Rattle.tx_prim.specs.declared.names.Prim.{Prim}
-use Rattle.tx_prim.specs.declared.names.Prim.TheVariants.{Plus, Minus, Times, Div, Mod, Equal, Unequal, Less, LessEq, Greater, GreaterEq, And, Or, Xor, Not, Merge, Length, Range, IsTuple, LookUp, GetLabel, GetArity}
+use Rattle.tx_prim.specs.declared.names.Prim.TheVariants.{Plus, Minus, Times, Div, Mod, Equal, Unequal, Less, LessEq}
+use Rattle.tx_prim.specs.declared.names.Prim.TheVariants.{Greater, GreaterEq, And, Or, Xor, Not, Merge, Length, Range}
+use Rattle.tx_prim.specs.declared.names.Prim.TheVariants.{IsTuple, LookUp, GetLabel, GetArity}
 use Rattle.tx_prim.specs.declared.amounts.ValueFault.{ValueFault}
 use Rattle.tx_prim.specs.declared.amounts.ValueFault.TheVariants.{Bad, Overflow, Zero, NoPart, Limit}
 use Rattle.tx_prim.specs.Names.{name_of, fault_text}

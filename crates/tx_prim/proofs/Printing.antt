@@ -1,5 +1,7 @@
 -- What is printed for numbers and lengths is read as them.
-use Rattle.std.proofs.Common.{◌≡◌, ℕ, zero, suc, ◌+◌, ◌-◌, ◌*◌, ◌/◌, ◌%◌, ◌^◌, ◌<◌, ◌≤◌, Bool, true, false, cond, ◌==◌, ◌&&◌, nat_lt, List, [], ◌∷◌, ◌++◌, length, take, drop, ℤ, pos, negsuc, neg_ℤ, unsigned_abs, Option, Some, None, refl, sym, ap, subst, ◌∙◌, codes, decimal, arith}
+use Rattle.std.proofs.Common.{◌≡◌, ℕ, zero, suc, ◌+◌, ◌-◌, ◌*◌, ◌/◌, ◌%◌, ◌^◌, ◌<◌, ◌≤◌, Bool, true, false, cond, ◌==◌}
+use Rattle.std.proofs.Common.{◌&&◌, nat_lt, List, [], ◌∷◌, ◌++◌, length, take, drop, ℤ, pos, negsuc, neg_ℤ}
+use Rattle.std.proofs.Common.{unsigned_abs, Option, Some, None, refl, sym, ap, subst, ◌∙◌, codes, decimal, arith}
 use Rattle.std.specs.List.{list_all, prefix_len}
 use Rattle.std.specs.Fmt.{signed_decimal}
 use Rattle.std.proofs.Math.Nat.{mul-le-mul_right, pow-suc, pow-le-pow_right}

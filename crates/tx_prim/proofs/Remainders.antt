@@ -1,5 +1,6 @@
 -- What is left over by a quotient that is cut toward zero.
-use Rattle.std.proofs.Common.{◌≡◌, ℕ, zero, suc, ◌%◌, ℤ, pos, negsuc, neg_ℤ, ◌+ℤ◌, ◌-ℤ◌, ◌*ℤ◌, int_div, int_rem, FitsSigned, to_z, of_z, refl, sym, ap, ◌∙◌, arith, to_z-of_z}
+use Rattle.std.proofs.Common.{◌≡◌, ℕ, zero, suc, ◌%◌, ℤ, pos, negsuc, neg_ℤ, ◌+ℤ◌, ◌-ℤ◌, ◌*ℤ◌, int_div, int_rem}
+use Rattle.std.proofs.Common.{FitsSigned, to_z, of_z, refl, sym, ap, ◌∙◌, arith, to_z-of_z}
 use Rattle.std.specs.Int.{w64}
 use Rattle.std.proofs.lemmas.Int.{ints, quot-rem, rem_is}
 use Rattle.tx_prim.specs.Arithmetic.{rest_of}

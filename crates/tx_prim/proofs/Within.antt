@@ -1,9 +1,12 @@
 -- Nodes that primitives make are within the limits.
-use Rattle.std.proofs.Common.{◌≡◌, ℕ, zero, suc, ◌+◌, ◌≤◌, max, List, [], ◌∷◌, ◌++◌, length, take, drop, Option, Some, None, refl, sym, ap, subst, ◌∙◌, codes, arith}
+use Rattle.std.proofs.Common.{◌≡◌, ℕ, zero, suc, ◌+◌, ◌≤◌, max, List, [], ◌∷◌, ◌++◌, length, take, drop, Option, Some}
+use Rattle.std.proofs.Common.{None, refl, sym, ap, subst, ◌∙◌, codes, arith}
 use Rattle.std.proofs.lemmas.List.{take-append-drop, length-append}
 use Rattle.tx_tree.specs.Limits.{IsWithinLimits}
-use Rattle.tx_tree.specs.WideTree.{WideTree, leaf, node, nil, cons, forest, trees, total_size, deepest, widest, longest_text}
-use Rattle.tx_tree.proofs.Children.{count-forest, total_size-append, deepest-append, widest-append, longest_text-append, forest_trees, trees_forest}
+use Rattle.tx_tree.specs.WideTree.{WideTree, leaf, node, nil, cons, forest, trees, total_size, deepest, widest}
+use Rattle.tx_tree.specs.WideTree.{longest_text}
+use Rattle.tx_tree.proofs.Children.{count-forest, total_size-append, deepest-append, widest-append, longest_text-append}
+use Rattle.tx_tree.proofs.Children.{forest_trees, trees_forest}
 use Rattle.tx_prim.specs.declared.names.Prim.{Prim}
 use Rattle.tx_prim.specs.declared.amounts.ValueFault.{ValueFault}
 use Rattle.tx_prim.specs.Names.{name_of, fault_text}

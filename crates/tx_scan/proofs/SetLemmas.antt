@@ -1,5 +1,6 @@
 -- The test of a byte by the eight bytes of a set that was filled up with zeros.
-use Rattle.std.proofs.Common.{◌≡◌, ℕ, ◌+◌, ◌<◌, ◌≤◌, eqb, ltb, zero, suc, Bool, true, false, ◌||◌, List, ◌++◌, length, take, get_or, replicate, refl, sym, ap, ap₂, ◌∙◌, arith, inl, inr}
+use Rattle.std.proofs.Common.{◌≡◌, ℕ, ◌+◌, ◌<◌, ◌≤◌, eqb, ltb, zero, suc, Bool, true, false, ◌||◌, List, ◌++◌, length}
+use Rattle.std.proofs.Common.{take, get_or, replicate, refl, sym, ap, ap₂, ◌∙◌, arith, inl, inr}
 use Rattle.std.specs.List.{list_any}
 use Rattle.std.proofs.lemmas.Bool.{cases_Bool, ltb-false, ne_eqb, or_left}
 use Rattle.std.proofs.lemmas.List.Folds.{list_any-append, list_any_more}

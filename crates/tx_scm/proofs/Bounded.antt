@@ -3,7 +3,8 @@ use Rattle.std.proofs.Common.{◌≡◌, ℕ, ◌≤◌, true, List, arith}
 use Rattle.std.proofs.lemmas.Bool.{le-leb, leb-true, and_from, and_parts}
 use Rattle.std.proofs.Math.Nat.{le-max_left, le-max_right}
 use Rattle.tx_tree.specs.Limits.{IsWithinLimits}
-use Rattle.tx_tree.specs.WideTree.{WideTree, Forest, cons, node, count, depth_of, deepest, arity_of, widest, text_length_of, longest_text, size_of, total_size}
+use Rattle.tx_tree.specs.WideTree.{WideTree, Forest, cons, node, count, depth_of, deepest, arity_of, widest}
+use Rattle.tx_tree.specs.WideTree.{text_length_of, longest_text, size_of, total_size}
 use Rattle.tx_scm.specs.Machine.{Limits, the_limits, keeps}
 
 -- the tree passes no limit

@@ -1,5 +1,6 @@
 -- What spells a tree within the limits is read.
-use Rattle.std.proofs.Common.{◌≡◌, ℕ, suc, ◌+◌, ◌<◌, ◌≤◌, true, List, [], ◌∷◌, ◌++◌, length, Some, refl, sym, ap, subst, ◌∙◌, append_assoc, length-append, arith}
+use Rattle.std.proofs.Common.{◌≡◌, ℕ, suc, ◌+◌, ◌<◌, ◌≤◌, true, List, [], ◌∷◌, ◌++◌, length, Some, refl, sym, ap, subst}
+use Rattle.std.proofs.Common.{◌∙◌, append_assoc, length-append, arith}
 use Rattle.std.specs.List.{AllByRecursion, flat_map}
 use Rattle.std.proofs.lemmas.List.{append-nil}
 use Rattle.std.proofs.lemmas.Bool.{lt-ltb, and_from}
@@ -7,15 +8,19 @@ use Rattle.std.proofs.Math.Nat.{le-max_left, le-max_right}
 use Rattle.tx_tree.specs.Texts.{IsText}
 use Rattle.tx_tree.specs.Labels.{is_label_byte, IsLabel}
 use Rattle.tx_tree.specs.TextScan.{begins_text}
-use Rattle.tx_tree.specs.WideTree.{WideTree, Forest, leaf, node, nil, cons, forest, trees, count, depth_of, deepest, arity_of, widest, text_length_of, size_of}
+use Rattle.tx_tree.specs.WideTree.{WideTree, Forest, leaf, node, nil, cons, forest, trees, count, depth_of, deepest}
+use Rattle.tx_tree.specs.WideTree.{arity_of, widest, text_length_of, size_of}
 use Rattle.tx_tree.proofs.Scanning.{text_tested, begins_tested}
 use Rattle.tx_tree.proofs.Children.{forest_trees}
 use Rattle.tx_scm.specs.declared.kinds.Kind.{Kind}
 use Rattle.tx_scm.specs.declared.kinds.Kind.TheVariants.{Opens, Closes, Quote, Backslash, Letter}
 use Rattle.tx_scm.specs.Spelling.{AreWhite, escaped, string_of, SpellsTree, SpellsTrees, Spells}
 use Rattle.tx_scm.specs.Kinds.{kind_of}
-use Rattle.tx_scm.specs.Machine.{Open, Bounds, Limits, between, opened, naming, texting, whole, put, only_if, has_place, has_room, within, keeps, closed, named, lengthened, step_between, step_opened, step_naming, step_texting, step_escaping, step_whole, run, tree_in, completes}
-use Rattle.tx_scm.proofs.ByteKinds.{white_kind, letter_kind, opens_kind, closes_kind, quote_kind, backslash_kind, EscapedAs, escaped_as}
+use Rattle.tx_scm.specs.Machine.{Open, Bounds, Limits, between, opened, naming, texting, whole, put, only_if, has_place}
+use Rattle.tx_scm.specs.Machine.{has_room, within, keeps, closed, named, lengthened, step_between, step_opened}
+use Rattle.tx_scm.specs.Machine.{step_naming, step_texting, step_escaping, step_whole, run, tree_in, completes}
+use Rattle.tx_scm.proofs.ByteKinds.{white_kind, letter_kind, opens_kind, closes_kind, quote_kind, backslash_kind}
+use Rattle.tx_scm.proofs.ByteKinds.{EscapedAs, escaped_as}
 use Rattle.tx_scm.proofs.Bounded.{IsBelow, AreBelow, below_all, below_first, below_others, keeps_below}
 
 abbrev pub open_of : List ℕ → List WideTree → Open

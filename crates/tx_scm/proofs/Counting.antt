@@ -4,7 +4,9 @@ use Rattle.tx_tree.specs.TextScan.{is_text, begins_text}
 use Rattle.tx_tree.specs.WideTree.{WideTree, leaf, forest, nodes_of, total_nodes}
 use Rattle.tx_scm.specs.declared.kinds.Kind.{Kind}
 use Rattle.tx_scm.specs.declared.kinds.Kind.TheVariants.{White, Opens, Closes, Quote, Backslash, Letter}
-use Rattle.tx_scm.specs.Machine.{Open, State, Bounds, between, opened, naming, texting, escaping, whole, failed, put, only_if, node_of, closed, named, lengthened, step_between, step_opened, step_naming, step_texting, step_escaping, step_whole, step}
+use Rattle.tx_scm.specs.Machine.{Open, State, Bounds, between, opened, naming, texting, escaping, whole, failed, put}
+use Rattle.tx_scm.specs.Machine.{only_if, node_of, closed, named, lengthened, step_between, step_opened, step_naming}
+use Rattle.tx_scm.specs.Machine.{step_texting, step_escaping, step_whole, step}
 use Rattle.tx_scm.specs.States.{nodes_in, made_by, made_in, IsCounted}
 
 total_nodes-append : (ss ts : List WideTree) → total_nodes (forest (ss ++ ts)) ≡ total_nodes (forest ss) + total_nodes (forest ts)

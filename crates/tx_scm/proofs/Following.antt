@@ -1,5 +1,6 @@
 -- The scan follows the machine without bounds.
-use Rattle.std.proofs.Common.{◌≡◌, ℕ, zero, suc, ◌+◌, Bool, true, false, ltb, ◌&&◌, List, [], ◌∷◌, ◌++◌, length, Option, Some, None, is_some, refl, sym, ap, ◌∙◌, length-append, add-one}
+use Rattle.std.proofs.Common.{◌≡◌, ℕ, zero, suc, ◌+◌, Bool, true, false, ltb, ◌&&◌, List, [], ◌∷◌, ◌++◌, length, Option}
+use Rattle.std.proofs.Common.{Some, None, is_some, refl, sym, ap, ◌∙◌, length-append, add-one}
 use Rattle.tx_tree.specs.declared.texts.TextPlace.{TextPlace}
 use Rattle.tx_tree.specs.declared.texts.TextPlace.TheVariants.{Between as BetweenItems, InSymbol}
 use Rattle.tx_tree.specs.TextScan.{text_step, text_run, is_text, is_between, begins_text}
@@ -11,8 +12,11 @@ use Rattle.tx_scm.specs.declared.spots.Spot.{Spot}
 use Rattle.tx_scm.specs.declared.spots.Spot.TheVariants.{Between, Opened, Naming, Escaping, Whole}
 use Rattle.tx_scm.specs.Kinds.{kind_of}
 use Rattle.tx_scm.specs.Machine as machine
-use Rattle.tx_scm.specs.Machine.{Open, State, wide, between, opened, naming, texting, escaping, whole, failed, put, node_of, named, step_between, step_opened, step_naming, step_texting, step_escaping, step_whole, run}
-use Rattle.tx_scm.specs.Spots.{after_tree, closed, only_if, between_step, opened_step, naming_step, in_text, lengthened, texting_step, escaping_step, whole_step, step, spots}
+use Rattle.tx_scm.specs.Machine.{Open, State, wide, between, opened, naming, texting, escaping, whole, failed, put}
+use Rattle.tx_scm.specs.Machine.{node_of, named, step_between, step_opened, step_naming, step_texting, step_escaping}
+use Rattle.tx_scm.specs.Machine.{step_whole, run}
+use Rattle.tx_scm.specs.Spots.{after_tree, closed, only_if, between_step, opened_step, naming_step, in_text, lengthened}
+use Rattle.tx_scm.specs.Spots.{texting_step, escaping_step, whole_step, step, spots}
 use Rattle.tx_scm.proofs.ByteKinds.{is_quote_kind, is_backslash_kind}
 
 -- in an escape, where it can be ended

@@ -1,5 +1,7 @@
 -- Where the scan stands is a front, and where it stops nothing longer is one. The table of the place where it stops.
-use Rattle.std.proofs.Common.{◌≡◌, ℕ, suc, ◌+◌, ◌<◌, ◌≤◌, Bool, true, false, List, [], ◌∷◌, ◌++◌, length, take, get_or, Option, Some, None, is_some, refl, sym, ap, subst, ◌∙◌, append_assoc, add-one, arith, inl, inr, ⊎_elim}
+use Rattle.std.proofs.Common.{◌≡◌, ℕ, suc, ◌+◌, ◌<◌, ◌≤◌, Bool, true, false, List, [], ◌∷◌, ◌++◌, length, take, get_or}
+use Rattle.std.proofs.Common.{Option, Some, None, is_some, refl, sym, ap, subst, ◌∙◌, append_assoc, add-one, arith, inl}
+use Rattle.std.proofs.Common.{inr, ⊎_elim}
 use Rattle.std.specs.List.{flat_map}
 use Rattle.std.proofs.lemmas.List.{append-nil, take_more, take_all}
 use Rattle.std.proofs.lemmas.List.Concat.{flat_map-append}
@@ -21,12 +23,14 @@ use Rattle.tx_scm.specs.declared.spots.Spot.TheVariants.{Between, Opened, Naming
 use Rattle.tx_scm.specs.Kinds.{kind_of}
 use Rattle.tx_scm.specs.Spelling.{is_white, escaped, string_of, SpellsTree, Spells}
 use Rattle.tx_scm.specs.Faults.{ends_label, IsInLabelPlace, IsEscapeOpen, IsStringOpen, IsStop, IsKind, IsSchemeFault}
-use Rattle.tx_scm.specs.Machine.{Open, State, wide, between, opened, naming, texting, escaping, whole, failed, put, node_of, run}
+use Rattle.tx_scm.specs.Machine.{Open, State, wide, between, opened, naming, texting, escaping, whole, failed, put}
+use Rattle.tx_scm.specs.Machine.{node_of, run}
 use Rattle.tx_scm.specs.Spots.{closed, only_if, between_step, naming_step, in_text, whole_step, step, spots, fault_at}
 use Rattle.tx_scm.proofs.ByteKinds.{white_kind}
 use Rattle.tx_scm.proofs.Sound.{OpensTook, Took, put_took, close_took, run_took}
 use Rattle.tx_scm.proofs.Wide.{wide_whole, are_open, after_label, wide_label, wide_string, wide_escape}
-use Rattle.tx_scm.proofs.Following.{in_escape, place_of, one_more, place_more, spot_of, spots_nothing, spots_none, spots-append, run_spots}
+use Rattle.tx_scm.proofs.Following.{in_escape, place_of, one_more, place_more, spot_of, spots_nothing, spots_none}
+use Rattle.tx_scm.proofs.Following.{spots-append, run_spots}
 
 abbrev start : Option Spot
 start = Some (Between 0)

@@ -1,5 +1,6 @@
 -- Reading makes no more nodes than the tree has that the bytes spell, whatever the limits.
-use Rattle.std.proofs.Common.{◌≡◌, ℕ, ◌+◌, ◌<◌, ◌≤◌, List, [], ◌∷◌, length, get_or, drop, sym, ap, subst, ◌∙◌, arith, ⊎_elim}
+use Rattle.std.proofs.Common.{◌≡◌, ℕ, ◌+◌, ◌<◌, ◌≤◌, List, [], ◌∷◌, length, get_or, drop, sym, ap, subst, ◌∙◌, arith}
+use Rattle.std.proofs.Common.{⊎_elim}
 use Rattle.std.proofs.lemmas.List.{drop_more}
 use Rattle.tx_tree.specs.WideTree.{WideTree, nodes_of}
 use Rattle.tx_scm.specs.declared.kinds.Kind.{Kind}

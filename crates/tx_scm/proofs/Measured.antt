@@ -1,17 +1,21 @@
 -- What is measured of bytes that spell a tree.
-use Rattle.std.proofs.Common.{◌≡◌, ℕ, ◌+◌, ◌<◌, ◌≤◌, max, true, List, [], ◌∷◌, ◌++◌, length, drop, get_or, refl, sym, ap, subst, ◌∙◌, append_assoc, arith}
+use Rattle.std.proofs.Common.{◌≡◌, ℕ, ◌+◌, ◌<◌, ◌≤◌, max, true, List, [], ◌∷◌, ◌++◌, length, drop, get_or, refl, sym}
+use Rattle.std.proofs.Common.{ap, subst, ◌∙◌, append_assoc, arith}
 use Rattle.std.specs.List.{AllByRecursion, flat_map}
 use Rattle.std.proofs.lemmas.List.{append-nil, drop_more, drop_all}
 use Rattle.tx_tree.specs.Labels.{is_label_byte}
-use Rattle.tx_tree.specs.WideTree.{WideTree, Forest, leaf, node, nil, cons, count, text_length_of, longest_text, arity_of, widest, depth_of, deepest, size_of, total_size}
+use Rattle.tx_tree.specs.WideTree.{WideTree, Forest, leaf, node, nil, cons, count, text_length_of, longest_text}
+use Rattle.tx_tree.specs.WideTree.{arity_of, widest, depth_of, deepest, size_of, total_size}
 use Rattle.tx_scm.specs.declared.kinds.Kind.{Kind}
 use Rattle.tx_scm.specs.declared.kinds.Kind.TheVariants.{Opens, Closes, Quote, Backslash}
 use Rattle.tx_scm.specs.declared.measures.Part.{Part}
 use Rattle.tx_scm.specs.declared.measures.Part.TheVariants.{Outside, Inside, Escaped}
 use Rattle.tx_scm.specs.Kinds.{kind_of}
 use Rattle.tx_scm.specs.Spelling.{AreWhite, escaped, SpellsTree, SpellsTrees, Spells}
-use Rattle.tx_scm.specs.Measuring.{Gauge, counted, closed, longer, outside_step, inside_step, step, step_in, measured, nothing, Measures, AreSmall, IsShort, IsSmall}
-use Rattle.tx_scm.proofs.ByteKinds.{white_kind, letter_kind, opens_kind, closes_kind, quote_kind, backslash_kind, EscapedAs, escaped_as}
+use Rattle.tx_scm.specs.Measuring.{Gauge, counted, closed, longer, outside_step, inside_step, step, step_in, measured}
+use Rattle.tx_scm.specs.Measuring.{nothing, Measures, AreSmall, IsShort, IsSmall}
+use Rattle.tx_scm.proofs.ByteKinds.{white_kind, letter_kind, opens_kind, closes_kind, quote_kind, backslash_kind}
+use Rattle.tx_scm.proofs.ByteKinds.{EscapedAs, escaped_as}
 use Rattle.tx_scm.proofs.Complete.{leaf_parts, node_parts, cons_parts}
 
 -- a gauge by its parts

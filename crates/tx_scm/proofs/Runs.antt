@@ -1,8 +1,10 @@
 -- The loop over the bytes.
-use Rattle.std.proofs.Common.{◌≡◌, ℕ, ◌+◌, ◌<◌, ◌≤◌, Bool, true, false, cond, List, [], ◌∷◌, ◌++◌, length, get_or, drop, None, refl, sym, ap, ◌∙◌, length-append}
+use Rattle.std.proofs.Common.{◌≡◌, ℕ, ◌+◌, ◌<◌, ◌≤◌, Bool, true, false, cond, List, [], ◌∷◌, ◌++◌, length, get_or, drop}
+use Rattle.std.proofs.Common.{None, refl, sym, ap, ◌∙◌, length-append}
 use Rattle.std.proofs.lemmas.List.{drop_more, drop_all}
 use Rattle.tx_scm.specs.Kinds.{kind_of}
-use Rattle.tx_scm.specs.Machine.{Open, State, Bounds, texting, failed, the_limits, within, only_if, lengthened, step_texting, step, tree_in, completes, reads}
+use Rattle.tx_scm.specs.Machine.{Open, State, Bounds, texting, failed, the_limits, within, only_if, lengthened}
+use Rattle.tx_scm.specs.Machine.{step_texting, step, tree_in, completes, reads}
 use Rattle.tx_scm.proofs.ByteKinds.{is_quote_kind, is_backslash_kind}
 use Rattle.tx_scm.specs.declared.kinds.Kind.{Kind}
 use Rattle.tx_scm.specs.declared.kinds.Kind.TheVariants.{Quote, Backslash}

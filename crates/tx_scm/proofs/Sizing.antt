@@ -1,5 +1,6 @@
 -- A byte makes what was begun larger by so much, and it never grows smaller.
-use Rattle.std.proofs.Common.{◌≡◌, ℕ, ◌+◌, ◌-◌, ◌<◌, ◌≤◌, Bool, true, false, ltb, ◌&&◌, List, [], ◌∷◌, ◌++◌, length, get_or, drop, Some, None, refl, sym, ap, subst, ◌∙◌, length-append, arith}
+use Rattle.std.proofs.Common.{◌≡◌, ℕ, ◌+◌, ◌-◌, ◌<◌, ◌≤◌, Bool, true, false, ltb, ◌&&◌, List, [], ◌∷◌, ◌++◌, length}
+use Rattle.std.proofs.Common.{get_or, drop, Some, None, refl, sym, ap, subst, ◌∙◌, length-append, arith}
 use Rattle.std.proofs.lemmas.List.{drop_more}
 use Rattle.tx_tree.specs.TextScan.{is_text, begins_text}
 use Rattle.tx_tree.specs.WideTree.{WideTree, leaf, size_of}
@@ -7,7 +8,10 @@ use Rattle.tx_tree.proofs.Children.{total_size-append}
 use Rattle.tx_scm.specs.declared.kinds.Kind.{Kind}
 use Rattle.tx_scm.specs.declared.kinds.Kind.TheVariants.{White, Opens, Closes, Quote, Backslash, Letter}
 use Rattle.tx_scm.specs.Kinds.{kind_of}
-use Rattle.tx_scm.specs.Machine.{Open, State, Bounds, the_limits, within, between, opened, naming, texting, escaping, whole, failed, put, only_if, node_of, closed, named, lengthened, step_between, step_opened, step_naming, step_texting, step_escaping, step_whole, step, completes, reads}
+use Rattle.tx_scm.specs.Machine.{Open, State, Bounds, the_limits, within, between, opened, naming, texting, escaping}
+use Rattle.tx_scm.specs.Machine.{whole, failed, put, only_if, node_of, closed, named, lengthened, step_between}
+use Rattle.tx_scm.specs.Machine.{step_opened, step_naming, step_texting, step_escaping, step_whole, step, completes}
+use Rattle.tx_scm.specs.Machine.{reads}
 use Rattle.tx_scm.specs.Sizes.{size_in, IsSized, begun_by, texted_by, grown_by, GrowsBy}
 use Rattle.tx_scm.proofs.Exact.{found}
 

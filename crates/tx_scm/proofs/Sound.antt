@@ -1,5 +1,6 @@
 -- What is read is spelled so, and is within the limits.
-use Rattle.std.proofs.Common.{◌≡◌, ℕ, ◌≤◌, Bool, true, false, ltb, ◌&&◌, List, [], ◌∷◌, ◌++◌, length, Some, refl, sym, subst, append_assoc, length-append, arith}
+use Rattle.std.proofs.Common.{◌≡◌, ℕ, ◌≤◌, Bool, true, false, ltb, ◌&&◌, List, [], ◌∷◌, ◌++◌, length, Some, refl, sym}
+use Rattle.std.proofs.Common.{subst, append_assoc, length-append, arith}
 use Rattle.std.specs.List.{flat_map}
 use Rattle.std.proofs.lemmas.List.{append-nil}
 use Rattle.std.proofs.lemmas.List.Concat.{flat_map-append}
@@ -13,8 +14,12 @@ use Rattle.tx_scm.specs.declared.kinds.Kind.{Kind}
 use Rattle.tx_scm.specs.declared.kinds.Kind.TheVariants.{White, Opens, Closes, Quote, Backslash, Letter, Other}
 use Rattle.tx_scm.specs.Spelling.{is_white, AreWhite, escaped, string_of, SpellsTree, SpellsTrees, Spells}
 use Rattle.tx_scm.specs.Kinds.{kind_of}
-use Rattle.tx_scm.specs.Machine.{Open, State, Bounds, the_limits, between, opened, naming, texting, escaping, whole, failed, put, only_if, within, keeps, node_of, closed, named, lengthened, step_between, step_opened, step_naming, step_texting, step_escaping, step_whole, step, run, tree_in, completes}
-use Rattle.tx_scm.proofs.ByteKinds.{is_white_kind, is_letter_kind, is_opens_kind, is_closes_kind, is_quote_kind, is_backslash_kind, escaped_as}
+use Rattle.tx_scm.specs.Machine.{Open, State, Bounds, the_limits, between, opened, naming, texting, escaping, whole}
+use Rattle.tx_scm.specs.Machine.{failed, put, only_if, within, keeps, node_of, closed, named, lengthened, step_between}
+use Rattle.tx_scm.specs.Machine.{step_opened, step_naming, step_texting, step_escaping, step_whole, step, run, tree_in}
+use Rattle.tx_scm.specs.Machine.{completes}
+use Rattle.tx_scm.proofs.ByteKinds.{is_white_kind, is_letter_kind, is_opens_kind, is_closes_kind, is_quote_kind}
+use Rattle.tx_scm.proofs.ByteKinds.{is_backslash_kind, escaped_as}
 use Rattle.tx_scm.proofs.Bounded.{below_kept, within_below}
 
 -- ---- lists

@@ -1,10 +1,12 @@
 -- The machine without bounds, over unfinished bytes.
-use Rattle.std.proofs.Common.{◌≡◌, ℕ, zero, suc, ◌+◌, Bool, true, false, ◌&&◌, List, [], ◌∷◌, ◌++◌, length, refl, sym, ap, subst, ◌∙◌, append_assoc, arith, ◌⊎◌, inl, inr, ⊎_elim}
+use Rattle.std.proofs.Common.{◌≡◌, ℕ, zero, suc, ◌+◌, Bool, true, false, ◌&&◌, List, [], ◌∷◌, ◌++◌, length, refl, sym}
+use Rattle.std.proofs.Common.{ap, subst, ◌∙◌, append_assoc, arith, ◌⊎◌, inl, inr, ⊎_elim}
 use Rattle.std.specs.List.{flat_map}
 use Rattle.std.proofs.lemmas.List.{append-nil}
 use Rattle.tx_tree.specs.Texts.{IsText}
 use Rattle.tx_tree.specs.TextScan.{begins_text}
-use Rattle.tx_tree.specs.WideTree.{WideTree, Forest, forest, trees, count, depth_of, deepest, arity_of, widest, text_length_of, longest_text, size_of, total_size}
+use Rattle.tx_tree.specs.WideTree.{WideTree, Forest, forest, trees, count, depth_of, deepest, arity_of, widest}
+use Rattle.tx_tree.specs.WideTree.{text_length_of, longest_text, size_of, total_size}
 use Rattle.tx_tree.specs.Labels.{BeginsLabel}
 use Rattle.tx_tree.proofs.Scanning.{begins_tested}
 use Rattle.tx_tree.proofs.Children.{forest_trees, trees_forest}
@@ -13,10 +15,14 @@ use Rattle.tx_scm.specs.declared.kinds.Kind.TheVariants.{Opens, Closes, Quote, B
 use Rattle.tx_scm.specs.Kinds.{kind_of}
 use Rattle.tx_scm.specs.Spelling.{escaped, SpellsTrees, Spells}
 use Rattle.tx_scm.specs.Faults.{AreOpen, IsLabelOpen, IsStringOpen, IsEscapeOpen}
-use Rattle.tx_scm.specs.Machine.{Open, State, Bounds, Limits, between, opened, naming, texting, escaping, whole, failed, put, only_if, within, wide, node_of, closed, named, lengthened, step_between, step_opened, step_naming, step_texting, step_escaping, step, run}
+use Rattle.tx_scm.specs.Machine.{Open, State, Bounds, Limits, between, opened, naming, texting, escaping, whole, failed}
+use Rattle.tx_scm.specs.Machine.{put, only_if, within, wide, node_of, closed, named, lengthened, step_between}
+use Rattle.tx_scm.specs.Machine.{step_opened, step_naming, step_texting, step_escaping, step, run}
 use Rattle.tx_scm.proofs.ByteKinds.{letter_kind, backslash_kind, escaped_as}
 use Rattle.tx_scm.proofs.Bounded.{AreBelow}
-use Rattle.tx_scm.proofs.Complete.{open_of, NoLetter, NoLetter-white, NoLetter-open, NoLetter-quote, NoLetter-trees, white_run, white_run_opened, label_run, name_run, text_byte, open_step, quote_step, complete_trees, whole_run}
+use Rattle.tx_scm.proofs.Complete.{open_of, NoLetter, NoLetter-white, NoLetter-open, NoLetter-quote, NoLetter-trees}
+use Rattle.tx_scm.proofs.Complete.{white_run, white_run_opened, label_run, name_run, text_byte, open_step, quote_step}
+use Rattle.tx_scm.proofs.Complete.{complete_trees, whole_run}
 use Rattle.tx_scm.proofs.Sound.{OpensTook}
 
 -- ---- a machine with bounds does the same, or fails

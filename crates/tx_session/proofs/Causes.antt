@@ -1,5 +1,6 @@
 -- Why a run ends as it does.
-use Rattle.std.proofs.Common.{◌≡◌, ◌≢◌, ◌⊎◌, inl, inr, ℕ, true, false, Bor, List, [], ◌++◌, Option, Some, None, IfSome, refl, sym, subst, ◌∙◌}
+use Rattle.std.proofs.Common.{◌≡◌, ◌≢◌, ◌⊎◌, inl, inr, ℕ, true, false, Bor, List, [], ◌++◌, Option, Some, None, IfSome}
+use Rattle.std.proofs.Common.{refl, sym, subst, ◌∙◌}
 use Rattle.std.specs.Io.KnownBytes.{append_known}
 use Rattle.tx_outside.specs.Files.{Files}
 use Rattle.tx_outside.specs.Known.{AppendsPart}
@@ -7,7 +8,8 @@ use Rattle.tx_outside.proofs.Pieces.{append_known-then, append_known-nil}
 use Rattle.tx_tree.specs.WideTree.{WideTree}
 use Rattle.tx_session.specs.declared.status.Status.{Status}
 use Rattle.tx_session.specs.declared.status.Status.TheVariants as statuses
-use Rattle.tx_session.specs.Outcomes.{Outcome, Holds, faulty_words, missing, too_long, no_tree, store_fault, no_memory, opened, ComesTo, file_in, status_of, text_of}
+use Rattle.tx_session.specs.Outcomes.{Outcome, Holds, faulty_words, missing, too_long, no_tree, store_fault, no_memory}
+use Rattle.tx_session.specs.Outcomes.{opened, ComesTo, file_in, status_of, text_of}
 use Rattle.tx_session.specs.Worlds.{World, Stored, KeepsFiles}
 use Rattle.tx_session.specs.Openings.{outcome_of}
 use Rattle.tx_session.specs.declared.opening.Opening.{Opening}
@@ -15,7 +17,8 @@ use Rattle.tx_session.specs.declared.opening.Opening.TheVariants as openings
 use Rattle.tx_doc.specs.Forms.{form_of}
 use Rattle.tx_session.specs.Forms.{SpellsIn, IsFaultIn}
 use Rattle.tx_outside.specs.Files.{file_of}
-use Rattle.tx_session.specs.Runs.{Rises, Outside, IsCaused, IsRefused, CanBeOpened, CanBeRead, Tells, IsRun, IsWritten, IsCutShort, IsWhole, IsBeingWritten, own_line, start_of}
+use Rattle.tx_session.specs.Runs.{Rises, Outside, IsCaused, IsRefused, CanBeOpened, CanBeRead, Tells, IsRun, IsWritten}
+use Rattle.tx_session.specs.Runs.{IsCutShort, IsWhole, IsBeingWritten, own_line, start_of}
 use Rattle.tx_session.specs.Differences.{EndsAtOpening}
 use Rattle.tx_session.specs.Playing.{HasPlayed, IsCutOff, IsEnd, IsClosed, IsClosedInPart, IsServed, IsLine}
 use Rattle.tx_session.proofs.Lining.{long_unread}

@@ -1,11 +1,13 @@
 -- Replies `no store` are counted by the store.
-use Rattle.std.proofs.Common.{◌≡◌, ℕ, ◌+◌, ◌-◌, ◌^◌, ◌<◌, ◌≤◌, List, [], ◌∷◌, Option, Some, None, inl, inr, refl, ap, sym, subst, arith}
+use Rattle.std.proofs.Common.{◌≡◌, ℕ, ◌+◌, ◌-◌, ◌^◌, ◌<◌, ◌≤◌, List, [], ◌∷◌, Option, Some, None, inl, inr, refl, ap}
+use Rattle.std.proofs.Common.{sym, subst, arith}
 use Rattle.tx_outside.specs.Counts.{NeverFalls, Rose}
 use Rattle.tx_outside.proofs.Counting.{never_falls_refl, never_falls_then}
 use Rattle.tx_session.specs.Replies.{Reading, nothing, too_long, unread, command, faulty, IsReply, IsReplyTo}
 use Rattle.tx_session.specs.declared.status.Status.{Status}
 use Rattle.tx_session.specs.declared.status.Status.TheVariants as statuses
-use Rattle.tx_session.specs.Outcomes.{Outcome, faulty_words, missing, too_long as file_too_long, no_tree, store_fault, no_memory, opened}
+use Rattle.tx_session.specs.Outcomes.{Outcome, faulty_words, missing, too_long as file_too_long, no_tree, store_fault}
+use Rattle.tx_session.specs.Outcomes.{no_memory, opened}
 use Rattle.tx_session.specs.Runs.{IsPlayed, IsWhole, start_of}
 use Rattle.tx_session.specs.Scripts.{Answered, before_quit}
 use Rattle.tx_session.specs.Worlds.{World, Stored, Mark, plain, lacking, unsaved, Stores, RoseBy, unsaved_in}

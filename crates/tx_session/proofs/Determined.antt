@@ -1,5 +1,6 @@
 -- Words, files, script and marks come to one run.
-use Rattle.std.proofs.Common.{◌≡◌, ◌≢◌, inl, inr, ℕ, Bool, true, false, List, [], ◌∷◌, ◌++◌, length, refl, ap, sym, subst, ◌∙◌, Option, Some, None, Result, Ok, Err, arith}
+use Rattle.std.proofs.Common.{◌≡◌, ◌≢◌, inl, inr, ℕ, Bool, true, false, List, [], ◌∷◌, ◌++◌, length, refl, ap, sym}
+use Rattle.std.proofs.Common.{subst, ◌∙◌, Option, Some, None, Result, Ok, Err, arith}
 use Rattle.std.specs.Prelude.{codes}
 use Rattle.tx_outside.specs.Files.{Files}
 use Rattle.tx_tree.specs.WideTree.{WideTree}
@@ -15,9 +16,11 @@ use Rattle.tx_session.specs.declared.status.Status.TheVariants as statuses
 use Rattle.tx_session.specs.Causes.{astray_reply}
 use Rattle.tx_session.specs.States.{document_edit, IsShown, IsAnswer, IsEditAnswer, IsStepAnswer, IsGoAnswer}
 use Rattle.tx_session.specs.Worlds.{World, Stored, Mark, plain, lacking, unsaved}
-use Rattle.tx_session.specs.Replies.{fresh_after, Reading, nothing, too_long, unread, command, faulty, wanting_reply, IsRead, IsReply, IsReplyTo, IsRefusal, IsLineReply}
+use Rattle.tx_session.specs.Replies.{fresh_after, Reading, nothing, too_long, unread, command, faulty, wanting_reply}
+use Rattle.tx_session.specs.Replies.{IsRead, IsReply, IsReplyTo, IsRefusal, IsLineReply}
 use Rattle.tx_session.specs.Scripts.{Answered, before_quit, command_line}
-use Rattle.tx_session.specs.Outcomes.{Outcome, faulty_words, missing, too_long as file_too_long, no_tree, store_fault, no_memory, opened, ComesTo, IsDecided}
+use Rattle.tx_session.specs.Outcomes.{Outcome, faulty_words, missing, too_long as file_too_long, no_tree, store_fault}
+use Rattle.tx_session.specs.Outcomes.{no_memory, opened, ComesTo, IsDecided}
 use Rattle.tx_session.specs.Runs.{IsWhole, IsPlayed, IsFinal, own_line, start_of}
 use Rattle.tx_session.proofs.Going.{goes_once, goes_or_not, astray_once}
 use Rattle.tx_session.proofs.Turning.{same_seen}

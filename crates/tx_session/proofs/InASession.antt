@@ -1,5 +1,7 @@
 -- Every buffer of a session is well formed, at present and at each moment that is kept.
-use Rattle.std.proofs.Common.{◌≡◌, ◌⊎◌, inl, inr, ℕ, zero, suc, ◌≤◌, ◌<◌, Bool, true, false, List, [], ◌∷◌, ◌++◌, length, set, take, Option, Some, None, Result, Ok, Err, refl, sym, ap, subst, ◌∙◌, append_assoc, arith}
+use Rattle.std.proofs.Common.{◌≡◌, ◌⊎◌, inl, inr, ℕ, zero, suc, ◌≤◌, ◌<◌, Bool, true, false, List, [], ◌∷◌, ◌++◌}
+use Rattle.std.proofs.Common.{length, set, take, Option, Some, None, Result, Ok, Err, refl, sym, ap, subst, ◌∙◌}
+use Rattle.std.proofs.Common.{append_assoc, arith}
 use Rattle.std.specs.Prelude.{◌≢◌, slice_get, slice_set, codes, nat_le, if◌then◌else◌}
 use Rattle.std.specs.List.{AllByRecursion}
 use Rattle.std.specs.Option.{option_map_or}
@@ -12,7 +14,8 @@ use Rattle.tx_scm.proofs.Spelled.{well_formed}
 use Rattle.tx_tm_form.proofs.Formed.{spelled_tree}
 use Rattle.tx_mod.specs.declared.faults.ModFault.{ModFault}
 use Rattle.tx_mod.specs.declared.mods.Mod.{Mod}
-use Rattle.tx_mod.specs.declared.mods.Mod.TheVariants.{Assign, Insert, Remove, Split, Join, AssignNode, InsertNode, RemoveNode}
+use Rattle.tx_mod.specs.declared.mods.Mod.TheVariants.{Assign, Insert, Remove, Split, Join, AssignNode, InsertNode}
+use Rattle.tx_mod.specs.declared.mods.Mod.TheVariants.{RemoveNode}
 use Rattle.tx_mod.specs.Changes.{Outcome as Changed, changed}
 use Rattle.tx_mod.specs.InTurn.{changed_in_turn}
 use Rattle.tx_mod.specs.Mods.{path_of}
@@ -31,10 +34,12 @@ use Rattle.tx_cmd.specs.declared.command.Command.{Command}
 use Rattle.tx_cmd.specs.declared.command.Command.TheVariants.{Change, Undo, Redo, Go, Cursor, Show, Tree, Save, Quit}
 use Rattle.tx_cmd.specs.Commands.{IsCommand}
 use Rattle.tx_session.specs.Causes.{numbered}
-use Rattle.tx_session.specs.Forms.{Saving, no_form, file_long, writes, fitting, saving, has_text_in, text_in, SpellsIn, SpellsAloneIn}
+use Rattle.tx_session.specs.Forms.{Saving, no_form, file_long, writes, fitting, saving, has_text_in, text_in, SpellsIn}
+use Rattle.tx_session.specs.Forms.{SpellsAloneIn}
 use Rattle.tx_session.specs.Lines.{line}
 use Rattle.tx_session.specs.Outcomes.{opened, ComesTo}
-use Rattle.tx_session.specs.Replies.{Reading, nothing, too_long, unread, command, faulty, IsRead, IsReply, IsReplyTo, IsRefusal, IsLineReply, IsDone}
+use Rattle.tx_session.specs.Replies.{Reading, nothing, too_long, unread, command, faulty, IsRead, IsReply, IsReplyTo}
+use Rattle.tx_session.specs.Replies.{IsRefusal, IsLineReply, IsDone}
 use Rattle.tx_session.specs.Runs.{start_of}
 use Rattle.tx_session.specs.Savings.{IsSavedAlone, IsNotSaved, StandsAmong}
 use Rattle.tx_session.specs.Scripts.{Answered, command_line}

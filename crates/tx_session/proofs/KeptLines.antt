@@ -1,5 +1,6 @@
 -- The beginning of a line that is kept.
-use Rattle.std.proofs.Common.{◌≡◌, ℕ, ◌+◌, ◌-◌, ◌<◌, ◌≤◌, Bool, true, nat_eq, eqb, if◌then◌else◌, List, [], ◌∷◌, ◌++◌, length, take, arith, Result, Ok, Err, IfErr}
+use Rattle.std.proofs.Common.{◌≡◌, ℕ, ◌+◌, ◌-◌, ◌<◌, ◌≤◌, Bool, true, nat_eq, eqb, if◌then◌else◌, List, [], ◌∷◌, ◌++◌}
+use Rattle.std.proofs.Common.{length, take, arith, Result, Ok, Err, IfErr}
 use Rattle.std.specs.List.{ends_with}
 use Rattle.std.proofs.lemmas.Grind.{common_steps}
 use Rattle.tx_session.specs.Scripts.{command_line}

@@ -1,5 +1,6 @@
 -- Replies that are no marks.
-use Rattle.std.proofs.Common.{◌≡◌, ◌≢◌, ◌||◌, Bool, true, false, ℕ, List, [], ◌∷◌, ◌++◌, length, take, Option, Some, None, Result, Ok, Err, refl, ap, sym, ◌∙◌, subst, inl, inr}
+use Rattle.std.proofs.Common.{◌≡◌, ◌≢◌, ◌||◌, Bool, true, false, ℕ, List, [], ◌∷◌, ◌++◌, length, take, Option, Some}
+use Rattle.std.proofs.Common.{None, Result, Ok, Err, refl, ap, sym, ◌∙◌, subst, inl, inr}
 use Rattle.std.specs.Prelude.{codes, OnOk, bytes_eq}
 use Rattle.std.specs.Io.KnownBytes.{append_known}
 use Rattle.std.proofs.lemmas.List.{append_cancel_left}
@@ -9,7 +10,8 @@ use Rattle.tx_tree.specs.PathSpelling.{place_text}
 use Rattle.tx_tree.specs.WideTree.{WideTree, leaf, node}
 use Rattle.tx_scm.specs.Canonical.{scheme_text}
 use Rattle.tx_mod.specs.declared.faults.ModFault.{ModFault}
-use Rattle.tx_mod.specs.declared.faults.ModFault.TheVariants.{NoPath, NotString, NotNode, BadPlace, Differ, CutsSymbol, TooLong, TooWide, TooDeep, TooBig}
+use Rattle.tx_mod.specs.declared.faults.ModFault.TheVariants.{NoPath, NotString, NotNode, BadPlace, Differ, CutsSymbol}
+use Rattle.tx_mod.specs.declared.faults.ModFault.TheVariants.{TooLong, TooWide, TooDeep, TooBig}
 use Rattle.tx_tree.specs.declared.faults.PlaceFault.{PlaceFault}
 use Rattle.tx_tree.specs.declared.faults.PlaceFault.TheVariants as places
 use Rattle.tx_doc.specs.Forms.{form_of}
@@ -27,7 +29,8 @@ use Rattle.tx_session.specs.Forms.{Saving, no_form, file_long, writes, saving}
 use Rattle.tx_session.specs.Lines.{line}
 use Rattle.tx_session.specs.Paging.{show_text}
 use Rattle.tx_session.specs.Replies.{wanting_reply, unsaved_reply, refusal, IsDone, IsReply}
-use Rattle.tx_session.specs.States.{document_edit, IsShown, IsAnswer, IsEditAnswer, IsStepAnswer, IsGoAnswer, done_reply, save_reply}
+use Rattle.tx_session.specs.States.{document_edit, IsShown, IsAnswer, IsEditAnswer, IsStepAnswer, IsGoAnswer}
+use Rattle.tx_session.specs.States.{done_reply, save_reply}
 use Rattle.tx_session.specs.Worlds.{World, Mark, plain, lacking, unsaved}
 use Rattle.tx_session.specs.Writing.{IsSaid}
 

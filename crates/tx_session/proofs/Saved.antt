@@ -1,5 +1,6 @@
 -- The file of a tree.
-use Rattle.std.proofs.Common.{◌≡◌, ℕ, ◌+◌, ◌-◌, ◌^◌, ◌≤◌, ◌<◌, Bool, true, false, List, [], ◌∷◌, ◌++◌, length, Option, Some, None, refl, sym, ap, subst, ◌∙◌, length-append, arith}
+use Rattle.std.proofs.Common.{◌≡◌, ℕ, ◌+◌, ◌-◌, ◌^◌, ◌≤◌, ◌<◌, Bool, true, false, List, [], ◌∷◌, ◌++◌, length, Option}
+use Rattle.std.proofs.Common.{Some, None, refl, sym, ap, subst, ◌∙◌, length-append, arith}
 use Rattle.std.specs.Prelude.{if◌then◌else◌, nat_le, codes}
 use Rattle.tx_outside.specs.declared.file_store.TheConstants.{MOST_FILE}
 use Rattle.tx_outside.specs.Files.{Files, file_of}
@@ -14,7 +15,8 @@ use Rattle.tx_doc.specs.Forms.{form_of}
 use Rattle.tx_session.specs.declared.replies.Reply.{Reply}
 use Rattle.tx_session.specs.declared.replies.Reply.TheVariants.{Done, Fixed, Made, Wanting, Unsaved}
 use Rattle.tx_session.specs.Causes.{numbered}
-use Rattle.tx_session.specs.Forms.{Saving, no_form, file_long, writes, fitting, saving, has_text_in, text_in, SpellsAloneIn}
+use Rattle.tx_session.specs.Forms.{Saving, no_form, file_long, writes, fitting, saving, has_text_in, text_in}
+use Rattle.tx_session.specs.Forms.{SpellsAloneIn}
 use Rattle.tx_session.specs.Lines.{line}
 use Rattle.tx_session.specs.Outcomes.{Outcome, opened, ComesTo, Asks, IsDecided}
 use Rattle.tx_session.specs.Saying.{text_of, Says}

@@ -1,5 +1,6 @@
 -- Words and files come to one outcome.
-use Rattle.std.proofs.Common.{◌≡◌, ◌<◌, ◌≤◌, ◌^◌, ℕ, List, length, Option, Some, None, false, refl, sym, ap, subst, arith}
+use Rattle.std.proofs.Common.{◌≡◌, ◌<◌, ◌≤◌, ◌^◌, ℕ, List, length, Option, Some, None, false, refl, sym, ap, subst}
+use Rattle.std.proofs.Common.{arith}
 use Rattle.std.specs.Prelude.{IsSomeAnd}
 use Rattle.tx_outside.specs.Files.{Files, file_of}
 use Rattle.tx_tree.specs.Limits.{IsWithinLimits}
@@ -16,7 +17,8 @@ use Rattle.tx_doc.specs.declared.forms.Form.{Form}
 use Rattle.tx_doc.specs.declared.forms.Form.TheVariants.{Tm, Scheme}
 use Rattle.tx_doc.specs.Forms.{form_of}
 use Rattle.tx_session.specs.Forms.{SpellsIn, IsFaultIn}
-use Rattle.tx_session.specs.Outcomes.{Outcome, faulty_words, missing, too_long, no_tree, store_fault, no_memory, opened, ComesTo, Asks, IsDecided, file_in}
+use Rattle.tx_session.specs.Outcomes.{Outcome, faulty_words, missing, too_long, no_tree, store_fault, no_memory, opened}
+use Rattle.tx_session.specs.Outcomes.{ComesTo, Asks, IsDecided, file_in}
 
 -- bytes have one tree or one fault, in each form
 one_tree : (form : Form) (bytes : List ℕ) (t u : WideTree) → SpellsIn form bytes t → SpellsIn form bytes u → t ≡ u

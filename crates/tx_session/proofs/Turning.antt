@@ -1,5 +1,6 @@
 -- What became of a line that was answered.
-use Rattle.std.proofs.Common.{◌≡◌, ◌≢◌, ◌⊎◌, inl, inr, ℕ, ◌<◌, ◌==◌, Bool, true, false, List, [], ◌∷◌, length, refl, ap, sym, subst, Option, Result, Ok, Err, arith}
+use Rattle.std.proofs.Common.{◌≡◌, ◌≢◌, ◌⊎◌, inl, inr, ℕ, ◌<◌, ◌==◌, Bool, true, false, List, [], ◌∷◌, length, refl, ap}
+use Rattle.std.proofs.Common.{sym, subst, Option, Result, Ok, Err, arith}
 use Rattle.std.specs.Io.KnownBytes.{append_known}
 use Rattle.tx_outside.proofs.Pieces.{append_known-nil}
 use Rattle.tx_outside.specs.declared.faults.WriteFault.{WriteFault}
@@ -14,7 +15,8 @@ use Rattle.tx_cmd.specs.Refusals.{IsCmdFault}
 use Rattle.tx_session.specs.declared.session.Next.{Next}
 use Rattle.tx_session.specs.declared.session.Next.TheVariants as nexts
 use Rattle.tx_session.specs.Worlds.{Seen, World, Mark, plain, lacking, unsaved}
-use Rattle.tx_session.specs.Replies.{nothing, too_long, unread, command, faulty, IsAsked, IsRefusal, IsReply, IsLineReply, refusal, wanting_reply}
+use Rattle.tx_session.specs.Replies.{nothing, too_long, unread, command, faulty, IsAsked, IsRefusal, IsReply}
+use Rattle.tx_session.specs.Replies.{IsLineReply, refusal, wanting_reply}
 use Rattle.tx_session.specs.Scripts.{command_line}
 use Rattle.tx_session.proofs.Quits.{quit_spelled}
 use Rattle.tx_session.specs.Writing.{IsSaid}

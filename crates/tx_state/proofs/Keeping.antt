@@ -1,5 +1,6 @@
 -- A state in hand after a change is put in place.
-use Rattle.std.proofs.Common.{◌≡◌, ◌<◌, ◌≤◌, List, [], ◌∷◌, ◌++◌, length, take, drop, reverse, Some, refl, sym, ap, ◌∙◌, subst}
+use Rattle.std.proofs.Common.{◌≡◌, ◌<◌, ◌≤◌, List, [], ◌∷◌, ◌++◌, length, take, drop, reverse, Some, refl, sym, ap, ◌∙◌}
+use Rattle.std.proofs.Common.{subst}
 use Rattle.tx_tree.specs.Places.{IsPlace}
 use Rattle.tx_history.specs.Lists.{newest}
 use Rattle.tx_doc.specs.declared.buffer.Buffer.{Buffer}

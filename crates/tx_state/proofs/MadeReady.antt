@@ -1,5 +1,7 @@
 -- What stands ready.
-use Rattle.std.proofs.Common.{◌≡◌, ℕ, zero, suc, ◌<◌, ◌≤◌, ◌+◌, ◌*◌, ◌-◌, Bool, true, false, List, [], ◌∷◌, ◌++◌, length, take, drop, reverse, Option, Some, None, Ok, Err, refl, sym, ap, ◌∙◌, subst, arith}
+use Rattle.std.proofs.Common.{◌≡◌, ℕ, zero, suc, ◌<◌, ◌≤◌, ◌+◌, ◌*◌, ◌-◌, Bool, true, false, List, [], ◌∷◌, ◌++◌}
+use Rattle.std.proofs.Common.{length, take, drop, reverse, Option, Some, None, Ok, Err, refl, sym, ap, ◌∙◌, subst}
+use Rattle.std.proofs.Common.{arith}
 use Rattle.std.specs.Prelude.{◌==◌, IfSome, if◌then◌else◌, option_map}
 use Rattle.std.proofs.lemmas.Bool.{eqb-true, eqb-false}
 use Rattle.std.specs.Option.{option_map_or}
@@ -19,7 +21,8 @@ use Rattle.tx_state.specs.declared.edits.Prepared.{Prepared}
 use Rattle.tx_state.specs.declared.state.EditorState.TheInside.{Inside}
 use Rattle.tx_state.specs.States.{State, KeptEdit, present}
 use Rattle.tx_state.specs.Edits.{edited, edited_to, cursor_after, with_outcome, GivesPlace, undone, redone}
-use Rattle.tx_state.specs.Ready.{IsReady, IsReadyUndo, IsReadyRedo, with_edit, with_undo, with_redo, cost_both_ways, first_cost}
+use Rattle.tx_state.specs.Ready.{IsReady, IsReadyUndo, IsReadyRedo, with_edit, with_undo, with_redo, cost_both_ways}
+use Rattle.tx_state.specs.Ready.{first_cost}
 use Rattle.tx_state.specs.Entries.{led_to, kept_edits, undoes, redoes, Leads, AllLead}
 use Rattle.tx_state.specs.Changing.{IsPlaceIn, IsAlong}
 use Rattle.tx_state.specs.Kept.{state_of, IsKept}

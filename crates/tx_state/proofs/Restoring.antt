@@ -1,5 +1,6 @@
 -- States after many edits, undos and redos.
-use Rattle.std.proofs.Common.{◌≡◌, ℕ, zero, suc, ◌+◌, ◌-◌, ◌≤◌, min, List, [], ◌∷◌, length, take, Option, Some, None, Ok, Err, refl, sym, ap, ◌∙◌, subst, arith}
+use Rattle.std.proofs.Common.{◌≡◌, ℕ, zero, suc, ◌+◌, ◌-◌, ◌≤◌, min, List, [], ◌∷◌, length, take, Option, Some, None}
+use Rattle.std.proofs.Common.{Ok, Err, refl, sym, ap, ◌∙◌, subst, arith}
 use Rattle.std.specs.Prelude.{Result, option_and_then}
 use Rattle.std.proofs.lemmas.List.{length-take, take_all, take-take}
 use Rattle.std.proofs.lemmas.Option.{option_and_then_some}
@@ -11,7 +12,8 @@ use Rattle.tx_mod.specs.InTurn.{changed_in_turn}
 use Rattle.tx_state.specs.declared.TheConstants.{MOST_UNDO}
 use Rattle.tx_doc.specs.Buffers.{tree_of}
 use Rattle.tx_state.specs.States.{State, KeptEdit, present}
-use Rattle.tx_state.specs.Edits.{edited, edited_to, cursor_after, with_outcome, turned, at_moment, back_to, on_to, undone, redone}
+use Rattle.tx_state.specs.Edits.{edited, edited_to, cursor_after, with_outcome, turned, at_moment, back_to, on_to}
+use Rattle.tx_state.specs.Edits.{undone, redone}
 use Rattle.tx_state.specs.Undoing.{IsEditedBy, times, Restores, RunsOut}
 
 pub same_state : (s t : State) → ◌≡◌ {A = Option State} (Some s) (Some t) → s ≡ t

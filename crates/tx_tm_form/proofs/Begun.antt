@@ -1,5 +1,6 @@
 -- Bytes that are whole tokens, and behind them one that has begun.
-use Rattle.std.proofs.Common.{◌≡◌, ℕ, ◌+◌, ◌≤◌, true, List, [], ◌∷◌, ◌++◌, length, refl, sym, ap, subst, ◌∙◌, append_assoc, length-append, arith}
+use Rattle.std.proofs.Common.{◌≡◌, ℕ, ◌+◌, ◌≤◌, true, List, [], ◌∷◌, ◌++◌, length, refl, sym, ap, subst, ◌∙◌}
+use Rattle.std.proofs.Common.{append_assoc, length-append, arith}
 use Rattle.std.specs.List.{AllByRecursion, flat_map}
 use Rattle.std.proofs.lemmas.List.{append-nil}
 use Rattle.tx_tree.specs.declared.TheConstants.{MOST_LABEL}
@@ -9,9 +10,12 @@ use Rattle.tx_tm_form.specs.declared.places.TagForm.{TagForm}
 use Rattle.tx_tm_form.specs.declared.places.TagForm.TheVariants.{Short, Long, Middle, Closing}
 use Rattle.tx_tm_form.specs.Bytes.{kind_of}
 use Rattle.tx_tm_form.specs.Tokens.{Token, mark_of, written}
-use Rattle.tx_tm_form.specs.Machine.{Lex, ready, slashed, returned, angled, labelled, lex_slashed, lex_angled, Bytewise, at, given, step, run, Keeping, keep, keeps, start}
+use Rattle.tx_tm_form.specs.Machine.{Lex, ready, slashed, returned, angled, labelled, lex_slashed, lex_angled, Bytewise}
+use Rattle.tx_tm_form.specs.Machine.{at, given, step, run, Keeping, keep, keeps, start}
 use Rattle.tx_tm_form.specs.Faults.{begun_bytes, IsBegun, IsScanned}
-use Rattle.tx_tm_form.proofs.Words.{return_kind, bar_kind, backslash_kind, slash_kind, name_kind, lexed_first, lexed_letter, byte_of, backslash_step, less_step, folds, tokens_run, folds_keeps, file_start}
+use Rattle.tx_tm_form.proofs.Words.{return_kind, bar_kind, backslash_kind, slash_kind, name_kind, lexed_first}
+use Rattle.tx_tm_form.proofs.Words.{lexed_letter, byte_of, backslash_step, less_step, folds, tokens_run, folds_keeps}
+use Rattle.tx_tm_form.proofs.Words.{file_start}
 use Rattle.tx_tm_form.proofs.Taken.{Scanned, run_scanned}
 
 module _ (S : Type 0) (fd : S → Token → S) where

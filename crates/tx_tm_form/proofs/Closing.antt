@@ -1,5 +1,6 @@
 -- What the machine has taken can be closed: the token that has begun, then the open tags from the innermost one outwards.
-use Rattle.std.proofs.Common.{◌≡◌, ⊎_elim, ℕ, ◌≤◌, Bool, true, false, ◌==◌, if◌then◌else◌, List, [], ◌∷◌, ◌++◌, length, Option, Some, None, refl, sym, ap, subst, ◌∙◌, length-append, arith}
+use Rattle.std.proofs.Common.{◌≡◌, ⊎_elim, ℕ, ◌≤◌, Bool, true, false, ◌==◌, if◌then◌else◌, List, [], ◌∷◌, ◌++◌, length}
+use Rattle.std.proofs.Common.{Option, Some, None, refl, sym, ap, subst, ◌∙◌, length-append, arith}
 use Rattle.std.specs.List.{AllByRecursion}
 use Rattle.std.proofs.lemmas.List.{append-nil}
 use Rattle.std.proofs.lemmas.Bool.{le-leb, and_parts}
@@ -13,8 +14,12 @@ use Rattle.tx_tm_form.specs.Bytes.{kind_of, is_plain, escape_of, can_escape}
 use Rattle.tx_tm_form.specs.Tokens.{Token, plain, escape, head, close, written, IsToken, is_dropped, kept}
 use Rattle.tx_tm_form.specs.Parts.{Part, text, tag, raw_data_label}
 use Rattle.tx_tm_form.specs.Forms.{nothing, parts_of, symbol_bytes, Spells}
-use Rattle.tx_tm_form.specs.Growing.{Content, inline, blocks, collecting, no_paragraphs, put, place_of, content_of, block_of, tree_of_block, as_block, file_tree, long_of, block_behind}
-use Rattle.tx_tm_form.specs.Machine.{Open, open_tag, State, reading, naming, counting, failed, go, with_child, in_tag, last_argument, next_block, last_block, feed, feeds, Lex, ready, slashed, returned, angled, labelled, lex_slashed, lex_returned, lex_angled, Bytewise, at, lost, given, step, run, Keeping, keep, start, tree_in, reads}
+use Rattle.tx_tm_form.specs.Growing.{Content, inline, blocks, collecting, no_paragraphs, put, place_of, content_of}
+use Rattle.tx_tm_form.specs.Growing.{block_of, tree_of_block, as_block, file_tree, long_of, block_behind}
+use Rattle.tx_tm_form.specs.Machine.{Open, open_tag, State, reading, naming, counting, failed, go, with_child, in_tag}
+use Rattle.tx_tm_form.specs.Machine.{last_argument, next_block, last_block, feed, feeds, Lex, ready, slashed, returned}
+use Rattle.tx_tm_form.specs.Machine.{angled, labelled, lex_slashed, lex_returned, lex_angled, Bytewise, at, lost, given}
+use Rattle.tx_tm_form.specs.Machine.{step, run, Keeping, keep, start, tree_in, reads}
 use Rattle.tx_tm_form.specs.Fronts.{begins, begins_open, can_begin, can_go_on, goes_on}
 use Rattle.tx_tm_form.specs.Faults.{IsBegun}
 use Rattle.tx_tm_form.proofs.Growth.{place_is, no_place}

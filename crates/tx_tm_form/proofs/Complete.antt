@@ -1,5 +1,7 @@
 -- The tokens of a form are read as what the form stands for.
-use Rattle.std.proofs.Common.{◌≡◌, ℕ, ◌+◌, ◌≤◌, ◌<◌, Bool, true, false, ◌&&◌, ◌||◌, ◌==◌, if◌then◌else◌, List, [], ◌∷◌, ◌++◌, length, map, Option, Some, None, refl, sym, ap, ◌∙◌, append_assoc, length-append, arith}
+use Rattle.std.proofs.Common.{◌≡◌, ℕ, ◌+◌, ◌≤◌, ◌<◌, Bool, true, false, ◌&&◌, ◌||◌, ◌==◌, if◌then◌else◌, List, [], ◌∷◌}
+use Rattle.std.proofs.Common.{◌++◌, length, map, Option, Some, None, refl, sym, ap, ◌∙◌, append_assoc, length-append}
+use Rattle.std.proofs.Common.{arith}
 use Rattle.std.specs.List.{AllByRecursion}
 use Rattle.std.proofs.lemmas.List.{append-nil}
 use Rattle.std.proofs.lemmas.Bool.{lt-ltb, le-leb, and_from}
@@ -12,10 +14,17 @@ use Rattle.tx_tm_form.specs.declared.places.TagPlace.{TagPlace}
 use Rattle.tx_tm_form.specs.declared.places.TagPlace.TheVariants.{InShort, InHeader, InClosing}
 use Rattle.tx_tm_form.specs.Bytes.{escape_of}
 use Rattle.tx_tm_form.specs.Tokens.{Token, plain, escape, raw, head, bar, close}
-use Rattle.tx_tm_form.specs.Parts.{Part, text, tag, content, block, long_tag, same, none, has_no_items, collection_label, raw_data_label}
-use Rattle.tx_tm_form.specs.Forms.{AreDigits, Piece, Pieces, Arguments, Blocks, blank, letter, escaped, symbol, raw_data, short_tag, long_tag_of, nothing, piece, no_argument, argument, no_block, middle_tag, name_token, tokens_of_piece, tokens_of, beginning, more_arguments, tokens_of_blocks, symbol_bytes, part_of, parts_of, children_of, children_of_blocks}
-use Rattle.tx_tm_form.specs.Growing.{Content, inline, no_parts, put, place_of, content_of, block_of, long_of, block_behind}
-use Rattle.tx_tm_form.specs.Machine.{Open, State, reading, naming, counting, go, open_tag, with_child, in_tag, with_node, next_argument, closed, last_argument, next_block, last_block, header_place, by_escape, name_byte, name_end, feed, feeds}
+use Rattle.tx_tm_form.specs.Parts.{Part, text, tag, content, block, long_tag, same, none, has_no_items}
+use Rattle.tx_tm_form.specs.Parts.{collection_label, raw_data_label}
+use Rattle.tx_tm_form.specs.Forms.{AreDigits, Piece, Pieces, Arguments, Blocks, blank, letter, escaped, symbol}
+use Rattle.tx_tm_form.specs.Forms.{raw_data, short_tag, long_tag_of, nothing, piece, no_argument, argument, no_block}
+use Rattle.tx_tm_form.specs.Forms.{middle_tag, name_token, tokens_of_piece, tokens_of, beginning, more_arguments}
+use Rattle.tx_tm_form.specs.Forms.{tokens_of_blocks, symbol_bytes, part_of, parts_of, children_of, children_of_blocks}
+use Rattle.tx_tm_form.specs.Growing.{Content, inline, no_parts, put, place_of, content_of, block_of, long_of}
+use Rattle.tx_tm_form.specs.Growing.{block_behind}
+use Rattle.tx_tm_form.specs.Machine.{Open, State, reading, naming, counting, go, open_tag, with_child, in_tag}
+use Rattle.tx_tm_form.specs.Machine.{with_node, next_argument, closed, last_argument, next_block, last_block}
+use Rattle.tx_tm_form.specs.Machine.{header_place, by_escape, name_byte, name_end, feed, feeds}
 use Rattle.tx_tm_form.proofs.Growth.{puts, puts_inline, grows, grown_is_content, place_is, no_place, block_is, long_is}
 
 -- ---- long tags

@@ -1,5 +1,6 @@
 -- The tree that a form stands for is well formed.
-use Rattle.std.proofs.Common.{◌≡◌, ℕ, ◌-◌, Bool, true, false, ◌&&◌, ◌||◌, ◌==◌, nat_le, if◌then◌else◌, List, [], ◌∷◌, ◌++◌, map, Some, None, refl, sym, subst, arith}
+use Rattle.std.proofs.Common.{◌≡◌, ℕ, ◌-◌, Bool, true, false, ◌&&◌, ◌||◌, ◌==◌, nat_le, if◌then◌else◌, List, [], ◌∷◌}
+use Rattle.std.proofs.Common.{◌++◌, map, Some, None, refl, sym, subst, arith}
 use Rattle.std.specs.List.{AllByRecursion}
 use Rattle.std.proofs.lemmas.List.{append-nil}
 use Rattle.std.proofs.lemmas.List.Concat.{flat_map-append}
@@ -13,8 +14,14 @@ use Rattle.tx_tm_form.specs.declared.bytes.Escaped.TheVariants.{Mark, Byte}
 use Rattle.tx_tm_form.specs.declared.bytes.White.{White}
 use Rattle.tx_tm_form.specs.declared.bytes.White.TheVariants.{Spaces, Line, Break}
 use Rattle.tx_tm_form.specs.Bytes.{kind_of, is_plain, escape_of, escaped_bytes, is_digit}
-use Rattle.tx_tm_form.specs.Parts.{Part, gap, text, tag, concat_label, document_label, collection_label, raw_data_label, leaf_before, texts_and_tags, concat_of, content, run_before, with_runs, from_first, unless_last, to_last, into_first, separate, paragraphs, document_of, block, has_no_items, tags_of, same, none, long_tag}
-use Rattle.tx_tm_form.specs.Forms.{AreDigits, Piece, Pieces, Arguments, Blocks, blank, letter, escaped, symbol as symbol_piece, raw_data, short_tag, long_tag_of, nothing, piece, no_argument, argument, no_block, middle_tag, part_of, parts_of, children_of, children_of_blocks, symbol_bytes, Spells}
+use Rattle.tx_tm_form.specs.Parts.{Part, gap, text, tag, concat_label, document_label, collection_label, raw_data_label}
+use Rattle.tx_tm_form.specs.Parts.{leaf_before, texts_and_tags, concat_of, content, run_before, with_runs, from_first}
+use Rattle.tx_tm_form.specs.Parts.{unless_last, to_last, into_first, separate, paragraphs, document_of, block}
+use Rattle.tx_tm_form.specs.Parts.{has_no_items, tags_of, same, none, long_tag}
+use Rattle.tx_tm_form.specs.Forms.{AreDigits, Piece, Pieces, Arguments, Blocks, blank, letter, escaped}
+use Rattle.tx_tm_form.specs.Forms.{symbol as symbol_piece, raw_data, short_tag, long_tag_of, nothing, piece}
+use Rattle.tx_tm_form.specs.Forms.{no_argument, argument, no_block, middle_tag, part_of, parts_of, children_of}
+use Rattle.tx_tm_form.specs.Forms.{children_of_blocks, symbol_bytes, Spells}
 
 -- ---- texts
 

@@ -1,5 +1,6 @@
 -- What grows part by part is the content, the block or the long tag of the parts.
-use Rattle.std.proofs.Common.{◌≡◌, ℕ, Bool, true, false, ◌&&◌, if◌then◌else◌, List, [], ◌∷◌, ◌++◌, map, Option, Some, None, refl, sym, ap, ◌∙◌, append_assoc}
+use Rattle.std.proofs.Common.{◌≡◌, ℕ, Bool, true, false, ◌&&◌, if◌then◌else◌, List, [], ◌∷◌, ◌++◌, map, Option, Some}
+use Rattle.std.proofs.Common.{None, refl, sym, ap, ◌∙◌, append_assoc}
 use Rattle.std.proofs.lemmas.List.{append-nil, map-append}
 use Rattle.tx_tree.specs.WideTree.{WideTree, leaf, node, forest}
 use Rattle.tx_tm_form.specs.declared.bytes.White.{White}
@@ -8,8 +9,13 @@ use Rattle.tx_tm_form.specs.declared.places.TagPlace.{TagPlace}
 use Rattle.tx_tm_form.specs.declared.places.Stage.{Stage}
 use Rattle.tx_tm_form.specs.declared.places.Stage.TheVariants.{Empty, Alone, Ordinary}
 use Rattle.tx_tm_form.specs.Bytes.{plus}
-use Rattle.tx_tm_form.specs.Parts.{Part, gap, text, tag, leaf_before, texts_and_tags, concat_of, content, run_before, with_runs, from_first, to_last, into_first, separate, paragraphs, document_of, document_label, block, has_no_items, tags_of, same, none, collection_label, long_tag}
-use Rattle.tx_tm_form.specs.Growing.{Inline, no_parts, grow, grown, Block, no_paragraphs, longer, with_white, ended, resumed, first_stage, with_part, widen, tree_at, tree_of_block, Entry, Tags, no_tags, tree_of_entry, behind_run, with_entries, as_block, Content, inline, blocks, collecting, put, place_of, block_of, file_tree, long_of, block_behind}
+use Rattle.tx_tm_form.specs.Parts.{Part, gap, text, tag, leaf_before, texts_and_tags, concat_of, content, run_before}
+use Rattle.tx_tm_form.specs.Parts.{with_runs, from_first, to_last, into_first, separate, paragraphs, document_of}
+use Rattle.tx_tm_form.specs.Parts.{document_label, block, has_no_items, tags_of, same, none, collection_label, long_tag}
+use Rattle.tx_tm_form.specs.Growing.{Inline, no_parts, grow, grown, Block, no_paragraphs, longer, with_white, ended}
+use Rattle.tx_tm_form.specs.Growing.{resumed, first_stage, with_part, widen, tree_at, tree_of_block, Entry, Tags}
+use Rattle.tx_tm_form.specs.Growing.{no_tags, tree_of_entry, behind_run, with_entries, as_block, Content, inline}
+use Rattle.tx_tm_form.specs.Growing.{blocks, collecting, put, place_of, block_of, file_tree, long_of, block_behind}
 
 abbrev pub grows : Inline → List Part → Inline
 grows g [] = g

@@ -1,5 +1,7 @@
 -- The machine with marks goes where the machine with trees goes.
-use Rattle.std.proofs.Common.{◌≡◌, ℕ, suc, ◌+◌, Bool, true, false, ◌==◌, ◌||◌, ◌&&◌, nat_lt, nat_le, if◌then◌else◌, List, [], ◌∷◌, ◌++◌, length, Option, Some, None, refl, sym, ap, subst, ◌∙◌, length-append, arith}
+use Rattle.std.proofs.Common.{◌≡◌, ℕ, suc, ◌+◌, Bool, true, false, ◌==◌, ◌||◌, ◌&&◌, nat_lt, nat_le, if◌then◌else◌}
+use Rattle.std.proofs.Common.{List, [], ◌∷◌, ◌++◌, length, Option, Some, None, refl, sym, ap, subst, ◌∙◌, length-append}
+use Rattle.std.proofs.Common.{arith}
 use Rattle.tx_tree.specs.declared.TheConstants.{MOST_NAME}
 use Rattle.tx_tree.specs.Texts.{is_name_byte}
 use Rattle.tx_tm_form.specs.declared.bytes.Escaped.{Escaped}
@@ -14,9 +16,17 @@ use Rattle.tx_tm_form.specs.Bytes.{kind_of, escape_of, is_digit}
 use Rattle.tx_tm_form.specs.Tokens.{Token, white, join, plain, escape, raw, head, bar, close, written, is_dropped}
 use Rattle.tx_tm_form.specs.Parts.{Part, same}
 use Rattle.tx_tm_form.specs.Growing.{Content, put, place_of, block_of, long_of}
-use Rattle.tx_tm_form.specs.Machine.{Open, State, reading, naming, counting, failed, go, with_child, in_tag, next_argument, last_argument, next_block, last_block, header_place, begun, by_escape, name_byte, name_end, feed_reading, feed_naming, feed_counting, feed, Lex, ready, slashed, returned, angled, labelled, Lexed, within, done, bad, lex, Bytewise, at, lost, given, step, run, Keeping, keep, start}
+use Rattle.tx_tm_form.specs.Machine.{Open, State, reading, naming, counting, failed, go, with_child, in_tag}
+use Rattle.tx_tm_form.specs.Machine.{next_argument, last_argument, next_block, last_block, header_place, begun}
+use Rattle.tx_tm_form.specs.Machine.{by_escape, name_byte, name_end, feed_reading, feed_naming, feed_counting, feed}
+use Rattle.tx_tm_form.specs.Machine.{Lex, ready, slashed, returned, angled, labelled, Lexed, within, done, bad, lex}
+use Rattle.tx_tm_form.specs.Machine.{Bytewise, at, lost, given, step, run, Keeping, keep, start}
 use Rattle.tx_tm_form.specs.Fronts.{begins, begins_open, can_begin, can_go_on, goes_on}
-use Rattle.tx_tm_form.specs.Marks.{Standing, with_inner, if_marked, mark_bar, mark_close, mark_next, mark_last, bar_marks, close_marks, next_marks, last_marks, begun_marks, escape_marks, part_marks, name_marks, symbol_marks, digit_marks, feed_marks, feed_standing, Marked, keep_marks, start_marks, begins_mark, begins_marks, form_goes_on, lex_goes_on, standing_goes_on, marks_go_on}
+use Rattle.tx_tm_form.specs.Marks.{Standing, with_inner, if_marked, mark_bar, mark_close, mark_next, mark_last}
+use Rattle.tx_tm_form.specs.Marks.{bar_marks, close_marks, next_marks, last_marks, begun_marks, escape_marks}
+use Rattle.tx_tm_form.specs.Marks.{part_marks, name_marks, symbol_marks, digit_marks, feed_marks, feed_standing, Marked}
+use Rattle.tx_tm_form.specs.Marks.{keep_marks, start_marks, begins_mark, begins_marks, form_goes_on, lex_goes_on}
+use Rattle.tx_tm_form.specs.Marks.{standing_goes_on, marks_go_on}
 use Rattle.tx_tm_form.proofs.Growth.{place_is, no_place}
 use Rattle.tx_tm_form.proofs.Sound.{place_there}
 use Rattle.tx_tm_form.proofs.Stops.{keeping, cannot_fail_on}

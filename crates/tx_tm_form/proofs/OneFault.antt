@@ -1,5 +1,7 @@
 -- Bytes have at most one fault, and those that spell no tree have the one at which the machine with marks stops.
-use Rattle.std.proofs.Common.{◌≡◌, ◌⊎◌, ⊎_elim, inl, inr, ℕ, zero, suc, ◌<◌, ◌≤◌, Bool, true, false, if◌then◌else◌, List, [], ◌∷◌, ◌++◌, length, take, drop, get_or, Option, Some, None, refl, sym, ap, subst, ◌∙◌, arith}
+use Rattle.std.proofs.Common.{◌≡◌, ◌⊎◌, ⊎_elim, inl, inr, ℕ, zero, suc, ◌<◌, ◌≤◌, Bool, true, false, if◌then◌else◌}
+use Rattle.std.proofs.Common.{List, [], ◌∷◌, ◌++◌, length, take, drop, get_or, Option, Some, None, refl, sym, ap, subst}
+use Rattle.std.proofs.Common.{◌∙◌, arith}
 use Rattle.std.proofs.lemmas.List.{append-nil, take_all}
 use Rattle.tx_tree.specs.declared.faults.Which.{Which}
 use Rattle.tx_tree.specs.declared.faults.ReadFault.{ReadFault}
@@ -15,7 +17,8 @@ use Rattle.tx_tm_form.specs.Tokens.{Token}
 use Rattle.tx_tm_form.specs.Forms.{Spells}
 use Rattle.tx_tm_form.specs.Machine.{Lex, labelled, Bytewise, at, lost, step, run, keep, start}
 use Rattle.tx_tm_form.specs.Fronts.{goes_on, IsLongestTmFront}
-use Rattle.tx_tm_form.specs.Marks.{Standing, standing, Marked, keep_marks, start_marks, standing_goes_on, marks_go_on, stop_fault, spells_whole, fault_from, fault_of}
+use Rattle.tx_tm_form.specs.Marks.{Standing, standing, Marked, keep_marks, start_marks, standing_goes_on, marks_go_on}
+use Rattle.tx_tm_form.specs.Marks.{stop_fault, spells_whole, fault_from, fault_of}
 use Rattle.tx_tm_form.specs.Faults.{IsScanned, IsInRepeated, IsOpenTag, IsByteFault, IsKind, IsTmFault}
 use Rattle.tx_tm_form.proofs.Words.{one_tree}
 use Rattle.tx_tm_form.proofs.Stops.{front_goes_on}

@@ -1,5 +1,7 @@
 -- Whole pieces leave the marks as they are, and behind the beginning of a long tag stands its mark.
-use Rattle.std.proofs.Common.{◌≡◌, ℕ, suc, ◌+◌, ◌≤◌, ◌<◌, Bool, true, false, ◌==◌, ◌||◌, nat_le, if◌then◌else◌, List, [], ◌∷◌, ◌++◌, length, map, Option, Some, None, refl, sym, ap, subst, ◌∙◌, append_assoc, length-append, arith}
+use Rattle.std.proofs.Common.{◌≡◌, ℕ, suc, ◌+◌, ◌≤◌, ◌<◌, Bool, true, false, ◌==◌, ◌||◌, nat_le, if◌then◌else◌, List}
+use Rattle.std.proofs.Common.{[], ◌∷◌, ◌++◌, length, map, Option, Some, None, refl, sym, ap, subst, ◌∙◌, append_assoc}
+use Rattle.std.proofs.Common.{length-append, arith}
 use Rattle.std.specs.List.{AllByRecursion, flat_map}
 use Rattle.std.proofs.lemmas.List.{append-nil}
 use Rattle.std.proofs.lemmas.Bool.{lt-ltb, le-leb, and_from}
@@ -12,9 +14,13 @@ use Rattle.tx_tm_form.specs.declared.marks.TagMark.{TagMark}
 use Rattle.tx_tm_form.specs.declared.marks.Inside.{Inside}
 use Rattle.tx_tm_form.specs.declared.marks.Inside.TheVariants.{Parts, Symbol, Digits}
 use Rattle.tx_tm_form.specs.Tokens.{Token, white, plain, escape, raw, head, bar, close, written, is_dropped, kept}
-use Rattle.tx_tm_form.specs.Forms.{AreDigits, Piece, Pieces, Arguments, Blocks, blank, letter, escaped, symbol, raw_data, short_tag, long_tag_of, nothing, piece, no_argument, argument, no_block, middle_tag, name_token, tokens_of_piece, tokens_of, beginning, more_arguments, tokens_of_blocks}
+use Rattle.tx_tm_form.specs.Forms.{AreDigits, Piece, Pieces, Arguments, Blocks, blank, letter, escaped, symbol}
+use Rattle.tx_tm_form.specs.Forms.{raw_data, short_tag, long_tag_of, nothing, piece, no_argument, argument, no_block}
+use Rattle.tx_tm_form.specs.Forms.{middle_tag, name_token, tokens_of_piece, tokens_of, beginning, more_arguments}
+use Rattle.tx_tm_form.specs.Forms.{tokens_of_blocks}
 use Rattle.tx_tm_form.specs.Machine.{header_place}
-use Rattle.tx_tm_form.specs.Marks.{Standing, standing, new_mark, if_marked, escape_marks, name_marks, symbol_marks, feed_marks, feed_standing, Marked, keep_marks}
+use Rattle.tx_tm_form.specs.Marks.{Standing, standing, new_mark, if_marked, escape_marks, name_marks, symbol_marks}
+use Rattle.tx_tm_form.specs.Marks.{feed_marks, feed_standing, Marked, keep_marks}
 use Rattle.tx_tm_form.specs.Faults.{IsInBlock}
 use Rattle.tx_tm_form.proofs.Complete.{same_self, no_escape_less, no_end}
 use Rattle.tx_tm_form.proofs.Words.{folds}

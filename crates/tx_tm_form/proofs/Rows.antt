@@ -1,5 +1,6 @@
 -- The byte at which the machine with marks stops is the fault that it tells.
-use Rattle.std.proofs.Common.{◌≡◌, ◌⊎◌, inl, inr, ℕ, Bool, true, false, ◌==◌, ◌||◌, if◌then◌else◌, List, refl, sym, ap, subst}
+use Rattle.std.proofs.Common.{◌≡◌, ◌⊎◌, inl, inr, ℕ, Bool, true, false, ◌==◌, ◌||◌, if◌then◌else◌, List, refl, sym, ap}
+use Rattle.std.proofs.Common.{subst}
 use Rattle.std.proofs.lemmas.Bool.{and_parts}
 use Rattle.tx_tree.specs.declared.faults.ReadFault.TheVariants.{Stray, BadEscape, BadLabel, BadText}
 use Rattle.tx_tm_form.specs.declared.places.TagForm.TheVariants.{Short, Long, Middle, Closing}
@@ -8,7 +9,8 @@ use Rattle.tx_tm_form.specs.declared.marks.Inside.TheVariants.{Parts, Symbol, Di
 use Rattle.tx_tm_form.specs.Tokens.{Token}
 use Rattle.tx_tm_form.specs.Machine.{Lex, ready, slashed, returned, angled, labelled}
 use Rattle.tx_tm_form.specs.Marks.{Standing, is_symbol, is_parts, begins_marks, lex_goes_on, mismatch, fault_by}
-use Rattle.tx_tm_form.specs.Faults.{IsInSymbol, IsInRepeated, IsInLabel, IsNoForm, IsEscapeOpen, IsJoinOpen, IsSymbolOpen, IsByteFault}
+use Rattle.tx_tm_form.specs.Faults.{IsInSymbol, IsInRepeated, IsInLabel, IsNoForm, IsEscapeOpen, IsJoinOpen}
+use Rattle.tx_tm_form.specs.Faults.{IsSymbolOpen, IsByteFault}
 use Rattle.tx_tm_form.proofs.Standing.{IsTaken, HasTag}
 
 -- ---- rows that do not hold

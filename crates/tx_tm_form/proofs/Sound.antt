@@ -1,5 +1,7 @@
 -- What the machine takes is written in the forms of the syntax.
-use Rattle.std.proofs.Common.{◌≡◌, ◌⊎◌, inl, inr, ⊎_elim, ℕ, ◌<◌, ◌≤◌, Bool, true, false, ◌&&◌, ◌||◌, ◌==◌, nat_le, nat_lt, if◌then◌else◌, List, [], ◌∷◌, ◌++◌, length, map, Option, Some, None, refl, sym, ap, subst, ◌∙◌, append_assoc, length-append, arith}
+use Rattle.std.proofs.Common.{◌≡◌, ◌⊎◌, inl, inr, ⊎_elim, ℕ, ◌<◌, ◌≤◌, Bool, true, false, ◌&&◌, ◌||◌, ◌==◌, nat_le}
+use Rattle.std.proofs.Common.{nat_lt, if◌then◌else◌, List, [], ◌∷◌, ◌++◌, length, map, Option, Some, None, refl, sym}
+use Rattle.std.proofs.Common.{ap, subst, ◌∙◌, append_assoc, length-append, arith}
 use Rattle.std.specs.List.{AllByRecursion}
 use Rattle.std.proofs.lemmas.List.{append-nil, map-append}
 use Rattle.std.proofs.lemmas.Bool.{ltb-true, leb-true, and_parts}
@@ -16,10 +18,18 @@ use Rattle.tx_tm_form.specs.declared.places.TagPlace.TheVariants.{InShort, InHea
 use Rattle.tx_tm_form.specs.Bytes.{kind_of, is_plain, escape_of, is_digit}
 use Rattle.tx_tm_form.specs.Tokens.{Token, white, join, plain, escape, raw, head, bar, close, IsToken}
 use Rattle.tx_tm_form.specs.Parts.{Part, text, tag, content, block, long_tag, same}
-use Rattle.tx_tm_form.specs.Forms.{AreDigits, Piece, Pieces, Arguments, Blocks, blank, letter, escaped, symbol, raw_data, short_tag, long_tag_of, nothing, piece, no_argument, argument, no_block, middle_tag, name_token, tokens_of_piece, tokens_of, beginning, more_arguments, tokens_of_blocks, symbol_bytes, part_of, parts_of, children_of, children_of_blocks}
-use Rattle.tx_tm_form.specs.Growing.{Content, inline, blocks, no_parts, no_paragraphs, put, place_of, content_of, block_of, long_of, block_behind, opening}
-use Rattle.tx_tm_form.specs.Machine.{Open, State, reading, naming, counting, failed, go, open_tag, with_child, in_tag, next_argument, last_argument, next_block, last_block, header_place, begun, by_escape, name_byte, name_end, feed_reading, feed_naming, feed_counting, feed, feeds}
-use Rattle.tx_tm_form.proofs.Growth.{puts, puts_inline, puts_append, grown_is_content, place_is, no_place, block_is, long_is}
+use Rattle.tx_tm_form.specs.Forms.{AreDigits, Piece, Pieces, Arguments, Blocks, blank, letter, escaped, symbol}
+use Rattle.tx_tm_form.specs.Forms.{raw_data, short_tag, long_tag_of, nothing, piece, no_argument, argument, no_block}
+use Rattle.tx_tm_form.specs.Forms.{middle_tag, name_token, tokens_of_piece, tokens_of, beginning, more_arguments}
+use Rattle.tx_tm_form.specs.Forms.{tokens_of_blocks, symbol_bytes, part_of, parts_of, children_of, children_of_blocks}
+use Rattle.tx_tm_form.specs.Growing.{Content, inline, blocks, no_parts, no_paragraphs, put, place_of, content_of}
+use Rattle.tx_tm_form.specs.Growing.{block_of, long_of, block_behind, opening}
+use Rattle.tx_tm_form.specs.Machine.{Open, State, reading, naming, counting, failed, go, open_tag, with_child, in_tag}
+use Rattle.tx_tm_form.specs.Machine.{next_argument, last_argument, next_block, last_block, header_place, begun}
+use Rattle.tx_tm_form.specs.Machine.{by_escape, name_byte, name_end, feed_reading, feed_naming, feed_counting, feed}
+use Rattle.tx_tm_form.specs.Machine.{feeds}
+use Rattle.tx_tm_form.proofs.Growth.{puts, puts_inline, puts_append, grown_is_content, place_is, no_place, block_is}
+use Rattle.tx_tm_form.proofs.Growth.{long_is}
 use Rattle.tx_tm_form.proofs.Complete.{child_behind, second_block, regrouped}
 use Rattle.tx_tm_form.proofs.Formed.{is_same_number, other_byte}
 

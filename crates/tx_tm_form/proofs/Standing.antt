@@ -1,5 +1,6 @@
 -- What stands open behind bytes that the machine has taken, by their tokens.
-use Rattle.std.proofs.Common.{◌≡◌, ℕ, Bool, true, false, ◌==◌, ◌||◌, ◌&&◌, nat_lt, if◌then◌else◌, List, [], ◌∷◌, ◌++◌, length, map, Option, Some, None, refl, sym, ap, subst, ◌∙◌, append_assoc}
+use Rattle.std.proofs.Common.{◌≡◌, ℕ, Bool, true, false, ◌==◌, ◌||◌, ◌&&◌, nat_lt, if◌then◌else◌, List, [], ◌∷◌, ◌++◌}
+use Rattle.std.proofs.Common.{length, map, Option, Some, None, refl, sym, ap, subst, ◌∙◌, append_assoc}
 use Rattle.std.specs.List.{flat_map}
 use Rattle.std.proofs.lemmas.List.{append_cancel_right}
 use Rattle.tx_tree.specs.declared.TheConstants.{MOST_NAME}
@@ -11,14 +12,18 @@ use Rattle.tx_tm_form.specs.declared.marks.TagMark.{TagMark}
 use Rattle.tx_tm_form.specs.declared.marks.Inside.{Inside}
 use Rattle.tx_tm_form.specs.declared.marks.Inside.TheVariants.{Parts, Symbol, Digits}
 use Rattle.tx_tm_form.specs.Tokens.{Token, plain, escape, head, written, is_dropped, kept}
-use Rattle.tx_tm_form.specs.Forms.{Pieces, Arguments, no_argument, argument, nothing, name_token, tokens_of, beginning, more_arguments, tokens_of_blocks}
+use Rattle.tx_tm_form.specs.Forms.{Pieces, Arguments, no_argument, argument, nothing, name_token, tokens_of, beginning}
+use Rattle.tx_tm_form.specs.Forms.{more_arguments, tokens_of_blocks}
 use Rattle.tx_tm_form.specs.Growing.{Content, place_of}
-use Rattle.tx_tm_form.specs.Machine.{Open, State, reading, naming, counting, failed, go, by_escape, name_byte, name_end, feed, feeds, Lex, Bytewise, at, run, Keeping, keep, start}
-use Rattle.tx_tm_form.specs.Marks.{Standing, standing, new_mark, is_symbol, is_parts, begins_mark, begins_marks, Marked, keep_marks, start_marks}
+use Rattle.tx_tm_form.specs.Machine.{Open, State, reading, naming, counting, failed, go, by_escape, name_byte, name_end}
+use Rattle.tx_tm_form.specs.Machine.{feed, feeds, Lex, Bytewise, at, run, Keeping, keep, start}
+use Rattle.tx_tm_form.specs.Marks.{Standing, standing, new_mark, is_symbol, is_parts, begins_mark, begins_marks, Marked}
+use Rattle.tx_tm_form.specs.Marks.{keep_marks, start_marks}
 use Rattle.tx_tm_form.specs.Faults.{begun_bytes, IsScanned, IsInSymbol, IsInBlock}
 use Rattle.tx_tm_form.proofs.Complete.{no_escape_less, no_end}
 use Rattle.tx_tm_form.proofs.Words.{keeps_state, file_state, one_token_list}
-use Rattle.tx_tm_form.proofs.Sound.{BlockFrame, Took, feeds_took, first_body, other_bodies, bodies_tokens, ended_tokens, inner, Inner}
+use Rattle.tx_tm_form.proofs.Sound.{BlockFrame, Took, feeds_took, first_body, other_bodies, bodies_tokens, ended_tokens}
+use Rattle.tx_tm_form.proofs.Sound.{inner, Inner}
 use Rattle.tx_tm_form.proofs.Taken.{kept_tokens}
 use Rattle.tx_tm_form.proofs.Begun.{scanned_run, read_behind, behind_once}
 use Rattle.tx_tm_form.proofs.Marking.{IsStanding, IsMarked}

@@ -1,5 +1,6 @@
 -- Where the machine with marks stops, and at the end of the bytes.
-use Rattle.std.proofs.Common.{◌≡◌, inr, ℕ, suc, ◌<◌, Bool, true, false, ◌==◌, ◌||◌, ◌&&◌, if◌then◌else◌, List, [], ◌∷◌, ◌++◌, length, take, get_or, Option, Some, None, refl, sym, ap, subst, ◌∙◌, arith}
+use Rattle.std.proofs.Common.{◌≡◌, inr, ℕ, suc, ◌<◌, Bool, true, false, ◌==◌, ◌||◌, ◌&&◌, if◌then◌else◌, List, [], ◌∷◌}
+use Rattle.std.proofs.Common.{◌++◌, length, take, get_or, Option, Some, None, refl, sym, ap, subst, ◌∙◌, arith}
 use Rattle.std.proofs.Math.Seq.{take-suc}
 use Rattle.std.proofs.lemmas.List.{take_all}
 use Rattle.tx_tree.specs.declared.faults.ReadFault.{ReadFault}
@@ -12,9 +13,12 @@ use Rattle.tx_tm_form.specs.declared.marks.Inside.{Inside}
 use Rattle.tx_tm_form.specs.declared.marks.Inside.TheVariants.{Parts, Symbol, Digits}
 use Rattle.tx_tm_form.specs.Tokens.{Token, kept}
 use Rattle.tx_tm_form.specs.Forms.{nothing, Spells}
-use Rattle.tx_tm_form.specs.Machine.{State, reading, naming, counting, failed, feeds, Lex, ready, slashed, returned, angled, labelled, Bytewise, at, lost, step, run, Keeping, keep, start, tree_of, tree_if, tree_in, reads}
+use Rattle.tx_tm_form.specs.Machine.{State, reading, naming, counting, failed, feeds, Lex, ready, slashed, returned}
+use Rattle.tx_tm_form.specs.Machine.{angled, labelled, Bytewise, at, lost, step, run, Keeping, keep, start, tree_of}
+use Rattle.tx_tm_form.specs.Machine.{tree_if, tree_in, reads}
 use Rattle.tx_tm_form.specs.Fronts.{goes_on, IsLongestTmFront}
-use Rattle.tx_tm_form.specs.Marks.{Standing, is_symbol, is_parts, standing_goes_on, Marked, keep_marks, start_marks, marks_go_on, mismatch, fault_by, standing_fault, stop_fault, is_whole, spells_whole}
+use Rattle.tx_tm_form.specs.Marks.{Standing, is_symbol, is_parts, standing_goes_on, Marked, keep_marks, start_marks}
+use Rattle.tx_tm_form.specs.Marks.{marks_go_on, mismatch, fault_by, standing_fault, stop_fault, is_whole, spells_whole}
 use Rattle.tx_tm_form.specs.Faults.{IsKind, IsTmFault}
 use Rattle.tx_tm_form.proofs.Words.{keeps_state, file_state, spelled_is_read}
 use Rattle.tx_tm_form.proofs.Sound.{Took, feeds_took}

@@ -1,5 +1,6 @@
 -- Where the machine cannot go on, no bytes more make it read a tree.
-use Rattle.std.proofs.Common.{◌≡◌, ℕ, Bool, true, false, ◌==◌, if◌then◌else◌, List, [], ◌∷◌, ◌++◌, Option, Some, None, refl, sym, ap, ◌∙◌}
+use Rattle.std.proofs.Common.{◌≡◌, ℕ, Bool, true, false, ◌==◌, if◌then◌else◌, List, [], ◌∷◌, ◌++◌, Option, Some, None}
+use Rattle.std.proofs.Common.{refl, sym, ap, ◌∙◌}
 use Rattle.std.proofs.lemmas.Bool.{and_parts, and_from}
 use Rattle.tx_tree.specs.WideTree.{WideTree}
 use Rattle.tx_tm_form.specs.declared.bytes.ByteKind.{ByteKind}
@@ -13,7 +14,10 @@ use Rattle.tx_tm_form.specs.Tokens.{Token, head, is_dropped}
 use Rattle.tx_tm_form.specs.Parts.{same}
 use Rattle.tx_tm_form.specs.Forms.{Spells}
 use Rattle.tx_tm_form.specs.Growing.{Content, place_of, block_of, long_of, put}
-use Rattle.tx_tm_form.specs.Machine.{Open, State, reading, naming, counting, failed, go, with_child, in_tag, next_block, last_block, header_place, feed, Lex, ready, slashed, returned, angled, labelled, Lexed, within, done, bad, if_good, lex_angled, lex_labelled, lex, Bytewise, at, lost, given, step, run, Keeping, keep, start, tree_of, tree_in, reads}
+use Rattle.tx_tm_form.specs.Machine.{Open, State, reading, naming, counting, failed, go, with_child, in_tag, next_block}
+use Rattle.tx_tm_form.specs.Machine.{last_block, header_place, feed, Lex, ready, slashed, returned, angled, labelled}
+use Rattle.tx_tm_form.specs.Machine.{Lexed, within, done, bad, if_good, lex_angled, lex_labelled, lex, Bytewise, at}
+use Rattle.tx_tm_form.specs.Machine.{lost, given, step, run, Keeping, keep, start, tree_of, tree_in, reads}
 use Rattle.tx_tm_form.specs.Fronts.{begins, begins_open, can_begin, can_go_on, goes_on}
 use Rattle.tx_tm_form.proofs.Words.{spelled_is_read}
 

@@ -1,5 +1,6 @@
 -- What is read byte by byte is spelled so.
-use Rattle.std.proofs.Common.{◌≡◌, ℕ, ◌≤◌, Bool, true, false, nat_le, nat_lt, if◌then◌else◌, List, [], ◌∷◌, ◌++◌, length, Some, refl, sym, ap, subst, ◌∙◌, append_assoc, length-append, arith}
+use Rattle.std.proofs.Common.{◌≡◌, ℕ, ◌≤◌, Bool, true, false, nat_le, nat_lt, if◌then◌else◌, List, [], ◌∷◌, ◌++◌}
+use Rattle.std.proofs.Common.{length, Some, refl, sym, ap, subst, ◌∙◌, append_assoc, length-append, arith}
 use Rattle.std.specs.List.{AllByRecursion, flat_map}
 use Rattle.std.proofs.lemmas.List.{append-nil}
 use Rattle.std.proofs.lemmas.List.Concat.{flat_map-append}
@@ -8,7 +9,8 @@ use Rattle.tx_tree.specs.declared.TheConstants.{MOST_LABEL}
 use Rattle.tx_tree.specs.Labels.{is_label_byte}
 use Rattle.tx_tree.specs.WideTree.{WideTree}
 use Rattle.tx_tm_form.specs.declared.bytes.ByteKind.{ByteKind}
-use Rattle.tx_tm_form.specs.declared.bytes.ByteKind.TheVariants.{Name, Blank, Newline, Return, Less, Greater, Bar, Backslash, Hash, Slash, Other}
+use Rattle.tx_tm_form.specs.declared.bytes.ByteKind.TheVariants.{Name, Blank, Newline, Return, Less, Greater, Bar}
+use Rattle.tx_tm_form.specs.declared.bytes.ByteKind.TheVariants.{Backslash, Hash, Slash, Other}
 use Rattle.tx_tm_form.specs.declared.places.TagForm.{TagForm}
 use Rattle.tx_tm_form.specs.declared.places.TagForm.TheVariants.{Short, Long, Middle, Closing}
 use Rattle.tx_tm_form.specs.Bytes.{kind_of, is_white, is_plain, can_escape}
@@ -16,7 +18,10 @@ use Rattle.tx_tm_form.specs.Tokens.{Token, escape, head, mark_of, end_of, writte
 use Rattle.tx_tm_form.specs.Parts.{block}
 use Rattle.tx_tm_form.specs.Forms.{Pieces, nothing, tokens_of, parts_of, Spells}
 use Rattle.tx_tm_form.specs.Growing.{file_tree}
-use Rattle.tx_tm_form.specs.Machine.{State, reading, naming, counting, failed, feeds, Lex, ready, slashed, returned, angled, labelled, Lexed, within, done, bad, if_good, lex_ready, lex_slashed, lex_returned, lex_angled, lex_labelled, lex, Bytewise, at, lost, given, step, run, Keeping, keep, keeps, start, tree_of, tree_in, reads}
+use Rattle.tx_tm_form.specs.Machine.{State, reading, naming, counting, failed, feeds, Lex, ready, slashed, returned}
+use Rattle.tx_tm_form.specs.Machine.{angled, labelled, Lexed, within, done, bad, if_good, lex_ready, lex_slashed}
+use Rattle.tx_tm_form.specs.Machine.{lex_returned, lex_angled, lex_labelled, lex, Bytewise, at, lost, given, step, run}
+use Rattle.tx_tm_form.specs.Machine.{Keeping, keep, keeps, start, tree_of, tree_in, reads}
 use Rattle.tx_tm_form.specs.Faults.{begun_bytes, HasByte, IsBegun}
 use Rattle.tx_tm_form.proofs.Growth.{file_is}
 use Rattle.tx_tm_form.proofs.Words.{newline_only, return_only, keeps_state, file_state, file_start}

@@ -1,5 +1,7 @@
 -- The machine with measures counts what the machine with trees makes.
-use Rattle.std.proofs.Common.{◌≡◌, ℕ, ◌+◌, max, Bool, true, false, ◌==◌, ◌||◌, ◌&&◌, nat_lt, nat_le, if◌then◌else◌, List, [], ◌∷◌, ◌++◌, length, map, Option, Some, None, refl, sym, ap, subst, ◌∙◌, length-append, arith}
+use Rattle.std.proofs.Common.{◌≡◌, ℕ, ◌+◌, max, Bool, true, false, ◌==◌, ◌||◌, ◌&&◌, nat_lt, nat_le, if◌then◌else◌}
+use Rattle.std.proofs.Common.{List, [], ◌∷◌, ◌++◌, length, map, Option, Some, None, refl, sym, ap, subst, ◌∙◌}
+use Rattle.std.proofs.Common.{length-append, arith}
 use Rattle.std.proofs.lemmas.List.{append-nil, map-append}
 use Rattle.tx_tree.specs.declared.TheConstants.{MOST_NAME}
 use Rattle.tx_tree.specs.Texts.{is_name_byte}
@@ -26,11 +28,27 @@ use Rattle.tx_tm_form.specs.declared.measures.Within.{Within}
 use Rattle.tx_tm_form.specs.declared.measures.Within.TheVariants.{Parts, Symbol, Digits}
 use Rattle.tx_tm_form.specs.Bytes.{kind_of, escape_of, escaped_bytes, is_digit, white_of}
 use Rattle.tx_tm_form.specs.Tokens.{Token, white, join, plain, escape, raw, head, bar, close, is_dropped}
-use Rattle.tx_tm_form.specs.Parts.{Part, gap, text, tag, concat_label, leaf_before, concat_of, document_label, collection_label, raw_data_label, same, none}
+use Rattle.tx_tm_form.specs.Parts.{Part, gap, text, tag, concat_label, leaf_before, concat_of, document_label}
+use Rattle.tx_tm_form.specs.Parts.{collection_label, raw_data_label, same, none}
 use Rattle.tx_tm_form.specs.Forms.{symbol_bytes, Spells}
-use Rattle.tx_tm_form.specs.Growing.{Inline, no_parts, grow, grown, Block, no_paragraphs, with_white, ended, resumed, first_stage, with_part, widen, tree_at, tree_of_block, Entry, no_tags, tree_of_entry, with_entries, as_block, Content, inline, blocks, collecting, put, place_of, content_of, block_of, file_tree, long_of, opening}
-use Rattle.tx_tm_form.specs.Machine.{Open, State, reading, naming, counting, failed, go, open_tag, with_child, in_tag, next_argument, last_argument, next_block, last_block, header_place, begun, by_escape, name_byte, name_end, feed_reading, feed_naming, feed_counting, feed, ready, slashed, returned, angled, labelled, Lexed, within, done, bad, lex, Bytewise, at, lost, given, step, run, Keeping, keep, start, tree_of, tree_in, reads}
-use Rattle.tx_tm_form.specs.Measures.{sums_of, no_sums, both, leaf_sums, node_sums, concat_sums, line_of, no_line, ended_line, line_sums, grow_line, block_sums_of, no_block, first_stage_of, ended_sums, resumed_line, white_block, part_block, widen_block, block_at, block_sums, put_sums, place_in, argument_sums, body_sums, long_sums, opening_sums, Gauge, between, open_of, in_open, child_in, closed_open, bar_gauge, close_gauge, next_gauge, last_gauge, begun_gauge, escape_gauge, part_gauge, name_gauge, symbol_gauge, digit_gauge, feed_gauge, Gauged, keep_gauge, start_gauge, IsMeasured}
+use Rattle.tx_tm_form.specs.Growing.{Inline, no_parts, grow, grown, Block, no_paragraphs, with_white, ended, resumed}
+use Rattle.tx_tm_form.specs.Growing.{first_stage, with_part, widen, tree_at, tree_of_block, Entry, no_tags}
+use Rattle.tx_tm_form.specs.Growing.{tree_of_entry, with_entries, as_block, Content, inline, blocks, collecting, put}
+use Rattle.tx_tm_form.specs.Growing.{place_of, content_of, block_of, file_tree, long_of, opening}
+use Rattle.tx_tm_form.specs.Machine.{Open, State, reading, naming, counting, failed, go, open_tag, with_child, in_tag}
+use Rattle.tx_tm_form.specs.Machine.{next_argument, last_argument, next_block, last_block, header_place, begun}
+use Rattle.tx_tm_form.specs.Machine.{by_escape, name_byte, name_end, feed_reading, feed_naming, feed_counting, feed}
+use Rattle.tx_tm_form.specs.Machine.{ready, slashed, returned, angled, labelled, Lexed, within, done, bad, lex}
+use Rattle.tx_tm_form.specs.Machine.{Bytewise, at, lost, given, step, run, Keeping, keep, start, tree_of, tree_in}
+use Rattle.tx_tm_form.specs.Machine.{reads}
+use Rattle.tx_tm_form.specs.Measures.{sums_of, no_sums, both, leaf_sums, node_sums, concat_sums, line_of, no_line}
+use Rattle.tx_tm_form.specs.Measures.{ended_line, line_sums, grow_line, block_sums_of, no_block, first_stage_of}
+use Rattle.tx_tm_form.specs.Measures.{ended_sums, resumed_line, white_block, part_block, widen_block, block_at}
+use Rattle.tx_tm_form.specs.Measures.{block_sums, put_sums, place_in, argument_sums, body_sums, long_sums, opening_sums}
+use Rattle.tx_tm_form.specs.Measures.{Gauge, between, open_of, in_open, child_in, closed_open, bar_gauge, close_gauge}
+use Rattle.tx_tm_form.specs.Measures.{next_gauge, last_gauge, begun_gauge, escape_gauge, part_gauge, name_gauge}
+use Rattle.tx_tm_form.specs.Measures.{symbol_gauge, digit_gauge, feed_gauge, Gauged, keep_gauge, start_gauge}
+use Rattle.tx_tm_form.specs.Measures.{IsMeasured}
 use Rattle.tx_tm_form.proofs.Growth.{longer_run, entries_append}
 use Rattle.tx_tm_form.proofs.Words.{spelled_is_read}
 use Rattle.tx_tm_form.proofs.Stops.{keeping}

@@ -1,5 +1,6 @@
 -- The bytes of a token are read as that token.
-use Rattle.std.proofs.Common.{◌≡◌, ℕ, ◌+◌, ◌≤◌, ◌<◌, Bool, true, false, if◌then◌else◌, List, [], ◌∷◌, ◌++◌, length, Some, refl, sym, ap, ◌∙◌, append_assoc, length-append, arith}
+use Rattle.std.proofs.Common.{◌≡◌, ℕ, ◌+◌, ◌≤◌, ◌<◌, Bool, true, false, if◌then◌else◌, List, [], ◌∷◌, ◌++◌, length}
+use Rattle.std.proofs.Common.{Some, refl, sym, ap, ◌∙◌, append_assoc, length-append, arith}
 use Rattle.std.specs.List.{AllByRecursion, flat_map}
 use Rattle.std.proofs.lemmas.List.{append-nil}
 use Rattle.std.proofs.lemmas.Bool.{lt-ltb, le-leb}
@@ -7,14 +8,19 @@ use Rattle.tx_tree.specs.declared.TheConstants.{MOST_LABEL}
 use Rattle.tx_tree.specs.Labels.{is_label_byte, IsLabel}
 use Rattle.tx_tree.specs.WideTree.{WideTree}
 use Rattle.tx_tm_form.specs.declared.bytes.ByteKind.{ByteKind}
-use Rattle.tx_tm_form.specs.declared.bytes.ByteKind.TheVariants.{Name, Blank, Newline, Return, Less, Greater, Bar, Backslash, Hash, Slash, Other}
+use Rattle.tx_tm_form.specs.declared.bytes.ByteKind.TheVariants.{Name, Blank, Newline, Return, Less, Greater, Bar}
+use Rattle.tx_tm_form.specs.declared.bytes.ByteKind.TheVariants.{Backslash, Hash, Slash, Other}
 use Rattle.tx_tm_form.specs.declared.places.TagForm.{TagForm}
 use Rattle.tx_tm_form.specs.declared.places.TagForm.TheVariants.{Short, Long, Middle, Closing}
 use Rattle.tx_tm_form.specs.Bytes.{kind_of, is_white, is_plain, escape_of, can_escape}
-use Rattle.tx_tm_form.specs.Tokens.{Token, white, join, plain, escape, raw, head, bar, close, mark_of, end_of, written, IsToken, IsTokenList, is_dropped, kept}
+use Rattle.tx_tm_form.specs.Tokens.{Token, white, join, plain, escape, raw, head, bar, close, mark_of, end_of, written}
+use Rattle.tx_tm_form.specs.Tokens.{IsToken, IsTokenList, is_dropped, kept}
 use Rattle.tx_tm_form.specs.Forms.{tokens_of, parts_of, Spells}
 use Rattle.tx_tm_form.specs.Growing.{blocks, no_paragraphs}
-use Rattle.tx_tm_form.specs.Machine.{State, reading, feed, feeds, Lex, ready, slashed, returned, angled, labelled, within, done, if_good, lex_ready, lex_slashed, lex_returned, lex_angled, lex_labelled, lex, Bytewise, at, given, run, Keeping, keep, keeps, start, tree_of, tree_in, reads}
+use Rattle.tx_tm_form.specs.Machine.{State, reading, feed, feeds, Lex, ready, slashed, returned, angled, labelled}
+use Rattle.tx_tm_form.specs.Machine.{within, done, if_good, lex_ready, lex_slashed, lex_returned, lex_angled}
+use Rattle.tx_tm_form.specs.Machine.{lex_labelled, lex, Bytewise, at, given, run, Keeping, keep, keeps, start, tree_of}
+use Rattle.tx_tm_form.specs.Machine.{tree_in, reads}
 use Rattle.tx_tm_form.proofs.Growth.{file_is}
 use Rattle.tx_tm_form.proofs.Complete.{read_pieces}
 

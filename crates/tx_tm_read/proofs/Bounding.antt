@@ -1,9 +1,12 @@
 -- What is counted of a slice fits 64 bits: its bounds rise by at most 3 for each 2 bytes.
-use Rattle.std.proofs.Common.{◌≡◌, ℕ, zero, suc, ◌+◌, ◌*◌, ◌^◌, ◌<◌, ◌≤◌, Bool, true, false, ◌==◌, ◌&&◌, if◌then◌else◌, List, [], ◌∷◌, ◌++◌, length, reverse, take, nat_lt, nat_le, Option, Some, None, refl, ap, subst, ◌∙◌, arith}
+use Rattle.std.proofs.Common.{◌≡◌, ℕ, zero, suc, ◌+◌, ◌*◌, ◌^◌, ◌<◌, ◌≤◌, Bool, true, false, ◌==◌, ◌&&◌, if◌then◌else◌}
+use Rattle.std.proofs.Common.{List, [], ◌∷◌, ◌++◌, length, reverse, take, nat_lt, nat_le, Option, Some, None, refl, ap}
+use Rattle.std.proofs.Common.{subst, ◌∙◌, arith}
 use Rattle.std.proofs.lemmas.List.{length-take, reverse-append}
 use Rattle.tx_tree.specs.declared.TheConstants.{MOST_LABEL}
 use Rattle.tx_tm_form.specs.declared.bytes.ByteKind.{ByteKind}
-use Rattle.tx_tm_form.specs.declared.bytes.ByteKind.TheVariants.{Name, Blank, Newline, Return, Less, Greater, Bar, Backslash, Hash, Slash, Other}
+use Rattle.tx_tm_form.specs.declared.bytes.ByteKind.TheVariants.{Name, Blank, Newline, Return, Less, Greater, Bar}
+use Rattle.tx_tm_form.specs.declared.bytes.ByteKind.TheVariants.{Backslash, Hash, Slash, Other}
 use Rattle.tx_tm_form.specs.declared.bytes.White.{White}
 use Rattle.tx_tm_form.specs.declared.bytes.White.TheVariants.{Spaces, Line, Break}
 use Rattle.tx_tm_form.specs.declared.bytes.Escaped.{Escaped}
@@ -24,14 +27,22 @@ use Rattle.tx_tm_form.specs.declared.measures.PartSums.TheVariants.{Gap, Text, T
 use Rattle.tx_tm_form.specs.declared.measures.OpenSums.{OpenSums}
 use Rattle.tx_tm_form.specs.declared.measures.Within.{Within}
 use Rattle.tx_tm_form.specs.declared.measures.Within.TheVariants.{Parts, Symbol, Digits}
-use Rattle.tx_tm_form.specs.Measures.{no_sums, both, leaf_sums, node_sums, concat_sums, no_line, ended_line, line_sums, grow_line, no_block, ended_sums, resumed_line, white_block, part_block, widen_block, block_at, block_sums, put_sums, body_sums, long_sums, opening_sums, Gauge, child_in, closed_open, bar_gauge, close_gauge, next_gauge, last_gauge, begun_gauge, escape_gauge, part_gauge, name_gauge, symbol_gauge, digit_gauge, feed_in, feed_gauge, Gauged, keep_gauge, start_gauge}
+use Rattle.tx_tm_form.specs.Measures.{no_sums, both, leaf_sums, node_sums, concat_sums, no_line, ended_line, line_sums}
+use Rattle.tx_tm_form.specs.Measures.{grow_line, no_block, ended_sums, resumed_line, white_block, part_block}
+use Rattle.tx_tm_form.specs.Measures.{widen_block, block_at, block_sums, put_sums, body_sums, long_sums, opening_sums}
+use Rattle.tx_tm_form.specs.Measures.{Gauge, child_in, closed_open, bar_gauge, close_gauge, next_gauge, last_gauge}
+use Rattle.tx_tm_form.specs.Measures.{begun_gauge, escape_gauge, part_gauge, name_gauge, symbol_gauge, digit_gauge}
+use Rattle.tx_tm_form.specs.Measures.{feed_in, feed_gauge, Gauged, keep_gauge, start_gauge}
 use Rattle.tx_tm_form.specs.Bytes.{kind_of, escape_of, white_of, can_escape}
 use Rattle.tx_tm_form.specs.Tokens.{Token, white, join, plain, escape, raw, head, bar, close, is_dropped}
 use Rattle.tx_tm_form.specs.Parts.{collection_label, same}
-use Rattle.tx_tm_form.specs.Machine.{header_place, Lex, ready, slashed, returned, angled, labelled, Lexed, within, done, bad, if_good, lex_ready, lex_slashed, lex_returned, lex_angled, lex_labelled, lex, Bytewise, at, lost, given, step, run}
+use Rattle.tx_tm_form.specs.Machine.{header_place, Lex, ready, slashed, returned, angled, labelled, Lexed, within, done}
+use Rattle.tx_tm_form.specs.Machine.{bad, if_good, lex_ready, lex_slashed, lex_returned, lex_angled, lex_labelled, lex}
+use Rattle.tx_tm_form.specs.Machine.{Bytewise, at, lost, given, step, run}
 use Rattle.tx_tm_read.specs.declared.measuring.Meter.{Meter}
 use Rattle.tx_tm_read.specs.Gauges.{opens_of, gauge_of, meter_of}
-use Rattle.tx_tm_read.specs.Bounds.{IsSmall, most_of, most_in_line, most_in_part, of_run, most_in_block, most_in_content, most_in_open, most_in_opens, most_within, most_at, most_in}
+use Rattle.tx_tm_read.specs.Bounds.{IsSmall, most_of, most_in_line, most_in_part, of_run, most_in_block}
+use Rattle.tx_tm_read.specs.Bounds.{most_in_content, most_in_open, most_in_opens, most_within, most_at, most_in}
 
 -- ---- trees
 

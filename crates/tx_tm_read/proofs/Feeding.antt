@@ -1,6 +1,7 @@
 -- What the machine feeds on only grows: what fits behind a token fitted before it.
 use mathlib.Core.Logic.{inl}
-use Rattle.std.proofs.Common.{◌≡◌, ℕ, suc, ◌<◌, ◌≤◌, Bool, true, false, ◌&&◌, ◌||◌, ◌==◌, nat_lt, nat_le, if◌then◌else◌, List, [], ◌∷◌, ◌++◌, length, map, Option, Some, None, sym, subst, length-append, arith}
+use Rattle.std.proofs.Common.{◌≡◌, ℕ, suc, ◌<◌, ◌≤◌, Bool, true, false, ◌&&◌, ◌||◌, ◌==◌, nat_lt, nat_le, if◌then◌else◌}
+use Rattle.std.proofs.Common.{List, [], ◌∷◌, ◌++◌, length, map, Option, Some, None, sym, subst, length-append, arith}
 use Rattle.tx_tree.specs.declared.TheConstants.{MOST_TEXT, MOST_DEPTH, MOST_NAME}
 use Rattle.tx_tree.specs.Limits.{IsWithinLimits}
 use Rattle.tx_tree.specs.Texts.{is_name_byte}
@@ -14,10 +15,16 @@ use Rattle.tx_tm_form.specs.Bytes.{kind_of, escape_of, escaped_bytes, is_digit, 
 use Rattle.tx_tm_form.specs.Tokens.{Token, white, join, plain, escape, raw, head, bar, close, is_dropped}
 use Rattle.tx_tm_form.specs.Parts.{Part, gap, text, tag, raw_data_label, collection_label, same}
 use Rattle.tx_tm_form.specs.Forms.{symbol_bytes}
-use Rattle.tx_tm_form.specs.Growing.{Inline, grown, tree_of_block, as_block, tree_of_entry, Content, inline, blocks, collecting, put, place_of, file_tree, long_of}
-use Rattle.tx_tm_form.specs.Machine.{Open, State, reading, naming, counting, failed, go, with_child, in_tag, closed, next_argument, last_argument, next_block, last_block, header_place, begun, by_escape, name_byte, name_end, feed_reading, feed_naming, feed_counting, feed, ready, slashed, returned, angled, labelled, Lexed, within, done, bad, lex, Bytewise, at, lost, given, step, run, Keeping, keep, tree_of, tree_in}
+use Rattle.tx_tm_form.specs.Growing.{Inline, grown, tree_of_block, as_block, tree_of_entry, Content, inline, blocks}
+use Rattle.tx_tm_form.specs.Growing.{collecting, put, place_of, file_tree, long_of}
+use Rattle.tx_tm_form.specs.Machine.{Open, State, reading, naming, counting, failed, go, with_child, in_tag, closed}
+use Rattle.tx_tm_form.specs.Machine.{next_argument, last_argument, next_block, last_block, header_place, begun}
+use Rattle.tx_tm_form.specs.Machine.{by_escape, name_byte, name_end, feed_reading, feed_naming, feed_counting, feed}
+use Rattle.tx_tm_form.specs.Machine.{ready, slashed, returned, angled, labelled, Lexed, within, done, bad, lex}
+use Rattle.tx_tm_form.specs.Machine.{Bytewise, at, lost, given, step, run, Keeping, keep, tree_of, tree_in}
 use Rattle.tx_tm_read.specs.Fits.{IsSmall, RowFits, ContentFits, ChildrenFit, OpensFit, StateFits, ReaderFits}
-use Rattle.tx_tm_read.proofs.Fitting.{within_small, left_row, right_small, node_small, node_row, grown_fits, tree_fits, tags_fit, put_fits, put_tag_fits}
+use Rattle.tx_tm_read.proofs.Fitting.{within_small, left_row, right_small, node_small, node_row, grown_fits, tree_fits}
+use Rattle.tx_tm_read.proofs.Fitting.{tags_fit, put_fits, put_tag_fits}
 use Rattle.tx_tm_read.proofs.Stuck.{children_there}
 
 -- ---- one part more

@@ -1,6 +1,7 @@
 -- What comes of something too big is too big.
 use mathlib.Core.Logic.{inl, inr}
-use Rattle.std.proofs.Common.{◌≡◌, ℕ, suc, ◌+◌, ◌≤◌, Bool, true, false, if◌then◌else◌, List, [], ◌∷◌, ◌++◌, length, map, Option, Some, None, refl, sym, subst, length-append, arith}
+use Rattle.std.proofs.Common.{◌≡◌, ℕ, suc, ◌+◌, ◌≤◌, Bool, true, false, if◌then◌else◌, List, [], ◌∷◌, ◌++◌, length, map}
+use Rattle.std.proofs.Common.{Option, Some, None, refl, sym, subst, length-append, arith}
 use Rattle.std.proofs.lemmas.List.{map-append}
 use Rattle.tx_tree.specs.declared.TheConstants.{MOST_TEXT, MOST_ARITY, MOST_DEPTH, MOST_SIZE}
 use Rattle.tx_tree.specs.Limits.{IsWithinLimits}
@@ -11,9 +12,13 @@ use Rattle.tx_tm_form.specs.declared.bytes.White.TheVariants.{Spaces, Line, Brea
 use Rattle.tx_tm_form.specs.declared.places.Stage.{Stage}
 use Rattle.tx_tm_form.specs.declared.places.Stage.TheVariants.{Empty, Alone, Ordinary}
 use Rattle.tx_tm_form.specs.Parts.{Part, gap, text, tag, leaf_before, concat_of, concat_label, document_label}
-use Rattle.tx_tm_form.specs.Growing.{Inline, no_parts, grow, grown, Block, no_paragraphs, longer, with_white, ended, resumed, first_stage, with_part, widen, tree_at, tree_of_block, Entry, Tags, tree_of_entry, behind_run, with_entries, as_block, Content, inline, blocks, collecting, put}
+use Rattle.tx_tm_form.specs.Growing.{Inline, no_parts, grow, grown, Block, no_paragraphs, longer, with_white, ended}
+use Rattle.tx_tm_form.specs.Growing.{resumed, first_stage, with_part, widen, tree_at, tree_of_block, Entry, Tags}
+use Rattle.tx_tm_form.specs.Growing.{tree_of_entry, behind_run, with_entries, as_block, Content, inline, blocks}
+use Rattle.tx_tm_form.specs.Growing.{collecting, put}
 use Rattle.tx_tm_form.proofs.Growth.{entries_append}
-use Rattle.tx_tm_read.specs.Fits.{IsSmall, AreSmall, RowFits, LineFits, BlockFitsAt, BlockFits, TagRowFits, TagsFit, ContentFits}
+use Rattle.tx_tm_read.specs.Fits.{IsSmall, AreSmall, RowFits, LineFits, BlockFitsAt, BlockFits, TagRowFits, TagsFit}
+use Rattle.tx_tm_read.specs.Fits.{ContentFits}
 use Rattle.tx_tm_read.proofs.Made.{arity_least}
 
 -- ---- trees

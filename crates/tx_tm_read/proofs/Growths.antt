@@ -1,5 +1,6 @@
 -- Names and digits that grow.
-use Rattle.std.proofs.Common.{◌≡◌, ℕ, ◌<◌, ◌≤◌, ◌==◌, true, false, Some, List, [], ◌∷◌, ◌++◌, length, length-append, arith}
+use Rattle.std.proofs.Common.{◌≡◌, ℕ, ◌<◌, ◌≤◌, ◌==◌, true, false, Some, List, [], ◌∷◌, ◌++◌, length, length-append}
+use Rattle.std.proofs.Common.{arith}
 use Rattle.tx_tree.specs.declared.TheConstants.{MOST_NAME, MOST_TEXT}
 use Rattle.tx_tree.specs.Texts.{is_name_byte, IsText}
 use Rattle.tx_tree.proofs.Scanning.{all_snoc}

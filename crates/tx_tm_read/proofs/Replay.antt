@@ -1,12 +1,14 @@
 -- Tags and white as an ordinary block.
-use Rattle.std.proofs.Common.{◌≡◌, ℕ, ◌+◌, ◌≤◌, List, [], ◌∷◌, ◌++◌, map, Option, Some, None, refl, sym, ap, subst, ◌∙◌, append_assoc, arith}
+use Rattle.std.proofs.Common.{◌≡◌, ℕ, ◌+◌, ◌≤◌, List, [], ◌∷◌, ◌++◌, map, Option, Some, None, refl, sym, ap, subst, ◌∙◌}
+use Rattle.std.proofs.Common.{append_assoc, arith}
 use Rattle.std.proofs.lemmas.List.{map-append}
 use Rattle.tx_tree.specs.WideTree.{nodes_of}
 use Rattle.tx_tm_form.specs.declared.bytes.White.{White}
 use Rattle.tx_tm_form.specs.declared.places.Stage.{Stage}
 use Rattle.tx_tm_form.specs.declared.places.Stage.TheVariants.{Empty, Alone, Ordinary}
 use Rattle.tx_tm_form.specs.Parts.{tag}
-use Rattle.tx_tm_form.specs.Growing.{Block, no_paragraphs, longer, with_white, widen, tree_of_entry, behind_run, with_entries, as_block}
+use Rattle.tx_tm_form.specs.Growing.{Block, no_paragraphs, longer, with_white, widen, tree_of_entry, behind_run}
+use Rattle.tx_tm_form.specs.Growing.{with_entries, as_block}
 use Rattle.tx_tm_form.proofs.Growth.{entries_append}
 use Rattle.tx_tm_read.specs.declared.tag_rows.TagEntry.{TagEntry}
 use Rattle.tx_tm_read.specs.declared.blocks.TagList.{TagList}

@@ -1,5 +1,7 @@
 -- The reader over bytes.
-use Rattle.std.proofs.Common.{◌≡◌, ℕ, ◌+◌, ◌-◌, ◌<◌, ◌≤◌, Bool, true, false, List, [], ◌∷◌, ◌++◌, length, take, drop, get_or, Option, Some, None, Result, Ok, Err, IfOk, zero, suc, refl, sym, ap, subst, ◌∙◌, append_assoc, length-drop, arith}
+use Rattle.std.proofs.Common.{◌≡◌, ℕ, ◌+◌, ◌-◌, ◌<◌, ◌≤◌, Bool, true, false, List, [], ◌∷◌, ◌++◌, length, take, drop}
+use Rattle.std.proofs.Common.{get_or, Option, Some, None, Result, Ok, Err, IfOk, zero, suc, refl, sym, ap, subst, ◌∙◌}
+use Rattle.std.proofs.Common.{append_assoc, length-drop, arith}
 use Rattle.std.proofs.lemmas.List.{take-append-drop, take_more, take_all}
 use Rattle.tx_tree.specs.Texts.{IsText}
 use Rattle.tx_tree.specs.WideTree.{WideTree}
@@ -7,8 +9,10 @@ use Rattle.tx_tm_form.specs.declared.places.Stage.{Stage}
 use Rattle.tx_tm_form.specs.declared.places.Stage.TheVariants.{Empty, Alone, Ordinary}
 use Rattle.tx_tm_form.specs.Bytes.{kind_of, is_plain}
 use Rattle.tx_tm_form.specs.Parts.{text}
-use Rattle.tx_tm_form.specs.Growing.{Inline, no_parts, grow, ended, resumed, Block, with_part, widen, as_block, Content, inline, blocks, collecting, put}
-use Rattle.tx_tm_form.specs.Machine.{Open, reading, feed, ready, done, Bytewise, at, given, step, run, Keeping, keep, tree_in, start, reads}
+use Rattle.tx_tm_form.specs.Growing.{Inline, no_parts, grow, ended, resumed, Block, with_part, widen, as_block, Content}
+use Rattle.tx_tm_form.specs.Growing.{inline, blocks, collecting, put}
+use Rattle.tx_tm_form.specs.Machine.{Open, reading, feed, ready, done, Bytewise, at, given, step, run, Keeping, keep}
+use Rattle.tx_tm_form.specs.Machine.{tree_in, start, reads}
 use Rattle.tx_tm_form.proofs.Formed.{text_text, no_text}
 use Rattle.tx_tm_form.proofs.Words.{lexed_plain}
 use Rattle.tx_tm_form.proofs.Stops.{run_append}

@@ -1,5 +1,6 @@
 -- Where a limit is passed, no tree within the limits comes of the state.
-use Rattle.std.proofs.Common.{◌≡◌, ℕ, suc, ◌+◌, ◌<◌, ◌≤◌, Bool, true, false, ◌&&◌, if◌then◌else◌, List, [], ◌∷◌, ◌++◌, length, Option, Some, None, Result, Ok, Err, IfOk, refl, sym, ap, subst, ◌∙◌, arith}
+use Rattle.std.proofs.Common.{◌≡◌, ℕ, suc, ◌+◌, ◌<◌, ◌≤◌, Bool, true, false, ◌&&◌, if◌then◌else◌, List, [], ◌∷◌, ◌++◌}
+use Rattle.std.proofs.Common.{length, Option, Some, None, Result, Ok, Err, IfOk, refl, sym, ap, subst, ◌∙◌, arith}
 use Rattle.std.proofs.lemmas.List.{length-reverse, length-map}
 use Rattle.tx_base.specs.declared.out_of_memory.Memory.{Memory}
 use Rattle.tx_tree.specs.declared.TheConstants.{MOST_DEPTH}
@@ -8,8 +9,10 @@ use Rattle.tx_tree.specs.WideTree.{WideTree, node, forest, nodes_of}
 use Rattle.tx_tm_form.specs.declared.places.TagPlace.{TagPlace}
 use Rattle.tx_tm_form.specs.declared.places.TagPlace.TheVariants.{InShort, InHeader, InClosing}
 use Rattle.tx_tm_form.specs.Parts.{Part, gap, text, tag, same, none, collection_label}
-use Rattle.tx_tm_form.specs.Growing.{Inline, grown, Block, tree_of_block, long_of, Content, inline, blocks, collecting, no_tags, no_paragraphs, put, place_of, block_of, block_behind, opening}
-use Rattle.tx_tm_form.specs.Machine.{Open, State, reading, go, open_tag, with_child, in_tag, closed, next_block, last_block, last_argument}
+use Rattle.tx_tm_form.specs.Growing.{Inline, grown, Block, tree_of_block, long_of, Content, inline, blocks, collecting}
+use Rattle.tx_tm_form.specs.Growing.{no_tags, no_paragraphs, put, place_of, block_of, block_behind, opening}
+use Rattle.tx_tm_form.specs.Machine.{Open, State, reading, go, open_tag, with_child, in_tag, closed, next_block}
+use Rattle.tx_tm_form.specs.Machine.{last_block, last_argument}
 use Rattle.tx_tm_read.specs.declared.tags.OpenTag.{OpenTag}
 use Rattle.tx_tm_read.specs.declared.tags.Spot.{Spot}
 use Rattle.tx_tm_read.specs.Fits.{IsSmall, RowFits, ChildrenFit, StateFits}

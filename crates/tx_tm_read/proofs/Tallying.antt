@@ -1,6 +1,7 @@
 -- Where the tags pass what the counts allow, neither a collection nor a document within the limits has them.
 use mathlib.Core.Logic.{inl, inr}
-use Rattle.std.proofs.Common.{◌≡◌, ℕ, suc, ◌+◌, ◌≤◌, Bool, true, false, List, [], ◌∷◌, ◌++◌, length, map, Option, Some, None, refl, sym, subst, length-append, arith}
+use Rattle.std.proofs.Common.{◌≡◌, ℕ, suc, ◌+◌, ◌≤◌, Bool, true, false, List, [], ◌∷◌, ◌++◌, length, map, Option, Some}
+use Rattle.std.proofs.Common.{None, refl, sym, subst, length-append, arith}
 use Rattle.std.proofs.lemmas.List.{map-append}
 use Rattle.std.proofs.lemmas.Bool.{ltb-true, ltb-false}
 use Rattle.tx_tree.specs.WideTree.{WideTree, forest, size_of, total_size}
@@ -10,7 +11,8 @@ use Rattle.tx_tm_form.specs.declared.bytes.White.TheVariants.{Spaces, Line, Brea
 use Rattle.tx_tm_form.specs.declared.places.Stage.{Stage}
 use Rattle.tx_tm_form.specs.declared.places.Stage.TheVariants.{Empty, Alone, Ordinary}
 use Rattle.tx_tm_form.specs.Parts.{tag, leaf_before}
-use Rattle.tx_tm_form.specs.Growing.{Inline, no_parts, grow, grown, no_paragraphs, widen, ended, resumed, Entry, tree_of_entry, behind_run, with_entries}
+use Rattle.tx_tm_form.specs.Growing.{Inline, no_parts, grow, grown, no_paragraphs, widen, ended, resumed, Entry}
+use Rattle.tx_tm_form.specs.Growing.{tree_of_entry, behind_run, with_entries}
 use Rattle.tx_tm_read.specs.declared.tag_rows.TagEntry.{TagEntry}
 use Rattle.tx_tm_read.specs.declared.tag_rows.Tally.{Tally}
 use Rattle.tx_tm_read.specs.Fits.{RowFits, BlockFits, TagRowFits}

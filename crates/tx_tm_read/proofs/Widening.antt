@@ -1,5 +1,6 @@
 -- A block with one part more.
-use Rattle.std.proofs.Common.{◌≡◌, ℕ, ◌+◌, ◌≤◌, Bool, true, false, List, [], ◌∷◌, ◌++◌, Option, Some, None, Result, Ok, Err, IfOk, IfSome, refl, sym, ap, subst, ◌∙◌, arith}
+use Rattle.std.proofs.Common.{◌≡◌, ℕ, ◌+◌, ◌≤◌, Bool, true, false, List, [], ◌∷◌, ◌++◌, Option, Some, None, Result, Ok}
+use Rattle.std.proofs.Common.{Err, IfOk, IfSome, refl, sym, ap, subst, ◌∙◌, arith}
 use Rattle.tx_base.specs.declared.out_of_memory.Memory.{Memory}
 use Rattle.tx_tree.specs.WideTree.{WideTree, nodes_of}
 use Rattle.tx_tm_form.specs.declared.places.Stage.{Stage}
@@ -9,7 +10,8 @@ use Rattle.tx_tm_form.specs.Growing.{Inline, grow, Block, widen, with_part}
 use Rattle.tx_tm_read.specs.Fits.{RowFits, LineFits, BlockFits}
 use Rattle.tx_tm_read.specs.Nodes.{nodes_in, line_nodes, block_nodes_at, block_nodes}
 use Rattle.tx_tm_read.specs.declared.blocks.Paragraphs.{Paragraphs}
-use Rattle.tx_tm_read.specs.Blocks.{block_of, IsBlock, IsTagged, block_at, full_at, now_at, full_behind, now_behind, tag_stage}
+use Rattle.tx_tm_read.specs.Blocks.{block_of, IsBlock, IsTagged, block_at, full_at, now_at, full_behind, now_behind}
+use Rattle.tx_tm_read.specs.Blocks.{tag_stage}
 use Rattle.tx_tm_read.proofs.Counts.{nodes_both, line_trees}
 use Rattle.tx_tm_read.proofs.Fitting.{grow_fits, no_row}
 

@@ -1,11 +1,15 @@
 -- How long the text of a tree within the limits can be.
-use Rattle.std.proofs.Common.{◌≡◌, ℕ, ◌+◌, ◌*◌, ◌<◌, ◌≤◌, Bool, true, false, ◌&&◌, not, cond, ◌==◌, List, [], ◌∷◌, ◌++◌, length, length-append, arith}
+use Rattle.std.proofs.Common.{◌≡◌, ℕ, ◌+◌, ◌*◌, ◌<◌, ◌≤◌, Bool, true, false, ◌&&◌, not, cond, ◌==◌, List, [], ◌∷◌, ◌++◌}
+use Rattle.std.proofs.Common.{length, length-append, arith}
 use Rattle.tx_tree.specs.Labels.{IsLabel}
 use Rattle.tx_tree.specs.WideTree.{WideTree, Forest, leaf, node, nil, cons, size_of, total_size}
 use Rattle.tx_tree.specs.Limits.{IsWellFormed, AreWellFormed}
 use Rattle.tx_tm_form.specs.Parts.{same, document_label, collection_label}
-use Rattle.tx_tm_write.specs.Shapes.{some, is_block, has_block, is_empty, is_inline, is_raw, is_long, text_in, digits_of}
-use Rattle.tx_tm_write.specs.Canonical.{byte_text, is_marked, is_control, is_held, items_text, opened, next_mark, with_lines, or_mark, between, with_ends, tag_text, part_text, content_text, parts_text, arguments_text, long_text, block_text, paragraphs_text, tags_text}
+use Rattle.tx_tm_write.specs.Shapes.{some, is_block, has_block, is_empty, is_inline, is_raw, is_long, text_in}
+use Rattle.tx_tm_write.specs.Shapes.{digits_of}
+use Rattle.tx_tm_write.specs.Canonical.{byte_text, is_marked, is_control, is_held, items_text, opened, next_mark}
+use Rattle.tx_tm_write.specs.Canonical.{with_lines, or_mark, between, with_ends, tag_text, part_text, content_text}
+use Rattle.tx_tm_write.specs.Canonical.{parts_text, arguments_text, long_text, block_text, paragraphs_text, tags_text}
 
 either : (b : Bool) (x y : List ℕ) (n : ℕ) → length x ≤ n → length y ≤ n → length (cond b x y) ≤ n
 either true x y n h k = h

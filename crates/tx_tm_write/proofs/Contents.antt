@@ -1,5 +1,6 @@
 -- The parts of content give back its tree.
-use Rattle.std.proofs.Common.{◌≡◌, ℕ, Bool, true, false, ◌==◌, ◌&&◌, ◌||◌, not, if◌then◌else◌, List, [], ◌∷◌, ◌++◌, refl, sym, ap, subst, ◌∙◌, append_assoc}
+use Rattle.std.proofs.Common.{◌≡◌, ℕ, Bool, true, false, ◌==◌, ◌&&◌, ◌||◌, not, if◌then◌else◌, List, [], ◌∷◌, ◌++◌}
+use Rattle.std.proofs.Common.{refl, sym, ap, subst, ◌∙◌, append_assoc}
 use Rattle.std.specs.List.{flat_map}
 use Rattle.std.proofs.lemmas.List.{append-nil}
 use Rattle.std.proofs.lemmas.Bool.{eqb-true, and_from, and_parts}
@@ -8,7 +9,8 @@ use Rattle.tx_tree.specs.Limits.{IsWellFormed, AreWellFormed}
 use Rattle.tx_tree.specs.WideTree.{WideTree, Forest, leaf, node, nil, cons, trees}
 use Rattle.tx_tree.proofs.Children.{forest_trees}
 use Rattle.tx_tm_form.specs.declared.bytes.White.TheVariants.{Spaces, Line, Break}
-use Rattle.tx_tm_form.specs.Parts.{Part, gap, text, tag, leaf_before, texts_and_tags, concat_of, content, same, concat_label}
+use Rattle.tx_tm_form.specs.Parts.{Part, gap, text, tag, leaf_before, texts_and_tags, concat_of, content, same}
+use Rattle.tx_tm_form.specs.Parts.{concat_label}
 use Rattle.tx_tm_form.specs.Forms.{symbol_bytes}
 use Rattle.tx_tm_form.proofs.Sound.{same_is}
 use Rattle.tx_tm_write.specs.Shapes.{some, is_empty, are_apart, has_two, is_inline}

@@ -1,10 +1,13 @@
 -- Which form a tree has, by its parts.
-use Rattle.std.proofs.Common.{◌≡◌, ℕ, zero, suc, ◌+◌, ◌<◌, Bool, true, false, ◌&&◌, ltb, cond, List, [], ◌∷◌, length, drop, get_or, arith, add-one, ap, refl, ◌∙◌}
+use Rattle.std.proofs.Common.{◌≡◌, ℕ, zero, suc, ◌+◌, ◌<◌, Bool, true, false, ◌&&◌, ltb, cond, List, [], ◌∷◌, length}
+use Rattle.std.proofs.Common.{drop, get_or, arith, add-one, ap, refl, ◌∙◌}
 use Rattle.std.specs.Prelude.{Some, None}
-use Rattle.tx_tree.specs.WideTree.{WideTree, Forest, leaf, node, nil, cons, forest, trees, children_of, label_of, text_of}
+use Rattle.tx_tree.specs.WideTree.{WideTree, Forest, leaf, node, nil, cons, forest, trees, children_of, label_of}
+use Rattle.tx_tree.specs.WideTree.{text_of}
 use Rattle.tx_tree.proofs.Walks.{node_is, leaf_is}
 use Rattle.tx_tm_form.specs.Parts.{same, document_label, collection_label, raw_data_label}
-use Rattle.tx_tm_write.specs.Shapes.{some, are_nodes, is_block, has_two, is_raw, is_digits, all_digits, digits_of, text_in}
+use Rattle.tx_tm_write.specs.Shapes.{some, are_nodes, is_block, has_two, is_raw, is_digits, all_digits, digits_of}
+use Rattle.tx_tm_write.specs.Shapes.{text_in}
 
 and_false : (b : Bool) → (b && false) ≡ false
 and_false true = refl

@@ -5,7 +5,8 @@ use Rattle.std.proofs.lemmas.Bool.{and_parts}
 use Rattle.tx_tree.specs.WideTree.{node, forest}
 use Rattle.tx_tm_form.specs.declared.bytes.White.{White}
 use Rattle.tx_tm_form.specs.declared.bytes.White.TheVariants.{Spaces, Line, Break}
-use Rattle.tx_tm_form.specs.Parts.{Part, gap, text, tag, content, run_before, with_runs, from_first, unless_last, to_last, into_first, paragraphs, document_of, block, document_label}
+use Rattle.tx_tm_form.specs.Parts.{Part, gap, text, tag, content, run_before, with_runs, from_first, unless_last}
+use Rattle.tx_tm_form.specs.Parts.{to_last, into_first, paragraphs, document_of, block, document_label}
 use Rattle.tx_tm_write.proofs.Contents.{is_tight, is_ordinary}
 
 abbrev pub IsTight : List Part → Type 0

@@ -1,5 +1,6 @@
 -- The canonical text of a block spells it.
-use Rattle.std.proofs.Common.{◌≡◌, ℕ, Bool, true, false, ◌&&◌, ◌||◌, not, if◌then◌else◌, List, [], ◌∷◌, ◌++◌, map, Some, refl, sym, ap, subst, ◌∙◌, append_assoc}
+use Rattle.std.proofs.Common.{◌≡◌, ℕ, Bool, true, false, ◌&&◌, ◌||◌, not, if◌then◌else◌, List, [], ◌∷◌, ◌++◌, map, Some}
+use Rattle.std.proofs.Common.{refl, sym, ap, subst, ◌∙◌, append_assoc}
 use Rattle.std.specs.List.{AllByRecursion}
 use Rattle.std.proofs.lemmas.List.{append-nil}
 use Rattle.tx_tree.specs.Labels.{IsLabel}
@@ -9,18 +10,23 @@ use Rattle.tx_tm_form.specs.declared.bytes.White.TheVariants.{Line}
 use Rattle.tx_tm_form.specs.declared.bytes.Escaped.TheVariants.{Mark}
 use Rattle.tx_tm_form.specs.Bytes.{escape_of, can_escape}
 use Rattle.tx_tm_form.specs.Tokens.{escape}
-use Rattle.tx_tm_form.specs.Parts.{Part, gap, text, tag, content, block, document_of, same, document_label, collection_label}
+use Rattle.tx_tm_form.specs.Parts.{Part, gap, text, tag, content, block, document_of, same, document_label}
+use Rattle.tx_tm_form.specs.Parts.{collection_label}
 use Rattle.tx_tm_form.specs.Forms.{escaped, Spells}
 use Rattle.tx_tm_form.proofs.Sound.{same_is}
 use Rattle.tx_tm_form.proofs.Words.{one_tree}
 use Rattle.tx_tm_write.specs.Shapes.{some, are_nodes, is_block, has_block, is_empty, is_inline, is_raw, digits_of}
-use Rattle.tx_tm_write.specs.Canonical.{items_text, opened, with_lines, or_mark, between, with_ends, tag_text, part_text, content_text, parts_text, arguments_text, long_text, block_text, paragraphs_text, tags_text, tm_text}
+use Rattle.tx_tm_write.specs.Canonical.{items_text, opened, with_lines, or_mark, between, with_ends, tag_text}
+use Rattle.tx_tm_write.specs.Canonical.{part_text, content_text, parts_text, arguments_text, long_text, block_text}
+use Rattle.tx_tm_write.specs.Canonical.{paragraphs_text, tags_text, tm_text}
 use Rattle.tx_tm_write.specs.Alone.{SpellsAlone}
 use Rattle.tx_tm_write.proofs.Standing.{one_word, Stands, nothing_stands, both_stand, one_stands, spells_from}
 use Rattle.tx_tm_write.proofs.TextItems.{item_parts, items_stand}
-use Rattle.tx_tm_write.proofs.Contents.{parts_in, parts_side, content_parts, paragraph_parts, content_back, paragraph_back, paragraph_tight, paragraph_ordinary}
+use Rattle.tx_tm_write.proofs.Contents.{parts_in, parts_side, content_parts, paragraph_parts, content_back}
+use Rattle.tx_tm_write.proofs.Contents.{paragraph_back, paragraph_tight, paragraph_ordinary}
 use Rattle.tx_tm_write.proofs.Paragraphs.{IsTight, behind_lines, block_behind, block_between, ordinary_document}
-use Rattle.tx_tm_write.proofs.Tags.{raw_tag, Follows, no_more, one_more, short_stands, Continues, argument_before, block_last, block_before, long_stands, newline_stands, tag_lines, collection_stands}
+use Rattle.tx_tm_write.proofs.Tags.{raw_tag, Follows, no_more, one_more, short_stands, Continues, argument_before}
+use Rattle.tx_tm_write.proofs.Tags.{block_last, block_before, long_stands, newline_stands, tag_lines, collection_stands}
 
 -- ---- texts
 

@@ -4,7 +4,8 @@ use Rattle.std.specs.List.{AllByRecursion, flat_map}
 use Rattle.std.proofs.lemmas.List.{append-nil}
 use Rattle.std.proofs.lemmas.List.Concat.{flat_map-append}
 use Rattle.tx_tree.specs.WideTree.{WideTree}
-use Rattle.tx_tm_form.specs.Tokens.{Token, white, join, plain, escape, raw, head, bar, close, written, IsToken, is_dropped, kept}
+use Rattle.tx_tm_form.specs.Tokens.{Token, white, join, plain, escape, raw, head, bar, close, written, IsToken}
+use Rattle.tx_tm_form.specs.Tokens.{is_dropped, kept}
 use Rattle.tx_tm_form.specs.Parts.{Part, block}
 use Rattle.tx_tm_form.specs.Forms.{Piece, Pieces, nothing, piece, tokens_of_piece, tokens_of, part_of, parts_of, Spells}
 

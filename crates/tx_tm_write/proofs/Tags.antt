@@ -1,5 +1,6 @@
 -- A tag, as it is written, stands for its node.
-use Rattle.std.proofs.Common.{◌≡◌, ℕ, true, false, ◌==◌, List, [], ◌∷◌, ◌++◌, map, refl, sym, ap, subst, ◌∙◌, append_assoc, arith}
+use Rattle.std.proofs.Common.{◌≡◌, ℕ, true, false, ◌==◌, List, [], ◌∷◌, ◌++◌, map, refl, sym, ap, subst, ◌∙◌}
+use Rattle.std.proofs.Common.{append_assoc, arith}
 use Rattle.std.specs.List.{flat_map}
 use Rattle.std.proofs.lemmas.List.{append-nil}
 use Rattle.std.proofs.lemmas.Bool.{and_parts}
@@ -11,8 +12,11 @@ use Rattle.tx_tm_form.specs.declared.places.TagForm.TheVariants.{Short, Long, Mi
 use Rattle.tx_tm_form.specs.declared.bytes.White.TheVariants.{Line}
 use Rattle.tx_tm_form.specs.Bytes.{kind_of, is_white, is_plain, is_digit}
 use Rattle.tx_tm_form.specs.Tokens.{Token, white, plain, raw, bar, close, mark_of, written}
-use Rattle.tx_tm_form.specs.Parts.{Part, gap, tag, content, block, long_tag, same, has_no_items, tags_of, collection_label, raw_data_label}
-use Rattle.tx_tm_form.specs.Forms.{AreDigits, Pieces, Arguments, Blocks, blank, raw_data, short_tag, long_tag_of, no_argument, argument, no_block, middle_tag, tokens_of, beginning, more_arguments, tokens_of_blocks, parts_of, children_of, children_of_blocks}
+use Rattle.tx_tm_form.specs.Parts.{Part, gap, tag, content, block, long_tag, same, has_no_items, tags_of}
+use Rattle.tx_tm_form.specs.Parts.{collection_label, raw_data_label}
+use Rattle.tx_tm_form.specs.Forms.{AreDigits, Pieces, Arguments, Blocks, blank, raw_data, short_tag, long_tag_of}
+use Rattle.tx_tm_form.specs.Forms.{no_argument, argument, no_block, middle_tag, tokens_of, beginning, more_arguments}
+use Rattle.tx_tm_form.specs.Forms.{tokens_of_blocks, parts_of, children_of, children_of_blocks}
 use Rattle.tx_tm_form.proofs.Sound.{same_is}
 use Rattle.tx_tm_form.proofs.Formed.{digit_item}
 use Rattle.tx_tm_write.specs.Shapes.{all_digits, is_one_of_digits, is_raw, digits_of}

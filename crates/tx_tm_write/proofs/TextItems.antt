@@ -1,5 +1,7 @@
 -- The items of a text, as they are written, stand for its bytes.
-use Rattle.std.proofs.Common.{◌≡◌, ℕ, ◌+◌, ◌-◌, ◌<◌, Bool, true, false, ◌==◌, ◌&&◌, ◌||◌, not, nat_le, is_some, if◌then◌else◌, List, [], ◌∷◌, ◌++◌, map, Some, refl, sym, ap, subst, ◌∙◌, append_assoc, arith}
+use Rattle.std.proofs.Common.{◌≡◌, ℕ, ◌+◌, ◌-◌, ◌<◌, Bool, true, false, ◌==◌, ◌&&◌, ◌||◌, not, nat_le, is_some}
+use Rattle.std.proofs.Common.{if◌then◌else◌, List, [], ◌∷◌, ◌++◌, map, Some, refl, sym, ap, subst, ◌∙◌, append_assoc}
+use Rattle.std.proofs.Common.{arith}
 use Rattle.std.specs.List.{AllByRecursion, flat_map}
 use Rattle.std.proofs.lemmas.Bool.{eqb-true}
 use Rattle.tx_tree.specs.Texts.{Item, byte, symbol, is_item_byte, is_name_byte, IsName, IsItem, item_bytes}
@@ -11,7 +13,8 @@ use Rattle.tx_tm_form.specs.Tokens.{white, plain, escape, written}
 use Rattle.tx_tm_form.specs.Parts.{Part, gap, text}
 use Rattle.tx_tm_form.specs.Forms.{blank, letter, escaped, symbol as symbol_piece, name_token, symbol_bytes}
 use Rattle.tx_tm_write.specs.Canonical.{is_marked, is_control, byte_text, is_held, items_text}
-use Rattle.tx_tm_write.proofs.Standing.{IsWord, AreWords, both_words, one_word, word_before, Stands, nothing_stands, both_stand, one_stands}
+use Rattle.tx_tm_write.proofs.Standing.{IsWord, AreWords, both_words, one_word, word_before, Stands, nothing_stands}
+use Rattle.tx_tm_write.proofs.Standing.{both_stand, one_stands}
 
 -- ---- one byte
 

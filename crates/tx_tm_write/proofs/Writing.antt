@@ -1,11 +1,13 @@
 -- The text of a tree by its parts.
-use Rattle.std.proofs.Common.{◌≡◌, ℕ, zero, suc, ◌+◌, ◌<◌, ◌≤◌, Bool, true, false, ltb, cond, List, [], ◌∷◌, ◌++◌, length, take, drop, append_assoc, arith, ap, sym, refl, ◌∙◌}
+use Rattle.std.proofs.Common.{◌≡◌, ℕ, zero, suc, ◌+◌, ◌<◌, ◌≤◌, Bool, true, false, ltb, cond, List, [], ◌∷◌, ◌++◌}
+use Rattle.std.proofs.Common.{length, take, drop, append_assoc, arith, ap, sym, refl, ◌∙◌}
 use Rattle.std.specs.Prelude.{Some, None}
 use Rattle.tx_tree.specs.WideTree.{WideTree, leaf, node, forest, children_of, label_of, text_of}
 use Rattle.tx_tree.proofs.Walks.{node_is, leaf_is}
 use Rattle.tx_tm_form.specs.Parts.{same, document_label}
 use Rattle.tx_tm_write.specs.Shapes.{some, is_inline, is_raw, is_long, digits_of, IsRaw}
-use Rattle.tx_tm_write.specs.Canonical.{opened, items_text, tag_text, part_text, content_text, parts_text, arguments_text, long_text, block_text, paragraphs_text, with_ends, tags_text}
+use Rattle.tx_tm_write.specs.Canonical.{opened, items_text, tag_text, part_text, content_text, parts_text}
+use Rattle.tx_tm_write.specs.Canonical.{arguments_text, long_text, block_text, paragraphs_text, with_ends, tags_text}
 use Rattle.tx_tm_write.proofs.Forms.{some_trees}
 
 -- what begins a beginning begins the whole

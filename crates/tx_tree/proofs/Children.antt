@@ -1,11 +1,13 @@
 -- A forest is its list of trees, and what a node knows of its children.
-use Rattle.std.proofs.Common.{◌≡◌, ℕ, ◌+◌, ◌*◌, ◌<◌, ◌≤◌, max, List, [], ◌∷◌, ◌++◌, length, take, get_or, length-append, ap, refl, sym, ◌∙◌, arith}
+use Rattle.std.proofs.Common.{◌≡◌, ℕ, ◌+◌, ◌*◌, ◌<◌, ◌≤◌, max, List, [], ◌∷◌, ◌++◌, length, take, get_or, length-append}
+use Rattle.std.proofs.Common.{ap, refl, sym, ◌∙◌, arith}
 use Rattle.std.proofs.lemmas.List.{take_more, take_all, get_or_default}
 use Rattle.std.proofs.lemmas.Option.{slice_get_read, slice_get_past}
 use Rattle.std.proofs.Math.Nat.{max-le, le-max_left}
 use Rattle.tx_tree.specs.Labels.{IsLabel}
 use Rattle.tx_tree.specs.Limits.{AreWellFormed, IsWellFormed, IsWithinLimits}
-use Rattle.tx_tree.specs.WideTree.{WideTree, Forest, nil, cons, node, forest, trees, children_of, size_of, total_size, depth_of, deepest, arity_of, widest, count, text_length_of, longest_text}
+use Rattle.tx_tree.specs.WideTree.{WideTree, Forest, nil, cons, node, forest, trees, children_of, size_of, total_size}
+use Rattle.tx_tree.specs.WideTree.{depth_of, deepest, arity_of, widest, count, text_length_of, longest_text}
 
 pub trees_forest : (ts : List WideTree) → trees (forest ts) ≡ ts
 trees_forest [] = refl

@@ -1,5 +1,6 @@
 -- A place of a text is a cut where the bytes before it are a text.
-use Rattle.std.proofs.Common.{◌≡◌, ℕ, ◌≤◌, true, List, [], ◌++◌, length, take, drop, Some, sym, ap, subst, ◌∙◌, length-append, leb, arith}
+use Rattle.std.proofs.Common.{◌≡◌, ℕ, ◌≤◌, true, List, [], ◌++◌, length, take, drop, Some, sym, ap, subst, ◌∙◌}
+use Rattle.std.proofs.Common.{length-append, leb, arith}
 use Rattle.std.specs.List.{flat_map}
 use Rattle.std.proofs.lemmas.List.{append-nil, take-append-drop, take_at, length-take-le}
 use Rattle.std.proofs.lemmas.Bool.{and_from, and_parts}

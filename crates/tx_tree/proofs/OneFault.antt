@@ -1,6 +1,7 @@
 -- Bytes have at most one fault, and none where they spell a tree within the limits: of any syntax that spells one tree at most, and
 -- whose table gives one fault at most.
-use Rattle.std.proofs.Common.{◌≡◌, ℕ, ◌<◌, ◌≤◌, List, [], length, take, refl, sym, ap, subst, ◌∙◌, arith, ◌⊎◌, inl, inr, ⊎_elim}
+use Rattle.std.proofs.Common.{◌≡◌, ℕ, ◌<◌, ◌≤◌, List, [], length, take, refl, sym, ap, subst, ◌∙◌, arith, ◌⊎◌, inl, inr}
+use Rattle.std.proofs.Common.{⊎_elim}
 use Rattle.std.proofs.lemmas.List.{append-nil, take_all}
 use Rattle.tx_base.specs.Fronts.{IsFront, IsLongestFront}
 use Rattle.tx_tree.specs.declared.faults.Which.{Which}

@@ -4,7 +4,8 @@ use Rattle.std.specs.Prelude.{decimal}
 use Rattle.std.specs.List.{AllByRecursion}
 use Rattle.std.proofs.lemmas.Fmt.{digits_decimal, digits_value-decimal, decimal_nonempty, length-decimal-le}
 use Rattle.std.proofs.lemmas.Str.Parse.{IsNumeralModel, numerals_by_fold}
-use Rattle.tx_tree.specs.PathSpelling.{is_digit, number_after, IsNumber, AreNumbers, SpellsPath, numbers_text, path_text, place_text}
+use Rattle.tx_tree.specs.PathSpelling.{is_digit, number_after, IsNumber, AreNumbers, SpellsPath, numbers_text}
+use Rattle.tx_tree.specs.PathSpelling.{path_text, place_text}
 use Rattle.tx_tree.proofs.PathReading.{spelled_numbers}
 
 own : IsNumeralModel (AllByRecursion (λ b. is_digit b ≡ true)) (number_after 0)

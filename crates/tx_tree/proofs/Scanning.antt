@@ -1,5 +1,7 @@
 -- A text is what is read to its end byte by byte.
-use Rattle.std.proofs.Common.{◌≡◌, ℕ, zero, suc, ◌+◌, ◌<◌, ◌≤◌, Bool, true, false, eqb, ltb, ◌&&◌, cond, List, [], ◌∷◌, ◌++◌, length, take, get_or, Option, Some, None, is_some, refl, sym, ap, subst, ◌∙◌, append_assoc, length-append, arith, ◌⊎◌, inl, inr, ⊎_elim}
+use Rattle.std.proofs.Common.{◌≡◌, ℕ, zero, suc, ◌+◌, ◌<◌, ◌≤◌, Bool, true, false, eqb, ltb, ◌&&◌, cond, List, [], ◌∷◌}
+use Rattle.std.proofs.Common.{◌++◌, length, take, get_or, Option, Some, None, is_some, refl, sym, ap, subst, ◌∙◌}
+use Rattle.std.proofs.Common.{append_assoc, length-append, arith, ◌⊎◌, inl, inr, ⊎_elim}
 use Rattle.std.specs.List.{AllByRecursion, flat_map}
 use Rattle.std.proofs.lemmas.List.{append-nil, take_more, take_all}
 use Rattle.std.proofs.lemmas.List.Concat.{flat_map-append}
@@ -8,7 +10,8 @@ use Rattle.tx_base.specs.Fronts.{IsFront, IsLongestFront}
 use Rattle.tx_tree.specs.declared.texts.TextFault.{TextFault}
 use Rattle.tx_tree.specs.declared.texts.TextPlace.{TextPlace}
 use Rattle.tx_tree.specs.declared.texts.TextPlace.TheVariants.{Between, InSymbol}
-use Rattle.tx_tree.specs.Texts.{Item, byte, symbol, is_item_byte, is_name_byte, IsName, IsItem, item_bytes, IsText, IsTextFault}
+use Rattle.tx_tree.specs.Texts.{Item, byte, symbol, is_item_byte, is_name_byte, IsName, IsItem, item_bytes, IsText}
+use Rattle.tx_tree.specs.Texts.{IsTextFault}
 use Rattle.tx_tree.specs.TextScan.{text_step, text_run, is_between, is_text, begins_text, fault_at, takes_byte}
 use Rattle.tx_base.proofs.Fronts.{take_less}
 

@@ -1,5 +1,6 @@
 -- Bytes have at most one fault as a text, none where they are one within the limit, and else one.
-use Rattle.std.proofs.Common.{◌≡◌, ℕ, zero, suc, ◌+◌, ◌<◌, ◌≤◌, true, List, [], ◌∷◌, ◌++◌, length, take, get_or, Option, Some, None, refl, sym, ap, subst, ◌∙◌, arith, ◌⊎◌, inl, inr, ⊎_elim}
+use Rattle.std.proofs.Common.{◌≡◌, ℕ, zero, suc, ◌+◌, ◌<◌, ◌≤◌, true, List, [], ◌∷◌, ◌++◌, length, take, get_or, Option}
+use Rattle.std.proofs.Common.{Some, None, refl, sym, ap, subst, ◌∙◌, arith, ◌⊎◌, inl, inr, ⊎_elim}
 use Rattle.std.specs.Prelude.{slice_get}
 use Rattle.std.proofs.lemmas.List.{append-nil, take_all}
 use Rattle.std.proofs.lemmas.Option.{get_or_from_slice_get}
@@ -12,7 +13,8 @@ use Rattle.tx_tree.specs.declared.texts.TextPlace.{TextPlace}
 use Rattle.tx_tree.specs.declared.texts.TextPlace.TheVariants.{Between, InSymbol}
 use Rattle.tx_tree.specs.Texts.{begins_no_item, IsText, IsTextFault}
 use Rattle.tx_tree.specs.TextScan.{text_step, text_run, fault_at}
-use Rattle.tx_tree.proofs.Scanning.{text_runs, begins_test, begins_some, run_more, ends_at, in_symbol, between_text, fault_there}
+use Rattle.tx_tree.proofs.Scanning.{text_runs, begins_test, begins_some, run_more, ends_at, in_symbol, between_text}
+use Rattle.tx_tree.proofs.Scanning.{fault_there}
 
 -- a front that is a text and one that is none are not the same
 apart : (bytes : List ℕ) (m n : ℕ) → IsLongestFront IsText bytes m → IsLongestFront IsText bytes n → IsText (take m bytes) → (IsText (take n bytes) → ⊥) → ⊥

@@ -1,7 +1,8 @@
 -- What a walk down a tree from outside rests on.
 use Rattle.std.proofs.Common.{◌≡◌, ℕ, zero, suc, ◌+◌, ◌<◌, ◌≤◌, List, [], ◌∷◌, length, drop, get_or, arith, add-one}
 use Rattle.std.specs.Prelude.{slice_get, Some, None}
-use Rattle.tx_tree.specs.WideTree.{WideTree, Forest, leaf, node, nil, cons, forest, trees, children_of, label_of, text_of, depth_of, deepest}
+use Rattle.tx_tree.specs.WideTree.{WideTree, Forest, leaf, node, nil, cons, forest, trees, children_of, label_of}
+use Rattle.tx_tree.specs.WideTree.{text_of, depth_of, deepest}
 use Rattle.tx_tree.proofs.Children.{forest_trees}
 
 -- a tree is a leaf or a node

@@ -1,5 +1,6 @@
 -- There are few units.
-use Rattle.std.proofs.Common.{◌≡◌, ℕ, zero, suc, ◌+◌, ◌*◌, ◌<◌, ◌≤◌, Bool, true, false, cond, List, [], ◌∷◌, ◌++◌, length, map, get_or, refl, sym, ap, arith, length-append, ◌∙◌}
+use Rattle.std.proofs.Common.{◌≡◌, ℕ, zero, suc, ◌+◌, ◌*◌, ◌<◌, ◌≤◌, Bool, true, false, cond, List, [], ◌∷◌, ◌++◌}
+use Rattle.std.proofs.Common.{length, map, get_or, refl, sym, ap, arith, length-append, ◌∙◌}
 use Rattle.std.specs.Prelude.{codes, not, if◌then◌else◌, ◌||◌, Option, Some, None, option_and_then, slice_get}
 use Rattle.std.specs.List.{AllByRecursion, filter, filter_map, flat_map, enumerate_from, list_any, cons_option}
 use Rattle.std.specs.Option.{option_map_or}
@@ -12,13 +13,16 @@ use Rattle.tx_doc.specs.Bodies.{is_labelled, body_of}
 use Rattle.tx_doc.specs.Buffers.{AreFormed, tree_of, number_of}
 use Rattle.tx_doc.specs.declared.buffer.Buffer.{Buffer}
 use Rattle.tx_tree.specs.Paths.{subtree}
-use Rattle.tx_tree.specs.WideTree.{WideTree, leaf, node, nil, cons, trees, children_of, text_of, arity_of, count, widest}
+use Rattle.tx_tree.specs.WideTree.{WideTree, leaf, node, nil, cons, trees, children_of, text_of, arity_of, count}
+use Rattle.tx_tree.specs.WideTree.{widest}
 use Rattle.tx_tree.proofs.Children.{count-trees}
 use Rattle.std.proofs.lemmas.List.Quantifiers.{position-Some}
 use Rattle.tx_units.specs.BaseStyle.{tag, assign, base_style}
 use Rattle.tx_units.specs.declared.kinds.UnitKind.TheVariants.{Style, Initial}
-use Rattle.tx_units.specs.Documents.{is_document, section, names_in, each_once, style_names, entries, paragraphs_in, paragraphs}
-use Rattle.tx_units.specs.Units.{unit, body_unit, front_units, base_units, loaded_units, absent_unit, named_units, style_units, entry_units, initial_units, units_at, body_units, units}
+use Rattle.tx_units.specs.Documents.{is_document, section, names_in, each_once, style_names, entries, paragraphs_in}
+use Rattle.tx_units.specs.Documents.{paragraphs}
+use Rattle.tx_units.specs.Units.{unit, body_unit, front_units, base_units, loaded_units, absent_unit, named_units}
+use Rattle.tx_units.specs.Units.{style_units, entry_units, initial_units, units_at, body_units, units}
 use Rattle.tx_units.proofs.Within.{child_inside, section_inside}
 
 abbrev Names : Type 0

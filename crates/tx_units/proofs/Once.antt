@@ -1,5 +1,6 @@
 -- A name that is put behind others, each of which stands there once.
-use Rattle.std.proofs.Common.{◌≡◌, ℕ, ◌+◌, ◌<◌, Bool, true, false, cond, List, [], ◌∷◌, ◌++◌, length, take, get_or, refl, sym, ap, ◌∙◌}
+use Rattle.std.proofs.Common.{◌≡◌, ℕ, ◌+◌, ◌<◌, Bool, true, false, cond, List, [], ◌∷◌, ◌++◌, length, take, get_or}
+use Rattle.std.proofs.Common.{refl, sym, ap, ◌∙◌}
 use Rattle.std.specs.Prelude.{not, if◌then◌else◌, ◌||◌, Option, Some, None}
 use Rattle.std.specs.List.{filter, filter_map, list_any, cons_option}
 use Rattle.std.specs.Str.{bytes_eq}

@@ -1,5 +1,6 @@
 -- The base style by texts that spell its trees.
-use Rattle.std.proofs.Common.{◌≡◌, ℕ, zero, suc, ◌+◌, ◌<◌, ◌≤◌, Bool, true, List, [], ◌∷◌, ◌++◌, length, map, take, get_or}
+use Rattle.std.proofs.Common.{◌≡◌, ℕ, zero, suc, ◌+◌, ◌<◌, ◌≤◌, Bool, true, List, [], ◌∷◌, ◌++◌, length, map, take}
+use Rattle.std.proofs.Common.{get_or}
 use Rattle.std.proofs.Common.{refl, sym, ap, arith, drop, ◌∙◌}
 use Rattle.std.specs.Prelude.{◌&&◌, nat_le, IfOk}
 use Rattle.std.proofs.Common.{Result, Ok, Err, Vec, Global}

@@ -9,7 +9,8 @@ use Rattle.std.specs.Ordering.{nat_cmp, eq_by_cmp, is_lt, is_eq}
 use Rattle.std.specs.declared.cmp.Ordering.{Ordering}
 use Rattle.std.specs.declared.cmp.Ordering.TheVariants.{Less, Equal, Greater}
 use Rattle.std.specs.Cmp.Lexicographic.{slice_cmp, nat_list_cmp_total, texts_ties, bytes_decides}
-use Rattle.std.specs.FinMap.{get, insert, entries, entries_sorted, from_entries, find, get-insert, get-entries, get-from_entries, is_sorted}
+use Rattle.std.specs.FinMap.{get, insert, entries, entries_sorted, from_entries, find, get-insert, get-entries}
+use Rattle.std.specs.FinMap.{get-from_entries, is_sorted}
 use Rattle.std.specs.FinMap.Entries.{below_all}
 use Rattle.tx_tree.specs.WideTree.{WideTree}
 use Rattle.tx_env.specs.Pairs.{Name}

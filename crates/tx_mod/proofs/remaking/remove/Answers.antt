@@ -1,5 +1,6 @@
 use Rattle.std.proofs.Common.{◌≡◌, ◌+◌, ◌++◌, [], take, drop, rules}
-use Rattle.tx_mod.proofs.Remade.{leaf_removed, node_removed, text_taken_out, nil_between, nil_between_bytes, items_within, node_is, made_ok}
+use Rattle.tx_mod.proofs.Remade.{leaf_removed, node_removed, text_taken_out, nil_between, nil_between_bytes}
+use Rattle.tx_mod.proofs.Remade.{items_within, node_is, made_ok}
 use Rattle.tx_mod.proofs.remaking.remove.Goals as goal
 
 pub leaf_of-requires-clause-text : goal.leaf_of-requires-clause-text

@@ -1,4 +1,5 @@
-use Rattle.std.proofs.Common.{◌≡◌, ℕ, ◌+◌, ◌-◌, ◌==◌, Bool, List, length, take, drop, count_by, cond, ap, ◌∙◌, arith, length-drop}
+use Rattle.std.proofs.Common.{◌≡◌, ℕ, ◌+◌, ◌-◌, ◌==◌, Bool, List, length, take, drop, count_by, cond, ap, ◌∙◌, arith}
+use Rattle.std.proofs.Common.{length-drop}
 use Rattle.std.proofs.Math.Seq.{take-add}
 use Rattle.std.proofs.lemmas.List.{take-append-drop, take_all, length-take-le}
 use Rattle.std.proofs.lemmas.List.Sums.{sum_by-append, count_by-le-length}

@@ -1,6 +1,7 @@
 use Rattle.std.proofs.Common.{◌≡◌, ◌+◌, ◌∙◌, sym, arith}
 use Rattle.tx_scan.specs.Stops.{first_stop_from}
-use Rattle.tx_scan.proofs.SearchLemmas.{first_stop_from-in_block, first_stop_from-past_block, first_stop_from-within, first_stop_from-before, first_stop_from-found}
+use Rattle.tx_scan.proofs.SearchLemmas.{first_stop_from-in_block, first_stop_from-past_block, first_stop_from-within}
+use Rattle.tx_scan.proofs.SearchLemmas.{first_stop_from-before, first_stop_from-found}
 use Rattle.tx_scan.proofs.search.first_stop.Goals as goal
 
 -- the place in a block where the loop ends is the answer

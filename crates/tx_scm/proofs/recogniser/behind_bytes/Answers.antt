@@ -1,7 +1,8 @@
 use Rattle.std.proofs.Common.{◌∙◌, arith}
 use Rattle.tx_scm.proofs.Places.{bytes_more, bytes_differ, bytes_end, bytes_found}
 use Rattle.tx_scm.proofs.recogniser.behind_bytes.Goals as goal
-use Rattle.tx_scm.proofs.recogniser.behind_bytes.Goals.{then-end-bytes-via-then-end-bytes, then-end-bytes-via-else-end-bytes+then-bytes-end}
+use Rattle.tx_scm.proofs.recogniser.behind_bytes.Goals.{then-end-bytes-via-then-end-bytes}
+use Rattle.tx_scm.proofs.recogniser.behind_bytes.Goals.{then-end-bytes-via-else-end-bytes+then-bytes-end}
 
 pub returns-then-end-bytes : goal.returns-then-end-bytes
 returns-then-end-bytes c =

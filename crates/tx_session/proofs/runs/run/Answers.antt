@@ -6,7 +6,8 @@ use Rattle.tx_outside.proofs.Counting.{never_falls_refl, never_falls_then}
 use Rattle.tx_session.specs.Playing.{IsServed}
 use Rattle.tx_session.specs.Outcomes.{no_memory}
 use Rattle.tx_session.specs.Worlds.{stored, world}
-use Rattle.tx_session.proofs.Causes.{opened_run, line_run, served_long, served_complete, served_unread, unopened_run, unopened_causes}
+use Rattle.tx_session.proofs.Causes.{opened_run, line_run, served_long, served_complete, served_unread, unopened_run}
+use Rattle.tx_session.proofs.Causes.{unopened_causes}
 use Rattle.tx_session.proofs.runs.run.Goals as goal
 
 pub returns-in-Ok-clause-run : goal.returns-in-Ok-clause-run

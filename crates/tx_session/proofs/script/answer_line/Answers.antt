@@ -4,7 +4,8 @@ use Rattle.tx_cmd.specs.Commands.{IsCommand}
 use Rattle.tx_cmd.specs.Refusals.{IsCmdFault}
 use Rattle.tx_session.specs.Replies.{IsAsked}
 use Rattle.tx_session.specs.Worlds.{world}
-use Rattle.tx_session.proofs.Turning.{long_turned, refused_turned, empty_turned, stepped_turned, some_line, no_line, nothing_written}
+use Rattle.tx_session.proofs.Turning.{long_turned, refused_turned, empty_turned, stepped_turned, some_line, no_line}
+use Rattle.tx_session.proofs.Turning.{nothing_written}
 use Rattle.tx_session.proofs.script.answer_line.Goals as goal
 
 pub returns-in-Err-clause-answered : goal.returns-in-Err-clause-answered

@@ -6,7 +6,8 @@ use Rattle.tx_session.specs.declared.script.Turn.TheVariants as turns
 use Rattle.tx_session.specs.Worlds.{world}
 use Rattle.tx_session.proofs.StoreCalls.{goes_on_refl, goes_on_then}
 use Rattle.tx_session.proofs.Standing.{stands_first}
-use Rattle.tx_session.proofs.Ending.{at_end, nothing_left, failed_end, stopped_in_read, long_read, read_on, room_on, count_on}
+use Rattle.tx_session.proofs.Ending.{at_end, nothing_left, failed_end, stopped_in_read, long_read, read_on, room_on}
+use Rattle.tx_session.proofs.Ending.{count_on}
 use Rattle.tx_session.proofs.script.play.Goals as goal
 
 pub loop-session-init : goal.loop-session-init

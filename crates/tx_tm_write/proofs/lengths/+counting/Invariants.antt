@@ -1,6 +1,7 @@
 use Rattle.std.proofs.Common.{◌≡◌, ◌≤◌, ◌+◌, ◌*◌, ◌++◌, ◌∷◌, [], length, drop, false}
 use Rattle.tx_tree.specs.WideTree.{forest, children_of, depth_of}
-use Rattle.tx_tm_write.specs.Canonical.{opened, arguments_text, long_text, parts_text, paragraphs_text, tags_text, with_ends}
+use Rattle.tx_tm_write.specs.Canonical.{opened, arguments_text, long_text, parts_text, paragraphs_text, tags_text}
+use Rattle.tx_tm_write.specs.Canonical.{with_ends}
 use Rattle.tx_tm_write.specs.Counts.{capped}
 use Rattle.tx_tm_write.proofs.lengths.+counting.Given as goal
 

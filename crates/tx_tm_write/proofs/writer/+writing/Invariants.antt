@@ -1,7 +1,8 @@
 use Rattle.std.proofs.Common.{◌≡◌, ◌+◌, ◌*◌, ◌++◌, ◌∷◌, [], length, take, drop, false}
 use Rattle.tx_tree.specs.WideTree.{forest, children_of, depth_of}
 use Rattle.tx_tm_form.specs.Parts.{collection_label}
-use Rattle.tx_tm_write.specs.Canonical.{opened, arguments_text, long_text, parts_text, paragraphs_text, tags_text, with_ends}
+use Rattle.tx_tm_write.specs.Canonical.{opened, arguments_text, long_text, parts_text, paragraphs_text, tags_text}
+use Rattle.tx_tm_write.specs.Canonical.{with_ends}
 use Rattle.tx_tm_write.proofs.writer.+writing.Given as goal
 
 abbrev pub decreases-append_short : goal.decreases-append_short

@@ -2,7 +2,8 @@ use Rattle.std.proofs.Common.{◌-◌, length, take, drop, sym, ◌∙◌}
 use Rattle.std.specs.Prelude.{Some, None}
 use Rattle.std.proofs.lemmas.List.Elements.{All-take, All-drop, All-same}
 use Rattle.tx_view_form.specs.Positions.{IsShort}
-use Rattle.tx_view.proofs.NearPlaces.{near_own, near_above, near_rest, near_below, near_unit, own_is, rest_is, unit_made}
+use Rattle.tx_view.proofs.NearPlaces.{near_own, near_above, near_rest, near_below, near_unit, own_is, rest_is}
+use Rattle.tx_view.proofs.NearPlaces.{unit_made}
 use Rattle.tx_view.proofs.places.nearest.Goals as goal
 
 pub returns-in-Some : goal.returns-in-Some

@@ -20,7 +20,8 @@ use Rattle.tx_exec.proofs.Sizes.{next_size, next_depth}
 use Rattle.tx_exec.proofs.Levels.{ex_leaf, ex_node}
 use Rattle.tx_exec.proofs.WithLoop.{row_odd, row_even, two_kids, pair_stop, pair_bad, pair_next, with_last, told_next}
 use Rattle.tx_exec.proofs.WithLoop.{set_back, with_unpaid, with_begun, held_begun, held_done}
-use Rattle.tx_exec.proofs.Choosing.{pick_stop, pick_bad, pick_true, pick_false, pick_last, pick_nothing, found_as, odd_count}
+use Rattle.tx_exec.proofs.Choosing.{pick_stop, pick_bad, pick_true, pick_false, pick_last, pick_nothing, found_as}
+use Rattle.tx_exec.proofs.Choosing.{odd_count}
 use Rattle.tx_exec.proofs.Turning.{turn_stop, turn_bad, turn_end, body_stop, turn_next, last_stop, last_bad, last_holds}
 use Rattle.tx_exec.proofs.Turning.{one_less}
 use Rattle.tx_exec.proofs.progress.Progress.+ev.Goals as goal

@@ -1,11 +1,13 @@
-use Rattle.std.proofs.Common.{◌≡◌, ℕ, ◌-◌, ◌%◌, ◌^◌, ◌<◌, ◌≤◌, ltb, eqb, List, ◌++◌, map, length, take, get_or, replicate, bit_or, sym, ap, ap₂, ◌∙◌, subst, arith}
+use Rattle.std.proofs.Common.{◌≡◌, ℕ, ◌-◌, ◌%◌, ◌^◌, ◌<◌, ◌≤◌, ltb, eqb, List, ◌++◌, map, length, take, get_or}
+use Rattle.std.proofs.Common.{replicate, bit_or, sym, ap, ap₂, ◌∙◌, subst, arith}
 use Rattle.std.proofs.lemmas.List.{take_all}
 use Rattle.std.proofs.lemmas.Simd.{zip2_splat, length-chunk}
 use lib.Count.{count_trailing_zeros}
 use lib.Lanes.{chunk, zip2, mask_l, top}
 use Rattle.tx_scan.specs.Stops.{is_stop}
 use Rattle.tx_scan.proofs.SetLemmas.{is_stop-inside, is_stop_more, or_false}
-use Rattle.tx_scan.proofs.LaneLemmas.{lanes_passing, lanes_passing-same, lanes_passing-or, none_in_block, first_in_block}
+use Rattle.tx_scan.proofs.LaneLemmas.{lanes_passing, lanes_passing-same, lanes_passing-or, none_in_block}
+use Rattle.tx_scan.proofs.LaneLemmas.{first_in_block}
 use Rattle.tx_scan.proofs.stop_set.Stops.run_in_block.Goals as goal
 
 pub loop-byte-init : goal.loop-byte-init

@@ -2,7 +2,8 @@ use Rattle.std.proofs.Common.{arith, sym, ◌∙◌}
 use Rattle.std.proofs.lemmas.Bool.{eqb-true}
 use Rattle.tx_tree.proofs.Labelling.{label_stops, label_empty}
 use Rattle.tx_tree.proofs.labels.Label.new.Goals as goal
-use Rattle.tx_tree.proofs.labels.Label.new.Goals.{then-i-eq-MOST_LABEL-via-then-i-eq-MOST_LABEL, then-i-eq-MOST_LABEL-via-else-i-eq-MOST_LABEL+then-not-is_label_byte}
+use Rattle.tx_tree.proofs.labels.Label.new.Goals.{then-i-eq-MOST_LABEL-via-then-i-eq-MOST_LABEL}
+use Rattle.tx_tree.proofs.labels.Label.new.Goals.{then-i-eq-MOST_LABEL-via-else-i-eq-MOST_LABEL+then-not-is_label_byte}
 
 pub returns-then-i-eq-MOST_LABEL-clause-refused : goal.returns-then-i-eq-MOST_LABEL-clause-refused
 returns-then-i-eq-MOST_LABEL-clause-refused c =

@@ -2,7 +2,8 @@ use Rattle.std.proofs.Common.{◌≡◌, ◌≤◌, length, [], sym, ap, subst, 
 use Rattle.std.proofs.lemmas.List.{nil_from_length}
 use Rattle.tx_tree.specs.PathSpelling.{SpellsPath}
 use Rattle.tx_tree.specs.PathScan.{path_state, reading}
-use Rattle.tx_tree.proofs.PathReading.{run_more, stops_at, ends_at_start, ends_at_slash, read_path, read_root, whole_run}
+use Rattle.tx_tree.proofs.PathReading.{run_more, stops_at, ends_at_start, ends_at_slash, read_path, read_root}
+use Rattle.tx_tree.proofs.PathReading.{whole_run}
 use Rattle.tx_tree.proofs.paths.Path.parse.Goals as goal
 
 pub returns-in-None-clause-refused : goal.returns-in-None-clause-refused
