@@ -1,6 +1,6 @@
 -- The operands of a primitive, and what its value costs.
 use Rattle.std.proofs.Common.{◌≡◌, ℕ, suc, ◌+◌, ◌-◌, ◌<◌, ◌≤◌, Bool, true, false, List, [], ◌∷◌, ◌++◌, length, drop}
-use Rattle.std.proofs.Common.{get_or, map, drop-cons, append_assoc, refl, sym, ap, min, ◌∙◌, ⊎_elim, add-one, arith}
+use Rattle.std.proofs.Common.{get_or, map, append_assoc, refl, sym, ap, min, ◌∙◌, ⊎_elim, arith}
 use Rattle.std.specs.Prelude.{if◌then◌else◌, nat_le, None}
 use Rattle.std.proofs.lemmas.Grind.{common_steps}
 use Rattle.std.proofs.lemmas.Bool.{cases_lt}

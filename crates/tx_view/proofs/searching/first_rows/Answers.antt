@@ -1,6 +1,6 @@
 use Rattle.std.proofs.Common.{◌≡◌, ◌+◌, length, map, refl, ap, rules, arith}
 use Rattle.tx_view_form.specs.Views.{UnitView}
-use Rattle.tx_view.proofs.UnitRows.{sums_fit, sums_next, as_many_errors, placed_errors}
+use Rattle.tx_view.proofs.UnitRows.{sums_fit, sums_next}
 use Rattle.tx_view.proofs.searching.first_rows.Goals as goal
 
 pub overflow_cast-count : goal.overflow_cast-count

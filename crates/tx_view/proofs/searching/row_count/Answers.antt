@@ -2,7 +2,7 @@ use Rattle.std.proofs.Common.{◌-◌, length, refl, ap, arith}
 use Rattle.tx_view_form.specs.Views.{UnitView}
 use Rattle.tx_view.specs.Units.{unit_views, row_counts}
 use Rattle.tx_view.proofs.Numbering.{sums_length}
-use Rattle.tx_view.proofs.UnitRows.{last_is, placed_errors, as_many_errors}
+use Rattle.tx_view.proofs.UnitRows.{last_is}
 use Rattle.tx_view.proofs.searching.row_count.Goals as goal
 
 pub overflow_sub-result : goal.overflow_sub-result

@@ -5,7 +5,7 @@ use Rattle.tx_exec_form.specs.Evaluated.{evaluated}
 use Rattle.tx_exec.specs.States.{before_of}
 use Rattle.tx_exec.specs.Outcomes.{wide_trace, wide_outcome, NamesOnce}
 use Rattle.tx_view_form.specs.Outcomes.{value_of}
-use Rattle.tx_view.proofs.Evaluating.{moment_at, outcome_at, charge_at, over_at, done_at, paid_at}
+use Rattle.tx_view.proofs.Evaluating.{outcome_at, charge_at, over_at, done_at, paid_at}
 use Rattle.tx_view.proofs.moments.Moment.evaluate.Goals as goal
 
 pub returns-in_ok-value-in-Over-clause-value : goal.returns-in_ok-value-in-Over-clause-value
