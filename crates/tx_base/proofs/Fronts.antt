@@ -14,15 +14,20 @@ take_less (b ∷ bytes) (suc i) (suc m) h = let t = take_less bytes i m (omega a
 
 -- what is spelled is a front, all of it
 pub whole_front : (P : List ℕ → Type 0) (bytes : List ℕ) → P bytes → IsFront P bytes (length bytes)
-whole_front P bytes h = (omega arith, ([], subst P (sym (append-nil (take (length bytes) bytes) ∙ take_all (length bytes) bytes (omega arith))) h))
+whole_front P bytes h = (
+  omega arith,
+  ([], subst P (sym (append-nil (take (length bytes) bytes) ∙ take_all (length bytes) bytes (omega arith))) h),
+)
 
 -- where the bytes can be continued, and not with the next byte too
-pub ends_before : (P : List ℕ → Type 0) (bytes : List ℕ) (i : ℕ) → i < length bytes → (more : List ℕ) × P (take i bytes ++ more) → ((more : List ℕ) → P (take (i + 1) bytes ++ more) → ⊥)
+pub ends_before : (P : List ℕ → Type 0) (bytes : List ℕ) (i : ℕ) → i < length bytes
+    → (more : List ℕ) × P (take i bytes ++ more) → ((more : List ℕ) → P (take (i + 1) bytes ++ more) → ⊥)
     → IsLongestFront P bytes i × (P bytes → ⊥)
 ends_before P bytes i lt front stops = (
   record {
     front = (omega arith, front);
-    longest = λ m f. ⊎_elim (λ (past : i < m). absurd (no_front m past f.1.0 f.1.1)) (λ (le : m ≤ i). le) (cases_lt i m);
+    longest = λ m f. ⊎_elim (λ (past : i < m). absurd (no_front m past f.1.0 f.1.1)) (λ (le : m ≤ i). le)
+        (cases_lt i m);
   },
   λ h. let all = whole_front P bytes h in no_front (length bytes) lt all.1.0 all.1.1,
 )
@@ -33,12 +38,21 @@ ends_before P bytes i lt front stops = (
         stops (t.0 ++ more) (subst P (ap (λ x. x ++ more) t.1 ∙ append_assoc (take (i + 1) bytes) t.0 more) h)
 
 -- where all bytes can be continued, and are none themselves
-pub ends_behind : (P : List ℕ → Type 0) (bytes : List ℕ) → (more : List ℕ) × P (bytes ++ more) → (P bytes → ⊥) → IsLongestFront P bytes (length bytes) × (P bytes → ⊥)
+pub ends_behind : (P : List ℕ → Type 0) (bytes : List ℕ) → (more : List ℕ) × P (bytes ++ more) → (P bytes → ⊥)
+    → IsLongestFront P bytes (length bytes) × (P bytes → ⊥)
 ends_behind P bytes front none = (
-  record { front = (omega arith, subst (λ x. (more : List ℕ) × P (x ++ more)) (sym (take_all (length bytes) bytes (omega arith))) front); longest = λ m f. f.0 },
+  record {
+    front = (
+      omega arith,
+      subst (λ x. (more : List ℕ) × P (x ++ more)) (sym (take_all (length bytes) bytes (omega arith)))
+          front,
+    );
+    longest = λ m f. f.0;
+  },
   none,
 )
 
 -- two longest fronts are one
-pub one_front : (P : List ℕ → Type 0) (bytes : List ℕ) (n m : ℕ) → IsLongestFront P bytes n → IsLongestFront P bytes m → n ≡ m
+pub one_front : (P : List ℕ → Type 0) (bytes : List ℕ) (n m : ℕ) → IsLongestFront P bytes n → IsLongestFront P bytes m
+    → n ≡ m
 one_front P bytes n m h k = let a : n ≤ m = k.longest n h.front in let b : m ≤ n = h.longest m k.front in omega arith

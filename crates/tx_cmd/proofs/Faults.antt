@@ -18,25 +18,39 @@ use Rattle.tx_cmd.specs.declared.TheConstants.{MOST_LINE}
 use Rattle.tx_cmd.proofs.LooseFronts.{loose_cut, line_misfit}
 
 -- the first piece is bad
-pub fault_here : (a : ArgumentKind) (more : List ArgumentKind) (bytes piece rest : List ℕ) (at : ℕ) (fault : CmdFault) → tree_is_last (a ∷ more) ≡ true → IsCut a bytes piece rest → AreLoose (a ∷ more) bytes
+pub fault_here : (a : ArgumentKind) (more : List ArgumentKind) (bytes piece rest : List ℕ) (at : ℕ) (fault : CmdFault)
+    → tree_is_last (a ∷ more) ≡ true → IsCut a bytes piece rest → AreLoose (a ∷ more) bytes
     → IsBadPiece a piece (at + 1) fault → IsFirstFault (a ∷ more) bytes at fault
-fault_here a more bytes piece rest at fault o c h bad = let w = loose_cut a more bytes piece rest o c h in (piece, rest, c.are, w.0, w.1, inl bad)
+fault_here a more bytes piece rest at fault o c h bad = let w = loose_cut a more bytes piece rest o c h in
+    (piece, rest, c.are, w.0, w.1, inl bad)
 
 -- the first piece is good, and one behind it is bad
-pub fault_behind : (v : Value) (more : List ArgumentKind) (bytes piece rest : List ℕ) (at : ℕ) (fault : CmdFault) → tree_is_last (kind_of v ∷ more) ≡ true → IsCut (kind_of v) bytes piece rest
-    → AreLoose (kind_of v ∷ more) bytes → Means piece v → IsFirstFault more rest (at + 1 + length piece) fault → IsFirstFault (kind_of v ∷ more) bytes at fault
-fault_behind v more bytes piece rest at fault o c h means bad = let w = loose_cut (kind_of v) more bytes piece rest o c h in (piece, rest, c.are, w.0, w.1, inr ((v, refl, means), bad))
+pub fault_behind : (v : Value) (more : List ArgumentKind) (bytes piece rest : List ℕ) (at : ℕ) (fault : CmdFault)
+    → tree_is_last (kind_of v ∷ more) ≡ true → IsCut (kind_of v) bytes piece rest
+    → AreLoose (kind_of v ∷ more) bytes → Means piece v → IsFirstFault more rest (at + 1 + length piece) fault
+    → IsFirstFault (kind_of v ∷ more) bytes at fault
+fault_behind v more bytes piece rest at fault o c h means bad = let w =
+    loose_cut (kind_of v) more bytes piece rest o c h in (piece, rest, c.are, w.0, w.1, inr ((v, refl, means), bad))
 
 -- a line that has not the form of a command with its first word
-pub args_fault : (w : Word) (line first rest : List ℕ) (n : ℕ) → length line ≤ MOST_LINE → first ≡ first_word line → first ≡ word_text w → line ≡ first ++ rest → IsMisfit (arguments_of w) rest (Some n)
+pub args_fault : (w : Word) (line first rest : List ℕ) (n : ℕ) → length line ≤ MOST_LINE → first ≡ first_word line
+    → first ≡ word_text w → line ≡ first ++ rest → IsMisfit (arguments_of w) rest (Some n)
     → IsCmdFault line (Args (length first + n))
 args_fault w line first rest n short is_first is_word are h =
     let m = line_misfit w rest n h in
     let same : word_text w ≡ first_word line = sym is_word ∙ is_first in
     let whole : word_text w ++ rest ≡ line = ap (λ x. x ++ rest) (sym is_word) ∙ sym are in
-    let none : IsLoose (first_word line) line → ⊥ = subst (λ x. IsLoose x line → ⊥) same (subst (λ x. IsLoose (word_text w) x → ⊥) whole m.0) in
-    let front : IsLongestFront (IsLoose (first_word line)) line (length (word_text w) + n) = subst (λ x. IsLongestFront (IsLoose x) line (length (word_text w) + n)) same (subst (λ x. IsLongestFront (IsLoose (word_text w)) x (length (word_text w) + n)) whole m.1) in
-    (short, (w, sym same), none, subst (λ x. IsLongestFront (IsLoose (first_word line)) line (length x + n)) (sym is_word) front)
+    let none : IsLoose (first_word line) line
+    → ⊥ = subst (λ x. IsLoose x line → ⊥) same (subst (λ x. IsLoose (word_text w) x → ⊥) whole m.0) in
+    let front : IsLongestFront (IsLoose (first_word line)) line (length (word_text w) + n) =
+    subst (λ x. IsLongestFront (IsLoose x) line (length (word_text w) + n)) same
+    (subst (λ x. IsLongestFront (IsLoose (word_text w)) x (length (word_text w) + n)) whole m.1) in (
+      short,
+      (w, sym same),
+      none,
+      subst (λ x. IsLongestFront (IsLoose (first_word line)) line (length x + n))
+          (sym is_word) front,
+    )
 
 -- ---- which faults pieces have
 
@@ -71,24 +85,45 @@ bad_kind NumberArgument piece at f h = absurd h
 bad_kind LabelArgument piece at f h = absurd h
 bad_kind NameArgument piece at f h = absurd h
 
-first_kind : (arguments : List ArgumentKind) (bytes : List ℕ) (at : ℕ) (f : CmdFault) → IsFirstFault arguments bytes at f → IsPieceFault f
+first_kind : (arguments : List ArgumentKind) (bytes : List ℕ) (at : ℕ) (f : CmdFault)
+    → IsFirstFault arguments bytes at f → IsPieceFault f
 first_kind [] bytes at f h = absurd h
 first_kind (a ∷ more) bytes at f h =
-    ⊎_elim (λ (x : IsBadPiece a h.0 (at + 1) f). bad_kind a h.0 (at + 1) f x) (λ (y : HasMeaning a h.0 × IsFirstFault more h.1 (at + 1 + length h.0) f). first_kind more h.1 (at + 1 + length h.0) f y.1) h.5
+    ⊎_elim (λ (x : IsBadPiece a h.0 (at + 1) f). bad_kind a h.0 (at + 1) f x)
+    (λ (y : HasMeaning a h.0 × IsFirstFault more h.1 (at + 1 + length h.0) f). first_kind more h.1
+    (at + 1 + length h.0) f y.1) h.5
 
 -- a line whose pieces have a fault
-pub piece_fault : (w : Word) (line first rest : List ℕ) (f : CmdFault) → length line ≤ MOST_LINE → first ≡ word_text w → line ≡ first ++ rest
+pub piece_fault : (w : Word) (line first rest : List ℕ) (f : CmdFault) → length line ≤ MOST_LINE → first ≡ word_text w
+    → line ≡ first ++ rest
     → (f ≢ Memory → IsFirstFault (arguments_of w) rest (length first) f) → IsCmdFault line f
-piece_fault w line first rest (Long n) short is_word are h = absurd (first_kind (arguments_of w) rest (length first) (Long n) (h (λ e. cc)))
-piece_fault w line first rest Unknown short is_word are h = absurd (first_kind (arguments_of w) rest (length first) Unknown (h (λ e. cc)))
-piece_fault w line first rest (Args n) short is_word are h = absurd (first_kind (arguments_of w) rest (length first) (Args n) (h (λ e. cc)))
-piece_fault w line first rest (Path n) short is_word are h =
-    (short, (w, rest, are ∙ ap (λ x. x ++ rest) is_word, subst (λ x. IsFirstFault (arguments_of w) rest (length x) (Path n)) is_word (h path_apart)))
+piece_fault w line first rest (Long n) short is_word are h =
+    absurd (first_kind (arguments_of w) rest (length first) (Long n) (h (λ e. cc)))
+piece_fault w line first rest Unknown short is_word are h =
+    absurd (first_kind (arguments_of w) rest (length first) Unknown (h (λ e. cc)))
+piece_fault w line first rest (Args n) short is_word are h =
+    absurd (first_kind (arguments_of w) rest (length first) (Args n) (h (λ e. cc)))
+piece_fault w line first rest (Path n) short is_word are h = (
+  short,
+  (
+    w,
+    rest,
+    are ∙ ap (λ x. x ++ rest) is_word,
+    subst (λ x. IsFirstFault (arguments_of w) rest (length x) (Path n)) is_word (h path_apart),
+  ),
+)
   where
     path_apart : Path n ≡ Memory → ⊥
     path_apart e = cc
-piece_fault w line first rest (Tree fault) short is_word are h =
-    (short, (w, rest, are ∙ ap (λ x. x ++ rest) is_word, subst (λ x. IsFirstFault (arguments_of w) rest (length x) (Tree fault)) is_word (h tree_apart)))
+piece_fault w line first rest (Tree fault) short is_word are h = (
+  short,
+  (
+    w,
+    rest,
+    are ∙ ap (λ x. x ++ rest) is_word,
+    subst (λ x. IsFirstFault (arguments_of w) rest (length x) (Tree fault)) is_word (h tree_apart),
+  ),
+)
   where
     tree_apart : Tree fault ≡ Memory → ⊥
     tree_apart e = cc

@@ -89,7 +89,8 @@ mean_loose : (values : List Value) (bytes : List ℕ) → Mean bytes values → 
 mean_loose [] bytes h = h
 mean_loose (v ∷ values) bytes h = (h.0, h.1, means_loose h.0 v h.2, mean_loose values h.1 h.3, h.4)
 
-one_values : (vs us : List Value) (x : List ℕ) → kinds vs ≡ kinds us → tree_is_last (kinds vs) ≡ true → Mean x vs → Mean x us → vs ≡ us
+one_values : (vs us : List Value) (x : List ℕ) → kinds vs ≡ kinds us → tree_is_last (kinds vs) ≡ true → Mean x vs
+    → Mean x us → vs ≡ us
 one_values [] [] x e o h k = refl
 one_values [] (u ∷ us) x e o h k = absurd cc
 one_values (v ∷ vs) [] x e o h k = absurd cc
@@ -98,9 +99,12 @@ one_values (v ∷ vs) (u ∷ us) x e o h k =
     let others : kinds vs ≡ kinds us = cc in
     let there : AreLoose (kinds vs) k.1 = subst (λ x. AreLoose x k.1) (sym others) (mean_loose us k.1 k.3) in
     let piece : IsLoosePiece (kind_of v) k.0 = subst (λ x. IsLoosePiece x k.0) (sym same) (means_loose k.0 u k.2) in
-    let w = one_cut (kind_of v) h.0 k.0 h.1 k.1 (sym h.4 ∙ k.4) (loose_ends (kind_of v) (kinds vs) h.0 h.1 o (means_loose h.0 v h.2) (mean_loose vs h.1 h.3)) (loose_ends (kind_of v) (kinds vs) k.0 k.1 o piece there) in
+    let w = one_cut (kind_of v) h.0 k.0 h.1 k.1 (sym h.4 ∙ k.4)
+    (loose_ends (kind_of v) (kinds vs) h.0 h.1 o (means_loose h.0 v h.2) (mean_loose vs h.1 h.3))
+    (loose_ends (kind_of v) (kinds vs) k.0 k.1 o piece there) in
     let first : v ≡ u = one_value k.0 v u same (subst (λ x. Means x v) w.0 h.2) k.2 in
-    let rest : vs ≡ us = one_values vs us k.1 others (last_of (kind_of v) (kinds vs) o) (subst (λ x. Mean x vs) w.1 h.3) k.3 in
+    let rest : vs ≡ us = one_values vs us k.1 others (last_of (kind_of v) (kinds vs) o) (subst (λ x. Mean x vs) w.1 h.3)
+    k.3 in
     rw (first, rest) refl
 
 -- ---- commands
@@ -171,9 +175,12 @@ made_again (Save n) = refl
 made_again Quit = refl
 
 -- the word of a line, and what stands behind it, are the same however it is read
-same_word : (w v : Word) (r s line : List ℕ) → line ≡ word_text w ++ r → line ≡ word_text v ++ s → IsTail r → IsTail s → (w ≡ v) × (r ≡ s)
+same_word : (w v : Word) (r s line : List ℕ) → line ≡ word_text w ++ r → line ≡ word_text v ++ s → IsTail r → IsTail s
+    → (w ≡ v) × (r ≡ s)
 same_word w v r s line e f hr hs =
-    let same : w ≡ v = one_word w v (sym (word_is (word_text w) r line e (word_no_space w) hr) ∙ word_is (word_text v) s line f (word_no_space v) hs) in
+    let same : w ≡ v =
+    one_word w v (sym (word_is (word_text w) r line e (word_no_space w) hr)
+    ∙ word_is (word_text v) s line f (word_no_space v) hs) in
     (same, append_cancel_left (word_text v) r s (ap (λ x. word_text x ++ r) (sym same) ∙ sym e ∙ f))
 
 command_in_order : (c : Command) → tree_is_last (kinds (values_of c)) ≡ true
@@ -186,14 +193,18 @@ pub one_command : (line : List ℕ) (c d : Command) → IsCommand line c → IsC
 one_command line c d h k =
     let r = h.1.0 in
     let s = k.1.0 in
-    let w = same_word (word_of c) (word_of d) r s line h.1.2 k.1.2 (mean_tail (values_of c) r h.1.1) (mean_tail (values_of d) s k.1.1) in
-    let same_kinds : kinds (values_of c) ≡ kinds (values_of d) = command_kinds c ∙ ap arguments_of w.0 ∙ sym (command_kinds d) in
-    let values : values_of c ≡ values_of d = one_values (values_of c) (values_of d) s same_kinds (command_in_order c) (subst (λ x. Mean x (values_of c)) w.1 h.1.1) k.1.1 in
+    let w = same_word (word_of c) (word_of d) r s line h.1.2 k.1.2 (mean_tail (values_of c) r h.1.1)
+    (mean_tail (values_of d) s k.1.1) in
+    let same_kinds : kinds (values_of c) ≡ kinds (values_of d) = command_kinds c ∙ ap arguments_of w.0
+    ∙ sym (command_kinds d) in
+    let values : values_of c ≡ values_of d = one_values (values_of c) (values_of d) s same_kinds (command_in_order c)
+    (subst (λ x. Mean x (values_of c)) w.1 h.1.1) k.1.1 in
     sym (made_again c) ∙ ap (λ x. made x (values_of c)) w.0 ∙ ap (made (word_of d)) values ∙ made_again d
 
 -- ---- causes
 
-bad_path_is : (piece : List ℕ) (at : ℕ) (f : CmdFault) → IsBadPath piece at f → (m : ℕ) × IsPathFault piece (BadPath m) × (f ≡ Path (at + m))
+bad_path_is : (piece : List ℕ) (at : ℕ) (f : CmdFault) → IsBadPath piece at f → (m : ℕ) × IsPathFault piece (BadPath m)
+    × (f ≡ Path (at + m))
 bad_path_is piece at (Path n) h = (h.0, h.1, ap (λ x. Path x) h.2)
 bad_path_is piece at (Long n) h = absurd h
 bad_path_is piece at Unknown h = absurd h
@@ -201,7 +212,8 @@ bad_path_is piece at (Args n) h = absurd h
 bad_path_is piece at (TreeFault fault) h = absurd h
 bad_path_is piece at Memory h = absurd h
 
-bad_tree_is : (piece : List ℕ) (at : ℕ) (f : CmdFault) → IsBadTree piece at f → (there : ReadFault) × IsSchemeFault piece there × (f ≡ TreeFault (moved at there))
+bad_tree_is : (piece : List ℕ) (at : ℕ) (f : CmdFault) → IsBadTree piece at f
+    → (there : ReadFault) × IsSchemeFault piece there × (f ≡ TreeFault (moved at there))
 bad_tree_is piece at (TreeFault fault) h = (h.0, h.1, ap (λ x. TreeFault x) h.2)
 bad_tree_is piece at (Long n) h = absurd h
 bad_tree_is piece at Unknown h = absurd h
@@ -209,7 +221,8 @@ bad_tree_is piece at (Args n) h = absurd h
 bad_tree_is piece at (Path n) h = absurd h
 bad_tree_is piece at Memory h = absurd h
 
-one_bad : (a : ArgumentKind) (piece : List ℕ) (at : ℕ) (f g : CmdFault) → IsBadPiece a piece at f → IsBadPiece a piece at g → f ≡ g
+one_bad : (a : ArgumentKind) (piece : List ℕ) (at : ℕ) (f g : CmdFault) → IsBadPiece a piece at f
+    → IsBadPiece a piece at g → f ≡ g
 one_bad PathArgument piece at f g h k =
     let x = bad_path_is piece at f h in
     let y = bad_path_is piece at g k in
@@ -222,13 +235,15 @@ one_bad NumberArgument piece at f g h k = absurd h
 one_bad LabelArgument piece at f g h k = absurd h
 one_bad NameArgument piece at f g h k = absurd h
 
-bad_means_none : (a : ArgumentKind) (piece : List ℕ) (at : ℕ) (f : CmdFault) (v : Value) → kind_of v ≡ a → IsBadPiece a piece at f → Means piece v → ⊥
+bad_means_none : (a : ArgumentKind) (piece : List ℕ) (at : ℕ) (f : CmdFault) (v : Value) → kind_of v ≡ a
+    → IsBadPiece a piece at f → Means piece v → ⊥
 bad_means_none PathArgument piece at f (a_path p) e h k = (bad_path_is piece at f h).1.1 (p, k)
 bad_means_none PathArgument piece at f (a_number n) e h k = absurd cc
 bad_means_none PathArgument piece at f (a_label l) e h k = absurd cc
 bad_means_none PathArgument piece at f (a_name n) e h k = absurd cc
 bad_means_none PathArgument piece at f (a_tree t) e h k = absurd cc
-bad_means_none TreeArgument piece at f (a_tree t) e h k = let x = bad_tree_is piece at f h in none piece x.0 t x.1 k.0 k.1
+bad_means_none TreeArgument piece at f (a_tree t) e h k = let x = bad_tree_is piece at f h in
+    none piece x.0 t x.1 k.0 k.1
 bad_means_none TreeArgument piece at f (a_path p) e h k = absurd cc
 bad_means_none TreeArgument piece at f (a_number n) e h k = absurd cc
 bad_means_none TreeArgument piece at f (a_label l) e h k = absurd cc
@@ -237,73 +252,95 @@ bad_means_none NumberArgument piece at f v e h k = h
 bad_means_none LabelArgument piece at f v e h k = h
 bad_means_none NameArgument piece at f v e h k = h
 
-first_loose : (arguments : List ArgumentKind) (bytes : List ℕ) (at : ℕ) (f : CmdFault) → IsFirstFault arguments bytes at f → AreLoose arguments bytes
+first_loose : (arguments : List ArgumentKind) (bytes : List ℕ) (at : ℕ) (f : CmdFault)
+    → IsFirstFault arguments bytes at f → AreLoose arguments bytes
 first_loose [] bytes at f h = absurd h
 first_loose (a ∷ more) bytes at f h = (h.0, h.1, h.3, h.4, h.2)
 
 -- the piece is bad, or it is good and one behind it is bad
 abbrev HasFault : ArgumentKind → List ArgumentKind → ℕ → CmdFault → List ℕ → List ℕ → Type 0
-HasFault a more at f piece rest = IsBadPiece a piece (at + 1) f ⊎ (HasMeaning a piece × IsFirstFault more rest (at + 1 + length piece) f)
+HasFault a more at f piece rest =
+    IsBadPiece a piece (at + 1) f ⊎ (HasMeaning a piece × IsFirstFault more rest (at + 1 + length piece) f)
 
-one_first : (arguments : List ArgumentKind) (bytes : List ℕ) (at : ℕ) (f g : CmdFault) → tree_is_last arguments ≡ true → IsFirstFault arguments bytes at f → IsFirstFault arguments bytes at g → f ≡ g
+one_first : (arguments : List ArgumentKind) (bytes : List ℕ) (at : ℕ) (f g : CmdFault) → tree_is_last arguments ≡ true
+    → IsFirstFault arguments bytes at f → IsFirstFault arguments bytes at g → f ≡ g
 one_first [] bytes at f g o h k = absurd h
 one_first (a ∷ more) bytes at f g o h k =
-    let w = one_cut a h.0 k.0 h.1 k.1 (sym h.2 ∙ k.2) (loose_ends a more h.0 h.1 o h.3 h.4) (loose_ends a more k.0 k.1 o k.3 k.4) in
-    let first : HasFault a more at f k.0 k.1 = subst (λ x. HasFault a more at f x k.1) w.0 (subst (HasFault a more at f h.0) w.1 h.5) in
+    let w = one_cut a h.0 k.0 h.1 k.1 (sym h.2 ∙ k.2) (loose_ends a more h.0 h.1 o h.3 h.4)
+    (loose_ends a more k.0 k.1 o k.3 k.4) in
+    let first : HasFault a more at f k.0 k.1 =
+    subst (λ x. HasFault a more at f x k.1) w.0 (subst (HasFault a more at f h.0) w.1 h.5) in
     ⊎_elim
     (λ (x : IsBadPiece a k.0 (at + 1) f).
     ⊎_elim
     (λ (y : IsBadPiece a k.0 (at + 1) g). one_bad a k.0 (at + 1) f g x y)
-    (λ (y : HasMeaning a k.0 × IsFirstFault more k.1 (at + 1 + length k.0) g). absurd (bad_means_none a k.0 (at + 1) f y.0.0 y.0.1 x y.0.2))
+    (λ (y : HasMeaning a k.0 × IsFirstFault more k.1 (at + 1 + length k.0) g). absurd
+    (bad_means_none a k.0 (at + 1) f y.0.0 y.0.1 x y.0.2))
     k.5)
     (λ (x : HasMeaning a k.0 × IsFirstFault more k.1 (at + 1 + length k.0) f).
     ⊎_elim
     (λ (y : IsBadPiece a k.0 (at + 1) g). absurd (bad_means_none a k.0 (at + 1) g x.0.0 x.0.1 y x.0.2))
-    (λ (y : HasMeaning a k.0 × IsFirstFault more k.1 (at + 1 + length k.0) g). one_first more k.1 (at + 1 + length k.0) f g (last_of a more o) x.1 y.1)
+    (λ (y : HasMeaning a k.0 × IsFirstFault more k.1 (at + 1 + length k.0) g). one_first more k.1 (at + 1 + length k.0)
+    f g (last_of a more o) x.1 y.1)
     k.5)
     first
 
-all_good : (values : List Value) (bytes : List ℕ) (at : ℕ) (f : CmdFault) → tree_is_last (kinds values) ≡ true → Mean bytes values → IsFirstFault (kinds values) bytes at f → ⊥
+all_good : (values : List Value) (bytes : List ℕ) (at : ℕ) (f : CmdFault) → tree_is_last (kinds values) ≡ true
+    → Mean bytes values → IsFirstFault (kinds values) bytes at f → ⊥
 all_good [] bytes at f o h k = k
 all_good (v ∷ values) bytes at f o h k =
-    let w = one_cut (kind_of v) h.0 k.0 h.1 k.1 (sym h.4 ∙ k.2) (loose_ends (kind_of v) (kinds values) h.0 h.1 o (means_loose h.0 v h.2) (mean_loose values h.1 h.3))
+    let w = one_cut (kind_of v) h.0 k.0 h.1 k.1 (sym h.4 ∙ k.2)
+    (loose_ends (kind_of v) (kinds values) h.0 h.1 o (means_loose h.0 v h.2) (mean_loose values h.1 h.3))
     (loose_ends (kind_of v) (kinds values) k.0 k.1 o k.3 k.4) in
     ⊎_elim
-    (λ (y : IsBadPiece (kind_of v) k.0 (at + 1) f). bad_means_none (kind_of v) k.0 (at + 1) f v refl y (subst (λ x. Means x v) w.0 h.2))
+    (λ (y : IsBadPiece (kind_of v) k.0 (at + 1) f). bad_means_none (kind_of v) k.0 (at + 1) f v refl y
+    (subst (λ x. Means x v) w.0 h.2))
     (λ (y : HasMeaning (kind_of v) k.0 × IsFirstFault (kinds values) k.1 (at + 1 + length k.0) f).
-    all_good values k.1 (at + 1 + length k.0) f (last_of (kind_of v) (kinds values) o) (subst (λ x. Mean x values) w.1 h.3) y.1)
+    all_good values k.1 (at + 1 + length k.0) f (last_of (kind_of v) (kinds values) o)
+    (subst (λ x. Mean x values) w.1 h.3) y.1)
     k.5
 
 -- a refused line has the form of a command
-refused_loose : (line : List ℕ) (f : CmdFault) → IsRefused line f → IsKnown (first_word line) × IsLoose (first_word line) line
+refused_loose : (line : List ℕ) (f : CmdFault) → IsRefused line f
+    → IsKnown (first_word line) × IsLoose (first_word line) line
 refused_loose line f h =
     let loose = first_loose (arguments_of h.0) h.1 _ f h.3 in
-    let is : first_word line ≡ word_text h.0 = word_is (word_text h.0) h.1 line h.2 (word_no_space h.0) (loose_tail (arguments_of h.0) h.1 loose) in
+    let is : first_word line ≡ word_text h.0 =
+    word_is (word_text h.0) h.1 line h.2 (word_no_space h.0) (loose_tail (arguments_of h.0) h.1 loose) in
     ((h.0, is), (h.0, h.1, is, loose, h.2 ∙ ap (λ x. x ++ h.1) (sym is)))
 
 -- and so has a command
-command_loose : (line : List ℕ) (c : Command) → IsCommand line c → IsKnown (first_word line) × IsLoose (first_word line) line
+command_loose : (line : List ℕ) (c : Command) → IsCommand line c
+    → IsKnown (first_word line) × IsLoose (first_word line) line
 command_loose line c h =
     let w = word_of c in
     let rest = h.1.0 in
-    let loose : AreLoose (arguments_of w) rest = subst (λ x. AreLoose x rest) (command_kinds c) (mean_loose (values_of c) rest h.1.1) in
-    let is : first_word line ≡ word_text w = word_is (word_text w) rest line h.1.2 (word_no_space w) (loose_tail (arguments_of w) rest loose) in
+    let loose : AreLoose (arguments_of w) rest =
+    subst (λ x. AreLoose x rest) (command_kinds c) (mean_loose (values_of c) rest h.1.1) in
+    let is : first_word line ≡ word_text w =
+    word_is (word_text w) rest line h.1.2 (word_no_space w) (loose_tail (arguments_of w) rest loose) in
     ((w, is), (w, rest, is, loose, h.1.2 ∙ ap (λ x. x ++ rest) (sym is)))
 
 one_refused : (line : List ℕ) (f g : CmdFault) → IsRefused line f → IsRefused line g → f ≡ g
 one_refused line f g h k =
-    let w = same_word h.0 k.0 h.1 k.1 line h.2 k.2 (loose_tail _ h.1 (first_loose (arguments_of h.0) h.1 _ f h.3)) (loose_tail _ k.1 (first_loose (arguments_of k.0) k.1 _ g k.3)) in
+    let w = same_word h.0 k.0 h.1 k.1 line h.2 k.2 (loose_tail _ h.1 (first_loose (arguments_of h.0) h.1 _ f h.3))
+    (loose_tail _ k.1 (first_loose (arguments_of k.0) k.1 _ g k.3)) in
     let first : IsFirstFault (arguments_of k.0) k.1 (length (word_text k.0)) f =
-    subst (λ x. IsFirstFault (arguments_of x) k.1 (length (word_text x)) f) w.0 (subst (λ x. IsFirstFault (arguments_of h.0) x (length (word_text h.0)) f) w.1 h.3) in
+    subst (λ x. IsFirstFault (arguments_of x) k.1 (length (word_text x)) f) w.0
+    (subst (λ x. IsFirstFault (arguments_of h.0) x (length (word_text h.0)) f) w.1 h.3) in
     one_first (arguments_of k.0) k.1 (length (word_text k.0)) f g (arguments_in_order k.0) first k.3
 
 pub not_refused : (line : List ℕ) (c : Command) (f : CmdFault) → IsCommand line c → IsRefused line f → ⊥
 not_refused line c f h k =
-    let w = same_word (word_of c) k.0 h.1.0 k.1 line h.1.2 k.2 (mean_tail (values_of c) h.1.0 h.1.1) (loose_tail _ k.1 (first_loose (arguments_of k.0) k.1 _ f k.3)) in
+    let w = same_word (word_of c) k.0 h.1.0 k.1 line h.1.2 k.2 (mean_tail (values_of c) h.1.0 h.1.1)
+    (loose_tail _ k.1 (first_loose (arguments_of k.0) k.1 _ f k.3)) in
     let same_kinds : arguments_of k.0 ≡ kinds (values_of c) = ap arguments_of (sym w.0) ∙ sym (command_kinds c) in
-    all_good (values_of c) k.1 (length (word_text k.0)) f (command_in_order c) (subst (λ x. Mean x (values_of c)) w.1 h.1.1) (subst (λ x. IsFirstFault x k.1 (length (word_text k.0)) f) same_kinds k.3)
+    all_good (values_of c) k.1 (length (word_text k.0)) f (command_in_order c)
+    (subst (λ x. Mean x (values_of c)) w.1 h.1.1)
+    (subst (λ x. IsFirstFault x k.1 (length (word_text k.0)) f) same_kinds k.3)
 
-pub one_cause : (line : List ℕ) (f g : CmdFault) → f ≢ Memory → g ≢ Memory → IsCmdFault line f → IsCmdFault line g → f ≡ g
+pub one_cause : (line : List ℕ) (f g : CmdFault) → f ≢ Memory → g ≢ Memory → IsCmdFault line f → IsCmdFault line g
+    → f ≡ g
 one_cause line (Long n) (Long m) f g h k = let e : n ≡ m = omega (arith, h.1, k.1) in ap (λ n. Long n) e
 one_cause line (Long n) Unknown f g h k = absurd (omega (arith, h.0, k.0))
 one_cause line (Long n) (Args m) f g h k = absurd (omega (arith, h.0, k.0))

@@ -26,7 +26,8 @@ first_word-cons b bytes =
 pub before_space : (bytes : List ℕ) → HasNoSpace (first_word bytes)
 before_space [] = tt
 before_space (b ∷ bytes) =
-    subst HasNoSpace (sym (first_word-cons b bytes)) (elim (eqb b 32) as (λ c. eqb b 32 ≡ c → HasNoSpace (cond c [] (b ∷ first_word bytes))) [
+    subst HasNoSpace (sym (first_word-cons b bytes))
+    (elim (eqb b 32) as (λ c. eqb b 32 ≡ c → HasNoSpace (cond c [] (b ∷ first_word bytes))) [
       | true ↦ λ e. tt
       | false ↦ λ e. (eqb-false b 32 e, before_space bytes)
     ] refl)
@@ -37,16 +38,19 @@ HasRest bytes word = (rest : List ℕ) × IsTail rest × (bytes ≡ word ++ rest
 behind_space : (bytes : List ℕ) → HasRest bytes (first_word bytes)
 behind_space [] = ([], tt, refl)
 behind_space (b ∷ bytes) =
-    subst (HasRest (b ∷ bytes)) (sym (first_word-cons b bytes)) (elim (eqb b 32) as (λ c. eqb b 32 ≡ c → HasRest (b ∷ bytes) (cond c [] (b ∷ first_word bytes))) [
+    subst (HasRest (b ∷ bytes)) (sym (first_word-cons b bytes))
+    (elim (eqb b 32) as (λ c. eqb b 32 ≡ c → HasRest (b ∷ bytes) (cond c [] (b ∷ first_word bytes))) [
       | true ↦ λ e. (b ∷ bytes, eqb-true b 32 e, refl)
       | false ↦ λ e. let w = behind_space bytes in (w.0, w.1, ap (λ x. b ∷ x) w.2)
     ] refl)
 
 -- the rest is what is dropped
-pub behind_is : (bytes : List ℕ) → IsTail (drop (length (first_word bytes)) bytes) × (bytes ≡ first_word bytes ++ drop (length (first_word bytes)) bytes)
+pub behind_is : (bytes : List ℕ) → IsTail (drop (length (first_word bytes)) bytes)
+    × (bytes ≡ first_word bytes ++ drop (length (first_word bytes)) bytes)
 behind_is bytes =
     let w = behind_space bytes in
-    let e : drop (length (first_word bytes)) bytes ≡ w.0 = ap (drop (length (first_word bytes))) w.2 ∙ drop_front (first_word bytes) w.0 in
+    let e : drop (length (first_word bytes)) bytes ≡ w.0 = ap (drop (length (first_word bytes))) w.2
+    ∙ drop_front (first_word bytes) w.0 in
     (subst IsTail (sym e) w.1, w.2 ∙ ap (λ x. first_word bytes ++ x) (sym e))
   where
     drop_front : (x y : List ℕ) → drop (length x) (x ++ y) ≡ y
@@ -55,7 +59,8 @@ behind_is bytes =
 
 -- ---- cutting a piece off
 
-ends_not_tree : (a : ArgumentKind) (piece rest : List ℕ) → (a ≡ TreeArgument → ⊥) → HasNoSpace piece → IsTail rest → EndsPiece a piece rest
+ends_not_tree : (a : ArgumentKind) (piece rest : List ℕ) → (a ≡ TreeArgument → ⊥) → HasNoSpace piece → IsTail rest
+    → EndsPiece a piece rest
 ends_not_tree PathArgument piece rest other h t = (h, t)
 ends_not_tree NumberArgument piece rest other h t = (h, t)
 ends_not_tree LabelArgument piece rest other h t = (h, t)
@@ -63,32 +68,47 @@ ends_not_tree NameArgument piece rest other h t = (h, t)
 ends_not_tree TreeArgument piece rest other h t = absurd (other refl)
 
 -- behind a space that begins the bytes
-cut_behind : (a : ArgumentKind) (b : ℕ) (x z piece : List ℕ) → (a ≡ TreeArgument → ⊥) → b ≡ 32 → z ≡ x → piece ≡ first_word z
+cut_behind : (a : ArgumentKind) (b : ℕ) (x z piece : List ℕ) → (a ≡ TreeArgument → ⊥) → b ≡ 32 → z ≡ x
+    → piece ≡ first_word z
     → IsCut a (b ∷ x) piece (take (length z - length piece) (drop (length piece) z))
 cut_behind a b x z piece other space same e =
     let w = behind_is z in
     let p = first_word z in
-    let at_first : IsCut a (b ∷ x) p (drop (length p) z) = record { are = ap (λ k. k ∷ x) space ∙ ap (λ k. 32 ∷ k) (sym same ∙ w.1); ends = ends_not_tree a p (drop (length p) z) other (before_space z) w.0 } in
-    subst (λ q. IsCut a (b ∷ x) q (take (length z - length q) (drop (length q) z))) (sym e) (subst (IsCut a (b ∷ x) p) (sym (take_rest z (length p))) at_first)
+    let at_first : IsCut a (b ∷ x) p (drop (length p) z) =
+    record {
+      are = ap (λ k. k ∷ x) space ∙ ap (λ k. 32 ∷ k) (sym same ∙ w.1);
+      ends = ends_not_tree a p (drop (length p) z) other (before_space z) w.0;
+    } in
+    subst (λ q. IsCut a (b ∷ x) q (take (length z - length q) (drop (length q) z))) (sym e)
+    (subst (IsCut a (b ∷ x) p) (sym (take_rest z (length p))) at_first)
 
-pub cut_at : (a : ArgumentKind) (bytes piece : List ℕ) → (a ≡ TreeArgument → ⊥) → 1 ≤ length bytes → IsTail bytes → piece ≡ first_word (take (length bytes - 1) (drop 1 bytes))
-    → IsCut a bytes piece (take (length (take (length bytes - 1) (drop 1 bytes)) - length piece) (drop (length piece) (take (length bytes - 1) (drop 1 bytes))))
+pub cut_at : (a : ArgumentKind) (bytes piece : List ℕ) → (a ≡ TreeArgument → ⊥) → 1 ≤ length bytes → IsTail bytes
+    → piece ≡ first_word (take (length bytes - 1) (drop 1 bytes))
+    → IsCut a bytes piece
+    (take (length (take (length bytes - 1) (drop 1 bytes)) - length piece)
+    (drop (length piece) (take (length bytes - 1) (drop 1 bytes))))
 cut_at a [] piece other some tail e = absurd (omega arith)
-cut_at a (b ∷ x) piece other some tail e = cut_behind a b x (take (length (b ∷ x) - 1) (drop 1 (b ∷ x))) piece other tail (take_rest (b ∷ x) 1) e
+cut_at a (b ∷ x) piece other some tail e =
+    cut_behind a b x (take (length (b ∷ x) - 1) (drop 1 (b ∷ x))) piece other tail (take_rest (b ∷ x) 1) e
 
 -- what stands behind the first word of a line
-pub behind_first : (line first : List ℕ) → first ≡ first_word line → (IsTail (take (length line - length first) (drop (length first) line))) × (line ≡ first ++ take (length line - length first) (drop (length first) line))
+pub behind_first : (line first : List ℕ) → first ≡ first_word line
+    → (IsTail (take (length line - length first) (drop (length first) line)))
+    × (line ≡ first ++ take (length line - length first) (drop (length first) line))
 behind_first line first e =
     let w = behind_is line in
     let p = first_word line in
-    let at_first : IsTail (take (length line - length p) (drop (length p) line)) × (line ≡ p ++ take (length line - length p) (drop (length p) line)) =
+    let at_first : IsTail (take (length line - length p) (drop (length p) line))
+    × (line ≡ p ++ take (length line - length p) (drop (length p) line)) =
     (subst IsTail (sym (take_rest line (length p))) w.0, w.1 ∙ ap (λ x. p ++ x) (sym (take_rest line (length p)))) in
-    subst (λ q. IsTail (take (length line - length q) (drop (length q) line)) × (line ≡ q ++ take (length line - length q) (drop (length q) line))) (sym e) at_first
+    subst (λ q. IsTail (take (length line - length q) (drop (length q) line))
+    × (line ≡ q ++ take (length line - length q) (drop (length q) line))) (sym e) at_first
 
 -- ---- one way
 
 -- a piece without a space ends where the first space is
-pub one_piece : (p q r s : List ℕ) → p ++ r ≡ q ++ s → HasNoSpace p → HasNoSpace q → IsTail r → IsTail s → (p ≡ q) × (r ≡ s)
+pub one_piece : (p q r s : List ℕ) → p ++ r ≡ q ++ s → HasNoSpace p → HasNoSpace q → IsTail r → IsTail s
+    → (p ≡ q) × (r ≡ s)
 one_piece [] [] r s e hp hq hr hs = (refl, e)
 one_piece [] (c ∷ q) r s e hp hq hr hs = absurd (hq.0 (subst IsTail e hr))
 one_piece (b ∷ p) [] r s e hp hq hr hs = absurd (hp.0 (subst IsTail (sym e) hs))
@@ -104,13 +124,16 @@ word_is word rest line e h t =
     let w = behind_space line in
     (one_piece (first_word line) word w.0 rest (sym w.2 ∙ e) (before_space line) h w.1 t).0
 
--- Where a front of piece and rest goes on to another piece and its rest, the front ends within the piece and the other piece goes
+-- Where a front of piece and rest goes on to another piece and its rest, the front ends within the piece and the other
+-- piece goes
 -- on from there, or the pieces are one.
 abbrev pub GoesOn : List ℕ → List ℕ → ℕ → List ℕ → List ℕ → List ℕ → Type 0
 GoesOn piece rest m more q s =
-    ((m ≤ length piece) × ((x : List ℕ) × (q ≡ take m piece ++ x))) ⊎ ((length piece < m) × (q ≡ piece) × (s ≡ take (m - length piece) rest ++ more))
+    ((m ≤ length piece) × ((x : List ℕ) × (q ≡ take m piece ++ x)))
+    ⊎ ((length piece < m) × (q ≡ piece) × (s ≡ take (m - length piece) rest ++ more))
 
-pub split_front : (piece rest q s more : List ℕ) (m : ℕ) → take m (piece ++ rest) ++ more ≡ q ++ s → m ≤ length (piece ++ rest) → HasNoSpace piece → IsTail rest → HasNoSpace q → IsTail s
+pub split_front : (piece rest q s more : List ℕ) (m : ℕ) → take m (piece ++ rest) ++ more ≡ q ++ s
+    → m ≤ length (piece ++ rest) → HasNoSpace piece → IsTail rest → HasNoSpace q → IsTail s
     → GoesOn piece rest m more q s
 split_front piece rest q s more zero e le hp hr hq hs = inl (omega arith, (q, refl))
 split_front [] [] q s more (suc m) e le hp hr hq hs = absurd (omega arith)
@@ -118,12 +141,16 @@ split_front [] (b ∷ rest) [] s more (suc m) e le hp hr hq hs =
     let all : s ≡ take (suc m) (b ∷ rest) ++ more = sym e in
     let none : suc m ≡ suc m - 0 = omega arith in
     inr (omega arith, refl, all ∙ ap (λ k. take k (b ∷ rest) ++ more) none)
-split_front [] (b ∷ rest) (c ∷ q) s more (suc m) e le hp hr hq hs = let same : b ≡ c = cc in absurd (hq.0 (sym same ∙ hr))
+split_front [] (b ∷ rest) (c ∷ q) s more (suc m) e le hp hr hq hs = let same : b ≡ c =
+    cc in absurd (hq.0 (sym same ∙ hr))
 split_front (b ∷ piece) rest [] s more (suc m) e le hp hr hq hs = absurd (hp.0 (subst IsTail (sym e) hs))
 split_front (b ∷ piece) rest (c ∷ q) s more (suc m) e le hp hr hq hs =
     let same : b ≡ c = cc in
     let others : take m (piece ++ rest) ++ more ≡ q ++ s = cc in
     ⊎_elim
-    (λ (w : (m ≤ length piece) × ((x : List ℕ) × (q ≡ take m piece ++ x))). inl (omega (arith, w.0), (w.1.0, rw (same, w.1.1) refl)))
-    (λ (w : (length piece < m) × (q ≡ piece) × (s ≡ take (m - length piece) rest ++ more)). let less : m - length piece ≡ suc m - length (b ∷ piece) = omega arith in inr (omega (arith, w.0), rw (same, w.1) refl, w.2 ∙ ap (λ k. take k rest ++ more) less))
+    (λ (w : (m ≤ length piece) × ((x : List ℕ) × (q ≡ take m piece ++ x))). inl
+    (omega (arith, w.0), (w.1.0, rw (same, w.1.1) refl)))
+    (λ (w : (length piece < m) × (q ≡ piece) × (s ≡ take (m - length piece) rest ++ more)). let less : m - length
+    piece ≡ suc m - length (b ∷ piece) =
+    omega arith in inr (omega (arith, w.0), rw (same, w.1) refl, w.2 ∙ ap (λ k. take k rest ++ more) less))
     (split_front piece rest q s more m others (omega arith) hp.1 hr hq.1 hs)

@@ -13,10 +13,17 @@ use Rattle.tx_cmd.specs.Pieces.{tree_is_last}
 -- the word that is spelled so
 abbrev word_named : List ℕ → Word
 word_named x =
-    cond (bytes_eq x (codes "assign")) (Change Assign) (cond (bytes_eq x (codes "insert")) (Change Insert) (cond (bytes_eq x (codes "remove")) (Change Remove) (cond (bytes_eq x (codes "split")) (Change Split)
-    (cond (bytes_eq x (codes "join")) (Change Join) (cond (bytes_eq x (codes "assign-node")) (Change AssignNode) (cond (bytes_eq x (codes "insert-node")) (Change InsertNode)
-    (cond (bytes_eq x (codes "remove-node")) (Change RemoveNode) (cond (bytes_eq x (codes "undo")) Undo (cond (bytes_eq x (codes "redo")) Redo (cond (bytes_eq x (codes "go")) Go
-    (cond (bytes_eq x (codes "cursor")) Cursor (cond (bytes_eq x (codes "show")) Show (cond (bytes_eq x (codes "tree")) Tree (cond (bytes_eq x (codes "save")) Save Quit))))))))))))))
+    cond (bytes_eq x (codes "assign")) (Change Assign)
+    (cond (bytes_eq x (codes "insert")) (Change Insert)
+    (cond (bytes_eq x (codes "remove")) (Change Remove) (cond (bytes_eq x (codes "split")) (Change Split)
+    (cond (bytes_eq x (codes "join")) (Change Join)
+    (cond (bytes_eq x (codes "assign-node")) (Change AssignNode)
+    (cond (bytes_eq x (codes "insert-node")) (Change InsertNode)
+    (cond (bytes_eq x (codes "remove-node")) (Change RemoveNode)
+    (cond (bytes_eq x (codes "undo")) Undo (cond (bytes_eq x (codes "redo")) Redo (cond (bytes_eq x (codes "go")) Go
+    (cond (bytes_eq x (codes "cursor")) Cursor
+    (cond (bytes_eq x (codes "show")) Show
+    (cond (bytes_eq x (codes "tree")) Tree (cond (bytes_eq x (codes "save")) Save Quit))))))))))))))
 
 named : (w : Word) → word_named (word_text w) ≡ w
 named (Change Assign) = refl

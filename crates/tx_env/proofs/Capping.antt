@@ -71,6 +71,7 @@ capped_all n (suc i) (p ∷ ps) (q ∷ qs) le h =
     let scope = h.0 in
     let name = h.1 in
     let before = h.2 in
-    rw (scope, name, before) (ap (λ cs. (min q.scope n, (q.name, q.before)) ∷ cs) (capped_all n i ps qs (omega arith) h.3))
+    rw (scope, name, before)
+    (ap (λ cs. (min q.scope n, (q.name, q.before)) ∷ cs) (capped_all n i ps qs (omega arith) h.3))
 
 pub ruleset capped_rules = (capped_next, capped_all)

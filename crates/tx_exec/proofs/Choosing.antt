@@ -61,7 +61,8 @@ module _ (k : ℕ) (below : Eval) (f : Frame) (label : List ℕ) where
       ∙ ap (λ z. turns MOST_TURNS k below f label c z []) second
   while_two (x ∷ y ∷ z ∷ ts) c b n p q = absurd (omega (arith, n))
 
-  pub while_not : (ts : List TaggedTree) → (length ts ≡ 2 → ⊥) → while_row k below f label ts ≡ wrong k (codes "bad") label
+  pub while_not : (ts : List TaggedTree) → (length ts ≡ 2 → ⊥)
+      → while_row k below f label ts ≡ wrong k (codes "bad") label
   while_not [] n = refl
   while_not (x ∷ []) n = refl
   while_not (x ∷ y ∷ []) n = absurd (n refl)
@@ -99,7 +100,8 @@ module _ (k : ℕ) (below : Eval) (f : Frame) (label : List ℕ) (kids : List Ta
       let b = there kids (2 * i + 1) lt in
       sym run ∙ ap (λ us. chosen k below f label us e s) (two_front kids i c b.0 here b.1)
       ∙ by_truth k below f label c (below b.0 f) (chosen k below f label (drop (2 * (i + 1)) kids)) e s
-      ∙ ap (λ m. on_done e (decided k label m (chosen k below f label (drop (2 * (i + 1)) kids))) (truth_run below f c e s))
+      ∙ ap (λ m. on_done e (decided k label m (chosen k below f label (drop (2 * (i + 1)) kids)))
+      (truth_run below f c e s))
       (sym (kid_run_is below f kids (2 * i + 1) b.0 b.1))
 
   pub pick_stop : (x : Stop) → Fails x (truth_run below f c e s) → Fails x r

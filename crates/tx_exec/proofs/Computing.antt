@@ -37,17 +37,20 @@ few_nodes (v ∷ vs) = omega (arith, nodes_le_size (plain v), few_nodes vs)
 
 pub ruleset node_rules = (nodes_here, nodes_end, few_nodes)
 
-pub trees_next : (vs : List WideValue) (i : ℕ) (v : WideValue) (ts us : List WideTree) (t : WideTree) (all : List WideTree) → i < length vs → v ≡ get_or vs i v → us ≡ ts ++ t ∷ [] → t ≡ plain v
+pub trees_next : (vs : List WideValue) (i : ℕ) (v : WideValue) (ts us : List WideTree) (t : WideTree)
+    (all : List WideTree) → i < length vs → v ≡ get_or vs i v → us ≡ ts ++ t ∷ [] → t ≡ plain v
     → ts ++ map plain (drop i vs) ≡ all → us ++ map plain (drop (i + 1) vs) ≡ all
 trees_next vs i v ts us t all lt is e p run =
     ap (λ ws. ws ++ map plain (drop (i + 1) vs)) e ∙ append_assoc ts (t ∷ []) (map plain (drop (i + 1) vs))
-    ∙ ap (λ w. ts ++ w ∷ map plain (drop (i + 1) vs)) p ∙ ap (λ ws. ts ++ map plain ws) (sym (item_drop vs i v lt is)) ∙ run
+    ∙ ap (λ w. ts ++ w ∷ map plain (drop (i + 1) vs)) p ∙ ap (λ ws. ts ++ map plain ws) (sym (item_drop vs i v lt is))
+    ∙ run
 
 no_more : (ts : List WideTree) → ts ++ [] ≡ ts
 no_more [] = refl
 no_more (t ∷ ts) = ap (λ us. t ∷ us) (no_more ts)
 
-pub trees_end : (vs : List WideValue) (i : ℕ) (ts all : List WideTree) → length vs ≤ i → ts ++ map plain (drop i vs) ≡ all → ts ≡ all
+pub trees_end : (vs : List WideValue) (i : ℕ) (ts all : List WideTree) → length vs ≤ i
+    → ts ++ map plain (drop i vs) ≡ all → ts ≡ all
 trees_end vs i ts all le run =
     let end : drop i vs ≡ [] = grind (arith, common_steps, le) in
     sym (no_more ts) ∙ ap (λ us. ts ++ map plain us) (sym end) ∙ run
@@ -70,13 +73,16 @@ module _ {A : Type 0} (a : A) (d k : ℕ) (e : Before) (o : NameMap) (q : LookMa
   state : ℕ → ℕ → State
   state l i = record { own = o; looks = q; left = l; slack = i }
 
-  paid_by : (b : Bool) (n l i : ℕ) → nat_le n l ≡ b → pay n e (state l i) ≡ (if b then Done tt (state (l - n) i) else Over)
+  paid_by : (b : Bool) (n l i : ℕ) → nat_le n l ≡ b
+      → pay n e (state l i) ≡ (if b then Done tt (state (l - n) i) else Over)
   unfolding pay state
   paid_by b n l i h = ap (λ c. if c then Done tt (record { own = o; looks = q; left = l - n; slack = i }) else Over) h
 
-  needed_by : (b : Bool) (l i : ℕ) → nat_le d k ≡ b → need d k e (state l i) ≡ (if b then Done tt (state l (min i (k - d))) else Over)
+  needed_by : (b : Bool) (l i : ℕ) → nat_le d k ≡ b
+      → need d k e (state l i) ≡ (if b then Done tt (state l (min i (k - d))) else Over)
   unfolding need state
-  needed_by b l i h = ap (λ c. if c then Done tt (record { own = o; looks = q; left = l; slack = min i (k - d) }) else Over) h
+  needed_by b l i h =
+      ap (λ c. if c then Done tt (record { own = o; looks = q; left = l; slack = min i (k - d) }) else Over) h
 
   last : ℕ → Run A
   last n = pay n >> give a
@@ -100,13 +106,15 @@ module _ {A : Type 0} (a : A) (d k : ℕ) (e : Before) (o : NameMap) (q : LookMa
   rest : ℕ → Run A
   rest n = need d k >> last n
 
-  rest_by : (b : Bool) (n l i : ℕ) → nat_le d k ≡ b → rest n e (state l i) ≡ (if b then last n e (state l (min i (k - d))) else Over)
+  rest_by : (b : Bool) (n l i : ℕ) → nat_le d k ≡ b
+      → rest n e (state l i) ≡ (if b then last n e (state l (min i (k - d))) else Over)
   unfolding rest
   rest_by true n l i h = ap (on_done e (λ _. last n)) (needed_by true l i h)
   rest_by false n l i h = ap (on_done e (λ _. last n)) (needed_by false l i h)
 
   rest_less_by : (b : Bool) (n l i : ℕ) → nat_le d k ≡ b → rest (n + 1) e (state (l + 1) i) ≡ rest n e (state l i)
-  rest_less_by true n l i h = rest_by true (n + 1) (l + 1) i h ∙ last_less n l (min i (k - d)) ∙ sym (rest_by true n l i h)
+  rest_less_by true n l i h = rest_by true (n + 1) (l + 1) i h ∙ last_less n l (min i (k - d))
+      ∙ sym (rest_by true n l i h)
   rest_less_by false n l i h = rest_by false (n + 1) (l + 1) i h ∙ sym (rest_by false n l i h)
 
   rest_none_by : (b : Bool) (n i : ℕ) → nat_le d k ≡ b → rest (n + 1) e (state 0 i) ≡ Over
@@ -122,9 +130,11 @@ module _ {A : Type 0} (a : A) (d k : ℕ) (e : Before) (o : NameMap) (q : LookMa
   with_some : (m n l i : ℕ) → m ≤ l → (pay m >> rest (n + 1)) e (state l i) ≡ (pay (m + 1) >> rest n) e (state l i)
   with_some m n l i le = ⊎_elim
       (λ (lt : l < m + 1). let none : l - m ≡ 0 = omega (arith, lt) in
-      all_then m (n + 1) l i le ∙ ap (λ u. rest (n + 1) e (state u i)) none ∙ rest_none_by (nat_le d k) n i refl ∙ sym (all_over (m + 1) n l i lt))
+      all_then m (n + 1) l i le ∙ ap (λ u. rest (n + 1) e (state u i)) none ∙ rest_none_by (nat_le d k) n i refl
+      ∙ sym (all_over (m + 1) n l i lt))
       (λ (more : m + 1 ≤ l). let one : l - m ≡ (l - (m + 1)) + 1 = omega (arith, more) in
-      all_then m (n + 1) l i le ∙ ap (λ u. rest (n + 1) e (state u i)) one ∙ rest_less_by (nat_le d k) n (l - (m + 1)) i refl ∙ sym (all_then (m + 1) n l i more))
+      all_then m (n + 1) l i le ∙ ap (λ u. rest (n + 1) e (state u i)) one
+      ∙ rest_less_by (nat_le d k) n (l - (m + 1)) i refl ∙ sym (all_then (m + 1) n l i more))
       (cases_lt l (m + 1))
 
   -- one step is paid before the levels are judged in place of behind them
@@ -139,26 +149,35 @@ pub paid_first : {A : Type 0} (a : A) (d k m n : ℕ) (e : Before) (s : State)
 unfolding state last rest
 paid_first a d k m n e s = earlier a d k e s.own s.looks m n s.left s.slack
 
-pub computed_is : (k : ℕ) (which : Prim) (vs : List WideValue) (e : Before) (s : State) (t : WideTree) → t ≡ primitive_value which (map plain vs)
-    → computed k which vs e s ≡ (pay (total_nodes (plains (vals vs)) + 1) >> itself k (record { tree = t; at = None })) e s
+pub computed_is : (k : ℕ) (which : Prim) (vs : List WideValue) (e : Before) (s : State) (t : WideTree)
+    → t ≡ primitive_value which (map plain vs)
+    → computed k which vs e s ≡ (pay (total_nodes (plains (vals vs)) + 1) >> itself k (record { tree = t; at = None }))
+    e s
 unfolding computed taken
 computed_is k which vs e s t h =
     let v = whole None t in
     let n : size_of (plain v) ≡ (size_of (plain v) - 1) + 1 = omega (arith, some_size (plain v)) in
-    ap (λ u. (pay (total_nodes (plains (vals vs))) >> (need (depth_of (plain (whole None u))) k >> (pay (size_of (plain (whole None u))) >> give (whole None u)))) e s) (sym h)
+    ap (λ u. (pay (total_nodes (plains (vals vs))) >>
+    (need (depth_of (plain (whole None u))) k >> (pay (size_of (plain (whole None u))) >> give (whole None u)))) e
+    s) (sym h)
     ∙ ap (λ m. (pay (total_nodes (plains (vals vs))) >> (need (depth_of (plain v)) k >> (pay m >> give v))) e s) n
     ∙ paid_first v (depth_of (plain v)) k (total_nodes (plains (vals vs))) (size_of (plain v) - 1) e s
-    ∙ ap (λ u. (pay (total_nodes (plains (vals vs)) + 1) >> (need (depth_of u) k >> (pay (size_of u - 1) >> give v))) e s) (plain_whole None t)
+    ∙ ap (λ u. (pay (total_nodes (plains (vals vs)) + 1) >> (need (depth_of u) k >> (pay (size_of u - 1) >> give v))) e
+    s) (plain_whole None t)
 
-pub computed_over : (k : ℕ) (which : Prim) (vs : List WideValue) (e : Before) (s : State) (n : ℕ) (x : Stop) → n ≡ total_nodes (plains (vals vs)) → Fails x (pay (n + 1) e s)
+pub computed_over : (k : ℕ) (which : Prim) (vs : List WideValue) (e : Before) (s : State) (n : ℕ) (x : Stop)
+    → n ≡ total_nodes (plains (vals vs)) → Fails x (pay (n + 1) e s)
     → Fails x (computed k which vs e s)
 computed_over k which vs e s n x h over =
     let t = primitive_value which (map plain vs) in
     let rest : Unit {0} → Run WideValue = λ _. itself k (record { tree = t; at = None }) in
-    fails_as x _ _ (computed_is k which vs e s t refl ∙ ap (λ m. on_done e rest (pay (m + 1) e s)) (sym h)) (stop_bind x e rest (pay (n + 1) e s) over)
+    fails_as x _ _ (computed_is k which vs e s t refl ∙ ap (λ m. on_done e rest (pay (m + 1) e s)) (sym h))
+    (stop_bind x e rest (pay (n + 1) e s) over)
 
-pub computed_then : (k : ℕ) (which : Prim) (vs : List WideValue) (e : Before) (s s1 : State) (n : ℕ) (t : WideTree) → n ≡ total_nodes (plains (vals vs)) → pay (n + 1) e s ≡ Done tt s1
-    → t ≡ primitive_value which (map plain vs) → computed k which vs e s ≡ itself k (record { tree = t; at = None }) e s1
+pub computed_then : (k : ℕ) (which : Prim) (vs : List WideValue) (e : Before) (s s1 : State) (n : ℕ) (t : WideTree)
+    → n ≡ total_nodes (plains (vals vs)) → pay (n + 1) e s ≡ Done tt s1
+    → t ≡ primitive_value which (map plain vs) → computed k which vs e s ≡ itself k (record { tree = t; at = None }) e
+    s1
 computed_then k which vs e s s1 n t h paid is =
     let rest : Unit {0} → Run WideValue = λ _. itself k (record { tree = t; at = None }) in
     computed_is k which vs e s t is ∙ ap (λ m. on_done e rest (pay (m + 1) e s)) (sym h) ∙ ap (on_done e rest) paid

@@ -26,7 +26,8 @@ there [] i lt = absurd (omega (arith, lt))
 there (t ∷ ts) zero lt = (t, refl)
 there (t ∷ ts) (suc i) lt = there ts i (omega (arith, lt))
 
-pub kid_run_is : (below : Eval) (f : Frame) (kids : List TaggedTree) (i : ℕ) (t : TaggedTree) → slice_get kids i ≡ Some t
+pub kid_run_is : (below : Eval) (f : Frame) (kids : List TaggedTree) (i : ℕ) (t : TaggedTree)
+    → slice_get kids i ≡ Some t
     → kid_run below f kids i ≡ below t f
 unfolding kid_run
 kid_run_is below f kids i t h = ap (run_in below f) h

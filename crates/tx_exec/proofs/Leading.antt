@@ -10,32 +10,41 @@ use Rattle.tx_origin.specs.TaggedTrees.{TaggedTree, kids_of}
 use Rattle.tx_exec_form.specs.Numbers.{value_number, numbers_of, kid_at, part_of}
 use Rattle.tx_exec.proofs.Kids.{few_kids}
 
-pub item_drop : (vs : List WideValue) (i : ℕ) (v : WideValue) → i < length vs → v ≡ get_or vs i v → drop i vs ≡ v ∷ drop (i + 1) vs
+pub item_drop : (vs : List WideValue) (i : ℕ) (v : WideValue) → i < length vs → v ≡ get_or vs i v
+    → drop i vs ≡ v ∷ drop (i + 1) vs
 item_drop vs i v lt is = rw add-one (drop-cons vs i v lt ∙ ap (λ w. w ∷ drop (suc i) vs) (sym is))
 
-behind : (ns : List ℤ) (n : ℤ) (o : Option (List ℤ)) → option_map (λ ms. ns ++ ms) (option_map (λ ms. n ∷ ms) o) ≡ option_map (λ ms. (ns ++ n ∷ []) ++ ms) o
+behind : (ns : List ℤ) (n : ℤ) (o : Option (List ℤ))
+    → option_map (λ ms. ns ++ ms) (option_map (λ ms. n ∷ ms) o) ≡ option_map (λ ms. (ns ++ n ∷ []) ++ ms) o
 behind ns n None = refl
 behind ns n (Some ms) = ap Some (sym (append_assoc ns (n ∷ []) ms))
 
 -- what the numbers so far and the values left are together
-pub numbers_next : (vs : List WideValue) (i : ℕ) (v : WideValue) (n : ℤ) (ns ms : List ℤ) (r : Option (List ℤ)) → i < length vs → v ≡ get_or vs i v → value_number v ≡ Some n → ms ≡ ns ++ n ∷ []
-    → option_map (λ xs. ns ++ xs) (numbers_of (drop i vs)) ≡ r → option_map (λ xs. ms ++ xs) (numbers_of (drop (i + 1) vs)) ≡ r
+pub numbers_next : (vs : List WideValue) (i : ℕ) (v : WideValue) (n : ℤ) (ns ms : List ℤ) (r : Option (List ℤ))
+    → i < length vs → v ≡ get_or vs i v → value_number v ≡ Some n → ms ≡ ns ++ n ∷ []
+    → option_map (λ xs. ns ++ xs) (numbers_of (drop i vs)) ≡ r
+    → option_map (λ xs. ms ++ xs) (numbers_of (drop (i + 1) vs)) ≡ r
 numbers_next vs i v n ns ms r lt is h e run =
-    ap (λ xs. option_map (λ ys. xs ++ ys) (numbers_of (drop (i + 1) vs))) e ∙ sym (behind ns n (numbers_of (drop (i + 1) vs)))
-    ∙ ap (λ o. option_map (λ xs. ns ++ xs) (option_and_then (λ m. option_map (λ xs. m ∷ xs) (numbers_of (drop (i + 1) vs))) o)) (sym h)
+    ap (λ xs. option_map (λ ys. xs ++ ys) (numbers_of (drop (i + 1) vs))) e
+    ∙ sym (behind ns n (numbers_of (drop (i + 1) vs)))
+    ∙ ap (λ o. option_map (λ xs. ns ++ xs)
+    (option_and_then (λ m. option_map (λ xs. m ∷ xs) (numbers_of (drop (i + 1) vs))) o)) (sym h)
     ∙ ap (λ us. option_map (λ xs. ns ++ xs) (numbers_of us)) (sym (item_drop vs i v lt is)) ∙ run
 
-pub numbers_none : (vs : List WideValue) (i : ℕ) (v : WideValue) (ns : List ℤ) (r : Option (List ℤ)) → i < length vs → v ≡ get_or vs i v → value_number v ≡ None
+pub numbers_none : (vs : List WideValue) (i : ℕ) (v : WideValue) (ns : List ℤ) (r : Option (List ℤ)) → i < length vs
+    → v ≡ get_or vs i v → value_number v ≡ None
     → option_map (λ xs. ns ++ xs) (numbers_of (drop i vs)) ≡ r → None ≡ r
 numbers_none vs i v ns r lt is h run =
-    ap (λ o. option_map (λ xs. ns ++ xs) (option_and_then (λ m. option_map (λ xs. m ∷ xs) (numbers_of (drop (i + 1) vs))) o)) (sym h)
+    ap (λ o. option_map (λ xs. ns ++ xs)
+    (option_and_then (λ m. option_map (λ xs. m ∷ xs) (numbers_of (drop (i + 1) vs))) o)) (sym h)
     ∙ ap (λ us. option_map (λ xs. ns ++ xs) (numbers_of us)) (sym (item_drop vs i v lt is)) ∙ run
 
 no_more : (ns : List ℤ) → ns ++ [] ≡ ns
 no_more [] = refl
 no_more (n ∷ ns) = ap (λ ms. n ∷ ms) (no_more ns)
 
-pub numbers_end : (vs : List WideValue) (i : ℕ) (ns : List ℤ) (r : Option (List ℤ)) → length vs ≤ i → option_map (λ xs. ns ++ xs) (numbers_of (drop i vs)) ≡ r → Some ns ≡ r
+pub numbers_end : (vs : List WideValue) (i : ℕ) (ns : List ℤ) (r : Option (List ℤ)) → length vs ≤ i
+    → option_map (λ xs. ns ++ xs) (numbers_of (drop i vs)) ≡ r → Some ns ≡ r
 numbers_end vs i ns r le run =
     let end : drop i vs ≡ [] = grind (arith, common_steps, le) in
     ap Some (sym (no_more ns)) ∙ ap (λ us. option_map (λ xs. ns ++ xs) (numbers_of us)) (sym end) ∙ run
@@ -78,7 +87,8 @@ part_here t ns h = ap (part_of t) h
 pub part_none : (t : TaggedTree) (ns ms : List ℤ) (n : ℤ) → ns ≡ n ∷ ms → kid_at t n ≡ None → part_of t ns ≡ None
 part_none t ns ms n h g = ap (part_of t) h ∙ ap (option_and_then (λ u. part_of u ms)) g
 
-pub part_some : (t u : TaggedTree) (ns ms : List ℤ) (n : ℤ) → ns ≡ n ∷ ms → kid_at t n ≡ Some u → part_of t ns ≡ part_of u ms
+pub part_some : (t u : TaggedTree) (ns ms : List ℤ) (n : ℤ) → ns ≡ n ∷ ms → kid_at t n ≡ Some u
+    → part_of t ns ≡ part_of u ms
 part_some t u ns ms n h g = ap (part_of t) h ∙ ap (option_and_then (λ w. part_of w ms)) g
 
 pub ruleset part_rules = (part_here, part_none, part_some)

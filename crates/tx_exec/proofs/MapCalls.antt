@@ -44,30 +44,41 @@ if_both true false x y h g = absurd cc
 if_both false q x y h g = absurd cc
 
 module _ (k : ℕ) (below : Eval) (f : Frame) (label : List ℕ) where
-  pub no_name : (ns : List TaggedTree) (foo root name : WideTree) → text_of name ≡ None → map_named k below f label ns foo root name ≡ wrong k (codes "bad") label
+  pub no_name : (ns : List TaggedTree) (foo root name : WideTree) → text_of name ≡ None
+      → map_named k below f label ns foo root name ≡ wrong k (codes "bad") label
   no_name ns (leaf a) (leaf b) (leaf x) h = absurd cc
   no_name ns (leaf a) (leaf b) (node l ts) h = refl
   no_name ns (leaf a) (node l ts) name h = refl
   no_name ns (node l ts) root name h = refl
 
-  pub no_foo : (ns : List TaggedTree) (foo root name : WideTree) → label_in foo ≡ None → map_named k below f label ns foo root name ≡ wrong k (codes "bad") label
-  no_foo ns (leaf a) (leaf b) (leaf x) h = if_first (is_label a) (is_label b) (map_of k below f label a b x ns) (wrong k (codes "bad") label) (label_none (is_label a) a h)
+  pub no_foo : (ns : List TaggedTree) (foo root name : WideTree) → label_in foo ≡ None
+      → map_named k below f label ns foo root name ≡ wrong k (codes "bad") label
+  no_foo ns (leaf a) (leaf b) (leaf x) h =
+      if_first (is_label a) (is_label b) (map_of k below f label a b x ns) (wrong k (codes "bad") label)
+      (label_none (is_label a) a h)
   no_foo ns (leaf a) (leaf b) (node l ts) h = refl
   no_foo ns (leaf a) (node l ts) name h = refl
   no_foo ns (node l ts) root name h = refl
 
-  pub no_root : (ns : List TaggedTree) (foo root name : WideTree) → label_in root ≡ None → map_named k below f label ns foo root name ≡ wrong k (codes "bad") label
-  no_root ns (leaf a) (leaf b) (leaf x) h = if_second (is_label a) (is_label b) (map_of k below f label a b x ns) (wrong k (codes "bad") label) (label_none (is_label b) b h)
+  pub no_root : (ns : List TaggedTree) (foo root name : WideTree) → label_in root ≡ None
+      → map_named k below f label ns foo root name ≡ wrong k (codes "bad") label
+  no_root ns (leaf a) (leaf b) (leaf x) h =
+      if_second (is_label a) (is_label b) (map_of k below f label a b x ns) (wrong k (codes "bad") label)
+      (label_none (is_label b) b h)
   no_root ns (leaf a) (leaf b) (node l ts) h = refl
   no_root ns (leaf a) (node l ts) name h = refl
   no_root ns (node l ts) root name h = refl
 
-  pub all_words : (ns : List TaggedTree) (foo root name : WideTree) (a b x : List ℕ) → label_in foo ≡ Some a → label_in root ≡ Some b → text_of name ≡ Some x
+  pub all_words : (ns : List TaggedTree) (foo root name : WideTree) (a b x : List ℕ) → label_in foo ≡ Some a
+      → label_in root ≡ Some b → text_of name ≡ Some x
       → map_named k below f label ns foo root name ≡ map_of k below f label a b x ns
   all_words ns (leaf c) (leaf d) (leaf y) a b x p q h =
-      let both = if_both (is_label c) (is_label d) (map_of k below f label c d y ns) (wrong k (codes "bad") label) (label_some (is_label c) c a p) (label_some (is_label d) d b q) in
+      let both = if_both (is_label c) (is_label d) (map_of k below f label c d y ns) (wrong k (codes "bad") label)
+      (label_some (is_label c) c a p) (label_some (is_label d) d b q) in
       let same : y ≡ x = cc in
-      both ∙ ap (λ z. map_of k below f label z d y ns) (label_same (is_label c) c a p) ∙ ap (λ z. map_of k below f label a z y ns) (label_same (is_label d) d b q) ∙ ap (λ z. map_of k below f label a b z ns) same
+      both ∙ ap (λ z. map_of k below f label z d y ns) (label_same (is_label c) c a p)
+      ∙ ap (λ z. map_of k below f label a z y ns) (label_same (is_label d) d b q)
+      ∙ ap (λ z. map_of k below f label a b z ns) same
   all_words ns (leaf c) (leaf d) (node l ts) a b x p q h = absurd cc
   all_words ns (leaf c) (node l ts) name a b x p q h = absurd cc
   all_words ns (node l ts) root name a b x p q h = absurd cc
@@ -87,31 +98,43 @@ module _ (k : ℕ) (below : Eval) (f : Frame) (label : List ℕ) where
   too_many (a ∷ b ∷ c ∷ d ∷ e ∷ []) h = absurd (omega (arith, h))
   too_many (a ∷ b ∷ c ∷ d ∷ e ∷ g ∷ ts) h = refl
 
-  three_same : (u v w a b c : TaggedTree) (ns : List TaggedTree) → u ≡ a → v ≡ b → w ≡ c → map_named k below f label ns u.tree v.tree w.tree ≡ map_named k below f label ns a.tree b.tree c.tree
-  three_same u v w a b c ns p q r = ap (λ z. map_named k below f label ns z.tree v.tree w.tree) p ∙ ap (λ z. map_named k below f label ns a.tree z.tree w.tree) q ∙ ap (λ z. map_named k below f label ns a.tree b.tree z.tree) r
+  three_same : (u v w a b c : TaggedTree) (ns : List TaggedTree) → u ≡ a → v ≡ b → w ≡ c
+      → map_named k below f label ns u.tree v.tree w.tree ≡ map_named k below f label ns a.tree b.tree c.tree
+  three_same u v w a b c ns p q r = ap (λ z. map_named k below f label ns z.tree v.tree w.tree) p
+      ∙ ap (λ z. map_named k below f label ns a.tree z.tree w.tree) q
+      ∙ ap (λ z. map_named k below f label ns a.tree b.tree z.tree) r
 
-  pub three_kids : (ts : List TaggedTree) (a b c : TaggedTree) → 3 ≤ length ts → length ts ≤ 5 → slice_get ts 0 ≡ Some a → slice_get ts 1 ≡ Some b → slice_get ts 2 ≡ Some c
+  pub three_kids : (ts : List TaggedTree) (a b c : TaggedTree) → 3 ≤ length ts → length ts ≤ 5 → slice_get ts 0 ≡ Some a
+      → slice_get ts 1 ≡ Some b → slice_get ts 2 ≡ Some c
       → map_args k below f label ts ≡ map_named k below f label (drop 3 ts) a.tree b.tree c.tree
   three_kids [] a b c h g p q r = absurd (omega (arith, h))
   three_kids (u ∷ []) a b c h g p q r = absurd (omega (arith, h))
   three_kids (u ∷ v ∷ []) a b c h g p q r = absurd (omega (arith, h))
-  three_kids (u ∷ v ∷ w ∷ []) a b c h g p q r = let d : u ≡ a = cc in let e : v ≡ b = cc in let i : w ≡ c = cc in three_same u v w a b c [] d e i
-  three_kids (u ∷ v ∷ w ∷ x ∷ []) a b c h g p q r = let d : u ≡ a = cc in let e : v ≡ b = cc in let i : w ≡ c = cc in three_same u v w a b c (x ∷ []) d e i
-  three_kids (u ∷ v ∷ w ∷ x ∷ y ∷ []) a b c h g p q r = let d : u ≡ a = cc in let e : v ≡ b = cc in let i : w ≡ c = cc in three_same u v w a b c (x ∷ y ∷ []) d e i
+  three_kids (u ∷ v ∷ w ∷ []) a b c h g p q r = let d : u ≡ a = cc in let e : v ≡ b = cc in let i : w ≡ c =
+      cc in three_same u v w a b c [] d e i
+  three_kids (u ∷ v ∷ w ∷ x ∷ []) a b c h g p q r = let d : u ≡ a = cc in let e : v ≡ b = cc in let i : w ≡ c =
+      cc in three_same u v w a b c (x ∷ []) d e i
+  three_kids (u ∷ v ∷ w ∷ x ∷ y ∷ []) a b c h g p q r = let d : u ≡ a = cc in let e : v ≡ b = cc in let i : w ≡ c =
+      cc in three_same u v w a b c (x ∷ y ∷ []) d e i
   three_kids (u ∷ v ∷ w ∷ x ∷ y ∷ z ∷ ts) a b c h g p q r = absurd (omega (arith, g))
 
   -- ---- what the numbers come to
 
-  pub numbers_bad : (foo root x : List ℕ) (count : ℕ) (o : Option (List ℤ)) → o ≡ None → map_numbered k below f label foo root x count o ≡ wrong k (codes "bad") label
+  pub numbers_bad : (foo root x : List ℕ) (count : ℕ) (o : Option (List ℤ)) → o ≡ None
+      → map_numbered k below f label foo root x count o ≡ wrong k (codes "bad") label
   numbers_bad foo root x count o h = ap (map_numbered k below f label foo root x count) h
 
-  pub numbers_past : (foo root x : List ℕ) (count : ℕ) (o : Option (List ℤ)) (ns : List ℤ) → o ≡ Some ns → numbers_between count (from_number ns) (to_number count ns) ≡ None
+  pub numbers_past : (foo root x : List ℕ) (count : ℕ) (o : Option (List ℤ)) (ns : List ℤ) → o ≡ Some ns
+      → numbers_between count (from_number ns) (to_number count ns) ≡ None
       → map_numbered k below f label foo root x count o ≡ wrong k (codes "no-part") x
-  numbers_past foo root x count o ns h g = ap (map_numbered k below f label foo root x count) h ∙ ap (mapped k below f foo root x) g
+  numbers_past foo root x count o ns h g = ap (map_numbered k below f label foo root x count) h
+      ∙ ap (mapped k below f foo root x) g
 
-  pub numbers_call : (foo root x : List ℕ) (count : ℕ) (o : Option (List ℤ)) (ns : List ℤ) (is : List ℕ) → o ≡ Some ns → numbers_between count (from_number ns) (to_number count ns) ≡ Some is
+  pub numbers_call : (foo root x : List ℕ) (count : ℕ) (o : Option (List ℤ)) (ns : List ℤ) (is : List ℕ) → o ≡ Some ns
+      → numbers_between count (from_number ns) (to_number count ns) ≡ Some is
       → map_numbered k below f label foo root x count o ≡ evaluated_made below f (call_over foo root x is)
-  numbers_call foo root x count o ns is h g = ap (map_numbered k below f label foo root x count) h ∙ ap (mapped k below f foo root x) g
+  numbers_call foo root x count o ns is h g = ap (map_numbered k below f label foo root x count) h
+      ∙ ap (mapped k below f foo root x) g
 
 pub ruleset word_rules = (no_name, no_foo, no_root, all_words)
 
@@ -163,17 +186,21 @@ past_none count (pos i) (pos j) h = most_false i j count _ _ (omega (arith, ints
 past_none count (pos i) (negsuc j) h = refl
 past_none count (negsuc i) b h = refl
 
-pub between_some : (count : ℕ) (a b : ℤ) (m n : ℕ) → a ≡ pos m → b ≡ pos n → m ≤ n → n ≤ count → numbers_between count a b ≡ Some (range_with_len m (n - m))
-between_some count a b m n p q h g = ap (λ z. numbers_between count z b) p ∙ ap (numbers_between count (pos m)) q ∙ if_both (nat_le m n) (nat_le n count) _ _ (grind (arith, common_steps, h)) (grind (arith, common_steps, g))
+pub between_some : (count : ℕ) (a b : ℤ) (m n : ℕ) → a ≡ pos m → b ≡ pos n → m ≤ n → n ≤ count
+    → numbers_between count a b ≡ Some (range_with_len m (n - m))
+between_some count a b m n p q h g = ap (λ z. numbers_between count z b) p ∙ ap (numbers_between count (pos m)) q
+    ∙ if_both (nat_le m n) (nat_le n count) _ _ (grind (arith, common_steps, h)) (grind (arith, common_steps, g))
 
 pub ruleset between_rules = (below_none, falling_none, past_none, between_some, ints)
 
 -- ---- the call
 
-pub item_next : {X : Type 0} (g : ℕ → X) (a i : ℕ) (xs ys : List X) (x : X) → a ≤ i → xs ≡ map g (range_with_len a (i - a)) → ys ≡ xs ++ x ∷ [] → x ≡ g i → ys ≡ map g (range_with_len a ((i + 1) - a))
+pub item_next : {X : Type 0} (g : ℕ → X) (a i : ℕ) (xs ys : List X) (x : X) → a ≤ i
+    → xs ≡ map g (range_with_len a (i - a)) → ys ≡ xs ++ x ∷ [] → x ≡ g i → ys ≡ map g (range_with_len a ((i + 1) - a))
 item_next g a i xs ys x h run e is =
     let more : (i + 1) - a ≡ (i - a) + 1 = omega (arith, h) in
-    rw more (e ∙ ap (λ zs. zs ++ x ∷ []) run ∙ ap (λ z. map g (range_with_len a (i - a)) ++ z ∷ []) is ∙ sym (map-range_with_len_more g a (i - a) i (omega (arith, h))))
+    rw more (e ∙ ap (λ zs. zs ++ x ∷ []) run ∙ ap (λ z. map g (range_with_len a (i - a)) ++ z ∷ []) is
+    ∙ sym (map-range_with_len_more g a (i - a) i (omega (arith, h))))
 
 pub no_items : {X : Type 0} (g : ℕ → X) (a : ℕ) → map g (range_with_len a (a - a)) ≡ []
 no_items g a = let none : a - a ≡ 0 = omega arith in rw none refl
@@ -188,10 +215,17 @@ module _ (foo root x : List ℕ) where
   pub size_begun : (a : ℕ) → 1 ≡ size_of (call_over foo root x (range_with_len a (a - a)))
   size_begun a = rw (no_items (item_call foo x) a) refl
 
-  pub size_next : (a i n m : ℕ) → a ≤ i → n ≡ size_of (call_over foo root x (range_with_len a (i - a))) → m ≡ n + size_of (item_call foo x i)
+  pub size_next : (a i n m : ℕ) → a ≤ i → n ≡ size_of (call_over foo root x (range_with_len a (i - a)))
+      → m ≡ n + size_of (item_call foo x i)
       → m ≡ size_of (call_over foo root x (range_with_len a ((i + 1) - a)))
   size_next a i n m h run e =
       let more = item_next (item_call foo x) a i _ _ (item_call foo x i) h refl refl refl in
-      rw (← more) (omega (arith, e, run, size_forest (map (item_call foo x) (range_with_len a (i - a))) (item_call foo x i ∷ [])))
+      rw (← more)
+      (omega (
+        arith,
+        e,
+        run,
+        size_forest (map (item_call foo x) (range_with_len a (i - a))) (item_call foo x i ∷ []),
+      ))
 
 pub ruleset size_rules = (size_begun, size_next)

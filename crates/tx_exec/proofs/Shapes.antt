@@ -13,7 +13,8 @@ use Rattle.tx_exec_form.specs.declared.rows.Taking.{Taking}
 use Rattle.tx_origin.proofs.Wholes.{plain_whole}
 use Rattle.std.proofs.lemmas.Grind.{common_steps}
 
-pub not_two : (k : ℕ) (below : Eval) (f : Frame) (label : List ℕ) (at : Option (List ℕ)) (ts : List TaggedTree) → (length ts ≡ 2 → ⊥) → assign k below f label at ts ≡ wrong k (codes "bad") label
+pub not_two : (k : ℕ) (below : Eval) (f : Frame) (label : List ℕ) (at : Option (List ℕ)) (ts : List TaggedTree)
+    → (length ts ≡ 2 → ⊥) → assign k below f label at ts ≡ wrong k (codes "bad") label
 not_two k below f label at [] n = refl
 not_two k below f label at (y ∷ []) n = refl
 not_two k below f label at (y ∷ z ∷ []) n = absurd (n refl)
@@ -21,34 +22,41 @@ not_two k below f label at (y ∷ z ∷ w ∷ ts) n = refl
 
 pub ruleset assign_rules = (not_two)
 
-pub quote_one : (k : ℕ) (label : List ℕ) (ts : List TaggedTree) (x : TaggedTree) → length ts ≡ 1 → slice_get ts 0 ≡ Some x → quote k label ts ≡ taken k (whole x.at x.tree)
+pub quote_one : (k : ℕ) (label : List ℕ) (ts : List TaggedTree) (x : TaggedTree) → length ts ≡ 1
+    → slice_get ts 0 ≡ Some x → quote k label ts ≡ taken k (whole x.at x.tree)
 quote_one k label [] x n a = absurd (omega (arith, n))
 quote_one k label (y ∷ []) x n a = let first : y ≡ x = cc in ap (λ z. taken k (whole z.at z.tree)) first
 quote_one k label (y ∷ z ∷ ts) x n a = absurd (omega (arith, n))
 
-pub quote_not : (k : ℕ) (label : List ℕ) (ts : List TaggedTree) → (length ts ≡ 1 → ⊥) → quote k label ts ≡ wrong k (codes "bad") label
+pub quote_not : (k : ℕ) (label : List ℕ) (ts : List TaggedTree) → (length ts ≡ 1 → ⊥)
+    → quote k label ts ≡ wrong k (codes "bad") label
 quote_not k label [] n = refl
 quote_not k label (y ∷ []) n = absurd (n refl)
 quote_not k label (y ∷ z ∷ ts) n = refl
 
 pub ruleset quote_rules = (quote_one, quote_not)
 
-pub macro_none : (k : ℕ) (label : List ℕ) (t : TaggedTree) (ts : List TaggedTree) → length ts ≡ 0 → macro k label t ts ≡ wrong k (codes "bad") label
+pub macro_none : (k : ℕ) (label : List ℕ) (t : TaggedTree) (ts : List TaggedTree) → length ts ≡ 0
+    → macro k label t ts ≡ wrong k (codes "bad") label
 macro_none k label t [] n = refl
 macro_none k label t (x ∷ ts) n = absurd (omega (arith, n))
 
-pub macro_some : (k : ℕ) (label : List ℕ) (t : TaggedTree) (ts : List TaggedTree) → 0 < length ts → macro k label t ts ≡ (need (depth_of t.tree) k >> (pay (size_of t.tree - 1) >> give (whole t.at t.tree)))
+pub macro_some : (k : ℕ) (label : List ℕ) (t : TaggedTree) (ts : List TaggedTree) → 0 < length ts
+    → macro k label t ts ≡ (need (depth_of t.tree) k >> (pay (size_of t.tree - 1) >> give (whole t.at t.tree)))
 macro_some k label t [] n = absurd (omega (arith, n))
 macro_some k label t (x ∷ ts) n = refl
 
 pub ruleset macro_rules = (macro_none, macro_some, plain_whole, common_steps)
 
-pub only_one : (unary : Unary) (k : ℕ) (below : Eval) (f : Frame) (label : List ℕ) (ts : List TaggedTree) (x : TaggedTree) → length ts ≡ 1 → slice_get ts 0 ≡ Some x → only unary k below f label ts ≡ only_child unary k below f label x
+pub only_one : (unary : Unary) (k : ℕ) (below : Eval) (f : Frame) (label : List ℕ) (ts : List TaggedTree)
+    (x : TaggedTree) → length ts ≡ 1 → slice_get ts 0 ≡ Some x
+    → only unary k below f label ts ≡ only_child unary k below f label x
 only_one unary k below f label [] x n a = absurd (omega (arith, n))
 only_one unary k below f label (y ∷ []) x n a = let first : y ≡ x = cc in ap (only_child unary k below f label) first
 only_one unary k below f label (y ∷ z ∷ ts) x n a = absurd (omega (arith, n))
 
-pub only_not : (unary : Unary) (k : ℕ) (below : Eval) (f : Frame) (label : List ℕ) (ts : List TaggedTree) → (length ts ≡ 1 → ⊥) → only unary k below f label ts ≡ wrong k (codes "bad") label
+pub only_not : (unary : Unary) (k : ℕ) (below : Eval) (f : Frame) (label : List ℕ) (ts : List TaggedTree)
+    → (length ts ≡ 1 → ⊥) → only unary k below f label ts ≡ wrong k (codes "bad") label
 only_not unary k below f label [] n = refl
 only_not unary k below f label (y ∷ []) n = absurd (n refl)
 only_not unary k below f label (y ∷ z ∷ ts) n = refl

@@ -24,7 +24,8 @@ plains_kids at i (cons t ts) =
     let others = plains_kids at (i + 1) ts in
     rw (first, others) refl
 
-pub leaf_size : (at : Option (List ℕ)) (t : WideTree) → label_of t ≡ None → size_of (plain (tuple_of (kids_at at t))) ≡ 1
+pub leaf_size : (at : Option (List ℕ)) (t : WideTree) → label_of t ≡ None
+    → size_of (plain (tuple_of (kids_at at t))) ≡ 1
 leaf_size at (leaf x) e = refl
 leaf_size at (node l ts) e = absurd cc
 
@@ -33,7 +34,8 @@ pub node_size : (at : Option (List ℕ)) (t : WideTree) (l : List ℕ) → label
 node_size at (leaf x) l e = absurd cc
 node_size at (node m ts) l e = ap (λ us. 1 + total_size us) (plains_kids at 0 ts)
 
-pub leaf_depth : (at : Option (List ℕ)) (t : WideTree) → label_of t ≡ None → depth_of (plain (tuple_of (kids_at at t))) ≡ 1
+pub leaf_depth : (at : Option (List ℕ)) (t : WideTree) → label_of t ≡ None
+    → depth_of (plain (tuple_of (kids_at at t))) ≡ 1
 leaf_depth at (leaf x) e = refl
 leaf_depth at (node l ts) e = absurd cc
 

@@ -38,13 +38,16 @@ odd_true (x ∷ []) n h = refl
 odd_true (x ∷ y ∷ ts) zero h = absurd (omega (arith, h))
 odd_true (x ∷ y ∷ ts) (suc n) h = odd_true ts n (omega (arith, h))
 
-pub row_even : (k : ℕ) (below : Eval) (f : Frame) (label : List ℕ) (at : Option (List ℕ)) (ts : List TaggedTree) (a n : ℕ) → a ≡ length ts → a ≡ 2 * n → with_row k below f label at ts ≡ wrong k (codes "bad") label
+pub row_even : (k : ℕ) (below : Eval) (f : Frame) (label : List ℕ) (at : Option (List ℕ)) (ts : List TaggedTree)
+    (a n : ℕ) → a ≡ length ts → a ≡ 2 * n → with_row k below f label at ts ≡ wrong k (codes "bad") label
 row_even k below f label at ts a n h q = rw (odd_false ts n (omega (arith, h, q))) refl
 
-pub row_odd : (k : ℕ) (below : Eval) (f : Frame) (label : List ℕ) (at : Option (List ℕ)) (ts : List TaggedTree) (n : ℕ) → length ts ≡ 2 * n + 1 → with_row k below f label at ts ≡ with_parts k below f label at [] [] ts
+pub row_odd : (k : ℕ) (below : Eval) (f : Frame) (label : List ℕ) (at : Option (List ℕ)) (ts : List TaggedTree) (n : ℕ)
+    → length ts ≡ 2 * n + 1 → with_row k below f label at ts ≡ with_parts k below f label at [] [] ts
 row_odd k below f label at ts n h = rw (odd_true ts n h) refl
 
-pub two_front : (ts : List TaggedTree) (i : ℕ) (x v : TaggedTree) → slice_get ts (2 * i) ≡ Some x → slice_get ts (2 * i + 1) ≡ Some v → drop (2 * i) ts ≡ x ∷ v ∷ drop (2 * (i + 1)) ts
+pub two_front : (ts : List TaggedTree) (i : ℕ) (x v : TaggedTree) → slice_get ts (2 * i) ≡ Some x
+    → slice_get ts (2 * i + 1) ≡ Some v → drop (2 * i) ts ≡ x ∷ v ∷ drop (2 * (i + 1)) ts
 two_front ts i x v a b =
     let next : 2 * i + 1 + 1 ≡ 2 * (i + 1) = omega arith in
     drop_item ts (2 * i) x a ∙ ap (λ us. x ∷ us) (drop_item ts (2 * i + 1) v b) ∙ ap (λ n. x ∷ v ∷ drop n ts) next
@@ -64,19 +67,28 @@ module _ (k : ℕ) (label : List ℕ) (e : Before) (behind : Run WideValue) (go 
   by_words name (Some x) s = by_value name x (behind e s)
 
   by_pair : (r : Ran WideValue)
-      → on_done e (λ name. named k label (λ x. behind >>= λ v. go (record { name = name; words = x; value = v })) (value_text name)) r
+      → on_done e
+      (λ name. named k label (λ x. behind >>= λ v. go (record { name = name; words = x; value = v }))
+      (value_text name)) r
       ≡ on_done e (paired k label go) (on_done e (λ name. pair_named behind name (value_text name)) r)
   by_pair Over = refl
   by_pair (Done name s) = by_words name (value_text name) s
 
 pub front_run : (k : ℕ) (below : Eval) (f : Frame) (label : List ℕ) (ts : List TaggedTree) (i : ℕ) (x v : TaggedTree)
     (go : Pair → Run WideValue) (e : Before) (s : State) → slice_get ts i ≡ Some x → slice_get ts (i + 1) ≡ Some v
-    → on_done e (λ name. named k label (λ n. below v f >>= λ w. go (record { name = name; words = n; value = w })) (value_text name)) (below x f e s)
+    → on_done e
+    (λ name. named k label (λ n. below v f >>= λ w. go (record { name = name; words = n; value = w }))
+    (value_text name)) (below x f e s)
     ≡ on_done e (paired k label go) (pair_run below f ts i e s)
 unfolding pair_run
 front_run k below f label ts i x v go e s a b =
-    ap (λ m. on_done e (λ name. named k label (λ n. m >>= λ w. go (record { name = name; words = n; value = w })) (value_text name)) (below x f e s)) (sym (kid_run_is below f ts (i + 1) v b))
-    ∙ ap (λ m. on_done e (λ name. named k label (λ n. kid_run below f ts (i + 1) >>= λ w. go (record { name = name; words = n; value = w })) (value_text name)) (m e s)) (sym (kid_run_is below f ts i x a))
+    ap (λ m. on_done e
+    (λ name. named k label (λ n. m >>= λ w. go (record { name = name; words = n; value = w })) (value_text name))
+    (below x f e s)) (sym (kid_run_is below f ts (i + 1) v b))
+    ∙ ap (λ m. on_done e
+    (λ name. named k label (λ n. kid_run below f ts (i + 1) >>= λ w.
+    go (record { name = name; words = n; value = w })) (value_text name)) (m e s))
+    (sym (kid_run_is below f ts i x a))
     ∙ by_pair k label e (kid_run below f ts (i + 1)) go (kid_run below f ts i e s)
 
 pub two_kids : (k : ℕ) (below : Eval) (f : Frame) (label : List ℕ) (at : Option (List ℕ)) (ts : List TaggedTree)
@@ -131,39 +143,42 @@ closed label at vs old v = set_all old >> give (made label (vals (vs ++ v ∷ []
 abbrev pub set_back : Sets → WideValue → Run WideValue
 set_back old v = set_all old >> give v
 
-module _ (label : List ℕ) (at : Option (List ℕ)) (vs : List WideValue) (e : Before) (m : Run WideValue) (ps : Sets) where
-  by_closed : (v : WideValue) (r : Ran (Unit {0}))
-      → on_done {A = Unit {0}} e (λ _. give (made label (vals (vs ++ v ∷ [])) at)) r
-      ≡ on_done e (ended label at vs) (on_done {A = Unit {0}} e (λ _. give v) r)
-  by_closed v Over = refl
-  by_closed v (Done u s) = refl
+module _ (label : List ℕ) (at : Option (List ℕ)) (vs : List WideValue) (e : Before) (m : Run WideValue) (ps : Sets)
+  where
+    by_closed : (v : WideValue) (r : Ran (Unit {0}))
+        → on_done {A = Unit {0}} e (λ _. give (made label (vals (vs ++ v ∷ [])) at)) r
+        ≡ on_done e (ended label at vs) (on_done {A = Unit {0}} e (λ _. give v) r)
+    by_closed v Over = refl
+    by_closed v (Done u s) = refl
 
-  by_body : (old : Sets) (r : Ran WideValue)
-      → on_done e (closed label at vs old) r ≡ on_done e (ended label at vs) (on_done e (set_back old) r)
-  by_body old Over = refl
-  by_body old (Done v s) = by_closed v (set_all old e s)
+    by_body : (old : Sets) (r : Ran WideValue)
+        → on_done e (closed label at vs old) r ≡ on_done e (ended label at vs) (on_done e (set_back old) r)
+    by_body old Over = refl
+    by_body old (Done v s) = by_closed v (set_all old e s)
 
-  by_set : (old : Sets) (r : Ran (Unit {0})) → on_done {A = Unit {0}} e (λ _. m >>= closed label at vs old) r
-      ≡ on_done e (ended label at vs) (on_done {A = Unit {0}} e (λ _. m >>= set_back old) r)
-  by_set old Over = refl
-  by_set old (Done u s) = by_body old (m e s)
+    by_set : (old : Sets) (r : Ran (Unit {0})) → on_done {A = Unit {0}} e (λ _. m >>= closed label at vs old) r
+        ≡ on_done e (ended label at vs) (on_done {A = Unit {0}} e (λ _. m >>= set_back old) r)
+    by_set old Over = refl
+    by_set old (Done u s) = by_body old (m e s)
 
-  by_paid : (r : Ran (Unit {0}))
-      → on_done {A = Unit {0}} e (λ _. kept ps >>= λ o. set_all ps >> (m >>= closed label at vs o)) r
-      ≡ on_done {A = Unit {0}} e (λ _. (kept ps >>= λ o. set_all ps >> (m >>= set_back o)) >>= ended label at vs) r
-  unfolding kept
-  by_paid Over = refl
-  by_paid (Done u s) = by_set (kept_of ps s.own) (set_all ps e s)
+    by_paid : (r : Ran (Unit {0}))
+        → on_done {A = Unit {0}} e (λ _. kept ps >>= λ o. set_all ps >> (m >>= closed label at vs o)) r
+        ≡ on_done {A = Unit {0}} e (λ _. (kept ps >>= λ o. set_all ps >> (m >>= set_back o)) >>= ended label at vs) r
+    unfolding kept
+    by_paid Over = refl
+    by_paid (Done u s) = by_set (kept_of ps s.own) (set_all ps e s)
 
 body_is : (below : Eval) (f : Frame) (label : List ℕ) (at : Option (List ℕ)) (vs : List WideValue) (ps : Sets)
     (ts : List TaggedTree) (i : ℕ) (b : TaggedTree) (e : Before) (s : State) → slice_get ts i ≡ Some b
     → with_body below f label at vs ps b e s ≡ with_run below f label at vs ps ts i e s
 unfolding with_body with_run held_run
 body_is below f label at vs ps ts i b e s h =
-    ap (λ m. on_done {A = Unit {0}} e (λ _. kept ps >>= λ o. set_all ps >> (m >>= closed label at vs o)) (pay (sizes ps) e s)) (sym (kid_run_is below f ts i b h))
+    ap (λ m. on_done {A = Unit {0}} e (λ _. kept ps >>= λ o. set_all ps >> (m >>= closed label at vs o))
+    (pay (sizes ps) e s)) (sym (kid_run_is below f ts i b h))
     ∙ by_paid label at vs e (kid_run below f ts i) ps (pay (sizes ps) e s)
 
-pub with_last : (k : ℕ) (below : Eval) (f : Frame) (label : List ℕ) (at : Option (List ℕ)) (vs : List WideValue) (ps : Sets)
+pub with_last : (k : ℕ) (below : Eval) (f : Frame) (label : List ℕ) (at : Option (List ℕ)) (vs : List WideValue)
+    (ps : Sets)
     (ts : List TaggedTree) (n : ℕ) (e : Before) (s : State) → length ts ≡ 2 * n + 1
     → with_parts k below f label at vs ps (drop (2 * n) ts) e s ≡ with_run below f label at vs ps ts (2 * n) e s
 with_last k below f label at vs ps ts n e s l =
@@ -203,7 +218,8 @@ held_done old v e r s s1 h g = ap (on_done e (set_back old)) h ∙ ap (on_done {
 
 -- ---- what is counted
 
-sizes_more : (ps : Sets) (x : Name) (v : WideValue) → sizes (ps ++ (x, Some (plain v)) ∷ []) ≡ sizes ps + size_of (plain v)
+sizes_more : (ps : Sets) (x : Name) (v : WideValue)
+    → sizes (ps ++ (x, Some (plain v)) ∷ []) ≡ sizes ps + size_of (plain v)
 sizes_more [] x v = omega arith
 sizes_more (p ∷ ps) x v = omega (arith, sizes_more ps x v)
 

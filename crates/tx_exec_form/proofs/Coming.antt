@@ -431,7 +431,8 @@ module _ (root : TaggedTree) where
       tag_founds label at kids None h g = rebuilts label kids at h g
       tag_founds label at kids (Some m) h g =
           tests (is_macro m) _ _ (applieds label kids (macro_in (children_of m)) h)
-          (tests (is_xmacro m) _ _ (applieds_all label kids (xmacro_in (children_of m)) h) (wrongs (codes "not-macro") label))
+          (tests (is_xmacro m) _ _ (applieds_all label kids (xmacro_in (children_of m)) h)
+          (wrongs (codes "not-macro") label))
 
       tag_runs : (label : List ℕ) (at : Option (List ℕ)) (kids : List TaggedTree) → AllStand root kids →
           LeadsTo root at (λ u. Unit {0}) → Yields V (tag_run k below label at kids f)
@@ -518,7 +519,8 @@ module _ (root : TaggedTree) where
       primitives which kids h =
           bind Vs V (eachs kids [] h tt)
           (λ vs _. skip V (pay (total_nodes (plains (vals vs))))
-          (λ _. takens (whole None (primitive_value which (map plain vs))) (whole_comes root None (primitive_value which (map plain vs)) tt)))
+          (λ _. takens (whole None (primitive_value which (map plain vs)))
+          (whole_comes root None (primitive_value which (map plain vs)) tt)))
 
       by_names : (label : List ℕ) (at : Option (List ℕ)) (kids : List TaggedTree) (r : Option Prim) → AllStand root kids
           → LeadsTo root at (λ u. Unit {0}) → Yields V (by_name k below label at kids f r)

@@ -67,7 +67,9 @@ module _ (k k' : ℕ) where
         fewer = omega (arith, h.fewer, g.fewer);
         tighter = omega (arith, h.tighter, g.tighter);
         again = λ e' c' left' i j q r u v.
-            ap (on_done e' f') (h.again e' c' (left' + (s1.left - s2.left)) i (j + (s1.slack - s2.slack)) (g.grows e' q) (omega (arith, r, h.fewer, g.fewer)) u (omega (arith, v, h.tighter, g.tighter)))
+            ap (on_done e' f')
+            (h.again e' c' (left' + (s1.left - s2.left)) i (j + (s1.slack - s2.slack)) (g.grows e' q)
+            (omega (arith, r, h.fewer, g.fewer)) u (omega (arith, v, h.tighter, g.tighter)))
             ∙ g.again e' (left' + (s1.left - s2.left)) left' (j + (s1.slack - s2.slack)) j q (omega (
               arith,
               g.fewer,
@@ -356,7 +358,8 @@ module _ (k k' : ℕ) where
     tag_founds label at kids None = rebuilts label kids at
     tag_founds label at kids (Some m) =
         tests (is_macro m) _ _ _ _ (applieds label kids (macro_in (children_of m)))
-        (tests (is_xmacro m) _ _ _ _ (applieds_all label kids (xmacro_in (children_of m))) (wrongs (codes "not-macro") label))
+        (tests (is_xmacro m) _ _ _ _ (applieds_all label kids (xmacro_in (children_of m)))
+        (wrongs (codes "not-macro") label))
 
     tag_runs : (label : List ℕ) (at : Option (List ℕ)) (kids : List TaggedTree) →
         Follows k k' (tag_run k below label at kids f) (tag_run k' below' label at kids f)
@@ -373,19 +376,22 @@ module _ (k k' : ℕ) where
     mappeds foo root x None = wrongs (codes "no-part") x
 
     map_numbereds : (label foo root x : List ℕ) (count : ℕ) (r : Option (List ℤ))
-        → Follows k k' (map_numbered k below f label foo root x count r) (map_numbered k' below' f label foo root x count r)
+        → Follows k k' (map_numbered k below f label foo root x count r)
+        (map_numbered k' below' f label foo root x count r)
     map_numbereds label foo root x count (Some ns) =
         mappeds foo root x (numbers_between count (from_number ns) (to_number count ns))
     map_numbereds label foo root x count None = bads label
 
     map_partss : (label foo root x : List ℕ) (count : ℕ) (numbers : List TaggedTree)
-        → Follows k k' (map_parts k below f label foo root x count numbers) (map_parts k' below' f label foo root x count numbers)
+        → Follows k k' (map_parts k below f label foo root x count numbers)
+        (map_parts k' below' f label foo root x count numbers)
     unfolding map_parts
     map_partss label foo root x count numbers =
         bind k k' (eachs numbers []) (λ vs. map_numbereds label foo root x count (numbers_of vs))
 
     map_founds : (label foo root x : List ℕ) (numbers : List TaggedTree) (r : Found)
-        → Follows k k' (map_found k below f label foo root x numbers r) (map_found k' below' f label foo root x numbers r)
+        → Follows k k' (map_found k below f label foo root x numbers r)
+        (map_found k' below' f label foo root x numbers r)
     map_founds label foo root x numbers Unbound = wrongs (codes "unbound") x
     map_founds label foo root x numbers Missing = wrongs (codes "missing") x
     map_founds label foo root x numbers (Here t) = map_partss label foo root x (length (kids_of t)) numbers
@@ -455,13 +461,15 @@ module _ (k k' : ℕ) where
       all_useds takings.Quoted ts = takens _
 
       all_numbereds : (taking : Taking) (label : List ℕ) (x : Name) (ts : List TaggedTree) (r : Option (List ℤ))
-          → Follows k k' (all_numbered taking k below below_all f label x ts r) (all_numbered taking k' below' below_all' f label x ts r)
+          → Follows k k' (all_numbered taking k below below_all f label x ts r)
+          (all_numbered taking k' below' below_all' f label x ts r)
       all_numbereds taking label x ts (Some []) = all_useds taking ts
       all_numbereds taking label x ts (Some (n ∷ ns)) = part_useds taking x (part_among ts n ns)
       all_numbereds taking label x ts None = bads label
 
       arg_founds : (taking : Taking) (label : List ℕ) (x : Name) (numbers : List TaggedTree) (r : Found) →
-          Follows k k' (arg_found taking k below below_all f label x numbers r) (arg_found taking k' below' below_all' f label x numbers r)
+          Follows k k' (arg_found taking k below below_all f label x numbers r)
+          (arg_found taking k' below' below_all' f label x numbers r)
       unfolding arg_part all_part
       arg_founds taking label x numbers Unbound = wrongs (codes "unbound") x
       arg_founds taking label x numbers Missing = wrongs (codes "missing") x
@@ -471,7 +479,8 @@ module _ (k k' : ℕ) where
           bind k k' (eachs numbers []) (λ vs. all_numbereds taking label x ts (numbers_of vs))
 
       arg_nameds : (taking : Taking) (label : List ℕ) (numbers : List TaggedTree) (t : WideTree) →
-          Follows k k' (arg_named taking k below below_all f label numbers t) (arg_named taking k' below' below_all' f label numbers t)
+          Follows k k' (arg_named taking k below below_all f label numbers t)
+          (arg_named taking k' below' below_all' f label numbers t)
       unfolding arg_of
       arg_nameds taking label numbers (leaf x) = arg_founds taking label x numbers (argument_in x f)
       arg_nameds taking label numbers (node m ts) = bads label
@@ -586,7 +595,8 @@ never k f h = record {
   runs = λ e s g.
       never_holds k (suc k) (need 1 (suc k) >>=
       f) e s ((need 1 (suc k) >>=
-      f) e s) ((bind (suc k) (suc k) (needs (suc k) (suc k) 1) h).runs e s g) (need_tight k (suc k) f e s (nat_le 1 (suc k)) h g);
+      f) e s) ((bind (suc k) (suc k) (needs (suc k) (suc k) 1) h).runs e s g)
+      (need_tight k (suc k) f e s (nat_le 1 (suc k)) h g);
 }
 
 module _ (k : ℕ) (below : Eval) (belows : (t : TaggedTree) (f : Frame) →
@@ -608,7 +618,8 @@ module _ (k : ℕ) (below : Eval) (belows : (t : TaggedTree) (f : Frame) →
   nevers below_all alls t f (node label kids) =
       never k (λ _. pay 1 >> row (row_of label) (suc k) below below_all t label (kids_from t.at 0 kids) f)
       (λ _. bind (suc k) (suc k) (pays (suc k) (suc k) 1)
-      (λ _. rows_follow (suc k) (suc k) below below belows f below_all below_all alls (row_of label) t label (kids_from t.at 0 kids)))
+      (λ _. rows_follow (suc k) (suc k) below below belows f below_all below_all alls (row_of label) t label
+      (kids_from t.at 0 kids)))
 
 mutual
   unfolding ex

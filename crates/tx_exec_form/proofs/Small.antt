@@ -340,12 +340,17 @@ module _ (j : ℕ) where
           after l j i (belows x f l i)
           (λ name p q. nameds (l - size_of (plain name)) (suc l) (min i (j - depth_of (plain name))) i label
           (λ n. below t f >>= stored label at name n) (value_text name) (omega arith) (omega arith)
-          (λ n. after (l - size_of (plain name)) j (min i (j - depth_of (plain name))) (belows t f (l - size_of (plain name)) (min i (j - depth_of (plain name))))
+          (λ n. after (l - size_of (plain name)) j (min i (j - depth_of (plain name)))
+          (belows t f (l - size_of (plain name)) (min i (j - depth_of (plain name))))
           (λ w r o.
-          storeds label at name n w (l - size_of (plain name) - size_of (plain w)) l (min (min i (j - depth_of (plain name))) (j - depth_of (plain w))) i (omega (arith, p, r)) (omega (arith, q)) (omega (arith, o)) (omega arith))))
+          storeds label at name n w (l - size_of (plain name) - size_of (plain w)) l
+          (min (min i (j - depth_of (plain name))) (j - depth_of (plain w))) i (omega (arith, p, r))
+          (omega (arith, q)) (omega (arith, o)) (omega arith))))
       assigns label at (x ∷ t ∷ y ∷ ts) l i le = bads label l (suc l) i i (omega arith) (omega arith)
 
-      bodies : (label : List ℕ) (at : Option (List ℕ)) (vs : List WideValue) (ps : Sets) (b : TaggedTree) (l l' i i' : ℕ) → total_size (plains (vals vs)) + l ≤ l' → deepest (plains (vals vs)) + i ≤ j → i ≤ i' → Leads (At l i) (with_body below f label at vs ps b) (Fits (suc l') (suc j) i')
+      bodies : (label : List ℕ) (at : Option (List ℕ)) (vs : List WideValue) (ps : Sets) (b : TaggedTree)
+          (l l' i i' : ℕ) → total_size (plains (vals vs)) + l ≤ l' → deepest (plains (vals vs)) + i ≤ j → i ≤ i'
+          → Leads (At l i) (with_body below f label at vs ps b) (Fits (suc l') (suc j) i')
       unfolding with_body
       bodies label at vs ps b l l' i i' p q r =
           pays l i _ (λ a. keeps _ i ps (λ old. set_alls _ i ps (after (l - sizes ps) j i (belows b f (l - sizes ps) i)
@@ -357,16 +362,21 @@ module _ (j : ℕ) where
             size_push vs v,
           )) (omega (arith, q, d, depth_push vs v)) (omega (arith, r)))))))
 
-      withs : (label : List ℕ) (at : Option (List ℕ)) (vs : List WideValue) (ps : Sets) (kids : List TaggedTree) (l l' i i' : ℕ) → total_size (plains (vals vs)) + l ≤ l' → deepest (plains (vals vs)) + i ≤ j → i ≤ i' → Leads (At l i) (with_parts (suc j) below f label at vs ps kids) (Fits (suc l') (suc j) i')
+      withs : (label : List ℕ) (at : Option (List ℕ)) (vs : List WideValue) (ps : Sets) (kids : List TaggedTree)
+          (l l' i i' : ℕ) → total_size (plains (vals vs)) + l ≤ l' → deepest (plains (vals vs)) + i ≤ j → i ≤ i'
+          → Leads (At l i) (with_parts (suc j) below f label at vs ps kids) (Fits (suc l') (suc j) i')
       withs label at vs ps [] l l' i i' p q r = bads label l (suc l') i i' (omega (arith, p)) r
       withs label at vs ps (b ∷ []) l l' i i' p q r = bodies label at vs ps b l l' i i' p q r
       withs label at vs ps (x ∷ t ∷ ts) l l' i i' p q r =
           after l j i (belows x f l i)
           (λ name a b.
-          nameds (l - size_of (plain name)) (suc l') (min i (j - depth_of (plain name))) i' label _ (value_text name) (omega (arith, p)) (omega (arith, r))
-          (λ n. after (l - size_of (plain name)) j (min i (j - depth_of (plain name))) (belows t f (l - size_of (plain name)) (min i (j - depth_of (plain name))))
+          nameds (l - size_of (plain name)) (suc l') (min i (j - depth_of (plain name))) i' label _ (value_text name)
+          (omega (arith, p)) (omega (arith, r))
+          (λ n. after (l - size_of (plain name)) j (min i (j - depth_of (plain name)))
+          (belows t f (l - size_of (plain name)) (min i (j - depth_of (plain name))))
           (λ w c d. withs label at (vs ++ name ∷ w ∷ []) (ps ++ (n, Some (plain w))
-          ∷ []) ts (l - size_of (plain name) - size_of (plain w)) l' (min (min i (j - depth_of (plain name))) (j - depth_of (plain w))) i'
+          ∷ []) ts (l - size_of (plain name) - size_of (plain w)) l'
+          (min (min i (j - depth_of (plain name))) (j - depth_of (plain w))) i'
           (omega (arith, p, a, c, size_two vs name w)) (omega (arith, q, b, d, depth_two vs name w)) (omega (
             arith,
             r,
@@ -541,7 +551,8 @@ module _ (j : ℕ) where
       primitives which kids l i le =
           bind (eachs kids [] l l i i (omega arith) (omega (arith, le)) (omega arith))
           (behind_values
-          (λ vs. pay (total_nodes (plains (vals vs))) >> taken (suc j) (whole None (primitive_value which (map plain vs)))) l i
+          (λ vs. pay (total_nodes (plains (vals vs))) >> taken (suc j)
+          (whole None (primitive_value which (map plain vs)))) l i
           (λ vs. pays l i _ (λ a. takens _ (suc l) i i _ (omega arith) (omega arith))))
 
       by_names : (label : List ℕ) (at : Option (List ℕ)) (kids : List TaggedTree) (l i : ℕ) (o : Option Prim) → i ≤ j
@@ -558,11 +569,13 @@ module _ (j : ℕ) where
         all_useds takings.Evaluated ts l l' i i' p r =
             record {
               runs =
-                  λ e s a. grown l l' i i' p r (below_all ts (caller_of f) e s) ((alls ts (caller_of f) l i).runs e s a);
+                  λ e s a. grown l l' i i' p r (below_all ts (caller_of f) e s)
+                  ((alls ts (caller_of f) l i).runs e s a);
             }
         all_useds takings.Quoted ts l l' i i' p r = takens l l' i i' (tuple_of ts) p r
 
-        all_numbereds : (taking : Taking) (label : List ℕ) (x : Name) (ts : List TaggedTree) (o : Option (List ℤ)) (l l' i i' : ℕ) → l ≤ l' → i ≤ i'
+        all_numbereds : (taking : Taking) (label : List ℕ) (x : Name) (ts : List TaggedTree) (o : Option (List ℤ))
+            (l l' i i' : ℕ) → l ≤ l' → i ≤ i'
             → Leads (At l i) (all_numbered taking (suc j) below below_all f label x ts o) (Fits l' (suc j) i')
         all_numbereds taking label x ts (Some []) l l' i i' p r = all_useds taking ts l l' i i' p r
         all_numbereds taking label x ts (Some (n ∷ ns)) l l' i i' p r =
@@ -570,7 +583,8 @@ module _ (j : ℕ) where
         all_numbereds taking label x ts None l l' i i' p r = bads label l l' i i' p r
 
         arg_founds : (taking : Taking) (label : List ℕ) (x : Name) (numbers : List TaggedTree) (l i : ℕ) (o : Found) →
-            i ≤ j → Leads (At l i) (arg_found taking (suc j) below below_all f label x numbers o) (Fits (suc l) (suc j) i)
+            i ≤ j → Leads (At l i) (arg_found taking (suc j) below below_all f label x numbers o)
+            (Fits (suc l) (suc j) i)
         unfolding arg_part all_part
         arg_founds taking label x numbers l i Unbound le =
             wrongs l (suc l) i i (codes "unbound") x (omega arith) (omega arith)
@@ -623,10 +637,12 @@ module _ (j : ℕ) where
         rows_fit rows.MapArgs t label kids l i le = maps label kids l i le
         rows_fit rows.If t label kids l i le =
             tests (nat_le 2 (length kids) && nat_le (length kids) 3) _ _ l (suc l) i i
-            (chosens label kids l (suc l) i i (omega arith) (omega arith)) (bads label l (suc l) i i (omega arith) (omega arith))
+            (chosens label kids l (suc l) i i (omega arith) (omega arith))
+            (bads label l (suc l) i i (omega arith) (omega arith))
         rows_fit rows.Case t label kids l i le =
             tests (nat_le 2 (length kids)) _ _ l (suc l) i i
-            (chosens label kids l (suc l) i i (omega arith) (omega arith)) (bads label l (suc l) i i (omega arith) (omega arith))
+            (chosens label kids l (suc l) i i (omega arith) (omega arith))
+            (bads label l (suc l) i i (omega arith) (omega arith))
         rows_fit rows.While t label kids l i le = whiles label kids l i le
         rows_fit rows.Tag t label kids l i le = by_names label t.at kids l i (primitive_named label) le
 
@@ -656,7 +672,9 @@ module _ (j : ℕ) where
         needs l i 1 (suc j) (λ a. pays l _ _
         (λ b. gives _ _ l (suc j) i _ (omega (arith, b)) (omega arith) (omega arith)))
     levels_fit below_all alls t f (node label kids) l i =
-        behind_step l i _ (rows_fit f below_all alls (row_of label) t label (kids_from t.at 0 kids) (l - 1) (min i (suc j - 1)) (omega arith))
+        behind_step l i _
+        (rows_fit f below_all alls (row_of label) t label (kids_from t.at 0 kids) (l - 1) (min i (suc j - 1))
+        (omega arith))
 
     tuples_fit : (ts : List TaggedTree) (f : Frame) (l i : ℕ) →
         Leads (At l i) (tuple_run (suc j) below ts f) (Fits l (suc j) i)

@@ -50,8 +50,11 @@ supports k c t e trace h = by (came k c t e trace h)
         follows_start k k' c t e w.result w.state w.run in
         let fewer : w.state.left ≤ c = held.fewer in
         let tighter : w.state.slack ≤ k = held.tighter in
-        ap (traced k' c') (held.again e' c' (c' - (c - w.state.left)) k' (k' - (k - w.state.slack)) agrees (omega (arith, enough, fewer)) (omega arith) (omega (arith, high, tighter)))
-        ∙ ap Some (same_trace k c k' c' (c' - (c - w.state.left)) (k' - (k - w.state.slack)) w.result w.state (omega (arith, enough, fewer)) (omega (arith, high, tighter))))
+        ap (traced k' c')
+        (held.again e' c' (c' - (c - w.state.left)) k' (k' - (k - w.state.slack)) agrees
+        (omega (arith, enough, fewer)) (omega arith) (omega (arith, high, tighter)))
+        ∙ ap Some (same_trace k c k' c' (c' - (c - w.state.left)) (k' - (k - w.state.slack)) w.result w.state
+        (omega (arith, enough, fewer)) (omega (arith, high, tighter))))
 
 pub agrees : (k c : ℕ) (t : TaggedTree) (e : Before) (trace : WideTrace) → evaluated_in k c t e ≡ Some trace →
     Agrees e trace.looks
@@ -93,7 +96,8 @@ over_of trace k c t e None q h p few = refl
 over_of trace k c t e (Some found) q h p few =
     let bounds : (found.cost ≤ c) × (found.height ≤ k) = allowed k c t e found q in
     let same : trace ≡ found =
-    one_trace trace found (max k trace.height) (max c trace.cost) t e h (supports k c t e found q) p (agrees k c t e found q) (omega arith) (omega (arith, bounds.0)) (omega arith) (omega (arith, bounds.1)) in
+    one_trace trace found (max k trace.height) (max c trace.cost) t e h (supports k c t e found q) p
+    (agrees k c t e found q) (omega arith) (omega (arith, bounds.0)) (omega arith) (omega (arith, bounds.1)) in
     let costs : trace.cost ≡ found.cost = ap (λ (u : WideTrace). u.cost) same in
     let heights : trace.height ≡ found.height = ap (λ (u : WideTrace). u.height) same in
     elim few as (λ _. Some found ≡ None) [

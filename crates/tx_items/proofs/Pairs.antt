@@ -14,7 +14,8 @@ use Rattle.tx_items.specs.Running.{State, Adds, HasShown, HasAttrs, set_by_pairs
 pub pairs_more : (a : Attrs) (xs : List WideValue) (i : ℕ) (d e : WideValue) → i + 1 < length xs
     → set_by_pairs a (vals (drop i xs))
     ≡ set_by_pairs
-    (with_named (attribute_in (value_text (get_or xs i d))) (value_text (get_or xs (i + 1) e)) a) (vals (drop (i + 2) xs))
+    (with_named (attribute_in (value_text (get_or xs i d))) (value_text (get_or xs (i + 1) e)) a)
+    (vals (drop (i + 2) xs))
 pairs_more a [] i d e h = absurd (omega arith)
 pairs_more a (x ∷ []) i d e h = absurd (omega arith)
 pairs_more a (x ∷ (v ∷ xs)) zero d e h = refl
@@ -47,7 +48,8 @@ pairs_next a b whole xs i x v there isx isv set so_far =
 
 pub back_more : (before a : Attrs) (xs : List WideValue) (i : ℕ) (d : WideValue) → i + 2 < length xs
     → given_back_by_pairs (vals (drop i xs)) before a
-    ≡ given_back (attribute_in (value_text (get_or xs i d))) before (given_back_by_pairs (vals (drop (i + 2) xs)) before a)
+    ≡ given_back (attribute_in (value_text (get_or xs i d))) before
+    (given_back_by_pairs (vals (drop (i + 2) xs)) before a)
 back_more before a [] i d h = absurd (omega arith)
 back_more before a (x ∷ []) i d h = absurd (omega arith)
 back_more before a (x ∷ (v ∷ xs)) zero d h = refl
@@ -114,7 +116,8 @@ with_odd before a (x ∷ (v ∷ xs)) d h =
 adds_same : (x : Form) (s m u w : State) → m.run ≡ s.run → m.paragraphs ≡ s.paragraphs → w.run ≡ u.run
     → w.paragraphs ≡ u.paragraphs → Adds x m u → Adds x s w
 adds_same (inline r) s m u w a b c d h = (c ∙ h.0 ∙ ap (λ q. beside q r) a, d ∙ h.1 ∙ b)
-adds_same (listed ps) s m u w a b c d h = λ clean. ap₂ (λ qs q. qs ++ ended q) d c ∙ h (a ∙ clean) ∙ ap (λ qs. qs ++ ps) b
+adds_same (listed ps) s m u w a b c d h = λ clean. ap₂ (λ qs q. qs ++ ended q) d c ∙ h (a ∙ clean)
+    ∙ ap (λ qs. qs ++ ps) b
 
 pub with_whole : (xs : List WideValue) (last : WideValue) (label : List ℕ) (s m u w : State) (before : Attrs)
     → before ≡ s.attrs → length xs % 2 ≢ 0 → last ≡ get_or xs (length xs - 1) last

@@ -119,9 +119,11 @@ mutual
       → all_inline (show_all barred a vs).each ≡ not (some_list (plans_of vs))
   show_lists barred a none = refl
   show_lists true a (also v vs) =
-      ap₂ ◌&&◌ (shows_list a v) (show_lists true (show a v).after vs) ∙ not_or (is_leaf (plan_of v)) (some_list (plans_of vs))
+      ap₂ ◌&&◌ (shows_list a v) (show_lists true (show a v).after vs)
+      ∙ not_or (is_leaf (plan_of v)) (some_list (plans_of vs))
   show_lists false a (also v vs) =
-      ap₂ ◌&&◌ (shows_list a v) (show_lists false (show a v).after vs) ∙ not_or (is_leaf (plan_of v)) (some_list (plans_of vs))
+      ap₂ ◌&&◌ (shows_list a v) (show_lists false (show a v).after vs)
+      ∙ not_or (is_leaf (plan_of v)) (some_list (plans_of vs))
 
   shows_last : (c : Attrs) (label : List ℕ) (before a : Attrs) (vs : WideValues)
       → is_inline (with_shown c label (show_with before a vs)).form ≡ is_leaf (last_plan vs)

@@ -143,7 +143,8 @@ part_listed t s s' u' u is before h behind =
 -- ---- several values
 
 pub show_all_also : (barred : Bool) (a : Attrs) (v : WideValue) (vs : WideValues)
-    → show_all barred a (also v vs) ≡ both (both (bar_of barred a) (one_of (show a v))) (show_all barred (show a v).after vs)
+    → show_all barred a (also v vs) ≡ both (both (bar_of barred a) (one_of (show a v)))
+    (show_all barred (show a v).after vs)
 unfolding show_all show
 show_all_also true a v vs = refl
 show_all_also false a v vs = refl

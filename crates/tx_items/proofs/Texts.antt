@@ -47,7 +47,8 @@ pub error_short : (kind detail : List ℕ) (s m u w : State) → true ≡ (lengt
     → HasShown (in_line u.attrs (drawn u.attrs None (codes "<gtr>"))) u w
     → HasShown (in_line s.attrs (error_items s.attrs kind detail)) s w
 error_short kind [] s m u w h x y z =
-    line_both (drawn s.attrs None (codes "<less>!") ++ drawn s.attrs None kind) (λ a. drawn a None (codes "<gtr>")) s u w
+    line_both (drawn s.attrs None (codes "<less>!") ++ drawn s.attrs None kind) (λ a. drawn a None (codes "<gtr>")) s u
+    w
     (line_both (drawn s.attrs None (codes "<less>!")) (λ a. drawn a None kind) s m u x y) z
 error_short kind (d ∷ ds) s m u w h x y z =
     let no : 0 ≡ suc (length ds) = sym (eqb-true (suc (length ds)) 0 (sym h)) in absurd (omega arith)

@@ -17,7 +17,8 @@ cells_of-push [] y some = absurd (omega arith)
 cells_of-push (x ∷ xs) y some = omega (arith, sum_by_push beside xs y)
 
 -- one more piece on a line
-pub cells_of_more : (xs : List Piece) (from to : ℕ) (d : Piece) → from < to → to < length xs → line_cells xs from (to + 1) ≡ line_cells xs from to + beside (get_or xs to d)
+pub cells_of_more : (xs : List Piece) (from to : ℕ) (d : Piece) → from < to → to < length xs
+    → line_cells xs from (to + 1) ≡ line_cells xs from to + beside (get_or xs to d)
 cells_of_more xs from to d some there =
     let rest : List Piece = drop from xs in
     let at : ℕ = to - from in
@@ -36,7 +37,8 @@ cells_of-take-le xs (suc n) zero h = absurd (omega arith)
 cells_of-take-le [] (suc n) (suc m) h = omega arith
 cells_of-take-le (x ∷ xs) (suc n) (suc m) h =
     let less : sum_by beside (take n (take m xs)) ≤ sum_by beside (take m xs) = sum_by-take-le beside (take m xs) n in
-    let shorter : sum_by beside (take n (take m xs)) ≡ sum_by beside (take n xs) = ap (sum_by beside) (take-take n m xs (omega arith)) in
+    let shorter : sum_by beside (take n (take m xs)) ≡ sum_by beside (take n xs) =
+    ap (sum_by beside) (take-take n m xs (omega arith)) in
     omega arith
 
 -- the pieces up to an earlier place take no more
@@ -44,7 +46,9 @@ pub cells_of_le : (xs : List Piece) (from to end : ℕ) → to ≤ end → line_
 cells_of_le xs from to end h = cells_of-take-le (drop from xs) (to - from) (end - from) (omega arith)
 
 -- a piece alone takes its own cells
-pub cells_of_one : (xs : List Piece) (from : ℕ) (d : Piece) → from < length xs → line_cells xs from (from + 1) ≡ (get_or xs from d).cells
+pub cells_of_one : (xs : List Piece) (from : ℕ) (d : Piece) → from < length xs
+    → line_cells xs from (from + 1) ≡ (get_or xs from d).cells
 cells_of_one xs from d there =
     let one : from + 1 - from ≡ 1 = omega arith in
-    ap (λ n. cells_of (take n (drop from xs))) one ∙ ap (λ ys. cells_of (take 1 ys)) (drop_more xs from d there) ∙ omega arith
+    ap (λ n. cells_of (take n (drop from xs))) one ∙ ap (λ ys. cells_of (take 1 ys)) (drop_more xs from d there)
+    ∙ omega arith

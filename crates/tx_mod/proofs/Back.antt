@@ -39,21 +39,28 @@ use Rattle.tx_mod.proofs.Whole.{changed_is, limited_ok, limited_within}
 pub put_taken : {X : Type 0} (xs ys : List X) (i : ℕ) → i ≤ length xs → taken_out (put_in xs i ys) i (length ys) ≡ xs
 put_taken {X} xs ys i le =
     let front : length (take i xs) ≡ i = length-take-le {A = X} i xs le in
-    let one : take i (put_in xs i ys) ≡ take i xs = ap (take i) (append_assoc (take i xs) ys (drop i xs)) ∙ take_at (take i xs) (ys ++ drop i xs) i front in
-    let two : drop (i + length ys) (put_in xs i ys) ≡ drop i xs = drop_at (take i xs ++ ys) (drop i xs) (i + length ys) (length-append (take i xs) ys ∙ ap (λ n. n + length ys) front) in
+    let one : take i (put_in xs i ys) ≡ take i xs = ap (take i) (append_assoc (take i xs) ys (drop i xs))
+    ∙ take_at (take i xs) (ys ++ drop i xs) i front in
+    let two : drop (i + length ys) (put_in xs i ys) ≡ drop i xs =
+    drop_at (take i xs ++ ys) (drop i xs) (i + length ys)
+    (length-append (take i xs) ys ∙ ap (λ n. n + length ys) front) in
     ap (λ z. z ++ drop (i + length ys) (put_in xs i ys)) one ∙ ap (λ z. take i xs ++ z) two ∙ take-append-drop i xs
 
 -- taken out and put in again
-pub taken_put : {X : Type 0} (xs : List X) (i n : ℕ) → i + n ≤ length xs → put_in (taken_out xs i n) i (part_of xs i n) ≡ xs
+pub taken_put : {X : Type 0} (xs : List X) (i n : ℕ) → i + n ≤ length xs
+    → put_in (taken_out xs i n) i (part_of xs i n) ≡ xs
 taken_put {X} xs i n le =
     let front : length (take i xs) ≡ i = length-take-le {A = X} i xs (omega arith) in
     let one : take i (taken_out xs i n) ≡ take i xs = take_at (take i xs) (drop (i + n) xs) i front in
     let two : drop i (taken_out xs i n) ≡ drop (i + n) xs = drop_at (take i xs) (drop (i + n) xs) i front in
-    let rest : part_of xs i n ++ drop (i + n) xs ≡ drop i xs = ap (λ z. part_of xs i n ++ z) (sym (drop-drop n i xs)) ∙ take-append-drop n (drop i xs) in
-    ap (λ z. z ++ part_of xs i n ++ drop i (taken_out xs i n)) one ∙ ap (λ z. take i xs ++ part_of xs i n ++ z) two ∙ append_assoc (take i xs) (part_of xs i n) (drop (i + n) xs)
+    let rest : part_of xs i n ++ drop (i + n) xs ≡ drop i xs = ap (λ z. part_of xs i n ++ z) (sym (drop-drop n i xs))
+    ∙ take-append-drop n (drop i xs) in
+    ap (λ z. z ++ part_of xs i n ++ drop i (taken_out xs i n)) one ∙ ap (λ z. take i xs ++ part_of xs i n ++ z) two
+    ∙ append_assoc (take i xs) (part_of xs i n) (drop (i + n) xs)
     ∙ ap (λ z. take i xs ++ z) rest ∙ take-append-drop i xs
 
-pub get_at : {X : Type 0} → (xs : List X) (x : X) (ys : List X) (n : ℕ) → length xs ≡ n → slice_get (xs ++ x ∷ ys) n ≡ Some x
+pub get_at : {X : Type 0} → (xs : List X) (x : X) (ys : List X) (n : ℕ) → length xs ≡ n
+    → slice_get (xs ++ x ∷ ys) n ≡ Some x
 get_at [] x ys zero e = refl
 get_at [] x ys (suc n) e = absurd (omega arith)
 get_at (z ∷ xs) x ys zero e = absurd (omega arith)
@@ -63,15 +70,19 @@ get_at {X} (z ∷ xs) x ys (suc n) e = get_at {X = X} xs x ys n (omega arith)
 
 pub cut_between : (a b : List ℕ) (n : ℕ) → IsText a → IsText b → length a ≡ n → is_cut (a ++ b) n ≡ true
 cut_between a b n h k e =
-    cut_tested (a ++ b) n (text_cut (a ++ b) n (texts_together a b h k) (omega (arith, length-append a b)) (subst IsText (sym (take_at a b n e)) h))
+    cut_tested (a ++ b) n
+    (text_cut (a ++ b) n (texts_together a b h k) (omega (arith, length-append a b))
+    (subst IsText (sym (take_at a b n e)) h))
 
 -- ---- outcomes
 
-pub ok_asked : (b : Bool) (cause : ModFault) (o : Outcome) (v : WideTree) → asking b cause o ≡ Ok v → (b ≡ true) × (o ≡ Ok v)
+pub ok_asked : (b : Bool) (cause : ModFault) (o : Outcome) (v : WideTree) → asking b cause o ≡ Ok v
+    → (b ≡ true) × (o ≡ Ok v)
 ok_asked true cause o v e = (refl, e)
 ok_asked false cause o v e = absurd (cc)
 
-pub ok_got : (f : WideTree → Outcome) (cause : ModFault) (o : Option WideTree) (v : WideTree) → option_map_or f o (Err cause) ≡ Ok v → (c : WideTree) × (o ≡ Some c) × (f c ≡ Ok v)
+pub ok_got : (f : WideTree → Outcome) (cause : ModFault) (o : Option WideTree) (v : WideTree)
+    → option_map_or f o (Err cause) ≡ Ok v → (c : WideTree) × (o ≡ Some c) × (f c ≡ Ok v)
 ok_got f cause None v e = absurd (cc)
 ok_got f cause (Some c) v e = (c, refl, e)
 
@@ -83,7 +94,8 @@ eq_self l = (bytes_eq-Decides l l).1 refl
 
 -- ---- insertion and removal
 
-insert_back : (s x v : WideTree) (i : ℕ) → IsWellFormed s → IsWellFormed x → inserted s i x ≡ Ok v → removed v i (extent x) ≡ Ok s
+insert_back : (s x v : WideTree) (i : ℕ) → IsWellFormed s → IsWellFormed x → inserted s i x ≡ Ok v
+    → removed v i (extent x) ≡ Ok s
 insert_back (leaf text) (leaf more) v i h k e =
     let a = ok_asked (leb i (length text)) (BadPlace (length text)) _ v e in
     let b = ok_asked (is_cut text i) (CutsSymbol i) _ v a.1 in
@@ -92,10 +104,13 @@ insert_back (leaf text) (leaf more) v i h k e =
     let front : length (take i text) ≡ i = length-take-le i text le in
     let t1 : IsText (take i text) = text_before text i h b.0 in
     let t2 : IsText (drop i text) = text_behind text i h b.0 in
-    let cut1 : is_cut w i ≡ true = subst (λ z. is_cut z i ≡ true) (sym (append_assoc (take i text) more (drop i text))) (cut_between (take i text) (more ++ drop i text) i t1 (texts_together more (drop i text) k t2) front) in
+    let cut1 : is_cut w i ≡ true = subst (λ z. is_cut z i ≡ true) (sym (append_assoc (take i text) more (drop i text)))
+    (cut_between (take i text) (more ++ drop i text) i t1 (texts_together more (drop i text) k t2) front) in
     let cut2 : is_cut w (i + length more) ≡ true =
-    cut_between (take i text ++ more) (drop i text) (i + length more) (texts_together (take i text) more t1 k) t2 (length-append (take i text) more ∙ ap (λ n. n + length more) front) in
-    let fits : i + length more ≤ length w = omega (arith, length-append (take i text ++ more) (drop i text), length-append (take i text) more, front) in
+    cut_between (take i text ++ more) (drop i text) (i + length more) (texts_together (take i text) more t1 k) t2
+    (length-append (take i text) more ∙ ap (λ n. n + length more) front) in
+    let fits : i + length more ≤ length w =
+    omega (arith, length-append (take i text ++ more) (drop i text), length-append (take i text) more, front) in
     ap (λ z. removed z i (length more)) (sym (same_tree (leaf w) v b.1))
     ∙ asked_ok (leb (i + length more) (length w)) (BadPlace (length w)) _ (le-leb (i + length more) (length w) fits)
     ∙ asked_ok (is_cut w i) (CutsSymbol i) _ cut1
@@ -110,14 +125,21 @@ insert_back (node l ts) (node m us) v i h k e =
     let ws : List WideTree = put_in (trees ts) i (trees us) in
     let n : ℕ = length (trees us) in
     let fits : i + n ≤ length ws =
-    omega (arith, length-append (take i (trees ts) ++ trees us) (drop i (trees ts)), length-append (take i (trees ts)) (trees us), length-take-le i (trees ts) le) in
+    omega (
+      arith,
+      length-append (take i (trees ts) ++ trees us) (drop i (trees ts)),
+      length-append (take i (trees ts)) (trees us),
+      length-take-le i (trees ts) le,
+    ) in
     ap (λ z. removed z i n) (sym (same_tree (node l (forest ws)) v b.1))
-    ∙ ap (λ zs. asking (leb (i + n) (length zs)) (BadPlace (length zs)) (Ok (node l (forest (taken_out zs i n))))) (trees_forest ws)
+    ∙ ap (λ zs. asking (leb (i + n) (length zs)) (BadPlace (length zs)) (Ok (node l (forest (taken_out zs i n)))))
+    (trees_forest ws)
     ∙ asked_ok (leb (i + n) (length ws)) (BadPlace (length ws)) _ (le-leb (i + n) (length ws) fits)
     ∙ ap (λ zs. Ok (node l (forest zs))) (put_taken (trees ts) (trees us) i le)
     ∙ ap (λ f. Ok (node l f)) (forest_trees ts)
 
-remove_back : (s v : WideTree) (i n : ℕ) → IsWellFormed s → removed s i n ≡ Ok v → inserted v i (removed_part s i n) ≡ Ok s
+remove_back : (s v : WideTree) (i n : ℕ) → IsWellFormed s → removed s i n ≡ Ok v
+    → inserted v i (removed_part s i n) ≡ Ok s
 remove_back (leaf text) v i n h e =
     let a = ok_asked (leb (i + n) (length text)) (BadPlace (length text)) _ v e in
     let b = ok_asked (is_cut text i) (CutsSymbol i) _ v a.1 in
@@ -125,7 +147,8 @@ remove_back (leaf text) v i n h e =
     let le : i + n ≤ length text = leb-true (i + n) (length text) a.0 in
     let w : List ℕ = taken_out text i n in
     let front : length (take i text) ≡ i = length-take-le i text (omega arith) in
-    let cut : is_cut w i ≡ true = cut_between (take i text) (drop (i + n) text) i (text_before text i h b.0) (text_behind text (i + n) h c.0) front in
+    let cut : is_cut w i ≡ true = cut_between (take i text) (drop (i + n) text) i (text_before text i h b.0)
+    (text_behind text (i + n) h c.0) front in
     let fits : i ≤ length w = omega (arith, length-append (take i text) (drop (i + n) text), front) in
     ap (λ z. inserted z i (leaf (part_of text i n))) (sym (same_tree (leaf w) v c.1))
     ∙ asked_ok (leb i (length w)) (BadPlace (length w)) _ (le-leb i (length w) fits)
@@ -136,10 +159,20 @@ remove_back (node l ts) v i n h e =
     let le : i + n ≤ length (trees ts) = leb-true (i + n) (length (trees ts)) a.0 in
     let ws : List WideTree = taken_out (trees ts) i n in
     let us : List WideTree = part_of (trees ts) i n in
-    let fits : i ≤ length ws = omega (arith, length-append (take i (trees ts)) (drop (i + n) (trees ts)), length-take-le i (trees ts) (omega arith)) in
+    let fits : i ≤ length ws =
+    omega (
+      arith,
+      length-append (take i (trees ts)) (drop (i + n) (trees ts)),
+      length-take-le i (trees ts) (omega arith),
+    ) in
     ap (λ z. inserted z i (node tuple (forest us))) (sym (same_tree (node l (forest ws)) v a.1))
-    ∙ ap (λ zs. asking (bytes_eq tuple tuple) NotNode (asking (leb i (length zs)) (BadPlace (length zs)) (Ok (node l (forest (put_in zs i (trees (forest us)))))))) (trees_forest ws)
-    ∙ ap (λ zs. asking (bytes_eq tuple tuple) NotNode (asking (leb i (length ws)) (BadPlace (length ws)) (Ok (node l (forest (put_in ws i zs)))))) (trees_forest us)
+    ∙ ap (λ zs.
+    asking (bytes_eq tuple tuple) NotNode
+    (asking (leb i (length zs)) (BadPlace (length zs)) (Ok (node l (forest (put_in zs i (trees (forest us))))))))
+    (trees_forest ws)
+    ∙ ap (λ zs.
+    asking (bytes_eq tuple tuple) NotNode
+    (asking (leb i (length ws)) (BadPlace (length ws)) (Ok (node l (forest (put_in ws i zs)))))) (trees_forest us)
     ∙ asked_ok (bytes_eq tuple tuple) NotNode _ (eq_self tuple)
     ∙ asked_ok (leb i (length ws)) (BadPlace (length ws)) _ (le-leb i (length ws) fits)
     ∙ ap (λ zs. Ok (node l (forest zs))) (taken_put (trees ts) i n le)
@@ -169,13 +202,17 @@ split_back (node l ts) v i j e =
     let within : i < length T = slice_get_within T i c g.1 in
     let front : length (take i T) ≡ i = length-take-le i T (omega arith) in
     let first : slice_get ws i ≡ Some (before c j) = get_at (take i T) (before c j) (behind c j ∷ rest) i front in
-    let regrouped : ws ≡ (take i T ++ before c j ∷ []) ++ behind c j ∷ rest = sym (append_assoc (take i T) (before c j ∷ []) (behind c j ∷ rest)) in
+    let regrouped : ws ≡ (take i T ++ before c j ∷ []) ++ behind c j ∷ rest =
+    sym (append_assoc (take i T) (before c j ∷ []) (behind c j ∷ rest)) in
     let second : slice_get ws (i + 1) ≡ Some (behind c j) =
-    ap (λ zs. slice_get zs (i + 1)) regrouped ∙ get_at (take i T ++ before c j ∷ []) (behind c j) rest (i + 1) (omega (arith, length-append (take i T) (before c j ∷ []), front)) in
+    ap (λ zs. slice_get zs (i + 1)) regrouped
+    ∙ get_at (take i T ++ before c j ∷ []) (behind c j) rest (i + 1)
+    (omega (arith, length-append (take i T) (before c j ∷ []), front)) in
     let one : take i ws ≡ take i T = take_at (take i T) (before c j ∷ behind c j ∷ rest) i front in
     let two : drop (i + 2) ws ≡ rest =
     ap (drop (i + 2)) (sym (append_assoc (take i T) (before c j ∷ behind c j ∷ []) rest))
-    ∙ drop_at (take i T ++ before c j ∷ behind c j ∷ []) rest (i + 2) (omega (arith, length-append (take i T) (before c j ∷ behind c j ∷ []), front)) in
+    ∙ drop_at (take i T ++ before c j ∷ behind c j ∷ []) rest (i + 2)
+    (omega (arith, length-append (take i T) (before c j ∷ behind c j ∷ []), front)) in
     join_is v l ws i (before c j) (behind c j) (sym (same_tree (node l (forest ws)) v b.1)) first second
     ∙ ap (in_place_of_two l ws i) (rejoined c j)
     ∙ ap (λ zs. Ok (node l (forest (zs ++ c ∷ drop (i + 2) ws)))) one
@@ -209,26 +246,34 @@ resplit (node l ts) (node m us) c h k e =
     (record {
       there = omega (arith, ap length (trees_forest z), length-append (trees ts) (trees us));
       clean = refl;
-      front = ap (λ zs. node l (forest (take (length (trees ts)) zs))) (trees_forest z) ∙ ap (λ zs. node l (forest zs)) (take_at (trees ts) (trees us) (length (trees ts)) refl) ∙ ap (node l) (forest_trees ts);
-      back = ap (λ zs. node l (forest (drop (length (trees ts)) zs))) (trees_forest z) ∙ ap (λ zs. node l (forest zs)) (drop_at (trees ts) (trees us) (length (trees ts)) refl) ∙ ap (node l) (forest_trees us)
+      front = ap (λ zs. node l (forest (take (length (trees ts)) zs))) (trees_forest z)
+          ∙ ap (λ zs. node l (forest zs)) (take_at (trees ts) (trees us) (length (trees ts)) refl)
+          ∙ ap (node l) (forest_trees ts);
+      back = ap (λ zs. node l (forest (drop (length (trees ts)) zs))) (trees_forest z)
+          ∙ ap (λ zs. node l (forest zs)) (drop_at (trees ts) (trees us) (length (trees ts)) refl)
+          ∙ ap (node l) (forest_trees us)
           ∙ ap (λ n. node n us) named;
     })
 
-pub child_well_formed : (us : Forest) (i : ℕ) (c : WideTree) → AreWellFormed us → slice_get (trees us) i ≡ Some c → IsWellFormed c
+pub child_well_formed : (us : Forest) (i : ℕ) (c : WideTree) → AreWellFormed us → slice_get (trees us) i ≡ Some c
+    → IsWellFormed c
 child_well_formed nil i c h e = absurd (cc)
 child_well_formed (cons u us) zero c h e = let same : u ≡ c = cc in subst IsWellFormed same h.0
 child_well_formed (cons u us) (suc i) c h e = child_well_formed us i c h.1 e
 
-pub ok_two : (l : List ℕ) (ts : List WideTree) (i : ℕ) (o : Outcome) (v : WideTree) → in_place_of_two l ts i o ≡ Ok v → (c : WideTree) × (o ≡ Ok c) × (node l (forest (take i ts ++ c ∷ drop (i + 2) ts)) ≡ v)
+pub ok_two : (l : List ℕ) (ts : List WideTree) (i : ℕ) (o : Outcome) (v : WideTree) → in_place_of_two l ts i o ≡ Ok v
+    → (c : WideTree) × (o ≡ Ok c) × (node l (forest (take i ts ++ c ∷ drop (i + 2) ts)) ≡ v)
 ok_two l ts i (Ok c) v e = (c, refl, same_tree _ v e)
 ok_two l ts i (Err cause) v e = absurd (cc)
 
-join_back : (s v : WideTree) (i : ℕ) → IsWellFormed s → joined_at s i ≡ Ok v → split v i (option_map_or extent (slice_get (children_of s) i) 0) ≡ Ok s
+join_back : (s v : WideTree) (i : ℕ) → IsWellFormed s → joined_at s i ≡ Ok v
+    → split v i (option_map_or extent (slice_get (children_of s) i) 0) ≡ Ok s
 join_back (leaf text) v i h e = absurd (cc)
 join_back (node l ts) v i h e =
     let T : List WideTree = trees ts in
     let bad : ModFault = BadPlace (length T) in
-    let g = ok_got (λ a. option_map_or (λ b. in_place_of_two l T i (joined a b)) (slice_get T (i + 1)) (Err bad)) bad (slice_get T i) v e in
+    let g = ok_got (λ a. option_map_or (λ b. in_place_of_two l T i (joined a b)) (slice_get T (i + 1)) (Err bad)) bad
+    (slice_get T i) v e in
     let a : WideTree = g.0 in
     let k = ok_got (λ b. in_place_of_two l T i (joined a b)) bad (slice_get T (i + 1)) v g.2 in
     let b : WideTree = k.0 in
@@ -243,7 +288,8 @@ join_back (node l ts) v i h e =
     let found : slice_get ws i ≡ Some c = get_at (take i T) c rest i front in
     let one : take i ws ≡ take i T = take_at (take i T) (c ∷ rest) i front in
     let two : drop (i + 1) ws ≡ rest =
-    ap (drop (i + 1)) (sym (append_assoc (take i T) (c ∷ []) rest)) ∙ drop_at (take i T ++ c ∷ []) rest (i + 1) (omega (arith, length-append (take i T) (c ∷ []), front)) in
+    ap (drop (i + 1)) (sym (append_assoc (take i T) (c ∷ []) rest))
+    ∙ drop_at (take i T ++ c ∷ []) rest (i + 1) (omega (arith, length-append (take i T) (c ∷ []), front)) in
     let next : (i + 1) + 1 ≡ i + 2 = omega arith in
     let tail : drop (i + 1) T ≡ b ∷ rest = drop_item T (i + 1) b k.1 ∙ ap (λ n. b ∷ drop n T) next in
     ap (λ o. split v i (option_map_or extent o 0)) g.1
@@ -270,7 +316,9 @@ wrap_back s (node l ts) v i e =
     let T : List WideTree = trees ts in
     let a = ok_asked (leb i (length T)) (BadPlace (length T)) _ v e in
     let front : length (take i T) ≡ i = length-take-le i T (leb-true i (length T) a.0) in
-    let found : slice_get (put_in T i (s ∷ [])) i ≡ Some s = ap (λ zs. slice_get zs i) (append_assoc (take i T) (s ∷ []) (drop i T)) ∙ get_at (take i T) s (drop i T) i front in
+    let found : slice_get (put_in T i (s ∷ [])) i ≡ Some s =
+    ap (λ zs. slice_get zs i) (append_assoc (take i T) (s ∷ []) (drop i T))
+    ∙ get_at (take i T) s (drop i T) i front in
     unwrap_is v l (put_in T i (s ∷ [])) i s (sym (same_tree _ v a.1)) found
 
 unwrap_back : (s v : WideTree) (i : ℕ) → unwrapped s i ≡ Ok v → wrapped v i (without_child s i) ≡ Ok s
@@ -281,9 +329,11 @@ unwrap_back (node l ts) v i e =
     let found : slice_get T i ≡ Some v = g.1 ∙ ap (λ z. Some z) (same_tree g.0 v g.2) in
     let within : i < length T = slice_get_within T i v found in
     let ws : List WideTree = taken_out T i 1 in
-    let fits : i ≤ length ws = omega (arith, length-append (take i T) (drop (i + 1) T), length-take-le i T (omega arith)) in
+    let fits : i ≤ length ws =
+    omega (arith, length-append (take i T) (drop (i + 1) T), length-take-le i T (omega arith)) in
     let part : part_of T i 1 ≡ v ∷ [] = ap (take 1) (drop_item T i v found) in
-    ap (λ zs. asking (leb i (length zs)) (BadPlace (length zs)) (Ok (node l (forest (put_in zs i (v ∷ [])))))) (trees_forest ws)
+    ap (λ zs. asking (leb i (length zs)) (BadPlace (length zs)) (Ok (node l (forest (put_in zs i (v ∷ []))))))
+    (trees_forest ws)
     ∙ asked_ok (leb i (length ws)) (BadPlace (length ws)) _ (le-leb i (length ws) fits)
     ∙ ap (λ zs. Ok (node l (forest (put_in ws i zs)))) (sym part)
     ∙ ap (λ zs. Ok (node l (forest zs))) (taken_put T i 1 (omega arith))
@@ -291,7 +341,8 @@ unwrap_back (node l ts) v i e =
 
 -- ---- all kinds
 
-back_at : (m : Mod) (s v : WideTree) → IsSound m → IsWellFormed s → changed_at m s ≡ Ok v → changed_at (inverse_at m s) v ≡ Ok s
+back_at : (m : Mod) (s v : WideTree) → IsSound m → IsWellFormed s → changed_at m s ≡ Ok v
+    → changed_at (inverse_at m s) v ≡ Ok s
 back_at (Assign p x) s v h k e = refl
 back_at (Insert p i x) s v h k e = insert_back s x v i k h e
 back_at (Remove p i n) s v h k e = remove_back s v i n k e
@@ -313,7 +364,8 @@ same_path (RemoveNode p i) s = refl
 
 pub well_formed_at : (path : List ℕ) (t s : WideTree) → subtree t path ≡ Some s → IsWellFormed t → IsWellFormed s
 well_formed_at [] t s e h = let same : t ≡ s = cc in subst IsWellFormed same h
-well_formed_at (i ∷ path) t s e h = let d = down t i path s e in well_formed_at path d.child s d.further (child_of t d.child h d.found)
+well_formed_at (i ∷ path) t s e h = let d = down t i path s e in
+    well_formed_at path d.child s d.further (child_of t d.child h d.found)
   where
     child_of : (x c : WideTree) → IsWellFormed x → slice_get (children_of x) i ≡ Some c → IsWellFormed c
     child_of (leaf text) c k f = absurd (cc)
@@ -331,13 +383,18 @@ pub made_of : (m : Mod) (t u : WideTree) → changed m t ≡ Ok u → IsMadeOf m
 made_of m t u e = from_subtree (subtree t (path_of m)) refl e
   where
     limited_is : (x : WideTree) → limited x ≡ Ok u → u ≡ x
-    limited_is x f = let ok : IsOk (limited x) = ap is_ok f in sym (same_tree x u (sym (limited_ok x (limited_within x ok)) ∙ f))
+    limited_is x f = let ok : IsOk (limited x) =
+        ap is_ok f in sym (same_tree x u (sym (limited_ok x (limited_within x ok)) ∙ f))
 
-    from_outcome : (s : WideTree) (o : Outcome) → subtree t (path_of m) ≡ Some s → changed_at m s ≡ o → put_back t (path_of m) o ≡ Ok u → IsMadeOf m t u
-    from_outcome s (Ok v) f g h = record { old = s; new = v; found = f; at = g; is = limited_is (replaced t (path_of m) v) h }
+    from_outcome : (s : WideTree) (o : Outcome) → subtree t (path_of m) ≡ Some s → changed_at m s ≡ o
+        → put_back t (path_of m) o ≡ Ok u → IsMadeOf m t u
+    from_outcome s (Ok v) f g h =
+        record { old = s; new = v; found = f; at = g; is = limited_is (replaced t (path_of m) v) h }
     from_outcome s (Err cause) f g h = absurd (cc)
 
-    from_subtree : (o : Option WideTree) → subtree t (path_of m) ≡ o → option_map_or (λ s. put_back t (path_of m) (changed_at m s)) o (Err (NoPath (leading t (path_of m)))) ≡ Ok u → IsMadeOf m t u
+    from_subtree : (o : Option WideTree) → subtree t (path_of m) ≡ o
+        → option_map_or (λ s. put_back t (path_of m) (changed_at m s)) o (Err (NoPath (leading t (path_of m)))) ≡ Ok u
+        → IsMadeOf m t u
     from_subtree None f h = absurd (cc)
     from_subtree (Some s) f h = from_outcome s (changed_at m s) f refl h
 
@@ -347,9 +404,11 @@ gives_back m t u sound formed within e =
     let s : WideTree = d.old in
     let n : Mod = inverse_at m s in
     let p : path_of n ≡ path_of m = same_path m s in
-    let found : subtree u (path_of n) ≡ Some d.new = ap (subtree u) p ∙ ap (λ x. subtree x (path_of m)) d.is ∙ subtree_of_replaced (path_of m) t s d.new d.found in
+    let found : subtree u (path_of n) ≡ Some d.new = ap (subtree u) p ∙ ap (λ x. subtree x (path_of m)) d.is
+    ∙ subtree_of_replaced (path_of m) t s d.new d.found in
     let again : replaced u (path_of n) s ≡ t =
-    ap (λ q. replaced u q s) p ∙ ap (λ x. replaced x (path_of m) s) d.is ∙ replaced_again (path_of m) t s d.new s d.found ∙ replaced_by_same (path_of m) t s d.found in
+    ap (λ q. replaced u q s) p ∙ ap (λ x. replaced x (path_of m) s) d.is
+    ∙ replaced_again (path_of m) t s d.new s d.found ∙ replaced_by_same (path_of m) t s d.found in
     ap (λ o. changed (option_map_or (inverse_at m) o m) u) d.found
     ∙ changed_is n u d.new s found (back_at m s d.new sound (well_formed_at (path_of m) t s d.found formed) d.at)
     ∙ ap limited again

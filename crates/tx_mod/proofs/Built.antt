@@ -21,14 +21,16 @@ use Rattle.tx_mod.proofs.Replacing.{replaced_down, text_in_replaced, arity_in_re
 use Rattle.tx_mod.proofs.Replacing.{with_same_child, child_of_with}
 
 -- what makes no text of a text is want of memory
-pub sound_text : (bytes : List ℕ) (fault : TextFault) → IsText bytes → length bytes ≤ 1048575 → (fault ≢ TextMemory → IsTextFault bytes fault) → fault ≡ TextMemory
+pub sound_text : (bytes : List ℕ) (fault : TextFault) → IsText bytes → length bytes ≤ 1048575
+    → (fault ≢ TextMemory → IsTextFault bytes fault) → fault ≡ TextMemory
 sound_text bytes (TooLong n) h short f = absurd (text_has_no_fault bytes (TooLong n) h short (f (λ e. cc)))
 sound_text bytes (BadByte n) h short f = absurd (text_has_no_fault bytes (BadByte n) h short (f (λ e. cc)))
 sound_text bytes (BadSymbol n) h short f = absurd (text_has_no_fault bytes (BadSymbol n) h short (f (λ e. cc)))
 sound_text bytes TextMemory h short f = refl
 
 -- and what makes no node of a node within the limits too
-pub sound_node : (label : List ℕ) (ts : List WideTree) (fault : TreeFault) → IsWithinLimits (node label (forest ts)) → (fault ≢ TreeMemory → IsTreeFault label ts fault) → fault ≡ TreeMemory
+pub sound_node : (label : List ℕ) (ts : List WideTree) (fault : TreeFault) → IsWithinLimits (node label (forest ts))
+    → (fault ≢ TreeMemory → IsTreeFault label ts fault) → fault ≡ TreeMemory
 sound_node label ts (TooWide n) w f = absurd (tree_has_no_fault label ts (TooWide n) w (f (λ e. cc)))
 sound_node label ts (TooDeep n) w f = absurd (tree_has_no_fault label ts (TooDeep n) w (f (λ e. cc)))
 sound_node label ts (TooBig n) w f = absurd (tree_has_no_fault label ts (TooBig n) w (f (λ e. cc)))
@@ -37,7 +39,8 @@ sound_node label ts TreeMemory w f = refl
 pub ruleset sound = (sound_text, sound_node)
 
 -- three lists one behind the other
-pub spliced_items : (ts us all first both : List WideTree) (from to : ℕ) → first ≡ take from ts → both ≡ first ++ us → all ≡ both ++ take (length ts - to) (drop to ts)
+pub spliced_items : (ts us all first both : List WideTree) (from to : ℕ) → first ≡ take from ts → both ≡ first ++ us
+    → all ≡ both ++ take (length ts - to) (drop to ts)
     → all ≡ take from ts ++ us ++ drop to ts
 spliced_items ts us all first both from to e f g = rw (g, f, e, take_rest ts to) refl
 
@@ -49,22 +52,29 @@ children_seen t l ts e = ap children_of e ∙ trees_forest ts
 set_is : (xs : List WideTree) (i : ℕ) (v : WideTree) → i < length xs → set xs i v ≡ take i xs ++ v ∷ drop (i + 1) xs
 set_is [] i v lt = absurd (omega arith)
 set_is (x ∷ xs) zero v lt = refl
-set_is (x ∷ xs) (suc i) v lt = let rest : set xs i v ≡ take i xs ++ v ∷ drop (i + 1) xs = set_is xs i v (omega arith) in ap (λ z. x ∷ z) (rest ∙ ap (λ z. take i xs ++ v ∷ z) (sym (drop_past xs x i)))
+set_is (x ∷ xs) (suc i) v lt = let rest : set xs i v ≡ take i xs ++ v ∷ drop (i + 1) xs = set_is xs i v (omega arith) in
+    ap (λ z. x ∷ z) (rest ∙ ap (λ z. take i xs ++ v ∷ z) (sym (drop_past xs x i)))
 
-pub with_child_seen : (t v : WideTree) (i : ℕ) (l : List ℕ) (ts : List WideTree) → t ≡ node l (forest ts) → i < length ts → with_child t i v ≡ node l (forest ((take i ts ++ v ∷ []) ++ drop (i + 1) ts))
-with_child_seen t v i l ts e lt = rw (e, trees_forest ts) (ap (λ us. node l (forest us)) (set_is ts i v lt ∙ sym (append_assoc (take i ts) (v ∷ []) (drop (i + 1) ts))))
+pub with_child_seen : (t v : WideTree) (i : ℕ) (l : List ℕ) (ts : List WideTree) → t ≡ node l (forest ts)
+    → i < length ts → with_child t i v ≡ node l (forest ((take i ts ++ v ∷ []) ++ drop (i + 1) ts))
+with_child_seen t v i l ts e lt =
+    rw (e, trees_forest ts)
+    (ap (λ us. node l (forest us)) (set_is ts i v lt ∙ sym (append_assoc (take i ts) (v ∷ []) (drop (i + 1) ts))))
 
 -- the limits of a node made of the parts
-pub with_child_within : (t v : WideTree) (i : ℕ) (l : List ℕ) (ts us : List WideTree) → t ≡ node l (forest ts) → i < length ts → us ≡ (take i ts ++ v ∷ []) ++ drop (i + 1) ts
+pub with_child_within : (t v : WideTree) (i : ℕ) (l : List ℕ) (ts us : List WideTree) → t ≡ node l (forest ts)
+    → i < length ts → us ≡ (take i ts ++ v ∷ []) ++ drop (i + 1) ts
     → IsWithinLimits (with_child t i v) → IsWithinLimits (node l (forest us))
 with_child_within t v i l ts us e lt is w = rw is (subst IsWithinLimits (with_child_seen t v i l ts e lt) w)
 
 -- ---- the first step of a path
 
-pub leads_down : (t c : WideTree) (path rest : List ℕ) (i : ℕ) → slice_get (children_of t) i ≡ Some c → path ≡ i ∷ rest → IsSome (subtree t path) → IsSome (subtree c rest)
+pub leads_down : (t c : WideTree) (path rest : List ℕ) (i : ℕ) → slice_get (children_of t) i ≡ Some c → path ≡ i ∷ rest
+    → IsSome (subtree t path) → IsSome (subtree c rest)
 leads_down t c path rest i f e h = subst (λ o. IsSome o) (ap (subtree t) e ∙ step_down t c i rest f) h
 
-pub replaced_first : (t c u : WideTree) (path rest : List ℕ) (i : ℕ) → slice_get (children_of t) i ≡ Some c → path ≡ i ∷ rest → replaced t path u ≡ with_child t i (replaced c rest u)
+pub replaced_first : (t c u : WideTree) (path rest : List ℕ) (i : ℕ) → slice_get (children_of t) i ≡ Some c
+    → path ≡ i ∷ rest → replaced t path u ≡ with_child t i (replaced c rest u)
 replaced_first t c u path rest i f e = ap (λ p. replaced t p u) e ∙ replaced_down t c i rest u f
 
 -- a child is within the limits
@@ -80,6 +90,8 @@ child_within t c i f w =
       size = omega (arith, w.size, size_of_subtree (i ∷ []) t c path);
     }
 
-pub within_down : (t c u : WideTree) (path rest : List ℕ) (i : ℕ) → slice_get (children_of t) i ≡ Some c → path ≡ i ∷ rest → IsWithinLimits (replaced t path u) → IsWithinLimits (replaced c rest u)
+pub within_down : (t c u : WideTree) (path rest : List ℕ) (i : ℕ) → slice_get (children_of t) i ≡ Some c
+    → path ≡ i ∷ rest → IsWithinLimits (replaced t path u) → IsWithinLimits (replaced c rest u)
 within_down t c u path rest i f e w =
-    child_within (with_child t i (replaced c rest u)) (replaced c rest u) i (child_of_with t c (replaced c rest u) i f) (subst IsWithinLimits (replaced_first t c u path rest i f e) w)
+    child_within (with_child t i (replaced c rest u)) (replaced c rest u) i (child_of_with t c (replaced c rest u) i f)
+    (subst IsWithinLimits (replaced_first t c u path rest i f e) w)

@@ -49,10 +49,13 @@ formed_set (t ∷ ts) zero v h k = (k, h.1)
 formed_set (t ∷ ts) (suc i) v h k = (h.0, formed_set ts i v h.1 k)
 
 formed_put_in : (ts us : List WideTree) (i : ℕ) → All ts → All us → All (put_in ts i us)
-formed_put_in ts us i h k = AreWellFormed-append (take i ts ++ us) (drop i ts) (AreWellFormed-append (take i ts) us (formed_take i ts h) k) (formed_drop i ts h)
+formed_put_in ts us i h k =
+    AreWellFormed-append (take i ts ++ us) (drop i ts) (AreWellFormed-append (take i ts) us (formed_take i ts h) k)
+    (formed_drop i ts h)
 
 formed_taken_out : (ts : List WideTree) (i n : ℕ) → All ts → All (taken_out ts i n)
-formed_taken_out ts i n h = AreWellFormed-append (take i ts) (drop (i + n) ts) (formed_take i ts h) (formed_drop (i + n) ts h)
+formed_taken_out ts i n h =
+    AreWellFormed-append (take i ts) (drop (i + n) ts) (formed_take i ts h) (formed_drop (i + n) ts h)
 
 children_formed : (s : WideTree) → IsWellFormed s → All (children_of s)
 children_formed (leaf text) h = tt
@@ -68,23 +71,27 @@ insert_formed : (s x v : WideTree) (i : ℕ) → IsWellFormed s → IsWellFormed
 insert_formed (leaf text) (leaf more) v i h k e =
     let a = ok_asked _ (BadPlace (length text)) _ v e in
     let b = ok_asked (is_cut text i) (CutsSymbol i) _ v a.1 in
-    subst IsWellFormed (same_tree (leaf (put_in text i more)) v b.1) (text_put_in text more (put_in text i more) i h k b.0 refl)
+    subst IsWellFormed (same_tree (leaf (put_in text i more)) v b.1)
+    (text_put_in text more (put_in text i more) i h k b.0 refl)
 insert_formed (leaf text) (node m us) v i h k e = absurd (cc)
 insert_formed (node l ts) (leaf more) v i h k e = absurd (cc)
 insert_formed (node l ts) (node m us) v i h k e =
     let a = ok_asked (bytes_eq m tuple) NotNode _ v e in
     let b = ok_asked _ (BadPlace (length (trees ts))) _ v a.1 in
-    subst IsWellFormed (same_tree (node l (forest (put_in (trees ts) i (trees us)))) v b.1) (h.0, formed_put_in (trees ts) (trees us) i (all_of ts h.1) (all_of us k.1))
+    subst IsWellFormed (same_tree (node l (forest (put_in (trees ts) i (trees us)))) v b.1)
+    (h.0, formed_put_in (trees ts) (trees us) i (all_of ts h.1) (all_of us k.1))
 
 remove_formed : (s v : WideTree) (i n : ℕ) → IsWellFormed s → removed s i n ≡ Ok v → IsWellFormed v
 remove_formed (leaf text) v i n h e =
     let a = ok_asked _ (BadPlace (length text)) _ v e in
     let b = ok_asked (is_cut text i) (CutsSymbol i) _ v a.1 in
     let c = ok_asked (is_cut text (i + n)) (CutsSymbol (i + n)) _ v b.1 in
-    subst IsWellFormed (same_tree (leaf (taken_out text i n)) v c.1) (text_taken_out text (taken_out text i n) i n h b.0 c.0 refl)
+    subst IsWellFormed (same_tree (leaf (taken_out text i n)) v c.1)
+    (text_taken_out text (taken_out text i n) i n h b.0 c.0 refl)
 remove_formed (node l ts) v i n h e =
     let a = ok_asked _ (BadPlace (length (trees ts))) _ v e in
-    subst IsWellFormed (same_tree (node l (forest (taken_out (trees ts) i n))) v a.1) (h.0, formed_taken_out (trees ts) i n (all_of ts h.1))
+    subst IsWellFormed (same_tree (node l (forest (taken_out (trees ts) i n))) v a.1)
+    (h.0, formed_taken_out (trees ts) i n (all_of ts h.1))
 
 before_formed : (c : WideTree) (j : ℕ) → IsWellFormed c → is_clean c j ≡ true → IsWellFormed (before c j)
 before_formed (leaf text) j h e = text_before text j h e
@@ -100,7 +107,8 @@ joined_formed (leaf x) (node m us) c h k e = absurd (cc)
 joined_formed (node l ts) (leaf y) c h k e = absurd (cc)
 joined_formed (node l ts) (node m us) c h k e =
     let a = ok_asked (bytes_eq l m) Differ _ c e in
-    subst IsWellFormed (same_tree (node l (forest (trees ts ++ trees us))) c a.1) (h.0, AreWellFormed-append (trees ts) (trees us) (all_of ts h.1) (all_of us k.1))
+    subst IsWellFormed (same_tree (node l (forest (trees ts ++ trees us))) c a.1)
+    (h.0, AreWellFormed-append (trees ts) (trees us) (all_of ts h.1) (all_of us k.1))
 
 split_formed : (s v : WideTree) (i j : ℕ) → IsWellFormed s → split s i j ≡ Ok v → IsWellFormed v
 split_formed (leaf text) v i j h e = absurd (cc)
@@ -112,19 +120,28 @@ split_formed (node l ts) v i j h e =
     let b = ok_asked (is_clean c j) (CutsSymbol j) _ v a.1 in
     let k : IsWellFormed c = child_well_formed ts i c h.1 g.1 in
     let halves : List WideTree = before c j ∷ behind c j ∷ drop (i + 1) T in
-    subst IsWellFormed (same_tree (node l (forest (take i T ++ halves))) v b.1)
-    (h.0, AreWellFormed-append (take i T) halves (formed_take i T (all_of ts h.1)) (before_formed c j k b.0, (behind_formed c j k b.0, formed_drop (i + 1) T (all_of ts h.1))))
+    subst IsWellFormed (same_tree (node l (forest (take i T ++ halves))) v b.1) (
+      h.0,
+      AreWellFormed-append (take i T) halves (formed_take i T (all_of ts h.1))
+          (before_formed c j k b.0, (behind_formed c j k b.0, formed_drop (i + 1) T (all_of ts h.1))),
+    )
 
 join_formed : (s v : WideTree) (i : ℕ) → IsWellFormed s → joined_at s i ≡ Ok v → IsWellFormed v
 join_formed (leaf text) v i h e = absurd (cc)
 join_formed (node l ts) v i h e =
     let T : List WideTree = trees ts in
     let bad : ModFault = BadPlace (length T) in
-    let g = ok_got (λ a. option_map_or (λ b. in_place_of_two l T i (joined a b)) (slice_get T (i + 1)) (Err bad)) bad (slice_get T i) v e in
+    let g = ok_got (λ a. option_map_or (λ b. in_place_of_two l T i (joined a b)) (slice_get T (i + 1)) (Err bad)) bad
+    (slice_get T i) v e in
     let k = ok_got (λ b. in_place_of_two l T i (joined g.0 b)) bad (slice_get T (i + 1)) v g.2 in
     let t = ok_two l T i (joined g.0 k.0) v k.2 in
-    let one : IsWellFormed t.0 = joined_formed g.0 k.0 t.0 (child_well_formed ts i g.0 h.1 g.1) (child_well_formed ts (i + 1) k.0 h.1 k.1) t.1 in
-    subst IsWellFormed t.2 (h.0, AreWellFormed-append (take i T) (t.0 ∷ drop (i + 2) T) (formed_take i T (all_of ts h.1)) (one, formed_drop (i + 2) T (all_of ts h.1)))
+    let one : IsWellFormed t.0 = joined_formed g.0 k.0 t.0 (child_well_formed ts i g.0 h.1 g.1)
+    (child_well_formed ts (i + 1) k.0 h.1 k.1) t.1 in
+    subst IsWellFormed t.2 (
+      h.0,
+      AreWellFormed-append (take i T) (t.0 ∷ drop (i + 2) T) (formed_take i T (all_of ts h.1))
+          (one, formed_drop (i + 2) T (all_of ts h.1)),
+    )
 
 label_formed : (s v : WideTree) (l : List ℕ) → IsWellFormed s → IsLabel l → labelled s l ≡ Ok v → IsWellFormed v
 label_formed (leaf text) v l h k e = absurd (cc)
@@ -134,7 +151,8 @@ wrap_formed : (s x v : WideTree) (i : ℕ) → IsWellFormed s → IsWellFormed x
 wrap_formed s (leaf text) v i h k e = absurd (cc)
 wrap_formed s (node l ts) v i h k e =
     let a = ok_asked _ (BadPlace (length (trees ts))) _ v e in
-    subst IsWellFormed (same_tree (node l (forest (put_in (trees ts) i (s ∷ [])))) v a.1) (k.0, formed_put_in (trees ts) (s ∷ []) i (all_of ts k.1) (h, tt))
+    subst IsWellFormed (same_tree (node l (forest (put_in (trees ts) i (s ∷ [])))) v a.1)
+    (k.0, formed_put_in (trees ts) (s ∷ []) i (all_of ts k.1) (h, tt))
 
 unwrap_formed : (s v : WideTree) (i : ℕ) → IsWellFormed s → unwrapped s i ≡ Ok v → IsWellFormed v
 unwrap_formed s v i h e = child_formed s v i h (shape_unwrapped s v i e)
@@ -155,12 +173,14 @@ with_formed : (t v : WideTree) (i : ℕ) → IsWellFormed t → IsWellFormed v �
 with_formed (leaf text) v i h k = h
 with_formed (node l ts) v i h k = (h.0, formed_set (trees ts) i v (all_of ts h.1) k)
 
-replaced_formed : (path : List ℕ) (t s v : WideTree) → subtree t path ≡ Some s → IsWellFormed t → IsWellFormed v → IsWellFormed (replaced t path v)
+replaced_formed : (path : List ℕ) (t s v : WideTree) → subtree t path ≡ Some s → IsWellFormed t → IsWellFormed v
+    → IsWellFormed (replaced t path v)
 replaced_formed [] t s v e h k = k
 replaced_formed (i ∷ path) t s v e h k =
     let d = down t i path s e in
     subst IsWellFormed (sym (replaced_down t d.child i path v d.found))
-    (with_formed t (replaced d.child path v) i h (replaced_formed path d.child s v d.further (child_formed t d.child i h d.found) k))
+    (with_formed t (replaced d.child path v) i h
+    (replaced_formed path d.child s v d.further (child_formed t d.child i h d.found) k))
 
 -- a tree that comes about is within the limits
 pub change_limited : (m : Mod) (t u : WideTree) → changed m t ≡ Ok u → IsWithinLimits u
@@ -172,6 +192,8 @@ change_limited m t u e =
 pub stays_well_formed : (m : Mod) (t : WideTree) → StaysWellFormed m t
 stays_well_formed m t u sound formed e =
     let d = made_of m t u e in (
-      subst IsWellFormed (sym d.is) (replaced_formed (path_of m) t d.old d.new d.found formed (formed_at m d.old d.new sound (well_formed_at (path_of m) t d.old d.found formed) d.at)),
+      subst IsWellFormed (sym d.is)
+          (replaced_formed (path_of m) t d.old d.new d.found formed
+          (formed_at m d.old d.new sound (well_formed_at (path_of m) t d.old d.found formed) d.at)),
       change_limited m t u e,
     )

@@ -22,7 +22,8 @@ pub same_in_turn : (ms : List Mod) (t : WideTree) → tree_of (changed_in_turn m
 same_in_turn [] t = refl
 same_in_turn (m ∷ ms) t = step (changed m t) (λ u. same_in_turn ms u)
   where
-    step : (o : Outcome) → ((u : WideTree) → tree_of (changed_in_turn ms u) ≡ changed_by_all ms u) → tree_of (then_changed (changed_in_turn ms) o) ≡ option_and_then (changed_by_all ms) (tree_of o)
+    step : (o : Outcome) → ((u : WideTree) → tree_of (changed_in_turn ms u) ≡ changed_by_all ms u)
+        → tree_of (then_changed (changed_in_turn ms) o) ≡ option_and_then (changed_by_all ms) (tree_of o)
     step (Ok u) ih = ih u
     step (Err cause) ih = refl
 
@@ -39,18 +40,23 @@ begun m ms t u e = step (changed m t) refl e
     step (Ok v) f g = record { next = v; first = f; others = g }
     step (Err cause) f g = absurd (cc)
 
-pub first_then : (m : Mod) (ms : List Mod) (t v : WideTree) → changed m t ≡ Ok v → changed_in_turn (m ∷ ms) t ≡ changed_in_turn ms v
+pub first_then : (m : Mod) (ms : List Mod) (t v : WideTree) → changed m t ≡ Ok v
+    → changed_in_turn (m ∷ ms) t ≡ changed_in_turn ms v
 first_then m ms t v e = ap (then_changed (changed_in_turn ms)) e
 
-pub inverses_from : (m : Mod) (ms : List Mod) (t v : WideTree) → changed m t ≡ Ok v → inverses_of (m ∷ ms) t ≡ inverses_of ms v ++ inverse_of m t ∷ []
+pub inverses_from : (m : Mod) (ms : List Mod) (t v : WideTree) → changed m t ≡ Ok v
+    → inverses_of (m ∷ ms) t ≡ inverses_of ms v ++ inverse_of m t ∷ []
 inverses_from m ms t v e = ap (λ o. option_map_or (inverses_of ms) (tree_of o) [] ++ inverse_of m t ∷ []) e
 
 -- two lists, one after the other
-pub both_in_turn : (ms ns : List Mod) (t v : WideTree) → changed_in_turn ms t ≡ Ok v → changed_in_turn (ms ++ ns) t ≡ changed_in_turn ns v
+pub both_in_turn : (ms ns : List Mod) (t v : WideTree) → changed_in_turn ms t ≡ Ok v
+    → changed_in_turn (ms ++ ns) t ≡ changed_in_turn ns v
 both_in_turn [] ns t v e = ap (changed_in_turn ns) (same_tree t v e)
-both_in_turn (m ∷ ms) ns t v e = let b = begun m ms t v e in first_then m (ms ++ ns) t b.next b.first ∙ both_in_turn ms ns b.next v b.others
+both_in_turn (m ∷ ms) ns t v e = let b = begun m ms t v e in first_then m (ms ++ ns) t b.next b.first
+    ∙ both_in_turn ms ns b.next v b.others
 
-pub both_inverses : (ms ns : List Mod) (t v : WideTree) → changed_in_turn ms t ≡ Ok v → inverses_of (ms ++ ns) t ≡ inverses_of ns v ++ inverses_of ms t
+pub both_inverses : (ms ns : List Mod) (t v : WideTree) → changed_in_turn ms t ≡ Ok v
+    → inverses_of (ms ++ ns) t ≡ inverses_of ns v ++ inverses_of ms t
 both_inverses [] ns t v e = ap (inverses_of ns) (same_tree t v e) ∙ sym (append-nil (inverses_of ns v))
 both_inverses (m ∷ ms) ns t v e =
     let b = begun m ms t v e in
@@ -74,7 +80,13 @@ path_of_inverse m t = by_subtree (subtree t (path_of m))
 pub can_be_undone : (ms : List Mod) (t : WideTree) → CanBeUndone ms t
 can_be_undone [] t u sound formed within e =
     let same : t ≡ u = same_tree t u e in
-    record { formed = subst IsWellFormed same formed; within = subst IsWithinLimits same within; back = ap (λ z. Ok z) (sym same); again = refl; cost = refl }
+    record {
+      formed = subst IsWellFormed same formed;
+      within = subst IsWithinLimits same within;
+      back = ap (λ z. Ok z) (sym same);
+      again = refl;
+      cost = refl;
+    }
 can_be_undone (m ∷ ms) t u sound formed within e =
     let b = begun m ms t u e in
     let v : WideTree = b.next in
@@ -85,10 +97,13 @@ can_be_undone (m ∷ ms) t u sound formed within e =
     record {
       formed = r.formed;
       within = r.within;
-      back = ap (λ ns. changed_in_turn ns u) (inverses_from m ms t v b.first) ∙ both_in_turn (inverses_of ms v) (n ∷ []) u v r.back ∙ first_then n [] v t one;
+      back = ap (λ ns. changed_in_turn ns u) (inverses_from m ms t v b.first)
+          ∙ both_in_turn (inverses_of ms v) (n ∷ []) u v r.back ∙ first_then n [] v t one;
       again = ap (λ ns. inverses_of ns u) (inverses_from m ms t v b.first)
           ∙ both_inverses (inverses_of ms v) (n ∷ []) u v r.back
-          ∙ ap (λ z. z ++ inverses_of (inverses_of ms v) u) (inverses_from n [] v t one ∙ ap (λ k. k ∷ []) (made_again m t v b.first))
+          ∙ ap (λ z. z ++ inverses_of (inverses_of ms v) u)
+          (inverses_from n [] v t one ∙ ap (λ k. k ∷ []) (made_again m t v b.first))
           ∙ ap (λ z. m ∷ z) r.again;
-      cost = ap cost_of (inverses_from m ms t v b.first) ∙ cost_of_both (inverses_of ms v) (n ∷ []) ∙ omega (arith, r.cost, ap length (path_of_inverse m t));
+      cost = ap cost_of (inverses_from m ms t v b.first) ∙ cost_of_both (inverses_of ms v) (n ∷ [])
+          ∙ omega (arith, r.cost, ap length (path_of_inverse m t));
     }

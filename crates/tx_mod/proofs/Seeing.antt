@@ -7,9 +7,11 @@ use Rattle.tx_tree.proofs.Children.{forest_trees}
 use Rattle.tx_tree.proofs.Cutting.{cut_test, cut_tested}
 use Rattle.tx_tree.proofs.Walks.{leaf_is, leaf_or_node}
 
-pub node_seen : (t : WideTree) (label : List ℕ) (children : List WideTree) → label_of t ≡ Some label → children ≡ children_of t → t ≡ node label (forest children)
+pub node_seen : (t : WideTree) (label : List ℕ) (children : List WideTree) → label_of t ≡ Some label
+    → children ≡ children_of t → t ≡ node label (forest children)
 node_seen (leaf x) label children e f = absurd (cc)
-node_seen (node l ts) label children e f = let same : l ≡ label = cc in let whole : forest children ≡ ts = ap forest f ∙ forest_trees ts in rw (same, whole) refl
+node_seen (node l ts) label children e f = let same : l ≡ label = cc in let whole : forest children ≡ ts =
+    ap forest f ∙ forest_trees ts in rw (same, whole) refl
 
 pub ruleset seeing = (leaf_is, node_seen, leaf_or_node)
 

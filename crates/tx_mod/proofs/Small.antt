@@ -17,11 +17,13 @@ use Rattle.tx_mod.proofs.Whole.{path_within}
 
 number_small : (t c : WideTree) (i : ℕ) → slice_get (children_of t) i ≡ Some c → IsWithinLimits t → i ≤ 65535
 number_small (leaf text) c i e w = absurd (cc)
-number_small (node l ts) c i e w = omega (arith, slice_get_within (children_of (node l ts)) i c e, arity_le l ts, w.arity)
+number_small (node l ts) c i e w =
+    omega (arith, slice_get_within (children_of (node l ts)) i c e, arity_le l ts, w.arity)
 
 path_small : (path : List ℕ) (t s : WideTree) → subtree t path ≡ Some s → IsWithinLimits t → AreSmall path
 path_small [] t s e w = tt
-path_small (i ∷ path) t s e w = let d = down t i path s e in (number_small t d.child i d.found w, path_small path d.child s d.further (child_within t d.child i d.found w))
+path_small (i ∷ path) t s e w = let d = down t i path s e in
+    (number_small t d.child i d.found w, path_small path d.child s d.further (child_within t d.child i d.found w))
 
 -- a path that leads has small numbers
 pub leads_small : (t : WideTree) (path : List ℕ) → IsSome (subtree t path) → IsWithinLimits t → AreSmall path
@@ -34,7 +36,9 @@ leads_small t path h w = found (subtree t path) refl h
 pub rest_small : (p q r : List ℕ) → rest_behind p q ≡ Some r → AreSmall q → AreSmall r
 rest_small [] q r e h = let same : q ≡ r = cc in subst AreSmall same h
 rest_small (i ∷ p) [] r e h = absurd (cc)
-rest_small (i ∷ p) (k ∷ q) r e h = by_test (λ o. o ≡ Some r → AreSmall r) (eqb i k) (rest_behind p q) None (λ t f. rest_small p q r f h.1) (λ t f. absurd (cc)) e
+rest_small (i ∷ p) (k ∷ q) r e h =
+    by_test (λ o. o ≡ Some r → AreSmall r) (eqb i k) (rest_behind p q) None (λ t f. rest_small p q r f h.1)
+    (λ t f. absurd (cc)) e
 
 offset_small : (s : WideTree) (o : ℕ) → IsOffset s o → IsWithinLimits s → o ≤ 1048575
 offset_small (leaf text) o h w = omega (arith, cut_within text o h, w.text)

@@ -54,21 +54,27 @@ place_at t path o h = found (subtree t path) refl h
     found None e k = absurd k
     found (Some s) e k = record { at = s; found = e; offset = k }
 
-place_of : (t : WideTree) (path : List ℕ) (o : ℕ) (s : WideTree) → subtree t path ≡ Some s → IsOffset s o → IsPlace t path o
+place_of : (t : WideTree) (path : List ℕ) (o : ℕ) (s : WideTree) → subtree t path ≡ Some s → IsOffset s o
+    → IsPlace t path o
 place_of t path o s e h = subst (λ z. IsSomeAnd z (λ x. IsOffset x o)) (sym e) h
 
 no_place : (text : List ℕ) (k : ℕ) (u : List ℕ) (o : ℕ) → IsPlace (leaf text) (k ∷ u) o → ⊥
 no_place text k u o h = h
 
 -- where a child is child j of another tree, places below it are places
-below_child : (s v : WideTree) (k j : ℕ) (u : List ℕ) (o : ℕ) → ((c : WideTree) → slice_get (children_of s) k ≡ Some c → slice_get (children_of v) j ≡ Some c) → IsPlace s (k ∷ u) o → IsPlace v (j ∷ u) o
-below_child s v k j u o f h = let a = place_at s (k ∷ u) o h in place_of v (j ∷ u) o a.at (child_stays s v k j u a.at f a.found) a.offset
+below_child : (s v : WideTree) (k j : ℕ) (u : List ℕ) (o : ℕ)
+    → ((c : WideTree) → slice_get (children_of s) k ≡ Some c → slice_get (children_of v) j ≡ Some c)
+    → IsPlace s (k ∷ u) o → IsPlace v (j ∷ u) o
+below_child s v k j u o f h = let a = place_at s (k ∷ u) o h in
+    place_of v (j ∷ u) o a.at (child_stays s v k j u a.at f a.found) a.offset
 
 -- a place of child i
-at_child : (v c : WideTree) (i : ℕ) (u : List ℕ) (o : ℕ) → slice_get (children_of v) i ≡ Some c → IsPlace c u o → IsPlace v (i ∷ u) o
+at_child : (v c : WideTree) (i : ℕ) (u : List ℕ) (o : ℕ) → slice_get (children_of v) i ≡ Some c → IsPlace c u o
+    → IsPlace v (i ∷ u) o
 at_child v c i u o e h = subst (λ z. IsSomeAnd z (λ x. IsOffset x o)) (sym (step_down v c i u e)) h
 
-of_child : (s c : WideTree) (i : ℕ) (u : List ℕ) (o : ℕ) → slice_get (children_of s) i ≡ Some c → IsPlace s (i ∷ u) o → IsPlace c u o
+of_child : (s c : WideTree) (i : ℕ) (u : List ℕ) (o : ℕ) → slice_get (children_of s) i ≡ Some c → IsPlace s (i ∷ u) o
+    → IsPlace c u o
 of_child s c i u o e h = subst (λ z. IsSomeAnd z (λ x. IsOffset x o)) (step_down s c i u e) h
 
 node_place : (v : WideTree) (l : List ℕ) (ts : Forest) (o : ℕ) → v ≡ node l ts → o ≤ 1 → IsPlace v [] o
@@ -83,7 +89,8 @@ first_place (node l ts) h = omega arith
 
 -- ---- insertion and removal
 
-insert_place : (s x v : WideTree) (i : ℕ) (r : List ℕ) (o : ℕ) → IsWellFormed s → IsWellFormed x → inserted s i x ≡ Ok v → IsPlace s r o → Has v (moved_by_insert s i (extent x) r o)
+insert_place : (s x v : WideTree) (i : ℕ) (r : List ℕ) (o : ℕ) → IsWellFormed s → IsWellFormed x → inserted s i x ≡ Ok v
+    → IsPlace s r o → Has v (moved_by_insert s i (extent x) r o)
 insert_place (leaf text) x v i (k ∷ u) o f f' e h = absurd h
 insert_place (leaf text) (node m us) v i [] o f f' e h = absurd (cc)
 insert_place (leaf text) (leaf more) v i [] o f f' e h =
@@ -97,18 +104,22 @@ insert_place (leaf text) (leaf more) v i [] o f f' e h =
     leaf_place v (put_in text i more) (shifted i (length more) o) (sym (same_tree (leaf (put_in text i more)) v b.1))
     (by_test (IsCut (put_in text i more)) (leb i o) (o + length more) o
     (λ t. let le' : i ≤ o = leb-true i o t in
-    cut_push (take i text ++ more) (drop i text) (put_in text i more) (o - i) (o + length more) refl (omega (arith, length-append (take i text) more)) (together ha f')
+    cut_push (take i text ++ more) (drop i text) (put_in text i more) (o - i) (o + length more) refl
+    (omega (arith, length-append (take i text) more)) (together ha f')
     (cut_behind (take i text) (drop i text) text o (o - i) whole (omega arith) ha hb h))
     (λ t. let lt : o < i = leb-false i o t in
     cut_append (take i text ++ more) (drop i text) (put_in text i more) o refl
-    (cut_append (take i text) more (take i text ++ more) o refl (cut_in_front (take i text) (drop i text) text o whole ha (omega arith) h) f') hb))
+    (cut_append (take i text) more (take i text ++ more) o refl
+    (cut_in_front (take i text) (drop i text) text o whole ha (omega arith) h) f') hb))
   where
     together : IsText (take i text) → IsText more → IsText (take i text ++ more)
     together = texts_together (take i text) more
 insert_place (node l ts) x v i [] o f f' e h = let g = shape_inserted l ts x v i e in node_place v g.label _ o g.is h
-insert_place (node l ts) x v i (k ∷ u) o f f' e h = below_child (node l ts) v k (shifted i (extent x) k) u o (λ c g. insert_stays (node l ts) x v c i k e g) h
+insert_place (node l ts) x v i (k ∷ u) o f f' e h =
+    below_child (node l ts) v k (shifted i (extent x) k) u o (λ c g. insert_stays (node l ts) x v c i k e g) h
 
-remove_place : (s v : WideTree) (i n : ℕ) (r : List ℕ) (o : ℕ) → IsWellFormed s → removed s i n ≡ Ok v → IsPlace s r o → Has v (moved_by_remove s i n r o)
+remove_place : (s v : WideTree) (i n : ℕ) (r : List ℕ) (o : ℕ) → IsWellFormed s → removed s i n ≡ Ok v → IsPlace s r o
+    → Has v (moved_by_remove s i n r o)
 remove_place (leaf text) v i n (k ∷ u) o f e h = absurd h
 remove_place (leaf text) v i n [] o f e h =
     let a = ok_asked (leb (i + n) (length text)) (BadPlace (length text)) _ v e in
@@ -126,22 +137,26 @@ remove_place (leaf text) v i n [] o f e h =
     (by_test (IsCut w) (leb (i + n) o) (o - n) _
     (λ t. let le' : i + n ≤ o = leb-true (i + n) o t in
     cut_push (take i text) (drop (i + n) text) w (o - (i + n)) (o - n) refl (omega arith) ha
-    (cut_behind (take (i + n) text) (drop (i + n) text) text o (o - (i + n)) (sym (take-append-drop (i + n) text)) (omega arith) hc hd h))
+    (cut_behind (take (i + n) text) (drop (i + n) text) text o (o - (i + n)) (sym (take-append-drop (i + n) text))
+    (omega arith) hc hd h))
     (λ t. by_test (IsCut w) (leb i o) i o
     (λ t'. cut_of (take i text) (drop (i + n) text) w i refl (sym front) ha hd)
     (λ t'. let lt : o < i = leb-false i o t' in
-    cut_append (take i text) (drop (i + n) text) w o refl (cut_in_front (take i text) (drop i text) text o (sym (take-append-drop i text)) ha (omega arith) h) hd)))
+    cut_append (take i text) (drop (i + n) text) w o refl
+    (cut_in_front (take i text) (drop i text) text o (sym (take-append-drop i text)) ha (omega arith) h) hd)))
 remove_place (node l ts) v i n [] o f e h = let g = shape_removed l ts v i n e in node_place v g.label _ o g.is h
 remove_place (node l ts) v i n (k ∷ u) o f e h =
     let g = shape_removed l ts v i n e in
     by_test (Has v) (leb (i + n) k) (place ((k - n) ∷ u) o) _
-    (λ t. below_child (node l ts) v k (k - n) u o (λ c q. remove_back (node l ts) v c i n k e (leb-true (i + n) k t) q) h)
+    (λ t. below_child (node l ts) v k (k - n) u o (λ c q. remove_back (node l ts) v c i n k e (leb-true (i + n) k t) q)
+    h)
     (λ t. by_test (Has v) (leb i k) (place [] 0) (place (k ∷ u) o) (λ t'. node_place v g.label _ 0 g.is (omega arith))
     (λ t'. below_child (node l ts) v k k u o (λ c q. remove_front (node l ts) v c i n k e (leb-false i k t') q) h))
 
 -- ---- splitting and joining
 
-split_child_place : (s v c : WideTree) (i j : ℕ) (u : List ℕ) (o : ℕ) → IsWellFormed c → is_clean c j ≡ true → j ≤ extent c → split s i j ≡ Ok v → slice_get (children_of s) i ≡ Some c → IsPlace c u o
+split_child_place : (s v c : WideTree) (i j : ℕ) (u : List ℕ) (o : ℕ) → IsWellFormed c → is_clean c j ≡ true
+    → j ≤ extent c → split s i j ≡ Ok v → slice_get (children_of s) i ≡ Some c → IsPlace c u o
     → Has v (moved_in_split c i j u o)
 split_child_place s v (leaf text) i j (k ∷ w) o f clean fits e g h = absurd h
 split_child_place s v (leaf text) i j [] o f clean fits e g h =
@@ -151,9 +166,11 @@ split_child_place s v (leaf text) i j [] o f clean fits e g h =
     let whole : text ≡ take j text ++ drop j text = sym (take-append-drop j text) in
     by_test (Has v) (leb j o) (place ((i + 1) ∷ []) (o - j)) (place (i ∷ []) o)
     (λ t. let le : j ≤ o = leb-true j o t in
-    at_child v (leaf (drop j text)) (i + 1) [] (o - j) (split_right s v (leaf text) i j e g) (cut_behind (take j text) (drop j text) text o (o - j) whole (omega arith) ha hb h))
+    at_child v (leaf (drop j text)) (i + 1) [] (o - j) (split_right s v (leaf text) i j e g)
+    (cut_behind (take j text) (drop j text) text o (o - j) whole (omega arith) ha hb h))
     (λ t. let lt : o < j = leb-false j o t in
-    at_child v (leaf (take j text)) i [] o (split_left s v (leaf text) i j e g) (cut_in_front (take j text) (drop j text) text o whole ha (omega arith) h))
+    at_child v (leaf (take j text)) i [] o (split_left s v (leaf text) i j e g)
+    (cut_in_front (take j text) (drop j text) text o whole ha (omega arith) h))
 split_child_place s v (node m us) i j [] o f clean fits e g h =
     by_test (Has v) (eqb o 1) (place ((i + 1) ∷ []) 1) (place (i ∷ []) o)
     (λ t. at_child v (behind (node m us) j) (i + 1) [] 1 (split_right s v (node m us) i j e g) (omega arith))
@@ -161,11 +178,14 @@ split_child_place s v (node m us) i j [] o f clean fits e g h =
 split_child_place s v (node m us) i j (l ∷ w) o f clean fits e g h =
     by_test (Has v) (leb j l) (place ((i + 1) ∷ (l - j) ∷ w) o) (place (i ∷ l ∷ w) o)
     (λ t. at_child v (behind (node m us) j) (i + 1) ((l - j) ∷ w) o (split_right s v (node m us) i j e g)
-    (below_child (node m us) (behind (node m us) j) l (l - j) w o (λ d q. behind_child (node m us) d j l (leb-true j l t) q) h))
+    (below_child (node m us) (behind (node m us) j) l (l - j) w o
+    (λ d q. behind_child (node m us) d j l (leb-true j l t) q) h))
     (λ t. at_child v (before (node m us) j) i (l ∷ w) o (split_left s v (node m us) i j e g)
-    (below_child (node m us) (before (node m us) j) l l w o (λ d q. before_child (node m us) d j l (leb-false j l t) q) h))
+    (below_child (node m us) (before (node m us) j) l l w o (λ d q. before_child (node m us) d j l (leb-false j l t) q)
+    h))
 
-split_place : (s v : WideTree) (i j : ℕ) (r : List ℕ) (o : ℕ) → IsWellFormed s → split s i j ≡ Ok v → IsPlace s r o → Has v (moved_by_split s i j r o)
+split_place : (s v : WideTree) (i j : ℕ) (r : List ℕ) (o : ℕ) → IsWellFormed s → split s i j ≡ Ok v → IsPlace s r o
+    → Has v (moved_by_split s i j r o)
 split_place (leaf text) v i j r o f e h = absurd (cc)
 split_place (node l ts) v i j [] o f e h = let g = shape_split (node l ts) v i j e in node_place v g.label _ o g.is h
 split_place (node l ts) v i j (k ∷ u) o f e h =
@@ -182,11 +202,15 @@ split_place (node l ts) v i j (k ∷ u) o f e h =
     let ne : k ≡ i → ⊥ = eqb-false k i t' in
     below_child s v k k u o (λ c q. split_front s v c i j k e (omega arith) q) h))
 
-join_right_place : (v a b c : WideTree) (i : ℕ) (u : List ℕ) (o : ℕ) → IsWellFormed a → slice_get (children_of v) i ≡ Some c → joined a b ≡ Ok c → IsPlace b u o → Has v (moved_in_join b i (extent a) u o)
+join_right_place : (v a b c : WideTree) (i : ℕ) (u : List ℕ) (o : ℕ) → IsWellFormed a
+    → slice_get (children_of v) i ≡ Some c → joined a b ≡ Ok c → IsPlace b u o
+    → Has v (moved_in_join b i (extent a) u o)
 join_right_place v a (leaf y) c i (k ∷ w) o f g t h = absurd h
 join_right_place v (node m ts) (leaf y) c i [] o f g t h = absurd (cc)
 join_right_place v (leaf x) (leaf y) c i [] o f g t h =
-    at_child v c i [] (o + length x) g (leaf_place c (x ++ y) (o + length x) (sym (same_tree (leaf (x ++ y)) c t)) (cut_push x y (x ++ y) o (o + length x) refl (omega arith) f h))
+    at_child v c i [] (o + length x) g
+    (leaf_place c (x ++ y) (o + length x) (sym (same_tree (leaf (x ++ y)) c t))
+    (cut_push x y (x ++ y) o (o + length x) refl (omega arith) f h))
 join_right_place v (leaf x) (node n us) c i u o f g t h = absurd (cc)
 join_right_place v (node m ts) (node n us) c i [] o f g t h =
     let a = ok_asked (bytes_eq m n) Differ _ c t in
@@ -195,41 +219,53 @@ join_right_place v (node m ts) (node n us) c i (l ∷ w) o f g t h =
     at_child v c i ((l + length (trees ts)) ∷ w) o g
     (below_child (node n us) c l (l + length (trees ts)) w o (λ d q. right_child (node m ts) (node n us) c d l t q) h)
 
-join_left_place : (v a b c : WideTree) (i : ℕ) (u : List ℕ) (o : ℕ) → IsWellFormed b → slice_get (children_of v) i ≡ Some c → joined a b ≡ Ok c → IsPlace a u o → Has v (place (i ∷ u) o)
+join_left_place : (v a b c : WideTree) (i : ℕ) (u : List ℕ) (o : ℕ) → IsWellFormed b
+    → slice_get (children_of v) i ≡ Some c → joined a b ≡ Ok c → IsPlace a u o → Has v (place (i ∷ u) o)
 join_left_place v (leaf x) b c i (k ∷ w) o f g t h = absurd h
 join_left_place v (leaf x) (node n us) c i [] o f g t h = absurd (cc)
 join_left_place v (leaf x) (leaf y) c i [] o f g t h =
-    at_child v c i [] o g (leaf_place c (x ++ y) o (sym (same_tree (leaf (x ++ y)) c t)) (cut_append x y (x ++ y) o refl h f))
+    at_child v c i [] o g
+    (leaf_place c (x ++ y) o (sym (same_tree (leaf (x ++ y)) c t)) (cut_append x y (x ++ y) o refl h f))
 join_left_place v (node m ts) (leaf y) c i u o f g t h = absurd (cc)
 join_left_place v (node m ts) (node n us) c i [] o f g t h =
     let a = ok_asked (bytes_eq m n) Differ _ c t in
     at_child v c i [] o g (node_place c m _ o (sym (same_tree (node m (forest (trees ts ++ trees us))) c a.1)) h)
 join_left_place v (node m ts) (node n us) c i (l ∷ w) o f g t h =
-    at_child v c i (l ∷ w) o g (below_child (node m ts) c l l w o (λ d q. left_child (node m ts) (node n us) c d l t q) h)
+    at_child v c i (l ∷ w) o g
+    (below_child (node m ts) c l l w o (λ d q. left_child (node m ts) (node n us) c d l t q) h)
 
-join_place : (s v : WideTree) (i : ℕ) (r : List ℕ) (o : ℕ) → IsWellFormed s → joined_at s i ≡ Ok v → IsPlace s r o → Has v (moved_by_join s i r o)
+join_place : (s v : WideTree) (i : ℕ) (r : List ℕ) (o : ℕ) → IsWellFormed s → joined_at s i ≡ Ok v → IsPlace s r o
+    → Has v (moved_by_join s i r o)
 join_place (leaf text) v i r o f e h = absurd (cc)
 join_place (node l ts) v i [] o f e h = let g = shape_joined (node l ts) v i e in node_place v g.label _ o g.is h
 join_place (node l ts) v i (k ∷ u) o f e h =
     let s : WideTree = node l ts in
     let g = shape_joined s v i e in
-    let here : slice_get (children_of v) i ≡ Some g.both = join_at s v g.left g.right g.both i e g.first g.second g.one in
+    let here : slice_get (children_of v) i ≡ Some g.both =
+    join_at s v g.left g.right g.both i e g.first g.second g.one in
     let fa : IsWellFormed g.left = child_well_formed ts i g.left f.1 g.first in
     let fb : IsWellFormed g.right = child_well_formed ts (i + 1) g.right f.1 g.second in
     by_test (Has v) (ltb (i + 1) k) (place ((k - 1) ∷ u) o) _
     (λ t. below_child s v k (k - 1) u o (λ c q. join_behind s v c i k e (ltb-true (i + 1) k t) q) h)
-    (λ t. by_test (Has v) (eqb k (i + 1)) (moved_in_join (child_or_self s (i + 1)) i (extent (child_or_self s i)) u o) (place (k ∷ u) o)
+    (λ t. by_test (Has v) (eqb k (i + 1)) (moved_in_join (child_or_self s (i + 1)) i (extent (child_or_self s i)) u o)
+    (place (k ∷ u) o)
     (λ t'. let same : k ≡ i + 1 = eqb-true k (i + 1) t' in
     subst (λ b. Has v (moved_in_join b i (extent (child_or_self s i)) u o)) (sym (child_is s g.right (i + 1) g.second))
     (subst (λ a. Has v (moved_in_join g.right i (extent a) u o)) (sym (child_is s g.left i g.first))
-    (join_right_place v g.left g.right g.both i u o fa here g.one (of_child s g.right (i + 1) u o g.second (subst (λ n. IsPlace s (n ∷ u) o) same h)))))
-    (λ t'. stays v g.left g.right g.both here fb g.first g.one (ltb-false (i + 1) k t) (eqb-false k (i + 1) t') e (eqb k i) refl h))
+    (join_right_place v g.left g.right g.both i u o fa here g.one
+    (of_child s g.right (i + 1) u o g.second (subst (λ n. IsPlace s (n ∷ u) o) same h)))))
+    (λ t'. stays v g.left g.right g.both here fb g.first g.one (ltb-false (i + 1) k t) (eqb-false k (i + 1) t') e
+    (eqb k i) refl h))
   where
-    stays : (v a b c : WideTree) → slice_get (children_of v) i ≡ Some c → IsWellFormed b → slice_get (trees ts) i ≡ Some a → joined a b ≡ Ok c → k ≤ i + 1 → (k ≡ i + 1 → ⊥) → joined_at (node l ts) i ≡ Ok v
+    stays : (v a b c : WideTree) → slice_get (children_of v) i ≡ Some c → IsWellFormed b
+        → slice_get (trees ts) i ≡ Some a → joined a b ≡ Ok c → k ≤ i + 1 → (k ≡ i + 1 → ⊥)
+        → joined_at (node l ts) i ≡ Ok v
         → (d : Bool) → eqb k i ≡ d → IsPlace (node l ts) (k ∷ u) o → IsPlace v (k ∷ u) o
     stays v a b c here fb first one le ne e true t h =
         let same : k ≡ i = eqb-true k i t in
-        subst (λ n. IsPlace v (n ∷ u) o) (sym same) (join_left_place v a b c i u o fb here one (of_child (node l ts) a i u o first (subst (λ n. IsPlace (node l ts) (n ∷ u) o) same h)))
+        subst (λ n. IsPlace v (n ∷ u) o) (sym same)
+        (join_left_place v a b c i u o fb here one
+        (of_child (node l ts) a i u o first (subst (λ n. IsPlace (node l ts) (n ∷ u) o) same h)))
     stays v a b c here fb first one le ne e false t h =
         let ne' : k ≡ i → ⊥ = eqb-false k i t in
         below_child (node l ts) v k k u o (λ d q. join_front (node l ts) v d i k e (omega arith) q) h
@@ -239,20 +275,25 @@ join_place (node l ts) v i (k ∷ u) o f e h =
 label_place : (s v : WideTree) (l : List ℕ) (r : List ℕ) (o : ℕ) → labelled s l ≡ Ok v → IsPlace s r o → IsPlace v r o
 label_place (leaf text) v l r o e h = absurd (cc)
 label_place (node m ts) v l [] o e h = node_place v l _ o (shape_labelled (node m ts) v l e) h
-label_place (node m ts) v l (k ∷ u) o e h = below_child (node m ts) v k k u o (λ c g. child_in v l (trees ts) k c (shape_labelled (node m ts) v l e) g) h
+label_place (node m ts) v l (k ∷ u) o e h =
+    below_child (node m ts) v k k u o (λ c g. child_in v l (trees ts) k c (shape_labelled (node m ts) v l e) g) h
 
-unwrap_place : (s v : WideTree) (i : ℕ) (r : List ℕ) (o : ℕ) → IsWellFormed s → unwrapped s i ≡ Ok v → IsPlace s r o → Has v (moved_by_unwrap i r o)
+unwrap_place : (s v : WideTree) (i : ℕ) (r : List ℕ) (o : ℕ) → IsWellFormed s → unwrapped s i ≡ Ok v → IsPlace s r o
+    → Has v (moved_by_unwrap i r o)
 unwrap_place (leaf text) v i r o f e h = absurd (cc)
-unwrap_place (node l ts) v i [] o f e h = first_place v (child_well_formed ts i v f.1 (shape_unwrapped (node l ts) v i e))
+unwrap_place (node l ts) v i [] o f e h =
+    first_place v (child_well_formed ts i v f.1 (shape_unwrapped (node l ts) v i e))
 unwrap_place (node l ts) v i (k ∷ u) o f e h =
     let found : slice_get (trees ts) i ≡ Some v = shape_unwrapped (node l ts) v i e in
     by_test (Has v) (eqb k i) (place u o) (place [] 0)
-    (λ t. let same : k ≡ i = eqb-true k i t in of_child (node l ts) v i u o found (subst (λ n. IsPlace (node l ts) (n ∷ u) o) same h))
+    (λ t. let same : k ≡ i = eqb-true k i t in
+    of_child (node l ts) v i u o found (subst (λ n. IsPlace (node l ts) (n ∷ u) o) same h))
     (λ t. first_place v (child_well_formed ts i v f.1 found))
 
 -- ---- all kinds
 
-place_of_changed : (m : Mod) (s v : WideTree) (r : List ℕ) (o : ℕ) → IsSound m → IsWellFormed s → changed_at m s ≡ Ok v → IsPlace s r o → Has v (moved_at m s r o)
+place_of_changed : (m : Mod) (s v : WideTree) (r : List ℕ) (o : ℕ) → IsSound m → IsWellFormed s → changed_at m s ≡ Ok v
+    → IsPlace s r o → Has v (moved_at m s r o)
 place_of_changed (Assign p x) s v r o k f e h = subst (λ z. IsPlace z [] 0) (same_tree x v e) (first_place x k)
 place_of_changed (Insert p i x) s v r o k f e h = insert_place s x v i r o f k e h
 place_of_changed (Remove p i n) s v r o k f e h = remove_place s v i n r o f e h
@@ -269,7 +310,8 @@ with_offset (leaf text) n i o h = h
 with_offset (node l ts) n i o h = h
 
 -- a place that isn't in the changed subtree
-place_aside : (p q : List ℕ) (t s v : WideTree) (o : ℕ) → rest_behind p q ≡ None → subtree t p ≡ Some s → IsPlace t q o → IsPlace (replaced t p v) q o
+place_aside : (p q : List ℕ) (t s v : WideTree) (o : ℕ) → rest_behind p q ≡ None → subtree t p ≡ Some s → IsPlace t q o
+    → IsPlace (replaced t p v) q o
 place_aside [] q t s v o e g h = absurd (cc)
 place_aside (i ∷ p) [] t s v o e g h =
     let d = down t i p s g in
@@ -277,14 +319,17 @@ place_aside (i ∷ p) [] t s v o e g h =
 place_aside (i ∷ p) (k ∷ q) t s v o e g h =
     let d = down t i p s g in
     let n : WideTree = replaced d.child p v in
-    subst (λ z. IsPlace z (k ∷ q) o) (sym (replaced_down t d.child i p v d.found)) (tested d.child n (eqb i k) refl d.found (λ a b. place_aside p q d.child s v o a d.further b) e)
+    subst (λ z. IsPlace z (k ∷ q) o) (sym (replaced_down t d.child i p v d.found))
+    (tested d.child n (eqb i k) refl d.found (λ a b. place_aside p q d.child s v o a d.further b) e)
   where
-    tested : (c n : WideTree) (b : Bool) → eqb i k ≡ b → slice_get (children_of t) i ≡ Some c → (rest_behind p q ≡ None → IsPlace c q o → IsPlace n q o) → (if b then rest_behind p q else None) ≡ None
+    tested : (c n : WideTree) (b : Bool) → eqb i k ≡ b → slice_get (children_of t) i ≡ Some c
+        → (rest_behind p q ≡ None → IsPlace c q o → IsPlace n q o) → (if b then rest_behind p q else None) ≡ None
         → IsPlace (with_child t i n) (k ∷ q) o
     tested c n true a found ih f =
         let same : i ≡ k = eqb-true i k a in
         subst (λ z. IsPlace (with_child t i n) (z ∷ q) o) same
-        (at_child (with_child t i n) n i q o (child_of_with t c n i found) (ih f (of_child t c i q o found (subst (λ z. IsPlace t (z ∷ q) o) (sym same) h))))
+        (at_child (with_child t i n) n i q o (child_of_with t c n i found)
+        (ih f (of_child t c i q o found (subst (λ z. IsPlace t (z ∷ q) o) (sym same) h))))
     tested c n false a found ih f =
         let ne : k ≡ i → ⊥ = λ z. eqb-false i k a (sym z) in
         below_child t (with_child t i n) k k q o (λ d f'. other_child_of_with t n i k ne ∙ f') h
@@ -293,19 +338,34 @@ pub stays_place : (m : Mod) (t : WideTree) (at : Place) → StaysPlace m t at
 stays_place m t at u sound formed e h =
     let d = made_of m t u e in
     let here : Has (replaced t (path_of m) d.new) (moved_to (Some d.old)) =
-    stands (rest_behind (path_of m) at.path) refl d.old d.new d.found (λ r k. place_of_changed m d.old d.new r at.offset sound (well_formed_at (path_of m) t d.old d.found formed) d.at k) in
-    subst (λ z. Has z (moved_place m t at)) (sym d.is) (subst (λ o. Has (replaced t (path_of m) d.new) (moved_to o)) (sym d.found) here)
+    stands (rest_behind (path_of m) at.path) refl d.old d.new d.found
+    (λ r k. place_of_changed m d.old d.new r at.offset sound (well_formed_at (path_of m) t d.old d.found formed)
+    d.at k) in
+    subst (λ z. Has z (moved_place m t at)) (sym d.is)
+    (subst (λ o. Has (replaced t (path_of m) d.new) (moved_to o)) (sym d.found) here)
   where
     moved_to : Option WideTree → Place
-    moved_to o = option_map_or (λ s. option_map_or (λ r. below (path_of m) (moved_at m s r at.offset)) (rest_behind (path_of m) at.path) at) o at
+    moved_to o =
+        option_map_or
+        (λ s. option_map_or (λ r. below (path_of m) (moved_at m s r at.offset)) (rest_behind (path_of m) at.path) at) o
+        at
 
-    stands : (o : Option (List ℕ)) → rest_behind (path_of m) at.path ≡ o → (s v : WideTree) → subtree t (path_of m) ≡ Some s
-        → ((r : List ℕ) → IsPlace s r at.offset → Has v (moved_at m s r at.offset)) → Has (replaced t (path_of m) v) (moved_to (Some s))
+    stands : (o : Option (List ℕ)) → rest_behind (path_of m) at.path ≡ o → (s v : WideTree)
+        → subtree t (path_of m) ≡ Some s
+        → ((r : List ℕ) → IsPlace s r at.offset → Has v (moved_at m s r at.offset))
+        → Has (replaced t (path_of m) v) (moved_to (Some s))
     stands None a s v found f =
-        subst (λ o. Has (replaced t (path_of m) v) (option_map_or (λ r. below (path_of m) (moved_at m s r at.offset)) o at)) (sym a) (place_aside (path_of m) at.path t s v at.offset a found h)
+        subst (λ o.
+        Has (replaced t (path_of m) v) (option_map_or (λ r. below (path_of m) (moved_at m s r at.offset)) o at))
+        (sym a) (place_aside (path_of m) at.path t s v at.offset a found h)
     stands (Some r) a s v found f =
         let was : IsPlace s r at.offset =
-        subst (λ z. IsSomeAnd z (λ x. IsOffset x at.offset)) (ap (subtree t) (rest_is (path_of m) at.path r a) ∙ subtree_behind (path_of m) r t s found) h in
+        subst (λ z. IsSomeAnd z (λ x. IsOffset x at.offset)) (ap (subtree t) (rest_is (path_of m) at.path r a)
+        ∙ subtree_behind (path_of m) r t s found) h in
         let now : Place = moved_at m s r at.offset in
-        subst (λ o. Has (replaced t (path_of m) v) (option_map_or (λ b. below (path_of m) (moved_at m s b at.offset)) o at)) (sym a)
-        (subst (λ z. IsSomeAnd z (λ x. IsOffset x now.offset)) (sym (subtree_behind (path_of m) now.path (replaced t (path_of m) v) v (subtree_of_replaced (path_of m) t s v found))) (f r was))
+        subst (λ o.
+        Has (replaced t (path_of m) v) (option_map_or (λ b. below (path_of m) (moved_at m s b at.offset)) o at))
+        (sym a)
+        (subst (λ z. IsSomeAnd z (λ x. IsOffset x now.offset))
+        (sym (subtree_behind (path_of m) now.path (replaced t (path_of m) v) v
+        (subtree_of_replaced (path_of m) t s v found))) (f r was))

@@ -27,13 +27,16 @@ use Rattle.tx_mod.proofs.Replacing.{subtree_of_replaced}
 part_put : {X : Type 0} (xs ys : List X) (i : ℕ) → i ≤ length xs → part_of (put_in xs i ys) i (length ys) ≡ ys
 part_put {X} xs ys i le =
     let front : length (take i xs) ≡ i = length-take-le {A = X} i xs le in
-    ap (λ z. take (length ys) (drop i z)) (append_assoc (take i xs) ys (drop i xs)) ∙ ap (take (length ys)) (drop_at (take i xs) (ys ++ drop i xs) i front) ∙ take_at ys (drop i xs) (length ys) refl
+    ap (λ z. take (length ys) (drop i z)) (append_assoc (take i xs) ys (drop i xs))
+    ∙ ap (take (length ys)) (drop_at (take i xs) (ys ++ drop i xs) i front)
+    ∙ take_at ys (drop i xs) (length ys) refl
 
 insert_again : (s x v : WideTree) (i : ℕ) → inserted s i x ≡ Ok v → removed_part v i (extent x) ≡ x
 insert_again (leaf text) (leaf more) v i e =
     let a = ok_asked (leb i (length text)) (BadPlace (length text)) _ v e in
     let b = ok_asked (is_cut text i) (CutsSymbol i) _ v a.1 in
-    ap (λ z. removed_part z i (length more)) (sym (same_tree (leaf (put_in text i more)) v b.1)) ∙ ap leaf (part_put text more i (leb-true i (length text) a.0))
+    ap (λ z. removed_part z i (length more)) (sym (same_tree (leaf (put_in text i more)) v b.1))
+    ∙ ap leaf (part_put text more i (leb-true i (length text) a.0))
 insert_again (leaf text) (node m us) v i e = absurd (cc)
 insert_again (node l ts) (leaf more) v i e = absurd (cc)
 insert_again (node l ts) (node m us) v i e =
@@ -51,10 +54,12 @@ part_length : {X : Type 0} (xs : List X) (i n : ℕ) → i + n ≤ length xs →
 part_length {X} xs i n le = length-take-le {A = X} n (drop i xs) (omega (arith, length-drop {A = X} i xs))
 
 remove_again : (s v : WideTree) (i n : ℕ) → removed s i n ≡ Ok v → extent (removed_part s i n) ≡ n
-remove_again (leaf text) v i n e = let a = ok_asked (leb (i + n) (length text)) (BadPlace (length text)) _ v e in part_length text i n (leb-true (i + n) (length text) a.0)
+remove_again (leaf text) v i n e = let a = ok_asked (leb (i + n) (length text)) (BadPlace (length text)) _ v e in
+    part_length text i n (leb-true (i + n) (length text) a.0)
 remove_again (node l ts) v i n e =
     let a = ok_asked (leb (i + n) (length (trees ts))) (BadPlace (length (trees ts))) _ v e in
-    ap length (trees_forest (part_of (trees ts) i n)) ∙ part_length (trees ts) i n (leb-true (i + n) (length (trees ts)) a.0)
+    ap length (trees_forest (part_of (trees ts) i n))
+    ∙ part_length (trees ts) i n (leb-true (i + n) (length (trees ts)) a.0)
 
 extent_before : (c : WideTree) (j : ℕ) → j ≤ extent c → extent (before c j) ≡ j
 extent_before (leaf text) j le = length-take-le j text le
@@ -107,5 +112,6 @@ made_again m t u e =
     let n : Mod = inverse_at m d.old in
     let first : inverse_of m t ≡ n = ap (λ o. option_map_or (inverse_at m) o m) d.found in
     let found : subtree u (path_of n) ≡ Some d.new =
-    ap (subtree u) (same_path m d.old) ∙ ap (λ x. subtree x (path_of m)) d.is ∙ subtree_of_replaced (path_of m) t d.old d.new d.found in
+    ap (subtree u) (same_path m d.old) ∙ ap (λ x. subtree x (path_of m)) d.is
+    ∙ subtree_of_replaced (path_of m) t d.old d.new d.found in
     ap (λ k. inverse_of k u) first ∙ ap (λ o. option_map_or (inverse_at n) o n) found ∙ again_at m d.old d.new d.at

@@ -133,7 +133,8 @@ pub node_kept : (size depth nodes : ℕ) (label : List ℕ) (vs : List WideValue
     → IsLabel label → length vs ≤ 65535 → deepest (plains (vals vs)) < 400 → total_size (plains (vals vs)) < 8000000
     → IsWellFormed (node label (plains (vals vs))) × IsWithinLimits (node label (plains (vals vs)))
 node_kept size depth nodes label vs h named wide deep big =
-    let narrow : arity_of (node label (plains (vals vs))) ≤ 65535 = max-le (omega (arith, count-plains vs, wide)) h.narrow in
+    let narrow : arity_of (node label (plains (vals vs))) ≤ 65535 =
+    max-le (omega (arith, count-plains vs, wide)) h.narrow in
     let within : IsWithinLimits (node label (plains (vals vs))) =
     record { text = h.short; arity = narrow; depth = omega (arith, deep); size = omega (arith, big) } in
     ((named, h.well_formed), within)

@@ -24,7 +24,8 @@ use Rattle.tx_prim.specs.Lengths.{length_text}
 
 all_bytes : (bytes : List ℕ) → list_all is_item_byte bytes ≡ true → AllByRecursion IsItem (map byte bytes)
 all_bytes [] h = tt
-all_bytes (b ∷ bytes) h = let p = and_parts (is_item_byte b) (list_all is_item_byte bytes) h in (p.0, all_bytes bytes p.1)
+all_bytes (b ∷ bytes) h = let p = and_parts (is_item_byte b) (list_all is_item_byte bytes) h in
+    (p.0, all_bytes bytes p.1)
 
 are_bytes : (bytes : List ℕ) → bytes ≡ flat_map item_bytes (map byte bytes)
 are_bytes [] = refl
@@ -126,7 +127,8 @@ one_digit n lt = grind arith
 pub decimal_digits : (n : ℕ) → n < 2 ^ 64 → list_all is_digit (decimal n) ≡ true
 decimal_digits n lt =
     decimal_by_steps (λ _ ds. list_all is_digit ds ≡ true) one_digit
-    (λ n ds le h. list_all-append is_digit ds ((48 + n % 10) ∷ []) ∙ and_from (list_all is_digit ds) (list_all is_digit ((48 + n % 10) ∷ [])) h (one_digit (n % 10) (omega arith)))
+    (λ n ds le h. list_all-append is_digit ds ((48 + n % 10) ∷ [])
+    ∙ and_from (list_all is_digit ds) (list_all is_digit ((48 + n % 10) ∷ [])) h (one_digit (n % 10) (omega arith)))
     n lt
 
 pub signed_plain : (z : ℤ) → FitsSigned w64 z → list_all is_item_byte (signed_decimal z) ≡ true
@@ -141,7 +143,8 @@ signed_short z f = length_signed_le 19 z (omega (arith, f.sfits)) (omega (arith,
 
 pub length_is_text : (z : ℤ) → FitsSigned w64 z → IsText (length_text z)
 length_is_text z f =
-    plain_text (length_text z) (list_all-append is_item_byte (signed_decimal z) (codes "mcell") ∙ and_from (list_all is_item_byte (signed_decimal z)) true (signed_plain z f) refl)
+    plain_text (length_text z) (list_all-append is_item_byte (signed_decimal z) (codes "mcell")
+    ∙ and_from (list_all is_item_byte (signed_decimal z)) true (signed_plain z f) refl)
 
 pub length_short : (z : ℤ) → FitsSigned w64 z → length (length_text z) ≤ 25
 length_short z f = omega (arith, length-append (signed_decimal z) (codes "mcell"), signed_short z f)
@@ -149,19 +152,24 @@ length_short z f = omega (arith, length-append (signed_decimal z) (codes "mcell"
 -- ---- labels
 
 no_label : (n b : ℕ) → is_label_byte n ≡ false → is_label_byte b ≡ true → (b == n) ≡ false
-no_label n b is_none h = false_from_ne_true (b == n) (λ e. (let same : true ≡ false = sym h ∙ ap is_label_byte (eqb-true b n e) ∙ is_none in cc))
+no_label n b is_none h =
+    false_from_ne_true (b == n)
+    (λ e. (let same : true ≡ false = sym h ∙ ap is_label_byte (eqb-true b n e) ∙ is_none in cc))
 
-all_false : (p q r s t : Bool) → p ≡ false → q ≡ false → r ≡ false → s ≡ false → t ≡ false → not (p || q || r || s || t) ≡ true
+all_false : (p q r s t : Bool) → p ≡ false → q ≡ false → r ≡ false → s ≡ false → t ≡ false
+    → not (p || q || r || s || t) ≡ true
 all_false p q r s t a b c d e = rw (a, b, c, d, e) refl
 
 label_item : (b : ℕ) → is_label_byte b ≡ true → is_item_byte b ≡ true
 unfolding is_label_byte
 label_item b h =
-    all_false (b == 9) (b == 10) (b == 13) (b == 60) (b == 62) (no_label 9 b refl h) (no_label 10 b refl h) (no_label 13 b refl h) (no_label 60 b refl h) (no_label 62 b refl h)
+    all_false (b == 9) (b == 10) (b == 13) (b == 60) (b == 62) (no_label 9 b refl h) (no_label 10 b refl h)
+    (no_label 13 b refl h) (no_label 60 b refl h) (no_label 62 b refl h)
 
 label_plain : (label : List ℕ) → AllByRecursion (λ b. is_label_byte b ≡ true) label → list_all is_item_byte label ≡ true
 label_plain [] h = refl
-label_plain (b ∷ label) h = and_from (is_item_byte b) (list_all is_item_byte label) (label_item b h.0) (label_plain label h.1)
+label_plain (b ∷ label) h =
+    and_from (is_item_byte b) (list_all is_item_byte label) (label_item b h.0) (label_plain label h.1)
 
 pub label_text : (label : List ℕ) → IsLabel label → IsText label
 label_text label h = plain_text label (label_plain label h.each)
@@ -174,4 +182,16 @@ pub error_label : IsLabel (codes "error")
 unfolding is_label_byte
 error_label = record { each = (refl, (refl, (refl, (refl, (refl, tt))))); some = omega arith; short = omega arith }
 
-pub ruleset plain = (name_short, name_text, fault_short, fault_is_text, signed_text, signed_short, length_is_text, length_short, label_text, tuple_label, error_label)
+pub ruleset plain = (
+  name_short,
+  name_text,
+  fault_short,
+  fault_is_text,
+  signed_text,
+  signed_short,
+  length_is_text,
+  length_short,
+  label_text,
+  tuple_label,
+  error_label,
+)

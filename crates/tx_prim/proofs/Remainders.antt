@@ -20,5 +20,6 @@ rest_none x y f e =
     let is : y ≡ negsuc 0 = sym (to_z-of_z f) ∙ ap (to_z w64) e in
     by_minus_one x ∙ ap (int_rem x) (sym is) ∙ sym (rest_is x y)
 
-pub rest_as_bits : (x y : ℤ) → FitsSigned w64 x → FitsSigned w64 y → to_z w64 (of_z w64 (int_rem (to_z w64 (of_z w64 x)) (to_z w64 (of_z w64 y)))) ≡ rest_of x y
+pub rest_as_bits : (x y : ℤ) → FitsSigned w64 x → FitsSigned w64 y
+    → to_z w64 (of_z w64 (int_rem (to_z w64 (of_z w64 x)) (to_z w64 (of_z w64 y)))) ≡ rest_of x y
 rest_as_bits x y f g = rem_is w64 x y f g ∙ sym (rest_is x y)

@@ -51,18 +51,23 @@ same_from false s t h = by_answer (is_same s t) refl
     by_answer true e = h.1 (same_true s t e) ∙ sym e
     by_answer false e = sym e
 
-two_operands : (ts : List WideTree) (a b : WideTree) → 2 ≤ length ts → length ts < 3 → a ≡ get_or ts 0 a → b ≡ get_or ts 1 b → ts ≡ a ∷ b ∷ []
+two_operands : (ts : List WideTree) (a b : WideTree) → 2 ≤ length ts → length ts < 3 → a ≡ get_or ts 0 a
+    → b ≡ get_or ts 1 b → ts ≡ a ∷ b ∷ []
 two_operands [] a b some few e f = absurd (omega arith)
 two_operands (s ∷ []) a b some few e f = absurd (omega arith)
 two_operands (s ∷ t ∷ []) a b some few e f = ap (λ x. x ∷ t ∷ []) (sym e) ∙ ap (λ x. a ∷ x ∷ []) (sym f)
 two_operands (s ∷ t ∷ u ∷ ts) a b some few e f = absurd (omega arith)
 
-pub same_told : (wanted : Bool) (ts : List WideTree) (a b : WideTree) (r : Bool) → wanted ≡ true → 2 ≤ length ts → length ts < 3 → a ≡ get_or ts 0 a → b ≡ get_or ts 1 b → (r ≡ true) ↔ (a ≡ b)
+pub same_told : (wanted : Bool) (ts : List WideTree) (a b : WideTree) (r : Bool) → wanted ≡ true → 2 ≤ length ts
+    → length ts < 3 → a ≡ get_or ts 0 a → b ≡ get_or ts 1 b → (r ≡ true) ↔ (a ≡ b)
     → Truth r ≡ sameness wanted ts
 same_told wanted ts a b r w some few e f h =
-    ap Truth (same_from r a b h) ∙ ap (sameness true) (sym (two_operands ts a b some few e f)) ∙ ap (λ v. sameness v ts) (sym w)
+    ap Truth (same_from r a b h) ∙ ap (sameness true) (sym (two_operands ts a b some few e f))
+    ∙ ap (λ v. sameness v ts) (sym w)
 
-pub differ_told : (wanted : Bool) (ts : List WideTree) (a b : WideTree) (r : Bool) → wanted ≡ false → 2 ≤ length ts → length ts < 3 → a ≡ get_or ts 0 a → b ≡ get_or ts 1 b → (r ≡ true) ↔ (a ≡ b)
+pub differ_told : (wanted : Bool) (ts : List WideTree) (a b : WideTree) (r : Bool) → wanted ≡ false → 2 ≤ length ts
+    → length ts < 3 → a ≡ get_or ts 0 a → b ≡ get_or ts 1 b → (r ≡ true) ↔ (a ≡ b)
     → Truth (not r) ≡ sameness wanted ts
 differ_told wanted ts a b r w some few e f h =
-    ap (λ v. Truth (not v)) (same_from r a b h) ∙ ap (sameness false) (sym (two_operands ts a b some few e f)) ∙ ap (λ v. sameness v ts) (sym w)
+    ap (λ v. Truth (not v)) (same_from r a b h) ∙ ap (sameness false) (sym (two_operands ts a b some few e f))
+    ∙ ap (λ v. sameness v ts) (sym w)

@@ -32,7 +32,14 @@ front_within : (xs ys : List WideTree) → IsWithinLimits (tuple_node (xs ++ ys)
 front_within xs ys h =
     record {
       text = omega (arith, h.text, longest_text-append xs ys);
-      arity = omega (arith, h.arity, widest-append xs ys, count-forest xs, count-forest (xs ++ ys), length-append xs ys);
+      arity = omega (
+        arith,
+        h.arity,
+        widest-append xs ys,
+        count-forest xs,
+        count-forest (xs ++ ys),
+        length-append xs ys,
+      );
       depth = omega (arith, h.depth, deepest-append xs ys);
       size = omega (arith, h.size, total_size-append xs ys);
     }
@@ -41,15 +48,26 @@ back_within : (xs ys : List WideTree) → IsWithinLimits (tuple_node (xs ++ ys))
 back_within xs ys h =
     record {
       text = omega (arith, h.text, longest_text-append xs ys);
-      arity = omega (arith, h.arity, widest-append xs ys, count-forest ys, count-forest (xs ++ ys), length-append xs ys);
+      arity = omega (
+        arith,
+        h.arity,
+        widest-append xs ys,
+        count-forest ys,
+        count-forest (xs ++ ys),
+        length-append xs ys,
+      );
       depth = omega (arith, h.depth, deepest-append xs ys);
       size = omega (arith, h.size, total_size-append xs ys);
     }
 
-pub part_within : (xs : List WideTree) (i n : ℕ) → IsWithinLimits (tuple_node xs) → IsWithinLimits (tuple_node (take n (drop i xs)))
+pub part_within : (xs : List WideTree) (i n : ℕ) → IsWithinLimits (tuple_node xs)
+    → IsWithinLimits (tuple_node (take n (drop i xs)))
 part_within xs i n h =
-    let back : IsWithinLimits (tuple_node (drop i xs)) = back_within (take i xs) (drop i xs) (subst (λ z. IsWithinLimits (tuple_node z)) (sym (take-append-drop i xs)) h) in
-    front_within (take n (drop i xs)) (drop n (drop i xs)) (subst (λ z. IsWithinLimits (tuple_node z)) (sym (take-append-drop n (drop i xs))) back)
+    let back : IsWithinLimits (tuple_node (drop i xs)) =
+    back_within (take i xs) (drop i xs)
+    (subst (λ z. IsWithinLimits (tuple_node z)) (sym (take-append-drop i xs)) h) in
+    front_within (take n (drop i xs)) (drop n (drop i xs))
+    (subst (λ z. IsWithinLimits (tuple_node z)) (sym (take-append-drop n (drop i xs))) back)
 
 -- ---- what is joined
 
@@ -57,7 +75,8 @@ abbrev or_nothing : {A : Type 0} → Option (List (List A)) → List A
 or_nothing None = []
 or_nothing (Some lists) = joined_lists lists
 
-text_step : (a : List ℕ) (n : ℕ) (o : Option (List (List ℕ))) → length (or_nothing o) ≤ n → length (or_nothing (option_map (λ r. a ∷ r) o)) ≤ (1 + length a) + n
+text_step : (a : List ℕ) (n : ℕ) (o : Option (List (List ℕ))) → length (or_nothing o) ≤ n
+    → length (or_nothing (option_map (λ r. a ∷ r) o)) ≤ (1 + length a) + n
 text_step a n None h = omega arith
 text_step a n (Some r) h = omega (arith, length-append a (joined_lists r))
 
@@ -73,28 +92,38 @@ given (Some r) x e = some_same (joined_lists r) x e
     some_same : {A : Type 0} (x y : List A) → Some x ≡ Some y → x ≡ y
     some_same x y e = cc
 
-pub joined_short : (ts : List WideTree) (bytes : List ℕ) → option_map joined_lists (every text_of ts) ≡ Some bytes → length bytes ≤ total_size (forest ts)
-joined_short ts bytes e = subst (λ z. length z ≤ total_size (forest ts)) (given (every text_of ts) bytes e) (texts_size ts)
+pub joined_short : (ts : List WideTree) (bytes : List ℕ) → option_map joined_lists (every text_of ts) ≡ Some bytes
+    → length bytes ≤ total_size (forest ts)
+joined_short ts bytes e =
+    subst (λ z. length z ≤ total_size (forest ts)) (given (every text_of ts) bytes e) (texts_size ts)
 
-tuple_step : (a : List WideTree) (n m : ℕ) (o : Option (List (List WideTree))) → total_size (forest a) ≤ m → total_size (forest (or_nothing o)) ≤ n
+tuple_step : (a : List WideTree) (n m : ℕ) (o : Option (List (List WideTree))) → total_size (forest a) ≤ m
+    → total_size (forest (or_nothing o)) ≤ n
     → total_size (forest (or_nothing (option_map (λ r. a ∷ r) o))) ≤ (1 + m) + n
 tuple_step a n m None k h = omega arith
 tuple_step a n m (Some r) k h = omega (arith, total_size-append a (joined_lists r))
 
-tuple_case : (b : Bool) (us : Forest) (n : ℕ) (o : Option (List (List WideTree))) → total_size (forest (or_nothing o)) ≤ n
-    → total_size (forest (or_nothing (option_and_then (λ a. option_map (λ r. a ∷ r) o) (if b then Some (trees us) else None)))) ≤ (1 + total_size us) + n
+tuple_case : (b : Bool) (us : Forest) (n : ℕ) (o : Option (List (List WideTree)))
+    → total_size (forest (or_nothing o)) ≤ n
+    → total_size
+    (forest (or_nothing (option_and_then (λ a. option_map (λ r. a ∷ r) o) (if b then Some (trees us) else None))))
+    ≤ (1 + total_size us) + n
 tuple_case false us n o h = omega arith
 tuple_case true us n o h = tuple_step (trees us) n (total_size us) o (omega (arith, ap total_size (forest_trees us))) h
 
 tuples_size : (ts : List WideTree) → total_size (forest (or_nothing (every tuple_in ts))) ≤ total_size (forest ts)
 tuples_size [] = omega arith
 tuples_size (leaf a ∷ ts) = omega arith
-tuples_size (node l us ∷ ts) = tuple_case (bytes_eq l (codes "tuple")) us (total_size (forest ts)) (every tuple_in ts) (tuples_size ts)
+tuples_size (node l us ∷ ts) =
+    tuple_case (bytes_eq l (codes "tuple")) us (total_size (forest ts)) (every tuple_in ts) (tuples_size ts)
 
-pub joined_small : (ts us : List WideTree) → option_map joined_lists (every tuple_in ts) ≡ Some us → total_size (forest us) ≤ total_size (forest ts)
-joined_small ts us e = subst (λ z. total_size (forest z) ≤ total_size (forest ts)) (given (every tuple_in ts) us e) (tuples_size ts)
+pub joined_small : (ts us : List WideTree) → option_map joined_lists (every tuple_in ts) ≡ Some us
+    → total_size (forest us) ≤ total_size (forest ts)
+joined_small ts us e =
+    subst (λ z. total_size (forest z) ≤ total_size (forest ts)) (given (every tuple_in ts) us e) (tuples_size ts)
 
-pub joined_within : (ts us : List WideTree) → option_map joined_lists (every tuple_in ts) ≡ Some us → AreShallow us → total_size (forest ts) ≤ 1000000 → length us ≤ 65535 → IsWithinLimits (tuple_node us)
+pub joined_within : (ts us : List WideTree) → option_map joined_lists (every tuple_in ts) ≡ Some us → AreShallow us
+    → total_size (forest ts) ≤ 1000000 → length us ≤ 65535 → IsWithinLimits (tuple_node us)
 joined_within ts us e h small narrow =
     record {
       text = omega (arith, h.text);
@@ -103,11 +132,15 @@ joined_within ts us e h small narrow =
       size = omega (arith, joined_small ts us e);
     }
 
-pub children_within : (t : WideTree) (ts : List WideTree) → IsWithinLimits t → ts ≡ children_of t → IsWithinLimits (tuple_node ts)
-children_within (leaf a) ts h e = subst (λ z. IsWithinLimits (tuple_node z)) (sym e) (record { text = omega arith; arity = omega arith; depth = omega arith; size = omega arith })
+pub children_within : (t : WideTree) (ts : List WideTree) → IsWithinLimits t → ts ≡ children_of t
+    → IsWithinLimits (tuple_node ts)
+children_within (leaf a) ts h e =
+    subst (λ z. IsWithinLimits (tuple_node z)) (sym e)
+    (record { text = omega arith; arity = omega arith; depth = omega arith; size = omega arith })
 children_within (node l us) ts h e =
     let back : us ≡ forest ts = sym (forest_trees us) ∙ ap forest (sym e) in
-    subst (λ z. IsWithinLimits (node (codes "tuple") z)) back (record { text = h.text; arity = h.arity; depth = h.depth; size = h.size })
+    subst (λ z. IsWithinLimits (node (codes "tuple") z)) back
+    (record { text = h.text; arity = h.arity; depth = h.depth; size = h.size })
 
 pub shallow_more : (us ts : List WideTree) → AreShallow us → IsWithinLimits (tuple_node ts) → AreShallow (us ++ ts)
 shallow_more us ts h w =
@@ -120,4 +153,5 @@ shallow_more us ts h w =
 pub shallow_none : AreShallow []
 shallow_none = record { depth = omega arith; text = omega arith; arity = omega arith }
 
-pub ruleset within = (failure_within, part_within, joined_short, joined_within, children_within, shallow_more, shallow_none)
+pub ruleset within =
+    (failure_within, part_within, joined_short, joined_within, children_within, shallow_more, shallow_none)

@@ -12,7 +12,8 @@ use lib.Lanes.{zip2, mask_l, top}
 abbrev pub lanes_passing : (ℕ → Bool) → List ℕ → List ℕ
 lanes_passing p block = map (λ x. cond (p x) 255 0) block
 
-pub lanes_passing-same : (p q : ℕ → Bool) → ((x : ℕ) → p x ≡ q x) → (block : List ℕ) → lanes_passing p block ≡ lanes_passing q block
+pub lanes_passing-same : (p q : ℕ → Bool) → ((x : ℕ) → p x ≡ q x) → (block : List ℕ)
+    → lanes_passing p block ≡ lanes_passing q block
 lanes_passing-same p q same [] = refl
 lanes_passing-same p q same (x ∷ xs) = ap₂ ◌∷◌ (ap (λ b. cond b 255 0) (same x)) (lanes_passing-same p q same xs)
 
@@ -23,7 +24,8 @@ either_lane false true = refl
 either_lane false false = refl
 
 -- `|` of two comparisons
-pub lanes_passing-or : (p q : ℕ → Bool) (block : List ℕ) → zip2 bit_or (lanes_passing p block) (lanes_passing q block) ≡ lanes_passing (λ x. p x || q x) block
+pub lanes_passing-or : (p q : ℕ → Bool) (block : List ℕ)
+    → zip2 bit_or (lanes_passing p block) (lanes_passing q block) ≡ lanes_passing (λ x. p x || q x) block
 lanes_passing-or p q [] = refl
 lanes_passing-or p q (x ∷ xs) = ap₂ ◌∷◌ (either_lane (p x) (q x)) (lanes_passing-or p q xs)
 
@@ -43,17 +45,21 @@ tops p [] = refl
 tops p (x ∷ xs) = ap₂ ◌∷◌ (top_lane (p x)) (tops p xs)
 
 -- `to_bitmask` of a comparison
-pub bitmask_passing : (p : ℕ → Bool) (block : List ℕ) → length block ≤ 64 → mask_l (map (top 7) (lanes_passing p block)) % 2 ^ 64 ≡ mask_l (map p block)
+pub bitmask_passing : (p : ℕ → Bool) (block : List ℕ) → length block ≤ 64
+    → mask_l (map (top 7) (lanes_passing p block)) % 2 ^ 64 ≡ mask_l (map p block)
 bitmask_passing p block few =
     ap (λ l. mask_l l % 2 ^ 64) (tops p block) ∙ mask_l-mod (map p block) 64 (omega (arith, length-map block p))
 
 -- no lane is set: no byte of the block passes
-pub none_in_block : (p : ℕ → Bool) (block : List ℕ) → length block ≡ 32 → mask_l (map (top 7) (lanes_passing p block)) % 2 ^ 64 ≡ 0 → 32 ≡ position_or_len p block
+pub none_in_block : (p : ℕ → Bool) (block : List ℕ) → length block ≡ 32
+    → mask_l (map (top 7) (lanes_passing p block)) % 2 ^ 64 ≡ 0 → 32 ≡ position_or_len p block
 none_in_block p block long none =
     sym (leading_from_mask_l p block (sym (bitmask_passing p block (omega arith)) ∙ none) ∙ long)
 
 -- the lowest lane that is set is the first byte that passes
-pub first_in_block : (p : ℕ → Bool) (block : List ℕ) → length block ≡ 32 → 0 < mask_l (map (top 7) (lanes_passing p block)) % 2 ^ 64 → count_trailing_zeros 64 (mask_l (map (top 7) (lanes_passing p block)) % 2 ^ 64) ≡ position_or_len p block
+pub first_in_block : (p : ℕ → Bool) (block : List ℕ) → length block ≡ 32
+    → 0 < mask_l (map (top 7) (lanes_passing p block)) % 2 ^ 64
+    → count_trailing_zeros 64 (mask_l (map (top 7) (lanes_passing p block)) % 2 ^ 64) ≡ position_or_len p block
 first_in_block p block long some =
     let mask = bitmask_passing p block (omega arith) in
     ap (count_trailing_zeros 64) mask ∙ trailing_mask_l p 64 block (omega arith) (omega arith)

@@ -31,12 +31,15 @@ is_stop-padded set k b =
     ]
 
 -- one more byte of the set
-pub is_stop_more : (set : List ℕ) (i b : ℕ) → i < length set → (is_stop (take i set) b || eqb b (get_or set i 0)) ≡ is_stop (take (i + 1) set) b
+pub is_stop_more : (set : List ℕ) (i b : ℕ) → i < length set
+    → (is_stop (take i set) b || eqb b (get_or set i 0)) ≡ is_stop (take (i + 1) set) b
 is_stop_more set i b lt =
     or_assoc (ltb b 32) (list_any (λ s. eqb s b) (take i set)) (eqb b (get_or set i 0))
-    ∙ ap (λ r. ltb b 32 || r) (ap (λ r. list_any (λ s. eqb s b) (take i set) || r) (eqb_comm b (get_or set i 0)) ∙ sym (list_any_more (λ s. eqb s b) set i 0 lt))
+    ∙ ap (λ r. ltb b 32 || r) (ap (λ r. list_any (λ s. eqb s b) (take i set) || r) (eqb_comm b (get_or set i 0))
+    ∙ sym (list_any_more (λ s. eqb s b) set i 0 lt))
 
 -- the eight bytes of a value test as its set does
-pub is_stop-inside : (bytes set : List ℕ) (n k b : ℕ) → bytes ≡ take n bytes ++ replicate k 0 → take n bytes ≡ set → is_stop bytes b ≡ is_stop set b
+pub is_stop-inside : (bytes set : List ℕ) (n k b : ℕ) → bytes ≡ take n bytes ++ replicate k 0 → take n bytes ≡ set
+    → is_stop bytes b ≡ is_stop set b
 is_stop-inside bytes set n k b padded view =
     ap (λ l. is_stop l b) padded ∙ is_stop-padded (take n bytes) k b ∙ ap (λ l. is_stop l b) view

@@ -50,7 +50,9 @@ module _ (limits : Limits) where
 
   pub keeps_below : (t : WideTree) → IsBelow limits t → keeps limits t ≡ true
   unfolding keeps
-  keeps_below t w = and_from _ _ (le-leb _ _ w.text) (and_from _ _ (le-leb _ _ w.arity) (and_from _ _ (le-leb _ _ w.depth) (le-leb _ _ w.size)))
+  keeps_below t w =
+      and_from _ _ (le-leb _ _ w.text)
+      (and_from _ _ (le-leb _ _ w.arity) (and_from _ _ (le-leb _ _ w.depth) (le-leb _ _ w.size)))
 
   pub below_kept : (t : WideTree) → keeps limits t ≡ true → IsBelow limits t
   unfolding keeps
@@ -58,7 +60,12 @@ module _ (limits : Limits) where
       let text = and_parts _ _ e in
       let arity = and_parts _ _ text.1 in
       let depth = and_parts _ _ arity.1 in
-      record { text = leb-true _ _ text.0; arity = leb-true _ _ arity.0; depth = leb-true _ _ depth.0; size = leb-true _ _ depth.1 }
+      record {
+        text = leb-true _ _ text.0;
+        arity = leb-true _ _ arity.0;
+        depth = leb-true _ _ depth.0;
+        size = leb-true _ _ depth.1;
+      }
 
 pub within_below : (t : WideTree) → IsBelow the_limits t → IsWithinLimits t
 within_below t w = record { text = w.text; arity = w.arity; depth = w.depth; size = w.size }

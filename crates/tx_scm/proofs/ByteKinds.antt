@@ -44,7 +44,17 @@ pub letter_kind : (b : ℕ) → is_label_byte b ≡ true → kind_of b ≡ Lette
 unfolding kind_of
 letter_kind b h =
     let n = in_no_label in
-    rw (differs b 9 h n.0, differs b 10 h n.1, differs b 13 h n.2, differs b 32 h n.3, differs b 40 h n.4, differs b 41 h n.5, differs b 34 h n.6, differs b 92 h n.7, h) refl
+    rw (
+      differs b 9 h n.0,
+      differs b 10 h n.1,
+      differs b 13 h n.2,
+      differs b 32 h n.3,
+      differs b 40 h n.4,
+      differs b 41 h n.5,
+      differs b 34 h n.6,
+      differs b 92 h n.7,
+      h,
+    ) refl
 
 -- ---- and back
 

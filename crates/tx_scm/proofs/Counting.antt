@@ -9,7 +9,8 @@ use Rattle.tx_scm.specs.Machine.{only_if, node_of, closed, named, lengthened, st
 use Rattle.tx_scm.specs.Machine.{step_texting, step_escaping, step_whole, step}
 use Rattle.tx_scm.specs.States.{nodes_in, made_by, made_in, IsCounted}
 
-total_nodes-append : (ss ts : List WideTree) → total_nodes (forest (ss ++ ts)) ≡ total_nodes (forest ss) + total_nodes (forest ts)
+total_nodes-append : (ss ts : List WideTree) → total_nodes (forest (ss ++ ts)) ≡ total_nodes (forest ss) + total_nodes
+    (forest ts)
 total_nodes-append [] ts = omega arith
 total_nodes-append (s ∷ ss) ts = omega (arith, total_nodes-append ss ts)
 
@@ -18,16 +19,20 @@ module _ (from steps : ℕ) where
   only_counted true s h = h
   only_counted false s h = tt
 
-  put_counted : (t : WideTree) (opens : List Open) → steps ≤ from + (nodes_of t + nodes_in opens) → IsCounted from steps (put t opens)
+  put_counted : (t : WideTree) (opens : List Open) → steps ≤ from + (nodes_of t + nodes_in opens)
+      → IsCounted from steps (put t opens)
   put_counted t [] h = omega arith
   put_counted t (o ∷ opens) h = omega (arith, h, total_nodes-append o.children (t ∷ []))
 
 module _ (bounds : Bounds) (from steps : ℕ) where
   close_counted : (opens : List Open) → steps ≤ from + nodes_in opens → IsCounted from (steps + 1) (closed bounds opens)
   close_counted [] h = tt
-  close_counted (o ∷ opens) h = only_counted from (steps + 1) (bounds.keeps (node_of o)) (put (node_of o) opens) (put_counted from (steps + 1) (node_of o) opens (omega (arith, h)))
+  close_counted (o ∷ opens) h =
+      only_counted from (steps + 1) (bounds.keeps (node_of o)) (put (node_of o) opens)
+      (put_counted from (steps + 1) (node_of o) opens (omega (arith, h)))
 
-  between_counted : (k : Kind) (opens : List Open) → steps ≤ from + nodes_in opens → IsCounted from (steps + made_by k) (step_between bounds opens k)
+  between_counted : (k : Kind) (opens : List Open) → steps ≤ from + nodes_in opens
+      → IsCounted from (steps + made_by k) (step_between bounds opens k)
   unfolding step_between
   between_counted White opens h = omega arith
   between_counted Opens opens h = only_counted from (steps + 0) (bounds.room opens) (opened opens) (omega arith)
@@ -35,27 +40,37 @@ module _ (bounds : Bounds) (from steps : ℕ) where
   between_counted Closes opens h = close_counted opens h
   between_counted _ opens h = tt
 
-  opened_counted : (k : Kind) (b : ℕ) (opens : List Open) → steps ≤ from + nodes_in opens → IsCounted from (steps + 0) (step_opened opens k b)
+  opened_counted : (k : Kind) (b : ℕ) (opens : List Open) → steps ≤ from + nodes_in opens
+      → IsCounted from (steps + 0) (step_opened opens k b)
   unfolding step_opened
   opened_counted White b opens h = omega arith
   opened_counted Letter b opens h = omega arith
   opened_counted _ b opens h = tt
 
-  naming_counted : (k : Kind) (b : ℕ) (label : List ℕ) (opens : List Open) → steps ≤ from + nodes_in opens → IsCounted from (steps + made_by k) (step_naming bounds label opens k b)
+  naming_counted : (k : Kind) (b : ℕ) (label : List ℕ) (opens : List Open) → steps ≤ from + nodes_in opens
+      → IsCounted from (steps + made_by k) (step_naming bounds label opens k b)
   unfolding step_naming
-  naming_counted Letter b label opens h = only_counted from (steps + 0) (ltb (length label) 64) (naming (label ++ b ∷ []) opens) (omega arith)
+  naming_counted Letter b label opens h =
+      only_counted from (steps + 0) (ltb (length label) 64) (naming (label ++ b ∷ []) opens) (omega arith)
   naming_counted k b label opens h = between_counted k (named label opens) (omega arith)
 
-  lengthened_counted : (text : List ℕ) (b : ℕ) (opens : List Open) → steps ≤ from + nodes_in opens → IsCounted from (steps + 0) (lengthened bounds text opens b)
-  lengthened_counted text b opens h = only_counted from (steps + 0) (bounds.longer text && begins_text (text ++ b ∷ [])) (texting (text ++ b ∷ []) opens) (omega arith)
+  lengthened_counted : (text : List ℕ) (b : ℕ) (opens : List Open) → steps ≤ from + nodes_in opens
+      → IsCounted from (steps + 0) (lengthened bounds text opens b)
+  lengthened_counted text b opens h =
+      only_counted from (steps + 0) (bounds.longer text && begins_text (text ++ b ∷ []))
+      (texting (text ++ b ∷ []) opens) (omega arith)
 
-  texting_counted : (k : Kind) (b : ℕ) (text : List ℕ) (opens : List Open) → steps ≤ from + nodes_in opens → IsCounted from (steps + 0) (step_texting bounds text opens k b)
+  texting_counted : (k : Kind) (b : ℕ) (text : List ℕ) (opens : List Open) → steps ≤ from + nodes_in opens
+      → IsCounted from (steps + 0) (step_texting bounds text opens k b)
   unfolding step_texting
-  texting_counted Quote b text opens h = only_counted from (steps + 0) (is_text text) (put (leaf text) opens) (put_counted from (steps + 0) (leaf text) opens (omega arith))
+  texting_counted Quote b text opens h =
+      only_counted from (steps + 0) (is_text text) (put (leaf text) opens)
+      (put_counted from (steps + 0) (leaf text) opens (omega arith))
   texting_counted Backslash b text opens h = omega arith
   texting_counted _ b text opens h = lengthened_counted text b opens h
 
-  escaping_counted : (k : Kind) (b : ℕ) (text : List ℕ) (opens : List Open) → steps ≤ from + nodes_in opens → IsCounted from (steps + 0) (step_escaping bounds text opens k b)
+  escaping_counted : (k : Kind) (b : ℕ) (text : List ℕ) (opens : List Open) → steps ≤ from + nodes_in opens
+      → IsCounted from (steps + 0) (step_escaping bounds text opens k b)
   unfolding step_escaping
   escaping_counted Quote b text opens h = lengthened_counted text b opens h
   escaping_counted Backslash b text opens h = lengthened_counted text b opens h
@@ -66,7 +81,8 @@ module _ (bounds : Bounds) (from steps : ℕ) where
   whole_counted White t h = omega arith
   whole_counted _ t h = tt
 
-  pub step_counted : (s : State) (k : Kind) (b : ℕ) → IsCounted from steps s → IsCounted from (steps + made_in s k) (step bounds s k b)
+  pub step_counted : (s : State) (k : Kind) (b : ℕ) → IsCounted from steps s
+      → IsCounted from (steps + made_in s k) (step bounds s k b)
   step_counted (between opens) k b h = between_counted k opens h
   step_counted (opened opens) k b h = opened_counted k b opens h
   step_counted (naming label opens) k b h = naming_counted k b label opens h

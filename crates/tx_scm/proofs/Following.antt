@@ -66,15 +66,19 @@ only_spot : (c : Bool) (s : State) (t : Spot) → spot_of s ≡ Some t → spot_
 only_spot true s t e = e
 only_spot false s t e = refl
 
-naming_spot : (k : Kind) (b : ℕ) (label : List ℕ) (opens : List Open) → spot_of (step_naming wide label opens k b) ≡ naming_step (length label) (length opens) k
+naming_spot : (k : Kind) (b : ℕ) (label : List ℕ) (opens : List Open)
+    → spot_of (step_naming wide label opens k b) ≡ naming_step (length label) (length opens) k
 unfolding step_naming naming_step
 naming_spot Letter b label opens =
-    only_spot (ltb (length label) 64) (naming (label ++ b ∷ []) opens) (Naming (length label + 1) (length opens)) (ap (λ m. Some (Naming m (length opens))) (length-append label (b ∷ [])))
-naming_spot k b label opens = between_spot k (named label opens) ∙ ap (λ m. between_step m k) (sym (add-one (length opens)))
+    only_spot (ltb (length label) 64) (naming (label ++ b ∷ []) opens) (Naming (length label + 1) (length opens))
+    (ap (λ m. Some (Naming m (length opens))) (length-append label (b ∷ [])))
+naming_spot k b label opens =
+    between_spot k (named label opens) ∙ ap (λ m. between_step m k) (sym (add-one (length opens)))
 
 -- ---- strings
 
-begun_spot : (p : Option TextPlace) (text : List ℕ) (opens : List Open) → place_of text ≡ p → spot_of (machine.only_if (is_some p) (texting text opens)) ≡ in_text p (length opens)
+begun_spot : (p : Option TextPlace) (text : List ℕ) (opens : List Open) → place_of text ≡ p
+    → spot_of (machine.only_if (is_some p) (texting text opens)) ≡ in_text p (length opens)
 begun_spot None text opens e = refl
 begun_spot (Some p) text opens e = ap (λ p. in_text p (length opens)) e
 
@@ -93,17 +97,21 @@ one_run (Some p) b = nothing (text_step p b)
 pub place_more : (text : List ℕ) (b : ℕ) → place_of (text ++ b ∷ []) ≡ one_more (place_of text) b
 place_more text b = text_run-append text (b ∷ []) (Some BetweenItems) ∙ one_run (place_of text) b
 
-lengthened_spot : (text : List ℕ) (opens : List Open) (b : ℕ) → spot_of (machine.lengthened wide text opens b) ≡ in_text (one_more (place_of text) b) (length opens)
+lengthened_spot : (text : List ℕ) (opens : List Open) (b : ℕ)
+    → spot_of (machine.lengthened wide text opens b) ≡ in_text (one_more (place_of text) b) (length opens)
 unfolding begins_text
-lengthened_spot text opens b = begun_spot (place_of (text ++ b ∷ [])) (text ++ b ∷ []) opens refl ∙ ap (λ p. in_text p (length opens)) (place_more text b)
+lengthened_spot text opens b = begun_spot (place_of (text ++ b ∷ [])) (text ++ b ∷ []) opens refl
+    ∙ ap (λ p. in_text p (length opens)) (place_more text b)
 
-ended_spot : (p : Option TextPlace) (t : WideTree) (opens : List Open) → spot_of (machine.only_if (is_between p) (put t opens)) ≡ next (in_text p (length opens)) Quote 34
+ended_spot : (p : Option TextPlace) (t : WideTree) (opens : List Open)
+    → spot_of (machine.only_if (is_between p) (put t opens)) ≡ next (in_text p (length opens)) Quote 34
 unfolding texting_step
 ended_spot None t opens = refl
 ended_spot (Some BetweenItems) t opens = put_spot t opens
 ended_spot (Some (InSymbol n)) t opens = refl
 
-longer_spot : (p : Option TextPlace) (d b : ℕ) (k : Kind) → ((q : TextPlace) → texting_step q d k b ≡ lengthened q d b) → in_text (one_more p b) d ≡ next (in_text p d) k b
+longer_spot : (p : Option TextPlace) (d b : ℕ) (k : Kind) → ((q : TextPlace) → texting_step q d k b ≡ lengthened q d b)
+    → in_text (one_more p b) d ≡ next (in_text p d) k b
 longer_spot None d b k h = refl
 longer_spot (Some p) d b k h = sym (h p)
 
@@ -112,19 +120,26 @@ unfolding texting_step
 quote_any None d b c = refl
 quote_any (Some p) d b c = refl
 
-texting_spot : (k : Kind) (b : ℕ) (text : List ℕ) (opens : List Open) → spot_of (step_texting wide text opens k b) ≡ next (spot_of (texting text opens)) k b
+texting_spot : (k : Kind) (b : ℕ) (text : List ℕ) (opens : List Open)
+    → spot_of (step_texting wide text opens k b) ≡ next (spot_of (texting text opens)) k b
 unfolding step_texting texting_step is_text
-texting_spot Quote b text opens = ended_spot (place_of text) (leaf text) opens ∙ quote_any (place_of text) (length opens) 34 b
+texting_spot Quote b text opens =
+    ended_spot (place_of text) (leaf text) opens ∙ quote_any (place_of text) (length opens) 34 b
 texting_spot Backslash b text opens = escape_begins (place_of text)
   where
     escape_begins : (p : Option TextPlace) → in_escape p (length opens) ≡ next (in_text p (length opens)) Backslash b
     escape_begins None = refl
     escape_begins (Some p) = refl
-texting_spot White b text opens = lengthened_spot text opens b ∙ longer_spot (place_of text) (length opens) b White (λ q. refl)
-texting_spot Opens b text opens = lengthened_spot text opens b ∙ longer_spot (place_of text) (length opens) b Opens (λ q. refl)
-texting_spot Closes b text opens = lengthened_spot text opens b ∙ longer_spot (place_of text) (length opens) b Closes (λ q. refl)
-texting_spot Letter b text opens = lengthened_spot text opens b ∙ longer_spot (place_of text) (length opens) b Letter (λ q. refl)
-texting_spot Other b text opens = lengthened_spot text opens b ∙ longer_spot (place_of text) (length opens) b Other (λ q. refl)
+texting_spot White b text opens =
+    lengthened_spot text opens b ∙ longer_spot (place_of text) (length opens) b White (λ q. refl)
+texting_spot Opens b text opens =
+    lengthened_spot text opens b ∙ longer_spot (place_of text) (length opens) b Opens (λ q. refl)
+texting_spot Closes b text opens =
+    lengthened_spot text opens b ∙ longer_spot (place_of text) (length opens) b Closes (λ q. refl)
+texting_spot Letter b text opens =
+    lengthened_spot text opens b ∙ longer_spot (place_of text) (length opens) b Letter (λ q. refl)
+texting_spot Other b text opens =
+    lengthened_spot text opens b ∙ longer_spot (place_of text) (length opens) b Other (λ q. refl)
 
 -- ---- escapes
 
@@ -134,39 +149,51 @@ unfolding text_step
 same_escape BetweenItems = refl
 same_escape (InSymbol n) = choice (ltb n 48)
   where
-    choice : (c : Bool) → is_some (Rattle.std.proofs.Common.cond c (Some (InSymbol (n + 1))) None) ≡ is_some (Rattle.std.proofs.Common.cond c (Some (InSymbol (n + 1))) None)
+    choice : (c : Bool) → is_some (Rattle.std.proofs.Common.cond c (Some (InSymbol (n + 1))) None) ≡ is_some
+        (Rattle.std.proofs.Common.cond c (Some (InSymbol (n + 1))) None)
     choice c = refl
 
-escape_ends : (p : TextPlace) (d b : ℕ) (k : Kind) → is_some (text_step p b) ≡ is_some (text_step p 34) → escaping_step p d k b ≡ lengthened p d b
+escape_ends : (p : TextPlace) (d b : ℕ) (k : Kind) → is_some (text_step p b) ≡ is_some (text_step p 34)
+    → escaping_step p d k b ≡ lengthened p d b
     → in_text (text_step p b) d ≡ next (only_if (is_some (text_step p 34)) (Escaping p d)) k b
 escape_ends p d b k e h =
     ended (text_step p b) (is_some (text_step p 34)) refl e
   where
-    ended : (q : Option TextPlace) (c : Bool) → text_step p b ≡ q → is_some q ≡ c → in_text q d ≡ next (only_if c (Escaping p d)) k b
+    ended : (q : Option TextPlace) (c : Bool) → text_step p b ≡ q → is_some q ≡ c
+        → in_text q d ≡ next (only_if c (Escaping p d)) k b
     ended None true s f = absurd cc
     ended None false s f = refl
     ended (Some q) true s f = ap (λ q. in_text q d) (sym s) ∙ sym h
     ended (Some q) false s f = absurd cc
 
-escape_fails : (c : Bool) (p : TextPlace) (d b : ℕ) (k : Kind) → escaping_step p d k b ≡ None → None ≡ next (only_if c (Escaping p d)) k b
+escape_fails : (c : Bool) (p : TextPlace) (d b : ℕ) (k : Kind) → escaping_step p d k b ≡ None
+    → None ≡ next (only_if c (Escaping p d)) k b
 escape_fails true p d b k e = sym e
 escape_fails false p d b k e = refl
 
-escaped_spot : (p : Option TextPlace) (d b : ℕ) (k : Kind) → ((q : TextPlace) → is_some (text_step q b) ≡ is_some (text_step q 34)) → ((q : TextPlace) → escaping_step q d k b ≡ lengthened q d b)
+escaped_spot : (p : Option TextPlace) (d b : ℕ) (k : Kind)
+    → ((q : TextPlace) → is_some (text_step q b) ≡ is_some (text_step q 34))
+    → ((q : TextPlace) → escaping_step q d k b ≡ lengthened q d b)
     → in_text (one_more p b) d ≡ next (in_escape p d) k b
 escaped_spot None d b k e h = refl
 escaped_spot (Some p) d b k e h = escape_ends p d b k (e p) (h p)
 
-unescaped_spot : (p : Option TextPlace) (d b : ℕ) (k : Kind) → ((q : TextPlace) → escaping_step q d k b ≡ None) → None ≡ next (in_escape p d) k b
+unescaped_spot : (p : Option TextPlace) (d b : ℕ) (k : Kind) → ((q : TextPlace) → escaping_step q d k b ≡ None)
+    → None ≡ next (in_escape p d) k b
 unescaped_spot None d b k h = refl
 unescaped_spot (Some p) d b k h = escape_fails (is_some (text_step p 34)) p d b k (h p)
 
-escaping_spot : (k : Kind) (b : ℕ) (text : List ℕ) (opens : List Open) → kind_of b ≡ k → spot_of (step_escaping wide text opens k b) ≡ next (spot_of (escaping text opens)) k b
+escaping_spot : (k : Kind) (b : ℕ) (text : List ℕ) (opens : List Open) → kind_of b ≡ k
+    → spot_of (step_escaping wide text opens k b) ≡ next (spot_of (escaping text opens)) k b
 unfolding step_escaping escaping_step
 escaping_spot Quote b text opens e =
-    lengthened_spot text opens b ∙ escaped_spot (place_of text) (length opens) b Quote (λ q. ap (λ c. is_some (text_step q c)) (is_quote_kind b e)) (λ q. refl)
+    lengthened_spot text opens b
+    ∙ escaped_spot (place_of text) (length opens) b Quote
+    (λ q. ap (λ c. is_some (text_step q c)) (is_quote_kind b e)) (λ q. refl)
 escaping_spot Backslash b text opens e =
-    lengthened_spot text opens b ∙ escaped_spot (place_of text) (length opens) b Backslash (λ q. ap (λ c. is_some (text_step q c)) (is_backslash_kind b e) ∙ same_escape q) (λ q. refl)
+    lengthened_spot text opens b
+    ∙ escaped_spot (place_of text) (length opens) b Backslash
+    (λ q. ap (λ c. is_some (text_step q c)) (is_backslash_kind b e) ∙ same_escape q) (λ q. refl)
 escaping_spot White b text opens e = unescaped_spot (place_of text) (length opens) b White (λ q. refl)
 escaping_spot Opens b text opens e = unescaped_spot (place_of text) (length opens) b Opens (λ q. refl)
 escaping_spot Closes b text opens e = unescaped_spot (place_of text) (length opens) b Closes (λ q. refl)
@@ -203,8 +230,10 @@ spots_more (Some s) b x = refl
 
 pub spots-append : (x y : List ℕ) (s : Option Spot) → spots s (x ++ y) ≡ spots (spots s x) y
 spots-append [] y s = ap (λ s. spots s y) (sym (spots_nothing s))
-spots-append (b ∷ x) y s = spots_more s b (x ++ y) ∙ spots-append x y (next s (kind_of b) b) ∙ ap (λ s. spots s y) (sym (spots_more s b x))
+spots-append (b ∷ x) y s = spots_more s b (x ++ y) ∙ spots-append x y (next s (kind_of b) b)
+    ∙ ap (λ s. spots s y) (sym (spots_more s b x))
 
 pub run_spots : (x : List ℕ) (s : State) → spot_of (run wide s x) ≡ spots (spot_of s) x
 run_spots [] s = sym (spots_nothing (spot_of s))
-run_spots (b ∷ x) s = run_spots x (machine.step wide s (kind_of b) b) ∙ ap (λ p. spots p x) (step_spot s b) ∙ sym (spots_more (spot_of s) b x)
+run_spots (b ∷ x) s = run_spots x (machine.step wide s (kind_of b) b) ∙ ap (λ p. spots p x) (step_spot s b)
+    ∙ sym (spots_more (spot_of s) b x)

@@ -49,7 +49,8 @@ close_all (o ∷ opens) t x h =
     (41 ∷ c.0, (c.1.0, subst (λ z. Spells z c.1.0) (append_assoc x (41 ∷ []) c.0) c.1.1))
 
 -- behind these bytes more stands a whole tree
-close_tree : (opens : List Open) (t : WideTree) (x more p y : List ℕ) → OpensTook opens p → SpellsTree y t → x ++ more ≡ p ++ y → GoesOn x
+close_tree : (opens : List Open) (t : WideTree) (x more p y : List ℕ) → OpensTook opens p → SpellsTree y t
+    → x ++ more ≡ p ++ y → GoesOn x
 close_tree opens t x more p y h k e =
     let c = close_all opens t (p ++ y) (put_took opens t p y h k) in
     (more ++ c.0, (c.1.0, subst (λ z. Spells z c.1.0) (ap (λ z. z ++ c.0) (sym e) ∙ append_assoc x more c.0) c.1.1))
@@ -71,23 +72,28 @@ naming_parts : (x p before label : List ℕ) → x ≡ p ++ 40 ∷ (before ++ la
 unfolding bracket
 naming_parts x p before label e = rw e (simp append_assoc)
 
-text_parts : (x p text more : List ℕ) → x ≡ p ++ 34 ∷ flat_map escaped text → x ++ (flat_map escaped more ++ 34 ∷ []) ≡ p ++ string_of (text ++ more)
+text_parts : (x p text more : List ℕ) → x ≡ p ++ 34 ∷ flat_map escaped text
+    → x ++ (flat_map escaped more ++ 34 ∷ []) ≡ p ++ string_of (text ++ more)
 text_parts x p text more e = rw (e, flat_map-append escaped text more) (simp append_assoc)
 
 escape_parts : (x p text more : List ℕ) → x ≡ p ++ 34 ∷ (flat_map escaped text ++ 92 ∷ [])
     → x ++ 34 ∷ (flat_map escaped more ++ 34 ∷ []) ≡ p ++ string_of ((text ++ 34 ∷ []) ++ more)
-escape_parts x p text more e = rw (e, flat_map-append escaped (text ++ 34 ∷ []) more, flat_map-append escaped text (34 ∷ [])) (simp append_assoc)
+escape_parts x p text more e =
+    rw (e, flat_map-append escaped (text ++ 34 ∷ []) more, flat_map-append escaped text (34 ∷ [])) (simp append_assoc)
 
 -- the text of a string can go on
-text_begins : (text : List ℕ) (d : ℕ) (p : Option TextPlace) (s : Spot) → place_of text ≡ p → in_text p d ≡ Some s → begins_text text ≡ true
+text_begins : (text : List ℕ) (d : ℕ) (p : Option TextPlace) (s : Spot) → place_of text ≡ p → in_text p d ≡ Some s
+    → begins_text text ≡ true
 unfolding begins_text
 text_begins text d None s e f = absurd cc
 text_begins text d (Some p) s e f = ap is_some e
 
-escape_begins : (text : List ℕ) (d : ℕ) (p : Option TextPlace) (s : Spot) → place_of text ≡ p → in_escape p d ≡ Some s → begins_text (text ++ 34 ∷ []) ≡ true
+escape_begins : (text : List ℕ) (d : ℕ) (p : Option TextPlace) (s : Spot) → place_of text ≡ p → in_escape p d ≡ Some s
+    → begins_text (text ++ 34 ∷ []) ≡ true
 unfolding begins_text
 escape_begins text d None s e f = absurd cc
-escape_begins text d (Some p) s e f = ap is_some (place_more text 34 ∙ ap (λ p. one_more p 34) e) ∙ taken (is_some (text_step p 34)) f
+escape_begins text d (Some p) s e f = ap is_some (place_more text 34 ∙ ap (λ p. one_more p 34) e)
+    ∙ taken (is_some (text_step p 34)) f
   where
     taken : (c : Bool) → only_if c (Escaping p d) ≡ Some s → c ≡ true
     taken true g = refl
@@ -101,15 +107,19 @@ closes : (m : State) (x : List ℕ) (s : Spot) → Took m x → spot_of m ≡ So
 unfolding bracket
 closes (between opens) x s h e = between_closes opens x h
 closes (opened opens) x s h e =
-    close_tree opens (node (97 ∷ []) nil) x (97 ∷ 41 ∷ []) h.0 (bracket h.1 (97 ∷ [])) h.2 (h.1, [], [], h.3, an_a, refl, tt, refl) (opened_parts x h.0 h.1 h.4)
+    close_tree opens (node (97 ∷ []) nil) x (97 ∷ 41 ∷ []) h.0 (bracket h.1 (97 ∷ [])) h.2
+    (h.1, [], [], h.3, an_a, refl, tt, refl) (opened_parts x h.0 h.1 h.4)
 closes (naming label opens) x s h e =
-    close_tree opens (node label nil) x (41 ∷ []) h.0 (bracket h.1 label) h.2 (h.1, [], [], h.3, h.4, refl, tt, refl) (naming_parts x h.0 h.1 label h.5)
+    close_tree opens (node label nil) x (41 ∷ []) h.0 (bracket h.1 label) h.2 (h.1, [], [], h.3, h.4, refl, tt, refl)
+    (naming_parts x h.0 h.1 label h.5)
 closes (texting text opens) x s h e =
     let rest = begins_test text (text_begins text (length opens) (place_of text) s refl e) in
-    close_tree opens (leaf (text ++ rest.0)) x (flat_map escaped rest.0 ++ 34 ∷ []) h.0 (string_of (text ++ rest.0)) h.1 (rest.1, refl) (text_parts x h.0 text rest.0 h.2)
+    close_tree opens (leaf (text ++ rest.0)) x (flat_map escaped rest.0 ++ 34 ∷ []) h.0 (string_of (text ++ rest.0)) h.1
+    (rest.1, refl) (text_parts x h.0 text rest.0 h.2)
 closes (escaping text opens) x s h e =
     let rest = begins_test (text ++ 34 ∷ []) (escape_begins text (length opens) (place_of text) s refl e) in
-    close_tree opens (leaf ((text ++ 34 ∷ []) ++ rest.0)) x (34 ∷ (flat_map escaped rest.0 ++ 34 ∷ [])) h.0 (string_of ((text ++ 34 ∷ []) ++ rest.0)) h.1 (rest.1, refl) (escape_parts x h.0 text rest.0 h.2)
+    close_tree opens (leaf ((text ++ 34 ∷ []) ++ rest.0)) x (34 ∷ (flat_map escaped rest.0 ++ 34 ∷ [])) h.0
+    (string_of ((text ++ 34 ∷ []) ++ rest.0)) h.1 (rest.1, refl) (escape_parts x h.0 text rest.0 h.2)
 closes (whole t) x s h e = ([], (t, subst (λ z. Spells z t) (sym (append-nil x)) h))
 closes failed x s h e = absurd cc
 
@@ -130,7 +140,8 @@ whole_scan x t h = sym (run_spots x (between [])) ∙ ap spot_of (wide_whole x t
 
 not_stuck : (x more : List ℕ) (t : WideTree) → Spells (x ++ more) t → spots start x ≡ None → ⊥
 not_stuck x more t h e =
-    let all : None ≡ Some Whole = sym (spots_none more) ∙ ap (λ s. spots s more) (sym e) ∙ sym (spots-append x more start) ∙ whole_scan (x ++ more) t h in
+    let all : None ≡ Some Whole = sym (spots_none more) ∙ ap (λ s. spots s more) (sym e)
+    ∙ sym (spots-append x more start) ∙ whole_scan (x ++ more) t h in
     absurd cc
 
 -- behind bytes that can be continued the scan stands, and behind no others
@@ -151,7 +162,8 @@ front_stands x more h = by_spot (spots start x) refl
 module _ (bytes : List ℕ) (i : ℕ) (s : Spot) (lt : i < length bytes) (e : spots start (take i bytes) ≡ Some s) where
   pub scan_more : spots start (take (i + 1) bytes) ≡ step s (kind_of (get_or bytes i 0)) (get_or bytes i 0)
   scan_more =
-      ap (λ x. spots start x) (take_more bytes i 0 lt) ∙ spots-append (take i bytes) (get_or bytes i 0 ∷ []) start ∙ ap (λ s. spots s (get_or bytes i 0 ∷ [])) e
+      ap (λ x. spots start x) (take_more bytes i 0 lt) ∙ spots-append (take i bytes) (get_or bytes i 0 ∷ []) start
+      ∙ ap (λ s. spots s (get_or bytes i 0 ∷ [])) e
       ∙ spots_nothing (step s (kind_of (get_or bytes i 0)) (get_or bytes i 0))
 
   stops_at : step s (kind_of (get_or bytes i 0)) (get_or bytes i 0) ≡ None → IsLongestFront (SpellsSome Spells) bytes i
@@ -165,7 +177,8 @@ module _ (bytes : List ℕ) (i : ℕ) (s : Spot) (lt : i < length bytes) (e : sp
       no_front m past f =
           let t = take_less bytes (i + 1) m (omega arith) in
           not_stuck (take (i + 1) bytes) (t.0 ++ f.1.0) f.1.1.0
-          (subst (λ z. Spells z f.1.1.0) (ap (λ z. z ++ f.1.0) t.1 ∙ append_assoc (take (i + 1) bytes) t.0 f.1.0) f.1.1.1) (scan_more ∙ stop)
+          (subst (λ z. Spells z f.1.1.0) (ap (λ z. z ++ f.1.0) t.1 ∙ append_assoc (take (i + 1) bytes) t.0 f.1.0)
+          f.1.1.1) (scan_more ∙ stop)
 
 -- ---- the table
 
@@ -178,7 +191,8 @@ in_label : (label : List ℕ) (opens : List Open) → InLabel (after_label label
 in_label [] opens = tt
 in_label (b ∷ label) opens = tt
 
-plain_byte : (b : ℕ) (k : Kind) → kind_of b ≡ k → (k ≡ White → ⊥) → (k ≡ Opens → ⊥) → (k ≡ Closes → ⊥) → (k ≡ Quote → ⊥) → ends_label b ≡ false
+plain_byte : (b : ℕ) (k : Kind) → kind_of b ≡ k → (k ≡ White → ⊥) → (k ≡ Opens → ⊥) → (k ≡ Closes → ⊥) → (k ≡ Quote → ⊥)
+    → ends_label b ≡ false
 unfolding kind_of
 plain_byte b k e w o c q = grind arith
 
@@ -213,40 +227,77 @@ module _ (x : List ℕ) (b n : ℕ) where
   no_label : (m : State) → run wide (between []) x ≡ m → (InLabel m → ⊥) → IsInLabelPlace x b → ⊥
   no_label m e f h = let w = wide_label h.0 x h.1 in f (subst InLabel (sym w.1 ∙ e) (in_label h.0 w.0))
 
-  no_escape : (m : State) → run wide (between []) x ≡ m → ((text : List ℕ) (opens : List Open) → escaping text opens ≡ m → ⊥) → IsEscapeOpen x → ⊥
+  no_escape : (m : State) → run wide (between []) x ≡ m
+      → ((text : List ℕ) (opens : List Open) → escaping text opens ≡ m → ⊥) → IsEscapeOpen x → ⊥
   no_escape m e f h = let w = wide_escape x h in f w.0 w.1 (sym w.2 ∙ e)
 
-  no_string : (m : State) → run wide (between []) x ≡ m → ((text : List ℕ) (opens : List Open) → texting text opens ≡ m → ⊥) → IsStringOpen x → ⊥
+  no_string : (m : State) → run wide (between []) x ≡ m
+      → ((text : List ℕ) (opens : List Open) → texting text opens ≡ m → ⊥) → IsStringOpen x → ⊥
   no_string m e f h = let w = wide_string x h in f w.0 w.1 (sym w.2 ∙ e)
 
-  no_tree : (m : State) → run wide (between []) x ≡ m → ((t : WideTree) → whole t ≡ m → ⊥) → SpellsSome Spells x × (is_white b ≡ false) → ⊥
+  no_tree : (m : State) → run wide (between []) x ≡ m → ((t : WideTree) → whole t ≡ m → ⊥)
+      → SpellsSome Spells x × (is_white b ≡ false) → ⊥
   no_tree m e f h = f h.0.0 (sym (wide_whole x h.0.0 h.0.1) ∙ e)
 
-  row_of : (m : State) (s : Spot) → run wide (between []) x ≡ m → Took m x → spot_of m ≡ Some s → step s (kind_of b) b ≡ None → IsStop x b n (fault_at s n)
+  row_of : (m : State) (s : Spot) → run wide (between []) x ≡ m → Took m x → spot_of m ≡ Some s
+      → step s (kind_of b) b ≡ None → IsStop x b n (fault_at s n)
   row_of (between opens) s is h e stop =
       let m : State = between opens in
       let at : Between (length opens) ≡ s = cc in
-      inr (no_label m is (λ f. f), inr (no_escape m is (λ text opens f. cc), inr (no_string m is (λ text opens f. cc), inr (no_tree m is (λ t f. cc), ap (λ s. fault_at s n) (sym at)))))
+      inr (
+        no_label m is (λ f. f),
+        inr (
+          no_escape m is (λ text opens f. cc),
+          inr (no_string m is (λ text opens f. cc), inr (no_tree m is (λ t f. cc), ap (λ s. fault_at s n) (sym at))),
+        ),
+      )
   row_of (opened opens) s is h e stop =
       let at : Opened (length opens) ≡ s = cc in
-      inl (([], (length opens, h.0, h.1, are_open opens h.0 h.2, h.3, (tt, omega arith), rw append-nil h.4), λ some. absurd (omega (arith, some))), ap (λ s. fault_at s n) (sym at))
+      inl (
+        (
+          [],
+          (length opens, h.0, h.1, are_open opens h.0 h.2, h.3, (tt, omega arith), rw append-nil h.4),
+          λ some. absurd (omega (arith, some)),
+        ),
+        ap (λ s. fault_at s n) (sym at),
+      )
   row_of (naming label opens) s is h e stop =
       let at : Naming (length label) (length opens) ≡ s = cc in
       inl (
-        (label, (length opens, h.0, h.1, are_open opens h.0 h.2, h.3, (h.4.each, h.4.short), h.5), λ some. label_stuck (kind_of b) b (length label) (length opens) refl (ap (λ s. step s (kind_of b) b) at ∙ stop)),
+        (
+          label,
+          (length opens, h.0, h.1, are_open opens h.0 h.2, h.3, (h.4.each, h.4.short), h.5),
+          λ some. label_stuck (kind_of b) b (length label) (length opens) refl (ap (λ s. step s (kind_of b) b) at
+              ∙ stop),
+        ),
         ap (λ s. fault_at s n) (sym at),
       )
   row_of (texting text opens) s is h e stop =
       let m : State = texting text opens in
       let rest = begins_test text (text_begins text (length opens) (place_of text) s refl e) in
       let string : IsStringOpen x = (length opens, h.0, text, rest.0, are_open opens h.0 h.1, rest.1, h.2) in
-      inr (no_label m is (λ f. f), inr (no_escape m is (λ text opens f. cc), inl (string, text_fault (place_of text) (length opens) n s e)))
+      inr (
+        no_label m is (λ f. f),
+        inr (no_escape m is (λ text opens f. cc), inl (string, text_fault (place_of text) (length opens) n s e)),
+      )
   row_of (escaping text opens) s is h e stop =
       let m : State = escaping text opens in
       let rest = begins_test (text ++ 34 ∷ []) (escape_begins text (length opens) (place_of text) s refl e) in
-      let string : IsStringOpen (h.0 ++ 34 ∷ flat_map escaped text) =
-      (length opens, h.0, text, 34 ∷ rest.0, are_open opens h.0 h.1, subst IsText (append_assoc text (34 ∷ []) rest.0) rest.1, refl) in
-      let whole_escape : IsEscapeOpen x = (h.0 ++ 34 ∷ flat_map escaped text, string, h.2 ∙ sym (append_assoc h.0 (34 ∷ flat_map escaped text) (92 ∷ []))) in
+      let string : IsStringOpen (h.0 ++ 34 ∷ flat_map escaped text) = (
+        length opens,
+        h.0,
+        text,
+        34 ∷ rest.0,
+        are_open opens h.0 h.1,
+        subst IsText (append_assoc text (34 ∷ []) rest.0) rest.1,
+        refl,
+      ) in
+      let whole_escape : IsEscapeOpen x = (
+        h.0 ++ 34 ∷ flat_map escaped text,
+        string,
+        h.2
+            ∙ sym (append_assoc h.0 (34 ∷ flat_map escaped text) (92 ∷ [])),
+      ) in
       inr (no_label m is (λ f. f), inl (whole_escape, escape_fault (place_of text) (length opens) n s e))
   row_of (whole t) s is h e stop =
       let m : State = whole t in
@@ -265,7 +316,8 @@ module _ (x : List ℕ) (b n : ℕ) where
 
 -- ---- the whole
 
-at_spot : (bytes : List ℕ) (i : ℕ) (s : Spot) → IsLongestFront (SpellsSome Spells) bytes i → i < length bytes → IsKind bytes i (fault_at s i) → IsSchemeFault bytes (fault_at s i)
+at_spot : (bytes : List ℕ) (i : ℕ) (s : Spot) → IsLongestFront (SpellsSome Spells) bytes i → i < length bytes
+    → IsKind bytes i (fault_at s i) → IsSchemeFault bytes (fault_at s i)
 at_spot bytes i (Between d) h lt k = (i, h, lt, k)
 at_spot bytes i (Opened d) h lt k = (i, h, lt, k)
 at_spot bytes i (Naming l d) h lt k = (i, h, lt, k)
@@ -273,13 +325,16 @@ at_spot bytes i (Texting p d) h lt k = (i, h, lt, k)
 at_spot bytes i (Escaping p d) h lt k = (i, h, lt, k)
 at_spot bytes i Whole h lt k = (i, h, lt, k)
 
-pub stopped : (bytes : List ℕ) (i : ℕ) (s : Spot) → i < length bytes → spots start (take i bytes) ≡ Some s → step s (kind_of (get_or bytes i 0)) (get_or bytes i 0) ≡ None
+pub stopped : (bytes : List ℕ) (i : ℕ) (s : Spot) → i < length bytes → spots start (take i bytes) ≡ Some s
+    → step s (kind_of (get_or bytes i 0)) (get_or bytes i 0) ≡ None
     → IsSchemeFault bytes (fault_at s i)
 stopped bytes i s lt e stop =
     at_spot bytes i s (stops_at bytes i s lt e stop) lt
-    (row_of (take i bytes) (get_or bytes i 0) i (run wide (between []) (take i bytes)) s refl (took (take i bytes)) (stands (take i bytes) s e) stop)
+    (row_of (take i bytes) (get_or bytes i 0) i (run wide (between []) (take i bytes)) s refl (took (take i bytes))
+    (stands (take i bytes) s e) stop)
 
-pub unfinished : (bytes : List ℕ) (s : Spot) → spots start bytes ≡ Some s → (Whole ≡ s → ⊥) → IsSchemeFault bytes (Unclosed (length bytes))
+pub unfinished : (bytes : List ℕ) (s : Spot) → spots start bytes ≡ Some s → (Whole ≡ s → ⊥)
+    → IsSchemeFault bytes (Unclosed (length bytes))
 unfinished bytes s e n = (
   refl,
   (omega arith, subst GoesOn (sym (take_all (length bytes) bytes (omega arith))) (goes_on bytes s e)),

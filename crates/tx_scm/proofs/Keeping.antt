@@ -20,8 +20,11 @@ not_kept t h =
       | false ↦ λ e. cc
     ] (cc)
 
-pub too_wide : (label : List ℕ) (ts : List WideTree) → 65535 < length ts → keeps the_limits (node label (forest ts)) ≡ false
-too_wide label ts h = not_kept (node label (forest ts)) (λ w. absurd (omega (arith, w.arity, count-forest ts, le-max_left (count (forest ts)) (widest (forest ts)))))
+pub too_wide : (label : List ℕ) (ts : List WideTree) → 65535 < length ts
+    → keeps the_limits (node label (forest ts)) ≡ false
+too_wide label ts h =
+    not_kept (node label (forest ts))
+    (λ w. absurd (omega (arith, w.arity, count-forest ts, le-max_left (count (forest ts)) (widest (forest ts)))))
 
 pub too_deep : (t : WideTree) → 400 < depth_of t → keeps the_limits t ≡ false
 too_deep t h = not_kept t (λ w. absurd (omega (arith, w.depth)))

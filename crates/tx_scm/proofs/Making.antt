@@ -24,15 +24,18 @@ stands (states.Texting text bs) e = cc
 stands (states.Escaping text bs) e = cc
 stands (states.Whole t) e = cc
 
-wide_step : (s t : State) (k : Kind) (b : ℕ) → (t ≡ failed → ⊥) → t ≡ step (within the_limits) s k b → t ≡ step wide s k b
+wide_step : (s t : State) (k : Kind) (b : ℕ) → (t ≡ failed → ⊥) → t ≡ step (within the_limits) s k b
+    → t ≡ step wide s k b
 wide_step s t k b n e = ⊎_elim (λ f. absurd (n (e ∙ f))) (λ f. e ∙ f) (step_agrees (within the_limits) s k b)
 
 -- one step
-pub leads_more : (bytes : List ℕ) (s : State) (i b : ℕ) → i < length bytes → get_or bytes i 0 ≡ b → (t : State) → (t ≡ failed → ⊥)
+pub leads_more : (bytes : List ℕ) (s : State) (i b : ℕ) → i < length bytes → get_or bytes i 0 ≡ b → (t : State)
+    → (t ≡ failed → ⊥)
     → t ≡ step (within the_limits) s (kind_of b) b → leads s (drop i bytes) ≡ leads t (drop (i + 1) bytes)
 unfolding leads
 leads_more bytes s i b lt is t n e =
-    ap (λ x. leads s x) (drop_more bytes i 0 lt ∙ ap (λ b. b ∷ drop (i + 1) bytes) is) ∙ ap (λ t. leads t (drop (i + 1) bytes)) (sym (wide_step s t (kind_of b) b n e))
+    ap (λ x. leads s x) (drop_more bytes i 0 lt ∙ ap (λ b. b ∷ drop (i + 1) bytes) is)
+    ∙ ap (λ t. leads t (drop (i + 1) bytes)) (sym (wide_step s t (kind_of b) b n e))
 
 -- ---- nodes
 
@@ -46,12 +49,18 @@ made_most (naming label opens) k = made_by_most k
 made_most _ k = omega arith
 
 module _ (from : ℕ) (t : WideTree) where
-  run_counted : (x : List ℕ) (steps : ℕ) (s : State) → IsCounted from steps s → run wide s x ≡ whole t → steps ≤ from + nodes_of t
+  run_counted : (x : List ℕ) (steps : ℕ) (s : State) → IsCounted from steps s → run wide s x ≡ whole t
+      → steps ≤ from + nodes_of t
   run_counted [] steps s h e = subst (λ s. IsCounted from steps s) e h
   run_counted (b ∷ x) steps s h e =
-      omega (arith, run_counted x (steps + made_in s (kind_of b)) (step wide s (kind_of b) b) (step_counted wide from steps s (kind_of b) b h) e)
+      omega (
+        arith,
+        run_counted x (steps + made_in s (kind_of b)) (step wide s (kind_of b) b)
+            (step_counted wide from steps s (kind_of b) b h) e,
+      )
 
-  module _ (bytes : List ℕ) (spelled : Spells bytes t) (s : State) (i steps : ℕ) (led : leads (between []) bytes ≡ leads s (drop i bytes)) (counted : IsCounted from steps s) where
+  module _ (bytes : List ℕ) (spelled : Spells bytes t) (s : State) (i steps : ℕ)
+      (led : leads (between []) bytes ≡ leads s (drop i bytes)) (counted : IsCounted from steps s) where
     here : run wide s (drop i bytes) ≡ whole t
     unfolding leads
     here = sym led ∙ wide_whole bytes t spelled
@@ -60,9 +69,17 @@ module _ (from : ℕ) (t : WideTree) where
     made_so_far = run_counted (drop i bytes) steps s counted here
 
     -- with the byte at i
-    pub made_next : (k : Kind) (after : ℕ) → i < length bytes → k ≡ kind_of (get_or bytes i 0) → after ≤ steps + made_in s k → after ≤ from + nodes_of t
+    pub made_next : (k : Kind) (after : ℕ) → i < length bytes → k ≡ kind_of (get_or bytes i 0)
+        → after ≤ steps + made_in s k → after ≤ from + nodes_of t
     made_next k after lt is most =
         let b = get_or bytes i 0 in
-        let more : run wide (step wide s (kind_of b) b) (drop (i + 1) bytes) ≡ whole t = ap (λ x. run wide s x) (sym (drop_more bytes i 0 lt)) ∙ here in
+        let more : run wide (step wide s (kind_of b) b) (drop (i + 1) bytes) ≡ whole t =
+        ap (λ x. run wide s x) (sym (drop_more bytes i 0 lt)) ∙ here in
         let same : made_in s k ≡ made_in s (kind_of b) = ap (λ k. made_in s k) is in
-        omega (arith, most, same, run_counted (drop (i + 1) bytes) (steps + made_in s (kind_of b)) (step wide s (kind_of b) b) (step_counted wide from steps s (kind_of b) b counted) more)
+        omega (
+          arith,
+          most,
+          same,
+          run_counted (drop (i + 1) bytes) (steps + made_in s (kind_of b)) (step wide s (kind_of b) b)
+              (step_counted wide from steps s (kind_of b) b counted) more,
+        )

@@ -6,7 +6,8 @@ use Rattle.tx_tree.proofs.Scanning.{all_snoc}
 pub label_of_one : (b : ℕ) → is_label_byte b ≡ true → IsLabel (b ∷ [])
 label_of_one b h = record { each = (h, tt); some = omega arith; short = omega arith }
 
-pub label_more : (label : List ℕ) (b : ℕ) → IsLabel label → is_label_byte b ≡ true → length label < 64 → IsLabel (label ++ b ∷ [])
+pub label_more : (label : List ℕ) (b : ℕ) → IsLabel label → is_label_byte b ≡ true → length label < 64
+    → IsLabel (label ++ b ∷ [])
 label_more label b h byte lt =
     record {
       each = all_snoc _ label b h.each byte;

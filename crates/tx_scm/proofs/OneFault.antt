@@ -21,5 +21,6 @@ kind_once bytes n f g = stop_once (take n bytes) (get_or bytes n 0) n f g
 pub once : (bytes : List ℕ) (f g : ReadFault) → IsSchemeFault bytes f → IsSchemeFault bytes g → f ≡ g
 once = one_fault Spells IsKind spelled_once kind_once
 
-pub none : (bytes : List ℕ) (f : ReadFault) (t : WideTree) → IsSchemeFault bytes f → Spells bytes t → IsWithinLimits t → ⊥
+pub none : (bytes : List ℕ) (f : ReadFault) (t : WideTree) → IsSchemeFault bytes f → Spells bytes t → IsWithinLimits t
+    → ⊥
 none = no_fault Spells IsKind spelled_once

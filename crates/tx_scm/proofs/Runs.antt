@@ -19,9 +19,11 @@ failed_run bounds (b ∷ x) = failed_run bounds x
 -- ---- one step
 
 module _ (bytes : List ℕ) (s : State) (i b : ℕ) (lt : i < length bytes) (is : get_or bytes i 0 ≡ b) where
-  pub step_more : (t : State) → t ≡ step (within the_limits) s (kind_of b) b → reads s (drop i bytes) ≡ reads t (drop (i + 1) bytes)
+  pub step_more : (t : State) → t ≡ step (within the_limits) s (kind_of b) b
+      → reads s (drop i bytes) ≡ reads t (drop (i + 1) bytes)
   unfolding reads
-  step_more t e = ap (λ x. reads s x) (drop_more bytes i 0 lt ∙ ap (λ b. b ∷ drop (i + 1) bytes) is) ∙ ap (λ t. reads t (drop (i + 1) bytes)) (sym e)
+  step_more t e = ap (λ x. reads s x) (drop_more bytes i 0 lt ∙ ap (λ b. b ∷ drop (i + 1) bytes) is)
+      ∙ ap (λ t. reads t (drop (i + 1) bytes)) (sym e)
 
   pub step_fails : failed ≡ step (within the_limits) s (kind_of b) b → reads s (drop i bytes) ≡ None
   unfolding reads
@@ -33,28 +35,36 @@ at_end s bytes i le = ap (λ x. reads s x) (drop_all i bytes le)
 
 -- ---- plain bytes of a string
 
-plain_step : (k : Kind) (b : ℕ) (text : List ℕ) (opens : List Open) → (k ≡ Quote → ⊥) → (k ≡ Backslash → ⊥) → step_texting (within the_limits) text opens k b ≡ lengthened (within the_limits) text opens b
+plain_step : (k : Kind) (b : ℕ) (text : List ℕ) (opens : List Open) → (k ≡ Quote → ⊥) → (k ≡ Backslash → ⊥)
+    → step_texting (within the_limits) text opens k b ≡ lengthened (within the_limits) text opens b
 unfolding step_texting
 plain_step Quote b text opens q s = absurd (q refl)
 plain_step Backslash b text opens q s = absurd (s refl)
 plain_step _ b text opens q s = refl
 
 module _ (b : ℕ) (text : List ℕ) (opens : List Open) (q : b ≡ 34 → ⊥) (s : b ≡ 92 → ⊥) where
-  plain : step (within the_limits) (texting text opens) (kind_of b) b ≡ only_if (takes_byte text b) (texting (text ++ b ∷ []) opens)
+  plain : step (within the_limits) (texting text opens) (kind_of b) b ≡ only_if (takes_byte text b)
+      (texting (text ++ b ∷ []) opens)
   plain = plain_step (kind_of b) b text opens (λ e. q (is_quote_kind b e)) (λ e. s (is_backslash_kind b e))
 
-  pub plain_taken : (taken : Bool) (after : List ℕ) → taken ≡ takes_byte text b → after ≡ cond taken (text ++ b ∷ []) text → taken ≡ true
+  pub plain_taken : (taken : Bool) (after : List ℕ) → taken ≡ takes_byte text b
+      → after ≡ cond taken (text ++ b ∷ []) text → taken ≡ true
       → texting after opens ≡ step (within the_limits) (texting text opens) (kind_of b) b
   plain_taken taken after is grown more =
-      ap (λ x. texting x opens) (grown ∙ ap (λ c. cond c (text ++ b ∷ []) text) more) ∙ sym (plain ∙ ap (λ c. only_if c (texting (text ++ b ∷ []) opens)) (sym is ∙ more))
+      ap (λ x. texting x opens) (grown ∙ ap (λ c. cond c (text ++ b ∷ []) text) more)
+      ∙ sym (plain ∙ ap (λ c. only_if c (texting (text ++ b ∷ []) opens)) (sym is ∙ more))
 
-  pub plain_refused : (taken : Bool) → taken ≡ takes_byte text b → taken ≡ false → failed ≡ step (within the_limits) (texting text opens) (kind_of b) b
+  pub plain_refused : (taken : Bool) → taken ≡ takes_byte text b → taken ≡ false
+      → failed ≡ step (within the_limits) (texting text opens) (kind_of b) b
   plain_refused taken is no_more = sym (plain ∙ ap (λ c. only_if c (texting (text ++ b ∷ []) opens)) (sym is ∙ no_more))
 
-pub taken_longer : (b : ℕ) (text : List ℕ) (taken : Bool) (after : List ℕ) → after ≡ cond taken (text ++ b ∷ []) text → taken ≡ true → length after ≡ length text + 1
-taken_longer b text taken after grown more = ap length (grown ∙ ap (λ c. cond c (text ++ b ∷ []) text) more) ∙ length-append text (b ∷ [])
+pub taken_longer : (b : ℕ) (text : List ℕ) (taken : Bool) (after : List ℕ) → after ≡ cond taken (text ++ b ∷ []) text
+    → taken ≡ true → length after ≡ length text + 1
+taken_longer b text taken after grown more = ap length (grown ∙ ap (λ c. cond c (text ++ b ∷ []) text) more)
+    ∙ length-append text (b ∷ [])
 
 -- ---- the count behind a step
 
-pub counts_on : (before after : ℕ) (s t : State) (b : ℕ) → t ≡ step (within the_limits) s (kind_of b) b → after ≡ before + made_in s (kind_of b) → CountsOn s before t after
+pub counts_on : (before after : ℕ) (s t : State) (b : ℕ) → t ≡ step (within the_limits) s (kind_of b) b
+    → after ≡ before + made_in s (kind_of b) → CountsOn s before t after
 counts_on before after s t b e f = λ from h. rw (e, f) (step_counted (within the_limits) from before s (kind_of b) b h)

@@ -30,13 +30,15 @@ mutual
 
   texts_spell : (ts : Forest) → AreWellFormed ts → SpellsTrees (scheme_texts ts) ts
   texts_spell nil h = refl
-  texts_spell (cons t ts) h = (32 ∷ [], scheme_text t, scheme_texts ts, (refl, tt), text_spells t h.0, texts_spell ts h.1, refl)
+  texts_spell (cons t ts) h =
+      (32 ∷ [], scheme_text t, scheme_texts ts, (refl, tt), text_spells t h.0, texts_spell ts h.1, refl)
 
 alone : (bytes : List ℕ) (t : WideTree) → Spells bytes t → SpellsAlone bytes t
 alone bytes t h = record { spelled = h; alone = λ u k. spelled_once bytes u t k h }
 
 pub text_alone : (t : WideTree) → IsWellFormed t → SpellsAlone (scheme_text t) t
-text_alone t h = alone (scheme_text t) t ([], scheme_text t, [], tt, text_spells t h, tt, sym (append-nil (scheme_text t)))
+text_alone t h =
+    alone (scheme_text t) t ([], scheme_text t, [], tt, text_spells t h, tt, sym (append-nil (scheme_text t)))
 
 pub line_alone : (t : WideTree) → IsWellFormed t → SpellsAlone (scheme_text t ++ 10 ∷ []) t
 line_alone t h = alone (scheme_text t ++ 10 ∷ []) t ([], scheme_text t, 10 ∷ [], tt, text_spells t h, (refl, tt), refl)

@@ -44,34 +44,44 @@ module _ (bounds : Bounds) where
   closed_agrees [] = inr refl
   closed_agrees (o ∷ opens) = only_agrees (bounds.keeps (node_of o)) (put (node_of o) opens)
 
-  between_agrees : (k : Kind) (opens : List Open) → (step_between bounds opens k ≡ failed) ⊎ (step_between bounds opens k ≡ step_between wide opens k)
+  between_agrees : (k : Kind) (opens : List Open) → (step_between bounds opens k ≡ failed)
+      ⊎ (step_between bounds opens k ≡ step_between wide opens k)
   unfolding step_between
   between_agrees Opens opens = only_agrees (bounds.room opens) (opened opens)
   between_agrees Quote opens = only_agrees (bounds.room opens) (texting [] opens)
   between_agrees Closes opens = closed_agrees opens
   between_agrees _ opens = inr refl
 
-  naming_agrees : (k : Kind) (b : ℕ) (label : List ℕ) (opens : List Open) → (step_naming bounds label opens k b ≡ failed) ⊎ (step_naming bounds label opens k b ≡ step_naming wide label opens k b)
+  naming_agrees : (k : Kind) (b : ℕ) (label : List ℕ) (opens : List Open)
+      → (step_naming bounds label opens k b ≡ failed)
+      ⊎ (step_naming bounds label opens k b ≡ step_naming wide label opens k b)
   unfolding step_naming
   naming_agrees Letter b label opens = inr refl
   naming_agrees k b label opens = between_agrees k (named label opens)
 
-  lengthened_agrees : (text : List ℕ) (opens : List Open) (b : ℕ) → (lengthened bounds text opens b ≡ failed) ⊎ (lengthened bounds text opens b ≡ lengthened wide text opens b)
-  lengthened_agrees text opens b = and_agrees (bounds.longer text) (begins_text (text ++ b ∷ [])) (texting (text ++ b ∷ []) opens)
+  lengthened_agrees : (text : List ℕ) (opens : List Open) (b : ℕ) → (lengthened bounds text opens b ≡ failed)
+      ⊎ (lengthened bounds text opens b ≡ lengthened wide text opens b)
+  lengthened_agrees text opens b =
+      and_agrees (bounds.longer text) (begins_text (text ++ b ∷ [])) (texting (text ++ b ∷ []) opens)
 
-  texting_agrees : (k : Kind) (b : ℕ) (text : List ℕ) (opens : List Open) → (step_texting bounds text opens k b ≡ failed) ⊎ (step_texting bounds text opens k b ≡ step_texting wide text opens k b)
+  texting_agrees : (k : Kind) (b : ℕ) (text : List ℕ) (opens : List Open)
+      → (step_texting bounds text opens k b ≡ failed)
+      ⊎ (step_texting bounds text opens k b ≡ step_texting wide text opens k b)
   unfolding step_texting
   texting_agrees Quote b text opens = inr refl
   texting_agrees Backslash b text opens = inr refl
   texting_agrees _ b text opens = lengthened_agrees text opens b
 
-  escaping_agrees : (k : Kind) (b : ℕ) (text : List ℕ) (opens : List Open) → (step_escaping bounds text opens k b ≡ failed) ⊎ (step_escaping bounds text opens k b ≡ step_escaping wide text opens k b)
+  escaping_agrees : (k : Kind) (b : ℕ) (text : List ℕ) (opens : List Open)
+      → (step_escaping bounds text opens k b ≡ failed)
+      ⊎ (step_escaping bounds text opens k b ≡ step_escaping wide text opens k b)
   unfolding step_escaping
   escaping_agrees Quote b text opens = lengthened_agrees text opens b
   escaping_agrees Backslash b text opens = lengthened_agrees text opens b
   escaping_agrees _ b text opens = inr refl
 
-  pub step_agrees : (s : State) (k : Kind) (b : ℕ) → (step bounds s k b ≡ failed) ⊎ (step bounds s k b ≡ step wide s k b)
+  pub step_agrees : (s : State) (k : Kind) (b : ℕ)
+      → (step bounds s k b ≡ failed) ⊎ (step bounds s k b ≡ step wide s k b)
   step_agrees (between opens) k b = between_agrees k opens
   step_agrees (naming label opens) k b = naming_agrees k b label opens
   step_agrees (texting text opens) k b = texting_agrees k b text opens
@@ -87,7 +97,8 @@ module _ (bounds : Bounds) where
   run_agrees (b ∷ x) s =
       ⊎_elim
       (λ e. inl (ap (λ t. run bounds t x) e ∙ failed_run x))
-      (λ e. subst (λ t. (run bounds t x ≡ failed) ⊎ (run bounds t x ≡ run wide (step wide s (kind_of b) b) x)) (sym e) (run_agrees x (step wide s (kind_of b) b)))
+      (λ e. subst (λ t. (run bounds t x ≡ failed) ⊎ (run bounds t x ≡ run wide (step wide s (kind_of b) b) x)) (sym e)
+      (run_agrees x (step wide s (kind_of b) b)))
       (step_agrees s (kind_of b) b)
 
   -- what a machine with bounds comes to, the one without comes to
@@ -98,24 +109,42 @@ module _ (bounds : Bounds) where
 
 pub wide_whole : (x : List ℕ) (t : WideTree) → Spells x t → run wide (between []) x ≡ whole t
 wide_whole x t h =
-    let limits : Limits = record { text = text_length_of t; arity = arity_of t; depth = depth_of t; size = size_of t } in
-    comes_too (within limits) x (between []) (whole t) (λ e. cc) (whole_run limits t x (record { text = omega arith; arity = omega arith; depth = omega arith; size = omega arith }) h)
+    let limits : Limits =
+    record { text = text_length_of t; arity = arity_of t; depth = depth_of t; size = size_of t } in
+    comes_too (within limits) x (between []) (whole t) (λ e. cc)
+    (whole_run limits t x
+    (record { text = omega arith; arity = omega arith; depth = omega arith; size = omega arith }) h)
 
 -- the children of a bracket
-wide_trees : (ts : Forest) (x y label : List ℕ) (opens : List Open) → SpellsTrees x ts → run wide (between (named label opens)) (x ++ y) ≡ run wide (between (open_of label (trees ts) ∷ opens)) y
+wide_trees : (ts : Forest) (x y label : List ℕ) (opens : List Open) → SpellsTrees x ts
+    → run wide (between (named label opens)) (x ++ y) ≡ run wide (between (open_of label (trees ts) ∷ opens)) y
 wide_trees ts x y label opens h =
-    let limits : Limits = record { text = longest_text ts; arity = count ts + widest ts; depth = suc (length opens) + deepest ts; size = total_size ts } in
-    let below : AreBelow limits ts = record { text = omega arith; arity = omega arith; depth = omega arith; size = omega arith } in
-    let come : run (within limits) (between (named label opens)) (x ++ []) ≡ between (open_of label (trees ts) ∷ opens) = complete_trees limits ts x [] label [] opens (omega arith) below (omega arith) h in
-    let all : run wide (between (named label opens)) x ≡ between (open_of label (trees ts) ∷ opens) = comes_too (within limits) x (between (named label opens)) _ (λ e. cc) (ap (λ z. run (within limits) (between (named label opens)) z) (sym (append-nil x)) ∙ come) in
+    let limits : Limits =
+    record {
+      text = longest_text ts;
+      arity = count ts + widest ts;
+      depth = suc (length opens) + deepest ts;
+      size = total_size ts;
+    } in
+    let below : AreBelow limits ts =
+    record { text = omega arith; arity = omega arith; depth = omega arith; size = omega arith } in
+    let come : run (within limits) (between (named label opens)) (x ++ []) ≡ between
+    (open_of label (trees ts) ∷ opens) =
+    complete_trees limits ts x [] label [] opens (omega arith) below (omega arith) h in
+    let all : run wide (between (named label opens)) x ≡ between (open_of label (trees ts) ∷ opens) =
+    comes_too (within limits) x (between (named label opens)) _ (λ e. cc)
+    (ap (λ z. run (within limits) (between (named label opens)) z) (sym (append-nil x)) ∙ come) in
     run-append wide x y (between (named label opens)) ∙ ap (λ s. run wide s y) all
 
 -- ---- open brackets
 
-bracket_parts : (x p before label children behind y : List ℕ) → x ≡ p ++ 40 ∷ (before ++ (label ++ (children ++ behind))) → x ++ y ≡ p ++ 40 ∷ (before ++ (label ++ (children ++ (behind ++ y))))
+bracket_parts : (x p before label children behind y : List ℕ)
+    → x ≡ p ++ 40 ∷ (before ++ (label ++ (children ++ behind)))
+    → x ++ y ≡ p ++ 40 ∷ (before ++ (label ++ (children ++ (behind ++ y))))
 bracket_parts x p before label children behind y e = rw e (simp append_assoc)
 
-pub wide_opens : (opens : List Open) (x y : List ℕ) → OpensTook opens x → NoLetter y → run wide (between []) (x ++ y) ≡ run wide (between opens) y
+pub wide_opens : (opens : List Open) (x y : List ℕ) → OpensTook opens x → NoLetter y
+    → run wide (between []) (x ++ y) ≡ run wide (between opens) y
 wide_opens [] x y h n = white_run wide x y [] h
 wide_opens (o ∷ opens) x y h n =
     let z : List ℕ = h.2 ++ (h.3 ++ y) in
@@ -123,7 +152,8 @@ wide_opens (o ∷ opens) x y h n =
     ∙ wide_opens opens h.0 (40 ∷ (h.1 ++ (o.label ++ z))) h.4 (NoLetter-open (h.1 ++ (o.label ++ z)))
     ∙ open_step wide (h.1 ++ (o.label ++ z)) opens refl
     ∙ white_run_opened wide h.1 (o.label ++ z) opens h.5
-    ∙ label_run wide o.label z opens h.6 (NoLetter-trees (forest o.children) h.2 (h.3 ++ y) h.7 (NoLetter-white h.3 y h.8 n))
+    ∙ label_run wide o.label z opens h.6
+    (NoLetter-trees (forest o.children) h.2 (h.3 ++ y) h.7 (NoLetter-white h.3 y h.8 n))
     ∙ wide_trees (forest o.children) h.2 (h.3 ++ y) o.label opens h.7
     ∙ ap (λ ts. run wide (between (open_of o.label ts ∷ opens)) (h.3 ++ y)) (trees_forest o.children)
     ∙ white_run wide h.3 y (o ∷ opens) h.8
@@ -131,14 +161,28 @@ wide_opens (o ∷ opens) x y h n =
 -- brackets by their number, and by their labels and trees
 pub are_open : (opens : List Open) (x : List ℕ) → OpensTook opens x → AreOpen (length opens) x
 are_open [] x h = h
-are_open (o ∷ opens) x h = (h.0, h.1, o.label, h.2, h.3, forest o.children, are_open opens h.0 h.4, h.5, h.6, h.7, h.8, h.9)
+are_open (o ∷ opens) x h =
+    (h.0, h.1, o.label, h.2, h.3, forest o.children, are_open opens h.0 h.4, h.5, h.6, h.7, h.8, h.9)
 
 pub open_lists : (n : ℕ) (x : List ℕ) → AreOpen n x → (opens : List Open) × OpensTook opens x
 open_lists zero x h = ([], h)
 open_lists (suc n) x h =
     let outer = open_lists n h.0 h.6 in
-    let o : Open = record { label = h.2; children = trees h.5 } in
-    (o ∷ outer.0, (h.0, h.1, h.3, h.4, outer.1, h.7, h.8, subst (λ ts. SpellsTrees h.3 ts) (sym (forest_trees h.5)) h.9, h.10, h.11))
+    let o : Open = record { label = h.2; children = trees h.5 } in (
+      o ∷ outer.0,
+      (
+        h.0,
+        h.1,
+        h.3,
+        h.4,
+        outer.1,
+        h.7,
+        h.8,
+        subst (λ ts. SpellsTrees h.3 ts) (sym (forest_trees h.5)) h.9,
+        h.10,
+        h.11,
+      ),
+    )
 
 -- ---- unfinished labels
 
@@ -146,7 +190,8 @@ abbrev pub after_label : List ℕ → List Open → State
 after_label [] opens = opened opens
 after_label (b ∷ label) opens = naming (b ∷ label) opens
 
-label_front : (label : List ℕ) (opens : List Open) → BeginsLabel label → run wide (opened opens) label ≡ after_label label opens
+label_front : (label : List ℕ) (opens : List Open) → BeginsLabel label
+    → run wide (opened opens) label ≡ after_label label opens
 unfolding step_opened
 label_front [] opens h = refl
 label_front (b ∷ label) opens h =
@@ -154,7 +199,8 @@ label_front (b ∷ label) opens h =
     ∙ ap (λ x. run wide (naming (b ∷ []) opens) x) (sym (append-nil label))
     ∙ name_run wide label (b ∷ []) [] opens h.0.1 (omega (arith, h.1))
 
-pub wide_label : (label x : List ℕ) → IsLabelOpen label x → (opens : List Open) × (run wide (between []) x ≡ after_label label opens)
+pub wide_label : (label x : List ℕ) → IsLabelOpen label x
+    → (opens : List Open) × (run wide (between []) x ≡ after_label label opens)
 wide_label label x h =
     let outer = open_lists h.0 h.1 h.3 in
     let opens = outer.0 in (
@@ -168,15 +214,19 @@ wide_label label x h =
 
 -- ---- unfinished strings
 
-text_front : (more text rest : List ℕ) (opens : List Open) → IsText (text ++ (more ++ rest)) → run wide (texting text opens) (flat_map escaped more) ≡ texting (text ++ more) opens
+text_front : (more text rest : List ℕ) (opens : List Open) → IsText (text ++ (more ++ rest))
+    → run wide (texting text opens) (flat_map escaped more) ≡ texting (text ++ more) opens
 text_front [] text rest opens h = ap (λ a. texting a opens) (sym (append-nil text))
 text_front (b ∷ more) text rest opens h =
-    let longer : IsText ((text ++ b ∷ []) ++ (more ++ rest)) = subst IsText (sym (append_assoc text (b ∷ []) (more ++ rest))) h in
-    text_byte wide (kind_of b) (escaped b) b text (flat_map escaped more) opens refl (escaped_as (kind_of b) b refl) refl (begins_tested (text ++ b ∷ []) (more ++ rest) longer)
+    let longer : IsText ((text ++ b ∷ []) ++ (more ++ rest)) =
+    subst IsText (sym (append_assoc text (b ∷ []) (more ++ rest))) h in
+    text_byte wide (kind_of b) (escaped b) b text (flat_map escaped more) opens refl (escaped_as (kind_of b) b refl)
+    refl (begins_tested (text ++ b ∷ []) (more ++ rest) longer)
     ∙ text_front more (text ++ b ∷ []) rest opens longer
     ∙ ap (λ a. texting a opens) (append_assoc text (b ∷ []) more)
 
-pub wide_string : (x : List ℕ) → IsStringOpen x → (text : List ℕ) × (opens : List Open) × (run wide (between []) x ≡ texting text opens)
+pub wide_string : (x : List ℕ) → IsStringOpen x → (text : List ℕ) × (opens : List Open)
+    × (run wide (between []) x ≡ texting text opens)
 wide_string x h =
     let outer = open_lists h.0 h.1 h.4 in
     let opens = outer.0 in (
@@ -192,7 +242,8 @@ backslash_step : (text : List ℕ) (opens : List Open) → run wide (texting tex
 unfolding step_texting
 backslash_step text opens = ap (λ k. step_texting wide text opens k 92) backslash_kind
 
-pub wide_escape : (x : List ℕ) → IsEscapeOpen x → (text : List ℕ) × (opens : List Open) × (run wide (between []) x ≡ escaping text opens)
+pub wide_escape : (x : List ℕ) → IsEscapeOpen x → (text : List ℕ) × (opens : List Open)
+    × (run wide (between []) x ≡ escaping text opens)
 wide_escape x h =
     let string = wide_string h.0 h.1 in (
       string.0,

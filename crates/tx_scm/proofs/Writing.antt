@@ -9,13 +9,20 @@ use Rattle.tx_scm.specs.Canonical.{scheme_text, scheme_texts}
 pub leaf_text : (t : WideTree) (text : List ℕ) → text_of t ≡ Some text → scheme_text t ≡ string_of text
 leaf_text t text e = ap scheme_text (leaf_is t text e)
 
-pub node_text : (t : WideTree) (label : List ℕ) → label_of t ≡ Some label → scheme_text t ≡ 40 ∷ (label ++ (scheme_texts (forest (children_of t)) ++ 41 ∷ []))
+pub node_text : (t : WideTree) (label : List ℕ) → label_of t ≡ Some label
+    → scheme_text t ≡ 40 ∷ (label ++ (scheme_texts (forest (children_of t)) ++ 41 ∷ []))
 node_text t label e = ap scheme_text (node_is t label e)
 
-pub node_length : (t : WideTree) (label : List ℕ) → label_of t ≡ Some label → length (scheme_text t) ≡ 2 + length label + length (scheme_texts (forest (children_of t)))
+pub node_length : (t : WideTree) (label : List ℕ) → label_of t ≡ Some label
+    → length (scheme_text t) ≡ 2 + length label + length (scheme_texts (forest (children_of t)))
 node_length t label e =
     let texts = scheme_texts (forest (children_of t)) in
-    omega (arith, ap length (node_text t label e), length-append label (texts ++ 41 ∷ []), length-append texts (41 ∷ []))
+    omega (
+      arith,
+      ap length (node_text t label e),
+      length-append label (texts ++ 41 ∷ []),
+      length-append texts (41 ∷ []),
+    )
 
 -- what begins a front begins the whole
 pub front_kept : (a b whole : List ℕ) → take (length a) b ≡ a → take (length b) whole ≡ b → take (length a) whole ≡ a

@@ -25,12 +25,14 @@ stores_count : (o : Option (List ℕ × List ℕ)) (a b : Stored) → Stores o a
 stores_count None a b e = subst (λ s. NeverFalls a.faults s.faults) (sym e) (never_falls_refl a.faults)
 stores_count (Some file) a b h = h.1
 
-reply_count : (a b : World) (it : Command) (mark : Mark) (reply : List ℕ) → IsReply a it mark b reply → Counts mark a.store.faults b.store.faults
+reply_count : (a b : World) (it : Command) (mark : Mark) (reply : List ℕ) → IsReply a it mark b reply
+    → Counts mark a.store.faults b.store.faults
 reply_count a b it plain reply h = stores_count _ a.store b.store h.stored
 reply_count a b it lacking reply h = h.2.1
 reply_count a b it unsaved reply h = (h.4.1, h.4.2)
 
-line_count : (a b : World) (reading : Reading) (mark : Mark) (reply : List ℕ) → IsReplyTo a reading mark b reply → Counts mark a.store.faults b.store.faults
+line_count : (a b : World) (reading : Reading) (mark : Mark) (reply : List ℕ) → IsReplyTo a reading mark b reply
+    → Counts mark a.store.faults b.store.faults
 line_count a b nothing plain reply h = same_count a b h.1
 line_count a b nothing lacking reply h = same_count a b h.1
 line_count a b nothing unsaved reply h = let other = h.0 in absurd cc
@@ -62,28 +64,34 @@ never_falls plain a b h = h
 never_falls lacking a b h = h
 never_falls unsaved a b h = h.1
 
-all_never : (a b : World) (lines : List (List ℕ)) (marks : List Mark) (text : List ℕ) → Answered a lines marks b text → NeverFalls a.store.faults b.store.faults
+all_never : (a b : World) (lines : List (List ℕ)) (marks : List Mark) (text : List ℕ) → Answered a lines marks b text
+    → NeverFalls a.store.faults b.store.faults
 all_never a b [] [] text h = same_count a b h.0
 all_never a b [] (m ∷ marks) text h = absurd h
 all_never a b (l ∷ lines) [] text h = absurd h
 all_never a b (l ∷ lines) (m ∷ marks) text h =
-    never_falls_then _ _ _ (never_falls m _ _ (line_count a h.0 h.3.0 m h.1 h.3.2)) (all_never h.0 b lines marks h.2 h.4)
+    never_falls_then _ _ _ (never_falls m _ _ (line_count a h.0 h.3.0 m h.1 h.3.2))
+    (all_never h.0 b lines marks h.2 h.4)
 
-count_next : (m : Mark) (marks : List Mark) (a b c : ℕ) → Counts m a b → RoseBy (unsaved_in marks) b c → NeverFalls b c → RoseBy (unsaved_in (m ∷ marks)) a c
+count_next : (m : Mark) (marks : List Mark) (a b c : ℕ) → Counts m a b → RoseBy (unsaved_in marks) b c → NeverFalls b c
+    → RoseBy (unsaved_in (m ∷ marks)) a c
 count_next plain marks a b c h more never = no_more (unsaved_in marks) a b c h more
 count_next lacking marks a b c h more never = no_more (unsaved_in marks) a b c h more
 count_next unsaved marks a b c h more never = one_more (unsaved_in marks) a b c h.0 more never
 
-pub failures_counted : (a b : World) (lines : List (List ℕ)) (marks : List Mark) (text : List ℕ) → Answered a lines marks b text → RoseBy (unsaved_in marks) a.store.faults b.store.faults
+pub failures_counted : (a b : World) (lines : List (List ℕ)) (marks : List Mark) (text : List ℕ)
+    → Answered a lines marks b text → RoseBy (unsaved_in marks) a.store.faults b.store.faults
 failures_counted a b [] [] text h = let never = same_count a b h.0 in inl (omega (arith, never.kept))
 failures_counted a b [] (m ∷ marks) text h = absurd h
 failures_counted a b (l ∷ lines) [] text h = absurd h
 failures_counted a b (l ∷ lines) (m ∷ marks) text h =
-    count_next m marks a.store.faults h.0.store.faults b.store.faults (line_count a h.0 h.3.0 m h.1 h.3.2) (failures_counted h.0 b lines marks h.2 h.4) (all_never h.0 b lines marks h.2 h.4)
+    count_next m marks a.store.faults h.0.store.faults b.store.faults (line_count a h.0 h.3.0 m h.1 h.3.2)
+    (failures_counted h.0 b lines marks h.2 h.4) (all_never h.0 b lines marks h.2 h.4)
 
 -- ---- of a whole run
 
-played_counted : (v x : World) (script : List ℕ) (marks : List Mark) (r : Option (List ℕ)) (s : Status) (a : List ℕ) → IsPlayed v script marks r s x a → RoseBy (unsaved_in marks) v.store.faults x.store.faults
+played_counted : (v x : World) (script : List ℕ) (marks : List Mark) (r : Option (List ℕ)) (s : Status) (a : List ℕ)
+    → IsPlayed v script marks r s x a → RoseBy (unsaved_in marks) v.store.faults x.store.faults
 played_counted v x script marks r statuses.Ok a h = failures_counted v x (before_quit h.0) marks a h.3
 played_counted v x script marks r statuses.ScriptLong a h = failures_counted v x h.0 marks a h.3
 played_counted v x script marks r statuses.InputFault a h = failures_counted v x h.1 marks a h.7
@@ -94,14 +102,19 @@ played_counted v x script marks r statuses.Refused a h = absurd h
 played_counted v x script marks r statuses.StoreFault a h = absurd h
 played_counted v x script marks r statuses.OutputFault a h = absurd h
 
-unopened_counted : (v x : Stored) (marks : List Mark) → marks ≡ [] → NeverFalls v.faults x.faults → RoseBy (unsaved_in marks) v.faults x.faults
-unopened_counted v x marks e never = subst (λ ms. RoseBy (unsaved_in ms) v.faults x.faults) (sym e) (inl (omega (arith, never.kept)))
+unopened_counted : (v x : Stored) (marks : List Mark) → marks ≡ [] → NeverFalls v.faults x.faults
+    → RoseBy (unsaved_in marks) v.faults x.faults
+unopened_counted v x marks e never =
+    subst (λ ms. RoseBy (unsaved_in ms) v.faults x.faults) (sym e) (inl (omega (arith, never.kept)))
 
-pub whole_counted : (o : Outcome) (v x : Stored) (told r : Option (List ℕ)) (marks : List Mark) (s : Status) (a : List ℕ) → IsWhole o v x told marks r s a → RoseBy (unsaved_in marks) v.faults x.faults
+pub whole_counted : (o : Outcome) (v x : Stored) (told r : Option (List ℕ)) (marks : List Mark) (s : Status)
+    (a : List ℕ) → IsWhole o v x told marks r s a → RoseBy (unsaved_in marks) v.faults x.faults
 whole_counted (opened f u) v x told r marks s a h =
     let first : World = record { session = start_of f u; store = h.2 } in
-    let played : RoseBy (unsaved_in marks) h.2.faults h.3.store.faults = played_counted first h.3 h.0 marks r s h.1 h.6 in
-    subst (λ z. RoseBy (unsaved_in marks) v.faults z.faults) h.7 (no_more (unsaved_in marks) v.faults h.2.faults h.3.store.faults h.4.1 played)
+    let played : RoseBy (unsaved_in marks) h.2.faults h.3.store.faults =
+    played_counted first h.3 h.0 marks r s h.1 h.6 in
+    subst (λ z. RoseBy (unsaved_in marks) v.faults z.faults) h.7
+    (no_more (unsaved_in marks) v.faults h.2.faults h.3.store.faults h.4.1 played)
 whole_counted faulty_words v x told r marks s a h = unopened_counted v x marks h.0 h.4.1
 whole_counted (missing f) v x told r marks s a h = unopened_counted v x marks h.0 h.4.1
 whole_counted (file_too_long f) v x told r marks s a h = unopened_counted v x marks h.0 h.4.1

@@ -104,8 +104,10 @@ sound_change text (AssignNode p l) h = h.1.1.3.2.0
 sound_change text (InsertNode p i t) h = well_formed h.1.1.3.3.0 t h.1.1.3.3.2.0
 sound_change text (RemoveNode p i) h = tt
 
-edit_formed : (text : List ℕ) (m : Mod) (s next : State) (reply : List ℕ) (o : Changed) → IsCommand text (Change m) → IsFormed s
-    → changed_in_turn (m ∷ []) (document_of s.buffers) ≡ o → IsEditAnswer s (with_outcome (document_edit m) s o) next reply → IsFormed next
+edit_formed : (text : List ℕ) (m : Mod) (s next : State) (reply : List ℕ) (o : Changed) → IsCommand text (Change m)
+    → IsFormed s
+    → changed_in_turn (m ∷ []) (document_of s.buffers) ≡ o
+    → IsEditAnswer s (with_outcome (document_edit m) s o) next reply → IsFormed next
 edit_formed text m s next reply (Err cause) h f e a = subst IsFormed (sym a.0) f
 edit_formed text m s next reply (Ok u) h f e a =
     let before : IsFormedTree (document_of s.buffers) = tree_formed s.buffers 0 f.now in
@@ -121,20 +123,25 @@ edit_formed text m s next reply (Ok u) h f e a =
 undo_formed : (s next : State) (none reply : List ℕ) (past : List KeptEdit) → IsFormed s → AreFormedAt past
     → IsStepAnswer s none (back_to s past) next reply → IsFormed next
 undo_formed s next none reply [] f h a = subst IsFormed (sym a.0) f
-undo_formed s next none reply (kept ∷ past) f h a = subst IsFormed (sym a.0) (record { now = h.0; past = h.1; future = (f.now, f.future) })
+undo_formed s next none reply (kept ∷ past) f h a =
+    subst IsFormed (sym a.0) (record { now = h.0; past = h.1; future = (f.now, f.future) })
 
 redo_formed : (s next : State) (none reply : List ℕ) (future : List KeptEdit) → IsFormed s → AreFormedAt future
     → IsStepAnswer s none (on_to s future) next reply → IsFormed next
 redo_formed s next none reply [] f h a = subst IsFormed (sym a.0) f
-redo_formed s next none reply (kept ∷ future) f h a = subst IsFormed (sym a.0) (record { now = h.0; past = (f.now, f.past); future = h.1 })
+redo_formed s next none reply (kept ∷ future) f h a =
+    subst IsFormed (sym a.0) (record { now = h.0; past = (f.now, f.past); future = h.1 })
 
 -- ---- lines
 
-answer_formed : (text : List ℕ) (it : Command) (width height : ℕ) (s next : State) (reply : List ℕ) → IsCommand text it → IsFormed s
+answer_formed : (text : List ℕ) (it : Command) (width height : ℕ) (s next : State) (reply : List ℕ) → IsCommand text it
+    → IsFormed s
     → IsAnswer width height s it next reply → IsFormed next
-answer_formed text (Change m) width height s next reply h f a = edit_formed text m s next reply (changed_in_turn (m ∷ []) (document_of s.buffers)) h f refl a
+answer_formed text (Change m) width height s next reply h f a =
+    edit_formed text m s next reply (changed_in_turn (m ∷ []) (document_of s.buffers)) h f refl a
 answer_formed text Undo width height s next reply h f a = undo_formed s next (codes "no undo") reply s.past f f.past a
-answer_formed text Redo width height s next reply h f a = redo_formed s next (codes "no redo") reply s.future f f.future a
+answer_formed text Redo width height s next reply h f a =
+    redo_formed s next (codes "no redo") reply s.future f f.future a
 answer_formed text (Go numbers) width height s next reply h f (inl a) =
     subst IsFormed (sym a.0.4) (record { now = f.now; past = f.past; future = f.future })
 answer_formed text (Go numbers) width height s next reply h f (inr a) = subst IsFormed (sym a.2) f
@@ -150,19 +157,23 @@ IsFormedWorld world = IsFormed world.session.state
 same_formed : (before after : World) → after ≡ before → IsFormedWorld before → IsFormedWorld after
 same_formed before after e f = subst IsFormedWorld (sym e) f
 
-command_formed : (text : List ℕ) (it : Command) (before next : World) (mark : Mark) (reply : List ℕ) → IsCommand text it → IsFormedWorld before
+command_formed : (text : List ℕ) (it : Command) (before next : World) (mark : Mark) (reply : List ℕ) → IsCommand text it
+    → IsFormedWorld before
     → IsReply before it mark next reply → IsFormedWorld next
 command_formed text it before next plain reply h f a =
-    answer_formed text it before.session.width before.session.height before.session.state next.session.state reply h f a.answer
+    answer_formed text it before.session.width before.session.height before.session.state next.session.state reply h f
+    a.answer
 command_formed text it before next lacking reply h f a = subst (λ x. IsFormed x.state) (sym a.1) f
 command_formed text it before next unsaved reply h f a = subst (λ x. IsFormed x.state) (sym a.3) f
 
-refusal_formed : (before next : World) (text : List ℕ) (mark : Mark) (reply : List ℕ) → IsFormedWorld before → IsRefusal before text mark next reply → IsFormedWorld next
+refusal_formed : (before next : World) (text : List ℕ) (mark : Mark) (reply : List ℕ) → IsFormedWorld before
+    → IsRefusal before text mark next reply → IsFormedWorld next
 refusal_formed before next text plain reply f a = same_formed before next a.0 f
 refusal_formed before next text lacking reply f a = same_formed before next a.0 f
 refusal_formed before next text unsaved reply f a = absurd a
 
-reply_formed : (text : List ℕ) (reading : Reading) (before next : World) (mark : Mark) (reply : List ℕ) → IsRead text reading → IsFormedWorld before
+reply_formed : (text : List ℕ) (reading : Reading) (before next : World) (mark : Mark) (reply : List ℕ)
+    → IsRead text reading → IsFormedWorld before
     → IsReplyTo before reading mark next reply → IsFormedWorld next
 reply_formed text nothing before next mark reply h f a = same_formed before next a.1 f
 reply_formed text (too_long count) before next mark reply h f a = refusal_formed before next _ mark reply f a
@@ -178,7 +189,8 @@ lines_formed before last (one ∷ lines) [] text f a = absurd a
 lines_formed before last (one ∷ lines) (mark ∷ marks) text f a =
     let next : World = a.0 in
     let replied = a.3 in
-    lines_formed next last lines marks a.2 (reply_formed (command_line one) replied.0 before next mark a.1 replied.1 f replied.2) a.4
+    lines_formed next last lines marks a.2
+    (reply_formed (command_line one) replied.0 before next mark a.1 replied.1 f replied.2) a.4
 
 -- ---- saving
 
@@ -205,40 +217,56 @@ long_file : (bytes : List ℕ) (b : Bool) → nat_le (length bytes) MOST_FILE �
 long_file bytes true e n h = absurd cc
 long_file bytes false e n h = subst (λ m. MOST_FILE < m) (ap count_in h) (past (length bytes) e)
 
-long_saving : (form : Form) (t : WideTree) (b : Bool) (n : ℕ) → (if b then fitting (line (text_in form t)) else no_form) ≡ file_long n → MOST_FILE < n
-long_saving form t true n h = long_file (line (text_in form t)) (nat_le (length (line (text_in form t))) MOST_FILE) refl n h
+long_saving : (form : Form) (t : WideTree) (b : Bool) (n : ℕ)
+    → (if b then fitting (line (text_in form t)) else no_form) ≡ file_long n → MOST_FILE < n
+long_saving form t true n h =
+    long_file (line (text_in form t)) (nat_le (length (line (text_in form t))) MOST_FILE) refl n h
 long_saving form t false n h = absurd cc
 
-saved_so : (name : List ℕ) (t : WideTree) (before after : Stored) (reply : List ℕ) (x : Saving) → IsWellFormed t → saving (form_of name) t ≡ x
-    → reply ≡ save_reply x → Stores (file_saved name x) before after → IsSavedAlone name t before after reply ⊎ IsNotSaved before after reply
+saved_so : (name : List ℕ) (t : WideTree) (before after : Stored) (reply : List ℕ) (x : Saving) → IsWellFormed t
+    → saving (form_of name) t ≡ x
+    → reply ≡ save_reply x → Stores (file_saved name x) before after → IsSavedAlone name t before after reply
+    ⊎ IsNotSaved before after reply
 saved_so name t before after reply no_form f e r s = inr (s, inl r)
-saved_so name t before after reply (file_long n) f e r s = inr (s, inr (n, long_saving (form_of name) t (has_text_in (form_of name) t) n e, r))
+saved_so name t before after reply (file_long n) f e r s =
+    inr (s, inr (n, long_saving (form_of name) t (has_text_in (form_of name) t) n e, r))
 saved_so name t before after reply (writes bytes) f e r s =
     inl (record { bytes = bytes; alone = saved_alone (form_of name) t bytes f e; said = r; kept = s.0 })
 
 -- a line `save` of a formed session
-save_line : (text name : List ℕ) (reading : Reading) (before next : World) (reply : List ℕ) → reading ≡ command (Save name) → IsFormedWorld before
+save_line : (text name : List ℕ) (reading : Reading) (before next : World) (reply : List ℕ)
+    → reading ≡ command (Save name) → IsFormedWorld before
     → IsReplyTo before reading plain next reply
-    → IsSavedAlone name (document_of before.session.state.buffers) before.store next.store reply ⊎ IsNotSaved before.store next.store reply
+    → IsSavedAlone name (document_of before.session.state.buffers) before.store next.store reply
+    ⊎ IsNotSaved before.store next.store reply
 save_line text name reading before next reply e f a =
-    let done : (command (Save name) ≡ command (Save name)) × IsReply before (Save name) plain next reply = (refl, (subst (λ r. IsReplyTo before r plain next reply) e a).1) in
+    let done : (command (Save name) ≡ command (Save name)) × IsReply before (Save name) plain next reply =
+    (refl, (subst (λ r. IsReplyTo before r plain next reply) e a).1) in
     let t : WideTree = document_of before.session.state.buffers in
-    saved_so name t before.store next.store reply (saving (form_of name) t) (tree_formed before.session.state.buffers 0 f.now).0 refl done.1.answer.1 done.1.stored
+    saved_so name t before.store next.store reply (saving (form_of name) t)
+    (tree_formed before.session.state.buffers 0 f.now).0 refl done.1.answer.1 done.1.stored
 
-pub saves_alone : (words : List (List ℕ)) (files : Option Files) (file : List ℕ) (t : WideTree) (first : Stored) → ComesTo words files (opened file t)
+pub saves_alone : (words : List (List ℕ)) (files : Option Files) (file : List ℕ) (t : WideTree) (first : Stored)
+    → ComesTo words files (opened file t)
     → (lines : List (List ℕ)) (marks : List Mark) (seen : World) (done : List ℕ)
     → Answered (record { session = start_of file t; store = first }) lines marks seen done
-    → (one name reply : List ℕ) (next : World) → IsRead (command_line one) (command (Save name)) → IsLineReply seen (command_line one) plain next reply
-    → IsSavedAlone name (document_of seen.session.state.buffers) seen.store next.store reply ⊎ IsNotSaved seen.store next.store reply
+    → (one name reply : List ℕ) (next : World) → IsRead (command_line one) (command (Save name))
+    → IsLineReply seen (command_line one) plain next reply
+    → IsSavedAlone name (document_of seen.session.state.buffers) seen.store next.store reply
+    ⊎ IsNotSaved seen.store next.store reply
 saves_alone words files file t first opens lines marks seen done a one name reply next c r =
     let spelled = opens.1 in
     let formed : IsFormedTree t = (opened_formed (form_of file) spelled.0 t spelled.3, spelled.4) in
-    let now : IsFormedWorld seen = lines_formed (record { session = start_of file t; store = first }) seen lines marks done (start_formed file t formed) a in
-    let is : r.0 ≡ command (Save name) = one_reading (command_line one) r.0 (command (Save name)) (was_read seen r.0 plain next reply tt r.2) (not_unread (Save name)) r.1 c in
+    let now : IsFormedWorld seen = lines_formed (record { session = start_of file t; store = first }) seen lines marks
+    done (start_formed file t formed) a in
+    let is : r.0 ≡ command (Save name) =
+    one_reading (command_line one) r.0 (command (Save name)) (was_read seen r.0 plain next reply tt r.2)
+    (not_unread (Save name)) r.1 c in
     save_line (command_line one) name r.0 seen next reply is now r.2
 
 -- one line among others
-pub stands_among : (start : World) (before : List (List ℕ)) (one : List ℕ) (behind : List (List ℕ)) (marks : List Mark) (last : World) (text : List ℕ)
+pub stands_among : (start : World) (before : List (List ℕ)) (one : List ℕ) (behind : List (List ℕ)) (marks : List Mark)
+    (last : World) (text : List ℕ)
     → Answered start (before ++ one ∷ behind) marks last text → StandsAmong start before one behind marks last text
 stands_among start [] one behind [] last text a = absurd a
 stands_among start [] one behind (mark ∷ marks) last text a = record {

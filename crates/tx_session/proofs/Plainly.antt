@@ -36,7 +36,9 @@ use Rattle.tx_session.specs.Writing.{IsSaid}
 
 -- the first five bytes are those of one of the two
 abbrev begins_mark : List ℕ → Bool
-begins_mark reply = bytes_eq (take 5 reply) (110 ∷ 111 ∷ 32 ∷ 109 ∷ 101 ∷ []) || bytes_eq (take 5 reply) (110 ∷ 111 ∷ 32 ∷ 115 ∷ 116 ∷ [])
+begins_mark reply =
+    bytes_eq (take 5 reply) (110 ∷ 111 ∷ 32 ∷ 109 ∷ 101 ∷ []) || bytes_eq (take 5 reply)
+    (110 ∷ 111 ∷ 32 ∷ 115 ∷ 116 ∷ [])
 
 differ : false ≡ true → ⊥
 differ e = cc
@@ -85,33 +87,47 @@ kept a b e h = subst IsPlainReply (sym e) h
 
 plain_shown : (width height : ℕ) (t : WideTree) (reply : List ℕ) → IsShown width height t reply → IsPlainReply reply
 plain_shown width height t reply (inl h) = kept reply (show_text height h.lines) h.made (plain_pages height h.lines)
-plain_shown width height t reply (inr h) = kept reply (line (codes "no shape")) h.1 (begun (line (codes "no shape")) refl)
+plain_shown width height t reply (inr h) =
+    kept reply (line (codes "no shape")) h.1 (begun (line (codes "no shape")) refl)
 
-plain_edit : (state : State) (r : Result State ModFault) (next : State) (reply : List ℕ) → IsEditAnswer state r next reply → IsPlainReply reply
+plain_edit : (state : State) (r : Result State ModFault) (next : State) (reply : List ℕ)
+    → IsEditAnswer state r next reply → IsPlainReply reply
 plain_edit state (Ok made) next reply h = kept reply done_reply h.1 plain_ok
 plain_edit state (Err cause) next reply h = kept reply (cause_reply cause) h.1 (plain_cause cause)
 
-plain_step : (state : State) (none : List ℕ) (r : Option State) (next : State) (reply : List ℕ) → IsPlainReply (line none) → IsStepAnswer state none r next reply → IsPlainReply reply
+plain_step : (state : State) (none : List ℕ) (r : Option State) (next : State) (reply : List ℕ)
+    → IsPlainReply (line none) → IsStepAnswer state none r next reply → IsPlainReply reply
 plain_step state none (Some made) next reply n h = kept reply done_reply h.1 plain_ok
 plain_step state none None next reply n h = kept reply (line none) h.1 n
 
-plain_go : (state : State) (numbers : List ℕ) (next : State) (reply : List ℕ) → IsGoAnswer state numbers next reply → IsPlainReply reply
+plain_go : (state : State) (numbers : List ℕ) (next : State) (reply : List ℕ) → IsGoAnswer state numbers next reply
+    → IsPlainReply reply
 plain_go state numbers next reply (inl h) = kept reply done_reply h.1 plain_ok
 plain_go state numbers next reply (inr h) = kept reply (astray_reply h.0) h.3 (plain_astray h.0)
 
-plain_answer : (width height : ℕ) (state : State) (it : Command) (next : State) (reply : List ℕ) → IsAnswer width height state it next reply → IsPlainReply reply
+plain_answer : (width height : ℕ) (state : State) (it : Command) (next : State) (reply : List ℕ)
+    → IsAnswer width height state it next reply → IsPlainReply reply
 plain_answer width height state (Change m) next reply h = plain_edit state (edited (document_edit m) state) next reply h
-plain_answer width height state Undo next reply h = plain_step state (codes "no undo") (undone state) next reply (begun (line (codes "no undo")) refl) h
-plain_answer width height state Redo next reply h = plain_step state (codes "no redo") (redone state) next reply (begun (line (codes "no redo")) refl) h
+plain_answer width height state Undo next reply h =
+    plain_step state (codes "no undo") (undone state) next reply (begun (line (codes "no undo")) refl) h
+plain_answer width height state Redo next reply h =
+    plain_step state (codes "no redo") (redone state) next reply (begun (line (codes "no redo")) refl) h
 plain_answer width height state (Go numbers) next reply h = plain_go state numbers next reply h
-plain_answer width height state Cursor next reply h = kept reply (line (place_text state.cursor.path state.cursor.offset)) h.1 (plain_place state.cursor.path state.cursor.offset)
+plain_answer width height state Cursor next reply h =
+    kept reply (line (place_text state.cursor.path state.cursor.offset)) h.1
+    (plain_place state.cursor.path state.cursor.offset)
 plain_answer width height state Show next reply h = plain_shown width height (document_of state.buffers) reply h.1
-plain_answer width height state Tree next reply h = kept reply (line (scheme_text (document_of state.buffers))) h.1 (plain_tree (document_of state.buffers))
-plain_answer width height state (Save name) next reply h = kept reply (save_reply (saving (form_of name) (document_of state.buffers))) h.1 (plain_save (saving (form_of name) (document_of state.buffers)))
+plain_answer width height state Tree next reply h =
+    kept reply (line (scheme_text (document_of state.buffers))) h.1 (plain_tree (document_of state.buffers))
+plain_answer width height state (Save name) next reply h =
+    kept reply (save_reply (saving (form_of name) (document_of state.buffers))) h.1
+    (plain_save (saving (form_of name) (document_of state.buffers)))
 plain_answer width height state Quit next reply h = kept reply [] h.1 (begun [] refl)
 
-pub plain_done : (before after : World) (it : Command) (reply : List ℕ) → IsDone before it after reply → IsPlainReply reply
-plain_done before after it reply h = plain_answer before.session.width before.session.height before.session.state it after.session.state reply h.answer
+pub plain_done : (before after : World) (it : Command) (reply : List ℕ) → IsDone before it after reply
+    → IsPlainReply reply
+plain_done before after it reply h =
+    plain_answer before.session.width before.session.height before.session.state it after.session.state reply h.answer
 
 pub plain_refusal : (cause : CmdFault) → cause ≢ Memory → IsPlainReply (refusal cause)
 plain_refusal (Long n) m = begun (refusal (Long n)) refl
@@ -125,19 +141,26 @@ abbrev says_memory : List ℕ → Bool
 says_memory reply = bytes_eq (take 4 reply) (110 ∷ 111 ∷ 32 ∷ 109 ∷ [])
 
 -- where the reply of a failed store was written whole, the store has failed
-counted : (v w : World) (it : Command) (mark : Mark) (reply : List ℕ) → IsReply v it mark w reply → reply ≡ unsaved_reply → Rose v.store.faults w.store.faults
+counted : (v w : World) (it : Command) (mark : Mark) (reply : List ℕ) → IsReply v it mark w reply
+    → reply ≡ unsaved_reply → Rose v.store.faults w.store.faults
 counted v w it plain reply h e = absurd ((plain_done v w it reply h).1 e)
 counted v w it lacking reply h e = absurd (differ (ap says_memory (sym e ∙ h.3)))
 counted v w it unsaved reply h e = h.4.1
 
-pub failure_counted : (v w : World) (it : Command) (mark : Mark) (reply : List ℕ) (next : Next) (before after : Option (List ℕ)) (bytes : List ℕ)
-    → IsReply v it mark w reply → IsSaid (Ok next) reply before after → before ≡ Some bytes → after ≡ Some (bytes ++ unsaved_reply) → Rose v.store.faults w.store.faults
+pub failure_counted : (v w : World) (it : Command) (mark : Mark) (reply : List ℕ) (next : Next)
+    (before after : Option (List ℕ)) (bytes : List ℕ)
+    → IsReply v it mark w reply → IsSaid (Ok next) reply before after → before ≡ Some bytes
+    → after ≡ Some (bytes ++ unsaved_reply) → Rose v.store.faults w.store.faults
 failure_counted v w it mark reply next before after bytes h said b a =
-    let whole : Some (bytes ++ reply) ≡ Some (bytes ++ unsaved_reply) = ap (λ z. append_known z reply) (sym b) ∙ sym said ∙ a in
+    let whole : Some (bytes ++ reply) ≡ Some (bytes ++ unsaved_reply) = ap (λ z. append_known z reply) (sym b)
+    ∙ sym said ∙ a in
     let same : bytes ++ reply ≡ bytes ++ unsaved_reply = cc in
     counted v w it mark reply h (append_cancel_left bytes reply unsaved_reply same)
 
-pub no_store : (v w : World) (it : Command) (mark : Mark) (reply : List ℕ) (result : Result Next WriteFault) (before after : Option (List ℕ)) → IsReply v it mark w reply → IsSaid result reply before after
-    → OnOk result ((bytes : List ℕ) → before ≡ Some bytes → after ≡ Some (bytes ++ unsaved_reply) → Rose v.store.faults w.store.faults)
-no_store v w it mark reply (Ok next) before after h said = λ bytes b a. failure_counted v w it mark reply next before after bytes h said b a
+pub no_store : (v w : World) (it : Command) (mark : Mark) (reply : List ℕ) (result : Result Next WriteFault)
+    (before after : Option (List ℕ)) → IsReply v it mark w reply → IsSaid result reply before after
+    → OnOk result ((bytes : List ℕ) → before ≡ Some bytes → after ≡ Some (bytes ++ unsaved_reply)
+    → Rose v.store.faults w.store.faults)
+no_store v w it mark reply (Ok next) before after h said =
+    λ bytes b a. failure_counted v w it mark reply next before after bytes h said b a
 no_store v w it mark reply (Err fault) before after h said = tt

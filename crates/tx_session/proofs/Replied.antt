@@ -9,7 +9,14 @@ use Rattle.tx_session.specs.Saying.{mark_of, text_of}
 use Rattle.tx_session.specs.Worlds.{World, Mark}
 use Rattle.tx_session.specs.Writing.{IsSaid}
 
-pub is_replied : (it command : Command) (v w : World) (reply : Reply) (text : List ℕ) (result : Result Next WriteFault) (before after : Option (List ℕ)) → command ≡ it → text ≡ text_of reply → IsReply v it (mark_of reply) w (text_of reply)
-    → IsSaid result text before after → (mark : Mark) × (answer : List ℕ) × IsReply v command mark w answer × IsSaid result answer before after
-is_replied it command v w reply text result before after e t r s =
-    (mark_of reply, text_of reply, subst (λ c. IsReply v c (mark_of reply) w (text_of reply)) (sym e) r, subst (λ x. IsSaid result x before after) t s)
+pub is_replied : (it command : Command) (v w : World) (reply : Reply) (text : List ℕ) (result : Result Next WriteFault)
+    (before after : Option (List ℕ)) → command ≡ it → text ≡ text_of reply
+    → IsReply v it (mark_of reply) w (text_of reply)
+    → IsSaid result text before after → (mark : Mark) × (answer : List ℕ) × IsReply v command mark w answer
+    × IsSaid result answer before after
+is_replied it command v w reply text result before after e t r s = (
+  mark_of reply,
+  text_of reply,
+  subst (λ c. IsReply v c (mark_of reply) w (text_of reply)) (sym e) r,
+  subst (λ x. IsSaid result x before after) t s,
+)

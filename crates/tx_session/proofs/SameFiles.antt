@@ -23,14 +23,16 @@ use Rattle.tx_session.proofs.Lining.{script_lines_once}
 
 -- both tell these files
 pub both_tell : (a b : Option Files) (all : Files) → a ≡ Some all → b ≡ Some all → HoldSameFiles a b
-both_tell a b all e f = subst (λ z. HoldSameFiles a z) (sym f) (subst (λ z. HoldSameFiles z (Some all)) (sym e) (λ name. refl))
+both_tell a b all e f =
+    subst (λ z. HoldSameFiles a z) (sym f) (subst (λ z. HoldSameFiles z (Some all)) (sym e) (λ name. refl))
 
 moved : (a b c d : Option Files) → b ≡ a → d ≡ c → HoldSameFiles a c → HoldSameFiles b d
 moved a b c d e f h = subst (λ z. HoldSameFiles b z) (sym f) (subst (λ z. HoldSameFiles z c) (sym e) h)
 
 -- the same file is put into both
 module _ (name bytes : List ℕ) where
-  put_in : (a b c d : Files) → WithFile name bytes a b → WithFile name bytes c d → ((n : List ℕ) → file_of c n ≡ file_of a n) → (n : List ℕ) → file_of d n ≡ file_of b n
+  put_in : (a b c d : Files) → WithFile name bytes a b → WithFile name bytes c d
+      → ((n : List ℕ) → file_of c n ≡ file_of a n) → (n : List ℕ) → file_of d n ≡ file_of b n
   put_in a b c d h k same n = by_name (bytes_eq n name) refl
     where
       by_name : (t : Bool) → bytes_eq n name ≡ t → file_of d n ≡ file_of b n
@@ -41,7 +43,8 @@ module _ (name bytes : List ℕ) where
           let other : n ≢ name = λ is. let yes_it : bytes_eq n name ≡ true = (bytes_eq-Decides n name).1 is in cc in
           k.others n other ∙ same n ∙ sym (h.others n other)
 
-  pub put_in_both : (a b c d : Option Files) → WhereKnown (WithFile name bytes) a b → WhereKnown (WithFile name bytes) c d → HoldSameFiles a c → HoldSameFiles b d
+  pub put_in_both : (a b c d : Option Files) → WhereKnown (WithFile name bytes) a b
+      → WhereKnown (WithFile name bytes) c d → HoldSameFiles a c → HoldSameFiles b d
   put_in_both (Some a) (Some b) (Some c) (Some d) h k same = put_in a b c d h k same
   put_in_both None None None None h k same = tt
   put_in_both (Some a) (Some b) None None h k same = absurd same
@@ -53,14 +56,17 @@ module _ (name bytes : List ℕ) where
   put_in_both None None (Some c) None h k same = absurd k
   put_in_both None None None (Some d) h k same = absurd k
 
-stored_same : (o : Option (List ℕ × List ℕ)) (v s w t : Stored) → Stores o v s → Stores o w t → HoldSameFiles v.files w.files → HoldSameFiles s.files t.files
-stored_same None v s w t h k same = moved v.files s.files w.files t.files (ap (λ x. x.files) h) (ap (λ x. x.files) k) same
+stored_same : (o : Option (List ℕ × List ℕ)) (v s w t : Stored) → Stores o v s → Stores o w t
+    → HoldSameFiles v.files w.files → HoldSameFiles s.files t.files
+stored_same None v s w t h k same =
+    moved v.files s.files w.files t.files (ap (λ x. x.files) h) (ap (λ x. x.files) k) same
 stored_same (Some file) v s w t h k same = put_in_both file.0 file.1 v.files s.files w.files t.files h.0 k.0 same
 
 abbrev files_of : World → Option Files
 files_of w = w.store.files
 
-lacked_files : (v : World) (reading : Reading) (next : World) (reply : List ℕ) → IsReplyTo v reading lacking next reply → files_of next ≡ files_of v
+lacked_files : (v : World) (reading : Reading) (next : World) (reply : List ℕ) → IsReplyTo v reading lacking next reply
+    → files_of next ≡ files_of v
 lacked_files v nothing next reply h = ap files_of h.1
 lacked_files v (too_long n) next reply h = ap files_of h.0
 lacked_files v unread next reply h = ap files_of h.1
@@ -68,41 +74,59 @@ lacked_files v (command c) next reply h = h.1.2.0
 lacked_files v (faulty f) next reply h = ap files_of h.0
 
 module _ (v w : World) (same : v.session ≡ w.session) (hold : HoldSameFiles (files_of v) (files_of w)) where
-  plain_files : (reading : Reading) (s t : World) (a b : List ℕ) → IsReplyTo v reading plain s a → IsReplyTo w reading plain t b → HoldSameFiles (files_of s) (files_of t)
-  plain_files nothing s t a b h k = moved (files_of v) (files_of s) (files_of w) (files_of t) (ap files_of h.1) (ap files_of k.1) hold
-  plain_files (too_long n) s t a b h k = moved (files_of v) (files_of s) (files_of w) (files_of t) (ap files_of h.0) (ap files_of k.0) hold
-  plain_files unread s t a b h k = moved (files_of v) (files_of s) (files_of w) (files_of t) (ap files_of h.1) (ap files_of k.1) hold
+  plain_files : (reading : Reading) (s t : World) (a b : List ℕ) → IsReplyTo v reading plain s a
+      → IsReplyTo w reading plain t b → HoldSameFiles (files_of s) (files_of t)
+  plain_files nothing s t a b h k =
+      moved (files_of v) (files_of s) (files_of w) (files_of t) (ap files_of h.1) (ap files_of k.1) hold
+  plain_files (too_long n) s t a b h k =
+      moved (files_of v) (files_of s) (files_of w) (files_of t) (ap files_of h.0) (ap files_of k.0) hold
+  plain_files unread s t a b h k =
+      moved (files_of v) (files_of s) (files_of w) (files_of t) (ap files_of h.1) (ap files_of k.1) hold
   plain_files (command c) s t a b h k =
-      stored_same (saved_by v.session.state c) v.store s.store w.store t.store h.1.stored (subst (λ x. Stores (saved_by x.state c) w.store t.store) (sym same) k.1.stored) hold
-  plain_files (faulty f) s t a b h k = moved (files_of v) (files_of s) (files_of w) (files_of t) (ap files_of h.0) (ap files_of k.0) hold
+      stored_same (saved_by v.session.state c) v.store s.store w.store t.store h.1.stored
+      (subst (λ x. Stores (saved_by x.state c) w.store t.store) (sym same) k.1.stored) hold
+  plain_files (faulty f) s t a b h k =
+      moved (files_of v) (files_of s) (files_of w) (files_of t) (ap files_of h.0) (ap files_of k.0) hold
 
-  line_files : (text : List ℕ) (mark : Mark) (s t : World) (a b : List ℕ) → mark ≢ unsaved → IsLineReply v text mark s a → IsLineReply w text mark t b → HoldSameFiles (files_of s) (files_of t)
+  line_files : (text : List ℕ) (mark : Mark) (s t : World) (a b : List ℕ) → mark ≢ unsaved → IsLineReply v text mark s a
+      → IsLineReply w text mark t b → HoldSameFiles (files_of s) (files_of t)
   line_files text unsaved s t a b n h k = absurd (n refl)
-  line_files text lacking s t a b n h k = moved (files_of v) (files_of s) (files_of w) (files_of t) (lacked_files v h.0 s a h.2) (lacked_files w k.0 t b k.2) hold
+  line_files text lacking s t a b n h k =
+      moved (files_of v) (files_of s) (files_of w) (files_of t) (lacked_files v h.0 s a h.2)
+      (lacked_files w k.0 t b k.2) hold
   line_files text plain s t a b n h k =
-      plain_files h.0 s t a b h.2 (subst (λ r. IsReplyTo w r plain t b) (one_reading text k.0 h.0 (was_read w k.0 plain t b tt k.2) (was_read v h.0 plain s a tt h.2) k.1 h.1) k.2)
+      plain_files h.0 s t a b h.2
+      (subst (λ r. IsReplyTo w r plain t b)
+      (one_reading text k.0 h.0 (was_read w k.0 plain t b tt k.2) (was_read v h.0 plain s a tt h.2) k.1 h.1) k.2)
 
 saves : (m : Mark) (marks : List Mark) → unsaved_in (m ∷ marks) ≡ 0 → (m ≢ unsaved) × (unsaved_in marks ≡ 0)
 saves plain marks e = (λ f. cc, e)
 saves lacking marks e = (λ f. cc, e)
 saves unsaved marks e = absurd (omega (arith, e))
 
-pub answered_files : (v w s t : World) (lines : List (List ℕ)) (marks : List Mark) (a b : List ℕ) → unsaved_in marks ≡ 0 → v.session ≡ w.session → HoldSameFiles (files_of v) (files_of w)
+pub answered_files : (v w s t : World) (lines : List (List ℕ)) (marks : List Mark) (a b : List ℕ) → unsaved_in marks ≡ 0
+    → v.session ≡ w.session → HoldSameFiles (files_of v) (files_of w)
     → Answered v lines marks s a → Answered w lines marks t b → HoldSameFiles (files_of s) (files_of t)
-answered_files v w s t [] [] a b u same hold h k = moved (files_of v) (files_of s) (files_of w) (files_of t) (ap files_of h.0) (ap files_of k.0) hold
+answered_files v w s t [] [] a b u same hold h k =
+    moved (files_of v) (files_of s) (files_of w) (files_of t) (ap files_of h.0) (ap files_of k.0) hold
 answered_files v w s t [] (m ∷ marks) a b u same hold h k = absurd h
 answered_files v w s t (l ∷ lines) [] a b u same hold h k = absurd h
 answered_files v w s t (l ∷ lines) (m ∷ marks) a b u same hold h k =
     let one = one_line_reply v w same (command_line l) m h.0 k.0 h.1 k.1 h.3 k.3 in
     let kept = saves m marks u in
-    answered_files h.0 k.0 s t lines marks h.2 k.2 kept.1 one.0 (line_files v w same hold (command_line l) m h.0 k.0 h.1 k.1 kept.0 h.3 k.3) h.4 k.4
+    answered_files h.0 k.0 s t lines marks h.2 k.2 kept.1 one.0
+    (line_files v w same hold (command_line l) m h.0 k.0 h.1 k.1 kept.0 h.3 k.3) h.4 k.4
 
-played_files : (v w x y : World) (script : List ℕ) (marks : List Mark) (r q : Option (List ℕ)) (s : Status) (a b : List ℕ) → unsaved_in marks ≡ 0 → v.session ≡ w.session → HoldSameFiles (files_of v) (files_of w)
-    → IsFinal s → IsPlayed v script marks r s x a → IsPlayed w script marks q s y b → HoldSameFiles (files_of x) (files_of y)
+played_files : (v w x y : World) (script : List ℕ) (marks : List Mark) (r q : Option (List ℕ)) (s : Status)
+    (a b : List ℕ) → unsaved_in marks ≡ 0 → v.session ≡ w.session → HoldSameFiles (files_of v) (files_of w)
+    → IsFinal s → IsPlayed v script marks r s x a → IsPlayed w script marks q s y b
+    → HoldSameFiles (files_of x) (files_of y)
 played_files v w x y script marks r q statuses.Ok a b u e hold f h k =
-    answered_files v w x y (before_quit h.0) marks a b u e hold h.3 (subst (λ ls. Answered w (before_quit ls) marks y b) (script_lines_once script k.0 h.0 k.1 h.1) k.3)
+    answered_files v w x y (before_quit h.0) marks a b u e hold h.3
+    (subst (λ ls. Answered w (before_quit ls) marks y b) (script_lines_once script k.0 h.0 k.1 h.1) k.3)
 played_files v w x y script marks r q statuses.ScriptLong a b u e hold f h k =
-    answered_files v w x y h.0 marks a b u e hold h.3 (subst (λ ls. Answered w ls marks y b) (script_lines_once script k.0 h.0 k.1 h.1) k.3)
+    answered_files v w x y h.0 marks a b u e hold h.3
+    (subst (λ ls. Answered w ls marks y b) (script_lines_once script k.0 h.0 k.1 h.1) k.3)
 played_files v w x y script marks r q statuses.InputFault a b u e hold f h k = absurd f
 played_files v w x y script marks r q statuses.NoMemory a b u e hold f h k = absurd f
 played_files v w x y script marks r q statuses.Words a b u e hold f h k = absurd h
@@ -111,18 +135,23 @@ played_files v w x y script marks r q statuses.Refused a b u e hold f h k = absu
 played_files v w x y script marks r q statuses.StoreFault a b u e hold f h k = absurd h
 played_files v w x y script marks r q statuses.OutputFault a b u e hold f h k = absurd h
 
-module _ (v w x y : Stored) (all : Files) (ev : v.files ≡ Some all) (ew : w.files ≡ Some all) (script : List ℕ) (marks : List Mark) (r q : Option (List ℕ)) (s : Status) (a b : List ℕ) (final : IsFinal s) where
+module _ (v w x y : Stored) (all : Files) (ev : v.files ≡ Some all) (ew : w.files ≡ Some all) (script : List ℕ)
+    (marks : List Mark) (r q : Option (List ℕ)) (s : Status) (a b : List ℕ) (final : IsFinal s) where
   unopened_files : (x.files ≡ v.files) → (y.files ≡ w.files) → HoldSameFiles x.files y.files
   unopened_files h k = both_tell x.files y.files all (h ∙ ev) (k ∙ ew)
 
-  pub whole_files : (o : Outcome) → unsaved_in marks ≡ 0 → IsWhole o v x (Some script) marks r s a → IsWhole o w y (Some script) marks q s b → HoldSameFiles x.files y.files
+  pub whole_files : (o : Outcome) → unsaved_in marks ≡ 0 → IsWhole o v x (Some script) marks r s a
+      → IsWhole o w y (Some script) marks q s b → HoldSameFiles x.files y.files
   whole_files (opened f u) none h k =
       let first : World = record { session = start_of f u; store = h.2 } in
       let other : World = record { session = start_of f u; store = k.2 } in
       let hold : HoldSameFiles h.3.store.files k.3.store.files =
-      played_files first other h.3 k.3 script marks r q s h.1 k.1 none refl (both_tell h.2.files k.2.files all (h.4.0 ∙ ev) (k.4.0 ∙ ew)) final
-      (subst (λ z. IsPlayed first z marks r s h.3 h.1) (sym h.5) h.6) (subst (λ z. IsPlayed other z marks q s k.3 k.1) (sym k.5) k.6) in
-      moved h.3.store.files x.files k.3.store.files y.files (sym (ap (λ z. z.files) h.7)) (sym (ap (λ z. z.files) k.7)) hold
+      played_files first other h.3 k.3 script marks r q s h.1 k.1 none refl
+      (both_tell h.2.files k.2.files all (h.4.0 ∙ ev) (k.4.0 ∙ ew)) final
+      (subst (λ z. IsPlayed first z marks r s h.3 h.1) (sym h.5) h.6)
+      (subst (λ z. IsPlayed other z marks q s k.3 k.1) (sym k.5) k.6) in
+      moved h.3.store.files x.files k.3.store.files y.files (sym (ap (λ z. z.files) h.7)) (sym (ap (λ z. z.files) k.7))
+      hold
   whole_files faulty_words none h k = unopened_files h.4.0 k.4.0
   whole_files (missing f) none h k = unopened_files h.4.0 k.4.0
   whole_files (file_too_long f) none h k = unopened_files h.4.0 k.4.0
@@ -130,10 +159,17 @@ module _ (v w x y : Stored) (all : Files) (ev : v.files ≡ Some all) (ew : w.fi
   whole_files (store_fault f) none h k = unopened_files h.4.0 k.4.0
   whole_files no_memory none h k = unopened_files h.4.0 k.4.0
 
-pub one_run : (words : List (List ℕ)) (all : Files) (script : List ℕ) (marks : List Mark) (o p : Outcome) (v w x y : Stored) (r q : Option (List ℕ)) (s t : Status) (a b : List ℕ) → IsFinal s → IsFinal t → v.files ≡ Some all → w.files ≡ Some all
-    → ComesTo words (Some all) o → ComesTo words (Some all) p → IsWhole o v x (Some script) marks r s a → IsWhole p w y (Some script) marks q t b → (s ≡ t) × (a ≡ b) × (unsaved_in marks ≡ 0 → HoldSameFiles x.files y.files)
+pub one_run : (words : List (List ℕ)) (all : Files) (script : List ℕ) (marks : List Mark) (o p : Outcome)
+    (v w x y : Stored) (r q : Option (List ℕ)) (s t : Status) (a b : List ℕ) → IsFinal s → IsFinal t
+    → v.files ≡ Some all → w.files ≡ Some all
+    → ComesTo words (Some all) o → ComesTo words (Some all) p → IsWhole o v x (Some script) marks r s a
+    → IsWhole p w y (Some script) marks q t b
+    → (s ≡ t) × (a ≡ b) × (unsaved_in marks ≡ 0 → HoldSameFiles x.files y.files)
 one_run words all script marks o p v w x y r q s t a b fs ft ev ew ho hp h k =
     let said = one_text_run words all script marks o p v w x y r q s t a b fs ft ho hp h k in
-    let same = one_outcome words all p o hp ho (decided p w y (Some script) q marks t b ft k) (decided o v x (Some script) r marks s a fs h) in
-    let other : IsWhole o w y (Some script) marks q s b = subst (λ z. IsWhole o w y (Some script) marks q z b) (sym said.0) (subst (λ z. IsWhole z w y (Some script) marks q t b) same k) in
+    let same = one_outcome words all p o hp ho (decided p w y (Some script) q marks t b ft k)
+    (decided o v x (Some script) r marks s a fs h) in
+    let other : IsWhole o w y (Some script) marks q s b =
+    subst (λ z. IsWhole o w y (Some script) marks q z b) (sym said.0)
+    (subst (λ z. IsWhole z w y (Some script) marks q t b) same k) in
     (said.0, said.1, λ none. whole_files v w x y all ev ew script marks r q s a b fs o none h other)

@@ -30,10 +30,12 @@ use Rattle.tx_session.proofs.Single.{one_outcome}
 pub saves_nothing : (form : Form) (t : WideTree) → has_text_in form t ≡ false → saving form t ≡ no_form
 saves_nothing form t e = ap (λ b. if b then fitting (line (text_in form t)) else no_form) e
 
-saves_fitting : (form : Form) (t : WideTree) → has_text_in form t ≡ true → saving form t ≡ fitting (line (text_in form t))
+saves_fitting : (form : Form) (t : WideTree) → has_text_in form t ≡ true
+    → saving form t ≡ fitting (line (text_in form t))
 saves_fitting form t e = ap (λ b. if b then fitting (line (text_in form t)) else no_form) e
 
-fits_not : (bytes : List ℕ) (b : Bool) → nat_le (length bytes) MOST_FILE ≡ b → b ≡ false → fitting bytes ≡ file_long (length bytes)
+fits_not : (bytes : List ℕ) (b : Bool) → nat_le (length bytes) MOST_FILE ≡ b → b ≡ false
+    → fitting bytes ≡ file_long (length bytes)
 fits_not bytes b e f = ap (λ c. if c then writes bytes else file_long (length bytes)) (e ∙ f)
 
 fits_is : (bytes : List ℕ) (b : Bool) → nat_le (length bytes) MOST_FILE ≡ b → b ≡ true → fitting bytes ≡ writes bytes
@@ -48,37 +50,53 @@ at_most n e = grind arith
 few_enough : (n : ℕ) → n ≤ MOST_FILE → nat_le n MOST_FILE ≡ true
 few_enough n le = grind arith
 
-pub saves_too_many : (form : Form) (t : WideTree) → has_text_in form t ≡ true → MOST_FILE < length (line (text_in form t)) → saving form t ≡ file_long (length (line (text_in form t)))
+pub saves_too_many : (form : Form) (t : WideTree) → has_text_in form t ≡ true
+    → MOST_FILE < length (line (text_in form t)) → saving form t ≡ file_long (length (line (text_in form t)))
 saves_too_many form t e lt = saves_fitting form t e ∙ fits_not (line (text_in form t)) false (too_many _ lt) refl
 
-pub saves_bytes : (form : Form) (t : WideTree) → has_text_in form t ≡ true → length (line (text_in form t)) ≤ MOST_FILE → saving form t ≡ writes (line (text_in form t))
+pub saves_bytes : (form : Form) (t : WideTree) → has_text_in form t ≡ true → length (line (text_in form t)) ≤ MOST_FILE
+    → saving form t ≡ writes (line (text_in form t))
 saves_bytes form t e le = saves_fitting form t e ∙ fits_is (line (text_in form t)) true (few_enough _ le) refl
 
 -- ---- replies
 
 -- a reply that saves nothing
-pub said_save : (name : List ℕ) (t : WideTree) (x : Saving) (reply : Reply) (store : Stored) → saving (form_of name) t ≡ x → file_saved name x ≡ None → Says reply (save_reply x) → IsSaveReply name t reply store store
+pub said_save : (name : List ℕ) (t : WideTree) (x : Saving) (reply : Reply) (store : Stored)
+    → saving (form_of name) t ≡ x → file_saved name x ≡ None → Says reply (save_reply x)
+    → IsSaveReply name t reply store store
 said_save name t x Wanting store e none says = (refl, never_falls_refl _)
 said_save name t x Unsaved store e none says = absurd says
-said_save name t x Done store e none says = (says ∙ ap save_reply (sym e), subst (λ o. Stores o store store) (sym (ap (file_saved name) e ∙ none)) refl)
-said_save name t x (Fixed text) store e none says = (says ∙ ap save_reply (sym e), subst (λ o. Stores o store store) (sym (ap (file_saved name) e ∙ none)) refl)
-said_save name t x (Made text) store e none says = (says ∙ ap save_reply (sym e), subst (λ o. Stores o store store) (sym (ap (file_saved name) e ∙ none)) refl)
+said_save name t x Done store e none says =
+    (says ∙ ap save_reply (sym e), subst (λ o. Stores o store store) (sym (ap (file_saved name) e ∙ none)) refl)
+said_save name t x (Fixed text) store e none says =
+    (says ∙ ap save_reply (sym e), subst (λ o. Stores o store store) (sym (ap (file_saved name) e ∙ none)) refl)
+said_save name t x (Made text) store e none says =
+    (says ∙ ap save_reply (sym e), subst (λ o. Stores o store store) (sym (ap (file_saved name) e ∙ none)) refl)
 
 -- the reply where the bytes were given to the store
-module _ (name : List ℕ) (t : WideTree) (bytes : List ℕ) (before after : Stored) (e : saving (form_of name) t ≡ writes bytes) where
-  stored_save : (reply : Reply) → Says reply (save_reply (writes bytes)) → text_of reply ≡ save_reply (writes bytes) → Stores (Some (name, bytes)) before after
-      → (text_of reply ≡ save_reply (saving (form_of name) t)) × Stores (file_saved name (saving (form_of name) t)) before after
-  stored_save reply says same s = (same ∙ ap save_reply (sym e), subst (λ o. Stores o before after) (sym (ap (file_saved name) e)) s)
+module _ (name : List ℕ) (t : WideTree) (bytes : List ℕ) (before after : Stored)
+    (e : saving (form_of name) t ≡ writes bytes) where
+  stored_save : (reply : Reply) → Says reply (save_reply (writes bytes)) → text_of reply ≡ save_reply (writes bytes)
+      → Stores (Some (name, bytes)) before after
+      → (text_of reply ≡ save_reply (saving (form_of name) t)) × Stores (file_saved name (saving (form_of name) t))
+      before after
+  stored_save reply says same s =
+      (same ∙ ap save_reply (sym e), subst (λ o. Stores o before after) (sym (ap (file_saved name) e)) s)
 
-  pub kept_save : (given result : Reply) → Says given (save_reply (writes bytes)) → IsKeepReply name bytes given result before after → IsSaveReply name t result before after
+  pub kept_save : (given result : Reply) → Says given (save_reply (writes bytes))
+      → IsKeepReply name bytes given result before after → IsSaveReply name t result before after
   kept_save given Wanting says k = k
   kept_save given Unsaved says k = (bytes, e, k)
-  kept_save given Done says k = let same : Says Done (save_reply (writes bytes)) = subst (λ r. Says r (save_reply (writes bytes))) (sym k.0) says in stored_save Done same same k.1
-  kept_save given (Fixed text) says k = let same : Says (Fixed text) (save_reply (writes bytes)) = subst (λ r. Says r (save_reply (writes bytes))) (sym k.0) says in stored_save (Fixed text) same same k.1
-  kept_save given (Made text) says k = let same : Says (Made text) (save_reply (writes bytes)) = subst (λ r. Says r (save_reply (writes bytes))) (sym k.0) says in stored_save (Made text) same same k.1
+  kept_save given Done says k = let same : Says Done (save_reply (writes bytes)) =
+      subst (λ r. Says r (save_reply (writes bytes))) (sym k.0) says in stored_save Done same same k.1
+  kept_save given (Fixed text) says k = let same : Says (Fixed text) (save_reply (writes bytes)) =
+      subst (λ r. Says r (save_reply (writes bytes))) (sym k.0) says in stored_save (Fixed text) same same k.1
+  kept_save given (Made text) says k = let same : Says (Made text) (save_reply (writes bytes)) =
+      subst (λ r. Says r (save_reply (writes bytes))) (sym k.0) says in stored_save (Made text) same same k.1
 
 -- a reply that was given, where the store kept the bytes
-pub keeps_given : (name bytes : List ℕ) (given : Reply) (before after : Stored) → (given ≡ Wanting → ⊥) → (given ≡ Unsaved → ⊥) → Stores (Some (name, bytes)) before after → IsKeepReply name bytes given given before after
+pub keeps_given : (name bytes : List ℕ) (given : Reply) (before after : Stored) → (given ≡ Wanting → ⊥)
+    → (given ≡ Unsaved → ⊥) → Stores (Some (name, bytes)) before after → IsKeepReply name bytes given given before after
 keeps_given name bytes Wanting before after n u s = absurd (n refl)
 keeps_given name bytes Unsaved before after n u s = absurd (u refl)
 keeps_given name bytes Done before after n u s = (refl, s)
@@ -94,19 +112,24 @@ says_something (Made t) text h e = cc
 
 -- ---- what is saved spells the tree alone
 
-saved_text : (form : Form) (t : WideTree) (bytes : List ℕ) (b : Bool) → has_text_in form t ≡ b → saving form t ≡ writes bytes → (has_text_in form t ≡ true) × (bytes ≡ line (text_in form t))
+saved_text : (form : Form) (t : WideTree) (bytes : List ℕ) (b : Bool) → has_text_in form t ≡ b
+    → saving form t ≡ writes bytes → (has_text_in form t ≡ true) × (bytes ≡ line (text_in form t))
 saved_text form t bytes false h e = let none : no_form ≡ writes bytes = sym (saves_nothing form t h) ∙ e in absurd cc
 saved_text form t bytes true h e = (h, by_size (nat_le (length (line (text_in form t))) MOST_FILE) refl)
   where
     by_size : (c : Bool) → nat_le (length (line (text_in form t))) MOST_FILE ≡ c → bytes ≡ line (text_in form t)
-    by_size false k = let long : file_long (length (line (text_in form t))) ≡ writes bytes = sym (saves_fitting form t h ∙ fits_not (line (text_in form t)) false k refl) ∙ e in absurd cc
-    by_size true k = let same : writes (line (text_in form t)) ≡ writes bytes = sym (saves_fitting form t h ∙ fits_is (line (text_in form t)) true k refl) ∙ e in cc
+    by_size false k = let long : file_long (length (line (text_in form t))) ≡ writes bytes =
+        sym (saves_fitting form t h ∙ fits_not (line (text_in form t)) false k refl) ∙ e in absurd cc
+    by_size true k = let same : writes (line (text_in form t)) ≡ writes bytes =
+        sym (saves_fitting form t h ∙ fits_is (line (text_in form t)) true k refl) ∙ e in cc
 
-line_alone : (form : Form) (t : WideTree) → IsWellFormed t → has_text_in form t ≡ true → SpellsAloneIn form (line (text_in form t)) t
+line_alone : (form : Form) (t : WideTree) → IsWellFormed t → has_text_in form t ≡ true
+    → SpellsAloneIn form (line (text_in form t)) t
 line_alone Scheme t formed h = let a = scheme_alone t formed in (a.spelled, a.alone)
 line_alone Tm t formed h = let a = tm_alone t formed h in (a.spelled, a.alone)
 
-pub saved_alone : (form : Form) (t : WideTree) (bytes : List ℕ) → IsWellFormed t → saving form t ≡ writes bytes → SpellsAloneIn form bytes t
+pub saved_alone : (form : Form) (t : WideTree) (bytes : List ℕ) → IsWellFormed t → saving form t ≡ writes bytes
+    → SpellsAloneIn form bytes t
 saved_alone form t bytes formed e =
     let text = saved_text form t bytes (has_text_in form t) refl e in
     subst (λ bs. SpellsAloneIn form bs t) (sym text.1) (line_alone form t formed text.0)
@@ -116,10 +139,13 @@ saved_alone form t bytes formed e =
 saved_short : (form : Form) (t : WideTree) (bytes : List ℕ) → saving form t ≡ writes bytes → length bytes ≤ MOST_FILE
 saved_short form t bytes e = by_form (has_text_in form t) refl
   where
-    by_size : has_text_in form t ≡ true → (c : Bool) → nat_le (length (line (text_in form t))) MOST_FILE ≡ c → length bytes ≤ MOST_FILE
-    by_size h false k = let long : file_long (length (line (text_in form t))) ≡ writes bytes = sym (saves_fitting form t h ∙ fits_not (line (text_in form t)) false k refl) ∙ e in absurd cc
+    by_size : has_text_in form t ≡ true → (c : Bool) → nat_le (length (line (text_in form t))) MOST_FILE ≡ c
+        → length bytes ≤ MOST_FILE
+    by_size h false k = let long : file_long (length (line (text_in form t))) ≡ writes bytes =
+        sym (saves_fitting form t h ∙ fits_not (line (text_in form t)) false k refl) ∙ e in absurd cc
     by_size h true k =
-        let same : writes (line (text_in form t)) ≡ writes bytes = sym (saves_fitting form t h ∙ fits_is (line (text_in form t)) true k refl) ∙ e in
+        let same : writes (line (text_in form t)) ≡ writes bytes =
+        sym (saves_fitting form t h ∙ fits_is (line (text_in form t)) true k refl) ∙ e in
         let is : line (text_in form t) ≡ bytes = cc in
         subst (λ bs. length bs ≤ MOST_FILE) is (at_most (length (line (text_in form t))) k)
 
@@ -127,8 +153,17 @@ saved_short form t bytes e = by_form (has_text_in form t) refl
     by_form false h = let none : no_form ≡ writes bytes = sym (saves_nothing form t h) ∙ e in absurd cc
     by_form true h = by_size h (nat_le (length (line (text_in form t))) MOST_FILE) refl
 
-pub opens_again : (words : List (List ℕ)) (all : Files) (name bytes : List ℕ) (t : WideTree) (o : Outcome) → IsWellFormed t → IsWithinLimits t → saving (form_of name) t ≡ writes bytes
+pub opens_again : (words : List (List ℕ)) (all : Files) (name bytes : List ℕ) (t : WideTree) (o : Outcome)
+    → IsWellFormed t → IsWithinLimits t → saving (form_of name) t ≡ writes bytes
     → Asks words name → file_of all name ≡ Some bytes → ComesTo words (Some all) o → IsDecided o → o ≡ opened name t
 opens_again words all name bytes t o formed within e asks held comes decided =
-    one_outcome words all o (opened name t) comes
-    (asks, (bytes, held, omega (arith, saved_short (form_of name) t bytes e), (saved_alone (form_of name) t bytes formed e).0, within)) decided tt
+    one_outcome words all o (opened name t) comes (
+      asks,
+      (
+        bytes,
+        held,
+        omega (arith, saved_short (form_of name) t bytes e),
+        (saved_alone (form_of name) t bytes formed e).0,
+        within,
+      ),
+    ) decided tt

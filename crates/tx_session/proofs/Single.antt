@@ -29,7 +29,8 @@ one_fault : (form : Form) (bytes : List ℕ) (f g : ReadFault) → IsFaultIn for
 one_fault Scheme bytes f g h k = scheme_fault_once bytes f g h k
 one_fault Tm bytes f g h k = tm_fault_once bytes f g h k
 
-pub no_fault : (form : Form) (bytes : List ℕ) (f : ReadFault) (t : WideTree) → IsFaultIn form bytes f → SpellsIn form bytes t → IsWithinLimits t → ⊥
+pub no_fault : (form : Form) (bytes : List ℕ) (f : ReadFault) (t : WideTree) → IsFaultIn form bytes f
+    → SpellsIn form bytes t → IsWithinLimits t → ⊥
 no_fault Scheme bytes f t h k w = scheme_no_fault bytes f t h k w
 no_fault Tm bytes f t h k w = no_fault_of SpellsTm IsTmKind tm_tree_once bytes f t h k w
 
@@ -58,23 +59,35 @@ module _ (words : List (List ℕ)) (all : Files) where
   missing_there : (f g bytes : List ℕ) → f ≡ g → file_of all f ≡ None → file_of all g ≡ Some bytes → ⊥
   missing_there f g bytes e h k = let n : file_of all g ≡ None = file_same f g None e h in cc
 
-  long_short : (f g bytes : List ℕ) → f ≡ g → IsSomeAnd (file_of all f) LongIs → file_of all g ≡ Some bytes → length bytes ≤ 2 ^ 24 → ⊥
-  long_short f g bytes e h k le = let long : LongIs bytes = some_holds LongIs (file_of all f) bytes (file_same g f (Some bytes) (sym e) k) h in omega arith
+  long_short : (f g bytes : List ℕ) → f ≡ g → IsSomeAnd (file_of all f) LongIs → file_of all g ≡ Some bytes
+      → length bytes ≤ 2 ^ 24 → ⊥
+  long_short f g bytes e h k le = let long : LongIs bytes =
+      some_holds LongIs (file_of all f) bytes (file_same g f (Some bytes) (sym e) k) h in omega arith
 
   bytes_same : (f g a b : List ℕ) → f ≡ g → file_of all f ≡ Some a → file_of all g ≡ Some b → a ≡ b
   bytes_same f g a b e h k = let n : file_of all g ≡ Some a = file_same f g (Some a) e h in cc
 
   -- a file has one fault, and a tree or a fault
-  fault_same : (f g a b : List ℕ) (c d : ReadFault) → f ≡ g → a ≡ b → IsFaultIn (form_of f) a c → IsFaultIn (form_of g) b d → c ≡ d
-  fault_same f g a b c d e s h k = one_fault (form_of f) a c d h (subst (λ name. IsFaultIn (form_of name) a d) (sym e) (subst (λ bs. IsFaultIn (form_of g) bs d) (sym s) k))
+  fault_same : (f g a b : List ℕ) (c d : ReadFault) → f ≡ g → a ≡ b → IsFaultIn (form_of f) a c
+      → IsFaultIn (form_of g) b d → c ≡ d
+  fault_same f g a b c d e s h k =
+      one_fault (form_of f) a c d h
+      (subst (λ name. IsFaultIn (form_of name) a d) (sym e) (subst (λ bs. IsFaultIn (form_of g) bs d) (sym s) k))
 
-  fault_or_tree : (f g a b : List ℕ) (c : ReadFault) (t : WideTree) → f ≡ g → a ≡ b → IsFaultIn (form_of f) a c → SpellsIn (form_of g) b t → IsWithinLimits t → ⊥
-  fault_or_tree f g a b c t e s h k w = no_fault (form_of f) a c t h (subst (λ name. SpellsIn (form_of name) a t) (sym e) (subst (λ bs. SpellsIn (form_of g) bs t) (sym s) k)) w
+  fault_or_tree : (f g a b : List ℕ) (c : ReadFault) (t : WideTree) → f ≡ g → a ≡ b → IsFaultIn (form_of f) a c
+      → SpellsIn (form_of g) b t → IsWithinLimits t → ⊥
+  fault_or_tree f g a b c t e s h k w =
+      no_fault (form_of f) a c t h
+      (subst (λ name. SpellsIn (form_of name) a t) (sym e) (subst (λ bs. SpellsIn (form_of g) bs t) (sym s) k)) w
 
-  tree_same : (f g a b : List ℕ) (t u : WideTree) → f ≡ g → a ≡ b → SpellsIn (form_of f) a t → SpellsIn (form_of g) b u → t ≡ u
-  tree_same f g a b t u e s h k = one_tree (form_of f) a t u h (subst (λ name. SpellsIn (form_of name) a u) (sym e) (subst (λ bs. SpellsIn (form_of g) bs u) (sym s) k))
+  tree_same : (f g a b : List ℕ) (t u : WideTree) → f ≡ g → a ≡ b → SpellsIn (form_of f) a t → SpellsIn (form_of g) b u
+      → t ≡ u
+  tree_same f g a b t u e s h k =
+      one_tree (form_of f) a t u h
+      (subst (λ name. SpellsIn (form_of name) a u) (sym e) (subst (λ bs. SpellsIn (form_of g) bs u) (sym s) k))
 
-  pub one_outcome : (o p : Outcome) → ComesTo words (Some all) o → ComesTo words (Some all) p → IsDecided o → IsDecided p → o ≡ p
+  pub one_outcome : (o p : Outcome) → ComesTo words (Some all) o → ComesTo words (Some all) p → IsDecided o
+      → IsDecided p → o ≡ p
   one_outcome (store_fault f) p h k d e = absurd d
   one_outcome no_memory p h k d e = absurd d
   one_outcome faulty_words (store_fault g) h k d e = absurd e
@@ -96,13 +109,15 @@ module _ (words : List (List ℕ)) (all : Files) where
   one_outcome (too_long f) faulty_words h k d e = let a = h.0 in absurd cc
   one_outcome (too_long f) (missing g) h k d e = absurd (missing_long g f (asked_once g f k.0 h.0) k.1 h.1)
   one_outcome (too_long f) (too_long g) h k d e = ap too_long (asked_once f g h.0 k.0)
-  one_outcome (too_long f) (no_tree g c) h k d e = absurd (long_short f g k.1.0 (asked_once f g h.0 k.0) h.1 k.1.1 k.1.2)
+  one_outcome (too_long f) (no_tree g c) h k d e =
+      absurd (long_short f g k.1.0 (asked_once f g h.0 k.0) h.1 k.1.1 k.1.2)
   one_outcome (too_long f) (opened g u) h k d e = absurd (long_short f g k.1.0 (asked_once f g h.0 k.0) h.1 k.1.1 k.1.2)
   one_outcome (no_tree f c) (store_fault g) h k d e = absurd e
   one_outcome (no_tree f c) no_memory h k d e = absurd e
   one_outcome (no_tree f c) faulty_words h k d e = let a = h.0 in absurd cc
   one_outcome (no_tree f c) (missing g) h k d e = absurd (missing_there g f h.1.0 (asked_once g f k.0 h.0) k.1 h.1.1)
-  one_outcome (no_tree f c) (too_long g) h k d e = absurd (long_short g f h.1.0 (asked_once g f k.0 h.0) k.1 h.1.1 h.1.2)
+  one_outcome (no_tree f c) (too_long g) h k d e =
+      absurd (long_short g f h.1.0 (asked_once g f k.0 h.0) k.1 h.1.1 h.1.2)
   one_outcome (no_tree f c) (no_tree g b) h k d e =
       let named = asked_once f g h.0 k.0 in
       let same = bytes_same f g h.1.0 k.1.0 named h.1.1 k.1.1 in

@@ -26,7 +26,8 @@ pub record IsPut (s next : Inside) (p : Prepared) : Type 0 where
   pub cursor : next.cursor ≡ p.cursor
   pub depth : next.history.depth ≡ s.history.depth
 
-led : (s : Inside) (p : Prepared) → IsKept s → IsReady (state_of s) p → IsLedBack s.buffers.items p.buffer p.tree p.back s.cursor
+led : (s : Inside) (p : Prepared) → IsKept s → IsReady (state_of s) p
+    → IsLedBack s.buffers.items p.buffer p.tree p.back s.cursor
 led s p kept r = record { within = r.buffer; returns = r.back; place = kept.cursor }
 
 -- the fields behind a change, with the entries that are known
@@ -36,17 +37,21 @@ record IsNext (s next : Inside) (p : Prepared) (past future : List Entry) : Type
   back : AllLead (with_tree s.buffers.items p.buffer p.tree) past
   on : AllLead (with_tree s.buffers.items p.buffer p.tree) future
 
-next_kept : (s next : Inside) (p : Prepared) (past future : List Entry) → IsKept s → IsReady (state_of s) p → IsPut s next p → IsNext s next p past future → IsKept next
+next_kept : (s next : Inside) (p : Prepared) (past future : List Entry) → IsKept s → IsReady (state_of s) p
+    → IsPut s next p → IsNext s next p past future → IsKept next
 next_kept s next p past future kept r put h =
     let bs : List Buffer = with_tree s.buffers.items p.buffer p.tree in
     let same : bs ≡ next.buffers.items = sym put.buffers in
-    let long : length s.buffers.items ≡ length next.buffers.items = sym (length_put s.buffers.items p.buffer p.tree r.buffer) ∙ ap length same in
+    let long : length s.buffers.items ≡ length next.buffers.items =
+    sym (length_put s.buffers.items p.buffer p.tree r.buffer) ∙ ap length same in
     record {
       some = subst (λ n. 1 ≤ n) long kept.some;
       few = subst (λ n. n ≤ 16) long kept.few;
       names = subst NamesDiffer same (names_put s.buffers.items p.buffer p.tree r.buffer kept.names);
-      selected = subst (λ n. next.selected < n) long (subst (λ n. n < length s.buffers.items) (sym put.selected) kept.selected);
-      cursor = subst (λ d. IsPlace (document_of next.buffers.items) d.path d.offset) (sym put.cursor) (subst (λ cs. IsPlace (document_of cs) p.cursor.path p.cursor.offset) same r.cursor);
+      selected = subst (λ n. next.selected < n) long
+          (subst (λ n. n < length s.buffers.items) (sym put.selected) kept.selected);
+      cursor = subst (λ d. IsPlace (document_of next.buffers.items) d.path d.offset) (sym put.cursor)
+          (subst (λ cs. IsPlace (document_of cs) p.cursor.path p.cursor.offset) same r.cursor);
       past = subst (AllLead next.buffers.items) (sym h.done) (subst (λ cs. AllLead cs past) same h.back);
       future = subst (AllLead next.buffers.items) (sym h.left) (subst (λ cs. AllLead cs future) same h.on);
       depth = put.depth ∙ kept.depth;
@@ -65,7 +70,8 @@ next_is s next p past future put h =
     rw (put.buffers, put.selected, put.cursor, h.done, h.left) refl
 
 pub edit_kept : (s next : Inside) (p : Prepared) → IsKept s → IsReady (state_of s) p → IsPut s next p
-    → next.history.past ≡ newest s.history.depth (s.history.past ++ entry_of p.buffer p.back s.cursor ∷ []) → next.history.future ≡ []
+    → next.history.past ≡ newest s.history.depth (s.history.past ++ entry_of p.buffer p.back s.cursor ∷ [])
+    → next.history.future ≡ []
     → IsKept next × (with_edit (state_of s) p ≡ state_of next)
 edit_kept s next p kept r put was empty =
     let bs : List Buffer = s.buffers.items in
@@ -78,19 +84,32 @@ edit_kept s next p kept r put was empty =
     record {
       done = past;
       left = ap reverse empty;
-      back = lead_of_take MOST_UNDO (with_tree bs p.buffer p.tree) es (lead_back bs p.buffer p.tree p.back s.cursor (reverse s.history.past) l kept.past);
+      back = lead_of_take MOST_UNDO (with_tree bs p.buffer p.tree) es
+          (lead_back bs p.buffer p.tree p.back s.cursor (reverse s.history.past) l kept.past);
       on = tt;
     } in
     let seen : kept_edits undoes (with_tree bs p.buffer p.tree) (take MOST_UNDO es)
-    ≡ take MOST_UNDO (record { moment = record { buffers = bs; cursor = s.cursor }; buffer = p.buffer; mods = p.mods } ∷ kept_edits undoes bs (reverse s.history.past)) =
-    edits_of_take undoes MOST_UNDO (with_tree bs p.buffer p.tree) es ∙ ap (take MOST_UNDO) (undoes_back bs p.buffer p.tree p.back p.mods s.cursor (reverse s.history.past) l r.again) in (
+    ≡ take MOST_UNDO
+    (record { moment = record { buffers = bs; cursor = s.cursor }; buffer = p.buffer; mods = p.mods } ∷ kept_edits
+    undoes bs (reverse s.history.past)) =
+    edits_of_take undoes MOST_UNDO (with_tree bs p.buffer p.tree) es
+    ∙ ap (take MOST_UNDO)
+    (undoes_back bs p.buffer p.tree p.back p.mods s.cursor (reverse s.history.past) l r.again) in (
       next_kept s next p (take MOST_UNDO es) [] kept r put h,
-      ap (λ ks. record { buffers = with_tree bs p.buffer p.tree; selected = s.selected; cursor = p.cursor; past = ks; future = [] }) (sym seen)
+      ap (λ ks. record {
+        buffers = with_tree bs p.buffer p.tree;
+        selected = s.selected;
+        cursor = p.cursor;
+        past = ks;
+        future = [];
+      }) (sym seen)
           ∙ next_is s next p (take MOST_UNDO es) [] put h,
     )
 
-pub undo_kept : (s next : Inside) (p : Prepared) (e : Entry) (rest : List Entry) → IsKept s → IsReadyUndo (state_of s) p → IsPut s next p
-    → s.history.past ≡ rest ++ e ∷ [] → next.history.past ≡ rest → next.history.future ≡ s.history.future ++ entry_of p.buffer p.back s.cursor ∷ []
+pub undo_kept : (s next : Inside) (p : Prepared) (e : Entry) (rest : List Entry) → IsKept s → IsReadyUndo (state_of s) p
+    → IsPut s next p
+    → s.history.past ≡ rest ++ e ∷ [] → next.history.past ≡ rest
+    → next.history.future ≡ s.history.future ++ entry_of p.buffer p.back s.cursor ∷ []
     → IsKept next × (undone (state_of s) ≡ Some (state_of next))
 undo_kept s next p e rest kept r put was past future =
     let bs : List Buffer = s.buffers.items in
@@ -98,8 +117,10 @@ undo_kept s next p e rest kept r put was past future =
     let f : Entry = entry_of p.buffer p.back s.cursor in
     let first : reverse s.history.past ≡ e ∷ reverse rest = turned_round rest e s.history.past was in
     let all : AllLead bs (e ∷ reverse rest) = subst (AllLead bs) first kept.past in
-    let goes : undone (state_of s) ≡ undone (seen_from s (e ∷ reverse rest)) = ap (λ es. undone (seen_from s es)) first in
-    let there : led_to bs e ≡ with_tree bs p.buffer p.tree = ap (λ x. x.buffers) (same_state _ (with_undo (state_of s) p) (sym goes ∙ r.is)) in
+    let goes : undone (state_of s) ≡ undone (seen_from s (e ∷ reverse rest)) =
+    ap (λ es. undone (seen_from s es)) first in
+    let there : led_to bs e ≡ with_tree bs p.buffer p.tree =
+    ap (λ x. x.buffers) (same_state _ (with_undo (state_of s) p) (sym goes ∙ r.is)) in
     let h : IsNext s next p (reverse rest) (f ∷ reverse s.history.future) =
     record {
       done = ap reverse past;
@@ -107,20 +128,48 @@ undo_kept s next p e rest kept r put was past future =
       back = subst (λ cs. AllLead cs (reverse rest)) there all.1;
       on = lead_back bs p.buffer p.tree p.back s.cursor (reverse s.history.future) l kept.future;
     } in
-    let behind : drop 1 (kept_edits undoes bs (reverse s.history.past)) ≡ kept_edits undoes (with_tree bs p.buffer p.tree) (reverse rest) =
+    let behind : drop 1 (kept_edits undoes bs (reverse s.history.past)) ≡ kept_edits undoes
+    (with_tree bs p.buffer p.tree) (reverse rest) =
     ap (λ es. drop 1 (kept_edits undoes bs es)) first ∙ ap (λ cs. kept_edits undoes cs (reverse rest)) there in (
       next_kept s next p (reverse rest) (f ∷ reverse s.history.future) kept r.ready put h,
       r.is
-          ∙ ap (λ ks. Some (record { buffers = with_tree bs p.buffer p.tree; selected = s.selected; cursor = p.cursor; past = ks; future = record { moment = record { buffers = bs; cursor = s.cursor }; buffer = p.buffer; mods = p.back } ∷ kept_edits redoes bs (reverse s.history.future) })) behind
-          ∙ ap (λ ks. Some (record { buffers = with_tree bs p.buffer p.tree; selected = s.selected; cursor = p.cursor; past = kept_edits undoes (with_tree bs p.buffer p.tree) (reverse rest); future = ks })) (sym (redoes_back bs p.buffer p.tree p.back s.cursor (reverse s.history.future) l))
+          ∙ ap (λ ks.
+          Some (record {
+            buffers = with_tree bs p.buffer p.tree;
+            selected = s.selected;
+            cursor = p.cursor;
+            past = ks;
+            future =
+                record { moment = record { buffers = bs; cursor = s.cursor }; buffer = p.buffer; mods = p.back }
+                ∷ kept_edits redoes bs (reverse s.history.future);
+          })) behind
+          ∙ ap (λ ks.
+          Some (record {
+            buffers = with_tree bs p.buffer p.tree;
+            selected = s.selected;
+            cursor = p.cursor;
+            past = kept_edits undoes (with_tree bs p.buffer p.tree) (reverse rest);
+            future = ks;
+          }))
+          (sym (redoes_back bs p.buffer p.tree p.back s.cursor (reverse s.history.future) l))
           ∙ ap (λ z. Some z) (next_is s next p (reverse rest) (f ∷ reverse s.history.future) put h),
     )
   where
     seen_from : Inside → List Entry → State
-    seen_from s es = record { buffers = s.buffers.items; selected = s.selected; cursor = s.cursor; past = kept_edits undoes s.buffers.items es; future = kept_edits redoes s.buffers.items (reverse s.history.future) }
+    seen_from s es =
+        record {
+          buffers = s.buffers.items;
+          selected = s.selected;
+          cursor = s.cursor;
+          past = kept_edits undoes s.buffers.items es;
+          future =
+              kept_edits redoes s.buffers.items (reverse s.history.future);
+        }
 
-pub redo_kept : (s next : Inside) (p : Prepared) (e : Entry) (rest : List Entry) → IsKept s → IsReadyRedo (state_of s) p → IsPut s next p
-    → s.history.future ≡ rest ++ e ∷ [] → next.history.future ≡ rest → next.history.past ≡ s.history.past ++ entry_of p.buffer p.back s.cursor ∷ []
+pub redo_kept : (s next : Inside) (p : Prepared) (e : Entry) (rest : List Entry) → IsKept s → IsReadyRedo (state_of s) p
+    → IsPut s next p
+    → s.history.future ≡ rest ++ e ∷ [] → next.history.future ≡ rest
+    → next.history.past ≡ s.history.past ++ entry_of p.buffer p.back s.cursor ∷ []
     → IsKept next × (redone (state_of s) ≡ Some (state_of next))
 redo_kept s next p e rest kept r put was future past =
     let bs : List Buffer = s.buffers.items in
@@ -129,7 +178,8 @@ redo_kept s next p e rest kept r put was future past =
     let first : reverse s.history.future ≡ e ∷ reverse rest = turned_round rest e s.history.future was in
     let all : AllLead bs (e ∷ reverse rest) = subst (AllLead bs) first kept.future in
     let goes : redone (state_of s) ≡ redone (seen_on s (e ∷ reverse rest)) = ap (λ es. redone (seen_on s es)) first in
-    let there : led_to bs e ≡ with_tree bs p.buffer p.tree = ap (λ x. x.buffers) (same_state _ (with_redo (state_of s) p) (sym goes ∙ r.is)) in
+    let there : led_to bs e ≡ with_tree bs p.buffer p.tree =
+    ap (λ x. x.buffers) (same_state _ (with_redo (state_of s) p) (sym goes ∙ r.is)) in
     let h : IsNext s next p (f ∷ reverse s.history.past) (reverse rest) =
     record {
       done = turned_round s.history.past f next.history.past past;
@@ -137,14 +187,39 @@ redo_kept s next p e rest kept r put was future past =
       back = lead_back bs p.buffer p.tree p.back s.cursor (reverse s.history.past) l kept.past;
       on = subst (λ cs. AllLead cs (reverse rest)) there all.1;
     } in
-    let behind : drop 1 (kept_edits redoes bs (reverse s.history.future)) ≡ kept_edits redoes (with_tree bs p.buffer p.tree) (reverse rest) =
+    let behind : drop 1 (kept_edits redoes bs (reverse s.history.future)) ≡ kept_edits redoes
+    (with_tree bs p.buffer p.tree) (reverse rest) =
     ap (λ es. drop 1 (kept_edits redoes bs es)) first ∙ ap (λ cs. kept_edits redoes cs (reverse rest)) there in (
       next_kept s next p (f ∷ reverse s.history.past) (reverse rest) kept r.ready put h,
       r.is
-          ∙ ap (λ ks. Some (record { buffers = with_tree bs p.buffer p.tree; selected = s.selected; cursor = p.cursor; past = record { moment = record { buffers = bs; cursor = s.cursor }; buffer = p.buffer; mods = p.mods } ∷ kept_edits undoes bs (reverse s.history.past); future = ks })) behind
-          ∙ ap (λ ks. Some (record { buffers = with_tree bs p.buffer p.tree; selected = s.selected; cursor = p.cursor; past = ks; future = kept_edits redoes (with_tree bs p.buffer p.tree) (reverse rest) })) (sym (undoes_back bs p.buffer p.tree p.back p.mods s.cursor (reverse s.history.past) l r.ready.again))
+          ∙ ap (λ ks.
+          Some (record {
+            buffers = with_tree bs p.buffer p.tree;
+            selected = s.selected;
+            cursor = p.cursor;
+            past = record { moment = record { buffers = bs; cursor = s.cursor }; buffer = p.buffer; mods = p.mods }
+                ∷ kept_edits undoes bs (reverse s.history.past);
+            future = ks;
+          })) behind
+          ∙ ap (λ ks.
+          Some (record {
+            buffers = with_tree bs p.buffer p.tree;
+            selected = s.selected;
+            cursor = p.cursor;
+            past = ks;
+            future = kept_edits redoes (with_tree bs p.buffer p.tree) (reverse rest);
+          }))
+          (sym (undoes_back bs p.buffer p.tree p.back p.mods s.cursor (reverse s.history.past) l r.ready.again))
           ∙ ap (λ z. Some z) (next_is s next p (f ∷ reverse s.history.past) (reverse rest) put h),
     )
   where
     seen_on : Inside → List Entry → State
-    seen_on s es = record { buffers = s.buffers.items; selected = s.selected; cursor = s.cursor; past = kept_edits undoes s.buffers.items (reverse s.history.past); future = kept_edits redoes s.buffers.items es }
+    seen_on s es =
+        record {
+          buffers = s.buffers.items;
+          selected = s.selected;
+          cursor = s.cursor;
+          past = kept_edits undoes s.buffers.items (reverse s.history.past);
+          future =
+              kept_edits redoes s.buffers.items es;
+        }

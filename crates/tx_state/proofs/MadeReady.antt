@@ -41,42 +41,54 @@ pub record IsMadeReady (s : State) (edit : Edit) (p : Prepared) (place : Option 
   pub tree : changed_in_turn edit.mods (tree_of s.buffers edit.buffer) ≡ Ok p.tree
   pub back : p.back ≡ inverses_of edit.mods (tree_of s.buffers edit.buffer)
   pub undone : AreUndone edit.mods (tree_of s.buffers edit.buffer) p.tree
-  pub moved : place ≡ option_map (moved_in_turn edit.mods (tree_of s.buffers edit.buffer)) (if edit.buffer == 0 then Some s.cursor else None)
+  pub moved : place ≡ option_map (moved_in_turn edit.mods (tree_of s.buffers edit.buffer))
+      (if edit.buffer == 0 then Some s.cursor else None)
   pub valid : IsPlaceIn p.tree place
   pub cursor : p.cursor ≡ option_map_or (λ q. q) edit.cursor (option_map_or (λ q. q) place s.cursor)
 
 -- the cursor that an edit doesn't give
 unless_given : (s : State) (edit : Edit) (b : Bool) (place : Option Place) → (b ≡ true → edit.buffer ≡ 0)
     → place ≡ option_map (moved_in_turn edit.mods (tree_of s.buffers edit.buffer)) (if b then Some s.cursor else None)
-    → option_map_or (λ q. q) place s.cursor ≡ (if b then moved_in_turn edit.mods (document_of s.buffers) s.cursor else s.cursor)
-unless_given s edit true place z h = ap (λ o. option_map_or (λ q. q) o s.cursor) h ∙ ap (λ k. moved_in_turn edit.mods (tree_of s.buffers k) s.cursor) (z refl)
+    → option_map_or (λ q. q) place s.cursor
+    ≡ (if b then moved_in_turn edit.mods (document_of s.buffers) s.cursor else s.cursor)
+unless_given s edit true place z h =
+    ap (λ o. option_map_or (λ q. q) o s.cursor) h ∙ ap (λ k. moved_in_turn edit.mods (tree_of s.buffers k) s.cursor)
+    (z refl)
 unless_given s edit false place z h = ap (λ o. option_map_or (λ q. q) o s.cursor) h
 
-valid_unless : (s : State) (edit : Edit) (u : WideTree) (b : Bool) (place : Option Place) → edit.buffer < length s.buffers → (b ≡ true → edit.buffer ≡ 0) → (b ≡ false → 0 < edit.buffer)
-    → place ≡ option_map (moved_in_turn edit.mods (tree_of s.buffers edit.buffer)) (if b then Some s.cursor else None) → IsPlaceIn u place
+valid_unless : (s : State) (edit : Edit) (u : WideTree) (b : Bool) (place : Option Place)
+    → edit.buffer < length s.buffers → (b ≡ true → edit.buffer ≡ 0) → (b ≡ false → 0 < edit.buffer)
+    → place ≡ option_map (moved_in_turn edit.mods (tree_of s.buffers edit.buffer)) (if b then Some s.cursor else None)
+    → IsPlaceIn u place
     → IsPlace (document_of s.buffers) s.cursor.path s.cursor.offset
-    → IsPlace (document_of (with_tree s.buffers edit.buffer u)) (option_map_or (λ q. q) place s.cursor).path (option_map_or (λ q. q) place s.cursor).offset
+    → IsPlace (document_of (with_tree s.buffers edit.buffer u)) (option_map_or (λ q. q) place s.cursor).path
+    (option_map_or (λ q. q) place s.cursor).offset
 valid_unless s edit u true place lt z n h valid at =
     let q : Place = moved_in_turn edit.mods (tree_of s.buffers edit.buffer) s.cursor in
     let there : document_of (with_tree s.buffers edit.buffer u) ≡ u =
-    ap (λ k. document_of (with_tree s.buffers k u)) (z refl) ∙ tree_put s.buffers 0 u (subst (λ k. k < length s.buffers) (z refl) lt) in
+    ap (λ k. document_of (with_tree s.buffers k u)) (z refl)
+    ∙ tree_put s.buffers 0 u (subst (λ k. k < length s.buffers) (z refl) lt) in
     rw (h, there) (subst (IsPlaceIn u) h valid)
 valid_unless s edit u false place lt z n h valid at = rw (h, document_kept s.buffers edit.buffer u (n refl) lt) at
 
 valid_cursor : (s : State) (edit : Edit) (u : WideTree) (o : Option Place) (d : Place)
     → IfSome o (λ at. IsPlace (document_of (with_tree s.buffers edit.buffer u)) at.path at.offset)
     → IsPlace (document_of (with_tree s.buffers edit.buffer u)) d.path d.offset
-    → IsPlace (document_of (with_tree s.buffers edit.buffer u)) (option_map_or (λ q. q) o d).path (option_map_or (λ q. q) o d).offset
+    → IsPlace (document_of (with_tree s.buffers edit.buffer u)) (option_map_or (λ q. q) o d).path
+    (option_map_or (λ q. q) o d).offset
 valid_cursor s edit u None d given h = h
 valid_cursor s edit u (Some at) d given h = given
 
-pub made_ready : (s : State) (edit : Edit) (p : Prepared) (place : Option Place) → IsPlace (document_of s.buffers) s.cursor.path s.cursor.offset → GivesPlace edit s → IsMadeReady s edit p place
+pub made_ready : (s : State) (edit : Edit) (p : Prepared) (place : Option Place)
+    → IsPlace (document_of s.buffers) s.cursor.path s.cursor.offset → GivesPlace edit s → IsMadeReady s edit p place
     → IsReady s p × (p.cursor ≡ cursor_after edit s) × (edited edit s ≡ Ok (with_edit s p))
 made_ready s edit p place at gives m =
     let zero_if : (edit.buffer == 0) ≡ true → edit.buffer ≡ 0 = λ t. eqb-true edit.buffer 0 t in
-    let some_if : (edit.buffer == 0) ≡ false → 0 < edit.buffer = λ t. some_number edit.buffer (eqb-false edit.buffer 0 t) in
+    let some_if : (edit.buffer == 0) ≡ false → 0 < edit.buffer = λ t.
+    some_number edit.buffer (eqb-false edit.buffer 0 t) in
     let is : p.cursor ≡ cursor_after edit s =
-    m.cursor ∙ ap (λ d. option_map_or (λ q. q) edit.cursor d) (unless_given s edit (edit.buffer == 0) place zero_if m.moved) in
+    m.cursor ∙ ap (λ d. option_map_or (λ q. q) edit.cursor d)
+    (unless_given s edit (edit.buffer == 0) place zero_if m.moved) in
     let valid : IsPlace (document_of (with_tree s.buffers edit.buffer p.tree)) p.cursor.path p.cursor.offset =
     subst (λ d. IsPlace (document_of (with_tree s.buffers edit.buffer p.tree)) d.path d.offset) (sym m.cursor)
     (valid_cursor s edit p.tree edit.cursor (option_map_or (λ q. q) place s.cursor) (gives p.tree m.tree)
@@ -87,7 +99,8 @@ made_ready s edit p place at gives m =
         inverses = rw (m.buffer, m.mods) m.back;
         back = rw (m.buffer, m.back) m.undone.back;
         again = rw (m.back, m.mods) m.undone.again;
-        cursor = subst (λ k. IsPlace (document_of (with_tree s.buffers k p.tree)) p.cursor.path p.cursor.offset) (sym m.buffer) valid;
+        cursor = subst (λ k. IsPlace (document_of (with_tree s.buffers k p.tree)) p.cursor.path p.cursor.offset)
+            (sym m.buffer) valid;
       },
       is,
       ap (with_outcome edit s) m.tree
@@ -102,7 +115,8 @@ made_ready s edit p place at gives m =
 
 -- ---- undo and redo
 
-along_there : (bs : List Buffer) (e : Entry) (p : Prepared) → IsAlong bs e p → led_to bs e ≡ with_tree bs p.buffer p.tree
+along_there : (bs : List Buffer) (e : Entry) (p : Prepared) → IsAlong bs e p
+    → led_to bs e ≡ with_tree bs p.buffer p.tree
 along_there bs e p a = led_there bs e p.tree a.tree ∙ ap (λ k. with_tree bs k p.tree) (sym a.buffer)
 
 along_ready : (s : State) (e : Entry) (p : Prepared) → Leads s.buffers e → IsAlong s.buffers e p → IsReady s p
@@ -114,7 +128,8 @@ along_ready s e p leads a =
       back = rw (a.buffer, a.back) a.undone.back;
       again = rw (a.back, a.mods) a.undone.again;
       cursor = subst (λ d. IsPlace (document_of (with_tree s.buffers p.buffer p.tree)) d.path d.offset) (sym a.cursor)
-          (subst (λ cs. IsPlace (document_of cs) e.cursor.path e.cursor.offset) (along_there s.buffers e p a) leads.cursor);
+          (subst (λ cs. IsPlace (document_of cs) e.cursor.path e.cursor.offset) (along_there s.buffers e p a)
+          leads.cursor);
     }
 
 -- what is known where an entry is the newest of its list
@@ -124,12 +139,14 @@ record IsNewest (entries : List Entry) (e : Entry) : Type 0 where
 
 newest_of : (entries : List Entry) (e : Entry) → last entries ≡ Some e → IsNewest entries e
 newest_of entries e h =
-    let front : List Entry = take (length entries - 1) entries in record { rest = reverse front; is = turned_round front e entries (with_last entries e h) }
+    let front : List Entry = take (length entries - 1) entries in
+    record { rest = reverse front; is = turned_round front e entries (with_last entries e h) }
 
 -- what an undo and a redo promise beside the change that stands ready
 pub record IsUndoReady (s : State) (p : Prepared) : Type 0 where
   pub ready : IsReadyUndo s p
-  pub inverses : (e : KeptEdit) (past : List KeptEdit) → s.past ≡ e ∷ past → (p.buffer ≡ e.buffer) × (p.mods ≡ inverses_of e.mods (tree_of e.moment.buffers e.buffer))
+  pub inverses : (e : KeptEdit) (past : List KeptEdit) → s.past ≡ e ∷ past
+      → (p.buffer ≡ e.buffer) × (p.mods ≡ inverses_of e.mods (tree_of e.moment.buffers e.buffer))
 
 pub record IsRedoReady (s : State) (p : Prepared) : Type 0 where
   pub ready : IsReadyRedo s p
@@ -139,21 +156,27 @@ first_same : (x y : KeptEdit) (xs ys : List KeptEdit) → x ∷ xs ≡ y ∷ ys 
 first_same x y xs ys h = cc
 
 pub undo_leads : (s : Inside) (e : Entry) → IsKept s → last s.history.past ≡ Some e → Leads s.buffers.items e
-undo_leads s e kept h = let all : AllLead s.buffers.items (e ∷ (newest_of s.history.past e h).rest) = subst (AllLead s.buffers.items) (newest_of s.history.past e h).is kept.past in all.0
+undo_leads s e kept h = let all : AllLead s.buffers.items (e ∷ (newest_of s.history.past e h).rest) =
+    subst (AllLead s.buffers.items) (newest_of s.history.past e h).is kept.past in all.0
 
 pub redo_leads : (s : Inside) (e : Entry) → IsKept s → last s.history.future ≡ Some e → Leads s.buffers.items e
-redo_leads s e kept h = let all : AllLead s.buffers.items (e ∷ (newest_of s.history.future e h).rest) = subst (AllLead s.buffers.items) (newest_of s.history.future e h).is kept.future in all.0
+redo_leads s e kept h = let all : AllLead s.buffers.items (e ∷ (newest_of s.history.future e h).rest) =
+    subst (AllLead s.buffers.items) (newest_of s.history.future e h).is kept.future in all.0
 
-pub undo_cost : (s : Inside) (e : Entry) → IsKept s → last s.history.past ≡ Some e → cost_both_ways e.mods ≡ first_cost (state_of s).past
+pub undo_cost : (s : Inside) (e : Entry) → IsKept s → last s.history.past ≡ Some e
+    → cost_both_ways e.mods ≡ first_cost (state_of s).past
 undo_cost s e kept h =
     let leads = undo_leads s e kept h in
     ap (λ n. 2 * n) (sym (cost_back e.mods (tree_of s.buffers.items e.buffer) leads.applies.0 leads.applies.1))
     ∙ ap (λ es. first_cost (kept_edits undoes s.buffers.items es)) (sym (newest_of s.history.past e h).is)
 
-pub redo_cost : (s : Inside) (e : Entry) → IsKept s → last s.history.future ≡ Some e → cost_both_ways e.mods ≡ first_cost (state_of s).future
-redo_cost s e kept h = ap (λ es. first_cost (kept_edits redoes s.buffers.items es)) (sym (newest_of s.history.future e h).is)
+pub redo_cost : (s : Inside) (e : Entry) → IsKept s → last s.history.future ≡ Some e
+    → cost_both_ways e.mods ≡ first_cost (state_of s).future
+redo_cost s e kept h =
+    ap (λ es. first_cost (kept_edits redoes s.buffers.items es)) (sym (newest_of s.history.future e h).is)
 
-pub undo_ready : (s : Inside) (p : Prepared) (e : Entry) → IsKept s → last s.history.past ≡ Some e → IsAlong s.buffers.items e p → IsUndoReady (state_of s) p
+pub undo_ready : (s : Inside) (p : Prepared) (e : Entry) → IsKept s → last s.history.past ≡ Some e
+    → IsAlong s.buffers.items e p → IsUndoReady (state_of s) p
 undo_ready s p e kept h a =
     let bs : List Buffer = s.buffers.items in
     let n = newest_of s.history.past e h in
@@ -163,28 +186,71 @@ undo_ready s p e kept h a =
     let t : WideTree = tree_of bs e.buffer in
     let now : KeptEdit = record { moment = present (state_of s); buffer = e.buffer; mods = undoes bs e } in
     let future : List KeptEdit = (state_of s).future in
-    let behind : kept_edits undoes (led_to bs e) es ≡ drop 1 (kept_edits undoes bs (reverse s.history.past)) = ap (λ xs. drop 1 (kept_edits undoes bs xs)) (sym n.is) in
+    let behind : kept_edits undoes (led_to bs e) es ≡ drop 1 (kept_edits undoes bs (reverse s.history.past)) =
+    ap (λ xs. drop 1 (kept_edits undoes bs xs)) (sym n.is) in
     let turned_is : now ≡ record { moment = present (state_of s); buffer = p.buffer; mods = p.back } =
-    ap (λ k. record { moment = present (state_of s); buffer = k; mods = undoes bs e }) (sym a.buffer) ∙ ap (λ ms. record { moment = present (state_of s); buffer = p.buffer; mods = ms }) (sym a.back) in
+    ap (λ k. record { moment = present (state_of s); buffer = k; mods = undoes bs e }) (sym a.buffer)
+    ∙ ap (λ ms. record { moment = present (state_of s); buffer = p.buffer; mods = ms }) (sym a.back) in
     record {
       ready = record {
         ready = along_ready (state_of s) e p all.0 a;
-        is = ap (λ xs. undone (record { buffers = bs; selected = s.selected; cursor = s.cursor; past = kept_edits undoes bs xs; future = future })) n.is
-            ∙ ap (λ cs. Some (record { buffers = cs; selected = s.selected; cursor = e.cursor; past = kept_edits undoes (led_to bs e) es; future = now ∷ future })) there
-            ∙ ap (λ d. Some (record { buffers = with_tree bs p.buffer p.tree; selected = s.selected; cursor = d; past = kept_edits undoes (led_to bs e) es; future = now ∷ future })) (sym a.cursor)
-            ∙ ap (λ ks. Some (record { buffers = with_tree bs p.buffer p.tree; selected = s.selected; cursor = p.cursor; past = ks; future = now ∷ future })) behind
-            ∙ ap (λ k. Some (record { buffers = with_tree bs p.buffer p.tree; selected = s.selected; cursor = p.cursor; past = drop 1 (kept_edits undoes bs (reverse s.history.past)); future = k ∷ future })) turned_is;
+        is = ap (λ xs.
+            undone (record {
+              buffers = bs;
+              selected = s.selected;
+              cursor = s.cursor;
+              past = kept_edits undoes bs xs;
+              future = future;
+            })) n.is
+            ∙ ap (λ cs.
+            Some (record {
+              buffers = cs;
+              selected = s.selected;
+              cursor = e.cursor;
+              past = kept_edits undoes (led_to bs e) es;
+              future = now ∷ future;
+            })) there
+            ∙ ap (λ d. Some
+            (record {
+              buffers = with_tree bs p.buffer p.tree;
+              selected = s.selected;
+              cursor = d;
+              past = kept_edits undoes (led_to bs e) es;
+              future = now ∷ future;
+            })) (sym a.cursor)
+            ∙ ap (λ ks.
+            Some (record {
+              buffers = with_tree bs p.buffer p.tree;
+              selected = s.selected;
+              cursor = p.cursor;
+              past = ks;
+              future = now ∷ future;
+            })) behind
+            ∙ ap (λ k. Some
+            (record {
+              buffers = with_tree bs p.buffer p.tree;
+              selected = s.selected;
+              cursor = p.cursor;
+              past = drop 1 (kept_edits undoes bs (reverse s.history.past));
+              future = k ∷ future;
+            })) turned_is;
       };
       inverses = λ k past g.
-          let same : kept_edit undoes bs e ≡ k = first_same (kept_edit undoes bs e) k (kept_edits undoes (led_to bs e) es) past (ap (kept_edits undoes bs) (sym n.is) ∙ g) in
-          let put : tree_of (led_to bs e) e.buffer ≡ p.tree = ap (λ cs. tree_of cs e.buffer) (led_there bs e p.tree a.tree) ∙ tree_put bs e.buffer p.tree all.0.buffer in
-          let back : inverses_of (inverses_of e.mods t) (tree_of (led_to bs e) e.buffer) ≡ e.mods = ap (inverses_of (inverses_of e.mods t)) put ∙ a.undone.again in (
+          let same : kept_edit undoes bs e ≡ k =
+          first_same (kept_edit undoes bs e) k (kept_edits undoes (led_to bs e) es) past
+          (ap (kept_edits undoes bs) (sym n.is) ∙ g) in
+          let put : tree_of (led_to bs e) e.buffer ≡ p.tree =
+          ap (λ cs. tree_of cs e.buffer) (led_there bs e p.tree a.tree)
+          ∙ tree_put bs e.buffer p.tree all.0.buffer in
+          let back : inverses_of (inverses_of e.mods t) (tree_of (led_to bs e) e.buffer) ≡ e.mods =
+          ap (inverses_of (inverses_of e.mods t)) put ∙ a.undone.again in (
             a.buffer ∙ ap (λ x. x.buffer) same,
             a.mods ∙ sym back ∙ ap (λ x. inverses_of x.mods (tree_of x.moment.buffers x.buffer)) same,
           );
     }
 
-pub redo_ready : (s : Inside) (p : Prepared) (e : Entry) → IsKept s → last s.history.future ≡ Some e → IsAlong s.buffers.items e p → IsRedoReady (state_of s) p
+pub redo_ready : (s : Inside) (p : Prepared) (e : Entry) → IsKept s → last s.history.future ≡ Some e
+    → IsAlong s.buffers.items e p → IsRedoReady (state_of s) p
 redo_ready s p e kept h a =
     let bs : List Buffer = s.buffers.items in
     let n = newest_of s.history.future e h in
@@ -193,26 +259,85 @@ redo_ready s p e kept h a =
     let there = along_there bs e p a in
     let now : KeptEdit = record { moment = present (state_of s); buffer = e.buffer; mods = e.mods } in
     let past : List KeptEdit = (state_of s).past in
-    let behind : kept_edits redoes (led_to bs e) es ≡ drop 1 (kept_edits redoes bs (reverse s.history.future)) = ap (λ xs. drop 1 (kept_edits redoes bs xs)) (sym n.is) in
+    let behind : kept_edits redoes (led_to bs e) es ≡ drop 1 (kept_edits redoes bs (reverse s.history.future)) =
+    ap (λ xs. drop 1 (kept_edits redoes bs xs)) (sym n.is) in
     let turned_is : now ≡ record { moment = present (state_of s); buffer = p.buffer; mods = p.mods } =
-    ap (λ k. record { moment = present (state_of s); buffer = k; mods = e.mods }) (sym a.buffer) ∙ ap (λ ms. record { moment = present (state_of s); buffer = p.buffer; mods = ms }) (sym a.mods) in
+    ap (λ k. record { moment = present (state_of s); buffer = k; mods = e.mods }) (sym a.buffer)
+    ∙ ap (λ ms. record { moment = present (state_of s); buffer = p.buffer; mods = ms }) (sym a.mods) in
     record {
       ready = record {
         ready = along_ready (state_of s) e p all.0 a;
-        is = ap (λ xs. redone (record { buffers = bs; selected = s.selected; cursor = s.cursor; past = past; future = kept_edits redoes bs xs })) n.is
-            ∙ ap (λ cs. Some (record { buffers = cs; selected = s.selected; cursor = e.cursor; past = now ∷ past; future = kept_edits redoes (led_to bs e) es })) there
-            ∙ ap (λ d. Some (record { buffers = with_tree bs p.buffer p.tree; selected = s.selected; cursor = d; past = now ∷ past; future = kept_edits redoes (led_to bs e) es })) (sym a.cursor)
-            ∙ ap (λ ks. Some (record { buffers = with_tree bs p.buffer p.tree; selected = s.selected; cursor = p.cursor; past = now ∷ past; future = ks })) behind
-            ∙ ap (λ k. Some (record { buffers = with_tree bs p.buffer p.tree; selected = s.selected; cursor = p.cursor; past = k ∷ past; future = drop 1 (kept_edits redoes bs (reverse s.history.future)) })) turned_is;
+        is = ap (λ xs.
+            redone (record {
+              buffers = bs;
+              selected = s.selected;
+              cursor = s.cursor;
+              past = past;
+              future =
+                  kept_edits redoes bs xs;
+            })) n.is
+            ∙ ap (λ cs.
+            Some (record {
+              buffers = cs;
+              selected = s.selected;
+              cursor = e.cursor;
+              past = now ∷ past;
+              future =
+                  kept_edits redoes (led_to bs e) es;
+            })) there
+            ∙ ap (λ d. Some
+            (record {
+              buffers = with_tree bs p.buffer p.tree;
+              selected = s.selected;
+              cursor = d;
+              past = now ∷ past;
+              future = kept_edits redoes (led_to bs e) es;
+            })) (sym a.cursor)
+            ∙ ap (λ ks.
+            Some (record {
+              buffers = with_tree bs p.buffer p.tree;
+              selected = s.selected;
+              cursor = p.cursor;
+              past = now ∷ past;
+              future = ks;
+            })) behind
+            ∙ ap (λ k. Some
+            (record {
+              buffers = with_tree bs p.buffer p.tree;
+              selected = s.selected;
+              cursor = p.cursor;
+              past = k ∷ past;
+              future = drop 1 (kept_edits redoes bs (reverse s.history.future));
+            })) turned_is;
       };
       same = λ k future g.
-          let one : kept_edit redoes bs e ≡ k = first_same (kept_edit redoes bs e) k (kept_edits redoes (led_to bs e) es) future (ap (kept_edits redoes bs) (sym n.is) ∙ g) in
+          let one : kept_edit redoes bs e ≡ k =
+          first_same (kept_edit redoes bs e) k (kept_edits redoes (led_to bs e) es) future
+          (ap (kept_edits redoes bs) (sym n.is) ∙ g) in
           (a.buffer ∙ ap (λ x. x.buffer) one, a.mods ∙ ap (λ x. x.mods) one);
     }
 
 -- where there is no entry there is no edit
 pub no_undo : (s : Inside) → last s.history.past ≡ None → undone (state_of s) ≡ None
-no_undo s h = ap (λ xs. undone (record { buffers = s.buffers.items; selected = s.selected; cursor = s.cursor; past = kept_edits undoes s.buffers.items (reverse xs); future = (state_of s).future })) (without_last s.history.past h)
+no_undo s h =
+    ap (λ xs. undone
+    (record {
+      buffers = s.buffers.items;
+      selected = s.selected;
+      cursor = s.cursor;
+      past = kept_edits undoes s.buffers.items (reverse xs);
+      future = (state_of s).future;
+    }))
+    (without_last s.history.past h)
 
 pub no_redo : (s : Inside) → last s.history.future ≡ None → redone (state_of s) ≡ None
-no_redo s h = ap (λ xs. redone (record { buffers = s.buffers.items; selected = s.selected; cursor = s.cursor; past = (state_of s).past; future = kept_edits redoes s.buffers.items (reverse xs) })) (without_last s.history.future h)
+no_redo s h =
+    ap (λ xs. redone
+    (record {
+      buffers = s.buffers.items;
+      selected = s.selected;
+      cursor = s.cursor;
+      past = (state_of s).past;
+      future =
+          kept_edits redoes s.buffers.items (reverse xs);
+    })) (without_last s.history.future h)

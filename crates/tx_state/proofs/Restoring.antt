@@ -25,13 +25,15 @@ step_kept : (step : State → Option State) (o : Option State) → option_and_th
 step_kept step None = refl
 step_kept step (Some s) = refl
 
-step_further : (step : State → Option State) (n : ℕ) → ((s : State) → times step (suc n) s ≡ option_and_then step (times step n s)) → (o : Option State)
+step_further : (step : State → Option State) (n : ℕ)
+    → ((s : State) → times step (suc n) s ≡ option_and_then step (times step n s)) → (o : Option State)
     → option_and_then (times step (suc n)) o ≡ option_and_then step (option_and_then (times step n) o)
 step_further step n on None = refl
 step_further step n on (Some s) = on s
 
 -- one step more at the end
-last_step : (step : State → Option State) (n : ℕ) (s : State) → times step (suc n) s ≡ option_and_then step (times step n s)
+last_step : (step : State → Option State) (n : ℕ) (s : State)
+    → times step (suc n) s ≡ option_and_then step (times step n s)
 last_step step zero s = step_kept step (step s)
 last_step step (suc n) s = step_further step n (λ x. last_step step n x) (step s)
 
@@ -99,11 +101,13 @@ no_redo e s u h = ap redone (found e s u h).1
 
 -- ---- undos
 
-undo_to : (u : State) (kept : KeptEdit) (ps : List KeptEdit) → u.past ≡ kept ∷ ps → undone u ≡ Some (at_moment u kept ps (turned u kept ∷ u.future))
+undo_to : (u : State) (kept : KeptEdit) (ps : List KeptEdit) → u.past ≡ kept ∷ ps
+    → undone u ≡ Some (at_moment u kept ps (turned u kept ∷ u.future))
 undo_to u kept ps h = ap (back_to u) h
 
 -- the edits before the last k
-kept_before : (d k : ℕ) (p : KeptEdit) (ps : List KeptEdit) → suc k ≤ d → take (d - k) (take d (p ∷ ps)) ≡ p ∷ take (d - suc k) ps
+kept_before : (d k : ℕ) (p : KeptEdit) (ps : List KeptEdit) → suc k ≤ d
+    → take (d - k) (take d (p ∷ ps)) ≡ p ∷ take (d - suc k) ps
 kept_before d k p ps le =
     let less : d - k ≤ d = omega arith in
     let one : d - k ≡ suc (d - suc k) = omega arith in
@@ -113,8 +117,17 @@ few_kept : (e : Edit) (s u : State) → edited e s ≡ Ok u → length u.past �
 few_kept e s u h = ap length (edit_past e s u h) ∙ length-take MOST_UNDO (kept_of e s ∷ s.past)
 
 pub restores : (es : List Edit) (s u : State) → Restores es s u
-restores [] s u le h =
-    (u, refl, record { buffers = ap (λ x. x.buffers) h; selected = ap (λ x. x.selected) h; cursor = ap (λ x. x.cursor) h; past = λ few. ap (λ x. x.past) h ∙ sym (take_all MOST_UNDO s.past few) })
+restores [] s u le h = (
+  u,
+  refl,
+  record {
+    buffers = ap (λ x. x.buffers) h;
+    selected = ap (λ x. x.selected) h;
+    cursor =
+        ap (λ x. x.cursor) h;
+    past = λ few. ap (λ x. x.past) h ∙ sym (take_all MOST_UNDO s.past few);
+  },
+)
 restores (e ∷ es) s u le h =
     let next : State = h.0 in
     let less : length es ≤ MOST_UNDO = omega arith in
@@ -123,20 +136,29 @@ restores (e ∷ es) s u le h =
     let v : State = again.0 in
     let rest : List KeptEdit = take (MOST_UNDO - suc (length es)) s.past in
     let behind : v.past ≡ kept_of e s ∷ rest =
-    again.2.past few ∙ ap (take (MOST_UNDO - length es)) (edit_past e s next h.1) ∙ kept_before MOST_UNDO (length es) (kept_of e s) s.past le in (
+    again.2.past few ∙ ap (take (MOST_UNDO - length es)) (edit_past e s next h.1)
+    ∙ kept_before MOST_UNDO (length es) (kept_of e s) s.past le in (
       at_moment v (kept_of e s) rest (turned v (kept_of e s) ∷ v.future),
       last_step undone (length es) u ∙ ap (option_and_then undone) again.1 ∙ undo_to v (kept_of e s) rest behind,
-      record { buffers = refl; selected = again.2.selected ∙ edit_selected e s next h.1; cursor = refl; past = λ _. refl },
+      record {
+        buffers = refl;
+        selected = again.2.selected ∙ edit_selected e s next h.1;
+        cursor = refl;
+        past = λ _.
+            refl;
+      },
     )
 
 -- all that can be taken back is taken back
-drained : (ps : List KeptEdit) (u : State) → u.past ≡ ps → (w : State) × (times undone (length ps) u ≡ Some w) × (undone w ≡ None)
+drained : (ps : List KeptEdit) (u : State) → u.past ≡ ps → (w : State) × (times undone (length ps) u ≡ Some w)
+    × (undone w ≡ None)
 drained [] u h = (u, refl, ap (back_to u) h)
 drained (p ∷ ps) u h =
     let further = drained ps (at_moment u p ps (turned u p ∷ u.future)) refl in
     (further.0, ap (option_and_then (times undone (length ps))) (undo_to u p ps h) ∙ further.1, further.2)
 
-past_length : (es : List Edit) (s u : State) → length s.past ≤ MOST_UNDO → IsEditedBy es s u → length u.past ≡ min (length s.past + length es) MOST_UNDO
+past_length : (es : List Edit) (s u : State) → length s.past ≤ MOST_UNDO → IsEditedBy es s u
+    → length u.past ≡ min (length s.past + length es) MOST_UNDO
 past_length [] s u few h = omega (arith, ap (λ x. length x.past) h)
 past_length (e ∷ es) s u few h =
     let kept = few_kept e s h.0 h.1 in

@@ -21,7 +21,8 @@ pub record IsLedBack (bs : List Buffer) (k : ℕ) (u : WideTree) (back : List Mo
   pub returns : changed_in_turn back u ≡ Ok (tree_of bs k)
   pub place : IsPlace (document_of bs) c.path c.offset
 
-pub lead_back : (bs : List Buffer) (k : ℕ) (u : WideTree) (back : List Mod) (c : Place) (es : List Entry) → IsLedBack bs k u back c → AllLead bs es
+pub lead_back : (bs : List Buffer) (k : ℕ) (u : WideTree) (back : List Mod) (c : Place) (es : List Entry)
+    → IsLedBack bs k u back c → AllLead bs es
     → AllLead (with_tree bs k u) (entry_of k back c ∷ es)
 lead_back bs k u back c es h all =
     let there : led_to (with_tree bs k u) (entry_of k back c) ≡ bs = led_back bs k u back c h.within h.returns in (
@@ -34,19 +35,31 @@ lead_back bs k u back c es h all =
     )
 
 -- the edits behind an entry that leads back
-edits_back : (how : How) (bs : List Buffer) (k : ℕ) (u : WideTree) (back mods : List Mod) (c : Place) (es : List Entry) → IsLedBack bs k u back c
+edits_back : (how : How) (bs : List Buffer) (k : ℕ) (u : WideTree) (back mods : List Mod) (c : Place) (es : List Entry)
+    → IsLedBack bs k u back c
     → how (with_tree bs k u) (entry_of k back c) ≡ mods
-    → kept_edits how (with_tree bs k u) (entry_of k back c ∷ es) ≡ record { moment = record { buffers = bs; cursor = c }; buffer = k; mods = mods } ∷ kept_edits how bs es
+    → kept_edits how (with_tree bs k u) (entry_of k back c ∷ es)
+    ≡ record { moment = record { buffers = bs; cursor = c }; buffer = k; mods = mods } ∷ kept_edits how bs es
 edits_back how bs k u back mods c es h e =
-    ap (λ cs. record { moment = record { buffers = cs; cursor = c }; buffer = k; mods = how (with_tree bs k u) (entry_of k back c) } ∷ kept_edits how cs es) (led_back bs k u back c h.within h.returns)
+    ap (λ cs. record {
+      moment = record { buffers = cs; cursor = c };
+      buffer = k;
+      mods = how (with_tree bs k u) (entry_of k back c);
+    } ∷ kept_edits how cs es)
+    (led_back bs k u back c h.within h.returns)
     ∙ ap (λ ms. record { moment = record { buffers = bs; cursor = c }; buffer = k; mods = ms } ∷ kept_edits how bs es) e
 
-pub undoes_back : (bs : List Buffer) (k : ℕ) (u : WideTree) (back mods : List Mod) (c : Place) (es : List Entry) → IsLedBack bs k u back c → inverses_of back u ≡ mods
-    → kept_edits undoes (with_tree bs k u) (entry_of k back c ∷ es) ≡ record { moment = record { buffers = bs; cursor = c }; buffer = k; mods = mods } ∷ kept_edits undoes bs es
-undoes_back bs k u back mods c es h e = edits_back undoes bs k u back mods c es h (ap (inverses_of back) (tree_put bs k u h.within) ∙ e)
+pub undoes_back : (bs : List Buffer) (k : ℕ) (u : WideTree) (back mods : List Mod) (c : Place) (es : List Entry)
+    → IsLedBack bs k u back c → inverses_of back u ≡ mods
+    → kept_edits undoes (with_tree bs k u) (entry_of k back c ∷ es)
+    ≡ record { moment = record { buffers = bs; cursor = c }; buffer = k; mods = mods } ∷ kept_edits undoes bs es
+undoes_back bs k u back mods c es h e =
+    edits_back undoes bs k u back mods c es h (ap (inverses_of back) (tree_put bs k u h.within) ∙ e)
 
-pub redoes_back : (bs : List Buffer) (k : ℕ) (u : WideTree) (back : List Mod) (c : Place) (es : List Entry) → IsLedBack bs k u back c
-    → kept_edits redoes (with_tree bs k u) (entry_of k back c ∷ es) ≡ record { moment = record { buffers = bs; cursor = c }; buffer = k; mods = back } ∷ kept_edits redoes bs es
+pub redoes_back : (bs : List Buffer) (k : ℕ) (u : WideTree) (back : List Mod) (c : Place) (es : List Entry)
+    → IsLedBack bs k u back c
+    → kept_edits redoes (with_tree bs k u) (entry_of k back c ∷ es)
+    ≡ record { moment = record { buffers = bs; cursor = c }; buffer = k; mods = back } ∷ kept_edits redoes bs es
 redoes_back bs k u back c es h = edits_back redoes bs k u back back c es h refl
 
 -- the newest entry stands first in the list turned round

@@ -19,22 +19,27 @@ use Rattle.tx_tm_form.proofs.Words.{file_start}
 use Rattle.tx_tm_form.proofs.Taken.{Scanned, run_scanned}
 
 module _ (S : Type 0) (fd : S → Token → S) where
-  letters_run : (l m : List ℕ) (form : TagForm) (s : S) → AllByRecursion (λ b. is_label_byte b ≡ true) l → length m + length l ≤ MOST_LABEL → run fd (at (labelled form m) s) l ≡ at (labelled form (m ++ l)) s
+  letters_run : (l m : List ℕ) (form : TagForm) (s : S) → AllByRecursion (λ b. is_label_byte b ≡ true) l
+      → length m + length l ≤ MOST_LABEL → run fd (at (labelled form m) s) l ≡ at (labelled form (m ++ l)) s
   letters_run [] m form s h n = ap (λ a. run fd (at (labelled form a) s) []) (sym (append-nil m))
   letters_run (b ∷ l) m form s h n =
       ap (λ r. run fd (given fd s r) l) (lexed_letter form m (kind_of b) b (name_kind b h.0) (omega arith))
       ∙ letters_run l (m ++ b ∷ []) form s h.1 (omega (arith, length-append m (b ∷ [])))
       ∙ ap (λ a. run fd (at (labelled form a) s) []) (append_assoc m (b ∷ []) l)
 
-  label_begun : (form : TagForm) (l : List ℕ) (s : S) → IsBegun (labelled form l) → run fd (at angled s) (mark_of form ++ l) ≡ at (labelled form l) s
+  label_begun : (form : TagForm) (l : List ℕ) (s : S) → IsBegun (labelled form l)
+      → run fd (at angled s) (mark_of form ++ l) ≡ at (labelled form l) s
   unfolding lex_angled
   label_begun Short [] s h = absurd (omega (arith, h.1))
   label_begun Short (b ∷ l) s h =
       ap (λ r. run fd (given fd s r) l) (lexed_first (kind_of b) b (name_kind b h.0.0.0))
       ∙ letters_run l (b ∷ []) Short s h.0.0.1 (omega (arith, h.0.1))
-  label_begun Long l s h = byte_of S fd Backslash 92 angled s l backslash_kind ∙ letters_run l [] Long s h.0.0 (omega (arith, h.0.1))
-  label_begun Middle l s h = byte_of S fd Bar 124 angled s l bar_kind ∙ letters_run l [] Middle s h.0.0 (omega (arith, h.0.1))
-  label_begun Closing l s h = byte_of S fd Slash 47 angled s l slash_kind ∙ letters_run l [] Closing s h.0.0 (omega (arith, h.0.1))
+  label_begun Long l s h = byte_of S fd Backslash 92 angled s l backslash_kind
+      ∙ letters_run l [] Long s h.0.0 (omega (arith, h.0.1))
+  label_begun Middle l s h =
+      byte_of S fd Bar 124 angled s l bar_kind ∙ letters_run l [] Middle s h.0.0 (omega (arith, h.0.1))
+  label_begun Closing l s h =
+      byte_of S fd Slash 47 angled s l slash_kind ∙ letters_run l [] Closing s h.0.0 (omega (arith, h.0.1))
 
   begun_run : (q : Lex) (s : S) → IsBegun q → run fd (at ready s) (begun_bytes q) ≡ at q s
   unfolding lex_slashed
@@ -49,7 +54,8 @@ module _ (S : Type 0) (fd : S → Token → S) where
   run_behind (b ∷ x) y w = run_behind x y (step fd w b)
 
   -- the state behind such bytes
-  pub scanned_run : (x : List ℕ) (ts : List Token) (q : Lex) (s : S) → IsScanned x ts q → run fd (at ready s) x ≡ at q (folds S fd s ts)
+  pub scanned_run : (x : List ℕ) (ts : List Token) (q : Lex) (s : S) → IsScanned x ts q
+      → run fd (at ready s) x ≡ at q (folds S fd s ts)
   scanned_run x ts q s h =
       ap (λ z. run fd (at ready s) z) h.all
       ∙ run_behind (flat_map written ts) (begun_bytes q) (at ready s)
@@ -72,5 +78,8 @@ same_at : (p q : Lex) (j k : Keeping) → (let x : Bytewise Keeping = at p j in 
 same_at p q j k e = (cc, cc)
 
 -- in one way
-pub behind_once : (x : List ℕ) (q r : Lex) (k : Keeping) (ts : List Token) → run keep start x ≡ at q k → IsScanned x ts r → (q ≡ r) × (k ≡ keeps file_start ts)
-behind_once x q r k ts e h = same_at q r k (keeps file_start ts) (sym e ∙ scanned_run Keeping keep x ts r file_start h ∙ ap (at r) (folds_keeps ts file_start))
+pub behind_once : (x : List ℕ) (q r : Lex) (k : Keeping) (ts : List Token) → run keep start x ≡ at q k
+    → IsScanned x ts r → (q ≡ r) × (k ≡ keeps file_start ts)
+behind_once x q r k ts e h =
+    same_at q r k (keeps file_start ts) (sym e ∙ scanned_run Keeping keep x ts r file_start h
+    ∙ ap (at r) (folds_keeps ts file_start))

@@ -1,4 +1,5 @@
--- What the machine has taken can be closed: the token that has begun, then the open tags from the innermost one outwards.
+-- What the machine has taken can be closed: the token that has begun, then the open tags from the innermost one
+-- outwards.
 use Rattle.std.proofs.Common.{◌≡◌, ⊎_elim, ℕ, ◌≤◌, Bool, true, false, ◌==◌, if◌then◌else◌, List, [], ◌∷◌, ◌++◌, length}
 use Rattle.std.proofs.Common.{Option, Some, None, refl, sym, ap, subst, ◌∙◌, length-append, arith}
 use Rattle.std.specs.List.{AllByRecursion}
@@ -68,10 +69,15 @@ put_placed (f ∷ fs) here p h = h
 abbrev pub Closable : Bytewise Keeping → Type 0
 Closable w = (y : List ℕ) × (u : WideTree) × (tree_in (run keep w y) ≡ Some u)
 
-by_token : (t : Token) (j : Bool) (s z : State) → IsToken t → is_dropped j t ≡ false → feed s t ≡ z → Closable (at ready (keeping false z)) → Closable (at ready (keeping j s))
+by_token : (t : Token) (j : Bool) (s z : State) → IsToken t → is_dropped j t ≡ false → feed s t ≡ z
+    → Closable (at ready (keeping false z)) → Closable (at ready (keeping j s))
 by_token t j s z v d e h =
-    let kept_is : keep (keeping j s) t ≡ keeping false z = ap (λ x. if x then keeping true s else keeping false (feed s t)) d ∙ ap (keeping false) e in
-    (written t ++ h.0, h.1, ap tree_in (token_run Keeping keep t (keeping j s) h.0 v ∙ ap (λ k. run keep (at ready k) h.0) kept_is) ∙ h.2)
+    let kept_is : keep (keeping j s) t ≡ keeping false z =
+    ap (λ x. if x then keeping true s else keeping false (feed s t)) d ∙ ap (keeping false) e in (
+      written t ++ h.0,
+      h.1,
+      ap tree_in (token_run Keeping keep t (keeping j s) h.0 v ∙ ap (λ k. run keep (at ready k) h.0) kept_is) ∙ h.2,
+    )
 
 by_byte : (w z : Bytewise Keeping) (b : ℕ) → step keep w b ≡ z → Closable z → Closable w
 by_byte w z b e h = (b ∷ h.0, h.1, ap (λ x. tree_in (run keep x h.0)) e ∙ h.2)
@@ -85,37 +91,49 @@ file_closes (blocks b) e = (tree_of_block b, refl)
 file_closes (collecting x) e = (tree_of_block (as_block x), refl)
 
 -- in a block, where the open tag may end or go on
-pub last_there : (here : Content) (f : Open) (fs : List Open) → place_of here ≡ None → feed (reading here (f ∷ fs)) (head Closing f.label false) ≡ reading (put f.before (long_of f.label f.children here)) fs
+pub last_there : (here : Content) (f : Open) (fs : List Open) → place_of here ≡ None
+    → feed (reading here (f ∷ fs)) (head Closing f.label false) ≡ reading
+    (put f.before (long_of f.label f.children here)) fs
 unfolding feed
 last_there here f fs e =
     ap (λ o. last_block o f.label here (f ∷ fs)) e
     ∙ ap (λ c. go c (reading (put f.before (long_of f.label f.children here)) fs)) (same_self f.label)
 
-pub middle_there : (here : Content) (f : Open) (fs : List Open) → place_of here ≡ None → feed (reading here (f ∷ fs)) (head Middle f.label false) ≡ in_tag None (with_child f (block_of here)) fs
+pub middle_there : (here : Content) (f : Open) (fs : List Open) → place_of here ≡ None
+    → feed (reading here (f ∷ fs)) (head Middle f.label false) ≡ in_tag None (with_child f (block_of here)) fs
 unfolding feed
 middle_there here f fs e =
     ap (λ o. next_block o f.label None here (f ∷ fs)) e
     ∙ ap (λ c. go c (in_tag None (with_child f (block_of here)) fs)) (same_self f.label)
 
-block_closes : (f : Open) (fs : List Open) (here : Content) (j : Bool) → place_of here ≡ None → IsPlaced here (f ∷ fs) → Closes fs → Closable (at ready (keeping j (reading here (f ∷ fs))))
+block_closes : (f : Open) (fs : List Open) (here : Content) (j : Bool) → place_of here ≡ None → IsPlaced here (f ∷ fs)
+    → Closes fs → Closable (at ready (keeping j (reading here (f ∷ fs))))
 block_closes f fs here j e v h =
-    by_token (head Closing f.label false) j (reading here (f ∷ fs)) (reading (put f.before (long_of f.label f.children here)) fs) v.0 refl (last_there here f fs e)
-    (h (put f.before (long_of f.label f.children here)) false (put_placed fs f.before (long_of f.label f.children here) v.1))
+    by_token (head Closing f.label false) j (reading here (f ∷ fs))
+    (reading (put f.before (long_of f.label f.children here)) fs) v.0 refl (last_there here f fs e)
+    (h (put f.before (long_of f.label f.children here)) false
+    (put_placed fs f.before (long_of f.label f.children here) v.1))
 
-new_block_closes : (f : Open) (fs : List Open) (ts : List WideTree) → IsLabel f.label → IsPlaced f.before fs → Closes fs → Closable (at ready (keeping false (in_tag None (open_tag f.before f.label ts) fs)))
-new_block_closes f fs ts v p h = block_closes (open_tag f.before f.label ts) fs (block_behind f.label ts) false (no_place f.label ts) (v, p) h
+new_block_closes : (f : Open) (fs : List Open) (ts : List WideTree) → IsLabel f.label → IsPlaced f.before fs → Closes fs
+    → Closable (at ready (keeping false (in_tag None (open_tag f.before f.label ts) fs)))
+new_block_closes f fs ts v p h =
+    block_closes (open_tag f.before f.label ts) fs (block_behind f.label ts) false (no_place f.label ts) (v, p) h
 
-tag_closes : (w : Option TagPlace) (f : Open) (fs : List Open) (here : Content) (j : Bool) → place_of here ≡ w → IsPlaced here (f ∷ fs) → Closes fs → Closable (at ready (keeping j (reading here (f ∷ fs))))
+tag_closes : (w : Option TagPlace) (f : Open) (fs : List Open) (here : Content) (j : Bool) → place_of here ≡ w
+    → IsPlaced here (f ∷ fs) → Closes fs → Closable (at ready (keeping j (reading here (f ∷ fs))))
 unfolding feed
 tag_closes None f fs here j e v h = block_closes f fs here j e v h
 tag_closes (Some InShort) f fs here j e v h =
     let x : Part = tag false (node f.label (forest (f.children ++ content_of here ∷ []))) in
-    by_token close j (reading here (f ∷ fs)) (reading (put f.before x) fs) tt refl (ap (λ o. last_argument o here (f ∷ fs)) e) (h (put f.before x) false (put_placed fs f.before x v.1))
+    by_token close j (reading here (f ∷ fs)) (reading (put f.before x) fs) tt refl
+    (ap (λ o. last_argument o here (f ∷ fs)) e) (h (put f.before x) false (put_placed fs f.before x v.1))
 tag_closes (Some InClosing) f fs here j e v h =
     let x : Part = tag false (node f.label (forest (f.children ++ content_of here ∷ []))) in
-    by_token close j (reading here (f ∷ fs)) (reading (put f.before x) fs) tt refl (ap (λ o. last_argument o here (f ∷ fs)) e) (h (put f.before x) false (put_placed fs f.before x v.1))
+    by_token close j (reading here (f ∷ fs)) (reading (put f.before x) fs) tt refl
+    (ap (λ o. last_argument o here (f ∷ fs)) e) (h (put f.before x) false (put_placed fs f.before x v.1))
 tag_closes (Some InHeader) f fs here j e v h =
-    by_token close j (reading here (f ∷ fs)) (in_tag None (with_child f (content_of here)) fs) tt refl (ap (λ o. last_argument o here (f ∷ fs)) e)
+    by_token close j (reading here (f ∷ fs)) (in_tag None (with_child f (content_of here)) fs) tt refl
+    (ap (λ o. last_argument o here (f ∷ fs)) e)
     (new_block_closes f fs (f.children ++ content_of here ∷ []) v.0 v.1 h)
 
 tags_close : (fs : List Open) → Closes fs
@@ -136,7 +154,8 @@ no_greater : escape_of 62 ≡ None
 unfolding escape_of
 no_greater = refl
 
-name_closes : (n : List ℕ) (here : Content) (fs : List Open) (j : Bool) → IsPlaced here fs → 1 ≤ length n → Closable (at ready (keeping j (naming n here fs)))
+name_closes : (n : List ℕ) (here : Content) (fs : List Open) (j : Bool) → IsPlaced here fs → 1 ≤ length n
+    → Closable (at ready (keeping j (naming n here fs)))
 unfolding feed
 name_closes n here fs j v h =
     by_token (escape 62) j (naming n here fs) (reading (put here (text (symbol_bytes n))) fs) escape_greater refl
@@ -146,11 +165,14 @@ name_closes n here fs j v h =
 state_closes : (s : State) (j : Bool) → IsOpened s → can_go_on ready s ≡ true → Closable (at ready (keeping j s))
 unfolding feed
 state_closes (reading here fs) j v h = tags_close fs here j v
-state_closes (naming [] here fs) j v h = by_token (plain 97) j (naming [] here fs) (naming (97 ∷ []) here fs) plain_a refl refl (name_closes (97 ∷ []) here fs false v (omega arith))
+state_closes (naming [] here fs) j v h =
+    by_token (plain 97) j (naming [] here fs) (naming (97 ∷ []) here fs) plain_a refl refl
+    (name_closes (97 ∷ []) here fs false v (omega arith))
 state_closes (naming (b ∷ n) here fs) j v h = name_closes (b ∷ n) here fs j v (omega arith)
 state_closes (counting ds here fs) j v h =
     let x : Part = tag false (node raw_data_label (forest (leaf ds ∷ []))) in
-    by_token close j (counting ds here fs) (reading (put here x) fs) tt refl refl (tags_close fs (put here x) false (put_placed fs here x v))
+    by_token close j (counting ds here fs) (reading (put here x) fs) tt refl refl
+    (tags_close fs (put here x) false (put_placed fs here x v))
 state_closes failed j v h = absurd cc
 
 -- ---- a tag's beginning
@@ -159,12 +181,14 @@ letter_a : is_label_byte 97 ≡ true
 unfolding is_label_byte
 letter_a = refl
 
-by_label : (form : TagForm) (m r : List ℕ) (j : Bool) (s z : State) → IsLabel (m ++ r) → AllByRecursion (λ b. is_label_byte b ≡ true) r → feed s (head form (m ++ r) false) ≡ z
+by_label : (form : TagForm) (m r : List ℕ) (j : Bool) (s z : State) → IsLabel (m ++ r)
+    → AllByRecursion (λ b. is_label_byte b ≡ true) r → feed s (head form (m ++ r) false) ≡ z
     → Closable (at ready (keeping false z)) → Closable (at (labelled form m) (keeping j s))
 by_label form m r j s z v a e h = (
   r ++ 62 ∷ h.0,
   h.1,
-  ap tree_in (label_run Keeping keep r m false form (keeping j s) h.0 a (omega (arith, length-append m r, v.short)) (omega (arith, length-append m r, v.some)) ∙ ap (λ x. run keep (at ready (keeping false x)) h.0) e) ∙ h.2,
+  ap tree_in (label_run Keeping keep r m false form (keeping j s) h.0 a (omega (arith, length-append m r, v.short))
+      (omega (arith, length-append m r, v.some)) ∙ ap (λ x. run keep (at ready (keeping false x)) h.0) e) ∙ h.2,
 )
 
 begins_rest : (m l : List ℕ) → begins m l ≡ true → (r : List ℕ) × (l ≡ m ++ r)
@@ -180,14 +204,18 @@ all_right P [] b h = h
 all_right P (x ∷ a) b h = all_right P a b h.1
 
 -- the label of the open tag, to its end
-open_label_closes : (form : TagForm) (m : List ℕ) (j : Bool) (here : Content) (f : Open) (fs : List Open) (z : State) → IsLabel f.label → begins m f.label ≡ true
-    → feed (reading here (f ∷ fs)) (head form f.label false) ≡ z → Closable (at ready (keeping false z)) → Closable (at (labelled form m) (keeping j (reading here (f ∷ fs))))
+open_label_closes : (form : TagForm) (m : List ℕ) (j : Bool) (here : Content) (f : Open) (fs : List Open) (z : State)
+    → IsLabel f.label → begins m f.label ≡ true
+    → feed (reading here (f ∷ fs)) (head form f.label false) ≡ z → Closable (at ready (keeping false z))
+    → Closable (at (labelled form m) (keeping j (reading here (f ∷ fs))))
 open_label_closes form m j here f fs z v b e h =
     let r = begins_rest m f.label b in
     let good : IsLabel (m ++ r.0) = subst IsLabel r.1 v in
-    by_label form m r.0 j (reading here (f ∷ fs)) z good (all_right _ m r.0 good.each) (subst (λ l. feed (reading here (f ∷ fs)) (head form l false) ≡ z) r.1 e) h
+    by_label form m r.0 j (reading here (f ∷ fs)) z good (all_right _ m r.0 good.each)
+    (subst (λ l. feed (reading here (f ∷ fs)) (head form l false) ≡ z) r.1 e) h
 
-goes_through : (w : Option TagPlace) (m : List ℕ) (f : Open) (fs : List Open) → begins_open w m (f ∷ fs) ≡ true → (w ≡ None) × (begins m f.label ≡ true)
+goes_through : (w : Option TagPlace) (m : List ℕ) (f : Open) (fs : List Open) → begins_open w m (f ∷ fs) ≡ true
+    → (w ≡ None) × (begins m f.label ≡ true)
 goes_through None m f fs h = (refl, h)
 goes_through (Some p) m f fs h = absurd cc
 
@@ -196,33 +224,50 @@ none_open None m h = cc
 none_open (Some p) m h = cc
 
 -- any label
-new_label_closes : (form : TagForm) (m : List ℕ) (j : Bool) (here : Content) (fs : List Open) → IsBegun (labelled form m)
-    → ((l : List ℕ) → IsLabel l → (z : State) × (feed (reading here fs) (head form l false) ≡ z) × Closable (at ready (keeping false z))) → Closable (at (labelled form m) (keeping j (reading here fs)))
+new_label_closes : (form : TagForm) (m : List ℕ) (j : Bool) (here : Content) (fs : List Open)
+    → IsBegun (labelled form m)
+    → ((l : List ℕ) → IsLabel l → (z : State) × (feed (reading here fs) (head form l false) ≡ z)
+    × Closable (at ready (keeping false z))) → Closable (at (labelled form m) (keeping j (reading here fs)))
 new_label_closes form [] j here fs g h =
     let v : IsLabel (97 ∷ []) = record { each = (letter_a, tt); some = omega arith; short = omega arith } in
     let k = h (97 ∷ []) v in
     by_label form [] (97 ∷ []) j (reading here fs) k.0 v (letter_a, tt) k.1 k.2
 new_label_closes form (b ∷ m) j here fs g h =
-    let v : IsLabel ((b ∷ m) ++ []) = record { each = subst (λ z. AllByRecursion (λ b. is_label_byte b ≡ true) z) (sym (append-nil (b ∷ m))) g.0.0; some = omega (arith, length-append (b ∷ m) []); short = omega (arith, length-append (b ∷ m) [], g.0.1) } in
+    let v : IsLabel ((b ∷ m) ++ []) =
+    record {
+      each = subst (λ z. AllByRecursion (λ b. is_label_byte b ≡ true) z) (sym (append-nil (b ∷ m))) g.0.0;
+      some = omega (arith, length-append (b ∷ m) []);
+      short = omega (arith, length-append (b ∷ m) [], g.0.1);
+    } in
     let k = h ((b ∷ m) ++ []) v in
     by_label form (b ∷ m) [] j (reading here fs) k.0 v tt k.1 k.2
 
-label_closes : (form : TagForm) (m : List ℕ) (j : Bool) (here : Content) (fs : List Open) → IsPlaced here fs → IsBegun (labelled form m) → can_begin form m here fs ≡ true → Closable (at (labelled form m) (keeping j (reading here fs)))
+label_closes : (form : TagForm) (m : List ℕ) (j : Bool) (here : Content) (fs : List Open) → IsPlaced here fs
+    → IsBegun (labelled form m) → can_begin form m here fs ≡ true
+    → Closable (at (labelled form m) (keeping j (reading here fs)))
 unfolding feed
 label_closes Short m j here fs v g h =
     new_label_closes Short m j here fs g (λ l k.
-    let x : Part = tag false (node l (forest [])) in (reading (put here x) fs, refl, tags_close fs (put here x) false (put_placed fs here x v)))
+    let x : Part = tag false (node l (forest [])) in
+    (reading (put here x) fs, refl, tags_close fs (put here x) false (put_placed fs here x v)))
 label_closes Long m j here fs v g h =
-    new_label_closes Long m j here fs g (λ l k. (in_tag None (open_tag here l []) fs, refl, new_block_closes (open_tag here l []) fs [] k v (tags_close fs)))
+    new_label_closes Long m j here fs g
+    (λ l k. (
+      in_tag None (open_tag here l []) fs,
+      refl,
+      new_block_closes (open_tag here l []) fs [] k v (tags_close fs),
+    ))
 label_closes Middle m j here [] v g h = absurd (none_open (place_of here) m h)
 label_closes Middle m j here (f ∷ fs) v g h =
     let p = goes_through (place_of here) m f fs h in
-    open_label_closes Middle m j here f fs (in_tag None (with_child f (block_of here)) fs) v.0 p.1 (middle_there here f fs p.0) (new_block_closes f fs (f.children ++ block_of here ∷ []) v.0 v.1 (tags_close fs))
+    open_label_closes Middle m j here f fs (in_tag None (with_child f (block_of here)) fs) v.0 p.1
+    (middle_there here f fs p.0) (new_block_closes f fs (f.children ++ block_of here ∷ []) v.0 v.1 (tags_close fs))
 label_closes Closing m j here [] v g h = absurd (none_open (place_of here) m h)
 label_closes Closing m j here (f ∷ fs) v g h =
     let p = goes_through (place_of here) m f fs h in
     let x = long_of f.label f.children here in
-    open_label_closes Closing m j here f fs (reading (put f.before x) fs) v.0 p.1 (last_there here f fs p.0) (tags_close fs (put f.before x) false (put_placed fs f.before x v.1))
+    open_label_closes Closing m j here f fs (reading (put f.before x) fs) v.0 p.1 (last_there here f fs p.0)
+    (tags_close fs (put f.before x) false (put_placed fs f.before x v.1))
 
 -- ---- any token that has begun
 
@@ -234,7 +279,8 @@ returned_ends : (j : Bool) (s : State) → step keep (at returned (keeping j s))
 unfolding lex_returned
 returned_ends j s = ap (λ k. given keep (keeping j s) (lex_returned k)) newline_kind
 
-angled_ends : (j : Bool) (here : Content) (fs : List Open) → step keep (at angled (keeping j (reading here fs))) 35 ≡ at ready (keeping false (counting [] here fs))
+angled_ends : (j : Bool) (here : Content) (fs : List Open)
+    → step keep (at angled (keeping j (reading here fs))) 35 ≡ at ready (keeping false (counting [] here fs))
 unfolding lex_angled feed
 angled_ends j here fs = ap (λ k. given keep (keeping j (reading here fs)) (lex_angled k 35)) hash_kind
 
@@ -248,11 +294,16 @@ goes_on_ready returned failed h = h
 goes_on_ready angled failed h = h
 goes_on_ready (labelled form l) failed h = h
 
-token_closes : (q : Lex) (s : State) (j : Bool) → IsBegun q → IsOpened s → can_go_on q s ≡ true → Closable (at q (keeping j s))
+token_closes : (q : Lex) (s : State) (j : Bool) → IsBegun q → IsOpened s → can_go_on q s ≡ true
+    → Closable (at q (keeping j s))
 token_closes ready s j g v h = state_closes s j v h
-token_closes slashed s j g v h = by_byte _ (at ready (keeping true s)) 10 (slashed_ends j s) (state_closes s true v (goes_on_ready slashed s h))
-token_closes returned s j g v h = by_byte _ (at ready (keeping true s)) 10 (returned_ends j s) (state_closes s true v (goes_on_ready returned s h))
-token_closes angled (reading here fs) j g v h = by_byte _ (at ready (keeping false (counting [] here fs))) 35 (angled_ends j here fs) (state_closes (counting [] here fs) false v refl)
+token_closes slashed s j g v h =
+    by_byte _ (at ready (keeping true s)) 10 (slashed_ends j s) (state_closes s true v (goes_on_ready slashed s h))
+token_closes returned s j g v h =
+    by_byte _ (at ready (keeping true s)) 10 (returned_ends j s) (state_closes s true v (goes_on_ready returned s h))
+token_closes angled (reading here fs) j g v h =
+    by_byte _ (at ready (keeping false (counting [] here fs))) 35 (angled_ends j here fs)
+    (state_closes (counting [] here fs) false v refl)
 token_closes angled (naming n here fs) j g v h = absurd cc
 token_closes angled (counting n here fs) j g v h = absurd cc
 token_closes angled failed j g v h = absurd cc
@@ -264,13 +315,16 @@ token_closes (labelled form m) failed j g v h = absurd cc
 scanned_closes : (w : Bytewise Keeping) (x : List ℕ) → Scanned w x → goes_on w ≡ true → Closable w
 scanned_closes (at q k) x h e =
     let s : k.state ≡ feeds file_state (kept false h.0) = ap (λ z. z.state) h.2 ∙ keeps_state h.0 false file_state in
-    let took : Took (feeds file_state (kept false h.0)) (kept false h.0) = feeds_took (kept false h.0) file_state [] (kept_tokens h.0 false h.1) (nothing, refl, refl) in
-    let opened : IsOpened k.state = subst IsOpened (sym s) (took_opened (feeds file_state (kept false h.0)) (kept false h.0) took) in
+    let took : Took (feeds file_state (kept false h.0)) (kept false h.0) =
+    feeds_took (kept false h.0) file_state [] (kept_tokens h.0 false h.1) (nothing, refl, refl) in
+    let opened : IsOpened k.state =
+    subst IsOpened (sym s) (took_opened (feeds file_state (kept false h.0)) (kept false h.0) took) in
     token_closes q k.state k.behind_join h.3 opened e
 scanned_closes lost x h e = absurd cc
 
 -- where the machine goes on, the bytes can be continued to bytes that spell a tree
-pub goes_on_is_front : (x : List ℕ) → goes_on (run keep start x) ≡ true → (more : List ℕ) × (t : WideTree) × Spells (x ++ more) t
+pub goes_on_is_front : (x : List ℕ) → goes_on (run keep start x) ≡ true → (more : List ℕ) × (t : WideTree)
+    × Spells (x ++ more) t
 unfolding reads
 goes_on_is_front x h =
     let c = scanned_closes (run keep start x) x (run_scanned x [] start ([], tt, refl, tt, refl)) h in

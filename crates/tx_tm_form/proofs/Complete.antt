@@ -49,16 +49,20 @@ some_child [] t vs = refl
 some_child (u ∷ us) t vs = refl
 
 -- a long tag with a child before its first block is no collection tag
-child_before : (l : List ℕ) (ks : List WideTree) (t : WideTree) (us : List WideTree) (ps : List Part) (vs : List WideTree)
+child_before : (l : List ℕ) (ks : List WideTree) (t : WideTree) (us : List WideTree) (ps : List Part)
+    (vs : List WideTree)
     → long_tag l (ks ++ t ∷ us) ps vs ≡ tag false (node l (forest ((ks ++ t ∷ us) ++ block ps ∷ vs)))
 unfolding long_tag
-child_before l ks t us ps vs = no_before_first (same l collection_label) (none (ks ++ t ∷ us)) (none vs) (has_no_items ps) _ _ (some_child ks t us)
+child_before l ks t us ps vs =
+    no_before_first (same l collection_label) (none (ks ++ t ∷ us)) (none vs) (has_no_items ps) _ _ (some_child ks t us)
 
 -- nor is one with a child behind it
-pub child_behind : (l : List ℕ) (ks : List WideTree) (ps : List Part) (us : List WideTree) (t : WideTree) (vs : List WideTree)
+pub child_behind : (l : List ℕ) (ks : List WideTree) (ps : List Part) (us : List WideTree) (t : WideTree)
+    (vs : List WideTree)
     → long_tag l ks ps (us ++ t ∷ vs) ≡ tag false (node l (forest (ks ++ block ps ∷ (us ++ t ∷ vs))))
 unfolding long_tag
-child_behind l ks ps us t vs = no_behind_first (same l collection_label) (none ks) (none (us ++ t ∷ vs)) (has_no_items ps) _ _ (some_child us t vs)
+child_behind l ks ps us t vs =
+    no_behind_first (same l collection_label) (none ks) (none (us ++ t ∷ vs)) (has_no_items ps) _ _ (some_child us t vs)
 
 -- the first block is as good as a child before the second one
 pub second_block : (l : List ℕ) (ks us : List WideTree) (ps qs : List Part) (vs : List WideTree)
@@ -77,14 +81,17 @@ name_step : (b : ℕ) (m : List ℕ) (here : Content) (fs : List Open) → is_na
     → feed (naming m here fs) (name_token b) ≡ naming (m ++ b ∷ []) here fs
 unfolding feed
 name_step b m here fs h n =
-    elim (b == 124 || b == 92) as (λ c. (b == 124 || b == 92) ≡ c → feed (naming m here fs) (if c then escape b else plain b) ≡ naming (m ++ b ∷ []) here fs) [
+    elim (b == 124 || b == 92) as
+    (λ c. (b == 124 || b == 92) ≡ c → feed (naming m here fs) (if c then escape b else plain b) ≡ naming
+    (m ++ b ∷ []) here fs) [
       | true ↦ λ e.
           ap (λ c. if c then name_end m here fs else name_byte (b == 124 || b == 92) m b here fs) (no_end b e)
           ∙ ap (λ c. go c (naming (m ++ b ∷ []) here fs)) (and_from _ _ e (lt-ltb _ _ n))
       | false ↦ λ e. ap (λ c. go c (naming (m ++ b ∷ []) here fs)) (and_from _ _ h (lt-ltb _ _ n))
     ] refl
 
-name_run : (n m : List ℕ) (here : Content) (fs : List Open) (y : List Token) → AllByRecursion (λ b. is_name_byte b ≡ true) n → length m + length n ≤ MOST_NAME
+name_run : (n m : List ℕ) (here : Content) (fs : List Open) (y : List Token)
+    → AllByRecursion (λ b. is_name_byte b ≡ true) n → length m + length n ≤ MOST_NAME
     → feeds (naming m here fs) (map name_token n ++ y) ≡ feeds (naming (m ++ n) here fs) y
 name_run [] m here fs y h k = ap (λ a. feeds (naming a here fs) y) (sym (append-nil m))
 name_run (b ∷ n) m here fs y h k =
@@ -106,7 +113,8 @@ unfolding escape_of
 no_escape_less = refl
 
 read_symbol : (n : List ℕ) (here : Content) (fs : List Open) (y : List Token) → IsName n
-    → feeds (reading here fs) (escape 60 ∷ ((map name_token n ++ escape 62 ∷ []) ++ y)) ≡ feeds (reading (put here (text (symbol_bytes n))) fs) y
+    → feeds (reading here fs) (escape 60 ∷ ((map name_token n ++ escape 62 ∷ []) ++ y)) ≡ feeds
+    (reading (put here (text (symbol_bytes n))) fs) y
 unfolding feed
 read_symbol n here fs y h =
     ap (λ o. feeds (by_escape o 60 here fs) ((map name_token n ++ escape 62 ∷ []) ++ y)) no_escape_less
@@ -115,7 +123,8 @@ read_symbol n here fs y h =
     ∙ ap (λ c. feeds (go c (reading (put here (text (symbol_bytes n))) fs)) y) (le-leb 1 (length n) h.some)
 
 read_raw : (ds : List ℕ) (here : Content) (fs : List Open) (y : List Token) → AreDigits ds
-    → feeds (reading here fs) (raw ∷ ((map plain ds ++ close ∷ []) ++ y)) ≡ feeds (with_node raw_data_label (leaf ds ∷ []) here fs) y
+    → feeds (reading here fs) (raw ∷ ((map plain ds ++ close ∷ []) ++ y)) ≡ feeds
+    (with_node raw_data_label (leaf ds ∷ []) here fs) y
 unfolding feed
 read_raw ds here fs y h =
     ap (λ z. feeds (counting [] here fs) z) (append_assoc (map plain ds) (close ∷ []) y)
@@ -140,18 +149,21 @@ at_argument p ps f fs = reading (puts (inline p no_parts) ps) (f ∷ fs)
 abbrev at_block : List Part → Open → List Open → State
 at_block ps f fs = reading (puts (block_behind f.label f.children) ps) (f ∷ fs)
 
-close_argument : (p : TagPlace) (t : WideTree) (here : Content) (f : Open) (fs : List Open) → content_of here ≡ t → last_argument (Some p) here (f ∷ fs) ≡ after_arguments p (with_child f t) fs
+close_argument : (p : TagPlace) (t : WideTree) (here : Content) (f : Open) (fs : List Open) → content_of here ≡ t
+    → last_argument (Some p) here (f ∷ fs) ≡ after_arguments p (with_child f t) fs
 close_argument InShort t here f fs e = ap (λ z. closed (with_child f z) fs) e
 close_argument InHeader t here f fs e = ap (λ z. in_tag None (with_child f z) fs) e
 close_argument InClosing t here f fs e = ap (λ z. closed (with_child f z) fs) e
 
-close_step : (p : TagPlace) (ps : List Part) (f : Open) (fs : List Open) → feed (at_argument p ps f fs) close ≡ after_arguments p (with_child f (content ps)) fs
+close_step : (p : TagPlace) (ps : List Part) (f : Open) (fs : List Open)
+    → feed (at_argument p ps f fs) close ≡ after_arguments p (with_child f (content ps)) fs
 unfolding feed
 close_step p ps f fs =
     ap (λ c. last_argument (place_of c) c (f ∷ fs)) (puts_inline ps p no_parts)
     ∙ close_argument p (content ps) (inline p (grows no_parts ps)) f fs (grown_is_content ps)
 
-bar_step : (p : TagPlace) (ps : List Part) (f : Open) (fs : List Open) → feed (at_argument p ps f fs) bar ≡ in_tag (Some p) (with_child f (content ps)) fs
+bar_step : (p : TagPlace) (ps : List Part) (f : Open) (fs : List Open)
+    → feed (at_argument p ps f fs) bar ≡ in_tag (Some p) (with_child f (content ps)) fs
 unfolding feed
 bar_step p ps f fs =
     ap (λ c. next_argument (place_of c) c (f ∷ fs)) (puts_inline ps p no_parts)
@@ -161,25 +173,35 @@ block_place : (ps : List Part) (l : List ℕ) (ks : List WideTree) → place_of 
 block_place ps l ks = place_is ps (block_behind l ks) ∙ no_place l ks
 
 next_step : (ps : List Part) (p : Option TagPlace) (f : Open) (fs : List Open)
-    → next_block (place_of (puts (block_behind f.label f.children) ps)) f.label p (puts (block_behind f.label f.children) ps) (f ∷ fs) ≡ in_tag p (with_child f (block ps)) fs
+    → next_block (place_of (puts (block_behind f.label f.children) ps)) f.label p
+    (puts (block_behind f.label f.children) ps) (f ∷ fs) ≡ in_tag p (with_child f (block ps)) fs
 next_step ps p f fs =
-    ap (λ o. next_block o f.label p (puts (block_behind f.label f.children) ps) (f ∷ fs)) (block_place ps f.label f.children)
-    ∙ ap (λ c. go c (in_tag p (with_child f (block_of (puts (block_behind f.label f.children) ps))) fs)) (same_self f.label)
+    ap (λ o. next_block o f.label p (puts (block_behind f.label f.children) ps) (f ∷ fs))
+    (block_place ps f.label f.children)
+    ∙ ap (λ c. go c (in_tag p (with_child f (block_of (puts (block_behind f.label f.children) ps))) fs))
+    (same_self f.label)
     ∙ ap (λ t. in_tag p (with_child f t) fs) (block_is f.label f.children ps)
 
-pub middle_step : (more : Bool) (ps : List Part) (f : Open) (fs : List Open) → feed (at_block ps f fs) (head Middle f.label more) ≡ in_tag (header_place more) (with_child f (block ps)) fs
+pub middle_step : (more : Bool) (ps : List Part) (f : Open) (fs : List Open)
+    → feed (at_block ps f fs) (head Middle f.label more) ≡ in_tag (header_place more) (with_child f (block ps)) fs
 unfolding feed
 middle_step more ps f fs = next_step ps (header_place more) f fs
 
-pub closing_step : (ps : List Part) (f : Open) (fs : List Open) → feed (at_block ps f fs) (head Closing f.label true) ≡ in_tag (Some InClosing) (with_child f (block ps)) fs
+pub closing_step : (ps : List Part) (f : Open) (fs : List Open)
+    → feed (at_block ps f fs) (head Closing f.label true) ≡ in_tag (Some InClosing) (with_child f (block ps)) fs
 unfolding feed
 closing_step ps f fs = next_step ps (Some InClosing) f fs
 
-pub last_step : (ps : List Part) (f : Open) (fs : List Open) → feed (at_block ps f fs) (head Closing f.label false) ≡ reading (put f.before (long_tag f.label f.children ps [])) fs
+pub last_step : (ps : List Part) (f : Open) (fs : List Open)
+    → feed (at_block ps f fs) (head Closing f.label false) ≡ reading (put f.before (long_tag f.label f.children ps []))
+    fs
 unfolding feed
 last_step ps f fs =
-    ap (λ o. last_block o f.label (puts (block_behind f.label f.children) ps) (f ∷ fs)) (block_place ps f.label f.children)
-    ∙ ap (λ c. go c (reading (put f.before (long_of f.label f.children (puts (block_behind f.label f.children) ps))) fs)) (same_self f.label)
+    ap (λ o. last_block o f.label (puts (block_behind f.label f.children) ps) (f ∷ fs))
+    (block_place ps f.label f.children)
+    ∙ ap (λ c. go c
+    (reading (put f.before (long_of f.label f.children (puts (block_behind f.label f.children) ps))) fs))
+    (same_self f.label)
     ∙ ap (λ x. reading (put f.before x) fs) (long_is f.label f.children ps)
 
 pub regrouped : (a b c y : List Token) → (a ++ (b ++ c)) ++ y ≡ a ++ (b ++ (c ++ y))
@@ -187,12 +209,17 @@ regrouped a b c y = simp append_assoc refl
 
 -- an argument and those behind it
 arguments_from : (x : Pieces) (xs : Arguments) (p : TagPlace) (f : Open) (fs : List Open) (y : List Token)
-    → feeds (in_tag (Some p) f fs) (tokens_of x ++ (more_arguments xs ++ y)) ≡ feeds (at_argument p (parts_of x) f fs) (more_arguments xs ++ y)
-    → feeds (at_argument p (parts_of x) f fs) (more_arguments xs ++ y) ≡ feeds (after_arguments p (with_children f (children_of (argument x xs))) fs) y
-    → feeds (in_tag (Some p) f fs) ((tokens_of x ++ more_arguments xs) ++ y) ≡ feeds (after_arguments p (with_children f (children_of (argument x xs))) fs) y
-arguments_from x xs p f fs y h k = ap (λ z. feeds (in_tag (Some p) f fs) z) (append_assoc (tokens_of x) (more_arguments xs) y) ∙ h ∙ k
+    → feeds (in_tag (Some p) f fs) (tokens_of x ++ (more_arguments xs ++ y)) ≡ feeds (at_argument p (parts_of x) f fs)
+    (more_arguments xs ++ y)
+    → feeds (at_argument p (parts_of x) f fs) (more_arguments xs ++ y) ≡ feeds
+    (after_arguments p (with_children f (children_of (argument x xs))) fs) y
+    → feeds (in_tag (Some p) f fs) ((tokens_of x ++ more_arguments xs) ++ y) ≡ feeds
+    (after_arguments p (with_children f (children_of (argument x xs))) fs) y
+arguments_from x xs p f fs y h k =
+    ap (λ z. feeds (in_tag (Some p) f fs) z) (append_assoc (tokens_of x) (more_arguments xs) y) ∙ h ∙ k
 
-children_more : (f : Open) (t : WideTree) (ts : List WideTree) → with_children (with_child f t) ts ≡ with_children f (t ∷ ts)
+children_more : (f : Open) (t : WideTree) (ts : List WideTree)
+    → with_children (with_child f t) ts ≡ with_children f (t ∷ ts)
 children_more f t ts = ap (open_tag f.before f.label) (append_assoc f.children (t ∷ []) ts)
 
 no_children : (f : Open) → f ≡ with_children f []
@@ -200,11 +227,15 @@ no_children f = ap (open_tag f.before f.label) (sym (append-nil f.children))
 
 -- what a tag's beginning does
 abbrev Begins : State → TagForm → TagPlace → Open → List Open → Type 0
-Begins s form p f fs = (feed s (head form f.label true) ≡ in_tag (Some p) f fs) × (feed s (head form f.label false) ≡ after_arguments p f fs)
+Begins s form p f fs =
+    (feed s (head form f.label true) ≡ in_tag (Some p) f fs)
+    × (feed s (head form f.label false) ≡ after_arguments p f fs)
 
 -- what the end of a long tag does behind any block
 abbrev Ends : Arguments → Content → List ℕ → List Open → List Token → Type 0
-Ends xs before l fs y = (ps : List Part) (ks : List WideTree) → feeds (at_block ps (open_tag before l ks) fs) (beginning Closing l xs ++ y) ≡ feeds (reading (put before (long_tag l ks ps (children_of xs))) fs) y
+Ends xs before l fs y =
+    (ps : List Part) (ks : List WideTree) → feeds (at_block ps (open_tag before l ks) fs) (beginning Closing l xs ++ y)
+    ≡ feeds (reading (put before (long_tag l ks ps (children_of xs))) fs) y
 
 mutual
   unfolding feed
@@ -216,12 +247,18 @@ mutual
   read_piece (escaped b e h) here fs y = ap (λ o. feeds (by_escape o b here fs) y) h
   read_piece (symbol n h) here fs y = read_symbol n here fs y h
   read_piece (raw_data ds h) here fs y = read_raw ds here fs y h
-  read_piece (short_tag l h xs) here fs y = read_beginning xs (reading here fs) Short InShort (open_tag here l []) fs y (refl, refl)
+  read_piece (short_tag l h xs) here fs y =
+      read_beginning xs (reading here fs) Short InShort (open_tag here l []) fs y (refl, refl)
   read_piece (long_tag_of l h xs first others last) here fs y =
-      ap (λ z. feeds (reading here fs) z) (append_assoc (beginning Long l xs) (tokens_of first ++ (tokens_of_blocks l others ++ beginning Closing l last)) y)
-      ∙ read_beginning xs (reading here fs) Long InHeader (open_tag here l []) fs ((tokens_of first ++ (tokens_of_blocks l others ++ beginning Closing l last)) ++ y) (refl, refl)
-      ∙ ap (λ z. feeds (in_tag None (open_tag here l (children_of xs)) fs) z) (regrouped (tokens_of first) (tokens_of_blocks l others) (beginning Closing l last) y)
-      ∙ read_pieces first (block_behind l (children_of xs)) (open_tag here l (children_of xs) ∷ fs) (tokens_of_blocks l others ++ (beginning Closing l last ++ y))
+      ap (λ z. feeds (reading here fs) z)
+      (append_assoc (beginning Long l xs)
+      (tokens_of first ++ (tokens_of_blocks l others ++ beginning Closing l last)) y)
+      ∙ read_beginning xs (reading here fs) Long InHeader (open_tag here l []) fs
+      ((tokens_of first ++ (tokens_of_blocks l others ++ beginning Closing l last)) ++ y) (refl, refl)
+      ∙ ap (λ z. feeds (in_tag None (open_tag here l (children_of xs)) fs) z)
+      (regrouped (tokens_of first) (tokens_of_blocks l others) (beginning Closing l last) y)
+      ∙ read_pieces first (block_behind l (children_of xs)) (open_tag here l (children_of xs) ∷ fs)
+      (tokens_of_blocks l others ++ (beginning Closing l last ++ y))
       ∙ read_blocks others last l (parts_of first) here (children_of xs) fs y (λ ps ks. read_end last l ps here ks fs y)
 
   pub read_pieces : (c : Pieces) (here : Content) (fs : List Open) (y : List Token)
@@ -234,7 +271,8 @@ mutual
 
   -- the arguments behind one that has been read
   read_more : (xs : Arguments) (p : TagPlace) (ps : List Part) (f : Open) (fs : List Open) (y : List Token)
-      → feeds (at_argument p ps f fs) (more_arguments xs ++ y) ≡ feeds (after_arguments p (with_children f (content ps ∷ children_of xs)) fs) y
+      → feeds (at_argument p ps f fs) (more_arguments xs ++ y) ≡ feeds
+      (after_arguments p (with_children f (content ps ∷ children_of xs)) fs) y
   read_more no_argument p ps f fs y = ap (λ s. feeds s y) (close_step p ps f fs)
   read_more (argument x xs) p ps f fs y =
       ap (λ s. feeds s ((tokens_of x ++ more_arguments xs) ++ y)) (bar_step p ps f fs)
@@ -243,32 +281,50 @@ mutual
       (read_more xs p (parts_of x) (with_child f (content ps)) fs y)
       ∙ ap (λ g. feeds (after_arguments p g fs) y) (children_more f (content ps) (children_of (argument x xs)))
 
-  read_beginning : (xs : Arguments) (s : State) (form : TagForm) (p : TagPlace) (f : Open) (fs : List Open) (y : List Token) → Begins s form p f fs
+  read_beginning : (xs : Arguments) (s : State) (form : TagForm) (p : TagPlace) (f : Open) (fs : List Open)
+      (y : List Token) → Begins s form p f fs
       → feeds s (beginning form f.label xs ++ y) ≡ feeds (after_arguments p (with_children f (children_of xs)) fs) y
-  read_beginning no_argument s form p f fs y h = ap (λ z. feeds z y) h.1 ∙ ap (λ g. feeds (after_arguments p g fs) y) (no_children f)
+  read_beginning no_argument s form p f fs y h =
+      ap (λ z. feeds z y) h.1 ∙ ap (λ g. feeds (after_arguments p g fs) y) (no_children f)
   read_beginning (argument x xs) s form p f fs y h =
       ap (λ z. feeds z ((tokens_of x ++ more_arguments xs) ++ y)) h.0
-      ∙ arguments_from x xs p f fs y (read_pieces x (inline p no_parts) (f ∷ fs) (more_arguments xs ++ y)) (read_more xs p (parts_of x) f fs y)
+      ∙ arguments_from x xs p f fs y (read_pieces x (inline p no_parts) (f ∷ fs) (more_arguments xs ++ y))
+      (read_more xs p (parts_of x) f fs y)
 
-  read_end : (xs : Arguments) (l : List ℕ) (ps : List Part) (before : Content) (ks : List WideTree) (fs : List Open) (y : List Token)
-      → feeds (at_block ps (open_tag before l ks) fs) (beginning Closing l xs ++ y) ≡ feeds (reading (put before (long_tag l ks ps (children_of xs))) fs) y
+  read_end : (xs : Arguments) (l : List ℕ) (ps : List Part) (before : Content) (ks : List WideTree) (fs : List Open)
+      (y : List Token)
+      → feeds (at_block ps (open_tag before l ks) fs) (beginning Closing l xs ++ y) ≡ feeds
+      (reading (put before (long_tag l ks ps (children_of xs))) fs) y
   read_end no_argument l ps before ks fs y = ap (λ s. feeds s y) (last_step ps (open_tag before l ks) fs)
   read_end (argument x xs) l ps before ks fs y =
       ap (λ s. feeds s ((tokens_of x ++ more_arguments xs) ++ y)) (closing_step ps (open_tag before l ks) fs)
       ∙ arguments_from x xs InClosing (open_tag before l (ks ++ block ps ∷ [])) fs y
-      (read_pieces x (inline InClosing no_parts) (open_tag before l (ks ++ block ps ∷ []) ∷ fs) (more_arguments xs ++ y))
+      (read_pieces x (inline InClosing no_parts) (open_tag before l (ks ++ block ps ∷ []) ∷ fs)
+      (more_arguments xs ++ y))
       (read_more xs InClosing (parts_of x) (open_tag before l (ks ++ block ps ∷ [])) fs y)
       ∙ ap (λ ts. feeds (with_node l ts before fs) y) (append_assoc ks (block ps ∷ []) (children_of (argument x xs)))
-      ∙ ap (λ z. feeds (reading (put before z) fs) y) (sym (child_behind l ks ps [] (content (parts_of x)) (children_of xs)))
+      ∙ ap (λ z. feeds (reading (put before z) fs) y)
+      (sym (child_behind l ks ps [] (content (parts_of x)) (children_of xs)))
 
-  read_blocks : (bs : Blocks) (last : Arguments) (l : List ℕ) (ps : List Part) (before : Content) (ks : List WideTree) (fs : List Open) (y : List Token) → Ends last before l fs y
-      → feeds (at_block ps (open_tag before l ks) fs) (tokens_of_blocks l bs ++ (beginning Closing l last ++ y)) ≡ feeds (reading (put before (long_tag l ks ps (children_of_blocks bs (children_of last)))) fs) y
+  read_blocks : (bs : Blocks) (last : Arguments) (l : List ℕ) (ps : List Part) (before : Content) (ks : List WideTree)
+      (fs : List Open) (y : List Token) → Ends last before l fs y
+      → feeds (at_block ps (open_tag before l ks) fs) (tokens_of_blocks l bs ++ (beginning Closing l last ++ y)) ≡ feeds
+      (reading (put before (long_tag l ks ps (children_of_blocks bs (children_of last)))) fs) y
   read_blocks no_block last l ps before ks fs y h = h ps ks
   read_blocks (middle_tag xs b bs) last l ps before ks fs y h =
-      ap (λ z. feeds (at_block ps (open_tag before l ks) fs) z) (regrouped (beginning Middle l xs) (tokens_of b) (tokens_of_blocks l bs) (beginning Closing l last ++ y))
-      ∙ read_beginning xs (at_block ps (open_tag before l ks) fs) Middle InHeader (open_tag before l (ks ++ block ps ∷ [])) fs (tokens_of b ++ (tokens_of_blocks l bs ++ (beginning Closing l last ++ y)))
+      ap (λ z. feeds (at_block ps (open_tag before l ks) fs) z)
+      (regrouped (beginning Middle l xs) (tokens_of b) (tokens_of_blocks l bs) (beginning Closing l last ++ y))
+      ∙ read_beginning xs (at_block ps (open_tag before l ks) fs) Middle InHeader
+      (open_tag before l (ks ++ block ps ∷ [])) fs
+      (tokens_of b ++ (tokens_of_blocks l bs ++ (beginning Closing l last ++ y)))
       (middle_step true ps (open_tag before l ks) fs, middle_step false ps (open_tag before l ks) fs)
-      ∙ ap (λ ts. feeds (in_tag None (open_tag before l ts) fs) (tokens_of b ++ (tokens_of_blocks l bs ++ (beginning Closing l last ++ y)))) (append_assoc ks (block ps ∷ []) (children_of xs))
-      ∙ read_pieces b (block_behind l (ks ++ block ps ∷ children_of xs)) (open_tag before l (ks ++ block ps ∷ children_of xs) ∷ fs) (tokens_of_blocks l bs ++ (beginning Closing l last ++ y))
+      ∙ ap (λ ts.
+      feeds (in_tag None (open_tag before l ts) fs)
+      (tokens_of b ++ (tokens_of_blocks l bs ++ (beginning Closing l last ++ y))))
+      (append_assoc ks (block ps ∷ []) (children_of xs))
+      ∙ read_pieces b (block_behind l (ks ++ block ps ∷ children_of xs))
+      (open_tag before l (ks ++ block ps ∷ children_of xs) ∷ fs)
+      (tokens_of_blocks l bs ++ (beginning Closing l last ++ y))
       ∙ read_blocks bs last l (parts_of b) before (ks ++ block ps ∷ children_of xs) fs y h
-      ∙ ap (λ z. feeds (reading (put before z) fs) y) (second_block l ks (children_of xs) ps (parts_of b) (children_of_blocks bs (children_of last)))
+      ∙ ap (λ z. feeds (reading (put before z) fs) y)
+      (second_block l ks (children_of xs) ps (parts_of b) (children_of_blocks bs (children_of last)))

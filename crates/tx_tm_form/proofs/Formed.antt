@@ -43,17 +43,25 @@ is_same_number b c e = grind arith
 pub other_byte : (b n : ℕ) → is_plain (kind_of n) ≡ false → is_plain (kind_of b) ≡ true → (b == n) ≡ false
 other_byte b n h k =
     elim (b == n) as (λ z. (b == n) ≡ z → z ≡ false) [
-      | true ↦ λ e. let g : is_plain (kind_of n) ≡ true = subst (λ m. is_plain (kind_of m) ≡ true) (is_same_number b n e) k in absurd cc
+      | true ↦ λ e. let g : is_plain (kind_of n) ≡ true =
+          subst (λ m. is_plain (kind_of m) ≡ true) (is_same_number b n e) k in absurd cc
       | false ↦ λ e. refl
     ] refl
 
-unplain : (is_plain (kind_of 9) ≡ false) × (is_plain (kind_of 10) ≡ false) × (is_plain (kind_of 13) ≡ false) × (is_plain (kind_of 60) ≡ false) × (is_plain (kind_of 62) ≡ false)
+unplain : (is_plain (kind_of 9) ≡ false) × (is_plain (kind_of 10) ≡ false) × (is_plain (kind_of 13) ≡ false)
+    × (is_plain (kind_of 60) ≡ false) × (is_plain (kind_of 62) ≡ false)
 unfolding kind_of is_label_byte
 unplain = (refl, refl, refl, refl, refl)
 
 pub plain_item : (b : ℕ) → is_plain (kind_of b) ≡ true → is_item_byte b ≡ true
 plain_item b h =
-    rw (other_byte b 9 unplain.0 h, other_byte b 10 unplain.1 h, other_byte b 13 unplain.2 h, other_byte b 60 unplain.3 h, other_byte b 62 unplain.4 h) refl
+    rw (
+      other_byte b 9 unplain.0 h,
+      other_byte b 10 unplain.1 h,
+      other_byte b 13 unplain.2 h,
+      other_byte b 60 unplain.3 h,
+      other_byte b 62 unplain.4 h,
+    ) refl
 
 same_byte_item : (b v : ℕ) → (b == 124 || b == 92 || b == 32) ≡ true → b ≡ v → is_item_byte v ≡ true
 same_byte_item b v h e = grind arith
@@ -61,28 +69,37 @@ same_byte_item b v h e = grind arith
 zero_item : (v : ℕ) → 0 ≡ v → is_item_byte v ≡ true
 zero_item v e = rw (← e) refl
 
-less_item : (b v : ℕ) → (b == 73 || b == 74 || b == 77) ≡ false → (nat_le 64 b && nat_le b 95) ≡ true → b - 64 ≡ v → is_item_byte v ≡ true
+less_item : (b v : ℕ) → (b == 73 || b == 74 || b == 77) ≡ false → (nat_le 64 b && nat_le b 95) ≡ true → b - 64 ≡ v
+    → is_item_byte v ≡ true
 less_item b v h k e = grind arith
 
-by_range : (b v : ℕ) (c : Bool) → (b == 73 || b == 74 || b == 77) ≡ false → (nat_le 64 b && nat_le b 95) ≡ c → (if c then Some (Byte (b - 64)) else None) ≡ Some (Byte v) → is_item_byte v ≡ true
+by_range : (b v : ℕ) (c : Bool) → (b == 73 || b == 74 || b == 77) ≡ false → (nat_le 64 b && nat_le b 95) ≡ c
+    → (if c then Some (Byte (b - 64)) else None) ≡ Some (Byte v) → is_item_byte v ≡ true
 by_range b v true h k e = less_item b v h k cc
 by_range b v false h k e = absurd cc
 
-by_refused : (b v : ℕ) (c : Bool) → (b == 73 || b == 74 || b == 77) ≡ c → (if c then None else if nat_le 64 b && nat_le b 95 then Some (Byte (b - 64)) else None) ≡ Some (Byte v) → is_item_byte v ≡ true
+by_refused : (b v : ℕ) (c : Bool) → (b == 73 || b == 74 || b == 77) ≡ c
+    → (if c then None else if nat_le 64 b && nat_le b 95 then Some (Byte (b - 64)) else None) ≡ Some (Byte v)
+    → is_item_byte v ≡ true
 by_refused b v true h e = absurd cc
 by_refused b v false h e = by_range b v (nat_le 64 b && nat_le b 95) h refl e
 
-by_zero : (b v : ℕ) (c : Bool) → (if c then Some (Byte 0) else if b == 73 || b == 74 || b == 77 then None else if nat_le 64 b && nat_le b 95 then Some (Byte (b - 64)) else None) ≡ Some (Byte v) → is_item_byte v ≡ true
+by_zero : (b v : ℕ) (c : Bool)
+    → (if c then Some (Byte 0) else if b == 73 || b == 74 || b == 77 then None else if nat_le 64 b && nat_le b 95
+    then Some (Byte (b - 64)) else None) ≡ Some (Byte v) → is_item_byte v ≡ true
 by_zero b v true e = zero_item v cc
 by_zero b v false e = by_refused b v (b == 73 || b == 74 || b == 77) refl e
 
 by_itself : (b v : ℕ) (c : Bool) → (b == 124 || b == 92 || b == 32) ≡ c
-    → (if c then Some (Byte b) else if b == 48 then Some (Byte 0) else if b == 73 || b == 74 || b == 77 then None else if nat_le 64 b && nat_le b 95 then Some (Byte (b - 64)) else None) ≡ Some (Byte v) → is_item_byte v ≡ true
+    → (if c then Some (Byte b) else if b == 48 then Some (Byte 0) else if b == 73 || b == 74 || b == 77 then None
+    else if nat_le 64 b && nat_le b 95 then Some (Byte (b - 64)) else None) ≡ Some (Byte v) → is_item_byte v ≡ true
 by_itself b v true h e = same_byte_item b v h cc
 by_itself b v false h e = by_zero b v (b == 48) e
 
 by_mark : (b v : ℕ) (c : Bool)
-    → (if c then Some Mark else if b == 124 || b == 92 || b == 32 then Some (Byte b) else if b == 48 then Some (Byte 0) else if b == 73 || b == 74 || b == 77 then None else if nat_le 64 b && nat_le b 95 then Some (Byte (b - 64)) else None) ≡ Some (Byte v) → is_item_byte v ≡ true
+    → (if c then Some Mark else if b == 124 || b == 92 || b == 32 then Some (Byte b) else if b == 48 then Some (Byte 0)
+    else if b == 73 || b == 74 || b == 77 then None else if nat_le 64 b && nat_le b 95 then Some (Byte (b - 64))
+    else None) ≡ Some (Byte v) → is_item_byte v ≡ true
 by_mark b v true e = absurd cc
 by_mark b v false e = by_itself b v (b == 124 || b == 92 || b == 32) refl e
 
@@ -105,19 +122,35 @@ digits_text (b ∷ ds) h = text_text (b ∷ []) ds (one_byte_text b (digit_item 
 
 pub concat_is_label : IsLabel concat_label
 unfolding is_label_byte
-concat_is_label = record { each = (refl, (refl, (refl, (refl, (refl, (refl, tt)))))); some = omega arith; short = omega arith }
+concat_is_label =
+    record { each = (refl, (refl, (refl, (refl, (refl, (refl, tt)))))); some = omega arith; short = omega arith }
 
 pub document_is_label : IsLabel document_label
 unfolding is_label_byte
-document_is_label = record { each = (refl, (refl, (refl, (refl, (refl, (refl, (refl, (refl, tt)))))))); some = omega arith; short = omega arith }
+document_is_label =
+    record {
+      each = (refl, (refl, (refl, (refl, (refl, (refl, (refl, (refl, tt))))))));
+      some = omega arith;
+      short = omega arith;
+    }
 
 pub collection_is_label : IsLabel collection_label
 unfolding is_label_byte
-collection_is_label = record { each = (refl, (refl, (refl, (refl, (refl, (refl, (refl, (refl, (refl, (refl, tt)))))))))); some = omega arith; short = omega arith }
+collection_is_label =
+    record {
+      each = (refl, (refl, (refl, (refl, (refl, (refl, (refl, (refl, (refl, (refl, tt))))))))));
+      some = omega arith;
+      short = omega arith;
+    }
 
 pub raw_data_is_label : IsLabel raw_data_label
 unfolding is_label_byte
-raw_data_is_label = record { each = (refl, (refl, (refl, (refl, (refl, (refl, (refl, (refl, tt)))))))); some = omega arith; short = omega arith }
+raw_data_is_label =
+    record {
+      each = (refl, (refl, (refl, (refl, (refl, (refl, (refl, (refl, tt))))))));
+      some = omega arith;
+      short = omega arith;
+    }
 
 -- ---- lists of trees
 
@@ -155,7 +188,8 @@ texts_trees : (ps : List Part) (r : Bool) (s : List ℕ) → AreParts ps → IsT
 texts_trees [] r s h k = leaf_trees s [] k tt
 texts_trees (gap w ∷ ps) r s h k = texts_trees ps true (if r then s else s ++ 32 ∷ []) h.1 (space_behind r s k)
 texts_trees (text x ∷ ps) r s h k = texts_trees ps false (s ++ x) h.1 (text_text s x k h.0)
-texts_trees (tag c t ∷ ps) r s h k = leaf_trees s (t ∷ texts_and_tags false [] ps) k (h.0, texts_trees ps false [] h.1 no_text)
+texts_trees (tag c t ∷ ps) r s h k =
+    leaf_trees s (t ∷ texts_and_tags false [] ps) k (h.0, texts_trees ps false [] h.1 no_text)
 
 pub content_tree : (ps : List Part) → AreParts ps → IsWellFormed (content ps)
 unfolding content
@@ -220,7 +254,8 @@ document_tree ([] ∷ []) h = (document_is_label, contents ([] ∷ []) h)
 document_tree ((gap w ∷ q) ∷ []) h = (document_is_label, contents ((gap w ∷ q) ∷ []) h)
 document_tree ((text x ∷ q) ∷ []) h = (document_is_label, contents ((text x ∷ q) ∷ []) h)
 document_tree ((tag true t ∷ []) ∷ (r ∷ qs)) h = (document_is_label, contents ((tag true t ∷ []) ∷ (r ∷ qs)) h)
-document_tree ((tag true t ∷ (p ∷ q)) ∷ (r ∷ qs)) h = (document_is_label, contents ((tag true t ∷ (p ∷ q)) ∷ (r ∷ qs)) h)
+document_tree ((tag true t ∷ (p ∷ q)) ∷ (r ∷ qs)) h =
+    (document_is_label, contents ((tag true t ∷ (p ∷ q)) ∷ (r ∷ qs)) h)
 document_tree ((tag false t ∷ q) ∷ (r ∷ qs)) h = (document_is_label, contents ((tag false t ∷ q) ∷ (r ∷ qs)) h)
 document_tree ([] ∷ (r ∷ qs)) h = (document_is_label, contents ([] ∷ (r ∷ qs)) h)
 document_tree ((gap w ∷ q) ∷ (r ∷ qs)) h = (document_is_label, contents ((gap w ∷ q) ∷ (r ∷ qs)) h)
@@ -228,7 +263,10 @@ document_tree ((text x ∷ q) ∷ (r ∷ qs)) h = (document_is_label, contents (
 
 pub block_tree : (ps : List Part) → AreParts ps → IsWellFormed (block ps)
 unfolding block
-block_tree ps h = document_tree (paragraphs (to_last (from_first (with_runs ps)))) (paragraph_parts (to_last (from_first (with_runs ps))) (last_parts (from_first (with_runs ps)) (first_parts (with_runs ps) (runs_parts ps h))))
+block_tree ps h =
+    document_tree (paragraphs (to_last (from_first (with_runs ps))))
+    (paragraph_parts (to_last (from_first (with_runs ps)))
+    (last_parts (from_first (with_runs ps)) (first_parts (with_runs ps) (runs_parts ps h))))
 
 tags_trees : (ps : List Part) → AreParts ps → AreTrees (tags_of ps)
 tags_trees [] h = tt
@@ -236,11 +274,14 @@ tags_trees (gap w ∷ ps) h = tags_trees ps h.1
 tags_trees (text x ∷ ps) h = tags_trees ps h.1
 tags_trees (tag c t ∷ ps) h = (h.0, tags_trees ps h.1)
 
-pub long_part : (l : List ℕ) (us : List WideTree) (ps : List Part) (vs : List WideTree) → IsLabel l → AreTrees us → AreParts ps → AreTrees vs → IsPart (long_tag l us ps vs)
+pub long_part : (l : List ℕ) (us : List WideTree) (ps : List Part) (vs : List WideTree) → IsLabel l → AreTrees us
+    → AreParts ps → AreTrees vs → IsPart (long_tag l us ps vs)
 unfolding long_tag
 long_part l us ps vs a h i k =
     elim (same l collection_label && none us && none vs && has_no_items ps)
-    as (λ z. IsPart (if z then tag true (node collection_label (forest (tags_of ps))) else tag false (node l (forest (us ++ block ps ∷ vs))))) [
+    as (λ z. IsPart
+    (if z then tag true (node collection_label (forest (tags_of ps))) else tag false
+    (node l (forest (us ++ block ps ∷ vs))))) [
       | true ↦ (collection_is_label, tags_trees ps i)
       | false ↦ (a, trees_trees us (block ps ∷ vs) h (block_tree ps i, k))
     ]
@@ -255,7 +296,9 @@ mutual
   part_tree (symbol_piece n h) = symbol_text n h
   part_tree (raw_data ds h) = (raw_data_is_label, (digits_text ds h, tt))
   part_tree (short_tag l h xs) = (h, children_trees xs)
-  part_tree (long_tag_of l h xs first others last) = long_part l (children_of xs) (parts_of first) (children_of_blocks others (children_of last)) h (children_trees xs) (parts_trees first) (blocks_trees others (children_of last) (children_trees last))
+  part_tree (long_tag_of l h xs first others last) =
+      long_part l (children_of xs) (parts_of first) (children_of_blocks others (children_of last)) h (children_trees xs)
+      (parts_trees first) (blocks_trees others (children_of last) (children_trees last))
 
   pub parts_trees : (c : Pieces) → AreParts (parts_of c)
   parts_trees nothing = tt
@@ -267,7 +310,9 @@ mutual
 
   blocks_trees : (bs : Blocks) (ts : List WideTree) → AreTrees ts → AreTrees (children_of_blocks bs ts)
   blocks_trees no_block ts h = h
-  blocks_trees (middle_tag xs b bs) ts h = trees_trees (children_of xs) (block (parts_of b) ∷ children_of_blocks bs ts) (children_trees xs) (block_tree (parts_of b) (parts_trees b), blocks_trees bs ts h)
+  blocks_trees (middle_tag xs b bs) ts h =
+      trees_trees (children_of xs) (block (parts_of b) ∷ children_of_blocks bs ts) (children_trees xs)
+      (block_tree (parts_of b) (parts_trees b), blocks_trees bs ts h)
 
 pub spelled_tree : (bytes : List ℕ) (t : WideTree) → Spells bytes t → IsWellFormed t
 spelled_tree bytes t h = subst IsWellFormed (sym h.meant) (block_tree (parts_of h.file) (parts_trees h.file))

@@ -34,16 +34,19 @@ puts c (p ∷ ps) = puts (put c p) ps
 abbrev line_of : List WideTree → List ℕ → Bool → Inline
 line_of ts s r = record { done = ts; bytes = s; in_run = r }
 
-one_tree_more : (ts : List WideTree) (s : List ℕ) (t : WideTree) (us : List WideTree) → ((ts ++ leaf_before s []) ++ t ∷ []) ++ us ≡ ts ++ leaf_before s (t ∷ us)
+one_tree_more : (ts : List WideTree) (s : List ℕ) (t : WideTree) (us : List WideTree)
+    → ((ts ++ leaf_before s []) ++ t ∷ []) ++ us ≡ ts ++ leaf_before s (t ∷ us)
 one_tree_more ts [] t us = append_assoc (ts ++ []) (t ∷ []) us ∙ ap (λ z. z ++ t ∷ us) (append-nil ts)
-one_tree_more ts (b ∷ s) t us = append_assoc (ts ++ leaf (b ∷ s) ∷ []) (t ∷ []) us ∙ append_assoc ts (leaf (b ∷ s) ∷ []) (t ∷ us)
+one_tree_more ts (b ∷ s) t us = append_assoc (ts ++ leaf (b ∷ s) ∷ []) (t ∷ []) us
+    ∙ append_assoc ts (leaf (b ∷ s) ∷ []) (t ∷ us)
 
 line_grows : (ps : List Part) (ts : List WideTree) (s : List ℕ) (r : Bool)
     → (grows (line_of ts s r) ps).done ++ leaf_before (grows (line_of ts s r) ps).bytes [] ≡ ts ++ texts_and_tags r s ps
 line_grows [] ts s r = refl
 line_grows (gap w ∷ ps) ts s r = line_grows ps ts (if r then s else s ++ 32 ∷ []) true
 line_grows (text x ∷ ps) ts s r = line_grows ps ts (s ++ x) false
-line_grows (tag c t ∷ ps) ts s r = line_grows ps ((ts ++ leaf_before s []) ++ t ∷ []) [] false ∙ one_tree_more ts s t (texts_and_tags false [] ps)
+line_grows (tag c t ∷ ps) ts s r = line_grows ps ((ts ++ leaf_before s []) ++ t ∷ []) [] false
+    ∙ one_tree_more ts s t (texts_and_tags false [] ps)
 
 pub grown_is_content : (ps : List Part) → grown (grows no_parts ps) ≡ content ps
 unfolding content
@@ -113,7 +116,8 @@ run_part (Some w) ps = gap w ∷ ps
 abbrev following : Option White → List Part → List (List Part)
 following r ps = paragraphs (to_last (with_runs (run_part r ps)))
 
-stage_aside : (f : List (List Part)) (c : List Part) (q : Part) (b : Block) (p : Part) → with_part (alone f c q) b p ≡ with_part Ordinary b p
+stage_aside : (f : List (List Part)) (c : List Part) (q : Part) (b : Block) (p : Part)
+    → with_part (alone f c q) b p ≡ with_part Ordinary b p
 stage_aside [] [] (gap w) b p = refl
 stage_aside [] [] (text x) b p = refl
 stage_aside [] [] (tag true t) b p = refl
@@ -121,7 +125,8 @@ stage_aside [] [] (tag false t) b p = refl
 stage_aside [] (d ∷ c) q b p = refl
 stage_aside (g ∷ f) c q b p = refl
 
-white_aside : (f : List (List Part)) (c : List Part) (q : Part) (b : Block) (w : White) → with_white (alone f c q) b w ≡ with_white Ordinary b w
+white_aside : (f : List (List Part)) (c : List Part) (q : Part) (b : Block) (w : White)
+    → with_white (alone f c q) b w ≡ with_white Ordinary b w
 white_aside [] [] (gap v) b w = refl
 white_aside [] [] (text x) b w = refl
 white_aside [] [] (tag true t) b w = refl
@@ -144,9 +149,16 @@ more_alone [] c d q = refl
 more_alone (g ∷ f) c d q = refl
 
 abbrev with_run : List (List Part) → Part → List Part → Option White → Part → Block
-with_run f q c r p = record { full = ended r (map content f) (grows no_parts (q ∷ c)); now = grow (resumed r (grows no_parts (q ∷ c))) p; run = None; stage = Ordinary }
+with_run f q c r p =
+    record {
+      full = ended r (map content f) (grows no_parts (q ∷ c));
+      now = grow (resumed r (grows no_parts (q ∷ c))) p;
+      run = None;
+      stage = Ordinary;
+    }
 
-widen_run : (f : List (List Part)) (q : Part) (c : List Part) (r : Option White) (p : Part) → is_solid p ≡ true → widen (block_with f q c r) p ≡ with_run f q c r p
+widen_run : (f : List (List Part)) (q : Part) (c : List Part) (r : Option White) (p : Part) → is_solid p ≡ true
+    → widen (block_with f q c r) p ≡ with_run f q c r p
 widen_run f q c r p h = widen_solid (block_with f q c r) p h ∙ stage_aside f c q (block_with f q c r) p
 
 abbrev block_at : List WideTree → Inline → Stage → Block
@@ -154,14 +166,18 @@ block_at f g s = record { full = f; now = g; run = None; stage = s }
 
 -- the same paragraph goes on with these parts
 goes_on : (f : List (List Part)) (q : Part) (c : List Part) (d : List Part) (p : Part)
-    → block_at (map content f) (grow (grows (grows no_parts (q ∷ c)) d) p) Ordinary ≡ block_with f q (c ++ (d ++ p ∷ [])) None
+    → block_at (map content f) (grow (grows (grows no_parts (q ∷ c)) d) p) Ordinary ≡ block_with f q
+    (c ++ (d ++ p ∷ [])) None
 goes_on f q c d p =
-    ap (λ z. block_at (map content f) z Ordinary) (sym (grows_append d (p ∷ []) (grows no_parts (q ∷ c))) ∙ sym (grows_append (q ∷ c) (d ++ p ∷ []) no_parts))
-    ∙ ap (block_at (map content f) (grows no_parts (q ∷ (c ++ (d ++ p ∷ []))))) (sym (longer_alone f (c ++ d) p q) ∙ ap (λ z. alone f z q) (append_assoc c d (p ∷ [])))
+    ap (λ z. block_at (map content f) z Ordinary) (sym (grows_append d (p ∷ []) (grows no_parts (q ∷ c)))
+    ∙ sym (grows_append (q ∷ c) (d ++ p ∷ []) no_parts))
+    ∙ ap (block_at (map content f) (grows no_parts (q ∷ (c ++ (d ++ p ∷ []))))) (sym (longer_alone f (c ++ d) p q)
+    ∙ ap (λ z. alone f z q) (append_assoc c d (p ∷ [])))
 
 -- the next paragraph begins
 begins_next : (f : List (List Part)) (q : Part) (c : List Part) (p : Part)
-    → block_at (map content f ++ grown (grows no_parts (q ∷ c)) ∷ []) (grow no_parts p) Ordinary ≡ block_with (f ++ (q ∷ c) ∷ []) p [] None
+    → block_at (map content f ++ grown (grows no_parts (q ∷ c)) ∷ []) (grow no_parts p) Ordinary ≡ block_with
+    (f ++ (q ∷ c) ∷ []) p [] None
 begins_next f q c p =
     ap (λ z. block_at (map content f ++ z ∷ []) (grow no_parts p) Ordinary) (grown_is_content (q ∷ c))
     ∙ ap (λ z. block_at z (grow no_parts p) Ordinary) (sym (map-append content f ((q ∷ c) ∷ [])))
@@ -170,7 +186,8 @@ begins_next f q c p =
 abbrev document : List WideTree → WideTree
 document ts = node document_label (forest ts)
 
-several : (f : List (List Part)) (g c : List Part) → document_of (g ∷ (f ++ c ∷ [])) ≡ document (map content (g ∷ (f ++ c ∷ [])))
+several : (f : List (List Part)) (g c : List Part)
+    → document_of (g ∷ (f ++ c ∷ [])) ≡ document (map content (g ∷ (f ++ c ∷ [])))
 several [] [] c = refl
 several [] (gap w ∷ g) c = refl
 several [] (text x ∷ g) c = refl
@@ -184,7 +201,8 @@ several (h ∷ f) (tag true t ∷ []) c = refl
 several (h ∷ f) (tag true t ∷ (p ∷ g)) c = refl
 several (h ∷ f) (tag false t ∷ g) c = refl
 
-one_paragraph : (c : List Part) (q : Part) → tree_at (alone [] c q) (block_with [] q c None) ≡ document_of ((q ∷ c) ∷ [])
+one_paragraph : (c : List Part) (q : Part)
+    → tree_at (alone [] c q) (block_with [] q c None) ≡ document_of ((q ∷ c) ∷ [])
 one_paragraph [] (tag true t) = refl
 one_paragraph [] (tag false t) = ap (λ z. document (z ∷ [])) (grown_is_content (tag false t ∷ []))
 one_paragraph [] (gap w) = ap (λ z. document (z ∷ [])) (grown_is_content (gap w ∷ []))
@@ -194,12 +212,14 @@ one_paragraph (d ∷ c) (tag false t) = ap (λ z. document (z ∷ [])) (grown_is
 one_paragraph (d ∷ c) (gap w) = ap (λ z. document (z ∷ [])) (grown_is_content (gap w ∷ (d ∷ c)))
 one_paragraph (d ∷ c) (text x) = ap (λ z. document (z ∷ [])) (grown_is_content (text x ∷ (d ∷ c)))
 
-run_aside : (s : Stage) (f : List WideTree) (g : Inline) (r : Option White) → tree_at s (record { full = f; now = g; run = r; stage = s }) ≡ tree_at s (block_at f g s)
+run_aside : (s : Stage) (f : List WideTree) (g : Inline) (r : Option White)
+    → tree_at s (record { full = f; now = g; run = r; stage = s }) ≡ tree_at s (block_at f g s)
 run_aside Empty f g r = refl
 run_aside Alone f g r = refl
 run_aside Ordinary f g r = refl
 
-block_ends : (f : List (List Part)) (q : Part) (c : List Part) (r : Option White) → tree_of_block (block_with f q c r) ≡ document_of (f ++ (q ∷ c) ∷ [])
+block_ends : (f : List (List Part)) (q : Part) (c : List Part) (r : Option White)
+    → tree_of_block (block_with f q c r) ≡ document_of (f ++ (q ∷ c) ∷ [])
 block_ends [] q c r = run_aside (alone [] c q) [] (grows no_parts (q ∷ c)) r ∙ one_paragraph c q
 block_ends (g ∷ f) q c r =
     ap (λ z. document ((content g ∷ map content f) ++ z ∷ [])) (grown_is_content (q ∷ c))
@@ -208,9 +228,12 @@ block_ends (g ∷ f) q c r =
 
 -- what is left to show of a solid part behind a run: either the paragraph goes on, or the next one begins
 behind_part : (ps : List Part) (f : List (List Part)) (q : Part) (c : List Part) (p : Part) (w : White)
-    → ((d : List Part) → tree_of_block (widens (block_with f q (c ++ (d ++ p ∷ [])) None) ps) ≡ document_of (f ++ joined (q ∷ (c ++ (d ++ p ∷ []))) (following None ps)))
-    → (tree_of_block (widens (block_with (f ++ (q ∷ c) ∷ []) p [] None) ps) ≡ document_of ((f ++ (q ∷ c) ∷ []) ++ joined (p ∷ []) (following None ps)))
-    → tree_of_block (widens (with_run f q c (Some w) p) ps) ≡ document_of (f ++ joined (q ∷ c) (separate w (into_first p (following None ps))))
+    → ((d : List Part) → tree_of_block (widens (block_with f q (c ++ (d ++ p ∷ [])) None) ps) ≡ document_of
+    (f ++ joined (q ∷ (c ++ (d ++ p ∷ []))) (following None ps)))
+    → (tree_of_block (widens (block_with (f ++ (q ∷ c) ∷ []) p [] None) ps) ≡ document_of
+    ((f ++ (q ∷ c) ∷ []) ++ joined (p ∷ []) (following None ps)))
+    → tree_of_block (widens (with_run f q c (Some w) p) ps) ≡ document_of
+    (f ++ joined (q ∷ c) (separate w (into_first p (following None ps))))
 behind_part ps f q c p Break h k =
     ap (λ b. tree_of_block (widens b ps)) (begins_next f q c p)
     ∙ k
@@ -220,18 +243,24 @@ behind_part ps f q c p Break h k =
 behind_part ps f q c p Spaces h k =
     ap (λ b. tree_of_block (widens b ps)) (goes_on f q c (gap Spaces ∷ []) p)
     ∙ h (gap Spaces ∷ [])
-    ∙ ap (λ z. document_of (f ++ z)) (ap (λ z. joined z (following None ps)) (sym (append_assoc (q ∷ c) (gap Spaces ∷ []) (p ∷ [])))
-    ∙ sym (joined_first ((q ∷ c) ++ gap Spaces ∷ []) p (following None ps)) ∙ sym (joined_first (q ∷ c) (gap Spaces) (into_first p (following None ps))))
+    ∙ ap (λ z. document_of (f ++ z))
+    (ap (λ z. joined z (following None ps)) (sym (append_assoc (q ∷ c) (gap Spaces ∷ []) (p ∷ [])))
+    ∙ sym (joined_first ((q ∷ c) ++ gap Spaces ∷ []) p (following None ps))
+    ∙ sym (joined_first (q ∷ c) (gap Spaces) (into_first p (following None ps))))
 behind_part ps f q c p Line h k =
     ap (λ b. tree_of_block (widens b ps)) (goes_on f q c (gap Line ∷ []) p)
     ∙ h (gap Line ∷ [])
-    ∙ ap (λ z. document_of (f ++ z)) (ap (λ z. joined z (following None ps)) (sym (append_assoc (q ∷ c) (gap Line ∷ []) (p ∷ [])))
-    ∙ sym (joined_first ((q ∷ c) ++ gap Line ∷ []) p (following None ps)) ∙ sym (joined_first (q ∷ c) (gap Line) (into_first p (following None ps))))
+    ∙ ap (λ z. document_of (f ++ z))
+    (ap (λ z. joined z (following None ps)) (sym (append_assoc (q ∷ c) (gap Line ∷ []) (p ∷ [])))
+    ∙ sym (joined_first ((q ∷ c) ++ gap Line ∷ []) p (following None ps))
+    ∙ sym (joined_first (q ∷ c) (gap Line) (into_first p (following None ps))))
 
 -- behind no run
 beside_part : (ps : List Part) (f : List (List Part)) (q : Part) (c : List Part) (p : Part) → is_solid p ≡ true
-    → tree_of_block (widens (block_with f q (c ++ p ∷ []) None) ps) ≡ document_of (f ++ joined (q ∷ (c ++ p ∷ [])) (following None ps))
-    → tree_of_block (widens (block_with f q c None) (p ∷ ps)) ≡ document_of (f ++ joined (q ∷ c) (into_first p (following None ps)))
+    → tree_of_block (widens (block_with f q (c ++ p ∷ []) None) ps) ≡ document_of
+    (f ++ joined (q ∷ (c ++ p ∷ [])) (following None ps))
+    → tree_of_block (widens (block_with f q c None) (p ∷ ps)) ≡ document_of
+    (f ++ joined (q ∷ c) (into_first p (following None ps)))
 beside_part ps f q c p s h =
     ap (λ b. tree_of_block (widens b ps)) (widen_run f q c None p s ∙ goes_on f q c [] p)
     ∙ h
@@ -243,19 +272,23 @@ Reaches ps f q c r = tree_of_block (widens (block_with f q c r) ps) ≡ document
 block_grows : (ps : List Part) (f : List (List Part)) (q : Part) (c : List Part) (r : Option White) → Reaches ps f q c r
 block_grows [] f q c None = block_ends f q c None
 block_grows [] f q c (Some w) = block_ends f q c (Some w)
-block_grows (gap w ∷ ps) f q c None = ap (λ b. tree_of_block (widens b ps)) (white_aside f c q (block_with f q c None) w) ∙ block_grows ps f q c (Some w)
+block_grows (gap w ∷ ps) f q c None =
+    ap (λ b. tree_of_block (widens b ps)) (white_aside f c q (block_with f q c None) w) ∙ block_grows ps f q c (Some w)
 block_grows (gap w ∷ ps) f q c (Some v) =
     ap (λ b. tree_of_block (widens b ps)) (white_aside f c q (block_with f q c (Some v)) w)
     ∙ block_grows ps f q c (Some (plus v w))
     ∙ ap (λ z. document_of (f ++ joined (q ∷ c) (paragraphs (to_last z)))) (sym (two_runs v w (with_runs ps)))
 block_grows (text x ∷ ps) f q c None = beside_part ps f q c (text x) refl (block_grows ps f q (c ++ text x ∷ []) None)
-block_grows (tag e t ∷ ps) f q c None = beside_part ps f q c (tag e t) refl (block_grows ps f q (c ++ tag e t ∷ []) None)
+block_grows (tag e t ∷ ps) f q c None =
+    beside_part ps f q c (tag e t) refl (block_grows ps f q (c ++ tag e t ∷ []) None)
 block_grows (text x ∷ ps) f q c (Some w) =
     ap (λ b. tree_of_block (widens b ps)) (widen_run f q c (Some w) (text x) refl)
-    ∙ behind_part ps f q c (text x) w (λ d. block_grows ps f q (c ++ (d ++ text x ∷ [])) None) (block_grows ps (f ++ (q ∷ c) ∷ []) (text x) [] None)
+    ∙ behind_part ps f q c (text x) w (λ d. block_grows ps f q (c ++ (d ++ text x ∷ [])) None)
+    (block_grows ps (f ++ (q ∷ c) ∷ []) (text x) [] None)
 block_grows (tag e t ∷ ps) f q c (Some w) =
     ap (λ b. tree_of_block (widens b ps)) (widen_run f q c (Some w) (tag e t) refl)
-    ∙ behind_part ps f q c (tag e t) w (λ d. block_grows ps f q (c ++ (d ++ tag e t ∷ [])) None) (block_grows ps (f ++ (q ∷ c) ∷ []) (tag e t) [] None)
+    ∙ behind_part ps f q c (tag e t) w (λ d. block_grows ps f q (c ++ (d ++ tag e t ∷ [])) None)
+    (block_grows ps (f ++ (q ∷ c) ∷ []) (tag e t) [] None)
 
 first_alone : (p : Part) → first_stage p ≡ alone [] [] p
 first_alone (gap w) = refl
@@ -263,10 +296,13 @@ first_alone (text x) = refl
 first_alone (tag true t) = refl
 first_alone (tag false t) = refl
 
-block_begins : (ps : List Part) → tree_of_block (widens no_paragraphs ps) ≡ document_of (paragraphs (to_last (from_first (with_runs ps))))
+block_begins : (ps : List Part)
+    → tree_of_block (widens no_paragraphs ps) ≡ document_of (paragraphs (to_last (from_first (with_runs ps))))
 block_begins [] = refl
-block_begins (gap w ∷ ps) = block_begins ps ∙ ap (λ z. document_of (paragraphs (to_last z))) (sym (first_run w (with_runs ps)))
-block_begins (text x ∷ ps) = block_grows ps [] (text x) [] None ∙ ap document_of (joined_one (text x) (following None ps))
+block_begins (gap w ∷ ps) =
+    block_begins ps ∙ ap (λ z. document_of (paragraphs (to_last z))) (sym (first_run w (with_runs ps)))
+block_begins (text x ∷ ps) =
+    block_grows ps [] (text x) [] None ∙ ap document_of (joined_one (text x) (following None ps))
 block_begins (tag c t ∷ ps) =
     ap (λ s. tree_of_block (widens (block_at [] (grow no_parts (tag c t)) s) ps)) (first_alone (tag c t))
     ∙ block_grows ps [] (tag c t) [] None
@@ -281,7 +317,8 @@ grown_is_block ps = block_begins ps
 abbrev gathers : Tags → List Part → Tags
 gathers x [] = x
 gathers x (gap w ∷ ps) = gathers (record { entries = x.entries; run = Some (longer x.run w) }) ps
-gathers x (tag c t ∷ ps) = gathers (record { entries = x.entries ++ record { before = x.run; collects = c; tree = t } ∷ []; run = None }) ps
+gathers x (tag c t ∷ ps) =
+    gathers (record { entries = x.entries ++ record { before = x.run; collects = c; tree = t } ∷ []; run = None }) ps
 gathers x (text s ∷ ps) = gathers x ps
 
 longer_plus : (r : Option White) (v w : White) → longer r (plus v w) ≡ plus (longer r v) w
@@ -289,12 +326,15 @@ longer_plus None v w = refl
 longer_plus (Some u) v w = sym (plus_assoc u v w)
 
 two_whites : (s : Stage) (f : List WideTree) (g : Inline) (r : Option White) (v w : White)
-    → with_white s (record { full = f; now = g; run = r; stage = s }) (plus v w) ≡ widen (with_white s (record { full = f; now = g; run = r; stage = s }) v) (gap w)
+    → with_white s (record { full = f; now = g; run = r; stage = s }) (plus v w) ≡ widen
+    (with_white s (record { full = f; now = g; run = r; stage = s }) v) (gap w)
 two_whites Empty f g r v w = refl
 two_whites Alone f g r v w = ap (λ z. record { full = f; now = g; run = Some z; stage = Alone }) (longer_plus r v w)
-two_whites Ordinary f g r v w = ap (λ z. record { full = f; now = g; run = Some z; stage = Ordinary }) (longer_plus r v w)
+two_whites Ordinary f g r v w =
+    ap (λ z. record { full = f; now = g; run = Some z; stage = Ordinary }) (longer_plus r v w)
 
-pub longer_run : (b : Block) (r : Option White) (w : White) → behind_run b (Some (longer r w)) ≡ widen (behind_run b r) (gap w)
+pub longer_run : (b : Block) (r : Option White) (w : White)
+    → behind_run b (Some (longer r w)) ≡ widen (behind_run b r) (gap w)
 longer_run b None w = refl
 longer_run b (Some v) w = two_whites b.stage b.full b.now b.run v w
 
@@ -309,23 +349,29 @@ puts_blocks (p ∷ ps) b = puts_blocks ps (widen b p)
 abbrev gathered : Bool → Tags → Block → Content
 gathered c x b = if c then collecting x else blocks b
 
-puts_tags : (ps : List Part) (x : Tags) → puts (collecting x) ps ≡ gathered (has_no_items ps) (gathers x ps) (widens (as_block x) ps)
+puts_tags : (ps : List Part) (x : Tags) → puts (collecting x) ps ≡ gathered (has_no_items ps) (gathers x ps)
+    (widens (as_block x) ps)
 puts_tags [] x = refl
 puts_tags (gap w ∷ ps) x =
     puts_tags ps (record { entries = x.entries; run = Some (longer x.run w) })
-    ∙ ap (λ b. gathered (has_no_items ps) (gathers x (gap w ∷ ps)) (widens b ps)) (longer_run (with_entries no_paragraphs x.entries) x.run w)
+    ∙ ap (λ b. gathered (has_no_items ps) (gathers x (gap w ∷ ps)) (widens b ps))
+    (longer_run (with_entries no_paragraphs x.entries) x.run w)
 puts_tags (tag c t ∷ ps) x =
     puts_tags ps (record { entries = x.entries ++ record { before = x.run; collects = c; tree = t } ∷ []; run = None })
-    ∙ ap (λ b. gathered (has_no_items ps) (gathers x (tag c t ∷ ps)) (widens b ps)) (entries_append x.entries (record { before = x.run; collects = c; tree = t } ∷ []) no_paragraphs)
+    ∙ ap (λ b. gathered (has_no_items ps) (gathers x (tag c t ∷ ps)) (widens b ps))
+    (entries_append x.entries (record { before = x.run; collects = c; tree = t } ∷ []) no_paragraphs)
 puts_tags (text s ∷ ps) x = puts_blocks ps (widen (as_block x) (text s))
 
-trees_gathered : (ps : List Part) (x : Tags) → map tree_of_entry (gathers x ps).entries ≡ map tree_of_entry x.entries ++ tags_of ps
+trees_gathered : (ps : List Part) (x : Tags) → map tree_of_entry (gathers x ps).entries ≡ map tree_of_entry x.entries
+    ++ tags_of ps
 trees_gathered [] x = sym (append-nil (map tree_of_entry x.entries))
 trees_gathered (gap w ∷ ps) x = trees_gathered ps (record { entries = x.entries; run = Some (longer x.run w) })
 trees_gathered (text s ∷ ps) x = trees_gathered ps x
 trees_gathered (tag c t ∷ ps) x =
-    trees_gathered ps (record { entries = x.entries ++ record { before = x.run; collects = c; tree = t } ∷ []; run = None })
-    ∙ ap (λ z. z ++ tags_of ps) (map-append tree_of_entry x.entries (record { before = x.run; collects = c; tree = t } ∷ []))
+    trees_gathered ps
+    (record { entries = x.entries ++ record { before = x.run; collects = c; tree = t } ∷ []; run = None })
+    ∙ ap (λ z. z ++ tags_of ps)
+    (map-append tree_of_entry x.entries (record { before = x.run; collects = c; tree = t } ∷ []))
     ∙ append_assoc (map tree_of_entry x.entries) (t ∷ []) (tags_of ps)
 
 no_items_block : (ps : List Part) (x : Tags) → has_no_items ps ≡ true → as_block (gathers x ps) ≡ widens (as_block x) ps
@@ -334,8 +380,10 @@ no_items_block (gap w ∷ ps) x h =
     no_items_block ps (record { entries = x.entries; run = Some (longer x.run w) }) h
     ∙ ap (λ b. widens b ps) (longer_run (with_entries no_paragraphs x.entries) x.run w)
 no_items_block (tag c t ∷ ps) x h =
-    no_items_block ps (record { entries = x.entries ++ record { before = x.run; collects = c; tree = t } ∷ []; run = None }) h
-    ∙ ap (λ b. widens b ps) (entries_append x.entries (record { before = x.run; collects = c; tree = t } ∷ []) no_paragraphs)
+    no_items_block ps
+    (record { entries = x.entries ++ record { before = x.run; collects = c; tree = t } ∷ []; run = None }) h
+    ∙ ap (λ b. widens b ps)
+    (entries_append x.entries (record { before = x.run; collects = c; tree = t } ∷ []) no_paragraphs)
 no_items_block (text s ∷ ps) x h = absurd cc
 
 -- ---- content of either kind
@@ -360,13 +408,17 @@ place_is [] c = refl
 place_is (p ∷ ps) c = place_is ps (put c p) ∙ place_stays c p
 
 pub no_place : (l : List ℕ) (ks : List WideTree) → place_of (block_behind l ks) ≡ None
-no_place l ks = elim (same l collection_label && none ks) as (λ z. place_of (if z then collecting no_tags else blocks no_paragraphs) ≡ None) [ true ↦ refl | false ↦ refl ]
+no_place l ks =
+    elim (same l collection_label && none ks) as
+    (λ z. place_of (if z then collecting no_tags else blocks no_paragraphs) ≡ None) [ true ↦ refl | false ↦ refl ]
 
-gathered_block : (c : Bool) (x : Tags) (b : Block) → (c ≡ true → as_block x ≡ b) → block_of (gathered c x b) ≡ tree_of_block b
+gathered_block : (c : Bool) (x : Tags) (b : Block) → (c ≡ true → as_block x ≡ b)
+    → block_of (gathered c x b) ≡ tree_of_block b
 gathered_block true x b h = ap tree_of_block (h refl)
 gathered_block false x b h = refl
 
-started_block : (ps : List Part) (c : Bool) → block_of (puts (if c then collecting no_tags else blocks no_paragraphs) ps) ≡ block ps
+started_block : (ps : List Part) (c : Bool)
+    → block_of (puts (if c then collecting no_tags else blocks no_paragraphs) ps) ≡ block ps
 started_block ps true =
     ap block_of (puts_tags ps no_tags)
     ∙ gathered_block (has_no_items ps) (gathers no_tags ps) (widens no_paragraphs ps) (no_items_block ps no_tags)
@@ -381,16 +433,22 @@ file_is ps = ap file_tree (puts_blocks ps no_paragraphs) ∙ ap Some (grown_is_b
 
 started_long : (l : List ℕ) (ks : List WideTree) (ps : List Part) (c : Bool)
     → long_of l ks (puts (if c then collecting no_tags else blocks no_paragraphs) ps)
-    ≡ (if c && true && has_no_items ps then tag true (node collection_label (forest (tags_of ps))) else tag false (node l (forest (ks ++ block ps ∷ []))))
+    ≡ (if c && true && has_no_items ps then tag true (node collection_label (forest (tags_of ps))) else tag false
+    (node l (forest (ks ++ block ps ∷ []))))
 started_long l ks ps true =
     ap (long_of l ks) (puts_tags ps no_tags)
-    ∙ elim (has_no_items ps) as (λ z. long_of l ks (gathered z (gathers no_tags ps) (widens no_paragraphs ps)) ≡ (if true && true && z then tag true (node collection_label (forest (tags_of ps))) else tag false (node l (forest (ks ++ block ps ∷ []))))) [
+    ∙ elim (has_no_items ps) as
+    (λ z. long_of l ks (gathered z (gathers no_tags ps) (widens no_paragraphs ps))
+    ≡ (if true && true && z then tag true (node collection_label (forest (tags_of ps))) else tag false
+    (node l (forest (ks ++ block ps ∷ []))))) [
       | true ↦ ap (λ z. tag true (node collection_label (forest z))) (trees_gathered ps no_tags)
       | false ↦ ap (λ z. tag false (node l (forest (ks ++ z ∷ [])))) (grown_is_block ps)
     ]
 started_long l ks ps false =
-    ap (long_of l ks) (puts_blocks ps no_paragraphs) ∙ ap (λ z. tag false (node l (forest (ks ++ z ∷ [])))) (grown_is_block ps)
+    ap (long_of l ks) (puts_blocks ps no_paragraphs)
+    ∙ ap (λ z. tag false (node l (forest (ks ++ z ∷ [])))) (grown_is_block ps)
 
-pub long_is : (l : List ℕ) (ks : List WideTree) (ps : List Part) → long_of l ks (puts (block_behind l ks) ps) ≡ long_tag l ks ps []
+pub long_is : (l : List ℕ) (ks : List WideTree) (ps : List Part)
+    → long_of l ks (puts (block_behind l ks) ps) ≡ long_tag l ks ps []
 unfolding long_tag
 long_is l ks ps = started_long l ks ps (same l collection_label && none ks)

@@ -48,23 +48,27 @@ abbrev pub IsMarked : State → Option Standing → Type 0
 IsMarked s None = s ≡ failed
 IsMarked s (Some z) = IsStanding s z.inside z.marks
 
-put_marks : (fs : List Open) (here : Content) (p : Part) (ms : List TagMark) → AreMarks here fs ms → AreMarks (put here p) fs ms
+put_marks : (fs : List Open) (here : Content) (p : Part) (ms : List TagMark) → AreMarks here fs ms
+    → AreMarks (put here p) fs ms
 put_marks [] here p [] h = tt
 put_marks [] here p (m ∷ ms) h = absurd h
 put_marks (f ∷ fs) here p [] h = absurd h
 put_marks (f ∷ fs) here p (m ∷ ms) h = (h.0 ∙ sym (place_is (p ∷ []) here), h.1, h.2)
 
-if_same : (c : Bool) (s : State) (inside : Inside) (ms : List TagMark) → (c ≡ true → IsStanding s inside ms) → IsMarked (go c s) (if_marked c inside ms)
+if_same : (c : Bool) (s : State) (inside : Inside) (ms : List TagMark) → (c ≡ true → IsStanding s inside ms)
+    → IsMarked (go c s) (if_marked c inside ms)
 if_same true s inside ms h = h refl
 if_same false s inside ms h = refl
 
 -- in an argument or a block of the tag
-in_marks : (p : Option TagPlace) (m : TagMark) (f : Open) (fs : List Open) (ms : List TagMark) → m.label ≡ f.label → AreMarks f.before fs ms → IsStanding (in_tag p f fs) Parts (with_inner p m ∷ ms)
+in_marks : (p : Option TagPlace) (m : TagMark) (f : Open) (fs : List Open) (ms : List TagMark) → m.label ≡ f.label
+    → AreMarks f.before fs ms → IsStanding (in_tag p f fs) Parts (with_inner p m ∷ ms)
 in_marks p m f fs ms e h = (sym (place_there p f.label f.children), e, h)
 
 -- ---- one token, between parts
 
-next_nowhere : (w : Option TagPlace) (l : List ℕ) (p : Option TagPlace) (here : Content) → next_block w l p here [] ≡ failed
+next_nowhere : (w : Option TagPlace) (l : List ℕ) (p : Option TagPlace) (here : Content)
+    → next_block w l p here [] ≡ failed
 next_nowhere None l p here = refl
 next_nowhere (Some w) l p here = refl
 
@@ -82,21 +86,27 @@ close_nowhere (Some InShort) here = refl
 close_nowhere (Some InHeader) here = refl
 close_nowhere (Some InClosing) here = refl
 
-next_there : (w : Option TagPlace) (l : List ℕ) (p : Option TagPlace) (here : Content) (f : Open) (fs : List Open) (m : TagMark) (ms : List TagMark) → m.label ≡ f.label → AreMarks f.before fs ms
+next_there : (w : Option TagPlace) (l : List ℕ) (p : Option TagPlace) (here : Content) (f : Open) (fs : List Open)
+    (m : TagMark) (ms : List TagMark) → m.label ≡ f.label → AreMarks f.before fs ms
     → IsMarked (next_block w l p here (f ∷ fs)) (mark_next w l p m ms)
 next_there (Some w) l p here f fs m ms e h = refl
 next_there None l p here f fs m ms e h =
     let s : State = in_tag p (with_child f (block_of here)) fs in
     subst (λ z. IsMarked (go (same l z) s) (if_marked (same l m.label) Parts (with_inner p m ∷ ms))) e
-    (if_same (same l m.label) s Parts (with_inner p m ∷ ms) (λ k. in_marks p m (with_child f (block_of here)) fs ms e h))
+    (if_same (same l m.label) s Parts (with_inner p m ∷ ms)
+    (λ k. in_marks p m (with_child f (block_of here)) fs ms e h))
 
-next_same : (l : List ℕ) (p : Option TagPlace) (here : Content) (fs : List Open) (ms : List TagMark) → AreMarks here fs ms → IsMarked (next_block (place_of here) l p here fs) (next_marks l p ms)
+next_same : (l : List ℕ) (p : Option TagPlace) (here : Content) (fs : List Open) (ms : List TagMark)
+    → AreMarks here fs ms → IsMarked (next_block (place_of here) l p here fs) (next_marks l p ms)
 next_same l p here [] [] h = next_nowhere (place_of here) l p here
 next_same l p here [] (m ∷ ms) h = absurd h
 next_same l p here (f ∷ fs) [] h = absurd h
-next_same l p here (f ∷ fs) (m ∷ ms) h = subst (λ w. IsMarked (next_block w l p here (f ∷ fs)) (mark_next m.inner l p m ms)) h.0 (next_there m.inner l p here f fs m ms h.1 h.2)
+next_same l p here (f ∷ fs) (m ∷ ms) h =
+    subst (λ w. IsMarked (next_block w l p here (f ∷ fs)) (mark_next m.inner l p m ms)) h.0
+    (next_there m.inner l p here f fs m ms h.1 h.2)
 
-last_there : (w : Option TagPlace) (l : List ℕ) (here : Content) (f : Open) (fs : List Open) (m : TagMark) (ms : List TagMark) → m.label ≡ f.label → AreMarks f.before fs ms
+last_there : (w : Option TagPlace) (l : List ℕ) (here : Content) (f : Open) (fs : List Open) (m : TagMark)
+    (ms : List TagMark) → m.label ≡ f.label → AreMarks f.before fs ms
     → IsMarked (last_block w l here (f ∷ fs)) (mark_last w l m ms)
 last_there (Some w) l here f fs m ms e h = refl
 last_there None l here f fs m ms e h =
@@ -104,37 +114,49 @@ last_there None l here f fs m ms e h =
     subst (λ z. IsMarked (go (same l z) (reading (put f.before x) fs)) (if_marked (same l m.label) Parts ms)) e
     (if_same (same l m.label) (reading (put f.before x) fs) Parts ms (λ k. put_marks fs f.before x ms h))
 
-last_same : (l : List ℕ) (here : Content) (fs : List Open) (ms : List TagMark) → AreMarks here fs ms → IsMarked (last_block (place_of here) l here fs) (last_marks l ms)
+last_same : (l : List ℕ) (here : Content) (fs : List Open) (ms : List TagMark) → AreMarks here fs ms
+    → IsMarked (last_block (place_of here) l here fs) (last_marks l ms)
 last_same l here [] [] h = last_nowhere (place_of here) l here
 last_same l here [] (m ∷ ms) h = absurd h
 last_same l here (f ∷ fs) [] h = absurd h
-last_same l here (f ∷ fs) (m ∷ ms) h = subst (λ w. IsMarked (last_block w l here (f ∷ fs)) (mark_last m.inner l m ms)) h.0 (last_there m.inner l here f fs m ms h.1 h.2)
+last_same l here (f ∷ fs) (m ∷ ms) h =
+    subst (λ w. IsMarked (last_block w l here (f ∷ fs)) (mark_last m.inner l m ms)) h.0
+    (last_there m.inner l here f fs m ms h.1 h.2)
 
-bar_there : (w : Option TagPlace) (here : Content) (f : Open) (fs : List Open) (m : TagMark) (ms : List TagMark) → m.inner ≡ w → m.label ≡ f.label → AreMarks f.before fs ms
+bar_there : (w : Option TagPlace) (here : Content) (f : Open) (fs : List Open) (m : TagMark) (ms : List TagMark)
+    → m.inner ≡ w → m.label ≡ f.label → AreMarks f.before fs ms
     → IsMarked (next_argument w here (f ∷ fs)) (mark_bar w (m ∷ ms))
 bar_there None here f fs m ms i e h = refl
 bar_there (Some p) here f fs m ms i e h = (i, e, h)
 
-bar_same : (here : Content) (fs : List Open) (ms : List TagMark) → AreMarks here fs ms → IsMarked (next_argument (place_of here) here fs) (bar_marks ms)
+bar_same : (here : Content) (fs : List Open) (ms : List TagMark) → AreMarks here fs ms
+    → IsMarked (next_argument (place_of here) here fs) (bar_marks ms)
 bar_same here [] [] h = bar_nowhere (place_of here) here
 bar_same here [] (m ∷ ms) h = absurd h
 bar_same here (f ∷ fs) [] h = absurd h
-bar_same here (f ∷ fs) (m ∷ ms) h = subst (λ w. IsMarked (next_argument w here (f ∷ fs)) (mark_bar m.inner (m ∷ ms))) h.0 (bar_there m.inner here f fs m ms refl h.1 h.2)
+bar_same here (f ∷ fs) (m ∷ ms) h =
+    subst (λ w. IsMarked (next_argument w here (f ∷ fs)) (mark_bar m.inner (m ∷ ms))) h.0
+    (bar_there m.inner here f fs m ms refl h.1 h.2)
 
-close_there : (w : Option TagPlace) (here : Content) (f : Open) (fs : List Open) (m : TagMark) (ms : List TagMark) → m.label ≡ f.label → AreMarks f.before fs ms
+close_there : (w : Option TagPlace) (here : Content) (f : Open) (fs : List Open) (m : TagMark) (ms : List TagMark)
+    → m.label ≡ f.label → AreMarks f.before fs ms
     → IsMarked (last_argument w here (f ∷ fs)) (mark_close w m ms)
 close_there None here f fs m ms e h = refl
 close_there (Some InHeader) here f fs m ms e h = (sym (no_place f.label _), e, h)
 close_there (Some InShort) here f fs m ms e h = put_marks fs f.before _ ms h
 close_there (Some InClosing) here f fs m ms e h = put_marks fs f.before _ ms h
 
-close_same : (here : Content) (fs : List Open) (ms : List TagMark) → AreMarks here fs ms → IsMarked (last_argument (place_of here) here fs) (close_marks ms)
+close_same : (here : Content) (fs : List Open) (ms : List TagMark) → AreMarks here fs ms
+    → IsMarked (last_argument (place_of here) here fs) (close_marks ms)
 close_same here [] [] h = close_nowhere (place_of here) here
 close_same here [] (m ∷ ms) h = absurd h
 close_same here (f ∷ fs) [] h = absurd h
-close_same here (f ∷ fs) (m ∷ ms) h = subst (λ w. IsMarked (last_argument w here (f ∷ fs)) (mark_close m.inner m ms)) h.0 (close_there m.inner here f fs m ms h.1 h.2)
+close_same here (f ∷ fs) (m ∷ ms) h =
+    subst (λ w. IsMarked (last_argument w here (f ∷ fs)) (mark_close m.inner m ms)) h.0
+    (close_there m.inner here f fs m ms h.1 h.2)
 
-begun_same : (form : TagForm) (more : Bool) (l : List ℕ) (n : ℕ) (here : Content) (fs : List Open) (ms : List TagMark) → AreMarks here fs ms → IsMarked (begun form more l here fs) (begun_marks n form more l ms)
+begun_same : (form : TagForm) (more : Bool) (l : List ℕ) (n : ℕ) (here : Content) (fs : List Open) (ms : List TagMark)
+    → AreMarks here fs ms → IsMarked (begun form more l here fs) (begun_marks n form more l ms)
 begun_same Short true l n here fs ms h = (refl, refl, h)
 begun_same Short false l n here fs ms h = put_marks fs here _ ms h
 begun_same Long more l n here fs ms h = (sym (place_there (header_place more) l []), refl, h)
@@ -142,11 +164,13 @@ begun_same Middle more l n here fs ms h = next_same l (header_place more) here f
 begun_same Closing true l n here fs ms h = next_same l (Some InClosing) here fs ms h
 begun_same Closing false l n here fs ms h = last_same l here fs ms h
 
-escape_same : (o : Option Escaped) (b : ℕ) (here : Content) (fs : List Open) (ms : List TagMark) → AreMarks here fs ms → IsMarked (by_escape o b here fs) (escape_marks o b ms)
+escape_same : (o : Option Escaped) (b : ℕ) (here : Content) (fs : List Open) (ms : List TagMark) → AreMarks here fs ms
+    → IsMarked (by_escape o b here fs) (escape_marks o b ms)
 escape_same (Some e) b here fs ms h = put_marks fs here _ ms h
 escape_same None b here fs ms h = if_same (b == 60) (naming [] here fs) (Symbol 0) ms (λ k. (refl, h))
 
-part_same : (t : Token) (n : ℕ) (here : Content) (fs : List Open) (ms : List TagMark) → AreMarks here fs ms → IsMarked (feed_reading here fs t) (part_marks n ms t)
+part_same : (t : Token) (n : ℕ) (here : Content) (fs : List Open) (ms : List TagMark) → AreMarks here fs ms
+    → IsMarked (feed_reading here fs t) (part_marks n ms t)
 part_same (white b) n here fs ms h = put_marks fs here _ ms h
 part_same (join r) n here fs ms h = refl
 part_same (plain b) n here fs ms h = put_marks fs here _ ms h
@@ -158,30 +182,41 @@ part_same close n here fs ms h = close_same here fs ms h
 
 -- ---- one token, in a symbol or raw data
 
-name_same : (good : Bool) (n : List ℕ) (b : ℕ) (here : Content) (fs : List Open) (ms : List TagMark) → AreMarks here fs ms → IsMarked (name_byte good n b here fs) (name_marks good (length n) ms)
-name_same good n b here fs ms h = if_same (good && nat_lt (length n) MOST_NAME) (naming (n ++ b ∷ []) here fs) (Symbol (suc (length n))) ms (λ k. (omega (arith, length-append n (b ∷ [])), h))
+name_same : (good : Bool) (n : List ℕ) (b : ℕ) (here : Content) (fs : List Open) (ms : List TagMark)
+    → AreMarks here fs ms → IsMarked (name_byte good n b here fs) (name_marks good (length n) ms)
+name_same good n b here fs ms h =
+    if_same (good && nat_lt (length n) MOST_NAME) (naming (n ++ b ∷ []) here fs) (Symbol (suc (length n))) ms
+    (λ k. (omega (arith, length-append n (b ∷ [])), h))
 
-end_same : (n : List ℕ) (here : Content) (fs : List Open) (ms : List TagMark) → AreMarks here fs ms → IsMarked (name_end n here fs) (if_marked (nat_le 1 (length n)) Parts ms)
-end_same n here fs ms h = if_same (nat_le 1 (length n)) (reading (put here _) fs) Parts ms (λ k. put_marks fs here _ ms h)
+end_same : (n : List ℕ) (here : Content) (fs : List Open) (ms : List TagMark) → AreMarks here fs ms
+    → IsMarked (name_end n here fs) (if_marked (nat_le 1 (length n)) Parts ms)
+end_same n here fs ms h =
+    if_same (nat_le 1 (length n)) (reading (put here _) fs) Parts ms (λ k. put_marks fs here _ ms h)
 
-symbol_same : (t : Token) (n : List ℕ) (here : Content) (fs : List Open) (ms : List TagMark) → AreMarks here fs ms → IsMarked (feed_naming n here fs t) (symbol_marks (length n) ms t)
+symbol_same : (t : Token) (n : List ℕ) (here : Content) (fs : List Open) (ms : List TagMark) → AreMarks here fs ms
+    → IsMarked (feed_naming n here fs t) (symbol_marks (length n) ms t)
 symbol_same (plain b) n here fs ms h = name_same (is_name_byte b) n b here fs ms h
 symbol_same (escape b) n here fs ms h =
-    elim (b == 62) as (λ z. IsMarked (if z then name_end n here fs else name_byte (b == 124 || b == 92) n b here fs) (if z then if_marked (nat_le 1 (length n)) Parts ms else name_marks (b == 124 || b == 92) (length n) ms)) [
+    elim (b == 62) as
+    (λ z. IsMarked (if z then name_end n here fs else name_byte (b == 124 || b == 92) n b here fs)
+    (if z then if_marked (nat_le 1 (length n)) Parts ms else name_marks (b == 124 || b == 92) (length n) ms)) [
       | true ↦ end_same n here fs ms h
       | false ↦ name_same (b == 124 || b == 92) n b here fs ms h
     ]
 symbol_same _ n here fs ms h = refl
 
-digit_same : (t : Token) (ds : List ℕ) (here : Content) (fs : List Open) (ms : List TagMark) → AreMarks here fs ms → IsMarked (feed_counting ds here fs t) (digit_marks ms t)
+digit_same : (t : Token) (ds : List ℕ) (here : Content) (fs : List Open) (ms : List TagMark) → AreMarks here fs ms
+    → IsMarked (feed_counting ds here fs t) (digit_marks ms t)
 digit_same (plain b) ds here fs ms h = if_same (is_digit b) (counting (ds ++ b ∷ []) here fs) Digits ms (λ k. h)
 digit_same close ds here fs ms h = put_marks fs here _ ms h
 digit_same _ ds here fs ms h = refl
 
-feed_same : (s : State) (inside : Inside) (t : Token) (n : ℕ) (ms : List TagMark) → IsStanding s inside ms → IsMarked (feed s t) (feed_marks n inside ms t)
+feed_same : (s : State) (inside : Inside) (t : Token) (n : ℕ) (ms : List TagMark) → IsStanding s inside ms
+    → IsMarked (feed s t) (feed_marks n inside ms t)
 unfolding feed
 feed_same (reading here fs) Parts t n ms h = part_same t n here fs ms h
-feed_same (naming x here fs) (Symbol j) t n ms h = subst (λ i. IsMarked (feed_naming x here fs t) (symbol_marks i ms t)) (sym h.0) (symbol_same t x here fs ms h.1)
+feed_same (naming x here fs) (Symbol j) t n ms h =
+    subst (λ i. IsMarked (feed_naming x here fs t) (symbol_marks i ms t)) (sym h.0) (symbol_same t x here fs ms h.1)
 feed_same (counting ds here fs) Digits t n ms h = digit_same t ds here fs ms h
 feed_same (reading here fs) (Symbol j) t n ms h = absurd h
 feed_same (reading here fs) Digits t n ms h = absurd h
@@ -193,7 +228,8 @@ feed_same failed Parts t n ms h = absurd h
 feed_same failed (Symbol j) t n ms h = absurd h
 feed_same failed Digits t n ms h = absurd h
 
-standing_same : (o : Option Standing) (s : State) (t : Token) (n : ℕ) → IsMarked s o → IsMarked (feed s t) (feed_standing n o t)
+standing_same : (o : Option Standing) (s : State) (t : Token) (n : ℕ) → IsMarked s o
+    → IsMarked (feed s t) (feed_standing n o t)
 unfolding feed
 standing_same None s t n h = ap (λ z. feed z t) h
 standing_same (Some z) s t n h = feed_same s z.inside t n z.marks h
@@ -207,7 +243,9 @@ keep_same : (k : Keeping) (m : Marked) (t : Token) → IsKept k m → IsKept (ke
 keep_same k m t h =
     subst (λ j. IsKept (keep k t) (keep_marks (record { taken = m.taken; behind_join = j; now = m.now }) t)) h.0
     (elim (is_dropped k.behind_join t)
-    as (λ z. IsKept (if z then keeping true k.state else keeping false (feed k.state t)) (if z then record { taken = m.taken + length (written t); behind_join = true; now = m.now } else record { taken = m.taken + length (written t); behind_join = false; now = feed_standing m.taken m.now t })) [
+    as (λ z. IsKept (if z then keeping true k.state else keeping false (feed k.state t))
+    (if z then record { taken = m.taken + length (written t); behind_join = true; now = m.now }
+    else record { taken = m.taken + length (written t); behind_join = false; now = feed_standing m.taken m.now t })) [
       | true ↦ (refl, h.1)
       | false ↦ (refl, standing_same m.now k.state t m.taken h.1)
     ])
@@ -223,13 +261,17 @@ given_same (within q) k m h = (refl, h)
 given_same (done t) k m h = (refl, keep_same k m t h)
 given_same bad k m h = tt
 
-step_same : (w : Bytewise Keeping) (v : Bytewise Marked) (b : ℕ) → IsSame w v → IsSame (step keep w b) (step keep_marks v b)
-step_same (at q k) (at r m) b h = subst (λ z. IsSame (given keep k (lex q (kind_of b) b)) (given keep_marks m (lex z (kind_of b) b))) h.0 (given_same (lex q (kind_of b) b) k m h.1)
+step_same : (w : Bytewise Keeping) (v : Bytewise Marked) (b : ℕ) → IsSame w v
+    → IsSame (step keep w b) (step keep_marks v b)
+step_same (at q k) (at r m) b h =
+    subst (λ z. IsSame (given keep k (lex q (kind_of b) b)) (given keep_marks m (lex z (kind_of b) b))) h.0
+    (given_same (lex q (kind_of b) b) k m h.1)
 step_same lost lost b h = tt
 step_same (at q k) lost b h = absurd h
 step_same lost (at r m) b h = absurd h
 
-pub run_same : (x : List ℕ) (w : Bytewise Keeping) (v : Bytewise Marked) → IsSame w v → IsSame (run keep w x) (run keep_marks v x)
+pub run_same : (x : List ℕ) (w : Bytewise Keeping) (v : Bytewise Marked) → IsSame w v
+    → IsSame (run keep w x) (run keep_marks v x)
 run_same [] w v h = h
 run_same (b ∷ x) w v h = run_same x (step keep w b) (step keep_marks v b) (step_same w v b h)
 
@@ -238,7 +280,8 @@ marks_same x = run_same x start start_marks (refl, (refl, tt))
 
 -- ---- where they go on
 
-begins_there : (w : Option TagPlace) (l : List ℕ) (f : Open) (fs : List Open) (m : TagMark) → m.label ≡ f.label → begins_open w l (f ∷ fs) ≡ begins_mark w l m
+begins_there : (w : Option TagPlace) (l : List ℕ) (f : Open) (fs : List Open) (m : TagMark) → m.label ≡ f.label
+    → begins_open w l (f ∷ fs) ≡ begins_mark w l m
 begins_there None l f fs m e = ap (begins l) (sym e)
 begins_there (Some p) l f fs m e = refl
 
@@ -246,13 +289,16 @@ begins_nowhere : (w : Option TagPlace) (l : List ℕ) → begins_open w l [] ≡
 begins_nowhere None l = refl
 begins_nowhere (Some p) l = refl
 
-begins_same : (l : List ℕ) (here : Content) (fs : List Open) (ms : List TagMark) → AreMarks here fs ms → begins_open (place_of here) l fs ≡ begins_marks l ms
+begins_same : (l : List ℕ) (here : Content) (fs : List Open) (ms : List TagMark) → AreMarks here fs ms
+    → begins_open (place_of here) l fs ≡ begins_marks l ms
 begins_same l here [] [] h = begins_nowhere (place_of here) l
 begins_same l here [] (m ∷ ms) h = absurd h
 begins_same l here (f ∷ fs) [] h = absurd h
-begins_same l here (f ∷ fs) (m ∷ ms) h = ap (λ w. begins_open w l (f ∷ fs)) (sym h.0) ∙ begins_there m.inner l f fs m h.1
+begins_same l here (f ∷ fs) (m ∷ ms) h =
+    ap (λ w. begins_open w l (f ∷ fs)) (sym h.0) ∙ begins_there m.inner l f fs m h.1
 
-form_same : (form : TagForm) (l : List ℕ) (here : Content) (fs : List Open) (ms : List TagMark) → AreMarks here fs ms → can_begin form l here fs ≡ form_goes_on form l ms
+form_same : (form : TagForm) (l : List ℕ) (here : Content) (fs : List Open) (ms : List TagMark) → AreMarks here fs ms
+    → can_begin form l here fs ≡ form_goes_on form l ms
 form_same Short l here fs ms h = refl
 form_same Long l here fs ms h = refl
 form_same Middle l here fs ms h = begins_same l here fs ms h
@@ -262,12 +308,14 @@ and_true : (b : Bool) → (true && b) ≡ b
 and_true true = refl
 and_true false = refl
 
-lex_same : (q : Lex) (s : State) (inside : Inside) (ms : List TagMark) → IsStanding s inside ms → can_go_on q s ≡ lex_goes_on q inside ms
+lex_same : (q : Lex) (s : State) (inside : Inside) (ms : List TagMark) → IsStanding s inside ms
+    → can_go_on q s ≡ lex_goes_on q inside ms
 lex_same ready (reading here fs) Parts ms h = refl
 lex_same slashed (reading here fs) Parts ms h = refl
 lex_same returned (reading here fs) Parts ms h = refl
 lex_same angled (reading here fs) Parts ms h = refl
-lex_same (labelled form l) (reading here fs) Parts ms h = form_same form l here fs ms h ∙ sym (and_true (form_goes_on form l ms))
+lex_same (labelled form l) (reading here fs) Parts ms h =
+    form_same form l here fs ms h ∙ sym (and_true (form_goes_on form l ms))
 lex_same ready (naming x here fs) (Symbol j) ms h = refl
 lex_same slashed (naming x here fs) (Symbol j) ms h = refl
 lex_same returned (naming x here fs) (Symbol j) ms h = refl

@@ -55,7 +55,8 @@ name_only : (b : ℕ) → kind_of b ≡ Name → is_label_byte b ≡ true
 unfolding kind_of
 name_only b e = grind arith
 
-label_last : (a : List ℕ) (x : ℕ) → AllByRecursion (λ b. is_label_byte b ≡ true) a → is_label_byte x ≡ true → AllByRecursion (λ b. is_label_byte b ≡ true) (a ++ x ∷ [])
+label_last : (a : List ℕ) (x : ℕ) → AllByRecursion (λ b. is_label_byte b ≡ true) a → is_label_byte x ≡ true
+    → AllByRecursion (λ b. is_label_byte b ≡ true) (a ++ x ∷ [])
 label_last [] x h k = (k, tt)
 label_last (b ∷ a) x h k = (h.0, label_last a x h.1 k)
 
@@ -68,8 +69,13 @@ if_comes : (c : Bool) (x : List ℕ) (r : Lexed) → (c ≡ true → Comes x r) 
 if_comes true x r h = h refl
 if_comes false x r h = tt
 
-head_comes : (form : TagForm) (l : List ℕ) (more : Bool) (b : ℕ) → IsBegun (labelled form l) → b ≡ end_of more → 1 ≤ length l → Comes (begun_bytes (labelled form l) ++ b ∷ []) (done (head form l more))
-head_comes form l more b h e n = (record { each = h.0.0; some = n; short = h.0.1 }, ap (λ z. 60 ∷ z) (append_assoc (mark_of form) l (b ∷ [])) ∙ ap (λ z. 60 ∷ (mark_of form ++ (l ++ z ∷ []))) e)
+head_comes : (form : TagForm) (l : List ℕ) (more : Bool) (b : ℕ) → IsBegun (labelled form l) → b ≡ end_of more
+    → 1 ≤ length l → Comes (begun_bytes (labelled form l) ++ b ∷ []) (done (head form l more))
+head_comes form l more b h e n = (
+  record { each = h.0.0; some = n; short = h.0.1 },
+  ap (λ z. 60 ∷ z) (append_assoc (mark_of form) l (b ∷ []))
+      ∙ ap (λ z. 60 ∷ (mark_of form ++ (l ++ z ∷ []))) e,
+)
 
 ready_comes : (k : ByteKind) (b : ℕ) → kind_of b ≡ k → Comes (b ∷ []) (lex_ready k b)
 unfolding lex_ready
@@ -111,13 +117,25 @@ has_byte Long l b = tt
 has_byte Middle l b = tt
 has_byte Closing l b = tt
 
-labelled_comes : (k : ByteKind) (form : TagForm) (l : List ℕ) (b : ℕ) → kind_of b ≡ k → IsBegun (labelled form l) → Comes (begun_bytes (labelled form l) ++ b ∷ []) (lex_labelled form l k b)
+labelled_comes : (k : ByteKind) (form : TagForm) (l : List ℕ) (b : ℕ) → kind_of b ≡ k → IsBegun (labelled form l)
+    → Comes (begun_bytes (labelled form l) ++ b ∷ []) (lex_labelled form l k b)
 unfolding lex_labelled
 labelled_comes Name form l b e h =
-    if_comes (nat_lt (length l) MOST_LABEL) (begun_bytes (labelled form l) ++ b ∷ []) (within (labelled form (l ++ b ∷ [])))
-    (λ n. (((label_last l b h.0.0 (name_only b e), omega (arith, length-append l (b ∷ []), ltb-true _ _ n)), has_byte form l b), ap (λ z. 60 ∷ z) (append_assoc (mark_of form) l (b ∷ []))))
-labelled_comes Bar form l b e h = if_comes (nat_le 1 (length l)) (begun_bytes (labelled form l) ++ b ∷ []) (done (head form l true)) (λ n. head_comes form l true b h (bar_only b e) (leb-true _ _ n))
-labelled_comes Greater form l b e h = if_comes (nat_le 1 (length l)) (begun_bytes (labelled form l) ++ b ∷ []) (done (head form l false)) (λ n. head_comes form l false b h (greater_only b e) (leb-true _ _ n))
+    if_comes (nat_lt (length l) MOST_LABEL) (begun_bytes (labelled form l) ++ b ∷ [])
+    (within (labelled form (l ++ b ∷ [])))
+    (λ n. (
+      (
+        (label_last l b h.0.0 (name_only b e), omega (arith, length-append l (b ∷ []), ltb-true _ _ n)),
+        has_byte form l b,
+      ),
+      ap (λ z. 60 ∷ z) (append_assoc (mark_of form) l (b ∷ [])),
+    ))
+labelled_comes Bar form l b e h =
+    if_comes (nat_le 1 (length l)) (begun_bytes (labelled form l) ++ b ∷ []) (done (head form l true))
+    (λ n. head_comes form l true b h (bar_only b e) (leb-true _ _ n))
+labelled_comes Greater form l b e h =
+    if_comes (nat_le 1 (length l)) (begun_bytes (labelled form l) ++ b ∷ []) (done (head form l false))
+    (λ n. head_comes form l false b h (greater_only b e) (leb-true _ _ n))
 labelled_comes _ form l b e h = tt
 
 lex_comes : (q : Lex) (b : ℕ) → IsBegun q → Comes (begun_bytes q ++ b ∷ []) (lex q (kind_of b) b)
@@ -127,7 +145,8 @@ lex_comes returned b h = returned_comes (kind_of b) b refl
 lex_comes angled b h = angled_comes (kind_of b) b refl
 lex_comes (labelled form l) b h = labelled_comes (kind_of b) form l b refl h
 
-tokens_last : (ts : List Token) (t : Token) → AllByRecursion IsToken ts → IsToken t → AllByRecursion IsToken (ts ++ t ∷ [])
+tokens_last : (ts : List Token) (t : Token) → AllByRecursion IsToken ts → IsToken t
+    → AllByRecursion IsToken (ts ++ t ∷ [])
 tokens_last [] t h k = (k, tt)
 tokens_last (u ∷ ts) t h k = (h.0, tokens_last ts t h.1 k)
 
@@ -137,11 +156,14 @@ keeps_last (u ∷ ts) k t = keeps_last ts (keep k u) t
 
 -- the bytes so far are whole tokens and one that has begun
 abbrev pub Scanned : Bytewise Keeping → List ℕ → Type 0
-Scanned (at q k) x = (ts : List Token) × AllByRecursion IsToken ts × (k ≡ keeps file_start ts) × IsBegun q × (x ≡ flat_map written ts ++ begun_bytes q)
+Scanned (at q k) x = (ts : List Token) × AllByRecursion IsToken ts × (k ≡ keeps file_start ts) × IsBegun q
+    × (x ≡ flat_map written ts ++ begun_bytes q)
 Scanned lost x = Unit {0}
 
-given_scanned : (r : Lexed) (q : Lex) (k : Keeping) (x : List ℕ) (b : ℕ) → Scanned (at q k) x → Comes (begun_bytes q ++ b ∷ []) r → Scanned (given keep k r) (x ++ b ∷ [])
-given_scanned (within p) q k x b h i = (h.0, h.1, h.2, i.0, rw (h.4, ← i.1) (append_assoc (flat_map written h.0) (begun_bytes q) (b ∷ [])))
+given_scanned : (r : Lexed) (q : Lex) (k : Keeping) (x : List ℕ) (b : ℕ) → Scanned (at q k) x
+    → Comes (begun_bytes q ++ b ∷ []) r → Scanned (given keep k r) (x ++ b ∷ [])
+given_scanned (within p) q k x b h i =
+    (h.0, h.1, h.2, i.0, rw (h.4, ← i.1) (append_assoc (flat_map written h.0) (begun_bytes q) (b ∷ [])))
 given_scanned (done t) q k x b h i = (
   h.0 ++ t ∷ [],
   tokens_last h.0 t h.1 i.0,
@@ -157,7 +179,9 @@ step_scanned lost x b h = tt
 
 pub run_scanned : (y x : List ℕ) (w : Bytewise Keeping) → Scanned w x → Scanned (run keep w y) (x ++ y)
 run_scanned [] x w h = subst (λ z. Scanned w z) (sym (append-nil x)) h
-run_scanned (b ∷ y) x w h = subst (λ z. Scanned (run keep (step keep w b) y) z) (append_assoc x (b ∷ []) y) (run_scanned y (x ++ b ∷ []) (step keep w b) (step_scanned w x b h))
+run_scanned (b ∷ y) x w h =
+    subst (λ z. Scanned (run keep (step keep w b) y) z) (append_assoc x (b ∷ []) y)
+    (run_scanned y (x ++ b ∷ []) (step keep w b) (step_scanned w x b h))
 
 pub kept_tokens : (ts : List Token) (j : Bool) → AllByRecursion IsToken ts → AllByRecursion IsToken (kept j ts)
 kept_tokens [] j h = tt
@@ -170,8 +194,10 @@ kept_tokens (t ∷ ts) j h =
 same_tree : (u t : WideTree) → Some u ≡ Some t → t ≡ u
 same_tree u t e = cc
 
-file_of : (s : State) (t : WideTree) (ts : List Token) → tree_of s ≡ Some t → Took s ts → (c : Pieces) × (ts ≡ tokens_of c) × (t ≡ block (parts_of c))
-file_of (reading here []) t ts e h = (h.0, h.2, same_tree (block (parts_of h.0)) t (sym (file_is (parts_of h.0)) ∙ ap file_tree (sym h.1) ∙ e))
+file_of : (s : State) (t : WideTree) (ts : List Token) → tree_of s ≡ Some t → Took s ts
+    → (c : Pieces) × (ts ≡ tokens_of c) × (t ≡ block (parts_of c))
+file_of (reading here []) t ts e h =
+    (h.0, h.2, same_tree (block (parts_of h.0)) t (sym (file_is (parts_of h.0)) ∙ ap file_tree (sym h.1) ∙ e))
 file_of (reading here (f ∷ fs)) t ts e h = absurd cc
 file_of (naming n here fs) t ts e h = absurd cc
 file_of (counting ds here fs) t ts e h = absurd cc
@@ -180,9 +206,16 @@ file_of failed t ts e h = absurd cc
 whole_of : (w : Bytewise Keeping) (x : List ℕ) (t : WideTree) → tree_in w ≡ Some t → Scanned w x → Spells x t
 whole_of (at ready k) x t e h =
     let s : k.state ≡ feeds file_state (kept false h.0) = ap (λ z. z.state) h.2 ∙ keeps_state h.0 false file_state in
-    let took : Took (feeds file_state (kept false h.0)) (kept false h.0) = feeds_took (kept false h.0) file_state [] (kept_tokens h.0 false h.1) (nothing, refl, refl) in
+    let took : Took (feeds file_state (kept false h.0)) (kept false h.0) =
+    feeds_took (kept false h.0) file_state [] (kept_tokens h.0 false h.1) (nothing, refl, refl) in
     let c = file_of (feeds file_state (kept false h.0)) t (kept false h.0) (sym (ap tree_of s) ∙ e) took in
-    record { tokens = h.0; file = c.0; found = record { each = h.1; all = h.4 ∙ append-nil (flat_map written h.0) }; formed = c.1; meant = c.2 }
+    record {
+      tokens = h.0;
+      file = c.0;
+      found = record { each = h.1; all = h.4 ∙ append-nil (flat_map written h.0) };
+      formed = c.1;
+      meant = c.2;
+    }
 whole_of (at slashed k) x t e h = absurd cc
 whole_of (at returned k) x t e h = absurd cc
 whole_of (at angled k) x t e h = absurd cc
@@ -191,4 +224,5 @@ whole_of lost x t e h = absurd cc
 
 pub read_is_spelled : (bytes : List ℕ) (t : WideTree) → reads bytes ≡ Some t → Spells bytes t
 unfolding reads
-read_is_spelled bytes t e = whole_of (run keep start bytes) bytes t e (run_scanned bytes [] start ([], tt, refl, tt, refl))
+read_is_spelled bytes t e =
+    whole_of (run keep start bytes) bytes t e (run_scanned bytes [] start ([], tt, refl, tt, refl))

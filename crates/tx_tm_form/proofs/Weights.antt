@@ -55,17 +55,21 @@ use Rattle.tx_tm_form.proofs.Stops.{keeping}
 
 -- ---- trees
 
-same_sums : (a b : Sums) → a.count ≡ b.count → a.text ≡ b.text → a.arity ≡ b.arity → a.depth ≡ b.depth → a.size ≡ b.size → a ≡ b
+same_sums : (a b : Sums) → a.count ≡ b.count → a.text ≡ b.text → a.arity ≡ b.arity → a.depth ≡ b.depth → a.size ≡ b.size
+    → a ≡ b
 same_sums a b h i j k l = rw (h, i, j, k, l) refl
 
 max_zero : (n : ℕ) → max n 0 ≡ n
 max_zero n = omega arith
 
 sums_append : (us vs : List WideTree) → sums_of (us ++ vs) ≡ both (sums_of us) (sums_of vs)
-sums_append us vs = same_sums (sums_of (us ++ vs)) (both (sums_of us) (sums_of vs)) (length-append us vs) (longest_text-append us vs) (widest-append us vs) (deepest-append us vs) (total_size-append us vs)
+sums_append us vs =
+    same_sums (sums_of (us ++ vs)) (both (sums_of us) (sums_of vs)) (length-append us vs) (longest_text-append us vs)
+    (widest-append us vs) (deepest-append us vs) (total_size-append us vs)
 
 sums_leaf : (s : List ℕ) → sums_of (leaf s ∷ []) ≡ leaf_sums (length s)
-sums_leaf s = same_sums (sums_of (leaf s ∷ [])) (leaf_sums (length s)) refl (max_zero (length s)) refl refl (omega arith)
+sums_leaf s =
+    same_sums (sums_of (leaf s ∷ [])) (leaf_sums (length s)) refl (max_zero (length s)) refl refl (omega arith)
 
 sums_node : (l : List ℕ) (ts : List WideTree) → sums_of (node l (forest ts) ∷ []) ≡ node_sums (sums_of ts)
 sums_node l ts =
@@ -82,14 +86,16 @@ sums_concat (t ∷ []) = refl
 sums_concat (t ∷ u ∷ ts) =
     let n : length (t ∷ u ∷ ts) ≡ length ts + 2 = omega arith in
     let s = sums_of (t ∷ u ∷ ts) in
-    sums_node concat_label (t ∷ u ∷ ts) ∙ more_than_one (length ts) (leaf_sums 0) s (node_sums s) ∙ ap (λ k. if k == 0 then leaf_sums 0 else if k == 1 then s else node_sums s) (sym n)
+    sums_node concat_label (t ∷ u ∷ ts) ∙ more_than_one (length ts) (leaf_sums 0) s (node_sums s)
+    ∙ ap (λ k. if k == 0 then leaf_sums 0 else if k == 1 then s else node_sums s) (sym n)
 
 -- ---- lines
 
 abbrev pub of_line : Inline → LineSums
 of_line g = line_of (sums_of g.done) (length g.bytes) g.in_run
 
-sums_ended : (ts : List WideTree) (s : List ℕ) (r : Bool) → sums_of (ts ++ leaf_before s []) ≡ ended_line (line_of (sums_of ts) (length s) r)
+sums_ended : (ts : List WideTree) (s : List ℕ) (r : Bool)
+    → sums_of (ts ++ leaf_before s []) ≡ ended_line (line_of (sums_of ts) (length s) r)
 sums_ended ts [] r = ap sums_of (append-nil ts)
 sums_ended ts (b ∷ s) r =
     sums_append ts (leaf (b ∷ s) ∷ [])
@@ -107,14 +113,17 @@ of_part (gap w) = Gap w
 of_part (text x) = Text (length x)
 of_part (tag c t) = Tag c (sums_of (t ∷ []))
 
-spaced_length : (r : Bool) (s : List ℕ) → length (if r then s else s ++ 32 ∷ []) ≡ (if r then length s else length s + 1)
+spaced_length : (r : Bool) (s : List ℕ)
+    → length (if r then s else s ++ 32 ∷ []) ≡ (if r then length s else length s + 1)
 spaced_length true s = refl
 spaced_length false s = length-append s (32 ∷ [])
 
 grow_is : (g : Inline) (p : Part) → of_line (grow g p) ≡ grow_line (of_line g) (of_part p)
 grow_is g (gap w) = ap (λ n. line_of (sums_of g.done) n true) (spaced_length g.in_run g.bytes)
 grow_is g (text x) = ap (λ n. line_of (sums_of g.done) n false) (length-append g.bytes x)
-grow_is g (tag c t) = ap (λ s. line_of s 0 false) (sums_append (g.done ++ leaf_before g.bytes []) (t ∷ []) ∙ ap (λ s. both s (sums_of (t ∷ []))) (sums_ended g.done g.bytes g.in_run))
+grow_is g (tag c t) =
+    ap (λ s. line_of s 0 false) (sums_append (g.done ++ leaf_before g.bytes []) (t ∷ [])
+    ∙ ap (λ s. both s (sums_of (t ∷ []))) (sums_ended g.done g.bytes g.in_run))
 
 -- ---- blocks
 
@@ -127,7 +136,8 @@ stage_is (text x) = refl
 stage_is (tag true t) = refl
 stage_is (tag false t) = refl
 
-ended_is : (r : Option White) (full : List WideTree) (now : Inline) → sums_of (ended r full now) ≡ ended_sums r (sums_of full) (of_line now)
+ended_is : (r : Option White) (full : List WideTree) (now : Inline)
+    → sums_of (ended r full now) ≡ ended_sums r (sums_of full) (of_line now)
 ended_is None full now = refl
 ended_is (Some Spaces) full now = refl
 ended_is (Some Line) full now = refl
@@ -144,14 +154,23 @@ white_is Empty b w = refl
 white_is Alone b w = refl
 white_is Ordinary b w = refl
 
-later_part : (b : Block) (p : Part) → of_block (record { full = ended b.run b.full b.now; now = grow (resumed b.run b.now) p; run = None; stage = Ordinary })
-    ≡ block_sums_of (ended_sums b.run (sums_of b.full) (of_line b.now)) (grow_line (resumed_line b.run (of_line b.now)) (of_part p)) None Ordinary
+later_part : (b : Block) (p : Part)
+    → of_block (record {
+      full = ended b.run b.full b.now;
+      now = grow (resumed b.run b.now) p;
+      run = None;
+      stage = Ordinary;
+    })
+    ≡ block_sums_of (ended_sums b.run (sums_of b.full) (of_line b.now))
+    (grow_line (resumed_line b.run (of_line b.now)) (of_part p)) None Ordinary
 later_part b p =
     ap (λ s. block_sums_of s (of_line (grow (resumed b.run b.now) p)) None Ordinary) (ended_is b.run b.full b.now)
-    ∙ ap (λ l. block_sums_of (ended_sums b.run (sums_of b.full) (of_line b.now)) l None Ordinary) (grow_is (resumed b.run b.now) p ∙ ap (λ l. grow_line l (of_part p)) (resumed_is b.run b.now))
+    ∙ ap (λ l. block_sums_of (ended_sums b.run (sums_of b.full) (of_line b.now)) l None Ordinary)
+    (grow_is (resumed b.run b.now) p ∙ ap (λ l. grow_line l (of_part p)) (resumed_is b.run b.now))
 
 part_is : (s : Stage) (b : Block) (p : Part) → of_block (with_part s b p) ≡ part_block s (of_block b) (of_part p)
-part_is Empty b p = ap (λ l. block_sums_of no_sums l None (first_stage p)) (grow_is no_parts p) ∙ ap (λ s. block_sums_of no_sums (grow_line no_line (of_part p)) None s) (stage_is p)
+part_is Empty b p = ap (λ l. block_sums_of no_sums l None (first_stage p)) (grow_is no_parts p)
+    ∙ ap (λ s. block_sums_of no_sums (grow_line no_line (of_part p)) None s) (stage_is p)
 part_is Alone b p = later_part b p
 part_is Ordinary b p = later_part b p
 
@@ -163,7 +182,8 @@ widen_is b (tag c t) = part_is b.stage b (tag c t)
 tree_at_is : (s : Stage) (b : Block) → sums_of (tree_at s b ∷ []) ≡ block_at s (of_block b)
 tree_at_is Empty b = sums_node document_label (leaf [] ∷ []) ∙ ap node_sums (sums_leaf [])
 tree_at_is Alone b = line_is b.now
-tree_at_is Ordinary b = sums_node document_label (b.full ++ grown b.now ∷ []) ∙ ap node_sums (sums_append b.full (grown b.now ∷ []) ∙ ap (λ s. both (sums_of b.full) s) (line_is b.now))
+tree_at_is Ordinary b = sums_node document_label (b.full ++ grown b.now ∷ [])
+    ∙ ap node_sums (sums_append b.full (grown b.now ∷ []) ∙ ap (λ s. both (sums_of b.full) s) (line_is b.now))
 
 block_sums_is : (b : Block) → sums_of (tree_of_block b ∷ []) ≡ block_sums (of_block b)
 block_sums_is b = tree_at_is b.stage b
@@ -178,11 +198,15 @@ of_content (collecting x) = of.Tags (sums_of (map tree_of_entry x.entries)) (of_
 put_is : (c : Content) (p : Part) → of_content (put c p) ≡ put_sums (of_content c) (of_part p)
 put_is (inline q g) p = ap (of.Argument q) (grow_is g p)
 put_is (blocks b) p = ap of.Block (widen_is b p)
-put_is (collecting x) (gap w) = ap (of.Tags (sums_of (map tree_of_entry x.entries))) (ap of_block (longer_run (with_entries no_paragraphs x.entries) x.run w) ∙ widen_is (as_block x) (gap w))
+put_is (collecting x) (gap w) =
+    ap (of.Tags (sums_of (map tree_of_entry x.entries)))
+    (ap of_block (longer_run (with_entries no_paragraphs x.entries) x.run w) ∙ widen_is (as_block x) (gap w))
 put_is (collecting x) (tag c t) =
     let e : Entry = record { before = x.run; collects = c; tree = t } in
-    ap (λ s. of.Tags s (of_block (with_entries no_paragraphs (x.entries ++ e ∷ [])))) (ap sums_of (map-append tree_of_entry x.entries (e ∷ [])) ∙ sums_append (map tree_of_entry x.entries) (t ∷ []))
-    ∙ ap (λ b. of.Tags (both (sums_of (map tree_of_entry x.entries)) (sums_of (t ∷ []))) b) (ap of_block (entries_append x.entries (e ∷ []) no_paragraphs) ∙ widen_is (as_block x) (tag c t))
+    ap (λ s. of.Tags s (of_block (with_entries no_paragraphs (x.entries ++ e ∷ []))))
+    (ap sums_of (map-append tree_of_entry x.entries (e ∷ [])) ∙ sums_append (map tree_of_entry x.entries) (t ∷ []))
+    ∙ ap (λ b. of.Tags (both (sums_of (map tree_of_entry x.entries)) (sums_of (t ∷ []))) b)
+    (ap of_block (entries_append x.entries (e ∷ []) no_paragraphs) ∙ widen_is (as_block x) (tag c t))
 put_is (collecting x) (text s) = ap of.Block (widen_is (as_block x) (text s))
 
 place_is_in : (c : Content) → place_of c ≡ place_in (of_content c)
@@ -200,10 +224,14 @@ body_is (inline p g) = sums_leaf []
 body_is (blocks b) = block_sums_is b
 body_is (collecting x) = block_sums_is (as_block x)
 
-with_body : (l : List ℕ) (ks : List WideTree) (c : Content) → sums_of (node l (forest (ks ++ block_of c ∷ [])) ∷ []) ≡ node_sums (both (sums_of ks) (body_sums (of_content c)))
-with_body l ks c = sums_node l (ks ++ block_of c ∷ []) ∙ ap node_sums (sums_append ks (block_of c ∷ []) ∙ ap (λ s. both (sums_of ks) s) (body_is c))
+with_body : (l : List ℕ) (ks : List WideTree) (c : Content)
+    → sums_of (node l (forest (ks ++ block_of c ∷ [])) ∷ []) ≡ node_sums (both (sums_of ks) (body_sums (of_content c)))
+with_body l ks c =
+    sums_node l (ks ++ block_of c ∷ [])
+    ∙ ap node_sums (sums_append ks (block_of c ∷ []) ∙ ap (λ s. both (sums_of ks) s) (body_is c))
 
-long_is_of : (l : List ℕ) (ks : List WideTree) (c : Content) → of_part (long_of l ks c) ≡ long_sums (sums_of ks) (of_content c)
+long_is_of : (l : List ℕ) (ks : List WideTree) (c : Content)
+    → of_part (long_of l ks c) ≡ long_sums (sums_of ks) (of_content c)
 long_is_of l ks (collecting x) = ap (Tag true) (sums_node collection_label (map tree_of_entry x.entries))
 long_is_of l ks (inline p g) = ap (Tag false) (with_body l ks (inline p g))
 long_is_of l ks (blocks b) = ap (Tag false) (with_body l ks (blocks b))
@@ -215,13 +243,18 @@ none_counted (t ∷ ks) = not_zero (length ks) (length (t ∷ ks)) (omega arith)
     not_zero : (n m : ℕ) → m ≡ n + 1 → false ≡ (m == 0)
     not_zero n m e = grind arith
 
-chosen : (c : Bool) → of_content (if c then collecting no_tags else blocks no_paragraphs) ≡ (if c then of.Tags no_sums no_block else of.Block no_block)
+chosen : (c : Bool)
+    → of_content (if c then collecting no_tags else blocks no_paragraphs)
+    ≡ (if c then of.Tags no_sums no_block else of.Block no_block)
 chosen true = refl
 chosen false = refl
 
-opening_is : (w : Option TagPlace) (l : List ℕ) (ks : List WideTree) → of_content (opening w l ks) ≡ opening_sums w (same l collection_label) (sums_of ks)
+opening_is : (w : Option TagPlace) (l : List ℕ) (ks : List WideTree)
+    → of_content (opening w l ks) ≡ opening_sums w (same l collection_label) (sums_of ks)
 opening_is (Some p) l ks = refl
-opening_is None l ks = chosen (same l collection_label && none ks) ∙ ap (λ z. if same l collection_label && z then of.Tags no_sums no_block else of.Block no_block) (none_counted ks)
+opening_is None l ks =
+    chosen (same l collection_label && none ks)
+    ∙ ap (λ z. if same l collection_label && z then of.Tags no_sums no_block else of.Block no_block) (none_counted ks)
 
 -- ---- states
 
@@ -242,63 +275,92 @@ go_weighed : (c : Bool) (s : State) (g : Gauge) → IsWeighed s g → IsWeighed 
 go_weighed true s g h = h
 go_weighed false s g h = tt
 
-put_weighed : (here : Content) (fs : List Open) (p : Part) (q : PartSums) → of_part p ≡ q → between (put_sums (of_content here) q) (map of_open fs) ≡ gauge_at Parts (put here p) fs
-put_weighed here fs p q e = ap (λ c. between c (map of_open fs)) (ap (put_sums (of_content here)) (sym e) ∙ sym (put_is here p))
+put_weighed : (here : Content) (fs : List Open) (p : Part) (q : PartSums) → of_part p ≡ q
+    → between (put_sums (of_content here) q) (map of_open fs) ≡ gauge_at Parts (put here p) fs
+put_weighed here fs p q e =
+    ap (λ c. between c (map of_open fs)) (ap (put_sums (of_content here)) (sym e) ∙ sym (put_is here p))
 
-tag_weighed : (p : Option TagPlace) (f : Open) (o : OpenSums) (fs : List Open) → of_open f ≡ o → in_open p o (map of_open fs) ≡ gauge_at Parts (opening p f.label f.children) (f ∷ fs)
-tag_weighed p f o fs e = ap (λ x. in_open p x (map of_open fs)) (sym e) ∙ ap (λ c. between c (of_open f ∷ map of_open fs)) (sym (opening_is p f.label f.children))
+tag_weighed : (p : Option TagPlace) (f : Open) (o : OpenSums) (fs : List Open) → of_open f ≡ o
+    → in_open p o (map of_open fs) ≡ gauge_at Parts (opening p f.label f.children) (f ∷ fs)
+tag_weighed p f o fs e =
+    ap (λ x. in_open p x (map of_open fs)) (sym e)
+    ∙ ap (λ c. between c (of_open f ∷ map of_open fs)) (sym (opening_is p f.label f.children))
 
-child_weighed : (f : Open) (t : WideTree) (s : Sums) → sums_of (t ∷ []) ≡ s → of_open (with_child f t) ≡ child_in (of_open f) s
-child_weighed f t s e = ap (λ z. open_of (of_content f.before) (same f.label collection_label) z) (sums_append f.children (t ∷ []) ∙ ap (λ z. both (sums_of f.children) z) e)
+child_weighed : (f : Open) (t : WideTree) (s : Sums) → sums_of (t ∷ []) ≡ s
+    → of_open (with_child f t) ≡ child_in (of_open f) s
+child_weighed f t s e =
+    ap (λ z. open_of (of_content f.before) (same f.label collection_label) z)
+    (sums_append f.children (t ∷ []) ∙ ap (λ z. both (sums_of f.children) z) e)
 
-closed_weighed : (f : Open) (t : WideTree) (s : Sums) (fs : List Open) → sums_of (t ∷ []) ≡ s → closed_open (child_in (of_open f) s) (map of_open fs) ≡ gauge_at Parts (put f.before (tag false (node f.label (forest (f.children ++ t ∷ []))))) fs
+closed_weighed : (f : Open) (t : WideTree) (s : Sums) (fs : List Open) → sums_of (t ∷ []) ≡ s
+    → closed_open (child_in (of_open f) s) (map of_open fs) ≡ gauge_at Parts
+    (put f.before (tag false (node f.label (forest (f.children ++ t ∷ []))))) fs
 closed_weighed f t s fs e =
-    put_weighed f.before fs (tag false (node f.label (forest (f.children ++ t ∷ [])))) (Tag false (node_sums (both (sums_of f.children) s)))
-    (ap (Tag false) (sums_node f.label (f.children ++ t ∷ []) ∙ ap node_sums (sums_append f.children (t ∷ []) ∙ ap (λ z. both (sums_of f.children) z) e)))
+    put_weighed f.before fs (tag false (node f.label (forest (f.children ++ t ∷ []))))
+    (Tag false (node_sums (both (sums_of f.children) s)))
+    (ap (Tag false) (sums_node f.label (f.children ++ t ∷ [])
+    ∙ ap node_sums (sums_append f.children (t ∷ []) ∙ ap (λ z. both (sums_of f.children) z) e)))
 
-bar_weighed : (here : Content) (fs : List Open) → IsWeighed (next_argument (place_of here) here fs) (bar_gauge (of_content here) (map of_open fs))
+bar_weighed : (here : Content) (fs : List Open)
+    → IsWeighed (next_argument (place_of here) here fs) (bar_gauge (of_content here) (map of_open fs))
 bar_weighed (inline p g) [] = tt
-bar_weighed (inline p g) (f ∷ fs) = tag_weighed (Some p) (with_child f (grown g)) (child_in (of_open f) (line_sums (of_line g))) fs (child_weighed f (grown g) (line_sums (of_line g)) (line_is g))
+bar_weighed (inline p g) (f ∷ fs) =
+    tag_weighed (Some p) (with_child f (grown g)) (child_in (of_open f) (line_sums (of_line g))) fs
+    (child_weighed f (grown g) (line_sums (of_line g)) (line_is g))
 bar_weighed (blocks b) fs = tt
 bar_weighed (collecting x) fs = tt
 
-close_weighed : (here : Content) (fs : List Open) → IsWeighed (last_argument (place_of here) here fs) (close_gauge (of_content here) (map of_open fs))
+close_weighed : (here : Content) (fs : List Open)
+    → IsWeighed (last_argument (place_of here) here fs) (close_gauge (of_content here) (map of_open fs))
 close_weighed (inline InShort g) [] = tt
 close_weighed (inline InHeader g) [] = tt
 close_weighed (inline InClosing g) [] = tt
-close_weighed (inline InHeader g) (f ∷ fs) = tag_weighed None (with_child f (grown g)) (child_in (of_open f) (line_sums (of_line g))) fs (child_weighed f (grown g) (line_sums (of_line g)) (line_is g))
+close_weighed (inline InHeader g) (f ∷ fs) =
+    tag_weighed None (with_child f (grown g)) (child_in (of_open f) (line_sums (of_line g))) fs
+    (child_weighed f (grown g) (line_sums (of_line g)) (line_is g))
 close_weighed (inline InShort g) (f ∷ fs) = closed_weighed f (grown g) (line_sums (of_line g)) fs (line_is g)
 close_weighed (inline InClosing g) (f ∷ fs) = closed_weighed f (grown g) (line_sums (of_line g)) fs (line_is g)
 close_weighed (blocks b) fs = tt
 close_weighed (collecting x) fs = tt
 
-next_weighed : (w : Option TagPlace) (l : List ℕ) (p : Option TagPlace) (here : Content) (fs : List Open) → IsWeighed (next_block w l p here fs) (next_gauge p (of_content here) (map of_open fs))
+next_weighed : (w : Option TagPlace) (l : List ℕ) (p : Option TagPlace) (here : Content) (fs : List Open)
+    → IsWeighed (next_block w l p here fs) (next_gauge p (of_content here) (map of_open fs))
 next_weighed (Some w) l p here fs = tt
 next_weighed None l p here [] = tt
 next_weighed None l p here (f ∷ fs) =
     go_weighed (same l f.label) (in_tag p (with_child f (block_of here)) fs) _
-    (tag_weighed p (with_child f (block_of here)) (child_in (of_open f) (body_sums (of_content here))) fs (child_weighed f (block_of here) (body_sums (of_content here)) (body_is here)))
+    (tag_weighed p (with_child f (block_of here)) (child_in (of_open f) (body_sums (of_content here))) fs
+    (child_weighed f (block_of here) (body_sums (of_content here)) (body_is here)))
 
-last_weighed : (w : Option TagPlace) (l : List ℕ) (here : Content) (fs : List Open) → IsWeighed (last_block w l here fs) (last_gauge (of_content here) (map of_open fs))
+last_weighed : (w : Option TagPlace) (l : List ℕ) (here : Content) (fs : List Open)
+    → IsWeighed (last_block w l here fs) (last_gauge (of_content here) (map of_open fs))
 last_weighed (Some w) l here fs = tt
 last_weighed None l here [] = tt
 last_weighed None l here (f ∷ fs) =
     go_weighed (same l f.label) (reading (put f.before (long_of f.label f.children here)) fs) _
-    (put_weighed f.before fs (long_of f.label f.children here) (long_sums (sums_of f.children) (of_content here)) (long_is_of f.label f.children here))
+    (put_weighed f.before fs (long_of f.label f.children here) (long_sums (sums_of f.children) (of_content here))
+    (long_is_of f.label f.children here))
 
-begun_weighed : (form : TagForm) (more : Bool) (l : List ℕ) (here : Content) (fs : List Open) → IsWeighed (begun form more l here fs) (begun_gauge form more l (of_content here) (map of_open fs))
-begun_weighed Short true l here fs = tag_weighed (Some InShort) (open_tag here l []) (of_open (open_tag here l [])) fs refl
-begun_weighed Short false l here fs = put_weighed here fs (tag false (node l (forest []))) (Tag false (node_sums no_sums)) (ap (Tag false) (sums_node l []))
-begun_weighed Long more l here fs = tag_weighed (header_place more) (open_tag here l []) (of_open (open_tag here l [])) fs refl
+begun_weighed : (form : TagForm) (more : Bool) (l : List ℕ) (here : Content) (fs : List Open)
+    → IsWeighed (begun form more l here fs) (begun_gauge form more l (of_content here) (map of_open fs))
+begun_weighed Short true l here fs =
+    tag_weighed (Some InShort) (open_tag here l []) (of_open (open_tag here l [])) fs refl
+begun_weighed Short false l here fs =
+    put_weighed here fs (tag false (node l (forest []))) (Tag false (node_sums no_sums))
+    (ap (Tag false) (sums_node l []))
+begun_weighed Long more l here fs =
+    tag_weighed (header_place more) (open_tag here l []) (of_open (open_tag here l [])) fs refl
 begun_weighed Middle more l here fs = next_weighed (place_of here) l (header_place more) here fs
 begun_weighed Closing true l here fs = next_weighed (place_of here) l (Some InClosing) here fs
 begun_weighed Closing false l here fs = last_weighed (place_of here) l here fs
 
-escape_weighed : (o : Option Escaped) (b : ℕ) (here : Content) (fs : List Open) → IsWeighed (by_escape o b here fs) (escape_gauge o (of_content here) (map of_open fs))
+escape_weighed : (o : Option Escaped) (b : ℕ) (here : Content) (fs : List Open)
+    → IsWeighed (by_escape o b here fs) (escape_gauge o (of_content here) (map of_open fs))
 escape_weighed (Some e) b here fs = put_weighed here fs (text (escaped_bytes e)) (Text (length (escaped_bytes e))) refl
 escape_weighed None b here fs = go_weighed (b == 60) (naming [] here fs) _ refl
 
-part_weighed : (t : Token) (here : Content) (fs : List Open) → IsWeighed (feed_reading here fs t) (part_gauge (of_content here) (map of_open fs) t)
+part_weighed : (t : Token) (here : Content) (fs : List Open)
+    → IsWeighed (feed_reading here fs t) (part_gauge (of_content here) (map of_open fs) t)
 part_weighed (white b) here fs = put_weighed here fs (gap (white_of b)) (Gap (white_of b)) refl
 part_weighed (join r) here fs = tt
 part_weighed (plain b) here fs = put_weighed here fs (text (b ∷ [])) (Text 1) refl
@@ -308,32 +370,51 @@ part_weighed (head form l more) here fs = begun_weighed form more l here fs
 part_weighed bar here fs = bar_weighed here fs
 part_weighed close here fs = close_weighed here fs
 
-name_more : (good : Bool) (n : List ℕ) (b : ℕ) (here : Content) (fs : List Open) → IsWeighed (name_byte good n b here fs) (record { within = Symbol (length n + 1); here = of_content here; opens = map of_open fs })
-name_more good n b here fs = go_weighed (good && nat_lt (length n) MOST_NAME) (naming (n ++ b ∷ []) here fs) _ (ap (λ k. gauge_at (Symbol k) here fs) (sym (length-append n (b ∷ []))))
+name_more : (good : Bool) (n : List ℕ) (b : ℕ) (here : Content) (fs : List Open)
+    → IsWeighed (name_byte good n b here fs)
+    (record { within = Symbol (length n + 1); here = of_content here; opens = map of_open fs })
+name_more good n b here fs =
+    go_weighed (good && nat_lt (length n) MOST_NAME) (naming (n ++ b ∷ []) here fs) _
+    (ap (λ k. gauge_at (Symbol k) here fs) (sym (length-append n (b ∷ []))))
 
-name_over : (n : List ℕ) (here : Content) (fs : List Open) → IsWeighed (name_end n here fs) (between (put_sums (of_content here) (Text (length n + 2))) (map of_open fs))
-name_over n here fs = go_weighed (nat_le 1 (length n)) (reading (put here (text (symbol_bytes n))) fs) _ (put_weighed here fs (text (symbol_bytes n)) (Text (length n + 2)) (ap Text (omega (arith, length-append n (62 ∷ [])))))
+name_over : (n : List ℕ) (here : Content) (fs : List Open)
+    → IsWeighed (name_end n here fs) (between (put_sums (of_content here) (Text (length n + 2))) (map of_open fs))
+name_over n here fs =
+    go_weighed (nat_le 1 (length n)) (reading (put here (text (symbol_bytes n))) fs) _
+    (put_weighed here fs (text (symbol_bytes n)) (Text (length n + 2))
+    (ap Text (omega (arith, length-append n (62 ∷ [])))))
 
-symbol_weighed : (t : Token) (n : List ℕ) (here : Content) (fs : List Open) → IsWeighed (feed_naming n here fs t) (symbol_gauge (length n) (of_content here) (map of_open fs) t)
+symbol_weighed : (t : Token) (n : List ℕ) (here : Content) (fs : List Open)
+    → IsWeighed (feed_naming n here fs t) (symbol_gauge (length n) (of_content here) (map of_open fs) t)
 symbol_weighed (plain b) n here fs = name_more (is_name_byte b) n b here fs
 symbol_weighed (escape b) n here fs =
-    elim (b == 62) as (λ z. IsWeighed (if z then name_end n here fs else name_byte (b == 124 || b == 92) n b here fs) (name_gauge z (length n) (of_content here) (map of_open fs))) [
+    elim (b == 62) as
+    (λ z. IsWeighed (if z then name_end n here fs else name_byte (b == 124 || b == 92) n b here fs)
+    (name_gauge z (length n) (of_content here) (map of_open fs))) [
       | true ↦ name_over n here fs
       | false ↦ name_more (b == 124 || b == 92) n b here fs
     ]
 symbol_weighed _ n here fs = tt
 
-digit_weighed : (t : Token) (ds : List ℕ) (here : Content) (fs : List Open) → IsWeighed (feed_counting ds here fs t) (digit_gauge (length ds) (of_content here) (map of_open fs) t)
-digit_weighed (plain b) ds here fs = go_weighed (is_digit b) (counting (ds ++ b ∷ []) here fs) _ (ap (λ k. gauge_at (Digits k) here fs) (sym (length-append ds (b ∷ []))))
+digit_weighed : (t : Token) (ds : List ℕ) (here : Content) (fs : List Open)
+    → IsWeighed (feed_counting ds here fs t) (digit_gauge (length ds) (of_content here) (map of_open fs) t)
+digit_weighed (plain b) ds here fs =
+    go_weighed (is_digit b) (counting (ds ++ b ∷ []) here fs) _
+    (ap (λ k. gauge_at (Digits k) here fs) (sym (length-append ds (b ∷ []))))
 digit_weighed close ds here fs =
-    put_weighed here fs (tag false (node raw_data_label (forest (leaf ds ∷ [])))) (Tag false (node_sums (leaf_sums (length ds)))) (ap (Tag false) (sums_node raw_data_label (leaf ds ∷ []) ∙ ap node_sums (sums_leaf ds)))
+    put_weighed here fs (tag false (node raw_data_label (forest (leaf ds ∷ []))))
+    (Tag false (node_sums (leaf_sums (length ds))))
+    (ap (Tag false) (sums_node raw_data_label (leaf ds ∷ []) ∙ ap node_sums (sums_leaf ds)))
 digit_weighed _ ds here fs = tt
 
 feed_weighed : (s : State) (g : Gauge) (t : Token) → IsWeighed s g → IsWeighed (feed s t) (feed_gauge g t)
 unfolding feed
-feed_weighed (reading here fs) g t h = subst (λ z. IsWeighed (feed_reading here fs t) (feed_gauge z t)) (sym h) (part_weighed t here fs)
-feed_weighed (naming n here fs) g t h = subst (λ z. IsWeighed (feed_naming n here fs t) (feed_gauge z t)) (sym h) (symbol_weighed t n here fs)
-feed_weighed (counting ds here fs) g t h = subst (λ z. IsWeighed (feed_counting ds here fs t) (feed_gauge z t)) (sym h) (digit_weighed t ds here fs)
+feed_weighed (reading here fs) g t h =
+    subst (λ z. IsWeighed (feed_reading here fs t) (feed_gauge z t)) (sym h) (part_weighed t here fs)
+feed_weighed (naming n here fs) g t h =
+    subst (λ z. IsWeighed (feed_naming n here fs t) (feed_gauge z t)) (sym h) (symbol_weighed t n here fs)
+feed_weighed (counting ds here fs) g t h =
+    subst (λ z. IsWeighed (feed_counting ds here fs t) (feed_gauge z t)) (sym h) (digit_weighed t ds here fs)
 feed_weighed failed g t h = tt
 
 -- ---- bytes
@@ -345,7 +426,11 @@ keep_weighed : (k : Keeping) (m : Gauged) (t : Token) → IsGauged k m → IsGau
 keep_weighed k m t h =
     subst (λ j. IsGauged (keep k t) (keep_gauge (record { behind_join = j; gauge = m.gauge }) t)) h.0
     (elim (is_dropped k.behind_join t)
-    as (λ z. IsGauged (if z then keeping true k.state else keeping false (feed k.state t)) (if z then record { behind_join = true; gauge = m.gauge } else record { behind_join = false; gauge = feed_gauge m.gauge t })) [
+    as (λ z. IsGauged (if z then keeping true k.state else keeping false (feed k.state t))
+    (if z then record { behind_join = true; gauge = m.gauge } else record {
+      behind_join = false;
+      gauge = feed_gauge m.gauge t;
+    })) [
       | true ↦ (refl, h.1)
       | false ↦ (refl, feed_weighed k.state m.gauge t h.1)
     ])
@@ -361,13 +446,17 @@ given_gauged (within q) k m h = (refl, h)
 given_gauged (done t) k m h = (refl, keep_weighed k m t h)
 given_gauged bad k m h = tt
 
-step_gauged : (w : Bytewise Keeping) (v : Bytewise Gauged) (b : ℕ) → AreGauged w v → AreGauged (step keep w b) (step keep_gauge v b)
-step_gauged (at q k) (at r m) b h = subst (λ z. AreGauged (given keep k (lex q (kind_of b) b)) (given keep_gauge m (lex z (kind_of b) b))) h.0 (given_gauged (lex q (kind_of b) b) k m h.1)
+step_gauged : (w : Bytewise Keeping) (v : Bytewise Gauged) (b : ℕ) → AreGauged w v
+    → AreGauged (step keep w b) (step keep_gauge v b)
+step_gauged (at q k) (at r m) b h =
+    subst (λ z. AreGauged (given keep k (lex q (kind_of b) b)) (given keep_gauge m (lex z (kind_of b) b))) h.0
+    (given_gauged (lex q (kind_of b) b) k m h.1)
 step_gauged lost lost b h = tt
 step_gauged (at q k) lost b h = absurd h
 step_gauged lost (at r m) b h = absurd h
 
-run_gauged : (x : List ℕ) (w : Bytewise Keeping) (v : Bytewise Gauged) → AreGauged w v → AreGauged (run keep w x) (run keep_gauge v x)
+run_gauged : (x : List ℕ) (w : Bytewise Keeping) (v : Bytewise Gauged) → AreGauged w v
+    → AreGauged (run keep w x) (run keep_gauge v x)
 run_gauged [] w v h = h
 run_gauged (b ∷ x) w v h = run_gauged x (step keep w b) (step keep_gauge v b) (step_gauged w v b h)
 
@@ -376,19 +465,23 @@ run_gauged (b ∷ x) w v h = run_gauged x (step keep w b) (step keep_gauge v b) 
 some_tree : (t u : WideTree) → Some u ≡ Some t → u ≡ t
 some_tree t u e = cc
 
-file_weighed : (here : Content) (t : WideTree) → file_tree here ≡ Some t → body_sums (of_content here) ≡ sums_of (t ∷ [])
+file_weighed : (here : Content) (t : WideTree) → file_tree here ≡ Some t
+    → body_sums (of_content here) ≡ sums_of (t ∷ [])
 file_weighed (inline p g) t e = absurd cc
 file_weighed (blocks b) t e = sym (block_sums_is b) ∙ ap (λ u. sums_of (u ∷ [])) (some_tree t (tree_of_block b) e)
-file_weighed (collecting x) t e = sym (block_sums_is (as_block x)) ∙ ap (λ u. sums_of (u ∷ [])) (some_tree t (tree_of_block (as_block x)) e)
+file_weighed (collecting x) t e =
+    sym (block_sums_is (as_block x)) ∙ ap (λ u. sums_of (u ∷ [])) (some_tree t (tree_of_block (as_block x)) e)
 
-state_weighed : (s : State) (g : Gauge) (t : WideTree) → IsWeighed s g → tree_of s ≡ Some t → body_sums g.here ≡ sums_of (t ∷ [])
+state_weighed : (s : State) (g : Gauge) (t : WideTree) → IsWeighed s g → tree_of s ≡ Some t
+    → body_sums g.here ≡ sums_of (t ∷ [])
 state_weighed (reading here []) g t h e = ap (λ z. body_sums z.here) h ∙ file_weighed here t e
 state_weighed (reading here (f ∷ fs)) g t h e = absurd cc
 state_weighed (naming n here fs) g t h e = absurd cc
 state_weighed (counting ds here fs) g t h e = absurd cc
 state_weighed failed g t h e = absurd cc
 
-measured_at : (w : Bytewise Keeping) (v : Bytewise Gauged) (t : WideTree) → AreGauged w v → tree_in w ≡ Some t → IsMeasured v t
+measured_at : (w : Bytewise Keeping) (v : Bytewise Gauged) (t : WideTree) → AreGauged w v → tree_in w ≡ Some t
+    → IsMeasured v t
 measured_at (at ready k) (at r m) t h e = state_weighed k.state m.gauge t h.1.1 e
 measured_at (at slashed k) (at r m) t h e = absurd cc
 measured_at (at returned k) (at r m) t h e = absurd cc
@@ -399,4 +492,6 @@ measured_at (at q k) lost t h e = absurd h
 
 pub measured : (bytes : List ℕ) (t : WideTree) → Spells bytes t → IsMeasured (run keep_gauge start_gauge bytes) t
 unfolding reads
-measured bytes t h = measured_at (run keep start bytes) (run keep_gauge start_gauge bytes) t (run_gauged bytes start start_gauge (refl, (refl, refl))) (spelled_is_read bytes t h)
+measured bytes t h =
+    measured_at (run keep start bytes) (run keep_gauge start_gauge bytes) t
+    (run_gauged bytes start start_gauge (refl, (refl, refl))) (spelled_is_read bytes t h)

@@ -111,13 +111,16 @@ pub lexed_first : (k : ByteKind) (b : ℕ) → k ≡ Name → lex angled k b ≡
 unfolding lex_angled
 lexed_first k b h = ap (λ k. lex angled k b) h
 
-pub lexed_letter : (form : TagForm) (m : List ℕ) (k : ByteKind) (b : ℕ) → k ≡ Name → length m < MOST_LABEL → lex (labelled form m) k b ≡ within (labelled form (m ++ b ∷ []))
+pub lexed_letter : (form : TagForm) (m : List ℕ) (k : ByteKind) (b : ℕ) → k ≡ Name → length m < MOST_LABEL
+    → lex (labelled form m) k b ≡ within (labelled form (m ++ b ∷ []))
 unfolding lex_labelled
-lexed_letter form m k b h n = ap (λ k. lex (labelled form m) k b) h ∙ ap (λ c. if_good c (within (labelled form (m ++ b ∷ [])))) (lt-ltb _ _ n)
+lexed_letter form m k b h n =
+    ap (λ k. lex (labelled form m) k b) h ∙ ap (λ c. if_good c (within (labelled form (m ++ b ∷ [])))) (lt-ltb _ _ n)
 
 module _ (S : Type 0) (fd : S → Token → S) where
   -- a byte of a known kind
-  pub byte_of : (k : ByteKind) (b : ℕ) (q : Lex) (s : S) (y : List ℕ) → kind_of b ≡ k → run fd (at q s) (b ∷ y) ≡ run fd (given fd s (lex q k b)) y
+  pub byte_of : (k : ByteKind) (b : ℕ) (q : Lex) (s : S) (y : List ℕ) → kind_of b ≡ k
+      → run fd (at q s) (b ∷ y) ≡ run fd (given fd s (lex q k b)) y
   byte_of k b q s y e = ap (λ k. run fd (given fd s (lex q k b)) y) e
 
   pub backslash_step : (s : S) (y : List ℕ) → run fd (at ready s) (92 ∷ y) ≡ run fd (at slashed s) y
@@ -128,40 +131,57 @@ module _ (S : Type 0) (fd : S → Token → S) where
   unfolding lex_ready
   less_step s y = byte_of Less 60 ready s y less_kind
 
-  end_step : (more : Bool) (form : TagForm) (m : List ℕ) (s : S) (y : List ℕ) → 1 ≤ length m → run fd (at (labelled form m) s) (end_of more ∷ y) ≡ run fd (at ready (fd s (head form m more))) y
+  end_step : (more : Bool) (form : TagForm) (m : List ℕ) (s : S) (y : List ℕ) → 1 ≤ length m
+      → run fd (at (labelled form m) s) (end_of more ∷ y) ≡ run fd (at ready (fd s (head form m more))) y
   unfolding lex_labelled
-  end_step true form m s y n = byte_of Bar 124 (labelled form m) s y bar_kind ∙ ap (λ c. run fd (given fd s (if_good c (done (head form m true)))) y) (le-leb _ _ n)
-  end_step false form m s y n = byte_of Greater 62 (labelled form m) s y greater_kind ∙ ap (λ c. run fd (given fd s (if_good c (done (head form m false)))) y) (le-leb _ _ n)
+  end_step true form m s y n =
+      byte_of Bar 124 (labelled form m) s y bar_kind
+      ∙ ap (λ c. run fd (given fd s (if_good c (done (head form m true)))) y) (le-leb _ _ n)
+  end_step false form m s y n = byte_of Greater 62 (labelled form m) s y greater_kind
+      ∙ ap (λ c. run fd (given fd s (if_good c (done (head form m false)))) y) (le-leb _ _ n)
 
-  pub label_run : (l m : List ℕ) (more : Bool) (form : TagForm) (s : S) (y : List ℕ) → AllByRecursion (λ b. is_label_byte b ≡ true) l → length m + length l ≤ MOST_LABEL → 1 ≤ length m + length l
+  pub label_run : (l m : List ℕ) (more : Bool) (form : TagForm) (s : S) (y : List ℕ)
+      → AllByRecursion (λ b. is_label_byte b ≡ true) l → length m + length l ≤ MOST_LABEL → 1 ≤ length m + length l
       → run fd (at (labelled form m) s) (l ++ end_of more ∷ y) ≡ run fd (at ready (fd s (head form (m ++ l) more))) y
-  label_run [] m more form s y h n k = end_step more form m s y (omega (arith, k)) ∙ ap (λ a. run fd (at ready (fd s (head form a more))) y) (sym (append-nil m))
+  label_run [] m more form s y h n k =
+      end_step more form m s y (omega (arith, k))
+      ∙ ap (λ a. run fd (at ready (fd s (head form a more))) y) (sym (append-nil m))
   label_run (b ∷ l) m more form s y h n k =
-      ap (λ r. run fd (given fd s r) (l ++ end_of more ∷ y)) (lexed_letter form m (kind_of b) b (name_kind b h.0) (omega arith))
-      ∙ label_run l (m ++ b ∷ []) more form s y h.1 (omega (arith, length-append m (b ∷ []))) (omega (arith, length-append m (b ∷ [])))
+      ap (λ r. run fd (given fd s r) (l ++ end_of more ∷ y))
+      (lexed_letter form m (kind_of b) b (name_kind b h.0) (omega arith))
+      ∙ label_run l (m ++ b ∷ []) more form s y h.1 (omega (arith, length-append m (b ∷ [])))
+      (omega (arith, length-append m (b ∷ [])))
       ∙ ap (λ a. run fd (at ready (fd s (head form a more))) y) (append_assoc m (b ∷ []) l)
 
-  mark_run : (form : TagForm) (l : List ℕ) (more : Bool) (s : S) (y : List ℕ) → IsLabel l → run fd (at angled s) (mark_of form ++ (l ++ end_of more ∷ y)) ≡ run fd (at ready (fd s (head form l more))) y
+  mark_run : (form : TagForm) (l : List ℕ) (more : Bool) (s : S) (y : List ℕ) → IsLabel l
+      → run fd (at angled s) (mark_of form ++ (l ++ end_of more ∷ y)) ≡ run fd (at ready (fd s (head form l more))) y
   unfolding lex_angled
   mark_run Short [] more s y h = absurd (omega (arith, h.some))
   mark_run Short (b ∷ l) more s y h =
       ap (λ r. run fd (given fd s r) (l ++ end_of more ∷ y)) (lexed_first (kind_of b) b (name_kind b h.each.0))
       ∙ label_run l (b ∷ []) more Short s y h.each.1 (omega (arith, h.short)) (omega arith)
-  mark_run Long l more s y h = byte_of Backslash 92 angled s (l ++ end_of more ∷ y) backslash_kind ∙ label_run l [] more Long s y h.each (omega (arith, h.short)) (omega (arith, h.some))
-  mark_run Middle l more s y h = byte_of Bar 124 angled s (l ++ end_of more ∷ y) bar_kind ∙ label_run l [] more Middle s y h.each (omega (arith, h.short)) (omega (arith, h.some))
-  mark_run Closing l more s y h = byte_of Slash 47 angled s (l ++ end_of more ∷ y) slash_kind ∙ label_run l [] more Closing s y h.each (omega (arith, h.short)) (omega (arith, h.some))
+  mark_run Long l more s y h = byte_of Backslash 92 angled s (l ++ end_of more ∷ y) backslash_kind
+      ∙ label_run l [] more Long s y h.each (omega (arith, h.short)) (omega (arith, h.some))
+  mark_run Middle l more s y h = byte_of Bar 124 angled s (l ++ end_of more ∷ y) bar_kind
+      ∙ label_run l [] more Middle s y h.each (omega (arith, h.short)) (omega (arith, h.some))
+  mark_run Closing l more s y h = byte_of Slash 47 angled s (l ++ end_of more ∷ y) slash_kind
+      ∙ label_run l [] more Closing s y h.each (omega (arith, h.short)) (omega (arith, h.some))
 
-  pub token_run : (t : Token) (s : S) (y : List ℕ) → IsToken t → run fd (at ready s) (written t ++ y) ≡ run fd (at ready (fd s t)) y
+  pub token_run : (t : Token) (s : S) (y : List ℕ) → IsToken t
+      → run fd (at ready s) (written t ++ y) ≡ run fd (at ready (fd s t)) y
   unfolding lex_ready lex_slashed lex_returned lex_angled
   token_run (white b) s y h = ap (λ r. run fd (given fd s r) y) (lexed_white (kind_of b) b h)
   token_run (plain b) s y h = ap (λ r. run fd (given fd s r) y) (lexed_plain (kind_of b) b h)
-  token_run (join true) s y h = backslash_step s (13 ∷ 10 ∷ y) ∙ byte_of Return 13 slashed s (10 ∷ y) return_kind ∙ byte_of Newline 10 returned s y newline_kind
+  token_run (join true) s y h = backslash_step s (13 ∷ 10 ∷ y) ∙ byte_of Return 13 slashed s (10 ∷ y) return_kind
+      ∙ byte_of Newline 10 returned s y newline_kind
   token_run (join false) s y h = backslash_step s (10 ∷ y) ∙ byte_of Newline 10 slashed s y newline_kind
-  token_run (escape b) s y h = backslash_step s (b ∷ y) ∙ ap (λ r. run fd (given fd s r) y) (lexed_escape (kind_of b) b refl h)
+  token_run (escape b) s y h =
+      backslash_step s (b ∷ y) ∙ ap (λ r. run fd (given fd s r) y) (lexed_escape (kind_of b) b refl h)
   token_run raw s y h = less_step s (35 ∷ y) ∙ byte_of Hash 35 angled s y hash_kind
   token_run (head form l more) s y h =
       less_step s ((mark_of form ++ (l ++ end_of more ∷ [])) ++ y)
-      ∙ ap (λ z. run fd (at angled s) z) (append_assoc (mark_of form) (l ++ end_of more ∷ []) y ∙ ap (λ z. mark_of form ++ z) (append_assoc l (end_of more ∷ []) y))
+      ∙ ap (λ z. run fd (at angled s) z) (append_assoc (mark_of form) (l ++ end_of more ∷ []) y
+      ∙ ap (λ z. mark_of form ++ z) (append_assoc l (end_of more ∷ []) y))
       ∙ mark_run form l more s y h
   token_run bar s y h = byte_of Bar 124 ready s y bar_kind
   token_run close s y h = byte_of Greater 62 ready s y greater_kind
@@ -171,7 +191,8 @@ module _ (S : Type 0) (fd : S → Token → S) where
   folds s [] = s
   folds s (t ∷ ts) = folds (fd s t) ts
 
-  pub tokens_run : (ts : List Token) (s : S) → AllByRecursion IsToken ts → run fd (at ready s) (flat_map written ts) ≡ at ready (folds s ts)
+  pub tokens_run : (ts : List Token) (s : S) → AllByRecursion IsToken ts
+      → run fd (at ready s) (flat_map written ts) ≡ at ready (folds s ts)
   tokens_run [] s h = refl
   tokens_run (t ∷ ts) s h = token_run t s (flat_map written ts) h.0 ∙ tokens_run ts (fd s t) h.1
 
@@ -195,10 +216,14 @@ one_token_list bytes ts us h k =
 
 -- ---- joins
 
-pub keeps_state : (ts : List Token) (j : Bool) (s : State) → (keeps (record { behind_join = j; state = s }) ts).state ≡ feeds s (kept j ts)
+pub keeps_state : (ts : List Token) (j : Bool) (s : State)
+    → (keeps (record { behind_join = j; state = s }) ts).state ≡ feeds s (kept j ts)
 keeps_state [] j s = refl
 keeps_state (t ∷ ts) j s =
-    elim (is_dropped j t) as (λ d. (keeps (if d then record { behind_join = true; state = s } else record { behind_join = false; state = feed s t }) ts).state ≡ feeds s (if d then kept true ts else t ∷ kept false ts)) [
+    elim (is_dropped j t) as
+    (λ d. (keeps
+    (if d then record { behind_join = true; state = s } else record { behind_join = false; state = feed s t })
+    ts).state ≡ feeds s (if d then kept true ts else t ∷ kept false ts)) [
       | true ↦ keeps_state ts true s
       | false ↦ keeps_state ts false (feed s t)
     ]
@@ -219,7 +244,9 @@ spelled_is_read bytes t h =
     ap (λ x. tree_in (run keep start x)) h.found.all
     ∙ ap tree_in (tokens_run Keeping keep h.tokens file_start h.found.each)
     ∙ ap (λ k. tree_of k.state) (folds_keeps h.tokens file_start)
-    ∙ ap tree_of (keeps_state h.tokens false file_state ∙ ap (feeds file_state) (h.formed ∙ sym (append-nil (tokens_of h.file))) ∙ read_pieces h.file (blocks no_paragraphs) [] [])
+    ∙ ap tree_of (keeps_state h.tokens false file_state
+    ∙ ap (feeds file_state) (h.formed ∙ sym (append-nil (tokens_of h.file)))
+    ∙ read_pieces h.file (blocks no_paragraphs) [] [])
     ∙ file_is (parts_of h.file)
     ∙ ap Some (sym h.meant)
 

@@ -69,24 +69,31 @@ by_zero : (P : Sums → Type 0) (n : ℕ) (x y : Sums) → (n ≡ 0 → P x) →
 by_zero P zero x y f g = f refl
 by_zero P (suc n) x y f g = subst P (not_zero (suc n) x y (omega arith)) (g (omega arith))
 
-by_one : (P : Sums → Type 0) (n : ℕ) (x y z : Sums) → (n ≡ 0 → P x) → (n ≡ 1 → P y) → (2 ≤ n → P z) → P (if n == 0 then x else if n == 1 then y else z)
+by_one : (P : Sums → Type 0) (n : ℕ) (x y z : Sums) → (n ≡ 0 → P x) → (n ≡ 1 → P y) → (2 ≤ n → P z)
+    → P (if n == 0 then x else if n == 1 then y else z)
 by_one P zero x y z f g h = f refl
 by_one P (suc zero) x y z f g h = g refl
 by_one P (suc (suc n)) x y z f g h = subst P (more_than_one (suc (suc n)) x y z (omega arith)) (h (omega arith))
 
-concat_bound : (s : Sums) (m : ℕ) → 1 ≤ m → (s.count ≡ 1 → most_of s ≤ m) → (2 ≤ s.count → most_of s + 1 ≤ m) → most_of (concat_sums s) ≤ m
-concat_bound s m h f g = by_one (λ x. most_of x ≤ m) s.count (leaf_sums 0) s (node_sums s) (λ e. omega (arith, h)) f (λ e. omega (arith, g e))
+concat_bound : (s : Sums) (m : ℕ) → 1 ≤ m → (s.count ≡ 1 → most_of s ≤ m) → (2 ≤ s.count → most_of s + 1 ≤ m)
+    → most_of (concat_sums s) ≤ m
+concat_bound s m h f g =
+    by_one (λ x. most_of x ≤ m) s.count (leaf_sums 0) s (node_sums s) (λ e. omega (arith, h)) f
+    (λ e. omega (arith, g e))
 
 -- ---- lines
 
 pub ended_most : (g : LineSums) → most_of (ended_line g) ≤ most_of g.done + g.length + 1
-ended_most g = by_zero (λ s. most_of s ≤ most_of g.done + g.length + 1) g.length g.done (both g.done (leaf_sums g.length)) (λ e. omega arith) (λ e. omega arith)
+ended_most g =
+    by_zero (λ s. most_of s ≤ most_of g.done + g.length + 1) g.length g.done (both g.done (leaf_sums g.length))
+    (λ e. omega arith) (λ e. omega arith)
 
 pub line_most : (g : LineSums) → most_of (line_sums g) ≤ most_in_line g
 line_most g =
     by_zero (λ s. most_of (concat_sums s) ≤ most_in_line g) g.length g.done (both g.done (leaf_sums g.length))
     (λ z. concat_bound g.done (most_in_line g) (omega arith) (λ e. omega arith) (λ e. omega arith))
-    (λ z. concat_bound (both g.done (leaf_sums g.length)) (most_in_line g) (omega arith) (λ e. omega arith) (λ e. omega arith))
+    (λ z. concat_bound (both g.done (leaf_sums g.length)) (most_in_line g) (omega arith) (λ e. omega arith)
+    (λ e. omega arith))
 
 gap_most : (r : Bool) (n : ℕ) → (if r then n else n + 1) ≤ n + 1
 gap_most true n = omega arith
@@ -99,19 +106,24 @@ grow_most g (Tag c s) = omega (arith, ended_most g, both_most (ended_line g) s)
 
 -- ---- blocks
 
-pub later_most : (r : Option White) (full : Sums) (now : LineSums) (p : PartSums) → most_of (ended_sums r full now) + most_in_line (grow_line (resumed_line r now) p) ≤ most_of full + most_in_line now + of_run r + most_in_part p
+pub later_most : (r : Option White) (full : Sums) (now : LineSums) (p : PartSums)
+    → most_of (ended_sums r full now) + most_in_line (grow_line (resumed_line r now) p) ≤ most_of full + most_in_line
+    now + of_run r + most_in_part p
 later_most None full now p = omega (arith, grow_most now p)
 later_most (Some Break) full now p = omega (arith, both_most full (line_sums now), line_most now, grow_most no_line p)
-later_most (Some Spaces) full now p = omega (arith, grow_most (grow_line now (Gap Spaces)) p, grow_most now (Gap Spaces))
+later_most (Some Spaces) full now p =
+    omega (arith, grow_most (grow_line now (Gap Spaces)) p, grow_most now (Gap Spaces))
 later_most (Some Line) full now p = omega (arith, grow_most (grow_line now (Gap Line)) p, grow_most now (Gap Line))
 
-pub resumed_most : (r : Option White) (now line : LineSums) → line ≡ resumed_line r now → most_in_line line ≤ most_in_line now + of_run r
+pub resumed_most : (r : Option White) (now line : LineSums) → line ≡ resumed_line r now
+    → most_in_line line ≤ most_in_line now + of_run r
 resumed_most None now line e = rw e (omega arith)
 resumed_most (Some Break) now line e = rw e (omega arith)
 resumed_most (Some Spaces) now line e = rw e (omega (arith, grow_most now (Gap Spaces)))
 resumed_most (Some Line) now line e = rw e (omega (arith, grow_most now (Gap Line)))
 
-part_most : (s : Stage) (b : BlockSums) (p : PartSums) → most_in_block (part_block s b p) ≤ most_in_block b + most_in_part p
+part_most : (s : Stage) (b : BlockSums) (p : PartSums)
+    → most_in_block (part_block s b p) ≤ most_in_block b + most_in_part p
 part_most Empty b p = omega (arith, grow_most no_line p)
 part_most Alone b p = omega (arith, later_most b.run b.full b.now p)
 part_most Ordinary b p = omega (arith, later_most b.run b.full b.now p)
@@ -129,7 +141,8 @@ widen_most b (Tag c s) = part_most b.stage b (Tag c s)
 block_at_most : (s : Stage) (b : BlockSums) → most_of (block_at s b) ≤ most_in_block b
 block_at_most Empty b = omega arith
 block_at_most Alone b = omega (arith, line_most b.now)
-block_at_most Ordinary b = omega (arith, line_most b.now, node_most (both b.full (line_sums b.now)), both_most b.full (line_sums b.now))
+block_at_most Ordinary b =
+    omega (arith, line_most b.now, node_most (both b.full (line_sums b.now)), both_most b.full (line_sums b.now))
 
 block_most : (b : BlockSums) → most_of (block_sums b) ≤ most_in_block b
 block_most b = block_at_most b.stage b
@@ -151,9 +164,11 @@ body_most (of.Tags s b) = omega (arith, block_most b)
 pub body_small : (c : ContentSums) (s : Sums) → s ≡ body_sums c → most_of s ≤ most_in_content c
 body_small c s e = rw e (body_most c)
 
-long_most : (children : Sums) (c : ContentSums) → most_in_part (long_sums children c) ≤ most_of children + most_in_content c + 3
+long_most : (children : Sums) (c : ContentSums)
+    → most_in_part (long_sums children c) ≤ most_of children + most_in_content c + 3
 long_most children (of.Argument p g) = omega arith
-long_most children (of.Block b) = omega (arith, block_most b, both_most children (block_sums b), node_most (both children (block_sums b)))
+long_most children (of.Block b) =
+    omega (arith, block_most b, both_most children (block_sums b), node_most (both children (block_sums b)))
 long_most children (of.Tags s b) = omega (arith, node_most s)
 
 chosen_most : (c : Bool) → most_in_content (if c then of.Tags no_sums no_block else of.Block no_block) ≤ 2
@@ -184,41 +199,60 @@ bar_most (of.Tags s b) os = omega arith
 closed_most : (o : OpenSums) (os : List OpenSums) → most_in (closed_open o os) ≤ most_in_opens (o ∷ os) + 1
 closed_most o os = omega (arith, put_most o.before (Tag false (node_sums o.children)), node_most o.children)
 
-closed_with : (o : OpenSums) (g : LineSums) (os : List OpenSums) → most_in (closed_open (child_in o (line_sums g)) os) ≤ most_in_line g + most_in_opens (o ∷ os) + 1
-closed_with o g os = omega (arith, closed_most (child_in o (line_sums g)) os, both_most o.children (line_sums g), line_most g)
+closed_with : (o : OpenSums) (g : LineSums) (os : List OpenSums)
+    → most_in (closed_open (child_in o (line_sums g)) os) ≤ most_in_line g + most_in_opens (o ∷ os) + 1
+closed_with o g os =
+    omega (arith, closed_most (child_in o (line_sums g)) os, both_most o.children (line_sums g), line_most g)
 
 close_most : (here : ContentSums) (os : List OpenSums) → most_in (close_gauge here os) ≤ most_at here os + 1
 close_most (of.Argument InHeader g) [] = omega arith
 close_most (of.Argument InShort g) [] = omega arith
 close_most (of.Argument InClosing g) [] = omega arith
-close_most (of.Argument InHeader g) (o ∷ os) = omega (arith, both_most o.children (line_sums g), line_most g, opening_most None o.collects (both o.children (line_sums g)))
+close_most (of.Argument InHeader g) (o ∷ os) =
+    omega (
+      arith,
+      both_most o.children (line_sums g),
+      line_most g,
+      opening_most None o.collects (both o.children (line_sums g)),
+    )
 close_most (of.Argument InShort g) (o ∷ os) = omega (arith, closed_with o g os)
 close_most (of.Argument InClosing g) (o ∷ os) = omega (arith, closed_with o g os)
 close_most (of.Block b) os = omega arith
 close_most (of.Tags s b) os = omega arith
 
-next_most : (p : Option TagPlace) (here : ContentSums) (os : List OpenSums) → most_in (next_gauge p here os) ≤ most_at here os + 2
+next_most : (p : Option TagPlace) (here : ContentSums) (os : List OpenSums)
+    → most_in (next_gauge p here os) ≤ most_at here os + 2
 next_most p here [] = omega arith
-next_most p here (o ∷ os) = omega (arith, both_most o.children (body_sums here), body_most here, opening_most p o.collects (both o.children (body_sums here)))
+next_most p here (o ∷ os) =
+    omega (
+      arith,
+      both_most o.children (body_sums here),
+      body_most here,
+      opening_most p o.collects (both o.children (body_sums here)),
+    )
 
 last_most : (here : ContentSums) (os : List OpenSums) → most_in (last_gauge here os) ≤ most_at here os + 1
 last_most here [] = omega arith
 last_most here (o ∷ os) = omega (arith, put_most o.before (long_sums o.children here), long_most o.children here)
 
-begun_most : (form : TagForm) (more : Bool) (label : List ℕ) (here : ContentSums) (os : List OpenSums) → most_in (begun_gauge form more label here os) ≤ most_at here os + 4
+begun_most : (form : TagForm) (more : Bool) (label : List ℕ) (here : ContentSums) (os : List OpenSums)
+    → most_in (begun_gauge form more label here os) ≤ most_at here os + 4
 begun_most Short true label here os = omega arith
 begun_most Short false label here os = omega (arith, put_most here (Tag false (node_sums no_sums)))
-begun_most Long more label here os = omega (arith, opening_most (header_place more) (same label collection_label) no_sums)
+begun_most Long more label here os =
+    omega (arith, opening_most (header_place more) (same label collection_label) no_sums)
 begun_most Middle more label here os = omega (arith, next_most (header_place more) here os)
 begun_most Closing true label here os = omega (arith, next_most (Some InClosing) here os)
 begun_most Closing false label here os = omega (arith, last_most here os)
 
-escape_most : (o : Option Escaped) (here : ContentSums) (os : List OpenSums) → most_in (escape_gauge o here os) ≤ most_at here os + 2
+escape_most : (o : Option Escaped) (here : ContentSums) (os : List OpenSums)
+    → most_in (escape_gauge o here os) ≤ most_at here os + 2
 escape_most (Some Mark) here os = omega (arith, put_most here (Text 0))
 escape_most (Some (Byte b)) here os = omega (arith, put_most here (Text 1))
 escape_most None here os = omega arith
 
-part_token_most : (here : ContentSums) (os : List OpenSums) (t : Token) → most_in (part_gauge here os t) ≤ most_at here os + cost t
+part_token_most : (here : ContentSums) (os : List OpenSums) (t : Token)
+    → most_in (part_gauge here os t) ≤ most_at here os + cost t
 part_token_most here os (white b) = omega (arith, put_most here (Gap (white_of b)))
 part_token_most here os (join r) = omega arith
 part_token_most here os (plain b) = omega (arith, put_most here (Text 1))
@@ -228,11 +262,13 @@ part_token_most here os (head form label more) = begun_most form more label here
 part_token_most here os bar = bar_most here os
 part_token_most here os close = close_most here os
 
-name_most : (over : Bool) (n : ℕ) (here : ContentSums) (os : List OpenSums) → most_in (name_gauge over n here os) ≤ n + 2 + most_at here os + 2
+name_most : (over : Bool) (n : ℕ) (here : ContentSums) (os : List OpenSums)
+    → most_in (name_gauge over n here os) ≤ n + 2 + most_at here os + 2
 name_most true n here os = omega (arith, put_most here (Text (n + 2)))
 name_most false n here os = omega arith
 
-symbol_most : (n : ℕ) (here : ContentSums) (os : List OpenSums) (t : Token) → most_in (symbol_gauge n here os t) ≤ n + 2 + most_at here os + cost t
+symbol_most : (n : ℕ) (here : ContentSums) (os : List OpenSums) (t : Token)
+    → most_in (symbol_gauge n here os t) ≤ n + 2 + most_at here os + cost t
 symbol_most n here os (escape b) = name_most (b == 62) n here os
 symbol_most n here os (white b) = omega arith
 symbol_most n here os (join r) = omega arith
@@ -242,7 +278,8 @@ symbol_most n here os (head form label more) = omega arith
 symbol_most n here os bar = omega arith
 symbol_most n here os close = omega arith
 
-digit_most : (n : ℕ) (here : ContentSums) (os : List OpenSums) (t : Token) → most_in (digit_gauge n here os t) ≤ n + 3 + most_at here os + cost t
+digit_most : (n : ℕ) (here : ContentSums) (os : List OpenSums) (t : Token)
+    → most_in (digit_gauge n here os t) ≤ n + 3 + most_at here os + cost t
 digit_most n here os close = omega (arith, put_most here (Tag false (node_sums (leaf_sums n))))
 digit_most n here os (white b) = omega arith
 digit_most n here os (join r) = omega arith
@@ -252,7 +289,8 @@ digit_most n here os raw = omega arith
 digit_most n here os (head form label more) = omega arith
 digit_most n here os bar = omega arith
 
-feed_in_most : (w : Within) (here : ContentSums) (os : List OpenSums) (t : Token) → most_in (feed_in w here os t) ≤ most_within w + most_at here os + cost t
+feed_in_most : (w : Within) (here : ContentSums) (os : List OpenSums) (t : Token)
+    → most_in (feed_in w here os t) ≤ most_within w + most_at here os + cost t
 feed_in_most Parts here os t = omega (arith, part_token_most here os t)
 feed_in_most (Symbol n) here os t = symbol_most n here os t
 feed_in_most (Digits n) here os t = digit_most n here os t
@@ -263,14 +301,18 @@ feed_most g t = feed_in_most g.within g.here g.opens t
 keep_most : (k : Gauged) (t : Token) → most_in (keep_gauge k t).gauge ≤ most_in k.gauge + cost t
 keep_most k t =
     elim (is_dropped k.behind_join t)
-    as (λ z. most_in (if z then (let g : Gauged = record { behind_join = true; gauge = k.gauge } in g) else record { behind_join = false; gauge = feed_gauge k.gauge t }).gauge ≤ most_in k.gauge + cost t) [
+    as (λ z. most_in
+    (if z then (let g : Gauged = record { behind_join = true; gauge = k.gauge } in g)
+    else record { behind_join = false; gauge = feed_gauge k.gauge t }).gauge ≤ most_in k.gauge + cost t) [
       | true ↦ omega arith
       | false ↦ feed_most k.gauge t
     ]
 
 -- the innermost tag apart from the others
-pub popped_most : (here : ContentSums) (items rest : List OpenSums) (o : OpenSums) → items ≡ rest ++ o ∷ [] → most_at here (opens_of items) ≡ most_in_content here + (most_in_open o + most_in_opens (opens_of rest))
-popped_most here items rest o e = ap (λ os. most_at here (reverse os)) e ∙ ap (most_at here) (reverse-append rest (o ∷ []))
+pub popped_most : (here : ContentSums) (items rest : List OpenSums) (o : OpenSums) → items ≡ rest ++ o ∷ []
+    → most_at here (opens_of items) ≡ most_in_content here + (most_in_open o + most_in_opens (opens_of rest))
+popped_most here items rest o e =
+    ap (λ os. most_at here (reverse os)) e ∙ ap (most_at here) (reverse-append rest (o ∷ []))
 
 -- ---- bytes
 
@@ -336,7 +378,8 @@ angled_paid _ b = tt
 
 labelled_paid : (form : TagForm) (label : List ℕ) (k : ByteKind) (b : ℕ) → IsPaid 2 (lex_labelled form label k b)
 unfolding lex_labelled
-labelled_paid form label Name b = if_paid (nat_lt (length label) MOST_LABEL) 2 (within (labelled form (label ++ b ∷ []))) (omega arith)
+labelled_paid form label Name b =
+    if_paid (nat_lt (length label) MOST_LABEL) 2 (within (labelled form (label ++ b ∷ []))) (omega arith)
 labelled_paid form label Bar b = if_paid (nat_le 1 (length label)) 2 (done (head form label true)) (omega arith)
 labelled_paid form label Greater b = if_paid (nat_le 1 (length label)) 2 (done (head form label false)) (omega arith)
 labelled_paid form label _ b = tt
@@ -352,7 +395,8 @@ abbrev most_of_bytes : Bytewise Gauged → ℕ
 most_of_bytes (at q k) = 2 * most_in k.gauge + 3 * begun_by q
 most_of_bytes lost = 0
 
-given_most : (n : ℕ) (k : Gauged) (r : Lexed) → IsPaid n r → most_of_bytes (given keep_gauge k r) ≤ 2 * most_in k.gauge + 3 * n + 3
+given_most : (n : ℕ) (k : Gauged) (r : Lexed) → IsPaid n r
+    → most_of_bytes (given keep_gauge k r) ≤ 2 * most_in k.gauge + 3 * n + 3
 given_most n k (within q) h = omega (arith, h)
 given_most n k (done t) h = omega (arith, h, keep_most k t)
 given_most n k bad h = omega arith
@@ -369,11 +413,17 @@ front_short : (bytes : List ℕ) (n : ℕ) → length (take n bytes) ≤ length 
 front_short bytes n = omega (arith, length-take n bytes)
 
 -- what is counted of a slice, and of a token more
-pub metered_small : (bytes : List ℕ) (n : ℕ) (m : Meter) → length bytes < 2 ^ 63 → run keep_gauge start_gauge (take n bytes) ≡ meter_of m → IsSmall (most_in (gauge_of m.gauge) + 4)
+pub metered_small : (bytes : List ℕ) (n : ℕ) (m : Meter) → length bytes < 2 ^ 63
+    → run keep_gauge start_gauge (take n bytes) ≡ meter_of m → IsSmall (most_in (gauge_of m.gauge) + 4)
 metered_small bytes n m h e =
     let all : 2 * most_in (gauge_of m.gauge) ≤ 4 + 3 * length (take n bytes) =
-    omega (arith, subst (λ w. most_of_bytes w ≤ most_of_bytes start_gauge + 3 * length (take n bytes)) e (run_most (take n bytes) start_gauge)) in
+    omega (
+      arith,
+      subst (λ w. most_of_bytes w ≤ most_of_bytes start_gauge + 3 * length (take n bytes)) e
+          (run_most (take n bytes) start_gauge),
+    ) in
     omega (arith, all, front_short bytes n, h)
 
-pub metered_end : (bytes : List ℕ) (n : ℕ) (m : Meter) → length bytes < 2 ^ 63 → run keep_gauge start_gauge (take n bytes) ≡ meter_of m → IsSmall (most_in_content m.gauge.here)
+pub metered_end : (bytes : List ℕ) (n : ℕ) (m : Meter) → length bytes < 2 ^ 63
+    → run keep_gauge start_gauge (take n bytes) ≡ meter_of m → IsSmall (most_in_content m.gauge.here)
 metered_end bytes n m h e = omega (arith, metered_small bytes n m h e)

@@ -52,22 +52,40 @@ any_children (inline p g) k ks h = h
 any_children (blocks b) k ks h = h
 any_children (collecting x) k ks h = tt
 
-tag_fit : (w : Option TagPlace) (c : Content) (f : Open) (t : WideTree) (fs : List Open) → (IsSmall (suc (length fs)) t → ContentFits (suc (length fs)) c) → StateFits (in_tag w (with_child f t) fs) → Fit c (f ∷ fs)
+tag_fit : (w : Option TagPlace) (c : Content) (f : Open) (t : WideTree) (fs : List Open)
+    → (IsSmall (suc (length fs)) t → ContentFits (suc (length fs)) c) → StateFits (in_tag w (with_child f t) fs)
+    → Fit c (f ∷ fs)
 tag_fit w c f t fs i h =
     let o = h.1 in
-    let ts : RowFits (suc (length fs)) (f.children ++ t ∷ []) = children_there w (suc (length fs)) f.label f.children t o.1 in
-    (i (right_small (suc (length fs)) f.children (t ∷ []) ts.each).0, (o.0, any_children c (suc (length fs)) f.children (left_row (suc (length fs)) f.children (t ∷ []) ts), o.2, o.3))
+    let ts : RowFits (suc (length fs)) (f.children ++ t ∷ []) =
+    children_there w (suc (length fs)) f.label f.children t o.1 in (
+      i (right_small (suc (length fs)) f.children (t ∷ []) ts.each).0,
+      (
+        o.0,
+        any_children c (suc (length fs)) f.children (left_row (suc (length fs)) f.children (t ∷ []) ts),
+        o.2,
+        o.3,
+      ),
+    )
 
 depth_there : (k : ℕ) (l : List ℕ) (ts : List WideTree) → IsSmall k (node l (forest ts)) → k < MOST_DEPTH
 depth_there k l ts h = omega (arith, h.depth)
 
-node_fit : (c : Content) (f : Open) (t : WideTree) (fs : List Open) → (IsSmall (suc (length fs)) t → ContentFits (suc (length fs)) c) → StateFits (closed (with_child f t) fs) → Fit c (f ∷ fs)
+node_fit : (c : Content) (f : Open) (t : WideTree) (fs : List Open)
+    → (IsSmall (suc (length fs)) t → ContentFits (suc (length fs)) c) → StateFits (closed (with_child f t) fs)
+    → Fit c (f ∷ fs)
 node_fit c f t fs i h =
-    let n : IsSmall (length fs) (node f.label (forest (f.children ++ t ∷ []))) = put_tag_fits (length fs) f.before false (node f.label (forest (f.children ++ t ∷ []))) h.0 in
+    let n : IsSmall (length fs) (node f.label (forest (f.children ++ t ∷ []))) =
+    put_tag_fits (length fs) f.before false (node f.label (forest (f.children ++ t ∷ []))) h.0 in
     let ts : RowFits (suc (length fs)) (f.children ++ t ∷ []) = node_row (length fs) f.label (f.children ++ t ∷ []) n in
     let b = part_fit f.before (tag false (node f.label (forest (f.children ++ t ∷ [])))) fs h in (
       i (right_small (suc (length fs)) f.children (t ∷ []) ts.each).0,
-      (b.0, any_children c (suc (length fs)) f.children (left_row (suc (length fs)) f.children (t ∷ []) ts), b.1, depth_there (length fs) f.label (f.children ++ t ∷ []) n),
+      (
+        b.0,
+        any_children c (suc (length fs)) f.children (left_row (suc (length fs)) f.children (t ∷ []) ts),
+        b.1,
+        depth_there (length fs) f.label (f.children ++ t ∷ []) n,
+      ),
     )
 
 bar_fit : (c : Content) (fs : List Open) → StateFits (next_argument (place_of c) c fs) → Fit c fs
@@ -76,7 +94,8 @@ bar_fit (inline p g) (f ∷ fs) h = tag_fit (Some p) (inline p g) f (grown g) fs
 bar_fit (blocks b) fs h = absurd h
 bar_fit (collecting x) fs h = absurd h
 
-close_there : (p : TagPlace) (g : Inline) (f : Open) (fs : List Open) → StateFits (last_argument (Some p) (inline p g) (f ∷ fs)) → Fit (inline p g) (f ∷ fs)
+close_there : (p : TagPlace) (g : Inline) (f : Open) (fs : List Open)
+    → StateFits (last_argument (Some p) (inline p g) (f ∷ fs)) → Fit (inline p g) (f ∷ fs)
 close_there InHeader g f fs h = tag_fit None (inline InHeader g) f (grown g) fs (grown_fits (suc (length fs)) g) h
 close_there InShort g f fs h = node_fit (inline InShort g) f (grown g) fs (grown_fits (suc (length fs)) g) h
 close_there InClosing g f fs h = node_fit (inline InClosing g) f (grown g) fs (grown_fits (suc (length fs)) g) h
@@ -92,26 +111,37 @@ close_fit (inline p g) (f ∷ fs) h = close_there p g f fs h
 close_fit (blocks b) fs h = absurd h
 close_fit (collecting x) fs h = absurd h
 
-next_fit : (l : List ℕ) (w : Option TagPlace) (c : Content) (fs : List Open) → StateFits (next_block (place_of c) l w c fs) → Fit c fs
+next_fit : (l : List ℕ) (w : Option TagPlace) (c : Content) (fs : List Open)
+    → StateFits (next_block (place_of c) l w c fs) → Fit c fs
 next_fit l w (inline p g) fs h = absurd h
 next_fit l w (blocks b) [] h = absurd h
 next_fit l w (collecting x) [] h = absurd h
-next_fit l w (blocks b) (f ∷ fs) h = tag_fit w (blocks b) f (tree_of_block b) fs (tree_fits (suc (length fs)) b) (go_fit (same l f.label) (in_tag w (with_child f (tree_of_block b)) fs) h)
+next_fit l w (blocks b) (f ∷ fs) h =
+    tag_fit w (blocks b) f (tree_of_block b) fs (tree_fits (suc (length fs)) b)
+    (go_fit (same l f.label) (in_tag w (with_child f (tree_of_block b)) fs) h)
 next_fit l w (collecting x) (f ∷ fs) h =
-    tag_fit w (collecting x) f (tree_of_block (as_block x)) fs (λ i. tags_fit (suc (length fs)) x (tree_fits (suc (length fs)) (as_block x) i)) (go_fit (same l f.label) (in_tag w (with_child f (tree_of_block (as_block x))) fs) h)
+    tag_fit w (collecting x) f (tree_of_block (as_block x)) fs
+    (λ i. tags_fit (suc (length fs)) x (tree_fits (suc (length fs)) (as_block x) i))
+    (go_fit (same l f.label) (in_tag w (with_child f (tree_of_block (as_block x))) fs) h)
 
 last_fit : (l : List ℕ) (c : Content) (fs : List Open) → StateFits (last_block (place_of c) l c fs) → Fit c fs
 last_fit l (inline p g) fs h = absurd h
 last_fit l (blocks b) [] h = absurd h
 last_fit l (collecting x) [] h = absurd h
-last_fit l (blocks b) (f ∷ fs) h = node_fit (blocks b) f (tree_of_block b) fs (tree_fits (suc (length fs)) b) (go_fit (same l f.label) (closed (with_child f (tree_of_block b)) fs) h)
+last_fit l (blocks b) (f ∷ fs) h =
+    node_fit (blocks b) f (tree_of_block b) fs (tree_fits (suc (length fs)) b)
+    (go_fit (same l f.label) (closed (with_child f (tree_of_block b)) fs) h)
 last_fit l (collecting x) (f ∷ fs) h =
     let i = go_fit (same l f.label) (reading (put f.before (long_of f.label f.children (collecting x))) fs) h in
-    let n : IsSmall (length fs) (node collection_label (forest (map tree_of_entry x.entries))) = put_tag_fits (length fs) f.before true (node collection_label (forest (map tree_of_entry x.entries))) i.0 in
-    let b = part_fit f.before (tag true (node collection_label (forest (map tree_of_entry x.entries)))) fs i in
-    (inl (node_row (length fs) collection_label (map tree_of_entry x.entries) n), (b.0, tt, b.1, depth_there (length fs) collection_label (map tree_of_entry x.entries) n))
+    let n : IsSmall (length fs) (node collection_label (forest (map tree_of_entry x.entries))) =
+    put_tag_fits (length fs) f.before true (node collection_label (forest (map tree_of_entry x.entries))) i.0 in
+    let b = part_fit f.before (tag true (node collection_label (forest (map tree_of_entry x.entries)))) fs i in (
+      inl (node_row (length fs) collection_label (map tree_of_entry x.entries) n),
+      (b.0, tt, b.1, depth_there (length fs) collection_label (map tree_of_entry x.entries) n),
+    )
 
-begun_fit : (form : TagForm) (more : Bool) (l : List ℕ) (c : Content) (fs : List Open) → StateFits (begun form more l c fs) → Fit c fs
+begun_fit : (form : TagForm) (more : Bool) (l : List ℕ) (c : Content) (fs : List Open)
+    → StateFits (begun form more l c fs) → Fit c fs
 begun_fit Short true l c fs h = (h.1.0, h.1.2)
 begun_fit Short false l c fs h = part_fit c (tag false (node l (forest []))) fs h
 begun_fit Long more l c fs h = (h.1.0, h.1.2)
@@ -138,17 +168,23 @@ reading_fit close c fs h = close_fit c fs h
 naming_fit : (t : Token) (n : List ℕ) (c : Content) (fs : List Open) → StateFits (feed_naming n c fs t) → Fit c fs
 naming_fit (plain b) n c fs h = go_fit (is_name_byte b && nat_lt (length n) MOST_NAME) (naming (n ++ b ∷ []) c fs) h
 naming_fit (escape b) n c fs h =
-    elim (b == 62) as (λ z. StateFits (if z then name_end n c fs else name_byte (b == 124 || b == 92) n b c fs) → Fit c fs) [
-      | true ↦ λ i. part_fit c (text (symbol_bytes n)) fs (go_fit (nat_le 1 (length n)) (reading (put c (text (symbol_bytes n))) fs) i)
+    elim (b == 62) as (λ z. StateFits (if z then name_end n c fs else name_byte (b == 124 || b == 92) n b c fs)
+    → Fit c fs) [
+      | true ↦ λ i.
+          part_fit c (text (symbol_bytes n)) fs
+          (go_fit (nat_le 1 (length n)) (reading (put c (text (symbol_bytes n))) fs) i)
       | false ↦ λ i. go_fit ((b == 124 || b == 92) && nat_lt (length n) MOST_NAME) (naming (n ++ b ∷ []) c fs) i
     ] h
 naming_fit _ n c fs h = absurd h
 
-counting_fit : (t : Token) (ds : List ℕ) (c : Content) (fs : List Open) → StateFits (feed_counting ds c fs t) → (length ds ≤ MOST_TEXT) × ContentFits (length fs) c × OpensFit c fs
-counting_fit (plain b) ds c fs h = let i = go_fit (is_digit b) (counting (ds ++ b ∷ []) c fs) h in (omega (arith, i.0, length-append ds (b ∷ [])), i.1, i.2)
+counting_fit : (t : Token) (ds : List ℕ) (c : Content) (fs : List Open) → StateFits (feed_counting ds c fs t)
+    → (length ds ≤ MOST_TEXT) × ContentFits (length fs) c × OpensFit c fs
+counting_fit (plain b) ds c fs h = let i = go_fit (is_digit b) (counting (ds ++ b ∷ []) c fs) h in
+    (omega (arith, i.0, length-append ds (b ∷ [])), i.1, i.2)
 counting_fit close ds c fs h =
     let b = part_fit c (tag false (node raw_data_label (forest (leaf ds ∷ [])))) fs h in
-    let n : IsSmall (length fs) (node raw_data_label (forest (leaf ds ∷ []))) = put_tag_fits (length fs) c false (node raw_data_label (forest (leaf ds ∷ []))) h.0 in
+    let n : IsSmall (length fs) (node raw_data_label (forest (leaf ds ∷ []))) =
+    put_tag_fits (length fs) c false (node raw_data_label (forest (leaf ds ∷ []))) h.0 in
     ((node_small (length fs) raw_data_label (leaf ds ∷ []) n).0.text, b.0, b.1)
 counting_fit _ ds c fs h = absurd h
 
@@ -166,7 +202,12 @@ state_in k = k.state
 
 keep_fit : (k : Keeping) (t : Token) → StateFits (keep k t).state → StateFits k.state
 keep_fit k t h =
-    elim (is_dropped k.behind_join t) as (λ z. StateFits (state_in (if z then record { behind_join = true; state = k.state } else record { behind_join = false; state = feed k.state t })) → StateFits k.state) [
+    elim (is_dropped k.behind_join t) as
+    (λ z. StateFits
+    (state_in (if z then record { behind_join = true; state = k.state } else record {
+      behind_join = false;
+      state = feed k.state t;
+    })) → StateFits k.state) [
       | true ↦ λ i. i
       | false ↦ λ i. feed_fit k.state t i
     ] h
@@ -187,7 +228,8 @@ run_fit (b ∷ y) w h = step_fit w b (run_fit y (step keep w b) h)
 file_fit : (c : Content) (t : WideTree) → file_tree c ≡ Some t → IsSmall 0 t → ContentFits 0 c
 file_fit (inline p g) t e h = absurd cc
 file_fit (blocks b) t e h = let same : tree_of_block b ≡ t = cc in tree_fits 0 b (subst (IsSmall 0) (sym same) h)
-file_fit (collecting x) t e h = let same : tree_of_block (as_block x) ≡ t = cc in tags_fit 0 x (tree_fits 0 (as_block x) (subst (IsSmall 0) (sym same) h))
+file_fit (collecting x) t e h = let same : tree_of_block (as_block x) ≡ t =
+    cc in tags_fit 0 x (tree_fits 0 (as_block x) (subst (IsSmall 0) (sym same) h))
 
 state_fit : (s : State) (t : WideTree) → tree_of s ≡ Some t → IsSmall 0 t → StateFits s
 state_fit (reading c []) t e h = (file_fit c t e h, tt)
@@ -205,5 +247,6 @@ whole_fit (at (labelled form l) k) t e h = absurd cc
 whole_fit lost t e h = absurd cc
 
 -- where a tree within the limits is read in the end, the reader fits all the way
-pub reader_fits : (w : Bytewise Keeping) (y : List ℕ) (t : WideTree) → tree_in (run keep w y) ≡ Some t → IsWithinLimits t → ReaderFits w
+pub reader_fits : (w : Bytewise Keeping) (y : List ℕ) (t : WideTree) → tree_in (run keep w y) ≡ Some t
+    → IsWithinLimits t → ReaderFits w
 reader_fits w y t e h = run_fit y w (whole_fit (run keep w y) t e (within_small t h))

@@ -10,11 +10,18 @@ use Rattle.tx_tm_form.specs.Forms.{symbol_bytes}
 use Rattle.tx_tm_form.proofs.Formed.{digits_text, symbol_text, escaped_text, one_byte_text, plain_item}
 use Rattle.tx_tm_read.specs.Fronts.{IsNameFront, IsDigitFront}
 
-pub name_more : (l : List ℕ) (b : ℕ) → IsNameFront l → is_name_byte b ≡ true → length l < MOST_NAME → IsNameFront (l ++ b ∷ [])
-name_more l b h k n = record { each = all_snoc (λ b. is_name_byte b ≡ true) l b h.each k; short = omega (arith, length-append l (b ∷ [])) }
+pub name_more : (l : List ℕ) (b : ℕ) → IsNameFront l → is_name_byte b ≡ true → length l < MOST_NAME
+    → IsNameFront (l ++ b ∷ [])
+name_more l b h k n =
+    record {
+      each = all_snoc (λ b. is_name_byte b ≡ true) l b h.each k;
+      short = omega (arith, length-append l (b ∷ []));
+    }
 
-pub digit_more : (l : List ℕ) (b : ℕ) → IsDigitFront l → is_digit b ≡ true → length l < MOST_TEXT → IsDigitFront (l ++ b ∷ [])
-digit_more l b h k n = record { each = all_snoc (λ b. is_digit b ≡ true) l b h.each k; short = omega (arith, length-append l (b ∷ [])) }
+pub digit_more : (l : List ℕ) (b : ℕ) → IsDigitFront l → is_digit b ≡ true → length l < MOST_TEXT
+    → IsDigitFront (l ++ b ∷ [])
+digit_more l b h k n =
+    record { each = all_snoc (λ b. is_digit b ≡ true) l b h.each k; short = omega (arith, length-append l (b ∷ [])) }
 
 pub digits_are_text : (l : List ℕ) → IsDigitFront l → IsText l
 digits_are_text l h = digits_text l h.each

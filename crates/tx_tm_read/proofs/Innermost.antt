@@ -28,8 +28,10 @@ last_is_first (m ∷ ms) =
     ∙ ap Some (sym (get_or-reverse (m ∷ ms) 0 m (omega arith)))
     ∙ sym (first_get (reverse (m ∷ ms)) m (omega (arith, length-reverse (m ∷ ms))))
 
-pub head_length : (form : TagForm) (l : List ℕ) (more : Bool) → length (written (head form l more)) ≡ length (mark_of form) + length l + 2
-head_length form l more = omega (arith, length-append (mark_of form) (l ++ end_of more ∷ []), length-append l (end_of more ∷ []))
+pub head_length : (form : TagForm) (l : List ℕ) (more : Bool)
+    → length (written (head form l more)) ≡ length (mark_of form) + length l + 2
+head_length form l more =
+    omega (arith, length-append (mark_of form) (l ++ end_of more ∷ []), length-append l (end_of more ∷ []))
 
 pub begins_is : (l m : List ℕ) → starts_with nat_eq m l ≡ begins l m
 begins_is [] m = refl
@@ -37,11 +39,13 @@ begins_is (b ∷ l) [] = refl
 begins_is (b ∷ l) (c ∷ m) = ap (λ z. (b == c) && z) (begins_is l m)
 
 module _ (bytes : List ℕ) where
-  pub mismatch_none : (ms : List OpenMark) (n : ℕ) → first_mark ms ≡ None → Stray n ≡ mismatch (map (mark_in bytes) ms) n
+  pub mismatch_none : (ms : List OpenMark) (n : ℕ) → first_mark ms ≡ None
+      → Stray n ≡ mismatch (map (mark_in bytes) ms) n
   mismatch_none [] n e = refl
   mismatch_none (m ∷ ms) n e = absurd cc
 
-  pub mismatch_some : (ms : List OpenMark) (n : ℕ) (m : OpenMark) → first_mark ms ≡ Some m → Mismatch m.at n ≡ mismatch (map (mark_in bytes) ms) n
+  pub mismatch_some : (ms : List OpenMark) (n : ℕ) (m : OpenMark) → first_mark ms ≡ Some m
+      → Mismatch m.at n ≡ mismatch (map (mark_in bytes) ms) n
   mismatch_some [] n m e = absurd cc
   mismatch_some (k ∷ ms) n m e = ap (λ o. at_of o) (sym e)
     where
@@ -49,7 +53,8 @@ module _ (bytes : List ℕ) where
       at_of None = Stray n
       at_of (Some m) = Mismatch m.at n
 
-  pub begins_none : (l : List ℕ) (ms : List OpenMark) → first_mark ms ≡ None → false ≡ begins_marks l (map (mark_in bytes) ms)
+  pub begins_none : (l : List ℕ) (ms : List OpenMark) → first_mark ms ≡ None
+      → false ≡ begins_marks l (map (mark_in bytes) ms)
   begins_none l [] e = refl
   begins_none l (m ∷ ms) e = absurd cc
 
@@ -57,21 +62,26 @@ module _ (bytes : List ℕ) where
   begins_there None l = false
   begins_there (Some m) l = begins_mark m.inner l (mark_in bytes m)
 
-  begins_some : (l : List ℕ) (ms : List OpenMark) (m : OpenMark) → first_mark ms ≡ Some m → begins_mark m.inner l (mark_in bytes m) ≡ begins_marks l (map (mark_in bytes) ms)
+  begins_some : (l : List ℕ) (ms : List OpenMark) (m : OpenMark) → first_mark ms ≡ Some m
+      → begins_mark m.inner l (mark_in bytes m) ≡ begins_marks l (map (mark_in bytes) ms)
   unfolding begins_there
   begins_some l [] m e = absurd cc
   begins_some l (k ∷ ms) m e = ap (λ o. begins_there o l) (sym e)
 
-  block_begins : (w : Option TagPlace) (l : List ℕ) (m : OpenMark) → is_some w ≡ false → begins l (label_in bytes m) ≡ begins_mark w l (mark_in bytes m)
+  block_begins : (w : Option TagPlace) (l : List ℕ) (m : OpenMark) → is_some w ≡ false
+      → begins l (label_in bytes m) ≡ begins_mark w l (mark_in bytes m)
   block_begins None l m e = refl
   block_begins (Some p) l m e = absurd cc
 
-  argument_begins : (w : Option TagPlace) (l : List ℕ) (m : OpenMark) → is_some w ≡ true → false ≡ begins_mark w l (mark_in bytes m)
+  argument_begins : (w : Option TagPlace) (l : List ℕ) (m : OpenMark) → is_some w ≡ true
+      → false ≡ begins_mark w l (mark_in bytes m)
   argument_begins (Some p) l m e = refl
   argument_begins None l m e = absurd cc
 
-  pub in_block : (l : List ℕ) (ms : List OpenMark) (m : OpenMark) → first_mark ms ≡ Some m → is_some m.inner ≡ false → begins l (label_in bytes m) ≡ begins_marks l (map (mark_in bytes) ms)
+  pub in_block : (l : List ℕ) (ms : List OpenMark) (m : OpenMark) → first_mark ms ≡ Some m → is_some m.inner ≡ false
+      → begins l (label_in bytes m) ≡ begins_marks l (map (mark_in bytes) ms)
   in_block l ms m e k = block_begins m.inner l m k ∙ begins_some l ms m e
 
-  pub in_argument : (l : List ℕ) (ms : List OpenMark) (m : OpenMark) → first_mark ms ≡ Some m → is_some m.inner ≡ true → false ≡ begins_marks l (map (mark_in bytes) ms)
+  pub in_argument : (l : List ℕ) (ms : List OpenMark) (m : OpenMark) → first_mark ms ≡ Some m → is_some m.inner ≡ true
+      → false ≡ begins_marks l (map (mark_in bytes) ms)
   in_argument l ms m e k = argument_begins m.inner l m k ∙ begins_some l ms m e

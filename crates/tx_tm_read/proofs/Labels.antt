@@ -7,7 +7,8 @@ use Rattle.tx_tm_form.specs.declared.bytes.ByteKind.TheVariants.{Name}
 use Rattle.tx_tm_form.specs.Bytes.{kind_of}
 use Rattle.tx_tm_read.specs.LabelFronts.{IsLabelFront}
 
-pub one_more : (l : List ℕ) (b : ℕ) → IsLabelFront l → is_label_byte b ≡ true → length l < MOST_LABEL → IsLabelFront (l ++ b ∷ [])
+pub one_more : (l : List ℕ) (b : ℕ) → IsLabelFront l → is_label_byte b ≡ true → length l < MOST_LABEL
+    → IsLabelFront (l ++ b ∷ [])
 one_more l b h k n = record { each = all_snoc _ l b h.each k; short = omega (arith, length-append l (b ∷ [])) }
 
 pub no_fault : (l : List ℕ) → IsLabelFront l → 1 ≤ length l → IsLabel l

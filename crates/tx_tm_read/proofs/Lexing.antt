@@ -76,14 +76,22 @@ angled_done Hash b e = ap (λ z. 60 ∷ z ∷ []) (hash_only b e)
 angled_done Name b e = tt
 angled_done _ b e = tt
 
-head_bytes : (form : TagForm) (l : List ℕ) (more : Bool) (b : ℕ) → b ≡ end_of more → begun_bytes (labelled form l) ++ b ∷ [] ≡ written (head form l more)
-head_bytes form l more b e = ap (λ z. 60 ∷ z) (append_assoc (mark_of form) l (b ∷ [])) ∙ ap (λ z. 60 ∷ (mark_of form ++ (l ++ z ∷ []))) e
+head_bytes : (form : TagForm) (l : List ℕ) (more : Bool) (b : ℕ) → b ≡ end_of more
+    → begun_bytes (labelled form l) ++ b ∷ [] ≡ written (head form l more)
+head_bytes form l more b e = ap (λ z. 60 ∷ z) (append_assoc (mark_of form) l (b ∷ []))
+    ∙ ap (λ z. 60 ∷ (mark_of form ++ (l ++ z ∷ []))) e
 
-labelled_done : (k : ByteKind) (form : TagForm) (l : List ℕ) (b : ℕ) → kind_of b ≡ k → IsDone (begun_bytes (labelled form l) ++ b ∷ []) (lex_labelled form l k b)
+labelled_done : (k : ByteKind) (form : TagForm) (l : List ℕ) (b : ℕ) → kind_of b ≡ k
+    → IsDone (begun_bytes (labelled form l) ++ b ∷ []) (lex_labelled form l k b)
 unfolding lex_labelled
-labelled_done Name form l b e = if_within (nat_lt (length l) MOST_LABEL) (begun_bytes (labelled form l) ++ b ∷ []) (labelled form (l ++ b ∷ []))
-labelled_done Bar form l b e = if_done (nat_le 1 (length l)) (begun_bytes (labelled form l) ++ b ∷ []) (head form l true) (head_bytes form l true b (bar_only b e))
-labelled_done Greater form l b e = if_done (nat_le 1 (length l)) (begun_bytes (labelled form l) ++ b ∷ []) (head form l false) (head_bytes form l false b (greater_only b e))
+labelled_done Name form l b e =
+    if_within (nat_lt (length l) MOST_LABEL) (begun_bytes (labelled form l) ++ b ∷ []) (labelled form (l ++ b ∷ []))
+labelled_done Bar form l b e =
+    if_done (nat_le 1 (length l)) (begun_bytes (labelled form l) ++ b ∷ []) (head form l true)
+    (head_bytes form l true b (bar_only b e))
+labelled_done Greater form l b e =
+    if_done (nat_le 1 (length l)) (begun_bytes (labelled form l) ++ b ∷ []) (head form l false)
+    (head_bytes form l false b (greater_only b e))
 labelled_done _ form l b e = tt
 
 lex_done : (q : Lex) (b : ℕ) → IsDone (begun_bytes q ++ b ∷ []) (lex q (kind_of b) b)
@@ -97,19 +105,27 @@ lex_done (labelled form l) b = labelled_done (kind_of b) form l b refl
 pub word_bytes : (q : Lex) (b : ℕ) (t : Token) → done t ≡ lex q (kind_of b) b → begun_bytes q ++ b ∷ [] ≡ written t
 word_bytes q b t e = subst (IsDone (begun_bytes q ++ b ∷ [])) (sym e) (lex_done q b)
 
-pub word_there : (bytes : List ℕ) (n : ℕ) (q : Lex) (b : ℕ) (t : Token) → done t ≡ lex q (kind_of b) b → StandsAt bytes n (begun_bytes q ++ b ∷ []) → StandsAt bytes n (written t)
+pub word_there : (bytes : List ℕ) (n : ℕ) (q : Lex) (b : ℕ) (t : Token) → done t ≡ lex q (kind_of b) b
+    → StandsAt bytes n (begun_bytes q ++ b ∷ []) → StandsAt bytes n (written t)
 word_there bytes n q b t e h = subst (StandsAt bytes n) (word_bytes q b t e) h
 
 -- ---- a part between two others
 
 pub part_there : (u v w x : List ℕ) → x ≡ u ++ (v ++ w) → StandsAt x (length u) v
-part_there u v w x e = ap (λ z. take (length v) (drop (length u) z)) e ∙ ap (take (length v)) (drop-append_seam u (v ++ w)) ∙ take-append_seam v w
+part_there u v w x e =
+    ap (λ z. take (length v) (drop (length u) z)) e ∙ ap (take (length v)) (drop-append_seam u (v ++ w))
+    ∙ take-append_seam v w
 
 -- the label of a word that stands there
-pub label_there : (bytes : List ℕ) (n : ℕ) (form : TagForm) (l : List ℕ) (more : Bool) → StandsAt bytes n (written (head form l more)) → StandsAt bytes (n + (1 + length (mark_of form))) l
+pub label_there : (bytes : List ℕ) (n : ℕ) (form : TagForm) (l : List ℕ) (more : Bool)
+    → StandsAt bytes n (written (head form l more)) → StandsAt bytes (n + (1 + length (mark_of form))) l
 label_there bytes n form l more h =
     let rest = drop (length (written (head form l more))) (drop n bytes) in
     let all : drop n bytes ≡ (60 ∷ mark_of form) ++ (l ++ (end_of more ∷ rest)) =
-    sym (take-append-drop (length (written (head form l more))) (drop n bytes)) ∙ ap (λ z. z ++ rest) h ∙ ap (λ z. 60 ∷ z) (append_assoc (mark_of form) (l ++ end_of more ∷ []) rest ∙ ap (λ z. mark_of form ++ z) (append_assoc l (end_of more ∷ []) rest)) in
+    sym (take-append-drop (length (written (head form l more))) (drop n bytes)) ∙ ap (λ z. z ++ rest) h
+    ∙ ap (λ z. 60 ∷ z) (append_assoc (mark_of form) (l ++ end_of more ∷ []) rest
+    ∙ ap (λ z. mark_of form ++ z) (append_assoc l (end_of more ∷ []) rest)) in
     let one : n + (1 + length (mark_of form)) ≡ n + length (60 ∷ mark_of form) = omega arith in
-    ap (λ k. take (length l) (drop k bytes)) one ∙ sym (ap (take (length l)) (drop-drop (length (60 ∷ mark_of form)) n bytes)) ∙ part_there (60 ∷ mark_of form) l (end_of more ∷ rest) (drop n bytes) all
+    ap (λ k. take (length l) (drop k bytes)) one
+    ∙ sym (ap (take (length l)) (drop-drop (length (60 ∷ mark_of form)) n bytes))
+    ∙ part_there (60 ∷ mark_of form) l (end_of more ∷ rest) (drop n bytes) all

@@ -12,12 +12,27 @@ use Rattle.tx_tm_form.proofs.Formed.{concat_is_label, document_is_label, collect
 
 pub no_bad_byte : (bytes : List ℕ) (n : ℕ) → IsText bytes → IsLongestFront IsText bytes n → n < length bytes → ⊥
 no_bad_byte bytes n h k i =
-    let whole : IsFront IsText bytes (length bytes) = (omega arith, ([], subst IsText (sym (append-nil (take (length bytes) bytes) ∙ take_all (length bytes) bytes (omega arith))) h)) in
+    let whole : IsFront IsText bytes (length bytes) = (
+      omega arith,
+      (
+        [],
+        subst IsText (sym (append-nil (take (length bytes) bytes) ∙ take_all (length bytes) bytes (omega arith)))
+            h,
+      ),
+    ) in
     omega (arith, k.longest (length bytes) whole, i)
 
-pub no_bad_symbol : (bytes : List ℕ) (n : ℕ) → IsText bytes → IsLongestFront IsText bytes n → (IsText (take n bytes) → ⊥) → ⊥
+pub no_bad_symbol : (bytes : List ℕ) (n : ℕ) → IsText bytes → IsLongestFront IsText bytes n
+    → (IsText (take n bytes) → ⊥) → ⊥
 no_bad_symbol bytes n h k i =
-    let whole : IsFront IsText bytes (length bytes) = (omega arith, ([], subst IsText (sym (append-nil (take (length bytes) bytes) ∙ take_all (length bytes) bytes (omega arith))) h)) in
+    let whole : IsFront IsText bytes (length bytes) = (
+      omega arith,
+      (
+        [],
+        subst IsText (sym (append-nil (take (length bytes) bytes) ∙ take_all (length bytes) bytes (omega arith)))
+            h,
+      ),
+    ) in
     let e : n ≡ length bytes = omega (arith, k.longest (length bytes) whole, k.front.0) in
     i (subst IsText (sym (take_all n bytes (omega (arith, e)))) h)
 

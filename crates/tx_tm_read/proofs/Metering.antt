@@ -15,7 +15,8 @@ use Rattle.tx_tm_read.specs.Gauges.{meter_of}
 abbrev measured_run : List ℕ → Bytewise Gauged
 measured_run x = run keep_gauge start_gauge x
 
-one_more : (bytes : List ℕ) (n : ℕ) (w v : Bytewise Gauged) → n < length bytes → measured_run (take n bytes) ≡ w → step keep_gauge w (get_or bytes n 0) ≡ v → measured_run (take (n + 1) bytes) ≡ v
+one_more : (bytes : List ℕ) (n : ℕ) (w v : Bytewise Gauged) → n < length bytes → measured_run (take n bytes) ≡ w
+    → step keep_gauge w (get_or bytes n 0) ≡ v → measured_run (take (n + 1) bytes) ≡ v
 one_more bytes n w v lt e g =
     let i : n + 1 ≡ suc n = omega arith in
     ap (λ k. measured_run (take k bytes)) i
@@ -24,7 +25,9 @@ one_more bytes n w v lt e g =
     ∙ ap (λ u. step keep_gauge u (get_or bytes n 0)) e
     ∙ g
 
-pub meter_more : (bytes : List ℕ) (n : ℕ) (m next : Meter) → n < length bytes → run keep_gauge start_gauge (take n bytes) ≡ meter_of m → meter_of next ≡ step keep_gauge (meter_of m) (get_or bytes n 0)
+pub meter_more : (bytes : List ℕ) (n : ℕ) (m next : Meter) → n < length bytes
+    → run keep_gauge start_gauge (take n bytes) ≡ meter_of m
+    → meter_of next ≡ step keep_gauge (meter_of m) (get_or bytes n 0)
     → run keep_gauge start_gauge (take (n + 1) bytes) ≡ meter_of next
 meter_more bytes n m next lt e g = one_more bytes n (meter_of m) (meter_of next) lt e (sym g)
 
@@ -33,7 +36,9 @@ lost_stays [] = refl
 lost_stays (b ∷ x) = lost_stays x
 
 -- bytes that are no words spell no tree
-pub meter_lost : (bytes : List ℕ) (n : ℕ) (m : Meter) (t : WideTree) → n < length bytes → run keep_gauge start_gauge (take n bytes) ≡ meter_of m → step keep_gauge (meter_of m) (get_or bytes n 0) ≡ lost → Spells bytes t → ⊥
+pub meter_lost : (bytes : List ℕ) (n : ℕ) (m : Meter) (t : WideTree) → n < length bytes
+    → run keep_gauge start_gauge (take n bytes) ≡ meter_of m → step keep_gauge (meter_of m) (get_or bytes n 0) ≡ lost
+    → Spells bytes t → ⊥
 meter_lost bytes n m t lt e g h =
     let over : measured_run bytes ≡ lost =
     ap measured_run (sym (take-append-drop (n + 1) bytes))
@@ -42,5 +47,8 @@ meter_lost bytes n m t lt e g h =
     ∙ lost_stays (drop (n + 1) bytes) in
     subst (λ u. IsMeasured u t) over (measured bytes t h)
 
-pub metered : (bytes : List ℕ) (n : ℕ) (m : Meter) (t : WideTree) → length bytes ≤ n → run keep_gauge start_gauge (take n bytes) ≡ meter_of m → Spells bytes t → body_sums m.gauge.here ≡ sums_of (t ∷ [])
-metered bytes n m t le e h = subst (λ u. IsMeasured u t) (ap measured_run (sym (take_all n bytes le)) ∙ e) (measured bytes t h)
+pub metered : (bytes : List ℕ) (n : ℕ) (m : Meter) (t : WideTree) → length bytes ≤ n
+    → run keep_gauge start_gauge (take n bytes) ≡ meter_of m → Spells bytes t
+    → body_sums m.gauge.here ≡ sums_of (t ∷ [])
+metered bytes n m t le e h =
+    subst (λ u. IsMeasured u t) (ap measured_run (sym (take_all n bytes le)) ∙ e) (measured bytes t h)

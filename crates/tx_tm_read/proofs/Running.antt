@@ -36,7 +36,8 @@ plain_text (b ∷ x) h = text_text (b ∷ []) x (plain_is_text b h.0) (plain_tex
 grow_both : (g : Inline) (x y : List ℕ) → grow (grow g (text x)) (text y) ≡ grow g (text (x ++ y))
 grow_both g x y = ap (λ s. record { done = g.done; bytes = s; in_run = false }) (append_assoc g.bytes x y)
 
-widen_both : (s : Stage) (b : Block) (x y : List ℕ) → widen (with_part s b (text x)) (text y) ≡ with_part s b (text (x ++ y))
+widen_both : (s : Stage) (b : Block) (x y : List ℕ)
+    → widen (with_part s b (text x)) (text y) ≡ with_part s b (text (x ++ y))
 widen_both Empty b x y = ap (block_at Ordinary []) (grow_both no_parts x y)
 widen_both Alone b x y = ap (block_at Ordinary (ended b.run b.full b.now)) (grow_both (resumed b.run b.now) x y)
 widen_both Ordinary b x y = ap (block_at Ordinary (ended b.run b.full b.now)) (grow_both (resumed b.run b.now) x y)
@@ -51,33 +52,41 @@ put_both (collecting t) x y = ap blocks (widen_both (as_block t).stage (as_block
 abbrev between : Bool → Content → List Open → Bytewise Keeping
 between j c fs = at ready (record { behind_join = j; state = reading c fs })
 
-plain_step : (b : ℕ) (j : Bool) (c : Content) (fs : List Open) → is_plain (kind_of b) ≡ true → step keep (between j c fs) b ≡ between false (put c (text (b ∷ []))) fs
+plain_step : (b : ℕ) (j : Bool) (c : Content) (fs : List Open) → is_plain (kind_of b) ≡ true
+    → step keep (between j c fs) b ≡ between false (put c (text (b ∷ []))) fs
 unfolding feed
 plain_step b j c fs h = ap (given keep (record { behind_join = j; state = reading c fs })) (lexed_plain (kind_of b) b h)
 
-pub plain_run : (x : List ℕ) (b : ℕ) (j : Bool) (c : Content) (fs : List Open) → ArePlain (b ∷ x) → run keep (between j c fs) (b ∷ x) ≡ between false (put c (text (b ∷ x))) fs
+pub plain_run : (x : List ℕ) (b : ℕ) (j : Bool) (c : Content) (fs : List Open) → ArePlain (b ∷ x)
+    → run keep (between j c fs) (b ∷ x) ≡ between false (put c (text (b ∷ x))) fs
 plain_run [] b j c fs h = plain_step b j c fs h.0
 plain_run (a ∷ x) b j c fs h =
     ap (λ w. run keep w (a ∷ x)) (plain_step b j c fs h.0)
     ∙ plain_run x a false (put c (text (b ∷ []))) fs h.1
     ∙ ap (λ d. between false d fs) (put_both c (b ∷ []) (a ∷ x))
 
-pub text_run : (x : List ℕ) (j : Bool) (c : Content) (fs : List Open) → 0 < length x → ArePlain x → run keep (between j c fs) x ≡ between false (put c (text x)) fs
+pub text_run : (x : List ℕ) (j : Bool) (c : Content) (fs : List Open) → 0 < length x → ArePlain x
+    → run keep (between j c fs) x ≡ between false (put c (text x)) fs
 text_run [] j c fs n h = absurd (omega arith)
 text_run (b ∷ x) j c fs n h = plain_run x b j c fs h
 
 -- ---- the loop
 
-pub run_on : (w v : Bytewise Keeping) (n : ℕ) (rest all : List ℕ) → run keep w rest ≡ run keep start all → v ≡ run keep w (take n rest) → run keep v (drop n rest) ≡ run keep start all
-run_on w v n rest all h e = ap (λ z. run keep z (drop n rest)) e ∙ sym (run_append (take n rest) (drop n rest) w) ∙ ap (run keep w) (take-append-drop n rest) ∙ h
+pub run_on : (w v : Bytewise Keeping) (n : ℕ) (rest all : List ℕ) → run keep w rest ≡ run keep start all
+    → v ≡ run keep w (take n rest) → run keep v (drop n rest) ≡ run keep start all
+run_on w v n rest all h e = ap (λ z. run keep z (drop n rest)) e ∙ sym (run_append (take n rest) (drop n rest) w)
+    ∙ ap (run keep w) (take-append-drop n rest) ∙ h
 
-pub none_on : (w : Bytewise Keeping) (n : ℕ) (rest all : List ℕ) → run keep w rest ≡ run keep start all → (ReaderFits (run keep w (take n rest)) → ⊥) → IsRead None all
+pub none_on : (w : Bytewise Keeping) (n : ℕ) (rest all : List ℕ) → run keep w rest ≡ run keep start all
+    → (ReaderFits (run keep w (take n rest)) → ⊥) → IsRead None all
 unfolding reads
 none_on w n rest all h e t i j =
-    let whole : run keep (run keep w (take n rest)) (drop n rest) ≡ run keep start all = sym (run_append (take n rest) (drop n rest) w) ∙ ap (run keep w) (take-append-drop n rest) ∙ h in
+    let whole : run keep (run keep w (take n rest)) (drop n rest) ≡ run keep start all =
+    sym (run_append (take n rest) (drop n rest) w) ∙ ap (run keep w) (take-append-drop n rest) ∙ h in
     e (reader_fits (run keep w (take n rest)) (drop n rest) t (ap tree_in whole ∙ i) j)
 
-pub read_over : (found : Option WideTree) (w : Bytewise Keeping) (all : List ℕ) → w ≡ run keep start all → IsTree found w → IsRead found all
+pub read_over : (found : Option WideTree) (w : Bytewise Keeping) (all : List ℕ) → w ≡ run keep start all
+    → IsTree found w → IsRead found all
 unfolding reads
 read_over None w all e h = λ t i j. h t (ap tree_in e ∙ i) j
 read_over (Some t) w all e h = sym (ap tree_in e) ∙ h
@@ -86,8 +95,10 @@ plain_more : (x : List ℕ) (b : ℕ) → ArePlain x → is_plain (kind_of b) �
 plain_more [] b h k = (k, tt)
 plain_more (a ∷ x) b h k = (h.0, plain_more x b h.1 k)
 
-pub plain_next : (x : List ℕ) (i b : ℕ) → ArePlain (take i x) → i < length x → get_or x i 0 ≡ b → is_plain (kind_of b) ≡ true → ArePlain (take (i + 1) x)
-plain_next x i b h n e k = subst ArePlain (sym (take_more x i 0 n ∙ ap (λ z. take i x ++ z ∷ []) e)) (plain_more (take i x) b h k)
+pub plain_next : (x : List ℕ) (i b : ℕ) → ArePlain (take i x) → i < length x → get_or x i 0 ≡ b
+    → is_plain (kind_of b) ≡ true → ArePlain (take (i + 1) x)
+plain_next x i b h n e k =
+    subst ArePlain (sym (take_more x i 0 n ∙ ap (λ z. take i x ++ z ∷ []) e)) (plain_more (take i x) b h k)
 
 -- ---- the answers of one advance
 
@@ -96,25 +107,36 @@ some_taken n [] h k = absurd (omega arith)
 some_taken zero (b ∷ x) h k = absurd (omega arith)
 some_taken (suc n) (b ∷ x) h k = omega arith
 
-pub text_there : (r : Reader) (c : Content) (fs : List Open) (n : ℕ) (rest : List ℕ) → lex_of r.lexer ≡ ready → state_of r.spot ≡ reading c fs → 0 < n → n ≤ length rest → ArePlain (take n rest)
+pub text_there : (r : Reader) (c : Content) (fs : List Open) (n : ℕ) (rest : List ℕ) → lex_of r.lexer ≡ ready
+    → state_of r.spot ≡ reading c fs → 0 < n → n ≤ length rest → ArePlain (take n rest)
     → run keep (reader_of r) (take n rest) ≡ between false (put c (text (take n rest))) fs
 text_there r c fs n rest e i h k p =
-    ap (λ w. run keep w (take n rest)) (ap (λ q. at q (record { behind_join = r.behind_join; state = state_of r.spot })) e ∙ ap (λ s. at ready (record { behind_join = r.behind_join; state = s })) i)
+    ap (λ w. run keep w (take n rest))
+    (ap (λ q. at q (record { behind_join = r.behind_join; state = state_of r.spot })) e
+    ∙ ap (λ s. at ready (record { behind_join = r.behind_join; state = s })) i)
     ∙ text_run (take n rest) r.behind_join c fs (some_taken n rest h k) p
 
-pub advance_none : (r : Reader) (c : Content) (fs : List Open) (n : ℕ) (rest : List ℕ) → lex_of r.lexer ≡ ready → state_of r.spot ≡ reading c fs → 0 < n → n ≤ length rest → ArePlain (take n rest)
+pub advance_none : (r : Reader) (c : Content) (fs : List Open) (n : ℕ) (rest : List ℕ) → lex_of r.lexer ≡ ready
+    → state_of r.spot ≡ reading c fs → 0 < n → n ≤ length rest → ArePlain (take n rest)
     → (StateFits (reading (put c (text (take n rest))) fs) → ⊥) → IsAdvance None (reader_of r) rest
 advance_none r c fs n rest e i h k p o = (n, λ f. o (subst ReaderFits (text_there r c fs n rest e i h k p) f))
 
-pub advance_some : (r : Reader) (c : Content) (fs : List Open) (n : ℕ) (rest : List ℕ) (s : Spot) → lex_of r.lexer ≡ ready → state_of r.spot ≡ reading c fs → 0 < n → n ≤ length rest → ArePlain (take n rest)
-    → state_of s ≡ reading (put c (text (take n rest))) fs → (0 < n) × (n ≤ length rest) × ((let w : Bytewise Keeping = at ready (record { behind_join = false; state = state_of s }) in w) ≡ run keep (reader_of r) (take n rest))
-advance_some r c fs n rest s e i h k p o = (h, k, ap (λ z. at ready (record { behind_join = false; state = z })) o ∙ sym (text_there r c fs n rest e i h k p))
+pub advance_some : (r : Reader) (c : Content) (fs : List Open) (n : ℕ) (rest : List ℕ) (s : Spot)
+    → lex_of r.lexer ≡ ready → state_of r.spot ≡ reading c fs → 0 < n → n ≤ length rest → ArePlain (take n rest)
+    → state_of s ≡ reading (put c (text (take n rest))) fs
+    → (0 < n) × (n ≤ length rest)
+    × ((let w : Bytewise Keeping = at ready (record { behind_join = false; state = state_of s }) in w) ≡ run keep
+    (reader_of r) (take n rest))
+advance_some r c fs n rest s e i h k p o =
+    (h, k, ap (λ z. at ready (record { behind_join = false; state = z })) o ∙ sym (text_there r c fs n rest e i h k p))
 
 pub nothing_left : (x : List ℕ) → length x ≡ 0 → x ≡ []
 nothing_left [] h = refl
 nothing_left (b ∷ x) h = absurd (omega arith)
 
-pub over : (r : Result (Option WideTree) Memory) (w : Bytewise Keeping) (rest all : List ℕ) → run keep w rest ≡ run keep start all → rest ≡ [] → IfOk r (λ found. IsTree found w) → IfOk r (λ found. IsRead found all)
+pub over : (r : Result (Option WideTree) Memory) (w : Bytewise Keeping) (rest all : List ℕ)
+    → run keep w rest ≡ run keep start all → rest ≡ [] → IfOk r (λ found. IsTree found w)
+    → IfOk r (λ found. IsRead found all)
 over (Ok found) w rest all h e i = read_over found w all (ap (run keep w) (sym e) ∙ h) i
 over (Err y) w rest all h e i = tt
 

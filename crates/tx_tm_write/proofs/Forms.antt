@@ -22,12 +22,19 @@ no_block (leaf text) e = refl
 no_block (node label ts) e = absurd cc
 
 -- the test of a node
-pub a_document : (t : WideTree) (label : List ℕ) → label_of t ≡ Some label → same label document_label ≡ true → is_block t ≡ some (forest (children_of t))
-a_document t label e h = ap is_block (node_is t label e) ∙ ap (λ b. cond b (some (forest (children_of t))) (same label collection_label && are_nodes (forest (children_of t)))) h
+pub a_document : (t : WideTree) (label : List ℕ) → label_of t ≡ Some label → same label document_label ≡ true
+    → is_block t ≡ some (forest (children_of t))
+a_document t label e h =
+    ap is_block (node_is t label e)
+    ∙ ap (λ b. cond b (some (forest (children_of t)))
+    (same label collection_label && are_nodes (forest (children_of t)))) h
 
 pub no_document : (t : WideTree) (label : List ℕ) → label_of t ≡ Some label → same label document_label ≡ false
     → is_block t ≡ (same label collection_label && are_nodes (forest (children_of t)))
-no_document t label e h = ap is_block (node_is t label e) ∙ ap (λ b. cond b (some (forest (children_of t))) (same label collection_label && are_nodes (forest (children_of t)))) h
+no_document t label e h =
+    ap is_block (node_is t label e)
+    ∙ ap (λ b. cond b (some (forest (children_of t)))
+    (same label collection_label && are_nodes (forest (children_of t)))) h
 
 -- how many trees there are
 pub some_trees : (ts : List WideTree) → some (forest ts) ≡ ltb 0 (length ts)
@@ -43,14 +50,18 @@ two_trees (t ∷ u ∷ ts) = grind arith
 pub not_one : (label : List ℕ) (ts : List WideTree) → (length ts ≡ 1 → ⊥) → is_raw label (forest ts) ≡ false
 not_one label [] h = and_false (same label raw_data_label)
 not_one label (t ∷ []) h = absurd (h refl)
-not_one label (t ∷ u ∷ ts) h = ap (λ b. same label raw_data_label && b) (and_false (is_digits t)) ∙ and_false (same label raw_data_label)
+not_one label (t ∷ u ∷ ts) h = ap (λ b. same label raw_data_label && b) (and_false (is_digits t))
+    ∙ and_false (same label raw_data_label)
 
-pub only_one : (label : List ℕ) (ts : List WideTree) (t : WideTree) → length ts ≡ 1 → t ≡ get_or ts 0 t → is_raw label (forest ts) ≡ (same label raw_data_label && is_digits t)
+pub only_one : (label : List ℕ) (ts : List WideTree) (t : WideTree) → length ts ≡ 1 → t ≡ get_or ts 0 t
+    → is_raw label (forest ts) ≡ (same label raw_data_label && is_digits t)
 only_one label [] t h e = absurd (omega arith)
-only_one label (u ∷ []) t h e = let is : t ≡ u = e in rw is (ap (λ b. same label raw_data_label && b) (and_true (is_digits u)))
+only_one label (u ∷ []) t h e = let is : t ≡ u =
+    e in rw is (ap (λ b. same label raw_data_label && b) (and_true (is_digits u)))
 only_one label (u ∷ v ∷ ts) t h e = absurd (omega arith)
 
-pub digits_one : (ts : List WideTree) (t : WideTree) → length ts ≡ 1 → t ≡ get_or ts 0 t → digits_of (forest ts) ≡ text_in t
+pub digits_one : (ts : List WideTree) (t : WideTree) → length ts ≡ 1 → t ≡ get_or ts 0 t
+    → digits_of (forest ts) ≡ text_in t
 digits_one [] t h e = absurd (omega arith)
 digits_one (u ∷ ts) t h e = let same : t ≡ u = e in cc
 
@@ -65,7 +76,8 @@ digits_node (leaf text) e = absurd cc
 digits_node (node label ts) e = refl
 
 -- the i-th tree is the first of what is left
-pub drop_tree : (ts : List WideTree) (i : ℕ) (t : WideTree) → i < length ts → t ≡ get_or ts i t → forest (drop i ts) ≡ cons t (forest (drop (i + 1) ts))
+pub drop_tree : (ts : List WideTree) (i : ℕ) (t : WideTree) → i < length ts → t ≡ get_or ts i t
+    → forest (drop i ts) ≡ cons t (forest (drop (i + 1) ts))
 drop_tree [] i t lt e = absurd (omega arith)
 drop_tree (u ∷ ts) zero t lt e = let same : t ≡ u = e in cc
 drop_tree (u ∷ ts) (suc i) t lt e =

@@ -36,24 +36,30 @@ run_stays w (gap Break ∷ q) rest h = absurd cc
 run_stays w (text x ∷ q) rest h = refl
 run_stays w (tag c t ∷ q) rest h = refl
 
-tight_runs : (q : List Part) (held : Bool) (rest : List Part) → is_tight held q ≡ true → with_runs (q ++ rest) ≡ q ++ with_runs rest
+tight_runs : (q : List Part) (held : Bool) (rest : List Part) → is_tight held q ≡ true
+    → with_runs (q ++ rest) ≡ q ++ with_runs rest
 tight_runs [] held rest h = refl
 tight_runs (gap Spaces ∷ q) held rest h =
-    let p = and_parts held (is_tight false q) h in ap (run_before (gap Spaces)) (tight_runs q false rest p.1) ∙ run_stays Spaces q (with_runs rest) p.1
+    let p = and_parts held (is_tight false q) h in ap (run_before (gap Spaces)) (tight_runs q false rest p.1)
+    ∙ run_stays Spaces q (with_runs rest) p.1
 tight_runs (gap Line ∷ q) held rest h = absurd cc
 tight_runs (gap Break ∷ q) held rest h = absurd cc
 tight_runs (text x ∷ q) held rest h = ap (λ z. text x ∷ z) (tight_runs q true rest h)
 tight_runs (tag c t ∷ q) held rest h = ap (λ z. tag c t ∷ z) (tight_runs q true rest h)
 
-paragraph_runs : (q : List Part) (qs : List (List Part)) (rest : List Part) → IsTight q → with_runs (behind_lines qs ++ rest) ≡ behind_breaks qs ++ with_runs rest
+paragraph_runs : (q : List Part) (qs : List (List Part)) (rest : List Part) → IsTight q
+    → with_runs (behind_lines qs ++ rest) ≡ behind_breaks qs ++ with_runs rest
     → with_runs ((q ++ behind_lines qs) ++ rest) ≡ (q ++ behind_breaks qs) ++ with_runs rest
 paragraph_runs q qs rest h e =
-    ap with_runs (append_assoc q (behind_lines qs) rest) ∙ tight_runs q false (behind_lines qs ++ rest) h ∙ ap (λ z. q ++ z) e ∙ sym (append_assoc q (behind_breaks qs) (with_runs rest))
+    ap with_runs (append_assoc q (behind_lines qs) rest) ∙ tight_runs q false (behind_lines qs ++ rest) h
+    ∙ ap (λ z. q ++ z) e ∙ sym (append_assoc q (behind_breaks qs) (with_runs rest))
 
-two_lines : (q : List Part) (rest : List Part) → IsTight q → run_before (gap Line) (run_before (gap Line) (q ++ rest)) ≡ gap Break ∷ (q ++ rest)
+two_lines : (q : List Part) (rest : List Part) → IsTight q
+    → run_before (gap Line) (run_before (gap Line) (q ++ rest)) ≡ gap Break ∷ (q ++ rest)
 two_lines q rest h = ap (run_before (gap Line)) (run_stays Line q rest h)
 
-lines_runs : (qs : List (List Part)) (rest : List Part) → AllByRecursion IsTight qs → with_runs (behind_lines qs ++ rest) ≡ behind_breaks qs ++ with_runs rest
+lines_runs : (qs : List (List Part)) (rest : List Part) → AllByRecursion IsTight qs
+    → with_runs (behind_lines qs ++ rest) ≡ behind_breaks qs ++ with_runs rest
 lines_runs [] rest h = refl
 lines_runs (q ∷ qs) rest h =
     ap (λ z. run_before (gap Line) (run_before (gap Line) z)) (paragraph_runs q qs rest h.0 (lines_runs qs rest h.1))
@@ -76,23 +82,29 @@ unless_stays : (w : White) (q rest : List Part) → IsTight q → unless_last (g
 unless_stays w [] rest h = absurd cc
 unless_stays w (p ∷ q) rest h = refl
 
-tight_last : (q : List Part) (held : Bool) (rest : List Part) → is_tight held q ≡ true → to_last (q ++ rest) ≡ q ++ to_last rest
+tight_last : (q : List Part) (held : Bool) (rest : List Part) → is_tight held q ≡ true
+    → to_last (q ++ rest) ≡ q ++ to_last rest
 tight_last [] held rest h = refl
 tight_last (gap Spaces ∷ q) held rest h =
-    let p = and_parts held (is_tight false q) h in ap (unless_last (gap Spaces)) (tight_last q false rest p.1) ∙ unless_stays Spaces q (to_last rest) p.1
+    let p = and_parts held (is_tight false q) h in ap (unless_last (gap Spaces)) (tight_last q false rest p.1)
+    ∙ unless_stays Spaces q (to_last rest) p.1
 tight_last (gap Line ∷ q) held rest h = absurd cc
 tight_last (gap Break ∷ q) held rest h = absurd cc
 tight_last (text x ∷ q) held rest h = ap (λ z. text x ∷ z) (tight_last q true rest h)
 tight_last (tag c t ∷ q) held rest h = ap (λ z. tag c t ∷ z) (tight_last q true rest h)
 
-paragraph_last : (q : List Part) (qs : List (List Part)) (rest : List Part) → IsTight q → to_last (behind_breaks qs ++ rest) ≡ behind_breaks qs
+paragraph_last : (q : List Part) (qs : List (List Part)) (rest : List Part) → IsTight q
+    → to_last (behind_breaks qs ++ rest) ≡ behind_breaks qs
     → to_last ((q ++ behind_breaks qs) ++ rest) ≡ q ++ behind_breaks qs
-paragraph_last q qs rest h e = ap to_last (append_assoc q (behind_breaks qs) rest) ∙ tight_last q false (behind_breaks qs ++ rest) h ∙ ap (λ z. q ++ z) e
+paragraph_last q qs rest h e = ap to_last (append_assoc q (behind_breaks qs) rest)
+    ∙ tight_last q false (behind_breaks qs ++ rest) h ∙ ap (λ z. q ++ z) e
 
-breaks_last : (qs : List (List Part)) (rest : List Part) → AllByRecursion IsTight qs → to_last rest ≡ [] → to_last (behind_breaks qs ++ rest) ≡ behind_breaks qs
+breaks_last : (qs : List (List Part)) (rest : List Part) → AllByRecursion IsTight qs → to_last rest ≡ []
+    → to_last (behind_breaks qs ++ rest) ≡ behind_breaks qs
 breaks_last [] rest h e = e
 breaks_last (q ∷ qs) rest h e =
-    ap (unless_last (gap Break)) (paragraph_last q qs rest h.0 (breaks_last qs rest h.1 e)) ∙ unless_stays Break q (behind_breaks qs) h.0
+    ap (unless_last (gap Break)) (paragraph_last q qs rest h.0 (breaks_last qs rest h.1 e))
+    ∙ unless_stays Break q (behind_breaks qs) h.0
 
 -- ---- paragraphs
 
@@ -105,58 +117,77 @@ into_begun : (p : Part) (q : List Part) (qs xs : List (List Part)) → begun xs 
 into_begun p q qs [] e = let a : [] ≡ q = cc in let b : [] ≡ qs = cc in cc
 into_begun p q qs (x ∷ xs) e = let a : x ≡ q = cc in let b : xs ≡ qs = cc in cc
 
-tight_paragraph : (q : List Part) (held : Bool) (rest : List Part) (qs : List (List Part)) → is_tight held q ≡ true → begun (paragraphs rest) ≡ [] ∷ qs → begun (paragraphs (q ++ rest)) ≡ q ∷ qs
+tight_paragraph : (q : List Part) (held : Bool) (rest : List Part) (qs : List (List Part)) → is_tight held q ≡ true
+    → begun (paragraphs rest) ≡ [] ∷ qs → begun (paragraphs (q ++ rest)) ≡ q ∷ qs
 tight_paragraph [] held rest qs h e = e
 tight_paragraph (gap Spaces ∷ q) held rest qs h e =
-    let p = and_parts held (is_tight false q) h in ap begun (into_begun (gap Spaces) q qs (paragraphs (q ++ rest)) (tight_paragraph q false rest qs p.1 e))
+    let p = and_parts held (is_tight false q) h in
+    ap begun (into_begun (gap Spaces) q qs (paragraphs (q ++ rest)) (tight_paragraph q false rest qs p.1 e))
 tight_paragraph (gap Line ∷ q) held rest qs h e = absurd cc
 tight_paragraph (gap Break ∷ q) held rest qs h e = absurd cc
-tight_paragraph (text x ∷ q) held rest qs h e = ap begun (into_begun (text x) q qs (paragraphs (q ++ rest)) (tight_paragraph q true rest qs h e))
-tight_paragraph (tag c t ∷ q) held rest qs h e = ap begun (into_begun (tag c t) q qs (paragraphs (q ++ rest)) (tight_paragraph q true rest qs h e))
+tight_paragraph (text x ∷ q) held rest qs h e =
+    ap begun (into_begun (text x) q qs (paragraphs (q ++ rest)) (tight_paragraph q true rest qs h e))
+tight_paragraph (tag c t ∷ q) held rest qs h e =
+    ap begun (into_begun (tag c t) q qs (paragraphs (q ++ rest)) (tight_paragraph q true rest qs h e))
 
 begun_some : (q : List Part) (qs xs : List (List Part)) → IsTight q → begun xs ≡ q ∷ qs → xs ≡ q ∷ qs
 begun_some [] qs xs h e = absurd cc
 begun_some (p ∷ q) qs [] h e = absurd cc
 begun_some (p ∷ q) qs (x ∷ xs) h e = e
 
-breaks_paragraphs : (qs : List (List Part)) → AllByRecursion IsTight qs → begun (paragraphs (behind_breaks qs)) ≡ [] ∷ qs
+breaks_paragraphs : (qs : List (List Part)) → AllByRecursion IsTight qs
+    → begun (paragraphs (behind_breaks qs)) ≡ [] ∷ qs
 breaks_paragraphs [] h = refl
 breaks_paragraphs (q ∷ qs) h =
-    ap (λ z. [] ∷ z) (begun_some q qs (paragraphs (q ++ behind_breaks qs)) h.0 (tight_paragraph q false (behind_breaks qs) qs h.0 (breaks_paragraphs qs h.1)))
+    ap (λ z. [] ∷ z)
+    (begun_some q qs (paragraphs (q ++ behind_breaks qs)) h.0
+    (tight_paragraph q false (behind_breaks qs) qs h.0 (breaks_paragraphs qs h.1)))
 
-all_paragraphs : (q : List Part) (qs : List (List Part)) → IsTight q → AllByRecursion IsTight qs → paragraphs (q ++ behind_breaks qs) ≡ q ∷ qs
-all_paragraphs q qs h k = begun_some q qs (paragraphs (q ++ behind_breaks qs)) h (tight_paragraph q false (behind_breaks qs) qs h (breaks_paragraphs qs k))
+all_paragraphs : (q : List Part) (qs : List (List Part)) → IsTight q → AllByRecursion IsTight qs
+    → paragraphs (q ++ behind_breaks qs) ≡ q ∷ qs
+all_paragraphs q qs h k =
+    begun_some q qs (paragraphs (q ++ behind_breaks qs)) h
+    (tight_paragraph q false (behind_breaks qs) qs h (breaks_paragraphs qs k))
 
 -- ---- blocks
 
-whole_runs : (q : List Part) (qs : List (List Part)) (rest : List Part) → IsTight q → AllByRecursion IsTight qs → with_runs ((q ++ behind_lines qs) ++ rest) ≡ (q ++ behind_breaks qs) ++ with_runs rest
+whole_runs : (q : List Part) (qs : List (List Part)) (rest : List Part) → IsTight q → AllByRecursion IsTight qs
+    → with_runs ((q ++ behind_lines qs) ++ rest) ≡ (q ++ behind_breaks qs) ++ with_runs rest
 whole_runs q qs rest h k = paragraph_runs q qs rest h (lines_runs qs rest k)
 
 -- what is left without the white behind
-left : (q : List Part) (qs : List (List Part)) (rest : List Part) → IsTight q → AllByRecursion IsTight qs → to_last rest ≡ [] → document_of (paragraphs (to_last ((q ++ behind_breaks qs) ++ rest))) ≡ document_of (q ∷ qs)
-left q qs rest h k e = ap (λ z. document_of (paragraphs z)) (paragraph_last q qs rest h (breaks_last qs rest k e)) ∙ ap document_of (all_paragraphs q qs h k)
+left : (q : List Part) (qs : List (List Part)) (rest : List Part) → IsTight q → AllByRecursion IsTight qs
+    → to_last rest ≡ [] → document_of (paragraphs (to_last ((q ++ behind_breaks qs) ++ rest))) ≡ document_of (q ∷ qs)
+left q qs rest h k e = ap (λ z. document_of (paragraphs z)) (paragraph_last q qs rest h (breaks_last qs rest k e))
+    ∙ ap document_of (all_paragraphs q qs h k)
 
 -- white behind the paragraphs
-pub block_behind : (q : List Part) (qs : List (List Part)) (rest : List Part) → IsTight q → AllByRecursion IsTight qs → to_last (with_runs rest) ≡ []
+pub block_behind : (q : List Part) (qs : List (List Part)) (rest : List Part) → IsTight q → AllByRecursion IsTight qs
+    → to_last (with_runs rest) ≡ []
     → block ((q ++ behind_lines qs) ++ rest) ≡ document_of (q ∷ qs)
 unfolding block
 block_behind q qs rest h k e =
-    ap (λ z. document_of (paragraphs (to_last (from_first z)))) (whole_runs q qs rest h k ∙ append_assoc q (behind_breaks qs) (with_runs rest))
-    ∙ ap (λ z. document_of (paragraphs (to_last z))) (first_stays q (behind_breaks qs ++ with_runs rest) h ∙ sym (append_assoc q (behind_breaks qs) (with_runs rest)))
+    ap (λ z. document_of (paragraphs (to_last (from_first z))))
+    (whole_runs q qs rest h k ∙ append_assoc q (behind_breaks qs) (with_runs rest))
+    ∙ ap (λ z. document_of (paragraphs (to_last z))) (first_stays q (behind_breaks qs ++ with_runs rest) h
+    ∙ sym (append_assoc q (behind_breaks qs) (with_runs rest)))
     ∙ left q qs (with_runs rest) h k e
 
 -- and a run before them
-pub block_between : (w : White) (q : List Part) (qs : List (List Part)) (rest : List Part) → IsTight q → AllByRecursion IsTight qs → to_last (with_runs rest) ≡ []
+pub block_between : (w : White) (q : List Part) (qs : List (List Part)) (rest : List Part) → IsTight q
+    → AllByRecursion IsTight qs → to_last (with_runs rest) ≡ []
     → block (gap w ∷ ((q ++ behind_lines qs) ++ rest)) ≡ document_of (q ∷ qs)
 unfolding block
 block_between w q qs rest h k e =
-    ap (λ z. document_of (paragraphs (to_last (from_first (run_before (gap w) z))))) (whole_runs q qs rest h k ∙ append_assoc q (behind_breaks qs) (with_runs rest))
+    ap (λ z. document_of (paragraphs (to_last (from_first (run_before (gap w) z)))))
+    (whole_runs q qs rest h k ∙ append_assoc q (behind_breaks qs) (with_runs rest))
     ∙ ap (λ z. document_of (paragraphs (to_last (from_first z)))) (run_stays w q (behind_breaks qs ++ with_runs rest) h)
     ∙ ap (λ z. document_of (paragraphs (to_last z))) (sym (append_assoc q (behind_breaks qs) (with_runs rest)))
     ∙ left q qs (with_runs rest) h k e
 
 -- paragraphs of which the first is no collection tag
-pub ordinary_document : (q : List Part) (qs : List (List Part)) → is_ordinary q ≡ true → document_of (q ∷ qs) ≡ node document_label (forest (map content (q ∷ qs)))
+pub ordinary_document : (q : List Part) (qs : List (List Part)) → is_ordinary q ≡ true
+    → document_of (q ∷ qs) ≡ node document_label (forest (map content (q ∷ qs)))
 ordinary_document [] [] h = refl
 ordinary_document [] (r ∷ qs) h = refl
 ordinary_document (gap w ∷ q) [] h = refl

@@ -29,12 +29,14 @@ pub no_word : AreWords [] []
 no_word = record { each = tt; all = refl }
 
 pub both_words : (x y : List ℕ) (ts us : List Token) → AreWords x ts → AreWords y us → AreWords (x ++ y) (ts ++ us)
-both_words x y ts us h k = record { each = all_both ts us h.each k.each; all = rw (h.all, k.all) (sym (flat_map-append written ts us)) }
+both_words x y ts us h k =
+    record { each = all_both ts us h.each k.each; all = rw (h.all, k.all) (sym (flat_map-append written ts us)) }
 
 pub one_word : (t : Token) → IsWord t → AreWords (written t) (t ∷ [])
 one_word t h = record { each = (h, tt); all = sym (append-nil (written t)) }
 
-pub word_before : (t : Token) (x : List ℕ) (ts : List Token) → IsWord t → AreWords x ts → AreWords (written t ++ x) (t ∷ ts)
+pub word_before : (t : Token) (x : List ℕ) (ts : List Token) → IsWord t → AreWords x ts
+    → AreWords (written t ++ x) (t ∷ ts)
 word_before t x ts h k = record { each = (h, k.each); all = ap (λ z. written t ++ z) k.all }
 
 is_token : (t : Token) → IsWord t → IsToken t
@@ -73,7 +75,8 @@ joined (piece p ps) qs = piece p (joined ps qs)
 
 tokens_joined : (ps qs : Pieces) → tokens_of ps ++ tokens_of qs ≡ tokens_of (joined ps qs)
 tokens_joined nothing qs = refl
-tokens_joined (piece p ps) qs = append_assoc (tokens_of_piece p) (tokens_of ps) (tokens_of qs) ∙ ap (λ z. tokens_of_piece p ++ z) (tokens_joined ps qs)
+tokens_joined (piece p ps) qs = append_assoc (tokens_of_piece p) (tokens_of ps) (tokens_of qs)
+    ∙ ap (λ z. tokens_of_piece p ++ z) (tokens_joined ps qs)
 
 parts_joined : (ps qs : Pieces) → parts_of (joined ps qs) ≡ parts_of ps ++ parts_of qs
 parts_joined nothing qs = refl
@@ -92,12 +95,18 @@ pub both_stand : (x y : List ℕ) (ps qs : List Part) → Stands x ps → Stands
 both_stand x y ps qs h k =
     record {
       pieces = joined h.pieces k.pieces;
-      words = subst (AreWords (x ++ y)) (tokens_joined h.pieces k.pieces) (both_words x y (tokens_of h.pieces) (tokens_of k.pieces) h.words k.words);
+      words = subst (AreWords (x ++ y)) (tokens_joined h.pieces k.pieces)
+          (both_words x y (tokens_of h.pieces) (tokens_of k.pieces) h.words k.words);
       parts = parts_joined h.pieces k.pieces ∙ ap (λ z. z ++ parts_of k.pieces) h.parts ∙ ap (λ z. ps ++ z) k.parts;
     }
 
 pub one_stands : (p : Piece) (bytes : List ℕ) → AreWords bytes (tokens_of_piece p) → Stands bytes (part_of p ∷ [])
-one_stands p bytes h = record { pieces = piece p nothing; words = subst (AreWords bytes) (sym (append-nil (tokens_of_piece p))) h; parts = refl }
+one_stands p bytes h =
+    record {
+      pieces = piece p nothing;
+      words = subst (AreWords bytes) (sym (append-nil (tokens_of_piece p))) h;
+      parts = refl;
+    }
 
 -- bytes whose parts are those of a block spell it
 pub spells_from : (bytes : List ℕ) (ps : List Part) (t : WideTree) → Stands bytes ps → block ps ≡ t → Spells bytes t

@@ -37,45 +37,54 @@ digit_plain b h = other_plain b (digit_item b h) (digit_no_space b h) (digit_unm
 
 digit_words : (digits : List ℕ) → AreDigits digits → AreWords digits (map plain digits)
 digit_words [] h = no_word
-digit_words (b ∷ digits) h = word_before (plain b) digits (map plain digits) (digit_plain b h.0) (digit_words digits h.1)
+digit_words (b ∷ digits) h =
+    word_before (plain b) digits (map plain digits) (digit_plain b h.0) (digit_words digits h.1)
 
-raw_stands : (digits : List ℕ) → AreDigits digits → Stands (60 ∷ 35 ∷ (digits ++ 62 ∷ [])) (tag false (node raw_data_label (cons (leaf digits) nil)) ∷ [])
+raw_stands : (digits : List ℕ) → AreDigits digits
+    → Stands (60 ∷ 35 ∷ (digits ++ 62 ∷ [])) (tag false (node raw_data_label (cons (leaf digits) nil)) ∷ [])
 raw_stands digits h =
     one_stands (raw_data digits h) (60 ∷ 35 ∷ (digits ++ 62 ∷ []))
-    (word_before raw (digits ++ 62 ∷ []) (map plain digits ++ close ∷ []) tt (both_words digits (62 ∷ []) (map plain digits) (close ∷ []) (digit_words digits h) (one_word close tt)))
+    (word_before raw (digits ++ 62 ∷ []) (map plain digits ++ close ∷ []) tt
+    (both_words digits (62 ∷ []) (map plain digits) (close ∷ []) (digit_words digits h) (one_word close tt)))
 
 are_digits : (digits : List ℕ) → all_digits digits ≡ true → AreDigits digits
 are_digits [] h = tt
 are_digits (b ∷ digits) h = let p = and_parts (is_digit b) (all_digits digits) h in (p.0, are_digits digits p.1)
 
-raw_node : (label : List ℕ) (ts : Forest) → same label raw_data_label ≡ true → is_one_of_digits ts ≡ true → Stands (60 ∷ 35 ∷ (digits_of ts ++ 62 ∷ [])) (tag false (node label ts) ∷ [])
+raw_node : (label : List ℕ) (ts : Forest) → same label raw_data_label ≡ true → is_one_of_digits ts ≡ true
+    → Stands (60 ∷ 35 ∷ (digits_of ts ++ 62 ∷ [])) (tag false (node label ts) ∷ [])
 raw_node label nil e k = absurd cc
 raw_node label (cons (leaf digits) nil) e k =
-    subst (λ l. Stands (60 ∷ 35 ∷ (digits ++ 62 ∷ [])) (tag false (node l (cons (leaf digits) nil)) ∷ [])) (sym (same_is label raw_data_label e))
+    subst (λ l. Stands (60 ∷ 35 ∷ (digits ++ 62 ∷ [])) (tag false (node l (cons (leaf digits) nil)) ∷ []))
+    (sym (same_is label raw_data_label e))
     (raw_stands digits (are_digits digits (and_parts (all_digits digits) true k).0))
 raw_node label (cons (leaf digits) (cons t ts)) e k = let p = and_parts (all_digits digits) false k in absurd cc
 raw_node label (cons (node l us) ts) e k = absurd cc
 
 -- a node that is written by its digits
-pub raw_tag : (label : List ℕ) (ts : Forest) → is_raw label ts ≡ true → Stands (60 ∷ 35 ∷ (digits_of ts ++ 62 ∷ [])) (tag false (node label ts) ∷ [])
+pub raw_tag : (label : List ℕ) (ts : Forest) → is_raw label ts ≡ true
+    → Stands (60 ∷ 35 ∷ (digits_of ts ++ 62 ∷ [])) (tag false (node label ts) ∷ [])
 raw_tag label ts e = let p = and_parts (same label raw_data_label) (is_one_of_digits ts) e in raw_node label ts p.0 p.1
 
 -- ---- beginnings of tags
 
 -- behind a label: arguments, the end of the tag, and more
-begin : (form : TagForm) (label : List ℕ) (xs : Arguments) (y : List ℕ) (more : List Token) → IsLabel label → AreWords y (more_arguments xs ++ more)
+begin : (form : TagForm) (label : List ℕ) (xs : Arguments) (y : List ℕ) (more : List Token) → IsLabel label
+    → AreWords y (more_arguments xs ++ more)
     → AreWords (60 ∷ (mark_of form ++ (label ++ y))) (beginning form label xs ++ more)
 begin form label no_argument y more l h =
     record {
       each = (l, h.each.1);
-      all = ap (λ z. 60 ∷ (mark_of form ++ (label ++ z))) h.all ∙ ap (λ z. 60 ∷ (mark_of form ++ z)) (sym (append_assoc label (62 ∷ []) (flat_map written more)))
+      all = ap (λ z. 60 ∷ (mark_of form ++ (label ++ z))) h.all
+          ∙ ap (λ z. 60 ∷ (mark_of form ++ z)) (sym (append_assoc label (62 ∷ []) (flat_map written more)))
           ∙ ap (λ z. 60 ∷ z) (sym (append_assoc (mark_of form) (label ++ 62 ∷ []) (flat_map written more)));
     }
 begin form label (argument x xs) y more l h =
     let others = (tokens_of x ++ more_arguments xs) ++ more in
     record {
       each = (l, h.each.1);
-      all = ap (λ z. 60 ∷ (mark_of form ++ (label ++ z))) h.all ∙ ap (λ z. 60 ∷ (mark_of form ++ z)) (sym (append_assoc label (124 ∷ []) (flat_map written others)))
+      all = ap (λ z. 60 ∷ (mark_of form ++ (label ++ z))) h.all
+          ∙ ap (λ z. 60 ∷ (mark_of form ++ z)) (sym (append_assoc label (124 ∷ []) (flat_map written others)))
           ∙ ap (λ z. 60 ∷ z) (sym (append_assoc (mark_of form) (label ++ 124 ∷ []) (flat_map written others)));
     }
 
@@ -88,19 +97,24 @@ pub record Follows (bytes : List ℕ) (ts : List WideTree) : Type 0 where
 pub no_more : Follows (62 ∷ []) []
 no_more = record { arguments = no_argument; words = one_word close tt; trees = refl }
 
-pub one_more : (x y : List ℕ) (ps : List Part) (t : WideTree) (ts : List WideTree) → Stands x ps → content ps ≡ t → Follows y ts → Follows (124 ∷ (x ++ y)) (t ∷ ts)
+pub one_more : (x y : List ℕ) (ps : List Part) (t : WideTree) (ts : List WideTree) → Stands x ps → content ps ≡ t
+    → Follows y ts → Follows (124 ∷ (x ++ y)) (t ∷ ts)
 one_more x y ps t ts h e k =
     record {
       arguments = argument h.pieces k.arguments;
-      words = word_before bar (x ++ y) (tokens_of h.pieces ++ more_arguments k.arguments) tt (both_words x y (tokens_of h.pieces) (more_arguments k.arguments) h.words k.words);
+      words = word_before bar (x ++ y) (tokens_of h.pieces ++ more_arguments k.arguments) tt
+          (both_words x y (tokens_of h.pieces) (more_arguments k.arguments) h.words k.words);
       trees = ap (λ z. z ∷ children_of k.arguments) (ap content h.parts ∙ e) ∙ ap (λ z. t ∷ z) k.trees;
     }
 
-begun : (form : TagForm) (label : List ℕ) (xs : Arguments) (y : List ℕ) → IsLabel label → AreWords y (more_arguments xs) → AreWords (60 ∷ (mark_of form ++ (label ++ y))) (beginning form label xs)
+begun : (form : TagForm) (label : List ℕ) (xs : Arguments) (y : List ℕ) → IsLabel label → AreWords y (more_arguments xs)
+    → AreWords (60 ∷ (mark_of form ++ (label ++ y))) (beginning form label xs)
 begun form label xs y l h =
-    subst (AreWords (60 ∷ (mark_of form ++ (label ++ y)))) (append-nil (beginning form label xs)) (begin form label xs y [] l (subst (AreWords y) (sym (append-nil (more_arguments xs))) h))
+    subst (AreWords (60 ∷ (mark_of form ++ (label ++ y)))) (append-nil (beginning form label xs))
+    (begin form label xs y [] l (subst (AreWords y) (sym (append-nil (more_arguments xs))) h))
 
-pub short_stands : (label : List ℕ) (bytes : List ℕ) (ts : Forest) → IsLabel label → Follows bytes (trees ts) → Stands (60 ∷ (label ++ bytes)) (tag false (node label ts) ∷ [])
+pub short_stands : (label : List ℕ) (bytes : List ℕ) (ts : Forest) → IsLabel label → Follows bytes (trees ts)
+    → Stands (60 ∷ (label ++ bytes)) (tag false (node label ts) ∷ [])
 short_stands label bytes ts l h =
     subst (λ z. Stands (60 ∷ (label ++ bytes)) (tag false (node label z) ∷ [])) (ap forest h.trees ∙ forest_trees ts)
     (one_stands (short_tag label l h.arguments) (60 ∷ (label ++ bytes)) (begun Short label h.arguments bytes l h.words))
@@ -113,10 +127,12 @@ pub record Continues (label bytes : List ℕ) (ts : List WideTree) : Type 0 wher
   pub first : Pieces
   pub others : Blocks
   pub last : Arguments
-  pub words : AreWords bytes (more_arguments arguments ++ (tokens_of first ++ (tokens_of_blocks label others ++ beginning Closing label last)))
+  pub words : AreWords bytes
+      (more_arguments arguments ++ (tokens_of first ++ (tokens_of_blocks label others ++ beginning Closing label last)))
   pub trees : children_of arguments ++ block (parts_of first) ∷ children_of_blocks others (children_of last) ≡ ts
 
-pub argument_before : (label x y : List ℕ) (ps : List Part) (t : WideTree) (ts : List WideTree) → Stands x ps → content ps ≡ t → Continues label y ts → Continues label (124 ∷ (x ++ y)) (t ∷ ts)
+pub argument_before : (label x y : List ℕ) (ps : List Part) (t : WideTree) (ts : List WideTree) → Stands x ps
+    → content ps ≡ t → Continues label y ts → Continues label (124 ∷ (x ++ y)) (t ∷ ts)
 argument_before label x y ps t ts h e k =
     let behind = tokens_of k.first ++ (tokens_of_blocks label k.others ++ beginning Closing label k.last) in
     record {
@@ -127,11 +143,14 @@ argument_before label x y ps t ts h e k =
       words = word_before bar (x ++ y) ((tokens_of h.pieces ++ more_arguments k.arguments) ++ behind) tt
           (subst (AreWords (x ++ y)) (sym (append_assoc (tokens_of h.pieces) (more_arguments k.arguments) behind))
           (both_words x y (tokens_of h.pieces) (more_arguments k.arguments ++ behind) h.words k.words));
-      trees = ap (λ z. z ∷ (children_of k.arguments ++ block (parts_of k.first) ∷ children_of_blocks k.others (children_of k.last))) (ap content h.parts ∙ e) ∙ ap (λ z. t ∷ z) k.trees;
+      trees = ap (λ z.
+          z ∷ (children_of k.arguments ++ block (parts_of k.first) ∷ children_of_blocks k.others (children_of k.last)))
+          (ap content h.parts ∙ e) ∙ ap (λ z. t ∷ z) k.trees;
     }
 
 -- the last block
-pub block_last : (label x y : List ℕ) (ps : List Part) (t : WideTree) (ts : List WideTree) → IsLabel label → Stands x ps → block ps ≡ t → Follows y ts
+pub block_last : (label x y : List ℕ) (ps : List Part) (t : WideTree) (ts : List WideTree) → IsLabel label → Stands x ps
+    → block ps ≡ t → Follows y ts
     → Continues label (62 ∷ (x ++ 60 ∷ 47 ∷ (label ++ y))) (t ∷ ts)
 block_last label x y ps t ts l h e k =
     record {
@@ -139,13 +158,16 @@ block_last label x y ps t ts l h e k =
       first = h.pieces;
       others = no_block;
       last = k.arguments;
-      words = word_before close (x ++ 60 ∷ 47 ∷ (label ++ y)) (tokens_of h.pieces ++ beginning Closing label k.arguments) tt
-          (both_words x (60 ∷ 47 ∷ (label ++ y)) (tokens_of h.pieces) (beginning Closing label k.arguments) h.words (begun Closing label k.arguments y l k.words));
+      words = word_before close (x ++ 60 ∷ 47 ∷ (label ++ y))
+          (tokens_of h.pieces ++ beginning Closing label k.arguments) tt
+          (both_words x (60 ∷ 47 ∷ (label ++ y)) (tokens_of h.pieces) (beginning Closing label k.arguments) h.words
+          (begun Closing label k.arguments y l k.words));
       trees = ap (λ z. z ∷ children_of k.arguments) (ap block h.parts ∙ e) ∙ ap (λ z. t ∷ z) k.trees;
     }
 
 -- a block before another
-pub block_before : (label x y : List ℕ) (ps : List Part) (t : WideTree) (ts : List WideTree) → IsLabel label → Stands x ps → block ps ≡ t → Continues label y ts
+pub block_before : (label x y : List ℕ) (ps : List Part) (t : WideTree) (ts : List WideTree) → IsLabel label
+    → Stands x ps → block ps ≡ t → Continues label y ts
     → Continues label (62 ∷ (x ++ 60 ∷ 124 ∷ (label ++ y))) (t ∷ ts)
 block_before label x y ps t ts l h e k =
     let behind = tokens_of_blocks label k.others ++ beginning Closing label k.last in
@@ -154,27 +176,42 @@ block_before label x y ps t ts l h e k =
       first = h.pieces;
       others = middle_tag k.arguments k.first k.others;
       last = k.last;
-      words = word_before close (x ++ 60 ∷ 124 ∷ (label ++ y)) (tokens_of h.pieces ++ ((beginning Middle label k.arguments ++ (tokens_of k.first ++ tokens_of_blocks label k.others)) ++ beginning Closing label k.last)) tt
-          (both_words x (60 ∷ 124 ∷ (label ++ y)) (tokens_of h.pieces) ((beginning Middle label k.arguments ++ (tokens_of k.first ++ tokens_of_blocks label k.others)) ++ beginning Closing label k.last) h.words
-          (subst (AreWords (60 ∷ 124 ∷ (label ++ y))) (regrouped (beginning Middle label k.arguments) (tokens_of k.first) (tokens_of_blocks label k.others) (beginning Closing label k.last))
+      words = word_before close (x ++ 60 ∷ 124 ∷ (label ++ y))
+          (tokens_of h.pieces
+          ++ ((beginning Middle label k.arguments ++ (tokens_of k.first ++ tokens_of_blocks label k.others))
+          ++ beginning Closing label k.last)) tt
+          (both_words x (60 ∷ 124 ∷ (label ++ y)) (tokens_of h.pieces)
+          ((beginning Middle label k.arguments ++ (tokens_of k.first ++ tokens_of_blocks label k.others))
+          ++ beginning Closing label k.last) h.words
+          (subst (AreWords (60 ∷ 124 ∷ (label ++ y)))
+          (regrouped (beginning Middle label k.arguments) (tokens_of k.first) (tokens_of_blocks label k.others)
+          (beginning Closing label k.last))
           (begin Middle label k.arguments y (tokens_of k.first ++ behind) l k.words)));
-      trees = ap (λ z. z ∷ (children_of k.arguments ++ block (parts_of k.first) ∷ children_of_blocks k.others (children_of k.last))) (ap block h.parts ∙ e) ∙ ap (λ z. t ∷ z) k.trees;
+      trees = ap (λ z.
+          z ∷ (children_of k.arguments ++ block (parts_of k.first) ∷ children_of_blocks k.others (children_of k.last)))
+          (ap block h.parts ∙ e) ∙ ap (λ z. t ∷ z) k.trees;
     }
   where
     regrouped : (a b c d : List Token) → a ++ (b ++ (c ++ d)) ≡ (a ++ (b ++ c)) ++ d
     regrouped a b c d = simp append_assoc refl
 
-ordinary_tag : (label : List ℕ) (us : List WideTree) (ps : List Part) (vs : List WideTree) → same label collection_label ≡ false → long_tag label us ps vs ≡ tag false (node label (forest (us ++ block ps ∷ vs)))
+ordinary_tag : (label : List ℕ) (us : List WideTree) (ps : List Part) (vs : List WideTree)
+    → same label collection_label ≡ false
+    → long_tag label us ps vs ≡ tag false (node label (forest (us ++ block ps ∷ vs)))
 unfolding long_tag
 ordinary_tag label us ps vs e = rw e refl
 
-pub long_stands : (label : List ℕ) (bytes : List ℕ) (ts : Forest) → IsLabel label → same label collection_label ≡ false → Continues label bytes (trees ts)
+pub long_stands : (label : List ℕ) (bytes : List ℕ) (ts : Forest) → IsLabel label → same label collection_label ≡ false
+    → Continues label bytes (trees ts)
     → Stands (60 ∷ 92 ∷ (label ++ bytes)) (tag false (node label ts) ∷ [])
 long_stands label bytes ts l e h =
     subst (λ z. Stands (60 ∷ 92 ∷ (label ++ bytes)) (z ∷ []))
-    (ordinary_tag label (children_of h.arguments) (parts_of h.first) (children_of_blocks h.others (children_of h.last)) e ∙ ap (λ us. tag false (node label (forest us))) h.trees ∙ ap (λ us. tag false (node label us)) (forest_trees ts))
+    (ordinary_tag label (children_of h.arguments) (parts_of h.first) (children_of_blocks h.others (children_of h.last))
+    e ∙ ap (λ us. tag false (node label (forest us))) h.trees
+    ∙ ap (λ us. tag false (node label us)) (forest_trees ts))
     (one_stands (long_tag_of label l h.arguments h.first h.others h.last) (60 ∷ 92 ∷ (label ++ bytes))
-    (begin Long label h.arguments bytes (tokens_of h.first ++ (tokens_of_blocks label h.others ++ beginning Closing label h.last)) l h.words))
+    (begin Long label h.arguments bytes
+    (tokens_of h.first ++ (tokens_of_blocks label h.others ++ beginning Closing label h.last)) l h.words))
 
 -- ---- collections
 
@@ -198,21 +235,27 @@ all_tags : (ts : Forest) → tags_of (tag_lines ts) ≡ trees ts
 all_tags nil = refl
 all_tags (cons t ts) = ap (λ z. t ∷ z) (all_tags ts)
 
-collection_tag : (ps : List Part) → has_no_items ps ≡ true → long_tag collection_label [] ps [] ≡ tag true (node collection_label (forest (tags_of ps)))
+collection_tag : (ps : List Part) → has_no_items ps ≡ true
+    → long_tag collection_label [] ps [] ≡ tag true (node collection_label (forest (tags_of ps)))
 unfolding long_tag
 collection_tag ps h = rw h refl
 
-pub collection_stands : (bytes : List ℕ) (ts : Forest) → IsLabel collection_label → Stands bytes (gap Line ∷ tag_lines ts)
-    → Stands (60 ∷ 92 ∷ (collection_label ++ 62 ∷ (bytes ++ 60 ∷ 47 ∷ (collection_label ++ 62 ∷ [])))) (tag true (node collection_label ts) ∷ [])
+pub collection_stands : (bytes : List ℕ) (ts : Forest) → IsLabel collection_label
+    → Stands bytes (gap Line ∷ tag_lines ts)
+    → Stands (60 ∷ 92 ∷ (collection_label ++ 62 ∷ (bytes ++ 60 ∷ 47 ∷ (collection_label ++ 62 ∷ []))))
+    (tag true (node collection_label ts) ∷ [])
 collection_stands bytes ts l h =
     let part : long_tag collection_label [] (parts_of h.pieces) [] ≡ tag true (node collection_label ts)
     = ap (λ ps. long_tag collection_label [] ps []) h.parts ∙ collection_tag (gap Line ∷ tag_lines ts) (no_items ts)
-    ∙ ap (λ us. tag true (node collection_label (forest us))) (all_tags ts) ∙ ap (λ us. tag true (node collection_label us)) (forest_trees ts) in
+    ∙ ap (λ us. tag true (node collection_label (forest us))) (all_tags ts)
+    ∙ ap (λ us. tag true (node collection_label us)) (forest_trees ts) in
     let behind = tokens_of h.pieces ++ beginning Closing collection_label no_argument in
     let end = bytes ++ 60 ∷ 47 ∷ (collection_label ++ 62 ∷ []) in
     subst (λ z. Stands (60 ∷ 92 ∷ (collection_label ++ 62 ∷ end)) (z ∷ [])) part
-    (one_stands (long_tag_of collection_label l no_argument h.pieces no_block no_argument) (60 ∷ 92 ∷ (collection_label ++ 62 ∷ end))
+    (one_stands (long_tag_of collection_label l no_argument h.pieces no_block no_argument)
+    (60 ∷ 92 ∷ (collection_label ++ 62 ∷ end))
     (begin Long collection_label no_argument (62 ∷ end) behind l
     (word_before close end behind tt
-    (both_words bytes (60 ∷ 47 ∷ (collection_label ++ 62 ∷ [])) (tokens_of h.pieces) (beginning Closing collection_label no_argument) h.words
+    (both_words bytes (60 ∷ 47 ∷ (collection_label ++ 62 ∷ [])) (tokens_of h.pieces)
+    (beginning Closing collection_label no_argument) h.words
     (begun Closing collection_label no_argument (62 ∷ []) l (one_word close tt))))))

@@ -30,7 +30,8 @@ raw_space : Stands (32 ∷ []) (gap Spaces ∷ [])
 raw_space = one_stands (blank 32) (32 ∷ []) (one_word (white 32) white_space)
 
 escape_stands : (b v : ℕ) → escape_of b ≡ Some (Byte v) → Stands (92 ∷ b ∷ []) (text (v ∷ []) ∷ [])
-escape_stands b v e = one_stands (escaped b (Byte v) e) (92 ∷ b ∷ []) (one_word (escape b) (ap (λ o. is_some o || is_angle b) e))
+escape_stands b v e =
+    one_stands (escaped b (Byte v) e) (92 ∷ b ∷ []) (one_word (escape b) (ap (λ o. is_some o || is_angle b) e))
 
 letter_stands : (b : ℕ) → is_plain (kind_of b) ≡ true → Stands (b ∷ []) (text (b ∷ []) ∷ [])
 letter_stands b h = one_stands (letter b h) (b ∷ []) (one_word (plain b) h)
@@ -69,14 +70,17 @@ control_escape b h c =
     let back : b + 64 - 64 ≡ b = omega arith in
     rw (no_mark b, not_itself b c, no_zero b, not_refused b h, in_range b low) (ap (λ v. Some (Byte v)) back)
 
-pub other_plain : (b : ℕ) → is_item_byte b ≡ true → (b == 32) ≡ false → is_marked b ≡ false → is_plain (kind_of b) ≡ true
+pub other_plain : (b : ℕ) → is_item_byte b ≡ true → (b == 32) ≡ false → is_marked b ≡ false
+    → is_plain (kind_of b) ≡ true
 unfolding kind_of
 other_plain b h s m = grind arith
 
 by_tests : (raw s m c : Bool) (b : ℕ) → is_item_byte b ≡ true → (b == 32) ≡ s → is_marked b ≡ m → is_control b ≡ c
-    → Stands (if s then (if raw then 32 ∷ [] else 92 ∷ 32 ∷ []) else if m then 92 ∷ b ∷ [] else if c then 92 ∷ (b + 64) ∷ [] else b ∷ []) ((if s && raw then gap Spaces else text (b ∷ [])) ∷ [])
+    → Stands (if s then (if raw then 32 ∷ [] else 92 ∷ 32 ∷ []) else if m then 92 ∷ b ∷ [] else if c then 92 ∷ (b + 64)
+    ∷ [] else b ∷ []) ((if s && raw then gap Spaces else text (b ∷ [])) ∷ [])
 by_tests true true m c b h e k l = raw_space
-by_tests false true m c b h e k l = subst (λ z. Stands (92 ∷ 32 ∷ []) (text (z ∷ []) ∷ [])) (sym (eqb-true b 32 e)) (escape_stands 32 32 space_escape)
+by_tests false true m c b h e k l =
+    subst (λ z. Stands (92 ∷ 32 ∷ []) (text (z ∷ []) ∷ [])) (sym (eqb-true b 32 e)) (escape_stands 32 32 space_escape)
 by_tests raw false true c b h e k l = escape_stands b b (marked_escape b h k)
 by_tests raw false false true b h e k l = escape_stands (b + 64) b (control_escape b h l)
 by_tests raw false false false b h e k l = letter_stands b (other_plain b h e k)
@@ -106,7 +110,9 @@ angles_escape : (can_escape 60 ≡ true) × (can_escape 62 ≡ true)
 unfolding escape_of
 angles_escape = (refl, refl)
 
-name_text : (raw m : Bool) (b : ℕ) → (if false then (if raw then 32 ∷ [] else 92 ∷ 32 ∷ []) else if m then 92 ∷ b ∷ [] else if false then 92 ∷ (b + 64) ∷ [] else b ∷ []) ≡ written (if m then escape b else plain b)
+name_text : (raw m : Bool) (b : ℕ)
+    → (if false then (if raw then 32 ∷ [] else 92 ∷ 32 ∷ []) else if m then 92 ∷ b ∷ [] else if false then 92 ∷ (b + 64)
+    ∷ [] else b ∷ []) ≡ written (if m then escape b else plain b)
 name_text raw true b = refl
 name_text raw false b = refl
 
@@ -120,7 +126,8 @@ name_word b h =
       | false ↦ λ e. other_plain b (name_item b h) (no_space b h) (name_marked b h ∙ e)
     ] refl
 
-name_words : (name : List ℕ) → AllByRecursion (λ b. is_name_byte b ≡ true) name → AllByRecursion IsWord (map name_token name)
+name_words : (name : List ℕ) → AllByRecursion (λ b. is_name_byte b ≡ true) name
+    → AllByRecursion IsWord (map name_token name)
 name_words [] h = tt
 name_words (b ∷ name) h = (name_word b h.0, name_words name h.1)
 
@@ -128,19 +135,24 @@ name_words (b ∷ name) h = (name_word b h.0, name_words name h.1)
 abbrev name_bytes : List ℕ → List ℕ
 name_bytes name = flat_map written (map name_token name)
 
-symbol_words : (name : List ℕ) → IsName name → AreWords (92 ∷ 60 ∷ (name_bytes name ++ 92 ∷ 62 ∷ [])) (escape 60 ∷ (map name_token name ++ escape 62 ∷ []))
+symbol_words : (name : List ℕ) → IsName name
+    → AreWords (92 ∷ 60 ∷ (name_bytes name ++ 92 ∷ 62 ∷ [])) (escape 60 ∷ (map name_token name ++ escape 62 ∷ []))
 symbol_words name h =
     word_before (escape 60) (name_bytes name ++ 92 ∷ 62 ∷ []) (map name_token name ++ escape 62 ∷ []) angles_escape.0
-    (both_words (name_bytes name) (92 ∷ 62 ∷ []) (map name_token name) (escape 62 ∷ []) (record { each = name_words name h.each; all = refl }) (one_word (escape 62) angles_escape.1))
+    (both_words (name_bytes name) (92 ∷ 62 ∷ []) (map name_token name) (escape 62 ∷ [])
+    (record { each = name_words name h.each; all = refl }) (one_word (escape 62) angles_escape.1))
 
-symbol_stands : (name : List ℕ) → IsName name → Stands (92 ∷ 60 ∷ (name_bytes name ++ 92 ∷ 62 ∷ [])) (text (symbol_bytes name) ∷ [])
-symbol_stands name h = one_stands (symbol_piece name h) (92 ∷ 60 ∷ (name_bytes name ++ 92 ∷ 62 ∷ [])) (symbol_words name h)
+symbol_stands : (name : List ℕ) → IsName name
+    → Stands (92 ∷ 60 ∷ (name_bytes name ++ 92 ∷ 62 ∷ [])) (text (symbol_bytes name) ∷ [])
+symbol_stands name h =
+    one_stands (symbol_piece name h) (92 ∷ 60 ∷ (name_bytes name ++ 92 ∷ 62 ∷ [])) (symbol_words name h)
 
 name_items : (name : List ℕ) (behind : Bool) (rest : List ℕ) → AllByRecursion (λ b. is_name_byte b ≡ true) name
     → items_text true behind (name ++ 62 ∷ rest) ≡ (name_bytes name ++ 92 ∷ 62 ∷ []) ++ items_text true behind rest
 name_items [] behind rest h = refl
 name_items (b ∷ name) behind rest h =
-    ap (λ z. z ++ items_text (not (b == 32)) behind (name ++ 62 ∷ rest)) (name_byte_text (true && is_held behind (name ++ 62 ∷ rest)) b h.0)
+    ap (λ z. z ++ items_text (not (b == 32)) behind (name ++ 62 ∷ rest))
+    (name_byte_text (true && is_held behind (name ++ 62 ∷ rest)) b h.0)
     ∙ ap (λ s. written (name_token b) ++ items_text (not s) behind (name ++ 62 ∷ rest)) (no_space b h.0)
     ∙ ap (λ z. written (name_token b) ++ z) (name_items name behind rest h.1)
     ∙ simp append_assoc refl
@@ -150,18 +162,26 @@ name_items (b ∷ name) behind rest h =
 -- the parts of items
 abbrev pub item_parts : Bool → Bool → List Item → List Part
 item_parts before behind [] = []
-item_parts before behind (byte b ∷ items) = byte_part (before && is_held behind (flat_map item_bytes items)) b ∷ item_parts (not (b == 32)) behind items
+item_parts before behind (byte b ∷ items) =
+    byte_part (before && is_held behind (flat_map item_bytes items)) b ∷ item_parts (not (b == 32)) behind items
 item_parts before behind (symbol name ∷ items) = text (symbol_bytes name) ∷ item_parts true behind items
 
-pub items_stand : (before behind : Bool) (items : List Item) → AllByRecursion IsItem items → Stands (items_text before behind (flat_map item_bytes items)) (item_parts before behind items)
+pub items_stand : (before behind : Bool) (items : List Item) → AllByRecursion IsItem items
+    → Stands (items_text before behind (flat_map item_bytes items)) (item_parts before behind items)
 items_stand before behind [] h = nothing_stands
 items_stand before behind (byte b ∷ items) h =
-    both_stand (byte_text (before && is_held behind (flat_map item_bytes items)) b) (items_text (not (b == 32)) behind (flat_map item_bytes items))
+    both_stand (byte_text (before && is_held behind (flat_map item_bytes items)) b)
+    (items_text (not (b == 32)) behind (flat_map item_bytes items))
     (byte_part (before && is_held behind (flat_map item_bytes items)) b ∷ []) (item_parts (not (b == 32)) behind items)
-    (byte_stands (before && is_held behind (flat_map item_bytes items)) b h.0) (items_stand (not (b == 32)) behind items h.1)
+    (byte_stands (before && is_held behind (flat_map item_bytes items)) b h.0)
+    (items_stand (not (b == 32)) behind items h.1)
 items_stand before behind (symbol name ∷ items) h =
     let rest = flat_map item_bytes items in
-    let same : (92 ∷ 60 ∷ (name_bytes name ++ 92 ∷ 62 ∷ [])) ++ items_text true behind rest ≡ items_text before behind (flat_map item_bytes (symbol name ∷ items))
-    = ap (λ z. 92 ∷ 60 ∷ z) (sym (name_items name behind rest h.0.each)) ∙ ap (λ z. 92 ∷ 60 ∷ items_text true behind z) (sym (append_assoc name (62 ∷ []) rest)) in
+    let same : (92 ∷ 60 ∷ (name_bytes name ++ 92 ∷ 62 ∷ [])) ++ items_text true behind rest ≡ items_text before behind
+    (flat_map item_bytes (symbol name ∷ items))
+    = ap (λ z. 92 ∷ 60 ∷ z) (sym (name_items name behind rest h.0.each))
+    ∙ ap (λ z. 92 ∷ 60 ∷ items_text true behind z) (sym (append_assoc name (62 ∷ []) rest)) in
     subst (λ z. Stands z (text (symbol_bytes name) ∷ item_parts true behind items)) same
-    (both_stand (92 ∷ 60 ∷ (name_bytes name ++ 92 ∷ 62 ∷ [])) (items_text true behind rest) (text (symbol_bytes name) ∷ []) (item_parts true behind items) (symbol_stands name h.0) (items_stand true behind items h.1))
+    (both_stand (92 ∷ 60 ∷ (name_bytes name ++ 92 ∷ 62 ∷ [])) (items_text true behind rest)
+    (text (symbol_bytes name) ∷ []) (item_parts true behind items) (symbol_stands name h.0)
+    (items_stand true behind items h.1))

@@ -24,53 +24,92 @@ still_begins (x ∷ a) (y ∷ b) (z ∷ c) e f =
     without_first p = cc
 
 -- one part more of what is to be written
-pub one_more : (done next part rest whole left : List ℕ) → next ≡ done ++ part → left ≡ part ++ rest → done ++ left ≡ whole → next ++ rest ≡ whole
-one_more done next part rest whole left e k h = ap (λ x. x ++ rest) e ∙ append_assoc done part rest ∙ ap (λ x. done ++ x) (sym k) ∙ h
+pub one_more : (done next part rest whole left : List ℕ) → next ≡ done ++ part → left ≡ part ++ rest
+    → done ++ left ≡ whole → next ++ rest ≡ whole
+one_more done next part rest whole left e k h = ap (λ x. x ++ rest) e ∙ append_assoc done part rest
+    ∙ ap (λ x. done ++ x) (sym k) ∙ h
 
 pub some_behind : (ts : List WideTree) (n : ℕ) → some (forest (drop n ts)) ≡ ltb n (length ts)
 some_behind ts zero = some_trees ts
 some_behind [] (suc n) = grind arith
 some_behind (t ∷ ts) (suc n) = grind (arith, some_behind ts n)
 
-pub leaf_part : (before behind : Bool) (t : WideTree) (text : List ℕ) → text_of t ≡ Some text → part_text before behind t ≡ items_text before behind text
+pub leaf_part : (before behind : Bool) (t : WideTree) (text : List ℕ) → text_of t ≡ Some text
+    → part_text before behind t ≡ items_text before behind text
 leaf_part before behind t text e = ap (part_text before behind) (leaf_is t text e)
 
 node_part : (before behind : Bool) (t : WideTree) (label : List ℕ) → label_of t ≡ Some label
-    → part_text before behind t ≡ tag_text label (forest (children_of t)) (long_text label (forest (children_of t))) (arguments_text (forest (children_of t)))
+    → part_text before behind t ≡ tag_text label (forest (children_of t)) (long_text label (forest (children_of t)))
+    (arguments_text (forest (children_of t)))
 node_part before behind t label e = ap (part_text before behind) (node_is t label e)
 
-pub raw_part : (before behind : Bool) (t : WideTree) (label digits : List ℕ) → label_of t ≡ Some label → IsRaw label (children_of t) digits
+pub raw_part : (before behind : Bool) (t : WideTree) (label digits : List ℕ) → label_of t ≡ Some label
+    → IsRaw label (children_of t) digits
     → part_text before behind t ≡ 60 ∷ 35 ∷ (digits ++ 62 ∷ [])
-raw_part before behind t label digits e h = node_part before behind t label e ∙ ap (λ b. cond b (60 ∷ 35 ∷ (digits_of (forest (children_of t)) ++ 62 ∷ [])) (cond (is_long label (forest (children_of t))) (opened 92 label ++ long_text label (forest (children_of t))) (60 ∷ (label ++ (arguments_text (forest (children_of t)) ++ 62 ∷ []))))) h.raw ∙ ap (λ d. 60 ∷ 35 ∷ (d ++ 62 ∷ [])) h.are
+raw_part before behind t label digits e h =
+    node_part before behind t label e
+    ∙ ap (λ b. cond b (60 ∷ 35 ∷ (digits_of (forest (children_of t)) ++ 62 ∷ []))
+    (cond (is_long label (forest (children_of t))) (opened 92 label ++ long_text label (forest (children_of t)))
+    (60 ∷ (label ++ (arguments_text (forest (children_of t)) ++ 62 ∷ []))))) h.raw
+    ∙ ap (λ d. 60 ∷ 35 ∷ (d ++ 62 ∷ [])) h.are
 
-pub long_part_of : (before behind : Bool) (t : WideTree) (label : List ℕ) → label_of t ≡ Some label → is_raw label (forest (children_of t)) ≡ false
-    → is_long label (forest (children_of t)) ≡ true → part_text before behind t ≡ opened 92 label ++ long_text label (forest (children_of t))
-long_part_of before behind t label e h k = node_part before behind t label e ∙ ap (λ b. cond b (60 ∷ 35 ∷ (digits_of (forest (children_of t)) ++ 62 ∷ [])) (cond (is_long label (forest (children_of t))) (opened 92 label ++ long_text label (forest (children_of t))) (60 ∷ (label ++ (arguments_text (forest (children_of t)) ++ 62 ∷ []))))) h ∙ ap (λ b. cond b (opened 92 label ++ long_text label (forest (children_of t))) (60 ∷ (label ++ (arguments_text (forest (children_of t)) ++ 62 ∷ [])))) k
+pub long_part_of : (before behind : Bool) (t : WideTree) (label : List ℕ) → label_of t ≡ Some label
+    → is_raw label (forest (children_of t)) ≡ false
+    → is_long label (forest (children_of t)) ≡ true
+    → part_text before behind t ≡ opened 92 label ++ long_text label (forest (children_of t))
+long_part_of before behind t label e h k =
+    node_part before behind t label e
+    ∙ ap (λ b. cond b (60 ∷ 35 ∷ (digits_of (forest (children_of t)) ++ 62 ∷ []))
+    (cond (is_long label (forest (children_of t))) (opened 92 label ++ long_text label (forest (children_of t)))
+    (60 ∷ (label ++ (arguments_text (forest (children_of t)) ++ 62 ∷ []))))) h
+    ∙ ap (λ b. cond b (opened 92 label ++ long_text label (forest (children_of t)))
+    (60 ∷ (label ++ (arguments_text (forest (children_of t)) ++ 62 ∷ [])))) k
 
-pub short_part : (before behind : Bool) (t : WideTree) (label : List ℕ) → label_of t ≡ Some label → is_raw label (forest (children_of t)) ≡ false
-    → is_long label (forest (children_of t)) ≡ false → part_text before behind t ≡ 60 ∷ (label ++ (arguments_text (forest (children_of t)) ++ 62 ∷ []))
-short_part before behind t label e h k = node_part before behind t label e ∙ ap (λ b. cond b (60 ∷ 35 ∷ (digits_of (forest (children_of t)) ++ 62 ∷ [])) (cond (is_long label (forest (children_of t))) (opened 92 label ++ long_text label (forest (children_of t))) (60 ∷ (label ++ (arguments_text (forest (children_of t)) ++ 62 ∷ []))))) h ∙ ap (λ b. cond b (opened 92 label ++ long_text label (forest (children_of t))) (60 ∷ (label ++ (arguments_text (forest (children_of t)) ++ 62 ∷ [])))) k
+pub short_part : (before behind : Bool) (t : WideTree) (label : List ℕ) → label_of t ≡ Some label
+    → is_raw label (forest (children_of t)) ≡ false
+    → is_long label (forest (children_of t)) ≡ false
+    → part_text before behind t ≡ 60 ∷ (label ++ (arguments_text (forest (children_of t)) ++ 62 ∷ []))
+short_part before behind t label e h k =
+    node_part before behind t label e
+    ∙ ap (λ b. cond b (60 ∷ 35 ∷ (digits_of (forest (children_of t)) ++ 62 ∷ []))
+    (cond (is_long label (forest (children_of t))) (opened 92 label ++ long_text label (forest (children_of t)))
+    (60 ∷ (label ++ (arguments_text (forest (children_of t)) ++ 62 ∷ []))))) h
+    ∙ ap (λ b. cond b (opened 92 label ++ long_text label (forest (children_of t)))
+    (60 ∷ (label ++ (arguments_text (forest (children_of t)) ++ 62 ∷ [])))) k
 
-pub inline_content : (t : WideTree) (label : List ℕ) → label_of t ≡ Some label → is_inline label (forest (children_of t)) ≡ true
+pub inline_content : (t : WideTree) (label : List ℕ) → label_of t ≡ Some label
+    → is_inline label (forest (children_of t)) ≡ true
     → content_text t ≡ parts_text false (forest (children_of t))
 inline_content t label e h =
-    ap content_text (node_is t label e) ∙ ap (λ b. cond b (parts_text false (forest (children_of t))) (tag_text label (forest (children_of t)) (long_text label (forest (children_of t))) (arguments_text (forest (children_of t))))) h
+    ap content_text (node_is t label e)
+    ∙ ap (λ b. cond b (parts_text false (forest (children_of t)))
+    (tag_text label (forest (children_of t)) (long_text label (forest (children_of t)))
+    (arguments_text (forest (children_of t))))) h
 
-pub tag_content : (t : WideTree) (label : List ℕ) → label_of t ≡ Some label → is_inline label (forest (children_of t)) ≡ false → content_text t ≡ part_text false false t
+pub tag_content : (t : WideTree) (label : List ℕ) → label_of t ≡ Some label
+    → is_inline label (forest (children_of t)) ≡ false → content_text t ≡ part_text false false t
 tag_content t label e h =
-    ap content_text (node_is t label e) ∙ ap (λ b. cond b (parts_text false (forest (children_of t))) (tag_text label (forest (children_of t)) (long_text label (forest (children_of t))) (arguments_text (forest (children_of t))))) h
+    ap content_text (node_is t label e)
+    ∙ ap (λ b. cond b (parts_text false (forest (children_of t)))
+    (tag_text label (forest (children_of t)) (long_text label (forest (children_of t)))
+    (arguments_text (forest (children_of t))))) h
     ∙ sym (node_part false false t label e)
 
 pub leaf_content : (t : WideTree) → label_of t ≡ None → content_text t ≡ part_text false false t
 leaf_content (leaf text) e = refl
 leaf_content (node label ts) e = absurd cc
 
-pub document_text : (t : WideTree) (label : List ℕ) → label_of t ≡ Some label → same label document_label ≡ true → block_text t ≡ paragraphs_text (forest (children_of t))
-document_text t label e h = ap block_text (node_is t label e) ∙ ap (λ b. cond b (paragraphs_text (forest (children_of t))) (with_ends (tags_text (forest (children_of t))))) h
+pub document_text : (t : WideTree) (label : List ℕ) → label_of t ≡ Some label → same label document_label ≡ true
+    → block_text t ≡ paragraphs_text (forest (children_of t))
+document_text t label e h =
+    ap block_text (node_is t label e)
+    ∙ ap (λ b. cond b (paragraphs_text (forest (children_of t))) (with_ends (tags_text (forest (children_of t))))) h
 
 pub collection_text : (t : WideTree) (label : List ℕ) → label_of t ≡ Some label → same label document_label ≡ false
     → block_text t ≡ with_ends (tags_text (forest (children_of t)))
-collection_text t label e h = ap block_text (node_is t label e) ∙ ap (λ b. cond b (paragraphs_text (forest (children_of t))) (with_ends (tags_text (forest (children_of t))))) h
+collection_text t label e h =
+    ap block_text (node_is t label e)
+    ∙ ap (λ b. cond b (paragraphs_text (forest (children_of t))) (with_ends (tags_text (forest (children_of t))))) h
 
 pub leaf_block : (t : WideTree) → label_of t ≡ None → block_text t ≡ []
 leaf_block (leaf text) e = refl

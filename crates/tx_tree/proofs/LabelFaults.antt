@@ -28,15 +28,19 @@ at_end bytes h short =
     (λ (none : length bytes ≤ 0). inr (BadLabel 0, label_empty bytes (omega arith)))
     (cases_lt 0 (length bytes))
 
-label_or_from : (bytes : List ℕ) (k i : ℕ) → i + k ≡ length bytes → i ≤ 64 → AreLabelBytes (take i bytes) → IsLabelOr bytes
-label_or_from bytes zero i all short h = at_end bytes (subst AreLabelBytes (take_all i bytes (omega arith)) h) (omega arith)
+label_or_from : (bytes : List ℕ) (k i : ℕ) → i + k ≡ length bytes → i ≤ 64 → AreLabelBytes (take i bytes)
+    → IsLabelOr bytes
+label_or_from bytes zero i all short h =
+    at_end bytes (subst AreLabelBytes (take_all i bytes (omega arith)) h) (omega arith)
 label_or_from bytes (suc k) i all short h =
     ⊎_elim
-    (λ (below : i < 64). by_byte (is_label_byte (get_or bytes i 0)) refl (λ e. label_or_from bytes k (i + 1) (omega arith) (omega arith) (all_more bytes i (omega arith) h e)))
+    (λ (below : i < 64). by_byte (is_label_byte (get_or bytes i 0)) refl
+    (λ e. label_or_from bytes k (i + 1) (omega arith) (omega arith) (all_more bytes i (omega arith) h e)))
     (λ (most : 64 ≤ i). inr (BadLabel i, label_stops bytes i (omega arith) h short (λ below. absurd (omega arith))))
     (cases_lt i 64)
   where
-    by_byte : (taken : Bool) → is_label_byte (get_or bytes i 0) ≡ taken → (is_label_byte (get_or bytes i 0) ≡ true → IsLabelOr bytes) → IsLabelOr bytes
+    by_byte : (taken : Bool) → is_label_byte (get_or bytes i 0) ≡ taken
+        → (is_label_byte (get_or bytes i 0) ≡ true → IsLabelOr bytes) → IsLabelOr bytes
     by_byte true e on = on e
     by_byte false e on = inr (BadLabel i, label_stops bytes i (omega arith) h short (λ below. e))
 

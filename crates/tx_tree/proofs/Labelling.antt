@@ -14,11 +14,13 @@ all_append : (a b : List ℕ) → AreLabelBytes a → AreLabelBytes b → AreLab
 all_append [] b h k = k
 all_append (x ∷ a) b h k = (h.0, all_append a b h.1 k)
 
-pub all_more : (bytes : List ℕ) (i : ℕ) → i < length bytes → AreLabelBytes (take i bytes) → is_label_byte (get_or bytes i 0) ≡ true → AreLabelBytes (take (i + 1) bytes)
+pub all_more : (bytes : List ℕ) (i : ℕ) → i < length bytes → AreLabelBytes (take i bytes)
+    → is_label_byte (get_or bytes i 0) ≡ true → AreLabelBytes (take (i + 1) bytes)
 all_more bytes i lt h k = rw (take_more bytes i 0 lt) (all_append (take i bytes) (get_or bytes i 0 ∷ []) h (k, tt))
 
 -- the byte at i of bytes that all are label bytes is one
-all_at : (bytes more : List ℕ) (i m : ℕ) → i < m → m ≤ length bytes → AreLabelBytes (take m bytes ++ more) → is_label_byte (get_or bytes i 0) ≡ true
+all_at : (bytes more : List ℕ) (i m : ℕ) → i < m → m ≤ length bytes → AreLabelBytes (take m bytes ++ more)
+    → is_label_byte (get_or bytes i 0) ≡ true
 all_at [] more i m lt le h = absurd (omega arith)
 all_at (b ∷ bytes) more i zero lt le h = absurd (omega arith)
 all_at (b ∷ bytes) more zero (suc m) lt le h = h.0
@@ -31,16 +33,24 @@ letter = refl
 -- label bytes, at most as many as a label has, begin one
 begins_label : (bytes : List ℕ) → AreLabelBytes bytes → length bytes ≤ 64 → (more : List ℕ) × IsLabel (bytes ++ more)
 begins_label [] h short = (97 ∷ [], record { each = (letter, tt); some = omega arith; short = omega arith })
-begins_label (b ∷ bytes) h short =
-    ([], record { each = all_append (b ∷ bytes) [] h tt; some = omega arith; short = omega (arith, length-append bytes []) })
+begins_label (b ∷ bytes) h short = (
+  [],
+  record {
+    each = all_append (b ∷ bytes) [] h tt;
+    some = omega arith;
+    short = omega (arith, length-append bytes []);
+  },
+)
 
 -- at the 65th byte, or at a byte of no label, the longest front ends
-pub label_stops : (bytes : List ℕ) (i : ℕ) → i < length bytes → AreLabelBytes (take i bytes) → i ≤ 64 → (i < 64 → is_label_byte (get_or bytes i 0) ≡ false)
+pub label_stops : (bytes : List ℕ) (i : ℕ) → i < length bytes → AreLabelBytes (take i bytes) → i ≤ 64
+    → (i < 64 → is_label_byte (get_or bytes i 0) ≡ false)
     → IsLongestFront IsLabel bytes i × (IsLabel bytes → ⊥)
 label_stops bytes i lt h short bad = (
   record {
     front = (omega arith, begins_label (take i bytes) h (omega (arith, length-take-le i bytes (omega arith))));
-    longest = λ m f. ⊎_elim (λ (past : i < m). absurd (no_front m past f.0 f.1.0 f.1.1)) (λ (le : m ≤ i). le) (cases_lt i m);
+    longest = λ m f. ⊎_elim (λ (past : i < m). absurd (no_front m past f.0 f.1.0 f.1.1)) (λ (le : m ≤ i). le)
+        (cases_lt i m);
   },
   λ l. no_front (length bytes) lt (omega arith) [] (subst IsLabel (sym (whole bytes)) l),
 )
@@ -49,7 +59,8 @@ label_stops bytes i lt h short bad = (
     no_front m past le more l =
         ⊎_elim
         (λ (below : i < 64). let good = all_at bytes more i m past le l.each in let not = bad below in cc)
-        (λ (above : 64 ≤ i). absurd (omega (arith, l.short, length-append (take m bytes) more, length-take-le m bytes le)))
+        (λ (above : 64 ≤ i). absurd
+        (omega (arith, l.short, length-append (take m bytes) more, length-take-le m bytes le)))
         (cases_lt i 64)
 
     whole : (x : List ℕ) → take (length x) x ++ [] ≡ x
@@ -58,5 +69,7 @@ label_stops bytes i lt h short bad = (
 
 -- no bytes begin a label, and are none
 pub label_empty : (bytes : List ℕ) → length bytes ≡ 0 → IsLongestFront IsLabel bytes 0 × (IsLabel bytes → ⊥)
-label_empty bytes e =
-    (record { front = (omega arith, begins_label [] tt (omega arith)); longest = λ m f. omega (arith, f.0) }, λ l. absurd (omega (arith, l.some)))
+label_empty bytes e = (
+  record { front = (omega arith, begins_label [] tt (omega arith)); longest = λ m f. omega (arith, f.0) },
+  λ l. absurd (omega (arith, l.some)),
+)

@@ -37,7 +37,8 @@ numbers_once [] [] bytes h k = refl
 numbers_once [] (m ∷ q) bytes h k = let none = sym h ∙ k.3 in absurd cc
 numbers_once (n ∷ p) [] bytes h k = let none = sym k ∙ h.3 in absurd cc
 numbers_once (n ∷ p) (m ∷ q) bytes h k =
-    let w = one_run h.0 k.0 h.1 k.1 (behind_slash _ _ (sym h.3 ∙ k.3)) h.2.each k.2.each (numbers_next p h.1 h.4) (numbers_next q k.1 k.4) in
+    let w = one_run h.0 k.0 h.1 k.1 (behind_slash _ _ (sym h.3 ∙ k.3)) h.2.each k.2.each (numbers_next p h.1 h.4)
+    (numbers_next q k.1 k.4) in
     let same : n ≡ m = h.2.value ∙ ap (number_after 0) w.0 ∙ sym k.2.value in
     let others : p ≡ q = numbers_once p q k.1 (subst (λ x. AreNumbers x p) w.1 h.4) k.4 in
     rw (same, others) refl

@@ -26,13 +26,17 @@ printed_numbers : (path : List ℕ) → AllByRecursion (λ n. n ≤ 4294967295) 
 printed_numbers [] h = refl
 printed_numbers (n ∷ path) h = (decimal n, numbers_text path, decimal_number n h.0, refl, printed_numbers path h.1)
 
-pub printed_path : (path : List ℕ) → length path ≤ 400 → AllByRecursion (λ n. n ≤ 4294967295) path → SpellsPath (path_text path) path
+pub printed_path : (path : List ℕ) → length path ≤ 400 → AllByRecursion (λ n. n ≤ 4294967295) path
+    → SpellsPath (path_text path) path
 printed_path [] few h = refl
 printed_path (n ∷ path) few h = (printed_numbers (n ∷ path) h, few)
 
-and_last : (path : List ℕ) (o : ℕ) → AllByRecursion (λ n. n ≤ 4294967295) path → o ≤ 4294967295 → AllByRecursion (λ n. n ≤ 4294967295) (path ++ o ∷ [])
+and_last : (path : List ℕ) (o : ℕ) → AllByRecursion (λ n. n ≤ 4294967295) path → o ≤ 4294967295
+    → AllByRecursion (λ n. n ≤ 4294967295) (path ++ o ∷ [])
 and_last [] o h k = (k, tt)
 and_last (n ∷ path) o h k = (h.0, and_last path o h.1 k)
 
-pub printed_place : (path : List ℕ) (o : ℕ) → length path < 400 → AllByRecursion (λ n. n ≤ 4294967295) path → o ≤ 4294967295 → SpellsPath (place_text path o) (path ++ o ∷ [])
-printed_place path o few h k = spelled_numbers path (place_text path o) o (printed_numbers (path ++ o ∷ []) (and_last path o h k)) few
+pub printed_place : (path : List ℕ) (o : ℕ) → length path < 400 → AllByRecursion (λ n. n ≤ 4294967295) path
+    → o ≤ 4294967295 → SpellsPath (place_text path o) (path ++ o ∷ [])
+printed_place path o few h k =
+    spelled_numbers path (place_text path o) o (printed_numbers (path ++ o ∷ []) (and_last path o h k)) few

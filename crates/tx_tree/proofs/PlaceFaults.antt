@@ -37,7 +37,8 @@ offset_has_no_fault (node label ts) o (BadPlace n) h k = omega (arith, h, k.0)
 offset_has_no_fault (leaf text) o (CutsSymbol n) h k = k.1 h
 offset_has_no_fault (node label ts) o (CutsSymbol n) h k = k
 
-pub items_append : (x y : List Item) → AllByRecursion IsItem x → AllByRecursion IsItem y → AllByRecursion IsItem (x ++ y)
+pub items_append : (x y : List Item) → AllByRecursion IsItem x → AllByRecursion IsItem y
+    → AllByRecursion IsItem (x ++ y)
 items_append [] y h k = k
 items_append (i ∷ x) y h k = (h.0, items_append x y h.1 k)
 
@@ -49,8 +50,11 @@ cut_or_not : (bytes : List ℕ) (n : ℕ) → IsCut bytes n ⊎ (IsCut bytes n �
 cut_or_not bytes n = by_test (is_text bytes && is_cut bytes n) refl
   where
     by_test : (c : Bool) → (is_text bytes && is_cut bytes n) ≡ c → IsCut bytes n ⊎ (IsCut bytes n → ⊥)
-    by_test true e = let parts = and_parts (is_text bytes) (is_cut bytes n) e in inl (cut_test bytes n (text_test bytes parts.0) parts.1)
-    by_test false e = inr (λ h. let both = and_from (is_text bytes) (is_cut bytes n) (text_tested bytes (cut_of_text bytes n h)) (cut_tested bytes n h) in absurd cc)
+    by_test true e = let parts = and_parts (is_text bytes) (is_cut bytes n) e in
+        inl (cut_test bytes n (text_test bytes parts.0) parts.1)
+    by_test false e =
+        inr (λ h. let both = and_from (is_text bytes) (is_cut bytes n) (text_tested bytes (cut_of_text bytes n h))
+        (cut_tested bytes n h) in absurd cc)
 
 offset_or_fault : (s : WideTree) (o : ℕ) → IsOffset s o ⊎ ((fault : PlaceFault) × IsOffsetFault s o fault)
 offset_or_fault (leaf text) o =
@@ -61,27 +65,33 @@ offset_or_fault (leaf text) o =
     (λ (none : IsCut text o → ⊥). inr (CutsSymbol o, (within, none, refl)))
     (cut_or_not text o))
     (cases_lt (length text) o)
-offset_or_fault (node label ts) o = ⊎_elim (λ (past : 1 < o). inr (BadPlace 1, (past, refl))) (λ (within : o ≤ 1). inl within) (cases_lt 1 o)
+offset_or_fault (node label ts) o =
+    ⊎_elim (λ (past : 1 < o). inr (BadPlace 1, (past, refl))) (λ (within : o ≤ 1). inl within) (cases_lt 1 o)
 
 -- ---- places
 
-pub place_fault_once : (t : WideTree) (p : List ℕ) (o : ℕ) (f g : PlaceFault) → IsPlaceFault t p o f → IsPlaceFault t p o g → f ≡ g
+pub place_fault_once : (t : WideTree) (p : List ℕ) (o : ℕ) (f g : PlaceFault) → IsPlaceFault t p o f
+    → IsPlaceFault t p o g → f ≡ g
 place_fault_once t p o f g h k = by_subtree (subtree t p) h k
   where
-    by_subtree : (u : Option WideTree) → MatchOption u (f ≡ NoPath (leading t p)) (λ s. IsOffsetFault s o f) → MatchOption u (g ≡ NoPath (leading t p)) (λ s. IsOffsetFault s o g) → f ≡ g
+    by_subtree : (u : Option WideTree) → MatchOption u (f ≡ NoPath (leading t p)) (λ s. IsOffsetFault s o f)
+        → MatchOption u (g ≡ NoPath (leading t p)) (λ s. IsOffsetFault s o g) → f ≡ g
     by_subtree None h k = h ∙ sym k
     by_subtree (Some s) h k = offset_fault_once s o f g h k
 
 pub place_has_no_fault : (t : WideTree) (p : List ℕ) (o : ℕ) (f : PlaceFault) → IsPlace t p o → IsPlaceFault t p o f → ⊥
 place_has_no_fault t p o f h k = by_subtree (subtree t p) h k
   where
-    by_subtree : (u : Option WideTree) → IsSomeAnd u (λ s. IsOffset s o) → MatchOption u (f ≡ NoPath (leading t p)) (λ s. IsOffsetFault s o f) → ⊥
+    by_subtree : (u : Option WideTree) → IsSomeAnd u (λ s. IsOffset s o)
+        → MatchOption u (f ≡ NoPath (leading t p)) (λ s. IsOffsetFault s o f) → ⊥
     by_subtree None h k = h
     by_subtree (Some s) h k = offset_has_no_fault s o f h k
 
-pub place_or_fault : (t : WideTree) (p : List ℕ) (o : ℕ) → IsPlace t p o ⊎ ((fault : PlaceFault) × IsPlaceFault t p o fault)
+pub place_or_fault : (t : WideTree) (p : List ℕ) (o : ℕ)
+    → IsPlace t p o ⊎ ((fault : PlaceFault) × IsPlaceFault t p o fault)
 place_or_fault t p o = by_subtree (subtree t p)
   where
-    by_subtree : (u : Option WideTree) → IsSomeAnd u (λ s. IsOffset s o) ⊎ ((fault : PlaceFault) × MatchOption u (fault ≡ NoPath (leading t p)) (λ s. IsOffsetFault s o fault))
+    by_subtree : (u : Option WideTree) → IsSomeAnd u (λ s. IsOffset s o)
+        ⊎ ((fault : PlaceFault) × MatchOption u (fault ≡ NoPath (leading t p)) (λ s. IsOffsetFault s o fault))
     by_subtree None = inr (NoPath (leading t p), refl)
     by_subtree (Some s) = offset_or_fault s o

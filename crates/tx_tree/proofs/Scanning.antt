@@ -33,26 +33,32 @@ close_step : (n : ℕ) → 1 ≤ n → text_step (InSymbol n) 62 ≡ Some Betwee
 unfolding text_step
 close_step n h = grind arith
 
-name_run : (name : List ℕ) (n : ℕ) (rest : List ℕ) → AllByRecursion (λ b. is_name_byte b ≡ true) name → n + length name ≤ 48 → 1 ≤ n + length name
+name_run : (name : List ℕ) (n : ℕ) (rest : List ℕ) → AllByRecursion (λ b. is_name_byte b ≡ true) name
+    → n + length name ≤ 48 → 1 ≤ n + length name
     → text_run (Some (InSymbol n)) (name ++ 62 ∷ rest) ≡ text_run (Some Between) rest
 name_run [] n rest h le some = ap (λ p. text_run p rest) (close_step n (omega arith))
 name_run (b ∷ name) n rest h le some =
-    ap (λ p. text_run p (name ++ 62 ∷ rest)) (name_step n b h.0 (omega arith)) ∙ name_run name (n + 1) rest h.1 (omega arith) (omega arith)
+    ap (λ p. text_run p (name ++ 62 ∷ rest)) (name_step n b h.0 (omega arith))
+    ∙ name_run name (n + 1) rest h.1 (omega arith) (omega arith)
 
-item_run : (i : Item) (rest : List ℕ) → IsItem i → text_run (Some Between) (item_bytes i ++ rest) ≡ text_run (Some Between) rest
+item_run : (i : Item) (rest : List ℕ) → IsItem i
+    → text_run (Some Between) (item_bytes i ++ rest) ≡ text_run (Some Between) rest
 item_run (byte b) rest h = ap (λ p. text_run p rest) (item_step b h)
 item_run (symbol name) rest h =
     ap (λ p. text_run p (name ++ 62 ∷ [] ++ rest)) open_step
     ∙ ap (λ x. text_run (Some (InSymbol 0)) x) (append_assoc name (62 ∷ []) rest)
     ∙ name_run name 0 rest h.each (omega (arith, h.short)) (omega (arith, h.some))
 
-pub items_run : (items : List Item) (rest : List ℕ) → AllByRecursion IsItem items → text_run (Some Between) (flat_map item_bytes items ++ rest) ≡ text_run (Some Between) rest
+pub items_run : (items : List Item) (rest : List ℕ) → AllByRecursion IsItem items
+    → text_run (Some Between) (flat_map item_bytes items ++ rest) ≡ text_run (Some Between) rest
 items_run [] rest h = refl
 items_run (i ∷ items) rest h =
-    ap (λ x. text_run (Some Between) x) (append_assoc (item_bytes i) (flat_map item_bytes items) rest) ∙ item_run i (flat_map item_bytes items ++ rest) h.0 ∙ items_run items rest h.1
+    ap (λ x. text_run (Some Between) x) (append_assoc (item_bytes i) (flat_map item_bytes items) rest)
+    ∙ item_run i (flat_map item_bytes items ++ rest) h.0 ∙ items_run items rest h.1
 
 -- behind a text the reading stands between items
-pub text_runs : (bytes rest : List ℕ) → IsText bytes → text_run (Some Between) (bytes ++ rest) ≡ text_run (Some Between) rest
+pub text_runs : (bytes rest : List ℕ) → IsText bytes → text_run (Some Between) (bytes ++ rest) ≡ text_run (Some Between)
+    rest
 text_runs bytes rest h = ap (λ x. text_run (Some Between) (x ++ rest)) h.2 ∙ items_run h.0 rest h.1
 
 pub none_run : (rest : List ℕ) → text_run None rest ≡ None
@@ -71,14 +77,20 @@ pub all_snoc : (P : ℕ → Type 0) (a : List ℕ) (x : ℕ) → AllByRecursion 
 all_snoc P [] x h k = (k, tt)
 all_snoc P (y ∷ a) x h k = (h.0, all_snoc P a x h.1 k)
 
-items_snoc : (items : List Item) (i : Item) → AllByRecursion IsItem items → IsItem i → AllByRecursion IsItem (items ++ i ∷ [])
+items_snoc : (items : List Item) (i : Item) → AllByRecursion IsItem items → IsItem i
+    → AllByRecursion IsItem (items ++ i ∷ [])
 items_snoc [] i h k = (k, tt)
 items_snoc (j ∷ items) i h k = (h.0, items_snoc items i h.1 k)
 
 -- a text and an item more are a text
 pub text_snoc : (bytes : List ℕ) (i : Item) → IsText bytes → IsItem i → IsText (bytes ++ item_bytes i)
-text_snoc bytes i h k =
-    (h.0 ++ i ∷ [], items_snoc h.0 i h.1 k, ap (λ x. x ++ item_bytes i) h.2 ∙ sym (flat_map-append item_bytes h.0 (i ∷ []) ∙ ap (λ x. flat_map item_bytes h.0 ++ x) (append-nil (item_bytes i))))
+text_snoc bytes i h k = (
+  h.0 ++ i ∷ [],
+  items_snoc h.0 i h.1 k,
+  ap (λ x. x ++ item_bytes i) h.2
+      ∙ sym (flat_map-append item_bytes h.0 (i ∷ [])
+      ∙ ap (λ x. flat_map item_bytes h.0 ++ x) (append-nil (item_bytes i))),
+)
 
 -- what the bytes so far are, at each place
 pub record IsInSymbol (n : ℕ) (bytes : List ℕ) : Type 0 where
@@ -99,15 +111,20 @@ TookAll None bytes = Unit {0}
 TookAll (Some p) bytes = Took p bytes
 
 -- how one byte is taken between items
-open_cases : (b : ℕ) (p : TextPlace) → text_step Between b ≡ Some p → ((b ≡ 60) × (p ≡ InSymbol 0)) ⊎ ((is_item_byte b ≡ true) × (p ≡ Between))
+open_cases : (b : ℕ) (p : TextPlace) → text_step Between b ≡ Some p
+    → ((b ≡ 60) × (p ≡ InSymbol 0)) ⊎ ((is_item_byte b ≡ true) × (p ≡ Between))
 unfolding text_step
 open_cases b p e =
-    elim (eqb b 60) as (λ c. eqb b 60 ≡ c → cond c (Some (InSymbol 0)) (cond (is_item_byte b) (Some Between) None) ≡ Some p → ((b ≡ 60) × (p ≡ InSymbol 0)) ⊎ ((is_item_byte b ≡ true) × (p ≡ Between))) [
+    elim (eqb b 60) as
+    (λ c. eqb b 60 ≡ c → cond c (Some (InSymbol 0)) (cond (is_item_byte b) (Some Between) None) ≡ Some p
+    → ((b ≡ 60) × (p ≡ InSymbol 0)) ⊎ ((is_item_byte b ≡ true) × (p ≡ Between))) [
       | true ↦ λ t f. inl (eqb-true b 60 t, cc)
-      | false ↦ λ t. elim (is_item_byte b) as (λ c. is_item_byte b ≡ c → cond c (Some Between) None ≡ Some p → ((b ≡ 60) × (p ≡ InSymbol 0)) ⊎ ((is_item_byte b ≡ true) × (p ≡ Between))) [
-        | true ↦ λ u f. inr (u, cc)
-        | false ↦ λ u f. absurd cc
-      ] refl
+      | false ↦ λ t.
+          elim (is_item_byte b) as (λ c. is_item_byte b ≡ c → cond c (Some Between) None ≡ Some p
+          → ((b ≡ 60) × (p ≡ InSymbol 0)) ⊎ ((is_item_byte b ≡ true) × (p ≡ Between))) [
+            | true ↦ λ u f. inr (u, cc)
+            | false ↦ λ u f. absurd cc
+          ] refl
     ] refl e
 
 positive : (m : ℕ) → eqb m 0 ≡ false → 1 ≤ m
@@ -121,23 +138,31 @@ TakesName n b p = ((b ≡ 62) × (1 ≤ n) × (p ≡ Between)) ⊎ ((is_name_byt
 name_cases : (n b : ℕ) (p : TextPlace) → text_step (InSymbol n) b ≡ Some p → TakesName n b p
 unfolding text_step
 name_cases n b p e =
-    elim (eqb b 62) as (λ c. eqb b 62 ≡ c → cond c (cond (eqb n 0) None (Some Between)) (cond (is_name_byte b && ltb n 48) (Some (InSymbol (n + 1))) None) ≡ Some p → TakesName n b p) [
+    elim (eqb b 62) as
+    (λ c. eqb b 62 ≡ c
+    → cond c (cond (eqb n 0) None (Some Between)) (cond (is_name_byte b && ltb n 48) (Some (InSymbol (n + 1))) None)
+    ≡ Some p → TakesName n b p) [
       | true ↦ λ t. elim (eqb n 0) as (λ c. eqb n 0 ≡ c → cond c None (Some Between) ≡ Some p → TakesName n b p) [
         | true ↦ λ u f. absurd cc
         | false ↦ λ u f. inl (eqb-true b 62 t, positive n u, cc)
       ] refl
-      | false ↦ λ t. elim (is_name_byte b && ltb n 48) as (λ c. (is_name_byte b && ltb n 48) ≡ c → cond c (Some (InSymbol (n + 1))) None ≡ Some p → TakesName n b p) [
-        | true ↦ λ u f. let parts = and_parts (is_name_byte b) (ltb n 48) u in inr (parts.0, ltb-true n 48 parts.1, cc)
-        | false ↦ λ u f. absurd cc
-      ] refl
+      | false ↦ λ t.
+          elim (is_name_byte b && ltb n 48) as
+          (λ c. (is_name_byte b && ltb n 48) ≡ c → cond c (Some (InSymbol (n + 1))) None ≡ Some p → TakesName n b p) [
+            | true ↦ λ u f. let parts = and_parts (is_name_byte b) (ltb n 48) u in
+                inr (parts.0, ltb-true n 48 parts.1, cc)
+            | false ↦ λ u f. absurd cc
+          ] refl
     ] refl e
 
 symbol_took : (n : ℕ) (bytes : List ℕ) → 1 ≤ n → IsInSymbol n bytes → IsText (bytes ++ 62 ∷ [])
 symbol_took n bytes some h =
-    let name : IsName h.name = record { each = h.each; some = omega (arith, h.count); short = omega (arith, h.count, h.short) } in
+    let name : IsName h.name =
+    record { each = h.each; some = omega (arith, h.count); short = omega (arith, h.count, h.short) } in
     rw (h.are, append_assoc h.before (60 ∷ h.name) (62 ∷ [])) (text_snoc h.before (symbol h.name) h.text name)
 
-name_took : (n b : ℕ) (bytes : List ℕ) → n < 48 → is_name_byte b ≡ true → IsInSymbol n bytes → IsInSymbol (n + 1) (bytes ++ b ∷ [])
+name_took : (n b : ℕ) (bytes : List ℕ) → n < 48 → is_name_byte b ≡ true → IsInSymbol n bytes
+    → IsInSymbol (n + 1) (bytes ++ b ∷ [])
 name_took n b bytes lt h t =
     record {
       before = t.before;
@@ -149,11 +174,13 @@ name_took n b bytes lt h t =
       are = rw t.are (append_assoc t.before (60 ∷ t.name) (b ∷ []));
     }
 
-step_took : (p : TextPlace) (b : ℕ) (bytes : List ℕ) → Took p bytes → (q : Option TextPlace) → text_step p b ≡ q → TookAll q (bytes ++ b ∷ [])
+step_took : (p : TextPlace) (b : ℕ) (bytes : List ℕ) → Took p bytes → (q : Option TextPlace) → text_step p b ≡ q
+    → TookAll q (bytes ++ b ∷ [])
 step_took p b bytes h None e = tt
 step_took Between b bytes h (Some q) e =
     ⊎_elim
-    (λ (w : (b ≡ 60) × (q ≡ InSymbol 0)). rw (w.0, w.1) (record { before = bytes; name = []; text = h; each = tt; count = refl; short = omega arith; are = refl }))
+    (λ (w : (b ≡ 60) × (q ≡ InSymbol 0)). rw (w.0, w.1)
+    (record { before = bytes; name = []; text = h; each = tt; count = refl; short = omega arith; are = refl }))
     (λ (w : (is_item_byte b ≡ true) × (q ≡ Between)). rw w.1 (text_snoc bytes (byte b) h w.0))
     (open_cases b q e)
 step_took (InSymbol n) b bytes h (Some q) e =
@@ -166,7 +193,8 @@ run_took : (more bytes : List ℕ) (p : Option TextPlace) → TookAll p bytes �
 run_took more bytes None h = subst (λ p. TookAll p (bytes ++ more)) (sym (none_run more)) tt
 run_took [] bytes (Some p) h = subst (λ x. Took p x) (sym (append-nil bytes)) h
 run_took (b ∷ more) bytes (Some p) h =
-    subst (λ x. TookAll (text_run (text_step p b) more) x) (append_assoc bytes (b ∷ []) more) (run_took more (bytes ++ b ∷ []) (text_step p b) (step_took p b bytes h (text_step p b) refl))
+    subst (λ x. TookAll (text_run (text_step p b) more) x) (append_assoc bytes (b ∷ []) more)
+    (run_took more (bytes ++ b ∷ []) (text_step p b) (step_took p b bytes h (text_step p b) refl))
 
 pub no_bytes : IsText []
 no_bytes = ([], tt, refl)
@@ -187,12 +215,17 @@ text_test bytes e = between_took (text_run (Some Between) bytes) bytes e (took b
 
 pub text_tested : (bytes : List ℕ) → IsText bytes → is_text bytes ≡ true
 unfolding is_text
-text_tested bytes h = ap is_between (ap (λ x. text_run (Some Between) x) (sym (append-nil bytes)) ∙ text_runs bytes [] h)
+text_tested bytes h =
+    ap is_between (ap (λ x. text_run (Some Between) x) (sym (append-nil bytes)) ∙ text_runs bytes [] h)
 
 -- the rest of an unfinished symbol
 close_text : (p : TextPlace) (bytes : List ℕ) → Took p bytes → (more : List ℕ) × IsText (bytes ++ more)
 close_text Between bytes h = ([], subst IsText (sym (append-nil bytes)) h)
-close_text (InSymbol zero) bytes h = (97 ∷ 62 ∷ [], subst IsText (append_assoc bytes (97 ∷ []) (62 ∷ [])) (symbol_took 1 (bytes ++ 97 ∷ []) (omega arith) (name_took 0 97 bytes (omega arith) refl h)))
+close_text (InSymbol zero) bytes h = (
+  97 ∷ 62 ∷ [],
+  subst IsText (append_assoc bytes (97 ∷ []) (62 ∷ []))
+      (symbol_took 1 (bytes ++ 97 ∷ []) (omega arith) (name_took 0 97 bytes (omega arith) refl h)),
+)
 close_text (InSymbol (suc n)) bytes h = (62 ∷ [], symbol_took (suc n) bytes (omega arith) h)
 
 -- bytes begin a text where they can be continued to one
@@ -200,14 +233,16 @@ pub begins_test : (bytes : List ℕ) → begins_text bytes ≡ true → (more : 
 unfolding begins_text
 begins_test bytes e = close_taken (text_run (Some Between) bytes) bytes e (took bytes)
   where
-    close_taken : (p : Option TextPlace) (x : List ℕ) → is_some p ≡ true → TookAll p x → (more : List ℕ) × IsText (x ++ more)
+    close_taken : (p : Option TextPlace) (x : List ℕ) → is_some p ≡ true → TookAll p x
+        → (more : List ℕ) × IsText (x ++ more)
     close_taken (Some p) x e h = close_text p x h
     close_taken None x e h = absurd cc
 
 pub begins_tested : (bytes more : List ℕ) → IsText (bytes ++ more) → begins_text bytes ≡ true
 unfolding begins_text
 begins_tested bytes more h =
-    some_before (text_run (Some Between) bytes) (sym (text_run-append bytes more (Some Between)) ∙ ap (λ x. text_run (Some Between) x) (sym (append-nil (bytes ++ more))) ∙ text_runs (bytes ++ more) [] h)
+    some_before (text_run (Some Between) bytes) (sym (text_run-append bytes more (Some Between))
+    ∙ ap (λ x. text_run (Some Between) x) (sym (append-nil (bytes ++ more))) ∙ text_runs (bytes ++ more) [] h)
   where
     some_before : (p : Option TextPlace) → text_run p more ≡ Some Between → is_some p ≡ true
     some_before (Some p) e = refl
@@ -225,10 +260,13 @@ unfolding begins_text
 begins_none bytes e = ap is_some e
 
 -- one byte more
-pub run_more : (bytes : List ℕ) (i : ℕ) (p : TextPlace) → i < length bytes → text_run (Some Between) (take i bytes) ≡ Some p
+pub run_more : (bytes : List ℕ) (i : ℕ) (p : TextPlace) → i < length bytes
+    → text_run (Some Between) (take i bytes) ≡ Some p
     → text_run (Some Between) (take (i + 1) bytes) ≡ text_step p (get_or bytes i 0)
 run_more bytes i p lt e =
-    ap (λ x. text_run (Some Between) x) (take_more bytes i 0 lt) ∙ text_run-append (take i bytes) (get_or bytes i 0 ∷ []) (Some Between) ∙ ap (λ q. text_run q (get_or bytes i 0 ∷ [])) e
+    ap (λ x. text_run (Some Between) x) (take_more bytes i 0 lt)
+    ∙ text_run-append (take i bytes) (get_or bytes i 0 ∷ []) (Some Between)
+    ∙ ap (λ q. text_run q (get_or bytes i 0 ∷ [])) e
     ∙ run_nothing (text_step p (get_or bytes i 0))
   where
     run_nothing : (q : Option TextPlace) → text_run q [] ≡ q
@@ -236,7 +274,8 @@ run_more bytes i p lt e =
     run_nothing (Some q) = refl
 
 -- where the reading stops, the longest front ends
-pub stops_at : (bytes : List ℕ) (i : ℕ) (p : TextPlace) → i < length bytes → text_run (Some Between) (take i bytes) ≡ Some p → text_step p (get_or bytes i 0) ≡ None
+pub stops_at : (bytes : List ℕ) (i : ℕ) (p : TextPlace) → i < length bytes
+    → text_run (Some Between) (take i bytes) ≡ Some p → text_step p (get_or bytes i 0) ≡ None
     → IsLongestFront IsText bytes i
 stops_at bytes i p lt e stop =
     record {
@@ -247,17 +286,23 @@ stops_at bytes i p lt e stop =
     no_front : (m : ℕ) → i < m → IsFront IsText bytes m → ⊥
     no_front m past f =
         let t = take_less bytes (i + 1) m (omega arith) in
-        let whole : text_run (Some Between) (take m bytes) ≡ None = ap (λ x. text_run (Some Between) x) t.1 ∙ text_run-append (take (i + 1) bytes) t.0 (Some Between)
+        let whole : text_run (Some Between) (take m bytes) ≡ None = ap (λ x. text_run (Some Between) x) t.1
+        ∙ text_run-append (take (i + 1) bytes) t.0 (Some Between)
         ∙ ap (λ q. text_run q t.0) (run_more bytes i p lt e ∙ stop) ∙ none_run t.0 in
         let begins = begins_tested (take m bytes) f.1.0 f.1.1 in
         let not = begins_none (take m bytes) whole in
         cc
 
 -- an unfinished symbol is a front
-pub ends_at : (bytes : List ℕ) (p : TextPlace) → text_run (Some Between) bytes ≡ Some p → IsLongestFront IsText bytes (length bytes)
+pub ends_at : (bytes : List ℕ) (p : TextPlace) → text_run (Some Between) bytes ≡ Some p
+    → IsLongestFront IsText bytes (length bytes)
 ends_at bytes p e =
     record {
-      front = (omega arith, subst (λ x. (more : List ℕ) × IsText (x ++ more)) (sym (take_all _ bytes (omega arith))) (begins_test bytes (begins_some bytes p e)));
+      front = (
+        omega arith,
+        subst (λ x. (more : List ℕ) × IsText (x ++ more)) (sym (take_all _ bytes (omega arith)))
+            (begins_test bytes (begins_some bytes p e)),
+      );
       longest = λ m f. f.0;
     }
 
@@ -274,21 +319,31 @@ pub between_text : (bytes : List ℕ) → text_run (Some Between) bytes ≡ Some
 between_text bytes e = subst (λ p. TookAll p bytes) e (took bytes)
 
 -- the fault where the reading stops
-pub fault_there : (bytes : List ℕ) (i : ℕ) (p : TextPlace) (fault : TextFault) → length bytes ≤ 1048575 → i < length bytes → text_run (Some Between) (take i bytes) ≡ Some p
+pub fault_there : (bytes : List ℕ) (i : ℕ) (p : TextPlace) (fault : TextFault) → length bytes ≤ 1048575
+    → i < length bytes → text_run (Some Between) (take i bytes) ≡ Some p
     → text_step p (get_or bytes i 0) ≡ None → fault ≡ fault_at p i → IsTextFault bytes fault
-fault_there bytes i Between fault short lt e stop is = rw is (short, stops_at bytes i Between lt e stop, lt, between_text (take i bytes) e)
-fault_there bytes i (InSymbol n) fault short lt e stop is = rw is (short, stops_at bytes i (InSymbol n) lt e stop, in_symbol (take i bytes) n e)
+fault_there bytes i Between fault short lt e stop is =
+    rw is (short, stops_at bytes i Between lt e stop, lt, between_text (take i bytes) e)
+fault_there bytes i (InSymbol n) fault short lt e stop is =
+    rw is (short, stops_at bytes i (InSymbol n) lt e stop, in_symbol (take i bytes) n e)
 
 -- a text that grows
-pub takes_more : (bytes : List ℕ) (p q : TextPlace) (b : ℕ) → text_run (Some Between) bytes ≡ Some p → text_step p b ≡ Some q → text_run (Some Between) (bytes ++ b ∷ []) ≡ Some q
-takes_more bytes p q b e s = text_run-append bytes (b ∷ []) (Some Between) ∙ ap (λ x. text_run x (b ∷ [])) e ∙ ap (λ x. text_run x []) s
+pub takes_more : (bytes : List ℕ) (p q : TextPlace) (b : ℕ) → text_run (Some Between) bytes ≡ Some p
+    → text_step p b ≡ Some q → text_run (Some Between) (bytes ++ b ∷ []) ≡ Some q
+takes_more bytes p q b e s = text_run-append bytes (b ∷ []) (Some Between) ∙ ap (λ x. text_run x (b ∷ [])) e
+    ∙ ap (λ x. text_run x []) s
 
-pub takes_yes : (bytes : List ℕ) (p q : TextPlace) (b : ℕ) → length bytes < 1048575 → text_run (Some Between) bytes ≡ Some p → text_step p b ≡ Some q → true ≡ takes_byte bytes b
-takes_yes bytes p q b lt e s = sym (and_from _ _ (lt-ltb _ _ lt) (begins_some (bytes ++ b ∷ []) q (takes_more bytes p q b e s)))
+pub takes_yes : (bytes : List ℕ) (p q : TextPlace) (b : ℕ) → length bytes < 1048575
+    → text_run (Some Between) bytes ≡ Some p → text_step p b ≡ Some q → true ≡ takes_byte bytes b
+takes_yes bytes p q b lt e s =
+    sym (and_from _ _ (lt-ltb _ _ lt) (begins_some (bytes ++ b ∷ []) q (takes_more bytes p q b e s)))
 
-pub takes_no : (bytes : List ℕ) (p : TextPlace) (b : ℕ) → text_run (Some Between) bytes ≡ Some p → text_step p b ≡ None → false ≡ takes_byte bytes b
+pub takes_no : (bytes : List ℕ) (p : TextPlace) (b : ℕ) → text_run (Some Between) bytes ≡ Some p → text_step p b ≡ None
+    → false ≡ takes_byte bytes b
 takes_no bytes p b e s =
-    let stops : begins_text (bytes ++ b ∷ []) ≡ false = begins_none (bytes ++ b ∷ []) (text_run-append bytes (b ∷ []) (Some Between) ∙ ap (λ x. text_run x (b ∷ [])) e ∙ ap (λ x. text_run x []) s) in
+    let stops : begins_text (bytes ++ b ∷ []) ≡ false =
+    begins_none (bytes ++ b ∷ []) (text_run-append bytes (b ∷ []) (Some Between) ∙ ap (λ x. text_run x (b ∷ [])) e
+    ∙ ap (λ x. text_run x []) s) in
     sym (ap (λ c. ltb (length bytes) 1048575 && c) stops ∙ and_no (ltb (length bytes) 1048575))
   where
     and_no : (c : Bool) → (c && false) ≡ false

@@ -9,7 +9,8 @@ some_depth : (t : WideTree) → 1 ≤ depth_of t
 some_depth (leaf text) = omega arith
 some_depth (node label ts) = omega arith
 
-step_short : (t s : WideTree) (i : ℕ) (path : List ℕ) (o : Option WideTree) → slice_get (children_of t) i ≡ o → ((u : WideTree) → subtree u path ≡ Some s → length path + 1 ≤ depth_of u)
+step_short : (t s : WideTree) (i : ℕ) (path : List ℕ) (o : Option WideTree) → slice_get (children_of t) i ≡ o
+    → ((u : WideTree) → subtree u path ≡ Some s → length path + 1 ≤ depth_of u)
     → option_and_then (λ u. subtree u path) o ≡ Some s → length (i ∷ path) + 1 ≤ depth_of t
 step_short t s i path None h on e = absurd cc
 step_short t s i path (Some u) h on e = omega (arith, on u e, child_shallower t u i h)

@@ -30,13 +30,15 @@ pub child_shallower : (p t : WideTree) (i : ℕ) → slice_get (children_of p) i
 child_shallower (leaf text) t i e = absurd cc
 child_shallower (node label ts) t i e = omega (arith, get_le_deepest ts i t e)
 
-get_or_le_deepest : (ts : Forest) (i : ℕ) (d : WideTree) → i < length (trees ts) → depth_of (get_or (trees ts) i d) ≤ deepest ts
+get_or_le_deepest : (ts : Forest) (i : ℕ) (d : WideTree) → i < length (trees ts)
+    → depth_of (get_or (trees ts) i d) ≤ deepest ts
 get_or_le_deepest nil i d h = absurd (omega arith)
 get_or_le_deepest (cons u ts) zero d h = omega arith
 get_or_le_deepest (cons u ts) (suc i) d h = omega (arith, get_or_le_deepest ts i d (omega arith))
 
 -- the same of the item of a loop over the children
-pub item_shallower : (p x : WideTree) (i : ℕ) → i < length (children_of p) → x ≡ get_or (children_of p) i x → depth_of x < depth_of p
+pub item_shallower : (p x : WideTree) (i : ℕ) → i < length (children_of p) → x ≡ get_or (children_of p) i x
+    → depth_of x < depth_of p
 item_shallower (leaf text) x i h e = absurd (omega arith)
 item_shallower (node label ts) x i h e = rw e (omega (arith, get_or_le_deepest ts i x h))
 

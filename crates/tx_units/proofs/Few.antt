@@ -50,12 +50,15 @@ apart_kept p (n ∷ ns) h = by (p n) (apart_kept p ns h.1)
     by true rest = (all_kept (λ k. bytes_eq k n ≡ false) p ns h.0, rest)
     by false rest = rest
 
-all_others : (n : List ℕ) (ns : Names) → AllByRecursion (λ k. bytes_eq k n ≡ false) (filter (λ k. not (bytes_eq k n)) ns)
+all_others : (n : List ℕ) (ns : Names)
+    → AllByRecursion (λ k. bytes_eq k n ≡ false) (filter (λ k. not (bytes_eq k n)) ns)
 all_others n [] = tt
 all_others n (k ∷ ns) = by (bytes_eq k n) refl (all_others n ns)
   where
-    by : (b : Bool) → bytes_eq k n ≡ b → AllByRecursion (λ k. bytes_eq k n ≡ false) (filter (λ k. not (bytes_eq k n)) ns)
-        → AllByRecursion (λ k. bytes_eq k n ≡ false) (cond (not b) (k ∷ filter (λ k. not (bytes_eq k n)) ns) (filter (λ k. not (bytes_eq k n)) ns))
+    by : (b : Bool) → bytes_eq k n ≡ b
+        → AllByRecursion (λ k. bytes_eq k n ≡ false) (filter (λ k. not (bytes_eq k n)) ns)
+        → AllByRecursion (λ k. bytes_eq k n ≡ false)
+        (cond (not b) (k ∷ filter (λ k. not (bytes_eq k n)) ns) (filter (λ k. not (bytes_eq k n)) ns))
     by true e rest = rest
     by false e rest = (e, rest)
 
@@ -67,7 +70,8 @@ fewer_kept : (p : List ℕ → Bool) (ns : Names) → length (filter p ns) ≤ l
 fewer_kept p [] = omega arith
 fewer_kept p (n ∷ ns) = by (p n) (fewer_kept p ns)
   where
-    by : (b : Bool) → length (filter p ns) ≤ length ns → length (cond b (n ∷ filter p ns) (filter p ns)) ≤ length (n ∷ ns)
+    by : (b : Bool) → length (filter p ns) ≤ length ns
+        → length (cond b (n ∷ filter p ns) (filter p ns)) ≤ length (n ∷ ns)
     by true rest = omega (arith, rest)
     by false rest = omega (arith, rest)
 
@@ -88,7 +92,8 @@ abbrev how_many : (List ℕ → Bool) → Names → ℕ
 how_many p [] = 0
 how_many p (n ∷ ns) = one_if (p n) + how_many p ns
 
-none_more : (m n : List ℕ) (ns : Names) → m ≡ n → AllByRecursion (λ k. bytes_eq k n ≡ false) ns → how_many (bytes_eq m) ns ≡ 0
+none_more : (m n : List ℕ) (ns : Names) → m ≡ n → AllByRecursion (λ k. bytes_eq k n ≡ false) ns
+    → how_many (bytes_eq m) ns ≡ 0
 none_more m n [] e h = refl
 none_more m n (k ∷ ns) e h = by (bytes_eq m k) refl (none_more m n ns e h.1)
   where
@@ -107,7 +112,8 @@ one_named m (n ∷ ns) h = by (bytes_eq m n) refl (one_named m ns h.1)
     by true t rest = omega (arith, none_more m n ns ((bytes_decides m n).0 t) h.0)
     by false t rest = omega (arith, rest)
 
-either : (p q r : List ℕ → Bool) (ns : Names) → ((n : List ℕ) → r n ≡ (p n || q n)) → how_many r ns ≤ how_many p ns + how_many q ns
+either : (p q r : List ℕ → Bool) (ns : Names) → ((n : List ℕ) → r n ≡ (p n || q n))
+    → how_many r ns ≤ how_many p ns + how_many q ns
 either p q r [] e = omega arith
 either p q r (n ∷ ns) e = by (p n) (q n) (r n) (e n) (either p q r ns e)
   where
@@ -127,9 +133,15 @@ named_by bs n = list_any (λ b. bytes_eq b.name n) bs
 few_named : (bs : List Buffer) (ns : Names) → Apart ns → how_many (named_by bs) ns ≤ length bs
 few_named [] ns h = omega (arith, none_of ns)
 few_named (b ∷ bs) ns h =
-    omega (arith, either (bytes_eq b.name) (named_by bs) (named_by (b ∷ bs)) ns (λ n. refl), one_named b.name ns h, few_named bs ns h)
+    omega (
+      arith,
+      either (bytes_eq b.name) (named_by bs) (named_by (b ∷ bs)) ns (λ n. refl),
+      one_named b.name ns h,
+      few_named bs ns h,
+    )
 
-any_at : (p : Buffer → Bool) (bs : List Buffer) (k : ℕ) (d : Buffer) → k < length bs → p (get_or bs k d) ≡ true → list_any p bs ≡ true
+any_at : (p : Buffer → Bool) (bs : List Buffer) (k : ℕ) (d : Buffer) → k < length bs → p (get_or bs k d) ≡ true
+    → list_any p bs ≡ true
 any_at p [] k d lt e = absurd (omega arith)
 any_at p (b ∷ bs) zero d lt e = ap (λ c. c || list_any p bs) e
 any_at p (b ∷ bs) (suc k) d lt e = by (p b) (any_at p bs k d (omega arith) e)
@@ -171,18 +183,22 @@ few_in t h = by (is_document t)
 few_paragraphs : (t : WideTree) → arity_of t ≤ 65535 → length (paragraphs t) ≤ 65535
 few_paragraphs t h = by (body_of t)
   where
-    there : (path : List ℕ) (o : Option WideTree) → subtree t path ≡ o → length (option_map_or paragraphs_in o []) ≤ 65535
+    there : (path : List ℕ) (o : Option WideTree) → subtree t path ≡ o
+        → length (option_map_or paragraphs_in o []) ≤ 65535
     there path None e = omega arith
     there path (Some s) e = few_in s (omega (arith, narrow_at t s path e, h))
 
-    by : (o : Option (List ℕ)) → length (option_map_or (λ path. option_map_or paragraphs_in (subtree t path) []) o []) ≤ 65535
+    by : (o : Option (List ℕ)) → length (option_map_or (λ path. option_map_or paragraphs_in (subtree t path) []) o [])
+        ≤ 65535
     by None = omega arith
     by (Some path) = there path (subtree t path) refl
 
 few_at : (path : List ℕ) (t : WideTree) → arity_of t ≤ 65535 → length (units_at path t) ≤ 65535
 few_at path t h = by (is_document t)
   where
-    by : (b : Bool) → length (if b then map (λ p. body_unit p.1 (path ++ p.0 ∷ [])) (enumerate_from 0 (children_of t)) else body_unit t path ∷ []) ≤ 65535
+    by : (b : Bool)
+        → length (if b then map (λ p. body_unit p.1 (path ++ p.0 ∷ [])) (enumerate_from 0 (children_of t))
+        else body_unit t path ∷ []) ≤ 65535
     by true =
         omega (
           arith,
@@ -196,11 +212,13 @@ few_at path t h = by (is_document t)
 few_body : (t : WideTree) → arity_of t ≤ 65535 → length (body_units t) ≤ 65535
 few_body t h = by (body_of t)
   where
-    there : (path : List ℕ) (o : Option WideTree) → subtree t path ≡ o → length (option_map_or (units_at path) o []) ≤ 65535
+    there : (path : List ℕ) (o : Option WideTree) → subtree t path ≡ o
+        → length (option_map_or (units_at path) o []) ≤ 65535
     there path None e = omega arith
     there path (Some s) e = few_at path s (omega (arith, narrow_at t s path e, h))
 
-    by : (o : Option (List ℕ)) → length (option_map_or (λ path. option_map_or (units_at path) (subtree t path) []) o []) ≤ 65535
+    by : (o : Option (List ℕ)) → length (option_map_or (λ path. option_map_or (units_at path) (subtree t path) []) o [])
+        ≤ 65535
     by None = omega arith
     by (Some path) = there path (subtree t path) refl
 
@@ -211,29 +229,45 @@ formed_at [] k h = omega arith
 formed_at (b ∷ bs) zero h = h.0.1.arity
 formed_at (b ∷ bs) (suc k) h = formed_at bs k h.1
 
-few_of_name : (bs : List Buffer) (n : List ℕ) → AreFormed bs → length (named_units bs n) ≤ 1 + 65535 * one_if (named_by bs n)
+few_of_name : (bs : List Buffer) (n : List ℕ) → AreFormed bs
+    → length (named_units bs n) ≤ 1 + 65535 * one_if (named_by bs n)
 few_of_name bs n h = by (bytes_eq n (codes "generic"))
   where
     loaded : (o : Option ℕ) → number_of bs n ≡ o
-        → length (option_map_or (λ k. loaded_units (k + 1) (tree_of bs k)) o (absent_unit n ∷ [])) ≤ 1 + 65535 * one_if (named_by bs n)
+        → length (option_map_or (λ k. loaded_units (k + 1) (tree_of bs k)) o (absent_unit n ∷ [])) ≤ 1 + 65535 * one_if
+        (named_by bs n)
     loaded None e = omega arith
     loaded (Some k) e =
-        rw (number_named bs n k e) (omega (arith, length-map (paragraphs (tree_of bs k)) (unit (Style (k + 1))), few_paragraphs (tree_of bs k) (formed_at bs k h)))
+        rw (number_named bs n k e)
+        (omega (
+          arith,
+          length-map (paragraphs (tree_of bs k)) (unit (Style (k + 1))),
+          few_paragraphs (tree_of bs k) (formed_at bs k h),
+        ))
 
-    by : (b : Bool) → length (if b then [] else option_map_or (λ k. loaded_units (k + 1) (tree_of bs k)) (number_of bs n) (absent_unit n ∷ [])) ≤ 1 + 65535 * one_if (named_by bs n)
+    by : (b : Bool)
+        → length (if b then [] else option_map_or (λ k. loaded_units (k + 1) (tree_of bs k)) (number_of bs n)
+        (absent_unit n ∷ [])) ≤ 1 + 65535 * one_if (named_by bs n)
     by true = omega arith
     by false = loaded (number_of bs n) refl
 
-few_of_names : (bs : List Buffer) (ns : Names) → AreFormed bs → length (flat_map (named_units bs) ns) ≤ length ns + 65535 * how_many (named_by bs) ns
+few_of_names : (bs : List Buffer) (ns : Names) → AreFormed bs
+    → length (flat_map (named_units bs) ns) ≤ length ns + 65535 * how_many (named_by bs) ns
 few_of_names bs [] h = omega arith
 few_of_names bs (n ∷ ns) h =
-    omega (arith, length-append (named_units bs n) (flat_map (named_units bs) ns), few_of_name bs n h, few_of_names bs ns h)
+    omega (
+      arith,
+      length-append (named_units bs n) (flat_map (named_units bs) ns),
+      few_of_name bs n h,
+      few_of_names bs ns h,
+    )
 
 few_texts : (ts : List WideTree) → length (filter_map text_of ts) ≤ length ts
 few_texts [] = omega arith
 few_texts (t ∷ ts) = by (text_of t) (few_texts ts)
   where
-    by : (o : Option (List ℕ)) → length (filter_map text_of ts) ≤ length ts → length (cons_option o (filter_map text_of ts)) ≤ length (t ∷ ts)
+    by : (o : Option (List ℕ)) → length (filter_map text_of ts) ≤ length ts
+        → length (cons_option o (filter_map text_of ts)) ≤ length (t ∷ ts)
     by None rest = omega (arith, rest)
     by (Some n) rest = omega (arith, rest)
 
@@ -248,15 +282,26 @@ few_names_in (node label ts) h = by (bytes_eq label (codes "tuple"))
 few_names : (t : WideTree) → arity_of t ≤ 65535 → length (style_names t) ≤ 65535
 few_names t h = by (section (codes "style") t) refl
   where
-    by : (o : Option WideTree) → section (codes "style") t ≡ o → length (each_once (option_map_or names_in o [])) ≤ 65535
+    by : (o : Option WideTree) → section (codes "style") t ≡ o
+        → length (each_once (option_map_or names_in o [])) ≤ 65535
     by None e = omega arith
     by (Some s) e =
-        omega (arith, fewer_once (names_in s), few_names_in s (omega (arith, (section_inside (codes "style") t s e).no_wider, h)))
+        omega (
+          arith,
+          fewer_once (names_in s),
+          few_names_in s (omega (arith, (section_inside (codes "style") t s e).no_wider, h)),
+        )
 
-few_styles : (t : WideTree) (bs : List Buffer) → arity_of t ≤ 65535 → AreFormed bs → length (style_units t bs) ≤ 65535 + 65535 * length bs
+few_styles : (t : WideTree) (bs : List Buffer) → arity_of t ≤ 65535 → AreFormed bs
+    → length (style_units t bs) ≤ 65535 + 65535 * length bs
 few_styles t bs h k =
     let names : Names = style_names t in
-    omega (arith, few_of_names bs (style_names t) k, few_names t h, few_named bs (style_names t) (each_apart (option_map_or names_in (section (codes "style") t) [])))
+    omega (
+      arith,
+      few_of_names bs (style_names t) k,
+      few_names t h,
+      few_named bs (style_names t) (each_apart (option_map_or names_in (section (codes "style") t) [])),
+    )
 
 -- ---- the initial environment
 
@@ -273,7 +318,8 @@ few_entry (node label (cons x (cons v (cons y ts)))) = omega arith
 
 few_of_entries : (ts : List WideTree) → length (flat_map entry_units ts) ≤ length ts
 few_of_entries [] = omega arith
-few_of_entries (t ∷ ts) = omega (arith, length-append (entry_units t) (flat_map entry_units ts), few_entry t, few_of_entries ts)
+few_of_entries (t ∷ ts) =
+    omega (arith, length-append (entry_units t) (flat_map entry_units ts), few_entry t, few_of_entries ts)
 
 few_entries : (t : WideTree) → arity_of t ≤ 65535 → length (entries t) ≤ 65535
 few_entries t h = by (section (codes "initial") t) refl
@@ -285,7 +331,9 @@ few_entries t h = by (section (codes "initial") t) refl
     by : (o : Option WideTree) → section (codes "initial") t ≡ o
         → length (option_map_or (λ c. if is_labelled (codes "collection") c then children_of c else []) o []) ≤ 65535
     by None e = omega arith
-    by (Some c) e = in_collection c (is_labelled (codes "collection") c) (omega (arith, (section_inside (codes "initial") t c e).no_wider, h))
+    by (Some c) e =
+        in_collection c (is_labelled (codes "collection") c)
+        (omega (arith, (section_inside (codes "initial") t c e).no_wider, h))
 
 -- ---- all of them
 

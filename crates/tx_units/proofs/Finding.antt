@@ -10,7 +10,8 @@ use Rattle.tx_doc.specs.Bodies.{is_labelled}
 use Rattle.tx_tree.specs.WideTree.{WideTree, children_of}
 use Rattle.tx_units.specs.Documents.{is_document, section}
 
-found_at : (p : WideTree → Bool) (ts : List WideTree) (i : ℕ) (t : WideTree) → position p ts ≡ Some i → t ≡ get_or ts i t → find p ts ≡ Some t
+found_at : (p : WideTree → Bool) (ts : List WideTree) (i : ℕ) (t : WideTree) → position p ts ≡ Some i
+    → t ≡ get_or ts i t → find p ts ≡ Some t
 found_at p ts i t e is =
     let h = position-Some p ts i t e in
     let at : position_or_len p ts ≡ i = grind (arith, common_steps) in
@@ -21,18 +22,24 @@ not_found p ts e =
     let past : length ts ≤ position_or_len p ts = grind (arith, common_steps) in
     find_at p ts ∙ slice_get_past ts (position_or_len p ts) past
 
-section_is : (label : List ℕ) (t : WideTree) (o : Option WideTree) → is_document t ≡ true → find (is_labelled label) (children_of t) ≡ o
+section_is : (label : List ℕ) (t : WideTree) (o : Option WideTree) → is_document t ≡ true
+    → find (is_labelled label) (children_of t) ≡ o
     → section label t ≡ option_and_then (λ part. slice_get (children_of part) 0) o
 section_is label t o d f =
-    ap (λ b. if b then option_and_then (λ part. slice_get (children_of part) 0) (find (is_labelled label) (children_of t)) else None) d
+    ap (λ b. if b then option_and_then (λ part. slice_get (children_of part) 0)
+    (find (is_labelled label) (children_of t)) else None) d
     ∙ ap (option_and_then (λ part. slice_get (children_of part) 0)) f
 
 -- the child is one of the list of the children
-pub section_at : (label : List ℕ) (t part : WideTree) (ts : List WideTree) (i : ℕ) → ts ≡ children_of t → is_document t ≡ true
-    → position (is_labelled label) (children_of t) ≡ Some i → part ≡ get_or ts i part → section label t ≡ slice_get (children_of part) 0
+pub section_at : (label : List ℕ) (t part : WideTree) (ts : List WideTree) (i : ℕ) → ts ≡ children_of t
+    → is_document t ≡ true
+    → position (is_labelled label) (children_of t) ≡ Some i → part ≡ get_or ts i part
+    → section label t ≡ slice_get (children_of part) 0
 section_at label t part ts i same d e is =
-    section_is label t (Some part) d (found_at (is_labelled label) (children_of t) i part e (is ∙ ap (λ us. get_or us i part) same))
+    section_is label t (Some part) d
+    (found_at (is_labelled label) (children_of t) i part e (is ∙ ap (λ us. get_or us i part) same))
 
-pub no_section : (label : List ℕ) (t : WideTree) → is_document t ≡ true → position (is_labelled label) (children_of t) ≡ None
+pub no_section : (label : List ℕ) (t : WideTree) → is_document t ≡ true
+    → position (is_labelled label) (children_of t) ≡ None
     → section label t ≡ None
 no_section label t d e = section_is label t None d (not_found (is_labelled label) (children_of t) e)

@@ -45,7 +45,8 @@ module _ {X : Type 0} (g : X → List DocUnit) where
 
   -- where it ends at a part
   pub nodes_stop : (xs ys : List X) (i : ℕ) (x : X) (from s n : ℕ) → xs ≡ ys → i < length xs → x ≡ get_or xs i x
-      → s ≤ from + nodes_made (flat_map g (take i xs)) → n ≤ s + nodes_made (g x) → n ≤ from + nodes_made (flat_map g ys)
+      → s ≤ from + nodes_made (flat_map g (take i xs)) → n ≤ s + nodes_made (g x)
+      → n ≤ from + nodes_made (flat_map g ys)
   nodes_stop xs ys i x from s n same lt is so more =
       subst (λ zs. n ≤ from + nodes_made (flat_map g zs)) same
       (nodes_first xs (i + 1) from n (nodes_next xs i x from s n lt is so more))

@@ -7,11 +7,13 @@ use Rattle.tx_tree.specs.WideTree.{WideTree}
 use Rattle.tx_units.specs.declared.kinds.Unit.{Unit as DocUnit}
 use Rattle.tx_units.specs.Units.{body_unit}
 
-enumerate_more : {X : Type 0} (k : ℕ) (xs : List X) (x : X) → enumerate_from k (xs ++ x ∷ []) ≡ enumerate_from k xs ++ (k + length xs, x) ∷ []
+enumerate_more : {X : Type 0} (k : ℕ) (xs : List X) (x : X)
+    → enumerate_from k (xs ++ x ∷ []) ≡ enumerate_from k xs ++ (k + length xs, x) ∷ []
 enumerate_more k [] x = let same : k ≡ k + 0 = omega arith in ap (λ n. (n, x) ∷ []) same
 enumerate_more {X} k (y ∷ xs) x =
     let same : (k + 1) + length xs ≡ k + suc (length xs) = omega arith in
-    ap (λ ps. (k, y) ∷ ps) (enumerate_more {X = X} (k + 1) xs x ∙ ap (λ n. enumerate_from (k + 1) xs ++ (n, x) ∷ []) same)
+    ap (λ ps. (k, y) ∷ ps) (enumerate_more {X = X} (k + 1) xs x
+    ∙ ap (λ n. enumerate_from (k + 1) xs ++ (n, x) ∷ []) same)
 
 module _ {X Y : Type 0} (f : X → Y) where
   -- one element more, of a list of which each gives one
@@ -19,10 +21,12 @@ module _ {X Y : Type 0} (f : X → Y) where
       → us ≡ start ++ map f (take i xs) → vs ≡ us ++ f x ∷ [] → vs ≡ start ++ map f (take (i + 1) xs)
   mapped_next xs i x start us vs lt is so more =
       more ∙ ap (λ ws. ws ++ f x ∷ []) so ∙ append_assoc start (map f (take i xs)) (f x ∷ [])
-      ∙ ap (λ ws. start ++ ws) (sym (map-append f (take i xs) (x ∷ [])) ∙ ap (map f) (ap (λ y. take i xs ++ y ∷ []) is ∙ sym (take_more xs i x lt)))
+      ∙ ap (λ ws. start ++ ws) (sym (map-append f (take i xs) (x ∷ []))
+      ∙ ap (map f) (ap (λ y. take i xs ++ y ∷ []) is ∙ sym (take_more xs i x lt)))
 
 -- the same with the paths of children
-pub numbered_next : (path : List ℕ) (xs : List WideTree) (i : ℕ) (x : WideTree) (start us vs : List DocUnit) → i < length xs → x ≡ get_or xs i x
+pub numbered_next : (path : List ℕ) (xs : List WideTree) (i : ℕ) (x : WideTree) (start us vs : List DocUnit)
+    → i < length xs → x ≡ get_or xs i x
     → us ≡ start ++ map (λ p. body_unit p.1 (path ++ p.0 ∷ [])) (enumerate_from 0 (take i xs))
     → vs ≡ us ++ body_unit x (path ++ i ∷ []) ∷ []
     → vs ≡ start ++ map (λ p. body_unit p.1 (path ++ p.0 ∷ [])) (enumerate_from 0 (take (i + 1) xs))

@@ -19,7 +19,8 @@ abbrev is_other : List ℕ → List ℕ → Bool
 is_other m n = not (bytes_eq n m)
 
 -- where n is m, it goes with it
-goes : (m n : List ℕ) (ks : Names) → bytes_eq n m ≡ true → filter (is_other m) (put ks (Some n)) ≡ filter (is_other m) ks
+goes : (m n : List ℕ) (ks : Names) → bytes_eq n m ≡ true
+    → filter (is_other m) (put ks (Some n)) ≡ filter (is_other m) ks
 goes m n ks e = by (list_any (bytes_eq n) ks)
   where
     by : (b : Bool) → filter (is_other m) (if b then ks else ks ++ n ∷ []) ≡ filter (is_other m) ks
@@ -30,7 +31,8 @@ goes m n ks e = by (list_any (bytes_eq n) ks)
         ∙ append-nil (filter (is_other m) ks)
 
 -- where n is another name, it stays
-stays : (m n : List ℕ) (ks : Names) → bytes_eq n m ≡ false → filter (is_other m) (put ks (Some n)) ≡ put (filter (is_other m) ks) (Some n)
+stays : (m n : List ℕ) (ks : Names) → bytes_eq n m ≡ false
+    → filter (is_other m) (put ks (Some n)) ≡ put (filter (is_other m) ks) (Some n)
 stays m n ks e = by (list_any (bytes_eq n) ks) ∙ ap (λ b. if b then kept else kept ++ n ∷ []) (sym same_any)
   where
     kept : Names
@@ -42,7 +44,9 @@ stays m n ks e = by (list_any (bytes_eq n) ks) ∙ ap (λ b. if b then kept else
     same_any : list_any (bytes_eq n) (filter (is_other m) ks) ≡ list_any (bytes_eq n) ks
     same_any = any-filter_same (bytes_eq n) (is_other m) true is_kept ks
 
-    by : (b : Bool) → filter (is_other m) (if b then ks else ks ++ n ∷ []) ≡ (if b then filter (is_other m) ks else filter (is_other m) ks ++ n ∷ [])
+    by : (b : Bool)
+        → filter (is_other m) (if b then ks else ks ++ n ∷ [])
+        ≡ (if b then filter (is_other m) ks else filter (is_other m) ks ++ n ∷ [])
     by true = refl
     by false = filter-append (is_other m) ks (n ∷ []) ∙ ap (λ b. filter (is_other m) ks ++ cond (not b) (n ∷ []) []) e
 
@@ -55,11 +59,16 @@ once_more (m ∷ ms) n = ap (λ ks. m ∷ filter (is_other m) ks) (once_more ms 
     rest = filter (is_other m) (each_once ms)
 
     by : (b : Bool) → bytes_eq n m ≡ b
-        → m ∷ filter (is_other m) (put (each_once ms) (Some n)) ≡ (if b || list_any (bytes_eq n) (filter (is_other m) (each_once ms)) then m ∷ filter (is_other m) (each_once ms) else m ∷ (filter (is_other m) (each_once ms) ++ n ∷ []))
+        → m ∷ filter (is_other m) (put (each_once ms) (Some n))
+        ≡ (if b || list_any (bytes_eq n) (filter (is_other m) (each_once ms)) then m ∷ filter (is_other m)
+        (each_once ms) else m ∷ (filter (is_other m) (each_once ms) ++ n ∷ []))
     by true e = ap (λ ks. m ∷ ks) (goes m n (each_once ms) e)
-    by false e = ap (λ ks. m ∷ ks) (stays m n (each_once ms) e) ∙ spread (list_any (bytes_eq n) (filter (is_other m) (each_once ms))) (filter (is_other m) (each_once ms))
+    by false e =
+        ap (λ ks. m ∷ ks) (stays m n (each_once ms) e)
+        ∙ spread (list_any (bytes_eq n) (filter (is_other m) (each_once ms))) (filter (is_other m) (each_once ms))
       where
-        spread : (b : Bool) (ks : Names) → m ∷ (if b then ks else ks ++ n ∷ []) ≡ (if b then m ∷ ks else m ∷ (ks ++ n ∷ []))
+        spread : (b : Bool) (ks : Names)
+            → m ∷ (if b then ks else ks ++ n ∷ []) ≡ (if b then m ∷ ks else m ∷ (ks ++ n ∷ []))
         spread true ks = refl
         spread false ks = refl
 
@@ -76,6 +85,8 @@ pub name_next : (ts : List WideTree) (i : ℕ) (t : WideTree) (old new : Names) 
 name_next ts i t old new lt is so more =
     more ∙ ap (λ ks. put ks (text_of t)) so ∙ by (text_of t) ∙ ap each_once (sym (name_more ts i t lt is))
   where
-    by : (o : Option (List ℕ)) → put (each_once (filter_map text_of (take i ts))) o ≡ each_once (filter_map text_of (take i ts) ++ cons_option o [])
+    by : (o : Option (List ℕ))
+        → put (each_once (filter_map text_of (take i ts))) o ≡ each_once
+        (filter_map text_of (take i ts) ++ cons_option o [])
     by None = ap each_once (sym (append-nil (filter_map text_of (take i ts))))
     by (Some n) = sym (once_more (filter_map text_of (take i ts)) n)

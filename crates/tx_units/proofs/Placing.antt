@@ -13,7 +13,8 @@ use Rattle.tx_units.specs.Places.{StandsIn, AreApart, NoneBegins}
 use Rattle.tx_units.specs.Units.{body_unit, units_at, body_units}
 
 -- a child of what stands at a path stands behind it
-below : (t s c : WideTree) (path : List ℕ) (i : ℕ) → subtree t path ≡ Some s → slice_get (children_of s) i ≡ Some c → subtree t (path ++ i ∷ []) ≡ Some c
+below : (t s c : WideTree) (path : List ℕ) (i : ℕ) → subtree t path ≡ Some s → slice_get (children_of s) i ≡ Some c
+    → subtree t (path ++ i ∷ []) ≡ Some c
 below t s c [] i e h = let same : t ≡ s = cc in rw same (ap (option_and_then (λ u. Some u)) h)
 below t s c (k ∷ path) i e h = by (slice_get (children_of t) k) e (λ u f. below u s c path i f h)
   where
@@ -39,7 +40,8 @@ module _ (path : List ℕ) where
           at_root = refl;
           is_body = refl;
         },
-        all_stand t (k + 1) ts (λ j d e. let on : k + suc j ≡ (k + 1) + j = omega arith in subst (λ n. subtree t (path ++ n ∷ []) ≡ Some d) on (h (suc j) d e)),
+        all_stand t (k + 1) ts (λ j d e. let on : k + suc j ≡ (k + 1) + j = omega arith in
+            subst (λ n. subtree t (path ++ n ∷ []) ≡ Some d) on (h (suc j) d e)),
       )
 
   -- paths of one length that end otherwise
@@ -50,7 +52,8 @@ module _ (path : List ℕ) where
       at_end [] k = refl
       at_end (x ∷ ps) k = at_end ps k
 
-      apart : (p more : List ℕ) (m n : ℕ) → (m ≡ n → ⊥) → Some (path ++ m ∷ []) ≡ Some p → Some (path ++ n ∷ []) ≡ Some (p ++ more) → ⊥
+      apart : (p more : List ℕ) (m n : ℕ) → (m ≡ n → ⊥) → Some (path ++ m ∷ []) ≡ Some p
+          → Some (path ++ n ∷ []) ≡ Some (p ++ more) → ⊥
       apart p [] m n ne e f =
           let one : path ++ m ∷ [] ≡ p = cc in
           let other : path ++ n ∷ [] ≡ p ++ [] = cc in
@@ -59,43 +62,59 @@ module _ (path : List ℕ) where
       apart p (x ∷ more) m n ne e f =
           let one : path ++ m ∷ [] ≡ p = cc in
           let other : path ++ n ∷ [] ≡ p ++ x ∷ more = cc in
-          absurd (omega (arith, length-append path (m ∷ []), length-append path (n ∷ []), length-append p (x ∷ more), ap length one, ap length other))
+          absurd (omega (
+            arith,
+            length-append path (m ∷ []),
+            length-append path (n ∷ []),
+            length-append p (x ∷ more),
+            ap length one,
+            ap length other,
+          ))
 
   later_apart : (n k : ℕ) (ts : List WideTree) → n < k
-      → AllByRecursion (λ v. AreApart (Some (path ++ n ∷ [])) v.path) (map (λ p. body_unit p.1 (path ++ p.0 ∷ [])) (enumerate_from k ts))
+      → AllByRecursion (λ v. AreApart (Some (path ++ n ∷ [])) v.path)
+      (map (λ p. body_unit p.1 (path ++ p.0 ∷ [])) (enumerate_from k ts))
   later_apart n k [] lt = tt
-  later_apart n k (c ∷ ts) lt = (ends_apart n k (λ e. absurd (omega (arith, e, lt))), later_apart n (k + 1) ts (omega arith))
+  later_apart n k (c ∷ ts) lt =
+      (ends_apart n k (λ e. absurd (omega (arith, e, lt))), later_apart n (k + 1) ts (omega arith))
 
-  all_apart : (k : ℕ) (ts : List WideTree) → NoneBegins (map (λ p. body_unit p.1 (path ++ p.0 ∷ [])) (enumerate_from k ts))
+  all_apart : (k : ℕ) (ts : List WideTree)
+      → NoneBegins (map (λ p. body_unit p.1 (path ++ p.0 ∷ [])) (enumerate_from k ts))
   all_apart k [] = tt
   all_apart k (c ∷ ts) = (later_apart k (k + 1) ts (omega arith), all_apart (k + 1) ts)
 
 -- ---- any body
 
-stand_at : (t body : WideTree) (path : List ℕ) → subtree t path ≡ Some body → AllByRecursion (StandsIn t) (units_at path body)
+stand_at : (t body : WideTree) (path : List ℕ) → subtree t path ≡ Some body
+    → AllByRecursion (StandsIn t) (units_at path body)
 stand_at t body path e = by (is_document body)
   where
     by : (b : Bool) → AllByRecursion (StandsIn t)
-        (if b then map (λ p. body_unit p.1 (path ++ p.0 ∷ [])) (enumerate_from 0 (children_of body)) else body_unit body path ∷ [])
-    by true = all_stand path t 0 (children_of body) (λ j c h. let on : 0 + j ≡ j = omega arith in rw on (below t body c path j e h))
+        (if b then map (λ p. body_unit p.1 (path ++ p.0 ∷ [])) (enumerate_from 0 (children_of body)) else body_unit body
+        path ∷ [])
+    by true = all_stand path t 0 (children_of body) (λ j c h. let on : 0 + j ≡ j = omega arith in
+        rw on (below t body c path j e h))
     by false = (record { path = path; has_path = refl; leads = e; at_root = refl; is_body = refl }, tt)
 
 apart_at : (body : WideTree) (path : List ℕ) → NoneBegins (units_at path body)
 apart_at body path = by (is_document body)
   where
     by : (b : Bool) → NoneBegins
-        (if b then map (λ p. body_unit p.1 (path ++ p.0 ∷ [])) (enumerate_from 0 (children_of body)) else body_unit body path ∷ [])
+        (if b then map (λ p. body_unit p.1 (path ++ p.0 ∷ [])) (enumerate_from 0 (children_of body)) else body_unit body
+        path ∷ [])
     by true = all_apart path 0 (children_of body)
     by false = (tt, tt)
 
 pub body_stands : (t : WideTree) → AllByRecursion (StandsIn t) (body_units t)
 body_stands t = by (body_of t)
   where
-    there : (path : List ℕ) (o : Option WideTree) → subtree t path ≡ o → AllByRecursion (StandsIn t) (option_map_or (units_at path) o [])
+    there : (path : List ℕ) (o : Option WideTree) → subtree t path ≡ o
+        → AllByRecursion (StandsIn t) (option_map_or (units_at path) o [])
     there path None e = tt
     there path (Some s) e = stand_at t s path e
 
-    by : (o : Option (List ℕ)) → AllByRecursion (StandsIn t) (option_map_or (λ path. option_map_or (units_at path) (subtree t path) []) o [])
+    by : (o : Option (List ℕ))
+        → AllByRecursion (StandsIn t) (option_map_or (λ path. option_map_or (units_at path) (subtree t path) []) o [])
     by None = tt
     by (Some path) = there path (subtree t path) refl
 
@@ -106,6 +125,7 @@ body_apart t = by (body_of t)
     there path None = tt
     there path (Some s) = apart_at s path
 
-    by : (o : Option (List ℕ)) → NoneBegins (option_map_or (λ path. option_map_or (units_at path) (subtree t path) []) o [])
+    by : (o : Option (List ℕ))
+        → NoneBegins (option_map_or (λ path. option_map_or (units_at path) (subtree t path) []) o [])
     by None = tt
     by (Some path) = there path (subtree t path)

@@ -70,8 +70,10 @@ all_spelled : (ts : List WideTree) → list_all is_sound ts ≡ true → AreSpel
 all_spelled [] e = tt
 all_spelled (t ∷ ts) e =
     let p = and_parts (is_sound t) (list_all is_sound ts) e in
-    let q = and_parts (is_formed t) (is_within t) p.0 in
-    (record { tree = t; spelled = (text_alone t (formed_by t q.0)).spelled; within = within_by t q.1 }, all_spelled ts p.1)
+    let q = and_parts (is_formed t) (is_within t) p.0 in (
+      record { tree = t; spelled = (text_alone t (formed_by t q.0)).spelled; within = within_by t q.1 },
+      all_spelled ts p.1,
+    )
 
 same_unit : (t : WideTree) (u : DocUnit) → is_sound t ≡ true → IsOfText (scheme_text t) u → u ≡ unit Base t
 same_unit t u e h =
@@ -117,27 +119,32 @@ base_same us h = all_same base_trees us trees_sound h
 
 -- ---- the loop over texts
 
-more_of_texts : (texts : List (List ℕ)) (us : List DocUnit) (text : List ℕ) (u : DocUnit) → AreOfTexts texts us → IsOfText text u
+more_of_texts : (texts : List (List ℕ)) (us : List DocUnit) (text : List ℕ) (u : DocUnit) → AreOfTexts texts us
+    → IsOfText text u
     → AreOfTexts (texts ++ text ∷ []) (us ++ u ∷ [])
 more_of_texts [] [] text u h k = (k, tt)
 more_of_texts [] (v ∷ us) text u h k = absurd h
 more_of_texts (other ∷ texts) [] text u h k = absurd h
 more_of_texts (other ∷ texts) (v ∷ us) text u h k = (h.0, more_of_texts texts us text u h.1 k)
 
-pub text_at : {X : Type 0} (f : X → List ℕ) (xs : List X) (i : ℕ) (d : X) → i < length xs → AreSpelled (map f xs) → IsSpelled (f (get_or xs i d))
+pub text_at : {X : Type 0} (f : X → List ℕ) (xs : List X) (i : ℕ) (d : X) → i < length xs → AreSpelled (map f xs)
+    → IsSpelled (f (get_or xs i d))
 text_at f [] i d lt h = absurd (omega arith)
 text_at f (x ∷ xs) zero d lt h = h.0
 text_at {X} f (x ∷ xs) (suc i) d lt h = text_at {X = X} f xs i d (omega arith) h.1
 
-pub texts_next : {X : Type 0} (f : X → List ℕ) (xs : List X) (i : ℕ) (d : X) (us vs : List DocUnit) (u : DocUnit) → i < length xs
-    → AreOfTexts (map f (take i xs)) us → IsOfText (f (get_or xs i d)) u → vs ≡ us ++ u ∷ [] → AreOfTexts (map f (take (i + 1) xs)) vs
+pub texts_next : {X : Type 0} (f : X → List ℕ) (xs : List X) (i : ℕ) (d : X) (us vs : List DocUnit) (u : DocUnit)
+    → i < length xs
+    → AreOfTexts (map f (take i xs)) us → IsOfText (f (get_or xs i d)) u → vs ≡ us ++ u ∷ []
+    → AreOfTexts (map f (take (i + 1) xs)) vs
 texts_next f xs i d us vs u lt h k more =
     let texts : map f (take (i + 1) xs) ≡ map f (take i xs) ++ f (get_or xs i d) ∷ []
     = ap (map f) (take_more xs i d lt) ∙ map-append f (take i xs) (get_or xs i d ∷ []) in
     rw (texts, more) (more_of_texts (map f (take i xs)) us (f (get_or xs i d)) u h k)
 
 -- the unit of a text among texts
-unit_at : {X : Type 0} (f : X → List ℕ) (xs : List X) (i : ℕ) (d : X) (us : List DocUnit) → i < length xs → AreOfTexts (map f xs) us
+unit_at : {X : Type 0} (f : X → List ℕ) (xs : List X) (i : ℕ) (d : X) (us : List DocUnit) → i < length xs
+    → AreOfTexts (map f xs) us
     → (u : DocUnit) × IsOfText (f (get_or xs i d)) u × (take (suc i) us ≡ take i us ++ u ∷ [])
 unit_at f [] i d us lt h = absurd (omega arith)
 unit_at f (x ∷ xs) i d [] lt h = absurd h
@@ -147,14 +154,17 @@ unit_at {X} f (x ∷ xs) (suc i) d (u ∷ us) lt h =
     (r.0, r.1, ap (λ vs. u ∷ vs) r.2)
 
 -- the nodes of one unit more
-pub made_next : {X : Type 0} (f : X → List ℕ) (xs : List X) (i : ℕ) (d : X) (us : List DocUnit) (from s n : ℕ) → i < length xs
-    → AreOfTexts (map f xs) us → s ≤ from + nodes_made (take i us) → ((t : WideTree) → Spells (f (get_or xs i d)) t → n ≤ s + nodes_of t)
+pub made_next : {X : Type 0} (f : X → List ℕ) (xs : List X) (i : ℕ) (d : X) (us : List DocUnit) (from s n : ℕ)
+    → i < length xs
+    → AreOfTexts (map f xs) us → s ≤ from + nodes_made (take i us)
+    → ((t : WideTree) → Spells (f (get_or xs i d)) t → n ≤ s + nodes_of t)
     → n ≤ from + nodes_made (take (i + 1) us)
 made_next {X} f xs i d us from s n lt h so step =
     let found = unit_at {X = X} f xs i d us lt h in
     let u : DocUnit = found.0 in
     let one : nodes_made (unit Base u.tagged.tree ∷ []) ≡ nodes_of u.tagged.tree = omega arith in
-    let last : nodes_made (u ∷ []) ≡ nodes_made (unit Base u.tagged.tree ∷ []) = ap (λ v. nodes_made (v ∷ [])) found.1.is in
+    let last : nodes_made (u ∷ []) ≡ nodes_made (unit Base u.tagged.tree ∷ []) =
+    ap (λ v. nodes_made (v ∷ [])) found.1.is in
     let index : i + 1 ≡ suc i = omega arith in
     let sum : nodes_made (take (i + 1) us) ≡ nodes_made (take i us) + nodes_made (u ∷ [])
     = ap (λ k. nodes_made (take k us)) index ∙ ap nodes_made found.2 ∙ nodes_made-append (take i us) (u ∷ []) in
@@ -167,7 +177,8 @@ made_all i us from n so =
     = ap nodes_made (sym (take-append-drop i us)) ∙ nodes_made-append (take i us) (drop i us) in
     omega (arith, so, all)
 
-pub when_ok : (r : Result (Vec DocUnit Global) Memory) → ((us : List DocUnit) → AreOfTexts (map scheme_text base_trees) us → us ≡ base_units)
+pub when_ok : (r : Result (Vec DocUnit Global) Memory)
+    → ((us : List DocUnit) → AreOfTexts (map scheme_text base_trees) us → us ≡ base_units)
     → IfOk r (λ v. AreOfTexts (map scheme_text base_trees) v.items) → IfOk r (λ v. v.items ≡ base_units)
 when_ok (Ok v) same h = same v.items h
 when_ok (Err f) same h = tt

@@ -55,7 +55,8 @@ item_of (cons t ts) zero s lt e = rw (← e) (first s ts)
 item_of (cons t ts) (suc i) s lt e = later s t ts (item_of ts i s (omega arith) e)
 
 -- a child of a node within the limits is within them
-pub within_of : (label : List ℕ) (ts : Forest) (s : WideTree) → IsOneOf s ts → IsWithinLimits (node label ts) → IsWithinLimits s
+pub within_of : (label : List ℕ) (ts : Forest) (s : WideTree) → IsOneOf s ts → IsWithinLimits (node label ts)
+    → IsWithinLimits s
 within_of label ts s h w = record {
   text = omega (arith, h.no_longer, w.text);
   arity = omega (arith, h.no_wider, w.arity, le-max_right (count ts) (widest ts));
@@ -74,7 +75,8 @@ found : (p : WideTree → Bool) (ts : Forest) (s : WideTree) → find p (trees t
 found p nil s e = absurd cc
 found p (cons t ts) s e = by (p t) e (λ f. found p ts s f)
   where
-    by : (b : Bool) → cond b (Some t) (find p (trees ts)) ≡ Some s → (find p (trees ts) ≡ Some s → IsOneOf s ts) → IsOneOf s (cons t ts)
+    by : (b : Bool) → cond b (Some t) (find p (trees ts)) ≡ Some s → (find p (trees ts) ≡ Some s → IsOneOf s ts)
+        → IsOneOf s (cons t ts)
     by true h others = let same : t ≡ s = cc in rw same (first s ts)
     by false h others = later s t ts (others h)
 
@@ -82,7 +84,8 @@ pub child_inside : (p s : WideTree) (i : ℕ) → slice_get (children_of p) i �
 child_inside (leaf text) s i e = absurd cc
 child_inside (node label ts) s i e = below label ts s (got ts i s e)
 
-pub item_inside : (p s : WideTree) (i : ℕ) → i < length (children_of p) → s ≡ get_or (children_of p) i s → IsInside 1 s p
+pub item_inside : (p s : WideTree) (i : ℕ) → i < length (children_of p) → s ≡ get_or (children_of p) i s
+    → IsInside 1 s p
 item_inside (leaf text) s i lt e = absurd (omega arith)
 item_inside (node label ts) s i lt e = below label ts s (item_of ts i s lt e)
 
@@ -107,7 +110,8 @@ section_inside label t s e = by (is_document t) refl e
     in_part (Some part) f h = deeper 1 1 s part t (child_inside part s 0 h) (found_inside (is_labelled label) t part f)
 
     by : (b : Bool) → is_document t ≡ b
-        → (if b then option_and_then (λ part. slice_get (children_of part) 0) (find (is_labelled label) (children_of t)) else None) ≡ Some s
+        → (if b then option_and_then (λ part. slice_get (children_of part) 0) (find (is_labelled label) (children_of t))
+        else None) ≡ Some s
         → IsInside 2 s t
     by true d h = in_part (find (is_labelled label) (children_of t)) refl h
     by false d h = absurd cc
@@ -119,18 +123,21 @@ entry_inside t s i lt is = in_section (section (codes "initial") t) refl lt is
     of_section : WideTree → List WideTree
     of_section c = if is_labelled (codes "collection") c then children_of c else []
 
-    in_collection : (c : WideTree) (b : Bool) → section (codes "initial") t ≡ Some c → i < length (if b then children_of c else [])
+    in_collection : (c : WideTree) (b : Bool) → section (codes "initial") t ≡ Some c
+        → i < length (if b then children_of c else [])
         → s ≡ get_or (if b then children_of c else []) i s → IsInside 3 s t
     in_collection c true f l e = deeper 1 2 s c t (item_inside c s i l e) (section_inside (codes "initial") t c f)
     in_collection c false f l e = absurd (omega arith)
 
     in_section : (o : Option WideTree) → section (codes "initial") t ≡ o
         → i < length (option_map_or (λ c. if is_labelled (codes "collection") c then children_of c else []) o [])
-        → s ≡ get_or (option_map_or (λ c. if is_labelled (codes "collection") c then children_of c else []) o []) i s → IsInside 3 s t
+        → s ≡ get_or (option_map_or (λ c. if is_labelled (codes "collection") c then children_of c else []) o []) i s
+        → IsInside 3 s t
     in_section None f l e = absurd (omega arith)
     in_section (Some c) f l e = in_collection c (is_labelled (codes "collection") c) f l e
 
-pub entry_small : (t s : WideTree) (ts : List WideTree) (i : ℕ) → IsWithinLimits t → ts ≡ entries t → i < length ts → s ≡ get_or ts i s
+pub entry_small : (t s : WideTree) (ts : List WideTree) (i : ℕ) → IsWithinLimits t → ts ≡ entries t → i < length ts
+    → s ≡ get_or ts i s
     → (size_of s < 8000000) × (depth_of s < 400)
 entry_small t s ts i w same lt is =
     let h = entry_inside t s i (subst (λ us. i < length us) same lt) (is ∙ ap (λ us. get_or us i s) same) in

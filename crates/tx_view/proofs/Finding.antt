@@ -65,23 +65,28 @@ last_at xs i x lt is =
 
 -- ---- lines
 
-pub first_marks : (xs ys : List Item) → first_of (marks_of (xs ++ ys)) ≡ or_else (first_of (marks_of xs)) (first_of (marks_of ys))
+pub first_marks : (xs ys : List Item) → first_of (marks_of (xs ++ ys)) ≡ or_else (first_of (marks_of xs))
+    (first_of (marks_of ys))
 first_marks xs ys = ap first_of (filter_map-append mark_of xs ys) ∙ first_append (marks_of xs) (marks_of ys)
 
-pub last_marks : (xs ys : List Item) → last_of (marks_of (xs ++ ys)) ≡ or_else (last_of (marks_of ys)) (last_of (marks_of xs))
+pub last_marks : (xs ys : List Item)
+    → last_of (marks_of (xs ++ ys)) ≡ or_else (last_of (marks_of ys)) (last_of (marks_of xs))
 last_marks xs ys = ap last_of (filter_map-append mark_of xs ys) ∙ last_two (marks_of xs) (marks_of ys)
 
 pub first_line : (xs : List Line) (i : ℕ) (x : Line) → i < length xs → x ≡ get_or xs i x
-    → first_of (marks_of (items_on (drop i xs))) ≡ or_else (first_of (marks_of x.items)) (first_of (marks_of (items_on (drop (i + 1) xs))))
+    → first_of (marks_of (items_on (drop i xs))) ≡ or_else (first_of (marks_of x.items))
+    (first_of (marks_of (items_on (drop (i + 1) xs))))
 first_line xs i x lt is =
     ap (λ ys. first_of (marks_of (items_on ys))) (drop_more xs i x lt ∙ ap (λ y. y ∷ drop (i + 1) xs) (sym is))
     ∙ first_marks x.items (items_on (drop (i + 1) xs))
 
 pub last_line : (xs : List Line) (i : ℕ) (x : Line) → i < length xs → x ≡ get_or xs i x
-    → last_of (marks_of (items_on (take (i + 1) xs))) ≡ or_else (last_of (marks_of x.items)) (last_of (marks_of (items_on (take i xs))))
+    → last_of (marks_of (items_on (take (i + 1) xs))) ≡ or_else (last_of (marks_of x.items))
+    (last_of (marks_of (items_on (take i xs))))
 last_line xs i x lt is =
     ap (λ ys. last_of (marks_of (items_on ys))) (take_more xs i x lt ∙ ap (λ y. take i xs ++ y ∷ []) (sym is))
-    ∙ ap (λ ys. last_of (marks_of ys)) (flat_map-append (λ line. line.items) (take i xs) (x ∷ []) ∙ ap (λ ys. items_on (take i xs) ++ ys) (append-nil x.items))
+    ∙ ap (λ ys. last_of (marks_of ys)) (flat_map-append (λ line. line.items) (take i xs) (x ∷ [])
+    ∙ ap (λ ys. items_on (take i xs) ++ ys) (append-nil x.items))
     ∙ last_marks (items_on (take i xs)) x.items
 
 -- ---- what the walks find
@@ -92,24 +97,32 @@ short_sum item d o h e f =
     h (record { origin = o; start = d.cluster.start; stop = d.cluster.start + d.cluster.len })
     (ap (λ q. option_and_then (λ d. mark_by d.cluster d.look.at) q) e ∙ ap (λ q. mark_by d.cluster q) f)
 
-pub last_step : (xs : List Item) (e : ℕ) (x : Item) (o : Option Mark) → 0 < e → e ≤ length xs → x ≡ get_or xs (e - 1) x → o ≡ mark_of x
-    → last_of (marks_of xs) ≡ last_of (marks_of (take e xs)) → last_of (marks_of xs) ≡ or_else o (last_of (marks_of (take (e - 1) xs)))
+pub last_step : (xs : List Item) (e : ℕ) (x : Item) (o : Option Mark) → 0 < e → e ≤ length xs → x ≡ get_or xs (e - 1) x
+    → o ≡ mark_of x
+    → last_of (marks_of xs) ≡ last_of (marks_of (take e xs))
+    → last_of (marks_of xs) ≡ or_else o (last_of (marks_of (take (e - 1) xs)))
 last_step xs e x o pos le is found so =
     let same : e ≡ e - 1 + 1 = omega arith in
     so ∙ ap (λ k. last_of (marks_of (take k xs))) same ∙ last_at xs (e - 1) x (omega arith) is
     ∙ ap (λ p. or_else p (last_of (marks_of (take (e - 1) xs)))) (sym found)
 
-pub last_line_step : (xs : List Line) (e : ℕ) (x : Line) (ys : List Item) (o : Option Mark) → 0 < e → e ≤ length xs → x ≡ get_or xs (e - 1) x
-    → ys ≡ x.items → o ≡ last_of (marks_of ys) → last_of (marks_of (items_on xs)) ≡ last_of (marks_of (items_on (take e xs)))
+pub last_line_step : (xs : List Line) (e : ℕ) (x : Line) (ys : List Item) (o : Option Mark) → 0 < e → e ≤ length xs
+    → x ≡ get_or xs (e - 1) x
+    → ys ≡ x.items → o ≡ last_of (marks_of ys)
+    → last_of (marks_of (items_on xs)) ≡ last_of (marks_of (items_on (take e xs)))
     → last_of (marks_of (items_on xs)) ≡ or_else o (last_of (marks_of (items_on (take (e - 1) xs))))
 last_line_step xs e x ys o pos le is are found so =
     let same : e ≡ e - 1 + 1 = omega arith in
     so ∙ ap (λ k. last_of (marks_of (items_on (take k xs)))) same ∙ last_line xs (e - 1) x (omega arith) is
-    ∙ ap (λ p. or_else p (last_of (marks_of (items_on (take (e - 1) xs))))) (sym (found ∙ ap (λ zs. last_of (marks_of zs)) are))
+    ∙ ap (λ p. or_else p (last_of (marks_of (items_on (take (e - 1) xs)))))
+    (sym (found ∙ ap (λ zs. last_of (marks_of zs)) are))
 
-pub first_line_step : (xs : List Line) (i : ℕ) (x : Line) (ys : List Item) (o : Option Mark) → i < length xs → x ≡ get_or xs i x
-    → ys ≡ x.items → o ≡ first_of (marks_of ys) → first_of (marks_of (items_on xs)) ≡ first_of (marks_of (items_on (drop i xs)))
+pub first_line_step : (xs : List Line) (i : ℕ) (x : Line) (ys : List Item) (o : Option Mark) → i < length xs
+    → x ≡ get_or xs i x
+    → ys ≡ x.items → o ≡ first_of (marks_of ys)
+    → first_of (marks_of (items_on xs)) ≡ first_of (marks_of (items_on (drop i xs)))
     → first_of (marks_of (items_on xs)) ≡ or_else o (first_of (marks_of (items_on (drop (i + 1) xs))))
 first_line_step xs i x ys o lt is are found so =
     so ∙ first_line xs i x lt is
-    ∙ ap (λ p. or_else p (first_of (marks_of (items_on (drop (i + 1) xs))))) (sym (found ∙ ap (λ zs. first_of (marks_of zs)) are))
+    ∙ ap (λ p. or_else p (first_of (marks_of (items_on (drop (i + 1) xs)))))
+    (sym (found ∙ ap (λ zs. first_of (marks_of zs)) are))

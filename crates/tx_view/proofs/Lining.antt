@@ -15,33 +15,44 @@ use Rattle.tx_items.specs.declared.attributes.Attrs.{Attrs}
 use Rattle.tx_items.specs.declared.drawing.ErrorAt.{ErrorAt}
 use Rattle.tx_items.specs.Shows.{show, shown_paragraphs}
 
-pub lines_more : {width : ℕ} {ps : List Paragraph} {ls : List Line} (p : Paragraph) (own : List Line) → AreLines width ps ls
+pub lines_more : {width : ℕ} {ps : List Paragraph} {ls : List Line} (p : Paragraph) (own : List Line)
+    → AreLines width ps ls
     → IsShape p width own → AreLines width (ps ++ p ∷ []) (ls ++ own)
-lines_more {width} p own no_lines s = subst (λ (ls : List Line). AreLines width (p ∷ []) ls) (append-nil own) (lines_then p [] own [] s no_lines)
+lines_more {width} p own no_lines s =
+    subst (λ (ls : List Line). AreLines width (p ∷ []) ls) (append-nil own) (lines_then p [] own [] s no_lines)
 lines_more {width} p own (lines_then q qs first others t rest) s =
-    subst (λ (ls : List Line). AreLines width (q ∷ (qs ++ p ∷ [])) ls) (sym (append_assoc first others own)) (lines_then q (qs ++ p ∷ []) first (others ++ own) t (lines_more p own rest s))
+    subst (λ (ls : List Line). AreLines width (q ∷ (qs ++ p ∷ [])) ls) (sym (append_assoc first others own))
+    (lines_then q (qs ++ p ∷ []) first (others ++ own) t (lines_more p own rest s))
 
-pub lines_next : (width : ℕ) (ps : List Paragraph) (i : ℕ) (p : Paragraph) (ls own new : List Line) → i < length ps → p ≡ get_or ps i p
+pub lines_next : (width : ℕ) (ps : List Paragraph) (i : ℕ) (p : Paragraph) (ls own new : List Line) → i < length ps
+    → p ≡ get_or ps i p
     → AreLines width (take i ps) ls → IsShape p width own → new ≡ ls ++ own → AreLines width (take (i + 1) ps) new
 lines_next width ps i p ls own new lt is so shape e =
     subst (λ (ns : List Line). AreLines width (take (i + 1) ps) ns) (sym e)
-    (subst (λ (qs : List Paragraph). AreLines width qs (ls ++ own)) (sym (take_more ps i p lt ∙ ap (λ q. take i ps ++ q ∷ []) (sym is))) (lines_more p own so shape))
+    (subst (λ (qs : List Paragraph). AreLines width qs (ls ++ own))
+    (sym (take_more ps i p lt ∙ ap (λ q. take i ps ++ q ∷ []) (sym is))) (lines_more p own so shape))
 
-pub each_few : (ps : List Paragraph) (n : ℕ) → length (flat_map (λ p. p.items) ps) < n → All (λ p. length p.items < n) ps
+pub each_few : (ps : List Paragraph) (n : ℕ) → length (flat_map (λ p. p.items) ps) < n
+    → All (λ p. length p.items < n) ps
 each_few [] n h = All-nil (λ p. length p.items < n)
 each_few (p ∷ ps) n h =
     All-cons (λ q. length q.items < n) p ps (omega (arith, length-append p.items (flat_map (λ q. q.items) ps)))
     (each_few ps n (omega (arith, length-append p.items (flat_map (λ q. q.items) ps))))
 
-pub few_items : (ps qs : List Paragraph) (n : ℕ) → ps ≡ qs → length (flat_map (λ p. p.items) ps) ≤ weight_of ps → weight_of qs ≤ 242 * n
+pub few_items : (ps qs : List Paragraph) (n : ℕ) → ps ≡ qs → length (flat_map (λ p. p.items) ps) ≤ weight_of ps
+    → weight_of qs ≤ 242 * n
     → n ≤ 1000000 → All (λ p. length p.items < 2 ^ 32) ps
 few_items ps qs n e h w small = each_few ps (2 ^ 32) (omega (arith, ap weight_of e))
 
-pub shown_nowhere : (width : ℕ) (a : Attrs) (v : WideValue) (path : Option (List ℕ)) (es : List ErrorAt) (ps : List Paragraph) (ls : List Line)
+pub shown_nowhere : (width : ℕ) (a : Attrs) (v : WideValue) (path : Option (List ℕ)) (es : List ErrorAt)
+    (ps : List Paragraph) (ls : List Line)
     → path ≡ None → es ≡ (show a v).errors → ps ≡ [] → ls ≡ []
     → IsShown width a v path (record { path = None; errors = es; paragraphs = ps; lines = ls })
 shown_nowhere width a v path es ps ls e f g h =
-    subst (λ (o : Option (List ℕ)). IsShown width a v o (record { path = None; errors = es; paragraphs = ps; lines = ls })) (sym e)
-    (subst (λ (qs : List Paragraph). IsShown width a v None (record { path = None; errors = es; paragraphs = qs; lines = ls })) (sym g)
-    (subst (λ (ks : List Line). IsShown width a v None (record { path = None; errors = es; paragraphs = []; lines = ks })) (sym h)
+    subst (λ (o : Option (List ℕ)).
+    IsShown width a v o (record { path = None; errors = es; paragraphs = ps; lines = ls })) (sym e)
+    (subst (λ (qs : List Paragraph).
+    IsShown width a v None (record { path = None; errors = es; paragraphs = qs; lines = ls })) (sym g)
+    (subst (λ (ks : List Line).
+    IsShown width a v None (record { path = None; errors = es; paragraphs = []; lines = ks })) (sym h)
     (record { path_is = refl; errors = f; paragraphs = refl; lines = no_lines })))

@@ -35,18 +35,22 @@ number_at n (c ∷ cs) k zero h from to =
     let test : nat_lt (k - n) c ≡ true = less (k - n) c (omega (arith, sums_head (n + c) cs)) in
     ap (λ b. if b then Some (0, k - n) else option_map (λ p. (p.0 + 1, p.1)) (number_in cs (k - n - c))) test
 number_at n (c ∷ cs) k (suc low) h from to =
-    let least : n + c ≤ get_or (sums_from (n + c) cs) low 0 = sums_least (n + c) cs low (omega (arith, sums_length (n + c) cs)) in
+    let least : n + c ≤ get_or (sums_from (n + c) cs) low 0 =
+    sums_least (n + c) cs low (omega (arith, sums_length (n + c) cs)) in
     let test : nat_lt (k - n) c ≡ false = no_less (k - n) c (omega arith) in
     let same : k - n - c ≡ k - (n + c) = omega arith in
     ap (λ b. if b then Some (0, k - n) else option_map (λ p. (p.0 + 1, p.1)) (number_in cs (k - n - c))) test
-    ∙ ap (λ o. option_map (λ p. (p.0 + 1, p.1)) o) (ap (number_in cs) same ∙ number_at (n + c) cs k low (omega arith) from to)
+    ∙ ap (λ o. option_map (λ p. (p.0 + 1, p.1)) o)
+    (ap (number_in cs) same ∙ number_at (n + c) cs k low (omega arith) from to)
     ∙ ap (λ m. Some (m, k - get_or (sums_from (n + c) cs) low 0)) (add-one low)
 
-pub number_past : (n : ℕ) (ks : List ℕ) (k m : ℕ) → m ≡ length ks → get_or (sums_from n ks) m 0 ≤ k → number_in ks (k - n) ≡ None
+pub number_past : (n : ℕ) (ks : List ℕ) (k m : ℕ) → m ≡ length ks → get_or (sums_from n ks) m 0 ≤ k
+    → number_in ks (k - n) ≡ None
 number_past n [] k m e h = refl
 number_past n (c ∷ cs) k zero e h = absurd (omega arith)
 number_past n (c ∷ cs) k (suc m) e h =
-    let least : n + c ≤ get_or (sums_from (n + c) cs) m 0 = sums_least (n + c) cs m (omega (arith, sums_length (n + c) cs)) in
+    let least : n + c ≤ get_or (sums_from (n + c) cs) m 0 =
+    sums_least (n + c) cs m (omega (arith, sums_length (n + c) cs)) in
     let test : nat_lt (k - n) c ≡ false = no_less (k - n) c (omega arith) in
     let same : k - n - c ≡ k - (n + c) = omega arith in
     ap (λ b. if b then Some (0, k - n) else option_map (λ p. (p.0 + 1, p.1)) (number_in cs (k - n - c))) test
@@ -62,14 +66,17 @@ found_at firsts counts k low high e lt le within from to =
     let to' : k < get_or firsts (suc low) 0 = subst (λ (m : ℕ). k < get_or firsts m 0) next to in
     let small : low < length counts = omega (arith, sums_length 0 counts, ap length e) in
     let at : number_in counts (k - 0) ≡ Some (low, k - get_or (sums_from 0 counts) low 0) =
-    number_at 0 counts k low small (subst (λ (fs : List ℕ). get_or fs low 0 ≤ k) e from) (subst (λ (fs : List ℕ). k < get_or fs (suc low) 0) e to') in
+    number_at 0 counts k low small (subst (λ (fs : List ℕ). get_or fs low 0 ≤ k) e from)
+    (subst (λ (fs : List ℕ). k < get_or fs (suc low) 0) e to') in
     ap (λ fs. Some (low, k - get_or fs low 0)) e ∙ sym at ∙ ap (number_in counts) (omega arith)
 
-pub found_none : (firsts counts : List ℕ) (k last : ℕ) → firsts ≡ sums_from 0 counts → last ≡ length firsts - 1 → get_or firsts last 0 ≤ k
+pub found_none : (firsts counts : List ℕ) (k last : ℕ) → firsts ≡ sums_from 0 counts → last ≡ length firsts - 1
+    → get_or firsts last 0 ≤ k
     → None ≡ number_in counts k
 found_none firsts counts k last e so past =
     let at : number_in counts (k - 0) ≡ None =
-    number_past 0 counts k last (omega (arith, sums_length 0 counts, ap length e)) (subst (λ (fs : List ℕ). get_or fs last 0 ≤ k) e past) in
+    number_past 0 counts k last (omega (arith, sums_length 0 counts, ap length e))
+    (subst (λ (fs : List ℕ). get_or fs last 0 ≤ k) e past) in
     sym at ∙ ap (number_in counts) (omega arith)
 
 pub apart_first : (firsts : List ℕ) (n k : ℕ) → get_or firsts 0 0 ≡ 0 → k < get_or firsts n 0 → 0 < n

@@ -67,7 +67,9 @@ second false b h = absurd h
 below : (x : Name) (ws : Sets) → T (below_all (slice_cmp nat_cmp) x ws) → found x ws ≡ None
 below x [] h = refl
 below x (w ∷ ws) h =
-    ap (λ b. cond b (Some w.1) (found x ws)) (less_alone (slice_cmp nat_cmp x w.0) (first (is_lt (slice_cmp nat_cmp x w.0)) (below_all (slice_cmp nat_cmp) x ws) h))
+    ap (λ b. cond b (Some w.1) (found x ws))
+    (less_alone (slice_cmp nat_cmp x w.0)
+    (first (is_lt (slice_cmp nat_cmp x w.0)) (below_all (slice_cmp nat_cmp) x ws) h))
     ∙ below x ws (second (is_lt (slice_cmp nat_cmp x w.0)) (below_all (slice_cmp nat_cmp) x ws) h)
 
 rising : (ws : Sets) → T (is_sorted (slice_cmp nat_cmp) ws) → AreOnce ws
@@ -77,7 +79,8 @@ rising (w ∷ ws) h = (
   rising ws (second (below_all (slice_cmp nat_cmp) w.0 ws) (is_sorted (slice_cmp nat_cmp) ws) h),
 )
 
-pub overlaid_same : (m : NameMap) (ws : Sets) → IsDistinct bytes_eq (keys_of ws) → overlaid m ws ≡ overlaid m (entries (from_entries {R = slice_cmp nat_cmp} ws))
+pub overlaid_same : (m : NameMap) (ws : Sets) → IsDistinct bytes_eq (keys_of ws)
+    → overlaid m ws ≡ overlaid m (entries (from_entries {R = slice_cmp nat_cmp} ws))
 overlaid_same m ws h =
     equal_maps _ _ (λ q. got m ws q (once ws h)
     ∙ ap (λ o. option_or o (get m q)) (sym (get-from_entries nat_list_cmp_total ws q) ∙ get-entries (from_entries ws) q)

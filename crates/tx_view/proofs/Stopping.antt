@@ -20,56 +20,69 @@ use Rattle.tx_view.proofs.Finding.{or_else, first_marks}
 put_more : (path : List ℕ) (old now new : List Place) (ms ns all : List Mark) → now ≡ fold put old (stops_on path ms)
     → new ≡ fold put now (stops_on path ns) → all ≡ ms ++ ns → new ≡ fold put old (stops_on path all)
 put_more path old now new ms ns all so more e =
-    more ∙ ap (λ ps. fold put ps (stops_on path ns)) so ∙ sym (fold-append put old (stops_on path ms) (stops_on path ns))
+    more ∙ ap (λ ps. fold put ps (stops_on path ns)) so
+    ∙ sym (fold-append put old (stops_on path ms) (stops_on path ns))
     ∙ ap (fold put old) (sym (ap (λ ks. stops_on path ks) e ∙ flat_map-append (both_ends path) ms ns))
 
 one_stops : (path : List ℕ) (o : Option Mark) → stops_at path o ≡ stops_on path (cons_option o [])
 one_stops path None = refl
 one_stops path (Some m) = refl
 
-pub item_put : (path : List ℕ) (xs : List Item) (i : ℕ) (x : Item) (old now new : List Place) → i < length xs → x ≡ get_or xs i x
+pub item_put : (path : List ℕ) (xs : List Item) (i : ℕ) (x : Item) (old now new : List Place) → i < length xs
+    → x ≡ get_or xs i x
     → now ≡ fold put old (stops_on path (marks_of (take i xs))) → new ≡ fold put now (stops_at path (mark_of x))
     → new ≡ fold put old (stops_on path (marks_of (take (i + 1) xs)))
 item_put path xs i x old now new lt is so more =
     put_more path old now new (marks_of (take i xs)) (marks_of (x ∷ [])) (marks_of (take (i + 1) xs)) so
     (more ∙ ap (fold put now) (one_stops path (mark_of x)))
-    (ap marks_of (take_more xs i x lt ∙ ap (λ y. take i xs ++ y ∷ []) (sym is)) ∙ filter_map-append mark_of (take i xs) (x ∷ []))
+    (ap marks_of (take_more xs i x lt ∙ ap (λ y. take i xs ++ y ∷ []) (sym is))
+    ∙ filter_map-append mark_of (take i xs) (x ∷ []))
 
 abbrev pub items_of : List Paragraph → List Item
 items_of ps = flat_map (λ p. p.items) ps
 
-pub paragraph_put : (path : List ℕ) (xs : List Paragraph) (i : ℕ) (x : Paragraph) (ys : List Item) (old now new : List Place) → i < length xs
+pub paragraph_put : (path : List ℕ) (xs : List Paragraph) (i : ℕ) (x : Paragraph) (ys : List Item)
+    (old now new : List Place) → i < length xs
     → x ≡ get_or xs i x → ys ≡ x.items → now ≡ fold put old (stops_on path (marks_of (items_of (take i xs))))
-    → new ≡ fold put now (stops_on path (marks_of ys)) → new ≡ fold put old (stops_on path (marks_of (items_of (take (i + 1) xs))))
+    → new ≡ fold put now (stops_on path (marks_of ys))
+    → new ≡ fold put old (stops_on path (marks_of (items_of (take (i + 1) xs))))
 paragraph_put path xs i x ys old now new lt is are so more =
-    put_more path old now new (marks_of (items_of (take i xs))) (marks_of x.items) (marks_of (items_of (take (i + 1) xs))) so
+    put_more path old now new (marks_of (items_of (take i xs))) (marks_of x.items)
+    (marks_of (items_of (take (i + 1) xs))) so
     (more ∙ ap (λ zs. fold put now (stops_on path (marks_of zs))) are)
     (ap (λ zs. marks_of (items_of zs)) (take_more xs i x lt ∙ ap (λ y. take i xs ++ y ∷ []) (sym is))
-    ∙ ap marks_of (flat_map-append (λ p. p.items) (take i xs) (x ∷ []) ∙ ap (λ zs. items_of (take i xs) ++ zs) (append-nil x.items))
+    ∙ ap marks_of (flat_map-append (λ p. p.items) (take i xs) (x ∷ [])
+    ∙ ap (λ zs. items_of (take i xs) ++ zs) (append-nil x.items))
     ∙ filter_map-append mark_of (items_of (take i xs)) x.items)
 
 pub unit_put : (xs : List Shown) (i : ℕ) (x : Shown) (now new : List Place) → i < length xs → x ≡ get_or xs i x
-    → now ≡ stops_of (unit_views (take i xs)) → new ≡ fold put now (unit_stops (unit_view x)) → new ≡ stops_of (unit_views (take (i + 1) xs))
+    → now ≡ stops_of (unit_views (take i xs)) → new ≡ fold put now (unit_stops (unit_view x))
+    → new ≡ stops_of (unit_views (take (i + 1) xs))
 unit_put xs i x now new lt is so more =
     more ∙ ap (λ ps. fold put ps (unit_stops (unit_view x))) so
     ∙ sym (fold-append put [] (flat_map unit_stops (unit_views (take i xs))) (unit_stops (unit_view x)))
     ∙ ap each_once (sym (all_more unit_stops xs i x lt is))
 
 -- the first mark of paragraphs
-pub first_paragraph_step : (xs : List Paragraph) (i : ℕ) (x : Paragraph) (ys : List Item) (o : Option Mark) → i < length xs → x ≡ get_or xs i x
-    → ys ≡ x.items → o ≡ first_of (marks_of ys) → first_of (marks_of (items_of xs)) ≡ first_of (marks_of (items_of (drop i xs)))
+pub first_paragraph_step : (xs : List Paragraph) (i : ℕ) (x : Paragraph) (ys : List Item) (o : Option Mark)
+    → i < length xs → x ≡ get_or xs i x
+    → ys ≡ x.items → o ≡ first_of (marks_of ys)
+    → first_of (marks_of (items_of xs)) ≡ first_of (marks_of (items_of (drop i xs)))
     → first_of (marks_of (items_of xs)) ≡ or_else o (first_of (marks_of (items_of (drop (i + 1) xs))))
 first_paragraph_step xs i x ys o lt is are found so =
     so ∙ ap (λ zs. first_of (marks_of (items_of zs))) (drop_more xs i x lt ∙ ap (λ y. y ∷ drop (i + 1) xs) (sym is))
     ∙ first_marks x.items (items_of (drop (i + 1) xs))
-    ∙ ap (λ p. or_else p (first_of (marks_of (items_of (drop (i + 1) xs))))) (sym (found ∙ ap (λ zs. first_of (marks_of zs)) are))
+    ∙ ap (λ p. or_else p (first_of (marks_of (items_of (drop (i + 1) xs)))))
+    (sym (found ∙ ap (λ zs. first_of (marks_of zs)) are))
 
 -- ---- the stops of a unit by its marks
 
-pub stops_some : (path : List ℕ) (ms : List Mark) (m : Mark) → first_of ms ≡ Some m → stops_by path ms ≡ stops_on path ms
+pub stops_some : (path : List ℕ) (ms : List Mark) (m : Mark) → first_of ms ≡ Some m
+    → stops_by path ms ≡ stops_on path ms
 stops_some path [] m e = absurd cc
 stops_some path (n ∷ ms) m e = refl
 
-pub stops_none : (path : List ℕ) (ms : List Mark) → first_of ms ≡ None → stops_by path ms ≡ record { path = path; offset = 0 } ∷ []
+pub stops_none : (path : List ℕ) (ms : List Mark) → first_of ms ≡ None
+    → stops_by path ms ≡ record { path = path; offset = 0 } ∷ []
 stops_none path [] e = refl
 stops_none path (m ∷ ms) e = absurd cc

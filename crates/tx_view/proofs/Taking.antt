@@ -9,9 +9,11 @@ use Rattle.tx_view_form.specs.Started.{attributes_of, set_to}
 use Rattle.tx_view.specs.Variables.{AreVariables}
 use Rattle.tx_view.specs.declared.starts.Variables.{Variables}
 
-one : (env : NameMap) (name word : List ℕ) (which : Attribute) (a b : Attrs) → name ≡ word → attribute_named word ≡ Some which
+one : (env : NameMap) (name word : List ℕ) (which : Attribute) (a b : Attrs) → name ≡ word
+    → attribute_named word ≡ Some which
     → b ≡ with_named (attribute_named name) (set_to env name) a → b ≡ with_value which (set_to env word) a
-one env name word which a b e named h = h ∙ ap (λ n. with_named (attribute_named n) (set_to env n) a) e ∙ ap (λ o. with_named o (set_to env word) a) named
+one env name word which a b e named h = h ∙ ap (λ n. with_named (attribute_named n) (set_to env n) a) e
+    ∙ ap (λ o. with_named o (set_to env word) a) named
 
 series : attribute_named (codes "font-series") ≡ Some Series
 unfolding attribute_named
@@ -52,10 +54,13 @@ pub taken : (env : NameMap) (v : Variables) (a b c d e f g h : Attrs) → AreVar
     → h ≡ attributes_of env
 taken env v a b c d e f g h are p q r s t u w x =
     one env v.first (codes "par-first") First g h are.first first x
-    ∙ ap (with_value First (set_to env (codes "par-first"))) (one env v.right (codes "par-right") Right f g are.right right w
+    ∙ ap (with_value First (set_to env (codes "par-first")))
+    (one env v.right (codes "par-right") Right f g are.right right w
     ∙ ap (with_value Right (set_to env (codes "par-right"))) (one env v.left (codes "par-left") Left e f are.left left u
     ∙ ap (with_value Left (set_to env (codes "par-left"))) (one env v.mode (codes "par-mode") Mode d e are.mode mode t
     ∙ ap (with_value Mode (set_to env (codes "par-mode"))) (one env v.color (codes "color") Color c d are.color color s
-    ∙ ap (with_value Color (set_to env (codes "color"))) (one env v.shape (codes "font-shape") Shape b c are.shape shape r
-    ∙ ap (with_value Shape (set_to env (codes "font-shape"))) (one env v.series (codes "font-series") Series a b are.series series q
+    ∙ ap (with_value Color (set_to env (codes "color")))
+    (one env v.shape (codes "font-shape") Shape b c are.shape shape r
+    ∙ ap (with_value Shape (set_to env (codes "font-shape")))
+    (one env v.series (codes "font-series") Series a b are.series series q
     ∙ ap (with_value Series (set_to env (codes "font-series"))) (p ∙ are.unset)))))))

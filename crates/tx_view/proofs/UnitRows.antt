@@ -20,11 +20,13 @@ abbrev pub total : List ℕ → ℕ
 total [] = 0
 total (k ∷ ks) = k + total ks
 
-sums_more : (n : ℕ) (ks : List ℕ) (k m : ℕ) → m ≡ n + total ks + k → sums_from n (ks ++ k ∷ []) ≡ sums_from n ks ++ m ∷ []
+sums_more : (n : ℕ) (ks : List ℕ) (k m : ℕ) → m ≡ n + total ks + k
+    → sums_from n (ks ++ k ∷ []) ≡ sums_from n ks ++ m ∷ []
 sums_more n [] k m e = ap (λ j. n ∷ (j ∷ [])) (omega arith)
 sums_more n (j ∷ js) k m e = ap (λ ls. n ∷ ls) (sums_more (n + j) js k m (omega arith))
 
-total_is : {X : Type 0} (g : UnitView → List X) (h : UnitView → ℕ) → ((x : UnitView) → h x ≡ length (g x)) → (xs : List UnitView)
+total_is : {X : Type 0} (g : UnitView → List X) (h : UnitView → ℕ) → ((x : UnitView) → h x ≡ length (g x))
+    → (xs : List UnitView)
     → total (map h xs) ≡ length (flat_map g xs)
 total_is g h same [] = refl
 total_is g h same (x ∷ xs) = omega (arith, same x, total_is g h same xs, length-append (g x) (flat_map g xs))
@@ -34,14 +36,16 @@ views_more : (xs : List Shown) (i : ℕ) (x : Shown) → i < length xs → x ≡
 views_more xs i x lt is =
     ap unit_views (take_more xs i x lt ∙ ap (λ y. take i xs ++ y ∷ []) (sym is)) ∙ map_push unit_view (take i xs) x
 
-pub all_more : {X : Type 0} (g : UnitView → List X) (xs : List Shown) (i : ℕ) (x : Shown) → i < length xs → x ≡ get_or xs i x
+pub all_more : {X : Type 0} (g : UnitView → List X) (xs : List Shown) (i : ℕ) (x : Shown) → i < length xs
+    → x ≡ get_or xs i x
     → flat_map g (unit_views (take (i + 1) xs)) ≡ flat_map g (unit_views (take i xs)) ++ g (unit_view x)
 all_more g xs i x lt is =
     ap (flat_map g) (views_more xs i x lt is)
     ∙ flat_map-append g (unit_views (take i xs)) (unit_view x ∷ [])
     ∙ ap (λ ys. flat_map g (unit_views (take i xs)) ++ ys) (append-nil (g (unit_view x)))
 
-pub record IsSummed {X : Type 0} (g : UnitView → List X) (h : UnitView → ℕ) (xs : List UnitView) (firsts : List ℕ) (count : ℕ) : Type 0 where
+pub record IsSummed {X : Type 0} (g : UnitView → List X) (h : UnitView → ℕ) (xs : List UnitView) (firsts : List ℕ)
+    (count : ℕ) : Type 0 where
   pub firsts_are : firsts ++ count ∷ [] ≡ sums_from 0 (map h xs)
   pub count_is : count ≡ length (flat_map g xs)
 
@@ -55,20 +59,32 @@ sums_next g h same xs i x firsts new count next lt is so added more = record {
       ∙ sym (sums_more 0 (map h before) (h (unit_view x)) next (omega (arith, total_is g h same before, so.count_is)))
       ∙ ap (sums_from 0) (sym (ap (map h) (views_more xs i x lt is) ∙ map_push h before (unit_view x)));
   count_is =
-      omega (arith, same (unit_view x), so.count_is, length-append (flat_map g before) (g (unit_view x)), ap length (all_more g xs i x lt is));
+      omega (
+        arith,
+        same (unit_view x),
+        so.count_is,
+        length-append (flat_map g before) (g (unit_view x)),
+        ap length (all_more g xs i x lt is),
+      );
 }
   where
     before : List UnitView
     before = unit_views (take i xs)
 
 -- so many units have no more than all
-pub sums_fit : {X : Type 0} (g : UnitView → List X) (xs : List Shown) (i : ℕ) (x : Shown) → i < length xs → x ≡ get_or xs i x
+pub sums_fit : {X : Type 0} (g : UnitView → List X) (xs : List Shown) (i : ℕ) (x : Shown) → i < length xs
+    → x ≡ get_or xs i x
     → length (flat_map g (unit_views (take i xs))) + length (g (unit_view x)) ≤ length (flat_map g (unit_views xs))
 sums_fit g [] i x lt is = absurd (omega arith)
 sums_fit g (y ∷ ys) zero x lt is =
     omega (arith, ap (λ z. length (g (unit_view z))) is, length-append (g (unit_view y)) (flat_map g (unit_views ys)))
 sums_fit g (y ∷ ys) (suc i) x lt is =
-    omega (arith, sums_fit g ys i x (omega arith) is, length-append (g (unit_view y)) (flat_map g (unit_views ys)), length-append (g (unit_view y)) (flat_map g (unit_views (take i ys))))
+    omega (
+      arith,
+      sums_fit g ys i x (omega arith) is,
+      length-append (g (unit_view y)) (flat_map g (unit_views ys)),
+      length-append (g (unit_view y)) (flat_map g (unit_views (take i ys))),
+    )
 
 -- ---- where an element stands
 
@@ -98,7 +114,8 @@ abbrev pub IsFound : {X : Type 0} → (UnitView → List X) → List UnitView �
 IsFound g xs r None = slice_get (flat_map g xs) r ≡ None
 IsFound g xs r (Some p) = IsAt g xs r p.0 p.1
 
-found_later : {X : Type 0} (g : UnitView → List X) (x : UnitView) (xs : List UnitView) (r n : ℕ) (o : Option (ℕ × ℕ)) → n ≡ length (g x) → n ≤ r
+found_later : {X : Type 0} (g : UnitView → List X) (x : UnitView) (xs : List UnitView) (r n : ℕ) (o : Option (ℕ × ℕ))
+    → n ≡ length (g x) → n ≤ r
     → IsFound g xs (r - n) o → IsFound g (x ∷ xs) r (option_map (λ p. (p.0 + 1, p.1)) o)
 found_later g x xs r n None e le f = get_right (g x) (flat_map g xs) r (r - n) (omega arith) ∙ f
 found_later g x xs r n (Some p) e le f = record {
@@ -108,23 +125,28 @@ found_later g x xs r n (Some p) e le f = record {
       ∙ ap (λ m. slice_get (g (get_or (x ∷ xs) m d)) p.1) (sym (add-one p.0));
 }
 
-found_here : {X : Type 0} (g : UnitView → List X) (x : UnitView) (xs : List UnitView) (r n : ℕ) → n ≡ length (g x) → r < n → IsAt g (x ∷ xs) r 0 r
+found_here : {X : Type 0} (g : UnitView → List X) (x : UnitView) (xs : List UnitView) (r n : ℕ) → n ≡ length (g x)
+    → r < n → IsAt g (x ∷ xs) r 0 r
 found_here g x xs r n e lt = record {
   there = omega arith;
   within = λ d. omega arith;
   same = λ d. get_left (g x) (flat_map g xs) r (omega arith);
 }
 
-found_by : {X : Type 0} (g : UnitView → List X) (x : UnitView) (xs : List UnitView) (r n : ℕ) (o : Option (ℕ × ℕ)) (b : Bool) → n ≡ length (g x)
-    → nat_lt r n ≡ b → IsFound g xs (r - n) o → IsFound g (x ∷ xs) r (if b then Some (0, r) else option_map (λ p. (p.0 + 1, p.1)) o)
+found_by : {X : Type 0} (g : UnitView → List X) (x : UnitView) (xs : List UnitView) (r n : ℕ) (o : Option (ℕ × ℕ))
+    (b : Bool) → n ≡ length (g x)
+    → nat_lt r n ≡ b → IsFound g xs (r - n) o
+    → IsFound g (x ∷ xs) r (if b then Some (0, r) else option_map (λ p. (p.0 + 1, p.1)) o)
 found_by g x xs r n o true e t f = found_here g x xs r n e (is_less r n t)
 found_by g x xs r n o false e t f = found_later g x xs r n o e (is_no_less r n t) f
 
-pub is_found : {X : Type 0} (g : UnitView → List X) (h : UnitView → ℕ) → ((x : UnitView) → h x ≡ length (g x)) → (xs : List UnitView) (r : ℕ)
+pub is_found : {X : Type 0} (g : UnitView → List X) (h : UnitView → ℕ) → ((x : UnitView) → h x ≡ length (g x))
+    → (xs : List UnitView) (r : ℕ)
     → IsFound g xs r (number_in (map h xs) r)
 is_found g h same [] r = refl
 is_found g h same (x ∷ xs) r =
-    found_by g x xs r (h x) (number_in (map h xs) (r - h x)) (nat_lt r (h x)) (same x) refl (is_found g h same xs (r - h x))
+    found_by g x xs r (h x) (number_in (map h xs) (r - h x)) (nat_lt r (h x)) (same x) refl
+    (is_found g h same xs (r - h x))
 
 -- the unit of a row
 abbrev row_from : List UnitView → UnitView → Option (ℕ × ℕ) → Option (UnitView × ℕ)
@@ -135,15 +157,18 @@ row_later : (x : UnitView) (xs : List UnitView) (d : UnitView) (o : Option (ℕ 
 row_later x xs d None = refl
 row_later x xs d (Some p) = ap (λ m. Some (get_or (x ∷ xs) m d, p.1)) (sym (add-one p.0))
 
-row_by : (x : UnitView) (xs : List UnitView) (d : UnitView) (r : ℕ) (o : Option (UnitView × ℕ)) (q : Option (ℕ × ℕ)) (b : Bool) → o ≡ row_from xs d q
-    → (if b then Some (x, r) else o) ≡ row_from (x ∷ xs) d (if b then Some (0, r) else option_map (λ p. (p.0 + 1, p.1)) q)
+row_by : (x : UnitView) (xs : List UnitView) (d : UnitView) (r : ℕ) (o : Option (UnitView × ℕ)) (q : Option (ℕ × ℕ))
+    (b : Bool) → o ≡ row_from xs d q
+    → (if b then Some (x, r) else o) ≡ row_from (x ∷ xs) d
+    (if b then Some (0, r) else option_map (λ p. (p.0 + 1, p.1)) q)
 row_by x xs d r o q true e = refl
 row_by x xs d r o q false e = e ∙ row_later x xs d q
 
 pub row_is : (xs : List UnitView) (r : ℕ) (d : UnitView) → row_in xs r ≡ row_from xs d (number_in (row_counts xs) r)
 row_is [] r d = refl
 row_is (x ∷ xs) r d =
-    row_by x xs d r (row_in xs (r - length x.lines)) (number_in (row_counts xs) (r - length x.lines)) (nat_lt r (length x.lines))
+    row_by x xs d r (row_in xs (r - length x.lines)) (number_in (row_counts xs) (r - length x.lines))
+    (nat_lt r (length x.lines))
     (row_is xs (r - length x.lines) d)
 
 -- ---- how many there are
@@ -152,11 +177,14 @@ sums_last : (n : ℕ) (ks : List ℕ) → get_or (sums_from n ks) (length ks) 0 
 sums_last n [] = omega arith
 sums_last n (k ∷ ks) = sums_last (n + k) ks ∙ omega arith
 
-pub last_is : {X : Type 0} (g : UnitView → List X) (h : UnitView → ℕ) → ((x : UnitView) → h x ≡ length (g x)) → (xs : List UnitView)
-    (firsts : List ℕ) (m : ℕ) → firsts ≡ sums_from 0 (map h xs) → m ≡ length firsts - 1 → get_or firsts m 0 ≡ length (flat_map g xs)
+pub last_is : {X : Type 0} (g : UnitView → List X) (h : UnitView → ℕ) → ((x : UnitView) → h x ≡ length (g x))
+    → (xs : List UnitView)
+    (firsts : List ℕ) (m : ℕ) → firsts ≡ sums_from 0 (map h xs) → m ≡ length firsts - 1
+    → get_or firsts m 0 ≡ length (flat_map g xs)
 last_is g h same xs firsts m e so =
     let last : m ≡ length (map h xs) = omega (arith, sums_length 0 (map h xs), ap length e) in
-    let sum : get_or (sums_from 0 (map h xs)) (length (map h xs)) 0 ≡ total (map h xs) = omega (arith, sums_last 0 (map h xs)) in
+    let sum : get_or (sums_from 0 (map h xs)) (length (map h xs)) 0 ≡ total (map h xs) =
+    omega (arith, sums_last 0 (map h xs)) in
     ap (λ fs. get_or fs m 0) e ∙ ap (λ k. get_or (sums_from 0 (map h xs)) k 0) last ∙ sum ∙ total_is g h same xs
 
 -- ---- errors, each with the path of its unit
@@ -176,7 +204,8 @@ as_many_errors x = as_many (λ e. (x.path, e)) x.errors
 nowhere : UnitView
 nowhere = record { path = None; errors = []; paragraphs = []; lines = [] }
 
-read_view : (xs : List Shown) (i : ℕ) (d : Shown) → i < length xs → get_or (unit_views xs) i (unit_view d) ≡ unit_view (get_or xs i d)
+read_view : (xs : List Shown) (i : ℕ) (d : Shown) → i < length xs
+    → get_or (unit_views xs) i (unit_view d) ≡ unit_view (get_or xs i d)
 read_view xs i d lt = get_or-map unit_view xs i d (unit_view d) lt
 
 row_case : (xs : List Shown) (r : ℕ) (o : Option (ℕ × ℕ)) → IsFound (λ x. x.lines) (unit_views xs) r o
@@ -192,10 +221,12 @@ row_case xs r (Some p) f h =
       },
     )
 
-pub row_told : (xs : List Shown) (r : ℕ) (o : Option (ℕ × ℕ)) → o ≡ number_in (row_counts (unit_views xs)) r → IsRow xs r o
+pub row_told : (xs : List Shown) (r : ℕ) (o : Option (ℕ × ℕ)) → o ≡ number_in (row_counts (unit_views xs)) r
+    → IsRow xs r o
 row_told xs r o e =
     row_case xs r o
-    (subst (λ (q : Option (ℕ × ℕ)). IsFound (λ x. x.lines) (unit_views xs) r q) (sym e) (is_found (λ x. x.lines) (λ x. length x.lines) (λ x. refl) (unit_views xs) r))
+    (subst (λ (q : Option (ℕ × ℕ)). IsFound (λ x. x.lines) (unit_views xs) r q) (sym e)
+    (is_found (λ x. x.lines) (λ x. length x.lines) (λ x. refl) (unit_views xs) r))
     (λ d. row_is (unit_views xs) r d ∙ ap (row_from (unit_views xs) d) (sym e))
 
 error_case : (xs : List Shown) (r : ℕ) (o : Option (ℕ × ℕ)) → IsFound placed_errors (unit_views xs) r o → IsError xs r o
@@ -205,12 +236,19 @@ error_case xs r (Some p) f =
       there,
       λ d. record {
         within =
-            omega (arith, subst (λ (x : UnitView). p.1 < length (placed_errors x)) (read_view xs p.0 d there) (f.within (unit_view d)), as_many_errors (unit_view (get_or xs p.0 d)));
+            omega (
+              arith,
+              subst (λ (x : UnitView). p.1 < length (placed_errors x)) (read_view xs p.0 d there)
+                  (f.within (unit_view d)),
+              as_many_errors (unit_view (get_or xs p.0 d)),
+            );
         error = f.same (unit_view d) ∙ ap (λ x. slice_get (placed_errors x) p.1) (read_view xs p.0 d there);
       },
     )
 
-pub error_told : (xs : List Shown) (r : ℕ) (o : Option (ℕ × ℕ)) → o ≡ number_in (error_counts (unit_views xs)) r → IsError xs r o
+pub error_told : (xs : List Shown) (r : ℕ) (o : Option (ℕ × ℕ)) → o ≡ number_in (error_counts (unit_views xs)) r
+    → IsError xs r o
 error_told xs r o e =
     error_case xs r o
-    (subst (λ (q : Option (ℕ × ℕ)). IsFound placed_errors (unit_views xs) r q) (sym e) (is_found placed_errors (λ x. length x.errors) as_many_errors (unit_views xs) r))
+    (subst (λ (q : Option (ℕ × ℕ)). IsFound placed_errors (unit_views xs) r q) (sym e)
+    (is_found placed_errors (λ x. length x.errors) as_many_errors (unit_views xs) r))

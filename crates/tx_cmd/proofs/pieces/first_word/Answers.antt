@@ -16,10 +16,12 @@ found_none false n e = refl
 
 pub returns-in-Some : goal.returns-in-Some
 returns-in-Some c =
-    let found = position_from_yields_List (λ b. b == 32) _ _ c.position.result c.position.ensures.ran (YieldsList-from_slice c.args.bytes.now cc) (λ x b q k. search (rules, tests)) in
+    let found = position_from_yields_List (λ b. b == 32) _ _ c.position.result c.position.ensures.ran
+    (YieldsList-from_slice c.args.bytes.now cc) (λ x b q k. search (rules, tests)) in
     ap (λ n. take n c.args.bytes.now) (found_at _ _ _ (sym c.in-Some.is ∙ found))
 
 pub returns-in-None : goal.returns-in-None
 returns-in-None c =
-    let found = position_from_yields_List (λ b. b == 32) _ _ c.position.result c.position.ensures.ran (YieldsList-from_slice c.args.bytes.now cc) (λ x b q k. search (rules, tests)) in
+    let found = position_from_yields_List (λ b. b == 32) _ _ c.position.result c.position.ensures.ran
+    (YieldsList-from_slice c.args.bytes.now cc) (λ x b q k. search (rules, tests)) in
     sym (take_all _ _ (ltb-false _ _ (found_none _ _ (sym c.in-None.is ∙ found))))

@@ -7,7 +7,9 @@ use Rattle.tx_cmd.proofs.reading.last_label.Goals as goal
 pub unreachable-requires : goal.unreachable-requires
 unreachable-requires c =
     let f = rw c.in-Err-BadLabel.field-0-is at c.in-Err-BadLabel.ensures.refused in
-    (f (λ e. cc)).1 (loose_cut LabelArgument [] c.args.bytes.now c.cut.result.0.now c.cut.result.1.now refl c.cut.ensures c.requires).0
+    (f (λ e. cc)).1
+    (loose_cut LabelArgument [] c.args.bytes.now c.cut.result.0.now c.cut.result.1.now refl c.cut.ensures
+    c.requires).0
 
 pub returns-in-Ok-clause-ok : goal.returns-in-Ok-clause-ok
 returns-in-Ok-clause-ok c = (

@@ -12,11 +12,20 @@ use Rattle.tx_cmd.proofs.reading.last_path.Goals as goal
 pub returns-clause-ok : goal.returns-clause-ok
 returns-clause-ok c =
     IfOk-weaker c.read_path.result (λ p. SpellsPath c.cut.result.0.now p) (λ p. Mean c.args.bytes.now (a_path p ∷ []))
-    (λ p spelled. (c.cut.result.0.now, c.cut.result.1.now, spelled, (loose_cut PathArgument [] c.args.bytes.now c.cut.result.0.now c.cut.result.1.now refl c.cut.ensures c.requires.loose).1, c.cut.ensures.are))
+    (λ p spelled. (
+      c.cut.result.0.now,
+      c.cut.result.1.now,
+      spelled,
+      (loose_cut PathArgument [] c.args.bytes.now c.cut.result.0.now c.cut.result.1.now refl c.cut.ensures
+          c.requires.loose).1,
+      c.cut.ensures.are,
+    ))
     c.read_path.ensures.ok
 
 pub returns-clause-refused : goal.returns-clause-refused
 returns-clause-refused c =
-    IfErr-weaker c.read_path.result (λ f. f ≢ Memory → IsBadPath c.cut.result.0.now (c.args.at + 1) f) (λ f. f ≢ Memory → IsFirstFault (PathArgument ∷ []) c.args.bytes.now c.args.at f)
-    (λ f bad some. fault_here PathArgument [] c.args.bytes.now c.cut.result.0.now c.cut.result.1.now c.args.at f refl c.cut.ensures c.requires.loose (bad some))
+    IfErr-weaker c.read_path.result (λ f. f ≢ Memory → IsBadPath c.cut.result.0.now (c.args.at + 1) f)
+    (λ f. f ≢ Memory → IsFirstFault (PathArgument ∷ []) c.args.bytes.now c.args.at f)
+    (λ f bad some. fault_here PathArgument [] c.args.bytes.now c.cut.result.0.now c.cut.result.1.now c.args.at f refl
+    c.cut.ensures c.requires.loose (bad some))
     c.read_path.ensures.refused

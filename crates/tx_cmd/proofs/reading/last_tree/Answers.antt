@@ -8,6 +8,8 @@ use Rattle.tx_cmd.proofs.reading.last_tree.Goals as goal
 
 pub returns-clause-refused : goal.returns-clause-refused
 returns-clause-refused g c =
-    IfErr-weaker c.read_tree.result (λ f. f ≢ Memory → IsBadTree c.cut.result.0.now (c.args.at + 1) f) (λ f. f ≢ Memory → IsFirstFault (TreeArgument ∷ []) c.args.bytes.now c.args.at f)
-    (λ f bad some. fault_here TreeArgument [] c.args.bytes.now c.cut.result.0.now c.cut.result.1.now c.args.at f refl c.cut.ensures c.requires.loose (bad some))
+    IfErr-weaker c.read_tree.result (λ f. f ≢ Memory → IsBadTree c.cut.result.0.now (c.args.at + 1) f)
+    (λ f. f ≢ Memory → IsFirstFault (TreeArgument ∷ []) c.args.bytes.now c.args.at f)
+    (λ f bad some. fault_here TreeArgument [] c.args.bytes.now c.cut.result.0.now c.cut.result.1.now c.args.at f refl
+    c.cut.ensures c.requires.loose (bad some))
     c.read_tree.ensures.refused

@@ -7,8 +7,10 @@ use Rattle.tx_doc.proofs.buffer.formed_law.Goals as goal
 
 pub loop-buffer-preserved : goal.loop-buffer-preserved
 loop-buffer-preserved c =
-    each_more (λ buffer. IsWellFormed buffer.tree × IsWithinLimits buffer.tree) c.args.buffers.now c.loop-buffer.buffer-index c.buffer-item.result (omega arith) c.buffer-item.is
+    each_more (λ buffer. IsWellFormed buffer.tree × IsWithinLimits buffer.tree) c.args.buffers.now
+    c.loop-buffer.buffer-index c.buffer-item.result (omega arith) c.buffer-item.is
     c.loop-buffer.invariant (c.size-size.ensures.well_formed, c.size-size.ensures.within)
 
 pub returns : goal.returns
-returns c = subst AreFormed (take_all c.loop-buffer.buffer-index c.args.buffers.now (omega arith)) c.loop-buffer.invariant
+returns c =
+    subst AreFormed (take_all c.loop-buffer.buffer-index c.args.buffers.now (omega arith)) c.loop-buffer.invariant

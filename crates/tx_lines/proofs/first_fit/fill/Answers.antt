@@ -9,7 +9,8 @@ pub line_end-to-requires-clause-narrow : goal.line_end-to-requires-clause-narrow
 line_end-to-requires-clause-narrow c =
     let nothing : Piece = record { before = 0; cells = 0 } in
     let alone = cells_of_one c.args.pieces.now c.loop-from.from nothing (omega arith) in
-    let narrow : (get_or c.args.pieces.now c.loop-from.from nothing).cells ≤ min c.args.first c.args.later = c.requires.narrow_pieces c.loop-from.from nothing (omega arith) in
+    let narrow : (get_or c.args.pieces.now c.loop-from.from nothing).cells ≤ min c.args.first c.args.later =
+    c.requires.narrow_pieces c.loop-from.from nothing (omega arith) in
     omega (arith, alone, narrow, min_width c.args.first c.args.later (length c.loop-from.lines.items))
 
 pub loop-from-preserved : goal.loop-from-preserved
@@ -18,7 +19,9 @@ loop-from-preserved c =
     let so_far : List Cut = c.loop-from.lines.items in
     let ends = c.line_end-to.ensures in
     record {
-      filled = rw c.in_ok-push.ensures.items (fills_more c.args.pieces.now c.args.first c.args.later c.loop-from.width so_far line c.loop-from.invariant.filled c.loop-from.invariant.next_width ends.some ends.fits ends.full);
+      filled = rw c.in_ok-push.ensures.items
+          (fills_more c.args.pieces.now c.args.first c.args.later c.loop-from.width so_far line
+          c.loop-from.invariant.filled c.loop-from.invariant.next_width ends.some ends.fits ends.full);
       within = ends.within;
       next_width = rw c.in_ok-push.ensures.items (later_behind c.args.first c.args.later so_far line);
     }

@@ -6,6 +6,8 @@ use Rattle.tx_mod.proofs.carrying.carried.Goals as goal
 pub carried_at-requires : goal.carried_at-requires
 carried_at-requires c =
     record {
-      small = rest_small c.steps.result.now c.steps-2.result.now c.in-Some-rest_behind.rest.now c.in-Some-rest_behind.ensures
-          (subst AreSmall (sym c.steps-2.ensures) (leads_small c.args.t.now c.args.path.now c.requires.leads c.size-size.ensures.within));
+      small = rest_small c.steps.result.now c.steps-2.result.now c.in-Some-rest_behind.rest.now
+          c.in-Some-rest_behind.ensures
+          (subst AreSmall (sym c.steps-2.ensures)
+          (leads_small c.args.t.now c.args.path.now c.requires.leads c.size-size.ensures.within));
     }

@@ -8,8 +8,10 @@ rebuilt-requires g t c = λ κs sub. (
   (
     search rules,
     (
-      leads_down c.args.t.now c.in-Some-child.child.now c.args.path.now c.in-Some.rest.now c.in-Some.i c.in-Some-child.ensures c.in-Some.ensures c.requires.leads,
-      within_down c.args.t.now c.in-Some-child.child.now c.args.new c.args.path.now c.in-Some.rest.now c.in-Some.i c.in-Some-child.ensures c.in-Some.ensures c.requires.within,
+      leads_down c.args.t.now c.in-Some-child.child.now c.args.path.now c.in-Some.rest.now c.in-Some.i
+          c.in-Some-child.ensures c.in-Some.ensures c.requires.leads,
+      within_down c.args.t.now c.in-Some-child.child.now c.args.new c.args.path.now c.in-Some.rest.now c.in-Some.i
+          c.in-Some-child.ensures c.in-Some.ensures c.requires.within,
     ),
   ),
 )

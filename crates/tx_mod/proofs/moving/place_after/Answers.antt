@@ -7,7 +7,10 @@ pub moved_at-stand-requires-clause-small : goal.moved_at-stand-requires-clause-s
 moved_at-stand-requires-clause-small c =
     rest_small c.steps.result.now c.steps-2.result.now c.in-Some-rest_behind.rest.now c.in-Some-rest_behind.ensures
     (subst AreSmall (sym c.steps-2.ensures)
-    (leads_small c.args.t.now c.args.place.now.path (place_leads c.args.t.now c.args.place.now.path c.args.place.now.offset c.requires.valid) c.size-size.ensures.within))
+    (leads_small c.args.t.now c.args.place.now.path
+    (place_leads c.args.t.now c.args.place.now.path c.args.place.now.offset c.requires.valid)
+    c.size-size.ensures.within))
 
 pub moved_at-stand-requires-clause-offset : goal.moved_at-stand-requires-clause-offset
-moved_at-stand-requires-clause-offset c = place_small c.args.t.now c.args.place.now.path c.args.place.now.offset c.requires.valid c.size-size.ensures.within
+moved_at-stand-requires-clause-offset c =
+    place_small c.args.t.now c.args.place.now.path c.args.place.now.offset c.requires.valid c.size-size.ensures.within

@@ -10,13 +10,21 @@ leaf_of-requires-clause-text g c =
     rw is (text_behind c.in-Leaf.text.now c.args.j c.bytes.ensures.text r.0)
 
 pub spliced-requires-clause-there : goal.spliced-requires-clause-there
-spliced-requires-clause-there g c = omega (arith, extent_of_node c.args.t.now c.in-Node.label.now c.in-Node.children.now c.in-Node.ensures, c.requires.there)
+spliced-requires-clause-there g c =
+    omega (
+      arith,
+      extent_of_node c.args.t.now c.in-Node.label.now c.in-Node.children.now c.in-Node.ensures,
+      c.requires.there,
+    )
 
 pub node_of-requires : goal.node_of-requires
 node_of-requires g c =
     let w = (halves_within c.args.t.now c.args.j c.requires.there c.size-size.ensures.within).1 in
-    rw (← node_behind c.args.t.now c.in-Node.label.now c.in-Node.children.now c.in_ok-all-in-Node.all.items c.args.j c.in-Node.ensures c.in_ok-all-in-Node.ensures) w
+    rw (← node_behind c.args.t.now c.in-Node.label.now c.in-Node.children.now c.in_ok-all-in-Node.all.items c.args.j
+    c.in-Node.ensures c.in_ok-all-in-Node.ensures) w
 
 pub returns-in_ok-all-in-Node-clause-made : goal.returns-in_ok-all-in-Node-clause-made
 returns-in_ok-all-in-Node-clause-made g c =
-    same_ok _ _ _ (node_behind c.args.t.now c.in-Node.label.now c.in-Node.children.now c.in_ok-all-in-Node.all.items c.args.j c.in-Node.ensures c.in_ok-all-in-Node.ensures) c.node_of.ensures.made
+    same_ok _ _ _
+    (node_behind c.args.t.now c.in-Node.label.now c.in-Node.children.now c.in_ok-all-in-Node.all.items c.args.j
+    c.in-Node.ensures c.in_ok-all-in-Node.ensures) c.node_of.ensures.made

@@ -20,10 +20,13 @@ bounds-children-i-2 g c =
 pub join_pair-requires : goal.join_pair-requires
 join_pair-requires g c =
     let r = node_joined c.args.s.now c.in-Node.label.now c.in-Node.children.now c.args.i c.in-Node.ensures c.requires in
-    let one = found_same c.in-Node.children.now c.args.i r.first c.index-children-i.result r.found c.index-children-i.is in
-    let two = found_same c.in-Node.children.now (c.args.i + 1) r.second c.index-children-i-2.result r.next c.index-children-i-2.is in
+    let one = found_same c.in-Node.children.now c.args.i r.first c.index-children-i.result r.found
+    c.index-children-i.is in
+    let two = found_same c.in-Node.children.now (c.args.i + 1) r.second c.index-children-i-2.result r.next
+    c.index-children-i-2.is in
     let made : joined c.index-children-i.result c.index-children-i-2.result ≡ Ok r.third = rw (one, two) r.made in
-    subst (λ o. IsOkAnd o IsWithinLimits) (sym made) (third_within c.in-Node.label.now c.in-Node.children.now c.args.i r.third r.tree.within)
+    subst (λ o. IsOkAnd o IsWithinLimits) (sym made)
+    (third_within c.in-Node.label.now c.in-Node.children.now c.args.i r.third r.tree.within)
 
 pub spliced-requires-clause-there : goal.spliced-requires-clause-there
 spliced-requires-clause-there g c =
@@ -34,23 +37,31 @@ spliced-requires-clause-there g c =
 pub node_of-requires : goal.node_of-requires
 node_of-requires g c =
     let r = node_joined c.args.s.now c.in-Node.label.now c.in-Node.children.now c.args.i c.in-Node.ensures c.requires in
-    let one = found_same c.in-Node.children.now c.args.i r.first c.index-children-i.result r.found c.index-children-i.is in
-    let two = found_same c.in-Node.children.now (c.args.i + 1) r.second c.index-children-i-2.result r.next c.index-children-i-2.is in
+    let one = found_same c.in-Node.children.now c.args.i r.first c.index-children-i.result r.found
+    c.index-children-i.is in
+    let two = found_same c.in-Node.children.now (c.args.i + 1) r.second c.index-children-i-2.result r.next
+    c.index-children-i-2.is in
     let made : joined c.index-children-i.result c.index-children-i-2.result ≡ Ok r.third = rw (one, two) r.made in
     let same : c.in_ok-one.one ≡ r.third = same_tree c.in_ok-one.one r.third (sym c.in_ok-one.ensures.made ∙ made) in
-    let items : c.in_ok-all.all.items ≡ take c.args.i c.in-Node.children.now ++ r.third ∷ drop (c.args.i + 2) c.in-Node.children.now =
-    c.in_ok-all.ensures ∙ append_assoc (take c.args.i c.in-Node.children.now) (c.in_ok-one.one ∷ []) (drop (c.args.i + 2) c.in-Node.children.now)
+    let items : c.in_ok-all.all.items ≡ take c.args.i c.in-Node.children.now ++ r.third ∷ drop (c.args.i + 2)
+    c.in-Node.children.now =
+    c.in_ok-all.ensures ∙ append_assoc (take c.args.i c.in-Node.children.now) (c.in_ok-one.one ∷ [])
+    (drop (c.args.i + 2) c.in-Node.children.now)
     ∙ ap (λ x. take c.args.i c.in-Node.children.now ++ x ∷ drop (c.args.i + 2) c.in-Node.children.now) same in
     items_within c.in-Node.label.now _ _ items r.tree.within
 
 pub returns-clause-made : goal.returns-clause-made
 returns-clause-made g c =
     let r = node_joined c.args.s.now c.in-Node.label.now c.in-Node.children.now c.args.i c.in-Node.ensures c.requires in
-    let one = found_same c.in-Node.children.now c.args.i r.first c.index-children-i.result r.found c.index-children-i.is in
-    let two = found_same c.in-Node.children.now (c.args.i + 1) r.second c.index-children-i-2.result r.next c.index-children-i-2.is in
+    let one = found_same c.in-Node.children.now c.args.i r.first c.index-children-i.result r.found
+    c.index-children-i.is in
+    let two = found_same c.in-Node.children.now (c.args.i + 1) r.second c.index-children-i-2.result r.next
+    c.index-children-i-2.is in
     let made : joined c.index-children-i.result c.index-children-i-2.result ≡ Ok r.third = rw (one, two) r.made in
     let same : c.in_ok-one.one ≡ r.third = same_tree c.in_ok-one.one r.third (sym c.in_ok-one.ensures.made ∙ made) in
-    let items : c.in_ok-all.all.items ≡ take c.args.i c.in-Node.children.now ++ r.third ∷ drop (c.args.i + 2) c.in-Node.children.now =
-    c.in_ok-all.ensures ∙ append_assoc (take c.args.i c.in-Node.children.now) (c.in_ok-one.one ∷ []) (drop (c.args.i + 2) c.in-Node.children.now)
+    let items : c.in_ok-all.all.items ≡ take c.args.i c.in-Node.children.now ++ r.third ∷ drop (c.args.i + 2)
+    c.in-Node.children.now =
+    c.in_ok-all.ensures ∙ append_assoc (take c.args.i c.in-Node.children.now) (c.in_ok-one.one ∷ [])
+    (drop (c.args.i + 2) c.in-Node.children.now)
     ∙ ap (λ x. take c.args.i c.in-Node.children.now ++ x ∷ drop (c.args.i + 2) c.in-Node.children.now) same in
     made_ok _ _ _ _ r.tree.is (node_is c.in-Node.label.now _ _ items) c.node_of.ensures.made

@@ -9,7 +9,9 @@ abbrev pub invariant-loop-k : goal.invariant-loop-k
 invariant-loop-k l =
     record {
       leads : IsSome (subtree l.tree (drop l.k l.steps));
-      whole : (v : WideTree) → depth_of v ≡ l.fn.depth → max l.beside (l.k + depth_of (replaced l.tree (drop l.k l.steps) v)) ≡ depth_of (replaced l.fn.t l.fn.path v);
+      whole : (v : WideTree) → depth_of v ≡ l.fn.depth
+          → max l.beside (l.k + depth_of (replaced l.tree (drop l.k l.steps) v)) ≡ depth_of
+          (replaced l.fn.t l.fn.path v);
       shallow : l.k + depth_of l.tree ≤ depth_of l.fn.t;
       low : l.beside ≤ 1000;
     }

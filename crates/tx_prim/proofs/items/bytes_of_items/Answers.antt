@@ -9,9 +9,11 @@ loop-i-preserved c =
     let total = length (joined_lists (take c.args.items (items_of c.args.bytes.now))) in
     elim c.if-in_symbol.branch [
       | then-in_symbol w ↦
-          part_within c.args.bytes.now c.loop-i.i c.loop-i.left c.if-in_symbol.left total c.loop-i.in_symbol c.if-in_symbol.in_symbol c.loop-i-test.true c.loop-i.invariant w.if-in_symbol.true w.left-is
+          part_within c.args.bytes.now c.loop-i.i c.loop-i.left c.if-in_symbol.left total c.loop-i.in_symbol
+          c.if-in_symbol.in_symbol c.loop-i-test.true c.loop-i.invariant w.if-in_symbol.true w.left-is
           w.in_symbol-is
       | else-in_symbol+else-left-eq0 w ↦
-          part_between c.args.bytes.now c.loop-i.i c.loop-i.left c.if-in_symbol.left total c.loop-i.in_symbol c.if-in_symbol.in_symbol c.loop-i-test.true c.loop-i.invariant w.if-in_symbol.false
+          part_between c.args.bytes.now c.loop-i.i c.loop-i.left c.if-in_symbol.left total c.loop-i.in_symbol
+          c.if-in_symbol.in_symbol c.loop-i-test.true c.loop-i.invariant w.if-in_symbol.false
           w.if-left-eq0.false w.left-is w.in_symbol-is
     ]

@@ -7,6 +7,8 @@ use Rattle.tx_prim.proofs.lengths.print_length.Goals as goal
 
 pub text_of-requires-clause-text : goal.text_of-requires-clause-text
 text_of-requires-clause-text c =
-    let digits : c.in_ok-bytes.bytes.items ≡ _ = c.in_ok-bytes.ensures.items ∙ c.as_bytes.ensures.value ∙ c.format.ensures.text in
-    let e : c.deref.result.now ≡ length_text (to_z w64 (of_z w64 c.args.mcell)) = c.deref.ensures.value ∙ c.in_ok-extend_from_slice.ensures.items ∙ ap (λ x. x ++ codes "mcell") digits in
+    let digits : c.in_ok-bytes.bytes.items ≡ _ = c.in_ok-bytes.ensures.items ∙ c.as_bytes.ensures.value
+    ∙ c.format.ensures.text in
+    let e : c.deref.result.now ≡ length_text (to_z w64 (of_z w64 c.args.mcell)) = c.deref.ensures.value
+    ∙ c.in_ok-extend_from_slice.ensures.items ∙ ap (λ x. x ++ codes "mcell") digits in
     subst IsText (sym (e ∙ ap length_text (to_z-of_z c.ranges.mcell))) (length_is_text c.args.mcell c.ranges.mcell)

@@ -8,5 +8,6 @@ use Rattle.tx_prim.proofs.making.amount_leaf.Goals as goal
 pub leaf_of-requires-clause-text : goal.leaf_of-requires-clause-text
 leaf_of-requires-clause-text c =
     let f : FitsSigned w64 c.in-Number.n = search rules in
-    let e : c.as_bytes.result.now ≡ signed_decimal (to_z w64 (of_z w64 c.in-Number.n)) = c.as_bytes.ensures.value ∙ c.format.ensures.text in
+    let e : c.as_bytes.result.now ≡ signed_decimal (to_z w64 (of_z w64 c.in-Number.n)) = c.as_bytes.ensures.value
+    ∙ c.format.ensures.text in
     subst IsText (sym (e ∙ ap signed_decimal (to_z-of_z f))) (signed_text c.in-Number.n f)

@@ -5,4 +5,5 @@ use Rattle.tx_prim.proofs.numbers.digits_value.Given as goal
 
 abbrev pub invariant-loop-digit : goal.invariant-loop-digit
 invariant-loop-digit l =
-    (number_after 0 l.digits ≡ number_after l.value (drop l.digit-index l.digits)) × (list_all is_digit (drop l.digit-index l.digits) ≡ true) × (l.value < 2 ^ 64)
+    (number_after 0 l.digits ≡ number_after l.value (drop l.digit-index l.digits))
+    × (list_all is_digit (drop l.digit-index l.digits) ≡ true) × (l.value < 2 ^ 64)

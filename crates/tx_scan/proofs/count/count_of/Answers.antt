@@ -7,7 +7,8 @@ use lib.Lanes.{chunk}
 use Rattle.tx_scan.proofs.count.count_of.Goals as goal
 
 -- a count, one block on
-count_by_block : (p : ℕ → Bool) (xs : List ℕ) (at : ℕ) → count_by p (take (at + 32) xs) ≡ count_by p (take at xs) + count_by p (chunk at 32 xs)
+count_by_block : (p : ℕ → Bool) (xs : List ℕ) (at : ℕ)
+    → count_by p (take (at + 32) xs) ≡ count_by p (take at xs) + count_by p (chunk at 32 xs)
 count_by_block p xs at = ap (count_by p) (take-add at 32 xs) ∙ sum_by-append _ (take at xs) (chunk at 32 xs)
 
 pub overflow_add-total : goal.overflow_add-total

@@ -10,6 +10,7 @@ decreases-tree_length l = depth_of l.t.now
 abbrev pub invariant-loop-child : goal.invariant-loop-child
 invariant-loop-child l =
     record {
-      same : capped (l.count + length (scheme_texts (forest (drop l.child-index l.child-items)))) ≡ capped (length (scheme_text l.t));
+      same : capped (l.count + length (scheme_texts (forest (drop l.child-index l.child-items)))) ≡ capped
+          (length (scheme_text l.t));
       small : l.count ≤ 18446744073709551615;
     }

@@ -7,6 +7,7 @@ use Rattle.tx_scm.proofs.lengths.escaped_length.Given as goal
 abbrev pub invariant-loop-byte : goal.invariant-loop-byte
 invariant-loop-byte l =
     record {
-      same : capped (l.count + length (flat_map escaped (drop l.byte-index l.bytes))) ≡ capped (length (flat_map escaped l.bytes));
+      same : capped (l.count + length (flat_map escaped (drop l.byte-index l.bytes))) ≡ capped
+          (length (flat_map escaped l.bytes));
       small : l.count ≤ 18446744073709551615;
     }

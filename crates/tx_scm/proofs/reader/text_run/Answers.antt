@@ -7,7 +7,9 @@ use Rattle.tx_scm.proofs.reader.text_run.Goals as goal
 pub returns-then-not-branch-clause-same : goal.returns-then-not-branch-clause-same
 returns-then-not-branch-clause-same c = λ opens.
     c.loop-i.invariant.same opens
-    ∙ step_fails c.args.bytes.now _ c.loop-i.i _ (omega arith) refl (plain_refused _ _ opens c.if-byte-eq34.false c.if-byte-eq92.false _ c.in_ok-push.ensures.taken c.if-not-branch.true)
+    ∙ step_fails c.args.bytes.now _ c.loop-i.i _ (omega arith) refl
+    (plain_refused _ _ opens c.if-byte-eq34.false c.if-byte-eq92.false _ c.in_ok-push.ensures.taken
+    c.if-not-branch.true)
 
 pub loop-i-preserved : goal.loop-i-preserved
 loop-i-preserved c =
@@ -15,10 +17,16 @@ loop-i-preserved c =
       same = λ opens.
           c.loop-i.invariant.same opens
           ∙ step_more c.args.bytes.now _ c.loop-i.i _ (omega arith) refl (texting c.push.new.self opens)
-          (plain_taken _ _ opens c.if-byte-eq34.false c.if-byte-eq92.false _ _ c.in_ok-push.ensures.taken c.in_ok-push.ensures.after c.if-not-branch.false);
+          (plain_taken _ _ opens c.if-byte-eq34.false c.if-byte-eq92.false _ _ c.in_ok-push.ensures.taken
+          c.in_ok-push.ensures.after c.if-not-branch.false);
       led = λ opens.
           c.loop-i.invariant.led opens
           ∙ leads_more c.args.bytes.now _ c.loop-i.i _ (omega arith) refl (texting c.push.new.self opens) (λ e. cc)
-          (plain_taken _ _ opens c.if-byte-eq34.false c.if-byte-eq92.false _ _ c.in_ok-push.ensures.taken c.in_ok-push.ensures.after c.if-not-branch.false);
-      longer = omega (arith, c.loop-i.invariant.longer, taken_longer _ _ _ _ c.in_ok-push.ensures.after c.if-not-branch.false);
+          (plain_taken _ _ opens c.if-byte-eq34.false c.if-byte-eq92.false _ _ c.in_ok-push.ensures.taken
+          c.in_ok-push.ensures.after c.if-not-branch.false);
+      longer = omega (
+        arith,
+        c.loop-i.invariant.longer,
+        taken_longer _ _ _ _ c.in_ok-push.ensures.after c.if-not-branch.false,
+      );
     }

@@ -11,5 +11,6 @@ abbrev pub invariant-loop-child : goal.invariant-loop-child
 invariant-loop-child l =
     record {
       end : l.end ≤ length l.bytes;
-      same : behind_tree l.tree (drop l.fn.at l.bytes) ≡ and_then (behind_trees (forest (drop l.child-index l.child-items)) (drop l.end l.bytes)) closing;
+      same : behind_tree l.tree (drop l.fn.at l.bytes) ≡ and_then
+          (behind_trees (forest (drop l.child-index l.child-items)) (drop l.end l.bytes)) closing;
     }

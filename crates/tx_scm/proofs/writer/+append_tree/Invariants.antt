@@ -9,6 +9,7 @@ decreases-append_tree l = depth_of l.t.now
 abbrev pub invariant-loop-child : goal.invariant-loop-child
 invariant-loop-child l =
     record {
-      text : l.out.items ++ (scheme_texts (forest (drop l.child-index l.child-items)) ++ 41 ∷ []) ≡ l.fn.out.items ++ scheme_text l.t;
+      text : l.out.items ++ (scheme_texts (forest (drop l.child-index l.child-items)) ++ 41 ∷ []) ≡ l.fn.out.items
+          ++ scheme_text l.t;
       grows : take (length l.fn.out.items) l.out.items ≡ l.fn.out.items;
     }

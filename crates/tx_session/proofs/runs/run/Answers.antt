@@ -12,40 +12,96 @@ use Rattle.tx_session.proofs.runs.run.Goals as goal
 
 pub returns-in-Ok-clause-run : goal.returns-in-Ok-clause-run
 returns-in-Ok-clause-run g c =
-    opened_run (record { misses = Rose (g.S.Store.misses c.args.store.now) (g.S.Store.misses c.serve.new.store); longs = Rose (g.S.Store.longs c.args.store.now) (g.S.Store.longs c.serve.new.store); store_faults = Rose (g.S.Store.faults c.args.store.now) (g.S.Store.faults c.serve.new.store); input_faults = Rose (g.I.Source.faults c.args.input.now) (g.I.Source.faults c.serve.new.input) })
-    (map (string_bytes {Z = Global}) c.args.words.now) (stored (g.S.Store.files c.args.store.now) (g.S.Store.faults c.args.store.now)) (stored (g.S.Store.files c.open-opening.new.store) (g.S.Store.faults c.open-opening.new.store))
-    (world c.serve.new.session (g.S.Store.files c.serve.new.store) (g.S.Store.faults c.serve.new.store)) (g.I.Source.left c.args.input.now) (g.I.Source.left c.serve.new.input) c.in-Opened.file.now c.in-Opened.tree (g.O.Sink.written c.args.out.now) (g.O.Sink.written c.serve.new.out)
-    (c.open-opening.ensures.files_kept, c.open-opening.ensures.faults_never_fall) c.in-Opened.ensures.comes c.serve.result
-    (subst (λ s. IsServed (Rose (g.I.Source.faults c.args.input.now) (g.I.Source.faults c.serve.new.input)) c.serve.result (world s (g.S.Store.files c.open-opening.new.store) (g.S.Store.faults c.open-opening.new.store)) (world c.serve.new.session (g.S.Store.files c.serve.new.store) (g.S.Store.faults c.serve.new.store)) (g.I.Source.left c.args.input.now) (g.I.Source.left c.serve.new.input) (g.O.Sink.written c.args.out.now) (g.O.Sink.written c.serve.new.out)) c.in-Ok.ensures.session c.serve.ensures.ended)
+    opened_run (record {
+      misses = Rose (g.S.Store.misses c.args.store.now) (g.S.Store.misses c.serve.new.store);
+      longs = Rose (g.S.Store.longs c.args.store.now) (g.S.Store.longs c.serve.new.store);
+      store_faults =
+          Rose (g.S.Store.faults c.args.store.now) (g.S.Store.faults c.serve.new.store);
+      input_faults =
+          Rose (g.I.Source.faults c.args.input.now) (g.I.Source.faults c.serve.new.input);
+    })
+    (map (string_bytes {Z = Global}) c.args.words.now)
+    (stored (g.S.Store.files c.args.store.now) (g.S.Store.faults c.args.store.now))
+    (stored (g.S.Store.files c.open-opening.new.store) (g.S.Store.faults c.open-opening.new.store))
+    (world c.serve.new.session (g.S.Store.files c.serve.new.store) (g.S.Store.faults c.serve.new.store))
+    (g.I.Source.left c.args.input.now) (g.I.Source.left c.serve.new.input) c.in-Opened.file.now c.in-Opened.tree
+    (g.O.Sink.written c.args.out.now) (g.O.Sink.written c.serve.new.out)
+    (c.open-opening.ensures.files_kept, c.open-opening.ensures.faults_never_fall) c.in-Opened.ensures.comes
+    c.serve.result
+    (subst (λ s. IsServed (Rose (g.I.Source.faults c.args.input.now) (g.I.Source.faults c.serve.new.input))
+    c.serve.result (world s (g.S.Store.files c.open-opening.new.store) (g.S.Store.faults c.open-opening.new.store))
+    (world c.serve.new.session (g.S.Store.files c.serve.new.store) (g.S.Store.faults c.serve.new.store))
+    (g.I.Source.left c.args.input.now) (g.I.Source.left c.serve.new.input) (g.O.Sink.written c.args.out.now)
+    (g.O.Sink.written c.serve.new.out)) c.in-Ok.ensures.session c.serve.ensures.ended)
 
 pub returns-in-Ok-clause-script_long : goal.returns-in-Ok-clause-script_long
-returns-in-Ok-clause-script_long g c = λ e. served_long (Rose (g.I.Source.faults c.args.input.now) (g.I.Source.faults c.serve.new.input)) c.serve.result _ _ (g.I.Source.left c.args.input.now) (g.I.Source.left c.serve.new.input) (g.O.Sink.written c.args.out.now) (g.O.Sink.written c.serve.new.out) c.serve.ensures.ended e
+returns-in-Ok-clause-script_long g c =
+    λ e. served_long (Rose (g.I.Source.faults c.args.input.now) (g.I.Source.faults c.serve.new.input)) c.serve.result _
+    _ (g.I.Source.left c.args.input.now) (g.I.Source.left c.serve.new.input) (g.O.Sink.written c.args.out.now)
+    (g.O.Sink.written c.serve.new.out) c.serve.ensures.ended e
 
 pub returns-in-Ok-clause-complete : goal.returns-in-Ok-clause-complete
 returns-in-Ok-clause-complete g c = λ can read m l f i o.
-    served_complete (Rose (g.I.Source.faults c.args.input.now) (g.I.Source.faults c.serve.new.input)) c.serve.result _ _ (g.I.Source.left c.args.input.now) (g.I.Source.left c.serve.new.input) (g.O.Sink.written c.args.out.now) (g.O.Sink.written c.serve.new.out) read.0 c.serve.ensures.ended read.1 read.2
+    served_complete (Rose (g.I.Source.faults c.args.input.now) (g.I.Source.faults c.serve.new.input)) c.serve.result _ _
+    (g.I.Source.left c.args.input.now) (g.I.Source.left c.serve.new.input) (g.O.Sink.written c.args.out.now)
+    (g.O.Sink.written c.serve.new.out) read.0 c.serve.ensures.ended read.1 read.2
     (λ e. i (c.serve.ensures.input_fault_counted e)) (λ e. o (c.serve.ensures.output_fault_counted e))
 
 pub returns-in-Ok-clause-words_touch_nothing : goal.returns-in-Ok-clause-words_touch_nothing
 returns-in-Ok-clause-words_touch_nothing g c = λ e. absurd (let named = c.in-Opened.ensures.comes.0 in cc)
 
 pub returns-in-Ok-clause-unread : goal.returns-in-Ok-clause-unread
-returns-in-Ok-clause-unread g c = λ e. absurd (served_unread (Rose (g.I.Source.faults c.args.input.now) (g.I.Source.faults c.serve.new.input)) c.serve.result _ _ (g.I.Source.left c.args.input.now) (g.I.Source.left c.serve.new.input) (g.O.Sink.written c.args.out.now) (g.O.Sink.written c.serve.new.out) c.serve.ensures.ended e)
+returns-in-Ok-clause-unread g c =
+    λ e. absurd
+    (served_unread (Rose (g.I.Source.faults c.args.input.now) (g.I.Source.faults c.serve.new.input)) c.serve.result _ _
+    (g.I.Source.left c.args.input.now) (g.I.Source.left c.serve.new.input) (g.O.Sink.written c.args.out.now)
+    (g.O.Sink.written c.serve.new.out) c.serve.ensures.ended e)
 
 pub returns-in-Err-clause-words_touch_nothing : goal.returns-in-Err-clause-words_touch_nothing
 returns-in-Err-clause-words_touch_nothing g c = λ e. absurd (let named = c.in-Opened.ensures.comes.0 in cc)
 
 pub returns-in-Err-clause-run : goal.returns-in-Err-clause-run
 returns-in-Err-clause-run g c =
-    line_run (record { misses = Rose (g.S.Store.misses c.args.store.now) (g.S.Store.misses c.open-opening.new.store); longs = Rose (g.S.Store.longs c.args.store.now) (g.S.Store.longs c.open-opening.new.store); store_faults = Rose (g.S.Store.faults c.args.store.now) (g.S.Store.faults c.open-opening.new.store); input_faults = Rose (g.I.Source.faults c.args.input.now) (g.I.Source.faults c.args.input.now) })
-    _ (stored (g.S.Store.files c.args.store.now) (g.S.Store.faults c.args.store.now)) (stored (g.S.Store.files c.open-opening.new.store) (g.S.Store.faults c.open-opening.new.store)) _ no_memory c.finish-in-Err.result _ _ (c.open-opening.ensures.files_kept, c.open-opening.ensures.faults_never_fall) tt (λ file t e. cc) (c.in-Opened.file.now, c.in-Opened.ensures.comes.0) c.finish-in-Err.ensures.done c.finish-in-Err.ensures.cut
+    line_run (record {
+      misses = Rose (g.S.Store.misses c.args.store.now) (g.S.Store.misses c.open-opening.new.store);
+      longs = Rose (g.S.Store.longs c.args.store.now) (g.S.Store.longs c.open-opening.new.store);
+      store_faults =
+          Rose (g.S.Store.faults c.args.store.now) (g.S.Store.faults c.open-opening.new.store);
+      input_faults =
+          Rose (g.I.Source.faults c.args.input.now) (g.I.Source.faults c.args.input.now);
+    })
+    _ (stored (g.S.Store.files c.args.store.now) (g.S.Store.faults c.args.store.now))
+    (stored (g.S.Store.files c.open-opening.new.store) (g.S.Store.faults c.open-opening.new.store)) _ no_memory
+    c.finish-in-Err.result _ _ (c.open-opening.ensures.files_kept, c.open-opening.ensures.faults_never_fall) tt
+    (λ file t e. cc) (c.in-Opened.file.now, c.in-Opened.ensures.comes.0) c.finish-in-Err.ensures.done
+    c.finish-in-Err.ensures.cut
 
 pub returns-in_default : goal.returns-in_default
 returns-in_default g c =
-    let run = unopened_run (map (string_bytes {Z = Global}) c.args.words.now) (stored (g.S.Store.files c.args.store.now) (g.S.Store.faults c.args.store.now)) (stored (g.S.Store.files c.open-opening.new.store) (g.S.Store.faults c.open-opening.new.store)) c.open-opening.result c.report.result (g.O.Sink.written c.args.out.now) (g.O.Sink.written c.report.new.out) (Rose (g.S.Store.misses c.args.store.now) (g.S.Store.misses c.open-opening.new.store)) (Rose (g.S.Store.longs c.args.store.now) (g.S.Store.longs c.open-opening.new.store)) (Rose (g.S.Store.faults c.args.store.now) (g.S.Store.faults c.open-opening.new.store)) (Rose (g.I.Source.faults c.args.input.now) (g.I.Source.faults c.args.input.now)) (c.open-opening.ensures.files_kept, c.open-opening.ensures.faults_never_fall) c.open-opening.ensures.comes c.in_default.not-FaultyWords c.in_default.not-Opened
-    c.report.ensures.line c.open-opening.ensures.missing_counted c.open-opening.ensures.fault_counted c.open-opening.ensures.long_counted (g.I.Source.left c.args.input.now) in
-    let cause = unopened_causes (map (string_bytes {Z = Global}) c.args.words.now) (stored (g.S.Store.files c.args.store.now) (g.S.Store.faults c.args.store.now)) (stored (g.S.Store.files c.open-opening.new.store) (g.S.Store.faults c.open-opening.new.store)) c.open-opening.result c.report.result (g.O.Sink.written c.args.out.now) (g.O.Sink.written c.report.new.out) (Rose (g.S.Store.misses c.args.store.now) (g.S.Store.misses c.open-opening.new.store)) (Rose (g.S.Store.longs c.args.store.now) (g.S.Store.longs c.open-opening.new.store)) (Rose (g.S.Store.faults c.args.store.now) (g.S.Store.faults c.open-opening.new.store)) (Rose (g.I.Source.faults c.args.input.now) (g.I.Source.faults c.args.input.now)) (c.open-opening.ensures.files_kept, c.open-opening.ensures.faults_never_fall) c.open-opening.ensures.comes c.in_default.not-FaultyWords c.in_default.not-Opened
-    c.report.ensures.line c.open-opening.ensures.missing_counted c.open-opening.ensures.fault_counted c.open-opening.ensures.long_counted in
+    let run = unopened_run (map (string_bytes {Z = Global}) c.args.words.now)
+    (stored (g.S.Store.files c.args.store.now) (g.S.Store.faults c.args.store.now))
+    (stored (g.S.Store.files c.open-opening.new.store) (g.S.Store.faults c.open-opening.new.store))
+    c.open-opening.result c.report.result (g.O.Sink.written c.args.out.now) (g.O.Sink.written c.report.new.out)
+    (Rose (g.S.Store.misses c.args.store.now) (g.S.Store.misses c.open-opening.new.store))
+    (Rose (g.S.Store.longs c.args.store.now) (g.S.Store.longs c.open-opening.new.store))
+    (Rose (g.S.Store.faults c.args.store.now) (g.S.Store.faults c.open-opening.new.store))
+    (Rose (g.I.Source.faults c.args.input.now) (g.I.Source.faults c.args.input.now))
+    (c.open-opening.ensures.files_kept, c.open-opening.ensures.faults_never_fall) c.open-opening.ensures.comes
+    c.in_default.not-FaultyWords c.in_default.not-Opened
+    c.report.ensures.line c.open-opening.ensures.missing_counted c.open-opening.ensures.fault_counted
+    c.open-opening.ensures.long_counted (g.I.Source.left c.args.input.now) in
+    let cause = unopened_causes (map (string_bytes {Z = Global}) c.args.words.now)
+    (stored (g.S.Store.files c.args.store.now) (g.S.Store.faults c.args.store.now))
+    (stored (g.S.Store.files c.open-opening.new.store) (g.S.Store.faults c.open-opening.new.store))
+    c.open-opening.result c.report.result (g.O.Sink.written c.args.out.now) (g.O.Sink.written c.report.new.out)
+    (Rose (g.S.Store.misses c.args.store.now) (g.S.Store.misses c.open-opening.new.store))
+    (Rose (g.S.Store.longs c.args.store.now) (g.S.Store.longs c.open-opening.new.store))
+    (Rose (g.S.Store.faults c.args.store.now) (g.S.Store.faults c.open-opening.new.store))
+    (Rose (g.I.Source.faults c.args.input.now) (g.I.Source.faults c.args.input.now))
+    (c.open-opening.ensures.files_kept, c.open-opening.ensures.faults_never_fall) c.open-opening.ensures.comes
+    c.in_default.not-FaultyWords c.in_default.not-Opened
+    c.report.ensures.line c.open-opening.ensures.missing_counted c.open-opening.ensures.fault_counted
+    c.open-opening.ensures.long_counted in
     record {
       run = run;
       words = λ e. absurd (cause.not_words e);

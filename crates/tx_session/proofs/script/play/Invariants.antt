@@ -11,10 +11,15 @@ use Rattle.tx_session.proofs.script.play.Given as goal
 abbrev pub invariant-loop-session : goal.invariant-loop-session
 invariant-loop-session g l =
     record {
-      taken : (taken : List ℕ) × (g.I.Source.left l.fn.input ≡ prepend_known taken (g.I.Source.left l.input)) × (length taken + l.room ≡ MOST_SCRIPT)
-          × StandsWith (world l.fn.session (g.S.Store.files l.fn.store) (g.S.Store.faults l.fn.store)) (g.O.Sink.written l.fn.out) taken (world l.session (g.S.Store.files l.store) (g.S.Store.faults l.store)) l.line (g.O.Sink.written l.out);
+      taken : (taken : List ℕ) × (g.I.Source.left l.fn.input ≡ prepend_known taken (g.I.Source.left l.input))
+          × (length taken + l.room ≡ MOST_SCRIPT)
+          × StandsWith (world l.fn.session (g.S.Store.files l.fn.store) (g.S.Store.faults l.fn.store))
+          (g.O.Sink.written l.fn.out) taken (world l.session (g.S.Store.files l.store) (g.S.Store.faults l.store))
+          l.line (g.O.Sink.written l.out);
       count : l.line.count + l.room ≤ MOST_SCRIPT;
-      store : GoesOn (g.S.Store.files l.fn.store) (g.S.Store.files l.store) (g.S.Store.faults l.fn.store) (g.S.Store.faults l.store) (g.S.Store.misses l.fn.store) (g.S.Store.misses l.store) (g.S.Store.longs l.fn.store) (g.S.Store.longs l.store);
+      store : GoesOn (g.S.Store.files l.fn.store) (g.S.Store.files l.store) (g.S.Store.faults l.fn.store)
+          (g.S.Store.faults l.store) (g.S.Store.misses l.fn.store) (g.S.Store.misses l.store)
+          (g.S.Store.longs l.fn.store) (g.S.Store.longs l.store);
       piece : length l.piece ≡ 4096;
       input_faults : NeverFalls (g.I.Source.faults l.fn.input) (g.I.Source.faults l.input);
       output_faults : NeverFalls (g.O.Sink.faults l.fn.out) (g.O.Sink.faults l.out);

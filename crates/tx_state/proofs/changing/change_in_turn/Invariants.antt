@@ -10,7 +10,8 @@ invariant-loop-m g l =
     record {
       tree : changed_in_turn l.fn.mods l.fn.t ≡ changed_in_turn (drop l.m-index l.mods) l.now.tree;
       back : inverses_of l.fn.mods l.fn.t ≡ inverses_of (drop l.m-index l.mods) l.now.tree ++ reverse l.now.back.items;
-      place : option_map (moved_in_turn l.fn.mods l.fn.t) l.fn.place ≡ option_map (moved_in_turn (drop l.m-index l.mods) l.now.tree) l.now.place;
+      place : option_map (moved_in_turn l.fn.mods l.fn.t) l.fn.place ≡ option_map
+          (moved_in_turn (drop l.m-index l.mods) l.now.tree) l.now.place;
       valid : IsPlaceIn l.now.tree l.now.place;
       sound : AreSound (take l.m-index l.mods);
       counted : l.steps + cost_both_ways (drop l.m-index l.mods) ≤ l.fn.steps + cost_both_ways l.fn.mods;

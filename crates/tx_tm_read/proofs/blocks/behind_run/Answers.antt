@@ -10,4 +10,5 @@ returns-in-None-3-clause-next g c =
     let made = rw c.in-Some.is at c.in_ok-finish-in-Some-Break.ensures.made in
     let next = rw c.in-None-3.is at c.in_ok-with-in-Some.ensures in
     let last : c.args.run ≡ Some Break = search rules in
-    subst (λ w. (k : ℕ) → RowFits k (ended w c.args.full c.args.now) → LineFits k (resumed w c.args.now) → ⊥) (sym last) (full_row c.args.full c.args.now c.in-Some.tree made next)
+    subst (λ w. (k : ℕ) → RowFits k (ended w c.args.full c.args.now) → LineFits k (resumed w c.args.now) → ⊥) (sym last)
+    (full_row c.args.full c.args.now c.in-Some.tree made next)

@@ -6,12 +6,14 @@ use Rattle.tx_tm_read.proofs.measuring.measure.Goals as goal
 pub returns-in-None : goal.returns-in-None
 returns-in-None c = λ t h.
     let over = rw c.in-None.is at c.in_ok-step.ensures in
-    absurd (meter_lost c.args.bytes.now c.loop-byte.byte-index c.loop-byte.meter t c.loop-byte-test.true c.loop-byte.invariant over h)
+    absurd (meter_lost c.args.bytes.now c.loop-byte.byte-index c.loop-byte.meter t c.loop-byte-test.true
+    c.loop-byte.invariant over h)
 
 pub loop-byte-preserved : goal.loop-byte-preserved
 loop-byte-preserved c =
     let next = rw c.in-Some.is at c.in_ok-step.ensures in
-    meter_more c.args.bytes.now c.loop-byte.byte-index c.loop-byte.meter c.in-Some.next c.loop-byte-test.true c.loop-byte.invariant next
+    meter_more c.args.bytes.now c.loop-byte.byte-index c.loop-byte.meter c.in-Some.next c.loop-byte-test.true
+    c.loop-byte.invariant next
 
 pub step-requires : goal.step-requires
 step-requires c =
@@ -24,4 +26,6 @@ body_sums-requires c =
     metered_end c.args.bytes.now c.loop-byte.byte-index c.loop-byte.meter short c.loop-byte.invariant
 
 pub returns : goal.returns
-returns c = λ t h. c.body_sums.ensures ∙ metered c.args.bytes.now c.loop-byte.byte-index c.loop-byte.meter t (omega (arith, c.loop-byte-test.false)) c.loop-byte.invariant h
+returns c =
+    λ t h. c.body_sums.ensures ∙ metered c.args.bytes.now c.loop-byte.byte-index c.loop-byte.meter t
+    (omega (arith, c.loop-byte-test.false)) c.loop-byte.invariant h

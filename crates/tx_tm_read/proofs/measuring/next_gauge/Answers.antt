@@ -4,4 +4,9 @@ use Rattle.tx_tm_read.proofs.measuring.next_gauge.Goals as goal
 
 pub child_in-requires : goal.child_in-requires
 child_in-requires c =
-    omega (arith, c.requires, body_small c.args.here c.body_sums.result c.body_sums.ensures, popped_most c.args.here c.args.opens.items c.pop.new.self.items c.in-Some.tag c.in-Some.ensures.items)
+    omega (
+      arith,
+      c.requires,
+      body_small c.args.here c.body_sums.result c.body_sums.ensures,
+      popped_most c.args.here c.args.opens.items c.pop.new.self.items c.in-Some.tag c.in-Some.ensures.items,
+    )

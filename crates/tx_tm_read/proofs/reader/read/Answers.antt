@@ -4,8 +4,10 @@ use Rattle.tx_tm_read.proofs.reader.read.Goals as goal
 
 pub returns-in-Ok-Some-clause-found : goal.returns-in-Ok-Some-clause-found
 returns-in-Ok-Some-clause-found g c =
-    let found = rw c.in-Ok-Some.field-0-is at c.in-Ok-Some.ensures.found in read_is_spelled c.args.bytes.now c.in-Ok-Some.tree found
+    let found = rw c.in-Ok-Some.field-0-is at c.in-Ok-Some.ensures.found in
+    read_is_spelled c.args.bytes.now c.in-Ok-Some.tree found
 
 pub fault_of-requires : goal.fault_of-requires
 fault_of-requires g c =
-    let none = rw c.in-Ok-None.field-0-is at c.in-Ok-None.ensures.found in λ t s w. none t (spelled_is_read c.args.bytes.now t s) w
+    let none = rw c.in-Ok-None.field-0-is at c.in-Ok-None.ensures.found in
+    λ t s w. none t (spelled_is_read c.args.bytes.now t s) w

@@ -15,7 +15,9 @@ bytes-preserved g c =
     let a = rw c.in-Some.is at c.in_ok-advance.ensures.next in
     let n = rw c.in-Some.is at c.in_ok-advance.ensures.counted in
     record {
-      going = ap (run keep (reader_of c.in-Some.advance.reader)) (rest_is c.in-Some.advance.taken c.bytes.rest.now) ∙ run_on (reader_of c.bytes.reader) (reader_of c.in-Some.advance.reader) c.in-Some.advance.taken c.bytes.rest.now c.args.bytes.now c.bytes.invariant.going a.2;
+      going = ap (run keep (reader_of c.in-Some.advance.reader)) (rest_is c.in-Some.advance.taken c.bytes.rest.now)
+          ∙ run_on (reader_of c.bytes.reader) (reader_of c.in-Some.advance.reader) c.in-Some.advance.taken
+          c.bytes.rest.now c.args.bytes.now c.bytes.invariant.going a.2;
       counted = omega (arith, c.bytes.invariant.counted, n);
       rises = omega (arith, c.bytes.invariant.rises, c.advance.ensures.rises);
     }

@@ -3,4 +3,10 @@ use Rattle.tx_tm_read.proofs.Bounding.{resumed_most}
 use Rattle.tx_tm_read.proofs.sums.later_block.Goals as goal
 
 pub grow_line-requires : goal.grow_line-requires
-grow_line-requires c = omega (arith, c.requires, resumed_most c.args.block.run c.args.block.now c.resumed_line.result c.resumed_line.ensures)
+grow_line-requires c =
+    omega (
+      arith,
+      c.requires,
+      resumed_most c.args.block.run c.args.block.now c.resumed_line.result
+          c.resumed_line.ensures,
+    )

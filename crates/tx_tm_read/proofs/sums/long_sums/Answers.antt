@@ -7,4 +7,9 @@ both-requires c = omega (arith, c.requires, body_small c.args.here c.body_sums.r
 
 pub node_sums-requires-in-Argument : goal.node_sums-requires-in-Argument
 node_sums-requires-in-Argument c =
-    omega (arith, c.requires, body_small c.args.here c.body_sums.result c.body_sums.ensures, both_small c.args.children c.body_sums.result c.both.result c.both.ensures)
+    omega (
+      arith,
+      c.requires,
+      body_small c.args.here c.body_sums.result c.body_sums.ensures,
+      both_small c.args.children c.body_sums.result c.both.result c.both.ensures,
+    )

@@ -8,4 +8,5 @@ use Rattle.tx_tm_read.proofs.walk.bar_in.Goals as goal
 pub returns-in-Some-clause-counted : goal.returns-in-Some-clause-counted
 returns-in-Some-clause-counted g c =
     let counted = rw c.in-Some.is at c.in_ok-finish.ensures.counted in
-    tag_rose _ _ (line_nodes c.args.line) (Some c.args.place) (open_of c.args.tag) c.in-Some.child (opens_of c.args.opens.items) (with_child (open_of c.args.tag) c.in-Some.child) _ refl c.go_on.ensures counted
+    tag_rose _ _ (line_nodes c.args.line) (Some c.args.place) (open_of c.args.tag) c.in-Some.child
+    (opens_of c.args.opens.items) (with_child (open_of c.args.tag) c.in-Some.child) _ refl c.go_on.ensures counted

@@ -9,5 +9,6 @@ use Rattle.tx_tm_read.proofs.walk.collection_in.Goals as goal
 
 pub returns-in-None-clause-next : goal.returns-in-None-clause-next
 returns-in-None-clause-next g c =
-    tag_stuck_there (content_of c.args.before) true (node collection_label (forest (map tree_of_entry (tags_of c.args.tags).entries))) (opens_of c.args.opens.items)
+    tag_stuck_there (content_of c.args.before) true
+    (node collection_label (forest (map tree_of_entry (tags_of c.args.tags).entries))) (opens_of c.args.opens.items)
     (rw c.in-None.is at c.in_ok-collection.ensures.made)

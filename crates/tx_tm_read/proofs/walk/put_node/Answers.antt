@@ -7,4 +7,5 @@ use Rattle.tx_tm_read.proofs.walk.put_node.Goals as goal
 
 pub returns-in-None-clause-next : goal.returns-in-None-clause-next
 returns-in-None-clause-next g c =
-    tag_stuck_there (content_of c.args.before) false (node c.args.label (forest c.args.children.items)) (opens_of c.args.opens.items) (rw c.in-None.is at c.in_ok-make_node.ensures.made)
+    tag_stuck_there (content_of c.args.before) false (node c.args.label (forest c.args.children.items))
+    (opens_of c.args.opens.items) (rw c.in-None.is at c.in_ok-make_node.ensures.made)

@@ -14,4 +14,5 @@ pub returns-in-Some-clause-counted : goal.returns-in-Some-clause-counted
 returns-in-Some-clause-counted g c =
     let next = rw c.in-Some.is at c.in_ok-with_tag.ensures.next in
     let counted = rw c.in-Some.is at c.in_ok-with_tag.ensures.counted in
-    rises _ _ (content_nodes (content_of c.args.before) + nodes_of c.args.tree) (content_of c.args.before) (content_of c.in-Some.here) (tag c.args.collects c.args.tree) (opens_of c.args.opens.items) next counted
+    rises _ _ (content_nodes (content_of c.args.before) + nodes_of c.args.tree) (content_of c.args.before)
+    (content_of c.in-Some.here) (tag c.args.collects c.args.tree) (opens_of c.args.opens.items) next counted

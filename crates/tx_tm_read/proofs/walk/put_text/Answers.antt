@@ -12,4 +12,5 @@ pub returns-in-Some-clause-counted : goal.returns-in-Some-clause-counted
 returns-in-Some-clause-counted g c =
     let next = rw c.in-Some.is at c.in_ok-with_text.ensures.next in
     let counted = rw c.in-Some.is at c.in_ok-with_text.ensures.counted in
-    rises _ _ (content_nodes (content_of c.args.here)) (content_of c.args.here) (content_of c.in-Some.here) (text c.args.items.now) (opens_of c.args.opens.items) next counted
+    rises _ _ (content_nodes (content_of c.args.here)) (content_of c.args.here) (content_of c.in-Some.here)
+    (text c.args.items.now) (opens_of c.args.opens.items) next counted

@@ -13,4 +13,5 @@ pub returns-in-Some-clause-counted : goal.returns-in-Some-clause-counted
 returns-in-Some-clause-counted c =
     let next = rw c.in-Some.is at c.in_ok-with_white.ensures.next in
     let counted = rw c.in-Some.is at c.in_ok-with_white.ensures.counted in
-    rises 0 0 (content_nodes (content_of c.args.here)) (content_of c.args.here) (content_of c.in-Some.here) (gap c.args.white) (opens_of c.args.opens.items) next (omega (arith, counted))
+    rises 0 0 (content_nodes (content_of c.args.here)) (content_of c.args.here) (content_of c.in-Some.here)
+    (gap c.args.white) (opens_of c.args.opens.items) next (omega (arith, counted))

@@ -38,34 +38,39 @@ decreases-long_child_length l = 6 * depth_of l.child.now + 3
 abbrev pub invariant-short_length-loop-child : goal.invariant-short_length-loop-child
 invariant-short_length-loop-child l =
     record {
-      same : capped (l.count + length (arguments_text (forest (drop l.child-index l.child-items)))) ≡ capped (length (60 ∷ (l.label ++ (arguments_text (forest (children_of l.t)) ++ 62 ∷ []))));
+      same : capped (l.count + length (arguments_text (forest (drop l.child-index l.child-items)))) ≡ capped
+          (length (60 ∷ (l.label ++ (arguments_text (forest (children_of l.t)) ++ 62 ∷ []))));
       small : l.count ≤ 18446744073709551615;
     }
 
 abbrev pub invariant-long_length-loop-i : goal.invariant-long_length-loop-i
 invariant-long_length-loop-i l =
     record {
-      same : capped (l.count + length (long_text l.label (forest (drop l.i l.children)))) ≡ capped (length (opened 92 l.label ++ long_text l.label (forest (children_of l.t))));
+      same : capped (l.count + length (long_text l.label (forest (drop l.i l.children)))) ≡ capped
+          (length (opened 92 l.label ++ long_text l.label (forest (children_of l.t))));
       small : l.count ≤ 18446744073709551615;
     }
 
 abbrev pub invariant-parts_length-loop-i : goal.invariant-parts_length-loop-i
 invariant-parts_length-loop-i l =
     record {
-      same : capped (l.count + length (parts_text l.before (forest (drop l.i l.children)))) ≡ capped (length (parts_text false (forest (children_of l.t))));
+      same : capped (l.count + length (parts_text l.before (forest (drop l.i l.children)))) ≡ capped
+          (length (parts_text false (forest (children_of l.t))));
       small : l.count ≤ 18446744073709551615;
     }
 
 abbrev pub invariant-paragraphs_length-loop-i : goal.invariant-paragraphs_length-loop-i
 invariant-paragraphs_length-loop-i l =
     record {
-      same : capped (l.count + length (paragraphs_text (forest (drop l.i l.children)))) ≡ capped (length (paragraphs_text (forest (children_of l.t))));
+      same : capped (l.count + length (paragraphs_text (forest (drop l.i l.children)))) ≡ capped
+          (length (paragraphs_text (forest (children_of l.t))));
       small : l.count ≤ 18446744073709551615;
     }
 
 abbrev pub invariant-tags_length-loop-child : goal.invariant-tags_length-loop-child
 invariant-tags_length-loop-child l =
     record {
-      same : capped (l.count + length (tags_text (forest (drop l.child-index l.child-items)))) ≡ capped (length (with_ends (tags_text (forest (children_of l.t)))));
+      same : capped (l.count + length (tags_text (forest (drop l.child-index l.child-items)))) ≡ capped
+          (length (with_ends (tags_text (forest (children_of l.t)))));
       small : l.count ≤ 18446744073709551615;
     }

@@ -6,6 +6,7 @@ use Rattle.tx_tm_write.proofs.lengths.items_length.Given as goal
 abbrev pub invariant-loop-i : goal.invariant-loop-i
 invariant-loop-i l =
     record {
-      same : capped (l.count + length (items_text l.held l.behind (drop l.i l.text))) ≡ capped (length (items_text l.before l.behind l.text));
+      same : capped (l.count + length (items_text l.held l.behind (drop l.i l.text))) ≡ capped
+          (length (items_text l.before l.behind l.text));
       small : l.count ≤ 18446744073709551615;
     }

@@ -41,34 +41,40 @@ decreases-append_long_child l = 6 * depth_of l.child.now + 3
 abbrev pub invariant-append_short-loop-child : goal.invariant-append_short-loop-child
 invariant-append_short-loop-child l =
     record {
-      text : l.out.items ++ (arguments_text (forest (drop l.child-index l.child-items)) ++ 62 ∷ []) ≡ l.fn.out.items ++ 60 ∷ (l.label ++ (arguments_text (forest (children_of l.t)) ++ 62 ∷ []));
+      text : l.out.items ++ (arguments_text (forest (drop l.child-index l.child-items)) ++ 62 ∷ []) ≡ l.fn.out.items
+          ++ 60 ∷ (l.label ++ (arguments_text (forest (children_of l.t)) ++ 62 ∷ []));
       grows : take (length l.fn.out.items) l.out.items ≡ l.fn.out.items;
     }
 
 abbrev pub invariant-append_long-loop-i : goal.invariant-append_long-loop-i
 invariant-append_long-loop-i l =
     record {
-      text : l.out.items ++ long_text l.label (forest (drop l.i l.children)) ≡ l.fn.out.items ++ (opened 92 l.label ++ long_text l.label (forest (children_of l.t)));
+      text : l.out.items ++ long_text l.label (forest (drop l.i l.children)) ≡ l.fn.out.items
+          ++ (opened 92 l.label ++ long_text l.label (forest (children_of l.t)));
       grows : take (length l.fn.out.items) l.out.items ≡ l.fn.out.items;
     }
 
 abbrev pub invariant-append_parts-loop-i : goal.invariant-append_parts-loop-i
 invariant-append_parts-loop-i l =
     record {
-      text : l.out.items ++ parts_text l.before (forest (drop l.i l.children)) ≡ l.fn.out.items ++ parts_text false (forest (children_of l.t));
+      text : l.out.items ++ parts_text l.before (forest (drop l.i l.children)) ≡ l.fn.out.items ++ parts_text false
+          (forest (children_of l.t));
       grows : take (length l.fn.out.items) l.out.items ≡ l.fn.out.items;
     }
 
 abbrev pub invariant-append_paragraphs-loop-i : goal.invariant-append_paragraphs-loop-i
 invariant-append_paragraphs-loop-i l =
     record {
-      text : l.out.items ++ paragraphs_text (forest (drop l.i l.children)) ≡ l.fn.out.items ++ paragraphs_text (forest (children_of l.t));
+      text : l.out.items ++ paragraphs_text (forest (drop l.i l.children)) ≡ l.fn.out.items ++ paragraphs_text
+          (forest (children_of l.t));
       grows : take (length l.fn.out.items) l.out.items ≡ l.fn.out.items;
     }
 
 abbrev pub invariant-append_tags-loop-child : goal.invariant-append_tags-loop-child
 invariant-append_tags-loop-child l =
     record {
-      text : l.out.items ++ (tags_text (forest (drop l.child-index l.child-items)) ++ (opened 47 collection_label ++ 62 ∷ [])) ≡ l.fn.out.items ++ with_ends (tags_text (forest (children_of l.t)));
+      text : l.out.items
+          ++ (tags_text (forest (drop l.child-index l.child-items)) ++ (opened 47 collection_label ++ 62 ∷ []))
+          ≡ l.fn.out.items ++ with_ends (tags_text (forest (children_of l.t)));
       grows : take (length l.fn.out.items) l.out.items ≡ l.fn.out.items;
     }

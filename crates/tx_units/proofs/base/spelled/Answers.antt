@@ -25,7 +25,8 @@ unreachable-requires-in-Err-BadEscape g c =
     let refused = rw c.in-Err-BadEscape.field-0-is at c.in-Err-BadEscape.ensures.refused in
     let same : c.as_bytes.result.now ≡ c.args.text.now = search rules in
     let bad = subst (λ b. IsSchemeFault b (BadEscape c.in-Err-BadEscape.field-0-0)) same (refused (λ e. cc)) in
-    none c.args.text.now (BadEscape c.in-Err-BadEscape.field-0-0) c.requires.tree bad c.requires.spelled c.requires.within
+    none c.args.text.now (BadEscape c.in-Err-BadEscape.field-0-0) c.requires.tree bad c.requires.spelled
+    c.requires.within
 
 pub unreachable-requires-in-Err-BadLabel : goal.unreachable-requires-in-Err-BadLabel
 unreachable-requires-in-Err-BadLabel g c =
@@ -45,8 +46,10 @@ pub unreachable-requires-in-Err-Mismatch : goal.unreachable-requires-in-Err-Mism
 unreachable-requires-in-Err-Mismatch g c =
     let refused = rw c.in-Err-Mismatch.field-0-is at c.in-Err-Mismatch.ensures.refused in
     let same : c.as_bytes.result.now ≡ c.args.text.now = search rules in
-    let bad = subst (λ b. IsSchemeFault b (Mismatch c.in-Err-Mismatch.field-0-0 c.in-Err-Mismatch.field-0-1)) same (refused (λ e. cc)) in
-    none c.args.text.now (Mismatch c.in-Err-Mismatch.field-0-0 c.in-Err-Mismatch.field-0-1) c.requires.tree bad c.requires.spelled c.requires.within
+    let bad = subst (λ b. IsSchemeFault b (Mismatch c.in-Err-Mismatch.field-0-0 c.in-Err-Mismatch.field-0-1)) same
+    (refused (λ e. cc)) in
+    none c.args.text.now (Mismatch c.in-Err-Mismatch.field-0-0 c.in-Err-Mismatch.field-0-1) c.requires.tree bad
+    c.requires.spelled c.requires.within
 
 pub unreachable-requires-in-Err-After : goal.unreachable-requires-in-Err-After
 unreachable-requires-in-Err-After g c =
@@ -59,8 +62,10 @@ pub unreachable-requires-in-Err-Limit : goal.unreachable-requires-in-Err-Limit
 unreachable-requires-in-Err-Limit g c =
     let refused = rw c.in-Err-Limit.field-0-is at c.in-Err-Limit.ensures.refused in
     let same : c.as_bytes.result.now ≡ c.args.text.now = search rules in
-    let bad = subst (λ b. IsSchemeFault b (Limit c.in-Err-Limit.field-0-0 c.in-Err-Limit.field-0-1)) same (refused (λ e. cc)) in
-    none c.args.text.now (Limit c.in-Err-Limit.field-0-0 c.in-Err-Limit.field-0-1) c.requires.tree bad c.requires.spelled c.requires.within
+    let bad = subst (λ b. IsSchemeFault b (Limit c.in-Err-Limit.field-0-0 c.in-Err-Limit.field-0-1)) same
+    (refused (λ e. cc)) in
+    none c.args.text.now (Limit c.in-Err-Limit.field-0-0 c.in-Err-Limit.field-0-1) c.requires.tree bad
+    c.requires.spelled c.requires.within
 
 pub returns-in-Ok-clause-made : goal.returns-in-Ok-clause-made
 returns-in-Ok-clause-made g c = λ t spelled.

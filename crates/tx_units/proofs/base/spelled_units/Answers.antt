@@ -22,21 +22,25 @@ loop-text-preserved g c =
           c.loop-text.units.items c.push.new.self.items unit c.loop-text-test.true c.loop-text.invariant.spelled
           c.in_ok-spelled_unit.ensures.ok c.in_ok-push.ensures.items;
       made = λ us all.
-          made_next read c.args.texts.now c.loop-text.text-index no_text us c.args.steps.now c.loop-text.steps c.spelled_unit.new.steps
+          made_next read c.args.texts.now c.loop-text.text-index no_text us c.args.steps.now c.loop-text.steps
+          c.spelled_unit.new.steps
           c.loop-text-test.true all (c.loop-text.invariant.made us all) c.spelled_unit.ensures.made;
     }
 
 pub returns-in_err-spelled_unit-clause-made : goal.returns-in_err-spelled_unit-clause-made
 returns-in_err-spelled_unit-clause-made g c = λ us all.
     made_all (c.loop-text.text-index + 1) us c.args.steps.now c.spelled_unit.new.steps
-    (made_next read c.args.texts.now c.loop-text.text-index no_text us c.args.steps.now c.loop-text.steps c.spelled_unit.new.steps
+    (made_next read c.args.texts.now c.loop-text.text-index no_text us c.args.steps.now c.loop-text.steps
+    c.spelled_unit.new.steps
     c.loop-text-test.true all (c.loop-text.invariant.made us all) c.spelled_unit.ensures.made)
 
 pub returns-in_err-push-clause-made : goal.returns-in_err-push-clause-made
 returns-in_err-push-clause-made g c = λ us all.
     made_all (c.loop-text.text-index + 1) us c.args.steps.now c.spelled_unit.new.steps
-    (made_next read c.args.texts.now c.loop-text.text-index no_text us c.args.steps.now c.loop-text.steps c.spelled_unit.new.steps
+    (made_next read c.args.texts.now c.loop-text.text-index no_text us c.args.steps.now c.loop-text.steps
+    c.spelled_unit.new.steps
     c.loop-text-test.true all (c.loop-text.invariant.made us all) c.spelled_unit.ensures.made)
 
 pub returns-clause-made : goal.returns-clause-made
-returns-clause-made g c = λ us all. made_all c.loop-text.text-index us c.args.steps.now c.loop-text.steps (c.loop-text.invariant.made us all)
+returns-clause-made g c =
+    λ us all. made_all c.loop-text.text-index us c.args.steps.now c.loop-text.steps (c.loop-text.invariant.made us all)

@@ -9,4 +9,6 @@ operands_smaller (leaf text) = omega arith
 operands_smaller (node label ts) = omega (arith, ap total_size (forest_trees ts))
 
 pub primitive-requires : goal.primitive-requires
-primitive-requires g c = rw c.children.ensures (omega (arith, operands_smaller c.args.call.now, c.size-size.ensures.value, c.if-size-gt-MOST_OPERANDS.false))
+primitive-requires g c =
+    rw c.children.ensures
+    (omega (arith, operands_smaller c.args.call.now, c.size-size.ensures.value, c.if-size-gt-MOST_OPERANDS.false))

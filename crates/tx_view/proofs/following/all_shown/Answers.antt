@@ -10,23 +10,28 @@ use Rattle.tx_view.proofs.following.all_shown.Goals as goal
 pub loop-unit-preserved : goal.loop-unit-preserved
 loop-unit-preserved g c = record {
   shown =
-      shown_next c.args.width c.loop-unit.moment c.next_shown.new.moment c.args.units.now c.loop-unit.unit-index c.unit-item.result
-      c.loop-unit.all.items c.push.new.self.items c.in_ok-shown.shown c.loop-unit-test.true c.unit-item.is c.loop-unit.invariant.shown
+      shown_next c.args.width c.loop-unit.moment c.next_shown.new.moment c.args.units.now c.loop-unit.unit-index
+      c.unit-item.result
+      c.loop-unit.all.items c.push.new.self.items c.in_ok-shown.shown c.loop-unit-test.true c.unit-item.is
+      c.loop-unit.invariant.shown
       c.in_ok-shown.ensures.shown c.in_ok-shown.ensures.moment c.in_ok-push.ensures.items;
   readable =
       All-same (λ (s : Shown). IsReadable (unit_view s)) c.push.new.self.items _ c.in_ok-push.ensures.items
-      (All-push (λ (s : Shown). IsReadable (unit_view s)) c.loop-unit.all.items c.in_ok-shown.shown c.loop-unit.invariant.readable c.in_ok-shown.ensures.readable);
+      (All-push (λ (s : Shown). IsReadable (unit_view s)) c.loop-unit.all.items c.in_ok-shown.shown
+      c.loop-unit.invariant.readable c.in_ok-shown.ensures.readable);
   lines =
       omega (
         arith,
-        one_more (λ (x : UnitView). x.lines) c.loop-unit.all.items c.push.new.self.items c.in_ok-shown.shown c.in_ok-push.ensures.items,
+        one_more (λ (x : UnitView). x.lines) c.loop-unit.all.items c.push.new.self.items c.in_ok-shown.shown
+            c.in_ok-push.ensures.items,
         c.in_ok-shown.ensures.lines,
         c.loop-unit.invariant.lines,
       );
   errors =
       omega (
         arith,
-        one_more placed_errors c.loop-unit.all.items c.push.new.self.items c.in_ok-shown.shown c.in_ok-push.ensures.items,
+        one_more placed_errors c.loop-unit.all.items c.push.new.self.items c.in_ok-shown.shown
+            c.in_ok-push.ensures.items,
         as_many_errors (unit_view c.in_ok-shown.shown),
         c.in_ok-shown.ensures.errors,
         c.loop-unit.invariant.errors,
@@ -35,5 +40,6 @@ loop-unit-preserved g c = record {
 
 pub returns-clause-shown : goal.returns-clause-shown
 returns-clause-shown g c =
-    shown_all c.args.width c.loop-unit.moment c.args.units.now c.loop-unit.unit-index (unit_views c.loop-unit.all.items) c.loop-unit-test.false
+    shown_all c.args.width c.loop-unit.moment c.args.units.now c.loop-unit.unit-index (unit_views c.loop-unit.all.items)
+    c.loop-unit-test.false
     c.loop-unit.invariant.shown

@@ -8,7 +8,8 @@ show-requires-clause-small g c = c.in_ok-value.ensures.paid.small
 
 pub returns-clause-shown : goal.returns-clause-shown
 returns-clause-shown g c =
-    shown_by (c.in_ok-attrs.ensures ∙ ap attributes_of c.env.ensures) c.in_ok-value.ensures.value c.in_ok-shown.ensures.shown
+    shown_by (c.in_ok-attrs.ensures ∙ ap attributes_of c.env.ensures) c.in_ok-value.ensures.value
+    c.in_ok-shown.ensures.shown
 
 pub returns-clause-lines : goal.returns-clause-lines
 returns-clause-lines g c =
@@ -18,4 +19,5 @@ returns-clause-lines g c =
 
 pub returns-clause-errors : goal.returns-clause-errors
 returns-clause-errors g c =
-    few_errors c.in_ok-value.value c.args.moment.now c.evaluate.new.self _ c.in_ok-value.ensures.paid c.in_ok-shown.ensures.few_errors
+    few_errors c.in_ok-value.value c.args.moment.now c.evaluate.new.self _ c.in_ok-value.ensures.paid
+    c.in_ok-shown.ensures.few_errors

@@ -4,4 +4,5 @@ use Rattle.tx_view.specs.Marks.{first_of}
 use Rattle.tx_view.proofs.marks.first_on.Given as goal
 
 abbrev pub invariant-loop-line : goal.invariant-loop-line
-invariant-loop-line l = first_of (marks_of (items_on l.lines)) ≡ first_of (marks_of (items_on (drop l.line-index l.lines)))
+invariant-loop-line l =
+    first_of (marks_of (items_on l.lines)) ≡ first_of (marks_of (items_on (drop l.line-index l.lines)))

@@ -5,10 +5,14 @@ use Rattle.tx_view.proofs.UnitRows.{error_told}
 use Rattle.tx_view.proofs.searching.error_in.Goals as goal
 
 pub unit_of-requires-clause-some : goal.unit_of-requires-clause-some
-unit_of-requires-clause-some c = omega (arith, ap length c.requires, sums_length 0 (error_counts (unit_views c.args.units.now)))
+unit_of-requires-clause-some c =
+    omega (arith, ap length c.requires, sums_length 0 (error_counts (unit_views c.args.units.now)))
 
 pub unit_of-requires-clause-first : goal.unit_of-requires-clause-first
-unit_of-requires-clause-first c = ap (λ fs. get_or fs 0 0) c.requires ∙ sums_head 0 (error_counts (unit_views c.args.units.now))
+unit_of-requires-clause-first c =
+    ap (λ fs. get_or fs 0 0) c.requires ∙ sums_head 0 (error_counts (unit_views c.args.units.now))
 
 pub returns : goal.returns
-returns c = error_told c.args.units.now c.args.number c.unit_of.result (c.unit_of.ensures (error_counts (unit_views c.args.units.now)) c.requires)
+returns c =
+    error_told c.args.units.now c.args.number c.unit_of.result
+    (c.unit_of.ensures (error_counts (unit_views c.args.units.now)) c.requires)

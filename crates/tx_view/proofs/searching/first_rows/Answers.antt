@@ -6,18 +6,34 @@ use Rattle.tx_view.proofs.searching.first_rows.Goals as goal
 pub overflow_cast-count : goal.overflow_cast-count
 overflow_cast-count c =
     let n : c.len.result ≡ length c.unit-item.result.lines.items = search rules in
-    omega (arith, sums_fit (λ (x : UnitView). x.lines) c.args.units.now c.loop-unit.unit-index c.unit-item.result c.loop-unit-test.true c.unit-item.is, c.requires, n)
+    omega (
+      arith,
+      sums_fit (λ (x : UnitView). x.lines) c.args.units.now c.loop-unit.unit-index c.unit-item.result
+          c.loop-unit-test.true c.unit-item.is,
+      c.requires,
+      n,
+    )
 
 pub overflow_add-count : goal.overflow_add-count
 overflow_add-count c =
     let n : c.len.result ≡ length c.unit-item.result.lines.items = search rules in
-    omega (arith, sums_fit (λ (x : UnitView). x.lines) c.args.units.now c.loop-unit.unit-index c.unit-item.result c.loop-unit-test.true c.unit-item.is, c.requires, c.loop-unit.invariant.count_is, n)
+    omega (
+      arith,
+      sums_fit (λ (x : UnitView). x.lines) c.args.units.now c.loop-unit.unit-index c.unit-item.result
+          c.loop-unit-test.true c.unit-item.is,
+      c.requires,
+      c.loop-unit.invariant.count_is,
+      n,
+    )
 
 pub loop-unit-preserved : goal.loop-unit-preserved
 loop-unit-preserved c =
     let n : c.len.result ≡ length c.unit-item.result.lines.items = search rules in
-    let so = sums_next (λ (x : UnitView). x.lines) (λ (x : UnitView). length x.lines) (λ x. refl) c.args.units.now c.loop-unit.unit-index c.unit-item.result
-    c.loop-unit.firsts.items c.push.new.self.items c.loop-unit.count (c.loop-unit.count + c.len.result) c.loop-unit-test.true c.unit-item.is
-    (record { firsts_are = c.loop-unit.invariant.firsts_are; count_is = c.loop-unit.invariant.count_is }) c.in_ok-push.ensures.items
+    let so = sums_next (λ (x : UnitView). x.lines) (λ (x : UnitView). length x.lines) (λ x. refl) c.args.units.now
+    c.loop-unit.unit-index c.unit-item.result
+    c.loop-unit.firsts.items c.push.new.self.items c.loop-unit.count (c.loop-unit.count + c.len.result)
+    c.loop-unit-test.true c.unit-item.is
+    (record { firsts_are = c.loop-unit.invariant.firsts_are; count_is = c.loop-unit.invariant.count_is })
+    c.in_ok-push.ensures.items
     (ap (λ m. c.loop-unit.count + m) n) in
     record { firsts_are = so.firsts_are; count_is = so.count_is }

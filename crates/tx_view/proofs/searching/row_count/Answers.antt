@@ -12,4 +12,6 @@ pub bounds-firsts-firsts : goal.bounds-firsts-firsts
 bounds-firsts-firsts c = omega (arith, ap length c.requires, sums_length 0 (row_counts (unit_views c.args.units.now)))
 
 pub returns : goal.returns
-returns c = last_is (λ (x : UnitView). x.lines) (λ (x : UnitView). length x.lines) (λ x. refl) (unit_views c.args.units.now) c.args.firsts.now (length c.args.firsts.now - 1) c.requires refl
+returns c =
+    last_is (λ (x : UnitView). x.lines) (λ (x : UnitView). length x.lines) (λ x. refl) (unit_views c.args.units.now)
+    c.args.firsts.now (length c.args.firsts.now - 1) c.requires refl

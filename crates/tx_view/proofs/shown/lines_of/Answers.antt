@@ -9,7 +9,10 @@ loop-paragraph-init g c = subst (λ (ls : List Line). AreLines c.args.width [] l
 
 pub loop-paragraph-preserved : goal.loop-paragraph-preserved
 loop-paragraph-preserved g c =
-    let e : c.append.new.self.items ≡ c.loop-paragraph.all.items ++ c.in_ok-own.own.items = search (rules, c.in_ok-append.ensures) in
-    lines_next c.args.width c.args.paragraphs.now c.loop-paragraph.paragraph-index c.paragraph-item.result c.loop-paragraph.all.items
-    c.in_ok-own.own.items c.append.new.self.items c.loop-paragraph-test.true c.paragraph-item.is c.loop-paragraph.invariant
+    let e : c.append.new.self.items ≡ c.loop-paragraph.all.items ++ c.in_ok-own.own.items =
+    search (rules, c.in_ok-append.ensures) in
+    lines_next c.args.width c.args.paragraphs.now c.loop-paragraph.paragraph-index c.paragraph-item.result
+    c.loop-paragraph.all.items
+    c.in_ok-own.own.items c.append.new.self.items c.loop-paragraph-test.true c.paragraph-item.is
+    c.loop-paragraph.invariant
     c.in_ok-own.ensures.shape e

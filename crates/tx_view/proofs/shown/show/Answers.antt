@@ -5,11 +5,13 @@ use Rattle.tx_view.proofs.shown.show.Goals as goal
 
 pub returns-in_default-clause-shown : goal.returns-in_default-clause-shown
 returns-in_default-clause-shown g c =
-    shown_nowhere c.args.width c.args.attrs.now c.args.value.now c.args.path.now c.in_ok-paragraphs.errors.items c.new.result.items c.new-in_default.result.items
+    shown_nowhere c.args.width c.args.attrs.now c.args.value.now c.args.path.now c.in_ok-paragraphs.errors.items
+    c.new.result.items c.new-in_default.result.items
     c.in_default.is c.in_ok-paragraphs.ensures.errors c.new.ensures.items c.new-in_default.ensures.items
 
 pub lines_of-requires-clause-few : goal.lines_of-requires-clause-few
 lines_of-requires-clause-few g c =
-    few_items c.deref.result.now (shown_paragraphs c.args.attrs.now c.args.value.now) _ (c.deref.ensures.value ∙ c.in_ok-paragraphs.ensures.paragraphs)
+    few_items c.deref.result.now (shown_paragraphs c.args.attrs.now c.args.value.now) _
+    (c.deref.ensures.value ∙ c.in_ok-paragraphs.ensures.paragraphs)
     (c.weight_laws.ensures.items c.deref.result.now)
     (c.weight_laws.ensures.value c.args.attrs.now c.args.value.now c.size-size.ensures.well_formed) c.requires.small

@@ -6,4 +6,5 @@ use Rattle.tx_view.proofs.stops.first_in.Given as goal
 
 abbrev pub invariant-loop-paragraph : goal.invariant-loop-paragraph
 invariant-loop-paragraph l =
-    first_of (marks_of (flat_map (λ p. p.items) l.paragraphs)) ≡ first_of (marks_of (flat_map (λ p. p.items) (drop l.paragraph-index l.paragraphs)))
+    first_of (marks_of (flat_map (λ p. p.items) l.paragraphs)) ≡ first_of
+    (marks_of (flat_map (λ p. p.items) (drop l.paragraph-index l.paragraphs)))

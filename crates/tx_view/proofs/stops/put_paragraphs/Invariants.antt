@@ -7,4 +7,5 @@ use Rattle.tx_view.proofs.stops.put_paragraphs.Given as goal
 
 abbrev pub invariant-loop-paragraph : goal.invariant-loop-paragraph
 invariant-loop-paragraph l =
-    l.stops.keys ≡ fold put l.fn.stops.keys (stops_on l.path (marks_of (flat_map (λ p. p.items) (take l.paragraph-index l.paragraphs))))
+    l.stops.keys ≡ fold put l.fn.stops.keys
+    (stops_on l.path (marks_of (flat_map (λ p. p.items) (take l.paragraph-index l.paragraphs))))

@@ -131,7 +131,8 @@ with_body-returns-in_err-trees-clause-gives g t c =
     let e = before_of c.args.env.now in
     let unpaid =
     with_unpaid (ex (c.args.levels - 1)) (frame_in c.args.frame) c.args.label.now c.args.t.now.at
-    c.args.parts.values.items (sets_of c.args.parts.settings.items) (kids_of (tagged_of c.args.t.now)) (2 * c.args.pairs)
+    c.args.parts.values.items (sets_of c.args.parts.settings.items) (kids_of (tagged_of c.args.t.now))
+    (2 * c.args.pairs)
     e (state_of c.args.self.now) c.args.parts.total in
     rw (p.1, p.2) (unpaid c.in_err-trees.field-0.0 c.requires.told.total (c.in_err-trees.ensures.over e))
 

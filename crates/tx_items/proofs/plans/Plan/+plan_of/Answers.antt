@@ -33,34 +33,41 @@ of-returns-in_ok-all-in-Document t c =
 pub of-returns-in-Assign : goal.of-returns-in-Assign
 of-returns-in-Assign t c =
     c.line-in-Assign.ensures
-    ∙ sym (plan_row c.args.value.now _ rules.Assign c.in-Some.ensures (c.in-Assign.ensures ∙ ap rule_of c.bytes.ensures.bytes))
+    ∙ sym (plan_row c.args.value.now _ rules.Assign c.in-Some.ensures
+    (c.in-Assign.ensures ∙ ap rule_of c.bytes.ensures.bytes))
 
 pub of-returns-in-Silent : goal.of-returns-in-Silent
 of-returns-in-Silent t c =
     c.line-in-Silent.ensures
-    ∙ sym (plan_row c.args.value.now _ rules.Silent c.in-Some.ensures (c.in-Silent.ensures ∙ ap rule_of c.bytes.ensures.bytes))
+    ∙ sym (plan_row c.args.value.now _ rules.Silent c.in-Some.ensures
+    (c.in-Silent.ensures ∙ ap rule_of c.bytes.ensures.bytes))
 
 pub of-returns-in-NextLine : goal.of-returns-in-NextLine
 of-returns-in-NextLine t c =
     c.line-in-NextLine.ensures
-    ∙ sym (plan_row c.args.value.now _ rules.NextLine c.in-Some.ensures (c.in-NextLine.ensures ∙ ap rule_of c.bytes.ensures.bytes))
+    ∙ sym (plan_row c.args.value.now _ rules.NextLine c.in-Some.ensures
+    (c.in-NextLine.ensures ∙ ap rule_of c.bytes.ensures.bytes))
 
 pub of-returns-in-NewPage : goal.of-returns-in-NewPage
 of-returns-in-NewPage t c =
     c.line-in-NewPage.ensures
-    ∙ sym (plan_row c.args.value.now _ rules.NewPage c.in-Some.ensures (c.in-NewPage.ensures ∙ ap rule_of c.bytes.ensures.bytes))
+    ∙ sym (plan_row c.args.value.now _ rules.NewPage c.in-Some.ensures
+    (c.in-NewPage.ensures ∙ ap rule_of c.bytes.ensures.bytes))
 
 pub of-returns-in-Hspace : goal.of-returns-in-Hspace
 of-returns-in-Hspace t c =
     c.line-in-Hspace.ensures
-    ∙ sym (plan_row c.args.value.now _ rules.Hspace c.in-Some.ensures (c.in-Hspace.ensures ∙ ap rule_of c.bytes.ensures.bytes))
+    ∙ sym (plan_row c.args.value.now _ rules.Hspace c.in-Some.ensures
+    (c.in-Hspace.ensures ∙ ap rule_of c.bytes.ensures.bytes))
 
 pub of-returns-in-Vspace : goal.of-returns-in-Vspace
 of-returns-in-Vspace t c =
     c.line-in-Vspace.ensures
-    ∙ sym (plan_row c.args.value.now _ rules.Vspace c.in-Some.ensures (c.in-Vspace.ensures ∙ ap rule_of c.bytes.ensures.bytes))
+    ∙ sym (plan_row c.args.value.now _ rules.Vspace c.in-Some.ensures
+    (c.in-Vspace.ensures ∙ ap rule_of c.bytes.ensures.bytes))
 
 pub of-returns-in-Error : goal.of-returns-in-Error
 of-returns-in-Error t c =
     c.line-in-Error.ensures
-    ∙ sym (plan_row c.args.value.now _ rules.Error c.in-Some.ensures (c.in-Error.ensures ∙ ap rule_of c.bytes.ensures.bytes))
+    ∙ sym (plan_row c.args.value.now _ rules.Error c.in-Some.ensures
+    (c.in-Error.ensures ∙ ap rule_of c.bytes.ensures.bytes))

@@ -16,12 +16,14 @@ use Rattle.tx_items.proofs.showing.Showing.+show.Goals as goal
 pub part-returns-then-not-is_list : goal.part-returns-then-not-is_list
 part-returns-then-not-is_list t c =
     on_ok_weaker c.show.result
-    (part_inline _ _ _ (inline_by_plan c.args.self.now.attrs c.args.part.now c.args.plan.now c.requires c.if-not-is_list.ensures))
+    (part_inline _ _ _
+    (inline_by_plan c.args.self.now.attrs c.args.part.now c.args.plan.now c.requires c.if-not-is_list.ensures))
     c.show.ensures
 
 pub part-returns : goal.part-returns
 part-returns t c =
-    let P : Attrs → Type 0 = λ a. HasShown (show a c.args.part.now) (state_of c.end_run.new.self) (state_of c.show-2.new.self) in
+    let P : Attrs → Type 0 = λ a. HasShown (show a c.args.part.now) (state_of c.end_run.new.self)
+    (state_of c.show-2.new.self) in
     on_ok_weaker c.end_run-2.result
     (part_listed _ _ _ _ _
     (list_by_plan c.args.self.now.attrs c.args.part.now c.args.plan.now c.requires c.if-not-is_list.ensures)

@@ -6,5 +6,6 @@ use Rattle.tx_outside.proofs.in_memory.file_list.find_file.Goals as goal
 pub returns-in-Some : goal.returns-in-Some
 returns-in-Some c =
     let stands = c.in-Some.ensures in
-    let found = file_of-at c.args.name.now c.args.files.now c.in-Some.place c.index-files-place.result stands.within stands.before (stands.there c.index-files-place.result) in
+    let found = file_of-at c.args.name.now c.args.files.now c.in-Some.place c.index-files-place.result stands.within
+    stands.before (stands.there c.index-files-place.result) in
     ap Some (c.bytes.ensures ∙ ap (λ file. file.1) c.index-files-place.is) ∙ sym found

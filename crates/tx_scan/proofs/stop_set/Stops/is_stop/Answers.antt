@@ -10,4 +10,5 @@ returns-else-byte-lt-SPACE c =
     let b = c.args.byte in
     c.contains.ensures.value
     ∙ ap (λ low. low || list_any (λ s. eqb s b) bytes) (sym (le-ltb b 32 c.if-byte-lt-SPACE.false))
-    ∙ is_stop-inside bytes c.args.self.now c.self.inside.size (8 - c.self.inside.size) b c.self.invariant.1 c.self.view_is
+    ∙ is_stop-inside bytes c.args.self.now c.self.inside.size (8 - c.self.inside.size) b c.self.invariant.1
+    c.self.view_is

@@ -28,7 +28,9 @@ loop-byte-preserved c =
     ∙ lanes_passing-same _ _ (λ x. is_stop_more set i x (omega arith)) block
 
 -- after the loop each lane is set where its byte is a stop
-lanes : (bytes set block stops : List ℕ) (i n k : ℕ) → length bytes ≡ 8 → 8 ≤ i → bytes ≡ take n bytes ++ replicate k 0 → take n bytes ≡ set → stops ≡ lanes_passing (is_stop (take i bytes)) block → stops ≡ lanes_passing (is_stop set) block
+lanes : (bytes set block stops : List ℕ) (i n k : ℕ) → length bytes ≡ 8 → 8 ≤ i → bytes ≡ take n bytes ++ replicate k 0
+    → take n bytes ≡ set → stops ≡ lanes_passing (is_stop (take i bytes)) block
+    → stops ≡ lanes_passing (is_stop set) block
 lanes bytes set block stops i n k long all padded view kept =
     kept
     ∙ ap (λ l. lanes_passing (is_stop l) block) (take_all i bytes (omega arith))
@@ -37,13 +39,19 @@ lanes bytes set block stops i n k long all padded view kept =
 pub returns-then-marks-eq0 : goal.returns-then-marks-eq0
 returns-then-marks-eq0 c =
     let block = chunk c.args.at 32 c.args.bytes.now in
-    let is = lanes c.self.inside.bytes c.args.self.now block c.loop-byte.stops c.loop-byte.byte-index c.self.inside.size (8 - c.self.inside.size) c.self.told c.loop-byte-test.false c.self.invariant.1 c.self.view_is c.loop-byte.invariant in
-    none_in_block (is_stop c.args.self.now) block (length-chunk c.args.at 32 c.args.bytes.now c.requires) (subst (λ l. mask_l (map (top 7) l) % 2 ^ 64 ≡ 0) is c.if-marks-eq0.true)
+    let is = lanes c.self.inside.bytes c.args.self.now block c.loop-byte.stops c.loop-byte.byte-index c.self.inside.size
+    (8 - c.self.inside.size) c.self.told c.loop-byte-test.false c.self.invariant.1 c.self.view_is
+    c.loop-byte.invariant in
+    none_in_block (is_stop c.args.self.now) block (length-chunk c.args.at 32 c.args.bytes.now c.requires)
+    (subst (λ l. mask_l (map (top 7) l) % 2 ^ 64 ≡ 0) is c.if-marks-eq0.true)
 
 pub returns-else-marks-eq0 : goal.returns-else-marks-eq0
 returns-else-marks-eq0 c =
     let block = chunk c.args.at 32 c.args.bytes.now in
-    let is = lanes c.self.inside.bytes c.args.self.now block c.loop-byte.stops c.loop-byte.byte-index c.self.inside.size (8 - c.self.inside.size) c.self.told c.loop-byte-test.false c.self.invariant.1 c.self.view_is c.loop-byte.invariant in
+    let is = lanes c.self.inside.bytes c.args.self.now block c.loop-byte.stops c.loop-byte.byte-index c.self.inside.size
+    (8 - c.self.inside.size) c.self.told c.loop-byte-test.false c.self.invariant.1 c.self.view_is
+    c.loop-byte.invariant in
     let some : 0 < mask_l (map (top 7) c.loop-byte.stops) % 2 ^ 64 = omega arith in
     ap (λ l. count_trailing_zeros 64 (mask_l (map (top 7) l) % 2 ^ 64)) is
-    ∙ first_in_block (is_stop c.args.self.now) block (length-chunk c.args.at 32 c.args.bytes.now c.requires) (subst (λ l. 0 < mask_l (map (top 7) l) % 2 ^ 64) is some)
+    ∙ first_in_block (is_stop c.args.self.now) block (length-chunk c.args.at 32 c.args.bytes.now c.requires)
+    (subst (λ l. 0 < mask_l (map (top 7) l) % 2 ^ 64) is some)

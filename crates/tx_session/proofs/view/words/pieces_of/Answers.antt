@@ -13,8 +13,10 @@ loop-start-preserved c =
     let next = c.spaces_end-start-in-loop-start.ensures in
     record {
       words = so_far.words ++ word_between text at start end ∷ [];
-      cut = cut_more c.args.width text at start end so_far.words so_far.cut so_far.onward so_far.gap (so_far.begins c.loop-start-test.true) ends.some ends.within ends.narrow ends.solid ends.greatest;
-      known = known_more text at start end so_far.words _ _ so_far.known (omega arith) ends.within c.in_ok-push.ensures.items;
+      cut = cut_more c.args.width text at start end so_far.words so_far.cut so_far.onward so_far.gap
+          (so_far.begins c.loop-start-test.true) ends.some ends.within ends.narrow ends.solid ends.greatest;
+      known = known_more text at start end so_far.words _ _ so_far.known (omega arith) ends.within
+          c.in_ok-push.ensures.items;
       onward = next.onward;
       within = next.within;
       gap = next.spaces;
@@ -22,4 +24,6 @@ loop-start-preserved c =
     }
 
 pub returns : goal.returns
-returns c = words_all c.args.width c.args.text.now c.loop-start.at c.loop-start.start _ c.loop-start.invariant c.loop-start-test.false
+returns c =
+    words_all c.args.width c.args.text.now c.loop-start.at c.loop-start.start _ c.loop-start.invariant
+    c.loop-start-test.false

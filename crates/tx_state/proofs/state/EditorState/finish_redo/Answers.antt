@@ -6,11 +6,31 @@ use Rattle.tx_state.proofs.state.EditorState.finish_redo.Goals as goal
 
 pub invariant_of-self : goal.invariant_of-self
 invariant_of-self c =
-    (redo_kept c.self.inside (record { buffers = c.exchange-former.new.buffers; selected = c.self.inside.selected; cursor = c.exchange-former.new.cursor; history = c.redone.new.self }) c.args.prepared c.in-Ok._entry c.redo.new.self.future c.self.invariant
-    (subst (λ s. IsReadyRedo s c.args.prepared) (sym c.self.view_is) c.requires) (record { buffers = search rules; selected = refl; cursor = search rules; depth = search rules }) (search rules) (search rules) (search rules)).0
+    (redo_kept c.self.inside
+    (record {
+      buffers = c.exchange-former.new.buffers;
+      selected = c.self.inside.selected;
+      cursor =
+          c.exchange-former.new.cursor;
+      history = c.redone.new.self;
+    }) c.args.prepared c.in-Ok._entry
+    c.redo.new.self.future c.self.invariant
+    (subst (λ s. IsReadyRedo s c.args.prepared) (sym c.self.view_is) c.requires)
+    (record { buffers = search rules; selected = refl; cursor = search rules; depth = search rules }) (search rules)
+    (search rules) (search rules)).0
 
 pub returns-clause-done : goal.returns-clause-done
 returns-clause-done c =
     ap redone (sym c.self.view_is)
-    ∙ (redo_kept c.self.inside (record { buffers = c.exchange-former.new.buffers; selected = c.self.inside.selected; cursor = c.exchange-former.new.cursor; history = c.redone.new.self }) c.args.prepared c.in-Ok._entry c.redo.new.self.future c.self.invariant
-    (subst (λ s. IsReadyRedo s c.args.prepared) (sym c.self.view_is) c.requires) (record { buffers = search rules; selected = refl; cursor = search rules; depth = search rules }) (search rules) (search rules) (search rules)).1
+    ∙ (redo_kept c.self.inside
+    (record {
+      buffers = c.exchange-former.new.buffers;
+      selected = c.self.inside.selected;
+      cursor =
+          c.exchange-former.new.cursor;
+      history = c.redone.new.self;
+    }) c.args.prepared c.in-Ok._entry
+    c.redo.new.self.future c.self.invariant
+    (subst (λ s. IsReadyRedo s c.args.prepared) (sym c.self.view_is) c.requires)
+    (record { buffers = search rules; selected = refl; cursor = search rules; depth = search rules }) (search rules)
+    (search rules) (search rules)).1

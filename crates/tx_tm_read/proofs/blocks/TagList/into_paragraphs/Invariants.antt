@@ -6,6 +6,7 @@ use Rattle.tx_tm_read.proofs.blocks.TagList.into_paragraphs.Given as goal
 abbrev pub invariant-loop-entry : goal.invariant-loop-entry
 invariant-loop-entry g l =
     record {
-      replayed : IsReplayed l.fn.steps l.steps l.fn.self.entries l.yielded l.entry-iterator.rest.items (block_of l.block);
+      replayed : IsReplayed l.fn.steps l.steps l.fn.self.entries l.yielded l.entry-iterator.rest.items
+          (block_of l.block);
       rises : l.fn.steps ≤ l.steps;
     }

@@ -4,4 +4,5 @@ use Rattle.tx_tm_read.proofs.Fitting.{concat_too_long}
 use Rattle.tx_tm_read.proofs.lines.Line.finish.Goals as goal
 
 pub returns-in-None-clause-made : goal.returns-in-None-clause-made
-returns-in-None-clause-made g c = let row = rw c.in-None.is at c.in_ok-into_row.ensures in concat_too_long (c.args.self.done ++ leaf_before c.args.self.bytes []) row
+returns-in-None-clause-made g c = let row = rw c.in-None.is at c.in_ok-into_row.ensures in
+    concat_too_long (c.args.self.done ++ leaf_before c.args.self.bytes []) row

@@ -7,4 +7,6 @@ pub of_scanned-requires-clause-text : goal.of_scanned-requires-clause-text
 of_scanned-requires-clause-text c = between_text _ (c.self.invariant.place ∙ ap (λ p. Some p) c.in-Between.is)
 
 pub returns-in-InSymbol : goal.returns-in-InSymbol
-returns-in-InSymbol c = λ h. in_symbol _ _ (c.self.invariant.place ∙ ap (λ p. Some p) c.in-InSymbol.is) (subst IsText (sym c.self.view_is) h)
+returns-in-InSymbol c =
+    λ h. in_symbol _ _ (c.self.invariant.place ∙ ap (λ p. Some p) c.in-InSymbol.is)
+    (subst IsText (sym c.self.view_is) h)

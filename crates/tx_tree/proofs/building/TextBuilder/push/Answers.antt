@@ -12,7 +12,10 @@ invariant_of-self-in-Some c =
     }
 
 pub returns-in-None-clause-taken : goal.returns-in-None-clause-taken
-returns-in-None-clause-taken c = takes_no _ _ _ c.self.invariant.place (sym c.step.ensures ∙ c.in-None.is) ∙ ap (λ x. takes_byte x c.args.byte) c.self.view_is
+returns-in-None-clause-taken c = takes_no _ _ _ c.self.invariant.place (sym c.step.ensures ∙ c.in-None.is)
+    ∙ ap (λ x. takes_byte x c.args.byte) c.self.view_is
 
 pub returns-in_ok-push-in-Some-clause-taken : goal.returns-in_ok-push-in-Some-clause-taken
-returns-in_ok-push-in-Some-clause-taken c = takes_yes _ _ _ _ (omega arith) c.self.invariant.place (sym c.step.ensures ∙ c.in-Some.is) ∙ ap (λ x. takes_byte x c.args.byte) c.self.view_is
+returns-in_ok-push-in-Some-clause-taken c =
+    takes_yes _ _ _ _ (omega arith) c.self.invariant.place (sym c.step.ensures ∙ c.in-Some.is)
+    ∙ ap (λ x. takes_byte x c.args.byte) c.self.view_is

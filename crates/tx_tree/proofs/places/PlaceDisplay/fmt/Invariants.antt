@@ -6,4 +6,6 @@ use Rattle.tx_tree.proofs.places.PlaceDisplay.fmt.Given as goal
 
 abbrev pub invariant-loop-number : goal.invariant-loop-number
 invariant-loop-number g l =
-    IsPlainFormatter l.initial.f → HasWritten g.W.Write.write_str_gives l.initial.f (flat_map (λ i. 47 ∷ decimal i) (take l.number-index l.number-items)) l.f
+    IsPlainFormatter l.initial.f
+    → HasWritten g.W.Write.write_str_gives l.initial.f
+    (flat_map (λ i. 47 ∷ decimal i) (take l.number-index l.number-items)) l.f

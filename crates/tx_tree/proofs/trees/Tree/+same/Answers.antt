@@ -6,19 +6,46 @@ use Rattle.tx_tree.proofs.trees.Tree.+same.Goals as goal
 
 pub returns-then-not-same : goal.returns-then-not-same
 returns-then-not-same t c =
-    let self_is : c.args.self.now ≡ node c.in-Node-Node.label (forest c.in-Node-Node.children.items) = sym c.self.view_is ∙ ap wide_of (sym c.deref.ensures ∙ c.in-Node-Node.is-0) in
-    let other_is : c.args.other.now ≡ node c.in-Node-Node.name (forest c.in-Node-Node.those.items) = sym c.other.view_is ∙ ap wide_of (sym c.deref-2.ensures ∙ c.in-Node-Node.is-1) in
-    let within : c.loop-i.i < length c.in-Node-Node.children.items = omega (arith, c.len-i-end.ensures, c.loop-i-test.true) in
-    let within' : c.loop-i.i < length c.in-Node-Node.those.items = omega (arith, c.len-i-end.ensures, c.loop-i-test.true, c.if-len.false, c.len.ensures, c.len-in-Node-Node.ensures) in (
+    let self_is : c.args.self.now ≡ node c.in-Node-Node.label (forest c.in-Node-Node.children.items) =
+    sym c.self.view_is ∙ ap wide_of (sym c.deref.ensures ∙ c.in-Node-Node.is-0) in
+    let other_is : c.args.other.now ≡ node c.in-Node-Node.name (forest c.in-Node-Node.those.items) = sym c.other.view_is
+    ∙ ap wide_of (sym c.deref-2.ensures ∙ c.in-Node-Node.is-1) in
+    let within : c.loop-i.i < length c.in-Node-Node.children.items =
+    omega (arith, c.len-i-end.ensures, c.loop-i-test.true) in
+    let within' : c.loop-i.i < length c.in-Node-Node.those.items =
+    omega (
+      arith,
+      c.len-i-end.ensures,
+      c.loop-i-test.true,
+      c.if-len.false,
+      c.len.ensures,
+      c.len-in-Node-Node.ensures,
+    ) in (
       λ h. absurd (cc),
-      λ e. absurd (differ_at _ _ _ _ c.loop-i.i _ _ within within' c.index.ensures c.index-in-loop-i.ensures (λ h. let b = c.same.ensures.1 h in cc) (sym self_is ∙ e ∙ other_is)),
+      λ e. absurd
+          (differ_at _ _ _ _ c.loop-i.i _ _ within within' c.index.ensures c.index-in-loop-i.ensures
+          (λ h. let b = c.same.ensures.1 h in cc) (sym self_is ∙ e ∙ other_is)),
     )
 
 pub returns-after-loop-i : goal.returns-after-loop-i
 returns-after-loop-i t c =
-    let self_is : c.args.self.now ≡ node c.in-Node-Node.label (forest c.in-Node-Node.children.items) = sym c.self.view_is ∙ ap wide_of (sym c.deref.ensures ∙ c.in-Node-Node.is-0) in
-    let other_is : c.args.other.now ≡ node c.in-Node-Node.name (forest c.in-Node-Node.those.items) = sym c.other.view_is ∙ ap wide_of (sym c.deref-2.ensures ∙ c.in-Node-Node.is-1) in
-    let all : length c.in-Node-Node.children.items ≤ c.loop-i.i = omega (arith, c.len-i-end.ensures, c.loop-i-test.false) in
-    let all' : length c.in-Node-Node.those.items ≤ c.loop-i.i = omega (arith, c.len-i-end.ensures, c.loop-i-test.false, c.if-len.false, c.len.ensures, c.len-in-Node-Node.ensures) in
-    let named : c.in-Node-Node.label ≡ c.in-Node-Node.name = search rules in
-    (λ h. self_is ∙ same_at c.in-Node-Node.label c.in-Node-Node.name c.in-Node-Node.children.items c.in-Node-Node.those.items c.loop-i.i named all all' c.loop-i.invariant ∙ sym other_is, λ e. refl)
+    let self_is : c.args.self.now ≡ node c.in-Node-Node.label (forest c.in-Node-Node.children.items) =
+    sym c.self.view_is ∙ ap wide_of (sym c.deref.ensures ∙ c.in-Node-Node.is-0) in
+    let other_is : c.args.other.now ≡ node c.in-Node-Node.name (forest c.in-Node-Node.those.items) = sym c.other.view_is
+    ∙ ap wide_of (sym c.deref-2.ensures ∙ c.in-Node-Node.is-1) in
+    let all : length c.in-Node-Node.children.items ≤ c.loop-i.i =
+    omega (arith, c.len-i-end.ensures, c.loop-i-test.false) in
+    let all' : length c.in-Node-Node.those.items ≤ c.loop-i.i =
+    omega (
+      arith,
+      c.len-i-end.ensures,
+      c.loop-i-test.false,
+      c.if-len.false,
+      c.len.ensures,
+      c.len-in-Node-Node.ensures,
+    ) in
+    let named : c.in-Node-Node.label ≡ c.in-Node-Node.name = search rules in (
+      λ h. self_is ∙ same_at c.in-Node-Node.label c.in-Node-Node.name c.in-Node-Node.children.items
+          c.in-Node-Node.those.items c.loop-i.i named all all' c.loop-i.invariant ∙ sym other_is,
+      λ e. refl,
+    )
