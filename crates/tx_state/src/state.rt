@@ -315,6 +315,14 @@ impl EditorState {
         former
     }
 
+    /// Puts the cursor at a place of the document. It takes no memory.
+    pub fn move_to(&mut self, place: Place)
+        requires { IsPlace (document_of self.old.buffers) place.path place.offset }
+        ensures { self.new ≡ record self.old { cursor = place } }
+    {
+        self.cursor = place;
+    }
+
     /// Puts the cursor at the place that these numbers name, of which the last one is the offset. Without a number
     /// there is no place (`NoPath(0)`). After an error the state is as before.
     pub fn go(&mut self, alloc: Global, numbers: &Path) -> Result<(), GoFault>

@@ -1,6 +1,7 @@
 // The view.
 ghost use Rattle.std.specs.Prelude.{◌≡◌, ◌≤◌, ◌<◌, ◌^◌, [], length, true, false, MatchOption, IsTrue, IfOk, OnOk};
 ghost use Rattle.std.specs.Prelude.{OnErr, None, Some, option_and_then, option_copied, slice_get};
+ghost use Rattle.tx_doc.specs.Buffers.{with_tree};
 ghost use Rattle.tx_view_form.specs.Views.{IsView, lines_of};
 ghost use Rattle.tx_view_form.specs.Errors.{errors_of};
 ghost use Rattle.tx_view_form.specs.Cells.{drawn_at, row_in};
@@ -25,7 +26,7 @@ use tx_items::{Drawn, ErrorAt};
 use tx_layout::{Line, pages};
 use tx_lines::Cut;
 use tx_origin::Spot;
-use tx_tree::{Path, Place};
+use tx_tree::{Path, Place, Tree};
 use tx_units::{unit_count_law, units};
 
 /// The view of buffers on pages of some width and height. It is fresh where it was made anew since the buffers changed
@@ -101,14 +102,15 @@ impl View {
         })
     }
 
-    /// The view is one of these buffers from then on, and not fresh. For want of memory all stays.
-    pub fn edited(&mut self, alloc: Global, after: &[Buffer]) -> Result<(), Memory>
-        requires some { 1 ≤ length after.now }
-        requires few { length after.now ≤ 64 }
-        ensures ok { OnOk result (self.new ≡ record self.old { buffers = after.now; fresh = false }) }
+    /// From then on the view is one of its buffers with this tree in place of that of buffer `buffer`, and not fresh.
+    /// For want of memory all stays.
+    pub fn edited(&mut self, buffer: u32, tree: &Tree) -> Result<(), Memory>
+        requires { buffer < length self.old.buffers }
+        ensures ok { OnOk result
+            (self.new ≡ record self.old { buffers = with_tree self.old.buffers buffer tree.now; fresh = false }) }
         ensures err { OnErr result (self.new ≡ self.old) }
     {
-        self.buffers = shared(alloc, after)?;
+        self.buffers[buffer as usize].tree = tree.share()?;
         self.fresh = false;
         Ok(())
     }
@@ -146,6 +148,13 @@ impl View {
         ensures view { IsTrue result → IsView self.now.buffers self.now.width self.now.height self.now.shown }
     {
         self.fresh
+    }
+
+    /// How many columns a page has.
+    pub fn width(&self) -> u32
+        ensures { result ≡ self.now.width }
+    {
+        self.width
     }
 
     /// How many rows there are on all pages.
