@@ -5,8 +5,8 @@ ghost use Rattle.tx_view_form.specs.Cells.{items_before, item_number, item_at, d
 use tx_items::{Drawn, Item};
 use tx_layout::{Line, item_cells};
 
-/// The cluster of an item.
-pub(crate) fn drawn_in(item: &Item) -> Option<&Drawn>
+/// The cluster of an item, or None for one that isn't drawn.
+pub fn drawn_in(item: &Item) -> Option<&Drawn>
     ensures { MatchOption result (drawn_in item.now ≡ None) (λ d. drawn_in item.now ≡ Some d.now) }
 {
     match item {

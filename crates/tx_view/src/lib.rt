@@ -16,4 +16,5 @@ mod stops;
 mod view;
 mod words;
 
+pub use cells::drawn_in;
 pub use view::View;
