@@ -1,5 +1,5 @@
 // The view.
-ghost use Rattle.std.specs.Prelude.{◌≡◌, ◌≤◌, ◌<◌, ◌^◌, [], length, true, false, MatchOption, IsTrue, IfOk, OnOk};
+ghost use Rattle.std.specs.Prelude.{◌≡◌, ◌≤◌, ◌<◌, ◌^◌, [], length, true, false, MatchOption, IsOk, IsTrue, IfOk, OnOk};
 ghost use Rattle.std.specs.Prelude.{OnErr, None, Some, option_and_then, option_copied, slice_get};
 ghost use Rattle.tx_doc.specs.Buffers.{with_tree};
 ghost use Rattle.tx_view_form.specs.Views.{IsView, lines_of};
@@ -115,7 +115,7 @@ impl View {
         Ok(())
     }
 
-    /// Makes the view anew, unless it is fresh. For want of memory all stays.
+    /// Makes the view anew, unless it is fresh, which takes no memory then. For want of memory all stays.
     pub fn refresh<L: Ledger>(&mut self, alloc: Global, steps: &mut Steps<L>) -> Result<(), Memory>
         ensures fresh { OnOk result (self.new.fresh ≡ true) }
         ensures view { OnOk result (IsView self.new.buffers self.new.width self.new.height self.new.shown) }
@@ -123,6 +123,7 @@ impl View {
         ensures width { self.new.width ≡ self.old.width }
         ensures height { self.new.height ≡ self.old.height }
         ensures kept { self.old.fresh ≡ true → self.new ≡ self.old }
+        ensures ready { self.old.fresh ≡ true → IsOk result }
         ensures err { OnErr result (self.new ≡ self.old) }
     {
         if self.fresh {
