@@ -9,6 +9,8 @@ mod documents;
 #[cfg(test)]
 mod inverses;
 #[cfg(test)]
+mod keys;
+#[cfg(test)]
 mod lists;
 #[cfg(test)]
 mod machine;

@@ -8,3 +8,9 @@ pub mod Taking
 pub mod Prefixes
 pub mod Overlaying
 pub mod Evaluating
+pub mod Parts
+pub mod Apart
+pub mod Neighbours
+pub mod Ranges
+pub mod Near
+pub mod Placed

@@ -1,7 +1,9 @@
 -- What is kept of units, as the view has it.
-use Rattle.std.specs.Prelude.{◌≡◌, ℕ, ◌+◌, ◌-◌, ◌<◌, ◌^◌, nat_lt, List, [], ◌∷◌, map, length, Option, None, Some, All}
+use Rattle.std.specs.Prelude.{◌≡◌, ℕ, ◌+◌, ◌-◌, nat_lt, List, [], ◌∷◌, map, length, Option, None, Some, All}
 use Rattle.std.specs.Prelude.{if◌then◌else◌}
+use Rattle.std.specs.List.{AllByRecursion}
 use Rattle.std.specs.Option.{option_map}
+use Rattle.tx_units.specs.Places.{AreApart}
 use Rattle.tx_view_form.specs.Views.{UnitView}
 use Rattle.tx_view_form.specs.Positions.{IsShort}
 use Rattle.tx_view.specs.declared.shown.Shown.{Shown}
@@ -33,3 +35,8 @@ pub record IsReadable (x : UnitView) : Type 0 where
   pub placed : x.path ≡ None → x.lines ≡ []
   pub short : All (λ line. All IsShort line.items) x.lines
   pub short_items : All (λ p. All IsShort p.items) x.paragraphs
+
+-- no path of a unit is that of another, or begins it
+abbrev pub AreAllApart : List UnitView → Type 0
+AreAllApart [] = Unit {0}
+AreAllApart (x ∷ xs) = AllByRecursion (λ y. AreApart x.path y.path) xs × AreAllApart xs

@@ -1,5 +1,5 @@
 -- A view, as contracts see it.
-use Rattle.std.specs.Prelude.{◌≡◌, ℕ, ◌≤◌, ◌<◌, ◌^◌, Bool, true, List, length, Option, All, refl}
+use Rattle.std.specs.Prelude.{◌≡◌, ℕ, ◌≤◌, Bool, true, List, length, Option, All, refl}
 use Rattle.std.specs.Coded.{Coded, code_by, coded×, coded_list, coded_option, coded_ℕ, coded_bool}
 use Rattle.tx_doc.specs.contracts.buffer.Buffer as one_buffer
 use Rattle.tx_doc.specs.declared.buffer.Buffer.{Buffer}
@@ -11,9 +11,8 @@ use Rattle.tx_lines.specs.declared.cut.Cut.{Cut}
 use Rattle.tx_items.specs.declared.drawing.ErrorAt.{ErrorAt}
 use Rattle.tx_items.specs.declared.drawing.Paragraph.{Paragraph}
 use Rattle.tx_layout.specs.declared.layout.Line.{Line}
-use Rattle.tx_view_form.specs.Views.{UnitView, WideView, IsView, lines_of}
-use Rattle.tx_view_form.specs.Errors.{errors_of}
-use Rattle.tx_view.specs.Units.{unit_view, unit_views, sums_from, row_counts, error_counts, IsReadable}
+use Rattle.tx_view_form.specs.Views.{UnitView, WideView, IsView}
+use Rattle.tx_view.specs.Units.{unit_view, unit_views, sums_from, row_counts, error_counts, IsReadable, AreAllApart}
 use Rattle.tx_view.specs.declared.view.View.TheInside.{Inside}
 
 -- the buffers, the size of pages, whether it is fresh, and what is shown
@@ -46,6 +45,7 @@ pub record IsKept (v : Inside) : Type 0 where
   pub rows : v.rows.items ≡ sums_from 0 (row_counts (unit_views v.units.items))
   pub errors : v.errors.items ≡ sums_from 0 (error_counts (unit_views v.units.items))
   pub readable : All (λ s. IsReadable (unit_view s)) v.units.items
+  pub apart : AreAllApart (unit_views v.units.items)
 
 -- ---- the code by which proofs tell views apart
 

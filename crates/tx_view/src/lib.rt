@@ -3,6 +3,7 @@
 //! What a view is says `IsView` of `tx_view_form`. [`View::refresh`] makes it from the present buffers.
 #![tactic(auto)]
 
+mod around;
 mod cells;
 mod following;
 mod marks;

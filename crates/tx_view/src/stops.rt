@@ -1,8 +1,8 @@
 // The places at which a cursor stops.
 ghost use Rattle.std.specs.Prelude.{◌≡◌, All, IfOk, OnOk};
-ghost use Rattle.std.specs.List.{flat_map, fold};
+ghost use Rattle.std.specs.List.{flat_map, fold, list_any};
 ghost use Rattle.tx_view_form.specs.Positions.{IsShort, mark_of, marks_of};
-ghost use Rattle.tx_view_form.specs.Stops.{mark_place, put, unit_stops, stops_of};
+ghost use Rattle.tx_view_form.specs.Stops.{mark_place, put, same_place, unit_stops, stops_of};
 ghost use Rattle.tx_view.specs.Marks.{first_of, stops_at, stops_on};
 ghost use Rattle.tx_view.specs.Units.{unit_view, unit_views, IsReadable};
 ghost use Rattle.std.proofs.Common.{rules};
@@ -179,6 +179,18 @@ fn all_stops(alloc: Global, units: &[Shown]) -> Result<IndexSet<Stop>, Memory>
         put_stops(alloc, &mut stops, unit)?;
     }
     Ok(stops)
+}
+
+/// Whether units have this place among their stops.
+pub(crate) fn has_stop(alloc: Global, units: &[Shown], at: &Place) -> Result<bool, Memory>
+    requires { All (λ s. IsReadable (unit_view s)) units.now }
+    ensures { IfOk result (λ b. b ≡ list_any (same_place at.now) (stops_of (unit_views units.now))) }
+{
+    let stops = all_stops(alloc, units)?;
+    let stop = Stop {
+        place: at.copy(alloc)?,
+    };
+    Ok(stops.contains(&stop))
 }
 
 // The places of stops.

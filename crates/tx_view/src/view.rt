@@ -8,8 +8,10 @@ ghost use Rattle.tx_view_form.specs.Cells.{drawn_at, row_in};
 ghost use Rattle.tx_view_form.specs.Positions.{position_in};
 ghost use Rattle.tx_view_form.specs.Stops.{stops_of};
 ghost use Rattle.tx_layout.specs.Paging.{PagesFrom};
-ghost use Rattle.tx_view.specs.Units.{unit_views};
+ghost use Rattle.tx_view.specs.Near.{AreNear};
+ghost use Rattle.tx_view.specs.Units.{unit_views, AreAllApart};
 
+use crate::around::{apart_law, stops_near};
 use crate::cells::drawn_at;
 use crate::following::all_shown;
 use crate::places::place_in;
@@ -132,6 +134,7 @@ impl View {
         unit_count_law(&self.buffers);
         let made = units(alloc, &self.buffers, steps)?;
         let all = all_shown(alloc, &made, self.width, steps)?;
+        apart_law(&self.buffers, self.width, &all);
         let pages = paged(alloc, &all, self.height)?;
         let rows = first_rows(alloc, &all)?;
         let errors = first_errors(alloc, &all)?;
@@ -233,5 +236,14 @@ impl View {
         ensures { IfOk result (λ ps. ps.items ≡ stops_of self.now.shown.units) }
     {
         stops_of(alloc, &self.units)
+    }
+    /// Some of the stops, one behind the other, in which a place has the stops beside it that it has among all: those
+    /// of its unit, of the nearest unit before with stops and of the nearest one behind. For a place that is no stop
+    /// they are the first ones, and none only where there are no stops. Of other units only the paths are looked at.
+    /// The one error is want of memory.
+    pub fn stops_near(&self, alloc: Global, at: &Place) -> Result<Vec<Place>, Memory>
+        ensures { IfOk result (λ ps. AreNear (stops_of self.now.shown.units) ps.items at.now) }
+    {
+        stops_near(alloc, &self.units, at)
     }
 }

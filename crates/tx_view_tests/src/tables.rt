@@ -1,7 +1,7 @@
 // Documents, and what their views show.
 ghost use Rattle.std.specs.Prelude.{◌≡◌};
 
-use crate::told::{errors_told, pages_told, place_told, stops_told, view_of};
+use crate::told::{errors_told, near_told, pages_told, place_told, stops_told, view_of};
 use std::alloc::Global;
 use std::marker::Brand;
 use std::sync::ledger::{Blank, Ledger};
@@ -198,6 +198,37 @@ const STOPS: &[(&str, &str)] = &[
     ("d \"a \"", "/0 /1 /2 "),
 ];
 
+// Buffers, the path and the offset of a place, and the stops near it.
+type Near = (&'static str, &'static str, u32, &'static str);
+
+const FOUR: &str = "d (document \"a\" \"bc\" \"d\" \"e\")";
+
+const TWICE: &str =
+    "d (document (assign \"f\" (macro \"x\" \"y\" (concat (arg \"x\") (arg \"y\") (arg \"x\")))) \
+    (f \"a\" \"b\") \"c\")";
+
+const NEAR: &[Near] = &[
+    (FOUR, "/0", 0, "/0/0 /0/1 /1/0 /1/1 /1/2 "),
+    (FOUR, "/1", 1, "/0/0 /0/1 /1/0 /1/1 /1/2 /2/0 /2/1 "),
+    (FOUR, "/3", 1, "/2/0 /2/1 /3/0 /3/1 "),
+    // places that are no stops
+    (FOUR, "/1", 3, "/0/0 /0/1 "),
+    (FOUR, "/4", 0, "/0/0 /0/1 "),
+    (FOUR, "/1/0", 0, "/0/0 /0/1 "),
+    (FOUR, "/", 0, "/0/0 /0/1 "),
+    // what stands twice has its stops once
+    (TWICE, "/2", 0, "/1/0/0 /1/0/1 /1/1/0 /1/1/1 /2/0 /2/1 "),
+    (
+        TWICE,
+        "/1/0",
+        1,
+        "/0/0 /1/0/0 /1/0/1 /1/1/0 /1/1/1 /2/0 /2/1 ",
+    ),
+    // a single unit, whose path is that of the root, and none
+    ("d \"a\"", "/", 1, "/0 /1 "),
+    ("d (document)", "/", 0, ""),
+];
+
 fn is_shown<L: Ledger>(alloc: Global, row: &Shown, steps: &mut Steps<L>) -> Option<bool> {
     let view = view_of(alloc, row.0, row.1, steps)?;
     let pages = pages_told(alloc, &view)?;
@@ -214,6 +245,11 @@ fn is_placed<L: Ledger>(alloc: Global, row: &Placed, steps: &mut Steps<L>) -> Op
 fn has_stops<L: Ledger>(alloc: Global, row: &(&str, &str), steps: &mut Steps<L>) -> Option<bool> {
     let view = view_of(alloc, row.0, (80, 24), steps)?;
     Some(stops_told(alloc, &view)?.as_str() == row.1)
+}
+
+fn has_near<L: Ledger>(alloc: Global, row: &Near, steps: &mut Steps<L>) -> Option<bool> {
+    let view = view_of(alloc, row.0, (80, 24), steps)?;
+    Some(near_told(alloc, &view, row.1, row.2)?.as_str() == row.3)
 }
 
 fn not_shown<L: Ledger>(alloc: Global, blank: Blank) -> Option<usize>
@@ -258,6 +294,20 @@ fn not_stopped<L: Ledger>(alloc: Global, blank: Blank) -> Option<usize>
     None
 }
 
+fn not_near<L: Ledger>(alloc: Global, blank: Blank) -> Option<usize>
+    requires name { blank.name ≡ L.name }
+    requires parts { blank.parts ≡ L.parts }
+    requires whole { blank.parts ≡ 1 }
+{
+    let mut steps = Steps::<L>::new(blank);
+    for (i, row) in NEAR.iter().enumerate() {
+        if has_near(alloc, row, &mut steps) != Some(true) {
+            return Some(i);
+        }
+    }
+    None
+}
+
 #[test]
 fn pages_and_errors(rt: HostRuntime) {
     assert_eq!(rt; not_shown::<Brand>(rt.alloc(), Blank::new(1)), None);
@@ -271,4 +321,9 @@ fn places_of_cells(rt: HostRuntime) {
 #[test]
 fn stops(rt: HostRuntime) {
     assert_eq!(rt; not_stopped::<Brand>(rt.alloc(), Blank::new(1)), None);
+}
+
+#[test]
+fn stops_beside_a_place(rt: HostRuntime) {
+    assert_eq!(rt; not_near::<Brand>(rt.alloc(), Blank::new(1)), None);
 }

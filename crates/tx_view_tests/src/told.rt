@@ -7,6 +7,7 @@ use tx_base::Steps;
 use tx_doc::{Buffer, Name};
 use tx_items::Item;
 use tx_layout::Line;
+use tx_tree::{Path, Place};
 use tx_view::View;
 
 // The buffers that are told: of each a name and a tree, `;` between them.
@@ -110,12 +111,24 @@ pub(crate) fn place_told(alloc: Global, view: &View, r: u32, c: u32) -> Option<S
     }
 }
 
-/// All stops.
-pub(crate) fn stops_told(alloc: Global, view: &View) -> Option<String> {
+fn places_told(alloc: Global, places: &[Place]) -> Option<String> {
     let mut text = String::new(alloc);
-    for place in &view.stops(alloc).ok()? {
+    for place in places {
         text.push_str(format!(in alloc; "{place} ").ok()?.as_str())
             .ok()?;
     }
     Some(text)
+}
+
+/// All stops.
+pub(crate) fn stops_told(alloc: Global, view: &View) -> Option<String> {
+    let stops = view.stops(alloc).ok()?;
+    places_told(alloc, &stops)
+}
+
+/// The stops near the place with this path and this offset.
+pub(crate) fn near_told(alloc: Global, view: &View, path: &str, offset: u32) -> Option<String> {
+    let path = Path::parse(alloc, path.as_bytes()).ok()?;
+    let stops = view.stops_near(alloc, &Place { path, offset }).ok()?;
+    places_told(alloc, &stops)
 }

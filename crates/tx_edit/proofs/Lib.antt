@@ -1,0 +1,4 @@
+pub mod Parents
+pub mod Backwards
+pub mod Turns
+pub mod Following

@@ -1,0 +1,3 @@
+pub mod Keys
+pub mod Followed
+pub mod Stops

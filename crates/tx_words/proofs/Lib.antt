@@ -1,0 +1,7 @@
+mod Cuts
+mod Parsed
+mod Differing
+mod Asking
+mod Taken
+mod TheCommand
+mod Plain

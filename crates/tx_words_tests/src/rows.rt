@@ -1,0 +1,149 @@
+// Command lines, and the names of buffers.
+use std::alloc::{AllocError, Global};
+use std::str;
+use tx_words::{Words, WordsFault, buffer_name, read_words};
+
+// Words, each behind a bar, and what they ask for: the width, the height, and each file with its buffer's name.
+const ROWS: &[(&str, &str)] = &[
+    // the program's name and files
+    ("", "faulty"),
+    ("|tmx", "faulty"),
+    ("|tmx|a.tm", "80 24 a.tm:a"),
+    ("||a.tm", "80 24 a.tm:a"),
+    ("|--width|a.tm", "80 24 a.tm:a"),
+    ("|tmx|", "faulty"),
+    ("|tmx|a.tm|", "faulty"),
+    ("|tmx|d/", "faulty"),
+    ("|tmx|help", "80 24 help:help"),
+    ("|tmx|a.tm|b.scm|c", "80 24 a.tm:a b.scm:b c:c"),
+    ("|tmx|b.scm|a.tm", "80 24 b.scm:b a.tm:a"),
+    ("|tmx|a.tm|d/a.scm", "faulty"),
+    ("|tmx|a.tm|b.tm|b.tm", "faulty"),
+    (
+        "|tmx|d/e.f/a.b.tm|.x|/r/..",
+        "80 24 d/e.f/a.b.tm:a.b .x:.x /r/..:.",
+    ),
+    (
+        "|tmx|a|b|c|d|e|f|g|h|i|j|k|l|m|n|o|p",
+        "80 24 a:a b:b c:c d:d e:e f:f g:g h:h i:i j:j k:k l:l m:m n:n o:o p:p",
+    ),
+    ("|tmx|a|b|c|d|e|f|g|h|i|j|k|l|m|n|o|p|q", "faulty"),
+    // options
+    ("|tmx|--width|40|a.tm", "40 24 a.tm:a"),
+    ("|tmx|a.tm|--width|40", "40 24 a.tm:a"),
+    ("|tmx|a.tm|--width|40|b.scm", "40 24 a.tm:a b.scm:b"),
+    ("|tmx|a.tm|b.scm|--height=30|c", "80 30 a.tm:a b.scm:b c:c"),
+    ("|tmx|--width=40|--height=30|a.tm", "40 30 a.tm:a"),
+    ("|tmx|--width=40", "faulty"),
+    ("|tmx|--width=|a.tm", "faulty"),
+    ("|tmx|--width||a.tm", "faulty"),
+    ("|tmx|a.tm|--width", "faulty"),
+    ("|tmx|--width|--height|5|a.tm", "faulty"),
+    ("|tmx|--width|--|a.tm", "faulty"),
+    ("|tmx|--width=40|--width=40|a.tm", "faulty"),
+    ("|tmx|--widt=40|a.tm", "faulty"),
+    ("|tmx|-x|a.tm", "faulty"),
+    ("|tmx|--|--width", "80 24 --width:--width"),
+    ("|tmx|--|a.tm|--", "80 24 a.tm:a --:--"),
+    ("|tmx|a.tm|--|-x", "80 24 a.tm:a -x:-x"),
+    ("|tmx|-", "80 24 -:-"),
+    // numbers
+    ("|tmx|--width|19|a.tm", "faulty"),
+    ("|tmx|--width|20|a.tm", "20 24 a.tm:a"),
+    ("|tmx|--width=500|a.tm", "500 24 a.tm:a"),
+    ("|tmx|--width=501|a.tm", "faulty"),
+    ("|tmx|--height=4|a.tm", "faulty"),
+    ("|tmx|--height=5|a.tm", "80 5 a.tm:a"),
+    ("|tmx|--height=500|a.tm", "80 500 a.tm:a"),
+    ("|tmx|--height=501|a.tm", "faulty"),
+    ("|tmx|--width=0000000040|a.tm", "40 24 a.tm:a"),
+    ("|tmx|--width=00000000040|a.tm", "faulty"),
+    ("|tmx|--width=4294967336|a.tm", "faulty"),
+    ("|tmx|--width=4=0|a.tm", "faulty"),
+    ("|tmx|--width=+40|a.tm", "faulty"),
+    ("|tmx|--width=-40|a.tm", "faulty"),
+    ("|tmx|--width= 40|a.tm", "faulty"),
+    ("|tmx|--width=4x|a.tm", "faulty"),
+    ("|tmx|--height|-5|a.tm", "faulty"),
+    // help
+    ("|tmx|--help", "faulty"),
+    ("|tmx|a.tm|-h", "faulty"),
+    ("|tmx|--help|a.tm", "faulty"),
+    ("|tmx|--version|a.tm", "faulty"),
+    ("|tmx|-V", "faulty"),
+];
+
+// Paths, and the names of the buffers that are read from them.
+const NAMES: &[(&str, &str)] = &[
+    ("a.tm", "a"),
+    ("a", "a"),
+    ("a.", "a"),
+    ("d/e.f/a.b.tm", "a.b"),
+    ("d.e/f", "f"),
+    (".x", ".x"),
+    ("/r/.x.tm", ".x"),
+    ("..", "."),
+    (".", "."),
+    ("", ""),
+    ("d/", ""),
+];
+
+// The words, each behind a bar.
+fn words_in(alloc: Global, line: &str) -> Result<Vec<String>, AllocError> {
+    let mut words = Vec::new(alloc);
+    for (i, word) in line.split('|').enumerate() {
+        if i > 0 {
+            words.push(String::from_str(alloc, word)?)?;
+        }
+    }
+    Ok(words)
+}
+
+// The width, the height, and each file with its buffer's name.
+fn shown(alloc: Global, asked: &Words) -> Result<String, AllocError> {
+    let mut text = format!(in alloc; "{} {}", asked.width, asked.height)?;
+    for file in asked.files.as_slice() {
+        let name = str::from_utf8(file.name).unwrap_or("?");
+        let more = format!(in alloc; " {}:{}", file.word, name)?;
+        text.push_str(&more)?;
+    }
+    Ok(text)
+}
+
+// What the words of the line ask for, as text.
+fn asked_by(alloc: Global, line: &str) -> Result<String, AllocError> {
+    let words = words_in(alloc, line)?;
+    match read_words(alloc, &words) {
+        Ok(asked) => shown(alloc, &asked),
+        Err(WordsFault::Faulty) => String::from_str(alloc, "faulty"),
+        Err(WordsFault::Memory) => String::from_str(alloc, "memory"),
+    }
+}
+
+// Whether the words of the line ask for this.
+fn asks(alloc: Global, line: &str, wanted: &str) -> Result<bool, AllocError> {
+    let asked = asked_by(alloc, line)?;
+    Ok(asked.as_str() == wanted)
+}
+
+// The number of the first line that asks for something else.
+fn first_wrong(alloc: Global, rows: &[(&str, &str)]) -> Option<usize> {
+    rows.iter()
+        .position(|row| asks(alloc, row.0, row.1) != Ok(true))
+}
+
+// The number of the first path that has another name.
+fn first_misnamed(rows: &[(&str, &str)]) -> Option<usize> {
+    rows.iter()
+        .position(|row| buffer_name(row.0.as_bytes()) != row.1.as_bytes())
+}
+
+#[test]
+fn words_of_command_lines(rt: HostRuntime) {
+    assert_eq!(rt; first_wrong(rt.alloc(), ROWS), None);
+}
+
+#[test]
+fn names_of_buffers(rt: HostRuntime) {
+    assert_eq!(rt; first_misnamed(NAMES), None);
+}
