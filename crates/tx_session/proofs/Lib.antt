@@ -1,7 +1,6 @@
 pub mod StoreCalls
 pub mod Saved
 pub mod Counted
-pub mod Cuts
 pub mod KeptLines
 pub mod Quits
 pub mod Going

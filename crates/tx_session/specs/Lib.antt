@@ -1,4 +1,3 @@
-pub mod Names
 pub mod Statuses
 pub mod Lines
 pub mod Forms

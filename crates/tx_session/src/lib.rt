@@ -9,7 +9,6 @@
 mod fault_lines;
 mod kept_line;
 mod limits;
-mod names;
 mod opening;
 mod places;
 mod replies;

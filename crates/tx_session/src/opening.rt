@@ -10,7 +10,6 @@ ghost use Rattle.tx_session.specs.Lines.{line};
 ghost use Rattle.tx_session.specs.Openings.{outcome_of};
 
 use crate::fault_lines::line_of_fault;
-use crate::names::buffer_name;
 use crate::status::Status;
 use std::alloc::Global;
 use std::sync::ledger::Ledger;
@@ -18,6 +17,7 @@ use tx_base::{Memory, Steps};
 use tx_doc::{Form, form_of};
 use tx_outside::{LoadFault, Store};
 use tx_tree::{ReadFault, Tree};
+use tx_words::buffer_name;
 
 /// How the program is called, as a line.
 pub(crate) const USAGE: &[u8] = b"usage: tmx [--width N] [--height N] FILE [STYLE]...\n";

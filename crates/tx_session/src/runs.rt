@@ -18,7 +18,6 @@ ghost use Rattle.tx_tree.specs.WideTree.{WideTree};
 ghost use Rattle.tx_session.specs.declared.status.Status.{Status};
 ghost use Rattle.tx_session.specs.Openings.{outcome_of};
 
-use crate::names::buffer_name;
 use crate::opening::{Opening, USAGE, open};
 use crate::script::play;
 use crate::session::Session;
@@ -29,6 +28,7 @@ use tx_base::{Memory, Steps};
 use tx_doc::{Buffer, Name};
 use tx_outside::{Sink, Source, Store, WriteFault, write_all};
 use tx_tree::Tree;
+use tx_words::buffer_name;
 
 // Writes the text, and answers the status unless the output failed.
 fn finish<O: Sink>(out: &mut O, text: &[u8], status: Status) -> Status
