@@ -5,6 +5,60 @@ use std::alloc::Global;
 use tx_cmd::CmdFault;
 use tx_tree::{ReadFault, Which};
 
+// Of words that ask for a row, a column, a page or a text, and of those without an argument.
+const SHOWN: &[(&[u8], CmdFault)] = &[
+    (b"lef", CmdFault::Unknown),
+    (b"rights", CmdFault::Unknown),
+    (b"back", CmdFault::Unknown),
+    (b"Enter", CmdFault::Unknown),
+    (b"error", CmdFault::Unknown),
+    (b"place", CmdFault::Unknown),
+    (b"typed \"a\"", CmdFault::Unknown),
+    (b"left x", CmdFault::Args(4)),
+    (b"left ", CmdFault::Args(4)),
+    (b"right 1", CmdFault::Args(5)),
+    (b"backspace ", CmdFault::Args(9)),
+    (b"enter \"a\"", CmdFault::Args(5)),
+    (b"errors 1", CmdFault::Args(6)),
+    (b"click", CmdFault::Args(5)),
+    (b"click 1", CmdFault::Args(7)),
+    (b"click  1 2", CmdFault::Args(6)),
+    (b"click 1 2 3", CmdFault::Args(9)),
+    (b"click 1,2", CmdFault::Args(7)),
+    (b"where", CmdFault::Args(5)),
+    (b"where ", CmdFault::Args(6)),
+    (b"where 1", CmdFault::Args(7)),
+    (b"where 1 ", CmdFault::Args(8)),
+    (b"where 1 x", CmdFault::Args(8)),
+    (b"where x 1", CmdFault::Args(6)),
+    (b"where 1 4294967296", CmdFault::Args(17)),
+    (b"where /0 1", CmdFault::Args(6)),
+    (b"page", CmdFault::Args(4)),
+    (b"page ", CmdFault::Args(5)),
+    (b"page y", CmdFault::Args(5)),
+    (b"page -1", CmdFault::Args(5)),
+    (b"page 1 2", CmdFault::Args(6)),
+    (b"page 4294967296", CmdFault::Args(14)),
+    (b"page 00000000001", CmdFault::Args(15)),
+    (b"attrs", CmdFault::Args(5)),
+    (b"attrs 1x", CmdFault::Args(7)),
+    (b"attrs 1 2", CmdFault::Args(7)),
+    // A text is a tree that is no node.
+    (b"type", CmdFault::Args(4)),
+    (b"type (f)", CmdFault::Args(5)),
+    (b"type  (f \"a\") ", CmdFault::Args(5)),
+    (b"type (f", CmdFault::Tree(ReadFault::Unclosed(7))),
+    (b"type ", CmdFault::Tree(ReadFault::Unclosed(5))),
+    (b"type \"a", CmdFault::Tree(ReadFault::Unclosed(7))),
+    (b"type a", CmdFault::Tree(ReadFault::Stray(5))),
+    (b"type \"a\" b", CmdFault::Tree(ReadFault::After(9))),
+    (b"type \"a\"\"b\"", CmdFault::Tree(ReadFault::After(8))),
+    (b"type (f)(g)", CmdFault::Tree(ReadFault::After(8))),
+    (b"type \"\\n\"", CmdFault::Tree(ReadFault::BadEscape(7))),
+    (b"type \"a>\"", CmdFault::Tree(ReadFault::BadText(7))),
+    (b"type ()", CmdFault::Tree(ReadFault::BadLabel(6))),
+];
+
 const FAULTS: &[(&[u8], CmdFault)] = &[
     // Words and forms.
     (b"showx", CmdFault::Unknown),
@@ -89,6 +143,12 @@ const FAULTS: &[(&[u8], CmdFault)] = &[
         CmdFault::Tree(ReadFault::BadText(18)),
     ),
     // Names.
+    (b"at", CmdFault::Args(2)),
+    (b"at ", CmdFault::Args(3)),
+    (b"at  a", CmdFault::Args(3)),
+    (b"at a b", CmdFault::Args(4)),
+    (b"at a ", CmdFault::Args(4)),
+    (b"at \xe4", CmdFault::Args(3)),
     (b"sav", CmdFault::Unknown),
     (b"saves", CmdFault::Unknown),
     (b"save\to.scm", CmdFault::Unknown),
@@ -119,6 +179,11 @@ fn lines_that_are_no_commands(rt: HostRuntime) {
     assert_eq!(rt; first_unrefused(rt.alloc(), FAULTS), None);
 }
 
+#[test]
+fn words_of_the_view_and_of_typing_that_are_no_commands(rt: HostRuntime) {
+    assert_eq!(rt; first_unrefused(rt.alloc(), SHOWN), None);
+}
+
 // Pieces with commas between them, each behind how often it is repeated and a space; and the fault of the line, or None
 // where it is a command that is written like that.
 const LONG: &[(&str, Option<CmdFault>)] = &[
@@ -127,10 +192,18 @@ const LONG: &[(&str, Option<CmdFault>)] = &[
         "1 assign /0 ,400 (a,1 \"\",400 )",
         Some(CmdFault::Tree(ReadFault::Limit(Which::Depth, 401))),
     ),
+    (
+        "1 type ,400 (a,1 \"\",400 )",
+        Some(CmdFault::Tree(ReadFault::Limit(Which::Depth, 401))),
+    ),
+    ("1 type ,399 (a,1 \"\",399 )", Some(CmdFault::Args(5))),
+    ("1 type \",1048569 b,1 \"", None),
     ("1048576  ", Some(CmdFault::Unknown)),
     ("1048577  ", Some(CmdFault::Long(1_048_577))),
     ("1 assign-node / ,64 a", None),
     ("1 assign-node / ,65 a", Some(CmdFault::Args(78))),
+    ("1 at ,255 n", None),
+    ("1 at ,256 n", Some(CmdFault::Args(258))),
     ("1 save ,255 n", None),
     ("1 save ,256 n", Some(CmdFault::Args(260))),
     ("1 save ,257 n", Some(CmdFault::Args(260))),

@@ -7,7 +7,7 @@ use std::sync::ledger::{Blank, Ledger};
 use tx_base::{Memory, Steps};
 use tx_cmd::{CmdFault, Command, parse};
 use tx_mod::Mod;
-use tx_tree::{Path, Tree};
+use tx_tree::{Path, Text, Tree};
 
 fn parsed<L: Ledger>(alloc: Global, line: &[u8], blank: Blank) -> Result<Command, CmdFault>
     requires name { blank.name ≡ L.name }
@@ -22,16 +22,26 @@ pub(crate) fn answer(alloc: Global, line: &[u8]) -> Result<Command, CmdFault> {
     parsed::<Brand>(alloc, line, Blank::new(1))
 }
 
-// A word, a path, and numbers.
-fn front(alloc: Global, word: &[u8], path: &Path, numbers: &[u32]) -> Result<Vec<u8>, Memory> {
-    let mut out = Vec::from_slice(alloc, word)?;
-    let path = format!(in alloc; " {path}")?;
-    out.extend_from_slice(path.as_bytes())?;
+// With these numbers, each behind a space.
+fn with_numbers(alloc: Global, mut out: Vec<u8>, numbers: &[u32]) -> Result<Vec<u8>, Memory> {
     for n in numbers {
         let digits = format!(in alloc; " {n}")?;
         out.extend_from_slice(digits.as_bytes())?;
     }
     Ok(out)
+}
+
+// A word and numbers.
+fn counted(alloc: Global, word: &[u8], numbers: &[u32]) -> Result<Vec<u8>, Memory> {
+    with_numbers(alloc, Vec::from_slice(alloc, word)?, numbers)
+}
+
+// A word, a path, and numbers.
+fn front(alloc: Global, word: &[u8], path: &Path, numbers: &[u32]) -> Result<Vec<u8>, Memory> {
+    let mut out = Vec::from_slice(alloc, word)?;
+    let path = format!(in alloc; " {path}")?;
+    out.extend_from_slice(path.as_bytes())?;
+    with_numbers(alloc, out, numbers)
 }
 
 // With a space, and these bytes.
@@ -46,6 +56,12 @@ fn with_tree(mut out: Vec<u8>, tree: &Tree) -> Result<Vec<u8>, Memory> {
     out.push(b' ')?;
     tx_scm::write(tree, &mut out)?;
     Ok(out)
+}
+
+// A word, and the text as a tree.
+fn with_text(alloc: Global, word: &[u8], text: &Text) -> Result<Vec<u8>, Memory> {
+    let tree = Tree::leaf(alloc, text.copy()?)?;
+    with_tree(Vec::from_slice(alloc, word)?, &tree)
 }
 
 // A modification as a line, with no more digits and white than are wanted.
@@ -71,11 +87,16 @@ fn word_of(command: &Command) -> &'static [u8] {
     match command {
         Command::Undo => b"undo",
         Command::Redo => b"redo",
-        Command::Cursor => b"cursor",
+        Command::Left => b"left",
+        Command::Right => b"right",
+        Command::Backspace => b"backspace",
+        Command::Enter => b"enter",
         Command::Show => b"show",
+        Command::Errors => b"errors",
+        Command::Cursor => b"cursor",
         Command::Tree => b"tree",
         Command::Quit => b"quit",
-        Command::Change(_) | Command::Go(_) | Command::Save(_) => b"",
+        _ => b"",
     }
 }
 
@@ -83,7 +104,13 @@ fn word_of(command: &Command) -> &'static [u8] {
 fn text_of(alloc: Global, command: &Command) -> Result<Vec<u8>, Memory> {
     match command {
         Command::Change(change) => change_text(alloc, change),
+        Command::At(name) => with_bytes(Vec::from_slice(alloc, b"at")?, name.bytes()),
         Command::Go(path) => front(alloc, b"go", path, &[]),
+        Command::Click(row, column) => counted(alloc, b"click", &[*row, *column]),
+        Command::Typed(text) => with_text(alloc, b"type", text),
+        Command::Page(n) => counted(alloc, b"page", &[*n]),
+        Command::PlaceOf(row, column) => counted(alloc, b"where", &[*row, *column]),
+        Command::Attrs(row) => counted(alloc, b"attrs", &[*row]),
         Command::Save(name) => with_bytes(Vec::from_slice(alloc, b"save")?, name.bytes()),
         _ => Ok(Vec::from_slice(alloc, word_of(command))?),
     }
@@ -107,6 +134,28 @@ const COMMANDS: &[(&[u8], &[u8])] = &[
     (b"undo", b"undo"),
     (b"redo", b"redo"),
     (b"cursor", b"cursor"),
+    (b"left", b"left"),
+    (b"right", b"right"),
+    (b"backspace", b"backspace"),
+    (b"enter", b"enter"),
+    (b"errors", b"errors"),
+    // Rows, columns and pages.
+    (b"click 0 36", b"click 0 36"),
+    (b"click 4294967295 0000000007", b"click 4294967295 7"),
+    (b"where 3 12", b"where 3 12"),
+    (b"where 12 3", b"where 12 3"),
+    (b"where 00 4294967295", b"where 0 4294967295"),
+    (b"page 0", b"page 0"),
+    (b"page 2", b"page 2"),
+    (b"page 4294967295", b"page 4294967295"),
+    (b"attrs 9", b"attrs 9"),
+    (b"attrs 0010", b"attrs 10"),
+    // Texts.
+    (b"type \"a\"", b"type \"a\""),
+    (b"type \"\"", b"type \"\""),
+    (b"type  \"a b\"\t", b"type \"a b\""),
+    (b"type \"\\\"\\\\<alpha>\"", b"type \"\\\"\\\\<alpha>\""),
+    (b"type \"(f)\"", b"type \"(f)\""),
     (b"go /", b"go /"),
     (b"go /0/007/4294967295", b"go /0/7/4294967295"),
     (b"assign / \"a b\"", b"assign / \"a b\""),
@@ -130,6 +179,9 @@ const COMMANDS: &[(&[u8], &[u8])] = &[
         b"assign-node / -_+*:.?!=~@$%&^",
     ),
     // Names at the edges of what one is.
+    (b"at a", b"at a"),
+    (b"at generic", b"at generic"),
+    (b"at ~(\"!", b"at ~(\"!"),
     (b"save o.scm", b"save o.scm"),
     (b"save a", b"save a"),
     (b"save !", b"save !"),

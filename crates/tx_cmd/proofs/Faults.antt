@@ -8,12 +8,13 @@ use Rattle.tx_cmd.specs.declared.command.CmdFault.TheVariants.{Long, Unknown, Ar
 use Rattle.tx_cmd.specs.declared.words.ArgumentKind.{ArgumentKind}
 use Rattle.tx_cmd.specs.declared.words.ArgumentKind.TheVariants.{Path as PathArgument, Number as NumberArgument}
 use Rattle.tx_cmd.specs.declared.words.ArgumentKind.TheVariants.{Label as LabelArgument, Name as NameArgument}
-use Rattle.tx_cmd.specs.declared.words.ArgumentKind.TheVariants.{Tree as TreeArgument}
+use Rattle.tx_cmd.specs.declared.words.ArgumentKind.TheVariants.{Tree as TreeArgument, Text as TextArgument}
 use Rattle.tx_cmd.specs.declared.words.Word.{Word}
 use Rattle.tx_cmd.specs.Words.{first_word, word_text, arguments_of, AreLoose, IsLoose}
 use Rattle.tx_cmd.specs.Values.{Value, kind_of, Means, HasMeaning}
 use Rattle.tx_cmd.specs.Pieces.{IsCut, tree_is_last, IsMisfit}
-use Rattle.tx_cmd.specs.Refusals.{IsBadPath, IsBadTree, IsBadPiece, IsFirstFault, IsCmdFault}
+use Rattle.tx_cmd.specs.Refusals.{IsBadPath, IsBadTree, SpellsNode, IsBadPiece, IsFirstFault, HasNoForm}
+use Rattle.tx_cmd.specs.Refusals.{IsRefused, IsCmdFault}
 use Rattle.tx_cmd.specs.declared.TheConstants.{MOST_LINE}
 use Rattle.tx_cmd.proofs.LooseFronts.{loose_cut, line_misfit}
 
@@ -21,16 +22,17 @@ use Rattle.tx_cmd.proofs.LooseFronts.{loose_cut, line_misfit}
 pub fault_here : (a : ArgumentKind) (more : List ArgumentKind) (bytes piece rest : List ℕ) (at : ℕ) (fault : CmdFault)
     → tree_is_last (a ∷ more) ≡ true → IsCut a bytes piece rest → AreLoose (a ∷ more) bytes
     → IsBadPiece a piece (at + 1) fault → IsFirstFault (a ∷ more) bytes at fault
-fault_here a more bytes piece rest at fault o c h bad = let w = loose_cut a more bytes piece rest o c h in
-    (piece, rest, c.are, w.0, w.1, inl bad)
+fault_here a more bytes piece rest at fault o c h bad =
+    let w = loose_cut a more bytes piece rest o c h in (piece, rest, c.are, w.0, w.1, inl bad)
 
 -- the first piece is good, and one behind it is bad
 pub fault_behind : (v : Value) (more : List ArgumentKind) (bytes piece rest : List ℕ) (at : ℕ) (fault : CmdFault)
     → tree_is_last (kind_of v ∷ more) ≡ true → IsCut (kind_of v) bytes piece rest
     → AreLoose (kind_of v ∷ more) bytes → Means piece v → IsFirstFault more rest (at + 1 + length piece) fault
     → IsFirstFault (kind_of v ∷ more) bytes at fault
-fault_behind v more bytes piece rest at fault o c h means bad = let w =
-    loose_cut (kind_of v) more bytes piece rest o c h in (piece, rest, c.are, w.0, w.1, inr ((v, refl, means), bad))
+fault_behind v more bytes piece rest at fault o c h means bad =
+    let w = loose_cut (kind_of v) more bytes piece rest o c h in
+    (piece, rest, c.are, w.0, w.1, inr ((v, refl, means), bad))
 
 -- a line that has not the form of a command with its first word
 pub args_fault : (w : Word) (line first rest : List ℕ) (n : ℕ) → length line ≤ MOST_LINE → first ≡ first_word line
@@ -42,24 +44,21 @@ args_fault w line first rest n short is_first is_word are h =
     let whole : word_text w ++ rest ≡ line = ap (λ x. x ++ rest) (sym is_word) ∙ sym are in
     let none : IsLoose (first_word line) line
     → ⊥ = subst (λ x. IsLoose x line → ⊥) same (subst (λ x. IsLoose (word_text w) x → ⊥) whole m.0) in
-    let front : IsLongestFront (IsLoose (first_word line)) line (length (word_text w) + n) =
-    subst (λ x. IsLongestFront (IsLoose x) line (length (word_text w) + n)) same
-    (subst (λ x. IsLongestFront (IsLoose (word_text w)) x (length (word_text w) + n)) whole m.1) in (
-      short,
-      (w, sym same),
-      none,
-      subst (λ x. IsLongestFront (IsLoose (first_word line)) line (length x + n))
-          (sym is_word) front,
-    )
+    let front : IsLongestFront (IsLoose (first_word line)) line (length (word_text w) + n) = subst
+    (λ x. IsLongestFront (IsLoose x) line (length (word_text w) + n)) same
+    (subst (λ x. IsLongestFront (IsLoose (word_text w)) x (length (word_text w) + n)) whole m.1) in
+    let there = subst (λ x. IsLongestFront (IsLoose (first_word line)) line (length x + n)) (sym is_word) front in
+    let form : HasNoForm line (length first + n) = record { known = (w, sym same); none = none; front = there } in
+    (short, inl form)
 
 -- ---- which faults pieces have
 
 abbrev IsPieceFault : CmdFault → Type 0
 IsPieceFault (Path n) = Unit {0}
 IsPieceFault (Tree fault) = Unit {0}
+IsPieceFault (Args n) = Unit {0}
 IsPieceFault (Long n) = ⊥
 IsPieceFault Unknown = ⊥
-IsPieceFault (Args n) = ⊥
 IsPieceFault Memory = ⊥
 
 bad_path_kind : (piece : List ℕ) (at : ℕ) (f : CmdFault) → IsBadPath piece at f → IsPieceFault f
@@ -67,7 +66,7 @@ bad_path_kind piece at (Path n) h = tt
 bad_path_kind piece at (Tree fault) h = absurd h
 bad_path_kind piece at (Long n) h = h
 bad_path_kind piece at Unknown h = h
-bad_path_kind piece at (Args n) h = h
+bad_path_kind piece at (Args n) h = absurd h
 bad_path_kind piece at Memory h = h
 
 bad_tree_kind : (piece : List ℕ) (at : ℕ) (f : CmdFault) → IsBadTree piece at f → IsPieceFault f
@@ -75,12 +74,17 @@ bad_tree_kind piece at (Tree fault) h = tt
 bad_tree_kind piece at (Path n) h = absurd h
 bad_tree_kind piece at (Long n) h = h
 bad_tree_kind piece at Unknown h = h
-bad_tree_kind piece at (Args n) h = h
+bad_tree_kind piece at (Args n) h = absurd h
 bad_tree_kind piece at Memory h = h
 
 bad_kind : (a : ArgumentKind) (piece : List ℕ) (at : ℕ) (f : CmdFault) → IsBadPiece a piece at f → IsPieceFault f
 bad_kind PathArgument piece at f h = bad_path_kind piece at f h
 bad_kind TreeArgument piece at f h = bad_tree_kind piece at f h
+bad_kind TextArgument piece at f h =
+    ⊎_elim
+    (λ (x : IsBadTree piece at f). bad_tree_kind piece at f x)
+    (λ (y : SpellsNode piece × (f ≡ Args at)). subst IsPieceFault (sym y.1) tt)
+    h
 bad_kind NumberArgument piece at f h = absurd h
 bad_kind LabelArgument piece at f h = absurd h
 bad_kind NameArgument piece at f h = absurd h
@@ -93,6 +97,12 @@ first_kind (a ∷ more) bytes at f h =
     (λ (y : HasMeaning a h.0 × IsFirstFault more h.1 (at + 1 + length h.0) f). first_kind more h.1
     (at + 1 + length h.0) f y.1) h.5
 
+refused : (w : Word) (line first rest : List ℕ) (f : CmdFault) → first ≡ word_text w → line ≡ first ++ rest
+    → IsFirstFault (arguments_of w) rest (length first) f → IsRefused line f
+refused w line first rest f is_word are h =
+    let behind = subst (λ x. IsFirstFault (arguments_of w) rest (length x) f) is_word h in
+    (w, rest, are ∙ ap (λ x. x ++ rest) is_word, behind)
+
 -- a line whose pieces have a fault
 pub piece_fault : (w : Word) (line first rest : List ℕ) (f : CmdFault) → length line ≤ MOST_LINE → first ≡ word_text w
     → line ≡ first ++ rest
@@ -102,31 +112,11 @@ piece_fault w line first rest (Long n) short is_word are h =
 piece_fault w line first rest Unknown short is_word are h =
     absurd (first_kind (arguments_of w) rest (length first) Unknown (h (λ e. cc)))
 piece_fault w line first rest (Args n) short is_word are h =
-    absurd (first_kind (arguments_of w) rest (length first) (Args n) (h (λ e. cc)))
-piece_fault w line first rest (Path n) short is_word are h = (
-  short,
-  (
-    w,
-    rest,
-    are ∙ ap (λ x. x ++ rest) is_word,
-    subst (λ x. IsFirstFault (arguments_of w) rest (length x) (Path n)) is_word (h path_apart),
-  ),
-)
-  where
-    path_apart : Path n ≡ Memory → ⊥
-    path_apart e = cc
-piece_fault w line first rest (Tree fault) short is_word are h = (
-  short,
-  (
-    w,
-    rest,
-    are ∙ ap (λ x. x ++ rest) is_word,
-    subst (λ x. IsFirstFault (arguments_of w) rest (length x) (Tree fault)) is_word (h tree_apart),
-  ),
-)
-  where
-    tree_apart : Tree fault ≡ Memory → ⊥
-    tree_apart e = cc
+    (short, inr (refused w line first rest (Args n) is_word are (h (λ e. cc))))
+piece_fault w line first rest (Path n) short is_word are h =
+    (short, refused w line first rest (Path n) is_word are (h (λ e. cc)))
+piece_fault w line first rest (Tree fault) short is_word are h =
+    (short, refused w line first rest (Tree fault) is_word are (h (λ e. cc)))
 piece_fault w line first rest Memory short is_word are h = tt
 
 -- ---- answers of calls

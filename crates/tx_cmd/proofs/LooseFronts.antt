@@ -7,7 +7,7 @@ use Rattle.tx_base.specs.Fronts.{IsFront, IsLongestFront}
 use Rattle.tx_cmd.specs.declared.words.ArgumentKind.{ArgumentKind}
 use Rattle.tx_cmd.specs.declared.words.ArgumentKind.TheVariants.{Path as PathArgument, Number as NumberArgument}
 use Rattle.tx_cmd.specs.declared.words.ArgumentKind.TheVariants.{Label as LabelArgument, Name as NameArgument}
-use Rattle.tx_cmd.specs.declared.words.ArgumentKind.TheVariants.{Tree as TreeArgument}
+use Rattle.tx_cmd.specs.declared.words.ArgumentKind.TheVariants.{Tree as TreeArgument, Text as TextArgument}
 use Rattle.tx_cmd.specs.declared.words.Word.{Word}
 use Rattle.tx_cmd.specs.Words.{HasNoSpace, IsLoosePiece, AreLoose, IsLoose, arguments_of, word_text}
 use Rattle.tx_cmd.specs.Pieces.{IsTail, EndsPiece, IsCut, tree_is_last, IsMisfit, IsPieceMisfit}
@@ -25,11 +25,12 @@ some_piece NumberArgument = (48 ∷ [], some_numeral)
 some_piece LabelArgument = (97 ∷ [], some_label)
 some_piece NameArgument = (97 ∷ [], some_name)
 some_piece TreeArgument = ([], tt)
+some_piece TextArgument = ([], tt)
 
 pub some_loose : (arguments : List ArgumentKind) → (bytes : List ℕ) × AreLoose arguments bytes
 some_loose [] = ([], refl)
-some_loose (a ∷ more) = let p = some_piece a in let r = some_loose more in
-    (32 ∷ (p.0 ++ r.0), (p.0, r.0, p.1, r.1, refl))
+some_loose (a ∷ more) =
+    let p = some_piece a in let r = some_loose more in (32 ∷ (p.0 ++ r.0), (p.0, r.0, p.1, r.1, refl))
 
 pub loose_tail : (arguments : List ArgumentKind) (bytes : List ℕ) → AreLoose arguments bytes → IsTail bytes
 loose_tail [] bytes h = subst IsTail (sym h) tt
@@ -39,12 +40,17 @@ nil_tree : (more : List ArgumentKind) → tree_is_last (TreeArgument ∷ more) �
 nil_tree [] h = refl
 nil_tree (b ∷ more) h = absurd cc
 
+nil_text : (more : List ArgumentKind) → tree_is_last (TextArgument ∷ more) ≡ true → more ≡ []
+nil_text [] h = refl
+nil_text (b ∷ more) h = absurd cc
+
 pub last_of : (a : ArgumentKind) (more : List ArgumentKind) → tree_is_last (a ∷ more) ≡ true → tree_is_last more ≡ true
 last_of PathArgument more h = h
 last_of NumberArgument more h = h
 last_of LabelArgument more h = h
 last_of NameArgument more h = h
 last_of TreeArgument more h = subst (λ x. tree_is_last x ≡ true) (sym (nil_tree more h)) refl
+last_of TextArgument more h = subst (λ x. tree_is_last x ≡ true) (sym (nil_text more h)) refl
 
 -- what stands for the arguments is cut where it ends
 pub loose_ends : (a : ArgumentKind) (more : List ArgumentKind) (piece rest : List ℕ) → tree_is_last (a ∷ more) ≡ true
@@ -54,8 +60,14 @@ loose_ends NumberArgument more piece rest o h k = (numeral_no_space piece h, loo
 loose_ends LabelArgument more piece rest o h k = (label_no_space piece h, loose_tail more rest k)
 loose_ends NameArgument more piece rest o h k = (name_no_space piece h, loose_tail more rest k)
 loose_ends TreeArgument more piece rest o h k = subst (λ x. AreLoose x rest) (nil_tree more o) k
+loose_ends TextArgument more piece rest o h k = subst (λ x. AreLoose x rest) (nil_text more o) k
 
 -- ---- there is one way to cut
+
+one_rest : (p q r s : List ℕ) → 32 ∷ (p ++ r) ≡ 32 ∷ (q ++ s) → r ≡ [] → s ≡ [] → (p ≡ q) × (r ≡ s)
+one_rest p q r s e h k =
+    let same : p ++ r ≡ q ++ s = cc in
+    (sym (append-nil p) ∙ ap (λ x. p ++ x) (sym h) ∙ same ∙ ap (λ x. q ++ x) k ∙ append-nil q, h ∙ sym k)
 
 pub one_cut : (a : ArgumentKind) (p q r s : List ℕ) → 32 ∷ (p ++ r) ≡ 32 ∷ (q ++ s) → EndsPiece a p r → EndsPiece a q s
     → (p ≡ q) × (r ≡ s)
@@ -63,9 +75,8 @@ one_cut PathArgument p q r s e h k = let same : p ++ r ≡ q ++ s = cc in one_pi
 one_cut NumberArgument p q r s e h k = let same : p ++ r ≡ q ++ s = cc in one_piece p q r s same h.0 k.0 h.1 k.1
 one_cut LabelArgument p q r s e h k = let same : p ++ r ≡ q ++ s = cc in one_piece p q r s same h.0 k.0 h.1 k.1
 one_cut NameArgument p q r s e h k = let same : p ++ r ≡ q ++ s = cc in one_piece p q r s same h.0 k.0 h.1 k.1
-one_cut TreeArgument p q r s e h k =
-    let same : p ++ r ≡ q ++ s = cc in
-    (sym (append-nil p) ∙ ap (λ x. p ++ x) (sym h) ∙ same ∙ ap (λ x. q ++ x) k ∙ append-nil q, h ∙ sym k)
+one_cut TreeArgument p q r s e h k = one_rest p q r s e h k
+one_cut TextArgument p q r s e h k = one_rest p q r s e h k
 
 -- pieces that stand for the arguments are those that the bytes are cut into
 pub loose_cut : (a : ArgumentKind) (more : List ArgumentKind) (bytes piece rest : List ℕ)
@@ -96,8 +107,9 @@ take_front (suc n) (b ∷ x) y h = ap (λ z. b ∷ z) (take_front n x y (omega a
 
 take_past : (n : ℕ) (x y : List ℕ) → take (length x + n) (x ++ y) ≡ x ++ take n y
 take_past n [] y = let e : 0 + n ≡ n = omega arith in ap (λ k. take k y) e
-take_past n (b ∷ x) y = let e : suc (length x) + n ≡ suc (length x + n) =
-    omega arith in ap (λ k. take k (b ∷ (x ++ y))) e ∙ ap (λ z. b ∷ z) (take_past n x y)
+take_past n (b ∷ x) y =
+    let e : suc (length x) + n ≡ suc (length x + n) = omega arith in ap (λ k. take k (b ∷ (x ++ y))) e
+    ∙ ap (λ z. b ∷ z) (take_past n x y)
 
 -- the bytes begin pieces where the first one is begun
 begun : (a : ArgumentKind) (more : List ArgumentKind) (piece rest : List ℕ) (n : ℕ) → IsFront (IsLoosePiece a) piece n
@@ -148,16 +160,16 @@ stops_here a more bytes piece rest n spaceless hp hr are h =
         let w = f.1.1 in
         ⊎_elim
         (λ (k : (m ≤ length piece) × ((x : List ℕ) × (w.0 ≡ take m piece ++ x))).
-        let le : m ≤ n = h.0.longest m (k.0, (k.1.0, subst (IsLoosePiece a) k.1.1 w.2)) in
-        let r : suc m ≤ 1 + n = omega arith in r)
+        let le : m ≤ n = h.0.longest m
+        (k.0, (k.1.0, subst (IsLoosePiece a) k.1.1 w.2)) in let r : suc m ≤ 1 + n = omega arith in r)
         (λ (k : (length piece < m) × (w.0 ≡ piece) × (w.1 ≡ take (m - length piece) rest ++ f.1.0)). absurd
         (h.1 (subst (IsLoosePiece a) k.1 w.2)))
         (continued a more piece rest m spaceless hp hr f)
 
     none : AreLoose (a ∷ more) (32 ∷ (piece ++ rest)) → ⊥
     none k =
-        let w = one_piece k.0 piece k.1 rest (tails_of _ _ (sym k.4)) (spaceless k.0 k.2) hp (loose_tail more k.1 k.3)
-        hr in
+        let w = one_piece k.0 piece k.1 rest (tails_of _ _ (sym k.4))
+        (spaceless k.0 k.2) hp (loose_tail more k.1 k.3) hr in
         h.1 (subst (IsLoosePiece a) w.0 k.2)
 
 misfit_here : (a : ArgumentKind) (more : List ArgumentKind) (bytes piece rest : List ℕ) (n : ℕ)
@@ -170,6 +182,7 @@ misfit_here LabelArgument more bytes piece rest n c h =
 misfit_here NameArgument more bytes piece rest n c h =
     stops_here NameArgument more bytes piece rest n name_no_space c.ends.0 c.ends.1 c.are h
 misfit_here TreeArgument more bytes piece rest n c h = absurd (h.1 tt)
+misfit_here TextArgument more bytes piece rest n c h = absurd (h.1 tt)
 
 -- ---- pieces behind one that fits
 
@@ -204,21 +217,18 @@ stops_behind a more bytes piece rest n spaceless hp hr are p h =
     no_longer (suc m) f =
         let w = f.1.1 in
         ⊎_elim
-        (λ (k : (m ≤ length piece) × ((x : List ℕ) × (w.0 ≡ take m piece ++ x))). let r : suc m ≤ 1 + length piece + n =
-        omega (arith, k.0) in r)
+        (λ (k : (m ≤ length piece)
+        × ((x : List ℕ) × (w.0 ≡ take m piece ++ x))). let r : suc m ≤ 1 + length piece + n = omega (arith, k.0) in r)
         (λ (k : (length piece < m) × (w.0 ≡ piece) × (w.1 ≡ take (m - length piece) rest ++ f.1.0)).
-        let le : m - length piece ≤ n =
-        h.0.longest (m - length piece) (
-          omega (arith, f.0, length-append piece rest),
-          (f.1.0, subst (AreLoose more) k.2 w.3),
-        ) in
+        let le : m - length piece ≤ n = h.0.longest (m - length piece)
+        (omega (arith, f.0, length-append piece rest), (f.1.0, subst (AreLoose more) k.2 w.3)) in
         let r : suc m ≤ 1 + length piece + n = omega arith in r)
         (continued a more piece rest m spaceless hp hr f)
 
     none : AreLoose (a ∷ more) (32 ∷ (piece ++ rest)) → ⊥
     none k =
-        let w = one_piece k.0 piece k.1 rest (tails_of _ _ (sym k.4)) (spaceless k.0 k.2) hp (loose_tail more k.1 k.3)
-        hr in
+        let w = one_piece k.0 piece k.1 rest (tails_of _ _ (sym k.4))
+        (spaceless k.0 k.2) hp (loose_tail more k.1 k.3) hr in
         h.1 (subst (AreLoose more) w.1 k.3)
 
 misfit_behind : (a : ArgumentKind) (more : List ArgumentKind) (bytes piece rest : List ℕ) (n : ℕ)
@@ -235,6 +245,8 @@ misfit_behind NameArgument more bytes piece rest n o c p h =
     stops_behind NameArgument more bytes piece rest n name_no_space c.ends.0 c.ends.1 c.are p h
 misfit_behind TreeArgument more bytes piece rest n o c p h =
     absurd (h.1 (subst (λ x. AreLoose x rest) (sym (nil_tree more o)) c.ends))
+misfit_behind TextArgument more bytes piece rest n o c p h =
+    absurd (h.1 (subst (λ x. AreLoose x rest) (sym (nil_text more o)) c.ends))
 
 -- ---- by the first argument and the others
 
@@ -256,13 +268,13 @@ misfit_later (a ∷ more) bytes piece rest n some o c p h =
 -- ---- the whole line
 
 pub line_misfit : (w : Word) (rest : List ℕ) (n : ℕ) → IsMisfit (arguments_of w) rest (Some n)
-    → (IsLoose (word_text w) (word_text w ++ rest) → ⊥) × IsLongestFront (IsLoose (word_text w)) (word_text w ++ rest)
-    (length (word_text w) + n)
+    → (IsLoose (word_text w) (word_text w ++ rest) → ⊥)
+    × IsLongestFront (IsLoose (word_text w)) (word_text w ++ rest) (length (word_text w) + n)
 line_misfit w rest n h = (none, record { front = front; longest = no_longer })
   where
     none : IsLoose (word_text w) (word_text w ++ rest) → ⊥
-    none k = h.1
-        (subst (λ v. AreLoose (arguments_of v) rest) (sym (one_word w k.0 k.2))
+    none k =
+        h.1 (subst (λ v. AreLoose (arguments_of v) rest) (sym (one_word w k.0 k.2))
         (subst (AreLoose (arguments_of k.0)) (sym (append_cancel_left (word_text w) rest k.1 k.4)) k.3))
 
     front : IsFront (IsLoose (word_text w)) (word_text w ++ rest) (length (word_text w) + n)
@@ -285,7 +297,8 @@ line_misfit w rest n h = (none, record { front = front; longest = no_longer })
     past : (k : ℕ) (more : List ℕ) → k ≤ length rest
         → IsLoose (word_text w) (take (length (word_text w) + k) (word_text w ++ rest) ++ more) → k ≤ n
     past k more le l =
-        let whole : word_text w ++ (take k rest ++ more) ≡ word_text w ++ l.1 =
+        let whole : word_text w ++ (take k rest ++ more)
+        ≡ word_text w ++ l.1 =
         sym (append_assoc (word_text w) (take k rest) more)
         ∙ ap (λ x. x ++ more) (sym (take_past k (word_text w) rest)) ∙ l.4 in
         let same : l.1 ≡ take k rest ++ more = sym (append_cancel_left (word_text w) (take k rest ++ more) l.1 whole) in
@@ -293,8 +306,8 @@ line_misfit w rest n h = (none, record { front = front; longest = no_longer })
           le,
           (
             more,
-            subst (λ v. AreLoose (arguments_of v) (take k rest ++ more)) (sym (one_word w l.0 l.2))
-                (subst (AreLoose (arguments_of l.0)) same l.3),
+            subst (λ v. AreLoose (arguments_of v) (take k rest ++ more))
+                (sym (one_word w l.0 l.2)) (subst (AreLoose (arguments_of l.0)) same l.3),
           ),
         )
 

@@ -1,11 +1,14 @@
 -- A line is one command, or has one cause.
-use Rattle.std.proofs.Common.{◌≡◌, ◌≢◌, ℕ, ◌+◌, true, List, [], ◌∷◌, ◌++◌, length, ◌⊎◌, ⊎_elim, refl, sym, ap, subst}
-use Rattle.std.proofs.Common.{◌∙◌, arith}
+use Rattle.std.proofs.Common.{◌≡◌, ◌≢◌, ℕ, ◌+◌, true, false, List, [], ◌∷◌, ◌++◌, length, ◌⊎◌, ⊎_elim, refl, sym, ap}
+use Rattle.std.proofs.Common.{subst, ◌∙◌, arith}
 use Rattle.std.proofs.lemmas.List.{append_cancel_left}
 use Rattle.tx_tree.specs.Labels.{IsLabel}
 use Rattle.tx_tree.specs.PathSpelling.{IsPathSpelling, IsPathFault}
 use Rattle.tx_tree.specs.declared.faults.PathFault.TheVariants.{BadPath}
 use Rattle.tx_tree.specs.declared.faults.ReadFault.{ReadFault}
+use Rattle.tx_tree.specs.WideTree.{WideTree, leaf, is_leaf}
+use Rattle.tx_tree.specs.Limits.{IsWithinLimits}
+use Rattle.tx_scm.specs.Spelling.{Spells}
 use Rattle.tx_scm.specs.Faults.{IsSchemeFault}
 use Rattle.tx_scm.proofs.OneFault.{once, none}
 use Rattle.tx_cmd.specs.Moved.{moved}
@@ -16,7 +19,9 @@ use Rattle.tx_mod.specs.declared.mods.Mod.TheVariants.{Assign, Insert, Remove, S
 use Rattle.tx_mod.specs.declared.mods.Mod.TheVariants.{RemoveNode}
 use Rattle.tx_mod.specs.Mods.{path_of}
 use Rattle.tx_cmd.specs.declared.command.Command.{Command}
-use Rattle.tx_cmd.specs.declared.command.Command.TheVariants.{Change, Undo, Redo, Go, Cursor, Show, Tree, Save, Quit}
+use Rattle.tx_cmd.specs.declared.command.Command.TheVariants.{Change, Undo, Redo, At, Go, Click, Left, Right, Typed}
+use Rattle.tx_cmd.specs.declared.command.Command.TheVariants.{Backspace, Enter, Show, Page, Errors, PlaceOf, Cursor}
+use Rattle.tx_cmd.specs.declared.command.Command.TheVariants.{Attrs, Tree, Save, Quit}
 use Rattle.tx_cmd.specs.declared.command.CmdFault.{CmdFault}
 use Rattle.tx_cmd.specs.declared.command.CmdFault.TheVariants.{Long, Unknown, Args, Path, Tree as TreeFault, Memory}
 use Rattle.tx_cmd.specs.declared.words.ModWord.{ModWord}
@@ -26,18 +31,24 @@ use Rattle.tx_cmd.specs.declared.words.ModWord.TheVariants.{AssignNode as Assign
 use Rattle.tx_cmd.specs.declared.words.ModWord.TheVariants.{RemoveNode as RemoveNodeWord}
 use Rattle.tx_cmd.specs.declared.words.Word.{Word}
 use Rattle.tx_cmd.specs.declared.words.Word.TheVariants.{Change as ChangeWord, Undo as UndoWord, Redo as RedoWord}
-use Rattle.tx_cmd.specs.declared.words.Word.TheVariants.{Go as GoWord, Cursor as CursorWord, Show as ShowWord}
+use Rattle.tx_cmd.specs.declared.words.Word.TheVariants.{At as AtWord, Go as GoWord, Click as ClickWord}
+use Rattle.tx_cmd.specs.declared.words.Word.TheVariants.{Left as LeftWord, Right as RightWord, Typed as TypedWord}
+use Rattle.tx_cmd.specs.declared.words.Word.TheVariants.{Backspace as BackspaceWord, Enter as EnterWord}
+use Rattle.tx_cmd.specs.declared.words.Word.TheVariants.{Show as ShowWord, Page as PageWord, Errors as ErrorsWord}
+use Rattle.tx_cmd.specs.declared.words.Word.TheVariants.{Where as WhereWord, Cursor as CursorWord, Attrs as AttrsWord}
 use Rattle.tx_cmd.specs.declared.words.Word.TheVariants.{Tree as TreeWord, Save as SaveWord}
 use Rattle.tx_cmd.specs.declared.words.ArgumentKind.{ArgumentKind}
 use Rattle.tx_cmd.specs.declared.words.ArgumentKind.TheVariants.{Path as PathArgument, Number as NumberArgument}
 use Rattle.tx_cmd.specs.declared.words.ArgumentKind.TheVariants.{Label as LabelArgument, Name as NameArgument}
-use Rattle.tx_cmd.specs.declared.words.ArgumentKind.TheVariants.{Tree as TreeArgument}
+use Rattle.tx_cmd.specs.declared.words.ArgumentKind.TheVariants.{Tree as TreeArgument, Text as TextArgument}
 use Rattle.tx_cmd.specs.Words.{word_text, arguments_of, arguments_behind, first_word, IsName, IsKnown, IsLoosePiece}
 use Rattle.tx_cmd.specs.Words.{AreLoose, IsLoose}
-use Rattle.tx_cmd.specs.Values.{Value, a_path, a_number, a_label, a_name, a_tree, kind_of, Means, Mean, HasMeaning}
+use Rattle.tx_cmd.specs.Values.{Value, a_path, a_number, a_label, a_name, a_tree, a_text, kind_of, Means, Mean}
+use Rattle.tx_cmd.specs.Values.{HasMeaning}
 use Rattle.tx_cmd.specs.Commands.{mod_word, values_behind, word_of, values_of, IsCommand}
 use Rattle.tx_cmd.specs.Pieces.{IsTail, tree_is_last}
-use Rattle.tx_cmd.specs.Refusals.{IsBadPath, IsBadTree, IsBadPiece, IsFirstFault, IsRefused, IsCmdFault}
+use Rattle.tx_cmd.specs.Refusals.{IsBadPath, IsBadTree, SpellsNode, IsBadPiece, IsFirstFault, HasNoForm}
+use Rattle.tx_cmd.specs.Refusals.{IsRefused, IsCmdFault}
 use Rattle.tx_base.proofs.Fronts.{one_front}
 use Rattle.tx_cmd.proofs.Splits.{word_is}
 use Rattle.tx_cmd.proofs.Numerals.{path_no_space}
@@ -50,32 +61,46 @@ abbrev kinds : List Value → List ArgumentKind
 kinds [] = []
 kinds (v ∷ values) = kind_of v ∷ kinds values
 
+one_text : (piece x y : List ℕ) → Spells piece (leaf x) → Spells piece (leaf y) → x ≡ y
+one_text piece x y h k = let same : leaf x ≡ leaf y = tree_once piece (leaf x) (leaf y) h k in cc
+
 one_value : (piece : List ℕ) (v u : Value) → kind_of v ≡ kind_of u → Means piece v → Means piece u → v ≡ u
 one_value piece (a_path p) (a_path q) e h k = ap (λ x. a_path x) (path_once piece p q h k)
 one_value piece (a_path p) (a_number n) e h k = absurd cc
 one_value piece (a_path p) (a_label l) e h k = absurd cc
 one_value piece (a_path p) (a_name n) e h k = absurd cc
 one_value piece (a_path p) (a_tree t) e h k = absurd cc
+one_value piece (a_path p) (a_text x) e h k = absurd cc
 one_value piece (a_number n) (a_path p) e h k = absurd cc
 one_value piece (a_number n) (a_number m) e h k = ap (λ x. a_number x) (h.value ∙ sym k.value)
 one_value piece (a_number n) (a_label l) e h k = absurd cc
 one_value piece (a_number n) (a_name m) e h k = absurd cc
 one_value piece (a_number n) (a_tree t) e h k = absurd cc
+one_value piece (a_number n) (a_text x) e h k = absurd cc
 one_value piece (a_label l) (a_path p) e h k = absurd cc
 one_value piece (a_label l) (a_number n) e h k = absurd cc
 one_value piece (a_label l) (a_label m) e h k = ap (λ x. a_label x) (sym h.1 ∙ k.1)
 one_value piece (a_label l) (a_name n) e h k = absurd cc
 one_value piece (a_label l) (a_tree t) e h k = absurd cc
+one_value piece (a_label l) (a_text x) e h k = absurd cc
 one_value piece (a_name n) (a_path p) e h k = absurd cc
 one_value piece (a_name n) (a_number m) e h k = absurd cc
 one_value piece (a_name n) (a_label l) e h k = absurd cc
 one_value piece (a_name n) (a_name m) e h k = ap (λ x. a_name x) (sym h.1 ∙ k.1)
 one_value piece (a_name n) (a_tree t) e h k = absurd cc
+one_value piece (a_name n) (a_text x) e h k = absurd cc
 one_value piece (a_tree t) (a_path p) e h k = absurd cc
 one_value piece (a_tree t) (a_number n) e h k = absurd cc
 one_value piece (a_tree t) (a_label l) e h k = absurd cc
 one_value piece (a_tree t) (a_name n) e h k = absurd cc
 one_value piece (a_tree t) (a_tree u) e h k = ap (λ x. a_tree x) (tree_once piece t u h.0 k.0)
+one_value piece (a_tree t) (a_text x) e h k = absurd cc
+one_value piece (a_text x) (a_path p) e h k = absurd cc
+one_value piece (a_text x) (a_number n) e h k = absurd cc
+one_value piece (a_text x) (a_label l) e h k = absurd cc
+one_value piece (a_text x) (a_name n) e h k = absurd cc
+one_value piece (a_text x) (a_tree t) e h k = absurd cc
+one_value piece (a_text x) (a_text y) e h k = ap (λ z. a_text z) (one_text piece x y h.0 k.0)
 
 -- what means something may stand for it
 means_loose : (piece : List ℕ) (v : Value) → Means piece v → IsLoosePiece (kind_of v) piece
@@ -84,6 +109,7 @@ means_loose piece (a_number n) h = (n, h)
 means_loose piece (a_label l) h = subst IsLabel (sym h.1) h.0
 means_loose piece (a_name n) h = subst IsName (sym h.1) h.0
 means_loose piece (a_tree t) h = tt
+means_loose piece (a_text x) h = tt
 
 mean_loose : (values : List Value) (bytes : List ℕ) → Mean bytes values → AreLoose (kinds values) bytes
 mean_loose [] bytes h = h
@@ -103,8 +129,8 @@ one_values (v ∷ vs) (u ∷ us) x e o h k =
     (loose_ends (kind_of v) (kinds vs) h.0 h.1 o (means_loose h.0 v h.2) (mean_loose vs h.1 h.3))
     (loose_ends (kind_of v) (kinds vs) k.0 k.1 o piece there) in
     let first : v ≡ u = one_value k.0 v u same (subst (λ x. Means x v) w.0 h.2) k.2 in
-    let rest : vs ≡ us = one_values vs us k.1 others (last_of (kind_of v) (kinds vs) o) (subst (λ x. Mean x vs) w.1 h.3)
-    k.3 in
+    let rest : vs ≡ us = one_values vs us k.1 others (last_of (kind_of v) (kinds vs) o)
+    (subst (λ x. Mean x vs) w.1 h.3) k.3 in
     rw (first, rest) refl
 
 -- ---- commands
@@ -123,9 +149,20 @@ command_kinds : (c : Command) → kinds (values_of c) ≡ arguments_of (word_of 
 command_kinds (Change m) = ap (λ x. PathArgument ∷ x) (mod_kinds m)
 command_kinds Undo = refl
 command_kinds Redo = refl
+command_kinds (At n) = refl
 command_kinds (Go p) = refl
-command_kinds Cursor = refl
+command_kinds (Click r k) = refl
+command_kinds Left = refl
+command_kinds Right = refl
+command_kinds (Typed x) = refl
+command_kinds Backspace = refl
+command_kinds Enter = refl
 command_kinds Show = refl
+command_kinds (Page n) = refl
+command_kinds Errors = refl
+command_kinds (PlaceOf r k) = refl
+command_kinds Cursor = refl
+command_kinds (Attrs r) = refl
 command_kinds Tree = refl
 command_kinds (Save n) = refl
 command_kinds Quit = refl
@@ -144,12 +181,23 @@ mod_made word p values = Quit
 
 abbrev made : Word → List Value → Command
 made (ChangeWord word) (a_path p ∷ values) = mod_made word p values
+made AtWord (a_name n ∷ []) = At n
 made GoWord (a_path p ∷ []) = Go p
+made ClickWord (a_number r ∷ a_number k ∷ []) = Click r k
+made TypedWord (a_text x ∷ []) = Typed x
+made PageWord (a_number n ∷ []) = Page n
+made WhereWord (a_number r ∷ a_number k ∷ []) = PlaceOf r k
+made AttrsWord (a_number r ∷ []) = Attrs r
 made SaveWord (a_name n ∷ []) = Save n
 made UndoWord [] = Undo
 made RedoWord [] = Redo
-made CursorWord [] = Cursor
+made LeftWord [] = Left
+made RightWord [] = Right
+made BackspaceWord [] = Backspace
+made EnterWord [] = Enter
 made ShowWord [] = Show
+made ErrorsWord [] = Errors
+made CursorWord [] = Cursor
 made TreeWord [] = Tree
 made word values = Quit
 
@@ -167,9 +215,20 @@ made_again : (c : Command) → made (word_of c) (values_of c) ≡ c
 made_again (Change m) = mod_made_again m
 made_again Undo = refl
 made_again Redo = refl
+made_again (At n) = refl
 made_again (Go p) = refl
-made_again Cursor = refl
+made_again (Click r k) = refl
+made_again Left = refl
+made_again Right = refl
+made_again (Typed x) = refl
+made_again Backspace = refl
+made_again Enter = refl
 made_again Show = refl
+made_again (Page n) = refl
+made_again Errors = refl
+made_again (PlaceOf r k) = refl
+made_again Cursor = refl
+made_again (Attrs r) = refl
 made_again Tree = refl
 made_again (Save n) = refl
 made_again Quit = refl
@@ -178,9 +237,8 @@ made_again Quit = refl
 same_word : (w v : Word) (r s line : List ℕ) → line ≡ word_text w ++ r → line ≡ word_text v ++ s → IsTail r → IsTail s
     → (w ≡ v) × (r ≡ s)
 same_word w v r s line e f hr hs =
-    let same : w ≡ v =
-    one_word w v (sym (word_is (word_text w) r line e (word_no_space w) hr)
-    ∙ word_is (word_text v) s line f (word_no_space v) hs) in
+    let same : w ≡ v = one_word w v
+    (sym (word_is (word_text w) r line e (word_no_space w) hr) ∙ word_is (word_text v) s line f (word_no_space v) hs) in
     (same, append_cancel_left (word_text v) r s (ap (λ x. word_text x ++ r) (sym same) ∙ sym e ∙ f))
 
 command_in_order : (c : Command) → tree_is_last (kinds (values_of c)) ≡ true
@@ -203,8 +261,8 @@ one_command line c d h k =
 
 -- ---- causes
 
-bad_path_is : (piece : List ℕ) (at : ℕ) (f : CmdFault) → IsBadPath piece at f → (m : ℕ) × IsPathFault piece (BadPath m)
-    × (f ≡ Path (at + m))
+bad_path_is : (piece : List ℕ) (at : ℕ) (f : CmdFault) → IsBadPath piece at f
+    → (m : ℕ) × IsPathFault piece (BadPath m) × (f ≡ Path (at + m))
 bad_path_is piece at (Path n) h = (h.0, h.1, ap (λ x. Path x) h.2)
 bad_path_is piece at (Long n) h = absurd h
 bad_path_is piece at Unknown h = absurd h
@@ -221,16 +279,43 @@ bad_tree_is piece at (Args n) h = absurd h
 bad_tree_is piece at (Path n) h = absurd h
 bad_tree_is piece at Memory h = absurd h
 
+no_tree_fault : (piece : List ℕ) (at : ℕ) (f : CmdFault) (t : WideTree) → IsBadTree piece at f → Spells piece t
+    → IsWithinLimits t → ⊥
+no_tree_fault piece at f t h spelled within = let x = bad_tree_is piece at f h in none piece x.0 t x.1 spelled within
+
+-- bytes that spell a node spell no text
+no_node : (piece x : List ℕ) → SpellsNode piece → Spells piece (leaf x) → ⊥
+no_node piece x h spelled =
+    let same : h.0 ≡ leaf x = tree_once piece h.0 (leaf x) h.1 spelled in
+    let at_leaf = subst (λ t. is_leaf t ≡ false) same h.3 in
+    absurd cc
+
+one_bad_tree : (piece : List ℕ) (at : ℕ) (f g : CmdFault) → IsBadTree piece at f → IsBadTree piece at g → f ≡ g
+one_bad_tree piece at f g h k =
+    let x = bad_tree_is piece at f h in
+    let y = bad_tree_is piece at g k in
+    x.2 ∙ ap (λ there. TreeFault (moved at there)) (once piece x.0 y.0 x.1 y.1) ∙ sym y.2
+
 one_bad : (a : ArgumentKind) (piece : List ℕ) (at : ℕ) (f g : CmdFault) → IsBadPiece a piece at f
     → IsBadPiece a piece at g → f ≡ g
 one_bad PathArgument piece at f g h k =
     let x = bad_path_is piece at f h in
     let y = bad_path_is piece at g k in
     x.2 ∙ ap (λ n. Path (at + n)) (one_front IsPathSpelling piece x.0 y.0 x.1.0 y.1.0) ∙ sym y.2
-one_bad TreeArgument piece at f g h k =
-    let x = bad_tree_is piece at f h in
-    let y = bad_tree_is piece at g k in
-    x.2 ∙ ap (λ there. TreeFault (moved at there)) (once piece x.0 y.0 x.1 y.1) ∙ sym y.2
+one_bad TreeArgument piece at f g h k = one_bad_tree piece at f g h k
+one_bad TextArgument piece at f g h k =
+    ⊎_elim
+    (λ (x : IsBadTree piece at f).
+    ⊎_elim
+    (λ (y : IsBadTree piece at g). one_bad_tree piece at f g x y)
+    (λ (y : SpellsNode piece × (g ≡ Args at)). absurd (no_tree_fault piece at f y.0.0 x y.0.1 y.0.2))
+    k)
+    (λ (x : SpellsNode piece × (f ≡ Args at)).
+    ⊎_elim
+    (λ (y : IsBadTree piece at g). absurd (no_tree_fault piece at g x.0.0 y x.0.1 x.0.2))
+    (λ (y : SpellsNode piece × (g ≡ Args at)). x.1 ∙ sym y.1)
+    k)
+    h
 one_bad NumberArgument piece at f g h k = absurd h
 one_bad LabelArgument piece at f g h k = absurd h
 one_bad NameArgument piece at f g h k = absurd h
@@ -242,12 +327,23 @@ bad_means_none PathArgument piece at f (a_number n) e h k = absurd cc
 bad_means_none PathArgument piece at f (a_label l) e h k = absurd cc
 bad_means_none PathArgument piece at f (a_name n) e h k = absurd cc
 bad_means_none PathArgument piece at f (a_tree t) e h k = absurd cc
-bad_means_none TreeArgument piece at f (a_tree t) e h k = let x = bad_tree_is piece at f h in
-    none piece x.0 t x.1 k.0 k.1
+bad_means_none PathArgument piece at f (a_text x) e h k = absurd cc
 bad_means_none TreeArgument piece at f (a_path p) e h k = absurd cc
 bad_means_none TreeArgument piece at f (a_number n) e h k = absurd cc
 bad_means_none TreeArgument piece at f (a_label l) e h k = absurd cc
 bad_means_none TreeArgument piece at f (a_name n) e h k = absurd cc
+bad_means_none TreeArgument piece at f (a_tree t) e h k = no_tree_fault piece at f t h k.0 k.1
+bad_means_none TreeArgument piece at f (a_text x) e h k = absurd cc
+bad_means_none TextArgument piece at f (a_path p) e h k = absurd cc
+bad_means_none TextArgument piece at f (a_number n) e h k = absurd cc
+bad_means_none TextArgument piece at f (a_label l) e h k = absurd cc
+bad_means_none TextArgument piece at f (a_name n) e h k = absurd cc
+bad_means_none TextArgument piece at f (a_tree t) e h k = absurd cc
+bad_means_none TextArgument piece at f (a_text x) e h k =
+    ⊎_elim
+    (λ (y : IsBadTree piece at f). no_tree_fault piece at f (leaf x) y k.0 k.1)
+    (λ (y : SpellsNode piece × (f ≡ Args at)). no_node piece x y.0 k.0)
+    h
 bad_means_none NumberArgument piece at f v e h k = h
 bad_means_none LabelArgument piece at f v e h k = h
 bad_means_none NameArgument piece at f v e h k = h
@@ -268,8 +364,8 @@ one_first [] bytes at f g o h k = absurd h
 one_first (a ∷ more) bytes at f g o h k =
     let w = one_cut a h.0 k.0 h.1 k.1 (sym h.2 ∙ k.2) (loose_ends a more h.0 h.1 o h.3 h.4)
     (loose_ends a more k.0 k.1 o k.3 k.4) in
-    let first : HasFault a more at f k.0 k.1 =
-    subst (λ x. HasFault a more at f x k.1) w.0 (subst (HasFault a more at f h.0) w.1 h.5) in
+    let first : HasFault a more at f k.0 k.1 = subst (λ x. HasFault a more at f x k.1) w.0
+    (subst (HasFault a more at f h.0) w.1 h.5) in
     ⊎_elim
     (λ (x : IsBadPiece a k.0 (at + 1) f).
     ⊎_elim
@@ -280,8 +376,8 @@ one_first (a ∷ more) bytes at f g o h k =
     (λ (x : HasMeaning a k.0 × IsFirstFault more k.1 (at + 1 + length k.0) f).
     ⊎_elim
     (λ (y : IsBadPiece a k.0 (at + 1) g). absurd (bad_means_none a k.0 (at + 1) g x.0.0 x.0.1 y x.0.2))
-    (λ (y : HasMeaning a k.0 × IsFirstFault more k.1 (at + 1 + length k.0) g). one_first more k.1 (at + 1 + length k.0)
-    f g (last_of a more o) x.1 y.1)
+    (λ (y : HasMeaning a k.0 × IsFirstFault more k.1 (at + 1 + length k.0) g). one_first more k.1
+    (at + 1 + length k.0) f g (last_of a more o) x.1 y.1)
     k.5)
     first
 
@@ -305,8 +401,8 @@ refused_loose : (line : List ℕ) (f : CmdFault) → IsRefused line f
     → IsKnown (first_word line) × IsLoose (first_word line) line
 refused_loose line f h =
     let loose = first_loose (arguments_of h.0) h.1 _ f h.3 in
-    let is : first_word line ≡ word_text h.0 =
-    word_is (word_text h.0) h.1 line h.2 (word_no_space h.0) (loose_tail (arguments_of h.0) h.1 loose) in
+    let is : first_word line ≡ word_text h.0 = word_is (word_text h.0) h.1 line h.2 (word_no_space h.0)
+    (loose_tail (arguments_of h.0) h.1 loose) in
     ((h.0, is), (h.0, h.1, is, loose, h.2 ∙ ap (λ x. x ++ h.1) (sym is)))
 
 -- and so has a command
@@ -315,10 +411,10 @@ command_loose : (line : List ℕ) (c : Command) → IsCommand line c
 command_loose line c h =
     let w = word_of c in
     let rest = h.1.0 in
-    let loose : AreLoose (arguments_of w) rest =
-    subst (λ x. AreLoose x rest) (command_kinds c) (mean_loose (values_of c) rest h.1.1) in
-    let is : first_word line ≡ word_text w =
-    word_is (word_text w) rest line h.1.2 (word_no_space w) (loose_tail (arguments_of w) rest loose) in
+    let loose : AreLoose (arguments_of w) rest = subst (λ x. AreLoose x rest) (command_kinds c)
+    (mean_loose (values_of c) rest h.1.1) in
+    let is : first_word line ≡ word_text w = word_is (word_text w) rest line h.1.2 (word_no_space w)
+    (loose_tail (arguments_of w) rest loose) in
     ((w, is), (w, rest, is, loose, h.1.2 ∙ ap (λ x. x ++ rest) (sym is)))
 
 one_refused : (line : List ℕ) (f g : CmdFault) → IsRefused line f → IsRefused line g → f ≡ g
@@ -339,6 +435,33 @@ not_refused line c f h k =
     (subst (λ x. Mean x (values_of c)) w.1 h.1.1)
     (subst (λ x. IsFirstFault x k.1 (length (word_text k.0)) f) same_kinds k.3)
 
+-- the two causes of `Args`
+abbrev IsArgs : List ℕ → ℕ → Type 0
+IsArgs line n = HasNoForm line n ⊎ IsRefused line (Args n)
+
+known : (line : List ℕ) (n : ℕ) → IsArgs line n → IsKnown (first_word line)
+known line n h =
+    ⊎_elim (λ (x : HasNoForm line n). x.known) (λ (y : IsRefused line (Args n)). (refused_loose line (Args n) y).0) h
+
+-- a line whose pieces have a fault has the form of a command, so its other fault is of its pieces too
+one_or_none : (line : List ℕ) (n : ℕ) (g : CmdFault) → IsArgs line n → IsRefused line g → Args n ≡ g
+one_or_none line n g h k =
+    ⊎_elim
+    (λ (x : HasNoForm line n). absurd (x.none (refused_loose line g k).1))
+    (λ (y : IsRefused line (Args n)). one_refused line (Args n) g y k)
+    h
+
+one_args : (line : List ℕ) (n m : ℕ) → IsArgs line n → IsArgs line m → Args n ≡ Args m
+one_args line n m h k =
+    ⊎_elim
+    (λ (x : HasNoForm line n).
+    ⊎_elim
+    (λ (y : HasNoForm line m). ap (λ i. Args i) (one_front _ _ n m x.front y.front))
+    (λ (y : IsRefused line (Args m)). absurd (x.none (refused_loose line (Args m) y).1))
+    k)
+    (λ (x : IsRefused line (Args n)). sym (one_or_none line m (Args n) k x))
+    h
+
 pub one_cause : (line : List ℕ) (f g : CmdFault) → f ≢ Memory → g ≢ Memory → IsCmdFault line f → IsCmdFault line g
     → f ≡ g
 one_cause line (Long n) (Long m) f g h k = let e : n ≡ m = omega (arith, h.1, k.1) in ap (λ n. Long n) e
@@ -349,25 +472,25 @@ one_cause line (Long n) (TreeFault m) f g h k = absurd (omega (arith, h.0, k.0))
 one_cause line (Long n) Memory f g h k = absurd (g refl)
 one_cause line Unknown (Long m) f g h k = absurd (omega (arith, h.0, k.0))
 one_cause line Unknown Unknown f g h k = refl
-one_cause line Unknown (Args m) f g h k = absurd (h.1 k.1)
+one_cause line Unknown (Args m) f g h k = absurd (h.1 (known line m k.1))
 one_cause line Unknown (Path m) f g h k = absurd (h.1 (refused_loose line (Path m) k.1).0)
 one_cause line Unknown (TreeFault m) f g h k = absurd (h.1 (refused_loose line (TreeFault m) k.1).0)
 one_cause line Unknown Memory f g h k = absurd (g refl)
 one_cause line (Args n) (Long m) f g h k = absurd (omega (arith, h.0, k.0))
-one_cause line (Args n) Unknown f g h k = absurd (k.1 h.1)
-one_cause line (Args n) (Args m) f g h k = ap (λ n. Args n) (one_front _ _ n m h.3 k.3)
-one_cause line (Args n) (Path m) f g h k = absurd (h.2 (refused_loose line (Path m) k.1).1)
-one_cause line (Args n) (TreeFault m) f g h k = absurd (h.2 (refused_loose line (TreeFault m) k.1).1)
+one_cause line (Args n) Unknown f g h k = absurd (k.1 (known line n h.1))
+one_cause line (Args n) (Args m) f g h k = one_args line n m h.1 k.1
+one_cause line (Args n) (Path m) f g h k = one_or_none line n (Path m) h.1 k.1
+one_cause line (Args n) (TreeFault m) f g h k = one_or_none line n (TreeFault m) h.1 k.1
 one_cause line (Args n) Memory f g h k = absurd (g refl)
 one_cause line (Path n) (Long m) f g h k = absurd (omega (arith, h.0, k.0))
 one_cause line (Path n) Unknown f g h k = absurd (k.1 (refused_loose line (Path n) h.1).0)
-one_cause line (Path n) (Args m) f g h k = absurd (k.2 (refused_loose line (Path n) h.1).1)
+one_cause line (Path n) (Args m) f g h k = sym (one_or_none line m (Path n) k.1 h.1)
 one_cause line (Path n) (Path m) f g h k = one_refused line (Path n) (Path m) h.1 k.1
 one_cause line (Path n) (TreeFault m) f g h k = one_refused line (Path n) (TreeFault m) h.1 k.1
 one_cause line (Path n) Memory f g h k = absurd (g refl)
 one_cause line (TreeFault n) (Long m) f g h k = absurd (omega (arith, h.0, k.0))
 one_cause line (TreeFault n) Unknown f g h k = absurd (k.1 (refused_loose line (TreeFault n) h.1).0)
-one_cause line (TreeFault n) (Args m) f g h k = absurd (k.2 (refused_loose line (TreeFault n) h.1).1)
+one_cause line (TreeFault n) (Args m) f g h k = sym (one_or_none line m (TreeFault n) k.1 h.1)
 one_cause line (TreeFault n) (Path m) f g h k = one_refused line (TreeFault n) (Path m) h.1 k.1
 one_cause line (TreeFault n) (TreeFault m) f g h k = one_refused line (TreeFault n) (TreeFault m) h.1 k.1
 one_cause line (TreeFault n) Memory f g h k = absurd (g refl)
@@ -376,7 +499,11 @@ one_cause line Memory g f l h k = absurd (f refl)
 pub no_cause : (line : List ℕ) (c : Command) (f : CmdFault) → f ≢ Memory → IsCommand line c → IsCmdFault line f → ⊥
 no_cause line c (Long n) m h k = absurd (omega (arith, h.0, k.0))
 no_cause line c Unknown m h k = k.1 (command_loose line c h).0
-no_cause line c (Args n) m h k = k.2 (command_loose line c h).1
+no_cause line c (Args n) m h k =
+    ⊎_elim
+    (λ (x : HasNoForm line n). x.none (command_loose line c h).1)
+    (λ (y : IsRefused line (Args n)). not_refused line c (Args n) h y)
+    k.1
 no_cause line c (Path n) m h k = not_refused line c (Path n) h k.1
 no_cause line c (TreeFault fault) m h k = not_refused line c (TreeFault fault) h k.1
 no_cause line c Memory m h k = absurd (m refl)

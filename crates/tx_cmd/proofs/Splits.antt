@@ -9,7 +9,7 @@ use Rattle.tx_cmd.specs.Words.{HasNoSpace, first_word}
 use Rattle.tx_cmd.specs.declared.words.ArgumentKind.{ArgumentKind}
 use Rattle.tx_cmd.specs.declared.words.ArgumentKind.TheVariants.{Path as PathArgument, Number as NumberArgument}
 use Rattle.tx_cmd.specs.declared.words.ArgumentKind.TheVariants.{Label as LabelArgument, Name as NameArgument}
-use Rattle.tx_cmd.specs.declared.words.ArgumentKind.TheVariants.{Tree as TreeArgument}
+use Rattle.tx_cmd.specs.declared.words.ArgumentKind.TheVariants.{Tree as TreeArgument, Text as TextArgument}
 use Rattle.tx_cmd.specs.Pieces.{IsTail, EndsPiece, IsCut}
 
 -- ---- what stands before the first space
@@ -45,7 +45,8 @@ behind_space (b ∷ bytes) =
     ] refl)
 
 -- the rest is what is dropped
-pub behind_is : (bytes : List ℕ) → IsTail (drop (length (first_word bytes)) bytes)
+pub behind_is : (bytes : List ℕ)
+    → IsTail (drop (length (first_word bytes)) bytes)
     × (bytes ≡ first_word bytes ++ drop (length (first_word bytes)) bytes)
 behind_is bytes =
     let w = behind_space bytes in
@@ -59,37 +60,36 @@ behind_is bytes =
 
 -- ---- cutting a piece off
 
-ends_not_tree : (a : ArgumentKind) (piece rest : List ℕ) → (a ≡ TreeArgument → ⊥) → HasNoSpace piece → IsTail rest
-    → EndsPiece a piece rest
-ends_not_tree PathArgument piece rest other h t = (h, t)
-ends_not_tree NumberArgument piece rest other h t = (h, t)
-ends_not_tree LabelArgument piece rest other h t = (h, t)
-ends_not_tree NameArgument piece rest other h t = (h, t)
-ends_not_tree TreeArgument piece rest other h t = absurd (other refl)
+ends_not_tree : (a : ArgumentKind) (piece rest : List ℕ) → (a ≡ TreeArgument → ⊥) → (a ≡ TextArgument → ⊥)
+    → HasNoSpace piece → IsTail rest → EndsPiece a piece rest
+ends_not_tree PathArgument piece rest other apart h t = (h, t)
+ends_not_tree NumberArgument piece rest other apart h t = (h, t)
+ends_not_tree LabelArgument piece rest other apart h t = (h, t)
+ends_not_tree NameArgument piece rest other apart h t = (h, t)
+ends_not_tree TreeArgument piece rest other apart h t = absurd (other refl)
+ends_not_tree TextArgument piece rest other apart h t = absurd (apart refl)
 
 -- behind a space that begins the bytes
-cut_behind : (a : ArgumentKind) (b : ℕ) (x z piece : List ℕ) → (a ≡ TreeArgument → ⊥) → b ≡ 32 → z ≡ x
-    → piece ≡ first_word z
+cut_behind : (a : ArgumentKind) (b : ℕ) (x z piece : List ℕ) → (a ≡ TreeArgument → ⊥) → (a ≡ TextArgument → ⊥)
+    → b ≡ 32 → z ≡ x → piece ≡ first_word z
     → IsCut a (b ∷ x) piece (take (length z - length piece) (drop (length piece) z))
-cut_behind a b x z piece other space same e =
+cut_behind a b x z piece other apart space same e =
     let w = behind_is z in
     let p = first_word z in
-    let at_first : IsCut a (b ∷ x) p (drop (length p) z) =
-    record {
+    let at_first : IsCut a (b ∷ x) p (drop (length p) z) = record {
       are = ap (λ k. k ∷ x) space ∙ ap (λ k. 32 ∷ k) (sym same ∙ w.1);
-      ends = ends_not_tree a p (drop (length p) z) other (before_space z) w.0;
+      ends = ends_not_tree a p (drop (length p) z) other apart (before_space z) w.0;
     } in
     subst (λ q. IsCut a (b ∷ x) q (take (length z - length q) (drop (length q) z))) (sym e)
     (subst (IsCut a (b ∷ x) p) (sym (take_rest z (length p))) at_first)
 
-pub cut_at : (a : ArgumentKind) (bytes piece : List ℕ) → (a ≡ TreeArgument → ⊥) → 1 ≤ length bytes → IsTail bytes
-    → piece ≡ first_word (take (length bytes - 1) (drop 1 bytes))
-    → IsCut a bytes piece
-    (take (length (take (length bytes - 1) (drop 1 bytes)) - length piece)
+pub cut_at : (a : ArgumentKind) (bytes piece : List ℕ) → (a ≡ TreeArgument → ⊥) → (a ≡ TextArgument → ⊥)
+    → 1 ≤ length bytes → IsTail bytes → piece ≡ first_word (take (length bytes - 1) (drop 1 bytes))
+    → IsCut a bytes piece (take (length (take (length bytes - 1) (drop 1 bytes)) - length piece)
     (drop (length piece) (take (length bytes - 1) (drop 1 bytes))))
-cut_at a [] piece other some tail e = absurd (omega arith)
-cut_at a (b ∷ x) piece other some tail e =
-    cut_behind a b x (take (length (b ∷ x) - 1) (drop 1 (b ∷ x))) piece other tail (take_rest (b ∷ x) 1) e
+cut_at a [] piece other apart some tail e = absurd (omega arith)
+cut_at a (b ∷ x) piece other apart some tail e =
+    cut_behind a b x (take (length (b ∷ x) - 1) (drop 1 (b ∷ x))) piece other apart tail (take_rest (b ∷ x) 1) e
 
 -- what stands behind the first word of a line
 pub behind_first : (line first : List ℕ) → first ≡ first_word line
@@ -129,8 +129,8 @@ word_is word rest line e h t =
 -- on from there, or the pieces are one.
 abbrev pub GoesOn : List ℕ → List ℕ → ℕ → List ℕ → List ℕ → List ℕ → Type 0
 GoesOn piece rest m more q s =
-    ((m ≤ length piece) × ((x : List ℕ) × (q ≡ take m piece ++ x)))
-    ⊎ ((length piece < m) × (q ≡ piece) × (s ≡ take (m - length piece) rest ++ more))
+    ((m ≤ length piece) × ((x : List ℕ) × (q ≡ take m piece ++ x))) ⊎
+    ((length piece < m) × (q ≡ piece) × (s ≡ take (m - length piece) rest ++ more))
 
 pub split_front : (piece rest q s more : List ℕ) (m : ℕ) → take m (piece ++ rest) ++ more ≡ q ++ s
     → m ≤ length (piece ++ rest) → HasNoSpace piece → IsTail rest → HasNoSpace q → IsTail s
@@ -141,8 +141,8 @@ split_front [] (b ∷ rest) [] s more (suc m) e le hp hr hq hs =
     let all : s ≡ take (suc m) (b ∷ rest) ++ more = sym e in
     let none : suc m ≡ suc m - 0 = omega arith in
     inr (omega arith, refl, all ∙ ap (λ k. take k (b ∷ rest) ++ more) none)
-split_front [] (b ∷ rest) (c ∷ q) s more (suc m) e le hp hr hq hs = let same : b ≡ c =
-    cc in absurd (hq.0 (sym same ∙ hr))
+split_front [] (b ∷ rest) (c ∷ q) s more (suc m) e le hp hr hq hs =
+    let same : b ≡ c = cc in absurd (hq.0 (sym same ∙ hr))
 split_front (b ∷ piece) rest [] s more (suc m) e le hp hr hq hs = absurd (hp.0 (subst IsTail (sym e) hs))
 split_front (b ∷ piece) rest (c ∷ q) s more (suc m) e le hp hr hq hs =
     let same : b ≡ c = cc in
@@ -150,7 +150,7 @@ split_front (b ∷ piece) rest (c ∷ q) s more (suc m) e le hp hr hq hs =
     ⊎_elim
     (λ (w : (m ≤ length piece) × ((x : List ℕ) × (q ≡ take m piece ++ x))). inl
     (omega (arith, w.0), (w.1.0, rw (same, w.1.1) refl)))
-    (λ (w : (length piece < m) × (q ≡ piece) × (s ≡ take (m - length piece) rest ++ more)). let less : m - length
-    piece ≡ suc m - length (b ∷ piece) =
+    (λ (w : (length piece < m) × (q ≡ piece) × (s ≡ take (m - length piece) rest ++ more)). let less : m - length piece
+    ≡ suc m - length (b ∷ piece) =
     omega arith in inr (omega (arith, w.0), rw (same, w.1) refl, w.2 ∙ ap (λ k. take k rest ++ more) less))
     (split_front piece rest q s more m others (omega arith) hp.1 hr hq.1 hs)

@@ -1,31 +1,31 @@
 -- Words are spelled differently, and without a space.
-use Rattle.std.proofs.Common.{◌≡◌, ℕ, eqb, Bool, true, false, not, ◌&&◌, cond, List, [], ◌∷◌, codes, refl, sym, ap, ◌∙◌}
+use Rattle.std.proofs.Common.{◌≡◌, ℕ, eqb, Bool, true, false, not, ◌&&◌, cond, List, [], ◌∷◌, find, Option, Some, None}
+use Rattle.std.proofs.Common.{refl, sym, ap, subst, ◌∙◌}
+use Rattle.std.specs.Prelude.{MatchOption}
+use Rattle.std.proofs.lemmas.Slice.Eq.{bytes_eq-Decides}
 use Rattle.std.specs.Str.{bytes_eq}
 use Rattle.std.proofs.lemmas.Bool.{and_parts}
 use borrow.Author.Tests.{eqb-false}
 use Rattle.tx_cmd.specs.declared.words.ModWord.TheVariants.{Assign, Insert, Remove, Split, Join, AssignNode, InsertNode}
 use Rattle.tx_cmd.specs.declared.words.ModWord.TheVariants.{RemoveNode}
 use Rattle.tx_cmd.specs.declared.words.Word.{Word}
-use Rattle.tx_cmd.specs.declared.words.Word.TheVariants.{Change, Undo, Redo, Go, Cursor, Show, Tree, Save, Quit}
-use Rattle.tx_cmd.specs.Words.{word_text, arguments_of, HasNoSpace}
+use Rattle.tx_cmd.specs.declared.words.Word.TheVariants.{Change, Undo, Redo, At, Go, Click, Left, Right, Typed}
+use Rattle.tx_cmd.specs.declared.words.Word.TheVariants.{Backspace, Enter, Show, Page, Errors, Where, Cursor, Attrs}
+use Rattle.tx_cmd.specs.declared.words.Word.TheVariants.{Tree, Save, Quit}
+use Rattle.tx_cmd.specs.Words.{word_text, arguments_of, HasNoSpace, IsKnown}
 use Rattle.tx_cmd.specs.Pieces.{tree_is_last}
 
--- the word that is spelled so
-abbrev word_named : List ℕ → Word
-word_named x =
-    cond (bytes_eq x (codes "assign")) (Change Assign)
-    (cond (bytes_eq x (codes "insert")) (Change Insert)
-    (cond (bytes_eq x (codes "remove")) (Change Remove) (cond (bytes_eq x (codes "split")) (Change Split)
-    (cond (bytes_eq x (codes "join")) (Change Join)
-    (cond (bytes_eq x (codes "assign-node")) (Change AssignNode)
-    (cond (bytes_eq x (codes "insert-node")) (Change InsertNode)
-    (cond (bytes_eq x (codes "remove-node")) (Change RemoveNode)
-    (cond (bytes_eq x (codes "undo")) Undo (cond (bytes_eq x (codes "redo")) Redo (cond (bytes_eq x (codes "go")) Go
-    (cond (bytes_eq x (codes "cursor")) Cursor
-    (cond (bytes_eq x (codes "show")) Show
-    (cond (bytes_eq x (codes "tree")) Tree (cond (bytes_eq x (codes "save")) Save Quit))))))))))))))
+-- all words, and the one that is spelled so
+abbrev all_words : List Word
+all_words =
+    Change Assign ∷ Change Insert ∷ Change Remove ∷ Change Split ∷ Change Join ∷ Change AssignNode ∷ Change InsertNode
+    ∷ Change RemoveNode ∷ Undo ∷ Redo ∷ At ∷ Go ∷ Click ∷ Left ∷ Right ∷ Typed ∷ Backspace ∷ Enter ∷ Show ∷ Page ∷ Errors
+    ∷ Where ∷ Cursor ∷ Attrs ∷ Tree ∷ Save ∷ Quit ∷ []
 
-named : (w : Word) → word_named (word_text w) ≡ w
+abbrev pub word_named : List ℕ → Option Word
+word_named x = find (λ w. bytes_eq (word_text w) x) all_words
+
+named : (w : Word) → word_named (word_text w) ≡ Some w
 named (Change Assign) = refl
 named (Change Insert) = refl
 named (Change Remove) = refl
@@ -36,15 +36,40 @@ named (Change InsertNode) = refl
 named (Change RemoveNode) = refl
 named Undo = refl
 named Redo = refl
+named At = refl
 named Go = refl
-named Cursor = refl
+named Click = refl
+named Left = refl
+named Right = refl
+named Typed = refl
+named Backspace = refl
+named Enter = refl
 named Show = refl
+named Page = refl
+named Errors = refl
+named Where = refl
+named Cursor = refl
+named Attrs = refl
 named Tree = refl
 named Save = refl
 named Quit = refl
 
 pub one_word : (w v : Word) → word_text w ≡ word_text v → w ≡ v
-one_word w v e = sym (named w) ∙ ap word_named e ∙ named v
+one_word w v e = let same : Some w ≡ Some v = sym (named w) ∙ ap word_named e ∙ named v in cc
+
+passes : (p : Word → Bool) (ws : List Word) (w : Word) → find p ws ≡ Some w → p w ≡ true
+passes p [] w e = absurd cc
+passes p (v ∷ ws) w e =
+    elim (p v) as (λ c. p v ≡ c → cond c (Some v) (find p ws) ≡ Some w → p w ≡ true) [
+      | true ↦ λ t f. let same : v ≡ w = cc in subst (λ u. p u ≡ true) same t
+      | false ↦ λ t f. passes p ws w f
+    ] refl e
+
+-- what a search for the word answers
+pub known : (x : List ℕ) (r : Option Word) → r ≡ word_named x → MatchOption r (¬ IsKnown x) (λ w. x ≡ word_text w)
+known x None e = λ k. let there : None ≡ Some k.0 = e ∙ ap word_named k.1 ∙ named k.0 in absurd cc
+known x (Some w) e =
+    sym ((bytes_eq-Decides (word_text w) x).0 (passes (λ w. bytes_eq (word_text w) x) all_words w (sym e)))
 
 abbrev has_no_space : List ℕ → Bool
 has_no_space [] = true
@@ -69,9 +94,20 @@ spelled_without (Change InsertNode) = refl
 spelled_without (Change RemoveNode) = refl
 spelled_without Undo = refl
 spelled_without Redo = refl
+spelled_without At = refl
 spelled_without Go = refl
-spelled_without Cursor = refl
+spelled_without Click = refl
+spelled_without Left = refl
+spelled_without Right = refl
+spelled_without Typed = refl
+spelled_without Backspace = refl
+spelled_without Enter = refl
 spelled_without Show = refl
+spelled_without Page = refl
+spelled_without Errors = refl
+spelled_without Where = refl
+spelled_without Cursor = refl
+spelled_without Attrs = refl
 spelled_without Tree = refl
 spelled_without Save = refl
 spelled_without Quit = refl
@@ -90,9 +126,20 @@ arguments_in_order (Change InsertNode) = refl
 arguments_in_order (Change RemoveNode) = refl
 arguments_in_order Undo = refl
 arguments_in_order Redo = refl
+arguments_in_order At = refl
 arguments_in_order Go = refl
-arguments_in_order Cursor = refl
+arguments_in_order Click = refl
+arguments_in_order Left = refl
+arguments_in_order Right = refl
+arguments_in_order Typed = refl
+arguments_in_order Backspace = refl
+arguments_in_order Enter = refl
 arguments_in_order Show = refl
+arguments_in_order Page = refl
+arguments_in_order Errors = refl
+arguments_in_order Where = refl
+arguments_in_order Cursor = refl
+arguments_in_order Attrs = refl
 arguments_in_order Tree = refl
 arguments_in_order Save = refl
 arguments_in_order Quit = refl

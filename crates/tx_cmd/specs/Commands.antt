@@ -6,7 +6,9 @@ use Rattle.tx_mod.specs.declared.mods.Mod.TheVariants.{AssignNode, InsertNode, R
 use Rattle.tx_mod.specs.Mods.{path_of}
 use Rattle.tx_cmd.specs.declared.TheConstants.{MOST_LINE}
 use Rattle.tx_cmd.specs.declared.command.Command.{Command}
-use Rattle.tx_cmd.specs.declared.command.Command.TheVariants.{Change, Undo, Redo, Go, Cursor, Show, Tree, Save, Quit}
+use Rattle.tx_cmd.specs.declared.command.Command.TheVariants.{Change, Undo, Redo, At, Go, Click, Left, Right, Typed}
+use Rattle.tx_cmd.specs.declared.command.Command.TheVariants.{Backspace, Enter, Show, Page, Errors, PlaceOf, Cursor}
+use Rattle.tx_cmd.specs.declared.command.Command.TheVariants.{Attrs, Tree, Save, Quit}
 use Rattle.tx_cmd.specs.declared.words.ModWord.{ModWord}
 use Rattle.tx_cmd.specs.declared.words.ModWord.TheVariants.{Assign as AssignWord, Insert as InsertWord}
 use Rattle.tx_cmd.specs.declared.words.ModWord.TheVariants.{Remove as RemoveWord, Split as SplitWord}
@@ -14,10 +16,14 @@ use Rattle.tx_cmd.specs.declared.words.ModWord.TheVariants.{Join as JoinWord, As
 use Rattle.tx_cmd.specs.declared.words.ModWord.TheVariants.{InsertNode as InsertNodeWord, RemoveNode as RemoveNodeWord}
 use Rattle.tx_cmd.specs.declared.words.Word.{Word}
 use Rattle.tx_cmd.specs.declared.words.Word.TheVariants.{Change as ChangeWord, Undo as UndoWord, Redo as RedoWord}
-use Rattle.tx_cmd.specs.declared.words.Word.TheVariants.{Go as GoWord, Cursor as CursorWord, Show as ShowWord}
+use Rattle.tx_cmd.specs.declared.words.Word.TheVariants.{At as AtWord, Go as GoWord, Click as ClickWord}
+use Rattle.tx_cmd.specs.declared.words.Word.TheVariants.{Left as LeftWord, Right as RightWord, Typed as TypedWord}
+use Rattle.tx_cmd.specs.declared.words.Word.TheVariants.{Backspace as BackspaceWord, Enter as EnterWord}
+use Rattle.tx_cmd.specs.declared.words.Word.TheVariants.{Show as ShowWord, Page as PageWord, Errors as ErrorsWord}
+use Rattle.tx_cmd.specs.declared.words.Word.TheVariants.{Where as WhereWord, Cursor as CursorWord, Attrs as AttrsWord}
 use Rattle.tx_cmd.specs.declared.words.Word.TheVariants.{Tree as TreeWord, Save as SaveWord, Quit as QuitWord}
 use Rattle.tx_cmd.specs.Words.{word_text}
-use Rattle.tx_cmd.specs.Values.{Value, a_path, a_number, a_label, a_name, a_tree, Mean}
+use Rattle.tx_cmd.specs.Values.{Value, a_path, a_number, a_label, a_name, a_tree, a_text, Mean}
 
 -- the first word of a modification
 abbrev pub mod_word : Mod → ModWord
@@ -46,9 +52,20 @@ abbrev pub word_of : Command → Word
 word_of (Change m) = ChangeWord (mod_word m)
 word_of Undo = UndoWord
 word_of Redo = RedoWord
+word_of (At n) = AtWord
 word_of (Go p) = GoWord
-word_of Cursor = CursorWord
+word_of (Click r c) = ClickWord
+word_of Left = LeftWord
+word_of Right = RightWord
+word_of (Typed text) = TypedWord
+word_of Backspace = BackspaceWord
+word_of Enter = EnterWord
 word_of Show = ShowWord
+word_of (Page n) = PageWord
+word_of Errors = ErrorsWord
+word_of (PlaceOf r c) = WhereWord
+word_of Cursor = CursorWord
+word_of (Attrs r) = AttrsWord
 word_of Tree = TreeWord
 word_of (Save n) = SaveWord
 word_of Quit = QuitWord
@@ -56,12 +73,23 @@ word_of Quit = QuitWord
 -- what it takes behind that word
 abbrev pub values_of : Command → List Value
 values_of (Change m) = a_path (path_of m) ∷ values_behind m
+values_of (At n) = a_name n ∷ []
 values_of (Go p) = a_path p ∷ []
+values_of (Click r c) = a_number r ∷ a_number c ∷ []
+values_of (Typed text) = a_text text ∷ []
+values_of (Page n) = a_number n ∷ []
+values_of (PlaceOf r c) = a_number r ∷ a_number c ∷ []
+values_of (Attrs r) = a_number r ∷ []
 values_of (Save n) = a_name n ∷ []
 values_of Undo = []
 values_of Redo = []
-values_of Cursor = []
+values_of Left = []
+values_of Right = []
+values_of Backspace = []
+values_of Enter = []
 values_of Show = []
+values_of Errors = []
+values_of Cursor = []
 values_of Tree = []
 values_of Quit = []
 

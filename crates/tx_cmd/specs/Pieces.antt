@@ -8,6 +8,7 @@ use Rattle.tx_cmd.specs.declared.words.ArgumentKind.{ArgumentKind}
 use Rattle.tx_cmd.specs.declared.words.ArgumentKind.TheVariants.{Path as PathArgument, Number as NumberArgument}
 use Rattle.tx_cmd.specs.declared.words.ArgumentKind.TheVariants.{Label as LabelArgument}
 use Rattle.tx_cmd.specs.declared.words.ArgumentKind.TheVariants.{Name as NameArgument, Tree as TreeArgument}
+use Rattle.tx_cmd.specs.declared.words.ArgumentKind.TheVariants.{Text as TextArgument}
 use Rattle.tx_cmd.specs.Words.{HasNoSpace, IsLoosePiece, AreLoose}
 
 -- nothing, or what begins with a space
@@ -15,9 +16,10 @@ abbrev pub IsTail : List ℕ → Type 0
 IsTail [] = Unit {0}
 IsTail (b ∷ bytes) = b ≡ 32
 
--- a piece for the argument ends at a space or at the end, and one for a tree at the end alone
+-- a piece for the argument ends at a space or at the end, and one for a tree or a text at the end alone
 abbrev pub EndsPiece : ArgumentKind → List ℕ → List ℕ → Type 0
 EndsPiece TreeArgument piece rest = rest ≡ []
+EndsPiece TextArgument piece rest = rest ≡ []
 EndsPiece PathArgument piece rest = HasNoSpace piece × IsTail rest
 EndsPiece NumberArgument piece rest = HasNoSpace piece × IsTail rest
 EndsPiece LabelArgument piece rest = HasNoSpace piece × IsTail rest
@@ -28,11 +30,13 @@ pub record IsCut (a : ArgumentKind) (bytes piece rest : List ℕ) : Type 0 where
   pub are : bytes ≡ 32 ∷ (piece ++ rest)
   pub ends : EndsPiece a piece rest
 
--- no argument stands behind a tree
+-- no argument stands behind a tree, which may be a text
 abbrev pub tree_is_last : List ArgumentKind → Bool
 tree_is_last [] = true
 tree_is_last (TreeArgument ∷ []) = true
 tree_is_last (TreeArgument ∷ b ∷ more) = false
+tree_is_last (TextArgument ∷ []) = true
+tree_is_last (TextArgument ∷ b ∷ more) = false
 tree_is_last (PathArgument ∷ more) = tree_is_last more
 tree_is_last (NumberArgument ∷ more) = tree_is_last more
 tree_is_last (LabelArgument ∷ more) = tree_is_last more

@@ -3,13 +3,14 @@ use Rattle.std.specs.Prelude.{◌≡◌, ℕ, ◌+◌, List, [], ◌∷◌, ◌+
 use Rattle.tx_tree.specs.PathSpelling.{SpellsPath, IsNumber}
 use Rattle.tx_tree.specs.Labels.{IsLabel}
 use Rattle.tx_tree.specs.Limits.{IsWithinLimits}
-use Rattle.tx_tree.specs.WideTree.{WideTree, nodes_of}
+use Rattle.tx_tree.specs.WideTree.{WideTree, leaf, nodes_of}
 use Rattle.tx_scm.specs.Spelling.{Spells}
 use Rattle.tx_cmd.specs.Words.{IsName}
 use Rattle.tx_cmd.specs.declared.words.ArgumentKind.{ArgumentKind}
 use Rattle.tx_cmd.specs.declared.words.ArgumentKind.TheVariants.{Path as PathArgument, Number as NumberArgument}
 use Rattle.tx_cmd.specs.declared.words.ArgumentKind.TheVariants.{Label as LabelArgument}
 use Rattle.tx_cmd.specs.declared.words.ArgumentKind.TheVariants.{Name as NameArgument, Tree as TreeArgument}
+use Rattle.tx_cmd.specs.declared.words.ArgumentKind.TheVariants.{Text as TextArgument}
 
 pub data Value : Type 0 where
   a_path : (path : List ℕ) → Value
@@ -17,6 +18,7 @@ pub data Value : Type 0 where
   a_label : (label : List ℕ) → Value
   a_name : (name : List ℕ) → Value
   a_tree : (t : WideTree) → Value
+  a_text : (text : List ℕ) → Value
 
 abbrev pub kind_of : Value → ArgumentKind
 kind_of (a_path p) = PathArgument
@@ -24,6 +26,7 @@ kind_of (a_number n) = NumberArgument
 kind_of (a_label l) = LabelArgument
 kind_of (a_name n) = NameArgument
 kind_of (a_tree t) = TreeArgument
+kind_of (a_text text) = TextArgument
 
 -- the piece is how the value is written
 abbrev pub Means : List ℕ → Value → Type 0
@@ -32,6 +35,7 @@ Means piece (a_number n) = IsNumber piece n
 Means piece (a_label l) = IsLabel l × (piece ≡ l)
 Means piece (a_name n) = IsName n × (piece ≡ n)
 Means piece (a_tree t) = Spells piece t × IsWithinLimits t
+Means piece (a_text text) = Spells piece (leaf text) × IsWithinLimits (leaf text)
 
 -- the bytes are a space and a piece for each value
 abbrev pub Mean : List ℕ → List Value → Type 0
@@ -50,3 +54,4 @@ nodes_in (a_path p ∷ values) = nodes_in values
 nodes_in (a_number n ∷ values) = nodes_in values
 nodes_in (a_label l ∷ values) = nodes_in values
 nodes_in (a_name n ∷ values) = nodes_in values
+nodes_in (a_text text ∷ values) = nodes_in values

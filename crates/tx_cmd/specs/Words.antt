@@ -9,11 +9,14 @@ use Rattle.tx_cmd.specs.declared.words.ModWord.{ModWord}
 use Rattle.tx_cmd.specs.declared.words.ModWord.TheVariants.{Assign, Insert, Remove, Split, Join}
 use Rattle.tx_cmd.specs.declared.words.ModWord.TheVariants.{AssignNode, InsertNode, RemoveNode}
 use Rattle.tx_cmd.specs.declared.words.Word.{Word}
-use Rattle.tx_cmd.specs.declared.words.Word.TheVariants.{Change, Undo, Redo, Go, Cursor, Show, Tree, Save, Quit}
+use Rattle.tx_cmd.specs.declared.words.Word.TheVariants.{Change, Undo, Redo, At, Go, Click, Left, Right, Typed}
+use Rattle.tx_cmd.specs.declared.words.Word.TheVariants.{Backspace, Enter, Show, Page, Errors, Where, Cursor, Attrs}
+use Rattle.tx_cmd.specs.declared.words.Word.TheVariants.{Tree, Save, Quit}
 use Rattle.tx_cmd.specs.declared.words.ArgumentKind.{ArgumentKind}
 use Rattle.tx_cmd.specs.declared.words.ArgumentKind.TheVariants.{Path as PathArgument, Number as NumberArgument}
 use Rattle.tx_cmd.specs.declared.words.ArgumentKind.TheVariants.{Label as LabelArgument}
 use Rattle.tx_cmd.specs.declared.words.ArgumentKind.TheVariants.{Name as NameArgument, Tree as TreeArgument}
+use Rattle.tx_cmd.specs.declared.words.ArgumentKind.TheVariants.{Text as TextArgument}
 
 -- a word as it is written
 abbrev pub mod_text : ModWord → List ℕ
@@ -30,9 +33,20 @@ abbrev pub word_text : Word → List ℕ
 word_text (Change kind) = mod_text kind
 word_text Undo = codes "undo"
 word_text Redo = codes "redo"
+word_text At = codes "at"
 word_text Go = codes "go"
-word_text Cursor = codes "cursor"
+word_text Click = codes "click"
+word_text Left = codes "left"
+word_text Right = codes "right"
+word_text Typed = codes "type"
+word_text Backspace = codes "backspace"
+word_text Enter = codes "enter"
 word_text Show = codes "show"
+word_text Page = codes "page"
+word_text Errors = codes "errors"
+word_text Where = codes "where"
+word_text Cursor = codes "cursor"
+word_text Attrs = codes "attrs"
 word_text Tree = codes "tree"
 word_text Save = codes "save"
 word_text Quit = codes "quit"
@@ -50,12 +64,23 @@ arguments_behind RemoveNode = NumberArgument ∷ []
 
 abbrev pub arguments_of : Word → List ArgumentKind
 arguments_of (Change kind) = PathArgument ∷ arguments_behind kind
+arguments_of At = NameArgument ∷ []
 arguments_of Go = PathArgument ∷ []
+arguments_of Click = NumberArgument ∷ NumberArgument ∷ []
+arguments_of Typed = TextArgument ∷ []
+arguments_of Page = NumberArgument ∷ []
+arguments_of Where = NumberArgument ∷ NumberArgument ∷ []
+arguments_of Attrs = NumberArgument ∷ []
 arguments_of Save = NameArgument ∷ []
 arguments_of Undo = []
 arguments_of Redo = []
-arguments_of Cursor = []
+arguments_of Left = []
+arguments_of Right = []
+arguments_of Backspace = []
+arguments_of Enter = []
 arguments_of Show = []
+arguments_of Errors = []
+arguments_of Cursor = []
 arguments_of Tree = []
 arguments_of Quit = []
 
@@ -84,13 +109,15 @@ pub record IsName (name : List ℕ) : Type 0 where
   pub some : 1 ≤ length name
   pub short : length name ≤ MOST_NAME
 
--- The piece may stand for the argument. Any bytes without a space may stand for a path, and any bytes for a tree.
+-- The piece may stand for the argument. Any bytes without a space may stand for a path, and any bytes for a tree or a
+-- text.
 abbrev pub IsLoosePiece : ArgumentKind → List ℕ → Type 0
 IsLoosePiece PathArgument piece = HasNoSpace piece
 IsLoosePiece NumberArgument piece = IsNumeral piece
 IsLoosePiece LabelArgument piece = IsLabel piece
 IsLoosePiece NameArgument piece = IsName piece
 IsLoosePiece TreeArgument piece = Unit {0}
+IsLoosePiece TextArgument piece = Unit {0}
 
 -- the bytes are a space and a piece that may stand for it, for each argument
 abbrev pub AreLoose : List ArgumentKind → List ℕ → Type 0
@@ -110,6 +137,7 @@ is_stored PathArgument = true
 is_stored LabelArgument = true
 is_stored NameArgument = true
 is_stored TreeArgument = true
+is_stored TextArgument = true
 
 abbrev pub some_stored : List ArgumentKind → Bool
 some_stored [] = false

@@ -6,7 +6,7 @@ use thiserror::Error;
 use tx_base::Memory;
 use tx_doc::Name;
 use tx_mod::Mod;
-use tx_tree::{Path, ReadFault};
+use tx_tree::{Path, ReadFault, Text};
 
 /// A command of a script.
 #[derive(Drop)]
@@ -17,15 +17,37 @@ pub enum Command {
     Undo,
     /// Makes the change again that was taken back last.
     Redo,
+    /// Selects the buffer of this name.
+    At(Name),
     /// Puts the cursor at a place. The last number of the path is the offset.
     Go(Path),
-    /// Prints the cursor's place.
-    Cursor,
+    /// Puts the cursor at the place that is shown in this row and column, both from 0.
+    Click(u32, u32),
+    /// Puts the cursor at the stop before it.
+    Left,
+    /// Puts the cursor at the stop behind it.
+    Right,
+    /// Inserts the text at the cursor.
+    Typed(Text),
+    /// Removes what stands before the cursor.
+    Backspace,
+    /// Begins a paragraph at the cursor.
+    Enter,
     /// Shows the pages of the document.
     Show,
-    /// Prints the document's tree.
+    /// Shows the page of this number, from 1.
+    Page(u32),
+    /// Lists the errors of the document.
+    Errors,
+    /// Prints the place that is shown in this row and column, both from 0.
+    PlaceOf(u32, u32),
+    /// Prints the cursor's place.
+    Cursor,
+    /// Prints the attributes of the cells of this row, from 0.
+    Attrs(u32),
+    /// Prints the tree of the selected buffer.
     Tree,
-    /// Writes the document's tree into the file of this name.
+    /// Writes the tree of the selected buffer into the file of this name.
     Save(Name),
     /// Ends the script.
     Quit,
@@ -41,14 +63,15 @@ pub enum CmdFault {
     #[error("an unknown command")]
     Unknown,
     /// So many bytes and no more of the line begin a command with its first word, where any bytes without a space
-    /// count as a path, and any bytes as a tree.
+    /// count as a path, and any bytes as a tree or a text. Or the line is such a command, and the tree that begins at
+    /// this byte is a node where a text is asked for.
     #[error("no such arguments, at byte {0}")]
     Args(usize),
     /// What stands for the path spells none: so many bytes of the line and no more lead to one.
     #[error("no path, at byte {0}")]
     Path(usize),
-    /// What stands for the tree spells none within the limits: why, with places of the line. `ReadFault::Memory`
-    /// doesn't come here.
+    /// What stands for the tree or the text spells no tree within the limits: why, with places of the line.
+    /// `ReadFault::Memory` doesn't come here.
     #[error("no tree: {0}")]
     Tree(ReadFault),
     /// Memory ran out.

@@ -29,7 +29,7 @@ pub(crate) fn cut(argument: ArgumentKind, bytes: &[u8]) -> (&[u8], &[u8])
 {
     let behind = &bytes[1..];
     match argument {
-        ArgumentKind::Tree => (behind, &[]),
+        ArgumentKind::Tree | ArgumentKind::Text => (behind, &[]),
         _ => {
             let piece = first_word(behind);
             (piece, &behind[piece.len()..])
@@ -106,7 +106,7 @@ fn piece_misfit(
     ensures memory { OnErr result (is_stored argument ≡ true) }
 {
     match argument {
-        ArgumentKind::Path | ArgumentKind::Tree => Ok(None),
+        ArgumentKind::Path | ArgumentKind::Tree | ArgumentKind::Text => Ok(None),
         ArgumentKind::Number => match number(piece) {
             Ok(_) => Ok(None),
             Err(place) => Ok(Some(place)),

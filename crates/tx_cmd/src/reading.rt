@@ -1,15 +1,15 @@
 // The command of a line that has the form of one.
-ghost use Rattle.std.specs.Prelude.{◌≡◌, ◌≢◌, ◌+◌, ◌≤◌, ℕ, true, [], ◌∷◌, length, IfOk, IfErr, Err};
+ghost use Rattle.std.specs.Prelude.{◌≡◌, ◌≢◌, ◌+◌, ◌≤◌, ℕ, true, false, [], ◌∷◌, length, IfOk, IfErr, OnOk, Err};
 ghost use Rattle.tx_tree.specs.Limits.{IsWithinLimits};
 ghost use Rattle.tx_tree.specs.PathSpelling.{SpellsPath, IsNumber};
-ghost use Rattle.tx_tree.specs.WideTree.{nodes_of};
+ghost use Rattle.tx_tree.specs.WideTree.{leaf, is_leaf, nodes_of};
 ghost use Rattle.tx_scm.specs.Spelling.{Spells};
 ghost use Rattle.tx_mod.specs.Mods.{path_of};
 ghost use Rattle.tx_cmd.specs.Words.{arguments_of, arguments_behind, AreLoose, IsNumeral, some_stored};
-ghost use Rattle.tx_cmd.specs.Values.{Mean, nodes_in, a_path, a_number, a_tree, a_label, a_name};
+ghost use Rattle.tx_cmd.specs.Values.{Means, Mean, nodes_in, a_path, a_number, a_tree, a_text, a_label, a_name};
 ghost use Rattle.tx_cmd.specs.Commands.{word_of, values_of, mod_word, values_behind};
 ghost use Rattle.tx_cmd.specs.Moved.{moved, IsWithin};
-ghost use Rattle.tx_cmd.specs.Refusals.{IsBadPath, IsBadTree, IsFirstFault};
+ghost use Rattle.tx_cmd.specs.Refusals.{IsBadPath, IsBadTree, IsBadText, IsFirstFault};
 ghost use Rattle.tx_cmd.specs.declared.command.CmdFault.TheVariants.{Memory as NoMemory};
 
 use crate::pieces::{cut, number};
@@ -20,7 +20,7 @@ use std::sync::ledger::Ledger;
 use tx_base::{Memory, Steps};
 use tx_doc::Name;
 use tx_mod::Mod;
-use tx_tree::{Label, LabelFault, Path, PathFault, ReadFault, Tree};
+use tx_tree::{Label, LabelFault, Path, PathFault, ReadFault, Text, Tree};
 
 // The path of the piece, which stands at this place of the line.
 fn read_path(alloc: Global, piece: &[u8], at: usize) -> Result<Path, CmdFault>
@@ -73,6 +73,35 @@ fn read_tree<L: Ledger>(
     }
 }
 
+// The text that the tree is, which begins at this place of the line.
+fn text_of(tree: &Tree, at: usize) -> Result<Text, CmdFault>
+    ensures ok { IfOk result (λ text. tree.now ≡ leaf text) }
+    ensures refused { IfErr result (λ fault.
+        fault ≢ NoMemory → (is_leaf tree.now ≡ false) × (fault ≡ CmdFault.Args at)) }
+{
+    match tree.text() {
+        Some(text) => Ok(text.copy()?),
+        None => Err(CmdFault::Args(at)),
+    }
+}
+
+// The text of the piece, which stands at this place of the line.
+fn read_text<L: Ledger>(
+    alloc: Global,
+    piece: &[u8],
+    at: usize,
+    steps: &mut Steps<L>,
+) -> Result<Text, CmdFault>
+    requires { at + length piece.now ≤ MOST_LINE }
+    ensures ok { IfOk result (λ text. Means piece.now (a_text text)) }
+    ensures refused { IfErr result (λ fault. fault ≢ NoMemory → IsBadText piece.now at fault) }
+    ensures counted { OnOk result (steps.new ≡ steps.old) }
+    ensures rises { steps.old ≤ steps.new }
+{
+    let tree = read_tree(alloc, piece, at, steps)?;
+    text_of(&tree, at)
+}
+
 // The number of a piece that is one.
 fn read_number(piece: &[u8]) -> u32
     requires { IsNumeral piece.now }
@@ -101,6 +130,25 @@ fn last_tree<L: Ledger>(
 {
     let (piece, _) = cut(ArgumentKind::Tree, bytes);
     read_tree(alloc, piece, at + 1, steps)
+}
+
+// The text that is all that is left, where that begins at this place of the line.
+fn last_text<L: Ledger>(
+    alloc: Global,
+    bytes: &[u8],
+    at: usize,
+    steps: &mut Steps<L>,
+) -> Result<Text, CmdFault>
+    requires loose { AreLoose (ArgumentKind.Text ∷ []) bytes.now }
+    requires place { at + length bytes.now ≤ MOST_LINE }
+    ensures ok { IfOk result (λ text. Mean bytes.now (a_text text ∷ [])) }
+    ensures refused { IfErr result (λ fault.
+        fault ≢ NoMemory → IsFirstFault (ArgumentKind.Text ∷ []) bytes.now at fault) }
+    ensures counted { OnOk result (steps.new ≡ steps.old) }
+    ensures rises { steps.old ≤ steps.new }
+{
+    let (piece, _) = cut(ArgumentKind::Text, bytes);
+    read_text(alloc, piece, at + 1, steps)
 }
 
 // A number, and the tree behind it, where these begin at this place of the line.
@@ -173,6 +221,43 @@ fn last_name(alloc: Global, bytes: &[u8]) -> Result<Name, CmdFault>
     Ok(name_of(alloc, piece)?)
 }
 
+// The modification of this path that takes numbers alone, which are all that is left.
+fn plain_change(word: ModWord, path: Path, bytes: &[u8]) -> Mod
+    requires stored { some_stored (arguments_behind word) ≡ false }
+    requires loose { AreLoose (arguments_behind word) bytes.now }
+    ensures word { mod_word result ≡ word }
+    ensures path { path_of result ≡ path }
+    ensures ok { Mean bytes.now (values_behind result) }
+{
+    match word {
+        ModWord::Remove => {
+            let (i, n) = two_numbers(bytes);
+            Mod::Remove(path, i, n)
+        }
+        ModWord::Split => {
+            let (i, j) = two_numbers(bytes);
+            Mod::Split(path, i, j)
+        }
+        ModWord::Join => Mod::Join(path, last_number(bytes)),
+        ModWord::RemoveNode => Mod::RemoveNode(path, last_number(bytes)),
+        _ => unreachable!(),
+    }
+}
+
+// The modification that puts the tree in there.
+fn insertion(word: ModWord, path: Path, i: u32, tree: Tree) -> Mod
+    requires { arguments_behind word ≡ ArgumentKind.Number ∷ ArgumentKind.Tree ∷ [] }
+    ensures word { mod_word result ≡ word }
+    ensures path { path_of result ≡ path }
+    ensures values { values_behind result ≡ a_number i ∷ a_tree tree ∷ [] }
+{
+    match word {
+        ModWord::Insert => Mod::Insert(path, i, tree),
+        ModWord::InsertNode => Mod::InsertNode(path, i, tree),
+        _ => unreachable!(),
+    }
+}
+
 // The modification of this path, by what stands behind the path, at this place of the line.
 fn change_at<L: Ledger>(
     alloc: Global,
@@ -194,25 +279,14 @@ fn change_at<L: Ledger>(
 {
     match word {
         ModWord::Assign => Ok(Mod::Assign(path, last_tree(alloc, bytes, at, steps)?)),
-        ModWord::Insert => {
+        ModWord::Insert | ModWord::InsertNode => {
             let (i, tree) = number_and_tree(alloc, bytes, at, steps)?;
-            Ok(Mod::Insert(path, i, tree))
+            Ok(insertion(word, path, i, tree))
         }
-        ModWord::Remove => {
-            let (i, n) = two_numbers(bytes);
-            Ok(Mod::Remove(path, i, n))
-        }
-        ModWord::Split => {
-            let (i, j) = two_numbers(bytes);
-            Ok(Mod::Split(path, i, j))
-        }
-        ModWord::Join => Ok(Mod::Join(path, last_number(bytes))),
         ModWord::AssignNode => Ok(Mod::AssignNode(path, last_label(alloc, bytes)?)),
-        ModWord::InsertNode => {
-            let (i, tree) = number_and_tree(alloc, bytes, at, steps)?;
-            Ok(Mod::InsertNode(path, i, tree))
+        ModWord::Remove | ModWord::Split | ModWord::Join | ModWord::RemoveNode => {
+            Ok(plain_change(word, path, bytes))
         }
-        ModWord::RemoveNode => Ok(Mod::RemoveNode(path, last_number(bytes))),
     }
 }
 
@@ -250,6 +324,39 @@ fn last_path(alloc: Global, bytes: &[u8], at: usize) -> Result<Path, CmdFault>
     read_path(alloc, piece, at + 1)
 }
 
+// The command of a word that takes nothing or numbers alone, and of what stands behind it.
+fn plain_command(word: Word, bytes: &[u8]) -> Command
+    requires stored { some_stored (arguments_of word) ≡ false }
+    requires loose { AreLoose (arguments_of word) bytes.now }
+    ensures word { word_of result ≡ word }
+    ensures ok { Mean bytes.now (values_of result) }
+{
+    match word {
+        Word::Undo => Command::Undo,
+        Word::Redo => Command::Redo,
+        Word::Click => {
+            let (row, column) = two_numbers(bytes);
+            Command::Click(row, column)
+        }
+        Word::Left => Command::Left,
+        Word::Right => Command::Right,
+        Word::Backspace => Command::Backspace,
+        Word::Enter => Command::Enter,
+        Word::Show => Command::Show,
+        Word::Page => Command::Page(last_number(bytes)),
+        Word::Errors => Command::Errors,
+        Word::Where => {
+            let (row, column) = two_numbers(bytes);
+            Command::PlaceOf(row, column)
+        }
+        Word::Cursor => Command::Cursor,
+        Word::Attrs => Command::Attrs(last_number(bytes)),
+        Word::Tree => Command::Tree,
+        Word::Quit => Command::Quit,
+        _ => unreachable!(),
+    }
+}
+
 // The command of the word and of what stands behind it, at this place of the line.
 pub(crate) fn command<L: Ledger>(
     alloc: Global,
@@ -269,13 +376,16 @@ pub(crate) fn command<L: Ledger>(
 {
     match word {
         Word::Change(word) => Ok(Command::Change(change(alloc, word, bytes, at, steps)?)),
-        Word::Undo => Ok(Command::Undo),
-        Word::Redo => Ok(Command::Redo),
+        Word::At => Ok(Command::At(last_name(alloc, bytes)?)),
         Word::Go => Ok(Command::Go(last_path(alloc, bytes, at)?)),
-        Word::Cursor => Ok(Command::Cursor),
-        Word::Show => Ok(Command::Show),
-        Word::Tree => Ok(Command::Tree),
+        Word::Typed => Ok(Command::Typed(last_text(alloc, bytes, at, steps)?)),
         Word::Save => Ok(Command::Save(last_name(alloc, bytes)?)),
-        Word::Quit => Ok(Command::Quit),
+        Word::Undo | Word::Redo | Word::Click | Word::Left | Word::Right | Word::Backspace => {
+            Ok(plain_command(word, bytes))
+        }
+        Word::Enter | Word::Show | Word::Page | Word::Errors | Word::Where | Word::Cursor => {
+            Ok(plain_command(word, bytes))
+        }
+        Word::Attrs | Word::Tree | Word::Quit => Ok(plain_command(word, bytes)),
     }
 }

@@ -1,6 +1,7 @@
 // The first words of commands, and the arguments that stand behind each.
-ghost use Rattle.std.specs.Prelude.{◌≡◌, MatchOption};
-ghost use Rattle.tx_cmd.specs.Words.{word_text, arguments_of, IsKnown};
+ghost use Rattle.std.specs.Prelude.{◌≡◌, MatchOption, find};
+ghost use Rattle.std.specs.Str.{bytes_eq};
+ghost use Rattle.tx_cmd.specs.Words.{mod_text, word_text, arguments_of, IsKnown};
 
 /// What stands behind a command's first word.
 #[derive(Clone, Copy)]
@@ -15,6 +16,8 @@ pub enum ArgumentKind {
     Name,
     /// A tree in Scheme syntax: all that is left of the line.
     Tree,
+    /// A text, as a tree in Scheme syntax: all that is left of the line.
+    Text,
 }
 
 /// The first word of a modification.
@@ -47,12 +50,34 @@ pub enum Word {
     Undo,
     /// `redo`
     Redo,
+    /// `at`
+    At,
     /// `go`
     Go,
-    /// `cursor`
-    Cursor,
+    /// `click`
+    Click,
+    /// `left`
+    Left,
+    /// `right`
+    Right,
+    /// `type`
+    Typed,
+    /// `backspace`
+    Backspace,
+    /// `enter`
+    Enter,
     /// `show`
     Show,
+    /// `page`
+    Page,
+    /// `errors`
+    Errors,
+    /// `where`
+    Where,
+    /// `cursor`
+    Cursor,
+    /// `attrs`
+    Attrs,
     /// `tree`
     Tree,
     /// `save`
@@ -61,32 +86,103 @@ pub enum Word {
     Quit,
 }
 
+// All words.
+const WORDS: [Word; 27] = [
+    Word::Change(ModWord::Assign),
+    Word::Change(ModWord::Insert),
+    Word::Change(ModWord::Remove),
+    Word::Change(ModWord::Split),
+    Word::Change(ModWord::Join),
+    Word::Change(ModWord::AssignNode),
+    Word::Change(ModWord::InsertNode),
+    Word::Change(ModWord::RemoveNode),
+    Word::Undo,
+    Word::Redo,
+    Word::At,
+    Word::Go,
+    Word::Click,
+    Word::Left,
+    Word::Right,
+    Word::Typed,
+    Word::Backspace,
+    Word::Enter,
+    Word::Show,
+    Word::Page,
+    Word::Errors,
+    Word::Where,
+    Word::Cursor,
+    Word::Attrs,
+    Word::Tree,
+    Word::Save,
+    Word::Quit,
+];
+
+// The first of the words that the bytes are.
+fn find_word(all: &[Word], bytes: &[u8]) -> Option<Word>
+    ensures { result ≡ find (λ w. bytes_eq (word_text w) bytes.now) all.now }
+{
+    for word in all {
+        if word.text() == bytes {
+            return Some(*word);
+        }
+    }
+    None
+}
+
 // The word that the bytes are, or None where they are none.
 pub(crate) fn known_word(bytes: &[u8]) -> Option<Word>
     ensures { MatchOption result (¬ IsKnown bytes.now) (λ w. bytes.now ≡ word_text w) }
 {
-    match bytes {
-        b"assign" => Some(Word::Change(ModWord::Assign)),
-        b"insert" => Some(Word::Change(ModWord::Insert)),
-        b"remove" => Some(Word::Change(ModWord::Remove)),
-        b"split" => Some(Word::Change(ModWord::Split)),
-        b"join" => Some(Word::Change(ModWord::Join)),
-        b"assign-node" => Some(Word::Change(ModWord::AssignNode)),
-        b"insert-node" => Some(Word::Change(ModWord::InsertNode)),
-        b"remove-node" => Some(Word::Change(ModWord::RemoveNode)),
-        b"undo" => Some(Word::Undo),
-        b"redo" => Some(Word::Redo),
-        b"go" => Some(Word::Go),
-        b"cursor" => Some(Word::Cursor),
-        b"show" => Some(Word::Show),
-        b"tree" => Some(Word::Tree),
-        b"save" => Some(Word::Save),
-        b"quit" => Some(Word::Quit),
-        _ => None,
+    find_word(&WORDS, bytes)
+}
+
+impl ModWord {
+    // As it is written.
+    fn text(self) -> &'static [u8]
+        ensures { result.now ≡ mod_text self }
+    {
+        match self {
+            ModWord::Assign => b"assign",
+            ModWord::Insert => b"insert",
+            ModWord::Remove => b"remove",
+            ModWord::Split => b"split",
+            ModWord::Join => b"join",
+            ModWord::AssignNode => b"assign-node",
+            ModWord::InsertNode => b"insert-node",
+            ModWord::RemoveNode => b"remove-node",
+        }
     }
 }
 
 impl Word {
+    // As it is written.
+    fn text(self) -> &'static [u8]
+        ensures { result.now ≡ word_text self }
+    {
+        match self {
+            Word::Change(word) => word.text(),
+            Word::Undo => b"undo",
+            Word::Redo => b"redo",
+            Word::At => b"at",
+            Word::Go => b"go",
+            Word::Click => b"click",
+            Word::Left => b"left",
+            Word::Right => b"right",
+            Word::Typed => b"type",
+            Word::Backspace => b"backspace",
+            Word::Enter => b"enter",
+            Word::Show => b"show",
+            Word::Page => b"page",
+            Word::Errors => b"errors",
+            Word::Where => b"where",
+            Word::Cursor => b"cursor",
+            Word::Attrs => b"attrs",
+            Word::Tree => b"tree",
+            Word::Save => b"save",
+            Word::Quit => b"quit",
+        }
+    }
+
     // What stands behind the word, in order.
     pub(crate) fn arguments(self) -> &'static [ArgumentKind]
         ensures { result.now ≡ arguments_of self }
@@ -109,8 +205,14 @@ impl Word {
             ],
             Word::Change(ModWord::AssignNode) => &[ArgumentKind::Path, ArgumentKind::Label],
             Word::Go => &[ArgumentKind::Path],
-            Word::Save => &[ArgumentKind::Name],
-            Word::Undo | Word::Redo | Word::Cursor | Word::Show | Word::Tree | Word::Quit => &[],
+            Word::At | Word::Save => &[ArgumentKind::Name],
+            Word::Typed => &[ArgumentKind::Text],
+            Word::Click | Word::Where => &[ArgumentKind::Number, ArgumentKind::Number],
+            Word::Page | Word::Attrs => &[ArgumentKind::Number],
+            Word::Undo | Word::Redo | Word::Left | Word::Right | Word::Backspace | Word::Enter => {
+                &[]
+            }
+            Word::Show | Word::Errors | Word::Cursor | Word::Tree | Word::Quit => &[],
         }
     }
 }

@@ -1,20 +1,12 @@
 -- Words, files, script and marks come to one run.
-use Rattle.std.proofs.Common.{◌≡◌, ◌≢◌, inl, inr, ℕ, Bool, true, false, List, [], ◌∷◌, ◌++◌, length, refl, ap, sym}
-use Rattle.std.proofs.Common.{subst, ◌∙◌, Option, Some, None, Result, Ok, Err, arith}
-use Rattle.std.specs.Prelude.{codes}
+use Rattle.std.proofs.Common.{◌≡◌, ◌≢◌, ℕ, List, [], ◌∷◌, ◌++◌, length, refl, ap, sym}
+use Rattle.std.proofs.Common.{subst, ◌∙◌, Option, Some, arith}
 use Rattle.tx_outside.specs.Files.{Files}
-use Rattle.tx_tree.specs.WideTree.{WideTree}
-use Rattle.tx_mod.specs.declared.faults.ModFault.{ModFault}
-use Rattle.tx_doc.specs.Buffers.{document_of}
-use Rattle.tx_state.specs.States.{State}
-use Rattle.tx_state.specs.Edits.{edited, undone, redone}
 use Rattle.tx_cmd.specs.declared.command.Command.{Command}
-use Rattle.tx_cmd.specs.declared.command.Command.TheVariants.{Change, Undo, Redo, Go, Cursor, Show, Tree, Save, Quit}
 use Rattle.tx_cmd.proofs.Once.{one_command, one_cause, no_cause}
 use Rattle.tx_session.specs.declared.status.Status.{Status}
 use Rattle.tx_session.specs.declared.status.Status.TheVariants as statuses
-use Rattle.tx_session.specs.Causes.{astray_reply}
-use Rattle.tx_session.specs.States.{document_edit, IsShown, IsAnswer, IsEditAnswer, IsStepAnswer, IsGoAnswer}
+use Rattle.tx_session.specs.States.{IsAnswer}
 use Rattle.tx_session.specs.Worlds.{World, Stored, Mark, plain, lacking, unsaved}
 use Rattle.tx_session.specs.Replies.{fresh_after, Reading, nothing, too_long, unread, command, faulty, wanting_reply}
 use Rattle.tx_session.specs.Replies.{IsRead, IsReply, IsReplyTo, IsRefusal, IsLineReply}
@@ -22,9 +14,8 @@ use Rattle.tx_session.specs.Scripts.{Answered, before_quit, command_line}
 use Rattle.tx_session.specs.Outcomes.{Outcome, faulty_words, missing, too_long as file_too_long, no_tree, store_fault}
 use Rattle.tx_session.specs.Outcomes.{no_memory, opened, ComesTo, IsDecided}
 use Rattle.tx_session.specs.Runs.{IsWhole, IsPlayed, IsFinal, own_line, start_of}
-use Rattle.tx_session.proofs.Going.{goes_once, goes_or_not, astray_once}
+use Rattle.tx_session.proofs.Answering.{OneView, one_answer}
 use Rattle.tx_session.proofs.Turning.{same_seen}
-use Rattle.tx_session.proofs.Showings.{one_text}
 use Rattle.tx_session.proofs.Lining.{script_lines_once, long_unread}
 use Rattle.tx_session.proofs.Single.{one_outcome}
 
@@ -52,52 +43,14 @@ one_reading text (faulty f) (too_long d) n m h k = absurd (omega (arith, h.0.1, 
 one_reading text (faulty f) (command d) n m h k = absurd (no_cause text d f h.1 k.1 h.2)
 one_reading text (faulty f) (faulty e) n m h k = ap (λ f. faulty f) (one_cause text f e h.1 k.1 h.2 k.2)
 
-one_shown : (width height : ℕ) (t : WideTree) (a b : List ℕ) → IsShown width height t a → IsShown width height t b
-    → a ≡ b
-one_shown width height t a b (inl h) (inl k) = one_text width height t a b h k
-one_shown width height t a b (inl h) (inr k) = absurd (k.0 h.texts h.document)
-one_shown width height t a b (inr h) (inl k) = absurd (h.0 k.texts k.document)
-one_shown width height t a b (inr h) (inr k) = h.1 ∙ sym k.1
-
-one_edit : (state : State) (r : Result State ModFault) (s t : State) (a b : List ℕ) → IsEditAnswer state r s a
-    → IsEditAnswer state r t b → (s ≡ t) × (a ≡ b)
-one_edit state (Ok made) s t a b h k = (h.0 ∙ sym k.0, h.1 ∙ sym k.1)
-one_edit state (Err cause) s t a b h k = (h.0 ∙ sym k.0, h.1 ∙ sym k.1)
-
-one_step : (state : State) (none : List ℕ) (r : Option State) (s t : State) (a b : List ℕ)
-    → IsStepAnswer state none r s a → IsStepAnswer state none r t b → (s ≡ t) × (a ≡ b)
-one_step state none (Some made) s t a b h k = (h.0 ∙ sym k.0, h.1 ∙ sym k.1)
-one_step state none None s t a b h k = (h.0 ∙ sym k.0, h.1 ∙ sym k.1)
-
-one_go : (state : State) (numbers : List ℕ) (s t : State) (a b : List ℕ) → IsGoAnswer state numbers s a
-    → IsGoAnswer state numbers t b → (s ≡ t) × (a ≡ b)
-one_go state numbers s t a b (inl h) (inl k) = (goes_once state numbers s t h.0 k.0, h.1 ∙ sym k.1)
-one_go state numbers s t a b (inl h) (inr k) = absurd (goes_or_not state numbers s k.0 h.0 k.1)
-one_go state numbers s t a b (inr h) (inl k) = absurd (goes_or_not state numbers t h.0 k.0 h.1)
-one_go state numbers s t a b (inr h) (inr k) =
-    (h.2 ∙ sym k.2, h.3 ∙ ap astray_reply (astray_once state numbers h.0 k.0 h.1 k.1) ∙ sym k.3)
-
-one_answer : (width height : ℕ) (state : State) (it : Command) (s t : State) (a b : List ℕ)
-    → IsAnswer width height state it s a → IsAnswer width height state it t b → (s ≡ t) × (a ≡ b)
-one_answer width height state Show s t a b h k =
-    (h.0 ∙ sym k.0, one_shown width height (document_of state.buffers) a b h.1 k.1)
-one_answer width height state Tree s t a b h k = (h.0 ∙ sym k.0, h.1 ∙ sym k.1)
-one_answer width height state Quit s t a b h k = (h.0 ∙ sym k.0, h.1 ∙ sym k.1)
-one_answer width height state (Change m) s t a b h k = one_edit state (edited (document_edit m) state) s t a b h k
-one_answer width height state Undo s t a b h k = one_step state (codes "no undo") (undone state) s t a b h k
-one_answer width height state Redo s t a b h k = one_step state (codes "no redo") (redone state) s t a b h k
-one_answer width height state (Go numbers) s t a b h k = one_go state numbers s t a b h k
-one_answer width height state Cursor s t a b h k = (h.0 ∙ sym k.0, h.1 ∙ sym k.1)
-one_answer width height state (Save name) s t a b h k = (h.0 ∙ sym k.0, h.1 ∙ sym k.1)
-
 -- what the answer depends on
-module _ (v w : World) (same : v.session ≡ w.session) where
+module _ (law : OneView) (v w : World) (same : v.session ≡ w.session) where
   one_reply : (it : Command) (mark : Mark) (s t : World) (a b : List ℕ) → IsReply v it mark s a → IsReply w it mark t b
       → (s.session ≡ t.session) × (a ≡ b)
   one_reply it plain s t a b h k =
       let again : IsAnswer v.session.width v.session.height v.session.state it t.session.state b =
       subst (λ x. IsAnswer x.width x.height x.state it t.session.state b) (sym same) k.answer in
-      let both = one_answer v.session.width v.session.height v.session.state it s.session.state t.session.state a b
+      let both = one_answer law v.session.width v.session.height v.session.state it s.session.state t.session.state a b
       h.answer again in (
         same_seen s.session t.session both.0 (h.width ∙ ap (λ x. x.width) same ∙ sym k.width)
             (h.height ∙ ap (λ x. x.height) same ∙ sym k.height) (h.fresh ∙ ap (λ x. fresh_after x it) same
@@ -144,11 +97,11 @@ was_read v unread mark next reply m h e = subst IsSomeMark h.0 m
 was_read v (command c) mark next reply m h e = cc
 was_read v (faulty f) mark next reply m h e = cc
 
-module _ (v w : World) (same : v.session ≡ w.session) (text : List ℕ) where
+module _ (law : OneView) (v w : World) (same : v.session ≡ w.session) (text : List ℕ) where
   read_reply : (mark : Mark) (s t : World) (a b : List ℕ) → IsSomeMark mark → IsLineReply v text mark s a
       → IsLineReply w text mark t b → (s.session ≡ t.session) × (a ≡ b)
   read_reply mark s t a b m h k =
-      one_reply_to v w same h.0 mark s t a b h.2
+      one_reply_to law v w same h.0 mark s t a b h.2
       (subst (λ r. IsReplyTo w r mark t b)
       (one_reading text k.0 h.0 (was_read w k.0 mark t b m k.2) (was_read v h.0 mark s a m h.2) k.1 h.1) k.2)
 
@@ -160,54 +113,56 @@ module _ (v w : World) (same : v.session ≡ w.session) (text : List ℕ) where
   one_line_reply unsaved s t a b h k = read_reply unsaved s t a b tt h k
 
 -- lines with the same marks have the same replies
-pub answered_once : (v w s t : World) (lines : List (List ℕ)) (marks : List Mark) (a b : List ℕ) → v.session ≡ w.session
-    → Answered v lines marks s a → Answered w lines marks t b → (s.session ≡ t.session) × (a ≡ b)
-answered_once v w s t [] [] a b same h k =
+pub answered_once : (law : OneView) (v w s t : World) (lines : List (List ℕ)) (marks : List Mark) (a b : List ℕ)
+    → v.session ≡ w.session → Answered v lines marks s a → Answered w lines marks t b
+    → (s.session ≡ t.session) × (a ≡ b)
+answered_once law v w s t [] [] a b same h k =
     (ap (λ x. x.session) h.0 ∙ same ∙ sym (ap (λ x. x.session) k.0), h.1 ∙ sym k.1)
-answered_once v w s t [] (m ∷ marks) a b same h k = absurd h
-answered_once v w s t (l ∷ lines) [] a b same h k = absurd h
-answered_once v w s t (l ∷ lines) (m ∷ marks) a b same h k =
-    let one = one_line_reply v w same (command_line l) m h.0 k.0 h.1 k.1 h.3 k.3 in
-    let more = answered_once h.0 k.0 s t lines marks h.2 k.2 one.0 h.4 k.4 in
+answered_once law v w s t [] (m ∷ marks) a b same h k = absurd h
+answered_once law v w s t (l ∷ lines) [] a b same h k = absurd h
+answered_once law v w s t (l ∷ lines) (m ∷ marks) a b same h k =
+    let one = one_line_reply law v w same (command_line l) m h.0 k.0 h.1 k.1 h.3 k.3 in
+    let more = answered_once law h.0 k.0 s t lines marks h.2 k.2 one.0 h.4 k.4 in
     (more.0, h.5 ∙ (λ i. one.1 i ++ more.1 i) ∙ sym k.5)
 
-played_once : (v w x y : World) (script : List ℕ) (marks : List Mark) (r q : Option (List ℕ)) (s t : Status)
+played_once : (law : OneView) (v w x y : World) (script : List ℕ) (marks : List Mark) (r q : Option (List ℕ))
+    (s t : Status)
     (a b : List ℕ) → v.session ≡ w.session → IsFinal s → IsFinal t → IsPlayed v script marks r s x a
     → IsPlayed w script marks q t y b → (s ≡ t) × (a ≡ b)
-played_once v w x y script marks r q statuses.Ok statuses.Ok a b e f g h k =
+played_once law v w x y script marks r q statuses.Ok statuses.Ok a b e f g h k =
     let same = script_lines_once script k.0 h.0 k.1 h.1 in (
       refl,
-      (answered_once v w x y (before_quit h.0) marks a b e h.3
+      (answered_once law v w x y (before_quit h.0) marks a b e h.3
           (subst (λ ls. Answered w (before_quit ls) marks y b) same k.3)).1,
     )
-played_once v w x y script marks r q statuses.ScriptLong statuses.ScriptLong a b e f g h k =
+played_once law v w x y script marks r q statuses.ScriptLong statuses.ScriptLong a b e f g h k =
     let same = script_lines_once script k.0 h.0 k.1 h.1 in
-    (refl, (answered_once v w x y h.0 marks a b e h.3 (subst (λ ls. Answered w ls marks y b) same k.3)).1)
-played_once v w x y script marks r q statuses.Ok statuses.ScriptLong a b e f g h k =
+    (refl, (answered_once law v w x y h.0 marks a b e h.3 (subst (λ ls. Answered w ls marks y b) same k.3)).1)
+played_once law v w x y script marks r q statuses.Ok statuses.ScriptLong a b e f g h k =
     absurd (long_unread script w y k.0 marks b k.1 k.2 k.3 h.2)
-played_once v w x y script marks r q statuses.ScriptLong statuses.Ok a b e f g h k =
+played_once law v w x y script marks r q statuses.ScriptLong statuses.Ok a b e f g h k =
     absurd (long_unread script v x h.0 marks a h.1 h.2 h.3 k.2)
-played_once v w x y script marks r q statuses.Words t a b e f g h k = absurd h
-played_once v w x y script marks r q statuses.Missing t a b e f g h k = absurd h
-played_once v w x y script marks r q statuses.Refused t a b e f g h k = absurd h
-played_once v w x y script marks r q statuses.StoreFault t a b e f g h k = absurd h
-played_once v w x y script marks r q statuses.InputFault t a b e f g h k = absurd f
-played_once v w x y script marks r q statuses.OutputFault t a b e f g h k = absurd h
-played_once v w x y script marks r q statuses.NoMemory t a b e f g h k = absurd f
-played_once v w x y script marks r q statuses.Ok statuses.Words a b e f g h k = absurd k
-played_once v w x y script marks r q statuses.Ok statuses.Missing a b e f g h k = absurd k
-played_once v w x y script marks r q statuses.Ok statuses.Refused a b e f g h k = absurd k
-played_once v w x y script marks r q statuses.Ok statuses.StoreFault a b e f g h k = absurd k
-played_once v w x y script marks r q statuses.Ok statuses.InputFault a b e f g h k = absurd g
-played_once v w x y script marks r q statuses.Ok statuses.OutputFault a b e f g h k = absurd k
-played_once v w x y script marks r q statuses.Ok statuses.NoMemory a b e f g h k = absurd g
-played_once v w x y script marks r q statuses.ScriptLong statuses.Words a b e f g h k = absurd k
-played_once v w x y script marks r q statuses.ScriptLong statuses.Missing a b e f g h k = absurd k
-played_once v w x y script marks r q statuses.ScriptLong statuses.Refused a b e f g h k = absurd k
-played_once v w x y script marks r q statuses.ScriptLong statuses.StoreFault a b e f g h k = absurd k
-played_once v w x y script marks r q statuses.ScriptLong statuses.InputFault a b e f g h k = absurd g
-played_once v w x y script marks r q statuses.ScriptLong statuses.OutputFault a b e f g h k = absurd k
-played_once v w x y script marks r q statuses.ScriptLong statuses.NoMemory a b e f g h k = absurd g
+played_once law v w x y script marks r q statuses.Words t a b e f g h k = absurd h
+played_once law v w x y script marks r q statuses.Missing t a b e f g h k = absurd h
+played_once law v w x y script marks r q statuses.Refused t a b e f g h k = absurd h
+played_once law v w x y script marks r q statuses.StoreFault t a b e f g h k = absurd h
+played_once law v w x y script marks r q statuses.InputFault t a b e f g h k = absurd f
+played_once law v w x y script marks r q statuses.OutputFault t a b e f g h k = absurd h
+played_once law v w x y script marks r q statuses.NoMemory t a b e f g h k = absurd f
+played_once law v w x y script marks r q statuses.Ok statuses.Words a b e f g h k = absurd k
+played_once law v w x y script marks r q statuses.Ok statuses.Missing a b e f g h k = absurd k
+played_once law v w x y script marks r q statuses.Ok statuses.Refused a b e f g h k = absurd k
+played_once law v w x y script marks r q statuses.Ok statuses.StoreFault a b e f g h k = absurd k
+played_once law v w x y script marks r q statuses.Ok statuses.InputFault a b e f g h k = absurd g
+played_once law v w x y script marks r q statuses.Ok statuses.OutputFault a b e f g h k = absurd k
+played_once law v w x y script marks r q statuses.Ok statuses.NoMemory a b e f g h k = absurd g
+played_once law v w x y script marks r q statuses.ScriptLong statuses.Words a b e f g h k = absurd k
+played_once law v w x y script marks r q statuses.ScriptLong statuses.Missing a b e f g h k = absurd k
+played_once law v w x y script marks r q statuses.ScriptLong statuses.Refused a b e f g h k = absurd k
+played_once law v w x y script marks r q statuses.ScriptLong statuses.StoreFault a b e f g h k = absurd k
+played_once law v w x y script marks r q statuses.ScriptLong statuses.InputFault a b e f g h k = absurd g
+played_once law v w x y script marks r q statuses.ScriptLong statuses.OutputFault a b e f g h k = absurd k
+played_once law v w x y script marks r q statuses.ScriptLong statuses.NoMemory a b e f g h k = absurd g
 
 -- a run that ends with a final status had no fault of the store and no want of memory at opening
 pub decided : (o : Outcome) (before after : Stored) (told r : Option (List ℕ)) (marks : List Mark) (s : Status)
@@ -220,14 +175,14 @@ decided (file_too_long f) before after told r marks s a fin w = tt
 decided (no_tree f c) before after told r marks s a fin w = tt
 decided (opened f t) before after told r marks s a fin w = tt
 
-module _ (v w x y : Stored) (script : List ℕ) (marks : List Mark) (r q : Option (List ℕ)) (s t : Status) (a b : List ℕ)
-    (fs : IsFinal s) (ft : IsFinal t) where
+module _ (law : OneView) (v w x y : Stored) (script : List ℕ) (marks : List Mark) (r q : Option (List ℕ)) (s t : Status)
+    (a b : List ℕ) (fs : IsFinal s) (ft : IsFinal t) where
   same_whole : (o : Outcome) → IsWhole o v x (Some script) marks r s a → IsWhole o w y (Some script) marks q t b
       → (s ≡ t) × (a ≡ b)
   same_whole (opened f u) h k =
       let first : World = record { session = start_of f u; store = h.2 } in
       let other : World = record { session = start_of f u; store = k.2 } in
-      let same = played_once first other h.3 k.3 script marks r q s t h.1 k.1 refl fs ft
+      let same = played_once law first other h.3 k.3 script marks r q s t h.1 k.1 refl fs ft
       (subst (λ z. IsPlayed first z marks r s h.3 h.1) (sym h.5) h.6)
       (subst (λ z. IsPlayed other z marks q t k.3 k.1) (sym k.5) k.6) in
       (same.0, h.8 ∙ (λ i. same.1 i ++ own_line (same.0 i)) ∙ sym k.8)
@@ -238,11 +193,13 @@ module _ (v w x y : Stored) (script : List ℕ) (marks : List Mark) (r q : Optio
   same_whole (store_fault f) h k = (h.1 ∙ sym k.1, h.2 ∙ sym k.2)
   same_whole no_memory h k = (h.1 ∙ sym k.1, h.2 ∙ sym k.2)
 
-pub one_run : (words : List (List ℕ)) (all : Files) (script : List ℕ) (marks : List Mark) (o p : Outcome)
+pub one_run : (law : OneView) (words : List (List ℕ)) (all : Files) (script : List ℕ) (marks : List Mark)
+    (o p : Outcome)
     (v w x y : Stored) (r q : Option (List ℕ)) (s t : Status) (a b : List ℕ) → IsFinal s → IsFinal t
     → ComesTo words (Some all) o → ComesTo words (Some all) p
     → IsWhole o v x (Some script) marks r s a → IsWhole p w y (Some script) marks q t b → (s ≡ t) × (a ≡ b)
-one_run words all script marks o p v w x y r q s t a b fs ft ho hp h k =
+one_run law words all script marks o p v w x y r q s t a b fs ft ho hp h k =
     let same = one_outcome words all p o hp ho (decided p w y (Some script) q marks t b ft k)
     (decided o v x (Some script) r marks s a fs h) in
-    same_whole v w x y script marks r q s t a b fs ft o h (subst (λ z. IsWhole z w y (Some script) marks q t b) same k)
+    same_whole law v w x y script marks r q s t a b fs ft o h
+    (subst (λ z. IsWhole z w y (Some script) marks q t b) same k)

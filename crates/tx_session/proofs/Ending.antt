@@ -12,7 +12,7 @@ use Rattle.std.proofs.lemmas.Grind.{common_steps, flat_map-append}
 use Rattle.tx_outside.proofs.Pieces.{append_known-then, prepend_known-then}
 use Rattle.tx_outside.specs.Known.{AppendsPart}
 use Rattle.tx_session.specs.declared.TheConstants.{MOST_SCRIPT}
-use Rattle.tx_session.specs.Lines.{line}
+use Rattle.tx_print.specs.Lines.{line}
 use Rattle.tx_session.specs.Replies.{IsLineReply}
 use Rattle.tx_session.specs.Worlds.{World, Mark}
 use Rattle.tx_session.specs.Scripts.{IsOneLine, HasLines, AreLinesOf, Answered, before_quit, command_line, is_quit}

@@ -9,6 +9,7 @@ use Rattle.tx_outside.specs.Files.{Files}
 use Rattle.tx_outside.specs.declared.file_store.TheConstants.{MOST_FILE}
 use Rattle.tx_tree.specs.Limits.{IsWellFormed, IsWithinLimits}
 use Rattle.tx_tree.specs.WideTree.{WideTree, leaf}
+use Rattle.tx_tree.specs.declared.places.Place.{Place}
 use Rattle.tx_tree.proofs.Scanning.{no_bytes}
 use Rattle.tx_scm.proofs.Spelled.{well_formed}
 use Rattle.tx_tm_form.proofs.Formed.{spelled_tree}
@@ -17,36 +18,52 @@ use Rattle.tx_mod.specs.declared.mods.Mod.{Mod}
 use Rattle.tx_mod.specs.declared.mods.Mod.TheVariants.{Assign, Insert, Remove, Split, Join, AssignNode, InsertNode}
 use Rattle.tx_mod.specs.declared.mods.Mod.TheVariants.{RemoveNode}
 use Rattle.tx_mod.specs.Changes.{Outcome as Changed, changed}
-use Rattle.tx_mod.specs.InTurn.{changed_in_turn}
+use Rattle.tx_mod.specs.InTurn.{changed_in_turn, AreSound}
+use Rattle.tx_mod.specs.Moves.{place}
 use Rattle.tx_mod.specs.Mods.{path_of}
 use Rattle.tx_mod.specs.Sound.{IsSound}
 use Rattle.tx_mod.proofs.InTurn.{can_be_undone}
 use Rattle.tx_doc.specs.declared.buffer.Buffer.{Buffer}
 use Rattle.tx_doc.specs.declared.forms.Form.{Form}
 use Rattle.tx_doc.specs.declared.forms.Form.TheVariants.{Tm, Scheme}
-use Rattle.tx_doc.specs.Buffers.{tree_of, with_tree, document_of, AreFormed}
+use Rattle.tx_doc.specs.Buffers.{tree_of, with_tree, document_of, number_of, AreFormed}
 use Rattle.tx_doc.specs.Forms.{form_of}
 use Rattle.tx_state.specs.States.{State, KeptEdit, present}
 use Rattle.tx_state.specs.Edits.{edited_to, with_outcome, back_to, on_to, cursor_after}
 use Rattle.tx_state.specs.declared.TheConstants.{MOST_UNDO}
 use Rattle.tx_state.specs.declared.edits.Edit.{Edit}
+use Rattle.tx_edit.specs.declared.faults.EditFault.{EditFault}
+use Rattle.tx_edit.specs.declared.moves.Move.{Move}
+use Rattle.tx_edit.specs.declared.moves.Move.TheVariants.{Edit as KeyEdit, Go as MoveTo}
+use Rattle.tx_edit.specs.Stops.{stop_number, to_left, to_right}
+use Rattle.tx_origin.specs.RelativePlaces.{BasedPlace}
+use Rattle.tx_view_form.specs.Views.{WideView}
+use Rattle.tx_view_form.specs.Positions.{position_in}
+use Rattle.tx_view_form.specs.Stops.{stops_of}
+use Rattle.tx_print.specs.Places.{no_cell}
 use Rattle.tx_cmd.specs.declared.command.Command.{Command}
-use Rattle.tx_cmd.specs.declared.command.Command.TheVariants.{Change, Undo, Redo, Go, Cursor, Show, Tree, Save, Quit}
+use Rattle.tx_cmd.specs.declared.command.Command.TheVariants.{Change, Undo, Redo, At, Go, Click, Left, Right, Typed}
+use Rattle.tx_cmd.specs.declared.command.Command.TheVariants.{Backspace, Enter, Show, Page, Errors, PlaceOf, Cursor}
+use Rattle.tx_cmd.specs.declared.command.Command.TheVariants.{Attrs, Tree, Save, Quit}
 use Rattle.tx_cmd.specs.Commands.{IsCommand}
 use Rattle.tx_session.specs.Causes.{numbered}
 use Rattle.tx_session.specs.Forms.{Saving, no_form, file_long, writes, fitting, saving, has_text_in, text_in, SpellsIn}
 use Rattle.tx_session.specs.Forms.{SpellsAloneIn}
-use Rattle.tx_session.specs.Lines.{line}
+use Rattle.tx_print.specs.Lines.{line}
 use Rattle.tx_session.specs.Outcomes.{opened, ComesTo}
 use Rattle.tx_session.specs.Replies.{Reading, nothing, too_long, unread, command, faulty, IsRead, IsReply, IsReplyTo}
 use Rattle.tx_session.specs.Replies.{IsRefusal, IsLineReply, IsDone}
 use Rattle.tx_session.specs.Runs.{start_of}
 use Rattle.tx_session.specs.Savings.{IsSavedAlone, IsNotSaved, StandsAmong}
 use Rattle.tx_session.specs.Scripts.{Answered, command_line}
-use Rattle.tx_session.specs.States.{IsAnswer, IsEditAnswer, IsStepAnswer, document_edit, save_reply, file_saved}
+use Rattle.tx_session.specs.States.{IsAnswer, IsEditAnswer, IsKeyAnswer, IsStepAnswer, IsChoice, IsClickAnswer}
+use Rattle.tx_session.specs.States.{IsAskedAnswer, IsViewAnswer, selected_edit, selected_tree, key_edit, by_typing}
+use Rattle.tx_session.specs.States.{by_backspace, by_enter, place_of, save_reply, file_saved}
 use Rattle.tx_session.specs.Worlds.{World, Stored, Stores, Mark, plain, lacking, unsaved}
 use Rattle.tx_session.proofs.Determined.{one_reading, was_read}
 use Rattle.tx_session.proofs.Saved.{saved_alone}
+use Rattle.tx_session.proofs.SoundKeys.{IsSoundKey, typed_sound, erased_sound, entered_sound, left_sound, right_sound}
+use Rattle.tx_session.proofs.SoundKeys.{typed_text}
 
 abbrev IsFormedTree : WideTree → Type 0
 IsFormedTree t = IsWellFormed t × IsWithinLimits t
@@ -104,21 +121,58 @@ sound_change text (AssignNode p l) h = h.1.1.3.2.0
 sound_change text (InsertNode p i t) h = well_formed h.1.1.3.3.0 t h.1.1.3.3.2.0
 sound_change text (RemoveNode p i) h = tt
 
-edit_formed : (text : List ℕ) (m : Mod) (s next : State) (reply : List ℕ) (o : Changed) → IsCommand text (Change m)
-    → IsFormed s
-    → changed_in_turn (m ∷ []) (document_of s.buffers) ≡ o
-    → IsEditAnswer s (with_outcome (document_edit m) s o) next reply → IsFormed next
-edit_formed text m s next reply (Err cause) h f e a = subst IsFormed (sym a.0) f
-edit_formed text m s next reply (Ok u) h f e a =
-    let before : IsFormedTree (document_of s.buffers) = tree_formed s.buffers 0 f.now in
-    let r = can_be_undone (m ∷ []) (document_of s.buffers) u (sound_change text m h, tt) before.0 before.1 e in
-    let kept : List KeptEdit = record { moment = present s; buffer = 0; mods = m ∷ [] } ∷ s.past in
-    let made : IsFormed (edited_to 0 (m ∷ []) u (cursor_after (document_edit m) s) s) = record {
-      now = put_formed s.buffers 0 u f.now (r.formed, r.within);
+edit_formed : (edit : Edit) (s next : State) (reply : List ℕ) (o : Changed) → AreSound edit.mods → IsFormed s
+    → changed_in_turn edit.mods (tree_of s.buffers edit.buffer) ≡ o
+    → IsEditAnswer s (with_outcome edit s o) next reply → IsFormed next
+edit_formed edit s next reply (Err cause) h f e a = subst IsFormed (sym a.0) f
+edit_formed edit s next reply (Ok u) h f e a =
+    let before : IsFormedTree (tree_of s.buffers edit.buffer) = tree_formed s.buffers edit.buffer f.now in
+    let r = can_be_undone edit.mods (tree_of s.buffers edit.buffer) u h before.0 before.1 e in
+    let kept : List KeptEdit = record { moment = present s; buffer = edit.buffer; mods = edit.mods } ∷ s.past in
+    let made : IsFormed (edited_to edit.buffer edit.mods u (cursor_after edit s) s) = record {
+      now = put_formed s.buffers edit.buffer u f.now (r.formed, r.within);
       past = first_kept MOST_UNDO kept (f.now, f.past);
       future = tt;
     } in
     subst IsFormed (sym a.0) made
+
+cursor_formed : (s next : State) (at : Place) → next ≡ record s { cursor = at } → IsFormed s → IsFormed next
+cursor_formed s next at e f = subst IsFormed (sym e) (record { now = f.now; past = f.past; future = f.future })
+
+key_formed : (made : Result Move EditFault) (s next : State) (reply : List ℕ) → IsSoundKey made → IsFormed s
+    → IsKeyAnswer s made next reply → IsFormed next
+key_formed (Ok (KeyEdit mods to)) s next reply h f a =
+    edit_formed (key_edit mods) s next reply (changed_in_turn mods (tree_of s.buffers 0)) h f refl a
+key_formed (Ok (MoveTo to)) s next reply h f a = cursor_formed s next to a.0 f
+key_formed (Err fault) s next reply h f a = subst IsFormed (sym a.1) f
+
+choice_formed : (s next : State) (o : Option ℕ) (reply : List ℕ) → IsFormed s → IsChoice s o next reply → IsFormed next
+choice_formed s next (Some k) reply f a =
+    subst IsFormed (sym a.0) (record { now = f.now; past = f.past; future = f.future })
+choice_formed s next None reply f a = subst IsFormed (sym a.0) f
+
+click_formed : (s next : State) (none : List ℕ) (o : Option BasedPlace) (reply : List ℕ) → IsFormed s
+    → IsClickAnswer s none o next reply → IsFormed next
+click_formed s next none (Some p) reply f a = cursor_formed s next (place_of p) a.0 f
+click_formed s next none None reply f a = subst IsFormed (sym a.0) f
+
+asked_formed : (width : ℕ) (v : WideView) (s next : State) (it : Command) (reply : List ℕ) → IsFormed s
+    → IsAskedAnswer width v s it next reply → IsFormed next
+asked_formed width v s next (Click r c) reply f a =
+    click_formed s next (no_cell v width) (position_in v.units width r c) reply f a
+asked_formed width v s next Left reply f a =
+    key_formed (to_left (stops_of v.units) s.cursor) s next reply
+    (left_sound (stops_of v.units) (stop_number (stops_of v.units) s.cursor)) f a
+asked_formed width v s next Right reply f a =
+    key_formed (to_right (stops_of v.units) s.cursor) s next reply
+    (right_sound (stops_of v.units) (stop_number (stops_of v.units) s.cursor)) f a
+asked_formed width v s next it reply f a = subst IsFormed (sym a.0) f
+
+viewed_formed : (width height : ℕ) (s next : State) (it : Command) (reply : List ℕ) → IsFormed s
+    → IsViewAnswer width height s it next reply → IsFormed next
+viewed_formed width height s next it reply f a = asked_formed width a.0 s next it reply f a.2
+
+-- ---- undo and redo
 
 undo_formed : (s next : State) (none reply : List ℕ) (past : List KeptEdit) → IsFormed s → AreFormedAt past
     → IsStepAnswer s none (back_to s past) next reply → IsFormed next
@@ -138,18 +192,37 @@ answer_formed : (text : List ℕ) (it : Command) (width height : ℕ) (s next : 
     → IsFormed s
     → IsAnswer width height s it next reply → IsFormed next
 answer_formed text (Change m) width height s next reply h f a =
-    edit_formed text m s next reply (changed_in_turn (m ∷ []) (document_of s.buffers)) h f refl a
+    edit_formed (selected_edit s m) s next reply (changed_in_turn (m ∷ []) (tree_of s.buffers s.selected))
+    (sound_change text m h, tt) f refl a
 answer_formed text Undo width height s next reply h f a = undo_formed s next (codes "no undo") reply s.past f f.past a
 answer_formed text Redo width height s next reply h f a =
     redo_formed s next (codes "no redo") reply s.future f f.future a
+answer_formed text (At name) width height s next reply h f a =
+    choice_formed s next (number_of s.buffers name) reply f a
 answer_formed text (Go numbers) width height s next reply h f (inl a) =
-    subst IsFormed (sym a.0.4) (record { now = f.now; past = f.past; future = f.future })
+    cursor_formed s next (place a.0.0 a.0.1) a.0.4 f
 answer_formed text (Go numbers) width height s next reply h f (inr a) = subst IsFormed (sym a.2) f
+answer_formed text (Typed words) width height s next reply h f a =
+    key_formed (by_typing s words) s next reply
+    (typed_sound words (document_of s.buffers) s.cursor (typed_text text words h)) f a
+answer_formed text Backspace width height s next reply h f a =
+    key_formed (by_backspace s) s next reply (erased_sound (document_of s.buffers) s.cursor) f a
+answer_formed text Enter width height s next reply h f a =
+    key_formed (by_enter s) s next reply (entered_sound (document_of s.buffers) s.cursor) f a
 answer_formed text Cursor width height s next reply h f a = subst IsFormed (sym a.0) f
-answer_formed text Show width height s next reply h f a = subst IsFormed (sym a.0) f
 answer_formed text Tree width height s next reply h f a = subst IsFormed (sym a.0) f
 answer_formed text (Save name) width height s next reply h f a = subst IsFormed (sym a.0) f
 answer_formed text Quit width height s next reply h f a = subst IsFormed (sym a.0) f
+answer_formed text (Click r c) width height s next reply h f a =
+    viewed_formed width height s next (Click r c) reply f a
+answer_formed text Left width height s next reply h f a = viewed_formed width height s next Left reply f a
+answer_formed text Right width height s next reply h f a = viewed_formed width height s next Right reply f a
+answer_formed text Show width height s next reply h f a = viewed_formed width height s next Show reply f a
+answer_formed text (Page n) width height s next reply h f a = viewed_formed width height s next (Page n) reply f a
+answer_formed text Errors width height s next reply h f a = viewed_formed width height s next Errors reply f a
+answer_formed text (PlaceOf r c) width height s next reply h f a =
+    viewed_formed width height s next (PlaceOf r c) reply f a
+answer_formed text (Attrs r) width height s next reply h f a = viewed_formed width height s next (Attrs r) reply f a
 
 abbrev IsFormedWorld : World → Type 0
 IsFormedWorld world = IsFormed world.session.state
@@ -237,14 +310,14 @@ saved_so name t before after reply (writes bytes) f e r s =
 save_line : (text name : List ℕ) (reading : Reading) (before next : World) (reply : List ℕ)
     → reading ≡ command (Save name) → IsFormedWorld before
     → IsReplyTo before reading plain next reply
-    → IsSavedAlone name (document_of before.session.state.buffers) before.store next.store reply
+    → IsSavedAlone name (selected_tree before.session.state) before.store next.store reply
     ⊎ IsNotSaved before.store next.store reply
 save_line text name reading before next reply e f a =
     let done : (command (Save name) ≡ command (Save name)) × IsReply before (Save name) plain next reply =
     (refl, (subst (λ r. IsReplyTo before r plain next reply) e a).1) in
-    let t : WideTree = document_of before.session.state.buffers in
+    let t : WideTree = selected_tree before.session.state in
     saved_so name t before.store next.store reply (saving (form_of name) t)
-    (tree_formed before.session.state.buffers 0 f.now).0 refl done.1.answer.1 done.1.stored
+    (tree_formed before.session.state.buffers before.session.state.selected f.now).0 refl done.1.answer.1 done.1.stored
 
 pub saves_alone : (words : List (List ℕ)) (files : Option Files) (file : List ℕ) (t : WideTree) (first : Stored)
     → ComesTo words files (opened file t)
@@ -252,7 +325,7 @@ pub saves_alone : (words : List (List ℕ)) (files : Option Files) (file : List 
     → Answered (record { session = start_of file t; store = first }) lines marks seen done
     → (one name reply : List ℕ) (next : World) → IsRead (command_line one) (command (Save name))
     → IsLineReply seen (command_line one) plain next reply
-    → IsSavedAlone name (document_of seen.session.state.buffers) seen.store next.store reply
+    → IsSavedAlone name (selected_tree seen.session.state) seen.store next.store reply
     ⊎ IsNotSaved seen.store next.store reply
 saves_alone words files file t first opens lines marks seen done a one name reply next c r =
     let spelled = opens.1 in

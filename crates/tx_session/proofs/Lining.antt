@@ -4,7 +4,7 @@ use Rattle.std.proofs.Common.{zero, suc, refl, ap, sym, subst, ◌∙◌, All, a
 use Rattle.std.specs.List.{flat_map}
 use Rattle.std.proofs.lemmas.List.Elements.{All-head, All-tail}
 use Rattle.tx_session.specs.declared.TheConstants.{MOST_SCRIPT}
-use Rattle.tx_session.specs.Lines.{line}
+use Rattle.tx_print.specs.Lines.{line}
 use Rattle.tx_session.specs.Worlds.{World, Mark}
 use Rattle.tx_session.specs.Scripts.{IsOneLine, HasLines, AreLinesOf, Answered, command_line, is_quit}
 use Rattle.tx_session.specs.Runs.{CanBeRead}

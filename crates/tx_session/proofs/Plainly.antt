@@ -1,44 +1,63 @@
 -- Replies that are no marks.
-use Rattle.std.proofs.Common.{◌≡◌, ◌≢◌, ◌||◌, Bool, true, false, ℕ, List, [], ◌∷◌, ◌++◌, length, take, Option, Some}
-use Rattle.std.proofs.Common.{None, Result, Ok, Err, refl, ap, sym, ◌∙◌, subst, inl, inr}
-use Rattle.std.specs.Prelude.{codes, OnOk, bytes_eq}
+use Rattle.std.proofs.Common.{◌≡◌, ◌≢◌, ◌≤◌, ◌+◌, ◌==◌, ◌||◌, if◌then◌else◌, Bool, true, false, ℕ, List, [], ◌∷◌, ◌++◌}
+use Rattle.std.proofs.Common.{length, take, Option, Some, None, Result, Ok, Err, refl, ap, sym, ◌∙◌, subst, inl, inr}
+use Rattle.std.proofs.Common.{arith}
+use Rattle.std.specs.Prelude.{codes, decimal, OnOk, bytes_eq, slice_get}
 use Rattle.std.specs.Io.KnownBytes.{append_known}
+use Rattle.std.specs.List.{flat_map}
 use Rattle.std.proofs.lemmas.List.{append_cancel_left}
 use Rattle.tx_outside.specs.Counts.{Rose}
 use Rattle.tx_outside.specs.declared.faults.WriteFault.{WriteFault}
 use Rattle.tx_tree.specs.PathSpelling.{place_text}
 use Rattle.tx_tree.specs.WideTree.{WideTree, leaf, node}
+use Rattle.tx_tree.specs.declared.faults.PlaceFault.{PlaceFault}
+use Rattle.tx_tree.specs.declared.faults.PlaceFault.TheVariants as places
 use Rattle.tx_scm.specs.Canonical.{scheme_text}
 use Rattle.tx_mod.specs.declared.faults.ModFault.{ModFault}
 use Rattle.tx_mod.specs.declared.faults.ModFault.TheVariants.{NoPath, NotString, NotNode, BadPlace, Differ, CutsSymbol}
 use Rattle.tx_mod.specs.declared.faults.ModFault.TheVariants.{TooLong, TooWide, TooDeep, TooBig}
-use Rattle.tx_tree.specs.declared.faults.PlaceFault.{PlaceFault}
-use Rattle.tx_tree.specs.declared.faults.PlaceFault.TheVariants as places
 use Rattle.tx_doc.specs.Forms.{form_of}
-use Rattle.tx_doc.specs.Buffers.{document_of}
+use Rattle.tx_doc.specs.Buffers.{number_of}
 use Rattle.tx_state.specs.States.{State}
 use Rattle.tx_state.specs.Edits.{edited, undone, redone}
+use Rattle.tx_edit.specs.declared.faults.EditFault.{EditFault}
+use Rattle.tx_edit.specs.declared.faults.EditFault.TheVariants as keys
+use Rattle.tx_edit.specs.declared.faults.EditFault.TheVariants.{NoText, AtStart, AtEnd, NotInParagraph}
+use Rattle.tx_edit.specs.declared.moves.Move.{Move}
+use Rattle.tx_edit.specs.declared.moves.Move.TheVariants.{Edit as KeyEdit, Go as MoveTo}
+use Rattle.tx_edit.specs.Stops.{to_left, to_right}
+use Rattle.tx_origin.specs.RelativePlaces.{BasedPlace}
+use Rattle.tx_lines.specs.declared.cut.Cut.{Cut}
+use Rattle.tx_layout.specs.declared.layout.Line.{Line}
+use Rattle.tx_view_form.specs.Views.{WideView, lines_of}
+use Rattle.tx_view_form.specs.Positions.{position_in, whole_path}
+use Rattle.tx_view_form.specs.Stops.{stops_of}
+use Rattle.tx_print.specs.Lines.{shown}
+use Rattle.tx_print.specs.Pages.{show_text, page_or, page_numbered}
+use Rattle.tx_print.specs.Errors.{errors_text}
+use Rattle.tx_print.specs.Places.{no_cell, place_or}
+use Rattle.tx_print.specs.Runs.{Run, run_text, runs_or, runs_from, looks_on}
 use Rattle.tx_cmd.specs.declared.command.Command.{Command}
-use Rattle.tx_cmd.specs.declared.command.Command.TheVariants.{Change, Undo, Redo, Go, Cursor, Show, Tree, Save, Quit}
+use Rattle.tx_cmd.specs.declared.command.Command.TheVariants.{Change, Undo, Redo, At, Go, Click, Left, Right, Typed}
+use Rattle.tx_cmd.specs.declared.command.Command.TheVariants.{Backspace, Enter, Show, Page, Errors, PlaceOf, Cursor}
+use Rattle.tx_cmd.specs.declared.command.Command.TheVariants.{Attrs, Tree, Save, Quit}
 use Rattle.tx_cmd.specs.declared.command.CmdFault.{CmdFault}
 use Rattle.tx_cmd.specs.declared.command.CmdFault.TheVariants.{Long, Unknown, Args, Path, Tree as BadTree, Memory}
 use Rattle.tx_session.specs.declared.session.Next.{Next}
-use Rattle.tx_session.specs.Causes.{cause_reply, astray_reply}
+use Rattle.tx_session.specs.Causes.{cause_reply, astray_reply, key_reply}
 use Rattle.tx_session.specs.Differences.{IsPlainReply}
 use Rattle.tx_session.specs.Forms.{Saving, no_form, file_long, writes, saving}
-use Rattle.tx_session.specs.Lines.{line}
-use Rattle.tx_session.specs.Paging.{show_text}
+use Rattle.tx_print.specs.Lines.{line}
 use Rattle.tx_session.specs.Replies.{wanting_reply, unsaved_reply, refusal, IsDone, IsReply}
-use Rattle.tx_session.specs.States.{document_edit, IsShown, IsAnswer, IsEditAnswer, IsStepAnswer, IsGoAnswer}
-use Rattle.tx_session.specs.States.{done_reply, save_reply}
+use Rattle.tx_session.specs.States.{selected_edit, selected_tree, key_edit, by_typing, by_backspace, by_enter, printed}
+use Rattle.tx_session.specs.States.{IsAnswer, IsEditAnswer, IsKeyAnswer, IsStepAnswer, IsChoice, IsGoAnswer}
+use Rattle.tx_session.specs.States.{IsClickAnswer, IsAskedAnswer, IsViewAnswer, done_reply, save_reply}
 use Rattle.tx_session.specs.Worlds.{World, Mark, plain, lacking, unsaved}
 use Rattle.tx_session.specs.Writing.{IsSaid}
 
--- the first five bytes are those of one of the two
+-- the first six bytes are those of one of the two
 abbrev begins_mark : List ℕ → Bool
-begins_mark reply =
-    bytes_eq (take 5 reply) (110 ∷ 111 ∷ 32 ∷ 109 ∷ 101 ∷ []) || bytes_eq (take 5 reply)
-    (110 ∷ 111 ∷ 32 ∷ 115 ∷ 116 ∷ [])
+begins_mark reply = bytes_eq (take 6 reply) (codes "no mem") || bytes_eq (take 6 reply) (codes "no sto")
 
 differ : false ≡ true → ⊥
 differ e = cc
@@ -79,16 +98,8 @@ plain_place : (path : List ℕ) (o : ℕ) → IsPlainReply (line (place_text pat
 plain_place [] o = begun (line (place_text [] o)) refl
 plain_place (n ∷ path) o = begun (line (place_text (n ∷ path) o)) refl
 
-plain_pages : (height : ℕ) (lines : List (List ℕ)) → IsPlainReply (show_text height lines)
-plain_pages height lines = begun (show_text height lines) refl
-
 kept : (a b : List ℕ) → a ≡ b → IsPlainReply b → IsPlainReply a
 kept a b e h = subst IsPlainReply (sym e) h
-
-plain_shown : (width height : ℕ) (t : WideTree) (reply : List ℕ) → IsShown width height t reply → IsPlainReply reply
-plain_shown width height t reply (inl h) = kept reply (show_text height h.lines) h.made (plain_pages height h.lines)
-plain_shown width height t reply (inr h) =
-    kept reply (line (codes "no shape")) h.1 (begun (line (codes "no shape")) refl)
 
 plain_edit : (state : State) (r : Result State ModFault) (next : State) (reply : List ℕ)
     → IsEditAnswer state r next reply → IsPlainReply reply
@@ -105,24 +116,142 @@ plain_go : (state : State) (numbers : List ℕ) (next : State) (reply : List ℕ
 plain_go state numbers next reply (inl h) = kept reply done_reply h.1 plain_ok
 plain_go state numbers next reply (inr h) = kept reply (astray_reply h.0) h.3 (plain_astray h.0)
 
+plain_key_cause : (fault : EditFault) → IsPlainReply (key_reply fault)
+plain_key_cause NoText = begun (key_reply NoText) refl
+plain_key_cause AtStart = begun (key_reply AtStart) refl
+plain_key_cause AtEnd = begun (key_reply AtEnd) refl
+plain_key_cause NotInParagraph = begun (key_reply NotInParagraph) refl
+plain_key_cause keys.Memory = begun (key_reply keys.Memory) refl
+
+plain_key : (state : State) (r : Result Move EditFault) (next : State) (reply : List ℕ)
+    → IsKeyAnswer state r next reply → IsPlainReply reply
+plain_key state (Ok (KeyEdit mods to)) next reply h = plain_edit state (edited (key_edit mods) state) next reply h
+plain_key state (Ok (MoveTo to)) next reply h = kept reply done_reply h.1 plain_ok
+plain_key state (Err fault) next reply h = kept reply (key_reply fault) h.2 (plain_key_cause fault)
+
+plain_choice : (state : State) (r : Option ℕ) (next : State) (reply : List ℕ) → IsChoice state r next reply
+    → IsPlainReply reply
+plain_choice state (Some number) next reply h = kept reply done_reply h.1 plain_ok
+plain_choice state None next reply h =
+    kept reply (line (codes "no buffer")) h.1 (begun (line (codes "no buffer")) refl)
+
+-- ---- what is printed of a view
+
+plain_no_cell : (v : WideView) (width : ℕ) → IsPlainReply (no_cell v width)
+plain_no_cell v width = begun (no_cell v width) refl
+
+plain_click : (v : WideView) (width : ℕ) (state : State) (r : Option BasedPlace) (next : State) (reply : List ℕ)
+    → IsClickAnswer state (no_cell v width) r next reply → IsPlainReply reply
+plain_click v width state (Some p) next reply h = kept reply done_reply h.1 plain_ok
+plain_click v width state None next reply h = kept reply (no_cell v width) h.1 (plain_no_cell v width)
+
+plain_page : (v : WideView) (n : ℕ) (cut : Option Cut) → IsPlainReply (page_or v n cut)
+plain_page v n (Some cut) = begun (page_or v n (Some cut)) refl
+plain_page v n None = begun (page_or v n None) refl
+
+plain_where : (v : WideView) (width : ℕ) (p : Option BasedPlace) → IsPlainReply (place_or (no_cell v width) p)
+plain_where v width (Some p) = plain_place (whole_path p) p.offset
+plain_where v width None = plain_no_cell v width
+
+-- how many spaces there are
+unfoldable spaces_in : List ℕ → ℕ
+spaces_in [] = 0
+spaces_in (b ∷ bytes) = (if b == 32 then 1 else 0) + spaces_in bytes
+
+spaces_both : (a b : List ℕ) → spaces_in (a ++ b) ≡ spaces_in a + spaces_in b
+unfolding spaces_in
+spaces_both [] b = omega arith
+spaces_both (x ∷ a) b = omega (arith, spaces_both a b)
+
+-- both marks have one space
+spaced : (reply : List ℕ) → 2 ≤ spaces_in reply → IsPlainReply reply
+unfolding spaces_in
+spaced reply some =
+    let memory : spaces_in wanting_reply ≡ 1 = refl in
+    let store : spaces_in unsaved_reply ≡ 1 = refl in (
+      λ e. absurd (omega (arith, some, memory, ap spaces_in e)),
+      λ e. absurd
+          (omega (arith, some, store, ap spaces_in e)),
+    )
+
+-- a text, two more behind spaces, and a last byte
+two_spaces : (a b c : List ℕ) (last : ℕ) (more : List ℕ) → 2 ≤ spaces_in (a ++ 32 ∷ b ++ 32 ∷ c ++ last ∷ [] ++ more)
+unfolding spaces_in
+two_spaces a b c last more = omega (
+  arith,
+  spaces_both (a ++ 32 ∷ b ++ 32 ∷ c ++ last ∷ []) more,
+  spaces_both (a ++ 32 ∷ b ++ 32 ∷ c) (last ∷ []),
+  spaces_both (a ++ 32 ∷ b) (32 ∷ c),
+  spaces_both a (32 ∷ b),
+)
+
+plain_run : (r : Run) (more : List ℕ) → 2 ≤ spaces_in (run_text r ++ more)
+plain_run r more =
+    two_spaces (decimal r.from ++ 32 ∷ decimal r.to ++ 32 ∷ shown r.look.series) (shown r.look.shape)
+    (shown r.look.color) 10 more
+
+plain_runs : (rs : List Run) → IsPlainReply (flat_map run_text rs)
+plain_runs [] = begun [] refl
+plain_runs (r ∷ rs) = spaced (flat_map run_text (r ∷ rs)) (plain_run r (flat_map run_text rs))
+
+plain_attrs : (v : WideView) (width : ℕ) (l : Option Line) → IsPlainReply (runs_or (no_cell v width) l)
+plain_attrs v width (Some l) = plain_runs (runs_from 0 (looks_on l))
+plain_attrs v width None = plain_no_cell v width
+
+plain_printed : (width : ℕ) (v : WideView) (it : Command) → IsPlainReply (printed width v it)
+plain_printed width v Show = begun (show_text v) refl
+plain_printed width v (Page n) = plain_page v n (page_numbered v.pages n)
+plain_printed width v Errors = begun (errors_text v) refl
+plain_printed width v (PlaceOf r c) = plain_where v width (position_in v.units width r c)
+plain_printed width v (Attrs r) = plain_attrs v width (slice_get (lines_of v.units) r)
+plain_printed width v it = begun [] refl
+
+plain_asked : (width : ℕ) (v : WideView) (state : State) (it : Command) (next : State) (reply : List ℕ)
+    → IsAskedAnswer width v state it next reply → IsPlainReply reply
+plain_asked width v state (Click r c) next reply h =
+    plain_click v width state (position_in v.units width r c) next reply h
+plain_asked width v state Left next reply h =
+    plain_key state (to_left (stops_of v.units) state.cursor) next reply h
+plain_asked width v state Right next reply h =
+    plain_key state (to_right (stops_of v.units) state.cursor) next reply h
+plain_asked width v state it next reply h = kept reply (printed width v it) h.1 (plain_printed width v it)
+
+plain_viewed : (width height : ℕ) (state : State) (it : Command) (next : State) (reply : List ℕ)
+    → IsViewAnswer width height state it next reply → IsPlainReply reply
+plain_viewed width height state it next reply h = plain_asked width h.0 state it next reply h.2
+
 plain_answer : (width height : ℕ) (state : State) (it : Command) (next : State) (reply : List ℕ)
     → IsAnswer width height state it next reply → IsPlainReply reply
-plain_answer width height state (Change m) next reply h = plain_edit state (edited (document_edit m) state) next reply h
+plain_answer width height state (Change m) next reply h =
+    plain_edit state (edited (selected_edit state m) state) next reply h
 plain_answer width height state Undo next reply h =
     plain_step state (codes "no undo") (undone state) next reply (begun (line (codes "no undo")) refl) h
 plain_answer width height state Redo next reply h =
     plain_step state (codes "no redo") (redone state) next reply (begun (line (codes "no redo")) refl) h
+plain_answer width height state (At name) next reply h =
+    plain_choice state (number_of state.buffers name) next reply h
 plain_answer width height state (Go numbers) next reply h = plain_go state numbers next reply h
+plain_answer width height state (Typed text) next reply h = plain_key state (by_typing state text) next reply h
+plain_answer width height state Backspace next reply h = plain_key state (by_backspace state) next reply h
+plain_answer width height state Enter next reply h = plain_key state (by_enter state) next reply h
 plain_answer width height state Cursor next reply h =
     kept reply (line (place_text state.cursor.path state.cursor.offset)) h.1
     (plain_place state.cursor.path state.cursor.offset)
-plain_answer width height state Show next reply h = plain_shown width height (document_of state.buffers) reply h.1
 plain_answer width height state Tree next reply h =
-    kept reply (line (scheme_text (document_of state.buffers))) h.1 (plain_tree (document_of state.buffers))
+    kept reply (line (scheme_text (selected_tree state))) h.1 (plain_tree (selected_tree state))
 plain_answer width height state (Save name) next reply h =
-    kept reply (save_reply (saving (form_of name) (document_of state.buffers))) h.1
-    (plain_save (saving (form_of name) (document_of state.buffers)))
+    kept reply (save_reply (saving (form_of name) (selected_tree state))) h.1
+    (plain_save (saving (form_of name) (selected_tree state)))
 plain_answer width height state Quit next reply h = kept reply [] h.1 (begun [] refl)
+plain_answer width height state (Click r c) next reply h = plain_viewed width height state (Click r c) next reply h
+plain_answer width height state Left next reply h = plain_viewed width height state Left next reply h
+plain_answer width height state Right next reply h = plain_viewed width height state Right next reply h
+plain_answer width height state Show next reply h = plain_viewed width height state Show next reply h
+plain_answer width height state (Page n) next reply h = plain_viewed width height state (Page n) next reply h
+plain_answer width height state Errors next reply h = plain_viewed width height state Errors next reply h
+plain_answer width height state (PlaceOf r c) next reply h =
+    plain_viewed width height state (PlaceOf r c) next reply h
+plain_answer width height state (Attrs r) next reply h = plain_viewed width height state (Attrs r) next reply h
 
 pub plain_done : (before after : World) (it : Command) (reply : List ℕ) → IsDone before it after reply
     → IsPlainReply reply

@@ -17,6 +17,7 @@ use Rattle.tx_session.specs.Runs.{IsFinal, IsPlayed, IsWhole, start_of}
 use Rattle.tx_session.specs.Scripts.{Answered, before_quit, command_line}
 use Rattle.tx_session.specs.States.{saved_by}
 use Rattle.tx_session.specs.Worlds.{World, Stored, Mark, plain, lacking, unsaved, Stores, unsaved_in}
+use Rattle.tx_session.proofs.Answering.{OneView}
 use Rattle.tx_session.proofs.Determined.{one_reading, was_read, one_line_reply, decided, one_run as one_text_run}
 use Rattle.tx_session.proofs.Single.{one_outcome}
 use Rattle.tx_session.proofs.Lining.{script_lines_once}
@@ -104,38 +105,38 @@ saves plain marks e = (λ f. cc, e)
 saves lacking marks e = (λ f. cc, e)
 saves unsaved marks e = absurd (omega (arith, e))
 
-pub answered_files : (v w s t : World) (lines : List (List ℕ)) (marks : List Mark) (a b : List ℕ) → unsaved_in marks ≡ 0
+pub answered_files : (law : OneView) (v w s t : World) (lines : List (List ℕ)) (marks : List Mark) (a b : List ℕ) → unsaved_in marks ≡ 0
     → v.session ≡ w.session → HoldSameFiles (files_of v) (files_of w)
     → Answered v lines marks s a → Answered w lines marks t b → HoldSameFiles (files_of s) (files_of t)
-answered_files v w s t [] [] a b u same hold h k =
+answered_files law v w s t [] [] a b u same hold h k =
     moved (files_of v) (files_of s) (files_of w) (files_of t) (ap files_of h.0) (ap files_of k.0) hold
-answered_files v w s t [] (m ∷ marks) a b u same hold h k = absurd h
-answered_files v w s t (l ∷ lines) [] a b u same hold h k = absurd h
-answered_files v w s t (l ∷ lines) (m ∷ marks) a b u same hold h k =
-    let one = one_line_reply v w same (command_line l) m h.0 k.0 h.1 k.1 h.3 k.3 in
+answered_files law v w s t [] (m ∷ marks) a b u same hold h k = absurd h
+answered_files law v w s t (l ∷ lines) [] a b u same hold h k = absurd h
+answered_files law v w s t (l ∷ lines) (m ∷ marks) a b u same hold h k =
+    let one = one_line_reply law v w same (command_line l) m h.0 k.0 h.1 k.1 h.3 k.3 in
     let kept = saves m marks u in
-    answered_files h.0 k.0 s t lines marks h.2 k.2 kept.1 one.0
+    answered_files law h.0 k.0 s t lines marks h.2 k.2 kept.1 one.0
     (line_files v w same hold (command_line l) m h.0 k.0 h.1 k.1 kept.0 h.3 k.3) h.4 k.4
 
-played_files : (v w x y : World) (script : List ℕ) (marks : List Mark) (r q : Option (List ℕ)) (s : Status)
+played_files : (law : OneView) (v w x y : World) (script : List ℕ) (marks : List Mark) (r q : Option (List ℕ)) (s : Status)
     (a b : List ℕ) → unsaved_in marks ≡ 0 → v.session ≡ w.session → HoldSameFiles (files_of v) (files_of w)
     → IsFinal s → IsPlayed v script marks r s x a → IsPlayed w script marks q s y b
     → HoldSameFiles (files_of x) (files_of y)
-played_files v w x y script marks r q statuses.Ok a b u e hold f h k =
-    answered_files v w x y (before_quit h.0) marks a b u e hold h.3
+played_files law v w x y script marks r q statuses.Ok a b u e hold f h k =
+    answered_files law v w x y (before_quit h.0) marks a b u e hold h.3
     (subst (λ ls. Answered w (before_quit ls) marks y b) (script_lines_once script k.0 h.0 k.1 h.1) k.3)
-played_files v w x y script marks r q statuses.ScriptLong a b u e hold f h k =
-    answered_files v w x y h.0 marks a b u e hold h.3
+played_files law v w x y script marks r q statuses.ScriptLong a b u e hold f h k =
+    answered_files law v w x y h.0 marks a b u e hold h.3
     (subst (λ ls. Answered w ls marks y b) (script_lines_once script k.0 h.0 k.1 h.1) k.3)
-played_files v w x y script marks r q statuses.InputFault a b u e hold f h k = absurd f
-played_files v w x y script marks r q statuses.NoMemory a b u e hold f h k = absurd f
-played_files v w x y script marks r q statuses.Words a b u e hold f h k = absurd h
-played_files v w x y script marks r q statuses.Missing a b u e hold f h k = absurd h
-played_files v w x y script marks r q statuses.Refused a b u e hold f h k = absurd h
-played_files v w x y script marks r q statuses.StoreFault a b u e hold f h k = absurd h
-played_files v w x y script marks r q statuses.OutputFault a b u e hold f h k = absurd h
+played_files law v w x y script marks r q statuses.InputFault a b u e hold f h k = absurd f
+played_files law v w x y script marks r q statuses.NoMemory a b u e hold f h k = absurd f
+played_files law v w x y script marks r q statuses.Words a b u e hold f h k = absurd h
+played_files law v w x y script marks r q statuses.Missing a b u e hold f h k = absurd h
+played_files law v w x y script marks r q statuses.Refused a b u e hold f h k = absurd h
+played_files law v w x y script marks r q statuses.StoreFault a b u e hold f h k = absurd h
+played_files law v w x y script marks r q statuses.OutputFault a b u e hold f h k = absurd h
 
-module _ (v w x y : Stored) (all : Files) (ev : v.files ≡ Some all) (ew : w.files ≡ Some all) (script : List ℕ)
+module _ (law : OneView) (v w x y : Stored) (all : Files) (ev : v.files ≡ Some all) (ew : w.files ≡ Some all) (script : List ℕ)
     (marks : List Mark) (r q : Option (List ℕ)) (s : Status) (a b : List ℕ) (final : IsFinal s) where
   unopened_files : (x.files ≡ v.files) → (y.files ≡ w.files) → HoldSameFiles x.files y.files
   unopened_files h k = both_tell x.files y.files all (h ∙ ev) (k ∙ ew)
@@ -146,7 +147,7 @@ module _ (v w x y : Stored) (all : Files) (ev : v.files ≡ Some all) (ew : w.fi
       let first : World = record { session = start_of f u; store = h.2 } in
       let other : World = record { session = start_of f u; store = k.2 } in
       let hold : HoldSameFiles h.3.store.files k.3.store.files =
-      played_files first other h.3 k.3 script marks r q s h.1 k.1 none refl
+      played_files law first other h.3 k.3 script marks r q s h.1 k.1 none refl
       (both_tell h.2.files k.2.files all (h.4.0 ∙ ev) (k.4.0 ∙ ew)) final
       (subst (λ z. IsPlayed first z marks r s h.3 h.1) (sym h.5) h.6)
       (subst (λ z. IsPlayed other z marks q s k.3 k.1) (sym k.5) k.6) in
@@ -159,17 +160,17 @@ module _ (v w x y : Stored) (all : Files) (ev : v.files ≡ Some all) (ew : w.fi
   whole_files (store_fault f) none h k = unopened_files h.4.0 k.4.0
   whole_files no_memory none h k = unopened_files h.4.0 k.4.0
 
-pub one_run : (words : List (List ℕ)) (all : Files) (script : List ℕ) (marks : List Mark) (o p : Outcome)
+pub one_run : (law : OneView) (words : List (List ℕ)) (all : Files) (script : List ℕ) (marks : List Mark) (o p : Outcome)
     (v w x y : Stored) (r q : Option (List ℕ)) (s t : Status) (a b : List ℕ) → IsFinal s → IsFinal t
     → v.files ≡ Some all → w.files ≡ Some all
     → ComesTo words (Some all) o → ComesTo words (Some all) p → IsWhole o v x (Some script) marks r s a
     → IsWhole p w y (Some script) marks q t b
     → (s ≡ t) × (a ≡ b) × (unsaved_in marks ≡ 0 → HoldSameFiles x.files y.files)
-one_run words all script marks o p v w x y r q s t a b fs ft ev ew ho hp h k =
-    let said = one_text_run words all script marks o p v w x y r q s t a b fs ft ho hp h k in
+one_run law words all script marks o p v w x y r q s t a b fs ft ev ew ho hp h k =
+    let said = one_text_run law words all script marks o p v w x y r q s t a b fs ft ho hp h k in
     let same = one_outcome words all p o hp ho (decided p w y (Some script) q marks t b ft k)
     (decided o v x (Some script) r marks s a fs h) in
     let other : IsWhole o w y (Some script) marks q s b =
     subst (λ z. IsWhole o w y (Some script) marks q z b) (sym said.0)
     (subst (λ z. IsWhole z w y (Some script) marks q t b) same k) in
-    (said.0, said.1, λ none. whole_files v w x y all ev ew script marks r q s a b fs o none h other)
+    (said.0, said.1, λ none. whole_files law v w x y all ev ew script marks r q s a b fs o none h other)

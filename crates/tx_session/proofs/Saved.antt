@@ -17,7 +17,7 @@ use Rattle.tx_session.specs.declared.replies.Reply.TheVariants.{Done, Fixed, Mad
 use Rattle.tx_session.specs.Causes.{numbered}
 use Rattle.tx_session.specs.Forms.{Saving, no_form, file_long, writes, fitting, saving, has_text_in, text_in}
 use Rattle.tx_session.specs.Forms.{SpellsAloneIn}
-use Rattle.tx_session.specs.Lines.{line}
+use Rattle.tx_print.specs.Lines.{line}
 use Rattle.tx_session.specs.Outcomes.{Outcome, opened, ComesTo, Asks, IsDecided}
 use Rattle.tx_session.specs.Saying.{text_of, Says}
 use Rattle.tx_session.specs.Saves.{IsSaveReply, IsKeepReply}

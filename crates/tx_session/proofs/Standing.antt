@@ -14,7 +14,7 @@ use Rattle.tx_session.specs.declared.session.Next.TheVariants as nexts
 use Rattle.tx_session.specs.declared.kept_line.KeptLine.{KeptLine}
 use Rattle.tx_session.specs.declared.script.Turn.{Turn}
 use Rattle.tx_session.specs.declared.script.Turn.TheVariants as turns
-use Rattle.tx_session.specs.Lines.{line}
+use Rattle.tx_print.specs.Lines.{line}
 use Rattle.tx_session.specs.Replies.{IsLineReply}
 use Rattle.tx_session.specs.Worlds.{World, Mark}
 use Rattle.tx_session.specs.Scripts.{IsOneLine, HasLines, Answered, command_line}

@@ -102,7 +102,7 @@ quit_done seen next it mark reply e r = done mark (subst (λ c. IsReply seen c m
     done : (mark : Mark) → IsReply seen Quit mark next reply → next ≡ seen
     done plain r =
         same_world next seen (same_seen next.session seen.session r.answer.0 r.width r.height r.fresh) r.stored
-    done lacking r = absurd r.0
+    done lacking r = let bad = r.0 in cc
     done unsaved r = let none = r.2 in absurd cc
 
 -- the session's step did the command

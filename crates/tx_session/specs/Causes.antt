@@ -1,11 +1,13 @@
--- Why an edit or a move of the cursor is refused, as it is printed.
-use Rattle.std.specs.Prelude.{ℕ, List, ◌++◌, codes, decimal}
+-- Why an edit, a key or a move of the cursor is refused, as it is printed.
+use Rattle.std.specs.Prelude.{ℕ, List, [], ◌++◌, codes, decimal}
 use Rattle.tx_tree.specs.declared.faults.PlaceFault.{PlaceFault}
 use Rattle.tx_tree.specs.declared.faults.PlaceFault.TheVariants as places
 use Rattle.tx_mod.specs.declared.faults.ModFault.{ModFault}
 use Rattle.tx_mod.specs.declared.faults.ModFault.TheVariants.{NoPath, NotString, NotNode, BadPlace, Differ}
 use Rattle.tx_mod.specs.declared.faults.ModFault.TheVariants.{CutsSymbol, TooLong, TooWide, TooDeep, TooBig}
-use Rattle.tx_session.specs.Lines.{line}
+use Rattle.tx_edit.specs.declared.faults.EditFault.{EditFault}
+use Rattle.tx_edit.specs.declared.faults.EditFault.TheVariants.{NoText, AtStart, AtEnd, NotInParagraph, Memory}
+use Rattle.tx_print.specs.Lines.{line}
 
 -- a line of words and a number
 abbrev pub numbered : List ℕ → ℕ → List ℕ
@@ -27,3 +29,11 @@ abbrev pub astray_reply : PlaceFault → List ℕ
 astray_reply (places.NoPath n) = numbered (codes "no path-end ") n
 astray_reply (places.BadPlace n) = numbered (codes "no bad-place ") n
 astray_reply (places.CutsSymbol n) = numbered (codes "no cuts-symbol ") n
+
+-- why a key does nothing, want of memory aside
+abbrev pub key_reply : EditFault → List ℕ
+key_reply NoText = line (codes "no text")
+key_reply AtStart = line (codes "no start")
+key_reply AtEnd = line (codes "no end")
+key_reply NotInParagraph = line (codes "no paragraph")
+key_reply Memory = []

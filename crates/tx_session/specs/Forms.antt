@@ -13,7 +13,7 @@ use Rattle.tx_tm_write.specs.Shapes.{is_block}
 use Rattle.tx_doc.specs.declared.forms.Form.{Form}
 use Rattle.tx_doc.specs.declared.forms.Form.TheVariants.{Tm, Scheme}
 use Rattle.tx_outside.specs.declared.file_store.TheConstants.{MOST_FILE}
-use Rattle.tx_session.specs.Lines.{line}
+use Rattle.tx_print.specs.Lines.{line}
 
 abbrev pub SpellsIn : Form → List ℕ → WideTree → Type 0
 SpellsIn Scheme bytes t = SpellsScheme bytes t

@@ -1,10 +1,6 @@
 pub mod Statuses
-pub mod Lines
 pub mod Forms
 pub mod FaultTexts
-pub mod Plain
-pub mod Layout
-pub mod Paging
 pub mod Causes
 pub mod States
 pub mod Worlds
@@ -13,13 +9,13 @@ pub mod Differences
 pub mod Costs
 pub mod Scripts
 pub mod Sessions
+pub mod Asking
 pub mod Saying
 pub mod Storing
 pub mod Saves
 pub mod Writing
 pub mod Keeping
 pub mod Slices
-pub mod Pieces
 pub mod Outcomes
 pub mod Openings
 pub mod Runs

@@ -9,7 +9,7 @@ use Rattle.tx_tree.specs.declared.faults.ReadFault.{ReadFault}
 use Rattle.tx_doc.specs.Forms.{form_of}
 use Rattle.tx_session.specs.declared.status.Status.{Status}
 use Rattle.tx_session.specs.declared.status.Status.TheVariants as statuses
-use Rattle.tx_session.specs.Lines.{line}
+use Rattle.tx_print.specs.Lines.{line}
 use Rattle.tx_words.specs.Names.{buffer_name}
 use Rattle.tx_session.specs.Forms.{SpellsIn, IsFaultIn}
 use Rattle.tx_session.specs.FaultTexts.{fault_text}

@@ -1,19 +1,25 @@
 -- Replies to commands and to lines, want of memory included.
-use Rattle.std.specs.Prelude.{◌≡◌, ◌≢◌, ◌<◌, ◌≤◌, ◌&&◌, is_err, is_none, length, ℕ}
-use Rattle.std.specs.Prelude.{Bool, Some, true, false, List, [], ◌++◌, codes, decimal}
+use Rattle.std.specs.Prelude.{◌≡◌, ◌≢◌, ◌<◌, ◌≤◌, ◌&&◌, ◌||◌, not, is_err, is_none, length, ℕ}
+use Rattle.std.specs.Prelude.{Bool, Some, Result, Ok, Err, true, false, List, [], ◌++◌, codes, decimal}
 use Rattle.tx_cmd.specs.declared.command.Command.{Command}
-use Rattle.tx_cmd.specs.declared.command.Command.TheVariants.{Change, Undo, Redo, Cursor, Show, Quit}
+use Rattle.tx_cmd.specs.declared.command.Command.TheVariants.{Change, Undo, Redo, At, Click, Left, Right, Typed}
+use Rattle.tx_cmd.specs.declared.command.Command.TheVariants.{Backspace, Enter, Show, Page, Errors, PlaceOf, Cursor}
+use Rattle.tx_cmd.specs.declared.command.Command.TheVariants.{Attrs, Quit}
 use Rattle.tx_cmd.specs.declared.command.CmdFault.{CmdFault}
 use Rattle.tx_cmd.specs.declared.command.CmdFault.TheVariants.{Long, Unknown, Args, Path, Tree as BadTree, Memory}
+use Rattle.tx_edit.specs.declared.faults.EditFault.{EditFault}
+use Rattle.tx_edit.specs.declared.moves.Move.{Move}
+use Rattle.tx_edit.specs.declared.moves.Move.TheVariants.{Edit, Go as MoveTo}
 use Rattle.tx_cmd.specs.declared.TheConstants.{MOST_LINE}
 use Rattle.tx_cmd.specs.Words.{first_word, TakesMemory}
 use Rattle.tx_cmd.specs.Commands.{IsCommand}
 use Rattle.tx_cmd.specs.Refusals.{IsCmdFault}
-use Rattle.tx_session.specs.Lines.{line}
+use Rattle.tx_print.specs.Lines.{line}
 use Rattle.tx_state.specs.States.{State}
 use Rattle.tx_state.specs.Edits.{edited, undone, redone}
 use Rattle.tx_session.specs.FaultTexts.{fault_text}
-use Rattle.tx_session.specs.States.{IsAnswer, document_edit, saved_by, unknown_reply}
+use Rattle.tx_session.specs.States.{IsAnswer, selected_edit, key_edit, by_typing, by_backspace, by_enter}
+use Rattle.tx_session.specs.States.{saved_by, unknown_reply}
 use Rattle.tx_session.specs.Worlds.{Seen, World, Mark, plain, lacking, unsaved, Stores, KeepsFiles, FailsToStore}
 
 -- the reply where memory ran out
@@ -24,24 +30,53 @@ wanting_reply = line (codes "no memory")
 abbrev pub unsaved_reply : List ℕ
 unsaved_reply = line (codes "no store")
 
+-- the command asks the view, which is made where it isn't that of the present buffers
+abbrev pub asks_view : Command → Bool
+asks_view Show = true
+asks_view (Page n) = true
+asks_view Errors = true
+asks_view (PlaceOf r c) = true
+asks_view (Attrs r) = true
+asks_view (Click r c) = true
+asks_view Left = true
+asks_view Right = true
+asks_view _ = false
+
+-- the command takes memory of its own, beside what making the view takes
+abbrev pub takes_memory : Command → Bool
+takes_memory Show = false
+takes_memory (Page n) = false
+takes_memory Errors = false
+takes_memory (PlaceOf r c) = false
+takes_memory (Attrs r) = false
+takes_memory (At name) = false
+takes_memory Cursor = false
+takes_memory Quit = false
+takes_memory _ = true
+
 -- where want of memory can be the answer to a command
 abbrev pub MayLack : Seen → Command → Type 0
-MayLack seen Show = seen.fresh ≡ false
-MayLack seen Cursor = ⊥
-MayLack seen Quit = ⊥
-MayLack seen _ = Unit {0}
+MayLack seen command = takes_memory command || (asks_view command && not seen.fresh) ≡ true
+
+-- a key does nothing, or its modifications are refused
+abbrev pub key_fails : State → Result Move EditFault → Bool
+key_fails state (Ok (Edit mods to)) = is_err (edited (key_edit mods) state)
+key_fails state (Ok (MoveTo to)) = true
+key_fails state (Err fault) = true
 
 -- the command is refused, or changes no buffer
 abbrev pub keeps_buffers : State → Command → Bool
-keeps_buffers state (Change m) = is_err (edited (document_edit m) state)
+keeps_buffers state (Change m) = is_err (edited (selected_edit state m) state)
+keeps_buffers state (Typed text) = key_fails state (by_typing state text)
+keeps_buffers state Backspace = key_fails state (by_backspace state)
+keeps_buffers state Enter = key_fails state (by_enter state)
 keeps_buffers state Undo = is_none (undone state)
 keeps_buffers state Redo = is_none (redone state)
 keeps_buffers state _ = true
 
--- `show` makes the pages where they aren't those of the present state
+-- a command that asks the view leaves it fresh, and one that changes no buffer as it was
 abbrev pub fresh_after : Seen → Command → Bool
-fresh_after seen Show = true
-fresh_after seen command = keeps_buffers seen.state command && seen.fresh
+fresh_after seen command = asks_view command || (keeps_buffers seen.state command && seen.fresh)
 
 -- the command is done
 pub record IsDone (before : World) (command : Command) (after : World) (reply : List ℕ) : Type 0 where

@@ -13,7 +13,7 @@ use Rattle.tx_session.specs.declared.TheConstants.{MOST_SCRIPT}
 use Rattle.tx_session.specs.declared.status.Status.{Status}
 use Rattle.tx_session.specs.declared.status.Status.TheVariants.{Ok, StoreFault, InputFault}
 use Rattle.tx_session.specs.declared.status.Status.TheVariants.{OutputFault, NoMemory, ScriptLong}
-use Rattle.tx_session.specs.Lines.{line}
+use Rattle.tx_print.specs.Lines.{line}
 use Rattle.tx_words.specs.Names.{buffer_name}
 use Rattle.tx_session.specs.Forms.{SpellsIn, SpellsNoTree}
 use Rattle.tx_session.specs.Outcomes.{Outcome, missing, too_long, store_fault, opened}

@@ -7,7 +7,7 @@ use Rattle.tx_tree.specs.WideTree.{WideTree}
 use Rattle.tx_doc.specs.Forms.{form_of}
 use Rattle.tx_session.specs.Causes.{numbered}
 use Rattle.tx_session.specs.Forms.{SpellsAloneIn}
-use Rattle.tx_session.specs.Lines.{line}
+use Rattle.tx_print.specs.Lines.{line}
 use Rattle.tx_session.specs.Replies.{IsLineReply}
 use Rattle.tx_session.specs.Scripts.{Answered, command_line}
 use Rattle.tx_session.specs.Worlds.{World, Stored, Mark}

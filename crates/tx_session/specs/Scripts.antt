@@ -4,7 +4,7 @@ use Rattle.std.specs.Prelude.{if◌then◌else◌, List, [], ◌∷◌, ◌++◌
 use Rattle.std.specs.List.{flat_map, before_first, ends_with}
 use Rattle.std.specs.Str.{bytes_eq}
 use Rattle.tx_session.specs.declared.TheConstants.{MOST_SCRIPT}
-use Rattle.tx_session.specs.Lines.{line}
+use Rattle.tx_print.specs.Lines.{line}
 use Rattle.tx_session.specs.Replies.{IsLineReply}
 use Rattle.tx_session.specs.Worlds.{World, Mark}
 

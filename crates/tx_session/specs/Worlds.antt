@@ -5,8 +5,9 @@ use Rattle.tx_outside.specs.Files.{Files, WithFile, OthersKept}
 use Rattle.tx_outside.specs.Known.{WhereKnown}
 use Rattle.tx_state.specs.States.{State}
 
--- What contracts see of a session: its state, the width and the height of its pages, and whether what it shows was made
--- since the state last changed. Showing that again takes no memory.
+-- What contracts see of a session: its state, the width and the height of its pages, and whether a command that asks
+-- the
+-- view was done since a buffer last changed. Asking it again then takes no memory.
 pub record Seen : Type 0 where
   pub state : State
   pub width : ℕ

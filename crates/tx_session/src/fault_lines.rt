@@ -1,7 +1,7 @@
 // Lines that say why bytes spell no tree.
 ghost use Rattle.std.specs.Prelude.{◌≡◌, ◌++◌, ◌∷◌, List, ℕ, decimal, IfOk};
 ghost use Rattle.tx_session.specs.FaultTexts.{fault_text, limit_word};
-ghost use Rattle.tx_session.specs.Lines.{line};
+ghost use Rattle.tx_print.specs.Lines.{line};
 
 use itoa::Buffer;
 use std::alloc::Global;

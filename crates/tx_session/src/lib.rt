@@ -10,14 +10,13 @@ mod fault_lines;
 mod kept_line;
 mod limits;
 mod opening;
-mod places;
+mod printing;
 mod replies;
 mod runs;
 mod saving;
 mod script;
 mod session;
 mod status;
-mod view;
 
 pub use limits::script_limit_law;
 pub use replies::replies_tell_marks;
@@ -25,7 +24,6 @@ pub use runs::{failures_counted, one_outcome, one_run, run};
 pub use saving::{saved_in_a_session, saved_opens_again, saved_spells_alone};
 pub use session::{Next, Session};
 pub use status::Status;
-pub use view::{one_showing, pages_hold_lines};
 
 /// The most bytes of a script: 2^24.
 pub const MOST_SCRIPT: usize = 16_777_216;

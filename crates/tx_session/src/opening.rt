@@ -6,7 +6,7 @@ ghost use Rattle.tx_outside.specs.Counts.{NeverFalls, Rose};
 ghost use Rattle.tx_session.specs.Outcomes.{asks_help, ComesTo, file_in, status_of, text_of, too_long, faulty_words};
 ghost use Rattle.tx_session.specs.Forms.{SpellsIn, IsFaultIn};
 ghost use Rattle.tx_tree.specs.Limits.{IsWithinLimits};
-ghost use Rattle.tx_session.specs.Lines.{line};
+ghost use Rattle.tx_print.specs.Lines.{line};
 ghost use Rattle.tx_session.specs.Openings.{outcome_of};
 
 use crate::fault_lines::line_of_fault;

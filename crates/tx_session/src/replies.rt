@@ -1,15 +1,16 @@
 // Replies, and how they are written.
-ghost use Rattle.std.specs.Prelude.{◌≡◌, ◌≢◌, ◌++◌, ◌⊎◌, ◌≤◌, ℕ, List, length, codes, decimal, IfOk, OnErr, Ok};
+ghost use Rattle.std.specs.Prelude.{◌≡◌, ◌≢◌, ◌++◌, ◌∷◌, ◌⊎◌, ◌≤◌, ℕ, List, length, codes, decimal, IfOk, OnErr, Ok};
 ghost use Rattle.tx_cmd.specs.declared.command.Command.{Command};
 ghost use Rattle.tx_outside.specs.Counts.{NeverFalls, Rose};
 ghost use Rattle.tx_outside.specs.Known.{StaysKnown};
-ghost use Rattle.tx_session.specs.Causes.{cause_reply, astray_reply, numbered};
+ghost use Rattle.tx_session.specs.Asking.{is_plain};
+ghost use Rattle.tx_session.specs.Causes.{cause_reply, astray_reply, key_reply, numbered};
 ghost use Rattle.tx_session.specs.FaultTexts.{fault_text};
-ghost use Rattle.tx_session.specs.Lines.{line};
+ghost use Rattle.tx_print.specs.Lines.{line};
 ghost use Rattle.tx_session.specs.Differences.{IsPlainReply};
 ghost use Rattle.tx_session.specs.Replies.{IsDone, refusal};
-ghost use Rattle.tx_session.specs.Saying.{Says, text_of};
-ghost use Rattle.tx_session.specs.Worlds.{World};
+ghost use Rattle.tx_session.specs.Saying.{Says, mark_of, text_of};
+ghost use Rattle.tx_session.specs.Worlds.{World, plain};
 ghost use Rattle.tx_session.specs.Writing.{IsSaid};
 
 use crate::fault_lines::line_of_fault;
@@ -17,6 +18,7 @@ use crate::session::Next;
 use std::alloc::Global;
 use tx_base::Memory;
 use tx_cmd::CmdFault;
+use tx_edit::EditFault;
 use tx_mod::ModFault;
 use tx_outside::{Sink, WriteFault, write_all};
 use tx_tree::{PlaceFault, ReadFault};
@@ -52,6 +54,16 @@ impl Reply {
             Reply::Unsaved => b"no store\n",
         }
     }
+
+    /// Whether the command was done or refused: memory didn't run out, and the store didn't fail.
+    pub(crate) fn is_plain(&self) -> bool
+        ensures { result ≡ is_plain (mark_of self.now) }
+    {
+        match self {
+            Reply::Done | Reply::Fixed(_) | Reply::Made(_) => true,
+            Reply::Wanting | Reply::Unsaved => false,
+        }
+    }
 }
 
 /// A line of words and a number.
@@ -61,6 +73,30 @@ pub(crate) fn numbered(alloc: Global, words: &str, number: u64) -> Reply
     match format!(in alloc; "{words}{number}\n") {
         Ok(text) => Reply::Made(text.into_bytes()),
         Err(_) => Reply::Wanting,
+    }
+}
+
+/// The reply where there is no such cell: how many rows the view has, and how many columns.
+pub(crate) fn no_cell(alloc: Global, rows: u32, width: u32) -> Reply
+    ensures { Says result (line (codes "no cell " ++ decimal rows ++ 32 ∷ decimal width)) }
+{
+    match format!(in alloc; "no cell {rows} {width}\n") {
+        Ok(text) => Reply::Made(text.into_bytes()),
+        Err(_) => Reply::Wanting,
+    }
+}
+
+/// The reply to a key that does nothing.
+pub(crate) fn idle(fault: EditFault) -> Reply
+    ensures named { fault ≢ EditFault.Memory → (text_of result ≡ key_reply fault) × (mark_of result ≡ plain) }
+    ensures wanting { fault ≡ EditFault.Memory → result ≡ Reply.Wanting }
+{
+    match fault {
+        EditFault::NoText => Reply::Fixed(b"no text\n"),
+        EditFault::AtStart => Reply::Fixed(b"no start\n"),
+        EditFault::AtEnd => Reply::Fixed(b"no end\n"),
+        EditFault::NotInParagraph => Reply::Fixed(b"no paragraph\n"),
+        EditFault::Memory => Reply::Wanting,
     }
 }
 

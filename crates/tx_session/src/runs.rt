@@ -28,6 +28,7 @@ use tx_base::{Memory, Steps};
 use tx_doc::{Buffer, Name};
 use tx_outside::{Sink, Source, Store, WriteFault, write_all};
 use tx_tree::Tree;
+use tx_view_form::one_view;
 use tx_words::buffer_name;
 
 // Writes the text, and answers the status unless the output failed.
@@ -212,7 +213,9 @@ pub fn one_run()
         → ComesTo words (Some all) p
         → IsWhole o v x (Some script) marks r s a → IsWhole p w y (Some script) marks q t b
         → (s ≡ t) × (a ≡ b) × (unsaved_in marks ≡ 0 → HoldSameFiles x.files y.files) }
-{}
+{
+    one_view();
+}
 
 /// A law: the store's count of faults rises by at least the number of lines that are marked so, or stands at its last
 /// value: over lines that are answered, and over a whole run.

@@ -2,17 +2,16 @@
 ghost use Rattle.std.specs.Prelude.{◌≡◌, ◌≢◌, ◌⊎◌, ◌∷◌, ◌++◌, ℕ, List, Option, true, length, IfOk, Some, None};
 ghost use Rattle.tx_outside.specs.Files.{Files, file_of};
 ghost use Rattle.tx_session.specs.Forms.{has_text_in, saving, text_in, SpellsAloneIn, writes};
-ghost use Rattle.tx_session.specs.Lines.{line};
+ghost use Rattle.tx_print.specs.Lines.{line};
 ghost use Rattle.tx_session.specs.Outcomes.{Outcome, opened, ComesTo, Asks, IsDecided};
 ghost use Rattle.tx_session.specs.Saves.{IsKeepReply, IsSaveReply};
-ghost use Rattle.tx_session.specs.States.{file_saved};
+ghost use Rattle.tx_session.specs.States.{file_saved, selected_tree};
 ghost use Rattle.tx_session.specs.Worlds.{World, Stored, Mark, plain, stored};
 ghost use Rattle.tx_session.specs.Savings.{IsSavedAlone, IsNotSaved, StandsAmong};
 ghost use Rattle.tx_session.specs.Scripts.{Answered, command_line};
 ghost use Rattle.tx_session.specs.Replies.{command, IsRead, IsLineReply};
 ghost use Rattle.tx_session.specs.Runs.{start_of};
 ghost use Rattle.tx_cmd.specs.declared.command.Command.{Command};
-ghost use Rattle.tx_doc.specs.Buffers.{document_of};
 ghost use Rattle.tx_session.specs.Storing.{GoesOn};
 ghost use Rattle.tx_tree.specs.WideTree.{WideTree};
 ghost use Rattle.tx_tree.specs.Limits.{IsWellFormed, IsWithinLimits};
@@ -134,6 +133,6 @@ pub fn saved_in_a_session()
         Answered (record { session = start_of file t; store = first }) lines marks seen done →
         (one name reply : List ℕ) (next : World) → IsRead (command_line one) (command (Command.Save name)) →
         IsLineReply seen (command_line one) plain next reply →
-        IsSavedAlone name (document_of seen.session.state.buffers) seen.store next.store reply
+        IsSavedAlone name (selected_tree seen.session.state) seen.store next.store reply
         ⊎ IsNotSaved seen.store next.store reply }
 {}

@@ -1,39 +1,47 @@
-// A session over one document.
-ghost use Rattle.std.specs.Prelude.{◌≡◌, ◌≢◌, ◌≤◌, ◌+◌, ◌↔◌, ℕ, List, [], ◌∷◌, ◌++◌, Bool, true};
-ghost use Rattle.std.specs.Prelude.{false, length, IfOk, IfErr, OnOk, OnErr, Ok, Some, None};
+// A session over a document and its styles.
+ghost use Rattle.std.specs.Prelude.{◌≡◌, ◌≢◌, ◌≤◌, ◌<◌, ◌+◌, ◌↔◌, ℕ, List, [], ◌∷◌, ◌++◌, Bool, true, All};
+ghost use Rattle.std.specs.Prelude.{false, length, IfOk, IfErr, OnOk, OnErr, Ok, Some, None, Result};
 ghost use Rattle.tx_outside.specs.Counts.{NeverFalls, Rose};
 ghost use Rattle.tx_outside.specs.Known.{StaysKnown};
 ghost use Rattle.tx_scm.specs.Canonical.{scheme_text};
-ghost use Rattle.tx_session.specs.Lines.{line};
-ghost use Rattle.tx_tree.specs.PathSpelling.{place_text};
+ghost use Rattle.tx_print.specs.Lines.{line};
 ghost use Rattle.tx_tree.specs.Places.{IsPlace};
 ghost use Rattle.tx_doc.specs.Buffers.{document_of, NamesDiffer, AreFormed};
 ghost use Rattle.tx_state.specs.States.{opening};
 ghost use Rattle.tx_state.specs.Ready.{cost_both_ways, first_cost};
 ghost use Rattle.tx_state.specs.Edits.{edited};
-ghost use Rattle.tx_session.specs.States.{IsShown, document_edit, saved_by};
-ghost use Rattle.tx_session.specs.Replies.{IsReply, unsaved_reply};
-ghost use Rattle.tx_session.specs.Costs.{most_steps};
+ghost use Rattle.tx_edit.specs.declared.faults.EditFault.{EditFault as KeyFault};
+ghost use Rattle.tx_edit.specs.declared.moves.Move.{Move as KeyMove};
+ghost use Rattle.tx_edit.specs.Stops.{to_left, to_right};
+ghost use Rattle.tx_view_form.specs.Views.{IsView};
+ghost use Rattle.tx_view_form.specs.Stops.{stops_of};
+ghost use Rattle.tx_session.specs.Asking.{IsChange, IsKeyChange, IsArrival, IsEdit, GoesIn, Makes, Prints, going};
+ghost use Rattle.tx_session.specs.States.{selected_edit, selected_tree, saved_by, by_typing, by_backspace, by_enter};
+ghost use Rattle.tx_session.specs.Replies.{IsReply, unsaved_reply, asks_view};
+ghost use Rattle.tx_session.specs.Costs.{most_steps, key_cost};
 ghost use Rattle.tx_session.specs.Worlds.{Mark, Stored, plain, world};
 ghost use Rattle.tx_session.specs.Storing.{GoesOn};
 ghost use Rattle.tx_session.specs.Saying.{mark_of, text_of};
 ghost use Rattle.tx_cmd.specs.declared.command.Command.{Command};
 ghost use Rattle.tx_session.specs.Writing.{IsSaid};
 
-use crate::places::place_line;
-use crate::replies::{NO_MEMORY, Reply, astray, refused, say};
+use crate::printing::print_view;
+use crate::replies::{NO_MEMORY, Reply, astray, idle, no_cell, refused, say};
 use crate::saving::save;
-use crate::view::show;
 use std::alloc::Global;
 use std::marker::Model;
 use std::sync::ledger::Ledger;
 use tx_base::{Memory, Steps};
 use tx_cmd::Command;
 use tx_doc::{Buffer, Name};
+use tx_edit::{EditFault, Move, backspace, enter, left, right, type_text};
 use tx_mod::{ApplyFault, Mod, ModList};
 use tx_outside::{Sink, Store, WriteFault};
-use tx_state::{Edit, EditorState, GoFault, UndoFault};
-use tx_tree::Path;
+use tx_print::print_cursor;
+use tx_state::{Edit, EditorState, GoFault, NoBuffer, UndoFault};
+use tx_tree::{Path, Place, Text, Tree};
+use tx_view::View;
+use tx_view_form::place_law;
 
 /// What a session does after a command.
 #[derive(Clone, Copy, Debug, PartialEq, Eq)]
@@ -44,24 +52,17 @@ pub enum Next {
     Quit,
 }
 
-// What `show` answers, as far as it was made since the document last changed.
-#[derive(Drop)]
-enum Shown {
-    Stale,
-    NoShape,
-    Pages(Vec<u8>),
-}
-
 /// A session over a document and its styles, on pages of one size.
 ///
-/// Contracts see its state, the size of its pages, and whether what it shows was made since its state last changed
-/// (`specs/Worlds.antt`).
+/// Contracts see its state, the size of its pages, and whether a command that asks the view was done since a buffer last
+/// changed (`specs/Worlds.antt`).
 #[derive(Drop)]
 pub struct Session {
     state: EditorState,
-    width: u32,
-    height: u32,
-    shown: Shown,
+    // the view of the state's buffers
+    view: View,
+    // a command that asks the view was done since a buffer last changed
+    asked: bool,
 }
 
 impl Model for Session {
@@ -69,25 +70,86 @@ impl Model for Session {
 
     ghost Value = { Seen };
 
-    ghost use Rattle.tx_session.specs.Sessions.{seen_code, is_fresh, IsSession};
+    ghost use Rattle.tx_session.specs.Sessions.{seen_code, seen_of, IsSession};
 
     ghost coded = { seen_code };
 
-    ghost view = { λ s. record { state = s.state; width = s.width; height = s.height; fresh = is_fresh s.shown } };
+    ghost view = { seen_of };
 
     ghost invariant = { IsSession };
 }
 
-// One modification of the document, which moves the cursor.
-fn document_edit(alloc: Global, m: &Mod) -> Result<Edit, Memory>
-    ensures { IfOk result (λ edit. edit ≡ document_edit m.now) }
+// One modification of the selected buffer.
+fn selected_edit(alloc: Global, state: &EditorState, m: &Mod) -> Result<Edit, Memory>
+    ensures edit { IfOk result (λ edit. edit ≡ selected_edit state.now m.now) }
+    ensures within { IfOk result (λ edit. edit.buffer < length state.now.buffers) }
 {
+    let _buffers = state.buffers();
+    let buffer = state.selected() as u32;
     let mods = vec![in alloc; m.copy(alloc)?]?;
     Ok(Edit {
-        buffer: 0,
+        buffer,
         mods: ModList::from(mods),
         cursor: None,
     })
+}
+
+// The session goes on behind what was printed.
+fn going(printed: Result<(), WriteFault>) -> Result<Next, WriteFault>
+    ensures { result ≡ going printed }
+{
+    match printed {
+        Ok(()) => Ok(Next::Go),
+        Err(fault) => Err(fault),
+    }
+}
+
+// Puts the cursor where a key leads it, unless it leads nowhere.
+fn arrive(state: &mut EditorState, made: Result<Move, EditFault>) -> Reply
+    requires { IfOk made (GoesIn (document_of state.old.buffers)) }
+    ensures { (outcome : Result KeyMove KeyFault) → Makes made outcome
+        → IsArrival outcome state.old (mark_of result) state.new (text_of result) }
+{
+    match made {
+        Ok(Move::Go(place)) => {
+            state.move_to(place);
+            Reply::Done
+        }
+        Ok(Move::Edit(_, _)) => unreachable!(),
+        Err(fault) => idle(fault),
+    }
+}
+
+// Puts the cursor at the stop before it, unless there is none.
+fn go_left(alloc: Global, state: &mut EditorState, view: &View) -> Reply
+    requires { IsView state.old.buffers view.now.width view.now.height view.now.shown }
+    ensures { IsArrival (to_left (stops_of view.now.shown.units) state.old.cursor) state.old (mark_of result)
+        state.new (text_of result) }
+{
+    place_law(state.buffers());
+    match view.stops(alloc) {
+        Ok(stops) => {
+            let made = left(alloc, &stops, state.cursor());
+            arrive(state, made)
+        }
+        Err(Memory) => Reply::Wanting,
+    }
+}
+
+// Puts the cursor at the stop behind it, unless there is none.
+fn go_right(alloc: Global, state: &mut EditorState, view: &View) -> Reply
+    requires { IsView state.old.buffers view.now.width view.now.height view.now.shown }
+    ensures { IsArrival (to_right (stops_of view.now.shown.units) state.old.cursor) state.old (mark_of result)
+        state.new (text_of result) }
+{
+    place_law(state.buffers());
+    match view.stops(alloc) {
+        Ok(stops) => {
+            let made = right(alloc, &stops, state.cursor());
+            arrive(state, made)
+        }
+        Err(Memory) => Reply::Wanting,
+    }
 }
 
 impl Session {
@@ -117,53 +179,32 @@ impl Session {
     {
         let state = EditorState::open(alloc, buffers)?;
         let _cursor = state.cursor();
-        let _buffers = state.buffers();
+        let view = View::new(alloc, state.buffers(), width, height)?;
         Ok(Session {
             state,
-            width,
-            height,
-            shown: Shown::Stale,
+            view,
+            asked: false,
         })
     }
 
-    // Makes what shows the document, where that was not made since it last changed.
-    fn refresh(&mut self, alloc: Global) -> Result<(), Memory>
-        ensures fresh { IfOk result (λ _. self.new ≡ record self.old { fresh = true }) }
-        ensures kept { IfErr result (λ _. (self.new ≡ self.old) × (self.old.fresh ≡ false)) }
+    // The tree of the selected buffer.
+    fn selected(&self) -> &Tree
+        ensures { result.now ≡ selected_tree self.now.state }
     {
-        if let Shown::Stale = self.shown {
-            let document = self.state.document();
-            self.shown = match show(alloc, document, self.width, self.height)? {
-                Some(text) => Shown::Pages(text),
-                None => Shown::NoShape,
-            };
-        }
-        Ok(())
-    }
-
-    // What shows the document.
-    fn shown(&self) -> &[u8]
-        requires { self.now.fresh ≡ true }
-        ensures { IsShown self.now.width self.now.height (document_of self.now.state.buffers) result.now }
-    {
-        match &self.shown {
-            Shown::Pages(text) => text,
-            Shown::NoShape => b"no shape\n",
-            Shown::Stale => unreachable!(),
-        }
+        &self.state.buffers()[self.state.selected()].tree
     }
 
     // The reply to `tree`.
     fn tree_text(&self, alloc: Global) -> Result<Vec<u8>, Memory>
-        ensures { IfOk result (λ text. text.items ≡ line (scheme_text (document_of self.now.state.buffers))) }
+        ensures { IfOk result (λ text. text.items ≡ line (scheme_text (selected_tree self.now.state))) }
     {
         let mut text = Vec::new(alloc);
-        tx_scm::write(self.state.document(), &mut text)?;
+        tx_scm::write(self.selected(), &mut text)?;
         text.push(b'\n')?;
         Ok(text)
     }
 
-    // Prints the document.
+    // Prints the selected buffer's tree.
     fn tree(&self, alloc: Global) -> Reply
         ensures { (store : Stored) → IsReply (record { session = self.now; store = store }) Command.Tree
             (mark_of result) (record { session = self.now; store = store }) (text_of result) }
@@ -174,20 +215,20 @@ impl Session {
         }
     }
 
-    // Changes the document.
-    fn change<L: Ledger>(&mut self, alloc: Global, m: &Mod, steps: &mut Steps<L>) -> Reply
-        ensures replied { (store : Stored) → IsReply (record { session = self.old; store = store })
-            (Command.Change m.now) (mark_of result) (record { session = self.new; store = store }) (text_of result) }
-        ensures counted { steps.new ≤ steps.old + cost_both_ways (m.now ∷ []) }
+    // Puts an edit in place, unless it is refused.
+    fn edit<L: Ledger>(&mut self, alloc: Global, edit: Edit, steps: &mut Steps<L>) -> Reply
+        requires buffer { edit.buffer < length self.old.state.buffers }
+        requires moving { edit.cursor ≡ None }
+        ensures changed { IsChange (edited edit self.old.state) self.old (mark_of result) self.new (text_of result) }
+        ensures counted { steps.new ≤ steps.old + cost_both_ways edit.mods }
     {
-        let _buffers = self.state.buffers();
-        let Ok(edit) = document_edit(alloc, m) else {
-            return Reply::Wanting;
-        };
         match self.state.prepare_edit(alloc, edit, steps) {
             Ok(prepared) => {
+                if let Err(Memory) = self.view.edited(prepared.buffer, &prepared.tree) {
+                    return Reply::Wanting;
+                }
+                self.asked = false;
                 let _former = self.state.finish_edit(prepared);
-                self.shown = Shown::Stale;
                 Reply::Done
             }
             Err(ApplyFault::Refused(cause)) => refused(alloc, cause),
@@ -195,16 +236,89 @@ impl Session {
         }
     }
 
+    // Changes the selected buffer.
+    fn change<L: Ledger>(&mut self, alloc: Global, m: &Mod, steps: &mut Steps<L>) -> Reply
+        ensures replied { (store : Stored) → IsReply (record { session = self.old; store = store })
+            (Command.Change m.now) (mark_of result) (record { session = self.new; store = store }) (text_of result) }
+        ensures counted { steps.new ≤ steps.old + cost_both_ways (m.now ∷ []) }
+    {
+        match selected_edit(alloc, &self.state, m) {
+            Ok(edit) => self.edit(alloc, edit, steps),
+            Err(Memory) => Reply::Wanting,
+        }
+    }
+
+    // Puts what a key made in place, unless it made nothing.
+    fn keyed<L: Ledger>(
+        &mut self,
+        alloc: Global,
+        made: Result<Move, EditFault>,
+        steps: &mut Steps<L>,
+    ) -> Reply
+        requires { IfOk made IsEdit }
+        ensures changed { (outcome : Result KeyMove KeyFault) → Makes made outcome
+            → IsKeyChange outcome self.old (mark_of result) self.new (text_of result) }
+        ensures counted { (outcome : Result KeyMove KeyFault) → Makes made outcome
+            → steps.new ≤ steps.old + key_cost outcome }
+    {
+        let _buffers = self.state.buffers();
+        match made {
+            Ok(Move::Edit(mods, _)) => {
+                let edit = Edit {
+                    buffer: 0,
+                    mods,
+                    cursor: None,
+                };
+                self.edit(alloc, edit, steps)
+            }
+            Ok(Move::Go(_)) => unreachable!(),
+            Err(fault) => idle(fault),
+        }
+    }
+
+    // Types a text.
+    fn typed<L: Ledger>(&mut self, alloc: Global, text: &Text, steps: &mut Steps<L>) -> Reply
+        ensures replied { (store : Stored) → IsReply (record { session = self.old; store = store })
+            (Command.Typed text.now) (mark_of result) (record { session = self.new; store = store }) (text_of result) }
+        ensures counted { steps.new ≤ steps.old + key_cost (by_typing self.old.state text.now) }
+    {
+        let made = type_text(alloc, self.state.document(), self.state.cursor(), text);
+        self.keyed(alloc, made, steps)
+    }
+
+    // Takes back what stands before the cursor.
+    fn backspace<L: Ledger>(&mut self, alloc: Global, steps: &mut Steps<L>) -> Reply
+        ensures replied { (store : Stored) → IsReply (record { session = self.old; store = store })
+            Command.Backspace (mark_of result) (record { session = self.new; store = store }) (text_of result) }
+        ensures counted { steps.new ≤ steps.old + key_cost (by_backspace self.old.state) }
+    {
+        let made = backspace(alloc, self.state.document(), self.state.cursor());
+        self.keyed(alloc, made, steps)
+    }
+
+    // Begins a paragraph at the cursor.
+    fn enter<L: Ledger>(&mut self, alloc: Global, steps: &mut Steps<L>) -> Reply
+        ensures replied { (store : Stored) → IsReply (record { session = self.old; store = store })
+            Command.Enter (mark_of result) (record { session = self.new; store = store }) (text_of result) }
+        ensures counted { steps.new ≤ steps.old + key_cost (by_enter self.old.state) }
+    {
+        let made = enter(alloc, self.state.document(), self.state.cursor());
+        self.keyed(alloc, made, steps)
+    }
+
     // Takes the last edit back.
     fn undo<L: Ledger>(&mut self, alloc: Global, steps: &mut Steps<L>) -> Reply
-        ensures replied { (store : Stored) → IsReply (record { session = self.old; store = store }) Command.Undo
-            (mark_of result) (record { session = self.new; store = store }) (text_of result) }
+        ensures replied { (store : Stored) → IsReply (record { session = self.old; store = store })
+            Command.Undo (mark_of result) (record { session = self.new; store = store }) (text_of result) }
         ensures counted { steps.new ≤ steps.old + first_cost self.old.state.past }
     {
         match self.state.prepare_undo(alloc, steps) {
             Ok(prepared) => {
+                if let Err(Memory) = self.view.edited(prepared.buffer, &prepared.tree) {
+                    return Reply::Wanting;
+                }
+                self.asked = false;
                 let _former = self.state.finish_undo(prepared);
-                self.shown = Shown::Stale;
                 Reply::Done
             }
             Err(UndoFault::Nothing) => Reply::Fixed(b"no undo\n"),
@@ -214,14 +328,17 @@ impl Session {
 
     // Makes the edit again that was taken back last.
     fn redo<L: Ledger>(&mut self, alloc: Global, steps: &mut Steps<L>) -> Reply
-        ensures replied { (store : Stored) → IsReply (record { session = self.old; store = store }) Command.Redo
-            (mark_of result) (record { session = self.new; store = store }) (text_of result) }
+        ensures replied { (store : Stored) → IsReply (record { session = self.old; store = store })
+            Command.Redo (mark_of result) (record { session = self.new; store = store }) (text_of result) }
         ensures counted { steps.new ≤ steps.old + first_cost self.old.state.future }
     {
         match self.state.prepare_redo(alloc, steps) {
             Ok(prepared) => {
+                if let Err(Memory) = self.view.edited(prepared.buffer, &prepared.tree) {
+                    return Reply::Wanting;
+                }
+                self.asked = false;
                 let _former = self.state.finish_redo(prepared);
-                self.shown = Shown::Stale;
                 Reply::Done
             }
             Err(UndoFault::Nothing) => Reply::Fixed(b"no redo\n"),
@@ -229,15 +346,102 @@ impl Session {
         }
     }
 
+    // Selects the buffer of a name.
+    fn choose(&mut self, name: &Name) -> Reply
+        ensures { (store : Stored) → IsReply (record { session = self.old; store = store })
+            (Command.At name.now) (mark_of result) (record { session = self.new; store = store }) (text_of result) }
+    {
+        match self.state.select(name.bytes()) {
+            Ok(()) => Reply::Done,
+            Err(NoBuffer) => Reply::Fixed(b"no buffer\n"),
+        }
+    }
+
     // Puts the cursor at a place.
     fn go(&mut self, alloc: Global, numbers: &Path) -> Reply
-        ensures { (store : Stored) → IsReply (record { session = self.old; store = store }) (Command.Go numbers.now)
-            (mark_of result) (record { session = self.new; store = store }) (text_of result) }
+        ensures { (store : Stored) → IsReply (record { session = self.old; store = store })
+            (Command.Go numbers.now) (mark_of result) (record { session = self.new; store = store }) (text_of result) }
     {
         match self.state.go(alloc, numbers) {
             Ok(()) => Reply::Done,
             Err(GoFault::Astray(cause)) => astray(alloc, cause),
             Err(GoFault::Memory) => Reply::Wanting,
+        }
+    }
+
+    // Puts the cursor at the place behind a cell.
+    fn click<L: Ledger>(&mut self, alloc: Global, r: u32, c: u32, steps: &mut Steps<L>) -> Reply
+        ensures { (store : Stored) → IsReply (record { session = self.old; store = store })
+            (Command.Click r c) (mark_of result) (record { session = self.new; store = store }) (text_of result) }
+    {
+        if let Err(Memory) = self.view.refresh(alloc, steps) {
+            return Reply::Wanting;
+        }
+        place_law(self.state.buffers());
+        let reply = match self.view.position(r, c) {
+            Some(spot) => match spot.place(alloc) {
+                Ok(place) => {
+                    self.state.move_to(place);
+                    Reply::Done
+                }
+                Err(Memory) => Reply::Wanting,
+            },
+            None => no_cell(alloc, self.view.rows(), self.view.width()),
+        };
+        self.asked = self.asked || reply.is_plain();
+        reply
+    }
+
+    // Puts the cursor at the stop before it.
+    fn left<L: Ledger>(&mut self, alloc: Global, steps: &mut Steps<L>) -> Reply
+        ensures { (store : Stored) → IsReply (record { session = self.old; store = store })
+            Command.Left (mark_of result) (record { session = self.new; store = store }) (text_of result) }
+    {
+        if let Err(Memory) = self.view.refresh(alloc, steps) {
+            return Reply::Wanting;
+        }
+        let reply = go_left(alloc, &mut self.state, &self.view);
+        self.asked |= reply.is_plain();
+        reply
+    }
+
+    // Puts the cursor at the stop behind it.
+    fn right<L: Ledger>(&mut self, alloc: Global, steps: &mut Steps<L>) -> Reply
+        ensures { (store : Stored) → IsReply (record { session = self.old; store = store })
+            Command.Right (mark_of result) (record { session = self.new; store = store }) (text_of result) }
+    {
+        if let Err(Memory) = self.view.refresh(alloc, steps) {
+            return Reply::Wanting;
+        }
+        let reply = go_right(alloc, &mut self.state, &self.view);
+        self.asked |= reply.is_plain();
+        reply
+    }
+
+    // Prints the view, which takes no memory where it is fresh.
+    fn print<O: Sink, L: Ledger>(
+        &mut self,
+        alloc: Global,
+        command: &Command,
+        out: &mut O,
+        steps: &mut Steps<L>,
+    ) -> Result<Next, WriteFault>
+        requires { Prints command.now }
+        ensures said { (mark : Mark) × (reply : List ℕ)
+            × ((store : Stored) → IsReply (record { session = self.old; store = store }) command.now mark
+            (record { session = self.new; store = store }) reply)
+            × IsSaid result reply (O.written out.old) (O.written out.new) }
+        ensures goes { result ≢ Ok Next.Quit }
+        ensures failed_rose { OnErr result (Rose (O.faults out.old) (O.faults out.new)) }
+        ensures faults_never_fall { NeverFalls (O.faults out.old) (O.faults out.new) }
+        ensures stays_known { StaysKnown (O.written out.old) (O.written out.new) }
+    {
+        match self.view.refresh(alloc, steps) {
+            Ok(()) => {
+                self.asked = true;
+                going(print_view(&self.view, command, out))
+            }
+            Err(Memory) => say(out, NO_MEMORY),
         }
     }
 
@@ -251,11 +455,10 @@ impl Session {
         ensures faults_never_fall { NeverFalls (O.faults out.old) (O.faults out.new) }
         ensures stays_known { StaysKnown (O.written out.old) (O.written out.new) }
     {
-        let _depth = self.state.document().depth();
-        say(out, place_line(self.state.cursor()).as_bytes())
+        going(print_cursor(self.state.cursor(), out))
     }
 
-    // Saves the document.
+    // Saves the selected buffer's tree.
     fn save<S: Store>(&self, alloc: Global, name: &Name, store: &mut S) -> Reply
         ensures saved { IsReply (world self.now (S.files store.old) (S.faults store.old)) (Command.Save name.now)
             (mark_of result) (world self.now (S.files store.new) (S.faults store.new)) (text_of result) }
@@ -263,7 +466,7 @@ impl Session {
             (S.misses store.old) (S.misses store.new) (S.longs store.old) (S.longs store.new) }
         ensures store_untouched { saved_by self.now.state (Command.Save name.now) ≡ None → store.new ≡ store.old }
     {
-        save(alloc, self.state.document(), name.bytes(), store)
+        save(alloc, self.selected(), name.bytes(), store)
     }
 
     // Does a command, and writes its reply.
@@ -283,7 +486,7 @@ impl Session {
         ensures quit_writes_nothing { command.now ≡ Command.Quit → out.new ≡ out.old }
         ensures failed_rose { OnErr result (Rose (O.faults out.old) (O.faults out.new)) }
         ensures store_untouched { saved_by self.old.state command.now ≡ None → store.new ≡ store.old }
-        ensures counted { steps.new ≤ steps.old + most_steps self.old.state command.now }
+        ensures counted { asks_view command.now ≡ false → steps.new ≤ steps.old + most_steps self.old.state command.now }
         ensures store_goes_on { GoesOn (S.files store.old) (S.files store.new) (S.faults store.old) (S.faults store.new)
             (S.misses store.old) (S.misses store.new) (S.longs store.old) (S.longs store.new) }
         ensures faults_never_fall { NeverFalls (O.faults out.old) (O.faults out.new) }
@@ -292,15 +495,23 @@ impl Session {
         match command {
             Command::Quit => Ok(Next::Quit),
             Command::Cursor => self.say_cursor(out),
-            Command::Show => match self.refresh(alloc) {
-                Ok(()) => say(out, self.shown()),
-                Err(Memory) => say(out, NO_MEMORY),
-            },
+            Command::Show
+            | Command::Page(_)
+            | Command::Errors
+            | Command::PlaceOf(_, _)
+            | Command::Attrs(_) => self.print(alloc, command, out, steps),
             Command::Tree => say(out, self.tree(alloc).text()),
             Command::Change(m) => say(out, self.change(alloc, m, steps).text()),
             Command::Undo => say(out, self.undo(alloc, steps).text()),
             Command::Redo => say(out, self.redo(alloc, steps).text()),
+            Command::At(name) => say(out, self.choose(name).text()),
             Command::Go(numbers) => say(out, self.go(alloc, numbers).text()),
+            Command::Click(r, c) => say(out, self.click(alloc, *r, *c, steps).text()),
+            Command::Left => say(out, self.left(alloc, steps).text()),
+            Command::Right => say(out, self.right(alloc, steps).text()),
+            Command::Typed(text) => say(out, self.typed(alloc, text, steps).text()),
+            Command::Backspace => say(out, self.backspace(alloc, steps).text()),
+            Command::Enter => say(out, self.enter(alloc, steps).text()),
             Command::Save(name) => say(out, self.save(alloc, name, store).text()),
         }
     }
@@ -310,8 +521,8 @@ impl Session {
     /// nothing is known of that file.
     ///
     /// After a fault of the output a part of the reply is written, and the state is the one that the command leads to.
-    /// `quit` writes nothing, and is the one command that is answered with `Quit`. `cursor`, and `show` where the pages
-    /// were made since the document last changed, take no memory.
+    /// `quit` writes nothing, and is the one command that is answered with `Quit`. `cursor` and `at` take no memory, nor
+    /// do `show`, `page`, `errors`, `where` and `attrs` where the view was asked since a buffer last changed.
     pub fn step<S: Store, O: Sink, L: Ledger>(
         &mut self,
         alloc: Global,
@@ -337,7 +548,7 @@ impl Session {
 
         // What stays, and what never falls.
         ensures store_untouched { saved_by self.old.state command.now ≡ None → store.new ≡ store.old }
-        ensures counted { steps.new ≤ steps.old + most_steps self.old.state command.now }
+        ensures counted { asks_view command.now ≡ false → steps.new ≤ steps.old + most_steps self.old.state command.now }
         ensures store_goes_on { GoesOn (S.files store.old) (S.files store.new) (S.faults store.old) (S.faults store.new)
             (S.misses store.old) (S.misses store.new) (S.longs store.old) (S.longs store.new) }
         ensures faults_never_fall { NeverFalls (O.faults out.old) (O.faults out.new) }

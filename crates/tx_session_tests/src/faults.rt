@@ -162,7 +162,7 @@ fn first_wrong_cut<L: Ledger>(
     Ok(None)
 }
 
-const WHOLE: &[u8] = b"(f)\nno shape\nno unknown\ninput\n";
+const WHOLE: &[u8] = b"(f)\npages 1 rows 1\npage 1\n<f>\nno unknown\ninput\n";
 
 // Whether what is written, where this call of the output fails, is a part of the whole, from its start on; it is cut
 // where the call is one of the first four.

@@ -11,13 +11,72 @@ use tx_session::Status;
 
 const LINES: &[(&str, &str, &str)] = &[
     ("(document  \"hello\" )", "tree", "(document \"hello\")\n"),
-    ("(f \"a\")", "show\ntree", "no shape\n(f \"a\")\n"),
+    (
+        "(f \"a\")",
+        "show\ntree",
+        "pages 1 rows 1\npage 1\n<f|a>\n(f \"a\")\n",
+    ),
     (
         "(document \"a\" \"\")",
         "show\n",
         "pages 1 rows 2\npage 1\na\n\n",
     ),
     ("(document)", "show\n", "pages 0 rows 0\n"),
+    (
+        "(document (concat (with \"x\" \"1\" (assign \"x\" \"2\")) (provides \"x\")))",
+        "show",
+        "pages 1 rows 1\npage 1\nfalse\n",
+    ),
+    (
+        "(document \"x\" (g))",
+        "show\nerrors\ninsert / 0 (tuple (assign \"g\" (macro \"G\")))\npage 1\nerrors",
+        "pages 1 rows 2\npage 1\nx\n<g>\nerrors 1\n/1 undefined-tag g\nok\npage 1\n\nx\nG\nerrors 0\n",
+    ),
+    (
+        "(document (assign \"f\" (macro \"x\" (concat \"[\" (arg \"x\") \"]\"))) (f \"abcde\"))",
+        "where 1 4\nwhere 1 6\nwhere 1 0\nwhere 0 0\nwhere 1 80",
+        "/1/0/3\n/1/0/5\n/1/0/0\n/0/0\nno cell 2 80\n",
+    ),
+    (
+        "(document \"abc\" \"d\")",
+        "cursor\nleft\nright\ncursor\ntype \"<alpha>\"\ncursor\nbackspace\ncursor\nenter\ncursor\ntree",
+        "/0/0\nno start\nok\n/0/1\nok\n/0/8\nok\n/0/1\nok\n/1/0\n(document \"a\" \"bc\" \"d\")\n",
+    ),
+    (
+        "(document \"a\" \"bc\" \"d\")",
+        "go /1/0\nbackspace\ncursor\ntree\nundo\ntree\ngo /2/1\nright",
+        "ok\nok\n/0/1\n(document \"abc\" \"d\")\nok\n(document \"a\" \"bc\" \"d\")\nok\nno end\n",
+    ),
+    (
+        "(document \"a\" \"b\")",
+        "go /0/1\ntype \" \"\nright\ncursor",
+        "ok\nok\nok\n/1/0\n",
+    ),
+    (
+        "(document (assign \"f\" (macro \"x\" (concat (arg \"x\") (arg \"x\")))) (f \"a\") \"b\")",
+        "go /1/0/1\nright\ncursor",
+        "ok\nok\n/2/0\n",
+    ),
+    (
+        "(document (quote (with \"a\" \"b\")))",
+        "errors\ntype (f)\nenter",
+        "errors 1\n/0 bad with\nno args 5\nno paragraph\n",
+    ),
+    (
+        "(document (style \"article\") (body (document \"a\")))",
+        "errors",
+        "errors 1\n- undefined-style article\n",
+    ),
+    (
+        "(document (concat \"an \" (em \"important\") \" note\"))",
+        "attrs 0\nattrs 1",
+        "0 3 medium right black\n3 12 medium italic black\n12 17 medium right black\nno cell 1 80\n",
+    ),
+    (
+        "(document \"ab\")",
+        "click 0 1\ncursor\nclick 1 0\npage 0\npage 2\nat nobody\nclick 0 80\ncursor",
+        "ok\n/0/1\nno cell 1 80\nno page 1\nno page 1\nno buffer\nno cell 1 80\n/0/1\n",
+    ),
     ("(f)", "", ""),
     ("(f)", "tree\n", "(f)\n"),
     ("(f)", "tree\ntree", "(f)\n(f)\n"),

@@ -114,8 +114,18 @@ const ANSWERED: &[Answered<'static>] = &[
         Next::Go,
         "pages 1 rows 1\npage 1\na\n(document \"a\")\npages 1 rows 1\npage 1\na\n",
     ),
-    ("(f)", "show|show", Next::Go, "no shape\nno shape\n"),
-    ("(f)", "tree|show", Next::Go, "(f)\nno shape\n"),
+    (
+        "(f)",
+        "show|show",
+        Next::Go,
+        "pages 1 rows 1\npage 1\n<f>\npages 1 rows 1\npage 1\n<f>\n",
+    ),
+    (
+        "(f)",
+        "tree|show",
+        Next::Go,
+        "(f)\npages 1 rows 1\npage 1\n<f>\n",
+    ),
     ("(f)", "quit", Next::Quit, ""),
     ("(f)", "tree|quit", Next::Quit, "(f)\n"),
 ];
@@ -166,14 +176,30 @@ const PAGES: &[(&str, &str)] = &[
         "pages 1 rows 2\npage 1\nabcd\ne\n",
     ),
     ("(document \" ~!\\\"(\")", "pages 1 rows 1\npage 1\n~!\"(\n"),
-    ("(f \"a\")", "no shape\n"),
-    ("(documents \"a\")", "no shape\n"),
-    ("(document \"a\" \"b<alpha>\")", "no shape\n"),
-    ("(document \"a\x7f\")", "no shape\n"),
-    ("(document \"a\x1f\" \"b\")", "no shape\n"),
-    ("(document \"caf\u{e9}\")", "no shape\n"),
-    ("\"document\"", "no shape\n"),
-    ("(document (document \"a\"))", "no shape\n"),
+    ("(f \"a\")", "pages 1 rows 1\npage 1\n<f|a>\n"),
+    (
+        "(documents \"a\")",
+        "pages 1 rows 1\npage 1\n<documents|a>\n",
+    ),
+    (
+        "(document \"a\" \"b<alpha>\")",
+        "pages 1 rows 2\npage 1\na\nb\u{3b1}\n",
+    ),
+    (
+        "(document \"a\x7f\")",
+        "pages 1 rows 1\npage 1\na\u{2010}\n",
+    ),
+    (
+        "(document \"a\x1f\" \"b\")",
+        "pages 1 rows 2\npage 1\na\u{fb04}\nb\n",
+    ),
+    // two bytes of UTF-8 are two letters
+    (
+        "(document \"caf\u{e9}\")",
+        "pages 1 rows 1\npage 1\ncaf\u{c3}\u{13e}\n",
+    ),
+    ("\"document\"", "pages 1 rows 1\npage 1\ndocument\n"),
+    ("(document (document \"a\"))", "pages 1 rows 1\npage 1\na\n"),
 ];
 
 fn answers<L: Ledger>(
@@ -243,10 +269,10 @@ fn long_document(alloc: Global, count: usize) -> Result<Vec<u8>, AllocError> {
     Ok(bytes)
 }
 
-// The longest text that is plain, of whose pages there is room for the start, and one letter more.
+// The longest text that is evaluated, of whose pages there is room for the start, and one letter more.
 const LONG: &[(usize, &str)] = &[
     (999_999, "pages 10000 rows 50000\npage 1\naaaaaaaaaaaaaa"),
-    (1_000_000, "no shape\n"),
+    (1_000_000, "pages 1 rows 1\npage 1\n<!over>\n"),
 ];
 
 fn first_wrong_long<L: Ledger>(

@@ -1,0 +1,4 @@
+pub mod Adding
+pub mod Ranges
+pub mod Running
+pub mod Wording

@@ -1,0 +1,5 @@
+use Rattle.tx_print.proofs.Adding.{printed}
+use Rattle.tx_print.proofs.places.print_cursor.Goals as goal
+
+pub returns : goal.returns
+returns g c = printed c.new-printer.ensures.waiting c.new-printer.ensures.failed c.push_place.ensures c.finish.ensures

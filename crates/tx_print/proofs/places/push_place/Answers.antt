@@ -1,0 +1,7 @@
+use Rattle.tx_print.proofs.Adding.{adds_then, adds_also}
+use Rattle.tx_print.proofs.Wording.{place_words}
+use Rattle.tx_print.proofs.places.push_place.Goals as goal
+
+pub returns : goal.returns
+returns g c =
+    adds_also (place_words c.args.place.now.path c.args.place.now.offset) (adds_then c.push_steps.ensures c.push_offset.ensures)

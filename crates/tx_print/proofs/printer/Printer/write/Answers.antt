@@ -1,0 +1,23 @@
+use Rattle.std.proofs.Common.{List, ℕ, refl, sym, ap, subst, ◌∙◌, ◌++◌}
+use Rattle.std.specs.Io.KnownBytes.{append_known}
+use Rattle.tx_outside.specs.Known.{AppendsPart}
+use Rattle.tx_print.proofs.Adding.{adds_broken, adds_written}
+use Rattle.tx_print.proofs.printer.Printer.write.Goals as goal
+
+pub returns-in-Ok : goal.returns-in-Ok
+returns-in-Ok g c =
+    let none = c.requires c.if-self.false in
+    let before = g.O.Sink.written c.args.out.now in
+    let is = c.in-Ok.ensures.written ∙ ap (λ t. append_known before (t ++ c.args.piece.now)) (sym none) in
+    adds_written _ _ _ _ _ c.if-self.false c.if-self.false none is
+    c.write_all.ensures.faults_never_fall c.write_all.ensures.stays_known
+
+pub returns-in-Err-Failed : goal.returns-in-Err-Failed
+returns-in-Err-Failed g c =
+    let none = c.requires c.if-self.false in
+    let before = g.O.Sink.written c.args.out.now in
+    let after = g.O.Sink.written c.write_all.new.out in
+    let part = subst (λ (t : List ℕ). AppendsPart (t ++ c.args.piece.now) before after) (sym none)
+    c.in-Err-Failed.ensures.failed_part in
+    adds_broken _ _ _ _ _ c.if-self.false refl part c.in-Err-Failed.ensures.failed_rose
+    c.write_all.ensures.faults_never_fall c.write_all.ensures.stays_known

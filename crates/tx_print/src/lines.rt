@@ -1,0 +1,36 @@
+// The lines of pages as they are printed.
+ghost use Rattle.tx_print.specs.Lines.{line_text, printed};
+ghost use Rattle.tx_print.specs.Printers.{Adds};
+
+use crate::pieces::push_spaces;
+use crate::printer::Printer;
+use tx_items::Item;
+use tx_layout::Line;
+use tx_outside::Sink;
+
+// Prints an item.
+fn push_item<O: Sink>(printer: &mut Printer, item: &Item, out: &mut O)
+    ensures { Adds (printed item.now) printer.old (O.written out.old) (O.faults out.old)
+        printer.new (O.written out.new) (O.faults out.new) }
+{
+    match item {
+        Item::Glyph(drawn) => printer.push(drawn.cluster.glyphs.bytes(), out),
+        Item::Space(drawn) => printer.push(drawn.cluster.glyphs.bytes(), out),
+        Item::Gap(cells) => push_spaces(printer, *cells, out),
+        Item::Break => {}
+        Item::PageEnd => {}
+        Item::Down(_) => {}
+    }
+}
+
+/// Prints a line.
+pub(crate) fn push_line<O: Sink>(printer: &mut Printer, line: &Line, out: &mut O)
+    ensures { Adds (line_text line.now) printer.old (O.written out.old) (O.faults out.old)
+        printer.new (O.written out.new) (O.faults out.new) }
+{
+    push_spaces(printer, line.indent, out);
+    for item in line.items.all() {
+        push_item(printer, item, out);
+    }
+    printer.push(b"\n", out);
+}

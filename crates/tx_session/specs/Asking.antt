@@ -1,0 +1,81 @@
+-- What methods of a session answer. Only private clauses cite this.
+use Rattle.std.specs.Prelude.{◌≡◌, ◌≢◌, ◌&&◌, is_err, Bool, true, false, ℕ, List, Result, Ok, Err, IfOk, IfErr}
+use Rattle.tx_tree.specs.Places.{IsPlace}
+use Rattle.tx_tree.specs.WideTree.{WideTree}
+use Rattle.tx_mod.specs.declared.faults.ModFault.{ModFault}
+use Rattle.tx_state.specs.States.{State}
+use Rattle.tx_edit.specs.declared.faults.EditFault.{EditFault}
+use Rattle.tx_edit.specs.declared.faults.EditFault.TheVariants.{Memory}
+use Rattle.tx_edit.specs.declared.moves.Move.{Move}
+use Rattle.tx_edit.specs.declared.moves.Move.TheVariants.{Edit, Go as GoTo}
+use Rattle.tx_cmd.specs.declared.command.Command.{Command}
+use Rattle.tx_cmd.specs.declared.command.Command.TheVariants.{Show, Page, Errors, PlaceOf, Attrs}
+use Rattle.tx_outside.specs.declared.faults.WriteFault.{WriteFault}
+use Rattle.tx_session.specs.declared.session.Next.{Next}
+use Rattle.tx_session.specs.declared.session.Next.TheVariants.{Go}
+use Rattle.tx_session.specs.States.{IsEditAnswer, IsKeyAnswer}
+use Rattle.tx_session.specs.Replies.{key_fails, wanting_reply}
+use Rattle.tx_session.specs.Worlds.{Seen, Mark, plain, lacking, unsaved}
+
+-- the size of pages is that before, and the view is as fresh unless the buffers changed
+pub record IsKeptView (changed_not : Bool) (before after : Seen) : Type 0 where
+  pub width : after.width ≡ before.width
+  pub height : after.height ≡ before.height
+  pub fresh : after.fresh ≡ (changed_not && before.fresh)
+
+-- nothing changed, for want of memory
+abbrev pub IsWanting : Seen → Seen → List ℕ → Type 0
+IsWanting before after reply = (after ≡ before) × (reply ≡ wanting_reply)
+
+-- an edit that comes to this was done or refused
+abbrev pub IsChange : Result State ModFault → Seen → Mark → Seen → List ℕ → Type 0
+IsChange outcome before plain after reply =
+    IsEditAnswer before.state outcome after.state reply × IsKeptView (is_err outcome) before after
+IsChange outcome before lacking after reply = IsWanting before after reply
+IsChange outcome before unsaved after reply = ⊥
+
+-- so of a key
+abbrev pub IsKeyChange : Result Move EditFault → Seen → Mark → Seen → List ℕ → Type 0
+IsKeyChange made before plain after reply =
+    IsKeyAnswer before.state made after.state reply × IsKeptView (key_fails before.state made) before after
+IsKeyChange made before lacking after reply = IsWanting before after reply
+IsKeyChange made before unsaved after reply = ⊥
+
+-- this is what a key makes, unless memory ran out
+abbrev pub Makes : Result Move EditFault → Result Move EditFault → Type 0
+Makes made outcome = IfOk made (λ m. outcome ≡ Ok m) × IfErr made (λ e. e ≢ Memory → outcome ≡ Err e)
+
+-- a key edits
+abbrev pub IsEdit : Move → Type 0
+IsEdit (Edit mods to) = Unit {0}
+IsEdit (GoTo to) = ⊥
+
+-- the cursor goes to a place of the tree
+abbrev pub GoesIn : WideTree → Move → Type 0
+GoesIn t (GoTo to) = IsPlace t to.path to.offset
+GoesIn t (Edit mods to) = ⊥
+
+-- the cursor went where a key leads it
+abbrev pub IsArrival : Result Move EditFault → State → Mark → State → List ℕ → Type 0
+IsArrival outcome before plain after reply = IsKeyAnswer before outcome after reply
+IsArrival outcome before lacking after reply = (after ≡ before) × (reply ≡ wanting_reply)
+IsArrival outcome before unsaved after reply = ⊥
+
+abbrev pub is_plain : Mark → Bool
+is_plain plain = true
+is_plain lacking = false
+is_plain unsaved = false
+
+-- the command prints the view
+abbrev pub Prints : Command → Type 0
+Prints Show = Unit {0}
+Prints (Page n) = Unit {0}
+Prints Errors = Unit {0}
+Prints (PlaceOf r c) = Unit {0}
+Prints (Attrs r) = Unit {0}
+Prints command = ⊥
+
+-- the session goes on behind what was printed
+abbrev pub going : Result (Unit {0}) WriteFault → Result Next WriteFault
+going (Ok done) = Ok Go
+going (Err fault) = Err fault
