@@ -73,6 +73,66 @@ const ROWS: &[(&str, &str)] = &[
     ("|tmx|-V", "faulty"),
 ];
 
+// More words, and what they ask for.
+const MORE: &[(&str, &str)] = &[
+    // sizes
+    ("|tmx|--height=0005|a.tm", "80 5 a.tm:a"),
+    ("|tmx|--height=|a.tm", "faulty"),
+    ("|tmx|--height|a.tm", "faulty"),
+    ("|tmx|--height|40", "faulty"),
+    ("|tmx|--height|+5|a.tm", "faulty"),
+    ("|tmx|--width=0|a.tm", "faulty"),
+    ("|tmx|--width=00000|a.tm", "faulty"),
+    ("|tmx|--width=20 |a.tm", "faulty"),
+    ("|tmx|--width=0x20|a.tm", "faulty"),
+    ("|tmx|--width=4e1|a.tm", "faulty"),
+    ("|tmx|--width=40.0|a.tm", "faulty"),
+    ("|tmx|--width=\u{664}\u{660}|a.tm", "faulty"),
+    (
+        "|tmx|--width=99|--height=99|a.tm|b.tm",
+        "99 99 a.tm:a b.tm:b",
+    ),
+    ("|tmx|a.tm|--height|6|--width|21", "21 6 a.tm:a"),
+    ("|tmx|--height=6|a.tm|--width=21|b|--height=6", "faulty"),
+    // options
+    ("|tmx|--Width=40|a.tm", "faulty"),
+    ("|tmx|-width=40|a.tm", "faulty"),
+    ("|tmx|-w|40|a.tm", "faulty"),
+    ("|tmx|-5|a.tm", "faulty"),
+    ("|tmx|a.tm|--pages", "faulty"),
+    (
+        "|tmx|--|a.tm|--width|40",
+        "80 24 a.tm:a --width:--width 40:40",
+    ),
+    ("|tmx|--width|40|--|--width", "40 24 --width:--width"),
+    ("|tmx|--", "faulty"),
+    ("|tmx|--|", "faulty"),
+    ("|tmx|-|-", "faulty"),
+    ("|tmx|-|--|-x", "80 24 -:- -x:-x"),
+    // names
+    ("|tmx|A.tm|a.tm", "80 24 A.tm:A a.tm:a"),
+    ("|tmx|a.tm|a.scm", "faulty"),
+    ("|tmx|a|a.", "faulty"),
+    ("|tmx|a.b.tm|a.c.tm", "80 24 a.b.tm:a.b a.c.tm:a.c"),
+    ("|tmx|.a|.a.tm", "faulty"),
+    ("|tmx|x/.|y/.", "faulty"),
+    ("|tmx|..|.", "faulty"),
+    ("|tmx|/", "faulty"),
+    ("|tmx|a//b.tm", "80 24 a//b.tm:b"),
+    ("|tmx|~/x.tm", "80 24 ~/x.tm:x"),
+    ("|tmx|\u{e9}.tm", "80 24 \u{e9}.tm:\u{e9}"),
+    ("|tmx|a b.tm|a  b", "80 24 a b.tm:a b a  b:a  b"),
+    // words that ask for help elsewhere
+    ("|tmx|-hx|a.tm", "faulty"),
+    ("|tmx|--help=x|a.tm", "faulty"),
+    ("|tmx|--|--help", "80 24 --help:--help"),
+    ("|tmx|a.tm|--|-h", "80 24 a.tm:a -h:-h"),
+    (
+        "|tmx|a.tm|help|version",
+        "80 24 a.tm:a help:help version:version",
+    ),
+];
+
 // Paths, and the names of the buffers that are read from them.
 const NAMES: &[(&str, &str)] = &[
     ("a.tm", "a"),
@@ -141,6 +201,11 @@ fn first_misnamed(rows: &[(&str, &str)]) -> Option<usize> {
 #[test]
 fn words_of_command_lines(rt: HostRuntime) {
     assert_eq!(rt; first_wrong(rt.alloc(), ROWS), None);
+}
+
+#[test]
+fn more_words_of_command_lines(rt: HostRuntime) {
+    assert_eq!(rt; first_wrong(rt.alloc(), MORE), None);
 }
 
 #[test]

@@ -1,0 +1,70 @@
+-- Files that can be opened are opened, or memory runs out.
+use Rattle.std.proofs.Common.{◌≡◌, ◌⊎◌, inl, inr, ℕ, List, Option, refl, sym, subst}
+use Rattle.tx_outside.specs.Files.{Files}
+use Rattle.tx_words.specs.Words.{Ask, Named}
+use Rattle.tx_tree.specs.declared.faults.ReadFault.{ReadFault}
+use Rattle.tx_open.specs.declared.failure.Failure.{Failure}
+use Rattle.tx_open.specs.declared.failure.Failure.TheVariants as failures
+use Rattle.tx_open.specs.declared.opening.Opened.{Opened}
+use Rattle.tx_open.specs.declared.opening.Opening.{Opening}
+use Rattle.tx_open.specs.declared.opening.Opening.TheVariants as openings
+use Rattle.tx_open.specs.Openings.{failed_as, outcome_of}
+use Rattle.tx_open.specs.Outcomes.{CanBeOpened, ComesTo, EndsIn, EndsOf, IsCaused, IsOpenedAs, Outcome}
+use Rattle.tx_open.specs.Outcomes.{faulty_words, missing, too_long, no_tree, store_fault, no_memory, opened}
+use Rattle.tx_open.proofs.Single.{AskOnce, ends_or_opens}
+
+-- a file that spells no tree isn't read
+refused : (words : List (List ℕ)) (asked_once : AskOnce words) (files : Option Files) (word : List ℕ)
+    (fault : ReadFault) → CanBeOpened words files → EndsOf words files (no_tree word fault) → ⊥
+refused words asked_once files word fault can h =
+    let all = can.all in
+    let opens = subst (λ (fs : Option Files). IsOpenedAs words fs all) can.known can.opens in
+    let ends = subst (λ (fs : Option Files). EndsOf words fs (no_tree word fault)) can.known h in
+    let asked =
+    asked_once ends.width ends.height all.width all.height ends.names opens.names ends.asked opens.asked in
+    ends_or_opens can.told ends.names opens.names (no_tree word fault) all.buffers asked.2 ends.ends tt opens.read
+
+pub is_opened : (words : List (List ℕ)) (asked_once : AskOnce words) (files : Option Files) (r : Opening)
+    → CanBeOpened words files → ComesTo words files (outcome_of r)
+    → ((word : List ℕ) → outcome_of r ≡ missing word → ⊥)
+    → ((word : List ℕ) → outcome_of r ≡ too_long word → ⊥) → ((word : List ℕ) → outcome_of r ≡ store_fault word → ⊥)
+    → (r ≡ openings.NoMemory) ⊎ ((all : Opened) × (r ≡ openings.Opened all))
+is_opened words asked_once files openings.FaultyWords can h m l f =
+    let opens = can.opens in
+    let all = can.all in
+    absurd (h all.width all.height opens.names opens.asked)
+is_opened words asked_once files (openings.Missing word) can h m l f = absurd (m word.now refl)
+is_opened words asked_once files (openings.TooLong word) can h m l f = absurd (l word.now refl)
+is_opened words asked_once files (openings.NoTree word fault) can h m l f =
+    absurd (refused words asked_once files word.now fault can h)
+is_opened words asked_once files (openings.StoreFault word) can h m l f = absurd (f word.now refl)
+is_opened words asked_once files openings.NoMemory can h m l f = inl refl
+is_opened words asked_once files (openings.Opened all) can h m l f = inr (all, refl)
+
+-- one of the files that the words ask for isn't read
+module _ (words : List (List ℕ)) (files : Option Files) (width height : ℕ) (names : List Named)
+    (asked : Ask words width height names) where
+  ends_of : (o : Outcome) → EndsIn files names o → EndsOf words files o
+  ends_of o h = record { width = width; height = height; names = names; asked = asked; ends = h }
+
+  failed : (f : Failure) → EndsIn files names (failed_as f) → ComesTo words files (failed_as f)
+  failed (failures.Missing word) h = ends_of (missing word.now) h
+  failed (failures.TooLong word) h = ends_of (too_long word.now) h
+  failed (failures.NoTree word fault) h = ends_of (no_tree word.now fault) h
+  failed (failures.StoreFault word) h = ends_of (store_fault word.now) h
+  failed failures.NoMemory h = tt
+
+  pub comes_from : (r : Opening) (f : Failure) → outcome_of r ≡ failed_as f → EndsIn files names (failed_as f)
+      → ComesTo words files (outcome_of r)
+  comes_from r f e h = subst (ComesTo words files) (sym e) (failed f h)
+
+-- a cause, of each outcome that has one
+module _ (misses longs faults : Type 0) (o : Outcome) (h : IsCaused misses longs faults o) where
+  pub missing_caused : (word : List ℕ) → o ≡ missing word → misses
+  missing_caused word e = subst (IsCaused misses longs faults) e h
+
+  pub long_caused : (word : List ℕ) → o ≡ too_long word → longs
+  long_caused word e = subst (IsCaused misses longs faults) e h
+
+  pub fault_caused : (word : List ℕ) → o ≡ store_fault word → faults
+  fault_caused word e = subst (IsCaused misses longs faults) e h

@@ -1,0 +1,4 @@
+pub mod Reading
+pub mod Files
+mod Single
+mod Complete

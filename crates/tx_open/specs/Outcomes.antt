@@ -1,0 +1,118 @@
+-- What opening comes to, from the words and the files.
+use Rattle.std.specs.Prelude.{◌≡◌, ◌≤◌, ℕ, List, [], ◌∷◌, ◌++◌, length, sum_by, Option, Some, IfSome}
+use Rattle.tx_outside.specs.Files.{Files, IsAbsent, IsTooLong, file_of}
+use Rattle.tx_outside.specs.declared.file_store.TheConstants.{MOST_FILE}
+use Rattle.tx_tree.specs.WideTree.{WideTree, nodes_of}
+use Rattle.tx_tree.specs.Limits.{IsWithinLimits}
+use Rattle.tx_tree.specs.declared.faults.ReadFault.{ReadFault}
+use Rattle.tx_doc.specs.declared.buffer.Buffer.{Buffer}
+use Rattle.tx_doc.specs.Forms.{form_of}
+use Rattle.tx_words.specs.Words.{Ask, AreFaulty, Named}
+use Rattle.tx_open.specs.Forms.{SpellsIn, IsFaultIn}
+use Rattle.tx_open.specs.declared.opening.Opened.{Opened}
+
+-- an outcome names a file by its word
+pub data Outcome : Type 0 where
+  faulty_words : Outcome
+  missing : (word : List ℕ) → Outcome
+  too_long : (word : List ℕ) → Outcome
+  no_tree : (word : List ℕ) → (fault : ReadFault) → Outcome
+  store_fault : (word : List ℕ) → Outcome
+  no_memory : Outcome
+  opened : (all : Opened) → Outcome
+
+-- ---- one file
+
+-- the file has these bytes, as far as the files are known, and they are not too many
+abbrev pub Holds : Option Files → List ℕ → List ℕ → Type 0
+Holds files word bytes = IfSome files (λ all. file_of all word ≡ Some bytes) × (length bytes ≤ MOST_FILE)
+
+-- the file's bytes spell this tree, in the form by the word, and within the limits
+pub record IsTreeOf (files : Option Files) (word : List ℕ) (tree : WideTree) : Type 0 where
+  pub bytes : List ℕ
+  pub held : Holds files word bytes
+  pub spelled : SpellsIn (form_of word) bytes tree
+  pub within : IsWithinLimits tree
+
+-- the file's bytes spell none, and this is why
+pub record IsFaultOf (files : Option Files) (word : List ℕ) (fault : ReadFault) : Type 0 where
+  pub bytes : List ℕ
+  pub held : Holds files word bytes
+  pub misspelled : IsFaultIn (form_of word) bytes fault
+
+-- the buffer has the name of the file and its tree
+abbrev pub IsReadAs : Option Files → Named → Buffer → Type 0
+IsReadAs files file buffer = (buffer.name ≡ file.name) × IsTreeOf files file.word buffer.tree
+
+-- Opening ends at the file of this word. A fault of the store and want of memory may come at each.
+abbrev pub EndsAt : Option Files → List ℕ → Outcome → Type 0
+EndsAt files file (missing word) = (word ≡ file) × IfSome files (IsAbsent file)
+EndsAt files file (too_long word) = (word ≡ file) × IfSome files (IsTooLong file)
+EndsAt files file (no_tree word fault) = (word ≡ file) × IsFaultOf files file fault
+EndsAt files file (store_fault word) = word ≡ file
+EndsAt files file no_memory = Unit {0}
+EndsAt files file _ = ⊥
+
+-- ---- all files
+
+-- each file is read as the buffer of the same number
+abbrev pub AreRead : Option Files → List Named → List Buffer → Type 0
+AreRead files [] [] = Unit {0}
+AreRead files (file ∷ others) (buffer ∷ buffers) = IsReadAs files file buffer × AreRead files others buffers
+AreRead files _ _ = ⊥
+
+-- the nodes of the trees of buffers, leaves left out
+abbrev pub nodes_in : List Buffer → ℕ
+nodes_in buffers = sum_by (λ buffer. nodes_of buffer.tree) buffers
+
+-- one of the files ends it with this outcome, and those before it are read
+pub record EndsIn (files : Option Files) (names : List Named) (outcome : Outcome) : Type 0 where
+  pub before : List Named
+  pub buffers : List Buffer
+  pub file : Named
+  pub behind : List Named
+  pub parts : names ≡ before ++ file ∷ behind
+  pub read : AreRead files before buffers
+  pub ends : EndsAt files file.word outcome
+
+-- the files that the words ask for end it with this outcome
+pub record EndsOf (words : List (List ℕ)) (files : Option Files) (outcome : Outcome) : Type 0 where
+  pub width : ℕ
+  pub height : ℕ
+  pub names : List Named
+  pub asked : Ask words width height names
+  pub ends : EndsIn files names outcome
+
+-- the words ask for pages of this size and for files that are read as these buffers
+pub record IsOpenedAs (words : List (List ℕ)) (files : Option Files) (all : Opened) : Type 0 where
+  pub names : List Named
+  pub asked : Ask words all.width all.height names
+  pub read : AreRead files names all.buffers
+
+-- What the words and the files come to: the first file that isn't read decides. Memory may run out at any time, also
+-- while the words are read.
+abbrev pub ComesTo : List (List ℕ) → Option Files → Outcome → Type 0
+ComesTo words files faulty_words = AreFaulty words
+ComesTo words files no_memory = Unit {0}
+ComesTo words files (opened all) = IsOpenedAs words files all
+ComesTo words files ended = EndsOf words files ended
+
+-- neither a fault of the store nor want of memory
+abbrev pub IsDecided : Outcome → Type 0
+IsDecided (store_fault word) = ⊥
+IsDecided no_memory = ⊥
+IsDecided _ = Unit {0}
+
+-- an outcome that blames the store comes only where its count rose
+abbrev pub IsCaused : (misses longs faults : Type 0) → Outcome → Type 0
+IsCaused misses longs faults (missing word) = misses
+IsCaused misses longs faults (too_long word) = longs
+IsCaused misses longs faults (store_fault word) = faults
+IsCaused misses longs faults _ = Unit {0}
+
+-- the files are told, and the words ask for some that are read
+pub record CanBeOpened (words : List (List ℕ)) (files : Option Files) : Type 0 where
+  pub told : Files
+  pub known : files ≡ Some told
+  pub all : Opened
+  pub opens : IsOpenedAs words files all

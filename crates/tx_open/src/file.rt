@@ -1,0 +1,94 @@
+// A file, loaded and read.
+ghost use Rattle.std.specs.Prelude.{◌≡◌, ◌≢◌, ◌≤◌, ◌+◌, IfOk, IfErr};
+ghost use Rattle.tx_outside.specs.Counts.{NeverFalls, Rose};
+ghost use Rattle.tx_tree.specs.Limits.{IsWithinLimits};
+ghost use Rattle.tx_tree.specs.WideTree.{nodes_of};
+ghost use Rattle.tx_words.specs.Seen.{named_of};
+ghost use Rattle.tx_open.specs.Forms.{SpellsIn, IsFaultIn};
+ghost use Rattle.tx_open.specs.Openings.{failed_as};
+ghost use Rattle.tx_open.specs.Outcomes.{EndsAt, IsCaused, IsReadAs, IsTreeOf};
+
+use crate::failure::Failure;
+use std::alloc::Global;
+use std::sync::ledger::Ledger;
+use tx_base::Steps;
+use tx_doc::{Buffer, Form, Name, form_of};
+use tx_outside::{LoadFault, Store};
+use tx_tree::{ReadFault, Tree};
+use tx_words::FileWord;
+
+// The tree that the bytes spell in this form.
+fn read<L: Ledger>(
+    alloc: Global,
+    form: Form,
+    bytes: &[u8],
+    steps: &mut Steps<L>,
+) -> Result<Tree, ReadFault>
+    ensures spelled { IfOk result (λ t. SpellsIn form bytes.now t) }
+    ensures within { IfOk result IsWithinLimits }
+    ensures refused { IfErr result (λ fault. fault ≢ ReadFault.Memory → IsFaultIn form bytes.now fault) }
+    ensures counted { IfOk result (λ t. steps.new ≤ steps.old + nodes_of t) }
+{
+    match form {
+        Form::Scheme => tx_scm::read(alloc, bytes, steps),
+        Form::Tm => tx_tm_read::read(alloc, bytes, steps),
+    }
+}
+
+// The tree of the file of this word.
+fn read_tree<'a, S: Store, L: Ledger>(
+    alloc: Global,
+    word: &'a [u8],
+    store: &mut S,
+    steps: &mut Steps<L>,
+) -> Result<Tree, Failure<'a>>
+    ensures tree { IfOk result (λ t. IsTreeOf (S.files store.old) word.entry.now t) }
+    ensures failed { IfErr result (λ failure. EndsAt (S.files store.old) word.entry.now (failed_as failure)) }
+    ensures caused { IfErr result (λ failure. IsCaused (Rose (S.misses store.old) (S.misses store.new))
+        (Rose (S.longs store.old) (S.longs store.new)) (Rose (S.faults store.old) (S.faults store.new))
+        (failed_as failure)) }
+    ensures counted { IfOk result (λ t. steps.new ≤ steps.old + nodes_of t) }
+    ensures files_kept { S.files store.new ≡ S.files store.old }
+    ensures faults_never_fall { NeverFalls (S.faults store.old) (S.faults store.new) }
+    ensures misses_never_fall { NeverFalls (S.misses store.old) (S.misses store.new) }
+    ensures longs_never_fall { NeverFalls (S.longs store.old) (S.longs store.new) }
+{
+    let mut bytes = Vec::new(alloc);
+    match store.load(word, &mut bytes) {
+        Ok(()) => match read(alloc, form_of(word), &bytes, steps) {
+            Ok(tree) => Ok(tree),
+            Err(ReadFault::Memory) => Err(Failure::NoMemory),
+            Err(fault) => Err(Failure::NoTree(word, fault)),
+        },
+        Err(LoadFault::Missing) => Err(Failure::Missing(word)),
+        Err(LoadFault::TooLong) => Err(Failure::TooLong(word)),
+        Err(LoadFault::Failed) => Err(Failure::StoreFault(word)),
+        Err(LoadFault::Memory) => Err(Failure::NoMemory),
+    }
+}
+
+/// The buffer of a file: its tree, under the file's name.
+pub(crate) fn read_file<'a, S: Store, L: Ledger>(
+    alloc: Global,
+    file: FileWord<'a>,
+    store: &mut S,
+    steps: &mut Steps<L>,
+) -> Result<Buffer, Failure<'a>>
+    ensures read { IfOk result (λ buffer. IsReadAs (S.files store.old) (named_of file.entry) buffer) }
+    ensures failed { IfErr result (λ failure. EndsAt (S.files store.old) file.entry.word.now (failed_as failure)) }
+    ensures caused { IfErr result (λ failure. IsCaused (Rose (S.misses store.old) (S.misses store.new))
+        (Rose (S.longs store.old) (S.longs store.new)) (Rose (S.faults store.old) (S.faults store.new))
+        (failed_as failure)) }
+    ensures counted { IfOk result (λ buffer. steps.new ≤ steps.old + nodes_of buffer.tree) }
+    ensures files_kept { S.files store.new ≡ S.files store.old }
+    ensures faults_never_fall { NeverFalls (S.faults store.old) (S.faults store.new) }
+    ensures misses_never_fall { NeverFalls (S.misses store.old) (S.misses store.new) }
+    ensures longs_never_fall { NeverFalls (S.longs store.old) (S.longs store.new) }
+{
+    let name = Vec::from_slice(alloc, file.name)?;
+    let tree = read_tree(alloc, file.word.as_bytes(), store, steps)?;
+    Ok(Buffer {
+        name: Name::from(name),
+        tree,
+    })
+}

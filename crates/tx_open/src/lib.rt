@@ -1,0 +1,15 @@
+//! The files that the words of the command line name, loaded and read.
+//!
+//! What words and files come to is `ComesTo` of `specs/Outcomes.antt`. The words are read by `tx_words`, and each file
+//! by `tx_scm` or `tx_tm_read`, as its name says.
+#![tactic(auto)]
+
+mod buffers;
+mod failure;
+mod file;
+mod laws;
+mod opening;
+
+pub use buffers::Buffers;
+pub use laws::one_outcome;
+pub use opening::{Opened, Opening, open};

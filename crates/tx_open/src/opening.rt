@@ -1,0 +1,176 @@
+// All files that the words name, loaded and read.
+ghost use Rattle.std.specs.Prelude.{◌≡◌, ◌≤◌, ◌+◌, ◌⊎◌, ℕ, List, [], map, length, IfOk, IfErr, OnOk};
+ghost use Rattle.std.specs.String.{string_bytes};
+ghost use Rattle.tx_outside.specs.Counts.{NeverFalls, Rose};
+ghost use Rattle.tx_doc.specs.Buffers.{NamesDiffer};
+ghost use Rattle.tx_words.specs.Seen.{named_of};
+ghost use Rattle.tx_words.specs.Words.{AreFaulty};
+ghost use Rattle.tx_open.specs.Openings.{IfOpened, failed_as, outcome_of};
+ghost use Rattle.tx_open.specs.Outcomes.{AreRead, CanBeOpened, ComesTo, EndsIn, IsCaused, nodes_in};
+ghost use Rattle.tx_open.specs.Outcomes.{missing, opened, store_fault, too_long};
+ghost use Rattle.tx_open.specs.declared.opening.Opened.{Opened as WasOpened};
+
+use crate::buffers::Buffers;
+use crate::failure::Failure;
+use crate::file::read_file;
+use std::alloc::Global;
+use std::sync::ledger::Ledger;
+use tx_base::Steps;
+use tx_doc::Buffer;
+use tx_outside::Store;
+use tx_tree::ReadFault;
+use tx_words::{FileWord, Words, WordsFault, one_asking, read_words};
+
+/// What was opened.
+#[derive(Drop)]
+pub struct Opened {
+    /// The width of a page, 20 to 500 cells.
+    pub width: u32,
+    /// The height of a page, 5 to 500 lines.
+    pub height: u32,
+    /// The document, and the styles behind it, 1 to 16 buffers, no two of one name.
+    pub buffers: Buffers,
+}
+
+/// What opening comes to. A file is named by its word.
+#[derive(Drop)]
+pub enum Opening<'a> {
+    /// The words ask for nothing.
+    FaultyWords,
+    /// There is no such file.
+    Missing(&'a [u8]),
+    /// The file has more than 2^24 bytes.
+    TooLong(&'a [u8]),
+    /// The file's bytes spell no tree within the limits.
+    NoTree(&'a [u8], ReadFault),
+    /// The store failed at this file.
+    StoreFault(&'a [u8]),
+    /// Memory ran out.
+    NoMemory,
+    /// The files were loaded and read.
+    Opened(Opened),
+}
+
+impl<'a> From<Failure<'a>> for Opening<'a> {
+    ghost use Rattle.std.specs.Prelude.{◌≡◌};
+    ghost use Rattle.tx_open.specs.Openings.{failed_as, outcome_of};
+
+    ghost from_gives = { λ failure opening. outcome_of opening ≡ failed_as failure };
+
+    fn from(failure: Failure<'a>) -> Opening<'a> {
+        match failure {
+            Failure::Missing(word) => Opening::Missing(word),
+            Failure::TooLong(word) => Opening::TooLong(word),
+            Failure::NoTree(word, fault) => Opening::NoTree(word, fault),
+            Failure::StoreFault(word) => Opening::StoreFault(word),
+            Failure::NoMemory => Opening::NoMemory,
+        }
+    }
+}
+
+// Reads the files in their order, up to the first that isn't read.
+fn add_files<'a, S: Store, L: Ledger>(
+    alloc: Global,
+    buffers: &mut Vec<Buffer>,
+    files: &[FileWord<'a>],
+    store: &mut S,
+    steps: &mut Steps<L>,
+) -> Result<(), Failure<'a>>
+    requires { buffers.old.items ≡ [] }
+    ensures read { OnOk result (AreRead (S.files store.old) (map named_of files.now) buffers.new.items) }
+    ensures failed { IfErr result
+        (λ failure. EndsIn (S.files store.old) (map named_of files.now) (failed_as failure)) }
+    ensures caused { IfErr result (λ failure. IsCaused (Rose (S.misses store.old) (S.misses store.new))
+        (Rose (S.longs store.old) (S.longs store.new)) (Rose (S.faults store.old) (S.faults store.new))
+        (failed_as failure)) }
+    ensures counted { OnOk result (steps.new ≤ steps.old + nodes_in buffers.new.items) }
+    ensures files_kept { S.files store.new ≡ S.files store.old }
+    ensures faults_never_fall { NeverFalls (S.faults store.old) (S.faults store.new) }
+    ensures misses_never_fall { NeverFalls (S.misses store.old) (S.misses store.new) }
+    ensures longs_never_fall { NeverFalls (S.longs store.old) (S.longs store.new) }
+{
+    for file in files {
+        buffers.push(read_file(alloc, *file, store, steps)?)?;
+    }
+    Ok(())
+}
+
+// Reads the files that are asked for.
+fn read_files<'a, S: Store, L: Ledger>(
+    alloc: Global,
+    asked: &Words<'a>,
+    store: &mut S,
+    steps: &mut Steps<L>,
+) -> Result<Opened, Failure<'a>>
+    ensures size { IfOk result (λ all. (all.width ≡ asked.now.width) × (all.height ≡ asked.now.height)) }
+    ensures read { IfOk result (λ all. AreRead (S.files store.old) asked.now.files all.buffers) }
+    ensures failed { IfErr result (λ failure. EndsIn (S.files store.old) asked.now.files (failed_as failure)) }
+    ensures caused { IfErr result (λ failure. IsCaused (Rose (S.misses store.old) (S.misses store.new))
+        (Rose (S.longs store.old) (S.longs store.new)) (Rose (S.faults store.old) (S.faults store.new))
+        (failed_as failure)) }
+    ensures counted { IfOk result (λ all. steps.new ≤ steps.old + nodes_in all.buffers) }
+    ensures files_kept { S.files store.new ≡ S.files store.old }
+    ensures faults_never_fall { NeverFalls (S.faults store.old) (S.faults store.new) }
+    ensures misses_never_fall { NeverFalls (S.misses store.old) (S.misses store.new) }
+    ensures longs_never_fall { NeverFalls (S.longs store.old) (S.longs store.new) }
+{
+    let mut buffers = Vec::new(alloc);
+    add_files(alloc, &mut buffers, asked.files.as_slice(), store, steps)?;
+    Ok(Opened {
+        width: asked.width,
+        height: asked.height,
+        buffers: Buffers::from(buffers),
+    })
+}
+
+/// Loads and reads the files that the words name, the program's name first, in the order of the words. The words are
+/// `tmx [--width N] [--height N] FILE [STYLE]...`; a file is in the Scheme syntax where its word ends in `.scm` or
+/// `.stm`, and else in TM.
+///
+/// The first file that isn't there, is too long, spells no tree within the limits, or at which the store fails, is what
+/// it comes to, and no later file is loaded. Faulty words ask nothing of the store. Where the files are opened, the
+/// steps rise by at most the nodes of their trees that aren't leaves.
+pub fn open<'a, S: Store, L: Ledger>(
+    alloc: Global,
+    words: &'a [String],
+    store: &mut S,
+    steps: &mut Steps<L>,
+) -> Opening<'a>
+    ensures comes { ComesTo (map string_bytes words.now) (S.files store.old) (outcome_of result) }
+    ensures complete { CanBeOpened (map string_bytes words.now) (S.files store.old)
+        → ¬ Rose (S.misses store.old) (S.misses store.new) → ¬ Rose (S.longs store.old) (S.longs store.new)
+        → ¬ Rose (S.faults store.old) (S.faults store.new)
+        → (result ≡ Opening.NoMemory) ⊎ ((all : WasOpened) × (result ≡ Opening.Opened all)) }
+
+    // Where the store is blamed, its count rose.
+    ensures missing_counted { (word : List ℕ) → outcome_of result ≡ missing word
+        → Rose (S.misses store.old) (S.misses store.new) }
+    ensures fault_counted { (word : List ℕ) → outcome_of result ≡ store_fault word
+        → Rose (S.faults store.old) (S.faults store.new) }
+    ensures long_counted { (word : List ℕ) → outcome_of result ≡ too_long word
+        → Rose (S.longs store.old) (S.longs store.new) }
+
+    // What was opened is what a session begins with.
+    ensures width { IfOpened result (λ all. (20 ≤ all.width) × (all.width ≤ 500)) }
+    ensures height { IfOpened result (λ all. (5 ≤ all.height) × (all.height ≤ 500)) }
+    ensures number { IfOpened result (λ all. (1 ≤ length all.buffers) × (length all.buffers ≤ 16)) }
+    ensures names { IfOpened result (λ all. NamesDiffer all.buffers) }
+    ensures counted { IfOpened result (λ all. steps.new ≤ steps.old + nodes_in all.buffers) }
+
+    // What is as before, and what never falls.
+    ensures untouched { AreFaulty (map string_bytes words.now) → (store.new ≡ store.old) × (steps.new ≡ steps.old) }
+    ensures files_kept { S.files store.new ≡ S.files store.old }
+    ensures faults_never_fall { NeverFalls (S.faults store.old) (S.faults store.new) }
+    ensures misses_never_fall { NeverFalls (S.misses store.old) (S.misses store.new) }
+    ensures longs_never_fall { NeverFalls (S.longs store.old) (S.longs store.new) }
+{
+    one_asking();
+    match read_words(alloc, words) {
+        Ok(asked) => match read_files(alloc, &asked, store, steps) {
+            Ok(all) => Opening::Opened(all),
+            Err(failure) => Opening::from(failure),
+        },
+        Err(WordsFault::Faulty) => Opening::FaultyWords,
+        Err(WordsFault::Memory) => Opening::NoMemory,
+    }
+}

@@ -1,0 +1,54 @@
+// What opening comes to, as text.
+use std::alloc::{AllocError, Global};
+use std::str;
+use tx_doc::Buffer;
+use tx_open::{Opened, Opening};
+
+fn add(text: &mut String, word: &str, bytes: &[u8]) -> Result<(), AllocError> {
+    text.push_str(word)?;
+    text.push_str(str::from_utf8(bytes).unwrap_or("?"))
+}
+
+// A word, and a file's word.
+fn line(alloc: Global, word: &str, file: &[u8]) -> Result<String, AllocError> {
+    let mut text = String::new(alloc);
+    add(&mut text, word, file)?;
+    Ok(text)
+}
+
+// The buffer's name and the tree's canonical text.
+fn add_buffer(alloc: Global, text: &mut String, buffer: &Buffer) -> Result<(), AllocError> {
+    let mut tree = Vec::new(alloc);
+    if tx_scm::write(&buffer.tree, &mut tree).is_err() {
+        return Err(AllocError);
+    }
+    add(text, " ", buffer.name.bytes())?;
+    add(text, ":", &tree)
+}
+
+// The width, the height, and each buffer.
+fn all(alloc: Global, opened: &Opened) -> Result<String, AllocError> {
+    let mut text = format!(in alloc; "{} {}", opened.width, opened.height)?;
+    for buffer in opened.buffers.as_slice() {
+        add_buffer(alloc, &mut text, buffer)?;
+    }
+    Ok(text)
+}
+
+// What opening comes to.
+pub(crate) fn shown(alloc: Global, opening: &Opening) -> Result<String, AllocError> {
+    match opening {
+        Opening::FaultyWords => String::from_str(alloc, "faulty"),
+        Opening::Missing(word) => line(alloc, "missing ", word),
+        Opening::TooLong(word) => line(alloc, "long ", word),
+        Opening::NoTree(word, fault) => {
+            let mut text = line(alloc, "refused ", word)?;
+            let why = format!(in alloc; " {fault}")?;
+            text.push_str(&why)?;
+            Ok(text)
+        }
+        Opening::StoreFault(word) => line(alloc, "store ", word),
+        Opening::NoMemory => String::from_str(alloc, "memory"),
+        Opening::Opened(opened) => all(alloc, opened),
+    }
+}
