@@ -3,6 +3,7 @@ pub mod NearPlaces
 pub mod Numbering
 pub mod UnitRows
 pub mod Lining
+pub mod Costing
 pub mod Stopping
 pub mod Taking
 pub mod Prefixes

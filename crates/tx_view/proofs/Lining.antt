@@ -7,13 +7,13 @@ use Rattle.std.proofs.lemmas.List.Elements.{All-nil, All-cons}
 use Rattle.tx_items.specs.declared.drawing.Paragraph.{Paragraph}
 use Rattle.tx_layout.specs.declared.layout.Line.{Line}
 use Rattle.tx_layout.specs.Shapes.{IsShape}
-use Rattle.tx_view_form.specs.Views.{AreLines, no_lines, lines_then, UnitView, IsShown}
+use Rattle.tx_view_form.specs.Views.{AreLines, no_lines, lines_then, IsShown}
 use Rattle.tx_view_form.specs.Weights.{weight_of}
-use Rattle.std.specs.Prelude.{◌≤◌, ◌*◌, ◌^◌, Option, Some, None}
+use Rattle.std.specs.Prelude.{◌≤◌, ◌*◌, ◌^◌, Option, None}
 use Rattle.tx_origin.specs.Values.{WideValue}
 use Rattle.tx_items.specs.declared.attributes.Attrs.{Attrs}
 use Rattle.tx_items.specs.declared.drawing.ErrorAt.{ErrorAt}
-use Rattle.tx_items.specs.Shows.{show, shown_paragraphs}
+use Rattle.tx_items.specs.Shows.{show}
 
 pub lines_more : {width : ℕ} {ps : List Paragraph} {ls : List Line} (p : Paragraph) (own : List Line)
     → AreLines width ps ls

@@ -5,7 +5,7 @@ use Rattle.std.specs.Prelude.{Option, Some, None}
 use Rattle.tx_origin.specs.RelativePlaces.{BasedPlace}
 use Rattle.tx_items.specs.declared.drawing.Item.{Item}
 use Rattle.tx_layout.specs.declared.layout.Line.{Line}
-use Rattle.tx_view_form.specs.Positions.{Mark, mark_of, marks_of, items_on, nearest, first_or, start_of, stop_of}
+use Rattle.tx_view_form.specs.Positions.{Mark, marks_of, items_on, nearest, first_or, start_of, stop_of}
 use Rattle.tx_view_form.specs.Positions.{unit_place}
 use Rattle.tx_view.specs.Marks.{first_of, last_of}
 use Rattle.tx_view.proofs.Finding.{or_else, first_marks, last_marks}

@@ -1,9 +1,9 @@
 -- The seven variables taken in turn.
 use Rattle.std.proofs.Common.{◌≡◌, ℕ, List, refl, ap, ◌∙◌}
-use Rattle.std.specs.Prelude.{codes, Option, Some}
+use Rattle.std.specs.Prelude.{codes, Some}
 use Rattle.tx_env.specs.Environments.{NameMap}
 use Rattle.tx_items.specs.Attributes.{Attribute, Series, Shape, Color, Mode, Left, Right, First, attribute_named}
-use Rattle.tx_items.specs.Attributes.{with_named, with_value, initial}
+use Rattle.tx_items.specs.Attributes.{with_named, with_value}
 use Rattle.tx_items.specs.declared.attributes.Attrs.{Attrs}
 use Rattle.tx_view_form.specs.Started.{attributes_of, set_to}
 use Rattle.tx_view.specs.Variables.{AreVariables}

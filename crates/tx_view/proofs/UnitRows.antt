@@ -1,5 +1,5 @@
 -- Elements of units, one unit after the other: how many, and where each stands.
-use Rattle.std.proofs.Common.{◌≡◌, ℕ, zero, suc, ◌+◌, ◌-◌, ◌<◌, ◌≤◌, List, [], ◌∷◌, ◌++◌, map, length, take, drop}
+use Rattle.std.proofs.Common.{◌≡◌, ℕ, zero, suc, ◌+◌, ◌-◌, ◌<◌, ◌≤◌, List, [], ◌∷◌, ◌++◌, map, length, take}
 use Rattle.std.proofs.Common.{get_or, Bool, true, false, refl, sym, subst, ap, ◌∙◌, add-one, arith, length-append}
 use Rattle.std.specs.Prelude.{nat_lt, if◌then◌else◌, Option, Some, None, slice_get}
 use Rattle.std.specs.List.{flat_map}
@@ -10,7 +10,7 @@ use Rattle.tx_items.specs.declared.drawing.ErrorAt.{ErrorAt}
 use Rattle.tx_view_form.specs.Views.{UnitView}
 use Rattle.tx_view_form.specs.Cells.{row_in}
 use Rattle.tx_view.specs.Units.{unit_view, unit_views, sums_from, row_counts, error_counts, number_in}
-use Rattle.tx_view.specs.Rows.{IsRow, HasRow, IsError, HasError}
+use Rattle.tx_view.specs.Rows.{IsRow, IsError}
 use Rattle.tx_view.specs.declared.shown.Shown.{Shown}
 use Rattle.tx_view.proofs.Numbering.{sums_length}
 

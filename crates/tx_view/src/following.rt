@@ -1,12 +1,13 @@
 // What units show, one evaluated behind the other.
 ghost use Rattle.std.specs.Prelude.{◌≡◌, ◌+◌, ◌*◌, ◌≤◌, ◌<◌, ◌^◌, length, All, IfOk, OnOk};
 ghost use Rattle.tx_origin.specs.TaggedTrees.{tagged_of};
-ghost use Rattle.tx_view_form.specs.Outcomes.{beginning, outcome, behind, value_of};
+ghost use Rattle.tx_view_form.specs.Outcomes.{beginning, outcome, charge, behind, value_of};
 ghost use Rattle.tx_view_form.specs.Started.{attributes_of};
 ghost use Rattle.tx_view_form.specs.Views.{IsShown, AreShown, lines_of};
 ghost use Rattle.tx_view_form.specs.Errors.{errors_of};
 ghost use Rattle.tx_view.specs.Variables.{AreVariables};
 ghost use Rattle.tx_view.specs.Units.{unit_view, unit_views, IsReadable};
+ghost use Rattle.tx_view.specs.Costs.{items_of, cost_from};
 
 use crate::moments::Moment;
 use crate::shown::{Shown, show};
@@ -35,6 +36,8 @@ fn next_shown<L: Ledger>(
     ensures readable { IfOk result (λ s. IsReadable (unit_view s)) }
     ensures lines { IfOk result (λ s. length s.lines.items + 242 * moment.new.left ≤ 242 * moment.old.left + 49) }
     ensures errors { IfOk result (λ s. length s.errors.items + moment.new.left ≤ moment.old.left + 7) }
+    ensures counted { OnOk result (steps.new ≡ steps.old
+        + (charge moment.old (outcome (tagged_of unit.now.tagged) moment.old) + items_of moment.old unit.now)) }
 {
     weight_laws();
     let attrs = variables.attributes(alloc, moment.env())?;
@@ -58,6 +61,7 @@ pub(crate) fn all_shown<L: Ledger>(
     ensures readable { IfOk result (λ all. All (λ s. IsReadable (unit_view s)) all.items) }
     ensures lines { IfOk result (λ all. length (lines_of (unit_views all.items)) < 2 ^ 32) }
     ensures errors { IfOk result (λ all. length (errors_of (unit_views all.items)) < 2 ^ 32) }
+    ensures counted { OnOk result (steps.new ≡ steps.old + cost_from beginning units.now) }
 {
     let variables = Variables::new(alloc)?;
     let mut moment = Moment::beginning(alloc);

@@ -1,12 +1,13 @@
 // What is shown of a unit.
-ghost use Rattle.std.specs.Prelude.{◌≡◌, ◌≤◌, ◌<◌, ◌^◌, length, All, IfOk};
+ghost use Rattle.std.specs.Prelude.{◌≡◌, ◌+◌, ◌≤◌, ◌<◌, ◌^◌, length, All, IfOk, OnOk};
 ghost use Rattle.tx_tree.specs.WideTree.{size_of};
 ghost use Rattle.tx_origin.specs.Values.{plain};
 ghost use Rattle.tx_items.specs.Narrow.{IsNarrow};
 ghost use Rattle.tx_items.specs.Shows.{shown_paragraphs};
-ghost use Rattle.tx_view_form.specs.Views.{AreLines, IsShown};
+ghost use Rattle.tx_view_form.specs.Views.{AreLines, IsShown, paragraphs_at};
 ghost use Rattle.tx_view_form.specs.Weights.{weight_of};
 ghost use Rattle.tx_view.specs.Units.{unit_view, IsReadable};
+ghost use Rattle.tx_view.specs.Costs.{items_in};
 
 use std::alloc::Global;
 use std::sync::ledger::Ledger;
@@ -38,7 +39,8 @@ fn lines_of<L: Ledger>(
     requires most_width { width ≤ 500 }
     requires few { All (λ p. length p.items < 2 ^ 32) paragraphs.now }
     requires narrow { All (λ p. All IsNarrow p.items) paragraphs.now }
-    ensures { IfOk result (λ ls. AreLines width paragraphs.now ls.items) }
+    ensures lines { IfOk result (λ ls. AreLines width paragraphs.now ls.items) }
+    ensures counted { OnOk result (steps.new ≡ steps.old + items_in paragraphs.now) }
 {
     let mut all = Vec::new(alloc);
     for paragraph in paragraphs {
@@ -64,6 +66,8 @@ pub(crate) fn show<L: Ledger>(
     ensures readable { IfOk result (λ s. IsReadable (unit_view s)) }
     ensures few_lines { IfOk result (λ s. length s.lines.items ≤ weight_of (shown_paragraphs attrs.now value.now)) }
     ensures few_errors { IfOk result (λ s. length s.errors.items ≤ size_of (plain value.now)) }
+    ensures counted { OnOk result
+        (steps.new ≡ steps.old + items_in (paragraphs_at path.now attrs.now value.now)) }
 {
     let _size = value.size();
     weight_laws();

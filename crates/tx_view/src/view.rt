@@ -1,6 +1,6 @@
 // The view.
-ghost use Rattle.std.specs.Prelude.{◌≡◌, ◌≤◌, ◌<◌, ◌^◌, [], length, true, false, MatchOption, IsOk, IsTrue, IfOk, OnOk};
-ghost use Rattle.std.specs.Prelude.{OnErr, None, Some, option_and_then, option_copied, slice_get};
+ghost use Rattle.std.specs.Prelude.{◌≡◌, ◌+◌, ◌≤◌, ◌<◌, ◌^◌, [], length, true, false, MatchOption, IsOk, IsTrue, IfOk};
+ghost use Rattle.std.specs.Prelude.{OnOk, OnErr, None, Some, option_and_then, option_copied, slice_get};
 ghost use Rattle.tx_doc.specs.Buffers.{with_tree};
 ghost use Rattle.tx_view_form.specs.Views.{IsView, lines_of};
 ghost use Rattle.tx_view_form.specs.Errors.{errors_of};
@@ -10,6 +10,7 @@ ghost use Rattle.tx_view_form.specs.Stops.{stops_of};
 ghost use Rattle.tx_layout.specs.Paging.{PagesFrom};
 ghost use Rattle.tx_view.specs.Near.{AreNear};
 ghost use Rattle.tx_view.specs.Units.{unit_views, AreAllApart};
+ghost use Rattle.tx_view.specs.Costs.{cost_from_nothing};
 
 use crate::around::{apart_law, stops_near};
 use crate::cells::drawn_at;
@@ -117,7 +118,9 @@ impl View {
         Ok(())
     }
 
-    /// Makes the view anew, unless it is fresh, which takes no memory then. For want of memory all stays.
+    /// Makes the view anew, unless it is fresh, which takes no memory and no step then. For want of memory all stays.
+    /// The steps rise by at most the nodes that are made for units, what evaluation charges each unit, and the items
+    /// that it shows on pages.
     pub fn refresh<L: Ledger>(&mut self, alloc: Global, steps: &mut Steps<L>) -> Result<(), Memory>
         ensures fresh { OnOk result (self.new.fresh ≡ true) }
         ensures view { OnOk result (IsView self.new.buffers self.new.width self.new.height self.new.shown) }
@@ -127,6 +130,8 @@ impl View {
         ensures kept { self.old.fresh ≡ true → self.new ≡ self.old }
         ensures ready { self.old.fresh ≡ true → IsOk result }
         ensures err { OnErr result (self.new ≡ self.old) }
+        ensures counted { OnOk result (steps.new ≤ steps.old + cost_from_nothing self.old.buffers) }
+        ensures free { self.old.fresh ≡ true → steps.new ≡ steps.old }
     {
         if self.fresh {
             return Ok(());

@@ -2,6 +2,12 @@
 #![tactic(auto)]
 
 #[cfg(test)]
+mod budgets;
+#[cfg(test)]
+mod columns;
+#[cfg(test)]
+mod runs;
+#[cfg(test)]
 mod tables;
 #[cfg(test)]
 mod told;

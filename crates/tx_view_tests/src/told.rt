@@ -63,7 +63,7 @@ fn push_line(text: &mut String, line: &Line) -> Option<()> {
     for item in line.items.all() {
         push_item(text, item)?;
     }
-    text.push('/').ok()
+    Some(())
 }
 
 /// The lines of all pages, a stroke behind each line and each page.
@@ -72,9 +72,17 @@ pub(crate) fn pages_told(alloc: Global, view: &View) -> Option<String> {
     for page in view.pages() {
         for r in page.from..page.to {
             push_line(&mut text, view.line(r)?)?;
+            text.push('/').ok()?;
         }
         text.push('/').ok()?;
     }
+    Some(text)
+}
+
+/// The line in a row.
+pub(crate) fn line_told(alloc: Global, view: &View, r: u32) -> Option<String> {
+    let mut text = String::new(alloc);
+    push_line(&mut text, view.line(r)?)?;
     Some(text)
 }
 

@@ -1,6 +1,7 @@
-use Rattle.std.proofs.Common.{ap, ◌∙◌}
+use Rattle.std.proofs.Common.{ap, ◌∙◌, arith}
 use Rattle.tx_view_form.specs.Started.{attributes_of}
 use Rattle.tx_view.proofs.Prefixes.{shown_by, few_lines, few_errors}
+use Rattle.tx_view.proofs.Costing.{items_by}
 use Rattle.tx_view.proofs.following.next_shown.Goals as goal
 
 pub show-requires-clause-small : goal.show-requires-clause-small
@@ -21,3 +22,13 @@ pub returns-clause-errors : goal.returns-clause-errors
 returns-clause-errors g c =
     few_errors c.in_ok-value.value c.args.moment.now c.evaluate.new.self _ c.in_ok-value.ensures.paid
     c.in_ok-shown.ensures.few_errors
+
+pub returns-clause-counted : goal.returns-clause-counted
+returns-clause-counted g c =
+    omega (
+      arith,
+      items_by c.args.unit.now.path (c.in_ok-attrs.ensures ∙ ap attributes_of c.env.ensures)
+          c.in_ok-value.ensures.value,
+      c.in_ok-value.ensures.counted,
+      c.in_ok-shown.ensures.counted,
+    )

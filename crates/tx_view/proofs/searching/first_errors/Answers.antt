@@ -1,4 +1,4 @@
-use Rattle.std.proofs.Common.{◌≡◌, ◌+◌, length, map, refl, ap, rules, arith}
+use Rattle.std.proofs.Common.{◌≡◌, ◌+◌, length, ap, rules, arith}
 use Rattle.tx_view_form.specs.Views.{UnitView}
 use Rattle.tx_view.specs.Units.{unit_view}
 use Rattle.tx_view.proofs.UnitRows.{sums_fit, sums_next, as_many_errors, placed_errors}

@@ -1,4 +1,4 @@
-use Rattle.std.proofs.Common.{◌≡◌, ◌+◌, length, map, refl, ap, rules, arith}
+use Rattle.std.proofs.Common.{◌≡◌, ◌+◌, length, refl, ap, rules, arith}
 use Rattle.tx_view_form.specs.Views.{UnitView}
 use Rattle.tx_view.proofs.UnitRows.{sums_fit, sums_next}
 use Rattle.tx_view.proofs.searching.first_rows.Goals as goal

@@ -1,4 +1,4 @@
-use Rattle.std.proofs.Common.{◌≡◌, ◌+◌, ◌≤◌, ◌<◌, ◌-◌, length, get_or}
+use Rattle.std.proofs.Common.{◌≤◌, ◌<◌, ◌-◌, length, get_or}
 use Rattle.tx_view.proofs.searching.unit_of.Given as goal
 
 abbrev pub invariant-loop-high : goal.invariant-loop-high

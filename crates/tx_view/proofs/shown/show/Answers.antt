@@ -1,6 +1,7 @@
-use Rattle.std.proofs.Common.{◌∙◌}
+use Rattle.std.proofs.Common.{◌∙◌, arith}
 use Rattle.tx_items.specs.Shows.{shown_paragraphs}
 use Rattle.tx_view.proofs.Lining.{few_items, shown_nowhere}
+use Rattle.tx_view.proofs.Costing.{items_nowhere}
 use Rattle.tx_view.proofs.shown.show.Goals as goal
 
 pub returns-in_default-clause-shown : goal.returns-in_default-clause-shown
@@ -8,6 +9,10 @@ returns-in_default-clause-shown g c =
     shown_nowhere c.args.width c.args.attrs.now c.args.value.now c.args.path.now c.in_ok-paragraphs.errors.items
     c.new.result.items c.new-in_default.result.items
     c.in_default.is c.in_ok-paragraphs.ensures.errors c.new.ensures.items c.new-in_default.ensures.items
+
+pub returns-in_default-clause-counted : goal.returns-in_default-clause-counted
+returns-in_default-clause-counted g c =
+    omega (arith, items_nowhere c.args.attrs.now c.args.value.now c.args.path.now c.in_default.is)
 
 pub lines_of-requires-clause-few : goal.lines_of-requires-clause-few
 lines_of-requires-clause-few g c =

@@ -1,7 +1,6 @@
-use Rattle.std.proofs.Common.{◌≡◌, ◌-◌, ◌+◌, refl, sym, subst, ap, ◌∙◌}
+use Rattle.std.proofs.Common.{◌+◌, refl, sym, subst, ap, ◌∙◌}
 use Rattle.std.specs.Prelude.{Some, None}
 use Rattle.tx_origin.specs.TaggedTrees.{tagged_of}
-use Rattle.tx_exec_form.specs.Evaluated.{evaluated}
 use Rattle.tx_exec.specs.States.{before_of}
 use Rattle.tx_exec.specs.Outcomes.{wide_trace, wide_outcome, NamesOnce}
 use Rattle.tx_view_form.specs.Outcomes.{value_of}

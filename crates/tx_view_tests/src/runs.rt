@@ -1,0 +1,66 @@
+// Documents of many paragraphs, and what their rows show, as runs of equal ones.
+use crate::told::line_told;
+use std::alloc::Global;
+use tx_view::View;
+
+// Paragraphs with one tree: how often it stands, for how many bytes a tilde in it stands, and the tree.
+fn push_paragraphs(alloc: Global, text: &mut String, told: &str) -> Option<()> {
+    let (count, rest) = told.split_once(' ')?;
+    let (bytes, tree) = rest.split_once(' ')?;
+    let filled = "z".repeat(alloc, bytes.parse::<usize>().ok()?).ok()?;
+    let tree = tree.replace(alloc, "~", filled.as_str()).ok()?;
+    for _ in 0..count.parse::<u32>().ok()? {
+        text.push(' ').ok()?;
+        text.push_str(tree.as_str()).ok()?;
+    }
+    Some(())
+}
+
+/// The document whose paragraphs are told, `;` between those with one tree.
+pub(crate) fn document_of(alloc: Global, told: &str) -> Option<String> {
+    let mut text = String::from_str(alloc, "d (document").ok()?;
+    for part in told.split(';') {
+        push_paragraphs(alloc, &mut text, part)?;
+    }
+    text.push(')').ok()?;
+    Some(text)
+}
+
+fn push_run(alloc: Global, text: &mut String, count: u32, line: &str) -> Option<()> {
+    text.push_str(format!(in alloc; "{count} {line};").ok()?.as_str())
+        .ok()
+}
+
+/// The lines of all rows: how often each stands, a space and the line, `;` behind each.
+pub(crate) fn lines_told(alloc: Global, view: &View) -> Option<String> {
+    let mut text = String::new(alloc);
+    let mut last = String::new(alloc);
+    let mut count: u32 = 0;
+    for r in 0..view.rows() {
+        let line = line_told(alloc, view, r)?;
+        if count > 0 && line.as_str() != last.as_str() {
+            push_run(alloc, &mut text, count, last.as_str())?;
+            count = 0;
+        }
+        count = count.saturating_add(1);
+        last = line;
+    }
+    push_run(alloc, &mut text, count, last.as_str())?;
+    Some(text)
+}
+
+/// Whether the errors are those of the rows that show one, in order, each with the path of its row's unit, where each
+/// unit is one row.
+pub(crate) fn errors_stand(alloc: Global, view: &View) -> Option<bool> {
+    let mut next: u32 = 0;
+    for r in 0..view.rows() {
+        if line_told(alloc, view, r)?.as_str().starts_with("<!") {
+            let (path, _) = view.error(next)?;
+            if path?.steps() != view.base(r)?.steps() {
+                return Some(false);
+            }
+            next = next.saturating_add(1);
+        }
+    }
+    Some(next == view.errors())
+}
