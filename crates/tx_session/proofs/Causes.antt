@@ -1,39 +1,29 @@
 -- Why a run ends as it does.
 use Rattle.std.proofs.Common.{◌≡◌, ◌≢◌, ◌⊎◌, inl, inr, ℕ, true, false, Bor, List, [], ◌++◌, Option, Some, None, IfSome}
-use Rattle.std.proofs.Common.{refl, sym, subst, ◌∙◌}
+use Rattle.std.proofs.Common.{refl, sym, ap, subst, ◌∙◌}
 use Rattle.std.specs.Io.KnownBytes.{append_known}
 use Rattle.tx_outside.specs.Files.{Files}
 use Rattle.tx_outside.specs.Known.{AppendsPart}
 use Rattle.tx_outside.proofs.Pieces.{append_known-then, append_known-nil}
-use Rattle.tx_tree.specs.WideTree.{WideTree}
 use Rattle.tx_session.specs.declared.status.Status.{Status}
 use Rattle.tx_session.specs.declared.status.Status.TheVariants as statuses
-use Rattle.tx_session.specs.Outcomes.{Outcome, Holds, faulty_words, missing, too_long, no_tree, store_fault, no_memory}
-use Rattle.tx_session.specs.Outcomes.{opened, ComesTo, file_in, status_of, text_of}
+use Rattle.tx_words.specs.Words.{Ask, AreFaulty, Named}
+use Rattle.tx_open.specs.declared.opening.Opened.{Opened}
+use Rattle.tx_open.specs.declared.opening.Opening.{Opening}
+use Rattle.tx_open.specs.declared.opening.Opening.TheVariants as openings
+use Rattle.tx_open.specs.Openings.{outcome_of}
+use Rattle.tx_open.specs.Outcomes.{Outcome, faulty_words, missing, too_long, no_tree, store_fault, no_memory, opened}
+use Rattle.tx_open.specs.Outcomes.{ComesTo, EndsOf, Holds, IsCaused}
+use Rattle.tx_open.proofs.Files.{no_fault}
+use Rattle.tx_session.specs.Forms.{SpellsNoTree}
+use Rattle.tx_session.specs.Outcomes.{status_of, text_of}
 use Rattle.tx_session.specs.Worlds.{World, Stored, KeepsFiles}
-use Rattle.tx_session.specs.Openings.{outcome_of}
-use Rattle.tx_session.specs.declared.opening.Opening.{Opening}
-use Rattle.tx_session.specs.declared.opening.Opening.TheVariants as openings
 use Rattle.tx_doc.specs.Forms.{form_of}
-use Rattle.tx_session.specs.Forms.{SpellsIn, IsFaultIn}
-use Rattle.tx_outside.specs.Files.{file_of}
-use Rattle.tx_session.specs.Runs.{Rises, Outside, IsCaused, IsRefused, CanBeOpened, CanBeRead, Tells, IsRun, IsWritten}
+use Rattle.tx_session.specs.Runs.{Rises, Outside, IsRefused, CanBeRead, Tells, IsRun, IsWritten}
 use Rattle.tx_session.specs.Runs.{IsCutShort, IsWhole, IsBeingWritten, own_line, start_of}
 use Rattle.tx_session.specs.Differences.{EndsAtOpening}
 use Rattle.tx_session.specs.Playing.{HasPlayed, IsCutOff, IsEnd, IsClosed, IsClosedInPart, IsServed, IsLine}
 use Rattle.tx_session.proofs.Lining.{long_unread}
-use Rattle.tx_session.proofs.Single.{no_fault}
-
--- where the words aren't faulty they name a file
-pub taken : (words : List (List ℕ)) (files : Option Files) (o : Outcome) → ComesTo words files o
-    → (o ≡ faulty_words → ⊥) → (file : List ℕ) × (file_in words ≡ Some file)
-taken words files faulty_words h n = absurd (n refl)
-taken words files (missing file) h n = (file, h.0)
-taken words files (too_long file) h n = (file, h.0)
-taken words files (no_tree file fault) h n = (file, h.0)
-taken words files (store_fault file) h n = (file, h)
-taken words files no_memory h n = h
-taken words files (opened file t) h n = (file, h.0)
 
 -- a run that was written, whole or in part
 pub run_of : (rises : Rises) (words : List (List ℕ)) (status : Status) (before after : Outside)
@@ -51,7 +41,7 @@ run_of rises words statuses.ScriptLong before after done cut = done (λ e. cc)
 
 -- no file was opened
 abbrev pub IsUnopened : Outcome → Type 0
-IsUnopened o = (file : List ℕ) (t : WideTree) → o ≢ opened file t
+IsUnopened o = (all : Opened) → o ≢ opened all
 
 module _ (before after : Stored) (loaded : KeepsFiles before after) (told : Option (List ℕ)) where
   whole_line : (o : Outcome) → IsUnopened o → IsWhole o before after told [] told (status_of o) (text_of o)
@@ -61,9 +51,10 @@ module _ (before after : Stored) (loaded : KeepsFiles before after) (told : Opti
   whole_line (no_tree file fault) u = (refl, refl, refl, refl, loaded)
   whole_line (store_fault file) u = (refl, refl, refl, refl, loaded)
   whole_line no_memory u = (refl, refl, refl, refl, loaded)
-  whole_line (opened file t) u = absurd (u file t refl)
+  whole_line (opened all) u = absurd (u all refl)
 
-  line_being : (rises : Rises) (o : Outcome) → IsCaused rises o → IsUnopened o
+  line_being : (rises : Rises) (o : Outcome)
+      → IsCaused rises.misses rises.longs rises.store_faults o → IsUnopened o
       → IsBeingWritten rises o before after told told [] (text_of o)
   line_being rises faulty_words c u = (refl, refl, refl, loaded, c)
   line_being rises (missing file) c u = (refl, refl, refl, loaded, c)
@@ -71,7 +62,7 @@ module _ (before after : Stored) (loaded : KeepsFiles before after) (told : Opti
   line_being rises (no_tree file fault) c u = (refl, refl, refl, loaded, c)
   line_being rises (store_fault file) c u = (refl, refl, refl, loaded, c)
   line_being rises no_memory c u = (refl, refl, refl, loaded, c)
-  line_being rises (opened file t) c u = absurd (u file t refl)
+  line_being rises (opened all) c u = absurd (u all refl)
 
 nothing_before : (before after : Option (List ℕ)) (part : List ℕ) → AppendsPart part before after
     → AppendsPart part (append_known before []) after
@@ -79,7 +70,8 @@ nothing_before before after part p = subst (λ b. AppendsPart part b after) (sym
 
 -- the line of an outcome that opened no file
 pub line_run : (rises : Rises) (words : List (List ℕ)) (stored later : Stored) (told : Option (List ℕ)) (o : Outcome)
-    (status : Status) (before after : Option (List ℕ)) → KeepsFiles stored later → IsCaused rises o → IsUnopened o
+    (status : Status) (before after : Option (List ℕ)) → KeepsFiles stored later
+    → IsCaused rises.misses rises.longs rises.store_faults o → IsUnopened o
     → ComesTo words stored.files o
     → (status ≢ statuses.OutputFault → (status ≡ status_of o) × (after ≡ append_known before (text_of o)))
     → (status ≡ statuses.OutputFault → AppendsPart (text_of o) before after)
@@ -180,10 +172,10 @@ served_closed failed statuses.ScriptLong start last told rest before after n e =
 
 -- the run of a file that was opened
 module _ (rises : Rises) (words : List (List ℕ)) (stored first : Stored) (last : World) (told rest : Option (List ℕ))
-    (file : List ℕ) (t : WideTree) (before after : Option (List ℕ)) (loaded : KeepsFiles stored first)
-    (comes : ComesTo words stored.files (opened file t)) where
+    (all : Opened) (before after : Option (List ℕ)) (loaded : KeepsFiles stored first)
+    (comes : ComesTo words stored.files (opened all)) where
   abbrev beginning : World
-  beginning = record { session = start_of file t; store = first }
+  beginning = record { session = start_of all; store = first }
 
   cut_run : IsCutOff beginning last told before after ⊎ IsClosedInPart rises.input_faults beginning last told rest
       before after
@@ -191,7 +183,7 @@ module _ (rises : Rises) (words : List (List ℕ)) (stored first : Stored) (last
       (record { store = last.store; input = rest; output = after })
   cut_run (inl c) =
       record {
-        outcome = opened file t;
+        outcome = opened all;
         done = c.done;
         part = c.reply;
         comes = comes;
@@ -200,7 +192,7 @@ module _ (rises : Rises) (words : List (List ℕ)) (stored first : Stored) (last
       }
   cut_run (inr c) =
       record {
-        outcome = opened file t;
+        outcome = opened all;
         done = c.played.replies;
         part = own_line c.status;
         comes = comes;
@@ -224,7 +216,7 @@ module _ (rises : Rises) (words : List (List ℕ)) (stored first : Stored) (last
       (record { store = last.store; input = rest; output = after })
       (λ n. let c = served_closed rises.input_faults status beginning last told rest before after n s in
       record {
-        outcome = opened file t;
+        outcome = opened all;
         marks = c.marks;
         text = c.replies ++ own_line status;
         comes = comes;
@@ -237,8 +229,8 @@ module _ (rises : Rises) (words : List (List ℕ)) (stored first : Stored) (last
 
 -- the line that says why no file was opened
 module _ (rises : Rises) (words : List (List ℕ)) (stored later : Stored) (o : Outcome) (status : Status)
-    (before after : Option (List ℕ)) (loaded : KeepsFiles stored later) (caused : IsCaused rises o) (u : IsUnopened o)
-    (n : o ≢ faulty_words)
+    (before after : Option (List ℕ)) (loaded : KeepsFiles stored later)
+    (caused : IsCaused rises.misses rises.longs rises.store_faults o) (u : IsUnopened o)
     (comes : ComesTo words stored.files o) (line : IsLine o status before after ⊎ IsLine no_memory status before after)
   where
     pub reported_run : (told : Option (List ℕ))
@@ -247,23 +239,22 @@ module _ (rises : Rises) (words : List (List ℕ)) (stored later : Stored) (o : 
     reported_run told =
         elim line [
           | inl l ↦ line_run rises words stored later told o status before after loaded caused u comes l.done l.cut
-          | inr l ↦ line_run rises words stored later told no_memory status before after loaded tt (λ file t e. cc)
-              (taken words stored.files o comes n) l.done l.cut
+          | inr l ↦ line_run rises words stored later told no_memory status before after loaded tt (λ all e. cc) tt
+              l.done l.cut
         ]
 
     pub reported_status : status ≢ statuses.OutputFault → (status ≡ status_of o) ⊎ (status ≡ statuses.NoMemory)
     reported_status m = elim line [ inl l ↦ inl (l.done m).0 | inr l ↦ inr (l.done m).0 ]
 
 -- what became of the words, and why
-unopened : (r : Opening) → ((file : Bor (List ℕ)) (t : WideTree) → r ≡ openings.Opened file t → ⊥)
-    → IsUnopened (outcome_of r)
-unopened openings.FaultyWords n file t e = cc
-unopened (openings.Missing f) n file t e = cc
-unopened (openings.TooLong f) n file t e = cc
-unopened (openings.NoTree f c) n file t e = cc
-unopened (openings.StoreFault f) n file t e = cc
-unopened openings.NoMemory n file t e = cc
-unopened (openings.Opened f u) n file t e = n f u refl
+unopened : (r : Opening) → ((all : Opened) → r ≡ openings.Opened all → ⊥) → IsUnopened (outcome_of r)
+unopened openings.FaultyWords n all e = cc
+unopened (openings.Missing f) n all e = cc
+unopened (openings.TooLong f) n all e = cc
+unopened (openings.NoTree f c) n all e = cc
+unopened (openings.StoreFault f) n all e = cc
+unopened openings.NoMemory n all e = cc
+unopened (openings.Opened found) n all e = n found refl
 
 worded : (r : Opening) → r ≢ openings.FaultyWords → outcome_of r ≢ faulty_words
 worded openings.FaultyWords n e = n refl
@@ -272,7 +263,7 @@ worded (openings.TooLong f) n e = cc
 worded (openings.NoTree f c) n e = cc
 worded (openings.StoreFault f) n e = cc
 worded openings.NoMemory n e = cc
-worded (openings.Opened f u) n e = cc
+worded (openings.Opened all) n e = cc
 
 -- an outcome that opened no file, with a status
 abbrev pub Fits : Outcome → Status → Type 0
@@ -285,7 +276,7 @@ words_status (too_long f) n e = cc
 words_status (no_tree f c) n e = cc
 words_status (store_fault f) n e = cc
 words_status no_memory n e = cc
-words_status (opened f t) n e = cc
+words_status (opened all) n e = cc
 
 early_status : (o : Outcome) → (status_of o ≡ statuses.InputFault → ⊥) × (status_of o ≡ statuses.ScriptLong → ⊥)
     × (status_of o ≡ statuses.OutputFault → ⊥)
@@ -295,44 +286,37 @@ early_status (too_long f) = ((λ e. cc), (λ e. cc), (λ e. cc))
 early_status (no_tree f c) = ((λ e. cc), (λ e. cc), (λ e. cc))
 early_status (store_fault f) = ((λ e. cc), (λ e. cc), (λ e. cc))
 early_status no_memory = ((λ e. cc), (λ e. cc), (λ e. cc))
-early_status (opened f t) = ((λ e. cc), (λ e. cc), (λ e. cc))
+early_status (opened all) = ((λ e. cc), (λ e. cc), (λ e. cc))
+
+refused_of : (words : List (List ℕ)) (files : Option Files) (o : Outcome) (long : Type 0) (h : EndsOf words files o)
+    → (long ⊎ ((bytes : List ℕ) × Holds files h.ends.file.word bytes × SpellsNoTree (form_of h.ends.file.word) bytes))
+    → IsRefused words files long
+refused_of words files o long h why =
+    let ends = h.ends in
+    record {
+      width = h.width;
+      height = h.height;
+      before = ends.before;
+      buffers = ends.buffers;
+      file = ends.file;
+      behind = ends.behind;
+      asked = subst (Ask words h.width h.height) ends.parts h.asked;
+      read = ends.read;
+      refused = why;
+    }
 
 refused_outcome : (words : List (List ℕ)) (files : Option Files) (o : Outcome) (long : Type 0) → ComesTo words files o
-    → ((file : List ℕ) → o ≡ too_long file → long) → status_of o ≡ statuses.Refused → IsRefused words files long
-refused_outcome words files (too_long f) long h l e = (f, h.0, inl (l f refl))
+    → ((word : List ℕ) → o ≡ too_long word → long) → status_of o ≡ statuses.Refused → IsRefused words files long
+refused_outcome words files (too_long f) long h l e = refused_of words files (too_long f) long h (inl (l f refl))
 refused_outcome words files (no_tree f c) long h l e =
-    (f, h.0, inr (h.1.0, h.1.1, h.1.2, (λ t w k. no_fault (form_of f) h.1.0 c t h.1.3 k w)))
+    let why = h.ends.ends.1 in
+    refused_of words files (no_tree f c) long h
+    (inr (why.bytes, why.held, λ t w k. no_fault (form_of h.ends.file.word) why.bytes c t why.misspelled k w))
 refused_outcome words files faulty_words long h l e = cc
 refused_outcome words files (missing f) long h l e = cc
 refused_outcome words files (store_fault f) long h l e = cc
 refused_outcome words files no_memory long h l e = cc
-refused_outcome words files (opened f t) long h l e = cc
-
--- a file that can be opened isn't refused
-module _ (words : List (List ℕ)) (files : Option Files) (can : CanBeOpened words files) where
-  opened_outcome : (o : Outcome) → ComesTo words files o → (status_of o ≡ statuses.Missing → ⊥)
-      → ((file : List ℕ) → o ≡ too_long file → ⊥) → (status_of o ≡ statuses.StoreFault → ⊥) → IsUnopened o
-      → o ≢ faulty_words
-      → status_of o ≡ statuses.NoMemory
-  opened_outcome faulty_words h m l f u n = absurd (n refl)
-  opened_outcome (missing g) h m l f u n = absurd (m refl)
-  opened_outcome (too_long g) h m l f u n = absurd (l g refl)
-  opened_outcome (no_tree g c) h m l f u n =
-      absurd (tree_and_fault g can.2.0 h.1.0 can.2.1 (sym h.0 ∙ can.2.3) (subst (λ fs. Holds fs g h.1.0) can.1 h.1.1)
-      can.2.4 h.1.3 can.2.6)
-    where
-      tree_and_fault : (g file a b : List ℕ) → Some g ≡ Some file → file_of can.0 g ≡ Some a
-          → file_of can.0 file ≡ Some b → IsFaultIn (form_of g) a c → SpellsIn (form_of file) b can.2.2 → ⊥
-      tree_and_fault g file a b e h k fault spells =
-          let name : g ≡ file = cc in
-          let there : file_of can.0 file ≡ Some a = subst (λ x. file_of can.0 x ≡ Some a) name h in
-          let same : a ≡ b = cc in
-          no_fault (form_of file) b c can.2.2
-          (subst (λ x. IsFaultIn (form_of x) b c) name (subst (λ bs. IsFaultIn (form_of g) bs c) same fault)) spells
-          can.2.7
-  opened_outcome (store_fault g) h m l f u n = absurd (f refl)
-  opened_outcome no_memory h m l f u n = refl
-  opened_outcome (opened g t) h m l f u n = absurd (u g t refl)
+refused_outcome words files (opened all) long h l e = cc
 
 -- a served session, by its status
 unread_told : (told : Option (List ℕ)) (script : List ℕ) → Tells told script → (CanBeRead script → ⊥)
@@ -373,78 +357,134 @@ served_complete failed statuses.Missing start last told rest before after script
 served_complete failed statuses.Refused start last told rest before after script s e can i o = absurd s.played
 served_complete failed statuses.StoreFault start last told rest before after script s e can i o = absurd s.played
 
-caused_of : (rises : Rises) (o : Outcome) → (status_of o ≡ statuses.Missing → rises.misses)
-    → (status_of o ≡ statuses.StoreFault → rises.store_faults) → ((file : List ℕ) → o ≡ too_long file → rises.longs)
-    → IsCaused rises o
-caused_of rises faulty_words m f l = tt
-caused_of rises (missing file) m f l = m refl
-caused_of rises (too_long file) m f l = l file refl
-caused_of rises (no_tree file c) m f l = tt
-caused_of rises (store_fault file) m f l = f refl
-caused_of rises no_memory m f l = tt
-caused_of rises (opened file t) m f l = tt
+module _ (misses longs faults : Type 0) where
+  pub caused_of : (o : Outcome) → ((word : List ℕ) → o ≡ missing word → misses)
+      → ((word : List ℕ) → o ≡ too_long word → longs) → ((word : List ℕ) → o ≡ store_fault word → faults)
+      → IsCaused misses longs faults o
+  caused_of faulty_words m l f = tt
+  caused_of (missing word) m l f = m word refl
+  caused_of (too_long word) m l f = l word refl
+  caused_of (no_tree word c) m l f = tt
+  caused_of (store_fault word) m l f = f word refl
+  caused_of no_memory m l f = tt
+  caused_of (opened all) m l f = tt
+
+  missed : (o : Outcome) → IsCaused misses longs faults o → status_of o ≡ statuses.Missing → misses
+  missed faulty_words c e = cc
+  missed (missing word) c e = c
+  missed (too_long word) c e = cc
+  missed (no_tree word fault) c e = cc
+  missed (store_fault word) c e = cc
+  missed no_memory c e = cc
+  missed (opened all) c e = cc
+
+  failed_store : (o : Outcome) → IsCaused misses longs faults o → status_of o ≡ statuses.StoreFault → faults
+  failed_store faulty_words c e = cc
+  failed_store (missing word) c e = cc
+  failed_store (too_long word) c e = cc
+  failed_store (no_tree word fault) c e = cc
+  failed_store (store_fault word) c e = c
+  failed_store no_memory c e = cc
+  failed_store (opened all) c e = cc
+
+  long_file : (o : Outcome) → IsCaused misses longs faults o → (word : List ℕ) → o ≡ too_long word → longs
+  long_file o c word e = subst (IsCaused misses longs faults) e c
 
 -- what became of the words where no file was opened
-pub record Unopened (words : List (List ℕ)) (files : Option Files) (status : Status)
+pub record Unopened (words : List (List ℕ)) (files : Option Files) (r : Opening) (status : Status)
     (misses longs faults : Type 0) : Type 0 where
   pub not_words : status ≡ statuses.Words → ⊥
-  pub named : file_in words ≡ None → ⊥
   pub missing_counted : status ≡ statuses.Missing → misses
   pub refused : status ≡ statuses.Refused → IsRefused words files longs
   pub fault_counted : status ≡ statuses.StoreFault → faults
   pub not_input : status ≡ statuses.InputFault → ⊥
   pub not_long : status ≡ statuses.ScriptLong → ⊥
-  pub complete : CanBeOpened words files → ¬ misses → ¬ longs → ¬ faults → (status ≡ statuses.OutputFault → ⊥)
-      → status ≡ statuses.NoMemory
+  pub words_only : AreFaulty words
+      → (status ≡ statuses.Words) ⊎ (status ≡ statuses.NoMemory) ⊎ (status ≡ statuses.OutputFault)
+  pub complete : (r ≡ openings.NoMemory) ⊎ ((all : Opened) × (r ≡ openings.Opened all))
+      → (status ≡ statuses.OutputFault → ⊥) → status ≡ statuses.NoMemory
+
+is_output_fault : (s : Status) → (s ≡ statuses.OutputFault) ⊎ (s ≢ statuses.OutputFault)
+is_output_fault statuses.OutputFault = inl refl
+is_output_fault statuses.Ok = inr (λ e. cc)
+is_output_fault statuses.Words = inr (λ e. cc)
+is_output_fault statuses.Missing = inr (λ e. cc)
+is_output_fault statuses.Refused = inr (λ e. cc)
+is_output_fault statuses.StoreFault = inr (λ e. cc)
+is_output_fault statuses.InputFault = inr (λ e. cc)
+is_output_fault statuses.NoMemory = inr (λ e. cc)
+is_output_fault statuses.ScriptLong = inr (λ e. cc)
+
+-- where a file decided, the words ask for files
+asking : (words : List (List ℕ)) (files : Option Files) (o : Outcome) → EndsOf words files o → AreFaulty words → ⊥
+asking words files o h faulty = faulty h.width h.height h.names h.asked
+
+nothing_asked : (words : List (List ℕ)) (files : Option Files) (o : Outcome) → ComesTo words files o → IsUnopened o
+    → o ≢ faulty_words → AreFaulty words → status_of o ≡ statuses.NoMemory
+nothing_asked words files faulty_words h u n faulty = absurd (n refl)
+nothing_asked words files (missing word) h u n faulty = absurd (asking words files (missing word) h faulty)
+nothing_asked words files (too_long word) h u n faulty = absurd (asking words files (too_long word) h faulty)
+nothing_asked words files (no_tree word c) h u n faulty = absurd (asking words files (no_tree word c) h faulty)
+nothing_asked words files (store_fault word) h u n faulty = absurd (asking words files (store_fault word) h faulty)
+nothing_asked words files no_memory h u n faulty = refl
+nothing_asked words files (opened all) h u n faulty = absurd (u all refl)
 
 module _ (words : List (List ℕ)) (stored later : Stored) (r : Opening) (status : Status)
     (before after : Option (List ℕ)) (misses longs faults failed : Type 0) (loaded : KeepsFiles stored later)
-    (comes : ComesTo words stored.files (outcome_of r))
-    (n : r ≢ openings.FaultyWords) (u : (file : Bor (List ℕ)) (t : WideTree) → r ≡ openings.Opened file t → ⊥)
-    (line : IsLine (outcome_of r) status before after ⊎ IsLine no_memory status before after)
-    (m : status_of (outcome_of r) ≡ statuses.Missing → misses) (f : status_of (outcome_of r) ≡ statuses.StoreFault
-    → faults) (l : (file : List ℕ) → outcome_of r ≡ too_long file → longs) where
-  caused : IsCaused (record { misses = misses; longs = longs; store_faults = faults; input_faults = failed })
-      (outcome_of r)
-  caused = caused_of (record { misses = misses; longs = longs; store_faults = faults; input_faults = failed })
-      (outcome_of r) m f l
+    (comes : ComesTo words stored.files (outcome_of r)) (caused : IsCaused misses longs faults (outcome_of r))
+    (n : r ≢ openings.FaultyWords) (u : (all : Opened) → r ≡ openings.Opened all → ⊥)
+    (line : IsLine (outcome_of r) status before after ⊎ IsLine no_memory status before after) where
+  abbrev rises : Rises
+  rises = record { misses = misses; longs = longs; store_faults = faults; input_faults = failed }
 
   pub unopened_run : (told : Option (List ℕ))
-      → IsRun (record { misses = misses; longs = longs; store_faults = faults; input_faults = failed }) words status
-      (record { store = stored; input = told; output = before })
+      → IsRun rises words status (record { store = stored; input = told; output = before })
       (record { store = later; input = told; output = after })
   unopened_run told =
-      reported_run (record { misses = misses; longs = longs; store_faults = faults; input_faults = failed }) words
-      stored later (outcome_of r) status before after loaded caused (unopened r u) (worded r n) comes line told
+      reported_run rises words stored later (outcome_of r) status before after loaded caused (unopened r u) comes line
+      told
 
   fits : status ≢ statuses.OutputFault → Fits (outcome_of r) status
-  fits d = reported_status (record { misses = misses; longs = longs; store_faults = faults; input_faults = failed })
-      words stored later (outcome_of r) status before after loaded caused (unopened r u) (worded r n) comes line d
+  fits d =
+      reported_status rises words stored later (outcome_of r) status before after loaded caused (unopened r u) comes
+      line d
 
   by_outcome : (s : Status) → status ≡ s → s ≢ statuses.OutputFault → s ≢ statuses.NoMemory
       → status_of (outcome_of r) ≡ s
   by_outcome s e o w = elim (fits (λ d. o (sym e ∙ d))) [ inl is ↦ sym is ∙ e | inr is ↦ absurd (w (sym e ∙ is)) ]
 
-  pub unopened_causes : Unopened words stored.files status misses longs faults
+  -- the words ask for nothing, or memory ran out before they were read
+  none_asked : AreFaulty words → status_of (outcome_of r) ≡ statuses.NoMemory
+  none_asked faulty = nothing_asked words stored.files (outcome_of r) comes (unopened r u) (worded r n) faulty
+
+  opened_not : (r ≡ openings.NoMemory) ⊎ ((all : Opened) × (r ≡ openings.Opened all))
+      → status_of (outcome_of r) ≡ statuses.NoMemory
+  opened_not (inl e) = ap (λ o. status_of (outcome_of o)) e
+  opened_not (inr e) = absurd (u e.0 e.1)
+
+  wanting : status_of (outcome_of r) ≡ statuses.NoMemory → status ≢ statuses.OutputFault
+      → status ≡ statuses.NoMemory
+  wanting e d = elim (fits d) [ inl is ↦ is ∙ e | inr is ↦ is ]
+
+  pub unopened_causes : Unopened words stored.files r status misses longs faults
   unopened_causes =
       record {
         not_words = λ e. words_status (outcome_of r) (worded r n) (by_outcome statuses.Words e (λ d. cc) (λ d. cc));
-        named = λ e. let t = taken words stored.files (outcome_of r) comes (worded r n) in none_some words t.0 e t.1;
-        missing_counted = λ e. m (by_outcome statuses.Missing e (λ d. cc) (λ d. cc));
-        refused = λ e. refused_outcome words stored.files (outcome_of r) longs comes l
+        missing_counted = λ e. missed misses longs faults (outcome_of r) caused
+            (by_outcome statuses.Missing e (λ d. cc) (λ d. cc));
+        refused = λ e. refused_outcome words stored.files (outcome_of r) longs comes
+            (long_file misses longs faults (outcome_of r) caused)
             (by_outcome statuses.Refused e (λ d. cc) (λ d. cc));
-        fault_counted = λ e. f (by_outcome statuses.StoreFault e (λ d. cc) (λ d. cc));
+        fault_counted = λ e. failed_store misses longs faults (outcome_of r) caused
+            (by_outcome statuses.StoreFault e (λ d. cc) (λ d. cc));
         not_input = λ e. (early_status (outcome_of r)).0 (by_outcome statuses.InputFault e (λ d. cc) (λ d. cc));
         not_long = λ e. (early_status (outcome_of r)).1 (by_outcome statuses.ScriptLong e (λ d. cc) (λ d. cc));
-        complete = λ can nm nl nf d. elim (fits d) [
-          | inl is ↦ is ∙ opened_outcome words stored.files can (outcome_of r) comes (λ e. nm (m e))
-              (λ file e. nl (l file e)) (λ e. nf (f e)) (unopened r u) (worded r n)
-          | inr is ↦ is
+        words_only = λ faulty. elim (is_output_fault status) [
+          | inl e ↦ inr (inr e)
+          | inr d ↦ inr (inl (wanting (none_asked faulty) d))
         ];
+        complete = λ found d. wanting (opened_not found) d;
       }
-    where
-      none_some : (words : List (List ℕ)) (file : List ℕ) → file_in words ≡ None → file_in words ≡ Some file → ⊥
-      none_some words file e s = cc
 
 -- a session that was served has opened its file
 pub served_unread : (failed : Type 0) (status : Status) (start last : World) (told rest before after : Option (List ℕ))

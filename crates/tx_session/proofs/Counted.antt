@@ -6,8 +6,8 @@ use Rattle.tx_outside.proofs.Counting.{never_falls_refl, never_falls_then}
 use Rattle.tx_session.specs.Replies.{Reading, nothing, too_long, unread, command, faulty, IsReply, IsReplyTo}
 use Rattle.tx_session.specs.declared.status.Status.{Status}
 use Rattle.tx_session.specs.declared.status.Status.TheVariants as statuses
-use Rattle.tx_session.specs.Outcomes.{Outcome, faulty_words, missing, too_long as file_too_long, no_tree, store_fault}
-use Rattle.tx_session.specs.Outcomes.{no_memory, opened}
+use Rattle.tx_open.specs.Outcomes.{Outcome, faulty_words, missing, too_long as file_too_long, no_tree, store_fault}
+use Rattle.tx_open.specs.Outcomes.{no_memory, opened}
 use Rattle.tx_session.specs.Runs.{IsPlayed, IsWhole, start_of}
 use Rattle.tx_session.specs.Scripts.{Answered, before_quit}
 use Rattle.tx_session.specs.Worlds.{World, Stored, Mark, plain, lacking, unsaved, Stores, RoseBy, unsaved_in}
@@ -109,8 +109,8 @@ unopened_counted v x marks e never =
 
 pub whole_counted : (o : Outcome) (v x : Stored) (told r : Option (List ℕ)) (marks : List Mark) (s : Status)
     (a : List ℕ) → IsWhole o v x told marks r s a → RoseBy (unsaved_in marks) v.faults x.faults
-whole_counted (opened f u) v x told r marks s a h =
-    let first : World = record { session = start_of f u; store = h.2 } in
+whole_counted (opened all) v x told r marks s a h =
+    let first : World = record { session = start_of all; store = h.2 } in
     let played : RoseBy (unsaved_in marks) h.2.faults h.3.store.faults =
     played_counted first h.3 h.0 marks r s h.1 h.6 in
     subst (λ z. RoseBy (unsaved_in marks) v.faults z.faults) h.7

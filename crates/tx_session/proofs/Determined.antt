@@ -11,13 +11,13 @@ use Rattle.tx_session.specs.Worlds.{World, Stored, Mark, plain, lacking, unsaved
 use Rattle.tx_session.specs.Replies.{fresh_after, Reading, nothing, too_long, unread, command, faulty, wanting_reply}
 use Rattle.tx_session.specs.Replies.{IsRead, IsReply, IsReplyTo, IsRefusal, IsLineReply}
 use Rattle.tx_session.specs.Scripts.{Answered, before_quit, command_line}
-use Rattle.tx_session.specs.Outcomes.{Outcome, faulty_words, missing, too_long as file_too_long, no_tree, store_fault}
-use Rattle.tx_session.specs.Outcomes.{no_memory, opened, ComesTo, IsDecided}
+use Rattle.tx_open.specs.Outcomes.{Outcome, faulty_words, missing, too_long as file_too_long, no_tree, store_fault}
+use Rattle.tx_open.specs.Outcomes.{no_memory, opened, ComesTo, IsDecided}
 use Rattle.tx_session.specs.Runs.{IsWhole, IsPlayed, IsFinal, own_line, start_of}
 use Rattle.tx_session.proofs.Answering.{OneView, one_answer}
 use Rattle.tx_session.proofs.Turning.{same_seen}
 use Rattle.tx_session.proofs.Lining.{script_lines_once, long_unread}
-use Rattle.tx_session.proofs.Single.{one_outcome}
+use Rattle.tx_session.proofs.Openings.{OneOutcome}
 
 -- of two readings without want of memory
 pub one_reading : (text : List ℕ) (a b : Reading) → a ≢ unread → b ≢ unread → IsRead text a → IsRead text b → a ≡ b
@@ -173,15 +173,15 @@ decided faulty_words before after told r marks s a fin w = tt
 decided (missing f) before after told r marks s a fin w = tt
 decided (file_too_long f) before after told r marks s a fin w = tt
 decided (no_tree f c) before after told r marks s a fin w = tt
-decided (opened f t) before after told r marks s a fin w = tt
+decided (opened all) before after told r marks s a fin w = tt
 
 module _ (law : OneView) (v w x y : Stored) (script : List ℕ) (marks : List Mark) (r q : Option (List ℕ)) (s t : Status)
     (a b : List ℕ) (fs : IsFinal s) (ft : IsFinal t) where
   same_whole : (o : Outcome) → IsWhole o v x (Some script) marks r s a → IsWhole o w y (Some script) marks q t b
       → (s ≡ t) × (a ≡ b)
-  same_whole (opened f u) h k =
-      let first : World = record { session = start_of f u; store = h.2 } in
-      let other : World = record { session = start_of f u; store = k.2 } in
+  same_whole (opened all) h k =
+      let first : World = record { session = start_of all; store = h.2 } in
+      let other : World = record { session = start_of all; store = k.2 } in
       let same = played_once law first other h.3 k.3 script marks r q s t h.1 k.1 refl fs ft
       (subst (λ z. IsPlayed first z marks r s h.3 h.1) (sym h.5) h.6)
       (subst (λ z. IsPlayed other z marks q t k.3 k.1) (sym k.5) k.6) in
@@ -193,13 +193,13 @@ module _ (law : OneView) (v w x y : Stored) (script : List ℕ) (marks : List Ma
   same_whole (store_fault f) h k = (h.1 ∙ sym k.1, h.2 ∙ sym k.2)
   same_whole no_memory h k = (h.1 ∙ sym k.1, h.2 ∙ sym k.2)
 
-pub one_run : (law : OneView) (words : List (List ℕ)) (all : Files) (script : List ℕ) (marks : List Mark)
-    (o p : Outcome)
+pub one_run : (law : OneView) (opens : OneOutcome) (words : List (List ℕ)) (all : Files) (script : List ℕ)
+    (marks : List Mark) (o p : Outcome)
     (v w x y : Stored) (r q : Option (List ℕ)) (s t : Status) (a b : List ℕ) → IsFinal s → IsFinal t
     → ComesTo words (Some all) o → ComesTo words (Some all) p
     → IsWhole o v x (Some script) marks r s a → IsWhole p w y (Some script) marks q t b → (s ≡ t) × (a ≡ b)
-one_run law words all script marks o p v w x y r q s t a b fs ft ho hp h k =
-    let same = one_outcome words all p o hp ho (decided p w y (Some script) q marks t b ft k)
+one_run law opens words all script marks o p v w x y r q s t a b fs ft ho hp h k =
+    let same = opens words all p o hp ho (decided p w y (Some script) q marks t b ft k)
     (decided o v x (Some script) r marks s a fs h) in
     same_whole law v w x y script marks r q s t a b fs ft o h
     (subst (λ z. IsWhole z w y (Some script) marks q t b) same k)

@@ -47,10 +47,13 @@ use Rattle.tx_cmd.specs.declared.command.Command.TheVariants.{Backspace, Enter, 
 use Rattle.tx_cmd.specs.declared.command.Command.TheVariants.{Attrs, Tree, Save, Quit}
 use Rattle.tx_cmd.specs.Commands.{IsCommand}
 use Rattle.tx_session.specs.Causes.{numbered}
-use Rattle.tx_session.specs.Forms.{Saving, no_form, file_long, writes, fitting, saving, has_text_in, text_in, SpellsIn}
+use Rattle.tx_session.specs.Forms.{Saving, no_form, file_long, writes, fitting, saving, has_text_in, text_in}
 use Rattle.tx_session.specs.Forms.{SpellsAloneIn}
 use Rattle.tx_print.specs.Lines.{line}
-use Rattle.tx_session.specs.Outcomes.{opened, ComesTo}
+use Rattle.tx_open.specs.declared.opening.Opened.{Opened}
+use Rattle.tx_open.specs.Forms.{SpellsIn}
+use Rattle.tx_open.specs.Outcomes.{opened, AreRead, ComesTo}
+use Rattle.tx_words.specs.Words.{Named}
 use Rattle.tx_session.specs.Replies.{Reading, nothing, too_long, unread, command, faulty, IsRead, IsReply, IsReplyTo}
 use Rattle.tx_session.specs.Replies.{IsRefusal, IsLineReply, IsDone}
 use Rattle.tx_session.specs.Runs.{start_of}
@@ -274,8 +277,18 @@ opened_formed : (form : Form) (bytes : List ℕ) (t : WideTree) → SpellsIn for
 opened_formed Scheme bytes t h = well_formed bytes t h
 opened_formed Tm bytes t h = spelled_tree bytes t h
 
-start_formed : (file : List ℕ) (t : WideTree) → IsFormedTree t → IsFormed (start_of file t).state
-start_formed file t f = record { now = (f, tt); past = tt; future = tt }
+-- files are read as formed trees
+read_formed : (files : Option Files) (names : List Named) (buffers : List Buffer) → AreRead files names buffers
+    → AreFormed buffers
+read_formed files [] [] h = tt
+read_formed files [] (b ∷ bs) h = absurd h
+read_formed files (f ∷ fs) [] h = absurd h
+read_formed files (f ∷ fs) (b ∷ bs) h =
+    let tree = h.0.1 in
+    ((opened_formed (form_of f.word) tree.bytes b.tree tree.spelled, tree.within), read_formed files fs bs h.1)
+
+start_formed : (all : Opened) → AreFormed all.buffers → IsFormed (start_of all).state
+start_formed all f = record { now = f; past = tt; future = tt }
 
 abbrev count_in : Saving → ℕ
 count_in no_form = 0
@@ -319,19 +332,18 @@ save_line text name reading before next reply e f a =
     saved_so name t before.store next.store reply (saving (form_of name) t)
     (tree_formed before.session.state.buffers before.session.state.selected f.now).0 refl done.1.answer.1 done.1.stored
 
-pub saves_alone : (words : List (List ℕ)) (files : Option Files) (file : List ℕ) (t : WideTree) (first : Stored)
-    → ComesTo words files (opened file t)
+pub saves_alone : (words : List (List ℕ)) (files : Option Files) (all : Opened) (first : Stored)
+    → ComesTo words files (opened all)
     → (lines : List (List ℕ)) (marks : List Mark) (seen : World) (done : List ℕ)
-    → Answered (record { session = start_of file t; store = first }) lines marks seen done
+    → Answered (record { session = start_of all; store = first }) lines marks seen done
     → (one name reply : List ℕ) (next : World) → IsRead (command_line one) (command (Save name))
     → IsLineReply seen (command_line one) plain next reply
     → IsSavedAlone name (selected_tree seen.session.state) seen.store next.store reply
     ⊎ IsNotSaved seen.store next.store reply
-saves_alone words files file t first opens lines marks seen done a one name reply next c r =
-    let spelled = opens.1 in
-    let formed : IsFormedTree t = (opened_formed (form_of file) spelled.0 t spelled.3, spelled.4) in
-    let now : IsFormedWorld seen = lines_formed (record { session = start_of file t; store = first }) seen lines marks
-    done (start_formed file t formed) a in
+saves_alone words files all first opens lines marks seen done a one name reply next c r =
+    let formed : AreFormed all.buffers = read_formed files opens.names all.buffers opens.read in
+    let now : IsFormedWorld seen = lines_formed (record { session = start_of all; store = first }) seen lines marks
+    done (start_formed all formed) a in
     let is : r.0 ≡ command (Save name) =
     one_reading (command_line one) r.0 (command (Save name)) (was_read seen r.0 plain next reply tt r.2)
     (not_unread (Save name)) r.1 c in

@@ -8,8 +8,8 @@ pub mod Turning
 pub mod Standing
 pub mod Ending
 pub mod Lining
+pub mod Openings
 pub mod Causes
-pub mod Single
 pub mod Answering
 pub mod Determined
 pub mod Replied
@@ -19,3 +19,4 @@ pub mod Plainly
 pub mod SameFiles
 pub mod SoundKeys
 pub mod InASession
+pub mod Nearby

@@ -9,8 +9,8 @@ use Rattle.tx_cmd.specs.declared.command.Command.{Command}
 use Rattle.tx_session.specs.declared.status.Status.{Status}
 use Rattle.tx_session.specs.declared.status.Status.TheVariants as statuses
 use Rattle.tx_session.specs.Differences.{HoldSameFiles}
-use Rattle.tx_session.specs.Outcomes.{Outcome, faulty_words, missing, too_long as file_too_long, no_tree, store_fault}
-use Rattle.tx_session.specs.Outcomes.{no_memory, opened, ComesTo}
+use Rattle.tx_open.specs.Outcomes.{Outcome, faulty_words, missing, too_long as file_too_long, no_tree, store_fault}
+use Rattle.tx_open.specs.Outcomes.{no_memory, opened, ComesTo}
 use Rattle.tx_session.specs.Replies.{Reading, nothing, too_long, unread, command, faulty, IsReply, IsReplyTo}
 use Rattle.tx_session.specs.Replies.{IsLineReply, IsRefusal}
 use Rattle.tx_session.specs.Runs.{IsFinal, IsPlayed, IsWhole, start_of}
@@ -19,7 +19,7 @@ use Rattle.tx_session.specs.States.{saved_by}
 use Rattle.tx_session.specs.Worlds.{World, Stored, Mark, plain, lacking, unsaved, Stores, unsaved_in}
 use Rattle.tx_session.proofs.Answering.{OneView}
 use Rattle.tx_session.proofs.Determined.{one_reading, was_read, one_line_reply, decided, one_run as one_text_run}
-use Rattle.tx_session.proofs.Single.{one_outcome}
+use Rattle.tx_session.proofs.Openings.{OneOutcome}
 use Rattle.tx_session.proofs.Lining.{script_lines_once}
 
 -- both tell these files
@@ -105,8 +105,8 @@ saves plain marks e = (λ f. cc, e)
 saves lacking marks e = (λ f. cc, e)
 saves unsaved marks e = absurd (omega (arith, e))
 
-pub answered_files : (law : OneView) (v w s t : World) (lines : List (List ℕ)) (marks : List Mark) (a b : List ℕ) → unsaved_in marks ≡ 0
-    → v.session ≡ w.session → HoldSameFiles (files_of v) (files_of w)
+pub answered_files : (law : OneView) (v w s t : World) (lines : List (List ℕ)) (marks : List Mark) (a b : List ℕ)
+    → unsaved_in marks ≡ 0 → v.session ≡ w.session → HoldSameFiles (files_of v) (files_of w)
     → Answered v lines marks s a → Answered w lines marks t b → HoldSameFiles (files_of s) (files_of t)
 answered_files law v w s t [] [] a b u same hold h k =
     moved (files_of v) (files_of s) (files_of w) (files_of t) (ap files_of h.0) (ap files_of k.0) hold
@@ -118,8 +118,8 @@ answered_files law v w s t (l ∷ lines) (m ∷ marks) a b u same hold h k =
     answered_files law h.0 k.0 s t lines marks h.2 k.2 kept.1 one.0
     (line_files v w same hold (command_line l) m h.0 k.0 h.1 k.1 kept.0 h.3 k.3) h.4 k.4
 
-played_files : (law : OneView) (v w x y : World) (script : List ℕ) (marks : List Mark) (r q : Option (List ℕ)) (s : Status)
-    (a b : List ℕ) → unsaved_in marks ≡ 0 → v.session ≡ w.session → HoldSameFiles (files_of v) (files_of w)
+played_files : (law : OneView) (v w x y : World) (script : List ℕ) (marks : List Mark) (r q : Option (List ℕ))
+    (s : Status) (a b : List ℕ) → unsaved_in marks ≡ 0 → v.session ≡ w.session → HoldSameFiles (files_of v) (files_of w)
     → IsFinal s → IsPlayed v script marks r s x a → IsPlayed w script marks q s y b
     → HoldSameFiles (files_of x) (files_of y)
 played_files law v w x y script marks r q statuses.Ok a b u e hold f h k =
@@ -136,19 +136,19 @@ played_files law v w x y script marks r q statuses.Refused a b u e hold f h k = 
 played_files law v w x y script marks r q statuses.StoreFault a b u e hold f h k = absurd h
 played_files law v w x y script marks r q statuses.OutputFault a b u e hold f h k = absurd h
 
-module _ (law : OneView) (v w x y : Stored) (all : Files) (ev : v.files ≡ Some all) (ew : w.files ≡ Some all) (script : List ℕ)
-    (marks : List Mark) (r q : Option (List ℕ)) (s : Status) (a b : List ℕ) (final : IsFinal s) where
+module _ (law : OneView) (v w x y : Stored) (files : Files) (ev : v.files ≡ Some files) (ew : w.files ≡ Some files)
+    (script : List ℕ) (marks : List Mark) (r q : Option (List ℕ)) (s : Status) (a b : List ℕ) (final : IsFinal s) where
   unopened_files : (x.files ≡ v.files) → (y.files ≡ w.files) → HoldSameFiles x.files y.files
-  unopened_files h k = both_tell x.files y.files all (h ∙ ev) (k ∙ ew)
+  unopened_files h k = both_tell x.files y.files files (h ∙ ev) (k ∙ ew)
 
   pub whole_files : (o : Outcome) → unsaved_in marks ≡ 0 → IsWhole o v x (Some script) marks r s a
       → IsWhole o w y (Some script) marks q s b → HoldSameFiles x.files y.files
-  whole_files (opened f u) none h k =
-      let first : World = record { session = start_of f u; store = h.2 } in
-      let other : World = record { session = start_of f u; store = k.2 } in
+  whole_files (opened all) none h k =
+      let first : World = record { session = start_of all; store = h.2 } in
+      let other : World = record { session = start_of all; store = k.2 } in
       let hold : HoldSameFiles h.3.store.files k.3.store.files =
       played_files law first other h.3 k.3 script marks r q s h.1 k.1 none refl
-      (both_tell h.2.files k.2.files all (h.4.0 ∙ ev) (k.4.0 ∙ ew)) final
+      (both_tell h.2.files k.2.files files (h.4.0 ∙ ev) (k.4.0 ∙ ew)) final
       (subst (λ z. IsPlayed first z marks r s h.3 h.1) (sym h.5) h.6)
       (subst (λ z. IsPlayed other z marks q s k.3 k.1) (sym k.5) k.6) in
       moved h.3.store.files x.files k.3.store.files y.files (sym (ap (λ z. z.files) h.7)) (sym (ap (λ z. z.files) k.7))
@@ -160,15 +160,15 @@ module _ (law : OneView) (v w x y : Stored) (all : Files) (ev : v.files ≡ Some
   whole_files (store_fault f) none h k = unopened_files h.4.0 k.4.0
   whole_files no_memory none h k = unopened_files h.4.0 k.4.0
 
-pub one_run : (law : OneView) (words : List (List ℕ)) (all : Files) (script : List ℕ) (marks : List Mark) (o p : Outcome)
-    (v w x y : Stored) (r q : Option (List ℕ)) (s t : Status) (a b : List ℕ) → IsFinal s → IsFinal t
-    → v.files ≡ Some all → w.files ≡ Some all
+pub one_run : (law : OneView) (opens : OneOutcome) (words : List (List ℕ)) (all : Files) (script : List ℕ)
+    (marks : List Mark) (o p : Outcome) (v w x y : Stored) (r q : Option (List ℕ)) (s t : Status) (a b : List ℕ)
+    → IsFinal s → IsFinal t → v.files ≡ Some all → w.files ≡ Some all
     → ComesTo words (Some all) o → ComesTo words (Some all) p → IsWhole o v x (Some script) marks r s a
     → IsWhole p w y (Some script) marks q t b
     → (s ≡ t) × (a ≡ b) × (unsaved_in marks ≡ 0 → HoldSameFiles x.files y.files)
-one_run law words all script marks o p v w x y r q s t a b fs ft ev ew ho hp h k =
-    let said = one_text_run law words all script marks o p v w x y r q s t a b fs ft ho hp h k in
-    let same = one_outcome words all p o hp ho (decided p w y (Some script) q marks t b ft k)
+one_run law opens words all script marks o p v w x y r q s t a b fs ft ev ew ho hp h k =
+    let said = one_text_run law opens words all script marks o p v w x y r q s t a b fs ft ho hp h k in
+    let same = opens words all p o hp ho (decided p w y (Some script) q marks t b ft k)
     (decided o v x (Some script) r marks s a fs h) in
     let other : IsWhole o w y (Some script) marks q s b =
     subst (λ z. IsWhole o w y (Some script) marks q z b) (sym said.0)

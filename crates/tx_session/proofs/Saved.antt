@@ -18,12 +18,16 @@ use Rattle.tx_session.specs.Causes.{numbered}
 use Rattle.tx_session.specs.Forms.{Saving, no_form, file_long, writes, fitting, saving, has_text_in, text_in}
 use Rattle.tx_session.specs.Forms.{SpellsAloneIn}
 use Rattle.tx_print.specs.Lines.{line}
-use Rattle.tx_session.specs.Outcomes.{Outcome, opened, ComesTo, Asks, IsDecided}
 use Rattle.tx_session.specs.Saying.{text_of, Says}
 use Rattle.tx_session.specs.Saves.{IsSaveReply, IsKeepReply}
 use Rattle.tx_session.specs.States.{save_reply, file_saved}
 use Rattle.tx_session.specs.Worlds.{Stored, Stores}
-use Rattle.tx_session.proofs.Single.{one_outcome}
+use Rattle.tx_words.specs.Names.{buffer_name}
+use Rattle.tx_words.specs.Words.{Ask, named}
+use Rattle.tx_open.specs.declared.opening.Opened.{Opened}
+use Rattle.tx_open.specs.Outcomes.{Outcome, opened, ComesTo, IsDecided, IsOpenedAs, IsTreeOf}
+use Rattle.tx_open.proofs.Files.{tree_once}
+use Rattle.tx_session.proofs.Openings.{OneOutcome}
 
 -- ---- what saving comes to
 
@@ -153,17 +157,33 @@ saved_short form t bytes e = by_form (has_text_in form t) refl
     by_form false h = let none : no_form ≡ writes bytes = sym (saves_nothing form t h) ∙ e in absurd cc
     by_form true h = by_size h (nat_le (length (line (text_in form t))) MOST_FILE) refl
 
-pub opens_again : (words : List (List ℕ)) (all : Files) (name bytes : List ℕ) (t : WideTree) (o : Outcome)
-    → IsWellFormed t → IsWithinLimits t → saving (form_of name) t ≡ writes bytes
-    → Asks words name → file_of all name ≡ Some bytes → ComesTo words (Some all) o → IsDecided o → o ≡ opened name t
-opens_again words all name bytes t o formed within e asks held comes decided =
-    one_outcome words all o (opened name t) comes (
-      asks,
-      (
-        bytes,
-        held,
-        omega (arith, saved_short (form_of name) t bytes e),
-        (saved_alone (form_of name) t bytes formed e).0,
-        within,
-      ),
-    ) decided tt
+module _ (told : Files) (word bytes : List ℕ) (t : WideTree) (formed : IsWellFormed t) (within : IsWithinLimits t)
+    (e : saving (form_of word) t ≡ writes bytes) (held : file_of told word ≡ Some bytes) where
+  read_again : IsTreeOf (Some told) word t
+  read_again =
+      record {
+        bytes = bytes;
+        held = (held, saved_short (form_of word) t bytes e);
+        spelled = (saved_alone (form_of word) t bytes formed e).0;
+        within = within;
+      }
+
+  pub reads_again : IsTreeOf (Some told) word t × ((u : WideTree) → IsTreeOf (Some told) word u → u ≡ t)
+  reads_again = (read_again, λ u h. tree_once told word u t h read_again)
+
+  pub opens_alone : (law : OneOutcome) (words : List (List ℕ)) (width height : ℕ) (o : Outcome)
+      → Ask words width height (named word ∷ []) → ComesTo words (Some told) o → IsDecided o
+      → o ≡ opened (record {
+        width = width;
+        height = height;
+        buffers = record { name = buffer_name word; tree = t } ∷ [];
+      })
+  opens_alone law words width height o asked comes decided =
+      let all : Opened = record {
+        width = width;
+        height = height;
+        buffers = record { name = buffer_name word; tree = t } ∷ [];
+      } in
+      let opens : IsOpenedAs words (Some told) all =
+      record { names = named word ∷ []; asked = asked; read = ((refl, read_again), tt) } in
+      law words told o (opened all) comes opens decided tt

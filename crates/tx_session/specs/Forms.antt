@@ -1,28 +1,15 @@
--- What the bytes of a file spell, and the file of a tree, in each of the two syntaxes.
+-- Bytes that spell one tree or none, and the file of a tree, in each of the two syntaxes.
 use Rattle.std.specs.Prelude.{◌≡◌, ℕ, Bool, true, List, if◌then◌else◌, nat_le, length}
 use Rattle.tx_tree.specs.WideTree.{WideTree}
 use Rattle.tx_tree.specs.Limits.{IsWithinLimits}
-use Rattle.tx_tree.specs.declared.faults.ReadFault.{ReadFault}
-use Rattle.tx_scm.specs.Spelling.{Spells as SpellsScheme}
-use Rattle.tx_scm.specs.Faults.{IsSchemeFault}
 use Rattle.tx_scm.specs.Canonical.{scheme_text}
-use Rattle.tx_tm_form.specs.Forms.{Spells as SpellsTm}
-use Rattle.tx_tm_form.specs.Faults.{IsTmFault}
 use Rattle.tx_tm_write.specs.Canonical.{tm_text}
 use Rattle.tx_tm_write.specs.Shapes.{is_block}
 use Rattle.tx_doc.specs.declared.forms.Form.{Form}
 use Rattle.tx_doc.specs.declared.forms.Form.TheVariants.{Tm, Scheme}
+use Rattle.tx_open.specs.Forms.{SpellsIn}
 use Rattle.tx_outside.specs.declared.file_store.TheConstants.{MOST_FILE}
 use Rattle.tx_print.specs.Lines.{line}
-
-abbrev pub SpellsIn : Form → List ℕ → WideTree → Type 0
-SpellsIn Scheme bytes t = SpellsScheme bytes t
-SpellsIn Tm bytes t = SpellsTm bytes t
-
--- why the bytes spell no tree within the limits
-abbrev pub IsFaultIn : Form → List ℕ → ReadFault → Type 0
-IsFaultIn Scheme bytes fault = IsSchemeFault bytes fault
-IsFaultIn Tm bytes fault = IsTmFault bytes fault
 
 -- no tree within the limits is spelled
 abbrev pub SpellsNoTree : Form → List ℕ → Type 0

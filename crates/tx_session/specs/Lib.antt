@@ -17,7 +17,6 @@ pub mod Writing
 pub mod Keeping
 pub mod Slices
 pub mod Outcomes
-pub mod Openings
 pub mod Runs
 pub mod Playing
 pub mod Savings

@@ -4,7 +4,8 @@ use Rattle.std.specs.Io.KnownBytes.{append_known}
 use Rattle.tx_outside.specs.Known.{AppendsPart}
 use Rattle.tx_session.specs.declared.status.Status.{Status}
 use Rattle.tx_session.specs.declared.status.Status.TheVariants.{InputFault, OutputFault}
-use Rattle.tx_session.specs.Outcomes.{Outcome, status_of, text_of}
+use Rattle.tx_open.specs.Outcomes.{Outcome}
+use Rattle.tx_session.specs.Outcomes.{status_of, text_of}
 use Rattle.tx_session.specs.Worlds.{World, Mark}
 use Rattle.tx_session.specs.Runs.{Tells, IsPlayed, IsReplyBehind, own_line}
 

@@ -1,12 +1,14 @@
 -- A whole run: its status, and what it wrote.
-use Rattle.std.specs.Prelude.{◌≡◌, ◌⊎◌, ◌<◌, ◌≤◌, ◌^◌, ℕ, Bool, true, false, List, [], ◌∷◌, ◌++◌}
-use Rattle.std.specs.Prelude.{length, take, drop, codes, Option, Some, IfSome, Contains, ◌+◌, ◌≢◌}
+use Rattle.std.specs.Prelude.{◌≡◌, ◌⊎◌, ◌<◌, ◌≤◌, ℕ, Bool, true, false, List, [], ◌∷◌, ◌++◌}
+use Rattle.std.specs.Prelude.{length, take, drop, codes, Option, IfSome, Contains, ◌+◌, ◌≢◌}
 use Rattle.std.specs.Io.KnownBytes.{append_known}
-use Rattle.tx_outside.specs.Files.{Files, file_of}
+use Rattle.tx_outside.specs.Files.{Files}
 use Rattle.tx_outside.specs.Known.{AppendsPart}
-use Rattle.tx_tree.specs.WideTree.{WideTree}
-use Rattle.tx_tree.specs.Limits.{IsWithinLimits}
 use Rattle.tx_doc.specs.Forms.{form_of}
+use Rattle.tx_doc.specs.declared.buffer.Buffer.{Buffer}
+use Rattle.tx_words.specs.Words.{Ask, Named}
+use Rattle.tx_open.specs.declared.opening.Opened.{Opened}
+use Rattle.tx_open.specs.Outcomes.{Outcome, opened, AreRead, ComesTo, Holds, IsCaused}
 use Rattle.tx_state.specs.States.{opening}
 use Rattle.tx_cmd.specs.declared.TheConstants.{MOST_LINE}
 use Rattle.tx_session.specs.declared.TheConstants.{MOST_SCRIPT}
@@ -14,21 +16,19 @@ use Rattle.tx_session.specs.declared.status.Status.{Status}
 use Rattle.tx_session.specs.declared.status.Status.TheVariants.{Ok, StoreFault, InputFault}
 use Rattle.tx_session.specs.declared.status.Status.TheVariants.{OutputFault, NoMemory, ScriptLong}
 use Rattle.tx_print.specs.Lines.{line}
-use Rattle.tx_words.specs.Names.{buffer_name}
-use Rattle.tx_session.specs.Forms.{SpellsIn, SpellsNoTree}
-use Rattle.tx_session.specs.Outcomes.{Outcome, missing, too_long, store_fault, opened}
-use Rattle.tx_session.specs.Outcomes.{ComesTo, Asks, Holds, status_of, text_of}
+use Rattle.tx_session.specs.Forms.{SpellsNoTree}
+use Rattle.tx_session.specs.Outcomes.{status_of, text_of}
 use Rattle.tx_session.specs.Replies.{IsLineReply}
 use Rattle.tx_session.specs.Worlds.{Seen, Stored, World, Mark, KeepsFiles}
 use Rattle.tx_session.specs.Scripts.{HasLines, AreLinesOf, Answered, before_quit, command_line, is_quit}
 
--- the session of a file that was opened: pages of 80 by 24, and nothing shown yet
-abbrev pub start_of : List ℕ → WideTree → Seen
-start_of file t =
+-- the session of files that were opened, on pages of the size that was asked for; nothing is shown yet
+abbrev pub start_of : Opened → Seen
+start_of all =
     record {
-      state = opening (record { name = buffer_name file; tree = t } ∷ []);
-      width = 80;
-      height = 24;
+      state = opening all.buffers;
+      width = all.width;
+      height = all.height;
       fresh = false;
     }
 
@@ -85,10 +85,10 @@ own_line _ = []
 -- was opened, nothing is taken of the input.
 abbrev pub IsWhole : Outcome → (before after : Stored) → Option (List ℕ) → List Mark → Option (List ℕ) → Status
     → List ℕ → Type 0
-IsWhole (opened file t) before after told marks rest status text =
+IsWhole (opened all) before after told marks rest status text =
     (script : List ℕ) × (replies : List ℕ) × (first : Stored) × (last : World) × KeepsFiles before first
     × Tells told script
-    × IsPlayed (record { session = start_of file t; store = first }) script marks rest status last replies
+    × IsPlayed (record { session = start_of all; store = first }) script marks rest status last replies
     × (last.store ≡ after) × (text ≡ replies ++ own_line status)
 IsWhole unopened before after told marks rest status text =
     (marks ≡ []) × (status ≡ status_of unopened) × (text ≡ text_of unopened) × (rest ≡ told) × KeepsFiles before after
@@ -107,25 +107,19 @@ pub record Rises : Type 1 where
   pub store_faults : Type 0
   pub input_faults : Type 0
 
--- an outcome that blames a device comes only where a count rose
-abbrev pub IsCaused : Rises → Outcome → Type 0
-IsCaused rises (missing file) = rises.misses
-IsCaused rises (too_long file) = rises.longs
-IsCaused rises (store_fault file) = rises.store_faults
-IsCaused rises _ = Unit {0}
-
 -- what is being written: some of it is, and this part not yet whole
 abbrev pub IsBeingWritten : Rises → Outcome → (before after : Stored) → Option (List ℕ) → Option (List ℕ)
     → (done part : List ℕ) → Type 0
-IsBeingWritten rises (opened file t) before after told rest done part =
+IsBeingWritten rises (opened all) before after told rest done part =
     (script : List ℕ) × (first : Stored) × (last : World) × KeepsFiles before first × Tells told script
     × (last.store ≡ after)
-    × (IsReplyBehind (record { session = start_of file t; store = first }) script last done part
+    × (IsReplyBehind (record { session = start_of all; store = first }) script last done part
     ⊎ ((status : Status) × (marks : List Mark)
-    × IsPlayed (record { session = start_of file t; store = first }) script marks rest status last done
+    × IsPlayed (record { session = start_of all; store = first }) script marks rest status last done
     × (part ≡ own_line status) × (status ≡ InputFault → rises.input_faults)))
 IsBeingWritten rises unopened before after told rest done part =
-    (done ≡ []) × (part ≡ text_of unopened) × (rest ≡ told) × KeepsFiles before after × IsCaused rises unopened
+    (done ≡ []) × (part ≡ text_of unopened) × (rest ≡ told) × KeepsFiles before after
+    × IsCaused rises.misses rises.longs rises.store_faults unopened
 
 -- what a run has outside itself: a store, what the input tells, and what is written, where the output tells it
 pub record Outside : Type 0 where
@@ -140,7 +134,7 @@ pub record IsWritten (rises : Rises) (words : List (List ℕ)) (status : Status)
   pub marks : List Mark
   pub text : List ℕ
   pub comes : ComesTo words before.store.files outcome
-  pub caused : IsCaused rises outcome
+  pub caused : IsCaused rises.misses rises.longs rises.store_faults outcome
   pub whole : IsWhole outcome before.store after.store before.input marks after.input status text
   pub written : after.output ≡ append_known before.output text
 
@@ -164,15 +158,15 @@ IsFinal OutputFault = ⊥
 IsFinal NoMemory = ⊥
 IsFinal _ = Unit {0}
 
--- The file is refused: a file that was asked for was too long, or it isn't, and its bytes spell no tree within the
--- limits.
-abbrev pub IsRefused : List (List ℕ) → Option Files → Type 0 → Type 0
-IsRefused words files long =
-    (file : List ℕ) × Asks words file
-    × (long ⊎ ((bytes : List ℕ) × Holds files file bytes × (length bytes ≤ 2 ^ 24) × SpellsNoTree (form_of file) bytes))
-
--- the words name a file that is there, is no longer than a file may be, and spells a tree within the limits
-abbrev pub CanBeOpened : List (List ℕ) → Option Files → Type 0
-CanBeOpened words files =
-    (all : Files) × (files ≡ Some all) × ((file bytes : List ℕ) × (t : WideTree) × Asks words file
-    × (file_of all file ≡ Some bytes) × (length bytes ≤ 2 ^ 24) × SpellsIn (form_of file) bytes t × IsWithinLimits t)
+-- A file that the words ask for, where those before it are read, is refused: it was too long, or its bytes spell no
+-- tree within the limits.
+pub record IsRefused (words : List (List ℕ)) (files : Option Files) (long : Type 0) : Type 0 where
+  pub width : ℕ
+  pub height : ℕ
+  pub before : List Named
+  pub buffers : List Buffer
+  pub file : Named
+  pub behind : List Named
+  pub asked : Ask words width height (before ++ file ∷ behind)
+  pub read : AreRead files before buffers
+  pub refused : long ⊎ ((bytes : List ℕ) × Holds files file.word bytes × SpellsNoTree (form_of file.word) bytes)

@@ -6,8 +6,7 @@ use Rattle.tx_outside.specs.Known.{WhereKnown}
 use Rattle.tx_state.specs.States.{State}
 
 -- What contracts see of a session: its state, the width and the height of its pages, and whether a command that asks
--- the
--- view was done since a buffer last changed. Asking it again then takes no memory.
+-- the view was done since a buffer last changed. Asking it again then takes no memory.
 pub record Seen : Type 0 where
   pub state : State
   pub width : ℕ

@@ -1,7 +1,7 @@
 //! The session: the top call `run` of the program, over a store of files, an input and an output, and `Session`, which
 //! answers one command at a time.
 //!
-//! What opening comes to is `ComesTo` (`specs/Outcomes.antt`), what a line's reply is `IsLineReply`
+//! What opening comes to is `ComesTo` of `tx_open`, what a line's reply is `IsLineReply`
 //! (`specs/Replies.antt`), what the lines of a script are and how they are answered is in `specs/Scripts.antt`, and a
 //! whole run is `IsRun` (`specs/Runs.antt`), a relation between words, files, script, status and the bytes written.
 #![tactic(auto)]
@@ -9,7 +9,6 @@
 mod fault_lines;
 mod kept_line;
 mod limits;
-mod opening;
 mod printing;
 mod replies;
 mod runs;
@@ -17,10 +16,11 @@ mod saving;
 mod script;
 mod session;
 mod status;
+mod unopened;
 
 pub use limits::script_limit_law;
 pub use replies::replies_tell_marks;
-pub use runs::{failures_counted, one_outcome, one_run, run};
+pub use runs::{failures_counted, one_run, run};
 pub use saving::{saved_in_a_session, saved_opens_again, saved_spells_alone};
 pub use session::{Next, Session};
 pub use status::Status;

@@ -7,8 +7,8 @@ use tx_outside::{Sink, WriteFault};
 use tx_print::{print_attrs, print_errors, print_page, print_pages, print_place};
 use tx_view::View;
 
-/// Prints what a command asks of the view, without memory: its pages, one of them, its errors, a place or attributes. Of
-/// other commands nothing is printed.
+/// Prints what a command asks of the view, without memory: its pages, one of them, its errors, a place or attributes.
+/// Of other commands nothing is printed.
 pub(crate) fn print_view<O: Sink>(
     view: &View,
     command: &Command,

@@ -6,30 +6,30 @@ ghost use Rattle.std.specs.Io.KnownBytes.{append_known};
 ghost use Rattle.tx_outside.specs.Counts.{NeverFalls, Rose};
 ghost use Rattle.tx_outside.specs.Files.{Files};
 ghost use Rattle.tx_outside.specs.Known.{AppendsPart, StaysKnown};
-ghost use Rattle.tx_session.specs.Outcomes.{file_in, ComesTo, IsDecided, Outcome, no_memory, opened};
-ghost use Rattle.tx_session.specs.Runs.{IsFinal, IsWhole, CanBeOpened, CanBeRead};
+ghost use Rattle.tx_words.specs.Words.{AreFaulty};
+ghost use Rattle.tx_open.specs.declared.opening.Opened.{Opened as WasOpened};
+ghost use Rattle.tx_open.specs.Openings.{outcome_of};
+ghost use Rattle.tx_open.specs.Outcomes.{CanBeOpened, ComesTo, Outcome, no_memory, opened};
+ghost use Rattle.tx_doc.specs.Buffers.{NamesDiffer};
+ghost use Rattle.tx_session.specs.Runs.{IsFinal, IsWhole, CanBeRead};
 ghost use Rattle.tx_session.specs.Runs.{IsRefused, IsRun, IsWritten, own_line, start_of};
 ghost use Rattle.tx_session.specs.Differences.{EndsAtOpening, HoldSameFiles};
 ghost use Rattle.tx_session.specs.Playing.{IsServed, IsLine};
 ghost use Rattle.tx_session.specs.Scripts.{Answered};
 ghost use Rattle.tx_session.specs.Storing.{GoesOn};
 ghost use Rattle.tx_session.specs.Worlds.{Mark, Stored, World, RoseBy, stored, unsaved_in, world};
-ghost use Rattle.tx_tree.specs.WideTree.{WideTree};
 ghost use Rattle.tx_session.specs.declared.status.Status.{Status};
-ghost use Rattle.tx_session.specs.Openings.{outcome_of};
 
-use crate::opening::{Opening, USAGE, open};
 use crate::script::play;
 use crate::session::Session;
 use crate::status::Status;
+use crate::unopened::{USAGE, status_of, text_of};
 use std::alloc::Global;
 use std::sync::ledger::Ledger;
 use tx_base::{Memory, Steps};
-use tx_doc::{Buffer, Name};
+use tx_open::{Opened, Opening, one_outcome, open};
 use tx_outside::{Sink, Source, Store, WriteFault, write_all};
-use tx_tree::Tree;
 use tx_view_form::one_view;
-use tx_words::buffer_name;
 
 // Writes the text, and answers the status unless the output failed.
 fn finish<O: Sink>(out: &mut O, text: &[u8], status: Status) -> Status
@@ -49,15 +49,15 @@ fn finish<O: Sink>(out: &mut O, text: &[u8], status: Status) -> Status
 
 // Writes the line that says why no file was opened.
 fn report<O: Sink>(alloc: Global, failed: &Opening, out: &mut O) -> Status
-    requires unopened { (file : List ℕ) (t : WideTree) → outcome_of failed.now ≢ opened file t }
+    requires unopened { (all : WasOpened) → outcome_of failed.now ≢ opened all }
     ensures line { IsLine (outcome_of failed.now) result (O.written out.old) (O.written out.new)
         ⊎ IsLine no_memory result (O.written out.old) (O.written out.new) }
     ensures counted { result ≡ Status.OutputFault → Rose (O.faults out.old) (O.faults out.new) }
     ensures faults_never_fall { NeverFalls (O.faults out.old) (O.faults out.new) }
     ensures stays_known { StaysKnown (O.written out.old) (O.written out.new) }
 {
-    match failed.text(alloc) {
-        Ok(text) => finish(out, &text, failed.status()),
+    match text_of(alloc, failed) {
+        Ok(text) => finish(out, &text, status_of(failed)),
         Err(Memory) => finish(out, b"memory\n", Status::NoMemory),
     }
 }
@@ -74,22 +74,20 @@ fn own_line(status: Status) -> &'static [u8]
     }
 }
 
-// The session of a file, on pages of 80 by 24.
+// The session of files that were opened.
 fn session_of<L: Ledger>(
     alloc: Global,
-    file: &[u8],
-    tree: Tree,
+    all: Opened,
     steps: &mut Steps<L>,
 ) -> Result<Session, Memory>
-    ensures session { IfOk result (λ session. session ≡ start_of file.now tree) }
+    requires width { (20 ≤ all.width) × (all.width ≤ 500) }
+    requires height { (5 ≤ all.height) × (all.height ≤ 500) }
+    requires number { (1 ≤ length all.buffers) × (length all.buffers ≤ 16) }
+    requires names { NamesDiffer all.buffers }
+    ensures session { IfOk result (λ session. session ≡ start_of all) }
     ensures no_steps { steps.new ≡ steps.old }
 {
-    let name = Vec::from_slice(alloc, buffer_name(file))?;
-    let buffer = Buffer {
-        name: Name::from(name),
-        tree,
-    };
-    Session::start(alloc, vec![in alloc; buffer]?, 80, 24, steps)
+    Session::start(alloc, all.buffers.into_vec(), all.width, all.height, steps)
 }
 
 // Answers the script over the session, and writes the status's own line.
@@ -120,9 +118,9 @@ fn serve<S: Store, I: Source, O: Sink, L: Ledger>(
     }
 }
 
-/// Runs the program on the words of its command line, the program's name first. It opens the file that they name,
-/// or writes one line that says why not, and answers the lines of the script that comes from the input, each as
-/// soon as it has ended.
+/// Runs the program on the words of its command line, the program's name first: `tmx [--width N] [--height N] FILE
+/// [STYLE]...`. It opens the files that they name, in their order, or writes one line that says why the first that
+/// can't be opened wasn't, and answers the lines of the script that comes from the input, each as soon as it has ended.
 ///
 /// The script ends at a line `quit` or with the input, and has at most 2^24 bytes. After a fault of the input the
 /// lines that had ended in what was taken are answered, of a script that is too long those that end within the limit,
@@ -156,9 +154,9 @@ pub fn run<S: Store, I: Source, O: Sink, L: Ledger>(
         }) }
 
     // Where each status comes.
-    ensures words { result ≡ Status.Words → file_in (map string_bytes words.now) ≡ None }
-    ensures words_only { file_in (map string_bytes words.now) ≡ None
-        → (result ≡ Status.Words) ⊎ (result ≡ Status.OutputFault) }
+    ensures words { result ≡ Status.Words → AreFaulty (map string_bytes words.now) }
+    ensures words_only { AreFaulty (map string_bytes words.now)
+        → (result ≡ Status.Words) ⊎ (result ≡ Status.NoMemory) ⊎ (result ≡ Status.OutputFault) }
     ensures missing_counted { result ≡ Status.Missing → Rose (S.misses store.old) (S.misses store.new) }
     ensures refused { result ≡ Status.Refused
         → IsRefused (map string_bytes words.now) (S.files store.old) (Rose (S.longs store.old) (S.longs store.new)) }
@@ -174,7 +172,7 @@ pub fn run<S: Store, I: Source, O: Sink, L: Ledger>(
         → (result ≡ Status.Ok) ⊎ (result ≡ Status.NoMemory) }
 
     // What is as before, and what never falls.
-    ensures words_touch_nothing { file_in (map string_bytes words.now) ≡ None
+    ensures words_touch_nothing { AreFaulty (map string_bytes words.now)
         → (store.new ≡ store.old) × (input.new ≡ input.old) × (steps.new ≡ steps.old) }
     ensures unread { EndsAtOpening result → input.new ≡ input.old }
     ensures files_stay_known { StaysKnown (S.files store.old) (S.files store.new) }
@@ -189,19 +187,13 @@ pub fn run<S: Store, I: Source, O: Sink, L: Ledger>(
     let opening = open(alloc, words, store, steps);
     match opening {
         Opening::FaultyWords => finish(out, USAGE, Status::Words),
-        Opening::Opened(file, tree) => match session_of(alloc, file, tree, steps) {
+        Opening::Opened(all) => match session_of(alloc, all, steps) {
             Ok(mut session) => serve(alloc, &mut session, store, input, out, steps),
             Err(Memory) => finish(out, b"memory\n", Status::NoMemory),
         },
         failed => report(alloc, &failed, out),
     }
 }
-
-/// A law: words and files come to one outcome, faults of the store and want of memory aside.
-pub fn one_outcome()
-    ensures { (words : List (List ℕ)) (all : Files) (o p : Outcome) → ComesTo words (Some all) o
-        → ComesTo words (Some all) p → IsDecided o → IsDecided p → o ≡ p }
-{}
 
 /// A law: words, files, a script and marks, which say at which lines memory ran out or the store failed, come to one
 /// status and one text, where no device failed otherwise and memory sufficed otherwise. Where the store never failed,
@@ -215,6 +207,7 @@ pub fn one_run()
         → (s ≡ t) × (a ≡ b) × (unsaved_in marks ≡ 0 → HoldSameFiles x.files y.files) }
 {
     one_view();
+    one_outcome();
 }
 
 /// A law: the store's count of faults rises by at least the number of lines that are marked so, or stands at its last

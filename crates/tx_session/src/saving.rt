@@ -1,9 +1,12 @@
 // The file of a tree, and saving it.
-ghost use Rattle.std.specs.Prelude.{◌≡◌, ◌≢◌, ◌⊎◌, ◌∷◌, ◌++◌, ℕ, List, Option, true, length, IfOk, Some, None};
+ghost use Rattle.std.specs.Prelude.{◌≡◌, ◌≢◌, ◌⊎◌, ◌∷◌, ◌++◌, ℕ, List, [], Option, true, length, IfOk, Some, None};
 ghost use Rattle.tx_outside.specs.Files.{Files, file_of};
 ghost use Rattle.tx_session.specs.Forms.{has_text_in, saving, text_in, SpellsAloneIn, writes};
 ghost use Rattle.tx_print.specs.Lines.{line};
-ghost use Rattle.tx_session.specs.Outcomes.{Outcome, opened, ComesTo, Asks, IsDecided};
+ghost use Rattle.tx_words.specs.Names.{buffer_name};
+ghost use Rattle.tx_words.specs.Words.{Ask, named};
+ghost use Rattle.tx_open.specs.declared.opening.Opened.{Opened};
+ghost use Rattle.tx_open.specs.Outcomes.{Outcome, opened, ComesTo, IsDecided, IsTreeOf};
 ghost use Rattle.tx_session.specs.Saves.{IsKeepReply, IsSaveReply};
 ghost use Rattle.tx_session.specs.States.{file_saved, selected_tree};
 ghost use Rattle.tx_session.specs.Worlds.{World, Stored, Mark, plain, stored};
@@ -22,6 +25,7 @@ use crate::replies::{Reply, numbered};
 use std::alloc::Global;
 use tx_base::Memory;
 use tx_doc::{Form, form_of};
+use tx_open::one_outcome;
 use tx_outside::{MOST_FILE, SaveFault, Store};
 use tx_tm_write::is_block;
 use tx_tree::Tree;
@@ -110,27 +114,37 @@ pub fn saved_spells_alone()
         → SpellsAloneIn form bytes t }
 {}
 
-/// A law: a file that was saved within the limits opens again, and as the tree that was saved, faults of the store and
-/// want of memory aside.
+/// A law: a file that was saved within the limits opens again. `read`: wherever it stands among the files that are
+/// opened, it is read as the tree that was saved, and as no other. `alone`: words that ask for it alone come to that
+/// tree under the file's name, faults of the store and want of memory aside.
 pub fn saved_opens_again()
-    ensures { (words : List (List ℕ)) (all : Files) (name bytes : List ℕ) (t : WideTree) (o : Outcome) → IsWellFormed t
-        → IsWithinLimits t → saving (form_of name) t ≡ writes bytes
-        → Asks words name → file_of all name ≡ Some bytes → ComesTo words (Some all) o → IsDecided o
-        → o ≡ opened name t }
-{}
+    ensures read { (told : Files) (word bytes : List ℕ) (t : WideTree) → IsWellFormed t → IsWithinLimits t
+        → saving (form_of word) t ≡ writes bytes → file_of told word ≡ Some bytes
+        → IsTreeOf (Some told) word t × ((u : WideTree) → IsTreeOf (Some told) word u → u ≡ t) }
+    ensures alone { (words : List (List ℕ)) (told : Files) (width height : ℕ) (word bytes : List ℕ) (t : WideTree)
+        (o : Outcome) → IsWellFormed t → IsWithinLimits t → saving (form_of word) t ≡ writes bytes
+        → Ask words width height (named word ∷ []) → file_of told word ≡ Some bytes → ComesTo words (Some told) o
+        → IsDecided o → o ≡ opened (record {
+          width = width;
+          height = height;
+          buffers = record { name = buffer_name word; tree = t } ∷ [];
+        }) }
+{
+    one_outcome();
+}
 
 /// A law: what the lines `save` of a session leave, whatever its lines are. `among`: each of the lines that were
-/// answered has its place among them. `saved`: in a session of a file that was opened, a line `save` at which neither
-/// memory nor the store failed leaves a file that spells the present document and no other, or the store as it was,
-/// with the reason.
+/// answered has its place among them. `saved`: in a session of files that were opened, a line `save` at which neither
+/// memory nor the store failed leaves a file that spells the selected buffer's present tree and no other, or the store
+/// as it was, with the reason.
 pub fn saved_in_a_session()
     ensures among { (start : World) (before : List (List ℕ)) (one : List ℕ) (behind : List (List ℕ)) (marks : List Mark)
         (last : World) (text : List ℕ) → Answered start (before ++ one ∷ behind) marks last text →
         StandsAmong start before one behind marks last text }
-    ensures saved { (words : List (List ℕ)) (files : Option Files) (file : List ℕ) (t : WideTree) (first : Stored) →
-        ComesTo words files (opened file t) →
+    ensures saved { (words : List (List ℕ)) (files : Option Files) (all : Opened) (first : Stored) →
+        ComesTo words files (opened all) →
         (lines : List (List ℕ)) (marks : List Mark) (seen : World) (done : List ℕ) →
-        Answered (record { session = start_of file t; store = first }) lines marks seen done →
+        Answered (record { session = start_of all; store = first }) lines marks seen done →
         (one name reply : List ℕ) (next : World) → IsRead (command_line one) (command (Command.Save name)) →
         IsLineReply seen (command_line one) plain next reply →
         IsSavedAlone name (selected_tree seen.session.state) seen.store next.store reply

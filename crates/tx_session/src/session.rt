@@ -54,8 +54,8 @@ pub enum Next {
 
 /// A session over a document and its styles, on pages of one size.
 ///
-/// Contracts see its state, the size of its pages, and whether a command that asks the view was done since a buffer last
-/// changed (`specs/Worlds.antt`).
+/// Contracts see its state, the size of its pages, and whether a command that asks the view was done since a buffer
+/// last changed (`specs/Worlds.antt`).
 #[derive(Drop)]
 pub struct Session {
     state: EditorState,
@@ -127,9 +127,10 @@ fn go_left(alloc: Global, state: &mut EditorState, view: &View) -> Reply
         state.new (text_of result) }
 {
     place_law(state.buffers());
-    match view.stops(alloc) {
+    let cursor = state.cursor();
+    match view.stops_near(alloc, cursor) {
         Ok(stops) => {
-            let made = left(alloc, &stops, state.cursor());
+            let made = left(alloc, &stops, cursor);
             arrive(state, made)
         }
         Err(Memory) => Reply::Wanting,
@@ -143,9 +144,10 @@ fn go_right(alloc: Global, state: &mut EditorState, view: &View) -> Reply
         state.new (text_of result) }
 {
     place_law(state.buffers());
-    match view.stops(alloc) {
+    let cursor = state.cursor();
+    match view.stops_near(alloc, cursor) {
         Ok(stops) => {
-            let made = right(alloc, &stops, state.cursor());
+            let made = right(alloc, &stops, cursor);
             arrive(state, made)
         }
         Err(Memory) => Reply::Wanting,
@@ -486,7 +488,8 @@ impl Session {
         ensures quit_writes_nothing { command.now ≡ Command.Quit → out.new ≡ out.old }
         ensures failed_rose { OnErr result (Rose (O.faults out.old) (O.faults out.new)) }
         ensures store_untouched { saved_by self.old.state command.now ≡ None → store.new ≡ store.old }
-        ensures counted { asks_view command.now ≡ false → steps.new ≤ steps.old + most_steps self.old.state command.now }
+        ensures counted { asks_view command.now ≡ false
+            → steps.new ≤ steps.old + most_steps self.old.state command.now }
         ensures store_goes_on { GoesOn (S.files store.old) (S.files store.new) (S.faults store.old) (S.faults store.new)
             (S.misses store.old) (S.misses store.new) (S.longs store.old) (S.longs store.new) }
         ensures faults_never_fall { NeverFalls (O.faults out.old) (O.faults out.new) }
@@ -521,8 +524,8 @@ impl Session {
     /// nothing is known of that file.
     ///
     /// After a fault of the output a part of the reply is written, and the state is the one that the command leads to.
-    /// `quit` writes nothing, and is the one command that is answered with `Quit`. `cursor` and `at` take no memory, nor
-    /// do `show`, `page`, `errors`, `where` and `attrs` where the view was asked since a buffer last changed.
+    /// `quit` writes nothing, and is the one command that is answered with `Quit`. `cursor` and `at` take no memory,
+    /// nor do `show`, `page`, `errors`, `where` and `attrs` where the view was asked since a buffer last changed.
     pub fn step<S: Store, O: Sink, L: Ledger>(
         &mut self,
         alloc: Global,
@@ -548,7 +551,8 @@ impl Session {
 
         // What stays, and what never falls.
         ensures store_untouched { saved_by self.old.state command.now ≡ None → store.new ≡ store.old }
-        ensures counted { asks_view command.now ≡ false → steps.new ≤ steps.old + most_steps self.old.state command.now }
+        ensures counted { asks_view command.now ≡ false
+            → steps.new ≤ steps.old + most_steps self.old.state command.now }
         ensures store_goes_on { GoesOn (S.files store.old) (S.files store.new) (S.faults store.old) (S.faults store.new)
             (S.misses store.old) (S.misses store.new) (S.longs store.old) (S.longs store.new) }
         ensures faults_never_fall { NeverFalls (O.faults out.old) (O.faults out.new) }

@@ -23,3 +23,5 @@ mod saves;
 mod saving;
 #[cfg(test)]
 mod statuses;
+#[cfg(test)]
+mod styles;

@@ -4,15 +4,16 @@ ghost use Rattle.std.specs.Prelude.{◌≡◌, Some};
 use std::alloc::{AllocError, Global};
 use std::sync::ledger::{Blank, Ledger};
 use tx_base::Steps;
-use tx_outside::{Failed, MemSink, MemSource, MemStore, Source, StoredFile};
+use tx_outside::{Failed, MemSink, MemSource, MemStore, Source, Store, StoredFile};
 use tx_session::{Status, run};
 
-// How a run is set up: the one file of the store, the words between bars, the script, the call of the store, of the
-// input and of the sink that fails, if one does, the room of the sink, and whether the input gives one byte a call.
+// How a run is set up: a file of the store and the others, the words between bars, the script, the call of the store, of
+// the input and of the sink that fails, if one does, the room of the sink, and whether the input gives one byte a call.
 #[derive(Clone, Copy)]
 pub struct Setup<'a> {
     pub name: &'a str,
     pub bytes: &'a [u8],
+    pub others: &'static [(&'static str, &'static str)],
     pub words: &'a str,
     pub script: &'a [u8],
     pub store_failing: Option<u64>,
@@ -26,6 +27,7 @@ pub struct Setup<'a> {
 pub const OF_A: Setup<'static> = Setup {
     name: "a.scm",
     bytes: b"(f )",
+    others: &[],
     words: "tmx|a.scm",
     script: b"",
     store_failing: None,
@@ -84,11 +86,26 @@ fn failing_calls(alloc: Global, failing: Option<u64>) -> Result<Vec<u64>, AllocE
     Ok(calls)
 }
 
+// The call that fails, where others are made first.
+fn behind(others: usize, failing: Option<u64>) -> Option<u64> {
+    match failing {
+        Some(call) => Some(call.saturating_add(others as u64)),
+        None => None,
+    }
+}
+
 fn store_of(alloc: Global, setup: &Setup) -> Result<MemStore, AllocError> {
     let name = Vec::from_slice(alloc, setup.name.as_bytes())?;
     let file = StoredFile::new(name, Vec::from_slice(alloc, setup.bytes)?);
     let files = vec![in alloc; file]?;
-    Ok(MemStore::new(files, failing_calls(alloc, setup.store_failing)?))
+    let failing = behind(setup.others.len(), setup.store_failing);
+    let mut store = MemStore::new(files, failing_calls(alloc, failing)?);
+    for (name, bytes) in setup.others {
+        if store.save(name.as_bytes(), bytes.as_bytes()).is_err() {
+            return Err(AllocError);
+        }
+    }
+    Ok(store)
 }
 
 fn source_of(alloc: Global, setup: &Setup) -> Result<SlowSource, AllocError> {

@@ -10,7 +10,7 @@ use tx_base::Steps;
 use tx_outside::MOST_FILE;
 use tx_session::Status;
 
-const USAGE: &str = "usage: tmx [--width N] [--height N] FILE [STYLE]...\n";
+pub(crate) const USAGE: &str = "usage: tmx [--width N] [--height N] FILE [STYLE]...\n";
 
 // The one file, its bytes, the words, the status and the text.
 type Opened<'a> = (&'a str, &'a str, &'a str, Status, &'a str);
@@ -92,6 +92,15 @@ const OPENED: &[Opened<'static>] = &[
     ),
     ("a.scm", "\"\"", "tmx", Status::Words, USAGE),
     ("a.scm", "\"\"", "tmx|a.scm|a.scm", Status::Words, USAGE),
+    (
+        "a.scm",
+        "\"\"",
+        "tmx|--width|19|a.scm",
+        Status::Words,
+        USAGE,
+    ),
+    ("a.scm", "\"\"", "tmx|a.scm|--pages|3", Status::Words, USAGE),
+    ("--a.scm", "(g)", "tmx|--|--a.scm", Status::Ok, "(g)\n"),
     ("a.scm", "\"\"", "tmx|dir/", Status::Words, USAGE),
     ("a.scm", "\"\"", "tmx|", Status::Words, USAGE),
     ("d/a.scm", "(f)", "tmx|d/a.scm", Status::Ok, "(f)\n"),

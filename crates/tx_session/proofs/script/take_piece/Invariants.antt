@@ -1,4 +1,4 @@
-use Rattle.std.proofs.Common.{◌≡◌, ◌≤◌, ◌+◌, ◌++◌, ℕ, List, Option, take}
+use Rattle.std.proofs.Common.{◌≤◌, ◌+◌, ◌++◌, ℕ, List, Option, take}
 use Rattle.tx_outside.specs.Counts.{NeverFalls}
 use Rattle.tx_outside.specs.Known.{StaysKnown}
 use Rattle.tx_session.specs.Worlds.{World, world}

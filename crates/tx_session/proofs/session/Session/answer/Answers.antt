@@ -1,6 +1,6 @@
 use Rattle.std.proofs.Common.{sym, subst}
 use Rattle.tx_cmd.specs.declared.command.Command.TheVariants.{Change, Undo, Redo, At, Go, Click, Left, Right, Typed}
-use Rattle.tx_cmd.specs.declared.command.Command.TheVariants.{Backspace, Enter, Cursor, Tree}
+use Rattle.tx_cmd.specs.declared.command.Command.TheVariants.{Backspace, Enter, Tree}
 use Rattle.tx_session.specs.Replies.{IsReply}
 use Rattle.tx_session.specs.Worlds.{plain, stored, world}
 use Rattle.tx_session.proofs.Replied.{is_replied}

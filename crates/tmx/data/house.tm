@@ -1,0 +1,3 @@
+<assign|em|<macro|x|*<arg|x>*>>
+
+<assign|section|<macro|title|<center|<strong|<arg|title>>>>>

@@ -1,3 +1,0 @@
-bread
-
-milk and <em|two> eggs
