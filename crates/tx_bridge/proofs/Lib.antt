@@ -1,0 +1,12 @@
+pub mod Trees
+pub mod Once
+pub mod Agreed
+pub mod Used
+pub mod Paying
+pub mod Partway
+pub mod Slotting
+pub mod Handed
+pub mod Arrived
+pub mod Taking
+pub mod Going
+pub mod Listed

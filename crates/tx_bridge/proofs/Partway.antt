@@ -1,0 +1,246 @@
+-- A refresh that has come to some unit.
+use Rattle.std.proofs.Common.{◌≡◌, ℕ, zero, suc, ◌+◌, ◌<◌, ◌≤◌, List, [], ◌∷◌, ◌++◌, length, take, drop, slice_set}
+use Rattle.std.proofs.Common.{slice_index_or, refl, ap, sym, ◌∙◌, arith, ◌⊎◌, inl, inr}
+use Rattle.std.proofs.lemmas.List.{drop_more, drop-drop, drop-set-lt, append_assoc, take_more_set, take_at}
+use Rattle.std.proofs.lemmas.List.{take-append-drop, set-get_or, map-append, append-nil, length-map, drop_all}
+use Rattle.std.proofs.lemmas.List.Elements.{All-set}
+use Rattle.std.proofs.lemmas.Option.{same_Some}
+use Rattle.std.proofs.lemmas.Grind.{common_steps}
+use Rattle.std.specs.List.{All}
+use Rattle.std.specs.Prelude.{false, not, Option, Some, Result, Ok, Err, OnErr, slice_get}
+use Rattle.tx_exec_form.specs.Evaluated.{WideTrace}
+use Rattle.tx_exec.specs.Outcomes.{wide_outcome}
+use Rattle.tx_view_form.specs.Outcomes.{Moment, beginning, behind}
+use Rattle.tx_units.specs.declared.kinds.Unit.{Unit as DocUnit}
+use Rattle.tx_bridge.specs.declared.bridge.Bridge.{Bridge}
+use Rattle.tx_bridge.specs.Entries.{Entry, units_of, fresh_from, outcome_of}
+use Rattle.tx_bridge.specs.Reached.{fits, reached_from, charge_of, charges_from}
+use Rattle.tx_bridge.specs.Sound.{IsSound, entry_of, entries_of, flags_of}
+
+abbrev pub units_in : List Bridge → List DocUnit
+units_in bs = units_of (entries_of bs)
+
+-- unflagged units are as they were
+abbrev pub Stays : List Bridge → List Bridge → Type 0
+Stays old now = (k : ℕ) → slice_get (flags_of now) k ≡ Some false
+    → slice_get (entries_of now) k ≡ slice_get (entries_of old) k
+
+-- Behind i units, at the moment m. What is done, and what is left from here, are all.
+pub record Partway (old now : List Bridge) (i : ℕ) (m : Moment) (before after : ℕ) : Type 0 where
+  pub fresh : entries_of (take i now) ++ fresh_from m (units_in (drop i old)) ≡ fresh_from beginning (units_in old)
+  pub rest : drop i now ≡ drop i old
+  pub flags : flags_of (take i now) ++ reached_from m (entries_of (drop i old))
+      ≡ reached_from beginning (entries_of old)
+  pub steps : after + charges_from m (entries_of (drop i old)) ≡ before + charges_from beginning (entries_of old)
+  pub sound : All IsSound now
+  pub units : units_in now ≡ units_in old
+  pub stays : Stays old now
+
+pub begun : (old : List Bridge) (m : Moment) (before : ℕ) → All IsSound old → m ≡ beginning
+    → Partway old old 0 m before before
+begun old m before sound start = record {
+  fresh = ap (λ n. fresh_from n (units_in old)) start;
+  rest = refl;
+  flags = ap (λ n. reached_from n (entries_of old)) start;
+  steps = ap (λ n. before + charges_from n (entries_of old)) start;
+  sound = sound;
+  units = refl;
+  stays = λ k e. refl;
+}
+
+-- what an element that is set says of itself
+set_stays : (was : ℕ → Option Entry) (now : List Bridge) (i : ℕ) (y : Bridge)
+    → ((k : ℕ) → slice_get (flags_of now) k ≡ Some false → slice_get (entries_of now) k ≡ was k)
+    → (y.renewed ≡ false → Some (entry_of y) ≡ was i) → (k : ℕ)
+    → slice_get (flags_of (slice_set now i y)) k ≡ Some false
+    → slice_get (entries_of (slice_set now i y)) k ≡ was k
+set_stays was [] i y s h k e = s k e
+set_stays was (x ∷ xs) zero y s h zero e = h (same_Some y.renewed false e)
+set_stays was (x ∷ xs) zero y s h (suc k) e = s (suc k) e
+set_stays was (x ∷ xs) (suc i) y s h zero e = s zero e
+set_stays was (x ∷ xs) (suc i) y s h (suc k) e = set_stays (λ n. was (suc n)) xs i y (λ n. s (suc n)) h k e
+
+set_units : (now : List Bridge) (i : ℕ) (d y : Bridge) → i < length now → y.unit ≡ (slice_index_or now i d).unit
+    → units_in (slice_set now i y) ≡ units_in now
+set_units [] i d y inside e = absurd (omega (arith, inside))
+set_units (x ∷ xs) zero d y inside e = ap (λ u. u ∷ units_in xs) e
+set_units (x ∷ xs) (suc i) d y inside e = ap (λ us. x.unit ∷ us) (set_units xs i d y (omega (arith, inside)) e)
+
+get_dropped : (xs : List Bridge) (i : ℕ) (b : Bridge) (rest : List Bridge) → drop i xs ≡ b ∷ rest
+    → slice_get (entries_of xs) i ≡ Some (entry_of b)
+get_dropped [] zero b rest e = cc
+get_dropped [] (suc i) b rest e = cc
+get_dropped (x ∷ xs) zero b rest e = let same : x ≡ b = cc in ap (λ y. Some (entry_of y)) same
+get_dropped (x ∷ xs) (suc i) b rest e = get_dropped xs i b rest e
+
+-- the unit is brought to what it comes to at the moment
+pub record IsBrought (b y : Bridge) (m : Moment) : Type 0 where
+  pub unit : y.unit ≡ b.unit
+  pub fresh : wide_outcome y.kept ≡ outcome_of m b.unit
+
+abbrev entry_with : DocUnit → Option WideTrace → Entry
+entry_with u o = record { unit = u; trace = o }
+
+entry_is : (u v : DocUnit) (o r : Option WideTrace) → u ≡ v → o ≡ r → entry_with u o ≡ entry_with v r
+entry_is u v o r e f = ap (λ x. entry_with x o) e ∙ ap (entry_with v) f
+
+brought_entry : (b y : Bridge) (m : Moment) → IsBrought b y m → entry_of y ≡ entry_with b.unit (outcome_of m b.unit)
+brought_entry b y m h = entry_is y.unit b.unit (wide_outcome y.kept) (outcome_of m b.unit) h.unit h.fresh
+
+module _ (old now : List Bridge) (i : ℕ) (m : Moment) (before after : ℕ) (p : Partway old now i m before after)
+    (inside : i < length now) (d : Bridge) where
+  b : Bridge
+  b = slice_index_or now i d
+
+  here : drop i now ≡ b ∷ drop (i + 1) now
+  unfolding b
+  here = drop_more now i d inside
+
+  others : drop (i + 1) old ≡ drop (i + 1) now
+  others = sym (drop-drop 1 i old) ∙ ap (drop 1) (sym p.rest ∙ here)
+
+  ahead : drop i old ≡ b ∷ drop (i + 1) old
+  ahead = sym p.rest ∙ here ∙ ap (λ bs. b ∷ bs) (sym others)
+
+  more_taken : (y : Bridge) → take (i + 1) (slice_set now i y) ≡ take i now ++ y ∷ []
+  more_taken y = take_more_set now i y inside
+
+  pub stays_next : (y : Bridge) → y.unit ≡ (slice_index_or now i d).unit
+      → (y.renewed ≡ false → wide_outcome y.kept ≡ wide_outcome (slice_index_or now i d).kept)
+      → Stays old (slice_set now i y)
+  unfolding b
+  stays_next y unit kept =
+      set_stays (λ k. slice_get (entries_of old) k) now i y p.stays
+      (λ flag. ap Some (entry_is y.unit b.unit (wide_outcome y.kept) (wide_outcome b.kept) unit (kept flag))
+      ∙ sym (get_dropped old i b (drop (i + 1) old) ahead))
+
+  pub units_next : (y : Bridge) → y.unit ≡ (slice_index_or now i d).unit
+      → units_in (slice_set now i y) ≡ units_in old
+  units_next y unit = set_units now i d y inside unit ∙ p.units
+
+  -- what is done and what is left
+  pub front_next : (y : Bridge) → IsBrought (slice_index_or now i d) y m
+      → entries_of (take (i + 1) (slice_set now i y))
+      ++ fresh_from (behind m (outcome_of m (slice_index_or now i d).unit)) (units_in (drop (i + 1) old))
+      ≡ fresh_from beginning (units_in old)
+  unfolding b
+  front_next y brought =
+      ap (λ bs. entries_of bs ++ fresh_from (behind m (outcome_of m b.unit)) (units_in (drop (i + 1) old)))
+      (more_taken y)
+      ∙ ap (λ es. es ++ fresh_from (behind m (outcome_of m b.unit)) (units_in (drop (i + 1) old)))
+      (map-append entry_of (take i now) (y ∷ []))
+      ∙ append_assoc (entries_of (take i now)) (entry_of y ∷ [])
+      (fresh_from (behind m (outcome_of m b.unit)) (units_in (drop (i + 1) old)))
+      ∙ ap (λ e. entries_of (take i now)
+      ++ e ∷ fresh_from (behind m (outcome_of m b.unit)) (units_in (drop (i + 1) old)))
+      (brought_entry b y m brought)
+      ∙ ap (λ bs. entries_of (take i now) ++ fresh_from m (units_in bs)) (sym ahead)
+      ∙ p.fresh
+
+  pub rest_next : (y : Bridge) → drop (i + 1) (slice_set now i y) ≡ drop (i + 1) old
+  rest_next y = drop-set-lt (i + 1) now i y (omega arith) ∙ sym others
+
+  pub next : (y : Bridge) (m1 : Moment) (after1 : ℕ) → IsBrought (slice_index_or now i d) y m
+      → y.renewed ≡ not (fits m (wide_outcome (slice_index_or now i d).kept))
+      → m1 ≡ behind m (outcome_of m (slice_index_or now i d).unit)
+      → after1 ≡ after + charge_of m (entry_of (slice_index_or now i d)) → IsSound y
+      → (y.renewed ≡ false → wide_outcome y.kept ≡ wide_outcome (slice_index_or now i d).kept)
+      → Partway old (slice_set now i y) (i + 1) m1 before after1
+  unfolding b
+  next y m1 after1 brought is_r is_m is_after sound kept =
+      record {
+        fresh =
+            ap (λ n. entries_of (take (i + 1) (slice_set now i y)) ++ fresh_from n (units_in (drop (i + 1) old))) is_m
+            ∙ front_next y brought;
+        rest = rest_next y;
+        flags =
+            ap (λ bs. flags_of bs ++ reached_from m1 (entries_of (drop (i + 1) old))) (more_taken y)
+            ∙ ap (λ fs. fs ++ reached_from m1 (entries_of (drop (i + 1) old)))
+            (map-append (λ (w : Bridge). w.renewed) (take i now) (y ∷ []))
+            ∙ append_assoc (flags_of (take i now)) (y.renewed ∷ []) (reached_from m1 (entries_of (drop (i + 1) old)))
+            ∙ ap (λ n. flags_of (take i now) ++ y.renewed ∷ reached_from n (entries_of (drop (i + 1) old))) is_m
+            ∙ ap (λ r. flags_of (take i now)
+            ++ r ∷ reached_from (behind m (outcome_of m b.unit)) (entries_of (drop (i + 1) old))) is_r
+            ∙ ap (λ bs. flags_of (take i now) ++ reached_from m (entries_of bs)) (sym ahead)
+            ∙ p.flags;
+        steps =
+            let more : charges_from m (entries_of (drop i old))
+            ≡ charge_of m (entry_of b) + charges_from (behind m (outcome_of m b.unit)) (entries_of (drop (i + 1) old)) =
+            ap (λ bs. charges_from m (entries_of bs)) ahead in
+            let moved : charges_from m1 (entries_of (drop (i + 1) old))
+            ≡ charges_from (behind m (outcome_of m b.unit)) (entries_of (drop (i + 1) old)) =
+            ap (λ n. charges_from n (entries_of (drop (i + 1) old))) is_m in
+            let was : after + charges_from m (entries_of (drop i old))
+            ≡ before + charges_from beginning (entries_of old) = p.steps in
+            omega (arith, more, moved, was, is_after);
+        sound = All-set IsSound now i y sound p.sound;
+        units = units_next y brought.unit;
+        stays = stays_next y brought.unit kept;
+      }
+
+-- the first units are brought there, and the others as they were
+abbrev pub Stops : List Bridge → List Bridge → Type 0
+Stops old now =
+    (n : ℕ) × (entries_of now ≡ take n (fresh_from beginning (units_in old)) ++ drop n (entries_of old))
+
+map_take : (n : ℕ) (bs : List Bridge) → length (entries_of (take n bs)) ≡ length (take n bs)
+map_take n bs = length-map (take n bs) entry_of
+
+drop_entries : (n : ℕ) (bs : List Bridge) → entries_of (drop n bs) ≡ drop n (entries_of bs)
+drop_entries zero bs = refl
+drop_entries (suc n) [] = refl
+drop_entries (suc n) (b ∷ bs) = drop_entries n bs
+
+-- stopped behind i units
+stopped : (old now : List Bridge) (i : ℕ) (m : Moment)
+    → entries_of (take i now) ++ fresh_from m (units_in (drop i old)) ≡ fresh_from beginning (units_in old)
+    → drop i now ≡ drop i old → i ≤ length now
+    → entries_of now ≡ take i (fresh_from beginning (units_in old)) ++ drop i (entries_of old)
+stopped old now i m fresh rest inside =
+    let many : length (take i now) ≡ i = grind (arith, common_steps, inside) in
+    ap entries_of (sym (take-append-drop i now))
+    ∙ map-append entry_of (take i now) (drop i now)
+    ∙ ap (λ es. es ++ entries_of (drop i now))
+    (sym (take_at (entries_of (take i now)) (fresh_from m (units_in (drop i old))) i (map_take i now ∙ many))
+    ∙ ap (take i) fresh)
+    ∙ ap (λ bs. take i (fresh_from beginning (units_in old)) ++ entries_of bs) rest
+    ∙ ap (λ es. take i (fresh_from beginning (units_in old)) ++ es) (drop_entries i old)
+
+-- the refresh of unit i failed, before or behind its evaluation
+pub stops : (old now : List Bridge) (i : ℕ) (m : Moment) (before after : ℕ) → Partway old now i m before after
+    → i < length now → (d y : Bridge) → y.unit ≡ (slice_index_or now i d).unit
+    → (y ≡ slice_index_or now i d) ⊎ (wide_outcome y.kept ≡ outcome_of m (slice_index_or now i d).unit)
+    → Stops old (slice_set now i y)
+stops old now i m before after p inside d y unit (inl same) = (
+  i,
+  ap entries_of (ap (slice_set now i) same ∙ set-get_or now i d) ∙ stopped old now i m p.fresh p.rest (omega arith),
+)
+stops old now i m before after p inside d y unit (inr fresh) =
+    let many : i + 1 ≤ length (slice_set now i y) = grind (arith, common_steps, inside) in (
+      i + 1,
+      stopped old (slice_set now i y) (i + 1) (behind m (outcome_of m (slice_index_or now i d).unit))
+          (front_next old now i m before after p inside d y (record { unit = unit; fresh = fresh }))
+          (rest_next old now i m before after p inside d y) many,
+    )
+
+-- all units are behind
+pub ended : (old now : List Bridge) (i : ℕ) (m : Moment) (before after : ℕ) → Partway old now i m before after
+    → length now ≤ i
+    → (entries_of now ≡ fresh_from beginning (units_in old)) × (flags_of now ≡ reached_from beginning (entries_of old))
+    × (after ≡ before + charges_from beginning (entries_of old))
+ended old now i m before after p past =
+    let whole : take i now ≡ now = grind (arith, common_steps, past) in
+    let none : drop i old ≡ [] = sym p.rest ∙ drop_all i now past in
+    let left : charges_from m (entries_of (drop i old)) ≡ 0 = ap (λ bs. charges_from m (entries_of bs)) none in
+    let sum : after + charges_from m (entries_of (drop i old)) ≡ before + charges_from beginning (entries_of old) =
+    p.steps in (
+      sym (append-nil (entries_of now)) ∙ ap (λ bs. entries_of bs ++ []) (sym whole)
+          ∙ ap (λ bs. entries_of (take i now) ++ fresh_from m (units_in bs)) (sym none) ∙ p.fresh,
+      sym (append-nil (flags_of now)) ∙ ap (λ bs. flags_of bs ++ []) (sym whole)
+          ∙ ap (λ bs. flags_of (take i now) ++ reached_from m (entries_of bs)) (sym none) ∙ p.flags,
+      omega (arith, left, sum),
+    )
+
+pub any_err : {A E P : Type 0} (r : Result A E) → P → OnErr r P
+any_err (Ok a) h = tt
+any_err (Err e) h = h

@@ -1,0 +1,16 @@
+use Rattle.tx_bridge.specs.Names.{Empty}
+use Rattle.tx_bridge.proofs.Arrived.{started}
+use Rattle.tx_bridge.proofs.bridges.Bridges.start.Goals as goal
+
+pub invariant_of-result : goal.invariant_of-result
+invariant_of-result c =
+    (started c.in_ok-bridges_of.field-0.items c.args.units.items c.in_ok-bridges_of.ensures c.requires.units.placed).0
+
+pub returns-clause-empty : goal.returns-clause-empty
+unfolding Empty
+returns-clause-empty c =
+    (started c.in_ok-bridges_of.field-0.items c.args.units.items c.in_ok-bridges_of.ensures c.requires.units.placed).1
+
+pub returns-clause-units : goal.returns-clause-units
+returns-clause-units c =
+    (started c.in_ok-bridges_of.field-0.items c.args.units.items c.in_ok-bridges_of.ensures c.requires.units.placed).2

@@ -1,0 +1,10 @@
+pub mod SameTrees
+pub mod Moments
+pub mod Entries
+pub mod Reached
+pub mod Sound
+pub mod Carrying
+pub mod Slots
+pub mod UnitLists
+pub mod Bridged
+pub mod Names

@@ -1,0 +1,18 @@
+-- Moments, as contracts see them.
+use Rattle.std.specs.Prelude.{◌≡◌, ℕ, ◌+◌, ◌≤◌, ◌⊎◌, refl}
+use Rattle.std.specs.Coded.{Coded, code_by, coded×, coded_ℕ}
+use Rattle.tx_tree.specs.WideTree.{size_of}
+use Rattle.tx_env.specs.Environments.{NameMap, coded_NameMap}
+use Rattle.tx_origin.specs.Values.{WideValue, plain}
+use Rattle.tx_view_form.specs.Outcomes.{Moment, over_value}
+
+abbrev pub coded_Moment : Coded Moment
+coded_Moment =
+    code_by (NameMap × ℕ) (coded× coded_NameMap coded_ℕ) (λ m. (m.env, m.left))
+    (λ p. record { env = p.0; left = p.1 }) (λ _. refl)
+
+-- a value is what a unit that is over comes to, or has been paid for
+pub record IsPaid (before after : Moment) (v : WideValue) : Type 0 where
+  pub small : size_of (plain v) ≤ 1000000
+  pub paid : (v ≡ over_value) ⊎ (size_of (plain v) + after.left ≤ before.left)
+  pub falls : after.left ≤ before.left

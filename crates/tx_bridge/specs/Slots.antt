@@ -1,0 +1,77 @@
+-- Which new unit an old one is. Private clauses cite these.
+use Rattle.std.specs.Prelude.{◌≡◌, ℕ, ◌+◌, ◌-◌, ◌<◌, ◌^◌, length, Bool, false, ◌&&◌, ◌==◌, if◌then◌else◌, List, [], ◌∷◌}
+use Rattle.std.specs.Prelude.{Option, Some, None, slice_get}
+use Rattle.std.specs.Option.{option_map_or}
+use Rattle.std.specs.List.{All}
+use Rattle.tx_tree.specs.WideTree.{WideTree}
+use Rattle.tx_tree.specs.Paths.{subtree}
+use Rattle.tx_units.specs.declared.kinds.Unit.{Unit as DocUnit}
+use Rattle.tx_bridge.specs.declared.bridge.Bridge.{Bridge}
+use Rattle.tx_bridge.specs.Carrying.{is_path, same_unit}
+use Rattle.tx_bridge.specs.UnitLists.{IsPlaced}
+
+-- the path, if there is one, leads in the tree
+abbrev pub Leads : WideTree → Option (List ℕ) → Type 0
+Leads t None = Unit {0}
+Leads t (Some p) = (x : WideTree) × (subtree t p ≡ Some x)
+
+abbrev pub AllLead : WideTree → List (Option (List ℕ)) → Type 0
+AllLead t ps = All (Leads t) ps
+
+-- whether the old unit u of number i, which stands at the place now, is the new unit v of number j
+abbrev pub stays : Option (List ℕ) → ℕ → DocUnit → ℕ → DocUnit → Bool
+stays place i u j v = option_map_or (λ p. is_path p place) v.path (i == j && same_unit u v)
+
+-- the new units from number j on, where the old unit of number i has given what is kept of it
+abbrev pub given_from : Option (List ℕ) → ℕ → Bridge → ℕ → List Bridge → List Bridge
+given_from place i b j [] = []
+given_from place i b j (w ∷ ws) =
+    (if stays place i b.unit j w.unit then record { unit = w.unit; kept = b.kept; renewed = w.renewed } else w)
+    ∷ given_from place i b (j + 1) ws
+
+-- where each old unit, from number i on, has given what is kept of it
+abbrev pub given_all : ℕ → List (Option (List ℕ)) → List Bridge → List Bridge → List Bridge
+given_all i [] bs new = new
+given_all i (place ∷ places) [] new = new
+given_all i (place ∷ places) (b ∷ bs) new = given_all (i + 1) places bs (given_from place i b 0 new)
+
+-- no two units have one path
+abbrev pub AreApart : List Bridge → Type 0
+AreApart bs = (j k : ℕ) (v w : Bridge) (p : List ℕ) → slice_get bs j ≡ Some v → slice_get bs k ≡ Some w
+    → v.unit.path ≡ Some p → w.unit.path ≡ Some p → j ≡ k
+
+abbrev pub AllPlaced : List Bridge → Type 0
+AllPlaced bs = (k : ℕ) (b : Bridge) → slice_get bs k ≡ Some b → IsPlaced b.unit
+
+abbrev pub is_at : ℕ → Option ℕ → Bool
+is_at k None = false
+is_at k (Some j) = k == j
+
+-- the slot is the number of the new unit that the old one is, if there is one
+abbrev pub IsSlot : Option (List ℕ) → ℕ → DocUnit → List Bridge → Option ℕ → Type 0
+IsSlot place i u new slot = (k : ℕ) (w : Bridge) → slice_get new k ≡ Some w → stays place i u k w.unit ≡ is_at k slot
+
+-- the slot is the number of the new unit with the path, if there is one
+abbrev pub IsPathSlot : List ℕ → List Bridge → Option ℕ → Type 0
+IsPathSlot p new slot = (k : ℕ) (w : Bridge) → slice_get new k ≡ Some w → is_path p w.unit.path ≡ is_at k slot
+
+-- the last number of a path
+abbrev pub last_number : List ℕ → Option ℕ
+last_number p = slice_get p (length p - 1)
+
+-- the last number of the path of the unit of number k, if it has one, is how far it stands behind number `first`
+abbrev pub IsInOrder : ℕ → ℕ → DocUnit → Type 0
+IsInOrder first k u = (p : List ℕ) → u.path ≡ Some p → (n : ℕ) × (last_number p ≡ Some n) × (k ≡ first + n)
+
+-- so it is of each unit
+abbrev pub AreInOrder : ℕ → List Bridge → Type 0
+AreInOrder first bs = (k : ℕ) (w : Bridge) → slice_get bs k ≡ Some w → IsInOrder first k w.unit
+
+pub record HasOrder (first : ℕ) (bs : List Bridge) : Type 0 where
+  pub small : first < 2 ^ 63
+  pub order : AreInOrder first bs
+
+-- an old unit without a path has no place afterwards
+abbrev pub AreMoved : List (Option (List ℕ)) → List Bridge → Type 0
+AreMoved places bs = (i : ℕ) (q : Option (List ℕ)) (b : Bridge) → slice_get places i ≡ Some q
+    → slice_get bs i ≡ Some b → b.unit.path ≡ None → q ≡ None

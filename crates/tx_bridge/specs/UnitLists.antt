@@ -1,0 +1,25 @@
+-- Lists of units as documents have them.
+use Rattle.std.specs.Prelude.{◌≡◌, Bool, true, false, [], List, is_some}
+use Rattle.std.specs.Option.{option_map}
+use Rattle.std.specs.List.{AllByRecursion}
+use Rattle.tx_units.specs.declared.kinds.Unit.{Unit as DocUnit}
+use Rattle.tx_units.specs.declared.kinds.UnitKind.{UnitKind}
+use Rattle.tx_units.specs.declared.kinds.UnitKind.TheVariants.{Base, Style, Absent, Initial, Body}
+use Rattle.tx_units.specs.Places.{NoneBegins}
+
+abbrev pub is_body : UnitKind → Bool
+is_body Base = false
+is_body (Style k) = false
+is_body Absent = false
+is_body Initial = false
+is_body Body = true
+
+-- A paragraph of the body has a path, and the root is its origin. No other unit has a path or an origin.
+pub record IsPlaced (u : DocUnit) : Type 0 where
+  pub path : is_some u.path ≡ is_body u.kind
+  pub origin : u.tagged.at ≡ option_map (λ _. []) u.path
+
+-- so it is of each, and no path is another's or begins it
+pub record AreUnits (us : List DocUnit) : Type 0 where
+  pub placed : AllByRecursion IsPlaced us
+  pub apart : NoneBegins us

@@ -1,0 +1,250 @@
+// All units with what is kept of them.
+ghost use Rattle.std.specs.Prelude.{◌≡◌, ℕ, ◌+◌, ◌≤◌, ◌++◌, take, drop, map, IfOk, OnOk, OnErr, Some, None};
+ghost use Rattle.std.specs.Prelude.{false, MatchOption, slice_get, IsSome};
+ghost use Rattle.std.specs.Option.{unwrap_or, option_map};
+ghost use Rattle.std.specs.List.{All};
+ghost use Rattle.tx_tree.specs.WideTree.{WideTree};
+ghost use Rattle.tx_mod.specs.InTurn.{cost_of};
+ghost use Rattle.tx_mod.specs.Followed.{changed_by_all};
+ghost use Rattle.tx_exec.specs.Outcomes.{wide_outcome, NamesOnce};
+ghost use Rattle.tx_view_form.specs.Outcomes.{beginning, behind, value_of};
+ghost use Rattle.tx_bridge.specs.Moments.{IsPaid};
+ghost use Rattle.tx_bridge.specs.Entries.{Entry, units_of, fresh_from, outcome_of};
+ghost use Rattle.tx_bridge.specs.Reached.{reached_from, charges_from};
+ghost use Rattle.tx_bridge.specs.Sound.{IsSound, AllHold, entry_of, entries_of, flags_of};
+ghost use Rattle.tx_bridge.specs.UnitLists.{AreUnits};
+ghost use Rattle.tx_bridge.specs.Carrying.{AllStand, AreSameBodies, through, mods_of};
+ghost use Rattle.tx_bridge.specs.Slots.{AllLead};
+ghost use Rattle.tx_bridge.specs.Names.{Empty, Fresh, Charge, Carry};
+
+use crate::bridge::Bridge;
+use crate::giving::give_all;
+use crate::moments::Moment;
+use crate::paths_after::paths_after;
+use std::alloc::Global;
+use std::marker::Model;
+use std::sync::ledger::Ledger;
+use tx_base::{Memory, Steps};
+use tx_exec::Outcome;
+use tx_exec_form::{size_law, trace_laws};
+use tx_mod::{Mod, carried_list_law};
+use tx_tree::{Path, Tree};
+use tx_units::Unit;
+
+/// All units, each with the trace that is kept of it, or nothing.
+///
+/// At every moment what is kept of a unit supports its tree: it is the trace in every environment that agrees with its
+/// looks.
+#[derive(Drop)]
+pub struct Bridges {
+    bridges: Vec<Bridge>,
+}
+
+impl Model for Bridges {
+    ghost use Rattle.std.specs.List.{All};
+    ghost use Rattle.tx_bridge.specs.Bridged.{Bridged, coded_Bridged};
+    ghost use Rattle.tx_bridge.specs.Sound.{IsSound, entries_of, flags_of};
+
+    ghost Value = { Bridged };
+
+    ghost coded = { coded_Bridged };
+
+    ghost view = { λ b. record { kept = entries_of b.bridges.items; renewed = flags_of b.bridges.items } };
+
+    ghost invariant = { λ b. All IsSound b.bridges.items };
+}
+
+// The units, with nothing kept.
+fn bridges_of(alloc: Global, units: Vec<Unit>) -> Result<Vec<Bridge>, Memory>
+    ensures { IfOk result (λ v. v.items
+        ≡ map (λ u. record { unit = u; kept = Outcome.Over; renewed = false }) units.items) }
+{
+    Ok(
+        units
+            .into_iter()
+            .map(|unit| Bridge::new(unit))
+            .collect(alloc)?,
+    )
+}
+
+// Brings each unit to what evaluating from nothing gives. For want of memory it stops: those before are brought there,
+// and the others are as they were.
+fn refresh_all<L: Ledger>(
+    alloc: Global,
+    bridges: &mut [Bridge],
+    steps: &mut Steps<L>,
+) -> Result<(), Memory>
+    requires sound { All IsSound bridges.old }
+    ensures fresh { OnOk result (entries_of bridges.new ≡ fresh_from beginning (units_of (entries_of bridges.old))) }
+    ensures renewed { OnOk result (flags_of bridges.new ≡ reached_from beginning (entries_of bridges.old)) }
+    ensures counted { OnOk result (steps.new ≡ steps.old + charges_from beginning (entries_of bridges.old)) }
+    ensures sound { All IsSound bridges.new }
+    ensures units { units_of (entries_of bridges.new) ≡ units_of (entries_of bridges.old) }
+    ensures stays { (i : ℕ) → slice_get (flags_of bridges.new) i ≡ Some false
+        → slice_get (entries_of bridges.new) i ≡ slice_get (entries_of bridges.old) i }
+    ensures refused { OnErr result ((n : ℕ) × (entries_of bridges.new
+        ≡ take n (fresh_from beginning (units_of (entries_of bridges.old))) ++ drop n (entries_of bridges.old))) }
+{
+    let mut moment = Moment::beginning(alloc);
+    for i in 0..bridges.len() {
+        bridges[i].refresh(alloc, &mut moment, steps)?;
+    }
+    Ok(())
+}
+
+fn path_of(alloc: Global, unit: &Unit) -> Result<Option<Path>, Memory>
+    ensures { IfOk result (λ p. p ≡ unit.now.path) }
+{
+    match &unit.path {
+        None => Ok(None),
+        Some(path) => Ok(Some(path.copy(alloc)?)),
+    }
+}
+
+fn paths_of(alloc: Global, bridges: &[Bridge]) -> Result<Vec<Option<Path>>, Memory>
+    ensures { IfOk result (λ v. v.items ≡ map (λ b. b.unit.path) bridges.now) }
+{
+    let mut paths = Vec::with_capacity(alloc, bridges.len())?;
+    for bridge in bridges {
+        paths.push(path_of(alloc, &bridge.unit)?)?;
+    }
+    Ok(paths)
+}
+
+// Where the units with these paths stand after an edit of a buffer.
+fn places_after<L: Ledger>(
+    alloc: Global,
+    buffer: u32,
+    before: &Tree,
+    mods: &[Mod],
+    paths: Vec<Option<Path>>,
+    steps: &mut Steps<L>,
+) -> Result<Vec<Option<Path>>, Memory>
+    requires applies { (u : WideTree) × (changed_by_all mods.now before.now ≡ Some u) }
+    requires lead { buffer ≡ 0 → AllLead before.now paths.items }
+    ensures ok { IfOk result (λ v. v.items ≡ map (through (mods_of buffer mods.now) before.now) paths.items) }
+    ensures counted { steps.new ≤ steps.old + cost_of mods.now }
+{
+    if buffer == 0 {
+        return paths_after(alloc, before, mods, paths, steps);
+    }
+    Ok(paths)
+}
+
+impl Bridges {
+    /// The units, with nothing kept.
+    #[tactic(auto, unfolding(crate::specs::Names::Empty))]
+    pub fn start(alloc: Global, units: Vec<Unit>) -> Result<Bridges, Memory>
+        requires units { AreUnits units.items }
+        ensures empty { IfOk result (λ b. b.kept ≡ Empty units.items) }
+        ensures units { IfOk result (λ b. units_of b.kept ≡ units.items) }
+    {
+        Ok(Bridges {
+            bridges: bridges_of(alloc, units)?,
+        })
+    }
+
+    /// Brings each unit to what evaluating all from nothing gives. What is kept of a unit is used again where its looks
+    /// agree with what names have before it, and its cost is allowed. The steps rise by the charges of the other units.
+    ///
+    /// For want of memory the units before some number are brought there, and the others are as they were.
+    #[tactic(auto, unfolding(crate::specs::Names::Fresh, crate::specs::Names::Charge))]
+    pub fn refresh<L: Ledger>(&mut self, alloc: Global, steps: &mut Steps<L>) -> Result<(), Memory>
+        ensures fresh { OnOk result (self.new.kept ≡ Fresh self.old.kept) }
+        ensures renewed { OnOk result (self.new.renewed ≡ reached_from beginning self.old.kept) }
+        ensures counted { OnOk result (steps.new ≡ steps.old + Charge self.old.kept) }
+        ensures units { units_of self.new.kept ≡ units_of self.old.kept }
+        ensures stays { (i : ℕ) → slice_get self.new.renewed i ≡ Some false
+            → slice_get self.new.kept i ≡ slice_get self.old.kept i }
+        ensures refused { OnErr result ((n : ℕ) × (self.new.kept
+            ≡ take n (Fresh self.old.kept) ++ drop n self.old.kept)) }
+    {
+        refresh_all(alloc, &mut self.bridges, steps)
+    }
+
+    /// The new units after an edit of a buffer, with what was kept of the old ones that they are. A paragraph of the
+    /// body is the old one from whose path the modifications lead to its path, or, where another buffer than 0 was
+    /// edited, the one with its path. Another unit is the old one of its number, where kind and tree are the same.
+    ///
+    /// `before` is the tree of the buffer before the edit. For want of memory all is as before.
+    #[tactic(auto, unfolding(crate::specs::Names::Carry))]
+    pub fn carry<L: Ledger>(
+        &mut self,
+        alloc: Global,
+        buffer: u32,
+        before: &Tree,
+        mods: &[Mod],
+        units: Vec<Unit>,
+        steps: &mut Steps<L>,
+    ) -> Result<(), Memory>
+        requires applies { (u : WideTree) × (changed_by_all mods.now before.now ≡ Some u) }
+        requires units { AreUnits units.items }
+        requires old { buffer ≡ 0 → AllStand before.now (units_of self.old.kept) }
+        requires new { buffer ≡ 0 → (u : WideTree) → changed_by_all mods.now before.now ≡ Some u
+            → AllStand u units.items }
+        requires same { (buffer ≡ 0 → ⊥) → AreSameBodies (units_of self.old.kept) units.items }
+        ensures carried { OnOk result (self.new.kept ≡ Carry buffer mods.now before.now self.old.kept units.items) }
+        ensures units { OnOk result (units_of self.new.kept ≡ units.items) }
+        ensures counted { steps.new ≤ steps.old + cost_of mods.now }
+        ensures refused { OnErr result (self.new ≡ self.old) }
+    {
+        carried_list_law();
+        let paths = paths_of(alloc, &self.bridges)?;
+        let places = places_after(alloc, buffer, before, mods, paths, steps)?;
+        let mut new = bridges_of(alloc, units)?;
+        give_all(&mut new, &places, &mut self.bridges);
+        self.bridges = new;
+        Ok(())
+    }
+
+    /// What is kept of the unit, which after a refresh is what it comes to. None past the last unit.
+    pub fn outcome(&self, i: u32) -> Option<&Outcome>
+        ensures found { MatchOption result (slice_get self.now.kept i ≡ None)
+            (λ o. option_map (λ e. e.trace) (slice_get self.now.kept i) ≡ Some (wide_outcome o.now)) }
+        ensures holds { AllHold self.now.kept }
+    {
+        match self.bridges.get(i as usize) {
+            None => None,
+            Some(bridge) => Some(&bridge.kept),
+        }
+    }
+
+    /// The unit of this number, or None past the last one.
+    pub fn unit(&self, i: u32) -> Option<&Unit>
+        ensures { MatchOption result (slice_get self.now.kept i ≡ None)
+            (λ u. option_map (λ e. e.unit) (slice_get self.now.kept i) ≡ Some u.now) }
+    {
+        match self.bridges.get(i as usize) {
+            None => None,
+            Some(bridge) => Some(&bridge.unit),
+        }
+    }
+
+    /// Whether the unit was reached when the last refresh began. Past the last unit it is false.
+    pub fn renewed(&self, i: u32) -> bool
+        ensures { result ≡ unwrap_or (slice_get self.now.renewed i) false }
+    {
+        match self.bridges.get(i as usize) {
+            None => false,
+            Some(bridge) => bridge.renewed,
+        }
+    }
+
+    /// Takes the moment before a unit to the moment behind it, by what is kept of it, which is what it comes to.
+    pub fn pass(&self, i: u32, moment: &mut Moment) -> Result<(), Memory>
+        requires there { IsSome (slice_get self.now.kept i) }
+        requires fresh { (e : Entry) → slice_get self.now.kept i ≡ Some e → e.trace ≡ outcome_of moment.old e.unit }
+        ensures behind { OnOk result ((e : Entry) → slice_get self.now.kept i ≡ Some e
+            → moment.new ≡ behind moment.old e.trace) }
+        ensures paid { OnOk result ((e : Entry) → slice_get self.now.kept i ≡ Some e
+            → IsPaid moment.old moment.new (value_of e.trace)) }
+        ensures err { OnErr result (moment.new ≡ moment.old) }
+    {
+        size_law();
+        trace_laws();
+        match self.bridges.get(i as usize) {
+            None => unreachable!(),
+            Some(bridge) => moment.go_behind(&bridge.kept),
+        }
+    }
+}

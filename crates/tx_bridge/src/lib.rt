@@ -1,0 +1,17 @@
+//! Kept evaluations: of each unit the trace that it came to last, which is used again where it still fits.
+//!
+//! After [`Bridges::refresh`] the outcomes are those of evaluating all units from nothing. Contracts of the crates
+//! above cite the names of `specs/Names.antt` and don't open them.
+#![tactic(auto)]
+
+mod bridge;
+mod bridges;
+mod fitting;
+mod giving;
+mod laws;
+mod moments;
+mod paths_after;
+
+pub use bridges::Bridges;
+pub use laws::unit_list_laws;
+pub use moments::{Moment, over_value};

@@ -1,0 +1,153 @@
+// Units evaluated one behind the other.
+ghost use Rattle.std.specs.Prelude.{◌≡◌, ◌+◌, ◌*◌, ◌≤◌, IfOk, OnOk, OnErr};
+ghost use Rattle.tx_tree.specs.WideTree.{size_of};
+ghost use Rattle.tx_origin.specs.Values.{plain};
+ghost use Rattle.tx_origin.specs.TaggedTrees.{tagged_of};
+ghost use Rattle.tx_exec.specs.Outcomes.{wide_outcome, NamesOnce};
+ghost use Rattle.tx_view_form.specs.Outcomes.{beginning, allowance, outcome, charge, behind, value_of, over_value};
+ghost use Rattle.tx_bridge.specs.Moments.{IsPaid};
+
+use std::alloc::Global;
+use std::marker::Model;
+use std::sync::ledger::Ledger;
+use tx_base::{Memory, Steps};
+use tx_env::Env;
+use tx_exec::{Outcome, eval};
+use tx_exec_form::{size_law, trace_laws};
+use tx_origin::{Tagged, Value};
+use tx_tree::{Label, Text};
+use tx_view_form::{MOST_UNIT_STEPS, MOST_VIEW_STEPS};
+
+/// What names have before a unit, and the steps that are left.
+#[derive(Drop)]
+pub struct Moment {
+    env: Env,
+    left: u64,
+}
+
+impl Model for Moment {
+    ghost use Rattle.tx_view_form.specs.Outcomes.{Moment};
+    ghost use Rattle.tx_bridge.specs.Moments.{coded_Moment};
+
+    ghost Value = { Moment };
+
+    ghost coded = { coded_Moment };
+
+    ghost view = { λ m. record { env = m.env.map; left = m.left } };
+}
+
+impl Moment {
+    /// Before the first unit.
+    pub fn beginning(alloc: Global) -> Moment
+        ensures { result ≡ beginning }
+    {
+        Moment {
+            env: Env::new(alloc),
+            left: MOST_VIEW_STEPS,
+        }
+    }
+
+    /// What names have.
+    pub fn env(&self) -> &Env
+        ensures { result.now.map ≡ self.now.env }
+    {
+        &self.env
+    }
+
+    // The steps that one unit may take.
+    pub(crate) fn allowance(&self) -> u64
+        ensures { result ≡ allowance self.now }
+    {
+        MOST_UNIT_STEPS.min(self.left)
+    }
+
+    // What a unit with this tree comes to. The moment stays.
+    pub(crate) fn outcome<L: Ledger>(
+        &mut self,
+        alloc: Global,
+        t: &Tagged,
+        steps: &mut Steps<L>,
+    ) -> Result<Outcome, Memory>
+        ensures exact { IfOk result (λ o. wide_outcome o ≡ outcome (tagged_of t.now) self.old) }
+        ensures once { IfOk result NamesOnce }
+        ensures counted { OnOk result (steps.new ≡ steps.old + charge self.old (outcome (tagged_of t.now) self.old)) }
+        ensures stays { self.new ≡ self.old }
+    {
+        let allowance = MOST_UNIT_STEPS.min(self.left);
+        let outcome = eval(alloc, t, &mut self.env, allowance, steps)?;
+        Ok(outcome)
+    }
+
+    // Goes behind a unit that comes to this.
+    pub(crate) fn go_behind(&mut self, outcome: &Outcome) -> Result<(), Memory>
+        requires once { NamesOnce outcome.now }
+        requires enough { charge self.old (wide_outcome outcome.now) ≤ self.old.left }
+        ensures behind { OnOk result (self.new ≡ behind self.old (wide_outcome outcome.now)) }
+        ensures err { OnErr result (self.new ≡ self.old) }
+    {
+        match outcome {
+            Outcome::Over => {
+                let allowance = MOST_UNIT_STEPS.min(self.left);
+                self.left -= allowance;
+            }
+            Outcome::Done(trace) => {
+                self.env.overlay(&trace.writes)?;
+                self.left -= trace.cost;
+            }
+        }
+        Ok(())
+    }
+
+    /// The value of a unit with this tree. The moment is then the one behind it.
+    pub fn evaluate<L: Ledger>(
+        &mut self,
+        alloc: Global,
+        t: &Tagged,
+        steps: &mut Steps<L>,
+    ) -> Result<Value, Memory>
+        ensures value { IfOk result (λ v. v ≡ value_of (outcome (tagged_of t.now) self.old)) }
+        ensures behind { OnOk result (self.new ≡ behind self.old (outcome (tagged_of t.now) self.old)) }
+        ensures counted { OnOk result (steps.new ≡ steps.old + charge self.old (outcome (tagged_of t.now) self.old)) }
+        ensures paid { IfOk result (λ v. IsPaid self.old self.new v) }
+    {
+        size_law();
+        trace_laws();
+        let outcome = self.outcome(alloc, t, steps)?;
+        self.go_behind(&outcome)?;
+        let value = value_from(alloc, outcome)?;
+        Ok(value)
+    }
+}
+
+// The value of a unit that comes to this.
+fn value_from(alloc: Global, outcome: Outcome) -> Result<Value, Memory>
+    ensures { IfOk result (λ v. v ≡ value_of (wide_outcome outcome)) }
+{
+    match outcome {
+        Outcome::Over => over_value(alloc),
+        Outcome::Done(trace) => Ok(trace.value),
+    }
+}
+
+// The text of these bytes, which are one.
+fn text_of(alloc: Global, bytes: &[u8]) -> Result<Text, Memory>
+    ensures { IfOk result (λ t. t ≡ bytes.now) }
+{
+    match Text::new(alloc, bytes) {
+        Ok(text) => Ok(text),
+        Err(_) => Err(Memory),
+    }
+}
+
+/// What a unit that is over comes to.
+pub fn over_value(alloc: Global) -> Result<Value, Memory>
+    ensures { IfOk result (λ v. v ≡ over_value) }
+{
+    let kind = Value::leaf(alloc, text_of(alloc, b"over".as_slice())?, None)?;
+    let detail = Value::leaf(alloc, text_of(alloc, b"".as_slice())?, None)?;
+    let parts = vec![in alloc; kind, detail]?;
+    match Label::new(alloc, b"error".as_slice()) {
+        Ok(label) => Value::node(alloc, label, parts, None),
+        Err(_) => Err(Memory),
+    }
+}

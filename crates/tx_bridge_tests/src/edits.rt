@@ -1,0 +1,261 @@
+// Edits, and the units that are reached behind them.
+ghost use Rattle.std.specs.Prelude.{◌≡◌, ◌<◌, ◌≤◌, length, IfSome, OnSome};
+ghost use Rattle.tx_units.specs.Units.{units};
+ghost use Rattle.tx_bridge.specs.Entries.{units_of};
+
+use std::alloc::Global;
+use std::marker::Brand;
+use std::sync::ledger::{Blank, Ledger};
+use std::test::Fail;
+use tx_base::Steps;
+use tx_bridge::{Bridges, unit_list_laws};
+use tx_cmd::{Command, parse};
+use tx_doc::{Buffer, Name};
+use tx_exec::Outcome;
+use tx_mod::{Mod, apply};
+use tx_units::units;
+
+// How many units the base style has.
+const BASE: u32 = 26;
+
+// The number of a buffer, an edit of it, and a mark for each unit behind those of the base style: a cross where the
+// edit reached it, and else a point.
+type Change = (u32, &'static str, &'static str);
+
+// Buffers, and edits one after the other.
+type Row = (&'static str, &'static [Change]);
+
+const ROWS: &[Row] = &[
+    (
+        "d (document \"a\" \"b\" \"c\")",
+        &[
+            (0, "insert / 0 (tuple \"top\")", "x..."),
+            (0, "remove / 1 1", "..."),
+            (0, "assign /1 \"yz\"", ".x."),
+            (0, "split / 1 1", ".xx."),
+            (0, "join / 1", ".x."),
+            (0, "insert /2 0 \"c\"", "..x"),
+        ],
+    ),
+    // a variable, also where it is unset
+    (
+        "d (document (assign \"n\" \"1\") \"text\" (value \"n\") (provides \"n\"))",
+        &[
+            (0, "assign /0/1 \"2\"", "x.xx"),
+            (0, "assign /1 \"t\"", ".x.."),
+            (0, "remove / 0 1", ".xx"),
+            (0, "insert / 1 (tuple (assign \"n\" \"1\"))", ".xxx"),
+            (0, "insert / 0 (tuple (assign \"n\" \"1\"))", "x...."),
+        ],
+    ),
+    // a macro, and what it writes
+    (
+        "d (document (assign \"g\" (macro (assign \"n\" \"1\"))) (g) \"x\" (value \"n\"))",
+        &[
+            (0, "assign /0/1/0/1 \"2\"", "xx.x"),
+            (0, "remove / 1 1", "..x"),
+        ],
+    ),
+    // a style, an initial environment, and the document
+    (
+        "d (document (style \"s\") (initial (collection (associate \"k\" \"v\"))) (body (document \"a\" (value \"n\"))));s \
+            (document (assign \"n\" \"1\"))",
+        &[
+            (1, "assign /0/1 \"2\"", "x..x"),
+            (1, "insert / 0 (tuple \"a\")", "xxx.."),
+            (0, "assign /2/0/0 \"b\"", "...x."),
+            (0, "assign /0/0 \"none\"", "xx.x"),
+        ],
+    ),
+    // what is over is never kept
+    (
+        "d (document (while \"true\" \"abcdefghij\") \"b\")",
+        &[(0, "assign /1 \"c\"", "xx"), (0, "remove / 1 1", "x")],
+    ),
+];
+
+// What evaluating from nothing gives.
+fn from_nothing<L: Ledger>(
+    alloc: Global,
+    buffers: &[Buffer],
+    steps: &mut Steps<L>,
+) -> Option<Bridges>
+    requires some { 1 ≤ length buffers.now }
+    requires few { length buffers.now ≤ 16 }
+    ensures { IfSome result (λ b. units_of b.kept ≡ units buffers.now) }
+{
+    unit_list_laws();
+    let units = units(alloc, buffers, steps).ok()?;
+    let mut bridges = Bridges::start(alloc, units).ok()?;
+    bridges.refresh(alloc, steps).ok()?;
+    Some(bridges)
+}
+
+// Changes a buffer, and evaluates what it reaches.
+fn edit<L: Ledger>(
+    alloc: Global,
+    bridges: &mut Bridges,
+    buffers: &mut [Buffer],
+    k: u32,
+    m: Mod,
+    steps: &mut Steps<L>,
+) -> Option<()>
+    requires some { k < length buffers.old }
+    requires few { length buffers.old ≤ 16 }
+    requires units { units_of bridges.old.kept ≡ units buffers.old }
+    ensures units { OnSome result (units_of bridges.new.kept ≡ units buffers.new) }
+    ensures many { length buffers.new ≡ length buffers.old }
+{
+    unit_list_laws();
+    let before = buffers[k as usize].tree.share().ok()?;
+    let after = apply(alloc, &before, &m, steps).ok()?;
+    buffers[k as usize].tree = after;
+    let units = units(alloc, buffers, steps).ok()?;
+    let mods = vec![in alloc; m].ok()?;
+    bridges.carry(alloc, k, &before, &mods, units, steps).ok()?;
+    bridges.refresh(alloc, steps).ok()
+}
+
+// Buffers, each a name and a tree, `;` between them.
+fn buffers_of<L: Ledger>(alloc: Global, words: &str, steps: &mut Steps<L>) -> Option<Vec<Buffer>> {
+    let mut buffers = Vec::new(alloc);
+    for part in words.split(';') {
+        let (name, words) = part.split_once(' ')?;
+        let name = Name::from(Vec::from_slice(alloc, name.as_bytes()).ok()?);
+        let tree = tx_scm::read(alloc, words.as_bytes(), steps).ok()?;
+        buffers.push(Buffer { name, tree }).ok()?;
+    }
+    Some(buffers)
+}
+
+// A modification as the line of a script.
+fn change_of<L: Ledger>(alloc: Global, line: &str, steps: &mut Steps<L>) -> Option<Mod> {
+    match parse(alloc, line.as_bytes(), steps) {
+        Ok(Command::Change(m)) => Some(m),
+        _ => None,
+    }
+}
+
+fn same<L: Ledger>(
+    alloc: Global,
+    one: &Outcome,
+    other: &Outcome,
+    steps: &mut Steps<L>,
+) -> Option<bool> {
+    match (one, other) {
+        (Outcome::Over, Outcome::Over) => Some(true),
+        (Outcome::Done(a), Outcome::Done(b)) => {
+            let value = a.value.plain(alloc, steps).ok()?;
+            let fresh = b.value.plain(alloc, steps).ok()?;
+            Some(value.same(&fresh) && a.cost == b.cost && a.height == b.height)
+        }
+        _ => Some(false),
+    }
+}
+
+fn is_marked(marks: &[u8], i: u32) -> bool {
+    i >= BASE && marks.get((i - BASE) as usize) == Some(&b'x')
+}
+
+// Whether each outcome is that from nothing, and just the units with a cross were reached.
+fn are_right<L: Ledger>(
+    alloc: Global,
+    bridges: &Bridges,
+    fresh: &Bridges,
+    marks: &[u8],
+    steps: &mut Steps<L>,
+) -> Option<bool> {
+    for i in 0..1000 {
+        let marked = is_marked(marks, i);
+        match (bridges.outcome(i), fresh.outcome(i)) {
+            (None, None) => return Some(u64::from(i) == u64::from(BASE) + marks.len() as u64),
+            (Some(one), Some(other)) => {
+                if !same(alloc, one, other, steps)? || bridges.renewed(i) != marked {
+                    return Some(false);
+                }
+            }
+            _ => return Some(false),
+        }
+    }
+    None
+}
+
+// Whether the edit reaches what it is to reach.
+fn holds<L: Ledger>(
+    alloc: Global,
+    bridges: &mut Bridges,
+    buffers: &mut [Buffer],
+    change: &Change,
+    steps: &mut Steps<L>,
+) -> Option<bool>
+    requires some { 1 ≤ length buffers.old }
+    requires few { length buffers.old ≤ 16 }
+    requires units { units_of bridges.old.kept ≡ units buffers.old }
+    ensures units { OnSome result (units_of bridges.new.kept ≡ units buffers.new) }
+    ensures many { length buffers.new ≡ length buffers.old }
+{
+    let (k, line, marks) = *change;
+    if k as usize >= buffers.len() {
+        return None;
+    }
+    let m = change_of(alloc, line, steps)?;
+    edit(alloc, bridges, buffers, k, m, steps)?;
+    let fresh = from_nothing(alloc, buffers, steps)?;
+    are_right(alloc, bridges, &fresh, marks.as_bytes(), steps)
+}
+
+fn all_hold<L: Ledger>(
+    alloc: Global,
+    bridges: &mut Bridges,
+    buffers: &mut [Buffer],
+    changes: &[Change],
+    steps: &mut Steps<L>,
+) -> bool
+    requires some { 1 ≤ length buffers.old }
+    requires few { length buffers.old ≤ 16 }
+    requires units { units_of bridges.old.kept ≡ units buffers.old }
+{
+    for change in changes {
+        let Some(right) = holds(alloc, bridges, buffers, change, steps) else {
+            return false;
+        };
+        if !right {
+            return false;
+        }
+    }
+    true
+}
+
+// Whether each edit of the row does.
+fn is_kept<L: Ledger>(alloc: Global, row: &Row, steps: &mut Steps<L>) -> Option<bool> {
+    let mut buffers = buffers_of(alloc, row.0, steps)?;
+    if buffers.is_empty() || buffers.len() > 16 {
+        return None;
+    }
+    let mut bridges = from_nothing(alloc, &buffers, steps)?;
+    Some(all_hold(alloc, &mut bridges, &mut buffers, row.1, steps))
+}
+
+// The number of the first row that doesn't hold.
+fn first_untrue<L: Ledger>(alloc: Global, steps: &mut Steps<L>) -> Option<usize> {
+    for (i, row) in ROWS.iter().enumerate() {
+        if is_kept(alloc, row, steps) != Some(true) {
+            return Some(i);
+        }
+    }
+    None
+}
+
+fn not_kept<L: Ledger>(alloc: Global, blank: Blank) -> Option<usize>
+    requires name { blank.name ≡ L.name }
+    requires parts { blank.parts ≡ L.parts }
+    requires whole { blank.parts ≡ 1 }
+{
+    let mut steps = Steps::<L>::new(blank);
+    first_untrue(alloc, &mut steps)
+}
+
+#[test]
+fn edits_reach_what_they_change(rt: HostRuntime) {
+    assert_eq!(rt; not_kept::<Brand>(rt.alloc(), Blank::new(1)), None);
+}
