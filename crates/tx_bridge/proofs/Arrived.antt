@@ -25,7 +25,7 @@ use Rattle.tx_bridge.specs.Sound.{IsSound, Holds, AllHold, entry_of, entries_of}
 use Rattle.tx_bridge.specs.Carrying.{is_path, same_kind, same_unit, through, mods_of, Stands, AllStand, AreSameBodies}
 use Rattle.tx_bridge.specs.Slots.{Leads, AllLead, AreApart, AreMoved, AllPlaced, stays, given_from, given_all}
 use Rattle.tx_bridge.proofs.Trees.{both, same_is}
-use Rattle.tx_bridge.proofs.Slotting.{path_is, paths_alike}
+use Rattle.tx_bridge.proofs.Slotting.{path_is, paths_alike, some_once}
 
 abbrev pub paths_in : List Bridge → List (Option (List ℕ))
 paths_in bs = map (λ b. b.unit.path) bs
@@ -69,9 +69,6 @@ arrives_at ms t u x made law stands None e p f = cc
 arrives_at ms t u x made law stands (Some q) e p f = law q u x.tagged.tree p made (stands q e) f
 
 -- ---- units with one tree
-
-some_once : {A : Type 0} (o : Option A) (x y : A) → o ≡ Some x → o ≡ Some y → x ≡ y
-some_once o x y e f = cc
 
 roots : (o r : Option (List ℕ)) → is_some o ≡ is_some r
     → option_map {U = List ℕ} (λ _. []) o ≡ option_map (λ _. []) r

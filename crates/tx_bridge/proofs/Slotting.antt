@@ -19,7 +19,7 @@ use Rattle.tx_bridge.specs.Slots.{stays, IsSlot, IsPathSlot, AreApart, AllPlaced
 use Rattle.tx_bridge.specs.Slots.{last_number, IsInOrder, AreInOrder}
 use Rattle.tx_bridge.proofs.Trees.{both, and_true, alike}
 
-some_once : {A : Type 0} (o : Option A) (x y : A) → o ≡ Some x → o ≡ Some y → x ≡ y
+pub some_once : {A : Type 0} (o : Option A) (x y : A) → o ≡ Some x → o ≡ Some y → x ≡ y
 some_once o x y e f = cc
 
 pub path_is : (p : List ℕ) (o : Option (List ℕ)) → is_path p o ≡ true → o ≡ Some p
