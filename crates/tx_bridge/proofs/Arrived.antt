@@ -21,7 +21,7 @@ use Rattle.tx_bridge.specs.UnitLists.{IsPlaced}
 use Rattle.tx_units.specs.Places.{NoneBegins}
 use Rattle.tx_units.specs.Places.{AreApart as PathsApart}
 use Rattle.tx_bridge.specs.Entries.{Entry, Kept, units_of, nothing_kept}
-use Rattle.tx_bridge.specs.Sound.{IsSound, Holds, AllHold, entry_of, entries_of}
+use Rattle.tx_bridge.specs.Sound.{IsSound, Holds, AllHold, entry_of, entries_of, sources_in}
 use Rattle.tx_bridge.specs.Carrying.{is_path, same_kind, same_unit, through, mods_of, Stands, AllStand, AreSameBodies}
 use Rattle.tx_bridge.specs.Slots.{Leads, AllLead, AreApart, AreMoved, AllPlaced, stays, given_from, given_all}
 use Rattle.tx_bridge.proofs.Trees.{both, same_is}
@@ -34,7 +34,11 @@ abbrev pub bodies_of : List Bridge → List DocUnit
 bodies_of bs = map (λ b. b.unit) bs
 
 abbrev pub fresh_bridge : DocUnit → Bridge
-fresh_bridge u = record { unit = u; kept = Over; renewed = false }
+fresh_bridge u = record { unit = u; kept = Over; renewed = false; source = None }
+
+-- the new unit w, where the old one of number i has given what is kept of it
+abbrev pub with_given : ℕ → Bridge → Bridge → Bridge
+with_given i b w = record { unit = w.unit; kept = b.kept; renewed = w.renewed; source = Some i }
 
 -- ---- where old units stand
 
@@ -111,25 +115,24 @@ stays_tagged place i u j v placed there moved same None e h =
 
 -- ---- giving keeps what is true of what is kept
 
-one_sound : (s : Bool) (b w : Bridge) → (s ≡ true → tagged_of b.unit.tagged ≡ tagged_of w.unit.tagged) → IsSound b
-    → IsSound w → IsSound (if s then record { unit = w.unit; kept = b.kept; renewed = w.renewed } else w)
-one_sound true b w same sound_b sound_w = record {
+one_sound : (s : Bool) (i : ℕ) (b w : Bridge) → (s ≡ true → tagged_of b.unit.tagged ≡ tagged_of w.unit.tagged)
+    → IsSound b → IsSound w → IsSound (if s then with_given i b w else w)
+one_sound true i b w same sound_b sound_w = record {
   holds = subst (Holds (wide_outcome b.kept)) (same refl) sound_b.holds;
   once = sound_b.once;
   placed = sound_w.placed;
 }
-one_sound false b w same sound_b sound_w = sound_w
+one_sound false i b w same sound_b sound_w = sound_w
 
-one_unit : (s : Bool) (b w : Bridge)
-    → (if s then record { unit = w.unit; kept = b.kept; renewed = w.renewed } else w).unit ≡ w.unit
-one_unit true b w = refl
-one_unit false b w = refl
+one_unit : (s : Bool) (i : ℕ) (b w : Bridge) → (if s then with_given i b w else w).unit ≡ w.unit
+one_unit true i b w = refl
+one_unit false i b w = refl
 
 units_given : (place : Option (List ℕ)) (i : ℕ) (b : Bridge) (o : ℕ) (ws : List Bridge)
     → bodies_of (given_from place i b o ws) ≡ bodies_of ws
 units_given place i b o [] = refl
 units_given place i b o (w ∷ ws) =
-    ap (λ x. x ∷ bodies_of (given_from place i b (o + 1) ws)) (one_unit (stays place i b.unit o w.unit) b w)
+    ap (λ x. x ∷ bodies_of (given_from place i b (o + 1) ws)) (one_unit (stays place i b.unit o w.unit) i b w)
     ∙ ap (λ us. w.unit ∷ us) (units_given place i b (o + 1) ws)
 
 given_sound : (place : Option (List ℕ)) (i : ℕ) (b : Bridge) (o : ℕ) (ws : List Bridge) → IsSound b
@@ -137,7 +140,7 @@ given_sound : (place : Option (List ℕ)) (i : ℕ) (b : Bridge) (o : ℕ) (ws :
     → AllByRecursion IsSound ws → AllByRecursion IsSound (given_from place i b o ws)
 given_sound place i b o [] sound moved same h = tt
 given_sound place i b o (w ∷ ws) sound moved same h = (
-  one_sound (stays place i b.unit o w.unit) b w
+  one_sound (stays place i b.unit o w.unit) i b w
       (λ s. stays_tagged place i b.unit o w.unit sound.placed h.0.placed moved same.0 w.unit.path refl s) sound h.0,
   given_sound place i b (o + 1) ws sound moved same.1 h.1,
 )
@@ -313,12 +316,18 @@ start_entries : (us : List DocUnit) → entries_of (map fresh_bridge us) ≡ not
 start_entries [] = refl
 start_entries (u ∷ us) = ap (λ es. record { unit = u; trace = None } ∷ es) (start_entries us)
 
+start_sources : (us : List DocUnit) → sources_in (map fresh_bridge us) ≡ map (λ u. None) us
+start_sources [] = refl
+start_sources (u ∷ us) = ap (λ ss. None ∷ ss) (start_sources us)
+
 pub started : (bs : List Bridge) (us : List DocUnit) → bs ≡ map fresh_bridge us → AllByRecursion IsPlaced us
     → (All IsSound bs) × (entries_of bs ≡ nothing_kept us) × (units_of (entries_of bs) ≡ us)
+    × (sources_in bs ≡ map (λ u. None) us)
 started bs us is placed = (
   subst (All IsSound) (sym is) (start_sound us placed),
   ap entries_of is ∙ start_entries us,
   ap (λ cs. units_of (entries_of cs)) is ∙ units_bodies (map fresh_bridge us) ∙ fresh_units us,
+  ap sources_in is ∙ start_sources us,
 )
 
 holds_each : (bs : List Bridge) → AllByRecursion IsSound bs

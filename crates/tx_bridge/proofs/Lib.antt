@@ -7,6 +7,7 @@ pub mod Partway
 pub mod Slotting
 pub mod Handed
 pub mod Arrived
+pub mod Single
 pub mod Taking
 pub mod Going
 pub mod Listed

@@ -15,7 +15,7 @@ use Rattle.tx_units.specs.declared.kinds.Unit.{Unit as DocUnit}
 use Rattle.tx_bridge.specs.declared.bridge.Bridge.{Bridge}
 use Rattle.tx_bridge.specs.Entries.{Entry, units_of, fresh_from, outcome_of}
 use Rattle.tx_bridge.specs.Reached.{fits, reached_from, charge_of, charges_from}
-use Rattle.tx_bridge.specs.Sound.{IsSound, entry_of, entries_of, flags_of}
+use Rattle.tx_bridge.specs.Sound.{IsSound, entry_of, entries_of, flags_of, sources_in}
 
 abbrev pub units_in : List Bridge → List DocUnit
 units_in bs = units_of (entries_of bs)
@@ -34,6 +34,7 @@ pub record Partway (old now : List Bridge) (i : ℕ) (m : Moment) (before after 
   pub steps : after + charges_from m (entries_of (drop i old)) ≡ before + charges_from beginning (entries_of old)
   pub sound : All IsSound now
   pub units : units_in now ≡ units_in old
+  pub sources : sources_in now ≡ sources_in old
   pub stays : Stays old now
 
 pub begun : (old : List Bridge) (m : Moment) (before : ℕ) → All IsSound old → m ≡ beginning
@@ -45,6 +46,7 @@ begun old m before sound start = record {
   steps = ap (λ n. before + charges_from n (entries_of old)) start;
   sound = sound;
   units = refl;
+  sources = refl;
   stays = λ k e. refl;
 }
 
@@ -65,6 +67,13 @@ set_units : (now : List Bridge) (i : ℕ) (d y : Bridge) → i < length now → 
 set_units [] i d y inside e = absurd (omega (arith, inside))
 set_units (x ∷ xs) zero d y inside e = ap (λ u. u ∷ units_in xs) e
 set_units (x ∷ xs) (suc i) d y inside e = ap (λ us. x.unit ∷ us) (set_units xs i d y (omega (arith, inside)) e)
+
+set_sources : (now : List Bridge) (i : ℕ) (d y : Bridge) → i < length now
+    → y.source ≡ (slice_index_or now i d).source → sources_in (slice_set now i y) ≡ sources_in now
+set_sources [] i d y inside e = absurd (omega (arith, inside))
+set_sources (x ∷ xs) zero d y inside e = ap (λ s. s ∷ sources_in xs) e
+set_sources (x ∷ xs) (suc i) d y inside e =
+    ap (λ ss. x.source ∷ ss) (set_sources xs i d y (omega (arith, inside)) e)
 
 get_dropped : (xs : List Bridge) (i : ℕ) (b : Bridge) (rest : List Bridge) → drop i xs ≡ b ∷ rest
     → slice_get (entries_of xs) i ≡ Some (entry_of b)
@@ -118,6 +127,10 @@ module _ (old now : List Bridge) (i : ℕ) (m : Moment) (before after : ℕ) (p 
       → units_in (slice_set now i y) ≡ units_in old
   units_next y unit = set_units now i d y inside unit ∙ p.units
 
+  pub sources_next : (y : Bridge) → y.source ≡ (slice_index_or now i d).source
+      → sources_in (slice_set now i y) ≡ sources_in old
+  sources_next y source = set_sources now i d y inside source ∙ p.sources
+
   -- what is done and what is left
   pub front_next : (y : Bridge) → IsBrought (slice_index_or now i d) y m
       → entries_of (take (i + 1) (slice_set now i y))
@@ -145,9 +158,9 @@ module _ (old now : List Bridge) (i : ℕ) (m : Moment) (before after : ℕ) (p 
       → m1 ≡ behind m (outcome_of m (slice_index_or now i d).unit)
       → after1 ≡ after + charge_of m (entry_of (slice_index_or now i d)) → IsSound y
       → (y.renewed ≡ false → wide_outcome y.kept ≡ wide_outcome (slice_index_or now i d).kept)
-      → Partway old (slice_set now i y) (i + 1) m1 before after1
+      → y.source ≡ (slice_index_or now i d).source → Partway old (slice_set now i y) (i + 1) m1 before after1
   unfolding b
-  next y m1 after1 brought is_r is_m is_after sound kept =
+  next y m1 after1 brought is_r is_m is_after sound kept source =
       record {
         fresh =
             ap (λ n. entries_of (take (i + 1) (slice_set now i y)) ++ fresh_from n (units_in (drop (i + 1) old))) is_m
@@ -175,6 +188,7 @@ module _ (old now : List Bridge) (i : ℕ) (m : Moment) (before after : ℕ) (p 
             omega (arith, more, moved, was, is_after);
         sound = All-set IsSound now i y sound p.sound;
         units = units_next y brought.unit;
+        sources = sources_next y source;
         stays = stays_next y brought.unit kept;
       }
 

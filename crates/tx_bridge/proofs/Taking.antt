@@ -12,79 +12,90 @@ use Rattle.tx_exec_form.specs.Evaluated.{WideTrace}
 use Rattle.tx_exec.specs.Outcomes.{wide_outcome}
 use Rattle.tx_units.specs.declared.kinds.Unit.{Unit as DocUnit}
 use Rattle.tx_bridge.specs.declared.bridge.Bridge.{Bridge}
-use Rattle.tx_bridge.specs.Entries.{Entry, Kept, units_of}
-use Rattle.tx_bridge.specs.Sound.{IsSound, entry_of, entries_of}
+use Rattle.tx_bridge.specs.Entries.{Entry, Kept, units_of, traces_of}
+use Rattle.tx_bridge.specs.Sound.{IsSound, entries_of, sources_in}
 use Rattle.tx_bridge.specs.UnitLists.{AreUnits}
-use Rattle.tx_bridge.specs.Carrying.{is_path, same_unit, through, places_after, kept_at, kept_by_number, taken}
-use Rattle.tx_bridge.specs.Carrying.{taken_from}
+use Rattle.tx_bridge.specs.Carrying.{is_path, same_unit, through, places_after, number_at, same_number, source}
+use Rattle.tx_bridge.specs.Carrying.{sources_from, sources, had, taken_from}
 use Rattle.tx_bridge.specs.Carrying.{carried, mods_of, AllStand, AreSameBodies}
 use Rattle.tx_bridge.specs.Slots.{AllLead, AreMoved, stays, given_from, given_all}
-use Rattle.tx_bridge.proofs.Arrived.{fresh_bridge, paths_in, bodies_of, units_bodies, given_bodies, carried_sound}
-use Rattle.tx_bridge.proofs.Arrived.{lead_all, moved_all}
+use Rattle.tx_bridge.proofs.Arrived.{fresh_bridge, with_given, paths_in, bodies_of, units_bodies, given_bodies}
+use Rattle.tx_bridge.proofs.Arrived.{carried_sound, lead_all, moved_all, sound_placed, fresh_apart, fresh_placed}
+use Rattle.tx_bridge.proofs.Single.{NoneTwice, none_twice}
 
--- what the unit v of number j has, once the old units from number i on have given
-abbrev got : ℕ → List (Option (List ℕ)) → List Bridge → ℕ → DocUnit → Option WideTrace → Option WideTrace
-got i [] bs j v o = o
-got i (q ∷ qs) [] j v o = o
-got i (q ∷ qs) (b ∷ bs) j v o = got (i + 1) qs bs j v (if stays q i b.unit j v then wide_outcome b.kept else o)
+-- What the new unit v of number j has, once the old units from number i on have given; f says what an old one gives.
+abbrev got : {A : Type 0} → (ℕ → Bridge → A) → ℕ → List (Option (List ℕ)) → List Bridge → ℕ → DocUnit → A → A
+got f i [] bs j v o = o
+got f i (q ∷ qs) [] j v o = o
+got f i (q ∷ qs) (b ∷ bs) j v o = got f (i + 1) qs bs j v (if stays q i b.unit j v then f i b else o)
 
-abbrev all_got : ℕ → List (Option (List ℕ)) → List Bridge → ℕ → List Bridge → Kept
-all_got i qs bs j [] = []
-all_got i qs bs j (w ∷ ws) =
-    record { unit = w.unit; trace = got i qs bs j w.unit (wide_outcome w.kept) } ∷ all_got i qs bs (j + 1) ws
-
-abbrev with_trace : DocUnit → Option WideTrace → Entry
-with_trace u o = record { unit = u; trace = o }
+-- so of each new unit; g says what it has before
+abbrev all_got : {A : Type 0} → (ℕ → Bridge → A) → (Bridge → A) → ℕ → List (Option (List ℕ)) → List Bridge → ℕ
+    → List Bridge → List A
+all_got f g i qs bs j [] = []
+all_got f g i qs bs j (w ∷ ws) = got f i qs bs j w.unit (g w) ∷ all_got f g i qs bs (j + 1) ws
 
 -- ---- one old unit after the other, or one new unit after the other
 
-one_got : (i : ℕ) (qs : List (Option (List ℕ))) (bs : List Bridge) (j : ℕ) (b w : Bridge) (s : Bool)
-    → with_trace (if s then record { unit = w.unit; kept = b.kept; renewed = w.renewed } else w).unit
-    (got i qs bs j (if s then record { unit = w.unit; kept = b.kept; renewed = w.renewed } else w).unit
-    (wide_outcome (if s then record { unit = w.unit; kept = b.kept; renewed = w.renewed } else w).kept))
-    ≡ with_trace w.unit (got i qs bs j w.unit (if s then wide_outcome b.kept else wide_outcome w.kept))
-one_got i qs bs j b w true = refl
-one_got i qs bs j b w false = refl
+module _ {A : Type 0} (f : ℕ → Bridge → A) (g : Bridge → A)
+    (gives : (i : ℕ) (b w : Bridge) → g (with_given i b w) ≡ f i b) where
+  one_got : (n : ℕ) (qs : List (Option (List ℕ))) (bs : List Bridge) (j i : ℕ) (b w : Bridge) (s : Bool)
+      → got f n qs bs j (if s then with_given i b w else w).unit (g (if s then with_given i b w else w))
+      ≡ got f n qs bs j w.unit (if s then f i b else g w)
+  one_got n qs bs j i b w true = ap (got f n qs bs j w.unit) (gives i b w)
+  one_got n qs bs j i b w false = refl
 
-got_next : (i : ℕ) (q : Option (List ℕ)) (qs : List (Option (List ℕ))) (b : Bridge) (bs : List Bridge) (j : ℕ)
-    (ws : List Bridge) → all_got (i + 1) qs bs j (given_from q i b j ws) ≡ all_got i (q ∷ qs) (b ∷ bs) j ws
-got_next i q qs b bs j [] = refl
-got_next i q qs b bs j (w ∷ ws) =
-    ap (λ e. e ∷ all_got (i + 1) qs bs (j + 1) (given_from q i b (j + 1) ws))
-    (one_got (i + 1) qs bs j b w (stays q i b.unit j w.unit))
-    ∙ ap (λ es. with_trace w.unit (got i (q ∷ qs) (b ∷ bs) j w.unit (wide_outcome w.kept)) ∷ es)
-    (got_next i q qs b bs (j + 1) ws)
+  got_next : (i : ℕ) (q : Option (List ℕ)) (qs : List (Option (List ℕ))) (b : Bridge) (bs : List Bridge) (j : ℕ)
+      (ws : List Bridge) → all_got f g (i + 1) qs bs j (given_from q i b j ws) ≡ all_got f g i (q ∷ qs) (b ∷ bs) j ws
+  got_next i q qs b bs j [] = refl
+  got_next i q qs b bs j (w ∷ ws) =
+      ap (λ x. x ∷ all_got f g (i + 1) qs bs (j + 1) (given_from q i b (j + 1) ws))
+      (one_got (i + 1) qs bs j i b w (stays q i b.unit j w.unit))
+      ∙ ap (λ xs. got f i (q ∷ qs) (b ∷ bs) j w.unit (g w) ∷ xs) (got_next i q qs b bs (j + 1) ws)
 
-got_none : (i : ℕ) (bs : List Bridge) (j : ℕ) (ws : List Bridge) → entries_of ws ≡ all_got i [] bs j ws
-got_none i bs j [] = refl
-got_none i bs j (w ∷ ws) = ap (λ es. entry_of w ∷ es) (got_none i bs (j + 1) ws)
+  got_none : (i : ℕ) (bs : List Bridge) (j : ℕ) (ws : List Bridge) → map g ws ≡ all_got f g i [] bs j ws
+  got_none i bs j [] = refl
+  got_none i bs j (w ∷ ws) = ap (λ xs. g w ∷ xs) (got_none i bs (j + 1) ws)
 
-got_past : (i : ℕ) (q : Option (List ℕ)) (qs : List (Option (List ℕ))) (j : ℕ) (ws : List Bridge)
-    → entries_of ws ≡ all_got i (q ∷ qs) [] j ws
-got_past i q qs j [] = refl
-got_past i q qs j (w ∷ ws) = ap (λ es. entry_of w ∷ es) (got_past i q qs (j + 1) ws)
+  got_past : (i : ℕ) (q : Option (List ℕ)) (qs : List (Option (List ℕ))) (j : ℕ) (ws : List Bridge)
+      → map g ws ≡ all_got f g i (q ∷ qs) [] j ws
+  got_past i q qs j [] = refl
+  got_past i q qs j (w ∷ ws) = ap (λ xs. g w ∷ xs) (got_past i q qs (j + 1) ws)
 
-given_got : (i : ℕ) (qs : List (Option (List ℕ))) (bs ws : List Bridge)
-    → entries_of (given_all i qs bs ws) ≡ all_got i qs bs 0 ws
-given_got i [] bs ws = got_none i bs 0 ws
-given_got i (q ∷ qs) [] ws = got_past i q qs 0 ws
-given_got i (q ∷ qs) (b ∷ bs) ws = given_got (i + 1) qs bs (given_from q i b 0 ws) ∙ got_next i q qs b bs 0 ws
+  given_got : (i : ℕ) (qs : List (Option (List ℕ))) (bs ws : List Bridge)
+      → map g (given_all i qs bs ws) ≡ all_got f g i qs bs 0 ws
+  given_got i [] bs ws = got_none i bs 0 ws
+  given_got i (q ∷ qs) [] ws = got_past i q qs 0 ws
+  given_got i (q ∷ qs) (b ∷ bs) ws = given_got (i + 1) qs bs (given_from q i b 0 ws) ∙ got_next i q qs b bs 0 ws
+
+-- what an old unit gives: its number, and what is kept of it
+abbrev number_given : ℕ → Bridge → Option ℕ
+number_given i b = Some i
+
+abbrev trace_given : ℕ → Bridge → Option WideTrace
+trace_given i b = wide_outcome b.kept
+
+abbrev source_in : Bridge → Option ℕ
+source_in b = b.source
+
+abbrev trace_in : Bridge → Option WideTrace
+trace_in b = wide_outcome b.kept
 
 -- ---- by path
 
 got_path : (i : ℕ) (qs : List (Option (List ℕ))) (bs : List Bridge) (j : ℕ) (v : DocUnit) (p : List ℕ)
-    (o : Option WideTrace) → v.path ≡ Some p → got i qs bs j v o ≡ kept_at p qs (entries_of bs) o
-got_path i [] bs j v p o e = refl
-got_path i (q ∷ qs) [] j v p o e = refl
-got_path i (q ∷ qs) (b ∷ bs) j v p o e =
-    ap (λ r. got (i + 1) qs bs j v (if option_map_or (λ x. is_path x q) r (i == j && same_unit b.unit v)
-    then wide_outcome b.kept else o)) e
-    ∙ got_path (i + 1) qs bs j v p (if is_path p q then wide_outcome b.kept else o) e
+    (o : Option ℕ) → length qs ≡ length bs → v.path ≡ Some p → got number_given i qs bs j v o ≡ number_at p i qs o
+got_path i [] bs j v p o same e = refl
+got_path i (q ∷ qs) [] j v p o same e = absurd (omega (arith, same))
+got_path i (q ∷ qs) (b ∷ bs) j v p o same e =
+    ap (λ r. got number_given (i + 1) qs bs j v
+    (if option_map_or (λ x. is_path x q) r (i == j && same_unit b.unit v) then Some i else o)) e
+    ∙ got_path (i + 1) qs bs j v p (if is_path p q then Some i else o) (omega (arith, same)) e
 
 -- ---- by number
 
-abbrev by_number : Option Entry → DocUnit → Option WideTrace
-by_number e v = option_and_then (λ x. if same_unit x.unit v then x.trace else None) e
+abbrev by_number : ℕ → Option DocUnit → DocUnit → Option ℕ
+by_number j o v = option_and_then (λ u. if same_unit u v then Some j else None) o
 
 off_number : (i j : ℕ) (s : Bool) → j < i → i == j && s ≡ false
 off_number i j s less = by (i == j) refl
@@ -105,15 +116,15 @@ before_number i j s less = by (i == j) refl
 
 -- one old unit of a number other than the new one's
 skipped : (i : ℕ) (q : Option (List ℕ)) (qs : List (Option (List ℕ))) (b : Bridge) (bs : List Bridge) (j : ℕ)
-    (v : DocUnit) (o : Option WideTrace) → v.path ≡ None → i == j && same_unit b.unit v ≡ false
-    → got i (q ∷ qs) (b ∷ bs) j v o ≡ got (i + 1) qs bs j v o
+    (v : DocUnit) (o : Option ℕ) → v.path ≡ None → i == j && same_unit b.unit v ≡ false
+    → got number_given i (q ∷ qs) (b ∷ bs) j v o ≡ got number_given (i + 1) qs bs j v o
 skipped i q qs b bs j v o e off =
-    ap (λ r. got (i + 1) qs bs j v (if option_map_or (λ x. is_path x q) r (i == j && same_unit b.unit v)
-    then wide_outcome b.kept else o)) e
-    ∙ ap (λ s. got (i + 1) qs bs j v (if s then wide_outcome b.kept else o)) off
+    ap (λ r. got number_given (i + 1) qs bs j v
+    (if option_map_or (λ x. is_path x q) r (i == j && same_unit b.unit v) then Some i else o)) e
+    ∙ ap (λ s. got number_given (i + 1) qs bs j v (if s then Some i else o)) off
 
-got_behind : (i : ℕ) (qs : List (Option (List ℕ))) (bs : List Bridge) (j : ℕ) (v : DocUnit) (o : Option WideTrace)
-    → v.path ≡ None → j < i → got i qs bs j v o ≡ o
+got_behind : (i : ℕ) (qs : List (Option (List ℕ))) (bs : List Bridge) (j : ℕ) (v : DocUnit) (o : Option ℕ)
+    → v.path ≡ None → j < i → got number_given i qs bs j v o ≡ o
 got_behind i [] bs j v o e less = refl
 got_behind i (q ∷ qs) [] j v o e less = refl
 got_behind i (q ∷ qs) (b ∷ bs) j v o e less =
@@ -121,41 +132,101 @@ got_behind i (q ∷ qs) (b ∷ bs) j v o e less =
     ∙ got_behind (i + 1) qs bs j v o e (omega (arith, less))
 
 got_number : (k i : ℕ) (qs : List (Option (List ℕ))) (bs : List Bridge) (j : ℕ) (v : DocUnit) → v.path ≡ None
-    → length qs ≡ length bs → j ≡ i + k → got i qs bs j v None ≡ by_number (slice_get (entries_of bs) k) v
+    → length qs ≡ length bs → j ≡ i + k
+    → got number_given i qs bs j v None ≡ by_number j (slice_get (bodies_of bs) k) v
 got_number k i [] [] j v e same is = refl
 got_number k i [] (b ∷ bs) j v e same is = absurd (omega (arith, same))
 got_number k i (q ∷ qs) [] j v e same is = absurd (omega (arith, same))
 got_number zero i (q ∷ qs) (b ∷ bs) j v e same is =
-    ap (λ r. got (i + 1) qs bs j v (if option_map_or (λ x. is_path x q) r (i == j && same_unit b.unit v)
-    then wide_outcome b.kept else None)) e
-    ∙ ap (λ s. got (i + 1) qs bs j v (if s then wide_outcome b.kept else None))
-    (at_number i j (same_unit b.unit v) (omega (arith, is)))
-    ∙ got_behind (i + 1) qs bs j v (if same_unit b.unit v then wide_outcome b.kept else None) e (omega (arith, is))
+    let here : i ≡ j = omega (arith, is) in
+    ap (λ r. got number_given (i + 1) qs bs j v
+    (if option_map_or (λ x. is_path x q) r (i == j && same_unit b.unit v) then Some i else None)) e
+    ∙ ap (λ s. got number_given (i + 1) qs bs j v (if s then Some i else None))
+    (at_number i j (same_unit b.unit v) here)
+    ∙ got_behind (i + 1) qs bs j v (if same_unit b.unit v then Some i else None) e (omega (arith, is))
+    ∙ ap (λ n. if same_unit b.unit v then Some n else None) here
 got_number (suc k) i (q ∷ qs) (b ∷ bs) j v e same is =
     skipped i q qs b bs j v None e (before_number i j (same_unit b.unit v) (omega (arith, is)))
     ∙ got_number k (i + 1) qs bs j v e (omega (arith, same)) (omega (arith, is))
 
--- ---- all new units
+-- ---- the numbers of all new units
 
-got_taken : (qs : List (Option (List ℕ))) (bs : List Bridge) (j : ℕ) (v : DocUnit) → length qs ≡ length bs
-    → got 0 qs bs j v None ≡ taken qs (entries_of bs) j v
-got_taken qs bs j v same = by v.path refl
+got_source : (qs : List (Option (List ℕ))) (bs : List Bridge) (j : ℕ) (v : DocUnit) → length qs ≡ length bs
+    → got number_given 0 qs bs j v None ≡ source qs (bodies_of bs) j v
+got_source qs bs j v same = by v.path refl
   where
     by : (o : Option (List ℕ)) → v.path ≡ o
-        → got 0 qs bs j v None
-        ≡ option_map_or (λ p. kept_at p qs (entries_of bs) None) o (kept_by_number (entries_of bs) j v)
-    by (Some p) e = got_path 0 qs bs j v p None e
+        → got number_given 0 qs bs j v None
+        ≡ option_map_or (λ p. number_at p 0 qs None) o (same_number (bodies_of bs) j v)
+    by (Some p) e = got_path 0 qs bs j v p None same e
     by None e = got_number j 0 qs bs j v e same (omega arith)
 
-all_taken : (qs : List (Option (List ℕ))) (bs : List Bridge) (j : ℕ) (us : List DocUnit) → length qs ≡ length bs
-    → all_got 0 qs bs j (map fresh_bridge us) ≡ taken_from qs (entries_of bs) j us
-all_taken qs bs j [] same = refl
-all_taken qs bs j (u ∷ us) same =
-    ap (λ o. with_trace u o ∷ all_got 0 qs bs (j + 1) (map fresh_bridge us)) (got_taken qs bs j u same)
-    ∙ ap (λ es. with_trace u (taken qs (entries_of bs) j u) ∷ es) (all_taken qs bs (j + 1) us same)
+all_sources : (qs : List (Option (List ℕ))) (bs : List Bridge) (j : ℕ) (us : List DocUnit) → length qs ≡ length bs
+    → all_got number_given source_in 0 qs bs j (map fresh_bridge us) ≡ sources_from qs (bodies_of bs) j us
+all_sources qs bs j [] same = refl
+all_sources qs bs j (u ∷ us) same =
+    ap (λ s. s ∷ all_got number_given source_in 0 qs bs (j + 1) (map fresh_bridge us)) (got_source qs bs j u same)
+    ∙ ap (λ ss. source qs (bodies_of bs) j u ∷ ss) (all_sources qs bs (j + 1) us same)
+
+-- ---- what they have, by the number
+
+abbrev traces_in : List Bridge → List (Option WideTrace)
+traces_in bs = map trace_in bs
+
+-- the old ones from number i on have these
+abbrev AreFrom : List (Option WideTrace) → ℕ → List Bridge → Type 0
+AreFrom traces i bs = (n k : ℕ) → n ≡ i + k → slice_get traces n ≡ slice_get (traces_in bs) k
+
+one_had : (traces : List (Option WideTrace)) (i : ℕ) (b : Bridge) (o : Option ℕ) (s : Bool)
+    → slice_get traces i ≡ Some (wide_outcome b.kept)
+    → (if s then wide_outcome b.kept else had traces o) ≡ had traces (if s then Some i else o)
+one_had traces i b o true at = sym (ap (option_and_then (λ x. x)) at)
+one_had traces i b o false at = refl
+
+got_had : (traces : List (Option WideTrace)) (i : ℕ) (qs : List (Option (List ℕ))) (bs : List Bridge) (j : ℕ)
+    (v : DocUnit) (o : Option ℕ) → AreFrom traces i bs
+    → got trace_given i qs bs j v (had traces o) ≡ had traces (got number_given i qs bs j v o)
+got_had traces i [] bs j v o h = refl
+got_had traces i (q ∷ qs) [] j v o h = refl
+got_had traces i (q ∷ qs) (b ∷ bs) j v o h =
+    ap (got trace_given (i + 1) qs bs j v) (one_had traces i b o (stays q i b.unit j v) (h i 0 (omega arith)))
+    ∙ got_had traces (i + 1) qs bs j v (if stays q i b.unit j v then Some i else o)
+    (λ n k e. h n (suc k) (omega (arith, e)))
+
+all_had : (qs : List (Option (List ℕ))) (bs : List Bridge) (j : ℕ) (us : List DocUnit)
+    → all_got trace_given trace_in 0 qs bs j (map fresh_bridge us)
+    ≡ map (had (traces_in bs)) (all_got number_given source_in 0 qs bs j (map fresh_bridge us))
+all_had qs bs j [] = refl
+all_had qs bs j (u ∷ us) =
+    ap (λ o. o ∷ all_got trace_given trace_in 0 qs bs (j + 1) (map fresh_bridge us))
+    (got_had (traces_in bs) 0 qs bs j u None
+    (λ n k e. let same : n ≡ k = omega (arith, e) in ap (slice_get (traces_in bs)) same))
+    ∙ ap (λ os. had (traces_in bs) (got number_given 0 qs bs j u None) ∷ os) (all_had qs bs (j + 1) us)
+
+abbrev with_trace : DocUnit → Option WideTrace → Entry
+with_trace u o = record { unit = u; trace = o }
+
+heads : {A : Type 0} (x y : A) (xs ys : List A) → x ∷ xs ≡ y ∷ ys → (x ≡ y) × (xs ≡ ys)
+heads x y xs ys e = (cc, cc)
+
+entries_taken : (traces : List (Option WideTrace)) (ws : List Bridge) (ss : List (Option ℕ)) (vs : List DocUnit)
+    → bodies_of ws ≡ vs → traces_in ws ≡ map (had traces) ss → entries_of ws ≡ taken_from traces ss vs
+entries_taken traces [] [] [] e f = refl
+entries_taken traces [] [] (v ∷ vs) e f = cc
+entries_taken traces [] (s ∷ ss) vs e f = cc
+entries_taken traces (w ∷ ws) [] vs e f = cc
+entries_taken traces (w ∷ ws) (s ∷ ss) [] e f = cc
+entries_taken traces (w ∷ ws) (s ∷ ss) (v ∷ vs) e f =
+    let is_v : (w.unit ≡ v) × (bodies_of ws ≡ vs) = heads w.unit v (bodies_of ws) vs e in
+    let is_s : (trace_in w ≡ had traces s) × (traces_in ws ≡ map (had traces) ss) =
+    heads (trace_in w) (had traces s) (traces_in ws) (map (had traces) ss) f in
+    ap (λ u. with_trace u (trace_in w) ∷ entries_of ws) is_v.0 ∙ ap (λ o. with_trace v o ∷ entries_of ws) is_s.0
+    ∙ ap (λ es. with_trace v (had traces s) ∷ es) (entries_taken traces ws ss vs is_v.1 is_s.1)
+
+-- ---- where the old ones stand
 
 places_same : (ms : List Mod) (t : WideTree) (bs : List Bridge)
-    → map (through ms t) (paths_in bs) ≡ places_after ms t (entries_of bs)
+    → map (through ms t) (paths_in bs) ≡ places_after ms t (bodies_of bs)
 places_same ms t [] = refl
 places_same ms t (b ∷ bs) = ap (λ qs. through ms t b.unit.path ∷ qs) (places_same ms t bs)
 
@@ -164,13 +235,34 @@ places_many : (ms : List Mod) (t : WideTree) (bs : List Bridge)
 places_many ms t [] = refl
 places_many ms t (b ∷ bs) = ap suc (places_many ms t bs)
 
-pub given_carried : (ms : List Mod) (t : WideTree) (old : List Bridge) (us : List DocUnit)
-    → entries_of (given_all 0 (map (through ms t) (paths_in old)) old (map fresh_bridge us))
-    ≡ carried ms t (entries_of old) us
-given_carried ms t old us =
-    given_got 0 (map (through ms t) (paths_in old)) old (map fresh_bridge us)
-    ∙ all_taken (map (through ms t) (paths_in old)) old 0 us (places_many ms t old)
-    ∙ ap (λ qs. taken_from qs (entries_of old) 0 us) (places_same ms t old)
+module _ (ms : List Mod) (t : WideTree) (old : List Bridge) (us : List DocUnit) where
+  abbrev pub given : List Bridge
+  given = given_all 0 (map (through ms t) (paths_in old)) old (map fresh_bridge us)
+
+  pub given_from_places : sources_in given ≡ sources_from (map (through ms t) (paths_in old)) (bodies_of old) 0 us
+  given_from_places =
+      given_got number_given source_in (λ i b w. refl) 0 (map (through ms t) (paths_in old)) old (map fresh_bridge us)
+      ∙ all_sources (map (through ms t) (paths_in old)) old 0 us (places_many ms t old)
+
+  pub given_sources : sources_in given ≡ sources ms t (bodies_of old) us
+  given_sources = given_from_places ∙ ap (λ qs. sources_from qs (bodies_of old) 0 us) (places_same ms t old)
+
+  given_traces : traces_in given ≡ map (had (traces_in old)) (sources ms t (bodies_of old) us)
+  given_traces =
+      given_got trace_given trace_in (λ i b w. refl) 0 (map (through ms t) (paths_in old)) old (map fresh_bridge us)
+      ∙ all_had (map (through ms t) (paths_in old)) old 0 us
+      ∙ ap (map (had (traces_in old)))
+      (all_sources (map (through ms t) (paths_in old)) old 0 us (places_many ms t old)
+      ∙ ap (λ qs. sources_from qs (bodies_of old) 0 us) (places_same ms t old))
+
+  pub given_carried : entries_of given ≡ taken_from (traces_in old) (sources ms t (bodies_of old) us) us
+  given_carried =
+      entries_taken (traces_in old) given (sources ms t (bodies_of old) us) us
+      (given_bodies (map (through ms t) (paths_in old)) old us) given_traces
+
+entries_traces : (bs : List Bridge) → traces_of (entries_of bs) ≡ traces_in bs
+entries_traces [] = refl
+entries_traces (b ∷ bs) = ap (λ os. trace_in b ∷ os) (entries_traces bs)
 
 -- ---- an edit
 
@@ -178,6 +270,8 @@ given_carried ms t old us =
 pub record IsCarried (buffer : ℕ) (ms : List Mod) (t : WideTree) (kept : Kept) (us : List DocUnit)
     (result : List Bridge) : Type 0 where
   pub entries : entries_of result ≡ carried (mods_of buffer ms) t kept us
+  pub sources : sources_in result ≡ sources (mods_of buffer ms) t (units_of kept) us
+  pub once : NoneTwice (sources_in result)
   pub units : units_of (entries_of result) ≡ us
   pub sound : All IsSound result
 
@@ -193,22 +287,30 @@ pub carry_all : (buffer : ℕ) (ms : List Mod) (t : WideTree) (kept : Kept) (us 
 carry_all buffer ms t kept us old paths places bs new result was sound applies law are stand_old stand_new same
     is_paths is_places is_bs is_new is_result =
     let bodies : units_of kept ≡ bodies_of old = sym (ap units_of was) ∙ units_bodies old in
-    let given : result
-    ≡ given_all 0 (map (through (mods_of buffer ms) t) (paths_in old)) old (map fresh_bridge us) =
+    let traces : traces_of kept ≡ traces_in old = sym (ap traces_of was) ∙ entries_traces old in
+    let is_given : result ≡ given (mods_of buffer ms) t old us =
     is_result ∙ ap (λ qs. given_all 0 qs bs new) (is_places ∙ ap (map (through (mods_of buffer ms) t)) is_paths)
     ∙ ap (λ cs. given_all 0 (map (through (mods_of buffer ms) t) (paths_in old)) cs new) is_bs
     ∙ ap (given_all 0 (map (through (mods_of buffer ms) t) (paths_in old)) old) is_new in
     record {
       entries =
-          ap entries_of given ∙ given_carried (mods_of buffer ms) t old us
-          ∙ ap (λ es. carried (mods_of buffer ms) t es us) was;
+          ap entries_of is_given ∙ given_carried (mods_of buffer ms) t old us
+          ∙ ap (λ os. taken_from os (sources (mods_of buffer ms) t (bodies_of old) us) us) (sym traces)
+          ∙ ap (λ ws. taken_from (traces_of kept) (sources (mods_of buffer ms) t ws us) us) (sym bodies);
+      sources =
+          ap sources_in is_given ∙ given_sources (mods_of buffer ms) t old us
+          ∙ ap (λ ws. sources (mods_of buffer ms) t ws us) (sym bodies);
+      once =
+          subst NoneTwice (sym (ap sources_in is_given ∙ given_from_places (mods_of buffer ms) t old us))
+          (none_twice (map (through (mods_of buffer ms) t) (paths_in old)) old us (moved_all (mods_of buffer ms) t old)
+          (sound_placed old sound) (fresh_apart us are.apart) (fresh_placed us are.placed));
       units =
-          ap (λ cs. units_of (entries_of cs)) given
+          ap (λ cs. units_of (entries_of cs)) is_given
           ∙ units_bodies
           (given_all 0 (map (through (mods_of buffer ms) t) (paths_in old)) old (map fresh_bridge us))
           ∙ given_bodies (map (through (mods_of buffer ms) t) (paths_in old)) old us;
       sound =
-          subst (All IsSound) (sym given)
+          subst (All IsSound) (sym is_given)
           (carried_sound buffer ms t old us applies law sound are.placed
           (λ e. subst (AllStand t) bodies (stand_old e)) stand_new
           (λ e. subst (λ vs. AreSameBodies vs us) bodies (same e)));

@@ -62,9 +62,9 @@ charge_fits allowed m (Some trace) t e =
     omega (arith, cost)
 
 pub sound_with : AllSupport → AllAllowed → (m : Moment) (u : DocUnit) (o : Outcome) (flag : Bool)
-    → wide_outcome o ≡ outcome (tagged_of u.tagged) m → NamesOnce o → IsPlaced u
-    → IsSound (record { unit = u; kept = o; renewed = flag })
-sound_with support allowed m u o flag e once placed = record {
+    (from : Option ℕ) → wide_outcome o ≡ outcome (tagged_of u.tagged) m → NamesOnce o → IsPlaced u
+    → IsSound (record { unit = u; kept = o; renewed = flag; source = from })
+sound_with support allowed m u o flag from e once placed = record {
   holds = outcome_holds support allowed m (wide_outcome o) (tagged_of u.tagged) e;
   once = once;
   placed = placed;

@@ -11,10 +11,12 @@ use Rattle.tx_units.specs.declared.kinds.Unit.{Unit as DocUnit}
 use Rattle.tx_units.specs.contracts.kinds.Unit as one_unit
 use Rattle.tx_bridge.specs.Entries.{Entry, Kept}
 
--- what is kept, and of each unit whether it was reached when the last refresh began
+-- what is kept, of each unit whether it was reached when the last refresh began, and which unit it was before the last
+-- edit
 pub record Bridged : Type 0 where
   pub kept : Kept
   pub renewed : List Bool
+  pub sources : List (Option ℕ)
 
 -- ---- the code by which proofs tell them apart
 
@@ -35,5 +37,6 @@ coded_Entry =
 
 abbrev pub coded_Bridged : Coded Bridged
 coded_Bridged =
-    code_by (Kept × List Bool) (coded× (coded_list coded_Entry) (coded_list coded_bool)) (λ b. (b.kept, b.renewed))
-    (λ p. record { kept = p.0; renewed = p.1 }) (λ _. refl)
+    code_by (Kept × (List Bool × List (Option ℕ)))
+    (coded× (coded_list coded_Entry) (coded× (coded_list coded_bool) (coded_list (coded_option coded_ℕ))))
+    (λ b. (b.kept, (b.renewed, b.sources))) (λ p. record { kept = p.0; renewed = p.1.0; sources = p.1.1 }) (λ _. refl)

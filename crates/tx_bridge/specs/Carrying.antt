@@ -13,7 +13,7 @@ use Rattle.tx_units.specs.declared.kinds.Unit.{Unit as DocUnit}
 use Rattle.tx_units.specs.declared.kinds.UnitKind.{UnitKind}
 use Rattle.tx_units.specs.declared.kinds.UnitKind.TheVariants.{Base, Style, Absent, Initial, Body}
 use Rattle.tx_bridge.specs.SameTrees.{is_same}
-use Rattle.tx_bridge.specs.Entries.{Kept}
+use Rattle.tx_bridge.specs.Entries.{Kept, units_of, traces_of}
 
 -- ---- paths
 
@@ -22,18 +22,17 @@ abbrev pub through : List Mod → WideTree → Option (List ℕ) → Option (Lis
 through ms t path = option_and_then (carried_by_all ms t) path
 
 -- where each unit stands after the modifications: a unit without a path, or whose tree doesn't stay, nowhere
-abbrev pub places_after : List Mod → WideTree → Kept → List (Option (List ℕ))
-places_after ms t old = map (λ e. through ms t e.unit.path) old
+abbrev pub places_after : List Mod → WideTree → List DocUnit → List (Option (List ℕ))
+places_after ms t us = map (λ u. through ms t u.path) us
 
 abbrev pub is_path : List ℕ → Option (List ℕ) → Bool
 is_path p None = false
 is_path p (Some q) = bytes_eq q p
 
--- what is kept of the unit that stands at the path, where `places` says where each stands
-abbrev pub kept_at : List ℕ → List (Option (List ℕ)) → Kept → Option WideTrace → Option WideTrace
-kept_at p [] old found = found
-kept_at p (q ∷ places) [] found = found
-kept_at p (q ∷ places) (e ∷ old) found = kept_at p places old (if is_path p q then e.trace else found)
+-- the number of the place that is the path, where these are counted from i on; `found` where none of them is
+abbrev pub number_at : List ℕ → ℕ → List (Option (List ℕ)) → Option ℕ → Option ℕ
+number_at p i [] found = found
+number_at p i (q ∷ places) found = number_at p (i + 1) places (if is_path p q then Some i else found)
 
 -- ---- units without a path
 
@@ -48,24 +47,37 @@ same_kind j k = false
 abbrev pub same_unit : DocUnit → DocUnit → Bool
 same_unit u v = same_kind u.kind v.kind && is_same u.tagged.tree v.tagged.tree
 
--- what is kept of the unit of the same number, where kind and tree are the same
-abbrev pub kept_by_number : Kept → ℕ → DocUnit → Option WideTrace
-kept_by_number old j v = option_and_then (λ e. if same_unit e.unit v then e.trace else None) (slice_get old j)
+-- the number j, where the old unit of this number has the same kind and tree
+abbrev pub same_number : List DocUnit → ℕ → DocUnit → Option ℕ
+same_number us j v = option_and_then (λ u. if same_unit u v then Some j else None) (slice_get us j)
 
 -- ---- all units
 
--- what is kept of the new unit of this number: what was kept at its path, or of its number
-abbrev pub taken : List (Option (List ℕ)) → Kept → ℕ → DocUnit → Option WideTrace
-taken places old j v = option_map_or (λ p. kept_at p places old None) v.path (kept_by_number old j v)
+-- The number of the old unit that the new unit v of number j is, where `places` says where each old one stands: the
+-- one that stands at its path, or the one of its number.
+abbrev pub source : List (Option (List ℕ)) → List DocUnit → ℕ → DocUnit → Option ℕ
+source places us j v = option_map_or (λ p. number_at p 0 places None) v.path (same_number us j v)
 
--- the new units from number j on
-abbrev pub taken_from : List (Option (List ℕ)) → Kept → ℕ → List DocUnit → Kept
-taken_from places old j [] = []
-taken_from places old j (v ∷ vs) =
-    record { unit = v; trace = taken places old j v } ∷ taken_from places old (j + 1) vs
+-- so of each new unit, from number j on
+abbrev pub sources_from : List (Option (List ℕ)) → List DocUnit → ℕ → List DocUnit → List (Option ℕ)
+sources_from places us j [] = []
+sources_from places us j (v ∷ vs) = source places us j v ∷ sources_from places us (j + 1) vs
+
+abbrev pub sources : List Mod → WideTree → List DocUnit → List DocUnit → List (Option ℕ)
+sources ms t us vs = sources_from (places_after ms t us) us 0 vs
+
+-- what a new unit has, where it is the old one of this number, and old ones have these
+abbrev pub had : {A : Type 0} → List (Option A) → Option ℕ → Option A
+had xs s = option_and_then (λ i. option_and_then (λ x. x) (slice_get xs i)) s
+
+-- each new unit with what was kept of the old one that it is
+abbrev pub taken_from : List (Option WideTrace) → List (Option ℕ) → List DocUnit → Kept
+taken_from traces [] vs = []
+taken_from traces (s ∷ ss) [] = []
+taken_from traces (s ∷ ss) (v ∷ vs) = record { unit = v; trace = had traces s } ∷ taken_from traces ss vs
 
 abbrev pub carried : List Mod → WideTree → Kept → List DocUnit → Kept
-carried ms t old us = taken_from (places_after ms t old) old 0 us
+carried ms t old vs = taken_from (traces_of old) (sources ms t (units_of old) vs) vs
 
 -- the modifications of the document: those of another buffer move no unit
 abbrev pub mods_of : ℕ → List Mod → List Mod

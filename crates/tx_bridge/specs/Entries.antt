@@ -17,6 +17,9 @@ Kept = List Entry
 abbrev pub units_of : Kept → List DocUnit
 units_of es = map (λ e. e.unit) es
 
+abbrev pub traces_of : Kept → List (Option WideTrace)
+traces_of es = map (λ e. e.trace) es
+
 abbrev pub nothing_kept : List DocUnit → Kept
 nothing_kept us = map (λ u. record { unit = u; trace = None }) us
 

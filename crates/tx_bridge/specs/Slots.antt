@@ -26,7 +26,8 @@ stays place i u j v = option_map_or (λ p. is_path p place) v.path (i == j && sa
 abbrev pub given_from : Option (List ℕ) → ℕ → Bridge → ℕ → List Bridge → List Bridge
 given_from place i b j [] = []
 given_from place i b j (w ∷ ws) =
-    (if stays place i b.unit j w.unit then record { unit = w.unit; kept = b.kept; renewed = w.renewed } else w)
+    (if stays place i b.unit j w.unit then record { unit = w.unit; kept = b.kept; renewed = w.renewed; source = Some i }
+    else w)
     ∷ given_from place i b (j + 1) ws
 
 -- where each old unit, from number i on, has given what is kept of it

@@ -1,5 +1,5 @@
 -- What is true of what is kept.
-use Rattle.std.specs.Prelude.{◌≤◌, List, map, Bool, Option, Some, None}
+use Rattle.std.specs.Prelude.{◌≤◌, ℕ, List, map, Bool, Option, Some, None}
 use Rattle.std.specs.List.{All}
 use Rattle.tx_origin.specs.TaggedTrees.{TaggedTree, tagged_of}
 use Rattle.tx_exec_form.specs.declared.TheConstants.{MOST_LEVELS}
@@ -30,6 +30,9 @@ entries_of bs = map entry_of bs
 
 abbrev pub flags_of : List Bridge → List Bool
 flags_of bs = map (λ b. b.renewed) bs
+
+abbrev pub sources_in : List Bridge → List (Option ℕ)
+sources_in bs = map (λ b. b.source) bs
 
 pub record IsSound (b : Bridge) : Type 0 where
   pub holds : Holds (wide_outcome b.kept) (tagged_of b.unit.tagged)

@@ -1,5 +1,5 @@
 // A unit with what is kept of it.
-ghost use Rattle.std.specs.Prelude.{◌≡◌, ◌+◌, ◌⊎◌, false, not, IfOk, OnOk, OnErr};
+ghost use Rattle.std.specs.Prelude.{◌≡◌, ◌+◌, ◌⊎◌, None, false, not, IfOk, OnOk, OnErr};
 ghost use Rattle.tx_exec.specs.Outcomes.{wide_outcome};
 ghost use Rattle.tx_view_form.specs.Outcomes.{behind};
 ghost use Rattle.tx_bridge.specs.Entries.{outcome_of};
@@ -15,24 +15,26 @@ use tx_exec::Outcome;
 use tx_exec_form::trace_laws;
 use tx_units::Unit;
 
-// A unit, the trace that is kept of it, or `Over` where nothing is kept, and whether it was reached when the last
-// refresh began.
+// A unit, the trace that is kept of it, or `Over` where nothing is kept, whether it was reached when the last refresh
+// began, and which unit it was before the last edit.
 #[derive(Drop)]
 pub(crate) struct Bridge {
     pub(crate) unit: Unit,
     pub(crate) kept: Outcome,
     pub(crate) renewed: bool,
+    pub(crate) source: Option<usize>,
 }
 
 impl Bridge {
     // The unit with nothing kept.
     pub(crate) fn new(unit: Unit) -> Bridge
-        ensures { result ≡ record { unit = unit; kept = Outcome.Over; renewed = false } }
+        ensures { result ≡ record { unit = unit; kept = Outcome.Over; renewed = false; source = None } }
     {
         Bridge {
             unit,
             kept: Outcome::Over,
             renewed: false,
+            source: None,
         }
     }
 
@@ -45,6 +47,7 @@ impl Bridge {
     ) -> Result<(), Memory>
         requires sound { IsSound self.old }
         ensures unit { self.new.unit ≡ self.old.unit }
+        ensures source { self.new.source ≡ self.old.source }
         ensures fresh { OnOk result (wide_outcome self.new.kept ≡ outcome_of moment.old self.old.unit) }
         ensures renewed { OnOk result (self.new.renewed ≡ not (fits moment.old (wide_outcome self.old.kept))) }
         ensures moment { moment.new ≡ moment.old }
@@ -72,6 +75,7 @@ impl Bridge {
     ) -> Result<(), Memory>
         requires sound { IsSound self.old }
         ensures unit { self.new.unit ≡ self.old.unit }
+        ensures source { self.new.source ≡ self.old.source }
         ensures fresh { OnOk result (wide_outcome self.new.kept ≡ outcome_of moment.old self.old.unit) }
         ensures renewed { OnOk result (self.new.renewed ≡ not (fits moment.old (wide_outcome self.old.kept))) }
         ensures stays { self.new.renewed ≡ false → wide_outcome self.new.kept ≡ wide_outcome self.old.kept }

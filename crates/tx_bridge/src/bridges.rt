@@ -1,6 +1,6 @@
 // All units with what is kept of them.
 ghost use Rattle.std.specs.Prelude.{◌≡◌, ℕ, ◌+◌, ◌≤◌, ◌++◌, take, drop, map, IfOk, OnOk, OnErr, Some, None};
-ghost use Rattle.std.specs.Prelude.{false, MatchOption, slice_get, IsSome};
+ghost use Rattle.std.specs.Prelude.{false, MatchOption, slice_get, IsSome, option_and_then};
 ghost use Rattle.std.specs.Option.{unwrap_or, option_map};
 ghost use Rattle.std.specs.List.{All};
 ghost use Rattle.tx_tree.specs.WideTree.{WideTree};
@@ -11,11 +11,11 @@ ghost use Rattle.tx_view_form.specs.Outcomes.{beginning, behind, value_of};
 ghost use Rattle.tx_bridge.specs.Moments.{IsPaid};
 ghost use Rattle.tx_bridge.specs.Entries.{Entry, units_of, fresh_from, outcome_of};
 ghost use Rattle.tx_bridge.specs.Reached.{reached_from, charges_from};
-ghost use Rattle.tx_bridge.specs.Sound.{IsSound, AllHold, entry_of, entries_of, flags_of};
+ghost use Rattle.tx_bridge.specs.Sound.{IsSound, AllHold, entry_of, entries_of, flags_of, sources_in};
 ghost use Rattle.tx_bridge.specs.UnitLists.{AreUnits};
 ghost use Rattle.tx_bridge.specs.Carrying.{AllStand, AreSameBodies, through, mods_of};
 ghost use Rattle.tx_bridge.specs.Slots.{AllLead};
-ghost use Rattle.tx_bridge.specs.Names.{Empty, Fresh, Charge, Carry};
+ghost use Rattle.tx_bridge.specs.Names.{Empty, Fresh, Charge, Carry, Sources};
 
 use crate::bridge::Bridge;
 use crate::giving::give_all;
@@ -43,13 +43,17 @@ pub struct Bridges {
 impl Model for Bridges {
     ghost use Rattle.std.specs.List.{All};
     ghost use Rattle.tx_bridge.specs.Bridged.{Bridged, coded_Bridged};
-    ghost use Rattle.tx_bridge.specs.Sound.{IsSound, entries_of, flags_of};
+    ghost use Rattle.tx_bridge.specs.Sound.{IsSound, entries_of, flags_of, sources_in};
 
     ghost Value = { Bridged };
 
     ghost coded = { coded_Bridged };
 
-    ghost view = { λ b. record { kept = entries_of b.bridges.items; renewed = flags_of b.bridges.items } };
+    ghost view = { λ b. record {
+      kept = entries_of b.bridges.items;
+      renewed = flags_of b.bridges.items;
+      sources = sources_in b.bridges.items;
+    } };
 
     ghost invariant = { λ b. All IsSound b.bridges.items };
 }
@@ -57,7 +61,7 @@ impl Model for Bridges {
 // The units, with nothing kept.
 fn bridges_of(alloc: Global, units: Vec<Unit>) -> Result<Vec<Bridge>, Memory>
     ensures { IfOk result (λ v. v.items
-        ≡ map (λ u. record { unit = u; kept = Outcome.Over; renewed = false }) units.items) }
+        ≡ map (λ u. record { unit = u; kept = Outcome.Over; renewed = false; source = None }) units.items) }
 {
     Ok(
         units
@@ -80,6 +84,7 @@ fn refresh_all<L: Ledger>(
     ensures counted { OnOk result (steps.new ≡ steps.old + charges_from beginning (entries_of bridges.old)) }
     ensures sound { All IsSound bridges.new }
     ensures units { units_of (entries_of bridges.new) ≡ units_of (entries_of bridges.old) }
+    ensures sources { sources_in bridges.new ≡ sources_in bridges.old }
     ensures stays { (i : ℕ) → slice_get (flags_of bridges.new) i ≡ Some false
         → slice_get (entries_of bridges.new) i ≡ slice_get (entries_of bridges.old) i }
     ensures refused { OnErr result ((n : ℕ) × (entries_of bridges.new
@@ -138,6 +143,7 @@ impl Bridges {
         requires units { AreUnits units.items }
         ensures empty { IfOk result (λ b. b.kept ≡ Empty units.items) }
         ensures units { IfOk result (λ b. units_of b.kept ≡ units.items) }
+        ensures sources { IfOk result (λ b. b.sources ≡ map (λ u. None) units.items) }
     {
         Ok(Bridges {
             bridges: bridges_of(alloc, units)?,
@@ -154,6 +160,7 @@ impl Bridges {
         ensures renewed { OnOk result (self.new.renewed ≡ reached_from beginning self.old.kept) }
         ensures counted { OnOk result (steps.new ≡ steps.old + Charge self.old.kept) }
         ensures units { units_of self.new.kept ≡ units_of self.old.kept }
+        ensures sources { self.new.sources ≡ self.old.sources }
         ensures stays { (i : ℕ) → slice_get self.new.renewed i ≡ Some false
             → slice_get self.new.kept i ≡ slice_get self.old.kept i }
         ensures refused { OnErr result ((n : ℕ) × (self.new.kept
@@ -166,8 +173,9 @@ impl Bridges {
     /// body is the old one from whose path the modifications lead to its path, or, where another buffer than 0 was
     /// edited, the one with its path. Another unit is the old one of its number, where kind and tree are the same.
     ///
-    /// `before` is the tree of the buffer before the edit. For want of memory all is as before.
-    #[tactic(auto, unfolding(crate::specs::Names::Carry))]
+    /// `before` is the tree of the buffer before the edit. Which old unit a new one is `source` tells afterwards, and
+    /// no two are the same one. For want of memory all is as before.
+    #[tactic(auto, unfolding(crate::specs::Names::Carry, crate::specs::Names::Sources))]
     pub fn carry<L: Ledger>(
         &mut self,
         alloc: Global,
@@ -184,6 +192,10 @@ impl Bridges {
             → AllStand u units.items }
         requires same { (buffer ≡ 0 → ⊥) → AreSameBodies (units_of self.old.kept) units.items }
         ensures carried { OnOk result (self.new.kept ≡ Carry buffer mods.now before.now self.old.kept units.items) }
+        ensures sources { OnOk result
+            (self.new.sources ≡ Sources buffer mods.now before.now (units_of self.old.kept) units.items) }
+        ensures once { OnOk result ((i j k : ℕ) → slice_get self.new.sources j ≡ Some (Some i)
+            → slice_get self.new.sources k ≡ Some (Some i) → j ≡ k) }
         ensures units { OnOk result (units_of self.new.kept ≡ units.items) }
         ensures counted { steps.new ≤ steps.old + cost_of mods.now }
         ensures refused { OnErr result (self.new ≡ self.old) }
@@ -227,6 +239,17 @@ impl Bridges {
         match self.bridges.get(i as usize) {
             None => false,
             Some(bridge) => bridge.renewed,
+        }
+    }
+
+    /// The number that the unit of this number had before the last edit, or None where it is none of those before, or
+    /// there was no edit. Past the last unit it is None.
+    pub fn source(&self, i: u32) -> Option<usize>
+        ensures { result ≡ option_and_then (λ s. s) (slice_get self.now.sources i) }
+    {
+        match self.bridges.get(i as usize) {
+            None => None,
+            Some(bridge) => bridge.source,
         }
     }
 

@@ -213,6 +213,7 @@ fn give(
         None => hint,
         Some(j) => {
             new[j].kept = mem::replace(&mut old.kept, Outcome::Over);
+            new[j].source = Some(i);
             j + 1
         }
     }

@@ -54,6 +54,13 @@ impl Moment {
         &self.env
     }
 
+    /// The steps that are left.
+    pub fn left(&self) -> u64
+        ensures { result ≡ self.now.left }
+    {
+        self.left
+    }
+
     // The steps that one unit may take.
     pub(crate) fn allowance(&self) -> u64
         ensures { result ≡ allowance self.now }

@@ -1,6 +1,6 @@
 use Rattle.std.proofs.Common.{◌≡◌, ◌∙◌, ◌++◌, sym, ap, subst, take, drop, length, arith}
 use Rattle.std.proofs.lemmas.Grind.{common_steps}
-use Rattle.tx_bridge.specs.Names.{Carry}
+use Rattle.tx_bridge.specs.Names.{Carry, Sources}
 use Rattle.tx_bridge.specs.Carrying.{mods_of}
 use Rattle.tx_bridge.specs.Slots.{AreApart, AllPlaced}
 use Rattle.tx_bridge.proofs.Arrived.{paths_in, fresh_apart, fresh_placed, sound_placed}
@@ -46,6 +46,31 @@ returns-clause-carried g c =
     c.requires.new c.requires.same (c.in_ok-paths.ensures ∙ ap paths_in c.deref.ensures.value)
     (c.deref-2.ensures.value ∙ c.in_ok-places.ensures.ok) c.deref_mut-2.ensures.value
     (c.deref_mut.ensures.value ∙ c.in_ok-new.ensures) (whole ∙ c.give_all.ensures)).entries
+
+pub returns-clause-sources : goal.returns-clause-sources
+unfolding Sources
+returns-clause-sources g c =
+    let whole : take c.in_ok-new.new.len (c.give_all.new.new ++ drop (length c.give_all.new.new) c.in_ok-new.new.items)
+    ≡ c.give_all.new.new = grind (arith, common_steps) in
+    (carry_all c.args.buffer c.args.mods.now c.args.before.now c.args.self.now.kept c.args.units.items
+    c.self.inside.bridges.items c.in_ok-paths.paths.items c.deref-2.result.now c.deref_mut-2.result.now
+    c.deref_mut.result.now _ (ap (λ b. b.kept) c.self.view_is) c.self.invariant c.requires.applies
+    (λ q. c.carried_list_law.ensures.same c.args.mods.now c.args.before.now q) c.requires.units c.requires.old
+    c.requires.new c.requires.same (c.in_ok-paths.ensures ∙ ap paths_in c.deref.ensures.value)
+    (c.deref-2.ensures.value ∙ c.in_ok-places.ensures.ok) c.deref_mut-2.ensures.value
+    (c.deref_mut.ensures.value ∙ c.in_ok-new.ensures) (whole ∙ c.give_all.ensures)).sources
+
+pub returns-clause-once : goal.returns-clause-once
+returns-clause-once g c =
+    let whole : take c.in_ok-new.new.len (c.give_all.new.new ++ drop (length c.give_all.new.new) c.in_ok-new.new.items)
+    ≡ c.give_all.new.new = grind (arith, common_steps) in
+    (carry_all c.args.buffer c.args.mods.now c.args.before.now c.args.self.now.kept c.args.units.items
+    c.self.inside.bridges.items c.in_ok-paths.paths.items c.deref-2.result.now c.deref_mut-2.result.now
+    c.deref_mut.result.now _ (ap (λ b. b.kept) c.self.view_is) c.self.invariant c.requires.applies
+    (λ q. c.carried_list_law.ensures.same c.args.mods.now c.args.before.now q) c.requires.units c.requires.old
+    c.requires.new c.requires.same (c.in_ok-paths.ensures ∙ ap paths_in c.deref.ensures.value)
+    (c.deref-2.ensures.value ∙ c.in_ok-places.ensures.ok) c.deref_mut-2.ensures.value
+    (c.deref_mut.ensures.value ∙ c.in_ok-new.ensures) (whole ∙ c.give_all.ensures)).once
 
 pub returns-clause-units : goal.returns-clause-units
 returns-clause-units g c =

@@ -14,3 +14,7 @@ returns-clause-empty c =
 pub returns-clause-units : goal.returns-clause-units
 returns-clause-units c =
     (started c.in_ok-bridges_of.field-0.items c.args.units.items c.in_ok-bridges_of.ensures c.requires.units.placed).2
+
+pub returns-clause-sources : goal.returns-clause-sources
+returns-clause-sources c =
+    (started c.in_ok-bridges_of.field-0.items c.args.units.items c.in_ok-bridges_of.ensures c.requires.units.placed).3
