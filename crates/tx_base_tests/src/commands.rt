@@ -94,6 +94,7 @@ fn word_of(command: &Command) -> &'static [u8] {
         Command::Show => b"show",
         Command::Errors => b"errors",
         Command::Cursor => b"cursor",
+        Command::Work => b"work",
         Command::Tree => b"tree",
         Command::Quit => b"quit",
         _ => b"",
@@ -139,6 +140,7 @@ const COMMANDS: &[(&[u8], &[u8])] = &[
     (b"backspace", b"backspace"),
     (b"enter", b"enter"),
     (b"errors", b"errors"),
+    (b"work", b"work"),
     // Rows, columns and pages.
     (b"click 0 36", b"click 0 36"),
     (b"click 4294967295 0000000007", b"click 4294967295 7"),

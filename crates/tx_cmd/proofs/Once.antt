@@ -21,7 +21,7 @@ use Rattle.tx_mod.specs.Mods.{path_of}
 use Rattle.tx_cmd.specs.declared.command.Command.{Command}
 use Rattle.tx_cmd.specs.declared.command.Command.TheVariants.{Change, Undo, Redo, At, Go, Click, Left, Right, Typed}
 use Rattle.tx_cmd.specs.declared.command.Command.TheVariants.{Backspace, Enter, Show, Page, Errors, PlaceOf, Cursor}
-use Rattle.tx_cmd.specs.declared.command.Command.TheVariants.{Attrs, Tree, Save, Quit}
+use Rattle.tx_cmd.specs.declared.command.Command.TheVariants.{Attrs, Work, Tree, Save, Quit}
 use Rattle.tx_cmd.specs.declared.command.CmdFault.{CmdFault}
 use Rattle.tx_cmd.specs.declared.command.CmdFault.TheVariants.{Long, Unknown, Args, Path, Tree as TreeFault, Memory}
 use Rattle.tx_cmd.specs.declared.words.ModWord.{ModWord}
@@ -36,7 +36,7 @@ use Rattle.tx_cmd.specs.declared.words.Word.TheVariants.{Left as LeftWord, Right
 use Rattle.tx_cmd.specs.declared.words.Word.TheVariants.{Backspace as BackspaceWord, Enter as EnterWord}
 use Rattle.tx_cmd.specs.declared.words.Word.TheVariants.{Show as ShowWord, Page as PageWord, Errors as ErrorsWord}
 use Rattle.tx_cmd.specs.declared.words.Word.TheVariants.{Where as WhereWord, Cursor as CursorWord, Attrs as AttrsWord}
-use Rattle.tx_cmd.specs.declared.words.Word.TheVariants.{Tree as TreeWord, Save as SaveWord}
+use Rattle.tx_cmd.specs.declared.words.Word.TheVariants.{Work as WorkWord, Tree as TreeWord, Save as SaveWord}
 use Rattle.tx_cmd.specs.declared.words.ArgumentKind.{ArgumentKind}
 use Rattle.tx_cmd.specs.declared.words.ArgumentKind.TheVariants.{Path as PathArgument, Number as NumberArgument}
 use Rattle.tx_cmd.specs.declared.words.ArgumentKind.TheVariants.{Label as LabelArgument, Name as NameArgument}
@@ -163,6 +163,7 @@ command_kinds Errors = refl
 command_kinds (PlaceOf r k) = refl
 command_kinds Cursor = refl
 command_kinds (Attrs r) = refl
+command_kinds Work = refl
 command_kinds Tree = refl
 command_kinds (Save n) = refl
 command_kinds Quit = refl
@@ -198,8 +199,9 @@ made EnterWord [] = Enter
 made ShowWord [] = Show
 made ErrorsWord [] = Errors
 made CursorWord [] = Cursor
+made WorkWord [] = Work
 made TreeWord [] = Tree
-made word values = Quit
+made _ values = Quit
 
 mod_made_again : (m : Mod) → mod_made (mod_word m) (path_of m) (values_behind m) ≡ Change m
 mod_made_again (Assign p t) = refl
@@ -229,6 +231,7 @@ made_again Errors = refl
 made_again (PlaceOf r k) = refl
 made_again Cursor = refl
 made_again (Attrs r) = refl
+made_again Work = refl
 made_again Tree = refl
 made_again (Save n) = refl
 made_again Quit = refl

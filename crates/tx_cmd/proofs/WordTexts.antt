@@ -11,7 +11,7 @@ use Rattle.tx_cmd.specs.declared.words.ModWord.TheVariants.{RemoveNode}
 use Rattle.tx_cmd.specs.declared.words.Word.{Word}
 use Rattle.tx_cmd.specs.declared.words.Word.TheVariants.{Change, Undo, Redo, At, Go, Click, Left, Right, Typed}
 use Rattle.tx_cmd.specs.declared.words.Word.TheVariants.{Backspace, Enter, Show, Page, Errors, Where, Cursor, Attrs}
-use Rattle.tx_cmd.specs.declared.words.Word.TheVariants.{Tree, Save, Quit}
+use Rattle.tx_cmd.specs.declared.words.Word.TheVariants.{Work, Tree, Save, Quit}
 use Rattle.tx_cmd.specs.Words.{word_text, arguments_of, HasNoSpace, IsKnown}
 use Rattle.tx_cmd.specs.Pieces.{tree_is_last}
 
@@ -20,7 +20,7 @@ abbrev all_words : List Word
 all_words =
     Change Assign ∷ Change Insert ∷ Change Remove ∷ Change Split ∷ Change Join ∷ Change AssignNode ∷ Change InsertNode
     ∷ Change RemoveNode ∷ Undo ∷ Redo ∷ At ∷ Go ∷ Click ∷ Left ∷ Right ∷ Typed ∷ Backspace ∷ Enter ∷ Show ∷ Page ∷ Errors
-    ∷ Where ∷ Cursor ∷ Attrs ∷ Tree ∷ Save ∷ Quit ∷ []
+    ∷ Where ∷ Cursor ∷ Attrs ∷ Work ∷ Tree ∷ Save ∷ Quit ∷ []
 
 abbrev pub word_named : List ℕ → Option Word
 word_named x = find (λ w. bytes_eq (word_text w) x) all_words
@@ -50,6 +50,7 @@ named Errors = refl
 named Where = refl
 named Cursor = refl
 named Attrs = refl
+named Work = refl
 named Tree = refl
 named Save = refl
 named Quit = refl
@@ -108,6 +109,7 @@ spelled_without Errors = refl
 spelled_without Where = refl
 spelled_without Cursor = refl
 spelled_without Attrs = refl
+spelled_without Work = refl
 spelled_without Tree = refl
 spelled_without Save = refl
 spelled_without Quit = refl
@@ -140,6 +142,7 @@ arguments_in_order Errors = refl
 arguments_in_order Where = refl
 arguments_in_order Cursor = refl
 arguments_in_order Attrs = refl
+arguments_in_order Work = refl
 arguments_in_order Tree = refl
 arguments_in_order Save = refl
 arguments_in_order Quit = refl

@@ -8,7 +8,7 @@ use Rattle.tx_cmd.specs.declared.TheConstants.{MOST_LINE}
 use Rattle.tx_cmd.specs.declared.command.Command.{Command}
 use Rattle.tx_cmd.specs.declared.command.Command.TheVariants.{Change, Undo, Redo, At, Go, Click, Left, Right, Typed}
 use Rattle.tx_cmd.specs.declared.command.Command.TheVariants.{Backspace, Enter, Show, Page, Errors, PlaceOf, Cursor}
-use Rattle.tx_cmd.specs.declared.command.Command.TheVariants.{Attrs, Tree, Save, Quit}
+use Rattle.tx_cmd.specs.declared.command.Command.TheVariants.{Attrs, Work, Tree, Save, Quit}
 use Rattle.tx_cmd.specs.declared.words.ModWord.{ModWord}
 use Rattle.tx_cmd.specs.declared.words.ModWord.TheVariants.{Assign as AssignWord, Insert as InsertWord}
 use Rattle.tx_cmd.specs.declared.words.ModWord.TheVariants.{Remove as RemoveWord, Split as SplitWord}
@@ -21,7 +21,7 @@ use Rattle.tx_cmd.specs.declared.words.Word.TheVariants.{Left as LeftWord, Right
 use Rattle.tx_cmd.specs.declared.words.Word.TheVariants.{Backspace as BackspaceWord, Enter as EnterWord}
 use Rattle.tx_cmd.specs.declared.words.Word.TheVariants.{Show as ShowWord, Page as PageWord, Errors as ErrorsWord}
 use Rattle.tx_cmd.specs.declared.words.Word.TheVariants.{Where as WhereWord, Cursor as CursorWord, Attrs as AttrsWord}
-use Rattle.tx_cmd.specs.declared.words.Word.TheVariants.{Tree as TreeWord, Save as SaveWord, Quit as QuitWord}
+use Rattle.tx_cmd.specs.declared.words.Word.TheVariants.{Work as WorkWord, Tree as TreeWord, Save as SaveWord, Quit as QuitWord}
 use Rattle.tx_cmd.specs.Words.{word_text}
 use Rattle.tx_cmd.specs.Values.{Value, a_path, a_number, a_label, a_name, a_tree, a_text, Mean}
 
@@ -66,6 +66,7 @@ word_of Errors = ErrorsWord
 word_of (PlaceOf r c) = WhereWord
 word_of Cursor = CursorWord
 word_of (Attrs r) = AttrsWord
+word_of Work = WorkWord
 word_of Tree = TreeWord
 word_of (Save n) = SaveWord
 word_of Quit = QuitWord
@@ -90,6 +91,7 @@ values_of Enter = []
 values_of Show = []
 values_of Errors = []
 values_of Cursor = []
+values_of Work = []
 values_of Tree = []
 values_of Quit = []
 

@@ -11,7 +11,7 @@ use Rattle.tx_cmd.specs.declared.words.ModWord.TheVariants.{AssignNode, InsertNo
 use Rattle.tx_cmd.specs.declared.words.Word.{Word}
 use Rattle.tx_cmd.specs.declared.words.Word.TheVariants.{Change, Undo, Redo, At, Go, Click, Left, Right, Typed}
 use Rattle.tx_cmd.specs.declared.words.Word.TheVariants.{Backspace, Enter, Show, Page, Errors, Where, Cursor, Attrs}
-use Rattle.tx_cmd.specs.declared.words.Word.TheVariants.{Tree, Save, Quit}
+use Rattle.tx_cmd.specs.declared.words.Word.TheVariants.{Work, Tree, Save, Quit}
 use Rattle.tx_cmd.specs.declared.words.ArgumentKind.{ArgumentKind}
 use Rattle.tx_cmd.specs.declared.words.ArgumentKind.TheVariants.{Path as PathArgument, Number as NumberArgument}
 use Rattle.tx_cmd.specs.declared.words.ArgumentKind.TheVariants.{Label as LabelArgument}
@@ -47,6 +47,7 @@ word_text Errors = codes "errors"
 word_text Where = codes "where"
 word_text Cursor = codes "cursor"
 word_text Attrs = codes "attrs"
+word_text Work = codes "work"
 word_text Tree = codes "tree"
 word_text Save = codes "save"
 word_text Quit = codes "quit"
@@ -81,6 +82,7 @@ arguments_of Enter = []
 arguments_of Show = []
 arguments_of Errors = []
 arguments_of Cursor = []
+arguments_of Work = []
 arguments_of Tree = []
 arguments_of Quit = []
 

@@ -45,6 +45,8 @@ pub enum Command {
     Cursor,
     /// Prints the attributes of the cells of this row, from 0.
     Attrs(u32),
+    /// Prints by how many steps the last making of the view raised the count.
+    Work,
     /// Prints the tree of the selected buffer.
     Tree,
     /// Writes the tree of the selected buffer into the file of this name.

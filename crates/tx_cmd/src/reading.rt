@@ -351,6 +351,7 @@ fn plain_command(word: Word, bytes: &[u8]) -> Command
         }
         Word::Cursor => Command::Cursor,
         Word::Attrs => Command::Attrs(last_number(bytes)),
+        Word::Work => Command::Work,
         Word::Tree => Command::Tree,
         Word::Quit => Command::Quit,
         _ => unreachable!(),
@@ -386,6 +387,6 @@ pub(crate) fn command<L: Ledger>(
         Word::Enter | Word::Show | Word::Page | Word::Errors | Word::Where | Word::Cursor => {
             Ok(plain_command(word, bytes))
         }
-        Word::Attrs | Word::Tree | Word::Quit => Ok(plain_command(word, bytes)),
+        Word::Attrs | Word::Work | Word::Tree | Word::Quit => Ok(plain_command(word, bytes)),
     }
 }

@@ -78,6 +78,8 @@ pub enum Word {
     Cursor,
     /// `attrs`
     Attrs,
+    /// `work`
+    Work,
     /// `tree`
     Tree,
     /// `save`
@@ -87,7 +89,7 @@ pub enum Word {
 }
 
 // All words.
-const WORDS: [Word; 27] = [
+const WORDS: [Word; 28] = [
     Word::Change(ModWord::Assign),
     Word::Change(ModWord::Insert),
     Word::Change(ModWord::Remove),
@@ -112,6 +114,7 @@ const WORDS: [Word; 27] = [
     Word::Where,
     Word::Cursor,
     Word::Attrs,
+    Word::Work,
     Word::Tree,
     Word::Save,
     Word::Quit,
@@ -177,6 +180,7 @@ impl Word {
             Word::Where => b"where",
             Word::Cursor => b"cursor",
             Word::Attrs => b"attrs",
+            Word::Work => b"work",
             Word::Tree => b"tree",
             Word::Save => b"save",
             Word::Quit => b"quit",
@@ -212,7 +216,7 @@ impl Word {
             Word::Undo | Word::Redo | Word::Left | Word::Right | Word::Backspace | Word::Enter => {
                 &[]
             }
-            Word::Show | Word::Errors | Word::Cursor | Word::Tree | Word::Quit => &[],
+            Word::Show | Word::Errors | Word::Cursor | Word::Work | Word::Tree | Word::Quit => &[],
         }
     }
 }

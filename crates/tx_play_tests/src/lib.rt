@@ -10,4 +10,6 @@ mod samples;
 #[cfg(test)]
 mod whole;
 #[cfg(test)]
+mod work;
+#[cfg(test)]
 mod worked;

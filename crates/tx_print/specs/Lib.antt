@@ -3,6 +3,7 @@ pub mod Pages
 pub mod Errors
 pub mod Places
 pub mod Runs
+pub mod Work
 pub mod Begun
 pub mod Writing
 pub mod Printers

@@ -1,5 +1,5 @@
 -- What methods of a session answer is the reply to their commands.
-use Rattle.std.proofs.Common.{◌≡◌, ◌≢◌, ◌||◌, ℕ, Bool, true, false, not, List, Option, Some, None, Result, Ok, Err}
+use Rattle.std.proofs.Common.{◌≡◌, ◌≢◌, ◌||◌, ℕ, Bool, true, false, not, List, Option, None, Result, Ok, Err}
 use Rattle.std.proofs.Common.{refl, ap}
 use Rattle.std.proofs.Common.{sym, subst, ◌∙◌}
 use Rattle.std.specs.Prelude.{IfOk, IfErr, OnErr}
@@ -22,21 +22,22 @@ use Rattle.tx_view_form.specs.Views.{WideView, IsView}
 use Rattle.tx_view_form.specs.Stops.{stops_of}
 use Rattle.tx_cmd.specs.declared.command.Command.{Command}
 use Rattle.tx_cmd.specs.declared.command.Command.TheVariants.{Change, Click, Left, Right, Typed, Backspace, Enter}
-use Rattle.tx_cmd.specs.declared.command.Command.TheVariants.{Show, Page, Errors, PlaceOf, Attrs}
+use Rattle.tx_cmd.specs.declared.command.Command.TheVariants.{Show, Page, Errors, PlaceOf, Attrs, Work}
 use Rattle.tx_session.specs.declared.replies.Reply.{Reply}
-use Rattle.tx_session.specs.declared.replies.Reply.TheVariants.{Done, Fixed, Made, Wanting, Unsaved}
+use Rattle.tx_session.specs.declared.replies.Reply.TheVariants.{Wanting}
 use Rattle.tx_session.specs.Asking.{IsChange, IsKeyChange, IsKeptView, IsWanting, IsArrival, IsEdit, Makes, Prints}
-use Rattle.tx_session.specs.Asking.{is_plain, going}
+use Rattle.tx_session.specs.Asking.{IsClicked, is_plain, going}
+use Rattle.tx_print.specs.Work.{work_reply}
 use Rattle.tx_print.specs.Writing.{IsWritten, IsCounted}
 use Rattle.tx_session.specs.declared.session.Next.TheVariants.{Quit}
 use Rattle.tx_session.specs.Writing.{IsSaid}
 use Rattle.tx_session.specs.Causes.{key_reply}
 use Rattle.tx_session.specs.Replies.{IsReply, MayLack, fresh_after, wanting_reply}
 use Rattle.tx_session.specs.Saying.{mark_of, text_of}
-use Rattle.tx_session.specs.States.{IsAnswer, IsKeyAnswer, IsAskedAnswer, selected_edit, key_edit, by_typing}
+use Rattle.tx_session.specs.States.{IsAnswer, selected_edit, key_edit, by_typing}
 use Rattle.tx_session.specs.States.{by_backspace, by_enter, printed, saved_by}
 use Rattle.tx_session.proofs.Turning.{same_seen}
-use Rattle.tx_session.specs.Worlds.{Seen, Stored, Stores, Mark, plain, lacking, unsaved}
+use Rattle.tx_session.specs.Worlds.{Seen, Stored, Stores, Mark, plain, lacking, unsaved, told}
 
 -- a command that saves nothing was done
 pub done : (it : Command) (before after : Seen) (store : Stored) (reply : List ℕ)
@@ -67,6 +68,7 @@ change_replied m before after store plain reply h =
     done (Change m) before after store reply h.0 h.1.fresh h.1.width h.1.height refl
 change_replied m before after store lacking reply h = lacked (Change m) before after store reply refl h
 change_replied m before after store unsaved reply h = absurd h
+change_replied m before after store (told n) reply h = absurd h
 
 pub typed_replied : (text : List ℕ) (before after : Seen) (store : Stored) (mark : Mark) (reply : List ℕ)
     → IsKeyChange (by_typing before.state text) before mark after reply
@@ -76,6 +78,7 @@ typed_replied text before after store plain reply h =
     done (Typed text) before after store reply h.0 h.1.fresh h.1.width h.1.height refl
 typed_replied text before after store lacking reply h = lacked (Typed text) before after store reply refl h
 typed_replied text before after store unsaved reply h = absurd h
+typed_replied text before after store (told n) reply h = absurd h
 
 pub backspace_replied : (before after : Seen) (store : Stored) (mark : Mark) (reply : List ℕ)
     → IsKeyChange (by_backspace before.state) before mark after reply
@@ -85,6 +88,7 @@ backspace_replied before after store plain reply h =
     done Backspace before after store reply h.0 h.1.fresh h.1.width h.1.height refl
 backspace_replied before after store lacking reply h = lacked Backspace before after store reply refl h
 backspace_replied before after store unsaved reply h = absurd h
+backspace_replied before after store (told n) reply h = absurd h
 
 pub enter_replied : (before after : Seen) (store : Stored) (mark : Mark) (reply : List ℕ)
     → IsKeyChange (by_enter before.state) before mark after reply
@@ -93,6 +97,7 @@ enter_replied before after store plain reply h =
     done Enter before after store reply h.0 h.1.fresh h.1.width h.1.height refl
 enter_replied before after store lacking reply h = lacked Enter before after store reply refl h
 enter_replied before after store unsaved reply h = absurd h
+enter_replied before after store (told n) reply h = absurd h
 
 -- the edit that a key asks for was done or refused
 pub key_changed : (before after : Seen) (mods : List Mod) (to : _) (mark : Mark) (reply : List ℕ)
@@ -101,6 +106,7 @@ pub key_changed : (before after : Seen) (mods : List Mod) (to : _) (mark : Mark)
 key_changed before after mods to plain reply h = h
 key_changed before after mods to lacking reply h = h
 key_changed before after mods to unsaved reply h = absurd h
+key_changed before after mods to (told n) reply h = absurd h
 
 -- what was said where a key does nothing, or memory ran out
 abbrev pub IsIdleReply : EditFault → Reply → Type 0
@@ -225,6 +231,7 @@ left_replied before after v store plain reply is h e w t =
 left_replied before after v store lacking reply is h e w t =
     lacked Left before after store reply refl (same_seen after before h.0 w t (e ∙ neither before.fresh), h.1)
 left_replied before after v store unsaved reply is h e w t = absurd h
+left_replied before after v store (told n) reply is h e w t = absurd h
 
 pub right_replied : (before after : Seen) (v : WideView) (store : Stored) (mark : Mark) (reply : List ℕ)
     → IsView before.state.buffers before.width before.height v
@@ -236,6 +243,21 @@ right_replied before after v store plain reply is h e w t =
 right_replied before after v store lacking reply is h e w t =
     lacked Right before after store reply refl (same_seen after before h.0 w t (e ∙ neither before.fresh), h.1)
 right_replied before after v store unsaved reply is h e w t = absurd h
+right_replied before after v store (told n) reply is h e w t = absurd h
+
+pub click_replied : (r c : ℕ) (before after : Seen) (v : WideView) (width : ℕ) (store : Stored) (mark : Mark)
+    (reply : List ℕ) → IsView before.state.buffers before.width before.height v
+    → IsClicked width v r c before.state mark after.state reply → width ≡ before.width
+    → after.fresh ≡ before.fresh || is_plain mark → after.width ≡ before.width → after.height ≡ before.height
+    → IsReply (record { session = before; store = store }) (Click r c) mark (record { session = after; store = store })
+    reply
+click_replied r c before after v width store plain reply is h s e w t =
+    done (Click r c) before after store reply
+    (v, is, subst (λ z. IsClicked z v r c before.state plain after.state reply) s h) (e ∙ either before.fresh) w t refl
+click_replied r c before after v width store lacking reply is h s e w t =
+    lacked (Click r c) before after store reply refl (same_seen after before h.0 w t (e ∙ neither before.fresh), h.1)
+click_replied r c before after v width store unsaved reply is h s e w t = absurd h
+click_replied r c before after v width store (told n) reply is h s e w t = absurd h
 
 -- the view that was made is that of the present buffers
 pub present_view : (bs cs : List Buffer) (w x t u : ℕ) (v : WideView) → bs ≡ cs → w ≡ x → t ≡ u → IsView bs w t v
@@ -263,6 +285,23 @@ pub printed_wanting : (it : Command) (before after : Seen) (store : Stored) → 
     wanting_reply
 printed_wanting it before after store p e f =
     lacked it before after store wanting_reply (printed_lacks it before p f) (e, refl)
+
+-- the number of steps is told
+pub work_told : (n : ℕ) (before : Seen) (w t : ℕ) (store : Stored) → w ≡ before.width → t ≡ before.height
+    → IsReply (record { session = before; store = store }) Work (told n)
+    (record { session = record { state = before.state; width = w; height = t; fresh = true }; store = store })
+    (work_reply n)
+work_told n before w t store e f = record {
+  work = refl;
+  session = λ i. record { state = before.state; width = e i; height = f i; fresh = true };
+  stored = refl;
+  said = refl;
+}
+
+pub work_wanting : (before after : Seen) (store : Stored) → after ≡ before → before.fresh ≡ false
+    → IsReply (record { session = before; store = store }) Work lacking (record { session = after; store = store })
+    wanting_reply
+work_wanting before after store e f = lacked Work before after store wanting_reply (ap not f) (e, refl)
 
 pub printed_said : (r : Result (Unit {0}) WriteFault) (text : List ℕ) (before after : Option (List ℕ))
     → IsWritten r text before after → IsSaid (going r) text before after

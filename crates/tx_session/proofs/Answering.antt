@@ -18,7 +18,7 @@ use Rattle.tx_print.specs.Places.{no_cell}
 use Rattle.tx_cmd.specs.declared.command.Command.{Command}
 use Rattle.tx_cmd.specs.declared.command.Command.TheVariants.{Change, Undo, Redo, At, Go, Click, Left, Right, Typed}
 use Rattle.tx_cmd.specs.declared.command.Command.TheVariants.{Backspace, Enter, Show, Page, Errors, PlaceOf, Cursor}
-use Rattle.tx_cmd.specs.declared.command.Command.TheVariants.{Attrs, Tree, Save, Quit}
+use Rattle.tx_cmd.specs.declared.command.Command.TheVariants.{Attrs, Work, Tree, Save, Quit}
 use Rattle.tx_session.specs.Causes.{astray_reply}
 use Rattle.tx_session.specs.States.{selected_edit, key_edit, by_typing, by_backspace, by_enter, IsAnswer, IsEditAnswer}
 use Rattle.tx_session.specs.States.{IsKeyAnswer, IsStepAnswer, IsChoice, IsGoAnswer, IsClickAnswer, IsAskedAnswer}
@@ -92,6 +92,7 @@ one_answer law width height state Enter s t a b h k = one_key state (by_enter st
 one_answer law width height state Cursor s t a b h k = (h.0 ∙ sym k.0, h.1 ∙ sym k.1)
 one_answer law width height state Tree s t a b h k = (h.0 ∙ sym k.0, h.1 ∙ sym k.1)
 one_answer law width height state (Save name) s t a b h k = (h.0 ∙ sym k.0, h.1 ∙ sym k.1)
+one_answer law width height state Work s t a b h k = absurd h
 one_answer law width height state Quit s t a b h k = (h.0 ∙ sym k.0, h.1 ∙ sym k.1)
 one_answer law width height state (Click r c) s t a b h k = one_viewed law width height state (Click r c) s t a b h k
 one_answer law width height state Left s t a b h k = one_viewed law width height state Left s t a b h k

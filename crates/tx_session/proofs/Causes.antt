@@ -1,5 +1,5 @@
 -- Why a run ends as it does.
-use Rattle.std.proofs.Common.{◌≡◌, ◌≢◌, ◌⊎◌, inl, inr, ℕ, true, false, Bor, List, [], ◌++◌, Option, Some, None, IfSome}
+use Rattle.std.proofs.Common.{◌≡◌, ◌≢◌, ◌⊎◌, inl, inr, ℕ, List, [], ◌++◌, Option, Some, None, IfSome}
 use Rattle.std.proofs.Common.{refl, sym, ap, subst, ◌∙◌}
 use Rattle.std.specs.Io.KnownBytes.{append_known}
 use Rattle.tx_outside.specs.Files.{Files}
@@ -7,7 +7,7 @@ use Rattle.tx_outside.specs.Known.{AppendsPart}
 use Rattle.tx_outside.proofs.Pieces.{append_known-then, append_known-nil}
 use Rattle.tx_session.specs.declared.status.Status.{Status}
 use Rattle.tx_session.specs.declared.status.Status.TheVariants as statuses
-use Rattle.tx_words.specs.Words.{Ask, AreFaulty, Named}
+use Rattle.tx_words.specs.Words.{Ask, AreFaulty}
 use Rattle.tx_open.specs.declared.opening.Opened.{Opened}
 use Rattle.tx_open.specs.declared.opening.Opening.{Opening}
 use Rattle.tx_open.specs.declared.opening.Opening.TheVariants as openings

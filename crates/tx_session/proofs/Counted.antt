@@ -1,5 +1,5 @@
 -- Replies `no store` are counted by the store.
-use Rattle.std.proofs.Common.{◌≡◌, ℕ, ◌+◌, ◌-◌, ◌^◌, ◌<◌, ◌≤◌, List, [], ◌∷◌, Option, Some, None, inl, inr, refl, ap}
+use Rattle.std.proofs.Common.{◌≡◌, ℕ, ◌+◌, ◌-◌, ◌^◌, ◌≤◌, List, [], ◌∷◌, Option, Some, None, inl, inr}
 use Rattle.std.proofs.Common.{sym, subst, arith}
 use Rattle.tx_outside.specs.Counts.{NeverFalls, Rose}
 use Rattle.tx_outside.proofs.Counting.{never_falls_refl, never_falls_then}
@@ -10,7 +10,8 @@ use Rattle.tx_open.specs.Outcomes.{Outcome, faulty_words, missing, too_long as f
 use Rattle.tx_open.specs.Outcomes.{no_memory, opened}
 use Rattle.tx_session.specs.Runs.{IsPlayed, IsWhole, start_of}
 use Rattle.tx_session.specs.Scripts.{Answered, before_quit}
-use Rattle.tx_session.specs.Worlds.{World, Stored, Mark, plain, lacking, unsaved, Stores, RoseBy, unsaved_in}
+use Rattle.tx_session.specs.Worlds.{World, Stored, Mark, plain, lacking, unsaved, told, Stores, RoseBy}
+use Rattle.tx_session.specs.Worlds.{unsaved_in}
 use Rattle.tx_cmd.specs.declared.command.Command.{Command}
 
 -- the count after a line with this mark
@@ -30,22 +31,28 @@ reply_count : (a b : World) (it : Command) (mark : Mark) (reply : List ℕ) → 
 reply_count a b it plain reply h = stores_count _ a.store b.store h.stored
 reply_count a b it lacking reply h = h.2.1
 reply_count a b it unsaved reply h = (h.4.1, h.4.2)
+reply_count a b it (told n) reply h =
+    subst (λ s. NeverFalls a.store.faults s.faults) (sym h.stored) (never_falls_refl a.store.faults)
 
 line_count : (a b : World) (reading : Reading) (mark : Mark) (reply : List ℕ) → IsReplyTo a reading mark b reply
     → Counts mark a.store.faults b.store.faults
 line_count a b nothing plain reply h = same_count a b h.1
 line_count a b nothing lacking reply h = same_count a b h.1
 line_count a b nothing unsaved reply h = let other = h.0 in absurd cc
+line_count a b nothing (told n) reply h = same_count a b h.1
 line_count a b (too_long n) plain reply h = same_count a b h.0
 line_count a b (too_long n) lacking reply h = same_count a b h.0
 line_count a b (too_long n) unsaved reply h = absurd h
+line_count a b (too_long n) (told m) reply h = absurd h
 line_count a b unread plain reply h = same_count a b h.1
 line_count a b unread lacking reply h = same_count a b h.1
 line_count a b unread unsaved reply h = let other = h.0 in absurd cc
+line_count a b unread (told n) reply h = same_count a b h.1
 line_count a b (command c) mark reply h = reply_count a b c mark reply h.1
 line_count a b (faulty f) plain reply h = same_count a b h.0
 line_count a b (faulty f) lacking reply h = same_count a b h.0
 line_count a b (faulty f) unsaved reply h = absurd h
+line_count a b (faulty f) (told n) reply h = absurd h
 
 most : (b c : ℕ) → b ≡ 2 ^ 64 - 1 → NeverFalls b c → c ≡ 2 ^ 64 - 1
 most b c e never = let le : c ≤ 2 ^ 64 - 1 = never.within (omega arith) in omega (arith, never.kept)
@@ -63,6 +70,7 @@ never_falls : (mark : Mark) (a b : ℕ) → Counts mark a b → NeverFalls a b
 never_falls plain a b h = h
 never_falls lacking a b h = h
 never_falls unsaved a b h = h.1
+never_falls (told n) a b h = h
 
 all_never : (a b : World) (lines : List (List ℕ)) (marks : List Mark) (text : List ℕ) → Answered a lines marks b text
     → NeverFalls a.store.faults b.store.faults
@@ -78,6 +86,7 @@ count_next : (m : Mark) (marks : List Mark) (a b c : ℕ) → Counts m a b → R
 count_next plain marks a b c h more never = no_more (unsaved_in marks) a b c h more
 count_next lacking marks a b c h more never = no_more (unsaved_in marks) a b c h more
 count_next unsaved marks a b c h more never = one_more (unsaved_in marks) a b c h.0 more never
+count_next (told n) marks a b c h more never = no_more (unsaved_in marks) a b c h more
 
 pub failures_counted : (a b : World) (lines : List (List ℕ)) (marks : List Mark) (text : List ℕ)
     → Answered a lines marks b text → RoseBy (unsaved_in marks) a.store.faults b.store.faults
@@ -107,17 +116,17 @@ unopened_counted : (v x : Stored) (marks : List Mark) → marks ≡ [] → Never
 unopened_counted v x marks e never =
     subst (λ ms. RoseBy (unsaved_in ms) v.faults x.faults) (sym e) (inl (omega (arith, never.kept)))
 
-pub whole_counted : (o : Outcome) (v x : Stored) (told r : Option (List ℕ)) (marks : List Mark) (s : Status)
-    (a : List ℕ) → IsWhole o v x told marks r s a → RoseBy (unsaved_in marks) v.faults x.faults
-whole_counted (opened all) v x told r marks s a h =
+pub whole_counted : (o : Outcome) (v x : Stored) (input r : Option (List ℕ)) (marks : List Mark) (s : Status)
+    (a : List ℕ) → IsWhole o v x input marks r s a → RoseBy (unsaved_in marks) v.faults x.faults
+whole_counted (opened all) v x input r marks s a h =
     let first : World = record { session = start_of all; store = h.2 } in
     let played : RoseBy (unsaved_in marks) h.2.faults h.3.store.faults =
     played_counted first h.3 h.0 marks r s h.1 h.6 in
     subst (λ z. RoseBy (unsaved_in marks) v.faults z.faults) h.7
     (no_more (unsaved_in marks) v.faults h.2.faults h.3.store.faults h.4.1 played)
-whole_counted faulty_words v x told r marks s a h = unopened_counted v x marks h.0 h.4.1
-whole_counted (missing f) v x told r marks s a h = unopened_counted v x marks h.0 h.4.1
-whole_counted (file_too_long f) v x told r marks s a h = unopened_counted v x marks h.0 h.4.1
-whole_counted (no_tree f c) v x told r marks s a h = unopened_counted v x marks h.0 h.4.1
-whole_counted (store_fault f) v x told r marks s a h = unopened_counted v x marks h.0 h.4.1
-whole_counted no_memory v x told r marks s a h = unopened_counted v x marks h.0 h.4.1
+whole_counted faulty_words v x input r marks s a h = unopened_counted v x marks h.0 h.4.1
+whole_counted (missing f) v x input r marks s a h = unopened_counted v x marks h.0 h.4.1
+whole_counted (file_too_long f) v x input r marks s a h = unopened_counted v x marks h.0 h.4.1
+whole_counted (no_tree f c) v x input r marks s a h = unopened_counted v x marks h.0 h.4.1
+whole_counted (store_fault f) v x input r marks s a h = unopened_counted v x marks h.0 h.4.1
+whole_counted no_memory v x input r marks s a h = unopened_counted v x marks h.0 h.4.1

@@ -1,13 +1,13 @@
 -- Words, files, script and marks come to one run.
 use Rattle.std.proofs.Common.{◌≡◌, ◌≢◌, ℕ, List, [], ◌∷◌, ◌++◌, length, refl, ap, sym}
-use Rattle.std.proofs.Common.{subst, ◌∙◌, Option, Some, arith}
+use Rattle.std.proofs.Common.{subst, ◌∙◌, Option, Some, arith, true}
 use Rattle.tx_outside.specs.Files.{Files}
 use Rattle.tx_cmd.specs.declared.command.Command.{Command}
 use Rattle.tx_cmd.proofs.Once.{one_command, one_cause, no_cause}
 use Rattle.tx_session.specs.declared.status.Status.{Status}
 use Rattle.tx_session.specs.declared.status.Status.TheVariants as statuses
 use Rattle.tx_session.specs.States.{IsAnswer}
-use Rattle.tx_session.specs.Worlds.{World, Stored, Mark, plain, lacking, unsaved}
+use Rattle.tx_session.specs.Worlds.{Seen, World, Stored, Mark, plain, lacking, unsaved, told}
 use Rattle.tx_session.specs.Replies.{fresh_after, Reading, nothing, too_long, unread, command, faulty, wanting_reply}
 use Rattle.tx_session.specs.Replies.{IsRead, IsReply, IsReplyTo, IsRefusal, IsLineReply}
 use Rattle.tx_session.specs.Scripts.{Answered, before_quit, command_line}
@@ -43,6 +43,10 @@ one_reading text (faulty f) (too_long d) n m h k = absurd (omega (arith, h.0.1, 
 one_reading text (faulty f) (command d) n m h k = absurd (no_cause text d f h.1 k.1 h.2)
 one_reading text (faulty f) (faulty e) n m h k = ap (λ f. faulty f) (one_cause text f e h.1 k.1 h.2 k.2)
 
+-- with a fresh view
+abbrev made_fresh : Seen → Seen
+made_fresh x = record x { fresh = true }
+
 -- what the answer depends on
 module _ (law : OneView) (v w : World) (same : v.session ≡ w.session) where
   one_reply : (it : Command) (mark : Mark) (s t : World) (a b : List ℕ) → IsReply v it mark s a → IsReply w it mark t b
@@ -59,12 +63,15 @@ module _ (law : OneView) (v w : World) (same : v.session ≡ w.session) where
       )
   one_reply it lacking s t a b h k = (h.1 ∙ same ∙ sym k.1, h.3 ∙ sym k.3)
   one_reply it unsaved s t a b h k = (h.3 ∙ same ∙ sym k.3, h.5 ∙ sym k.5)
+  one_reply it (told n) s t a b h k =
+      (h.session ∙ ap made_fresh same ∙ sym k.session, h.said ∙ sym k.said)
 
   one_refusal : (text : List ℕ) (mark : Mark) (s t : World) (a b : List ℕ) → IsRefusal v text mark s a
       → IsRefusal w text mark t b → (s.session ≡ t.session) × (a ≡ b)
   one_refusal text plain s t a b h k = (ap (λ x. x.session) h.0 ∙ same ∙ sym (ap (λ x. x.session) k.0), h.1 ∙ sym k.1)
   one_refusal text lacking s t a b h k = (ap (λ x. x.session) h.0 ∙ same ∙ sym (ap (λ x. x.session) k.0), h.1 ∙ sym k.1)
   one_refusal text unsaved s t a b h k = absurd h
+  one_refusal text (told n) s t a b h k = absurd h
 
   one_reply_to : (reading : Reading) (mark : Mark) (s t : World) (a b : List ℕ) → IsReplyTo v reading mark s a
       → IsReplyTo w reading mark t b → (s.session ≡ t.session) × (a ≡ b)
@@ -111,6 +118,7 @@ module _ (law : OneView) (v w : World) (same : v.session ≡ w.session) (text : 
       (x.0 ∙ same ∙ sym y.0, x.1 ∙ sym y.1)
   one_line_reply plain s t a b h k = read_reply plain s t a b tt h k
   one_line_reply unsaved s t a b h k = read_reply unsaved s t a b tt h k
+  one_line_reply (told n) s t a b h k = read_reply (told n) s t a b tt h k
 
 -- lines with the same marks have the same replies
 pub answered_once : (law : OneView) (v w s t : World) (lines : List (List ℕ)) (marks : List Mark) (a b : List ℕ)
@@ -165,15 +173,15 @@ played_once law v w x y script marks r q statuses.ScriptLong statuses.OutputFaul
 played_once law v w x y script marks r q statuses.ScriptLong statuses.NoMemory a b e f g h k = absurd g
 
 -- a run that ends with a final status had no fault of the store and no want of memory at opening
-pub decided : (o : Outcome) (before after : Stored) (told r : Option (List ℕ)) (marks : List Mark) (s : Status)
-    (a : List ℕ) → IsFinal s → IsWhole o before after told marks r s a → IsDecided o
-decided (store_fault f) before after told r marks s a fin w = absurd (subst IsFinal w.1 fin)
-decided no_memory before after told r marks s a fin w = absurd (subst IsFinal w.1 fin)
-decided faulty_words before after told r marks s a fin w = tt
-decided (missing f) before after told r marks s a fin w = tt
-decided (file_too_long f) before after told r marks s a fin w = tt
-decided (no_tree f c) before after told r marks s a fin w = tt
-decided (opened all) before after told r marks s a fin w = tt
+pub decided : (o : Outcome) (before after : Stored) (input r : Option (List ℕ)) (marks : List Mark) (s : Status)
+    (a : List ℕ) → IsFinal s → IsWhole o before after input marks r s a → IsDecided o
+decided (store_fault f) before after input r marks s a fin w = absurd (subst IsFinal w.1 fin)
+decided no_memory before after input r marks s a fin w = absurd (subst IsFinal w.1 fin)
+decided faulty_words before after input r marks s a fin w = tt
+decided (missing f) before after input r marks s a fin w = tt
+decided (file_too_long f) before after input r marks s a fin w = tt
+decided (no_tree f c) before after input r marks s a fin w = tt
+decided (opened all) before after input r marks s a fin w = tt
 
 module _ (law : OneView) (v w x y : Stored) (script : List ℕ) (marks : List Mark) (r q : Option (List ℕ)) (s t : Status)
     (a b : List ℕ) (fs : IsFinal s) (ft : IsFinal t) where

@@ -1,6 +1,6 @@
 -- Every buffer of a session is well formed, at present and at each moment that is kept.
-use Rattle.std.proofs.Common.{◌≡◌, ◌⊎◌, inl, inr, ℕ, zero, suc, ◌≤◌, ◌<◌, Bool, true, false, List, [], ◌∷◌, ◌++◌}
-use Rattle.std.proofs.Common.{length, set, take, Option, Some, None, Result, Ok, Err, refl, sym, ap, subst, ◌∙◌}
+use Rattle.std.proofs.Common.{◌≡◌, ◌⊎◌, inl, inr, ℕ, zero, suc, ◌<◌, Bool, true, false, List, [], ◌∷◌, ◌++◌}
+use Rattle.std.proofs.Common.{length, take, Option, Some, None, Result, Ok, Err, refl, sym, ap, subst, ◌∙◌}
 use Rattle.std.proofs.Common.{append_assoc, arith}
 use Rattle.std.specs.Prelude.{◌≢◌, slice_get, slice_set, codes, nat_le, if◌then◌else◌}
 use Rattle.std.specs.List.{AllByRecursion}
@@ -13,14 +13,12 @@ use Rattle.tx_tree.specs.declared.places.Place.{Place}
 use Rattle.tx_tree.proofs.Scanning.{no_bytes}
 use Rattle.tx_scm.proofs.Spelled.{well_formed}
 use Rattle.tx_tm_form.proofs.Formed.{spelled_tree}
-use Rattle.tx_mod.specs.declared.faults.ModFault.{ModFault}
 use Rattle.tx_mod.specs.declared.mods.Mod.{Mod}
 use Rattle.tx_mod.specs.declared.mods.Mod.TheVariants.{Assign, Insert, Remove, Split, Join, AssignNode, InsertNode}
 use Rattle.tx_mod.specs.declared.mods.Mod.TheVariants.{RemoveNode}
-use Rattle.tx_mod.specs.Changes.{Outcome as Changed, changed}
+use Rattle.tx_mod.specs.Changes.{Outcome as Changed}
 use Rattle.tx_mod.specs.InTurn.{changed_in_turn, AreSound}
 use Rattle.tx_mod.specs.Moves.{place}
-use Rattle.tx_mod.specs.Mods.{path_of}
 use Rattle.tx_mod.specs.Sound.{IsSound}
 use Rattle.tx_mod.proofs.InTurn.{can_be_undone}
 use Rattle.tx_doc.specs.declared.buffer.Buffer.{Buffer}
@@ -44,25 +42,23 @@ use Rattle.tx_print.specs.Places.{no_cell}
 use Rattle.tx_cmd.specs.declared.command.Command.{Command}
 use Rattle.tx_cmd.specs.declared.command.Command.TheVariants.{Change, Undo, Redo, At, Go, Click, Left, Right, Typed}
 use Rattle.tx_cmd.specs.declared.command.Command.TheVariants.{Backspace, Enter, Show, Page, Errors, PlaceOf, Cursor}
-use Rattle.tx_cmd.specs.declared.command.Command.TheVariants.{Attrs, Tree, Save, Quit}
+use Rattle.tx_cmd.specs.declared.command.Command.TheVariants.{Attrs, Work, Tree, Save, Quit}
 use Rattle.tx_cmd.specs.Commands.{IsCommand}
-use Rattle.tx_session.specs.Causes.{numbered}
 use Rattle.tx_session.specs.Forms.{Saving, no_form, file_long, writes, fitting, saving, has_text_in, text_in}
-use Rattle.tx_session.specs.Forms.{SpellsAloneIn}
 use Rattle.tx_print.specs.Lines.{line}
 use Rattle.tx_open.specs.declared.opening.Opened.{Opened}
 use Rattle.tx_open.specs.Forms.{SpellsIn}
 use Rattle.tx_open.specs.Outcomes.{opened, AreRead, ComesTo}
 use Rattle.tx_words.specs.Words.{Named}
 use Rattle.tx_session.specs.Replies.{Reading, nothing, too_long, unread, command, faulty, IsRead, IsReply, IsReplyTo}
-use Rattle.tx_session.specs.Replies.{IsRefusal, IsLineReply, IsDone}
+use Rattle.tx_session.specs.Replies.{IsRefusal, IsLineReply}
 use Rattle.tx_session.specs.Runs.{start_of}
 use Rattle.tx_session.specs.Savings.{IsSavedAlone, IsNotSaved, StandsAmong}
 use Rattle.tx_session.specs.Scripts.{Answered, command_line}
 use Rattle.tx_session.specs.States.{IsAnswer, IsEditAnswer, IsKeyAnswer, IsStepAnswer, IsChoice, IsClickAnswer}
 use Rattle.tx_session.specs.States.{IsAskedAnswer, IsViewAnswer, selected_edit, selected_tree, key_edit, by_typing}
 use Rattle.tx_session.specs.States.{by_backspace, by_enter, place_of, save_reply, file_saved}
-use Rattle.tx_session.specs.Worlds.{World, Stored, Stores, Mark, plain, lacking, unsaved}
+use Rattle.tx_session.specs.Worlds.{World, Stored, Stores, Mark, plain, lacking, unsaved, told}
 use Rattle.tx_session.proofs.Determined.{one_reading, was_read}
 use Rattle.tx_session.proofs.Saved.{saved_alone}
 use Rattle.tx_session.proofs.SoundKeys.{IsSoundKey, typed_sound, erased_sound, entered_sound, left_sound, right_sound}
@@ -215,6 +211,7 @@ answer_formed text Enter width height s next reply h f a =
 answer_formed text Cursor width height s next reply h f a = subst IsFormed (sym a.0) f
 answer_formed text Tree width height s next reply h f a = subst IsFormed (sym a.0) f
 answer_formed text (Save name) width height s next reply h f a = subst IsFormed (sym a.0) f
+answer_formed text Work width height s next reply h f a = absurd a
 answer_formed text Quit width height s next reply h f a = subst IsFormed (sym a.0) f
 answer_formed text (Click r c) width height s next reply h f a =
     viewed_formed width height s next (Click r c) reply f a
@@ -241,12 +238,14 @@ command_formed text it before next plain reply h f a =
     a.answer
 command_formed text it before next lacking reply h f a = subst (λ x. IsFormed x.state) (sym a.1) f
 command_formed text it before next unsaved reply h f a = subst (λ x. IsFormed x.state) (sym a.3) f
+command_formed text it before next (told n) reply h f a = subst (λ x. IsFormed x.state) (sym a.session) f
 
 refusal_formed : (before next : World) (text : List ℕ) (mark : Mark) (reply : List ℕ) → IsFormedWorld before
     → IsRefusal before text mark next reply → IsFormedWorld next
 refusal_formed before next text plain reply f a = same_formed before next a.0 f
 refusal_formed before next text lacking reply f a = same_formed before next a.0 f
 refusal_formed before next text unsaved reply f a = absurd a
+refusal_formed before next text (told n) reply f a = absurd a
 
 reply_formed : (text : List ℕ) (reading : Reading) (before next : World) (mark : Mark) (reply : List ℕ)
     → IsRead text reading → IsFormedWorld before

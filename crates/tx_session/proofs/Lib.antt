@@ -14,6 +14,8 @@ pub mod Answering
 pub mod Determined
 pub mod Replied
 pub mod Answered
+pub mod Carried
+pub mod Refreshed
 pub mod Stopping
 pub mod Plainly
 pub mod SameFiles

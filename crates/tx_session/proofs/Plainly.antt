@@ -1,6 +1,6 @@
 -- Replies that are no marks.
 use Rattle.std.proofs.Common.{◌≡◌, ◌≢◌, ◌≤◌, ◌+◌, ◌==◌, ◌||◌, if◌then◌else◌, Bool, true, false, ℕ, List, [], ◌∷◌, ◌++◌}
-use Rattle.std.proofs.Common.{length, take, Option, Some, None, Result, Ok, Err, refl, ap, sym, ◌∙◌, subst, inl, inr}
+use Rattle.std.proofs.Common.{take, Option, Some, None, Result, Ok, Err, refl, ap, sym, ◌∙◌, subst, inl, inr}
 use Rattle.std.proofs.Common.{arith}
 use Rattle.std.specs.Prelude.{codes, decimal, OnOk, bytes_eq, slice_get}
 use Rattle.std.specs.Io.KnownBytes.{append_known}
@@ -40,7 +40,7 @@ use Rattle.tx_print.specs.Runs.{Run, run_text, runs_or, runs_from, looks_on}
 use Rattle.tx_cmd.specs.declared.command.Command.{Command}
 use Rattle.tx_cmd.specs.declared.command.Command.TheVariants.{Change, Undo, Redo, At, Go, Click, Left, Right, Typed}
 use Rattle.tx_cmd.specs.declared.command.Command.TheVariants.{Backspace, Enter, Show, Page, Errors, PlaceOf, Cursor}
-use Rattle.tx_cmd.specs.declared.command.Command.TheVariants.{Attrs, Tree, Save, Quit}
+use Rattle.tx_cmd.specs.declared.command.Command.TheVariants.{Attrs, Work, Tree, Save, Quit}
 use Rattle.tx_cmd.specs.declared.command.CmdFault.{CmdFault}
 use Rattle.tx_cmd.specs.declared.command.CmdFault.TheVariants.{Long, Unknown, Args, Path, Tree as BadTree, Memory}
 use Rattle.tx_session.specs.declared.session.Next.{Next}
@@ -48,11 +48,12 @@ use Rattle.tx_session.specs.Causes.{cause_reply, astray_reply, key_reply}
 use Rattle.tx_session.specs.Differences.{IsPlainReply}
 use Rattle.tx_session.specs.Forms.{Saving, no_form, file_long, writes, saving}
 use Rattle.tx_print.specs.Lines.{line}
+use Rattle.tx_print.specs.Work.{work_reply}
 use Rattle.tx_session.specs.Replies.{wanting_reply, unsaved_reply, refusal, IsDone, IsReply}
 use Rattle.tx_session.specs.States.{selected_edit, selected_tree, key_edit, by_typing, by_backspace, by_enter, printed}
 use Rattle.tx_session.specs.States.{IsAnswer, IsEditAnswer, IsKeyAnswer, IsStepAnswer, IsChoice, IsGoAnswer}
 use Rattle.tx_session.specs.States.{IsClickAnswer, IsAskedAnswer, IsViewAnswer, done_reply, save_reply}
-use Rattle.tx_session.specs.Worlds.{World, Mark, plain, lacking, unsaved}
+use Rattle.tx_session.specs.Worlds.{World, Mark, plain, lacking, unsaved, told}
 use Rattle.tx_session.specs.Writing.{IsSaid}
 
 -- the first six bytes are those of one of the two
@@ -242,6 +243,7 @@ plain_answer width height state Tree next reply h =
 plain_answer width height state (Save name) next reply h =
     kept reply (save_reply (saving (form_of name) (selected_tree state))) h.1
     (plain_save (saving (form_of name) (selected_tree state)))
+plain_answer width height state Work next reply h = absurd h
 plain_answer width height state Quit next reply h = kept reply [] h.1 (begun [] refl)
 plain_answer width height state (Click r c) next reply h = plain_viewed width height state (Click r c) next reply h
 plain_answer width height state Left next reply h = plain_viewed width height state Left next reply h
@@ -257,6 +259,10 @@ pub plain_done : (before after : World) (it : Command) (reply : List ℕ) → Is
     → IsPlainReply reply
 plain_done before after it reply h =
     plain_answer before.session.width before.session.height before.session.state it after.session.state reply h.answer
+
+-- of the steps that are told
+pub plain_told : (n : ℕ) → IsPlainReply (work_reply n)
+plain_told n = begun (work_reply n) refl
 
 pub plain_refusal : (cause : CmdFault) → cause ≢ Memory → IsPlainReply (refusal cause)
 plain_refusal (Long n) m = begun (refusal (Long n)) refl
@@ -275,6 +281,7 @@ counted : (v w : World) (it : Command) (mark : Mark) (reply : List ℕ) → IsRe
 counted v w it plain reply h e = absurd ((plain_done v w it reply h).1 e)
 counted v w it lacking reply h e = absurd (differ (ap says_memory (sym e ∙ h.3)))
 counted v w it unsaved reply h e = h.4.1
+counted v w it (told n) reply h e = absurd ((plain_told n).1 (sym h.said ∙ e))
 
 pub failure_counted : (v w : World) (it : Command) (mark : Mark) (reply : List ℕ) (next : Next)
     (before after : Option (List ℕ)) (bytes : List ℕ)

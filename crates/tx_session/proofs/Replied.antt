@@ -4,19 +4,43 @@ use Rattle.tx_outside.specs.declared.faults.WriteFault.{WriteFault}
 use Rattle.tx_cmd.specs.declared.command.Command.{Command}
 use Rattle.tx_session.specs.declared.replies.Reply.{Reply}
 use Rattle.tx_session.specs.declared.session.Next.{Next}
+use Rattle.tx_session.specs.Keeps.{Whole, Keeps, Takes}
 use Rattle.tx_session.specs.Replies.{IsReply}
 use Rattle.tx_session.specs.Saying.{mark_of, text_of}
-use Rattle.tx_session.specs.Worlds.{World, Mark}
+use Rattle.tx_session.specs.Worlds.{Mark, Stored}
 use Rattle.tx_session.specs.Writing.{IsSaid}
 
-pub is_replied : (it command : Command) (v w : World) (reply : Reply) (text : List ℕ) (result : Result Next WriteFault)
-    (before after : Option (List ℕ)) → command ≡ it → text ≡ text_of reply
-    → IsReply v it (mark_of reply) w (text_of reply)
-    → IsSaid result text before after → (mark : Mark) × (answer : List ℕ) × IsReply v command mark w answer
-    × IsSaid result answer before after
-is_replied it command v w reply text result before after e t r s = (
+-- what a command answers: its reply, what is kept, and the steps
+abbrev pub IsReplied : Command → (before after : Whole) → (store later : Stored) → (old new : ℕ)
+    → Result Next WriteFault → (written behind : Option (List ℕ)) → Type 0
+IsReplied it before after store later old new result written behind =
+    (mark : Mark) × (reply : List ℕ)
+    × IsReply (record { session = before.seen; store = store }) it mark (record { session = after.seen; store = later })
+    reply
+    × IsSaid result reply written behind × Keeps before it mark after × Takes before it mark old new
+
+pub is_replied : (it command : Command) (before after : Whole) (store later : Stored) (old new : ℕ) (reply : Reply)
+    (text : List ℕ) (result : Result Next WriteFault) (written behind : Option (List ℕ)) → command ≡ it
+    → text ≡ text_of reply
+    → IsReply (record { session = before.seen; store = store }) it (mark_of reply)
+    (record { session = after.seen; store = later }) (text_of reply)
+    → IsSaid result text written behind → Keeps before it (mark_of reply) after
+    → Takes before it (mark_of reply) old new
+    → IsReplied command before after store later old new result written behind
+is_replied it command before after store later old new reply text result written behind e t r s k c = (
   mark_of reply,
   text_of reply,
-  subst (λ c. IsReply v c (mark_of reply) w (text_of reply)) (sym e) r,
-  subst (λ x. IsSaid result x before after) t s,
+  subst (λ x. IsReply (record { session = before.seen; store = store }) x (mark_of reply)
+      (record { session = after.seen; store = later }) (text_of reply)) (sym e) r,
+  subst (λ x. IsSaid result x written behind) t s,
+  subst (λ x. Keeps before x (mark_of reply) after) (sym e) k,
+  subst (λ x. Takes before x (mark_of reply) old new) (sym e) c,
 )
+
+-- a reply that was written by itself
+pub is_said : (it command : Command) (before after : Whole) (store later : Stored) (old new : ℕ)
+    (result : Result Next WriteFault) (written behind : Option (List ℕ)) → command ≡ it
+    → IsReplied it before after store later old new result written behind
+    → IsReplied command before after store later old new result written behind
+is_said it command before after store later old new result written behind e h =
+    subst (λ x. IsReplied x before after store later old new result written behind) (sym e) h

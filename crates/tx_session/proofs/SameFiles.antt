@@ -1,22 +1,22 @@
 -- Lines with the same marks leave the same files.
-use Rattle.std.proofs.Common.{◌≡◌, ◌≢◌, ℕ, suc, ◌+◌, Bool, true, false, List, [], ◌∷◌, ◌++◌, Option, Some, None, refl}
+use Rattle.std.proofs.Common.{◌≡◌, ◌≢◌, ℕ, Bool, true, false, List, [], ◌∷◌, Option, Some, None, refl}
 use Rattle.std.proofs.Common.{ap, sym, subst, ◌∙◌, arith}
 use Rattle.std.specs.Prelude.{bytes_eq}
 use Rattle.std.proofs.lemmas.Slice.Eq.{bytes_eq-Decides}
 use Rattle.tx_outside.specs.Files.{Files, file_of, WithFile}
 use Rattle.tx_outside.specs.Known.{WhereKnown}
-use Rattle.tx_cmd.specs.declared.command.Command.{Command}
 use Rattle.tx_session.specs.declared.status.Status.{Status}
 use Rattle.tx_session.specs.declared.status.Status.TheVariants as statuses
 use Rattle.tx_session.specs.Differences.{HoldSameFiles}
 use Rattle.tx_open.specs.Outcomes.{Outcome, faulty_words, missing, too_long as file_too_long, no_tree, store_fault}
 use Rattle.tx_open.specs.Outcomes.{no_memory, opened, ComesTo}
-use Rattle.tx_session.specs.Replies.{Reading, nothing, too_long, unread, command, faulty, IsReply, IsReplyTo}
-use Rattle.tx_session.specs.Replies.{IsLineReply, IsRefusal}
+use Rattle.tx_session.specs.Replies.{Reading, nothing, too_long, unread, command, faulty, IsReplyTo}
+use Rattle.tx_session.specs.Replies.{IsLineReply}
 use Rattle.tx_session.specs.Runs.{IsFinal, IsPlayed, IsWhole, start_of}
 use Rattle.tx_session.specs.Scripts.{Answered, before_quit, command_line}
 use Rattle.tx_session.specs.States.{saved_by}
-use Rattle.tx_session.specs.Worlds.{World, Stored, Mark, plain, lacking, unsaved, Stores, unsaved_in}
+use Rattle.tx_session.specs.Worlds.{World, Stored, Mark, plain, lacking, unsaved, told, Stores}
+use Rattle.tx_session.specs.Worlds.{unsaved_in}
 use Rattle.tx_session.proofs.Answering.{OneView}
 use Rattle.tx_session.proofs.Determined.{one_reading, was_read, one_line_reply, decided, one_run as one_text_run}
 use Rattle.tx_session.proofs.Openings.{OneOutcome}
@@ -74,6 +74,14 @@ lacked_files v unread next reply h = ap files_of h.1
 lacked_files v (command c) next reply h = h.1.2.0
 lacked_files v (faulty f) next reply h = ap files_of h.0
 
+told_files : (n : ℕ) (v : World) (reading : Reading) (next : World) (reply : List ℕ)
+    → IsReplyTo v reading (told n) next reply → files_of next ≡ files_of v
+told_files n v nothing next reply h = ap files_of h.1
+told_files n v (too_long m) next reply h = absurd h
+told_files n v unread next reply h = ap files_of h.1
+told_files n v (command c) next reply h = ap (λ s. s.files) h.1.stored
+told_files n v (faulty f) next reply h = absurd h
+
 module _ (v w : World) (same : v.session ≡ w.session) (hold : HoldSameFiles (files_of v) (files_of w)) where
   plain_files : (reading : Reading) (s t : World) (a b : List ℕ) → IsReplyTo v reading plain s a
       → IsReplyTo w reading plain t b → HoldSameFiles (files_of s) (files_of t)
@@ -95,6 +103,9 @@ module _ (v w : World) (same : v.session ≡ w.session) (hold : HoldSameFiles (f
   line_files text lacking s t a b n h k =
       moved (files_of v) (files_of s) (files_of w) (files_of t) (lacked_files v h.0 s a h.2)
       (lacked_files w k.0 t b k.2) hold
+  line_files text (told m) s t a b n h k =
+      moved (files_of v) (files_of s) (files_of w) (files_of t) (told_files m v h.0 s a h.2)
+      (told_files m w k.0 t b k.2) hold
   line_files text plain s t a b n h k =
       plain_files h.0 s t a b h.2
       (subst (λ r. IsReplyTo w r plain t b)
@@ -104,6 +115,7 @@ saves : (m : Mark) (marks : List Mark) → unsaved_in (m ∷ marks) ≡ 0 → (m
 saves plain marks e = (λ f. cc, e)
 saves lacking marks e = (λ f. cc, e)
 saves unsaved marks e = absurd (omega (arith, e))
+saves (told n) marks e = (λ f. cc, e)
 
 pub answered_files : (law : OneView) (v w s t : World) (lines : List (List ℕ)) (marks : List Mark) (a b : List ℕ)
     → unsaved_in marks ≡ 0 → v.session ≡ w.session → HoldSameFiles (files_of v) (files_of w)

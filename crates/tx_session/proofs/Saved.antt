@@ -1,12 +1,12 @@
 -- The file of a tree.
-use Rattle.std.proofs.Common.{◌≡◌, ℕ, ◌+◌, ◌-◌, ◌^◌, ◌≤◌, ◌<◌, Bool, true, false, List, [], ◌∷◌, ◌++◌, length, Option}
-use Rattle.std.proofs.Common.{Some, None, refl, sym, ap, subst, ◌∙◌, length-append, arith}
-use Rattle.std.specs.Prelude.{if◌then◌else◌, nat_le, codes}
+use Rattle.std.proofs.Common.{◌≡◌, ℕ, ◌≤◌, ◌<◌, Bool, true, false, List, [], ◌∷◌, length}
+use Rattle.std.proofs.Common.{Some, None, refl, sym, ap, subst, ◌∙◌, arith}
+use Rattle.std.specs.Prelude.{if◌then◌else◌, nat_le}
 use Rattle.tx_outside.specs.declared.file_store.TheConstants.{MOST_FILE}
 use Rattle.tx_outside.specs.Files.{Files, file_of}
 use Rattle.tx_outside.proofs.Counting.{never_falls_refl}
 use Rattle.tx_tree.specs.Limits.{IsWellFormed, IsWithinLimits}
-use Rattle.tx_tree.specs.WideTree.{WideTree, size_of}
+use Rattle.tx_tree.specs.WideTree.{WideTree}
 use Rattle.tx_scm.proofs.Spelled.{line_alone as scheme_alone}
 use Rattle.tx_tm_write.proofs.Spelling.{line_alone as tm_alone}
 use Rattle.tx_doc.specs.declared.forms.Form.{Form}
@@ -14,7 +14,6 @@ use Rattle.tx_doc.specs.declared.forms.Form.TheVariants.{Tm, Scheme}
 use Rattle.tx_doc.specs.Forms.{form_of}
 use Rattle.tx_session.specs.declared.replies.Reply.{Reply}
 use Rattle.tx_session.specs.declared.replies.Reply.TheVariants.{Done, Fixed, Made, Wanting, Unsaved}
-use Rattle.tx_session.specs.Causes.{numbered}
 use Rattle.tx_session.specs.Forms.{Saving, no_form, file_long, writes, fitting, saving, has_text_in, text_in}
 use Rattle.tx_session.specs.Forms.{SpellsAloneIn}
 use Rattle.tx_print.specs.Lines.{line}

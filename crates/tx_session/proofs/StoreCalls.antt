@@ -1,5 +1,5 @@
 -- A store through several calls.
-use Rattle.std.proofs.Common.{◌≡◌, ℕ, List, Option, refl, ◌∙◌}
+use Rattle.std.proofs.Common.{ℕ, Option, refl, ◌∙◌}
 use Rattle.tx_outside.specs.Files.{Files}
 use Rattle.tx_outside.proofs.Counting.{never_falls_refl, never_falls_then}
 use Rattle.tx_session.specs.Storing.{GoesOn}

@@ -14,7 +14,7 @@ use Rattle.tx_cmd.specs.Commands.{IsCommand}
 use Rattle.tx_cmd.specs.Refusals.{IsCmdFault}
 use Rattle.tx_session.specs.declared.session.Next.{Next}
 use Rattle.tx_session.specs.declared.session.Next.TheVariants as nexts
-use Rattle.tx_session.specs.Worlds.{Seen, World, Mark, plain, lacking, unsaved}
+use Rattle.tx_session.specs.Worlds.{Seen, World, Mark, plain, lacking, unsaved, told}
 use Rattle.tx_session.specs.Replies.{nothing, too_long, unread, command, faulty, IsAsked, IsRefusal, IsReply}
 use Rattle.tx_session.specs.Replies.{IsLineReply, refusal, wanting_reply}
 use Rattle.tx_session.specs.Scripts.{command_line}
@@ -104,6 +104,7 @@ quit_done seen next it mark reply e r = done mark (subst (λ c. IsReply seen c m
         same_world next seen (same_seen next.session seen.session r.answer.0 r.width r.height r.fresh) r.stored
     done lacking r = let bad = r.0 in cc
     done unsaved r = let none = r.2 in absurd cc
+    done (told n) r = let bad = r.work in absurd cc
 
 -- the session's step did the command
 pub stepped_turned : (result : Result Next WriteFault) (seen next : World) (bytes : List ℕ) (it : Command)

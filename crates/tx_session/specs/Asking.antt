@@ -1,21 +1,28 @@
 -- What methods of a session answer. Only private clauses cite this.
-use Rattle.std.specs.Prelude.{◌≡◌, ◌≢◌, ◌&&◌, is_err, Bool, true, false, ℕ, List, Result, Ok, Err, IfOk, IfErr}
+use Rattle.std.specs.Prelude.{◌≡◌, ◌≢◌, ◌&&◌, is_err, Bool, true, false, if◌then◌else◌, ℕ, List, Result, Ok, Err}
+use Rattle.std.specs.Prelude.{IfOk, IfErr}
+use Rattle.std.specs.Option.{option_map_or}
 use Rattle.tx_tree.specs.Places.{IsPlace}
 use Rattle.tx_tree.specs.WideTree.{WideTree}
 use Rattle.tx_mod.specs.declared.faults.ModFault.{ModFault}
+use Rattle.tx_mod.specs.declared.mods.Mod.{Mod}
 use Rattle.tx_state.specs.States.{State}
 use Rattle.tx_edit.specs.declared.faults.EditFault.{EditFault}
 use Rattle.tx_edit.specs.declared.faults.EditFault.TheVariants.{Memory}
 use Rattle.tx_edit.specs.declared.moves.Move.{Move}
 use Rattle.tx_edit.specs.declared.moves.Move.TheVariants.{Edit, Go as GoTo}
+use Rattle.tx_view_form.specs.Views.{WideView}
+use Rattle.tx_view_form.specs.Positions.{position_in}
+use Rattle.tx_print.specs.Places.{no_cell}
 use Rattle.tx_cmd.specs.declared.command.Command.{Command}
 use Rattle.tx_cmd.specs.declared.command.Command.TheVariants.{Show, Page, Errors, PlaceOf, Attrs}
 use Rattle.tx_outside.specs.declared.faults.WriteFault.{WriteFault}
 use Rattle.tx_session.specs.declared.session.Next.{Next}
 use Rattle.tx_session.specs.declared.session.Next.TheVariants.{Go}
-use Rattle.tx_session.specs.States.{IsEditAnswer, IsKeyAnswer}
+use Rattle.tx_session.specs.States.{IsEditAnswer, IsKeyAnswer, IsClickAnswer}
+use Rattle.tx_session.specs.Keeps.{Whole, carried, key_mods}
 use Rattle.tx_session.specs.Replies.{key_fails, wanting_reply}
-use Rattle.tx_session.specs.Worlds.{Seen, Mark, plain, lacking, unsaved}
+use Rattle.tx_session.specs.Worlds.{Seen, Mark, plain, lacking, unsaved, told}
 
 -- the size of pages is that before, and the view is as fresh unless the buffers changed
 pub record IsKeptView (changed_not : Bool) (before after : Seen) : Type 0 where
@@ -33,6 +40,7 @@ IsChange outcome before plain after reply =
     IsEditAnswer before.state outcome after.state reply × IsKeptView (is_err outcome) before after
 IsChange outcome before lacking after reply = IsWanting before after reply
 IsChange outcome before unsaved after reply = ⊥
+IsChange outcome before (told n) after reply = ⊥
 
 -- so of a key
 abbrev pub IsKeyChange : Result Move EditFault → Seen → Mark → Seen → List ℕ → Type 0
@@ -40,6 +48,7 @@ IsKeyChange made before plain after reply =
     IsKeyAnswer before.state made after.state reply × IsKeptView (key_fails before.state made) before after
 IsKeyChange made before lacking after reply = IsWanting before after reply
 IsKeyChange made before unsaved after reply = ⊥
+IsKeyChange made before (told n) after reply = ⊥
 
 -- this is what a key makes, unless memory ran out
 abbrev pub Makes : Result Move EditFault → Result Move EditFault → Type 0
@@ -55,16 +64,45 @@ abbrev pub GoesIn : WideTree → Move → Type 0
 GoesIn t (GoTo to) = IsPlace t to.path to.offset
 GoesIn t (Edit mods to) = ⊥
 
+-- What is kept behind an edit of a buffer: it goes with the modifications, unless they are refused.
+abbrev pub IsEditKept : (refused : Bool) → ℕ × List Mod → Whole → Mark → Whole → Type 0
+IsEditKept refused edit before plain after =
+    after.keep ≡ (if refused then before.keep
+    else carried before.seen.state.buffers after.seen.state.buffers before.keep edit)
+IsEditKept refused edit before lacking after = after.keep ≡ before.keep
+IsEditKept refused edit before unsaved after = ⊥
+IsEditKept refused edit before (told n) after = ⊥
+
+-- so behind a key
+abbrev pub IsKeyKept : Result Move EditFault → Whole → Mark → Whole → Type 0
+IsKeyKept made before plain after =
+    after.keep ≡ (if key_fails before.seen.state made then before.keep
+    else option_map_or (carried before.seen.state.buffers after.seen.state.buffers before.keep) (key_mods made)
+    before.keep)
+IsKeyKept made before lacking after = after.keep ≡ before.keep
+IsKeyKept made before unsaved after = ⊥
+IsKeyKept made before (told n) after = ⊥
+
+-- the cursor went to the place behind a cell, or there is no such cell
+abbrev pub IsClicked : ℕ → WideView → ℕ → ℕ → State → Mark → State → List ℕ → Type 0
+IsClicked width v r c before plain after reply =
+    IsClickAnswer before (no_cell v width) (position_in v.units width r c) after reply
+IsClicked width v r c before lacking after reply = (after ≡ before) × (reply ≡ wanting_reply)
+IsClicked width v r c before unsaved after reply = ⊥
+IsClicked width v r c before (told n) after reply = ⊥
+
 -- the cursor went where a key leads it
 abbrev pub IsArrival : Result Move EditFault → State → Mark → State → List ℕ → Type 0
 IsArrival outcome before plain after reply = IsKeyAnswer before outcome after reply
 IsArrival outcome before lacking after reply = (after ≡ before) × (reply ≡ wanting_reply)
 IsArrival outcome before unsaved after reply = ⊥
+IsArrival outcome before (told n) after reply = ⊥
 
 abbrev pub is_plain : Mark → Bool
 is_plain plain = true
 is_plain lacking = false
 is_plain unsaved = false
+is_plain (told n) = false
 
 -- the command prints the view
 abbrev pub Prints : Command → Type 0

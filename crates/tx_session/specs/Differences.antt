@@ -1,5 +1,5 @@
 -- Stores that hold the same files, replies that no mark says, and statuses with which opening ends a run.
-use Rattle.std.specs.Prelude.{◌≡◌, ◌≢◌, ℕ, List, [], Option}
+use Rattle.std.specs.Prelude.{◌≡◌, ◌≢◌, ℕ, List, Option}
 use Rattle.tx_outside.specs.Files.{Files, file_of}
 use Rattle.tx_outside.specs.Known.{WhereKnown}
 use Rattle.tx_session.specs.declared.status.Status.{Status}

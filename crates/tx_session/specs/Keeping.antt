@@ -1,5 +1,5 @@
 -- The beginning of a line that is kept while the line is read. Only private clauses cite this.
-use Rattle.std.specs.Prelude.{◌≡◌, ◌+◌, ℕ, Bool, true, nat_eq, List, [], ◌∷◌, ◌++◌}
+use Rattle.std.specs.Prelude.{◌≡◌, ◌+◌, ℕ, true, nat_eq, List, [], ◌∷◌, ◌++◌}
 use Rattle.std.specs.Prelude.{length, take, Option, Result, Ok, Err, ◌≤◌, ◌≢◌}
 use Rattle.std.specs.List.{ends_with}
 use Rattle.std.specs.Io.KnownBytes.{append_known}
@@ -16,7 +16,7 @@ use Rattle.tx_session.specs.Worlds.{World, Mark}
 use Rattle.tx_session.specs.Scripts.{HasLines, Answered, command_line, is_quit}
 
 -- what is kept of a line of these bytes: enough to answer it
-pub record Keeps (line : KeptLine) (bytes : List ℕ) : Type 0 where
+pub record KeepsLine (line : KeptLine) (bytes : List ℕ) : Type 0 where
   pub front : line.front.items ≡ take (MOST_LINE + 1) bytes
   pub count : line.count ≡ length bytes
   pub returned : line.returned ≡ ends_with nat_eq bytes (13 ∷ [])
@@ -46,7 +46,7 @@ pub record StandsWith (start : World) (before : Option (List ℕ)) (bytes : List
     (after : Option (List ℕ)) : Type 0 where
   pub rest : List ℕ
   pub stands : Stands start before bytes rest seen after
-  pub kept : Keeps line rest
+  pub kept : KeepsLine line rest
 
 -- the lines that ended in the bytes were answered, and the last reply, to the line behind them, is written in part
 pub record IsCutAt (start : World) (before : Option (List ℕ)) (bytes : List ℕ) (next : World)

@@ -6,7 +6,7 @@ pub mod States
 pub mod Worlds
 pub mod Replies
 pub mod Differences
-pub mod Costs
+pub mod Keeps
 pub mod Scripts
 pub mod Sessions
 pub mod Asking

@@ -4,7 +4,7 @@ use Rattle.std.specs.Prelude.{Bool, Some, Result, Ok, Err, true, false, List, []
 use Rattle.tx_cmd.specs.declared.command.Command.{Command}
 use Rattle.tx_cmd.specs.declared.command.Command.TheVariants.{Change, Undo, Redo, At, Click, Left, Right, Typed}
 use Rattle.tx_cmd.specs.declared.command.Command.TheVariants.{Backspace, Enter, Show, Page, Errors, PlaceOf, Cursor}
-use Rattle.tx_cmd.specs.declared.command.Command.TheVariants.{Attrs, Quit}
+use Rattle.tx_cmd.specs.declared.command.Command.TheVariants.{Attrs, Work, Quit}
 use Rattle.tx_cmd.specs.declared.command.CmdFault.{CmdFault}
 use Rattle.tx_cmd.specs.declared.command.CmdFault.TheVariants.{Long, Unknown, Args, Path, Tree as BadTree, Memory}
 use Rattle.tx_edit.specs.declared.faults.EditFault.{EditFault}
@@ -15,12 +15,13 @@ use Rattle.tx_cmd.specs.Words.{first_word, TakesMemory}
 use Rattle.tx_cmd.specs.Commands.{IsCommand}
 use Rattle.tx_cmd.specs.Refusals.{IsCmdFault}
 use Rattle.tx_print.specs.Lines.{line}
+use Rattle.tx_print.specs.Work.{work_reply}
 use Rattle.tx_state.specs.States.{State}
 use Rattle.tx_state.specs.Edits.{edited, undone, redone}
 use Rattle.tx_session.specs.FaultTexts.{fault_text}
 use Rattle.tx_session.specs.States.{IsAnswer, selected_edit, key_edit, by_typing, by_backspace, by_enter}
 use Rattle.tx_session.specs.States.{saved_by, unknown_reply}
-use Rattle.tx_session.specs.Worlds.{Seen, World, Mark, plain, lacking, unsaved, Stores, KeepsFiles, FailsToStore}
+use Rattle.tx_session.specs.Worlds.{Seen, World, Mark, plain, lacking, unsaved, told, Stores, KeepsFiles, FailsToStore}
 
 -- the reply where memory ran out
 abbrev pub wanting_reply : List ℕ
@@ -40,6 +41,7 @@ asks_view (Attrs r) = true
 asks_view (Click r c) = true
 asks_view Left = true
 asks_view Right = true
+asks_view Work = true
 asks_view _ = false
 
 -- the command takes memory of its own, beside what making the view takes
@@ -49,6 +51,7 @@ takes_memory (Page n) = false
 takes_memory Errors = false
 takes_memory (PlaceOf r c) = false
 takes_memory (Attrs r) = false
+takes_memory Work = false
 takes_memory (At name) = false
 takes_memory Cursor = false
 takes_memory Quit = false
@@ -87,6 +90,13 @@ pub record IsDone (before : World) (command : Command) (after : World) (reply : 
   pub height : after.session.height ≡ before.session.height
   pub stored : Stores (saved_by before.session.state command) before.store after.store
 
+-- the command is `work`, and tells the number; the view is fresh afterwards
+pub record IsTold (before : World) (command : Command) (n : ℕ) (after : World) (reply : List ℕ) : Type 0 where
+  pub work : command ≡ Work
+  pub session : after.session ≡ record before.session { fresh = true }
+  pub stored : after.store ≡ before.store
+  pub said : reply ≡ work_reply n
+
 -- the store failed where the command saves a file
 abbrev pub IsUnsaved : World → Command → World → List ℕ → Type 0
 IsUnsaved before command after reply =
@@ -99,6 +109,7 @@ IsReply before command plain after reply = IsDone before command after reply
 IsReply before command lacking after reply = MayLack before.session command × (after.session ≡ before.session)
     × KeepsFiles before.store after.store × (reply ≡ wanting_reply)
 IsReply before command unsaved after reply = IsUnsaved before command after reply
+IsReply before command (told n) after reply = IsTold before command n after reply
 
 -- the reply to a line that is no command
 abbrev pub refusal : CmdFault → List ℕ
@@ -134,6 +145,7 @@ abbrev pub IsRefusal : World → (text : List ℕ) → Mark → World → List �
 IsRefusal before text plain after reply = (after ≡ before) × (reply ≡ text)
 IsRefusal before text lacking after reply = (after ≡ before) × (reply ≡ wanting_reply)
 IsRefusal before text unsaved after reply = ⊥
+IsRefusal before text (told n) after reply = ⊥
 
 -- the reply to a line that was read, unless it is `quit`
 abbrev pub IsReplyTo : World → Reading → Mark → World → List ℕ → Type 0

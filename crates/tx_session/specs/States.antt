@@ -20,7 +20,7 @@ use Rattle.tx_edit.specs.declared.moves.Move.TheVariants.{Edit as KeyEdit, Go as
 use Rattle.tx_edit.specs.Keys.{typed, erased, entered}
 use Rattle.tx_edit.specs.Stops.{to_left, to_right}
 use Rattle.tx_origin.specs.RelativePlaces.{BasedPlace}
-use Rattle.tx_view_form.specs.Views.{WideView, IsView, lines_of}
+use Rattle.tx_view_form.specs.Views.{WideView, IsView}
 use Rattle.tx_view_form.specs.Positions.{position_in, whole_path}
 use Rattle.tx_view_form.specs.Stops.{stops_of}
 use Rattle.tx_print.specs.Pages.{show_text, page_reply}
@@ -30,7 +30,7 @@ use Rattle.tx_print.specs.Runs.{attrs_reply}
 use Rattle.tx_cmd.specs.declared.command.Command.{Command}
 use Rattle.tx_cmd.specs.declared.command.Command.TheVariants.{Change, Undo, Redo, At, Go, Click, Left, Right, Typed}
 use Rattle.tx_cmd.specs.declared.command.Command.TheVariants.{Backspace, Enter, Show, Page, Errors, PlaceOf, Cursor}
-use Rattle.tx_cmd.specs.declared.command.Command.TheVariants.{Attrs, Tree, Save, Quit}
+use Rattle.tx_cmd.specs.declared.command.Command.TheVariants.{Attrs, Tree, Save, Work, Quit}
 use Rattle.tx_print.specs.Lines.{line}
 use Rattle.tx_session.specs.Causes.{numbered, cause_reply, astray_reply, key_reply}
 use Rattle.tx_session.specs.Forms.{Saving, no_form, file_long, writes, saving}
@@ -153,5 +153,7 @@ IsAnswer width height state Cursor next reply =
 IsAnswer width height state Tree next reply = (next ≡ state) × (reply ≡ line (scheme_text (selected_tree state)))
 IsAnswer width height state (Save name) next reply =
     (next ≡ state) × (reply ≡ save_reply (saving (form_of name) (selected_tree state)))
+-- its reply is that of a number that is told
+IsAnswer width height state Work next reply = ⊥
 IsAnswer width height state Quit next reply = (next ≡ state) × (reply ≡ [])
 IsAnswer width height state command next reply = IsViewAnswer width height state command next reply

@@ -1,5 +1,5 @@
 -- What holds of a store through any calls.
-use Rattle.std.specs.Prelude.{◌≡◌, ℕ, List, Option}
+use Rattle.std.specs.Prelude.{ℕ, Option}
 use Rattle.tx_outside.specs.Counts.{NeverFalls}
 use Rattle.tx_outside.specs.Files.{Files}
 use Rattle.tx_outside.specs.Known.{StaysKnown}

@@ -29,11 +29,13 @@ pub record World : Type 0 where
 abbrev pub world : Seen → Option Files → ℕ → World
 world session files faults = record { session = session; store = stored files faults }
 
--- what the reply to a line owes to the machine outside: nothing, or that memory ran out, or that the store failed
+-- What the reply to a line owes to the machine outside: nothing, or that memory ran out, or that the store failed. At
+-- `work` it owes the number, which nothing but what the view keeps decides.
 pub data Mark : Type 0 where
   plain : Mark
   lacking : Mark
   unsaved : Mark
+  told : (n : ℕ) → Mark
 
 -- the store did nothing, or keeps this file
 abbrev pub Stores : Option (List ℕ × List ℕ) → Stored → Stored → Type 0
@@ -56,6 +58,7 @@ unsaved_in [] = 0
 unsaved_in (unsaved ∷ marks) = 1 + unsaved_in marks
 unsaved_in (plain ∷ marks) = unsaved_in marks
 unsaved_in (lacking ∷ marks) = unsaved_in marks
+unsaved_in (told n ∷ marks) = unsaved_in marks
 
 -- a count rose by at least n, or stands at its last value
 abbrev pub RoseBy : ℕ → ℕ → ℕ → Type 0

@@ -1,6 +1,6 @@
 // The line that is being read.
 ghost use Rattle.std.specs.Prelude.{◌≡◌, ◌<◌, ◌≤◌, ◌+◌, ◌∷◌, ◌++◌, ℕ, List, [], length, IfOk, IfErr, MatchResult};
-ghost use Rattle.tx_session.specs.Keeping.{Keeps};
+ghost use Rattle.tx_session.specs.Keeping.{KeepsLine};
 ghost use Rattle.tx_session.specs.Scripts.{command_line};
 ghost use Rattle.tx_cmd.specs.declared.TheConstants.{MOST_LINE};
 
@@ -21,7 +21,7 @@ pub(crate) struct KeptLine {
 impl KeptLine {
     /// A line without bytes.
     pub(crate) fn new(alloc: Global) -> KeptLine
-        ensures { Keeps result [] }
+        ensures { KeepsLine result [] }
     {
         KeptLine {
             front: Vec::new(alloc),
@@ -32,7 +32,7 @@ impl KeptLine {
 
     /// Begins a new line.
     pub(crate) fn clear(&mut self)
-        ensures { Keeps self.new [] }
+        ensures { KeepsLine self.new [] }
     {
         self.front.clear();
         self.count = 0;
@@ -43,9 +43,9 @@ impl KeptLine {
     pub(crate) fn add(&mut self, byte: u8) -> Result<(), Memory>
         requires room { self.old.count < MOST_SCRIPT }
         ensures kept { IfOk result (λ _.
-            (bytes : List ℕ) → Keeps self.old bytes → Keeps self.new (bytes ++ byte ∷ [])) }
+            (bytes : List ℕ) → KeepsLine self.old bytes → KeepsLine self.new (bytes ++ byte ∷ [])) }
         ensures count { self.new.count ≤ self.old.count + 1 }
-        ensures short { IfErr result (λ _. (bytes : List ℕ) → Keeps self.old bytes → length bytes ≤ MOST_LINE) }
+        ensures short { IfErr result (λ _. (bytes : List ℕ) → KeepsLine self.old bytes → length bytes ≤ MOST_LINE) }
     {
         self.count += 1;
         self.returned = byte == b'\r';
@@ -58,8 +58,8 @@ impl KeptLine {
 
     // How many bytes the line has without the return at its end.
     fn text_count(&self) -> usize
-        requires kept { (bytes : List ℕ) × Keeps self.now bytes }
-        ensures { (bytes : List ℕ) → Keeps self.now bytes → result ≡ length (command_line bytes) }
+        requires kept { (bytes : List ℕ) × KeepsLine self.now bytes }
+        ensures { (bytes : List ℕ) → KeepsLine self.now bytes → result ≡ length (command_line bytes) }
     {
         if self.returned {
             return self.count - 1;
@@ -69,8 +69,8 @@ impl KeptLine {
 
     /// The line without the return at its end, or how many bytes it then has where they are too many for a command.
     pub(crate) fn text(&self) -> Result<&[u8], usize>
-        requires kept { (bytes : List ℕ) × Keeps self.now bytes }
-        ensures text { (bytes : List ℕ) → Keeps self.now bytes → MatchResult result
+        requires kept { (bytes : List ℕ) × KeepsLine self.now bytes }
+        ensures text { (bytes : List ℕ) → KeepsLine self.now bytes → MatchResult result
             (λ text. text.now ≡ command_line bytes)
             (λ count. (count ≡ length (command_line bytes)) × (MOST_LINE < count)) }
         ensures short { IfOk result (λ text. length text.now ≤ MOST_LINE) }

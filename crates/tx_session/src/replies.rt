@@ -7,6 +7,7 @@ ghost use Rattle.tx_session.specs.Asking.{is_plain};
 ghost use Rattle.tx_session.specs.Causes.{cause_reply, astray_reply, key_reply, numbered};
 ghost use Rattle.tx_session.specs.FaultTexts.{fault_text};
 ghost use Rattle.tx_print.specs.Lines.{line};
+ghost use Rattle.tx_print.specs.Work.{work_reply};
 ghost use Rattle.tx_session.specs.Differences.{IsPlainReply};
 ghost use Rattle.tx_session.specs.Replies.{IsDone, refusal};
 ghost use Rattle.tx_session.specs.Saying.{Says, mark_of, text_of};
@@ -165,10 +166,11 @@ pub(crate) fn say<O: Sink>(out: &mut O, reply: &[u8]) -> Result<Next, WriteFault
     Ok(Next::Go)
 }
 
-/// A law: what is said of a command that was done, and of a line that is no command, is never the line where memory ran
-/// out or the one where the store failed.
+/// A law: what is said of a command that was done, of the steps of a refresh, and of a line that is no command, is
+/// never the line where memory ran out or the one where the store failed.
 pub fn replies_tell_marks()
     ensures done { (before after : World) (it : Command) (reply : List ℕ) → IsDone before it after reply
         → IsPlainReply reply }
+    ensures told { (n : ℕ) → IsPlainReply (work_reply n) }
     ensures refused { (cause : CmdFault) → cause ≢ CmdFault.Memory → IsPlainReply (refusal cause) }
 {}

@@ -84,8 +84,7 @@ fn session_of<L: Ledger>(
     requires height { (5 ≤ all.height) × (all.height ≤ 500) }
     requires number { (1 ≤ length all.buffers) × (length all.buffers ≤ 16) }
     requires names { NamesDiffer all.buffers }
-    ensures session { IfOk result (λ session. session ≡ start_of all) }
-    ensures no_steps { steps.new ≡ steps.old }
+    ensures session { IfOk result (λ session. session.seen ≡ start_of all) }
 {
     Session::start(alloc, all.buffers.into_vec(), all.width, all.height, steps)
 }
@@ -100,8 +99,8 @@ fn serve<S: Store, I: Source, O: Sink, L: Ledger>(
     steps: &mut Steps<L>,
 ) -> Status
     ensures ended { IsServed (Rose (I.faults input.old) (I.faults input.new)) result
-        (world session.old (S.files store.old) (S.faults store.old))
-        (world session.new (S.files store.new) (S.faults store.new)) (I.left input.old) (I.left input.new)
+        (world session.old.seen (S.files store.old) (S.faults store.old))
+        (world session.new.seen (S.files store.new) (S.faults store.new)) (I.left input.old) (I.left input.new)
         (O.written out.old) (O.written out.new) }
     ensures input_fault_counted { result ≡ Status.InputFault → Rose (I.faults input.old) (I.faults input.new) }
     ensures output_fault_counted { result ≡ Status.OutputFault → Rose (O.faults out.old) (O.faults out.new) }
@@ -195,9 +194,9 @@ pub fn run<S: Store, I: Source, O: Sink, L: Ledger>(
     }
 }
 
-/// A law: words, files, a script and marks, which say at which lines memory ran out or the store failed, come to one
-/// status and one text, where no device failed otherwise and memory sufficed otherwise. Where the store never failed,
-/// they leave the same files.
+/// A law: words, files, a script and marks, which say at which lines memory ran out or the store failed and which
+/// numbers `work` told, come to one status and one text, where no device failed otherwise and memory sufficed
+/// otherwise. Where the store never failed, they leave the same files.
 pub fn one_run()
     ensures { (words : List (List ℕ)) (all : Files) (script : List ℕ) (marks : List Mark) (o p : Outcome)
         (v w x y : Stored) (r q : Option (List ℕ)) (s t : Status) (a b : List ℕ)

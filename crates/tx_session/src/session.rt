@@ -1,24 +1,28 @@
 // A session over a document and its styles.
 ghost use Rattle.std.specs.Prelude.{◌≡◌, ◌≢◌, ◌≤◌, ◌<◌, ◌+◌, ◌↔◌, ℕ, List, [], ◌∷◌, ◌++◌, Bool, true, All};
-ghost use Rattle.std.specs.Prelude.{false, length, IfOk, IfErr, OnOk, OnErr, Ok, Some, None, Result};
+ghost use Rattle.std.specs.Prelude.{false, length, is_err, IfOk, IfErr, OnOk, OnErr, Ok, Some, None, Result};
 ghost use Rattle.tx_outside.specs.Counts.{NeverFalls, Rose};
 ghost use Rattle.tx_outside.specs.Known.{StaysKnown};
 ghost use Rattle.tx_scm.specs.Canonical.{scheme_text};
 ghost use Rattle.tx_print.specs.Lines.{line};
 ghost use Rattle.tx_tree.specs.Places.{IsPlace};
-ghost use Rattle.tx_doc.specs.Buffers.{document_of, NamesDiffer, AreFormed};
+ghost use Rattle.tx_mod.specs.InTurn.{changed_in_turn, cost_of};
+ghost use Rattle.tx_doc.specs.Buffers.{document_of, tree_of, with_tree, NamesDiffer, AreFormed};
 ghost use Rattle.tx_state.specs.States.{opening};
-ghost use Rattle.tx_state.specs.Ready.{cost_both_ways, first_cost};
 ghost use Rattle.tx_state.specs.Edits.{edited};
 ghost use Rattle.tx_edit.specs.declared.faults.EditFault.{EditFault as KeyFault};
 ghost use Rattle.tx_edit.specs.declared.moves.Move.{Move as KeyMove};
 ghost use Rattle.tx_edit.specs.Stops.{to_left, to_right};
 ghost use Rattle.tx_view_form.specs.Views.{IsView};
 ghost use Rattle.tx_view_form.specs.Stops.{stops_of};
-ghost use Rattle.tx_session.specs.Asking.{IsChange, IsKeyChange, IsArrival, IsEdit, GoesIn, Makes, Prints, going};
+ghost use Rattle.tx_units.specs.Units.{made};
+ghost use Rattle.tx_view.specs.Names.{Empty, Holds};
+ghost use Rattle.tx_session.specs.Asking.{IsChange, IsKeyChange, IsArrival, IsClicked, IsEdit, GoesIn, Makes, Prints};
+ghost use Rattle.tx_session.specs.Asking.{going, IsEditKept, IsKeyKept};
+ghost use Rattle.tx_session.specs.Sessions.{view_with};
 ghost use Rattle.tx_session.specs.States.{selected_edit, selected_tree, saved_by, by_typing, by_backspace, by_enter};
 ghost use Rattle.tx_session.specs.Replies.{IsReply, unsaved_reply, asks_view};
-ghost use Rattle.tx_session.specs.Costs.{most_steps, key_cost};
+ghost use Rattle.tx_session.specs.Keeps.{Keeps, Takes, edit_cost, key_cost, most_steps};
 ghost use Rattle.tx_session.specs.Worlds.{Mark, Stored, plain, world};
 ghost use Rattle.tx_session.specs.Storing.{GoesOn};
 ghost use Rattle.tx_session.specs.Saying.{mark_of, text_of};
@@ -37,8 +41,8 @@ use tx_doc::{Buffer, Name};
 use tx_edit::{EditFault, Move, backspace, enter, left, right, type_text};
 use tx_mod::{ApplyFault, Mod, ModList};
 use tx_outside::{Sink, Store, WriteFault};
-use tx_print::print_cursor;
-use tx_state::{Edit, EditorState, GoFault, NoBuffer, UndoFault};
+use tx_print::{print_cursor, print_work};
+use tx_state::{Edit, EditorState, GoFault, NoBuffer, Prepared, UndoFault};
 use tx_tree::{Path, Place, Text, Tree};
 use tx_view::View;
 use tx_view_form::place_law;
@@ -55,7 +59,7 @@ pub enum Next {
 /// A session over a document and its styles, on pages of one size.
 ///
 /// Contracts see its state, the size of its pages, and whether a command that asks the view was done since a buffer
-/// last changed (`specs/Worlds.antt`).
+/// last changed (`specs/Worlds.antt`), and besides what it keeps of its view (`specs/Keeps.antt`).
 #[derive(Drop)]
 pub struct Session {
     state: EditorState,
@@ -66,15 +70,15 @@ pub struct Session {
 }
 
 impl Model for Session {
-    ghost use Rattle.tx_session.specs.Worlds.{Seen};
+    ghost use Rattle.tx_session.specs.Keeps.{Whole};
 
-    ghost Value = { Seen };
+    ghost Value = { Whole };
 
-    ghost use Rattle.tx_session.specs.Sessions.{seen_code, seen_of, IsSession};
+    ghost use Rattle.tx_session.specs.Sessions.{whole_code, whole_of, IsSession};
 
-    ghost coded = { seen_code };
+    ghost coded = { whole_code };
 
-    ghost view = { seen_of };
+    ghost view = { whole_of };
 
     ghost invariant = { IsSession };
 }
@@ -92,6 +96,25 @@ fn selected_edit(alloc: Global, state: &EditorState, m: &Mod) -> Result<Edit, Me
         mods: ModList::from(mods),
         cursor: None,
     })
+}
+
+// Tells the view of a change that stands ready.
+fn tell<L: Ledger>(
+    alloc: Global,
+    view: &mut View,
+    prepared: &Prepared,
+    steps: &mut Steps<L>,
+) -> Result<(), Memory>
+    requires within { prepared.now.buffer < length view.old.buffers }
+    requires changed { changed_in_turn prepared.now.mods (tree_of view.old.buffers prepared.now.buffer)
+        ≡ Ok prepared.now.tree }
+    ensures ok { OnOk result (view.new ≡ view_with view.old prepared.now) }
+    ensures err { OnErr result (view.new ≡ view.old) }
+    ensures counted { steps.new ≤ steps.old + (cost_of prepared.now.mods
+        + made (with_tree view.old.buffers prepared.now.buffer prepared.now.tree)) }
+{
+    let mods = prepared.mods.as_slice();
+    view.edited(alloc, prepared.buffer, mods, &prepared.tree, steps)
 }
 
 // The session goes on behind what was printed.
@@ -117,6 +140,24 @@ fn arrive(state: &mut EditorState, made: Result<Move, EditFault>) -> Reply
         }
         Ok(Move::Edit(_, _)) => unreachable!(),
         Err(fault) => idle(fault),
+    }
+}
+
+// Puts the cursor at the place behind a cell, unless there is no such cell.
+fn go_to_cell(alloc: Global, state: &mut EditorState, view: &View, r: u32, c: u32) -> Reply
+    requires { IsView state.old.buffers view.now.width view.now.height view.now.shown }
+    ensures { IsClicked view.now.width view.now.shown r c state.old (mark_of result) state.new (text_of result) }
+{
+    place_law(state.buffers());
+    match view.position(r, c) {
+        Some(spot) => match spot.place(alloc) {
+            Ok(at) => {
+                state.move_to(at);
+                Reply::Done
+            }
+            Err(Memory) => Reply::Wanting,
+        },
+        None => no_cell(alloc, view.rows(), view.width()),
     }
 }
 
@@ -156,13 +197,14 @@ fn go_right(alloc: Global, state: &mut EditorState, view: &View) -> Reply
 
 impl Session {
     /// A session over these buffers, the document first, on pages of this width, 20 to 500 cells, and this height, 5 to
-    /// 500 lines. There are 1 to 16 buffers, no two of one name. The one error is want of memory.
+    /// 500 lines. There are 1 to 16 buffers, no two of one name. The steps rise by at most the nodes that are made for
+    /// units. The one error is want of memory.
     pub fn start<L: Ledger>(
         alloc: Global,
         buffers: Vec<Buffer>,
         width: u32,
         height: u32,
-        _steps: &mut Steps<L>,
+        steps: &mut Steps<L>,
     ) -> Result<Session, Memory>
         requires some { 1 ≤ length buffers.items }
         requires few { length buffers.items ≤ 16 }
@@ -172,16 +214,20 @@ impl Session {
         requires least_height { 5 ≤ height }
         requires most_height { height ≤ 500 }
         ensures session { IfOk result (λ s.
-            s ≡ record { state = opening buffers.items; width = width; height = height; fresh = false }) }
+            s.seen ≡ record { state = opening buffers.items; width = width; height = height; fresh = false }) }
+        ensures keep { IfOk result (λ s.
+            s.keep ≡ record { fresh = false; stores = Empty buffers.items; work = 0 }) }
         ensures cursor { IfOk result (λ s.
-            IsPlace (document_of s.state.buffers) s.state.cursor.path s.state.cursor.offset) }
-        ensures names { IfOk result (λ s. NamesDiffer s.state.buffers) }
-        ensures formed { IfOk result (λ s. AreFormed s.state.buffers) }
-        ensures no_steps { _steps.new ≡ _steps.old }
+            IsPlace (document_of s.seen.state.buffers) s.seen.state.cursor.path s.seen.state.cursor.offset) }
+        ensures names { IfOk result (λ s. NamesDiffer s.seen.state.buffers) }
+        ensures formed { IfOk result (λ s. AreFormed s.seen.state.buffers) }
+        ensures holds { IfOk result (λ s. Holds s.seen.state.buffers s.keep.stores) }
+        ensures counted { steps.new ≤ steps.old + made buffers.items }
     {
         let state = EditorState::open(alloc, buffers)?;
         let _cursor = state.cursor();
-        let view = View::new(alloc, state.buffers(), width, height)?;
+        let view = View::new(alloc, state.buffers(), width, height, steps)?;
+        let _fresh = view.fresh();
         Ok(Session {
             state,
             view,
@@ -191,14 +237,14 @@ impl Session {
 
     // The tree of the selected buffer.
     fn selected(&self) -> &Tree
-        ensures { result.now ≡ selected_tree self.now.state }
+        ensures { result.now ≡ selected_tree self.now.seen.state }
     {
         &self.state.buffers()[self.state.selected()].tree
     }
 
     // The reply to `tree`.
     fn tree_text(&self, alloc: Global) -> Result<Vec<u8>, Memory>
-        ensures { IfOk result (λ text. text.items ≡ line (scheme_text (selected_tree self.now.state))) }
+        ensures { IfOk result (λ text. text.items ≡ line (scheme_text (selected_tree self.now.seen.state))) }
     {
         let mut text = Vec::new(alloc);
         tx_scm::write(self.selected(), &mut text)?;
@@ -208,8 +254,8 @@ impl Session {
 
     // Prints the selected buffer's tree.
     fn tree(&self, alloc: Global) -> Reply
-        ensures { (store : Stored) → IsReply (record { session = self.now; store = store }) Command.Tree
-            (mark_of result) (record { session = self.now; store = store }) (text_of result) }
+        ensures { (store : Stored) → IsReply (record { session = self.now.seen; store = store }) Command.Tree
+            (mark_of result) (record { session = self.now.seen; store = store }) (text_of result) }
     {
         match self.tree_text(alloc) {
             Ok(text) => Reply::Made(text),
@@ -219,14 +265,17 @@ impl Session {
 
     // Puts an edit in place, unless it is refused.
     fn edit<L: Ledger>(&mut self, alloc: Global, edit: Edit, steps: &mut Steps<L>) -> Reply
-        requires buffer { edit.buffer < length self.old.state.buffers }
+        requires buffer { edit.buffer < length self.old.seen.state.buffers }
         requires moving { edit.cursor ≡ None }
-        ensures changed { IsChange (edited edit self.old.state) self.old (mark_of result) self.new (text_of result) }
-        ensures counted { steps.new ≤ steps.old + cost_both_ways edit.mods }
+        ensures changed { IsChange (edited edit self.old.seen.state) self.old.seen (mark_of result) self.new.seen
+            (text_of result) }
+        ensures keeps { IsEditKept (is_err (edited edit self.old.seen.state)) (edit.buffer, edit.mods) self.old
+            (mark_of result) self.new }
+        ensures counted { steps.new ≤ steps.old + edit_cost edit.mods (edited edit self.old.seen.state) }
     {
         match self.state.prepare_edit(alloc, edit, steps) {
             Ok(prepared) => {
-                if let Err(Memory) = self.view.edited(prepared.buffer, &prepared.tree) {
+                if let Err(Memory) = tell(alloc, &mut self.view, &prepared, steps) {
                     return Reply::Wanting;
                 }
                 self.asked = false;
@@ -240,9 +289,11 @@ impl Session {
 
     // Changes the selected buffer.
     fn change<L: Ledger>(&mut self, alloc: Global, m: &Mod, steps: &mut Steps<L>) -> Reply
-        ensures replied { (store : Stored) → IsReply (record { session = self.old; store = store })
-            (Command.Change m.now) (mark_of result) (record { session = self.new; store = store }) (text_of result) }
-        ensures counted { steps.new ≤ steps.old + cost_both_ways (m.now ∷ []) }
+        ensures replied { (store : Stored) → IsReply (record { session = self.old.seen; store = store })
+            (Command.Change m.now) (mark_of result) (record { session = self.new.seen; store = store })
+            (text_of result) }
+        ensures keeps { Keeps self.old (Command.Change m.now) (mark_of result) self.new }
+        ensures takes { Takes self.old (Command.Change m.now) (mark_of result) steps.old steps.new }
     {
         match selected_edit(alloc, &self.state, m) {
             Ok(edit) => self.edit(alloc, edit, steps),
@@ -259,9 +310,11 @@ impl Session {
     ) -> Reply
         requires { IfOk made IsEdit }
         ensures changed { (outcome : Result KeyMove KeyFault) → Makes made outcome
-            → IsKeyChange outcome self.old (mark_of result) self.new (text_of result) }
+            → IsKeyChange outcome self.old.seen (mark_of result) self.new.seen (text_of result) }
+        ensures keeps { (outcome : Result KeyMove KeyFault) → Makes made outcome
+            → IsKeyKept outcome self.old (mark_of result) self.new }
         ensures counted { (outcome : Result KeyMove KeyFault) → Makes made outcome
-            → steps.new ≤ steps.old + key_cost outcome }
+            → steps.new ≤ steps.old + key_cost self.old.seen.state outcome }
     {
         let _buffers = self.state.buffers();
         match made {
@@ -280,9 +333,11 @@ impl Session {
 
     // Types a text.
     fn typed<L: Ledger>(&mut self, alloc: Global, text: &Text, steps: &mut Steps<L>) -> Reply
-        ensures replied { (store : Stored) → IsReply (record { session = self.old; store = store })
-            (Command.Typed text.now) (mark_of result) (record { session = self.new; store = store }) (text_of result) }
-        ensures counted { steps.new ≤ steps.old + key_cost (by_typing self.old.state text.now) }
+        ensures replied { (store : Stored) → IsReply (record { session = self.old.seen; store = store })
+            (Command.Typed text.now) (mark_of result) (record { session = self.new.seen; store = store })
+            (text_of result) }
+        ensures keeps { Keeps self.old (Command.Typed text.now) (mark_of result) self.new }
+        ensures takes { Takes self.old (Command.Typed text.now) (mark_of result) steps.old steps.new }
     {
         let made = type_text(alloc, self.state.document(), self.state.cursor(), text);
         self.keyed(alloc, made, steps)
@@ -290,9 +345,10 @@ impl Session {
 
     // Takes back what stands before the cursor.
     fn backspace<L: Ledger>(&mut self, alloc: Global, steps: &mut Steps<L>) -> Reply
-        ensures replied { (store : Stored) → IsReply (record { session = self.old; store = store })
-            Command.Backspace (mark_of result) (record { session = self.new; store = store }) (text_of result) }
-        ensures counted { steps.new ≤ steps.old + key_cost (by_backspace self.old.state) }
+        ensures replied { (store : Stored) → IsReply (record { session = self.old.seen; store = store })
+            Command.Backspace (mark_of result) (record { session = self.new.seen; store = store }) (text_of result) }
+        ensures keeps { Keeps self.old Command.Backspace (mark_of result) self.new }
+        ensures takes { Takes self.old Command.Backspace (mark_of result) steps.old steps.new }
     {
         let made = backspace(alloc, self.state.document(), self.state.cursor());
         self.keyed(alloc, made, steps)
@@ -300,9 +356,10 @@ impl Session {
 
     // Begins a paragraph at the cursor.
     fn enter<L: Ledger>(&mut self, alloc: Global, steps: &mut Steps<L>) -> Reply
-        ensures replied { (store : Stored) → IsReply (record { session = self.old; store = store })
-            Command.Enter (mark_of result) (record { session = self.new; store = store }) (text_of result) }
-        ensures counted { steps.new ≤ steps.old + key_cost (by_enter self.old.state) }
+        ensures replied { (store : Stored) → IsReply (record { session = self.old.seen; store = store })
+            Command.Enter (mark_of result) (record { session = self.new.seen; store = store }) (text_of result) }
+        ensures keeps { Keeps self.old Command.Enter (mark_of result) self.new }
+        ensures takes { Takes self.old Command.Enter (mark_of result) steps.old steps.new }
     {
         let made = enter(alloc, self.state.document(), self.state.cursor());
         self.keyed(alloc, made, steps)
@@ -310,13 +367,14 @@ impl Session {
 
     // Takes the last edit back.
     fn undo<L: Ledger>(&mut self, alloc: Global, steps: &mut Steps<L>) -> Reply
-        ensures replied { (store : Stored) → IsReply (record { session = self.old; store = store })
-            Command.Undo (mark_of result) (record { session = self.new; store = store }) (text_of result) }
-        ensures counted { steps.new ≤ steps.old + first_cost self.old.state.past }
+        ensures replied { (store : Stored) → IsReply (record { session = self.old.seen; store = store })
+            Command.Undo (mark_of result) (record { session = self.new.seen; store = store }) (text_of result) }
+        ensures keeps { Keeps self.old Command.Undo (mark_of result) self.new }
+        ensures takes { Takes self.old Command.Undo (mark_of result) steps.old steps.new }
     {
         match self.state.prepare_undo(alloc, steps) {
             Ok(prepared) => {
-                if let Err(Memory) = self.view.edited(prepared.buffer, &prepared.tree) {
+                if let Err(Memory) = tell(alloc, &mut self.view, &prepared, steps) {
                     return Reply::Wanting;
                 }
                 self.asked = false;
@@ -330,13 +388,14 @@ impl Session {
 
     // Makes the edit again that was taken back last.
     fn redo<L: Ledger>(&mut self, alloc: Global, steps: &mut Steps<L>) -> Reply
-        ensures replied { (store : Stored) → IsReply (record { session = self.old; store = store })
-            Command.Redo (mark_of result) (record { session = self.new; store = store }) (text_of result) }
-        ensures counted { steps.new ≤ steps.old + first_cost self.old.state.future }
+        ensures replied { (store : Stored) → IsReply (record { session = self.old.seen; store = store })
+            Command.Redo (mark_of result) (record { session = self.new.seen; store = store }) (text_of result) }
+        ensures keeps { Keeps self.old Command.Redo (mark_of result) self.new }
+        ensures takes { Takes self.old Command.Redo (mark_of result) steps.old steps.new }
     {
         match self.state.prepare_redo(alloc, steps) {
             Ok(prepared) => {
-                if let Err(Memory) = self.view.edited(prepared.buffer, &prepared.tree) {
+                if let Err(Memory) = tell(alloc, &mut self.view, &prepared, steps) {
                     return Reply::Wanting;
                 }
                 self.asked = false;
@@ -350,8 +409,10 @@ impl Session {
 
     // Selects the buffer of a name.
     fn choose(&mut self, name: &Name) -> Reply
-        ensures { (store : Stored) → IsReply (record { session = self.old; store = store })
-            (Command.At name.now) (mark_of result) (record { session = self.new; store = store }) (text_of result) }
+        ensures replied { (store : Stored) → IsReply (record { session = self.old.seen; store = store })
+            (Command.At name.now) (mark_of result) (record { session = self.new.seen; store = store })
+            (text_of result) }
+        ensures keep { self.new.keep ≡ self.old.keep }
     {
         match self.state.select(name.bytes()) {
             Ok(()) => Reply::Done,
@@ -361,8 +422,10 @@ impl Session {
 
     // Puts the cursor at a place.
     fn go(&mut self, alloc: Global, numbers: &Path) -> Reply
-        ensures { (store : Stored) → IsReply (record { session = self.old; store = store })
-            (Command.Go numbers.now) (mark_of result) (record { session = self.new; store = store }) (text_of result) }
+        ensures replied { (store : Stored) → IsReply (record { session = self.old.seen; store = store })
+            (Command.Go numbers.now) (mark_of result) (record { session = self.new.seen; store = store })
+            (text_of result) }
+        ensures keep { self.new.keep ≡ self.old.keep }
     {
         match self.state.go(alloc, numbers) {
             Ok(()) => Reply::Done,
@@ -373,31 +436,25 @@ impl Session {
 
     // Puts the cursor at the place behind a cell.
     fn click<L: Ledger>(&mut self, alloc: Global, r: u32, c: u32, steps: &mut Steps<L>) -> Reply
-        ensures { (store : Stored) → IsReply (record { session = self.old; store = store })
-            (Command.Click r c) (mark_of result) (record { session = self.new; store = store }) (text_of result) }
+        ensures replied { (store : Stored) → IsReply (record { session = self.old.seen; store = store })
+            (Command.Click r c) (mark_of result) (record { session = self.new.seen; store = store }) (text_of result) }
+        ensures keeps { Keeps self.old (Command.Click r c) (mark_of result) self.new }
+        ensures takes { Takes self.old (Command.Click r c) (mark_of result) steps.old steps.new }
     {
         if let Err(Memory) = self.view.refresh(alloc, steps) {
             return Reply::Wanting;
         }
-        place_law(self.state.buffers());
-        let reply = match self.view.position(r, c) {
-            Some(spot) => match spot.place(alloc) {
-                Ok(place) => {
-                    self.state.move_to(place);
-                    Reply::Done
-                }
-                Err(Memory) => Reply::Wanting,
-            },
-            None => no_cell(alloc, self.view.rows(), self.view.width()),
-        };
-        self.asked = self.asked || reply.is_plain();
+        let reply = go_to_cell(alloc, &mut self.state, &self.view, r, c);
+        self.asked |= reply.is_plain();
         reply
     }
 
     // Puts the cursor at the stop before it.
     fn left<L: Ledger>(&mut self, alloc: Global, steps: &mut Steps<L>) -> Reply
-        ensures { (store : Stored) → IsReply (record { session = self.old; store = store })
-            Command.Left (mark_of result) (record { session = self.new; store = store }) (text_of result) }
+        ensures replied { (store : Stored) → IsReply (record { session = self.old.seen; store = store })
+            Command.Left (mark_of result) (record { session = self.new.seen; store = store }) (text_of result) }
+        ensures keeps { Keeps self.old Command.Left (mark_of result) self.new }
+        ensures takes { Takes self.old Command.Left (mark_of result) steps.old steps.new }
     {
         if let Err(Memory) = self.view.refresh(alloc, steps) {
             return Reply::Wanting;
@@ -409,8 +466,10 @@ impl Session {
 
     // Puts the cursor at the stop behind it.
     fn right<L: Ledger>(&mut self, alloc: Global, steps: &mut Steps<L>) -> Reply
-        ensures { (store : Stored) → IsReply (record { session = self.old; store = store })
-            Command.Right (mark_of result) (record { session = self.new; store = store }) (text_of result) }
+        ensures replied { (store : Stored) → IsReply (record { session = self.old.seen; store = store })
+            Command.Right (mark_of result) (record { session = self.new.seen; store = store }) (text_of result) }
+        ensures keeps { Keeps self.old Command.Right (mark_of result) self.new }
+        ensures takes { Takes self.old Command.Right (mark_of result) steps.old steps.new }
     {
         if let Err(Memory) = self.view.refresh(alloc, steps) {
             return Reply::Wanting;
@@ -430,9 +489,34 @@ impl Session {
     ) -> Result<Next, WriteFault>
         requires { Prints command.now }
         ensures said { (mark : Mark) × (reply : List ℕ)
-            × ((store : Stored) → IsReply (record { session = self.old; store = store }) command.now mark
-            (record { session = self.new; store = store }) reply)
-            × IsSaid result reply (O.written out.old) (O.written out.new) }
+            × ((store : Stored) → IsReply (record { session = self.old.seen; store = store }) command.now mark
+            (record { session = self.new.seen; store = store }) reply)
+            × IsSaid result reply (O.written out.old) (O.written out.new)
+            × Keeps self.old command.now mark self.new × Takes self.old command.now mark steps.old steps.new }
+        ensures goes { result ≢ Ok Next.Quit }
+        ensures failed_rose { OnErr result (Rose (O.faults out.old) (O.faults out.new)) }
+        ensures faults_never_fall { NeverFalls (O.faults out.old) (O.faults out.new) }
+        ensures stays_known { StaysKnown (O.written out.old) (O.written out.new) }
+    {
+        if let Err(Memory) = self.view.refresh(alloc, steps) {
+            return say(out, NO_MEMORY);
+        }
+        self.asked = true;
+        going(print_view(&self.view, command, out))
+    }
+
+    // Prints by how many steps the last refresh raised the count, which takes no memory where the view is fresh.
+    fn say_work<O: Sink, L: Ledger>(
+        &mut self,
+        alloc: Global,
+        out: &mut O,
+        steps: &mut Steps<L>,
+    ) -> Result<Next, WriteFault>
+        ensures said { (mark : Mark) × (reply : List ℕ)
+            × ((store : Stored) → IsReply (record { session = self.old.seen; store = store }) Command.Work mark
+            (record { session = self.new.seen; store = store }) reply)
+            × IsSaid result reply (O.written out.old) (O.written out.new)
+            × Keeps self.old Command.Work mark self.new × Takes self.old Command.Work mark steps.old steps.new }
         ensures goes { result ≢ Ok Next.Quit }
         ensures failed_rose { OnErr result (Rose (O.faults out.old) (O.faults out.new)) }
         ensures faults_never_fall { NeverFalls (O.faults out.old) (O.faults out.new) }
@@ -441,7 +525,8 @@ impl Session {
         match self.view.refresh(alloc, steps) {
             Ok(()) => {
                 self.asked = true;
-                going(print_view(&self.view, command, out))
+                let number = self.view.work();
+                going(print_work(number, out))
             }
             Err(Memory) => say(out, NO_MEMORY),
         }
@@ -449,8 +534,9 @@ impl Session {
 
     // Prints the cursor's place, which takes no memory.
     fn say_cursor<O: Sink>(&self, out: &mut O) -> Result<Next, WriteFault>
-        ensures said { (reply : List ℕ) × ((store : Stored) → IsReply (record { session = self.now; store = store })
-            Command.Cursor plain (record { session = self.now; store = store }) reply)
+        ensures said { (reply : List ℕ)
+            × ((store : Stored) → IsReply (record { session = self.now.seen; store = store }) Command.Cursor plain
+            (record { session = self.now.seen; store = store }) reply)
             × IsSaid result reply (O.written out.old) (O.written out.new) }
         ensures goes { result ≢ Ok Next.Quit }
         ensures failed_rose { OnErr result (Rose (O.faults out.old) (O.faults out.new)) }
@@ -462,11 +548,11 @@ impl Session {
 
     // Saves the selected buffer's tree.
     fn save<S: Store>(&self, alloc: Global, name: &Name, store: &mut S) -> Reply
-        ensures saved { IsReply (world self.now (S.files store.old) (S.faults store.old)) (Command.Save name.now)
-            (mark_of result) (world self.now (S.files store.new) (S.faults store.new)) (text_of result) }
+        ensures saved { IsReply (world self.now.seen (S.files store.old) (S.faults store.old)) (Command.Save name.now)
+            (mark_of result) (world self.now.seen (S.files store.new) (S.faults store.new)) (text_of result) }
         ensures store_goes_on { GoesOn (S.files store.old) (S.files store.new) (S.faults store.old) (S.faults store.new)
             (S.misses store.old) (S.misses store.new) (S.longs store.old) (S.longs store.new) }
-        ensures store_untouched { saved_by self.now.state (Command.Save name.now) ≡ None → store.new ≡ store.old }
+        ensures store_untouched { saved_by self.now.seen.state (Command.Save name.now) ≡ None → store.new ≡ store.old }
     {
         save(alloc, self.selected(), name.bytes(), store)
     }
@@ -481,15 +567,14 @@ impl Session {
         steps: &mut Steps<L>,
     ) -> Result<Next, WriteFault>
         ensures replied { (mark : Mark) × (reply : List ℕ)
-            × IsReply (world self.old (S.files store.old) (S.faults store.old)) command.now mark
-            (world self.new (S.files store.new) (S.faults store.new)) reply
-            × IsSaid result reply (O.written out.old) (O.written out.new) }
+            × IsReply (world self.old.seen (S.files store.old) (S.faults store.old)) command.now mark
+            (world self.new.seen (S.files store.new) (S.faults store.new)) reply
+            × IsSaid result reply (O.written out.old) (O.written out.new)
+            × Keeps self.old command.now mark self.new × Takes self.old command.now mark steps.old steps.new }
         ensures quits { result ≡ Ok Next.Quit ↔ command.now ≡ Command.Quit }
         ensures quit_writes_nothing { command.now ≡ Command.Quit → out.new ≡ out.old }
         ensures failed_rose { OnErr result (Rose (O.faults out.old) (O.faults out.new)) }
-        ensures store_untouched { saved_by self.old.state command.now ≡ None → store.new ≡ store.old }
-        ensures counted { asks_view command.now ≡ false
-            → steps.new ≤ steps.old + most_steps self.old.state command.now }
+        ensures store_untouched { saved_by self.old.seen.state command.now ≡ None → store.new ≡ store.old }
         ensures store_goes_on { GoesOn (S.files store.old) (S.files store.new) (S.faults store.old) (S.faults store.new)
             (S.misses store.old) (S.misses store.new) (S.longs store.old) (S.longs store.new) }
         ensures faults_never_fall { NeverFalls (O.faults out.old) (O.faults out.new) }
@@ -503,6 +588,7 @@ impl Session {
             | Command::Errors
             | Command::PlaceOf(_, _)
             | Command::Attrs(_) => self.print(alloc, command, out, steps),
+            Command::Work => self.say_work(alloc, out, steps),
             Command::Tree => say(out, self.tree(alloc).text()),
             Command::Change(m) => say(out, self.change(alloc, m, steps).text()),
             Command::Undo => say(out, self.undo(alloc, steps).text()),
@@ -525,7 +611,10 @@ impl Session {
     ///
     /// After a fault of the output a part of the reply is written, and the state is the one that the command leads to.
     /// `quit` writes nothing, and is the one command that is answered with `Quit`. `cursor` and `at` take no memory,
-    /// nor do `show`, `page`, `errors`, `where` and `attrs` where the view was asked since a buffer last changed.
+    /// nor do `show`, `page`, `errors`, `where`, `attrs` and `work` where the view was asked since a buffer last
+    /// changed.
+    ///
+    /// What is kept of the view goes with each edit. Where the view is asked, the steps rise by what a refresh takes.
     pub fn step<S: Store, O: Sink, L: Ledger>(
         &mut self,
         alloc: Global,
@@ -535,24 +624,27 @@ impl Session {
         steps: &mut Steps<L>,
     ) -> Result<Next, WriteFault>
         ensures replied { (mark : Mark) × (reply : List ℕ)
-            × IsReply (world self.old (S.files store.old) (S.faults store.old)) command.now mark
-            (world self.new (S.files store.new) (S.faults store.new)) reply
-            × IsSaid result reply (O.written out.old) (O.written out.new) }
+            × IsReply (world self.old.seen (S.files store.old) (S.faults store.old)) command.now mark
+            (world self.new.seen (S.files store.new) (S.faults store.new)) reply
+            × IsSaid result reply (O.written out.old) (O.written out.new)
+            × Keeps self.old command.now mark self.new × Takes self.old command.now mark steps.old steps.new }
         ensures quits { result ≡ Ok Next.Quit ↔ command.now ≡ Command.Quit }
         ensures quit_writes_nothing { command.now ≡ Command.Quit → out.new ≡ out.old }
         ensures failed_rose { OnErr result (Rose (O.faults out.old) (O.faults out.new)) }
         ensures no_store_counted { OnOk result ((before : List ℕ) → O.written out.old ≡ Some before
             → O.written out.new ≡ Some (before ++ unsaved_reply) → Rose (S.faults store.old) (S.faults store.new)) }
-        ensures cursor { IsPlace (document_of self.new.state.buffers)
-            self.new.state.cursor.path self.new.state.cursor.offset }
-        ensures few { length self.new.state.buffers ≤ 16 }
-        ensures names { NamesDiffer self.new.state.buffers }
-        ensures formed { AreFormed self.new.state.buffers }
+        ensures cursor { IsPlace (document_of self.new.seen.state.buffers)
+            self.new.seen.state.cursor.path self.new.seen.state.cursor.offset }
+        ensures few { length self.new.seen.state.buffers ≤ 16 }
+        ensures names { NamesDiffer self.new.seen.state.buffers }
+        ensures formed { AreFormed self.new.seen.state.buffers }
+        ensures fresh { self.new.seen.fresh ≡ true → self.new.keep.fresh ≡ true }
+        ensures holds { Holds self.new.seen.state.buffers self.new.keep.stores }
 
         // What stays, and what never falls.
-        ensures store_untouched { saved_by self.old.state command.now ≡ None → store.new ≡ store.old }
+        ensures store_untouched { saved_by self.old.seen.state command.now ≡ None → store.new ≡ store.old }
         ensures counted { asks_view command.now ≡ false
-            → steps.new ≤ steps.old + most_steps self.old.state command.now }
+            → steps.new ≤ steps.old + most_steps self.old.seen.state command.now }
         ensures store_goes_on { GoesOn (S.files store.old) (S.files store.new) (S.faults store.old) (S.faults store.new)
             (S.misses store.old) (S.misses store.new) (S.longs store.old) (S.longs store.new) }
         ensures faults_never_fall { NeverFalls (O.faults out.old) (O.faults out.new) }
@@ -561,6 +653,7 @@ impl Session {
         let next = self.answer(alloc, command, store, out, steps);
         let _cursor = self.state.cursor();
         let _buffers = self.state.buffers();
+        let _fresh = self.view.fresh();
         next
     }
 }

@@ -97,7 +97,7 @@ const SAVES: &[(&str, &str, &str)] = &[
     ),
     (
         "(f)",
-        "save\nsave \nsave a b\nwork\nat f",
+        "save\nsave \nsave a b\nworks\nat f",
         "no args 4\nno args 5\nno args 6\nno unknown\nno buffer\n",
     ),
 ];

@@ -1,8 +1,10 @@
 pub mod Variables
 pub mod Marks
 pub mod Units
+pub mod Stores
 pub mod Costs
+pub mod Names
+pub mod Laid
 pub mod Near
 pub mod Rows
-pub mod Moments
 pub mod WholeViews

@@ -1,5 +1,5 @@
 -- A view, as contracts see it.
-use Rattle.std.specs.Prelude.{◌≡◌, ℕ, ◌≤◌, Bool, true, List, length, Option, All, refl}
+use Rattle.std.specs.Prelude.{◌≡◌, ℕ, ◌≤◌, Bool, true, false, if◌then◌else◌, List, [], length, Option, All, refl}
 use Rattle.std.specs.Coded.{Coded, code_by, coded×, coded_list, coded_option, coded_ℕ, coded_bool}
 use Rattle.tx_doc.specs.contracts.buffer.Buffer as one_buffer
 use Rattle.tx_doc.specs.declared.buffer.Buffer.{Buffer}
@@ -12,16 +12,32 @@ use Rattle.tx_items.specs.declared.drawing.ErrorAt.{ErrorAt}
 use Rattle.tx_items.specs.declared.drawing.Paragraph.{Paragraph}
 use Rattle.tx_layout.specs.declared.layout.Line.{Line}
 use Rattle.tx_view_form.specs.Views.{UnitView, WideView, IsView}
+use Rattle.tx_units.specs.Units.{units}
+use Rattle.tx_bridge.specs.Entries.{units_of}
+use Rattle.tx_view.specs.Laid.{laid_in, AreLaid}
+use Rattle.tx_view.specs.Names.{Fresh}
+use Rattle.tx_view.specs.Stores.{Stores, coded_Stores}
+use Rattle.tx_view.specs.declared.shown.Shown.{Shown}
 use Rattle.tx_view.specs.Units.{unit_view, unit_views, sums_from, row_counts, error_counts, IsReadable, AreAllApart}
 use Rattle.tx_view.specs.declared.view.View.TheInside.{Inside}
 
--- the buffers, the size of pages, whether it is fresh, and what is shown
+-- the buffers, the size of pages, whether it is fresh, what is shown, what is kept from refresh to refresh, and by how
+-- many steps the last refresh that ended raised the count
 pub record WholeView : Type 0 where
   pub buffers : List Buffer
   pub width : ℕ
   pub height : ℕ
   pub fresh : Bool
   pub shown : WideView
+  pub stores : Stores
+  pub work : ℕ
+
+-- what is shown of each unit, or was before the buffers changed
+abbrev pub all_of : Inside → List Shown
+all_of v = if v.fresh then v.units.items else v.hidden.items
+
+abbrev pub stores_of : Inside → Stores
+stores_of v = record { kept = v.bridges.kept; laid = laid_in (all_of v) }
 
 abbrev pub whole_of : Inside → WholeView
 whole_of v =
@@ -31,6 +47,8 @@ whole_of v =
       height = v.height;
       fresh = v.fresh;
       shown = record { units = unit_views v.units.items; pages = v.pages.items };
+      stores = stores_of v;
+      work = v.work;
     }
 
 -- what the fields have to do with one another
@@ -42,6 +60,11 @@ pub record IsKept (v : Inside) : Type 0 where
   pub least_height : 5 ≤ v.height
   pub most_height : v.height ≤ 500
   pub fresh : v.fresh ≡ true → IsView v.buffers.items v.width v.height (whole_of v).shown
+  pub kept : v.fresh ≡ true → stores_of v ≡ Fresh v.buffers.items
+  pub hidden : v.fresh ≡ false → v.units.items ≡ []
+  pub of_buffers : units_of v.bridges.kept ≡ units v.buffers.items
+  pub laid : AreLaid v.width v.bridges.kept (all_of v)
+  pub all_readable : All (λ s. IsReadable (unit_view s)) (all_of v)
   pub rows : v.rows.items ≡ sums_from 0 (row_counts (unit_views v.units.items))
   pub errors : v.errors.items ≡ sums_from 0 (error_counts (unit_views v.units.items))
   pub readable : All (λ s. IsReadable (unit_view s)) v.units.items
@@ -62,7 +85,16 @@ view_code = code_by (List UnitView × List Cut) (coded× (coded_list unit_code) 
     (λ v. (v.units, v.pages)) (λ p. record { units = p.0; pages = p.1 }) (λ _. refl)
 
 abbrev pub whole_code : Coded WholeView
-whole_code = code_by (List Buffer × (ℕ × (ℕ × (Bool × WideView))))
-    (coded× (coded_list one_buffer.the_row.coded) (coded× coded_ℕ (coded× coded_ℕ (coded× coded_bool view_code))))
-    (λ v. (v.buffers, (v.width, (v.height, (v.fresh, v.shown)))))
-    (λ p. record { buffers = p.0; width = p.1.0; height = p.1.1.0; fresh = p.1.1.1.0; shown = p.1.1.1.1 }) (λ _. refl)
+whole_code = code_by (List Buffer × (ℕ × (ℕ × (Bool × (WideView × (Stores × ℕ))))))
+    (coded× (coded_list one_buffer.the_row.coded)
+    (coded× coded_ℕ (coded× coded_ℕ (coded× coded_bool (coded× view_code (coded× coded_Stores coded_ℕ))))))
+    (λ v. (v.buffers, (v.width, (v.height, (v.fresh, (v.shown, (v.stores, v.work)))))))
+    (λ p. record {
+      buffers = p.0;
+      width = p.1.0;
+      height = p.1.1.0;
+      fresh = p.1.1.1.0;
+      shown = p.1.1.1.1.0;
+      stores = p.1.1.1.1.1.0;
+      work = p.1.1.1.1.1.1;
+    }) (λ _. refl)

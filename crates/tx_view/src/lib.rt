@@ -1,13 +1,14 @@
 //! The view of a document: its pages, its errors, and the places behind its cells.
 //!
-//! What a view is says `IsView` of `tx_view_form`. [`View::refresh`] makes it from the present buffers.
+//! What a view is says `IsView` of `tx_view_form`. [`View::refresh`] makes it from the present buffers, and uses again
+//! what was evaluated and laid out before, where it still fits.
 #![tactic(auto)]
 
 mod around;
+mod carrying;
 mod cells;
-mod following;
+mod laying;
 mod marks;
-mod moments;
 mod places;
 mod searching;
 mod sharing;

@@ -1,20 +1,29 @@
 // The view.
-ghost use Rattle.std.specs.Prelude.{◌≡◌, ◌+◌, ◌≤◌, ◌<◌, ◌^◌, [], length, true, false, MatchOption, IsOk, IsTrue, IfOk};
+ghost use Rattle.std.specs.Prelude.{◌≡◌, ◌+◌, ◌≤◌, ◌<◌, ◌^◌, [], ◌∷◌, length, true, false, All, MatchOption, IsOk};
+ghost use Rattle.std.specs.Prelude.{IsTrue, IfOk};
 ghost use Rattle.std.specs.Prelude.{OnOk, OnErr, None, Some, option_and_then, option_copied, slice_get};
-ghost use Rattle.tx_doc.specs.Buffers.{with_tree};
-ghost use Rattle.tx_view_form.specs.Views.{IsView, lines_of};
+ghost use Rattle.tx_mod.specs.Followed.{changed_by_all};
+ghost use Rattle.tx_mod.specs.InTurn.{cost_of};
+ghost use Rattle.tx_doc.specs.Buffers.{tree_of, with_tree};
+ghost use Rattle.tx_units.specs.Units.{units, made};
+ghost use Rattle.tx_bridge.specs.Entries.{units_of};
+ghost use Rattle.tx_view_form.specs.Outcomes.{beginning};
+ghost use Rattle.tx_view_form.specs.Views.{AreShown, IsView, lines_of};
 ghost use Rattle.tx_view_form.specs.Errors.{errors_of};
 ghost use Rattle.tx_view_form.specs.Cells.{drawn_at, row_in};
 ghost use Rattle.tx_view_form.specs.Positions.{position_in};
 ghost use Rattle.tx_view_form.specs.Stops.{stops_of};
 ghost use Rattle.tx_layout.specs.Paging.{PagesFrom};
 ghost use Rattle.tx_view.specs.Near.{AreNear};
-ghost use Rattle.tx_view.specs.Units.{unit_views, AreAllApart};
-ghost use Rattle.tx_view.specs.Costs.{cost_from_nothing};
+ghost use Rattle.tx_view.specs.Units.{unit_view, unit_views, sums_from, row_counts, error_counts, IsReadable};
+ghost use Rattle.tx_view.specs.Units.{AreAllApart};
+ghost use Rattle.tx_view.specs.Laid.{AreLaid, laid_in};
+ghost use Rattle.tx_view.specs.Names.{Empty, Fresh, Bound, Carry, Holds};
 
 use crate::around::{apart_law, stops_near};
+use crate::carrying::{blanks, carried, move_shown};
 use crate::cells::drawn_at;
-use crate::following::all_shown;
+use crate::laying::lay_out;
 use crate::places::place_in;
 use crate::searching::{error_count, error_in, first_errors, first_rows, row_count, row_in};
 use crate::sharing::{all_lines, shared};
@@ -22,29 +31,42 @@ use crate::shown::Shown;
 use crate::stops::stops_of;
 use std::alloc::Global;
 use std::marker::Model;
+use std::mem;
 use std::sync::ledger::Ledger;
 use tx_base::{Memory, Steps};
+use tx_bridge::{Bridges, unit_list_laws};
 use tx_doc::Buffer;
 use tx_items::{Drawn, ErrorAt};
 use tx_layout::{Line, pages};
 use tx_lines::Cut;
+use tx_mod::Mod;
 use tx_origin::Spot;
 use tx_tree::{Path, Place, Tree};
 use tx_units::{unit_count_law, units};
 
 /// The view of buffers on pages of some width and height. It is fresh where it was made anew since the buffers changed
-/// last. All readers answer by what the last refresh made, and take no memory.
+/// last. All readers answer by what the last refresh made, and take no memory; before one they show nothing.
+///
+/// Contracts see besides what it keeps from refresh to refresh (`specs/Stores.antt`), and the steps of the last
+/// refresh.
 #[derive(Drop)]
 pub struct View {
     buffers: Vec<Buffer>,
     width: u32,
     height: u32,
     fresh: bool,
+    // what is kept of the evaluations of all units
+    bridges: Bridges,
+    // what is shown of each unit, and nothing where it isn't fresh
     units: Vec<Shown>,
+    // what was shown of each unit before the buffers changed, and nothing where it is fresh
+    hidden: Vec<Shown>,
     // how many rows and errors stand before each unit, and how many there are
     rows: Vec<u32>,
     errors: Vec<u32>,
     pages: Vec<Cut>,
+    // by how many steps the last refresh that ended raised the count
+    work: u64,
 }
 
 impl Model for View {
@@ -59,6 +81,14 @@ impl Model for View {
     ghost invariant = { IsKept };
 }
 
+// The sums before no unit.
+fn zero(alloc: Global) -> Result<Vec<u32>, Memory>
+    ensures { IfOk result (λ sums. sums.items ≡ 0 ∷ []) }
+{
+    let sums = vec![in alloc; 0u32]?;
+    Ok(sums)
+}
+
 // The pages of units.
 fn paged(alloc: Global, units: &[Shown], height: u32) -> Result<Vec<Cut>, Memory>
     requires least_height { 5 ≤ height }
@@ -70,93 +100,228 @@ fn paged(alloc: Global, units: &[Shown], height: u32) -> Result<Vec<Cut>, Memory
     pages(alloc, &lines, height)
 }
 
+// The pages of units, and how many rows and errors stand before each unit.
+#[derive(Drop)]
+struct Pagination {
+    pages: Vec<Cut>,
+    rows: Vec<u32>,
+    errors: Vec<u32>,
+}
+
+fn all_paged(alloc: Global, units: &[Shown], height: u32) -> Result<Pagination, Memory>
+    requires least_height { 5 ≤ height }
+    requires most_height { height ≤ 500 }
+    requires few { length (lines_of (unit_views units.now)) < 2 ^ 32 }
+    requires few_errors { length (errors_of (unit_views units.now)) < 2 ^ 32 }
+    ensures pages { IfOk result (λ p. PagesFrom (lines_of (unit_views units.now)) height 0 p.pages.items) }
+    ensures rows { IfOk result (λ p. p.rows.items ≡ sums_from 0 (row_counts (unit_views units.now))) }
+    ensures errors { IfOk result (λ p. p.errors.items ≡ sums_from 0 (error_counts (unit_views units.now))) }
+{
+    Ok(Pagination {
+        pages: paged(alloc, units, height)?,
+        rows: first_rows(alloc, units)?,
+        errors: first_errors(alloc, units)?,
+    })
+}
+
+// Lays the units of the buffers out, and tells their pages and by how much the steps rose.
+fn made_anew<L: Ledger>(
+    alloc: Global,
+    buffers: &[Buffer],
+    bridges: &mut Bridges,
+    all: &mut [Shown],
+    size: (u32, u32),
+    steps: &mut Steps<L>,
+) -> Result<(Pagination, u64), Memory>
+    requires few { length buffers.now ≤ 64 }
+    requires least_width { 20 ≤ size.0 }
+    requires most_width { size.0 ≤ 500 }
+    requires least_height { 5 ≤ size.1 }
+    requires most_height { size.1 ≤ 500 }
+    requires of_buffers { units_of bridges.old.kept ≡ units buffers.now }
+    requires laid { AreLaid size.0 bridges.old.kept all.old }
+    requires readable { All (λ s. IsReadable (unit_view s)) all.old }
+    ensures shown { OnOk result (AreShown size.0 beginning (units buffers.now) (unit_views all.new)) }
+    ensures stores { OnOk result
+        (record { kept = bridges.new.kept; laid = laid_in all.new } ≡ Fresh buffers.now) }
+    ensures pages { IfOk result (λ p. PagesFrom (lines_of (unit_views all.new)) size.1 0 p.0.pages.items) }
+    ensures rows { IfOk result (λ p. p.0.rows.items ≡ sums_from 0 (row_counts (unit_views all.new))) }
+    ensures errors { IfOk result (λ p. p.0.errors.items ≡ sums_from 0 (error_counts (unit_views all.new))) }
+    ensures apart { OnOk result (AreAllApart (unit_views all.new)) }
+    ensures work { IfOk result (λ p. p.1 ≡ Bound (record { kept = bridges.old.kept; laid = laid_in all.old })) }
+    ensures counted { IfOk result (λ p. steps.new ≡ steps.old + p.1) }
+    ensures of_buffers { units_of bridges.new.kept ≡ units buffers.now }
+    ensures laid { AreLaid size.0 bridges.new.kept all.new }
+    ensures readable { All (λ s. IsReadable (unit_view s)) all.new }
+{
+    unit_count_law(buffers);
+    let (width, height) = size;
+    let work = lay_out(alloc, bridges, all, width, steps)?;
+    apart_law(buffers, width, all);
+    let paged = all_paged(alloc, all, height)?;
+    Ok((paged, work))
+}
+
 impl View {
-    /// A view of these buffers, which isn't fresh: it has no rows, no pages and no errors. It keeps the names and
-    /// shares the trees. Buffer 0 is the document, and the others are loaded styles, 63 at most. A page has 20 to 500
-    /// columns and 5 to 500 rows. The one error is want of memory.
-    pub fn new(alloc: Global, buffers: &[Buffer], width: u32, height: u32) -> Result<View, Memory>
+    /// A view of these buffers, which isn't fresh: it has no rows, no pages and no errors, and nothing is kept. It
+    /// keeps the names and shares the trees. Buffer 0 is the document, and the others are loaded styles, 63 at most. A
+    /// page has 20 to 500 columns and 5 to 500 rows. The steps rise by at most the nodes that are made for units. The
+    /// one error is want of memory.
+    pub fn new<L: Ledger>(
+        alloc: Global,
+        buffers: &[Buffer],
+        width: u32,
+        height: u32,
+        steps: &mut Steps<L>,
+    ) -> Result<View, Memory>
         requires some { 1 ≤ length buffers.now }
         requires few { length buffers.now ≤ 64 }
         requires least_width { 20 ≤ width }
         requires most_width { width ≤ 500 }
         requires least_height { 5 ≤ height }
         requires most_height { height ≤ 500 }
-        ensures { IfOk result (λ v. v ≡ record {
+        ensures view { IfOk result (λ v. v ≡ record {
           buffers = buffers.now;
           width = width;
           height = height;
           fresh = false;
           shown = record { units = []; pages = [] };
+          stores = Empty buffers.now;
+          work = 0;
         }) }
+        ensures counted { steps.new ≤ steps.old + made buffers.now }
     {
-        let mut rows = Vec::with_capacity(alloc, 1)?;
-        rows.push(0)?;
-        let mut errors = Vec::with_capacity(alloc, 1)?;
-        errors.push(0)?;
+        unit_list_laws();
+        let made = units(alloc, buffers, steps)?;
+        let hidden = blanks(alloc, &made)?;
         Ok(View {
             buffers: shared(alloc, buffers)?,
             width,
             height,
             fresh: false,
+            bridges: Bridges::start(alloc, made)?,
             units: Vec::new(alloc),
-            rows,
-            errors,
+            hidden,
+            rows: zero(alloc)?,
+            errors: zero(alloc)?,
             pages: Vec::new(alloc),
+            work: 0,
         })
     }
 
-    /// From then on the view is one of its buffers with this tree in place of that of buffer `buffer`, and not fresh.
-    /// For want of memory all stays.
-    pub fn edited(&mut self, buffer: u32, tree: &Tree) -> Result<(), Memory>
-        requires { buffer < length self.old.buffers }
-        ensures ok { OnOk result
-            (self.new ≡ record self.old { buffers = with_tree self.old.buffers buffer tree.now; fresh = false }) }
+    /// From then on the view is one of its buffers with this tree in place of that of buffer `buffer`, which these
+    /// modifications make of the former one, applied one after the other. It isn't fresh and shows nothing. What is
+    /// kept of a unit goes with it: a paragraph of the document goes by the modifications from path to path, and
+    /// another unit stays the one of its number, where kind and tree are the same. Nothing is evaluated. The steps rise
+    /// by at most the paths' lengths, three for each modification, and the nodes that are made for units. For want of
+    /// memory all stays.
+    pub fn edited<L: Ledger>(
+        &mut self,
+        alloc: Global,
+        buffer: u32,
+        mods: &[Mod],
+        tree: &Tree,
+        steps: &mut Steps<L>,
+    ) -> Result<(), Memory>
+        requires within { buffer < length self.old.buffers }
+        requires changed { changed_by_all mods.now (tree_of self.old.buffers buffer) ≡ Some tree.now }
+        ensures ok { OnOk result (self.new ≡ record self.old {
+          buffers = with_tree self.old.buffers buffer tree.now;
+          fresh = false;
+          shown = record { units = []; pages = [] };
+          stores = Carry buffer mods.now self.old.buffers self.old.stores (with_tree self.old.buffers buffer tree.now);
+        }) }
         ensures err { OnErr result (self.new ≡ self.old) }
+        ensures counted { steps.new ≤ steps.old
+            + (cost_of mods.now + made (with_tree self.old.buffers buffer tree.now)) }
     {
-        self.buffers[buffer as usize].tree = tree.share()?;
+        unit_list_laws();
+        let (after, mut new) = carried(
+            alloc,
+            &mut self.bridges,
+            &self.buffers,
+            buffer,
+            mods,
+            tree,
+            steps,
+        )?;
+        move_shown(
+            &mut new,
+            &self.bridges,
+            self.fresh,
+            &mut self.units,
+            &mut self.hidden,
+        );
+        self.hidden = new;
+        self.units.clear();
+        self.rows.truncate(1);
+        self.errors.truncate(1);
+        self.pages.clear();
+        self.buffers = after;
         self.fresh = false;
         Ok(())
     }
 
-    /// Makes the view anew, unless it is fresh, which takes no memory and no step then. For want of memory all stays.
-    /// The steps rise by at most the nodes that are made for units, what evaluation charges each unit, and the items
-    /// that it shows on pages.
+    /// Makes the view anew, unless it is fresh, which takes no memory and no step then. What was kept of a unit is used
+    /// again where what it looked up is as it was and its cost is allowed, and its lines where its attributes are those
+    /// of before. The steps rise by the charges of the other units, and the items of those that are laid out anew.
+    ///
+    /// For want of memory it isn't fresh, and a later refresh is right.
     pub fn refresh<L: Ledger>(&mut self, alloc: Global, steps: &mut Steps<L>) -> Result<(), Memory>
         ensures fresh { OnOk result (self.new.fresh ≡ true) }
         ensures view { OnOk result (IsView self.new.buffers self.new.width self.new.height self.new.shown) }
+        ensures stores { OnOk result (self.new.stores ≡ Fresh self.old.buffers) }
+        ensures work { OnOk result (self.old.fresh ≡ false → self.new.work ≡ Bound self.old.stores) }
+        ensures counted { OnOk result (self.old.fresh ≡ false → steps.new ≡ steps.old + Bound self.old.stores) }
         ensures buffers { self.new.buffers ≡ self.old.buffers }
         ensures width { self.new.width ≡ self.old.width }
         ensures height { self.new.height ≡ self.old.height }
         ensures kept { self.old.fresh ≡ true → self.new ≡ self.old }
         ensures ready { self.old.fresh ≡ true → IsOk result }
-        ensures err { OnErr result (self.new ≡ self.old) }
-        ensures counted { OnOk result (steps.new ≤ steps.old + cost_from_nothing self.old.buffers) }
         ensures free { self.old.fresh ≡ true → steps.new ≡ steps.old }
+        ensures stale { OnErr result (self.new.fresh ≡ false) }
+        ensures shown { OnErr result (self.new.shown ≡ self.old.shown) }
+        ensures same_work { OnErr result (self.new.work ≡ self.old.work) }
     {
         if self.fresh {
             return Ok(());
         }
-        unit_count_law(&self.buffers);
-        let made = units(alloc, &self.buffers, steps)?;
-        let all = all_shown(alloc, &made, self.width, steps)?;
-        apart_law(&self.buffers, self.width, &all);
-        let pages = paged(alloc, &all, self.height)?;
-        let rows = first_rows(alloc, &all)?;
-        let errors = first_errors(alloc, &all)?;
-        self.units = all;
-        self.rows = rows;
-        self.errors = errors;
-        self.pages = pages;
+        let size = (self.width, self.height);
+        let (paged, work) = made_anew(
+            alloc,
+            &self.buffers,
+            &mut self.bridges,
+            &mut self.hidden,
+            size,
+            steps,
+        )?;
+        mem::swap(&mut self.units, &mut self.hidden);
+        self.rows = paged.rows;
+        self.errors = paged.errors;
+        self.pages = paged.pages;
+        self.work = work;
         self.fresh = true;
         Ok(())
     }
 
-    /// Whether it is fresh.
+    /// Whether it is fresh. At every moment, also behind a refresh that lacked memory, what is kept is of the units of
+    /// the present buffers, and the trace of a unit is that of its tree in each environment that agrees with what it
+    /// looked up.
     pub fn fresh(&self) -> bool
         ensures fresh { result ≡ self.now.fresh }
         ensures view { IsTrue result → IsView self.now.buffers self.now.width self.now.height self.now.shown }
+        ensures stores { IsTrue result → self.now.stores ≡ Fresh self.now.buffers }
+        ensures holds { Holds self.now.buffers self.now.stores }
     {
+        let _kept = self.bridges.outcome(0);
         self.fresh
+    }
+
+    /// By how many steps the last refresh that ended raised the count.
+    pub fn work(&self) -> u64
+        ensures { result ≡ self.now.work }
+    {
+        self.work
     }
 
     /// How many columns a page has.

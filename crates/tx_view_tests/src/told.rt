@@ -10,8 +10,12 @@ use tx_layout::Line;
 use tx_tree::{Path, Place};
 use tx_view::View;
 
-// The buffers that are told: of each a name and a tree, `;` between them.
-fn buffers_of<L: Ledger>(alloc: Global, told: &str, steps: &mut Steps<L>) -> Option<Vec<Buffer>> {
+/// The buffers that are told: of each a name and a tree, `;` between them.
+pub(crate) fn buffers_of<L: Ledger>(
+    alloc: Global,
+    told: &str,
+    steps: &mut Steps<L>,
+) -> Option<Vec<Buffer>> {
     let mut buffers = Vec::new(alloc);
     for part in told.split(';') {
         let (name, words) = part.split_once(' ')?;
@@ -40,7 +44,7 @@ pub(crate) fn view_of<L: Ledger>(
     {
         return None;
     }
-    let mut view = View::new(alloc, &buffers, width, height).ok()?;
+    let mut view = View::new(alloc, &buffers, width, height, steps).ok()?;
     view.refresh(alloc, steps).ok()?;
     Some(view)
 }

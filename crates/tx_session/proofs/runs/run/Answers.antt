@@ -1,8 +1,8 @@
-use Rattle.std.proofs.Common.{inr, map, Global, refl, ap, subst, ◌∙◌}
+use Rattle.std.proofs.Common.{inr, map, Global, refl, ap, subst}
 use Rattle.std.specs.Prelude.{is_some}
 use Rattle.std.specs.String.{string_bytes}
 use Rattle.tx_outside.specs.Counts.{Rose}
-use Rattle.tx_outside.proofs.Counting.{never_falls_refl, never_falls_then}
+use Rattle.tx_outside.proofs.Counting.{never_falls_refl}
 use Rattle.tx_session.specs.Playing.{IsServed}
 use Rattle.tx_open.specs.Openings.{outcome_of}
 use Rattle.tx_open.specs.Outcomes.{faulty_words, no_memory}
@@ -24,14 +24,14 @@ returns-in-Ok-clause-run g c =
     (map (string_bytes {Z = Global}) c.args.words.now)
     (stored (g.S.Store.files c.args.store.now) (g.S.Store.faults c.args.store.now))
     (stored (g.S.Store.files c.open-opening.new.store) (g.S.Store.faults c.open-opening.new.store))
-    (world c.serve.new.session (g.S.Store.files c.serve.new.store) (g.S.Store.faults c.serve.new.store))
+    (world c.serve.new.session.seen (g.S.Store.files c.serve.new.store) (g.S.Store.faults c.serve.new.store))
     (g.I.Source.left c.args.input.now) (g.I.Source.left c.serve.new.input) c.in-Opened.all
     (g.O.Sink.written c.args.out.now) (g.O.Sink.written c.serve.new.out)
     (c.open-opening.ensures.files_kept, c.open-opening.ensures.faults_never_fall) c.in-Opened.ensures.comes
     c.serve.result
     (subst (λ s. IsServed (Rose (g.I.Source.faults c.args.input.now) (g.I.Source.faults c.serve.new.input))
     c.serve.result (world s (g.S.Store.files c.open-opening.new.store) (g.S.Store.faults c.open-opening.new.store))
-    (world c.serve.new.session (g.S.Store.files c.serve.new.store) (g.S.Store.faults c.serve.new.store))
+    (world c.serve.new.session.seen (g.S.Store.files c.serve.new.store) (g.S.Store.faults c.serve.new.store))
     (g.I.Source.left c.args.input.now) (g.I.Source.left c.serve.new.input) (g.O.Sink.written c.args.out.now)
     (g.O.Sink.written c.serve.new.out)) c.in-Ok.ensures.session c.serve.ensures.ended)
 

@@ -1,7 +1,7 @@
 use Rattle.std.proofs.Common.{ℕ, List, length, ◌≤◌, sym, ◌∙◌, arith}
 use Rattle.std.proofs.lemmas.Grind.{common_steps}
 use Rattle.tx_session.proofs.KeptLines.{returned_next, front_next, front_full, short_line, err_anyway}
-use Rattle.tx_session.specs.Keeping.{Keeps}
+use Rattle.tx_session.specs.Keeping.{KeepsLine}
 use Rattle.tx_session.proofs.kept_line.KeptLine.add.Goals as goal
 
 pub returns-then-len-gt-MOST_LINE-clause-kept : goal.returns-then-len-gt-MOST_LINE-clause-kept
@@ -27,6 +27,6 @@ returns-clause-kept c =
 
 pub returns-in_err-push-clause-short : goal.returns-in_err-push-clause-short
 returns-in_err-push-clause-short c =
-    err_anyway c.from_residual.result ((bytes : List ℕ) → Keeps c.args.self.now bytes → length bytes ≤ 1048576)
+    err_anyway c.from_residual.result ((bytes : List ℕ) → KeepsLine c.args.self.now bytes → length bytes ≤ 1048576)
     (λ bytes k. short_line bytes c.args.self.now.front.items 1048576 k.front
     (omega (arith, c.len.ensures, c.if-len-gt-MOST_LINE.false)))

@@ -1,14 +1,17 @@
-use Rattle.std.proofs.Common.{◌∙◌, ◌||◌, ap, subst}
+use Rattle.std.proofs.Common.{◌∙◌, ◌||◌, ap, refl, subst}
 use Rattle.tx_cmd.specs.declared.command.Command.TheVariants.{Right}
+use Rattle.tx_edit.specs.Stops.{to_right}
+use Rattle.tx_view_form.specs.Stops.{stops_of}
 use Rattle.tx_session.specs.Replies.{IsReply}
 use Rattle.tx_session.specs.Saying.{mark_of, text_of}
 use Rattle.tx_session.specs.Sessions.{seen_of}
 use Rattle.tx_session.specs.Worlds.{Seen}
 use Rattle.tx_session.proofs.Answered.{right_replied, present_view}
+use Rattle.tx_session.proofs.Refreshed.{arrival_made, keeps_asked, takes_asked}
 use Rattle.tx_session.proofs.session.Session.right.Goals as goal
 
-pub returns : goal.returns
-returns g c = λ store.
+pub returns-clause-replied : goal.returns-clause-replied
+returns-clause-replied g c = λ store.
     let inside = c.self.inside in
     let view = c.refresh.new.self in
     let reply = c.go_right-reply.result in
@@ -22,7 +25,23 @@ returns g c = λ store.
     view.shown (c.refresh.ensures.buffers ∙ c.self.invariant.buffers) c.refresh.ensures.width
     c.refresh.ensures.height c.in_default.ensures.view in
     subst (λ s. IsReply (record { session = s; store = store }) Right (mark_of reply)
-    (record { session = after; store = store }) (text_of reply)) c.self.view_is
+    (record { session = after; store = store }) (text_of reply)) (ap (λ w. w.seen) c.self.view_is)
     (right_replied (seen_of inside) after view.shown store (mark_of reply) (text_of reply) is
     c.go_right-reply.ensures (ap (λ b. inside.asked || b) c.is_plain.ensures) c.refresh.ensures.width
     c.refresh.ensures.height)
+
+pub returns-clause-keeps : goal.returns-clause-keeps
+returns-clause-keeps g c =
+    let inside = c.self.inside in
+    let view = c.refresh.new.self in
+    let reply = c.go_right-reply.result in
+    keeps_asked Right refl c.args.self.now (seen_of inside) _ inside.view view c.self.view_is (mark_of reply)
+    (arrival_made (to_right (stops_of view.shown.units) inside.state.cursor) inside.state c.go_right-reply.new.state
+    (mark_of reply) (text_of reply) c.go_right-reply.ensures) c.self.invariant.buffers c.in_default.ensures.fresh
+    c.in_default.ensures.stores c.in_default.ensures.work c.refresh.ensures.kept
+
+pub returns-clause-takes : goal.returns-clause-takes
+returns-clause-takes g c =
+    let inside = c.self.inside in
+    takes_asked Right refl c.args.self.now (seen_of inside) (seen_of inside) inside.view c.refresh.new.self
+    c.self.view_is (mark_of c.go_right-reply.result) _ _ c.in_default.ensures.counted c.refresh.ensures.free

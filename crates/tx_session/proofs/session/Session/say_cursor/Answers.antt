@@ -8,12 +8,12 @@ use Rattle.tx_session.proofs.session.Session.say_cursor.Goals as goal
 
 pub returns-clause-said : goal.returns-clause-said
 returns-clause-said g c =
-    let seen = c.args.self.now in
+    let seen = c.args.self.now.seen in
     let at = c.cursor.result.now in
     let text = line (place_text at.path at.offset) in
     let before = g.O.Sink.written c.args.out.now in
     let behind = g.O.Sink.written c.print_cursor.new.out in
-    let is = c.cursor.ensures.cursor ∙ ap (λ s. s.state.cursor) c.self.view_is in (
+    let is = c.cursor.ensures.cursor ∙ ap (λ w. w.seen.state.cursor) c.self.view_is in (
       text,
       λ store. done Cursor seen seen store text (refl, ap (λ p. line (place_text p.path p.offset)) is) refl refl refl
           refl,

@@ -1,0 +1,148 @@
+// The steps of refreshes that `work` prints: no more than what the units are charged that are evaluated anew, and the
+// items of those that are laid out anew.
+ghost use Rattle.std.specs.Prelude.{◌≡◌};
+
+use crate::played::{TOLD, Told, answered, session_of};
+use std::alloc::Global;
+use std::marker::Brand;
+use std::sync::ledger::{Blank, Ledger};
+use std::test::Fail;
+use tx_base::Steps;
+use tx_session::Session;
+
+// A document in the Scheme syntax, the lines of a script, and the most that `work` prints behind them.
+type Row = (&'static str, &'static str, u64);
+
+const ROWS: &[Row] = &[
+    (
+        "(document (assign \"n\" \"1\") \"text\" (value \"n\"))",
+        "show\nassign /0/1 \"2\"\nshow",
+        13,
+    ),
+    (
+        "(document (assign \"n\" \"1\") \"text\" (value \"n\"))",
+        "show\nassign /0/1 \"2\"",
+        13,
+    ),
+    (
+        "(document (assign \"f\" (macro \"x\" (concat \"[\" (arg \"x\") \"]\"))) (f \"abcde\"))",
+        "where 1 4\ninsert / 0 (tuple \"top\")\nwhere 2 4",
+        7,
+    ),
+];
+
+// The number in a line `work N`.
+fn number_in(reply: &[u8]) -> Option<u64> {
+    let (word, rest) = str::from_utf8(reply).ok()?.split_once(' ')?;
+    let (number, _) = rest.split_once('\n')?;
+    if word == "work" {
+        number.parse::<u64>().ok()
+    } else {
+        None
+    }
+}
+
+// What `work` prints.
+fn work_of<L: Ledger>(alloc: Global, session: &mut Session, steps: &mut Steps<L>) -> Option<u64> {
+    number_in(&answered(alloc, session, "work", steps)?)
+}
+
+// What `work` prints behind the lines of a script.
+fn work_behind<L: Ledger>(alloc: Global, row: &Row, steps: &mut Steps<L>) -> Option<u64> {
+    let told = Told {
+        document: row.0.as_bytes(),
+        ..TOLD
+    };
+    let mut session = session_of(alloc, &told, steps)?;
+    let _replies = answered(alloc, &mut session, row.1, steps)?;
+    work_of(alloc, &mut session, steps)
+}
+
+// The first row behind which `work` prints more, or nothing.
+fn first_above<L: Ledger>(alloc: Global, rows: &[Row], blank: Blank) -> Option<usize>
+    requires name { blank.name ≡ L.name }
+    requires parts { blank.parts ≡ L.parts }
+    requires whole { blank.parts ≡ 1 }
+{
+    let mut steps = Steps::<L>::new(blank);
+    for (number, row) in rows.iter().enumerate() {
+        match work_behind(alloc, row, &mut steps) {
+            Some(work) if work <= row.2 => {}
+            _ => return Some(number),
+        }
+    }
+    None
+}
+
+// A document of 18 paragraphs that never end, and one that is changed.
+fn endless(alloc: Global) -> Option<String> {
+    let mut text = String::new(alloc);
+    text.push_str("(document").ok()?;
+    for _ in 0..18 {
+        text.push_str(" (while \"true\" \"abcdefg\")").ok()?;
+    }
+    text.push_str(" \"x\")").ok()?;
+    Some(text)
+}
+
+// The page of that document with this last line.
+fn push_page(text: &mut String, last: &str) -> Option<()> {
+    text.push_str("page 1\n").ok()?;
+    for _ in 0..18 {
+        text.push_str("<!limit while>\n").ok()?;
+    }
+    text.push_str(last).ok()
+}
+
+// Changes the last paragraph and changes it back, so many times; whether each reply is as it should be.
+fn goes_round<L: Ledger>(
+    alloc: Global,
+    session: &mut Session,
+    rounds: u32,
+    steps: &mut Steps<L>,
+) -> Option<bool> {
+    let mut expected = String::new(alloc);
+    expected.push_str("ok\n").ok()?;
+    push_page(&mut expected, "y\nok\n")?;
+    push_page(&mut expected, "x\n")?;
+    for _ in 0..rounds {
+        let lines = "assign /18 \"y\"\npage 1\nassign /18 \"x\"\npage 1";
+        if answered(alloc, session, lines, steps)?.as_slice() != expected.as_bytes() {
+            return Some(false);
+        }
+    }
+    Some(true)
+}
+
+// What `work` prints behind so many rounds, if each goes as it should.
+fn work_of_rounds<L: Ledger>(alloc: Global, rounds: u32, blank: Blank) -> Option<u64>
+    requires name { blank.name ≡ L.name }
+    requires parts { blank.parts ≡ L.parts }
+    requires whole { blank.parts ≡ 1 }
+{
+    let mut steps = Steps::<L>::new(blank);
+    let document = endless(alloc)?;
+    let told = Told {
+        document: document.as_bytes(),
+        ..TOLD
+    };
+    let mut session = session_of(alloc, &told, &mut steps)?;
+    if goes_round(alloc, &mut session, rounds, &mut steps)? {
+        work_of(alloc, &mut session, &mut steps)
+    } else {
+        None
+    }
+}
+
+#[test]
+fn work_is_what_is_made_anew(rt: HostRuntime) -> Result<(), Fail> {
+    assert_eq!(rt; first_above::<Brand>(rt.alloc(), ROWS, Blank::new(1)), None);
+    Ok(())
+}
+
+#[test]
+fn other_paragraphs_are_not_evaluated_again(rt: HostRuntime) -> Result<(), Fail> {
+    let work = work_of_rounds::<Brand>(rt.alloc(), 50, Blank::new(1)).ok_or("a reply differs")?;
+    assert!(rt; work <= 3, "{work}");
+    Ok(())
+}

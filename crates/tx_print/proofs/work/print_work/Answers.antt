@@ -1,0 +1,6 @@
+use Rattle.tx_print.proofs.Adding.{printed}
+use Rattle.tx_print.proofs.work.print_work.Goals as goal
+
+pub returns : goal.returns
+returns g c =
+    printed c.new-printer.ensures.waiting c.new-printer.ensures.failed c.push_numbered.ensures c.finish.ensures

@@ -1,0 +1,98 @@
+-- Units of which nothing is laid out, and the buffers that they are of.
+use Rattle.std.proofs.Common.{◌≡◌, ℕ, suc, ◌+◌, ◌<◌, List, [], ◌∷◌, ◌++◌, length, take, map, get_or, Option, Some, None}
+use Rattle.std.proofs.Common.{refl, ap, sym, subst, ◌∙◌}
+use Rattle.std.proofs.Common.{slice_set, slice_index_or}
+use Rattle.std.proofs.lemmas.List.{take_more, length-set}
+use Rattle.std.proofs.lemmas.Option.{slice_get-get_or}
+use Rattle.std.proofs.lemmas.List.Elements.{All-from_recursion}
+use Rattle.std.specs.List.{AllByRecursion}
+use Rattle.std.specs.Option.{option_map_or}
+use Rattle.std.specs.Prelude.{slice_get}
+use Rattle.tx_tree.specs.WideTree.{WideTree, leaf}
+use Rattle.tx_doc.specs.Buffers.{tree_of, with_tree}
+use Rattle.tx_doc.specs.declared.buffer.Buffer.{Buffer}
+use Rattle.tx_units.specs.declared.kinds.Unit.{Unit as DocUnit}
+use Rattle.tx_items.specs.declared.attributes.Attrs.{Attrs}
+use Rattle.tx_bridge.specs.Entries.{Kept, nothing_kept}
+use Rattle.tx_bridge.specs.Names.{Empty as EmptyKept}
+use Rattle.tx_view.specs.declared.shown.Shown.{Shown}
+use Rattle.tx_view.specs.Laid.{AreLaid, IsBlank, AreBlank, laid_in}
+use Rattle.tx_view.proofs.Forgetting.{AllReadable}
+use Rattle.tx_view.proofs.Moved.{Reads, blank_reads}
+
+more_blank : (us : List DocUnit) (xs : List Shown) (u : DocUnit) (x : Shown) → AreBlank us xs → IsBlank u.path x
+    → AreBlank (us ++ u ∷ []) (xs ++ x ∷ [])
+more_blank [] [] u x h one = (one, tt)
+more_blank [] (y ∷ xs) u x h one = absurd h
+more_blank (v ∷ us) [] u x h one = absurd h
+more_blank (v ∷ us) (y ∷ xs) u x h one = (h.0, more_blank us xs u x h.1 one)
+
+pub blank_next : (us : List DocUnit) (i : ℕ) (u : DocUnit) (all new : List Shown) (x : Shown) → i < length us
+    → u ≡ get_or us i u → AreBlank (take i us) all → IsBlank u.path x → new ≡ all ++ x ∷ []
+    → AreBlank (take (i + 1) us) new
+blank_next us i u all new x inside is h one e =
+    subst (λ (vs : List DocUnit). AreBlank vs new)
+    (sym (take_more us i u inside ∙ ap (λ v. take i us ++ v ∷ []) (sym is)))
+    (subst (λ (xs : List Shown). AreBlank (take i us ++ u ∷ []) xs) (sym e) (more_blank (take i us) all u x h one))
+
+pub blank_many : (us : List DocUnit) (xs : List Shown) → AreBlank us xs → length xs ≡ length us
+blank_many [] [] h = refl
+blank_many [] (x ∷ xs) h = absurd h
+blank_many (u ∷ us) [] h = absurd h
+blank_many (u ∷ us) (x ∷ xs) h = ap suc (blank_many us xs h.1)
+
+-- ---- buffers of which one has another tree
+
+pub many_with : (buffers : List Buffer) (k : ℕ) (t : WideTree) → length (with_tree buffers k t) ≡ length buffers
+many_with buffers k t = by (slice_get buffers k)
+  where
+    by : (o : Option Buffer)
+        → length (option_map_or (λ b. slice_set buffers k (record { name = b.name; tree = t })) o buffers)
+        ≡ length buffers
+    by None = refl
+    by (Some b) = length-set buffers k (record { name = b.name; tree = t })
+
+pub tree_at : (buffers : List Buffer) (k : ℕ) (d : Buffer) → k < length buffers
+    → tree_of buffers k ≡ (slice_index_or buffers k d).tree
+tree_at buffers k d inside =
+    ap (λ o. option_map_or (λ (b : Buffer). b.tree) o (leaf [])) (slice_get-get_or buffers k d inside)
+
+-- ---- where nothing is kept
+
+pub empty_is : (us : List DocUnit) → EmptyKept us ≡ nothing_kept us
+unfolding EmptyKept
+empty_is us = refl
+
+pub blank_laid : (width : ℕ) (us : List DocUnit) (xs : List Shown) → AreBlank us xs
+    → AreLaid width (nothing_kept us) xs
+blank_laid width [] [] h = tt
+blank_laid width [] (x ∷ xs) h = absurd h
+blank_laid width (u ∷ us) [] h = absurd h
+blank_laid width (u ∷ us) (x ∷ xs) h = (
+  record { path = h.0.path_is; laid = λ a is. absurd (let off : None ≡ Some a = sym h.0.laid ∙ is in cc) },
+  blank_laid width us xs h.1,
+)
+
+pub blank_attributes : (us : List DocUnit) (xs : List Shown) → AreBlank us xs
+    → laid_in xs ≡ map {A = DocUnit} {B = Option Attrs} (λ u. None) us
+blank_attributes [] [] h = refl
+blank_attributes [] (x ∷ xs) h = absurd h
+blank_attributes (u ∷ us) [] h = absurd h
+blank_attributes (u ∷ us) (x ∷ xs) h =
+    ap (λ a. a ∷ laid_in xs) h.0.laid ∙ ap (λ bs. None ∷ bs) (blank_attributes us xs h.1)
+
+each_blank_reads : (us : List DocUnit) (xs : List Shown) → AreBlank us xs → AllByRecursion Reads xs
+each_blank_reads [] [] h = tt
+each_blank_reads [] (x ∷ xs) h = absurd h
+each_blank_reads (u ∷ us) [] h = absurd h
+each_blank_reads (u ∷ us) (x ∷ xs) h = (blank_reads u.path x h.0, each_blank_reads us xs h.1)
+
+pub blank_readable : (us : List DocUnit) (xs : List Shown) → AreBlank us xs → AllReadable xs
+blank_readable us xs h = All-from_recursion Reads xs (each_blank_reads us xs h)
+
+-- as many are laid out as there are units
+pub as_many_laid : (width : ℕ) (es : Kept) (xs : List Shown) → AreLaid width es xs → length (laid_in xs) ≡ length es
+as_many_laid width [] [] h = refl
+as_many_laid width [] (x ∷ xs) h = absurd h
+as_many_laid width (e ∷ es) [] h = absurd h
+as_many_laid width (e ∷ es) (x ∷ xs) h = ap suc (as_many_laid width es xs h.1)

@@ -1,0 +1,29 @@
+use Rattle.std.proofs.Common.{◌≡◌, ◌∙◌, ap, sym, subst, length}
+use Rattle.tx_view_form.specs.Outcomes.{beginning}
+use Rattle.tx_view.specs.Laid.{AreLaid}
+use Rattle.tx_view.proofs.Forgetting.{AllReadable, laid_still, laid_unlaid, readable_without, readable_unlaid}
+use Rattle.tx_view.proofs.Renewed.{reached_many, same_many}
+use Rattle.tx_view.proofs.laying.evaluate.Goals as goal
+
+pub returns-in-Ok-clause-laid : goal.returns-in-Ok-clause-laid
+returns-in-Ok-clause-laid g c width h =
+    let many : length c.refresh.new.self.renewed ≡ length c.refresh.new.self.kept =
+    ap length c.in-Ok.ensures.renewed ∙ reached_many beginning c.args.bridges.now.kept
+    ∙ same_many c.args.bridges.now.kept c.refresh.new.self.kept c.in-Ok.ensures.units in
+    subst (AreLaid width c.refresh.new.self.kept) (sym c.forget_renewed.ensures)
+    (laid_still width c.refresh.new.self.renewed c.args.bridges.now.kept c.refresh.new.self.kept c.args.units.now h
+    c.in-Ok.ensures.units many c.in-Ok.ensures.stays)
+
+pub returns-in-Ok-clause-readable : goal.returns-in-Ok-clause-readable
+returns-in-Ok-clause-readable g c h =
+    subst AllReadable (sym c.forget_renewed.ensures)
+    (readable_without c.refresh.new.self.renewed c.args.units.now h)
+
+pub returns-in-Err-clause-laid : goal.returns-in-Err-clause-laid
+returns-in-Err-clause-laid g c width h =
+    subst (AreLaid width c.refresh.new.self.kept) (sym c.forget_all.ensures)
+    (laid_unlaid width c.args.bridges.now.kept c.refresh.new.self.kept c.args.units.now h c.in-Err.ensures.units)
+
+pub returns-in-Err-clause-readable : goal.returns-in-Err-clause-readable
+returns-in-Err-clause-readable g c h =
+    subst AllReadable (sym c.forget_all.ensures) (readable_unlaid c.args.units.now h)

@@ -1,0 +1,120 @@
+use Rattle.std.proofs.Common.{◌≡◌, ◌∙◌, ◌++◌, List, [], take, drop, length, false, ap, refl, sym, subst, arith}
+use Rattle.std.proofs.lemmas.Grind.{common_steps}
+use Rattle.std.specs.List.{AllByRecursion}
+use Rattle.std.specs.Vec.{with_items}
+use Rattle.std.specs.Prelude.{if◌then◌else◌, map}
+use Rattle.tx_doc.specs.Buffers.{tree_of, with_tree}
+use Rattle.tx_doc.specs.declared.buffer.Buffer.{Buffer}
+use Rattle.tx_units.specs.Units.{units}
+use Rattle.tx_bridge.specs.Carrying.{had}
+use Rattle.tx_bridge.specs.Entries.{Kept, units_of}
+use Rattle.tx_bridge.specs.Names.{Sources, Carry as CarryKept}
+use Rattle.tx_bridge.specs.UnitLists.{IsPlaced}
+use Rattle.tx_view.specs.declared.shown.Shown.{Shown}
+use Rattle.tx_view.specs.declared.view.View.TheInside.{Inside}
+use Rattle.tx_view.specs.Laid.{laid_in, moved}
+use Rattle.tx_view.specs.Names.{Carry}
+use Rattle.tx_view.specs.WholeViews.{WholeView, whole_of, stores_of, all_of}
+use Rattle.tx_view.proofs.Blank.{many_with}
+use Rattle.tx_view.proofs.Moved.{carried_on}
+use Rattle.tx_view.proofs.Standing.{stale, stale_view, first_sum}
+use Rattle.tx_view.proofs.view.View.edited.Goals as goal
+
+pub invariant_of-self-2 : goal.invariant_of-self-2
+invariant_of-self-2 g c =
+    let bs : List Buffer = c.deref.result.now in
+    let after : List Buffer = with_tree bs c.args.buffer c.args.tree.now in
+    let kept : Kept = c.self.inside.bridges.kept in
+    let olds : List Shown = all_of c.self.inside in
+    let blanks : List Shown = c.in_ok-after.new.items in
+    let ss = c.carried.new.bridges.sources in
+    let whole : take c.in_ok-after.new.len (c.move_shown.new.new
+    ++ drop (length c.move_shown.new.new) c.in_ok-after.new.items) ≡ c.move_shown.new.new =
+    grind (arith, common_steps) in
+    let moved_all = c.move_shown.ensures
+    ∙ ap (moved ss (if c.self.inside.fresh then c.deref_mut-2.result.now else c.deref_mut-3.result.now))
+    c.deref_mut.ensures.value
+    ∙ ap (λ xs. moved ss (if c.self.inside.fresh then xs else c.deref_mut-3.result.now) blanks)
+    c.deref_mut-2.ensures.value
+    ∙ ap (λ xs. moved ss (if c.self.inside.fresh then c.self.inside.units.items else xs) blanks)
+    c.deref_mut-3.ensures.value in
+    let on = carried_on c.self.inside.width c.args.buffer c.args.mods.now (tree_of bs c.args.buffer) kept
+    c.carried.new.bridges.kept olds blanks _ ss (units after) c.self.invariant.laid c.self.invariant.all_readable
+    c.in_ok-after.ensures.blank
+    (subst (AllByRecursion IsPlaced) (sym c.self.invariant.of_buffers)
+    (c.unit_list_laws.ensures.units c.self.inside.buffers.items).placed)
+    (c.unit_list_laws.ensures.units after).placed c.in_ok-after.ensures.kept c.in_ok-after.ensures.sources
+    (whole ∙ moved_all) in
+    let many = ap length c.in_ok-after.ensures.buffers ∙ many_with bs c.args.buffer c.args.tree.now
+    ∙ ap length c.deref.ensures.value in
+    stale _ (record {
+      some = omega (arith, many, c.self.invariant.some);
+      few = omega (arith, many, c.self.invariant.few);
+      least_width = c.self.invariant.least_width;
+      most_width = c.self.invariant.most_width;
+      least_height = c.self.invariant.least_height;
+      most_height = c.self.invariant.most_height;
+      of_buffers = c.in_ok-after.ensures.units ∙ ap units (sym c.in_ok-after.ensures.buffers);
+    }) refl c.clear.ensures.items (c.truncate.ensures.items ∙ ap (take 1) c.self.invariant.rows ∙ first_sum _)
+    (c.truncate-2.ensures.items ∙ ap (take 1) c.self.invariant.errors ∙ first_sum _) on.laid_out on.readable
+
+pub returns-clause-ok : goal.returns-clause-ok
+unfolding Carry
+returns-clause-ok g c =
+    let bs : List Buffer = c.deref.result.now in
+    let after : List Buffer = with_tree bs c.args.buffer c.args.tree.now in
+    let kept : Kept = c.self.inside.bridges.kept in
+    let olds : List Shown = all_of c.self.inside in
+    let blanks : List Shown = c.in_ok-after.new.items in
+    let ss = c.carried.new.bridges.sources in
+    let whole : take c.in_ok-after.new.len (c.move_shown.new.new
+    ++ drop (length c.move_shown.new.new) c.in_ok-after.new.items) ≡ c.move_shown.new.new =
+    grind (arith, common_steps) in
+    let moved_all = c.move_shown.ensures
+    ∙ ap (moved ss (if c.self.inside.fresh then c.deref_mut-2.result.now else c.deref_mut-3.result.now))
+    c.deref_mut.ensures.value
+    ∙ ap (λ xs. moved ss (if c.self.inside.fresh then xs else c.deref_mut-3.result.now) blanks)
+    c.deref_mut-2.ensures.value
+    ∙ ap (λ xs. moved ss (if c.self.inside.fresh then c.self.inside.units.items else xs) blanks)
+    c.deref_mut-3.ensures.value in
+    let on = carried_on c.self.inside.width c.args.buffer c.args.mods.now (tree_of bs c.args.buffer) kept
+    c.carried.new.bridges.kept olds blanks (with_items c.in_ok-after.new c.move_shown.new.new).items ss (units after)
+    c.self.invariant.laid c.self.invariant.all_readable
+    c.in_ok-after.ensures.blank
+    (subst (AllByRecursion IsPlaced) (sym c.self.invariant.of_buffers)
+    (c.unit_list_laws.ensures.units c.self.inside.buffers.items).placed)
+    (c.unit_list_laws.ensures.units after).placed c.in_ok-after.ensures.kept c.in_ok-after.ensures.sources
+    (whole ∙ moved_all) in
+    let v : Inside = record {
+      buffers = c.in_ok-after.after;
+      width = c.self.inside.width;
+      height = c.self.inside.height;
+      fresh = false;
+      bridges = c.carried.new.bridges;
+      units = c.clear.new.self;
+      hidden = with_items c.in_ok-after.new c.move_shown.new.new;
+      rows = c.truncate.new.self;
+      errors = c.truncate-2.new.self;
+      pages = c.clear-2.new.self;
+      work = c.self.inside.work;
+    } in
+    let base = stale_view v after
+    (CarryKept c.args.buffer c.args.mods.now (tree_of bs c.args.buffer) kept (units after))
+    (map (had (laid_in olds)) (Sources c.args.buffer c.args.mods.now (tree_of bs c.args.buffer) (units_of kept)
+    (units after))) refl c.clear.ensures.items c.clear-2.ensures.items c.in_ok-after.ensures.buffers
+    c.in_ok-after.ensures.kept on.attributes in
+    base
+    ∙ ap (λ (cs : List Buffer). record (whole_of c.self.inside) {
+      buffers = with_tree cs c.args.buffer c.args.tree.now;
+      fresh = false;
+      shown = record { units = []; pages = [] };
+      stores = Carry c.args.buffer c.args.mods.now cs (stores_of c.self.inside)
+          (with_tree cs c.args.buffer c.args.tree.now);
+    }) c.deref.ensures.value
+    ∙ ap (λ (w : WholeView). record w {
+      buffers = with_tree w.buffers c.args.buffer c.args.tree.now;
+      fresh = false;
+      shown = record { units = []; pages = [] };
+      stores = Carry c.args.buffer c.args.mods.now w.buffers w.stores
+          (with_tree w.buffers c.args.buffer c.args.tree.now);
+    }) c.self.view_is

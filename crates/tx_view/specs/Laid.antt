@@ -1,0 +1,111 @@
+-- Units that are laid out, with what is kept of them. Private clauses cite these.
+use Rattle.std.specs.Prelude.{◌≡◌, ℕ, ◌≤◌, ◌+◌, ◌*◌, Bool, if◌then◌else◌, List, [], ◌∷◌, map, length, Option, Some}
+use Rattle.std.specs.Prelude.{None}
+use Rattle.std.specs.Prelude.{option_and_then, slice_get}
+use Rattle.tx_tree.specs.WideTree.{size_of}
+use Rattle.tx_origin.specs.Values.{WideValue, plain}
+use Rattle.tx_units.specs.declared.kinds.Unit.{Unit as DocUnit}
+use Rattle.tx_items.specs.declared.attributes.Attrs.{Attrs}
+use Rattle.tx_items.specs.Shows.{shown_paragraphs}
+use Rattle.tx_view_form.specs.Outcomes.{Moment, behind, charge, value_of}
+use Rattle.tx_view_form.specs.Started.{attributes_of}
+use Rattle.tx_view_form.specs.Views.{IsShown}
+use Rattle.tx_view_form.specs.Weights.{weight_of}
+use Rattle.tx_bridge.specs.Entries.{Entry, Kept, outcome_of}
+use Rattle.tx_view.specs.Costs.{items_of}
+use Rattle.tx_view.specs.Stores.{is_laid_for}
+use Rattle.tx_view.specs.Units.{unit_view}
+use Rattle.tx_view.specs.declared.shown.Shown.{Shown}
+
+abbrev pub laid_in : List Shown → List (Option Attrs)
+laid_in xs = map (λ x. x.laid) xs
+
+-- this is shown of a unit with this path, where these are the attributes before it and this is its value
+pub record IsLaidOut (width : ℕ) (a : Attrs) (v : WideValue) (path : Option (List ℕ)) (x : Shown) : Type 0 where
+  pub shown : IsShown width a v path (unit_view x)
+  pub few_lines : length x.lines.items ≤ weight_of (shown_paragraphs a v)
+  pub few_errors : length x.errors.items ≤ size_of (plain v)
+
+-- What is shown has the unit's path. Where it was laid out for some attributes, it is what these and what is kept of
+-- the unit show.
+pub record IsLaid (width : ℕ) (e : Entry) (x : Shown) : Type 0 where
+  pub path : x.path ≡ e.unit.path
+  pub laid : (a : Attrs) → x.laid ≡ Some a → IsLaidOut width a (value_of e.trace) e.unit.path x
+
+abbrev pub AreLaid : ℕ → Kept → List Shown → Type 0
+AreLaid width [] [] = Unit {0}
+AreLaid width [] (x ∷ xs) = ⊥
+AreLaid width (e ∷ es) [] = ⊥
+AreLaid width (e ∷ es) (x ∷ xs) = IsLaid width e x × AreLaid width es xs
+
+-- ---- what laying out takes
+
+-- the charges of the units with a flag, from a moment on
+abbrev pub flagged_from : Moment → List Bool → List DocUnit → ℕ
+flagged_from m [] us = 0
+flagged_from m (f ∷ fs) [] = 0
+flagged_from m (f ∷ fs) (u ∷ us) =
+    (if f then charge m (outcome_of m u) else 0) + flagged_from (behind m (outcome_of m u)) fs us
+
+-- the items of the units that aren't laid out for the attributes before them, from a moment on
+abbrev pub unlaid_from : Moment → List DocUnit → List (Option Attrs) → ℕ
+unlaid_from m [] laid = 0
+unlaid_from m (u ∷ us) [] = 0
+unlaid_from m (u ∷ us) (a ∷ laid) =
+    (if is_laid_for a (attributes_of m.env) then 0 else items_of m u) + unlaid_from (behind m (outcome_of m u)) us laid
+
+-- what was laid out of units with a flag is dropped
+abbrev pub forgotten : List Bool → List (Option Attrs) → List (Option Attrs)
+forgotten [] laid = laid
+forgotten (f ∷ fs) [] = []
+forgotten (f ∷ fs) (a ∷ laid) = (if f then None else a) ∷ forgotten fs laid
+
+-- so it is of what is shown
+abbrev pub unlaid : Bool → Shown → Shown
+unlaid f x = record x { laid = if f then None else x.laid }
+
+abbrev pub without : List Bool → List Shown → List Shown
+without [] xs = xs
+without (f ∷ fs) [] = []
+without (f ∷ fs) (x ∷ xs) = unlaid f x ∷ without fs xs
+
+-- One unit more is laid out, at the moment before it. `before` and `after` are the moment there and the one behind it,
+-- x and y what was shown and what is shown, and `work` is its charge, where it has a flag, and the items laid out.
+pub record IsNext (width : ℕ) (e : Entry) (f : Bool) (before after : Moment) (x y : Shown) (work : ℕ) : Type 0 where
+  pub behind_is : after ≡ behind before (outcome_of before e.unit)
+  pub laid_out : IsLaidOut width (attributes_of before.env) (value_of e.trace) e.unit.path y
+  pub attributes : y.laid ≡ Some (attributes_of before.env)
+  pub lines : length y.lines.items + 242 * after.left ≤ 242 * before.left + 49
+  pub errors : length y.errors.items + after.left ≤ before.left + 7
+  pub work_is : work ≡ (if f then charge before (outcome_of before e.unit) else 0)
+      + (if is_laid_for x.laid (attributes_of before.env) then 0 else items_of before e.unit)
+  pub most : work + 243 * after.left ≤ 243 * before.left + 49
+
+-- ---- what goes with units through an edit
+
+-- nothing is shown of a unit with this path
+pub record IsBlank (path : Option (List ℕ)) (x : Shown) : Type 0 where
+  pub path_is : x.path ≡ path
+  pub laid : x.laid ≡ None
+  pub paragraphs : x.paragraphs.items ≡ []
+  pub lines : x.lines.items ≡ []
+
+abbrev pub AreBlank : List DocUnit → List Shown → Type 0
+AreBlank [] [] = Unit {0}
+AreBlank [] (x ∷ xs) = ⊥
+AreBlank (u ∷ us) [] = ⊥
+AreBlank (u ∷ us) (x ∷ xs) = IsBlank u.path x × AreBlank us xs
+
+-- what is shown of the other unit, if there is one, but for its path
+abbrev pub with_shown : Shown → Option Shown → Shown
+with_shown x None = x
+with_shown x (Some y) = record y { path = x.path }
+
+abbrev pub shown_at : List Shown → Option ℕ → Option Shown
+shown_at old s = option_and_then (λ i. slice_get old i) s
+
+-- of each new unit what was shown of the old one that it is
+abbrev pub moved : List (Option ℕ) → List Shown → List Shown → List Shown
+moved [] old xs = xs
+moved (s ∷ ss) old [] = []
+moved (s ∷ ss) old (x ∷ xs) = with_shown x (shown_at old s) ∷ moved ss old xs

@@ -1,0 +1,167 @@
+// What is shown of units goes with them through an edit.
+ghost use Rattle.std.specs.Prelude.{◌≡◌, ℕ, ◌+◌, ◌≤◌, ◌<◌, ◌^◌, length, slice_get, if◌then◌else◌, IfOk, OnOk, OnErr};
+ghost use Rattle.std.specs.Prelude.{Some, None};
+ghost use Rattle.tx_mod.specs.Followed.{changed_by_all};
+ghost use Rattle.tx_mod.specs.InTurn.{cost_of};
+ghost use Rattle.tx_doc.specs.Buffers.{tree_of, with_tree};
+ghost use Rattle.tx_units.specs.Units.{units, made};
+ghost use Rattle.tx_bridge.specs.Entries.{units_of};
+ghost use Rattle.tx_bridge.specs.Names.{Carry, Sources};
+ghost use Rattle.tx_view.specs.Laid.{IsBlank, AreBlank, with_shown, shown_at, moved};
+
+use crate::sharing::shared;
+use crate::shown::Shown;
+use std::alloc::Global;
+use std::mem;
+use std::sync::ledger::Ledger;
+use tx_base::{Memory, Steps};
+use tx_bridge::{Bridges, unit_list_laws};
+use tx_doc::Buffer;
+use tx_mod::Mod;
+use tx_tree::{Path, Tree};
+use tx_units::{Unit, unit_count_law, units};
+
+// The buffers with this tree in place of that of one of them.
+fn with_tree(
+    alloc: Global,
+    buffers: &[Buffer],
+    buffer: u32,
+    tree: &Tree,
+) -> Result<Vec<Buffer>, Memory>
+    requires { buffer < length buffers.now }
+    ensures { IfOk result (λ bs. bs.items ≡ with_tree buffers.now buffer tree.now) }
+{
+    let mut all = shared(alloc, buffers)?;
+    all[buffer as usize].tree = tree.share()?;
+    Ok(all)
+}
+
+// The same path.
+fn copied(alloc: Global, path: &Option<Path>) -> Result<Option<Path>, Memory>
+    ensures { IfOk result (λ p. p ≡ path.now) }
+{
+    match path {
+        None => Ok(None),
+        Some(path) => Ok(Some(path.copy(alloc)?)),
+    }
+}
+
+// The unit, of which nothing is laid out.
+fn blank(alloc: Global, unit: &Unit) -> Result<Shown, Memory>
+    ensures { IfOk result (λ x. IsBlank unit.now.path x) }
+{
+    Ok(Shown {
+        path: copied(alloc, &unit.path)?,
+        laid: None,
+        errors: Vec::new(alloc),
+        paragraphs: Vec::new(alloc),
+        lines: Vec::new(alloc),
+    })
+}
+
+/// The units, of which nothing is laid out.
+pub(crate) fn blanks(alloc: Global, units: &[Unit]) -> Result<Vec<Shown>, Memory>
+    ensures { IfOk result (λ all. AreBlank units.now all.items) }
+{
+    let mut all = Vec::with_capacity(alloc, units.len())?;
+    for unit in units {
+        let own = blank(alloc, unit)?;
+        all.push(own)?;
+    }
+    Ok(all)
+}
+
+// Takes what is shown of the other unit, but for its path.
+fn take(shown: &mut Shown, other: &mut Shown)
+    ensures { shown.new ≡ with_shown shown.old (Some other.old) }
+{
+    mem::swap(&mut shown.laid, &mut other.laid);
+    mem::swap(&mut shown.errors, &mut other.errors);
+    mem::swap(&mut shown.paragraphs, &mut other.paragraphs);
+    mem::swap(&mut shown.lines, &mut other.lines);
+}
+
+// Takes what is shown of the old unit that this one is, if there is one.
+fn take_from(shown: &mut Shown, source: Option<usize>, old: &mut [Shown])
+    ensures shown { shown.new ≡ with_shown shown.old (shown_at old.old source) }
+    ensures others { (k : ℕ) → (source ≡ Some k → ⊥) → slice_get old.new k ≡ slice_get old.old k }
+{
+    if let Some(i) = source {
+        if i < old.len() {
+            take(shown, &mut old[i]);
+        }
+    }
+}
+
+// Gives what is shown of the old units to the new ones that they are. It takes no memory.
+fn move_all(new: &mut [Shown], bridges: &Bridges, old: &mut [Shown])
+    requires few { length new.old < 2 ^ 32 }
+    requires once { (i j k : ℕ) → slice_get bridges.now.sources j ≡ Some (Some i)
+        → slice_get bridges.now.sources k ≡ Some (Some i) → j ≡ k }
+    ensures { new.new ≡ moved bridges.now.sources old.old new.old }
+{
+    for j in 0..new.len() {
+        let from = bridges.source(j as u32);
+        take_from(&mut new[j], from, old);
+    }
+}
+
+/// The same, of the units that are shown, or else of the hidden ones.
+pub(crate) fn move_shown(
+    new: &mut [Shown],
+    bridges: &Bridges,
+    fresh: bool,
+    shown: &mut [Shown],
+    hidden: &mut [Shown],
+)
+    requires few { length new.old < 2 ^ 32 }
+    requires once { (i j k : ℕ) → slice_get bridges.now.sources j ≡ Some (Some i)
+        → slice_get bridges.now.sources k ≡ Some (Some i) → j ≡ k }
+    ensures { new.new ≡ moved bridges.now.sources (if fresh then shown.old else hidden.old) new.old }
+{
+    if fresh {
+        move_all(new, bridges, shown);
+    } else {
+        move_all(new, bridges, hidden);
+    }
+}
+
+/// The buffers after an edit of one of them, and their units, of which nothing is laid out. What is kept of the old
+/// units goes with them.
+pub(crate) fn carried<L: Ledger>(
+    alloc: Global,
+    bridges: &mut Bridges,
+    buffers: &[Buffer],
+    buffer: u32,
+    mods: &[Mod],
+    tree: &Tree,
+    steps: &mut Steps<L>,
+) -> Result<(Vec<Buffer>, Vec<Shown>), Memory>
+    requires some { 1 ≤ length buffers.now }
+    requires few { length buffers.now ≤ 64 }
+    requires within { buffer < length buffers.now }
+    requires changed { changed_by_all mods.now (tree_of buffers.now buffer) ≡ Some tree.now }
+    requires of_buffers { units_of bridges.old.kept ≡ units buffers.now }
+    ensures buffers { IfOk result (λ p. p.0.items ≡ with_tree buffers.now buffer tree.now) }
+    ensures blank { IfOk result (λ p. AreBlank (units (with_tree buffers.now buffer tree.now)) p.1.items) }
+    ensures kept { OnOk result (bridges.new.kept ≡ Carry buffer mods.now (tree_of buffers.now buffer) bridges.old.kept
+        (units (with_tree buffers.now buffer tree.now))) }
+    ensures sources { OnOk result (bridges.new.sources ≡ Sources buffer mods.now (tree_of buffers.now buffer)
+        (units_of bridges.old.kept) (units (with_tree buffers.now buffer tree.now))) }
+    ensures once { OnOk result ((i j k : ℕ) → slice_get bridges.new.sources j ≡ Some (Some i)
+        → slice_get bridges.new.sources k ≡ Some (Some i) → j ≡ k) }
+    ensures units { OnOk result (units_of bridges.new.kept ≡ units (with_tree buffers.now buffer tree.now)) }
+    ensures few { IfOk result (λ p. length p.1.items < 2 ^ 32) }
+    ensures refused { OnErr result (bridges.new ≡ bridges.old) }
+    ensures counted { steps.new ≤ steps.old
+        + (cost_of mods.now + made (with_tree buffers.now buffer tree.now)) }
+{
+    unit_list_laws();
+    let after = with_tree(alloc, buffers, buffer, tree)?;
+    unit_count_law(&after);
+    let made = units(alloc, &after, steps)?;
+    let new = blanks(alloc, &made)?;
+    let before = &buffers[buffer as usize].tree;
+    bridges.carry(alloc, buffer, before, mods, made, steps)?;
+    Ok((after, new))
+}

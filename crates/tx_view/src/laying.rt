@@ -1,0 +1,319 @@
+// Units laid out one behind the other, each by what is kept of it.
+ghost use Rattle.std.specs.Prelude.{◌≡◌, ◌+◌, ◌*◌, ◌≤◌, ◌<◌, ◌^◌, length, slice_get, All, IfOk, OnOk, OnErr, Some};
+ghost use Rattle.std.specs.Prelude.{true, false, ℕ, map};
+ghost use Rattle.std.specs.Prelude.{if◌then◌else◌};
+ghost use Rattle.std.specs.Option.{unwrap_or};
+ghost use Rattle.tx_tree.specs.WideTree.{size_of};
+ghost use Rattle.tx_origin.specs.Values.{plain};
+ghost use Rattle.tx_exec.specs.Outcomes.{wide_outcome};
+ghost use Rattle.tx_items.specs.Shows.{shown_paragraphs};
+ghost use Rattle.tx_items.specs.declared.attributes.Attrs.{Attrs};
+ghost use Rattle.tx_view_form.specs.Outcomes.{beginning, value_of};
+ghost use Rattle.tx_view_form.specs.Started.{attributes_of};
+ghost use Rattle.tx_view_form.specs.Views.{AreShown, lines_of, paragraphs_at};
+ghost use Rattle.tx_view_form.specs.Errors.{errors_of};
+ghost use Rattle.tx_view_form.specs.Weights.{weight_of};
+ghost use Rattle.tx_bridge.specs.Entries.{Entry, units_of, fresh_from, outcome_of};
+ghost use Rattle.tx_bridge.specs.Names.{Charge};
+ghost use Rattle.tx_bridge.specs.Reached.{reached_from};
+ghost use Rattle.tx_view.specs.Variables.{AreVariables};
+ghost use Rattle.tx_view.specs.Units.{unit_view, unit_views, IsReadable};
+ghost use Rattle.tx_view.specs.Stores.{same_attrs, is_laid_for, attributes_from};
+ghost use Rattle.tx_view.specs.Costs.{items_in, items_of, relaid_from};
+ghost use Rattle.tx_view.specs.Laid.{IsLaid, IsLaidOut, IsNext, AreLaid, laid_in, flagged_from, unlaid_from, unlaid};
+ghost use Rattle.tx_view.specs.Laid.{without};
+
+use crate::shown::{Shown, show};
+use crate::starts::Variables;
+use std::alloc::Global;
+use std::sync::ledger::Ledger;
+use tx_base::{Memory, Steps};
+use tx_bridge::{Bridges, Moment, over_value};
+use tx_exec::Outcome;
+use tx_exec_form::trace_laws;
+use tx_items::{Attrs, Paragraph};
+use tx_tree::Path;
+use tx_view_form::weight_laws;
+
+// Both are the same attributes.
+fn same_attrs(one: &Attrs, other: &Attrs) -> bool
+    ensures { result ≡ same_attrs one.now other.now }
+{
+    one.series.bytes() == other.series.bytes()
+        && one.shape.bytes() == other.shape.bytes()
+        && one.color.bytes() == other.color.bytes()
+        && one.mode.bytes() == other.mode.bytes()
+        && one.left == other.left
+        && one.right == other.right
+        && one.first == other.first
+}
+
+// It was laid out for these attributes.
+fn is_laid_for(shown: &Shown, attrs: &Attrs) -> bool
+    ensures { result ≡ is_laid_for shown.now.laid attrs.now }
+{
+    match &shown.laid {
+        None => false,
+        Some(laid) => same_attrs(laid, attrs),
+    }
+}
+
+// Nothing is laid out, where this is true.
+fn forget(shown: &mut Shown, renewed: bool)
+    ensures { shown.new ≡ unlaid renewed shown.old }
+{
+    if renewed {
+        shown.laid = None;
+    }
+}
+
+// What was laid out of units that were evaluated anew isn't theirs any more.
+fn forget_renewed(units: &mut [Shown], bridges: &Bridges)
+    requires few { length units.old < 2 ^ 32 }
+    ensures { units.new ≡ without bridges.now.renewed units.old }
+{
+    for i in 0..units.len() {
+        forget(&mut units[i], bridges.renewed(i as u32));
+    }
+}
+
+// Nothing is laid out.
+fn forget_all(units: &mut [Shown])
+    ensures { units.new ≡ map (unlaid true) units.old }
+{
+    for i in 0..units.len() {
+        units[i].laid = None;
+    }
+}
+
+// Evaluates the units of which nothing fits. What was laid out of them isn't theirs any more.
+#[tactic(auto, unfolding(tx_bridge::specs::Names::Fresh))]
+fn evaluate<L: Ledger>(
+    alloc: Global,
+    bridges: &mut Bridges,
+    units: &mut [Shown],
+    steps: &mut Steps<L>,
+) -> Result<(), Memory>
+    requires few { length units.old < 2 ^ 32 }
+    ensures kept { OnOk result (bridges.new.kept ≡ fresh_from beginning (units_of bridges.old.kept)) }
+    ensures renewed { OnOk result (bridges.new.renewed ≡ reached_from beginning bridges.old.kept) }
+    ensures shown { OnOk result (units.new ≡ without bridges.new.renewed units.old) }
+    ensures counted { OnOk result (steps.new ≡ steps.old + Charge bridges.old.kept) }
+    ensures units { units_of bridges.new.kept ≡ units_of bridges.old.kept }
+    ensures laid { (width : ℕ) → AreLaid width bridges.old.kept units.old → AreLaid width bridges.new.kept units.new }
+    ensures readable { All (λ s. IsReadable (unit_view s)) units.old
+        → All (λ s. IsReadable (unit_view s)) units.new }
+{
+    match bridges.refresh(alloc, steps) {
+        Ok(()) => {
+            forget_renewed(units, bridges);
+            Ok(())
+        }
+        Err(memory) => {
+            forget_all(units);
+            Err(memory)
+        }
+    }
+}
+
+// How many items paragraphs have.
+fn item_count(paragraphs: &[Paragraph]) -> u64
+    requires few { items_in paragraphs.now < 2 ^ 63 }
+    ensures { result ≡ items_in paragraphs.now }
+{
+    let mut count = 0;
+    for paragraph in paragraphs {
+        count += paragraph.items.all().len() as u64;
+    }
+    count
+}
+
+// A law: what a unit that comes to this shows weighs at most 242 for each unit of its size.
+fn outcome_weight_law(outcome: &Outcome)
+    ensures { (a : Attrs) → weight_of (shown_paragraphs a (value_of (wide_outcome outcome.now)))
+        ≤ 242 * size_of (plain (value_of (wide_outcome outcome.now))) }
+{
+    weight_laws();
+    if let Outcome::Done(trace) = outcome {
+        let _size = trace.value.size();
+    }
+}
+
+// What a unit with this path shows, where it comes to this and these are the attributes before it.
+fn shown_of<L: Ledger>(
+    alloc: Global,
+    path: &Option<Path>,
+    outcome: &Outcome,
+    attrs: Attrs,
+    width: u32,
+    steps: &mut Steps<L>,
+) -> Result<Shown, Memory>
+    requires least_width { 20 ≤ width }
+    requires most_width { width ≤ 500 }
+    requires small { size_of (plain (value_of (wide_outcome outcome.now))) ≤ 1000000 }
+    ensures shown { IfOk result (λ s. IsLaidOut width attrs (value_of (wide_outcome outcome.now)) path.now s) }
+    ensures laid { IfOk result (λ s. s.laid ≡ Some attrs) }
+    ensures readable { IfOk result (λ s. IsReadable (unit_view s)) }
+    ensures counted { OnOk result (steps.new ≡ steps.old
+        + items_in (paragraphs_at path.now attrs (value_of (wide_outcome outcome.now)))) }
+{
+    match outcome {
+        Outcome::Over => show(alloc, path, &over_value(alloc)?, attrs, width, steps),
+        Outcome::Done(trace) => show(alloc, path, &trace.value, attrs, width, steps),
+    }
+}
+
+// Lays a unit out that comes to this, unless it is laid out for these attributes, and answers how many items were laid
+// out.
+fn lay<L: Ledger>(
+    alloc: Global,
+    outcome: &Outcome,
+    attrs: Attrs,
+    shown: &mut Shown,
+    width: u32,
+    steps: &mut Steps<L>,
+) -> Result<u64, Memory>
+    requires least_width { 20 ≤ width }
+    requires most_width { width ≤ 500 }
+    requires small { size_of (plain (value_of (wide_outcome outcome.now))) ≤ 1000000 }
+    requires laid { (a : Attrs) → shown.old.laid ≡ Some a
+        → IsLaidOut width a (value_of (wide_outcome outcome.now)) shown.old.path shown.old }
+    requires readable { IsReadable (unit_view shown.old) }
+    ensures shown { OnOk result
+        (IsLaidOut width attrs (value_of (wide_outcome outcome.now)) shown.old.path shown.new) }
+    ensures laid { OnOk result (shown.new.laid ≡ Some attrs) }
+    ensures readable { IsReadable (unit_view shown.new) }
+    ensures items { IfOk result (λ n. n ≡ if is_laid_for shown.old.laid attrs then 0
+        else items_in (paragraphs_at shown.old.path attrs (value_of (wide_outcome outcome.now)))) }
+    ensures counted { IfOk result (λ n. steps.new ≡ steps.old + n) }
+    ensures err { OnErr result (shown.new ≡ shown.old) }
+{
+    if is_laid_for(shown, &attrs) {
+        return Ok(0);
+    }
+    weight_laws();
+    outcome_weight_law(outcome);
+    *shown = shown_of(alloc, &shown.path, outcome, attrs, width, steps)?;
+    Ok(item_count(&shown.paragraphs))
+}
+
+// Lays the unit of this number out, and goes behind it. Answers its charge, if it was evaluated anew, and how many
+// items were laid out.
+fn lay_next<L: Ledger>(
+    alloc: Global,
+    variables: &Variables,
+    bridges: &Bridges,
+    i: u32,
+    moment: &mut Moment,
+    shown: &mut Shown,
+    width: u32,
+    steps: &mut Steps<L>,
+) -> Result<u64, Memory>
+    requires least_width { 20 ≤ width }
+    requires most_width { width ≤ 500 }
+    requires variables { AreVariables variables.now }
+    requires there { i < length bridges.now.kept }
+    requires fresh { (e : Entry) → slice_get bridges.now.kept i ≡ Some e → e.trace ≡ outcome_of moment.old e.unit }
+    requires laid { (e : Entry) → slice_get bridges.now.kept i ≡ Some e → IsLaid width e shown.old }
+    requires readable { IsReadable (unit_view shown.old) }
+    requires few { moment.old.left < 2 ^ 32 }
+    ensures next { IfOk result (λ n. (e : Entry) → slice_get bridges.now.kept i ≡ Some e
+        → IsNext width e (unwrap_or (slice_get bridges.now.renewed i) false) moment.old moment.new shown.old
+        shown.new n) }
+    ensures counted { OnOk result ((e : Entry) → slice_get bridges.now.kept i ≡ Some e → steps.new ≡ steps.old
+        + (if is_laid_for shown.old.laid (attributes_of moment.old.env) then 0 else items_of moment.old e.unit)) }
+    ensures readable { IsReadable (unit_view shown.new) }
+    ensures err { OnErr result (shown.new ≡ shown.old) }
+{
+    let Some(outcome) = bridges.outcome(i) else {
+        unreachable!();
+    };
+    weight_laws();
+    trace_laws();
+    outcome_weight_law(outcome);
+    let attrs = variables.attributes(alloc, moment.env())?;
+    let before = moment.left();
+    bridges.pass(i, moment)?;
+    let items = lay(alloc, outcome, attrs, shown, width, steps)?;
+    if bridges.renewed(i) {
+        return Ok(items + (before - moment.left()));
+    }
+    Ok(items)
+}
+
+// Lays all units out that aren't laid out for the attributes before them, and answers the charges of those that were
+// evaluated anew and how many items were laid out.
+fn lay_all<L: Ledger>(
+    alloc: Global,
+    bridges: &Bridges,
+    units: &mut [Shown],
+    width: u32,
+    steps: &mut Steps<L>,
+) -> Result<u64, Memory>
+    requires least_width { 20 ≤ width }
+    requires most_width { width ≤ 500 }
+    requires few { length bridges.now.kept < 2 ^ 23 }
+    requires fresh { bridges.now.kept ≡ fresh_from beginning (units_of bridges.now.kept) }
+    requires laid { AreLaid width bridges.now.kept units.old }
+    requires readable { All (λ s. IsReadable (unit_view s)) units.old }
+    ensures shown { OnOk result (AreShown width beginning (units_of bridges.now.kept) (unit_views units.new)) }
+    ensures attributes { OnOk result (laid_in units.new ≡ attributes_from beginning (units_of bridges.now.kept)) }
+    ensures lines { OnOk result (length (lines_of (unit_views units.new)) < 2 ^ 32) }
+    ensures errors { OnOk result (length (errors_of (unit_views units.new)) < 2 ^ 32) }
+    ensures counted { OnOk result
+        (steps.new ≡ steps.old + unlaid_from beginning (units_of bridges.now.kept) (laid_in units.old)) }
+    ensures work { IfOk result (λ n. n
+        ≡ flagged_from beginning bridges.now.renewed (units_of bridges.now.kept)
+        + unlaid_from beginning (units_of bridges.now.kept) (laid_in units.old)) }
+    ensures laid { AreLaid width bridges.now.kept units.new }
+    ensures readable { All (λ s. IsReadable (unit_view s)) units.new }
+{
+    let variables = Variables::new(alloc)?;
+    let mut moment = Moment::beginning(alloc);
+    let mut work = 0;
+    for i in 0..units.len() {
+        let more = lay_next(
+            alloc,
+            &variables,
+            bridges,
+            i as u32,
+            &mut moment,
+            &mut units[i],
+            width,
+            steps,
+        )?;
+        work += more;
+    }
+    Ok(work)
+}
+
+/// Evaluates the units of which nothing fits, and lays those out that aren't laid out as they should be. Answers by how
+/// much the steps rose.
+pub(crate) fn lay_out<L: Ledger>(
+    alloc: Global,
+    bridges: &mut Bridges,
+    units: &mut [Shown],
+    width: u32,
+    steps: &mut Steps<L>,
+) -> Result<u64, Memory>
+    requires least_width { 20 ≤ width }
+    requires most_width { width ≤ 500 }
+    requires few { length bridges.old.kept < 2 ^ 23 }
+    requires laid { AreLaid width bridges.old.kept units.old }
+    requires readable { All (λ s. IsReadable (unit_view s)) units.old }
+    ensures shown { OnOk result (AreShown width beginning (units_of bridges.old.kept) (unit_views units.new)) }
+    ensures kept { OnOk result (bridges.new.kept ≡ fresh_from beginning (units_of bridges.old.kept)) }
+    ensures attributes { OnOk result (laid_in units.new ≡ attributes_from beginning (units_of bridges.old.kept)) }
+    ensures lines { OnOk result (length (lines_of (unit_views units.new)) < 2 ^ 32) }
+    ensures errors { OnOk result (length (errors_of (unit_views units.new)) < 2 ^ 32) }
+    ensures counted { IfOk result (λ n. steps.new ≡ steps.old + n) }
+    ensures work { IfOk result (λ n. n
+        ≡ Charge bridges.old.kept + relaid_from beginning bridges.old.kept (laid_in units.old)) }
+    ensures units { units_of bridges.new.kept ≡ units_of bridges.old.kept }
+    ensures laid { AreLaid width bridges.new.kept units.new }
+    ensures readable { All (λ s. IsReadable (unit_view s)) units.new }
+{
+    evaluate(alloc, bridges, units, steps)?;
+    let work = lay_all(alloc, bridges, units, width, steps)?;
+    Ok(work)
+}
