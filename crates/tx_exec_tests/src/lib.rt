@@ -2,6 +2,8 @@
 #![tactic(auto)]
 
 #[cfg(test)]
+mod beside;
+#[cfg(test)]
 mod cases;
 #[cfg(test)]
 mod computed;
@@ -13,6 +15,12 @@ mod flows;
 mod found;
 #[cfg(test)]
 mod heights;
+#[cfg(test)]
+mod plain;
+#[cfg(test)]
+mod plain_rows;
+#[cfg(test)]
+mod plain_trees;
 #[cfg(test)]
 mod rows;
 #[cfg(test)]

@@ -16,7 +16,33 @@ use tx_base::Steps;
 use tx_env::Env;
 use tx_exec::{Outcome, eval};
 use tx_exec_form::MOST_LEVELS;
+use tx_origin::Tagged;
 use tx_tree::Tree;
+
+// Sets the names of the row, and the macro that passes its argument on.
+fn set_names<L: Ledger>(
+    alloc: Global,
+    case: &Case,
+    env: &mut Env,
+    steps: &mut Steps<L>,
+) -> Option<()> {
+    set_all(alloc, env, case.1, steps)?;
+    set_all(alloc, env, "passed (macro \"x\" (arg \"x\"))", steps)
+}
+
+fn evaluated<L: Ledger>(
+    alloc: Global,
+    case: &Case,
+    tagged: &Tagged,
+    allowance: u64,
+    steps: &mut Steps<L>,
+) -> Option<Outcome>
+    requires { allowance ≤ 1000000 }
+{
+    let mut env = Env::new(alloc);
+    set_names(alloc, case, &mut env, steps)?;
+    eval(alloc, tagged, &mut env, allowance, steps).ok()
+}
 
 // What the tree comes to in the environment of the row, with so many steps.
 fn outcome<L: Ledger>(
@@ -28,10 +54,7 @@ fn outcome<L: Ledger>(
 ) -> Option<Outcome>
     requires { allowance ≤ 1000000 }
 {
-    let mut env = Env::new(alloc);
-    set_all(alloc, &mut env, case.1, steps)?;
-    set_all(alloc, &mut env, "passed (macro \"x\" (arg \"x\"))", steps)?;
-    eval(alloc, &at_root(tree), &mut env, allowance, steps).ok()
+    evaluated(alloc, case, &at_root(tree), allowance, steps)
 }
 
 fn holds_at_its_cost<L: Ledger>(alloc: Global, case: &Case, steps: &mut Steps<L>) -> Option<bool> {
@@ -63,20 +86,32 @@ fn is_over_below<L: Ledger>(alloc: Global, case: &Case, steps: &mut Steps<L>) ->
     is_over(alloc, case, tree, allowance, steps)
 }
 
+// Whether it came to a value at this cost, and needed all levels.
+fn is_highest(outcome: &Outcome, cost: u64) -> bool {
+    match outcome {
+        Outcome::Over => false,
+        Outcome::Done(trace) => trace.cost == cost && trace.height == MOST_LEVELS,
+    }
+}
+
+// The tree behind so many nodes.
+fn raised<L: Ledger>(alloc: Global, case: &Case, count: u32, steps: &mut Steps<L>) -> Option<Tree> {
+    let tree = tree_of(alloc, case.0, steps)?;
+    passed(alloc, tree, count, steps)
+}
+
 // The tree needs twenty levels more behind ten calls, and one more for each node round them.
 fn rises<L: Ledger>(alloc: Global, case: &Case, steps: &mut Steps<L>) -> Option<bool> {
     let count = MOST_LEVELS.checked_sub(20)?.checked_sub(case.7)?;
     let cost = case.6.min(900_000) + 20 + u64::from(count);
-    let tree = passed(alloc, tree_of(alloc, case.0, steps)?, count, steps)?;
-    match outcome(alloc, case, tree, cost.min(1_000_000), steps)? {
-        Outcome::Over => Some(false),
-        Outcome::Done(trace) => Some(trace.cost == cost && trace.height == MOST_LEVELS),
-    }
+    let tree = raised(alloc, case, count, steps)?;
+    let highest = outcome(alloc, case, tree, cost.min(1_000_000), steps)?;
+    Some(is_highest(&highest, cost))
 }
 
 fn is_over_above<L: Ledger>(alloc: Global, case: &Case, steps: &mut Steps<L>) -> Option<bool> {
     let count = MOST_LEVELS.checked_sub(19)?.checked_sub(case.7)?;
-    let tree = passed(alloc, tree_of(alloc, case.0, steps)?, count, steps)?;
+    let tree = raised(alloc, case, count, steps)?;
     is_over(alloc, case, tree, 1_000_000, steps)
 }
 
