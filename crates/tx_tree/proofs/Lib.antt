@@ -14,3 +14,5 @@ pub mod PathFaults
 pub mod PlaceFaults
 pub mod TreeFaults
 pub mod PathsPrinted
+pub mod Growing
+pub mod FrontBytes

@@ -1,7 +1,7 @@
 -- Bytes spell at most one path.
-use Rattle.std.proofs.Common.{◌≡◌, ◌≢◌, ℕ, ◌≤◌, true, List, [], ◌∷◌, ◌++◌, length, refl, sym, ap, subst, ◌∙◌, arith}
+use Rattle.std.proofs.Common.{◌≡◌, ℕ, ◌≤◌, true, List, [], ◌∷◌, ◌++◌, length, refl, sym, ap, subst, ◌∙◌, arith}
 use Rattle.std.specs.List.{AllByRecursion}
-use Rattle.tx_tree.specs.PathSpelling.{is_digit, number_after, IsNumber, AreNumbers, SpellsPath}
+use Rattle.tx_tree.specs.PathSpelling.{is_digit, number_after, AreNumbers, SpellsPath}
 
 abbrev AreDigits : List ℕ → Type 0
 AreDigits = AllByRecursion (λ b. is_digit b ≡ true)

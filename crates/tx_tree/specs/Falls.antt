@@ -14,4 +14,4 @@ most_le-deepest (t ∷ ts) = omega (arith, most_le-deepest ts)
 
 pub depth_falls : (c : Content) → max (deep-Content c) 0 ≤ depth_of (wide_of c)
 depth_falls (Leaf text) = omega arith
-depth_falls (Node label children) = omega (arith, most_le-deepest children.items)
+depth_falls (Node branch) = omega (arith, most_le-deepest branch.value.children.items)

@@ -42,3 +42,8 @@ fault_at (InSymbol n) i = BadSymbol i
 -- one byte more begins a text within the limit
 abbrev pub takes_byte : List ℕ → ℕ → Bool
 takes_byte bytes b = nat_lt (length bytes) MOST_TEXT && begins_text (bytes ++ b ∷ [])
+
+-- each of these bytes in its turn
+abbrev pub takes_all : List ℕ → List ℕ → Bool
+takes_all bytes [] = true
+takes_all bytes (b ∷ more) = takes_byte bytes b && takes_all (bytes ++ b ∷ []) more

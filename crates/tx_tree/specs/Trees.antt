@@ -8,11 +8,11 @@ use Rattle.tx_tree.specs.declared.trees.Tree.TheInside.{Inside}
 
 abbrev pub wide_of : Content → WideTree
 wide_of (Leaf text) = leaf text
-wide_of (Node label children) = node label (forest children.items)
+wide_of (Node branch) = node branch.value.label (forest branch.value.children.items)
 
 -- the stored numbers are right, and the tree is within the limits
 pub record IsKept (t : Inside) : Type 0 where
-  pub size : t.size ≡ size_of (wide_of t.content.value)
-  pub depth : t.depth ≡ depth_of (wide_of t.content.value)
-  pub well_formed : IsWellFormed (wide_of t.content.value)
-  pub within : IsWithinLimits (wide_of t.content.value)
+  pub size : t.size ≡ size_of (wide_of t.content)
+  pub depth : t.depth ≡ depth_of (wide_of t.content)
+  pub well_formed : IsWellFormed (wide_of t.content)
+  pub within : IsWithinLimits (wide_of t.content)

@@ -1,8 +1,11 @@
 // A text that grows byte by byte.
-ghost use Rattle.std.specs.Prelude.{◌≡◌, ℕ, ◌++◌, ◌∷◌, [], ◌↔◌, List, true, if◌then◌else◌, IfOk, OnErr, Some, None};
+ghost use Rattle.std.specs.Prelude.{◌≡◌, ℕ, ◌+◌, ◌<◌, ◌≤◌, ◌++◌, ◌∷◌, [], ◌↔◌, List, true, false, length, take, get_or};
+ghost use Rattle.std.specs.Prelude.{if◌then◌else◌, IfOk, OnErr, Some, None};
 ghost use Rattle.std.specs.Option.{SomeIff};
 ghost use Rattle.tx_tree.specs.Texts.{IsText};
-ghost use Rattle.tx_tree.specs.TextScan.{is_text, begins_text, takes_byte};
+ghost use Rattle.tx_tree.specs.TextScan.{text_run, is_text, begins_text, takes_byte, takes_all};
+ghost use Rattle.tx_tree.specs.declared.TheConstants.{MOST_TEXT};
+ghost use Rattle.tx_tree.specs.declared.texts.TextPlace.TheVariants.{Between};
 
 use crate::MOST_TEXT;
 use crate::texts::{Text, TextPlace};
@@ -59,6 +62,42 @@ impl TextBuilder {
                 Ok(true)
             }
         }
+    }
+
+    // How many of these bytes go on the text within the limit, and the place behind them.
+    fn reach(&self, bytes: &[u8]) -> (usize, TextPlace)
+        ensures within { result.0 ≤ length bytes.now }
+        ensures short { length self.now + result.0 ≤ MOST_TEXT }
+        ensures place { text_run (Some Between) (self.now ++ take result.0 bytes.now) ≡ Some result.1 }
+        ensures taken { takes_all self.now (take result.0 bytes.now) ≡ true }
+        ensures stops { result.0 < length bytes.now
+            → takes_byte (self.now ++ take result.0 bytes.now) (get_or bytes.now result.0 0) ≡ false }
+    {
+        let most = (MOST_TEXT - self.bytes.len()).min(bytes.len());
+        let mut place = self.place;
+        for i in 0..most {
+            match place.step(bytes[i]) {
+                None => return (i, place),
+                Some(next) => place = next,
+            }
+        }
+        (most, place)
+    }
+
+    /// Adds bytes, as many as go on the beginning of a text within the limit, each behind those before it, and answers
+    /// how many. Memory is taken once for all of them. For want of it none is added.
+    pub fn extend(&mut self, bytes: &[u8]) -> Result<usize, Memory>
+        ensures within { IfOk result (λ n. n ≤ length bytes.now) }
+        ensures after { IfOk result (λ n. self.new ≡ self.old ++ take n bytes.now) }
+        ensures taken { IfOk result (λ n. takes_all self.old (take n bytes.now) ≡ true) }
+        ensures stops { IfOk result (λ n. n < length bytes.now
+            → takes_byte self.new (get_or bytes.now n 0) ≡ false) }
+        ensures err { OnErr result (self.new ≡ self.old) }
+    {
+        let (count, place) = self.reach(bytes);
+        self.bytes.extend_from_slice(&bytes[..count])?;
+        self.place = place;
+        Ok(count)
     }
 
     /// The text of all bytes, or None where they end within a symbol.

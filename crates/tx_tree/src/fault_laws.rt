@@ -3,7 +3,7 @@ ghost use Rattle.std.specs.Prelude.{◌≡◌, ℕ, ◌+◌, ◌≤◌, ◌<◌,
 ghost use Rattle.std.specs.List.{AllByRecursion};
 ghost use Rattle.tx_tree.specs.Labels.{IsLabel, IsLabelFault};
 ghost use Rattle.tx_tree.specs.Limits.{IsWithinLimits, IsTreeFault};
-ghost use Rattle.tx_tree.specs.PathSpelling.{SpellsPath, IsPathFault};
+ghost use Rattle.tx_tree.specs.PathSpelling.{SpellsPath, IsPathSpelling, IsPathFault};
 ghost use Rattle.tx_tree.specs.Places.{IsPlace, IsPlaceFault};
 ghost use Rattle.tx_tree.specs.Texts.{IsText, IsTextFault, begins_no_item};
 ghost use Rattle.tx_tree.specs.WideTree.{WideTree, node, forest};
@@ -28,6 +28,17 @@ pub fn text_fault_laws()
         IsText (take (n + 1) bytes ++ more) → ⊥ }
     ensures stops_in_symbol { (bytes more : List ℕ) (n : ℕ) → IsTextFault bytes (TextFault.BadSymbol n) →
         n < length bytes → IsText (take (n + 1) bytes ++ more) → ⊥ }
+{}
+
+/// A law: first bytes that any numbers continue to a text, a label or a path are continued to one by bytes, which are
+/// below 256. So each longest front, by which faults are placed, goes on by bytes.
+pub fn front_laws()
+    ensures text { (front more : List ℕ) → IsText (front ++ more) →
+        (bytes : List ℕ) × AllByRecursion (λ b. b < 256) bytes × IsText (front ++ bytes) }
+    ensures label { (front more : List ℕ) → IsLabel (front ++ more) →
+        (bytes : List ℕ) × AllByRecursion (λ b. b < 256) bytes × IsLabel (front ++ bytes) }
+    ensures path { (front more : List ℕ) → IsPathSpelling (front ++ more) →
+        (bytes : List ℕ) × AllByRecursion (λ b. b < 256) bytes × IsPathSpelling (front ++ bytes) }
 {}
 
 /// A law: bytes are a label or have one fault.

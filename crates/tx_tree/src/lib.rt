@@ -21,7 +21,8 @@ mod trees;
 
 pub use building::{TextBuilder, text_laws};
 pub use fault_laws::{
-    label_fault_laws, path_fault_laws, place_fault_laws, text_fault_laws, tree_fault_laws,
+    front_laws, label_fault_laws, path_fault_laws, place_fault_laws, text_fault_laws,
+    tree_fault_laws,
 };
 pub use faults::{PathFault, PlaceFault, ReadFault, TreeFault, Which};
 pub use labels::{Label, LabelFault, is_label_byte};

@@ -1,4 +1,4 @@
-// Nodes and leaves, shared by Rc.
+// Nodes and leaves, which are shared.
 ghost use Rattle.std.specs.Prelude.{◌≡◌, ◌≢◌, ◌+◌, length, if◌then◌else◌, IfOk, IfErr, OnOk, MatchOption, IfSome};
 ghost use Rattle.std.specs.Prelude.{IfNone, IsNone, None, Some, slice_get, IsTrue, ◌↔◌};
 ghost use Rattle.tx_tree.specs.WideTree.{leaf, node, forest, children_of, is_leaf, text_of, label_of, size_of};
@@ -35,14 +35,22 @@ pub enum Kind {
 pub struct Tree {
     size: u64,
     depth: u32,
-    content: Rc<Content>,
+    content: Content,
 }
 
+// A text shares its bytes by itself.
 #[cycle(tree)]
 #[derive(Drop)]
 enum Content {
     Leaf(Text),
-    Node(Label, Vec<Tree>),
+    Node(Rc<Branch>),
+}
+
+#[cycle(tree)]
+#[derive(Drop)]
+struct Branch {
+    label: Label,
+    children: Vec<Tree>,
 }
 
 impl Model for Tree {
@@ -55,7 +63,7 @@ impl Model for Tree {
 
     ghost use Rattle.tx_tree.specs.Trees.{wide_of, IsKept};
 
-    ghost view = { λ t. wide_of t.content.value };
+    ghost view = { λ t. wide_of t.content };
 
     ghost invariant = { IsKept };
 
@@ -63,12 +71,12 @@ impl Model for Tree {
 
     ghost use Rattle.tx_tree.specs.Falls.{depth_falls};
 
-    ghost size_decreases = { λ t h. depth_falls t.content.value };
+    ghost size_decreases = { λ t h. depth_falls t.content };
 }
 
 impl Tree {
     /// The leaf with this text.
-    pub fn leaf(alloc: Global, text: Text) -> Result<Tree, Memory>
+    pub fn leaf(_alloc: Global, text: Text) -> Result<Tree, Memory>
         ensures { IfOk result (λ t. t ≡ leaf text) }
     {
         let bytes = text.bytes();
@@ -76,7 +84,7 @@ impl Tree {
         Ok(Tree {
             size,
             depth: 1,
-            content: Rc::new(alloc, Content::Leaf(text))?,
+            content: Content::Leaf(text),
         })
     }
 
@@ -114,7 +122,7 @@ impl Tree {
         Ok(Tree {
             size,
             depth,
-            content: Rc::new(alloc, Content::Node(label, children))?,
+            content: Content::Node(Rc::new(alloc, Branch { label, children })?),
         })
     }
 
@@ -122,10 +130,14 @@ impl Tree {
     pub fn share(&self) -> Result<Tree, Memory>
         ensures { IfOk result (λ t. t ≡ self.now) }
     {
+        let content = match &self.content {
+            Content::Leaf(text) => Content::Leaf(text.copy()?),
+            Content::Node(branch) => Content::Node(branch.clone()?),
+        };
         Ok(Tree {
             size: self.size,
             depth: self.depth,
-            content: self.content.clone()?,
+            content,
         })
     }
 
@@ -133,9 +145,9 @@ impl Tree {
     pub fn kind(&self) -> Kind
         ensures { result ≡ (if is_leaf self.now then Kind.Leaf else Kind.Node) }
     {
-        match &*self.content {
+        match &self.content {
             Content::Leaf(_) => Kind::Leaf,
-            Content::Node(..) => Kind::Node,
+            Content::Node(_) => Kind::Node,
         }
     }
 
@@ -143,9 +155,9 @@ impl Tree {
     pub fn label(&self) -> Option<&Label>
         ensures { MatchOption result (label_of self.now ≡ None) (λ l. label_of self.now ≡ Some l.now) }
     {
-        match &*self.content {
+        match &self.content {
             Content::Leaf(_) => None,
-            Content::Node(label, _) => Some(label),
+            Content::Node(branch) => Some(&branch.label),
         }
     }
 
@@ -153,9 +165,9 @@ impl Tree {
     pub fn text(&self) -> Option<&Text>
         ensures { MatchOption result (text_of self.now ≡ None) (λ t. text_of self.now ≡ Some t.now) }
     {
-        match &*self.content {
+        match &self.content {
             Content::Leaf(text) => Some(text),
-            Content::Node(..) => None,
+            Content::Node(_) => None,
         }
     }
 
@@ -164,9 +176,9 @@ impl Tree {
     pub fn children(&self) -> &[Tree]
         ensures { result.now ≡ children_of self.now }
     {
-        match &*self.content {
+        match &self.content {
             Content::Leaf(_) => &[],
-            Content::Node(_, children) => children,
+            Content::Node(branch) => &branch.children,
         }
     }
 
@@ -175,9 +187,9 @@ impl Tree {
     pub fn arity(&self) -> u32
         ensures { result ≡ length (children_of self.now) }
     {
-        match &*self.content {
+        match &self.content {
             Content::Leaf(_) => 0,
-            Content::Node(_, children) => children.len() as u32,
+            Content::Node(branch) => branch.children.len() as u32,
         }
     }
 
@@ -187,9 +199,10 @@ impl Tree {
         ensures { MatchOption result (slice_get (children_of self.now) i ≡ None)
             (λ t. slice_get (children_of self.now) i ≡ Some t.now) }
     {
-        match &*self.content {
+        match &self.content {
             Content::Leaf(_) => None,
-            Content::Node(_, children) => {
+            Content::Node(branch) => {
+                let children = &branch.children;
                 if (i as usize) < children.len() {
                     Some(&children[i as usize])
                 } else {
@@ -239,17 +252,19 @@ impl Tree {
         if self.size != other.size || self.depth != other.depth {
             return false;
         }
-        match (&*self.content, &*other.content) {
+        match (&self.content, &other.content) {
             (Content::Leaf(text), Content::Leaf(those)) => text.bytes() == those.bytes(),
-            (Content::Node(label, children), Content::Node(name, those)) => {
-                if label.bytes() != name.bytes() {
+            (Content::Node(branch), Content::Node(twig)) => {
+                let one = &**branch;
+                let two = &**twig;
+                if one.label.bytes() != two.label.bytes() {
                     return false;
                 }
-                if children.len() != those.len() {
+                if one.children.len() != two.children.len() {
                     return false;
                 }
-                for i in 0..children.len() {
-                    if !children[i].same(&those[i]) {
+                for i in 0..one.children.len() {
+                    if !one.children[i].same(&two.children[i]) {
                         return false;
                     }
                 }
@@ -264,7 +279,7 @@ impl Tree {
         ensures offset { OnOk result (IsOffset self.now offset) }
         ensures refused { IfErr result (IsOffsetFault self.now offset) }
     {
-        match &*self.content {
+        match &self.content {
             Content::Leaf(text) => {
                 let len = text.bytes().len();
                 if offset as usize > len {
@@ -275,7 +290,7 @@ impl Tree {
                 }
                 Ok(())
             }
-            Content::Node(..) => {
+            Content::Node(_) => {
                 if offset > 1 {
                     return Err(PlaceFault::BadPlace(1));
                 }

@@ -6,13 +6,15 @@ use Rattle.tx_tree.proofs.trees.Tree.+same.Goals as goal
 
 pub returns-then-not-same : goal.returns-then-not-same
 returns-then-not-same t c =
-    let self_is : c.args.self.now ≡ node c.in-Node-Node.label (forest c.in-Node-Node.children.items) =
-    sym c.self.view_is ∙ ap wide_of (sym c.deref.ensures ∙ c.in-Node-Node.is-0) in
-    let other_is : c.args.other.now ≡ node c.in-Node-Node.name (forest c.in-Node-Node.those.items) = sym c.other.view_is
-    ∙ ap wide_of (sym c.deref-2.ensures ∙ c.in-Node-Node.is-1) in
-    let within : c.loop-i.i < length c.in-Node-Node.children.items =
+    let self_is : c.args.self.now ≡ node c.deref-one.result.now.label (forest c.deref-one.result.now.children.items) =
+    sym c.self.view_is ∙ ap wide_of c.in-Node-Node.is-0
+    ∙ ap (λ b. node b.label (forest b.children.items)) (sym c.deref-one.ensures) in
+    let other_is : c.args.other.now ≡ node c.deref-two.result.now.label (forest c.deref-two.result.now.children.items) = sym c.other.view_is
+    ∙ ap wide_of c.in-Node-Node.is-1
+    ∙ ap (λ b. node b.label (forest b.children.items)) (sym c.deref-two.ensures) in
+    let within : c.loop-i.i < length c.deref-one.result.now.children.items =
     omega (arith, c.len-i-end.ensures, c.loop-i-test.true) in
-    let within' : c.loop-i.i < length c.in-Node-Node.those.items =
+    let within' : c.loop-i.i < length c.deref-two.result.now.children.items =
     omega (
       arith,
       c.len-i-end.ensures,
@@ -29,13 +31,15 @@ returns-then-not-same t c =
 
 pub returns-after-loop-i : goal.returns-after-loop-i
 returns-after-loop-i t c =
-    let self_is : c.args.self.now ≡ node c.in-Node-Node.label (forest c.in-Node-Node.children.items) =
-    sym c.self.view_is ∙ ap wide_of (sym c.deref.ensures ∙ c.in-Node-Node.is-0) in
-    let other_is : c.args.other.now ≡ node c.in-Node-Node.name (forest c.in-Node-Node.those.items) = sym c.other.view_is
-    ∙ ap wide_of (sym c.deref-2.ensures ∙ c.in-Node-Node.is-1) in
-    let all : length c.in-Node-Node.children.items ≤ c.loop-i.i =
+    let self_is : c.args.self.now ≡ node c.deref-one.result.now.label (forest c.deref-one.result.now.children.items) =
+    sym c.self.view_is ∙ ap wide_of c.in-Node-Node.is-0
+    ∙ ap (λ b. node b.label (forest b.children.items)) (sym c.deref-one.ensures) in
+    let other_is : c.args.other.now ≡ node c.deref-two.result.now.label (forest c.deref-two.result.now.children.items) = sym c.other.view_is
+    ∙ ap wide_of c.in-Node-Node.is-1
+    ∙ ap (λ b. node b.label (forest b.children.items)) (sym c.deref-two.ensures) in
+    let all : length c.deref-one.result.now.children.items ≤ c.loop-i.i =
     omega (arith, c.len-i-end.ensures, c.loop-i-test.false) in
-    let all' : length c.in-Node-Node.those.items ≤ c.loop-i.i =
+    let all' : length c.deref-two.result.now.children.items ≤ c.loop-i.i =
     omega (
       arith,
       c.len-i-end.ensures,
@@ -44,8 +48,8 @@ returns-after-loop-i t c =
       c.len.ensures,
       c.len-in-Node-Node.ensures,
     ) in
-    let named : c.in-Node-Node.label ≡ c.in-Node-Node.name = search rules in (
-      λ h. self_is ∙ same_at c.in-Node-Node.label c.in-Node-Node.name c.in-Node-Node.children.items
-          c.in-Node-Node.those.items c.loop-i.i named all all' c.loop-i.invariant ∙ sym other_is,
+    let named : c.deref-one.result.now.label ≡ c.deref-two.result.now.label = search rules in (
+      λ h. self_is ∙ same_at c.deref-one.result.now.label c.deref-two.result.now.label c.deref-one.result.now.children.items
+          c.deref-two.result.now.children.items c.loop-i.i named all all' c.loop-i.invariant ∙ sym other_is,
       λ e. refl,
     )

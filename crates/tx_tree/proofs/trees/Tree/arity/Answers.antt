@@ -6,10 +6,11 @@ use Rattle.tx_tree.proofs.trees.Tree.arity.Goals as goal
 
 pub overflow_cast-result : goal.overflow_cast-result
 overflow_cast-result c =
-    let same : arity_of (wide_of c.self.inside.content.value) ≡ arity_of
-    (node c.in-Node.field-0 (forest c.in-Node.children.items)) =
-    ap (λ x. arity_of (wide_of x)) (sym c.deref.ensures ∙ c.in-Node.is) in
-    let le = arity_le c.in-Node.field-0 (forest c.in-Node.children.items) in
-    let count : length (children_of (node c.in-Node.field-0 (forest c.in-Node.children.items))) ≡ length
-    c.in-Node.children.items = ap length (trees_forest c.in-Node.children.items) in
+    let branch = c.deref.result.now in
+    let same : arity_of (wide_of c.self.inside.content) ≡ arity_of (node branch.label (forest branch.children.items)) =
+    ap (λ x. arity_of (wide_of x)) c.in-Node.is
+    ∙ ap (λ b. arity_of (node b.label (forest b.children.items))) (sym c.deref.ensures) in
+    let le = arity_le branch.label (forest branch.children.items) in
+    let count : length (children_of (node branch.label (forest branch.children.items)))
+    ≡ length branch.children.items = ap length (trees_forest branch.children.items) in
     omega (arith, c.self.invariant.within.arity)
