@@ -53,7 +53,7 @@ args_fault w line first rest n short is_first is_word are h =
 
 -- ---- which faults pieces have
 
-abbrev IsPieceFault : CmdFault → Type 0
+abbrev pub IsPieceFault : CmdFault → Type 0
 IsPieceFault (Path n) = Unit {0}
 IsPieceFault (Tree fault) = Unit {0}
 IsPieceFault (Args n) = Unit {0}
@@ -89,7 +89,7 @@ bad_kind NumberArgument piece at f h = absurd h
 bad_kind LabelArgument piece at f h = absurd h
 bad_kind NameArgument piece at f h = absurd h
 
-first_kind : (arguments : List ArgumentKind) (bytes : List ℕ) (at : ℕ) (f : CmdFault)
+pub first_kind : (arguments : List ArgumentKind) (bytes : List ℕ) (at : ℕ) (f : CmdFault)
     → IsFirstFault arguments bytes at f → IsPieceFault f
 first_kind [] bytes at f h = absurd h
 first_kind (a ∷ more) bytes at f h =

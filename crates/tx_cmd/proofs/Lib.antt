@@ -5,3 +5,4 @@ pub mod WordTexts
 pub mod LooseFronts
 pub mod Faults
 pub mod Once
+pub mod SomeAnswer

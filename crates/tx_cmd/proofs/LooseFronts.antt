@@ -172,7 +172,7 @@ stops_here a more bytes piece rest n spaceless hp hr are h =
         (spaceless k.0 k.2) hp (loose_tail more k.1 k.3) hr in
         h.1 (subst (IsLoosePiece a) w.0 k.2)
 
-misfit_here : (a : ArgumentKind) (more : List ArgumentKind) (bytes piece rest : List ℕ) (n : ℕ)
+pub misfit_here : (a : ArgumentKind) (more : List ArgumentKind) (bytes piece rest : List ℕ) (n : ℕ)
     → IsCut a bytes piece rest → IsPieceMisfit a piece (Some n) → IsMisfit (a ∷ more) bytes (Some (1 + n))
 misfit_here PathArgument more bytes piece rest n c h = absurd (h.1 c.ends.0)
 misfit_here NumberArgument more bytes piece rest n c h =
@@ -231,7 +231,7 @@ stops_behind a more bytes piece rest n spaceless hp hr are p h =
         (spaceless k.0 k.2) hp (loose_tail more k.1 k.3) hr in
         h.1 (subst (AreLoose more) w.1 k.3)
 
-misfit_behind : (a : ArgumentKind) (more : List ArgumentKind) (bytes piece rest : List ℕ) (n : ℕ)
+pub misfit_behind : (a : ArgumentKind) (more : List ArgumentKind) (bytes piece rest : List ℕ) (n : ℕ)
     → tree_is_last (a ∷ more) ≡ true → IsCut a bytes piece rest → IsPieceMisfit a piece None
     → IsMisfit more rest (Some n)
     → IsMisfit (a ∷ more) bytes (Some (1 + length piece + n))

@@ -67,11 +67,16 @@ fn line_end(pieces: &[Piece], from: usize, width: u32) -> usize
     pieces.len()
 }
 
-/// A law: for given pieces and widths at most one list of lines is first-fit. That there is one is the
-/// contract of [`fill`].
+/// A law: for given pieces and widths at most one list of lines is first-fit. That there is one is [`some_filling`].
 pub fn one_filling()
     ensures { (pieces : List Piece) (first later : ℕ) (lines others : List Cut) →
         IsFirstFit pieces first later lines → IsFirstFit pieces first later others → lines ≡ others }
+{}
+
+/// A law: where no piece is wider than the narrower width, some lines are first-fit, however much memory there is.
+pub fn some_filling()
+    ensures { (pieces : List Piece) (first later : ℕ) → All (λ piece. piece.cells ≤ min first later) pieces →
+        (lines : List Cut) × IsFirstFit pieces first later lines }
 {}
 
 /// A law: what stands on lines that are first-fit is, line after line, the pieces themselves.

@@ -13,6 +13,7 @@ pub mod Shapes
 pub mod Kept
 pub mod CutPlaces
 pub mod Standing
+pub mod Together
 pub mod Composed
 pub mod Formed
 pub mod Twice

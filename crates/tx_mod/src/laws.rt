@@ -1,12 +1,13 @@
 // Laws of modifications.
-ghost use Rattle.std.specs.Prelude.{◌≡◌, List, ℕ, [], ◌∷◌, Ok};
+ghost use Rattle.std.specs.Prelude.{◌≡◌, List, ℕ, [], ◌∷◌, Ok, Some};
+ghost use Rattle.tx_tree.specs.Paths.{subtree};
 ghost use Rattle.tx_tree.specs.WideTree.{WideTree};
 ghost use Rattle.tx_tree.specs.declared.places.Place.{Place as Position};
 ghost use Rattle.tx_mod.specs.declared.mods.Mod.{Mod as Change};
 ghost use Rattle.tx_mod.specs.Changes.{changed};
 ghost use Rattle.tx_mod.specs.Followed.{StaysPlace, CarriesSubtree, CarriesThroughAll, Composes};
 ghost use Rattle.tx_mod.specs.Followed.{StopsAt, carried_by_all, changed_by_all, tree_of};
-ghost use Rattle.tx_mod.specs.Moves.{carried_path};
+ghost use Rattle.tx_mod.specs.Moves.{carried_path, moved_place, place};
 ghost use Rattle.tx_mod.specs.InTurn.{CanBeUndone, changed_in_turn};
 ghost use Rattle.tx_mod.specs.Sound.{IsSound, StaysWellFormed, GivesBack, IsMadeAgain};
 
@@ -55,6 +56,13 @@ pub fn moved_law()
 /// Where a path that leads is carried, the same subtree stands in the changed tree.
 pub fn carried_law()
     ensures { (m : Change) (t : WideTree) (q : List ℕ) → CarriesSubtree m t q }
+{}
+
+/// Where a path that leads is carried, a place at its end is moved with it: to the end of the carried path, with the
+/// same offset.
+pub fn carried_place_law()
+    ensures { (m : Change) (t s : WideTree) (q r : List ℕ) (o : ℕ) → subtree t q ≡ Some s
+        → carried_path m t q ≡ Some r → moved_place m t (place q o) ≡ place r o }
 {}
 
 /// A path carried through a list of modifications is carried by one after the other, nowhere where one of them

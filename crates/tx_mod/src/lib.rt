@@ -23,7 +23,8 @@ pub use applying::{applicable, apply, apply_and_inverse, inverse};
 pub use carrying::carried;
 pub use faults::{ApplyFault, ModFault};
 pub use laws::{
-    carried_law, carried_list_law, inverse_law, list_inverse_law, moved_law, sound, well_formed_law,
+    carried_law, carried_list_law, carried_place_law, inverse_law, list_inverse_law, moved_law,
+    sound, well_formed_law,
 };
 pub use list::ModList;
 pub use mods::Mod;

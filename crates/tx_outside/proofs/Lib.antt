@@ -1,3 +1,4 @@
 pub mod Counting
 pub mod FileLookups
 pub mod Pieces
+pub mod Parts

@@ -1,5 +1,5 @@
 // Where bytes go.
-ghost use Rattle.std.specs.Prelude.{◌≡◌, ◌<◌, ◌≤◌, ℕ, List, [], Option};
+ghost use Rattle.std.specs.Prelude.{◌≡◌, ◌<◌, ◌≤◌, ◌++◌, ℕ, List, [], Option};
 ghost use Rattle.std.specs.Prelude.{length, take, IfOk, OnOk, OnErr, IsOk};
 ghost use Rattle.std.specs.Io.KnownBytes.{append_known};
 ghost use Rattle.tx_outside.specs.Counts.{NeverFalls, Rose};
@@ -44,3 +44,12 @@ pub fn write_all<O: Sink>(out: &mut O, piece: &[u8]) -> Result<(), WriteFault>
     }
     Ok(())
 }
+
+/// A law: where a part of a piece was appended, that is a part of any longer piece. And where the whole of a piece was
+/// appended and then a part of another, that is a part of the two, one behind the other.
+pub fn parts_compose()
+    ensures before { (x y : List ℕ) (old new : Option (List ℕ)) → AppendsPart x old new →
+        AppendsPart (x ++ y) old new }
+    ensures behind { (x y : List ℕ) (old between new : Option (List ℕ)) → between ≡ append_known old x →
+        AppendsPart y between new → AppendsPart (x ++ y) old new }
+{}

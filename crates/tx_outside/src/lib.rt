@@ -16,7 +16,7 @@ mod file_store;
 mod in_memory;
 mod limits;
 
-pub use byte_sink::{Sink, write_all};
+pub use byte_sink::{Sink, parts_compose, write_all};
 pub use byte_source::Source;
 pub use faults::{Failed, LoadFault, SaveFault, WriteFault};
 pub use file_store::{MOST_FILE, Store};

@@ -1,7 +1,7 @@
 -- What the machine has taken can be closed: the token that has begun, then the open tags from the innermost one
 -- outwards.
-use Rattle.std.proofs.Common.{◌≡◌, ⊎_elim, ℕ, ◌≤◌, Bool, true, false, ◌==◌, if◌then◌else◌, List, [], ◌∷◌, ◌++◌, length}
-use Rattle.std.proofs.Common.{Option, Some, None, refl, sym, ap, subst, ◌∙◌, length-append, arith}
+use Rattle.std.proofs.Common.{◌≡◌, ⊎_elim, ℕ, ◌<◌, ◌≤◌, Bool, true, false, ◌==◌, if◌then◌else◌, List, [], ◌∷◌, ◌++◌}
+use Rattle.std.proofs.Common.{length, Option, Some, None, refl, sym, ap, subst, ◌∙◌, length-append, arith}
 use Rattle.std.specs.List.{AllByRecursion}
 use Rattle.std.proofs.lemmas.List.{append-nil}
 use Rattle.std.proofs.lemmas.Bool.{le-leb, and_parts}
@@ -28,7 +28,7 @@ use Rattle.tx_tm_form.proofs.Complete.{same_self}
 use Rattle.tx_tm_form.proofs.Words.{newline_kind, hash_kind, token_run, label_run, keeps_state, file_state}
 use Rattle.tx_tm_form.proofs.Sound.{Frame, Here, Took, feeds_took}
 use Rattle.tx_tm_form.proofs.Taken.{Scanned, run_scanned, kept_tokens, read_is_spelled}
-use Rattle.tx_tm_form.proofs.Stops.{keeping, run_append}
+use Rattle.tx_tm_form.proofs.Stops.{keeping, run_append, front_goes_on}
 use Rattle.tx_tm_form.proofs.Formed.{is_same_number}
 
 -- ---- what stands open
@@ -66,21 +66,39 @@ put_placed (f ∷ fs) here p h = h
 
 -- ---- the open tags
 
-abbrev pub Closable : Bytewise Keeping → Type 0
-Closable w = (y : List ℕ) × (u : WideTree) × (tree_in (run keep w y) ≡ Some u)
+-- numbers below 256
+abbrev pub AreBytes : List ℕ → Type 0
+AreBytes = AllByRecursion (λ b. b < 256)
 
-by_token : (t : Token) (j : Bool) (s z : State) → IsToken t → is_dropped j t ≡ false → feed s t ≡ z
-    → Closable (at ready (keeping false z)) → Closable (at ready (keeping j s))
-by_token t j s z v d e h =
+bytes_together : (x y : List ℕ) → AreBytes x → AreBytes y → AreBytes (x ++ y)
+bytes_together [] y h k = k
+bytes_together (b ∷ x) y h k = (h.0, bytes_together x y h.1 k)
+
+label_byte_small : (b : ℕ) → is_label_byte b ≡ true → b < 256
+unfolding is_label_byte
+label_byte_small b h = grind arith
+
+label_bytes : (label : List ℕ) → AllByRecursion (λ b. is_label_byte b ≡ true) label → AreBytes label
+label_bytes [] h = tt
+label_bytes (b ∷ label) h = (label_byte_small b h.0, label_bytes label h.1)
+
+-- a tree is read behind bytes more
+abbrev pub Closable : Bytewise Keeping → Type 0
+Closable w = (y : List ℕ) × AreBytes y × (u : WideTree) × (tree_in (run keep w y) ≡ Some u)
+
+by_token : (t : Token) (j : Bool) (s z : State) → IsToken t → AreBytes (written t) → is_dropped j t ≡ false
+    → feed s t ≡ z → Closable (at ready (keeping false z)) → Closable (at ready (keeping j s))
+by_token t j s z v small d e h =
     let kept_is : keep (keeping j s) t ≡ keeping false z =
     ap (λ x. if x then keeping true s else keeping false (feed s t)) d ∙ ap (keeping false) e in (
       written t ++ h.0,
-      h.1,
-      ap tree_in (token_run Keeping keep t (keeping j s) h.0 v ∙ ap (λ k. run keep (at ready k) h.0) kept_is) ∙ h.2,
+      bytes_together (written t) h.0 small h.1,
+      h.2,
+      ap tree_in (token_run Keeping keep t (keeping j s) h.0 v ∙ ap (λ k. run keep (at ready k) h.0) kept_is) ∙ h.3,
     )
 
-by_byte : (w z : Bytewise Keeping) (b : ℕ) → step keep w b ≡ z → Closable z → Closable w
-by_byte w z b e h = (b ∷ h.0, h.1, ap (λ x. tree_in (run keep x h.0)) e ∙ h.2)
+by_byte : (w z : Bytewise Keeping) (b : ℕ) → b < 256 → step keep w b ≡ z → Closable z → Closable w
+by_byte w z b small e h = (b ∷ h.0, (small, h.1), h.2, ap (λ x. tree_in (run keep x h.0)) e ∙ h.3)
 
 abbrev Closes : List Open → Type 0
 Closes fs = (here : Content) (j : Bool) → IsPlaced here fs → Closable (at ready (keeping j (reading here fs)))
@@ -110,7 +128,9 @@ block_closes : (f : Open) (fs : List Open) (here : Content) (j : Bool) → place
     → Closes fs → Closable (at ready (keeping j (reading here (f ∷ fs))))
 block_closes f fs here j e v h =
     by_token (head Closing f.label false) j (reading here (f ∷ fs))
-    (reading (put f.before (long_of f.label f.children here)) fs) v.0 refl (last_there here f fs e)
+    (reading (put f.before (long_of f.label f.children here)) fs) v.0
+    (omega arith, (omega arith, bytes_together f.label (62 ∷ []) (label_bytes f.label v.0.each) (omega arith, tt))) refl
+    (last_there here f fs e)
     (h (put f.before (long_of f.label f.children here)) false
     (put_placed fs f.before (long_of f.label f.children here) v.1))
 
@@ -125,19 +145,20 @@ unfolding feed
 tag_closes None f fs here j e v h = block_closes f fs here j e v h
 tag_closes (Some InShort) f fs here j e v h =
     let x : Part = tag false (node f.label (forest (f.children ++ content_of here ∷ []))) in
-    by_token close j (reading here (f ∷ fs)) (reading (put f.before x) fs) tt refl
+    by_token close j (reading here (f ∷ fs)) (reading (put f.before x) fs) tt (omega arith, tt) refl
     (ap (λ o. last_argument o here (f ∷ fs)) e) (h (put f.before x) false (put_placed fs f.before x v.1))
 tag_closes (Some InClosing) f fs here j e v h =
     let x : Part = tag false (node f.label (forest (f.children ++ content_of here ∷ []))) in
-    by_token close j (reading here (f ∷ fs)) (reading (put f.before x) fs) tt refl
+    by_token close j (reading here (f ∷ fs)) (reading (put f.before x) fs) tt (omega arith, tt) refl
     (ap (λ o. last_argument o here (f ∷ fs)) e) (h (put f.before x) false (put_placed fs f.before x v.1))
 tag_closes (Some InHeader) f fs here j e v h =
-    by_token close j (reading here (f ∷ fs)) (in_tag None (with_child f (content_of here)) fs) tt refl
+    by_token close j (reading here (f ∷ fs)) (in_tag None (with_child f (content_of here)) fs) tt
+    (omega arith, tt) refl
     (ap (λ o. last_argument o here (f ∷ fs)) e)
     (new_block_closes f fs (f.children ++ content_of here ∷ []) v.0 v.1 h)
 
 tags_close : (fs : List Open) → Closes fs
-tags_close [] here j v = let u = file_closes here v in ([], u.0, u.1)
+tags_close [] here j v = let u = file_closes here v in ([], tt, u.0, u.1)
 tags_close (f ∷ fs) here j v = tag_closes (place_of here) f fs here j refl v (tags_close fs)
 
 -- ---- symbols and raw data
@@ -158,7 +179,8 @@ name_closes : (n : List ℕ) (here : Content) (fs : List Open) (j : Bool) → Is
     → Closable (at ready (keeping j (naming n here fs)))
 unfolding feed
 name_closes n here fs j v h =
-    by_token (escape 62) j (naming n here fs) (reading (put here (text (symbol_bytes n))) fs) escape_greater refl
+    by_token (escape 62) j (naming n here fs) (reading (put here (text (symbol_bytes n))) fs) escape_greater
+    (omega arith, (omega arith, tt)) refl
     (ap (λ z. go z (reading (put here (text (symbol_bytes n))) fs)) (le-leb 1 (length n) h))
     (tags_close fs (put here (text (symbol_bytes n))) false (put_placed fs here (text (symbol_bytes n)) v))
 
@@ -166,12 +188,12 @@ state_closes : (s : State) (j : Bool) → IsOpened s → can_go_on ready s ≡ t
 unfolding feed
 state_closes (reading here fs) j v h = tags_close fs here j v
 state_closes (naming [] here fs) j v h =
-    by_token (plain 97) j (naming [] here fs) (naming (97 ∷ []) here fs) plain_a refl refl
+    by_token (plain 97) j (naming [] here fs) (naming (97 ∷ []) here fs) plain_a (omega arith, tt) refl refl
     (name_closes (97 ∷ []) here fs false v (omega arith))
 state_closes (naming (b ∷ n) here fs) j v h = name_closes (b ∷ n) here fs j v (omega arith)
 state_closes (counting ds here fs) j v h =
     let x : Part = tag false (node raw_data_label (forest (leaf ds ∷ []))) in
-    by_token close j (counting ds here fs) (reading (put here x) fs) tt refl refl
+    by_token close j (counting ds here fs) (reading (put here x) fs) tt (omega arith, tt) refl refl
     (tags_close fs (put here x) false (put_placed fs here x v))
 state_closes failed j v h = absurd cc
 
@@ -186,9 +208,10 @@ by_label : (form : TagForm) (m r : List ℕ) (j : Bool) (s z : State) → IsLabe
     → Closable (at ready (keeping false z)) → Closable (at (labelled form m) (keeping j s))
 by_label form m r j s z v a e h = (
   r ++ 62 ∷ h.0,
-  h.1,
+  bytes_together r (62 ∷ h.0) (label_bytes r a) (omega arith, h.1),
+  h.2,
   ap tree_in (label_run Keeping keep r m false form (keeping j s) h.0 a (omega (arith, length-append m r, v.short))
-      (omega (arith, length-append m r, v.some)) ∙ ap (λ x. run keep (at ready (keeping false x)) h.0) e) ∙ h.2,
+      (omega (arith, length-append m r, v.some)) ∙ ap (λ x. run keep (at ready (keeping false x)) h.0) e) ∙ h.3,
 )
 
 begins_rest : (m l : List ℕ) → begins m l ≡ true → (r : List ℕ) × (l ≡ m ++ r)
@@ -298,11 +321,13 @@ token_closes : (q : Lex) (s : State) (j : Bool) → IsBegun q → IsOpened s →
     → Closable (at q (keeping j s))
 token_closes ready s j g v h = state_closes s j v h
 token_closes slashed s j g v h =
-    by_byte _ (at ready (keeping true s)) 10 (slashed_ends j s) (state_closes s true v (goes_on_ready slashed s h))
+    by_byte _ (at ready (keeping true s)) 10 (omega arith) (slashed_ends j s)
+    (state_closes s true v (goes_on_ready slashed s h))
 token_closes returned s j g v h =
-    by_byte _ (at ready (keeping true s)) 10 (returned_ends j s) (state_closes s true v (goes_on_ready returned s h))
+    by_byte _ (at ready (keeping true s)) 10 (omega arith) (returned_ends j s)
+    (state_closes s true v (goes_on_ready returned s h))
 token_closes angled (reading here fs) j g v h =
-    by_byte _ (at ready (keeping false (counting [] here fs))) 35 (angled_ends j here fs)
+    by_byte _ (at ready (keeping false (counting [] here fs))) 35 (omega arith) (angled_ends j here fs)
     (state_closes (counting [] here fs) false v refl)
 token_closes angled (naming n here fs) j g v h = absurd cc
 token_closes angled (counting n here fs) j g v h = absurd cc
@@ -322,10 +347,19 @@ scanned_closes (at q k) x h e =
     token_closes q k.state k.behind_join h.3 opened e
 scanned_closes lost x h e = absurd cc
 
--- where the machine goes on, the bytes can be continued to bytes that spell a tree
+-- where the machine goes on, the bytes can be continued by bytes to bytes that spell a tree
+goes_on_by_bytes : (x : List ℕ) → goes_on (run keep start x) ≡ true → (more : List ℕ) × AreBytes more
+    × (t : WideTree) × Spells (x ++ more) t
+unfolding reads
+goes_on_by_bytes x h =
+    let c = scanned_closes (run keep start x) x (run_scanned x [] start ([], tt, refl, tt, refl)) h in
+    (c.0, c.1, c.2, read_is_spelled (x ++ c.0) c.2 (ap tree_in (run_append x c.0 start) ∙ c.3))
+
 pub goes_on_is_front : (x : List ℕ) → goes_on (run keep start x) ≡ true → (more : List ℕ) × (t : WideTree)
     × Spells (x ++ more) t
-unfolding reads
-goes_on_is_front x h =
-    let c = scanned_closes (run keep start x) x (run_scanned x [] start ([], tt, refl, tt, refl)) h in
-    (c.0, c.1, read_is_spelled (x ++ c.0) c.1 (ap tree_in (run_append x c.0 start) ∙ c.2))
+goes_on_is_front x h = let c = goes_on_by_bytes x h in (c.0, c.2, c.3)
+
+-- what continues a front can be bytes
+pub front_by_bytes : (x more : List ℕ) (t : WideTree) → Spells (x ++ more) t
+    → (bytes : List ℕ) × AreBytes bytes × (u : WideTree) × Spells (x ++ bytes) u
+front_by_bytes x more t h = goes_on_by_bytes x (front_goes_on x more t h)

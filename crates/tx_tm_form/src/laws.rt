@@ -1,5 +1,6 @@
 // The laws of the definition.
-ghost use Rattle.std.specs.Prelude.{◌≡◌, ◌⊎◌, ℕ, List, ◌++◌, true, Some, None};
+ghost use Rattle.std.specs.Prelude.{◌≡◌, ◌<◌, ◌⊎◌, ℕ, List, ◌++◌, true, Some, None};
+ghost use Rattle.std.specs.List.{AllByRecursion};
 ghost use Rattle.tx_tree.specs.WideTree.{WideTree};
 ghost use Rattle.tx_tree.specs.declared.faults.ReadFault.{ReadFault};
 ghost use Rattle.tx_tree.specs.Limits.{IsWellFormed, IsWithinLimits};
@@ -39,6 +40,12 @@ pub fn machine_goes_on_along_fronts()
         → (more : List ℕ) × (t : WideTree) × Spells (bytes ++ more) t }
     ensures stopped { (bytes more : List ℕ) (t : WideTree) → Spells (bytes ++ more) t
         → goes_on (run keep start bytes) ≡ true }
+{}
+
+/// First bytes that any numbers continue to a tree are continued to one by bytes, which are below 256.
+pub fn fronts_go_on_by_bytes()
+    ensures { (front more : List ℕ) (t : WideTree) → Spells (front ++ more) t
+        → (bytes : List ℕ) × AllByRecursion (λ b. b < 256) bytes × (u : WideTree) × Spells (front ++ bytes) u }
 {}
 
 /// The longest front of bytes ends exactly where the machine stops.
