@@ -27,6 +27,8 @@ use Rattle.tx_scm.specs.Machine.{Open, State, wide, between, opened, naming, tex
 use Rattle.tx_scm.specs.Machine.{node_of, run}
 use Rattle.tx_scm.specs.Spots.{closed, only_if, between_step, naming_step, in_text, whole_step, step, spots, fault_at}
 use Rattle.tx_scm.proofs.ByteKinds.{white_kind}
+use Rattle.tx_tree.proofs.FrontBytes.{AreBytes, bytes_together, text_closed}
+use Rattle.tx_scm.proofs.SmallBytes.{string_end}
 use Rattle.tx_scm.proofs.Sound.{OpensTook, Took, put_took, close_took, run_took}
 use Rattle.tx_scm.proofs.Wide.{wide_whole, are_open, after_label, wide_label, wide_string, wide_escape}
 use Rattle.tx_scm.proofs.Following.{in_escape, place_of, one_more, place_more, spot_of, spots_nothing, spots_none}
@@ -35,31 +37,38 @@ use Rattle.tx_scm.proofs.Following.{spots-append, run_spots}
 abbrev start : Option Spot
 start = Some (Between 0)
 
--- bytes that can be continued to a tree
-abbrev GoesOn : List ℕ → Type 0
-GoesOn x = (more : List ℕ) × SpellsSome Spells (x ++ more)
+-- these can be continued to a tree by bytes
+abbrev pub GoesOn : List ℕ → Type 0
+GoesOn x = (more : List ℕ) × AreBytes more × SpellsSome Spells (x ++ more)
 
 -- ---- what is open can be closed
 
+-- behind a closing bracket more
+close_one : (x : List ℕ) → GoesOn (x ++ 41 ∷ []) → GoesOn x
+close_one x c =
+    (41 ∷ c.0, (omega arith, c.1), (c.2.0, subst (λ z. Spells z c.2.0) (append_assoc x (41 ∷ []) c.0) c.2.1))
+
 close_all : (opens : List Open) (t : WideTree) (x : List ℕ) → Took (put t opens) x → GoesOn x
-close_all [] t x h = ([], (t, subst (λ z. Spells z t) (sym (append-nil x)) h))
+close_all [] t x h = ([], tt, (t, subst (λ z. Spells z t) (sym (append-nil x)) h))
 close_all (o ∷ opens) t x h =
     let grown : Open = record { label = o.label; children = o.children ++ t ∷ [] } in
-    let c = close_all opens (node_of grown) (x ++ 41 ∷ []) (close_took wide (grown ∷ opens) x h) in
-    (41 ∷ c.0, (c.1.0, subst (λ z. Spells z c.1.0) (append_assoc x (41 ∷ []) c.0) c.1.1))
+    close_one x (close_all opens (node_of grown) (x ++ 41 ∷ []) (close_took wide (grown ∷ opens) x h))
 
 -- behind these bytes more stands a whole tree
-close_tree : (opens : List Open) (t : WideTree) (x more p y : List ℕ) → OpensTook opens p → SpellsTree y t
-    → x ++ more ≡ p ++ y → GoesOn x
-close_tree opens t x more p y h k e =
-    let c = close_all opens t (p ++ y) (put_took opens t p y h k) in
-    (more ++ c.0, (c.1.0, subst (λ z. Spells z c.1.0) (ap (λ z. z ++ c.0) (sym e) ∙ append_assoc x more c.0) c.1.1))
+close_tree : (opens : List Open) (t : WideTree) (x more p y : List ℕ) → AreBytes more → OpensTook opens p
+    → SpellsTree y t → x ++ more ≡ p ++ y → GoesOn x
+close_tree opens t x more p y small h k e =
+    let c = close_all opens t (p ++ y) (put_took opens t p y h k) in (
+      more ++ c.0,
+      bytes_together more c.0 small c.1,
+      (c.2.0, subst (λ z. Spells z c.2.0) (ap (λ z. z ++ c.0) (sym e) ∙ append_assoc x more c.0) c.2.1),
+    )
 
 between_closes : (opens : List Open) (x : List ℕ) → OpensTook opens x → GoesOn x
-between_closes [] x h = close_tree [] (leaf []) x (34 ∷ 34 ∷ []) x (34 ∷ 34 ∷ []) h (no_bytes, refl) refl
+between_closes [] x h =
+    close_tree [] (leaf []) x (34 ∷ 34 ∷ []) x (34 ∷ 34 ∷ []) (omega arith, (omega arith, tt)) h (no_bytes, refl) refl
 between_closes (o ∷ opens) x h =
-    let c = close_all opens (node_of o) (x ++ 41 ∷ []) (close_took wide (o ∷ opens) x h) in
-    (41 ∷ c.0, (c.1.0, subst (λ z. Spells z c.1.0) (append_assoc x (41 ∷ []) c.0) c.1.1))
+    close_one x (close_all opens (node_of o) (x ++ 41 ∷ []) (close_took wide (o ∷ opens) x h))
 
 bracket : List ℕ → List ℕ → List ℕ
 bracket before label = 40 ∷ (before ++ (label ++ ([] ++ ([] ++ 41 ∷ []))))
@@ -107,20 +116,23 @@ closes : (m : State) (x : List ℕ) (s : Spot) → Took m x → spot_of m ≡ So
 unfolding bracket
 closes (between opens) x s h e = between_closes opens x h
 closes (opened opens) x s h e =
-    close_tree opens (node (97 ∷ []) nil) x (97 ∷ 41 ∷ []) h.0 (bracket h.1 (97 ∷ [])) h.2
+    close_tree opens (node (97 ∷ []) nil) x (97 ∷ 41 ∷ []) h.0 (bracket h.1 (97 ∷ []))
+    (omega arith, (omega arith, tt)) h.2
     (h.1, [], [], h.3, an_a, refl, tt, refl) (opened_parts x h.0 h.1 h.4)
 closes (naming label opens) x s h e =
-    close_tree opens (node label nil) x (41 ∷ []) h.0 (bracket h.1 label) h.2 (h.1, [], [], h.3, h.4, refl, tt, refl)
+    close_tree opens (node label nil) x (41 ∷ []) h.0 (bracket h.1 label) (omega arith, tt) h.2
+    (h.1, [], [], h.3, h.4, refl, tt, refl)
     (naming_parts x h.0 h.1 label h.5)
 closes (texting text opens) x s h e =
-    let rest = begins_test text (text_begins text (length opens) (place_of text) s refl e) in
-    close_tree opens (leaf (text ++ rest.0)) x (flat_map escaped rest.0 ++ 34 ∷ []) h.0 (string_of (text ++ rest.0)) h.1
-    (rest.1, refl) (text_parts x h.0 text rest.0 h.2)
+    let rest = text_closed text (text_begins text (length opens) (place_of text) s refl e) in
+    close_tree opens (leaf (text ++ rest.0)) x (flat_map escaped rest.0 ++ 34 ∷ []) h.0 (string_of (text ++ rest.0))
+    (string_end rest.0 rest.1) h.1 (rest.2, refl) (text_parts x h.0 text rest.0 h.2)
 closes (escaping text opens) x s h e =
-    let rest = begins_test (text ++ 34 ∷ []) (escape_begins text (length opens) (place_of text) s refl e) in
+    let rest = text_closed (text ++ 34 ∷ []) (escape_begins text (length opens) (place_of text) s refl e) in
     close_tree opens (leaf ((text ++ 34 ∷ []) ++ rest.0)) x (34 ∷ (flat_map escaped rest.0 ++ 34 ∷ [])) h.0
-    (string_of ((text ++ 34 ∷ []) ++ rest.0)) h.1 (rest.1, refl) (escape_parts x h.0 text rest.0 h.2)
-closes (whole t) x s h e = ([], (t, subst (λ z. Spells z t) (sym (append-nil x)) h))
+    (string_of ((text ++ 34 ∷ []) ++ rest.0)) (omega arith, string_end rest.0 rest.1) h.1 (rest.2, refl)
+    (escape_parts x h.0 text rest.0 h.2)
+closes (whole t) x s h e = ([], tt, (t, subst (λ z. Spells z t) (sym (append-nil x)) h))
 closes failed x s h e = absurd cc
 
 -- where the scan stands, the machine does
@@ -132,6 +144,10 @@ took x = run_took wide x [] (between []) tt
 
 pub goes_on : (x : List ℕ) (s : Spot) → spots start x ≡ Some s → GoesOn x
 goes_on x s e = closes (run wide (between []) x) x s (took x) (stands x s e)
+
+-- by whatever numbers
+goes_on_by_some : (x : List ℕ) (s : Spot) → spots start x ≡ Some s → (more : List ℕ) × SpellsSome Spells (x ++ more)
+goes_on_by_some x s e = let c = goes_on x s e in (c.0, c.2)
 
 -- ---- a byte that isn't taken ends every continuation
 
@@ -145,12 +161,15 @@ not_stuck x more t h e =
     absurd cc
 
 -- behind bytes that can be continued the scan stands, and behind no others
-pub front_closes : (x : List ℕ) → is_some (spots start x) ≡ true → GoesOn x
-front_closes x h = by_spot (spots start x) refl h
+pub front_closes_by_bytes : (x : List ℕ) → is_some (spots start x) ≡ true → GoesOn x
+front_closes_by_bytes x h = by_spot (spots start x) refl h
   where
     by_spot : (p : Option Spot) → spots start x ≡ p → is_some p ≡ true → GoesOn x
     by_spot (Some s) e h = goes_on x s e
     by_spot None e h = absurd cc
+
+pub front_closes : (x : List ℕ) → is_some (spots start x) ≡ true → (more : List ℕ) × SpellsSome Spells (x ++ more)
+front_closes x h = let c = front_closes_by_bytes x h in (c.0, c.2)
 
 pub front_stands : (x more : List ℕ) → SpellsSome Spells (x ++ more) → is_some (spots start x) ≡ true
 front_stands x more h = by_spot (spots start x) refl
@@ -158,6 +177,10 @@ front_stands x more h = by_spot (spots start x) refl
     by_spot : (p : Option Spot) → spots start x ≡ p → is_some p ≡ true
     by_spot (Some s) e = refl
     by_spot None e = absurd (not_stuck x more h.0 h.1 e)
+
+-- what continues a front can be bytes
+pub by_bytes : (x more : List ℕ) → SpellsSome Spells (x ++ more) → GoesOn x
+by_bytes x more h = front_closes_by_bytes x (front_stands x more h)
 
 module _ (bytes : List ℕ) (i : ℕ) (s : Spot) (lt : i < length bytes) (e : spots start (take i bytes) ≡ Some s) where
   pub scan_more : spots start (take (i + 1) bytes) ≡ step s (kind_of (get_or bytes i 0)) (get_or bytes i 0)
@@ -169,7 +192,7 @@ module _ (bytes : List ℕ) (i : ℕ) (s : Spot) (lt : i < length bytes) (e : sp
   stops_at : step s (kind_of (get_or bytes i 0)) (get_or bytes i 0) ≡ None → IsLongestFront (SpellsSome Spells) bytes i
   stops_at stop =
       record {
-        front = (omega arith, goes_on (take i bytes) s e);
+        front = (omega arith, goes_on_by_some (take i bytes) s e);
         longest = λ m f. ⊎_elim (λ (past : i < m). absurd (no_front m past f)) (λ (le : m ≤ i). le) (cases_lt i m);
       }
     where
@@ -337,7 +360,11 @@ pub unfinished : (bytes : List ℕ) (s : Spot) → spots start bytes ≡ Some s 
     → IsSchemeFault bytes (Unclosed (length bytes))
 unfinished bytes s e n = (
   refl,
-  (omega arith, subst GoesOn (sym (take_all (length bytes) bytes (omega arith))) (goes_on bytes s e)),
+  (
+    omega arith,
+    subst (λ x. (more : List ℕ) × SpellsSome Spells (x ++ more)) (sym (take_all (length bytes) bytes (omega arith)))
+        (goes_on_by_some bytes s e),
+  ),
   λ h. n (let same : Some Whole ≡ Some s = sym (whole_scan bytes h.0 h.1) ∙ e in cc),
 )
 

@@ -17,6 +17,8 @@ pub mod Measured
 pub mod Wide
 pub mod Making
 pub mod Following
+pub mod SmallBytes
 pub mod Fronts
 pub mod OneFault
 pub mod SomeFault
+pub mod TextRuns

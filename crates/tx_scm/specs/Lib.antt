@@ -10,3 +10,4 @@ pub mod Spots
 pub mod Measuring
 pub mod Gauges
 pub mod Counts
+pub mod Plain

@@ -1,5 +1,6 @@
 // What holds of all spellings and of all canonical texts.
-ghost use Rattle.std.specs.Prelude.{◌≡◌, ℕ, ◌⊎◌, true, List, [], ◌∷◌, ◌++◌};
+ghost use Rattle.std.specs.Prelude.{◌≡◌, ◌<◌, ℕ, ◌⊎◌, true, List, [], ◌∷◌, ◌++◌};
+ghost use Rattle.std.specs.List.{AllByRecursion};
 ghost use Rattle.tx_tree.specs.WideTree.{WideTree};
 ghost use Rattle.tx_tree.specs.Limits.{IsWellFormed, IsWithinLimits};
 ghost use Rattle.tx_tree.specs.declared.faults.ReadFault.{ReadFault};
@@ -21,6 +22,12 @@ pub fn scan_goes_on_along_fronts()
     ensures closed { (bytes : List ℕ) → scan_goes_on bytes ≡ true
         → (more : List ℕ) × SpellsSome Spells (bytes ++ more) }
     ensures stopped { (bytes more : List ℕ) → SpellsSome Spells (bytes ++ more) → scan_goes_on bytes ≡ true }
+{}
+
+/// First bytes that any numbers continue to a tree are continued to one by bytes, which are below 256.
+pub fn fronts_go_on_by_bytes()
+    ensures { (front more : List ℕ) → SpellsSome Spells (front ++ more)
+        → (bytes : List ℕ) × AllByRecursion (λ b. b < 256) bytes × SpellsSome Spells (front ++ bytes) }
 {}
 
 /// Bytes have at most one fault, none where they spell a tree within the limits, and one where they don't.

@@ -15,7 +15,9 @@ mod spots;
 mod states;
 mod writer;
 
-pub use laws::{canonical_laws, fault_laws, scan_goes_on_along_fronts, spelling_laws};
+pub use laws::{
+    canonical_laws, fault_laws, fronts_go_on_by_bytes, scan_goes_on_along_fronts, spelling_laws,
+};
 pub use lengths::length;
 pub use reader::read;
 pub use recogniser::spells;

@@ -1,6 +1,6 @@
 // The tree that bytes spell.
 ghost use Rattle.std.specs.Prelude.{◌≡◌, ◌≢◌, ℕ, ◌+◌, ◌-◌, ◌<◌, ◌≤◌, List, [], length, get_or};
-ghost use Rattle.std.specs.Prelude.{drop, Some, None, if◌then◌else◌, IfOk, IfErr, IfSome, OnSome};
+ghost use Rattle.std.specs.Prelude.{take, drop, All, Some, None, if◌then◌else◌, IfOk, IfErr, IfSome, OnSome};
 ghost use Rattle.tx_tree.specs.WideTree.{WideTree, node, forest, leaf, nodes_of};
 ghost use Rattle.tx_tree.specs.Limits.{IsWithinLimits};
 ghost use Rattle.tx_tree.specs.declared.faults.ReadFault.TheVariants.{Memory as NoMemory};
@@ -11,6 +11,7 @@ ghost use Rattle.tx_scm.specs.Machine.{Open, within, the_limits, has_room, keeps
 ghost use Rattle.tx_scm.specs.Machine.{texting, step_between, step_opened, step_naming, step_texting};
 ghost use Rattle.tx_scm.specs.Machine.{step_escaping, step_whole, lengthened, step, tree_in, reads, leads, node_of};
 ghost use Rattle.tx_scm.specs.Sizes.{grown_by, GrowsBy};
+ghost use Rattle.tx_scm.specs.Plain.{IsPlain};
 ghost use Rattle.tx_scm.specs.States.{open_of, opens_of, state_of, next_of, made_by, made_in, CountsOn, read_on};
 
 use crate::kinds::{Kind, kind_of};
@@ -263,6 +264,19 @@ fn step<L: Ledger>(
     }
 }
 
+// How many of the bytes stand before the first quote or backslash.
+fn plain_len(bytes: &[u8]) -> usize
+    ensures within { result ≤ length bytes.now }
+    ensures plain { All IsPlain (take result bytes.now) }
+{
+    for i in 0..bytes.len() {
+        if bytes[i] == b'"' || bytes[i] == b'\\' {
+            return i;
+        }
+    }
+    bytes.len()
+}
+
 // Adds the bytes of a string from `at` up to `last`, or up to a quote or backslash before, and answers the place
 // behind them, or None where no text goes on so.
 fn text_run(
@@ -280,16 +294,13 @@ fn text_run(
     ensures led { (opens : List Open) → IfOk result (λ found. IfSome found (λ end.
         leads (texting text.old opens) (drop at bytes.now) ≡ leads (texting text.new opens) (drop end bytes.now))) }
 {
-    for i in at..last {
-        let byte = bytes[i];
-        if byte == b'"' || byte == b'\\' {
-            return Ok(Some(i));
-        }
-        if !text.push(byte)? {
-            return Ok(None);
-        }
+    let run = &bytes[at..last];
+    let count = plain_len(run);
+    let taken = text.extend(&run[..count])?;
+    if taken < count {
+        return Ok(None);
     }
-    Ok(Some(last))
+    Ok(Some(at + count))
 }
 
 // Where the reader stands behind the byte at `at`, which is of this kind, and behind at most `room` plain bytes

@@ -27,6 +27,8 @@ mod tm_files;
 #[cfg(test)]
 mod tm_limits;
 #[cfg(test)]
+mod tm_runs;
+#[cfg(test)]
 mod tm_tags;
 #[cfg(test)]
 mod tm_texts;

@@ -10,6 +10,7 @@ pub mod Replay
 pub mod Growths
 pub mod Stuck
 pub mod Feeding
+pub mod Stopping
 pub mod Running
 pub mod Innermost
 pub mod Lexing

@@ -1,24 +1,36 @@
 -- The reader over bytes.
 use Rattle.std.proofs.Common.{◌≡◌, ℕ, ◌+◌, ◌-◌, ◌<◌, ◌≤◌, Bool, true, false, List, [], ◌∷◌, ◌++◌, length, take, drop}
 use Rattle.std.proofs.Common.{get_or, Option, Some, None, Result, Ok, Err, IfOk, zero, suc, refl, sym, ap, subst, ◌∙◌}
-use Rattle.std.proofs.Common.{append_assoc, length-drop, arith}
+use Rattle.std.proofs.Common.{append_assoc, append-nil, length-drop, arith}
 use Rattle.std.proofs.lemmas.List.{take-append-drop, take_more, take_all}
 use Rattle.tx_tree.specs.Texts.{IsText}
 use Rattle.tx_tree.specs.WideTree.{WideTree}
 use Rattle.tx_tm_form.specs.declared.places.Stage.{Stage}
 use Rattle.tx_tm_form.specs.declared.places.Stage.TheVariants.{Empty, Alone, Ordinary}
-use Rattle.tx_tm_form.specs.Bytes.{kind_of, is_plain}
-use Rattle.tx_tm_form.specs.Parts.{text}
-use Rattle.tx_tm_form.specs.Growing.{Inline, no_parts, grow, ended, resumed, Block, with_part, widen, as_block, Content}
+use Rattle.tx_tree.specs.Labels.{is_label_byte}
+use Rattle.tx_tm_form.specs.declared.bytes.ByteKind.{ByteKind}
+use Rattle.tx_tm_form.specs.declared.bytes.ByteKind.TheVariants.{Blank, Newline, Return}
+use Rattle.tx_tm_form.specs.declared.bytes.White.{White}
+use Rattle.tx_tm_form.specs.declared.bytes.White.TheVariants.{Spaces, Line, Break}
+use Rattle.tx_tm_form.specs.Bytes.{kind_of, is_plain, is_white, white_of, plus}
+use Rattle.tx_tm_form.specs.declared.places.TagForm.TheVariants.{Short}
+use Rattle.tx_tm_form.specs.Tokens.{white, head, end_of, written}
+use Rattle.tx_tm_form.specs.Parts.{gap, text}
+use Rattle.tx_tm_form.specs.Growing.{Inline, no_parts, grow, longer, ended, resumed, Block, with_white, with_part}
+use Rattle.tx_tm_form.specs.Growing.{widen, as_block, Content}
 use Rattle.tx_tm_form.specs.Growing.{inline, blocks, collecting, put}
-use Rattle.tx_tm_form.specs.Machine.{Open, reading, feed, ready, done, Bytewise, at, given, step, run, Keeping, keep}
+use Rattle.tx_tm_form.specs.Machine.{Open, reading, feed, ready, done, lex_ready, lex, Bytewise, at, given, step}
+use Rattle.tx_tm_form.specs.Machine.{run, Keeping, keep, begun}
 use Rattle.tx_tm_form.specs.Machine.{tree_in, start, reads}
-use Rattle.tx_tm_form.proofs.Formed.{text_text, no_text}
-use Rattle.tx_tm_form.proofs.Words.{lexed_plain}
+use Rattle.tx_tm_form.proofs.Formed.{text_text, one_byte_text}
+use Rattle.tx_tm_form.proofs.Words.{lexed_plain, token_run}
 use Rattle.tx_tm_form.proofs.Stops.{run_append}
 use Rattle.tx_tm_read.specs.Blocks.{block_at}
 use Rattle.tx_tm_read.specs.Fits.{StateFits, ReaderFits}
-use Rattle.tx_tm_read.specs.Readers.{reader_of, ArePlain, IsAdvance, IsTree, IsRead}
+use Rattle.tx_tm_read.specs.Runs.{AreWords, one_byte, byte_more, space_and_byte, IsWhiteRun, no_white, white_more}
+use Rattle.tx_tm_read.specs.Heads.{StandsInFront}
+use Rattle.tx_tm_read.specs.declared.heads.Head.{Head}
+use Rattle.tx_tm_read.specs.Readers.{between, reader_of, IsAdvance, IsTree, IsRead}
 use Rattle.tx_tm_read.specs.Words.{lex_of}
 use Rattle.tx_tm_read.specs.Spots.{state_of}
 use Rattle.tx_tm_read.specs.declared.reader.Reader.{Reader}
@@ -27,9 +39,12 @@ use Rattle.tx_base.specs.declared.out_of_memory.Memory.{Memory}
 use Rattle.tx_tm_read.proofs.Growths.{plain_is_text}
 use Rattle.tx_tm_read.proofs.Feeding.{reader_fits}
 
-pub plain_text : (x : List ℕ) → ArePlain x → IsText x
-plain_text [] h = no_text
-plain_text (b ∷ x) h = text_text (b ∷ []) x (plain_is_text b h.0) (plain_text x h.1)
+pub words_text : (x : List ℕ) → AreWords x → IsText x
+words_text _ (one_byte b h) = plain_is_text b h
+words_text _ (byte_more x b w h) = text_text x (b ∷ []) (words_text x w) (plain_is_text b h)
+words_text _ (space_and_byte x b w h) =
+    text_text x (32 ∷ b ∷ []) (words_text x w)
+    (text_text (32 ∷ []) (b ∷ []) (one_byte_text 32 refl) (plain_is_text b h))
 
 -- ---- two texts side by side are one
 
@@ -47,28 +62,104 @@ put_both (inline p g) x y = ap (inline p) (grow_both g x y)
 put_both (blocks b) x y = ap blocks (widen_both b.stage b x y)
 put_both (collecting t) x y = ap blocks (widen_both (as_block t).stage (as_block t) x y)
 
--- ---- a run of bytes that stand for themselves
+grow_spaced : (g : Inline) (x : List ℕ) (b : ℕ)
+    → grow (grow (grow g (text x)) (gap Spaces)) (text (b ∷ [])) ≡ grow g (text (x ++ 32 ∷ b ∷ []))
+grow_spaced g x b =
+    ap (λ s. record { done = g.done; bytes = s; in_run = false })
+    (append_assoc (g.bytes ++ x) (32 ∷ []) (b ∷ []) ∙ append_assoc g.bytes x (32 ∷ b ∷ []))
 
-abbrev between : Bool → Content → List Open → Bytewise Keeping
-between j c fs = at ready (record { behind_join = j; state = reading c fs })
+widen_spaced : (s : Stage) (b : Block) (x : List ℕ) (c : ℕ)
+    → widen (widen (with_part s b (text x)) (gap Spaces)) (text (c ∷ [])) ≡ with_part s b (text (x ++ 32 ∷ c ∷ []))
+widen_spaced Empty b x c = ap (block_at Ordinary []) (grow_spaced no_parts x c)
+widen_spaced Alone b x c = ap (block_at Ordinary (ended b.run b.full b.now)) (grow_spaced (resumed b.run b.now) x c)
+widen_spaced Ordinary b x c = ap (block_at Ordinary (ended b.run b.full b.now)) (grow_spaced (resumed b.run b.now) x c)
+
+put_spaced : (c : Content) (x : List ℕ) (b : ℕ)
+    → put (put (put c (text x)) (gap Spaces)) (text (b ∷ [])) ≡ put c (text (x ++ 32 ∷ b ∷ []))
+put_spaced (inline p g) x b = ap (inline p) (grow_spaced g x b)
+put_spaced (blocks d) x b = ap blocks (widen_spaced d.stage d x b)
+put_spaced (collecting t) x b = ap blocks (widen_spaced (as_block t).stage (as_block t) x b)
+
+-- ---- two runs of white side by side are one
+
+plus_plus : (u v w : White) → plus (plus u v) w ≡ plus u (plus v w)
+plus_plus Spaces v w = refl
+plus_plus Line Spaces w = refl
+plus_plus Line Line Spaces = refl
+plus_plus Line Line Line = refl
+plus_plus Line Line Break = refl
+plus_plus Line Break w = refl
+plus_plus Break v w = refl
+
+longer_both : (r : Option White) (v w : White) → longer (Some (longer r v)) w ≡ longer r (plus v w)
+longer_both None v w = refl
+longer_both (Some u) v w = plus_plus u v w
+
+gaps_widen : (s : Stage) (b : Block) (v w : White) → b.stage ≡ s
+    → widen (with_white s b v) (gap w) ≡ with_white s b (plus v w)
+gaps_widen Empty b v w e = ap (λ s. with_white s b w) e
+gaps_widen Alone b v w e =
+    ap (λ s. with_white s (record { full = b.full; now = b.now; run = Some (longer b.run v); stage = b.stage }) w) e
+    ∙ ap (λ r. record { full = b.full; now = b.now; run = Some r; stage = b.stage }) (longer_both b.run v w)
+gaps_widen Ordinary b v w e =
+    ap (λ s. with_white s (record { full = b.full; now = b.now; run = Some (longer b.run v); stage = b.stage }) w) e
+    ∙ ap (λ r. record { full = b.full; now = b.now; run = Some r; stage = b.stage }) (longer_both b.run v w)
+
+put_gaps : (c : Content) (v w : White) → put (put c (gap v)) (gap w) ≡ put c (gap (plus v w))
+put_gaps (inline p g) v w = refl
+put_gaps (blocks b) v w = ap blocks (gaps_widen b.stage b v w refl)
+put_gaps (collecting t) v w =
+    ap (λ r. collecting (record { entries = t.entries; run = Some r })) (longer_both t.run v w)
+
+-- ---- words, and runs of white
 
 plain_step : (b : ℕ) (j : Bool) (c : Content) (fs : List Open) → is_plain (kind_of b) ≡ true
     → step keep (between j c fs) b ≡ between false (put c (text (b ∷ []))) fs
 unfolding feed
 plain_step b j c fs h = ap (given keep (record { behind_join = j; state = reading c fs })) (lexed_plain (kind_of b) b h)
 
-pub plain_run : (x : List ℕ) (b : ℕ) (j : Bool) (c : Content) (fs : List Open) → ArePlain (b ∷ x)
-    → run keep (between j c fs) (b ∷ x) ≡ between false (put c (text (b ∷ x))) fs
-plain_run [] b j c fs h = plain_step b j c fs h.0
-plain_run (a ∷ x) b j c fs h =
-    ap (λ w. run keep w (a ∷ x)) (plain_step b j c fs h.0)
-    ∙ plain_run x a false (put c (text (b ∷ []))) fs h.1
-    ∙ ap (λ d. between false d fs) (put_both c (b ∷ []) (a ∷ x))
+lexed_white : (k : ByteKind) (b : ℕ) → is_white k ≡ true → lex ready k b ≡ done (white b)
+unfolding lex_ready
+lexed_white Blank b h = refl
+lexed_white Newline b h = refl
+lexed_white Return b h = refl
+lexed_white _ b h = absurd cc
 
-pub text_run : (x : List ℕ) (j : Bool) (c : Content) (fs : List Open) → 0 < length x → ArePlain x
+white_step : (b : ℕ) (c : Content) (fs : List Open) → is_white (kind_of b) ≡ true
+    → step keep (between false c fs) b ≡ between false (put c (gap (white_of b))) fs
+unfolding feed
+white_step b c fs h =
+    ap (given keep (record { behind_join = false; state = reading c fs })) (lexed_white (kind_of b) b h)
+
+space_kind : is_white (kind_of 32) ≡ true
+unfolding kind_of is_label_byte
+space_kind = refl
+
+words_run : (x : List ℕ) (j : Bool) (c : Content) (fs : List Open) → AreWords x
     → run keep (between j c fs) x ≡ between false (put c (text x)) fs
-text_run [] j c fs n h = absurd (omega arith)
-text_run (b ∷ x) j c fs n h = plain_run x b j c fs h
+words_run _ j c fs (one_byte b h) = plain_step b j c fs h
+words_run _ j c fs (byte_more x b w h) =
+    run_append x (b ∷ []) (between j c fs) ∙ ap (λ z. run keep z (b ∷ [])) (words_run x j c fs w)
+    ∙ plain_step b false (put c (text x)) fs h ∙ ap (λ d. between false d fs) (put_both c x (b ∷ []))
+words_run _ j c fs (space_and_byte x b w h) =
+    run_append x (32 ∷ b ∷ []) (between j c fs) ∙ ap (λ z. run keep z (32 ∷ b ∷ [])) (words_run x j c fs w)
+    ∙ ap (λ z. run keep z (b ∷ [])) (white_step 32 (put c (text x)) fs space_kind)
+    ∙ plain_step b false (put (put c (text x)) (gap Spaces)) fs h ∙ ap (λ d. between false d fs) (put_spaced c x b)
+
+white_run : (x : List ℕ) (v : White) (b : ℕ) (c : Content) (fs : List Open) → IsWhiteRun x v
+    → is_white (kind_of b) ≡ true
+    → run keep (between false c fs) (x ++ b ∷ []) ≡ between false (put c (gap (plus v (white_of b)))) fs
+white_run _ _ b c fs no_white h = white_step b c fs h
+white_run _ _ b c fs (white_more x v a w k) h =
+    run_append (x ++ a ∷ []) (b ∷ []) (between false c fs)
+    ∙ ap (λ z. run keep z (b ∷ [])) (white_run x v a c fs w k)
+    ∙ white_step b (put c (gap (plus v (white_of a)))) fs h
+    ∙ ap (λ d. between false d fs) (put_gaps c (plus v (white_of a)) (white_of b))
+
+whites_run : (x : List ℕ) (v : White) (c : Content) (fs : List Open) → IsWhiteRun x v → 0 < length x
+    → run keep (between false c fs) x ≡ between false (put c (gap v)) fs
+whites_run _ _ c fs no_white n = absurd (omega arith)
+whites_run _ _ c fs (white_more x v b w h) n = white_run x v b c fs w h
 
 -- ---- the loop
 
@@ -91,44 +182,109 @@ unfolding reads
 read_over None w all e h = λ t i j. h t (ap tree_in e ∙ i) j
 read_over (Some t) w all e h = sym (ap tree_in e) ∙ h
 
-plain_more : (x : List ℕ) (b : ℕ) → ArePlain x → is_plain (kind_of b) ≡ true → ArePlain (x ++ b ∷ [])
-plain_more [] b h k = (k, tt)
-plain_more (a ∷ x) b h k = (h.0, plain_more x b h.1 k)
+pub word_next : (x : List ℕ) (i b : ℕ) → (0 < i → AreWords (take i x)) → i < length x → get_or x i 0 ≡ b
+    → is_plain (kind_of b) ≡ true → AreWords (take (i + 1) x)
+word_next [] zero b w n e k = absurd (omega arith)
+word_next (a ∷ x) zero b w n e k = subst (λ z. AreWords (z ∷ [])) (sym e) (one_byte b k)
+word_next x (suc i) b w n e k =
+    subst AreWords (sym (take_more x (suc i) 0 n ∙ ap (λ z. take (suc i) x ++ z ∷ []) e))
+    (byte_more (take (suc i) x) b (w (omega arith)) k)
 
-pub plain_next : (x : List ℕ) (i b : ℕ) → ArePlain (take i x) → i < length x → get_or x i 0 ≡ b
-    → is_plain (kind_of b) ≡ true → ArePlain (take (i + 1) x)
-plain_next x i b h n e k =
-    subst ArePlain (sym (take_more x i 0 n ∙ ap (λ z. take i x ++ z ∷ []) e)) (plain_more (take i x) b h k)
+pub word_behind_space : (x : List ℕ) (i b : ℕ) → AreWords (take i x) → i + 1 < length x → get_or x i 0 ≡ 32
+    → get_or x (i + 1) 0 ≡ b → is_plain (kind_of b) ≡ true → AreWords (take (i + 2) x)
+word_behind_space x i b w n s e k =
+    let two : take (i + 1 + 1) x ≡ take i x ++ 32 ∷ b ∷ [] =
+    take_more x (i + 1) 0 n ∙ ap (λ z. take (i + 1) x ++ z ∷ []) e
+    ∙ ap (λ z. z ++ b ∷ []) (take_more x i 0 (omega arith) ∙ ap (λ z. take i x ++ z ∷ []) s)
+    ∙ append_assoc (take i x) (32 ∷ []) (b ∷ []) in
+    let same : i + 1 + 1 ≡ i + 2 = omega arith in
+    subst (λ n. AreWords (take n x)) same (subst AreWords (sym two) (space_and_byte (take i x) b w k))
+
+pub white_next : (x : List ℕ) (i b : ℕ) (v u : White) → IsWhiteRun (take i x) v → i < length x → get_or x i 0 ≡ b
+    → is_white (kind_of b) ≡ true → u ≡ plus v (white_of b) → IsWhiteRun (take (i + 1) x) u
+white_next x i b v u w n e k d =
+    subst (IsWhiteRun (take (i + 1) x)) (sym d)
+    (subst (λ y. IsWhiteRun y (plus v (white_of b)))
+    (sym (take_more x i 0 n ∙ ap (λ z. take i x ++ z ∷ []) e)) (white_more (take i x) v b w k))
 
 -- ---- the answers of one advance
+
+pub words_none : (j : Bool) (c : Content) (fs : List Open) (n : ℕ) (rest : List ℕ) → AreWords (take n rest)
+    → (StateFits (reading (put c (text (take n rest))) fs) → ⊥) → IsAdvance None (between j c fs) rest
+words_none j c fs n rest w o = (n, λ f. o (subst ReaderFits (words_run (take n rest) j c fs w) f))
+
+pub words_some : (j : Bool) (c : Content) (fs : List Open) (n : ℕ) (rest : List ℕ) (s : Spot) → 0 < n
+    → n ≤ length rest → AreWords (take n rest) → state_of s ≡ reading (put c (text (take n rest))) fs
+    → (0 < n) × (n ≤ length rest)
+    × ((let w : Bytewise Keeping = at ready (record { behind_join = false; state = state_of s }) in w) ≡ run keep
+    (between j c fs) (take n rest))
+words_some j c fs n rest s h k w o =
+    (h, k, ap (λ z. at ready (record { behind_join = false; state = z })) o ∙ sym (words_run (take n rest) j c fs w))
 
 some_taken : (n : ℕ) (x : List ℕ) → 0 < n → n ≤ length x → 0 < length (take n x)
 some_taken n [] h k = absurd (omega arith)
 some_taken zero (b ∷ x) h k = absurd (omega arith)
 some_taken (suc n) (b ∷ x) h k = omega arith
 
-pub text_there : (r : Reader) (c : Content) (fs : List Open) (n : ℕ) (rest : List ℕ) → lex_of r.lexer ≡ ready
-    → state_of r.spot ≡ reading c fs → 0 < n → n ≤ length rest → ArePlain (take n rest)
-    → run keep (reader_of r) (take n rest) ≡ between false (put c (text (take n rest))) fs
-text_there r c fs n rest e i h k p =
-    ap (λ w. run keep w (take n rest))
-    (ap (λ q. at q (record { behind_join = r.behind_join; state = state_of r.spot })) e
-    ∙ ap (λ s. at ready (record { behind_join = r.behind_join; state = s })) i)
-    ∙ text_run (take n rest) r.behind_join c fs (some_taken n rest h k) p
+pub white_none : (c : Content) (fs : List Open) (n : ℕ) (rest : List ℕ) (v : White) → 0 < n → n ≤ length rest
+    → IsWhiteRun (take n rest) v
+    → (StateFits (reading (put c (gap v)) fs) → ⊥) → IsAdvance None (between false c fs) rest
+white_none c fs n rest v h k w o =
+    (n, λ f. o (subst ReaderFits (whites_run (take n rest) v c fs w (some_taken n rest h k)) f))
 
-pub advance_none : (r : Reader) (c : Content) (fs : List Open) (n : ℕ) (rest : List ℕ) → lex_of r.lexer ≡ ready
-    → state_of r.spot ≡ reading c fs → 0 < n → n ≤ length rest → ArePlain (take n rest)
-    → (StateFits (reading (put c (text (take n rest))) fs) → ⊥) → IsAdvance None (reader_of r) rest
-advance_none r c fs n rest e i h k p o = (n, λ f. o (subst ReaderFits (text_there r c fs n rest e i h k p) f))
-
-pub advance_some : (r : Reader) (c : Content) (fs : List Open) (n : ℕ) (rest : List ℕ) (s : Spot)
-    → lex_of r.lexer ≡ ready → state_of r.spot ≡ reading c fs → 0 < n → n ≤ length rest → ArePlain (take n rest)
-    → state_of s ≡ reading (put c (text (take n rest))) fs
+pub white_some : (c : Content) (fs : List Open) (n : ℕ) (rest : List ℕ) (v : White) (s : Spot) → 0 < n
+    → n ≤ length rest → IsWhiteRun (take n rest) v → state_of s ≡ reading (put c (gap v)) fs
     → (0 < n) × (n ≤ length rest)
     × ((let w : Bytewise Keeping = at ready (record { behind_join = false; state = state_of s }) in w) ≡ run keep
-    (reader_of r) (take n rest))
-advance_some r c fs n rest s e i h k p o =
-    (h, k, ap (λ z. at ready (record { behind_join = false; state = z })) o ∙ sym (text_there r c fs n rest e i h k p))
+    (between false c fs) (take n rest))
+white_some c fs n rest v s h k w o = (
+  h,
+  k,
+  ap (λ z. at ready (record { behind_join = false; state = z })) o
+      ∙ sym (whites_run (take n rest) v c fs w (some_taken n rest h k)),
+)
+
+-- ---- the beginning of a short tag
+
+head_run : (j : Bool) (c : Content) (fs : List Open) (h : Head) (rest : List ℕ) → StandsInFront rest h
+    → run keep (between j c fs) (take h.taken rest)
+    ≡ at ready (record { behind_join = false; state = begun Short h.more h.label c fs })
+unfolding feed
+head_run j c fs h rest f =
+    ap (run keep (between j c fs)) (f.there ∙ sym (append-nil (written (head Short h.label h.more))))
+    ∙ token_run Keeping keep (head Short h.label h.more) (record { behind_join = j; state = reading c fs }) [] f.label
+
+pub head_none : (j : Bool) (c : Content) (fs : List Open) (h : Head) (rest : List ℕ) → StandsInFront rest h
+    → (StateFits (begun Short h.more h.label c fs) → ⊥) → IsAdvance None (between j c fs) rest
+head_none j c fs h rest f o = (h.taken, λ i. o (subst ReaderFits (head_run j c fs h rest f) i))
+
+pub head_some : (j : Bool) (c : Content) (fs : List Open) (h : Head) (rest : List ℕ) (s : Spot) → StandsInFront rest h
+    → state_of s ≡ begun Short h.more h.label c fs
+    → (0 < h.taken) × (h.taken ≤ length rest)
+    × ((let w : Bytewise Keeping = at ready (record { behind_join = false; state = state_of s }) in w) ≡ run keep
+    (between j c fs) (take h.taken rest))
+head_some j c fs h rest s f o = (
+  f.some,
+  f.within,
+  ap (λ z. at ready (record { behind_join = false; state = z })) o ∙ sym (head_run j c fs h rest f),
+)
+
+pub head_there : (x : List ℕ) (end : ℕ) (more : Bool) (l : List ℕ) → 1 ≤ end → end < length x → get_or x 0 0 ≡ 60
+    → get_or x end 0 ≡ end_of more → l ≡ take (end - 1) (drop 1 x) → take (end + 1) x ≡ written (head Short l more)
+head_there [] end more l h k f s i = absurd (omega arith)
+head_there (b ∷ x) zero more l h k f s i = absurd (omega arith)
+head_there (b ∷ x) (suc e) more l h k f s i =
+    let n : suc e - 1 ≡ e = omega arith in
+    take_more (b ∷ x) (suc e) 0 k ∙ ap (λ z. (b ∷ take e x) ++ z ∷ []) s
+    ∙ ap (λ z. z ∷ (take e x ++ end_of more ∷ [])) f
+    ∙ ap (λ z. 60 ∷ (z ++ end_of more ∷ [])) (sym (i ∙ ap (λ k. take k x) n))
+
+-- the reader between two words
+pub reader_between : (r : Reader) (c : Content) (fs : List Open) → lex_of r.lexer ≡ ready
+    → state_of r.spot ≡ reading c fs → between r.behind_join c fs ≡ reader_of r
+reader_between r c fs e i =
+    sym (ap (λ q. at q (record { behind_join = r.behind_join; state = state_of r.spot })) e
+    ∙ ap (λ s. at ready (record { behind_join = r.behind_join; state = s })) i)
 
 pub nothing_left : (x : List ℕ) → length x ≡ 0 → x ≡ []
 nothing_left [] h = refl

@@ -9,6 +9,8 @@ pub mod Lines
 pub mod Blocks
 pub mod Fronts
 pub mod Spots
+pub mod Runs
+pub mod Heads
 pub mod Readers
 pub mod Stands
 pub mod Scans

@@ -1,10 +1,10 @@
 -- What has been read, as a state of the machine.
-use Rattle.std.specs.Prelude.{◌≡◌, ◌≤◌, ◌<◌, ◌+◌, ℕ, true, List, length, take, Option, Some, None}
-use Rattle.std.specs.List.{AllByRecursion}
+use Rattle.std.specs.Prelude.{◌≡◌, ◌≤◌, ◌<◌, ◌+◌, ℕ, Bool, List, length, take, Option, Some, None}
 use Rattle.tx_tree.specs.WideTree.{WideTree}
 use Rattle.tx_tree.specs.Limits.{IsWithinLimits}
-use Rattle.tx_tm_form.specs.Bytes.{kind_of, is_plain}
-use Rattle.tx_tm_form.specs.Machine.{Bytewise, at, Keeping, State, keep, run, tree_of, tree_in, reads}
+use Rattle.tx_tm_form.specs.Growing.{Content}
+use Rattle.tx_tm_form.specs.Machine.{Open, ready, Bytewise, at, Keeping, State, reading, keep, run, tree_of}
+use Rattle.tx_tm_form.specs.Machine.{tree_in, reads}
 use Rattle.tx_tm_read.specs.declared.reader.Reader.{Reader}
 use Rattle.tx_tm_read.specs.declared.reader.Advance.{Advance}
 use Rattle.tx_tm_read.specs.Words.{lex_of}
@@ -24,8 +24,9 @@ abbrev pub ReaderRose : ℕ → ℕ → ℕ → Option Reader → Type 0
 ReaderRose before after nodes None = Unit {0}
 ReaderRose before after nodes (Some r) = after + nodes ≤ before + state_nodes (state_of r.spot)
 
-abbrev pub ArePlain : List ℕ → Type 0
-ArePlain = AllByRecursion (λ b. is_plain (kind_of b) ≡ true)
+-- between two words, behind a join or not
+abbrev pub between : Bool → Content → List Open → Bytewise Keeping
+between j c fs = at ready (record { behind_join = j; state = reading c fs })
 
 -- behind so many bytes, or else no tree within the limits comes of some
 abbrev pub IsAdvance : Option Advance → Bytewise Keeping → List ℕ → Type 0

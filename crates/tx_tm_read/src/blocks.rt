@@ -53,6 +53,7 @@ impl Paragraphs {
     }
 
     // With white.
+    #[inline(always)]
     fn with_white(mut self, white: White) -> Paragraphs
         ensures { block_of result ≡ widen (block_of self) (gap white) }
     {
@@ -77,6 +78,7 @@ impl Paragraphs {
 
     // Where a part that is no white goes on, or None where a limit is passed.
     #[tactic(auto, using(crate::proofs::Counts::nodes_both))]
+    #[inline(always)]
     fn resume<L: Ledger>(
         self,
         alloc: Global,
@@ -103,6 +105,7 @@ impl Paragraphs {
     }
 
     // With items of a text, or None where a limit is passed.
+    #[inline(always)]
     fn with_text<L: Ledger>(
         self,
         alloc: Global,
@@ -168,6 +171,7 @@ impl Paragraphs {
 
 impl Resumed {
     // The block with items of a text more, or None where the text passes its limit.
+    #[inline(always)]
     fn with_text(self, items: &[u8]) -> Result<Option<Paragraphs>, Memory>
         requires { IsText items.now }
         ensures { IfOk result (λ next. IsBlock next (block_at Ordinary self.full (grow self.now (text items.now)))) }
@@ -260,6 +264,7 @@ fn tag_stage(stage: Stage, collects: bool) -> Stage
 
 // Where a part goes on behind the paragraph and the run.
 #[tactic(auto, using(crate::proofs::Counts::nodes_both, crate::proofs::Fitting::last_small))]
+#[inline(always)]
 fn behind_run<L: Ledger>(
     alloc: Global,
     full: Row,
@@ -290,6 +295,7 @@ fn behind_run<L: Ledger>(
 }
 
 // Where a part goes on behind white that separates no paragraphs.
+#[inline(always)]
 fn spaced(full: Row, now: Line) -> Result<Option<Resumed>, Memory>
     ensures { IfOk result (λ next. IsGoing next full (grow now (gap Spaces))) }
 {
@@ -426,6 +432,7 @@ impl Body {
     }
 
     /// With white, or None where a limit is passed.
+    #[inline(always)]
     pub(crate) fn with_white(self, white: White) -> Result<Option<Body>, Memory>
         ensures next { IfOk result (λ next. IsContent next (put (content_of self) (gap white))) }
         ensures counted { IfOk result (λ next.
@@ -445,6 +452,7 @@ impl Body {
     }
 
     /// With items of a text, or None where a limit is passed.
+    #[inline(always)]
     pub(crate) fn with_text<L: Ledger>(
         self,
         alloc: Global,

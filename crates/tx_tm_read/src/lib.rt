@@ -6,6 +6,7 @@
 #![tactic(auto)]
 
 mod blocks;
+mod heads;
 mod lexer;
 mod lines;
 mod making;
@@ -13,6 +14,7 @@ mod marking;
 mod measuring;
 mod reader;
 mod rows;
+mod runs;
 mod scan;
 mod sums;
 mod tag_rows;

@@ -52,6 +52,7 @@ impl Line {
 
     // With items of a text, or None where the text passes its limit.
     #[tactic(auto, using(crate::proofs::Texts::both))]
+    #[inline(always)]
     pub(crate) fn with_text(self, items: &[u8]) -> Result<Option<Line>, Memory>
         requires { IsText items.now }
         ensures { IfOk result (λ next. IsLine next (grow self (text items.now))) }
@@ -74,6 +75,7 @@ impl Line {
 
     // With white.
     #[tactic(auto, using(crate::proofs::Texts::with_space))]
+    #[inline(always)]
     pub(crate) fn with_white(self) -> Result<Option<Line>, Memory>
         ensures { IfOk result (λ next. IsLine next (grow self (gap Spaces))) }
     {
@@ -97,6 +99,7 @@ impl Line {
 
     // The trees so far, of which the text is the last, if it has bytes, or None where no node within the limits
     // has them.
+    #[inline(always)]
     fn into_row(self, alloc: Global) -> Result<Option<Row>, Memory>
         ensures { IfOk result (λ row. IsRowed row (self.done ++ leaf_before self.bytes [])) }
     {
@@ -130,6 +133,7 @@ impl Line {
 
     // The tree, or None where it passes a limit.
     #[tactic(auto, using(crate::proofs::Counts::line_trees))]
+    #[inline(always)]
     pub(crate) fn finish<L: Ledger>(
         self,
         alloc: Global,

@@ -1,8 +1,8 @@
 // The tree that bytes spell.
-ghost use Rattle.std.specs.Prelude.{◌≡◌, ◌≢◌, ◌≤◌, ◌<◌, ◌+◌, [], true, length, take, IfOk, IfErr, IfSome, Some, None};
+ghost use Rattle.std.specs.Prelude.{◌≡◌, ◌≢◌, ◌≤◌, ◌<◌, ◌+◌, [], Bool, true, false, length, take};
+ghost use Rattle.std.specs.Prelude.{IfOk, IfErr, IfSome, Some, None};
 ghost use Rattle.tx_tree.specs.WideTree.{WideTree, nodes_of};
 ghost use Rattle.tx_tree.specs.Limits.{IsWithinLimits};
-ghost use Rattle.tx_tm_form.specs.Bytes.{kind_of, is_plain};
 ghost use Rattle.tx_tm_form.specs.Tokens.{is_dropped};
 ghost use Rattle.tx_tm_form.specs.Forms.{Spells};
 ghost use Rattle.tx_tm_form.specs.Faults.{IsTmFault};
@@ -11,43 +11,25 @@ ghost use Rattle.tx_tm_read.specs.Words.{token_of, IsGoodWord, lexed_of, IsGoodL
 ghost use Rattle.tx_tm_read.specs.Blocks.{content_of};
 ghost use Rattle.tx_tm_read.specs.Nodes.{state_nodes};
 ghost use Rattle.tx_tm_read.specs.Spots.{opens_of, state_of};
-ghost use Rattle.tx_tm_read.specs.Readers.{reader_of, IsReader, ReaderRose, ArePlain};
+ghost use Rattle.tx_tm_read.specs.Readers.{between, reader_of, IsReader, ReaderRose};
+ghost use Rattle.tx_tm_read.specs.Runs.{AreWords, IsWhiteRun};
+ghost use Rattle.tx_tm_read.specs.Heads.{StandsInFront};
 ghost use Rattle.tx_tm_read.specs.Readers.{IsAdvance, AdvanceRose, IsTreeOf, IsTree, IsRead};
 
 use crate::blocks::{Body, Paragraphs};
+use crate::heads::{Head, head_front};
 use crate::lexer::{Lexed, Lexer, Word};
 use crate::measuring::limit;
+use crate::runs::{white_front, words_len};
 use crate::scan::misspelled;
 use crate::tags::{OpenTag, Spot};
-use crate::walk::put_text;
+use crate::taking::begin;
+use crate::walk::{put_text, put_white};
 use std::alloc::Global;
 use std::sync::ledger::Ledger;
 use tx_base::{Memory, Steps};
-use tx_tm_form::{ByteKind, kind_of};
+use tx_tm_form::{TagForm, White};
 use tx_tree::{ReadFault, Tree};
-
-// Whether the byte stands for itself.
-fn is_plain(byte: u8) -> bool
-    ensures { result ≡ is_plain (kind_of byte) }
-{
-    match kind_of(byte) {
-        ByteKind::Name | ByteKind::Hash | ByteKind::Slash | ByteKind::Other => true,
-        _ => false,
-    }
-}
-
-// How many bytes at the front stand for themselves.
-fn text_len(bytes: &[u8]) -> usize
-    ensures within { result ≤ length bytes.now }
-    ensures plain { ArePlain (take result bytes.now) }
-{
-    for (i, byte) in bytes.iter().enumerate() {
-        if !is_plain(*byte) {
-            return i;
-        }
-    }
-    bytes.len()
-}
 
 // Whether the word stands for nothing: a join, or a space or a tab behind one.
 pub(crate) fn is_dropped(behind_join: bool, word: &Word) -> bool
@@ -170,6 +152,98 @@ impl Spot {
     }
 }
 
+// Behind so many bytes at the front, which are words.
+#[inline(always)]
+fn with_words<L: Ledger>(
+    alloc: Global,
+    rest: &[u8],
+    taken: usize,
+    here: Body,
+    opens: Vec<OpenTag>,
+    steps: &mut Steps<L>,
+) -> Result<Option<Advance>, Memory>
+    requires some { 0 < taken }
+    requires within { taken ≤ length rest.now }
+    requires words { AreWords (take taken rest.now) }
+    ensures next { (behind_join : Bool) → IfOk result (λ next.
+        IsAdvance next (between behind_join (content_of here) (opens_of opens.items)) rest.now) }
+    ensures counted { IfOk result
+        (AdvanceRose steps.old steps.new (state_nodes (reading (content_of here) (opens_of opens.items)))) }
+    ensures rises { steps.old ≤ steps.new }
+{
+    match put_text(alloc, &rest[..taken], here, opens, steps)? {
+        None => Ok(None),
+        Some(spot) => Ok(Some(Advance {
+            reader: Reader {
+                lexer: Lexer::Ready,
+                behind_join: false,
+                spot,
+            },
+            taken,
+        })),
+    }
+}
+
+// Behind so many bytes at the front, which are this run of white.
+#[inline(always)]
+fn with_white(
+    rest: &[u8],
+    taken: usize,
+    white: White,
+    here: Body,
+    opens: Vec<OpenTag>,
+) -> Result<Option<Advance>, Memory>
+    requires some { 0 < taken }
+    requires within { taken ≤ length rest.now }
+    requires white { IsWhiteRun (take taken rest.now) white }
+    ensures next { IfOk result (λ next.
+        IsAdvance next (between false (content_of here) (opens_of opens.items)) rest.now) }
+    ensures counted { IfOk result
+        (AdvanceRose 0 0 (state_nodes (reading (content_of here) (opens_of opens.items)))) }
+{
+    match put_white(white, here, opens)? {
+        None => Ok(None),
+        Some(spot) => Ok(Some(Advance {
+            reader: Reader {
+                lexer: Lexer::Ready,
+                behind_join: false,
+                spot,
+            },
+            taken,
+        })),
+    }
+}
+
+// Behind the beginning of a short tag at the front.
+fn with_head<L: Ledger>(
+    alloc: Global,
+    rest: &[u8],
+    found: Head,
+    here: Body,
+    opens: Vec<OpenTag>,
+    steps: &mut Steps<L>,
+) -> Result<Option<Advance>, Memory>
+    requires { StandsInFront rest.now found }
+    ensures next { (behind_join : Bool) → IfOk result (λ next.
+        IsAdvance next (between behind_join (content_of here) (opens_of opens.items)) rest.now) }
+    ensures counted { IfOk result
+        (AdvanceRose steps.old steps.new (state_nodes (reading (content_of here) (opens_of opens.items)))) }
+    ensures rises { steps.old ≤ steps.new }
+{
+    let Head { label, more, taken } = found;
+    match begin(alloc, TagForm::Short, more, label, here, opens, steps)? {
+        None => Ok(None),
+        Some(spot) => Ok(Some(Advance {
+            reader: Reader {
+                lexer: Lexer::Ready,
+                behind_join: false,
+                spot,
+            },
+            taken,
+        })),
+    }
+}
+
 impl Reader {
     fn new(alloc: Global) -> Reader
         ensures { reader_of result ≡ start }
@@ -224,7 +298,8 @@ impl Reader {
         }
     }
 
-    // Behind the bytes at the front that stand for themselves, or else behind the first byte.
+    // Behind what of the front is taken at once, or else behind the first byte.
+    #[inline(always)]
     fn advance<L: Ledger>(
         self,
         alloc: Global,
@@ -243,26 +318,7 @@ impl Reader {
         } = self;
         match (lexer, spot) {
             (Lexer::Ready, Spot::Reading(here, opens)) => {
-                let taken = text_len(rest);
-                if taken == 0 {
-                    let reader = Reader {
-                        lexer: Lexer::Ready,
-                        behind_join,
-                        spot: Spot::Reading(here, opens),
-                    };
-                    return reader.first(alloc, rest, steps);
-                }
-                match put_text(alloc, &rest[..taken], here, opens, steps)? {
-                    None => Ok(None),
-                    Some(spot) => Ok(Some(Advance {
-                        reader: Reader {
-                            lexer: Lexer::Ready,
-                            behind_join: false,
-                            spot,
-                        },
-                        taken,
-                    })),
-                }
+                advance_between(alloc, behind_join, rest, here, opens, steps)
             }
             (lexer, spot) => {
                 let reader = Reader {
@@ -295,6 +351,72 @@ impl Reader {
             }
         }
     }
+}
+
+// Drops what was read. A function that drops it at an exit of its own takes the prover long.
+fn let_go(_here: Body, _opens: Vec<OpenTag>) {}
+
+// Behind the beginning of a short tag at the front, or else behind the first byte.
+fn advance_by_head<L: Ledger>(
+    alloc: Global,
+    behind_join: bool,
+    rest: &[u8],
+    here: Body,
+    opens: Vec<OpenTag>,
+    steps: &mut Steps<L>,
+) -> Result<Option<Advance>, Memory>
+    requires { 0 < length rest.now }
+    ensures next { IfOk result (λ next.
+        IsAdvance next (between behind_join (content_of here) (opens_of opens.items)) rest.now) }
+    ensures counted { IfOk result
+        (AdvanceRose steps.old steps.new (state_nodes (reading (content_of here) (opens_of opens.items)))) }
+    ensures rises { steps.old ≤ steps.new }
+{
+    match head_front(alloc, rest) {
+        Ok(Some(found)) => with_head(alloc, rest, found, here, opens, steps),
+        Ok(None) => {
+            let reader = Reader {
+                lexer: Lexer::Ready,
+                behind_join,
+                spot: Spot::Reading(here, opens),
+            };
+            reader.first(alloc, rest, steps)
+        }
+        Err(Memory) => {
+            let_go(here, opens);
+            Err(Memory)
+        }
+    }
+}
+
+// Behind words, white or the beginning of a short tag at the front, or else behind the first byte.
+#[inline(always)]
+fn advance_between<L: Ledger>(
+    alloc: Global,
+    behind_join: bool,
+    rest: &[u8],
+    here: Body,
+    opens: Vec<OpenTag>,
+    steps: &mut Steps<L>,
+) -> Result<Option<Advance>, Memory>
+    requires { 0 < length rest.now }
+    ensures next { IfOk result (λ next.
+        IsAdvance next (between behind_join (content_of here) (opens_of opens.items)) rest.now) }
+    ensures counted { IfOk result
+        (AdvanceRose steps.old steps.new (state_nodes (reading (content_of here) (opens_of opens.items)))) }
+    ensures rises { steps.old ≤ steps.new }
+{
+    let words = words_len(rest);
+    if words > 0 {
+        return with_words(alloc, rest, words, here, opens, steps);
+    }
+    if !behind_join {
+        let (taken, white) = white_front(rest);
+        if taken > 0 {
+            return with_white(rest, taken, white, here, opens);
+        }
+    }
+    advance_by_head(alloc, behind_join, rest, here, opens, steps)
 }
 
 // The tree that the bytes spell, or None where they spell none within the limits.

@@ -49,6 +49,7 @@ impl Row {
 
     // With a tree more, or None where no node within the limits has them all.
     #[tactic(auto, using(crate::proofs::Rowing::one_more, crate::proofs::Rowing::too_many))]
+    #[inline(always)]
     pub(crate) fn with(self, tree: Tree) -> Result<Option<Row>, Memory>
         ensures { IfOk result (λ next. IsRowed next (self ++ tree ∷ [])) }
     {

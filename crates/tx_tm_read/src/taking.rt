@@ -95,7 +95,7 @@ pub(crate) fn header_place(more: bool) -> Option<TagPlace>
 }
 
 // Behind the beginning of a tag.
-fn begin<L: Ledger>(
+pub(crate) fn begin<L: Ledger>(
     alloc: Global,
     form: TagForm,
     more: bool,

@@ -122,6 +122,7 @@ fn put_tag<L: Ledger>(
 }
 
 // Behind white.
+#[inline(always)]
 pub(crate) fn put_white(
     white: White,
     here: Body,
@@ -138,6 +139,7 @@ pub(crate) fn put_white(
 }
 
 // Behind items of a text.
+#[inline(always)]
 pub(crate) fn put_text<L: Ledger>(
     alloc: Global,
     items: &[u8],
