@@ -1,0 +1,8 @@
+pub mod Atop
+pub mod Under
+pub mod Adding
+pub mod Openness
+pub mod Composed
+pub mod Parts
+pub mod Fitting
+pub mod Standing

@@ -1,0 +1,50 @@
+-- The parts of a tree: it is gone into inner trees, down to trees that aren't open.
+use Rattle.std.specs.Prelude.{ℕ, zero, suc, ◌+◌, ◌*◌, ◌-◌, List, [], ◌∷◌, ◌++◌, length, Option}
+use Rattle.std.specs.Option.{option_map_or}
+use Rattle.tx_tree.specs.WideTree.{WideTree}
+use Rattle.tx_exec_form.specs.Runs.{Before}
+use Rattle.tx_exec_form.specs.Evaluated.{WideTrace, paid}
+use Rattle.tx_parts.specs.Atop.{env_atop}
+use Rattle.tx_parts.specs.Openness.{Openness, Document, With, Shut, openness}
+use Rattle.tx_parts.specs.Composed.{evaluates, SoFar, nothing_yet, with_child, set_by, settings_cost}
+
+-- where it stands, the levels and steps that it has, and what names have before it
+pub record Part : Type 0 where
+  pub path : List ℕ
+  pub tree : WideTree
+  pub levels : ℕ
+  pub steps : ℕ
+  pub before : Before
+
+-- what it comes to alone
+abbrev pub part_trace : Part → Option WideTrace
+part_trace p = evaluates p.levels p.steps p.tree p.before
+
+-- what it costs, or all its steps where it is over
+abbrev pub part_cost : Part → ℕ
+part_cost p = paid p.steps (part_trace p)
+
+-- the parts of a tree at a path, with so many steps in an environment
+abbrev pub Finder : Type 0
+Finder = ℕ → List ℕ → WideTree → Before → List Part
+
+-- those of the children from number i on, behind what the earlier ones came to
+abbrev pub parts_from : ℕ → Finder → ℕ → List ℕ → ℕ → SoFar → List WideTree → Before → List Part
+parts_from k finder c path i a [] e = []
+parts_from k finder c path i a (t ∷ ts) e =
+    finder (c - a.cost) (path ++ i ∷ []) t (env_atop a.writes e)
+    ++ option_map_or (λ trace. parts_from k finder c path (i + 1) (with_child i a trace) ts e)
+    (evaluates k (c - a.cost) t (env_atop a.writes e)) []
+
+-- of `suc k` levels the inner trees have k
+abbrev pub parts_as : Openness → ℕ → Finder → Finder
+parts_as (Document ts) k finder c path t e = parts_from k finder (c - 1) path 0 nothing_yet ts e
+parts_as (With ps b) k finder c path t e =
+    finder (c - (1 + settings_cost ps)) (path ++ (2 * length ps) ∷ []) b (env_atop (set_by ps) e)
+parts_as Shut k finder c path t e =
+    record { path = path; tree = t; levels = suc k; steps = c; before = e } ∷ []
+
+-- with k levels
+unfoldable pub parts : ℕ → Finder
+parts zero c path t e = []
+parts (suc k) c path t e = parts_as (openness t) k (parts k) c path t e

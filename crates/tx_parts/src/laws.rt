@@ -1,0 +1,120 @@
+// Laws of evaluation by parts.
+ghost use Rattle.std.specs.Prelude.{Some, None, ◌≡◌, ◌<◌, ◌≤◌, ◌⊎◌, ℕ, suc, List};
+ghost use Rattle.std.specs.Prelude.{map, ◌++◌, [], ◌∷◌, Option};
+ghost use Rattle.std.specs.List.{AllByRecursion, IsDistinct, sum_by};
+ghost use Rattle.std.specs.Map.{keys_of};
+ghost use Rattle.std.specs.Ordering.{nat_cmp};
+ghost use Rattle.std.specs.Cmp.Lexicographic.{slice_cmp};
+ghost use Rattle.std.specs.FinMap.{get, empty, insert, from_entries};
+ghost use Rattle.std.specs.Str.{bytes_eq};
+ghost use Rattle.tx_tree.specs.WideTree.{WideTree};
+ghost use Rattle.tx_env.specs.Environments.{NameMap, overlaid};
+ghost use Rattle.tx_env.specs.Pairs.{Name};
+ghost use Rattle.tx_origin.specs.Values.{WideValue, plain};
+ghost use Rattle.tx_origin.specs.TaggedTrees.{TaggedTree};
+ghost use Rattle.tx_exec_form.specs.Maps.{LookMap, noted};
+ghost use Rattle.tx_exec_form.specs.Runs.{Before, State, Done, Over};
+ghost use Rattle.tx_exec_form.specs.Frames.{top};
+ghost use Rattle.tx_exec_form.specs.Rows.{ex};
+ghost use Rattle.tx_exec_form.specs.Evaluated.{WideTrace, evaluated_in, paid};
+ghost use Rattle.tx_exec_form.specs.Laws.{Agrees, Supports};
+ghost use Rattle.tx_parts.specs.Atop.{atop, env_atop, past, both_looks};
+ghost use Rattle.tx_parts.specs.Under.{tree_under, value_under};
+ghost use Rattle.tx_parts.specs.Adding.{after_part, part_ran};
+ghost use Rattle.tx_parts.specs.Openness.{openness};
+ghost use Rattle.tx_parts.specs.Composed.{evaluates, composed_as, composed};
+ghost use Rattle.tx_parts.specs.Parts.{part_cost, parts};
+ghost use Rattle.tx_parts.specs.Fitting.{AllFit};
+ghost use Rattle.tx_parts.specs.Standing.{StandsIn};
+
+/// A law: a part does in the whole what it does alone. The whole has so many steps left at `s`, and the part is
+/// evaluated alone in the environment in which what the whole has set so far stands atop. So a kept trace that agrees
+/// with that environment stands for the part where its cost and its height are allowed. Elsewhere the part is over, and
+/// the whole with it.
+pub fn part_law()
+    ensures part { (k : ℕ) (path : List ℕ) (t : TaggedTree) (e : Before) (s : State) → s.slack ≤ k →
+        ex k (tree_under path t) top e s ≡ part_ran k path s (evaluated_in k s.left t (env_atop s.own e)) }
+    ensures kept { (trace : WideTrace) (k : ℕ) (path : List ℕ) (t : TaggedTree) (e : Before) (s : State) → s.slack ≤ k →
+        Supports trace t → Agrees (env_atop s.own e) trace.looks → trace.cost ≤ s.left → trace.height ≤ k →
+        ex k (tree_under path t) top e s ≡ Done (value_under path trace.value) (after_part k s trace) }
+    ensures too_dear { (trace : WideTrace) (k : ℕ) (path : List ℕ) (t : TaggedTree) (e : Before) (s : State) →
+        s.slack ≤ k → Supports trace t → Agrees (env_atop s.own e) trace.looks →
+        (s.left < trace.cost) ⊎ (k < trace.height) → ex k (tree_under path t) top e s ≡ Over }
+    ensures over { (trace : WideTrace) (k c : ℕ) (t : TaggedTree) (e : Before) → Supports trace t →
+        Agrees e trace.looks → (c < trace.cost) ⊎ (k < trace.height) → evaluated_in k c t e ≡ None }
+{}
+
+/// A law: the trace of an open tree is composed of the traces of its inner trees, each evaluated alone in the
+/// environment before it. So it is composed of the traces of trees that aren't open. It is over exactly where one of
+/// them is, or where the steps or the levels round them run out.
+pub fn composition_law()
+    ensures inner { (k c : ℕ) (t : WideTree) (e : Before) →
+        evaluates (suc k) c t e ≡ composed_as (openness t) k (evaluates k) c t e }
+    ensures nested { (k c : ℕ) (t : WideTree) (e : Before) → evaluates k c t e ≡ composed k c t e }
+{}
+
+/// A law: where the trace of a tree fits in another environment, so do the traces of its parts, and there the tree has
+/// the same parts with the same traces.
+pub fn fitting_law()
+    ensures { (k c : ℕ) (path : List ℕ) (t : WideTree) (e d : Before) (trace : WideTrace) →
+        evaluates k c t e ≡ Some trace → Agrees d trace.looks → AllFit (parts k c path t e) (parts k c path t d) }
+{}
+
+/// A law: each part is the tree to which its path leads below that of the whole, and no two parts have one path.
+pub fn standing_law()
+    ensures stand { (k c : ℕ) (path : List ℕ) (t : WideTree) (e : Before) →
+        AllByRecursion (StandsIn path t) (parts k c path t e) }
+    ensures distinct { (k c : ℕ) (path : List ℕ) (t : WideTree) (e : Before) →
+        IsDistinct bytes_eq (map (λ p. p.path) (parts k c path t e)) }
+{}
+
+/// A law: the parts of a tree together cost at most what the tree costs, or what it may cost where it is over.
+pub fn cost_law()
+    ensures { (k c : ℕ) (path : List ℕ) (t : WideTree) (e : Before) →
+        sum_by part_cost (parts k c path t e) ≤ paid c (evaluates k c t e) }
+{}
+
+/// A law: the looks of both. The first has set `own` and looked this up, and the second looked up more.
+pub fn looks_law()
+    ensures both { (e : Before) (own : NameMap) (looks more : LookMap) → Agrees e looks →
+        Agrees (env_atop own e) more → Agrees e (both_looks looks own more) }
+    ensures first { (d : Before) (own : NameMap) (looks more : LookMap) → Agrees d (both_looks looks own more) →
+        Agrees d looks }
+    ensures second { (d e : Before) (own : NameMap) (looks more : LookMap) → Agrees e looks →
+        Agrees (env_atop own e) more → Agrees d (both_looks looks own more) → Agrees (env_atop own d) more }
+    ensures nothing { (own : NameMap) (looks : LookMap) → both_looks looks own empty ≡ looks }
+    ensures at_set { (own : NameMap) (looks more : LookMap) (x : Name) (t : WideTree) (found : Option WideTree) →
+        get own x ≡ Some t → both_looks looks own (noted more x found) ≡ both_looks looks own more }
+    ensures at_unset { (own : NameMap) (looks more : LookMap) (x : Name) (found : Option WideTree) →
+        get own x ≡ None → both_looks looks own (noted more x found) ≡ noted (both_looks looks own more) x found }
+    ensures more { (looks : List (Name × Option WideTree)) (x : Name) (found : Option WideTree) →
+        from_entries {R = slice_cmp nat_cmp} (looks ++ (x, found) ∷ []) ≡ noted (from_entries looks) x found }
+{}
+
+/// A law: what two have set, one behind the other.
+pub fn atop_law()
+    ensures twice { (later earlier : NameMap) (e : Before) →
+        env_atop (atop later earlier) e ≡ env_atop later (env_atop earlier e) }
+    ensures nothing { (earlier : NameMap) → atop empty earlier ≡ earlier }
+    ensures set { (later earlier : NameMap) (x : Name) (t : WideTree) →
+        atop (insert later x t) earlier ≡ insert (atop later earlier) x t }
+    ensures overlaid { (m : NameMap) (pairs : List (Name × WideTree)) → IsDistinct bytes_eq (keys_of pairs) →
+        get (overlaid m pairs) ≡ env_atop (from_entries pairs) (get m) }
+{}
+
+/// A law: what a `with` leaves of its inner tree's looks and writes, name by name.
+pub fn past_law()
+    ensures looks { (own : NameMap) (looks : LookMap) → both_looks empty own looks ≡ past own looks }
+    ensures nothing { (own : NameMap) → past own (empty {X = WideTree}) ≡ empty }
+    ensures at_set { (own writes : NameMap) (x : Name) (t v : WideTree) → get own x ≡ Some t →
+        past own (insert writes x v) ≡ past own writes }
+    ensures at_unset { (own writes : NameMap) (x : Name) (v : WideTree) → get own x ≡ None →
+        past own (insert writes x v) ≡ insert (past own writes) x v }
+{}
+
+/// A law: values under paths. Their trees are the same.
+pub fn under_law()
+    ensures nested { (a b : List ℕ) (v : WideValue) → value_under (a ++ b) v ≡ value_under a (value_under b v) }
+    ensures none { (v : WideValue) → value_under [] v ≡ v }
+    ensures plain { (path : List ℕ) (v : WideValue) → plain (value_under path v) ≡ plain v }
+{}
