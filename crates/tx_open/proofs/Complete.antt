@@ -1,8 +1,13 @@
 -- Files that can be opened are opened, or memory runs out.
-use Rattle.std.proofs.Common.{◌≡◌, ◌⊎◌, inl, inr, ℕ, List, Option, refl, sym, subst}
+use Rattle.std.proofs.Common.{◌≡◌, ◌≢◌, ◌⊎◌, inl, inr, ℕ, List, Option, refl, sym, subst}
 use Rattle.tx_outside.specs.Files.{Files}
-use Rattle.tx_words.specs.Words.{Ask, Named}
+use Rattle.tx_words.specs.declared.asked.Source.{Source}
+use Rattle.tx_words.specs.declared.asked.Source.TheVariants.{Files as AllFiles, Generated as FromNumber}
+use Rattle.tx_words.specs.Words.{Ask, AreFaulty, Named}
 use Rattle.tx_tree.specs.declared.faults.ReadFault.{ReadFault}
+use Rattle.tx_tree.specs.declared.faults.ReadFault.TheVariants.{Stray, BadEscape, BadLabel, BadText, Mismatch, Unclosed}
+use Rattle.tx_tree.specs.declared.faults.ReadFault.TheVariants.{After, Limit, Memory}
+use Rattle.tx_tm_form.specs.Faults.{IsTmFault}
 use Rattle.tx_open.specs.declared.failure.Failure.{Failure}
 use Rattle.tx_open.specs.declared.failure.Failure.TheVariants as failures
 use Rattle.tx_open.specs.declared.opening.Opened.{Opened}
@@ -10,8 +15,21 @@ use Rattle.tx_open.specs.declared.opening.Opening.{Opening}
 use Rattle.tx_open.specs.declared.opening.Opening.TheVariants as openings
 use Rattle.tx_open.specs.Openings.{failed_as, outcome_of}
 use Rattle.tx_open.specs.Outcomes.{CanBeOpened, ComesTo, EndsIn, EndsOf, IsCaused, IsOpenedAs, Outcome}
-use Rattle.tx_open.specs.Outcomes.{faulty_words, missing, too_long, no_tree, store_fault, no_memory, opened}
-use Rattle.tx_open.proofs.Single.{AskOnce, ends_or_opens}
+use Rattle.tx_open.specs.Outcomes.{missing, too_long, no_tree, store_fault}
+use Rattle.tx_open.proofs.Single.{AskOnce, ends_or_opens, not_files, same_files}
+
+-- where bytes have no fault, reading them comes to nothing but want of memory
+pub only_memory : (bytes : List ℕ) (fault : ReadFault) → (fault ≢ Memory → IsTmFault bytes fault)
+    → (IsTmFault bytes fault → ⊥) → fault ≡ Memory
+only_memory bytes (Stray n) h none = absurd (none (h (λ e. cc)))
+only_memory bytes (BadEscape n) h none = absurd (none (h (λ e. cc)))
+only_memory bytes (BadLabel n) h none = absurd (none (h (λ e. cc)))
+only_memory bytes (BadText n) h none = absurd (none (h (λ e. cc)))
+only_memory bytes (Mismatch p n) h none = absurd (none (h (λ e. cc)))
+only_memory bytes (After n) h none = absurd (none (h (λ e. cc)))
+only_memory bytes (Unclosed n) h none = absurd (none (h (λ e. cc)))
+only_memory bytes (Limit which n) h none = absurd (none (h (λ e. cc)))
+only_memory bytes Memory h none = refl
 
 -- a file that spells no tree isn't read
 refused : (words : List (List ℕ)) (asked_once : AskOnce words) (files : Option Files) (word : List ℕ)
@@ -21,8 +39,23 @@ refused words asked_once files word fault can h =
     let opens = subst (λ (fs : Option Files). IsOpenedAs words fs all) can.known can.opens in
     let ends = subst (λ (fs : Option Files). EndsOf words fs (no_tree word fault)) can.known h in
     let asked =
-    asked_once ends.width ends.height all.width all.height ends.names opens.names ends.asked opens.asked in
-    ends_or_opens can.told ends.names opens.names (no_tree word fault) all.buffers asked.2 ends.ends tt opens.read
+    asked_once ends.width ends.height all.width all.height (AllFiles ends.names) (AllFiles opens.names) ends.asked
+    opens.asked in
+    let names = same_files ends.names opens.names asked.2 in
+    ends_or_opens can.told ends.names opens.names (no_tree word fault) all.buffers names ends.ends tt opens.read
+
+-- words that ask for something aren't faulty
+pub asks : {P : Type 0} (words : List (List ℕ)) (width height : ℕ) (source : Source) → Ask words width height source
+    → AreFaulty words → P
+asks words width height source ask faulty = absurd (faulty width height source ask)
+
+-- words that ask for files ask for no generated document
+pub no_number : (words : List (List ℕ)) (asked_once : AskOnce words) (names : List Named) (width height : ℕ)
+    → Ask words width height (AllFiles names)
+    → (w h number count : ℕ) → Ask words w h (FromNumber number count) → ⊥
+no_number words asked_once names width height a w h number count b =
+    let asked = asked_once width height w h (AllFiles names) (FromNumber number count) a b in
+    not_files names number count asked.2
 
 pub is_opened : (words : List (List ℕ)) (asked_once : AskOnce words) (files : Option Files) (r : Opening)
     → CanBeOpened words files → ComesTo words files (outcome_of r)
@@ -32,7 +65,7 @@ pub is_opened : (words : List (List ℕ)) (asked_once : AskOnce words) (files : 
 is_opened words asked_once files openings.FaultyWords can h m l f =
     let opens = can.opens in
     let all = can.all in
-    absurd (h all.width all.height opens.names opens.asked)
+    absurd (h all.width all.height (AllFiles opens.names) opens.asked)
 is_opened words asked_once files (openings.Missing word) can h m l f = absurd (m word.now refl)
 is_opened words asked_once files (openings.TooLong word) can h m l f = absurd (l word.now refl)
 is_opened words asked_once files (openings.NoTree word fault) can h m l f =
@@ -40,10 +73,15 @@ is_opened words asked_once files (openings.NoTree word fault) can h m l f =
 is_opened words asked_once files (openings.StoreFault word) can h m l f = absurd (f word.now refl)
 is_opened words asked_once files openings.NoMemory can h m l f = inl refl
 is_opened words asked_once files (openings.Opened all) can h m l f = inr (all, refl)
+is_opened words asked_once files (openings.Generated made) can h m l f =
+    let opens = can.opens in
+    let all = can.all in
+    absurd (no_number words asked_once opens.names all.width all.height opens.asked made.width made.height h.number
+    h.count h.asked)
 
 -- one of the files that the words ask for isn't read
 module _ (words : List (List ℕ)) (files : Option Files) (width height : ℕ) (names : List Named)
-    (asked : Ask words width height names) where
+    (asked : Ask words width height (AllFiles names)) where
   ends_of : (o : Outcome) → EndsIn files names o → EndsOf words files o
   ends_of o h = record { width = width; height = height; names = names; asked = asked; ends = h }
 

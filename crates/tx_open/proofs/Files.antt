@@ -19,6 +19,7 @@ use Rattle.tx_doc.specs.Forms.{form_of}
 use Rattle.tx_open.specs.Forms.{SpellsIn, IsFaultIn}
 use Rattle.tx_open.specs.Outcomes.{EndsAt, Holds, IsDecided, IsFaultOf, IsTreeOf, Outcome}
 use Rattle.tx_open.specs.Outcomes.{faulty_words, missing, too_long, no_tree, store_fault, no_memory, opened}
+use Rattle.tx_open.specs.Outcomes.{generated}
 
 -- bytes have one tree or one fault, in each form
 one_tree : (form : Form) (bytes : List ℕ) (t u : WideTree) → SpellsIn form bytes t → SpellsIn form bytes u → t ≡ u
@@ -85,6 +86,7 @@ module _ (told : Files) (word : List ℕ) where
   cause_of no_memory h d = absurd d
   cause_of faulty_words h d = absurd h
   cause_of (opened all) h d = absurd h
+  cause_of (generated all) h d = absurd h
 
   pub cause_once : (o p : Outcome) → Cause o → Cause p → o ≡ p
   cause_once o p (lacks e h) (lacks i k) = e ∙ sym i

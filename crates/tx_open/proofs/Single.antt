@@ -1,11 +1,17 @@
 -- Words and files come to one outcome.
 use Rattle.std.proofs.Common.{◌≡◌, ℕ, List, [], ◌∷◌, ◌++◌, Some, refl, sym, subst, ap, ap₂, ◌∙◌}
+use Rattle.tx_tm_form.specs.Forms.{Spells as SpellsTm}
+use Rattle.tx_tm_form.proofs.Words.{one_tree as tm_tree_once}
+use Rattle.tx_generated.specs.Document.{document_text}
 use Rattle.tx_outside.specs.Files.{Files}
 use Rattle.tx_doc.specs.declared.buffer.Buffer.{Buffer}
+use Rattle.tx_words.specs.declared.asked.Source.{Source}
+use Rattle.tx_words.specs.declared.asked.Source.TheVariants.{Files as AllFiles, Generated as FromNumber}
 use Rattle.tx_words.specs.Words.{Ask, AreFaulty, Named}
 use Rattle.tx_open.specs.declared.opening.Opened.{Opened}
-use Rattle.tx_open.specs.Outcomes.{AreRead, ComesTo, EndsIn, EndsOf, IsDecided, IsOpenedAs, IsReadAs, Outcome}
-use Rattle.tx_open.specs.Outcomes.{faulty_words, missing, too_long, no_tree, store_fault, no_memory, opened}
+use Rattle.tx_open.specs.Outcomes.{AreRead, ComesTo, EndsIn, EndsOf, IsDecided, IsGenerated, IsGeneratedAs, IsOpenedAs}
+use Rattle.tx_open.specs.Outcomes.{IsReadAs, Outcome, faulty_words, missing, too_long, no_tree, store_fault, no_memory}
+use Rattle.tx_open.specs.Outcomes.{opened, generated}
 use Rattle.tx_open.proofs.Files.{Cause, cause_of, cause_once, read_on, tree_once}
 
 module _ (told : Files) where
@@ -74,14 +80,32 @@ module _ (told : Files) where
 -- words ask for one thing at most
 abbrev pub AskOnce : List (List ℕ) → Type 0
 AskOnce words =
-    (width height w h : ℕ) (files others : List Named) → Ask words width height files → Ask words w h others
-    → (width ≡ w) × (height ≡ h) × (files ≡ others)
+    (width height w h : ℕ) (source other : Source) → Ask words width height source → Ask words w h other
+    → (width ≡ w) × (height ≡ h) × (source ≡ other)
+
+pub same_files : (names others : List Named) → AllFiles names ≡ AllFiles others → names ≡ others
+same_files names others e = cc
+
+pub not_files : (names : List Named) (number count : ℕ) → AllFiles names ≡ FromNumber number count → ⊥
+not_files names number count e = cc
+
+same_numbers : (n c m d : ℕ) → FromNumber n c ≡ FromNumber m d → (n ≡ m) × (c ≡ d)
+same_numbers n c m d e = (cc, cc)
+
+-- a generated document is one buffer
+same_buffer : (n c m d : ℕ) (a b : Buffer) → n ≡ m → c ≡ d → IsGenerated n c a → IsGenerated m d b → a ≡ b
+same_buffer n c m d a b e f h k =
+    let name : a.name ≡ b.name = h.0 ∙ sym k.0 in
+    let text : document_text n c ≡ document_text m d = ap₂ document_text e f in
+    let tree = tm_tree_once (document_text m d) a.tree b.tree (subst (λ bytes. SpellsTm bytes a.tree) text h.1) k.1 in
+    λ i. record { name = name i; tree = tree i }
 
 module _ (told : Files) (words : List (List ℕ)) (asked_once : AskOnce words) where
   -- what a decided outcome comes from
   data Came (o : Outcome) : Type 0 where
     by_words : o ≡ faulty_words → AreFaulty words → Came o
     at_end : (all : Opened) → o ≡ opened all → IsOpenedAs words (Some told) all → Came o
+    at_once : (all : Opened) → o ≡ generated all → IsGeneratedAs words all → Came o
     at_file : IsDecided o → EndsOf words (Some told) o → Came o
 
   came_of : (o : Outcome) → ComesTo words (Some told) o → IsDecided o → Came o
@@ -92,31 +116,69 @@ module _ (told : Files) (words : List (List ℕ)) (asked_once : AskOnce words) w
   came_of (store_fault word) h d = absurd d
   came_of no_memory h d = absurd d
   came_of (opened all) h d = at_end all refl h
+  came_of (generated all) h d = at_once all refl h
+
+  -- two lists of files that the words ask for are one, and beside files they ask for no document
+  one_list : (width height w h : ℕ) (names others : List Named) → Ask words width height (AllFiles names)
+      → Ask words w h (AllFiles others) → names ≡ others
+  one_list width height w h names others a b =
+      let asked = asked_once width height w h (AllFiles names) (AllFiles others) a b in
+      same_files names others asked.2
+
+  no_document : (width height w h : ℕ) (names : List Named) (number count : ℕ)
+      → Ask words width height (AllFiles names) → Ask words w h (FromNumber number count) → ⊥
+  no_document width height w h names number count a b =
+      let asked = asked_once width height w h (AllFiles names) (FromNumber number count) a b in
+      not_files names number count asked.2
 
   opened_once : (all other : Opened) → IsOpenedAs words (Some told) all → IsOpenedAs words (Some told) other
       → all ≡ other
   opened_once all other h k =
-      let asked = asked_once all.width all.height other.width other.height h.names k.names h.asked k.asked in
+      let asked = asked_once all.width all.height other.width other.height (AllFiles h.names) (AllFiles k.names) h.asked
+      k.asked in
+      let names = same_files h.names k.names asked.2 in
       let buffers = read_once told k.names all.buffers other.buffers
-      (subst (λ (ns : List Named). AreRead (Some told) ns all.buffers) asked.2 h.read) k.read in
+      (subst (λ (ns : List Named). AreRead (Some told) ns all.buffers) names h.read) k.read in
+      λ i. record { width = asked.0 i; height = asked.1 i; buffers = buffers i }
+
+  generated_once : (all other : Opened) → IsGeneratedAs words all → IsGeneratedAs words other → all ≡ other
+  generated_once all other h k =
+      let asked = asked_once all.width all.height other.width other.height (FromNumber h.number h.count)
+      (FromNumber k.number k.count) h.asked k.asked in
+      let numbers = same_numbers h.number h.count k.number k.count asked.2 in
+      let one = same_buffer h.number h.count k.number k.count h.buffer k.buffer numbers.0 numbers.1 h.made k.made in
+      let buffers : all.buffers ≡ other.buffers = h.alone ∙ ap (λ (b : Buffer). b ∷ []) one ∙ sym k.alone in
       λ i. record { width = asked.0 i; height = asked.1 i; buffers = buffers i }
 
   came_once : (o p : Outcome) → Came o → Came p → o ≡ p
   came_once o p (by_words e h) (by_words i k) = e ∙ sym i
-  came_once o p (by_words e h) (at_end all i k) = absurd (h all.width all.height k.names k.asked)
-  came_once o p (by_words e h) (at_file d k) = absurd (h k.width k.height k.names k.asked)
-  came_once o p (at_end all e h) (by_words i k) = absurd (k all.width all.height h.names h.asked)
+  came_once o p (by_words e h) (at_end all i k) = absurd (h all.width all.height (AllFiles k.names) k.asked)
+  came_once o p (by_words e h) (at_once all i k) =
+      absurd (h all.width all.height (FromNumber k.number k.count) k.asked)
+  came_once o p (by_words e h) (at_file d k) = absurd (h k.width k.height (AllFiles k.names) k.asked)
+  came_once o p (at_end all e h) (by_words i k) = absurd (k all.width all.height (AllFiles h.names) h.asked)
   came_once o p (at_end all e h) (at_end other i k) = e ∙ ap opened (opened_once all other h k) ∙ sym i
+  came_once o p (at_end all e h) (at_once other i k) =
+      absurd (no_document all.width all.height other.width other.height h.names k.number k.count h.asked k.asked)
   came_once o p (at_end all e h) (at_file d k) =
-      let asked = asked_once k.width k.height all.width all.height k.names h.names k.asked h.asked in
-      absurd (ends_or_opens told k.names h.names p all.buffers asked.2 k.ends d h.read)
-  came_once o p (at_file d h) (by_words i k) = absurd (k h.width h.height h.names h.asked)
+      let names = one_list k.width k.height all.width all.height k.names h.names k.asked h.asked in
+      absurd (ends_or_opens told k.names h.names p all.buffers names k.ends d h.read)
+  came_once o p (at_once all e h) (by_words i k) =
+      absurd (k all.width all.height (FromNumber h.number h.count) h.asked)
+  came_once o p (at_once all e h) (at_end other i k) =
+      absurd (no_document other.width other.height all.width all.height k.names h.number h.count k.asked h.asked)
+  came_once o p (at_once all e h) (at_once other i k) = e ∙ ap generated (generated_once all other h k) ∙ sym i
+  came_once o p (at_once all e h) (at_file d k) =
+      absurd (no_document k.width k.height all.width all.height k.names h.number h.count k.asked h.asked)
+  came_once o p (at_file d h) (by_words i k) = absurd (k h.width h.height (AllFiles h.names) h.asked)
   came_once o p (at_file d h) (at_end all i k) =
-      let asked = asked_once h.width h.height all.width all.height h.names k.names h.asked k.asked in
-      absurd (ends_or_opens told h.names k.names o all.buffers asked.2 h.ends d k.read)
+      let names = one_list h.width h.height all.width all.height h.names k.names h.asked k.asked in
+      absurd (ends_or_opens told h.names k.names o all.buffers names h.ends d k.read)
+  came_once o p (at_file d h) (at_once all i k) =
+      absurd (no_document h.width h.height all.width all.height h.names k.number k.count h.asked k.asked)
   came_once o p (at_file d h) (at_file q k) =
-      let asked = asked_once h.width h.height k.width k.height h.names k.names h.asked k.asked in
-      ends_once told h.names k.names o p asked.2 h.ends k.ends d q
+      let names = one_list h.width h.height k.width k.height h.names k.names h.asked k.asked in
+      ends_once told h.names k.names o p names h.ends k.ends d q
 
   pub one_outcome : (o p : Outcome) → ComesTo words (Some told) o → ComesTo words (Some told) p → IsDecided o
       → IsDecided p → o ≡ p

@@ -1,5 +1,5 @@
 -- What opening comes to, from the words and the files.
-use Rattle.std.specs.Prelude.{◌≡◌, ◌≤◌, ℕ, List, [], ◌∷◌, ◌++◌, length, sum_by, Option, Some, IfSome}
+use Rattle.std.specs.Prelude.{◌≡◌, ◌≤◌, ℕ, List, [], ◌∷◌, ◌++◌, length, sum_by, codes, Option, Some, IfSome}
 use Rattle.tx_outside.specs.Files.{Files, IsAbsent, IsTooLong, file_of}
 use Rattle.tx_outside.specs.declared.file_store.TheConstants.{MOST_FILE}
 use Rattle.tx_tree.specs.WideTree.{WideTree, nodes_of}
@@ -7,6 +7,9 @@ use Rattle.tx_tree.specs.Limits.{IsWithinLimits}
 use Rattle.tx_tree.specs.declared.faults.ReadFault.{ReadFault}
 use Rattle.tx_doc.specs.declared.buffer.Buffer.{Buffer}
 use Rattle.tx_doc.specs.Forms.{form_of}
+use Rattle.tx_tm_form.specs.Forms.{Spells as SpellsTm}
+use Rattle.tx_generated.specs.Document.{document_text}
+use Rattle.tx_words.specs.declared.asked.Source.TheVariants as sources
 use Rattle.tx_words.specs.Words.{Ask, AreFaulty, Named}
 use Rattle.tx_open.specs.Forms.{SpellsIn, IsFaultIn}
 use Rattle.tx_open.specs.declared.opening.Opened.{Opened}
@@ -20,6 +23,7 @@ pub data Outcome : Type 0 where
   store_fault : (word : List ℕ) → Outcome
   no_memory : Outcome
   opened : (all : Opened) → Outcome
+  generated : (all : Opened) → Outcome
 
 -- ---- one file
 
@@ -80,14 +84,27 @@ pub record EndsOf (words : List (List ℕ)) (files : Option Files) (outcome : Ou
   pub width : ℕ
   pub height : ℕ
   pub names : List Named
-  pub asked : Ask words width height names
+  pub asked : Ask words width height (sources.Files names)
   pub ends : EndsIn files names outcome
 
 -- the words ask for pages of this size and for files that are read as these buffers
 pub record IsOpenedAs (words : List (List ℕ)) (files : Option Files) (all : Opened) : Type 0 where
   pub names : List Named
-  pub asked : Ask words all.width all.height names
+  pub asked : Ask words all.width all.height (sources.Files names)
   pub read : AreRead files names all.buffers
+
+-- the buffer has the name `gen` and the tree that the generated text spells
+abbrev pub IsGenerated : ℕ → ℕ → Buffer → Type 0
+IsGenerated number count buffer = (buffer.name ≡ codes "gen") × SpellsTm (document_text number count) buffer.tree
+
+-- the words ask for pages of this size and for a generated document, which is this one buffer
+pub record IsGeneratedAs (words : List (List ℕ)) (all : Opened) : Type 0 where
+  pub number : ℕ
+  pub count : ℕ
+  pub asked : Ask words all.width all.height (sources.Generated number count)
+  pub buffer : Buffer
+  pub alone : all.buffers ≡ buffer ∷ []
+  pub made : IsGenerated number count buffer
 
 -- What the words and the files come to: the first file that isn't read decides. Memory may run out at any time, also
 -- while the words are read.
@@ -95,6 +112,7 @@ abbrev pub ComesTo : List (List ℕ) → Option Files → Outcome → Type 0
 ComesTo words files faulty_words = AreFaulty words
 ComesTo words files no_memory = Unit {0}
 ComesTo words files (opened all) = IsOpenedAs words files all
+ComesTo words files (generated all) = IsGeneratedAs words all
 ComesTo words files ended = EndsOf words files ended
 
 -- neither a fault of the store nor want of memory

@@ -1,4 +1,4 @@
-//! The files that the words of the command line name, loaded and read.
+//! The files that the words of the command line name, loaded and read, or the document that they ask to generate.
 //!
 //! What words and files come to is `ComesTo` of `specs/Outcomes.antt`. The words are read by `tx_words`, and each file
 //! by `tx_scm` or `tx_tm_read`, as its name says.
@@ -7,6 +7,7 @@
 mod buffers;
 mod failure;
 mod file;
+mod generating;
 mod laws;
 mod opening;
 

@@ -1,25 +1,27 @@
 // All files that the words name, loaded and read.
-ghost use Rattle.std.specs.Prelude.{◌≡◌, ◌≤◌, ◌+◌, ◌⊎◌, ℕ, List, [], map, length, IfOk, IfErr, OnOk};
+ghost use Rattle.std.specs.Prelude.{◌≡◌, ◌<◌, ◌≤◌, ◌+◌, ◌^◌, ◌⊎◌, ℕ, List, [], ◌∷◌, map, length, IfOk, IfErr, OnOk};
 ghost use Rattle.std.specs.String.{string_bytes};
 ghost use Rattle.tx_outside.specs.Counts.{NeverFalls, Rose};
 ghost use Rattle.tx_doc.specs.Buffers.{NamesDiffer};
+ghost use Rattle.tx_doc.specs.declared.buffer.Buffer.{Buffer as SomeBuffer};
 ghost use Rattle.tx_words.specs.Seen.{named_of};
-ghost use Rattle.tx_words.specs.Words.{AreFaulty};
+ghost use Rattle.tx_words.specs.Words.{Ask, AreFaulty};
 ghost use Rattle.tx_open.specs.Openings.{IfOpened, failed_as, outcome_of};
-ghost use Rattle.tx_open.specs.Outcomes.{AreRead, CanBeOpened, ComesTo, EndsIn, IsCaused, nodes_in};
+ghost use Rattle.tx_open.specs.Outcomes.{AreRead, CanBeOpened, ComesTo, EndsIn, IsCaused, IsGenerated, nodes_in};
 ghost use Rattle.tx_open.specs.Outcomes.{missing, opened, store_fault, too_long};
 ghost use Rattle.tx_open.specs.declared.opening.Opened.{Opened as WasOpened};
 
 use crate::buffers::Buffers;
 use crate::failure::Failure;
 use crate::file::read_file;
+use crate::generating::generated_buffer;
 use std::alloc::Global;
 use std::sync::ledger::Ledger;
-use tx_base::Steps;
+use tx_base::{Memory, Steps};
 use tx_doc::Buffer;
 use tx_outside::Store;
 use tx_tree::ReadFault;
-use tx_words::{FileWord, Words, WordsFault, one_asking, read_words};
+use tx_words::{FileWord, FileWords, Source, Words, WordsFault, one_asking, read_words};
 
 /// What was opened.
 #[derive(Drop)]
@@ -49,6 +51,8 @@ pub enum Opening<'a> {
     NoMemory,
     /// The files were loaded and read.
     Opened(Opened),
+    /// The document was generated, which is one buffer.
+    Generated(Opened),
 }
 
 impl<'a> From<Failure<'a>> for Opening<'a> {
@@ -95,16 +99,18 @@ fn add_files<'a, S: Store, L: Ledger>(
     Ok(())
 }
 
-// Reads the files that are asked for.
+// Reads these files, which are asked for.
 fn read_files<'a, S: Store, L: Ledger>(
     alloc: Global,
-    asked: &Words<'a>,
+    width: u32,
+    height: u32,
+    files: &FileWords<'a>,
     store: &mut S,
     steps: &mut Steps<L>,
 ) -> Result<Opened, Failure<'a>>
-    ensures size { IfOk result (λ all. (all.width ≡ asked.now.width) × (all.height ≡ asked.now.height)) }
-    ensures read { IfOk result (λ all. AreRead (S.files store.old) asked.now.files all.buffers) }
-    ensures failed { IfErr result (λ failure. EndsIn (S.files store.old) asked.now.files (failed_as failure)) }
+    ensures size { IfOk result (λ all. (all.width ≡ width) × (all.height ≡ height)) }
+    ensures read { IfOk result (λ all. AreRead (S.files store.old) files.now all.buffers) }
+    ensures failed { IfErr result (λ failure. EndsIn (S.files store.old) files.now (failed_as failure)) }
     ensures caused { IfErr result (λ failure. IsCaused (Rose (S.misses store.old) (S.misses store.new))
         (Rose (S.longs store.old) (S.longs store.new)) (Rose (S.faults store.old) (S.faults store.new))
         (failed_as failure)) }
@@ -115,11 +121,35 @@ fn read_files<'a, S: Store, L: Ledger>(
     ensures longs_never_fall { NeverFalls (S.longs store.old) (S.longs store.new) }
 {
     let mut buffers = Vec::new(alloc);
-    add_files(alloc, &mut buffers, asked.files.as_slice(), store, steps)?;
+    add_files(alloc, &mut buffers, files.as_slice(), store, steps)?;
     Ok(Opened {
-        width: asked.width,
-        height: asked.height,
+        width,
+        height,
         buffers: Buffers::from(buffers),
+    })
+}
+
+// Generates and reads the document of this number and this count of paragraphs, which is asked for.
+fn generate<L: Ledger>(
+    alloc: Global,
+    width: u32,
+    height: u32,
+    number: u32,
+    count: u32,
+    steps: &mut Steps<L>,
+) -> Result<Opened, Memory>
+    requires number { number < 2 ^ 31 }
+    requires some { 1 ≤ count }
+    requires few { count ≤ 60000 }
+    ensures size { IfOk result (λ all. (all.width ≡ width) × (all.height ≡ height)) }
+    ensures made { IfOk result
+        (λ all. (buffer : SomeBuffer) × (all.buffers ≡ buffer ∷ []) × IsGenerated number count buffer) }
+    ensures counted { IfOk result (λ all. steps.new ≤ steps.old + nodes_in all.buffers) }
+{
+    Ok(Opened {
+        width,
+        height,
+        buffers: generated_buffer(alloc, number, count, steps)?,
     })
 }
 
@@ -130,6 +160,9 @@ fn read_files<'a, S: Store, L: Ledger>(
 /// The first file that isn't there, is too long, spells no tree within the limits, or at which the store fails, is what
 /// it comes to, and no later file is loaded. Faulty words ask nothing of the store. Where the files are opened, the
 /// steps rise by at most the nodes of their trees that aren't leaves.
+///
+/// Where FILE is `gen:number:count`, the document of `tx_generated` is generated and read, as the one buffer `gen`, and
+/// nothing is asked of the store.
 pub fn open<'a, S: Store, L: Ledger>(
     alloc: Global,
     words: &'a [String],
@@ -141,6 +174,11 @@ pub fn open<'a, S: Store, L: Ledger>(
         → ¬ Rose (S.misses store.old) (S.misses store.new) → ¬ Rose (S.longs store.old) (S.longs store.new)
         → ¬ Rose (S.faults store.old) (S.faults store.new)
         → (result ≡ Opening.NoMemory) ⊎ ((all : WasOpened) × (result ≡ Opening.Opened all)) }
+
+    // A generated document needs memory alone.
+    ensures generated { (width height number count : ℕ)
+        → Ask (map string_bytes words.now) width height (Source.Generated number count)
+        → (result ≡ Opening.NoMemory) ⊎ ((all : WasOpened) × (result ≡ Opening.Generated all)) }
 
     // Where the store is blamed, its count rose.
     ensures missing_counted { (word : List ℕ) → outcome_of result ≡ missing word
@@ -159,6 +197,8 @@ pub fn open<'a, S: Store, L: Ledger>(
 
     // What is as before, and what never falls.
     ensures untouched { AreFaulty (map string_bytes words.now) → (store.new ≡ store.old) × (steps.new ≡ steps.old) }
+    ensures not_asked { (width height number count : ℕ)
+        → Ask (map string_bytes words.now) width height (Source.Generated number count) → store.new ≡ store.old }
     ensures files_kept { S.files store.new ≡ S.files store.old }
     ensures faults_never_fall { NeverFalls (S.faults store.old) (S.faults store.new) }
     ensures misses_never_fall { NeverFalls (S.misses store.old) (S.misses store.new) }
@@ -166,10 +206,27 @@ pub fn open<'a, S: Store, L: Ledger>(
 {
     one_asking();
     match read_words(alloc, words) {
-        Ok(asked) => match read_files(alloc, &asked, store, steps) {
-            Ok(all) => Opening::Opened(all),
-            Err(failure) => Opening::from(failure),
-        },
+        Ok(asked) => {
+            let Words {
+                width,
+                height,
+                source,
+            } = asked;
+            match source {
+                Source::Files(files) => {
+                    match read_files(alloc, width, height, &files, store, steps) {
+                        Ok(all) => Opening::Opened(all),
+                        Err(failure) => Opening::from(failure),
+                    }
+                }
+                Source::Generated { number, count } => {
+                    match generate(alloc, width, height, number, count, steps) {
+                        Ok(all) => Opening::Generated(all),
+                        Err(_) => Opening::NoMemory,
+                    }
+                }
+            }
+        }
         Err(WordsFault::Faulty) => Opening::FaultyWords,
         Err(WordsFault::Memory) => Opening::NoMemory,
     }

@@ -50,5 +50,10 @@ pub(crate) fn shown(alloc: Global, opening: &Opening) -> Result<String, AllocErr
         Opening::StoreFault(word) => line(alloc, "store ", word),
         Opening::NoMemory => String::from_str(alloc, "memory"),
         Opening::Opened(opened) => all(alloc, opened),
+        Opening::Generated(opened) => {
+            let mut text = String::from_str(alloc, "generated ")?;
+            text.push_str(&all(alloc, opened)?)?;
+            Ok(text)
+        }
     }
 }

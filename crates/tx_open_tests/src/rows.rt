@@ -107,6 +107,35 @@ const FAILED: &[Row<'static>] = &[
     ("|tmx|a.scm|b", "a.scm (f);b.tm x", None, "missing b"),
 ];
 
+const GENERATED: &[Row<'static>] = &[
+    (
+        "|tmx|gen:1:3",
+        "gen:1:3 x",
+        None,
+        "generated 80 24 gen:(document (assign \"v\" \"tree\") \
+         (concat (value \"v\") \" line page tree path style macro\") \
+         (concat (em \"line\") \" cell value macro style path\") \
+         (concat (assign \"v\" \"path\") \"path style macro value cell line\"))",
+    ),
+    // nothing is asked of the store
+    (
+        "|tmx|--height=5|gen:0:1|--width=20",
+        "gen:0:1 x",
+        Some(0),
+        "generated 20 5 gen:(document (assign \"v\" \"tree\") \"tree path style macro value cell\")",
+    ),
+    ("|tmx|gen:1:0", "gen:1:0 x", Some(0), "faulty"),
+    ("|tmx|gen:x:3", "gen:x:3 x", None, "faulty"),
+    ("|tmx|gen:1:3|s.scm", "s.scm (f)", None, "faulty"),
+    // a style may have such a word
+    (
+        "|tmx|x.scm|gen:1:3",
+        "x.scm (f);gen:1:3 y",
+        None,
+        "80 24 x:(f) gen:1:3:(document \"y\")",
+    ),
+];
+
 // What opening these words over this store comes to.
 fn comes_to<L: Ledger>(
     alloc: Global,
@@ -171,6 +200,13 @@ fn files_are_opened(rt: HostRuntime) -> Result<(), Fail> {
 #[test]
 fn faulty_words_open_nothing(rt: HostRuntime) -> Result<(), Fail> {
     let wrong = first_wrong::<Brand>(rt.alloc(), FAULTY, Blank::new(1))?;
+    assert_eq!(rt; wrong, None);
+    Ok(())
+}
+
+#[test]
+fn documents_are_generated(rt: HostRuntime) -> Result<(), Fail> {
+    let wrong = first_wrong::<Brand>(rt.alloc(), GENERATED, Blank::new(1))?;
     assert_eq!(rt; wrong, None);
     Ok(())
 }

@@ -5,3 +5,4 @@ mod Asking
 mod Taken
 mod TheCommand
 mod Plain
+pub mod Cutting

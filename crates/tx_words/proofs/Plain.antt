@@ -1,13 +1,13 @@
 -- Words that don't begin with a hyphen are the files.
 use Rattle.std.proofs.Common.{◌≡◌, ◌∙◌, ◌&&◌, ◌||◌, ◌==◌, ℕ, Bool, cond, true, false, not, refl, sym, ap, subst, List}
-use Rattle.std.proofs.Common.{[], ◌∷◌, ◌++◌, map, codes, Option, Some, None, append_assoc, unwrap_or}
+use Rattle.std.proofs.Common.{[], ◌∷◌, ◌++◌, map, codes, Option, Some, None, append_assoc}
 use Rattle.std.specs.Prelude.{option_and_then}
 use Rattle.std.specs.List.{fold, list_all}
 use Rattle.std.specs.Option.{option_map_or}
 use Rattle.std.specs.Str.{bytes_eq}
 use Rattle.std.proofs.lemmas.Bool.{and_from, and_parts}
 use Rattle.clap.specs.Lexer.{long_of, long_of_rest, short_of, short_of_rest, strip_byte}
-use Rattle.clap.specs.Walk.{Held, Row, Rule, Step, Text, Waiting, Walk, after_step, all_of, finished, first_of, idle}
+use Rattle.clap.specs.Walk.{Held, Row, Rule, Step, Text, Waiting, Walk, after_step, finished, first_of, idle}
 use Rattle.clap.specs.Walk.{long_or_other, nothing_held, plain_word, positional, short_or_plain, subcommand_or_other}
 use Rattle.clap.specs.Walk.{trailing, walk, walk_from, walked}
 use Rattle.clap.specs.Simple.{Shape, built, is_simple}
@@ -16,7 +16,9 @@ use Rattle.clap.specs.Takes.{step_passes, takes, turn_passes, walk_passes}
 use Rattle.clap.specs.declared.builder.value_parser.Reading.TheVariants as reading
 use Rattle.clap.specs.declared.parser.matches.ValueSource.TheVariants.{CommandLine}
 use Rattle.clap.proofs.TakesLemmas.{leaf_takes}
-use Rattle.tx_words.specs.Words.{AreFiles, Ask, MayOpen, RowsAsk, named, tmx}
+use Rattle.tx_words.specs.declared.asked.Source.{Source}
+use Rattle.tx_words.specs.declared.asked.Source.TheVariants.{Files, Generated}
+use Rattle.tx_words.specs.Words.{Ask, Generates, IsSource, MayOpen, RowsAsk, is_generator, named, styles_in, tmx}
 use Rattle.tx_words.specs.Plain.{is_plain}
 
 abbrev shape : Shape
@@ -208,33 +210,41 @@ plain_taken program file styles e =
     (and_from _ _ defaults (ap (λ (rows : List Row). is_valid shape rows false) (rows_are file styles e)
     ∙ valid file styles)))))
 
-are_files : (file : Text) (styles : List Text)
-    → AreFiles (first_of (codes "FILE") (all_rows file styles))
-    (unwrap_or (all_of (codes "STYLE") (all_rows file styles)) [])
-    (map named (file ∷ styles))
-are_files file [] = refl
-are_files file (s ∷ styles) = refl
+rows_source : (file : Text) (styles : List Text) (source : Source) → IsSource (Some file) styles source
+    → IsSource (first_of (codes "FILE") (all_rows file styles)) (styles_in (all_rows file styles)) source
+rows_source file [] source h = h
+rows_source file (s ∷ styles) source h = h
 
 no_option : (id : Text) (file : Text) (styles : List Text) → bytes_eq (codes "FILE") id ≡ false
     → bytes_eq (codes "STYLE") id ≡ false → first_of id (all_rows file styles) ≡ None
 no_option id file [] x y = rw x refl
 no_option id file (s ∷ styles) x y = rw (x, y) refl
 
--- the files on pages of the usual size
-rows_ask : (file : Text) (styles : List Text) → MayOpen (map named (file ∷ styles))
-    → RowsAsk (all_rows file styles) 80 24 (map named (file ∷ styles))
-rows_ask file styles fit = record {
+-- what they ask for, on pages of the usual size
+rows_ask : (file : Text) (styles : List Text) (source : Source) → IsSource (Some file) styles source
+    → RowsAsk (all_rows file styles) 80 24 source
+rows_ask file styles source h = record {
   wide = rw (no_option (codes "width") file styles refl refl) refl;
   high = rw (no_option (codes "height") file styles refl refl) refl;
-  each = are_files file styles;
-  fit = fit;
+  each = rows_source file styles source h;
 }
 
--- words that don't begin with a hyphen, behind the program's name, are the files
-pub plain_ask : (program file : Text) (styles : List Text) → list_all is_plain (file ∷ styles) ≡ true
-    → MayOpen (map named (file ∷ styles)) → Ask (program ∷ file ∷ styles) 80 24 (map named (file ∷ styles))
-plain_ask program file styles e fit = record {
+-- words that don't begin with a hyphen, behind the program's name, are the document's and those of styles
+source_ask : (program file : Text) (styles : List Text) (source : Source) → list_all is_plain (file ∷ styles) ≡ true
+    → IsSource (Some file) styles source → Ask (program ∷ file ∷ styles) 80 24 source
+source_ask program file styles source e h = record {
   taken = plain_taken program file styles e;
-  found = subst (λ (r : List Row). RowsAsk r 80 24 (map named (file ∷ styles)))
-      (sym (rows_are file styles e)) (rows_ask file styles fit);
+  found = subst (λ (r : List Row). RowsAsk r 80 24 source) (sym (rows_are file styles e))
+      (rows_ask file styles source h);
 }
+
+pub plain_ask : (program file : Text) (styles : List Text) → list_all is_plain (file ∷ styles) ≡ true
+    → is_generator file ≡ false → MayOpen (map named (file ∷ styles))
+    → Ask (program ∷ file ∷ styles) 80 24 (Files (map named (file ∷ styles)))
+plain_ask program file styles e files fit =
+    source_ask program file styles (Files (map named (file ∷ styles))) e (files, refl, fit)
+
+pub generated_ask : (program word : Text) (number count : ℕ) → Generates word number count
+    → Ask (program ∷ word ∷ []) 80 24 (Generated number count)
+generated_ask program word number count g =
+    source_ask program word [] (Generated number count) (ap (λ w. list_all is_plain (w ∷ [])) g.parts) (g, refl)

@@ -14,3 +14,11 @@ base_name path = after_last (λ b. b == 47) path
 -- the name of the buffer that is read from a path
 abbrev pub buffer_name : List ℕ → List ℕ
 buffer_name path = without_extension (base_name path) (before_last (λ b. b == 46) (base_name path))
+
+-- a file's word, and the name of the buffer that is read from it
+pub record Named : Type 0 where
+  pub word : List ℕ
+  pub name : List ℕ
+
+abbrev pub named : List ℕ → Named
+named word = record { word = word; name = buffer_name word }

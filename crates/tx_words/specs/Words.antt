@@ -1,11 +1,13 @@
 -- What the words of the command line ask for.
-use Rattle.std.specs.Prelude.{◌≡◌, ◌≢◌, ◌≤◌, ℕ, true, List, [], ◌∷◌, map, length, codes, unwrap_or}
-use Rattle.std.specs.Prelude.{Option, Some, None}
-use Rattle.std.specs.List.{AllByRecursion}
+use Rattle.std.specs.Prelude.{◌≡◌, ◌≢◌, ◌≤◌, ℕ, Bool, true, false, List, [], ◌∷◌, ◌++◌, map, length, codes, nat_eq}
+use Rattle.std.specs.Prelude.{Option, Some, None, unwrap_or}
+use Rattle.std.specs.List.{AllByRecursion, starts_with}
 use Rattle.clap.specs.Words.{App, Row, Rule, all_of, first_of, matches_of, new_app, new_rule, takes, with_rule}
 use Rattle.clap.specs.declared.builder.ArgAction.TheVariants.{Set, Append}
 use Rattle.tx_tree.specs.PathSpelling.{IsNumber}
-use Rattle.tx_words.specs.Names.{buffer_name}
+use Rattle.tx_words.specs.declared.asked.Source.{Source}
+use Rattle.tx_words.specs.declared.asked.Source.TheVariants.{Files, Generated}
+pub use Rattle.tx_words.specs.Names.{Named, named}
 
 -- ---- the command, in the words of `clap`
 
@@ -29,23 +31,16 @@ tmx =
 
 -- ---- what is asked for
 
+-- the digits write a number between these
+abbrev pub IsNumberIn : (least most : ℕ) → List ℕ → ℕ → Type 0
+IsNumberIn least most digits n = IsNumber digits n × (least ≤ n) × (n ≤ most)
+
 -- the size that an option asks for, or the usual one where it isn't there
 abbrev pub IsSize : (usual least most : ℕ) → Option (List ℕ) → ℕ → Type 0
 IsSize usual least most None n = n ≡ usual
-IsSize usual least most (Some digits) n = IsNumber digits n × (least ≤ n) × (n ≤ most)
+IsSize usual least most (Some digits) n = IsNumberIn least most digits n
 
--- a file's word, and the name of the buffer that is read from it
-pub record Named : Type 0 where
-  pub word : List ℕ
-  pub name : List ℕ
-
-abbrev pub named : List ℕ → Named
-named word = record { word = word; name = buffer_name word }
-
--- the files are the document and the styles behind it
-abbrev pub AreFiles : Option (List ℕ) → List (List ℕ) → List Named → Type 0
-AreFiles None behind files = ⊥
-AreFiles (Some first) behind files = files ≡ map named (first ∷ behind)
+-- ---- files
 
 -- each has a name
 abbrev pub HaveNames : List Named → Type 0
@@ -62,19 +57,58 @@ pub record MayOpen (files : List Named) : Type 0 where
   pub have_names : HaveNames files
   pub differ : NamesDiffer files
 
--- What `clap` found asks for pages of this width and height over these files: a width is 20 to 500, or 80 where none is
--- given, a height is 5 to 500, or 24, and the files may be opened.
-pub record RowsAsk (rows : List Row) (width height : ℕ) (files : List Named) : Type 0 where
+-- ---- generated documents
+
+-- a word that begins so names no file
+abbrev pub is_generator : List ℕ → Bool
+is_generator word = starts_with nat_eq word (codes "gen:")
+
+-- the word is gen:, a number below 2^31, a colon, and a count of paragraphs
+pub record Generates (word : List ℕ) (number count : ℕ) : Type 0 where
+  pub digits : List ℕ
+  pub others : List ℕ
+  pub parts : word ≡ codes "gen:" ++ (digits ++ 58 ∷ others)
+  pub numbered : IsNumberIn 0 2147483647 digits number
+  pub counted : IsNumberIn 1 60000 others count
+
+-- ---- all words
+
+-- The word of the document and those of the styles behind it ask for this: files that may be opened, or a generated
+-- document, behind which no style may follow.
+abbrev pub IsSource : Option (List ℕ) → List (List ℕ) → Source → Type 0
+IsSource None behind source = ⊥
+IsSource (Some word) behind (Files files) =
+    (is_generator word ≡ false) × (files ≡ map named (word ∷ behind)) × MayOpen files
+IsSource (Some word) behind (Generated number count) = Generates word number count × (behind ≡ [])
+
+-- the words of the styles that `clap` found
+abbrev pub styles_in : List Row → List (List ℕ)
+styles_in rows = unwrap_or (all_of (codes "STYLE") rows) []
+
+-- What `clap` found asks for pages of this width and height over this: a width is 20 to 500, or 80 where none is given,
+-- and a height is 5 to 500, or 24.
+pub record RowsAsk (rows : List Row) (width height : ℕ) (source : Source) : Type 0 where
   pub wide : IsSize 80 20 500 (first_of (codes "width") rows) width
   pub high : IsSize 24 5 500 (first_of (codes "height") rows) height
-  pub each : AreFiles (first_of (codes "FILE") rows) (unwrap_or (all_of (codes "STYLE") rows) []) files
-  pub fit : MayOpen files
+  pub each : IsSource (first_of (codes "FILE") rows) (styles_in rows) source
 
 -- the words ask for that: `clap` takes them, and what it finds in them does
-pub record Ask (words : List (List ℕ)) (width height : ℕ) (files : List Named) : Type 0 where
+pub record Ask (words : List (List ℕ)) (width height : ℕ) (source : Source) : Type 0 where
   pub taken : takes tmx words ≡ true
-  pub found : RowsAsk (matches_of tmx words) width height files
+  pub found : RowsAsk (matches_of tmx words) width height source
 
 -- they ask for nothing that there is
 abbrev pub AreFaulty : List (List ℕ) → Type 0
-AreFaulty words = (width height : ℕ) (files : List Named) → Ask words width height files → ⊥
+AreFaulty words = (width height : ℕ) (source : Source) → Ask words width height source → ⊥
+
+-- ---- what holds of what is asked for
+
+-- this holds of the files, where files are asked for
+abbrev pub IfFiles : Source → (List Named → Type 0) → Type 0
+IfFiles (Files files) P = P files
+IfFiles (Generated number count) P = Unit {0}
+
+-- this holds of the number and the count, where a generated document is
+abbrev pub IfGenerated : Source → (ℕ → ℕ → Type 0) → Type 0
+IfGenerated (Files files) P = Unit {0}
+IfGenerated (Generated number count) P = P number count

@@ -23,7 +23,7 @@ pub struct FileWords<'a> {
 
 impl<'a> Model for FileWords<'a> {
     ghost use Rattle.std.specs.Prelude.{List, map};
-    ghost use Rattle.tx_words.specs.Words.{Named};
+    ghost use Rattle.tx_words.specs.Names.{Named};
     ghost use Rattle.tx_words.specs.Seen.{named_of};
 
     ghost Value = { List Named };
@@ -51,6 +51,20 @@ impl<'a> From<Vec<FileWord<'a>>> for FileWords<'a> {
     }
 }
 
+/// What is to be opened.
+#[derive(Debug, Drop)]
+pub enum Source<'a> {
+    /// The document and the styles behind it, 1 to 16 files, no two of one name.
+    Files(FileWords<'a>),
+    /// A document that is generated.
+    Generated {
+        /// From this number, below 2^31.
+        number: u32,
+        /// With so many paragraphs, 1 to 60,000.
+        count: u32,
+    },
+}
+
 /// What the words of a command line ask for.
 #[derive(Debug, Drop)]
 pub struct Words<'a> {
@@ -58,6 +72,6 @@ pub struct Words<'a> {
     pub width: u32,
     /// The height of a page, 5 to 500 lines.
     pub height: u32,
-    /// The document and the styles behind it, 1 to 16 files, no two of one name.
-    pub files: FileWords<'a>,
+    /// What is to be opened.
+    pub source: Source<'a>,
 }

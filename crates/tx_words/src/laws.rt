@@ -1,18 +1,24 @@
 // What holds of all words.
-ghost use Rattle.std.specs.Prelude.{◌≡◌, ◌∷◌, ℕ, List, true, map};
+ghost use Rattle.std.specs.Prelude.{◌≡◌, [], ◌∷◌, ℕ, List, true, false, map};
 ghost use Rattle.std.specs.List.{list_all};
-ghost use Rattle.tx_words.specs.Words.{Ask, MayOpen, Named, named};
+ghost use Rattle.tx_words.specs.Words.{Ask, Generates, MayOpen, is_generator, named};
 ghost use Rattle.tx_words.specs.Plain.{is_plain};
+ghost use Rattle.tx_words.specs.declared.asked.Source.{Source};
+ghost use Rattle.tx_words.specs.declared.asked.Source.TheVariants.{Files, Generated};
 
 /// A law: words ask for one thing at most.
 pub fn one_asking()
-    ensures { (words : List (List ℕ)) (width height w h : ℕ) (files others : List Named) → Ask words width height files
-        → Ask words w h others → (width ≡ w) × (height ≡ h) × (files ≡ others) }
+    ensures { (words : List (List ℕ)) (width height w h : ℕ) (source other : Source) → Ask words width height source
+        → Ask words w h other → (width ≡ w) × (height ≡ h) × (source ≡ other) }
 {}
 
 /// A law: words that don't begin with a hyphen are files, behind the program's name and where they may be opened, and
-/// pages are 80 by 24.
+/// pages are 80 by 24. The first of them begins with no `gen:`; where it does, and stands alone, it asks for the
+/// document that is generated from its numbers.
 pub fn plain_words()
-    ensures { (program file : List ℕ) (styles : List (List ℕ)) → list_all is_plain (file ∷ styles) ≡ true
-        → MayOpen (map named (file ∷ styles)) → Ask (program ∷ file ∷ styles) 80 24 (map named (file ∷ styles)) }
+    ensures files { (program file : List ℕ) (styles : List (List ℕ)) → list_all is_plain (file ∷ styles) ≡ true
+        → is_generator file ≡ false → MayOpen (map named (file ∷ styles))
+        → Ask (program ∷ file ∷ styles) 80 24 (Files (map named (file ∷ styles))) }
+    ensures generated { (program word : List ℕ) (number count : ℕ) → Generates word number count
+        → Ask (program ∷ word ∷ []) 80 24 (Generated number count) }
 {}

@@ -5,13 +5,14 @@
 
 mod asked;
 mod faults;
+mod generators;
 mod laws;
 mod names;
 mod parsing;
 mod reading;
 mod sizes;
 
-pub use asked::{FileWord, FileWords, Words};
+pub use asked::{FileWord, FileWords, Source, Words};
 pub use faults::WordsFault;
 pub use laws::{one_asking, plain_words};
 pub use names::buffer_name;

@@ -1,14 +1,17 @@
 // The words as a whole.
-ghost use Rattle.std.specs.Prelude.{◌≡◌, ◌≢◌, ◌≤◌, ◌↔◌, IsTrue, ◌++◌, [], ◌∷◌, map, length, codes, IfOk, OnOk};
-ghost use Rattle.std.specs.Prelude.{IsErrOf, List, option_map, unwrap_or, ℕ};
+ghost use Rattle.std.specs.Prelude.{◌≡◌, ◌≢◌, ◌<◌, ◌≤◌, ◌↔◌, ◌^◌, IsTrue, true, false, ◌++◌, [], ◌∷◌, map, length};
+ghost use Rattle.std.specs.Prelude.{IfOk, IsErrOf, OnOk, Some, option_map, unwrap_or, ℕ};
 ghost use Rattle.std.specs.String.{string_bytes};
 ghost use Rattle.std.specs.List.{AllByRecursion};
 ghost use Rattle.clap.specs.Words.{all_of, first_of, found_of, rows_of};
-ghost use Rattle.tx_words.specs.Words.{Ask, AreFaulty, HaveNames, MayOpen, Named, NamesDiffer, RowsAsk, named};
+ghost use Rattle.tx_words.specs.Words.{Ask, AreFaulty, HaveNames, IfFiles, IfGenerated, IsSource, MayOpen, NamesDiffer};
+ghost use Rattle.tx_words.specs.Words.{RowsAsk, is_generator, named, styles_in};
+ghost use Rattle.tx_words.specs.declared.asked.Source.{Source as Asked};
 ghost use Rattle.tx_words.specs.Seen.{named_of};
 
-use crate::asked::{FileWord, FileWords, Words};
+use crate::asked::{FileWord, FileWords, Source, Words};
 use crate::faults::WordsFault;
+use crate::generators::{behind_gen, numbers};
 use crate::names::buffer_name;
 use crate::parsing::parse;
 use crate::sizes::size;
@@ -112,7 +115,7 @@ fn files_of<'a>(
     matches: &ArgMatches<'a>,
 ) -> Result<Vec<FileWord<'a>>, Memory>
     ensures { IfOk result (λ files. map named_of files.items
-        ≡ map named (document.now ∷ unwrap_or (all_of (codes "STYLE") (rows_of (found_of matches.now))) [])) }
+        ≡ map named (document.now ∷ styles_in (rows_of (found_of matches.now)))) }
 {
     let mut files = Vec::new(alloc);
     files.push(file_word(document))?;
@@ -120,12 +123,65 @@ fn files_of<'a>(
     Ok(files)
 }
 
+// The document's file and the files of styles, where the document's word names a file.
+fn files_source<'a>(
+    alloc: Global,
+    document: &'a str,
+    matches: &ArgMatches<'a>,
+) -> Result<Source<'a>, WordsFault>
+    requires { is_generator document.now ≡ false }
+    ensures named { IfOk result
+        (λ source. IsSource (Some document.now) (styles_in (rows_of (found_of matches.now))) source) }
+    ensures faulty { IsErrOf result WordsFault.Faulty
+        → (source : Asked) → IsSource (Some document.now) (styles_in (rows_of (found_of matches.now))) source → ⊥ }
+{
+    let files = files_of(alloc, document, matches)?;
+    if !may_open(&files) {
+        return Err(WordsFault::Faulty);
+    }
+    Ok(Source::Files(FileWords::from(files)))
+}
+
+// Whether styles are given.
+fn has_styles(matches: &ArgMatches) -> bool
+    ensures some { result ≡ true → styles_in (rows_of (found_of matches.now)) ≢ [] }
+    ensures none { result ≡ false → styles_in (rows_of (found_of matches.now)) ≡ [] }
+{
+    match matches.get_raw("STYLE") {
+        Some(values) => !values.is_empty(),
+        None => false,
+    }
+}
+
+// What the document's word and the styles behind it ask for.
+fn source_of<'a>(
+    alloc: Global,
+    document: &'a str,
+    matches: &ArgMatches<'a>,
+) -> Result<Source<'a>, WordsFault>
+    ensures named { IfOk result
+        (λ source. IsSource (Some document.now) (styles_in (rows_of (found_of matches.now))) source) }
+    ensures faulty { IsErrOf result WordsFault.Faulty
+        → (source : Asked) → IsSource (Some document.now) (styles_in (rows_of (found_of matches.now))) source → ⊥ }
+{
+    let Some(rest) = behind_gen(document) else {
+        return files_source(alloc, document, matches);
+    };
+    if has_styles(matches) {
+        return Err(WordsFault::Faulty);
+    }
+    match numbers(rest) {
+        Some((number, count)) => Ok(Source::Generated { number, count }),
+        None => Err(WordsFault::Faulty),
+    }
+}
+
 // What is asked for by what was found in the words.
 fn asked_by<'a>(alloc: Global, matches: &ArgMatches<'a>) -> Result<Words<'a>, WordsFault>
     ensures asked { IfOk result
-        (λ asked. RowsAsk (rows_of (found_of matches.now)) asked.width asked.height asked.files) }
+        (λ asked. RowsAsk (rows_of (found_of matches.now)) asked.width asked.height asked.source) }
     ensures faulty { IsErrOf result WordsFault.Faulty
-        → (width height : ℕ) (files : List Named) → RowsAsk (rows_of (found_of matches.now)) width height files → ⊥ }
+        → (width height : ℕ) (source : Asked) → RowsAsk (rows_of (found_of matches.now)) width height source → ⊥ }
 {
     let Some(width) = size(value(matches, "width"), 80, 20, 500) else {
         return Err(WordsFault::Faulty);
@@ -136,27 +192,30 @@ fn asked_by<'a>(alloc: Global, matches: &ArgMatches<'a>) -> Result<Words<'a>, Wo
     let Some(document) = value(matches, "FILE") else {
         return Err(WordsFault::Faulty);
     };
-    let files = files_of(alloc, document, matches)?;
-    if !may_open(&files) {
-        return Err(WordsFault::Faulty);
-    }
+    let source = source_of(alloc, document, matches)?;
     Ok(Words {
         width,
         height,
-        files: FileWords::from(files),
+        source,
     })
 }
 
 /// What the words ask for, the program's name first: `tmx [--width N] [--height N] FILE [STYLE]...`. A number is one
 /// to ten digits. A width is 20 to 500 cells, and 80 where none is given; a height is 5 to 500 lines, and 24. There are
-/// 1 to 16 files, each with a buffer's name of its own. All other words are faulty, those that ask for help too.
+/// 1 to 16 files, each with a buffer's name of its own. A FILE that begins with `gen:` names no file: it is `gen:`, a
+/// number below 2^31, `:` and a number from 1 to 60,000, and no style follows. All other words are faulty, those that
+/// ask for help too.
 pub fn read_words<'a>(alloc: Global, words: &'a [String]) -> Result<Words<'a>, WordsFault>
-    ensures asked { IfOk result (λ asked. Ask (map string_bytes words.now) asked.width asked.height asked.files) }
+    ensures asked { IfOk result (λ asked. Ask (map string_bytes words.now) asked.width asked.height asked.source) }
     ensures faulty { IsErrOf result WordsFault.Faulty → AreFaulty (map string_bytes words.now) }
     ensures width { IfOk result (λ asked. (20 ≤ asked.width) × (asked.width ≤ 500)) }
     ensures height { IfOk result (λ asked. (5 ≤ asked.height) × (asked.height ≤ 500)) }
-    ensures files { IfOk result (λ asked. (1 ≤ length asked.files) × (length asked.files ≤ 16)) }
-    ensures names { IfOk result (λ asked. NamesDiffer asked.files) }
+    ensures files { IfOk result
+        (λ asked. IfFiles asked.source (λ files. (1 ≤ length files) × (length files ≤ 16))) }
+    ensures names { IfOk result (λ asked. IfFiles asked.source NamesDiffer) }
+    ensures number { IfOk result (λ asked. IfGenerated asked.source (λ number count. number < 2 ^ 31)) }
+    ensures count { IfOk result
+        (λ asked. IfGenerated asked.source (λ number count. (1 ≤ count) × (count ≤ 60000))) }
 {
     let matches = parse(alloc, words)?;
     asked_by(alloc, &matches)

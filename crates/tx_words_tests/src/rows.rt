@@ -1,7 +1,7 @@
 // Command lines, and the names of buffers.
 use std::alloc::{AllocError, Global};
 use std::str;
-use tx_words::{Words, WordsFault, buffer_name, read_words};
+use tx_words::{FileWords, Source, Words, WordsFault, buffer_name, read_words};
 
 // Words, each behind a bar, and what they ask for: the width, the height, and each file with its buffer's name.
 const ROWS: &[(&str, &str)] = &[
@@ -133,6 +133,47 @@ const MORE: &[(&str, &str)] = &[
     ),
 ];
 
+// Words of generated documents, and what they ask for.
+const GENERATED: &[(&str, &str)] = &[
+    ("|tmx|gen:1:3", "80 24 number 1 count 3"),
+    ("|tmx|gen:1:0", "faulty"),
+    ("|tmx|gen:x:3", "faulty"),
+    ("|tmx|gen:1:3|s.scm", "faulty"),
+    ("|tmx|gen:", "faulty"),
+    ("|tmx|gen:1", "faulty"),
+    ("|tmx|gen::", "faulty"),
+    ("|tmx|gen:1:", "faulty"),
+    ("|tmx|gen::3", "faulty"),
+    ("|tmx|gen:1:3:", "faulty"),
+    ("|tmx|gen:1:3:4", "faulty"),
+    ("|tmx|gen:1:3.tm", "faulty"),
+    ("|tmx|gen:+1:3", "faulty"),
+    ("|tmx|gen:1: 3", "faulty"),
+    ("|tmx|gen:-1:3", "faulty"),
+    ("|tmx|gen:0:1", "80 24 number 0 count 1"),
+    ("|tmx|gen:01:3", "80 24 number 1 count 3"),
+    ("|tmx|gen:1:0000060000", "80 24 number 1 count 60000"),
+    ("|tmx|gen:00000000001:3", "faulty"),
+    ("|tmx|gen:2147483647:1", "80 24 number 2147483647 count 1"),
+    ("|tmx|gen:2147483648:1", "faulty"),
+    ("|tmx|gen:4294967297:1", "faulty"),
+    ("|tmx|gen:1:60000", "80 24 number 1 count 60000"),
+    ("|tmx|gen:1:60001", "faulty"),
+    (
+        "|tmx|--width=40|gen:1:3|--height|30",
+        "40 30 number 1 count 3",
+    ),
+    ("|tmx|--|gen:1:3", "80 24 number 1 count 3"),
+    ("|tmx|gen:1:3|gen:1:3", "faulty"),
+    // a style, and files whose words begin with other bytes
+    ("|tmx|x|gen:1:3", "80 24 x:x gen:1:3:gen:1:3"),
+    ("|tmx|x|gen:", "80 24 x:x gen::gen:"),
+    ("|tmx|gen", "80 24 gen:gen"),
+    ("|tmx|Gen:1:3", "80 24 Gen:1:3:Gen:1:3"),
+    ("|tmx|./gen:1:3", "80 24 ./gen:1:3:gen:1:3"),
+    ("|tmx|gen.tm|s.scm", "80 24 gen.tm:gen s.scm:s"),
+];
+
 // Paths, and the names of the buffers that are read from them.
 const NAMES: &[(&str, &str)] = &[
     ("a.tm", "a"),
@@ -159,13 +200,25 @@ fn words_in(alloc: Global, line: &str) -> Result<Vec<String>, AllocError> {
     Ok(words)
 }
 
-// The width, the height, and each file with its buffer's name.
-fn shown(alloc: Global, asked: &Words) -> Result<String, AllocError> {
-    let mut text = format!(in alloc; "{} {}", asked.width, asked.height)?;
-    for file in asked.files.as_slice() {
+// Each file with its buffer's name.
+fn add_files(alloc: Global, text: &mut String, files: &FileWords) -> Result<(), AllocError> {
+    for file in files.as_slice() {
         let name = str::from_utf8(file.name).unwrap_or("?");
         let more = format!(in alloc; " {}:{}", file.word, name)?;
         text.push_str(&more)?;
+    }
+    Ok(())
+}
+
+// The width, the height, and what is to be opened.
+fn shown(alloc: Global, asked: &Words) -> Result<String, AllocError> {
+    let mut text = format!(in alloc; "{} {}", asked.width, asked.height)?;
+    match &asked.source {
+        Source::Files(files) => add_files(alloc, &mut text, files)?,
+        Source::Generated { number, count } => {
+            let more = format!(in alloc; " number {number} count {count}")?;
+            text.push_str(&more)?;
+        }
     }
     Ok(text)
 }
@@ -206,6 +259,11 @@ fn words_of_command_lines(rt: HostRuntime) {
 #[test]
 fn more_words_of_command_lines(rt: HostRuntime) {
     assert_eq!(rt; first_wrong(rt.alloc(), MORE), None);
+}
+
+#[test]
+fn words_of_generated_documents(rt: HostRuntime) {
+    assert_eq!(rt; first_wrong(rt.alloc(), GENERATED), None);
 }
 
 #[test]
