@@ -6,3 +6,4 @@ mod Once
 mod Kept
 mod Room
 mod Paged
+mod Telling

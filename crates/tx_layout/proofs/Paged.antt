@@ -1,6 +1,6 @@
 -- Pages one behind the other, and that there is one list of them.
-use Rattle.std.proofs.Common.{◌≡◌, ℕ, ◌-◌, ◌≤◌, inl, inr, List, [], ◌∷◌, ◌++◌, length, get_or}
-use Rattle.std.proofs.Common.{refl, sym, ap, ap₂, ◌∙◌, subst, arith, true, false, append_assoc, append-nil}
+use Rattle.std.proofs.Common.{◌≡◌, ℕ, ◌-◌, ◌≤◌, inl, inr, List, [], ◌∷◌, length, get_or}
+use Rattle.std.proofs.Common.{refl, sym, ap₂, ◌∙◌, subst, arith, true, false}
 use Rattle.std.specs.Prelude.{slice_range}
 use Rattle.std.specs.List.{flat_map}
 use Rattle.std.proofs.lemmas.Bool.{cases_lt}
@@ -11,22 +11,6 @@ use Rattle.tx_layout.specs.declared.layout.Line.{Line}
 use Rattle.tx_layout.specs.Shapes.{empty_line}
 use Rattle.tx_layout.specs.Paging.{EndsPage, Unmarked, IsPage, PagesFrom}
 use Rattle.tx_layout.proofs.Slices.{at_slice}
-
--- one page more
-pub page_more : (lines : List Line) (height : ℕ) (pages pages' : List Cut) (page : Cut) → pages' ≡ pages ++ page ∷ []
-    → IsPage lines height page
-    → ((rest : List Cut) → PagesFrom lines height page.from rest → PagesFrom lines height 0 (pages ++ rest))
-    → (rest : List Cut) → PagesFrom lines height page.to rest → PagesFrom lines height 0 (pages' ++ rest)
-page_more lines height pages pages' page e is so_far rest h =
-    let P : List Cut → Type 0 = λ ps. PagesFrom lines height 0 ps in
-    subst P (sym (ap (λ ps. ps ++ rest) e ∙ append_assoc pages (page ∷ []) rest)) (so_far (page ∷ rest) (refl, is, h))
-
-pub pages_done : (lines : List Line) (height : ℕ) (pages : List Cut) (from : ℕ)
-    → ((rest : List Cut) → PagesFrom lines height from rest → PagesFrom lines height 0 (pages ++ rest))
-    → from ≤ length lines → length lines ≤ from → PagesFrom lines height 0 pages
-pages_done lines height pages from so_far within past =
-    let P : List Cut → Type 0 = λ ps. PagesFrom lines height 0 ps in
-    subst P (append-nil pages) (so_far [] (omega arith))
 
 -- pages lead from a place to the end
 leads : (lines : List Line) (height at : ℕ) (pages : List Cut) → PagesFrom lines height at pages

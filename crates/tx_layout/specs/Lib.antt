@@ -4,3 +4,4 @@ pub mod Segments
 pub mod Shapes
 pub mod Rows
 pub mod Paging
+pub mod Told

@@ -1,31 +1,118 @@
 // The pages of lines.
-ghost use Rattle.std.specs.Prelude.{◌≡◌, ℕ, ◌≤◌, ◌<◌, ◌+◌, ◌-◌, ◌^◌, ◌⊎◌, List, length, All, IfOk, slice_range};
+ghost use Rattle.std.specs.Prelude.{◌≡◌, ℕ, ◌≤◌, ◌<◌, ◌+◌, ◌^◌, ◌++◌, [], ◌∷◌, List, length, take, slice_range};
+ghost use Rattle.std.specs.Prelude.{IfOk, OnOk, OnErr};
 ghost use Rattle.std.specs.List.{flat_map};
 ghost use Rattle.tx_lines.specs.declared.cut.Cut.{Cut};
 ghost use Rattle.tx_layout.specs.declared.layout.Line.{Line};
-ghost use Rattle.tx_layout.specs.Paging.{EndsPage, Unmarked, IsPage, PagesFrom};
+ghost use Rattle.tx_layout.specs.Paging.{PagesFrom};
+ghost use Rattle.tx_layout.specs.Told.{HasTold, lines_told};
 
 use crate::layout::Line;
 use std::alloc::Global;
 use tx_base::Memory;
 use tx_lines::Cut;
 
-// The place behind the page that begins here.
-fn page_end(lines: &[Line], from: usize, height: usize) -> usize
-    requires there { from < length lines.now }
-    requires some_height { 0 < height }
-    ensures some { from < result }
-    ensures within { result ≤ length lines.now }
-    ensures fits { result ≤ from + height }
-    ensures unmarked { All Unmarked (slice_range lines.now from (result - 1)) }
-    ensures full { result < length lines.now →
-        (result ≡ from + height) ⊎ All EndsPage (slice_range lines.now (result - 1) result) }
-{
-    let mut last = from;
-    while !lines[last].page_end && last + 1 - from < height && last + 1 < lines.len() {
-        last += 1;
+/// The pages of lines that are told one after the other, in as many slices as there are. No line is copied or kept.
+#[derive(Drop)]
+pub struct Paginator {
+    height: u32,
+    // the pages that have ended
+    ended: Vec<Cut>,
+    // the number of the first line behind these
+    from: u32,
+    // how many lines were told
+    count: u32,
+}
+
+impl Paginator {
+    /// No line is told yet. A page has this height, from 5 to 500 lines.
+    pub fn new(alloc: Global, height: u32) -> Paginator
+        requires least_height { 5 ≤ height }
+        requires most_height { height ≤ 500 }
+        ensures { HasTold [] height result }
+    {
+        Paginator {
+            height,
+            ended: Vec::new(alloc),
+            from: 0,
+            count: 0,
+        }
     }
-    last + 1
+
+    // Tells one line more.
+    fn add_line(&mut self, line: &Line) -> Result<(), Memory>
+        requires few { lines_told self.old + 1 < 2 ^ 32 }
+        ensures told { OnOk result ((lines : List Line) (height : ℕ) → HasTold lines height self.old
+            → HasTold (lines ++ line.now ∷ []) height self.new) }
+        ensures number { OnOk result (lines_told self.new ≡ lines_told self.old + 1) }
+        ensures ended { take (length self.old.ended.items) self.new.ended.items ≡ self.old.ended.items }
+        ensures height { self.new.height ≡ self.old.height }
+    {
+        let to = self.count + 1;
+        if !line.page_end && (to as u64) < self.from as u64 + self.height as u64 {
+            self.count = to;
+            return Ok(());
+        }
+        self.ended.push(Cut {
+            from: self.from,
+            to,
+        })?;
+        self.from = to;
+        self.count = to;
+        Ok(())
+    }
+
+    // Tells lines, and for want of memory some of them.
+    fn add_each(&mut self, lines: &[Line]) -> Result<(), Memory>
+        requires few { lines_told self.old + length lines.now < 2 ^ 32 }
+        ensures told { OnOk result ((before : List Line) (height : ℕ) → HasTold before height self.old
+            → HasTold (before ++ lines.now) height self.new) }
+        ensures ended { take (length self.old.ended.items) self.new.ended.items ≡ self.old.ended.items }
+        ensures height { self.new.height ≡ self.old.height }
+    {
+        for line in lines {
+            self.add_line(line)?;
+        }
+        Ok(())
+    }
+
+    /// Tells lines that stand behind those told so far. There are fewer than 2^32 with these. The one error is want of
+    /// memory, and then those told before are told.
+    pub fn add(&mut self, lines: &[Line]) -> Result<(), Memory>
+        requires few { lines_told self.old + length lines.now < 2 ^ 32 }
+        ensures told { OnOk result ((before : List Line) (height : ℕ) → HasTold before height self.old
+            → HasTold (before ++ lines.now) height self.new) }
+        ensures err { OnErr result ((before : List Line) (height : ℕ) → HasTold before height self.old
+            → HasTold before height self.new) }
+    {
+        let number = self.ended.len();
+        let from = self.from;
+        let count = self.count;
+        match self.add_each(lines) {
+            Ok(()) => Ok(()),
+            Err(memory) => {
+                self.ended.truncate(number);
+                self.from = from;
+                self.count = count;
+                Err(memory)
+            }
+        }
+    }
+
+    /// The pages of all lines that were told, by the lines' places. The one error is want of memory.
+    pub fn finish(self) -> Result<Vec<Cut>, Memory>
+        ensures { IfOk result (λ pages. (lines : List Line) (height : ℕ) → HasTold lines height self
+            → PagesFrom lines height 0 pages.items) }
+    {
+        let mut pages = self.ended;
+        if self.from < self.count {
+            pages.push(Cut {
+                from: self.from,
+                to: self.count,
+            })?;
+        }
+        Ok(pages)
+    }
 }
 
 /// The pages of lines, by their places, on pages of this height, from 5 to 500 lines. A page ends behind a line that is
@@ -37,17 +124,9 @@ pub fn pages(alloc: Global, lines: &[Line], height: u32) -> Result<Vec<Cut>, Mem
     requires few { length lines.now < 2 ^ 32 }
     ensures { IfOk result (λ pages. PagesFrom lines.now height 0 pages.items) }
 {
-    let mut pages = Vec::new(alloc);
-    let mut from = 0;
-    while from < lines.len() {
-        let to = page_end(lines, from, height as usize);
-        pages.push(Cut {
-            from: from as u32,
-            to: to as u32,
-        })?;
-        from = to;
-    }
-    Ok(pages)
+    let mut paginator = Paginator::new(alloc, height);
+    paginator.add(lines)?;
+    paginator.finish()
 }
 
 /// A law: lines have at most one list of pages of given height. That there is one is the contract of [`pages`].
