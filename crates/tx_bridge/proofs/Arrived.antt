@@ -12,7 +12,6 @@ use Rattle.tx_tree.specs.Paths.{subtree}
 use Rattle.tx_mod.specs.declared.mods.Mod.{Mod}
 use Rattle.tx_mod.specs.Followed.{CarriesThroughAll, changed_by_all}
 use Rattle.tx_origin.specs.TaggedTrees.{TaggedTree, tagged_of}
-use Rattle.tx_exec.specs.declared.outcome.Outcome.TheVariants.{Over}
 use Rattle.tx_exec.specs.Outcomes.{wide_outcome}
 use Rattle.tx_units.specs.declared.kinds.Unit.{Unit as DocUnit}
 use Rattle.tx_bridge.specs.declared.bridge.Bridge.{Bridge}
@@ -24,17 +23,9 @@ use Rattle.tx_bridge.specs.Entries.{Entry, Kept, units_of, nothing_kept}
 use Rattle.tx_bridge.specs.Sound.{IsSound, Holds, AllHold, entry_of, entries_of, sources_in}
 use Rattle.tx_bridge.specs.Carrying.{is_path, same_kind, same_unit, through, mods_of, Stands, AllStand, AreSameBodies}
 use Rattle.tx_bridge.specs.Slots.{Leads, AllLead, AreApart, AreMoved, AllPlaced, stays, given_from, given_all}
+use Rattle.tx_bridge.specs.Slots.{fresh_bridge, paths_in, bodies_of}
 use Rattle.tx_bridge.proofs.Trees.{both, same_is}
 use Rattle.tx_bridge.proofs.Slotting.{path_is, paths_alike, some_once}
-
-abbrev pub paths_in : List Bridge → List (Option (List ℕ))
-paths_in bs = map (λ b. b.unit.path) bs
-
-abbrev pub bodies_of : List Bridge → List DocUnit
-bodies_of bs = map (λ b. b.unit) bs
-
-abbrev pub fresh_bridge : DocUnit → Bridge
-fresh_bridge u = record { unit = u; kept = Over; renewed = false; source = None }
 
 -- the new unit w, where the old one of number i has given what is kept of it
 abbrev pub with_given : ℕ → Bridge → Bridge → Bridge
@@ -246,7 +237,7 @@ carried_sound (suc buffer) ms t old us made law sound placed stand_old stand_new
 
 -- ---- the modifications that count
 
-of_document : (buffer : ℕ) (ms : List Mod) → buffer ≡ 0 → mods_of buffer ms ≡ ms
+pub of_document : (buffer : ℕ) (ms : List Mod) → buffer ≡ 0 → mods_of buffer ms ≡ ms
 of_document buffer ms e = ap (λ b. mods_of b ms) e
 
 of_other : (buffer : ℕ) (ms : List Mod) → (buffer ≡ 0 → ⊥) → mods_of buffer ms ≡ []

@@ -96,14 +96,14 @@ module _ (place : Option (List ℕ)) (i : ℕ) (b : Bridge) where
   given_units o (w ∷ ws) zero v e = (w, refl, unit_kept (stays place i b.unit o w.unit) w v e)
   given_units o (w ∷ ws) (suc k) v e = given_units (o + 1) ws k v e
 
-  given_apart : (new : List Bridge) → AreApart new → AreApart (given_from place i b 0 new)
+  pub given_apart : (new : List Bridge) → AreApart new → AreApart (given_from place i b 0 new)
   given_apart new apart j k v w p at_j at_k is_v is_w =
       let x : (u : Bridge) × (slice_get new j ≡ Some u) × (v.unit ≡ u.unit) = given_units 0 new j v at_j in
       let y : (u : Bridge) × (slice_get new k ≡ Some u) × (w.unit ≡ u.unit) = given_units 0 new k w at_k in
       apart j k x.0 y.0 p x.1 y.1 (ap (λ (u : DocUnit). u.path) (sym x.2) ∙ is_v)
       (ap (λ (u : DocUnit). u.path) (sym y.2) ∙ is_w)
 
-  given_placed : (new : List Bridge) → AllPlaced new → AllPlaced (given_from place i b 0 new)
+  pub given_placed : (new : List Bridge) → AllPlaced new → AllPlaced (given_from place i b 0 new)
   given_placed new placed k v at =
       let x : (u : Bridge) × (slice_get new k ≡ Some u) × (v.unit ≡ u.unit) = given_units 0 new k v at in
       subst IsPlaced (sym x.2) (placed k x.0 x.1)

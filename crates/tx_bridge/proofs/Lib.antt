@@ -9,5 +9,7 @@ pub mod Handed
 pub mod Arrived
 pub mod Single
 pub mod Taking
+pub mod Inside
+pub mod Settling
 pub mod Going
 pub mod Listed

@@ -7,9 +7,8 @@ use Rattle.std.specs.Option.{option_map, option_map_or}
 use Rattle.tx_units.specs.declared.kinds.Unit.{Unit as DocUnit}
 use Rattle.tx_bridge.specs.declared.bridge.Bridge.{Bridge}
 use Rattle.tx_bridge.specs.Carrying.{is_path, same_unit, number_at, same_number, source, sources_from}
-use Rattle.tx_bridge.specs.Slots.{AreApart, AreMoved, AllPlaced}
+use Rattle.tx_bridge.specs.Slots.{AreApart, AreMoved, AllPlaced, fresh_bridge, bodies_of}
 use Rattle.tx_bridge.proofs.Slotting.{path_is, back_alike, some_once}
-use Rattle.tx_bridge.proofs.Arrived.{bodies_of, fresh_bridge}
 
 -- no number stands twice
 abbrev pub NoneTwice : List (Option ℕ) → Type 0

@@ -18,8 +18,9 @@ use Rattle.tx_bridge.specs.UnitLists.{AreUnits}
 use Rattle.tx_bridge.specs.Carrying.{is_path, same_unit, through, places_after, number_at, same_number, source}
 use Rattle.tx_bridge.specs.Carrying.{sources_from, sources, had, taken_from}
 use Rattle.tx_bridge.specs.Carrying.{carried, mods_of, AllStand, AreSameBodies}
-use Rattle.tx_bridge.specs.Slots.{AllLead, AreMoved, stays, given_from, given_all}
-use Rattle.tx_bridge.proofs.Arrived.{fresh_bridge, with_given, paths_in, bodies_of, units_bodies, given_bodies}
+use Rattle.tx_bridge.specs.Slots.{AllLead, AreMoved, stays, given_from, given_all, fresh_bridge, paths_in}
+use Rattle.tx_bridge.specs.Slots.{bodies_of, given}
+use Rattle.tx_bridge.proofs.Arrived.{with_given, units_bodies, given_bodies}
 use Rattle.tx_bridge.proofs.Arrived.{carried_sound, lead_all, moved_all, sound_placed, fresh_apart, fresh_placed}
 use Rattle.tx_bridge.proofs.Single.{NoneTwice, none_twice}
 
@@ -236,18 +237,16 @@ places_many ms t [] = refl
 places_many ms t (b ∷ bs) = ap suc (places_many ms t bs)
 
 module _ (ms : List Mod) (t : WideTree) (old : List Bridge) (us : List DocUnit) where
-  abbrev pub given : List Bridge
-  given = given_all 0 (map (through ms t) (paths_in old)) old (map fresh_bridge us)
-
-  pub given_from_places : sources_in given ≡ sources_from (map (through ms t) (paths_in old)) (bodies_of old) 0 us
+  pub given_from_places : sources_in (given ms t old us)
+      ≡ sources_from (map (through ms t) (paths_in old)) (bodies_of old) 0 us
   given_from_places =
       given_got number_given source_in (λ i b w. refl) 0 (map (through ms t) (paths_in old)) old (map fresh_bridge us)
       ∙ all_sources (map (through ms t) (paths_in old)) old 0 us (places_many ms t old)
 
-  pub given_sources : sources_in given ≡ sources ms t (bodies_of old) us
+  pub given_sources : sources_in (given ms t old us) ≡ sources ms t (bodies_of old) us
   given_sources = given_from_places ∙ ap (λ qs. sources_from qs (bodies_of old) 0 us) (places_same ms t old)
 
-  given_traces : traces_in given ≡ map (had (traces_in old)) (sources ms t (bodies_of old) us)
+  given_traces : traces_in (given ms t old us) ≡ map (had (traces_in old)) (sources ms t (bodies_of old) us)
   given_traces =
       given_got trace_given trace_in (λ i b w. refl) 0 (map (through ms t) (paths_in old)) old (map fresh_bridge us)
       ∙ all_had (map (through ms t) (paths_in old)) old 0 us
@@ -255,9 +254,9 @@ module _ (ms : List Mod) (t : WideTree) (old : List Bridge) (us : List DocUnit) 
       (all_sources (map (through ms t) (paths_in old)) old 0 us (places_many ms t old)
       ∙ ap (λ qs. sources_from qs (bodies_of old) 0 us) (places_same ms t old))
 
-  pub given_carried : entries_of given ≡ taken_from (traces_in old) (sources ms t (bodies_of old) us) us
+  pub given_carried : entries_of (given ms t old us) ≡ taken_from (traces_in old) (sources ms t (bodies_of old) us) us
   given_carried =
-      entries_taken (traces_in old) given (sources ms t (bodies_of old) us) us
+      entries_taken (traces_in old) (given ms t old us) (sources ms t (bodies_of old) us) us
       (given_bodies (map (through ms t) (paths_in old)) old us) given_traces
 
 entries_traces : (bs : List Bridge) → traces_of (entries_of bs) ≡ traces_in bs
@@ -276,22 +275,16 @@ pub record IsCarried (buffer : ℕ) (ms : List Mod) (t : WideTree) (kept : Kept)
   pub sound : All IsSound result
 
 -- the premises are what the calls ensure, in their order
-pub carry_all : (buffer : ℕ) (ms : List Mod) (t : WideTree) (kept : Kept) (us : List DocUnit) (old : List Bridge)
-    (paths places : List (Option (List ℕ))) (bs new result : List Bridge) → entries_of old ≡ kept → All IsSound old
+pub carry_all : (buffer : ℕ) (ms : List Mod) (t : WideTree) (kept : Kept) (us : List DocUnit)
+    (old result : List Bridge) → entries_of old ≡ kept → All IsSound old
     → ((u : WideTree) × (changed_by_all ms t ≡ Some u)) → ((q : List ℕ) → CarriesThroughAll ms t q) → AreUnits us
     → (buffer ≡ 0 → AllStand t (units_of kept))
     → (buffer ≡ 0 → (u : WideTree) → changed_by_all ms t ≡ Some u → AllStand u us)
-    → ((buffer ≡ 0 → ⊥) → AreSameBodies (units_of kept) us) → paths ≡ paths_in old
-    → places ≡ map (through (mods_of buffer ms) t) paths → bs ≡ old → new ≡ map fresh_bridge us
-    → result ≡ given_all 0 places bs new → IsCarried buffer ms t kept us result
-carry_all buffer ms t kept us old paths places bs new result was sound applies law are stand_old stand_new same
-    is_paths is_places is_bs is_new is_result =
+    → ((buffer ≡ 0 → ⊥) → AreSameBodies (units_of kept) us)
+    → result ≡ given (mods_of buffer ms) t old us → IsCarried buffer ms t kept us result
+carry_all buffer ms t kept us old result was sound applies law are stand_old stand_new same is_given =
     let bodies : units_of kept ≡ bodies_of old = sym (ap units_of was) ∙ units_bodies old in
     let traces : traces_of kept ≡ traces_in old = sym (ap traces_of was) ∙ entries_traces old in
-    let is_given : result ≡ given (mods_of buffer ms) t old us =
-    is_result ∙ ap (λ qs. given_all 0 qs bs new) (is_places ∙ ap (map (through (mods_of buffer ms) t)) is_paths)
-    ∙ ap (λ cs. given_all 0 (map (through (mods_of buffer ms) t) (paths_in old)) cs new) is_bs
-    ∙ ap (given_all 0 (map (through (mods_of buffer ms) t) (paths_in old)) old) is_new in
     record {
       entries =
           ap entries_of is_given ∙ given_carried (mods_of buffer ms) t old us
@@ -306,8 +299,7 @@ carry_all buffer ms t kept us old paths places bs new result was sound applies l
           (sound_placed old sound) (fresh_apart us are.apart) (fresh_placed us are.placed));
       units =
           ap (λ cs. units_of (entries_of cs)) is_given
-          ∙ units_bodies
-          (given_all 0 (map (through (mods_of buffer ms) t) (paths_in old)) old (map fresh_bridge us))
+          ∙ units_bodies (given (mods_of buffer ms) t old us)
           ∙ given_bodies (map (through (mods_of buffer ms) t) (paths_in old)) old us;
       sound =
           subst (All IsSound) (sym is_given)
@@ -315,6 +307,15 @@ carry_all buffer ms t kept us old paths places bs new result was sound applies l
           (λ e. subst (AllStand t) bodies (stand_old e)) stand_new
           (λ e. subst (λ vs. AreSameBodies vs us) bodies (same e)));
     }
+
+-- what giving gives
+pub as_given : (ms : List Mod) (t : WideTree) (us : List DocUnit) (old bs new result : List Bridge)
+    (paths places : List (Option (List ℕ))) → paths ≡ paths_in old → places ≡ map (through ms t) paths → bs ≡ old
+    → new ≡ map fresh_bridge us → result ≡ given_all 0 places bs new → result ≡ given ms t old us
+as_given ms t us old bs new result paths places is_paths is_places is_bs is_new is_result =
+    is_result ∙ ap (λ qs. given_all 0 qs bs new) (is_places ∙ ap (map (through ms t)) is_paths)
+    ∙ ap (λ cs. given_all 0 (map (through ms t) (paths_in old)) cs new) is_bs
+    ∙ ap (given_all 0 (map (through ms t) (paths_in old)) old) is_new
 
 -- what the calls ask for
 pub leads_of : (t : WideTree) (kept : Kept) (old : List Bridge) (paths : List (Option (List ℕ)))

@@ -5,6 +5,7 @@ pub mod Reached
 pub mod Sound
 pub mod Carrying
 pub mod Slots
+pub mod InPlace
 pub mod UnitLists
 pub mod Bridged
 pub mod Names

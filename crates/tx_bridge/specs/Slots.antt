@@ -1,13 +1,15 @@
 -- Which new unit an old one is. Private clauses cite these.
 use Rattle.std.specs.Prelude.{◌≡◌, ℕ, ◌+◌, ◌-◌, ◌<◌, ◌^◌, length, Bool, false, ◌&&◌, ◌==◌, if◌then◌else◌, List, [], ◌∷◌}
-use Rattle.std.specs.Prelude.{Option, Some, None, slice_get}
+use Rattle.std.specs.Prelude.{Option, Some, None, slice_get, map}
 use Rattle.std.specs.Option.{option_map_or}
 use Rattle.std.specs.List.{All}
 use Rattle.tx_tree.specs.WideTree.{WideTree}
 use Rattle.tx_tree.specs.Paths.{subtree}
+use Rattle.tx_mod.specs.declared.mods.Mod.{Mod}
+use Rattle.tx_exec.specs.declared.outcome.Outcome.TheVariants.{Over}
 use Rattle.tx_units.specs.declared.kinds.Unit.{Unit as DocUnit}
 use Rattle.tx_bridge.specs.declared.bridge.Bridge.{Bridge}
-use Rattle.tx_bridge.specs.Carrying.{is_path, same_unit}
+use Rattle.tx_bridge.specs.Carrying.{is_path, same_unit, through}
 use Rattle.tx_bridge.specs.UnitLists.{IsPlaced}
 
 -- the path, if there is one, leads in the tree
@@ -35,6 +37,20 @@ abbrev pub given_all : ℕ → List (Option (List ℕ)) → List Bridge → List
 given_all i [] bs new = new
 given_all i (place ∷ places) [] new = new
 given_all i (place ∷ places) (b ∷ bs) new = given_all (i + 1) places bs (given_from place i b 0 new)
+
+-- the unit with nothing kept
+abbrev pub fresh_bridge : DocUnit → Bridge
+fresh_bridge u = record { unit = u; kept = Over; renewed = false; source = None }
+
+abbrev pub paths_in : List Bridge → List (Option (List ℕ))
+paths_in bs = map (λ b. b.unit.path) bs
+
+abbrev pub bodies_of : List Bridge → List DocUnit
+bodies_of bs = map (λ b. b.unit) bs
+
+-- the new units, where all old ones have given what is kept of them through the modifications
+abbrev pub given : List Mod → WideTree → List Bridge → List DocUnit → List Bridge
+given ms t old us = given_all 0 (map (through ms t) (paths_in old)) old (map fresh_bridge us)
 
 -- no two units have one path
 abbrev pub AreApart : List Bridge → Type 0

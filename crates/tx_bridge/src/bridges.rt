@@ -1,6 +1,6 @@
 // All units with what is kept of them.
 ghost use Rattle.std.specs.Prelude.{◌≡◌, ℕ, ◌+◌, ◌≤◌, ◌++◌, take, drop, map, IfOk, OnOk, OnErr, Some, None};
-ghost use Rattle.std.specs.Prelude.{false, MatchOption, slice_get, IsSome, option_and_then};
+ghost use Rattle.std.specs.Prelude.{false, MatchOption, slice_get, IsSome, IfSome, option_and_then, length};
 ghost use Rattle.std.specs.Option.{unwrap_or, option_map};
 ghost use Rattle.std.specs.List.{All};
 ghost use Rattle.tx_tree.specs.WideTree.{WideTree};
@@ -14,11 +14,13 @@ ghost use Rattle.tx_bridge.specs.Reached.{reached_from, charges_from};
 ghost use Rattle.tx_bridge.specs.Sound.{IsSound, AllHold, entry_of, entries_of, flags_of, sources_in};
 ghost use Rattle.tx_bridge.specs.UnitLists.{AreUnits};
 ghost use Rattle.tx_bridge.specs.Carrying.{AllStand, AreSameBodies, through, mods_of};
-ghost use Rattle.tx_bridge.specs.Slots.{AllLead};
+ghost use Rattle.tx_bridge.specs.Slots.{AllLead, paths_in, given};
+ghost use Rattle.tx_bridge.specs.InPlace.{IsOneChanged, numbers_but};
 ghost use Rattle.tx_bridge.specs.Names.{Empty, Fresh, Charge, Carry, Sources};
 
 use crate::bridge::Bridge;
 use crate::giving::give_all;
+use crate::in_place::{one_changed, settle_all};
 use crate::moments::Moment;
 use crate::paths_after::paths_after;
 use std::alloc::Global;
@@ -107,7 +109,7 @@ fn path_of(alloc: Global, unit: &Unit) -> Result<Option<Path>, Memory>
 }
 
 fn paths_of(alloc: Global, bridges: &[Bridge]) -> Result<Vec<Option<Path>>, Memory>
-    ensures { IfOk result (λ v. v.items ≡ map (λ b. b.unit.path) bridges.now) }
+    ensures { IfOk result (λ v. v.items ≡ paths_in bridges.now) }
 {
     let mut paths = Vec::with_capacity(alloc, bridges.len())?;
     for bridge in bridges {
@@ -134,6 +136,61 @@ fn places_after<L: Ledger>(
         return paths_after(alloc, before, mods, paths, steps);
     }
     Ok(paths)
+}
+
+// The new units, with what the old ones give through an edit of a buffer. For want of memory the old ones stay.
+fn give_over<L: Ledger>(
+    alloc: Global,
+    buffer: u32,
+    before: &Tree,
+    mods: &[Mod],
+    bridges: &mut Vec<Bridge>,
+    units: Vec<Unit>,
+    steps: &mut Steps<L>,
+) -> Result<(), Memory>
+    requires applies { (u : WideTree) × (changed_by_all mods.now before.now ≡ Some u) }
+    requires units { AreUnits units.items }
+    requires sound { All IsSound bridges.old.items }
+    requires lead { buffer ≡ 0 → AllLead before.now (paths_in bridges.old.items) }
+    ensures given { OnOk result (bridges.new.items
+        ≡ given (mods_of buffer mods.now) before.now bridges.old.items units.items) }
+    ensures counted { steps.new ≤ steps.old + cost_of mods.now }
+    ensures refused { OnErr result (bridges.new ≡ bridges.old) }
+{
+    let paths = paths_of(alloc, bridges)?;
+    let places = places_after(alloc, buffer, before, mods, paths, steps)?;
+    let mut new = bridges_of(alloc, units)?;
+    give_all(&mut new, &places, bridges);
+    *bridges = new;
+    Ok(())
+}
+
+// The same. Where one unit alone changes, the others stay where they are, and it takes no memory.
+fn carry_all<L: Ledger>(
+    alloc: Global,
+    buffer: u32,
+    before: &Tree,
+    mods: &[Mod],
+    bridges: &mut Vec<Bridge>,
+    units: Vec<Unit>,
+    steps: &mut Steps<L>,
+) -> Result<(), Memory>
+    requires applies { (u : WideTree) × (changed_by_all mods.now before.now ≡ Some u) }
+    requires units { AreUnits units.items }
+    requires sound { All IsSound bridges.old.items }
+    requires lead { buffer ≡ 0 → AllLead before.now (paths_in bridges.old.items) }
+    ensures given { OnOk result (bridges.new.items
+        ≡ given (mods_of buffer mods.now) before.now bridges.old.items units.items) }
+    ensures counted { steps.new ≤ steps.old + cost_of mods.now }
+    ensures refused { OnErr result (bridges.new ≡ bridges.old) }
+{
+    match one_changed(buffer, bridges, mods, &units) {
+        Some(changed) => {
+            settle_all(buffer, before, mods, bridges, units, changed);
+            Ok(())
+        }
+        None => give_over(alloc, buffer, before, mods, bridges, units, steps),
+    }
 }
 
 impl Bridges {
@@ -201,12 +258,46 @@ impl Bridges {
         ensures refused { OnErr result (self.new ≡ self.old) }
     {
         carried_list_law();
-        let paths = paths_of(alloc, &self.bridges)?;
-        let places = places_after(alloc, buffer, before, mods, paths, steps)?;
-        let mut new = bridges_of(alloc, units)?;
-        give_all(&mut new, &places, &mut self.bridges);
-        self.bridges = new;
+        carry_all(alloc, buffer, before, mods, &mut self.bridges, units, steps)?;
         Ok(())
+    }
+
+    /// The number of the one unit that `carry` changes with these arguments, where each other one keeps its number and
+    /// its path, as at an edit inside one paragraph. `carry_in_place` then does the same and takes no memory. None says
+    /// nothing.
+    pub fn one_changed(&self, buffer: u32, mods: &[Mod], units: &[Unit]) -> Option<usize>
+        ensures { IfSome result (λ i. IsOneChanged i buffer mods.now (units_of self.now.kept) units.now) }
+    {
+        one_changed(buffer, &self.bridges, mods, units)
+    }
+
+    /// What `carry` does, where the unit of number `changed` alone changes, as `one_changed` tells. It takes no memory
+    /// and no step.
+    #[tactic(auto, unfolding(crate::specs::Names::Carry, crate::specs::Names::Sources))]
+    pub fn carry_in_place(
+        &mut self,
+        buffer: u32,
+        before: &Tree,
+        mods: &[Mod],
+        units: Vec<Unit>,
+        changed: usize,
+    )
+        requires applies { (u : WideTree) × (changed_by_all mods.now before.now ≡ Some u) }
+        requires units { AreUnits units.items }
+        requires old { AllStand before.now (units_of self.old.kept) }
+        requires new { (u : WideTree) → changed_by_all mods.now before.now ≡ Some u → AllStand u units.items }
+        requires changed { IsOneChanged changed buffer mods.now (units_of self.old.kept) units.items }
+        ensures carried { self.new.kept ≡ Carry buffer mods.now before.now self.old.kept units.items }
+        ensures sources { self.new.sources
+            ≡ Sources buffer mods.now before.now (units_of self.old.kept) units.items }
+        ensures once { (i j k : ℕ) → slice_get self.new.sources j ≡ Some (Some i)
+            → slice_get self.new.sources k ≡ Some (Some i) → j ≡ k }
+        ensures numbers { self.new.sources ≡ numbers_but changed 0 (length units.items) }
+        ensures paths { map (λ u. u.path) units.items ≡ map (λ u. u.path) (units_of self.old.kept) }
+        ensures units { units_of self.new.kept ≡ units.items }
+    {
+        carried_list_law();
+        settle_all(buffer, before, mods, &mut self.bridges, units, changed);
     }
 
     /// What is kept of the unit, which after a refresh is what it comes to. None past the last unit.

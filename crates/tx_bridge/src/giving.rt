@@ -25,13 +25,13 @@ fn same_kind(one: UnitKind, other: UnitKind) -> bool
     }
 }
 
-fn same_unit(unit: &Unit, other: &Unit) -> bool
+pub(crate) fn same_unit(unit: &Unit, other: &Unit) -> bool
     ensures { result ≡ same_unit unit.now other.now }
 {
     same_kind(unit.kind, other.kind) && same_trees(&unit.tagged.tree, &other.tagged.tree)
 }
 
-fn has_path(unit: &Unit, path: &Path) -> bool
+pub(crate) fn has_path(unit: &Unit, path: &Path) -> bool
     ensures { result ≡ is_path path.now unit.now.path }
 {
     match &unit.path {
@@ -77,7 +77,7 @@ fn is_in_order(unit: &Unit, i: usize, first: usize) -> bool
 }
 
 // The number of the first unit with a path.
-fn first_body(new: &[Bridge]) -> usize
+pub(crate) fn first_body(new: &[Bridge]) -> usize
     ensures { result ≤ length new.now }
 {
     for i in 0..new.len() {

@@ -8,6 +8,7 @@ mod bridge;
 mod bridges;
 mod fitting;
 mod giving;
+mod in_place;
 mod laws;
 mod moments;
 mod paths_after;

@@ -1,0 +1,365 @@
+-- Where one unit alone changes, what is given stands in its place already.
+use Rattle.std.proofs.Common.{◌≡◌, ℕ, zero, suc, ◌+◌, ◌<◌, ◌≤◌, List, [], ◌∷◌, ◌++◌, length, map, take, drop, slice_set}
+use Rattle.std.proofs.Common.{slice_index_or, Option, Some, None, refl, ap, sym, ◌∙◌, subst, arith, inl, inr}
+use Rattle.std.proofs.lemmas.Bool.{cases_Bool}
+use Rattle.std.proofs.lemmas.Bool.Decides.{Decides-eqb}
+use Rattle.std.proofs.lemmas.List.{append_assoc, append-nil, drop_more, drop-set-lt, take_more_set, drop_all, take_all}
+use Rattle.std.proofs.lemmas.List.{length-append, length-set, length-map}
+use Rattle.std.proofs.lemmas.Option.{same_Some, slice_get-map, slice_get-get_or, slice_get_within}
+use Rattle.std.specs.List.{All, AllByRecursion}
+use Rattle.std.specs.Option.{option_map, option_map_or}
+use Rattle.std.specs.Prelude.{Bool, true, false, ◌&&◌, ◌==◌, is_some, slice_get, if◌then◌else◌}
+use Rattle.tx_tree.specs.WideTree.{WideTree}
+use Rattle.tx_mod.specs.declared.mods.Mod.{Mod}
+use Rattle.tx_mod.specs.Followed.{changed_by_all}
+use Rattle.tx_units.specs.declared.kinds.Unit.{Unit as DocUnit}
+use Rattle.tx_units.specs.Places.{NoneBegins}
+use Rattle.tx_units.specs.Places.{AreApart as PathsApart}
+use Rattle.tx_bridge.specs.declared.bridge.Bridge.{Bridge}
+use Rattle.tx_bridge.specs.UnitLists.{IsPlaced, AreUnits}
+use Rattle.tx_bridge.specs.Sound.{IsSound, sources_in}
+use Rattle.tx_bridge.specs.Carrying.{is_path, same_unit, through, mods_of}
+use Rattle.tx_bridge.specs.Slots.{IsSlot, AreApart, AllPlaced, given_from, given_all, fresh_bridge, paths_in}
+use Rattle.tx_bridge.specs.Slots.{bodies_of, given}
+use Rattle.tx_bridge.specs.InPlace.{is_gone, are_within, is_changed, is_alike, AreAlike, IsOneChanged}
+use Rattle.tx_bridge.specs.InPlace.{numbers_but, settled_one, settled}
+use Rattle.tx_bridge.proofs.Trees.{both}
+use Rattle.tx_bridge.proofs.Slotting.{path_is, some_once, none_alike, slot_found, slot_by_place}
+use Rattle.tx_bridge.proofs.Slotting.{slot_same, slot_gone_at}
+use Rattle.tx_bridge.proofs.Handed.{gives_none, gives_some, given_apart, given_placed}
+use Rattle.tx_bridge.proofs.Arrived.{fresh_apart, fresh_placed, sound_placed, of_document}
+use Rattle.tx_bridge.proofs.Inside.{all_stay, all_go}
+
+-- ---- one old unit after the other
+
+set_behind : (xs : List Bridge) (x y : Bridge) (ys : List Bridge) (n : ℕ) → n ≡ length xs
+    → slice_set (xs ++ x ∷ ys) n y ≡ xs ++ y ∷ ys
+set_behind [] x y ys zero e = refl
+set_behind [] x y ys (suc n) e = absurd (omega (arith, e))
+set_behind (z ∷ xs) x y ys zero e = absurd (omega (arith, e))
+set_behind (z ∷ xs) x y ys (suc n) e = ap (λ zs. z ∷ zs) (set_behind xs x y ys n (omega (arith, e)))
+
+get_behind : (xs : List Bridge) (x : Bridge) (ys : List Bridge) (n : ℕ) → n ≡ length xs
+    → slice_get (xs ++ x ∷ ys) n ≡ Some x
+get_behind [] x ys zero e = refl
+get_behind [] x ys (suc n) e = absurd (omega (arith, e))
+get_behind (z ∷ xs) x ys zero e = absurd (omega (arith, e))
+get_behind (z ∷ xs) x ys (suc n) e = get_behind xs x ys n (omega (arith, e))
+
+-- The place of the old unit b of number k, and the new unit u of this number: they are alike, and b stands where it
+-- stood, but number i stands nowhere and has a path.
+pub record Settles (i k : ℕ) (place : Option (List ℕ)) (b : Bridge) (u : DocUnit) : Type 0 where
+  pub alike : is_alike b.unit u ≡ true
+  pub placed : IsPlaced b.unit
+  pub stays : (k ≡ i → ⊥) → place ≡ b.unit.path
+  pub goes : k ≡ i → (place ≡ None) × (is_some b.unit.path ≡ true)
+
+with_path : (u v : DocUnit) (o : Option (List ℕ)) (p : List ℕ) → u.path ≡ o → is_alike u v ≡ true → o ≡ Some p
+    → is_path p v.path ≡ true
+with_path u v o p e h f =
+    ap (λ r. option_map_or (λ x. is_path x v.path) r (same_unit u v)) (sym (e ∙ f)) ∙ h
+
+without_path : (u v : DocUnit) → u.path ≡ None → is_alike u v ≡ true → same_unit u v ≡ true
+without_path u v e h = ap (λ r. option_map_or (λ x. is_path x v.path) r (same_unit u v)) (sym e) ∙ h
+
+module _ (i k : ℕ) (place : Option (List ℕ)) (b : Bridge) (u : DocUnit) (s : Settles i k place b u)
+    (done : List Bridge) (us : List DocUnit) (many : k ≡ length done) where
+  abbrev now : List Bridge
+  now = done ++ fresh_bridge u ∷ map fresh_bridge us
+
+  here : slice_get now k ≡ Some (fresh_bridge u)
+  here = get_behind done (fresh_bridge u) (map fresh_bridge us) k many
+
+  gives_new : k ≡ i → AllPlaced now → given_from place k b 0 now ≡ now
+  gives_new at placed =
+      sym (gives_none place k b now
+      (slot_gone_at place (s.goes at).0 k b.unit now (s.goes at).1 s.placed placed))
+
+  gives_here : (k ≡ i → ⊥) → AreApart now → AllPlaced now
+      → given_from place k b 0 now ≡ done ++ settled_one false k b u ∷ map fresh_bridge us
+  gives_here off apart placed =
+      sym (by b.unit.path refl)
+      ∙ set_behind done (fresh_bridge u) (settled_one false k b u) (map fresh_bridge us) k many
+    where
+      by : (o : Option (List ℕ)) → b.unit.path ≡ o
+          → slice_set now k (settled_one false k b u) ≡ given_from place k b 0 now
+      by (Some p) e =
+          gives_some place k b now k (fresh_bridge u) here
+          (slot_by_place place p k b.unit now (Some k) (s.stays off ∙ e)
+          (λ none. s.stays off ∙ none) s.placed placed
+          (slot_found p now k (fresh_bridge u) apart here (with_path b.unit u (Some p) p e s.alike refl)))
+      by None e =
+          let P : Option (List ℕ) → Type 0 = λ q. IsSlot q k b.unit now (Some k) in
+          gives_some place k b now k (fresh_bridge u) here
+          (subst P (sym (s.stays off ∙ e))
+          (slot_same now k b.unit (fresh_bridge u) e s.placed placed here (without_path b.unit u e s.alike)))
+
+  gives_one : AreApart now → AllPlaced now → (c : Bool) → k == i ≡ c
+      → given_from place k b 0 now ≡ done ++ settled_one c k b u ∷ map fresh_bridge us
+  gives_one apart placed true e = gives_new ((Decides-eqb k i).0 e) placed
+  gives_one apart placed false e =
+      gives_here (λ q. let there : k == i ≡ true = (Decides-eqb k i).1 q in cc) apart placed
+
+module _ (P : Option (List ℕ) → Option (List ℕ)) (i : ℕ) where
+  all_settled : (done bs : List Bridge) (us : List DocUnit) (k : ℕ) → k ≡ length done → length bs ≡ length us
+      → AreApart (done ++ map fresh_bridge us) → AllPlaced (done ++ map fresh_bridge us)
+      → ((m n : ℕ) (b : Bridge) (u : DocUnit) → m ≡ k + n → slice_get bs n ≡ Some b → slice_get us n ≡ Some u
+      → Settles i m (P b.unit.path) b u)
+      → given_all k (map P (paths_in bs)) bs (done ++ map fresh_bridge us) ≡ done ++ settled i k bs us
+  all_settled done [] [] k many same apart placed h = refl
+  all_settled done [] (u ∷ us) k many same apart placed h = absurd (omega (arith, same))
+  all_settled done (b ∷ bs) [] k many same apart placed h = absurd (omega (arith, same))
+  all_settled done (b ∷ bs) (u ∷ us) k many same apart placed h =
+      let place : Option (List ℕ) = P b.unit.path in
+      let x : Bridge = settled_one (k == i) k b u in
+      let first : Settles i k place b u = h k 0 b u (omega arith) refl refl in
+      let next : done ++ x ∷ [] ++ map fresh_bridge us
+      ≡ given_from place k b 0 (done ++ fresh_bridge u ∷ map fresh_bridge us) =
+      append_assoc done (x ∷ []) (map fresh_bridge us)
+      ∙ sym (gives_one i k place b u first done us many apart placed (k == i) refl) in
+      ap (given_all (k + 1) (map P (paths_in bs)) bs) (sym next)
+      ∙ all_settled (done ++ x ∷ []) bs us (k + 1) (omega (arith, many, length-append done (x ∷ [])))
+      (omega (arith, same))
+      (subst AreApart (sym next)
+      (given_apart place k b (done ++ fresh_bridge u ∷ map fresh_bridge us) apart))
+      (subst AllPlaced (sym next)
+      (given_placed place k b (done ++ fresh_bridge u ∷ map fresh_bridge us) placed))
+      (λ m n c v e f g. h m (suc n) c v (omega (arith, e)) f g)
+      ∙ append_assoc done (x ∷ []) (settled i (k + 1) bs us)
+
+-- ---- where old units stand
+
+apart_here : (o : Option (List ℕ)) (us : List DocUnit) (k : ℕ) (w : DocUnit)
+    → AllByRecursion (λ v. PathsApart o v.path) us → slice_get us k ≡ Some w → PathsApart o w.path
+apart_here o [] k w h e = cc
+apart_here o (u ∷ us) zero w h e =
+    subst (λ (v : DocUnit). PathsApart o v.path) (same_Some u w e) h.0
+apart_here o (u ∷ us) (suc k) w h e = apart_here o us k w h.1 e
+
+turned : (o r : Option (List ℕ)) → PathsApart o r → PathsApart r o
+turned o r h path more = ((h path more).1, (h path more).0)
+
+apart_both : (us : List DocUnit) (j k : ℕ) (v w : DocUnit) → NoneBegins us → (j ≡ k → ⊥) → slice_get us j ≡ Some v
+    → slice_get us k ≡ Some w → PathsApart v.path w.path
+apart_both [] j k v w h off e f = cc
+apart_both (u ∷ us) zero zero v w h off e f = absurd (off refl)
+apart_both (u ∷ us) zero (suc k) v w h off e f =
+    subst (λ (x : DocUnit). PathsApart x.path w.path) (same_Some u v e) (apart_here u.path us k w h.0 f)
+apart_both (u ∷ us) (suc j) zero v w h off e f =
+    subst (λ (x : DocUnit). PathsApart v.path x.path) (same_Some u w f)
+    (turned u.path v.path (apart_here u.path us j v h.0 e))
+apart_both (u ∷ us) (suc j) (suc k) v w h off e f =
+    apart_both us j k v w h.1 (λ same. off (ap suc same)) e f
+
+body_there : (bs : List Bridge) (k : ℕ) (b : Bridge) → slice_get bs k ≡ Some b
+    → slice_get (bodies_of bs) k ≡ Some b.unit
+body_there bs k b e = slice_get-map (λ (x : Bridge). x.unit) bs k ∙ ap (option_map (λ (x : Bridge). x.unit)) e
+
+-- the path of the unit that changes, and what is asked of it
+record Changes (ms : List Mod) (u : DocUnit) : Type 0 where
+  pub path : List ℕ
+  pub has : u.path ≡ Some path
+  pub gone : is_gone path ms ≡ true
+  pub within : are_within path ms ≡ true
+
+changes : (ms : List Mod) (u : DocUnit) → is_changed ms u ≡ true → Changes ms u
+changes ms u h = by u.path refl h
+  where
+    by : (o : Option (List ℕ)) → u.path ≡ o
+        → option_map_or (λ path. is_gone path ms && are_within path ms) o false ≡ true → Changes ms u
+    by None e f = cc
+    by (Some q) e f =
+        let all : (is_gone q ms ≡ true) × (are_within q ms ≡ true) = both (is_gone q ms) (are_within q ms) f in
+        record { path = q; has = e; gone = all.0; within = all.1 }
+
+goes_from : (ms : List Mod) (t : WideTree) (q : List ℕ) → is_gone q ms ≡ true → are_within q ms ≡ true
+    → through ms t (Some q) ≡ None
+goes_from [] t q gone within = cc
+goes_from (m ∷ ms) t q gone within = all_go m ms t q within gone
+
+module _ (i buffer : ℕ) (ms : List Mod) (t : WideTree) (old : List Bridge) (us : List DocUnit)
+    (applies : (u : WideTree) × (changed_by_all ms t ≡ Some u)) (are : AreUnits us) (sound : All IsSound old)
+    (one : IsOneChanged i buffer ms (bodies_of old) us) where
+  changing : Changes ms one.unit
+  changing = changes ms one.unit one.changed
+
+  -- the new unit of number i
+  abbrev new_one : DocUnit
+  new_one = slice_index_or us i one.unit
+
+  new_there : slice_get us i ≡ Some new_one
+  new_there =
+      slice_get-get_or us i one.unit
+      (omega (arith, one.many, slice_get_within (bodies_of old) i one.unit one.there))
+
+  new_path : new_one.path ≡ Some changing.path
+  new_path =
+      path_is changing.path new_one.path
+      (with_path one.unit new_one (Some changing.path) changing.path changing.has
+      (one.alike i one.unit new_one one.there new_there) refl)
+
+  stays_there : (n : ℕ) (b : Bridge) (u : DocUnit) → slice_get old n ≡ Some b → slice_get us n ≡ Some u
+      → (n ≡ i → ⊥) → (o : Option (List ℕ)) → b.unit.path ≡ o → through ms t o ≡ o
+  stays_there n b u at there off None e = refl
+  stays_there n b u at there off (Some r) e =
+      let own : u.path ≡ Some r =
+      path_is r u.path
+      (with_path b.unit u (Some r) r e (one.alike n b.unit u (body_there old n b at) there) refl) in
+      let apart : PathsApart new_one.path u.path =
+      apart_both us i n new_one u are.apart (λ same. off (sym same)) new_there there in
+      all_stay ms t applies.0 changing.path r changing.within
+      (λ x is. (apart changing.path x).0 new_path (own ∙ ap Some is))
+      (λ x is. (apart r x).1 own (new_path ∙ ap Some is)) applies.1
+
+  goes_there : (n : ℕ) (b : Bridge) → slice_get old n ≡ Some b → n ≡ i
+      → (through ms t b.unit.path ≡ None) × (is_some b.unit.path ≡ true)
+  goes_there n b at is =
+      let same : b.unit ≡ one.unit =
+      some_once (slice_get (bodies_of old) i) b.unit one.unit
+      (ap (slice_get (bodies_of old)) (sym is) ∙ body_there old n b at) one.there in
+      let has : b.unit.path ≡ Some changing.path = ap (λ (u : DocUnit). u.path) same ∙ changing.has in (
+        ap (through ms t) has ∙ goes_from ms t changing.path changing.gone changing.within,
+        ap is_some has,
+      )
+
+  settles : (m n : ℕ) (b : Bridge) (u : DocUnit) → m ≡ 0 + n → slice_get old n ≡ Some b → slice_get us n ≡ Some u
+      → Settles i m (through ms t b.unit.path) b u
+  settles m n b u e at there =
+      let is : m ≡ n = omega (arith, e) in
+      record {
+        alike = one.alike n b.unit u (body_there old n b at) there;
+        placed = sound_placed old sound n b at;
+        stays = λ off. stays_there n b u at there (λ same. off (is ∙ same)) b.unit.path refl;
+        goes = λ same. goes_there n b at (sym is ∙ same);
+      }
+
+  as_many : length old ≡ length us
+  as_many = sym (length-map old (λ (b : Bridge). b.unit)) ∙ one.many
+
+  pub settled_given : settled i 0 old us ≡ given (mods_of buffer ms) t old us
+  settled_given =
+      sym (all_settled (through ms t) i [] old us 0 refl as_many (fresh_apart us are.apart)
+      (fresh_placed us are.placed) settles)
+      ∙ ap (λ ns. given ns t old us) (sym (of_document buffer ms one.document))
+
+-- ---- numbers and paths
+
+one_source : (c : Bool) (k : ℕ) (b : Bridge) (u : DocUnit)
+    → (settled_one c k b u).source ≡ (if c then None else Some k)
+one_source true k b u = refl
+one_source false k b u = refl
+
+pub settled_sources : (i k : ℕ) (bs : List Bridge) (us : List DocUnit) → length bs ≡ length us
+    → sources_in (settled i k bs us) ≡ numbers_but i k (length us)
+settled_sources i k [] [] e = refl
+settled_sources i k [] (u ∷ us) e = absurd (omega (arith, e))
+settled_sources i k (b ∷ bs) [] e = absurd (omega (arith, e))
+settled_sources i k (b ∷ bs) (u ∷ us) e =
+    ap (λ s. s ∷ sources_in (settled i (k + 1) bs us)) (one_source (k == i) k b u)
+    ∙ ap (λ ss. (if k == i then None else Some k) ∷ ss) (settled_sources i (k + 1) bs us (omega (arith, e)))
+
+abbrev pub AreAllPlaced : List DocUnit → Type 0
+AreAllPlaced us = (k : ℕ) (u : DocUnit) → slice_get us k ≡ Some u → IsPlaced u
+
+one_path : (u v : DocUnit) → IsPlaced u → IsPlaced v → is_alike u v ≡ true → v.path ≡ u.path
+one_path u v placed there h = by u.path refl
+  where
+    by : (o : Option (List ℕ)) → u.path ≡ o → v.path ≡ o
+    by None e = none_alike u v placed there (without_path u v e h) e
+    by (Some p) e = path_is p v.path (with_path u v (Some p) p e h refl)
+
+pub paths_stay : (us vs : List DocUnit) → length us ≡ length vs → AreAlike us vs → AreAllPlaced us → AreAllPlaced vs
+    → map (λ v. v.path) vs ≡ map (λ u. u.path) us
+paths_stay [] [] e h placed there = refl
+paths_stay [] (v ∷ vs) e h placed there = absurd (omega (arith, e))
+paths_stay (u ∷ us) [] e h placed there = absurd (omega (arith, e))
+paths_stay (u ∷ us) (v ∷ vs) e h placed there =
+    ap (λ p. p ∷ map (λ (w : DocUnit). w.path) vs)
+    (one_path u v (placed 0 u refl) (there 0 v refl) (h 0 u v refl refl))
+    ∙ ap (λ ps. u.path ∷ ps)
+    (paths_stay us vs (omega (arith, e)) (λ k. h (suc k)) (λ k. placed (suc k)) (λ k. there (suc k)))
+
+pub all_placed : (us : List DocUnit) → AllByRecursion IsPlaced us → AreAllPlaced us
+all_placed [] h k u e = cc
+all_placed (v ∷ us) h zero u e = subst IsPlaced (same_Some v u e) h.0
+all_placed (v ∷ us) h (suc k) u e = all_placed us h.1 k u e
+
+pub bodies_placed : (bs : List Bridge) → All IsSound bs → AreAllPlaced (bodies_of bs)
+bodies_placed bs sound = by bs (sound_placed bs sound)
+  where
+    by : (xs : List Bridge) → AllPlaced xs → AreAllPlaced (bodies_of xs)
+    by [] h k u e = cc
+    by (x ∷ xs) h zero u e = subst IsPlaced (same_Some x.unit u e) (h 0 x refl)
+    by (x ∷ xs) h (suc k) u e = by xs (λ n. h (suc n)) k u e
+
+-- ---- comparing
+
+-- the units below number k are alike
+abbrev pub AlikeTo : List Bridge → List DocUnit → ℕ → Type 0
+AlikeTo bs vs k = (n : ℕ) (u v : DocUnit) → n < k → slice_get (bodies_of bs) n ≡ Some u → slice_get vs n ≡ Some v
+    → is_alike u v ≡ true
+
+pub alike_more : (bs : List Bridge) (vs : List DocUnit) (k : ℕ) (d : Bridge) (e : DocUnit) → AlikeTo bs vs k
+    → k < length bs → k < length vs → is_alike (slice_index_or bs k d).unit (slice_index_or vs k e) ≡ true
+    → AlikeTo bs vs (k + 1)
+alike_more bs vs k d e h inside within here n u v l at there =
+    elim (cases_Bool (n == k)) [
+      | inl same ↦
+          let is : n ≡ k = (Decides-eqb n k).0 same in
+          let is_u : (slice_index_or bs k d).unit ≡ u =
+          some_once (slice_get (bodies_of bs) k) (slice_index_or bs k d).unit u
+          (body_there bs k (slice_index_or bs k d) (slice_get-get_or bs k d inside))
+          (ap (slice_get (bodies_of bs)) (sym is) ∙ at) in
+          let is_v : slice_index_or vs k e ≡ v =
+          some_once (slice_get vs k) (slice_index_or vs k e) v (slice_get-get_or vs k e within)
+          (ap (slice_get vs) (sym is) ∙ there) in
+          ap (λ w. is_alike w v) (sym is_u) ∙ ap (is_alike (slice_index_or bs k d).unit) (sym is_v) ∙ here
+      | inr off ↦
+          let other : n ≡ k → ⊥ = λ q. let is : n == k ≡ true = (Decides-eqb n k).1 q in cc in
+          h n u v (omega (arith, other, l)) at there
+    ]
+
+pub alike_all : (bs : List Bridge) (vs : List DocUnit) (k : ℕ) → AlikeTo bs vs k → length vs ≤ k
+    → AreAlike (bodies_of bs) vs
+alike_all bs vs k h past n u v at there =
+    let inside : n < length vs = slice_get_within vs n v there in h n u v (omega (arith, inside, past)) at there
+
+-- ---- settling
+
+-- behind k units
+pub record Settling (i : ℕ) (old now : List Bridge) (us left : List DocUnit) (k : ℕ) : Type 0 where
+  pub done : take k now ++ settled i k (drop k now) (drop k left) ≡ settled i 0 old us
+  pub many : length now ≡ length left
+
+pub settle_next : (i : ℕ) (old now : List Bridge) (us left : List DocUnit) (k : ℕ) → Settling i old now us left k
+    → k < length now → (d y : Bridge) (e v : DocUnit) (c : Bool) → c ≡ (k == i)
+    → y ≡ settled_one c k (slice_index_or now k d) (slice_index_or left k e)
+    → Settling i old (slice_set now k y) us (slice_set left k v) (k + 1)
+settle_next i old now us left k s inside d y e v c is_c is_y =
+    let x : Bridge = slice_index_or now k d in
+    let u : DocUnit = slice_index_or left k e in
+    let within : k < length left = omega (arith, inside, s.many) in
+    let later : List Bridge = drop (k + 1) now in
+    let units : List DocUnit = drop (k + 1) left in
+    record {
+      done =
+          ap (λ bs. bs ++ settled i (k + 1) (drop (k + 1) (slice_set now k y)) (drop (k + 1) (slice_set left k v)))
+          (take_more_set now k y inside)
+          ∙ append_assoc (take k now) (y ∷ [])
+          (settled i (k + 1) (drop (k + 1) (slice_set now k y)) (drop (k + 1) (slice_set left k v)))
+          ∙ ap (λ bs. take k now ++ y ∷ settled i (k + 1) bs (drop (k + 1) (slice_set left k v)))
+          (drop-set-lt (k + 1) now k y (omega arith))
+          ∙ ap (λ vs. take k now ++ y ∷ settled i (k + 1) later vs) (drop-set-lt (k + 1) left k v (omega arith))
+          ∙ ap (λ z. take k now ++ z ∷ settled i (k + 1) later units)
+          (is_y ∙ ap (λ b. settled_one b k x u) is_c)
+          ∙ ap (λ bs. take k now ++ settled i k bs (u ∷ units)) (sym (drop_more now k d inside))
+          ∙ ap (λ vs. take k now ++ settled i k (drop k now) vs) (sym (drop_more left k e within))
+          ∙ s.done;
+      many = length-set now k y ∙ s.many ∙ sym (length-set left k v);
+    }
+
+pub settle_ends : (i : ℕ) (old now : List Bridge) (us left : List DocUnit) (k : ℕ) → Settling i old now us left k
+    → length now ≤ k → now ≡ settled i 0 old us
+settle_ends i old now us left k s past =
+    sym (take_all k now past) ∙ sym (append-nil (take k now))
+    ∙ ap (λ bs. take k now ++ settled i k bs (drop k left)) (sym (drop_all k now past)) ∙ s.done
