@@ -26,18 +26,18 @@ same_lengths s h c m l k r q f g p u v =
 
 pub attrs_are : (a b : Attrs) → same_attrs a b ≡ true → a ≡ b
 attrs_are a b e =
-    let seven = both _ (int_eq a.first b.first) e in
-    let six = both _ (int_eq a.right b.right) seven.0 in
-    let five = both _ (int_eq a.left b.left) six.0 in
-    let four = both _ (bytes_eq a.mode b.mode) five.0 in
-    let three = both _ (bytes_eq a.color b.color) four.0 in
-    let two = both (bytes_eq a.series b.series) (bytes_eq a.shape b.shape) three.0 in
+    let seven = both _ (bytes_eq a.mode b.mode) e in
+    let six = both _ (bytes_eq a.color b.color) seven.0 in
+    let five = both _ (bytes_eq a.shape b.shape) six.0 in
+    let four = both _ (bytes_eq a.series b.series) five.0 in
+    let three = both _ (int_eq a.first b.first) four.0 in
+    let two = both (int_eq a.left b.left) (int_eq a.right b.right) three.0 in
     same_texts a.series b.series a.shape b.shape a.color b.color a.mode b.mode a.left a.right a.first
-    ((bytes_eq-Decides a.series b.series).0 two.0) ((bytes_eq-Decides a.shape b.shape).0 two.1)
-    ((bytes_eq-Decides a.color b.color).0 three.1) ((bytes_eq-Decides a.mode b.mode).0 four.1)
+    ((bytes_eq-Decides a.series b.series).0 four.1) ((bytes_eq-Decides a.shape b.shape).0 five.1)
+    ((bytes_eq-Decides a.color b.color).0 six.1) ((bytes_eq-Decides a.mode b.mode).0 seven.1)
     ∙ same_lengths b.series b.shape b.color b.mode a.left b.left a.right b.right a.first b.first
-    ((Decides-int_eq a.left b.left).0 five.1) ((Decides-int_eq a.right b.right).0 six.1)
-    ((Decides-int_eq a.first b.first).0 seven.1)
+    ((Decides-int_eq a.left b.left).0 two.0) ((Decides-int_eq a.right b.right).0 two.1)
+    ((Decides-int_eq a.first b.first).0 three.1)
 
 -- it was laid out for these, and no others
 pub laid_for : (laid : Option Attrs) (a : Attrs) → is_laid_for laid a ≡ true → laid ≡ Some a

@@ -12,6 +12,7 @@ pub mod Forgetting
 pub mod Renewed
 pub mod Onward
 pub mod Moved
+pub mod Staying
 pub mod Blank
 pub mod Holding
 pub mod Standing
@@ -21,3 +22,4 @@ pub mod Neighbours
 pub mod Ranges
 pub mod Near
 pub mod Placed
+pub mod Setting

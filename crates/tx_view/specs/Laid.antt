@@ -1,7 +1,6 @@
 -- Units that are laid out, with what is kept of them. Private clauses cite these.
-use Rattle.std.specs.Prelude.{◌≡◌, ℕ, ◌≤◌, ◌+◌, ◌*◌, Bool, if◌then◌else◌, List, [], ◌∷◌, map, length, Option, Some}
-use Rattle.std.specs.Prelude.{None}
-use Rattle.std.specs.Prelude.{option_and_then, slice_get}
+use Rattle.std.specs.Prelude.{◌≡◌, ℕ, ◌≤◌, ◌<◌, ◌+◌, ◌*◌, ◌^◌, ◌==◌, Bool, true, false, if◌then◌else◌, List, [], ◌∷◌}
+use Rattle.std.specs.Prelude.{map, length, Option, Some, None, option_and_then, slice_get}
 use Rattle.tx_tree.specs.WideTree.{size_of}
 use Rattle.tx_origin.specs.Values.{WideValue, plain}
 use Rattle.tx_units.specs.declared.kinds.Unit.{Unit as DocUnit}
@@ -12,9 +11,12 @@ use Rattle.tx_view_form.specs.Started.{attributes_of}
 use Rattle.tx_view_form.specs.Views.{IsShown}
 use Rattle.tx_view_form.specs.Weights.{weight_of}
 use Rattle.tx_bridge.specs.Entries.{Entry, Kept, outcome_of}
+use Rattle.tx_bridge.specs.InPlace.{numbers_but}
 use Rattle.tx_view.specs.Costs.{items_of}
 use Rattle.tx_view.specs.Stores.{is_laid_for}
 use Rattle.tx_view.specs.Units.{unit_view}
+use Rattle.tx_view.specs.declared.carrying.Target.{Target}
+use Rattle.tx_view.specs.declared.carrying.Target.TheVariants.{InPlace, Onto}
 use Rattle.tx_view.specs.declared.shown.Shown.{Shown}
 
 abbrev pub laid_in : List Shown → List (Option Attrs)
@@ -109,3 +111,31 @@ abbrev pub moved : List (Option ℕ) → List Shown → List Shown → List Show
 moved [] old xs = xs
 moved (s ∷ ss) old [] = []
 moved (s ∷ ss) old (x ∷ xs) = with_shown x (shown_at old s) ∷ moved ss old xs
+
+-- what was shown of a unit stays, or nothing is shown of it where it has changed
+abbrev pub StaysAs : Bool → Shown → Shown → Type 0
+StaysAs true y x = IsBlank y.path x
+StaysAs false y x = x ≡ y
+
+-- so it is of all units from number k on, where number i has changed
+abbrev pub StayBut : ℕ → ℕ → List Shown → List Shown → Type 0
+StayBut i k [] [] = Unit {0}
+StayBut i k [] (x ∷ xs) = ⊥
+StayBut i k (y ∷ ys) [] = ⊥
+StayBut i k (y ∷ ys) (x ∷ xs) = StaysAs (k == i) y x × StayBut i (k + 1) ys xs
+
+-- What is shown stays in place where each unit keeps its number and its path, but for one that has changed. Else it
+-- goes to blank ones.
+abbrev pub IsTarget : List DocUnit → List DocUnit → List (Option ℕ) → Target → Type 0
+IsTarget us vs ss (InPlace i) =
+    (ss ≡ numbers_but i 0 (length vs)) × (map (λ v. v.path) vs ≡ map (λ u. u.path) us)
+IsTarget us vs ss (Onto blanks) = AreBlank vs blanks.items
+
+abbrev pub IsFew : Target → Type 0
+IsFew (InPlace i) = Unit {0}
+IsFew (Onto blanks) = length blanks.items < 2 ^ 32
+
+-- what was shown has gone there
+abbrev pub IsMoved : Target → List (Option ℕ) → List Shown → List Shown → Type 0
+IsMoved (InPlace i) ss old xs = StayBut i 0 old xs
+IsMoved (Onto blanks) ss old xs = xs ≡ moved ss old blanks.items

@@ -18,8 +18,8 @@ pub record Stores : Type 0 where
 
 abbrev pub same_attrs : Attrs → Attrs → Bool
 same_attrs a b =
-    bytes_eq a.series b.series && bytes_eq a.shape b.shape && bytes_eq a.color b.color && bytes_eq a.mode b.mode
-    && int_eq a.left b.left && int_eq a.right b.right && int_eq a.first b.first
+    int_eq a.left b.left && int_eq a.right b.right && int_eq a.first b.first && bytes_eq a.series b.series
+    && bytes_eq a.shape b.shape && bytes_eq a.color b.color && bytes_eq a.mode b.mode
 
 -- a unit was laid out for these attributes
 abbrev pub is_laid_for : Option Attrs → Attrs → Bool

@@ -1,13 +1,17 @@
 // What is shown of units goes with them through an edit.
 ghost use Rattle.std.specs.Prelude.{◌≡◌, ℕ, ◌+◌, ◌≤◌, ◌<◌, ◌^◌, length, slice_get, if◌then◌else◌, IfOk, OnOk, OnErr};
 ghost use Rattle.std.specs.Prelude.{Some, None};
+ghost use Rattle.tx_tree.specs.WideTree.{WideTree};
 ghost use Rattle.tx_mod.specs.Followed.{changed_by_all};
 ghost use Rattle.tx_mod.specs.InTurn.{cost_of};
 ghost use Rattle.tx_doc.specs.Buffers.{tree_of, with_tree};
 ghost use Rattle.tx_units.specs.Units.{units, made};
 ghost use Rattle.tx_bridge.specs.Entries.{units_of};
 ghost use Rattle.tx_bridge.specs.Names.{Carry, Sources};
+ghost use Rattle.tx_bridge.specs.UnitLists.{AreUnits};
+ghost use Rattle.tx_bridge.specs.Carrying.{AllStand, AreSameBodies};
 ghost use Rattle.tx_view.specs.Laid.{IsBlank, AreBlank, with_shown, shown_at, moved};
+ghost use Rattle.tx_view.specs.Laid.{StayBut, IsTarget, IsFew, IsMoved};
 
 use crate::sharing::shared;
 use crate::shown::Shown;
@@ -106,8 +110,8 @@ fn move_all(new: &mut [Shown], bridges: &Bridges, old: &mut [Shown])
     }
 }
 
-/// The same, of the units that are shown, or else of the hidden ones.
-pub(crate) fn move_shown(
+// The same, of the units that are shown, or else of the hidden ones.
+fn move_either(
     new: &mut [Shown],
     bridges: &Bridges,
     fresh: bool,
@@ -126,7 +130,126 @@ pub(crate) fn move_shown(
     }
 }
 
-/// The buffers after an edit of one of them, and their units, of which nothing is laid out. What is kept of the old
+// Nothing is laid out of the unit any more.
+fn reset(shown: &mut Shown)
+    ensures { IsBlank shown.old.path shown.new }
+{
+    shown.laid = None;
+    shown.errors.clear();
+    shown.paragraphs.clear();
+    shown.lines.clear();
+}
+
+// Nothing is laid out of the unit of this number.
+fn reset_at(all: &mut [Shown], changed: usize)
+    ensures { StayBut changed 0 all.old all.new }
+{
+    if changed < all.len() {
+        reset(&mut all[changed]);
+    }
+}
+
+// What is shown of all units stays, or else what is hidden, but for the unit that has changed.
+fn move_in_place(changed: usize, fresh: bool, shown: &mut Vec<Shown>, hidden: &mut Vec<Shown>)
+    ensures { StayBut changed 0 (if fresh then shown.old.items else hidden.old.items) hidden.new.items }
+{
+    if fresh {
+        mem::swap(shown, hidden);
+    }
+    reset_at(hidden, changed);
+}
+
+/// Where what is shown of units goes through an edit: it stays in place, but for this one unit, or it goes to these,
+/// of which nothing is laid out.
+#[derive(Drop)]
+pub(crate) enum Target {
+    InPlace(usize),
+    Onto(Vec<Shown>),
+}
+
+// What is shown goes to these, or else what is hidden, and is hidden then.
+fn move_onto(
+    blanks: Vec<Shown>,
+    bridges: &Bridges,
+    fresh: bool,
+    shown: &mut Vec<Shown>,
+    hidden: &mut Vec<Shown>,
+)
+    requires few { length blanks.items < 2 ^ 32 }
+    requires once { (i j k : ℕ) → slice_get bridges.now.sources j ≡ Some (Some i)
+        → slice_get bridges.now.sources k ≡ Some (Some i) → j ≡ k }
+    ensures { hidden.new.items
+        ≡ moved bridges.now.sources (if fresh then shown.old.items else hidden.old.items) blanks.items }
+{
+    let mut new = blanks;
+    move_either(&mut new, bridges, fresh, shown, hidden);
+    *hidden = new;
+}
+
+/// What is shown of the units, or else what is hidden, goes with them, and is hidden then. It takes no memory.
+pub(crate) fn move_shown(
+    target: Target,
+    bridges: &Bridges,
+    fresh: bool,
+    shown: &mut Vec<Shown>,
+    hidden: &mut Vec<Shown>,
+)
+    requires few { IsFew target }
+    requires once { (i j k : ℕ) → slice_get bridges.now.sources j ≡ Some (Some i)
+        → slice_get bridges.now.sources k ≡ Some (Some i) → j ≡ k }
+    ensures { IsMoved target bridges.now.sources (if fresh then shown.old.items else hidden.old.items)
+        hidden.new.items }
+{
+    match target {
+        Target::InPlace(changed) => move_in_place(changed, fresh, shown, hidden),
+        Target::Onto(blanks) => move_onto(blanks, bridges, fresh, shown, hidden),
+    }
+}
+
+// What is kept of the old units goes to the new ones, and what is shown is to go to the target.
+fn carried_kept<L: Ledger>(
+    alloc: Global,
+    bridges: &mut Bridges,
+    buffer: u32,
+    before: &Tree,
+    mods: &[Mod],
+    made: Vec<Unit>,
+    steps: &mut Steps<L>,
+) -> Result<Target, Memory>
+    requires few { length made.items < 2 ^ 32 }
+    requires applies { (u : WideTree) × (changed_by_all mods.now before.now ≡ Some u) }
+    requires units { AreUnits made.items }
+    requires old { buffer ≡ 0 → AllStand before.now (units_of bridges.old.kept) }
+    requires new { buffer ≡ 0 → (u : WideTree) → changed_by_all mods.now before.now ≡ Some u
+        → AllStand u made.items }
+    requires same { (buffer ≡ 0 → ⊥) → AreSameBodies (units_of bridges.old.kept) made.items }
+    ensures target { IfOk result
+        (λ to. IsTarget (units_of bridges.old.kept) made.items bridges.new.sources to) }
+    ensures few { IfOk result (λ to. IsFew to) }
+    ensures carried { OnOk result
+        (bridges.new.kept ≡ Carry buffer mods.now before.now bridges.old.kept made.items) }
+    ensures sources { OnOk result
+        (bridges.new.sources ≡ Sources buffer mods.now before.now (units_of bridges.old.kept) made.items) }
+    ensures once { OnOk result ((i j k : ℕ) → slice_get bridges.new.sources j ≡ Some (Some i)
+        → slice_get bridges.new.sources k ≡ Some (Some i) → j ≡ k) }
+    ensures units { OnOk result (units_of bridges.new.kept ≡ made.items) }
+    ensures counted { steps.new ≤ steps.old + cost_of mods.now }
+    ensures refused { OnErr result (bridges.new ≡ bridges.old) }
+{
+    match bridges.one_changed(buffer, mods, &made) {
+        Some(changed) => {
+            bridges.carry_in_place(buffer, before, mods, made, changed);
+            Ok(Target::InPlace(changed))
+        }
+        None => {
+            let new = blanks(alloc, &made)?;
+            bridges.carry(alloc, buffer, before, mods, made, steps)?;
+            Ok(Target::Onto(new))
+        }
+    }
+}
+
+/// The buffers after an edit of one of them, and where what is shown of the units is to go. What is kept of the old
 /// units goes with them.
 pub(crate) fn carried<L: Ledger>(
     alloc: Global,
@@ -136,14 +259,15 @@ pub(crate) fn carried<L: Ledger>(
     mods: &[Mod],
     tree: &Tree,
     steps: &mut Steps<L>,
-) -> Result<(Vec<Buffer>, Vec<Shown>), Memory>
+) -> Result<(Vec<Buffer>, Target), Memory>
     requires some { 1 ≤ length buffers.now }
     requires few { length buffers.now ≤ 64 }
     requires within { buffer < length buffers.now }
     requires changed { changed_by_all mods.now (tree_of buffers.now buffer) ≡ Some tree.now }
     requires of_buffers { units_of bridges.old.kept ≡ units buffers.now }
     ensures buffers { IfOk result (λ p. p.0.items ≡ with_tree buffers.now buffer tree.now) }
-    ensures blank { IfOk result (λ p. AreBlank (units (with_tree buffers.now buffer tree.now)) p.1.items) }
+    ensures target { IfOk result (λ p. IsTarget (units_of bridges.old.kept)
+        (units (with_tree buffers.now buffer tree.now)) bridges.new.sources p.1) }
     ensures kept { OnOk result (bridges.new.kept ≡ Carry buffer mods.now (tree_of buffers.now buffer) bridges.old.kept
         (units (with_tree buffers.now buffer tree.now))) }
     ensures sources { OnOk result (bridges.new.sources ≡ Sources buffer mods.now (tree_of buffers.now buffer)
@@ -151,7 +275,7 @@ pub(crate) fn carried<L: Ledger>(
     ensures once { OnOk result ((i j k : ℕ) → slice_get bridges.new.sources j ≡ Some (Some i)
         → slice_get bridges.new.sources k ≡ Some (Some i) → j ≡ k) }
     ensures units { OnOk result (units_of bridges.new.kept ≡ units (with_tree buffers.now buffer tree.now)) }
-    ensures few { IfOk result (λ p. length p.1.items < 2 ^ 32) }
+    ensures few { IfOk result (λ p. IsFew p.1) }
     ensures refused { OnErr result (bridges.new ≡ bridges.old) }
     ensures counted { steps.new ≤ steps.old
         + (cost_of mods.now + made (with_tree buffers.now buffer tree.now)) }
@@ -160,8 +284,7 @@ pub(crate) fn carried<L: Ledger>(
     let after = with_tree(alloc, buffers, buffer, tree)?;
     unit_count_law(&after);
     let made = units(alloc, &after, steps)?;
-    let new = blanks(alloc, &made)?;
     let before = &buffers[buffer as usize].tree;
-    bridges.carry(alloc, buffer, before, mods, made, steps)?;
-    Ok((after, new))
+    let target = carried_kept(alloc, bridges, buffer, before, mods, made, steps)?;
+    Ok((after, target))
 }

@@ -1,14 +1,17 @@
 // Units laid out one behind the other, each by what is kept of it.
 ghost use Rattle.std.specs.Prelude.{◌≡◌, ◌+◌, ◌*◌, ◌≤◌, ◌<◌, ◌^◌, length, slice_get, All, IfOk, OnOk, OnErr, Some};
 ghost use Rattle.std.specs.Prelude.{true, false, ℕ, map};
-ghost use Rattle.std.specs.Prelude.{if◌then◌else◌};
+ghost use Rattle.std.specs.Prelude.{if◌then◌else◌, ◌&&◌, IsTrue};
 ghost use Rattle.std.specs.Option.{unwrap_or};
+ghost use Rattle.std.specs.Ordering.{int_eq};
+ghost use Rattle.std.specs.Str.{bytes_eq};
 ghost use Rattle.tx_tree.specs.WideTree.{size_of};
 ghost use Rattle.tx_origin.specs.Values.{plain};
+ghost use Rattle.tx_env.specs.Environments.{NameMap};
 ghost use Rattle.tx_exec.specs.Outcomes.{wide_outcome};
 ghost use Rattle.tx_items.specs.Shows.{shown_paragraphs};
 ghost use Rattle.tx_items.specs.declared.attributes.Attrs.{Attrs};
-ghost use Rattle.tx_view_form.specs.Outcomes.{beginning, value_of};
+ghost use Rattle.tx_view_form.specs.Outcomes.{beginning, env_behind, value_of};
 ghost use Rattle.tx_view_form.specs.Started.{attributes_of};
 ghost use Rattle.tx_view_form.specs.Views.{AreShown, lines_of, paragraphs_at};
 ghost use Rattle.tx_view_form.specs.Errors.{errors_of};
@@ -35,17 +38,33 @@ use tx_items::{Attrs, Paragraph};
 use tx_tree::Path;
 use tx_view_form::weight_laws;
 
-// Both are the same attributes.
-fn same_attrs(one: &Attrs, other: &Attrs) -> bool
-    ensures { result ≡ same_attrs one.now other.now }
+// Both have the same lengths.
+fn same_lengths(one: &Attrs, other: &Attrs) -> bool
+    ensures { result ≡ (int_eq one.now.left other.now.left && int_eq one.now.right other.now.right
+        && int_eq one.now.first other.now.first) }
+{
+    one.left == other.left && one.right == other.right && one.first == other.first
+}
+
+// Both have the same texts.
+fn same_texts(one: &Attrs, other: &Attrs) -> bool
+    ensures { result ≡ (bytes_eq one.now.series other.now.series && bytes_eq one.now.shape other.now.shape
+        && bytes_eq one.now.color other.now.color && bytes_eq one.now.mode other.now.mode) }
 {
     one.series.bytes() == other.series.bytes()
         && one.shape.bytes() == other.shape.bytes()
         && one.color.bytes() == other.color.bytes()
         && one.mode.bytes() == other.mode.bytes()
-        && one.left == other.left
-        && one.right == other.right
-        && one.first == other.first
+}
+
+// Both are the same attributes.
+fn same_attrs(one: &Attrs, other: &Attrs) -> bool
+    ensures { result ≡ same_attrs one.now other.now }
+{
+    if same_lengths(one, other) {
+        return same_texts(one, other);
+    }
+    false
 }
 
 // It was laid out for these attributes.
@@ -168,7 +187,7 @@ fn shown_of<L: Ledger>(
 fn lay<L: Ledger>(
     alloc: Global,
     outcome: &Outcome,
-    attrs: Attrs,
+    attrs: &Attrs,
     shown: &mut Shown,
     width: u32,
     steps: &mut Steps<L>,
@@ -180,30 +199,31 @@ fn lay<L: Ledger>(
         → IsLaidOut width a (value_of (wide_outcome outcome.now)) shown.old.path shown.old }
     requires readable { IsReadable (unit_view shown.old) }
     ensures shown { OnOk result
-        (IsLaidOut width attrs (value_of (wide_outcome outcome.now)) shown.old.path shown.new) }
-    ensures laid { OnOk result (shown.new.laid ≡ Some attrs) }
+        (IsLaidOut width attrs.now (value_of (wide_outcome outcome.now)) shown.old.path shown.new) }
+    ensures laid { OnOk result (shown.new.laid ≡ Some attrs.now) }
     ensures readable { IsReadable (unit_view shown.new) }
-    ensures items { IfOk result (λ n. n ≡ if is_laid_for shown.old.laid attrs then 0
-        else items_in (paragraphs_at shown.old.path attrs (value_of (wide_outcome outcome.now)))) }
+    ensures items { IfOk result (λ n. n ≡ if is_laid_for shown.old.laid attrs.now then 0
+        else items_in (paragraphs_at shown.old.path attrs.now (value_of (wide_outcome outcome.now)))) }
     ensures counted { IfOk result (λ n. steps.new ≡ steps.old + n) }
     ensures err { OnErr result (shown.new ≡ shown.old) }
 {
-    if is_laid_for(shown, &attrs) {
+    if is_laid_for(shown, attrs) {
         return Ok(0);
     }
     weight_laws();
     outcome_weight_law(outcome);
-    *shown = shown_of(alloc, &shown.path, outcome, attrs, width, steps)?;
+    let own = attrs.copy()?;
+    *shown = shown_of(alloc, &shown.path, outcome, own, width, steps)?;
     Ok(item_count(&shown.paragraphs))
 }
 
-// Lays the unit of this number out, and goes behind it. Answers its charge, if it was evaluated anew, and how many
-// items were laid out.
+// Lays the unit of this number out, before which the attributes are these, and goes behind it. Answers its charge, if
+// it was evaluated anew, and how many items were laid out.
 fn lay_next<L: Ledger>(
     alloc: Global,
-    variables: &Variables,
     bridges: &Bridges,
     i: u32,
+    attrs: &Attrs,
     moment: &mut Moment,
     shown: &mut Shown,
     width: u32,
@@ -211,7 +231,7 @@ fn lay_next<L: Ledger>(
 ) -> Result<u64, Memory>
     requires least_width { 20 ≤ width }
     requires most_width { width ≤ 500 }
-    requires variables { AreVariables variables.now }
+    requires attributes { attrs.now ≡ attributes_of moment.old.env }
     requires there { i < length bridges.now.kept }
     requires fresh { (e : Entry) → slice_get bridges.now.kept i ≡ Some e → e.trace ≡ outcome_of moment.old e.unit }
     requires laid { (e : Entry) → slice_get bridges.now.kept i ≡ Some e → IsLaid width e shown.old }
@@ -231,7 +251,6 @@ fn lay_next<L: Ledger>(
     weight_laws();
     trace_laws();
     outcome_weight_law(outcome);
-    let attrs = variables.attributes(alloc, moment.env())?;
     let before = moment.left();
     bridges.pass(i, moment)?;
     let items = lay(alloc, outcome, attrs, shown, width, steps)?;
@@ -239,6 +258,134 @@ fn lay_next<L: Ledger>(
         return Ok(items + (before - moment.left()));
     }
     Ok(items)
+}
+
+// A unit that comes to this sets no name.
+fn sets_nothing(outcome: &Outcome) -> bool
+    ensures { IsTrue result → (env : NameMap) → env_behind env (wide_outcome outcome.now) ≡ env }
+{
+    match outcome {
+        Outcome::Over => true,
+        Outcome::Done(trace) => trace.writes.pairs().is_empty(),
+    }
+}
+
+// Takes the attributes before the unit of this number to those behind it, where the moment is the one behind it.
+fn pass_attributes(
+    alloc: Global,
+    variables: &Variables,
+    bridges: &Bridges,
+    i: u32,
+    moment: &Moment,
+    attrs: &mut Attrs,
+) -> Result<(), Memory>
+    requires variables { AreVariables variables.now }
+    requires there { i < length bridges.now.kept }
+    requires before { (e : Entry) → slice_get bridges.now.kept i ≡ Some e
+        → (env : NameMap) × (attrs.old ≡ attributes_of env) × (moment.now.env ≡ env_behind env e.trace) }
+    ensures { OnOk result (attrs.new ≡ attributes_of moment.now.env) }
+{
+    let Some(outcome) = bridges.outcome(i) else {
+        unreachable!();
+    };
+    if sets_nothing(outcome) {
+        return Ok(());
+    }
+    *attrs = variables.attributes(alloc, moment.env())?;
+    Ok(())
+}
+
+// Lays all units out that aren't laid out for the attributes before them, the first at this moment with these
+// attributes. Answers the charges of those that were evaluated anew and how many items were laid out.
+fn lay_each<L: Ledger>(
+    alloc: Global,
+    variables: &Variables,
+    bridges: &Bridges,
+    moment: &mut Moment,
+    attrs: &mut Attrs,
+    units: &mut [Shown],
+    width: u32,
+    steps: &mut Steps<L>,
+) -> Result<u64, Memory>
+    requires least_width { 20 ≤ width }
+    requires most_width { width ≤ 500 }
+    requires variables { AreVariables variables.now }
+    requires start { moment.old ≡ beginning }
+    requires attributes { attrs.old ≡ attributes_of moment.old.env }
+    requires few { length bridges.now.kept < 2 ^ 23 }
+    requires fresh { bridges.now.kept ≡ fresh_from beginning (units_of bridges.now.kept) }
+    requires laid { AreLaid width bridges.now.kept units.old }
+    requires readable { All (λ s. IsReadable (unit_view s)) units.old }
+    ensures shown { OnOk result (AreShown width beginning (units_of bridges.now.kept) (unit_views units.new)) }
+    ensures attributes { OnOk result (laid_in units.new ≡ attributes_from beginning (units_of bridges.now.kept)) }
+    ensures lines { OnOk result (length (lines_of (unit_views units.new)) < 2 ^ 32) }
+    ensures errors { OnOk result (length (errors_of (unit_views units.new)) < 2 ^ 32) }
+    ensures counted { OnOk result
+        (steps.new ≡ steps.old + unlaid_from beginning (units_of bridges.now.kept) (laid_in units.old)) }
+    ensures work { IfOk result (λ n. n
+        ≡ flagged_from beginning bridges.now.renewed (units_of bridges.now.kept)
+        + unlaid_from beginning (units_of bridges.now.kept) (laid_in units.old)) }
+    ensures laid { AreLaid width bridges.now.kept units.new }
+    ensures readable { All (λ s. IsReadable (unit_view s)) units.new }
+{
+    let mut work = 0;
+    for i in 0..units.len() {
+        let more = lay_next(
+            alloc,
+            bridges,
+            i as u32,
+            attrs,
+            moment,
+            &mut units[i],
+            width,
+            steps,
+        )?;
+        pass_attributes(alloc, variables, bridges, i as u32, moment, attrs)?;
+        work += more;
+    }
+    Ok(work)
+}
+
+// The same, where it begins at the first unit.
+fn lay_from_start<L: Ledger>(
+    alloc: Global,
+    variables: &Variables,
+    bridges: &Bridges,
+    units: &mut [Shown],
+    width: u32,
+    steps: &mut Steps<L>,
+) -> Result<u64, Memory>
+    requires least_width { 20 ≤ width }
+    requires most_width { width ≤ 500 }
+    requires variables { AreVariables variables.now }
+    requires few { length bridges.now.kept < 2 ^ 23 }
+    requires fresh { bridges.now.kept ≡ fresh_from beginning (units_of bridges.now.kept) }
+    requires laid { AreLaid width bridges.now.kept units.old }
+    requires readable { All (λ s. IsReadable (unit_view s)) units.old }
+    ensures shown { OnOk result (AreShown width beginning (units_of bridges.now.kept) (unit_views units.new)) }
+    ensures attributes { OnOk result (laid_in units.new ≡ attributes_from beginning (units_of bridges.now.kept)) }
+    ensures lines { OnOk result (length (lines_of (unit_views units.new)) < 2 ^ 32) }
+    ensures errors { OnOk result (length (errors_of (unit_views units.new)) < 2 ^ 32) }
+    ensures counted { OnOk result
+        (steps.new ≡ steps.old + unlaid_from beginning (units_of bridges.now.kept) (laid_in units.old)) }
+    ensures work { IfOk result (λ n. n
+        ≡ flagged_from beginning bridges.now.renewed (units_of bridges.now.kept)
+        + unlaid_from beginning (units_of bridges.now.kept) (laid_in units.old)) }
+    ensures laid { AreLaid width bridges.now.kept units.new }
+    ensures readable { All (λ s. IsReadable (unit_view s)) units.new }
+{
+    let mut moment = Moment::beginning(alloc);
+    let mut attrs = variables.attributes(alloc, moment.env())?;
+    lay_each(
+        alloc,
+        variables,
+        bridges,
+        &mut moment,
+        &mut attrs,
+        units,
+        width,
+        steps,
+    )
 }
 
 // Lays all units out that aren't laid out for the attributes before them, and answers the charges of those that were
@@ -269,22 +416,7 @@ fn lay_all<L: Ledger>(
     ensures readable { All (λ s. IsReadable (unit_view s)) units.new }
 {
     let variables = Variables::new(alloc)?;
-    let mut moment = Moment::beginning(alloc);
-    let mut work = 0;
-    for i in 0..units.len() {
-        let more = lay_next(
-            alloc,
-            &variables,
-            bridges,
-            i as u32,
-            &mut moment,
-            &mut units[i],
-            width,
-            steps,
-        )?;
-        work += more;
-    }
-    Ok(work)
+    lay_from_start(alloc, &variables, bridges, units, width, steps)
 }
 
 /// Evaluates the units of which nothing fits, and lays those out that aren't laid out as they should be. Answers by how

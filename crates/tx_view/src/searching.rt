@@ -14,7 +14,7 @@ pub(crate) fn first_rows(alloc: Global, units: &[Shown]) -> Result<Vec<u32>, Mem
     requires { length (lines_of (unit_views units.now)) < 2 ^ 32 }
     ensures { IfOk result (λ firsts. firsts.items ≡ sums_from 0 (row_counts (unit_views units.now))) }
 {
-    let mut firsts = Vec::new(alloc);
+    let mut firsts = Vec::with_capacity(alloc, units.len() + 1)?;
     let mut count = 0u32;
     for unit in units {
         firsts.push(count)?;
@@ -29,7 +29,7 @@ pub(crate) fn first_errors(alloc: Global, units: &[Shown]) -> Result<Vec<u32>, M
     requires { length (errors_of (unit_views units.now)) < 2 ^ 32 }
     ensures { IfOk result (λ firsts. firsts.items ≡ sums_from 0 (error_counts (unit_views units.now))) }
 {
-    let mut firsts = Vec::new(alloc);
+    let mut firsts = Vec::with_capacity(alloc, units.len() + 1)?;
     let mut count = 0u32;
     for unit in units {
         firsts.push(count)?;

@@ -26,7 +26,7 @@ use crate::cells::drawn_at;
 use crate::laying::lay_out;
 use crate::places::place_in;
 use crate::searching::{error_count, error_in, first_errors, first_rows, row_count, row_in};
-use crate::sharing::{all_lines, shared};
+use crate::sharing::shared;
 use crate::shown::Shown;
 use crate::stops::stops_of;
 use std::alloc::Global;
@@ -37,7 +37,7 @@ use tx_base::{Memory, Steps};
 use tx_bridge::{Bridges, unit_list_laws};
 use tx_doc::Buffer;
 use tx_items::{Drawn, ErrorAt};
-use tx_layout::{Line, pages};
+use tx_layout::{Line, Paginator};
 use tx_lines::Cut;
 use tx_mod::Mod;
 use tx_origin::Spot;
@@ -96,8 +96,11 @@ fn paged(alloc: Global, units: &[Shown], height: u32) -> Result<Vec<Cut>, Memory
     requires few { length (lines_of (unit_views units.now)) < 2 ^ 32 }
     ensures { IfOk result (λ cuts. PagesFrom (lines_of (unit_views units.now)) height 0 cuts.items) }
 {
-    let lines = all_lines(alloc, units)?;
-    pages(alloc, &lines, height)
+    let mut paginator = Paginator::new(alloc, height);
+    for unit in units {
+        paginator.add(&unit.lines)?;
+    }
+    paginator.finish()
 }
 
 // The pages of units, and how many rows and errors stand before each unit.
@@ -236,7 +239,7 @@ impl View {
             + (cost_of mods.now + made (with_tree self.old.buffers buffer tree.now)) }
     {
         unit_list_laws();
-        let (after, mut new) = carried(
+        let (after, target) = carried(
             alloc,
             &mut self.bridges,
             &self.buffers,
@@ -246,13 +249,12 @@ impl View {
             steps,
         )?;
         move_shown(
-            &mut new,
+            target,
             &self.bridges,
             self.fresh,
             &mut self.units,
             &mut self.hidden,
         );
-        self.hidden = new;
         self.units.clear();
         self.rows.truncate(1);
         self.errors.truncate(1);

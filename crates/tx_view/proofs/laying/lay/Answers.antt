@@ -10,18 +10,18 @@ use Rattle.tx_view.proofs.laying.lay.Goals as goal
 
 pub returns-then-is_laid_for-clause-shown : goal.returns-then-is_laid_for-clause-shown
 returns-then-is_laid_for-clause-shown g c =
-    c.requires.laid c.args.attrs
-    (laid_for c.args.shown.now.laid c.args.attrs (sym c.is_laid_for.ensures ∙ c.if-is_laid_for.true))
+    c.requires.laid c.args.attrs.now
+    (laid_for c.args.shown.now.laid c.args.attrs.now (sym c.is_laid_for.ensures ∙ c.if-is_laid_for.true))
 
 pub returns-then-is_laid_for-clause-laid : goal.returns-then-is_laid_for-clause-laid
 returns-then-is_laid_for-clause-laid g c =
-    laid_for c.args.shown.now.laid c.args.attrs (sym c.is_laid_for.ensures ∙ c.if-is_laid_for.true)
+    laid_for c.args.shown.now.laid c.args.attrs.now (sym c.is_laid_for.ensures ∙ c.if-is_laid_for.true)
 
 pub item_count-requires : goal.item_count-requires
 item_count-requires g c =
     let v = value_of (wide_outcome c.args.outcome.now) in
-    let few : items_in c.deref.result.now ≤ weight_of (shown_paragraphs c.args.attrs v) =
-    few_items c.deref.result.now c.args.shown.now.path c.args.attrs v
+    let few : items_in c.deref.result.now ≤ weight_of (shown_paragraphs c.in_ok-own.own v) =
+    few_items c.deref.result.now c.args.shown.now.path c.in_ok-own.own v
     (c.deref.ensures.value ∙ c.in_ok-shown.ensures.shown.shown.paragraphs)
-    (c.weight_laws.ensures.items (shown_paragraphs c.args.attrs v)) in
-    record { few = omega (arith, few, c.outcome_weight_law.ensures c.args.attrs, c.requires.small) }
+    (c.weight_laws.ensures.items (shown_paragraphs c.in_ok-own.own v)) in
+    record { few = omega (arith, few, c.outcome_weight_law.ensures c.in_ok-own.own, c.requires.small) }

@@ -4,7 +4,6 @@ use Rattle.std.specs.Option.{option_map}
 use Rattle.std.specs.Prelude.{if◌then◌else◌}
 use Rattle.tx_exec.specs.Outcomes.{wide_outcome}
 use Rattle.tx_view_form.specs.Outcomes.{value_of}
-use Rattle.tx_view_form.specs.Started.{attributes_of}
 use Rattle.tx_bridge.specs.Entries.{Entry}
 use Rattle.tx_view.specs.Laid.{IsNext}
 use Rattle.tx_view.proofs.Onward.{entry_with, laid_by, next_is}
@@ -22,10 +21,10 @@ overflow_add-result g c =
     let next : IsNext c.args.width e.0 true c.args.moment.now c.pass.new.moment c.args.shown.now c.lay.new.shown
     (c.in_ok-items.items + (c.args.moment.now.left - c.pass.new.moment.left)) =
     next_is c.trace_laws.ensures.allowed c.weight_laws.ensures.over c.weight_laws.ensures.items c.args.width e.0 true
-    c.args.moment.now c.pass.new.moment c.args.shown.now c.lay.new.shown c.in_ok-attrs.attrs
+    c.args.moment.now c.pass.new.moment c.args.shown.now c.lay.new.shown c.args.attrs.now
     (wide_outcome c.in-Some.outcome.now) c.in_ok-items.items
     (c.in_ok-items.items + (c.args.moment.now.left - c.pass.new.moment.left)) c.outcome_weight_law.ensures e.2
-    (c.requires.fresh e.0 e.1) (c.requires.laid e.0 e.1) (c.in_ok-attrs.ensures ∙ ap attributes_of c.env.ensures)
+    (c.requires.fresh e.0 e.1) (c.requires.laid e.0 e.1) c.requires.attributes
     (c.in_ok-pass.ensures.behind e.0 e.1) (c.in_ok-pass.ensures.paid e.0 e.1) c.in_ok-items.ensures.shown
     c.in_ok-items.ensures.laid c.in_ok-items.ensures.items refl in
     omega (arith, next.most, c.requires.few, c.left-before.ensures, c.left.ensures)
@@ -35,11 +34,11 @@ returns-then-renewed-clause-next g c e at =
     let n = c.in_ok-items.items in
     let left = c.args.moment.now.left in
     next_is c.trace_laws.ensures.allowed c.weight_laws.ensures.over c.weight_laws.ensures.items c.args.width e _
-    c.args.moment.now c.pass.new.moment c.args.shown.now c.lay.new.shown c.in_ok-attrs.attrs
+    c.args.moment.now c.pass.new.moment c.args.shown.now c.lay.new.shown c.args.attrs.now
     (wide_outcome c.in-Some.outcome.now) n _ c.outcome_weight_law.ensures
     (same_Some e.trace (wide_outcome c.in-Some.outcome.now)
     (sym (ap (option_map (λ (k : Entry). k.trace)) at) ∙ c.in-Some.ensures.found))
-    (c.requires.fresh e at) (c.requires.laid e at) (c.in_ok-attrs.ensures ∙ ap attributes_of c.env.ensures)
+    (c.requires.fresh e at) (c.requires.laid e at) c.requires.attributes
     (c.in_ok-pass.ensures.behind e at) (c.in_ok-pass.ensures.paid e at) c.in_ok-items.ensures.shown
     c.in_ok-items.ensures.laid c.in_ok-items.ensures.items
     (ap (λ k. n + (k - c.left.result)) c.left-before.ensures ∙ ap (λ k. n + (left - k)) c.left.ensures
@@ -50,11 +49,11 @@ returns-clause-next g c e at =
     let n = c.in_ok-items.items in
     let left = c.args.moment.now.left in
     next_is c.trace_laws.ensures.allowed c.weight_laws.ensures.over c.weight_laws.ensures.items c.args.width e _
-    c.args.moment.now c.pass.new.moment c.args.shown.now c.lay.new.shown c.in_ok-attrs.attrs
+    c.args.moment.now c.pass.new.moment c.args.shown.now c.lay.new.shown c.args.attrs.now
     (wide_outcome c.in-Some.outcome.now) n _ c.outcome_weight_law.ensures
     (same_Some e.trace (wide_outcome c.in-Some.outcome.now)
     (sym (ap (option_map (λ (k : Entry). k.trace)) at) ∙ c.in-Some.ensures.found))
-    (c.requires.fresh e at) (c.requires.laid e at) (c.in_ok-attrs.ensures ∙ ap attributes_of c.env.ensures)
+    (c.requires.fresh e at) (c.requires.laid e at) c.requires.attributes
     (c.in_ok-pass.ensures.behind e at) (c.in_ok-pass.ensures.paid e at) c.in_ok-items.ensures.shown
     c.in_ok-items.ensures.laid c.in_ok-items.ensures.items
     (ap (λ f. if f then n + (left - c.pass.new.moment.left) else n) (sym c.if-renewed.false ∙ c.renewed.ensures))

@@ -1,8 +1,6 @@
-use Rattle.std.proofs.Common.{◌≡◌, ◌∙◌, ◌++◌, List, [], take, drop, length, false, ap, refl, sym, subst, arith}
-use Rattle.std.proofs.lemmas.Grind.{common_steps}
+use Rattle.std.proofs.Common.{◌∙◌, List, [], take, length, false, ap, refl, sym, subst, arith}
 use Rattle.std.specs.List.{AllByRecursion}
-use Rattle.std.specs.Vec.{with_items}
-use Rattle.std.specs.Prelude.{if◌then◌else◌, map}
+use Rattle.std.specs.Prelude.{map}
 use Rattle.tx_doc.specs.Buffers.{tree_of, with_tree}
 use Rattle.tx_doc.specs.declared.buffer.Buffer.{Buffer}
 use Rattle.tx_units.specs.Units.{units}
@@ -12,11 +10,11 @@ use Rattle.tx_bridge.specs.Names.{Sources, Carry as CarryKept}
 use Rattle.tx_bridge.specs.UnitLists.{IsPlaced}
 use Rattle.tx_view.specs.declared.shown.Shown.{Shown}
 use Rattle.tx_view.specs.declared.view.View.TheInside.{Inside}
-use Rattle.tx_view.specs.Laid.{laid_in, moved}
+use Rattle.tx_view.specs.Laid.{laid_in}
 use Rattle.tx_view.specs.Names.{Carry}
 use Rattle.tx_view.specs.WholeViews.{WholeView, whole_of, stores_of, all_of}
 use Rattle.tx_view.proofs.Blank.{many_with}
-use Rattle.tx_view.proofs.Moved.{carried_on}
+use Rattle.tx_view.proofs.Staying.{carried_by}
 use Rattle.tx_view.proofs.Standing.{stale, stale_view, first_sum}
 use Rattle.tx_view.proofs.view.View.edited.Goals as goal
 
@@ -26,25 +24,14 @@ invariant_of-self-2 g c =
     let after : List Buffer = with_tree bs c.args.buffer c.args.tree.now in
     let kept : Kept = c.self.inside.bridges.kept in
     let olds : List Shown = all_of c.self.inside in
-    let blanks : List Shown = c.in_ok-after.new.items in
     let ss = c.carried.new.bridges.sources in
-    let whole : take c.in_ok-after.new.len (c.move_shown.new.new
-    ++ drop (length c.move_shown.new.new) c.in_ok-after.new.items) ≡ c.move_shown.new.new =
-    grind (arith, common_steps) in
-    let moved_all = c.move_shown.ensures
-    ∙ ap (moved ss (if c.self.inside.fresh then c.deref_mut-2.result.now else c.deref_mut-3.result.now))
-    c.deref_mut.ensures.value
-    ∙ ap (λ xs. moved ss (if c.self.inside.fresh then xs else c.deref_mut-3.result.now) blanks)
-    c.deref_mut-2.ensures.value
-    ∙ ap (λ xs. moved ss (if c.self.inside.fresh then c.self.inside.units.items else xs) blanks)
-    c.deref_mut-3.ensures.value in
-    let on = carried_on c.self.inside.width c.args.buffer c.args.mods.now (tree_of bs c.args.buffer) kept
-    c.carried.new.bridges.kept olds blanks _ ss (units after) c.self.invariant.laid c.self.invariant.all_readable
-    c.in_ok-after.ensures.blank
+    let on = carried_by c.self.inside.width c.args.buffer c.args.mods.now (tree_of bs c.args.buffer) kept
+    c.carried.new.bridges.kept olds c.move_shown.new.hidden.items c.in_ok-after.target ss (units after)
+    c.self.invariant.laid c.self.invariant.all_readable
     (subst (AllByRecursion IsPlaced) (sym c.self.invariant.of_buffers)
     (c.unit_list_laws.ensures.units c.self.inside.buffers.items).placed)
     (c.unit_list_laws.ensures.units after).placed c.in_ok-after.ensures.kept c.in_ok-after.ensures.sources
-    (whole ∙ moved_all) in
+    c.in_ok-after.ensures.target c.move_shown.ensures in
     let many = ap length c.in_ok-after.ensures.buffers ∙ many_with bs c.args.buffer c.args.tree.now
     ∙ ap length c.deref.ensures.value in
     stale _ (record {
@@ -65,26 +52,14 @@ returns-clause-ok g c =
     let after : List Buffer = with_tree bs c.args.buffer c.args.tree.now in
     let kept : Kept = c.self.inside.bridges.kept in
     let olds : List Shown = all_of c.self.inside in
-    let blanks : List Shown = c.in_ok-after.new.items in
     let ss = c.carried.new.bridges.sources in
-    let whole : take c.in_ok-after.new.len (c.move_shown.new.new
-    ++ drop (length c.move_shown.new.new) c.in_ok-after.new.items) ≡ c.move_shown.new.new =
-    grind (arith, common_steps) in
-    let moved_all = c.move_shown.ensures
-    ∙ ap (moved ss (if c.self.inside.fresh then c.deref_mut-2.result.now else c.deref_mut-3.result.now))
-    c.deref_mut.ensures.value
-    ∙ ap (λ xs. moved ss (if c.self.inside.fresh then xs else c.deref_mut-3.result.now) blanks)
-    c.deref_mut-2.ensures.value
-    ∙ ap (λ xs. moved ss (if c.self.inside.fresh then c.self.inside.units.items else xs) blanks)
-    c.deref_mut-3.ensures.value in
-    let on = carried_on c.self.inside.width c.args.buffer c.args.mods.now (tree_of bs c.args.buffer) kept
-    c.carried.new.bridges.kept olds blanks (with_items c.in_ok-after.new c.move_shown.new.new).items ss (units after)
+    let on = carried_by c.self.inside.width c.args.buffer c.args.mods.now (tree_of bs c.args.buffer) kept
+    c.carried.new.bridges.kept olds c.move_shown.new.hidden.items c.in_ok-after.target ss (units after)
     c.self.invariant.laid c.self.invariant.all_readable
-    c.in_ok-after.ensures.blank
     (subst (AllByRecursion IsPlaced) (sym c.self.invariant.of_buffers)
     (c.unit_list_laws.ensures.units c.self.inside.buffers.items).placed)
     (c.unit_list_laws.ensures.units after).placed c.in_ok-after.ensures.kept c.in_ok-after.ensures.sources
-    (whole ∙ moved_all) in
+    c.in_ok-after.ensures.target c.move_shown.ensures in
     let v : Inside = record {
       buffers = c.in_ok-after.after;
       width = c.self.inside.width;
@@ -92,7 +67,7 @@ returns-clause-ok g c =
       fresh = false;
       bridges = c.carried.new.bridges;
       units = c.clear.new.self;
-      hidden = with_items c.in_ok-after.new c.move_shown.new.new;
+      hidden = c.move_shown.new.hidden;
       rows = c.truncate.new.self;
       errors = c.truncate-2.new.self;
       pages = c.clear-2.new.self;
