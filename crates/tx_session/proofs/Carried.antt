@@ -25,12 +25,12 @@ use Rattle.tx_cmd.specs.declared.command.Command.TheVariants.{Change, Undo, Redo
 use Rattle.tx_view.specs.WholeViews.{WholeView}
 use Rattle.tx_session.specs.declared.replies.Reply.{Reply}
 use Rattle.tx_session.specs.Asking.{IsEditKept, IsKeyKept}
-use Rattle.tx_session.specs.Keeps.{Keep, Whole, Keeps, carried, undone_mods, redone_mods, kept_after}
+use Rattle.tx_session.specs.Keeps.{Keeps, carried, undone_mods, redone_mods, kept_after}
 use Rattle.tx_session.specs.Keeps.{edit_cost, key_cost, step_cost}
 use Rattle.tx_session.specs.Saying.{mark_of}
 use Rattle.tx_session.specs.Sessions.{keep_of, view_with}
 use Rattle.tx_session.specs.States.{selected_edit, key_edit, by_typing, by_backspace, by_enter}
-use Rattle.tx_session.specs.Worlds.{Seen, Mark, plain, lacking, unsaved, told}
+use Rattle.tx_session.specs.Worlds.{Seen, Keep, Whole, Mark, plain, lacking, unsaved, told}
 use Rattle.tx_session.proofs.Answered.{IsIdleReply}
 
 -- modifications that make a tree in turn make it

@@ -1,26 +1,28 @@
 -- Why a run ends as it does.
-use Rattle.std.proofs.Common.{◌≡◌, ◌≢◌, ◌⊎◌, inl, inr, ℕ, List, [], ◌++◌, Option, Some, None, IfSome}
-use Rattle.std.proofs.Common.{refl, sym, ap, subst, ◌∙◌}
+use Rattle.std.proofs.Common.{◌≡◌, ◌≢◌, ◌⊎◌, ◌≤◌, ◌+◌, inl, inr, ℕ, List, [], ◌++◌, Option, Some, None, IfSome}
+use Rattle.std.proofs.Common.{refl, sym, ap, subst, ◌∙◌, arith}
 use Rattle.std.specs.Io.KnownBytes.{append_known}
 use Rattle.tx_outside.specs.Files.{Files}
 use Rattle.tx_outside.specs.Known.{AppendsPart}
 use Rattle.tx_outside.proofs.Pieces.{append_known-then, append_known-nil}
 use Rattle.tx_session.specs.declared.status.Status.{Status}
 use Rattle.tx_session.specs.declared.status.Status.TheVariants as statuses
+use Rattle.tx_words.specs.declared.asked.Source.TheVariants.{Files as AllFiles}
 use Rattle.tx_words.specs.Words.{Ask, AreFaulty}
 use Rattle.tx_open.specs.declared.opening.Opened.{Opened}
 use Rattle.tx_open.specs.declared.opening.Opening.{Opening}
 use Rattle.tx_open.specs.declared.opening.Opening.TheVariants as openings
 use Rattle.tx_open.specs.Openings.{outcome_of}
 use Rattle.tx_open.specs.Outcomes.{Outcome, faulty_words, missing, too_long, no_tree, store_fault, no_memory, opened}
-use Rattle.tx_open.specs.Outcomes.{ComesTo, EndsOf, Holds, IsCaused}
+use Rattle.tx_open.specs.Outcomes.{generated, ComesTo, EndsOf, Holds, IsCaused, nodes_in}
 use Rattle.tx_open.proofs.Files.{no_fault}
 use Rattle.tx_session.specs.Forms.{SpellsNoTree}
 use Rattle.tx_session.specs.Outcomes.{status_of, text_of}
-use Rattle.tx_session.specs.Worlds.{World, Stored, KeepsFiles}
+use Rattle.tx_session.specs.Worlds.{Whole, World, Stored, KeepsFiles, world}
+use Rattle.tx_units.specs.Units.{made}
 use Rattle.tx_doc.specs.Forms.{form_of}
 use Rattle.tx_session.specs.Runs.{Rises, Outside, IsRefused, CanBeRead, Tells, IsRun, IsWritten}
-use Rattle.tx_session.specs.Runs.{IsCutShort, IsWhole, IsBeingWritten, own_line, start_of}
+use Rattle.tx_session.specs.Runs.{IsCutShort, IsWhole, IsBeingWritten, opening_cost, own_line, start_with}
 use Rattle.tx_session.specs.Differences.{EndsAtOpening}
 use Rattle.tx_session.specs.Playing.{HasPlayed, IsCutOff, IsEnd, IsClosed, IsClosedInPart, IsServed, IsLine}
 use Rattle.tx_session.proofs.Lining.{long_unread}
@@ -39,47 +41,50 @@ run_of rises words statuses.InputFault before after done cut = done (λ e. cc)
 run_of rises words statuses.NoMemory before after done cut = done (λ e. cc)
 run_of rises words statuses.ScriptLong before after done cut = done (λ e. cc)
 
--- no file was opened
+-- nothing was opened
 abbrev pub IsUnopened : Outcome → Type 0
-IsUnopened o = (all : Opened) → o ≢ opened all
+IsUnopened o = (all : Opened) → (o ≢ opened all) × (o ≢ generated all)
 
-module _ (before after : Stored) (loaded : KeepsFiles before after) (told : Option (List ℕ)) where
-  whole_line : (o : Outcome) → IsUnopened o → IsWhole o before after told [] told (status_of o) (text_of o)
+module _ (before after : Stored) (old new : ℕ) (loaded : KeepsFiles before after) (told : Option (List ℕ)) where
+  whole_line : (o : Outcome) → IsUnopened o → IsWhole o before after old new told [] told (status_of o)
+      (text_of o)
   whole_line faulty_words u = (refl, refl, refl, refl, loaded)
   whole_line (missing file) u = (refl, refl, refl, refl, loaded)
   whole_line (too_long file) u = (refl, refl, refl, refl, loaded)
   whole_line (no_tree file fault) u = (refl, refl, refl, refl, loaded)
   whole_line (store_fault file) u = (refl, refl, refl, refl, loaded)
   whole_line no_memory u = (refl, refl, refl, refl, loaded)
-  whole_line (opened all) u = absurd (u all refl)
+  whole_line (opened all) u = absurd ((u all).0 refl)
+  whole_line (generated all) u = absurd ((u all).1 refl)
 
   line_being : (rises : Rises) (o : Outcome)
       → IsCaused rises.misses rises.longs rises.store_faults o → IsUnopened o
-      → IsBeingWritten rises o before after told told [] (text_of o)
+      → IsBeingWritten rises o before after old new told told [] (text_of o)
   line_being rises faulty_words c u = (refl, refl, refl, loaded, c)
   line_being rises (missing file) c u = (refl, refl, refl, loaded, c)
   line_being rises (too_long file) c u = (refl, refl, refl, loaded, c)
   line_being rises (no_tree file fault) c u = (refl, refl, refl, loaded, c)
   line_being rises (store_fault file) c u = (refl, refl, refl, loaded, c)
   line_being rises no_memory c u = (refl, refl, refl, loaded, c)
-  line_being rises (opened all) c u = absurd (u all refl)
+  line_being rises (opened all) c u = absurd ((u all).0 refl)
+  line_being rises (generated all) c u = absurd ((u all).1 refl)
 
 nothing_before : (before after : Option (List ℕ)) (part : List ℕ) → AppendsPart part before after
     → AppendsPart part (append_known before []) after
 nothing_before before after part p = subst (λ b. AppendsPart part b after) (sym (append_known-nil before)) p
 
--- the line of an outcome that opened no file
-pub line_run : (rises : Rises) (words : List (List ℕ)) (stored later : Stored) (told : Option (List ℕ)) (o : Outcome)
-    (status : Status) (before after : Option (List ℕ)) → KeepsFiles stored later
+-- the line of an outcome that opened nothing
+pub line_run : (rises : Rises) (words : List (List ℕ)) (stored later : Stored) (old new : ℕ)
+    (told : Option (List ℕ)) (o : Outcome) (status : Status) (before after : Option (List ℕ)) → KeepsFiles stored later
     → IsCaused rises.misses rises.longs rises.store_faults o → IsUnopened o
     → ComesTo words stored.files o
     → (status ≢ statuses.OutputFault → (status ≡ status_of o) × (after ≡ append_known before (text_of o)))
     → (status ≡ statuses.OutputFault → AppendsPart (text_of o) before after)
-    → IsRun rises words status (record { store = stored; input = told; output = before })
-    (record { store = later; input = told; output = after })
-line_run rises words stored later told o status before after loaded caused u comes done cut =
-    run_of rises words status (record { store = stored; input = told; output = before })
-    (record { store = later; input = told; output = after })
+    → IsRun rises words status (record { store = stored; input = told; output = before; steps = old })
+    (record { store = later; input = told; output = after; steps = new })
+line_run rises words stored later old new told o status before after loaded caused u comes done cut =
+    run_of rises words status (record { store = stored; input = told; output = before; steps = old })
+    (record { store = later; input = told; output = after; steps = new })
     (λ n. let d = done n in
     record {
       outcome = o;
@@ -87,8 +92,8 @@ line_run rises words stored later told o status before after loaded caused u com
       text = text_of o;
       comes = comes;
       caused = caused;
-      whole = subst (λ s. IsWhole o stored later told [] told s (text_of o)) (sym d.0)
-          (whole_line stored later loaded told o u);
+      whole = subst (λ s. IsWhole o stored later old new told [] told s (text_of o)) (sym d.0)
+          (whole_line stored later old new loaded told o u);
       written = d.1;
     })
     (λ e. record {
@@ -96,7 +101,7 @@ line_run rises words stored later told o status before after loaded caused u com
       done = [];
       part = text_of o;
       comes = comes;
-      being = line_being stored later loaded told rises o caused u;
+      being = line_being stored later old new loaded told rises o caused u;
       cut =
           nothing_before before after (text_of o) (cut e);
     })
@@ -157,7 +162,7 @@ end_played statuses.InputFault start last told rest before after n e = e
 end_played statuses.NoMemory start last told rest before after n e = e
 end_played statuses.ScriptLong start last told rest before after n e = e
 
-served_closed : (failed : Type 0) (status : Status) (start last : World) (told rest before after : Option (List ℕ))
+pub served_closed : (failed : Type 0) (status : Status) (start last : World) (told rest before after : Option (List ℕ))
     → status ≢ statuses.OutputFault → IsServed failed status start last told rest before after
     → IsClosed start last told rest status before after
 served_closed failed statuses.OutputFault start last told rest before after n e = absurd (n refl)
@@ -171,23 +176,27 @@ served_closed failed statuses.NoMemory start last told rest before after n e = e
 served_closed failed statuses.ScriptLong start last told rest before after n e = e
 
 -- the run of a file that was opened
-module _ (rises : Rises) (words : List (List ℕ)) (stored first : Stored) (last : World) (told rest : Option (List ℕ))
-    (all : Opened) (before after : Option (List ℕ)) (loaded : KeepsFiles stored first)
-    (comes : ComesTo words stored.files (opened all)) where
+module _ (rises : Rises) (words : List (List ℕ)) (stored first : Stored) (old steps : ℕ) (last : World)
+    (told rest : Option (List ℕ)) (all : Opened) (before after : Option (List ℕ)) (loaded : KeepsFiles stored first)
+    (within : steps ≤ old + opening_cost all) (comes : ComesTo words stored.files (opened all)) where
   abbrev beginning : World
-  beginning = record { session = start_of all; store = first }
+  beginning = start_with all first steps
+
+  abbrev outside : Outside
+  outside = record { store = stored; input = told; output = before; steps = old }
+
+  abbrev behind : Outside
+  behind = record { store = last.store; input = rest; output = after; steps = last.steps }
 
   cut_run : IsCutOff beginning last told before after ⊎ IsClosedInPart rises.input_faults beginning last told rest
-      before after
-      → IsCutShort rises words (record { store = stored; input = told; output = before })
-      (record { store = last.store; input = rest; output = after })
+      before after → IsCutShort rises words outside behind
   cut_run (inl c) =
       record {
         outcome = opened all;
         done = c.done;
         part = c.reply;
         comes = comes;
-        being = (c.script, first, last, loaded, c.tells, refl, inl c.behind);
+        being = (c.script, first, steps, last, loaded, within, c.tells, refl, refl, inl c.behind);
         cut = c.part;
       }
   cut_run (inr c) =
@@ -199,9 +208,12 @@ module _ (rises : Rises) (words : List (List ℕ)) (stored first : Stored) (last
         being = (
           c.played.script,
           first,
+          steps,
           last,
           loaded,
+          within,
           c.played.tells,
+          refl,
           refl,
           inr (c.status, c.played.marks, c.played.played, refl, c.caused),
         );
@@ -209,11 +221,9 @@ module _ (rises : Rises) (words : List (List ℕ)) (stored first : Stored) (last
       }
 
   pub opened_run : (status : Status) → IsServed rises.input_faults status beginning last told rest before after
-      → IsRun rises words status (record { store = stored; input = told; output = before })
-      (record { store = last.store; input = rest; output = after })
+      → IsRun rises words status outside behind
   opened_run status s =
-      run_of rises words status (record { store = stored; input = told; output = before })
-      (record { store = last.store; input = rest; output = after })
+      run_of rises words status outside behind
       (λ n. let c = served_closed rises.input_faults status beginning last told rest before after n s in
       record {
         outcome = opened all;
@@ -222,39 +232,68 @@ module _ (rises : Rises) (words : List (List ℕ)) (stored first : Stored) (last
         comes = comes;
         caused =
             tt;
-        whole = (c.script, c.replies, first, last, loaded, c.tells, c.played, refl, refl);
+        whole = (c.script, c.replies, first, steps, last, loaded, within, c.tells, c.played, refl, refl, refl);
         written = c.written;
       })
       (λ e. cut_run (subst (λ st. IsServed rises.input_faults st beginning last told rest before after) e s))
 
--- the line that says why no file was opened
-module _ (rises : Rises) (words : List (List ℕ)) (stored later : Stored) (o : Outcome) (status : Status)
+-- the same, or memory ran out before its session began
+module _ (rises : Rises) (words : List (List ℕ)) (stored first : Stored) (files : Option Files) (faults old mid new : ℕ)
+    (told rest : Option (List ℕ)) (all : Opened) (status : Status) (before after : Option (List ℕ))
+    (loaded : KeepsFiles stored first) (within : mid ≤ old + nodes_in all.buffers)
+    (comes : ComesTo words stored.files (opened all)) where
+  abbrev later : Stored
+  later = record { files = files; faults = faults }
+
+  abbrev IsThis : Stored → Option (List ℕ) → Type 0
+  IsThis store input =
+      IsRun rises words status (record { store = stored; input = told; output = before; steps = old })
+      (record { store = store; input = input; output = after; steps = new })
+
+  pub whole_run : ((later ≡ first) × (rest ≡ told) × IsLine no_memory status before after)
+      ⊎ ((begun : ℕ) × (last : Whole) × (begun ≤ mid + made all.buffers)
+      × IsServed rises.input_faults status (start_with all first begun) (world last files faults new) told rest before
+      after) → IsThis later rest
+  whole_run (inl l) =
+      subst (λ s. IsThis s rest) (sym l.0)
+      (subst (λ r. IsThis first r) (sym l.1)
+      (line_run rises words stored first old new told no_memory status before after loaded tt
+      (λ all. ((λ e. cc), (λ e. cc))) tt l.2.done l.2.cut))
+  whole_run (inr s) =
+      opened_run rises words stored first old s.0 (world s.1 files faults new) told rest all before after loaded
+      (omega (arith, within, s.2)) comes status s.3
+
+-- the line that says why nothing was opened
+module _ (rises : Rises) (words : List (List ℕ)) (stored later : Stored) (old new : ℕ) (o : Outcome) (status : Status)
     (before after : Option (List ℕ)) (loaded : KeepsFiles stored later)
     (caused : IsCaused rises.misses rises.longs rises.store_faults o) (u : IsUnopened o)
     (comes : ComesTo words stored.files o) (line : IsLine o status before after ⊎ IsLine no_memory status before after)
   where
     pub reported_run : (told : Option (List ℕ))
-        → IsRun rises words status (record { store = stored; input = told; output = before })
-        (record { store = later; input = told; output = after })
+        → IsRun rises words status (record { store = stored; input = told; output = before; steps = old })
+        (record { store = later; input = told; output = after; steps = new })
     reported_run told =
         elim line [
-          | inl l ↦ line_run rises words stored later told o status before after loaded caused u comes l.done l.cut
-          | inr l ↦ line_run rises words stored later told no_memory status before after loaded tt (λ all e. cc) tt
-              l.done l.cut
+          | inl l ↦ line_run rises words stored later old new told o status before after loaded caused u comes l.done
+              l.cut
+          | inr l ↦ line_run rises words stored later old new told no_memory status before after loaded tt
+              (λ all. ((λ e. cc), (λ e. cc))) tt l.done l.cut
         ]
 
     pub reported_status : status ≢ statuses.OutputFault → (status ≡ status_of o) ⊎ (status ≡ statuses.NoMemory)
     reported_status m = elim line [ inl l ↦ inl (l.done m).0 | inr l ↦ inr (l.done m).0 ]
 
 -- what became of the words, and why
-unopened : (r : Opening) → ((all : Opened) → r ≡ openings.Opened all → ⊥) → IsUnopened (outcome_of r)
-unopened openings.FaultyWords n all e = cc
-unopened (openings.Missing f) n all e = cc
-unopened (openings.TooLong f) n all e = cc
-unopened (openings.NoTree f c) n all e = cc
-unopened (openings.StoreFault f) n all e = cc
-unopened openings.NoMemory n all e = cc
-unopened (openings.Opened found) n all e = n found refl
+unopened : (r : Opening) → ((all : Opened) → r ≡ openings.Opened all → ⊥)
+    → ((all : Opened) → r ≡ openings.Generated all → ⊥) → IsUnopened (outcome_of r)
+unopened openings.FaultyWords n m all = ((λ e. cc), (λ e. cc))
+unopened (openings.Missing f) n m all = ((λ e. cc), (λ e. cc))
+unopened (openings.TooLong f) n m all = ((λ e. cc), (λ e. cc))
+unopened (openings.NoTree f c) n m all = ((λ e. cc), (λ e. cc))
+unopened (openings.StoreFault f) n m all = ((λ e. cc), (λ e. cc))
+unopened openings.NoMemory n m all = ((λ e. cc), (λ e. cc))
+unopened (openings.Opened found) n m all = absurd (n found refl)
+unopened (openings.Generated found) n m all = absurd (m found refl)
 
 worded : (r : Opening) → r ≢ openings.FaultyWords → outcome_of r ≢ faulty_words
 worded openings.FaultyWords n e = n refl
@@ -264,8 +303,9 @@ worded (openings.NoTree f c) n e = cc
 worded (openings.StoreFault f) n e = cc
 worded openings.NoMemory n e = cc
 worded (openings.Opened all) n e = cc
+worded (openings.Generated all) n e = cc
 
--- an outcome that opened no file, with a status
+-- an outcome that opened nothing, with a status
 abbrev pub Fits : Outcome → Status → Type 0
 Fits o status = (status ≡ status_of o) ⊎ (status ≡ statuses.NoMemory)
 
@@ -277,6 +317,7 @@ words_status (no_tree f c) n e = cc
 words_status (store_fault f) n e = cc
 words_status no_memory n e = cc
 words_status (opened all) n e = cc
+words_status (generated all) n e = cc
 
 early_status : (o : Outcome) → (status_of o ≡ statuses.InputFault → ⊥) × (status_of o ≡ statuses.ScriptLong → ⊥)
     × (status_of o ≡ statuses.OutputFault → ⊥)
@@ -287,6 +328,7 @@ early_status (no_tree f c) = ((λ e. cc), (λ e. cc), (λ e. cc))
 early_status (store_fault f) = ((λ e. cc), (λ e. cc), (λ e. cc))
 early_status no_memory = ((λ e. cc), (λ e. cc), (λ e. cc))
 early_status (opened all) = ((λ e. cc), (λ e. cc), (λ e. cc))
+early_status (generated all) = ((λ e. cc), (λ e. cc), (λ e. cc))
 
 refused_of : (words : List (List ℕ)) (files : Option Files) (o : Outcome) (long : Type 0) (h : EndsOf words files o)
     → (long ⊎ ((bytes : List ℕ) × Holds files h.ends.file.word bytes × SpellsNoTree (form_of h.ends.file.word) bytes))
@@ -300,7 +342,7 @@ refused_of words files o long h why =
       buffers = ends.buffers;
       file = ends.file;
       behind = ends.behind;
-      asked = subst (Ask words h.width h.height) ends.parts h.asked;
+      asked = subst (λ names. Ask words h.width h.height (AllFiles names)) ends.parts h.asked;
       read = ends.read;
       refused = why;
     }
@@ -317,6 +359,7 @@ refused_outcome words files (missing f) long h l e = cc
 refused_outcome words files (store_fault f) long h l e = cc
 refused_outcome words files no_memory long h l e = cc
 refused_outcome words files (opened all) long h l e = cc
+refused_outcome words files (generated all) long h l e = cc
 
 -- a served session, by its status
 unread_told : (told : Option (List ℕ)) (script : List ℕ) → Tells told script → (CanBeRead script → ⊥)
@@ -368,6 +411,7 @@ module _ (misses longs faults : Type 0) where
   caused_of (store_fault word) m l f = f word refl
   caused_of no_memory m l f = tt
   caused_of (opened all) m l f = tt
+  caused_of (generated all) m l f = tt
 
   missed : (o : Outcome) → IsCaused misses longs faults o → status_of o ≡ statuses.Missing → misses
   missed faulty_words c e = cc
@@ -377,6 +421,7 @@ module _ (misses longs faults : Type 0) where
   missed (store_fault word) c e = cc
   missed no_memory c e = cc
   missed (opened all) c e = cc
+  missed (generated all) c e = cc
 
   failed_store : (o : Outcome) → IsCaused misses longs faults o → status_of o ≡ statuses.StoreFault → faults
   failed_store faulty_words c e = cc
@@ -386,11 +431,12 @@ module _ (misses longs faults : Type 0) where
   failed_store (store_fault word) c e = c
   failed_store no_memory c e = cc
   failed_store (opened all) c e = cc
+  failed_store (generated all) c e = cc
 
   long_file : (o : Outcome) → IsCaused misses longs faults o → (word : List ℕ) → o ≡ too_long word → longs
   long_file o c word e = subst (IsCaused misses longs faults) e c
 
--- what became of the words where no file was opened
+-- what became of the words where nothing was opened
 pub record Unopened (words : List (List ℕ)) (files : Option Files) (r : Opening) (status : Status)
     (misses longs faults : Type 0) : Type 0 where
   pub not_words : status ≡ statuses.Words → ⊥
@@ -402,6 +448,8 @@ pub record Unopened (words : List (List ℕ)) (files : Option Files) (r : Openin
   pub words_only : AreFaulty words
       → (status ≡ statuses.Words) ⊎ (status ≡ statuses.NoMemory) ⊎ (status ≡ statuses.OutputFault)
   pub complete : (r ≡ openings.NoMemory) ⊎ ((all : Opened) × (r ≡ openings.Opened all))
+      → (status ≡ statuses.OutputFault → ⊥) → status ≡ statuses.NoMemory
+  pub complete_generated : (r ≡ openings.NoMemory) ⊎ ((all : Opened) × (r ≡ openings.Generated all))
       → (status ≡ statuses.OutputFault → ⊥) → status ≡ statuses.NoMemory
 
 is_output_fault : (s : Status) → (s ≡ statuses.OutputFault) ⊎ (s ≢ statuses.OutputFault)
@@ -417,7 +465,7 @@ is_output_fault statuses.ScriptLong = inr (λ e. cc)
 
 -- where a file decided, the words ask for files
 asking : (words : List (List ℕ)) (files : Option Files) (o : Outcome) → EndsOf words files o → AreFaulty words → ⊥
-asking words files o h faulty = faulty h.width h.height h.names h.asked
+asking words files o h faulty = faulty h.width h.height (AllFiles h.names) h.asked
 
 nothing_asked : (words : List (List ℕ)) (files : Option Files) (o : Outcome) → ComesTo words files o → IsUnopened o
     → o ≢ faulty_words → AreFaulty words → status_of o ≡ statuses.NoMemory
@@ -427,27 +475,29 @@ nothing_asked words files (too_long word) h u n faulty = absurd (asking words fi
 nothing_asked words files (no_tree word c) h u n faulty = absurd (asking words files (no_tree word c) h faulty)
 nothing_asked words files (store_fault word) h u n faulty = absurd (asking words files (store_fault word) h faulty)
 nothing_asked words files no_memory h u n faulty = refl
-nothing_asked words files (opened all) h u n faulty = absurd (u all refl)
+nothing_asked words files (opened all) h u n faulty = absurd ((u all).0 refl)
+nothing_asked words files (generated all) h u n faulty = absurd ((u all).1 refl)
 
-module _ (words : List (List ℕ)) (stored later : Stored) (r : Opening) (status : Status)
+module _ (words : List (List ℕ)) (stored later : Stored) (old new : ℕ) (r : Opening) (status : Status)
     (before after : Option (List ℕ)) (misses longs faults failed : Type 0) (loaded : KeepsFiles stored later)
     (comes : ComesTo words stored.files (outcome_of r)) (caused : IsCaused misses longs faults (outcome_of r))
     (n : r ≢ openings.FaultyWords) (u : (all : Opened) → r ≡ openings.Opened all → ⊥)
+    (m : (all : Opened) → r ≡ openings.Generated all → ⊥)
     (line : IsLine (outcome_of r) status before after ⊎ IsLine no_memory status before after) where
   abbrev rises : Rises
   rises = record { misses = misses; longs = longs; store_faults = faults; input_faults = failed }
 
   pub unopened_run : (told : Option (List ℕ))
-      → IsRun rises words status (record { store = stored; input = told; output = before })
-      (record { store = later; input = told; output = after })
+      → IsRun rises words status (record { store = stored; input = told; output = before; steps = old })
+      (record { store = later; input = told; output = after; steps = new })
   unopened_run told =
-      reported_run rises words stored later (outcome_of r) status before after loaded caused (unopened r u) comes line
-      told
+      reported_run rises words stored later old new (outcome_of r) status before after loaded caused (unopened r u m)
+      comes line told
 
   fits : status ≢ statuses.OutputFault → Fits (outcome_of r) status
   fits d =
-      reported_status rises words stored later (outcome_of r) status before after loaded caused (unopened r u) comes
-      line d
+      reported_status rises words stored later old new (outcome_of r) status before after loaded caused (unopened r u m)
+      comes line d
 
   by_outcome : (s : Status) → status ≡ s → s ≢ statuses.OutputFault → s ≢ statuses.NoMemory
       → status_of (outcome_of r) ≡ s
@@ -455,12 +505,17 @@ module _ (words : List (List ℕ)) (stored later : Stored) (r : Opening) (status
 
   -- the words ask for nothing, or memory ran out before they were read
   none_asked : AreFaulty words → status_of (outcome_of r) ≡ statuses.NoMemory
-  none_asked faulty = nothing_asked words stored.files (outcome_of r) comes (unopened r u) (worded r n) faulty
+  none_asked faulty = nothing_asked words stored.files (outcome_of r) comes (unopened r u m) (worded r n) faulty
 
   opened_not : (r ≡ openings.NoMemory) ⊎ ((all : Opened) × (r ≡ openings.Opened all))
       → status_of (outcome_of r) ≡ statuses.NoMemory
   opened_not (inl e) = ap (λ o. status_of (outcome_of o)) e
   opened_not (inr e) = absurd (u e.0 e.1)
+
+  generated_not : (r ≡ openings.NoMemory) ⊎ ((all : Opened) × (r ≡ openings.Generated all))
+      → status_of (outcome_of r) ≡ statuses.NoMemory
+  generated_not (inl e) = ap (λ o. status_of (outcome_of o)) e
+  generated_not (inr e) = absurd (m e.0 e.1)
 
   wanting : status_of (outcome_of r) ≡ statuses.NoMemory → status ≢ statuses.OutputFault
       → status ≡ statuses.NoMemory
@@ -484,6 +539,7 @@ module _ (words : List (List ℕ)) (stored later : Stored) (r : Opening) (status
           | inr d ↦ inr (inl (wanting (none_asked faulty) d))
         ];
         complete = λ found d. wanting (opened_not found) d;
+        complete_generated = λ found d. wanting (generated_not found) d;
       }
 
 -- a session that was served has opened its file
@@ -498,3 +554,7 @@ served_unread failed statuses.InputFault start last told rest before after h e =
 served_unread failed statuses.OutputFault start last told rest before after h e = e
 served_unread failed statuses.NoMemory start last told rest before after h e = e
 served_unread failed statuses.ScriptLong start last told rest before after h e = e
+
+-- a status of opening, where it is none
+pub opens_not : (status other : Status) → (EndsAtOpening status → ⊥) → status ≡ other → EndsAtOpening other → ⊥
+opens_not status other n e = subst (λ s. EndsAtOpening s → ⊥) e n

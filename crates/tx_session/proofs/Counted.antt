@@ -7,11 +7,11 @@ use Rattle.tx_session.specs.Replies.{Reading, nothing, too_long, unread, command
 use Rattle.tx_session.specs.declared.status.Status.{Status}
 use Rattle.tx_session.specs.declared.status.Status.TheVariants as statuses
 use Rattle.tx_open.specs.Outcomes.{Outcome, faulty_words, missing, too_long as file_too_long, no_tree, store_fault}
-use Rattle.tx_open.specs.Outcomes.{no_memory, opened}
-use Rattle.tx_session.specs.Runs.{IsPlayed, IsWhole, start_of}
+use Rattle.tx_open.specs.Outcomes.{no_memory, opened, generated}
+use Rattle.tx_session.specs.Runs.{IsPlayed, IsPlayedAlone, IsWhole, start_with, generated_script, no_files}
 use Rattle.tx_session.specs.Scripts.{Answered, before_quit}
-use Rattle.tx_session.specs.Worlds.{World, Stored, Mark, plain, lacking, unsaved, told, Stores, RoseBy}
-use Rattle.tx_session.specs.Worlds.{unsaved_in}
+use Rattle.tx_session.specs.Worlds.{SeenWorld, World, seen_in, Stored, Mark, plain, lacking, unsaved, told}
+use Rattle.tx_session.specs.Worlds.{Stores, RoseBy, unsaved_in}
 use Rattle.tx_cmd.specs.declared.command.Command.{Command}
 
 -- the count after a line with this mark
@@ -22,11 +22,14 @@ Counts mark before after = NeverFalls before after
 same_count : (a b : World) → b ≡ a → NeverFalls a.store.faults b.store.faults
 same_count a b e = subst (λ w. NeverFalls a.store.faults w.store.faults) (sym e) (never_falls_refl a.store.faults)
 
+same_store : (a b : Stored) → b ≡ a → NeverFalls a.faults b.faults
+same_store a b e = subst (λ s. NeverFalls a.faults s.faults) (sym e) (never_falls_refl a.faults)
+
 stores_count : (o : Option (List ℕ × List ℕ)) (a b : Stored) → Stores o a b → NeverFalls a.faults b.faults
 stores_count None a b e = subst (λ s. NeverFalls a.faults s.faults) (sym e) (never_falls_refl a.faults)
 stores_count (Some file) a b h = h.1
 
-reply_count : (a b : World) (it : Command) (mark : Mark) (reply : List ℕ) → IsReply a it mark b reply
+reply_count : (a b : SeenWorld) (it : Command) (mark : Mark) (reply : List ℕ) → IsReply a it mark b reply
     → Counts mark a.store.faults b.store.faults
 reply_count a b it plain reply h = stores_count _ a.store b.store h.stored
 reply_count a b it lacking reply h = h.2.1
@@ -40,17 +43,17 @@ line_count a b nothing plain reply h = same_count a b h.1
 line_count a b nothing lacking reply h = same_count a b h.1
 line_count a b nothing unsaved reply h = let other = h.0 in absurd cc
 line_count a b nothing (told n) reply h = same_count a b h.1
-line_count a b (too_long n) plain reply h = same_count a b h.0
-line_count a b (too_long n) lacking reply h = same_count a b h.0
-line_count a b (too_long n) unsaved reply h = absurd h
-line_count a b (too_long n) (told m) reply h = absurd h
-line_count a b unread plain reply h = same_count a b h.1
-line_count a b unread lacking reply h = same_count a b h.1
+line_count a b (too_long n) plain reply h = same_store a.store b.store h.0.0.store
+line_count a b (too_long n) lacking reply h = same_store a.store b.store h.0.0.store
+line_count a b (too_long n) unsaved reply h = absurd h.0
+line_count a b (too_long n) (told m) reply h = absurd h.0
+line_count a b unread plain reply h = same_store a.store b.store h.1.store
+line_count a b unread lacking reply h = same_store a.store b.store h.1.store
 line_count a b unread unsaved reply h = let other = h.0 in absurd cc
-line_count a b unread (told n) reply h = same_count a b h.1
-line_count a b (command c) mark reply h = reply_count a b c mark reply h.1
-line_count a b (faulty f) plain reply h = same_count a b h.0
-line_count a b (faulty f) lacking reply h = same_count a b h.0
+line_count a b unread (told n) reply h = same_store a.store b.store h.1.store
+line_count a b (command c) mark reply h = reply_count (seen_in a) (seen_in b) c mark reply h.1.replied
+line_count a b (faulty f) plain reply h = same_store a.store b.store h.0.store
+line_count a b (faulty f) lacking reply h = same_store a.store b.store h.0.store
 line_count a b (faulty f) unsaved reply h = absurd h
 line_count a b (faulty f) (told n) reply h = absurd h
 
@@ -116,17 +119,30 @@ unopened_counted : (v x : Stored) (marks : List Mark) → marks ≡ [] → Never
 unopened_counted v x marks e never =
     subst (λ ms. RoseBy (unsaved_in ms) v.faults x.faults) (sym e) (inl (omega (arith, never.kept)))
 
-pub whole_counted : (o : Outcome) (v x : Stored) (input r : Option (List ℕ)) (marks : List Mark) (s : Status)
-    (a : List ℕ) → IsWhole o v x input marks r s a → RoseBy (unsaved_in marks) v.faults x.faults
-whole_counted (opened all) v x input r marks s a h =
-    let first : World = record { session = start_of all; store = h.2 } in
-    let played : RoseBy (unsaved_in marks) h.2.faults h.3.store.faults =
-    played_counted first h.3 h.0 marks r s h.1 h.6 in
-    subst (λ z. RoseBy (unsaved_in marks) v.faults z.faults) h.7
-    (no_more (unsaved_in marks) v.faults h.2.faults h.3.store.faults h.4.1 played)
-whole_counted faulty_words v x input r marks s a h = unopened_counted v x marks h.0 h.4.1
-whole_counted (missing f) v x input r marks s a h = unopened_counted v x marks h.0 h.4.1
-whole_counted (file_too_long f) v x input r marks s a h = unopened_counted v x marks h.0 h.4.1
-whole_counted (no_tree f c) v x input r marks s a h = unopened_counted v x marks h.0 h.4.1
-whole_counted (store_fault f) v x input r marks s a h = unopened_counted v x marks h.0 h.4.1
-whole_counted no_memory v x input r marks s a h = unopened_counted v x marks h.0 h.4.1
+none_counted : (n a : ℕ) → RoseBy n 0 0 → n + a ≤ a
+none_counted n a (inl le) = omega (arith, le)
+none_counted n a (inr e) = absurd (omega (arith, e))
+
+pub whole_counted : (o : Outcome) (v x : Stored) (old new : ℕ) (input r : Option (List ℕ)) (marks : List Mark)
+    (s : Status) (a : List ℕ) → IsWhole o v x old new input marks r s a
+    → RoseBy (unsaved_in marks) v.faults x.faults
+whole_counted (opened all) v x old new input r marks s a h =
+    let first : World = start_with all h.2 h.3 in
+    let played : RoseBy (unsaved_in marks) h.2.faults h.4.store.faults =
+    played_counted first h.4 h.0 marks r s h.1 h.8 in
+    subst (λ z. RoseBy (unsaved_in marks) v.faults z.faults) h.9
+    (no_more (unsaved_in marks) v.faults h.2.faults h.4.store.faults h.5.1 played)
+whole_counted (generated all) v x old new input r marks s a h =
+    let p : IsPlayedAlone all old new marks s h.0 = h.1 in
+    let played : RoseBy (unsaved_in marks) 0 p.last.store.faults =
+    played_counted (start_with all no_files p.steps) p.last generated_script marks (Some p.left) s h.0 p.played in
+    let none : RoseBy (unsaved_in marks) 0 0 =
+    subst (λ (z : Stored). RoseBy (unsaved_in marks) 0 z.faults) p.kept played in
+    subst (λ (z : Stored). RoseBy (unsaved_in marks) v.faults z.faults) (sym h.4)
+    (inl (none_counted (unsaved_in marks) v.faults none))
+whole_counted faulty_words v x old new input r marks s a h = unopened_counted v x marks h.0 h.4.1
+whole_counted (missing f) v x old new input r marks s a h = unopened_counted v x marks h.0 h.4.1
+whole_counted (file_too_long f) v x old new input r marks s a h = unopened_counted v x marks h.0 h.4.1
+whole_counted (no_tree f c) v x old new input r marks s a h = unopened_counted v x marks h.0 h.4.1
+whole_counted (store_fault f) v x old new input r marks s a h = unopened_counted v x marks h.0 h.4.1
+whole_counted no_memory v x old new input r marks s a h = unopened_counted v x marks h.0 h.4.1

@@ -7,13 +7,14 @@ use Rattle.tx_cmd.proofs.Once.{one_command, one_cause, no_cause}
 use Rattle.tx_session.specs.declared.status.Status.{Status}
 use Rattle.tx_session.specs.declared.status.Status.TheVariants as statuses
 use Rattle.tx_session.specs.States.{IsAnswer}
-use Rattle.tx_session.specs.Worlds.{Seen, World, Stored, Mark, plain, lacking, unsaved, told}
+use Rattle.tx_session.specs.Worlds.{Seen, SeenWorld, World, seen_in, Stored, Mark, plain, lacking, unsaved, told}
 use Rattle.tx_session.specs.Replies.{fresh_after, Reading, nothing, too_long, unread, command, faulty, wanting_reply}
 use Rattle.tx_session.specs.Replies.{IsRead, IsReply, IsReplyTo, IsRefusal, IsLineReply}
 use Rattle.tx_session.specs.Scripts.{Answered, before_quit, command_line}
 use Rattle.tx_open.specs.Outcomes.{Outcome, faulty_words, missing, too_long as file_too_long, no_tree, store_fault}
-use Rattle.tx_open.specs.Outcomes.{no_memory, opened, ComesTo, IsDecided}
-use Rattle.tx_session.specs.Runs.{IsWhole, IsPlayed, IsFinal, own_line, start_of}
+use Rattle.tx_open.specs.Outcomes.{no_memory, opened, generated, ComesTo, IsDecided}
+use Rattle.tx_session.specs.Runs.{IsWhole, IsPlayed, IsPlayedAlone, IsFinal, own_line, start_with, generated_script}
+use Rattle.tx_session.specs.Runs.{no_files}
 use Rattle.tx_session.proofs.Answering.{OneView, one_answer}
 use Rattle.tx_session.proofs.Turning.{same_seen}
 use Rattle.tx_session.proofs.Lining.{script_lines_once, long_unread}
@@ -48,9 +49,9 @@ abbrev made_fresh : Seen → Seen
 made_fresh x = record x { fresh = true }
 
 -- what the answer depends on
-module _ (law : OneView) (v w : World) (same : v.session ≡ w.session) where
-  one_reply : (it : Command) (mark : Mark) (s t : World) (a b : List ℕ) → IsReply v it mark s a → IsReply w it mark t b
-      → (s.session ≡ t.session) × (a ≡ b)
+module _ (law : OneView) (v w : SeenWorld) (same : v.session ≡ w.session) where
+  pub one_reply : (it : Command) (mark : Mark) (s t : SeenWorld) (a b : List ℕ) → IsReply v it mark s a
+      → IsReply w it mark t b → (s.session ≡ t.session) × (a ≡ b)
   one_reply it plain s t a b h k =
       let again : IsAnswer v.session.width v.session.height v.session.state it t.session.state b =
       subst (λ x. IsAnswer x.width x.height x.state it t.session.state b) (sym same) k.answer in
@@ -66,30 +67,40 @@ module _ (law : OneView) (v w : World) (same : v.session ≡ w.session) where
   one_reply it (told n) s t a b h k =
       (h.session ∙ ap made_fresh same ∙ sym k.session, h.said ∙ sym k.said)
 
+-- as it is seen
+abbrev seen_of : World → Seen
+seen_of w = w.session.seen
+
+both_before : (v w s t : World) → seen_of v ≡ seen_of w → s.session ≡ v.session → t.session ≡ w.session
+    → seen_of s ≡ seen_of t
+both_before v w s t same e f = ap (λ x. x.seen) e ∙ same ∙ sym (ap (λ x. x.seen) f)
+
+module _ (law : OneView) (v w : World) (same : seen_of v ≡ seen_of w) where
   one_refusal : (text : List ℕ) (mark : Mark) (s t : World) (a b : List ℕ) → IsRefusal v text mark s a
-      → IsRefusal w text mark t b → (s.session ≡ t.session) × (a ≡ b)
-  one_refusal text plain s t a b h k = (ap (λ x. x.session) h.0 ∙ same ∙ sym (ap (λ x. x.session) k.0), h.1 ∙ sym k.1)
-  one_refusal text lacking s t a b h k = (ap (λ x. x.session) h.0 ∙ same ∙ sym (ap (λ x. x.session) k.0), h.1 ∙ sym k.1)
+      → IsRefusal w text mark t b → (seen_of s ≡ seen_of t) × (a ≡ b)
+  one_refusal text plain s t a b h k = (both_before v w s t same h.0.session k.0.session, h.1 ∙ sym k.1)
+  one_refusal text lacking s t a b h k = (both_before v w s t same h.0.session k.0.session, h.1 ∙ sym k.1)
   one_refusal text unsaved s t a b h k = absurd h
   one_refusal text (told n) s t a b h k = absurd h
 
   one_reply_to : (reading : Reading) (mark : Mark) (s t : World) (a b : List ℕ) → IsReplyTo v reading mark s a
-      → IsReplyTo w reading mark t b → (s.session ≡ t.session) × (a ≡ b)
+      → IsReplyTo w reading mark t b → (seen_of s ≡ seen_of t) × (a ≡ b)
   one_reply_to nothing mark s t a b h k =
-      (ap (λ x. x.session) h.1 ∙ same ∙ sym (ap (λ x. x.session) k.1), h.2 ∙ sym k.2)
-  one_reply_to (too_long n) mark s t a b h k = one_refusal _ mark s t a b h k
-  one_reply_to unread mark s t a b h k = (ap (λ x. x.session) h.1 ∙ same ∙ sym (ap (λ x. x.session) k.1), h.2 ∙ sym k.2)
-  one_reply_to (command c) mark s t a b h k = one_reply c mark s t a b h.1 k.1
+      (both_before v w s t same (ap (λ x. x.session) h.1) (ap (λ x. x.session) k.1), h.2 ∙ sym k.2)
+  one_reply_to (too_long n) mark s t a b h k = one_refusal _ mark s t a b h.0 k.0
+  one_reply_to unread mark s t a b h k = (both_before v w s t same h.1.session k.1.session, h.2 ∙ sym k.2)
+  one_reply_to (command c) mark s t a b h k =
+      one_reply law (seen_in v) (seen_in w) same c mark (seen_in s) (seen_in t) a b h.1.replied k.1.replied
   one_reply_to (faulty f) mark s t a b h k = one_refusal _ mark s t a b h k
 
--- where memory ran out, the session has not changed, whatever the line is
+-- where memory ran out, what is seen of the session has not changed, whatever the line is
 lacked : (v : World) (reading : Reading) (next : World) (reply : List ℕ) → IsReplyTo v reading lacking next reply
-    → (next.session ≡ v.session) × (reply ≡ wanting_reply)
+    → (seen_of next ≡ seen_of v) × (reply ≡ wanting_reply)
 lacked v nothing next reply h = let other = h.0 in absurd cc
-lacked v (too_long n) next reply h = (ap (λ x. x.session) h.0, h.1)
-lacked v unread next reply h = (ap (λ x. x.session) h.1, h.2)
-lacked v (command c) next reply h = (h.1.1, h.1.3)
-lacked v (faulty f) next reply h = (ap (λ x. x.session) h.0, h.1)
+lacked v (too_long n) next reply h = (ap (λ x. x.seen) h.0.0.session, h.0.1)
+lacked v unread next reply h = (ap (λ x. x.seen) h.1.session, h.2)
+lacked v (command c) next reply h = let r = h.1.replied in (r.1, r.3)
+lacked v (faulty f) next reply h = (ap (λ x. x.seen) h.0.session, h.1)
 
 -- with another mark the line was read
 abbrev pub IsSomeMark : Mark → Type 0
@@ -104,16 +115,16 @@ was_read v unread mark next reply m h e = subst IsSomeMark h.0 m
 was_read v (command c) mark next reply m h e = cc
 was_read v (faulty f) mark next reply m h e = cc
 
-module _ (law : OneView) (v w : World) (same : v.session ≡ w.session) (text : List ℕ) where
+module _ (law : OneView) (v w : World) (same : seen_of v ≡ seen_of w) (text : List ℕ) where
   read_reply : (mark : Mark) (s t : World) (a b : List ℕ) → IsSomeMark mark → IsLineReply v text mark s a
-      → IsLineReply w text mark t b → (s.session ≡ t.session) × (a ≡ b)
+      → IsLineReply w text mark t b → (seen_of s ≡ seen_of t) × (a ≡ b)
   read_reply mark s t a b m h k =
       one_reply_to law v w same h.0 mark s t a b h.2
       (subst (λ r. IsReplyTo w r mark t b)
       (one_reading text k.0 h.0 (was_read w k.0 mark t b m k.2) (was_read v h.0 mark s a m h.2) k.1 h.1) k.2)
 
   pub one_line_reply : (mark : Mark) (s t : World) (a b : List ℕ) → IsLineReply v text mark s a
-      → IsLineReply w text mark t b → (s.session ≡ t.session) × (a ≡ b)
+      → IsLineReply w text mark t b → (seen_of s ≡ seen_of t) × (a ≡ b)
   one_line_reply lacking s t a b h k = let x = lacked v h.0 s a h.2 in let y = lacked w k.0 t b k.2 in
       (x.0 ∙ same ∙ sym y.0, x.1 ∙ sym y.1)
   one_line_reply plain s t a b h k = read_reply plain s t a b tt h k
@@ -122,10 +133,10 @@ module _ (law : OneView) (v w : World) (same : v.session ≡ w.session) (text : 
 
 -- lines with the same marks have the same replies
 pub answered_once : (law : OneView) (v w s t : World) (lines : List (List ℕ)) (marks : List Mark) (a b : List ℕ)
-    → v.session ≡ w.session → Answered v lines marks s a → Answered w lines marks t b
-    → (s.session ≡ t.session) × (a ≡ b)
+    → seen_of v ≡ seen_of w → Answered v lines marks s a → Answered w lines marks t b
+    → (seen_of s ≡ seen_of t) × (a ≡ b)
 answered_once law v w s t [] [] a b same h k =
-    (ap (λ x. x.session) h.0 ∙ same ∙ sym (ap (λ x. x.session) k.0), h.1 ∙ sym k.1)
+    (ap seen_of h.0 ∙ same ∙ sym (ap seen_of k.0), h.1 ∙ sym k.1)
 answered_once law v w s t [] (m ∷ marks) a b same h k = absurd h
 answered_once law v w s t (l ∷ lines) [] a b same h k = absurd h
 answered_once law v w s t (l ∷ lines) (m ∷ marks) a b same h k =
@@ -135,7 +146,7 @@ answered_once law v w s t (l ∷ lines) (m ∷ marks) a b same h k =
 
 played_once : (law : OneView) (v w x y : World) (script : List ℕ) (marks : List Mark) (r q : Option (List ℕ))
     (s t : Status)
-    (a b : List ℕ) → v.session ≡ w.session → IsFinal s → IsFinal t → IsPlayed v script marks r s x a
+    (a b : List ℕ) → seen_of v ≡ seen_of w → IsFinal s → IsFinal t → IsPlayed v script marks r s x a
     → IsPlayed w script marks q t y b → (s ≡ t) × (a ≡ b)
 played_once law v w x y script marks r q statuses.Ok statuses.Ok a b e f g h k =
     let same = script_lines_once script k.0 h.0 k.1 h.1 in (
@@ -173,41 +184,48 @@ played_once law v w x y script marks r q statuses.ScriptLong statuses.OutputFaul
 played_once law v w x y script marks r q statuses.ScriptLong statuses.NoMemory a b e f g h k = absurd g
 
 -- a run that ends with a final status had no fault of the store and no want of memory at opening
-pub decided : (o : Outcome) (before after : Stored) (input r : Option (List ℕ)) (marks : List Mark) (s : Status)
-    (a : List ℕ) → IsFinal s → IsWhole o before after input marks r s a → IsDecided o
-decided (store_fault f) before after input r marks s a fin w = absurd (subst IsFinal w.1 fin)
-decided no_memory before after input r marks s a fin w = absurd (subst IsFinal w.1 fin)
-decided faulty_words before after input r marks s a fin w = tt
-decided (missing f) before after input r marks s a fin w = tt
-decided (file_too_long f) before after input r marks s a fin w = tt
-decided (no_tree f c) before after input r marks s a fin w = tt
-decided (opened all) before after input r marks s a fin w = tt
+pub decided : (o : Outcome) (before after : Stored) (old new : ℕ) (input r : Option (List ℕ)) (marks : List Mark)
+    (s : Status) (a : List ℕ) → IsFinal s → IsWhole o before after old new input marks r s a → IsDecided o
+decided (store_fault f) before after old new input r marks s a fin w = absurd (subst IsFinal w.1 fin)
+decided no_memory before after old new input r marks s a fin w = absurd (subst IsFinal w.1 fin)
+decided faulty_words before after old new input r marks s a fin w = tt
+decided (missing f) before after old new input r marks s a fin w = tt
+decided (file_too_long f) before after old new input r marks s a fin w = tt
+decided (no_tree f c) before after old new input r marks s a fin w = tt
+decided (opened all) before after old new input r marks s a fin w = tt
+decided (generated all) before after old new input r marks s a fin w = tt
 
-module _ (law : OneView) (v w x y : Stored) (script : List ℕ) (marks : List Mark) (r q : Option (List ℕ)) (s t : Status)
-    (a b : List ℕ) (fs : IsFinal s) (ft : IsFinal t) where
-  same_whole : (o : Outcome) → IsWhole o v x (Some script) marks r s a → IsWhole o w y (Some script) marks q t b
+module _ (law : OneView) (v w x y : Stored) (i j k l : ℕ) (script : List ℕ) (marks : List Mark)
+    (r q : Option (List ℕ)) (s t : Status) (a b : List ℕ) (fs : IsFinal s) (ft : IsFinal t) where
+  same_whole : (o : Outcome) → IsWhole o v x i k (Some script) marks r s a → IsWhole o w y j l (Some script) marks q t b
       → (s ≡ t) × (a ≡ b)
-  same_whole (opened all) h k =
-      let first : World = record { session = start_of all; store = h.2 } in
-      let other : World = record { session = start_of all; store = k.2 } in
-      let same = played_once law first other h.3 k.3 script marks r q s t h.1 k.1 refl fs ft
-      (subst (λ z. IsPlayed first z marks r s h.3 h.1) (sym h.5) h.6)
-      (subst (λ z. IsPlayed other z marks q t k.3 k.1) (sym k.5) k.6) in
-      (same.0, h.8 ∙ (λ i. same.1 i ++ own_line (same.0 i)) ∙ sym k.8)
-  same_whole faulty_words h k = (h.1 ∙ sym k.1, h.2 ∙ sym k.2)
-  same_whole (missing f) h k = (h.1 ∙ sym k.1, h.2 ∙ sym k.2)
-  same_whole (file_too_long f) h k = (h.1 ∙ sym k.1, h.2 ∙ sym k.2)
-  same_whole (no_tree f c) h k = (h.1 ∙ sym k.1, h.2 ∙ sym k.2)
-  same_whole (store_fault f) h k = (h.1 ∙ sym k.1, h.2 ∙ sym k.2)
-  same_whole no_memory h k = (h.1 ∙ sym k.1, h.2 ∙ sym k.2)
+  same_whole (opened all) g h =
+      let first : World = start_with all g.2 g.3 in
+      let other : World = start_with all h.2 h.3 in
+      let same = played_once law first other g.4 h.4 script marks r q s t g.1 h.1 refl fs ft
+      (subst (λ z. IsPlayed first z marks r s g.4 g.1) (sym g.7) g.8)
+      (subst (λ z. IsPlayed other z marks q t h.4 h.1) (sym h.7) h.8) in
+      (same.0, g.11 ∙ (λ n. same.1 n ++ own_line (same.0 n)) ∙ sym h.11)
+  same_whole (generated all) g h =
+      let p : IsPlayedAlone all i k marks s g.0 = g.1 in
+      let m : IsPlayedAlone all j l marks t h.0 = h.1 in
+      let same = played_once law (start_with all no_files p.steps) (start_with all no_files m.steps) p.last m.last
+      generated_script marks (Some p.left) (Some m.left) s t g.0 h.0 refl fs ft p.played m.played in
+      (same.0, g.2 ∙ (λ n. same.1 n ++ own_line (same.0 n)) ∙ sym h.2)
+  same_whole faulty_words g h = (g.1 ∙ sym h.1, g.2 ∙ sym h.2)
+  same_whole (missing f) g h = (g.1 ∙ sym h.1, g.2 ∙ sym h.2)
+  same_whole (file_too_long f) g h = (g.1 ∙ sym h.1, g.2 ∙ sym h.2)
+  same_whole (no_tree f c) g h = (g.1 ∙ sym h.1, g.2 ∙ sym h.2)
+  same_whole (store_fault f) g h = (g.1 ∙ sym h.1, g.2 ∙ sym h.2)
+  same_whole no_memory g h = (g.1 ∙ sym h.1, g.2 ∙ sym h.2)
 
 pub one_run : (law : OneView) (opens : OneOutcome) (words : List (List ℕ)) (all : Files) (script : List ℕ)
-    (marks : List Mark) (o p : Outcome)
-    (v w x y : Stored) (r q : Option (List ℕ)) (s t : Status) (a b : List ℕ) → IsFinal s → IsFinal t
+    (marks : List Mark) (o p : Outcome) (v w x y : Stored) (i j k l : ℕ) (r q : Option (List ℕ)) (s t : Status)
+    (a b : List ℕ) → IsFinal s → IsFinal t
     → ComesTo words (Some all) o → ComesTo words (Some all) p
-    → IsWhole o v x (Some script) marks r s a → IsWhole p w y (Some script) marks q t b → (s ≡ t) × (a ≡ b)
-one_run law opens words all script marks o p v w x y r q s t a b fs ft ho hp h k =
-    let same = opens words all p o hp ho (decided p w y (Some script) q marks t b ft k)
-    (decided o v x (Some script) r marks s a fs h) in
-    same_whole law v w x y script marks r q s t a b fs ft o h
-    (subst (λ z. IsWhole z w y (Some script) marks q t b) same k)
+    → IsWhole o v x i k (Some script) marks r s a → IsWhole p w y j l (Some script) marks q t b → (s ≡ t) × (a ≡ b)
+one_run law opens words all script marks o p v w x y i j k l r q s t a b fs ft ho hp g h =
+    let same = opens words all p o hp ho (decided p w y j l (Some script) q marks t b ft h)
+    (decided o v x i k (Some script) r marks s a fs g) in
+    same_whole law v w x y i j k l script marks r q s t a b fs ft o g
+    (subst (λ z. IsWhole z w y j l (Some script) marks q t b) same h)

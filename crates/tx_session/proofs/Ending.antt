@@ -257,10 +257,16 @@ failed_end start seen told rest before after taken unended e within s =
 
 -- more was taken than a script has
 long_rest : (script taken front : List ℕ) (rest : Option (List ℕ)) → script ≡ taken ++ (front ++ or_empty rest)
-    → length taken ≡ MOST_SCRIPT → 0 < length front → IfSome rest (λ bytes. MOST_SCRIPT + length bytes < length script)
+    → length taken ≡ MOST_SCRIPT → 0 < length front
+    → IfSome rest (λ bytes. (n : ℕ) × (MOST_SCRIPT < n) × (n ≤ length script) × (bytes ≡ drop n script))
 long_rest script taken front None e full some = tt
 long_rest script taken front (Some bytes) e full some =
-    omega (arith, ap length e, length-append taken (front ++ bytes), length-append front bytes)
+    let whole : script ≡ (taken ++ front) ++ bytes = e ∙ sym (append_assoc taken front bytes) in (
+      length (taken ++ front),
+      omega (arith, length-append taken front, full, some),
+      omega (arith, ap length whole, length-append (taken ++ front) bytes),
+      sym (drop-append_seam (taken ++ front) bytes) ∙ ap (drop (length (taken ++ front))) (sym whole),
+    )
 
 pub long_end : (start seen : World) (told rest before after : Option (List ℕ)) (script taken front unended : List ℕ)
     → Tells told script → script ≡ taken ++ (front ++ or_empty rest) → length taken ≡ MOST_SCRIPT → 0 < length front
@@ -306,26 +312,35 @@ holds lines one later = Contains-append_right lines (one ∷ later) one (0, grin
 
 quit_rest : (script upto later more unended : List ℕ) (ended : List (List ℕ)) (rest : Option (List ℕ))
     → script ≡ upto ++ 10 ∷ (later ++ more) → HasLines upto ended unended → is_quit unended ≡ true
-    → length (or_empty rest) ≤ length more
+    → ((between : List ℕ) × (more ≡ between ++ or_empty rest))
     → IfSome rest (λ bytes. (bytes ≡ []) ⊎ EndedByQuit script bytes)
-quit_rest script upto later more unended ended None e h q le = tt
-quit_rest script upto later more unended ended (Some bytes) e h q le =
-    inr (upto, later ++ more, unended, ended, e, h, q, omega (arith, le, length-append later more))
+quit_rest script upto later more unended ended None e h q left = tt
+quit_rest script upto later more unended ended (Some bytes) e h q left =
+    inr (
+      upto,
+      later ++ left.0,
+      unended,
+      ended,
+      e ∙ ap (λ x. upto ++ 10 ∷ x) (ap (λ x. later ++ x) left.1 ∙ sym (append_assoc later left.0 bytes)),
+      h,
+      q,
+    )
 
-kept_rest : (later more : List ℕ) (rest : Option (List ℕ)) → length (or_empty rest) ≤ length more
-    → IfSome rest (λ bytes. length bytes ≤ length (later ++ more))
-kept_rest later more None le = tt
-kept_rest later more (Some bytes) le = omega (arith, le, length-append later more)
+kept_rest : (later more : List ℕ) (rest : Option (List ℕ)) → ((between : List ℕ) × (more ≡ between ++ or_empty rest))
+    → IfSome rest (λ bytes. (between : List ℕ) × (later ++ more ≡ between ++ bytes))
+kept_rest later more None left = tt
+kept_rest later more (Some bytes) left =
+    (later ++ left.0, ap (λ x. later ++ x) left.1 ∙ sym (append_assoc later left.0 bytes))
 
 -- within what was taken: `quit`, want of memory, or a fault of the output
 pub stopped : (turn : Turn) (start seen : World) (told rest before after : Option (List ℕ)) (script bytes more : List ℕ)
     (kept : KeptLine) → turn ≢ turns.Go → Tells told script → script ≡ bytes ++ more
-    → length bytes ≤ MOST_SCRIPT → length (or_empty rest) ≤ length more
+    → length bytes ≤ MOST_SCRIPT → ((between : List ℕ) × (more ≡ between ++ or_empty rest))
     → LeadsTo turn start before bytes seen kept after
     → IsEnd (status_of_turn turn) start seen told rest before after
-stopped turns.Go start seen told rest before after script bytes more kept other tells e within le l =
+stopped turns.Go start seen told rest before after script bytes more kept other tells e within left l =
     absurd (other refl)
-stopped turns.Quit start seen told rest before after script bytes more kept other tells e within le
+stopped turns.Quit start seen told rest before after script bytes more kept other tells e within left
     (upto, later, unended, is, s, q) =
     let whole : script ≡ upto ++ 10 ∷ (later ++ more) = e ∙ ap (λ x. x ++ more) is
     ∙ append_assoc upto (10 ∷ later) more in
@@ -342,11 +357,11 @@ stopped turns.Quit start seen told rest before after script bytes more kept othe
         inr (s.ended ++ unended ∷ through.0, through.1, (unended, holds s.ended unended through.0, q)),
         subst (λ ls. Answered start ls s.marks seen s.replies)
             (sym (up_to_quit start seen s.ended through.0 unended s.marks s.replies s.answered q)) s.answered,
-        quit_rest script upto later more unended s.ended rest whole s.lines q le,
+        quit_rest script upto later more unended s.ended rest whole s.lines q left,
       );
       written = s.written;
     }
-stopped turns.NoMemory start seen told rest before after script bytes more kept other tells e within le
+stopped turns.NoMemory start seen told rest before after script bytes more kept other tells e within left
     (upto, later, unended, b, is, line, short, s) =
     record {
       script = script;
@@ -366,11 +381,11 @@ stopped turns.NoMemory start seen told rest before after script bytes more kept 
         shorter bytes upto b later is within,
         s.lines,
         s.answered,
-        kept_rest later more rest le,
+        kept_rest later more rest left,
       );
       written = s.written;
     }
-stopped turns.OutputFailed start seen told rest before after script bytes more kept other tells e within le
+stopped turns.OutputFailed start seen told rest before after script bytes more kept other tells e within left
     (upto, later, is, c) =
     let through = lines_through script upto (later ++ more) c.stands.ended c.rest
     (e ∙ ap (λ x. x ++ more) is ∙ append_assoc upto (10 ∷ later) more) c.stands.lines
@@ -442,7 +457,7 @@ stopped_in_read turn start seen told mid rest before after taken into within cou
     (tells_both told rest (taken ++ take count into)
     (prepend_known-then told mid rest taken (take count into) first second))
     (read_parts taken into (or_empty rest) within count part) (read_within taken into within room fits e)
-    (omega (arith, length-append (drop within (take count into)) (or_empty rest))) l
+    (drop within (take count into), refl) l
 
 pub long_read : (start seen : World) (told mid rest before after : Option (List ℕ)) (taken into : List ℕ)
     (within count room : ℕ) (kept : KeptLine)

@@ -52,13 +52,14 @@ use Rattle.tx_open.specs.Outcomes.{opened, AreRead, ComesTo}
 use Rattle.tx_words.specs.Words.{Named}
 use Rattle.tx_session.specs.Replies.{Reading, nothing, too_long, unread, command, faulty, IsRead, IsReply, IsReplyTo}
 use Rattle.tx_session.specs.Replies.{IsRefusal, IsLineReply}
-use Rattle.tx_session.specs.Runs.{start_of}
+use Rattle.tx_session.specs.Runs.{start_of, start_with}
 use Rattle.tx_session.specs.Savings.{IsSavedAlone, IsNotSaved, StandsAmong}
 use Rattle.tx_session.specs.Scripts.{Answered, command_line}
 use Rattle.tx_session.specs.States.{IsAnswer, IsEditAnswer, IsKeyAnswer, IsStepAnswer, IsChoice, IsClickAnswer}
 use Rattle.tx_session.specs.States.{IsAskedAnswer, IsViewAnswer, selected_edit, selected_tree, key_edit, by_typing}
 use Rattle.tx_session.specs.States.{by_backspace, by_enter, place_of, save_reply, file_saved}
-use Rattle.tx_session.specs.Worlds.{World, Stored, Stores, Mark, plain, lacking, unsaved, told}
+use Rattle.tx_session.specs.Worlds.{SeenWorld, World, IsAsBefore, seen_in, Stored, Stores, Mark, plain, lacking}
+use Rattle.tx_session.specs.Worlds.{unsaved, told}
 use Rattle.tx_session.proofs.Determined.{one_reading, was_read}
 use Rattle.tx_session.proofs.Saved.{saved_alone}
 use Rattle.tx_session.proofs.SoundKeys.{IsSoundKey, typed_sound, erased_sound, entered_sound, left_sound, right_sound}
@@ -225,14 +226,17 @@ answer_formed text (PlaceOf r c) width height s next reply h f a =
 answer_formed text (Attrs r) width height s next reply h f a = viewed_formed width height s next (Attrs r) reply f a
 
 abbrev IsFormedWorld : World → Type 0
-IsFormedWorld world = IsFormed world.session.state
+IsFormedWorld world = IsFormed world.session.seen.state
 
 same_formed : (before after : World) → after ≡ before → IsFormedWorld before → IsFormedWorld after
 same_formed before after e f = subst IsFormedWorld (sym e) f
 
-command_formed : (text : List ℕ) (it : Command) (before next : World) (mark : Mark) (reply : List ℕ) → IsCommand text it
-    → IsFormedWorld before
-    → IsReply before it mark next reply → IsFormedWorld next
+still_formed : (before after : World) → IsAsBefore before after → IsFormedWorld before → IsFormedWorld after
+still_formed before after h f = subst (λ x. IsFormed x.seen.state) (sym h.session) f
+
+command_formed : (text : List ℕ) (it : Command) (before next : SeenWorld) (mark : Mark) (reply : List ℕ)
+    → IsCommand text it → IsFormed before.session.state
+    → IsReply before it mark next reply → IsFormed next.session.state
 command_formed text it before next plain reply h f a =
     answer_formed text it before.session.width before.session.height before.session.state next.session.state reply h f
     a.answer
@@ -242,8 +246,8 @@ command_formed text it before next (told n) reply h f a = subst (λ x. IsFormed 
 
 refusal_formed : (before next : World) (text : List ℕ) (mark : Mark) (reply : List ℕ) → IsFormedWorld before
     → IsRefusal before text mark next reply → IsFormedWorld next
-refusal_formed before next text plain reply f a = same_formed before next a.0 f
-refusal_formed before next text lacking reply f a = same_formed before next a.0 f
+refusal_formed before next text plain reply f a = still_formed before next a.0 f
+refusal_formed before next text lacking reply f a = still_formed before next a.0 f
 refusal_formed before next text unsaved reply f a = absurd a
 refusal_formed before next text (told n) reply f a = absurd a
 
@@ -251,9 +255,10 @@ reply_formed : (text : List ℕ) (reading : Reading) (before next : World) (mark
     → IsRead text reading → IsFormedWorld before
     → IsReplyTo before reading mark next reply → IsFormedWorld next
 reply_formed text nothing before next mark reply h f a = same_formed before next a.1 f
-reply_formed text (too_long count) before next mark reply h f a = refusal_formed before next _ mark reply f a
-reply_formed text unread before next mark reply h f a = same_formed before next a.1 f
-reply_formed text (command it) before next mark reply h f a = command_formed text it before next mark reply h.1 f a.1
+reply_formed text (too_long count) before next mark reply h f a = refusal_formed before next _ mark reply f a.0
+reply_formed text unread before next mark reply h f a = still_formed before next a.1 f
+reply_formed text (command it) before next mark reply h f a =
+    command_formed text it (seen_in before) (seen_in next) mark reply h.1 f a.1.replied
 reply_formed text (faulty cause) before next mark reply h f a = refusal_formed before next _ mark reply f a
 
 lines_formed : (before last : World) (lines : List (List ℕ)) (marks : List Mark) (text : List ℕ) → IsFormedWorld before
@@ -322,26 +327,26 @@ saved_so name t before after reply (writes bytes) f e r s =
 save_line : (text name : List ℕ) (reading : Reading) (before next : World) (reply : List ℕ)
     → reading ≡ command (Save name) → IsFormedWorld before
     → IsReplyTo before reading plain next reply
-    → IsSavedAlone name (selected_tree before.session.state) before.store next.store reply
+    → IsSavedAlone name (selected_tree before.session.seen.state) before.store next.store reply
     ⊎ IsNotSaved before.store next.store reply
 save_line text name reading before next reply e f a =
-    let done : (command (Save name) ≡ command (Save name)) × IsReply before (Save name) plain next reply =
-    (refl, (subst (λ r. IsReplyTo before r plain next reply) e a).1) in
-    let t : WideTree = selected_tree before.session.state in
+    let done = (subst (λ r. IsReplyTo before r plain next reply) e a).1.replied in
+    let state : State = before.session.seen.state in
+    let t : WideTree = selected_tree state in
     saved_so name t before.store next.store reply (saving (form_of name) t)
-    (tree_formed before.session.state.buffers before.session.state.selected f.now).0 refl done.1.answer.1 done.1.stored
+    (tree_formed state.buffers state.selected f.now).0 refl done.answer.1 done.stored
 
-pub saves_alone : (words : List (List ℕ)) (files : Option Files) (all : Opened) (first : Stored)
+pub saves_alone : (words : List (List ℕ)) (files : Option Files) (all : Opened) (first : Stored) (steps : ℕ)
     → ComesTo words files (opened all)
     → (lines : List (List ℕ)) (marks : List Mark) (seen : World) (done : List ℕ)
-    → Answered (record { session = start_of all; store = first }) lines marks seen done
+    → Answered (start_with all first steps) lines marks seen done
     → (one name reply : List ℕ) (next : World) → IsRead (command_line one) (command (Save name))
     → IsLineReply seen (command_line one) plain next reply
-    → IsSavedAlone name (selected_tree seen.session.state) seen.store next.store reply
+    → IsSavedAlone name (selected_tree seen.session.seen.state) seen.store next.store reply
     ⊎ IsNotSaved seen.store next.store reply
-saves_alone words files all first opens lines marks seen done a one name reply next c r =
+saves_alone words files all first steps opens lines marks seen done a one name reply next c r =
     let formed : AreFormed all.buffers = read_formed files opens.names all.buffers opens.read in
-    let now : IsFormedWorld seen = lines_formed (record { session = start_of all; store = first }) seen lines marks
+    let now : IsFormedWorld seen = lines_formed (start_with all first steps) seen lines marks
     done (start_formed all formed) a in
     let is : r.0 ≡ command (Save name) =
     one_reading (command_line one) r.0 (command (Save name)) (was_read seen r.0 plain next reply tt r.2)

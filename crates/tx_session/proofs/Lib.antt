@@ -10,6 +10,7 @@ pub mod Ending
 pub mod Lining
 pub mod Openings
 pub mod Causes
+pub mod Alone
 pub mod Answering
 pub mod Determined
 pub mod Replied
@@ -19,6 +20,7 @@ pub mod Refreshed
 pub mod Stopping
 pub mod Plainly
 pub mod SameFiles
+pub mod Numbers
 pub mod SoundKeys
 pub mod InASession
 pub mod Nearby

@@ -53,7 +53,7 @@ use Rattle.tx_session.specs.Replies.{wanting_reply, unsaved_reply, refusal, IsDo
 use Rattle.tx_session.specs.States.{selected_edit, selected_tree, key_edit, by_typing, by_backspace, by_enter, printed}
 use Rattle.tx_session.specs.States.{IsAnswer, IsEditAnswer, IsKeyAnswer, IsStepAnswer, IsChoice, IsGoAnswer}
 use Rattle.tx_session.specs.States.{IsClickAnswer, IsAskedAnswer, IsViewAnswer, done_reply, save_reply}
-use Rattle.tx_session.specs.Worlds.{World, Mark, plain, lacking, unsaved, told}
+use Rattle.tx_session.specs.Worlds.{SeenWorld, Mark, plain, lacking, unsaved, told}
 use Rattle.tx_session.specs.Writing.{IsSaid}
 
 -- the first six bytes are those of one of the two
@@ -255,7 +255,7 @@ plain_answer width height state (PlaceOf r c) next reply h =
     plain_viewed width height state (PlaceOf r c) next reply h
 plain_answer width height state (Attrs r) next reply h = plain_viewed width height state (Attrs r) next reply h
 
-pub plain_done : (before after : World) (it : Command) (reply : List ℕ) → IsDone before it after reply
+pub plain_done : (before after : SeenWorld) (it : Command) (reply : List ℕ) → IsDone before it after reply
     → IsPlainReply reply
 plain_done before after it reply h =
     plain_answer before.session.width before.session.height before.session.state it after.session.state reply h.answer
@@ -276,14 +276,14 @@ abbrev says_memory : List ℕ → Bool
 says_memory reply = bytes_eq (take 4 reply) (110 ∷ 111 ∷ 32 ∷ 109 ∷ [])
 
 -- where the reply of a failed store was written whole, the store has failed
-counted : (v w : World) (it : Command) (mark : Mark) (reply : List ℕ) → IsReply v it mark w reply
+counted : (v w : SeenWorld) (it : Command) (mark : Mark) (reply : List ℕ) → IsReply v it mark w reply
     → reply ≡ unsaved_reply → Rose v.store.faults w.store.faults
 counted v w it plain reply h e = absurd ((plain_done v w it reply h).1 e)
 counted v w it lacking reply h e = absurd (differ (ap says_memory (sym e ∙ h.3)))
 counted v w it unsaved reply h e = h.4.1
 counted v w it (told n) reply h e = absurd ((plain_told n).1 (sym h.said ∙ e))
 
-pub failure_counted : (v w : World) (it : Command) (mark : Mark) (reply : List ℕ) (next : Next)
+pub failure_counted : (v w : SeenWorld) (it : Command) (mark : Mark) (reply : List ℕ) (next : Next)
     (before after : Option (List ℕ)) (bytes : List ℕ)
     → IsReply v it mark w reply → IsSaid (Ok next) reply before after → before ≡ Some bytes
     → after ≡ Some (bytes ++ unsaved_reply) → Rose v.store.faults w.store.faults
@@ -293,7 +293,7 @@ failure_counted v w it mark reply next before after bytes h said b a =
     let same : bytes ++ reply ≡ bytes ++ unsaved_reply = cc in
     counted v w it mark reply h (append_cancel_left bytes reply unsaved_reply same)
 
-pub no_store : (v w : World) (it : Command) (mark : Mark) (reply : List ℕ) (result : Result Next WriteFault)
+pub no_store : (v w : SeenWorld) (it : Command) (mark : Mark) (reply : List ℕ) (result : Result Next WriteFault)
     (before after : Option (List ℕ)) → IsReply v it mark w reply → IsSaid result reply before after
     → OnOk result ((bytes : List ℕ) → before ≡ Some bytes → after ≡ Some (bytes ++ unsaved_reply)
     → Rose v.store.faults w.store.faults)

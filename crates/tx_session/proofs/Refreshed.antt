@@ -15,14 +15,14 @@ use Rattle.tx_view.specs.WholeViews.{WholeView}
 use Rattle.tx_session.specs.declared.replies.Reply.{Reply}
 use Rattle.tx_session.specs.declared.replies.Reply.TheVariants.{Done, Fixed, Made, Wanting, Unsaved}
 use Rattle.tx_session.specs.Asking.{IsArrival, IsClicked, Prints}
-use Rattle.tx_session.specs.Keeps.{Keep, Whole, Keeps, Takes, TakesAsking, TakesLacking, IsKeptLacking, kept_after}
+use Rattle.tx_session.specs.Keeps.{Keeps, Takes, TakesAsking, TakesLacking, IsKeptLacking, kept_after}
 use Rattle.tx_session.specs.Keeps.{most_steps}
 use Rattle.tx_session.specs.Keeps.{refreshed}
 use Rattle.tx_session.specs.Keeps.{refresh_cost, carried, mods_of}
-use Rattle.tx_session.specs.Replies.{asks_view, keeps_buffers}
+use Rattle.tx_session.specs.Effects.{asks_view, keeps_buffers}
 use Rattle.tx_session.specs.Saying.{mark_of}
 use Rattle.tx_session.specs.Sessions.{keep_of}
-use Rattle.tx_session.specs.Worlds.{Seen, Mark, plain, lacking, unsaved, told}
+use Rattle.tx_session.specs.Worlds.{Seen, Keep, Whole, Mark, plain, lacking, unsaved, told}
 
 -- ---- the view
 

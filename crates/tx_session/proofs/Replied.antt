@@ -4,10 +4,10 @@ use Rattle.tx_outside.specs.declared.faults.WriteFault.{WriteFault}
 use Rattle.tx_cmd.specs.declared.command.Command.{Command}
 use Rattle.tx_session.specs.declared.replies.Reply.{Reply}
 use Rattle.tx_session.specs.declared.session.Next.{Next}
-use Rattle.tx_session.specs.Keeps.{Whole, Keeps, Takes}
+use Rattle.tx_session.specs.Keeps.{Keeps, Takes}
 use Rattle.tx_session.specs.Replies.{IsReply}
 use Rattle.tx_session.specs.Saying.{mark_of, text_of}
-use Rattle.tx_session.specs.Worlds.{Mark, Stored}
+use Rattle.tx_session.specs.Worlds.{Whole, Mark, Stored}
 use Rattle.tx_session.specs.Writing.{IsSaid}
 
 -- what a command answers: its reply, what is kept, and the steps

@@ -9,13 +9,13 @@ use Rattle.tx_session.specs.declared.status.Status.{Status}
 use Rattle.tx_session.specs.declared.status.Status.TheVariants as statuses
 use Rattle.tx_session.specs.Differences.{HoldSameFiles}
 use Rattle.tx_open.specs.Outcomes.{Outcome, faulty_words, missing, too_long as file_too_long, no_tree, store_fault}
-use Rattle.tx_open.specs.Outcomes.{no_memory, opened, ComesTo}
+use Rattle.tx_open.specs.Outcomes.{no_memory, opened, generated, ComesTo}
 use Rattle.tx_session.specs.Replies.{Reading, nothing, too_long, unread, command, faulty, IsReplyTo}
 use Rattle.tx_session.specs.Replies.{IsLineReply}
-use Rattle.tx_session.specs.Runs.{IsFinal, IsPlayed, IsWhole, start_of}
+use Rattle.tx_session.specs.Runs.{IsFinal, IsPlayed, IsWhole, start_with}
 use Rattle.tx_session.specs.Scripts.{Answered, before_quit, command_line}
 use Rattle.tx_session.specs.States.{saved_by}
-use Rattle.tx_session.specs.Worlds.{World, Stored, Mark, plain, lacking, unsaved, told, Stores}
+use Rattle.tx_session.specs.Worlds.{Seen, World, Stored, Mark, plain, lacking, unsaved, told, Stores}
 use Rattle.tx_session.specs.Worlds.{unsaved_in}
 use Rattle.tx_session.proofs.Answering.{OneView}
 use Rattle.tx_session.proofs.Determined.{one_reading, was_read, one_line_reply, decided, one_run as one_text_run}
@@ -66,36 +66,36 @@ stored_same (Some file) v s w t h k same = put_in_both file.0 file.1 v.files s.f
 abbrev files_of : World → Option Files
 files_of w = w.store.files
 
+abbrev seen_of : World → Seen
+seen_of w = w.session.seen
+
 lacked_files : (v : World) (reading : Reading) (next : World) (reply : List ℕ) → IsReplyTo v reading lacking next reply
     → files_of next ≡ files_of v
 lacked_files v nothing next reply h = ap files_of h.1
-lacked_files v (too_long n) next reply h = ap files_of h.0
-lacked_files v unread next reply h = ap files_of h.1
-lacked_files v (command c) next reply h = h.1.2.0
-lacked_files v (faulty f) next reply h = ap files_of h.0
+lacked_files v (too_long n) next reply h = ap (λ s. s.files) h.0.0.store
+lacked_files v unread next reply h = ap (λ s. s.files) h.1.store
+lacked_files v (command c) next reply h = let r = h.1.replied in r.2.0
+lacked_files v (faulty f) next reply h = ap (λ s. s.files) h.0.store
 
 told_files : (n : ℕ) (v : World) (reading : Reading) (next : World) (reply : List ℕ)
     → IsReplyTo v reading (told n) next reply → files_of next ≡ files_of v
 told_files n v nothing next reply h = ap files_of h.1
-told_files n v (too_long m) next reply h = absurd h
-told_files n v unread next reply h = ap files_of h.1
-told_files n v (command c) next reply h = ap (λ s. s.files) h.1.stored
+told_files n v (too_long m) next reply h = absurd h.0
+told_files n v unread next reply h = ap (λ s. s.files) h.1.store
+told_files n v (command c) next reply h = ap (λ s. s.files) h.1.replied.stored
 told_files n v (faulty f) next reply h = absurd h
 
-module _ (v w : World) (same : v.session ≡ w.session) (hold : HoldSameFiles (files_of v) (files_of w)) where
+module _ (v w : World) (same : seen_of v ≡ seen_of w) (hold : HoldSameFiles (files_of v) (files_of w)) where
   plain_files : (reading : Reading) (s t : World) (a b : List ℕ) → IsReplyTo v reading plain s a
       → IsReplyTo w reading plain t b → HoldSameFiles (files_of s) (files_of t)
   plain_files nothing s t a b h k =
       moved (files_of v) (files_of s) (files_of w) (files_of t) (ap files_of h.1) (ap files_of k.1) hold
-  plain_files (too_long n) s t a b h k =
-      moved (files_of v) (files_of s) (files_of w) (files_of t) (ap files_of h.0) (ap files_of k.0) hold
-  plain_files unread s t a b h k =
-      moved (files_of v) (files_of s) (files_of w) (files_of t) (ap files_of h.1) (ap files_of k.1) hold
+  plain_files (too_long n) s t a b h k = stored_same None v.store s.store w.store t.store h.0.0.store k.0.0.store hold
+  plain_files unread s t a b h k = stored_same None v.store s.store w.store t.store h.1.store k.1.store hold
   plain_files (command c) s t a b h k =
-      stored_same (saved_by v.session.state c) v.store s.store w.store t.store h.1.stored
-      (subst (λ x. Stores (saved_by x.state c) w.store t.store) (sym same) k.1.stored) hold
-  plain_files (faulty f) s t a b h k =
-      moved (files_of v) (files_of s) (files_of w) (files_of t) (ap files_of h.0) (ap files_of k.0) hold
+      stored_same (saved_by v.session.seen.state c) v.store s.store w.store t.store h.1.replied.stored
+      (subst (λ x. Stores (saved_by x.state c) w.store t.store) (sym same) k.1.replied.stored) hold
+  plain_files (faulty f) s t a b h k = stored_same None v.store s.store w.store t.store h.0.store k.0.store hold
 
   line_files : (text : List ℕ) (mark : Mark) (s t : World) (a b : List ℕ) → mark ≢ unsaved → IsLineReply v text mark s a
       → IsLineReply w text mark t b → HoldSameFiles (files_of s) (files_of t)
@@ -118,7 +118,7 @@ saves unsaved marks e = absurd (omega (arith, e))
 saves (told n) marks e = (λ f. cc, e)
 
 pub answered_files : (law : OneView) (v w s t : World) (lines : List (List ℕ)) (marks : List Mark) (a b : List ℕ)
-    → unsaved_in marks ≡ 0 → v.session ≡ w.session → HoldSameFiles (files_of v) (files_of w)
+    → unsaved_in marks ≡ 0 → seen_of v ≡ seen_of w → HoldSameFiles (files_of v) (files_of w)
     → Answered v lines marks s a → Answered w lines marks t b → HoldSameFiles (files_of s) (files_of t)
 answered_files law v w s t [] [] a b u same hold h k =
     moved (files_of v) (files_of s) (files_of w) (files_of t) (ap files_of h.0) (ap files_of k.0) hold
@@ -131,7 +131,7 @@ answered_files law v w s t (l ∷ lines) (m ∷ marks) a b u same hold h k =
     (line_files v w same hold (command_line l) m h.0 k.0 h.1 k.1 kept.0 h.3 k.3) h.4 k.4
 
 played_files : (law : OneView) (v w x y : World) (script : List ℕ) (marks : List Mark) (r q : Option (List ℕ))
-    (s : Status) (a b : List ℕ) → unsaved_in marks ≡ 0 → v.session ≡ w.session → HoldSameFiles (files_of v) (files_of w)
+    (s : Status) (a b : List ℕ) → unsaved_in marks ≡ 0 → seen_of v ≡ seen_of w → HoldSameFiles (files_of v) (files_of w)
     → IsFinal s → IsPlayed v script marks r s x a → IsPlayed w script marks q s y b
     → HoldSameFiles (files_of x) (files_of y)
 played_files law v w x y script marks r q statuses.Ok a b u e hold f h k =
@@ -148,41 +148,43 @@ played_files law v w x y script marks r q statuses.Refused a b u e hold f h k = 
 played_files law v w x y script marks r q statuses.StoreFault a b u e hold f h k = absurd h
 played_files law v w x y script marks r q statuses.OutputFault a b u e hold f h k = absurd h
 
-module _ (law : OneView) (v w x y : Stored) (files : Files) (ev : v.files ≡ Some files) (ew : w.files ≡ Some files)
-    (script : List ℕ) (marks : List Mark) (r q : Option (List ℕ)) (s : Status) (a b : List ℕ) (final : IsFinal s) where
+module _ (law : OneView) (v w x y : Stored) (i j k l : ℕ) (files : Files) (ev : v.files ≡ Some files)
+    (ew : w.files ≡ Some files) (script : List ℕ) (marks : List Mark) (r q : Option (List ℕ)) (s : Status)
+    (a b : List ℕ) (final : IsFinal s) where
   unopened_files : (x.files ≡ v.files) → (y.files ≡ w.files) → HoldSameFiles x.files y.files
-  unopened_files h k = both_tell x.files y.files files (h ∙ ev) (k ∙ ew)
+  unopened_files g h = both_tell x.files y.files files (g ∙ ev) (h ∙ ew)
 
-  pub whole_files : (o : Outcome) → unsaved_in marks ≡ 0 → IsWhole o v x (Some script) marks r s a
-      → IsWhole o w y (Some script) marks q s b → HoldSameFiles x.files y.files
-  whole_files (opened all) none h k =
-      let first : World = record { session = start_of all; store = h.2 } in
-      let other : World = record { session = start_of all; store = k.2 } in
-      let hold : HoldSameFiles h.3.store.files k.3.store.files =
-      played_files law first other h.3 k.3 script marks r q s h.1 k.1 none refl
-      (both_tell h.2.files k.2.files files (h.4.0 ∙ ev) (k.4.0 ∙ ew)) final
-      (subst (λ z. IsPlayed first z marks r s h.3 h.1) (sym h.5) h.6)
-      (subst (λ z. IsPlayed other z marks q s k.3 k.1) (sym k.5) k.6) in
-      moved h.3.store.files x.files k.3.store.files y.files (sym (ap (λ z. z.files) h.7)) (sym (ap (λ z. z.files) k.7))
+  pub whole_files : (o : Outcome) → unsaved_in marks ≡ 0 → IsWhole o v x i k (Some script) marks r s a
+      → IsWhole o w y j l (Some script) marks q s b → HoldSameFiles x.files y.files
+  whole_files (opened all) none g h =
+      let first : World = start_with all g.2 g.3 in
+      let other : World = start_with all h.2 h.3 in
+      let hold : HoldSameFiles g.4.store.files h.4.store.files =
+      played_files law first other g.4 h.4 script marks r q s g.1 h.1 none refl
+      (both_tell g.2.files h.2.files files (g.5.0 ∙ ev) (h.5.0 ∙ ew)) final
+      (subst (λ z. IsPlayed first z marks r s g.4 g.1) (sym g.7) g.8)
+      (subst (λ z. IsPlayed other z marks q s h.4 h.1) (sym h.7) h.8) in
+      moved g.4.store.files x.files h.4.store.files y.files (sym (ap (λ z. z.files) g.9)) (sym (ap (λ z. z.files) h.9))
       hold
-  whole_files faulty_words none h k = unopened_files h.4.0 k.4.0
-  whole_files (missing f) none h k = unopened_files h.4.0 k.4.0
-  whole_files (file_too_long f) none h k = unopened_files h.4.0 k.4.0
-  whole_files (no_tree f c) none h k = unopened_files h.4.0 k.4.0
-  whole_files (store_fault f) none h k = unopened_files h.4.0 k.4.0
-  whole_files no_memory none h k = unopened_files h.4.0 k.4.0
+  whole_files (generated all) none g h = unopened_files (ap (λ z. z.files) g.4) (ap (λ z. z.files) h.4)
+  whole_files faulty_words none g h = unopened_files g.4.0 h.4.0
+  whole_files (missing f) none g h = unopened_files g.4.0 h.4.0
+  whole_files (file_too_long f) none g h = unopened_files g.4.0 h.4.0
+  whole_files (no_tree f c) none g h = unopened_files g.4.0 h.4.0
+  whole_files (store_fault f) none g h = unopened_files g.4.0 h.4.0
+  whole_files no_memory none g h = unopened_files g.4.0 h.4.0
 
 pub one_run : (law : OneView) (opens : OneOutcome) (words : List (List ℕ)) (all : Files) (script : List ℕ)
-    (marks : List Mark) (o p : Outcome) (v w x y : Stored) (r q : Option (List ℕ)) (s t : Status) (a b : List ℕ)
-    → IsFinal s → IsFinal t → v.files ≡ Some all → w.files ≡ Some all
-    → ComesTo words (Some all) o → ComesTo words (Some all) p → IsWhole o v x (Some script) marks r s a
-    → IsWhole p w y (Some script) marks q t b
+    (marks : List Mark) (o p : Outcome) (v w x y : Stored) (i j k l : ℕ) (r q : Option (List ℕ)) (s t : Status)
+    (a b : List ℕ) → IsFinal s → IsFinal t → v.files ≡ Some all → w.files ≡ Some all
+    → ComesTo words (Some all) o → ComesTo words (Some all) p → IsWhole o v x i k (Some script) marks r s a
+    → IsWhole p w y j l (Some script) marks q t b
     → (s ≡ t) × (a ≡ b) × (unsaved_in marks ≡ 0 → HoldSameFiles x.files y.files)
-one_run law opens words all script marks o p v w x y r q s t a b fs ft ev ew ho hp h k =
-    let said = one_text_run law opens words all script marks o p v w x y r q s t a b fs ft ho hp h k in
-    let same = opens words all p o hp ho (decided p w y (Some script) q marks t b ft k)
-    (decided o v x (Some script) r marks s a fs h) in
-    let other : IsWhole o w y (Some script) marks q s b =
-    subst (λ z. IsWhole o w y (Some script) marks q z b) (sym said.0)
-    (subst (λ z. IsWhole z w y (Some script) marks q t b) same k) in
-    (said.0, said.1, λ none. whole_files law v w x y all ev ew script marks r q s a b fs o none h other)
+one_run law opens words all script marks o p v w x y i j k l r q s t a b fs ft ev ew ho hp g h =
+    let said = one_text_run law opens words all script marks o p v w x y i j k l r q s t a b fs ft ho hp g h in
+    let same = opens words all p o hp ho (decided p w y j l (Some script) q marks t b ft h)
+    (decided o v x i k (Some script) r marks s a fs g) in
+    let other : IsWhole o w y j l (Some script) marks q s b =
+    subst (λ z. IsWhole o w y j l (Some script) marks q z b) (sym said.0)
+    (subst (λ z. IsWhole z w y j l (Some script) marks q t b) same h) in
+    (said.0, said.1, λ none. whole_files law v w x y i j k l all ev ew script marks r q s a b fs o none g other)

@@ -23,6 +23,7 @@ use Rattle.tx_session.specs.States.{save_reply, file_saved}
 use Rattle.tx_session.specs.Worlds.{Stored, Stores}
 use Rattle.tx_words.specs.Names.{buffer_name}
 use Rattle.tx_words.specs.Words.{Ask, named}
+use Rattle.tx_words.specs.declared.asked.Source.TheVariants.{Files as AllFiles}
 use Rattle.tx_open.specs.declared.opening.Opened.{Opened}
 use Rattle.tx_open.specs.Outcomes.{Outcome, opened, ComesTo, IsDecided, IsOpenedAs, IsTreeOf}
 use Rattle.tx_open.proofs.Files.{tree_once}
@@ -171,7 +172,7 @@ module _ (told : Files) (word bytes : List ℕ) (t : WideTree) (formed : IsWellF
   reads_again = (read_again, λ u h. tree_once told word u t h read_again)
 
   pub opens_alone : (law : OneOutcome) (words : List (List ℕ)) (width height : ℕ) (o : Outcome)
-      → Ask words width height (named word ∷ []) → ComesTo words (Some told) o → IsDecided o
+      → Ask words width height (AllFiles (named word ∷ [])) → ComesTo words (Some told) o → IsDecided o
       → o ≡ opened (record {
         width = width;
         height = height;

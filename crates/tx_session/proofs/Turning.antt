@@ -1,6 +1,6 @@
 -- What became of a line that was answered.
-use Rattle.std.proofs.Common.{◌≡◌, ◌≢◌, ◌⊎◌, inl, inr, ℕ, ◌<◌, ◌==◌, Bool, true, false, List, [], ◌∷◌, length, refl, ap}
-use Rattle.std.proofs.Common.{sym, subst, Option, Result, Ok, Err, arith}
+use Rattle.std.proofs.Common.{◌≡◌, ◌≢◌, ◌⊎◌, inl, inr, ℕ, ◌<◌, ◌≤◌, ◌+◌, ◌==◌, Bool, true, false, List, [], ◌∷◌, length}
+use Rattle.std.proofs.Common.{refl, ap, sym, subst, ◌∙◌, Option, Result, Ok, Err, arith}
 use Rattle.std.specs.Io.KnownBytes.{append_known}
 use Rattle.tx_outside.proofs.Pieces.{append_known-nil}
 use Rattle.tx_outside.specs.declared.faults.WriteFault.{WriteFault}
@@ -10,11 +10,13 @@ use Rattle.tx_cmd.specs.declared.command.Command.TheVariants.{Quit}
 use Rattle.tx_cmd.specs.declared.command.CmdFault.{CmdFault}
 use Rattle.tx_cmd.specs.declared.command.CmdFault.TheVariants as causes
 use Rattle.tx_cmd.specs.Words.{first_word, TakesMemory}
-use Rattle.tx_cmd.specs.Commands.{IsCommand}
+use Rattle.tx_cmd.specs.Commands.{IsCommand, values_of}
 use Rattle.tx_cmd.specs.Refusals.{IsCmdFault}
+use Rattle.tx_cmd.specs.Values.{nodes_in}
 use Rattle.tx_session.specs.declared.session.Next.{Next}
 use Rattle.tx_session.specs.declared.session.Next.TheVariants as nexts
-use Rattle.tx_session.specs.Worlds.{Seen, World, Mark, plain, lacking, unsaved, told}
+use Rattle.tx_session.specs.Keeps.{Keeps, Takes}
+use Rattle.tx_session.specs.Worlds.{Seen, Whole, World, IsAsBefore, seen_in, Mark, plain, lacking, unsaved, told}
 use Rattle.tx_session.specs.Replies.{nothing, too_long, unread, command, faulty, IsAsked, IsRefusal, IsReply}
 use Rattle.tx_session.specs.Replies.{IsLineReply, refusal, wanting_reply}
 use Rattle.tx_session.specs.Scripts.{command_line}
@@ -22,27 +24,38 @@ use Rattle.tx_session.proofs.Quits.{quit_spelled}
 use Rattle.tx_session.specs.Writing.{IsSaid}
 use Rattle.tx_session.specs.Keeping.{IsTurned}
 
+-- nothing changed, or some steps were counted
+pub as_before : (seen : World) → IsAsBefore seen seen
+as_before seen = record { session = refl; store = refl; steps = omega arith }
+
+pub counted_on : (seen : World) (steps : ℕ) → seen.steps ≤ steps → IsAsBefore seen (record seen { steps = steps })
+counted_on seen steps more = record { session = refl; store = refl; steps = more }
+
 -- a refusal, or want of memory in its place
-pub refused_reply : (seen : World) (text reply : List ℕ) → (reply ≡ text) ⊎ (reply ≡ wanting_reply)
-    → (mark : Mark) × IsRefusal seen text mark seen reply
-refused_reply seen text reply (inl e) = (plain, (refl, e))
-refused_reply seen text reply (inr e) = (lacking, (refl, e))
+pub refused_reply : (seen next : World) (text reply : List ℕ) → IsAsBefore seen next
+    → (reply ≡ text) ⊎ (reply ≡ wanting_reply) → (mark : Mark) × IsRefusal seen text mark next reply
+refused_reply seen next text reply same (inl e) = (plain, (same, e))
+refused_reply seen next text reply same (inr e) = (lacking, (same, e))
 
 long_reply : (seen : World) (line : List ℕ) (count : ℕ) (reply : List ℕ) → MOST_LINE < length line → count ≡ length line
     → (reply ≡ refusal (causes.Long count)) ⊎ (reply ≡ wanting_reply)
     → (mark : Mark) × IsLineReply seen line mark seen reply
-long_reply seen line count reply long is e = let r = refused_reply seen (refusal (causes.Long count)) reply e in
-    (r.0, (too_long count, (long, is), r.1))
+long_reply seen line count reply long is e =
+    let r = refused_reply seen seen (refusal (causes.Long count)) reply (as_before seen) e in
+    (r.0, (too_long count, (long, is), (r.1, refl)))
 
-lacking_reply : (seen : World) (line reply : List ℕ) → IsAsked line → TakesMemory (first_word line)
-    → (reply ≡ refusal causes.Memory) ⊎ (reply ≡ wanting_reply) → (mark : Mark) × IsLineReply seen line mark seen reply
-lacking_reply seen line reply asked takes (inl e) = (lacking, (unread, (asked, takes), (refl, refl, e)))
-lacking_reply seen line reply asked takes (inr e) = (lacking, (unread, (asked, takes), (refl, refl, e)))
+lacking_reply : (seen next : World) (line reply : List ℕ) → IsAsBefore seen next → IsAsked line
+    → TakesMemory (first_word line)
+    → (reply ≡ refusal causes.Memory) ⊎ (reply ≡ wanting_reply) → (mark : Mark) × IsLineReply seen line mark next reply
+lacking_reply seen next line reply same asked takes (inl e) = (lacking, (unread, (asked, takes), (refl, same, e)))
+lacking_reply seen next line reply same asked takes (inr e) = (lacking, (unread, (asked, takes), (refl, same, e)))
 
-faulty_reply : (seen : World) (line : List ℕ) (cause : CmdFault) (reply : List ℕ) → IsAsked line → cause ≢ causes.Memory
+faulty_reply : (seen next : World) (line : List ℕ) (cause : CmdFault) (reply : List ℕ) → IsAsBefore seen next
+    → IsAsked line → cause ≢ causes.Memory
     → IsCmdFault line cause → (reply ≡ refusal cause) ⊎ (reply ≡ wanting_reply)
-    → (mark : Mark) × IsLineReply seen line mark seen reply
-faulty_reply seen line cause reply asked named is e = let r = refused_reply seen (refusal cause) reply e in
+    → (mark : Mark) × IsLineReply seen line mark next reply
+faulty_reply seen next line cause reply same asked named is e =
+    let r = refused_reply seen next (refusal cause) reply same e in
     (r.0, (faulty cause, (asked, named, is), r.1))
 
 -- a reply was said, and the session goes on
@@ -65,24 +78,31 @@ module _ (result : Result Next WriteFault) (seen : World) (bytes : List ℕ) (be
       said_turned result seen seen bytes said.0 before after goes
       (long_reply seen (command_line bytes) count said.0 long is said.1) said.2
 
-  named_turned : (cause : CmdFault) → IsAsked (command_line bytes) → cause ≢ causes.Memory
-      → IsCmdFault (command_line bytes) cause → Said cause → IsTurned result seen bytes seen before after
-  named_turned cause asked named is said =
-      said_turned result seen seen bytes said.0 before after goes
-      (faulty_reply seen (command_line bytes) cause said.0 asked named is said.1) said.2
+  named_turned : (next : World) (cause : CmdFault) → IsAsBefore seen next → IsAsked (command_line bytes)
+      → cause ≢ causes.Memory
+      → IsCmdFault (command_line bytes) cause → Said cause → IsTurned result seen bytes next before after
+  named_turned next cause same asked named is said =
+      said_turned result seen next bytes said.0 before after goes
+      (faulty_reply seen next (command_line bytes) cause said.0 same asked named is said.1) said.2
 
   -- a line that is no command, or that memory did not suffice to read
-  pub refused_turned : (cause : CmdFault) → IsAsked (command_line bytes) → IsCmdFault (command_line bytes) cause
+  pub refused_turned : (next : World) (cause : CmdFault) → IsAsBefore seen next → IsAsked (command_line bytes)
+      → IsCmdFault (command_line bytes) cause
       → (cause ≡ causes.Memory → TakesMemory (first_word (command_line bytes))) → Said cause
-      → IsTurned result seen bytes seen before after
-  refused_turned (causes.Long n) asked is takes said = named_turned (causes.Long n) asked (λ e. cc) is said
-  refused_turned causes.Unknown asked is takes said = named_turned causes.Unknown asked (λ e. cc) is said
-  refused_turned (causes.Args n) asked is takes said = named_turned (causes.Args n) asked (λ e. cc) is said
-  refused_turned (causes.Path n) asked is takes said = named_turned (causes.Path n) asked (λ e. cc) is said
-  refused_turned (causes.Tree f) asked is takes said = named_turned (causes.Tree f) asked (λ e. cc) is said
-  refused_turned causes.Memory asked is takes said =
-      said_turned result seen seen bytes said.0 before after goes
-      (lacking_reply seen (command_line bytes) said.0 asked (takes refl) said.1) said.2
+      → IsTurned result seen bytes next before after
+  refused_turned next (causes.Long n) same asked is takes said =
+      named_turned next (causes.Long n) same asked (λ e. cc) is said
+  refused_turned next causes.Unknown same asked is takes said =
+      named_turned next causes.Unknown same asked (λ e. cc) is said
+  refused_turned next (causes.Args n) same asked is takes said =
+      named_turned next (causes.Args n) same asked (λ e. cc) is said
+  refused_turned next (causes.Path n) same asked is takes said =
+      named_turned next (causes.Path n) same asked (λ e. cc) is said
+  refused_turned next (causes.Tree f) same asked is takes said =
+      named_turned next (causes.Tree f) same asked (λ e. cc) is said
+  refused_turned next causes.Memory same asked is takes said =
+      said_turned result seen next bytes said.0 before after goes
+      (lacking_reply seen next (command_line bytes) said.0 same asked (takes refl) said.1) said.2
 
 -- an empty line
 pub empty_turned : (seen : World) (bytes : List ℕ) (before after : Option (List ℕ)) → command_line bytes ≡ []
@@ -92,36 +112,76 @@ empty_turned seen bytes before after e same = (plain, [], (nothing, e, (refl, re
 pub same_seen : (a b : Seen) → a.state ≡ b.state → a.width ≡ b.width → a.height ≡ b.height → a.fresh ≡ b.fresh → a ≡ b
 same_seen a b s w h f = λ i. record { state = s i; width = w i; height = h i; fresh = f i }
 
-pub same_world : (a b : World) → a.session ≡ b.session → a.store ≡ b.store → a ≡ b
-same_world a b s k = λ i. record { session = s i; store = k i }
+pub same_session : (a b : Whole) → a.seen ≡ b.seen → a.keep ≡ b.keep → a ≡ b
+same_session a b s k = λ i. record { seen = s i; keep = k i }
 
-quit_done : (seen next : World) (it : Command) (mark : Mark) (reply : List ℕ) → it ≡ Quit
-    → IsReply seen it mark next reply → next ≡ seen
-quit_done seen next it mark reply e r = done mark (subst (λ c. IsReply seen c mark next reply) e r)
-  where
-    done : (mark : Mark) → IsReply seen Quit mark next reply → next ≡ seen
-    done plain r =
-        same_world next seen (same_seen next.session seen.session r.answer.0 r.width r.height r.fresh) r.stored
-    done lacking r = let bad = r.0 in cc
-    done unsaved r = let none = r.2 in absurd cc
-    done (told n) r = let bad = r.work in absurd cc
+pub same_world : (a b : World) → a.session ≡ b.session → a.store ≡ b.store → a.steps ≡ b.steps → a ≡ b
+same_world a b s k n = λ i. record { session = s i; store = k i; steps = n i }
 
--- the session's step did the command
-pub stepped_turned : (result : Result Next WriteFault) (seen next : World) (bytes : List ℕ) (it : Command)
-    (before after : Option (List ℕ)) → IsAsked (command_line bytes) → IsCommand (command_line bytes) it
-    → (result ≡ Ok nexts.Quit → it ≡ Quit) → (it ≡ Quit → result ≡ Ok nexts.Quit) → (it ≡ Quit → after ≡ before)
-    → ((mark : Mark) × (reply : List ℕ) × IsReply seen it mark next reply × IsSaid result reply before after)
-    → IsTurned result seen bytes next before after
-stepped_turned (Ok nexts.Go) seen next bytes it before after some is quits quit silent r =
-    (r.0, r.1, (command it, (some, is), ((λ e. let bad = quit e in cc), r.2)), r.3)
-stepped_turned (Ok nexts.Quit) seen next bytes it before after some is quits quit silent r =
-    let done = quit_done seen next it r.0 r.1 (quits refl) r.2 in (
-      quit_spelled (command_line bytes) (subst (IsCommand (command_line bytes)) (quits refl) is),
-      done,
-      silent (quits refl),
-    )
-stepped_turned (Err fault) seen next bytes it before after some is quits quit silent r =
-    (r.0, r.1, (command it, (some, is), ((λ e. let bad = quit e in cc), r.2)), r.3)
+-- `quit` leaves all as it was
+quit_done : (seen next : World) (mark : Mark) (reply : List ℕ) → IsReply (seen_in seen) Quit mark (seen_in next) reply
+    → Keeps seen.session Quit mark next.session → next.steps ≡ seen.steps → next ≡ seen
+quit_done seen next plain reply r k n =
+    let same = same_seen next.session.seen seen.session.seen r.answer.0 r.width r.height r.fresh in
+    same_world next seen (same_session next.session seen.session same k) r.stored n
+quit_done seen next lacking reply r k n = let bad = r.0 in cc
+quit_done seen next unsaved reply r k n = let none = r.2 in absurd cc
+quit_done seen next (told m) reply r k n = let bad = r.work in absurd cc
+
+-- what the session's step says of a command that was read when the count of steps was this
+abbrev pub IsStepped : Result Next WriteFault → World → ℕ → World → Command → (before after : Option (List ℕ)) → Type 0
+IsStepped result seen read next it before after =
+    (mark : Mark) × (reply : List ℕ) × IsReply (seen_in seen) it mark (seen_in next) reply
+    × IsSaid result reply before after × Keeps seen.session it mark next.session
+    × Takes seen.session it mark read next.steps
+
+-- a command was read, which takes at most these steps
+abbrev pub IsReadBy : World → Command → ℕ → Type 0
+IsReadBy seen it read = (seen.steps ≤ read) × (read ≤ seen.steps + nodes_in (values_of it))
+
+-- no steps are taken in reading `quit`
+quit_read : (seen : World) (read : ℕ) → IsReadBy seen Quit read → read ≡ seen.steps
+quit_read seen read h = let less : read ≤ seen.steps + 0 = h.1 in omega (arith, h.0, less)
+
+quit_stepped : (result : Result Next WriteFault) (seen next : World) (read : ℕ) (before after : Option (List ℕ))
+    → IsReadBy seen Quit read → next.steps ≡ read → IsStepped result seen read next Quit before after → next ≡ seen
+quit_stepped result seen next read before after h e r =
+    quit_done seen next r.0 r.1 r.2 r.4 (e ∙ quit_read seen read h)
+
+module _ (seen next : World) (read : ℕ) (bytes : List ℕ) (it : Command) (before after : Option (List ℕ))
+    (some : IsAsked (command_line bytes)) (is : IsCommand (command_line bytes) it) (by : IsReadBy seen it read) where
+  step_replied : (result : Result Next WriteFault) → (it ≢ Quit)
+      → (r : IsStepped result seen read next it before after) → IsLineReply seen (command_line bytes) r.0 next r.1
+  step_replied result other r = (
+    command it,
+    (some, is),
+    (
+      other,
+      record {
+        replied = r.2;
+        keeps = r.4;
+        read = read;
+        reading = by;
+        takes = r.5;
+      },
+    ),
+  )
+
+  -- the session's step did the command
+  pub stepped_turned : (result : Result Next WriteFault) → (result ≡ Ok nexts.Quit → it ≡ Quit)
+      → (it ≡ Quit → result ≡ Ok nexts.Quit) → (it ≡ Quit → after ≡ before) → (it ≡ Quit → next.steps ≡ read)
+      → IsStepped result seen read next it before after → IsTurned result seen bytes next before after
+  stepped_turned (Ok nexts.Go) quits quit silent still r =
+      (r.0, r.1, step_replied (Ok nexts.Go) (λ e. let bad = quit e in cc) r, r.3)
+  stepped_turned (Ok nexts.Quit) quits quit silent still r =
+      let e = quits refl in (
+        quit_spelled (command_line bytes) (subst (IsCommand (command_line bytes)) e is),
+        quit_stepped (Ok nexts.Quit) seen next read before after (subst (λ c. IsReadBy seen c read) e by) (still e)
+            (subst (λ c. IsStepped (Ok nexts.Quit) seen read next c before after) e r),
+        silent e,
+      )
+  stepped_turned (Err fault) quits quit silent still r =
+      (r.0, r.1, step_replied (Err fault) (λ e. let bad = quit e in cc) r, r.3)
 
 -- small facts of a line
 pub long_line : (line : List ℕ) (count : ℕ) → count ≡ length line → MOST_LINE < count → line ≢ []

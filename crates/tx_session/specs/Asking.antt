@@ -20,9 +20,10 @@ use Rattle.tx_outside.specs.declared.faults.WriteFault.{WriteFault}
 use Rattle.tx_session.specs.declared.session.Next.{Next}
 use Rattle.tx_session.specs.declared.session.Next.TheVariants.{Go}
 use Rattle.tx_session.specs.States.{IsEditAnswer, IsKeyAnswer, IsClickAnswer}
-use Rattle.tx_session.specs.Keeps.{Whole, carried, key_mods}
-use Rattle.tx_session.specs.Replies.{key_fails, wanting_reply}
-use Rattle.tx_session.specs.Worlds.{Seen, Mark, plain, lacking, unsaved, told}
+use Rattle.tx_session.specs.Effects.{key_fails}
+use Rattle.tx_session.specs.Keeps.{carried, key_mods}
+use Rattle.tx_session.specs.Replies.{wanting_reply}
+use Rattle.tx_session.specs.Worlds.{Seen, Whole, Mark, plain, lacking, unsaved, told}
 
 -- the size of pages is that before, and the view is as fresh unless the buffers changed
 pub record IsKeptView (changed_not : Bool) (before after : Seen) : Type 0 where

@@ -1,4 +1,4 @@
--- What a session keeps of its view, and what commands make of it.
+-- What commands make of what a session keeps of its view, and the steps that they take.
 use Rattle.std.specs.Prelude.{◌≡◌, ◌≤◌, ◌⊎◌, ◌+◌, ◌*◌, ℕ, Bool, true, false, if◌then◌else◌, List, [], ◌∷◌}
 use Rattle.std.specs.Prelude.{Option, Some, None, Result, Ok, Err}
 use Rattle.std.specs.Option.{option_map_or}
@@ -16,24 +16,11 @@ use Rattle.tx_edit.specs.declared.moves.Move.TheVariants.{Edit, Go as MoveTo}
 use Rattle.tx_cmd.specs.declared.command.Command.{Command}
 use Rattle.tx_cmd.specs.declared.command.Command.TheVariants.{Change, Undo, Redo, Typed, Backspace, Enter}
 use Rattle.tx_view.specs.Names.{Fresh, Bound, Carry}
-use Rattle.tx_view.specs.Stores.{Stores}
-use Rattle.tx_session.specs.Replies.{asks_view, keeps_buffers}
+use Rattle.tx_session.specs.Effects.{asks_view, keeps_buffers}
 use Rattle.tx_session.specs.States.{selected_edit, key_edit, by_typing, by_backspace, by_enter}
-use Rattle.tx_session.specs.Worlds.{Seen, Mark, plain, lacking, unsaved, told}
+use Rattle.tx_session.specs.Worlds.{Keep, Whole, Mark, plain, lacking, unsaved, told}
 
--- whether the view is that of the present buffers, what it keeps from refresh to refresh, and by how many steps its
--- last refresh raised the count
-pub record Keep : Type 0 where
-  pub fresh : Bool
-  pub stores : Stores
-  pub work : ℕ
-
--- a session with what it keeps
-pub record Whole : Type 0 where
-  pub seen : Seen
-  pub keep : Keep
-
--- ---- what commands make of it
+-- ---- what is kept
 
 -- behind a refresh, which does nothing where the view is fresh
 abbrev pub refreshed : List Buffer → Keep → Keep
@@ -77,8 +64,8 @@ kept_after state command next k =
     else if keeps_buffers state command then k
     else option_map_or (carried state.buffers next.buffers k) (mods_of state command) k
 
--- Where memory runs out, all that is kept stays, but that a command which asks a view that isn't fresh may have refreshed
--- it, or begun to.
+-- Where memory runs out, all that is kept stays, but that a command which asks a view that isn't fresh may have
+-- refreshed it, or begun to.
 abbrev pub IsKeptLacking : (asks : Bool) → List Buffer → Keep → Keep → Type 0
 IsKeptLacking true buffers k next =
     (k.fresh ≡ true → next ≡ k) × ((next ≡ refreshed buffers k) ⊎ ((next.fresh ≡ false) × (next.work ≡ k.work)))

@@ -4,9 +4,10 @@ pub mod FaultTexts
 pub mod Causes
 pub mod States
 pub mod Worlds
+pub mod Effects
+pub mod Keeps
 pub mod Replies
 pub mod Differences
-pub mod Keeps
 pub mod Scripts
 pub mod Sessions
 pub mod Asking

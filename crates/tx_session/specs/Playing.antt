@@ -4,10 +4,11 @@ use Rattle.std.specs.Io.KnownBytes.{append_known}
 use Rattle.tx_outside.specs.Known.{AppendsPart}
 use Rattle.tx_session.specs.declared.status.Status.{Status}
 use Rattle.tx_session.specs.declared.status.Status.TheVariants.{InputFault, OutputFault}
+use Rattle.tx_open.specs.declared.opening.Opened.{Opened}
 use Rattle.tx_open.specs.Outcomes.{Outcome}
 use Rattle.tx_session.specs.Outcomes.{status_of, text_of}
 use Rattle.tx_session.specs.Worlds.{World, Mark}
-use Rattle.tx_session.specs.Runs.{Tells, IsPlayed, IsReplyBehind, own_line}
+use Rattle.tx_session.specs.Runs.{Tells, IsPlayed, IsPlayedAlone, IsReplyAlone, IsReplyBehind, own_line}
 
 -- the replies are written, and the status's own line isn't yet
 pub record HasPlayed (start last : World) (told rest : Option (List ℕ)) (status : Status)
@@ -55,7 +56,17 @@ IsServed failed OutputFault start last told rest before after =
     IsCutOff start last told before after ⊎ IsClosedInPart failed start last told rest before after
 IsServed failed status start last told rest before after = IsClosed start last told rest status before after
 
--- the line of an outcome that opened no file, which is written, or in part
+-- how the session of a generated document was served: all is written, or the output failed
+pub record IsServedAlone (all : Opened) (old new : ℕ) (status : Status) (before after : Option (List ℕ)) : Type 0 where
+  pub done : status ≢ OutputFault → (marks : List Mark) × (replies : List ℕ)
+      × IsPlayedAlone all old new marks status replies × (after ≡ append_known before (replies ++ own_line status))
+  pub cut : status ≡ OutputFault → (done part : List ℕ)
+      × (IsReplyAlone all old new done part
+      ⊎ ((ended : Status) × (marks : List Mark) × IsPlayedAlone all old new marks ended done
+      × (part ≡ own_line ended)))
+      × AppendsPart part (append_known before done) after
+
+-- the line of an outcome that opened nothing, which is written, or in part
 pub record IsLine (o : Outcome) (status : Status) (before after : Option (List ℕ)) : Type 0 where
   pub done : status ≢ OutputFault → (status ≡ status_of o) × (after ≡ append_known before (text_of o))
   pub cut : status ≡ OutputFault → AppendsPart (text_of o) before after

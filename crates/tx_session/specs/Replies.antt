@@ -1,27 +1,24 @@
 -- Replies to commands and to lines, want of memory included.
-use Rattle.std.specs.Prelude.{◌≡◌, ◌≢◌, ◌<◌, ◌≤◌, ◌&&◌, ◌||◌, not, is_err, is_none, length, ℕ}
-use Rattle.std.specs.Prelude.{Bool, Some, Result, Ok, Err, true, false, List, [], ◌++◌, codes, decimal}
+use Rattle.std.specs.Prelude.{◌≡◌, ◌≢◌, ◌<◌, ◌≤◌, ◌+◌, ◌&&◌, ◌||◌, not, length, ℕ}
+use Rattle.std.specs.Prelude.{Bool, Some, true, false, List, [], ◌++◌, codes, decimal}
 use Rattle.tx_cmd.specs.declared.command.Command.{Command}
-use Rattle.tx_cmd.specs.declared.command.Command.TheVariants.{Change, Undo, Redo, At, Click, Left, Right, Typed}
-use Rattle.tx_cmd.specs.declared.command.Command.TheVariants.{Backspace, Enter, Show, Page, Errors, PlaceOf, Cursor}
+use Rattle.tx_cmd.specs.declared.command.Command.TheVariants.{At, Show, Page, Errors, PlaceOf, Cursor}
 use Rattle.tx_cmd.specs.declared.command.Command.TheVariants.{Attrs, Work, Quit}
 use Rattle.tx_cmd.specs.declared.command.CmdFault.{CmdFault}
 use Rattle.tx_cmd.specs.declared.command.CmdFault.TheVariants.{Long, Unknown, Args, Path, Tree as BadTree, Memory}
-use Rattle.tx_edit.specs.declared.faults.EditFault.{EditFault}
-use Rattle.tx_edit.specs.declared.moves.Move.{Move}
-use Rattle.tx_edit.specs.declared.moves.Move.TheVariants.{Edit, Go as MoveTo}
 use Rattle.tx_cmd.specs.declared.TheConstants.{MOST_LINE}
 use Rattle.tx_cmd.specs.Words.{first_word, TakesMemory}
-use Rattle.tx_cmd.specs.Commands.{IsCommand}
+use Rattle.tx_cmd.specs.Commands.{IsCommand, values_of}
 use Rattle.tx_cmd.specs.Refusals.{IsCmdFault}
+use Rattle.tx_cmd.specs.Values.{nodes_in}
 use Rattle.tx_print.specs.Lines.{line}
 use Rattle.tx_print.specs.Work.{work_reply}
-use Rattle.tx_state.specs.States.{State}
-use Rattle.tx_state.specs.Edits.{edited, undone, redone}
+use Rattle.tx_session.specs.Effects.{asks_view, keeps_buffers}
 use Rattle.tx_session.specs.FaultTexts.{fault_text}
-use Rattle.tx_session.specs.States.{IsAnswer, selected_edit, key_edit, by_typing, by_backspace, by_enter}
-use Rattle.tx_session.specs.States.{saved_by, unknown_reply}
-use Rattle.tx_session.specs.Worlds.{Seen, World, Mark, plain, lacking, unsaved, told, Stores, KeepsFiles, FailsToStore}
+use Rattle.tx_session.specs.Keeps.{Keeps, Takes}
+use Rattle.tx_session.specs.States.{IsAnswer, saved_by, unknown_reply}
+use Rattle.tx_session.specs.Worlds.{Seen, SeenWorld, World, IsAsBefore, seen_in, Mark, plain, lacking, unsaved, told}
+use Rattle.tx_session.specs.Worlds.{Stores, KeepsFiles, FailsToStore}
 
 -- the reply where memory ran out
 abbrev pub wanting_reply : List ℕ
@@ -30,19 +27,6 @@ wanting_reply = line (codes "no memory")
 -- the reply where the store failed
 abbrev pub unsaved_reply : List ℕ
 unsaved_reply = line (codes "no store")
-
--- the command asks the view, which is made where it isn't that of the present buffers
-abbrev pub asks_view : Command → Bool
-asks_view Show = true
-asks_view (Page n) = true
-asks_view Errors = true
-asks_view (PlaceOf r c) = true
-asks_view (Attrs r) = true
-asks_view (Click r c) = true
-asks_view Left = true
-asks_view Right = true
-asks_view Work = true
-asks_view _ = false
 
 -- the command takes memory of its own, beside what making the view takes
 abbrev pub takes_memory : Command → Bool
@@ -61,28 +45,12 @@ takes_memory _ = true
 abbrev pub MayLack : Seen → Command → Type 0
 MayLack seen command = takes_memory command || (asks_view command && not seen.fresh) ≡ true
 
--- a key does nothing, or its modifications are refused
-abbrev pub key_fails : State → Result Move EditFault → Bool
-key_fails state (Ok (Edit mods to)) = is_err (edited (key_edit mods) state)
-key_fails state (Ok (MoveTo to)) = true
-key_fails state (Err fault) = true
-
--- the command is refused, or changes no buffer
-abbrev pub keeps_buffers : State → Command → Bool
-keeps_buffers state (Change m) = is_err (edited (selected_edit state m) state)
-keeps_buffers state (Typed text) = key_fails state (by_typing state text)
-keeps_buffers state Backspace = key_fails state (by_backspace state)
-keeps_buffers state Enter = key_fails state (by_enter state)
-keeps_buffers state Undo = is_none (undone state)
-keeps_buffers state Redo = is_none (redone state)
-keeps_buffers state _ = true
-
 -- a command that asks the view leaves it fresh, and one that changes no buffer as it was
 abbrev pub fresh_after : Seen → Command → Bool
 fresh_after seen command = asks_view command || (keeps_buffers seen.state command && seen.fresh)
 
 -- the command is done
-pub record IsDone (before : World) (command : Command) (after : World) (reply : List ℕ) : Type 0 where
+pub record IsDone (before : SeenWorld) (command : Command) (after : SeenWorld) (reply : List ℕ) : Type 0 where
   pub answer : IsAnswer before.session.width before.session.height before.session.state command
       after.session.state reply
   pub fresh : after.session.fresh ≡ fresh_after before.session command
@@ -91,20 +59,20 @@ pub record IsDone (before : World) (command : Command) (after : World) (reply : 
   pub stored : Stores (saved_by before.session.state command) before.store after.store
 
 -- the command is `work`, and tells the number; the view is fresh afterwards
-pub record IsTold (before : World) (command : Command) (n : ℕ) (after : World) (reply : List ℕ) : Type 0 where
+pub record IsTold (before : SeenWorld) (command : Command) (n : ℕ) (after : SeenWorld) (reply : List ℕ) : Type 0 where
   pub work : command ≡ Work
   pub session : after.session ≡ record before.session { fresh = true }
   pub stored : after.store ≡ before.store
   pub said : reply ≡ work_reply n
 
 -- the store failed where the command saves a file
-abbrev pub IsUnsaved : World → Command → World → List ℕ → Type 0
+abbrev pub IsUnsaved : SeenWorld → Command → SeenWorld → List ℕ → Type 0
 IsUnsaved before command after reply =
     (name bytes : List ℕ) × (saved_by before.session.state command ≡ Some (name, bytes))
     × (after.session ≡ before.session) × FailsToStore name before.store after.store × (reply ≡ unsaved_reply)
 
 -- what a session and its store are after a command, and the reply, by the mark
-abbrev pub IsReply : World → Command → Mark → World → List ℕ → Type 0
+abbrev pub IsReply : SeenWorld → Command → Mark → SeenWorld → List ℕ → Type 0
 IsReply before command plain after reply = IsDone before command after reply
 IsReply before command lacking after reply = MayLack before.session command × (after.session ≡ before.session)
     × KeepsFiles before.store after.store × (reply ≡ wanting_reply)
@@ -142,17 +110,27 @@ IsRead text (faulty cause) = IsAsked text × (cause ≢ Memory) × IsCmdFault te
 
 -- a refusal, and want of memory in its place
 abbrev pub IsRefusal : World → (text : List ℕ) → Mark → World → List ℕ → Type 0
-IsRefusal before text plain after reply = (after ≡ before) × (reply ≡ text)
-IsRefusal before text lacking after reply = (after ≡ before) × (reply ≡ wanting_reply)
+IsRefusal before text plain after reply = IsAsBefore before after × (reply ≡ text)
+IsRefusal before text lacking after reply = IsAsBefore before after × (reply ≡ wanting_reply)
 IsRefusal before text unsaved after reply = ⊥
 IsRefusal before text (told n) after reply = ⊥
+
+-- the reply to a command that was read from a line, with what is then kept of the view and the steps, of which reading
+-- takes at most the nodes of the line's tree
+pub record IsCommandReply (before : World) (it : Command) (mark : Mark) (after : World) (reply : List ℕ) : Type 0 where
+  pub replied : IsReply (seen_in before) it mark (seen_in after) reply
+  pub keeps : Keeps before.session it mark after.session
+  pub read : ℕ
+  pub reading : (before.steps ≤ read) × (read ≤ before.steps + nodes_in (values_of it))
+  pub takes : Takes before.session it mark read after.steps
 
 -- the reply to a line that was read, unless it is `quit`
 abbrev pub IsReplyTo : World → Reading → Mark → World → List ℕ → Type 0
 IsReplyTo before nothing mark after reply = (mark ≡ plain) × (after ≡ before) × (reply ≡ [])
-IsReplyTo before (too_long count) mark after reply = IsRefusal before (refusal (Long count)) mark after reply
-IsReplyTo before unread mark after reply = (mark ≡ lacking) × (after ≡ before) × (reply ≡ wanting_reply)
-IsReplyTo before (command it) mark after reply = (it ≢ Quit) × IsReply before it mark after reply
+IsReplyTo before (too_long count) mark after reply =
+    IsRefusal before (refusal (Long count)) mark after reply × (after.steps ≡ before.steps)
+IsReplyTo before unread mark after reply = (mark ≡ lacking) × IsAsBefore before after × (reply ≡ wanting_reply)
+IsReplyTo before (command it) mark after reply = (it ≢ Quit) × IsCommandReply before it mark after reply
 IsReplyTo before (faulty cause) mark after reply = IsRefusal before (refusal cause) mark after reply
 
 abbrev pub IsLineReply : World → List ℕ → Mark → World → List ℕ → Type 0

@@ -35,8 +35,8 @@ AreLinesOf script lines =
     × ((ended : List (List ℕ)) × (rest : List ℕ) × HasLines script ended rest × (lines ≡ ended ++ rest ∷ [])))
     ⊎ ((MOST_SCRIPT < length script) × ((rest : List ℕ) × HasLines (take MOST_SCRIPT script) lines rest))
 
--- The lines are answered one after the other, from what a session and its store are to what they are then, and none is
--- `quit`. Each has a mark. The text is all the replies.
+-- The lines are answered one after the other, from what a session, what it keeps, its store and the steps are to what
+-- they are then, and none is `quit`. Each has a mark. The text is all the replies.
 abbrev pub Answered : World → List (List ℕ) → (marks : List Mark) → World → (text : List ℕ) → Type 0
 Answered before [] [] last text = (last ≡ before) × (text ≡ [])
 Answered before (one ∷ lines) (mark ∷ marks) last text =

@@ -10,8 +10,7 @@ use Rattle.tx_view.specs.Names.{Carry}
 use Rattle.tx_view.specs.Stores.{Stores, coded_Stores}
 use Rattle.tx_view.specs.WholeViews.{WholeView}
 use Rattle.tx_session.specs.declared.session.Session.TheInside.{Inside}
-use Rattle.tx_session.specs.Keeps.{Keep, Whole}
-use Rattle.tx_session.specs.Worlds.{Seen}
+use Rattle.tx_session.specs.Worlds.{Seen, Keep, Whole}
 
 abbrev seen_code : Coded Seen
 seen_code =

@@ -1,9 +1,10 @@
--- A session with its store, and marks of lines.
+-- A session with what it keeps and its store, and marks of lines.
 use Rattle.std.specs.Prelude.{◌≡◌, ◌≤◌, ◌⊎◌, ◌+◌, ◌-◌, ◌^◌, ℕ, Bool, List, [], ◌∷◌, Option, Some, None}
 use Rattle.tx_outside.specs.Counts.{NeverFalls, Rose}
 use Rattle.tx_outside.specs.Files.{Files, WithFile, OthersKept}
 use Rattle.tx_outside.specs.Known.{WhereKnown}
 use Rattle.tx_state.specs.States.{State}
+use Rattle.tx_view.specs.Stores.{Stores as ViewStores}
 
 -- What contracts see of a session: its state, the width and the height of its pages, and whether a command that asks
 -- the view was done since a buffer last changed. Asking it again then takes no memory.
@@ -13,6 +14,18 @@ pub record Seen : Type 0 where
   pub height : ℕ
   pub fresh : Bool
 
+-- whether the view is that of the present buffers, what it keeps from refresh to refresh, and by how many steps its
+-- last refresh raised the count
+pub record Keep : Type 0 where
+  pub fresh : Bool
+  pub stores : ViewStores
+  pub work : ℕ
+
+-- a session with what it keeps
+pub record Whole : Type 0 where
+  pub seen : Seen
+  pub keep : Keep
+
 -- the files of a store, where it tells them, and how often it has failed
 pub record Stored : Type 0 where
   pub files : Option Files
@@ -21,13 +34,31 @@ pub record Stored : Type 0 where
 abbrev pub stored : Option Files → ℕ → Stored
 stored files faults = record { files = files; faults = faults }
 
--- a session with its store
-pub record World : Type 0 where
+-- a session as it is seen, with its store
+pub record SeenWorld : Type 0 where
   pub session : Seen
   pub store : Stored
 
-abbrev pub world : Seen → Option Files → ℕ → World
-world session files faults = record { session = session; store = stored files faults }
+abbrev pub seen_world : Seen → Option Files → ℕ → SeenWorld
+seen_world session files faults = record { session = session; store = stored files faults }
+
+-- a session with what it keeps, its store, and how many steps were counted
+pub record World : Type 0 where
+  pub session : Whole
+  pub store : Stored
+  pub steps : ℕ
+
+abbrev pub world : Whole → Option Files → ℕ → ℕ → World
+world session files faults steps = record { session = session; store = stored files faults; steps = steps }
+
+abbrev pub seen_in : World → SeenWorld
+seen_in w = record { session = w.session.seen; store = w.store }
+
+-- all is as before, but that steps may have been counted
+pub record IsAsBefore (before after : World) : Type 0 where
+  pub session : after.session ≡ before.session
+  pub store : after.store ≡ before.store
+  pub steps : before.steps ≤ after.steps
 
 -- What the reply to a line owes to the machine outside: nothing, or that memory ran out, or that the store failed. At
 -- `work` it owes the number, which nothing but what the view keeps decides.
@@ -36,6 +67,13 @@ pub data Mark : Type 0 where
   lacking : Mark
   unsaved : Mark
   told : (n : ℕ) → Mark
+
+-- the mark without the number that is told
+abbrev pub untold : Mark → Mark
+untold plain = plain
+untold lacking = lacking
+untold unsaved = unsaved
+untold (told n) = plain
 
 -- the store did nothing, or keeps this file
 abbrev pub Stores : Option (List ℕ × List ℕ) → Stored → Stored → Type 0

@@ -7,8 +7,10 @@
 #![tactic(auto)]
 
 mod fault_lines;
+mod fixed_script;
 mod kept_line;
 mod limits;
+mod no_files;
 mod printing;
 mod replies;
 mod runs;
@@ -20,7 +22,7 @@ mod unopened;
 
 pub use limits::script_limit_law;
 pub use replies::replies_tell_marks;
-pub use runs::{failures_counted, one_run, run};
+pub use runs::{failures_counted, numbers_determined, one_run, run};
 pub use saving::{saved_in_a_session, saved_opens_again, saved_spells_alone};
 pub use session::{Next, Session};
 pub use status::Status;

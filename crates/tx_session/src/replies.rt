@@ -11,7 +11,7 @@ ghost use Rattle.tx_print.specs.Work.{work_reply};
 ghost use Rattle.tx_session.specs.Differences.{IsPlainReply};
 ghost use Rattle.tx_session.specs.Replies.{IsDone, refusal};
 ghost use Rattle.tx_session.specs.Saying.{Says, mark_of, text_of};
-ghost use Rattle.tx_session.specs.Worlds.{World, plain};
+ghost use Rattle.tx_session.specs.Worlds.{SeenWorld, plain};
 ghost use Rattle.tx_session.specs.Writing.{IsSaid};
 
 use crate::fault_lines::line_of_fault;
@@ -169,7 +169,7 @@ pub(crate) fn say<O: Sink>(out: &mut O, reply: &[u8]) -> Result<Next, WriteFault
 /// A law: what is said of a command that was done, of the steps of a refresh, and of a line that is no command, is
 /// never the line where memory ran out or the one where the store failed.
 pub fn replies_tell_marks()
-    ensures done { (before after : World) (it : Command) (reply : List ℕ) → IsDone before it after reply
+    ensures done { (before after : SeenWorld) (it : Command) (reply : List ℕ) → IsDone before it after reply
         → IsPlainReply reply }
     ensures told { (n : ℕ) → IsPlainReply (work_reply n) }
     ensures refused { (cause : CmdFault) → cause ≢ CmdFault.Memory → IsPlainReply (refusal cause) }

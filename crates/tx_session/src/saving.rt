@@ -5,6 +5,7 @@ ghost use Rattle.tx_session.specs.Forms.{has_text_in, saving, text_in, SpellsAlo
 ghost use Rattle.tx_print.specs.Lines.{line};
 ghost use Rattle.tx_words.specs.Names.{buffer_name};
 ghost use Rattle.tx_words.specs.Words.{Ask, named};
+ghost use Rattle.tx_words.specs.declared.asked.Source.TheVariants.{Files as AllFiles};
 ghost use Rattle.tx_open.specs.declared.opening.Opened.{Opened};
 ghost use Rattle.tx_open.specs.Outcomes.{Outcome, opened, ComesTo, IsDecided, IsTreeOf};
 ghost use Rattle.tx_session.specs.Saves.{IsKeepReply, IsSaveReply};
@@ -13,7 +14,7 @@ ghost use Rattle.tx_session.specs.Worlds.{World, Stored, Mark, plain, stored};
 ghost use Rattle.tx_session.specs.Savings.{IsSavedAlone, IsNotSaved, StandsAmong};
 ghost use Rattle.tx_session.specs.Scripts.{Answered, command_line};
 ghost use Rattle.tx_session.specs.Replies.{command, IsRead, IsLineReply};
-ghost use Rattle.tx_session.specs.Runs.{start_of};
+ghost use Rattle.tx_session.specs.Runs.{start_with};
 ghost use Rattle.tx_cmd.specs.declared.command.Command.{Command};
 ghost use Rattle.tx_session.specs.Storing.{GoesOn};
 ghost use Rattle.tx_tree.specs.WideTree.{WideTree};
@@ -123,8 +124,8 @@ pub fn saved_opens_again()
         → IsTreeOf (Some told) word t × ((u : WideTree) → IsTreeOf (Some told) word u → u ≡ t) }
     ensures alone { (words : List (List ℕ)) (told : Files) (width height : ℕ) (word bytes : List ℕ) (t : WideTree)
         (o : Outcome) → IsWellFormed t → IsWithinLimits t → saving (form_of word) t ≡ writes bytes
-        → Ask words width height (named word ∷ []) → file_of told word ≡ Some bytes → ComesTo words (Some told) o
-        → IsDecided o → o ≡ opened (record {
+        → Ask words width height (AllFiles (named word ∷ [])) → file_of told word ≡ Some bytes
+        → ComesTo words (Some told) o → IsDecided o → o ≡ opened (record {
           width = width;
           height = height;
           buffers = record { name = buffer_name word; tree = t } ∷ [];
@@ -141,12 +142,12 @@ pub fn saved_in_a_session()
     ensures among { (start : World) (before : List (List ℕ)) (one : List ℕ) (behind : List (List ℕ)) (marks : List Mark)
         (last : World) (text : List ℕ) → Answered start (before ++ one ∷ behind) marks last text →
         StandsAmong start before one behind marks last text }
-    ensures saved { (words : List (List ℕ)) (files : Option Files) (all : Opened) (first : Stored) →
+    ensures saved { (words : List (List ℕ)) (files : Option Files) (all : Opened) (first : Stored) (steps : ℕ) →
         ComesTo words files (opened all) →
         (lines : List (List ℕ)) (marks : List Mark) (seen : World) (done : List ℕ) →
-        Answered (record { session = start_of all; store = first }) lines marks seen done →
+        Answered (start_with all first steps) lines marks seen done →
         (one name reply : List ℕ) (next : World) → IsRead (command_line one) (command (Command.Save name)) →
         IsLineReply seen (command_line one) plain next reply →
-        IsSavedAlone name (selected_tree seen.session.state) seen.store next.store reply
+        IsSavedAlone name (selected_tree seen.session.seen.state) seen.store next.store reply
         ⊎ IsNotSaved seen.store next.store reply }
 {}

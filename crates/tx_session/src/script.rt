@@ -47,8 +47,8 @@ fn answer_line<S: Store, O: Sink, L: Ledger>(
 ) -> Result<Next, WriteFault>
     requires kept { (bytes : List ℕ) × KeepsLine line.now bytes }
     ensures answered { (bytes : List ℕ) → KeepsLine line.now bytes
-        → IsTurned result (world session.old.seen (S.files store.old) (S.faults store.old)) bytes
-        (world session.new.seen (S.files store.new) (S.faults store.new)) (O.written out.old) (O.written out.new) }
+        → IsTurned result (world session.old (S.files store.old) (S.faults store.old) steps.old) bytes
+        (world session.new (S.files store.new) (S.faults store.new) steps.new) (O.written out.old) (O.written out.new) }
     ensures failed_rose { OnErr result (Rose (O.faults out.old) (O.faults out.new)) }
     ensures store_goes_on { GoesOn (S.files store.old) (S.files store.new) (S.faults store.old) (S.faults store.new)
         (S.misses store.old) (S.misses store.new) (S.longs store.old) (S.longs store.new) }
@@ -89,10 +89,10 @@ fn take_byte<S: Store, O: Sink, L: Ledger>(
     requires kept { (bytes : List ℕ) × KeepsLine line.old bytes }
     requires room { line.old.count < MOST_SCRIPT }
     ensures leads { (start : World) (before : Option (List ℕ)) (bytes : List ℕ)
-        → StandsWith start before bytes (world session.old.seen (S.files store.old) (S.faults store.old)) line.old
+        → StandsWith start before bytes (world session.old (S.files store.old) (S.faults store.old) steps.old) line.old
         (O.written out.old)
         → LeadsTo result start before (bytes ++ byte ∷ [])
-        (world session.new.seen (S.files store.new) (S.faults store.new)) line.new (O.written out.new) }
+        (world session.new (S.files store.new) (S.faults store.new) steps.new) line.new (O.written out.new) }
     ensures kept { result ≡ Turn.Go → (bytes : List ℕ) × KeepsLine line.new bytes }
     ensures count { line.new.count ≤ line.old.count + 1 }
     ensures output_failed { result ≡ Turn.OutputFailed → Rose (O.faults out.old) (O.faults out.new) }
@@ -130,10 +130,10 @@ fn take_piece<S: Store, O: Sink, L: Ledger>(
     requires kept { (bytes : List ℕ) × KeepsLine line.old bytes }
     requires room { line.old.count + length piece.now ≤ MOST_SCRIPT }
     ensures leads { (start : World) (before : Option (List ℕ)) (bytes : List ℕ)
-        → StandsWith start before bytes (world session.old.seen (S.files store.old) (S.faults store.old)) line.old
+        → StandsWith start before bytes (world session.old (S.files store.old) (S.faults store.old) steps.old) line.old
         (O.written out.old)
         → LeadsTo result start before (bytes ++ piece.now)
-        (world session.new.seen (S.files store.new) (S.faults store.new)) line.new (O.written out.new) }
+        (world session.new (S.files store.new) (S.faults store.new) steps.new) line.new (O.written out.new) }
     ensures kept { result ≡ Turn.Go → (bytes : List ℕ) × KeepsLine line.new bytes }
     ensures count { line.new.count ≤ line.old.count + length piece.now }
     ensures output_failed { result ≡ Turn.OutputFailed → Rose (O.faults out.old) (O.faults out.new) }
@@ -162,10 +162,10 @@ fn end_script<S: Store, O: Sink, L: Ledger>(
 ) -> Status
     requires kept { (bytes : List ℕ) × KeepsLine line.now bytes }
     ensures end { (start : World) (told : Option (List ℕ)) (before : Option (List ℕ)) (script : List ℕ)
-        → StandsWith start before script (world session.old.seen (S.files store.old) (S.faults store.old)) line.now
+        → StandsWith start before script (world session.old (S.files store.old) (S.faults store.old) steps.old) line.now
         (O.written out.old) → Tells told script → length script ≤ MOST_SCRIPT
         → (rest : Option (List ℕ)) → IfSome rest (λ bytes. bytes ≡ []) → IsEnd result start
-        (world session.new.seen (S.files store.new) (S.faults store.new)) told rest before (O.written out.new) }
+        (world session.new (S.files store.new) (S.faults store.new) steps.new) told rest before (O.written out.new) }
     ensures status { (result ≡ Status.Ok) ⊎ (result ≡ Status.OutputFault) }
     ensures output_fault_counted { result ≡ Status.OutputFault → Rose (O.faults out.old) (O.faults out.new) }
     ensures store_goes_on { GoesOn (S.files store.old) (S.files store.new) (S.faults store.old) (S.faults store.new)
@@ -189,8 +189,8 @@ pub(crate) fn play<S: Store, I: Source, O: Sink, L: Ledger>(
     out: &mut O,
     steps: &mut Steps<L>,
 ) -> Status
-    ensures end { IsEnd result (world session.old.seen (S.files store.old) (S.faults store.old))
-        (world session.new.seen (S.files store.new) (S.faults store.new)) (I.left input.old) (I.left input.new)
+    ensures end { IsEnd result (world session.old (S.files store.old) (S.faults store.old) steps.old)
+        (world session.new (S.files store.new) (S.faults store.new) steps.new) (I.left input.old) (I.left input.new)
         (O.written out.old) (O.written out.new) }
     ensures input_fault_counted { result ≡ Status.InputFault → Rose (I.faults input.old) (I.faults input.new) }
     ensures output_fault_counted { result ≡ Status.OutputFault → Rose (O.faults out.old) (O.faults out.new) }

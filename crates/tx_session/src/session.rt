@@ -21,9 +21,10 @@ ghost use Rattle.tx_session.specs.Asking.{IsChange, IsKeyChange, IsArrival, IsCl
 ghost use Rattle.tx_session.specs.Asking.{going, IsEditKept, IsKeyKept};
 ghost use Rattle.tx_session.specs.Sessions.{view_with};
 ghost use Rattle.tx_session.specs.States.{selected_edit, selected_tree, saved_by, by_typing, by_backspace, by_enter};
-ghost use Rattle.tx_session.specs.Replies.{IsReply, unsaved_reply, asks_view};
+ghost use Rattle.tx_session.specs.Effects.{asks_view};
+ghost use Rattle.tx_session.specs.Replies.{IsReply, unsaved_reply};
 ghost use Rattle.tx_session.specs.Keeps.{Keeps, Takes, edit_cost, key_cost, most_steps};
-ghost use Rattle.tx_session.specs.Worlds.{Mark, Stored, plain, world};
+ghost use Rattle.tx_session.specs.Worlds.{Mark, Stored, plain, seen_world};
 ghost use Rattle.tx_session.specs.Storing.{GoesOn};
 ghost use Rattle.tx_session.specs.Saying.{mark_of, text_of};
 ghost use Rattle.tx_cmd.specs.declared.command.Command.{Command};
@@ -59,7 +60,7 @@ pub enum Next {
 /// A session over a document and its styles, on pages of one size.
 ///
 /// Contracts see its state, the size of its pages, and whether a command that asks the view was done since a buffer
-/// last changed (`specs/Worlds.antt`), and besides what it keeps of its view (`specs/Keeps.antt`).
+/// last changed, and besides what it keeps of its view (`specs/Worlds.antt`).
 #[derive(Drop)]
 pub struct Session {
     state: EditorState,
@@ -70,7 +71,7 @@ pub struct Session {
 }
 
 impl Model for Session {
-    ghost use Rattle.tx_session.specs.Keeps.{Whole};
+    ghost use Rattle.tx_session.specs.Worlds.{Whole};
 
     ghost Value = { Whole };
 
@@ -548,8 +549,9 @@ impl Session {
 
     // Saves the selected buffer's tree.
     fn save<S: Store>(&self, alloc: Global, name: &Name, store: &mut S) -> Reply
-        ensures saved { IsReply (world self.now.seen (S.files store.old) (S.faults store.old)) (Command.Save name.now)
-            (mark_of result) (world self.now.seen (S.files store.new) (S.faults store.new)) (text_of result) }
+        ensures saved { IsReply (seen_world self.now.seen (S.files store.old) (S.faults store.old))
+            (Command.Save name.now) (mark_of result)
+            (seen_world self.now.seen (S.files store.new) (S.faults store.new)) (text_of result) }
         ensures store_goes_on { GoesOn (S.files store.old) (S.files store.new) (S.faults store.old) (S.faults store.new)
             (S.misses store.old) (S.misses store.new) (S.longs store.old) (S.longs store.new) }
         ensures store_untouched { saved_by self.now.seen.state (Command.Save name.now) ≡ None → store.new ≡ store.old }
@@ -567,12 +569,13 @@ impl Session {
         steps: &mut Steps<L>,
     ) -> Result<Next, WriteFault>
         ensures replied { (mark : Mark) × (reply : List ℕ)
-            × IsReply (world self.old.seen (S.files store.old) (S.faults store.old)) command.now mark
-            (world self.new.seen (S.files store.new) (S.faults store.new)) reply
+            × IsReply (seen_world self.old.seen (S.files store.old) (S.faults store.old)) command.now mark
+            (seen_world self.new.seen (S.files store.new) (S.faults store.new)) reply
             × IsSaid result reply (O.written out.old) (O.written out.new)
             × Keeps self.old command.now mark self.new × Takes self.old command.now mark steps.old steps.new }
         ensures quits { result ≡ Ok Next.Quit ↔ command.now ≡ Command.Quit }
         ensures quit_writes_nothing { command.now ≡ Command.Quit → out.new ≡ out.old }
+        ensures quit_takes_nothing { command.now ≡ Command.Quit → steps.new ≡ steps.old }
         ensures failed_rose { OnErr result (Rose (O.faults out.old) (O.faults out.new)) }
         ensures store_untouched { saved_by self.old.seen.state command.now ≡ None → store.new ≡ store.old }
         ensures store_goes_on { GoesOn (S.files store.old) (S.files store.new) (S.faults store.old) (S.faults store.new)
@@ -624,12 +627,13 @@ impl Session {
         steps: &mut Steps<L>,
     ) -> Result<Next, WriteFault>
         ensures replied { (mark : Mark) × (reply : List ℕ)
-            × IsReply (world self.old.seen (S.files store.old) (S.faults store.old)) command.now mark
-            (world self.new.seen (S.files store.new) (S.faults store.new)) reply
+            × IsReply (seen_world self.old.seen (S.files store.old) (S.faults store.old)) command.now mark
+            (seen_world self.new.seen (S.files store.new) (S.faults store.new)) reply
             × IsSaid result reply (O.written out.old) (O.written out.new)
             × Keeps self.old command.now mark self.new × Takes self.old command.now mark steps.old steps.new }
         ensures quits { result ≡ Ok Next.Quit ↔ command.now ≡ Command.Quit }
         ensures quit_writes_nothing { command.now ≡ Command.Quit → out.new ≡ out.old }
+        ensures quit_takes_nothing { command.now ≡ Command.Quit → steps.new ≡ steps.old }
         ensures failed_rose { OnErr result (Rose (O.faults out.old) (O.faults out.new)) }
         ensures no_store_counted { OnOk result ((before : List ℕ) → O.written out.old ≡ Some before
             → O.written out.new ≡ Some (before ++ unsaved_reply) → Rose (S.faults store.old) (S.faults store.new)) }

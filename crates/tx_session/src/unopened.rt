@@ -1,4 +1,4 @@
-// What a run writes where no file was opened.
+// What a run writes where nothing was opened.
 ghost use Rattle.std.specs.Prelude.{◌≡◌, ◌++◌, IfOk};
 ghost use Rattle.tx_open.specs.Openings.{outcome_of};
 ghost use Rattle.tx_open.specs.Outcomes.{no_tree};
@@ -26,7 +26,7 @@ fn line_of(alloc: Global, word: &[u8], file: &[u8], rest: &[u8]) -> Result<Vec<u
     Ok(text)
 }
 
-/// The status with which the run ends, or `Ok` where files were opened.
+/// The status with which the run ends, or `Ok` where files were opened or a document was generated.
 pub(crate) fn status_of(opening: &Opening) -> Status
     ensures { result ≡ status_of (outcome_of opening.now) }
 {
@@ -36,7 +36,7 @@ pub(crate) fn status_of(opening: &Opening) -> Status
         Opening::Missing(_) => Status::Missing,
         Opening::StoreFault(_) => Status::StoreFault,
         Opening::NoMemory => Status::NoMemory,
-        Opening::Opened(_) => Status::Ok,
+        Opening::Opened(_) | Opening::Generated(_) => Status::Ok,
     }
 }
 
@@ -50,7 +50,7 @@ fn refused_line(alloc: Global, file: &[u8], fault: ReadFault) -> Result<Vec<u8>,
     line_of_fault(alloc, &words, fault)
 }
 
-/// What the run writes where no file was opened.
+/// What the run writes where nothing was opened.
 pub(crate) fn text_of(alloc: Global, opening: &Opening) -> Result<Vec<u8>, Memory>
     ensures { IfOk result (λ text. text.items ≡ text_of (outcome_of opening.now)) }
 {
@@ -61,6 +61,6 @@ pub(crate) fn text_of(alloc: Global, opening: &Opening) -> Result<Vec<u8>, Memor
         Opening::NoTree(file, fault) => refused_line(alloc, file, *fault),
         Opening::StoreFault(file) => line_of(alloc, b"store ", file, b""),
         Opening::NoMemory => line_of(alloc, b"memory", b"", b""),
-        Opening::Opened(_) => Ok(Vec::new(alloc)),
+        Opening::Opened(_) | Opening::Generated(_) => Ok(Vec::new(alloc)),
     }
 }

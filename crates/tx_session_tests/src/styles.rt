@@ -29,7 +29,7 @@ const OTHERS: &[(&str, &str)] = &[
     ),
 ];
 
-// The words, the call of the store that fails, the script, the status and the text.
+// The words, the call of the store and that of the input that fail, the script, the status and the text.
 type Styled = (
     &'static str,
     Option<u64>,
@@ -141,6 +141,18 @@ const STYLED: &[Styled] = &[
         Status::Ok,
         "page 1\nHi x\nno store\nsaved 50\n",
     ),
+    (
+        "tmx|gen:1:3",
+        Some(0),
+        "tree",
+        Status::Ok,
+        "no page 1\nno cell 4 80\nerrors 0\nok\nno page 1\nok\nno page 1\npage 1\n\n\
+          tree line page tree path style macro\nline cell value macro style path\npath style macro value cell line\n\
+          /0/0/0\n",
+    ),
+    ("tmx|gen:1:0", Some(0), "tree", Status::Words, USAGE),
+    ("tmx|gen:x:3", Some(0), "tree", Status::Words, USAGE),
+    ("tmx|gen:1:3|s.scm", Some(0), "tree", Status::Words, USAGE),
 ];
 
 fn first_wrong<L: Ledger>(
@@ -161,6 +173,7 @@ fn first_wrong<L: Ledger>(
             words: row.0,
             script: row.2.as_bytes(),
             store_failing: row.1,
+            input_failing: row.1,
             ..OF_A
         };
         if !ends(alloc, &setup, row.3, row.4, &mut steps)? {

@@ -11,8 +11,10 @@ pub returns-in_default : goal.returns-in_default
 returns-in_default g c =
     record {
       ended = served (Rose (g.I.Source.faults c.args.input.now) (g.I.Source.faults c.play.new.input))
-          (world c.args.session.now.seen (g.S.Store.files c.args.store.now) (g.S.Store.faults c.args.store.now))
-          (world c.play.new.session.seen (g.S.Store.files c.play.new.store) (g.S.Store.faults c.play.new.store)) _ _
+          (world c.args.session.now (g.S.Store.files c.args.store.now) (g.S.Store.faults c.args.store.now)
+          c.args.steps.now)
+          (world c.play.new.session (g.S.Store.files c.play.new.store) (g.S.Store.faults c.play.new.store)
+          c.play.new.steps) _ _
           c.play.result c.finish.result (g.O.Sink.written c.args.out.now) (g.O.Sink.written c.play.new.out)
           (g.O.Sink.written c.finish.new.out) c.play.ensures.input_fault_counted
           (end_played c.play.result _ _ _ _ _ _ c.in_default.not-OutputFault c.play.ensures.end)

@@ -21,7 +21,8 @@ loop-session-init g c =
           rest = [];
           stands =
               stands_first
-              (world c.args.session.now.seen (g.S.Store.files c.args.store.now) (g.S.Store.faults c.args.store.now))
+              (world c.args.session.now (g.S.Store.files c.args.store.now) (g.S.Store.faults c.args.store.now)
+              c.args.steps.now)
               (g.O.Sink.written c.args.out.now) (sym (append_known-nil _));
           kept = c.new-line.ensures;
         },
@@ -39,7 +40,7 @@ pub returns-in-Ok-eq0-clause-end : goal.returns-in-Ok-eq0-clause-end
 returns-in-Ok-eq0-clause-end g c =
     let t = c.loop-session.invariant.taken in
     c.end_script.ensures.end
-    (world c.args.session.now.seen (g.S.Store.files c.args.store.now) (g.S.Store.faults c.args.store.now))
+    (world c.args.session.now (g.S.Store.files c.args.store.now) (g.S.Store.faults c.args.store.now) c.args.steps.now)
     (g.I.Source.left c.args.input.now) (g.O.Sink.written c.args.out.now) t.0 t.3
     (at_end _ _ _ t.0 c.read.new.into _ c.in-Ok-eq0.field-0-test t.1 c.in-Ok-eq0.ensures.taken
     (c.in-Ok-eq0.ensures.zero_at_end c.in-Ok-eq0.field-0-test)) (omega (arith, t.2))
@@ -50,8 +51,10 @@ returns-in-Ok-eq0-clause-end g c =
 pub returns-in-Err-clause-end : goal.returns-in-Err-clause-end
 returns-in-Err-clause-end g c =
     let t = c.loop-session.invariant.taken in
-    failed_end (world c.args.session.now.seen (g.S.Store.files c.args.store.now) (g.S.Store.faults c.args.store.now))
-    (world c.loop-session.session.seen (g.S.Store.files c.loop-session.store) (g.S.Store.faults c.loop-session.store))
+    failed_end (world c.args.session.now (g.S.Store.files c.args.store.now) (g.S.Store.faults c.args.store.now)
+    c.args.steps.now)
+    (world c.loop-session.session (g.S.Store.files c.loop-session.store) (g.S.Store.faults c.loop-session.store)
+    c.loop-session.steps)
     (g.I.Source.left c.args.input.now) (g.I.Source.left c.read.new.self) (g.O.Sink.written c.args.out.now) _ t.0
     t.3.rest
     (t.1 ∙ ap (prepend_known t.0) (sym c.in-Err.ensures.failed_keeps)) (omega (arith, t.2)) t.3.stands
@@ -60,60 +63,61 @@ pub returns-in-Quit-clause-end : goal.returns-in-Quit-clause-end
 returns-in-Quit-clause-end g c =
     let t = c.loop-session.invariant.taken in
     stopped_in_read turns.Quit
-    (world c.args.session.now.seen (g.S.Store.files c.args.store.now) (g.S.Store.faults c.args.store.now))
-    (world c.take_piece.new.session.seen (g.S.Store.files c.take_piece.new.store)
-    (g.S.Store.faults c.take_piece.new.store)) (g.I.Source.left c.args.input.now)
+    (world c.args.session.now (g.S.Store.files c.args.store.now) (g.S.Store.faults c.args.store.now) c.args.steps.now)
+    (world c.take_piece.new.session (g.S.Store.files c.take_piece.new.store)
+    (g.S.Store.faults c.take_piece.new.store) c.take_piece.new.steps) (g.I.Source.left c.args.input.now)
     (g.I.Source.left c.loop-session.input) (g.I.Source.left c.read.new.self) (g.O.Sink.written c.args.out.now)
     (g.O.Sink.written c.take_piece.new.out)
     t.0 c.read.new.into c.min-within.result c.in-Ok.count c.loop-session.room c.take_piece.new.line (λ e. cc) t.1
     c.in-Ok.ensures.taken (omega (arith, c.min-within.ensures)) (omega (arith, c.min-within.ensures)) t.2
     (c.in-Quit.ensures.leads
-    (world c.args.session.now.seen (g.S.Store.files c.args.store.now) (g.S.Store.faults c.args.store.now))
+    (world c.args.session.now (g.S.Store.files c.args.store.now) (g.S.Store.faults c.args.store.now) c.args.steps.now)
     (g.O.Sink.written c.args.out.now) t.0 t.3)
 
 pub returns-in-NoMemory-clause-end : goal.returns-in-NoMemory-clause-end
 returns-in-NoMemory-clause-end g c =
     let t = c.loop-session.invariant.taken in
     stopped_in_read turns.NoMemory
-    (world c.args.session.now.seen (g.S.Store.files c.args.store.now) (g.S.Store.faults c.args.store.now))
-    (world c.take_piece.new.session.seen (g.S.Store.files c.take_piece.new.store)
-    (g.S.Store.faults c.take_piece.new.store)) (g.I.Source.left c.args.input.now)
+    (world c.args.session.now (g.S.Store.files c.args.store.now) (g.S.Store.faults c.args.store.now) c.args.steps.now)
+    (world c.take_piece.new.session (g.S.Store.files c.take_piece.new.store)
+    (g.S.Store.faults c.take_piece.new.store) c.take_piece.new.steps) (g.I.Source.left c.args.input.now)
     (g.I.Source.left c.loop-session.input) (g.I.Source.left c.read.new.self) (g.O.Sink.written c.args.out.now)
     (g.O.Sink.written c.take_piece.new.out)
     t.0 c.read.new.into c.min-within.result c.in-Ok.count c.loop-session.room c.take_piece.new.line (λ e. cc) t.1
     c.in-Ok.ensures.taken (omega (arith, c.min-within.ensures)) (omega (arith, c.min-within.ensures)) t.2
     (c.in-NoMemory.ensures.leads
-    (world c.args.session.now.seen (g.S.Store.files c.args.store.now) (g.S.Store.faults c.args.store.now))
+    (world c.args.session.now (g.S.Store.files c.args.store.now) (g.S.Store.faults c.args.store.now) c.args.steps.now)
     (g.O.Sink.written c.args.out.now) t.0 t.3)
 
 pub returns-in-OutputFailed-clause-end : goal.returns-in-OutputFailed-clause-end
 returns-in-OutputFailed-clause-end g c =
     let t = c.loop-session.invariant.taken in
     stopped_in_read turns.OutputFailed
-    (world c.args.session.now.seen (g.S.Store.files c.args.store.now) (g.S.Store.faults c.args.store.now))
-    (world c.take_piece.new.session.seen (g.S.Store.files c.take_piece.new.store)
-    (g.S.Store.faults c.take_piece.new.store)) (g.I.Source.left c.args.input.now)
+    (world c.args.session.now (g.S.Store.files c.args.store.now) (g.S.Store.faults c.args.store.now) c.args.steps.now)
+    (world c.take_piece.new.session (g.S.Store.files c.take_piece.new.store)
+    (g.S.Store.faults c.take_piece.new.store) c.take_piece.new.steps) (g.I.Source.left c.args.input.now)
     (g.I.Source.left c.loop-session.input) (g.I.Source.left c.read.new.self) (g.O.Sink.written c.args.out.now)
     (g.O.Sink.written c.take_piece.new.out)
     t.0 c.read.new.into c.min-within.result c.in-Ok.count c.loop-session.room c.take_piece.new.line (λ e. cc) t.1
     c.in-Ok.ensures.taken (omega (arith, c.min-within.ensures)) (omega (arith, c.min-within.ensures)) t.2
     (c.in-OutputFailed.ensures.leads
-    (world c.args.session.now.seen (g.S.Store.files c.args.store.now) (g.S.Store.faults c.args.store.now))
+    (world c.args.session.now (g.S.Store.files c.args.store.now) (g.S.Store.faults c.args.store.now) c.args.steps.now)
     (g.O.Sink.written c.args.out.now) t.0 t.3)
 
 pub returns-then-within-count-clause-end : goal.returns-then-within-count-clause-end
 returns-then-within-count-clause-end g c =
     let t = c.loop-session.invariant.taken in
-    long_read (world c.args.session.now.seen (g.S.Store.files c.args.store.now) (g.S.Store.faults c.args.store.now))
-    (world c.take_piece.new.session.seen (g.S.Store.files c.take_piece.new.store)
-    (g.S.Store.faults c.take_piece.new.store)) (g.I.Source.left c.args.input.now)
+    long_read (world c.args.session.now (g.S.Store.files c.args.store.now) (g.S.Store.faults c.args.store.now)
+    c.args.steps.now)
+    (world c.take_piece.new.session (g.S.Store.files c.take_piece.new.store)
+    (g.S.Store.faults c.take_piece.new.store) c.take_piece.new.steps) (g.I.Source.left c.args.input.now)
     (g.I.Source.left c.loop-session.input) (g.I.Source.left c.read.new.self) (g.O.Sink.written c.args.out.now)
     (g.O.Sink.written c.take_piece.new.out)
     t.0 c.read.new.into c.min-within.result c.in-Ok.count c.loop-session.room c.take_piece.new.line t.1
     c.in-Ok.ensures.taken c.if-within-count.true (omega (arith, c.min-within.ensures, c.if-within-count.true))
     (omega (arith, c.in-Ok.ensures.within, c.read.auto.into, c.loop-session.invariant.piece)) t.2
     (c.in-Go.ensures.leads
-    (world c.args.session.now.seen (g.S.Store.files c.args.store.now) (g.S.Store.faults c.args.store.now))
+    (world c.args.session.now (g.S.Store.files c.args.store.now) (g.S.Store.faults c.args.store.now) c.args.steps.now)
     (g.O.Sink.written c.args.out.now) t.0 t.3)
 
 pub loop-session-preserved : goal.loop-session-preserved
@@ -133,7 +137,8 @@ loop-session-preserved g c =
               c.loop-session.invariant.piece,
             )) t.2,
         c.in-Go.ensures.leads
-            (world c.args.session.now.seen (g.S.Store.files c.args.store.now) (g.S.Store.faults c.args.store.now))
+            (world c.args.session.now (g.S.Store.files c.args.store.now) (g.S.Store.faults c.args.store.now)
+            c.args.steps.now)
             (g.O.Sink.written c.args.out.now) t.0 t.3,
       );
       count = count_on _ c.loop-session.line.count c.loop-session.room c.min-within.result c.read.new.into

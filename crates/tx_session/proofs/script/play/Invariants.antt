@@ -13,8 +13,9 @@ invariant-loop-session g l =
     record {
       taken : (taken : List ℕ) × (g.I.Source.left l.fn.input ≡ prepend_known taken (g.I.Source.left l.input))
           × (length taken + l.room ≡ MOST_SCRIPT)
-          × StandsWith (world l.fn.session.seen (g.S.Store.files l.fn.store) (g.S.Store.faults l.fn.store))
-          (g.O.Sink.written l.fn.out) taken (world l.session.seen (g.S.Store.files l.store) (g.S.Store.faults l.store))
+          × StandsWith (world l.fn.session (g.S.Store.files l.fn.store) (g.S.Store.faults l.fn.store) l.fn.steps)
+          (g.O.Sink.written l.fn.out) taken (world l.session (g.S.Store.files l.store) (g.S.Store.faults l.store)
+          l.steps)
           l.line (g.O.Sink.written l.out);
       count : l.line.count + l.room ≤ MOST_SCRIPT;
       store : GoesOn (g.S.Store.files l.fn.store) (g.S.Store.files l.store) (g.S.Store.faults l.fn.store)

@@ -12,10 +12,11 @@ invariant-loop-byte g l =
       kept : (bytes : List ℕ) × KeepsLine l.line bytes;
       leads : (start : World) (before : Option (List ℕ)) (bytes : List ℕ)
           → StandsWith start before bytes
-          (world l.fn.session.seen (g.S.Store.files l.fn.store) (g.S.Store.faults l.fn.store)) l.fn.line
+          (world l.fn.session (g.S.Store.files l.fn.store) (g.S.Store.faults l.fn.store) l.fn.steps) l.fn.line
           (g.O.Sink.written l.fn.out)
           → StandsWith start before (bytes ++ take l.byte-index l.piece)
-          (world l.session.seen (g.S.Store.files l.store) (g.S.Store.faults l.store)) l.line (g.O.Sink.written l.out);
+          (world l.session (g.S.Store.files l.store) (g.S.Store.faults l.store)
+          l.steps) l.line (g.O.Sink.written l.out);
       count : l.line.count ≤ l.fn.line.count + l.byte-index;
       store : GoesOn (g.S.Store.files l.fn.store) (g.S.Store.files l.store) (g.S.Store.faults l.fn.store)
           (g.S.Store.faults l.store) (g.S.Store.misses l.fn.store) (g.S.Store.misses l.store)

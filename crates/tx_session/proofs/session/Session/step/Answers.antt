@@ -1,4 +1,4 @@
-use Rattle.tx_session.specs.Worlds.{world}
+use Rattle.tx_session.specs.Worlds.{seen_world}
 use Rattle.tx_session.proofs.Plainly.{no_store}
 use Rattle.tx_session.proofs.Refreshed.{most_taken}
 use Rattle.tx_session.proofs.session.Session.step.Goals as goal
@@ -6,8 +6,8 @@ use Rattle.tx_session.proofs.session.Session.step.Goals as goal
 pub returns-clause-no_store_counted : goal.returns-clause-no_store_counted
 returns-clause-no_store_counted g c =
     let r = c.answer-next.ensures.replied in
-    no_store (world c.args.self.now.seen (g.S.Store.files c.args.store.now) (g.S.Store.faults c.args.store.now))
-    (world c.answer-next.new.self.seen (g.S.Store.files c.answer-next.new.store)
+    no_store (seen_world c.args.self.now.seen (g.S.Store.files c.args.store.now) (g.S.Store.faults c.args.store.now))
+    (seen_world c.answer-next.new.self.seen (g.S.Store.files c.answer-next.new.store)
     (g.S.Store.faults c.answer-next.new.store))
     c.args.command.now r.0 r.1 c.answer-next.result (g.O.Sink.written c.args.out.now)
     (g.O.Sink.written c.answer-next.new.out) r.2 r.3

@@ -1,0 +1,26 @@
+// A store without files.
+ghost use Rattle.std.specs.Prelude.{Some, []};
+
+use tx_outside::{LoadFault, SaveFault, Store};
+
+/// A store for a session that saves nothing: it holds no file, and takes none.
+#[derive(Drop)]
+pub(crate) struct NoFiles;
+
+impl Store for NoFiles {
+    ghost files = { λ _. Some [] };
+
+    ghost faults = { λ _. 0 };
+
+    ghost misses = { λ _. 0 };
+
+    ghost longs = { λ _. 0 };
+
+    fn load(&mut self, _name: &[u8], _out: &mut Vec<u8>) -> Result<(), LoadFault> {
+        Err(LoadFault::Memory)
+    }
+
+    fn save(&mut self, _name: &[u8], _bytes: &[u8]) -> Result<(), SaveFault> {
+        Err(SaveFault::Memory)
+    }
+}
