@@ -74,75 +74,8 @@ fn first_above<L: Ledger>(alloc: Global, rows: &[Row], blank: Blank) -> Option<u
     None
 }
 
-// A document of 18 paragraphs that never end, and one that is changed.
-fn endless(alloc: Global) -> Option<String> {
-    let mut text = String::new(alloc);
-    text.push_str("(document").ok()?;
-    for _ in 0..18 {
-        text.push_str(" (while \"true\" \"abcdefg\")").ok()?;
-    }
-    text.push_str(" \"x\")").ok()?;
-    Some(text)
-}
-
-// The page of that document with this last line.
-fn push_page(text: &mut String, last: &str) -> Option<()> {
-    text.push_str("page 1\n").ok()?;
-    for _ in 0..18 {
-        text.push_str("<!limit while>\n").ok()?;
-    }
-    text.push_str(last).ok()
-}
-
-// Changes the last paragraph and changes it back, so many times; whether each reply is as it should be.
-fn goes_round<L: Ledger>(
-    alloc: Global,
-    session: &mut Session,
-    rounds: u32,
-    steps: &mut Steps<L>,
-) -> Option<bool> {
-    let mut expected = String::new(alloc);
-    expected.push_str("ok\n").ok()?;
-    push_page(&mut expected, "y\nok\n")?;
-    push_page(&mut expected, "x\n")?;
-    for _ in 0..rounds {
-        let lines = "assign /18 \"y\"\npage 1\nassign /18 \"x\"\npage 1";
-        if answered(alloc, session, lines, steps)?.as_slice() != expected.as_bytes() {
-            return Some(false);
-        }
-    }
-    Some(true)
-}
-
-// What `work` prints behind so many rounds, if each goes as it should.
-fn work_of_rounds<L: Ledger>(alloc: Global, rounds: u32, blank: Blank) -> Option<u64>
-    requires name { blank.name ≡ L.name }
-    requires parts { blank.parts ≡ L.parts }
-    requires whole { blank.parts ≡ 1 }
-{
-    let mut steps = Steps::<L>::new(blank);
-    let document = endless(alloc)?;
-    let told = Told {
-        document: document.as_bytes(),
-        ..TOLD
-    };
-    let mut session = session_of(alloc, &told, &mut steps)?;
-    if goes_round(alloc, &mut session, rounds, &mut steps)? {
-        work_of(alloc, &mut session, &mut steps)
-    } else {
-        None
-    }
-}
-
 #[test]
 fn work_is_what_is_made_anew(rt: HostRuntime) -> Result<(), Fail> {
     assert_eq!(rt; first_above::<Brand>(rt.alloc(), ROWS, Blank::new(1)), None);
-    Ok(())
-}
-
-#[test]
-fn other_paragraphs_are_not_evaluated_again(rt: HostRuntime) -> Result<(), Fail> {
-    let work = work_of_rounds::<Brand>(rt.alloc(), 50, Blank::new(1)).ok_or("a reply differs")?;
-    assert!(rt; work <= 3, "{work}");
     Ok(())
 }

@@ -1,0 +1,290 @@
+// Documents, and random edits of them.
+use std::alloc::Global;
+use tx_dice::Dice;
+
+// A document and a style, paths of the document, trees that are put there, and other edits.
+#[derive(Clone, Copy)]
+pub(crate) struct Play {
+    pub(crate) document: &'static str,
+    pub(crate) style: &'static str,
+    pub(crate) paths: &'static [&'static str],
+    pub(crate) trees: &'static [&'static str],
+    pub(crate) edits: &'static [&'static str],
+}
+
+const KEYS: &[&str] = &["enter", "backspace", "type \"k <beta>\""];
+
+// Macros of a style, and the paragraphs that use them.
+pub(crate) const MACROS: Play = Play {
+    document: "(document (style \"s\") (body (document (assign \"n\" \"1\") (hi \"abc\") (concat (value \"n\") \" b \" \
+        (em \"c\")) (two \"x\" (hi \"y\")) \"some plain text that takes two lines\" (strong (document \"p\" \"q\")) \
+        (if (provides \"n\") (concat (value \"n\") (hi \"z\")) \"none\"))))",
+    style: "(document (assign \"hi\" (macro \"x\" (concat \"Hi \" (arg \"x\")))) (assign \"two\" (macro \"x\" \"y\" \
+        (document (concat (arg \"y\") \", \" (arg \"x\")) (arg \"x\")))))",
+    paths: &[
+        "/1/0",
+        "/1/0/0",
+        "/1/0/0/1",
+        "/1/0/1/0",
+        "/1/0/2",
+        "/1/0/2/1",
+        "/1/0/3",
+        "/1/0/3/1/0",
+        "/1/0/4",
+        "/1/0/5/0",
+        "/1/0/6",
+    ],
+    trees: &[
+        "\"b<gamma> c\"",
+        "(tuple \"x\" \"y\")",
+        "(tuple (hi \"z\"))",
+        "(value \"n\")",
+        "(tuple (assign \"n\" \"2\"))",
+        "(two \"u\" (em \"v\"))",
+        "(concat \"r\" (value \"n\"))",
+        "(assign \"hi\" (macro \"x\" (arg \"x\")))",
+    ],
+    edits: &[
+        "at s\nassign /0/1/1/0 \"Yo \"\nat d",
+        "at s\nassign /1/1/2 (arg \"y\")\nat d",
+        "at s\ninsert / 0 (tuple \"top\")\nat d",
+        "at s\nremove / 0 1\nat d",
+        "at s\ninsert / 1 (tuple (assign \"n\" \"0\"))\nat d",
+        "assign /1/0/0/1 \"5\"",
+        "remove /1/0 1 1",
+        "insert /1/0 3 (tuple (hi \"new\"))",
+    ],
+};
+
+// Variables that later paragraphs look at, and loops.
+pub(crate) const VARIABLES: Play = Play {
+    document: "(document (assign \"k\" \"0\") (while (less (value \"k\") \"4\") (concat (value \"k\") \" \" (assign \
+        \"k\" (plus (value \"k\") \"1\")))) (concat \"k is \" (value \"k\")) (assign \"a\" \"x\") (if (equal (value \
+        \"a\") \"x\") (assign \"b\" \"1\") (assign \"b\" \"2\")) (concat (value \"a\") (value \"b\")) (if (provides \
+        \"c\") \"set\" \"unset\") \"text\" (with \"a\" \"w\" (concat (value \"a\") (value \"b\"))) (while (lesseq \
+        (value \"b\") \"3\") (assign \"b\" (plus (value \"b\") \"1\"))))",
+    style: "(document)",
+    paths: &[
+        "/", "/0/1", "/2", "/2/0", "/3", "/3/1", "/3/0", "/5", "/6", "/7", "/8", "/8/1",
+    ],
+    trees: &[
+        "\"2\"",
+        "\"x\"",
+        "\"t\"",
+        "(tuple \"a\" \"b\")",
+        "(value \"a\")",
+        "(tuple (assign \"c\" \"1\"))",
+        "(tuple (assign \"a\" \"v\") (value \"b\"))",
+        "(tuple (assign \"k\" \"2\"))",
+        "(plus (value \"b\") \"1\")",
+    ],
+    edits: &[
+        "assign /0/1 \"1\"",
+        "assign /0/1 \"3\"",
+        "assign /3/1 \"x\"",
+        "assign /3/1 \"y\"",
+        "assign /3/1 (value \"k\")",
+        "assign /4/2/1 \"3\"",
+        "assign /6/0/0 \"a\"",
+        "insert / 5 (tuple (assign \"c\" \"1\"))",
+        "remove / 5 1",
+        "remove / 3 1",
+        "remove-node /4 1",
+        "assign-node /7 em",
+    ],
+};
+
+// Attributes, for which lines are laid out.
+pub(crate) const ATTRIBUTES: Play = Play {
+    document: "(document (assign \"par-left\" \"2spc\") \"first text\" (with \"par-left\" \"4spc\" \"second text that \
+        takes two lines or more\") (assign \"font-series\" \"bold\") (concat \"third \" (with \"color\" \"red\" \
+        \"red\")) (document \"inner one\" (assign \"par-right\" \"3spc\") \"inner two\") \"last text\" (assign \
+        \"par-mode\" \"center\") \"end\" (value \"par-left\"))",
+    style: "(document)",
+    paths: &[
+        "/", "/0/1", "/1", "/2/1", "/2/2", "/3/1", "/4", "/4/0", "/5", "/5/1/1", "/6", "/7/1",
+    ],
+    trees: &[
+        "\"3spc\"",
+        "\"1.5em\"",
+        "\"medium\"",
+        "\"right\"",
+        "(tuple \"new\")",
+        "(tuple (assign \"par-first\" \"1spc\"))",
+        "(with \"font-shape\" \"italic\" \"slanted\")",
+        "(tuple (assign \"color\" \"blue\") \"blue\")",
+    ],
+    edits: &[
+        "assign /0/1 \"2000mcell\"",
+        "assign /0/1 \"1em\"",
+        "assign /0/1 \"3spc\"",
+        "assign /0/1 \"none\"",
+        "assign /0/0 \"par-first\"",
+        "assign /3/1 \"medium\"",
+        "assign /3/0 \"font-shape\"",
+        "assign /7/1 \"left\"",
+        "remove / 0 1",
+        "insert / 0 (tuple (assign \"par-left\" \"1spc\"))",
+        "insert /1 0 \"z\"",
+    ],
+};
+
+// Paragraphs that take some 960,000 steps each, or more than they may, and together nearly all that there are.
+pub(crate) const BUDGETS: Play = Play {
+    document: "(document (assign \"b\" \"0123456789012345678901234567890123456789012345678901234567890123456789\
+        012345678901234567890123456789\") (assign \"c\" (merge (value \"b\") (value \"b\") (value \"b\") (value \
+        \"b\") (value \"b\") (value \"b\") (value \"b\") (value \"b\") (value \"b\") (value \"b\"))) (assign \
+        \"d\" (merge (value \"c\") (value \"c\") (value \"c\") (value \"c\") (value \"c\") (value \"c\") (value \
+        \"c\") (value \"c\"))) (assign \"e\" (merge (value \"d\") (value \"d\") (value \"d\") (value \"d\") (value \
+        \"d\") (value \"d\") (value \"d\") (value \"d\"))) (assign \"m\" (macro (if (equal (value \"e\") \"x\") \
+        \"p\" \"q\"))) (assign \"h\" (macro (concat (m) (m) (m) (m) (m)))) (assign \"g\" (macro (concat (h) (h) (h)))) \
+        (concat (g) (m)) (g) (g) (g) (g) (g) (g) (g) (g) (g) (g) (g) (g) (g) (g) (g) \"end\")",
+    style: "(document)",
+    paths: &["/7", "/8", "/11", "/20", "/22", "/23"],
+    trees: &["\"a\"", "(g)", "(m)", "(tuple (h))", "(concat (g) (h))"],
+    edits: &[
+        "remove /0/1 0 10",
+        "insert / 8 (tuple (g))",
+        "insert / 9 (tuple (g) (m))",
+        "insert / 12 (tuple (h) (h) (h))",
+        "insert / 22 (tuple (g) \"z\")",
+        "remove / 8 1",
+        "remove / 10 1",
+        "remove / 20 2",
+        "assign /6/1/0/0 (m)",
+        "assign /23 \"the end\"",
+        "undo",
+        "undo",
+    ],
+};
+
+// Styles, an initial environment, and a body that moves.
+pub(crate) const PARTS: Play = Play {
+    document: "(document (style (tuple \"s\" \"none\" \"generic\")) (initial (collection (associate \"par-left\" \
+        \"1spc\") (associate \"v\" \"7\"))) (body (document \"one\" (value \"v\") (concat \"two\" (a)) (b \"x\") \
+        \"three\")))",
+    style: "(document (assign \"a\" \"mac\") (assign \"b\" (macro \"x\" (concat (arg \"x\") (value \"v\")))) \"stray\")",
+    paths: &[
+        "/", "/0/0", "/1/0", "/1/0/0/1", "/1/0/1/1", "/2/0", "/2/0/0", "/2/0/1", "/2/0/2",
+        "/2/0/2/0", "/2/0/3",
+    ],
+    trees: &[
+        "\"s\"",
+        "\"2spc\"",
+        "(tuple \"s\")",
+        "(tuple \"none\" \"s\")",
+        "(tuple (associate \"par-first\" \"2spc\"))",
+        "(tuple \"x\")",
+        "(b \"y\")",
+        "(tuple (assign \"v\" \"8\") (value \"v\"))",
+    ],
+    edits: &[
+        "insert / 0 (tuple \"top\")",
+        "insert / 2 (tuple (f \"x\") (g \"y\"))",
+        "remove / 0 1",
+        "remove / 2 1",
+        "assign /0/0 \"s\"",
+        "assign /0/0 (tuple \"none\" \"s\")",
+        "assign /1/0/0/1 \"2spc\"",
+        "assign /1/0/1/1 \"5\"",
+        "remove /1/0 0 1",
+        "split /2/0 0 1",
+        "join /2/0 0",
+        "at s\nassign /1/1/1/0 \"c\"\nat d",
+        "at s\nassign /0/1 (value \"v\")\nat d",
+        "at s\nremove / 2 1\nat d",
+        "at s\ninsert / 0 (tuple (assign \"v\" \"9\"))\nat d",
+    ],
+};
+
+// Paragraphs that are put in, taken out, split, joined and wrapped.
+pub(crate) const MOVES: Play = Play {
+    document: "(document \"ab\" \"cd\" (concat \"e\" (em \"f\") \"g\") \"hi\" (document \"j\" \"kl\") (concat \"m\" \
+        \"no\") \"p\")",
+    style: "(document)",
+    paths: &[
+        "/", "/", "/0", "/1", "/2", "/2/0", "/2/1/0", "/3", "/4", "/4/1", "/5", "/5/1", "/6",
+    ],
+    trees: &[
+        "\"q\"",
+        "\"rs\"",
+        "(tuple \"t\")",
+        "(tuple \"u\" \"v\")",
+        "(document \"w\")",
+        "(concat)",
+        "(tuple (em \"x\"))",
+    ],
+    edits: &[
+        "split / 0 1",
+        "split / 1 1",
+        "split / 2 1",
+        "split /2 0 1",
+        "join / 0",
+        "join / 1",
+        "insert / 0 (tuple \"ab\" \"cd\")",
+        "insert / 2 (tuple (concat \"y\" (em \"z\")))",
+        "insert / 4 (tuple (document \"j\" \"kl\"))",
+        "remove / 1 1",
+        "insert-node / 0 (document)",
+        "insert-node / 1 (document \"front\")",
+        "remove-node / 0",
+        "insert-node /1 0 (em)",
+        "remove-node /1 0",
+        "assign-node /2 document",
+    ],
+};
+
+// One of these.
+fn pick(words: &'static [&'static str], dice: &mut Dice) -> Option<&'static str> {
+    let n = words.len();
+    if n == 0 {
+        return None;
+    }
+    words.get(dice.roll(1_000) as usize % n).copied()
+}
+
+// Another tree at this path, or more at a place of it.
+fn random_tree(alloc: Global, path: &str, tree: &str, dice: &mut Dice) -> Option<String> {
+    let i = dice.roll(4);
+    let line = match dice.roll(3) {
+        0 => format!(in alloc; "assign {path} {tree}"),
+        1 => format!(in alloc; "insert {path} {i} {tree}"),
+        _ => format!(in alloc; "insert {path} {i} \"c\""),
+    };
+    line.ok()
+}
+
+// Less at this path, or the same in other pieces.
+fn random_pieces(alloc: Global, path: &str, dice: &mut Dice) -> Option<String> {
+    let i = dice.roll(4);
+    let n = dice.roll(3);
+    let line = match dice.roll(4) {
+        0 | 1 => format!(in alloc; "remove {path} {i} {n}"),
+        2 => format!(in alloc; "split {path} {i} {n}"),
+        _ => format!(in alloc; "join {path} {i}"),
+    };
+    line.ok()
+}
+
+// A key at a place of the text at this path, or of the root.
+fn random_key(alloc: Global, path: &str, dice: &mut Dice) -> Option<String> {
+    let path = if path == "/" { "" } else { path };
+    let offset = dice.roll(4);
+    let key = pick(KEYS, dice)?;
+    format!(in alloc; "go {path}/{offset}\n{key}").ok()
+}
+
+// Lines that change a buffer.
+pub(crate) fn random_lines(alloc: Global, play: &Play, dice: &mut Dice) -> Option<String> {
+    let path = pick(play.paths, dice)?;
+    let tree = pick(play.trees, dice)?;
+    let edit = pick(play.edits, dice)?;
+    match dice.roll(12) {
+        0 | 1 => String::from_str(alloc, "undo").ok(),
+        2 => String::from_str(alloc, "redo").ok(),
+        3 => random_key(alloc, path, dice),
+        4 | 5 => random_tree(alloc, path, tree, dice),
+        6 | 7 => random_pieces(alloc, path, dice),
+        _ => String::from_str(alloc, edit).ok(),
+    }
+}

@@ -1,0 +1,212 @@
+// The units of a document one behind the other, from nothing, and what of them has to be made anew.
+ghost use Rattle.std.specs.Prelude.{◌≤◌};
+
+use std::alloc::Global;
+use std::sync::ledger::Ledger;
+use tx_base::Steps;
+use tx_env::Env;
+use tx_exec::{Outcome, Trace, eval};
+use tx_items::{Attrs, items};
+use tx_tree::{Text, Tree};
+use tx_units::Unit;
+
+// The most steps of a unit, and of all.
+const MOST_UNIT: u64 = 1_000_000;
+
+const MOST_ALL: u64 = 16_000_000;
+
+// What a unit shows that is over: `<!over>`.
+const OVER_ITEMS: u64 = 7;
+
+// The variables that are attributes of a paragraph.
+const VARIABLES: [&[u8]; 7] = [
+    b"font-series",
+    b"font-shape",
+    b"color",
+    b"par-mode",
+    b"par-left",
+    b"par-right",
+    b"par-first",
+];
+
+// What a unit came to at a refresh, and the attributes before it.
+#[derive(Drop)]
+pub(crate) struct Last {
+    outcome: Outcome,
+    attrs: Attrs,
+}
+
+// Behind some units: what names have, the steps that are left for others, and the steps of what was made anew.
+#[derive(Drop)]
+pub(crate) struct Walk {
+    env: Env,
+    left: u64,
+    pub(crate) work: u64,
+}
+
+fn is_tree(one: Option<&Tree>, other: &Option<Tree>) -> bool {
+    match (one, other) {
+        (None, None) => true,
+        (Some(one), Some(other)) => one.same(other),
+        _ => false,
+    }
+}
+
+// Whether each name has what it had where it was looked up.
+fn agrees(trace: &Trace, env: &Env) -> bool {
+    for (name, value) in trace.looks.pairs() {
+        if !is_tree(env.get(name), value) {
+            return false;
+        }
+    }
+    true
+}
+
+// Whether what a unit came to last is what it comes to now.
+fn fits(last: Option<&Last>, env: &Env, allowance: u64) -> bool {
+    match last {
+        Some(
+            Last {
+                outcome: Outcome::Done(trace),
+                ..
+            },
+        ) => agrees(trace, env) && trace.cost <= allowance,
+        _ => false,
+    }
+}
+
+// The attributes where names have this.
+fn attributes(alloc: Global, env: &Env) -> Option<Attrs> {
+    let mut attrs = Attrs::initial(alloc).ok()?;
+    for name in VARIABLES {
+        set(alloc, &mut attrs, env, name)?;
+    }
+    Some(attrs)
+}
+
+fn set(alloc: Global, attrs: &mut Attrs, env: &Env, name: &[u8]) -> Option<()> {
+    let name = Text::new(alloc, name).ok()?;
+    match env.get(&name) {
+        None => Some(()),
+        Some(tree) => attrs.set(alloc, &name, tree.text()).ok(),
+    }
+}
+
+fn are_same(one: &Attrs, other: &Attrs) -> bool {
+    one.series.bytes() == other.series.bytes()
+        && one.shape.bytes() == other.shape.bytes()
+        && one.color.bytes() == other.color.bytes()
+        && one.mode.bytes() == other.mode.bytes()
+        && one.left == other.left
+        && one.right == other.right
+        && one.first == other.first
+}
+
+fn is_laid_for(last: Option<&Last>, attrs: &Attrs) -> bool {
+    match last {
+        None => false,
+        Some(last) => are_same(&last.attrs, attrs),
+    }
+}
+
+// How many items a paragraph with this trace shows.
+fn item_count(alloc: Global, outcome: &Outcome, attrs: &Attrs) -> Option<u64> {
+    let Outcome::Done(trace) = outcome else {
+        return Some(OVER_ITEMS);
+    };
+    let (paragraphs, _errors) = items(alloc, &trace.value, attrs).ok()?;
+    let mut count = 0u64;
+    for paragraph in &paragraphs {
+        count = count.checked_add(paragraph.items.all().len() as u64)?;
+    }
+    Some(count)
+}
+
+impl Walk {
+    // Before the first unit.
+    pub(crate) fn new(alloc: Global) -> Walk {
+        Walk {
+            env: Env::new(alloc),
+            left: MOST_ALL,
+            work: 0,
+        }
+    }
+
+    // Takes the steps of a unit that comes to this, and sets what it sets.
+    fn go_behind(&mut self, outcome: &Outcome, allowance: u64) -> Option<()> {
+        match outcome {
+            Outcome::Over => self.left = self.left.checked_sub(allowance)?,
+            Outcome::Done(trace) => {
+                self.left = self.left.checked_sub(trace.cost)?;
+                self.env.overlay(&trace.writes).ok()?;
+            }
+        }
+        Some(())
+    }
+
+    // Adds what is made anew of a unit.
+    fn charge(
+        &mut self,
+        alloc: Global,
+        unit: &Unit,
+        made: &Last,
+        last: Option<&Last>,
+        allowance: u64,
+    ) -> Option<()> {
+        let reached = !fits(last, &self.env, allowance);
+        if reached {
+            let charge = match &made.outcome {
+                Outcome::Over => allowance,
+                Outcome::Done(trace) => trace.cost,
+            };
+            self.work = self.work.checked_add(charge)?;
+        }
+        if unit.path.is_some() && (reached || !is_laid_for(last, &made.attrs)) {
+            let count = item_count(alloc, &made.outcome, &made.attrs)?;
+            self.work = self.work.checked_add(count)?;
+        }
+        Some(())
+    }
+
+    // The same, and goes behind the unit.
+    fn take(
+        &mut self,
+        alloc: Global,
+        unit: &Unit,
+        made: &Last,
+        last: Option<&Last>,
+        allowance: u64,
+    ) -> Option<()> {
+        self.charge(alloc, unit, made, last, allowance)?;
+        self.go_behind(&made.outcome, allowance)
+    }
+
+    // What a unit comes to.
+    fn made<L: Ledger>(
+        &mut self,
+        alloc: Global,
+        unit: &Unit,
+        allowance: u64,
+        steps: &mut Steps<L>,
+    ) -> Option<Last>
+        requires { allowance ≤ 1000000 }
+    {
+        let attrs = attributes(alloc, &self.env)?;
+        let outcome = eval(alloc, &unit.tagged, &mut self.env, allowance, steps).ok()?;
+        Some(Last { outcome, attrs })
+    }
+
+    // Evaluates a unit, which came to this at the last refresh, if it was there.
+    pub(crate) fn pass<L: Ledger>(
+        &mut self,
+        alloc: Global,
+        unit: &Unit,
+        last: Option<&Last>,
+        steps: &mut Steps<L>,
+    ) -> Option<Last> {
+        let allowance = MOST_UNIT.min(self.left);
+        let made = self.made(alloc, unit, allowance, steps)?;
+        self.take(alloc, unit, &made, last, allowance)?;
+        Some(made)
+    }
+}
