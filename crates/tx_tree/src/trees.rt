@@ -33,7 +33,7 @@ pub enum Kind {
 #[cycle(tree)]
 #[derive(Drop)]
 pub struct Tree {
-    size: u64,
+    size: u32,
     depth: u32,
     content: Content,
 }
@@ -80,7 +80,7 @@ impl Tree {
         ensures { IfOk result (λ t. t ≡ leaf text) }
     {
         let bytes = text.bytes();
-        let size = 1 + bytes.len() as u64;
+        let size = 1 + bytes.len() as u32;
         Ok(Tree {
             size,
             depth: 1,
@@ -120,7 +120,7 @@ impl Tree {
             return Err(TreeFault::TooBig(size));
         }
         Ok(Tree {
-            size,
+            size: size as u32,
             depth,
             content: Content::Node(Rc::new(alloc, Branch { label, children })?),
         })
@@ -218,7 +218,7 @@ impl Tree {
         ensures well_formed { IsWellFormed self.now }
         ensures within { IsWithinLimits self.now }
     {
-        self.size
+        u64::from(self.size)
     }
 
     /// 1 for a leaf; 1 more than the deepest child for a node.
