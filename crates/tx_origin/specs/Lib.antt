@@ -4,3 +4,4 @@ pub mod Values
 pub mod ValueView
 pub mod ValueFalls
 pub mod TaggedTrees
+pub mod Under

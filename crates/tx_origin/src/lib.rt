@@ -9,4 +9,4 @@ mod values;
 pub use paths::Ip;
 pub use places::{At, Spot};
 pub use tagged::{Tagged, share_origin};
-pub use values::Value;
+pub use values::{Value, under_law};

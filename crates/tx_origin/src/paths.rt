@@ -80,6 +80,16 @@ impl Ip {
         })
     }
 
+    /// The path with these numbers before its own. It shares the cells of `base`, and has its own made anew.
+    pub fn under(&self, alloc: Global, base: &Ip) -> Result<Ip, Memory>
+        ensures { IfOk result (λ p. p ≡ base.now ++ self.now) }
+    {
+        match &self.link {
+            Link::Root => base.share(),
+            Link::Below(above, number) => above.under(alloc, base)?.child(alloc, *number),
+        }
+    }
+
     /// How many numbers the path has.
     pub fn len(&self) -> usize
         ensures { result ≡ length self.now }

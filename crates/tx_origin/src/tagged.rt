@@ -2,6 +2,7 @@
 ghost use Rattle.std.specs.Prelude.{◌≡◌, IfOk, MatchOption, slice_get, Some, None, length};
 ghost use Rattle.tx_tree.specs.WideTree.{children_of};
 ghost use Rattle.tx_origin.specs.TaggedTrees.{tagged_of, kids_of};
+ghost use Rattle.tx_origin.specs.Under.{origin_under};
 ghost use Rattle.tx_origin.specs.Values.{child_at};
 
 use crate::paths::Ip;
@@ -33,6 +34,16 @@ pub fn share_origin(at: &Option<Ip>) -> Result<Option<Ip>, Memory>
     match at {
         None => Ok(None),
         Some(p) => Ok(Some(p.share()?)),
+    }
+}
+
+// The origin with this path before it, or none again.
+pub(crate) fn origin_under(alloc: Global, base: &Ip, at: &Option<Ip>) -> Result<Option<Ip>, Memory>
+    ensures { IfOk result (λ o. o ≡ origin_under base.now at.now) }
+{
+    match at {
+        None => Ok(None),
+        Some(p) => Ok(Some(p.under(alloc, base)?)),
     }
 }
 

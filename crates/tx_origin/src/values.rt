@@ -5,9 +5,12 @@ ghost use Rattle.tx_tree.specs.declared.TheConstants.{MOST_ARITY, MOST_DEPTH, MO
 ghost use Rattle.tx_tree.specs.Limits.{IsWellFormed, IsWithinLimits};
 ghost use Rattle.tx_origin.specs.Values.{text, made, vals, value_parts, value_text, value_label};
 ghost use Rattle.tx_origin.specs.Values.{value_origin, plain, plains, whole, IsFrom};
+ghost use Rattle.tx_origin.specs.Values.{WideValue};
+ghost use Rattle.tx_origin.specs.Under.{value_under};
+ghost use Rattle.std.specs.Prelude.{ℕ, List, [], ◌++◌};
 
 use crate::paths::Ip;
-use crate::tagged::{child_at, share_origin};
+use crate::tagged::{child_at, origin_under, share_origin};
 use std::alloc::Global;
 use std::marker::Model;
 use std::rc::Rc;
@@ -248,6 +251,50 @@ impl Value {
         whole_node(alloc, tree, label, parts, at)
     }
 
+    /// The same value, each of whose origins has this path before it: a part that is evaluated alone, as it stands in
+    /// the whole.
+    pub fn under(&self, alloc: Global, base: &Ip) -> Result<Value, Memory>
+        ensures { IfOk result (λ v. v ≡ value_under base.now self.now) }
+    {
+        match &*self.content {
+            Content::Text(words, at) => Value::leaf(
+                alloc,
+                words.copy()?,
+                origin_under(alloc, base, at)?,
+            ),
+            Content::Node(label, parts, at, from) => {
+                let mut moved = Vec::with_capacity(alloc, parts.len())?;
+                for part in parts {
+                    moved.push(part.under(alloc, base)?)?;
+                }
+                let at = origin_under(alloc, base, at)?;
+                self.with_parts(alloc, label, moved, at, from)
+            }
+        }
+    }
+
+    // A node with this label, these parts and this origin, which is the same tree as this value.
+    fn with_parts(
+        &self,
+        alloc: Global,
+        label: &Label,
+        parts: Vec<Value>,
+        at: Option<Ip>,
+        from: &Option<Tree>,
+    ) -> Result<Value, Memory>
+        requires same { plain (made label.now (vals parts.items) at) ≡ plain self.now }
+        requires from { IsFrom label.now parts.items from.now }
+        ensures { IfOk result (λ v. v ≡ made label.now (vals parts.items) at) }
+    {
+        let content = Content::Node(label.copy()?, parts, at, same_tree(from)?);
+        Ok(Value {
+            size: self.size,
+            depth: self.depth,
+            nodes: self.nodes,
+            content: Rc::new(alloc, content)?,
+        })
+    }
+
     /// The tree without origins. At `Ok` it has taken a step for each node that isn't a leaf. A node that was taken
     /// from a tree gives that tree, shared; only nodes that were made anew are made again.
     pub fn plain<L: Ledger>(&self, alloc: Global, steps: &mut Steps<L>) -> Result<Tree, Memory>
@@ -267,6 +314,16 @@ impl Value {
                 plain_node(alloc, label, children, steps)
             }
         }
+    }
+}
+
+// The same tree, or none again.
+fn same_tree(tree: &Option<Tree>) -> Result<Option<Tree>, Memory>
+    ensures { IfOk result (λ t. t ≡ tree.now) }
+{
+    match tree {
+        None => Ok(None),
+        Some(tree) => Ok(Some(tree.share()?)),
     }
 }
 
@@ -332,3 +389,10 @@ fn plain_node<L: Ledger>(
         Err(TreeFault::TooBig(_)) => unreachable!(),
     }
 }
+
+/// A law: values under paths. Their trees are the same.
+pub fn under_law()
+    ensures nested { (a b : List ℕ) (v : WideValue) → value_under (a ++ b) v ≡ value_under a (value_under b v) }
+    ensures none { (v : WideValue) → value_under [] v ≡ v }
+    ensures plain { (path : List ℕ) (v : WideValue) → plain (value_under path v) ≡ plain v }
+{}

@@ -15,7 +15,7 @@ use Rattle.tx_exec_form.specs.declared.rows.Row.TheVariants as rows
 use Rattle.tx_exec_form.specs.Evaluated.{WideTrace, traced, evaluated_in}
 use Rattle.tx_exec_form.proofs.Tracing.{allowed}
 use Rattle.tx_parts.specs.Atop.{atop, env_atop, both_looks}
-use Rattle.tx_parts.specs.Under.{value_under}
+use Rattle.tx_origin.specs.Under.{value_under}
 use Rattle.tx_parts.specs.Adding.{after_part, part_ran}
 use Rattle.tx_parts.specs.Composed.{alone, evaluates, SoFar, nothing_yet, with_child, children_from, document_trace}
 use Rattle.tx_parts.proofs.PartRuns.{part_is}

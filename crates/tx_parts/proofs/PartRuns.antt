@@ -17,7 +17,7 @@ use Rattle.tx_exec_form.specs.Laws.{Agrees, Supports}
 use Rattle.tx_exec_form.proofs.Follows.{Held, follows_start}
 use Rattle.tx_exec_form.proofs.Tracing.{over}
 use Rattle.tx_parts.specs.Atop.{atop, env_atop, both_looks}
-use Rattle.tx_parts.specs.Under.{tree_under, value_under}
+use Rattle.tx_origin.specs.Under.{tree_under, value_under}
 use Rattle.tx_parts.specs.Adding.{after_part, part_ran}
 use Rattle.tx_parts.proofs.Maps.{atop_nothing, looks_nothing, unless, get_atop, get_both}
 use Rattle.tx_parts.proofs.Shifting.{added, ran_added, ex_shifts}

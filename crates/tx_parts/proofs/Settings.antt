@@ -20,7 +20,7 @@ use Rattle.tx_exec_form.specs.declared.rows.Row.TheVariants as rows
 use Rattle.tx_exec_form.specs.Evaluated.{WideTrace, traced, evaluated_in}
 use Rattle.tx_exec_form.proofs.Tracing.{allowed, supports, agrees}
 use Rattle.tx_parts.specs.Atop.{env_atop, past, both_looks}
-use Rattle.tx_parts.specs.Under.{value_under}
+use Rattle.tx_origin.specs.Under.{value_under}
 use Rattle.tx_parts.specs.Adding.{after_part, part_ran}
 use Rattle.tx_parts.specs.Openness.{Settings, and_setting, settings_in}
 use Rattle.tx_parts.specs.Composed.{alone, evaluates, set_by, settings_cost, setting_values, with_trace}

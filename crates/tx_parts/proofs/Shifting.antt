@@ -38,9 +38,10 @@ use Rattle.tx_exec_form.specs.declared.rows.Unary.TheVariants as unaries
 use Rattle.tx_exec_form.specs.declared.rows.Taking.{Taking}
 use Rattle.tx_exec_form.specs.declared.rows.Taking.TheVariants as takings
 use Rattle.tx_parts.specs.Atop.{atop, env_atop, both_looks}
-use Rattle.tx_parts.specs.Under.{origin_under, tree_under, value_under}
+use Rattle.tx_origin.specs.Under.{origin_under, tree_under, value_under}
 use Rattle.tx_parts.proofs.Maps.{get_atop, atop_pair, both_set, both_unset}
-use Rattle.tx_parts.proofs.UnderValues.{frame_under, found_under, plain_under, plains_under, text_under, vals_under}
+use Rattle.tx_origin.proofs.Under.{plain_under, plains_under, vals_under}
+use Rattle.tx_parts.proofs.UnderValues.{frame_under, found_under, text_under}
 use Rattle.tx_parts.proofs.UnderValues.{more_under, two_under, plain_all, whole_under, kids_under, kids_of_under}
 use Rattle.tx_parts.proofs.UnderValues.{count_under, odd_under, wholes_of_under, numbers_under, truth_under}
 use Rattle.tx_parts.proofs.UnderValues.{part_under, among_under, found_in, caller_under}

@@ -16,7 +16,8 @@ use Rattle.tx_exec_form.specs.Frames.{Frame, top, call, call_all, caller_of, Fou
 use Rattle.tx_exec_form.specs.Frames.{argument, argument_in, first_of, others_of}
 use Rattle.tx_exec_form.specs.Numbers.{value_number, numbers_of, tree_at, kid_at, part_of, part_among}
 use Rattle.tx_exec_form.specs.Rows.{value_truth, is_odd}
-use Rattle.tx_parts.specs.Under.{origin_under, tree_under, value_under, values_under}
+use Rattle.tx_origin.specs.Under.{origin_under, tree_under, value_under, values_under}
+use Rattle.tx_origin.proofs.Under.{plain_under}
 
 abbrev pub frame_under : List ℕ → Frame → Frame
 frame_under base top = top
@@ -32,23 +33,9 @@ found_under base (Here t) = Here (tree_under base t)
 found_under base (All ts) = All (map (tree_under base) ts)
 
 module _ (base : List ℕ) where
-  mutual
-    pub plain_under : (v : WideValue) → plain (value_under base v) ≡ plain v
-    plain_under (text words at) = refl
-    plain_under (made label parts at) = ap (node label) (plains_under parts)
-
-    pub plains_under : (vs : WideValues) → plains (values_under base vs) ≡ plains vs
-    plains_under none = refl
-    plains_under (also v vs) =
-        ap (λ t. cons t (plains (values_under base vs))) (plain_under v) ∙ ap (cons (plain v)) (plains_under vs)
-
   pub text_under : (v : WideValue) → value_text (value_under base v) ≡ value_text v
   text_under (text words at) = refl
   text_under (made label parts at) = refl
-
-  pub vals_under : (vs : List WideValue) → values_under base (vals vs) ≡ vals (map (value_under base) vs)
-  vals_under [] = refl
-  vals_under (v ∷ vs) = ap (also (value_under base v)) (vals_under vs)
 
   pub more_under : (vs : List WideValue) (v : WideValue) →
       map (value_under base) (vs ++ v ∷ []) ≡ map (value_under base) vs ++ value_under base v ∷ []
@@ -63,7 +50,7 @@ module _ (base : List ℕ) where
   pub plain_all : (vs : List WideValue) → map plain (map (value_under base) vs) ≡ map plain vs
   plain_all [] = refl
   plain_all (v ∷ vs) =
-      ap (λ t. t ∷ map plain (map (value_under base) vs)) (plain_under v) ∙ ap (λ ts. plain v ∷ ts) (plain_all vs)
+      ap (λ t. t ∷ map plain (map (value_under base) vs)) (plain_under base v) ∙ ap (λ ts. plain v ∷ ts) (plain_all vs)
 
   pub child_under : (at : Option (List ℕ)) (i : ℕ) →
       child_at (origin_under base at) i ≡ origin_under base (child_at at i)
@@ -190,36 +177,3 @@ module _ (base : List ℕ) where
   caller_under top = refl
   caller_under (call ps ts caller) = refl
   caller_under (call_all p ts caller) = refl
-
--- ---- under two paths, and under none
-
-at_nested : (a b : List ℕ) (at : Option (List ℕ)) → origin_under (a ++ b) at ≡ origin_under a (origin_under b at)
-at_nested a b None = refl
-at_nested a b (Some p) = ap Some (append_assoc a b p)
-
-mutual
-  pub under_nested : (a b : List ℕ) (v : WideValue) → value_under (a ++ b) v ≡ value_under a (value_under b v)
-  under_nested a b (text words at) = ap (text words) (at_nested a b at)
-  under_nested a b (made label parts at) =
-      ap (λ ps. made label ps (origin_under (a ++ b) at)) (all_nested a b parts)
-      ∙ ap (made label (values_under a (values_under b parts))) (at_nested a b at)
-
-  all_nested : (a b : List ℕ) (vs : WideValues) → values_under (a ++ b) vs ≡ values_under a (values_under b vs)
-  all_nested a b none = refl
-  all_nested a b (also v vs) =
-      ap (λ u. also u (values_under (a ++ b) vs)) (under_nested a b v)
-      ∙ ap (also (value_under a (value_under b v))) (all_nested a b vs)
-
-at_none : (at : Option (List ℕ)) → origin_under [] at ≡ at
-at_none None = refl
-at_none (Some p) = refl
-
-mutual
-  pub under_none : (v : WideValue) → value_under [] v ≡ v
-  under_none (text words at) = ap (text words) (at_none at)
-  under_none (made label parts at) =
-      ap (λ ps. made label ps (origin_under [] at)) (all_none parts) ∙ ap (made label parts) (at_none at)
-
-  all_none : (vs : WideValues) → values_under [] vs ≡ vs
-  all_none none = refl
-  all_none (also v vs) = ap (λ u. also u (values_under [] vs)) (under_none v) ∙ ap (also v) (all_none vs)

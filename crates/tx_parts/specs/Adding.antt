@@ -4,7 +4,7 @@ use Rattle.tx_origin.specs.Values.{WideValue}
 use Rattle.tx_exec_form.specs.Runs.{State, Ran, Over, Done}
 use Rattle.tx_exec_form.specs.Evaluated.{WideTrace}
 use Rattle.tx_parts.specs.Atop.{atop, both_looks}
-use Rattle.tx_parts.specs.Under.{value_under}
+use Rattle.tx_origin.specs.Under.{value_under}
 
 -- The state of the whole behind a part with this trace, which had k levels and began at this state. The looks at names
 -- that the whole has set are none of its own. What the part has set stands atop.

@@ -11,7 +11,7 @@ use Rattle.tx_exec_form.specs.Maps.{LookMap}
 use Rattle.tx_exec_form.specs.Runs.{Before}
 use Rattle.tx_exec_form.specs.Evaluated.{WideTrace, evaluated_in}
 use Rattle.tx_parts.specs.Atop.{atop, env_atop, past, both_looks}
-use Rattle.tx_parts.specs.Under.{value_under}
+use Rattle.tx_origin.specs.Under.{value_under}
 use Rattle.tx_parts.specs.Openness.{Settings, Openness, Document, With, Shut, openness}
 
 -- a tree that is evaluated alone stands at an origin of its own

@@ -1,5 +1,4 @@
 pub mod Atop
-pub mod Under
 pub mod Adding
 pub mod Openness
 pub mod Composed

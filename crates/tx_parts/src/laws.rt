@@ -19,7 +19,7 @@ ghost use Rattle.tx_exec_form.specs.Rows.{ex};
 ghost use Rattle.tx_exec_form.specs.Evaluated.{WideTrace, evaluated_in, paid};
 ghost use Rattle.tx_exec_form.specs.Laws.{Agrees, Supports};
 ghost use Rattle.tx_parts.specs.Atop.{atop, env_atop, past, both_looks};
-ghost use Rattle.tx_parts.specs.Under.{tree_under, value_under};
+ghost use Rattle.tx_origin.specs.Under.{tree_under, value_under};
 ghost use Rattle.tx_parts.specs.Adding.{after_part, part_ran};
 ghost use Rattle.tx_parts.specs.Openness.{openness};
 ghost use Rattle.tx_parts.specs.Composed.{evaluates, composed_as, composed};
@@ -110,11 +110,4 @@ pub fn past_law()
         past own (insert writes x v) ≡ past own writes }
     ensures at_unset { (own writes : NameMap) (x : Name) (v : WideTree) → get own x ≡ None →
         past own (insert writes x v) ≡ insert (past own writes) x v }
-{}
-
-/// A law: values under paths. Their trees are the same.
-pub fn under_law()
-    ensures nested { (a b : List ℕ) (v : WideValue) → value_under (a ++ b) v ≡ value_under a (value_under b v) }
-    ensures none { (v : WideValue) → value_under [] v ≡ v }
-    ensures plain { (path : List ℕ) (v : WideValue) → plain (value_under path v) ≡ plain v }
 {}

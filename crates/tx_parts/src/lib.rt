@@ -5,5 +5,4 @@ mod laws;
 
 pub use laws::{
     atop_law, composition_law, cost_law, fitting_law, looks_law, part_law, past_law, standing_law,
-    under_law,
 };
