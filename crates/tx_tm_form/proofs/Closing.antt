@@ -7,6 +7,7 @@ use Rattle.std.proofs.lemmas.List.{append-nil}
 use Rattle.std.proofs.lemmas.Bool.{le-leb, and_parts}
 use Rattle.tx_tree.specs.Labels.{is_label_byte, IsLabel}
 use Rattle.tx_tree.specs.WideTree.{WideTree, node, forest, leaf}
+use Rattle.tx_tree.proofs.FrontBytes.{AreBytes, bytes_together}
 use Rattle.tx_tm_form.specs.declared.places.TagForm.{TagForm}
 use Rattle.tx_tm_form.specs.declared.places.TagForm.TheVariants.{Short, Long, Middle, Closing}
 use Rattle.tx_tm_form.specs.declared.places.TagPlace.{TagPlace}
@@ -65,14 +66,6 @@ put_placed [] here p h = place_is (p ∷ []) here ∙ h
 put_placed (f ∷ fs) here p h = h
 
 -- ---- the open tags
-
--- numbers below 256
-abbrev pub AreBytes : List ℕ → Type 0
-AreBytes = AllByRecursion (λ b. b < 256)
-
-bytes_together : (x y : List ℕ) → AreBytes x → AreBytes y → AreBytes (x ++ y)
-bytes_together [] y h k = k
-bytes_together (b ∷ x) y h k = (h.0, bytes_together x y h.1 k)
 
 label_byte_small : (b : ℕ) → is_label_byte b ≡ true → b < 256
 unfolding is_label_byte
@@ -214,7 +207,7 @@ by_label form m r j s z v a e h = (
       (omega (arith, length-append m r, v.some)) ∙ ap (λ x. run keep (at ready (keeping false x)) h.0) e) ∙ h.3,
 )
 
-begins_rest : (m l : List ℕ) → begins m l ≡ true → (r : List ℕ) × (l ≡ m ++ r)
+pub begins_rest : (m l : List ℕ) → begins m l ≡ true → (r : List ℕ) × (l ≡ m ++ r)
 begins_rest [] l h = (l, refl)
 begins_rest (b ∷ m) [] h = absurd cc
 begins_rest (b ∷ m) (c ∷ l) h =

@@ -14,4 +14,5 @@ pub mod Standing
 pub mod Rows
 pub mod Stopping
 pub mod OneFault
+pub mod Mismatches
 pub mod Weights

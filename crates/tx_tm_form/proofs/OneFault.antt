@@ -6,10 +6,10 @@ use Rattle.std.proofs.lemmas.List.{append-nil, take_all}
 use Rattle.tx_tree.specs.declared.faults.Which.{Which}
 use Rattle.tx_tree.specs.declared.faults.ReadFault.{ReadFault}
 use Rattle.tx_tree.specs.declared.faults.ReadFault.TheVariants.{Unclosed, BadEscape, BadLabel, BadText, Mismatch, Limit}
-use Rattle.tx_tree.specs.ReadFaults.{SpellsSome, IsPassed, Row}
+use Rattle.tx_tree.specs.ReadFaults.{SpellsSome, IsPassed}
 use Rattle.tx_tree.specs.Limits.{IsWithinLimits}
 use Rattle.tx_tree.specs.WideTree.{WideTree}
-use Rattle.tx_tree.proofs.OneFault.{passed_once, no_fault, passed}
+use Rattle.tx_tree.proofs.OneFault.{passed_once, no_fault, passed, row_once}
 use Rattle.tx_tm_form.specs.declared.marks.TagMark.{TagMark}
 use Rattle.tx_tm_form.specs.declared.marks.Inside.TheVariants.{Parts}
 use Rattle.tx_tm_form.specs.declared.places.TagForm.TheVariants.{Middle, Closing}
@@ -36,7 +36,7 @@ repeated_scanned : (x : List ℕ) (ts : List Token) → IsInRepeated x ts → (q
 repeated_scanned x ts (l, inl s) = (labelled Middle l, s)
 repeated_scanned x ts (l, inr s) = (labelled Closing l, s)
 
-goes_on_some : (q : Lex) (o : Option Standing) → standing_goes_on q o ≡ true → (z : Standing) × (o ≡ Some z)
+pub goes_on_some : (q : Lex) (o : Option Standing) → standing_goes_on q o ≡ true → (z : Standing) × (o ≡ Some z)
 goes_on_some q None e = absurd cc
 goes_on_some q (Some z) e = (z, refl)
 
@@ -63,26 +63,22 @@ tag_at x place on h =
     sym (go_on_same (run keep start x) (run keep_marks start_marks x) (marks_same x) ∙ ap marks_go_on e) ∙ on in
     let z = goes_on_some r.0 (marks_fold file_marked h.0).now going in
     let o = block_mark h.0 place z.0 h.2 z.1 in
-    sym (ap (λ w. first_of (now_of w)) e ∙ ap first_of z.1 ∙ ap first_of o.2)
+    sym (ap (λ w. first_of (now_of w)) e ∙ ap first_of z.1 ∙ ap first_of o.1)
 
 -- ---- one kind
 
-simple_row : (H B D : Type 0) (f g v : ReadFault) → Row H (f ≡ v) B → Row H (g ≡ v) D → (B → D → f ≡ g) → f ≡ g
-simple_row H B D f g v (inl h) (inl k) e = h.1 ∙ sym k.1
-simple_row H B D f g v (inl h) (inr k) e = absurd (k.0 h.0)
-simple_row H B D f g v (inr h) (inl k) e = absurd (h.0 k.0)
-simple_row H B D f g v (inr h) (inr k) e = e h.1 k.1
+-- where both are told by a value
+both_told : (f g v : ReadFault) → f ≡ v → g ≡ v → f ≡ g
+both_told f g v h k = h ∙ sym k
 
 kind_once : (x : List ℕ) (b n : ℕ) (f g : ReadFault) → goes_on (run keep start x) ≡ true → IsByteFault x b n f
     → IsByteFault x b n g → f ≡ g
-kind_once x b n f g on (inl h) (inl k) =
-    h.1.2 ∙ ap (λ p. Mismatch p n) (tag_at x h.1.0 on h.1.1 ∙ sym (tag_at x k.1.0 on k.1.1)) ∙ sym k.1.2
-kind_once x b n f g on (inl h) (inr k) = absurd (k.0 h.0)
-kind_once x b n f g on (inr h) (inl k) = absurd (h.0 k.0)
-kind_once x b n f g on (inr h) (inr k) =
-    simple_row _ _ _ f g (BadLabel n) h.1 k.1 (λ i j.
-    simple_row _ _ _ f g (BadEscape n) i j (λ u v.
-    simple_row _ _ _ f g (BadText n) u v (λ r s. r ∙ sym s)))
+kind_once x b n f g on =
+    row_once _ _ _ _ _ (f ≡ g)
+    (λ h k. h.2 ∙ ap (λ p. Mismatch p n) (tag_at x h.0 on h.1 ∙ sym (tag_at x k.0 on k.1)) ∙ sym k.2)
+    (row_once _ _ _ _ _ (f ≡ g) (both_told f g (BadLabel n))
+    (row_once _ _ _ _ _ (f ≡ g) (both_told f g (BadEscape n))
+    (row_once _ _ _ _ _ (f ≡ g) (both_told f g (BadText n)) (λ h k. h ∙ sym k))))
 
 -- ---- one fault
 

@@ -139,10 +139,10 @@ behind_last InShort n l ms = ms
 behind_last InHeader n l ms = new_mark n l None ∷ ms
 behind_last InClosing n l ms = ms
 
-abbrev in_argument : TagPlace → ℕ → List ℕ → List TagMark → Option Standing
+abbrev pub in_argument : TagPlace → ℕ → List ℕ → List TagMark → Option Standing
 in_argument p n l ms = standing Parts (new_mark n l (Some p) ∷ ms)
 
-abbrev in_block : ℕ → List ℕ → List TagMark → Option Standing
+abbrev pub in_block : ℕ → List ℕ → List TagMark → Option Standing
 in_block n l ms = standing Parts (new_mark n l None ∷ ms)
 
 close_passes : (p : TagPlace) (n : ℕ) (l : List ℕ) (ms : List TagMark)
@@ -152,15 +152,15 @@ close_passes InHeader n l ms = one_passes (in_argument InHeader n l ms) (in_bloc
 close_passes InClosing n l ms = one_passes (in_argument InClosing n l ms) (standing Parts ms) close (λ i. refl)
 
 -- in a block, a middle or closing tag begins
-middle_step : (more : Bool) (n i : ℕ) (l : List ℕ) (ms : List TagMark)
+pub middle_step : (more : Bool) (n i : ℕ) (l : List ℕ) (ms : List TagMark)
     → feed_standing i (in_block n l ms) (head Middle l more) ≡ standing Parts (new_mark n l (header_place more) ∷ ms)
 middle_step more n i l ms = ap (λ c. if_marked c Parts (new_mark n l (header_place more) ∷ ms)) (same_self l)
 
-closing_step : (n i : ℕ) (l : List ℕ) (ms : List TagMark)
+pub closing_step : (n i : ℕ) (l : List ℕ) (ms : List TagMark)
     → feed_standing i (in_block n l ms) (head Closing l true) ≡ in_argument InClosing n l ms
 closing_step n i l ms = ap (λ c. if_marked c Parts (new_mark n l (Some InClosing) ∷ ms)) (same_self l)
 
-last_step : (n i : ℕ) (l : List ℕ) (ms : List TagMark)
+pub last_step : (n i : ℕ) (l : List ℕ) (ms : List TagMark)
     → feed_standing i (in_block n l ms) (head Closing l false) ≡ standing Parts ms
 last_step n i l ms = ap (λ c. if_marked c Parts ms) (same_self l)
 
@@ -320,9 +320,9 @@ fold_append : (a b : List Token) (m : Marked) → marks_fold m (a ++ b) ≡ mark
 fold_append [] b m = refl
 fold_append (t ∷ a) b m = fold_append a b (keep_marks m t)
 
--- from where a long tag begins to where its block stands open
-abbrev Opens : ℕ → Option Standing → Type 0
-Opens place o = (l : List ℕ) × (ms : List TagMark) × (o ≡ standing Parts (new_mark place l None ∷ ms))
+-- from where a long tag of this label begins to where its block stands open
+abbrev pub Opens : ℕ → List ℕ → Option Standing → Type 0
+Opens place l o = (ms : List TagMark) × (o ≡ standing Parts (new_mark place l None ∷ ms))
 
 no_some : (s : Standing) (o : Option Standing) → o ≡ None → o ≡ Some s → ⊥
 no_some s o e h = cc
@@ -335,7 +335,7 @@ block_opens : (h : Option Standing) (place : ℕ) (j : Bool) (label : List ℕ) 
     → head Long label more ∷ kept false behind ≡ beginning Long label xs ++ y
     → ((n : ℕ) (ms : List TagMark) → Passes (in_block n label ms) (in_block n label ms) y)
     → (s : Standing) → (marks_fold (marked place j h) (head Long label more ∷ behind)).now ≡ Some s
-    → Opens place (Some s)
+    → Opens place label (Some s)
 block_opens None place j label more behind xs y e k s r =
     absurd (no_some s _ (no_standing (head Long label more ∷ behind) place j) r)
 block_opens (Some z) place j label more behind xs y e k s r = opens z.inside r
@@ -345,7 +345,7 @@ block_opens (Some z) place j label more behind xs y e k s r = opens z.inside r
 
     opens : (inside : Inside)
         → (marks_fold (marked i false (feed_marks place inside z.marks (head Long label more))) behind).now ≡ Some s
-        → Opens place (Some s)
+        → Opens place label (Some s)
     opens (Symbol n) r = absurd (no_some s _ (no_standing behind i false) r)
     opens Digits r = absurd (no_some s _ (no_standing behind i false) r)
     opens Parts r =
@@ -353,7 +353,6 @@ block_opens (Some z) place j label more behind xs y e k s r = opens z.inside r
         let q = both_pass (standing Parts (new_mark place label (header_place more) ∷ z.marks))
         (in_block place label z.marks) (in_block place label z.marks) p.0 y p.2 (k place z.marks) behind [] i false
         (p.1 ∙ sym (append-nil (p.0 ++ y))) in (
-          label,
           z.marks,
           now_is (Some s) (in_block place label z.marks)
               (marks_fold (marked i false (standing Parts (new_mark place label (header_place more) ∷ z.marks))) behind)
@@ -362,8 +361,8 @@ block_opens (Some z) place j label more behind xs y e k s r = opens z.inside r
         )
 
 -- where a block of a long tag stands open, the first mark is that of the tag
-pub block_mark : (ts : List Token) (place : ℕ) (s : Standing) → IsInBlock ts place
-    → (marks_fold (marked 0 false (standing Parts [])) ts).now ≡ Some s → Opens place (Some s)
+pub block_mark : (ts : List Token) (place : ℕ) (s : Standing) (h : IsInBlock ts place)
+    → (marks_fold (marked 0 false (standing Parts [])) ts).now ≡ Some s → Opens place h.label (Some s)
 block_mark ts place s h e =
     let m0 = marked 0 false (standing Parts []) in
     let m = marks_fold m0 h.before in

@@ -228,7 +228,7 @@ has_tag : (ts : List Token) (z : Standing) (place : ℕ) → IsInBlock ts place
     → (marks_fold (marked 0 false (standing Parts [])) ts).now ≡ Some z → HasTag ts z.marks
 has_tag ts z place h e =
     let o = block_mark ts place z h e in
-    (new_mark place o.0 None, o.1, same_mark z Parts place o.0 o.1 o.2, h)
+    (new_mark place h.label None, o.0, same_mark z Parts place h.label o.0 o.1, h)
 
 pub is_taken : (x : List ℕ) (q : Lex) (k : Keeping) (m : Marked) (z : Standing) → run keep start x ≡ at q k
     → run keep_marks start_marks x ≡ at q m → m.now ≡ Some z → IsMarked k.state m.now → IsTaken x q z

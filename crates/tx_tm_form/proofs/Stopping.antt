@@ -44,7 +44,7 @@ same_there lost q m h = absurd h
 pub read_too : (x : List ℕ) (q : Lex) (m : Marked) → run keep_marks start_marks x ≡ at q m → IsRead x q m
 read_too x q m e = same_there (run keep start x) q m (subst (λ v. IsSame (run keep start x) v) e (marks_same x))
 
-goes_on_there : (x : List ℕ) (w : Bytewise Marked) → run keep_marks start_marks x ≡ w
+pub goes_on_there : (x : List ℕ) (w : Bytewise Marked) → run keep_marks start_marks x ≡ w
     → goes_on (run keep start x) ≡ marks_go_on w
 goes_on_there x w e = go_on_same (run keep start x) (run keep_marks start_marks x) (marks_same x) ∙ ap marks_go_on e
 

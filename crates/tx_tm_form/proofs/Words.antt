@@ -86,7 +86,7 @@ return_not b e h = no_escape_return (sym (ap can_escape (return_only b e)) ∙ h
 
 -- ---- one byte
 
-lexed_white : (k : ByteKind) (b : ℕ) → is_white k ≡ true → lex ready k b ≡ done (white b)
+pub lexed_white : (k : ByteKind) (b : ℕ) → is_white k ≡ true → lex ready k b ≡ done (white b)
 unfolding lex_ready
 lexed_white Blank b h = refl
 lexed_white Newline b h = refl
@@ -131,7 +131,7 @@ module _ (S : Type 0) (fd : S → Token → S) where
   unfolding lex_ready
   less_step s y = byte_of Less 60 ready s y less_kind
 
-  end_step : (more : Bool) (form : TagForm) (m : List ℕ) (s : S) (y : List ℕ) → 1 ≤ length m
+  pub end_step : (more : Bool) (form : TagForm) (m : List ℕ) (s : S) (y : List ℕ) → 1 ≤ length m
       → run fd (at (labelled form m) s) (end_of more ∷ y) ≡ run fd (at ready (fd s (head form m more))) y
   unfolding lex_labelled
   end_step true form m s y n =

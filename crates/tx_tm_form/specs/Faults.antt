@@ -9,10 +9,11 @@ use Rattle.tx_tree.specs.Labels.{BeginsLabel}
 use Rattle.tx_tree.specs.ReadFaults.{IsFault, Row}
 use Rattle.tx_tm_form.specs.declared.places.TagForm.{TagForm}
 use Rattle.tx_tm_form.specs.declared.places.TagForm.TheVariants.{Short, Long, Middle, Closing}
-use Rattle.tx_tm_form.specs.Tokens.{Token, escape, head, mark_of, written, IsToken, kept}
+use Rattle.tx_tm_form.specs.Tokens.{Token, escape, head, mark_of, end_of, written, IsToken, kept}
 use Rattle.tx_tm_form.specs.Forms.{Pieces, Arguments, Blocks, name_token}
 use Rattle.tx_tm_form.specs.Forms.{tokens_of, beginning, tokens_of_blocks, Spells}
 use Rattle.tx_tm_form.specs.Machine.{Lex, ready, slashed, returned, angled, labelled}
+use Rattle.tx_tm_form.specs.Fronts.{begins}
 
 -- ---- a token that has begun
 
@@ -95,7 +96,7 @@ abbrev pub IsOpenTag : List ℕ → ℕ → Type 0
 IsOpenTag bytes place = (tokens : List Token) × IsInRepeated bytes tokens × IsInBlock tokens place
 
 -- The byte b at place n, behind these bytes, which are the longest front. In the label of a middle or closing tag it
--- differs from that of the open tag, since nothing longer is a front.
+-- differs from that of the open tag, since nothing longer is a front: `mismatched_labels_differ` of src/laws.rt.
 abbrev pub IsByteFault : List ℕ → ℕ → ℕ → ReadFault → Type 0
 IsByteFault front b n fault =
     Row ((tokens : List Token) × IsInRepeated front tokens)
@@ -111,3 +112,11 @@ IsKind bytes n fault = IsByteFault (take n bytes) (get_or bytes n 0) n fault
 -- this is why the bytes spell no tree within the limits
 abbrev pub IsTmFault : List ℕ → ReadFault → Type 0
 IsTmFault = IsFault Spells IsKind
+
+-- ---- labels that differ
+
+-- These bytes are the first of the label, or all, and the byte behind them isn't the next one: another one of the
+-- label, or behind all of it one that ends a label.
+abbrev pub Differs : List ℕ → List ℕ → ℕ → Type 0
+Differs label bytes b = (begins bytes label ≡ true)
+    × ((more : Bool) → begins (bytes ++ b ∷ []) (label ++ end_of more ∷ []) ≡ false)

@@ -1,14 +1,16 @@
 // The laws of the definition.
-ghost use Rattle.std.specs.Prelude.{◌≡◌, ◌<◌, ◌⊎◌, ℕ, List, ◌++◌, true, Some, None};
-ghost use Rattle.std.specs.List.{AllByRecursion};
+ghost use Rattle.std.specs.Prelude.{◌≡◌, ◌≢◌, ◌<◌, ◌⊎◌, ℕ, Bool, List, [], ◌∷◌, ◌++◌, length, take, get_or};
+ghost use Rattle.std.specs.Prelude.{true, Some, None};
+ghost use Rattle.std.specs.List.{AllByRecursion, flat_map};
 ghost use Rattle.tx_tree.specs.WideTree.{WideTree};
 ghost use Rattle.tx_tree.specs.declared.faults.ReadFault.{ReadFault};
 ghost use Rattle.tx_tree.specs.Limits.{IsWellFormed, IsWithinLimits};
-ghost use Rattle.tx_tm_form.specs.Tokens.{Token, IsTokenList};
+ghost use Rattle.tx_tm_form.specs.declared.places.TagForm.{TagForm};
+ghost use Rattle.tx_tm_form.specs.Tokens.{Token, head, written, IsTokenList};
 ghost use Rattle.tx_tm_form.specs.Forms.{Spells};
-ghost use Rattle.tx_tm_form.specs.Machine.{reads, keep, start, run};
+ghost use Rattle.tx_tm_form.specs.Machine.{reads, labelled, keep, start, run};
 ghost use Rattle.tx_tm_form.specs.Fronts.{goes_on, StopsAt, IsLongestTmFront};
-ghost use Rattle.tx_tm_form.specs.Faults.{IsTmFault};
+ghost use Rattle.tx_tm_form.specs.Faults.{IsTmFault, IsOpenTag, IsScanned, IsInBlock, Differs};
 ghost use Rattle.tx_tm_form.specs.Marks.{fault_of};
 ghost use Rattle.tx_tm_form.specs.Measures.{keep_gauge, start_gauge, IsMeasured};
 
@@ -62,6 +64,23 @@ pub fn bytes_have_one_fault()
         → IsWithinLimits t → ⊥ }
     ensures some { (bytes : List ℕ)
         → ((t : WideTree) × Spells bytes t × IsWithinLimits t) ⊎ ((fault : ReadFault) × IsTmFault bytes fault) }
+{}
+
+/// Where bytes have a mismatch, its second place stands in the label of a middle or closing tag, in a block of the long
+/// tag that is open from its first place (`stands`). Up to there this label is as that of the open tag, and the byte
+/// there differs from it (`differs`). So where the middle or closing tag begins with a whole label, that is another one
+/// (`labels`).
+pub fn mismatched_labels_differ()
+    ensures stands { (bytes : List ℕ) (place n : ℕ) → IsTmFault bytes (ReadFault.Mismatch place n)
+        → (n < length bytes) × IsOpenTag (take n bytes) place }
+    ensures differs { (bytes : List ℕ) (place n : ℕ) (tokens : List Token) (form : TagForm) (label : List ℕ)
+        → IsTmFault bytes (ReadFault.Mismatch place n) → IsScanned (take n bytes) tokens (labelled form label)
+        → (tag : IsInBlock tokens place) → Differs tag.label label (get_or bytes n 0) }
+    ensures labels { (bytes : List ℕ) (place n : ℕ) (tokens : List Token) (form : TagForm) (label other : List ℕ)
+        (more : Bool) (rest : List ℕ)
+        → IsTmFault bytes (ReadFault.Mismatch place n) → IsScanned (take n bytes) tokens (labelled form label)
+        → (tag : IsInBlock tokens place) → bytes ≡ flat_map written (tokens ++ head form other more ∷ []) ++ rest
+        → other ≢ tag.label }
 {}
 
 /// The machine with marks tells the fault of bytes that spell no tree, and tells none where they spell one.

@@ -14,7 +14,7 @@ pub use laws::{
     bytes_have_one_fault, bytes_have_one_list_of_tokens, bytes_spell_one_tree,
     fronts_go_on_by_bytes, longest_front_ends_at_the_stop, machine_goes_on_along_fronts,
     machine_reads_what_is_spelled, marks_tell_the_fault, measures_are_those_of_the_tree,
-    spelled_is_well_formed,
+    mismatched_labels_differ, spelled_is_well_formed,
 };
 pub use marks::{Inside, TagMark};
 pub use measures::{BlockSums, ContentSums, LineSums, OpenSums, PartSums, Sums, Within};

@@ -12,6 +12,7 @@ pub mod Stuck
 pub mod Feeding
 pub mod Stopping
 pub mod Running
+pub mod Crediting
 pub mod Innermost
 pub mod Lexing
 pub mod Spotting

@@ -9,7 +9,7 @@ use Rattle.tx_tree.specs.WideTree.{WideTree, node, forest, nodes_of}
 use Rattle.tx_tm_form.specs.declared.places.TagPlace.{TagPlace}
 use Rattle.tx_tm_form.specs.declared.places.TagPlace.TheVariants.{InShort, InHeader, InClosing}
 use Rattle.tx_tm_form.specs.Parts.{Part, gap, text, tag, same, none, collection_label}
-use Rattle.tx_tm_form.specs.Growing.{Inline, grown, Block, tree_of_block, long_of, Content, inline, blocks, collecting}
+use Rattle.tx_tm_form.specs.Growing.{Inline, grown, long_of, Content, inline, blocks, collecting}
 use Rattle.tx_tm_form.specs.Growing.{no_tags, no_paragraphs, put, place_of, block_of, block_behind, opening}
 use Rattle.tx_tm_form.specs.Machine.{Open, State, reading, go, open_tag, with_child, in_tag, closed, next_block}
 use Rattle.tx_tm_form.specs.Machine.{last_block, last_argument}

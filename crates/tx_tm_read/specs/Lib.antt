@@ -12,6 +12,7 @@ pub mod Spots
 pub mod Runs
 pub mod Heads
 pub mod Readers
+pub mod Credits
 pub mod Stands
 pub mod Scans
 pub mod Gauges

@@ -1,5 +1,5 @@
 // Blocks, and content of either kind.
-ghost use Rattle.std.specs.Prelude.{◌≡◌, ◌≤◌, ◌+◌, ◌++◌, ◌∷◌, [], false, map, Option, IfOk, IfSome, Some, None};
+ghost use Rattle.std.specs.Prelude.{◌≡◌, ◌≤◌, ◌+◌, ◌++◌, ◌∷◌, [], false, map, length, Option, IfOk, IfSome, Some, None};
 ghost use Rattle.tx_tree.specs.Texts.{IsText};
 ghost use Rattle.tx_tree.specs.WideTree.{leaf, node, forest, nodes_of};
 ghost use Rattle.tx_tm_form.specs.declared.bytes.White.TheVariants.{Spaces};
@@ -12,10 +12,12 @@ ghost use Rattle.tx_tm_read.specs.Blocks.{block_of, tags_of, content_of, tag_sta
 ghost use Rattle.tx_tm_read.specs.Blocks.{IsGoing, IsResumed, IsBlock, IsTagged, IsTagList, IsContent};
 ghost use Rattle.tx_tm_read.specs.TagRows.{entry_of};
 ghost use Rattle.tx_tm_read.specs.Nodes.{nodes_in, line_nodes, block_nodes, tags_nodes, content_nodes};
+ghost use Rattle.tx_tm_read.specs.Credits.{line_credit, content_credit, left, body_credit};
 
 use crate::lines::Line;
 use crate::making::{make_document, make_leaf};
 use crate::rows::Row;
+use crate::shared_labels::Labels;
 use crate::tag_rows::{TagEntry, TagRow};
 use std::alloc::Global;
 use std::sync::ledger::Ledger;
@@ -81,12 +83,13 @@ impl Paragraphs {
     #[inline(always)]
     fn resume<L: Ledger>(
         self,
-        alloc: Global,
+        labels: &Labels,
         steps: &mut Steps<L>,
     ) -> Result<Option<Resumed>, Memory>
         ensures next { IfOk result (λ next. IsResumed next (block_of self)) }
         ensures counted { IfOk result (λ next. IfSome next (λ r.
             steps.new + block_nodes (block_of self) ≤ steps.old + (nodes_in r.full + line_nodes r.now))) }
+        ensures bounded { steps.new + left (λ r. line_credit r.now) result ≤ steps.old + line_credit self.now }
         ensures rises { steps.old ≤ steps.new }
     {
         let Paragraphs {
@@ -97,10 +100,10 @@ impl Paragraphs {
         } = self;
         match stage {
             Stage::Empty => Ok(Some(Resumed {
-                full: Row::new(alloc),
-                now: Line::new(alloc),
+                full: Row::new(labels.alloc),
+                now: Line::new(labels.alloc),
             })),
-            Stage::Alone | Stage::Ordinary => behind_run(alloc, full, now, run, steps),
+            Stage::Alone | Stage::Ordinary => behind_run(labels, full, now, run, steps),
         }
     }
 
@@ -108,7 +111,7 @@ impl Paragraphs {
     #[inline(always)]
     fn with_text<L: Ledger>(
         self,
-        alloc: Global,
+        labels: &Labels,
         items: &[u8],
         steps: &mut Steps<L>,
     ) -> Result<Option<Paragraphs>, Memory>
@@ -116,9 +119,10 @@ impl Paragraphs {
         ensures next { IfOk result (λ next. IsBlock next (widen (block_of self) (text items.now))) }
         ensures counted { IfOk result (λ next.
             IfSome next (λ b. steps.new + block_nodes (block_of self) ≤ steps.old + block_nodes (block_of b))) }
+        ensures bounded { steps.new + left (λ b. line_credit b.now) result ≤ steps.old + line_credit self.now }
         ensures rises { steps.old ≤ steps.new }
     {
-        match self.resume(alloc, steps)? {
+        match self.resume(labels, steps)? {
             None => Ok(None),
             Some(resumed) => resumed.with_text(items),
         }
@@ -127,7 +131,7 @@ impl Paragraphs {
     // With a tag, or None where a limit is passed.
     fn with_tag<L: Ledger>(
         self,
-        alloc: Global,
+        labels: &Labels,
         collects: bool,
         tree: Tree,
         steps: &mut Steps<L>,
@@ -135,24 +139,26 @@ impl Paragraphs {
         ensures next { IfOk result (λ next. IsBlock next (widen (block_of self) (tag collects tree))) }
         ensures counted { IfOk result (λ next. IfSome next (λ b.
             steps.new + (block_nodes (block_of self) + nodes_of tree) ≤ steps.old + block_nodes (block_of b))) }
+        ensures bounded { steps.new + left (λ b. line_credit b.now) result ≤ steps.old + line_credit self.now + 1 }
         ensures rises { steps.old ≤ steps.new }
     {
         let stage = tag_stage(self.stage, collects);
-        match self.resume(alloc, steps)? {
+        match self.resume(labels, steps)? {
             None => Ok(None),
-            Some(resumed) => resumed.with_tag(alloc, stage, tree),
+            Some(resumed) => resumed.with_tag(labels.alloc, stage, tree),
         }
     }
 
     // The tree, or None where it passes a limit.
     pub(crate) fn finish<L: Ledger>(
         self,
-        alloc: Global,
+        labels: &Labels,
         steps: &mut Steps<L>,
     ) -> Result<Option<Tree>, Memory>
         ensures made { IfOk result (λ made. IsMade made (tree_of_block (block_of self))) }
         ensures counted { IfOk result (λ made.
             IfSome made (λ t. steps.new + block_nodes (block_of self) ≤ steps.old + nodes_of t)) }
+        ensures bounded { steps.new ≤ steps.old + line_credit self.now + 1 }
         ensures rises { steps.old ≤ steps.new }
     {
         let Paragraphs {
@@ -162,9 +168,9 @@ impl Paragraphs {
             stage,
         } = self;
         match stage {
-            Stage::Empty => empty_document(alloc, steps),
-            Stage::Alone => now.finish(alloc, steps),
-            Stage::Ordinary => document_of(alloc, full, now, steps),
+            Stage::Empty => empty_document(labels, steps),
+            Stage::Alone => now.finish(labels, steps),
+            Stage::Ordinary => document_of(labels, full, now, steps),
         }
     }
 }
@@ -206,19 +212,20 @@ impl Resumed {
 }
 
 // The document of one empty paragraph.
-fn empty_document<L: Ledger>(alloc: Global, steps: &mut Steps<L>) -> Result<Option<Tree>, Memory>
+fn empty_document<L: Ledger>(labels: &Labels, steps: &mut Steps<L>) -> Result<Option<Tree>, Memory>
     ensures made { IfOk result (λ made. IsMade made (node document_label (forest (leaf [] ∷ [])))) }
     ensures counted { IfOk result (λ made. IfSome made (λ t. steps.new ≤ steps.old + nodes_of t)) }
+    ensures bounded { steps.new ≤ steps.old + 1 }
     ensures rises { steps.old ≤ steps.new }
 {
-    let empty = vec![in alloc; make_leaf(alloc, b"")?]?;
-    make_document(alloc, empty, steps)
+    let empty = vec![in labels.alloc; make_leaf(labels.alloc, b"")?]?;
+    make_document(labels, empty, steps)
 }
 
 // The document of the paragraphs that have ended and the one that is open, or None where it passes a limit.
 #[tactic(auto, using(crate::proofs::Counts::nodes_both, crate::proofs::Fitting::last_within))]
 fn document_of<L: Ledger>(
-    alloc: Global,
+    labels: &Labels,
     full: Row,
     now: Line,
     steps: &mut Steps<L>,
@@ -226,13 +233,14 @@ fn document_of<L: Ledger>(
     ensures made { IfOk result (λ made. IsMade made (node document_label (forest (full ++ grown now ∷ [])))) }
     ensures counted { IfOk result (λ made.
         IfSome made (λ t. steps.new + (nodes_in full + line_nodes now) ≤ steps.old + nodes_of t)) }
+    ensures bounded { steps.new ≤ steps.old + line_credit now + 1 }
     ensures rises { steps.old ≤ steps.new }
 {
-    match now.finish(alloc, steps)? {
+    match now.finish(labels, steps)? {
         None => Ok(None),
         Some(tree) => match full.with(tree)? {
             None => Ok(None),
-            Some(all) => make_document(alloc, all.into_trees(), steps),
+            Some(all) => make_document(labels, all.into_trees(), steps),
         },
     }
 }
@@ -266,7 +274,7 @@ fn tag_stage(stage: Stage, collects: bool) -> Stage
 #[tactic(auto, using(crate::proofs::Counts::nodes_both, crate::proofs::Fitting::last_small))]
 #[inline(always)]
 fn behind_run<L: Ledger>(
-    alloc: Global,
+    labels: &Labels,
     full: Row,
     now: Line,
     run: Option<White>,
@@ -275,17 +283,18 @@ fn behind_run<L: Ledger>(
     ensures next { IfOk result (λ next. IsGoing next (ended run full now) (resumed run now)) }
     ensures counted { IfOk result (λ next. IfSome next (λ r.
         steps.new + (nodes_in full + line_nodes now) ≤ steps.old + (nodes_in r.full + line_nodes r.now))) }
+    ensures bounded { steps.new + left (λ r. line_credit r.now) result ≤ steps.old + line_credit now }
     ensures rises { steps.old ≤ steps.new }
 {
     match run {
         None => Ok(Some(Resumed { full, now })),
-        Some(White::Break) => match now.finish(alloc, steps)? {
+        Some(White::Break) => match now.finish(labels, steps)? {
             None => Ok(None),
             Some(tree) => match full.with(tree)? {
                 None => Ok(None),
                 Some(full) => Ok(Some(Resumed {
                     full,
-                    now: Line::new(alloc),
+                    now: Line::new(labels.alloc),
                 })),
             },
         },
@@ -341,19 +350,20 @@ impl TagList {
     // The same as an ordinary block, or None where a limit is passed.
     fn into_paragraphs<L: Ledger>(
         self,
-        alloc: Global,
+        labels: &Labels,
         steps: &mut Steps<L>,
     ) -> Result<Option<Paragraphs>, Memory>
         ensures next { IfOk result (λ next. IsBlock next (as_block (tags_of self))) }
         ensures counted { IfOk result (λ next.
             IfSome next (λ b. steps.new + tags_nodes (tags_of self) ≤ steps.old + block_nodes (block_of b))) }
+        ensures bounded { steps.new + left (λ b. line_credit b.now) result ≤ steps.old + length self.entries }
         ensures rises { steps.old ≤ steps.new }
     {
         let TagList { entries, run } = self;
-        let mut block = Paragraphs::new(alloc);
+        let mut block = Paragraphs::new(labels.alloc);
         for entry in entries.into_entries() {
             let behind = block.behind(entry.before);
-            match behind.with_tag(alloc, entry.collects, entry.tree, steps)? {
+            match behind.with_tag(labels, entry.collects, entry.tree, steps)? {
                 None => return Ok(None),
                 Some(next) => block = next,
             }
@@ -364,7 +374,7 @@ impl TagList {
     // The ordinary block with items of a text more, or None where a limit is passed.
     fn with_text<L: Ledger>(
         self,
-        alloc: Global,
+        labels: &Labels,
         items: &[u8],
         steps: &mut Steps<L>,
     ) -> Result<Option<Paragraphs>, Memory>
@@ -372,28 +382,30 @@ impl TagList {
         ensures next { IfOk result (λ next. IsBlock next (widen (as_block (tags_of self)) (text items.now))) }
         ensures counted { IfOk result (λ next.
             IfSome next (λ b. steps.new + tags_nodes (tags_of self) ≤ steps.old + block_nodes (block_of b))) }
+        ensures bounded { steps.new + left (λ b. line_credit b.now) result ≤ steps.old + length self.entries }
         ensures rises { steps.old ≤ steps.new }
     {
-        match self.into_paragraphs(alloc, steps)? {
+        match self.into_paragraphs(labels, steps)? {
             None => Ok(None),
-            Some(block) => block.with_text(alloc, items, steps),
+            Some(block) => block.with_text(labels, items, steps),
         }
     }
 
     // The tree of the ordinary block, or None where a limit is passed.
     pub(crate) fn finish<L: Ledger>(
         self,
-        alloc: Global,
+        labels: &Labels,
         steps: &mut Steps<L>,
     ) -> Result<Option<Tree>, Memory>
         ensures made { IfOk result (λ made. IsMade made (tree_of_block (as_block (tags_of self)))) }
         ensures counted { IfOk result (λ made.
             IfSome made (λ t. steps.new + tags_nodes (tags_of self) ≤ steps.old + nodes_of t)) }
+        ensures bounded { steps.new ≤ steps.old + length self.entries + 1 }
         ensures rises { steps.old ≤ steps.new }
     {
-        match self.into_paragraphs(alloc, steps)? {
+        match self.into_paragraphs(labels, steps)? {
             None => Ok(None),
-            Some(block) => block.finish(alloc, steps),
+            Some(block) => block.finish(labels, steps),
         }
     }
 
@@ -455,7 +467,7 @@ impl Body {
     #[inline(always)]
     pub(crate) fn with_text<L: Ledger>(
         self,
-        alloc: Global,
+        labels: &Labels,
         items: &[u8],
         steps: &mut Steps<L>,
     ) -> Result<Option<Body>, Memory>
@@ -463,6 +475,7 @@ impl Body {
         ensures next { IfOk result (λ next. IsContent next (put (content_of self) (text items.now))) }
         ensures counted { IfOk result (λ next.
             IfSome next (λ b. steps.new + content_nodes (content_of self) ≤ steps.old + content_nodes (content_of b))) }
+        ensures bounded { steps.new + left body_credit result ≤ steps.old + content_credit (content_of self) }
         ensures rises { steps.old ≤ steps.new }
     {
         match self {
@@ -470,11 +483,11 @@ impl Body {
                 None => Ok(None),
                 Some(line) => Ok(Some(Body::Argument(place, line))),
             },
-            Body::Block(block) => match block.with_text(alloc, items, steps)? {
+            Body::Block(block) => match block.with_text(labels, items, steps)? {
                 None => Ok(None),
                 Some(block) => Ok(Some(Body::Block(block))),
             },
-            Body::Tags(tags) => match tags.with_text(alloc, items, steps)? {
+            Body::Tags(tags) => match tags.with_text(labels, items, steps)? {
                 None => Ok(None),
                 Some(block) => Ok(Some(Body::Block(block))),
             },
@@ -484,7 +497,7 @@ impl Body {
     /// With a tag, or None where a limit is passed.
     pub(crate) fn with_tag<L: Ledger>(
         self,
-        alloc: Global,
+        labels: &Labels,
         collects: bool,
         tree: Tree,
         steps: &mut Steps<L>,
@@ -492,14 +505,15 @@ impl Body {
         ensures next { IfOk result (λ next. IsContent next (put (content_of self) (tag collects tree))) }
         ensures counted { IfOk result (λ next. IfSome next (λ b.
             steps.new + (content_nodes (content_of self) + nodes_of tree) ≤ steps.old + content_nodes (content_of b))) }
+        ensures bounded { steps.new + left body_credit result ≤ steps.old + content_credit (content_of self) + 1 }
         ensures rises { steps.old ≤ steps.new }
     {
         match self {
-            Body::Argument(place, line) => match line.with_tag(alloc, tree)? {
+            Body::Argument(place, line) => match line.with_tag(labels.alloc, tree)? {
                 None => Ok(None),
                 Some(line) => Ok(Some(Body::Argument(place, line))),
             },
-            Body::Block(block) => match block.with_tag(alloc, collects, tree, steps)? {
+            Body::Block(block) => match block.with_tag(labels, collects, tree, steps)? {
                 None => Ok(None),
                 Some(block) => Ok(Some(Body::Block(block))),
             },

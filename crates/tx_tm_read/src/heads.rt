@@ -3,9 +3,9 @@ ghost use Rattle.std.specs.Prelude.{◌≡◌, ◌≤◌, ◌<◌, length, slice
 ghost use Rattle.tx_tm_form.specs.Tokens.{end_of};
 ghost use Rattle.tx_tm_read.specs.Heads.{StandsInFront};
 
-use std::alloc::Global;
+use crate::shared_labels::Labels;
 use tx_base::Memory;
-use tx_tree::{Label, LabelFault, is_label_byte};
+use tx_tree::{Label, is_label_byte};
 
 /// The beginning of a short tag: its label, whether an argument follows, and how many bytes it has.
 #[derive(Drop)]
@@ -39,7 +39,7 @@ fn ends_head(byte: u8) -> Option<bool>
 }
 
 /// The beginning of a short tag that stands at the front, or None where none does.
-pub(crate) fn head_front(alloc: Global, bytes: &[u8]) -> Result<Option<Head>, Memory>
+pub(crate) fn head_front(labels: &mut Labels, bytes: &[u8]) -> Result<Option<Head>, Memory>
     ensures there { IfOk result (λ found. IfSome found (λ h. StandsInFront bytes.now h)) }
 {
     if bytes.is_empty() || bytes[0] != b'<' {
@@ -51,25 +51,29 @@ pub(crate) fn head_front(alloc: Global, bytes: &[u8]) -> Result<Option<Head>, Me
     }
     match ends_head(bytes[end]) {
         None => Ok(None),
-        Some(more) => head_to(alloc, bytes, end, more),
+        Some(more) => head_to(labels, bytes, end, more),
     }
 }
 
 // The beginning of a tag whose label ends at the place.
-fn head_to(alloc: Global, bytes: &[u8], end: usize, more: bool) -> Result<Option<Head>, Memory>
+fn head_to(
+    labels: &mut Labels,
+    bytes: &[u8],
+    end: usize,
+    more: bool,
+) -> Result<Option<Head>, Memory>
     requires some { 1 ≤ end }
     requires within { end < length bytes.now }
     requires first { slice_index bytes.now 0 ≡ 60 }
     requires last { slice_index bytes.now end ≡ end_of more }
     ensures there { IfOk result (λ found. IfSome found (λ h. StandsInFront bytes.now h)) }
 {
-    match Label::new(alloc, &bytes[1..end]) {
-        Ok(label) => Ok(Some(Head {
+    match labels.tag(&bytes[1..end])? {
+        None => Ok(None),
+        Some(label) => Ok(Some(Head {
             label,
             more,
             taken: end + 1,
         })),
-        Err(LabelFault::Memory) => Err(Memory),
-        Err(LabelFault::BadLabel(_)) => Ok(None),
     }
 }

@@ -16,6 +16,7 @@ mod reader;
 mod rows;
 mod runs;
 mod scan;
+mod shared_labels;
 mod sums;
 mod tag_rows;
 mod tags;

@@ -8,9 +8,11 @@ ghost use Rattle.tx_tm_form.specs.Growing.{no_parts, grow, grown};
 ghost use Rattle.tx_tm_read.specs.Lines.{IsMade, IsLine};
 ghost use Rattle.tx_tm_read.specs.Nodes.{line_nodes};
 ghost use Rattle.tx_tm_read.specs.Rows.{IsRowed};
+ghost use Rattle.tx_tm_read.specs.Credits.{line_credit};
 
 use crate::making::{make_concat, make_leaf};
 use crate::rows::Row;
+use crate::shared_labels::Labels;
 use std::alloc::Global;
 use std::marker::Model;
 use std::sync::ledger::Ledger;
@@ -132,21 +134,22 @@ impl Line {
     }
 
     // The tree, or None where it passes a limit.
-    #[tactic(auto, using(crate::proofs::Counts::line_trees))]
+    #[tactic(auto, using(crate::proofs::Counts::line_trees, crate::proofs::Crediting::line_paid))]
     #[inline(always)]
     pub(crate) fn finish<L: Ledger>(
         self,
-        alloc: Global,
+        labels: &Labels,
         steps: &mut Steps<L>,
     ) -> Result<Option<Tree>, Memory>
         ensures made { IfOk result (λ made. IsMade made (grown self)) }
         ensures counted { IfOk result (λ made.
             IfSome made (λ t. steps.new + line_nodes self ≤ steps.old + nodes_of t)) }
+        ensures bounded { steps.new ≤ steps.old + line_credit self }
         ensures rises { steps.old ≤ steps.new }
     {
-        match self.into_row(alloc)? {
+        match self.into_row(labels.alloc)? {
             None => Ok(None),
-            Some(row) => make_concat(alloc, row.into_trees(), steps),
+            Some(row) => make_concat(labels, row.into_trees(), steps),
         }
     }
 }

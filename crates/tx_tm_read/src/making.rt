@@ -1,5 +1,5 @@
 // Leaves and nodes.
-ghost use Rattle.std.specs.Prelude.{◌≡◌, ◌≤◌, ◌+◌, length, IfOk, IfSome};
+ghost use Rattle.std.specs.Prelude.{◌≡◌, ◌≤◌, ◌+◌, ◌-◌, min, length, IfOk, IfSome};
 ghost use Rattle.tx_tree.specs.Texts.{IsText};
 ghost use Rattle.tx_tree.specs.Labels.{IsLabel};
 ghost use Rattle.tx_tree.specs.WideTree.{leaf, node, forest, nodes_of};
@@ -7,6 +7,7 @@ ghost use Rattle.tx_tm_form.specs.Parts.{concat_of, document_label, collection_l
 ghost use Rattle.tx_tm_read.specs.Lines.{IsMade};
 ghost use Rattle.tx_tm_read.specs.Nodes.{nodes_in};
 
+use crate::shared_labels::Labels;
 use std::alloc::Global;
 use std::sync::ledger::Ledger;
 use tx_base::{Memory, Steps};
@@ -61,39 +62,41 @@ pub(crate) fn make_node<L: Ledger>(
 // The one tree, or the concat of several.
 #[tactic(auto, using(crate::proofs::Made::concat_there, crate::proofs::Made::concat_none, crate::proofs::Made::concat_one, crate::proofs::Made::concat_many))]
 pub(crate) fn make_concat<L: Ledger>(
-    alloc: Global,
+    labels: &Labels,
     mut trees: Vec<Tree>,
     steps: &mut Steps<L>,
 ) -> Result<Option<Tree>, Memory>
     ensures made { IfOk result (λ made. IsMade made (concat_of trees.items)) }
     ensures counted { IfOk result (λ made.
         IfSome made (λ t. steps.new + nodes_in trees.items ≤ steps.old + nodes_of t)) }
+    ensures bounded { steps.new ≤ steps.old + min 1 (length trees.items - 1) }
     ensures rises { steps.old ≤ steps.new }
 {
     if trees.len() >= 2 {
-        let label = make_label(alloc, b"concat")?;
-        return make_node(alloc, label, trees, steps);
+        let label = labels.concat()?;
+        return make_node(labels.alloc, label, trees, steps);
     }
     match trees.pop() {
         Some(tree) => Ok(Some(tree)),
-        None => Ok(Some(make_leaf(alloc, b"")?)),
+        None => Ok(Some(make_leaf(labels.alloc, b"")?)),
     }
 }
 
 // The document of these paragraphs.
 #[tactic(auto, using(crate::proofs::Made::document_there))]
 pub(crate) fn make_document<L: Ledger>(
-    alloc: Global,
+    labels: &Labels,
     paragraphs: Vec<Tree>,
     steps: &mut Steps<L>,
 ) -> Result<Option<Tree>, Memory>
     ensures made { IfOk result (λ made. IsMade made (node document_label (forest paragraphs.items))) }
     ensures counted { IfOk result (λ made.
         IfSome made (λ t. steps.new + nodes_in paragraphs.items ≤ steps.old + nodes_of t)) }
+    ensures bounded { steps.new ≤ steps.old + 1 }
     ensures rises { steps.old ≤ steps.new }
 {
-    let label = make_label(alloc, b"document")?;
-    make_node(alloc, label, paragraphs, steps)
+    let label = labels.document()?;
+    make_node(labels.alloc, label, paragraphs, steps)
 }
 
 // The collection of these tags.
@@ -106,6 +109,7 @@ pub(crate) fn make_collection<L: Ledger>(
     ensures made { IfOk result (λ made. IsMade made (node collection_label (forest tags.items))) }
     ensures counted { IfOk result (λ made.
         IfSome made (λ t. steps.new + nodes_in tags.items ≤ steps.old + nodes_of t)) }
+    ensures bounded { steps.new ≤ steps.old + 1 }
     ensures rises { steps.old ≤ steps.new }
 {
     let label = make_label(alloc, b"collection")?;

@@ -15,6 +15,8 @@ ghost use Rattle.tx_tm_read.specs.Readers.{between, reader_of, IsReader, ReaderR
 ghost use Rattle.tx_tm_read.specs.Runs.{AreWords, IsWhiteRun};
 ghost use Rattle.tx_tm_read.specs.Heads.{StandsInFront};
 ghost use Rattle.tx_tm_read.specs.Readers.{IsAdvance, AdvanceRose, IsTreeOf, IsTree, IsRead};
+ghost use Rattle.tx_tm_read.specs.Credits.{state_credit, token_credit, lexed_credit};
+ghost use Rattle.tx_tm_read.specs.Credits.{left, reader_credit, advance_credit, AdvancePaid};
 
 use crate::blocks::{Body, Paragraphs};
 use crate::heads::{Head, head_front};
@@ -22,6 +24,7 @@ use crate::lexer::{Lexed, Lexer, Word};
 use crate::measuring::limit;
 use crate::runs::{white_front, words_len};
 use crate::scan::misspelled;
+use crate::shared_labels::Labels;
 use crate::tags::{OpenTag, Spot};
 use crate::taking::begin;
 use crate::walk::{put_text, put_white};
@@ -59,7 +62,7 @@ pub(crate) struct Advance {
 
 // Behind a word.
 fn behind_word<L: Ledger>(
-    alloc: Global,
+    labels: &Labels,
     behind_join: bool,
     spot: Spot,
     word: Word,
@@ -69,6 +72,8 @@ fn behind_word<L: Ledger>(
     ensures next { IfOk result (λ next.
         IsReader next (at ready (keep (record { behind_join = behind_join; state = state_of spot }) (token_of word)))) }
     ensures counted { IfOk result (ReaderRose steps.old steps.new (state_nodes (state_of spot))) }
+    ensures bounded { steps.new + left reader_credit result
+        ≤ steps.old + state_credit (state_of spot) + token_credit (token_of word) }
     ensures rises { steps.old ≤ steps.new }
 {
     if is_dropped(behind_join, &word) {
@@ -78,7 +83,7 @@ fn behind_word<L: Ledger>(
             spot,
         }));
     }
-    match spot.take(alloc, word, steps)? {
+    match spot.take(labels, word, steps)? {
         None => Ok(None),
         Some(spot) => Ok(Some(Reader {
             lexer: Lexer::Ready,
@@ -90,7 +95,7 @@ fn behind_word<L: Ledger>(
 
 // Behind what a byte gave.
 fn behind_lexed<L: Ledger>(
-    alloc: Global,
+    labels: &Labels,
     behind_join: bool,
     spot: Spot,
     lexed: Option<Lexed>,
@@ -100,6 +105,8 @@ fn behind_lexed<L: Ledger>(
     ensures next { IfOk result (λ next.
         IsReader next (given keep (record { behind_join = behind_join; state = state_of spot }) (lexed_of lexed))) }
     ensures counted { IfOk result (ReaderRose steps.old steps.new (state_nodes (state_of spot))) }
+    ensures bounded { steps.new + left reader_credit result
+        ≤ steps.old + state_credit (state_of spot) + lexed_credit (lexed_of lexed) }
     ensures rises { steps.old ≤ steps.new }
 {
     match lexed {
@@ -112,13 +119,13 @@ fn behind_lexed<L: Ledger>(
             behind_join,
             spot,
         })),
-        Some(Lexed::Done(word)) => behind_word(alloc, behind_join, spot, word, steps),
+        Some(Lexed::Done(word)) => behind_word(labels, behind_join, spot, word, steps),
     }
 }
 
 // The tree of content outside all tags, or None where a tag is open or a limit is passed.
 fn whole_tree<L: Ledger>(
-    alloc: Global,
+    labels: &Labels,
     here: Body,
     mut opens: Vec<OpenTag>,
     steps: &mut Steps<L>,
@@ -126,10 +133,11 @@ fn whole_tree<L: Ledger>(
     ensures found { IfOk result (λ found. IsTreeOf found (reading (content_of here) (opens_of opens.items))) }
     ensures counted { IfOk result (λ found. IfSome found (λ t.
         steps.new + state_nodes (reading (content_of here) (opens_of opens.items)) ≤ steps.old + nodes_of t)) }
+    ensures bounded { steps.new ≤ steps.old + state_credit (reading (content_of here) (opens_of opens.items)) + 1 }
     ensures rises { steps.old ≤ steps.new }
 {
     match opens.pop() {
-        None => here.finish_block(alloc, steps),
+        None => here.finish_block(labels, steps),
         Some(_) => Ok(None),
     }
 }
@@ -139,14 +147,19 @@ impl Spot {
     fn let_go(self) {}
 
     // The tree, or None where what was read spells none within the limits.
-    fn finish<L: Ledger>(self, alloc: Global, steps: &mut Steps<L>) -> Result<Option<Tree>, Memory>
+    fn finish<L: Ledger>(
+        self,
+        labels: &Labels,
+        steps: &mut Steps<L>,
+    ) -> Result<Option<Tree>, Memory>
         ensures found { IfOk result (λ found. IsTreeOf found (state_of self)) }
         ensures counted { IfOk result (λ found.
             IfSome found (λ t. steps.new + state_nodes (state_of self) ≤ steps.old + nodes_of t)) }
+        ensures bounded { steps.new ≤ steps.old + state_credit (state_of self) + 1 }
         ensures rises { steps.old ≤ steps.new }
     {
         match self {
-            Spot::Reading(here, opens) => whole_tree(alloc, here, opens, steps),
+            Spot::Reading(here, opens) => whole_tree(labels, here, opens, steps),
             _ => Ok(None),
         }
     }
@@ -155,7 +168,7 @@ impl Spot {
 // Behind so many bytes at the front, which are words.
 #[inline(always)]
 fn with_words<L: Ledger>(
-    alloc: Global,
+    labels: &Labels,
     rest: &[u8],
     taken: usize,
     here: Body,
@@ -169,9 +182,11 @@ fn with_words<L: Ledger>(
         IsAdvance next (between behind_join (content_of here) (opens_of opens.items)) rest.now) }
     ensures counted { IfOk result
         (AdvanceRose steps.old steps.new (state_nodes (reading (content_of here) (opens_of opens.items)))) }
+    ensures bounded { steps.new + left advance_credit result
+        ≤ steps.old + state_credit (reading (content_of here) (opens_of opens.items)) }
     ensures rises { steps.old ≤ steps.new }
 {
-    match put_text(alloc, &rest[..taken], here, opens, steps)? {
+    match put_text(labels, &rest[..taken], here, opens, steps)? {
         None => Ok(None),
         Some(spot) => Ok(Some(Advance {
             reader: Reader {
@@ -200,6 +215,7 @@ fn with_white(
         IsAdvance next (between false (content_of here) (opens_of opens.items)) rest.now) }
     ensures counted { IfOk result
         (AdvanceRose 0 0 (state_nodes (reading (content_of here) (opens_of opens.items)))) }
+    ensures bounded { left advance_credit result ≤ state_credit (reading (content_of here) (opens_of opens.items)) }
 {
     match put_white(white, here, opens)? {
         None => Ok(None),
@@ -216,7 +232,7 @@ fn with_white(
 
 // Behind the beginning of a short tag at the front.
 fn with_head<L: Ledger>(
-    alloc: Global,
+    labels: &Labels,
     rest: &[u8],
     found: Head,
     here: Body,
@@ -228,10 +244,13 @@ fn with_head<L: Ledger>(
         IsAdvance next (between behind_join (content_of here) (opens_of opens.items)) rest.now) }
     ensures counted { IfOk result
         (AdvanceRose steps.old steps.new (state_nodes (reading (content_of here) (opens_of opens.items)))) }
+    ensures paid { IfOk result
+        (AdvancePaid steps.old steps.new (state_credit (reading (content_of here) (opens_of opens.items)))) }
+    ensures bounded { steps.new ≤ steps.old + state_credit (reading (content_of here) (opens_of opens.items)) + 2 }
     ensures rises { steps.old ≤ steps.new }
 {
     let Head { label, more, taken } = found;
-    match begin(alloc, TagForm::Short, more, label, here, opens, steps)? {
+    match begin(labels, TagForm::Short, more, label, here, opens, steps)? {
         None => Ok(None),
         Some(spot) => Ok(Some(Advance {
             reader: Reader {
@@ -258,12 +277,13 @@ impl Reader {
     // Behind a byte, or None where no tree within the limits goes on so.
     fn step<L: Ledger>(
         self,
-        alloc: Global,
+        labels: &Labels,
         byte: u8,
         steps: &mut Steps<L>,
     ) -> Result<Option<Reader>, Memory>
         ensures next { IfOk result (λ next. IsReader next (step keep (reader_of self) byte)) }
         ensures counted { IfOk result (ReaderRose steps.old steps.new (state_nodes (state_of self.spot))) }
+        ensures bounded { steps.new + left reader_credit result ≤ steps.old + reader_credit self + 1 }
         ensures rises { steps.old ≤ steps.new }
     {
         let Reader {
@@ -271,8 +291,8 @@ impl Reader {
             behind_join,
             spot,
         } = self;
-        match lexer.step(alloc, byte) {
-            Ok(lexed) => behind_lexed(alloc, behind_join, spot, lexed, steps),
+        match lexer.step(labels.alloc, byte) {
+            Ok(lexed) => behind_lexed(labels, behind_join, spot, lexed, steps),
             Err(Memory) => {
                 spot.let_go();
                 Err(Memory)
@@ -283,16 +303,18 @@ impl Reader {
     // Behind the first byte.
     fn first<L: Ledger>(
         self,
-        alloc: Global,
+        labels: &Labels,
         rest: &[u8],
         steps: &mut Steps<L>,
     ) -> Result<Option<Advance>, Memory>
         requires { 0 < length rest.now }
         ensures next { IfOk result (λ next. IsAdvance next (reader_of self) rest.now) }
         ensures counted { IfOk result (AdvanceRose steps.old steps.new (state_nodes (state_of self.spot))) }
+        ensures paid { IfOk result (AdvancePaid steps.old steps.new (reader_credit self)) }
+        ensures bounded { steps.new ≤ steps.old + reader_credit self + 2 }
         ensures rises { steps.old ≤ steps.new }
     {
-        match self.step(alloc, rest[0], steps)? {
+        match self.step(labels, rest[0], steps)? {
             None => Ok(None),
             Some(reader) => Ok(Some(Advance { reader, taken: 1 })),
         }
@@ -302,13 +324,15 @@ impl Reader {
     #[inline(always)]
     fn advance<L: Ledger>(
         self,
-        alloc: Global,
+        labels: &mut Labels,
         rest: &[u8],
         steps: &mut Steps<L>,
     ) -> Result<Option<Advance>, Memory>
         requires { 0 < length rest.now }
         ensures next { IfOk result (λ next. IsAdvance next (reader_of self) rest.now) }
         ensures counted { IfOk result (AdvanceRose steps.old steps.new (state_nodes (state_of self.spot))) }
+        ensures paid { IfOk result (AdvancePaid steps.old steps.new (reader_credit self)) }
+        ensures bounded { steps.new ≤ steps.old + reader_credit self + 2 }
         ensures rises { steps.old ≤ steps.new }
     {
         let Reader {
@@ -318,7 +342,7 @@ impl Reader {
         } = self;
         match (lexer, spot) {
             (Lexer::Ready, Spot::Reading(here, opens)) => {
-                advance_between(alloc, behind_join, rest, here, opens, steps)
+                advance_between(labels, behind_join, rest, here, opens, steps)
             }
             (lexer, spot) => {
                 let reader = Reader {
@@ -326,16 +350,21 @@ impl Reader {
                     behind_join,
                     spot,
                 };
-                reader.first(alloc, rest, steps)
+                reader.first(labels, rest, steps)
             }
         }
     }
 
     // The tree, or None where the bytes so far spell none within the limits.
-    fn finish<L: Ledger>(self, alloc: Global, steps: &mut Steps<L>) -> Result<Option<Tree>, Memory>
+    fn finish<L: Ledger>(
+        self,
+        labels: &Labels,
+        steps: &mut Steps<L>,
+    ) -> Result<Option<Tree>, Memory>
         ensures found { IfOk result (λ found. IsTree found (reader_of self)) }
         ensures counted { IfOk result (λ found.
             IfSome found (λ t. steps.new + state_nodes (state_of self.spot) ≤ steps.old + nodes_of t)) }
+        ensures bounded { steps.new ≤ steps.old + reader_credit self + 1 }
         ensures rises { steps.old ≤ steps.new }
     {
         let Reader {
@@ -344,7 +373,7 @@ impl Reader {
             spot,
         } = self;
         match lexer {
-            Lexer::Ready => spot.finish(alloc, steps),
+            Lexer::Ready => spot.finish(labels, steps),
             _ => {
                 spot.let_go();
                 Ok(None)
@@ -358,7 +387,7 @@ fn let_go(_here: Body, _opens: Vec<OpenTag>) {}
 
 // Behind the beginning of a short tag at the front, or else behind the first byte.
 fn advance_by_head<L: Ledger>(
-    alloc: Global,
+    labels: &mut Labels,
     behind_join: bool,
     rest: &[u8],
     here: Body,
@@ -370,17 +399,20 @@ fn advance_by_head<L: Ledger>(
         IsAdvance next (between behind_join (content_of here) (opens_of opens.items)) rest.now) }
     ensures counted { IfOk result
         (AdvanceRose steps.old steps.new (state_nodes (reading (content_of here) (opens_of opens.items)))) }
+    ensures paid { IfOk result
+        (AdvancePaid steps.old steps.new (state_credit (reading (content_of here) (opens_of opens.items)))) }
+    ensures bounded { steps.new ≤ steps.old + state_credit (reading (content_of here) (opens_of opens.items)) + 2 }
     ensures rises { steps.old ≤ steps.new }
 {
-    match head_front(alloc, rest) {
-        Ok(Some(found)) => with_head(alloc, rest, found, here, opens, steps),
+    match head_front(labels, rest) {
+        Ok(Some(found)) => with_head(labels, rest, found, here, opens, steps),
         Ok(None) => {
             let reader = Reader {
                 lexer: Lexer::Ready,
                 behind_join,
                 spot: Spot::Reading(here, opens),
             };
-            reader.first(alloc, rest, steps)
+            reader.first(labels, rest, steps)
         }
         Err(Memory) => {
             let_go(here, opens);
@@ -392,7 +424,7 @@ fn advance_by_head<L: Ledger>(
 // Behind words, white or the beginning of a short tag at the front, or else behind the first byte.
 #[inline(always)]
 fn advance_between<L: Ledger>(
-    alloc: Global,
+    labels: &mut Labels,
     behind_join: bool,
     rest: &[u8],
     here: Body,
@@ -404,11 +436,14 @@ fn advance_between<L: Ledger>(
         IsAdvance next (between behind_join (content_of here) (opens_of opens.items)) rest.now) }
     ensures counted { IfOk result
         (AdvanceRose steps.old steps.new (state_nodes (reading (content_of here) (opens_of opens.items)))) }
+    ensures paid { IfOk result
+        (AdvancePaid steps.old steps.new (state_credit (reading (content_of here) (opens_of opens.items)))) }
+    ensures bounded { steps.new ≤ steps.old + state_credit (reading (content_of here) (opens_of opens.items)) + 2 }
     ensures rises { steps.old ≤ steps.new }
 {
     let words = words_len(rest);
     if words > 0 {
-        return with_words(alloc, rest, words, here, opens, steps);
+        return with_words(labels, rest, words, here, opens, steps);
     }
     if !behind_join {
         let (taken, white) = white_front(rest);
@@ -416,23 +451,24 @@ fn advance_between<L: Ledger>(
             return with_white(rest, taken, white, here, opens);
         }
     }
-    advance_by_head(alloc, behind_join, rest, here, opens, steps)
+    advance_by_head(labels, behind_join, rest, here, opens, steps)
 }
 
 // The tree that the bytes spell, or None where they spell none within the limits.
 fn read_all<L: Ledger>(
-    alloc: Global,
+    labels: &mut Labels,
     bytes: &[u8],
     steps: &mut Steps<L>,
 ) -> Result<Option<Tree>, Memory>
     ensures found { IfOk result (λ found. IsRead found bytes.now) }
     ensures counted { IfOk result (λ found. IfSome found (λ t. steps.new ≤ steps.old + nodes_of t)) }
+    ensures bounded { steps.new ≤ steps.old + length bytes.now + 1 }
     ensures rises { steps.old ≤ steps.new }
 {
-    let mut reader = Reader::new(alloc);
+    let mut reader = Reader::new(labels.alloc);
     let mut rest = bytes;
     'bytes: while !rest.is_empty() {
-        match reader.advance(alloc, rest, steps)? {
+        match reader.advance(labels, rest, steps)? {
             None => return Ok(None),
             Some(advance) => {
                 reader = advance.reader;
@@ -440,7 +476,22 @@ fn read_all<L: Ledger>(
             }
         }
     }
-    reader.finish(alloc, steps)
+    reader.finish(labels, steps)
+}
+
+// The same, with labels that begin with none of a tag.
+fn read_anew<L: Ledger>(
+    alloc: Global,
+    bytes: &[u8],
+    steps: &mut Steps<L>,
+) -> Result<Option<Tree>, Memory>
+    ensures found { IfOk result (λ found. IsRead found bytes.now) }
+    ensures counted { IfOk result (λ found. IfSome found (λ t. steps.new ≤ steps.old + nodes_of t)) }
+    ensures bounded { steps.new ≤ steps.old + length bytes.now + 1 }
+    ensures rises { steps.old ≤ steps.new }
+{
+    let mut labels = Labels::new(alloc)?;
+    read_all(&mut labels, bytes, steps)
 }
 
 // Why the bytes spell no tree within the limits.
@@ -458,7 +509,8 @@ fn fault_of(alloc: Global, bytes: &[u8]) -> ReadFault
     }
 }
 
-/// The tree that the bytes spell. Where it answers one, the steps rise by at most its nodes that aren't leaves.
+/// The tree that the bytes spell. Whatever it answers, the steps rise by at most one more than the bytes; where it
+/// answers a tree, by at most its nodes that aren't leaves.
 ///
 /// A fault other than `Memory` comes exactly where the bytes spell no tree within the limits, and is the one that the
 /// table of faults gives (`IsTmFault` of `tx_tm_form`). It is found in one or two passes more, which make no tree.
@@ -467,9 +519,10 @@ pub fn read<L: Ledger>(alloc: Global, bytes: &[u8], steps: &mut Steps<L>) -> Res
     ensures within { IfOk result IsWithinLimits }
     ensures refused { IfErr result (λ fault. fault ≢ ReadFault.Memory → IsTmFault bytes.now fault) }
     ensures counted { IfOk result (λ t. steps.new ≤ steps.old + nodes_of t) }
+    ensures bounded { steps.new ≤ steps.old + length bytes.now + 1 }
     ensures rises { steps.old ≤ steps.new }
 {
-    match read_all(alloc, bytes, steps) {
+    match read_anew(alloc, bytes, steps) {
         Ok(Some(tree)) => {
             let _size = tree.size();
             Ok(tree)

@@ -30,6 +30,16 @@ impl Model for Row {
     ghost invariant = { λ r. IsRow r.trees.items r.size };
 }
 
+// Makes room for a tree more, and for no other one where they are few: most nodes have one child or two.
+fn make_room(trees: &mut Vec<Tree>) -> Result<(), Memory>
+    ensures { trees.new.items ≡ trees.old.items }
+{
+    if trees.len() < 2 {
+        trees.reserve_exact(1)?;
+    }
+    Ok(())
+}
+
 impl Row {
     #[tactic(auto, using(crate::proofs::Rowing::no_row))]
     pub(crate) fn new(alloc: Global) -> Row
@@ -61,6 +71,7 @@ impl Row {
         if whole > MOST_SIZE {
             return Ok(None);
         }
+        make_room(&mut trees)?;
         trees.push(tree)?;
         Ok(Some(Row { trees, size: whole }))
     }
@@ -68,6 +79,8 @@ impl Row {
     pub(crate) fn into_trees(self) -> Vec<Tree>
         ensures { result.items ≡ self }
     {
-        self.trees
+        let Row { mut trees, size: _ } = self;
+        trees.shrink_to_fit();
+        trees
     }
 }

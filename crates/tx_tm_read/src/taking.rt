@@ -14,11 +14,13 @@ ghost use Rattle.tx_tm_read.specs.Words.{token_of, IsGoodWord};
 ghost use Rattle.tx_tm_read.specs.Blocks.{content_of};
 ghost use Rattle.tx_tm_read.specs.Nodes.{state_nodes};
 ghost use Rattle.tx_tm_read.specs.Spots.{opens_of, state_of, IsState, Rose};
+ghost use Rattle.tx_tm_read.specs.Credits.{state_credit, token_credit, left, spot_credit};
 
 use crate::blocks::Body;
 use crate::lexer::Word;
 use crate::making::raw_data_label;
 use crate::rows::Row;
+use crate::shared_labels::Labels;
 use crate::tags::{Digits, NameFront, OpenTag, Spot};
 use crate::walk::{bar_in, close_in, in_place, last_in, next_in, put_node, put_text, put_white};
 use std::alloc::Global;
@@ -38,6 +40,7 @@ fn open_tag(
     ensures next { IfOk result (λ next.
         IsState next (in_tag place (open_tag (content_of here) label []) (opens_of opens.items))) }
     ensures counted { IfOk result (Rose 0 0 (state_nodes (reading (content_of here) (opens_of opens.items)))) }
+    ensures bounded { left spot_credit result ≤ state_credit (reading (content_of here) (opens_of opens.items)) + 1 }
 {
     let tag = OpenTag {
         before: here,
@@ -49,7 +52,7 @@ fn open_tag(
 
 // Behind a block, where a middle or closing tag of this label goes on at the place.
 fn go_on<L: Ledger>(
-    alloc: Global,
+    labels: &Labels,
     label: Label,
     place: Option<TagPlace>,
     here: Body,
@@ -60,17 +63,19 @@ fn go_on<L: Ledger>(
         IsState next (next_block (place_of (content_of here)) label place (content_of here) (opens_of opens.items))) }
     ensures counted { IfOk result
         (Rose steps.old steps.new (state_nodes (reading (content_of here) (opens_of opens.items)))) }
+    ensures bounded { steps.new + left spot_credit result
+        ≤ steps.old + state_credit (reading (content_of here) (opens_of opens.items)) + 1 }
     ensures rises { steps.old ≤ steps.new }
 {
     match opens.pop() {
         None => Ok(None),
-        Some(tag) => next_in(alloc, &label, place, here, tag, opens, steps),
+        Some(tag) => next_in(labels, &label, place, here, tag, opens, steps),
     }
 }
 
 // Behind a block, where a closing tag of this label without arguments stands.
 fn end_tag<L: Ledger>(
-    alloc: Global,
+    labels: &Labels,
     label: Label,
     here: Body,
     mut opens: Vec<OpenTag>,
@@ -80,11 +85,13 @@ fn end_tag<L: Ledger>(
         IsState next (last_block (place_of (content_of here)) label (content_of here) (opens_of opens.items))) }
     ensures counted { IfOk result
         (Rose steps.old steps.new (state_nodes (reading (content_of here) (opens_of opens.items)))) }
+    ensures bounded { steps.new + left spot_credit result
+        ≤ steps.old + state_credit (reading (content_of here) (opens_of opens.items)) + 2 }
     ensures rises { steps.old ≤ steps.new }
 {
     match opens.pop() {
         None => Ok(None),
-        Some(tag) => last_in(alloc, &label, here, tag, opens, steps),
+        Some(tag) => last_in(labels, &label, here, tag, opens, steps),
     }
 }
 
@@ -96,7 +103,7 @@ pub(crate) fn header_place(more: bool) -> Option<TagPlace>
 
 // Behind the beginning of a tag.
 pub(crate) fn begin<L: Ledger>(
-    alloc: Global,
+    labels: &Labels,
     form: TagForm,
     more: bool,
     label: Label,
@@ -107,23 +114,25 @@ pub(crate) fn begin<L: Ledger>(
     ensures next { IfOk result (λ next. IsState next (begun form more label (content_of here) (opens_of opens.items))) }
     ensures counted { IfOk result
         (Rose steps.old steps.new (state_nodes (reading (content_of here) (opens_of opens.items)))) }
+    ensures bounded { steps.new + left spot_credit result
+        ≤ steps.old + state_credit (reading (content_of here) (opens_of opens.items)) + 2 }
     ensures rises { steps.old ≤ steps.new }
 {
     match form {
         TagForm::Short => {
             if more {
-                open_tag(alloc, Some(TagPlace::InShort), label, here, opens)
+                open_tag(labels.alloc, Some(TagPlace::InShort), label, here, opens)
             } else {
-                put_node(alloc, label, Vec::new(alloc), here, opens, steps)
+                put_node(labels, label, Vec::new(labels.alloc), here, opens, steps)
             }
         }
-        TagForm::Long => open_tag(alloc, header_place(more), label, here, opens),
-        TagForm::Middle => go_on(alloc, label, header_place(more), here, opens, steps),
+        TagForm::Long => open_tag(labels.alloc, header_place(more), label, here, opens),
+        TagForm::Middle => go_on(labels, label, header_place(more), here, opens, steps),
         TagForm::Closing => {
             if more {
-                go_on(alloc, label, Some(TagPlace::InClosing), here, opens, steps)
+                go_on(labels, label, Some(TagPlace::InClosing), here, opens, steps)
             } else {
-                end_tag(alloc, label, here, opens, steps)
+                end_tag(labels, label, here, opens, steps)
             }
         }
     }
@@ -131,7 +140,7 @@ pub(crate) fn begin<L: Ledger>(
 
 // Behind `|`.
 fn take_bar<L: Ledger>(
-    alloc: Global,
+    labels: &Labels,
     here: Body,
     mut opens: Vec<OpenTag>,
     steps: &mut Steps<L>,
@@ -140,12 +149,14 @@ fn take_bar<L: Ledger>(
         IsState next (next_argument (place_of (content_of here)) (content_of here) (opens_of opens.items))) }
     ensures counted { IfOk result
         (Rose steps.old steps.new (state_nodes (reading (content_of here) (opens_of opens.items)))) }
+    ensures bounded { steps.new + left spot_credit result
+        ≤ steps.old + state_credit (reading (content_of here) (opens_of opens.items)) }
     ensures rises { steps.old ≤ steps.new }
 {
     match here {
         Body::Argument(place, line) => match opens.pop() {
             None => Ok(None),
-            Some(tag) => bar_in(alloc, place, line, tag, opens, steps),
+            Some(tag) => bar_in(labels, place, line, tag, opens, steps),
         },
         Body::Block(_) | Body::Tags(_) => Ok(None),
     }
@@ -153,7 +164,7 @@ fn take_bar<L: Ledger>(
 
 // Behind `>`.
 fn take_close<L: Ledger>(
-    alloc: Global,
+    labels: &Labels,
     here: Body,
     mut opens: Vec<OpenTag>,
     steps: &mut Steps<L>,
@@ -162,12 +173,14 @@ fn take_close<L: Ledger>(
         IsState next (last_argument (place_of (content_of here)) (content_of here) (opens_of opens.items))) }
     ensures counted { IfOk result
         (Rose steps.old steps.new (state_nodes (reading (content_of here) (opens_of opens.items)))) }
+    ensures bounded { steps.new + left spot_credit result
+        ≤ steps.old + state_credit (reading (content_of here) (opens_of opens.items)) + 1 }
     ensures rises { steps.old ≤ steps.new }
 {
     match here {
         Body::Argument(place, line) => match opens.pop() {
             None => Ok(None),
-            Some(tag) => close_in(alloc, place, line, tag, opens, steps),
+            Some(tag) => close_in(labels, place, line, tag, opens, steps),
         },
         Body::Block(_) | Body::Tags(_) => Ok(None),
     }
@@ -175,7 +188,7 @@ fn take_close<L: Ledger>(
 
 // Behind a backslash and a byte.
 fn take_escape<L: Ledger>(
-    alloc: Global,
+    labels: &Labels,
     byte: u8,
     here: Body,
     opens: Vec<OpenTag>,
@@ -185,14 +198,16 @@ fn take_escape<L: Ledger>(
         IsState next (by_escape (escape_of byte) byte (content_of here) (opens_of opens.items))) }
     ensures counted { IfOk result
         (Rose steps.old steps.new (state_nodes (reading (content_of here) (opens_of opens.items)))) }
+    ensures bounded { steps.new + left spot_credit result
+        ≤ steps.old + state_credit (reading (content_of here) (opens_of opens.items)) }
     ensures rises { steps.old ≤ steps.new }
 {
     match escape_of(byte) {
-        Some(Escaped::Mark) => put_text(alloc, &[], here, opens, steps),
-        Some(Escaped::Byte(meant)) => put_text(alloc, &[meant], here, opens, steps),
+        Some(Escaped::Mark) => put_text(labels, &[], here, opens, steps),
+        Some(Escaped::Byte(meant)) => put_text(labels, &[meant], here, opens, steps),
         None => {
             if byte == b'<' {
-                Ok(Some(Spot::Naming(NameFront::new(alloc), here, opens)))
+                Ok(Some(Spot::Naming(NameFront::new(labels.alloc), here, opens)))
             } else {
                 Ok(None)
             }
@@ -202,7 +217,7 @@ fn take_escape<L: Ledger>(
 
 // A word more between parts of the content.
 fn take_part<L: Ledger>(
-    alloc: Global,
+    labels: &Labels,
     word: Word,
     here: Body,
     opens: Vec<OpenTag>,
@@ -213,17 +228,19 @@ fn take_part<L: Ledger>(
         IsState next (feed_reading (content_of here) (opens_of opens.items) (token_of word))) }
     ensures counted { IfOk result
         (Rose steps.old steps.new (state_nodes (reading (content_of here) (opens_of opens.items)))) }
+    ensures bounded { steps.new + left spot_credit result
+        ≤ steps.old + state_credit (reading (content_of here) (opens_of opens.items)) + token_credit (token_of word) }
     ensures rises { steps.old ≤ steps.new }
 {
     match word {
         Word::White(byte) => put_white(white_of(byte), here, opens),
         Word::Join(_) => Ok(None),
-        Word::Plain(byte) => put_text(alloc, &[byte], here, opens, steps),
-        Word::Escape(byte) => take_escape(alloc, byte, here, opens, steps),
-        Word::Raw => Ok(Some(Spot::Counting(Digits::new(alloc), here, opens))),
-        Word::Head(form, label, more) => begin(alloc, form, more, label, here, opens, steps),
-        Word::Bar => take_bar(alloc, here, opens, steps),
-        Word::Close => take_close(alloc, here, opens, steps),
+        Word::Plain(byte) => put_text(labels, &[byte], here, opens, steps),
+        Word::Escape(byte) => take_escape(labels, byte, here, opens, steps),
+        Word::Raw => Ok(Some(Spot::Counting(Digits::new(labels.alloc), here, opens))),
+        Word::Head(form, label, more) => begin(labels, form, more, label, here, opens, steps),
+        Word::Bar => take_bar(labels, here, opens, steps),
+        Word::Close => take_close(labels, here, opens, steps),
     }
 }
 
@@ -267,7 +284,7 @@ fn plain_on(
 
 // At the end of a symbol's name.
 fn name_over<L: Ledger>(
-    alloc: Global,
+    labels: &Labels,
     name: NameFront,
     here: Body,
     opens: Vec<OpenTag>,
@@ -276,18 +293,20 @@ fn name_over<L: Ledger>(
     ensures next { IfOk result (λ next. IsState next (name_end name (content_of here) (opens_of opens.items))) }
     ensures counted { IfOk result
         (Rose steps.old steps.new (state_nodes (reading (content_of here) (opens_of opens.items)))) }
+    ensures bounded { steps.new + left spot_credit result
+        ≤ steps.old + state_credit (reading (content_of here) (opens_of opens.items)) }
     ensures rises { steps.old ≤ steps.new }
 {
     if name.is_empty() {
         return Ok(None);
     }
-    let symbol = name.symbol(alloc)?;
-    put_text(alloc, &symbol, here, opens, steps)
+    let symbol = name.symbol(labels.alloc)?;
+    put_text(labels, &symbol, here, opens, steps)
 }
 
 // A word more in the name of a symbol.
 fn take_name<L: Ledger>(
-    alloc: Global,
+    labels: &Labels,
     word: &Word,
     name: NameFront,
     here: Body,
@@ -298,11 +317,13 @@ fn take_name<L: Ledger>(
         IsState next (feed_naming name (content_of here) (opens_of opens.items) (token_of word.now))) }
     ensures counted { IfOk result
         (Rose steps.old steps.new (state_nodes (reading (content_of here) (opens_of opens.items)))) }
+    ensures bounded { steps.new + left spot_credit result
+        ≤ steps.old + state_credit (reading (content_of here) (opens_of opens.items)) }
     ensures rises { steps.old ≤ steps.new }
 {
     match word {
         Word::Plain(byte) => plain_on(*byte, name, here, opens),
-        Word::Escape(b'>') => name_over(alloc, name, here, opens, steps),
+        Word::Escape(b'>') => name_over(labels, name, here, opens, steps),
         Word::Escape(b'|') => name_on(b'|', name, here, opens),
         Word::Escape(b'\\') => name_on(b'\\', name, here, opens),
         _ => Ok(None),
@@ -340,7 +361,7 @@ fn raw_parts(alloc: Global, digits: Digits) -> Result<(Label, Vec<Tree>), Memory
 
 // At the end of raw data.
 fn digits_over<L: Ledger>(
-    alloc: Global,
+    labels: &Labels,
     digits: Digits,
     here: Body,
     opens: Vec<OpenTag>,
@@ -350,15 +371,17 @@ fn digits_over<L: Ledger>(
         IsState next (with_node raw_data_label (leaf digits ∷ []) (content_of here) (opens_of opens.items))) }
     ensures counted { IfOk result
         (Rose steps.old steps.new (state_nodes (reading (content_of here) (opens_of opens.items)))) }
+    ensures bounded { steps.new + left spot_credit result
+        ≤ steps.old + state_credit (reading (content_of here) (opens_of opens.items)) + 2 }
     ensures rises { steps.old ≤ steps.new }
 {
-    let (label, children) = raw_parts(alloc, digits)?;
-    put_node(alloc, label, children, here, opens, steps)
+    let (label, children) = raw_parts(labels.alloc, digits)?;
+    put_node(labels, label, children, here, opens, steps)
 }
 
 // A word more in raw data.
 fn take_digit<L: Ledger>(
-    alloc: Global,
+    labels: &Labels,
     word: &Word,
     digits: Digits,
     here: Body,
@@ -369,11 +392,13 @@ fn take_digit<L: Ledger>(
         IsState next (feed_counting digits (content_of here) (opens_of opens.items) (token_of word.now))) }
     ensures counted { IfOk result
         (Rose steps.old steps.new (state_nodes (reading (content_of here) (opens_of opens.items)))) }
+    ensures bounded { steps.new + left spot_credit result
+        ≤ steps.old + state_credit (reading (content_of here) (opens_of opens.items)) + 2 }
     ensures rises { steps.old ≤ steps.new }
 {
     match word {
         Word::Plain(byte) => digit_on(*byte, digits, here, opens),
-        Word::Close => digits_over(alloc, digits, here, opens, steps),
+        Word::Close => digits_over(labels, digits, here, opens, steps),
         _ => Ok(None),
     }
 }
@@ -383,20 +408,22 @@ impl Spot {
     #[tactic(auto, unfolding(tx_tm_form::specs::Machine::feed))]
     pub(crate) fn take<L: Ledger>(
         self,
-        alloc: Global,
+        labels: &Labels,
         word: Word,
         steps: &mut Steps<L>,
     ) -> Result<Option<Spot>, Memory>
         requires { IsGoodWord word }
         ensures next { IfOk result (λ next. IsState next (feed (state_of self) (token_of word))) }
         ensures counted { IfOk result (Rose steps.old steps.new (state_nodes (state_of self))) }
+        ensures bounded { steps.new + left spot_credit result
+            ≤ steps.old + state_credit (state_of self) + token_credit (token_of word) }
         ensures rises { steps.old ≤ steps.new }
     {
         match self {
-            Spot::Reading(here, opens) => take_part(alloc, word, here, opens, steps),
-            Spot::Naming(name, here, opens) => take_name(alloc, &word, name, here, opens, steps),
+            Spot::Reading(here, opens) => take_part(labels, word, here, opens, steps),
+            Spot::Naming(name, here, opens) => take_name(labels, &word, name, here, opens, steps),
             Spot::Counting(digits, here, opens) => {
-                take_digit(alloc, &word, digits, here, opens, steps)
+                take_digit(labels, &word, digits, here, opens, steps)
             }
         }
     }

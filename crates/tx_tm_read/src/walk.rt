@@ -15,12 +15,14 @@ ghost use Rattle.tx_tm_read.specs.Nodes.{nodes_in, line_nodes, block_nodes, tags
 ghost use Rattle.tx_tm_read.specs.Nodes.{content_nodes, opens_nodes, open_nodes, state_nodes};
 ghost use Rattle.tx_tm_read.specs.Spots.{open_of, opens_of, behind_argument};
 ghost use Rattle.tx_tm_read.specs.Spots.{state_of, IsState, IsOpen, IsBlockTree, Rose};
+ghost use Rattle.tx_tm_read.specs.Credits.{line_credit, content_credit, opens_credit, state_credit, left, spot_credit};
 
 use crate::blocks::{Body, Paragraphs, TagList};
 use crate::lexer::Word;
 use crate::lines::Line;
 use crate::making::{make_collection, make_node};
 use crate::rows::Row;
+use crate::shared_labels::Labels;
 use crate::tags::{Digits, NameFront, OpenTag, Spot};
 use std::alloc::Global;
 use std::sync::ledger::Ledger;
@@ -102,7 +104,7 @@ pub(crate) fn in_place(
 
 // Behind a tag.
 fn put_tag<L: Ledger>(
-    alloc: Global,
+    labels: &Labels,
     collects: bool,
     tree: Tree,
     before: Body,
@@ -113,9 +115,11 @@ fn put_tag<L: Ledger>(
         IsState next (reading (put (content_of before) (tag collects tree)) (opens_of opens.items))) }
     ensures counted { IfOk result (Rose steps.old steps.new
         (content_nodes (content_of before) + nodes_of tree + opens_nodes (content_of before) (opens_of opens.items))) }
+    ensures bounded { steps.new + left spot_credit result
+        ≤ steps.old + content_credit (content_of before) + opens_credit (opens_of opens.items) + 1 }
     ensures rises { steps.old ≤ steps.new }
 {
-    match before.with_tag(alloc, collects, tree, steps)? {
+    match before.with_tag(labels, collects, tree, steps)? {
         None => Ok(None),
         Some(here) => Ok(Some(Spot::Reading(here, opens))),
     }
@@ -131,6 +135,7 @@ pub(crate) fn put_white(
     ensures next { IfOk result (λ next.
         IsState next (reading (put (content_of here) (gap white)) (opens_of opens.items))) }
     ensures counted { IfOk result (Rose 0 0 (state_nodes (reading (content_of here) (opens_of opens.items)))) }
+    ensures bounded { left spot_credit result ≤ state_credit (reading (content_of here) (opens_of opens.items)) }
 {
     match here.with_white(white)? {
         None => Ok(None),
@@ -141,7 +146,7 @@ pub(crate) fn put_white(
 // Behind items of a text.
 #[inline(always)]
 pub(crate) fn put_text<L: Ledger>(
-    alloc: Global,
+    labels: &Labels,
     items: &[u8],
     here: Body,
     opens: Vec<OpenTag>,
@@ -152,9 +157,11 @@ pub(crate) fn put_text<L: Ledger>(
         IsState next (reading (put (content_of here) (text items.now)) (opens_of opens.items))) }
     ensures counted { IfOk result
         (Rose steps.old steps.new (state_nodes (reading (content_of here) (opens_of opens.items)))) }
+    ensures bounded { steps.new + left spot_credit result
+        ≤ steps.old + state_credit (reading (content_of here) (opens_of opens.items)) }
     ensures rises { steps.old ≤ steps.new }
 {
-    match here.with_text(alloc, items, steps)? {
+    match here.with_text(labels, items, steps)? {
         None => Ok(None),
         Some(here) => Ok(Some(Spot::Reading(here, opens))),
     }
@@ -162,7 +169,7 @@ pub(crate) fn put_text<L: Ledger>(
 
 // Behind a node.
 pub(crate) fn put_node<L: Ledger>(
-    alloc: Global,
+    labels: &Labels,
     label: Label,
     children: Vec<Tree>,
     before: Body,
@@ -173,11 +180,13 @@ pub(crate) fn put_node<L: Ledger>(
         IsState next (with_node label children.items (content_of before) (opens_of opens.items))) }
     ensures counted { IfOk result (Rose steps.old steps.new (nodes_in children.items + content_nodes (content_of before)
         + opens_nodes (content_of before) (opens_of opens.items))) }
+    ensures bounded { steps.new + left spot_credit result
+        ≤ steps.old + content_credit (content_of before) + opens_credit (opens_of opens.items) + 2 }
     ensures rises { steps.old ≤ steps.new }
 {
-    match make_node(alloc, label, children, steps)? {
+    match make_node(labels.alloc, label, children, steps)? {
         None => Ok(None),
-        Some(tree) => put_tag(alloc, false, tree, before, opens, steps),
+        Some(tree) => put_tag(labels, false, tree, before, opens, steps),
     }
 }
 
@@ -207,7 +216,7 @@ impl OpenTag {
     // Behind the tag, of which this is the last child.
     fn close<L: Ledger>(
         self,
-        alloc: Global,
+        labels: &Labels,
         child: Tree,
         opens: Vec<OpenTag>,
         steps: &mut Steps<L>,
@@ -216,13 +225,15 @@ impl OpenTag {
             IsState next (closed (with_child (open_of self) child) (opens_of opens.items))) }
         ensures counted { IfOk result
             (Rose steps.old steps.new (open_nodes (with_child (open_of self) child) (opens_of opens.items))) }
+        ensures bounded { steps.new + left spot_credit result
+            ≤ steps.old + opens_credit (open_of self ∷ opens_of opens.items) + 1 }
         ensures rises { steps.old ≤ steps.new }
     {
         match self.with_child(child)? {
             None => Ok(None),
             Some(tag) => {
                 let children = tag.children.into_trees();
-                put_node(alloc, tag.label, children, tag.before, opens, steps)
+                put_node(labels, tag.label, children, tag.before, opens, steps)
             }
         }
     }
@@ -249,25 +260,26 @@ impl Body {
     // The tree of a block, or None for an argument or where it passes a limit.
     pub(crate) fn finish_block<L: Ledger>(
         self,
-        alloc: Global,
+        labels: &Labels,
         steps: &mut Steps<L>,
     ) -> Result<Option<Tree>, Memory>
         ensures made { IfOk result (λ made. IsBlockTree made (content_of self)) }
         ensures counted { IfOk result (λ made.
             IfSome made (λ t. steps.new + content_nodes (content_of self) ≤ steps.old + nodes_of t)) }
+        ensures bounded { steps.new ≤ steps.old + content_credit (content_of self) + 1 }
         ensures rises { steps.old ≤ steps.new }
     {
         match self {
             Body::Argument(_, _) => Ok(None),
-            Body::Block(block) => block.finish(alloc, steps),
-            Body::Tags(tags) => tags.finish(alloc, steps),
+            Body::Block(block) => block.finish(labels, steps),
+            Body::Tags(tags) => tags.finish(labels, steps),
         }
     }
 }
 
 // Behind `|` in an argument.
 pub(crate) fn bar_in<L: Ledger>(
-    alloc: Global,
+    labels: &Labels,
     place: TagPlace,
     line: Line,
     tag: OpenTag,
@@ -278,20 +290,22 @@ pub(crate) fn bar_in<L: Ledger>(
         IsState next (in_tag (Some place) (with_child (open_of tag) (grown line)) (opens_of opens.items))) }
     ensures counted { IfOk result
         (Rose steps.old steps.new (line_nodes line + open_nodes (open_of tag) (opens_of opens.items))) }
+    ensures bounded { steps.new + left spot_credit result
+        ≤ steps.old + line_credit line + opens_credit (open_of tag ∷ opens_of opens.items) }
     ensures rises { steps.old ≤ steps.new }
 {
-    match line.finish(alloc, steps)? {
+    match line.finish(labels, steps)? {
         None => {
             tag.let_go(opens);
             Ok(None)
         }
-        Some(child) => tag.go_on(alloc, Some(place), child, opens),
+        Some(child) => tag.go_on(labels.alloc, Some(place), child, opens),
     }
 }
 
 // Behind `>` in an argument of the tag, of which this is the tree.
 fn argument_in<L: Ledger>(
-    alloc: Global,
+    labels: &Labels,
     place: TagPlace,
     child: Tree,
     tag: OpenTag,
@@ -302,18 +316,20 @@ fn argument_in<L: Ledger>(
         IsState next (behind_argument place (with_child (open_of tag) child) (opens_of opens.items))) }
     ensures counted { IfOk result
         (Rose steps.old steps.new (open_nodes (with_child (open_of tag) child) (opens_of opens.items))) }
+    ensures bounded { steps.new + left spot_credit result
+        ≤ steps.old + opens_credit (open_of tag ∷ opens_of opens.items) + 1 }
     ensures rises { steps.old ≤ steps.new }
 {
     match place {
-        TagPlace::InHeader => tag.go_on(alloc, None, child, opens),
-        TagPlace::InShort => tag.close(alloc, child, opens, steps),
-        TagPlace::InClosing => tag.close(alloc, child, opens, steps),
+        TagPlace::InHeader => tag.go_on(labels.alloc, None, child, opens),
+        TagPlace::InShort => tag.close(labels, child, opens, steps),
+        TagPlace::InClosing => tag.close(labels, child, opens, steps),
     }
 }
 
 // Behind `>` in an argument.
 pub(crate) fn close_in<L: Ledger>(
-    alloc: Global,
+    labels: &Labels,
     place: TagPlace,
     line: Line,
     tag: OpenTag,
@@ -324,20 +340,22 @@ pub(crate) fn close_in<L: Ledger>(
         IsState next (last_argument (Some place) (inline place line) (open_of tag ∷ opens_of opens.items))) }
     ensures counted { IfOk result
         (Rose steps.old steps.new (line_nodes line + open_nodes (open_of tag) (opens_of opens.items))) }
+    ensures bounded { steps.new + left spot_credit result
+        ≤ steps.old + line_credit line + opens_credit (open_of tag ∷ opens_of opens.items) + 1 }
     ensures rises { steps.old ≤ steps.new }
 {
-    match line.finish(alloc, steps)? {
+    match line.finish(labels, steps)? {
         None => {
             tag.let_go(opens);
             Ok(None)
         }
-        Some(child) => argument_in(alloc, place, child, tag, opens, steps),
+        Some(child) => argument_in(labels, place, child, tag, opens, steps),
     }
 }
 
 // Behind a block of the tag, where a middle or closing tag of this label goes on at the place.
 pub(crate) fn next_in<L: Ledger>(
-    alloc: Global,
+    labels: &Labels,
     label: &Label,
     place: Option<TagPlace>,
     here: Body,
@@ -349,17 +367,19 @@ pub(crate) fn next_in<L: Ledger>(
         (content_of here) (open_of tag ∷ opens_of opens.items))) }
     ensures counted { IfOk result
         (Rose steps.old steps.new (content_nodes (content_of here) + open_nodes (open_of tag) (opens_of opens.items))) }
+    ensures bounded { steps.new + left spot_credit result
+        ≤ steps.old + state_credit (reading (content_of here) (open_of tag ∷ opens_of opens.items)) + 1 }
     ensures rises { steps.old ≤ steps.new }
 {
     if !same_bytes(label.bytes(), tag.label.bytes()) {
         return Ok(None);
     }
-    behind_block(alloc, label, place, here, tag, opens, steps)
+    behind_block(labels, label, place, here, tag, opens, steps)
 }
 
 // The same, of the tag with this label.
 fn behind_block<L: Ledger>(
-    alloc: Global,
+    labels: &Labels,
     label: &Label,
     place: Option<TagPlace>,
     here: Body,
@@ -372,14 +392,16 @@ fn behind_block<L: Ledger>(
         (content_of here) (open_of tag ∷ opens_of opens.items))) }
     ensures counted { IfOk result
         (Rose steps.old steps.new (content_nodes (content_of here) + open_nodes (open_of tag) (opens_of opens.items))) }
+    ensures bounded { steps.new + left spot_credit result
+        ≤ steps.old + state_credit (reading (content_of here) (open_of tag ∷ opens_of opens.items)) + 1 }
     ensures rises { steps.old ≤ steps.new }
 {
-    match here.finish_block(alloc, steps)? {
+    match here.finish_block(labels, steps)? {
         None => {
             tag.let_go(opens);
             Ok(None)
         }
-        Some(child) => tag.go_on(alloc, place, child, opens),
+        Some(child) => tag.go_on(labels.alloc, place, child, opens),
     }
 }
 
@@ -394,6 +416,7 @@ impl TagList {
             IsMade made (node collection_label (forest (map tree_of_entry (tags_of self).entries)))) }
         ensures counted { IfOk result (λ made.
             IfSome made (λ t. steps.new + tags_nodes (tags_of self) ≤ steps.old + nodes_of t)) }
+        ensures bounded { steps.new ≤ steps.old + 1 }
         ensures rises { steps.old ≤ steps.new }
     {
         make_collection(alloc, self.into_trees(alloc)?, steps)
@@ -402,7 +425,7 @@ impl TagList {
 
 // The collection of these tags.
 fn collection_in<L: Ledger>(
-    alloc: Global,
+    labels: &Labels,
     tags: TagList,
     before: Body,
     opens: Vec<OpenTag>,
@@ -414,17 +437,19 @@ fn collection_in<L: Ledger>(
         (opens_of opens.items))) }
     ensures counted { IfOk result (Rose steps.old steps.new (tags_nodes (tags_of tags)
         + content_nodes (content_of before) + opens_nodes (content_of before) (opens_of opens.items))) }
+    ensures bounded { steps.new + left spot_credit result
+        ≤ steps.old + content_credit (content_of before) + opens_credit (opens_of opens.items) + 2 }
     ensures rises { steps.old ≤ steps.new }
 {
-    match tags.collection(alloc, steps)? {
+    match tags.collection(labels.alloc, steps)? {
         None => Ok(None),
-        Some(tree) => put_tag(alloc, true, tree, before, opens, steps),
+        Some(tree) => put_tag(labels, true, tree, before, opens, steps),
     }
 }
 
 // Behind a block of the tag, where a closing tag of this label without arguments stands.
 pub(crate) fn last_in<L: Ledger>(
-    alloc: Global,
+    labels: &Labels,
     label: &Label,
     here: Body,
     tag: OpenTag,
@@ -435,17 +460,19 @@ pub(crate) fn last_in<L: Ledger>(
         (last_block (place_of (content_of here)) label.now (content_of here) (open_of tag ∷ opens_of opens.items))) }
     ensures counted { IfOk result
         (Rose steps.old steps.new (state_nodes (reading (content_of here) (open_of tag ∷ opens_of opens.items)))) }
+    ensures bounded { steps.new + left spot_credit result
+        ≤ steps.old + state_credit (reading (content_of here) (open_of tag ∷ opens_of opens.items)) + 2 }
     ensures rises { steps.old ≤ steps.new }
 {
     if !same_bytes(label.bytes(), tag.label.bytes()) {
         return Ok(None);
     }
-    behind_last(alloc, label, here, tag, opens, steps)
+    behind_last(labels, label, here, tag, opens, steps)
 }
 
 // The same, of the tag with this label.
 fn behind_last<L: Ledger>(
-    alloc: Global,
+    labels: &Labels,
     label: &Label,
     here: Body,
     tag: OpenTag,
@@ -457,18 +484,20 @@ fn behind_last<L: Ledger>(
         (last_block (place_of (content_of here)) label.now (content_of here) (open_of tag ∷ opens_of opens.items))) }
     ensures counted { IfOk result
         (Rose steps.old steps.new (state_nodes (reading (content_of here) (open_of tag ∷ opens_of opens.items)))) }
+    ensures bounded { steps.new + left spot_credit result
+        ≤ steps.old + state_credit (reading (content_of here) (open_of tag ∷ opens_of opens.items)) + 2 }
     ensures rises { steps.old ≤ steps.new }
 {
     match here {
         Body::Argument(_, _) => Ok(None),
-        Body::Tags(tags) => collection_in(alloc, tags, tag.before, opens, steps),
-        Body::Block(block) => block_in(alloc, block, tag, opens, steps),
+        Body::Tags(tags) => collection_in(labels, tags, tag.before, opens, steps),
+        Body::Block(block) => block_in(labels, block, tag, opens, steps),
     }
 }
 
 // Behind a tag, of which this block is the last child.
 fn block_in<L: Ledger>(
-    alloc: Global,
+    labels: &Labels,
     block: Paragraphs,
     tag: OpenTag,
     opens: Vec<OpenTag>,
@@ -478,13 +507,15 @@ fn block_in<L: Ledger>(
         IsState next (closed (with_child (open_of tag) (tree_of_block (block_of block))) (opens_of opens.items))) }
     ensures counted { IfOk result
         (Rose steps.old steps.new (block_nodes (block_of block) + open_nodes (open_of tag) (opens_of opens.items))) }
+    ensures bounded { steps.new + left spot_credit result
+        ≤ steps.old + line_credit (block_of block).now + opens_credit (open_of tag ∷ opens_of opens.items) + 2 }
     ensures rises { steps.old ≤ steps.new }
 {
-    match block.finish(alloc, steps)? {
+    match block.finish(labels, steps)? {
         None => {
             tag.let_go(opens);
             Ok(None)
         }
-        Some(child) => tag.close(alloc, child, opens, steps),
+        Some(child) => tag.close(labels, child, opens, steps),
     }
 }

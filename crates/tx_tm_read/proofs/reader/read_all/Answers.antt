@@ -1,5 +1,6 @@
-use Rattle.std.proofs.Common.{◌∙◌, sym, ap, arith}
+use Rattle.std.proofs.Common.{◌∙◌, sym, ap, arith, length}
 use Rattle.std.proofs.lemmas.Bool.{eqb-true}
+use Rattle.std.proofs.lemmas.List.{length-drop}
 use Rattle.tx_tm_form.specs.Machine.{run, keep}
 use Rattle.tx_tm_read.specs.Readers.{reader_of}
 use Rattle.tx_tm_read.proofs.Running.{run_on, none_on, over, nothing_left, rest_is}
@@ -14,11 +15,20 @@ pub bytes-preserved : goal.bytes-preserved
 bytes-preserved g c =
     let a = rw c.in-Some.is at c.in_ok-advance.ensures.next in
     let n = rw c.in-Some.is at c.in_ok-advance.ensures.counted in
+    let paid = rw c.in-Some.is at c.in_ok-advance.ensures.paid in
     record {
       going = ap (run keep (reader_of c.in-Some.advance.reader)) (rest_is c.in-Some.advance.taken c.bytes.rest.now)
           ∙ run_on (reader_of c.bytes.reader) (reader_of c.in-Some.advance.reader) c.in-Some.advance.taken
           c.bytes.rest.now c.args.bytes.now c.bytes.invariant.going a.2;
       counted = omega (arith, c.bytes.invariant.counted, n);
+      bounded = omega (
+        arith,
+        c.bytes.invariant.bounded,
+        paid,
+        a.1,
+        ap length (rest_is c.in-Some.advance.taken c.bytes.rest.now),
+        length-drop c.in-Some.advance.taken c.bytes.rest.now,
+      );
       rises = omega (arith, c.bytes.invariant.rises, c.advance.ensures.rises);
     }
 

@@ -1,5 +1,8 @@
-use Rattle.std.proofs.Common.{arith}
+use Rattle.std.proofs.Common.{arith, ap, [], ◌∷◌}
+use Rattle.std.proofs.lemmas.List.{length-append}
 use Rattle.tx_tm_read.specs.Blocks.{block_of}
+use Rattle.tx_tm_read.specs.Credits.{line_credit}
+use Rattle.tx_tm_read.proofs.Crediting.{behind_credit}
 use Rattle.tx_tm_read.proofs.Replay.{replayed_more, replay_stuck}
 use Rattle.tx_tm_read.proofs.blocks.TagList.into_paragraphs.Goals as goal
 
@@ -13,9 +16,18 @@ pub loop-entry-preserved : goal.loop-entry-preserved
 loop-entry-preserved g c =
     let next = rw c.in-Some-2.is at c.in_ok-with_tag.ensures.next in
     let counted = rw c.in-Some-2.is at c.in_ok-with_tag.ensures.counted in
+    let bounded = rw c.in-Some-2.is at c.in_ok-with_tag.ensures.bounded in
     record {
       replayed = replayed_more _ _ _ _ _ _ _ c.in-Some.entry (block_of c.loop-entry.block)
           (block_of c.behind-behind.result) (block_of c.in-Some-2.next) c.loop-entry.invariant.replayed
           c.in-Some.ensures.steps.0 c.behind-behind.ensures next counted;
+      bounded = omega (
+        arith,
+        c.loop-entry.invariant.bounded,
+        bounded,
+        ap (λ b. line_credit b.now) c.behind-behind.ensures,
+        behind_credit (block_of c.loop-entry.block) c.in-Some.entry.before,
+        length-append c.loop-entry.yielded (c.in-Some.entry ∷ []),
+      );
       rises = omega (arith, c.loop-entry.invariant.rises, c.in_ok-with_tag.ensures.rises);
     }

@@ -1,5 +1,6 @@
-use Rattle.std.proofs.Common.{◌≤◌}
+use Rattle.std.proofs.Common.{◌≤◌, ◌+◌, length}
 use Rattle.tx_tm_read.specs.Blocks.{block_of}
+use Rattle.tx_tm_read.specs.Credits.{line_credit}
 use Rattle.tx_tm_read.proofs.Replay.{IsReplayed}
 use Rattle.tx_tm_read.proofs.blocks.TagList.into_paragraphs.Given as goal
 
@@ -8,5 +9,6 @@ invariant-loop-entry g l =
     record {
       replayed : IsReplayed l.fn.steps l.steps l.fn.self.entries l.yielded l.entry-iterator.rest.items
           (block_of l.block);
+      bounded : l.steps + line_credit l.block.now ≤ l.fn.steps + length l.yielded;
       rises : l.fn.steps ≤ l.steps;
     }

@@ -1,0 +1,68 @@
+-- Nodes that bytes which have been read pay for, and that haven't been made yet: a byte pays for one. Each open tag has
+-- one, each line in which a tag stands one for its concat, and each tag of what may be a collection one for the line
+-- that it may stand in.
+use Rattle.std.specs.Prelude.{ℕ, ◌+◌, ◌≤◌, min, List, [], ◌∷◌, length, Option, Some, None, Result, Ok}
+use Rattle.tx_tm_form.specs.Tokens.{Token, head}
+use Rattle.tx_tm_form.specs.Growing.{Inline, Content, inline, blocks, collecting}
+use Rattle.tx_tm_form.specs.Machine.{Open, State, reading, naming, counting, failed, Lex, labelled, Lexed, within, done, bad}
+use Rattle.tx_tm_read.specs.declared.blocks.Body.{Body}
+use Rattle.tx_tm_read.specs.declared.tags.Spot.{Spot}
+use Rattle.tx_tm_read.specs.declared.reader.Reader.{Reader}
+use Rattle.tx_tm_read.specs.declared.reader.Advance.{Advance}
+use Rattle.tx_tm_read.specs.Words.{lex_of}
+use Rattle.tx_tm_read.specs.Blocks.{content_of}
+use Rattle.tx_tm_read.specs.Spots.{state_of}
+
+abbrev pub line_credit : Inline → ℕ
+line_credit g = min 1 (length g.done)
+
+abbrev pub content_credit : Content → ℕ
+content_credit (inline p g) = line_credit g
+content_credit (blocks b) = line_credit b.now
+content_credit (collecting x) = length x.entries
+
+abbrev pub opens_credit : List Open → ℕ
+opens_credit [] = 0
+opens_credit (f ∷ fs) = 1 + content_credit f.before + opens_credit fs
+
+abbrev pub state_credit : State → ℕ
+state_credit (reading here fs) = content_credit here + opens_credit fs
+state_credit (naming name here fs) = content_credit here + opens_credit fs
+state_credit (counting digits here fs) = content_credit here + opens_credit fs + 1
+state_credit failed = 0
+
+abbrev pub lex_credit : Lex → ℕ
+lex_credit (labelled form label) = 1
+lex_credit _ = 0
+
+-- how many nodes a token makes at most that aren't paid for yet, those included that it leaves paid for
+abbrev pub token_credit : Token → ℕ
+token_credit (head form label more) = 2
+token_credit _ = 1
+
+abbrev pub lexed_credit : Lexed → ℕ
+lexed_credit (within q) = lex_credit q
+lexed_credit (done t) = token_credit t
+lexed_credit bad = 0
+
+-- what is left of it after an answer, which is nothing after a refusal
+abbrev pub left : {A : Type 0} {E : Type 0} → (A → ℕ) → Result (Option A) E → ℕ
+left credit (Ok (Some x)) = credit x
+left credit _ = 0
+
+abbrev pub body_credit : Body → ℕ
+body_credit b = content_credit (content_of b)
+
+abbrev pub spot_credit : Spot → ℕ
+spot_credit s = state_credit (state_of s)
+
+abbrev pub reader_credit : Reader → ℕ
+reader_credit r = lex_credit (lex_of r.lexer) + state_credit (state_of r.spot)
+
+abbrev pub advance_credit : Advance → ℕ
+advance_credit a = reader_credit a.reader
+
+-- the steps rose by no more than what was paid for and the bytes that were taken
+abbrev pub AdvancePaid : ℕ → ℕ → ℕ → Option Advance → Type 0
+AdvancePaid before after credit None = Unit {0}
+AdvancePaid before after credit (Some a) = after + advance_credit a ≤ before + credit + a.taken
