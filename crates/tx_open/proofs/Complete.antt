@@ -15,7 +15,7 @@ use Rattle.tx_open.specs.declared.opening.Opening.{Opening}
 use Rattle.tx_open.specs.declared.opening.Opening.TheVariants as openings
 use Rattle.tx_open.specs.Openings.{failed_as, outcome_of}
 use Rattle.tx_open.specs.Outcomes.{CanBeOpened, ComesTo, EndsIn, EndsOf, IsCaused, IsOpenedAs, Outcome}
-use Rattle.tx_open.specs.Outcomes.{missing, too_long, no_tree, store_fault}
+use Rattle.tx_open.specs.Outcomes.{missing, too_long, no_tree, store_fault, no_memory}
 use Rattle.tx_open.proofs.Single.{AskOnce, ends_or_opens, not_files, same_files}
 
 -- where bytes have no fault, reading them comes to nothing but want of memory
@@ -61,7 +61,7 @@ pub is_opened : (words : List (List ℕ)) (asked_once : AskOnce words) (files : 
     → CanBeOpened words files → ComesTo words files (outcome_of r)
     → ((word : List ℕ) → outcome_of r ≡ missing word → ⊥)
     → ((word : List ℕ) → outcome_of r ≡ too_long word → ⊥) → ((word : List ℕ) → outcome_of r ≡ store_fault word → ⊥)
-    → (r ≡ openings.NoMemory) ⊎ ((all : Opened) × (r ≡ openings.Opened all))
+    → (outcome_of r ≡ no_memory) ⊎ ((all : Opened) × (r ≡ openings.Opened all))
 is_opened words asked_once files openings.FaultyWords can h m l f =
     let opens = can.opens in
     let all = can.all in
@@ -71,6 +71,7 @@ is_opened words asked_once files (openings.TooLong word) can h m l f = absurd (l
 is_opened words asked_once files (openings.NoTree word fault) can h m l f =
     absurd (refused words asked_once files word.now fault can h)
 is_opened words asked_once files (openings.StoreFault word) can h m l f = absurd (f word.now refl)
+is_opened words asked_once files openings.UnreadWords can h m l f = inl refl
 is_opened words asked_once files openings.NoMemory can h m l f = inl refl
 is_opened words asked_once files (openings.Opened all) can h m l f = inr (all, refl)
 is_opened words asked_once files (openings.Generated made) can h m l f =

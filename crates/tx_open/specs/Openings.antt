@@ -9,6 +9,7 @@ use Rattle.tx_open.specs.Outcomes.{generated}
 
 abbrev pub outcome_of : Opening → Outcome
 outcome_of openings.FaultyWords = faulty_words
+outcome_of openings.UnreadWords = no_memory
 outcome_of (openings.Missing word) = missing word.now
 outcome_of (openings.TooLong word) = too_long word.now
 outcome_of (openings.NoTree word fault) = no_tree word.now fault

@@ -25,6 +25,10 @@ pub data Outcome : Type 0 where
   opened : (all : Opened) → Outcome
   generated : (all : Opened) → Outcome
 
+-- the words ask for files
+abbrev pub AskForFiles : List (List ℕ) → Type 0
+AskForFiles words = (width height : ℕ) × (names : List Named) × Ask words width height (sources.Files names)
+
 -- ---- one file
 
 -- the file has these bytes, as far as the files are known, and they are not too many

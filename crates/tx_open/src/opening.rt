@@ -5,10 +5,11 @@ ghost use Rattle.tx_outside.specs.Counts.{NeverFalls, Rose};
 ghost use Rattle.tx_doc.specs.Buffers.{NamesDiffer};
 ghost use Rattle.tx_doc.specs.declared.buffer.Buffer.{Buffer as SomeBuffer};
 ghost use Rattle.tx_words.specs.Seen.{named_of};
+ghost use Rattle.tx_words.specs.declared.asked.Source.{Source as SomeSource};
 ghost use Rattle.tx_words.specs.Words.{Ask, AreFaulty};
 ghost use Rattle.tx_open.specs.Openings.{IfOpened, failed_as, outcome_of};
-ghost use Rattle.tx_open.specs.Outcomes.{AreRead, CanBeOpened, ComesTo, EndsIn, IsCaused, IsGenerated, nodes_in};
-ghost use Rattle.tx_open.specs.Outcomes.{missing, opened, store_fault, too_long};
+ghost use Rattle.tx_open.specs.Outcomes.{AreRead, AskForFiles, CanBeOpened, ComesTo, EndsIn, IsCaused, IsGenerated};
+ghost use Rattle.tx_open.specs.Outcomes.{missing, no_memory, nodes_in, opened, store_fault, too_long};
 ghost use Rattle.tx_open.specs.declared.opening.Opened.{Opened as WasOpened};
 
 use crate::buffers::Buffers;
@@ -39,6 +40,8 @@ pub struct Opened {
 pub enum Opening<'a> {
     /// The words ask for nothing.
     FaultyWords,
+    /// Memory ran out while the words were read.
+    UnreadWords,
     /// There is no such file.
     Missing(&'a [u8]),
     /// The file has more than 2^24 bytes.
@@ -47,7 +50,7 @@ pub enum Opening<'a> {
     NoTree(&'a [u8], ReadFault),
     /// The store failed at this file.
     StoreFault(&'a [u8]),
-    /// Memory ran out.
+    /// Memory ran out when the words had been read, which ask for something.
     NoMemory,
     /// The files were loaded and read.
     Opened(Opened),
@@ -56,10 +59,11 @@ pub enum Opening<'a> {
 }
 
 impl<'a> From<Failure<'a>> for Opening<'a> {
-    ghost use Rattle.std.specs.Prelude.{◌≡◌};
+    ghost use Rattle.std.specs.Prelude.{◌≡◌, ◌≢◌};
     ghost use Rattle.tx_open.specs.Openings.{failed_as, outcome_of};
+    ghost use Rattle.tx_open.specs.declared.opening.Opening.TheVariants.{UnreadWords};
 
-    ghost from_gives = { λ failure opening. outcome_of opening ≡ failed_as failure };
+    ghost from_gives = { λ failure opening. (outcome_of opening ≡ failed_as failure) × (opening ≢ UnreadWords) };
 
     fn from(failure: Failure<'a>) -> Opening<'a> {
         match failure {
@@ -158,8 +162,8 @@ fn generate<L: Ledger>(
 /// `.stm`, and else in TM.
 ///
 /// The first file that isn't there, is too long, spells no tree within the limits, or at which the store fails, is what
-/// it comes to, and no later file is loaded. Faulty words ask nothing of the store. Where the files are opened, the
-/// steps rise by at most the nodes of their trees that aren't leaves.
+/// it comes to, and no later file is loaded. Faulty words ask nothing of the store, nor do words that memory doesn't
+/// suffice to read. Where the files are opened, the steps rise by at most the nodes of their trees that aren't leaves.
 ///
 /// Where FILE is `gen:number:count`, the document of `tx_generated` is generated and read, as the one buffer `gen`, and
 /// nothing is asked of the store.
@@ -173,12 +177,16 @@ pub fn open<'a, S: Store, L: Ledger>(
     ensures complete { CanBeOpened (map string_bytes words.now) (S.files store.old)
         → ¬ Rose (S.misses store.old) (S.misses store.new) → ¬ Rose (S.longs store.old) (S.longs store.new)
         → ¬ Rose (S.faults store.old) (S.faults store.new)
-        → (result ≡ Opening.NoMemory) ⊎ ((all : WasOpened) × (result ≡ Opening.Opened all)) }
+        → (outcome_of result ≡ no_memory) ⊎ ((all : WasOpened) × (result ≡ Opening.Opened all)) }
 
     // A generated document needs memory alone.
     ensures generated { (width height number count : ℕ)
         → Ask (map string_bytes words.now) width height (Source.Generated number count)
-        → (result ≡ Opening.NoMemory) ⊎ ((all : WasOpened) × (result ≡ Opening.Generated all)) }
+        → (outcome_of result ≡ no_memory) ⊎ ((all : WasOpened) × (result ≡ Opening.Generated all)) }
+
+    // It says whether memory ran out while the words were read or afterwards.
+    ensures words_read { result ≡ Opening.NoMemory
+        → (width height : ℕ) × (source : SomeSource) × Ask (map string_bytes words.now) width height source }
 
     // Where the store is blamed, its count rose.
     ensures missing_counted { (word : List ℕ) → outcome_of result ≡ missing word
@@ -197,6 +205,8 @@ pub fn open<'a, S: Store, L: Ledger>(
 
     // What is as before, and what never falls.
     ensures untouched { AreFaulty (map string_bytes words.now) → (store.new ≡ store.old) × (steps.new ≡ steps.old) }
+    ensures untouched_unread { result ≡ Opening.UnreadWords → (store.new ≡ store.old) × (steps.new ≡ steps.old) }
+    ensures untouched_unless_asked { (store.new ≡ store.old) ⊎ AskForFiles (map string_bytes words.now) }
     ensures not_asked { (width height number count : ℕ)
         → Ask (map string_bytes words.now) width height (Source.Generated number count) → store.new ≡ store.old }
     ensures files_kept { S.files store.new ≡ S.files store.old }
@@ -228,6 +238,6 @@ pub fn open<'a, S: Store, L: Ledger>(
             }
         }
         Err(WordsFault::Faulty) => Opening::FaultyWords,
-        Err(WordsFault::Memory) => Opening::NoMemory,
+        Err(WordsFault::Memory) => Opening::UnreadWords,
     }
 }

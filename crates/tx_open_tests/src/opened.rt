@@ -39,6 +39,7 @@ fn all(alloc: Global, opened: &Opened) -> Result<String, AllocError> {
 pub(crate) fn shown(alloc: Global, opening: &Opening) -> Result<String, AllocError> {
     match opening {
         Opening::FaultyWords => String::from_str(alloc, "faulty"),
+        Opening::UnreadWords => String::from_str(alloc, "unread"),
         Opening::Missing(word) => line(alloc, "missing ", word),
         Opening::TooLong(word) => line(alloc, "long ", word),
         Opening::NoTree(word, fault) => {

@@ -291,6 +291,7 @@ unopened (openings.Missing f) n m all = ((λ e. cc), (λ e. cc))
 unopened (openings.TooLong f) n m all = ((λ e. cc), (λ e. cc))
 unopened (openings.NoTree f c) n m all = ((λ e. cc), (λ e. cc))
 unopened (openings.StoreFault f) n m all = ((λ e. cc), (λ e. cc))
+unopened openings.UnreadWords n m all = ((λ e. cc), (λ e. cc))
 unopened openings.NoMemory n m all = ((λ e. cc), (λ e. cc))
 unopened (openings.Opened found) n m all = absurd (n found refl)
 unopened (openings.Generated found) n m all = absurd (m found refl)
@@ -301,6 +302,7 @@ worded (openings.Missing f) n e = cc
 worded (openings.TooLong f) n e = cc
 worded (openings.NoTree f c) n e = cc
 worded (openings.StoreFault f) n e = cc
+worded openings.UnreadWords n e = cc
 worded openings.NoMemory n e = cc
 worded (openings.Opened all) n e = cc
 worded (openings.Generated all) n e = cc
@@ -447,9 +449,9 @@ pub record Unopened (words : List (List ℕ)) (files : Option Files) (r : Openin
   pub not_long : status ≡ statuses.ScriptLong → ⊥
   pub words_only : AreFaulty words
       → (status ≡ statuses.Words) ⊎ (status ≡ statuses.NoMemory) ⊎ (status ≡ statuses.OutputFault)
-  pub complete : (r ≡ openings.NoMemory) ⊎ ((all : Opened) × (r ≡ openings.Opened all))
+  pub complete : (outcome_of r ≡ no_memory) ⊎ ((all : Opened) × (r ≡ openings.Opened all))
       → (status ≡ statuses.OutputFault → ⊥) → status ≡ statuses.NoMemory
-  pub complete_generated : (r ≡ openings.NoMemory) ⊎ ((all : Opened) × (r ≡ openings.Generated all))
+  pub complete_generated : (outcome_of r ≡ no_memory) ⊎ ((all : Opened) × (r ≡ openings.Generated all))
       → (status ≡ statuses.OutputFault → ⊥) → status ≡ statuses.NoMemory
 
 is_output_fault : (s : Status) → (s ≡ statuses.OutputFault) ⊎ (s ≢ statuses.OutputFault)
@@ -507,14 +509,14 @@ module _ (words : List (List ℕ)) (stored later : Stored) (old new : ℕ) (r : 
   none_asked : AreFaulty words → status_of (outcome_of r) ≡ statuses.NoMemory
   none_asked faulty = nothing_asked words stored.files (outcome_of r) comes (unopened r u m) (worded r n) faulty
 
-  opened_not : (r ≡ openings.NoMemory) ⊎ ((all : Opened) × (r ≡ openings.Opened all))
+  opened_not : (outcome_of r ≡ no_memory) ⊎ ((all : Opened) × (r ≡ openings.Opened all))
       → status_of (outcome_of r) ≡ statuses.NoMemory
-  opened_not (inl e) = ap (λ o. status_of (outcome_of o)) e
+  opened_not (inl e) = ap status_of e
   opened_not (inr e) = absurd (u e.0 e.1)
 
-  generated_not : (r ≡ openings.NoMemory) ⊎ ((all : Opened) × (r ≡ openings.Generated all))
+  generated_not : (outcome_of r ≡ no_memory) ⊎ ((all : Opened) × (r ≡ openings.Generated all))
       → status_of (outcome_of r) ≡ statuses.NoMemory
-  generated_not (inl e) = ap (λ o. status_of (outcome_of o)) e
+  generated_not (inl e) = ap status_of e
   generated_not (inr e) = absurd (m e.0 e.1)
 
   wanting : status_of (outcome_of r) ≡ statuses.NoMemory → status ≢ statuses.OutputFault

@@ -9,7 +9,7 @@ ghost use Rattle.tx_outside.specs.Known.{AppendsPart, StaysKnown};
 ghost use Rattle.tx_words.specs.Words.{AreFaulty};
 ghost use Rattle.tx_open.specs.declared.opening.Opened.{Opened as WasOpened};
 ghost use Rattle.tx_open.specs.Openings.{outcome_of};
-ghost use Rattle.tx_open.specs.Outcomes.{CanBeOpened, ComesTo, Outcome, generated, no_memory, opened};
+ghost use Rattle.tx_open.specs.Outcomes.{AskForFiles, CanBeOpened, ComesTo, Outcome, generated, no_memory, opened};
 ghost use Rattle.tx_doc.specs.Buffers.{NamesDiffer};
 ghost use Rattle.tx_units.specs.Units.{made};
 ghost use Rattle.tx_session.specs.Runs.{AskToGenerate, CanBeRead, IsFinal, IsRefused, IsRun, IsWhole, IsWritten};
@@ -28,6 +28,7 @@ use crate::session::Session;
 use crate::status::Status;
 use crate::unopened::{USAGE, status_of, text_of};
 use std::alloc::Global;
+use std::mem;
 use std::sync::ledger::Ledger;
 use tx_base::{Memory, Steps};
 use tx_open::{Opened, Opening, one_outcome, open};
@@ -158,7 +159,12 @@ fn run_opened<S: Store, I: Source, O: Sink, L: Ledger>(
     ensures output_stays_known { StaysKnown (O.written out.old) (O.written out.new) }
 {
     match session_of(alloc, all, steps) {
-        Ok(mut session) => serve(alloc, &mut session, store, input, out, steps),
+        Ok(mut session) => {
+            let status = serve(alloc, &mut session, store, input, out, steps);
+            // The program ends behind a run, and the system takes all memory at once.
+            mem::forget(session);
+            status
+        }
         Err(Memory) => finish(out, b"memory\n", Status::NoMemory),
     }
 }
@@ -261,6 +267,7 @@ pub fn run<S: Store, I: Source, O: Sink, L: Ledger>(
         → (store.new ≡ store.old) × (input.new ≡ input.old) × (steps.new ≡ steps.old) }
     ensures generated_touches_nothing { AskToGenerate (map string_bytes words.now)
         → (store.new ≡ store.old) × (input.new ≡ input.old) }
+    ensures untouched_unless_asked { (store.new ≡ store.old) ⊎ AskForFiles (map string_bytes words.now) }
     ensures unread { EndsAtOpening result → input.new ≡ input.old }
     ensures unread_unless_opened { (input.new ≡ input.old)
         ⊎ ((all : WasOpened) × ComesTo (map string_bytes words.now) (S.files store.old) (opened all)) }

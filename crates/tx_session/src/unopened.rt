@@ -35,7 +35,7 @@ pub(crate) fn status_of(opening: &Opening) -> Status
         Opening::TooLong(_) | Opening::NoTree(..) => Status::Refused,
         Opening::Missing(_) => Status::Missing,
         Opening::StoreFault(_) => Status::StoreFault,
-        Opening::NoMemory => Status::NoMemory,
+        Opening::UnreadWords | Opening::NoMemory => Status::NoMemory,
         Opening::Opened(_) | Opening::Generated(_) => Status::Ok,
     }
 }
@@ -60,7 +60,7 @@ pub(crate) fn text_of(alloc: Global, opening: &Opening) -> Result<Vec<u8>, Memor
         Opening::TooLong(file) => line_of(alloc, b"refused ", file, b" long"),
         Opening::NoTree(file, fault) => refused_line(alloc, file, *fault),
         Opening::StoreFault(file) => line_of(alloc, b"store ", file, b""),
-        Opening::NoMemory => line_of(alloc, b"memory", b"", b""),
+        Opening::UnreadWords | Opening::NoMemory => line_of(alloc, b"memory", b"", b""),
         Opening::Opened(_) | Opening::Generated(_) => Ok(Vec::new(alloc)),
     }
 }

@@ -47,10 +47,10 @@ returns-in-Files-clause-complete g c = λ can m l f.
     let ask = subst (λ s. Ask words c.in-Ok.asked.width c.in-Ok.asked.height s) c.in-Files.is c.in-Ok.ensures.asked in
     is_opened words (c.one_asking.ensures words) files c.from.result can
     (comes_from words files c.in-Ok.asked.width c.in-Ok.asked.height c.in-Files.files ask
-    c.from.result c.in-Err.failure c.from.ensures c.in-Err.ensures.failed)
-    (λ word e. m (missing_caused misses longs faults outcome caused word (sym c.from.ensures ∙ e)))
-    (λ word e. l (long_caused misses longs faults outcome caused word (sym c.from.ensures ∙ e)))
-    (λ word e. f (fault_caused misses longs faults outcome caused word (sym c.from.ensures ∙ e)))
+    c.from.result c.in-Err.failure c.from.ensures.0 c.in-Err.ensures.failed)
+    (λ word e. m (missing_caused misses longs faults outcome caused word (sym c.from.ensures.0 ∙ e)))
+    (λ word e. l (long_caused misses longs faults outcome caused word (sym c.from.ensures.0 ∙ e)))
+    (λ word e. f (fault_caused misses longs faults outcome caused word (sym c.from.ensures.0 ∙ e)))
 
 -- ---- a generated document
 

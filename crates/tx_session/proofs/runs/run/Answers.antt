@@ -68,6 +68,11 @@ returns-in-Opened-clause-unread g c = λ e. absurd (c.run_opened.ensures.served 
 pub returns-in-Opened-clause-unread_unless_opened : goal.returns-in-Opened-clause-unread_unless_opened
 returns-in-Opened-clause-unread_unless_opened g c = inr (c.in-Opened.all, c.in-Opened.ensures.comes)
 
+pub returns-in-Opened-clause-untouched_unless_asked : goal.returns-in-Opened-clause-untouched_unless_asked
+returns-in-Opened-clause-untouched_unless_asked g c =
+    let opens = c.in-Opened.ensures.comes in
+    inr (c.in-Opened.all.width, c.in-Opened.all.height, opens.names, opens.asked)
+
 pub returns-in-Generated-clause-run : goal.returns-in-Generated-clause-run
 returns-in-Generated-clause-run g c =
     let opens = c.in-Generated.ensures.comes in
@@ -191,6 +196,7 @@ returns-in_default g c =
           (λ e. o (c.report.ensures.counted e)));
       generated_touches_nothing = λ asked.
           (c.open-opening.ensures.not_asked asked.0 asked.1 asked.2 asked.3 asked.4, refl);
+      untouched_unless_asked = c.open-opening.ensures.untouched_unless_asked;
       unread = λ e. refl;
       unread_unless_opened = inl refl;
       files_stay_known = ap is_some c.open-opening.ensures.files_kept;
