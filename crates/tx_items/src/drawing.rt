@@ -1,6 +1,9 @@
 // What stands in a paragraph.
-ghost use Rattle.std.specs.Prelude.{◌≡◌, ◌++◌, ℕ, map, IfOk, OnOk, MatchOption, Some, None};
+ghost use Rattle.std.specs.Prelude.{◌≡◌, ◌≤◌, ◌++◌, ℕ, length, map, IfOk, OnOk, MatchOption, Some, None};
 ghost use Rattle.std.specs.Option.{option_copied};
+ghost use Rattle.tx_tree.specs.declared.TheConstants.{MOST_TEXT};
+ghost use Rattle.tx_text.specs.Clusters.{items_of, clusters_of};
+ghost use Rattle.tx_text.specs.Places.{plain_cluster, plain_clusters};
 ghost use Rattle.tx_items.specs.Drawing.{look_of, item_of, is_space, paragraph};
 
 use crate::attributes::Attrs;
@@ -9,7 +12,7 @@ use std::marker::Model;
 use std::rc::Rc;
 use tx_base::Memory;
 use tx_origin::{At, Ip};
-use tx_text::Cluster;
+use tx_text::{Cluster, clusters, plain_bytes, plain_cluster};
 use tx_tree::Text;
 
 // What the clusters of a text have in common.
@@ -64,10 +67,10 @@ pub enum Item {
     Down(u32),
 }
 
-/// The items of a paragraph. Contracts see their list.
+/// The items of a paragraph. Contracts see their list. Its lines may share them.
 #[derive(Drop)]
 pub struct Items {
-    kept: Vec<Item>,
+    kept: Rc<Vec<Item>>,
 }
 
 impl Model for Items {
@@ -76,7 +79,7 @@ impl Model for Items {
 
     ghost Value = { List Item };
 
-    ghost view = { λ i. i.kept.items };
+    ghost view = { λ i. i.kept.value.items };
 }
 
 /// A paragraph, with the attributes at its first item, or at its end where it has no items. Lengths are in
@@ -184,11 +187,23 @@ impl Drawn {
 }
 
 impl Items {
-    /// These items.
-    pub fn new(kept: Vec<Item>) -> Items
-        ensures { result ≡ kept.items }
+    /// These items, in memory of their own size.
+    pub fn new(alloc: Global, mut kept: Vec<Item>) -> Result<Items, Memory>
+        ensures { IfOk result (λ i. i ≡ kept.items) }
     {
-        Items { kept }
+        kept.shrink_to_fit();
+        Ok(Items {
+            kept: Rc::new(alloc, kept)?,
+        })
+    }
+
+    /// The same items, shared.
+    pub fn share(&self) -> Result<Items, Memory>
+        ensures { IfOk result (λ i. i ≡ self.now) }
+    {
+        Ok(Items {
+            kept: self.kept.clone()?,
+        })
     }
 
     /// The items.
@@ -201,12 +216,11 @@ impl Items {
 
 impl Paragraph {
     // The paragraph of these items, with these attributes.
-    pub(crate) fn new(mut items: Vec<Item>, attrs: &Attrs) -> Result<Paragraph, Memory>
+    pub(crate) fn new(alloc: Global, items: Vec<Item>, attrs: &Attrs) -> Result<Paragraph, Memory>
         ensures { IfOk result (λ p. p ≡ paragraph items.items attrs.now) }
     {
-        items.shrink_to_fit();
         Ok(Paragraph {
-            items: Items::new(items),
+            items: Items::new(alloc, items)?,
             mode: attrs.mode.copy()?,
             left: attrs.left,
             right: attrs.right,
@@ -238,15 +252,56 @@ fn is_space(cluster: &Cluster) -> bool
 }
 
 // Adds clusters that look alike.
-pub(crate) fn push_clusters(
-    items: &mut Vec<Item>,
-    clusters: &[Cluster],
-    look: &Look,
-) -> Result<(), Memory>
+fn push_clusters(items: &mut Vec<Item>, clusters: &[Cluster], look: &Look) -> Result<(), Memory>
     ensures { OnOk result (items.new.items ≡ items.old.items ++ map (item_of look.now) clusters.now) }
 {
+    items.reserve(clusters.len())?;
     for cluster in clusters {
         items.push(item_of(cluster, look)?)?;
     }
     Ok(())
+}
+
+// A byte that is a cluster alone, at a place, as an item.
+fn plain_item(byte: u8, at: u32, look: &Look) -> Result<Item, Memory>
+    ensures { IfOk result (λ i. i ≡ item_of look.now (plain_cluster at byte)) }
+{
+    let drawn = Drawn {
+        cluster: plain_cluster(byte, at),
+        look: look.share()?,
+    };
+    if byte == b' ' {
+        Ok(Item::Space(drawn))
+    } else {
+        Ok(Item::Glyph(drawn))
+    }
+}
+
+// Adds bytes that are a cluster each and look alike.
+fn push_plain(items: &mut Vec<Item>, bytes: &[u8], look: &Look) -> Result<(), Memory>
+    requires { length bytes.now ≤ MOST_TEXT }
+    ensures { OnOk result (items.new.items
+        ≡ items.old.items ++ map (item_of look.now) (plain_clusters 0 bytes.now)) }
+{
+    items.reserve(bytes.len())?;
+    for (at, byte) in bytes.iter().enumerate() {
+        items.push(plain_item(*byte, at as u32, look)?)?;
+    }
+    Ok(())
+}
+
+// Adds the clusters of a text, which look alike.
+pub(crate) fn push_text(
+    alloc: Global,
+    items: &mut Vec<Item>,
+    text: &Text,
+    look: &Look,
+) -> Result<(), Memory>
+    ensures { OnOk result (items.new.items
+        ≡ items.old.items ++ map (item_of look.now) (clusters_of (items_of text.now))) }
+{
+    match plain_bytes(text) {
+        Some(bytes) => push_plain(items, bytes, look),
+        None => push_clusters(items, &clusters(alloc, text)?, look),
+    }
 }

@@ -20,7 +20,7 @@ ghost use Rattle.tx_items.specs.Running.{HasAttrs, one_of, bar_of, set_by_pairs,
 ghost use Rattle.tx_items.specs.Running.{tag_front, space_item, length_alone};
 
 use crate::attributes::{Attrs, Field, field_of};
-use crate::drawing::{ErrorAt, Item, Look, Paragraph, push_clusters};
+use crate::drawing::{ErrorAt, Item, Look, Paragraph, push_text};
 use crate::plans::Plan;
 use crate::rows::{Row, row_of};
 use crate::words::Word;
@@ -29,7 +29,6 @@ use std::mem;
 use tx_base::Memory;
 use tx_origin::{Ip, Value};
 use tx_prim::{parse_length, text_of};
-use tx_text::clusters;
 use tx_tree::{Label, Text};
 
 // The greatest number of cells or lines of a space.
@@ -65,7 +64,7 @@ impl Showing {
             attrs: attrs.copy()?,
             first: attrs.copy()?,
             run: Vec::new(alloc),
-            paragraphs: Vec::new(alloc),
+            paragraphs: Vec::with_capacity(alloc, 1)?,
             errors: Vec::new(alloc),
         })
     }
@@ -89,9 +88,8 @@ impl Showing {
             (drawn self.old.attrs (option_copied at.entry) text.now)) (state_of self.old) (state_of self.new)) }
     {
         self.begin()?;
-        let found = clusters(alloc, text)?;
         let look = Look::new(alloc, at, &self.attrs)?;
-        push_clusters(&mut self.run, &found, &look)
+        push_text(alloc, &mut self.run, text, &look)
     }
 
     // Adds a text that has no place.
@@ -129,7 +127,8 @@ impl Showing {
             return Ok(());
         }
         let items = mem::replace(&mut self.run, Vec::new(alloc));
-        self.paragraphs.push(Paragraph::new(items, &self.first)?)?;
+        self.paragraphs
+            .push(Paragraph::new(alloc, items, &self.first)?)?;
         Ok(())
     }
 
@@ -141,7 +140,7 @@ impl Showing {
             return self.end_run(alloc);
         }
         self.paragraphs
-            .push(Paragraph::new(Vec::new(alloc), &self.attrs)?)?;
+            .push(Paragraph::new(alloc, Vec::new(alloc), &self.attrs)?)?;
         Ok(())
     }
 

@@ -257,15 +257,13 @@ shape_done frame items b start end rows rows' own on within past whole ours f so
     (so_far (or_empty b true ours.words) (subst Q all (last_segment b segment ours.words whole ours.filled)))
 
 -- the lines of a paragraph, from what each call gave
-pub laid_out : (p : Paragraph) (width least : ℕ) (frame : Frame) (items shown given held : List Item)
-    (rows lent : List Row) (lines : List Line) → frame ≡ frame_of p width → least ≡ least_width frame → items ≡ p.items
-    → shown ≡ map (capped least) items → given ≡ shown → HasLines frame true given (map (line_at given) rows)
-    → held ≡ shown → lent ≡ rows → lines ≡ map (line_at held) lent → IsShape p width lines
-laid_out p width least frame items shown given held rows lent lines f e i s g h k l m =
-    let all : given ≡ items_shown p width =
-    g ∙ s ∙ ap₂ (λ n is. map (capped n) is) (e ∙ ap least_width f) i in
-    let same : lines ≡ map (line_at given) rows =
-    m ∙ ap₂ (λ is rs. map (line_at is) rs) (k ∙ sym g) l in
+pub laid_out : (p : Paragraph) (width least : ℕ) (frame : Frame) (shown given : List Item) (rows lent : List Row)
+    (lines : List Line) → frame ≡ frame_of p width → least ≡ least_width frame → shown ≡ map (capped least) p.items
+    → given ≡ shown → HasLines frame true given (map (line_at given) rows) → lent ≡ rows
+    → lines ≡ map (line_at shown) lent → IsShape p width lines
+laid_out p width least frame shown given rows lent lines f e s g h l m =
+    let all : given ≡ items_shown p width = g ∙ s ∙ ap (λ n. map (capped n) p.items) (e ∙ ap least_width f) in
+    let same : lines ≡ map (line_at given) rows = m ∙ ap₂ (λ is rs. map (line_at is) rs) (sym g) l in
     let P : Frame → List Item → List Line → Type 0 = λ a is ls. HasLines a true is ls in
     subst (λ (a : Frame). P a (items_shown p width) lines) f
     (subst (λ (is : List Item). P frame is lines) all (subst (P frame given) (sym same) h))

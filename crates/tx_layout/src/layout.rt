@@ -1,5 +1,5 @@
 // The lines of a paragraph.
-ghost use Rattle.std.specs.Prelude.{◌≡◌, ℕ, ◌≤◌, ◌<◌, ◌+◌, ◌^◌, List, map, length, All, IfOk, filter};
+ghost use Rattle.std.specs.Prelude.{◌≡◌, ℕ, ◌≤◌, ◌<◌, ◌+◌, ◌^◌, List, map, length, All, IfOk, IsTrue, filter};
 ghost use Rattle.std.specs.List.{flat_map};
 ghost use Rattle.tx_items.specs.declared.drawing.Item.{Item};
 ghost use Rattle.tx_items.specs.declared.drawing.Paragraph.{Paragraph};
@@ -14,15 +14,15 @@ use crate::segments::{Row, least_width};
 use crate::shapes::shape;
 use std::alloc::Global;
 use std::marker::Model;
-use std::rc::Rc;
 use std::sync::ledger::Ledger;
 use tx_base::{Memory, Steps};
-use tx_items::{Item, Paragraph};
+use tx_items::{Item, Items, Paragraph};
 
-/// The items on a line. Contracts see their list. All lines of a paragraph share its items.
+/// The items on a line. Contracts see their list. All lines of a paragraph share one list of items, which is that of
+/// the paragraph unless a gap is cut.
 #[derive(Drop)]
 pub struct LineItems {
-    all: Rc<Vec<Item>>,
+    all: Items,
     from: u32,
     to: u32,
 }
@@ -33,9 +33,9 @@ impl Model for LineItems {
 
     ghost Value = { List Item };
 
-    ghost view = { λ l. slice_range l.all.value.items l.from l.to };
+    ghost view = { λ l. slice_range l.all l.from l.to };
 
-    ghost invariant = { λ l. (l.from ≤ l.to) × (l.to ≤ length l.all.value.items) };
+    ghost invariant = { λ l. (l.from ≤ l.to) × (l.to ≤ length l.all) };
 }
 
 impl LineItems {
@@ -43,7 +43,7 @@ impl LineItems {
     pub fn all(&self) -> &[Item]
         ensures { result.now ≡ self.now }
     {
-        &self.all[self.from as usize..self.to as usize]
+        &self.all.all()[self.from as usize..self.to as usize]
     }
 
     // The same items, shared.
@@ -51,7 +51,7 @@ impl LineItems {
         ensures { IfOk result (λ l. l ≡ self.now) }
     {
         Ok(LineItems {
-            all: self.all.clone()?,
+            all: self.all.share()?,
             from: self.from,
             to: self.to,
         })
@@ -96,29 +96,64 @@ fn item_shown(item: &Item, least: u32) -> Result<Item, Memory>
     }
 }
 
-// The items as they stand on lines.
-fn items_shown(alloc: Global, items: &[Item], least: u32) -> Result<Vec<Item>, Memory>
-    ensures { IfOk result (λ shown. shown.items ≡ map (capped least) items.now) }
+// Whether the item stands on lines as it is, where this is the least width.
+fn is_kept(item: &Item, least: u32) -> bool
+    ensures { IsTrue result → capped least item.now ≡ item.now }
 {
-    let mut shown = Vec::new(alloc);
+    match item {
+        Item::Glyph(_) => true,
+        Item::Space(_) => true,
+        Item::Gap(cells) => *cells <= least,
+        Item::Break => true,
+        Item::PageEnd => true,
+        Item::Down(_) => true,
+    }
+}
+
+// Whether all items stand on lines as they are.
+fn are_kept(items: &[Item], least: u32) -> bool
+    ensures { IsTrue result → map (capped least) items.now ≡ items.now }
+{
+    for item in items {
+        if !is_kept(item, least) {
+            return false;
+        }
+    }
+    true
+}
+
+// The items as they stand on lines, with gaps cut.
+fn items_cut(alloc: Global, items: &[Item], least: u32) -> Result<Items, Memory>
+    ensures { IfOk result (λ shown. shown ≡ map (capped least) items.now) }
+{
+    let mut shown = Vec::with_capacity(alloc, items.len())?;
     for item in items {
         shown.push(item_shown(item, least)?)?;
     }
-    shown.shrink_to_fit();
-    Ok(shown)
+    Items::new(alloc, shown)
+}
+
+// The items as they stand on lines.
+fn items_shown(alloc: Global, items: &Items, least: u32) -> Result<Items, Memory>
+    ensures { IfOk result (λ shown. shown ≡ map (capped least) items.now) }
+{
+    if are_kept(items.all(), least) {
+        return items.share();
+    }
+    items_cut(alloc, items.all(), least)
 }
 
 // Lines that share their items.
-fn share_out(alloc: Global, items: &Rc<Vec<Item>>, rows: &[Row]) -> Result<Vec<Line>, Memory>
-    requires { All (IsWithin (length items.now.value.items)) rows.now }
-    ensures { IfOk result (λ lines. lines.items ≡ map (line_at items.now.value.items) rows.now) }
+fn share_out(alloc: Global, items: &Items, rows: &[Row]) -> Result<Vec<Line>, Memory>
+    requires { All (IsWithin (length items.now)) rows.now }
+    ensures { IfOk result (λ lines. lines.items ≡ map (line_at items.now) rows.now) }
 {
-    let mut lines = Vec::new(alloc);
+    let mut lines = Vec::with_capacity(alloc, rows.len())?;
     for row in rows {
         lines.push(Line {
             indent: row.indent,
             items: LineItems {
-                all: items.clone()?,
+                all: items.share()?,
                 from: row.from,
                 to: row.to,
             },
@@ -143,12 +178,11 @@ pub fn lines<L: Ledger>(
     ensures shape { IfOk result (λ lines. IsShape paragraph.now width lines.items) }
     ensures steps { steps.new ≡ steps.old + length paragraph.now.items }
 {
-    let items = paragraph.items.all();
-    steps.add(items.len() as u64);
+    steps.add(paragraph.items.all().len() as u64);
     let frame = frame_of(paragraph, width);
-    let shown = items_shown(alloc, items, least_width(frame))?;
-    let rows = shape(alloc, frame, &shown)?;
-    share_out(alloc, &Rc::new(alloc, shown)?, &rows)
+    let shown = items_shown(alloc, &paragraph.items, least_width(frame))?;
+    let rows = shape(alloc, frame, shown.all())?;
+    share_out(alloc, &shown, &rows)
 }
 
 /// A law: a paragraph has at most one list of lines on a page of given width. That there is one is the contract of

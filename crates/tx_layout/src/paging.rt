@@ -1,16 +1,24 @@
 // The pages of lines.
 ghost use Rattle.std.specs.Prelude.{◌≡◌, ℕ, ◌≤◌, ◌<◌, ◌+◌, ◌^◌, ◌++◌, [], ◌∷◌, List, length, take, slice_range};
-ghost use Rattle.std.specs.Prelude.{IfOk, OnOk, OnErr};
+ghost use Rattle.std.specs.Prelude.{All, IfOk, OnOk, OnErr, true};
 ghost use Rattle.std.specs.List.{flat_map};
 ghost use Rattle.tx_lines.specs.declared.cut.Cut.{Cut};
 ghost use Rattle.tx_layout.specs.declared.layout.Line.{Line};
-ghost use Rattle.tx_layout.specs.Paging.{PagesFrom};
+ghost use Rattle.tx_layout.specs.Paging.{Unmarked, PagesFrom};
 ghost use Rattle.tx_layout.specs.Told.{HasTold, lines_told};
 
 use crate::layout::Line;
 use std::alloc::Global;
 use tx_base::Memory;
 use tx_lines::Cut;
+
+// Whether the line is the last of its page. It isn't looked at where none of its list is.
+fn is_last(line: &Line, unmarked: bool) -> bool
+    requires { unmarked ≡ true → Unmarked line.now }
+    ensures { result ≡ line.now.page_end }
+{
+    !unmarked && line.page_end
+}
 
 /// The pages of lines that are told one after the other, in as many slices as there are. No line is copied or kept.
 #[derive(Drop)]
@@ -40,8 +48,9 @@ impl Paginator {
     }
 
     // Tells one line more.
-    fn add_line(&mut self, line: &Line) -> Result<(), Memory>
+    fn add_line(&mut self, line: &Line, unmarked: bool) -> Result<(), Memory>
         requires few { lines_told self.old + 1 < 2 ^ 32 }
+        requires unmarked { unmarked ≡ true → Unmarked line.now }
         ensures told { OnOk result ((lines : List Line) (height : ℕ) → HasTold lines height self.old
             → HasTold (lines ++ line.now ∷ []) height self.new) }
         ensures number { OnOk result (lines_told self.new ≡ lines_told self.old + 1) }
@@ -49,7 +58,8 @@ impl Paginator {
         ensures height { self.new.height ≡ self.old.height }
     {
         let to = self.count + 1;
-        if !line.page_end && (to as u64) < self.from as u64 + self.height as u64 {
+        let last = is_last(line, unmarked);
+        if !last && (to as u64) < self.from as u64 + self.height as u64 {
             self.count = to;
             return Ok(());
         }
@@ -63,17 +73,41 @@ impl Paginator {
     }
 
     // Tells lines, and for want of memory some of them.
-    fn add_each(&mut self, lines: &[Line]) -> Result<(), Memory>
+    fn add_each(&mut self, lines: &[Line], unmarked: bool) -> Result<(), Memory>
         requires few { lines_told self.old + length lines.now < 2 ^ 32 }
+        requires unmarked { unmarked ≡ true → All Unmarked lines.now }
         ensures told { OnOk result ((before : List Line) (height : ℕ) → HasTold before height self.old
             → HasTold (before ++ lines.now) height self.new) }
         ensures ended { take (length self.old.ended.items) self.new.ended.items ≡ self.old.ended.items }
         ensures height { self.new.height ≡ self.old.height }
     {
         for line in lines {
-            self.add_line(line)?;
+            self.add_line(line, unmarked)?;
         }
         Ok(())
+    }
+
+    // Tells lines, or for want of memory none of them.
+    fn add_all(&mut self, lines: &[Line], unmarked: bool) -> Result<(), Memory>
+        requires few { lines_told self.old + length lines.now < 2 ^ 32 }
+        requires unmarked { unmarked ≡ true → All Unmarked lines.now }
+        ensures told { OnOk result ((before : List Line) (height : ℕ) → HasTold before height self.old
+            → HasTold (before ++ lines.now) height self.new) }
+        ensures err { OnErr result ((before : List Line) (height : ℕ) → HasTold before height self.old
+            → HasTold before height self.new) }
+    {
+        let number = self.ended.len();
+        let from = self.from;
+        let count = self.count;
+        match self.add_each(lines, unmarked) {
+            Ok(()) => Ok(()),
+            Err(memory) => {
+                self.ended.truncate(number);
+                self.from = from;
+                self.count = count;
+                Err(memory)
+            }
+        }
     }
 
     /// Tells lines that stand behind those told so far. There are fewer than 2^32 with these. The one error is want of
@@ -85,18 +119,19 @@ impl Paginator {
         ensures err { OnErr result ((before : List Line) (height : ℕ) → HasTold before height self.old
             → HasTold before height self.new) }
     {
-        let number = self.ended.len();
-        let from = self.from;
-        let count = self.count;
-        match self.add_each(lines) {
-            Ok(()) => Ok(()),
-            Err(memory) => {
-                self.ended.truncate(number);
-                self.from = from;
-                self.count = count;
-                Err(memory)
-            }
-        }
+        self.add_all(lines, false)
+    }
+
+    /// The same, of lines none of which is the last of its page. They are counted, and not looked at.
+    pub fn add_unmarked(&mut self, lines: &[Line]) -> Result<(), Memory>
+        requires few { lines_told self.old + length lines.now < 2 ^ 32 }
+        requires unmarked { All Unmarked lines.now }
+        ensures told { OnOk result ((before : List Line) (height : ℕ) → HasTold before height self.old
+            → HasTold (before ++ lines.now) height self.new) }
+        ensures err { OnErr result ((before : List Line) (height : ℕ) → HasTold before height self.old
+            → HasTold before height self.new) }
+    {
+        self.add_all(lines, true)
     }
 
     /// The pages of all lines that were told, by the lines' places. The one error is want of memory.

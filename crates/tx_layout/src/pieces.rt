@@ -140,7 +140,7 @@ pub(crate) fn pieces_of(alloc: Global, items: &[Item], spans: &[Span]) -> Result
     requires within { All (λ s. s.to ≤ length items.now) spans.now }
     ensures { IfOk result (λ pieces. pieces.items ≡ map (λ s. capped_piece (piece_of items.now s)) spans.now) }
 {
-    let mut pieces = Vec::new(alloc);
+    let mut pieces = Vec::with_capacity(alloc, spans.len())?;
     for span in spans {
         let before = capped_cells(&items[span.spaces as usize..span.from as usize]);
         let cells = capped_cells(&items[span.from as usize..span.to as usize]);

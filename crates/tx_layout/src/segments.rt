@@ -105,7 +105,7 @@ fn cut_rows(
     requires rise { Rises segment.now spans.now }
     ensures { IfOk result (λ rows. rows.items ≡ rows_at frame is_first start segment.now spans.now cuts.now) }
 {
-    let mut rows = Vec::new(alloc);
+    let mut rows = Vec::with_capacity(alloc, cuts.len())?;
     let mut first = is_first;
     for cut in cuts {
         rows.push(row_of(frame, first, start, segment, spans, *cut))?;

@@ -1,5 +1,5 @@
 // The lines of a paragraph's segments.
-ghost use Rattle.std.specs.Prelude.{◌≡◌, ◌≤◌, ◌<◌, ◌+◌, ◌^◌, ℕ, List, map, true, length, All, IfOk, OnOk};
+ghost use Rattle.std.specs.Prelude.{◌≡◌, ◌≤◌, ◌<◌, ◌+◌, ◌^◌, ◌++◌, ℕ, List, map, true, length, All, IfOk, OnOk};
 ghost use Rattle.std.specs.Prelude.{slice_range};
 ghost use Rattle.tx_items.specs.declared.drawing.Item.{Item};
 ghost use Rattle.tx_layout.specs.Frames.{least_width, IsFrame};
@@ -112,6 +112,17 @@ fn add_cut(own: &mut Vec<Row>, cut: &Item) -> Result<(), Memory>
     Ok(())
 }
 
+// The rows of some segments, and those of the next one behind them.
+fn joined(mut rows: Vec<Row>, mut own: Vec<Row>) -> Result<Vec<Row>, Memory>
+    ensures { IfOk result (λ all. all.items ≡ rows.items ++ own.items) }
+{
+    if rows.is_empty() {
+        return Ok(own);
+    }
+    rows.append(&mut own)?;
+    Ok(rows)
+}
+
 // The lines of a paragraph with these items.
 pub(crate) fn shape(alloc: Global, frame: Frame, items: &[Item]) -> Result<Vec<Row>, Memory>
     requires few { length items.now < 2 ^ 32 }
@@ -132,7 +143,6 @@ pub(crate) fn shape(alloc: Global, frame: Frame, items: &[Item]) -> Result<Vec<R
         is_first = false;
         end = cut_place(items, start);
     }
-    let mut own = own_rows(alloc, frame, is_first, true, items, start, end)?;
-    rows.append(&mut own)?;
-    Ok(rows)
+    let own = own_rows(alloc, frame, is_first, true, items, start, end)?;
+    joined(rows, own)
 }

@@ -1,5 +1,6 @@
 // The clusters of a text.
-ghost use Rattle.std.specs.Prelude.{◌≡◌, ℕ, ◌+◌, ◌≤◌, ◌<◌, ◌++◌, List, length, map, true, All, replicate, IfOk, OnOk};
+ghost use Rattle.std.specs.Prelude.{◌≡◌, ℕ, ◌+◌, ◌≤◌, ◌<◌, ◌++◌, List, length, map, true, All, replicate};
+ghost use Rattle.std.specs.Prelude.{IfOk, OnOk, IfSome};
 ghost use Rattle.std.specs.Prelude.{string_bytes};
 ghost use Rattle.std.specs.List.{AllByRecursion, list_all, flat_map};
 ghost use Rattle.tx_tree.specs.declared.TheConstants.{MOST_TEXT};
@@ -8,7 +9,7 @@ ghost use Rattle.unicode_segmentation.specs.Grapheme.{graphemes};
 ghost use Rattle.unicode_segmentation.specs.Segments.{with_offsets};
 ghost use Rattle.tx_text.specs.Displays.{item_text, display_text};
 ghost use Rattle.tx_text.specs.Clusters.{items_of, clusters_of, HoldsByte, item_start, item_end};
-ghost use Rattle.tx_text.specs.Places.{spread, cluster_at, is_plain_byte, plain_clusters};
+ghost use Rattle.tx_text.specs.Places.{spread, cluster_at, is_plain_byte, plain_cluster, plain_clusters};
 
 use crate::displays::{push_byte, push_symbol};
 use crate::glyphs::Glyphs;
@@ -162,6 +163,18 @@ fn is_plain(bytes: &[u8]) -> bool
         .all(|byte| matches!(*byte, b' '..=b'~') && *byte != b'<')
 }
 
+/// The cluster of a byte that stands at a place, among those of [`plain_bytes`].
+pub fn plain_cluster(byte: u8, at: u32) -> Cluster
+    ensures { result ≡ plain_cluster at byte }
+{
+    Cluster {
+        glyphs: Glyphs::of_byte(byte),
+        cells: 1,
+        start: at,
+        len: 1,
+    }
+}
+
 // The clusters of such bytes.
 fn plain_clusters(alloc: Global, bytes: &[u8]) -> Result<Vec<Cluster>, Memory>
     requires { length bytes.now ≤ MOST_TEXT }
@@ -169,14 +182,23 @@ fn plain_clusters(alloc: Global, bytes: &[u8]) -> Result<Vec<Cluster>, Memory>
 {
     let mut found = Vec::with_capacity(alloc, bytes.len())?;
     for (at, byte) in bytes.iter().enumerate() {
-        found.push(Cluster {
-            glyphs: Glyphs::of_byte(*byte),
-            cells: 1,
-            start: at as u32,
-            len: 1,
-        })?;
+        found.push(plain_cluster(*byte, at as u32))?;
     }
     Ok(found)
+}
+
+/// The bytes of a text of visible ASCII and spaces without a symbol: each is a cluster alone, which [`plain_cluster`]
+/// gives. None for other texts.
+pub fn plain_bytes(text: &Text) -> Option<&[u8]>
+    ensures bytes { IfSome result (λ bytes. bytes.now ≡ text.now) }
+    ensures short { IfSome result (λ bytes. length bytes.now ≤ MOST_TEXT) }
+    ensures clusters { IfSome result (λ bytes. clusters_of (items_of text.now) ≡ plain_clusters 0 bytes.now) }
+{
+    let bytes = text.bytes();
+    if is_plain(bytes) {
+        return Some(bytes);
+    }
+    None
 }
 
 /// The clusters of a text, in order: the extended grapheme clusters of its display text. Their characters, one after

@@ -8,6 +8,6 @@ mod glyphs;
 mod showing;
 mod tables;
 
-pub use cutting::{Cluster, cluster_laws, clusters};
+pub use cutting::{Cluster, cluster_laws, clusters, plain_bytes, plain_cluster};
 pub use glyphs::Glyphs;
 pub use showing::show_item;

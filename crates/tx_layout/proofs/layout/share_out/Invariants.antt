@@ -4,5 +4,4 @@ use Rattle.tx_layout.proofs.layout.share_out.Given as goal
 
 abbrev pub invariant-loop-row : goal.invariant-loop-row
 invariant-loop-row l =
-    l.lines.items ++ map (line_at l.items.value.items) (drop l.row-index l.rows)
-    ≡ map (line_at l.items.value.items) l.rows
+    l.lines.items ++ map (line_at l.items) (drop l.row-index l.rows) ≡ map (line_at l.items) l.rows

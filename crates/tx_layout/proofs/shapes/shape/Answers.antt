@@ -1,5 +1,6 @@
 use Rattle.std.proofs.Common.{length}
-use Rattle.tx_layout.proofs.Marks.{shape_more, shape_done, within_more}
+use Rattle.std.proofs.lemmas.Result.{IfOk-weaker}
+use Rattle.tx_layout.proofs.Marks.{shape_more, shape_done, within_more, within_done}
 use Rattle.tx_layout.proofs.shapes.shape.Goals as goal
 
 pub loop-end-preserved : goal.loop-end-preserved
@@ -23,6 +24,15 @@ loop-end-preserved c =
 pub returns-clause-lines : goal.returns-clause-lines
 returns-clause-lines c =
     let h = c.loop-end.invariant in
-    shape_done c.args.frame c.args.items.now c.loop-end.is_first c.loop-end.start c.loop-end.end c.loop-end.rows.items
-    c.append-2.new.self.items c.in_ok-own-2.own.items h.onward h.within c.loop-end-test.false h.whole
-    c.in_ok-own-2.ensures.lines c.in_ok-append-2.ensures.items h.so_far
+    IfOk-weaker c.joined.result _ _
+    (λ all is. shape_done c.args.frame c.args.items.now c.loop-end.is_first c.loop-end.start c.loop-end.end
+    c.loop-end.rows.items all.items c.in_ok-own-2.own.items h.onward h.within c.loop-end-test.false h.whole
+    c.in_ok-own-2.ensures.lines is h.so_far)
+    c.joined.ensures
+
+pub returns-clause-within : goal.returns-clause-within
+returns-clause-within c =
+    IfOk-weaker c.joined.result _ _
+    (λ all is. within_done (length c.args.items.now) c.loop-end.rows.items all.items c.in_ok-own-2.own.items
+    c.loop-end.invariant.inside c.in_ok-own-2.ensures.within is)
+    c.joined.ensures

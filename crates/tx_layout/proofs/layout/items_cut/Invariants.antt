@@ -1,6 +1,6 @@
 use Rattle.std.proofs.Common.{◌≡◌, ◌++◌, drop, map}
 use Rattle.tx_layout.specs.Words.{capped}
-use Rattle.tx_layout.proofs.layout.items_shown.Given as goal
+use Rattle.tx_layout.proofs.layout.items_cut.Given as goal
 
 abbrev pub invariant-loop-item : goal.invariant-loop-item
 invariant-loop-item l =
