@@ -13,7 +13,7 @@ use Rattle.tx_exec_form.specs.Maps.{LookMap}
 use Rattle.tx_exec_form.specs.Laws.{Agrees}
 use Rattle.tx_bridge.specs.SameTrees.{same}
 use Rattle.tx_bridge.specs.Reached.{agrees}
-use Rattle.tx_bridge.proofs.Trees.{both, and_true, alike, same_found}
+use Rattle.tx_bridge.proofs.Trees.{both, and_true, alike, same_found, same_of}
 use Rattle.tx_bridge.proofs.Once.{found, AreOnce, once, rising}
 
 module _ {X : Type 0} (test : Name × X → Bool) where
@@ -74,3 +74,8 @@ pub agrees_is : (env : NameMap) (looks : LookMap) → agrees env looks ≡ true 
 agrees_is env looks h q x e =
     same_found (get env q) x
     (all_found (λ look. same (get env look.0) look.1) (entries looks) h q x (sym (get-entries looks q) ∙ e))
+
+pub agrees_of : (env : NameMap) (looks : LookMap) → Agrees (get env) looks → agrees env looks ≡ true
+agrees_of env looks h =
+    found_all (λ look. same (get env look.0) look.1) (entries looks) (rising (entries looks) (entries_sorted looks))
+    (λ q x e. same_of (get env q) x (h q x (get-entries looks q ∙ e)))

@@ -4,6 +4,7 @@ pub mod Agreed
 pub mod Used
 pub mod Paying
 pub mod Partway
+pub mod Sourced
 pub mod Slotting
 pub mod Handed
 pub mod Arrived
@@ -11,5 +12,6 @@ pub mod Single
 pub mod Taking
 pub mod Inside
 pub mod Settling
+pub mod Changing
 pub mod Going
 pub mod Listed

@@ -1,5 +1,5 @@
 -- Pairs in which no name stands twice, and their map.
-use Rattle.std.proofs.Common.{◌≡◌, Bool, true, false, cond, List, [], ◌∷◌, refl, sym, ap, ◌∙◌}
+use Rattle.std.proofs.Common.{◌≡◌, Bool, true, false, cond, List, [], ◌∷◌, length, refl, sym, ap, ◌∙◌, arith}
 use Rattle.std.specs.Prelude.{Option, Some, None, T, ◌&&◌}
 use Rattle.std.specs.Option.{option_or}
 use Rattle.std.specs.List.{IsDistinct, AllByRecursion}
@@ -87,3 +87,10 @@ overlaid_same m ws h =
     equal_maps _ _ (λ q. got m ws q (once ws h)
     ∙ ap (λ o. option_or o (get m q)) (sym (get-from_entries nat_list_cmp_total ws q) ∙ get-entries (from_entries ws) q)
     ∙ sym (got m (entries (from_entries ws)) q (rising (entries (from_entries ws)) (entries_sorted (from_entries ws)))))
+
+-- where no name is set, all stays
+pub none_set : (m : NameMap) (ws : List (Name × WideTree)) → length ws ≡ 0
+    → overlaid m (entries (from_entries {R = slice_cmp nat_cmp} ws)) ≡ m
+unfolding IsDistinct
+none_set m [] e = sym (overlaid_same m [] tt)
+none_set m (w ∷ ws) e = absurd (omega (arith, e))

@@ -1,20 +1,23 @@
 -- A refresh that has come to some unit.
 use Rattle.std.proofs.Common.{◌≡◌, ℕ, zero, suc, ◌+◌, ◌<◌, ◌≤◌, List, [], ◌∷◌, ◌++◌, length, take, drop, slice_set}
-use Rattle.std.proofs.Common.{slice_index_or, refl, ap, sym, ◌∙◌, arith, ◌⊎◌, inl, inr}
+use Rattle.std.proofs.Common.{slice_index_or, refl, ap, sym, subst, ◌∙◌, arith, ◌⊎◌, inl, inr}
 use Rattle.std.proofs.lemmas.List.{drop_more, drop-drop, drop-set-lt, append_assoc, take_more_set, take_at}
 use Rattle.std.proofs.lemmas.List.{take-append-drop, set-get_or, map-append, append-nil, length-map, drop_all}
 use Rattle.std.proofs.lemmas.List.Elements.{All-set}
 use Rattle.std.proofs.lemmas.Option.{same_Some}
 use Rattle.std.proofs.lemmas.Grind.{common_steps}
 use Rattle.std.specs.List.{All}
-use Rattle.std.specs.Prelude.{false, not, Option, Some, Result, Ok, Err, OnErr, slice_get}
+use Rattle.std.specs.Prelude.{Bool, true, false, not, Option, Some, Result, Ok, Err, OnErr, slice_get}
+use Rattle.std.specs.FinMap.{empty}
+use Rattle.tx_env.specs.Environments.{NameMap}
 use Rattle.tx_exec_form.specs.Evaluated.{WideTrace}
 use Rattle.tx_exec.specs.Outcomes.{wide_outcome}
-use Rattle.tx_view_form.specs.Outcomes.{Moment, beginning, behind}
+use Rattle.tx_view_form.specs.Outcomes.{Moment, beginning, behind, env_behind}
 use Rattle.tx_units.specs.declared.kinds.Unit.{Unit as DocUnit}
 use Rattle.tx_bridge.specs.declared.bridge.Bridge.{Bridge}
 use Rattle.tx_bridge.specs.Entries.{Entry, units_of, fresh_from, outcome_of}
 use Rattle.tx_bridge.specs.Reached.{fits, reached_from, charge_of, charges_from}
+use Rattle.tx_bridge.specs.Settled.{AgreesWith, AreSettled}
 use Rattle.tx_bridge.specs.Sound.{IsSound, entry_of, entries_of, flags_of, sources_in}
 
 abbrev pub units_in : List Bridge → List DocUnit
@@ -25,8 +28,10 @@ abbrev pub Stays : List Bridge → List Bridge → Type 0
 Stays old now = (k : ℕ) → slice_get (flags_of now) k ≡ Some false
     → slice_get (entries_of now) k ≡ slice_get (entries_of old) k
 
--- Behind i units, at the moment m. What is done, and what is left from here, are all.
-pub record Partway (old now : List Bridge) (i : ℕ) (m : Moment) (before after : ℕ) : Type 0 where
+-- Behind i units, at the moment m. What is done, and what is left from here, are all. Where the flag is set, what is
+-- left settles from what names have.
+pub record Partway (old now : List Bridge) (i : ℕ) (m : Moment) (flag : Bool) (before after : ℕ) : Type 0 where
+  pub settled : flag ≡ true → AreSettled m.env (entries_of (drop i old))
   pub fresh : entries_of (take i now) ++ fresh_from m (units_in (drop i old)) ≡ fresh_from beginning (units_in old)
   pub rest : drop i now ≡ drop i old
   pub flags : flags_of (take i now) ++ reached_from m (entries_of (drop i old))
@@ -37,9 +42,10 @@ pub record Partway (old now : List Bridge) (i : ℕ) (m : Moment) (before after 
   pub sources : sources_in now ≡ sources_in old
   pub stays : Stays old now
 
-pub begun : (old : List Bridge) (m : Moment) (before : ℕ) → All IsSound old → m ≡ beginning
-    → Partway old old 0 m before before
-begun old m before sound start = record {
+pub begun : (old : List Bridge) (m : Moment) (flag : Bool) (before : ℕ) → All IsSound old
+    → (flag ≡ true → AreSettled empty (entries_of old)) → m ≡ beginning → Partway old old 0 m flag before before
+begun old m flag before sound settled start = record {
+  settled = λ e. subst (λ (n : Moment). AreSettled n.env (entries_of old)) (sym start) (settled e);
   fresh = ap (λ n. fresh_from n (units_in old)) start;
   rest = refl;
   flags = ap (λ n. reached_from n (entries_of old)) start;
@@ -96,8 +102,8 @@ entry_is u v o r e f = ap (λ x. entry_with x o) e ∙ ap (entry_with v) f
 brought_entry : (b y : Bridge) (m : Moment) → IsBrought b y m → entry_of y ≡ entry_with b.unit (outcome_of m b.unit)
 brought_entry b y m h = entry_is y.unit b.unit (wide_outcome y.kept) (outcome_of m b.unit) h.unit h.fresh
 
-module _ (old now : List Bridge) (i : ℕ) (m : Moment) (before after : ℕ) (p : Partway old now i m before after)
-    (inside : i < length now) (d : Bridge) where
+module _ (old now : List Bridge) (i : ℕ) (m : Moment) (flag : Bool) (before after : ℕ)
+    (p : Partway old now i m flag before after) (inside : i < length now) (d : Bridge) where
   b : Bridge
   b = slice_index_or now i d
 
@@ -110,6 +116,14 @@ module _ (old now : List Bridge) (i : ℕ) (m : Moment) (before after : ℕ) (p 
 
   ahead : drop i old ≡ b ∷ drop (i + 1) old
   ahead = sym p.rest ∙ here ∙ ap (λ bs. b ∷ bs) (sym others)
+
+  settled_here : flag ≡ true → AreSettled m.env (entry_of b ∷ entries_of (drop (i + 1) old))
+  settled_here e = subst (λ bs. AreSettled m.env (entries_of bs)) ahead (p.settled e)
+
+  -- where all settles, the next looks agree
+  pub agrees_next : flag ≡ true → AgreesWith m.env (wide_outcome (slice_index_or now i d).kept)
+  unfolding b
+  agrees_next e = (settled_here e).0
 
   more_taken : (y : Bridge) → take (i + 1) (slice_set now i y) ≡ take i now ++ y ∷ []
   more_taken y = take_more_set now i y inside
@@ -153,15 +167,21 @@ module _ (old now : List Bridge) (i : ℕ) (m : Moment) (before after : ℕ) (p 
   pub rest_next : (y : Bridge) → drop (i + 1) (slice_set now i y) ≡ drop (i + 1) old
   rest_next y = drop-set-lt (i + 1) now i y (omega arith) ∙ sym others
 
-  pub next : (y : Bridge) (m1 : Moment) (after1 : ℕ) → IsBrought (slice_index_or now i d) y m
+  pub next : (y : Bridge) (m1 : Moment) (flag1 : Bool) (after1 : ℕ) → IsBrought (slice_index_or now i d) y m
       → y.renewed ≡ not (fits m (wide_outcome (slice_index_or now i d).kept))
       → m1 ≡ behind m (outcome_of m (slice_index_or now i d).unit)
       → after1 ≡ after + charge_of m (entry_of (slice_index_or now i d)) → IsSound y
       → (y.renewed ≡ false → wide_outcome y.kept ≡ wide_outcome (slice_index_or now i d).kept)
-      → y.source ≡ (slice_index_or now i d).source → Partway old (slice_set now i y) (i + 1) m1 before after1
+      → y.source ≡ (slice_index_or now i d).source
+      → (flag1 ≡ true
+      → (flag ≡ true) × (m1.env ≡ env_behind m.env (wide_outcome (slice_index_or now i d).kept)))
+      → Partway old (slice_set now i y) (i + 1) m1 flag1 before after1
   unfolding b
-  next y m1 after1 brought is_r is_m is_after sound kept source =
+  next y m1 flag1 after1 brought is_r is_m is_after sound kept source goes =
       record {
+        settled =
+            λ e. subst (λ (env : NameMap). AreSettled env (entries_of (drop (i + 1) old))) (sym (goes e).1)
+            (settled_here (goes e).0).1;
         fresh =
             ap (λ n. entries_of (take (i + 1) (slice_set now i y)) ++ fresh_from n (units_in (drop (i + 1) old))) is_m
             ∙ front_next y brought;
@@ -221,28 +241,28 @@ stopped old now i m fresh rest inside =
     ∙ ap (λ es. take i (fresh_from beginning (units_in old)) ++ es) (drop_entries i old)
 
 -- the refresh of unit i failed, before or behind its evaluation
-pub stops : (old now : List Bridge) (i : ℕ) (m : Moment) (before after : ℕ) → Partway old now i m before after
-    → i < length now → (d y : Bridge) → y.unit ≡ (slice_index_or now i d).unit
+pub stops : (old now : List Bridge) (i : ℕ) (m : Moment) (flag : Bool) (before after : ℕ)
+    → Partway old now i m flag before after → i < length now → (d y : Bridge) → y.unit ≡ (slice_index_or now i d).unit
     → (y ≡ slice_index_or now i d) ⊎ (wide_outcome y.kept ≡ outcome_of m (slice_index_or now i d).unit)
     → Stops old (slice_set now i y)
-stops old now i m before after p inside d y unit (inl same) = (
+stops old now i m flag before after p inside d y unit (inl same) = (
   i,
   ap entries_of (ap (slice_set now i) same ∙ set-get_or now i d) ∙ stopped old now i m p.fresh p.rest (omega arith),
 )
-stops old now i m before after p inside d y unit (inr fresh) =
+stops old now i m flag before after p inside d y unit (inr fresh) =
     let many : i + 1 ≤ length (slice_set now i y) = grind (arith, common_steps, inside) in (
       i + 1,
       stopped old (slice_set now i y) (i + 1) (behind m (outcome_of m (slice_index_or now i d).unit))
-          (front_next old now i m before after p inside d y (record { unit = unit; fresh = fresh }))
-          (rest_next old now i m before after p inside d y) many,
+          (front_next old now i m flag before after p inside d y (record { unit = unit; fresh = fresh }))
+          (rest_next old now i m flag before after p inside d y) many,
     )
 
 -- all units are behind
-pub ended : (old now : List Bridge) (i : ℕ) (m : Moment) (before after : ℕ) → Partway old now i m before after
-    → length now ≤ i
+pub ended : (old now : List Bridge) (i : ℕ) (m : Moment) (flag : Bool) (before after : ℕ)
+    → Partway old now i m flag before after → length now ≤ i
     → (entries_of now ≡ fresh_from beginning (units_in old)) × (flags_of now ≡ reached_from beginning (entries_of old))
     × (after ≡ before + charges_from beginning (entries_of old))
-ended old now i m before after p past =
+ended old now i m flag before after p past =
     let whole : take i now ≡ now = grind (arith, common_steps, past) in
     let none : drop i old ≡ [] = sym p.rest ∙ drop_all i now past in
     let left : charges_from m (entries_of (drop i old)) ≡ 0 = ap (λ bs. charges_from m (entries_of bs)) none in

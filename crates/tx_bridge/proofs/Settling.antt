@@ -1,11 +1,10 @@
 -- Where one unit alone changes, what is given stands in its place already.
-use Rattle.std.proofs.Common.{◌≡◌, ℕ, zero, suc, ◌+◌, ◌<◌, ◌≤◌, List, [], ◌∷◌, ◌++◌, length, map, take, drop, slice_set}
-use Rattle.std.proofs.Common.{slice_index_or, Option, Some, None, refl, ap, sym, ◌∙◌, subst, arith, inl, inr}
-use Rattle.std.proofs.lemmas.Bool.{cases_Bool}
+use Rattle.std.proofs.Common.{◌≡◌, ℕ, zero, suc, ◌+◌, List, [], ◌∷◌, ◌++◌, length, map, slice_set}
+use Rattle.std.proofs.Common.{slice_index_or, Option, Some, None, refl, ap, sym, ◌∙◌, subst, arith}
 use Rattle.std.proofs.lemmas.Bool.Decides.{Decides-eqb}
-use Rattle.std.proofs.lemmas.List.{append_assoc, append-nil, drop_more, drop-set-lt, take_more_set, drop_all, take_all}
-use Rattle.std.proofs.lemmas.List.{length-append, length-set, length-map}
+use Rattle.std.proofs.lemmas.List.{append_assoc, length-append, length-map}
 use Rattle.std.proofs.lemmas.Option.{same_Some, slice_get-map, slice_get-get_or, slice_get_within}
+use Rattle.std.proofs.lemmas.Slice.Eq.{bytes_eq-Decides}
 use Rattle.std.specs.List.{All, AllByRecursion}
 use Rattle.std.specs.Option.{option_map, option_map_or}
 use Rattle.std.specs.Prelude.{Bool, true, false, ◌&&◌, ◌==◌, is_some, slice_get, if◌then◌else◌}
@@ -13,22 +12,44 @@ use Rattle.tx_tree.specs.WideTree.{WideTree}
 use Rattle.tx_mod.specs.declared.mods.Mod.{Mod}
 use Rattle.tx_mod.specs.Followed.{changed_by_all}
 use Rattle.tx_units.specs.declared.kinds.Unit.{Unit as DocUnit}
+use Rattle.tx_units.specs.declared.kinds.UnitKind.{UnitKind}
+use Rattle.tx_units.specs.declared.kinds.UnitKind.TheVariants.{Base, Style, Absent, Initial, Body}
 use Rattle.tx_units.specs.Places.{NoneBegins}
 use Rattle.tx_units.specs.Places.{AreApart as PathsApart}
+use Rattle.tx_units.specs.Units.{unit_with, units_with}
 use Rattle.tx_bridge.specs.declared.bridge.Bridge.{Bridge}
 use Rattle.tx_bridge.specs.UnitLists.{IsPlaced, AreUnits}
 use Rattle.tx_bridge.specs.Sound.{IsSound, sources_in}
-use Rattle.tx_bridge.specs.Carrying.{is_path, same_unit, through, mods_of}
+use Rattle.tx_bridge.specs.Carrying.{is_path, same_kind, same_unit, through, mods_of}
 use Rattle.tx_bridge.specs.Slots.{IsSlot, AreApart, AllPlaced, given_from, given_all, fresh_bridge, paths_in}
 use Rattle.tx_bridge.specs.Slots.{bodies_of, given}
-use Rattle.tx_bridge.specs.InPlace.{is_gone, are_within, is_changed, is_alike, AreAlike, IsOneChanged}
-use Rattle.tx_bridge.specs.InPlace.{numbers_but, settled_one, settled}
-use Rattle.tx_bridge.proofs.Trees.{both}
-use Rattle.tx_bridge.proofs.Slotting.{path_is, some_once, none_alike, slot_found, slot_by_place}
+use Rattle.tx_bridge.specs.InPlace.{is_gone, are_within, is_changed, IsOneChanged, numbers_but}
+use Rattle.tx_bridge.proofs.Trees.{both, and_true, self_same}
+use Rattle.tx_bridge.proofs.Slotting.{path_is, some_once, slot_found, slot_by_place}
 use Rattle.tx_bridge.proofs.Slotting.{slot_same, slot_gone_at}
 use Rattle.tx_bridge.proofs.Handed.{gives_none, gives_some, given_apart, given_placed}
 use Rattle.tx_bridge.proofs.Arrived.{fresh_apart, fresh_placed, sound_placed, of_document}
 use Rattle.tx_bridge.proofs.Inside.{all_stay, all_go}
+
+-- ---- units that are alike, and what stands in its place
+
+-- the units have one path, or, where the first has none, one kind and tree
+abbrev is_alike : DocUnit → DocUnit → Bool
+is_alike u v = option_map_or (λ p. is_path p v.path) u.path (same_unit u v)
+
+abbrev AreAlike : List DocUnit → List DocUnit → Type 0
+AreAlike us vs = (k : ℕ) (u v : DocUnit) → slice_get us k ≡ Some u → slice_get vs k ≡ Some v → is_alike u v ≡ true
+
+-- the unit of number k is u now; nothing is kept of it where it is new
+abbrev pub settled_one : Bool → ℕ → Bridge → DocUnit → Bridge
+settled_one true k b u = fresh_bridge u
+settled_one false k b u = record { unit = u; kept = b.kept; renewed = false; source = Some k }
+
+-- so it is of all from number k on, where number i is new
+abbrev pub settled : ℕ → ℕ → List Bridge → List DocUnit → List Bridge
+settled i k [] us = []
+settled i k (b ∷ bs) [] = []
+settled i k (b ∷ bs) (u ∷ us) = settled_one (k == i) k b u ∷ settled i (k + 1) bs us
 
 -- ---- one old unit after the other
 
@@ -179,7 +200,8 @@ goes_from (m ∷ ms) t q gone within = all_go m ms t q within gone
 
 module _ (i buffer : ℕ) (ms : List Mod) (t : WideTree) (old : List Bridge) (us : List DocUnit)
     (applies : (u : WideTree) × (changed_by_all ms t ≡ Some u)) (are : AreUnits us) (sound : All IsSound old)
-    (one : IsOneChanged i buffer ms (bodies_of old) us) where
+    (one : IsOneChanged i buffer ms (bodies_of old)) (many : length (bodies_of old) ≡ length us)
+    (alike : AreAlike (bodies_of old) us) where
   changing : Changes ms one.unit
   changing = changes ms one.unit one.changed
 
@@ -190,13 +212,13 @@ module _ (i buffer : ℕ) (ms : List Mod) (t : WideTree) (old : List Bridge) (us
   new_there : slice_get us i ≡ Some new_one
   new_there =
       slice_get-get_or us i one.unit
-      (omega (arith, one.many, slice_get_within (bodies_of old) i one.unit one.there))
+      (omega (arith, many, slice_get_within (bodies_of old) i one.unit one.there))
 
   new_path : new_one.path ≡ Some changing.path
   new_path =
       path_is changing.path new_one.path
       (with_path one.unit new_one (Some changing.path) changing.path changing.has
-      (one.alike i one.unit new_one one.there new_there) refl)
+      (alike i one.unit new_one one.there new_there) refl)
 
   stays_there : (n : ℕ) (b : Bridge) (u : DocUnit) → slice_get old n ≡ Some b → slice_get us n ≡ Some u
       → (n ≡ i → ⊥) → (o : Option (List ℕ)) → b.unit.path ≡ o → through ms t o ≡ o
@@ -204,7 +226,7 @@ module _ (i buffer : ℕ) (ms : List Mod) (t : WideTree) (old : List Bridge) (us
   stays_there n b u at there off (Some r) e =
       let own : u.path ≡ Some r =
       path_is r u.path
-      (with_path b.unit u (Some r) r e (one.alike n b.unit u (body_there old n b at) there) refl) in
+      (with_path b.unit u (Some r) r e (alike n b.unit u (body_there old n b at) there) refl) in
       let apart : PathsApart new_one.path u.path =
       apart_both us i n new_one u are.apart (λ same. off (sym same)) new_there there in
       all_stay ms t applies.0 changing.path r changing.within
@@ -227,14 +249,14 @@ module _ (i buffer : ℕ) (ms : List Mod) (t : WideTree) (old : List Bridge) (us
   settles m n b u e at there =
       let is : m ≡ n = omega (arith, e) in
       record {
-        alike = one.alike n b.unit u (body_there old n b at) there;
+        alike = alike n b.unit u (body_there old n b at) there;
         placed = sound_placed old sound n b at;
         stays = λ off. stays_there n b u at there (λ same. off (is ∙ same)) b.unit.path refl;
         goes = λ same. goes_there n b at (sym is ∙ same);
       }
 
   as_many : length old ≡ length us
-  as_many = sym (length-map old (λ (b : Bridge). b.unit)) ∙ one.many
+  as_many = sym (length-map old (λ (b : Bridge). b.unit)) ∙ many
 
   pub settled_given : settled i 0 old us ≡ given (mods_of buffer ms) t old us
   settled_given =
@@ -242,7 +264,7 @@ module _ (i buffer : ℕ) (ms : List Mod) (t : WideTree) (old : List Bridge) (us
       (fresh_placed us are.placed) settles)
       ∙ ap (λ ns. given ns t old us) (sym (of_document buffer ms one.document))
 
--- ---- numbers and paths
+-- ---- numbers
 
 one_source : (c : Bool) (k : ℕ) (b : Bridge) (u : DocUnit)
     → (settled_one c k b u).source ≡ (if c then None else Some k)
@@ -258,108 +280,76 @@ settled_sources i k (b ∷ bs) (u ∷ us) e =
     ap (λ s. s ∷ sources_in (settled i (k + 1) bs us)) (one_source (k == i) k b u)
     ∙ ap (λ ss. (if k == i then None else Some k) ∷ ss) (settled_sources i (k + 1) bs us (omega (arith, e)))
 
-abbrev pub AreAllPlaced : List DocUnit → Type 0
-AreAllPlaced us = (k : ℕ) (u : DocUnit) → slice_get us k ≡ Some u → IsPlaced u
+-- ---- one unit with another tree
 
-one_path : (u v : DocUnit) → IsPlaced u → IsPlaced v → is_alike u v ≡ true → v.path ≡ u.path
-one_path u v placed there h = by u.path refl
+self_kind : (k : UnitKind) → same_kind k k ≡ true
+self_kind Base = refl
+self_kind (Style m) = (Decides-eqb m m).1 refl
+self_kind Absent = refl
+self_kind Initial = refl
+self_kind Body = refl
+
+self_path : (p : List ℕ) → is_path p (Some p) ≡ true
+self_path p = (bytes_eq-Decides p p).1 refl
+
+self_alike : (u : DocUnit) → is_alike u u ≡ true
+self_alike u = by u.path
   where
-    by : (o : Option (List ℕ)) → u.path ≡ o → v.path ≡ o
-    by None e = none_alike u v placed there (without_path u v e h) e
-    by (Some p) e = path_is p v.path (with_path u v (Some p) p e h refl)
+    by : (o : Option (List ℕ)) → option_map_or (λ p. is_path p o) o (same_unit u u) ≡ true
+    by None =
+        and_true (same_kind u.kind u.kind) _ (self_kind u.kind) (self_same u.tagged.tree)
+    by (Some p) = self_path p
 
-pub paths_stay : (us vs : List DocUnit) → length us ≡ length vs → AreAlike us vs → AreAllPlaced us → AreAllPlaced vs
-    → map (λ v. v.path) vs ≡ map (λ u. u.path) us
-paths_stay [] [] e h placed there = refl
-paths_stay [] (v ∷ vs) e h placed there = absurd (omega (arith, e))
-paths_stay (u ∷ us) [] e h placed there = absurd (omega (arith, e))
-paths_stay (u ∷ us) (v ∷ vs) e h placed there =
-    ap (λ p. p ∷ map (λ (w : DocUnit). w.path) vs)
-    (one_path u v (placed 0 u refl) (there 0 v refl) (h 0 u v refl refl))
-    ∙ ap (λ ps. u.path ∷ ps)
-    (paths_stay us vs (omega (arith, e)) (λ k. h (suc k)) (λ k. placed (suc k)) (λ k. there (suc k)))
-
-pub all_placed : (us : List DocUnit) → AllByRecursion IsPlaced us → AreAllPlaced us
-all_placed [] h k u e = cc
-all_placed (v ∷ us) h zero u e = subst IsPlaced (same_Some v u e) h.0
-all_placed (v ∷ us) h (suc k) u e = all_placed us h.1 k u e
-
-pub bodies_placed : (bs : List Bridge) → All IsSound bs → AreAllPlaced (bodies_of bs)
-bodies_placed bs sound = by bs (sound_placed bs sound)
+alike_with : (t : WideTree) (u : DocUnit) → is_some u.path ≡ true → is_alike u (unit_with t u) ≡ true
+alike_with t u has = by u.path has
   where
-    by : (xs : List Bridge) → AllPlaced xs → AreAllPlaced (bodies_of xs)
-    by [] h k u e = cc
-    by (x ∷ xs) h zero u e = subst IsPlaced (same_Some x.unit u e) (h 0 x refl)
-    by (x ∷ xs) h (suc k) u e = by xs (λ n. h (suc n)) k u e
+    by : (o : Option (List ℕ)) → is_some o ≡ true
+        → option_map_or (λ p. is_path p o) o (same_unit u (unit_with t u)) ≡ true
+    by None h = cc
+    by (Some p) h = self_path p
 
--- ---- comparing
+pub are_alike_with : (i : ℕ) (t : WideTree) (us : List DocUnit)
+    → ((u : DocUnit) → slice_get us i ≡ Some u → is_some u.path ≡ true) → AreAlike us (units_with i t us)
+are_alike_with i t [] has k u v e f = cc
+are_alike_with zero t (x ∷ us) has zero u v e f =
+    let P : DocUnit → Type 0 = λ w. is_alike u w ≡ true in
+    let is_x : x ≡ u = same_Some x u e in
+    subst P (ap (unit_with t) (sym is_x) ∙ same_Some (unit_with t x) v f) (alike_with t u (has u e))
+are_alike_with zero t (x ∷ us) has (suc k) u v e f =
+    let P : DocUnit → Type 0 = λ w. is_alike u w ≡ true in subst P (some_once (slice_get us k) u v e f) (self_alike u)
+are_alike_with (suc i) t (x ∷ us) has zero u v e f =
+    let P : DocUnit → Type 0 = λ w. is_alike u w ≡ true in
+    subst P (sym (same_Some x u e) ∙ same_Some x v f) (self_alike u)
+are_alike_with (suc i) t (x ∷ us) has (suc k) u v e f = are_alike_with i t us has k u v e f
 
--- the units below number k are alike
-abbrev pub AlikeTo : List Bridge → List DocUnit → ℕ → Type 0
-AlikeTo bs vs k = (n : ℕ) (u v : DocUnit) → n < k → slice_get (bodies_of bs) n ≡ Some u → slice_get vs n ≡ Some v
-    → is_alike u v ≡ true
+pub many_with : (i : ℕ) (t : WideTree) (us : List DocUnit) → length us ≡ length (units_with i t us)
+many_with i t [] = refl
+many_with zero t (u ∷ us) = refl
+many_with (suc i) t (u ∷ us) = ap suc (many_with i t us)
 
-pub alike_more : (bs : List Bridge) (vs : List DocUnit) (k : ℕ) (d : Bridge) (e : DocUnit) → AlikeTo bs vs k
-    → k < length bs → k < length vs → is_alike (slice_index_or bs k d).unit (slice_index_or vs k e) ≡ true
-    → AlikeTo bs vs (k + 1)
-alike_more bs vs k d e h inside within here n u v l at there =
-    elim (cases_Bool (n == k)) [
-      | inl same ↦
-          let is : n ≡ k = (Decides-eqb n k).0 same in
-          let is_u : (slice_index_or bs k d).unit ≡ u =
-          some_once (slice_get (bodies_of bs) k) (slice_index_or bs k d).unit u
-          (body_there bs k (slice_index_or bs k d) (slice_get-get_or bs k d inside))
-          (ap (slice_get (bodies_of bs)) (sym is) ∙ at) in
-          let is_v : slice_index_or vs k e ≡ v =
-          some_once (slice_get vs k) (slice_index_or vs k e) v (slice_get-get_or vs k e within)
-          (ap (slice_get vs) (sym is) ∙ there) in
-          ap (λ w. is_alike w v) (sym is_u) ∙ ap (is_alike (slice_index_or bs k d).unit) (sym is_v) ∙ here
-      | inr off ↦
-          let other : n ≡ k → ⊥ = λ q. let is : n == k ≡ true = (Decides-eqb n k).1 q in cc in
-          h n u v (omega (arith, other, l)) at there
-    ]
+placed_with : (i : ℕ) (t : WideTree) (us : List DocUnit) → AllByRecursion IsPlaced us
+    → AllByRecursion IsPlaced (units_with i t us)
+placed_with i t [] h = tt
+placed_with zero t (u ∷ us) h = (record { path = h.0.path; origin = h.0.origin }, h.1)
+placed_with (suc i) t (u ∷ us) h = (h.0, placed_with i t us h.1)
 
-pub alike_all : (bs : List Bridge) (vs : List DocUnit) (k : ℕ) → AlikeTo bs vs k → length vs ≤ k
-    → AreAlike (bodies_of bs) vs
-alike_all bs vs k h past n u v at there =
-    let inside : n < length vs = slice_get_within vs n v there in h n u v (omega (arith, inside, past)) at there
+others_apart : (o : Option (List ℕ)) (i : ℕ) (t : WideTree) (us : List DocUnit)
+    → AllByRecursion (λ v. PathsApart o v.path) us → AllByRecursion (λ v. PathsApart o v.path) (units_with i t us)
+others_apart o i t [] h = tt
+others_apart o zero t (u ∷ us) h = h
+others_apart o (suc i) t (u ∷ us) h = (h.0, others_apart o i t us h.1)
 
--- ---- settling
+apart_with : (i : ℕ) (t : WideTree) (us : List DocUnit) → NoneBegins us → NoneBegins (units_with i t us)
+apart_with i t [] h = tt
+apart_with zero t (u ∷ us) h = h
+apart_with (suc i) t (u ∷ us) h = (others_apart u.path i t us h.0, apart_with i t us h.1)
 
--- behind k units
-pub record Settling (i : ℕ) (old now : List Bridge) (us left : List DocUnit) (k : ℕ) : Type 0 where
-  pub done : take k now ++ settled i k (drop k now) (drop k left) ≡ settled i 0 old us
-  pub many : length now ≡ length left
+-- they are units as before
+pub are_units_with : (i : ℕ) (t : WideTree) (us : List DocUnit) → AreUnits us → AreUnits (units_with i t us)
+are_units_with i t us are = record { placed = placed_with i t us are.placed; apart = apart_with i t us are.apart }
 
-pub settle_next : (i : ℕ) (old now : List Bridge) (us left : List DocUnit) (k : ℕ) → Settling i old now us left k
-    → k < length now → (d y : Bridge) (e v : DocUnit) (c : Bool) → c ≡ (k == i)
-    → y ≡ settled_one c k (slice_index_or now k d) (slice_index_or left k e)
-    → Settling i old (slice_set now k y) us (slice_set left k v) (k + 1)
-settle_next i old now us left k s inside d y e v c is_c is_y =
-    let x : Bridge = slice_index_or now k d in
-    let u : DocUnit = slice_index_or left k e in
-    let within : k < length left = omega (arith, inside, s.many) in
-    let later : List Bridge = drop (k + 1) now in
-    let units : List DocUnit = drop (k + 1) left in
-    record {
-      done =
-          ap (λ bs. bs ++ settled i (k + 1) (drop (k + 1) (slice_set now k y)) (drop (k + 1) (slice_set left k v)))
-          (take_more_set now k y inside)
-          ∙ append_assoc (take k now) (y ∷ [])
-          (settled i (k + 1) (drop (k + 1) (slice_set now k y)) (drop (k + 1) (slice_set left k v)))
-          ∙ ap (λ bs. take k now ++ y ∷ settled i (k + 1) bs (drop (k + 1) (slice_set left k v)))
-          (drop-set-lt (k + 1) now k y (omega arith))
-          ∙ ap (λ vs. take k now ++ y ∷ settled i (k + 1) later vs) (drop-set-lt (k + 1) left k v (omega arith))
-          ∙ ap (λ z. take k now ++ z ∷ settled i (k + 1) later units)
-          (is_y ∙ ap (λ b. settled_one b k x u) is_c)
-          ∙ ap (λ bs. take k now ++ settled i k bs (u ∷ units)) (sym (drop_more now k d inside))
-          ∙ ap (λ vs. take k now ++ settled i k (drop k now) vs) (sym (drop_more left k e within))
-          ∙ s.done;
-      many = length-set now k y ∙ s.many ∙ sym (length-set left k v);
-    }
-
-pub settle_ends : (i : ℕ) (old now : List Bridge) (us left : List DocUnit) (k : ℕ) → Settling i old now us left k
-    → length now ≤ k → now ≡ settled i 0 old us
-settle_ends i old now us left k s past =
-    sym (take_all k now past) ∙ sym (append-nil (take k now))
-    ∙ ap (λ bs. take k now ++ settled i k bs (drop k left)) (sym (drop_all k now past)) ∙ s.done
+pub has_path : (i buffer : ℕ) (ms : List Mod) (us : List DocUnit) → IsOneChanged i buffer ms us → (u : DocUnit)
+    → slice_get us i ≡ Some u → is_some u.path ≡ true
+has_path i buffer ms us one u e =
+    let same : one.unit ≡ u = some_once (slice_get us i) one.unit u one.there e in
+    ap (λ (v : DocUnit). is_some v.path) (sym same) ∙ ap is_some (changes ms one.unit one.changed).has

@@ -272,17 +272,11 @@ pub record IsCarried (buffer : ℕ) (ms : List Mod) (t : WideTree) (kept : Kept)
   pub sources : sources_in result ≡ sources (mods_of buffer ms) t (units_of kept) us
   pub once : NoneTwice (sources_in result)
   pub units : units_of (entries_of result) ≡ us
-  pub sound : All IsSound result
 
--- the premises are what the calls ensure, in their order
-pub carry_all : (buffer : ℕ) (ms : List Mod) (t : WideTree) (kept : Kept) (us : List DocUnit)
-    (old result : List Bridge) → entries_of old ≡ kept → All IsSound old
-    → ((u : WideTree) × (changed_by_all ms t ≡ Some u)) → ((q : List ℕ) → CarriesThroughAll ms t q) → AreUnits us
-    → (buffer ≡ 0 → AllStand t (units_of kept))
-    → (buffer ≡ 0 → (u : WideTree) → changed_by_all ms t ≡ Some u → AllStand u us)
-    → ((buffer ≡ 0 → ⊥) → AreSameBodies (units_of kept) us)
+pub given_is : (buffer : ℕ) (ms : List Mod) (t : WideTree) (kept : Kept) (us : List DocUnit)
+    (old result : List Bridge) → entries_of old ≡ kept → All IsSound old → AreUnits us
     → result ≡ given (mods_of buffer ms) t old us → IsCarried buffer ms t kept us result
-carry_all buffer ms t kept us old result was sound applies law are stand_old stand_new same is_given =
+given_is buffer ms t kept us old result was sound are is_given =
     let bodies : units_of kept ≡ bodies_of old = sym (ap units_of was) ∙ units_bodies old in
     let traces : traces_of kept ≡ traces_in old = sym (ap traces_of was) ∙ entries_traces old in
     record {
@@ -301,12 +295,21 @@ carry_all buffer ms t kept us old result was sound applies law are stand_old sta
           ap (λ cs. units_of (entries_of cs)) is_given
           ∙ units_bodies (given (mods_of buffer ms) t old us)
           ∙ given_bodies (map (through (mods_of buffer ms) t) (paths_in old)) old us;
-      sound =
-          subst (All IsSound) (sym is_given)
-          (carried_sound buffer ms t old us applies law sound are.placed
-          (λ e. subst (AllStand t) bodies (stand_old e)) stand_new
-          (λ e. subst (λ vs. AreSameBodies vs us) bodies (same e)));
     }
+
+-- the premises are what the calls ensure, in their order
+pub carry_sound : (buffer : ℕ) (ms : List Mod) (t : WideTree) (kept : Kept) (us : List DocUnit)
+    (old result : List Bridge) → entries_of old ≡ kept → All IsSound old
+    → ((u : WideTree) × (changed_by_all ms t ≡ Some u)) → ((q : List ℕ) → CarriesThroughAll ms t q) → AreUnits us
+    → (buffer ≡ 0 → AllStand t (units_of kept))
+    → (buffer ≡ 0 → (u : WideTree) → changed_by_all ms t ≡ Some u → AllStand u us)
+    → ((buffer ≡ 0 → ⊥) → AreSameBodies (units_of kept) us)
+    → result ≡ given (mods_of buffer ms) t old us → All IsSound result
+carry_sound buffer ms t kept us old result was sound applies law are stand_old stand_new same is_given =
+    let bodies : units_of kept ≡ bodies_of old = sym (ap units_of was) ∙ units_bodies old in
+    subst (All IsSound) (sym is_given)
+    (carried_sound buffer ms t old us applies law sound are.placed (λ e. subst (AllStand t) bodies (stand_old e))
+    stand_new (λ e. subst (λ vs. AreSameBodies vs us) bodies (same e)))
 
 -- what giving gives
 pub as_given : (ms : List Mod) (t : WideTree) (us : List DocUnit) (old bs new result : List Bridge)

@@ -1,5 +1,5 @@
 -- What is kept is used again.
-use Rattle.std.proofs.Common.{◌≡◌, ℕ, ◌≤◌, ap, sym, subst, ◌∙◌, leb-true, arith}
+use Rattle.std.proofs.Common.{◌≡◌, ℕ, ◌≤◌, List, [], ◌∷◌, length, nat_eq, refl, ap, sym, subst, ◌∙◌, leb-true, arith}
 use Rattle.std.specs.Prelude.{Bool, true, ◌&&◌, nat_le, Option, Some, None}
 use Rattle.std.specs.FinMap.{get}
 use Rattle.std.specs.List.{list_all}
@@ -8,19 +8,22 @@ use Rattle.tx_origin.specs.TaggedTrees.{TaggedTree, tagged_of}
 use Rattle.tx_exec_form.specs.declared.TheConstants.{MOST_LEVELS}
 use Rattle.tx_exec_form.specs.Runs.{Before}
 use Rattle.tx_exec_form.specs.Evaluated.{WideTrace, evaluated_in}
-use Rattle.tx_exec_form.specs.Laws.{Supports}
+use Rattle.tx_exec_form.specs.Laws.{Agrees, Supports}
 use Rattle.tx_exec.specs.declared.outcome.Trace.{Trace}
 use Rattle.tx_exec.specs.declared.outcome.Outcome.{Outcome}
-use Rattle.tx_exec.specs.declared.outcome.Outcome.TheVariants.{Done}
+use Rattle.tx_exec.specs.declared.outcome.Outcome.TheVariants.{Done, Over}
 use Rattle.tx_exec.specs.Outcomes.{wide_outcome, NamesOnce}
-use Rattle.tx_view_form.specs.Outcomes.{Moment, allowance, outcome, charge}
+use Rattle.tx_view_form.specs.Outcomes.{Moment, allowance, outcome, charge, behind, env_behind}
 use Rattle.tx_units.specs.declared.kinds.Unit.{Unit as DocUnit}
 use Rattle.tx_bridge.specs.SameTrees.{same}
+use Rattle.tx_bridge.specs.Entries.{outcome_of, fresh_from}
 use Rattle.tx_bridge.specs.Reached.{agrees, fits}
+use Rattle.tx_bridge.specs.Settled.{AgreesWith, AreSettled, IsSilent}
 use Rattle.tx_bridge.specs.Sound.{Holds, IsSound}
 use Rattle.tx_bridge.specs.UnitLists.{IsPlaced}
 use Rattle.tx_bridge.proofs.Trees.{both}
-use Rattle.tx_bridge.proofs.Agreed.{agrees_is, test_same}
+use Rattle.tx_bridge.proofs.Once.{none_set}
+use Rattle.tx_bridge.proofs.Agreed.{agrees_is, agrees_of, test_same}
 
 -- what fits is what the tree comes to
 pub fits_is : (m : Moment) (o : Option WideTrace) (t : TaggedTree) → Holds o t → fits m o ≡ true → o ≡ outcome t m
@@ -79,3 +82,53 @@ fits_done m map o trace b is once env h =
     (h ∙ ap (λ (e : NameMap). list_all (λ look. same (get e look.0) look.1) trace.looks) env
     ∙ test_same (λ look. same (get m.env look.0) look.1) trace.looks (subst NamesOnce is once).0)
     ∙ ap (λ x. fits m (wide_outcome x)) (sym is)
+
+-- where the looks are known to agree, so do their pairs
+pub pairs_agree : (m : Moment) (map : NameMap) (o : Outcome) (trace : Trace) → o ≡ Done trace → NamesOnce o
+    → map ≡ m.env → AgreesWith m.env (wide_outcome o)
+    → list_all (λ look. same (get map look.0) look.1) trace.looks ≡ true
+pairs_agree m map o trace is once env h =
+    ap (λ (e : NameMap). list_all (λ look. same (get e look.0) look.1) trace.looks) env
+    ∙ test_same (λ look. same (get m.env look.0) look.1) trace.looks (subst NamesOnce is once).0
+    ∙ subst (λ (x : Outcome). AgreesWith m.env (wide_outcome x)) is h
+
+-- ---- what comes from nothing settles in itself
+
+abbrev pub AllAgree : Type 0
+AllAgree = (k c : ℕ) (t : TaggedTree) (e : Before) (trace : WideTrace) → evaluated_in k c t e ≡ Some trace
+    → Agrees e trace.looks
+
+outcome_agrees : AllAgree → (m : Moment) (t : TaggedTree) (o : Option WideTrace) → o ≡ outcome t m
+    → AgreesWith m.env o
+unfolding outcome
+outcome_agrees law m t None e = tt
+outcome_agrees law m t (Some trace) e =
+    agrees_of m.env trace.looks (law MOST_LEVELS (allowance m) t (get m.env) trace (sym e))
+
+pub fresh_settled : AllAgree → (m : Moment) (us : List DocUnit) → AreSettled m.env (fresh_from m us)
+fresh_settled law m [] = tt
+fresh_settled law m (u ∷ us) = (
+  outcome_agrees law m (tagged_of u.tagged) (outcome_of m u) refl,
+  fresh_settled law (behind m (outcome_of m u)) us,
+)
+
+-- ---- what sets no name
+
+pub silent_over : (o : Outcome) → o ≡ Over → IsSilent (wide_outcome o)
+silent_over o is = subst (λ (x : Outcome). IsSilent (wide_outcome x)) (sym is) (λ env. refl)
+
+pub silent_done : (o : Outcome) (trace : Trace) → o ≡ Done trace → length trace.writes ≡ 0 → IsSilent (wide_outcome o)
+silent_done o trace is none =
+    subst (λ (x : Outcome). IsSilent (wide_outcome x)) (sym is) (λ env. none_set env trace.writes none)
+
+pub none_there : (n : ℕ) → nat_eq n 0 ≡ true → n ≡ 0
+none_there n e = grind arith
+
+-- what names have behind a unit whose kept trace is used, and behind one that is evaluated anew and sets none
+pub env_used : (m after : Moment) (kept o : Option WideTrace) → kept ≡ o → after ≡ behind m o
+    → after.env ≡ env_behind m.env kept
+env_used m after kept o e is = ap (λ (k : Moment). k.env) is ∙ ap (env_behind m.env) (sym e)
+
+pub env_anew : (m after : Moment) (kept o : Option WideTrace) → IsSilent kept → IsSilent o → after ≡ behind m o
+    → after.env ≡ env_behind m.env kept
+env_anew m after kept o silent still is = ap (λ (k : Moment). k.env) is ∙ still m.env ∙ sym (silent m.env)

@@ -2,6 +2,7 @@ pub mod SameTrees
 pub mod Moments
 pub mod Entries
 pub mod Reached
+pub mod Settled
 pub mod Sound
 pub mod Carrying
 pub mod Slots

@@ -1,14 +1,23 @@
 -- What is true of what is kept.
-use Rattle.std.specs.Prelude.{◌≤◌, ℕ, List, map, Bool, Option, Some, None}
+use Rattle.std.specs.Prelude.{◌≡◌, ◌≤◌, ℕ, zero, suc, List, [], ◌∷◌, map, length, Bool, true, Option, Some, None}
+use Rattle.std.specs.Prelude.{◌==◌, if◌then◌else◌}
 use Rattle.std.specs.List.{All}
+use Rattle.std.specs.FinMap.{empty}
+use Rattle.tx_tree.specs.WideTree.{WideTree}
 use Rattle.tx_origin.specs.TaggedTrees.{TaggedTree, tagged_of}
 use Rattle.tx_exec_form.specs.declared.TheConstants.{MOST_LEVELS}
 use Rattle.tx_exec_form.specs.Evaluated.{WideTrace}
 use Rattle.tx_exec_form.specs.Laws.{Supports}
+use Rattle.tx_exec.specs.declared.outcome.Outcome.TheVariants.{Over}
 use Rattle.tx_exec.specs.Outcomes.{wide_outcome, NamesOnce}
+use Rattle.tx_units.specs.Units.{unit_with}
 use Rattle.tx_bridge.specs.declared.bridge.Bridge.{Bridge}
+use Rattle.tx_bridge.specs.declared.bridge.Way.{Way}
+use Rattle.tx_bridge.specs.declared.bridge.Way.TheVariants.{Listed, InPlace}
 use Rattle.tx_bridge.specs.UnitLists.{IsPlaced}
 use Rattle.tx_bridge.specs.Entries.{Entry, Kept}
+use Rattle.tx_bridge.specs.Settled.{AreSettled}
+use Rattle.tx_bridge.specs.InPlace.{numbers_but}
 
 -- A trace that is kept is the tree's, with no more levels than there are, in every environment that agrees with its
 -- looks.
@@ -34,7 +43,32 @@ flags_of bs = map (λ b. b.renewed) bs
 abbrev pub sources_in : List Bridge → List (Option ℕ)
 sources_in bs = map (λ b. b.source) bs
 
+-- which unit that of number k was before the last edit, by the way in which this is known
+abbrev pub source_by : Way → ℕ → Bridge → Option ℕ
+source_by Listed k b = b.source
+source_by (InPlace i) k b = if k == i then None else Some k
+
+-- so of each
+abbrev pub sources_by : Way → List Bridge → List (Option ℕ)
+sources_by Listed bs = sources_in bs
+sources_by (InPlace i) bs = numbers_but i 0 (length bs)
+
+-- the entry, where its unit has this tree and nothing is kept of it
+abbrev pub changed_bridge : WideTree → Bridge → Bridge
+changed_bridge t b = record { unit = unit_with t b.unit; kept = Over; renewed = b.renewed; source = b.source }
+
+-- the entries, of which that of number i is so
+abbrev pub changed_in : ℕ → WideTree → List Bridge → List Bridge
+changed_in i t [] = []
+changed_in zero t (b ∷ bs) = changed_bridge t b ∷ bs
+changed_in (suc i) t (b ∷ bs) = b ∷ changed_in i t bs
+
 pub record IsSound (b : Bridge) : Type 0 where
   pub holds : Holds (wide_outcome b.kept) (tagged_of b.unit.tagged)
   pub once : NamesOnce b.kept
   pub placed : IsPlaced b.unit
+
+-- Each entry is sound, and where the flag is set, all settle in themselves.
+pub record AreRight (flag : Bool) (bs : List Bridge) : Type 0 where
+  pub sound : All IsSound bs
+  pub settled : flag ≡ true → AreSettled empty (entries_of bs)

@@ -1,30 +1,34 @@
 // All units with what is kept of them.
 ghost use Rattle.std.specs.Prelude.{◌≡◌, ℕ, ◌+◌, ◌≤◌, ◌++◌, take, drop, map, IfOk, OnOk, OnErr, Some, None};
-ghost use Rattle.std.specs.Prelude.{false, MatchOption, slice_get, IsSome, IfSome, option_and_then, length};
+ghost use Rattle.std.specs.Prelude.{false, true, MatchOption, slice_get, IsSome, IfSome, option_and_then, length};
 ghost use Rattle.std.specs.Option.{unwrap_or, option_map};
 ghost use Rattle.std.specs.List.{All};
+ghost use Rattle.std.specs.FinMap as maps;
 ghost use Rattle.tx_tree.specs.WideTree.{WideTree};
 ghost use Rattle.tx_mod.specs.InTurn.{cost_of};
 ghost use Rattle.tx_mod.specs.Followed.{changed_by_all};
 ghost use Rattle.tx_exec.specs.Outcomes.{wide_outcome, NamesOnce};
+ghost use Rattle.tx_units.specs.Units.{units_with};
 ghost use Rattle.tx_view_form.specs.Outcomes.{beginning, behind, value_of};
 ghost use Rattle.tx_bridge.specs.Moments.{IsPaid};
 ghost use Rattle.tx_bridge.specs.Entries.{Entry, units_of, fresh_from, outcome_of};
 ghost use Rattle.tx_bridge.specs.Reached.{reached_from, charges_from};
-ghost use Rattle.tx_bridge.specs.Sound.{IsSound, AllHold, entry_of, entries_of, flags_of, sources_in};
+ghost use Rattle.tx_bridge.specs.Settled.{AreSettled};
+ghost use Rattle.tx_bridge.specs.Sound.{IsSound, AllHold, entry_of, entries_of, flags_of, sources_in, source_by};
 ghost use Rattle.tx_bridge.specs.UnitLists.{AreUnits};
 ghost use Rattle.tx_bridge.specs.Carrying.{AllStand, AreSameBodies, through, mods_of};
 ghost use Rattle.tx_bridge.specs.Slots.{AllLead, paths_in, given};
 ghost use Rattle.tx_bridge.specs.InPlace.{IsOneChanged, numbers_but};
 ghost use Rattle.tx_bridge.specs.Names.{Empty, Fresh, Charge, Carry, Sources};
 
-use crate::bridge::Bridge;
+use crate::bridge::{Bridge, Way};
 use crate::giving::give_all;
-use crate::in_place::{one_changed, settle_all};
+use crate::in_place::{change_one, one_changed};
 use crate::moments::Moment;
 use crate::paths_after::paths_after;
 use std::alloc::Global;
 use std::marker::Model;
+use std::mem;
 use std::sync::ledger::Ledger;
 use tx_base::{Memory, Steps};
 use tx_exec::Outcome;
@@ -40,12 +44,14 @@ use tx_units::Unit;
 #[derive(Drop)]
 pub struct Bridges {
     bridges: Vec<Bridge>,
+    way: Way,
+    // Whether all looks are known to agree with what the kept traces before them set.
+    settled: bool,
 }
 
 impl Model for Bridges {
-    ghost use Rattle.std.specs.List.{All};
     ghost use Rattle.tx_bridge.specs.Bridged.{Bridged, coded_Bridged};
-    ghost use Rattle.tx_bridge.specs.Sound.{IsSound, entries_of, flags_of, sources_in};
+    ghost use Rattle.tx_bridge.specs.Sound.{AreRight, entries_of, flags_of, sources_by};
 
     ghost Value = { Bridged };
 
@@ -54,10 +60,10 @@ impl Model for Bridges {
     ghost view = { λ b. record {
       kept = entries_of b.bridges.items;
       renewed = flags_of b.bridges.items;
-      sources = sources_in b.bridges.items;
+      sources = sources_by b.way b.bridges.items;
     } };
 
-    ghost invariant = { λ b. All IsSound b.bridges.items };
+    ghost invariant = { λ b. AreRight b.settled b.bridges.items };
 }
 
 // The units, with nothing kept.
@@ -75,12 +81,17 @@ fn bridges_of(alloc: Global, units: Vec<Unit>) -> Result<Vec<Bridge>, Memory>
 
 // Brings each unit to what evaluating from nothing gives. For want of memory it stops: those before are brought there,
 // and the others are as they were.
+//
+// Where all looks are known to agree with what the kept traces before them set, none are compared, up to a unit that is
+// evaluated anew and sets names, or whose kept trace did.
 fn refresh_all<L: Ledger>(
     alloc: Global,
     bridges: &mut [Bridge],
+    settled: bool,
     steps: &mut Steps<L>,
 ) -> Result<(), Memory>
     requires sound { All IsSound bridges.old }
+    requires settled { settled ≡ true → AreSettled maps.empty (entries_of bridges.old) }
     ensures fresh { OnOk result (entries_of bridges.new ≡ fresh_from beginning (units_of (entries_of bridges.old))) }
     ensures renewed { OnOk result (flags_of bridges.new ≡ reached_from beginning (entries_of bridges.old)) }
     ensures counted { OnOk result (steps.new ≡ steps.old + charges_from beginning (entries_of bridges.old)) }
@@ -93,8 +104,9 @@ fn refresh_all<L: Ledger>(
         ≡ take n (fresh_from beginning (units_of (entries_of bridges.old))) ++ drop n (entries_of bridges.old))) }
 {
     let mut moment = Moment::beginning(alloc);
+    let mut still = settled;
     for i in 0..bridges.len() {
-        bridges[i].refresh(alloc, &mut moment, steps)?;
+        still = bridges[i].refresh(alloc, &mut moment, still, steps)?;
     }
     Ok(())
 }
@@ -165,31 +177,13 @@ fn give_over<L: Ledger>(
     Ok(())
 }
 
-// The same. Where one unit alone changes, the others stay where they are, and it takes no memory.
-fn carry_all<L: Ledger>(
-    alloc: Global,
-    buffer: u32,
-    before: &Tree,
-    mods: &[Mod],
-    bridges: &mut Vec<Bridge>,
-    units: Vec<Unit>,
-    steps: &mut Steps<L>,
-) -> Result<(), Memory>
-    requires applies { (u : WideTree) × (changed_by_all mods.now before.now ≡ Some u) }
-    requires units { AreUnits units.items }
-    requires sound { All IsSound bridges.old.items }
-    requires lead { buffer ≡ 0 → AllLead before.now (paths_in bridges.old.items) }
-    ensures given { OnOk result (bridges.new.items
-        ≡ given (mods_of buffer mods.now) before.now bridges.old.items units.items) }
-    ensures counted { steps.new ≤ steps.old + cost_of mods.now }
-    ensures refused { OnErr result (bridges.new ≡ bridges.old) }
+// The number that the unit of number i had before the last edit.
+fn source_of(way: Way, bridge: &Bridge, i: usize) -> Option<usize>
+    ensures { result ≡ source_by way i bridge.now }
 {
-    match one_changed(buffer, bridges, mods, &units) {
-        Some(changed) => {
-            settle_all(buffer, before, mods, bridges, units, changed);
-            Ok(())
-        }
-        None => give_over(alloc, buffer, before, mods, bridges, units, steps),
+    match way {
+        Way::Listed => bridge.source,
+        Way::InPlace(changed) => { if i == changed { None } else { Some(i) } }
     }
 }
 
@@ -204,6 +198,8 @@ impl Bridges {
     {
         Ok(Bridges {
             bridges: bridges_of(alloc, units)?,
+            way: Way::Listed,
+            settled: false,
         })
     }
 
@@ -223,7 +219,11 @@ impl Bridges {
         ensures refused { OnErr result ((n : ℕ) × (self.new.kept
             ≡ take n (Fresh self.old.kept) ++ drop n self.old.kept)) }
     {
-        refresh_all(alloc, &mut self.bridges, steps)
+        trace_laws();
+        let settled = mem::replace(&mut self.settled, false);
+        refresh_all(alloc, &mut self.bridges, settled, steps)?;
+        self.settled = true;
+        Ok(())
     }
 
     /// The new units after an edit of a buffer, with what was kept of the old ones that they are. A paragraph of the
@@ -258,46 +258,39 @@ impl Bridges {
         ensures refused { OnErr result (self.new ≡ self.old) }
     {
         carried_list_law();
-        carry_all(alloc, buffer, before, mods, &mut self.bridges, units, steps)?;
+        give_over(alloc, buffer, before, mods, &mut self.bridges, units, steps)?;
+        self.way = Way::Listed;
+        self.settled = false;
         Ok(())
     }
 
-    /// The number of the one unit that `carry` changes with these arguments, where each other one keeps its number and
-    /// its path, as at an edit inside one paragraph. `carry_in_place` then does the same and takes no memory. None says
-    /// nothing.
-    pub fn one_changed(&self, buffer: u32, mods: &[Mod], units: &[Unit]) -> Option<usize>
-        ensures { IfSome result (λ i. IsOneChanged i buffer mods.now (units_of self.now.kept) units.now) }
+    /// The number of the one unit inside whose paragraph all modifications are, and which they leave nowhere. Where its
+    /// paragraph alone changes, `carry_in_place` does what `carry` does. None says nothing.
+    pub fn one_changed(&self, buffer: u32, mods: &[Mod]) -> Option<usize>
+        ensures { IfSome result (λ i. IsOneChanged i buffer mods.now (units_of self.now.kept)) }
     {
-        one_changed(buffer, &self.bridges, mods, units)
+        one_changed(buffer, &self.bridges, mods)
     }
 
-    /// What `carry` does, where the unit of number `changed` alone changes, as `one_changed` tells. It takes no memory
-    /// and no step.
+    /// What `carry` does where the unit of number `changed`, which `one_changed` tells, has this tree afterwards, and
+    /// each other one stays as it is. It takes no memory and no step, and goes over no list.
     #[tactic(auto, unfolding(crate::specs::Names::Carry, crate::specs::Names::Sources))]
-    pub fn carry_in_place(
-        &mut self,
-        buffer: u32,
-        before: &Tree,
-        mods: &[Mod],
-        units: Vec<Unit>,
-        changed: usize,
-    )
+    pub fn carry_in_place(&mut self, before: &Tree, mods: &[Mod], tree: Tree, changed: usize)
         requires applies { (u : WideTree) × (changed_by_all mods.now before.now ≡ Some u) }
-        requires units { AreUnits units.items }
-        requires old { AllStand before.now (units_of self.old.kept) }
-        requires new { (u : WideTree) → changed_by_all mods.now before.now ≡ Some u → AllStand u units.items }
-        requires changed { IsOneChanged changed buffer mods.now (units_of self.old.kept) units.items }
-        ensures carried { self.new.kept ≡ Carry buffer mods.now before.now self.old.kept units.items }
-        ensures sources { self.new.sources
-            ≡ Sources buffer mods.now before.now (units_of self.old.kept) units.items }
+        requires units { AreUnits (units_of self.old.kept) }
+        requires changed { IsOneChanged changed 0 mods.now (units_of self.old.kept) }
+        ensures carried { self.new.kept ≡ Carry 0 mods.now before.now self.old.kept
+            (units_with changed tree (units_of self.old.kept)) }
+        ensures sources { self.new.sources ≡ Sources 0 mods.now before.now (units_of self.old.kept)
+            (units_with changed tree (units_of self.old.kept)) }
         ensures once { (i j k : ℕ) → slice_get self.new.sources j ≡ Some (Some i)
             → slice_get self.new.sources k ≡ Some (Some i) → j ≡ k }
-        ensures numbers { self.new.sources ≡ numbers_but changed 0 (length units.items) }
-        ensures paths { map (λ u. u.path) units.items ≡ map (λ u. u.path) (units_of self.old.kept) }
-        ensures units { units_of self.new.kept ≡ units.items }
+        ensures numbers { self.new.sources ≡ numbers_but changed 0 (length (units_of self.old.kept)) }
+        ensures units { units_of self.new.kept ≡ units_with changed tree (units_of self.old.kept) }
     {
-        carried_list_law();
-        settle_all(buffer, before, mods, &mut self.bridges, units, changed);
+        let silent = change_one(&mut self.bridges, tree, changed);
+        self.way = Way::InPlace(changed);
+        self.settled = self.settled && silent;
     }
 
     /// What is kept of the unit, which after a refresh is what it comes to. None past the last unit.
@@ -340,7 +333,7 @@ impl Bridges {
     {
         match self.bridges.get(i as usize) {
             None => None,
-            Some(bridge) => bridge.source,
+            Some(bridge) => source_of(self.way, bridge, i as usize),
         }
     }
 

@@ -1,10 +1,11 @@
 // Whether what is kept can be used.
-ghost use Rattle.std.specs.Prelude.{◌≡◌, ℕ, Some};
+ghost use Rattle.std.specs.Prelude.{◌≡◌, ℕ, Some, true, IsTrue};
 ghost use Rattle.std.specs.List.{list_all};
 ghost use Rattle.std.specs.FinMap as maps;
 ghost use Rattle.tx_exec.specs.Outcomes.{wide_outcome, NamesOnce};
 ghost use Rattle.tx_bridge.specs.SameTrees.{same};
 ghost use Rattle.tx_bridge.specs.Reached.{fits};
+ghost use Rattle.tx_bridge.specs.Settled.{AgreesWith, IsSilent};
 
 use crate::moments::Moment;
 use tx_env::Env;
@@ -39,14 +40,33 @@ fn agrees(env: &Env, looks: &Looks) -> bool
         .all(|look| agrees_at(env, &look.0, &look.1))
 }
 
-// Whether what is kept can be used at the moment.
-pub(crate) fn fits(moment: &Moment, kept: &Outcome) -> bool
-    requires { NamesOnce kept.now }
+// The same, which is known where `settled`.
+fn agrees_or(env: &Env, looks: &Looks, settled: bool) -> bool
+    requires { settled ≡ true → list_all (λ look. same (maps.get env.now.map look.0) look.1) looks.now ≡ true }
+    ensures { result ≡ list_all (λ look. same (maps.get env.now.map look.0) look.1) looks.now }
+{
+    settled || agrees(env, looks)
+}
+
+// Whether what is kept can be used at the moment. Where `settled`, its looks are known to agree with what names have.
+pub(crate) fn fits(moment: &Moment, kept: &Outcome, settled: bool) -> bool
+    requires once { NamesOnce kept.now }
+    requires settled { settled ≡ true → AgreesWith moment.now.env (wide_outcome kept.now) }
     ensures { result ≡ fits moment.now (wide_outcome kept.now) }
 {
     match kept {
         Outcome::Over => false,
-        Outcome::Done(trace) => agrees(moment.env(), &trace.looks)
+        Outcome::Done(trace) => agrees_or(moment.env(), &trace.looks, settled)
             && trace.cost <= moment.allowance(),
+    }
+}
+
+// Whether what is kept sets no name.
+pub(crate) fn is_silent(kept: &Outcome) -> bool
+    ensures { IsTrue result → IsSilent (wide_outcome kept.now) }
+{
+    match kept {
+        Outcome::Over => true,
+        Outcome::Done(trace) => trace.writes.pairs().is_empty(),
     }
 }

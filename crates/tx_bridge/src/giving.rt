@@ -25,13 +25,13 @@ fn same_kind(one: UnitKind, other: UnitKind) -> bool
     }
 }
 
-pub(crate) fn same_unit(unit: &Unit, other: &Unit) -> bool
+fn same_unit(unit: &Unit, other: &Unit) -> bool
     ensures { result ≡ same_unit unit.now other.now }
 {
     same_kind(unit.kind, other.kind) && same_trees(&unit.tagged.tree, &other.tagged.tree)
 }
 
-pub(crate) fn has_path(unit: &Unit, path: &Path) -> bool
+fn has_path(unit: &Unit, path: &Path) -> bool
     ensures { result ≡ is_path path.now unit.now.path }
 {
     match &unit.path {

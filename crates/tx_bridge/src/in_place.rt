@@ -1,20 +1,15 @@
 // An edit inside one paragraph changes one unit, and each other one stays at its number and its path.
-ghost use Rattle.std.specs.Prelude.{◌≡◌, length, Some, true, IfSome, IsTrue, slice_get};
-ghost use Rattle.std.specs.List.{All, list_all};
-ghost use Rattle.tx_tree.specs.WideTree.{WideTree};
+ghost use Rattle.std.specs.Prelude.{◌≡◌, ◌<◌, length, Some, true, IfSome, IsTrue, slice_get};
+ghost use Rattle.std.specs.List.{list_all};
+ghost use Rattle.tx_exec.specs.Outcomes.{wide_outcome};
 ghost use Rattle.tx_mod.specs.Mods.{path_of};
-ghost use Rattle.tx_mod.specs.Followed.{changed_by_all};
-ghost use Rattle.tx_bridge.specs.Sound.{IsSound, sources_in};
-ghost use Rattle.tx_bridge.specs.UnitLists.{AreUnits};
-ghost use Rattle.tx_bridge.specs.Carrying.{mods_of};
-ghost use Rattle.tx_bridge.specs.Slots.{bodies_of, given};
-ghost use Rattle.tx_bridge.specs.InPlace.{wraps, begins, leaves_nowhere, is_gone, are_within, is_changed, is_alike};
-ghost use Rattle.tx_bridge.specs.InPlace.{AreAlike, IsOneChanged, numbers_but, settled_one, settled};
+ghost use Rattle.tx_bridge.specs.Settled.{IsSilent};
+ghost use Rattle.tx_bridge.specs.Sound.{changed_in};
+ghost use Rattle.tx_bridge.specs.Slots.{bodies_of};
+ghost use Rattle.tx_bridge.specs.InPlace.{wraps, begins, leaves_nowhere, is_gone, is_changed, IsOneChanged};
 
 use crate::bridge::Bridge;
-use crate::giving::{first_body, has_path, same_unit};
-use std::mem;
-use tx_exec::Outcome;
+use crate::giving::first_body;
 use tx_mod::Mod;
 use tx_tree::{Path, Tree};
 use tx_units::Unit;
@@ -108,97 +103,22 @@ fn changed_unit(bridges: &[Bridge], mods: &[Mod]) -> Option<usize>
     }
 }
 
-// Whether the units have one path, or, where the first has none, one kind and tree.
-fn is_alike(unit: &Unit, other: &Unit) -> bool
-    ensures { result ≡ is_alike unit.now other.now }
-{
-    match &unit.path {
-        None => same_unit(unit, other),
-        Some(path) => has_path(other, path),
-    }
-}
-
-// Whether each unit is like the new one of its number, and there are as many.
-fn are_alike(bridges: &[Bridge], units: &[Unit]) -> bool
-    ensures many { IsTrue result → length bridges.now ≡ length units.now }
-    ensures alike { IsTrue result → AreAlike (bodies_of bridges.now) units.now }
-{
-    if bridges.len() != units.len() {
-        return false;
-    }
-    for k in 0..bridges.len() {
-        if !is_alike(&bridges[k].unit, &units[k]) {
-            return false;
-        }
-    }
-    true
-}
-
-/// The number of the one unit that an edit of a buffer changes, where each other one stays at its number.
-pub(crate) fn one_changed(
-    buffer: u32,
-    bridges: &[Bridge],
-    mods: &[Mod],
-    units: &[Unit],
-) -> Option<usize>
-    ensures { IfSome result (λ i. IsOneChanged i buffer mods.now (bodies_of bridges.now) units.now) }
+// The number of the one unit that an edit of a buffer changes.
+pub(crate) fn one_changed(buffer: u32, bridges: &[Bridge], mods: &[Mod]) -> Option<usize>
+    ensures { IfSome result (λ i. IsOneChanged i buffer mods.now (bodies_of bridges.now)) }
 {
     if buffer != 0 {
         return None;
     }
-    match changed_unit(bridges, mods) {
-        None => None,
-        Some(i) => {
-            if are_alike(bridges, units) {
-                Some(i)
-            } else {
-                None
-            }
-        }
-    }
+    changed_unit(bridges, mods)
 }
 
-// The unit of number k is the new one now. What is kept of it goes where it has changed.
-fn settle_one(bridge: &mut Bridge, unit: &mut Unit, k: usize, changed: bool)
-    ensures { bridge.new ≡ settled_one changed k bridge.old unit.old }
+// The unit of this number has this tree now, and nothing is kept of it. Answers whether what was kept sets no name.
+pub(crate) fn change_one(bridges: &mut [Bridge], tree: Tree, changed: usize) -> bool
+    requires { changed < length bridges.old }
+    ensures changed { bridges.new ≡ changed_in changed tree bridges.old }
+    ensures silent { IsTrue result → (b : Bridge) → slice_get bridges.old changed ≡ Some b
+        → IsSilent (wide_outcome b.kept) }
 {
-    mem::swap(&mut bridge.unit, unit);
-    bridge.renewed = false;
-    if changed {
-        bridge.kept = Outcome::Over;
-        bridge.source = None;
-    } else {
-        bridge.source = Some(k);
-    }
-}
-
-// Each unit is the new one of its number now. What is kept of the one that has changed goes.
-fn settle(bridges: &mut [Bridge], units: &mut [Unit], changed: usize)
-    requires many { length bridges.old ≡ length units.old }
-    ensures { bridges.new ≡ settled changed 0 bridges.old units.old }
-{
-    for k in 0..bridges.len() {
-        settle_one(&mut bridges[k], &mut units[k], k, k == changed);
-    }
-}
-
-/// The new units, with what the old ones give, where unit `changed` alone changes. All others stay where they are.
-pub(crate) fn settle_all(
-    buffer: u32,
-    before: &Tree,
-    mods: &[Mod],
-    bridges: &mut Vec<Bridge>,
-    units: Vec<Unit>,
-    changed: usize,
-)
-    requires applies { (u : WideTree) × (changed_by_all mods.now before.now ≡ Some u) }
-    requires units { AreUnits units.items }
-    requires sound { All IsSound bridges.old.items }
-    requires changed { IsOneChanged changed buffer mods.now (bodies_of bridges.old.items) units.items }
-    ensures given { bridges.new.items
-        ≡ given (mods_of buffer mods.now) before.now bridges.old.items units.items }
-    ensures numbers { sources_in bridges.new.items ≡ numbers_but changed 0 (length units.items) }
-{
-    let mut units = units;
-    settle(bridges, &mut units, changed);
+    bridges[changed].change(tree)
 }

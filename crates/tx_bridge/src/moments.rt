@@ -1,6 +1,7 @@
 // Units evaluated one behind the other.
 ghost use Rattle.std.specs.Prelude.{◌≡◌, ◌+◌, ◌*◌, ◌≤◌, IfOk, OnOk, OnErr};
 ghost use Rattle.tx_tree.specs.WideTree.{size_of};
+ghost use Rattle.tx_env.specs.Environments.{overlaid};
 ghost use Rattle.tx_origin.specs.Values.{plain};
 ghost use Rattle.tx_origin.specs.TaggedTrees.{tagged_of};
 ghost use Rattle.tx_exec.specs.Outcomes.{wide_outcome, NamesOnce};
@@ -11,12 +12,23 @@ use std::alloc::Global;
 use std::marker::Model;
 use std::sync::ledger::Ledger;
 use tx_base::{Memory, Steps};
-use tx_env::Env;
+use tx_env::{Env, Writes};
 use tx_exec::{Outcome, eval};
 use tx_exec_form::{size_law, trace_laws};
 use tx_origin::{Tagged, Value};
 use tx_tree::{Label, Text};
 use tx_view_form::{MOST_UNIT_STEPS, MOST_VIEW_STEPS};
+
+// Sets each name to its tree, in order. Where there is none, as with most paragraphs, it has nothing to do.
+fn set_names(env: &mut Env, writes: &Writes) -> Result<(), Memory>
+    ensures map { OnOk result (env.new.map ≡ overlaid env.old.map writes.now) }
+    ensures err { OnErr result (env.new ≡ env.old) }
+{
+    if writes.pairs().is_empty() {
+        return Ok(());
+    }
+    env.overlay(writes)
+}
 
 /// What names have before a unit, and the steps that are left.
 #[derive(Drop)]
@@ -98,7 +110,7 @@ impl Moment {
                 self.left -= allowance;
             }
             Outcome::Done(trace) => {
-                self.env.overlay(&trace.writes)?;
+                set_names(&mut self.env, &trace.writes)?;
                 self.left -= trace.cost;
             }
         }

@@ -13,6 +13,7 @@ use tx_cmd::{Command, parse};
 use tx_doc::{Buffer, Name};
 use tx_exec::Outcome;
 use tx_mod::{Mod, apply};
+use tx_tree::Tree;
 use tx_units::units;
 
 // How many units the base style has.
@@ -258,4 +259,87 @@ fn not_kept<L: Ledger>(alloc: Global, blank: Blank) -> Option<usize>
 #[test]
 fn edits_reach_what_they_change(rt: HostRuntime) {
     assert_eq!(rt; not_kept::<Brand>(rt.alloc(), Blank::new(1)), None);
+}
+
+// A buffer, an edit inside one paragraph of it, and the marks as above.
+type InPlace = (&'static str, &'static str, &'static str);
+
+const IN_PLACE: &[InPlace] = &[
+    ("d (document \"a\" \"b\" \"c\")", "insert /1 0 \"x\"", ".x."),
+    (
+        "d (document (assign \"n\" \"1\") \"b\" (value \"n\"))",
+        "assign /1 (value \"n\")",
+        ".x.",
+    ),
+    // a paragraph that sets a name now, one that sets it to another tree, and one that did
+    (
+        "d (document \"a\" (value \"n\"))",
+        "assign /0 (assign \"n\" \"1\")",
+        "xx",
+    ),
+    (
+        "d (document (assign \"n\" \"1\") (value \"n\"))",
+        "assign /0/1 \"2\"",
+        "xx",
+    ),
+    (
+        "d (document (assign \"n\" \"1\") (value \"n\"))",
+        "assign /0 \"a\"",
+        "xx",
+    ),
+];
+
+// What is kept behind an edit of the first buffer that is carried in place, and the tree then.
+fn edited_in_place<L: Ledger>(
+    alloc: Global,
+    buffers: &[Buffer],
+    line: &str,
+    steps: &mut Steps<L>,
+) -> Option<(Bridges, Tree)>
+    requires some { 1 ≤ length buffers.now }
+    requires few { length buffers.now ≤ 16 }
+{
+    unit_list_laws();
+    let mut bridges = from_nothing(alloc, buffers, steps)?;
+    let mods = vec![in alloc; change_of(alloc, line, steps)?].ok()?;
+    let before = &buffers[0].tree;
+    let after = apply(alloc, before, &mods[0], steps).ok()?;
+    let changed = bridges.one_changed(0, &mods)?;
+    let unit = bridges.unit(u32::try_from(changed).ok()?)?;
+    let path = unit.path.as_ref()?;
+    let tree = after.at(path)?.share().ok()?;
+    bridges.carry_in_place(before, &mods, tree, changed);
+    bridges.refresh(alloc, steps).ok()?;
+    Some((bridges, after))
+}
+
+// Whether the edit reaches what it is to reach.
+fn holds_in_place<L: Ledger>(alloc: Global, row: &InPlace, steps: &mut Steps<L>) -> Option<bool> {
+    let mut buffers = buffers_of(alloc, row.0, steps)?;
+    if buffers.is_empty() || buffers.len() > 16 {
+        return None;
+    }
+    let (bridges, after) = edited_in_place(alloc, &buffers, row.1, steps)?;
+    buffers[0].tree = after;
+    let fresh = from_nothing(alloc, &buffers, steps)?;
+    are_right(alloc, &bridges, &fresh, row.2.as_bytes(), steps)
+}
+
+fn not_kept_in_place<L: Ledger>(alloc: Global, blank: Blank) -> Option<usize>
+    requires name { blank.name ≡ L.name }
+    requires parts { blank.parts ≡ L.parts }
+    requires whole { blank.parts ≡ 1 }
+{
+    let mut steps = Steps::<L>::new(blank);
+    for (i, row) in IN_PLACE.iter().enumerate() {
+        if holds_in_place(alloc, row, &mut steps) != Some(true) {
+            return Some(i);
+        }
+    }
+    None
+}
+
+#[test]
+fn edits_in_place_reach_what_they_change(rt: HostRuntime) {
+    assert_eq!(rt; not_kept_in_place::<Brand>(rt.alloc(), Blank::new(1)), None);
 }

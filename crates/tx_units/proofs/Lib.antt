@@ -6,5 +6,8 @@ pub mod Finding
 pub mod Sound
 pub mod Few
 pub mod Placing
+pub mod Fronts
+pub mod Exchanged
+pub mod OneUnit
 pub mod Pairs
 pub mod Spelled

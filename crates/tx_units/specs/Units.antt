@@ -1,5 +1,5 @@
 -- The units of buffers: the trees that are evaluated one after the other.
-use Rattle.std.specs.Prelude.{ℕ, ◌+◌, List, [], ◌∷◌, ◌++◌, map, drop, codes, if◌then◌else◌, Some, None}
+use Rattle.std.specs.Prelude.{ℕ, zero, suc, ◌+◌, List, [], ◌∷◌, ◌++◌, map, drop, codes, if◌then◌else◌, Some, None}
 use Rattle.std.specs.List.{flat_map, enumerate_from, sum_by}
 use Rattle.std.specs.Option.{option_map_or}
 use Rattle.std.specs.Str.{bytes_eq}
@@ -79,6 +79,18 @@ front_units document styles = base_units ++ (style_units document styles ++ init
 -- the units of buffers, of which the first is the document and the others are loaded styles
 abbrev pub units : List Buffer → List DocUnit
 units buffers = front_units (document_of buffers) (drop 1 buffers) ++ body_units (document_of buffers)
+
+-- ---- one of them with another tree
+
+-- the unit, where it has this tree
+abbrev pub unit_with : WideTree → DocUnit → DocUnit
+unit_with t u = record u { tagged = record u.tagged { tree = t } }
+
+-- the units, of which that of number i has this tree
+abbrev pub units_with : ℕ → WideTree → List DocUnit → List DocUnit
+units_with i t [] = []
+units_with zero t (u ∷ us) = unit_with t u ∷ us
+units_with (suc i) t (u ∷ us) = u ∷ units_with i t us
 
 -- ---- what they are made of
 

@@ -1,7 +1,9 @@
 // What holds of all units.
-ghost use Rattle.std.specs.Prelude.{◌≤◌, ◌<◌, ◌^◌, length};
+ghost use Rattle.std.specs.Prelude.{◌≤◌, ◌<◌, ◌^◌, ℕ, List, length};
 ghost use Rattle.std.specs.List.{AllByRecursion};
 ghost use Rattle.tx_tree.specs.WideTree.{WideTree};
+ghost use Rattle.tx_doc.specs.declared.buffer.Buffer.{Buffer as Named};
+ghost use Rattle.tx_units.specs.Inside.{ChangesOne};
 ghost use Rattle.tx_units.specs.Places.{StandsIn, NoneBegins};
 ghost use Rattle.tx_units.specs.Units.{body_units, units};
 
@@ -20,4 +22,10 @@ pub fn unit_count_law(buffers: &[Buffer])
 pub fn body_laws()
     ensures stand { (t : WideTree) → AllByRecursion (StandsIn t) (body_units t) }
     ensures apart { (t : WideTree) → NoneBegins (body_units t) }
+{}
+
+/// A law: where another tree takes the place of a paragraph of the document, as `leaves_others` allows, the unit of this
+/// paragraph has the other tree, and all other units stay as they are, the paths included.
+pub fn inside_law()
+    ensures { (buffers : List Named) (i : ℕ) (t x : WideTree) → ChangesOne buffers i t x }
 {}

@@ -10,6 +10,7 @@ mod base;
 mod bodies;
 mod documents;
 mod initial;
+mod inside;
 mod kinds;
 mod laws;
 mod lists;
@@ -17,6 +18,7 @@ mod styles;
 mod tags;
 
 pub use base::base_units;
+pub use inside::leaves_others;
 pub use kinds::{Unit, UnitKind};
-pub use laws::{body_laws, unit_count_law};
+pub use laws::{body_laws, inside_law, unit_count_law};
 pub use lists::{front_units, units, with_body};

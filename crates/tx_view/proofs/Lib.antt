@@ -14,6 +14,8 @@ pub mod Onward
 pub mod Moved
 pub mod Staying
 pub mod Blank
+pub mod Changing
+pub mod Exchanging
 pub mod Holding
 pub mod Standing
 pub mod Parts

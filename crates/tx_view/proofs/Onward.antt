@@ -148,7 +148,7 @@ next_is allowed over law width e f m after x y a o n work weight is_o trace laid
       behind_is = is_after ∙ ap (behind m) trace;
       laid_out = here;
       attributes = is_laid ∙ ap Some is_a;
-      lines = few_lines b v m after (length y.lines.items) paid heavy (over b) here.few_lines;
+      lines = few_lines b v m after (length y.lines) paid heavy (over b) here.few_lines;
       errors = few_errors v m after (length y.errors.items) paid here.few_errors;
       work_is =
           charged f n (m.left - after.left) (charge m (outcome_of m e.unit)) work is_work taken

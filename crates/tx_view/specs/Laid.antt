@@ -25,7 +25,7 @@ laid_in xs = map (λ x. x.laid) xs
 -- this is shown of a unit with this path, where these are the attributes before it and this is its value
 pub record IsLaidOut (width : ℕ) (a : Attrs) (v : WideValue) (path : Option (List ℕ)) (x : Shown) : Type 0 where
   pub shown : IsShown width a v path (unit_view x)
-  pub few_lines : length x.lines.items ≤ weight_of (shown_paragraphs a v)
+  pub few_lines : length x.lines ≤ weight_of (shown_paragraphs a v)
   pub few_errors : length x.errors.items ≤ size_of (plain v)
 
 -- What is shown has the unit's path. Where it was laid out for some attributes, it is what these and what is kept of
@@ -77,7 +77,7 @@ pub record IsNext (width : ℕ) (e : Entry) (f : Bool) (before after : Moment) (
   pub behind_is : after ≡ behind before (outcome_of before e.unit)
   pub laid_out : IsLaidOut width (attributes_of before.env) (value_of e.trace) e.unit.path y
   pub attributes : y.laid ≡ Some (attributes_of before.env)
-  pub lines : length y.lines.items + 242 * after.left ≤ 242 * before.left + 49
+  pub lines : length y.lines + 242 * after.left ≤ 242 * before.left + 49
   pub errors : length y.errors.items + after.left ≤ before.left + 7
   pub work_is : work ≡ (if f then charge before (outcome_of before e.unit) else 0)
       + (if is_laid_for x.laid (attributes_of before.env) then 0 else items_of before e.unit)
@@ -90,7 +90,7 @@ pub record IsBlank (path : Option (List ℕ)) (x : Shown) : Type 0 where
   pub path_is : x.path ≡ path
   pub laid : x.laid ≡ None
   pub paragraphs : x.paragraphs.items ≡ []
-  pub lines : x.lines.items ≡ []
+  pub lines : x.lines ≡ []
 
 abbrev pub AreBlank : List DocUnit → List Shown → Type 0
 AreBlank [] [] = Unit {0}

@@ -9,8 +9,8 @@ use Rattle.tx_view.specs.declared.shown.Shown.{Shown}
 -- this unit has the row, under this number
 pub record HasRow (xs : List Shown) (r : ℕ) (x : Shown) (k : ℕ) : Type 0 where
   pub row : row_in (unit_views xs) r ≡ Some (unit_view x, k)
-  pub within : k < length x.lines.items
-  pub line : slice_get (lines_of (unit_views xs)) r ≡ slice_get x.lines.items k
+  pub within : k < length x.lines
+  pub line : slice_get (lines_of (unit_views xs)) r ≡ slice_get x.lines k
 
 abbrev pub IsRow : List Shown → ℕ → Option (ℕ × ℕ) → Type 0
 IsRow xs r None = (row_in (unit_views xs) r ≡ None) × (slice_get (lines_of (unit_views xs)) r ≡ None)

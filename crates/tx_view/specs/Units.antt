@@ -9,7 +9,7 @@ use Rattle.tx_view_form.specs.Positions.{IsShort}
 use Rattle.tx_view.specs.declared.shown.Shown.{Shown}
 
 abbrev pub unit_view : Shown → UnitView
-unit_view s = record { path = s.path; errors = s.errors.items; paragraphs = s.paragraphs.items; lines = s.lines.items }
+unit_view s = record { path = s.path; errors = s.errors.items; paragraphs = s.paragraphs.items; lines = s.lines }
 
 abbrev pub unit_views : List Shown → List UnitView
 unit_views xs = map unit_view xs

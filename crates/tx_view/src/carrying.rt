@@ -1,6 +1,6 @@
 // What is shown of units goes with them through an edit.
 ghost use Rattle.std.specs.Prelude.{◌≡◌, ℕ, ◌+◌, ◌≤◌, ◌<◌, ◌^◌, length, slice_get, if◌then◌else◌, IfOk, OnOk, OnErr};
-ghost use Rattle.std.specs.Prelude.{Some, None};
+ghost use Rattle.std.specs.Prelude.{Some, None, IfSome};
 ghost use Rattle.tx_tree.specs.WideTree.{WideTree};
 ghost use Rattle.tx_mod.specs.Followed.{changed_by_all};
 ghost use Rattle.tx_mod.specs.InTurn.{cost_of};
@@ -8,13 +8,14 @@ ghost use Rattle.tx_doc.specs.Buffers.{tree_of, with_tree};
 ghost use Rattle.tx_units.specs.Units.{units, made};
 ghost use Rattle.tx_bridge.specs.Entries.{units_of};
 ghost use Rattle.tx_bridge.specs.Names.{Carry, Sources};
-ghost use Rattle.tx_bridge.specs.UnitLists.{AreUnits};
 ghost use Rattle.tx_bridge.specs.Carrying.{AllStand, AreSameBodies};
+ghost use Rattle.tx_view.specs.Exchanged.{IsNow, IsExchanged};
 ghost use Rattle.tx_view.specs.Laid.{IsBlank, AreBlank, with_shown, shown_at, moved};
 ghost use Rattle.tx_view.specs.Laid.{StayBut, IsTarget, IsFew, IsMoved};
 
 use crate::sharing::shared;
 use crate::shown::Shown;
+use crate::unit_lines::UnitLines;
 use std::alloc::Global;
 use std::mem;
 use std::sync::ledger::Ledger;
@@ -23,7 +24,7 @@ use tx_bridge::{Bridges, unit_list_laws};
 use tx_doc::Buffer;
 use tx_mod::Mod;
 use tx_tree::{Path, Tree};
-use tx_units::{Unit, unit_count_law, units};
+use tx_units::{Unit, inside_law, leaves_others, unit_count_law, units};
 
 // The buffers with this tree in place of that of one of them.
 fn with_tree(
@@ -59,7 +60,7 @@ fn blank(alloc: Global, unit: &Unit) -> Result<Shown, Memory>
         laid: None,
         errors: Vec::new(alloc),
         paragraphs: Vec::new(alloc),
-        lines: Vec::new(alloc),
+        lines: UnitLines::none(alloc),
     })
 }
 
@@ -206,46 +207,119 @@ pub(crate) fn move_shown(
     }
 }
 
-// What is kept of the old units goes to the new ones, and what is shown is to go to the target.
-fn carried_kept<L: Ledger>(
+// The tree that stands where the unit's paragraph stood, if all other units stay with it.
+fn paragraph_now<'a>(unit: &Unit, tree: &'a Tree) -> Option<&'a Tree>
+    ensures { IfSome result (λ x. IsNow unit.now tree.now x.now) }
+{
+    let path = unit.path.as_ref()?;
+    let paragraph = tree.at(path)?;
+    if leaves_others(path, &unit.tagged.tree, paragraph) {
+        Some(paragraph)
+    } else {
+        None
+    }
+}
+
+// The number of the one unit that an edit changes, and its paragraph afterwards. None says nothing.
+fn exchanged(
+    bridges: &Bridges,
+    buffer: u32,
+    mods: &[Mod],
+    tree: &Tree,
+) -> Result<Option<(usize, Tree)>, Memory>
+    requires few { length (units_of bridges.now.kept) < 2 ^ 32 }
+    ensures { IfOk result (λ o. IfSome o (λ p.
+        IsExchanged p.0 buffer mods.now tree.now p.1 (units_of bridges.now.kept))) }
+{
+    let Some(changed) = bridges.one_changed(buffer, mods) else {
+        return Ok(None);
+    };
+    let Some(unit) = bridges.unit(changed as u32) else {
+        return Ok(None);
+    };
+    match paragraph_now(unit, tree) {
+        None => Ok(None),
+        Some(paragraph) => Ok(Some((changed, paragraph.share()?))),
+    }
+}
+
+// What is kept of the old units goes to those of the buffers afterwards, of which nothing is laid out.
+fn carried_anew<L: Ledger>(
     alloc: Global,
     bridges: &mut Bridges,
+    after: &[Buffer],
     buffer: u32,
     before: &Tree,
     mods: &[Mod],
-    made: Vec<Unit>,
     steps: &mut Steps<L>,
-) -> Result<Target, Memory>
-    requires few { length made.items < 2 ^ 32 }
+) -> Result<Vec<Shown>, Memory>
+    requires some { 1 ≤ length after.now }
+    requires few { length after.now ≤ 64 }
     requires applies { (u : WideTree) × (changed_by_all mods.now before.now ≡ Some u) }
-    requires units { AreUnits made.items }
     requires old { buffer ≡ 0 → AllStand before.now (units_of bridges.old.kept) }
     requires new { buffer ≡ 0 → (u : WideTree) → changed_by_all mods.now before.now ≡ Some u
-        → AllStand u made.items }
-    requires same { (buffer ≡ 0 → ⊥) → AreSameBodies (units_of bridges.old.kept) made.items }
-    ensures target { IfOk result
-        (λ to. IsTarget (units_of bridges.old.kept) made.items bridges.new.sources to) }
-    ensures few { IfOk result (λ to. IsFew to) }
+        → AllStand u (units after.now) }
+    requires same { (buffer ≡ 0 → ⊥) → AreSameBodies (units_of bridges.old.kept) (units after.now) }
+    ensures blank { IfOk result (λ new. AreBlank (units after.now) new.items) }
+    ensures few { IfOk result (λ new. length new.items < 2 ^ 32) }
     ensures carried { OnOk result
-        (bridges.new.kept ≡ Carry buffer mods.now before.now bridges.old.kept made.items) }
+        (bridges.new.kept ≡ Carry buffer mods.now before.now bridges.old.kept (units after.now)) }
     ensures sources { OnOk result
-        (bridges.new.sources ≡ Sources buffer mods.now before.now (units_of bridges.old.kept) made.items) }
+        (bridges.new.sources ≡ Sources buffer mods.now before.now (units_of bridges.old.kept) (units after.now)) }
     ensures once { OnOk result ((i j k : ℕ) → slice_get bridges.new.sources j ≡ Some (Some i)
         → slice_get bridges.new.sources k ≡ Some (Some i) → j ≡ k) }
-    ensures units { OnOk result (units_of bridges.new.kept ≡ made.items) }
-    ensures counted { steps.new ≤ steps.old + cost_of mods.now }
+    ensures units { OnOk result (units_of bridges.new.kept ≡ units after.now) }
+    ensures counted { steps.new ≤ steps.old + (cost_of mods.now + made after.now) }
     ensures refused { OnErr result (bridges.new ≡ bridges.old) }
 {
-    match bridges.one_changed(buffer, mods, &made) {
-        Some(changed) => {
-            bridges.carry_in_place(buffer, before, mods, made, changed);
+    unit_list_laws();
+    unit_count_law(after);
+    let made = units(alloc, after, steps)?;
+    let new = blanks(alloc, &made)?;
+    bridges.carry(alloc, buffer, before, mods, made, steps)?;
+    Ok(new)
+}
+
+// What is kept of the old units goes to those of the buffers after the edit, and what is shown is to go to the target.
+fn carried_kept<L: Ledger>(
+    alloc: Global,
+    bridges: &mut Bridges,
+    buffers: &[Buffer],
+    after: &[Buffer],
+    buffer: u32,
+    mods: &[Mod],
+    tree: &Tree,
+    steps: &mut Steps<L>,
+) -> Result<Target, Memory>
+    requires some { 1 ≤ length buffers.now }
+    requires few { length buffers.now ≤ 64 }
+    requires within { buffer < length buffers.now }
+    requires changed { changed_by_all mods.now (tree_of buffers.now buffer) ≡ Some tree.now }
+    requires of_buffers { units_of bridges.old.kept ≡ units buffers.now }
+    requires after { after.now ≡ with_tree buffers.now buffer tree.now }
+    ensures target { IfOk result
+        (λ to. IsTarget (units_of bridges.old.kept) (units after.now) bridges.new.sources to) }
+    ensures few { IfOk result (λ to. IsFew to) }
+    ensures kept { OnOk result (bridges.new.kept
+        ≡ Carry buffer mods.now (tree_of buffers.now buffer) bridges.old.kept (units after.now)) }
+    ensures sources { OnOk result (bridges.new.sources ≡ Sources buffer mods.now (tree_of buffers.now buffer)
+        (units_of bridges.old.kept) (units after.now)) }
+    ensures once { OnOk result ((i j k : ℕ) → slice_get bridges.new.sources j ≡ Some (Some i)
+        → slice_get bridges.new.sources k ≡ Some (Some i) → j ≡ k) }
+    ensures units { OnOk result (units_of bridges.new.kept ≡ units after.now) }
+    ensures counted { steps.new ≤ steps.old + (cost_of mods.now + made after.now) }
+    ensures refused { OnErr result (bridges.new ≡ bridges.old) }
+{
+    unit_list_laws();
+    inside_law();
+    unit_count_law(buffers);
+    let before = &buffers[buffer as usize].tree;
+    match exchanged(bridges, buffer, mods, tree)? {
+        Some((changed, paragraph)) => {
+            bridges.carry_in_place(before, mods, paragraph, changed);
             Ok(Target::InPlace(changed))
         }
-        None => {
-            let new = blanks(alloc, &made)?;
-            bridges.carry(alloc, buffer, before, mods, made, steps)?;
-            Ok(Target::Onto(new))
-        }
+        None => Ok(Target::Onto(carried_anew(alloc, bridges, after, buffer, before, mods, steps)?)),
     }
 }
 
@@ -280,11 +354,7 @@ pub(crate) fn carried<L: Ledger>(
     ensures counted { steps.new ≤ steps.old
         + (cost_of mods.now + made (with_tree buffers.now buffer tree.now)) }
 {
-    unit_list_laws();
     let after = with_tree(alloc, buffers, buffer, tree)?;
-    unit_count_law(&after);
-    let made = units(alloc, &after, steps)?;
-    let before = &buffers[buffer as usize].tree;
-    let target = carried_kept(alloc, bridges, buffer, before, mods, made, steps)?;
+    let target = carried_kept(alloc, bridges, buffers, &after, buffer, mods, tree, steps)?;
     Ok((after, target))
 }

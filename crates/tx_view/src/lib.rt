@@ -15,6 +15,7 @@ mod sharing;
 mod shown;
 mod starts;
 mod stops;
+mod unit_lines;
 mod view;
 mod words;
 

@@ -18,7 +18,7 @@ pub(crate) fn first_rows(alloc: Global, units: &[Shown]) -> Result<Vec<u32>, Mem
     let mut count = 0u32;
     for unit in units {
         firsts.push(count)?;
-        count += unit.lines.len() as u32;
+        count += unit.lines.all().len() as u32;
     }
     firsts.push(count)?;
     Ok(firsts)

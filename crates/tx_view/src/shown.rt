@@ -9,6 +9,7 @@ ghost use Rattle.tx_view_form.specs.Weights.{weight_of};
 ghost use Rattle.tx_view.specs.Units.{unit_view, IsReadable};
 ghost use Rattle.tx_view.specs.Costs.{items_in};
 
+use crate::unit_lines::UnitLines;
 use std::alloc::Global;
 use std::sync::ledger::Ledger;
 use tx_base::{Memory, Steps};
@@ -27,7 +28,7 @@ pub(crate) struct Shown {
     pub(crate) laid: Option<Attrs>,
     pub(crate) errors: Vec<ErrorAt>,
     pub(crate) paragraphs: Vec<Paragraph>,
-    pub(crate) lines: Vec<Line>,
+    pub(crate) lines: UnitLines,
 }
 
 // The lines of paragraphs, one paragraph after the other.
@@ -44,7 +45,7 @@ fn lines_of<L: Ledger>(
     ensures lines { IfOk result (λ ls. AreLines width paragraphs.now ls.items) }
     ensures counted { OnOk result (steps.new ≡ steps.old + items_in paragraphs.now) }
 {
-    let mut all = Vec::new(alloc);
+    let mut all = Vec::with_capacity(alloc, paragraphs.len())?;
     for paragraph in paragraphs {
         let mut own = lines(alloc, paragraph, width, steps)?;
         all.append(&mut own)?;
@@ -67,7 +68,7 @@ pub(crate) fn show<L: Ledger>(
     ensures shown { IfOk result (λ s. IsShown width attrs value.now path.now (unit_view s)) }
     ensures laid { IfOk result (λ s. s.laid ≡ Some attrs) }
     ensures readable { IfOk result (λ s. IsReadable (unit_view s)) }
-    ensures few_lines { IfOk result (λ s. length s.lines.items ≤ weight_of (shown_paragraphs attrs value.now)) }
+    ensures few_lines { IfOk result (λ s. length s.lines ≤ weight_of (shown_paragraphs attrs value.now)) }
     ensures few_errors { IfOk result (λ s. length s.errors.items ≤ size_of (plain value.now)) }
     ensures counted { OnOk result (steps.new ≡ steps.old + items_in (paragraphs_at path.now attrs value.now)) }
 {
@@ -81,7 +82,7 @@ pub(crate) fn show<L: Ledger>(
             laid: Some(attrs),
             errors,
             paragraphs: Vec::new(alloc),
-            lines: Vec::new(alloc),
+            lines: UnitLines::none(alloc),
         });
     };
     let own = path.copy(alloc)?;
@@ -91,6 +92,6 @@ pub(crate) fn show<L: Ledger>(
         laid: Some(attrs),
         errors,
         paragraphs,
-        lines,
+        lines: UnitLines::new(lines),
     })
 }

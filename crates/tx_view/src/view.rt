@@ -98,7 +98,7 @@ fn paged(alloc: Global, units: &[Shown], height: u32) -> Result<Vec<Cut>, Memory
 {
     let mut paginator = Paginator::new(alloc, height);
     for unit in units {
-        paginator.add(&unit.lines)?;
+        unit.lines.tell(&mut paginator)?;
     }
     paginator.finish()
 }
@@ -353,7 +353,7 @@ impl View {
             MatchOption result (found ≡ None) (λ l. found ≡ Some l.now) }
     {
         let (unit, number) = row_in(&self.rows, &self.units, r)?;
-        self.units[unit].lines.get(number)
+        self.units[unit].lines.all().get(number)
     }
 
     /// The cluster that covers column c of row r, or None where nothing is drawn there.
@@ -400,7 +400,7 @@ impl View {
         let (unit, number) = row_in(&self.rows, &self.units, r)?;
         let shown = &self.units[unit];
         let path = shown.path.as_ref()?;
-        Some(place_in(path, &shown.lines, number, c))
+        Some(place_in(path, shown.lines.all(), number, c))
     }
 
     /// The places at which a cursor stops, of equal ones the first.

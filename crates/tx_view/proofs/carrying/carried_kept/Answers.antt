@@ -1,12 +1,64 @@
-use Rattle.std.proofs.Common.{ap, arith, length}
-use Rattle.tx_view.proofs.Blank.{blank_many}
+use Rattle.std.proofs.Common.{◌∙◌, List, ap, sym, rules}
+use Rattle.tx_mod.specs.Followed.{changed_by_all}
+use Rattle.tx_units.specs.declared.kinds.Unit.{Unit as DocUnit}
+use Rattle.tx_units.specs.Units.{units}
+use Rattle.tx_bridge.specs.Entries.{units_of}
+use Rattle.tx_bridge.specs.Names.{Carry, Sources}
+use Rattle.tx_view.specs.Exchanged.{IsExchanged}
+use Rattle.tx_view.proofs.Blank.{tree_at}
+use Rattle.tx_view.proofs.Exchanging.{exchanged_units, in_place}
 use Rattle.tx_view.proofs.carrying.carried_kept.Goals as goal
 
-pub returns-in_ok-carry-in-None-clause-few : goal.returns-in_ok-carry-in-None-clause-few
-returns-in_ok-carry-in-None-clause-few g c =
-    omega (
-      arith,
-      blank_many c.deref-in-None.result.now c.in_ok-new-in-None.new.items c.in_ok-new-in-None.ensures,
-      ap length c.deref-in-None.ensures.value,
-      c.requires.few,
-    )
+pub carry_in_place-requires-clause-applies : goal.carry_in_place-requires-clause-applies
+carry_in_place-requires-clause-applies g c = (
+  c.args.tree.now,
+  ap (changed_by_all c.args.mods.now)
+      (sym (tree_at c.args.buffers.now c.args.buffer c.index-buffers-buffer.result c.requires.within))
+      ∙ c.requires.changed,
+)
+
+pub carried_anew-requires-clause-applies : goal.carried_anew-requires-clause-applies
+carried_anew-requires-clause-applies g c = (
+  c.args.tree.now,
+  ap (changed_by_all c.args.mods.now)
+      (sym (tree_at c.args.buffers.now c.args.buffer c.index-buffers-buffer.result c.requires.within))
+      ∙ c.requires.changed,
+)
+
+pub returns-in-Some : goal.returns-in-Some
+returns-in-Some g c =
+    let us : List DocUnit = units_of c.args.bridges.now.kept in
+    let h : IsExchanged c.in-Some.changed c.args.buffer c.args.mods.now c.args.tree.now c.in-Some.paragraph us =
+    rw c.in-Some.is at c.in_ok-changed.ensures in
+    let now = ap units c.requires.after
+    ∙ exchanged_units c.args.buffers.now c.args.buffer c.in-Some.changed c.args.mods.now c.args.tree.now
+    c.in-Some.paragraph us
+    (c.inside_law.ensures c.args.buffers.now c.in-Some.changed c.args.tree.now c.in-Some.paragraph) h
+    c.requires.of_buffers c.requires.changed in
+    let p = in_place c.args.buffer c.in-Some.changed c.args.mods.now _ _ c.in-Some.paragraph c.args.bridges.now.kept
+    c.carry_in_place.new.self.kept c.carry_in_place.new.self.sources (units c.args.after.now) h.one.document
+    (tree_at c.args.buffers.now c.args.buffer c.index-buffers-buffer.result c.requires.within) now
+    c.carry_in_place.ensures.carried c.carry_in_place.ensures.sources c.carry_in_place.ensures.numbers
+    c.carry_in_place.ensures.units in
+    record {
+      target = p.target;
+      few = search rules;
+      kept = p.kept_is;
+      sources = p.sources;
+      once = c.carry_in_place.ensures.once;
+      units = p.units_are;
+      counted = search rules;
+      refused = search rules;
+    }
+
+pub returns-in_ok-carried_anew-in-None-clause-kept : goal.returns-in_ok-carried_anew-in-None-clause-kept
+returns-in_ok-carried_anew-in-None-clause-kept g c =
+    c.in_ok-carried_anew-in-None.ensures.carried
+    ∙ ap (λ t. Carry c.args.buffer c.args.mods.now t c.args.bridges.now.kept (units c.args.after.now))
+    (sym (tree_at c.args.buffers.now c.args.buffer c.index-buffers-buffer.result c.requires.within))
+
+pub returns-in_ok-carried_anew-in-None-clause-sources : goal.returns-in_ok-carried_anew-in-None-clause-sources
+returns-in_ok-carried_anew-in-None-clause-sources g c =
+    c.in_ok-carried_anew-in-None.ensures.sources
+    ∙ ap (λ t. Sources c.args.buffer c.args.mods.now t (units_of c.args.bridges.now.kept) (units c.args.after.now))
+    (sym (tree_at c.args.buffers.now c.args.buffer c.index-buffers-buffer.result c.requires.within))

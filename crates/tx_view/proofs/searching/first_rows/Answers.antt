@@ -1,11 +1,11 @@
-use Rattle.std.proofs.Common.{◌≡◌, ◌+◌, length, refl, ap, rules, arith}
+use Rattle.std.proofs.Common.{◌≡◌, ◌+◌, length, refl, ap, arith}
 use Rattle.tx_view_form.specs.Views.{UnitView}
 use Rattle.tx_view.proofs.UnitRows.{sums_fit, sums_next}
 use Rattle.tx_view.proofs.searching.first_rows.Goals as goal
 
 pub overflow_cast-count : goal.overflow_cast-count
 overflow_cast-count c =
-    let n : c.len.result ≡ length c.unit-item.result.lines.items = search rules in
+    let n : length c.all.result.now ≡ length c.unit-item.result.lines = ap length c.all.ensures in
     omega (
       arith,
       sums_fit (λ (x : UnitView). x.lines) c.args.units.now c.loop-unit.unit-index c.unit-item.result
@@ -16,7 +16,7 @@ overflow_cast-count c =
 
 pub overflow_add-count : goal.overflow_add-count
 overflow_add-count c =
-    let n : c.len.result ≡ length c.unit-item.result.lines.items = search rules in
+    let n : length c.all.result.now ≡ length c.unit-item.result.lines = ap length c.all.ensures in
     omega (
       arith,
       sums_fit (λ (x : UnitView). x.lines) c.args.units.now c.loop-unit.unit-index c.unit-item.result
@@ -28,10 +28,10 @@ overflow_add-count c =
 
 pub loop-unit-preserved : goal.loop-unit-preserved
 loop-unit-preserved c =
-    let n : c.len.result ≡ length c.unit-item.result.lines.items = search rules in
+    let n : length c.all.result.now ≡ length c.unit-item.result.lines = ap length c.all.ensures in
     let so = sums_next (λ (x : UnitView). x.lines) (λ (x : UnitView). length x.lines) (λ x. refl) c.args.units.now
     c.loop-unit.unit-index c.unit-item.result
-    c.loop-unit.firsts.items c.push.new.self.items c.loop-unit.count (c.loop-unit.count + c.len.result)
+    c.loop-unit.firsts.items c.push.new.self.items c.loop-unit.count (c.loop-unit.count + length c.all.result.now)
     c.loop-unit-test.true c.unit-item.is
     (record { firsts_are = c.loop-unit.invariant.firsts_are; count_is = c.loop-unit.invariant.count_is })
     c.in_ok-push.ensures.items

@@ -7,7 +7,7 @@ use Rattle.tx_view.proofs.shown.lines_of.Goals as goal
 
 pub loop-paragraph-init : goal.loop-paragraph-init
 loop-paragraph-init g c = record {
-  lines = subst (λ (ls : List Line). AreLines c.args.width [] ls) (sym c.new-all.ensures.items) no_lines;
+  lines = subst (λ (ls : List Line). AreLines c.args.width [] ls) (sym c.in_ok-all.ensures.items) no_lines;
   counted = omega arith;
 }
 

@@ -1,6 +1,7 @@
 use Rattle.std.proofs.Common.{◌∙◌, List, sym, subst, arith}
 use Rattle.std.specs.List.{All}
 use Rattle.tx_items.specs.declared.drawing.Paragraph.{Paragraph}
+use Rattle.tx_layout.specs.declared.layout.Line.{Line}
 use Rattle.tx_view_form.specs.Positions.{IsShort}
 use Rattle.tx_view_form.specs.Views.{AreLines}
 use Rattle.tx_items.specs.Shows.{shown_paragraphs}
@@ -11,8 +12,8 @@ use Rattle.tx_view.proofs.shown.show.Goals as goal
 pub returns-in_default-clause-shown : goal.returns-in_default-clause-shown
 returns-in_default-clause-shown g c =
     shown_nowhere c.args.width c.args.attrs c.args.value.now c.args.path.now c.in_ok-paragraphs.errors.items
-    c.new.result.items c.new-in_default.result.items
-    c.in_default.is c.in_ok-paragraphs.ensures.errors c.new.ensures.items c.new-in_default.ensures.items
+    c.new.result.items c.none.result
+    c.in_default.is c.in_ok-paragraphs.ensures.errors c.new.ensures.items c.none.ensures
 
 pub returns-in_default-clause-counted : goal.returns-in_default-clause-counted
 returns-in_default-clause-counted g c =
@@ -34,8 +35,9 @@ returns-clause-readable g c =
     record {
       placed = λ e. cc;
       short =
-          c.short_law.ensures.lines c.args.width c.in_ok-paragraphs.paragraphs.items c.in_ok-lines.lines.items
+          subst (λ (ls : List Line). All (λ line. All IsShort line.items) ls) (sym c.new-2.ensures)
+          (c.short_law.ensures.lines c.args.width c.in_ok-paragraphs.paragraphs.items c.in_ok-lines.lines.items
           (subst (λ (ps : List Paragraph). AreLines c.args.width ps c.in_ok-lines.lines.items) c.deref.ensures.value
-          c.in_ok-lines.ensures.lines) short_items;
+          c.in_ok-lines.ensures.lines) short_items);
       short_items = short_items;
     }

@@ -1,4 +1,4 @@
-use Rattle.std.proofs.Common.{◌≡◌, ◌++◌, ◌∙◌, ℕ, List, length, take, ap, sym, subst, arith, take_all}
+use Rattle.std.proofs.Common.{◌≡◌, ℕ, List, take, sym, subst, arith, take_all}
 use Rattle.std.proofs.lemmas.Result.{IfOk-weaker}
 use Rattle.tx_layout.specs.declared.layout.Line.{Line}
 use Rattle.tx_layout.specs.Paging.{PagesFrom}
@@ -9,12 +9,11 @@ use Rattle.tx_view.specs.declared.shown.Shown.{Shown}
 use Rattle.tx_view.proofs.UnitRows.{all_more, sums_fit}
 use Rattle.tx_view.proofs.view.paged.Goals as goal
 
-pub add-requires : goal.add-requires
-add-requires c = record {
+pub tell-requires : goal.tell-requires
+tell-requires c = record {
   few =
       omega (
         arith,
-        ap length c.deref.ensures.value,
         c.loop-unit.invariant.number,
         sums_fit (λ (x : UnitView). x.lines) c.args.units.now c.loop-unit.unit-index c.unit-item.result
             c.loop-unit-test.true c.unit-item.is,
@@ -25,10 +24,9 @@ add-requires c = record {
 pub loop-unit-preserved : goal.loop-unit-preserved
 loop-unit-preserved c =
     let before : List Line = lines_of (unit_views (take c.loop-unit.unit-index c.args.units.now)) in
-    subst (λ (ls : List Line). HasTold ls c.args.height c.add.new.self)
-    (ap (λ ls. before ++ ls) c.deref.ensures.value
-    ∙ sym (all_more (λ (x : UnitView). x.lines) c.args.units.now c.loop-unit.unit-index c.unit-item.result
-    c.loop-unit-test.true c.unit-item.is)) (c.in_ok-add.ensures.told before c.args.height c.loop-unit.invariant)
+    subst (λ (ls : List Line). HasTold ls c.args.height c.tell.new.paginator)
+    (sym (all_more (λ (x : UnitView). x.lines) c.args.units.now c.loop-unit.unit-index c.unit-item.result
+    c.loop-unit-test.true c.unit-item.is)) (c.in_ok-tell.ensures.told before c.args.height c.loop-unit.invariant)
 
 pub returns : goal.returns
 returns c =

@@ -1,13 +1,6 @@
-use Rattle.std.proofs.Common.{true, sym, ◌∙◌}
-use Rattle.tx_origin.specs.TaggedTrees.{tagged_of}
-use Rattle.tx_exec.specs.Outcomes.{wide_outcome}
-use Rattle.tx_bridge.proofs.Used.{fits_is, sound_with}
+use Rattle.std.proofs.Common.{true}
+use Rattle.tx_bridge.proofs.Used.{sound_with}
 use Rattle.tx_bridge.proofs.bridge.Bridge.renew.Goals as goal
-
-pub returns-then-fits-clause-fresh : goal.returns-then-fits-clause-fresh
-returns-then-fits-clause-fresh g c =
-    fits_is c.args.moment.now (wide_outcome c.args.self.now.kept) (tagged_of c.args.self.now.unit.tagged)
-    c.requires.sound.holds (sym c.fits.ensures ∙ c.if-fits.true)
 
 pub returns-clause-sound : goal.returns-clause-sound
 returns-clause-sound g c =

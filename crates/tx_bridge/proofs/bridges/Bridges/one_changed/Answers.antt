@@ -9,8 +9,8 @@ use Rattle.tx_bridge.proofs.bridges.Bridges.one_changed.Goals as goal
 
 pub returns : goal.returns
 returns c =
-    let P : List DocUnit → Type 0 = λ us.
-    IfSome c.one_changed.result (λ i. IsOneChanged i c.args.buffer c.args.mods.now us c.args.units.now) in
+    let P : List DocUnit → Type 0 = λ us. IfSome c.one_changed.result
+    (λ i. IsOneChanged i c.args.buffer c.args.mods.now us) in
     subst P
     (ap bodies_of c.deref.ensures.value ∙ sym (units_bodies c.self.inside.bridges.items)
     ∙ ap (λ b. units_of b.kept) c.self.view_is) c.one_changed.ensures

@@ -8,7 +8,7 @@ use Rattle.tx_bridge.proofs.bridges.Bridges.outcome.Goals as goal
 
 pub returns-in-None-clause-holds : goal.returns-in-None-clause-holds
 returns-in-None-clause-holds c =
-    hold_all c.self.inside.bridges.items c.args.self.now.kept (ap (λ b. b.kept) c.self.view_is) c.self.invariant
+    hold_all c.self.inside.bridges.items c.args.self.now.kept (ap (λ b. b.kept) c.self.view_is) c.self.invariant.sound
 
 pub returns-in-Some-clause-found : goal.returns-in-Some-clause-found
 returns-in-Some-clause-found c =
@@ -20,4 +20,4 @@ returns-in-Some-clause-found c =
 
 pub returns-in-Some-clause-holds : goal.returns-in-Some-clause-holds
 returns-in-Some-clause-holds c =
-    hold_all c.self.inside.bridges.items c.args.self.now.kept (ap (λ b. b.kept) c.self.view_is) c.self.invariant
+    hold_all c.self.inside.bridges.items c.args.self.now.kept (ap (λ b. b.kept) c.self.view_is) c.self.invariant.sound

@@ -3,8 +3,12 @@ use Rattle.tx_bridge.proofs.Arrived.{started}
 use Rattle.tx_bridge.proofs.bridges.Bridges.start.Goals as goal
 
 pub invariant_of-result : goal.invariant_of-result
-invariant_of-result c =
-    (started c.in_ok-bridges_of.field-0.items c.args.units.items c.in_ok-bridges_of.ensures c.requires.units.placed).0
+invariant_of-result c = record {
+  sound =
+      (started c.in_ok-bridges_of.field-0.items c.args.units.items c.in_ok-bridges_of.ensures
+      c.requires.units.placed).0;
+  settled = λ e. cc;
+}
 
 pub returns-clause-empty : goal.returns-clause-empty
 unfolding Empty

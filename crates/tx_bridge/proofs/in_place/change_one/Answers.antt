@@ -1,0 +1,22 @@
+use Rattle.std.proofs.Common.{subst, slice_index_or}
+use Rattle.std.proofs.lemmas.Option.{slice_get-get_or}
+use Rattle.tx_exec.specs.Outcomes.{wide_outcome}
+use Rattle.tx_bridge.specs.declared.bridge.Bridge.{Bridge}
+use Rattle.tx_bridge.specs.Settled.{IsSilent}
+use Rattle.tx_bridge.proofs.Changing.{set_changed}
+use Rattle.tx_bridge.proofs.Slotting.{some_once}
+use Rattle.std.specs.Prelude.{slice_get}
+use Rattle.tx_bridge.proofs.in_place.change_one.Goals as goal
+
+pub returns-clause-changed : goal.returns-clause-changed
+returns-clause-changed c =
+    set_changed c.args.bridges.now c.args.changed c.args.tree c.index-bridges-changed.result c.change.new.self
+    c.requires c.change.ensures.changed
+
+pub returns-clause-silent : goal.returns-clause-silent
+returns-clause-silent c = λ h b at.
+    subst (λ (x : Bridge). IsSilent (wide_outcome x.kept))
+    (some_once (slice_get c.args.bridges.now c.args.changed)
+    (slice_index_or c.args.bridges.now c.args.changed c.index-bridges-changed.result) b
+    (slice_get-get_or c.args.bridges.now c.args.changed c.index-bridges-changed.result c.requires) at)
+    (c.change.ensures.silent h)
