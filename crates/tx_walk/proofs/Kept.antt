@@ -1,0 +1,174 @@
+-- What a walk answered can be kept for the next one.
+use Rattle.std.proofs.Common.{◌≡◌, ℕ, List, [], ◌∷◌, ◌++◌, map, refl, ap, sym, subst, ◌∙◌, ◌⊎◌, inl, inr}
+use Rattle.std.proofs.lemmas.List.{append_cancel_left}
+use Rattle.std.proofs.lemmas.Slice.Eq.{bytes_eq-Decides}
+use Rattle.std.specs.Prelude.{Bool, true, false, Option, Some, None, if◌then◌else◌, slice_get, option_and_then}
+use Rattle.std.specs.List.{IsDistinct, AllByRecursion}
+use Rattle.std.specs.Str.{bytes_eq}
+use Rattle.tx_tree.specs.WideTree.{WideTree, children_of}
+use Rattle.tx_tree.specs.Paths.{subtree}
+use Rattle.tx_exec_form.specs.Runs.{Before}
+use Rattle.tx_exec_form.specs.Evaluated.{WideTrace}
+use Rattle.tx_exec_form.specs.Laws.{Supports}
+use Rattle.tx_exec_form.proofs.Tracing.{supports}
+use Rattle.tx_exec.specs.Outcomes.{wide_trace}
+use Rattle.tx_parts.specs.Composed.{alone}
+use Rattle.tx_parts.specs.Parts.{Part, parts, part_trace}
+use Rattle.tx_parts.specs.Standing.{StandsIn}
+use Rattle.tx_parts.proofs.Standing.{parts_stand, parts_differ}
+use Rattle.tx_walk.specs.declared.part.Part.{Part as DonePart}
+use Rattle.tx_walk.specs.Held.{Store, IsSound}
+use Rattle.tx_walk.specs.Walked.{Seen, seen, seen_in, kept_in, paths_of}
+
+-- the first of each and the others
+pub record Alike (kept : Store) (d : DonePart) (ds : List DonePart) (p : Part) (ps : List Part) : Type 0 where
+  pub first : seen d ≡ seen_in kept p
+  pub others : map seen ds ≡ map (seen_in kept) ps
+
+alike : (kept : Store) (d : DonePart) (ds : List DonePart) (p : Part) (ps : List Part) →
+    map seen (d ∷ ds) ≡ map (seen_in kept) (p ∷ ps) → Alike kept d ds p ps
+alike kept d ds p ps h = record { first = ap (head (seen d)) h; others = ap tail h }
+  where
+    head : Seen → List Seen → Seen
+    head s [] = s
+    head s (x ∷ xs) = x
+
+    tail : List Seen → List Seen
+    tail [] = []
+    tail (x ∷ xs) = xs
+
+-- the part that is kept at a path
+pub record Found (path : List ℕ) (t : WideTree) (at : List ℕ) (trace : WideTrace) : Type 0 where
+  pub part : Part
+  pub stands : StandsIn path t part
+  pub is_at : part.path ≡ at
+  pub comes : part_trace part ≡ Some trace
+
+found_in : (kept : Store) (path : List ℕ) (t : WideTree) (at : List ℕ) (trace : WideTrace) (ds : List DonePart)
+    (ps : List Part) → map seen ds ≡ map (seen_in kept) ps → AllByRecursion (StandsIn path t) ps →
+    kept_in ds at ≡ Some trace → Found path t at trace
+found_in kept path t at trace [] ps h stand found = cc
+found_in kept path t at trace (d ∷ ds) [] h stand found = cc
+found_in kept path t at trace (d ∷ ds) (p ∷ ps) h stand found =
+    by (bytes_eq d.path at) refl found (alike kept d ds p ps h)
+    (λ r g. found_in kept path t at trace ds ps r stand.1 g)
+  where
+    by : (b : Bool) → bytes_eq d.path at ≡ b →
+        (if b then Some (wide_trace d.trace) else kept_in ds at) ≡ Some trace → Alike kept d ds p ps →
+        (map seen ds ≡ map (seen_in kept) ps → kept_in ds at ≡ Some trace → Found path t at trace) →
+        Found path t at trace
+    by true q g a later =
+        record {
+          part = p;
+          stands = stand.0;
+          is_at = sym (ap (λ (s : Seen). s.path) a.first) ∙ (bytes_eq-Decides d.path at).0 q;
+          comes = sym (ap (λ (s : Seen). s.trace) a.first) ∙ g;
+        }
+    by false q g a later = later a.others g
+
+-- it supports the tree there
+supported : (path : List ℕ) (t u : WideTree) (at below : List ℕ) (trace : WideTrace) (f : Found path t at trace) →
+    below ≡ f.stands.below → subtree t below ≡ Some u → Supports trace (alone u)
+supported path t u at below trace f is_below leads =
+    let both : Some f.part.tree ≡ Some u = sym f.stands.leads ∙ ap (subtree t) (sym is_below) ∙ leads in
+    let tree : f.part.tree ≡ u = cc in
+    subst (λ v. Supports trace (alone v)) tree
+    (supports f.part.levels f.part.steps (alone f.part.tree) f.part.before trace f.comes)
+
+pub walked_sound : (kept : Store) (k c : ℕ) (path : List ℕ) (t : WideTree) (e : Before) (ds : List DonePart) →
+    map seen ds ≡ map (seen_in kept) (parts k c path t e) → IsSound (kept_in ds) path t
+walked_sound kept k c path t e ds h =
+    record {
+      holds = λ below u trace leads found.
+          by below u trace leads
+          (found_in kept path t (path ++ below) trace ds (parts k c path t e) h (parts_stand k c path t e) found);
+    }
+  where
+    by : (below : List ℕ) (u : WideTree) (trace : WideTrace) → subtree t below ≡ Some u →
+        Found path t (path ++ below) trace → Supports trace (alone u)
+    by below u trace leads f =
+        supported path t u (path ++ below) below trace f
+        (append_cancel_left path below f.stands.below (sym f.is_at ∙ f.stands.path_is)) leads
+
+-- ---- below a whole document
+
+along : (path below : List ℕ) (d t : WideTree) → subtree d path ≡ Some t → subtree d (path ++ below) ≡ subtree t below
+along [] below d t h = let same : d ≡ t = cc in ap (λ v. subtree v below) same
+along (i ∷ path) below d t h =
+    by (slice_get (children_of d) i) h (λ u g. along path below u t g)
+  where
+    by : (o : Option WideTree) → option_and_then (λ v. subtree v path) o ≡ Some t →
+        ((u : WideTree) → subtree u path ≡ Some t → subtree u (path ++ below) ≡ subtree t below) →
+        option_and_then (λ v. subtree v (path ++ below)) o ≡ subtree t below
+    by None g go = cc
+    by (Some u) g go = go u g
+
+pub sound_below : (kept : Store) (path : List ℕ) (d t : WideTree) → subtree d path ≡ Some t → IsSound kept [] d →
+    IsSound kept path t
+sound_below kept path d t h sound =
+    record {
+      holds = λ below u trace leads found.
+          sound.holds (path ++ below) u trace (along path below d t h ∙ leads) found;
+    }
+
+pub walked_above : (kept : Store) (k c : ℕ) (path : List ℕ) (d t : WideTree) (e : Before) (ds : List DonePart) →
+    subtree d path ≡ Some t → map seen ds ≡ map (seen_in kept) (parts k c path t e) → IsSound (kept_in ds) [] d
+walked_above kept k c path d t e ds there h =
+    record {
+      holds = λ at u trace leads found.
+          by at u trace leads
+          (found_in kept path t at trace ds (parts k c path t e) h (parts_stand k c path t e) found);
+    }
+  where
+    by : (at : List ℕ) (u : WideTree) (trace : WideTrace) → subtree d at ≡ Some u → Found path t at trace →
+        Supports trace (alone u)
+    by at u trace leads f =
+        supported path t u at f.stands.below trace f refl
+        (sym (along path f.stands.below d t there) ∙ ap (subtree d) (sym f.stands.path_is ∙ f.is_at) ∙ leads)
+
+-- ---- two lists of parts
+
+kept_both : (xs ys : List DonePart) (at : List ℕ) (trace : WideTrace) → kept_in (xs ++ ys) at ≡ Some trace →
+    (kept_in xs at ≡ Some trace) ⊎ (kept_in ys at ≡ Some trace)
+kept_both [] ys at trace h = inr h
+kept_both (x ∷ xs) ys at trace h = by (bytes_eq x.path at) h (λ g. kept_both xs ys at trace g)
+  where
+    by : (b : Bool) → (if b then Some (wide_trace x.trace) else kept_in (xs ++ ys) at) ≡ Some trace →
+        (kept_in (xs ++ ys) at ≡ Some trace → (kept_in xs at ≡ Some trace) ⊎ (kept_in ys at ≡ Some trace)) →
+        ((if b then Some (wide_trace x.trace) else kept_in xs at) ≡ Some trace) ⊎ (kept_in ys at ≡ Some trace)
+    by true g go = inl g
+    by false g go = go g
+
+pub sound_both : (path : List ℕ) (t : WideTree) (xs ys : List DonePart) → IsSound (kept_in xs) path t →
+    IsSound (kept_in ys) path t → IsSound (kept_in (xs ++ ys)) path t
+sound_both path t xs ys first second =
+    record {
+      holds = λ below u trace leads found. by below u trace leads (kept_both xs ys (path ++ below) trace found);
+    }
+  where
+    by : (below : List ℕ) (u : WideTree) (trace : WideTrace) → subtree t below ≡ Some u →
+        (kept_in xs (path ++ below) ≡ Some trace) ⊎ (kept_in ys (path ++ below) ≡ Some trace) →
+        Supports trace (alone u)
+    by below u trace leads (inl g) = first.holds below u trace leads g
+    by below u trace leads (inr g) = second.holds below u trace leads g
+
+pub sound_none : (path : List ℕ) (t : WideTree) → IsSound (kept_in []) path t
+sound_none path t = record { holds = λ below u trace leads found. absurd (none_found trace found) }
+  where
+    none_found : (trace : WideTrace) → None ≡ Some trace → ⊥
+    none_found trace h = cc
+
+paths_are : (kept : Store) (ds : List DonePart) (ps : List Part) → map seen ds ≡ map (seen_in kept) ps →
+    paths_of ds ≡ map (λ p. p.path) ps
+paths_are kept [] [] h = refl
+paths_are kept [] (p ∷ ps) h = cc
+paths_are kept (d ∷ ds) [] h = cc
+paths_are kept (d ∷ ds) (p ∷ ps) h =
+    (λ (a : Alike kept d ds p ps). ap (λ x. x ∷ paths_of ds) (ap (λ (s : Seen). s.path) a.first)
+    ∙ ap (λ xs. p.path ∷ xs) (paths_are kept ds ps a.others))
+    (alike kept d ds p ps h)
+
+pub walked_distinct : (kept : Store) (k c : ℕ) (path : List ℕ) (t : WideTree) (e : Before) (ds : List DonePart) →
+    map seen ds ≡ map (seen_in kept) (parts k c path t e) → IsDistinct bytes_eq (paths_of ds)
+walked_distinct kept k c path t e ds h =
+    subst (IsDistinct bytes_eq) (sym (paths_are kept ds (parts k c path t e) h)) (parts_differ k c path t e)

@@ -1,0 +1,212 @@
+-- What a part comes to.
+use Rattle.std.proofs.Common.{◌≡◌, ℕ, zero, suc, ◌+◌, ◌<◌, ◌≤◌, inl, inr, List, [], ◌∷◌, ◌++◌, map, refl, ap, sym}
+use Rattle.std.proofs.Common.{subst, ◌∙◌, leb-true, leb-false, arith}
+use Rattle.std.proofs.lemmas.List.{map-append}
+use Rattle.std.proofs.lemmas.List.Sums.{sum_by-cons}
+use Rattle.std.specs.Prelude.{Bool, true, false, not, nat_le, ◌&&◌, if◌then◌else◌, Option, Some, None, IfSome}
+use Rattle.std.specs.Prelude.{Result, Ok, Err, IfOk}
+use Rattle.std.specs.Option.{option_map}
+use Rattle.tx_tree.specs.WideTree.{WideTree}
+use Rattle.tx_exec_form.specs.Runs.{Before}
+use Rattle.tx_exec_form.specs.Evaluated.{WideTrace, paid}
+use Rattle.tx_exec_form.specs.Laws.{Agrees, Supports}
+use Rattle.tx_exec_form.proofs.Tracing.{supports, agrees, allowed}
+use Rattle.tx_exec.specs.Outcomes.{wide_trace}
+use Rattle.tx_parts.specs.Openness.{Shut, openness}
+use Rattle.tx_parts.specs.Composed.{alone, evaluates}
+use Rattle.tx_parts.specs.Parts.{Part, parts_as, parts}
+use Rattle.tx_parts.proofs.PartRuns.{none_allowed}
+use Rattle.tx_walk.specs.declared.part.Part.{Part as DonePart}
+use Rattle.tx_walk.specs.Held.{Store, fits, charge_of, charges, IsSound}
+use Rattle.tx_walk.specs.Held as held
+use Rattle.tx_walk.specs.Finding.{IsHeldBy}
+use Rattle.tx_walk.proofs.Agreed.{agrees_is}
+use Rattle.tx_walk.specs.Walked.{seen, seen_in, IsCounted}
+use Rattle.tx_walk.specs.Steps.{trace_under, IsAdded, settled, IsPushed, IsNewPushed, IsPaid}
+
+abbrev cost_of : Option WideTrace → ℕ
+cost_of None = 0
+cost_of (Some w) = w.cost
+
+append_none : {X : Type 0} (xs : List X) → xs ++ [] ≡ xs
+append_none [] = refl
+append_none (x ∷ xs) = ap (λ ys. x ∷ ys) (append_none xs)
+
+-- It is done with this trace, or it is over.
+pub data Settles (k c : ℕ) (base : List ℕ) (t : WideTree) (e : Before) (w : WideTrace) (o : Option WideTrace) :
+    Type 0 where
+  is_done : o ≡ Some (trace_under base w) → evaluates k c t e ≡ Some w → Settles k c base t e w o
+  is_over : o ≡ None → evaluates k c t e ≡ None → Settles k c base t e w o
+
+module _ (k c : ℕ) (base : List ℕ) (t : WideTree) (e : Before) (w : WideTrace) (h : Supports w (alone t))
+    (g : Agrees e w.looks) where
+  by : (a b : Bool) → nat_le w.cost c ≡ a → nat_le w.height k ≡ b →
+      Settles k c base t e w (if a && b then Some (trace_under base w) else None)
+  by true true p q = is_done refl (h k c e g (leb-true w.cost c p) (leb-true w.height k q))
+  by true false p q = is_over refl (none_allowed w k c (alone t) e h g (inr (leb-false w.height k q)))
+  by false b p q = is_over refl (none_allowed w k c (alone t) e h g (inl (leb-false w.cost c p)))
+
+  -- a trace of it that fits
+  pub settles : Settles k c base t e w (settled k c base w)
+  settles = by (nat_le w.cost c) (nat_le w.height k) refl refl
+
+-- what is evaluated with all levels
+pub settles_anew : (m k c : ℕ) (base : List ℕ) (t : WideTree) (e : Before) (w : WideTrace) →
+    evaluates m c t e ≡ Some w → Settles k c base t e w (settled k c base w)
+settles_anew m k c base t e w h = settles k c base t e w (supports m c (alone t) e w h) (agrees m c (alone t) e w h)
+
+-- what is over with all levels is over with fewer
+pub over_lower : (m k c : ℕ) (t : WideTree) (e : Before) → k ≤ m → evaluates m c t e ≡ None → evaluates k c t e ≡ None
+over_lower m k c t e low none = by (evaluates k c t e) refl
+  where
+    by : (o : Option WideTrace) → evaluates k c t e ≡ o → o ≡ None
+    by None h = refl
+    by (Some w) h =
+        let bounds : (w.cost ≤ c) × (w.height ≤ k) = allowed k c (alone t) e w h in
+        let off : Some w ≡ None =
+        sym (supports k c (alone t) e w h m c e (agrees k c (alone t) e w h) bounds.0 (omega (arith, low, bounds.1)))
+        ∙ none in
+        cc
+
+pub settled_exact : (k c : ℕ) (base : List ℕ) (t : WideTree) (e : Before) (w : WideTrace) (o : Option WideTrace) →
+    Settles k c base t e w o → o ≡ option_map (trace_under base) (evaluates k c t e)
+settled_exact k c base t e w o (is_done a b) = a ∙ ap (option_map (trace_under base)) (sym b)
+settled_exact k c base t e w o (is_over a b) = a ∙ ap (option_map (trace_under base)) (sym b)
+
+pub new_pushed : (m k c : ℕ) (path base : List ℕ) (t : WideTree) (e : Before) (old new : List DonePart) (p : DonePart)
+    (o : Option WideTrace) → evaluates m c t e ≡ Some (wide_trace p.trace) →
+    o ≡ settled k c base (wide_trace p.trace) → p.path ≡ path → p.renewed ≡ true → IsPushed old p new o →
+    IsNewPushed k c path t e old new o
+new_pushed m k c path base t e old new p o h q stands renewed pushed =
+    by o (subst (Settles k c base t e (wide_trace p.trace)) (sym q) (settles_anew m k c base t e (wide_trace p.trace)
+    h))
+    pushed
+  where
+    by : (o : Option WideTrace) → Settles k c base t e (wide_trace p.trace) o → IsPushed old p new o →
+        IsNewPushed k c path t e old new o
+    by None s g = tt
+    by (Some trace) (is_done a b) g = record { part = p; pushed = g; stands = stands; renewed = renewed; comes = b }
+    by (Some trace) (is_over a b) g = cc
+
+pub new_paid : (m k c : ℕ) (base : List ℕ) (t : WideTree) (e : Before) (w : WideTrace) (o : Option WideTrace)
+    (before after : ℕ) → evaluates m c t e ≡ Some w → o ≡ settled k c base w → after ≡ before + w.cost →
+    IsPaid k c t e before after o
+new_paid m k c base t e w o before after h q counted =
+    by o (subst (Settles k c base t e w) (sym q) (settles_anew m k c base t e w h))
+  where
+    by : (o : Option WideTrace) → Settles k c base t e w o → IsPaid k c t e before after o
+    by None s =
+        let bounds : (w.cost ≤ c) × (w.height ≤ m) = allowed m c (alone t) e w h in
+        omega (arith, counted, bounds.0)
+    by (Some trace) (is_done a b) = counted ∙ ap (λ r. before + paid c r) (sym b)
+    by (Some trace) (is_over a b) = cc
+
+-- ---- what is held
+
+pub held_settles : (kept : Store) (k c : ℕ) (path base : List ℕ) (t : WideTree) (e : Before) (p : DonePart) →
+    IsSound kept path t → IsHeldBy e (kept path) p → Settles k c base t e (wide_trace p.trace)
+    (settled k c base (wide_trace p.trace))
+held_settles kept k c path base t e p sound h =
+    let support : Supports (wide_trace p.trace) (alone t) =
+    sound.holds [] t (wide_trace p.trace) refl (ap kept (append_none path) ∙ h.is) in
+    let fit : held.agrees e (wide_trace p.trace).looks ≡ true = sym (ap (fits e) h.is) ∙ h.held in
+    settles k c base t e (wide_trace p.trace) support (agrees_is e (wide_trace p.trace).looks fit)
+
+pub outcome_cost : (k c cost : ℕ) (base : List ℕ) (t : WideTree) (e : Before) (o : Option WideTrace) →
+    o ≡ option_map (trace_under base) (evaluates k c t e) → cost + c ≤ 1000000 →
+    IfSome o (λ (w : WideTrace). cost + w.cost ≤ 1000000)
+outcome_cost k c cost base t e o h few = by o (evaluates k c t e) refl h
+  where
+    by : (o r : Option WideTrace) → evaluates k c t e ≡ r → o ≡ option_map (trace_under base) r →
+        IfSome o (λ (w : WideTrace). cost + w.cost ≤ 1000000)
+    by None r q e' = tt
+    by (Some u) None q e' = cc
+    by (Some u) (Some w) q e' =
+        let same : u.cost ≡ w.cost = ap cost_of e' in
+        let bounds : (w.cost ≤ c) × (w.height ≤ k) = allowed k c (alone t) e w q in
+        omega (arith, same, bounds.0, few)
+
+-- ---- the parts of a tree that isn't open
+
+abbrev pub one_part : ℕ → ℕ → List ℕ → WideTree → Before → Part
+one_part k c path t e = record { path = path; tree = t; levels = k; steps = c; before = e }
+
+pub shut_parts : (k c : ℕ) (path : List ℕ) (t : WideTree) (e : Before) → openness t ≡ Shut → 0 < k →
+    parts k c path t e ≡ one_part k c path t e ∷ []
+unfolding parts
+shut_parts zero c path t e h some = absurd (omega (arith, some))
+shut_parts (suc k) c path t e h some = ap (λ o. parts_as o k (parts k) c path t e) h
+
+charge_held : (held : Bool) (n : ℕ) → held ≡ true → (if held then 0 else n) + 0 ≡ 0
+charge_held true n h = refl
+charge_held false n h = cc
+
+charge_new : (held : Bool) (n : ℕ) → held ≡ false → (if held then 0 else n) + 0 ≡ n
+charge_new false n h = omega arith
+charge_new true n h = cc
+
+module _ (kept : Store) (k c : ℕ) (path base : List ℕ) (t : WideTree) (e : Before) (shut : openness t ≡ Shut)
+    (some : 0 < k) where
+  seen_one : (p : DonePart) (w : WideTrace) (fit : Bool) → p.path ≡ path → evaluates k c t e ≡ Some
+      (wide_trace p.trace) →
+      fits e (kept path) ≡ fit → p.renewed ≡ not fit → seen p ≡ seen_in kept (one_part k c path t e)
+  seen_one p w fit is_path comes is_fit renewed =
+      ap (λ q. record { path = q; trace = Some (wide_trace p.trace); renewed = p.renewed }) is_path
+      ∙ ap (λ o. record { path = path; trace = o; renewed = p.renewed }) (sym comes)
+      ∙ ap (λ b. record { path = path; trace = evaluates k c t e; renewed = b })
+      (renewed ∙ ap not (sym is_fit))
+
+  added : (old new : List DonePart) (p : DonePart) → new ≡ old ++ p ∷ [] →
+      seen p ≡ seen_in kept (one_part k c path t e) →
+      map seen new ≡ map seen old ++ map (seen_in kept) (parts k c path t e)
+  added old new p pushed one =
+      ap (map seen) pushed ∙ map-append seen old (p ∷ [])
+      ∙ ap (λ s. map seen old ++ s ∷ []) one
+      ∙ ap (λ ps. map seen old ++ map (seen_in kept) ps) (sym (shut_parts k c path t e shut some))
+
+  pub held_added : (old new : List DonePart) (p : DonePart) (o : Option WideTrace) →
+      Settles k c base t e (wide_trace p.trace) o → p.path ≡ path → p.renewed ≡ false →
+      fits e (kept path) ≡ true → IsPushed old p new o → IsAdded kept (parts k c path t e) old new o
+  held_added old new p None s is_path renewed fit pushed = tt
+  held_added old new p (Some trace) (is_done a b) is_path renewed fit pushed =
+      added old new p pushed (seen_one p (wide_trace p.trace) true is_path b fit renewed)
+  held_added old new p (Some trace) (is_over a b) is_path renewed fit pushed = cc
+
+  pub new_added : (old new : List DonePart) (o : Option WideTrace) → fits e (kept path) ≡ false →
+      IsNewPushed k c path t e old new o → IsAdded kept (parts k c path t e) old new o
+  new_added old new None fit pushed = tt
+  new_added old new (Some trace) fit pushed =
+      added old new pushed.part pushed.pushed
+      (seen_one pushed.part trace false pushed.stands pushed.comes fit pushed.renewed)
+
+  charges_one : charges kept (parts k c path t e) ≡ (if fits e (kept path) then 0 else paid c (evaluates k c t e)) + 0
+  charges_one =
+      ap (charges kept) (shut_parts k c path t e shut some)
+      ∙ sum_by-cons (charge_of kept) (one_part k c path t e) []
+
+  pub held_counted : (before : ℕ) (o : Option WideTrace) → fits e (kept path) ≡ true →
+      IsCounted kept (parts k c path t e) c before before o
+  held_counted before None fit = omega arith
+  held_counted before (Some trace) fit =
+      let none : charges kept (parts k c path t e) ≡ 0 =
+      charges_one ∙ charge_held (fits e (kept path)) (paid c (evaluates k c t e)) fit in
+      omega (arith, none)
+
+  pub new_counted : (before after : ℕ) (o : Option WideTrace) → fits e (kept path) ≡ false →
+      IsPaid k c t e before after o → IsCounted kept (parts k c path t e) c before after o
+  new_counted before after None fit h = h
+  new_counted before after (Some trace) fit h =
+      let all : charges kept (parts k c path t e) ≡ paid c (evaluates k c t e) =
+      charges_one ∙ charge_new (fits e (kept path)) (paid c (evaluates k c t e)) fit in
+      h ∙ ap (λ n. before + n) (sym all)
+
+-- ---- results
+
+pub both_ok : {X Y : Type 0} (r : Result X Y) (P Q R : X → Type 0) → ((x : X) → P x → Q x → R x) → IfOk r P →
+    IfOk r Q → IfOk r R
+both_ok (Ok x) P Q R f p q = f x p q
+both_ok (Err y) P Q R f p q = tt
+
+pub settles_as : (k c : ℕ) (base : List ℕ) (t : WideTree) (e : Before) (w : WideTrace) (o : Option WideTrace) →
+    o ≡ settled k c base w → Settles k c base t e w (settled k c base w) → Settles k c base t e w o
+settles_as k c base t e w o h s = subst (Settles k c base t e w) (sym h) s

@@ -1,0 +1,19 @@
+-- What is kept of a child supports what stands there.
+use Rattle.std.proofs.Common.{◌≡◌, ℕ, List, [], ◌∷◌, ◌++◌, ap, sym, subst, ◌∙◌, append_assoc}
+use Rattle.std.specs.Prelude.{Some, slice_get, option_and_then}
+use Rattle.tx_tree.specs.WideTree.{WideTree, children_of}
+use Rattle.tx_tree.specs.Paths.{subtree}
+use Rattle.tx_walk.specs.Held.{Store, IsSound}
+
+pub child_sound : (kept : Store) (path : List ℕ) (t u : WideTree) (i : ℕ) → slice_get (children_of t) i ≡ Some u →
+    IsSound kept path t → IsSound kept (path ++ i ∷ []) u
+child_sound kept path t u i there sound =
+    record {
+      holds = λ below v trace leads is.
+          sound.holds (i ∷ below) v trace
+          (ap (option_and_then (λ w. subtree w below)) there ∙ leads)
+          (ap kept (sym (append_assoc path (i ∷ []) below)) ∙ is);
+    }
+
+pub sound_at : (kept : Store) (path at : List ℕ) (t : WideTree) → at ≡ path → IsSound kept path t → IsSound kept at t
+sound_at kept path at t e sound = subst (λ p. IsSound kept p t) (sym e) sound

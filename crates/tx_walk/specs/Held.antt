@@ -1,0 +1,43 @@
+-- What is kept of parts, which parts it holds, and what the others are charged.
+use Rattle.std.specs.Prelude.{ℕ, Bool, false, ◌≡◌, ◌++◌, if◌then◌else◌, List, Option, Some, None}
+use Rattle.std.specs.List.{list_all, sum_by}
+use Rattle.std.specs.FinMap.{entries}
+use Rattle.tx_tree.specs.WideTree.{WideTree}
+use Rattle.tx_tree.specs.Paths.{subtree}
+use Rattle.tx_exec_form.specs.Maps.{LookMap}
+use Rattle.tx_exec_form.specs.Runs.{Before}
+use Rattle.tx_exec_form.specs.Evaluated.{WideTrace}
+use Rattle.tx_exec_form.specs.Laws.{Supports}
+use Rattle.tx_parts.specs.Composed.{alone}
+use Rattle.tx_parts.specs.Parts.{Part, part_cost}
+use Rattle.tx_walk.specs.SameTrees.{same}
+
+-- what is kept at a path: a trace, or nothing
+abbrev pub Store : Type 0
+Store = List ℕ → Option WideTrace
+
+-- each name has what was found where it was looked up
+abbrev pub agrees : Before → LookMap → Bool
+agrees e looks = list_all (λ look. same (e look.0) look.1) (entries looks)
+
+-- what is kept fits where names have this
+abbrev pub fits : Before → Option WideTrace → Bool
+fits e None = false
+fits e (Some trace) = agrees e trace.looks
+
+-- a part is held where what is kept at its path fits what names have before it
+abbrev pub is_held : Store → Part → Bool
+is_held kept p = fits p.before (kept p.path)
+
+-- what a part costs, unless it is held
+abbrev pub charge_of : Store → Part → ℕ
+charge_of kept p = if is_held kept p then 0 else part_cost p
+
+-- the costs of the parts that aren't held
+abbrev pub charges : Store → List Part → ℕ
+charges kept ps = sum_by (charge_of kept) ps
+
+-- What is kept at a path in the tree, which stands at this path, supports what stands there.
+pub record IsSound (kept : Store) (path : List ℕ) (t : WideTree) : Type 0 where
+  pub holds : (below : List ℕ) (u : WideTree) (trace : WideTrace) → subtree t below ≡ Some u →
+      kept (path ++ below) ≡ Some trace → Supports trace (alone u)

@@ -1,0 +1,170 @@
+-- The steps of a walk by parts.
+use Rattle.std.specs.Prelude.{◌≡◌, ◌<◌, ◌≤◌, ℕ, ◌+◌, ◌-◌, max, codes, nat_le, ◌&&◌, if◌then◌else◌, Bool, true, false}
+use Rattle.std.specs.Prelude.{List, [], ◌∷◌, ◌++◌, map, length}
+use Rattle.std.specs.Prelude.{Option, Some, None, is_some}
+use Rattle.std.specs.FinMap.{get, from_entries}
+use Rattle.tx_tree.specs.WideTree.{WideTree, total_size, deepest}
+use Rattle.tx_env.specs.Changes.{map_of}
+use Rattle.tx_env.specs.Environments.{Environment, NameMap}
+use Rattle.tx_origin.specs.Values.{made, vals, plains}
+use Rattle.tx_origin.specs.Under.{value_under}
+use Rattle.tx_env.specs.Pairs.{Name}
+use Rattle.tx_exec_form.specs.Maps.{LookMap, noted}
+use Rattle.tx_exec_form.specs.Runs.{Before}
+use Rattle.tx_exec_form.specs.Evaluated.{WideTrace, paid}
+use Rattle.tx_exec.specs.Outcomes.{wide_trace}
+use Rattle.tx_exec.specs.States.{before_of}
+use Rattle.tx_parts.specs.Atop.{atop, env_atop, both_looks}
+use Rattle.tx_parts.specs.Composed.{evaluates, SoFar, nothing_yet, children_from}
+use Rattle.tx_parts.specs.Parts.{Part, parts, parts_from}
+use Rattle.tx_walk.specs.declared.part.Part.{Part as DonePart}
+use Rattle.tx_walk.specs.declared.joined.Joined.{Joined}
+use Rattle.tx_walk.specs.Held.{Store, charges}
+use Rattle.tx_walk.specs.Walked.{Seen, seen, seen_in}
+
+-- the trace with each origin of its value under the path
+abbrev pub trace_under : List ℕ → WideTrace → WideTrace
+trace_under base trace = record trace { value = value_under base trace.value }
+
+-- what names have behind a tree that isn't over
+abbrev pub IsBehind : Before → Before → Option WideTrace → Type 0
+IsBehind before after None = Unit {0}
+IsBehind before after (Some trace) = after ≡ env_atop trace.writes before
+
+-- the parts of a tree that isn't over come behind the others
+abbrev pub IsAdded : Store → List Part → List DonePart → List DonePart → Option WideTrace → Type 0
+IsAdded kept ps old new None = Unit {0}
+IsAdded kept ps old new (Some trace) = map seen new ≡ map seen old ++ map (seen_in kept) ps
+
+-- a tree that is over has none
+abbrev pub parts_if_done : Option WideTrace → List DonePart → List DonePart
+parts_if_done None ps = []
+parts_if_done (Some trace) ps = ps
+
+-- what a part with this trace comes to, of so many levels and steps
+abbrev pub settled : ℕ → ℕ → List ℕ → WideTrace → Option WideTrace
+settled k c base trace =
+    if nat_le trace.cost c && nat_le trace.height k then Some (trace_under base trace) else None
+
+-- the part comes behind the others
+abbrev pub IsPushed : List DonePart → DonePart → List DonePart → Option WideTrace → Type 0
+IsPushed old p new None = Unit {0}
+IsPushed old p new (Some trace) = new ≡ old ++ p ∷ []
+
+-- the part that was evaluated comes behind the others
+pub record NewPushed (k c : ℕ) (path : List ℕ) (t : WideTree) (e : Before) (old new : List DonePart) : Type 0 where
+  pub part : DonePart
+  pub pushed : new ≡ old ++ part ∷ []
+  pub stands : part.path ≡ path
+  pub renewed : part.renewed ≡ true
+  pub comes : evaluates k c t e ≡ Some (wide_trace part.trace)
+
+abbrev pub IsNewPushed : ℕ → ℕ → List ℕ → WideTree → Before → List DonePart → List DonePart → Option WideTrace → Type 0
+IsNewPushed k c path t e old new None = Unit {0}
+IsNewPushed k c path t e old new (Some trace) = NewPushed k c path t e old new
+
+-- what it costs is counted; where it is over no more than was allowed
+abbrev pub IsPaid : ℕ → ℕ → WideTree → Before → ℕ → ℕ → Option WideTrace → Type 0
+IsPaid k c t e before after None = after ≤ before + c
+IsPaid k c t e before after (Some trace) = after ≡ before + paid c (evaluates k c t e)
+
+-- ---- the children of a `document`
+
+abbrev pub so_far_of : Joined → SoFar
+so_far_of j = record {
+  values = j.values.items;
+  looks = from_entries j.looks;
+  writes = map_of j.writes;
+  cost = j.cost;
+  height = j.height;
+}
+
+-- with this look behind the others, unless the name was set
+abbrev pub look_behind : NameMap → LookMap → Name → Option WideTree → LookMap
+look_behind own looks x found = if is_some (get own x) then looks else noted looks x found
+
+-- with this trace behind the others
+abbrev pub with_trace : SoFar → WideTrace → SoFar
+with_trace a trace = record {
+  values = a.values ++ trace.value ∷ [];
+  looks = both_looks a.looks a.writes trace.looks;
+  writes = atop trace.writes a.writes;
+  cost = a.cost + trace.cost;
+  height = max a.height trace.height;
+}
+
+-- what was joined, where nothing more is where the trace is none
+abbrev pub IsJoined : SoFar → SoFar → Option WideTrace → Bool → Type 0
+IsJoined a b None went = went ≡ false
+IsJoined a b (Some trace) went = (went ≡ true) × (b ≡ with_trace a trace)
+
+-- the trace of the `document` at this origin
+abbrev pub document_at : List ℕ → SoFar → WideTrace
+document_at base a = record {
+  value = made (codes "document") (vals a.values) (Some base);
+  looks = a.looks;
+  writes = a.writes;
+  cost = 1 + a.cost;
+  height = 1 + a.height;
+}
+
+-- the values make a node within the limits
+pub record FitsNode (a : SoFar) : Type 0 where
+  pub arity : length a.values ≤ 65535
+  pub size : total_size (plains (vals a.values)) < 1000000
+  pub depth : deepest (plains (vals a.values)) < 400
+  pub cost : a.cost < 1000000
+  pub height : a.height < 400
+
+-- the values of what children came to, under the path
+abbrev pub below : List ℕ → SoFar → SoFar
+below base a = record a { values = map (value_under base) a.values }
+
+-- behind some children: what they came to, what names have, the parts that were gone through, and the steps counted
+pub record Stage : Type 0 where
+  pub joined : SoFar
+  pub names : Before
+  pub done : List Seen
+  pub count : ℕ
+
+abbrev pub stage_of : Joined → Environment → List DonePart → ℕ → Stage
+stage_of j env done count =
+    record { joined = so_far_of j; names = before_of env; done = map seen done; count = count }
+
+-- the child of number i is done
+pub record ChildDone (kept : Store) (k c : ℕ) (path base : List ℕ) (i : ℕ) (t : WideTree) (s s1 : Stage) : Type 0 where
+  pub trace : WideTrace
+  pub comes : evaluates k (c - s.joined.cost) t s.names ≡ Some trace
+  pub joined : s1.joined ≡ with_trace s.joined (trace_under (base ++ i ∷ []) trace)
+  pub names : s1.names ≡ env_atop trace.writes s.names
+  pub done : s1.done ≡ s.done ++ map (seen_in kept) (parts k (c - s.joined.cost) (path ++ i ∷ []) t s.names)
+  pub count : s1.count ≡ s.count + charges kept (parts k (c - s.joined.cost) (path ++ i ∷ []) t s.names)
+
+-- it is over
+pub record ChildOver (k c : ℕ) (t : WideTree) (s s1 : Stage) : Type 0 where
+  pub comes : evaluates k (c - s.joined.cost) t s.names ≡ None
+  pub count : s1.count ≤ s.count + (c - s.joined.cost)
+
+abbrev pub ChildComes : Store → ℕ → ℕ → List ℕ → List ℕ → ℕ → WideTree → Stage → Stage → Bool → Type 0
+ChildComes kept k c path base i t s s1 true = ChildDone kept k c path base i t s s1
+ChildComes kept k c path base i t s s1 false = ChildOver k c t s s1
+
+-- all children are done
+pub record ChildrenDone (kept : Store) (k c : ℕ) (path base : List ℕ) (kids : List WideTree) (s s1 : Stage) : Type 0
+  where
+    pub so_far : SoFar
+    pub comes : children_from (evaluates k) c 0 nothing_yet kids s.names ≡ Some so_far
+    pub joined : s1.joined ≡ below base so_far
+    pub names : s1.names ≡ env_atop so_far.writes s.names
+    pub done : s1.done ≡ s.done ++ map (seen_in kept) (parts_from k (parts k) c path 0 nothing_yet kids s.names)
+    pub count : s1.count ≡ s.count + charges kept (parts_from k (parts k) c path 0 nothing_yet kids s.names)
+    pub many : length so_far.values ≡ length kids
+
+-- one of them is over
+pub record ChildrenOver (k c : ℕ) (kids : List WideTree) (s s1 : Stage) : Type 0 where
+  pub comes : children_from (evaluates k) c 0 nothing_yet kids s.names ≡ None
+  pub count : s1.count ≤ s.count + c
+
+abbrev pub ChildrenCome : Store → ℕ → ℕ → List ℕ → List ℕ → List WideTree → Stage → Stage → Bool → Type 0
+ChildrenCome kept k c path base kids s s1 true = ChildrenDone kept k c path base kids s s1
+ChildrenCome kept k c path base kids s s1 false = ChildrenOver k c kids s s1

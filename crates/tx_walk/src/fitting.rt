@@ -1,0 +1,111 @@
+// Whether what is kept of a part can be used.
+ghost use Rattle.std.specs.Prelude.{◌≡◌, false, Some, None, MatchOption};
+ghost use Rattle.std.specs.List.{list_all, All, IsDistinct};
+ghost use Rattle.std.specs.FinMap as maps;
+ghost use Rattle.std.specs.Str.{bytes_eq};
+ghost use Rattle.tx_exec.specs.States.{before_of};
+ghost use Rattle.tx_exec.specs.Outcomes.{wide_trace};
+ghost use Rattle.tx_walk.specs.SameTrees.{same};
+ghost use Rattle.tx_walk.specs.Held.{agrees, fits};
+ghost use Rattle.tx_walk.specs.Walked.{IsOnce, kept_in, paths_of};
+ghost use Rattle.tx_walk.specs.Finding.{IsKeptAt, IsHeldBy};
+
+use crate::part::Part;
+use tx_env::Env;
+use tx_exec::Looks;
+use tx_tree::{Path, Text, Tree};
+
+#[tactic(auto, using(crate::proofs::Trees::same_result, std::proofs::lemmas::Grind::common_steps))]
+fn same_trees(t: &Tree, u: &Tree) -> bool
+    ensures { result ≡ same (Some t.now) (Some u.now) }
+{
+    t.same(u)
+}
+
+// Whether the name has what was found there.
+fn agrees_at(env: &Env, name: &Text, found: &Option<Tree>) -> bool
+    ensures { result ≡ same (maps.get env.now.map name.now) found.now }
+{
+    match (env.get(name), found) {
+        (None, None) => true,
+        (Some(tree), Some(found)) => same_trees(tree, found),
+        _ => false,
+    }
+}
+
+// Whether each name has what was found where it was looked up.
+fn all_agree(env: &Env, looks: &Looks) -> bool
+    ensures { result ≡ list_all (λ look. same (maps.get env.now.map look.0) look.1) looks.now }
+{
+    looks
+        .pairs()
+        .iter()
+        .all(|look| agrees_at(env, &look.0, &look.1))
+}
+
+// Whether the part's trace fits what names have.
+fn fits(env: &Env, part: &Part) -> bool
+    requires { IsOnce part.now }
+    ensures { result ≡ agrees (before_of env.now) (wide_trace part.now.trace).looks }
+{
+    all_agree(env, &part.trace.looks)
+}
+
+// Whether the part stands at the path.
+fn stands_at(part: &Part, path: &Path) -> bool
+    ensures { result ≡ bytes_eq part.now.path path.now }
+{
+    part.path.steps() == path.steps()
+}
+
+// The number of the part at this path.
+fn number_at(kept: &[Part], path: &Path) -> Option<usize>
+    ensures { MatchOption result (kept_in kept.now path.now ≡ None)
+        (λ i. IsKeptAt kept.now path.now i) }
+{
+    for i in 0..kept.len() {
+        if stands_at(&kept[i], path) {
+            return Some(i);
+        }
+    }
+    None
+}
+
+// The number of the part at this path. It mostly is the hint.
+fn number_near(kept: &[Part], path: &Path, hint: usize) -> Option<usize>
+    requires distinct { IsDistinct bytes_eq (paths_of kept.now) }
+    ensures { MatchOption result (kept_in kept.now path.now ≡ None)
+        (λ i. IsKeptAt kept.now path.now i) }
+{
+    if let Some(part) = kept.get(hint) {
+        if stands_at(part, path) {
+            return Some(hint);
+        }
+    }
+    number_at(kept, path)
+}
+
+/// What is kept at the path, if it fits what names have. The number that is likely next is kept in `next`.
+pub(crate) fn held<'a>(
+    env: &Env,
+    kept: &'a [Part],
+    path: &Path,
+    next: &mut usize,
+) -> Option<&'a Part>
+    requires once { All IsOnce kept.now }
+    requires distinct { IsDistinct bytes_eq (paths_of kept.now) }
+    ensures { MatchOption result (fits (before_of env.now) (kept_in kept.now path.now) ≡ false)
+        (λ p. IsHeldBy (before_of env.now) (kept_in kept.now path.now) p.now) }
+{
+    match number_near(kept, path, *next) {
+        None => None,
+        Some(i) => {
+            *next = i + 1;
+            if fits(env, &kept[i]) {
+                Some(&kept[i])
+            } else {
+                None
+            }
+        }
+    }
+}

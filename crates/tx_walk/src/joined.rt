@@ -1,0 +1,123 @@
+// What trees one behind the other come to together.
+ghost use Rattle.std.specs.Prelude.{◌≡◌, ◌≤◌, ◌+◌, [], ◌∷◌, ◌++◌, is_some, cond, IfOk, OnOk, IfSome};
+ghost use Rattle.std.specs.List.{IsDistinct};
+ghost use Rattle.std.specs.Map.{keys_of};
+ghost use Rattle.std.specs.Str.{bytes_eq};
+ghost use Rattle.std.specs.FinMap.{get, empty, from_entries};
+ghost use Rattle.tx_env.specs.Changes.{map_of};
+ghost use Rattle.tx_exec_form.specs.Maps.{noted};
+ghost use Rattle.tx_parts.specs.Atop.{atop, both_looks};
+ghost use Rattle.tx_parts.specs.Composed.{nothing_yet};
+ghost use Rattle.tx_exec.specs.Outcomes.{wide_trace, wide_outcome, NamesOnce};
+ghost use Rattle.tx_walk.specs.Steps.{so_far_of, with_trace, look_behind, IsJoined};
+
+use crate::sharing::share_tree;
+use std::alloc::Global;
+use tx_base::Memory;
+use tx_env::{Pairs, Writes};
+use tx_exec::{Looks, Outcome, Trace};
+use tx_origin::Value;
+use tx_tree::{Text, Tree};
+
+/// What trees one behind the other come to together: their values, what they looked up and none before them had set,
+/// what they have set, what they cost, and the levels that they need.
+#[derive(Drop)]
+pub(crate) struct Joined {
+    pub values: Vec<Value>,
+    pub looks: Pairs,
+    pub writes: Pairs,
+    pub cost: u64,
+    pub height: u32,
+}
+
+// A look more, where the name has none yet.
+fn note_look(looks: &mut Pairs, name: &Text, found: &Option<Tree>) -> Result<(), Memory>
+    ensures { OnOk result (from_entries looks.new ≡ noted (from_entries looks.old) name.now found.now) }
+{
+    if looks.lists(name) {
+        return Ok(());
+    }
+    looks.put(name.copy()?, share_tree(found)?)
+}
+
+// A look that comes behind others, unless the name is one of those that were set.
+fn join_look(
+    own: &Pairs,
+    looks: &mut Pairs,
+    name: &Text,
+    found: &Option<Tree>,
+) -> Result<(), Memory>
+    ensures { OnOk result (from_entries looks.new
+        ≡ look_behind (map_of own.now) (from_entries looks.old) name.now found.now) }
+{
+    match own.get(name) {
+        Some(_) => Ok(()),
+        None => note_look(looks, name, found),
+    }
+}
+
+// The looks that come behind others, but those at names that were set.
+fn join_looks(own: &Pairs, looks: &mut Pairs, more: &Looks) -> Result<(), Memory>
+    ensures { OnOk result (from_entries looks.new
+        ≡ both_looks (from_entries looks.old) (map_of own.now) (from_entries more.now)) }
+{
+    for (name, found) in more.pairs() {
+        join_look(own, looks, name, found)?;
+    }
+    Ok(())
+}
+
+// What is set behind what was set.
+fn join_writes(own: &mut Pairs, more: &Writes) -> Result<(), Memory>
+    requires { IsDistinct bytes_eq (keys_of more.now) }
+    ensures { OnOk result (map_of own.new ≡ atop (from_entries more.now) (map_of own.old)) }
+{
+    for (name, tree) in more.pairs() {
+        own.put(name.copy()?, Some(tree.share()?))?;
+    }
+    Ok(())
+}
+
+impl Joined {
+    /// Nothing yet.
+    pub(crate) fn new(alloc: Global) -> Joined
+        ensures { so_far_of result ≡ nothing_yet }
+    {
+        Joined {
+            values: Vec::new(alloc),
+            looks: Pairs::new(alloc),
+            writes: Pairs::new(alloc),
+            cost: 0,
+            height: 0,
+        }
+    }
+
+    // With this trace behind the others.
+    fn add(&mut self, trace: Trace) -> Result<(), Memory>
+        requires cost { self.old.cost + trace.cost ≤ 1000000 }
+        requires once { IsDistinct bytes_eq (keys_of trace.writes) }
+        ensures { OnOk result (so_far_of self.new ≡ with_trace (so_far_of self.old) (wide_trace trace)) }
+    {
+        join_looks(&self.writes, &mut self.looks, &trace.looks)?;
+        join_writes(&mut self.writes, &trace.writes)?;
+        self.cost += trace.cost;
+        self.height = self.height.max(trace.height);
+        self.values.push(trace.value)?;
+        Ok(())
+    }
+
+    /// With this trace behind the others, and whether there is one.
+    pub(crate) fn add_outcome(&mut self, outcome: Outcome) -> Result<bool, Memory>
+        requires cost { IfSome (wide_outcome outcome) (λ t. self.old.cost + t.cost ≤ 1000000) }
+        requires once { NamesOnce outcome }
+        ensures { IfOk result (λ went. IsJoined (so_far_of self.old) (so_far_of self.new) (wide_outcome outcome) went) }
+    {
+        match outcome {
+            Outcome::Over => Ok(false),
+            Outcome::Done(trace) => {
+                self.add(trace)?;
+                Ok(true)
+            }
+        }
+    }
+}

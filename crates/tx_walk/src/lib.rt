@@ -1,0 +1,22 @@
+//! A unit evaluated by its parts: what is kept of a part is used again where it still fits.
+//!
+//! [`walk`] answers what evaluating the whole tree answers, and the traces of its parts. It evaluates and counts only
+//! the parts of which nothing that fits is kept.
+#![tactic(auto)]
+
+mod fitting;
+mod joined;
+mod laws;
+mod opening;
+mod outside;
+mod part;
+mod scopes;
+mod settings;
+mod sharing;
+mod traces;
+mod unit;
+mod walking;
+
+pub use laws::{kept_law, walked_law};
+pub use part::Part;
+pub use unit::{Walked, walk};

@@ -1,0 +1,109 @@
+// What a `with` comes to, by its last child.
+ghost use Rattle.std.specs.Prelude.{◌≡◌, codes, IfOk, IfSome, Some};
+ghost use Rattle.std.specs.Option.{option_map};
+ghost use Rattle.std.specs.FinMap.{empty};
+ghost use Rattle.tx_tree.specs.WideTree.{label_of};
+ghost use Rattle.tx_env.specs.Environments.{overlaid};
+ghost use Rattle.tx_exec.specs.States.{before_of};
+ghost use Rattle.tx_exec.specs.Outcomes.{wide_trace, wide_outcome, NamesOnce};
+ghost use Rattle.tx_walk.specs.Walked.{AreOnce};
+ghost use Rattle.tx_walk.specs.Steps.{IsBehind};
+ghost use Rattle.tx_walk.specs.Scopes.{with_at, FitsWith};
+
+use crate::outside::{looks_outside, writes_outside};
+use crate::settings::Settings;
+use crate::walking::set_all;
+use std::alloc::Global;
+use tx_base::Memory;
+use tx_env::Env;
+use tx_exec::{Outcome, Trace};
+use tx_origin::{Ip, Value};
+use tx_tree::{Text, Tree};
+
+// The trace of the `with` at this origin, which sets these pairs, of the values of names and texts, what they cost, and
+// the trace of its last child.
+fn with_trace(
+    alloc: Global,
+    t: &Tree,
+    base: &Ip,
+    pairs: &[(Text, Tree)],
+    mut values: Vec<Value>,
+    cost: u64,
+    trace: Trace,
+) -> Result<Trace, Memory>
+    requires label { label_of t.now ≡ Some (codes "with") }
+    requires fits { FitsWith values.items cost (wide_trace trace) }
+    requires once { AreOnce trace }
+    ensures trace { IfOk result (λ w. wide_trace w
+        ≡ with_at base.now (overlaid empty pairs.now) values.items cost (wide_trace trace)) }
+    ensures once { IfOk result AreOnce }
+{
+    let Some(label) = t.label() else {
+        unreachable!()
+    };
+    let cost = 1 + cost + trace.cost;
+    let height = 1 + trace.height;
+    let looks = looks_outside(alloc, pairs, &trace.looks)?;
+    let writes = writes_outside(alloc, pairs, &trace.writes)?;
+    values.push(trace.value)?;
+    let value = Value::node(alloc, label.copy()?, values, Some(base.share()?))?;
+    Ok(Trace {
+        value,
+        looks,
+        writes,
+        cost,
+        height,
+    })
+}
+
+// The same, and what it sets is set.
+fn close(
+    alloc: Global,
+    t: &Tree,
+    base: &Ip,
+    env: &mut Env,
+    settings: Settings,
+    trace: Trace,
+) -> Result<Outcome, Memory>
+    requires label { label_of t.now ≡ Some (codes "with") }
+    requires fits { FitsWith settings.values.items settings.cost (wide_trace trace) }
+    requires once { AreOnce trace }
+    ensures outcome { IfOk result (λ o. wide_outcome o ≡ Some (with_at base.now (overlaid empty settings.pairs.items)
+        settings.values.items settings.cost (wide_trace trace))) }
+    ensures behind { IfOk result (λ o. IsBehind (before_of env.old) (before_of env.new) (wide_outcome o)) }
+    ensures once { IfOk result NamesOnce }
+    ensures scopes { env.new.scopes ≡ env.old.scopes }
+{
+    let Settings {
+        pairs,
+        values,
+        cost,
+    } = settings;
+    let trace = with_trace(alloc, t, base, &pairs, values, cost, trace)?;
+    set_all(env, trace.writes.pairs())?;
+    Ok(Outcome::Done(trace))
+}
+
+/// What the `with` at this origin comes to, where its last child came to this.
+pub(crate) fn with_of(
+    alloc: Global,
+    t: &Tree,
+    base: &Ip,
+    env: &mut Env,
+    settings: Settings,
+    inner: Outcome,
+) -> Result<Outcome, Memory>
+    requires label { label_of t.now ≡ Some (codes "with") }
+    requires fits { IfSome (wide_outcome inner) (λ w. FitsWith settings.values.items settings.cost w) }
+    requires once { NamesOnce inner }
+    ensures outcome { IfOk result (λ o. wide_outcome o ≡ option_map (with_at base.now
+        (overlaid empty settings.pairs.items) settings.values.items settings.cost) (wide_outcome inner)) }
+    ensures behind { IfOk result (λ o. IsBehind (before_of env.old) (before_of env.new) (wide_outcome o)) }
+    ensures once { IfOk result NamesOnce }
+    ensures scopes { env.new.scopes ≡ env.old.scopes }
+{
+    match inner {
+        Outcome::Over => Ok(Outcome::Over),
+        Outcome::Done(trace) => close(alloc, t, base, env, settings, trace),
+    }
+}

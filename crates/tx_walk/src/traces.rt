@@ -1,0 +1,86 @@
+// Traces of what children came to together.
+ghost use Rattle.std.specs.Prelude.{◌≡◌, true, false, codes, IfOk, Some, None, if◌then◌else◌};
+ghost use Rattle.std.specs.List.{IsDistinct};
+ghost use Rattle.std.specs.Map.{keys_of};
+ghost use Rattle.std.specs.Str.{bytes_eq};
+ghost use Rattle.tx_tree.specs.WideTree.{label_of};
+ghost use Rattle.tx_exec.specs.States.{set_pairs};
+ghost use Rattle.tx_exec.specs.Outcomes.{wide_trace, wide_outcome, NamesOnce};
+ghost use Rattle.tx_walk.specs.Steps.{so_far_of, FitsNode, document_at};
+ghost use Rattle.tx_walk.specs.Walked.{AreOnce};
+
+use crate::joined::Joined;
+use std::alloc::Global;
+use tx_base::Memory;
+use tx_env::{Pairs, Writes};
+use tx_exec::{Looks, Outcome, Trace};
+use tx_origin::{Ip, Value};
+use tx_tree::Tree;
+
+// All that was looked up, each name once.
+fn looks_of(noted: Pairs, alloc: Global) -> Result<Looks, Memory>
+    ensures all { IfOk result (λ l. l ≡ noted) }
+    ensures once { IsDistinct bytes_eq (keys_of noted) }
+{
+    Ok(Looks::new(noted.into_vec(alloc)?))
+}
+
+// The names that are set, each once.
+#[tactic(auto, using(tx_exec::proofs::Ending::next_some, std::proofs::lemmas::Grind::common_steps))]
+fn writes_of(noted: Pairs, alloc: Global) -> Result<Writes, Memory>
+    ensures all { IfOk result (λ w. w ≡ set_pairs noted) }
+    ensures once { IsDistinct bytes_eq (keys_of noted) }
+{
+    let mut pairs = Vec::new(alloc);
+    for (name, value) in noted.into_vec(alloc)? {
+        if let Some(tree) = value {
+            pairs.push((name, tree))?;
+        }
+    }
+    Ok(Writes::new(pairs))
+}
+
+// The trace of the `document` at this origin, whose children came to this.
+fn document_trace(alloc: Global, t: &Tree, base: &Ip, joined: Joined) -> Result<Trace, Memory>
+    requires label { label_of t.now ≡ Some (codes "document") }
+    requires fits { FitsNode (so_far_of joined) }
+    ensures trace { IfOk result (λ w. wide_trace w ≡ document_at base.now (so_far_of joined)) }
+    ensures once { IfOk result AreOnce }
+{
+    let Some(label) = t.label() else {
+        unreachable!()
+    };
+    let cost = 1 + joined.cost;
+    let height = 1 + joined.height;
+    let looks = looks_of(joined.looks, alloc)?;
+    let writes = writes_of(joined.writes, alloc)?;
+    let value = Value::node(alloc, label.copy()?, joined.values, Some(base.share()?))?;
+    Ok(Trace {
+        value,
+        looks,
+        writes,
+        cost,
+        height,
+    })
+}
+
+/// What the `document` at this origin comes to, where its children came to this, or one was over.
+pub(crate) fn document_of(
+    alloc: Global,
+    t: &Tree,
+    base: &Ip,
+    joined: Joined,
+    went: bool,
+) -> Result<Outcome, Memory>
+    requires label { label_of t.now ≡ Some (codes "document") }
+    requires fits { went ≡ true → FitsNode (so_far_of joined) }
+    ensures outcome { IfOk result (λ o. wide_outcome o
+        ≡ (if went then Some (document_at base.now (so_far_of joined)) else None)) }
+    ensures once { IfOk result NamesOnce }
+{
+    if !went {
+        return Ok(Outcome::Over);
+    }
+    let trace = document_trace(alloc, t, base, joined)?;
+    Ok(Outcome::Done(trace))
+}
