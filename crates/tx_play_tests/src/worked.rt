@@ -114,11 +114,35 @@ const KEYS: &[Row] = &[
     ),
 ];
 
-const OVER: &[Row] = &[(
-    "(document (while \"true\" \"abcdefghij\") (while \"true\" \"a\") \"b\")",
-    "show\nerrors",
-    "pages 1 rows 3\npage 1\n<!over>\n<!limit while>\nb\nerrors 2\n/0 over\n/1 limit while\n",
-)];
+const OVER: &[Row] = &[
+    (
+        "(document (while \"true\" \"abcdefghij\") (while \"true\" \"a\") \"b\")",
+        "show\nerrors",
+        "pages 1 rows 3\npage 1\n<!over>\n<!limit while>\nb\nerrors 2\n/0 over\n/1 limit while\n",
+    ),
+    (
+        "(document (assign \"f\" (macro (f))) (f) \"b\")",
+        "show\nerrors",
+        "pages 1 rows 3\npage 1\n\n<!over>\nb\nerrors 1\n/1 over\n",
+    ),
+    // a value that doubles twenty times
+    (
+        "(document (assign \"a\" \"x\") (assign \"a\" (merge (value \"a\") (value \"a\"))) (assign \"a\" \
+          (merge (value \"a\") (value \"a\"))) (assign \"a\" (merge (value \"a\") (value \"a\"))) (assign \
+          \"a\" (merge (value \"a\") (value \"a\"))) (assign \"a\" (merge (value \"a\") (value \"a\"))) \
+          (assign \"a\" (merge (value \"a\") (value \"a\"))) (assign \"a\" (merge (value \"a\") (value \
+          \"a\"))) (assign \"a\" (merge (value \"a\") (value \"a\"))) (assign \"a\" (merge (value \"a\") \
+          (value \"a\"))) (assign \"a\" (merge (value \"a\") (value \"a\"))) (assign \"a\" (merge (value \
+          \"a\") (value \"a\"))) (assign \"a\" (merge (value \"a\") (value \"a\"))) (assign \"a\" (merge \
+          (value \"a\") (value \"a\"))) (assign \"a\" (merge (value \"a\") (value \"a\"))) (assign \"a\" \
+          (merge (value \"a\") (value \"a\"))) (assign \"a\" (merge (value \"a\") (value \"a\"))) (assign \
+          \"a\" (merge (value \"a\") (value \"a\"))) (assign \"a\" (merge (value \"a\") (value \"a\"))) \
+          (assign \"a\" (merge (value \"a\") (value \"a\"))) (assign \"a\" (merge (value \"a\") (value \
+          \"a\"))) (length (value \"a\")))",
+        "page 1\nerrors",
+        "page 1\n\n\n\n\n\n\n\n\n\n\n\n\n\n\n\n\n\n\n\n<!over>\n<!over>\n262144\nerrors 2\n/19 over\n/20 over\n",
+    ),
+];
 
 const NARROW: &[Row] = &[
     (

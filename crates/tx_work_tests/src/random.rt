@@ -250,6 +250,37 @@ fn play_all<L: Ledger>(
     })
 }
 
+// Does the lines, of which one is an edit; whether the session is right afterwards.
+fn is_right_behind<L: Ledger>(
+    alloc: Global,
+    game: &mut Game,
+    lines: &str,
+    steps: &mut Steps<L>,
+) -> Option<bool> {
+    let accepted = play_lines(alloc, game, lines, steps)?;
+    let right = is_right(alloc, game, steps)?;
+    Some(right && accepted == 1)
+}
+
+// Behind one costly paragraph more the last one agrees with what is kept of it, and is too dear. Without that one it is
+// evaluated again.
+fn is_right_where_dear<L: Ledger>(alloc: Global, steps: &mut Steps<L>) -> Option<bool> {
+    let mut game = game_of(alloc, &BUDGETS, steps)?;
+    let first = is_right(alloc, &mut game, steps)?;
+    let dearer = is_right_behind(alloc, &mut game, "insert / 8 (tuple (g))", steps)?;
+    let back = is_right_behind(alloc, &mut game, "undo", steps)?;
+    Some(first && dearer && back)
+}
+
+fn dear<L: Ledger>(alloc: Global, blank: Blank) -> Option<bool>
+    requires name { blank.name ≡ L.name }
+    requires parts { blank.parts ≡ L.parts }
+    requires whole { blank.parts ≡ 1 }
+{
+    let mut steps = Steps::<L>::new(blank);
+    is_right_where_dear(alloc, &mut steps)
+}
+
 fn score_of<L: Ledger>(
     alloc: Global,
     play: &Play,
@@ -306,6 +337,12 @@ fn budgets(rt: HostRuntime) -> Result<(), Fail> {
     let score = played::<Brand>(rt.alloc(), &BUDGETS, 4, 30, Blank::new(1)).ok_or("no session")?;
     assert_eq!(rt; score.wrong, None);
     assert!(rt; score.accepted > 10, "{}", score.accepted);
+    Ok(())
+}
+
+#[test]
+fn a_kept_trace_that_is_too_dear(rt: HostRuntime) -> Result<(), Fail> {
+    assert_eq!(rt; dear::<Brand>(rt.alloc(), Blank::new(1)), Some(true));
     Ok(())
 }
 
