@@ -1,13 +1,14 @@
 -- The nodes that a step makes.
 use Rattle.std.proofs.Common.{◌≡◌, ℕ, ◌+◌, ◌≤◌, Bool, true, false, ltb, ◌&&◌, List, [], ◌∷◌, ◌++◌, length, arith}
+use Rattle.std.proofs.Common.{is_some, Option, Some, None, sym, subst}
 use Rattle.tx_tree.specs.TextScan.{is_text, begins_text}
 use Rattle.tx_tree.specs.WideTree.{WideTree, leaf, forest, nodes_of, total_nodes}
 use Rattle.tx_scm.specs.declared.kinds.Kind.{Kind}
 use Rattle.tx_scm.specs.declared.kinds.Kind.TheVariants.{White, Opens, Closes, Quote, Backslash, Letter}
-use Rattle.tx_scm.specs.Machine.{Open, State, Bounds, between, opened, naming, texting, escaping, whole, failed, put}
+use Rattle.tx_scm.specs.Machine.{the_limits, within, Open, State, Bounds, between, opened, naming, texting, escaping, whole, failed, put}
 use Rattle.tx_scm.specs.Machine.{only_if, node_of, closed, named, lengthened, step_between, step_opened, step_naming}
 use Rattle.tx_scm.specs.Machine.{step_texting, step_escaping, step_whole, step}
-use Rattle.tx_scm.specs.States.{nodes_in, made_by, made_in, IsCounted}
+use Rattle.tx_scm.specs.States.{standing, nodes_in, made_by, made_in, IsCounted, CountsOn}
 
 total_nodes-append : (ss ts : List WideTree) → total_nodes (forest (ss ++ ts)) ≡ total_nodes (forest ss) + total_nodes
     (forest ts)
@@ -19,7 +20,7 @@ module _ (from steps : ℕ) where
   only_counted true s h = h
   only_counted false s h = tt
 
-  put_counted : (t : WideTree) (opens : List Open) → steps ≤ from + (nodes_of t + nodes_in opens)
+  pub put_counted : (t : WideTree) (opens : List Open) → steps ≤ from + (nodes_of t + nodes_in opens)
       → IsCounted from steps (put t opens)
   put_counted t [] h = omega arith
   put_counted t (o ∷ opens) h = omega (arith, h, total_nodes-append o.children (t ∷ []))
@@ -90,3 +91,17 @@ module _ (bounds : Bounds) (from steps : ℕ) where
   step_counted (escaping text opens) k b h = escaping_counted k b text opens h
   step_counted (whole t) k b h = whole_counted k t h
   step_counted failed k b h = tt
+
+-- a string makes no node
+pub string_counted : (from steps : ℕ) (w : Option WideTree) (opens : List Open) (text : List ℕ) (t : State) → w ≡ None
+    → t ≡ put (leaf text) opens → IsCounted from steps (standing w opens) → IsCounted from steps t
+string_counted from steps None opens text t w f h =
+    subst (IsCounted from steps) (sym f) (put_counted from steps (leaf text) opens (omega (arith, h)))
+string_counted from steps (Some u) opens text t w f h = absurd cc
+
+-- a closing bracket makes one
+pub closes_counted : (before after : ℕ) (w : Option WideTree) (opens : List Open) (t : State) → is_some w ≡ false
+    → after ≡ before + 1 → t ≡ step_between (within the_limits) opens Closes → CountsOn (standing w opens) before t after
+closes_counted before after None opens t e f g = λ from h.
+    rw (f, g) (between_counted (within the_limits) from before Closes opens h)
+closes_counted before after (Some u) opens t e f g = absurd cc

@@ -4,7 +4,6 @@ pub mod ByteKinds
 pub mod Bounded
 pub mod Complete
 pub mod Sound
-pub mod Naming
 pub mod Keeping
 pub mod Counting
 pub mod Runs
@@ -22,3 +21,4 @@ pub mod Fronts
 pub mod OneFault
 pub mod SomeFault
 pub mod TextRuns
+pub mod Tokens

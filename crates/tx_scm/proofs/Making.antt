@@ -5,24 +5,14 @@ use Rattle.std.proofs.lemmas.List.{drop_more}
 use Rattle.tx_tree.specs.WideTree.{WideTree, nodes_of}
 use Rattle.tx_scm.specs.declared.kinds.Kind.{Kind}
 use Rattle.tx_scm.specs.declared.kinds.Kind.TheVariants.{Closes}
-use Rattle.tx_scm.specs.declared.states.State as program
-use Rattle.tx_scm.specs.declared.states.State.TheVariants as states
 use Rattle.tx_scm.specs.Kinds.{kind_of}
 use Rattle.tx_scm.specs.Spelling.{Spells}
 use Rattle.tx_scm.specs.Machine.{State, between, naming, whole, failed, the_limits, within, wide, step, run, leads}
-use Rattle.tx_scm.specs.States.{state_of, made_by, made_in, IsCounted}
+use Rattle.tx_scm.specs.States.{made_by, made_in, IsCounted}
 use Rattle.tx_scm.proofs.Counting.{step_counted}
 use Rattle.tx_scm.proofs.Wide.{step_agrees, wide_whole}
 
 -- ---- without limits
-
-pub stands : (s : program.State) → state_of s ≡ failed → ⊥
-stands (states.Between bs) e = cc
-stands (states.Opened bs) e = cc
-stands (states.Naming label bs) e = cc
-stands (states.Texting text bs) e = cc
-stands (states.Escaping text bs) e = cc
-stands (states.Whole t) e = cc
 
 wide_step : (s t : State) (k : Kind) (b : ℕ) → (t ≡ failed → ⊥) → t ≡ step (within the_limits) s k b
     → t ≡ step wide s k b

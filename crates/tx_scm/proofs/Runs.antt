@@ -1,6 +1,6 @@
 -- The loop over the bytes.
 use Rattle.std.proofs.Common.{◌≡◌, ℕ, ◌+◌, ◌<◌, ◌≤◌, Bool, true, false, cond, List, [], ◌∷◌, ◌++◌, length, get_or, drop}
-use Rattle.std.proofs.Common.{None, refl, sym, ap, ◌∙◌, length-append}
+use Rattle.std.proofs.Common.{None, refl, sym, ap, ◌∙◌}
 use Rattle.std.proofs.lemmas.List.{drop_more, drop_all}
 use Rattle.tx_scm.specs.Kinds.{kind_of}
 use Rattle.tx_scm.specs.Machine.{Open, State, Bounds, texting, failed, the_limits, within, only_if, lengthened}
@@ -9,10 +9,8 @@ use Rattle.tx_scm.proofs.ByteKinds.{is_quote_kind, is_backslash_kind}
 use Rattle.tx_scm.specs.declared.kinds.Kind.{Kind}
 use Rattle.tx_scm.specs.declared.kinds.Kind.TheVariants.{Quote, Backslash}
 use Rattle.tx_tree.specs.TextScan.{takes_byte}
-use Rattle.tx_scm.specs.States.{made_in, CountsOn}
-use Rattle.tx_scm.proofs.Counting.{step_counted}
 
-failed_run : (bounds : Bounds) (x : List ℕ) → completes bounds failed x ≡ None
+pub failed_run : (bounds : Bounds) (x : List ℕ) → completes bounds failed x ≡ None
 failed_run bounds [] = refl
 failed_run bounds (b ∷ x) = failed_run bounds x
 
@@ -57,14 +55,3 @@ module _ (b : ℕ) (text : List ℕ) (opens : List Open) (q : b ≡ 34 → ⊥) 
   pub plain_refused : (taken : Bool) → taken ≡ takes_byte text b → taken ≡ false
       → failed ≡ step (within the_limits) (texting text opens) (kind_of b) b
   plain_refused taken is no_more = sym (plain ∙ ap (λ c. only_if c (texting (text ++ b ∷ []) opens)) (sym is ∙ no_more))
-
-pub taken_longer : (b : ℕ) (text : List ℕ) (taken : Bool) (after : List ℕ) → after ≡ cond taken (text ++ b ∷ []) text
-    → taken ≡ true → length after ≡ length text + 1
-taken_longer b text taken after grown more = ap length (grown ∙ ap (λ c. cond c (text ++ b ∷ []) text) more)
-    ∙ length-append text (b ∷ [])
-
--- ---- the count behind a step
-
-pub counts_on : (before after : ℕ) (s t : State) (b : ℕ) → t ≡ step (within the_limits) s (kind_of b) b
-    → after ≡ before + made_in s (kind_of b) → CountsOn s before t after
-counts_on before after s t b e f = λ from h. rw (e, f) (step_counted (within the_limits) from before s (kind_of b) b h)

@@ -1,7 +1,6 @@
 -- A byte makes what was begun larger by so much, and it never grows smaller.
-use Rattle.std.proofs.Common.{◌≡◌, ℕ, ◌+◌, ◌-◌, ◌<◌, ◌≤◌, Bool, true, false, ltb, ◌&&◌, List, [], ◌∷◌, ◌++◌, length}
-use Rattle.std.proofs.Common.{get_or, drop, Some, None, refl, sym, ap, subst, ◌∙◌, length-append, arith}
-use Rattle.std.proofs.lemmas.List.{drop_more}
+use Rattle.std.proofs.Common.{◌≡◌, ℕ, ◌+◌, ◌<◌, ◌≤◌, Bool, true, false, ltb, ◌&&◌, List, [], ◌∷◌, ◌++◌, length}
+use Rattle.std.proofs.Common.{is_some, Option, Some, None, refl, sym, ap, subst, ◌∙◌, length-append, arith}
 use Rattle.tx_tree.specs.TextScan.{is_text, begins_text}
 use Rattle.tx_tree.specs.WideTree.{WideTree, leaf, size_of}
 use Rattle.tx_tree.proofs.Children.{total_size-append}
@@ -12,7 +11,8 @@ use Rattle.tx_scm.specs.Machine.{Open, State, Bounds, the_limits, within, betwee
 use Rattle.tx_scm.specs.Machine.{whole, failed, put, only_if, node_of, closed, named, lengthened, step_between}
 use Rattle.tx_scm.specs.Machine.{step_opened, step_naming, step_texting, step_escaping, step_whole, step, completes}
 use Rattle.tx_scm.specs.Machine.{reads}
-use Rattle.tx_scm.specs.Sizes.{size_in, IsSized, begun_by, texted_by, grown_by, GrowsBy}
+use Rattle.tx_scm.specs.Sizes.{size_in, IsSized, begun_by, texted_by, grown_by}
+use Rattle.tx_scm.specs.States.{standing}
 use Rattle.tx_scm.proofs.Exact.{found}
 
 module _ (n : ℕ) where
@@ -20,7 +20,7 @@ module _ (n : ℕ) where
   only_sized true s h = h
   only_sized false s h = tt
 
-  put_sized : (t : WideTree) (opens : List Open) → n ≡ size_of t + size_in opens → IsSized n (put t opens)
+  pub put_sized : (t : WideTree) (opens : List Open) → n ≡ size_of t + size_in opens → IsSized n (put t opens)
   put_sized t [] h = omega (arith, h)
   put_sized t (o ∷ opens) h = omega (arith, h, total_size-append o.children (t ∷ []))
 
@@ -105,50 +105,30 @@ never_smaller (b ∷ bytes) s t n h e =
           (step_sized (within the_limits) n s (kind_of b) b h) e,
     )
 
-module _ (bytes : List ℕ) (s : State) (i b n : ℕ) (lt : i < length bytes) (is : get_or bytes i 0 ≡ b)
-    (sized : IsSized n s) where
-  part_of : (t : WideTree) → reads s (drop i bytes) ≡ Some t → n + grown_by s (kind_of b) ≤ size_of t
-  unfolding reads
-  part_of t e =
-      never_smaller (drop (i + 1) bytes) (step (within the_limits) s (kind_of b) b) t (n + grown_by s (kind_of b))
-      (step_sized (within the_limits) n s (kind_of b) b sized)
-      (ap (λ x. completes (within the_limits) s x) (sym (drop_more bytes i 0 lt ∙ ap (λ b. b ∷ drop (i + 1) bytes) is))
-      ∙ e)
+-- where what was begun passes the limit, no tree is read
+pub too_large : (bytes x : List ℕ) (s : State) (n : ℕ) → IsSized n s → 8000000 < n
+    → reads (between []) bytes ≡ reads s x → None ≡ reads (between []) bytes
+unfolding reads
+too_large bytes x s n sized past same =
+    elim (reads (between []) bytes) as (λ r. reads (between []) bytes ≡ r → None ≡ r) [
+      | None ↦ λ e. refl
+      | (Some t) ↦ λ e.
+          absurd (omega (arith, (found bytes t (sym e)).1.size, never_smaller x s t n sized (sym same ∙ e), past))
+    ] refl
 
-  -- where what was begun passes the limit, no tree is read
-  pub too_large : 8000000 < n + grown_by s (kind_of b) → reads (between []) bytes ≡ reads s (drop i bytes)
-      → None ≡ reads (between []) bytes
-  too_large past same =
-      elim (reads (between []) bytes) as (λ r. reads (between []) bytes ≡ r → None ≡ r) [
-        | None ↦ λ e. refl
-        | (Some t) ↦ λ e.
-            let size = (found bytes t (sym e)).1.size in
-            let part = part_of t (sym same ∙ e) in
-            absurd (omega (arith, size, part, past))
-      ] refl
+-- ---- behind a token
 
--- ---- behind a step, and behind a run of plain bytes
+-- a closing bracket makes nothing larger
+pub closes_sized : (n m : ℕ) (w : Option WideTree) (opens : List Open) (t : State) → is_some w ≡ false → m ≡ n
+    → t ≡ step_between (within the_limits) opens Closes → IsSized n (standing w opens) → IsSized m t
+closes_sized n m None opens t e f g h =
+    rw (f, g) (subst (λ n. IsSized n (step_between (within the_limits) opens Closes)) (omega arith)
+    (between_sized (within the_limits) n Closes opens h))
+closes_sized n m (Some u) opens t e f g h = absurd cc
 
-grows_by : (s t : State) (b : ℕ) → t ≡ step (within the_limits) s (kind_of b) b → GrowsBy (grown_by s (kind_of b)) s t
-grows_by s t b e =
-    λ n h. subst (λ t. IsSized (n + grown_by s (kind_of b)) t) (sym e)
-    (step_sized (within the_limits) n s (kind_of b) b h)
-
-module _ (s : State) (k : Kind) (b : ℕ) (kind : k ≡ kind_of b) where
-  pub step_grows : (t : State) (at : ℕ) → t ≡ step (within the_limits) s (kind_of b) b
-      → GrowsBy (grown_by s k + ((at + 1) - (at + 1))) s t
-  step_grows t at e =
-      λ n h. subst (λ m. IsSized m t) (omega (arith, ap (λ k. grown_by s k) kind)) (grows_by s t b e n h)
-
-  pub run_grows : (text after : List ℕ) (opens : List Open) (at end : ℕ)
-      → texting text opens ≡ step (within the_limits) s (kind_of b) b → at + 1 ≤ end
-      → length after + (at + 1) ≡ length text + end
-      → GrowsBy (grown_by s k + (end - (at + 1))) s (texting after opens)
-  run_grows text after opens at end e le longer =
-      λ n h. omega (arith, grows_by s (texting text opens) b e n h, ap (λ k. grown_by s k) kind, le, longer)
-
--- behind a byte and a run, with the size added up in another order
-pub sized_on : (s t : State) (k : Kind) (n grown at end m : ℕ) → IsSized n s
-    → GrowsBy (grown_by s k + (end - (at + 1))) s t → grown ≡ grown_by s k → m ≡ n + grown + (end - at - 1)
-    → IsSized m t
-sized_on s t k n grown at end m h grows e is = subst (λ m. IsSized m t) (omega (arith, e, is)) (grows n h)
+-- a string is as large as its leaf
+pub string_sized : (n m : ℕ) (w : Option WideTree) (opens : List Open) (text : List ℕ) (t : State) → w ≡ None
+    → m ≡ n + (1 + length text) → t ≡ put (leaf text) opens → IsSized n (standing w opens) → IsSized m t
+string_sized n m None opens text t w e f h =
+    subst (IsSized m) (sym f) (put_sized m (leaf text) opens (omega (arith, e, h)))
+string_sized n m (Some u) opens text t w e f h = absurd cc

@@ -1,10 +1,12 @@
 -- Plain bytes of a string, several at once.
-use Rattle.std.proofs.Common.{◌≡◌, ℕ, ◌+◌, ◌-◌, ◌<◌, ◌≤◌, true, false, List, [], ◌∷◌, ◌++◌, length, get_or, take, drop}
+use Rattle.std.proofs.Common.{◌≡◌, ℕ, zero, ◌+◌, ◌-◌, ◌<◌, ◌≤◌, true, false, List, [], ◌∷◌, ◌++◌, length, get_or, take, drop}
 use Rattle.std.proofs.Common.{None, refl, sym, ap, ◌∙◌, append_assoc, take_all, take-take, arith}
 use Rattle.std.specs.Prelude.{slice_range, All}
 use Rattle.std.specs.List.{AllByRecursion}
 use Rattle.std.proofs.lemmas.Bool.{and_parts}
 use Rattle.std.proofs.lemmas.List.{append-nil, drop_more, drop-drop, take-append-drop, length-take, length-take-le}
+use Rattle.std.proofs.lemmas.List.{get_or-take, get_or-drop, length-drop}
+use Rattle.std.proofs.Common.{◌⊎◌, ⊎_elim, suc}
 use Rattle.std.proofs.lemmas.List.Elements.{recursion_from_All, All-take, All-get_or}
 use Rattle.tx_tree.specs.TextScan.{takes_byte, takes_all}
 use Rattle.tx_scm.specs.Machine.{Open, texting, reads, leads}
@@ -87,3 +89,17 @@ module _ (bytes text new : List ℕ) (at last count n : ℕ) (opens : List Open)
       taken
       ∙ ap (λ t. reads (texting t opens) (b ∷ rest)) (sym grown)
       ∙ plain_stops b rest new opens (All-get_or IsPlain run n 0 lt plain) (stops lt)
+
+-- a run is not empty where a plain byte comes first
+pub some_plain : (bytes : List ℕ) (at count : ℕ) → at < length bytes → IsPlain (get_or bytes at 0)
+    → (count < length (slice_range bytes at (length bytes))
+    → (get_or (slice_range bytes at (length bytes)) count 0 ≡ 34)
+    ⊎ (get_or (slice_range bytes at (length bytes)) count 0 ≡ 92)) → 1 ≤ count
+some_plain bytes at zero lt plain stop =
+    let all = slice_range bytes at (length bytes) in
+    let some : 0 < length all = omega (arith, length-take (length bytes - at) (drop at bytes), length-drop at bytes, lt) in
+    let first : get_or all 0 0 ≡ get_or bytes at 0 =
+    get_or-take (length bytes - at) (drop at bytes) 0 0 (omega (arith, lt)) ∙ get_or-drop at bytes 0 0
+    ∙ ap (λ i. get_or bytes i 0) (omega arith) in
+    absurd (⊎_elim (λ e. plain.0 (sym first ∙ e)) (λ e. plain.1 (sym first ∙ e)) (stop some))
+some_plain bytes at (suc n) lt plain stop = omega arith

@@ -39,7 +39,3 @@ grown_by (naming label opens) kind = begun_by kind
 grown_by (texting text opens) kind = texted_by kind
 grown_by (escaping text opens) kind = 1
 grown_by _ kind = 0
-
--- what is so large in the first state is larger by n in the second
-abbrev pub GrowsBy : ℕ → State → State → Type 0
-GrowsBy n s t = (size : ℕ) → IsSized size s → IsSized (size + n) t

@@ -1,13 +1,11 @@
 -- Where the reader stands, as contracts see it.
-use Rattle.std.specs.Prelude.{ℕ, ◌+◌, ◌≤◌, List, [], ◌∷◌, map, reverse, Option, Some, None}
+use Rattle.std.specs.Prelude.{◌≡◌, ℕ, ◌+◌, ◌<◌, ◌≤◌, List, [], ◌∷◌, length, drop, map, reverse, Option, Some, None}
 use Rattle.tx_tree.specs.WideTree.{WideTree, forest, nodes_of, total_nodes}
 use Rattle.tx_scm.specs.declared.kinds.Kind.{Kind}
 use Rattle.tx_scm.specs.declared.kinds.Kind.TheVariants.{Closes}
 use Rattle.tx_scm.specs.declared.states.Bracket.{Bracket}
-use Rattle.tx_scm.specs.declared.states.State.{State}
-use Rattle.tx_scm.specs.declared.states.State.TheVariants as states
-use Rattle.tx_scm.specs.Machine as machine
-use Rattle.tx_scm.specs.Machine.{Open, between, opened, naming, texting, escaping, whole, failed}
+use Rattle.tx_scm.specs.declared.states.Reader.{Reader}
+use Rattle.tx_scm.specs.Machine.{Open, State, between, opened, naming, texting, escaping, whole, failed, reads, leads}
 
 abbrev pub open_of : Bracket → Open
 open_of b = record { label = b.label; children = b.children.items }
@@ -16,18 +14,12 @@ open_of b = record { label = b.label; children = b.children.items }
 abbrev pub opens_of : List Bracket → List Open
 opens_of bs = reverse (map open_of bs)
 
-abbrev pub state_of : State → machine.State
-state_of (states.Between bs) = between (opens_of bs.items)
-state_of (states.Opened bs) = opened (opens_of bs.items)
-state_of (states.Naming label bs) = naming label (opens_of bs.items)
-state_of (states.Texting text bs) = texting text (opens_of bs.items)
-state_of (states.Escaping text bs) = escaping text (opens_of bs.items)
-state_of (states.Whole t) = whole t
+abbrev pub standing : Option WideTree → List Open → State
+standing None opens = between opens
+standing (Some t) opens = whole t
 
--- None where no tree goes on so
-abbrev pub next_of : Option State → machine.State
-next_of None = failed
-next_of (Some s) = state_of s
+abbrev pub state_of : Reader → State
+state_of r = standing r.whole (opens_of r.brackets.items)
 
 -- ---- the nodes that were made
 
@@ -40,13 +32,13 @@ abbrev pub made_by : Kind → ℕ
 made_by Closes = 1
 made_by _ = 0
 
-abbrev pub made_in : machine.State → Kind → ℕ
+abbrev pub made_in : State → Kind → ℕ
 made_in (between opens) kind = made_by kind
 made_in (naming label opens) kind = made_by kind
 made_in _ kind = 0
 
 -- so many steps at most were counted from a beginning on
-abbrev pub IsCounted : ℕ → ℕ → machine.State → Type 0
+abbrev pub IsCounted : ℕ → ℕ → State → Type 0
 IsCounted from steps failed = Unit {0}
 IsCounted from steps (between opens) = steps ≤ from + nodes_in opens
 IsCounted from steps (opened opens) = steps ≤ from + nodes_in opens
@@ -56,12 +48,24 @@ IsCounted from steps (escaping text opens) = steps ≤ from + nodes_in opens
 IsCounted from steps (whole t) = steps ≤ from + nodes_of t
 
 -- what was counted in the first state is counted in the second
-abbrev pub CountsOn : machine.State → ℕ → machine.State → ℕ → Type 0
+abbrev pub CountsOn : State → ℕ → State → ℕ → Type 0
 CountsOn s before t after = (from : ℕ) → IsCounted from before s → IsCounted from after t
 
--- ---- reading on
+-- ---- tokens
 
--- what is read with what was found, if anything was
-abbrev pub read_on : {X : Type 0} → Option X → (X → Option WideTree) → Option WideTree
-read_on None after = None
-read_on (Some x) after = after x
+-- the bytes from one place on do in one state what those from a later one do in another, within the limits or not
+pub record GoesTo (bytes : List ℕ) (s : State) (at : ℕ) (t : State) (end : ℕ) : Type 0 where
+  pub later : at < end
+  pub there : end ≤ length bytes
+  pub same : reads s (drop at bytes) ≡ reads t (drop end bytes)
+  pub led : leads s (drop at bytes) ≡ leads t (drop end bytes)
+
+-- the place where the bytes go on, unless no tree is read
+abbrev pub Goes : List ℕ → State → ℕ → Option ℕ → State → Type 0
+Goes bytes s at None t = reads s (drop at bytes) ≡ None
+Goes bytes s at (Some end) t = GoesTo bytes s at t end
+
+-- the same where what was found tells how
+abbrev pub GoesBehind : List ℕ → State → ℕ → (List ℕ → State) → Option (List ℕ × ℕ) → Type 0
+GoesBehind bytes s at after None = reads s (drop at bytes) ≡ None
+GoesBehind bytes s at after (Some found) = GoesTo bytes s at (after found.0) found.1

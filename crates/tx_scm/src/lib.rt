@@ -13,6 +13,7 @@ mod reader;
 mod recogniser;
 mod spots;
 mod states;
+mod strings;
 mod writer;
 
 pub use laws::{

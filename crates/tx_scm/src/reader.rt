@@ -1,28 +1,33 @@
 // The tree that bytes spell.
-ghost use Rattle.std.specs.Prelude.{◌≡◌, ◌≢◌, ℕ, ◌+◌, ◌-◌, ◌<◌, ◌≤◌, List, [], length, get_or};
-ghost use Rattle.std.specs.Prelude.{take, drop, All, Some, None, if◌then◌else◌, IfOk, IfErr, IfSome, OnSome};
-ghost use Rattle.tx_tree.specs.WideTree.{WideTree, node, forest, leaf, nodes_of};
+ghost use Rattle.std.specs.Prelude.{◌≡◌, ◌≢◌, ℕ, ◌+◌, ◌<◌, ◌≤◌, [], true, length, get_or, if◌then◌else◌};
+ghost use Rattle.std.specs.Prelude.{Some, None, IfOk, IfErr, IfSome};
+ghost use Rattle.tx_tree.specs.WideTree.{WideTree, nodes_of};
 ghost use Rattle.tx_tree.specs.Limits.{IsWithinLimits};
+ghost use Rattle.tx_tree.specs.declared.TheConstants.{MOST_SIZE};
 ghost use Rattle.tx_tree.specs.declared.faults.ReadFault.TheVariants.{Memory as NoMemory};
+ghost use Rattle.tx_scm.specs.declared.kinds.Kind.TheVariants.{Closes};
 ghost use Rattle.tx_scm.specs.Spelling.{Spells};
 ghost use Rattle.tx_scm.specs.Faults.{IsSchemeFault};
 ghost use Rattle.tx_scm.specs.Kinds.{kind_of};
-ghost use Rattle.tx_scm.specs.Machine.{Open, within, the_limits, has_room, keeps, put, between};
-ghost use Rattle.tx_scm.specs.Machine.{texting, step_between, step_opened, step_naming, step_texting};
-ghost use Rattle.tx_scm.specs.Machine.{step_escaping, step_whole, lengthened, step, tree_in, reads, leads, node_of};
-ghost use Rattle.tx_scm.specs.Sizes.{grown_by, GrowsBy};
-ghost use Rattle.tx_scm.specs.Plain.{IsPlain};
-ghost use Rattle.tx_scm.specs.States.{open_of, opens_of, state_of, next_of, made_by, made_in, CountsOn, read_on};
+ghost use Rattle.tx_scm.specs.Machine.{within, the_limits, has_room, keeps, put, between, step_between, only_if};
+ghost use Rattle.tx_scm.specs.Machine.{reads, node_of, named};
+ghost use Rattle.tx_scm.specs.Sizes.{IsSized};
+ghost use Rattle.tx_scm.specs.States.{open_of, opens_of, state_of, made_in, CountsOn, Goes};
 
 use crate::kinds::{Kind, kind_of};
 use crate::measures::limit;
-use crate::names::LabelBuilder;
+use crate::names::letters_len;
+use crate::recogniser::behind_white;
 use crate::spots::misspelled;
-use crate::states::{Bracket, State};
+use crate::states::{Bracket, Reader};
+use crate::strings::string_text;
 use std::alloc::Global;
 use std::sync::ledger::Ledger;
 use tx_base::{Memory, Steps};
-use tx_tree::{MOST_ARITY, MOST_DEPTH, MOST_SIZE, ReadFault, TextBuilder, Tree, TreeFault};
+use tx_labels::LabelCache;
+use tx_tree::{
+    Label, LabelFault, MOST_ARITY, MOST_DEPTH, MOST_LABEL, MOST_SIZE, ReadFault, Tree, TreeFault,
+};
 
 // Whether one tree more may stand in the innermost bracket.
 fn has_room(brackets: &Vec<Bracket>) -> bool
@@ -35,18 +40,14 @@ fn has_room(brackets: &Vec<Bracket>) -> bool
         }
 }
 
-// Adds a tree to the innermost bracket.
-fn put(mut brackets: Vec<Bracket>, tree: Tree) -> Result<State, Memory>
-    ensures { IfOk result (λ next. state_of next ≡ put tree (opens_of brackets.items)) }
+// Makes room for a tree more, and for no other one where they are few: most nodes have one child or two.
+fn make_room(trees: &mut Vec<Tree>) -> Result<(), Memory>
+    ensures { trees.new.items ≡ trees.old.items }
 {
-    match brackets.pop() {
-        None => Ok(State::Whole(tree)),
-        Some(mut bracket) => {
-            bracket.children.push(tree)?;
-            brackets.push(bracket)?;
-            Ok(State::Between(brackets))
-        }
+    if trees.len() < 2 {
+        trees.reserve_exact(1)?;
     }
+    Ok(())
 }
 
 // The node of a bracket, or None where it passes a limit.
@@ -60,7 +61,12 @@ fn node_of<L: Ledger>(
         found ≡ (if keeps the_limits (node_of (open_of bracket)) then Some (node_of (open_of bracket)) else None)) }
     ensures counted { steps.new ≡ steps.old + 1 }
 {
-    match Tree::node(alloc, bracket.label, bracket.children, steps) {
+    let Bracket {
+        label,
+        mut children,
+    } = bracket;
+    children.shrink_to_fit();
+    match Tree::node(alloc, label, children, steps) {
         Ok(tree) => Ok(Some(tree)),
         Err(TreeFault::TooWide(_)) => Ok(None),
         Err(TreeFault::TooDeep(_)) => Ok(None),
@@ -69,291 +75,180 @@ fn node_of<L: Ledger>(
     }
 }
 
-#[tactic(auto, unfolding(crate::specs::Machine::step_between))]
-fn step_between<L: Ledger>(
-    alloc: Global,
-    mut brackets: Vec<Bracket>,
-    kind: Kind,
-    steps: &mut Steps<L>,
-) -> Result<Option<State>, Memory>
-    ensures next { IfOk result (λ next.
-        next_of next ≡ step_between (within the_limits) (opens_of brackets.items) kind) }
-    ensures counted { IfOk result (λ next. OnSome next (steps.new ≡ steps.old + made_by kind)) }
-    ensures made { steps.new ≤ steps.old + made_by kind }
-    ensures rises { steps.old ≤ steps.new }
-{
-    match kind {
-        Kind::White => Ok(Some(State::Between(brackets))),
-        Kind::Opens => {
-            if !has_room(&brackets) {
-                return Ok(None);
-            }
-            Ok(Some(State::Opened(brackets)))
-        }
-        Kind::Quote => {
-            if !has_room(&brackets) {
-                return Ok(None);
-            }
-            Ok(Some(State::Texting(TextBuilder::new(alloc), brackets)))
-        }
-        Kind::Closes => {
-            let Some(bracket) = brackets.pop() else {
-                return Ok(None);
-            };
-            match node_of(alloc, bracket, steps)? {
-                None => Ok(None),
-                Some(tree) => Ok(Some(put(brackets, tree)?)),
+impl Reader {
+    // At the beginning.
+    fn new(alloc: Global) -> Result<Reader, Memory>
+        ensures beginning { IfOk result (λ reader. state_of reader ≡ between []) }
+        ensures size { IfOk result (λ reader. reader.size ≡ 0) }
+    {
+        Ok(Reader {
+            alloc,
+            labels: LabelCache::new(alloc)?,
+            brackets: Vec::new(alloc),
+            whole: None,
+            size: 0,
+        })
+    }
+
+    // Adds a tree to the innermost bracket.
+    fn put(&mut self, tree: Tree) -> Result<(), Memory>
+        requires { self.now.whole ≡ None }
+        ensures next { IfOk result (λ _. state_of self.new ≡ put tree (opens_of self.old.brackets.items)) }
+        ensures size { self.new.size ≡ self.old.size }
+    {
+        match self.brackets.pop() {
+            None => self.whole = Some(tree),
+            Some(mut bracket) => {
+                make_room(&mut bracket.children)?;
+                bracket.children.push(tree)?;
+                self.brackets.push(bracket)?;
             }
         }
-        _ => Ok(None),
+        Ok(())
     }
-}
 
-#[tactic(auto, unfolding(crate::specs::Machine::step_opened), using(crate::proofs::ByteKinds::is_letter_kind))]
-fn step_opened(
-    alloc: Global,
-    brackets: Vec<Bracket>,
-    kind: Kind,
-    byte: u8,
-) -> Result<Option<State>, Memory>
-    requires { kind ≡ kind_of byte }
-    ensures { IfOk result (λ next. next_of next ≡ step_opened (opens_of brackets.items) kind byte) }
-{
-    match kind {
-        Kind::White => Ok(Some(State::Opened(brackets))),
-        Kind::Letter => Ok(Some(State::Naming(LabelBuilder::new(alloc, byte)?, brackets))),
-        _ => Ok(None),
+    // Opens a bracket with this label.
+    fn begin(&mut self, label: Label) -> Result<(), Memory>
+        requires { self.now.whole ≡ None }
+        ensures next { IfOk result (λ _.
+            state_of self.new ≡ between (named label (opens_of self.old.brackets.items))) }
+        ensures size { self.new.size ≡ self.old.size }
+    {
+        self.brackets.push(Bracket {
+            label,
+            children: Vec::new(self.alloc),
+        })?;
+        Ok(())
     }
-}
 
-#[tactic(auto, unfolding(crate::specs::Machine::step_naming), using(crate::proofs::ByteKinds::is_letter_kind))]
-fn step_naming<L: Ledger>(
-    alloc: Global,
-    mut label: LabelBuilder,
-    mut brackets: Vec<Bracket>,
-    kind: Kind,
-    byte: u8,
-    steps: &mut Steps<L>,
-) -> Result<Option<State>, Memory>
-    requires { kind ≡ kind_of byte }
-    ensures next { IfOk result (λ next.
-        next_of next ≡ step_naming (within the_limits) label (opens_of brackets.items) kind byte) }
-    ensures counted { IfOk result (λ next. OnSome next (steps.new ≡ steps.old + made_by kind)) }
-    ensures made { steps.new ≤ steps.old + made_by kind }
-    ensures rises { steps.old ≤ steps.new }
-{
-    match kind {
-        Kind::Letter => {
-            if !label.push(byte)? {
-                return Ok(None);
+    // Takes an opening bracket, with its label.
+    fn open(&mut self, bytes: &[u8], at: usize) -> Result<Option<usize>, Memory>
+        requires at { at < length bytes.now }
+        requires byte { get_or bytes.now at 0 ≡ 40 }
+        requires whole { self.now.whole ≡ None }
+        requires small { self.now.size ≤ MOST_SIZE }
+        ensures next { IfOk result (λ found. Goes bytes.now (state_of self.old) at found (state_of self.new)) }
+        ensures counted { (steps : ℕ) → IfOk result (λ found. IfSome found (λ _.
+            CountsOn (state_of self.old) steps (state_of self.new) steps)) }
+        ensures sized { IfOk result (λ found. IfSome found (λ _.
+            IsSized self.old.size (state_of self.old) → IsSized self.new.size (state_of self.new))) }
+    {
+        if !has_room(&self.brackets) {
+            return Ok(None);
+        }
+        let from = behind_white(bytes, at + 1);
+        let count = letters_len(&bytes[from..]);
+        let end = from + count;
+        if count == 0 {
+            return Ok(None);
+        }
+        if count > MOST_LABEL {
+            return Ok(None);
+        }
+        if end == bytes.len() {
+            return Ok(None);
+        }
+        match self.labels.label(&bytes[from..end]) {
+            Err(LabelFault::Memory) => Err(Memory),
+            Err(LabelFault::BadLabel(_)) => unreachable!(),
+            Ok(label) => {
+                self.begin(label)?;
+                self.size += 1;
+                Ok(Some(end))
             }
-            Ok(Some(State::Naming(label, brackets)))
-        }
-        _ => {
-            brackets.push(Bracket {
-                label: label.finish(alloc)?,
-                children: Vec::new(alloc),
-            })?;
-            step_between(alloc, brackets, kind, steps)
         }
     }
-}
 
-// Adds a byte to a string.
-fn lengthened(
-    mut text: TextBuilder,
-    brackets: Vec<Bracket>,
-    byte: u8,
-) -> Result<Option<State>, Memory>
-    ensures { IfOk result (λ next. next_of next ≡ lengthened (within the_limits) text (opens_of brackets.items) byte) }
-{
-    if !text.push(byte)? {
-        return Ok(None);
-    }
-    Ok(Some(State::Texting(text, brackets)))
-}
-
-#[tactic(auto, unfolding(crate::specs::Machine::step_texting), using(crate::proofs::Keeping::text_is, crate::proofs::Keeping::text_is_none))]
-fn step_texting(
-    alloc: Global,
-    text: TextBuilder,
-    brackets: Vec<Bracket>,
-    kind: Kind,
-    byte: u8,
-) -> Result<Option<State>, Memory>
-    ensures { IfOk result (λ next.
-        next_of next ≡ step_texting (within the_limits) text (opens_of brackets.items) kind byte) }
-{
-    match kind {
-        Kind::Quote => match text.finish(alloc)? {
+    // Takes a string.
+    fn string(&mut self, bytes: &[u8], at: usize) -> Result<Option<usize>, Memory>
+        requires at { at < length bytes.now }
+        requires byte { get_or bytes.now at 0 ≡ 34 }
+        requires whole { self.now.whole ≡ None }
+        requires small { self.now.size ≤ MOST_SIZE }
+        ensures next { IfOk result (λ found. Goes bytes.now (state_of self.old) at found (state_of self.new)) }
+        ensures counted { (steps : ℕ) → IfOk result (λ found. IfSome found (λ _.
+            CountsOn (state_of self.old) steps (state_of self.new) steps)) }
+        ensures sized { IfOk result (λ found. IfSome found (λ _.
+            IsSized self.old.size (state_of self.old) → IsSized self.new.size (state_of self.new))) }
+    {
+        if !has_room(&self.brackets) {
+            return Ok(None);
+        }
+        match string_text(self.alloc, bytes, at + 1)? {
             None => Ok(None),
-            Some(text) => Ok(Some(put(brackets, Tree::leaf(alloc, text)?)?)),
-        },
-        Kind::Backslash => Ok(Some(State::Escaping(text, brackets))),
-        _ => lengthened(text, brackets, byte),
-    }
-}
-
-#[tactic(auto, unfolding(crate::specs::Machine::step_escaping))]
-fn step_escaping(
-    text: TextBuilder,
-    brackets: Vec<Bracket>,
-    kind: Kind,
-    byte: u8,
-) -> Result<Option<State>, Memory>
-    ensures { IfOk result (λ next.
-        next_of next ≡ step_escaping (within the_limits) text (opens_of brackets.items) kind byte) }
-{
-    match kind {
-        Kind::Quote | Kind::Backslash => lengthened(text, brackets, byte),
-        _ => Ok(None),
-    }
-}
-
-#[tactic(auto, unfolding(crate::specs::Machine::step_whole))]
-fn step_whole(tree: Tree, kind: Kind) -> Option<State>
-    ensures { next_of result ≡ step_whole tree kind }
-{
-    match kind {
-        Kind::White => Some(State::Whole(tree)),
-        _ => None,
-    }
-}
-
-// By how much a byte of this kind makes larger what was begun.
-fn grown_by(state: &State, kind: Kind) -> usize
-    ensures by { result ≡ grown_by (state_of state.now) kind }
-    ensures most { result ≤ 1 }
-{
-    match state {
-        State::Between(_) | State::Naming(..) => match kind {
-            Kind::Opens | Kind::Quote => 1,
-            _ => 0,
-        },
-        State::Texting(..) => match kind {
-            Kind::Quote | Kind::Backslash => 0,
-            _ => 1,
-        },
-        State::Escaping(..) => 1,
-        _ => 0,
-    }
-}
-
-// Where the reader stands behind one byte more, or None where no tree goes on so.
-fn step<L: Ledger>(
-    alloc: Global,
-    state: State,
-    kind: Kind,
-    byte: u8,
-    steps: &mut Steps<L>,
-) -> Result<Option<State>, Memory>
-    requires { kind ≡ kind_of byte }
-    ensures next { IfOk result (λ next. next_of next ≡ step (within the_limits) (state_of state) (kind_of byte) byte) }
-    ensures counted { IfOk result (λ next.
-        OnSome next (steps.new ≡ steps.old + made_in (state_of state) (kind_of byte))) }
-    ensures made { steps.new ≤ steps.old + made_in (state_of state) kind }
-    ensures rises { steps.old ≤ steps.new }
-{
-    match state {
-        State::Between(brackets) => step_between(alloc, brackets, kind, steps),
-        State::Opened(brackets) => step_opened(alloc, brackets, kind, byte),
-        State::Naming(label, brackets) => step_naming(alloc, label, brackets, kind, byte, steps),
-        State::Texting(text, brackets) => step_texting(alloc, text, brackets, kind, byte),
-        State::Escaping(text, brackets) => step_escaping(text, brackets, kind, byte),
-        State::Whole(tree) => Ok(step_whole(tree, kind)),
-    }
-}
-
-// How many of the bytes stand before the first quote or backslash.
-fn plain_len(bytes: &[u8]) -> usize
-    ensures within { result ≤ length bytes.now }
-    ensures plain { All IsPlain (take result bytes.now) }
-{
-    for i in 0..bytes.len() {
-        if bytes[i] == b'"' || bytes[i] == b'\\' {
-            return i;
-        }
-    }
-    bytes.len()
-}
-
-// Adds the bytes of a string from `at` up to `last`, or up to a quote or backslash before, and answers the place
-// behind them, or None where no text goes on so.
-fn text_run(
-    text: &mut TextBuilder,
-    bytes: &[u8],
-    at: usize,
-    last: usize,
-) -> Result<Option<usize>, Memory>
-    requires from { at ≤ last }
-    requires to { last ≤ length bytes.now }
-    ensures end { IfOk result (λ found. IfSome found (λ end. (at ≤ end) × (end ≤ last))) }
-    ensures longer { IfOk result (λ found. IfSome found (λ end. length text.new + at ≡ length text.old + end)) }
-    ensures same { (opens : List Open) → IfOk result (λ found. reads (texting text.old opens) (drop at bytes.now)
-        ≡ read_on found (λ end. reads (texting text.new opens) (drop end bytes.now))) }
-    ensures led { (opens : List Open) → IfOk result (λ found. IfSome found (λ end.
-        leads (texting text.old opens) (drop at bytes.now) ≡ leads (texting text.new opens) (drop end bytes.now))) }
-{
-    let run = &bytes[at..last];
-    let count = plain_len(run);
-    let taken = text.extend(&run[..count])?;
-    if taken < count {
-        return Ok(None);
-    }
-    Ok(Some(at + count))
-}
-
-// Where the reader stands behind the byte at `at`, which is of this kind, and behind at most `room` plain bytes
-// of a string after it, and the place there, or None where no tree goes on so.
-fn advance<L: Ledger>(
-    alloc: Global,
-    state: State,
-    kind: Kind,
-    bytes: &[u8],
-    at: usize,
-    room: usize,
-    steps: &mut Steps<L>,
-) -> Result<Option<(State, usize)>, Memory>
-    requires at { at < length bytes.now }
-    requires kind { kind ≡ kind_of (get_or bytes.now at 0) }
-    ensures end { IfOk result (λ found. IfSome found (λ next. (at < next.1) × (next.1 ≤ length bytes.now))) }
-    ensures short { IfOk result (λ found. IfSome found (λ next. next.1 ≤ at + 1 + room)) }
-    ensures same { IfOk result (λ found. reads (state_of state) (drop at bytes.now)
-        ≡ read_on found (λ next. reads (state_of next.0) (drop next.1 bytes.now))) }
-    ensures led { IfOk result (λ found. IfSome found (λ next.
-        leads (state_of state) (drop at bytes.now) ≡ leads (state_of next.0) (drop next.1 bytes.now))) }
-    ensures counted { IfOk result (λ found.
-        IfSome found (λ next. CountsOn (state_of state) steps.old (state_of next.0) steps.new)) }
-    ensures sized { IfOk result (λ found. IfSome found (λ next.
-        GrowsBy (grown_by (state_of state) kind + (next.1 - (at + 1))) (state_of state) (state_of next.0))) }
-    ensures made { steps.new ≤ steps.old + made_in (state_of state) kind }
-    ensures rises { steps.old ≤ steps.new }
-{
-    match step(alloc, state, kind, bytes[at], steps)? {
-        None => Ok(None),
-        Some(State::Texting(mut text, brackets)) => {
-            let last = at + 1 + room.min(bytes.len() - at - 1);
-            match text_run(&mut text, bytes, at + 1, last)? {
-                None => Ok(None),
-                Some(end) => Ok(Some((State::Texting(text, brackets), end))),
+            Some((text, end)) => {
+                self.size += 1 + text.bytes().len();
+                self.put(Tree::leaf(self.alloc, text)?)?;
+                Ok(Some(end))
             }
         }
-        Some(next) => Ok(Some((next, at + 1))),
+    }
+
+    // Takes a closing bracket, and answers whether a tree goes on so.
+    #[tactic(auto, unfolding(crate::specs::Machine::step_between))]
+    fn close<L: Ledger>(&mut self, steps: &mut Steps<L>) -> Result<bool, Memory>
+        requires whole { self.now.whole ≡ None }
+        ensures next { IfOk result (λ taken.
+            only_if taken (state_of self.new) ≡ step_between (within the_limits) (opens_of self.old.brackets.items) Closes) }
+        ensures counted { IfOk result (λ taken. taken ≡ true → steps.new ≡ steps.old + 1) }
+        ensures made { steps.new ≤ steps.old + 1 }
+        ensures rises { steps.old ≤ steps.new }
+        ensures size { self.new.size ≡ self.old.size }
+    {
+        let Some(bracket) = self.brackets.pop() else {
+            return Ok(false);
+        };
+        match node_of(self.alloc, bracket, steps)? {
+            None => Ok(false),
+            Some(tree) => {
+                self.put(tree)?;
+                Ok(true)
+            }
+        }
+    }
+
+    // Takes the token whose first byte stands at `at`, and answers the place behind it, or None where no tree goes on so.
+    fn take<L: Ledger>(
+        &mut self,
+        bytes: &[u8],
+        at: usize,
+        steps: &mut Steps<L>,
+    ) -> Result<Option<usize>, Memory>
+        requires at { at < length bytes.now }
+        requires small { self.now.size ≤ MOST_SIZE }
+        ensures next { IfOk result (λ found. Goes bytes.now (state_of self.old) at found (state_of self.new)) }
+        ensures counted { IfOk result (λ found. IfSome found (λ _.
+            CountsOn (state_of self.old) steps.old (state_of self.new) steps.new)) }
+        ensures sized { IfOk result (λ found. IfSome found (λ _.
+            IsSized self.old.size (state_of self.old) → IsSized self.new.size (state_of self.new))) }
+        ensures made { steps.new ≤ steps.old + made_in (state_of self.old) (kind_of (get_or bytes.now at 0)) }
+        ensures rises { steps.old ≤ steps.new }
+    {
+        let kind = kind_of(bytes[at]);
+        if self.whole.is_some() {
+            return match kind {
+                Kind::White => Ok(Some(at + 1)),
+                _ => Ok(None),
+            };
+        }
+        match kind {
+            Kind::White => Ok(Some(at + 1)),
+            Kind::Opens => self.open(bytes, at),
+            Kind::Quote => self.string(bytes, at),
+            Kind::Closes => {
+                if self.close(steps)? {
+                    Ok(Some(at + 1))
+                } else {
+                    Ok(None)
+                }
+            }
+            _ => Ok(None),
+        }
     }
 }
 
-// The tree that has been read, where it is whole.
-fn tree_in(state: State) -> Option<Tree>
-    ensures { result ≡ tree_in (state_of state) }
-{
-    match state {
-        State::Whole(tree) => Some(tree),
-        _ => None,
-    }
-}
-
-// The tree that the bytes spell, or None where they spell none within the limits. What was begun never passes
-// the greatest size, in whichever brackets it stands.
+// The tree that the bytes spell, or None where they spell none within the limits. What was begun passes the greatest
+// size by no more than one text.
 fn read_all<L: Ledger>(
     alloc: Global,
     bytes: &[u8],
@@ -367,24 +262,17 @@ fn read_all<L: Ledger>(
 {
     let most = MOST_SIZE as usize;
     let mut at = 0;
-    let mut size = 0;
-    let mut state = State::Between(Vec::new(alloc));
+    let mut reader = Reader::new(alloc)?;
     while at < bytes.len() {
-        let kind = kind_of(bytes[at]);
-        size += grown_by(&state, kind);
-        if size > most {
+        match reader.take(bytes, at, steps)? {
+            None => return Ok(None),
+            Some(end) => at = end,
+        }
+        if reader.size > most {
             return Ok(None);
         }
-        match advance(alloc, state, kind, bytes, at, most - size, steps)? {
-            None => return Ok(None),
-            Some((next, end)) => {
-                size += end - at - 1;
-                state = next;
-                at = end;
-            }
-        }
     }
-    Ok(tree_in(state))
+    Ok(reader.whole)
 }
 
 // Why the bytes spell no tree within the limits.

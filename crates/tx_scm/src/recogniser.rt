@@ -9,8 +9,9 @@ use tx_base::Memory;
 use tx_tree::Tree;
 
 // The place behind the white that stands at `at`.
-fn behind_white(bytes: &[u8], at: usize) -> usize
+pub(crate) fn behind_white(bytes: &[u8], at: usize) -> usize
     requires { at ≤ length bytes.now }
+    ensures from { at ≤ result }
     ensures end { result ≤ length bytes.now }
     ensures rest { drop result bytes.now ≡ behind_white (drop at bytes.now) }
 {

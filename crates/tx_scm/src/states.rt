@@ -1,6 +1,7 @@
 // Where the reader stands.
-use crate::names::LabelBuilder;
-use tx_tree::{Label, TextBuilder, Tree};
+use std::alloc::Global;
+use tx_labels::LabelCache;
+use tx_tree::{Label, Tree};
 
 /// An open bracket: its label, and its trees so far.
 #[derive(Drop)]
@@ -9,19 +10,13 @@ pub(crate) struct Bracket {
     pub(crate) children: Vec<Tree>,
 }
 
-/// Where the reader stands, behind which open brackets, the innermost last.
+/// Where the reader stands between tokens: behind which open brackets, the innermost last, or behind the whole tree.
 #[derive(Drop)]
-pub(crate) enum State {
-    /// Between two trees, or at the beginning.
-    Between(Vec<Bracket>),
-    /// Behind an opening bracket, before its label.
-    Opened(Vec<Bracket>),
-    /// In the label of a bracket.
-    Naming(LabelBuilder, Vec<Bracket>),
-    /// In a string.
-    Texting(TextBuilder, Vec<Bracket>),
-    /// In a string, behind a backslash.
-    Escaping(TextBuilder, Vec<Bracket>),
-    /// Behind the whole tree.
-    Whole(Tree),
+pub(crate) struct Reader {
+    pub(crate) alloc: Global,
+    pub(crate) labels: LabelCache,
+    pub(crate) brackets: Vec<Bracket>,
+    pub(crate) whole: Option<Tree>,
+    /// The size of what was begun.
+    pub(crate) size: usize,
 }

@@ -12,6 +12,7 @@ pub mod Stuck
 pub mod Feeding
 pub mod Stopping
 pub mod Running
+pub mod PlainTagging
 pub mod Crediting
 pub mod Innermost
 pub mod Lexing

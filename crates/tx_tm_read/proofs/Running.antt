@@ -135,7 +135,7 @@ space_kind : is_white (kind_of 32) ≡ true
 unfolding kind_of is_label_byte
 space_kind = refl
 
-words_run : (x : List ℕ) (j : Bool) (c : Content) (fs : List Open) → AreWords x
+pub words_run : (x : List ℕ) (j : Bool) (c : Content) (fs : List Open) → AreWords x
     → run keep (between j c fs) x ≡ between false (put c (text x)) fs
 words_run _ j c fs (one_byte b h) = plain_step b j c fs h
 words_run _ j c fs (byte_more x b w h) =
@@ -246,7 +246,7 @@ white_some c fs n rest v s h k w o = (
 
 -- ---- the beginning of a short tag
 
-head_run : (j : Bool) (c : Content) (fs : List Open) (h : Head) (rest : List ℕ) → StandsInFront rest h
+pub head_run : (j : Bool) (c : Content) (fs : List Open) (h : Head) (rest : List ℕ) → StandsInFront rest h
     → run keep (between j c fs) (take h.taken rest)
     ≡ at ready (record { behind_join = false; state = begun Short h.more h.label c fs })
 unfolding feed

@@ -11,6 +11,7 @@ pub mod Fronts
 pub mod Spots
 pub mod Runs
 pub mod Heads
+pub mod PlainTags
 pub mod Readers
 pub mod Credits
 pub mod Stands

@@ -12,6 +12,7 @@ mod lines;
 mod making;
 mod marking;
 mod measuring;
+mod plain_tags;
 mod reader;
 mod rows;
 mod runs;

@@ -1,5 +1,5 @@
 // The tree that bytes spell.
-ghost use Rattle.std.specs.Prelude.{◌≡◌, ◌≢◌, ◌≤◌, ◌<◌, ◌+◌, [], Bool, true, false, length, take};
+ghost use Rattle.std.specs.Prelude.{◌≡◌, ◌≢◌, ◌≤◌, ◌<◌, ◌+◌, [], Bool, true, false, length, take, drop};
 ghost use Rattle.std.specs.Prelude.{IfOk, IfErr, IfSome, Some, None};
 ghost use Rattle.tx_tree.specs.WideTree.{WideTree, nodes_of};
 ghost use Rattle.tx_tree.specs.Limits.{IsWithinLimits};
@@ -14,6 +14,7 @@ ghost use Rattle.tx_tm_read.specs.Spots.{opens_of, state_of};
 ghost use Rattle.tx_tm_read.specs.Readers.{between, reader_of, IsReader, ReaderRose};
 ghost use Rattle.tx_tm_read.specs.Runs.{AreWords, IsWhiteRun};
 ghost use Rattle.tx_tm_read.specs.Heads.{StandsInFront};
+ghost use Rattle.tx_tm_read.specs.PlainTags.{HasArguments};
 ghost use Rattle.tx_tm_read.specs.Readers.{IsAdvance, AdvanceRose, IsTreeOf, IsTree, IsRead};
 ghost use Rattle.tx_tm_read.specs.Credits.{state_credit, token_credit, lexed_credit};
 ghost use Rattle.tx_tm_read.specs.Credits.{left, reader_credit, advance_credit, AdvancePaid};
@@ -22,12 +23,13 @@ use crate::blocks::{Body, Paragraphs};
 use crate::heads::{Head, head_front};
 use crate::lexer::{Lexed, Lexer, Word};
 use crate::measuring::limit;
+use crate::plain_tags::plain_arguments;
 use crate::runs::{white_front, words_len};
 use crate::scan::misspelled;
 use crate::shared_labels::Labels;
 use crate::tags::{OpenTag, Spot};
 use crate::taking::begin;
-use crate::walk::{put_text, put_white};
+use crate::walk::{put_node, put_text, put_white};
 use std::alloc::Global;
 use std::sync::ledger::Ledger;
 use tx_base::{Memory, Steps};
@@ -263,6 +265,81 @@ fn with_head<L: Ledger>(
     }
 }
 
+// Behind a short tag at the front of which these are the children, and which has so many bytes behind its beginning.
+fn with_plain_tag<L: Ledger>(
+    labels: &Labels,
+    rest: &[u8],
+    found: Head,
+    children: Vec<Tree>,
+    count: usize,
+    here: Body,
+    opens: Vec<OpenTag>,
+    steps: &mut Steps<L>,
+) -> Result<Option<Advance>, Memory>
+    requires there { StandsInFront rest.now found }
+    requires more { found.more ≡ true }
+    requires arguments { HasArguments (drop found.taken rest.now) children.items count }
+    ensures next { (behind_join : Bool) → IfOk result (λ next.
+        IsAdvance next (between behind_join (content_of here) (opens_of opens.items)) rest.now) }
+    ensures counted { IfOk result
+        (AdvanceRose steps.old steps.new (state_nodes (reading (content_of here) (opens_of opens.items)))) }
+    ensures paid { IfOk result
+        (AdvancePaid steps.old steps.new (state_credit (reading (content_of here) (opens_of opens.items)))) }
+    ensures bounded { steps.new ≤ steps.old + state_credit (reading (content_of here) (opens_of opens.items)) + 2 }
+    ensures rises { steps.old ≤ steps.new }
+{
+    let Head {
+        label,
+        more: _,
+        taken,
+    } = found;
+    match put_node(labels, label, children, here, opens, steps)? {
+        None => Ok(None),
+        Some(spot) => Ok(Some(Advance {
+            reader: Reader {
+                lexer: Lexer::Ready,
+                behind_join: false,
+                spot,
+            },
+            taken: taken + count,
+        })),
+    }
+}
+
+// Behind a short tag at the front whose arguments are words alone, or else behind its beginning.
+fn with_tag<L: Ledger>(
+    labels: &Labels,
+    rest: &[u8],
+    found: Head,
+    here: Body,
+    opens: Vec<OpenTag>,
+    steps: &mut Steps<L>,
+) -> Result<Option<Advance>, Memory>
+    requires { StandsInFront rest.now found }
+    ensures next { (behind_join : Bool) → IfOk result (λ next.
+        IsAdvance next (between behind_join (content_of here) (opens_of opens.items)) rest.now) }
+    ensures counted { IfOk result
+        (AdvanceRose steps.old steps.new (state_nodes (reading (content_of here) (opens_of opens.items)))) }
+    ensures paid { IfOk result
+        (AdvancePaid steps.old steps.new (state_credit (reading (content_of here) (opens_of opens.items)))) }
+    ensures bounded { steps.new ≤ steps.old + state_credit (reading (content_of here) (opens_of opens.items)) + 2 }
+    ensures rises { steps.old ≤ steps.new }
+{
+    if !found.more {
+        return with_head(labels, rest, found, here, opens, steps);
+    }
+    match plain_arguments(labels.alloc, &rest[found.taken..rest.len()]) {
+        Ok(Some((children, count))) => {
+            with_plain_tag(labels, rest, found, children, count, here, opens, steps)
+        }
+        Ok(None) => with_head(labels, rest, found, here, opens, steps),
+        Err(Memory) => {
+            let_go(here, opens);
+            Err(Memory)
+        }
+    }
+}
+
 impl Reader {
     fn new(alloc: Global) -> Reader
         ensures { reader_of result ≡ start }
@@ -385,7 +462,7 @@ impl Reader {
 // Drops what was read. A function that drops it at an exit of its own takes the prover long.
 fn let_go(_here: Body, _opens: Vec<OpenTag>) {}
 
-// Behind the beginning of a short tag at the front, or else behind the first byte.
+// Behind a short tag at the front, or its beginning, or else behind the first byte.
 fn advance_by_head<L: Ledger>(
     labels: &mut Labels,
     behind_join: bool,
@@ -405,7 +482,7 @@ fn advance_by_head<L: Ledger>(
     ensures rises { steps.old ≤ steps.new }
 {
     match head_front(labels, rest) {
-        Ok(Some(found)) => with_head(labels, rest, found, here, opens, steps),
+        Ok(Some(found)) => with_tag(labels, rest, found, here, opens, steps),
         Ok(None) => {
             let reader = Reader {
                 lexer: Lexer::Ready,
@@ -441,14 +518,16 @@ fn advance_between<L: Ledger>(
     ensures bounded { steps.new ≤ steps.old + state_credit (reading (content_of here) (opens_of opens.items)) + 2 }
     ensures rises { steps.old ≤ steps.new }
 {
-    let words = words_len(rest);
-    if words > 0 {
-        return with_words(labels, rest, words, here, opens, steps);
-    }
     if !behind_join {
         let (taken, white) = white_front(rest);
         if taken > 0 {
             return with_white(rest, taken, white, here, opens);
+        }
+    }
+    if rest[0] != b'<' {
+        let words = words_len(rest);
+        if words > 0 {
+            return with_words(labels, rest, words, here, opens, steps);
         }
     }
     advance_by_head(labels, behind_join, rest, here, opens, steps)

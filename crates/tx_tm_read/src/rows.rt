@@ -31,7 +31,7 @@ impl Model for Row {
 }
 
 // Makes room for a tree more, and for no other one where they are few: most nodes have one child or two.
-fn make_room(trees: &mut Vec<Tree>) -> Result<(), Memory>
+pub(crate) fn make_room(trees: &mut Vec<Tree>) -> Result<(), Memory>
     ensures { trees.new.items ≡ trees.old.items }
 {
     if trees.len() < 2 {

@@ -10,11 +10,11 @@ decreases-loop-at g l = length l.bytes - l.at
 abbrev pub invariant-loop-at : goal.invariant-loop-at
 invariant-loop-at g l =
     record {
-      same : reads (between []) l.bytes ≡ reads (state_of l.state) (drop l.at l.bytes);
-      led : leads (between []) l.bytes ≡ leads (state_of l.state) (drop l.at l.bytes);
-      counted : IsCounted l.fn.steps l.steps (state_of l.state);
-      sized : IsSized l.size (state_of l.state);
-      small : l.size ≤ 8000000;
+      same : reads (between []) l.bytes ≡ reads (state_of l.reader) (drop l.at l.bytes);
+      led : leads (between []) l.bytes ≡ leads (state_of l.reader) (drop l.at l.bytes);
+      counted : IsCounted l.fn.steps l.steps (state_of l.reader);
+      sized : IsSized l.reader.size (state_of l.reader);
+      small : l.reader.size ≤ 8000000;
       within : l.at ≤ length l.bytes;
       bounded : l.steps ≤ l.fn.steps + l.at;
       rises : l.fn.steps ≤ l.steps;

@@ -1,0 +1,98 @@
+//! A cache of labels, so that nodes that are made one after the other share them.
+//!
+//! The cache is direct-mapped: each label has one slot, which it takes from the label that stood there before. What is
+//! answered is as from `Label::new`, and only the memory that labels take differs.
+#![tactic(auto)]
+
+ghost use Rattle.std.specs.Prelude.{◌≡◌, ◌≢◌, ◌<◌, IfOk, IfErr, IfSome, OnOk};
+ghost use Rattle.tx_tree.specs.Labels.{IsLabel, IsLabelFault};
+
+use std::alloc::Global;
+use tx_base::Memory;
+use tx_tree::{Label, LabelFault};
+
+// How many labels are kept at most.
+const SLOTS: usize = 64;
+
+/// The labels that were asked for of late, at most one in each slot.
+#[derive(Drop)]
+pub struct LabelCache {
+    alloc: Global,
+    slots: Vec<Option<Label>>,
+}
+
+// In which slot a label of these bytes is kept.
+fn slot_of(bytes: &[u8]) -> usize
+    ensures { result < SLOTS }
+{
+    if bytes.is_empty() {
+        return 0;
+    }
+    let first = bytes[0] as usize;
+    let last = bytes[bytes.len() - 1] as usize;
+    (first * 3 + last * 5 + bytes.len() % SLOTS) % SLOTS
+}
+
+// The same label, which shares the bytes.
+fn shared(label: &Label) -> Result<Label, LabelFault>
+    ensures ok { IfOk result (λ l. l ≡ label.now) }
+    ensures refused { IfErr result (λ fault. fault ≡ LabelFault.Memory) }
+{
+    match label.copy() {
+        Ok(copy) => Ok(copy),
+        Err(Memory) => Err(LabelFault::Memory),
+    }
+}
+
+impl LabelCache {
+    /// No labels yet.
+    pub fn new(alloc: Global) -> Result<LabelCache, Memory> {
+        let mut slots = Vec::with_capacity(alloc, SLOTS)?;
+        for _ in 0..SLOTS {
+            slots.push(None)?;
+        }
+        Ok(LabelCache { alloc, slots })
+    }
+
+    // The label of these bytes, if it stands in the slot.
+    fn kept(&self, slot: usize, bytes: &[u8]) -> Option<&Label>
+        ensures bytes { IfSome result (λ l. l.now ≡ bytes.now) }
+        ensures label { IfSome result (λ l. IsLabel l.now) }
+    {
+        if slot >= self.slots.len() {
+            return None;
+        }
+        match &self.slots[slot] {
+            None => None,
+            Some(label) => {
+                if label.bytes() == bytes {
+                    Some(label)
+                } else {
+                    None
+                }
+            }
+        }
+    }
+
+    // Keeps the label in the slot.
+    fn keep(&mut self, slot: usize, label: Label) {
+        if slot < self.slots.len() {
+            self.slots[slot] = Some(label);
+        }
+    }
+
+    /// The label of these bytes. Where it is kept it shares its bytes with the one that is; else it is kept now.
+    pub fn label(&mut self, bytes: &[u8]) -> Result<Label, LabelFault>
+        ensures ok { IfOk result (λ l. l ≡ bytes.now) }
+        ensures label { OnOk result (IsLabel bytes.now) }
+        ensures refused { IfErr result (λ fault. fault ≢ LabelFault.Memory → IsLabelFault bytes.now fault) }
+    {
+        let slot = slot_of(bytes);
+        if let Some(label) = self.kept(slot, bytes) {
+            return shared(label);
+        }
+        let label = Label::new(self.alloc, bytes)?;
+        self.keep(slot, shared(&label)?);
+        Ok(label)
+    }
+}

@@ -1,0 +1,112 @@
+// The texts of strings.
+ghost use Rattle.std.specs.Prelude.{◌≡◌, ◌≢◌, ◌<◌, ◌≤◌, ◌⊎◌, List, [], length, get_or, take, All, IfOk};
+ghost use Rattle.std.specs.Bool.{OnTrue, OnFalse};
+ghost use Rattle.tx_tree.specs.WideTree.{leaf};
+ghost use Rattle.tx_scm.specs.Machine.{Open, put, texting};
+ghost use Rattle.tx_scm.specs.Plain.{IsPlain};
+ghost use Rattle.tx_scm.specs.States.{Goes, GoesBehind};
+
+use std::alloc::Global;
+use tx_base::Memory;
+use tx_tree::{Text, TextBuilder};
+
+// How many of the bytes stand before the first quote or backslash.
+fn plain_len(bytes: &[u8]) -> usize
+    ensures within { result ≤ length bytes.now }
+    ensures plain { All IsPlain (take result bytes.now) }
+    ensures stop { result < length bytes.now
+        → (get_or bytes.now result 0 ≡ 34) ⊎ (get_or bytes.now result 0 ≡ 92) }
+{
+    for i in 0..bytes.len() {
+        if bytes[i] == b'"' || bytes[i] == b'\\' {
+            return i;
+        }
+    }
+    bytes.len()
+}
+
+// Adds the bytes of a string from `at` up to a quote or a backslash or the end, and answers the place behind them, or
+// None where no text goes on so.
+fn text_run(text: &mut TextBuilder, bytes: &[u8], at: usize) -> Result<Option<usize>, Memory>
+    requires at { at < length bytes.now }
+    requires plain { IsPlain (get_or bytes.now at 0) }
+    ensures next { (opens : List Open) → IfOk result (λ found.
+        Goes bytes.now (texting text.old opens) at found (texting text.new opens)) }
+{
+    let run = &bytes[at..bytes.len()];
+    let count = plain_len(run);
+    let taken = text.extend(&run[..count])?;
+    if taken < count {
+        return Ok(None);
+    }
+    Ok(Some(at + count))
+}
+
+// Whether a backslash may stand before the byte.
+fn is_escapable(byte: u8) -> bool
+    ensures yes { OnTrue result ((byte ≡ 34) ⊎ (byte ≡ 92)) }
+    ensures no { OnFalse result ((byte ≢ 34) × (byte ≢ 92)) }
+{
+    byte == b'"' || byte == b'\\'
+}
+
+// Adds the byte behind the backslash at `at`, and answers the place behind it, or None where no text goes on so.
+fn escaped_byte(text: &mut TextBuilder, bytes: &[u8], at: usize) -> Result<Option<usize>, Memory>
+    requires at { at < length bytes.now }
+    requires backslash { get_or bytes.now at 0 ≡ 92 }
+    ensures next { (opens : List Open) → IfOk result (λ found.
+        Goes bytes.now (texting text.old opens) at found (texting text.new opens)) }
+{
+    if at + 1 == bytes.len() {
+        return Ok(None);
+    }
+    let byte = bytes[at + 1];
+    if !is_escapable(byte) {
+        return Ok(None);
+    }
+    if !text.push(byte)? {
+        return Ok(None);
+    }
+    Ok(Some(at + 2))
+}
+
+// Adds what stands at `at`, which is no quote, and answers the place behind it, or None where no text goes on so.
+fn string_part(text: &mut TextBuilder, bytes: &[u8], at: usize) -> Result<Option<usize>, Memory>
+    requires at { at < length bytes.now }
+    requires no_quote { get_or bytes.now at 0 ≢ 34 }
+    ensures next { (opens : List Open) → IfOk result (λ found.
+        Goes bytes.now (texting text.old opens) at found (texting text.new opens)) }
+{
+    if bytes[at] == b'\\' {
+        escaped_byte(text, bytes, at)
+    } else {
+        text_run(text, bytes, at)
+    }
+}
+
+// The text of the string whose bytes begin at `at`, and the place behind its last quote, or None where there is none.
+pub(crate) fn string_text(
+    alloc: Global,
+    bytes: &[u8],
+    at: usize,
+) -> Result<Option<(Text, usize)>, Memory>
+    requires { at ≤ length bytes.now }
+    ensures { (opens : List Open) → IfOk result
+        (GoesBehind bytes.now (texting [] opens) at (λ text. put (leaf text) opens)) }
+{
+    let mut text = TextBuilder::new(alloc);
+    let mut end = at;
+    while end < bytes.len() {
+        if bytes[end] == b'"' {
+            return match text.finish(alloc)? {
+                None => Ok(None),
+                Some(text) => Ok(Some((text, end + 1))),
+            };
+        }
+        match string_part(&mut text, bytes, end)? {
+            None => return Ok(None),
+            Some(next) => end = next,
+        }
+    }
+    Ok(None)
+}
