@@ -4,8 +4,8 @@ use Rattle.tx_exec_form.specs.Evaluated.{WideTrace}
 use Rattle.tx_exec_form.specs.Laws.{Agrees}
 use Rattle.tx_parts.specs.Parts.{Part, part_trace}
 
--- The same part in two environments of the whole: its trace in the one agrees with what is before it in the other, and
--- is its trace there.
+-- The same part in two environments of the whole, whatever steps it has: its trace in the one agrees with what is
+-- before it in the other, and is its trace there.
 pub record Fits (p q : Part) : Type 0 where
   pub path : q.path ≡ p.path
   pub tree : q.tree ≡ p.tree

@@ -1,5 +1,5 @@
 -- The parts of a tree: it is gone into inner trees, down to trees that aren't open.
-use Rattle.std.specs.Prelude.{ℕ, zero, suc, ◌+◌, ◌*◌, ◌-◌, List, [], ◌∷◌, ◌++◌, length, Option}
+use Rattle.std.specs.Prelude.{◌≡◌, ℕ, zero, suc, ◌+◌, ◌*◌, ◌-◌, List, [], ◌∷◌, ◌++◌, length, Option, Some}
 use Rattle.std.specs.Option.{option_map_or}
 use Rattle.tx_tree.specs.WideTree.{WideTree}
 use Rattle.tx_exec_form.specs.Runs.{Before}
@@ -19,6 +19,18 @@ pub record Part : Type 0 where
 -- what it comes to alone
 abbrev pub part_trace : Part → Option WideTrace
 part_trace p = evaluates p.levels p.steps p.tree p.before
+
+-- it isn't over
+abbrev pub HasTrace : Part → Type 0
+HasTrace p = (trace : WideTrace) × (part_trace p ≡ Some trace)
+
+-- what is kept of a part: where it stands, and its trace
+pub record Stored : Type 0 where
+  pub path : List ℕ
+  pub trace : Option WideTrace
+
+abbrev pub stored : Part → Stored
+stored p = record { path = p.path; trace = part_trace p }
 
 -- what it costs, or all its steps where it is over
 abbrev pub part_cost : Part → ℕ

@@ -23,7 +23,7 @@ ghost use Rattle.tx_origin.specs.Under.{tree_under, value_under};
 ghost use Rattle.tx_parts.specs.Adding.{after_part, part_ran};
 ghost use Rattle.tx_parts.specs.Openness.{openness};
 ghost use Rattle.tx_parts.specs.Composed.{evaluates, composed_as, composed};
-ghost use Rattle.tx_parts.specs.Parts.{part_cost, parts};
+ghost use Rattle.tx_parts.specs.Parts.{HasTrace, stored, part_cost, parts};
 ghost use Rattle.tx_parts.specs.Fitting.{AllFit};
 ghost use Rattle.tx_parts.specs.Standing.{StandsIn};
 
@@ -53,11 +53,17 @@ pub fn composition_law()
     ensures nested { (k c : ℕ) (t : WideTree) (e : Before) → evaluates k c t e ≡ composed k c t e }
 {}
 
-/// A law: where the trace of a tree fits in another environment, so do the traces of its parts, and there the tree has
-/// the same parts with the same traces.
+/// A law: where the trace of a tree fits in another environment, so do the traces of its parts. There the tree has the
+/// same parts with the same traces, with any number of steps that is enough for its trace. Each part has a trace.
 pub fn fitting_law()
-    ensures { (k c : ℕ) (path : List ℕ) (t : WideTree) (e d : Before) (trace : WideTrace) →
-        evaluates k c t e ≡ Some trace → Agrees d trace.looks → AllFit (parts k c path t e) (parts k c path t d) }
+    ensures same_parts { (k c n : ℕ) (path : List ℕ) (t : WideTree) (e d : Before) (trace : WideTrace) →
+        evaluates k c t e ≡ Some trace → Agrees d trace.looks → trace.cost ≤ n →
+        AllFit (parts k c path t e) (parts k n path t d) }
+    ensures same_stored { (k c n : ℕ) (path : List ℕ) (t : WideTree) (e d : Before) (trace : WideTrace) →
+        evaluates k c t e ≡ Some trace → Agrees d trace.looks → trace.cost ≤ n →
+        map stored (parts k n path t d) ≡ map stored (parts k c path t e) }
+    ensures all_traced { (k c : ℕ) (path : List ℕ) (t : WideTree) (e : Before) (trace : WideTrace) →
+        evaluates k c t e ≡ Some trace → AllByRecursion HasTrace (parts k c path t e) }
 {}
 
 /// A law: each part is the tree to which its path leads below that of the whole, and no two parts have one path.

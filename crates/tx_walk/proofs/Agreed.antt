@@ -13,7 +13,7 @@ use Rattle.tx_exec_form.specs.Maps.{LookMap}
 use Rattle.tx_exec_form.specs.Laws.{Agrees}
 use Rattle.tx_walk.specs.SameTrees.{same}
 use Rattle.tx_walk.specs.Held.{agrees}
-use Rattle.tx_walk.proofs.Trees.{both, and_true, alike, same_found}
+use Rattle.tx_walk.proofs.Trees.{both, and_true, alike, same_found, same_of}
 use Rattle.tx_walk.proofs.Once.{found, AreOnce, once, rising}
 
 module _ {X : Type 0} (test : Name × X → Bool) where
@@ -74,3 +74,8 @@ pub agrees_is : (e : Before) (looks : LookMap) → agrees e looks ≡ true → A
 agrees_is e looks h q x f =
     same_found (e q) x
     (all_found (λ look. same (e look.0) look.1) (entries looks) h q x (sym (get-entries looks q) ∙ f))
+
+pub agrees_of : (e : Before) (looks : LookMap) → Agrees e looks → agrees e looks ≡ true
+agrees_of e looks h =
+    found_all (λ look. same (e look.0) look.1) (entries looks) (rising (entries looks) (entries_sorted looks))
+    (λ q x f. same_of (e q) x (h q x (get-entries looks q ∙ f)))

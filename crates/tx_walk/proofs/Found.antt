@@ -58,13 +58,15 @@ found_there ps path i p h e g =
     record {
       part = p;
       there = h;
+      stands = (bytes_eq-Decides p.path path).0 e;
       is = g ∙ ap (λ qs. kept_in qs path) (drop_item ps i p h)
           ∙ if_true (bytes_eq p.path path) (Some (wide_trace p.trace)) (kept_in (drop (i + 1) ps) path) e;
     }
 
 pub found_near : (ps : List DonePart) (path : List ℕ) (i : ℕ) (p : DonePart) → IsDistinct bytes_eq (paths_of ps) →
     slice_get ps i ≡ Some p → bytes_eq p.path path ≡ true → IsKeptAt ps path i
-found_near ps path i p d h e = record { part = p; there = h; is = at_path ps path i p d h e }
+found_near ps path i p d h e =
+    record { part = p; there = h; stands = (bytes_eq-Decides p.path path).0 e; is = at_path ps path i p d h e }
 
 drop_all : (ps : List DonePart) (i : ℕ) → length ps ≤ i → drop i ps ≡ []
 drop_all [] zero h = refl

@@ -3,36 +3,34 @@ use Rattle.std.proofs.Common.{◌≡◌, ℕ, zero, suc, ◌+◌, ◌-◌, ◌�
 use Rattle.std.proofs.Common.{ap, sym, subst, ◌∙◌, append_assoc, length-append, arith}
 use mathlib.Core.Path.{fun_ext}
 use Rattle.std.proofs.lemmas.List.{map-append}
-use Rattle.std.proofs.lemmas.List.Sums.{sum_by-append, sum_by-le-sum_by}
-use Rattle.std.specs.Prelude.{Bool, true, false, Option, Some, None, option_and_then, slice_get, if◌then◌else◌}
+use Rattle.std.proofs.lemmas.List.Sums.{sum_by-append}
+use Rattle.std.specs.Prelude.{Bool, true, false, Option, Some, None, option_and_then, slice_get}
 use Rattle.std.specs.Option.{option_map, option_map_or, option_or}
 use Rattle.std.specs.Ordering.{nat_cmp}
 use Rattle.std.specs.Cmp.Lexicographic.{slice_cmp}
 use Rattle.std.specs.FinMap.{empty, get-empty}
-use Rattle.std.specs.List.{sum_by}
 use Rattle.tx_tree.specs.WideTree.{WideTree}
 use Rattle.tx_tree.proofs.Walks.{drop_item}
 use Rattle.tx_origin.specs.Values.{WideValue}
 use Rattle.tx_origin.specs.Under.{value_under}
 use Rattle.tx_origin.proofs.Under.{under_nested}
 use Rattle.tx_exec_form.specs.Runs.{Before}
-use Rattle.tx_exec_form.specs.Evaluated.{WideTrace, paid}
+use Rattle.tx_exec_form.specs.Evaluated.{WideTrace}
 use Rattle.tx_exec_form.proofs.Tracing.{allowed}
 use Rattle.tx_parts.specs.Atop.{atop, env_atop, both_looks}
 use Rattle.tx_parts.specs.Composed.{alone, evaluates, SoFar, nothing_yet, with_child, children_from}
-use Rattle.tx_parts.specs.Parts.{Part, part_cost, parts, parts_from}
+use Rattle.tx_parts.specs.Parts.{Part, parts, parts_from}
 use Rattle.tx_parts.proofs.PartRuns.{atop_twice}
-use Rattle.tx_parts.proofs.Costing.{parts_cost}
 use Rattle.tx_walk.specs.declared.part.Part.{Part as DonePart}
-use Rattle.tx_walk.specs.Held.{Store, is_held, charge_of, charges}
-use Rattle.tx_walk.specs.Walked.{seen, seen_in, IsCounted}
+use Rattle.tx_walk.specs.Held.{Store, charge_of, charges}
+use Rattle.tx_walk.specs.Walked.{seen, seen_in}
 use Rattle.tx_walk.specs.Steps.{trace_under, IsBehind, IsAdded, with_trace, IsJoined, below, Stage, ChildDone}
 use Rattle.tx_walk.specs.Steps.{ChildOver}
 use Rattle.tx_walk.specs.Steps.{ChildComes, ChildrenDone, ChildrenOver}
 
 -- ---- one child
 
-module _ (kept : Store) (k c : ℕ) (path base : List ℕ) (i : ℕ) (t : WideTree) (a b : SoFar) (names names1 : Before)
+module _ (kept : Store) (k c : ℕ) (path : List ℕ) (i : ℕ) (t : WideTree) (a b : SoFar) (names names1 : Before)
     (old new : List DonePart) (before after : ℕ) where
   abbrev first : Stage
   first = record { joined = a; names = names; done = map seen old; count = before }
@@ -41,17 +39,17 @@ module _ (kept : Store) (k c : ℕ) (path base : List ℕ) (i : ℕ) (t : WideTr
   last = record { joined = b; names = names1; done = map seen new; count = after }
 
   by_comes : (o : Option WideTrace) (went : Bool) (r : Option WideTrace) →
-      evaluates k (c - a.cost) t names ≡ r → o ≡ option_map (trace_under (base ++ i ∷ [])) r →
+      evaluates k (c - a.cost) t names ≡ r → o ≡ option_map (trace_under (path ++ i ∷ [])) r →
       IsBehind names names1 o → IsAdded kept (parts k (c - a.cost) (path ++ i ∷ []) t names) old new o →
-      IsCounted kept (parts k (c - a.cost) (path ++ i ∷ []) t names) (c - a.cost) before after o →
-      IsJoined a b o went → ChildComes kept k c path base i t first last went
+      after ≡ before + charges kept (parts k (c - a.cost) (path ++ i ∷ []) t names) →
+      IsJoined a b o went → ChildComes kept k c path i t first last went
   by_comes None true None q e behind is_added counted joined = let off : true ≡ false = joined in cc
   by_comes None false None q e behind is_added counted joined = record { comes = q; count = counted }
   by_comes None went (Some w) q e behind is_added counted joined = cc
   by_comes (Some u) went None q e behind is_added counted joined = cc
   by_comes (Some u) false (Some w) q e behind is_added counted joined = let off : false ≡ true = joined.0 in cc
   by_comes (Some u) true (Some w) q e behind is_added counted joined =
-      let same : u ≡ trace_under (base ++ i ∷ []) w = cc in
+      let same : u ≡ trace_under (path ++ i ∷ []) w = cc in
       let writes : u.writes ≡ w.writes = ap (λ (v : WideTrace). v.writes) same in
       record {
         trace = w;
@@ -62,56 +60,37 @@ module _ (kept : Store) (k c : ℕ) (path base : List ℕ) (i : ℕ) (t : WideTr
         count = counted;
       }
 
-  pub child_comes : (at origin : List ℕ) (rest : ℕ) (o : Option WideTrace) (went : Bool) → at ≡ path ++ i ∷ [] →
-      origin ≡ base ++ i ∷ [] → rest ≡ c - a.cost →
-      o ≡ option_map (trace_under origin) (evaluates k rest t names) →
+  pub child_comes : (at : List ℕ) (rest : ℕ) (o : Option WideTrace) (went : Bool) → at ≡ path ++ i ∷ [] →
+      rest ≡ c - a.cost → o ≡ option_map (trace_under at) (evaluates k rest t names) →
       IsBehind names names1 o → IsAdded kept (parts k rest at t names) old new o →
-      IsCounted kept (parts k rest at t names) rest before after o →
-      IsJoined a b o went → ChildComes kept k c path base i t first last went
-  child_comes at origin rest o went is_at is_origin is_rest e behind is_added counted joined =
+      after ≡ before + charges kept (parts k rest at t names) →
+      IsJoined a b o went → ChildComes kept k c path i t first last went
+  child_comes at rest o went is_at is_rest e behind is_added counted joined =
       by_comes o went (evaluates k (c - a.cost) t names) refl
-      (e ∙ ap (λ p. option_map (trace_under p) (evaluates k rest t names)) is_origin
-      ∙ ap (λ n. option_map (trace_under (base ++ i ∷ [])) (evaluates k n t names)) is_rest)
+      (e ∙ ap (λ p. option_map (trace_under p) (evaluates k rest t names)) is_at
+      ∙ ap (λ n. option_map (trace_under (path ++ i ∷ [])) (evaluates k n t names)) is_rest)
       behind
       (subst (λ p. IsAdded kept (parts k (c - a.cost) p t names) old new o) is_at
       (subst (λ n. IsAdded kept (parts k n at t names) old new o) is_rest is_added))
-      (subst (λ p. IsCounted kept (parts k (c - a.cost) p t names) (c - a.cost) before after o) is_at
-      (subst (λ n. IsCounted kept (parts k n at t names) n before after o) is_rest counted))
+      (counted ∙ ap (λ n. before + charges kept (parts k n at t names)) is_rest
+      ∙ ap (λ p. before + charges kept (parts k (c - a.cost) p t names)) is_at)
       joined
-
--- ---- charges
-
-charge_less : (kept : Store) (p : Part) → charge_of kept p ≤ part_cost p
-charge_less kept p = by (is_held kept p)
-  where
-    by : (b : Bool) → (if b then 0 else part_cost p) ≤ part_cost p
-    by true = omega arith
-    by false = omega arith
-
--- the charges of the parts of a tree are no more than its cost
-pub charges_within : (kept : Store) (k c : ℕ) (path : List ℕ) (t : WideTree) (e : Before) (trace : WideTrace) →
-    evaluates k c t e ≡ Some trace → charges kept (parts k c path t e) ≤ trace.cost
-charges_within kept k c path t e trace h =
-    let all : sum_by part_cost (parts k c path t e) ≤ paid c (evaluates k c t e) = parts_cost k c path t e in
-    let cost : paid c (evaluates k c t e) ≡ trace.cost = ap (paid c) h in
-    omega (arith, sum_by-le-sum_by (charge_of kept) part_cost (parts k c path t e) (charge_less kept), all, cost)
 
 -- ---- the loop
 
 -- Behind i children.
-pub record Going (kept : Store) (k c : ℕ) (path base : List ℕ) (kids : List WideTree) (s : Stage) (i : ℕ) (s1 : Stage) :
+pub record Going (kept : Store) (k c : ℕ) (path : List ℕ) (kids : List WideTree) (s : Stage) (i : ℕ) (s1 : Stage) :
     Type 0 where
   pub so_far : SoFar
   pub run : children_from (evaluates k) c 0 nothing_yet kids s.names ≡
       children_from (evaluates k) c i so_far (drop i kids) s.names
-  pub joined : s1.joined ≡ below base so_far
+  pub joined : s1.joined ≡ below path so_far
   pub names : s1.names ≡ env_atop so_far.writes s.names
   pub earlier : List Part
   pub parts_are : parts_from k (parts k) c path 0 nothing_yet kids s.names ≡
       earlier ++ parts_from k (parts k) c path i so_far (drop i kids) s.names
   pub done : s1.done ≡ s.done ++ map (seen_in kept) earlier
   pub count : s1.count ≡ s.count + charges kept earlier
-  pub within : charges kept earlier ≤ so_far.cost
   pub cost : so_far.cost ≤ c
   pub many : length so_far.values ≡ i
 
@@ -122,9 +101,9 @@ pub append_none : {X : Type 0} (xs : List X) → xs ++ [] ≡ xs
 append_none [] = refl
 append_none (x ∷ xs) = ap (λ ys. x ∷ ys) (append_none xs)
 
-pub begins : (kept : Store) (k c : ℕ) (path base : List ℕ) (kids : List WideTree) (s : Stage) →
-    s.joined ≡ nothing_yet → Going kept k c path base kids s 0 s
-begins kept k c path base kids s h =
+pub begins : (kept : Store) (k c : ℕ) (path : List ℕ) (kids : List WideTree) (s : Stage) →
+    s.joined ≡ nothing_yet → Going kept k c path kids s 0 s
+begins kept k c path kids s h =
     record {
       so_far = nothing_yet;
       run = refl;
@@ -134,7 +113,6 @@ begins kept k c path base kids s h =
       parts_are = refl;
       done = sym (append_none s.done);
       count = omega arith;
-      within = omega arith;
       cost = omega arith;
       many = refl;
     }
@@ -158,8 +136,8 @@ below_more base i a w =
       height = max a.height w.height;
     }) (values_more base i a.values w.value)
 
-module _ (kept : Store) (k c : ℕ) (path base : List ℕ) (kids : List WideTree) (s : Stage) (i : ℕ) (s1 : Stage)
-    (g : Going kept k c path base kids s i s1) (t : WideTree) (there : slice_get kids i ≡ Some t) where
+module _ (kept : Store) (k c : ℕ) (path : List ℕ) (kids : List WideTree) (s : Stage) (i : ℕ) (s1 : Stage)
+    (g : Going kept k c path kids s i s1) (t : WideTree) (there : slice_get kids i ≡ Some t) where
   pub cost_is : s1.joined.cost ≡ g.so_far.cost
   cost_is = ap (λ (a : SoFar). a.cost) g.joined
 
@@ -182,26 +160,23 @@ module _ (kept : Store) (k c : ℕ) (path base : List ℕ) (kids : List WideTree
   run_at =
       g.run ∙ ap (λ ts. children_from (evaluates k) c i g.so_far ts s.names) (drop_item kids i t there)
 
-  pub next : (s2 : Stage) → ChildDone kept k c path base i t s1 s2 → Going kept k c path base kids s (i + 1) s2
+  pub next : (s2 : Stage) → ChildDone kept k c path i t s1 s2 → Going kept k c path kids s (i + 1) s2
   next s2 d =
       let comes : evaluates k (c - g.so_far.cost) t (env_atop g.so_far.writes s.names) ≡ Some d.trace =
       sym at_child ∙ d.comes in
       let here : List Part = parts k (c - g.so_far.cost) (path ++ i ∷ []) t (env_atop g.so_far.writes s.names) in
       let bounds : (d.trace.cost ≤ c - g.so_far.cost) × (d.trace.height ≤ k) =
       allowed k (c - g.so_far.cost) (alone t) (env_atop g.so_far.writes s.names) d.trace comes in
-      let charged : charges kept here ≤ d.trace.cost =
-      charges_within kept k (c - g.so_far.cost) (path ++ i ∷ []) t (env_atop g.so_far.writes s.names) d.trace comes in
       let both : charges kept (g.earlier ++ here) ≡ charges kept g.earlier + charges kept here =
       sum_by-append (charge_of kept) g.earlier here in
       let cost : g.so_far.cost ≤ c = g.cost in
-      let within : charges kept g.earlier ≤ g.so_far.cost = g.within in
       let many : length g.so_far.values ≡ i = g.many in
       record {
         so_far = with_child i g.so_far d.trace;
         run = run_at ∙ ap (option_and_then (λ trace. children_from (evaluates k) c (i + 1)
             (with_child i g.so_far trace) (drop (i + 1) kids) s.names)) comes;
-        joined = d.joined ∙ ap (λ a. with_trace a (trace_under (base ++ i ∷ []) d.trace)) g.joined
-            ∙ below_more base i g.so_far d.trace;
+        joined = d.joined ∙ ap (λ a. with_trace a (trace_under (path ++ i ∷ []) d.trace)) g.joined
+            ∙ below_more path i g.so_far d.trace;
         names = d.names ∙ ap (env_atop d.trace.writes) g.names
             ∙ sym (atop_twice d.trace.writes g.so_far.writes s.names);
         earlier = g.earlier ++ here;
@@ -218,22 +193,30 @@ module _ (kept : Store) (k c : ℕ) (path base : List ℕ) (kids : List WideTree
             ∙ ap (λ xs. s.done ++ xs) (sym (map-append (seen_in kept) g.earlier here));
         count = d.count ∙ ap (λ ps. s1.count + charges kept ps) parts_at
             ∙ ap (λ n. n + charges kept here) g.count ∙ omega (arith, both);
-        within = omega (arith, both, within, charged);
         cost = omega (arith, cost, bounds.0);
         many = length-append g.so_far.values (value_under (i ∷ []) d.trace.value ∷ []) ∙ ap (λ n. n + 1) many;
       }
 
-  pub stops : (s2 : Stage) → ChildOver k c t s1 s2 → ChildrenOver k c kids s s2
+  pub stops : (s2 : Stage) → ChildOver kept k c path i t s1 s2 → ChildrenOver kept k c path kids s s2
   stops s2 d =
-      let cost : g.so_far.cost ≤ c = g.cost in
-      let within : charges kept g.earlier ≤ g.so_far.cost = g.within in
-      let so_far : s1.joined.cost ≡ g.so_far.cost = cost_is in
-      let before : s1.count ≡ s.count + charges kept g.earlier = g.count in
-      let after : s2.count ≤ s1.count + (c - s1.joined.cost) = d.count in
+      let comes : evaluates k (c - g.so_far.cost) t (env_atop g.so_far.writes s.names) ≡ None =
+      sym at_child ∙ d.comes in
+      let here : List Part = parts k (c - g.so_far.cost) (path ++ i ∷ []) t (env_atop g.so_far.writes s.names) in
+      let both : charges kept (g.earlier ++ here) ≡ charges kept g.earlier + charges kept here =
+      sum_by-append (charge_of kept) g.earlier here in
+      let all : parts_from k (parts k) c path 0 nothing_yet kids s.names ≡ g.earlier ++ here =
+      g.parts_are
+      ∙ ap (λ ts. g.earlier ++ parts_from k (parts k) c path i g.so_far ts s.names) (drop_item kids i t there)
+      ∙ ap (λ o. g.earlier ++ (here ++ option_map_or
+      (λ trace. parts_from k (parts k) c path (i + 1) (with_child i g.so_far trace) (drop (i + 1) kids) s.names)
+      o [])) comes
+      ∙ ap (λ ps. g.earlier ++ ps) (append_none here) in
       record {
         comes = run_at ∙ ap (option_and_then (λ trace. children_from (evaluates k) c (i + 1)
-            (with_child i g.so_far trace) (drop (i + 1) kids) s.names)) (sym at_child ∙ d.comes);
-        count = omega (arith, cost, within, so_far, before, after);
+            (with_child i g.so_far trace) (drop (i + 1) kids) s.names)) comes;
+        count = d.count ∙ ap (λ ps. s1.count + charges kept ps) parts_at
+            ∙ ap (λ n. n + charges kept here) g.count ∙ omega (arith, both)
+            ∙ ap (λ ps. s.count + charges kept ps) (sym all);
       }
 
 drop_all : {X : Type 0} (xs : List X) (n : ℕ) → n ≡ length xs → drop n xs ≡ []
@@ -242,9 +225,9 @@ drop_all [] (suc n) h = refl
 drop_all (x ∷ xs) zero h = absurd (omega (arith, h))
 drop_all {X} (x ∷ xs) (suc n) h = drop_all {X = X} xs n (omega (arith, h))
 
-pub ends : (kept : Store) (k c : ℕ) (path base : List ℕ) (kids : List WideTree) (s : Stage) (i : ℕ) (s1 : Stage) →
-    Going kept k c path base kids s i s1 → i ≡ length kids → ChildrenDone kept k c path base kids s s1
-ends kept k c path base kids s i s1 g h =
+pub ends : (kept : Store) (k c : ℕ) (path : List ℕ) (kids : List WideTree) (s : Stage) (i : ℕ) (s1 : Stage) →
+    Going kept k c path kids s i s1 → i ≡ length kids → ChildrenDone kept k c path kids s s1
+ends kept k c path kids s i s1 g h =
     let all : parts_from k (parts k) c path 0 nothing_yet kids s.names ≡ g.earlier =
     g.parts_are ∙ ap (λ ts. g.earlier ++ parts_from k (parts k) c path i g.so_far ts s.names) (drop_all kids i h)
     ∙ append_none g.earlier in

@@ -1,11 +1,11 @@
 -- What a walk answered can be kept for the next one.
-use Rattle.std.proofs.Common.{◌≡◌, ℕ, List, [], ◌∷◌, ◌++◌, map, refl, ap, sym, subst, ◌∙◌, ◌⊎◌, inl, inr}
+use Rattle.std.proofs.Common.{◌≡◌, ℕ, List, [], ◌∷◌, ◌++◌, map, refl, ap, sym, subst, ◌∙◌}
 use Rattle.std.proofs.lemmas.List.{append_cancel_left}
 use Rattle.std.proofs.lemmas.Slice.Eq.{bytes_eq-Decides}
-use Rattle.std.specs.Prelude.{Bool, true, false, Option, Some, None, if◌then◌else◌, slice_get, option_and_then}
+use Rattle.std.specs.Prelude.{Bool, true, false, Some, None, if◌then◌else◌}
 use Rattle.std.specs.List.{IsDistinct, AllByRecursion}
 use Rattle.std.specs.Str.{bytes_eq}
-use Rattle.tx_tree.specs.WideTree.{WideTree, children_of}
+use Rattle.tx_tree.specs.WideTree.{WideTree}
 use Rattle.tx_tree.specs.Paths.{subtree}
 use Rattle.tx_exec_form.specs.Runs.{Before}
 use Rattle.tx_exec_form.specs.Evaluated.{WideTrace}
@@ -90,70 +90,8 @@ walked_sound kept k c path t e ds h =
         supported path t u (path ++ below) below trace f
         (append_cancel_left path below f.stands.below (sym f.is_at ∙ f.stands.path_is)) leads
 
--- ---- below a whole document
-
-along : (path below : List ℕ) (d t : WideTree) → subtree d path ≡ Some t → subtree d (path ++ below) ≡ subtree t below
-along [] below d t h = let same : d ≡ t = cc in ap (λ v. subtree v below) same
-along (i ∷ path) below d t h =
-    by (slice_get (children_of d) i) h (λ u g. along path below u t g)
-  where
-    by : (o : Option WideTree) → option_and_then (λ v. subtree v path) o ≡ Some t →
-        ((u : WideTree) → subtree u path ≡ Some t → subtree u (path ++ below) ≡ subtree t below) →
-        option_and_then (λ v. subtree v (path ++ below)) o ≡ subtree t below
-    by None g go = cc
-    by (Some u) g go = go u g
-
-pub sound_below : (kept : Store) (path : List ℕ) (d t : WideTree) → subtree d path ≡ Some t → IsSound kept [] d →
-    IsSound kept path t
-sound_below kept path d t h sound =
-    record {
-      holds = λ below u trace leads found.
-          sound.holds (path ++ below) u trace (along path below d t h ∙ leads) found;
-    }
-
-pub walked_above : (kept : Store) (k c : ℕ) (path : List ℕ) (d t : WideTree) (e : Before) (ds : List DonePart) →
-    subtree d path ≡ Some t → map seen ds ≡ map (seen_in kept) (parts k c path t e) → IsSound (kept_in ds) [] d
-walked_above kept k c path d t e ds there h =
-    record {
-      holds = λ at u trace leads found.
-          by at u trace leads
-          (found_in kept path t at trace ds (parts k c path t e) h (parts_stand k c path t e) found);
-    }
-  where
-    by : (at : List ℕ) (u : WideTree) (trace : WideTrace) → subtree d at ≡ Some u → Found path t at trace →
-        Supports trace (alone u)
-    by at u trace leads f =
-        supported path t u at f.stands.below trace f refl
-        (sym (along path f.stands.below d t there) ∙ ap (subtree d) (sym f.stands.path_is ∙ f.is_at) ∙ leads)
-
--- ---- two lists of parts
-
-kept_both : (xs ys : List DonePart) (at : List ℕ) (trace : WideTrace) → kept_in (xs ++ ys) at ≡ Some trace →
-    (kept_in xs at ≡ Some trace) ⊎ (kept_in ys at ≡ Some trace)
-kept_both [] ys at trace h = inr h
-kept_both (x ∷ xs) ys at trace h = by (bytes_eq x.path at) h (λ g. kept_both xs ys at trace g)
-  where
-    by : (b : Bool) → (if b then Some (wide_trace x.trace) else kept_in (xs ++ ys) at) ≡ Some trace →
-        (kept_in (xs ++ ys) at ≡ Some trace → (kept_in xs at ≡ Some trace) ⊎ (kept_in ys at ≡ Some trace)) →
-        ((if b then Some (wide_trace x.trace) else kept_in xs at) ≡ Some trace) ⊎ (kept_in ys at ≡ Some trace)
-    by true g go = inl g
-    by false g go = go g
-
-pub sound_both : (path : List ℕ) (t : WideTree) (xs ys : List DonePart) → IsSound (kept_in xs) path t →
-    IsSound (kept_in ys) path t → IsSound (kept_in (xs ++ ys)) path t
-sound_both path t xs ys first second =
-    record {
-      holds = λ below u trace leads found. by below u trace leads (kept_both xs ys (path ++ below) trace found);
-    }
-  where
-    by : (below : List ℕ) (u : WideTree) (trace : WideTrace) → subtree t below ≡ Some u →
-        (kept_in xs (path ++ below) ≡ Some trace) ⊎ (kept_in ys (path ++ below) ≡ Some trace) →
-        Supports trace (alone u)
-    by below u trace leads (inl g) = first.holds below u trace leads g
-    by below u trace leads (inr g) = second.holds below u trace leads g
-
-pub sound_none : (path : List ℕ) (t : WideTree) → IsSound (kept_in []) path t
-sound_none path t = record { holds = λ below u trace leads found. absurd (none_found trace found) }
+pub sound_none : (t : WideTree) → IsSound (kept_in []) [] t
+sound_none t = record { holds = λ below u trace leads found. absurd (none_found trace found) }
   where
     none_found : (trace : WideTrace) → None ≡ Some trace → ⊥
     none_found trace h = cc

@@ -5,6 +5,8 @@ pub mod Once
 pub mod Agreed
 pub mod Found
 pub mod Settled
+pub mod Charging
+pub mod Spending
 pub mod Going
 pub mod Document
 pub mod Ends

@@ -9,3 +9,9 @@ take_next before after ws i w x y lt is so_far pushed first second =
     pushed ∙ ap (λ us. us ++ (x, y) ∷ []) so_far
     ∙ ap (λ a. take i ws ++ (a, y) ∷ []) first ∙ ap (λ b. take i ws ++ (w.0, b) ∷ []) second
     ∙ ap (λ v. take i ws ++ v ∷ []) is ∙ sym (take_more ws i w lt)
+
+-- the same for numbers of a path
+pub number_next : (before after ns : List ℕ) (i n : ℕ) → i < length ns → n ≡ get_or ns i n → before ≡ take i ns →
+    after ≡ before ++ n ∷ [] → after ≡ take (i + 1) ns
+number_next before after ns i n lt is so_far step =
+    step ∙ ap (λ xs. xs ++ n ∷ []) so_far ∙ ap (λ m. take i ns ++ m ∷ []) is ∙ sym (take_more ns i n lt)

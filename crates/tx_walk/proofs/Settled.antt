@@ -1,10 +1,10 @@
 -- What a part comes to.
-use Rattle.std.proofs.Common.{◌≡◌, ℕ, zero, suc, ◌+◌, ◌<◌, ◌≤◌, inl, inr, List, [], ◌∷◌, ◌++◌, map, refl, ap, sym}
+use Rattle.std.proofs.Common.{◌≡◌, ℕ, zero, suc, ◌+◌, ◌-◌, ◌<◌, ◌≤◌, inl, inr, List, [], ◌∷◌, ◌++◌, map, refl, ap, sym}
 use Rattle.std.proofs.Common.{subst, ◌∙◌, leb-true, leb-false, arith}
 use Rattle.std.proofs.lemmas.List.{map-append}
 use Rattle.std.proofs.lemmas.List.Sums.{sum_by-cons}
 use Rattle.std.specs.Prelude.{Bool, true, false, not, nat_le, ◌&&◌, if◌then◌else◌, Option, Some, None, IfSome}
-use Rattle.std.specs.Prelude.{Result, Ok, Err, IfOk}
+use Rattle.std.specs.Prelude.{Result, Ok, Err, IfOk, OnOk}
 use Rattle.std.specs.Option.{option_map}
 use Rattle.tx_tree.specs.WideTree.{WideTree}
 use Rattle.tx_exec_form.specs.Runs.{Before}
@@ -21,8 +21,8 @@ use Rattle.tx_walk.specs.Held.{Store, fits, charge_of, charges, IsSound}
 use Rattle.tx_walk.specs.Held as held
 use Rattle.tx_walk.specs.Finding.{IsHeldBy}
 use Rattle.tx_walk.proofs.Agreed.{agrees_is}
-use Rattle.tx_walk.specs.Walked.{seen, seen_in, IsCounted}
-use Rattle.tx_walk.specs.Steps.{trace_under, IsAdded, settled, IsPushed, IsNewPushed, IsPaid}
+use Rattle.tx_walk.specs.Walked.{seen, seen_in}
+use Rattle.tx_walk.specs.Steps.{trace_under, IsAdded, settled, IsPushed, IsNewPushed}
 
 abbrev cost_of : Option WideTrace → ℕ
 cost_of None = 0
@@ -50,10 +50,26 @@ module _ (k c : ℕ) (base : List ℕ) (t : WideTree) (e : Before) (w : WideTrac
   pub settles : Settles k c base t e w (settled k c base w)
   settles = by (nat_le w.cost c) (nat_le w.height k) refl refl
 
--- what is evaluated with all levels
-pub settles_anew : (m k c : ℕ) (base : List ℕ) (t : WideTree) (e : Before) (w : WideTrace) →
-    evaluates m c t e ≡ Some w → Settles k c base t e w (settled k c base w)
-settles_anew m k c base t e w h = settles k c base t e w (supports m c (alone t) e w h) (agrees m c (alone t) e w h)
+-- what is done with some levels is done with as many as it needs
+pub done_lower : (m k c : ℕ) (t : WideTree) (e : Before) (w : WideTrace) → evaluates m c t e ≡ Some w → w.height ≤ k →
+    evaluates k c t e ≡ Some w
+done_lower m k c t e w h low =
+    let bounds : (w.cost ≤ c) × (w.height ≤ m) = allowed m c (alone t) e w h in
+    supports m c (alone t) e w h k c e (agrees m c (alone t) e w h) bounds.0 low
+
+-- and over with fewer
+pub over_below : (m k c : ℕ) (t : WideTree) (e : Before) (w : WideTrace) → evaluates m c t e ≡ Some w → k < w.height →
+    evaluates k c t e ≡ None
+over_below m k c t e w h high =
+    none_allowed w k c (alone t) e (supports m c (alone t) e w h) (agrees m c (alone t) e w h) (inr high)
+
+pub cost_within : (m c : ℕ) (t : WideTree) (e : Before) (w : WideTrace) → evaluates m c t e ≡ Some w → w.cost ≤ c
+cost_within m c t e w h = (allowed m c (alone t) e w h).0
+
+-- the rest of what was left is counted too
+pub rest_counted : (before between after c cost : ℕ) → between ≡ before + cost → cost ≤ c →
+    after ≡ between + (c - cost) → after ≡ before + c
+rest_counted before between after c cost h few g = omega (arith, h, few, g)
 
 -- what is over with all levels is over with fewer
 pub over_lower : (m k c : ℕ) (t : WideTree) (e : Before) → k ≤ m → evaluates m c t e ≡ None → evaluates k c t e ≡ None
@@ -73,44 +89,23 @@ pub settled_exact : (k c : ℕ) (base : List ℕ) (t : WideTree) (e : Before) (w
 settled_exact k c base t e w o (is_done a b) = a ∙ ap (option_map (trace_under base)) (sym b)
 settled_exact k c base t e w o (is_over a b) = a ∙ ap (option_map (trace_under base)) (sym b)
 
-pub new_pushed : (m k c : ℕ) (path base : List ℕ) (t : WideTree) (e : Before) (old new : List DonePart) (p : DonePart)
-    (o : Option WideTrace) → evaluates m c t e ≡ Some (wide_trace p.trace) →
-    o ≡ settled k c base (wide_trace p.trace) → p.path ≡ path → p.renewed ≡ true → IsPushed old p new o →
-    IsNewPushed k c path t e old new o
-new_pushed m k c path base t e old new p o h q stands renewed pushed =
-    by o (subst (Settles k c base t e (wide_trace p.trace)) (sym q) (settles_anew m k c base t e (wide_trace p.trace)
-    h))
-    pushed
-  where
-    by : (o : Option WideTrace) → Settles k c base t e (wide_trace p.trace) o → IsPushed old p new o →
-        IsNewPushed k c path t e old new o
-    by None s g = tt
-    by (Some trace) (is_done a b) g = record { part = p; pushed = g; stands = stands; renewed = renewed; comes = b }
-    by (Some trace) (is_over a b) g = cc
-
-pub new_paid : (m k c : ℕ) (base : List ℕ) (t : WideTree) (e : Before) (w : WideTrace) (o : Option WideTrace)
-    (before after : ℕ) → evaluates m c t e ≡ Some w → o ≡ settled k c base w → after ≡ before + w.cost →
-    IsPaid k c t e before after o
-new_paid m k c base t e w o before after h q counted =
-    by o (subst (Settles k c base t e w) (sym q) (settles_anew m k c base t e w h))
-  where
-    by : (o : Option WideTrace) → Settles k c base t e w o → IsPaid k c t e before after o
-    by None s =
-        let bounds : (w.cost ≤ c) × (w.height ≤ m) = allowed m c (alone t) e w h in
-        omega (arith, counted, bounds.0)
-    by (Some trace) (is_done a b) = counted ∙ ap (λ r. before + paid c r) (sym b)
-    by (Some trace) (is_over a b) = cc
+pub new_pushed : (k c : ℕ) (path : List ℕ) (t : WideTree) (e : Before) (old new : List DonePart) (p : DonePart)
+    (o : Option WideTrace) → evaluates k c t e ≡ Some (wide_trace p.trace) → p.path ≡ path → p.renewed ≡ true →
+    new ≡ old ++ p ∷ [] → IsNewPushed k c path t e old new o
+new_pushed k c path t e old new p None comes stands renewed pushed = tt
+new_pushed k c path t e old new p (Some trace) comes stands renewed pushed =
+    record { part = p; pushed = pushed; stands = stands; renewed = renewed; comes = comes }
 
 -- ---- what is held
 
-pub held_settles : (kept : Store) (k c : ℕ) (path base : List ℕ) (t : WideTree) (e : Before) (p : DonePart) →
-    IsSound kept path t → IsHeldBy e (kept path) p → Settles k c base t e (wide_trace p.trace)
-    (settled k c base (wide_trace p.trace))
-held_settles kept k c path base t e p sound h =
+pub held_settles : (kept : Store) (k c : ℕ) (path : List ℕ) (t : WideTree) (e : Before) (p : DonePart) →
+    IsSound kept path t → IsHeldBy e path (kept path) p → Settles k c path t e (wide_trace p.trace)
+    (settled k c path (wide_trace p.trace))
+held_settles kept k c path t e p sound h =
     let support : Supports (wide_trace p.trace) (alone t) =
     sound.holds [] t (wide_trace p.trace) refl (ap kept (append_none path) ∙ h.is) in
     let fit : held.agrees e (wide_trace p.trace).looks ≡ true = sym (ap (fits e) h.is) ∙ h.held in
-    settles k c base t e (wide_trace p.trace) support (agrees_is e (wide_trace p.trace).looks fit)
+    settles k c path t e (wide_trace p.trace) support (agrees_is e (wide_trace p.trace).looks fit)
 
 pub outcome_cost : (k c cost : ℕ) (base : List ℕ) (t : WideTree) (e : Before) (o : Option WideTrace) →
     o ≡ option_map (trace_under base) (evaluates k c t e) → cost + c ≤ 1000000 →
@@ -145,7 +140,7 @@ charge_new : (held : Bool) (n : ℕ) → held ≡ false → (if held then 0 else
 charge_new false n h = omega arith
 charge_new true n h = cc
 
-module _ (kept : Store) (k c : ℕ) (path base : List ℕ) (t : WideTree) (e : Before) (shut : openness t ≡ Shut)
+module _ (kept : Store) (k c : ℕ) (path : List ℕ) (t : WideTree) (e : Before) (shut : openness t ≡ Shut)
     (some : 0 < k) where
   seen_one : (p : DonePart) (w : WideTrace) (fit : Bool) → p.path ≡ path → evaluates k c t e ≡ Some
       (wide_trace p.trace) →
@@ -165,7 +160,7 @@ module _ (kept : Store) (k c : ℕ) (path base : List ℕ) (t : WideTree) (e : B
       ∙ ap (λ ps. map seen old ++ map (seen_in kept) ps) (sym (shut_parts k c path t e shut some))
 
   pub held_added : (old new : List DonePart) (p : DonePart) (o : Option WideTrace) →
-      Settles k c base t e (wide_trace p.trace) o → p.path ≡ path → p.renewed ≡ false →
+      Settles k c path t e (wide_trace p.trace) o → p.path ≡ path → p.renewed ≡ false →
       fits e (kept path) ≡ true → IsPushed old p new o → IsAdded kept (parts k c path t e) old new o
   held_added old new p None s is_path renewed fit pushed = tt
   held_added old new p (Some trace) (is_done a b) is_path renewed fit pushed =
@@ -184,23 +179,35 @@ module _ (kept : Store) (k c : ℕ) (path base : List ℕ) (t : WideTree) (e : B
       ap (charges kept) (shut_parts k c path t e shut some)
       ∙ sum_by-cons (charge_of kept) (one_part k c path t e) []
 
-  pub held_counted : (before : ℕ) (o : Option WideTrace) → fits e (kept path) ≡ true →
-      IsCounted kept (parts k c path t e) c before before o
-  held_counted before None fit = omega arith
-  held_counted before (Some trace) fit =
+  pub held_counted : (before : ℕ) → fits e (kept path) ≡ true → before ≡ before + charges kept (parts k c path t e)
+  held_counted before fit =
       let none : charges kept (parts k c path t e) ≡ 0 =
       charges_one ∙ charge_held (fits e (kept path)) (paid c (evaluates k c t e)) fit in
       omega (arith, none)
 
-  pub new_counted : (before after : ℕ) (o : Option WideTrace) → fits e (kept path) ≡ false →
-      IsPaid k c t e before after o → IsCounted kept (parts k c path t e) c before after o
-  new_counted before after None fit h = h
-  new_counted before after (Some trace) fit h =
+  pub new_counted : (before after : ℕ) → fits e (kept path) ≡ false → after ≡ before + paid c (evaluates k c t e) →
+      after ≡ before + charges kept (parts k c path t e)
+  new_counted before after fit h =
       let all : charges kept (parts k c path t e) ≡ paid c (evaluates k c t e) =
       charges_one ∙ charge_new (fits e (kept path)) (paid c (evaluates k c t e)) fit in
       h ∙ ap (λ n. before + n) (sym all)
 
 -- ---- results
+
+-- a result that tells nothing more
+pub any_ok : {X Y : Type 0} (r : Result X Y) (P : Type 0) → P → OnOk r P
+any_ok (Ok x) P p = p
+any_ok (Err y) P p = tt
+
+pub on_ok : {X Y : Type 0} (r : Result X Y) (P Q : Type 0) → (P → Q) → OnOk r P → OnOk r Q
+on_ok (Ok x) P Q f p = f p
+on_ok (Err y) P Q f p = tt
+
+-- what holds whenever it is Ok
+pub pushed_ok : {X Y : Type 0} (r : Result X Y) (P : Type 0) (R : X → Type 0) → (P → (x : X) → R x) → OnOk r P →
+    IfOk r R
+pushed_ok (Ok x) P R f p = f p x
+pushed_ok (Err y) P R f p = tt
 
 pub both_ok : {X Y : Type 0} (r : Result X Y) (P Q R : X → Type 0) → ((x : X) → P x → Q x → R x) → IfOk r P →
     IfOk r Q → IfOk r R

@@ -58,3 +58,10 @@ same_found None None h = refl
 same_found None (Some u) h = cc
 same_found (Some t) None h = cc
 same_found (Some t) (Some u) h = ap Some (same_is t u h)
+
+self_found : (o : Option WideTree) → same o o ≡ true
+self_found None = refl
+self_found (Some t) = self_same t
+
+pub same_of : (a b : Option WideTree) → a ≡ b → same a b ≡ true
+same_of a b e = subst (λ (o : Option WideTree). same a o ≡ true) e (self_found a)

@@ -32,10 +32,11 @@ use Rattle.tx_parts.proofs.Composing.{inner_are}
 use Rattle.tx_walk.specs.declared.part.Part.{Part as DonePart}
 use Rattle.tx_walk.specs.declared.settings.Settings.{Settings}
 use Rattle.tx_walk.specs.Held.{Store, charges}
-use Rattle.tx_walk.specs.Walked.{seen, seen_in, IsCounted}
+use Rattle.tx_walk.specs.Walked.{seen, seen_in}
 use Rattle.tx_walk.specs.Steps.{trace_under, IsAdded}
 use Rattle.tx_walk.specs.Opening.{pairs_of, AreSettings}
 use Rattle.tx_walk.specs.Scopes.{with_at, FitsWith, IsScope}
+use Rattle.tx_walk.proofs.Charging.{none_charged}
 use Rattle.tx_walk.proofs.Going.{append_none, values_more}
 use Rattle.tx_walk.proofs.Document.{few_children}
 use Rattle.tx_walk.proofs.Texts.{settings_count, inner_at}
@@ -196,12 +197,20 @@ module _ (k c : ℕ) (path : List ℕ) (t : WideTree) (ps : TextSettings) (b : W
   with_parts =
       ap (λ n. parts n c path t e) (sym upper) ∙ ap (λ o. parts_as o (k - 1) (parts (k - 1)) c path t e) opens
 
-module _ (kept : Store) (k c : ℕ) (path base : List ℕ) (t : WideTree) (ps : TextSettings) (b : WideTree) (e e1 : Before)
+-- where no step is left for the last child nothing is charged
+pub dear_charged : (kept : Store) (k c : ℕ) (path : List ℕ) (t : WideTree) (ps : TextSettings) (b : WideTree)
+    (e : Before) → openness t ≡ With ps b → 0 < k → c ≤ settings_cost ps → charges kept (parts k c path t e) ≡ 0
+dear_charged kept k c path t ps b e opens some dear =
+    ap (charges kept) (with_parts k c path t ps b e opens some)
+    ∙ none_charged kept (k - 1) (c - (1 + settings_cost ps)) (path ++ (2 * length ps) ∷ []) b (env_atop (set_by ps) e)
+    (omega (arith, dear))
+
+module _ (kept : Store) (k c : ℕ) (path : List ℕ) (t : WideTree) (ps : TextSettings) (b : WideTree) (e e1 : Before)
     (opens : openness t ≡ With ps b) (some : 0 < k) (left : settings_cost ps < c) (s : Settings)
-    (are : AreSettings base ps s) (rest i : ℕ) (is_e : e1 ≡ env_atop (set_by ps) e)
+    (are : AreSettings path ps s) (rest i : ℕ) (is_e : e1 ≡ env_atop (set_by ps) e)
     (is_rest : rest ≡ c - (1 + settings_cost ps)) (is_i : i ≡ 2 * length ps) (o r : Option WideTrace) where
   abbrev below : ℕ → ℕ → Before → Option WideTrace
-  below n j d = option_map (trace_under (base ++ j ∷ [])) (evaluates (k - 1) n b d)
+  below n j d = option_map (trace_under (path ++ j ∷ [])) (evaluates (k - 1) n b d)
 
   moved : below rest i e1 ≡ below (c - (1 + settings_cost ps)) (2 * length ps) (env_atop (set_by ps) e)
   moved =
@@ -209,43 +218,43 @@ module _ (kept : Store) (k c : ℕ) (path base : List ℕ) (t : WideTree) (ps : 
       ∙ ap (below (c - (1 + settings_cost ps)) (2 * length ps)) is_e
 
   -- the settings as they are
-  with_at_is : (w : WideTrace) → with_at base (overlaid empty s.pairs.items) s.values.items s.cost w ≡
-      with_at base (set_by ps) (map (value_under base) (setting_values 0 ps)) (settings_cost ps) w
+  with_at_is : (w : WideTrace) → with_at path (overlaid empty s.pairs.items) s.values.items s.cost w ≡
+      with_at path (set_by ps) (map (value_under path) (setting_values 0 ps)) (settings_cost ps) w
   with_at_is w =
-      ap (λ ws. with_at base (overlaid empty ws) s.values.items s.cost w) are.pairs
-      ∙ ap (λ vs. with_at base (set_by ps) vs s.cost w) are.values
-      ∙ ap (λ n. with_at base (set_by ps) (map (value_under base) (setting_values 0 ps)) n w) are.cost
+      ap (λ ws. with_at path (overlaid empty ws) s.values.items s.cost w) are.pairs
+      ∙ ap (λ vs. with_at path (set_by ps) vs s.cost w) are.values
+      ∙ ap (λ n. with_at path (set_by ps) (map (value_under path) (setting_values 0 ps)) n w) are.cost
 
   by_exact : (x : Option WideTrace) → evaluates (k - 1) (c - (1 + settings_cost ps)) b (env_atop (set_by ps) e) ≡ x →
-      option_map (with_at base (overlaid empty s.pairs.items) s.values.items s.cost)
-      (option_map (trace_under (base ++ (2 * length ps) ∷ [])) x) ≡
-      option_map (trace_under base) (option_map (with_trace ps) x)
+      option_map (with_at path (overlaid empty s.pairs.items) s.values.items s.cost)
+      (option_map (trace_under (path ++ (2 * length ps) ∷ [])) x) ≡
+      option_map (trace_under path) (option_map (with_trace ps) x)
   by_exact None q = refl
   by_exact (Some w) q =
-      ap Some (with_at_is (trace_under (base ++ (2 * length ps) ∷ []) w) ∙ with_under base ps w)
+      ap Some (with_at_is (trace_under (path ++ (2 * length ps) ∷ []) w) ∙ with_under path ps w)
 
   pub scope_exact : o ≡ below rest i e1 →
-      r ≡ option_map (with_at base (overlaid empty s.pairs.items) s.values.items s.cost) o →
-      r ≡ option_map (trace_under base) (evaluates k c t e)
+      r ≡ option_map (with_at path (overlaid empty s.pairs.items) s.values.items s.cost) o →
+      r ≡ option_map (trace_under path) (evaluates k c t e)
   scope_exact h g =
-      g ∙ ap (option_map (with_at base (overlaid empty s.pairs.items) s.values.items s.cost)) (h ∙ moved)
+      g ∙ ap (option_map (with_at path (overlaid empty s.pairs.items) s.values.items s.cost)) (h ∙ moved)
       ∙ by_exact (evaluates (k - 1) (c - (1 + settings_cost ps)) b (env_atop (set_by ps) e)) refl
-      ∙ ap (option_map (trace_under base)) (sym (with_is k c path t ps b e opens some left))
+      ∙ ap (option_map (trace_under path)) (sym (with_is k c path t ps b e opens some left))
 
   by_fits : (x u : Option WideTrace) →
       evaluates (k - 1) (c - (1 + settings_cost ps)) b (env_atop (set_by ps) e) ≡ x →
-      u ≡ option_map (trace_under (base ++ (2 * length ps) ∷ [])) x → k ≤ 400 → c ≤ 1000000 → IsWithinLimits t →
+      u ≡ option_map (trace_under (path ++ (2 * length ps) ∷ [])) x → k ≤ 400 → c ≤ 1000000 → IsWithinLimits t →
       IfSome u (λ w. FitsWith s.values.items s.cost w)
   by_fits x None q h low few within = tt
   by_fits None (Some u) q h low few within = cc
   by_fits (Some w) (Some u) q h low few within =
-      let same : trace_under (base ++ (2 * length ps) ∷ []) w ≡ u = sym cc in
+      let same : trace_under (path ++ (2 * length ps) ∷ []) w ≡ u = sym cc in
       let count : length (children_of t) ≡ suc (2 * length ps) =
       settings_count (children_of t) ps b (named t ps b opens).texts in
       subst (λ v. FitsWith s.values.items s.cost v) same
-      (subst (λ n. FitsWith s.values.items n (trace_under (base ++ (2 * length ps) ∷ []) w)) (sym are.cost)
-      (subst (λ vs. FitsWith vs (settings_cost ps) (trace_under (base ++ (2 * length ps) ∷ []) w)) (sym are.values)
-      (with_fits base ps w k c t e
+      (subst (λ n. FitsWith s.values.items n (trace_under (path ++ (2 * length ps) ∷ []) w)) (sym are.cost)
+      (subst (λ vs. FitsWith vs (settings_cost ps) (trace_under (path ++ (2 * length ps) ∷ []) w)) (sym are.values)
+      (with_fits path ps w k c t e
       (with_is k c path t ps b e opens some left ∙ ap (option_map (with_trace ps)) q) low few
       (omega (arith, count, few_children t within)))))
 
@@ -263,12 +272,12 @@ module _ (kept : Store) (k c : ℕ) (path base : List ℕ) (t : WideTree) (ps : 
       ∙ sym (with_parts k c path t ps b e opens some)
 
   pub scope_added : (old new : List DonePart) →
-      r ≡ option_map (with_at base (overlaid empty s.pairs.items) s.values.items s.cost) o →
+      r ≡ option_map (with_at path (overlaid empty s.pairs.items) s.values.items s.cost) o →
       IsAdded kept (parts (k - 1) rest (path ++ i ∷ []) b e1) old new o → IsAdded kept (parts k c path t e) old new r
   scope_added old new g h = by o r g h
     where
       by : (o r : Option WideTrace) →
-          r ≡ option_map (with_at base (overlaid empty s.pairs.items) s.values.items s.cost) o →
+          r ≡ option_map (with_at path (overlaid empty s.pairs.items) s.values.items s.cost) o →
           IsAdded kept (parts (k - 1) rest (path ++ i ∷ []) b e1) old new o →
           IsAdded kept (parts k c path t e) old new r
       by o None g h = tt
@@ -276,19 +285,9 @@ module _ (kept : Store) (k c : ℕ) (path base : List ℕ) (t : WideTree) (ps : 
       by (Some w) (Some u) g h = h ∙ ap (λ qs. map seen old ++ map (seen_in kept) qs) parts_moved
 
   pub scope_counted : (before after : ℕ) →
-      r ≡ option_map (with_at base (overlaid empty s.pairs.items) s.values.items s.cost) o →
-      IsCounted kept (parts (k - 1) rest (path ++ i ∷ []) b e1) rest before after o →
-      IsCounted kept (parts k c path t e) c before after r
-  scope_counted before after g h = by o r g h
-    where
-      by : (o r : Option WideTrace) →
-          r ≡ option_map (with_at base (overlaid empty s.pairs.items) s.values.items s.cost) o →
-          IsCounted kept (parts (k - 1) rest (path ++ i ∷ []) b e1) rest before after o →
-          IsCounted kept (parts k c path t e) c before after r
-      by None None g h = omega (arith, h, is_rest)
-      by (Some w) None g h = cc
-      by None (Some u) g h = cc
-      by (Some w) (Some u) g h = h ∙ ap (λ qs. before + charges kept qs) parts_moved
+      after ≡ before + charges kept (parts (k - 1) rest (path ++ i ∷ []) b e1) →
+      after ≡ before + charges kept (parts k c path t e)
+  scope_counted before after h = h ∙ ap (λ qs. before + charges kept qs) parts_moved
 
 -- ---- as the walk goes
 
@@ -312,21 +311,37 @@ scope_is t base left r s opens f is =
           (f opens.0 opens.1 (named t opens.0 opens.1 opens.2).texts);
     }
 
-pub scope_over : (k c : ℕ) (path base : List ℕ) (t : WideTree) (e : Before) (r : Option Settings)
+pub scope_over : (k c : ℕ) (path : List ℕ) (t : WideTree) (e : Before) (r : Option Settings)
     (opens : (ps : TextSettings) × (b : WideTree) × (openness t ≡ With ps b)) → 0 < k →
     ((ps : TextSettings) (b : WideTree) → settings_in (children_of t) ≡ Some (ps, b) →
-    MatchOption r (c < settings_cost ps) (λ x. AreSettings base ps x)) → r ≡ None → evaluates k c t e ≡ None
-scope_over k c path base t e r opens some f is =
+    MatchOption r (c < settings_cost ps) (λ x. AreSettings path ps x)) → r ≡ None → evaluates k c t e ≡ None
+scope_over k c path t e r opens some f is =
     let dear : c < settings_cost opens.0 =
-    subst (λ o. MatchOption o (c < settings_cost opens.0) (λ x. AreSettings base opens.0 x)) is
+    subst (λ o. MatchOption o (c < settings_cost opens.0) (λ x. AreSettings path opens.0 x)) is
     (f opens.0 opens.1 (named t opens.0 opens.1 opens.2).texts) in
     with_over k c path t opens.0 opens.1 e opens.2 some (omega (arith, dear))
 
-module _ (k c : ℕ) (path base : List ℕ) (t : WideTree) (s : Settings) (sc : IsScope t base s) (some : 0 < k) where
+pub scope_charged : (kept : Store) (k c : ℕ) (path : List ℕ) (t : WideTree) (e : Before) (r : Option Settings)
+    (opens : (ps : TextSettings) × (b : WideTree) × (openness t ≡ With ps b)) → 0 < k →
+    ((ps : TextSettings) (b : WideTree) → settings_in (children_of t) ≡ Some (ps, b) →
+    MatchOption r (c < settings_cost ps) (λ x. AreSettings path ps x)) → r ≡ None →
+    charges kept (parts k c path t e) ≡ 0
+scope_charged kept k c path t e r opens some f is =
+    let dear : c < settings_cost opens.0 =
+    subst (λ o. MatchOption o (c < settings_cost opens.0) (λ x. AreSettings path opens.0 x)) is
+    (f opens.0 opens.1 (named t opens.0 opens.1 opens.2).texts) in
+    dear_charged kept k c path t opens.0 opens.1 e opens.2 some (omega (arith, dear))
+
+module _ (k c : ℕ) (path : List ℕ) (t : WideTree) (s : Settings) (sc : IsScope t path s) (some : 0 < k) where
   pub too_dear : (e : Before) → c ≤ s.cost → evaluates k c t e ≡ None
   too_dear e h =
       let cost : s.cost ≡ settings_cost sc.texts = sc.are.cost in
       with_over k c path t sc.texts sc.inner e sc.opens some (omega (arith, h, cost))
+
+  pub dear_with : (kept : Store) (e : Before) → c ≤ s.cost → charges kept (parts k c path t e) ≡ 0
+  dear_with kept e h =
+      let cost : s.cost ≡ settings_cost sc.texts = sc.are.cost in
+      dear_charged kept k c path t sc.texts sc.inner e sc.opens some (omega (arith, h, cost))
 
   module _ (kept : Store) (less : s.cost < c) (u : WideTree) (i n : ℕ) (is_n : n ≡ length (children_of t))
       (is_i : i ≡ n - 1) (there : slice_get (children_of t) i ≡ Some u) (rest : ℕ) (is_rest : rest ≡ c - 1 - s.cost)
@@ -354,32 +369,31 @@ module _ (k c : ℕ) (path base : List ℕ) (t : WideTree) (s : Settings) (sc : 
     inside_so = set_inside m sc.texts pairs (is_pairs ∙ sc.are.pairs)
 
     pub closed_exact :
-        o ≡ option_map (trace_under (base ++ i ∷ [])) (evaluates (k - 1) rest u (get (overlaid m pairs))) →
-        r ≡ option_map (with_at base (overlaid empty s.pairs.items) s.values.items s.cost) o →
-        r ≡ option_map (trace_under base) (evaluates k c t (get m))
+        o ≡ option_map (trace_under (path ++ i ∷ [])) (evaluates (k - 1) rest u (get (overlaid m pairs))) →
+        r ≡ option_map (with_at path (overlaid empty s.pairs.items) s.values.items s.cost) o →
+        r ≡ option_map (trace_under path) (evaluates k c t (get m))
     closed_exact h g =
-        scope_exact kept k c path base t sc.texts u (get m) (get (overlaid m pairs)) opens_so some left_so s sc.are
+        scope_exact kept k c path t sc.texts u (get m) (get (overlaid m pairs)) opens_so some left_so s sc.are
         rest i inside_so rest_so last_is o r h g
 
     pub closed_fits :
-        o ≡ option_map (trace_under (base ++ i ∷ [])) (evaluates (k - 1) rest u (get (overlaid m pairs))) →
+        o ≡ option_map (trace_under (path ++ i ∷ [])) (evaluates (k - 1) rest u (get (overlaid m pairs))) →
         k ≤ 400 → c ≤ 1000000 → IsWithinLimits t → IfSome o (λ w. FitsWith s.values.items s.cost w)
     closed_fits h low few within =
-        scope_fits kept k c path base t sc.texts u (get m) (get (overlaid m pairs)) opens_so some left_so s sc.are
+        scope_fits kept k c path t sc.texts u (get m) (get (overlaid m pairs)) opens_so some left_so s sc.are
         rest i inside_so rest_so last_is o r h low few within
 
     pub closed_added : (old new : List DonePart) →
-        r ≡ option_map (with_at base (overlaid empty s.pairs.items) s.values.items s.cost) o →
+        r ≡ option_map (with_at path (overlaid empty s.pairs.items) s.values.items s.cost) o →
         IsAdded kept (parts (k - 1) rest (path ++ i ∷ []) u (get (overlaid m pairs))) old new o →
         IsAdded kept (parts k c path t (get m)) old new r
     closed_added old new g h =
-        scope_added kept k c path base t sc.texts u (get m) (get (overlaid m pairs)) opens_so some left_so s sc.are
+        scope_added kept k c path t sc.texts u (get m) (get (overlaid m pairs)) opens_so some left_so s sc.are
         rest i inside_so rest_so last_is o r old new g h
 
     pub closed_counted : (before after : ℕ) →
-        r ≡ option_map (with_at base (overlaid empty s.pairs.items) s.values.items s.cost) o →
-        IsCounted kept (parts (k - 1) rest (path ++ i ∷ []) u (get (overlaid m pairs))) rest before after o →
-        IsCounted kept (parts k c path t (get m)) c before after r
-    closed_counted before after g h =
-        scope_counted kept k c path base t sc.texts u (get m) (get (overlaid m pairs)) opens_so some left_so s sc.are
-        rest i inside_so rest_so last_is o r before after g h
+        after ≡ before + charges kept (parts (k - 1) rest (path ++ i ∷ []) u (get (overlaid m pairs))) →
+        after ≡ before + charges kept (parts k c path t (get m))
+    closed_counted before after h =
+        scope_counted kept k c path t sc.texts u (get m) (get (overlaid m pairs)) opens_so some left_so s sc.are
+        rest i inside_so rest_so last_is o r before after h

@@ -3,6 +3,8 @@ pub mod Held
 pub mod Walked
 pub mod Finding
 pub mod Steps
+pub mod Spending
 pub mod Opening
 pub mod Outside
 pub mod Scopes
+pub mod Open

@@ -11,7 +11,7 @@ use Rattle.tx_origin.specs.Under.{value_under}
 use Rattle.tx_env.specs.Pairs.{Name}
 use Rattle.tx_exec_form.specs.Maps.{LookMap, noted}
 use Rattle.tx_exec_form.specs.Runs.{Before}
-use Rattle.tx_exec_form.specs.Evaluated.{WideTrace, paid}
+use Rattle.tx_exec_form.specs.Evaluated.{WideTrace}
 use Rattle.tx_exec.specs.Outcomes.{wide_trace}
 use Rattle.tx_exec.specs.States.{before_of}
 use Rattle.tx_parts.specs.Atop.{atop, env_atop, both_looks}
@@ -20,7 +20,7 @@ use Rattle.tx_parts.specs.Parts.{Part, parts, parts_from}
 use Rattle.tx_walk.specs.declared.part.Part.{Part as DonePart}
 use Rattle.tx_walk.specs.declared.joined.Joined.{Joined}
 use Rattle.tx_walk.specs.Held.{Store, charges}
-use Rattle.tx_walk.specs.Walked.{Seen, seen, seen_in}
+use Rattle.tx_walk.specs.Walked.{IsTidy, IsPlaced, Seen, seen, seen_in}
 
 -- the trace with each origin of its value under the path
 abbrev pub trace_under : List ℕ → WideTrace → WideTrace
@@ -46,6 +46,11 @@ abbrev pub settled : ℕ → ℕ → List ℕ → WideTrace → Option WideTrace
 settled k c base trace =
     if nat_le trace.cost c && nat_le trace.height k then Some (trace_under base trace) else None
 
+-- a part as a walk answers it
+pub record IsReady (p : DonePart) : Type 0 where
+  pub tidy : IsTidy p
+  pub placed : IsPlaced p
+
 -- the part comes behind the others
 abbrev pub IsPushed : List DonePart → DonePart → List DonePart → Option WideTrace → Type 0
 IsPushed old p new None = Unit {0}
@@ -62,11 +67,6 @@ pub record NewPushed (k c : ℕ) (path : List ℕ) (t : WideTree) (e : Before) (
 abbrev pub IsNewPushed : ℕ → ℕ → List ℕ → WideTree → Before → List DonePart → List DonePart → Option WideTrace → Type 0
 IsNewPushed k c path t e old new None = Unit {0}
 IsNewPushed k c path t e old new (Some trace) = NewPushed k c path t e old new
-
--- what it costs is counted; where it is over no more than was allowed
-abbrev pub IsPaid : ℕ → ℕ → WideTree → Before → ℕ → ℕ → Option WideTrace → Type 0
-IsPaid k c t e before after None = after ≤ before + c
-IsPaid k c t e before after (Some trace) = after ≡ before + paid c (evaluates k c t e)
 
 -- ---- the children of a `document`
 
@@ -132,39 +132,39 @@ stage_of j env done count =
     record { joined = so_far_of j; names = before_of env; done = map seen done; count = count }
 
 -- the child of number i is done
-pub record ChildDone (kept : Store) (k c : ℕ) (path base : List ℕ) (i : ℕ) (t : WideTree) (s s1 : Stage) : Type 0 where
+pub record ChildDone (kept : Store) (k c : ℕ) (path : List ℕ) (i : ℕ) (t : WideTree) (s s1 : Stage) : Type 0 where
   pub trace : WideTrace
   pub comes : evaluates k (c - s.joined.cost) t s.names ≡ Some trace
-  pub joined : s1.joined ≡ with_trace s.joined (trace_under (base ++ i ∷ []) trace)
+  pub joined : s1.joined ≡ with_trace s.joined (trace_under (path ++ i ∷ []) trace)
   pub names : s1.names ≡ env_atop trace.writes s.names
   pub done : s1.done ≡ s.done ++ map (seen_in kept) (parts k (c - s.joined.cost) (path ++ i ∷ []) t s.names)
   pub count : s1.count ≡ s.count + charges kept (parts k (c - s.joined.cost) (path ++ i ∷ []) t s.names)
 
 -- it is over
-pub record ChildOver (k c : ℕ) (t : WideTree) (s s1 : Stage) : Type 0 where
+pub record ChildOver (kept : Store) (k c : ℕ) (path : List ℕ) (i : ℕ) (t : WideTree) (s s1 : Stage) : Type 0 where
   pub comes : evaluates k (c - s.joined.cost) t s.names ≡ None
-  pub count : s1.count ≤ s.count + (c - s.joined.cost)
+  pub count : s1.count ≡ s.count + charges kept (parts k (c - s.joined.cost) (path ++ i ∷ []) t s.names)
 
-abbrev pub ChildComes : Store → ℕ → ℕ → List ℕ → List ℕ → ℕ → WideTree → Stage → Stage → Bool → Type 0
-ChildComes kept k c path base i t s s1 true = ChildDone kept k c path base i t s s1
-ChildComes kept k c path base i t s s1 false = ChildOver k c t s s1
+abbrev pub ChildComes : Store → ℕ → ℕ → List ℕ → ℕ → WideTree → Stage → Stage → Bool → Type 0
+ChildComes kept k c path i t s s1 true = ChildDone kept k c path i t s s1
+ChildComes kept k c path i t s s1 false = ChildOver kept k c path i t s s1
 
 -- all children are done
-pub record ChildrenDone (kept : Store) (k c : ℕ) (path base : List ℕ) (kids : List WideTree) (s s1 : Stage) : Type 0
+pub record ChildrenDone (kept : Store) (k c : ℕ) (path : List ℕ) (kids : List WideTree) (s s1 : Stage) : Type 0
   where
     pub so_far : SoFar
     pub comes : children_from (evaluates k) c 0 nothing_yet kids s.names ≡ Some so_far
-    pub joined : s1.joined ≡ below base so_far
+    pub joined : s1.joined ≡ below path so_far
     pub names : s1.names ≡ env_atop so_far.writes s.names
     pub done : s1.done ≡ s.done ++ map (seen_in kept) (parts_from k (parts k) c path 0 nothing_yet kids s.names)
     pub count : s1.count ≡ s.count + charges kept (parts_from k (parts k) c path 0 nothing_yet kids s.names)
     pub many : length so_far.values ≡ length kids
 
 -- one of them is over
-pub record ChildrenOver (k c : ℕ) (kids : List WideTree) (s s1 : Stage) : Type 0 where
+pub record ChildrenOver (kept : Store) (k c : ℕ) (path : List ℕ) (kids : List WideTree) (s s1 : Stage) : Type 0 where
   pub comes : children_from (evaluates k) c 0 nothing_yet kids s.names ≡ None
-  pub count : s1.count ≤ s.count + c
+  pub count : s1.count ≡ s.count + charges kept (parts_from k (parts k) c path 0 nothing_yet kids s.names)
 
-abbrev pub ChildrenCome : Store → ℕ → ℕ → List ℕ → List ℕ → List WideTree → Stage → Stage → Bool → Type 0
-ChildrenCome kept k c path base kids s s1 true = ChildrenDone kept k c path base kids s s1
-ChildrenCome kept k c path base kids s s1 false = ChildrenOver k c kids s s1
+abbrev pub ChildrenCome : Store → ℕ → ℕ → List ℕ → List WideTree → Stage → Stage → Bool → Type 0
+ChildrenCome kept k c path kids s s1 true = ChildrenDone kept k c path kids s s1
+ChildrenCome kept k c path kids s s1 false = ChildrenOver kept k c path kids s s1

@@ -1,14 +1,15 @@
 -- What a walk by parts answers.
-use Rattle.std.specs.Prelude.{◌≡◌, ◌≤◌, ℕ, ◌+◌, Bool, not, if◌then◌else◌, List, [], ◌∷◌, map, Option, Some, None}
+use Rattle.std.specs.Prelude.{◌≡◌, ℕ, Bool, true, not, if◌then◌else◌, List, [], ◌∷◌, map, Option, Some, None, is_some, IfSome}
 use Rattle.std.specs.List.{IsDistinct}
 use Rattle.std.specs.Map.{keys_of}
 use Rattle.std.specs.Str.{bytes_eq}
+use Rattle.tx_origin.specs.Under.{value_under}
 use Rattle.tx_exec_form.specs.Evaluated.{WideTrace}
 use Rattle.tx_exec.specs.declared.outcome.Trace.{Trace}
 use Rattle.tx_exec.specs.Outcomes.{wide_trace}
 use Rattle.tx_parts.specs.Parts.{Part, part_trace}
 use Rattle.tx_walk.specs.declared.part.Part.{Part as DonePart}
-use Rattle.tx_walk.specs.Held.{Store, is_held, charges}
+use Rattle.tx_walk.specs.Held.{Store, is_held}
 
 -- the first of the parts at the path tells what is kept there
 abbrev pub kept_in : List DonePart → Store
@@ -22,8 +23,14 @@ paths_of ps = map (λ p. p.path) ps
 abbrev pub AreOnce : Trace → Type 0
 AreOnce trace = IsDistinct bytes_eq (keys_of trace.looks) × IsDistinct bytes_eq (keys_of trace.writes)
 
-pub record IsOnce (p : DonePart) : Type 0 where
+-- A part as it is kept: no name stands twice, and the value at hand is the trace's with its origins under the path.
+pub record IsTidy (p : DonePart) : Type 0 where
   pub once : AreOnce p.trace
+  pub placed : IfSome p.placed (λ v. v ≡ value_under p.path p.trace.value)
+
+-- the value is at hand
+abbrev pub IsPlaced : DonePart → Type 0
+IsPlaced p = is_some p.placed ≡ true
 
 -- where a part stands, what it comes to, and whether it wasn't held
 pub record Seen : Type 0 where
@@ -41,9 +48,3 @@ seen_in kept p = record { path = p.path; trace = part_trace p; renewed = not (is
 abbrev pub seen_parts : Store → List Part → Option WideTrace → List Seen
 seen_parts kept ps None = []
 seen_parts kept ps (Some trace) = map (seen_in kept) ps
-
--- So many steps are counted: the costs of the parts that aren't held. Where the tree is over no more are counted than
--- were allowed.
-abbrev pub IsCounted : Store → List Part → ℕ → ℕ → ℕ → Option WideTrace → Type 0
-IsCounted kept ps allowance before after None = after ≤ before + allowance
-IsCounted kept ps allowance before after (Some trace) = after ≡ before + charges kept ps

@@ -7,7 +7,7 @@ ghost use Rattle.tx_exec.specs.States.{before_of};
 ghost use Rattle.tx_exec.specs.Outcomes.{wide_trace};
 ghost use Rattle.tx_walk.specs.SameTrees.{same};
 ghost use Rattle.tx_walk.specs.Held.{agrees, fits};
-ghost use Rattle.tx_walk.specs.Walked.{IsOnce, kept_in, paths_of};
+ghost use Rattle.tx_walk.specs.Walked.{IsTidy, kept_in, paths_of};
 ghost use Rattle.tx_walk.specs.Finding.{IsKeptAt, IsHeldBy};
 
 use crate::part::Part;
@@ -15,8 +15,9 @@ use tx_env::Env;
 use tx_exec::Looks;
 use tx_tree::{Path, Text, Tree};
 
+/// Whether the trees are equal.
 #[tactic(auto, using(crate::proofs::Trees::same_result, std::proofs::lemmas::Grind::common_steps))]
-fn same_trees(t: &Tree, u: &Tree) -> bool
+pub fn same_trees(t: &Tree, u: &Tree) -> bool
     ensures { result ≡ same (Some t.now) (Some u.now) }
 {
     t.same(u)
@@ -33,8 +34,8 @@ fn agrees_at(env: &Env, name: &Text, found: &Option<Tree>) -> bool
     }
 }
 
-// Whether each name has what was found where it was looked up.
-fn all_agree(env: &Env, looks: &Looks) -> bool
+/// Whether each name has what was found where it was looked up.
+pub fn looks_agree(env: &Env, looks: &Looks) -> bool
     ensures { result ≡ list_all (λ look. same (maps.get env.now.map look.0) look.1) looks.now }
 {
     looks
@@ -45,10 +46,10 @@ fn all_agree(env: &Env, looks: &Looks) -> bool
 
 // Whether the part's trace fits what names have.
 fn fits(env: &Env, part: &Part) -> bool
-    requires { IsOnce part.now }
+    requires { IsTidy part.now }
     ensures { result ≡ agrees (before_of env.now) (wide_trace part.now.trace).looks }
 {
-    all_agree(env, &part.trace.looks)
+    looks_agree(env, &part.trace.looks)
 }
 
 // Whether the part stands at the path.
@@ -92,10 +93,10 @@ pub(crate) fn held<'a>(
     path: &Path,
     next: &mut usize,
 ) -> Option<&'a Part>
-    requires once { All IsOnce kept.now }
+    requires tidy { All IsTidy kept.now }
     requires distinct { IsDistinct bytes_eq (paths_of kept.now) }
     ensures { MatchOption result (fits (before_of env.now) (kept_in kept.now path.now) ≡ false)
-        (λ p. IsHeldBy (before_of env.now) (kept_in kept.now path.now) p.now) }
+        (λ p. IsHeldBy (before_of env.now) path.now (kept_in kept.now path.now) p.now) }
 {
     match number_near(kept, path, *next) {
         None => None,

@@ -7,9 +7,12 @@
 mod fitting;
 mod joined;
 mod laws;
+mod open;
 mod opening;
+mod origins;
 mod outside;
 mod part;
+mod progress;
 mod scopes;
 mod settings;
 mod sharing;
@@ -17,6 +20,8 @@ mod traces;
 mod unit;
 mod walking;
 
-pub use laws::{kept_law, walked_law};
+pub use fitting::{looks_agree, same_trees};
+pub use laws::{charges_law, kept_law, walked_law};
+pub use open::is_open;
 pub use part::Part;
 pub use unit::{Walked, walk};

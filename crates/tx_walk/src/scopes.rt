@@ -10,6 +10,7 @@ ghost use Rattle.tx_walk.specs.Walked.{AreOnce};
 ghost use Rattle.tx_walk.specs.Steps.{IsBehind};
 ghost use Rattle.tx_walk.specs.Scopes.{with_at, FitsWith};
 
+use crate::origins::origin_of;
 use crate::outside::{looks_outside, writes_outside};
 use crate::settings::Settings;
 use crate::walking::set_all;
@@ -17,15 +18,15 @@ use std::alloc::Global;
 use tx_base::Memory;
 use tx_env::Env;
 use tx_exec::{Outcome, Trace};
-use tx_origin::{Ip, Value};
-use tx_tree::{Text, Tree};
+use tx_origin::Value;
+use tx_tree::{Path, Text, Tree};
 
 // The trace of the `with` at this origin, which sets these pairs, of the values of names and texts, what they cost, and
 // the trace of its last child.
 fn with_trace(
     alloc: Global,
     t: &Tree,
-    base: &Ip,
+    path: &Path,
     pairs: &[(Text, Tree)],
     mut values: Vec<Value>,
     cost: u64,
@@ -35,7 +36,7 @@ fn with_trace(
     requires fits { FitsWith values.items cost (wide_trace trace) }
     requires once { AreOnce trace }
     ensures trace { IfOk result (λ w. wide_trace w
-        ≡ with_at base.now (overlaid empty pairs.now) values.items cost (wide_trace trace)) }
+        ≡ with_at path.now (overlaid empty pairs.now) values.items cost (wide_trace trace)) }
     ensures once { IfOk result AreOnce }
 {
     let Some(label) = t.label() else {
@@ -46,7 +47,8 @@ fn with_trace(
     let looks = looks_outside(alloc, pairs, &trace.looks)?;
     let writes = writes_outside(alloc, pairs, &trace.writes)?;
     values.push(trace.value)?;
-    let value = Value::node(alloc, label.copy()?, values, Some(base.share()?))?;
+    let origin = origin_of(alloc, path)?;
+    let value = Value::node(alloc, label.copy()?, values, Some(origin))?;
     Ok(Trace {
         value,
         looks,
@@ -60,7 +62,7 @@ fn with_trace(
 fn close(
     alloc: Global,
     t: &Tree,
-    base: &Ip,
+    path: &Path,
     env: &mut Env,
     settings: Settings,
     trace: Trace,
@@ -68,7 +70,7 @@ fn close(
     requires label { label_of t.now ≡ Some (codes "with") }
     requires fits { FitsWith settings.values.items settings.cost (wide_trace trace) }
     requires once { AreOnce trace }
-    ensures outcome { IfOk result (λ o. wide_outcome o ≡ Some (with_at base.now (overlaid empty settings.pairs.items)
+    ensures outcome { IfOk result (λ o. wide_outcome o ≡ Some (with_at path.now (overlaid empty settings.pairs.items)
         settings.values.items settings.cost (wide_trace trace))) }
     ensures behind { IfOk result (λ o. IsBehind (before_of env.old) (before_of env.new) (wide_outcome o)) }
     ensures once { IfOk result NamesOnce }
@@ -79,7 +81,7 @@ fn close(
         values,
         cost,
     } = settings;
-    let trace = with_trace(alloc, t, base, &pairs, values, cost, trace)?;
+    let trace = with_trace(alloc, t, path, &pairs, values, cost, trace)?;
     set_all(env, trace.writes.pairs())?;
     Ok(Outcome::Done(trace))
 }
@@ -88,7 +90,7 @@ fn close(
 pub(crate) fn with_of(
     alloc: Global,
     t: &Tree,
-    base: &Ip,
+    path: &Path,
     env: &mut Env,
     settings: Settings,
     inner: Outcome,
@@ -96,7 +98,7 @@ pub(crate) fn with_of(
     requires label { label_of t.now ≡ Some (codes "with") }
     requires fits { IfSome (wide_outcome inner) (λ w. FitsWith settings.values.items settings.cost w) }
     requires once { NamesOnce inner }
-    ensures outcome { IfOk result (λ o. wide_outcome o ≡ option_map (with_at base.now
+    ensures outcome { IfOk result (λ o. wide_outcome o ≡ option_map (with_at path.now
         (overlaid empty settings.pairs.items) settings.values.items settings.cost) (wide_outcome inner)) }
     ensures behind { IfOk result (λ o. IsBehind (before_of env.old) (before_of env.new) (wide_outcome o)) }
     ensures once { IfOk result NamesOnce }
@@ -104,6 +106,6 @@ pub(crate) fn with_of(
 {
     match inner {
         Outcome::Over => Ok(Outcome::Over),
-        Outcome::Done(trace) => close(alloc, t, base, env, settings, trace),
+        Outcome::Done(trace) => close(alloc, t, path, env, settings, trace),
     }
 }

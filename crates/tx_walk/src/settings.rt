@@ -8,10 +8,11 @@ ghost use Rattle.tx_parts.specs.Openness.{Settings as TextSettings, settings_in}
 ghost use Rattle.tx_parts.specs.Composed.{settings_cost};
 ghost use Rattle.tx_walk.specs.Opening.{AreSettings, Goes};
 
+use crate::origins::origin_of;
 use std::alloc::Global;
 use tx_base::Memory;
 use tx_origin::{Ip, Value};
-use tx_tree::{Text, Tree};
+use tx_tree::{Path, Text, Tree};
 
 /// The names that a `with` sets to texts, in order, the values of both, and what these cost.
 #[derive(Drop)]
@@ -118,16 +119,17 @@ fn add_all(
 pub(crate) fn settings_of(
     alloc: Global,
     t: &Tree,
-    base: &Ip,
+    path: &Path,
     left: u64,
 ) -> Result<Option<Settings>, Memory>
     requires left { left ≤ 1000000 }
     requires opens { (ps : TextSettings) × (b : WideTree) × (settings_in (children_of t.now) ≡ Some (ps, b)) }
     ensures { (ps : TextSettings) (b : WideTree) → settings_in (children_of t.now) ≡ Some (ps, b) →
-        IfOk result (λ r. MatchOption r (left < settings_cost ps) (λ s. AreSettings base.now ps s)) }
+        IfOk result (λ r. MatchOption r (left < settings_cost ps) (λ s. AreSettings path.now ps s)) }
 {
+    let base = origin_of(alloc, path)?;
     let mut settings = Settings::new(alloc);
-    if add_all(alloc, t, base, left, &mut settings)? {
+    if add_all(alloc, t, &base, left, &mut settings)? {
         Ok(Some(settings))
     } else {
         Ok(None)

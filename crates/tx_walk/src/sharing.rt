@@ -1,13 +1,16 @@
 // Traces that share what they hold.
 ghost use Rattle.std.specs.Prelude.{◌≡◌, IfOk};
 ghost use Rattle.tx_origin.specs.Under.{value_under};
+ghost use Rattle.tx_walk.specs.Walked.{IsTidy};
 
+use crate::origins::origin_of;
+use crate::part::Part;
 use std::alloc::Global;
 use tx_base::Memory;
 use tx_env::Writes;
 use tx_exec::{Looks, Trace};
-use tx_origin::Ip;
-use tx_tree::Tree;
+use tx_origin::Value;
+use tx_tree::{Path, Tree};
 
 /// The same tree, or nothing again.
 pub(crate) fn share_tree(tree: &Option<Tree>) -> Result<Option<Tree>, Memory>
@@ -52,15 +55,39 @@ pub(crate) fn share_trace(alloc: Global, trace: &Trace) -> Result<Trace, Memory>
     })
 }
 
-/// The same trace, with the path before each origin of its value.
-pub(crate) fn trace_under(alloc: Global, trace: &Trace, base: &Ip) -> Result<Trace, Memory>
-    ensures { IfOk result (λ t. t ≡ record trace.now { value = value_under base.now trace.now.value }) }
+/// The value under the path. At the root it is the same.
+pub(crate) fn value_at(alloc: Global, path: &Path, value: &Value) -> Result<Value, Memory>
+    ensures { IfOk result (λ v. v ≡ value_under path.now value.now) }
+{
+    if path.steps().is_empty() {
+        return value.share();
+    }
+    let base = origin_of(alloc, path)?;
+    value.under(alloc, &base)
+}
+
+/// The part's value under its path. It is made anew only where it isn't at hand.
+pub(crate) fn placed_value(alloc: Global, part: &Part) -> Result<Value, Memory>
+    requires { IsTidy part.now }
+    ensures { IfOk result (λ v. v ≡ value_under part.now.path part.now.trace.value) }
+{
+    match &part.placed {
+        Some(value) => value.share(),
+        None => value_at(alloc, &part.path, &part.trace.value),
+    }
+}
+
+/// The part's trace, with its path before each origin of the value.
+pub(crate) fn placed_trace(alloc: Global, part: &Part) -> Result<Trace, Memory>
+    requires { IsTidy part.now }
+    ensures { IfOk result (λ t. t
+        ≡ record part.now.trace { value = value_under part.now.path part.now.trace.value }) }
 {
     Ok(Trace {
-        value: trace.value.under(alloc, base)?,
-        looks: share_looks(alloc, &trace.looks)?,
-        writes: share_writes(alloc, &trace.writes)?,
-        cost: trace.cost,
-        height: trace.height,
+        value: placed_value(alloc, part)?,
+        looks: share_looks(alloc, &part.trace.looks)?,
+        writes: share_writes(alloc, &part.trace.writes)?,
+        cost: part.trace.cost,
+        height: part.trace.height,
     })
 }

@@ -10,12 +10,13 @@ ghost use Rattle.tx_walk.specs.Steps.{so_far_of, FitsNode, document_at};
 ghost use Rattle.tx_walk.specs.Walked.{AreOnce};
 
 use crate::joined::Joined;
+use crate::origins::origin_of;
 use std::alloc::Global;
 use tx_base::Memory;
 use tx_env::{Pairs, Writes};
 use tx_exec::{Looks, Outcome, Trace};
-use tx_origin::{Ip, Value};
-use tx_tree::Tree;
+use tx_origin::Value;
+use tx_tree::{Path, Tree};
 
 // All that was looked up, each name once.
 fn looks_of(noted: Pairs, alloc: Global) -> Result<Looks, Memory>
@@ -41,10 +42,10 @@ fn writes_of(noted: Pairs, alloc: Global) -> Result<Writes, Memory>
 }
 
 // The trace of the `document` at this origin, whose children came to this.
-fn document_trace(alloc: Global, t: &Tree, base: &Ip, joined: Joined) -> Result<Trace, Memory>
+fn document_trace(alloc: Global, t: &Tree, path: &Path, joined: Joined) -> Result<Trace, Memory>
     requires label { label_of t.now ≡ Some (codes "document") }
     requires fits { FitsNode (so_far_of joined) }
-    ensures trace { IfOk result (λ w. wide_trace w ≡ document_at base.now (so_far_of joined)) }
+    ensures trace { IfOk result (λ w. wide_trace w ≡ document_at path.now (so_far_of joined)) }
     ensures once { IfOk result AreOnce }
 {
     let Some(label) = t.label() else {
@@ -54,7 +55,8 @@ fn document_trace(alloc: Global, t: &Tree, base: &Ip, joined: Joined) -> Result<
     let height = 1 + joined.height;
     let looks = looks_of(joined.looks, alloc)?;
     let writes = writes_of(joined.writes, alloc)?;
-    let value = Value::node(alloc, label.copy()?, joined.values, Some(base.share()?))?;
+    let origin = origin_of(alloc, path)?;
+    let value = Value::node(alloc, label.copy()?, joined.values, Some(origin))?;
     Ok(Trace {
         value,
         looks,
@@ -68,19 +70,19 @@ fn document_trace(alloc: Global, t: &Tree, base: &Ip, joined: Joined) -> Result<
 pub(crate) fn document_of(
     alloc: Global,
     t: &Tree,
-    base: &Ip,
+    path: &Path,
     joined: Joined,
     went: bool,
 ) -> Result<Outcome, Memory>
     requires label { label_of t.now ≡ Some (codes "document") }
     requires fits { went ≡ true → FitsNode (so_far_of joined) }
     ensures outcome { IfOk result (λ o. wide_outcome o
-        ≡ (if went then Some (document_at base.now (so_far_of joined)) else None)) }
+        ≡ (if went then Some (document_at path.now (so_far_of joined)) else None)) }
     ensures once { IfOk result NamesOnce }
 {
     if !went {
         return Ok(Outcome::Over);
     }
-    let trace = document_trace(alloc, t, base, joined)?;
+    let trace = document_trace(alloc, t, path, joined)?;
     Ok(Outcome::Done(trace))
 }

@@ -1,5 +1,5 @@
 // The walk over a tree by its parts.
-ghost use Rattle.std.specs.Prelude.{◌≡◌, ◌≤◌, ◌<◌, ◌+◌, ◌-◌, ◌^◌, ◌++◌, ◌∷◌, [], false, IfOk, OnOk, length};
+ghost use Rattle.std.specs.Prelude.{◌≡◌, ◌≤◌, ◌<◌, ◌+◌, ◌-◌, ◌^◌, ◌++◌, ◌∷◌, [], false, Some, IfOk, OnOk, length};
 ghost use Rattle.std.specs.List.{All, IsDistinct};
 ghost use Rattle.std.specs.Option.{option_map};
 ghost use Rattle.std.specs.Str.{bytes_eq};
@@ -12,20 +12,24 @@ ghost use Rattle.tx_parts.specs.Composed.{evaluates};
 ghost use Rattle.tx_parts.specs.Openness.{Settings as TextSettings, Document, With, Shut, openness};
 ghost use Rattle.tx_walk.specs.Scopes.{IsScope};
 ghost use Rattle.tx_parts.specs.Parts.{parts};
-ghost use Rattle.tx_walk.specs.Held.{IsSound};
+ghost use Rattle.tx_walk.specs.Held.{IsSound, charges};
 ghost use Rattle.tx_parts.specs.Composed.{nothing_yet};
 ghost use Rattle.tx_exec.specs.Outcomes.{wide_trace};
-ghost use Rattle.tx_walk.specs.Walked.{IsOnce, IsCounted, kept_in, paths_of};
-ghost use Rattle.tx_walk.specs.Steps.{trace_under, settled, IsBehind, IsAdded, IsPushed, IsNewPushed, IsPaid};
+ghost use Rattle.tx_walk.specs.Walked.{IsTidy, IsPlaced, kept_in, paths_of};
+ghost use Rattle.tx_exec_form.specs.Evaluated.{paid};
+ghost use Rattle.tx_origin.specs.Under.{value_under};
+ghost use Rattle.tx_walk.specs.Steps.{trace_under, settled, IsReady, IsBehind, IsAdded, IsPushed, IsNewPushed};
+ghost use Rattle.tx_walk.specs.Spending.{RisesAlike};
 ghost use Rattle.tx_walk.specs.Steps.{so_far_of, stage_of, ChildComes, ChildrenCome};
 
 use crate::fitting::held;
 use crate::joined::Joined;
 use crate::opening::{Opening, opening_of};
 use crate::part::Part;
+use crate::progress::WalkProgress;
 use crate::scopes::with_of;
 use crate::settings::{Settings, settings_of};
-use crate::sharing::{share_trace, trace_under};
+use crate::sharing::{placed_trace, placed_value, share_trace, value_at};
 use crate::traces::document_of;
 use std::alloc::Global;
 use std::sync::ledger::Ledger;
@@ -55,90 +59,79 @@ fn path_below(alloc: Global, path: &Path, i: u32) -> Result<Path, Memory>
     Ok(below)
 }
 
-// What a part with this trace comes to where so many steps and levels are left. It comes behind the other parts, and
-// what it sets is set.
-fn settle(
-    alloc: Global,
-    part: Part,
-    base: &Ip,
-    env: &mut Env,
-    levels: u32,
-    left: u64,
-    done: &mut Vec<Part>,
-) -> Result<Outcome, Memory>
-    requires part_once { IsOnce part }
-    requires done_once { All IsOnce done.old.items }
-    ensures settled { IfOk result (λ o. wide_outcome o ≡ settled levels left base.now (wide_trace part.trace)) }
+// What this part comes to. It comes behind the other parts, and what it sets is set.
+fn settle(alloc: Global, part: Part, env: &mut Env, done: &mut Vec<Part>) -> Result<Outcome, Memory>
+    requires part_tidy { IsTidy part }
+    requires part_placed { IsPlaced part }
+    requires done_ready { All IsReady done.old.items }
+    ensures comes { IfOk result (λ o. wide_outcome o ≡ Some (trace_under part.path (wide_trace part.trace))) }
     ensures behind { IfOk result (λ o. IsBehind (before_of env.old) (before_of env.new) (wide_outcome o)) }
-    ensures pushed { IfOk result (λ o. IsPushed done.old.items part done.new.items (wide_outcome o)) }
+    ensures pushed { OnOk result (done.new.items ≡ done.old.items ++ part ∷ []) }
     ensures names_once { IfOk result NamesOnce }
-    ensures done_once { All IsOnce done.new.items }
+    ensures done_ready { All IsReady done.new.items }
     ensures scopes { env.new.scopes ≡ env.old.scopes }
 {
-    if part.trace.cost > left || part.trace.height > levels {
-        return Ok(Outcome::Over);
-    }
     set_all(env, part.trace.writes.pairs())?;
-    let trace = trace_under(alloc, &part.trace, base)?;
+    let trace = placed_trace(alloc, &part)?;
     done.push(part)?;
     Ok(Outcome::Done(trace))
 }
 
-// A part that is held by this one.
+// A part that is held by this one, where so many steps and levels are left.
 fn held_part(
     alloc: Global,
     found: &Part,
     path: Path,
-    base: &Ip,
     env: &mut Env,
     levels: u32,
     left: u64,
     done: &mut Vec<Part>,
 ) -> Result<Outcome, Memory>
-    requires found_once { IsOnce found.now }
-    requires done_once { All IsOnce done.old.items }
-    ensures settled { IfOk result (λ o. wide_outcome o ≡ settled levels left base.now (wide_trace found.now.trace)) }
+    requires stands { found.now.path ≡ path }
+    requires found_tidy { IsTidy found.now }
+    requires done_ready { All IsReady done.old.items }
+    ensures settled { IfOk result (λ o. wide_outcome o ≡ settled levels left path (wide_trace found.now.trace)) }
     ensures behind { IfOk result (λ o. IsBehind (before_of env.old) (before_of env.new) (wide_outcome o)) }
     ensures pushed { IfOk result (λ o. IsPushed done.old.items
-        (record { path = path; trace = found.now.trace; renewed = false }) done.new.items (wide_outcome o)) }
+        (record {
+          path = path;
+          trace = found.now.trace;
+          renewed = false;
+          placed = Some (value_under path found.now.trace.value);
+        }) done.new.items (wide_outcome o)) }
     ensures names_once { IfOk result NamesOnce }
-    ensures done_once { All IsOnce done.new.items }
+    ensures done_ready { All IsReady done.new.items }
     ensures scopes { env.new.scopes ≡ env.old.scopes }
 {
+    if found.trace.cost > left || found.trace.height > levels {
+        return Ok(Outcome::Over);
+    }
     let trace = share_trace(alloc, &found.trace)?;
+    let placed = placed_value(alloc, found)?;
     let part = Part {
         path,
         trace,
         renewed: false,
+        placed: Some(placed),
     };
-    settle(alloc, part, base, env, levels, left, done)
+    settle(alloc, part, env, done)
 }
 
-// A part that is evaluated.
-fn new_part<L: Ledger>(
+// What the tree comes to with so many levels. Where they don't suffice all steps that are left are taken.
+fn eval_within<L: Ledger>(
     alloc: Global,
     t: &Tree,
-    path: Path,
-    base: &Ip,
     env: &mut Env,
     levels: u32,
     left: u64,
-    done: &mut Vec<Part>,
     steps: &mut Steps<L>,
 ) -> Result<Outcome, Memory>
     requires levels { levels ≤ 400 }
     requires left { left ≤ 1000000 }
-    requires done_once { All IsOnce done.old.items }
-    ensures exact { IfOk result
-        (λ o. wide_outcome o ≡ option_map (trace_under base.now) (evaluates levels left t.now (before_of env.old))) }
-    ensures behind { IfOk result (λ o. IsBehind (before_of env.old) (before_of env.new) (wide_outcome o)) }
-    ensures pushed { IfOk result (λ o. IsNewPushed levels left path t.now (before_of env.old) done.old.items
-        done.new.items (wide_outcome o)) }
-    ensures counted { IfOk result
-        (λ o. IsPaid levels left t.now (before_of env.old) steps.old steps.new (wide_outcome o)) }
+    ensures exact { IfOk result (λ o. wide_outcome o ≡ evaluates levels left t.now (before_of env.old)) }
+    ensures counted { IfOk result (λ o. steps.new ≡ steps.old + paid left (wide_outcome o)) }
     ensures names_once { IfOk result NamesOnce }
-    ensures done_once { All IsOnce done.new.items }
-    ensures scopes { env.new.scopes ≡ env.old.scopes }
+    ensures env { env.new ≡ env.old }
 {
     let alone = Tagged {
         tree: t.share()?,
@@ -147,12 +140,57 @@ fn new_part<L: Ledger>(
     match eval(alloc, &alone, env, left, steps)? {
         Outcome::Over => Ok(Outcome::Over),
         Outcome::Done(trace) => {
+            if trace.height > levels {
+                steps.add(left - trace.cost);
+                return Ok(Outcome::Over);
+            }
+            Ok(Outcome::Done(trace))
+        }
+    }
+}
+
+// A part that is evaluated.
+fn new_part<L: Ledger>(
+    alloc: Global,
+    t: &Tree,
+    path: Path,
+    env: &mut Env,
+    levels: u32,
+    left: u64,
+    progress: &mut WalkProgress,
+    done: &mut Vec<Part>,
+    steps: &mut Steps<L>,
+) -> Result<Outcome, Memory>
+    requires levels { levels ≤ 400 }
+    requires left { left ≤ 1000000 }
+    requires done_ready { All IsReady done.old.items }
+    ensures exact { IfOk result
+        (λ o. wide_outcome o ≡ option_map (trace_under path) (evaluates levels left t.now (before_of env.old))) }
+    ensures behind { IfOk result (λ o. IsBehind (before_of env.old) (before_of env.new) (wide_outcome o)) }
+    ensures pushed { IfOk result (λ o. IsNewPushed levels left path t.now (before_of env.old) done.old.items
+        done.new.items (wide_outcome o)) }
+    ensures counted { OnOk result (steps.new
+        ≡ steps.old + paid left (evaluates levels left t.now (before_of env.old))) }
+    ensures spent { OnOk result (RisesAlike steps.old progress.old.spent steps.new progress.new.spent) }
+    ensures names_once { IfOk result NamesOnce }
+    ensures done_ready { All IsReady done.new.items }
+    ensures scopes { env.new.scopes ≡ env.old.scopes }
+{
+    match eval_within(alloc, t, env, levels, left, steps)? {
+        Outcome::Over => {
+            progress.spend(left);
+            Ok(Outcome::Over)
+        }
+        Outcome::Done(trace) => {
+            progress.spend(trace.cost);
+            let placed = value_at(alloc, &path, &trace.value)?;
             let part = Part {
                 path,
                 trace,
                 renewed: true,
+                placed: Some(placed),
             };
-            settle(alloc, part, base, env, levels, left, done)
+            settle(alloc, part, env, done)
         }
     }
 }
@@ -162,12 +200,11 @@ fn part<L: Ledger>(
     alloc: Global,
     t: &Tree,
     path: Path,
-    base: &Ip,
     env: &mut Env,
     levels: u32,
     left: u64,
     kept: &[Part],
-    next: &mut usize,
+    progress: &mut WalkProgress,
     done: &mut Vec<Part>,
     steps: &mut Steps<L>,
 ) -> Result<Outcome, Memory>
@@ -177,23 +214,23 @@ fn part<L: Ledger>(
     requires left { left ≤ 1000000 }
     requires sound { IsSound (kept_in kept.now) path t.now }
     requires distinct { IsDistinct bytes_eq (paths_of kept.now) }
-    requires kept_once { All IsOnce kept.now }
-    requires done_once { All IsOnce done.old.items }
+    requires kept_tidy { All IsTidy kept.now }
+    requires done_ready { All IsReady done.old.items }
     ensures exact { IfOk result
-        (λ o. wide_outcome o ≡ option_map (trace_under base.now) (evaluates levels left t.now (before_of env.old))) }
+        (λ o. wide_outcome o ≡ option_map (trace_under path) (evaluates levels left t.now (before_of env.old))) }
     ensures behind { IfOk result (λ o. IsBehind (before_of env.old) (before_of env.new) (wide_outcome o)) }
     ensures added { IfOk result (λ o. IsAdded (kept_in kept.now) (parts levels left path t.now (before_of env.old))
         done.old.items done.new.items (wide_outcome o)) }
-    ensures counted { IfOk result
-        (λ o. IsCounted (kept_in kept.now) (parts levels left path t.now (before_of env.old)) left
-        steps.old steps.new (wide_outcome o)) }
+    ensures counted { OnOk result (steps.new
+        ≡ steps.old + charges (kept_in kept.now) (parts levels left path t.now (before_of env.old))) }
+    ensures spent { OnOk result (RisesAlike steps.old progress.old.spent steps.new progress.new.spent) }
     ensures names_once { IfOk result NamesOnce }
-    ensures done_once { All IsOnce done.new.items }
+    ensures done_ready { All IsReady done.new.items }
     ensures scopes { env.new.scopes ≡ env.old.scopes }
 {
-    match held(env, kept, &path, next) {
-        Some(found) => held_part(alloc, found, path, base, env, levels, left, done),
-        None => new_part(alloc, t, path, base, env, levels, left, done, steps),
+    match held(env, kept, &path, &mut progress.next) {
+        Some(found) => held_part(alloc, found, path, env, levels, left, done),
+        None => new_part(alloc, t, path, env, levels, left, progress, done, steps),
     }
 }
 
@@ -203,12 +240,11 @@ pub(crate) fn walk_tree<L: Ledger>(
     alloc: Global,
     t: &Tree,
     path: Path,
-    base: &Ip,
     env: &mut Env,
     levels: u32,
     left: u64,
     kept: &[Part],
-    next: &mut usize,
+    progress: &mut WalkProgress,
     done: &mut Vec<Part>,
     steps: &mut Steps<L>,
 ) -> Result<Outcome, Memory>
@@ -217,18 +253,18 @@ pub(crate) fn walk_tree<L: Ledger>(
     requires scopes { length env.old.scopes + levels < 2 ^ 32 - 1 }
     requires sound { IsSound (kept_in kept.now) path t.now }
     requires distinct { IsDistinct bytes_eq (paths_of kept.now) }
-    requires kept_once { All IsOnce kept.now }
-    requires done_once { All IsOnce done.old.items }
+    requires kept_tidy { All IsTidy kept.now }
+    requires done_ready { All IsReady done.old.items }
     ensures exact { IfOk result
-        (λ o. wide_outcome o ≡ option_map (trace_under base.now) (evaluates levels left t.now (before_of env.old))) }
+        (λ o. wide_outcome o ≡ option_map (trace_under path) (evaluates levels left t.now (before_of env.old))) }
     ensures behind { IfOk result (λ o. IsBehind (before_of env.old) (before_of env.new) (wide_outcome o)) }
     ensures added { IfOk result (λ o. IsAdded (kept_in kept.now) (parts levels left path t.now (before_of env.old))
         done.old.items done.new.items (wide_outcome o)) }
-    ensures counted { IfOk result
-        (λ o. IsCounted (kept_in kept.now) (parts levels left path t.now (before_of env.old)) left
-        steps.old steps.new (wide_outcome o)) }
+    ensures counted { OnOk result (steps.new
+        ≡ steps.old + charges (kept_in kept.now) (parts levels left path t.now (before_of env.old))) }
+    ensures spent { OnOk result (RisesAlike steps.old progress.old.spent steps.new progress.new.spent) }
     ensures names_once { IfOk result NamesOnce }
-    ensures done_once { All IsOnce done.new.items }
+    ensures done_ready { All IsReady done.new.items }
     ensures scopes { env.new.scopes ≡ env.old.scopes }
 {
     if levels == 0 {
@@ -236,13 +272,13 @@ pub(crate) fn walk_tree<L: Ledger>(
     }
     match opening_of(t) {
         Opening::Document => document(
-            alloc, t, &path, base, env, levels, left, kept, next, done, steps,
+            alloc, t, &path, env, levels, left, kept, progress, done, steps,
         ),
         Opening::With => scope(
-            alloc, t, &path, base, env, levels, left, kept, next, done, steps,
+            alloc, t, &path, env, levels, left, kept, progress, done, steps,
         ),
         Opening::Shut => part(
-            alloc, t, path, base, env, levels, left, kept, next, done, steps,
+            alloc, t, path, env, levels, left, kept, progress, done, steps,
         ),
     }
 }
@@ -253,12 +289,11 @@ fn document<L: Ledger>(
     alloc: Global,
     t: &Tree,
     path: &Path,
-    base: &Ip,
     env: &mut Env,
     levels: u32,
     left: u64,
     kept: &[Part],
-    next: &mut usize,
+    progress: &mut WalkProgress,
     done: &mut Vec<Part>,
     steps: &mut Steps<L>,
 ) -> Result<Outcome, Memory>
@@ -269,18 +304,18 @@ fn document<L: Ledger>(
     requires scopes { length env.old.scopes + levels < 2 ^ 32 - 1 }
     requires sound { IsSound (kept_in kept.now) path.now t.now }
     requires distinct { IsDistinct bytes_eq (paths_of kept.now) }
-    requires kept_once { All IsOnce kept.now }
-    requires done_once { All IsOnce done.old.items }
+    requires kept_tidy { All IsTidy kept.now }
+    requires done_ready { All IsReady done.old.items }
     ensures exact { IfOk result
-        (λ o. wide_outcome o ≡ option_map (trace_under base.now) (evaluates levels left t.now (before_of env.old))) }
+        (λ o. wide_outcome o ≡ option_map (trace_under path.now) (evaluates levels left t.now (before_of env.old))) }
     ensures behind { IfOk result (λ o. IsBehind (before_of env.old) (before_of env.new) (wide_outcome o)) }
     ensures added { IfOk result (λ o. IsAdded (kept_in kept.now) (parts levels left path.now t.now (before_of env.old))
         done.old.items done.new.items (wide_outcome o)) }
-    ensures counted { IfOk result
-        (λ o. IsCounted (kept_in kept.now) (parts levels left path.now t.now (before_of env.old)) left
-        steps.old steps.new (wide_outcome o)) }
+    ensures counted { OnOk result (steps.new
+        ≡ steps.old + charges (kept_in kept.now) (parts levels left path.now t.now (before_of env.old))) }
+    ensures spent { OnOk result (RisesAlike steps.old progress.old.spent steps.new progress.new.spent) }
     ensures names_once { IfOk result NamesOnce }
-    ensures done_once { All IsOnce done.new.items }
+    ensures done_ready { All IsReady done.new.items }
     ensures scopes { env.new.scopes ≡ env.old.scopes }
 {
     let _size = t.size();
@@ -292,17 +327,16 @@ fn document<L: Ledger>(
         alloc,
         t,
         path,
-        base,
         env,
         levels - 1,
         left - 1,
         kept,
-        next,
+        progress,
         done,
         &mut joined,
         steps,
     )?;
-    document_of(alloc, t, base, joined, went)
+    document_of(alloc, t, path, joined, went)
 }
 
 // What the children come to, one behind the other. The answer is false where one is over.
@@ -311,12 +345,11 @@ fn children<L: Ledger>(
     alloc: Global,
     t: &Tree,
     path: &Path,
-    base: &Ip,
     env: &mut Env,
     levels: u32,
     left: u64,
     kept: &[Part],
-    next: &mut usize,
+    progress: &mut WalkProgress,
     done: &mut Vec<Part>,
     joined: &mut Joined,
     steps: &mut Steps<L>,
@@ -326,13 +359,14 @@ fn children<L: Ledger>(
     requires scopes { length env.old.scopes + levels < 2 ^ 32 - 1 }
     requires sound { IsSound (kept_in kept.now) path.now t.now }
     requires distinct { IsDistinct bytes_eq (paths_of kept.now) }
-    requires kept_once { All IsOnce kept.now }
-    requires done_once { All IsOnce done.old.items }
+    requires kept_tidy { All IsTidy kept.now }
+    requires done_ready { All IsReady done.old.items }
     requires nothing { so_far_of joined.old ≡ nothing_yet }
-    ensures comes { IfOk result (λ went. ChildrenCome (kept_in kept.now) levels left path.now base.now
+    ensures comes { IfOk result (λ went. ChildrenCome (kept_in kept.now) levels left path.now
         (children_of t.now) (stage_of joined.old env.old done.old.items steps.old)
         (stage_of joined.new env.new done.new.items steps.new) went) }
-    ensures done_once { All IsOnce done.new.items }
+    ensures spent { OnOk result (RisesAlike steps.old progress.old.spent steps.new progress.new.spent) }
+    ensures done_ready { All IsReady done.new.items }
     ensures scopes { env.new.scopes ≡ env.old.scopes }
 {
     for i in 0..t.arity() {
@@ -340,7 +374,7 @@ fn children<L: Ledger>(
             unreachable!()
         };
         let went = one_child(
-            alloc, kid, i, path, base, env, levels, left, kept, next, done, joined, steps,
+            alloc, kid, i, path, env, levels, left, kept, progress, done, joined, steps,
         )?;
         if !went {
             return Ok(false);
@@ -356,12 +390,11 @@ fn one_child<L: Ledger>(
     t: &Tree,
     i: u32,
     path: &Path,
-    base: &Ip,
     env: &mut Env,
     levels: u32,
     left: u64,
     kept: &[Part],
-    next: &mut usize,
+    progress: &mut WalkProgress,
     done: &mut Vec<Part>,
     joined: &mut Joined,
     steps: &mut Steps<L>,
@@ -371,20 +404,20 @@ fn one_child<L: Ledger>(
     requires scopes { length env.old.scopes + levels < 2 ^ 32 - 1 }
     requires sound { IsSound (kept_in kept.now) (path.now ++ i ∷ []) t.now }
     requires distinct { IsDistinct bytes_eq (paths_of kept.now) }
-    requires kept_once { All IsOnce kept.now }
-    requires done_once { All IsOnce done.old.items }
+    requires kept_tidy { All IsTidy kept.now }
+    requires done_ready { All IsReady done.old.items }
     requires cost { joined.old.cost ≤ left }
-    ensures comes { IfOk result (λ went. ChildComes (kept_in kept.now) levels left path.now base.now i t.now
+    ensures comes { IfOk result (λ went. ChildComes (kept_in kept.now) levels left path.now i t.now
         (stage_of joined.old env.old done.old.items steps.old) (stage_of joined.new env.new done.new.items steps.new)
         went) }
-    ensures done_once { All IsOnce done.new.items }
+    ensures spent { OnOk result (RisesAlike steps.old progress.old.spent steps.new progress.new.spent) }
+    ensures done_ready { All IsReady done.new.items }
     ensures scopes { env.new.scopes ≡ env.old.scopes }
 {
     let below = path_below(alloc, path, i)?;
-    let origin = base.child(alloc, i)?;
     let rest = left - joined.cost;
     let outcome = walk_tree(
-        alloc, t, below, &origin, env, levels, rest, kept, next, done, steps,
+        alloc, t, below, env, levels, rest, kept, progress, done, steps,
     )?;
     joined.add_outcome(outcome)
 }
@@ -395,12 +428,11 @@ fn scope<L: Ledger>(
     alloc: Global,
     t: &Tree,
     path: &Path,
-    base: &Ip,
     env: &mut Env,
     levels: u32,
     left: u64,
     kept: &[Part],
-    next: &mut usize,
+    progress: &mut WalkProgress,
     done: &mut Vec<Part>,
     steps: &mut Steps<L>,
 ) -> Result<Outcome, Memory>
@@ -411,24 +443,24 @@ fn scope<L: Ledger>(
     requires scopes { length env.old.scopes + levels < 2 ^ 32 - 1 }
     requires sound { IsSound (kept_in kept.now) path.now t.now }
     requires distinct { IsDistinct bytes_eq (paths_of kept.now) }
-    requires kept_once { All IsOnce kept.now }
-    requires done_once { All IsOnce done.old.items }
+    requires kept_tidy { All IsTidy kept.now }
+    requires done_ready { All IsReady done.old.items }
     ensures exact { IfOk result
-        (λ o. wide_outcome o ≡ option_map (trace_under base.now) (evaluates levels left t.now (before_of env.old))) }
+        (λ o. wide_outcome o ≡ option_map (trace_under path.now) (evaluates levels left t.now (before_of env.old))) }
     ensures behind { IfOk result (λ o. IsBehind (before_of env.old) (before_of env.new) (wide_outcome o)) }
     ensures added { IfOk result (λ o. IsAdded (kept_in kept.now) (parts levels left path.now t.now (before_of env.old))
         done.old.items done.new.items (wide_outcome o)) }
-    ensures counted { IfOk result
-        (λ o. IsCounted (kept_in kept.now) (parts levels left path.now t.now (before_of env.old)) left
-        steps.old steps.new (wide_outcome o)) }
+    ensures counted { OnOk result (steps.new
+        ≡ steps.old + charges (kept_in kept.now) (parts levels left path.now t.now (before_of env.old))) }
+    ensures spent { OnOk result (RisesAlike steps.old progress.old.spent steps.new progress.new.spent) }
     ensures names_once { IfOk result NamesOnce }
-    ensures done_once { All IsOnce done.new.items }
+    ensures done_ready { All IsReady done.new.items }
     ensures scopes { env.new.scopes ≡ env.old.scopes }
 {
-    match settings_of(alloc, t, base, left)? {
+    match settings_of(alloc, t, path, left)? {
         None => Ok(Outcome::Over),
         Some(settings) => scope_with(
-            alloc, t, path, base, env, levels, left, kept, next, done, settings, steps,
+            alloc, t, path, env, levels, left, kept, progress, done, settings, steps,
         ),
     }
 }
@@ -439,35 +471,34 @@ fn scope_with<L: Ledger>(
     alloc: Global,
     t: &Tree,
     path: &Path,
-    base: &Ip,
     env: &mut Env,
     levels: u32,
     left: u64,
     kept: &[Part],
-    next: &mut usize,
+    progress: &mut WalkProgress,
     done: &mut Vec<Part>,
     settings: Settings,
     steps: &mut Steps<L>,
 ) -> Result<Outcome, Memory>
-    requires scope { IsScope t.now base.now settings }
+    requires scope { IsScope t.now path.now settings }
     requires some { 0 < levels }
     requires levels { levels ≤ 400 }
     requires left { left ≤ 1000000 }
     requires scopes { length env.old.scopes + levels < 2 ^ 32 - 1 }
     requires sound { IsSound (kept_in kept.now) path.now t.now }
     requires distinct { IsDistinct bytes_eq (paths_of kept.now) }
-    requires kept_once { All IsOnce kept.now }
-    requires done_once { All IsOnce done.old.items }
+    requires kept_tidy { All IsTidy kept.now }
+    requires done_ready { All IsReady done.old.items }
     ensures exact { IfOk result
-        (λ o. wide_outcome o ≡ option_map (trace_under base.now) (evaluates levels left t.now (before_of env.old))) }
+        (λ o. wide_outcome o ≡ option_map (trace_under path.now) (evaluates levels left t.now (before_of env.old))) }
     ensures behind { IfOk result (λ o. IsBehind (before_of env.old) (before_of env.new) (wide_outcome o)) }
     ensures added { IfOk result (λ o. IsAdded (kept_in kept.now) (parts levels left path.now t.now (before_of env.old))
         done.old.items done.new.items (wide_outcome o)) }
-    ensures counted { IfOk result
-        (λ o. IsCounted (kept_in kept.now) (parts levels left path.now t.now (before_of env.old)) left
-        steps.old steps.new (wide_outcome o)) }
+    ensures counted { OnOk result (steps.new
+        ≡ steps.old + charges (kept_in kept.now) (parts levels left path.now t.now (before_of env.old))) }
+    ensures spent { OnOk result (RisesAlike steps.old progress.old.spent steps.new progress.new.spent) }
     ensures names_once { IfOk result NamesOnce }
-    ensures done_once { All IsOnce done.new.items }
+    ensures done_ready { All IsReady done.new.items }
     ensures scopes { env.new.scopes ≡ env.old.scopes }
 {
     let _size = t.size();
@@ -484,17 +515,16 @@ fn scope_with<L: Ledger>(
         inner,
         last,
         path,
-        base,
         env,
         levels - 1,
         rest,
         kept,
-        next,
+        progress,
         done,
         &settings.pairs,
         steps,
     )?;
-    with_of(alloc, t, base, env, settings, outcome)
+    with_of(alloc, t, path, env, settings, outcome)
 }
 
 // What the child of this number comes to where these are set. Afterwards they aren't.
@@ -504,12 +534,11 @@ fn inside<L: Ledger>(
     t: &Tree,
     i: u32,
     path: &Path,
-    base: &Ip,
     env: &mut Env,
     levels: u32,
     left: u64,
     kept: &[Part],
-    next: &mut usize,
+    progress: &mut WalkProgress,
     done: &mut Vec<Part>,
     pairs: &[(Text, Tree)],
     steps: &mut Steps<L>,
@@ -518,24 +547,24 @@ fn inside<L: Ledger>(
     requires left { left ≤ 1000000 }
     requires sound { IsSound (kept_in kept.now) (path.now ++ i ∷ []) t.now }
     requires distinct { IsDistinct bytes_eq (paths_of kept.now) }
-    requires kept_once { All IsOnce kept.now }
-    requires done_once { All IsOnce done.old.items }
+    requires kept_tidy { All IsTidy kept.now }
+    requires done_ready { All IsReady done.old.items }
     requires scopes { length env.old.scopes + levels < 2 ^ 32 - 2 }
-    ensures exact { IfOk result (λ o. wide_outcome o ≡ option_map (trace_under (base.now ++ i ∷ []))
+    ensures exact { IfOk result (λ o. wide_outcome o ≡ option_map (trace_under (path.now ++ i ∷ []))
         (evaluates levels left t.now (get (overlaid env.old.map pairs.now)))) }
     ensures added { IfOk result (λ o. IsAdded (kept_in kept.now)
         (parts levels left (path.now ++ i ∷ []) t.now (get (overlaid env.old.map pairs.now)))
         done.old.items done.new.items (wide_outcome o)) }
-    ensures counted { IfOk result (λ o. IsCounted (kept_in kept.now)
-        (parts levels left (path.now ++ i ∷ []) t.now (get (overlaid env.old.map pairs.now))) left
-        steps.old steps.new (wide_outcome o)) }
+    ensures counted { OnOk result (steps.new ≡ steps.old + charges (kept_in kept.now)
+        (parts levels left (path.now ++ i ∷ []) t.now (get (overlaid env.old.map pairs.now)))) }
+    ensures spent { OnOk result (RisesAlike steps.old progress.old.spent steps.new progress.new.spent) }
     ensures names_once { IfOk result NamesOnce }
-    ensures done_once { All IsOnce done.new.items }
+    ensures done_ready { All IsReady done.new.items }
     ensures same { env.new ≡ env.old }
 {
     let mark = env.enter();
     let outcome = set_inside(
-        alloc, t, i, path, base, env, levels, left, kept, next, done, pairs, steps,
+        alloc, t, i, path, env, levels, left, kept, progress, done, pairs, steps,
     );
     env.leave(mark);
     outcome
@@ -548,12 +577,11 @@ fn set_inside<L: Ledger>(
     t: &Tree,
     i: u32,
     path: &Path,
-    base: &Ip,
     env: &mut Env,
     levels: u32,
     left: u64,
     kept: &[Part],
-    next: &mut usize,
+    progress: &mut WalkProgress,
     done: &mut Vec<Part>,
     pairs: &[(Text, Tree)],
     steps: &mut Steps<L>,
@@ -562,25 +590,24 @@ fn set_inside<L: Ledger>(
     requires left { left ≤ 1000000 }
     requires sound { IsSound (kept_in kept.now) (path.now ++ i ∷ []) t.now }
     requires distinct { IsDistinct bytes_eq (paths_of kept.now) }
-    requires kept_once { All IsOnce kept.now }
-    requires done_once { All IsOnce done.old.items }
+    requires kept_tidy { All IsTidy kept.now }
+    requires done_ready { All IsReady done.old.items }
     requires scopes { length env.old.scopes + levels < 2 ^ 32 - 1 }
-    ensures exact { IfOk result (λ o. wide_outcome o ≡ option_map (trace_under (base.now ++ i ∷ []))
+    ensures exact { IfOk result (λ o. wide_outcome o ≡ option_map (trace_under (path.now ++ i ∷ []))
         (evaluates levels left t.now (get (overlaid env.old.map pairs.now)))) }
     ensures added { IfOk result (λ o. IsAdded (kept_in kept.now)
         (parts levels left (path.now ++ i ∷ []) t.now (get (overlaid env.old.map pairs.now)))
         done.old.items done.new.items (wide_outcome o)) }
-    ensures counted { IfOk result (λ o. IsCounted (kept_in kept.now)
-        (parts levels left (path.now ++ i ∷ []) t.now (get (overlaid env.old.map pairs.now))) left
-        steps.old steps.new (wide_outcome o)) }
+    ensures counted { OnOk result (steps.new ≡ steps.old + charges (kept_in kept.now)
+        (parts levels left (path.now ++ i ∷ []) t.now (get (overlaid env.old.map pairs.now)))) }
+    ensures spent { OnOk result (RisesAlike steps.old progress.old.spent steps.new progress.new.spent) }
     ensures names_once { IfOk result NamesOnce }
-    ensures done_once { All IsOnce done.new.items }
+    ensures done_ready { All IsReady done.new.items }
     ensures scopes { env.new.scopes ≡ env.old.scopes }
 {
     set_all(env, pairs)?;
     let below = path_below(alloc, path, i)?;
-    let origin = base.child(alloc, i)?;
     walk_tree(
-        alloc, t, below, &origin, env, levels, left, kept, next, done, steps,
+        alloc, t, below, env, levels, left, kept, progress, done, steps,
     )
 }

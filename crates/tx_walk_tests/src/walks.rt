@@ -1,5 +1,9 @@
-// Units by their parts, of which nothing is kept.
-ghost use Rattle.std.specs.Prelude.{◌≡◌, [], IfSome};
+// Units by their parts.
+ghost use Rattle.std.specs.Prelude.{◌≡◌, ◌≤◌, [], IfSome};
+ghost use Rattle.std.specs.List.{All, IsDistinct};
+ghost use Rattle.std.specs.Str.{bytes_eq};
+ghost use Rattle.tx_walk.specs.Held.{IsSound};
+ghost use Rattle.tx_walk.specs.Walked.{IsTidy, kept_in, paths_of};
 
 use std::alloc::Global;
 use std::marker::Brand;
@@ -8,8 +12,8 @@ use tx_base::Steps;
 use tx_env::Env;
 use tx_exec::{Outcome, eval};
 use tx_origin::{Ip, Tagged};
-use tx_tree::{Path, Text, Tree};
-use tx_walk::{Walked, kept_law, walk};
+use tx_tree::{Text, Tree};
+use tx_walk::{Part, Walked, kept_law, walk, walked_law};
 
 // How many steps are allowed.
 const ALLOWANCE: u64 = 1_000_000;
@@ -59,17 +63,76 @@ fn env_of(alloc: Global, words: &str) -> Option<Env>
     Some(env)
 }
 
-// The tree by its parts, of which nothing is kept.
+// The tree by its parts, of which nothing is kept, where so many steps are allowed.
 fn by_parts<L: Ledger>(
     alloc: Global,
     t: &Tree,
     words: &str,
+    allowance: u64,
     steps: &mut Steps<L>,
-) -> Option<Walked> {
+) -> Option<Walked>
+    requires { allowance ≤ 1000000 }
+    ensures sound { IfSome result (λ w. IsSound (kept_in w.parts.items) [] t.now) }
+    ensures distinct { IfSome result (λ w. IsDistinct bytes_eq (paths_of w.parts.items)) }
+    ensures tidy { IfSome result (λ w. All IsTidy w.parts.items) }
+{
     kept_law();
+    walked_law();
     let mut env = env_of(alloc, words)?;
-    let path = Path::root(alloc);
-    walk(alloc, t, &path, &mut env, ALLOWANCE, &[], steps).ok()
+    match walk(alloc, t, &mut env, allowance, &[], steps) {
+        Ok(walked) => Some(walked),
+        Err(_) => None,
+    }
+}
+
+// The tree by its parts, of which these are kept.
+fn again<L: Ledger>(
+    alloc: Global,
+    t: &Tree,
+    words: &str,
+    kept: &[Part],
+    steps: &mut Steps<L>,
+) -> Option<Walked>
+    requires sound { IsSound (kept_in kept.now) [] t.now }
+    requires distinct { IsDistinct bytes_eq (paths_of kept.now) }
+    requires tidy { All IsTidy kept.now }
+{
+    let mut env = env_of(alloc, words)?;
+    walk(alloc, t, &mut env, ALLOWANCE, kept, steps).ok()
+}
+
+// Whether so many steps suffice. Where they don't there are no parts.
+fn suffice<L: Ledger>(
+    alloc: Global,
+    t: &Tree,
+    words: &str,
+    allowance: u64,
+    steps: &mut Steps<L>,
+) -> Option<bool> {
+    if allowance > ALLOWANCE {
+        return None;
+    }
+    let walked = by_parts(alloc, t, words, allowance, steps)?;
+    match &walked.outcome {
+        Outcome::Done(_) => Some(true),
+        Outcome::Over => walked.parts.is_empty().then_some(false),
+    }
+}
+
+// Whether just as many steps suffice as evaluating the whole tree takes.
+fn is_exact<L: Ledger>(
+    alloc: Global,
+    t: &Tree,
+    words: &str,
+    whole: &Outcome,
+    steps: &mut Steps<L>,
+) -> Option<bool> {
+    let Outcome::Done(trace) = whole else {
+        return None;
+    };
+    let fewer = trace.cost.checked_sub(1)?;
+    let enough = suffice(alloc, t, words, trace.cost, steps)?;
+    Some(enough && !suffice(alloc, t, words, fewer, steps)?)
 }
 
 // What the whole tree comes to.
@@ -98,14 +161,38 @@ fn same<L: Ledger>(
     }
 }
 
-// Whether there are so many parts, each evaluated, and the whole is what evaluating it gives.
+// Whether a second walk holds each part, with the same value, and has as many.
+fn is_held<L: Ledger>(
+    alloc: Global,
+    row: &Row,
+    t: &Tree,
+    kept: &[Part],
+    whole: &Outcome,
+    steps: &mut Steps<L>,
+) -> Option<bool>
+    requires sound { IsSound (kept_in kept.now) [] t.now }
+    requires distinct { IsDistinct bytes_eq (paths_of kept.now) }
+    requires tidy { All IsTidy kept.now }
+{
+    let walked = again(alloc, t, row.1, kept, steps)?;
+    let alike = same(alloc, &walked.outcome, whole, steps)?;
+    let held = walked
+        .parts
+        .iter()
+        .all(|part| !part.renewed && part.placed.is_some());
+    Some(alike && held && walked.parts.len() == row.2)
+}
+
+// Whether there are so many parts, each evaluated and then held, and the whole is what evaluating it gives.
 fn holds<L: Ledger>(alloc: Global, row: &Row, steps: &mut Steps<L>) -> Option<bool> {
     let tree = tree_of(alloc, row.0, steps)?;
-    let walked = by_parts(alloc, &tree, row.1, steps)?;
+    let walked = by_parts(alloc, &tree, row.1, ALLOWANCE, steps)?;
     let whole = whole(alloc, &tree, row.1, steps)?;
     let alike = same(alloc, &walked.outcome, &whole, steps)?;
     let anew = walked.parts.iter().all(|part| part.renewed);
-    Some(alike && anew && walked.parts.len() == row.2)
+    let held = is_held(alloc, row, &tree, &walked.parts, &whole, steps)?;
+    let exact = is_exact(alloc, &tree, row.1, &whole, steps)?;
+    Some(alike && anew && held && exact && walked.parts.len() == row.2)
 }
 
 // The number of the first row that doesn't hold.

@@ -6,5 +6,5 @@ use Rattle.tx_walk.proofs.fitting.fits.Goals as goal
 
 pub returns : goal.returns
 returns c =
-    c.all_agree.ensures
+    c.looks_agree.ensures
     ∙ test_same (λ look. same (get c.args.env.now.map look.0) look.1) c.args.part.now.trace.looks c.requires.once.0

@@ -1,8 +1,9 @@
 use Rattle.std.proofs.Common.{◌≡◌, ◌+◌, ◌-◌, ◌*◌}
 use Rattle.std.specs.List.{All}
 use Rattle.tx_tree.specs.WideTree.{children_of}
-use Rattle.tx_walk.specs.Walked.{kept_in, IsOnce}
-use Rattle.tx_walk.specs.Steps.{stage_of}
+use Rattle.tx_walk.specs.Walked.{kept_in}
+use Rattle.tx_walk.specs.Spending.{RisesAlike}
+use Rattle.tx_walk.specs.Steps.{IsReady, stage_of}
 use Rattle.tx_walk.proofs.Going.{Going}
 use Rattle.tx_walk.proofs.walking.+walk.Given as goal
 
@@ -32,9 +33,10 @@ decreases-set_inside g l = 8 * l.levels + 1
 
 abbrev pub invariant-children-loop-i : goal.invariant-children-loop-i
 invariant-children-loop-i g l = record {
-  going : Going (kept_in l.kept) l.levels l.left l.path l.base (children_of l.t)
+  going : Going (kept_in l.kept) l.levels l.left l.path (children_of l.t)
       (stage_of l.fn.joined l.fn.env l.fn.done.items l.fn.steps) l.i
       (stage_of l.joined l.env l.done.items l.steps);
-  done_once : All IsOnce l.done.items;
+  done_ready : All IsReady l.done.items;
   scopes : l.env.scopes ≡ l.fn.env.scopes;
+  spent : RisesAlike l.fn.steps l.fn.progress.spent l.steps l.progress.spent;
 }
