@@ -12,24 +12,28 @@ use Rattle.tx_tree.specs.Paths.{subtree}
 use Rattle.tx_mod.specs.declared.mods.Mod.{Mod}
 use Rattle.tx_mod.specs.Followed.{CarriesThroughAll, changed_by_all}
 use Rattle.tx_origin.specs.TaggedTrees.{TaggedTree, tagged_of}
-use Rattle.tx_exec.specs.Outcomes.{wide_outcome}
+use Rattle.tx_exec.specs.Outcomes.{wide_outcome, wide_trace}
 use Rattle.tx_units.specs.declared.kinds.Unit.{Unit as DocUnit}
 use Rattle.tx_bridge.specs.declared.bridge.Bridge.{Bridge}
-use Rattle.tx_bridge.specs.SameTrees.{is_same}
+use Rattle.tx_walk.specs.SameTrees.{is_same}
 use Rattle.tx_bridge.specs.UnitLists.{IsPlaced}
 use Rattle.tx_units.specs.Places.{NoneBegins}
 use Rattle.tx_units.specs.Places.{AreApart as PathsApart}
 use Rattle.tx_bridge.specs.Entries.{Entry, Kept, units_of, nothing_kept}
-use Rattle.tx_bridge.specs.Sound.{IsSound, Holds, AllHold, entry_of, entries_of, sources_in}
+use Rattle.tx_bridge.specs.Sound.{IsSound, Holds, AllHold, entry_of, entries_of, parts_in, sources_in}
+use Rattle.tx_bridge.specs.Nested.{KeptParts}
+use Rattle.tx_bridge.specs.HeldParts.{HoldsPart, StoredHolds, AllPartsHold, kept_parts}
+use Rattle.tx_walk.specs.declared.part.Part.{Part as DonePart}
 use Rattle.tx_bridge.specs.Carrying.{is_path, same_kind, same_unit, through, mods_of, Stands, AllStand, AreSameBodies}
 use Rattle.tx_bridge.specs.Slots.{Leads, AllLead, AreApart, AreMoved, AllPlaced, stays, given_from, given_all}
 use Rattle.tx_bridge.specs.Slots.{fresh_bridge, paths_in, bodies_of}
-use Rattle.tx_bridge.proofs.Trees.{both, same_is}
+use Rattle.tx_bridge.proofs.PartsSame.{no_parts, parts_same}
+use Rattle.tx_walk.proofs.Trees.{both, same_is}
 use Rattle.tx_bridge.proofs.Slotting.{path_is, paths_alike, some_once}
 
 -- the new unit w, where the old one of number i has given what is kept of it
 abbrev pub with_given : ℕ → Bridge → Bridge → Bridge
-with_given i b w = record { unit = w.unit; kept = b.kept; renewed = w.renewed; source = Some i }
+with_given i b w = record { unit = w.unit; kept = b.kept; parts = b.parts; renewed = w.renewed; source = Some i }
 
 -- ---- where old units stand
 
@@ -112,6 +116,7 @@ one_sound true i b w same sound_b sound_w = record {
   holds = subst (Holds (wide_outcome b.kept)) (same refl) sound_b.holds;
   once = sound_b.once;
   placed = sound_w.placed;
+  parts = parts_same b.unit w.unit (wide_outcome b.kept) b.parts (same refl) sound_b.placed sound_w.placed sound_b.parts;
 }
 one_sound false i b w same sound_b sound_w = sound_w
 
@@ -197,7 +202,7 @@ fresh_units (u ∷ us) = ap (λ vs. u ∷ vs) (fresh_units us)
 
 fresh_sound : (us : List DocUnit) → AllByRecursion IsPlaced us → AllByRecursion IsSound (map fresh_bridge us)
 fresh_sound [] h = tt
-fresh_sound (u ∷ us) h = (record { holds = tt; once = tt; placed = h.0 }, fresh_sound us h.1)
+fresh_sound (u ∷ us) h = (record { holds = tt; once = tt; placed = h.0; parts = no_parts u }, fresh_sound us h.1)
 
 all_given_units : (i : ℕ) (places : List (Option (List ℕ))) (bs new : List Bridge)
     → bodies_of (given_all i places bs new) ≡ bodies_of new
@@ -307,18 +312,23 @@ start_entries : (us : List DocUnit) → entries_of (map fresh_bridge us) ≡ not
 start_entries [] = refl
 start_entries (u ∷ us) = ap (λ es. record { unit = u; trace = None } ∷ es) (start_entries us)
 
+start_parts : (us : List DocUnit) → parts_in (map fresh_bridge us) ≡ map (λ u. []) us
+start_parts [] = refl
+start_parts (u ∷ us) = ap (λ ks. [] ∷ ks) (start_parts us)
+
 start_sources : (us : List DocUnit) → sources_in (map fresh_bridge us) ≡ map (λ u. None) us
 start_sources [] = refl
 start_sources (u ∷ us) = ap (λ ss. None ∷ ss) (start_sources us)
 
 pub started : (bs : List Bridge) (us : List DocUnit) → bs ≡ map fresh_bridge us → AllByRecursion IsPlaced us
     → (All IsSound bs) × (entries_of bs ≡ nothing_kept us) × (units_of (entries_of bs) ≡ us)
-    × (sources_in bs ≡ map (λ u. None) us)
+    × (sources_in bs ≡ map (λ u. None) us) × (parts_in bs ≡ map (λ u. []) us)
 started bs us is placed = (
   subst (All IsSound) (sym is) (start_sound us placed),
   ap entries_of is ∙ start_entries us,
   ap (λ cs. units_of (entries_of cs)) is ∙ units_bodies (map fresh_bridge us) ∙ fresh_units us,
   ap sources_in is ∙ start_sources us,
+  ap parts_in is ∙ start_parts us,
 )
 
 holds_each : (bs : List Bridge) → AllByRecursion IsSound bs
@@ -331,6 +341,30 @@ hold_all bs kept is sound =
     subst AllHold is
     (All-from_recursion (λ (e : Entry). Holds e.trace (tagged_of e.unit.tagged)) (entries_of bs)
     (holds_each bs (recursion_from_All IsSound bs sound)))
+
+stored_hold : (t : WideTree) (ps : List DonePart) → AllByRecursion (HoldsPart t) ps
+    → AllByRecursion (StoredHolds t) (kept_parts ps)
+stored_hold t [] h = tt
+stored_hold t (p ∷ ps) h = (
+  record {
+    trace = wide_trace p.trace;
+    is = refl;
+    there = h.0.there;
+    leads = h.0.leads;
+    supports = h.0.supports;
+  },
+  stored_hold t ps h.1,
+)
+
+parts_hold_each : (bs : List Bridge) → AllByRecursion IsSound bs → AllPartsHold (entries_of bs) (parts_in bs)
+parts_hold_each [] h = tt
+parts_hold_each (b ∷ bs) h = (stored_hold b.unit.tagged.tree b.parts h.0.parts.hold, parts_hold_each bs h.1)
+
+pub parts_hold_all : (bs : List Bridge) (kept : Kept) (pss : List KeptParts) → entries_of bs ≡ kept
+    → parts_in bs ≡ pss → All IsSound bs → AllPartsHold kept pss
+parts_hold_all bs kept pss is has sound =
+    subst (AllPartsHold kept) has
+    (subst (λ es. AllPartsHold es (parts_in bs)) is (parts_hold_each bs (recursion_from_All IsSound bs sound)))
 
 -- the entry of a number
 pub entry_at : (bs : List Bridge) (kept : Kept) (i : ℕ) (b : Bridge) → entries_of bs ≡ kept → slice_get bs i ≡ Some b

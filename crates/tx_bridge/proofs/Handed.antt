@@ -1,18 +1,17 @@
 -- What is kept of old units is given to the new ones that they are.
 use Rattle.std.proofs.Common.{◌≡◌, ℕ, zero, suc, ◌+◌, ◌<◌, ◌≤◌, List, [], ◌∷◌, length, drop, slice_set, slice_index_or}
 use Rattle.std.proofs.Common.{Option, Some, None, refl, ap, sym, ◌∙◌, subst, arith}
-use Rattle.std.proofs.lemmas.List.{drop_more, drop-drop, drop-set-lt, drop_all, set-set, get_or-set_same}
+use Rattle.std.proofs.lemmas.List.{drop_more, drop-drop, drop-set-lt, drop_all}
 use Rattle.std.proofs.lemmas.Bool.{false_from_ne_true}
 use Rattle.std.proofs.lemmas.Option.{slice_get_read, slice_get-get_or}
 use Rattle.std.proofs.lemmas.Bool.Decides.{Decides-eqb}
 use Rattle.std.specs.Prelude.{Bool, true, false, ◌==◌, slice_get, if◌then◌else◌, IfSome}
-use Rattle.tx_exec.specs.declared.outcome.Outcome.{Outcome}
 use Rattle.tx_units.specs.declared.kinds.Unit.{Unit as DocUnit}
 use Rattle.tx_bridge.specs.declared.bridge.Bridge.{Bridge}
 use Rattle.tx_bridge.specs.UnitLists.{IsPlaced}
 use Rattle.tx_bridge.specs.Slots.{stays, IsSlot, AreApart, AllPlaced, AreMoved, given_from, given_all}
 use Rattle.tx_bridge.specs.Slots.{IsInOrder, AreInOrder, HasOrder}
-use Rattle.tx_bridge.proofs.Trees.{alike}
+use Rattle.tx_walk.proofs.Trees.{alike}
 
 one_more : (k j : ℕ) → (suc k == suc j) ≡ (k == j)
 one_more k j =
@@ -27,7 +26,7 @@ none_more k = false_from_ne_true (0 == suc k) (λ h. absurd (omega (arith, (Deci
 
 module _ (place : Option (List ℕ)) (i : ℕ) (b : Bridge) where
   abbrev with_kept : Bridge → Bridge
-  with_kept w = record { unit = w.unit; kept = b.kept; renewed = w.renewed; source = Some i }
+  with_kept w = record { unit = w.unit; kept = b.kept; parts = b.parts; renewed = w.renewed; source = Some i }
 
   given_none : (o : ℕ) (ws : List Bridge)
       → ((k n : ℕ) (w : Bridge) → slice_get ws k ≡ Some w → n ≡ o + k → stays place i b.unit n w.unit ≡ false)
@@ -60,30 +59,18 @@ module _ (place : Option (List ℕ)) (i : ℕ) (b : Bridge) where
 
   pub gives_some : (new : List Bridge) (j : ℕ) (v : Bridge) → slice_get new j ≡ Some v
       → IsSlot place i b.unit new (Some j)
-      → slice_set new j (record { unit = v.unit; kept = b.kept; renewed = v.renewed; source = Some i })
+      → slice_set new j
+      (record { unit = v.unit; kept = b.kept; parts = b.parts; renewed = v.renewed; source = Some i })
       ≡ given_from place i b 0 new
   gives_some new j v at h =
       sym (given_some 0 new j v at
       (λ k n w e f. let q : n ≡ k = omega (arith, f) in ap (λ m. stays place i b.unit m w.unit) q ∙ h k w e))
 
-  abbrev keeping : Outcome → Bridge → Bridge
-  keeping o w = record { unit = w.unit; kept = o; renewed = w.renewed; source = w.source }
-
-  abbrev from_here : Bridge → Bridge
-  from_here w = record { unit = w.unit; kept = w.kept; renewed = w.renewed; source = Some i }
-
-  -- first what is kept, and then the number
-  pub gives_both : (new : List Bridge) (j : ℕ) (d e : Bridge) (o : Outcome) → j < length new → o ≡ b.kept
-      → IsSlot place i b.unit new (Some j)
-      → slice_set (slice_set new j (keeping o (slice_index_or new j d))) j
-      (from_here (slice_index_or (slice_set new j (keeping o (slice_index_or new j d))) j e))
-      ≡ given_from place i b 0 new
-  gives_both new j d e o inside is h =
-      ap (λ w. slice_set (slice_set new j (keeping o (slice_index_or new j d))) j (from_here w))
-      (get_or-set_same new j (keeping o (slice_index_or new j d)) e inside)
-      ∙ set-set new j (keeping o (slice_index_or new j d)) (from_here (keeping o (slice_index_or new j d)))
-      ∙ ap (λ x. slice_set new j (from_here (keeping x (slice_index_or new j d)))) is
-      ∙ gives_some new j (slice_index_or new j d) (slice_get-get_or new j d inside) h
+  -- where the element is read and taken to this
+  pub gives_read : (new : List Bridge) (j : ℕ) (d y : Bridge) → j < length new → y ≡ with_kept (slice_index_or new j d)
+      → IsSlot place i b.unit new (Some j) → slice_set new j y ≡ given_from place i b 0 new
+  gives_read new j d y inside is h =
+      ap (slice_set new j) is ∙ gives_some new j (slice_index_or new j d) (slice_get-get_or new j d inside) h
 
   -- a new unit stays as it is
   unit_kept : (s : Bool) (w v : Bridge) → Some (if s then with_kept w else w) ≡ Some v → v.unit ≡ w.unit

@@ -20,7 +20,7 @@ use Rattle.tx_mod.specs.Changes.{Outcome, changed, changed_at, put_back}
 use Rattle.tx_mod.specs.Moves.{rest_behind, carried_at, carried_path}
 use Rattle.tx_mod.specs.Followed.{tree_of, changed_by_all, carried_by_all}
 use Rattle.tx_bridge.specs.InPlace.{wraps, begins, leaves_nowhere, are_within}
-use Rattle.tx_bridge.proofs.Trees.{both}
+use Rattle.tx_walk.proofs.Trees.{both}
 
 -- ---- fronts of paths
 
@@ -30,7 +30,7 @@ rest_step i k q r s ih true at e =
     ap (λ n. n ∷ r) (sym ((Decides-eqb i k).0 at)) ∙ ap (λ xs. i ∷ xs) (ih e)
 rest_step i k q r s ih false at e = cc
 
-rest_is : (q r s : List ℕ) → rest_behind q r ≡ Some s → r ≡ q ++ s
+pub rest_is : (q r s : List ℕ) → rest_behind q r ≡ Some s → r ≡ q ++ s
 rest_is [] r s e = same_Some r s e
 rest_is (i ∷ q) [] s e = cc
 rest_is (i ∷ q) (k ∷ r) s e = rest_step i k q r s (λ f. rest_is q r s f) (i == k) refl e
@@ -39,14 +39,14 @@ rest_is (i ∷ q) (k ∷ r) s e = rest_step i k q r s (λ f. rest_is q r s f) (i
 abbrev pub IsNoFront : List ℕ → List ℕ → Type 0
 IsNoFront q r = (s : List ℕ) → r ≡ q ++ s → ⊥
 
-no_rest : (q r : List ℕ) → IsNoFront q r → rest_behind q r ≡ None
+pub no_rest : (q r : List ℕ) → IsNoFront q r → rest_behind q r ≡ None
 no_rest q r h = by (rest_behind q r) refl
   where
     by : (o : Option (List ℕ)) → rest_behind q r ≡ o → o ≡ None
     by None e = refl
     by (Some s) e = absurd (h s (rest_is q r s e))
 
-rest_own : (q s : List ℕ) → rest_behind q (q ++ s) ≡ Some s
+pub rest_own : (q s : List ℕ) → rest_behind q (q ++ s) ≡ Some s
 rest_own [] s = refl
 rest_own (i ∷ q) s =
     ap (λ b. if b then rest_behind q (q ++ s) else None) ((Decides-eqb i i).1 refl) ∙ rest_own q s
@@ -55,7 +55,7 @@ heads : (i k : ℕ) (xs ys : List ℕ) → i ∷ xs ≡ k ∷ ys → (i ≡ k) �
 heads i k xs ys e = (cc, cc)
 
 -- of two fronts of one path one is a front of the other
-fronts_meet : (q r s x : List ℕ) → q ++ s ≡ r ++ x → IsNoFront q r → IsNoFront r q → ⊥
+pub fronts_meet : (q r s x : List ℕ) → q ++ s ≡ r ++ x → IsNoFront q r → IsNoFront r q → ⊥
 fronts_meet [] r s x e f g = f r refl
 fronts_meet (i ∷ q) [] s x e f g = g (i ∷ q) refl
 fronts_meet (i ∷ q) (k ∷ r) s x e f g =
@@ -64,7 +64,7 @@ fronts_meet (i ∷ q) (k ∷ r) s x e f g =
     (λ y is. f y (ap (λ n. n ∷ r) (sym h.0) ∙ ap (λ xs. i ∷ xs) is))
     (λ y is. g y (ap (λ n. n ∷ q) h.0 ∙ ap (λ xs. k ∷ xs) is))
 
-begins_is : (q p : List ℕ) → begins q p ≡ true → p ≡ q ++ drop (length q) p
+pub begins_is : (q p : List ℕ) → begins q p ≡ true → p ≡ q ++ drop (length q) p
 begins_is q p e = (starts_is Decides-eqb p q (starts_with nat_eq p q) refl).0 e
 
 -- ---- one modification inside the subtree at q
@@ -74,7 +74,7 @@ by_rest m s r down up =
     option_map_or (λ x. option_map (λ v. path_of m ++ v) (carried_at m s x)) down
     (if is_some up then None else Some r)
 
-stands_at : (m : Mod) (t u : WideTree) → changed m t ≡ Ok u → (s : WideTree) × (subtree t (path_of m) ≡ Some s)
+pub stands_at : (m : Mod) (t u : WideTree) → changed m t ≡ Ok u → (s : WideTree) × (subtree t (path_of m) ≡ Some s)
 stands_at m t u e = by (subtree t (path_of m)) refl e
   where
     by : (o : Option WideTree) → subtree t (path_of m) ≡ o

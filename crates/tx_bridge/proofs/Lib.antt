@@ -1,7 +1,7 @@
-pub mod Trees
 pub mod Once
-pub mod Agreed
 pub mod Used
+pub mod ByParts
+pub mod PartsSame
 pub mod Paying
 pub mod Partway
 pub mod Sourced
@@ -11,7 +11,10 @@ pub mod Arrived
 pub mod Single
 pub mod Taking
 pub mod Inside
+pub mod Injective
+pub mod WithinUnit
 pub mod Settling
 pub mod Changing
+pub mod ChangedParts
 pub mod Going
 pub mod Listed

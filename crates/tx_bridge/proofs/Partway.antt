@@ -12,13 +12,16 @@ use Rattle.std.specs.FinMap.{empty}
 use Rattle.tx_env.specs.Environments.{NameMap}
 use Rattle.tx_exec_form.specs.Evaluated.{WideTrace}
 use Rattle.tx_exec.specs.Outcomes.{wide_outcome}
+use Rattle.tx_view_form.specs.declared.TheConstants.{MOST_VIEW_STEPS}
 use Rattle.tx_view_form.specs.Outcomes.{Moment, beginning, behind, env_behind}
 use Rattle.tx_units.specs.declared.kinds.Unit.{Unit as DocUnit}
 use Rattle.tx_bridge.specs.declared.bridge.Bridge.{Bridge}
 use Rattle.tx_bridge.specs.Entries.{Entry, units_of, fresh_from, outcome_of}
-use Rattle.tx_bridge.specs.Reached.{fits, reached_from, charge_of, charges_from}
+use Rattle.tx_bridge.specs.Reached.{fits, reached_from}
+use Rattle.tx_bridge.specs.Nested.{KeptParts, fresh_parts, fresh_parts_from, charge_of, charges_from}
+use Rattle.tx_bridge.specs.HeldParts.{kept_parts}
 use Rattle.tx_bridge.specs.Settled.{AgreesWith, AreSettled}
-use Rattle.tx_bridge.specs.Sound.{IsSound, entry_of, entries_of, flags_of, sources_in}
+use Rattle.tx_bridge.specs.Sound.{IsSound, entry_of, entries_of, parts_in, flags_of, sources_in}
 
 abbrev pub units_in : List Bridge → List DocUnit
 units_in bs = units_of (entries_of bs)
@@ -28,28 +31,36 @@ abbrev pub Stays : List Bridge → List Bridge → Type 0
 Stays old now = (k : ℕ) → slice_get (flags_of now) k ≡ Some false
     → slice_get (entries_of now) k ≡ slice_get (entries_of old) k
 
--- Behind i units, at the moment m. What is done, and what is left from here, are all. Where the flag is set, what is
--- left settles from what names have.
-pub record Partway (old now : List Bridge) (i : ℕ) (m : Moment) (flag : Bool) (before after : ℕ) : Type 0 where
+-- Behind i units, at the moment m, with these charges. What is done, and what is left from here, are all. Where the flag
+-- is set, what is left settles from what names have.
+pub record Partway (old now : List Bridge) (i : ℕ) (m : Moment) (flag : Bool) (before after spent : ℕ) : Type 0 where
+  pub paid : after ≡ before + spent
+  pub room : spent + m.left ≤ MOST_VIEW_STEPS
   pub settled : flag ≡ true → AreSettled m.env (entries_of (drop i old))
   pub fresh : entries_of (take i now) ++ fresh_from m (units_in (drop i old)) ≡ fresh_from beginning (units_in old)
+  pub parts : parts_in (take i now) ++ fresh_parts_from m (units_in (drop i old))
+      ≡ fresh_parts_from beginning (units_in old)
   pub rest : drop i now ≡ drop i old
   pub flags : flags_of (take i now) ++ reached_from m (entries_of (drop i old))
       ≡ reached_from beginning (entries_of old)
-  pub steps : after + charges_from m (entries_of (drop i old)) ≡ before + charges_from beginning (entries_of old)
+  pub steps : after + charges_from m (entries_of (drop i old)) (parts_in (drop i old))
+      ≡ before + charges_from beginning (entries_of old) (parts_in old)
   pub sound : All IsSound now
   pub units : units_in now ≡ units_in old
   pub sources : sources_in now ≡ sources_in old
   pub stays : Stays old now
 
 pub begun : (old : List Bridge) (m : Moment) (flag : Bool) (before : ℕ) → All IsSound old
-    → (flag ≡ true → AreSettled empty (entries_of old)) → m ≡ beginning → Partway old old 0 m flag before before
+    → (flag ≡ true → AreSettled empty (entries_of old)) → m ≡ beginning → Partway old old 0 m flag before before 0
 begun old m flag before sound settled start = record {
+  paid = omega arith;
+  room = let left : m.left ≡ MOST_VIEW_STEPS = ap (λ (n : Moment). n.left) start in omega (arith, left);
   settled = λ e. subst (λ (n : Moment). AreSettled n.env (entries_of old)) (sym start) (settled e);
   fresh = ap (λ n. fresh_from n (units_in old)) start;
+  parts = ap (λ n. fresh_parts_from n (units_in old)) start;
   rest = refl;
   flags = ap (λ n. reached_from n (entries_of old)) start;
-  steps = ap (λ n. before + charges_from n (entries_of old)) start;
+  steps = ap (λ n. before + charges_from n (entries_of old) (parts_in old)) start;
   sound = sound;
   units = refl;
   sources = refl;
@@ -92,6 +103,7 @@ get_dropped (x ∷ xs) (suc i) b rest e = get_dropped xs i b rest e
 pub record IsBrought (b y : Bridge) (m : Moment) : Type 0 where
   pub unit : y.unit ≡ b.unit
   pub fresh : wide_outcome y.kept ≡ outcome_of m b.unit
+  pub parts : kept_parts y.parts ≡ fresh_parts m b.unit
 
 abbrev entry_with : DocUnit → Option WideTrace → Entry
 entry_with u o = record { unit = u; trace = o }
@@ -102,8 +114,8 @@ entry_is u v o r e f = ap (λ x. entry_with x o) e ∙ ap (entry_with v) f
 brought_entry : (b y : Bridge) (m : Moment) → IsBrought b y m → entry_of y ≡ entry_with b.unit (outcome_of m b.unit)
 brought_entry b y m h = entry_is y.unit b.unit (wide_outcome y.kept) (outcome_of m b.unit) h.unit h.fresh
 
-module _ (old now : List Bridge) (i : ℕ) (m : Moment) (flag : Bool) (before after : ℕ)
-    (p : Partway old now i m flag before after) (inside : i < length now) (d : Bridge) where
+module _ (old now : List Bridge) (i : ℕ) (m : Moment) (flag : Bool) (before after spent : ℕ)
+    (p : Partway old now i m flag before after spent) (inside : i < length now) (d : Bridge) where
   b : Bridge
   b = slice_index_or now i d
 
@@ -164,27 +176,53 @@ module _ (old now : List Bridge) (i : ℕ) (m : Moment) (flag : Bool) (before af
       ∙ ap (λ bs. entries_of (take i now) ++ fresh_from m (units_in bs)) (sym ahead)
       ∙ p.fresh
 
+  pub parts_next : (y : Bridge) → IsBrought (slice_index_or now i d) y m
+      → parts_in (take (i + 1) (slice_set now i y))
+      ++ fresh_parts_from (behind m (outcome_of m (slice_index_or now i d).unit)) (units_in (drop (i + 1) old))
+      ≡ fresh_parts_from beginning (units_in old)
+  unfolding b
+  parts_next y brought =
+      ap (λ bs. parts_in bs ++ fresh_parts_from (behind m (outcome_of m b.unit)) (units_in (drop (i + 1) old)))
+      (more_taken y)
+      ∙ ap (λ ks. ks ++ fresh_parts_from (behind m (outcome_of m b.unit)) (units_in (drop (i + 1) old)))
+      (map-append (λ (w : Bridge). kept_parts w.parts) (take i now) (y ∷ []))
+      ∙ append_assoc (parts_in (take i now)) (kept_parts y.parts ∷ [])
+      (fresh_parts_from (behind m (outcome_of m b.unit)) (units_in (drop (i + 1) old)))
+      ∙ ap (λ k. parts_in (take i now)
+      ++ k ∷ fresh_parts_from (behind m (outcome_of m b.unit)) (units_in (drop (i + 1) old)))
+      brought.parts
+      ∙ ap (λ bs. parts_in (take i now) ++ fresh_parts_from m (units_in bs)) (sym ahead)
+      ∙ p.parts
+
   pub rest_next : (y : Bridge) → drop (i + 1) (slice_set now i y) ≡ drop (i + 1) old
   rest_next y = drop-set-lt (i + 1) now i y (omega arith) ∙ sym others
 
-  pub next : (y : Bridge) (m1 : Moment) (flag1 : Bool) (after1 : ℕ) → IsBrought (slice_index_or now i d) y m
+  pub next : (y : Bridge) (m1 : Moment) (flag1 : Bool) (after1 charge : ℕ) → IsBrought (slice_index_or now i d) y m
       → y.renewed ≡ not (fits m (wide_outcome (slice_index_or now i d).kept))
       → m1 ≡ behind m (outcome_of m (slice_index_or now i d).unit)
-      → after1 ≡ after + charge_of m (entry_of (slice_index_or now i d)) → IsSound y
+      → charge ≡ charge_of m (entry_of (slice_index_or now i d)) (kept_parts (slice_index_or now i d).parts)
+      → after1 ≡ after + charge → charge + m1.left ≤ m.left
+      → IsSound y
       → (y.renewed ≡ false → wide_outcome y.kept ≡ wide_outcome (slice_index_or now i d).kept)
       → y.source ≡ (slice_index_or now i d).source
       → (flag1 ≡ true
       → (flag ≡ true) × (m1.env ≡ env_behind m.env (wide_outcome (slice_index_or now i d).kept)))
-      → Partway old (slice_set now i y) (i + 1) m1 flag1 before after1
+      → Partway old (slice_set now i y) (i + 1) m1 flag1 before after1 (spent + charge)
   unfolding b
-  next y m1 flag1 after1 brought is_r is_m is_after sound kept source goes =
+  next y m1 flag1 after1 charge brought is_r is_m is_charge is_after most sound kept source goes =
       record {
+        paid = let was : after ≡ before + spent = p.paid in omega (arith, was, is_after);
+        room = let had : spent + m.left ≤ MOST_VIEW_STEPS = p.room in omega (arith, had, most);
         settled =
             λ e. subst (λ (env : NameMap). AreSettled env (entries_of (drop (i + 1) old))) (sym (goes e).1)
             (settled_here (goes e).0).1;
         fresh =
             ap (λ n. entries_of (take (i + 1) (slice_set now i y)) ++ fresh_from n (units_in (drop (i + 1) old))) is_m
             ∙ front_next y brought;
+        parts =
+            ap (λ n. parts_in (take (i + 1) (slice_set now i y)) ++ fresh_parts_from n (units_in (drop (i + 1) old)))
+            is_m
+            ∙ parts_next y brought;
         rest = rest_next y;
         flags =
             ap (λ bs. flags_of bs ++ reached_from m1 (entries_of (drop (i + 1) old))) (more_taken y)
@@ -197,15 +235,17 @@ module _ (old now : List Bridge) (i : ℕ) (m : Moment) (flag : Bool) (before af
             ∙ ap (λ bs. flags_of (take i now) ++ reached_from m (entries_of bs)) (sym ahead)
             ∙ p.flags;
         steps =
-            let more : charges_from m (entries_of (drop i old))
-            ≡ charge_of m (entry_of b) + charges_from (behind m (outcome_of m b.unit)) (entries_of (drop (i + 1) old)) =
-            ap (λ bs. charges_from m (entries_of bs)) ahead in
-            let moved : charges_from m1 (entries_of (drop (i + 1) old))
-            ≡ charges_from (behind m (outcome_of m b.unit)) (entries_of (drop (i + 1) old)) =
-            ap (λ n. charges_from n (entries_of (drop (i + 1) old))) is_m in
-            let was : after + charges_from m (entries_of (drop i old))
-            ≡ before + charges_from beginning (entries_of old) = p.steps in
-            omega (arith, more, moved, was, is_after);
+            let rest : List Bridge = drop (i + 1) old in
+            let more : charges_from m (entries_of (drop i old)) (parts_in (drop i old))
+            ≡ charge_of m (entry_of b) (kept_parts b.parts)
+            + charges_from (behind m (outcome_of m b.unit)) (entries_of rest) (parts_in rest) =
+            ap (λ bs. charges_from m (entries_of bs) (parts_in bs)) ahead in
+            let moved : charges_from m1 (entries_of rest) (parts_in rest)
+            ≡ charges_from (behind m (outcome_of m b.unit)) (entries_of rest) (parts_in rest) =
+            ap (λ n. charges_from n (entries_of rest) (parts_in rest)) is_m in
+            let was : after + charges_from m (entries_of (drop i old)) (parts_in (drop i old))
+            ≡ before + charges_from beginning (entries_of old) (parts_in old) = p.steps in
+            omega (arith, more, moved, was, is_charge, is_after);
         sound = All-set IsSound now i y sound p.sound;
         units = units_next y brought.unit;
         sources = sources_next y source;
@@ -216,6 +256,7 @@ module _ (old now : List Bridge) (i : ℕ) (m : Moment) (flag : Bool) (before af
 abbrev pub Stops : List Bridge → List Bridge → Type 0
 Stops old now =
     (n : ℕ) × (entries_of now ≡ take n (fresh_from beginning (units_in old)) ++ drop n (entries_of old))
+    × (parts_in now ≡ take n (fresh_parts_from beginning (units_in old)) ++ drop n (parts_in old))
 
 map_take : (n : ℕ) (bs : List Bridge) → length (entries_of (take n bs)) ≡ length (take n bs)
 map_take n bs = length-map (take n bs) entry_of
@@ -240,39 +281,72 @@ stopped old now i m fresh rest inside =
     ∙ ap (λ bs. take i (fresh_from beginning (units_in old)) ++ entries_of bs) rest
     ∙ ap (λ es. take i (fresh_from beginning (units_in old)) ++ es) (drop_entries i old)
 
+drop_parts : (n : ℕ) (bs : List Bridge) → parts_in (drop n bs) ≡ drop n (parts_in bs)
+drop_parts zero bs = refl
+drop_parts (suc n) [] = refl
+drop_parts (suc n) (b ∷ bs) = drop_parts n bs
+
+parts_stopped : (old now : List Bridge) (i : ℕ) (m : Moment)
+    → parts_in (take i now) ++ fresh_parts_from m (units_in (drop i old)) ≡ fresh_parts_from beginning (units_in old)
+    → drop i now ≡ drop i old → i ≤ length now
+    → parts_in now ≡ take i (fresh_parts_from beginning (units_in old)) ++ drop i (parts_in old)
+parts_stopped old now i m fresh rest inside =
+    let many : length (take i now) ≡ i = grind (arith, common_steps, inside) in
+    let one : Bridge → KeptParts = λ w. kept_parts w.parts in
+    ap parts_in (sym (take-append-drop i now))
+    ∙ map-append one (take i now) (drop i now)
+    ∙ ap (λ ks. ks ++ parts_in (drop i now))
+    (sym (take_at (parts_in (take i now)) (fresh_parts_from m (units_in (drop i old))) i
+    (length-map (take i now) one ∙ many))
+    ∙ ap (take i) fresh)
+    ∙ ap (λ bs. take i (fresh_parts_from beginning (units_in old)) ++ parts_in bs) rest
+    ∙ ap (λ ks. take i (fresh_parts_from beginning (units_in old)) ++ ks) (drop_parts i old)
+
 -- the refresh of unit i failed, before or behind its evaluation
-pub stops : (old now : List Bridge) (i : ℕ) (m : Moment) (flag : Bool) (before after : ℕ)
-    → Partway old now i m flag before after → i < length now → (d y : Bridge) → y.unit ≡ (slice_index_or now i d).unit
+pub stops : (old now : List Bridge) (i : ℕ) (m : Moment) (flag : Bool) (before after spent : ℕ)
+    → Partway old now i m flag before after spent → i < length now → (d y : Bridge) → y.unit ≡ (slice_index_or now i d).unit
     → (y ≡ slice_index_or now i d) ⊎ (wide_outcome y.kept ≡ outcome_of m (slice_index_or now i d).unit)
+    × (kept_parts y.parts ≡ fresh_parts m (slice_index_or now i d).unit)
     → Stops old (slice_set now i y)
-stops old now i m flag before after p inside d y unit (inl same) = (
+stops old now i m flag before after spent p inside d y unit (inl same) = (
   i,
   ap entries_of (ap (slice_set now i) same ∙ set-get_or now i d) ∙ stopped old now i m p.fresh p.rest (omega arith),
+  ap parts_in (ap (slice_set now i) same ∙ set-get_or now i d) ∙ parts_stopped old now i m p.parts p.rest (omega arith),
 )
-stops old now i m flag before after p inside d y unit (inr fresh) =
+stops old now i m flag before after spent p inside d y unit (inr fresh) =
     let many : i + 1 ≤ length (slice_set now i y) = grind (arith, common_steps, inside) in (
       i + 1,
       stopped old (slice_set now i y) (i + 1) (behind m (outcome_of m (slice_index_or now i d).unit))
-          (front_next old now i m flag before after p inside d y (record { unit = unit; fresh = fresh }))
-          (rest_next old now i m flag before after p inside d y) many,
+          (front_next old now i m flag before after spent p inside d y
+          (record { unit = unit; fresh = fresh.0; parts = fresh.1 }))
+          (rest_next old now i m flag before after spent p inside d y) many,
+      parts_stopped old (slice_set now i y) (i + 1) (behind m (outcome_of m (slice_index_or now i d).unit))
+          (parts_next old now i m flag before after spent p inside d y
+          (record { unit = unit; fresh = fresh.0; parts = fresh.1 }))
+          (rest_next old now i m flag before after spent p inside d y) many,
     )
 
 -- all units are behind
-pub ended : (old now : List Bridge) (i : ℕ) (m : Moment) (flag : Bool) (before after : ℕ)
-    → Partway old now i m flag before after → length now ≤ i
+pub ended : (old now : List Bridge) (i : ℕ) (m : Moment) (flag : Bool) (before after spent : ℕ)
+    → Partway old now i m flag before after spent → length now ≤ i
     → (entries_of now ≡ fresh_from beginning (units_in old)) × (flags_of now ≡ reached_from beginning (entries_of old))
-    × (after ≡ before + charges_from beginning (entries_of old))
-ended old now i m flag before after p past =
+    × (spent ≡ charges_from beginning (entries_of old) (parts_in old))
+    × (parts_in now ≡ fresh_parts_from beginning (units_in old))
+ended old now i m flag before after spent p past =
     let whole : take i now ≡ now = grind (arith, common_steps, past) in
     let none : drop i old ≡ [] = sym p.rest ∙ drop_all i now past in
-    let left : charges_from m (entries_of (drop i old)) ≡ 0 = ap (λ bs. charges_from m (entries_of bs)) none in
-    let sum : after + charges_from m (entries_of (drop i old)) ≡ before + charges_from beginning (entries_of old) =
-    p.steps in (
+    let left : charges_from m (entries_of (drop i old)) (parts_in (drop i old)) ≡ 0 =
+    ap (λ bs. charges_from m (entries_of bs) (parts_in bs)) none in
+    let sum : after + charges_from m (entries_of (drop i old)) (parts_in (drop i old))
+    ≡ before + charges_from beginning (entries_of old) (parts_in old) = p.steps in
+    let paid : after ≡ before + spent = p.paid in (
       sym (append-nil (entries_of now)) ∙ ap (λ bs. entries_of bs ++ []) (sym whole)
           ∙ ap (λ bs. entries_of (take i now) ++ fresh_from m (units_in bs)) (sym none) ∙ p.fresh,
       sym (append-nil (flags_of now)) ∙ ap (λ bs. flags_of bs ++ []) (sym whole)
           ∙ ap (λ bs. flags_of (take i now) ++ reached_from m (entries_of bs)) (sym none) ∙ p.flags,
-      omega (arith, left, sum),
+      omega (arith, left, sum, paid),
+      sym (append-nil (parts_in now)) ∙ ap (λ bs. parts_in bs ++ []) (sym whole)
+          ∙ ap (λ bs. parts_in (take i now) ++ fresh_parts_from m (units_in bs)) (sym none) ∙ p.parts,
     )
 
 pub any_err : {A E P : Type 0} (r : Result A E) → P → OnErr r P

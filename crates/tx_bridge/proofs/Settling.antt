@@ -1,5 +1,5 @@
 -- Where one unit alone changes, what is given stands in its place already.
-use Rattle.std.proofs.Common.{◌≡◌, ℕ, zero, suc, ◌+◌, List, [], ◌∷◌, ◌++◌, length, map, slice_set}
+use Rattle.std.proofs.Common.{◌≡◌, ℕ, zero, suc, ◌+◌, List, [], ◌∷◌, ◌++◌, length, drop, map, slice_set}
 use Rattle.std.proofs.Common.{slice_index_or, Option, Some, None, refl, ap, sym, ◌∙◌, subst, arith}
 use Rattle.std.proofs.lemmas.Bool.Decides.{Decides-eqb}
 use Rattle.std.proofs.lemmas.List.{append_assoc, length-append, length-map}
@@ -10,6 +10,7 @@ use Rattle.std.specs.Option.{option_map, option_map_or}
 use Rattle.std.specs.Prelude.{Bool, true, false, ◌&&◌, ◌==◌, is_some, slice_get, if◌then◌else◌}
 use Rattle.tx_tree.specs.WideTree.{WideTree}
 use Rattle.tx_mod.specs.declared.mods.Mod.{Mod}
+use Rattle.tx_mod.specs.Mods.{path_of}
 use Rattle.tx_mod.specs.Followed.{changed_by_all}
 use Rattle.tx_units.specs.declared.kinds.Unit.{Unit as DocUnit}
 use Rattle.tx_units.specs.declared.kinds.UnitKind.{UnitKind}
@@ -23,13 +24,13 @@ use Rattle.tx_bridge.specs.Sound.{IsSound, sources_in}
 use Rattle.tx_bridge.specs.Carrying.{is_path, same_kind, same_unit, through, mods_of}
 use Rattle.tx_bridge.specs.Slots.{IsSlot, AreApart, AllPlaced, given_from, given_all, fresh_bridge, paths_in}
 use Rattle.tx_bridge.specs.Slots.{bodies_of, given}
-use Rattle.tx_bridge.specs.InPlace.{is_gone, are_within, is_changed, IsOneChanged, numbers_but}
-use Rattle.tx_bridge.proofs.Trees.{both, and_true, self_same}
+use Rattle.tx_bridge.specs.InPlace.{begins, is_gone, are_within, is_changed, IsOneChanged, numbers_but}
+use Rattle.tx_walk.proofs.Trees.{both, and_true, self_same}
 use Rattle.tx_bridge.proofs.Slotting.{path_is, some_once, slot_found, slot_by_place}
 use Rattle.tx_bridge.proofs.Slotting.{slot_same, slot_gone_at}
 use Rattle.tx_bridge.proofs.Handed.{gives_none, gives_some, given_apart, given_placed}
 use Rattle.tx_bridge.proofs.Arrived.{fresh_apart, fresh_placed, sound_placed, of_document}
-use Rattle.tx_bridge.proofs.Inside.{all_stay, all_go}
+use Rattle.tx_bridge.proofs.Inside.{IsNoFront, begins_is, fronts_meet, all_stay, all_go}
 
 -- ---- units that are alike, and what stands in its place
 
@@ -43,7 +44,7 @@ AreAlike us vs = (k : ℕ) (u v : DocUnit) → slice_get us k ≡ Some u → sli
 -- the unit of number k is u now; nothing is kept of it where it is new
 abbrev pub settled_one : Bool → ℕ → Bridge → DocUnit → Bridge
 settled_one true k b u = fresh_bridge u
-settled_one false k b u = record { unit = u; kept = b.kept; renewed = false; source = Some k }
+settled_one false k b u = record { unit = u; kept = b.kept; parts = b.parts; renewed = false; source = Some k }
 
 -- so it is of all from number k on, where number i is new
 abbrev pub settled : ℕ → ℕ → List Bridge → List DocUnit → List Bridge
@@ -172,7 +173,7 @@ apart_both (u ∷ us) (suc j) zero v w h off e f =
 apart_both (u ∷ us) (suc j) (suc k) v w h off e f =
     apart_both us j k v w h.1 (λ same. off (ap suc same)) e f
 
-body_there : (bs : List Bridge) (k : ℕ) (b : Bridge) → slice_get bs k ≡ Some b
+pub body_there : (bs : List Bridge) (k : ℕ) (b : Bridge) → slice_get bs k ≡ Some b
     → slice_get (bodies_of bs) k ≡ Some b.unit
 body_there bs k b e = slice_get-map (λ (x : Bridge). x.unit) bs k ∙ ap (option_map (λ (x : Bridge). x.unit)) e
 
@@ -192,6 +193,33 @@ changes ms u h = by u.path refl h
     by (Some q) e f =
         let all : (is_gone q ms ≡ true) × (are_within q ms ≡ true) = both (is_gone q ms) (are_within q ms) f in
         record { path = q; has = e; gone = all.0; within = all.1 }
+
+-- ---- no other unit is changed
+
+one_front : (ms : List Mod) (p q : List ℕ) → is_gone p ms ≡ true → are_within p ms ≡ true → are_within q ms ≡ true
+    → IsNoFront p q → IsNoFront q p → ⊥
+one_front [] p q gone h g f e = cc
+one_front (m ∷ ms) p q gone h g f e =
+    let of_p : path_of m ≡ p ++ drop (length p) (path_of m) =
+    begins_is p (path_of m) (both (begins p (path_of m)) (are_within p ms) h).0 in
+    let of_q : path_of m ≡ q ++ drop (length q) (path_of m) =
+    begins_is q (path_of m) (both (begins q (path_of m)) (are_within q ms) g).0 in
+    fronts_meet p q (drop (length p) (path_of m)) (drop (length q) (path_of m)) (sym of_p ∙ of_q) f e
+
+pub changed_once : (ms : List Mod) (us : List DocUnit) → AreUnits us → (j k : ℕ) (u v : DocUnit)
+    → slice_get us j ≡ Some u → slice_get us k ≡ Some v → is_changed ms u ≡ true → is_changed ms v ≡ true → j ≡ k
+changed_once ms us are j k u v at_j at_k h g = by (j == k) refl
+  where
+    by : (b : Bool) → j == k ≡ b → j ≡ k
+    by true e = (Decides-eqb j k).0 e
+    by false e =
+        let a : Changes ms u = changes ms u h in
+        let b : Changes ms v = changes ms v g in
+        let off : j ≡ k → ⊥ = λ same. let there : j == k ≡ true = (Decides-eqb j k).1 same in cc in
+        let apart : PathsApart u.path v.path = apart_both us j k u v are.apart off at_j at_k in
+        absurd (one_front ms a.path b.path a.gone a.within b.within
+        (λ x is. (apart a.path x).0 a.has (b.has ∙ ap Some is))
+        (λ x is. (apart b.path x).1 b.has (a.has ∙ ap Some is)))
 
 goes_from : (ms : List Mod) (t : WideTree) (q : List ℕ) → is_gone q ms ≡ true → are_within q ms ≡ true
     → through ms t (Some q) ≡ None

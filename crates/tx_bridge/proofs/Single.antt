@@ -107,7 +107,7 @@ source_at qs us (v ∷ vs) j (suc k) n i is e =
     let h : HasSource qs us vs k n i = source_at qs us vs (j + 1) k n i (omega (arith, is)) e in
     record { unit = h.unit; there = h.there; from = h.from }
 
-body_at : (bs : List Bridge) (k : ℕ) (u : DocUnit) → slice_get (bodies_of bs) k ≡ Some u
+pub body_at : (bs : List Bridge) (k : ℕ) (u : DocUnit) → slice_get (bodies_of bs) k ≡ Some u
     → (b : Bridge) × (slice_get bs k ≡ Some b) × (b.unit ≡ u)
 body_at [] k u e = cc
 body_at (b ∷ bs) zero u e = (b, refl, same_Some b.unit u e)

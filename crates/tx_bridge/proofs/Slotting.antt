@@ -12,12 +12,12 @@ use Rattle.tx_units.specs.declared.kinds.Unit.{Unit as DocUnit}
 use Rattle.tx_units.specs.declared.kinds.UnitKind.{UnitKind}
 use Rattle.tx_units.specs.declared.kinds.UnitKind.TheVariants.{Base, Style, Absent, Initial, Body}
 use Rattle.tx_bridge.specs.declared.bridge.Bridge.{Bridge}
-use Rattle.tx_bridge.specs.SameTrees.{is_same}
+use Rattle.tx_walk.specs.SameTrees.{is_same}
 use Rattle.tx_bridge.specs.UnitLists.{is_body, IsPlaced}
 use Rattle.tx_bridge.specs.Carrying.{is_path, same_kind, same_unit}
 use Rattle.tx_bridge.specs.Slots.{stays, IsSlot, IsPathSlot, AreApart, AllPlaced}
 use Rattle.tx_bridge.specs.Slots.{last_number, IsInOrder, AreInOrder}
-use Rattle.tx_bridge.proofs.Trees.{both, and_true, alike}
+use Rattle.tx_walk.proofs.Trees.{both, and_true, alike}
 
 pub some_once : {A : Type 0} (o : Option A) (x y : A) → o ≡ Some x → o ≡ Some y → x ≡ y
 some_once o x y e f = cc
@@ -84,27 +84,28 @@ slot_found p new j v apart at has k w e =
     let same : v ≡ w = some_once (slice_get new k) v w (ap (slice_get new) ((Decides-eqb k j).0 h) ∙ at) e in
     ap (λ (b : Bridge). is_path p b.unit.path) (sym same) ∙ has)
 
--- no unit below number i has the path
-abbrev pub Misses : List ℕ → List Bridge → ℕ → Type 0
-Misses p new i = (k : ℕ) (w : Bridge) → k < i → slice_get new k ≡ Some w → is_path p w.unit.path ≡ false
+-- no unit below number i is such
+abbrev pub Misses : (Bridge → Bool) → List Bridge → ℕ → Type 0
+Misses test new i = (k : ℕ) (w : Bridge) → k < i → slice_get new k ≡ Some w → test w ≡ false
 
-pub miss_more : (p : List ℕ) (new : List Bridge) (i : ℕ) (d : Bridge) → Misses p new i → i < length new
-    → is_path p (slice_index_or new i d).unit.path ≡ false → Misses p new (i + 1)
-miss_more p new i d h inside here k w l e =
+pub miss_more : (test : Bridge → Bool) (new : List Bridge) (i : ℕ) (d : Bridge) → Misses test new i → i < length new
+    → test (slice_index_or new i d) ≡ false → Misses test new (i + 1)
+miss_more test new i d h inside here k w l e =
     elim (cases_Bool (k == i)) [
       | inl at ↦
           let k_is : k ≡ i = (Decides-eqb k i).0 at in
           let w_is : slice_index_or new i d ≡ w =
           some_once (slice_get new i) (slice_index_or new i d) w (slice_get-get_or new i d inside)
           (ap (slice_get new) (sym k_is) ∙ e) in
-          ap (λ (b : Bridge). is_path p b.unit.path) (sym w_is) ∙ here
+          ap test (sym w_is) ∙ here
       | inr off ↦
           let other : k ≡ i → ⊥ = λ q. let there : k == i ≡ true = (Decides-eqb k i).1 q in cc in
           h k w (omega (arith, other, l)) e
     ]
 
-pub miss_all : (p : List ℕ) (new : List Bridge) (i : ℕ) → Misses p new i → length new ≤ i → IsPathSlot p new None
-miss_all p new i h past k w e =
+pub miss_all : (test : Bridge → Bool) (new : List Bridge) (i : ℕ) → Misses test new i → length new ≤ i → (k : ℕ)
+    (w : Bridge) → slice_get new k ≡ Some w → test w ≡ false
+miss_all test new i h past k w e =
     let inside : k < length new = slice_get_within new k w e in h k w (omega (arith, inside, past)) e
 
 abbrev stays_at : Option (List ℕ) → Option (List ℕ) → ℕ → DocUnit → ℕ → DocUnit → Bool

@@ -2,8 +2,9 @@
 use Rattle.std.proofs.Common.{◌≡◌, ℕ, zero, suc, ◌+◌, ◌<◌, List, [], ◌∷◌, length, map, Option, Some, None, refl, ap}
 use Rattle.std.proofs.Common.{sym, ◌∙◌, subst, arith}
 use Rattle.std.proofs.lemmas.Bool.Decides.{Decides-eqb}
+use Rattle.std.proofs.lemmas.Option.{slice_get-map}
 use Rattle.std.specs.Prelude.{Bool, true, false, ◌&&◌, ◌==◌, slice_get, if◌then◌else◌, option_and_then}
-use Rattle.std.specs.Option.{option_map_or}
+use Rattle.std.specs.Option.{option_map, option_map_or}
 use Rattle.std.specs.List.{All}
 use Rattle.tx_tree.specs.WideTree.{WideTree}
 use Rattle.tx_mod.specs.declared.mods.Mod.{Mod}
@@ -13,7 +14,10 @@ use Rattle.tx_exec.specs.Outcomes.{wide_outcome}
 use Rattle.tx_units.specs.declared.kinds.Unit.{Unit as DocUnit}
 use Rattle.tx_bridge.specs.declared.bridge.Bridge.{Bridge}
 use Rattle.tx_bridge.specs.Entries.{Entry, Kept, units_of, traces_of}
-use Rattle.tx_bridge.specs.Sound.{IsSound, entries_of, sources_in}
+use Rattle.tx_bridge.specs.Sound.{IsSound, entries_of, parts_in, sources_in}
+use Rattle.tx_bridge.specs.Nested.{KeptParts}
+use Rattle.tx_bridge.specs.HeldParts.{kept_parts}
+use Rattle.tx_bridge.specs.CarryingParts.{parts_from, carried_parts}
 use Rattle.tx_bridge.specs.UnitLists.{AreUnits}
 use Rattle.tx_bridge.specs.Carrying.{is_path, same_unit, through, places_after, number_at, same_number, source}
 use Rattle.tx_bridge.specs.Carrying.{sources_from, sources, had, taken_from}
@@ -69,12 +73,9 @@ module _ {A : Type 0} (f : ℕ → Bridge → A) (g : Bridge → A)
   given_got i (q ∷ qs) [] ws = got_past i q qs 0 ws
   given_got i (q ∷ qs) (b ∷ bs) ws = given_got (i + 1) qs bs (given_from q i b 0 ws) ∙ got_next i q qs b bs 0 ws
 
--- what an old unit gives: its number, and what is kept of it
+-- what an old unit gives: its number
 abbrev number_given : ℕ → Bridge → Option ℕ
 number_given i b = Some i
-
-abbrev trace_given : ℕ → Bridge → Option WideTrace
-trace_given i b = wide_outcome b.kept
 
 abbrev source_in : Bridge → Option ℕ
 source_in b = b.source
@@ -171,38 +172,70 @@ all_sources qs bs j (u ∷ us) same =
 
 -- ---- what they have, by the number
 
+abbrev parts_in_one : Bridge → KeptParts
+parts_in_one b = kept_parts b.parts
+
 abbrev traces_in : List Bridge → List (Option WideTrace)
 traces_in bs = map trace_in bs
 
--- the old ones from number i on have these
-abbrev AreFrom : List (Option WideTrace) → ℕ → List Bridge → Type 0
-AreFrom traces i bs = (n k : ℕ) → n ≡ i + k → slice_get traces n ≡ slice_get (traces_in bs) k
+-- `find` says what the old unit of a number gives, and what a new one has without one
+module _ {A : Type 0} (g : Bridge → A) (find : Option ℕ → A) where
+  -- so it is of the old ones from number i on
+  abbrev AreFrom : ℕ → List Bridge → Type 0
+  AreFrom i bs = (n k : ℕ) (b : Bridge) → n ≡ i + k → slice_get bs k ≡ Some b → find (Some n) ≡ g b
 
-one_had : (traces : List (Option WideTrace)) (i : ℕ) (b : Bridge) (o : Option ℕ) (s : Bool)
-    → slice_get traces i ≡ Some (wide_outcome b.kept)
-    → (if s then wide_outcome b.kept else had traces o) ≡ had traces (if s then Some i else o)
-one_had traces i b o true at = sym (ap (option_and_then (λ x. x)) at)
-one_had traces i b o false at = refl
+  abbrev gives : ℕ → Bridge → A
+  gives i b = g b
 
-got_had : (traces : List (Option WideTrace)) (i : ℕ) (qs : List (Option (List ℕ))) (bs : List Bridge) (j : ℕ)
-    (v : DocUnit) (o : Option ℕ) → AreFrom traces i bs
-    → got trace_given i qs bs j v (had traces o) ≡ had traces (got number_given i qs bs j v o)
-got_had traces i [] bs j v o h = refl
-got_had traces i (q ∷ qs) [] j v o h = refl
-got_had traces i (q ∷ qs) (b ∷ bs) j v o h =
-    ap (got trace_given (i + 1) qs bs j v) (one_had traces i b o (stays q i b.unit j v) (h i 0 (omega arith)))
-    ∙ got_had traces (i + 1) qs bs j v (if stays q i b.unit j v then Some i else o)
-    (λ n k e. h n (suc k) (omega (arith, e)))
+  one_found : (i : ℕ) (b : Bridge) (o : Option ℕ) (s : Bool) → find (Some i) ≡ g b
+      → (if s then g b else find o) ≡ find (if s then Some i else o)
+  one_found i b o true at = sym at
+  one_found i b o false at = refl
 
-all_had : (qs : List (Option (List ℕ))) (bs : List Bridge) (j : ℕ) (us : List DocUnit)
-    → all_got trace_given trace_in 0 qs bs j (map fresh_bridge us)
-    ≡ map (had (traces_in bs)) (all_got number_given source_in 0 qs bs j (map fresh_bridge us))
-all_had qs bs j [] = refl
-all_had qs bs j (u ∷ us) =
-    ap (λ o. o ∷ all_got trace_given trace_in 0 qs bs (j + 1) (map fresh_bridge us))
-    (got_had (traces_in bs) 0 qs bs j u None
-    (λ n k e. let same : n ≡ k = omega (arith, e) in ap (slice_get (traces_in bs)) same))
-    ∙ ap (λ os. had (traces_in bs) (got number_given 0 qs bs j u None) ∷ os) (all_had qs bs (j + 1) us)
+  got_found : (i : ℕ) (qs : List (Option (List ℕ))) (bs : List Bridge) (j : ℕ) (v : DocUnit) (o : Option ℕ)
+      → AreFrom i bs → got gives i qs bs j v (find o) ≡ find (got number_given i qs bs j v o)
+  got_found i [] bs j v o h = refl
+  got_found i (q ∷ qs) [] j v o h = refl
+  got_found i (q ∷ qs) (b ∷ bs) j v o h =
+      ap (got gives (i + 1) qs bs j v) (one_found i b o (stays q i b.unit j v) (h i 0 b (omega arith) refl))
+      ∙ got_found (i + 1) qs bs j v (if stays q i b.unit j v then Some i else o)
+      (λ n k c e at. h n (suc k) c (omega (arith, e)) at)
+
+  all_found : ((u : DocUnit) → g (fresh_bridge u) ≡ find None) → (qs : List (Option (List ℕ))) (bs : List Bridge)
+      (j : ℕ) (us : List DocUnit) → AreFrom 0 bs
+      → all_got gives g 0 qs bs j (map fresh_bridge us)
+      ≡ map find (all_got number_given source_in 0 qs bs j (map fresh_bridge us))
+  all_found none qs bs j [] h = refl
+  all_found none qs bs j (u ∷ us) h =
+      ap (λ o. o ∷ all_got gives g 0 qs bs (j + 1) (map fresh_bridge us))
+      (ap (got gives 0 qs bs j u) (none u) ∙ got_found 0 qs bs j u None h)
+      ∙ ap (λ os. find (got number_given 0 qs bs j u None) ∷ os) (all_found none qs bs (j + 1) us h)
+
+  -- what the new units have, by the old ones that they are
+  found_all : ((u : DocUnit) → g (fresh_bridge u) ≡ find None)
+      → ((i : ℕ) (b w : Bridge) → g (with_given i b w) ≡ g b) → (ms : List Mod) (t : WideTree) (old : List Bridge)
+      (us : List DocUnit) → AreFrom 0 old
+      → map g (given ms t old us) ≡ map find (sources_in (given ms t old us))
+  found_all none keeps ms t old us h =
+      given_got gives g keeps 0 (map (through ms t) (paths_in old)) old (map fresh_bridge us)
+      ∙ all_found none (map (through ms t) (paths_in old)) old 0 us h
+      ∙ ap (map find)
+      (sym (given_got number_given source_in (λ i b w. refl) 0 (map (through ms t) (paths_in old)) old
+      (map fresh_bridge us)))
+
+trace_found : (bs : List Bridge) (n k : ℕ) (b : Bridge) → n ≡ 0 + k → slice_get bs k ≡ Some b
+    → had (traces_in bs) (Some n) ≡ wide_outcome b.kept
+trace_found bs n k b e at =
+    let same : n ≡ k = omega (arith, e) in
+    ap (λ i. had (traces_in bs) (Some i)) same
+    ∙ ap (option_and_then (λ x. x)) (slice_get-map trace_in bs k ∙ ap (option_map trace_in) at)
+
+parts_found : (bs : List Bridge) (n k : ℕ) (b : Bridge) → n ≡ 0 + k → slice_get bs k ≡ Some b
+    → parts_from (parts_in bs) (Some n) ≡ kept_parts b.parts
+parts_found bs n k b e at =
+    let same : n ≡ k = omega (arith, e) in
+    ap (λ i. parts_from (parts_in bs) (Some i)) same
+    ∙ ap (λ o. option_map_or (λ ks. ks) o []) (slice_get-map parts_in_one bs k ∙ ap (option_map parts_in_one) at)
 
 abbrev with_trace : DocUnit → Option WideTrace → Entry
 with_trace u o = record { unit = u; trace = o }
@@ -248,11 +281,11 @@ module _ (ms : List Mod) (t : WideTree) (old : List Bridge) (us : List DocUnit) 
 
   given_traces : traces_in (given ms t old us) ≡ map (had (traces_in old)) (sources ms t (bodies_of old) us)
   given_traces =
-      given_got trace_given trace_in (λ i b w. refl) 0 (map (through ms t) (paths_in old)) old (map fresh_bridge us)
-      ∙ all_had (map (through ms t) (paths_in old)) old 0 us
-      ∙ ap (map (had (traces_in old)))
-      (all_sources (map (through ms t) (paths_in old)) old 0 us (places_many ms t old)
-      ∙ ap (λ qs. sources_from qs (bodies_of old) 0 us) (places_same ms t old))
+      found_all trace_in (had (traces_in old)) (λ u. refl) (λ i b w. refl) ms t old us (trace_found old)
+      ∙ ap (map (had (traces_in old))) given_sources
+
+  pub given_parts : parts_in (given ms t old us) ≡ map (parts_from (parts_in old)) (sources_in (given ms t old us))
+  given_parts = found_all parts_in_one (parts_from (parts_in old)) (λ u. refl) (λ i b w. refl) ms t old us (parts_found old)
 
   pub given_carried : entries_of (given ms t old us) ≡ taken_from (traces_in old) (sources ms t (bodies_of old) us) us
   given_carried =
@@ -296,6 +329,13 @@ given_is buffer ms t kept us old result was sound are is_given =
           ∙ units_bodies (given (mods_of buffer ms) t old us)
           ∙ given_bodies (map (through (mods_of buffer ms) t) (paths_in old)) old us;
     }
+
+pub given_parts_is : (buffer : ℕ) (ms : List Mod) (t : WideTree) (us : List DocUnit) (old result : List Bridge)
+    → result ≡ given (mods_of buffer ms) t old us
+    → parts_in result ≡ carried_parts (parts_in old) (sources_in result)
+given_parts_is buffer ms t us old result is =
+    ap parts_in is ∙ given_parts (mods_of buffer ms) t old us
+    ∙ ap (λ cs. map (parts_from (parts_in old)) (sources_in cs)) (sym is)
 
 -- the premises are what the calls ensure, in their order
 pub carry_sound : (buffer : ℕ) (ms : List Mod) (t : WideTree) (kept : Kept) (us : List DocUnit)

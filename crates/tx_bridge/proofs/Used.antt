@@ -1,6 +1,6 @@
 -- What is kept is used again.
 use Rattle.std.proofs.Common.{◌≡◌, ℕ, ◌≤◌, List, [], ◌∷◌, length, nat_eq, refl, ap, sym, subst, ◌∙◌, leb-true, arith}
-use Rattle.std.specs.Prelude.{Bool, true, ◌&&◌, nat_le, Option, Some, None}
+use Rattle.std.specs.Prelude.{Bool, true, ◌&&◌, if◌then◌else◌, nat_le, Option, Some, None}
 use Rattle.std.specs.FinMap.{get}
 use Rattle.std.specs.List.{list_all}
 use Rattle.tx_env.specs.Environments.{NameMap}
@@ -15,24 +15,28 @@ use Rattle.tx_exec.specs.declared.outcome.Outcome.TheVariants.{Done, Over}
 use Rattle.tx_exec.specs.Outcomes.{wide_outcome, NamesOnce}
 use Rattle.tx_view_form.specs.Outcomes.{Moment, allowance, outcome, charge, behind, env_behind}
 use Rattle.tx_units.specs.declared.kinds.Unit.{Unit as DocUnit}
-use Rattle.tx_bridge.specs.SameTrees.{same}
+use Rattle.tx_walk.specs.SameTrees.{same}
 use Rattle.tx_bridge.specs.Entries.{outcome_of, fresh_from}
-use Rattle.tx_bridge.specs.Reached.{agrees, fits}
+use Rattle.tx_walk.specs.Held.{agrees}
+use Rattle.tx_bridge.specs.Reached.{fits}
 use Rattle.tx_bridge.specs.Settled.{AgreesWith, AreSettled, IsSilent}
 use Rattle.tx_bridge.specs.Sound.{Holds, IsSound}
+use Rattle.tx_bridge.specs.Nested.{KeptParts, is_nested, unit_parts, parts_if_done, fresh_parts}
+use Rattle.tx_bridge.specs.HeldParts.{PartsHold, AreItsParts}
+use Rattle.tx_walk.specs.declared.part.Part.{Part as DonePart}
 use Rattle.tx_bridge.specs.UnitLists.{IsPlaced}
-use Rattle.tx_bridge.proofs.Trees.{both}
+use Rattle.tx_walk.proofs.Trees.{both}
 use Rattle.tx_bridge.proofs.Once.{none_set}
-use Rattle.tx_bridge.proofs.Agreed.{agrees_is, agrees_of, test_same}
+use Rattle.tx_walk.proofs.Agreed.{agrees_is, agrees_of, test_same}
 
 -- what fits is what the tree comes to
 pub fits_is : (m : Moment) (o : Option WideTrace) (t : TaggedTree) → Holds o t → fits m o ≡ true → o ≡ outcome t m
 unfolding outcome
 fits_is m None t holds h = cc
 fits_is m (Some trace) t holds h =
-    let tests : (agrees m.env trace.looks ≡ true) × (nat_le trace.cost (allowance m) ≡ true) =
-    both (agrees m.env trace.looks) (nat_le trace.cost (allowance m)) h in
-    sym (holds.0 MOST_LEVELS (allowance m) (get m.env) (agrees_is m.env trace.looks tests.0)
+    let tests : (agrees (get m.env) trace.looks ≡ true) × (nat_le trace.cost (allowance m) ≡ true) =
+    both (agrees (get m.env) trace.looks) (nat_le trace.cost (allowance m)) h in
+    sym (holds.0 MOST_LEVELS (allowance m) (get m.env) (agrees_is (get m.env) trace.looks tests.0)
     (leb-true trace.cost (allowance m) tests.1) holds.1)
 
 -- ---- by the laws of the evaluator
@@ -64,14 +68,27 @@ charge_fits allowed m (Some trace) t e =
     let cost : trace.cost ≤ allowance m = (allowed MOST_LEVELS (allowance m) t (get m.env) trace (sym e)).0 in
     omega (arith, cost)
 
-pub sound_with : AllSupport → AllAllowed → (m : Moment) (u : DocUnit) (o : Outcome) (flag : Bool)
+pub sound_with : AllSupport → AllAllowed → (m : Moment) (u : DocUnit) (o : Outcome) (ps : List DonePart) (flag : Bool)
     (from : Option ℕ) → wide_outcome o ≡ outcome (tagged_of u.tagged) m → NamesOnce o → IsPlaced u
-    → IsSound (record { unit = u; kept = o; renewed = flag; source = from })
-sound_with support allowed m u o flag from e once placed = record {
+    → PartsHold u (wide_outcome o) ps
+    → IsSound (record { unit = u; kept = o; parts = ps; renewed = flag; source = from })
+sound_with support allowed m u o ps flag from e once placed hold = record {
   holds = outcome_holds support allowed m (wide_outcome o) (tagged_of u.tagged) e;
   once = once;
   placed = placed;
+  parts = hold;
 }
+
+-- where what is kept fits, so do its parts
+pub parts_fit : (m : Moment) (o : Option WideTrace) (u : DocUnit) (ks : KeptParts) → fits m o ≡ true
+    → o ≡ outcome_of m u → AreItsParts u ks o → ks ≡ fresh_parts m u
+parts_fit m None u ks fit is all = cc
+parts_fit m (Some trace) u ks fit is all =
+    let tests : (agrees (get m.env) trace.looks ≡ true) × (nat_le trace.cost (allowance m) ≡ true) =
+    both (agrees (get m.env) trace.looks) (nat_le trace.cost (allowance m)) fit in
+    sym (all (allowance m) (get m.env) (agrees_is (get m.env) trace.looks tests.0)
+    (leb-true trace.cost (allowance m) tests.1))
+    ∙ ap (λ o. if is_nested u then parts_if_done o (unit_parts m u) else []) is
 
 -- the test of a kept trace, by the pairs of its looks
 pub fits_done : (m : Moment) (map : NameMap) (o : Outcome) (trace : Trace) (b : Bool) → o ≡ Done trace → NamesOnce o
@@ -103,7 +120,7 @@ outcome_agrees : AllAgree → (m : Moment) (t : TaggedTree) (o : Option WideTrac
 unfolding outcome
 outcome_agrees law m t None e = tt
 outcome_agrees law m t (Some trace) e =
-    agrees_of m.env trace.looks (law MOST_LEVELS (allowance m) t (get m.env) trace (sym e))
+    agrees_of (get m.env) trace.looks (law MOST_LEVELS (allowance m) t (get m.env) trace (sym e))
 
 pub fresh_settled : AllAgree → (m : Moment) (us : List DocUnit) → AreSettled m.env (fresh_from m us)
 fresh_settled law m [] = tt

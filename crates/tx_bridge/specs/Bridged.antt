@@ -9,12 +9,15 @@ use Rattle.tx_exec_form.specs.Maps.{LookMap}
 use Rattle.tx_exec_form.specs.Evaluated.{WideTrace}
 use Rattle.tx_units.specs.declared.kinds.Unit.{Unit as DocUnit}
 use Rattle.tx_units.specs.contracts.kinds.Unit as one_unit
+use Rattle.tx_parts.specs.Parts.{Stored}
 use Rattle.tx_bridge.specs.Entries.{Entry, Kept}
+use Rattle.tx_bridge.specs.Nested.{KeptParts}
 
--- what is kept, of each unit whether it was reached when the last refresh began, and which unit it was before the last
--- edit
+-- what is kept of the units and of their parts, of each unit whether it was reached when the last refresh began, and
+-- which unit it was before the last edit
 pub record Bridged : Type 0 where
   pub kept : Kept
+  pub parts : List KeptParts
   pub renewed : List Bool
   pub sources : List (Option ℕ)
 
@@ -35,8 +38,18 @@ coded_Entry =
     code_by (DocUnit × Option WideTrace) (coded× one_unit.the_row.coded (coded_option trace_code))
     (λ e. (e.unit, e.trace)) (λ p. record { unit = p.0; trace = p.1 }) (λ _. refl)
 
+abbrev coded_Stored : Coded Stored
+coded_Stored =
+    code_by (List ℕ × Option WideTrace) (coded× (coded_list coded_ℕ) (coded_option trace_code))
+    (λ p. (p.path, p.trace)) (λ p. record { path = p.0; trace = p.1 }) (λ _. refl)
+
+abbrev pub coded_parts : Coded (List KeptParts)
+coded_parts = coded_list (coded_list coded_Stored)
+
 abbrev pub coded_Bridged : Coded Bridged
 coded_Bridged =
-    code_by (Kept × (List Bool × List (Option ℕ)))
-    (coded× (coded_list coded_Entry) (coded× (coded_list coded_bool) (coded_list (coded_option coded_ℕ))))
-    (λ b. (b.kept, (b.renewed, b.sources))) (λ p. record { kept = p.0; renewed = p.1.0; sources = p.1.1 }) (λ _. refl)
+    code_by (Kept × (List KeptParts × (List Bool × List (Option ℕ))))
+    (coded× (coded_list coded_Entry)
+    (coded× coded_parts (coded× (coded_list coded_bool) (coded_list (coded_option coded_ℕ)))))
+    (λ b. (b.kept, (b.parts, (b.renewed, b.sources))))
+    (λ p. record { kept = p.0; parts = p.1.0; renewed = p.1.1.0; sources = p.1.1.1 }) (λ _. refl)

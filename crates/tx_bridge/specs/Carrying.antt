@@ -12,7 +12,7 @@ use Rattle.tx_exec_form.specs.Evaluated.{WideTrace}
 use Rattle.tx_units.specs.declared.kinds.Unit.{Unit as DocUnit}
 use Rattle.tx_units.specs.declared.kinds.UnitKind.{UnitKind}
 use Rattle.tx_units.specs.declared.kinds.UnitKind.TheVariants.{Base, Style, Absent, Initial, Body}
-use Rattle.tx_bridge.specs.SameTrees.{is_same}
+use Rattle.tx_walk.specs.SameTrees.{is_same}
 use Rattle.tx_bridge.specs.Entries.{Kept, units_of, traces_of}
 
 -- ---- paths
@@ -92,6 +92,10 @@ Stands t u = (p : List ℕ) → u.path ≡ Some p → subtree t p ≡ Some u.tag
 
 abbrev pub AllStand : WideTree → List DocUnit → Type 0
 AllStand t us = AllByRecursion (Stands t) us
+
+-- the tree u has x at the path of the unit of this number
+abbrev pub StandsNow : ℕ → WideTree → WideTree → List DocUnit → Type 0
+StandsNow i x u us = (v : DocUnit) (p : List ℕ) → slice_get us i ≡ Some v → v.path ≡ Some p → subtree u p ≡ Some x
 
 -- where both have one path, they have one tree
 abbrev pub HaveOneTree : DocUnit → DocUnit → Type 0

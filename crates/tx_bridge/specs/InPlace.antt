@@ -46,6 +46,10 @@ pub record IsOneChanged (i buffer : ℕ) (ms : List Mod) (us : List DocUnit) : T
   pub there : slice_get us i ≡ Some unit
   pub changed : is_changed ms unit ≡ true
 
+-- there is no such paragraph
+abbrev pub NoneChanged : ℕ → List Mod → List DocUnit → Type 0
+NoneChanged buffer ms us = buffer ≡ 0 → (i : ℕ) (u : DocUnit) → slice_get us i ≡ Some u → is_changed ms u ≡ false
+
 -- of n units, from number k on, each has its number, but number i has none
 abbrev pub numbers_but : ℕ → ℕ → ℕ → List (Option ℕ)
 numbers_but i k zero = []

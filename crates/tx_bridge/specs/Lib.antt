@@ -1,12 +1,15 @@
-pub mod SameTrees
 pub mod Moments
 pub mod Entries
 pub mod Reached
+pub mod Nested
+pub mod Parts
+pub mod HeldParts
 pub mod Settled
 pub mod Sound
 pub mod Carrying
 pub mod Slots
 pub mod InPlace
+pub mod CarryingParts
 pub mod UnitLists
 pub mod Bridged
 pub mod Names

@@ -1,28 +1,45 @@
 -- What crates above cite by name. They don't open these definitions.
-use Rattle.std.specs.Prelude.{ℕ, List, Option}
+use Rattle.std.specs.Prelude.{ℕ, List, [], map, Option}
 use Rattle.tx_tree.specs.WideTree.{WideTree}
 use Rattle.tx_mod.specs.declared.mods.Mod.{Mod}
 use Rattle.tx_units.specs.declared.kinds.Unit.{Unit as DocUnit}
 use Rattle.tx_view_form.specs.Outcomes.{beginning}
 use Rattle.tx_bridge.specs.Entries.{Kept, units_of, nothing_kept, fresh_from}
-use Rattle.tx_bridge.specs.Reached.{charges_from}
+use Rattle.tx_bridge.specs.Nested.{KeptParts, fresh_parts_from, charges_from}
 use Rattle.tx_bridge.specs.Carrying.{carried, sources, mods_of}
+use Rattle.tx_bridge.specs.CarryingParts.{carried_parts, parts_but}
 
 -- nothing is kept of these units
 unfoldable pub Empty : List DocUnit → Kept
 Empty us = nothing_kept us
 
+-- nor of their parts
+unfoldable pub EmptyParts : List DocUnit → List KeptParts
+EmptyParts us = map (λ u. []) us
+
 -- what evaluating from nothing gives for these units
 unfoldable pub Fresh : Kept → Kept
 Fresh kept = fresh_from beginning (units_of kept)
 
+-- what evaluating from nothing leaves of the parts of these units
+unfoldable pub FreshParts : Kept → List KeptParts
+FreshParts kept = fresh_parts_from beginning (units_of kept)
+
 -- the charges of the units that are reached
-unfoldable pub Charge : Kept → ℕ
-Charge kept = charges_from beginning kept
+unfoldable pub Charge : Kept → List KeptParts → ℕ
+Charge kept parts = charges_from beginning kept parts
 
 -- what stays of what is kept through the modifications of a buffer, by which its tree t changes
 unfoldable pub Carry : ℕ → List Mod → WideTree → Kept → List DocUnit → Kept
 Carry buffer ms t kept us = carried (mods_of buffer ms) t kept us
+
+-- what stays of what is kept of the parts of units, where the new units are these old ones
+unfoldable pub CarryParts : List KeptParts → List (Option ℕ) → List KeptParts
+CarryParts parts sources = carried_parts parts sources
+
+-- what stays of it where all modifications of the document are inside the unit of number i
+unfoldable pub CarryWithin : ℕ → List Mod → WideTree → List DocUnit → List KeptParts → List KeptParts
+CarryWithin i ms t us parts = parts_but ms t i us parts
 
 -- of the units afterwards, which one of those before each is
 unfoldable pub Sources : ℕ → List Mod → WideTree → List DocUnit → List DocUnit → List (Option ℕ)

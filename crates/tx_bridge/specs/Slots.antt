@@ -1,5 +1,5 @@
 -- Which new unit an old one is. Private clauses cite these.
-use Rattle.std.specs.Prelude.{◌≡◌, ℕ, ◌+◌, ◌-◌, ◌<◌, ◌^◌, length, Bool, false, ◌&&◌, ◌==◌, if◌then◌else◌, List, [], ◌∷◌}
+use Rattle.std.specs.Prelude.{◌≡◌, ℕ, ◌+◌, ◌-◌, ◌<◌, ◌^◌, length, Bool, true, false, ◌&&◌, ◌==◌, if◌then◌else◌, List, [], ◌∷◌}
 use Rattle.std.specs.Prelude.{Option, Some, None, slice_get, map}
 use Rattle.std.specs.Option.{option_map_or}
 use Rattle.std.specs.List.{All}
@@ -11,6 +11,7 @@ use Rattle.tx_units.specs.declared.kinds.Unit.{Unit as DocUnit}
 use Rattle.tx_bridge.specs.declared.bridge.Bridge.{Bridge}
 use Rattle.tx_bridge.specs.Carrying.{is_path, same_unit, through}
 use Rattle.tx_bridge.specs.UnitLists.{IsPlaced}
+use Rattle.tx_bridge.specs.InPlace.{is_changed}
 
 -- the path, if there is one, leads in the tree
 abbrev pub Leads : WideTree → Option (List ℕ) → Type 0
@@ -28,7 +29,8 @@ stays place i u j v = option_map_or (λ p. is_path p place) v.path (i == j && sa
 abbrev pub given_from : Option (List ℕ) → ℕ → Bridge → ℕ → List Bridge → List Bridge
 given_from place i b j [] = []
 given_from place i b j (w ∷ ws) =
-    (if stays place i b.unit j w.unit then record { unit = w.unit; kept = b.kept; renewed = w.renewed; source = Some i }
+    (if stays place i b.unit j w.unit
+    then record { unit = w.unit; kept = b.kept; parts = b.parts; renewed = w.renewed; source = Some i }
     else w)
     ∷ given_from place i b (j + 1) ws
 
@@ -40,7 +42,7 @@ given_all i (place ∷ places) (b ∷ bs) new = given_all (i + 1) places bs (giv
 
 -- the unit with nothing kept
 abbrev pub fresh_bridge : DocUnit → Bridge
-fresh_bridge u = record { unit = u; kept = Over; renewed = false; source = None }
+fresh_bridge u = record { unit = u; kept = Over; parts = []; renewed = false; source = None }
 
 abbrev pub paths_in : List Bridge → List (Option (List ℕ))
 paths_in bs = map (λ b. b.unit.path) bs
@@ -92,3 +94,11 @@ pub record HasOrder (first : ℕ) (bs : List Bridge) : Type 0 where
 abbrev pub AreMoved : List (Option (List ℕ)) → List Bridge → Type 0
 AreMoved places bs = (i : ℕ) (q : Option (List ℕ)) (b : Bridge) → slice_get places i ≡ Some q
     → slice_get bs i ≡ Some b → b.unit.path ≡ None → q ≡ None
+
+-- no unit is such that all modifications are inside its tree, which they leave nowhere
+abbrev pub AllUnchanged : List Mod → List Bridge → Type 0
+AllUnchanged ms bs = (k : ℕ) (b : Bridge) → slice_get bs k ≡ Some b → is_changed ms b.unit ≡ false
+
+-- the unit of number i is
+abbrev pub IsChangedAt : List Mod → List Bridge → ℕ → Type 0
+IsChangedAt ms bs i = (b : Bridge) × (slice_get bs i ≡ Some b) × (is_changed ms b.unit ≡ true)

@@ -17,6 +17,9 @@ use Rattle.tx_bridge.specs.declared.bridge.Way.TheVariants.{Listed, InPlace}
 use Rattle.tx_bridge.specs.UnitLists.{IsPlaced}
 use Rattle.tx_bridge.specs.Entries.{Entry, Kept}
 use Rattle.tx_bridge.specs.Settled.{AreSettled}
+use Rattle.tx_bridge.specs.Nested.{KeptParts}
+use Rattle.tx_bridge.specs.HeldParts.{PartsHold, kept_parts}
+use Rattle.tx_walk.specs.declared.part.Part.{Part as DonePart}
 use Rattle.tx_bridge.specs.InPlace.{numbers_but}
 
 -- A trace that is kept is the tree's, with no more levels than there are, in every environment that agrees with its
@@ -37,6 +40,9 @@ entry_of b = record { unit = b.unit; trace = wide_outcome b.kept }
 abbrev pub entries_of : List Bridge → Kept
 entries_of bs = map entry_of bs
 
+abbrev pub parts_in : List Bridge → List KeptParts
+parts_in bs = map (λ b. kept_parts b.parts) bs
+
 abbrev pub flags_of : List Bridge → List Bool
 flags_of bs = map (λ b. b.renewed) bs
 
@@ -53,20 +59,22 @@ abbrev pub sources_by : Way → List Bridge → List (Option ℕ)
 sources_by Listed bs = sources_in bs
 sources_by (InPlace i) bs = numbers_but i 0 (length bs)
 
--- the entry, where its unit has this tree and nothing is kept of it
-abbrev pub changed_bridge : WideTree → Bridge → Bridge
-changed_bridge t b = record { unit = unit_with t b.unit; kept = Over; renewed = b.renewed; source = b.source }
+-- the entry, where its unit has this tree, of which these parts are kept alone
+abbrev pub changed_bridge : WideTree → List DonePart → Bridge → Bridge
+changed_bridge t ps b =
+    record { unit = unit_with t b.unit; kept = Over; parts = ps; renewed = b.renewed; source = b.source }
 
 -- the entries, of which that of number i is so
-abbrev pub changed_in : ℕ → WideTree → List Bridge → List Bridge
-changed_in i t [] = []
-changed_in zero t (b ∷ bs) = changed_bridge t b ∷ bs
-changed_in (suc i) t (b ∷ bs) = b ∷ changed_in i t bs
+abbrev pub changed_in : ℕ → WideTree → List DonePart → List Bridge → List Bridge
+changed_in i t ps [] = []
+changed_in zero t ps (b ∷ bs) = changed_bridge t ps b ∷ bs
+changed_in (suc i) t ps (b ∷ bs) = b ∷ changed_in i t ps bs
 
 pub record IsSound (b : Bridge) : Type 0 where
   pub holds : Holds (wide_outcome b.kept) (tagged_of b.unit.tagged)
   pub once : NamesOnce b.kept
   pub placed : IsPlaced b.unit
+  pub parts : PartsHold b.unit (wide_outcome b.kept) b.parts
 
 -- Each entry is sound, and where the flag is set, all settle in themselves.
 pub record AreRight (flag : Bool) (bs : List Bridge) : Type 0 where

@@ -1,21 +1,26 @@
 // A unit with what is kept of it.
-ghost use Rattle.std.specs.Prelude.{◌≡◌, ◌+◌, ◌⊎◌, None, false, true, not, IfOk, OnOk, OnErr, IsTrue};
-ghost use Rattle.tx_exec.specs.Outcomes.{wide_outcome};
-ghost use Rattle.tx_view_form.specs.Outcomes.{charge, behind, env_behind};
+ghost use Rattle.std.specs.Prelude.{◌≡◌, ◌+◌, ◌≤◌, ◌⊎◌, [], None, Some, false, true, not, IfOk, OnOk, OnErr, IsTrue};
+ghost use Rattle.tx_exec.specs.Outcomes.{wide_outcome, NamesOnce};
+ghost use Rattle.tx_view_form.specs.Outcomes.{behind, env_behind};
 ghost use Rattle.tx_bridge.specs.Entries.{outcome_of};
-ghost use Rattle.tx_bridge.specs.Reached.{fits, charge_of};
+ghost use Rattle.tx_bridge.specs.Reached.{fits};
+ghost use Rattle.tx_bridge.specs.Nested.{is_nested, fresh_parts, unit_charge, charge_of};
+ghost use Rattle.tx_bridge.specs.HeldParts.{PartsHold, kept_parts};
 ghost use Rattle.tx_bridge.specs.Settled.{AgreesWith, IsSilent};
 ghost use Rattle.tx_bridge.specs.Sound.{IsSound, entry_of, changed_bridge};
 
 use crate::fitting::{fits, is_silent};
-use crate::moments::Moment;
+use crate::moments::{Evaluated, Moment};
+use crate::unit_parts::{UnitParts, is_nested};
 use std::alloc::Global;
+use std::mem;
 use std::sync::ledger::Ledger;
 use tx_base::{Memory, Steps};
 use tx_exec::Outcome;
 use tx_exec_form::trace_laws;
 use tx_tree::Tree;
 use tx_units::Unit;
+use tx_walk::charges_law;
 
 // How it is known which unit each one was before the last edit.
 #[derive(Clone, Copy, Drop)]
@@ -26,38 +31,57 @@ pub(crate) enum Way {
     InPlace(usize),
 }
 
-// A unit, the trace that is kept of it, or `Over` where nothing is kept, whether it was reached when the last refresh
-// began, and which unit it was before the last edit that wasn't carried in place.
+// A unit, the trace that is kept of it, or `Over` where nothing is kept, what is kept of its parts, whether it was
+// reached when the last refresh began, and which unit it was before the last edit that wasn't carried in place.
 #[derive(Drop)]
 pub(crate) struct Bridge {
     pub(crate) unit: Unit,
     pub(crate) kept: Outcome,
+    pub(crate) parts: UnitParts,
     pub(crate) renewed: bool,
     pub(crate) source: Option<usize>,
 }
 
 impl Bridge {
     // The unit with nothing kept.
-    pub(crate) fn new(unit: Unit) -> Bridge
-        ensures { result ≡ record { unit = unit; kept = Outcome.Over; renewed = false; source = None } }
+    pub(crate) fn new(alloc: Global, unit: Unit) -> Bridge
+        ensures { result
+            ≡ record { unit = unit; kept = Outcome.Over; parts = []; renewed = false; source = None } }
     {
         Bridge {
             unit,
             kept: Outcome::Over,
+            parts: UnitParts::none(alloc),
             renewed: false,
             source: None,
         }
     }
 
-    // The unit has this tree now, and nothing is kept of it. Answers whether what was kept sets no name.
-    pub(crate) fn change(&mut self, tree: Tree) -> bool
-        ensures changed { self.new ≡ changed_bridge tree self.old }
+    // The unit has this tree now, and of it these parts are kept. Answers whether what was kept sets no name.
+    pub(crate) fn change(&mut self, tree: Tree, parts: UnitParts) -> bool
+        ensures changed { self.new ≡ changed_bridge tree parts self.old }
         ensures silent { IsTrue result → IsSilent (wide_outcome self.old.kept) }
     {
         let silent = is_silent(&self.kept);
         self.unit.tagged.tree = tree;
         self.kept = Outcome::Over;
+        self.parts = parts;
         silent
+    }
+
+    // Takes what is kept of the old unit of number i.
+    pub(crate) fn take(&mut self, old: &mut Bridge, i: usize)
+        ensures { self.new ≡ record {
+          unit = self.old.unit;
+          kept = old.old.kept;
+          parts = old.old.parts;
+          renewed = self.old.renewed;
+          source = Some i;
+        } }
+    {
+        self.kept = mem::replace(&mut old.kept, Outcome::Over);
+        mem::swap(&mut self.parts, &mut old.parts);
+        self.source = Some(i);
     }
 
     // The unit wasn't reached. A flag that is down isn't written: of most units memory is only read.
@@ -65,6 +89,7 @@ impl Bridge {
         ensures { self.new ≡ record {
           unit = self.old.unit;
           kept = self.old.kept;
+          parts = self.old.parts;
           renewed = false;
           source = self.old.source;
         } }
@@ -74,65 +99,105 @@ impl Bridge {
         }
     }
 
-    // Keeps what the unit comes to at the moment, which stays.
+    // What the unit comes to at the moment, which stays. It is evaluated by its parts if it is nested.
+    fn evaluated<L: Ledger>(
+        &self,
+        alloc: Global,
+        moment: &mut Moment,
+        steps: &mut Steps<L>,
+    ) -> Result<Evaluated, Memory>
+        requires sound { IsSound self.now }
+        ensures exact { IfOk result (λ e. wide_outcome e.outcome ≡ outcome_of moment.old self.now.unit) }
+        ensures once { IfOk result (λ e. NamesOnce e.outcome) }
+        ensures parts { IfOk result (λ e. kept_parts e.parts ≡ fresh_parts moment.old self.now.unit) }
+        ensures hold { IfOk result (λ e. PartsHold self.now.unit (wide_outcome e.outcome) e.parts) }
+        ensures charge { IfOk result
+            (λ e. e.charge ≡ unit_charge moment.old self.now.unit (kept_parts self.now.parts)) }
+        ensures counted { IfOk result (λ e. steps.new ≡ steps.old + e.charge) }
+        ensures moment { moment.new ≡ moment.old }
+    {
+        if is_nested(&self.unit) {
+            return moment.by_parts(alloc, &self.unit, self.parts.all(), steps);
+        }
+        let outcome = moment.outcome(alloc, &self.unit.tagged, steps)?;
+        let charge = moment.charge_of(&outcome);
+        Ok(Evaluated {
+            outcome,
+            parts: UnitParts::none(alloc),
+            charge,
+        })
+    }
+
+    // Keeps what the unit comes to at the moment, which stays, and its parts. Answers the charge.
     fn renew<L: Ledger>(
         &mut self,
         alloc: Global,
         moment: &mut Moment,
         steps: &mut Steps<L>,
-    ) -> Result<(), Memory>
+    ) -> Result<u64, Memory>
         requires sound { IsSound self.old }
         ensures unit { self.new.unit ≡ self.old.unit }
         ensures source { self.new.source ≡ self.old.source }
         ensures fresh { OnOk result (wide_outcome self.new.kept ≡ outcome_of moment.old self.old.unit) }
+        ensures parts { OnOk result (kept_parts self.new.parts ≡ fresh_parts moment.old self.old.unit) }
         ensures renewed { OnOk result (self.new.renewed ≡ true) }
         ensures moment { moment.new ≡ moment.old }
-        ensures counted { OnOk result
-            (steps.new ≡ steps.old + charge moment.old (outcome_of moment.old self.old.unit)) }
+        ensures charge { IfOk result
+            (λ n. n ≡ unit_charge moment.old self.old.unit (kept_parts self.old.parts)) }
+        ensures counted { IfOk result (λ n. steps.new ≡ steps.old + n) }
         ensures sound { IsSound self.new }
         ensures err { OnErr result (self.new ≡ self.old) }
     {
         trace_laws();
-        self.kept = moment.outcome(alloc, &self.unit.tagged, steps)?;
+        let evaluated = self.evaluated(alloc, moment, steps)?;
+        self.kept = evaluated.outcome;
+        self.parts = evaluated.parts;
         self.renewed = true;
-        Ok(())
+        Ok(evaluated.charge)
     }
 
     // Keeps what the unit comes to at the moment, and goes behind it. The unit is evaluated where what is kept can't be
     // used. Where `settled`, the looks are known to agree with what names have.
     //
-    // If it answers true, names have behind it what they have where all units before it, and it, keep what they kept.
+    // Answers the charge, and whether names have behind it what they have where all units before it, and it, keep what
+    // they kept. False says nothing.
     pub(crate) fn refresh<L: Ledger>(
         &mut self,
         alloc: Global,
         moment: &mut Moment,
         settled: bool,
         steps: &mut Steps<L>,
-    ) -> Result<bool, Memory>
+    ) -> Result<(u64, bool), Memory>
         requires sound { IsSound self.old }
         requires settled { settled ≡ true → AgreesWith moment.old.env (wide_outcome self.old.kept) }
         ensures unit { self.new.unit ≡ self.old.unit }
         ensures source { self.new.source ≡ self.old.source }
         ensures fresh { OnOk result (wide_outcome self.new.kept ≡ outcome_of moment.old self.old.unit) }
+        ensures parts { OnOk result (kept_parts self.new.parts ≡ fresh_parts moment.old self.old.unit) }
         ensures renewed { OnOk result (self.new.renewed ≡ not (fits moment.old (wide_outcome self.old.kept))) }
         ensures stays { self.new.renewed ≡ false → wide_outcome self.new.kept ≡ wide_outcome self.old.kept }
         ensures behind { OnOk result (moment.new ≡ behind moment.old (outcome_of moment.old self.old.unit)) }
-        ensures settled { IfOk result (λ goes_on. goes_on ≡ true → (settled ≡ true)
+        ensures settled { IfOk result (λ p. p.1 ≡ true → (settled ≡ true)
             × (moment.new.env ≡ env_behind moment.old.env (wide_outcome self.old.kept))) }
-        ensures counted { OnOk result (steps.new ≡ steps.old + charge_of moment.old (entry_of self.old)) }
+        ensures charge { IfOk result
+            (λ p. p.0 ≡ charge_of moment.old (entry_of self.old) (kept_parts self.old.parts)) }
+        ensures counted { IfOk result (λ p. steps.new ≡ steps.old + p.0) }
+        ensures most { IfOk result (λ p. p.0 + moment.new.left ≤ moment.old.left) }
         ensures sound { IsSound self.new }
         ensures err { OnErr result ((self.new ≡ self.old)
-            ⊎ (wide_outcome self.new.kept ≡ outcome_of moment.old self.old.unit)) }
+            ⊎ (wide_outcome self.new.kept ≡ outcome_of moment.old self.old.unit)
+            × (kept_parts self.new.parts ≡ fresh_parts moment.old self.old.unit)) }
     {
         trace_laws();
+        charges_law();
         if fits(moment, &self.kept, settled) {
             moment.go_behind(&self.kept)?;
             self.leave();
-            return Ok(settled);
+            return Ok((0, settled));
         }
         let silent = is_silent(&self.kept);
-        self.renew(alloc, moment, steps)?;
+        let charge = self.renew(alloc, moment, steps)?;
         moment.go_behind(&self.kept)?;
-        Ok(settled && silent && is_silent(&self.kept))
+        Ok((charge, settled && silent && is_silent(&self.kept)))
     }
 }

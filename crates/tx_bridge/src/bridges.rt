@@ -1,6 +1,6 @@
 // All units with what is kept of them.
 ghost use Rattle.std.specs.Prelude.{◌≡◌, ℕ, ◌+◌, ◌≤◌, ◌++◌, take, drop, map, IfOk, OnOk, OnErr, Some, None};
-ghost use Rattle.std.specs.Prelude.{false, true, MatchOption, slice_get, IsSome, IfSome, option_and_then, length};
+ghost use Rattle.std.specs.Prelude.{[], false, true, MatchOption, slice_get, IsSome, IfSome, option_and_then, length};
 ghost use Rattle.std.specs.Option.{unwrap_or, option_map};
 ghost use Rattle.std.specs.List.{All};
 ghost use Rattle.std.specs.FinMap as maps;
@@ -9,21 +9,26 @@ ghost use Rattle.tx_mod.specs.InTurn.{cost_of};
 ghost use Rattle.tx_mod.specs.Followed.{changed_by_all};
 ghost use Rattle.tx_exec.specs.Outcomes.{wide_outcome, NamesOnce};
 ghost use Rattle.tx_units.specs.Units.{units_with};
+ghost use Rattle.tx_view_form.specs.declared.TheConstants.{MOST_VIEW_STEPS};
 ghost use Rattle.tx_view_form.specs.Outcomes.{beginning, behind, value_of};
 ghost use Rattle.tx_bridge.specs.Moments.{IsPaid};
 ghost use Rattle.tx_bridge.specs.Entries.{Entry, units_of, fresh_from, outcome_of};
-ghost use Rattle.tx_bridge.specs.Reached.{reached_from, charges_from};
+ghost use Rattle.tx_bridge.specs.Reached.{reached_from};
+ghost use Rattle.tx_bridge.specs.Nested.{charges_from, fresh_parts_from};
+ghost use Rattle.tx_bridge.specs.HeldParts.{AllPartsHold};
 ghost use Rattle.tx_bridge.specs.Settled.{AreSettled};
-ghost use Rattle.tx_bridge.specs.Sound.{IsSound, AllHold, entry_of, entries_of, flags_of, sources_in, source_by};
+ghost use Rattle.tx_bridge.specs.Sound.{IsSound, AllHold, entry_of, entries_of, parts_in, flags_of, sources_in};
+ghost use Rattle.tx_bridge.specs.Sound.{source_by};
 ghost use Rattle.tx_bridge.specs.UnitLists.{AreUnits};
-ghost use Rattle.tx_bridge.specs.Carrying.{AllStand, AreSameBodies, through, mods_of};
+ghost use Rattle.tx_bridge.specs.Carrying.{AllStand, StandsNow, AreSameBodies, through, mods_of};
 ghost use Rattle.tx_bridge.specs.Slots.{AllLead, paths_in, given};
-ghost use Rattle.tx_bridge.specs.InPlace.{IsOneChanged, numbers_but};
-ghost use Rattle.tx_bridge.specs.Names.{Empty, Fresh, Charge, Carry, Sources};
+ghost use Rattle.tx_bridge.specs.InPlace.{IsOneChanged, NoneChanged, numbers_but};
+ghost use Rattle.tx_bridge.specs.Names.{Empty, EmptyParts, Fresh, FreshParts, Charge, Carry, CarryParts, CarryWithin};
+ghost use Rattle.tx_bridge.specs.Names.{Sources};
 
 use crate::bridge::{Bridge, Way};
 use crate::giving::give_all;
-use crate::in_place::{change_one, one_changed};
+use crate::in_place::{change_one, one_changed, parts_of_changed};
 use crate::moments::Moment;
 use crate::paths_after::paths_after;
 use std::alloc::Global;
@@ -33,7 +38,7 @@ use std::sync::ledger::Ledger;
 use tx_base::{Memory, Steps};
 use tx_exec::Outcome;
 use tx_exec_form::{size_law, trace_laws};
-use tx_mod::{Mod, carried_list_law};
+use tx_mod::{Mod, carried_law, carried_list_law};
 use tx_tree::{Path, Tree};
 use tx_units::Unit;
 
@@ -51,7 +56,7 @@ pub struct Bridges {
 
 impl Model for Bridges {
     ghost use Rattle.tx_bridge.specs.Bridged.{Bridged, coded_Bridged};
-    ghost use Rattle.tx_bridge.specs.Sound.{AreRight, entries_of, flags_of, sources_by};
+    ghost use Rattle.tx_bridge.specs.Sound.{AreRight, entries_of, parts_in, flags_of, sources_by};
 
     ghost Value = { Bridged };
 
@@ -59,6 +64,7 @@ impl Model for Bridges {
 
     ghost view = { λ b. record {
       kept = entries_of b.bridges.items;
+      parts = parts_in b.bridges.items;
       renewed = flags_of b.bridges.items;
       sources = sources_by b.way b.bridges.items;
     } };
@@ -69,18 +75,19 @@ impl Model for Bridges {
 // The units, with nothing kept.
 fn bridges_of(alloc: Global, units: Vec<Unit>) -> Result<Vec<Bridge>, Memory>
     ensures { IfOk result (λ v. v.items
-        ≡ map (λ u. record { unit = u; kept = Outcome.Over; renewed = false; source = None }) units.items) }
+        ≡ map (λ u. record { unit = u; kept = Outcome.Over; parts = []; renewed = false; source = None })
+        units.items) }
 {
     Ok(
         units
             .into_iter()
-            .map(|unit| Bridge::new(unit))
+            .map(|unit| Bridge::new(alloc, unit))
             .collect(alloc)?,
     )
 }
 
-// Brings each unit to what evaluating from nothing gives. For want of memory it stops: those before are brought there,
-// and the others are as they were.
+// Brings each unit to what evaluating from nothing gives, and answers the charges. For want of memory it stops: those
+// before are brought there, and the others are as they were.
 //
 // Where all looks are known to agree with what the kept traces before them set, none are compared, up to a unit that is
 // evaluated anew and sets names, or whose kept trace did.
@@ -89,26 +96,36 @@ fn refresh_all<L: Ledger>(
     bridges: &mut [Bridge],
     settled: bool,
     steps: &mut Steps<L>,
-) -> Result<(), Memory>
+) -> Result<u64, Memory>
     requires sound { All IsSound bridges.old }
     requires settled { settled ≡ true → AreSettled maps.empty (entries_of bridges.old) }
     ensures fresh { OnOk result (entries_of bridges.new ≡ fresh_from beginning (units_of (entries_of bridges.old))) }
+    ensures parts { OnOk result
+        (parts_in bridges.new ≡ fresh_parts_from beginning (units_of (entries_of bridges.old))) }
     ensures renewed { OnOk result (flags_of bridges.new ≡ reached_from beginning (entries_of bridges.old)) }
-    ensures counted { OnOk result (steps.new ≡ steps.old + charges_from beginning (entries_of bridges.old)) }
+    ensures charge { IfOk result
+        (λ n. n ≡ charges_from beginning (entries_of bridges.old) (parts_in bridges.old)) }
+    ensures counted { IfOk result (λ n. steps.new ≡ steps.old + n) }
+    ensures most { IfOk result (λ n. n ≤ MOST_VIEW_STEPS) }
     ensures sound { All IsSound bridges.new }
     ensures units { units_of (entries_of bridges.new) ≡ units_of (entries_of bridges.old) }
     ensures sources { sources_in bridges.new ≡ sources_in bridges.old }
     ensures stays { (i : ℕ) → slice_get (flags_of bridges.new) i ≡ Some false
         → slice_get (entries_of bridges.new) i ≡ slice_get (entries_of bridges.old) i }
     ensures refused { OnErr result ((n : ℕ) × (entries_of bridges.new
-        ≡ take n (fresh_from beginning (units_of (entries_of bridges.old))) ++ drop n (entries_of bridges.old))) }
+        ≡ take n (fresh_from beginning (units_of (entries_of bridges.old))) ++ drop n (entries_of bridges.old))
+        × (parts_in bridges.new
+        ≡ take n (fresh_parts_from beginning (units_of (entries_of bridges.old))) ++ drop n (parts_in bridges.old))) }
 {
     let mut moment = Moment::beginning(alloc);
     let mut still = settled;
+    let mut charges = 0;
     for i in 0..bridges.len() {
-        still = bridges[i].refresh(alloc, &mut moment, still, steps)?;
+        let (charge, goes_on) = bridges[i].refresh(alloc, &mut moment, still, steps)?;
+        still = goes_on;
+        charges += charge;
     }
-    Ok(())
+    Ok(charges)
 }
 
 fn path_of(alloc: Global, unit: &Unit) -> Result<Option<Path>, Memory>
@@ -189,10 +206,11 @@ fn source_of(way: Way, bridge: &Bridge, i: usize) -> Option<usize>
 
 impl Bridges {
     /// The units, with nothing kept.
-    #[tactic(auto, unfolding(crate::specs::Names::Empty))]
+    #[tactic(auto, unfolding(crate::specs::Names::Empty, crate::specs::Names::EmptyParts))]
     pub fn start(alloc: Global, units: Vec<Unit>) -> Result<Bridges, Memory>
         requires units { AreUnits units.items }
         ensures empty { IfOk result (λ b. b.kept ≡ Empty units.items) }
+        ensures parts { IfOk result (λ b. b.parts ≡ EmptyParts units.items) }
         ensures units { IfOk result (λ b. units_of b.kept ≡ units.items) }
         ensures sources { IfOk result (λ b. b.sources ≡ map (λ u. None) units.items) }
     {
@@ -204,26 +222,31 @@ impl Bridges {
     }
 
     /// Brings each unit to what evaluating all from nothing gives. What is kept of a unit is used again where its looks
-    /// agree with what names have before it, and its cost is allowed. The steps rise by the charges of the other units.
+    /// agree with what names have before it, and its cost is allowed. The steps rise by the charges of the other units:
+    /// a nested one is charged its parts of which nothing that fits is kept. Answers these charges.
     ///
     /// For want of memory the units before some number are brought there, and the others are as they were.
-    #[tactic(auto, unfolding(crate::specs::Names::Fresh, crate::specs::Names::Charge))]
-    pub fn refresh<L: Ledger>(&mut self, alloc: Global, steps: &mut Steps<L>) -> Result<(), Memory>
+    #[tactic(auto, unfolding(crate::specs::Names::Fresh, crate::specs::Names::FreshParts, crate::specs::Names::Charge))]
+    pub fn refresh<L: Ledger>(&mut self, alloc: Global, steps: &mut Steps<L>) -> Result<u64, Memory>
         ensures fresh { OnOk result (self.new.kept ≡ Fresh self.old.kept) }
+        ensures parts { OnOk result (self.new.parts ≡ FreshParts self.old.kept) }
         ensures renewed { OnOk result (self.new.renewed ≡ reached_from beginning self.old.kept) }
-        ensures counted { OnOk result (steps.new ≡ steps.old + Charge self.old.kept) }
+        ensures charge { IfOk result (λ n. n ≡ Charge self.old.kept self.old.parts) }
+        ensures counted { IfOk result (λ n. steps.new ≡ steps.old + n) }
+        ensures most { IfOk result (λ n. n ≤ MOST_VIEW_STEPS) }
         ensures units { units_of self.new.kept ≡ units_of self.old.kept }
         ensures sources { self.new.sources ≡ self.old.sources }
         ensures stays { (i : ℕ) → slice_get self.new.renewed i ≡ Some false
             → slice_get self.new.kept i ≡ slice_get self.old.kept i }
         ensures refused { OnErr result ((n : ℕ) × (self.new.kept
-            ≡ take n (Fresh self.old.kept) ++ drop n self.old.kept)) }
+            ≡ take n (Fresh self.old.kept) ++ drop n self.old.kept)
+            × (self.new.parts ≡ take n (FreshParts self.old.kept) ++ drop n self.old.parts)) }
     {
         trace_laws();
         let settled = mem::replace(&mut self.settled, false);
-        refresh_all(alloc, &mut self.bridges, settled, steps)?;
+        let charges = refresh_all(alloc, &mut self.bridges, settled, steps)?;
         self.settled = true;
-        Ok(())
+        Ok(charges)
     }
 
     /// The new units after an edit of a buffer, with what was kept of the old ones that they are. A paragraph of the
@@ -232,7 +255,7 @@ impl Bridges {
     ///
     /// `before` is the tree of the buffer before the edit. Which old unit a new one is `source` tells afterwards, and
     /// no two are the same one. For want of memory all is as before.
-    #[tactic(auto, unfolding(crate::specs::Names::Carry, crate::specs::Names::Sources))]
+    #[tactic(auto, unfolding(crate::specs::Names::Carry, crate::specs::Names::CarryParts, crate::specs::Names::Sources))]
     pub fn carry<L: Ledger>(
         &mut self,
         alloc: Global,
@@ -249,6 +272,7 @@ impl Bridges {
             → AllStand u units.items }
         requires same { (buffer ≡ 0 → ⊥) → AreSameBodies (units_of self.old.kept) units.items }
         ensures carried { OnOk result (self.new.kept ≡ Carry buffer mods.now before.now self.old.kept units.items) }
+        ensures parts { OnOk result (self.new.parts ≡ CarryParts self.old.parts self.new.sources) }
         ensures sources { OnOk result
             (self.new.sources ≡ Sources buffer mods.now before.now (units_of self.old.kept) units.items) }
         ensures once { OnOk result ((i j k : ℕ) → slice_get self.new.sources j ≡ Some (Some i)
@@ -264,33 +288,56 @@ impl Bridges {
         Ok(())
     }
 
-    /// The number of the one unit inside whose paragraph all modifications are, and which they leave nowhere. Where its
-    /// paragraph alone changes, `carry_in_place` does what `carry` does. None says nothing.
+    /// The number of the one unit inside whose paragraph all modifications are, and which they leave nowhere, or None
+    /// where there is none. Where its paragraph alone changes, `carry_in_place` does what `carry` does, and keeps what
+    /// stays of its parts.
     pub fn one_changed(&self, buffer: u32, mods: &[Mod]) -> Option<usize>
-        ensures { IfSome result (λ i. IsOneChanged i buffer mods.now (units_of self.now.kept)) }
+        ensures { MatchOption result (NoneChanged buffer mods.now (units_of self.now.kept))
+            (λ i. IsOneChanged i buffer mods.now (units_of self.now.kept)) }
     {
         one_changed(buffer, &self.bridges, mods)
     }
 
     /// What `carry` does where the unit of number `changed`, which `one_changed` tells, has this tree afterwards, and
-    /// each other one stays as it is. It takes no memory and no step, and goes over no list.
-    #[tactic(auto, unfolding(crate::specs::Names::Carry, crate::specs::Names::Sources))]
-    pub fn carry_in_place(&mut self, before: &Tree, mods: &[Mod], tree: Tree, changed: usize)
+    /// each other one stays as it is. Besides, of the parts of that unit those are kept that stay in it. It goes over no
+    /// list but that of these parts; without them it takes no memory and no step.
+    #[tactic(auto, unfolding(crate::specs::Names::Carry, crate::specs::Names::CarryWithin, crate::specs::Names::Sources))]
+    pub fn carry_in_place<L: Ledger>(
+        &mut self,
+        alloc: Global,
+        before: &Tree,
+        mods: &[Mod],
+        tree: Tree,
+        changed: usize,
+        steps: &mut Steps<L>,
+    ) -> Result<(), Memory>
         requires applies { (u : WideTree) × (changed_by_all mods.now before.now ≡ Some u) }
         requires units { AreUnits (units_of self.old.kept) }
         requires changed { IsOneChanged changed 0 mods.now (units_of self.old.kept) }
-        ensures carried { self.new.kept ≡ Carry 0 mods.now before.now self.old.kept
-            (units_with changed tree (units_of self.old.kept)) }
-        ensures sources { self.new.sources ≡ Sources 0 mods.now before.now (units_of self.old.kept)
-            (units_with changed tree (units_of self.old.kept)) }
-        ensures once { (i j k : ℕ) → slice_get self.new.sources j ≡ Some (Some i)
-            → slice_get self.new.sources k ≡ Some (Some i) → j ≡ k }
-        ensures numbers { self.new.sources ≡ numbers_but changed 0 (length (units_of self.old.kept)) }
-        ensures units { units_of self.new.kept ≡ units_with changed tree (units_of self.old.kept) }
+        requires old { AllStand before.now (units_of self.old.kept) }
+        requires new { (u : WideTree) → changed_by_all mods.now before.now ≡ Some u
+            → StandsNow changed tree u (units_of self.old.kept) }
+        ensures carried { OnOk result (self.new.kept ≡ Carry 0 mods.now before.now self.old.kept
+            (units_with changed tree (units_of self.old.kept))) }
+        ensures parts { OnOk result (self.new.parts
+            ≡ CarryWithin changed mods.now before.now (units_of self.old.kept) self.old.parts) }
+        ensures sources { OnOk result (self.new.sources ≡ Sources 0 mods.now before.now (units_of self.old.kept)
+            (units_with changed tree (units_of self.old.kept))) }
+        ensures once { OnOk result ((i j k : ℕ) → slice_get self.new.sources j ≡ Some (Some i)
+            → slice_get self.new.sources k ≡ Some (Some i) → j ≡ k) }
+        ensures numbers { OnOk result
+            (self.new.sources ≡ numbers_but changed 0 (length (units_of self.old.kept))) }
+        ensures units { OnOk result (units_of self.new.kept ≡ units_with changed tree (units_of self.old.kept)) }
+        ensures counted { steps.new ≤ steps.old + cost_of mods.now }
+        ensures refused { OnErr result (self.new ≡ self.old) }
     {
-        let silent = change_one(&mut self.bridges, tree, changed);
+        carried_list_law();
+        carried_law();
+        let parts = parts_of_changed(alloc, before, mods, &self.bridges, changed, steps)?;
+        let silent = change_one(&mut self.bridges, tree, parts, changed);
         self.way = Way::InPlace(changed);
         self.settled = self.settled && silent;
+        Ok(())
     }
 
     /// What is kept of the unit, which after a refresh is what it comes to. None past the last unit.
@@ -298,6 +345,7 @@ impl Bridges {
         ensures found { MatchOption result (slice_get self.now.kept i ≡ None)
             (λ o. option_map (λ e. e.trace) (slice_get self.now.kept i) ≡ Some (wide_outcome o.now)) }
         ensures holds { AllHold self.now.kept }
+        ensures parts_hold { AllPartsHold self.now.kept self.now.parts }
     {
         match self.bridges.get(i as usize) {
             None => None,

@@ -1,51 +1,23 @@
 // Whether what is kept can be used.
-ghost use Rattle.std.specs.Prelude.{◌≡◌, ℕ, Some, true, IsTrue};
+ghost use Rattle.std.specs.Prelude.{◌≡◌, true, IsTrue};
 ghost use Rattle.std.specs.List.{list_all};
 ghost use Rattle.std.specs.FinMap as maps;
 ghost use Rattle.tx_exec.specs.Outcomes.{wide_outcome, NamesOnce};
-ghost use Rattle.tx_bridge.specs.SameTrees.{same};
+ghost use Rattle.tx_walk.specs.SameTrees.{same};
 ghost use Rattle.tx_bridge.specs.Reached.{fits};
 ghost use Rattle.tx_bridge.specs.Settled.{AgreesWith, IsSilent};
 
 use crate::moments::Moment;
 use tx_env::Env;
 use tx_exec::{Looks, Outcome};
-use tx_tree::{Text, Tree};
+use tx_walk::looks_agree;
 
-#[tactic(auto, using(crate::proofs::Trees::same_result, std::proofs::lemmas::Grind::common_steps))]
-pub(crate) fn same_trees(t: &Tree, u: &Tree) -> bool
-    ensures { result ≡ same (Some t.now) (Some u.now) }
-{
-    t.same(u)
-}
-
-// Whether the name has what was found there.
-fn agrees_at(env: &Env, name: &Text, found: &Option<Tree>) -> bool
-    ensures { result ≡ same (maps.get env.now.map name.now) found.now }
-{
-    match (env.get(name), found) {
-        (None, None) => true,
-        (Some(tree), Some(found)) => same_trees(tree, found),
-        _ => false,
-    }
-}
-
-// Whether each name has what was found where it was looked up.
-fn agrees(env: &Env, looks: &Looks) -> bool
-    ensures { result ≡ list_all (λ look. same (maps.get env.now.map look.0) look.1) looks.now }
-{
-    looks
-        .pairs()
-        .iter()
-        .all(|look| agrees_at(env, &look.0, &look.1))
-}
-
-// The same, which is known where `settled`.
+// Whether each name has what was found where it was looked up, which is known where `settled`.
 fn agrees_or(env: &Env, looks: &Looks, settled: bool) -> bool
     requires { settled ≡ true → list_all (λ look. same (maps.get env.now.map look.0) look.1) looks.now ≡ true }
     ensures { result ≡ list_all (λ look. same (maps.get env.now.map look.0) look.1) looks.now }
 {
-    settled || agrees(env, looks)
+    settled || looks_agree(env, looks)
 }
 
 // Whether what is kept can be used at the moment. Where `settled`, its looks are known to agree with what names have.

@@ -6,11 +6,9 @@ ghost use Rattle.tx_bridge.specs.Slots.{last_number, IsInOrder, HasOrder};
 ghost use Rattle.tx_bridge.specs.UnitLists.{IsPlaced};
 
 use crate::bridge::Bridge;
-use crate::fitting::same_trees;
-use std::mem;
-use tx_exec::Outcome;
 use tx_tree::Path;
 use tx_units::{Unit, UnitKind};
+use tx_walk::same_trees;
 
 fn same_kind(one: UnitKind, other: UnitKind) -> bool
     ensures { result ≡ same_kind one other }
@@ -212,8 +210,7 @@ fn give(
     match slot_of(new, place, i, &old.unit, hint, order) {
         None => hint,
         Some(j) => {
-            new[j].kept = mem::replace(&mut old.kept, Outcome::Over);
-            new[j].source = Some(i);
+            new[j].take(old, i);
             j + 1
         }
     }

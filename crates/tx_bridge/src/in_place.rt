@@ -1,18 +1,35 @@
 // An edit inside one paragraph changes one unit, and each other one stays at its number and its path.
-ghost use Rattle.std.specs.Prelude.{◌≡◌, ◌<◌, length, Some, true, IfSome, IsTrue, slice_get};
-ghost use Rattle.std.specs.List.{list_all};
+ghost use Rattle.std.specs.Prelude.{◌≡◌, ◌<◌, ◌≤◌, ◌+◌, length, Some, true, IfOk, IsTrue, MatchOption, slice_get};
+ghost use Rattle.std.specs.List.{list_all, All, AllByRecursion};
+ghost use Rattle.tx_tree.specs.WideTree.{WideTree};
+ghost use Rattle.tx_tree.specs.Paths.{subtree};
+ghost use Rattle.tx_mod.specs.InTurn.{cost_of};
+ghost use Rattle.tx_mod.specs.Followed.{changed_by_all};
+ghost use Rattle.tx_walk.specs.Walked.{IsTidy};
 ghost use Rattle.tx_exec.specs.Outcomes.{wide_outcome};
 ghost use Rattle.tx_mod.specs.Mods.{path_of};
 ghost use Rattle.tx_bridge.specs.Settled.{IsSilent};
-ghost use Rattle.tx_bridge.specs.Sound.{changed_in};
+ghost use Rattle.tx_bridge.specs.Sound.{IsSound, changed_in};
+ghost use Rattle.tx_bridge.specs.HeldParts.{HoldsPart, kept_parts};
+ghost use Rattle.tx_bridge.specs.Carrying.{AllStand};
+ghost use Rattle.tx_bridge.specs.CarryingParts.{parts_behind, parts_within};
 ghost use Rattle.tx_bridge.specs.Slots.{bodies_of};
 ghost use Rattle.tx_bridge.specs.InPlace.{wraps, begins, leaves_nowhere, is_gone, is_changed, IsOneChanged};
+ghost use Rattle.tx_bridge.specs.InPlace.{NoneChanged};
+ghost use Rattle.tx_bridge.specs.Slots.{AllUnchanged, IsChangedAt};
 
 use crate::bridge::Bridge;
 use crate::giving::first_body;
+use crate::paths_after::paths_after;
+use crate::unit_parts::UnitParts;
+use crate::within::{add_part_paths, parts_at};
+use std::alloc::Global;
+use std::sync::ledger::Ledger;
+use tx_base::{Memory, Steps};
 use tx_mod::Mod;
 use tx_tree::{Path, Tree};
 use tx_units::Unit;
+use tx_walk::Part;
 
 // Whether the modification puts a subtree into a node.
 fn wraps(m: &Mod) -> bool
@@ -82,30 +99,37 @@ fn likely(bridges: &[Bridge], path: &Path) -> usize {
     first + steps[depth - 1] as usize
 }
 
+// The number of the unit that all modifications are inside of, by going through all.
+fn searched_unit(bridges: &[Bridge], mods: &[Mod]) -> Option<usize>
+    ensures { MatchOption result (AllUnchanged mods.now bridges.now) (λ i. IsChangedAt mods.now bridges.now i) }
+{
+    for i in 0..bridges.len() {
+        if is_changed(mods, &bridges[i].unit) {
+            return Some(i);
+        }
+    }
+    None
+}
+
 // The number of the unit that all modifications are inside of.
 fn changed_unit(bridges: &[Bridge], mods: &[Mod]) -> Option<usize>
-    ensures { IfSome result (λ i. (b : Bridge) × (slice_get bridges.now i ≡ Some b)
-        × (is_changed mods.now b.unit ≡ true)) }
+    ensures { MatchOption result (AllUnchanged mods.now bridges.now) (λ i. IsChangedAt mods.now bridges.now i) }
 {
-    let Some(m) = mods.get(0) else {
-        return None;
-    };
-    let i = likely(bridges, m.path());
-    match bridges.get(i) {
-        None => None,
-        Some(bridge) => {
+    if let Some(m) = mods.get(0) {
+        let i = likely(bridges, m.path());
+        if let Some(bridge) = bridges.get(i) {
             if is_changed(mods, &bridge.unit) {
-                Some(i)
-            } else {
-                None
+                return Some(i);
             }
         }
     }
+    searched_unit(bridges, mods)
 }
 
 // The number of the one unit that an edit of a buffer changes.
 pub(crate) fn one_changed(buffer: u32, bridges: &[Bridge], mods: &[Mod]) -> Option<usize>
-    ensures { IfSome result (λ i. IsOneChanged i buffer mods.now (bodies_of bridges.now)) }
+    ensures { MatchOption result (NoneChanged buffer mods.now (bodies_of bridges.now))
+        (λ i. IsOneChanged i buffer mods.now (bodies_of bridges.now)) }
 {
     if buffer != 0 {
         return None;
@@ -113,12 +137,68 @@ pub(crate) fn one_changed(buffer: u32, bridges: &[Bridge], mods: &[Mod]) -> Opti
     changed_unit(bridges, mods)
 }
 
-// The unit of this number has this tree now, and nothing is kept of it. Answers whether what was kept sets no name.
-pub(crate) fn change_one(bridges: &mut [Bridge], tree: Tree, changed: usize) -> bool
+// The parts of the unit at this path, of which these are kept, that stay in it.
+fn parts_behind<L: Ledger>(
+    alloc: Global,
+    before: &Tree,
+    mods: &[Mod],
+    path: &Path,
+    parts: &[Part],
+    steps: &mut Steps<L>,
+) -> Result<UnitParts, Memory>
+    requires applies { (u : WideTree) × (changed_by_all mods.now before.now ≡ Some u) }
+    requires stands { (x : WideTree) × (subtree before.now path.now ≡ Some x)
+        × AllByRecursion (HoldsPart x) parts.now }
+    ensures parts { IfOk result
+        (λ q. kept_parts q ≡ parts_behind mods.now before.now path.now (kept_parts parts.now)) }
+    ensures tidy { IfOk result (λ q. All IsTidy q) }
+    ensures counted { steps.new ≤ steps.old + cost_of mods.now }
+{
+    if parts.is_empty() {
+        return Ok(UnitParts::none(alloc));
+    }
+    let mut paths = Vec::with_capacity(alloc, parts.len())?;
+    add_part_paths(alloc, path, parts, &mut paths)?;
+    let places = paths_after(alloc, before, mods, paths, steps)?;
+    Ok(UnitParts::new(parts_at(alloc, path, &places, parts)?))
+}
+
+// The parts of the unit of this number that stay in it, inside which all modifications are.
+pub(crate) fn parts_of_changed<L: Ledger>(
+    alloc: Global,
+    before: &Tree,
+    mods: &[Mod],
+    bridges: &[Bridge],
+    changed: usize,
+    steps: &mut Steps<L>,
+) -> Result<UnitParts, Memory>
+    requires applies { (u : WideTree) × (changed_by_all mods.now before.now ≡ Some u) }
+    requires there { changed < length bridges.now }
+    requires stand { AllStand before.now (bodies_of bridges.now) }
+    requires sound { All IsSound bridges.now }
+    ensures parts { IfOk result (λ q. (b : Bridge) → slice_get bridges.now changed ≡ Some b
+        → kept_parts q ≡ parts_within mods.now before.now b.unit (kept_parts b.parts)) }
+    ensures tidy { IfOk result (λ q. All IsTidy q) }
+    ensures counted { steps.new ≤ steps.old + cost_of mods.now }
+{
+    let bridge = &bridges[changed];
+    match &bridge.unit.path {
+        None => Ok(UnitParts::none(alloc)),
+        Some(path) => parts_behind(alloc, before, mods, path, bridge.parts.all(), steps),
+    }
+}
+
+// The unit of this number has this tree now, of which these parts are kept. Answers whether what was kept sets no name.
+pub(crate) fn change_one(
+    bridges: &mut [Bridge],
+    tree: Tree,
+    parts: UnitParts,
+    changed: usize,
+) -> bool
     requires { changed < length bridges.old }
-    ensures changed { bridges.new ≡ changed_in changed tree bridges.old }
+    ensures changed { bridges.new ≡ changed_in changed tree parts bridges.old }
     ensures silent { IsTrue result → (b : Bridge) → slice_get bridges.old changed ≡ Some b
         → IsSilent (wide_outcome b.kept) }
 {
-    bridges[changed].change(tree)
+    bridges[changed].change(tree, parts)
 }

@@ -1,20 +1,26 @@
 // Laws of what calls ask for.
-ghost use Rattle.std.specs.Prelude.{List};
+ghost use Rattle.std.specs.Prelude.{◌≡◌, ℕ, List, Some, true, slice_get};
 ghost use Rattle.tx_tree.specs.WideTree.{WideTree};
 ghost use Rattle.tx_doc.specs.Buffers.{document_of};
 ghost use Rattle.tx_doc.specs.declared.buffer.Buffer.{Buffer};
 ghost use Rattle.tx_units.specs.declared.kinds.Unit.{Unit as DocUnit};
 ghost use Rattle.tx_units.specs.Units.{units};
+ghost use Rattle.tx_mod.specs.declared.mods.Mod.{Mod as Change};
+ghost use Rattle.tx_bridge.specs.InPlace.{is_changed};
 ghost use Rattle.tx_bridge.specs.UnitLists.{AreUnits};
 ghost use Rattle.tx_bridge.specs.Carrying.{AllStand, AreSameBodies};
 
 use tx_units::body_laws;
 
 /// A law: the units of buffers are such as `Bridges` asks for, and their trees stand at their paths in the document.
-/// The units of one document have one tree where they have one path.
+/// The units of one document have one tree where they have one path. At most one is such that modifications are all
+/// inside its tree, which they leave nowhere.
 pub fn unit_list_laws()
     ensures units { (buffers : List Buffer) → AreUnits (units buffers) }
     ensures stand { (buffers : List Buffer) → AllStand (document_of buffers) (units buffers) }
+    ensures once { (ms : List Change) (us : List DocUnit) → AreUnits us → (j k : ℕ) (u v : DocUnit)
+        → slice_get us j ≡ Some u → slice_get us k ≡ Some v → is_changed ms u ≡ true → is_changed ms v ≡ true
+        → j ≡ k }
     ensures same { (t : WideTree) (us vs : List DocUnit) → AllStand t us → AllStand t vs → AreSameBodies us vs }
 {
     body_laws();

@@ -12,6 +12,8 @@ mod in_place;
 mod laws;
 mod moments;
 mod paths_after;
+mod unit_parts;
+mod within;
 
 pub use bridges::Bridges;
 pub use laws::unit_list_laws;

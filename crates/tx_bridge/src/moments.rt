@@ -6,8 +6,17 @@ ghost use Rattle.tx_origin.specs.Values.{plain};
 ghost use Rattle.tx_origin.specs.TaggedTrees.{tagged_of};
 ghost use Rattle.tx_exec.specs.Outcomes.{wide_outcome, NamesOnce};
 ghost use Rattle.tx_view_form.specs.Outcomes.{beginning, allowance, outcome, charge, behind, value_of, over_value};
+ghost use Rattle.std.specs.Prelude.{true};
+ghost use Rattle.std.specs.List.{AllByRecursion, IsDistinct};
+ghost use Rattle.std.specs.Str.{bytes_eq};
+ghost use Rattle.tx_walk.specs.Walked.{paths_of};
+ghost use Rattle.tx_bridge.specs.Entries.{outcome_of};
 ghost use Rattle.tx_bridge.specs.Moments.{IsPaid};
+ghost use Rattle.tx_bridge.specs.Nested.{is_nested, fresh_parts, unit_charge};
+ghost use Rattle.tx_bridge.specs.HeldParts.{HoldsPart, PartsHold, kept_parts};
+ghost use Rattle.tx_bridge.specs.UnitLists.{IsPlaced};
 
+use crate::unit_parts::UnitParts;
 use std::alloc::Global;
 use std::marker::Model;
 use std::sync::ledger::Ledger;
@@ -16,18 +25,30 @@ use tx_env::{Env, Writes};
 use tx_exec::{Outcome, eval};
 use tx_exec_form::{size_law, trace_laws};
 use tx_origin::{Tagged, Value};
+use tx_parts::{fitting_law, standing_law};
 use tx_tree::{Label, Text};
+use tx_units::Unit;
 use tx_view_form::{MOST_UNIT_STEPS, MOST_VIEW_STEPS};
+use tx_walk::{Part, walk, walked_law};
 
 // Sets each name to its tree, in order. Where there is none, as with most paragraphs, it has nothing to do.
 fn set_names(env: &mut Env, writes: &Writes) -> Result<(), Memory>
     ensures map { OnOk result (env.new.map ≡ overlaid env.old.map writes.now) }
+    ensures scopes { OnOk result (env.new.scopes ≡ env.old.scopes) }
     ensures err { OnErr result (env.new ≡ env.old) }
 {
     if writes.pairs().is_empty() {
         return Ok(());
     }
     env.overlay(writes)
+}
+
+// What a unit comes to, its parts, and what it was charged.
+#[derive(Drop)]
+pub(crate) struct Evaluated {
+    pub(crate) outcome: Outcome,
+    pub(crate) parts: UnitParts,
+    pub(crate) charge: u64,
 }
 
 /// What names have before a unit, and the steps that are left.
@@ -40,12 +61,15 @@ pub struct Moment {
 impl Model for Moment {
     ghost use Rattle.tx_view_form.specs.Outcomes.{Moment};
     ghost use Rattle.tx_bridge.specs.Moments.{coded_Moment};
+    ghost use Rattle.std.specs.Prelude.{◌≡◌, []};
 
     ghost Value = { Moment };
 
     ghost coded = { coded_Moment };
 
     ghost view = { λ m. record { env = m.env.map; left = m.left } };
+
+    ghost invariant = { λ m. m.env.scopes ≡ [] };
 }
 
 impl Moment {
@@ -95,6 +119,56 @@ impl Moment {
         let allowance = MOST_UNIT_STEPS.min(self.left);
         let outcome = eval(alloc, t, &mut self.env, allowance, steps)?;
         Ok(outcome)
+    }
+
+    // What a unit that comes to this is charged.
+    pub(crate) fn charge_of(&self, outcome: &Outcome) -> u64
+        ensures { result ≡ charge self.now (wide_outcome outcome.now) }
+    {
+        match outcome {
+            Outcome::Over => self.allowance(),
+            Outcome::Done(trace) => trace.cost,
+        }
+    }
+
+    // What the nested unit comes to, of which these parts are kept. The moment stays.
+    pub(crate) fn by_parts<L: Ledger>(
+        &mut self,
+        alloc: Global,
+        unit: &Unit,
+        kept: &[Part],
+        steps: &mut Steps<L>,
+    ) -> Result<Evaluated, Memory>
+        requires nested { is_nested unit.now ≡ true }
+        requires placed { IsPlaced unit.now }
+        requires hold { AllByRecursion (HoldsPart unit.now.tagged.tree) kept.now }
+        requires distinct { IsDistinct bytes_eq (paths_of kept.now) }
+        ensures exact { IfOk result (λ e. wide_outcome e.outcome ≡ outcome_of self.old unit.now) }
+        ensures once { IfOk result (λ e. NamesOnce e.outcome) }
+        ensures parts { IfOk result (λ e. kept_parts e.parts ≡ fresh_parts self.old unit.now) }
+        ensures hold { IfOk result (λ e. PartsHold unit.now (wide_outcome e.outcome) e.parts) }
+        ensures charge { IfOk result (λ e. e.charge ≡ unit_charge self.old unit.now (kept_parts kept.now)) }
+        ensures counted { IfOk result (λ e. steps.new ≡ steps.old + e.charge) }
+        ensures stays { self.new ≡ self.old }
+    {
+        trace_laws();
+        standing_law();
+        fitting_law();
+        walked_law();
+        let allowance = MOST_UNIT_STEPS.min(self.left);
+        let walked = walk(
+            alloc,
+            &unit.tagged.tree,
+            &mut self.env,
+            allowance,
+            kept,
+            steps,
+        )?;
+        Ok(Evaluated {
+            outcome: walked.outcome,
+            parts: UnitParts::new(walked.parts),
+            charge: walked.charge,
+        })
     }
 
     // Goes behind a unit that comes to this.

@@ -1,5 +1,7 @@
 // Edits, and the units that are reached behind them.
-ghost use Rattle.std.specs.Prelude.{◌≡◌, ◌<◌, ◌≤◌, length, IfSome, OnSome};
+ghost use Rattle.std.specs.Prelude.{◌≡◌, ◌<◌, ◌≤◌, Some, length, IfSome, OnSome};
+ghost use Rattle.tx_mod.specs.Followed.{changed_by_all};
+ghost use Rattle.tx_bridge.specs.Carrying.{StandsNow};
 ghost use Rattle.tx_units.specs.Units.{units};
 ghost use Rattle.tx_bridge.specs.Entries.{units_of};
 
@@ -114,7 +116,8 @@ fn edit<L: Ledger>(
     let units = units(alloc, buffers, steps).ok()?;
     let mods = vec![in alloc; m].ok()?;
     bridges.carry(alloc, k, &before, &mods, units, steps).ok()?;
-    bridges.refresh(alloc, steps).ok()
+    bridges.refresh(alloc, steps).ok()?;
+    Some(())
 }
 
 // Buffers, each a name and a tree, `;` between them.
@@ -289,13 +292,86 @@ const IN_PLACE: &[InPlace] = &[
     ),
 ];
 
-// What is kept behind an edit of the first buffer that is carried in place, and the tree then.
+// A buffer, an edit inside one nested paragraph or before it, and the charges behind it.
+type Nested = (&'static str, &'static str, u64);
+
+const NESTED: &[Nested] = &[
+    (
+        "d (document (document \"a\" \"bc\") \"d\")",
+        "insert /0/0 0 \"x\"",
+        3,
+    ),
+    // of two parts the one that changes, and the one that looks the variable up
+    (
+        "d (document (assign \"n\" \"1\") (with \"color\" \"red\" (document \"long text\" (value \"n\"))))",
+        "assign /1/2/0 \"x\"",
+        2,
+    ),
+    (
+        "d (document (assign \"n\" \"1\") (with \"color\" \"red\" (document \"long text\" (value \"n\"))))",
+        "assign /0/1 \"5\"",
+        12,
+    ),
+    // parts behind a new one move, and those of a part that is split are new
+    (
+        "d (document (with \"color\" \"red\" (document \"long text\" \"more\")))",
+        "insert /0/2 0 (tuple \"ab\")",
+        3,
+    ),
+    (
+        "d (document (with \"color\" \"red\" (document \"long text\" \"more\")))",
+        "split /0/2 0 4",
+        11,
+    ),
+    // a name that a part sets for those behind it
+    (
+        "d (document (document (assign \"n\" \"1\") \"long text\" (value \"n\")))",
+        "assign /0/0/1 \"2\"",
+        12,
+    ),
+    // a `with` inside a `with`, and one that names another variable now
+    (
+        "d (document (with \"a\" \"1\" (with \"b\" \"2\" (document (value \"a\") (value \"b\") \"c\"))))",
+        "assign /0/2/1 \"3\"",
+        5,
+    ),
+    (
+        "d (document (with \"a\" \"1\" (with \"b\" \"2\" (document (value \"a\") (value \"b\") \"c\"))))",
+        "assign /0/2/0 \"c\"",
+        16,
+    ),
+];
+
+// What one modification makes of the tree.
+fn behind_one<L: Ledger>(
+    alloc: Global,
+    before: &Tree,
+    mods: &[Mod],
+    steps: &mut Steps<L>,
+) -> Option<Tree>
+    ensures { IfSome result (λ t. changed_by_all mods.now before.now ≡ Some t) }
+{
+    match mods {
+        [m] => apply(alloc, before, m, steps).ok(),
+        _ => None,
+    }
+}
+
+// The paragraph of the unit of this number in the tree afterwards.
+fn paragraph_in(bridges: &Bridges, changed: usize, after: &Tree) -> Option<Tree>
+    ensures { IfSome result (λ t. StandsNow changed t after.now (units_of bridges.now.kept)) }
+{
+    let unit = bridges.unit(u32::try_from(changed).ok()?)?;
+    after.at(unit.path.as_ref()?)?.share().ok()
+}
+
+// What is kept behind an edit of the first buffer that is carried in place, the tree then, and the charges.
 fn edited_in_place<L: Ledger>(
     alloc: Global,
     buffers: &[Buffer],
     line: &str,
     steps: &mut Steps<L>,
-) -> Option<(Bridges, Tree)>
+) -> Option<(Bridges, Tree, u64)>
     requires some { 1 ≤ length buffers.now }
     requires few { length buffers.now ≤ 16 }
 {
@@ -303,14 +379,14 @@ fn edited_in_place<L: Ledger>(
     let mut bridges = from_nothing(alloc, buffers, steps)?;
     let mods = vec![in alloc; change_of(alloc, line, steps)?].ok()?;
     let before = &buffers[0].tree;
-    let after = apply(alloc, before, &mods[0], steps).ok()?;
+    let after = behind_one(alloc, before, &mods, steps)?;
     let changed = bridges.one_changed(0, &mods)?;
-    let unit = bridges.unit(u32::try_from(changed).ok()?)?;
-    let path = unit.path.as_ref()?;
-    let tree = after.at(path)?.share().ok()?;
-    bridges.carry_in_place(before, &mods, tree, changed);
-    bridges.refresh(alloc, steps).ok()?;
-    Some((bridges, after))
+    let tree = paragraph_in(&bridges, changed, &after)?;
+    bridges
+        .carry_in_place(alloc, before, &mods, tree, changed, steps)
+        .ok()?;
+    let charges = bridges.refresh(alloc, steps).ok()?;
+    Some((bridges, after, charges))
 }
 
 // Whether the edit reaches what it is to reach.
@@ -319,10 +395,57 @@ fn holds_in_place<L: Ledger>(alloc: Global, row: &InPlace, steps: &mut Steps<L>)
     if buffers.is_empty() || buffers.len() > 16 {
         return None;
     }
-    let (bridges, after) = edited_in_place(alloc, &buffers, row.1, steps)?;
+    let (bridges, after, _) = edited_in_place(alloc, &buffers, row.1, steps)?;
     buffers[0].tree = after;
     let fresh = from_nothing(alloc, &buffers, steps)?;
     are_right(alloc, &bridges, &fresh, row.2.as_bytes(), steps)
+}
+
+// Whether all outcomes are those from nothing.
+fn are_fresh<L: Ledger>(
+    alloc: Global,
+    bridges: &Bridges,
+    fresh: &Bridges,
+    steps: &mut Steps<L>,
+) -> Option<bool> {
+    for i in 0..1000 {
+        match (bridges.outcome(i), fresh.outcome(i)) {
+            (None, None) => return Some(true),
+            (Some(one), Some(other)) => {
+                if !same(alloc, one, other, steps)? {
+                    return Some(false);
+                }
+            }
+            _ => return Some(false),
+        }
+    }
+    None
+}
+
+// Whether the edit costs what it is to cost.
+fn holds_nested<L: Ledger>(alloc: Global, row: &Nested, steps: &mut Steps<L>) -> Option<bool> {
+    let mut buffers = buffers_of(alloc, row.0, steps)?;
+    if buffers.is_empty() || buffers.len() > 16 {
+        return None;
+    }
+    let (bridges, after, charges) = edited_in_place(alloc, &buffers, row.1, steps)?;
+    buffers[0].tree = after;
+    let fresh = from_nothing(alloc, &buffers, steps)?;
+    Some(charges == row.2 && are_fresh(alloc, &bridges, &fresh, steps)?)
+}
+
+fn not_kept_nested<L: Ledger>(alloc: Global, blank: Blank) -> Option<usize>
+    requires name { blank.name ≡ L.name }
+    requires parts { blank.parts ≡ L.parts }
+    requires whole { blank.parts ≡ 1 }
+{
+    let mut steps = Steps::<L>::new(blank);
+    for (i, row) in NESTED.iter().enumerate() {
+        if holds_nested(alloc, row, &mut steps) != Some(true) {
+            return Some(i);
+        }
+    }
+    None
 }
 
 fn not_kept_in_place<L: Ledger>(alloc: Global, blank: Blank) -> Option<usize>
@@ -342,4 +465,9 @@ fn not_kept_in_place<L: Ledger>(alloc: Global, blank: Blank) -> Option<usize>
 #[test]
 fn edits_in_place_reach_what_they_change(rt: HostRuntime) {
     assert_eq!(rt; not_kept_in_place::<Brand>(rt.alloc(), Blank::new(1)), None);
+}
+
+#[test]
+fn edits_of_nested_paragraphs_reach_their_parts(rt: HostRuntime) {
+    assert_eq!(rt; not_kept_nested::<Brand>(rt.alloc(), Blank::new(1)), None);
 }

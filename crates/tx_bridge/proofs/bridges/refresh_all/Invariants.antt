@@ -3,3 +3,4 @@ use Rattle.tx_bridge.proofs.bridges.refresh_all.Given as goal
 
 abbrev pub invariant-loop-i : goal.invariant-loop-i
 invariant-loop-i g l = Partway l.fn.bridges l.bridges l.i l.moment l.still l.fn.steps l.steps
+    l.charges

@@ -1,4 +1,4 @@
-use Rattle.tx_bridge.proofs.Handed.{gives_none, gives_both}
+use Rattle.tx_bridge.proofs.Handed.{gives_none, gives_read}
 use Rattle.tx_bridge.proofs.giving.give.Goals as goal
 
 pub returns-in-None : goal.returns-in-None
@@ -9,7 +9,6 @@ returns-in-None c = record {
 pub returns-in-Some : goal.returns-in-Some
 returns-in-Some c = record {
   given =
-      gives_both c.args.place.now c.args.i c.args.old.now c.args.new.now c.in-Some.j c.index-new-j.result
-      c.index-new-j-in-Some.result c.replace.result c.in-Some.ensures.within c.replace.ensures.value
-      c.in-Some.ensures.slot;
+      gives_read c.args.place.now c.args.i c.args.old.now c.args.new.now c.in-Some.j c.index-new-j.result
+      c.take.new.self c.in-Some.ensures.within c.take.ensures c.in-Some.ensures.slot;
 }

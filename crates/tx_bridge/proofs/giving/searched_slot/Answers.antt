@@ -1,5 +1,6 @@
 use Rattle.std.proofs.Common.{◌∙◌, sym, arith, slice_index_or}
 use Rattle.std.proofs.lemmas.Option.{slice_get-get_or}
+use Rattle.tx_bridge.specs.Carrying.{is_path}
 use Rattle.tx_bridge.proofs.Slotting.{slot_found, miss_more, miss_all}
 use Rattle.tx_bridge.proofs.giving.searched_slot.Goals as goal
 
@@ -12,8 +13,9 @@ returns-then-has_path-clause-slot c =
 
 pub loop-i-preserved : goal.loop-i-preserved
 loop-i-preserved c =
-    miss_more c.args.path.now c.args.new.now c.loop-i.i c.index-new-i.result c.loop-i.invariant (omega arith)
+    miss_more (λ b. is_path c.args.path.now b.unit.path) c.args.new.now c.loop-i.i c.index-new-i.result c.loop-i.invariant (omega arith)
     (sym c.has_path.ensures ∙ c.if-has_path.false)
 
 pub returns-clause-slot : goal.returns-clause-slot
-returns-clause-slot c = miss_all c.args.path.now c.args.new.now c.loop-i.i c.loop-i.invariant (omega arith)
+returns-clause-slot c =
+    miss_all (λ b. is_path c.args.path.now b.unit.path) c.args.new.now c.loop-i.i c.loop-i.invariant (omega arith)

@@ -2,7 +2,9 @@ use Rattle.std.proofs.Common.{◌≤◌, true, sym, ap, subst, ◌∙◌}
 use Rattle.tx_origin.specs.TaggedTrees.{tagged_of}
 use Rattle.tx_exec.specs.Outcomes.{wide_outcome}
 use Rattle.tx_view_form.specs.Outcomes.{Moment, charge, behind}
-use Rattle.tx_bridge.proofs.Used.{fits_is, charge_fits}
+use Rattle.tx_bridge.specs.HeldParts.{kept_parts}
+use Rattle.tx_bridge.proofs.ByParts.{spent_most}
+use Rattle.tx_bridge.proofs.Used.{fits_is, charge_fits, parts_fit}
 use Rattle.tx_bridge.specs.declared.bridge.Bridge.{Bridge}
 use Rattle.tx_bridge.proofs.bridge.Bridge.refresh.Goals as goal
 
@@ -28,6 +30,33 @@ returns-then-fits-clause-behind g c =
 
 pub go_behind-requires-2-clause-enough : goal.go_behind-requires-2-clause-enough
 go_behind-requires-2-clause-enough g c =
-    subst (λ (m : Moment). charge m (wide_outcome c.renew.new.self.kept) ≤ m.left) (sym c.in_ok-renew.ensures.moment)
+    subst (λ (m : Moment). charge m (wide_outcome c.renew.new.self.kept) ≤ m.left) (sym c.in_ok-charge.ensures.moment)
     (charge_fits c.trace_laws.ensures.allowed c.args.moment.now (wide_outcome c.renew.new.self.kept)
-    (tagged_of c.args.self.now.unit.tagged) c.in_ok-renew.ensures.fresh)
+    (tagged_of c.args.self.now.unit.tagged) c.in_ok-charge.ensures.fresh)
+
+pub returns-then-fits-clause-parts : goal.returns-then-fits-clause-parts
+returns-then-fits-clause-parts g c =
+    ap (λ (b : Bridge). kept_parts b.parts) c.leave.ensures
+    ∙ parts_fit c.args.moment.now (wide_outcome c.args.self.now.kept) c.args.self.now.unit
+    (kept_parts c.args.self.now.parts) (sym c.fits.ensures ∙ c.if-fits.true)
+    (fits_is c.args.moment.now (wide_outcome c.args.self.now.kept) (tagged_of c.args.self.now.unit.tagged)
+    c.requires.sound.holds (sym c.fits.ensures ∙ c.if-fits.true))
+    c.requires.sound.parts.all
+
+pub returns-then-silent-clause-most : goal.returns-then-silent-clause-most
+returns-then-silent-clause-most g c =
+    spent_most c.charges_law.ensures c.trace_laws.ensures.allowed c.args.moment.now c.go_behind-2.new.self
+    c.args.self.now.unit (kept_parts c.args.self.now.parts) c.in_ok-charge.charge c.requires.sound.placed
+    c.in_ok-charge.ensures.charge
+    (c.in_ok-go_behind-2.ensures.behind
+    ∙ ap (λ (m : Moment). behind m (wide_outcome c.renew.new.self.kept)) c.in_ok-charge.ensures.moment
+    ∙ ap (behind c.args.moment.now) c.in_ok-charge.ensures.fresh)
+
+pub returns-else-silent-clause-most : goal.returns-else-silent-clause-most
+returns-else-silent-clause-most g c =
+    spent_most c.charges_law.ensures c.trace_laws.ensures.allowed c.args.moment.now c.go_behind-2.new.self
+    c.args.self.now.unit (kept_parts c.args.self.now.parts) c.in_ok-charge.charge c.requires.sound.placed
+    c.in_ok-charge.ensures.charge
+    (c.in_ok-go_behind-2.ensures.behind
+    ∙ ap (λ (m : Moment). behind m (wide_outcome c.renew.new.self.kept)) c.in_ok-charge.ensures.moment
+    ∙ ap (behind c.args.moment.now) c.in_ok-charge.ensures.fresh)

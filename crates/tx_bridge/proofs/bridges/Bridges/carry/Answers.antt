@@ -1,6 +1,8 @@
-use Rattle.std.proofs.Common.{ap, refl}
-use Rattle.tx_bridge.specs.Names.{Carry, Sources}
-use Rattle.tx_bridge.proofs.Taking.{given_is, carry_sound, leads_of}
+use Rattle.std.proofs.Common.{ap, refl, ◌∙◌}
+use Rattle.tx_bridge.specs.CarryingParts.{carried_parts}
+use Rattle.tx_bridge.specs.Names.{Carry, CarryParts, Sources}
+use Rattle.tx_bridge.specs.Sound.{sources_in}
+use Rattle.tx_bridge.proofs.Taking.{given_is, given_parts_is, carry_sound, leads_of}
 use Rattle.tx_bridge.proofs.bridges.Bridges.carry.Goals as goal
 
 pub give_over-requires-clause-lead : goal.give_over-requires-clause-lead
@@ -14,6 +16,13 @@ returns-clause-carried g c =
     (given_is c.args.buffer c.args.mods.now c.args.before.now c.args.self.now.kept c.args.units.items
     c.self.inside.bridges.items c.give_over.new.bridges.items (ap (λ b. b.kept) c.self.view_is) c.self.invariant.sound
     c.requires.units c.in_ok-give_over.ensures.given).entries
+
+pub returns-clause-parts : goal.returns-clause-parts
+unfolding CarryParts
+returns-clause-parts g c =
+    given_parts_is c.args.buffer c.args.mods.now c.args.before.now c.args.units.items c.self.inside.bridges.items
+    c.give_over.new.bridges.items c.in_ok-give_over.ensures.given
+    ∙ ap (λ pss. carried_parts pss (sources_in c.give_over.new.bridges.items)) (ap (λ b. b.parts) c.self.view_is)
 
 pub returns-clause-sources : goal.returns-clause-sources
 unfolding Sources

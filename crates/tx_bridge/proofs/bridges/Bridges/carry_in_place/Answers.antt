@@ -1,26 +1,47 @@
-use Rattle.std.proofs.Common.{◌≡◌, ◌∙◌, ◌++◌, ◌<◌, length, take, drop, sym, ap, subst, arith}
+use Rattle.std.proofs.Common.{◌≡◌, ◌∙◌, ◌++◌, ◌<◌, length, take, drop, sym, ap, subst, arith, slice_index_or}
 use Rattle.std.proofs.lemmas.Grind.{common_steps}
+use Rattle.std.proofs.lemmas.List.Elements.{recursion_from_All}
+use Rattle.std.proofs.lemmas.Option.{slice_get-get_or}
 use Rattle.std.specs.Prelude.{slice_get}
-use Rattle.tx_bridge.specs.Names.{Carry, Sources}
-use Rattle.tx_bridge.specs.Sound.{changed_in}
-use Rattle.tx_bridge.proofs.Changing.{in_place, is_within, changed_right}
+use Rattle.tx_walk.specs.Walked.{IsTidy}
+use Rattle.tx_bridge.specs.Names.{Carry, CarryWithin, Sources}
+use Rattle.tx_bridge.specs.Slots.{bodies_of}
+use Rattle.tx_bridge.specs.Sound.{parts_in, changed_in}
+use Rattle.tx_bridge.proofs.Changing.{in_place, is_within, changed_right, changed_parts}
+use Rattle.tx_bridge.proofs.ChangedParts.{bodies_stand, within_hold, parts_but_is}
 use Rattle.tx_bridge.proofs.bridges.Bridges.carry_in_place.Goals as goal
 use Rattle.tx_bridge.proofs.bridges.Bridges.carry_in_place.Goals.{then-self, else-self}
 
+pub parts_of_changed-requires-clause-there : goal.parts_of_changed-requires-clause-there
+parts_of_changed-requires-clause-there g c =
+    subst (λ n. c.args.changed < n) (ap length (sym c.deref.ensures.value))
+    (is_within c.args.changed c.args.mods.now c.self.inside.bridges.items c.args.self.now.kept
+    (ap (λ b. b.kept) c.self.view_is) c.requires.changed)
+
+pub parts_of_changed-requires-clause-stand : goal.parts_of_changed-requires-clause-stand
+parts_of_changed-requires-clause-stand g c =
+    bodies_stand c.args.before.now c.self.inside.bridges.items c.deref.result.now c.args.self.now.kept
+    c.deref.ensures.value (ap (λ b. b.kept) c.self.view_is) c.requires.old
+
 pub change_one-silent-requires : goal.change_one-silent-requires
-change_one-silent-requires c =
+change_one-silent-requires g c =
     subst (λ n. c.args.changed < n) (ap length (sym c.deref_mut.ensures.value))
     (is_within c.args.changed c.args.mods.now c.self.inside.bridges.items c.args.self.now.kept
     (ap (λ b. b.kept) c.self.view_is) c.requires.changed)
 
 pub invariant_of-self : goal.invariant_of-self
-invariant_of-self c =
+invariant_of-self g c =
     let whole : take c.self.inside.bridges.len (c.change_one-silent.new.bridges
     ++ drop (length c.change_one-silent.new.bridges) c.self.inside.bridges.items) ≡ c.change_one-silent.new.bridges =
     grind (arith, common_steps) in
-    changed_right c.args.changed c.args.tree c.self.inside.bridges.items _ c.self.inside.settled c.if-self.self
+    changed_right c.args.changed c.args.tree c.in_ok-parts.parts c.self.inside.bridges.items _ c.self.inside.settled
+    c.if-self.self
     (whole ∙ c.change_one-silent.ensures.changed
-    ∙ ap (changed_in c.args.changed c.args.tree) c.deref_mut.ensures.value)
+    ∙ ap (changed_in c.args.changed c.args.tree c.in_ok-parts.parts) c.deref_mut.ensures.value)
+    (within_hold c.carried_list_law.ensures.same c.carried_law.ensures c.args.changed c.args.mods.now
+    c.args.before.now c.args.tree c.self.inside.bridges.items c.deref.result.now c.args.self.now.kept
+    c.deref.ensures.value (ap (λ b. b.kept) c.self.view_is) c.requires.applies c.self.invariant.sound c.requires.changed
+    c.requires.old c.requires.new c.in_ok-parts.parts c.in_ok-parts.ensures.tidy c.in_ok-parts.ensures.parts)
     c.self.invariant
     (λ e. elim c.if-self.branch [
       | then-self w ↦ (
@@ -33,57 +54,70 @@ invariant_of-self c =
 
 pub returns-clause-carried : goal.returns-clause-carried
 unfolding Carry
-returns-clause-carried c =
+returns-clause-carried g c =
     let whole : take c.self.inside.bridges.len (c.change_one-silent.new.bridges
     ++ drop (length c.change_one-silent.new.bridges) c.self.inside.bridges.items) ≡ c.change_one-silent.new.bridges =
     grind (arith, common_steps) in
-    (in_place c.args.changed c.args.mods.now c.args.before.now c.args.tree c.self.inside.bridges.items
-    c.requires.applies c.self.invariant.sound c.args.self.now.kept _ (ap (λ b. b.kept) c.self.view_is)
-    c.requires.units c.requires.changed
+    (in_place c.args.changed c.args.mods.now c.args.before.now c.args.tree c.in_ok-parts.parts
+    c.self.inside.bridges.items c.requires.applies c.self.invariant.sound c.args.self.now.kept _
+    (ap (λ b. b.kept) c.self.view_is) c.requires.units c.requires.changed
     (whole ∙ c.change_one-silent.ensures.changed
-    ∙ ap (changed_in c.args.changed c.args.tree) c.deref_mut.ensures.value)).entries
+    ∙ ap (changed_in c.args.changed c.args.tree c.in_ok-parts.parts) c.deref_mut.ensures.value)).entries
+
+pub returns-clause-parts : goal.returns-clause-parts
+unfolding CarryWithin
+returns-clause-parts g c =
+    let whole : take c.self.inside.bridges.len (c.change_one-silent.new.bridges
+    ++ drop (length c.change_one-silent.new.bridges) c.self.inside.bridges.items) ≡ c.change_one-silent.new.bridges =
+    grind (arith, common_steps) in
+    ap parts_in (whole ∙ c.change_one-silent.ensures.changed
+    ∙ ap (changed_in c.args.changed c.args.tree c.in_ok-parts.parts) c.deref_mut.ensures.value)
+    ∙ parts_but_is c.args.changed c.args.mods.now c.args.before.now c.args.tree c.self.inside.bridges.items
+    c.deref.result.now c.args.self.now.kept c.args.self.now.parts c.deref.ensures.value
+    (ap (λ b. b.kept) c.self.view_is) (ap (λ b. b.parts) c.self.view_is) c.in_ok-parts.parts
+    c.in_ok-parts.ensures.parts
 
 pub returns-clause-sources : goal.returns-clause-sources
 unfolding Sources
-returns-clause-sources c =
+returns-clause-sources g c =
     let whole : take c.self.inside.bridges.len (c.change_one-silent.new.bridges
     ++ drop (length c.change_one-silent.new.bridges) c.self.inside.bridges.items) ≡ c.change_one-silent.new.bridges =
     grind (arith, common_steps) in
-    (in_place c.args.changed c.args.mods.now c.args.before.now c.args.tree c.self.inside.bridges.items
-    c.requires.applies c.self.invariant.sound c.args.self.now.kept _ (ap (λ b. b.kept) c.self.view_is)
-    c.requires.units c.requires.changed
+    (in_place c.args.changed c.args.mods.now c.args.before.now c.args.tree c.in_ok-parts.parts
+    c.self.inside.bridges.items c.requires.applies c.self.invariant.sound c.args.self.now.kept _
+    (ap (λ b. b.kept) c.self.view_is) c.requires.units c.requires.changed
     (whole ∙ c.change_one-silent.ensures.changed
-    ∙ ap (changed_in c.args.changed c.args.tree) c.deref_mut.ensures.value)).sources
+    ∙ ap (changed_in c.args.changed c.args.tree c.in_ok-parts.parts) c.deref_mut.ensures.value)).sources
 
 pub returns-clause-once : goal.returns-clause-once
-returns-clause-once c =
+returns-clause-once g c =
     let whole : take c.self.inside.bridges.len (c.change_one-silent.new.bridges
     ++ drop (length c.change_one-silent.new.bridges) c.self.inside.bridges.items) ≡ c.change_one-silent.new.bridges =
     grind (arith, common_steps) in
-    (in_place c.args.changed c.args.mods.now c.args.before.now c.args.tree c.self.inside.bridges.items
-    c.requires.applies c.self.invariant.sound c.args.self.now.kept _ (ap (λ b. b.kept) c.self.view_is)
-    c.requires.units c.requires.changed
+    (in_place c.args.changed c.args.mods.now c.args.before.now c.args.tree c.in_ok-parts.parts
+    c.self.inside.bridges.items c.requires.applies c.self.invariant.sound c.args.self.now.kept _
+    (ap (λ b. b.kept) c.self.view_is) c.requires.units c.requires.changed
     (whole ∙ c.change_one-silent.ensures.changed
-    ∙ ap (changed_in c.args.changed c.args.tree) c.deref_mut.ensures.value)).once
+    ∙ ap (changed_in c.args.changed c.args.tree c.in_ok-parts.parts) c.deref_mut.ensures.value)).once
 
 pub returns-clause-numbers : goal.returns-clause-numbers
-returns-clause-numbers c =
+returns-clause-numbers g c =
     let whole : take c.self.inside.bridges.len (c.change_one-silent.new.bridges
     ++ drop (length c.change_one-silent.new.bridges) c.self.inside.bridges.items) ≡ c.change_one-silent.new.bridges =
     grind (arith, common_steps) in
-    (in_place c.args.changed c.args.mods.now c.args.before.now c.args.tree c.self.inside.bridges.items
-    c.requires.applies c.self.invariant.sound c.args.self.now.kept _ (ap (λ b. b.kept) c.self.view_is)
-    c.requires.units c.requires.changed
+    (in_place c.args.changed c.args.mods.now c.args.before.now c.args.tree c.in_ok-parts.parts
+    c.self.inside.bridges.items c.requires.applies c.self.invariant.sound c.args.self.now.kept _
+    (ap (λ b. b.kept) c.self.view_is) c.requires.units c.requires.changed
     (whole ∙ c.change_one-silent.ensures.changed
-    ∙ ap (changed_in c.args.changed c.args.tree) c.deref_mut.ensures.value)).numbers
+    ∙ ap (changed_in c.args.changed c.args.tree c.in_ok-parts.parts) c.deref_mut.ensures.value)).numbers
 
 pub returns-clause-units : goal.returns-clause-units
-returns-clause-units c =
+returns-clause-units g c =
     let whole : take c.self.inside.bridges.len (c.change_one-silent.new.bridges
     ++ drop (length c.change_one-silent.new.bridges) c.self.inside.bridges.items) ≡ c.change_one-silent.new.bridges =
     grind (arith, common_steps) in
-    (in_place c.args.changed c.args.mods.now c.args.before.now c.args.tree c.self.inside.bridges.items
-    c.requires.applies c.self.invariant.sound c.args.self.now.kept _ (ap (λ b. b.kept) c.self.view_is)
-    c.requires.units c.requires.changed
+    (in_place c.args.changed c.args.mods.now c.args.before.now c.args.tree c.in_ok-parts.parts
+    c.self.inside.bridges.items c.requires.applies c.self.invariant.sound c.args.self.now.kept _
+    (ap (λ b. b.kept) c.self.view_is) c.requires.units c.requires.changed
     (whole ∙ c.change_one-silent.ensures.changed
-    ∙ ap (changed_in c.args.changed c.args.tree) c.deref_mut.ensures.value)).units
+    ∙ ap (changed_in c.args.changed c.args.tree c.in_ok-parts.parts) c.deref_mut.ensures.value)).units

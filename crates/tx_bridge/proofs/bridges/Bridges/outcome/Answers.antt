@@ -3,7 +3,7 @@ use Rattle.std.proofs.lemmas.Option.{slice_get_read}
 use Rattle.std.specs.Option.{option_map}
 use Rattle.tx_bridge.specs.Entries.{Entry}
 use Rattle.tx_bridge.specs.Sound.{entry_of}
-use Rattle.tx_bridge.proofs.Arrived.{hold_all, entry_at}
+use Rattle.tx_bridge.proofs.Arrived.{hold_all, parts_hold_all, entry_at}
 use Rattle.tx_bridge.proofs.bridges.Bridges.outcome.Goals as goal
 
 pub returns-in-None-clause-holds : goal.returns-in-None-clause-holds
@@ -21,3 +21,13 @@ returns-in-Some-clause-found c =
 pub returns-in-Some-clause-holds : goal.returns-in-Some-clause-holds
 returns-in-Some-clause-holds c =
     hold_all c.self.inside.bridges.items c.args.self.now.kept (ap (λ b. b.kept) c.self.view_is) c.self.invariant.sound
+
+pub returns-in-None-clause-parts_hold : goal.returns-in-None-clause-parts_hold
+returns-in-None-clause-parts_hold c =
+    parts_hold_all c.self.inside.bridges.items c.args.self.now.kept c.args.self.now.parts
+    (ap (λ b. b.kept) c.self.view_is) (ap (λ b. b.parts) c.self.view_is) c.self.invariant.sound
+
+pub returns-in-Some-clause-parts_hold : goal.returns-in-Some-clause-parts_hold
+returns-in-Some-clause-parts_hold c =
+    parts_hold_all c.self.inside.bridges.items c.args.self.now.kept c.args.self.now.parts
+    (ap (λ b. b.kept) c.self.view_is) (ap (λ b. b.parts) c.self.view_is) c.self.invariant.sound

@@ -3,10 +3,11 @@ use Rattle.std.proofs.lemmas.Grind.{common_steps}
 use Rattle.std.specs.List.{All}
 use Rattle.std.specs.FinMap.{empty}
 use Rattle.tx_view_form.specs.Outcomes.{beginning}
-use Rattle.tx_bridge.specs.Names.{Fresh}
+use Rattle.tx_bridge.specs.Names.{Fresh, FreshParts}
 use Rattle.tx_bridge.specs.Entries.{units_of, fresh_from}
 use Rattle.tx_bridge.specs.Settled.{AreSettled}
-use Rattle.tx_bridge.specs.Sound.{IsSound, entries_of}
+use Rattle.tx_bridge.specs.Nested.{fresh_parts_from}
+use Rattle.tx_bridge.specs.Sound.{IsSound, entries_of, parts_in}
 use Rattle.tx_bridge.proofs.Partway.{any_err}
 use Rattle.tx_bridge.proofs.Used.{fresh_settled}
 use Rattle.tx_bridge.proofs.bridges.Bridges.refresh.Goals as goal
@@ -21,19 +22,27 @@ invariant_of-self g c =
       settled = λ e. let off : true ≡ false = sym e ∙ c.replace-settled.ensures.after in cc;
     }
 
-pub returns-in_err-refresh_all-clause-refused : goal.returns-in_err-refresh_all-clause-refused
-unfolding Fresh
-returns-in_err-refresh_all-clause-refused g c =
+pub returns-in_err-charges-clause-refused : goal.returns-in_err-charges-clause-refused
+unfolding Fresh FreshParts
+returns-in_err-charges-clause-refused g c =
     let whole : take c.self.inside.bridges.len (c.refresh_all.new.bridges
     ++ drop (length c.refresh_all.new.bridges) c.self.inside.bridges.items) ≡ c.refresh_all.new.bridges =
     grind (arith, common_steps) in
     let was : entries_of c.deref_mut.result.now ≡ c.args.self.now.kept =
     ap entries_of c.deref_mut.ensures.value ∙ ap (λ b. b.kept) c.self.view_is in
+    let had : parts_in c.deref_mut.result.now ≡ c.args.self.now.parts =
+    ap parts_in c.deref_mut.ensures.value ∙ ap (λ b. b.parts) c.self.view_is in
     any_err c.from_residual.result (
-      c.in_err-refresh_all.ensures.refused.0,
-      ap entries_of whole ∙ c.in_err-refresh_all.ensures.refused.1
-          ∙ ap (λ es. take c.in_err-refresh_all.ensures.refused.0 (fresh_from beginning (units_of es))
-          ++ drop c.in_err-refresh_all.ensures.refused.0 es) was,
+      c.in_err-charges.ensures.refused.0,
+      ap entries_of whole ∙ c.in_err-charges.ensures.refused.1
+          ∙ ap (λ es. take c.in_err-charges.ensures.refused.0 (fresh_from beginning (units_of es))
+          ++ drop c.in_err-charges.ensures.refused.0 es) was,
+      ap parts_in whole ∙ c.in_err-charges.ensures.refused.2
+          ∙ ap (λ es. take c.in_err-charges.ensures.refused.0 (fresh_parts_from beginning (units_of es))
+          ++ drop c.in_err-charges.ensures.refused.0 (parts_in c.deref_mut.result.now)) was
+          ∙ ap (λ pss. take c.in_err-charges.ensures.refused.0
+          (fresh_parts_from beginning (units_of c.args.self.now.kept))
+          ++ drop c.in_err-charges.ensures.refused.0 pss) had,
     )
 
 pub invariant_of-self-2 : goal.invariant_of-self-2
@@ -42,8 +51,8 @@ invariant_of-self-2 g c =
     ++ drop (length c.refresh_all.new.bridges) c.self.inside.bridges.items) ≡ c.refresh_all.new.bridges =
     grind (arith, common_steps) in
     record {
-      sound = subst (All IsSound) (sym whole) c.in_ok-refresh_all.ensures.sound;
+      sound = subst (All IsSound) (sym whole) c.in_ok-charges.ensures.sound;
       settled = λ e.
-          subst (AreSettled empty) (sym (ap entries_of whole ∙ c.in_ok-refresh_all.ensures.fresh))
+          subst (AreSettled empty) (sym (ap entries_of whole ∙ c.in_ok-charges.ensures.fresh))
           (fresh_settled c.trace_laws.ensures.agrees beginning (units_of (entries_of c.deref_mut.result.now)));
     }

@@ -1,4 +1,4 @@
-use Rattle.tx_bridge.specs.Names.{Empty}
+use Rattle.tx_bridge.specs.Names.{Empty, EmptyParts}
 use Rattle.tx_bridge.proofs.Arrived.{started}
 use Rattle.tx_bridge.proofs.bridges.Bridges.start.Goals as goal
 
@@ -22,3 +22,8 @@ returns-clause-units c =
 pub returns-clause-sources : goal.returns-clause-sources
 returns-clause-sources c =
     (started c.in_ok-bridges_of.field-0.items c.args.units.items c.in_ok-bridges_of.ensures c.requires.units.placed).3
+
+pub returns-clause-parts : goal.returns-clause-parts
+unfolding EmptyParts
+returns-clause-parts c =
+    (started c.in_ok-bridges_of.field-0.items c.args.units.items c.in_ok-bridges_of.ensures c.requires.units.placed).4

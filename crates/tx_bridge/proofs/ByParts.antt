@@ -1,0 +1,274 @@
+-- A unit that is evaluated by its parts.
+use Rattle.std.proofs.Common.{arith, ◌-◌}
+use Rattle.std.proofs.Common.{◌≡◌, ℕ, ◌+◌, ◌≤◌, List, [], ◌∷◌, ◌++◌, map, Option, Some, None, refl, ap, sym, ◌∙◌, subst}
+use Rattle.std.proofs.lemmas.Slice.Eq.{bytes_eq-Decides}
+use Rattle.std.proofs.lemmas.List.Elements.{All-from_recursion}
+use Rattle.std.proofs.lemmas.List.Sums.{sum_by-cons}
+use Rattle.std.specs.Prelude.{Bool, true, false, is_some, ◌&&◌, if◌then◌else◌, min}
+use Rattle.std.specs.Option.{option_map}
+use Rattle.std.specs.List.{All, AllByRecursion, IsDistinct, sum_by}
+use Rattle.std.specs.FinMap.{get}
+use Rattle.std.specs.Str.{bytes_eq}
+use Rattle.tx_tree.specs.WideTree.{WideTree}
+use Rattle.tx_tree.specs.Paths.{subtree}
+use Rattle.tx_env.specs.Environments.{NameMap}
+use Rattle.tx_origin.specs.TaggedTrees.{TaggedTree, tagged_of}
+use Rattle.tx_exec_form.specs.declared.TheConstants.{MOST_LEVELS}
+use Rattle.tx_exec_form.specs.Runs.{Before}
+use Rattle.tx_exec_form.specs.Evaluated.{WideTrace, evaluated_in, paid}
+use Rattle.tx_exec_form.specs.Laws.{Agrees, Supports}
+use Rattle.tx_exec.specs.Outcomes.{wide_trace}
+use Rattle.tx_parts.specs.Composed.{alone, evaluates}
+use Rattle.tx_parts.specs.Openness.{openness}
+use Rattle.tx_parts.specs.Parts.{Part, parts, part_trace, part_cost, Stored, stored}
+use Rattle.tx_parts.specs.Standing.{StandsIn}
+use Rattle.tx_walk.specs.declared.part.Part.{Part as DonePart}
+use Rattle.tx_walk.specs.Held.{Store, IsSound, fits, is_held, charge_of, charges}
+use Rattle.tx_walk.specs.Open.{is_open}
+use Rattle.tx_walk.specs.Walked.{IsTidy, kept_in, paths_of, Seen, seen, seen_in, seen_parts}
+use Rattle.tx_units.specs.declared.kinds.Unit.{Unit as DocUnit}
+use Rattle.tx_view_form.specs.declared.TheConstants.{MOST_UNIT_STEPS}
+use Rattle.tx_view_form.specs.Outcomes.{Moment, allowance, outcome, charge, behind}
+use Rattle.tx_bridge.specs.Entries.{outcome_of}
+use Rattle.tx_bridge.specs.Nested.{KeptParts, kept_at, is_nested, unit_parts, parts_if_done, fresh_parts, unit_charge}
+use Rattle.tx_bridge.specs.HeldParts.{HoldsPart, PartsHold, AreItsParts, kept_part, kept_parts}
+use Rattle.tx_bridge.specs.UnitLists.{IsPlaced}
+use Rattle.tx_walk.proofs.Trees.{both}
+use Rattle.tx_bridge.proofs.Used.{AllSupport, AllAllowed, charge_fits}
+
+-- ---- what a walk asks for
+
+one_kept : (t : WideTree) (p : DonePart) (r : Option WideTrace) (below : List ℕ) (u : WideTree) (trace : WideTrace)
+    (b : Bool) → bytes_eq p.path below ≡ b → HoldsPart t p → subtree t below ≡ Some u
+    → (r ≡ Some trace → Supports trace (alone u))
+    → (if b then Some (wide_trace p.trace) else r) ≡ Some trace → Supports trace (alone u)
+one_kept t p r below u trace true at h leads later is =
+    let path : p.path ≡ below = (bytes_eq-Decides p.path below).0 at in
+    let both : Some h.there ≡ Some u = sym h.leads ∙ ap (subtree t) path ∙ leads in
+    let tree : h.there ≡ u = cc in
+    let same : wide_trace p.trace ≡ trace = cc in
+    subst (λ w. Supports w (alone u)) same (subst (λ v. Supports (wide_trace p.trace) (alone v)) tree h.supports)
+one_kept t p r below u trace false at h leads later is = later is
+
+each_kept : (t : WideTree) (ps : List DonePart) (below : List ℕ) (u : WideTree) (trace : WideTrace)
+    → AllByRecursion (HoldsPart t) ps → subtree t below ≡ Some u → kept_in ps below ≡ Some trace
+    → Supports trace (alone u)
+each_kept t [] below u trace h leads is = cc
+each_kept t (p ∷ ps) below u trace h leads is =
+    one_kept t p (kept_in ps below) below u trace (bytes_eq p.path below) refl h.0 leads
+    (each_kept t ps below u trace h.1 leads) is
+
+pub sound_of : (t : WideTree) (ps : List DonePart) → AllByRecursion (HoldsPart t) ps → IsSound (kept_in ps) [] t
+sound_of t ps h = record { holds = λ below u trace leads is. each_kept t ps below u trace h leads is }
+
+tidy_by : (t : WideTree) (ps : List DonePart) → AllByRecursion (HoldsPart t) ps → AllByRecursion IsTidy ps
+tidy_by t [] h = tt
+tidy_by t (p ∷ ps) h = (h.0.tidy, tidy_by t ps h.1)
+
+pub tidy_of : (t : WideTree) (ps : List DonePart) → AllByRecursion (HoldsPart t) ps → All IsTidy ps
+tidy_of t ps h = All-from_recursion IsTidy ps (tidy_by t ps h)
+
+-- ---- what it is charged
+
+same_store : (ps : List DonePart) (path : List ℕ) → kept_in ps path ≡ kept_at (kept_parts ps) path
+same_store [] path = refl
+same_store (p ∷ ps) path = ap (λ r. if bytes_eq p.path path then Some (wide_trace p.trace) else r) (same_store ps path)
+
+charges_alike : (s r : Store) → ((path : List ℕ) → s path ≡ r path) → (ps : List Part) → charges s ps ≡ charges r ps
+charges_alike s r h [] = refl
+charges_alike s r h (p ∷ ps) =
+    sum_by-cons (charge_of s) p ps
+    ∙ ap (λ o. (if fits p.before o then 0 else part_cost p) + charges s ps) (h p.path)
+    ∙ ap (λ n. charge_of r p + n) (charges_alike s r h ps)
+    ∙ sym (sum_by-cons (charge_of r) p ps)
+
+pub same_charges : (ks : List DonePart) (ps : List Part) → charges (kept_in ks) ps ≡ charges (kept_at (kept_parts ks)) ps
+same_charges ks ps = charges_alike (kept_in ks) (kept_at (kept_parts ks)) (same_store ks) ps
+
+-- ---- what it answers
+
+abbrev of_seen : Seen → Stored
+of_seen s = record { path = s.path; trace = s.trace }
+
+kept_of_seen : (ds : List DonePart) → map of_seen (map seen ds) ≡ kept_parts ds
+kept_of_seen [] = refl
+kept_of_seen (d ∷ ds) = ap (λ ks. kept_part d ∷ ks) (kept_of_seen ds)
+
+stored_of_seen : (kept : Store) (ps : List Part) → map of_seen (map (seen_in kept) ps) ≡ map stored ps
+stored_of_seen kept [] = refl
+stored_of_seen kept (p ∷ ps) = ap (λ ks. stored p ∷ ks) (stored_of_seen kept ps)
+
+done_of_seen : (kept : Store) (ps : List Part) (o : Option WideTrace)
+    → map of_seen (seen_parts kept ps o) ≡ parts_if_done o ps
+done_of_seen kept ps None = refl
+done_of_seen kept ps (Some trace) = stored_of_seen kept ps
+
+pub walked_parts : (kept : Store) (ds : List DonePart) (ps : List Part) (o : Option WideTrace)
+    → map seen ds ≡ seen_parts kept ps o → kept_parts ds ≡ parts_if_done o ps
+walked_parts kept ds ps o h = sym (kept_of_seen ds) ∙ ap (map of_seen) h ∙ done_of_seen kept ps o
+
+-- ---- what is true of it
+
+none_walked : (ds : List DonePart) → map seen ds ≡ [] → ds ≡ []
+none_walked [] h = refl
+none_walked (d ∷ ds) h = cc
+
+record Alike (kept : Store) (d : DonePart) (ds : List DonePart) (p : Part) (ps : List Part) : Type 0 where
+  pub path : d.path ≡ p.path
+  pub trace : Some (wide_trace d.trace) ≡ part_trace p
+  pub others : map seen ds ≡ map (seen_in kept) ps
+
+alike : (kept : Store) (d : DonePart) (ds : List DonePart) (p : Part) (ps : List Part)
+    → map seen (d ∷ ds) ≡ map (seen_in kept) (p ∷ ps) → Alike kept d ds p ps
+alike kept d ds p ps h = record {
+  path = ap (λ ss. (head (seen d) ss).path) h;
+  trace = ap (λ ss. (head (seen d) ss).trace) h;
+  others = ap tail h;
+}
+  where
+    head : Seen → List Seen → Seen
+    head s [] = s
+    head s (x ∷ xs) = x
+
+    tail : List Seen → List Seen
+    tail [] = []
+    tail (x ∷ xs) = xs
+
+holds_one : AllSupport → (t : WideTree) (d : DonePart) (p : Part) → StandsIn [] t p → d.path ≡ p.path
+    → Some (wide_trace d.trace) ≡ part_trace p → IsTidy d → HoldsPart t d
+holds_one support t d p stands path trace tidy = record {
+  there = p.tree;
+  leads = ap (subtree t) (path ∙ stands.path_is) ∙ stands.leads;
+  supports = support p.levels p.steps (alone p.tree) p.before (wide_trace d.trace) (sym trace);
+  tidy = tidy;
+}
+
+holds_each : AllSupport → (kept : Store) (t : WideTree) (ds : List DonePart) (ps : List Part)
+    → map seen ds ≡ map (seen_in kept) ps → AllByRecursion (StandsIn [] t) ps → AllByRecursion IsTidy ds
+    → AllByRecursion (HoldsPart t) ds
+holds_each support kept t [] ps h stand tidy = tt
+holds_each support kept t (d ∷ ds) [] h stand tidy = cc
+holds_each support kept t (d ∷ ds) (p ∷ ps) h stand tidy =
+    let a : Alike kept d ds p ps = alike kept d ds p ps h in (
+      holds_one support t d p stand.0 a.path a.trace tidy.0,
+      holds_each support kept t ds ps a.others stand.1 tidy.1,
+    )
+
+-- laws of parts, as the calls state them
+abbrev AllStandIn : Type 0
+AllStandIn = (k c : ℕ) (path : List ℕ) (t : WideTree) (e : Before) → AllByRecursion (StandsIn path t) (parts k c path t e)
+
+abbrev AllApart : Type 0
+AllApart = (kept : Store) (k c : ℕ) (t : WideTree) (e : Before) (done : List DonePart)
+    → map seen done ≡ map (seen_in kept) (parts k c [] t e) → IsDistinct bytes_eq (paths_of done)
+
+abbrev AllSameStored : Type 0
+AllSameStored = (k c n : ℕ) (path : List ℕ) (t : WideTree) (e d : Before) (trace : WideTrace)
+    → evaluates k c t e ≡ Some trace → Agrees d trace.looks → trace.cost ≤ n
+    → map stored (parts k n path t d) ≡ map stored (parts k c path t e)
+
+module _ (support : AllSupport) (stand : AllStandIn) (apart : AllApart) (same : AllSameStored) (kept : Store) (c : ℕ)
+    (e : Before) (u : DocUnit) (nested : is_nested u ≡ true) (ds : List DonePart) (tidy : AllByRecursion IsTidy ds) where
+  pub walked_hold : (o : Option WideTrace) → o ≡ evaluates MOST_LEVELS c u.tagged.tree e
+      → map seen ds ≡ seen_parts kept (parts MOST_LEVELS c [] u.tagged.tree e) o → PartsHold u o ds
+  unfolding IsDistinct
+  walked_hold None is h =
+      let none : [] ≡ ds = sym (none_walked ds h) in
+      subst (PartsHold u None) none (record { hold = tt; distinct = tt; all = tt })
+  walked_hold (Some trace) is h = record {
+    hold = holds_each support kept u.tagged.tree ds (parts MOST_LEVELS c [] u.tagged.tree e) h
+        (stand MOST_LEVELS c [] u.tagged.tree e) tidy;
+    distinct = apart kept MOST_LEVELS c u.tagged.tree e ds h;
+    all = λ n d agrees allowed.
+        ap (λ b. if b then map stored (parts MOST_LEVELS n [] u.tagged.tree d) else []) nested
+        ∙ same MOST_LEVELS c n [] u.tagged.tree e d trace (sym is) agrees allowed
+        ∙ sym (walked_parts kept ds (parts MOST_LEVELS c [] u.tagged.tree e) (Some trace) h);
+  }
+
+-- ---- at a moment
+
+rooted : (o : Option (List ℕ)) → is_some o ≡ true → option_map {U = List ℕ} (λ _. []) o ≡ Some []
+rooted None h = cc
+rooted (Some p) h = refl
+
+abbrev tagged_at : WideTree → Option (List ℕ) → TaggedTree
+tagged_at t at = record { tree = t; at = at }
+
+pub is_alone : (u : DocUnit) → IsPlaced u → is_nested u ≡ true → tagged_of u.tagged ≡ alone u.tagged.tree
+is_alone u placed nested =
+    ap (tagged_at u.tagged.tree)
+    (placed.origin ∙ rooted u.path (both (is_some u.path) (is_open (openness u.tagged.tree)) nested).0)
+
+module _ (u : DocUnit) (m : Moment) (env : NameMap) (left a : ℕ)
+    (view : record { env = env; left = left } ≡ m) (is_a : a ≡ min MOST_UNIT_STEPS left) where
+  allowed_is : a ≡ allowance m
+  allowed_is = is_a ∙ ap (λ (k : Moment). allowance k) view
+
+  names_are : get env ≡ get m.env
+  names_are = ap (λ (k : Moment). get k.env) view
+
+  pub parts_there : parts MOST_LEVELS a [] u.tagged.tree (get env) ≡ unit_parts m u
+  parts_there =
+      ap (λ n. parts MOST_LEVELS n [] u.tagged.tree (get env)) allowed_is
+      ∙ ap (parts MOST_LEVELS (allowance m) [] u.tagged.tree) names_are
+
+  pub outcome_there : IsPlaced u → is_nested u ≡ true
+      → evaluates MOST_LEVELS a u.tagged.tree (get env) ≡ outcome_of m u
+  unfolding outcome
+  outcome_there placed nested =
+      ap (λ n. evaluates MOST_LEVELS n u.tagged.tree (get env)) allowed_is
+      ∙ ap (evaluates MOST_LEVELS (allowance m) u.tagged.tree) names_are
+      ∙ ap (λ t. evaluated_in MOST_LEVELS (allowance m) t (get m.env)) (sym (is_alone u placed nested))
+
+  pub fresh_there : (kept : Store) (ds : List DonePart) (o : Option WideTrace) → is_nested u ≡ true → o ≡ outcome_of m u
+      → map seen ds ≡ seen_parts kept (parts MOST_LEVELS a [] u.tagged.tree (get env)) o
+      → kept_parts ds ≡ fresh_parts m u
+  fresh_there kept ds o nested is h =
+      walked_parts kept ds (parts MOST_LEVELS a [] u.tagged.tree (get env)) o h
+      ∙ ap (parts_if_done o) parts_there
+      ∙ ap (λ r. parts_if_done r (unit_parts m u)) is
+      ∙ sym (ap (λ b. if b then parts_if_done (outcome_of m u) (unit_parts m u) else []) nested)
+
+  pub charge_there : (ks : List DonePart) → is_nested u ≡ true
+      → charges (kept_in ks) (parts MOST_LEVELS a [] u.tagged.tree (get env)) ≡ unit_charge m u (kept_parts ks)
+  charge_there ks nested =
+      ap (charges (kept_in ks)) parts_there ∙ same_charges ks (unit_parts m u)
+      ∙ sym (ap (λ b. if b then charges (kept_at (kept_parts ks)) (unit_parts m u) else charge m (outcome_of m u)) nested)
+
+-- ---- no more than the unit costs
+
+-- the law, as the call states it
+abbrev pub AllCharged : Type 0
+AllCharged = (kept : Store) (k c : ℕ) (path : List ℕ) (t : WideTree) (e : Before)
+    → charges kept (parts k c path t e) ≤ paid c (evaluates k c t e)
+
+charge_most : AllCharged → (m : Moment) (u : DocUnit) (ks : KeptParts) → IsPlaced u
+    → unit_charge m u ks ≤ charge m (outcome_of m u)
+unfolding outcome
+charge_most law m u ks placed = by (is_nested u) refl
+  where
+    by : (b : Bool) → is_nested u ≡ b → unit_charge m u ks ≤ charge m (outcome_of m u)
+    by true nested =
+        let is : unit_charge m u ks ≡ charges (kept_at ks) (unit_parts m u) =
+        ap (λ b. if b then charges (kept_at ks) (unit_parts m u) else charge m (outcome_of m u)) nested in
+        let most : charges (kept_at ks) (unit_parts m u)
+        ≤ paid (allowance m) (evaluates MOST_LEVELS (allowance m) u.tagged.tree (get m.env)) =
+        law (kept_at ks) MOST_LEVELS (allowance m) [] u.tagged.tree (get m.env) in
+        let same : paid (allowance m) (evaluates MOST_LEVELS (allowance m) u.tagged.tree (get m.env))
+        ≡ charge m (outcome_of m u) =
+        ap (λ t. paid (allowance m) (evaluated_in MOST_LEVELS (allowance m) t (get m.env)))
+        (sym (is_alone u placed nested)) in
+        omega (arith, is, most, same)
+    by false other =
+        let is : unit_charge m u ks ≡ charge m (outcome_of m u) =
+        ap (λ b. if b then charges (kept_at ks) (unit_parts m u) else charge m (outcome_of m u)) other in
+        omega (arith, is)
+
+pub spent_most : AllCharged → AllAllowed → (m after : Moment) (u : DocUnit) (ks : KeptParts) (n : ℕ) → IsPlaced u
+    → n ≡ unit_charge m u ks → after ≡ behind m (outcome_of m u) → n + after.left ≤ m.left
+spent_most law allowed m after u ks n placed is at =
+    let most : unit_charge m u ks ≤ charge m (outcome_of m u) = charge_most law m u ks placed in
+    let enough : charge m (outcome_of m u) ≤ m.left =
+    charge_fits allowed m (outcome_of m u) (tagged_of u.tagged) refl in
+    let left : after.left ≡ m.left - charge m (outcome_of m u) = ap (λ (k : Moment). k.left) at in
+    omega (arith, most, enough, left, is)

@@ -1,0 +1,147 @@
+-- What is kept of the parts of the unit that changes.
+use Rattle.std.proofs.Common.{◌≡◌, ℕ, zero, suc, List, [], ◌∷◌, Option, Some, None, refl, ap}
+use Rattle.std.proofs.Common.{sym, ◌∙◌, subst}
+use Rattle.std.proofs.lemmas.List.Elements.{recursion_from_All}
+use Rattle.std.proofs.lemmas.Option.{same_Some}
+use Rattle.std.specs.List.{All, AllByRecursion, IsDistinct}
+use Rattle.std.specs.Option.{option_map_or}
+use Rattle.std.specs.Prelude.{slice_get}
+use Rattle.tx_tree.specs.WideTree.{WideTree}
+use Rattle.tx_tree.specs.Paths.{subtree}
+use Rattle.tx_mod.specs.declared.mods.Mod.{Mod}
+use Rattle.tx_mod.specs.Followed.{CarriesSubtree, CarriesThroughAll, changed_by_all}
+use Rattle.tx_units.specs.declared.kinds.Unit.{Unit as DocUnit}
+use Rattle.tx_walk.specs.declared.part.Part.{Part as DonePart}
+use Rattle.tx_walk.specs.Walked.{IsTidy}
+use Rattle.tx_bridge.specs.declared.bridge.Bridge.{Bridge}
+use Rattle.tx_bridge.specs.Entries.{Kept, units_of}
+use Rattle.tx_bridge.specs.Nested.{KeptParts}
+use Rattle.tx_bridge.specs.InPlace.{IsOneChanged}
+use Rattle.tx_bridge.specs.Sound.{IsSound, entries_of, parts_in, changed_in}
+use Rattle.tx_bridge.specs.Carrying.{AllStand, StandsNow}
+use Rattle.tx_bridge.specs.Slots.{bodies_of}
+use Rattle.tx_bridge.specs.HeldParts.{HoldsPart, kept_parts}
+use Rattle.tx_bridge.specs.CarryingParts.{parts_behind, parts_within, parts_but}
+use Rattle.tx_bridge.proofs.Slotting.{some_once}
+use Rattle.tx_bridge.proofs.Arrived.{units_bodies}
+use Rattle.tx_bridge.proofs.Single.{body_at as unit_at}
+use Rattle.tx_bridge.proofs.Changing.{AllHoldIn, changed_parts}
+use Rattle.tx_bridge.proofs.WithinUnit.{parts_hold_behind}
+
+-- where the unit's tree stands
+old_stands : (t : WideTree) (i : ℕ) (us : List DocUnit) → AllStand t us → (u : DocUnit) → slice_get us i ≡ Some u
+    → (p : List ℕ) → u.path ≡ Some p → subtree t p ≡ Some u.tagged.tree
+old_stands t i [] h u e p has = cc
+old_stands t zero (x ∷ us) h u e p has =
+    let same : x ≡ u = same_Some x u e in
+    h.0 p (ap (λ (w : DocUnit). w.path) same ∙ has) ∙ ap (λ (w : DocUnit). Some w.tagged.tree) same
+old_stands t (suc i) (x ∷ us) h u e p has = old_stands t i us h.1 u e p has
+
+sound_at : (bs : List Bridge) → AllByRecursion IsSound bs → (i : ℕ) (b : Bridge) → slice_get bs i ≡ Some b → IsSound b
+sound_at [] h i b e = cc
+sound_at (x ∷ bs) h zero b e = subst IsSound (same_Some x b e) h.0
+sound_at (x ∷ bs) h (suc i) b e = sound_at bs h.1 i b e
+
+body_at : (bs : List Bridge) (i : ℕ) (b : Bridge) → slice_get bs i ≡ Some b → slice_get (bodies_of bs) i ≡ Some b.unit
+body_at [] i b e = cc
+body_at (x ∷ bs) zero b e = ap Some (ap (λ (w : Bridge). w.unit) (same_Some x b e))
+body_at (x ∷ bs) (suc i) b e = body_at bs i b e
+
+-- what calls ask for, and answer
+
+bodies_are : (bs : List Bridge) (kept : Kept) → entries_of bs ≡ kept → units_of kept ≡ bodies_of bs
+bodies_are bs kept was = sym (ap units_of was) ∙ units_bodies bs
+
+pub bodies_stand : (t : WideTree) (bs read : List Bridge) (kept : Kept) → read ≡ bs → entries_of bs ≡ kept
+    → AllStand t (units_of kept) → AllStand t (bodies_of read)
+bodies_stand t bs read kept is was h =
+    subst (AllStand t) (bodies_are bs kept was ∙ ap bodies_of (sym is)) h
+
+-- the unit of this number stands in the tree, and its parts hold
+pub stands_for : (t : WideTree) (bs : List Bridge) → AllStand t (bodies_of bs) → All IsSound bs → (i : ℕ) (b : Bridge)
+    → slice_get bs i ≡ Some b → (p : List ℕ) → b.unit.path ≡ Some p → (ps : List DonePart) → ps ≡ b.parts
+    → (x : WideTree) × (subtree t p ≡ Some x) × AllByRecursion (HoldsPart x) ps
+stands_for t bs stand sound i b at p has ps is =
+    let s : IsSound b = sound_at bs (recursion_from_All IsSound bs sound) i b at in (
+      b.unit.tagged.tree,
+      old_stands t i (bodies_of bs) stand b.unit (body_at bs i b at) p has,
+      subst (AllByRecursion (HoldsPart b.unit.tagged.tree)) (sym is) s.parts.hold,
+    )
+
+pub within_none : (ms : List Mod) (t : WideTree) (bs : List Bridge) (i : ℕ) (b : Bridge) → slice_get bs i ≡ Some b
+    → b.unit.path ≡ None → (qs : List DonePart) → qs ≡ [] → (c : Bridge) → slice_get bs i ≡ Some c
+    → kept_parts qs ≡ parts_within ms t c.unit (kept_parts c.parts)
+within_none ms t bs i b at none qs is c there =
+    ap kept_parts is
+    ∙ sym (ap (λ o. option_map_or (λ p. parts_behind ms t p (kept_parts c.parts)) o [])
+    (ap (λ (w : Bridge). w.unit.path) (some_once (slice_get bs i) c b there at) ∙ none))
+
+pub within_some : (ms : List Mod) (t : WideTree) (bs : List Bridge) (i : ℕ) (b : Bridge) → slice_get bs i ≡ Some b
+    → (p : List ℕ) → b.unit.path ≡ Some p → (ps : List DonePart) → ps ≡ b.parts → (qs : List DonePart)
+    → kept_parts qs ≡ parts_behind ms t p (kept_parts ps) → (c : Bridge) → slice_get bs i ≡ Some c
+    → kept_parts qs ≡ parts_within ms t c.unit (kept_parts c.parts)
+within_some ms t bs i b at p has ps is qs behind c there =
+    let same : c ≡ b = some_once (slice_get bs i) c b there at in
+    behind
+    ∙ ap (λ xs. parts_behind ms t p (kept_parts xs)) (is ∙ ap (λ (w : Bridge). w.parts) (sym same))
+    ∙ sym (ap (λ o. option_map_or (λ q. parts_behind ms t q (kept_parts c.parts)) o [])
+    (ap (λ (w : Bridge). w.unit.path) same ∙ has))
+
+none_kept : (ps : List DonePart) → kept_parts ps ≡ [] → ps ≡ []
+none_kept [] h = refl
+none_kept (p ∷ ps) h = cc
+
+module _ (through : (ms : List Mod) (t : WideTree) (q : List ℕ) → CarriesThroughAll ms t q)
+    (carries : (m : Mod) (t : WideTree) (q : List ℕ) → CarriesSubtree m t q) (i : ℕ) (ms : List Mod)
+    (before v t : WideTree) (made : changed_by_all ms before ≡ Some v) (bs : List Bridge) (sound : All IsSound bs)
+    (old : AllStand before (bodies_of bs)) (new : StandsNow i t v (bodies_of bs)) where
+  hold_at : (b : Bridge) → slice_get bs i ≡ Some b → (ps : List DonePart) → AllByRecursion IsTidy ps
+      → (o : Option (List ℕ)) → b.unit.path ≡ o
+      → kept_parts ps ≡ option_map_or (λ p. parts_behind ms before p (kept_parts b.parts)) o [] → AllHoldIn t ps
+  unfolding IsDistinct
+  hold_at b at ps once None e is = subst (AllHoldIn t) (sym (none_kept ps is)) (tt, tt)
+  hold_at b at ps once (Some p) e is =
+      let s : IsSound b = sound_at bs (recursion_from_All IsSound bs sound) i b at in
+      parts_hold_behind ms before v p b.unit.tagged.tree t b.parts ps (through ms before) carries made
+      (old_stands before i (bodies_of bs) old b.unit (body_at bs i b at) p e)
+      (new b.unit p (body_at bs i b at) e) s.parts.hold s.parts.distinct is once
+
+  pub hold_changed : (b : Bridge) → slice_get bs i ≡ Some b → (ps : List DonePart) → AllByRecursion IsTidy ps
+      → kept_parts ps ≡ parts_within ms before b.unit (kept_parts b.parts) → AllHoldIn t ps
+  hold_changed b at ps once is = hold_at b at ps once b.unit.path refl is
+
+-- the premises are what the calls ask for, and what they ensure
+
+-- what is answered for the unit of number i
+abbrev Answers : ℕ → List Mod → WideTree → List Bridge → List DonePart → Type 0
+Answers i ms before bs ps =
+    (b : Bridge) → slice_get bs i ≡ Some b → kept_parts ps ≡ parts_within ms before b.unit (kept_parts b.parts)
+
+one_there : (i : ℕ) (ms : List Mod) (bs : List Bridge) → IsOneChanged i 0 ms (bodies_of bs)
+    → (b : Bridge) × (slice_get bs i ≡ Some b)
+one_there i ms bs one =
+    let x : (b : Bridge) × (slice_get bs i ≡ Some b) × (b.unit ≡ one.unit) = unit_at bs i one.unit one.there in
+    (x.0, x.1)
+
+pub within_hold : ((ms : List Mod) (t : WideTree) (q : List ℕ) → CarriesThroughAll ms t q)
+    → ((m : Mod) (t : WideTree) (q : List ℕ) → CarriesSubtree m t q) → (i : ℕ) (ms : List Mod) (before t : WideTree)
+    (bs read : List Bridge) (kept : Kept) → read ≡ bs → entries_of bs ≡ kept
+    → ((u : WideTree) × (changed_by_all ms before ≡ Some u)) → All IsSound bs → IsOneChanged i 0 ms (units_of kept)
+    → AllStand before (units_of kept)
+    → ((u : WideTree) → changed_by_all ms before ≡ Some u → StandsNow i t u (units_of kept))
+    → (ps : List DonePart) → All IsTidy ps → Answers i ms before read ps → AllHoldIn t ps
+within_hold through carries i ms before t bs read kept is was made sound one old new ps once answers =
+    let bodies : units_of kept ≡ bodies_of bs = bodies_are bs kept was in
+    let at : (b : Bridge) × (slice_get bs i ≡ Some b) =
+    one_there i ms bs (subst (IsOneChanged i 0 ms) bodies one) in
+    hold_changed through carries i ms before made.0 t made.1 bs sound (subst (AllStand before) bodies old)
+    (subst (StandsNow i t made.0) bodies (new made.0 made.1)) at.0 at.1 ps
+    (recursion_from_All IsTidy ps once) (answers at.0 (ap (λ cs. slice_get cs i) is ∙ at.1))
+
+pub parts_but_is : (i : ℕ) (ms : List Mod) (before t : WideTree) (bs read : List Bridge) (kept : Kept)
+    (pss : List KeptParts) → read ≡ bs → entries_of bs ≡ kept → parts_in bs ≡ pss → (ps : List DonePart)
+    → Answers i ms before read ps → parts_in (changed_in i t ps bs) ≡ parts_but ms before i (units_of kept) pss
+parts_but_is i ms before t bs read kept pss is was had ps answers =
+    changed_parts i ms before t ps bs (λ b at. answers b (ap (λ cs. slice_get cs i) is ∙ at))
+    ∙ ap (λ us. parts_but ms before i us (parts_in bs)) (sym (bodies_are bs kept was))
+    ∙ ap (parts_but ms before i (units_of kept)) had

@@ -1,5 +1,0 @@
-use Rattle.tx_bridge.proofs.Trees.{same_result}
-use Rattle.tx_bridge.proofs.fitting.same_trees.Goals as goal
-
-pub returns : goal.returns
-returns c = same_result c.same.result c.args.t.now c.args.u.now c.same.ensures.0 c.same.ensures.1

@@ -1,0 +1,55 @@
+-- What is kept of parts stays with them through an edit.
+use Rattle.std.specs.Prelude.{ℕ, zero, suc, List, [], ◌∷◌, ◌++◌, map, Option, Some, None}
+use Rattle.std.specs.Prelude.{option_and_then, option_map, slice_get}
+use Rattle.std.specs.Option.{option_map_or}
+use Rattle.tx_tree.specs.WideTree.{WideTree}
+use Rattle.tx_mod.specs.declared.mods.Mod.{Mod}
+use Rattle.tx_mod.specs.Followed.{carried_by_all}
+use Rattle.tx_mod.specs.Moves.{rest_behind}
+use Rattle.tx_units.specs.declared.kinds.Unit.{Unit as DocUnit}
+use Rattle.tx_parts.specs.Parts.{Stored}
+use Rattle.tx_bridge.specs.Nested.{KeptParts}
+
+-- ---- in the one unit that changes
+
+-- where the part of the unit at p stands afterwards, if it stands there
+abbrev pub part_at : List ℕ → Option (List ℕ) → Stored → Option Stored
+part_at p place k = option_map (λ r. record { path = r; trace = k.trace }) (option_and_then (rest_behind p) place)
+
+abbrev pub and_part : Option Stored → KeptParts → KeptParts
+and_part None ks = ks
+and_part (Some k) ks = k ∷ ks
+
+-- the parts that stay in the unit at p, where these are their places in the document afterwards
+abbrev pub parts_at : List ℕ → List (Option (List ℕ)) → KeptParts → KeptParts
+parts_at p [] ks = []
+parts_at p (q ∷ qs) [] = []
+parts_at p (q ∷ qs) (k ∷ ks) = and_part (part_at p q k) (parts_at p qs ks)
+
+abbrev pub places_below : List Mod → WideTree → List ℕ → KeptParts → List (Option (List ℕ))
+places_below ms t p ks = map (λ k. carried_by_all ms t (p ++ k.path)) ks
+
+-- the parts of the unit at p that stay in it
+abbrev pub parts_behind : List Mod → WideTree → List ℕ → KeptParts → KeptParts
+parts_behind ms t p ks = parts_at p (places_below ms t p ks) ks
+
+-- what stays of the parts of this unit
+abbrev pub parts_within : List Mod → WideTree → DocUnit → KeptParts → KeptParts
+parts_within ms t u ks = option_map_or (λ p. parts_behind ms t p ks) u.path []
+
+-- so it is of the unit of number i; of the others all stays
+abbrev pub parts_but : List Mod → WideTree → ℕ → List DocUnit → List KeptParts → List KeptParts
+parts_but ms t i [] pss = []
+parts_but ms t i (u ∷ us) [] = []
+parts_but ms t zero (u ∷ us) (ks ∷ pss) = parts_within ms t u ks ∷ pss
+parts_but ms t (suc i) (u ∷ us) (ks ∷ pss) = ks ∷ parts_but ms t i us pss
+
+-- ---- in the units that stay
+
+-- what is kept of the parts of the old unit that a new one is
+abbrev pub parts_from : List KeptParts → Option ℕ → KeptParts
+parts_from pss s = option_map_or (λ ks. ks) (option_and_then (slice_get pss) s) []
+
+-- so it is of each new unit
+abbrev pub carried_parts : List KeptParts → List (Option ℕ) → List KeptParts
+carried_parts pss ss = map (parts_from pss) ss

@@ -1,0 +1,61 @@
+-- What is true of what is kept of parts.
+use Rattle.std.specs.Prelude.{◌≡◌, ◌≤◌, ℕ, if◌then◌else◌, List, [], ◌∷◌, map, Option, Some, None}
+use Rattle.std.specs.List.{AllByRecursion, IsDistinct}
+use Rattle.std.specs.Str.{bytes_eq}
+use Rattle.tx_tree.specs.WideTree.{WideTree}
+use Rattle.tx_tree.specs.Paths.{subtree}
+use Rattle.tx_exec_form.specs.declared.TheConstants.{MOST_LEVELS}
+use Rattle.tx_exec_form.specs.Runs.{Before}
+use Rattle.tx_exec_form.specs.Evaluated.{WideTrace}
+use Rattle.tx_exec_form.specs.Laws.{Agrees, Supports}
+use Rattle.tx_exec.specs.Outcomes.{wide_trace}
+use Rattle.tx_parts.specs.Composed.{alone}
+use Rattle.tx_parts.specs.Parts.{parts, Stored, stored}
+use Rattle.tx_walk.specs.declared.part.Part.{Part as DonePart}
+use Rattle.tx_walk.specs.Walked.{IsTidy, paths_of}
+use Rattle.tx_units.specs.declared.kinds.Unit.{Unit as DocUnit}
+use Rattle.tx_bridge.specs.Entries.{Kept}
+use Rattle.tx_bridge.specs.Nested.{KeptParts, is_nested}
+
+abbrev pub kept_part : DonePart → Stored
+kept_part p = record { path = p.path; trace = Some (wide_trace p.trace) }
+
+abbrev pub kept_parts : List DonePart → KeptParts
+kept_parts ps = map kept_part ps
+
+-- the part's path leads in the tree, and its trace supports what stands there
+pub record HoldsPart (t : WideTree) (p : DonePart) : Type 0 where
+  pub there : WideTree
+  pub leads : subtree t p.path ≡ Some there
+  pub supports : Supports (wide_trace p.trace) (alone there)
+  pub tidy : IsTidy p
+
+-- Where the unit's trace is kept, these are its parts in every environment that agrees with the trace's looks, whatever
+-- the steps that suffice for it.
+abbrev pub AreItsParts : DocUnit → KeptParts → Option WideTrace → Type 0
+AreItsParts u ks None = Unit {0}
+AreItsParts u ks (Some trace) = (n : ℕ) (e : Before) → Agrees e trace.looks → trace.cost ≤ n
+    → (if is_nested u then map stored (parts MOST_LEVELS n [] u.tagged.tree e) else []) ≡ ks
+
+-- what is true of the parts that are kept of a unit, of which this trace is kept
+pub record PartsHold (u : DocUnit) (o : Option WideTrace) (ps : List DonePart) : Type 0 where
+  pub hold : AllByRecursion (HoldsPart u.tagged.tree) ps
+  pub distinct : IsDistinct bytes_eq (paths_of ps)
+  pub all : AreItsParts u (kept_parts ps) o
+
+-- ---- of all units
+
+-- the path leads in the tree, and the trace supports what stands there
+pub record StoredHolds (t : WideTree) (s : Stored) : Type 0 where
+  pub trace : WideTrace
+  pub is : s.trace ≡ Some trace
+  pub there : WideTree
+  pub leads : subtree t s.path ≡ Some there
+  pub supports : Supports trace (alone there)
+
+-- what is kept of the parts of each unit supports what stands there in the unit's tree
+abbrev pub AllPartsHold : Kept → List KeptParts → Type 0
+AllPartsHold [] [] = Unit {0}
+AllPartsHold [] (ks ∷ pss) = ⊥
+AllPartsHold (e ∷ es) [] = ⊥
+AllPartsHold (e ∷ es) (ks ∷ pss) = AllByRecursion (StoredHolds e.unit.tagged.tree) ks × AllPartsHold es pss
