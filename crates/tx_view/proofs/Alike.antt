@@ -6,7 +6,7 @@ use Rattle.std.specs.Str.{bytes_eq}
 use Rattle.std.proofs.lemmas.Bool.Decides.{Decides-int_eq}
 use Rattle.std.proofs.lemmas.Slice.Eq.{bytes_eq-Decides}
 use Rattle.tx_items.specs.declared.attributes.Attrs.{Attrs}
-use Rattle.tx_bridge.proofs.Trees.{both}
+use Rattle.std.proofs.lemmas.Bool.{and_parts}
 use Rattle.tx_view.specs.Stores.{same_attrs, is_laid_for}
 
 abbrev attrs_with : List ℕ → List ℕ → List ℕ → List ℕ → ℤ → ℤ → ℤ → Attrs
@@ -26,12 +26,12 @@ same_lengths s h c m l k r q f g p u v =
 
 pub attrs_are : (a b : Attrs) → same_attrs a b ≡ true → a ≡ b
 attrs_are a b e =
-    let seven = both _ (bytes_eq a.mode b.mode) e in
-    let six = both _ (bytes_eq a.color b.color) seven.0 in
-    let five = both _ (bytes_eq a.shape b.shape) six.0 in
-    let four = both _ (bytes_eq a.series b.series) five.0 in
-    let three = both _ (int_eq a.first b.first) four.0 in
-    let two = both (int_eq a.left b.left) (int_eq a.right b.right) three.0 in
+    let seven = and_parts _ (bytes_eq a.mode b.mode) e in
+    let six = and_parts _ (bytes_eq a.color b.color) seven.0 in
+    let five = and_parts _ (bytes_eq a.shape b.shape) six.0 in
+    let four = and_parts _ (bytes_eq a.series b.series) five.0 in
+    let three = and_parts _ (int_eq a.first b.first) four.0 in
+    let two = and_parts (int_eq a.left b.left) (int_eq a.right b.right) three.0 in
     same_texts a.series b.series a.shape b.shape a.color b.color a.mode b.mode a.left a.right a.first
     ((bytes_eq-Decides a.series b.series).0 four.1) ((bytes_eq-Decides a.shape b.shape).0 five.1)
     ((bytes_eq-Decides a.color b.color).0 six.1) ((bytes_eq-Decides a.mode b.mode).0 seven.1)

@@ -14,7 +14,7 @@ use Rattle.tx_doc.specs.declared.buffer.Buffer.{Buffer}
 use Rattle.tx_units.specs.declared.kinds.Unit.{Unit as DocUnit}
 use Rattle.tx_items.specs.declared.attributes.Attrs.{Attrs}
 use Rattle.tx_bridge.specs.Entries.{Kept, nothing_kept}
-use Rattle.tx_bridge.specs.Names.{Empty as EmptyKept}
+use Rattle.tx_bridge.specs.Names.{Empty as EmptyKept, EmptyParts}
 use Rattle.tx_view.specs.declared.shown.Shown.{Shown}
 use Rattle.tx_view.specs.Laid.{AreLaid, IsBlank, AreBlank, laid_in}
 use Rattle.tx_view.proofs.Forgetting.{AllReadable}
@@ -58,6 +58,10 @@ tree_at buffers k d inside =
     ap (λ o. option_map_or (λ (b : Buffer). b.tree) o (leaf [])) (slice_get-get_or buffers k d inside)
 
 -- ---- where nothing is kept
+
+pub empty_parts_is : (us : List DocUnit) → EmptyParts us ≡ map (λ u. []) us
+unfolding EmptyParts
+empty_parts_is us = refl
 
 pub empty_is : (us : List DocUnit) → EmptyKept us ≡ nothing_kept us
 unfolding EmptyKept

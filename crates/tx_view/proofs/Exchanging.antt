@@ -1,9 +1,10 @@
 -- The units after an edit that changes one paragraph alone.
-use Rattle.std.proofs.Common.{◌≡◌, ℕ, zero, suc, false, List, [], ◌∷◌, length, map, Option, Some, refl, sym, ap, subst, ◌∙◌}
+use Rattle.std.proofs.Common.{arith, ◌+◌, None, true}
+use Rattle.std.proofs.Common.{◌≡◌, ℕ, zero, suc, Bool, false, List, [], ◌∷◌, length, map, Option, Some, refl, sym, ap, subst, ◌∙◌}
 use Rattle.std.proofs.lemmas.Bool.{and_parts}
 use Rattle.std.specs.Option.{option_map, option_map_or}
 use Rattle.std.proofs.lemmas.Option.{slice_get-map}
-use Rattle.std.specs.Prelude.{◌&&◌, slice_get}
+use Rattle.std.specs.Prelude.{◌&&◌, slice_get, if◌then◌else◌}
 use Rattle.tx_tree.specs.WideTree.{WideTree}
 use Rattle.tx_mod.specs.declared.mods.Mod.{Mod}
 use Rattle.tx_mod.specs.Followed.{changed_by_all}
@@ -13,9 +14,10 @@ use Rattle.tx_units.specs.declared.kinds.Unit.{Unit as DocUnit}
 use Rattle.tx_units.specs.Inside.{ChangesOne}
 use Rattle.tx_units.specs.Units.{units, units_with}
 use Rattle.tx_bridge.specs.Entries.{Entry, Kept, units_of}
-use Rattle.tx_bridge.specs.InPlace.{IsOneChanged, is_gone, are_within, numbers_but}
+use Rattle.tx_bridge.specs.InPlace.{IsOneChanged, NoneChanged, is_changed, is_gone, are_within, numbers_but}
 use Rattle.tx_bridge.specs.Names.{Carry, Sources}
-use Rattle.tx_view.specs.Exchanged.{IsNow, IsExchanged}
+use Rattle.tx_bridge.specs.UnitLists.{AreUnits}
+use Rattle.tx_view.specs.Exchanged.{IsNow, IsExchanged, stays_alone, exchanged_from, exchanged_in}
 use Rattle.tx_view.specs.Laid.{IsTarget}
 use Rattle.tx_view.specs.declared.carrying.Target.TheVariants.{InPlace}
 use Rattle.tx_view.proofs.Changing.{stays_beside}
@@ -31,6 +33,79 @@ exchanged_at i buffer ms t x y kept u one at now same =
     let there : one.unit ≡ u =
     some_same one.unit u (sym one.there ∙ slice_get-map (λ (e : Entry). e.unit) kept i ∙ at) in
     record { one = one; is_now = subst (λ z. IsNow one.unit t z) (sym same) (subst (λ v. IsNow v t x) (sym there) now) }
+
+-- ---- which one it is
+
+none_from : (ms : List Mod) (t : WideTree) (k : ℕ) (us : List DocUnit)
+    → ((i : ℕ) (u : DocUnit) → slice_get us i ≡ Some u → is_changed ms u ≡ false) → exchanged_from ms t k us ≡ None
+none_from ms t k [] h = refl
+none_from ms t k (u ∷ us) h =
+    ap (λ b. if b then (if stays_alone t u then Some k else None) else exchanged_from ms t (k + 1) us) (h 0 u refl)
+    ∙ none_from ms t (k + 1) us (λ i v e. h (suc i) v e)
+
+pub none_exchanged : (buffer : ℕ) (ms : List Mod) (t : WideTree) (us : List DocUnit) → NoneChanged buffer ms us
+    → exchanged_in buffer ms t us ≡ None
+none_exchanged zero ms t us h = none_from ms t 0 us (h refl)
+none_exchanged (suc buffer) ms t us h = refl
+
+behind_one : (b : Bool) (here later found : Option ℕ) → (b ≡ true → ⊥) → later ≡ found
+    → (if b then here else later) ≡ found
+behind_one true here later found off is = absurd (off refl)
+behind_one false here later found off is = is
+
+-- the unit of number i is the only one
+one_from : (ms : List Mod) (t : WideTree) (i k : ℕ) (us : List DocUnit) (u : DocUnit) → slice_get us i ≡ Some u
+    → is_changed ms u ≡ true
+    → ((j : ℕ) (v : DocUnit) → slice_get us j ≡ Some v → is_changed ms v ≡ true → j ≡ i) → (n : ℕ) → n ≡ k + i
+    → exchanged_from ms t k us ≡ (if stays_alone t u then Some n else None)
+one_from ms t i k [] u at h once n is = cc
+one_from ms t zero k (v ∷ us) u at h once n is =
+    let same : v ≡ u = some_same v u at in
+    let number : k ≡ n = omega (arith, is) in
+    ap (λ b. if b then (if stays_alone t v then Some k else None) else exchanged_from ms t (k + 1) us)
+    (ap (is_changed ms) same ∙ h)
+    ∙ ap (λ w. if stays_alone t w then Some k else None) same
+    ∙ ap (λ j. if stays_alone t u then Some j else None) number
+one_from ms t (suc i) k (v ∷ us) u at h once n is =
+    behind_one (is_changed ms v) (if stays_alone t v then Some k else None) (exchanged_from ms t (k + 1) us)
+    (if stays_alone t u then Some n else None) (λ e. absurd (omega (arith, once 0 v refl e)))
+    (one_from ms t i (k + 1) us u at h (λ j w f g. omega (arith, once (suc j) w f g)) n (omega (arith, is)))
+
+-- the law that modifications change one unit, as the call states it
+abbrev pub ChangedOnce : Type 0
+ChangedOnce = (ms : List Mod) (us : List DocUnit) → AreUnits us → (j k : ℕ) (u v : DocUnit)
+    → slice_get us j ≡ Some u → slice_get us k ≡ Some v → is_changed ms u ≡ true → is_changed ms v ≡ true → j ≡ k
+
+one_in : ChangedOnce → (i buffer : ℕ) (ms : List Mod) (t : WideTree) (us : List DocUnit) → AreUnits us
+    → (one : IsOneChanged i buffer ms us)
+    → exchanged_in buffer ms t us ≡ (if stays_alone t one.unit then Some i else None)
+one_in law i zero ms t us are one =
+    one_from ms t i 0 us one.unit one.there one.changed
+    (λ j v at e. law ms us are j i v one.unit at one.there e one.changed) i (omega arith)
+one_in law i (suc buffer) ms t us are one = absurd (omega (arith, one.document))
+
+-- the unit that is looked at
+unit_there : (i buffer : ℕ) (ms : List Mod) (kept : Kept) (u : DocUnit) (one : IsOneChanged i buffer ms (units_of kept))
+    → option_map (λ e. e.unit) (slice_get kept i) ≡ Some u → one.unit ≡ u
+unit_there i buffer ms kept u one at =
+    some_same one.unit u (sym one.there ∙ slice_get-map (λ (e : Entry). e.unit) kept i ∙ at)
+
+pub number_is : ChangedOnce → (i buffer : ℕ) (ms : List Mod) (t : WideTree) (kept : Kept) (u : DocUnit) (b : Bool)
+    → AreUnits (units_of kept) → IsOneChanged i buffer ms (units_of kept)
+    → option_map (λ e. e.unit) (slice_get kept i) ≡ Some u → stays_alone t u ≡ b
+    → exchanged_in buffer ms t (units_of kept) ≡ (if b then Some i else None)
+number_is law i buffer ms t kept u b are one at alone =
+    one_in law i buffer ms t (units_of kept) are one
+    ∙ ap (λ c. if c then Some i else None) (ap (stays_alone t) (unit_there i buffer ms kept u one at) ∙ alone)
+
+pub unit_missing : (i buffer : ℕ) (ms : List Mod) (kept : Kept) → IsOneChanged i buffer ms (units_of kept)
+    → slice_get kept i ≡ None → ⊥
+unit_missing i buffer ms kept one none =
+    let off : Some one.unit ≡ None =
+    sym one.there ∙ slice_get-map (λ (e : Entry). e.unit) kept i ∙ ap (option_map (λ (e : Entry). e.unit)) none in
+    cc
+
+-- ---- the units afterwards
 
 -- they are those of before, of which one has another tree
 pub exchanged_units : (bs : List Buffer) (buffer i : ℕ) (ms : List Mod) (t x : WideTree) (us : List DocUnit)
@@ -61,31 +136,31 @@ many_with zero x (u ∷ us) = refl
 many_with (suc i) x (u ∷ us) = ap suc (many_with i x us)
 
 -- what is shown can stay in place
-pub target_with : (i : ℕ) (x : WideTree) (us vs : List DocUnit) (ss : List (Option ℕ)) → vs ≡ units_with i x us
-    → ss ≡ numbers_but i 0 (length us) → IsTarget us vs ss (InPlace i)
-target_with i x us vs ss is numbers = (
+pub target_with : (i : ℕ) (silent : Bool) (x : WideTree) (us vs : List DocUnit) (ss : List (Option ℕ)) → vs ≡ units_with i x us
+    → ss ≡ numbers_but i 0 (length us) → IsTarget us vs ss (InPlace i silent)
+target_with i silent x us vs ss is numbers = (
   numbers ∙ ap (numbers_but i 0) (sym (ap length is ∙ many_with i x us)),
   ap (map (λ u. u.path)) is ∙ paths_with i x us,
 )
 
 -- what is kept, and what is shown, is as it would be behind any edit
-pub record IsInPlace (buffer i : ℕ) (ms : List Mod) (t : WideTree) (kept new : Kept) (ss : List (Option ℕ))
+pub record IsInPlace (buffer i : ℕ) (silent : Bool) (ms : List Mod) (t : WideTree) (kept new : Kept) (ss : List (Option ℕ))
     (vs : List DocUnit) : Type 0 where
-  pub target : IsTarget (units_of kept) vs ss (InPlace i)
+  pub target : IsTarget (units_of kept) vs ss (InPlace i silent)
   pub kept_is : new ≡ Carry buffer ms t kept vs
   pub sources : ss ≡ Sources buffer ms t (units_of kept) vs
   pub units_are : units_of new ≡ vs
 
-pub in_place : (buffer i : ℕ) (ms : List Mod) (t before x : WideTree) (kept new : Kept) (ss : List (Option ℕ))
+pub in_place : (buffer i : ℕ) (silent : Bool) (ms : List Mod) (t before x : WideTree) (kept new : Kept) (ss : List (Option ℕ))
     (vs : List DocUnit) → buffer ≡ 0 → t ≡ before → vs ≡ units_with i x (units_of kept)
     → new ≡ Carry 0 ms before kept (units_with i x (units_of kept))
     → ss ≡ Sources 0 ms before (units_of kept) (units_with i x (units_of kept))
     → ss ≡ numbers_but i 0 (length (units_of kept)) → units_of new ≡ units_with i x (units_of kept)
-    → IsInPlace buffer i ms t kept new ss vs
-in_place buffer i ms t before x kept new ss vs first at now carried sources numbers own =
+    → IsInPlace buffer i silent ms t kept new ss vs
+in_place buffer i silent ms t before x kept new ss vs first at now carried sources numbers own =
     let us : List DocUnit = units_of kept in
     record {
-      target = target_with i x us vs ss now numbers;
+      target = target_with i silent x us vs ss now numbers;
       kept_is =
           carried ∙ ap (λ ws. Carry 0 ms before kept ws) (sym now) ∙ ap (λ w. Carry 0 ms w kept vs) (sym at)
           ∙ ap (λ k. Carry k ms t kept vs) (sym first);

@@ -25,3 +25,8 @@ pub mod Ranges
 pub mod Near
 pub mod Placed
 pub mod Setting
+pub mod Ends
+pub mod Leaving
+pub mod Alone
+pub mod Likeness
+pub mod Lasting

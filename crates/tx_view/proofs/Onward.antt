@@ -31,7 +31,7 @@ use Rattle.tx_view.specs.declared.shown.Shown.{Shown}
 use Rattle.tx_view.specs.Units.{unit_view, unit_views, IsReadable}
 use Rattle.tx_view.specs.Stores.{is_laid_for, attributes_from}
 use Rattle.tx_view.specs.Costs.{items_in, items_of}
-use Rattle.tx_view.specs.Laid.{IsLaid, IsLaidOut, IsNext, AreLaid, laid_in, flagged_from, unlaid_from}
+use Rattle.tx_view.specs.Laid.{IsLaid, IsLaidOut, IsNext, AreLaid, laid_in, unlaid_from}
 use Rattle.tx_view.proofs.Forgetting.{AllReadable}
 use Rattle.tx_view.proofs.Few.{few_lines, few_errors}
 use Rattle.tx_view.proofs.UnitRows.{placed_errors, as_many_errors}
@@ -65,7 +65,7 @@ entry_there [] i h = absurd (omega (arith, h))
 entry_there (e ∷ es) zero h = (e, refl)
 entry_there (e ∷ es) (suc i) h = entry_there es i (omega (arith, h))
 
-laid_set : (width : ℕ) (kept : Kept) (xs : List Shown) (i : ℕ) (e : Entry) (y : Shown) → AreLaid width kept xs
+pub laid_set : (width : ℕ) (kept : Kept) (xs : List Shown) (i : ℕ) (e : Entry) (y : Shown) → AreLaid width kept xs
     → slice_get kept i ≡ Some e → IsLaid width e y → AreLaid width kept (slice_set xs i y)
 laid_set width [] xs i e y h at is = cc
 laid_set width (k ∷ es) [] i e y h at is = absurd h
@@ -109,27 +109,17 @@ few_laid x p a v h =
     at_most (is_laid_for x.laid a) (items_in (paragraphs_at p a v)) (weight_of (shown_paragraphs a v))
     (few_items (paragraphs_at p a v) p a v refl h)
 
--- the charge, where there is a flag
-charged : (f : Bool) (n k c work : ℕ) → work ≡ (if f then n + k else n) → k ≡ c → work ≡ (if f then c else 0) + n
-charged true n k c work e g = omega (arith, e, g)
-charged false n k c work e g = omega (arith, e)
-
-work_few : (f : Bool) (n k work : ℕ) → work ≡ (if f then n + k else n) → work ≤ n + k
-work_few true n k work e = omega (arith, e)
-work_few false n k work e = omega (arith, e)
-
 -- the premises are what the calls ensure, in their order
 pub next_is : AllAllowed → ((a : Attrs) → weight_of (shown_paragraphs a over_value) ≤ 49)
-    → ((ps : List Paragraph) → length (flat_map (λ p. p.items) ps) ≤ weight_of ps) → (width : ℕ) (e : Entry) (f : Bool)
-    (m after : Moment) (x y : Shown) (a : Attrs) (o : Option WideTrace) (n work : ℕ)
+    → ((ps : List Paragraph) → length (flat_map (λ p. p.items) ps) ≤ weight_of ps) → (width : ℕ) (e : Entry)
+    (m after : Moment) (x y : Shown) (a : Attrs) (o : Option WideTrace) (n : ℕ)
     → ((b : Attrs) → weight_of (shown_paragraphs b (value_of o)) ≤ 242 * size_of (plain (value_of o)))
     → e.trace ≡ o → e.trace ≡ outcome_of m e.unit → IsLaid width e x → a ≡ attributes_of m.env
     → after ≡ behind m e.trace → IsPaid m after (value_of e.trace) → IsLaidOut width a (value_of o) x.path y
     → y.laid ≡ Some a
     → n ≡ (if is_laid_for x.laid a then 0 else items_in (paragraphs_at x.path a (value_of o)))
-    → work ≡ (if f then n + (m.left - after.left) else n) → IsNext width e f m after x y work
-next_is allowed over law width e f m after x y a o n work weight is_o trace laid is_a is_after paid out is_laid is_n
-    is_work =
+    → IsNext width e m after x y n
+next_is allowed over law width e m after x y a o n weight is_o trace laid is_a is_after paid out is_laid is_n =
     let b : Attrs = attributes_of m.env in
     let v : WideValue = value_of e.trace in
     let same_value : value_of o ≡ v = ap value_of (sym is_o) in
@@ -140,28 +130,16 @@ next_is allowed over law width e f m after x y a o n work weight is_o trace laid
     subst (λ (u : WideValue). weight_of (shown_paragraphs b u) ≤ 242 * size_of (plain u)) same_value (weight b) in
     let few : n ≤ weight_of (shown_paragraphs b v) =
     omega (arith, count, few_laid x e.unit.path b v (law (shown_paragraphs b v))) in
-    let fits : charge m e.trace ≤ m.left = charge_fits allowed m e.trace (tagged_of e.unit.tagged) trace in
-    let left : after.left ≡ m.left - charge m e.trace = ap (λ (k : Moment). k.left) is_after in
-    let taken : m.left - after.left ≡ charge m (outcome_of m e.unit) =
-    omega (arith, fits, left) ∙ ap (charge m) trace in
     record {
       behind_is = is_after ∙ ap (behind m) trace;
       laid_out = here;
       attributes = is_laid ∙ ap Some is_a;
       lines = few_lines b v m after (length y.lines) paid heavy (over b) here.few_lines;
       errors = few_errors v m after (length y.errors.items) paid here.few_errors;
-      work_is =
-          charged f n (m.left - after.left) (charge m (outcome_of m e.unit)) work is_work taken
-          ∙ ap (λ k. (if f then charge m (outcome_of m e.unit) else 0) + k)
-          (count ∙ items_laid x b b e.unit.path e.unit.path v (value_of (outcome_of m e.unit)) refl refl
-          (ap value_of trace));
-      most =
-          omega (
-            arith,
-            few_lines b v m after n paid heavy (over b) few,
-            work_few f n (m.left - after.left) work is_work,
-            paid.falls,
-          );
+      items_is =
+          count ∙ items_laid x b b e.unit.path e.unit.path v (value_of (outcome_of m e.unit)) refl refl
+          (ap value_of trace);
+      most = omega (arith, few_lines b v m after n paid heavy (over b) few, paid.falls);
     }
 
 -- the steps of one unit
@@ -178,8 +156,8 @@ steps_is width e m x a o n before after is_o trace laid is_a is_n is_after =
 -- ---- up to unit i
 
 -- At the moment before unit i. What was done, and what is left from here, are all.
-pub record Onward (width : ℕ) (kept : Kept) (flags : List Bool) (old now : List Shown) (i : ℕ) (m : Moment)
-    (work before after : ℕ) : Type 0 where
+pub record Onward (width : ℕ) (kept : Kept) (old now : List Shown) (i : ℕ) (m : Moment)
+    (items before after : ℕ) : Type 0 where
   pub fresh : drop i kept ≡ fresh_from m (units_of (drop i kept))
   pub shown : (others : List UnitView) → AreShown width m (units_of (drop i kept)) others
       → AreShown width beginning (units_of kept) (unit_views (take i now) ++ others)
@@ -187,26 +165,25 @@ pub record Onward (width : ℕ) (kept : Kept) (flags : List Bool) (old now : Lis
       ≡ attributes_from beginning (units_of kept)
   pub steps : after + unlaid_from m (units_of (drop i kept)) (laid_in (drop i now))
       ≡ before + unlaid_from beginning (units_of kept) (laid_in old)
-  pub work_is : work + (flagged_from m (drop i flags) (units_of (drop i kept))
-      + unlaid_from m (units_of (drop i kept)) (laid_in (drop i now)))
-      ≡ flagged_from beginning flags (units_of kept) + unlaid_from beginning (units_of kept) (laid_in old)
+  pub items_is : items + unlaid_from m (units_of (drop i kept)) (laid_in (drop i now))
+      ≡ unlaid_from beginning (units_of kept) (laid_in old)
   pub within : i ≤ length kept
   pub laid : AreLaid width kept now
   pub readable : AllReadable now
   pub lines : length (lines_of (unit_views (take i now))) + 242 * m.left ≤ 242 * 16000000 + 49 * i
   pub errors : length (errors_of (unit_views (take i now))) + m.left ≤ 16000000 + 7 * i
-  pub most : work + 243 * m.left ≤ 243 * 16000000 + 49 * i
+  pub most : items + 243 * m.left ≤ 243 * 16000000 + 49 * i
 
-pub begun : (width : ℕ) (kept : Kept) (flags : List Bool) (old : List Shown) (m : Moment) (steps : ℕ) → m ≡ beginning
+pub begun : (width : ℕ) (kept : Kept) (old : List Shown) (m : Moment) (steps : ℕ) → m ≡ beginning
     → kept ≡ fresh_from beginning (units_of kept) → AreLaid width kept old → AllReadable old
-    → Onward width kept flags old old 0 m 0 steps steps
-begun width kept flags old m steps start fresh laid readable =
-    subst (λ (k : Moment). Onward width kept flags old old 0 k 0 steps steps) (sym start) (record {
+    → Onward width kept old old 0 m 0 steps steps
+begun width kept old m steps start fresh laid readable =
+    subst (λ (k : Moment). Onward width kept old old 0 k 0 steps steps) (sym start) (record {
       fresh = fresh;
       shown = λ others h. h;
       attributes = refl;
       steps = refl;
-      work_is = omega arith;
+      items_is = omega arith;
       within = omega arith;
       laid = laid;
       readable = readable;
@@ -221,17 +198,8 @@ same_first x y xs ys e = cc
 same_rest : {A : Type 0} (x y : A) (xs ys : List A) → x ∷ xs ≡ y ∷ ys → xs ≡ ys
 same_rest x y xs ys e = cc
 
-first_flag : (fs : List Bool) (i : ℕ) (m : Moment) (u : DocUnit) (us : List DocUnit)
-    → flagged_from m (drop i fs) (u ∷ us)
-    ≡ (if unwrap_or (slice_get fs i) false then charge m (outcome_of m u) else 0)
-    + flagged_from (behind m (outcome_of m u)) (drop 1 (drop i fs)) us
-first_flag [] zero m u us = refl
-first_flag [] (suc i) m u us = refl
-first_flag (f ∷ fs) zero m u us = refl
-first_flag (f ∷ fs) (suc i) m u us = first_flag fs i m u us
-
-module _ (width : ℕ) (kept : Kept) (flags : List Bool) (old now : List Shown) (i : ℕ) (m : Moment)
-    (work before after : ℕ) (p : Onward width kept flags old now i m work before after) (inside : i < length now)
+module _ (width : ℕ) (kept : Kept) (old now : List Shown) (i : ℕ) (m : Moment)
+    (items before after : ℕ) (p : Onward width kept old now i m items before after) (inside : i < length now)
     (d : Shown) (e : Entry) (at : slice_get kept i ≡ Some e) where
   abbrev x : Shown
   x = slice_index_or now i d
@@ -268,7 +236,7 @@ module _ (width : ℕ) (kept : Kept) (flags : List Bool) (old now : List Shown) 
   laid_here = laid_at width kept now i e d p.laid at
 
   module _ (y : Shown) (more after1 : ℕ) (m1 : Moment)
-      (n : IsNext width e (unwrap_or (slice_get flags i) false) m m1 (slice_index_or now i d) y more)
+      (n : IsNext width e m m1 (slice_index_or now i d) y more)
       (is_after : after1
       ≡ after + (if is_laid_for (slice_index_or now i d).laid (attributes_of m.env) then 0 else items_of m e.unit))
       (can_read : IsReadable (unit_view y)) where
@@ -324,17 +292,6 @@ module _ (width : ℕ) (kept : Kept) (flags : List Bool) (old now : List Shown) 
         ∙ ap (λ xs. (if is_laid_for x.laid (attributes_of m.env) then 0 else items_of m e.unit)
         + unlaid_from m1 (units_of rest) (laid_in xs)) (sym dropped)
 
-    flagged_next : flagged_from m (drop i flags) (units_of (drop i kept))
-        ≡ (if unwrap_or (slice_get flags i) false then charge m (outcome_of m e.unit) else 0)
-        + flagged_from m1 (drop (i + 1) flags) (units_of rest)
-    flagged_next =
-        ap (λ es. flagged_from m (drop i flags) (units_of es)) head
-        ∙ first_flag flags i m e.unit (units_of rest)
-        ∙ ap (λ fs. (if unwrap_or (slice_get flags i) false then charge m (outcome_of m e.unit) else 0)
-        + flagged_from behind_it fs (units_of rest)) (drop-drop 1 i flags)
-        ∙ ap (λ k. (if unwrap_or (slice_get flags i) false then charge m (outcome_of m e.unit) else 0)
-        + flagged_from k (drop (i + 1) flags) (units_of rest)) (sym n.behind_is)
-
     laid_next : AreLaid width kept new
     laid_next =
         laid_set width kept now i e y p.laid at (record {
@@ -352,13 +309,13 @@ module _ (width : ℕ) (kept : Kept) (flags : List Bool) (old now : List Shown) 
         ∙ ap (λ ys. flat_map g (unit_views (take i now)) ++ ys) (append-nil (g (unit_view y))))
         ∙ length-append (flat_map g (unit_views (take i now))) (g (unit_view y))
 
-    pub next : Onward width kept flags old (slice_set now i y) (i + 1) m1 (work + more) before after1
+    pub next : Onward width kept old (slice_set now i y) (i + 1) m1 (items + more) before after1
     next = record {
       fresh = fresh_next;
       shown = shown_next;
       attributes = attributes_next;
       steps = omega (arith, unlaid_next, is_after, p.steps);
-      work_is = omega (arith, unlaid_next, flagged_next, n.work_is, p.work_is);
+      items_is = omega (arith, unlaid_next, n.items_is, p.items_is);
       within = omega (arith, inside, laid_many width kept now p.laid);
       laid = laid_next;
       readable = All-set (λ (z : Shown). IsReadable (unit_view z)) now i y can_read p.readable;
@@ -368,31 +325,25 @@ module _ (width : ℕ) (kept : Kept) (flags : List Bool) (old now : List Shown) 
     }
 
 -- all units are laid out
-pub record Ended (width : ℕ) (kept : Kept) (flags : List Bool) (old now : List Shown) (work before after : ℕ) : Type 0
+pub record Ended (width : ℕ) (kept : Kept) (old now : List Shown) (items before after : ℕ) : Type 0
   where
     pub shown : AreShown width beginning (units_of kept) (unit_views now)
     pub attributes : laid_in now ≡ attributes_from beginning (units_of kept)
     pub lines : length (lines_of (unit_views now)) < 2 ^ 32
     pub errors : length (errors_of (unit_views now)) < 2 ^ 32
     pub steps : after ≡ before + unlaid_from beginning (units_of kept) (laid_in old)
-    pub work_is : work
-        ≡ flagged_from beginning flags (units_of kept) + unlaid_from beginning (units_of kept) (laid_in old)
+    pub items_is : items ≡ unlaid_from beginning (units_of kept) (laid_in old)
+    pub most : items < 2 ^ 40
 
-no_flags : (fs : List Bool) (m : Moment) → flagged_from m fs [] ≡ 0
-no_flags [] m = refl
-no_flags (f ∷ fs) m = refl
-
-pub ended : (width : ℕ) (kept : Kept) (flags : List Bool) (old now : List Shown) (i : ℕ) (m : Moment)
-    (work before after : ℕ) → Onward width kept flags old now i m work before after → length now ≤ i
-    → length kept < 2 ^ 23 → Ended width kept flags old now work before after
-ended width kept flags old now i m work before after p past few =
+pub ended : (width : ℕ) (kept : Kept) (old now : List Shown) (i : ℕ) (m : Moment)
+    (items before after : ℕ) → Onward width kept old now i m items before after → length now ≤ i
+    → length kept < 2 ^ 23 → Ended width kept old now items before after
+ended width kept old now i m items before after p past few =
     let many : length now ≡ length kept = laid_many width kept now p.laid in
     let whole : take i now ≡ now = take_all i now past in
     let none : drop i kept ≡ [] = drop_all i kept (omega (arith, past, many)) in
     let no_items : unlaid_from m (units_of (drop i kept)) (laid_in (drop i now)) ≡ 0 =
     ap (λ es. unlaid_from m (units_of es) (laid_in (drop i now))) none in
-    let no_charges : flagged_from m (drop i flags) (units_of (drop i kept)) ≡ 0 =
-    ap (λ es. flagged_from m (drop i flags) (units_of es)) none ∙ no_flags (drop i flags) m in
     record {
       shown =
           subst (λ (vs : List UnitView). AreShown width beginning (units_of kept) vs)
@@ -404,5 +355,6 @@ ended width kept flags old now i m work before after p past few =
       lines = omega (arith, ap (λ xs. length (lines_of (unit_views xs))) whole, p.lines, p.within, few);
       errors = omega (arith, ap (λ xs. length (errors_of (unit_views xs))) whole, p.errors, p.within, few);
       steps = omega (arith, no_items, p.steps);
-      work_is = omega (arith, no_items, no_charges, p.work_is);
+      items_is = omega (arith, no_items, p.items_is);
+      most = omega (arith, p.most, p.within, few);
     }

@@ -20,14 +20,17 @@ use Rattle.tx_bridge.specs.Names.{Sources, Carry as CarryKept}
 use Rattle.tx_view.specs.declared.carrying.Target.{Target}
 use Rattle.tx_view.specs.declared.carrying.Target.TheVariants.{InPlace, Onto}
 use Rattle.tx_view.specs.declared.shown.Shown.{Shown}
-use Rattle.tx_view.specs.Laid.{IsLaid, IsLaidOut, AreLaid, IsBlank, laid_in, StaysAs, StayBut, IsTarget, IsMoved}
+use Rattle.tx_view.specs.Laid.{IsLaid, IsLaidOut, AreLaid, laid_in, unlaid, StaysAs, StayBut, IsTarget, IsMoved}
 use Rattle.tx_view.proofs.Forgetting.{AllReadable}
-use Rattle.tx_view.proofs.Moved.{Reads, IsCarried, blank_reads, carried_on}
+use Rattle.tx_view.proofs.Moved.{Reads, IsCarried, carried_on}
 
 -- ---- one entry is reset
 
-not_equal : (k i : ℕ) → (k ≡ i → ⊥) → k == i ≡ false
+pub not_equal : (k i : ℕ) → (k ≡ i → ⊥) → k == i ≡ false
 not_equal k i h = false_from_ne_true (k == i) (λ e. absurd (h ((Decides-eqb k i).0 e)))
+
+pub are_equal : (k i : ℕ) → k ≡ i → k == i ≡ true
+are_equal k i e = (Decides-eqb k i).1 e
 
 same_stays : (c : Bool) (y : Shown) → c ≡ false → StaysAs c y y
 same_stays c y e = subst (λ b. StaysAs b y y) (sym e) refl
@@ -41,24 +44,24 @@ stay_all i k (y ∷ ys) h = (
 )
 
 pub stay_but : (i k j : ℕ) (ys : List Shown) (d x : Shown) → i ≡ k + j → j < length ys
-    → IsBlank (slice_index_or ys j d).path x → StayBut i k ys (slice_set ys j x)
-stay_but i k j [] d x e l blank = absurd (omega (arith, l))
-stay_but i k zero (y ∷ ys) d x e l blank = (
-  subst (λ b. StaysAs b y x) (sym ((Decides-eqb k i).1 (omega (arith, e)))) blank,
+    → x ≡ unlaid true (slice_index_or ys j d) → StayBut i k ys (slice_set ys j x)
+stay_but i k j [] d x e l is = absurd (omega (arith, l))
+stay_but i k zero (y ∷ ys) d x e l is = (
+  subst (λ b. StaysAs b y x) (sym (are_equal k i (omega (arith, e)))) is,
   stay_all i (k + 1) ys (λ n less f. omega (arith, e, f)),
 )
-stay_but i k (suc j) (y ∷ ys) d x e l blank = (
+stay_but i k (suc j) (y ∷ ys) d x e l is = (
   same_stays (k == i) y (not_equal k i (λ f. omega (arith, e, f))),
-  stay_but i (k + 1) j ys d x (omega (arith, e)) (omega (arith, l)) blank,
+  stay_but i (k + 1) j ys d x (omega (arith, e)) (omega (arith, l)) is,
 )
 
 -- ---- what is kept and shown of the new units
 
 -- of each number from k on, these are what elements behind number k have
-abbrev AreFrom : {A : Type 0} → List (Option A) → ℕ → List (Option A) → Type 0
+abbrev pub AreFrom : {A : Type 0} → List (Option A) → ℕ → List (Option A) → Type 0
 AreFrom all k xs = (n m : ℕ) → m ≡ k + n → slice_get all m ≡ slice_get xs n
 
-had_here : {A : Type 0} (all : List (Option A)) (k : ℕ) (x : Option A) (c : Bool) → slice_get all k ≡ Some x
+pub had_here : {A : Type 0} (all : List (Option A)) (k : ℕ) (x : Option A) (c : Bool) → slice_get all k ≡ Some x
     → had all (if c then None else Some k) ≡ (if c then None else x)
 had_here all k x true e = refl
 had_here all k x false e = ap (option_and_then (λ o. o)) e
@@ -69,9 +72,9 @@ entry v o = record { unit = v; trace = o }
 one_stays : (width : ℕ) (e : Entry) (v : DocUnit) (o : Option WideTrace) (y x : Shown) (c : Bool)
     → IsLaid width e y → StaysAs c y x → v.path ≡ e.unit.path → o ≡ (if c then None else e.trace)
     → IsLaid width (entry v o) x
-one_stays width e v o y x true laid blank path is = record {
-  path = blank.path_is ∙ laid.path ∙ sym path;
-  laid = λ a there. absurd (let off : None ≡ Some a = sym blank.laid ∙ there in cc);
+one_stays width e v o y x true laid same path is = record {
+  path = ap (λ (z : Shown). z.path) same ∙ laid.path ∙ sym path;
+  laid = λ a there. absurd (let off : None ≡ Some a = sym (ap (λ (z : Shown). z.laid) same) ∙ there in cc);
 }
 one_stays width e v o y x false laid same path is = record {
   path = ap (λ (z : Shown). z.path) same ∙ laid.path ∙ sym path;
@@ -86,7 +89,7 @@ one_stays width e v o y x false laid same path is = record {
 abbrev paths_of : List DocUnit → List (Option (List ℕ))
 paths_of us = map (λ u. u.path) us
 
-heads : {A : Type 0} (x y : A) (xs ys : List A) → x ∷ xs ≡ y ∷ ys → (x ≡ y) × (xs ≡ ys)
+pub heads : {A : Type 0} (x y : A) (xs ys : List A) → x ∷ xs ≡ y ∷ ys → (x ≡ y) × (xs ≡ ys)
 heads x y xs ys e = (cc, cc)
 
 stay_laid : (width i k : ℕ) (traces : List (Option WideTrace)) (es : Kept) (vs : List DocUnit) (ys xs : List Shown)
@@ -108,7 +111,9 @@ stay_laid width i k traces (e ∷ es) (v ∷ vs) (y ∷ ys) (x ∷ xs) from laid
     )
 
 one_reads : (y x : Shown) (c : Bool) → Reads y → StaysAs c y x → Reads x
-one_reads y x true reads blank = blank_reads y.path x blank
+one_reads y x true reads same =
+    subst Reads (sym same)
+    (record { placed = reads.placed; short = reads.short; short_items = reads.short_items })
 one_reads y x false reads same = subst Reads (sym same) reads
 
 stay_reads : (i k : ℕ) (ys xs : List Shown) → AllByRecursion Reads ys → StayBut i k ys xs → AllByRecursion Reads xs
@@ -119,7 +124,7 @@ stay_reads i k (y ∷ ys) (x ∷ xs) reads stay =
     (one_reads y x (k == i) reads.0 stay.0, stay_reads i (k + 1) ys xs reads.1 stay.1)
 
 one_attributes : (y x : Shown) (c : Bool) → StaysAs c y x → x.laid ≡ (if c then None else y.laid)
-one_attributes y x true blank = blank.laid
+one_attributes y x true same = ap (λ (z : Shown). z.laid) same
 one_attributes y x false same = ap (λ (z : Shown). z.laid) same
 
 stay_attributes : (i k : ℕ) (all : List (Option Attrs)) (ys xs : List Shown) → AreFrom all k (laid_in ys)
@@ -135,7 +140,7 @@ stay_attributes i k all (y ∷ ys) (x ∷ xs) from stay =
 
 -- ---- an edit of a buffer
 
-laid_many : (width : ℕ) (es : Kept) (ys : List Shown) (vs : List DocUnit) → AreLaid width es ys
+pub laid_many : (width : ℕ) (es : Kept) (ys : List Shown) (vs : List DocUnit) → AreLaid width es ys
     → paths_of vs ≡ paths_of (units_of es) → length ys ≡ length vs
 laid_many width [] [] [] h e = refl
 laid_many width [] [] (v ∷ vs) h e = cc
@@ -146,7 +151,7 @@ laid_many width (x ∷ es) (y ∷ ys) (v ∷ vs) h e =
     ap suc (laid_many width es ys vs h.1
     (heads v.path x.unit.path (paths_of vs) (paths_of (units_of es)) e).1)
 
-from_first : {A : Type 0} (all : List (Option A)) → AreFrom all 0 all
+pub from_first : {A : Type 0} (all : List (Option A)) → AreFrom all 0 all
 from_first all n m e = let same : m ≡ n = omega (arith, e) in ap (slice_get all) same
 
 pub carried_by : (width buffer : ℕ) (ms : List Mod) (t : WideTree) (old new : Kept) (olds xs : List Shown)
@@ -155,7 +160,7 @@ pub carried_by : (width buffer : ℕ) (ms : List Mod) (t : WideTree) (old new : 
     → ss ≡ Sources buffer ms t (units_of old) vs → IsTarget (units_of old) vs ss to → IsMoved to ss olds xs
     → IsCarried width new (map (had (laid_in olds)) (Sources buffer ms t (units_of old) vs)) xs
 unfolding CarryKept Sources
-carried_by width buffer ms t old new olds xs (InPlace i) ss vs laid reads placed there is_new is_ss to moves =
+carried_by width buffer ms t old new olds xs (InPlace i silent) ss vs laid reads placed there is_new is_ss to moves =
     let is : Sources buffer ms t (units_of old) vs ≡ numbers_but i 0 (length vs) = sym is_ss ∙ to.0 in
     let kept : new ≡ taken_from (traces_of old) (numbers_but i 0 (length vs)) vs =
     is_new ∙ ap (λ ns. taken_from (traces_of old) ns vs) is in

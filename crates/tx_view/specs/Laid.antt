@@ -2,11 +2,12 @@
 use Rattle.std.specs.Prelude.{◌≡◌, ℕ, ◌≤◌, ◌<◌, ◌+◌, ◌*◌, ◌^◌, ◌==◌, Bool, true, false, if◌then◌else◌, List, [], ◌∷◌}
 use Rattle.std.specs.Prelude.{map, length, Option, Some, None, option_and_then, slice_get}
 use Rattle.tx_tree.specs.WideTree.{size_of}
+use Rattle.tx_env.specs.Environments.{NameMap}
 use Rattle.tx_origin.specs.Values.{WideValue, plain}
 use Rattle.tx_units.specs.declared.kinds.Unit.{Unit as DocUnit}
 use Rattle.tx_items.specs.declared.attributes.Attrs.{Attrs}
 use Rattle.tx_items.specs.Shows.{shown_paragraphs}
-use Rattle.tx_view_form.specs.Outcomes.{Moment, behind, charge, value_of}
+use Rattle.tx_view_form.specs.Outcomes.{Moment, behind, env_behind, value_of}
 use Rattle.tx_view_form.specs.Started.{attributes_of}
 use Rattle.tx_view_form.specs.Views.{IsShown}
 use Rattle.tx_view_form.specs.Weights.{weight_of}
@@ -42,13 +43,6 @@ AreLaid width (e ∷ es) (x ∷ xs) = IsLaid width e x × AreLaid width es xs
 
 -- ---- what laying out takes
 
--- the charges of the units with a flag, from a moment on
-abbrev pub flagged_from : Moment → List Bool → List DocUnit → ℕ
-flagged_from m [] us = 0
-flagged_from m (f ∷ fs) [] = 0
-flagged_from m (f ∷ fs) (u ∷ us) =
-    (if f then charge m (outcome_of m u) else 0) + flagged_from (behind m (outcome_of m u)) fs us
-
 -- the items of the units that aren't laid out for the attributes before them, from a moment on
 abbrev pub unlaid_from : Moment → List DocUnit → List (Option Attrs) → ℕ
 unlaid_from m [] laid = 0
@@ -72,16 +66,15 @@ without (f ∷ fs) [] = []
 without (f ∷ fs) (x ∷ xs) = unlaid f x ∷ without fs xs
 
 -- One unit more is laid out, at the moment before it. `before` and `after` are the moment there and the one behind it,
--- x and y what was shown and what is shown, and `work` is its charge, where it has a flag, and the items laid out.
-pub record IsNext (width : ℕ) (e : Entry) (f : Bool) (before after : Moment) (x y : Shown) (work : ℕ) : Type 0 where
+-- x and y what was shown and what is shown, and `items` is how many items were laid out.
+pub record IsNext (width : ℕ) (e : Entry) (before after : Moment) (x y : Shown) (items : ℕ) : Type 0 where
   pub behind_is : after ≡ behind before (outcome_of before e.unit)
   pub laid_out : IsLaidOut width (attributes_of before.env) (value_of e.trace) e.unit.path y
   pub attributes : y.laid ≡ Some (attributes_of before.env)
   pub lines : length y.lines + 242 * after.left ≤ 242 * before.left + 49
   pub errors : length y.errors.items + after.left ≤ before.left + 7
-  pub work_is : work ≡ (if f then charge before (outcome_of before e.unit) else 0)
-      + (if is_laid_for x.laid (attributes_of before.env) then 0 else items_of before e.unit)
-  pub most : work + 243 * after.left ≤ 243 * before.left + 49
+  pub items_is : items ≡ (if is_laid_for x.laid (attributes_of before.env) then 0 else items_of before e.unit)
+  pub most : items + 243 * after.left ≤ 243 * before.left + 49
 
 -- ---- what goes with units through an edit
 
@@ -112,9 +105,9 @@ moved [] old xs = xs
 moved (s ∷ ss) old [] = []
 moved (s ∷ ss) old (x ∷ xs) = with_shown x (shown_at old s) ∷ moved ss old xs
 
--- what was shown of a unit stays, or nothing is shown of it where it has changed
+-- what was shown of a unit stays, but isn't laid out any more where the unit has changed
 abbrev pub StaysAs : Bool → Shown → Shown → Type 0
-StaysAs true y x = IsBlank y.path x
+StaysAs true y x = x ≡ unlaid true y
 StaysAs false y x = x ≡ y
 
 -- so it is of all units from number k on, where number i has changed
@@ -127,15 +120,28 @@ StayBut i k (y ∷ ys) (x ∷ xs) = StaysAs (k == i) y x × StayBut i (k + 1) ys
 -- What is shown stays in place where each unit keeps its number and its path, but for one that has changed. Else it
 -- goes to blank ones.
 abbrev pub IsTarget : List DocUnit → List DocUnit → List (Option ℕ) → Target → Type 0
-IsTarget us vs ss (InPlace i) =
+IsTarget us vs ss (InPlace i silent) =
     (ss ≡ numbers_but i 0 (length vs)) × (map (λ v. v.path) vs ≡ map (λ u. u.path) us)
 IsTarget us vs ss (Onto blanks) = AreBlank vs blanks.items
 
 abbrev pub IsFew : Target → Type 0
-IsFew (InPlace i) = Unit {0}
+IsFew (InPlace i silent) = Unit {0}
 IsFew (Onto blanks) = length blanks.items < 2 ^ 32
 
 -- what was shown has gone there
 abbrev pub IsMoved : Target → List (Option ℕ) → List Shown → List Shown → Type 0
-IsMoved (InPlace i) ss old xs = StayBut i 0 old xs
+IsMoved (InPlace i silent) ss old xs = StayBut i 0 old xs
 IsMoved (Onto blanks) ss old xs = xs ≡ moved ss old blanks.items
+
+-- where `silent`, what was kept of the unit that has changed set no name
+abbrev pub SetNoName : Kept → Target → Type 0
+SetNoName kept (InPlace i silent) =
+    silent ≡ true → (e : Entry) → slice_get kept i ≡ Some e → (env : NameMap) → env_behind env e.trace ≡ env
+SetNoName kept (Onto blanks) = Unit {0}
+
+-- The view was fresh, and unit p.0 alone has changed, of which what was kept set no name. It was laid out for the
+-- attributes p.1.
+pub record IsFormer (to : Target) (fresh : Bool) (old : List Shown) (p : ℕ × Attrs) : Type 0 where
+  pub target : to ≡ InPlace p.0 true
+  pub was_fresh : fresh ≡ true
+  pub laid : slice_get (laid_in old) p.0 ≡ Some (Some p.1)

@@ -5,6 +5,7 @@ pub mod Stores
 pub mod Costs
 pub mod Names
 pub mod Laid
+pub mod Lone
 pub mod Exchanged
 pub mod Near
 pub mod Rows

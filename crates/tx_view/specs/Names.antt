@@ -1,5 +1,5 @@
 -- What crates above cite by name. They don't open these definitions.
-use Rattle.std.specs.Prelude.{◌≡◌, ℕ, ◌+◌, List, map, length, None}
+use Rattle.std.specs.Prelude.{◌≡◌, ℕ, ◌+◌, List, [], map, length, None}
 use Rattle.tx_mod.specs.declared.mods.Mod.{Mod}
 use Rattle.tx_doc.specs.Buffers.{tree_of}
 use Rattle.tx_doc.specs.declared.buffer.Buffer.{Buffer}
@@ -8,30 +8,45 @@ use Rattle.tx_view_form.specs.Outcomes.{beginning}
 use Rattle.tx_bridge.specs.Carrying.{had}
 use Rattle.tx_bridge.specs.Entries.{units_of, nothing_kept, fresh_from}
 use Rattle.tx_bridge.specs.Sound.{AllHold}
+use Rattle.tx_bridge.specs.HeldParts.{AllPartsHold}
+use Rattle.tx_bridge.specs.Nested.{fresh_parts_from}
 use Rattle.tx_bridge.specs.Names.{Charge, Sources, Carry as CarryKept}
+use Rattle.tx_view.specs.Exchanged.{parts_after}
 use Rattle.tx_view.specs.Costs.{relaid_from}
 use Rattle.tx_view.specs.Stores.{Stores, attributes_from}
 
 -- nothing is kept of the units of these buffers
 unfoldable pub Empty : List Buffer → Stores
-Empty buffers = record { kept = nothing_kept (units buffers); laid = map (λ u. None) (units buffers) }
+Empty buffers = record {
+  kept = nothing_kept (units buffers);
+  parts = map (λ u. []) (units buffers);
+  laid = map (λ u. None) (units buffers);
+}
 
 -- what making the view of these buffers from nothing leaves
 unfoldable pub Fresh : List Buffer → Stores
-Fresh buffers = record { kept = fresh_from beginning (units buffers); laid = attributes_from beginning (units buffers) }
+Fresh buffers = record {
+  kept = fresh_from beginning (units buffers);
+  parts = fresh_parts_from beginning (units buffers);
+  laid = attributes_from beginning (units buffers);
+}
 
--- what a refresh takes: what the units are charged that are evaluated anew, and the items of those laid out anew
+-- What a refresh takes: what the units are charged that are evaluated anew, which for a nested one are the costs of the
+-- parts of which nothing that fits is kept, and the items of those laid out anew.
 unfoldable pub Bound : Stores → ℕ
-Bound s = Charge s.kept + relaid_from beginning s.kept s.laid
+Bound s = Charge s.kept s.parts + relaid_from beginning s.kept s.laid
 
 -- what stays of what is kept, where the modifications of a buffer make the new buffers of the old ones
 unfoldable pub Carry : ℕ → List Mod → List Buffer → Stores → List Buffer → Stores
 Carry buffer ms old s new = record {
   kept = CarryKept buffer ms (tree_of old buffer) s.kept (units new);
+  parts =
+      parts_after buffer ms (tree_of old buffer) (units_of s.kept) s.parts
+      (Sources buffer ms (tree_of old buffer) (units_of s.kept) (units new));
   laid = map (had s.laid) (Sources buffer ms (tree_of old buffer) (units_of s.kept) (units new));
 }
 
--- what is kept is of the units of these buffers, and the trace of a unit is that of its tree wherever what it looked up
--- is as it was
+-- what is kept is of the units of these buffers, and the trace of a unit, or of a part, is that of its tree wherever what
+-- it looked up is as it was
 unfoldable pub Holds : List Buffer → Stores → Type 0
-Holds buffers s = AllHold s.kept × (units_of s.kept ≡ units buffers) × (length s.laid ≡ length s.kept)
+Holds buffers s = AllHold s.kept × AllPartsHold s.kept s.parts × (units_of s.kept ≡ units buffers) × (length s.laid ≡ length s.kept)

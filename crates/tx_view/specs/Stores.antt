@@ -8,12 +8,15 @@ use Rattle.tx_items.specs.declared.attributes.Attrs.{Attrs}
 use Rattle.tx_units.specs.declared.kinds.Unit.{Unit as DocUnit}
 use Rattle.tx_view_form.specs.Outcomes.{Moment, behind}
 use Rattle.tx_view_form.specs.Started.{attributes_of}
-use Rattle.tx_bridge.specs.Bridged.{coded_Entry}
+use Rattle.tx_bridge.specs.Bridged.{coded_Entry, coded_parts}
+use Rattle.tx_bridge.specs.Nested.{KeptParts}
 use Rattle.tx_bridge.specs.Entries.{Entry, Kept, outcome_of}
 
--- of each unit the trace that it came to last, and the attributes for which it was laid out last, if it was
+-- of each unit the trace that it came to last, the traces of its parts, and the attributes for which it was laid out
+-- last, if it was
 pub record Stores : Type 0 where
   pub kept : Kept
+  pub parts : List KeptParts
   pub laid : List (Option Attrs)
 
 abbrev pub same_attrs : Attrs → Attrs → Bool
@@ -35,6 +38,6 @@ attributes_from m (u ∷ us) = Some (attributes_of m.env) ∷ attributes_from (b
 
 abbrev pub coded_Stores : Coded Stores
 coded_Stores =
-    code_by (List Entry × List (Option Attrs))
-    (coded× (coded_list coded_Entry) (coded_list (coded_option one_attrs.the_row.coded))) (λ s. (s.kept, s.laid))
-    (λ p. record { kept = p.0; laid = p.1 }) (λ _. refl)
+    code_by (List Entry × (List KeptParts × List (Option Attrs)))
+    (coded× (coded_list coded_Entry) (coded× coded_parts (coded_list (coded_option one_attrs.the_row.coded))))
+    (λ s. (s.kept, (s.parts, s.laid))) (λ p. record { kept = p.0; parts = p.1.0; laid = p.1.1 }) (λ _. refl)

@@ -1,5 +1,5 @@
 -- A view, as contracts see it.
-use Rattle.std.specs.Prelude.{◌≡◌, ℕ, ◌≤◌, Bool, true, false, if◌then◌else◌, List, [], length, Option, All, refl}
+use Rattle.std.specs.Prelude.{◌≡◌, ℕ, ◌≤◌, Bool, true, false, if◌then◌else◌, List, [], length, Option, IfSome, All, refl}
 use Rattle.std.specs.Coded.{Coded, code_by, coded×, coded_list, coded_option, coded_ℕ, coded_bool}
 use Rattle.tx_doc.specs.contracts.buffer.Buffer as one_buffer
 use Rattle.tx_doc.specs.declared.buffer.Buffer.{Buffer}
@@ -15,6 +15,7 @@ use Rattle.tx_view_form.specs.Views.{UnitView, WideView, IsView}
 use Rattle.tx_units.specs.Units.{units}
 use Rattle.tx_bridge.specs.Entries.{units_of}
 use Rattle.tx_view.specs.Laid.{laid_in, AreLaid}
+use Rattle.tx_view.specs.Lone.{IsLone, IsPaged}
 use Rattle.tx_view.specs.Names.{Fresh}
 use Rattle.tx_view.specs.Stores.{Stores, coded_Stores}
 use Rattle.tx_view.specs.declared.shown.Shown.{Shown}
@@ -37,7 +38,7 @@ abbrev pub all_of : Inside → List Shown
 all_of v = if v.fresh then v.units.items else v.hidden.items
 
 abbrev pub stores_of : Inside → Stores
-stores_of v = record { kept = v.bridges.kept; laid = laid_in (all_of v) }
+stores_of v = record { kept = v.bridges.kept; parts = v.bridges.parts; laid = laid_in (all_of v) }
 
 abbrev pub whole_of : Inside → WholeView
 whole_of v =
@@ -46,7 +47,7 @@ whole_of v =
       width = v.width;
       height = v.height;
       fresh = v.fresh;
-      shown = record { units = unit_views v.units.items; pages = v.pages.items };
+      shown = record { units = unit_views v.units.items; pages = v.paged.pages.items };
       stores = stores_of v;
       work = v.work;
     }
@@ -65,8 +66,10 @@ pub record IsKept (v : Inside) : Type 0 where
   pub of_buffers : units_of v.bridges.kept ≡ units v.buffers.items
   pub laid : AreLaid v.width v.bridges.kept (all_of v)
   pub all_readable : All (λ s. IsReadable (unit_view s)) (all_of v)
-  pub rows : v.rows.items ≡ sums_from 0 (row_counts (unit_views v.units.items))
-  pub errors : v.errors.items ≡ sums_from 0 (error_counts (unit_views v.units.items))
+  pub rows : v.paged.rows.items ≡ sums_from 0 (row_counts (unit_views v.units.items))
+  pub errors : v.paged.errors.items ≡ sums_from 0 (error_counts (unit_views v.units.items))
+  pub lone : IfSome v.lone (λ l. IsLone v.bridges.kept v.hidden.items l.unit l.attrs
+      × IsPaged v.height (unit_views v.hidden.items) l.paged)
   pub readable : All (λ s. IsReadable (unit_view s)) v.units.items
   pub apart : AreAllApart (unit_views v.units.items)
 

@@ -1,18 +1,21 @@
 // What is shown of units goes with them through an edit.
 ghost use Rattle.std.specs.Prelude.{◌≡◌, ℕ, ◌+◌, ◌≤◌, ◌<◌, ◌^◌, length, slice_get, if◌then◌else◌, IfOk, OnOk, OnErr};
-ghost use Rattle.std.specs.Prelude.{Some, None, IfSome};
+ghost use Rattle.std.specs.Prelude.{Some, None, IfSome, IsTrue, MatchOption, true, false};
 ghost use Rattle.tx_tree.specs.WideTree.{WideTree};
 ghost use Rattle.tx_mod.specs.Followed.{changed_by_all};
 ghost use Rattle.tx_mod.specs.InTurn.{cost_of};
 ghost use Rattle.tx_doc.specs.Buffers.{tree_of, with_tree};
 ghost use Rattle.tx_units.specs.Units.{units, made};
-ghost use Rattle.tx_bridge.specs.Entries.{units_of};
-ghost use Rattle.tx_bridge.specs.Names.{Carry, Sources};
+ghost use Rattle.tx_bridge.specs.Entries.{Entry, units_of};
+ghost use Rattle.tx_bridge.specs.Names.{Carry, CarryParts, Sources};
+ghost use Rattle.tx_bridge.specs.UnitLists.{AreUnits};
 ghost use Rattle.tx_bridge.specs.Carrying.{AllStand, AreSameBodies};
-ghost use Rattle.tx_view.specs.Exchanged.{IsNow, IsExchanged};
-ghost use Rattle.tx_view.specs.Laid.{IsBlank, AreBlank, with_shown, shown_at, moved};
-ghost use Rattle.tx_view.specs.Laid.{StayBut, IsTarget, IsFew, IsMoved};
+ghost use Rattle.tx_view.specs.Exchanged.{IsNow, IsExchanged, stays_alone, exchanged_in, parts_after};
+ghost use Rattle.tx_view.specs.Laid.{IsBlank, AreBlank, with_shown, shown_at, moved, laid_in, unlaid};
+ghost use Rattle.tx_view.specs.Laid.{StayBut, IsTarget, IsFew, IsMoved, SetNoName, IsFormer};
+ghost use Rattle.tx_view.specs.Lone.{SetsNoName};
 
+use crate::laying::sets_nothing;
 use crate::sharing::shared;
 use crate::shown::Shown;
 use crate::unit_lines::UnitLines;
@@ -22,6 +25,7 @@ use std::sync::ledger::Ledger;
 use tx_base::{Memory, Steps};
 use tx_bridge::{Bridges, unit_list_laws};
 use tx_doc::Buffer;
+use tx_items::Attrs;
 use tx_mod::Mod;
 use tx_tree::{Path, Tree};
 use tx_units::{Unit, inside_law, leaves_others, unit_count_law, units};
@@ -131,41 +135,69 @@ fn move_either(
     }
 }
 
-// Nothing is laid out of the unit any more.
-fn reset(shown: &mut Shown)
-    ensures { IsBlank shown.old.path shown.new }
+// The unit isn't laid out any more. Answers for which attributes it was.
+fn reset(shown: &mut Shown) -> Option<Attrs>
+    ensures shown { shown.new ≡ unlaid true shown.old }
+    ensures former { result ≡ shown.old.laid }
 {
-    shown.laid = None;
-    shown.errors.clear();
-    shown.paragraphs.clear();
-    shown.lines.clear();
+    mem::replace(&mut shown.laid, None)
 }
 
-// Nothing is laid out of the unit of this number.
-fn reset_at(all: &mut [Shown], changed: usize)
-    ensures { StayBut changed 0 all.old all.new }
+// The unit of this number isn't laid out any more. Answers for which attributes it was.
+fn reset_at(all: &mut [Shown], changed: usize) -> Option<Attrs>
+    ensures stay { StayBut changed 0 all.old all.new }
+    ensures former { IfSome result (λ a. slice_get (laid_in all.old) changed ≡ Some (Some a)) }
 {
     if changed < all.len() {
-        reset(&mut all[changed]);
+        return reset(&mut all[changed]);
     }
+    None
 }
 
-// What is shown of all units stays, or else what is hidden, but for the unit that has changed.
-fn move_in_place(changed: usize, fresh: bool, shown: &mut Vec<Shown>, hidden: &mut Vec<Shown>)
-    ensures { StayBut changed 0 (if fresh then shown.old.items else hidden.old.items) hidden.new.items }
+// What is shown of all units stays, or else what is hidden, but the unit that has changed isn't laid out any more.
+// Answers for which attributes it was.
+fn move_in_place(
+    changed: usize,
+    fresh: bool,
+    shown: &mut Vec<Shown>,
+    hidden: &mut Vec<Shown>,
+) -> Option<Attrs>
+    ensures stay { StayBut changed 0 (if fresh then shown.old.items else hidden.old.items) hidden.new.items }
+    ensures former { IfSome result (λ a. slice_get (laid_in (if fresh then shown.old.items else hidden.old.items)) changed
+        ≡ Some (Some a)) }
 {
     if fresh {
         mem::swap(shown, hidden);
     }
-    reset_at(hidden, changed);
+    reset_at(hidden, changed)
 }
 
 /// Where what is shown of units goes through an edit: it stays in place, but for this one unit, or it goes to these,
-/// of which nothing is laid out.
+/// of which nothing is laid out. Of that one unit it is said whether what was kept of it is known to set no name.
 #[derive(Drop)]
 pub(crate) enum Target {
-    InPlace(usize),
+    InPlace(usize, bool),
     Onto(Vec<Shown>),
+}
+
+// The number of the unit that has changed, and for which attributes it was laid out, if the view was fresh and the unit
+// set no name.
+fn former_of(
+    changed: usize,
+    silent: bool,
+    fresh: bool,
+    former: Option<Attrs>,
+) -> Option<(usize, Attrs)>
+    ensures { IfSome result (λ p. (p.0 ≡ changed) × (silent ≡ true) × (fresh ≡ true) × (former ≡ Some p.1)) }
+{
+    if !silent {
+        return None;
+    }
+    if !fresh {
+        return None;
+    }
+    let attrs = former?;
+    Some((changed, attrs))
 }
 
 // What is shown goes to these, or else what is hidden, and is hidden then.
@@ -187,29 +219,39 @@ fn move_onto(
     *hidden = new;
 }
 
-/// What is shown of the units, or else what is hidden, goes with them, and is hidden then. It takes no memory.
+/// What is shown of the units, or else what is hidden, goes with them, and is hidden then. It takes no memory. Answers
+/// which one has changed alone since the view was fresh, and for which attributes it was laid out, if that is known.
 pub(crate) fn move_shown(
     target: Target,
     bridges: &Bridges,
     fresh: bool,
     shown: &mut Vec<Shown>,
     hidden: &mut Vec<Shown>,
-)
+) -> Option<(usize, Attrs)>
     requires few { IsFew target }
     requires once { (i j k : ℕ) → slice_get bridges.now.sources j ≡ Some (Some i)
         → slice_get bridges.now.sources k ≡ Some (Some i) → j ≡ k }
-    ensures { IsMoved target bridges.now.sources (if fresh then shown.old.items else hidden.old.items)
+    ensures moved { IsMoved target bridges.now.sources (if fresh then shown.old.items else hidden.old.items)
         hidden.new.items }
+    ensures former { IfSome result
+        (λ p. IsFormer target fresh (if fresh then shown.old.items else hidden.old.items) p) }
 {
     match target {
-        Target::InPlace(changed) => move_in_place(changed, fresh, shown, hidden),
-        Target::Onto(blanks) => move_onto(blanks, bridges, fresh, shown, hidden),
+        Target::InPlace(changed, silent) => {
+            let former = move_in_place(changed, fresh, shown, hidden);
+            former_of(changed, silent, fresh, former)
+        }
+        Target::Onto(blanks) => {
+            move_onto(blanks, bridges, fresh, shown, hidden);
+            None
+        }
     }
 }
 
 // The tree that stands where the unit's paragraph stood, if all other units stay with it.
 fn paragraph_now<'a>(unit: &Unit, tree: &'a Tree) -> Option<&'a Tree>
-    ensures { IfSome result (λ x. IsNow unit.now tree.now x.now) }
+    ensures { MatchOption result (stays_alone tree.now unit.now ≡ false)
+        (λ x. IsNow unit.now tree.now x.now × (stays_alone tree.now unit.now ≡ true)) }
 {
     let path = unit.path.as_ref()?;
     let paragraph = tree.at(path)?;
@@ -220,7 +262,8 @@ fn paragraph_now<'a>(unit: &Unit, tree: &'a Tree) -> Option<&'a Tree>
     }
 }
 
-// The number of the one unit that an edit changes, and its paragraph afterwards. None says nothing.
+// The number of the one unit that an edit changes, where all others stay, and its paragraph afterwards. None where there
+// is no such unit.
 fn exchanged(
     bridges: &Bridges,
     buffer: u32,
@@ -228,14 +271,18 @@ fn exchanged(
     tree: &Tree,
 ) -> Result<Option<(usize, Tree)>, Memory>
     requires few { length (units_of bridges.now.kept) < 2 ^ 32 }
-    ensures { IfOk result (λ o. IfSome o (λ p.
-        IsExchanged p.0 buffer mods.now tree.now p.1 (units_of bridges.now.kept))) }
+    requires units { AreUnits (units_of bridges.now.kept) }
+    ensures { IfOk result (λ o. MatchOption o
+        (exchanged_in buffer mods.now tree.now (units_of bridges.now.kept) ≡ None)
+        (λ p. IsExchanged p.0 buffer mods.now tree.now p.1 (units_of bridges.now.kept)
+        × (exchanged_in buffer mods.now tree.now (units_of bridges.now.kept) ≡ Some p.0))) }
 {
+    unit_list_laws();
     let Some(changed) = bridges.one_changed(buffer, mods) else {
         return Ok(None);
     };
     let Some(unit) = bridges.unit(changed as u32) else {
-        return Ok(None);
+        unreachable!();
     };
     match paragraph_now(unit, tree) {
         None => Ok(None),
@@ -264,6 +311,7 @@ fn carried_anew<L: Ledger>(
     ensures few { IfOk result (λ new. length new.items < 2 ^ 32) }
     ensures carried { OnOk result
         (bridges.new.kept ≡ Carry buffer mods.now before.now bridges.old.kept (units after.now)) }
+    ensures parts { OnOk result (bridges.new.parts ≡ CarryParts bridges.old.parts bridges.new.sources) }
     ensures sources { OnOk result
         (bridges.new.sources ≡ Sources buffer mods.now before.now (units_of bridges.old.kept) (units after.now)) }
     ensures once { OnOk result ((i j k : ℕ) → slice_get bridges.new.sources j ≡ Some (Some i)
@@ -278,6 +326,17 @@ fn carried_anew<L: Ledger>(
     let new = blanks(alloc, &made)?;
     bridges.carry(alloc, buffer, before, mods, made, steps)?;
     Ok(new)
+}
+
+// What is known to be kept of the unit of this number sets no name.
+fn is_silent(bridges: &Bridges, unit: usize) -> bool
+    requires { unit < 2 ^ 32 }
+    ensures { IsTrue result → (e : Entry) → slice_get bridges.now.kept unit ≡ Some e → SetsNoName e.trace }
+{
+    match bridges.outcome(unit as u32) {
+        None => false,
+        Some(outcome) => sets_nothing(outcome),
+    }
 }
 
 // What is kept of the old units goes to those of the buffers after the edit, and what is shown is to go to the target.
@@ -300,8 +359,11 @@ fn carried_kept<L: Ledger>(
     ensures target { IfOk result
         (λ to. IsTarget (units_of bridges.old.kept) (units after.now) bridges.new.sources to) }
     ensures few { IfOk result (λ to. IsFew to) }
+    ensures silent { IfOk result (λ to. SetNoName bridges.old.kept to) }
     ensures kept { OnOk result (bridges.new.kept
         ≡ Carry buffer mods.now (tree_of buffers.now buffer) bridges.old.kept (units after.now)) }
+    ensures parts { OnOk result (bridges.new.parts ≡ parts_after buffer mods.now (tree_of buffers.now buffer)
+        (units_of bridges.old.kept) bridges.old.parts bridges.new.sources) }
     ensures sources { OnOk result (bridges.new.sources ≡ Sources buffer mods.now (tree_of buffers.now buffer)
         (units_of bridges.old.kept) (units after.now)) }
     ensures once { OnOk result ((i j k : ℕ) → slice_get bridges.new.sources j ≡ Some (Some i)
@@ -316,8 +378,9 @@ fn carried_kept<L: Ledger>(
     let before = &buffers[buffer as usize].tree;
     match exchanged(bridges, buffer, mods, tree)? {
         Some((changed, paragraph)) => {
-            bridges.carry_in_place(before, mods, paragraph, changed);
-            Ok(Target::InPlace(changed))
+            let silent = is_silent(bridges, changed);
+            bridges.carry_in_place(alloc, before, mods, paragraph, changed, steps)?;
+            Ok(Target::InPlace(changed, silent))
         }
         None => Ok(Target::Onto(carried_anew(alloc, bridges, after, buffer, before, mods, steps)?)),
     }
@@ -344,12 +407,15 @@ pub(crate) fn carried<L: Ledger>(
         (units (with_tree buffers.now buffer tree.now)) bridges.new.sources p.1) }
     ensures kept { OnOk result (bridges.new.kept ≡ Carry buffer mods.now (tree_of buffers.now buffer) bridges.old.kept
         (units (with_tree buffers.now buffer tree.now))) }
+    ensures parts { OnOk result (bridges.new.parts ≡ parts_after buffer mods.now (tree_of buffers.now buffer)
+        (units_of bridges.old.kept) bridges.old.parts bridges.new.sources) }
     ensures sources { OnOk result (bridges.new.sources ≡ Sources buffer mods.now (tree_of buffers.now buffer)
         (units_of bridges.old.kept) (units (with_tree buffers.now buffer tree.now))) }
     ensures once { OnOk result ((i j k : ℕ) → slice_get bridges.new.sources j ≡ Some (Some i)
         → slice_get bridges.new.sources k ≡ Some (Some i) → j ≡ k) }
     ensures units { OnOk result (units_of bridges.new.kept ≡ units (with_tree buffers.now buffer tree.now)) }
     ensures few { IfOk result (λ p. IsFew p.1) }
+    ensures silent { IfOk result (λ p. SetNoName bridges.old.kept p.1) }
     ensures refused { OnErr result (bridges.new ≡ bridges.old) }
     ensures counted { steps.new ≤ steps.old
         + (cost_of mods.now + made (with_tree buffers.now buffer tree.now)) }

@@ -1,7 +1,7 @@
 // Units laid out one behind the other, each by what is kept of it.
 ghost use Rattle.std.specs.Prelude.{◌≡◌, ◌+◌, ◌*◌, ◌≤◌, ◌<◌, ◌^◌, length, slice_get, All, IfOk, OnOk, OnErr, Some};
 ghost use Rattle.std.specs.Prelude.{true, false, ℕ, map};
-ghost use Rattle.std.specs.Prelude.{if◌then◌else◌, ◌&&◌, IsTrue};
+ghost use Rattle.std.specs.Prelude.{if◌then◌else◌, ◌&&◌, IsTrue, IsSome, IfSome};
 ghost use Rattle.std.specs.Option.{unwrap_or};
 ghost use Rattle.std.specs.Ordering.{int_eq};
 ghost use Rattle.std.specs.Str.{bytes_eq};
@@ -18,14 +18,18 @@ ghost use Rattle.tx_view_form.specs.Errors.{errors_of};
 ghost use Rattle.tx_view_form.specs.Weights.{weight_of};
 ghost use Rattle.tx_bridge.specs.Entries.{Entry, units_of, fresh_from, outcome_of};
 ghost use Rattle.tx_bridge.specs.Names.{Charge};
+ghost use Rattle.tx_bridge.specs.Nested.{fresh_parts_from};
+ghost use Rattle.tx_view_form.specs.declared.TheConstants.{MOST_VIEW_STEPS};
 ghost use Rattle.tx_bridge.specs.Reached.{reached_from};
 ghost use Rattle.tx_view.specs.Variables.{AreVariables};
 ghost use Rattle.tx_view.specs.Units.{unit_view, unit_views, IsReadable};
 ghost use Rattle.tx_view.specs.Stores.{same_attrs, is_laid_for, attributes_from};
 ghost use Rattle.tx_view.specs.Costs.{items_in, items_of, relaid_from};
-ghost use Rattle.tx_view.specs.Laid.{IsLaid, IsLaidOut, IsNext, AreLaid, laid_in, flagged_from, unlaid_from, unlaid};
+ghost use Rattle.tx_view.specs.Laid.{IsLaid, IsLaidOut, IsNext, AreLaid, laid_in, unlaid_from, unlaid};
 ghost use Rattle.tx_view.specs.Laid.{without};
+ghost use Rattle.tx_view.specs.Lone.{SetsNoName, IsLone, IsAlone, KeepPages};
 
+use crate::lone::{Lone, is_alone_quietly, lay_if};
 use crate::shown::{Shown, show};
 use crate::starts::Variables;
 use std::alloc::Global;
@@ -86,14 +90,35 @@ fn forget(shown: &mut Shown, renewed: bool)
     }
 }
 
-// What was laid out of units that were evaluated anew isn't theirs any more.
-fn forget_renewed(units: &mut [Shown], bridges: &Bridges)
-    requires few { length units.old < 2 ^ 32 }
-    ensures { units.new ≡ without bridges.now.renewed units.old }
+// Whether none but one was renewed, with one more that is that one or another.
+fn still_alone(alone: bool, renewed: bool, is_lone: bool) -> bool
+    ensures before { IsTrue result → alone ≡ true }
+    ensures here { IsTrue result → is_lone ≡ false → renewed ≡ false }
 {
-    for i in 0..units.len() {
-        forget(&mut units[i], bridges.renewed(i as u32));
+    if is_lone {
+        return alone;
     }
+    if renewed {
+        return false;
+    }
+    alone
+}
+
+// What was laid out of units that were evaluated anew isn't theirs any more. If it answers true, none but number `lone`
+// was.
+fn forget_renewed(units: &mut [Shown], bridges: &Bridges, lone: usize) -> bool
+    requires few { length units.old < 2 ^ 32 }
+    ensures shown { units.new ≡ without bridges.now.renewed units.old }
+    ensures alone { IsTrue result → (k : ℕ) → k < length units.old → (k ≡ lone → ⊥)
+        → unwrap_or (slice_get bridges.now.renewed k) false ≡ false }
+{
+    let mut alone = true;
+    for i in 0..units.len() {
+        let renewed = bridges.renewed(i as u32);
+        forget(&mut units[i], renewed);
+        alone = still_alone(alone, renewed, i == lone);
+    }
+    alone
 }
 
 // Nothing is laid out.
@@ -105,28 +130,35 @@ fn forget_all(units: &mut [Shown])
     }
 }
 
-// Evaluates the units of which nothing fits. What was laid out of them isn't theirs any more.
-#[tactic(auto, unfolding(tx_bridge::specs::Names::Fresh))]
+// Evaluates the units of which nothing fits. What was laid out of them isn't theirs any more. Answers the charges, and
+// whether they are none but number `lone`. False says nothing.
+#[tactic(auto, unfolding(tx_bridge::specs::Names::Fresh, tx_bridge::specs::Names::FreshParts))]
 fn evaluate<L: Ledger>(
     alloc: Global,
     bridges: &mut Bridges,
     units: &mut [Shown],
+    lone: usize,
     steps: &mut Steps<L>,
-) -> Result<(), Memory>
+) -> Result<(u64, bool), Memory>
     requires few { length units.old < 2 ^ 32 }
     ensures kept { OnOk result (bridges.new.kept ≡ fresh_from beginning (units_of bridges.old.kept)) }
+    ensures parts { OnOk result (bridges.new.parts ≡ fresh_parts_from beginning (units_of bridges.old.kept)) }
     ensures renewed { OnOk result (bridges.new.renewed ≡ reached_from beginning bridges.old.kept) }
     ensures shown { OnOk result (units.new ≡ without bridges.new.renewed units.old) }
-    ensures counted { OnOk result (steps.new ≡ steps.old + Charge bridges.old.kept) }
+    ensures charge { IfOk result (λ p. p.0 ≡ Charge bridges.old.kept bridges.old.parts) }
+    ensures counted { IfOk result (λ p. steps.new ≡ steps.old + p.0) }
+    ensures most { IfOk result (λ p. p.0 ≤ MOST_VIEW_STEPS) }
+    ensures alone { IfOk result (λ p. p.1 ≡ true
+        → IsAlone lone (length units.old) bridges.old.kept bridges.new.kept bridges.new.renewed) }
     ensures units { units_of bridges.new.kept ≡ units_of bridges.old.kept }
     ensures laid { (width : ℕ) → AreLaid width bridges.old.kept units.old → AreLaid width bridges.new.kept units.new }
     ensures readable { All (λ s. IsReadable (unit_view s)) units.old
         → All (λ s. IsReadable (unit_view s)) units.new }
 {
     match bridges.refresh(alloc, steps) {
-        Ok(()) => {
-            forget_renewed(units, bridges);
-            Ok(())
+        Ok(charges) => {
+            let alone = forget_renewed(units, bridges, lone);
+            Ok((charges, alone))
         }
         Err(memory) => {
             forget_all(units);
@@ -136,7 +168,7 @@ fn evaluate<L: Ledger>(
 }
 
 // How many items paragraphs have.
-fn item_count(paragraphs: &[Paragraph]) -> u64
+pub(crate) fn item_count(paragraphs: &[Paragraph]) -> u64
     requires few { items_in paragraphs.now < 2 ^ 63 }
     ensures { result ≡ items_in paragraphs.now }
 {
@@ -148,7 +180,7 @@ fn item_count(paragraphs: &[Paragraph]) -> u64
 }
 
 // A law: what a unit that comes to this shows weighs at most 242 for each unit of its size.
-fn outcome_weight_law(outcome: &Outcome)
+pub(crate) fn outcome_weight_law(outcome: &Outcome)
     ensures { (a : Attrs) → weight_of (shown_paragraphs a (value_of (wide_outcome outcome.now)))
         ≤ 242 * size_of (plain (value_of (wide_outcome outcome.now))) }
 {
@@ -159,7 +191,7 @@ fn outcome_weight_law(outcome: &Outcome)
 }
 
 // What a unit with this path shows, where it comes to this and these are the attributes before it.
-fn shown_of<L: Ledger>(
+pub(crate) fn shown_of<L: Ledger>(
     alloc: Global,
     path: &Option<Path>,
     outcome: &Outcome,
@@ -217,8 +249,8 @@ fn lay<L: Ledger>(
     Ok(item_count(&shown.paragraphs))
 }
 
-// Lays the unit of this number out, before which the attributes are these, and goes behind it. Answers its charge, if
-// it was evaluated anew, and how many items were laid out.
+// Lays the unit of this number out, before which the attributes are these, and goes behind it. Answers how many items
+// were laid out.
 fn lay_next<L: Ledger>(
     alloc: Global,
     bridges: &Bridges,
@@ -238,8 +270,7 @@ fn lay_next<L: Ledger>(
     requires readable { IsReadable (unit_view shown.old) }
     requires few { moment.old.left < 2 ^ 32 }
     ensures next { IfOk result (λ n. (e : Entry) → slice_get bridges.now.kept i ≡ Some e
-        → IsNext width e (unwrap_or (slice_get bridges.now.renewed i) false) moment.old moment.new shown.old
-        shown.new n) }
+        → IsNext width e moment.old moment.new shown.old shown.new n) }
     ensures counted { OnOk result ((e : Entry) → slice_get bridges.now.kept i ≡ Some e → steps.new ≡ steps.old
         + (if is_laid_for shown.old.laid (attributes_of moment.old.env) then 0 else items_of moment.old e.unit)) }
     ensures readable { IsReadable (unit_view shown.new) }
@@ -251,18 +282,14 @@ fn lay_next<L: Ledger>(
     weight_laws();
     trace_laws();
     outcome_weight_law(outcome);
-    let before = moment.left();
     bridges.pass(i, moment)?;
     let items = lay(alloc, outcome, attrs, shown, width, steps)?;
-    if bridges.renewed(i) {
-        return Ok(items + (before - moment.left()));
-    }
     Ok(items)
 }
 
-// A unit that comes to this sets no name.
-fn sets_nothing(outcome: &Outcome) -> bool
-    ensures { IsTrue result → (env : NameMap) → env_behind env (wide_outcome outcome.now) ≡ env }
+/// A unit that comes to this sets no name.
+pub(crate) fn sets_nothing(outcome: &Outcome) -> bool
+    ensures { IsTrue result → SetsNoName (wide_outcome outcome.now) }
 {
     match outcome {
         Outcome::Over => true,
@@ -296,7 +323,7 @@ fn pass_attributes(
 }
 
 // Lays all units out that aren't laid out for the attributes before them, the first at this moment with these
-// attributes. Answers the charges of those that were evaluated anew and how many items were laid out.
+// attributes. Answers how many items were laid out.
 fn lay_each<L: Ledger>(
     alloc: Global,
     variables: &Variables,
@@ -322,13 +349,13 @@ fn lay_each<L: Ledger>(
     ensures errors { OnOk result (length (errors_of (unit_views units.new)) < 2 ^ 32) }
     ensures counted { OnOk result
         (steps.new ≡ steps.old + unlaid_from beginning (units_of bridges.now.kept) (laid_in units.old)) }
-    ensures work { IfOk result (λ n. n
-        ≡ flagged_from beginning bridges.now.renewed (units_of bridges.now.kept)
-        + unlaid_from beginning (units_of bridges.now.kept) (laid_in units.old)) }
+    ensures items { IfOk result
+        (λ n. n ≡ unlaid_from beginning (units_of bridges.now.kept) (laid_in units.old)) }
+    ensures most { IfOk result (λ n. n < 2 ^ 40) }
     ensures laid { AreLaid width bridges.now.kept units.new }
     ensures readable { All (λ s. IsReadable (unit_view s)) units.new }
 {
-    let mut work = 0;
+    let mut items = 0;
     for i in 0..units.len() {
         let more = lay_next(
             alloc,
@@ -341,9 +368,9 @@ fn lay_each<L: Ledger>(
             steps,
         )?;
         pass_attributes(alloc, variables, bridges, i as u32, moment, attrs)?;
-        work += more;
+        items += more;
     }
-    Ok(work)
+    Ok(items)
 }
 
 // The same, where it begins at the first unit.
@@ -368,9 +395,9 @@ fn lay_from_start<L: Ledger>(
     ensures errors { OnOk result (length (errors_of (unit_views units.new)) < 2 ^ 32) }
     ensures counted { OnOk result
         (steps.new ≡ steps.old + unlaid_from beginning (units_of bridges.now.kept) (laid_in units.old)) }
-    ensures work { IfOk result (λ n. n
-        ≡ flagged_from beginning bridges.now.renewed (units_of bridges.now.kept)
-        + unlaid_from beginning (units_of bridges.now.kept) (laid_in units.old)) }
+    ensures items { IfOk result
+        (λ n. n ≡ unlaid_from beginning (units_of bridges.now.kept) (laid_in units.old)) }
+    ensures most { IfOk result (λ n. n < 2 ^ 40) }
     ensures laid { AreLaid width bridges.now.kept units.new }
     ensures readable { All (λ s. IsReadable (unit_view s)) units.new }
 {
@@ -388,8 +415,7 @@ fn lay_from_start<L: Ledger>(
     )
 }
 
-// Lays all units out that aren't laid out for the attributes before them, and answers the charges of those that were
-// evaluated anew and how many items were laid out.
+// Lays all units out that aren't laid out for the attributes before them, and answers how many items were laid out.
 fn lay_all<L: Ledger>(
     alloc: Global,
     bridges: &Bridges,
@@ -409,9 +435,9 @@ fn lay_all<L: Ledger>(
     ensures errors { OnOk result (length (errors_of (unit_views units.new)) < 2 ^ 32) }
     ensures counted { OnOk result
         (steps.new ≡ steps.old + unlaid_from beginning (units_of bridges.now.kept) (laid_in units.old)) }
-    ensures work { IfOk result (λ n. n
-        ≡ flagged_from beginning bridges.now.renewed (units_of bridges.now.kept)
-        + unlaid_from beginning (units_of bridges.now.kept) (laid_in units.old)) }
+    ensures items { IfOk result
+        (λ n. n ≡ unlaid_from beginning (units_of bridges.now.kept) (laid_in units.old)) }
+    ensures most { IfOk result (λ n. n < 2 ^ 40) }
     ensures laid { AreLaid width bridges.now.kept units.new }
     ensures readable { All (λ s. IsReadable (unit_view s)) units.new }
 {
@@ -419,9 +445,8 @@ fn lay_all<L: Ledger>(
     lay_from_start(alloc, &variables, bridges, units, width, steps)
 }
 
-/// Evaluates the units of which nothing fits, and lays those out that aren't laid out as they should be. Answers by how
-/// much the steps rose.
-pub(crate) fn lay_out<L: Ledger>(
+// Evaluates the units of which nothing fits, and lays all units out. Answers by how much the steps rose.
+fn lay_out_all<L: Ledger>(
     alloc: Global,
     bridges: &mut Bridges,
     units: &mut [Shown],
@@ -435,17 +460,101 @@ pub(crate) fn lay_out<L: Ledger>(
     requires readable { All (λ s. IsReadable (unit_view s)) units.old }
     ensures shown { OnOk result (AreShown width beginning (units_of bridges.old.kept) (unit_views units.new)) }
     ensures kept { OnOk result (bridges.new.kept ≡ fresh_from beginning (units_of bridges.old.kept)) }
+    ensures parts { OnOk result (bridges.new.parts ≡ fresh_parts_from beginning (units_of bridges.old.kept)) }
     ensures attributes { OnOk result (laid_in units.new ≡ attributes_from beginning (units_of bridges.old.kept)) }
     ensures lines { OnOk result (length (lines_of (unit_views units.new)) < 2 ^ 32) }
     ensures errors { OnOk result (length (errors_of (unit_views units.new)) < 2 ^ 32) }
     ensures counted { IfOk result (λ n. steps.new ≡ steps.old + n) }
     ensures work { IfOk result (λ n. n
-        ≡ Charge bridges.old.kept + relaid_from beginning bridges.old.kept (laid_in units.old)) }
+        ≡ Charge bridges.old.kept bridges.old.parts + relaid_from beginning bridges.old.kept (laid_in units.old)) }
     ensures units { units_of bridges.new.kept ≡ units_of bridges.old.kept }
     ensures laid { AreLaid width bridges.new.kept units.new }
     ensures readable { All (λ s. IsReadable (unit_view s)) units.new }
 {
-    evaluate(alloc, bridges, units, steps)?;
-    let work = lay_all(alloc, bridges, units, width, steps)?;
-    Ok(work)
+    let none = units.len();
+    let (charges, _) = evaluate(alloc, bridges, units, none, steps)?;
+    let items = lay_all(alloc, bridges, units, width, steps)?;
+    Ok(charges + items)
+}
+
+// The same, where one unit alone has changed since all were laid out, and `attrs` are the attributes before it. Answers
+// besides whether the pages stay.
+fn lay_out_lone<L: Ledger>(
+    alloc: Global,
+    bridges: &mut Bridges,
+    unit: usize,
+    attrs: &Attrs,
+    units: &mut [Shown],
+    width: u32,
+    steps: &mut Steps<L>,
+) -> Result<(u64, bool), Memory>
+    requires least_width { 20 ≤ width }
+    requires most_width { width ≤ 500 }
+    requires few { length bridges.old.kept < 2 ^ 23 }
+    requires lone { IsLone bridges.old.kept units.old unit attrs.now }
+    requires laid { AreLaid width bridges.old.kept units.old }
+    requires readable { All (λ s. IsReadable (unit_view s)) units.old }
+    ensures shown { OnOk result (AreShown width beginning (units_of bridges.old.kept) (unit_views units.new)) }
+    ensures kept { OnOk result (bridges.new.kept ≡ fresh_from beginning (units_of bridges.old.kept)) }
+    ensures parts { OnOk result (bridges.new.parts ≡ fresh_parts_from beginning (units_of bridges.old.kept)) }
+    ensures attributes { OnOk result (laid_in units.new ≡ attributes_from beginning (units_of bridges.old.kept)) }
+    ensures lines { IfOk result (λ p. p.1 ≡ false → length (lines_of (unit_views units.new)) < 2 ^ 32) }
+    ensures errors { IfOk result (λ p. p.1 ≡ false → length (errors_of (unit_views units.new)) < 2 ^ 32) }
+    ensures pages { IfOk result (λ p. p.1 ≡ true → KeepPages units.old units.new) }
+    ensures counted { IfOk result (λ p. steps.new ≡ steps.old + p.0) }
+    ensures work { IfOk result (λ p. p.0
+        ≡ Charge bridges.old.kept bridges.old.parts + relaid_from beginning bridges.old.kept (laid_in units.old)) }
+    ensures units { units_of bridges.new.kept ≡ units_of bridges.old.kept }
+    ensures laid { AreLaid width bridges.new.kept units.new }
+    ensures readable { All (λ s. IsReadable (unit_view s)) units.new }
+{
+    trace_laws();
+    let (charges, alone) = evaluate(alloc, bridges, units, unit, steps)?;
+    let quiet = is_alone_quietly(alone, bridges, unit);
+    let (items, alike) = lay_if(alloc, bridges, quiet, unit, attrs, units, width, steps)?;
+    let work = charges + items;
+    if alike {
+        return Ok((work, true));
+    }
+    let rest = lay_all(alloc, bridges, units, width, steps)?;
+    Ok((work + rest, false))
+}
+
+/// Evaluates the units of which nothing fits, and lays those out that aren't laid out as they should be. Answers by how
+/// much the steps rose, and whether the pages of the units stay, which are in `lone`.
+pub(crate) fn lay_out<L: Ledger>(
+    alloc: Global,
+    bridges: &mut Bridges,
+    lone: &Option<Lone>,
+    units: &mut [Shown],
+    width: u32,
+    steps: &mut Steps<L>,
+) -> Result<(u64, bool), Memory>
+    requires least_width { 20 ≤ width }
+    requires most_width { width ≤ 500 }
+    requires few { length bridges.old.kept < 2 ^ 23 }
+    requires lone { IfSome lone.now (λ l. IsLone bridges.old.kept units.old l.unit l.attrs) }
+    requires laid { AreLaid width bridges.old.kept units.old }
+    requires readable { All (λ s. IsReadable (unit_view s)) units.old }
+    ensures shown { OnOk result (AreShown width beginning (units_of bridges.old.kept) (unit_views units.new)) }
+    ensures kept { OnOk result (bridges.new.kept ≡ fresh_from beginning (units_of bridges.old.kept)) }
+    ensures parts { OnOk result (bridges.new.parts ≡ fresh_parts_from beginning (units_of bridges.old.kept)) }
+    ensures attributes { OnOk result (laid_in units.new ≡ attributes_from beginning (units_of bridges.old.kept)) }
+    ensures lines { IfOk result (λ p. p.1 ≡ false → length (lines_of (unit_views units.new)) < 2 ^ 32) }
+    ensures errors { IfOk result (λ p. p.1 ≡ false → length (errors_of (unit_views units.new)) < 2 ^ 32) }
+    ensures pages { IfOk result (λ p. p.1 ≡ true → IsSome lone.now × KeepPages units.old units.new) }
+    ensures counted { IfOk result (λ p. steps.new ≡ steps.old + p.0) }
+    ensures work { IfOk result (λ p. p.0
+        ≡ Charge bridges.old.kept bridges.old.parts + relaid_from beginning bridges.old.kept (laid_in units.old)) }
+    ensures units { units_of bridges.new.kept ≡ units_of bridges.old.kept }
+    ensures laid { AreLaid width bridges.new.kept units.new }
+    ensures readable { All (λ s. IsReadable (unit_view s)) units.new }
+{
+    match lone {
+        None => {
+            let work = lay_out_all(alloc, bridges, units, width, steps)?;
+            Ok((work, false))
+        }
+        Some(lone) => lay_out_lone(alloc, bridges, lone.unit, &lone.attrs, units, width, steps),
+    }
 }

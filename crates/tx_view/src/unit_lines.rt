@@ -1,5 +1,6 @@
 // The lines of a unit.
 ghost use Rattle.std.specs.Prelude.{◌≡◌, ℕ, List, ◌+◌, ◌<◌, ◌^◌, ◌++◌, [], length, false, All, OnOk, OnErr, IsFalse};
+ghost use Rattle.std.specs.Prelude.{IsTrue};
 ghost use Rattle.tx_layout.specs.declared.layout.Line.{Line as Shape};
 ghost use Rattle.tx_layout.specs.Paging.{Unmarked};
 ghost use Rattle.tx_layout.specs.Told.{HasTold, lines_told};
@@ -67,12 +68,11 @@ impl UnitLines {
         &self.all
     }
 
-    /// There are no lines any more.
-    pub(crate) fn clear(&mut self)
-        ensures { self.new ≡ [] }
+    /// No line is the last of its page. False says nothing.
+    pub(crate) fn is_unmarked(&self) -> bool
+        ensures { IsTrue result → All Unmarked self.now }
     {
-        self.all.clear();
-        self.marked = true;
+        !self.marked
     }
 
     /// Tells the paginator these lines. For want of memory those told before are told.

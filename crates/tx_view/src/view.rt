@@ -1,6 +1,6 @@
 // The view.
 ghost use Rattle.std.specs.Prelude.{◌≡◌, ◌+◌, ◌≤◌, ◌<◌, ◌^◌, [], ◌∷◌, length, true, false, All, MatchOption, IsOk};
-ghost use Rattle.std.specs.Prelude.{IsTrue, IfOk};
+ghost use Rattle.std.specs.Prelude.{IsTrue, IfOk, IsSome, IfSome};
 ghost use Rattle.std.specs.Prelude.{OnOk, OnErr, None, Some, option_and_then, option_copied, slice_get};
 ghost use Rattle.tx_mod.specs.Followed.{changed_by_all};
 ghost use Rattle.tx_mod.specs.InTurn.{cost_of};
@@ -13,19 +13,21 @@ ghost use Rattle.tx_view_form.specs.Errors.{errors_of};
 ghost use Rattle.tx_view_form.specs.Cells.{drawn_at, row_in};
 ghost use Rattle.tx_view_form.specs.Positions.{position_in};
 ghost use Rattle.tx_view_form.specs.Stops.{stops_of};
-ghost use Rattle.tx_layout.specs.Paging.{PagesFrom};
 ghost use Rattle.tx_view.specs.Near.{AreNear};
-ghost use Rattle.tx_view.specs.Units.{unit_view, unit_views, sums_from, row_counts, error_counts, IsReadable};
+ghost use Rattle.tx_view.specs.Units.{unit_view, unit_views, IsReadable};
 ghost use Rattle.tx_view.specs.Units.{AreAllApart};
 ghost use Rattle.tx_view.specs.Laid.{AreLaid, laid_in};
+ghost use Rattle.tx_view.specs.Lone.{IsLone, IsPaged};
 ghost use Rattle.tx_view.specs.Names.{Empty, Fresh, Bound, Carry, Holds};
 
 use crate::around::{apart_law, stops_near};
 use crate::carrying::{blanks, carried, move_shown};
 use crate::cells::drawn_at;
 use crate::laying::lay_out;
+use crate::lone::{Lone, lone_of};
+use crate::paging::{Pagination, all_paged, nothing_paged};
 use crate::places::place_in;
-use crate::searching::{error_count, error_in, first_errors, first_rows, row_count, row_in};
+use crate::searching::{error_count, error_in, row_count, row_in};
 use crate::sharing::shared;
 use crate::shown::Shown;
 use crate::stops::stops_of;
@@ -37,7 +39,7 @@ use tx_base::{Memory, Steps};
 use tx_bridge::{Bridges, unit_list_laws};
 use tx_doc::Buffer;
 use tx_items::{Drawn, ErrorAt};
-use tx_layout::{Line, Paginator};
+use tx_layout::Line;
 use tx_lines::Cut;
 use tx_mod::Mod;
 use tx_origin::Spot;
@@ -61,10 +63,10 @@ pub struct View {
     units: Vec<Shown>,
     // what was shown of each unit before the buffers changed, and nothing where it is fresh
     hidden: Vec<Shown>,
-    // how many rows and errors stand before each unit, and how many there are
-    rows: Vec<u32>,
-    errors: Vec<u32>,
-    pages: Vec<Cut>,
+    // the pages of what is shown
+    paged: Pagination,
+    // the one unit that has changed since the view was fresh, if it is known that all others stay
+    lone: Option<Lone>,
     // by how many steps the last refresh that ended raised the count
     work: u64,
 }
@@ -81,58 +83,39 @@ impl Model for View {
     ghost invariant = { IsKept };
 }
 
-// The sums before no unit.
-fn zero(alloc: Global) -> Result<Vec<u32>, Memory>
-    ensures { IfOk result (λ sums. sums.items ≡ 0 ∷ []) }
-{
-    let sums = vec![in alloc; 0u32]?;
-    Ok(sums)
-}
-
-// The pages of units.
-fn paged(alloc: Global, units: &[Shown], height: u32) -> Result<Vec<Cut>, Memory>
+// The pages of units: those that were kept, where they stay, and else those that are cut anew.
+fn paged_again(
+    alloc: Global,
+    units: &[Shown],
+    height: u32,
+    stays: bool,
+    lone: Option<Lone>,
+) -> Result<Pagination, Memory>
     requires least_height { 5 ≤ height }
     requires most_height { height ≤ 500 }
-    requires few { length (lines_of (unit_views units.now)) < 2 ^ 32 }
-    ensures { IfOk result (λ cuts. PagesFrom (lines_of (unit_views units.now)) height 0 cuts.items) }
+    requires few { stays ≡ false → length (lines_of (unit_views units.now)) < 2 ^ 32 }
+    requires few_errors { stays ≡ false → length (errors_of (unit_views units.now)) < 2 ^ 32 }
+    requires some { stays ≡ true → IsSome lone }
+    requires stays { stays ≡ true → IfSome lone (λ l. IsPaged height (unit_views units.now) l.paged) }
+    ensures { IfOk result (λ p. IsPaged height (unit_views units.now) p) }
 {
-    let mut paginator = Paginator::new(alloc, height);
-    for unit in units {
-        unit.lines.tell(&mut paginator)?;
+    if !stays {
+        return all_paged(alloc, units, height);
     }
-    paginator.finish()
+    let Some(lone) = lone else {
+        unreachable!();
+    };
+    Ok(lone.paged)
 }
 
-// The pages of units, and how many rows and errors stand before each unit.
-#[derive(Drop)]
-struct Pagination {
-    pages: Vec<Cut>,
-    rows: Vec<u32>,
-    errors: Vec<u32>,
-}
-
-fn all_paged(alloc: Global, units: &[Shown], height: u32) -> Result<Pagination, Memory>
-    requires least_height { 5 ≤ height }
-    requires most_height { height ≤ 500 }
-    requires few { length (lines_of (unit_views units.now)) < 2 ^ 32 }
-    requires few_errors { length (errors_of (unit_views units.now)) < 2 ^ 32 }
-    ensures pages { IfOk result (λ p. PagesFrom (lines_of (unit_views units.now)) height 0 p.pages.items) }
-    ensures rows { IfOk result (λ p. p.rows.items ≡ sums_from 0 (row_counts (unit_views units.now))) }
-    ensures errors { IfOk result (λ p. p.errors.items ≡ sums_from 0 (error_counts (unit_views units.now))) }
-{
-    Ok(Pagination {
-        pages: paged(alloc, units, height)?,
-        rows: first_rows(alloc, units)?,
-        errors: first_errors(alloc, units)?,
-    })
-}
-
-// Lays the units of the buffers out, and tells their pages and by how much the steps rose.
+// Lays the units of the buffers out, and tells their pages and by how much the steps rose. Where one alone has changed
+// since all were laid out, the pages may stay.
 fn made_anew<L: Ledger>(
     alloc: Global,
     buffers: &[Buffer],
     bridges: &mut Bridges,
     all: &mut [Shown],
+    lone: Option<Lone>,
     size: (u32, u32),
     steps: &mut Steps<L>,
 ) -> Result<(Pagination, u64), Memory>
@@ -144,14 +127,14 @@ fn made_anew<L: Ledger>(
     requires of_buffers { units_of bridges.old.kept ≡ units buffers.now }
     requires laid { AreLaid size.0 bridges.old.kept all.old }
     requires readable { All (λ s. IsReadable (unit_view s)) all.old }
+    requires lone { IfSome lone (λ l. IsLone bridges.old.kept all.old l.unit l.attrs
+        × IsPaged size.1 (unit_views all.old) l.paged) }
     ensures shown { OnOk result (AreShown size.0 beginning (units buffers.now) (unit_views all.new)) }
     ensures stores { OnOk result
-        (record { kept = bridges.new.kept; laid = laid_in all.new } ≡ Fresh buffers.now) }
-    ensures pages { IfOk result (λ p. PagesFrom (lines_of (unit_views all.new)) size.1 0 p.0.pages.items) }
-    ensures rows { IfOk result (λ p. p.0.rows.items ≡ sums_from 0 (row_counts (unit_views all.new))) }
-    ensures errors { IfOk result (λ p. p.0.errors.items ≡ sums_from 0 (error_counts (unit_views all.new))) }
+        (record { kept = bridges.new.kept; parts = bridges.new.parts; laid = laid_in all.new } ≡ Fresh buffers.now) }
+    ensures paged { IfOk result (λ p. IsPaged size.1 (unit_views all.new) p.0) }
     ensures apart { OnOk result (AreAllApart (unit_views all.new)) }
-    ensures work { IfOk result (λ p. p.1 ≡ Bound (record { kept = bridges.old.kept; laid = laid_in all.old })) }
+    ensures work { IfOk result (λ p. p.1 ≡ Bound (record { kept = bridges.old.kept; parts = bridges.old.parts; laid = laid_in all.old })) }
     ensures counted { IfOk result (λ p. steps.new ≡ steps.old + p.1) }
     ensures of_buffers { units_of bridges.new.kept ≡ units buffers.now }
     ensures laid { AreLaid size.0 bridges.new.kept all.new }
@@ -159,9 +142,9 @@ fn made_anew<L: Ledger>(
 {
     unit_count_law(buffers);
     let (width, height) = size;
-    let work = lay_out(alloc, bridges, all, width, steps)?;
+    let (work, stays) = lay_out(alloc, bridges, &lone, all, width, steps)?;
     apart_law(buffers, width, all);
-    let paged = all_paged(alloc, all, height)?;
+    let paged = paged_again(alloc, all, height, stays, lone)?;
     Ok((paged, work))
 }
 
@@ -205,9 +188,8 @@ impl View {
             bridges: Bridges::start(alloc, made)?,
             units: Vec::new(alloc),
             hidden,
-            rows: zero(alloc)?,
-            errors: zero(alloc)?,
-            pages: Vec::new(alloc),
+            paged: nothing_paged(alloc)?,
+            lone: None,
             work: 0,
         })
     }
@@ -239,6 +221,7 @@ impl View {
             + (cost_of mods.now + made (with_tree self.old.buffers buffer tree.now)) }
     {
         unit_list_laws();
+        let nothing = nothing_paged(alloc)?;
         let (after, target) = carried(
             alloc,
             &mut self.bridges,
@@ -248,17 +231,16 @@ impl View {
             tree,
             steps,
         )?;
-        move_shown(
+        let former = move_shown(
             target,
             &self.bridges,
             self.fresh,
             &mut self.units,
             &mut self.hidden,
         );
+        let paged = mem::replace(&mut self.paged, nothing);
+        self.lone = lone_of(former, paged);
         self.units.clear();
-        self.rows.truncate(1);
-        self.errors.truncate(1);
-        self.pages.clear();
         self.buffers = after;
         self.fresh = false;
         Ok(())
@@ -289,18 +271,18 @@ impl View {
             return Ok(());
         }
         let size = (self.width, self.height);
+        let lone = mem::replace(&mut self.lone, None);
         let (paged, work) = made_anew(
             alloc,
             &self.buffers,
             &mut self.bridges,
             &mut self.hidden,
+            lone,
             size,
             steps,
         )?;
         mem::swap(&mut self.units, &mut self.hidden);
-        self.rows = paged.rows;
-        self.errors = paged.errors;
-        self.pages = paged.pages;
+        self.paged = paged;
         self.work = work;
         self.fresh = true;
         Ok(())
@@ -337,14 +319,14 @@ impl View {
     pub fn rows(&self) -> u32
         ensures { result ≡ length (lines_of self.now.shown.units) }
     {
-        row_count(&self.rows, &self.units)
+        row_count(&self.paged.rows, &self.units)
     }
 
     /// The pages, by their rows.
     pub fn pages(&self) -> &[Cut]
         ensures { result.now ≡ self.now.shown.pages }
     {
-        &self.pages
+        &self.paged.pages
     }
 
     /// The line in row r, or None past the last row.
@@ -352,7 +334,7 @@ impl View {
         ensures { let found = slice_get (lines_of self.now.shown.units) r in
             MatchOption result (found ≡ None) (λ l. found ≡ Some l.now) }
     {
-        let (unit, number) = row_in(&self.rows, &self.units, r)?;
+        let (unit, number) = row_in(&self.paged.rows, &self.units, r)?;
         self.units[unit].lines.all().get(number)
     }
 
@@ -368,7 +350,7 @@ impl View {
     pub fn errors(&self) -> u32
         ensures { result ≡ length (errors_of self.now.shown.units) }
     {
-        error_count(&self.errors, &self.units)
+        error_count(&self.paged.errors, &self.units)
     }
 
     /// The error of this number, with the path of its unit, or without one, or None past the last.
@@ -376,7 +358,7 @@ impl View {
         ensures { let found = slice_get (errors_of self.now.shown.units) k in
             MatchOption result (found ≡ None) (λ e. found ≡ Some (option_copied e.0, e.1.now)) }
     {
-        let (unit, number) = error_in(&self.errors, &self.units, k)?;
+        let (unit, number) = error_in(&self.paged.errors, &self.units, k)?;
         let shown = &self.units[unit];
         Some((shown.path.as_ref(), &shown.errors[number]))
     }
@@ -386,7 +368,7 @@ impl View {
         ensures { let found = option_and_then (λ p. p.0.path) (row_in self.now.shown.units r) in
             MatchOption result (found ≡ None) (λ p. found ≡ Some p.now) }
     {
-        let (unit, _) = row_in(&self.rows, &self.units, r)?;
+        let (unit, _) = row_in(&self.paged.rows, &self.units, r)?;
         self.units[unit].path.as_ref()
     }
 
@@ -397,7 +379,7 @@ impl View {
         if c >= self.width {
             return None;
         }
-        let (unit, number) = row_in(&self.rows, &self.units, r)?;
+        let (unit, number) = row_in(&self.paged.rows, &self.units, r)?;
         let shown = &self.units[unit];
         let path = shown.path.as_ref()?;
         Some(place_in(path, shown.lines.all(), number, c))

@@ -25,31 +25,77 @@ carried_anew-requires-clause-applies g c = (
       ∙ c.requires.changed,
 )
 
-pub returns-in-Some : goal.returns-in-Some
-returns-in-Some g c =
+pub returns-in_ok-carry_in_place-in-Some-clause-target : goal.returns-in_ok-carry_in_place-in-Some-clause-target
+returns-in_ok-carry_in_place-in-Some-clause-target g c =
     let us : List DocUnit = units_of c.args.bridges.now.kept in
     let h : IsExchanged c.in-Some.changed c.args.buffer c.args.mods.now c.args.tree.now c.in-Some.paragraph us =
-    rw c.in-Some.is at c.in_ok-changed.ensures in
+    (rw c.in-Some.is at c.in_ok-changed.ensures).0 in
     let now = ap units c.requires.after
     ∙ exchanged_units c.args.buffers.now c.args.buffer c.in-Some.changed c.args.mods.now c.args.tree.now
     c.in-Some.paragraph us
     (c.inside_law.ensures c.args.buffers.now c.in-Some.changed c.args.tree.now c.in-Some.paragraph) h
     c.requires.of_buffers c.requires.changed in
-    let p = in_place c.args.buffer c.in-Some.changed c.args.mods.now _ _ c.in-Some.paragraph c.args.bridges.now.kept
-    c.carry_in_place.new.self.kept c.carry_in_place.new.self.sources (units c.args.after.now) h.one.document
+    let p = in_place c.args.buffer c.in-Some.changed c.is_silent-silent.result c.args.mods.now _ _ c.in-Some.paragraph
+    c.args.bridges.now.kept c.carry_in_place.new.self.kept c.carry_in_place.new.self.sources (units c.args.after.now)
+    h.one.document
     (tree_at c.args.buffers.now c.args.buffer c.index-buffers-buffer.result c.requires.within) now
-    c.carry_in_place.ensures.carried c.carry_in_place.ensures.sources c.carry_in_place.ensures.numbers
-    c.carry_in_place.ensures.units in
-    record {
-      target = p.target;
-      few = search rules;
-      kept = p.kept_is;
-      sources = p.sources;
-      once = c.carry_in_place.ensures.once;
-      units = p.units_are;
-      counted = search rules;
-      refused = search rules;
-    }
+    c.in_ok-carry_in_place-in-Some.ensures.carried c.in_ok-carry_in_place-in-Some.ensures.sources
+    c.in_ok-carry_in_place-in-Some.ensures.numbers c.in_ok-carry_in_place-in-Some.ensures.units in
+    p.target
+
+pub returns-in_ok-carry_in_place-in-Some-clause-kept : goal.returns-in_ok-carry_in_place-in-Some-clause-kept
+returns-in_ok-carry_in_place-in-Some-clause-kept g c =
+    let us : List DocUnit = units_of c.args.bridges.now.kept in
+    let h : IsExchanged c.in-Some.changed c.args.buffer c.args.mods.now c.args.tree.now c.in-Some.paragraph us =
+    (rw c.in-Some.is at c.in_ok-changed.ensures).0 in
+    let now = ap units c.requires.after
+    ∙ exchanged_units c.args.buffers.now c.args.buffer c.in-Some.changed c.args.mods.now c.args.tree.now
+    c.in-Some.paragraph us
+    (c.inside_law.ensures c.args.buffers.now c.in-Some.changed c.args.tree.now c.in-Some.paragraph) h
+    c.requires.of_buffers c.requires.changed in
+    let p = in_place c.args.buffer c.in-Some.changed c.is_silent-silent.result c.args.mods.now _ _ c.in-Some.paragraph
+    c.args.bridges.now.kept c.carry_in_place.new.self.kept c.carry_in_place.new.self.sources (units c.args.after.now)
+    h.one.document
+    (tree_at c.args.buffers.now c.args.buffer c.index-buffers-buffer.result c.requires.within) now
+    c.in_ok-carry_in_place-in-Some.ensures.carried c.in_ok-carry_in_place-in-Some.ensures.sources
+    c.in_ok-carry_in_place-in-Some.ensures.numbers c.in_ok-carry_in_place-in-Some.ensures.units in
+    p.kept_is
+
+pub returns-in_ok-carry_in_place-in-Some-clause-sources : goal.returns-in_ok-carry_in_place-in-Some-clause-sources
+returns-in_ok-carry_in_place-in-Some-clause-sources g c =
+    let us : List DocUnit = units_of c.args.bridges.now.kept in
+    let h : IsExchanged c.in-Some.changed c.args.buffer c.args.mods.now c.args.tree.now c.in-Some.paragraph us =
+    (rw c.in-Some.is at c.in_ok-changed.ensures).0 in
+    let now = ap units c.requires.after
+    ∙ exchanged_units c.args.buffers.now c.args.buffer c.in-Some.changed c.args.mods.now c.args.tree.now
+    c.in-Some.paragraph us
+    (c.inside_law.ensures c.args.buffers.now c.in-Some.changed c.args.tree.now c.in-Some.paragraph) h
+    c.requires.of_buffers c.requires.changed in
+    let p = in_place c.args.buffer c.in-Some.changed c.is_silent-silent.result c.args.mods.now _ _ c.in-Some.paragraph
+    c.args.bridges.now.kept c.carry_in_place.new.self.kept c.carry_in_place.new.self.sources (units c.args.after.now)
+    h.one.document
+    (tree_at c.args.buffers.now c.args.buffer c.index-buffers-buffer.result c.requires.within) now
+    c.in_ok-carry_in_place-in-Some.ensures.carried c.in_ok-carry_in_place-in-Some.ensures.sources
+    c.in_ok-carry_in_place-in-Some.ensures.numbers c.in_ok-carry_in_place-in-Some.ensures.units in
+    p.sources
+
+pub returns-in_ok-carry_in_place-in-Some-clause-units : goal.returns-in_ok-carry_in_place-in-Some-clause-units
+returns-in_ok-carry_in_place-in-Some-clause-units g c =
+    let us : List DocUnit = units_of c.args.bridges.now.kept in
+    let h : IsExchanged c.in-Some.changed c.args.buffer c.args.mods.now c.args.tree.now c.in-Some.paragraph us =
+    (rw c.in-Some.is at c.in_ok-changed.ensures).0 in
+    let now = ap units c.requires.after
+    ∙ exchanged_units c.args.buffers.now c.args.buffer c.in-Some.changed c.args.mods.now c.args.tree.now
+    c.in-Some.paragraph us
+    (c.inside_law.ensures c.args.buffers.now c.in-Some.changed c.args.tree.now c.in-Some.paragraph) h
+    c.requires.of_buffers c.requires.changed in
+    let p = in_place c.args.buffer c.in-Some.changed c.is_silent-silent.result c.args.mods.now _ _ c.in-Some.paragraph
+    c.args.bridges.now.kept c.carry_in_place.new.self.kept c.carry_in_place.new.self.sources (units c.args.after.now)
+    h.one.document
+    (tree_at c.args.buffers.now c.args.buffer c.index-buffers-buffer.result c.requires.within) now
+    c.in_ok-carry_in_place-in-Some.ensures.carried c.in_ok-carry_in_place-in-Some.ensures.sources
+    c.in_ok-carry_in_place-in-Some.ensures.numbers c.in_ok-carry_in_place-in-Some.ensures.units in
+    p.units_are
 
 pub returns-in_ok-carried_anew-in-None-clause-kept : goal.returns-in_ok-carried_anew-in-None-clause-kept
 returns-in_ok-carried_anew-in-None-clause-kept g c =

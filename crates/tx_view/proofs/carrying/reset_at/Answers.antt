@@ -1,12 +1,18 @@
 use Rattle.std.proofs.Common.{arith}
+use Rattle.tx_view.proofs.Leaving.{laid_there}
 use Rattle.tx_view.proofs.Staying.{stay_all, stay_but}
 use Rattle.tx_view.proofs.carrying.reset_at.Goals as goal
 
-pub returns-then-changed-all : goal.returns-then-changed-all
-returns-then-changed-all c =
+pub returns-then-changed-all-clause-stay : goal.returns-then-changed-all-clause-stay
+returns-then-changed-all-clause-stay c =
     stay_but c.args.changed 0 c.args.changed c.args.all.now c.index-all-changed.result c.reset.new.shown (omega arith)
-    c.if-changed-all.true c.reset.ensures
+    c.if-changed-all.true c.reset.ensures.shown
 
-pub returns-else-changed-all : goal.returns-else-changed-all
-returns-else-changed-all c =
+pub returns-then-changed-all-clause-former : goal.returns-then-changed-all-clause-former
+returns-then-changed-all-clause-former c =
+    laid_there c.args.all.now c.args.changed c.index-all-changed.result c.reset.result c.if-changed-all.true
+    c.reset.ensures.former
+
+pub returns-clause-stay : goal.returns-clause-stay
+returns-clause-stay c =
     stay_all c.args.changed 0 c.args.all.now (λ n l e. omega (arith, l, e, c.if-changed-all.false))

@@ -9,7 +9,7 @@ use Rattle.tx_view.proofs.laying.lay_each.Goals as goal
 pub loop-i-init : goal.loop-i-init
 loop-i-init g c = record {
   onward =
-      begun c.args.width c.args.bridges.now.kept c.args.bridges.now.renewed c.args.units.now c.args.moment.now
+      begun c.args.width c.args.bridges.now.kept c.args.units.now c.args.moment.now
       c.args.steps.now c.requires.start c.requires.fresh c.requires.laid c.requires.readable;
   attributes = c.requires.attributes;
 }
@@ -33,14 +33,14 @@ lay_next-requires-clause-there g c =
 
 pub lay_next-requires-clause-fresh : goal.lay_next-requires-clause-fresh
 lay_next-requires-clause-fresh g c e at =
-    trace_is c.args.width c.args.bridges.now.kept c.args.bridges.now.renewed c.args.units.now c.loop-i.units
-    c.loop-i.i c.loop-i.moment c.loop-i.work c.args.steps.now c.loop-i.steps c.loop-i.invariant.onward
+    trace_is c.args.width c.args.bridges.now.kept c.args.units.now c.loop-i.units
+    c.loop-i.i c.loop-i.moment c.loop-i.items c.args.steps.now c.loop-i.steps c.loop-i.invariant.onward
     (omega arith) c.index-units-i.result e at
 
 pub lay_next-requires-clause-laid : goal.lay_next-requires-clause-laid
 lay_next-requires-clause-laid g c e at =
-    laid_here c.args.width c.args.bridges.now.kept c.args.bridges.now.renewed c.args.units.now c.loop-i.units
-    c.loop-i.i c.loop-i.moment c.loop-i.work c.args.steps.now c.loop-i.steps c.loop-i.invariant.onward
+    laid_here c.args.width c.args.bridges.now.kept c.args.units.now c.loop-i.units
+    c.loop-i.i c.loop-i.moment c.loop-i.items c.args.steps.now c.loop-i.steps c.loop-i.invariant.onward
     (omega arith) c.index-units-i.result e at
 
 pub lay_next-requires-clause-few : goal.lay_next-requires-clause-few
@@ -52,8 +52,8 @@ returns-in_err-more-clause-readable g c =
     All-set (λ (s : Shown). IsReadable (unit_view s)) c.loop-i.units c.loop-i.i c.lay_next.new.shown
     c.in_err-more.ensures.readable c.loop-i.invariant.onward.readable
 
-pub overflow_add-work : goal.overflow_add-work
-overflow_add-work g c =
+pub overflow_add-items : goal.overflow_add-items
+overflow_add-items g c =
     let inside : c.loop-i.i < length c.args.bridges.now.kept =
     omega (
       arith,
@@ -73,8 +73,8 @@ pass_attributes-requires-clause-there g c =
 
 pub pass_attributes-requires-clause-before : goal.pass_attributes-requires-clause-before
 pass_attributes-requires-clause-before g c e at =
-    let trace = trace_is c.args.width c.args.bridges.now.kept c.args.bridges.now.renewed c.args.units.now c.loop-i.units
-    c.loop-i.i c.loop-i.moment c.loop-i.work c.args.steps.now c.loop-i.steps c.loop-i.invariant.onward
+    let trace = trace_is c.args.width c.args.bridges.now.kept c.args.units.now c.loop-i.units
+    c.loop-i.i c.loop-i.moment c.loop-i.items c.args.steps.now c.loop-i.steps c.loop-i.invariant.onward
     (omega arith) c.index-units-i.result e at in (
       c.loop-i.moment.env,
       c.loop-i.invariant.attributes,
@@ -93,8 +93,8 @@ loop-i-preserved g c =
     let e = entry_there c.args.bridges.now.kept c.loop-i.i inside in
     record {
       onward =
-          next c.args.width c.args.bridges.now.kept c.args.bridges.now.renewed c.args.units.now c.loop-i.units
-          c.loop-i.i c.loop-i.moment c.loop-i.work c.args.steps.now c.loop-i.steps c.loop-i.invariant.onward
+          next c.args.width c.args.bridges.now.kept c.args.units.now c.loop-i.units
+          c.loop-i.i c.loop-i.moment c.loop-i.items c.args.steps.now c.loop-i.steps c.loop-i.invariant.onward
           (omega arith) c.index-units-i.result e.0 e.1 c.lay_next.new.shown c.in_ok-more.more c.lay_next.new.steps
           c.lay_next.new.moment (c.in_ok-more.ensures.next e.0 e.1) (c.in_ok-more.ensures.counted e.0 e.1)
           c.in_ok-more.ensures.readable;
@@ -110,8 +110,8 @@ returns-in_err-pass_attributes-clause-laid g c =
       laid_many c.args.width c.args.bridges.now.kept c.args.units.now c.requires.laid,
     ) in
     let e = entry_there c.args.bridges.now.kept c.loop-i.i inside in
-    (next c.args.width c.args.bridges.now.kept c.args.bridges.now.renewed c.args.units.now c.loop-i.units
-    c.loop-i.i c.loop-i.moment c.loop-i.work c.args.steps.now c.loop-i.steps c.loop-i.invariant.onward
+    (next c.args.width c.args.bridges.now.kept c.args.units.now c.loop-i.units
+    c.loop-i.i c.loop-i.moment c.loop-i.items c.args.steps.now c.loop-i.steps c.loop-i.invariant.onward
     (omega arith) c.index-units-i.result e.0 e.1 c.lay_next.new.shown c.in_ok-more.more c.lay_next.new.steps
     c.lay_next.new.moment (c.in_ok-more.ensures.next e.0 e.1) (c.in_ok-more.ensures.counted e.0 e.1)
     c.in_ok-more.ensures.readable).laid
@@ -125,44 +125,50 @@ returns-in_err-pass_attributes-clause-readable g c =
       laid_many c.args.width c.args.bridges.now.kept c.args.units.now c.requires.laid,
     ) in
     let e = entry_there c.args.bridges.now.kept c.loop-i.i inside in
-    (next c.args.width c.args.bridges.now.kept c.args.bridges.now.renewed c.args.units.now c.loop-i.units
-    c.loop-i.i c.loop-i.moment c.loop-i.work c.args.steps.now c.loop-i.steps c.loop-i.invariant.onward
+    (next c.args.width c.args.bridges.now.kept c.args.units.now c.loop-i.units
+    c.loop-i.i c.loop-i.moment c.loop-i.items c.args.steps.now c.loop-i.steps c.loop-i.invariant.onward
     (omega arith) c.index-units-i.result e.0 e.1 c.lay_next.new.shown c.in_ok-more.more c.lay_next.new.steps
     c.lay_next.new.moment (c.in_ok-more.ensures.next e.0 e.1) (c.in_ok-more.ensures.counted e.0 e.1)
     c.in_ok-more.ensures.readable).readable
 
 pub returns-clause-shown : goal.returns-clause-shown
 returns-clause-shown g c =
-    (ended c.args.width c.args.bridges.now.kept c.args.bridges.now.renewed c.args.units.now c.loop-i.units
-    c.loop-i.i c.loop-i.moment c.loop-i.work c.args.steps.now c.loop-i.steps c.loop-i.invariant.onward
+    (ended c.args.width c.args.bridges.now.kept c.args.units.now c.loop-i.units
+    c.loop-i.i c.loop-i.moment c.loop-i.items c.args.steps.now c.loop-i.steps c.loop-i.invariant.onward
     (omega arith) c.requires.few).shown
 
 pub returns-clause-attributes : goal.returns-clause-attributes
 returns-clause-attributes g c =
-    (ended c.args.width c.args.bridges.now.kept c.args.bridges.now.renewed c.args.units.now c.loop-i.units
-    c.loop-i.i c.loop-i.moment c.loop-i.work c.args.steps.now c.loop-i.steps c.loop-i.invariant.onward
+    (ended c.args.width c.args.bridges.now.kept c.args.units.now c.loop-i.units
+    c.loop-i.i c.loop-i.moment c.loop-i.items c.args.steps.now c.loop-i.steps c.loop-i.invariant.onward
     (omega arith) c.requires.few).attributes
 
 pub returns-clause-lines : goal.returns-clause-lines
 returns-clause-lines g c =
-    (ended c.args.width c.args.bridges.now.kept c.args.bridges.now.renewed c.args.units.now c.loop-i.units
-    c.loop-i.i c.loop-i.moment c.loop-i.work c.args.steps.now c.loop-i.steps c.loop-i.invariant.onward
+    (ended c.args.width c.args.bridges.now.kept c.args.units.now c.loop-i.units
+    c.loop-i.i c.loop-i.moment c.loop-i.items c.args.steps.now c.loop-i.steps c.loop-i.invariant.onward
     (omega arith) c.requires.few).lines
 
 pub returns-clause-errors : goal.returns-clause-errors
 returns-clause-errors g c =
-    (ended c.args.width c.args.bridges.now.kept c.args.bridges.now.renewed c.args.units.now c.loop-i.units
-    c.loop-i.i c.loop-i.moment c.loop-i.work c.args.steps.now c.loop-i.steps c.loop-i.invariant.onward
+    (ended c.args.width c.args.bridges.now.kept c.args.units.now c.loop-i.units
+    c.loop-i.i c.loop-i.moment c.loop-i.items c.args.steps.now c.loop-i.steps c.loop-i.invariant.onward
     (omega arith) c.requires.few).errors
 
 pub returns-clause-counted : goal.returns-clause-counted
 returns-clause-counted g c =
-    (ended c.args.width c.args.bridges.now.kept c.args.bridges.now.renewed c.args.units.now c.loop-i.units
-    c.loop-i.i c.loop-i.moment c.loop-i.work c.args.steps.now c.loop-i.steps c.loop-i.invariant.onward
+    (ended c.args.width c.args.bridges.now.kept c.args.units.now c.loop-i.units
+    c.loop-i.i c.loop-i.moment c.loop-i.items c.args.steps.now c.loop-i.steps c.loop-i.invariant.onward
     (omega arith) c.requires.few).steps
 
-pub returns-clause-work : goal.returns-clause-work
-returns-clause-work g c =
-    (ended c.args.width c.args.bridges.now.kept c.args.bridges.now.renewed c.args.units.now c.loop-i.units
-    c.loop-i.i c.loop-i.moment c.loop-i.work c.args.steps.now c.loop-i.steps c.loop-i.invariant.onward
-    (omega arith) c.requires.few).work_is
+pub returns-clause-items : goal.returns-clause-items
+returns-clause-items g c =
+    (ended c.args.width c.args.bridges.now.kept c.args.units.now c.loop-i.units
+    c.loop-i.i c.loop-i.moment c.loop-i.items c.args.steps.now c.loop-i.steps c.loop-i.invariant.onward
+    (omega arith) c.requires.few).items_is
+
+pub returns-clause-most : goal.returns-clause-most
+returns-clause-most g c =
+    (ended c.args.width c.args.bridges.now.kept c.args.units.now c.loop-i.units
+    c.loop-i.i c.loop-i.moment c.loop-i.items c.args.steps.now c.loop-i.steps c.loop-i.invariant.onward
+    (omega arith) c.requires.few).most

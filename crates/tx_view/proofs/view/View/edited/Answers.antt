@@ -1,4 +1,4 @@
-use Rattle.std.proofs.Common.{◌∙◌, List, [], take, length, false, ap, refl, sym, subst, arith}
+use Rattle.std.proofs.Common.{◌∙◌, List, [], length, false, ap, refl, sym, subst, arith}
 use Rattle.std.specs.List.{AllByRecursion}
 use Rattle.std.specs.Prelude.{map}
 use Rattle.tx_doc.specs.Buffers.{tree_of, with_tree}
@@ -8,14 +8,17 @@ use Rattle.tx_bridge.specs.Carrying.{had}
 use Rattle.tx_bridge.specs.Entries.{Kept, units_of}
 use Rattle.tx_bridge.specs.Names.{Sources, Carry as CarryKept}
 use Rattle.tx_bridge.specs.UnitLists.{IsPlaced}
+use Rattle.tx_view.specs.declared.paging.Pagination.{Pagination}
 use Rattle.tx_view.specs.declared.shown.Shown.{Shown}
 use Rattle.tx_view.specs.declared.view.View.TheInside.{Inside}
+use Rattle.tx_view.specs.Exchanged.{parts_after}
 use Rattle.tx_view.specs.Laid.{laid_in}
 use Rattle.tx_view.specs.Names.{Carry}
 use Rattle.tx_view.specs.WholeViews.{WholeView, whole_of, stores_of, all_of}
 use Rattle.tx_view.proofs.Blank.{many_with}
 use Rattle.tx_view.proofs.Staying.{carried_by}
-use Rattle.tx_view.proofs.Standing.{stale, stale_view, first_sum}
+use Rattle.tx_view.proofs.Lasting.{left_by}
+use Rattle.tx_view.proofs.Standing.{stale, stale_view}
 use Rattle.tx_view.proofs.view.View.edited.Goals as goal
 
 pub invariant_of-self-2 : goal.invariant_of-self-2
@@ -26,12 +29,12 @@ invariant_of-self-2 g c =
     let olds : List Shown = all_of c.self.inside in
     let ss = c.carried.new.bridges.sources in
     let on = carried_by c.self.inside.width c.args.buffer c.args.mods.now (tree_of bs c.args.buffer) kept
-    c.carried.new.bridges.kept olds c.move_shown.new.hidden.items c.in_ok-after.target ss (units after)
+    c.carried.new.bridges.kept olds c.move_shown-former.new.hidden.items c.in_ok-after.target ss (units after)
     c.self.invariant.laid c.self.invariant.all_readable
     (subst (AllByRecursion IsPlaced) (sym c.self.invariant.of_buffers)
     (c.unit_list_laws.ensures.units c.self.inside.buffers.items).placed)
     (c.unit_list_laws.ensures.units after).placed c.in_ok-after.ensures.kept c.in_ok-after.ensures.sources
-    c.in_ok-after.ensures.target c.move_shown.ensures in
+    c.in_ok-after.ensures.target c.move_shown-former.ensures.moved in
     let many = ap length c.in_ok-after.ensures.buffers ∙ many_with bs c.args.buffer c.args.tree.now
     ∙ ap length c.deref.ensures.value in
     stale _ (record {
@@ -42,8 +45,15 @@ invariant_of-self-2 g c =
       least_height = c.self.invariant.least_height;
       most_height = c.self.invariant.most_height;
       of_buffers = c.in_ok-after.ensures.units ∙ ap units (sym c.in_ok-after.ensures.buffers);
-    }) refl c.clear.ensures.items (c.truncate.ensures.items ∙ ap (take 1) c.self.invariant.rows ∙ first_sum _)
-    (c.truncate-2.ensures.items ∙ ap (take 1) c.self.invariant.errors ∙ first_sum _) on.laid_out on.readable
+    }) refl c.clear.ensures.items
+    (ap (λ (p : Pagination). p.rows.items) c.replace-paged.ensures.after ∙ c.in_ok-nothing.ensures.rows)
+    (ap (λ (p : Pagination). p.errors.items) c.replace-paged.ensures.after ∙ c.in_ok-nothing.ensures.errors)
+    on.laid_out on.readable
+    (left_by c.self.inside c.args.buffer c.args.mods.now (tree_of bs c.args.buffer) c.carried.new.bridges.kept
+    c.move_shown-former.new.hidden.items c.in_ok-after.target ss (units after) c.move_shown-former.result
+    c.replace-paged.result c.lone_of.result c.self.invariant c.in_ok-after.ensures.kept c.in_ok-after.ensures.sources
+    c.in_ok-after.ensures.target c.move_shown-former.ensures.moved c.in_ok-after.ensures.silent
+    c.move_shown-former.ensures.former c.lone_of.ensures c.replace-paged.ensures.value)
 
 pub returns-clause-ok : goal.returns-clause-ok
 unfolding Carry
@@ -54,12 +64,12 @@ returns-clause-ok g c =
     let olds : List Shown = all_of c.self.inside in
     let ss = c.carried.new.bridges.sources in
     let on = carried_by c.self.inside.width c.args.buffer c.args.mods.now (tree_of bs c.args.buffer) kept
-    c.carried.new.bridges.kept olds c.move_shown.new.hidden.items c.in_ok-after.target ss (units after)
+    c.carried.new.bridges.kept olds c.move_shown-former.new.hidden.items c.in_ok-after.target ss (units after)
     c.self.invariant.laid c.self.invariant.all_readable
     (subst (AllByRecursion IsPlaced) (sym c.self.invariant.of_buffers)
     (c.unit_list_laws.ensures.units c.self.inside.buffers.items).placed)
     (c.unit_list_laws.ensures.units after).placed c.in_ok-after.ensures.kept c.in_ok-after.ensures.sources
-    c.in_ok-after.ensures.target c.move_shown.ensures in
+    c.in_ok-after.ensures.target c.move_shown-former.ensures.moved in
     let v : Inside = record {
       buffers = c.in_ok-after.after;
       width = c.self.inside.width;
@@ -67,17 +77,23 @@ returns-clause-ok g c =
       fresh = false;
       bridges = c.carried.new.bridges;
       units = c.clear.new.self;
-      hidden = c.move_shown.new.hidden;
-      rows = c.truncate.new.self;
-      errors = c.truncate-2.new.self;
-      pages = c.clear-2.new.self;
+      hidden = c.move_shown-former.new.hidden;
+      paged = c.replace-paged.new.dest;
+      lone = c.lone_of.result;
       work = c.self.inside.work;
     } in
     let base = stale_view v after
     (CarryKept c.args.buffer c.args.mods.now (tree_of bs c.args.buffer) kept (units after))
+    (parts_after c.args.buffer c.args.mods.now (tree_of bs c.args.buffer) (units_of kept) c.self.inside.bridges.parts
+    (Sources c.args.buffer c.args.mods.now (tree_of bs c.args.buffer) (units_of kept) (units after)))
     (map (had (laid_in olds)) (Sources c.args.buffer c.args.mods.now (tree_of bs c.args.buffer) (units_of kept)
-    (units after))) refl c.clear.ensures.items c.clear-2.ensures.items c.in_ok-after.ensures.buffers
-    c.in_ok-after.ensures.kept on.attributes in
+    (units after))) refl c.clear.ensures.items
+    (ap (λ (p : Pagination). p.pages.items) c.replace-paged.ensures.after ∙ c.in_ok-nothing.ensures.pages)
+    c.in_ok-after.ensures.buffers
+    c.in_ok-after.ensures.kept
+    (c.in_ok-after.ensures.parts
+    ∙ ap (parts_after c.args.buffer c.args.mods.now (tree_of bs c.args.buffer) (units_of kept)
+    c.self.inside.bridges.parts) c.in_ok-after.ensures.sources) on.attributes in
     base
     ∙ ap (λ (cs : List Buffer). record (whole_of c.self.inside) {
       buffers = with_tree cs c.args.buffer c.args.tree.now;

@@ -1,12 +1,13 @@
-use Rattle.std.proofs.Common.{◌∙◌, List, map, length, false, Option, None, ap, refl, sym, subst, arith}
+use Rattle.std.proofs.Common.{◌∙◌, List, [], map, length, false, Option, None, ap, refl, sym, subst, arith}
 use Rattle.tx_units.specs.declared.kinds.Unit.{Unit as DocUnit}
 use Rattle.tx_units.specs.Units.{units}
 use Rattle.tx_items.specs.declared.attributes.Attrs.{Attrs}
 use Rattle.tx_bridge.specs.Entries.{Kept, nothing_kept}
+use Rattle.tx_bridge.specs.Nested.{KeptParts}
 use Rattle.tx_view.specs.declared.view.View.TheInside.{Inside}
 use Rattle.tx_view.specs.Laid.{AreLaid, AreBlank}
 use Rattle.tx_view.specs.Names.{Empty}
-use Rattle.tx_view.proofs.Blank.{empty_is, blank_laid, blank_attributes, blank_readable}
+use Rattle.tx_view.proofs.Blank.{empty_is, empty_parts_is, blank_laid, blank_attributes, blank_readable}
 use Rattle.tx_view.proofs.Standing.{stale, stale_view}
 use Rattle.tx_view.proofs.view.View.new.Goals as goal
 
@@ -24,9 +25,9 @@ invariant_of-result g c =
       least_height = c.requires.least_height;
       most_height = c.requires.most_height;
       of_buffers = c.in_ok-start.ensures.units ∙ c.in_ok-made.ensures.units ∙ ap units (sym c.in_ok-shared.ensures);
-    }) refl c.new.ensures.items c.in_ok-zero.ensures c.in_ok-zero-2.ensures
+    }) refl c.new.ensures.items c.in_ok-nothing_paged.ensures.rows c.in_ok-nothing_paged.ensures.errors
     (subst (λ (es : Kept). AreLaid c.args.width es xs) (sym (c.in_ok-start.ensures.empty ∙ empty_is us))
-    (blank_laid c.args.width us xs blank)) (blank_readable us xs blank)
+    (blank_laid c.args.width us xs blank)) (blank_readable us xs blank) tt
 
 pub returns-clause-view : goal.returns-clause-view
 unfolding Empty
@@ -36,6 +37,7 @@ returns-clause-view g c =
     let blank : AreBlank us xs =
     subst (λ (vs : List DocUnit). AreBlank vs xs) c.deref.ensures.value c.in_ok-hidden.ensures in
     let nothing : DocUnit → Option Attrs = λ u. None in
+    let none : DocUnit → KeptParts = λ u. [] in
     let v : Inside = record {
       buffers = c.in_ok-shared.field-0;
       width = c.args.width;
@@ -44,12 +46,12 @@ returns-clause-view g c =
       bridges = c.in_ok-start.field-0;
       units = c.new.result;
       hidden = c.in_ok-hidden.hidden;
-      rows = c.in_ok-zero.field-0;
-      errors = c.in_ok-zero-2.field-0;
-      pages = c.new-2.result;
+      paged = c.in_ok-nothing_paged.field-0;
+      lone = None;
       work = 0;
     } in
-    stale_view v c.args.buffers.now (nothing_kept (units c.args.buffers.now))
-    (map nothing (units c.args.buffers.now)) refl c.new.ensures.items c.new-2.ensures.items
+    stale_view v c.args.buffers.now (nothing_kept (units c.args.buffers.now)) (map none (units c.args.buffers.now))
+    (map nothing (units c.args.buffers.now)) refl c.new.ensures.items c.in_ok-nothing_paged.ensures.pages
     c.in_ok-shared.ensures (c.in_ok-start.ensures.empty ∙ empty_is us ∙ ap nothing_kept c.in_ok-made.ensures.units)
+    (c.in_ok-start.ensures.parts ∙ empty_parts_is us ∙ ap (map none) c.in_ok-made.ensures.units)
     (blank_attributes us xs blank ∙ ap (map nothing) c.in_ok-made.ensures.units)

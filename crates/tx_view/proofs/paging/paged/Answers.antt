@@ -7,7 +7,7 @@ use Rattle.tx_view_form.specs.Views.{UnitView, lines_of}
 use Rattle.tx_view.specs.Units.{unit_views}
 use Rattle.tx_view.specs.declared.shown.Shown.{Shown}
 use Rattle.tx_view.proofs.UnitRows.{all_more, sums_fit}
-use Rattle.tx_view.proofs.view.paged.Goals as goal
+use Rattle.tx_view.proofs.paging.paged.Goals as goal
 
 pub tell-requires : goal.tell-requires
 tell-requires c = record {

@@ -1,0 +1,267 @@
+-- One unit alone is evaluated and laid out anew.
+use Rattle.std.proofs.Common.{◌≡◌, ℕ, zero, suc, ◌<◌, ◌≤◌, List, [], ◌∷◌, length, slice_set, slice_index_or}
+use Rattle.std.proofs.Common.{Bool, true, false, Option, Some, None, refl, ap, sym, subst, ◌∙◌, arith}
+use Rattle.std.proofs.lemmas.Option.{same_Some}
+use Rattle.std.proofs.lemmas.Bool.Decides.{Decides-int_eq}
+use Rattle.std.proofs.lemmas.Slice.Eq.{bytes_eq-Decides}
+use Rattle.std.specs.FinMap.{empty, get}
+use Rattle.std.specs.Ordering.{int_eq}
+use Rattle.std.specs.Str.{bytes_eq}
+use Rattle.std.specs.Option.{unwrap_or}
+use Rattle.std.specs.Prelude.{slice_get, if◌then◌else◌, ◌&&◌}
+use Rattle.tx_env.specs.Environments.{NameMap}
+use Rattle.tx_tree.specs.WideTree.{size_of}
+use Rattle.tx_origin.specs.Values.{plain}
+use Rattle.tx_origin.specs.TaggedTrees.{tagged_of}
+use Rattle.tx_exec_form.specs.declared.TheConstants.{MOST_LEVELS}
+use Rattle.tx_exec_form.specs.Evaluated.{WideTrace}
+use Rattle.tx_units.specs.declared.kinds.Unit.{Unit as DocUnit}
+use Rattle.tx_items.specs.declared.attributes.Attrs.{Attrs}
+use Rattle.tx_view_form.specs.Outcomes.{Moment, beginning, charge, behind, allowance, outcome, env_behind, value_of}
+use Rattle.tx_view_form.specs.Outcomes.{over_value}
+use Rattle.tx_view_form.specs.Started.{attributes_of}
+use Rattle.tx_view_form.specs.Views.{IsShown, AreShown, paragraphs_at}
+use Rattle.tx_bridge.specs.Entries.{Entry, Kept, units_of, traces_of, fresh_from, outcome_of}
+use Rattle.tx_bridge.proofs.Paying.{AllSmall}
+use Rattle.tx_bridge.proofs.Used.{AllAllowed}
+use Rattle.tx_view.specs.declared.shown.Shown.{Shown}
+use Rattle.tx_view.specs.Costs.{items_in, items_of}
+use Rattle.tx_view.specs.Laid.{IsLaidOut, AreLaid, laid_in, unlaid_from, unlaid, without}
+use Rattle.tx_view.specs.Lone.{SetsNoName, attributes_along, IsLone, IsAlone}
+use Rattle.tx_view.specs.Stores.{same_attrs, is_laid_for, attributes_from}
+use Rattle.tx_view.specs.Units.{unit_view, unit_views}
+use Rattle.tx_view.proofs.Leaving.{from_along, trace_at}
+use Rattle.tx_view.proofs.Onward.{laid_at, laid_set, laid_by}
+use Rattle.tx_view.proofs.Staying.{heads}
+
+-- ---- attributes
+
+same_all : (es ds : Kept) → length es ≡ length ds → ((k : ℕ) → k < length es → slice_get es k ≡ slice_get ds k)
+    → es ≡ ds
+same_all [] [] many h = refl
+same_all [] (d ∷ ds) many h = absurd (omega (arith, many))
+same_all (e ∷ es) [] many h = absurd (omega (arith, many))
+same_all (e ∷ es) (d ∷ ds) many h =
+    ap (λ x. x ∷ es) (same_Some e d (h 0 (omega arith)))
+    ∙ ap (λ ys. d ∷ ys) (same_all es ds (omega (arith, many)) (λ k less. h (suc k) (omega (arith, less))))
+
+along_same : (i : ℕ) (old new : Kept) (env : NameMap) → length old ≡ length new
+    → ((k : ℕ) → k < length old → (k ≡ i → ⊥) → slice_get new k ≡ slice_get old k)
+    → ((t : Option WideTrace) → slice_get (traces_of old) i ≡ Some t → SetsNoName t)
+    → ((t : Option WideTrace) → slice_get (traces_of new) i ≡ Some t → SetsNoName t)
+    → attributes_along env (traces_of new) ≡ attributes_along env (traces_of old)
+along_same i [] [] env many same was is = refl
+along_same i [] (e ∷ new) env many same was is = absurd (omega (arith, many))
+along_same i (d ∷ old) [] env many same was is = absurd (omega (arith, many))
+along_same zero (d ∷ old) (e ∷ new) env many same was is =
+    ap (λ n. Some (attributes_of env) ∷ attributes_along n (traces_of new))
+    (is e.trace refl env ∙ sym (was d.trace refl env))
+    ∙ ap (λ es. Some (attributes_of env) ∷ attributes_along (env_behind env d.trace) (traces_of es))
+    (same_all new old (omega (arith, many))
+    (λ k less. same (suc k) (omega (arith, less, many)) (λ f. omega (arith, f))))
+along_same (suc i) (d ∷ old) (e ∷ new) env many same was is =
+    ap (λ (x : Entry). Some (attributes_of env) ∷ attributes_along (env_behind env x.trace) (traces_of new))
+    (same_Some e d (same 0 (omega arith) (λ f. omega (arith, f))))
+    ∙ ap (λ as_laid. Some (attributes_of env) ∷ as_laid)
+    (along_same i old new (env_behind env d.trace) (omega (arith, many))
+    (λ k less other. same (suc k) (omega (arith, less)) (λ f. other (omega (arith, f)))) was is)
+
+none_silent : (o : Option (Option WideTrace)) (t : Option WideTrace) → o ≡ Some None → o ≡ Some t → SetsNoName t
+none_silent o t e f env = ap (env_behind env) (sym (same_Some None t (sym e ∙ f)))
+
+-- where the unit that alone was evaluated anew sets no name, the attributes before all are those for which they were
+-- laid out
+pub still_along : (i n : ℕ) (old new : Kept) (flags : List Bool) (xs : List Shown) (a : Attrs) (t : WideTrace)
+    → IsLone old xs i a → IsAlone i n old new flags → n ≡ length old → units_of new ≡ units_of old
+    → length old ≡ length new → new ≡ fresh_from beginning (units_of new)
+    → slice_get (traces_of new) i ≡ Some (Some t) → SetsNoName (Some t)
+    → slice_set (laid_in xs) i (Some a) ≡ attributes_from beginning (units_of new)
+still_along i n old new flags xs a t lone alone is_n same many fresh at quiet =
+    lone.attributes
+    ∙ sym (along_same i old new empty many (λ k less other. alone.stays k (omega (arith, less, is_n)) other)
+    (λ o there. none_silent (slice_get (traces_of old) i) o lone.nothing_kept there)
+    (λ o there. subst SetsNoName (same_Some (Some t) o (sym at ∙ there)) quiet))
+    ∙ ap (λ es. attributes_along empty (traces_of es)) fresh ∙ sym (from_along beginning (units_of new))
+
+-- ---- what is laid out
+
+flag_off : (f : Bool) (x : Shown) → x.laid ≡ None → unlaid f x ≡ x
+flag_off true x none = ap (λ l. record x { laid = l }) (sym none)
+flag_off false x none = refl
+
+without_none : (fs : List Bool) (xs : List Shown)
+    → ((k : ℕ) → k < length xs → unwrap_or (slice_get fs k) false ≡ false) → without fs xs ≡ xs
+without_none [] xs off = refl
+without_none (f ∷ fs) [] off = refl
+without_none (f ∷ fs) (x ∷ xs) off =
+    ap (λ g. unlaid g x ∷ without fs xs) (off 0 (omega arith))
+    ∙ ap (λ ys. x ∷ ys) (without_none fs xs (λ k less. off (suc k) (omega (arith, less))))
+
+pub without_alone : (i : ℕ) (fs : List Bool) (xs : List Shown)
+    → ((k : ℕ) → k < length xs → (k ≡ i → ⊥) → unwrap_or (slice_get fs k) false ≡ false)
+    → slice_get (laid_in xs) i ≡ Some None → without fs xs ≡ xs
+without_alone i [] xs off none = refl
+without_alone i (f ∷ fs) [] off none = refl
+without_alone zero (f ∷ fs) (x ∷ xs) off none =
+    ap (λ y. y ∷ without fs xs) (flag_off f x (same_Some x.laid None none))
+    ∙ ap (λ ys. x ∷ ys)
+    (without_none fs xs (λ k less. off (suc k) (omega (arith, less)) (λ e. omega (arith, e))))
+without_alone (suc i) (f ∷ fs) (x ∷ xs) off none =
+    ap (λ g. unlaid g x ∷ without fs xs) (off 0 (omega arith) (λ e. omega (arith, e)))
+    ∙ ap (λ ys. x ∷ ys)
+    (without_alone i fs xs (λ k less other. off (suc k) (omega (arith, less)) (λ e. other (omega (arith, e)))) none)
+
+-- units that are laid out for the attributes before them are shown
+pub shown_from : (width : ℕ) (m : Moment) (kept : Kept) (xs : List Shown) → AreLaid width kept xs
+    → kept ≡ fresh_from m (units_of kept) → laid_in xs ≡ attributes_from m (units_of kept)
+    → AreShown width m (units_of kept) (unit_views xs)
+shown_from width m [] [] laid fresh is = tt
+shown_from width m [] (x ∷ xs) laid fresh is = absurd laid
+shown_from width m (e ∷ es) [] laid fresh is = absurd laid
+shown_from width m (e ∷ es) (x ∷ xs) laid fresh is =
+    let next : Moment = behind m (outcome_of m e.unit) in
+    let one = heads e (record { unit = e.unit; trace = outcome_of m e.unit }) es (fresh_from next (units_of es)) fresh in
+    let two = heads x.laid (Some (attributes_of m.env)) (laid_in xs) (attributes_from next (units_of es)) is in
+    let out : IsLaidOut width (attributes_of m.env) (value_of e.trace) e.unit.path x =
+    laid.0.laid (attributes_of m.env) two.0 in (
+      subst (λ (o : Option WideTrace).
+          IsShown width (attributes_of m.env) (value_of o) e.unit.path (unit_view x)) (ap (λ (k : Entry). k.trace) one.0)
+          out.shown,
+      shown_from width next es xs laid.1 one.1 two.1,
+    )
+
+-- what is left to do then
+pub record IsReady (kept : Kept) (xs : List Shown) (i : ℕ) (a : Attrs) : Type 0 where
+  pub nothing_laid : slice_get (laid_in xs) i ≡ Some None
+  pub attributes : slice_set (laid_in xs) i (Some a) ≡ attributes_from beginning (units_of kept)
+
+pub ready_is : (i : ℕ) (old new : Kept) (flags : List Bool) (olds xs : List Shown) (a : Attrs)
+    (t : (t : WideTrace) × (slice_get (traces_of new) i ≡ Some (Some t)) × SetsNoName (Some t)) → IsLone old olds i a
+    → IsAlone i (length olds) old new flags → length olds ≡ length old → units_of new ≡ units_of old
+    → length old ≡ length new → new ≡ fresh_from beginning (units_of old) → xs ≡ without flags olds
+    → IsReady new xs i a
+ready_is i old new flags olds xs a t lone alone many same as_many fresh is =
+    subst (λ (ys : List Shown). IsReady new ys i a)
+    (sym (is ∙ without_alone i flags olds alone.no_flag lone.nothing_laid)) (record {
+      nothing_laid = lone.nothing_laid;
+      attributes =
+          still_along i (length olds) old new flags olds a t.0 lone alone many same as_many
+          (fresh ∙ ap (fresh_from beginning) (sym same)) t.1 t.2;
+    })
+
+-- ---- what it takes
+
+texts_same : (xs : List ℕ) → bytes_eq xs xs ≡ true
+texts_same xs = (bytes_eq-Decides xs xs).1 refl
+
+attrs_same : (a : Attrs) → same_attrs a a ≡ true
+attrs_same a =
+    ap (λ b. b && int_eq a.right a.right && int_eq a.first a.first && bytes_eq a.series a.series
+    && bytes_eq a.shape a.shape && bytes_eq a.color a.color && bytes_eq a.mode a.mode)
+    ((Decides-int_eq a.left a.left).1 refl)
+    ∙ ap (λ b. b && int_eq a.first a.first && bytes_eq a.series a.series
+    && bytes_eq a.shape a.shape && bytes_eq a.color a.color && bytes_eq a.mode a.mode)
+    ((Decides-int_eq a.right a.right).1 refl)
+    ∙ ap (λ b. b && bytes_eq a.series a.series && bytes_eq a.shape a.shape && bytes_eq a.color a.color
+    && bytes_eq a.mode a.mode) ((Decides-int_eq a.first a.first).1 refl)
+    ∙ ap (λ b. b && bytes_eq a.shape a.shape && bytes_eq a.color a.color && bytes_eq a.mode a.mode)
+    (texts_same a.series)
+    ∙ ap (λ b. b && bytes_eq a.color a.color && bytes_eq a.mode a.mode) (texts_same a.shape)
+    ∙ ap (λ b. b && bytes_eq a.mode a.mode) (texts_same a.color) ∙ texts_same a.mode
+
+laid_for_itself : (laid : Option Attrs) (a : Attrs) (n : ℕ) → laid ≡ Some a
+    → (if is_laid_for laid a then 0 else n) ≡ 0
+laid_for_itself laid a n is =
+    ap (λ (o : Option Attrs). if is_laid_for o a then 0 else n) is ∙ ap (λ b. if b then 0 else n) (attrs_same a)
+
+pub all_laid : (m : Moment) (us : List DocUnit) (laid : List (Option Attrs)) → laid ≡ attributes_from m us
+    → unlaid_from m us laid ≡ 0
+all_laid m [] laid is = refl
+all_laid m (u ∷ us) [] is = refl
+all_laid m (u ∷ us) (o ∷ laid) is =
+    let next : Moment = behind m (outcome_of m u) in
+    let two = heads o (Some (attributes_of m.env)) laid (attributes_from next us) is in
+    omega (
+      arith,
+      laid_for_itself o (attributes_of m.env) (items_of m u) two.0,
+      all_laid next us laid two.1,
+    )
+
+pub one_laid : (m : Moment) (kept : Kept) (i : ℕ) (e : Entry) (laid : List (Option Attrs)) (a : Attrs)
+    → kept ≡ fresh_from m (units_of kept) → slice_get kept i ≡ Some e → slice_get laid i ≡ Some None
+    → slice_set laid i (Some a) ≡ attributes_from m (units_of kept)
+    → unlaid_from m (units_of kept) laid ≡ items_in (paragraphs_at e.unit.path a (value_of e.trace))
+one_laid m [] i e laid a fresh at none is = cc
+one_laid m (k ∷ es) i e [] a fresh at none is = cc
+one_laid m (k ∷ es) zero e (o ∷ laid) a fresh at none is =
+    let next : Moment = behind m (outcome_of m k.unit) in
+    let one = heads k (record { unit = k.unit; trace = outcome_of m k.unit }) es (fresh_from next (units_of es)) fresh in
+    let two = heads (Some a) (Some (attributes_of m.env)) laid (attributes_from next (units_of es)) is in
+    let here : (if is_laid_for o (attributes_of m.env) then 0 else items_of m k.unit) ≡ items_of m k.unit =
+    ap (λ (p : Option Attrs). if is_laid_for p (attributes_of m.env) then 0 else items_of m k.unit)
+    (same_Some o None none) in
+    let items : items_of m k.unit ≡ items_in (paragraphs_at e.unit.path a (value_of e.trace)) =
+    ap (λ b. items_in (paragraphs_at k.unit.path b (value_of (outcome_of m k.unit))))
+    (sym (same_Some a (attributes_of m.env) two.0))
+    ∙ ap (λ t. items_in (paragraphs_at k.unit.path a (value_of t))) (sym (ap (λ (x : Entry). x.trace) one.0))
+    ∙ ap (λ (x : Entry). items_in (paragraphs_at x.unit.path a (value_of x.trace))) (same_Some k e at) in
+    omega (arith, here, items, all_laid next (units_of es) laid two.1)
+one_laid m (k ∷ es) (suc i) e (o ∷ laid) a fresh at none is =
+    let next : Moment = behind m (outcome_of m k.unit) in
+    let one = heads k (record { unit = k.unit; trace = outcome_of m k.unit }) es (fresh_from next (units_of es)) fresh in
+    let two = heads o (Some (attributes_of m.env)) (slice_set laid i (Some a)) (attributes_from next (units_of es)) is in
+    omega (
+      arith,
+      laid_for_itself o (attributes_of m.env) (items_of m k.unit) two.0,
+      one_laid next es i e laid a one.1 at none two.1,
+    )
+
+-- ---- an outcome is small
+
+pub at_moment : (m : Moment) (kept : Kept) (i : ℕ) (e : Entry) → kept ≡ fresh_from m (units_of kept)
+    → slice_get kept i ≡ Some e → (n : Moment) × (e.trace ≡ outcome_of n e.unit)
+at_moment m [] i e fresh at = cc
+at_moment m (k ∷ es) zero e fresh at =
+    let next : Moment = behind m (outcome_of m k.unit) in
+    let one = heads k (record { unit = k.unit; trace = outcome_of m k.unit }) es (fresh_from next (units_of es)) fresh in
+    (m, subst (λ (x : Entry). x.trace ≡ outcome_of m x.unit) (same_Some k e at) (ap (λ (x : Entry). x.trace) one.0))
+at_moment m (k ∷ es) (suc i) e fresh at =
+    let next : Moment = behind m (outcome_of m k.unit) in
+    let one = heads k (record { unit = k.unit; trace = outcome_of m k.unit }) es (fresh_from next (units_of es)) fresh in
+    at_moment next es i e one.1 at
+
+pub small_value : AllSmall → AllAllowed → (m : Moment) (u : DocUnit) (o : Option WideTrace) → o ≡ outcome_of m u
+    → size_of (plain (value_of o)) ≤ 1000000
+unfolding outcome
+small_value small allowed m u None e =
+    let seven : size_of (plain over_value) ≡ 7 = refl in omega (arith, seven)
+small_value small allowed m u (Some trace) e =
+    let fits = (small MOST_LEVELS (allowance m) (tagged_of u.tagged) (get m.env) trace (sym e)).0 in
+    let most = (allowed MOST_LEVELS (allowance m) (tagged_of u.tagged) (get m.env) trace (sym e)).0 in
+    omega (arith, fits, most)
+
+-- ---- the one unit
+
+pub items_at : (width : ℕ) (kept : Kept) (xs : List Shown) (i : ℕ) (e : Entry) (d : Shown) (a b : Attrs)
+    (o : Option WideTrace) (n : ℕ) → kept ≡ fresh_from beginning (units_of kept) → AreLaid width kept xs
+    → slice_get kept i ≡ Some e → e.trace ≡ o → slice_get (laid_in xs) i ≡ Some None
+    → slice_set (laid_in xs) i (Some a) ≡ attributes_from beginning (units_of kept) → b ≡ a
+    → n ≡ items_in (paragraphs_at (slice_index_or xs i d).path b (value_of o))
+    → n ≡ unlaid_from beginning (units_of kept) (laid_in xs)
+items_at width kept xs i e d a b o n fresh laid at trace none ready same is =
+    is
+    ∙ ap (λ p. items_in (paragraphs_at p b (value_of o))) (laid_at width kept xs i e d laid at).path
+    ∙ ap (λ c. items_in (paragraphs_at e.unit.path c (value_of o))) same
+    ∙ ap (λ t. items_in (paragraphs_at e.unit.path a (value_of t))) (sym trace)
+    ∙ sym (one_laid beginning kept i e (laid_in xs) a fresh at none ready)
+
+pub laid_at_one : (width : ℕ) (kept : Kept) (xs : List Shown) (i : ℕ) (e : Entry) (d y : Shown) (b : Attrs)
+    (o : Option WideTrace) → AreLaid width kept xs → slice_get kept i ≡ Some e → e.trace ≡ o
+    → IsLaidOut width b (value_of o) (slice_index_or xs i d).path y → y.laid ≡ Some b
+    → AreLaid width kept (slice_set xs i y)
+laid_at_one width kept xs i e d y b o laid at trace out is =
+    let path = (laid_at width kept xs i e d laid at).path in
+    laid_set width kept xs i e y laid at (record {
+      path = out.shown.path_is ∙ path;
+      laid = λ a there. laid_by (same_Some b a (sym is ∙ there)) (ap value_of (sym trace)) path out;
+    })

@@ -1,0 +1,225 @@
+-- An edit of one unit that sets no name leaves the attributes before all units.
+use Rattle.std.proofs.Common.{◌≡◌, ℕ, zero, suc, ◌+◌, ◌<◌, List, [], ◌∷◌, length, slice_set, slice_index_or}
+use Rattle.std.proofs.Common.{Bool, true, false, Option, Some, None, refl, ap, sym, subst, ◌∙◌, arith}
+use Rattle.std.proofs.lemmas.Option.{same_Some, slice_get-get_or, slice_get-map}
+use Rattle.std.specs.FinMap.{empty}
+use Rattle.std.specs.Option.{option_map}
+use Rattle.std.specs.Prelude.{slice_get, ◌==◌, if◌then◌else◌, IfSome}
+use Rattle.tx_tree.specs.WideTree.{WideTree}
+use Rattle.tx_env.specs.Environments.{NameMap}
+use Rattle.tx_exec_form.specs.Evaluated.{WideTrace}
+use Rattle.tx_mod.specs.declared.mods.Mod.{Mod}
+use Rattle.tx_units.specs.declared.kinds.Unit.{Unit as DocUnit}
+use Rattle.tx_units.specs.Units.{units}
+use Rattle.tx_items.specs.declared.attributes.Attrs.{Attrs}
+use Rattle.tx_view_form.specs.Outcomes.{Moment, beginning, behind, env_behind}
+use Rattle.tx_view_form.specs.Started.{attributes_of}
+use Rattle.tx_bridge.specs.Entries.{Entry, Kept, units_of, traces_of, fresh_from, outcome_of}
+use Rattle.tx_bridge.specs.Carrying.{had, taken_from}
+use Rattle.tx_bridge.specs.InPlace.{numbers_but}
+use Rattle.tx_bridge.specs.Names.{Sources, Carry as CarryKept}
+use Rattle.tx_view.specs.declared.carrying.Target.{Target}
+use Rattle.tx_view.specs.declared.carrying.Target.TheVariants.{InPlace}
+use Rattle.tx_view.specs.declared.shown.Shown.{Shown}
+use Rattle.tx_view.specs.declared.view.View.TheInside.{Inside}
+use Rattle.tx_view.specs.Laid.{AreLaid, laid_in, StaysAs, StayBut, IsTarget, IsMoved, SetNoName}
+use Rattle.tx_view.specs.Lone.{SetsNoName, attributes_along, IsLone}
+use Rattle.tx_view.specs.Names.{Fresh}
+use Rattle.tx_view.specs.Stores.{attributes_from}
+use Rattle.tx_view.specs.Units.{unit_view, unit_views}
+use Rattle.tx_view.specs.WholeViews.{IsKept, all_of}
+use Rattle.tx_view.proofs.Staying.{not_equal, are_equal, AreFrom, had_here, from_first, laid_many}
+
+-- for which attributes a unit was laid out
+pub laid_there : (xs : List Shown) (i : ℕ) (d : Shown) (o : Option Attrs) → i < length xs
+    → o ≡ (slice_index_or xs i d).laid → IfSome o (λ a. slice_get (laid_in xs) i ≡ Some (Some a))
+laid_there xs i d None inside is = tt
+laid_there xs i d (Some a) inside is =
+    slice_get-map (λ (x : Shown). x.laid) xs i
+    ∙ ap (option_map (λ (x : Shown). x.laid)) (slice_get-get_or xs i d inside) ∙ ap Some (sym is)
+
+-- ---- what stays of what is shown
+
+stays_same : (y x : Shown) (c : Bool) → c ≡ false → StaysAs c y x → x ≡ y
+stays_same y x true e h = cc
+stays_same y x false e h = h
+
+stays_unlaid : (y x : Shown) (c : Bool) → c ≡ true → StaysAs c y x → x.laid ≡ None
+stays_unlaid y x true e h = ap (λ (z : Shown). z.laid) h
+stays_unlaid y x false e h = cc
+
+-- number i is none of these
+stay_behind : (i k : ℕ) (ys xs : List Shown) → i < k → StayBut i k ys xs → xs ≡ ys
+stay_behind i k [] [] less h = refl
+stay_behind i k [] (x ∷ xs) less h = absurd h
+stay_behind i k (y ∷ ys) [] less h = absurd h
+stay_behind i k (y ∷ ys) (x ∷ xs) less h =
+    ap (λ z. z ∷ xs) (stays_same y x (k == i) (not_equal k i (λ e. omega (arith, e, less))) h.0)
+    ∙ ap (λ zs. y ∷ zs) (stay_behind i (k + 1) ys xs (omega (arith, less)) h.1)
+
+put_back : (i k j : ℕ) (a : Attrs) (ys xs : List Shown) → i ≡ k + j → StayBut i k ys xs
+    → slice_get (laid_in ys) j ≡ Some (Some a) → slice_set (laid_in xs) j (Some a) ≡ laid_in ys
+put_back i k j a [] xs e h at = cc
+put_back i k j a (y ∷ ys) [] e h at = absurd h
+put_back i k zero a (y ∷ ys) (x ∷ xs) e h at =
+    ap (λ b. b ∷ laid_in xs) (sym (same_Some y.laid (Some a) at))
+    ∙ ap (λ zs. y.laid ∷ laid_in zs) (stay_behind i (k + 1) ys xs (omega (arith, e)) h.1)
+put_back i k (suc j) a (y ∷ ys) (x ∷ xs) e h at =
+    ap (λ (z : Shown). z.laid ∷ slice_set (laid_in xs) j (Some a))
+    (stays_same y x (k == i) (not_equal k i (λ f. omega (arith, e, f))) h.0)
+    ∙ ap (λ bs. y.laid ∷ bs) (put_back i (k + 1) j a ys xs (omega (arith, e)) h.1 at)
+
+unlaid_there : (i k j : ℕ) (o : Option Attrs) (ys xs : List Shown) → i ≡ k + j → StayBut i k ys xs
+    → slice_get (laid_in ys) j ≡ Some o → slice_get (laid_in xs) j ≡ Some None
+unlaid_there i k j o [] xs e h at = cc
+unlaid_there i k j o (y ∷ ys) [] e h at = absurd h
+unlaid_there i k zero o (y ∷ ys) (x ∷ xs) e h at =
+    ap Some (stays_unlaid y x (k == i) (are_equal k i (omega (arith, e))) h.0)
+unlaid_there i k (suc j) o (y ∷ ys) (x ∷ xs) e h at =
+    unlaid_there i (k + 1) j o ys xs (omega (arith, e)) h.1 at
+
+same_view : (y x : Shown) (c : Bool) → StaysAs c y x → unit_view x ≡ unit_view y
+same_view y x true h = ap unit_view h
+same_view y x false h = ap unit_view h
+
+views_stay : (i k : ℕ) (ys xs : List Shown) → StayBut i k ys xs → unit_views xs ≡ unit_views ys
+views_stay i k [] [] h = refl
+views_stay i k [] (x ∷ xs) h = absurd h
+views_stay i k (y ∷ ys) [] h = absurd h
+views_stay i k (y ∷ ys) (x ∷ xs) h =
+    ap (λ z. z ∷ unit_views xs) (same_view y x (k == i) h.0)
+    ∙ ap (λ zs. unit_view y ∷ zs) (views_stay i (k + 1) ys xs h.1)
+
+-- what units show stays until they are laid out anew
+pub stay_views : (to : Target) (i : ℕ) (ss : List (Option ℕ)) (ys xs : List Shown) → to ≡ InPlace i true
+    → IsMoved to ss ys xs → unit_views xs ≡ unit_views ys
+stay_views to i ss ys xs is moved =
+    views_stay i 0 ys xs (subst (λ (o : Target). IsMoved o ss ys xs) is moved)
+
+-- ---- what is kept
+
+abbrev taken : ℕ → ℕ → List (Option WideTrace) → List DocUnit → List (Option WideTrace)
+taken i k all vs = traces_of (taken_from all (numbers_but i k (length vs)) vs)
+
+had_but : (all : List (Option WideTrace)) (k : ℕ) (t : Option WideTrace) (c : Bool) → c ≡ false
+    → slice_get all k ≡ Some t → had all (if c then None else Some k) ≡ t
+had_but all k t true e at = cc
+had_but all k t false e at = had_here all k t false at
+
+had_none : (all : List (Option WideTrace)) (k : ℕ) (c : Bool) → c ≡ true → had all (if c then None else Some k) ≡ None
+had_none all k true e = refl
+had_none all k false e = cc
+
+kept_behind : (i k : ℕ) (all ts : List (Option WideTrace)) (vs : List DocUnit) → i < k → AreFrom all k ts
+    → length ts ≡ length vs → taken i k all vs ≡ ts
+kept_behind i k all [] [] less from many = refl
+kept_behind i k all [] (v ∷ vs) less from many = absurd (omega (arith, many))
+kept_behind i k all (t ∷ ts) [] less from many = absurd (omega (arith, many))
+kept_behind i k all (t ∷ ts) (v ∷ vs) less from many =
+    ap (λ o. o ∷ taken i (k + 1) all vs)
+    (had_but all k t (k == i) (not_equal k i (λ e. omega (arith, e, less))) (from 0 k (omega arith)))
+    ∙ ap (λ os. t ∷ os)
+    (kept_behind i (k + 1) all ts vs (omega (arith, less)) (λ n m f. from (suc n) m (omega (arith, f)))
+    (omega (arith, many)))
+
+along_but : (i k j : ℕ) (all ts : List (Option WideTrace)) (vs : List DocUnit) (env : NameMap) → i ≡ k + j
+    → AreFrom all k ts → length ts ≡ length vs
+    → ((t : Option WideTrace) → slice_get ts j ≡ Some t → SetsNoName t)
+    → attributes_along env (taken i k all vs) ≡ attributes_along env ts
+along_but i k j all [] [] env e from many silent = refl
+along_but i k j all [] (v ∷ vs) env e from many silent = absurd (omega (arith, many))
+along_but i k j all (t ∷ ts) [] env e from many silent = absurd (omega (arith, many))
+along_but i k zero all (t ∷ ts) (v ∷ vs) env e from many silent =
+    ap (λ o. Some (attributes_of env) ∷ attributes_along (env_behind env o) (taken i (k + 1) all vs))
+    (had_none all k (k == i) (are_equal k i (omega (arith, e))))
+    ∙ ap (λ os. Some (attributes_of env) ∷ attributes_along env os)
+    (kept_behind i (k + 1) all ts vs (omega (arith, e)) (λ n m f. from (suc n) m (omega (arith, f)))
+    (omega (arith, many)))
+    ∙ ap (λ n. Some (attributes_of env) ∷ attributes_along n ts) (sym (silent t refl env))
+along_but i k (suc j) all (t ∷ ts) (v ∷ vs) env e from many silent =
+    ap (λ o. Some (attributes_of env) ∷ attributes_along (env_behind env o) (taken i (k + 1) all vs))
+    (had_but all k t (k == i) (not_equal k i (λ f. omega (arith, e, f))) (from 0 k (omega arith)))
+    ∙ ap (λ as_laid. Some (attributes_of env) ∷ as_laid)
+    (along_but i (k + 1) j all ts vs (env_behind env t) (omega (arith, e))
+    (λ n m f. from (suc n) m (omega (arith, f))) (omega (arith, many)) silent)
+
+nothing_there : (i k j : ℕ) (all : List (Option WideTrace)) (vs : List DocUnit) → i ≡ k + j → j < length vs
+    → slice_get (taken i k all vs) j ≡ Some None
+nothing_there i k j all [] e inside = absurd (omega (arith, inside))
+nothing_there i k zero all (v ∷ vs) e inside = ap Some (had_none all k (k == i) (are_equal k i (omega (arith, e))))
+nothing_there i k (suc j) all (v ∷ vs) e inside =
+    nothing_there i (k + 1) j all vs (omega (arith, e)) (omega (arith, inside))
+
+-- ---- an edit
+
+pub from_along : (m : Moment) (us : List DocUnit)
+    → attributes_from m us ≡ attributes_along m.env (traces_of (fresh_from m us))
+from_along m [] = refl
+from_along m (u ∷ us) =
+    ap (λ as_laid. Some (attributes_of m.env) ∷ as_laid) (from_along (behind m (outcome_of m u)) us)
+
+-- a fresh view is laid out for the attributes behind what is kept
+pub fresh_along : (v : Inside) → IsKept v → v.fresh ≡ true
+    → laid_in (all_of v) ≡ attributes_along empty (traces_of v.bridges.kept)
+unfolding Fresh
+fresh_along v h on =
+    ap (λ s. s.laid) (h.kept on) ∙ from_along beginning (units v.buffers.items)
+    ∙ ap (λ es. attributes_along empty (traces_of es)) (sym (ap (λ s. s.kept) (h.kept on)))
+
+pub trace_at : (kept : Kept) (i : ℕ) (t : Option WideTrace) → slice_get (traces_of kept) i ≡ Some t
+    → (e : Entry) × (slice_get kept i ≡ Some e) × (e.trace ≡ t)
+trace_at [] i t h = cc
+trace_at (e ∷ es) zero t h = (e, refl, same_Some e.trace t h)
+trace_at (e ∷ es) (suc i) t h = trace_at es i t h
+
+as_many : (es : Kept) → length (traces_of es) ≡ length es
+as_many [] = refl
+as_many (e ∷ es) = ap suc (as_many es)
+
+there_within : {A : Type 0} (xs : List A) (i : ℕ) (x : A) → slice_get xs i ≡ Some x → i < length xs
+there_within [] i x h = cc
+there_within (y ∷ xs) zero x h = omega arith
+there_within (y ∷ xs) (suc i) x h = omega (arith, there_within xs i x h)
+
+laid_as_many : (xs : List Shown) → length (laid_in xs) ≡ length xs
+laid_as_many [] = refl
+laid_as_many (x ∷ xs) = ap suc (laid_as_many xs)
+
+-- there is such a unit
+pub laid_within : (xs : List Shown) (i : ℕ) (o : Option Attrs) → slice_get (laid_in xs) i ≡ Some o → i < length xs
+laid_within xs i o at = omega (arith, there_within (laid_in xs) i o at, laid_as_many xs)
+
+pub left_alone : (width buffer : ℕ) (ms : List Mod) (t : WideTree) (old new : Kept) (olds xs : List Shown)
+    (to : Target) (ss : List (Option ℕ)) (vs : List DocUnit) (i : ℕ) (a : Attrs) → AreLaid width old olds
+    → new ≡ CarryKept buffer ms t old vs → ss ≡ Sources buffer ms t (units_of old) vs
+    → IsTarget (units_of old) vs ss to → IsMoved to ss olds xs → SetNoName old to → to ≡ InPlace i true
+    → laid_in olds ≡ attributes_along empty (traces_of old) → slice_get (laid_in olds) i ≡ Some (Some a)
+    → IsLone new xs i a
+unfolding CarryKept Sources
+left_alone width buffer ms t old new olds xs to ss vs i a laid is_new is_ss target moved silent is along at =
+    let here : IsTarget (units_of old) vs ss (InPlace i true) =
+    subst (λ (o : Target). IsTarget (units_of old) vs ss o) is target in
+    let stay : StayBut i 0 olds xs = subst (λ (o : Target). IsMoved o ss olds xs) is moved in
+    let quiet = subst (λ (o : Target). SetNoName old o) is silent in
+    let kept : traces_of new ≡ taken i 0 (traces_of old) vs =
+    ap traces_of (is_new ∙ ap (λ ns. taken_from (traces_of old) ns vs) (sym is_ss ∙ here.0)) in
+    let many : length olds ≡ length vs = laid_many width old olds vs laid here.1 in
+    let inside : i < length olds = laid_within olds i (Some a) at in
+    record {
+      nothing_kept =
+          ap (λ ts. slice_get ts i) kept
+          ∙ nothing_there i 0 i (traces_of old) vs (omega arith) (omega (arith, inside, many));
+      nothing_laid = unlaid_there i 0 i (Some a) olds xs (omega arith) stay at;
+      attributes =
+          put_back i 0 i a olds xs (omega arith) stay at ∙ along
+          ∙ sym (along_but i 0 i (traces_of old) (traces_of old) vs empty (omega arith) (from_first (traces_of old))
+          (as_many old ∙ sym (kept_many width old olds laid) ∙ many)
+          (λ o there. let e = trace_at old i o there in subst SetsNoName e.2 (quiet refl e.0 e.1)))
+          ∙ ap (attributes_along empty) (sym kept);
+    }
+  where
+    kept_many : (w : ℕ) (es : Kept) (ys : List Shown) → AreLaid w es ys → length ys ≡ length es
+    kept_many w [] [] h = refl
+    kept_many w [] (y ∷ ys) h = absurd h
+    kept_many w (e ∷ es) [] h = absurd h
+    kept_many w (e ∷ es) (y ∷ ys) h = ap suc (kept_many w es ys h.1)

@@ -1,0 +1,126 @@
+use Rattle.std.proofs.Common.{◌≡◌, ◌∙◌, List, ap, sym, subst, arith}
+use Rattle.std.specs.Prelude.{None}
+use Rattle.tx_units.specs.declared.kinds.Unit.{Unit as DocUnit}
+use Rattle.tx_view_form.specs.Outcomes.{beginning}
+use Rattle.tx_view_form.specs.Views.{AreShown}
+use Rattle.tx_bridge.specs.Entries.{units_of, fresh_from}
+use Rattle.tx_view.specs.declared.shown.Shown.{Shown}
+use Rattle.tx_view.specs.Costs.{relaid_from}
+use Rattle.tx_view.specs.Laid.{unlaid_from, laid_in}
+use Rattle.tx_view.specs.Lone.{KeepPages}
+use Rattle.tx_view.specs.Stores.{attributes_from}
+use Rattle.tx_view.specs.Units.{unit_views}
+use Rattle.tx_view.proofs.Alone.{ready_is, shown_from, all_laid, without_alone}
+use Rattle.tx_view.proofs.Forgetting.{laid_without}
+use Rattle.tx_view.proofs.Leaving.{laid_within}
+use Rattle.tx_view.proofs.Onward.{laid_many}
+use Rattle.tx_view.proofs.Renewed.{relaid_is, same_many}
+use Rattle.tx_view.proofs.laying.lay_out_lone.Goals as goal
+
+pub evaluate-requires : goal.evaluate-requires
+evaluate-requires g c = record {
+  few =
+      omega (
+        arith,
+        laid_many c.args.width c.args.bridges.now.kept c.args.units.now c.requires.laid,
+        c.requires.few,
+      );
+}
+
+pub is_alone_quietly-quiet-requires : goal.is_alone_quietly-quiet-requires
+is_alone_quietly-quiet-requires g c =
+    omega (
+      arith,
+      laid_within c.args.units.now c.args.unit None c.requires.lone.nothing_laid,
+      laid_many c.args.width c.args.bridges.now.kept c.args.units.now c.requires.laid,
+      c.requires.few,
+    )
+
+pub lay_if-requires-clause-few : goal.lay_if-requires-clause-few
+lay_if-requires-clause-few g c =
+    omega (
+      arith,
+      same_many c.args.bridges.now.kept c.evaluate.new.bridges.kept c.in_ok-charges.ensures.units,
+      c.requires.few,
+    )
+
+pub lay_if-requires-clause-fresh : goal.lay_if-requires-clause-fresh
+lay_if-requires-clause-fresh g c =
+    c.in_ok-charges.ensures.kept ∙ ap (fresh_from beginning) (sym c.in_ok-charges.ensures.units)
+
+pub lay_if-requires-clause-nothing_laid : goal.lay_if-requires-clause-nothing_laid
+lay_if-requires-clause-nothing_laid g c = λ quiet.
+    (ready_is c.args.unit c.args.bridges.now.kept c.evaluate.new.bridges.kept c.evaluate.new.bridges.renewed
+    c.args.units.now c.evaluate.new.units c.args.attrs.now (c.is_alone_quietly-quiet.ensures.quiet quiet)
+    c.requires.lone (c.in_ok-charges.ensures.alone (c.is_alone_quietly-quiet.ensures.alone quiet))
+    (laid_many c.args.width c.args.bridges.now.kept c.args.units.now c.requires.laid)
+    c.in_ok-charges.ensures.units
+    (same_many c.args.bridges.now.kept c.evaluate.new.bridges.kept c.in_ok-charges.ensures.units)
+    c.in_ok-charges.ensures.kept c.in_ok-charges.ensures.shown).nothing_laid
+
+pub lay_if-requires-clause-attributes : goal.lay_if-requires-clause-attributes
+lay_if-requires-clause-attributes g c = λ quiet.
+    (ready_is c.args.unit c.args.bridges.now.kept c.evaluate.new.bridges.kept c.evaluate.new.bridges.renewed
+    c.args.units.now c.evaluate.new.units c.args.attrs.now (c.is_alone_quietly-quiet.ensures.quiet quiet)
+    c.requires.lone (c.in_ok-charges.ensures.alone (c.is_alone_quietly-quiet.ensures.alone quiet))
+    (laid_many c.args.width c.args.bridges.now.kept c.args.units.now c.requires.laid)
+    c.in_ok-charges.ensures.units
+    (same_many c.args.bridges.now.kept c.evaluate.new.bridges.kept c.in_ok-charges.ensures.units)
+    c.in_ok-charges.ensures.kept c.in_ok-charges.ensures.shown).attributes
+
+pub returns-then-alike-clause-shown : goal.returns-then-alike-clause-shown
+returns-then-alike-clause-shown g c =
+    subst (λ (us : List DocUnit). AreShown c.args.width beginning us (unit_views c.lay_if.new.units))
+    c.in_ok-charges.ensures.units
+    (shown_from c.args.width beginning c.evaluate.new.bridges.kept c.lay_if.new.units c.in_ok-items.ensures.laid
+    (c.in_ok-charges.ensures.kept ∙ ap (fresh_from beginning) (sym c.in_ok-charges.ensures.units))
+    (c.in_ok-items.ensures.attributes c.if-alike.true))
+
+pub returns-then-alike-clause-attributes : goal.returns-then-alike-clause-attributes
+returns-then-alike-clause-attributes g c =
+    c.in_ok-items.ensures.attributes c.if-alike.true
+    ∙ ap (attributes_from beginning) c.in_ok-charges.ensures.units
+
+pub returns-then-alike-clause-pages : goal.returns-then-alike-clause-pages
+returns-then-alike-clause-pages g c = λ _.
+    let alone = c.in_ok-charges.ensures.alone (c.is_alone_quietly-quiet.ensures.alone
+    (c.in_ok-items.ensures.quiet c.if-alike.true)) in
+    subst (λ (xs : List Shown). KeepPages xs c.lay_if.new.units)
+    (c.in_ok-charges.ensures.shown
+    ∙ without_alone c.args.unit c.evaluate.new.bridges.renewed c.args.units.now alone.no_flag
+    c.requires.lone.nothing_laid) (c.in_ok-items.ensures.pages c.if-alike.true)
+
+pub returns-then-alike-clause-work : goal.returns-then-alike-clause-work
+returns-then-alike-clause-work g c =
+    let relaid : unlaid_from beginning (units_of c.evaluate.new.bridges.kept) (laid_in c.evaluate.new.units)
+    ≡ relaid_from beginning c.args.bridges.now.kept (laid_in c.args.units.now) =
+    relaid_is c.args.bridges.now.kept c.evaluate.new.bridges.kept c.evaluate.new.bridges.renewed
+    (laid_in c.args.units.now) (laid_in c.evaluate.new.units) c.in_ok-charges.ensures.renewed
+    c.in_ok-charges.ensures.units
+    (ap laid_in c.in_ok-charges.ensures.shown
+    ∙ laid_without c.evaluate.new.bridges.renewed c.args.units.now) in
+    omega (
+      arith,
+      c.in_ok-charges.ensures.charge,
+      relaid,
+      c.in_ok-items.ensures.left,
+      all_laid beginning (units_of c.evaluate.new.bridges.kept) (laid_in c.lay_if.new.units)
+          (c.in_ok-items.ensures.attributes c.if-alike.true),
+    )
+
+pub returns-clause-work : goal.returns-clause-work
+returns-clause-work g c =
+    let relaid : unlaid_from beginning (units_of c.evaluate.new.bridges.kept) (laid_in c.evaluate.new.units)
+    ≡ relaid_from beginning c.args.bridges.now.kept (laid_in c.args.units.now) =
+    relaid_is c.args.bridges.now.kept c.evaluate.new.bridges.kept c.evaluate.new.bridges.renewed
+    (laid_in c.args.units.now) (laid_in c.evaluate.new.units) c.in_ok-charges.ensures.renewed
+    c.in_ok-charges.ensures.units
+    (ap laid_in c.in_ok-charges.ensures.shown
+    ∙ laid_without c.evaluate.new.bridges.renewed c.args.units.now) in
+    omega (
+      arith,
+      c.in_ok-charges.ensures.charge,
+      relaid,
+      c.in_ok-items.ensures.left,
+      c.in_ok-rest.ensures.items,
+    )

@@ -1,0 +1,42 @@
+use Rattle.std.proofs.lemmas.List.{take_at}
+use Rattle.std.proofs.Common.{◌≡◌, ◌∙◌, List, length, ap, refl, subst, sym, rules}
+use Rattle.tx_doc.specs.declared.buffer.Buffer.{Buffer}
+use Rattle.tx_units.specs.Units.{units}
+use Rattle.tx_view_form.specs.Outcomes.{beginning}
+use Rattle.tx_view_form.specs.Views.{AreShown}
+use Rattle.tx_view.specs.declared.shown.Shown.{Shown}
+use Rattle.tx_view.specs.Laid.{AreLaid, laid_in}
+use Rattle.tx_view.specs.Lone.{IsPaged}
+use Rattle.tx_view.specs.Names.{Fresh}
+use Rattle.tx_view.specs.Units.{unit_views, AreAllApart}
+use Rattle.tx_view.proofs.Forgetting.{AllReadable}
+use Rattle.tx_view.proofs.Standing.{standing, stores_with}
+use Rattle.tx_view.proofs.view.View.refresh.Goals as goal
+
+pub invariant_of-self-2 : goal.invariant_of-self-2
+invariant_of-self-2 g c =
+    let many : length c.made_anew.new.all ≡ c.self.inside.hidden.len = search rules in
+    let now : c.made_anew.new.all ≡ c.swap.new.x.items =
+    sym (ap (λ v. v.items) c.swap.ensures.x_after ∙ take_at c.made_anew.new.all _ c.self.inside.hidden.len many) in
+    let same = c.deref.ensures.value in
+    standing _ (record {
+      some = c.self.invariant.some;
+      few = c.self.invariant.few;
+      least_width = c.self.invariant.least_width;
+      most_width = c.self.invariant.most_width;
+      least_height = c.self.invariant.least_height;
+      most_height = c.self.invariant.most_height;
+      of_buffers = c.in_ok-paged.ensures.of_buffers ∙ ap units same;
+    }) refl
+    (subst (λ (xs : List Shown).
+    AreShown c.self.inside.width beginning (units c.self.inside.buffers.items) (unit_views xs)) now
+    (subst (λ (bs : List Buffer). AreShown c.self.inside.width beginning (units bs) (unit_views c.made_anew.new.all))
+    same c.in_ok-paged.ensures.shown))
+    (subst (λ (xs : List Shown). IsPaged c.self.inside.height (unit_views xs) c.in_ok-paged.paged) now
+    c.in_ok-paged.ensures.paged)
+    (ap (λ (xs : List Shown). stores_with c.made_anew.new.bridges.kept c.made_anew.new.bridges.parts (laid_in xs)) (sym now)
+    ∙ c.in_ok-paged.ensures.stores ∙ ap Fresh same)
+    (subst (λ (xs : List Shown). AreAllApart (unit_views xs)) now c.in_ok-paged.ensures.apart)
+    (subst (λ (xs : List Shown). AreLaid c.self.inside.width c.made_anew.new.bridges.kept xs) now
+    c.in_ok-paged.ensures.laid)
+    (subst AllReadable now c.in_ok-paged.ensures.readable) c.replace-lone.ensures.after
