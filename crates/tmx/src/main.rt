@@ -5,6 +5,7 @@
 ghost use Rattle.std.specs.Prelude.{◌≡◌};
 
 use std::alloc::AllocError;
+use std::io::ErrorKind;
 use std::marker::Brand;
 use std::process::ExitCode;
 use std::rt::{Env, Files};
@@ -14,12 +15,19 @@ use tx_base::Steps;
 use tx_session::{Status, run};
 use tx_system::{FileStore, StandardInput, StandardOutput};
 
-// The words of the command line. Words that can't be had, or are no text, are as faulty as none.
+// The words of the command line. Where memory sufficed, words that can't be had, or are no text, are as faulty as none.
 fn words<R: Env + AllocGlobal>(rt: &R) -> Result<Vec<String>, AllocError> {
     let mut words = Vec::new(rt.alloc());
-    if let Ok(args) = env::args(rt) {
-        for word in args {
-            words.push(word)?;
+    match env::args(rt) {
+        Ok(args) => {
+            for word in args {
+                words.push(word)?;
+            }
+        }
+        Err(cause) => {
+            if cause.kind() == ErrorKind::OutOfMemory {
+                return Err(AllocError);
+            }
         }
     }
     Ok(words)

@@ -27,7 +27,9 @@ use Rattle.tx_mod.specs.Sound.{IsSound}
 use Rattle.tx_mod.proofs.Cases.{by_test}
 use Rattle.tx_mod.proofs.InTurn.{begun}
 use Rattle.tx_mod.proofs.Kept.{split_left}
+use Rattle.tx_mod.proofs.Remade.{asked_ok}
 use Rattle.tx_mod.proofs.Replacing.{subtree_of_replaced}
+use Rattle.tx_mod.proofs.Shapes.{child_is}
 use Rattle.tx_edit.specs.declared.faults.EditFault.{EditFault}
 use Rattle.tx_edit.specs.declared.faults.EditFault.TheVariants.{NoText, AtStart, NotInParagraph}
 use Rattle.tx_edit.specs.declared.moves.Move.{Move}
@@ -38,7 +40,7 @@ use Rattle.tx_edit.specs.Keys.{joined_behind, joined_to_former, joined_in, erase
 use Rattle.tx_edit.specs.Keys.{split_in_concat, split_in, entered}
 use Rattle.tx_edit.proofs.Backwards.{before_end, is_before}
 use Rattle.tx_edit.proofs.Parents.{path_is, child_at, text_found}
-use Rattle.tx_edit.proofs.Turns.{IsLimited, tree_made, one_applies, asked_true, moved_once, moved_first, moved_below}
+use Rattle.tx_edit.proofs.Turns.{IsLimited, tree_made, one_applies, moved_once, moved_first, moved_below}
 use Rattle.tx_edit.proofs.Turns.{stays_in_turn}
 
 -- the modifications apply unless a limit refuses one, and the place is the moved cursor, a place of the changed tree
@@ -80,8 +82,8 @@ typing t at old more formed h there found =
     let o : ℕ = at.offset in
     let cut : IsCut old o = leaf_cut t at.path old o found there in
     let made : inserted (leaf old) o (leaf more) ≡ Ok (leaf (put_in old o more)) =
-    asked_true (nat_le o (length old)) (BadPlace (length old)) _ (le-leb o (length old) (cut_within old o cut))
-    ∙ asked_true (is_cut old o) (CutsSymbol o) _ (cut_tested old o cut) in
+    asked_ok (nat_le o (length old)) (BadPlace (length old)) _ (le-leb o (length old) (cut_within old o cut))
+    ∙ asked_ok (is_cut old o) (CutsSymbol o) _ (cut_tested old o cut) in
     follows_one (Insert at.path o (leaf more)) t (leaf old) (leaf (put_in old o more)) at
     (place at.path (o + length more)) [] h formed there found made (sym (append-nil at.path))
     (ap₂ place (sym (append-nil at.path)) (sym (ap (λ b. if b then o + length more else o) (le-leb o o (omega arith)))))
@@ -98,10 +100,10 @@ erasing t at text formed there found =
     let le : start ≤ o = before_end text o in
     let whole : start + (o - start) ≡ o = omega arith in
     let made : removed (leaf text) start (o - start) ≡ Ok (leaf (taken_out text start (o - start))) =
-    asked_true (nat_le (start + (o - start)) (length text)) (BadPlace (length text)) _
+    asked_ok (nat_le (start + (o - start)) (length text)) (BadPlace (length text)) _
     (le-leb (start + (o - start)) (length text) (omega (arith, cut_within text o cut)))
-    ∙ asked_true (is_cut text start) (CutsSymbol start) _ (is_before text o)
-    ∙ asked_true (is_cut text (start + (o - start))) (CutsSymbol (start + (o - start))) _
+    ∙ asked_ok (is_cut text start) (CutsSymbol start) _ (is_before text o)
+    ∙ asked_ok (is_cut text (start + (o - start))) (CutsSymbol (start + (o - start))) _
     (ap (is_cut text) whole ∙ cut_tested text o cut) in
     let back : o - (o - start) ≡ start = omega arith in
     let test : nat_le (start + (o - start)) o ≡ true = le-leb (start + (o - start)) o (omega arith) in
@@ -119,9 +121,6 @@ record IsNode (s : WideTree) : Type 0 where
 node_with : (s c : WideTree) (i : ℕ) → slice_get (children_of s) i ≡ Some c → IsNode s
 node_with (leaf text) c i e = absurd (cc)
 node_with (node l ts) c i e = record { label = l; children = ts; is = refl }
-
-child_is : (s c : WideTree) (i : ℕ) → slice_get (children_of s) i ≡ Some c → child_or_self s i ≡ c
-child_is s c i e = ap (λ o. option_map_or (λ (x : WideTree). x) o s) e
 
 -- a modification makes a tree by its table
 record Makes (o : Outcome) : Type 0 where
@@ -180,8 +179,8 @@ child_split (node l ts) c i j e le clean =
     record {
       tree = node l (forest (take i (trees ts) ++ before c j ∷ behind c j ∷ drop (i + 1) (trees ts)));
       is = ap (λ o. option_map_or (split_child l (trees ts) i j) o (Err (BadPlace (length (trees ts))))) e
-          ∙ asked_true (nat_le j (extent c)) (BadPlace (extent c)) _ (le-leb j (extent c) le)
-          ∙ asked_true (is_clean c j) (CutsSymbol j) _ clean;
+          ∙ asked_ok (nat_le j (extent c)) (BadPlace (extent c)) _ (le-leb j (extent c) le)
+          ∙ asked_ok (is_clean c j) (CutsSymbol j) _ clean;
     }
 
 -- a place of the child that is split

@@ -67,9 +67,6 @@ one_applies m ms t s v found made next =
     from (Ok w) e h = next w e (tree_made m t s v w found made e)
     from (Err cause) e h = h
 
-pub asked_true : (b : Bool) (cause : ModFault) (o : Outcome) → b ≡ true → asking b cause o ≡ o
-asked_true b cause o e = ap (λ z. asking z cause o) e
-
 -- ---- where a place stands
 
 pub moved_once : (m : Mod) (t : WideTree) (at : Place) → moved_in_turn (m ∷ []) t at ≡ moved_place m t at

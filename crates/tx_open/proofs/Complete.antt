@@ -1,6 +1,8 @@
 -- Files that can be opened are opened, or memory runs out.
 use Rattle.std.proofs.Common.{◌≡◌, ◌≢◌, ◌⊎◌, inl, inr, ℕ, List, Option, refl, sym, subst}
+use Rattle.tx_outside.specs.Counts.{Rose}
 use Rattle.tx_outside.specs.Files.{Files}
+use Rattle.tx_outside.specs.Outside.{StoreSeen}
 use Rattle.tx_words.specs.declared.asked.Source.{Source}
 use Rattle.tx_words.specs.declared.asked.Source.TheVariants.{Files as AllFiles, Generated as FromNumber}
 use Rattle.tx_words.specs.Words.{Ask, AreFaulty, Named}
@@ -98,12 +100,12 @@ module _ (words : List (List ℕ)) (files : Option Files) (width height : ℕ) (
   comes_from r f e h = subst (ComesTo words files) (sym e) (failed f h)
 
 -- a cause, of each outcome that has one
-module _ (misses longs faults : Type 0) (o : Outcome) (h : IsCaused misses longs faults o) where
-  pub missing_caused : (word : List ℕ) → o ≡ missing word → misses
-  missing_caused word e = subst (IsCaused misses longs faults) e h
+module _ (before after : StoreSeen) (o : Outcome) (h : IsCaused before after o) where
+  pub missing_caused : (word : List ℕ) → o ≡ missing word → Rose before.misses after.misses
+  missing_caused word e = subst (IsCaused before after) e h
 
-  pub long_caused : (word : List ℕ) → o ≡ too_long word → longs
-  long_caused word e = subst (IsCaused misses longs faults) e h
+  pub long_caused : (word : List ℕ) → o ≡ too_long word → Rose before.longs after.longs
+  long_caused word e = subst (IsCaused before after) e h
 
-  pub fault_caused : (word : List ℕ) → o ≡ store_fault word → faults
-  fault_caused word e = subst (IsCaused misses longs faults) e h
+  pub fault_caused : (word : List ℕ) → o ≡ store_fault word → Rose before.faults after.faults
+  fault_caused word e = subst (IsCaused before after) e h

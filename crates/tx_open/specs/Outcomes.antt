@@ -1,6 +1,8 @@
 -- What opening comes to, from the words and the files.
 use Rattle.std.specs.Prelude.{◌≡◌, ◌≤◌, ℕ, List, [], ◌∷◌, ◌++◌, length, sum_by, codes, Option, Some, IfSome}
+use Rattle.tx_outside.specs.Counts.{Rose}
 use Rattle.tx_outside.specs.Files.{Files, IsAbsent, IsTooLong, file_of}
+use Rattle.tx_outside.specs.Outside.{StoreSeen}
 use Rattle.tx_outside.specs.declared.file_store.TheConstants.{MOST_FILE}
 use Rattle.tx_tree.specs.WideTree.{WideTree, nodes_of}
 use Rattle.tx_tree.specs.Limits.{IsWithinLimits}
@@ -126,11 +128,11 @@ IsDecided no_memory = ⊥
 IsDecided _ = Unit {0}
 
 -- an outcome that blames the store comes only where its count rose
-abbrev pub IsCaused : (misses longs faults : Type 0) → Outcome → Type 0
-IsCaused misses longs faults (missing word) = misses
-IsCaused misses longs faults (too_long word) = longs
-IsCaused misses longs faults (store_fault word) = faults
-IsCaused misses longs faults _ = Unit {0}
+abbrev pub IsCaused : (before after : StoreSeen) → Outcome → Type 0
+IsCaused before after (missing word) = Rose before.misses after.misses
+IsCaused before after (too_long word) = Rose before.longs after.longs
+IsCaused before after (store_fault word) = Rose before.faults after.faults
+IsCaused before after _ = Unit {0}
 
 -- the files are told, and the words ask for some that are read
 pub record CanBeOpened (words : List (List ℕ)) (files : Option Files) : Type 0 where

@@ -1,6 +1,6 @@
 // A file, loaded and read.
 ghost use Rattle.std.specs.Prelude.{◌≡◌, ◌≢◌, ◌≤◌, ◌+◌, IfOk, IfErr};
-ghost use Rattle.tx_outside.specs.Counts.{NeverFalls, Rose};
+ghost use Rattle.tx_outside.specs.Outside.{StoreGoesOn};
 ghost use Rattle.tx_tree.specs.Limits.{IsWithinLimits};
 ghost use Rattle.tx_tree.specs.WideTree.{nodes_of};
 ghost use Rattle.tx_words.specs.Seen.{named_of};
@@ -42,16 +42,12 @@ fn read_tree<'a, S: Store, L: Ledger>(
     store: &mut S,
     steps: &mut Steps<L>,
 ) -> Result<Tree, Failure<'a>>
-    ensures tree { IfOk result (λ t. IsTreeOf (S.files store.old) word.entry.now t) }
-    ensures failed { IfErr result (λ failure. EndsAt (S.files store.old) word.entry.now (failed_as failure)) }
-    ensures caused { IfErr result (λ failure. IsCaused (Rose (S.misses store.old) (S.misses store.new))
-        (Rose (S.longs store.old) (S.longs store.new)) (Rose (S.faults store.old) (S.faults store.new))
-        (failed_as failure)) }
+    ensures tree { IfOk result (λ t. IsTreeOf (S.seen store.old).files word.entry.now t) }
+    ensures failed { IfErr result (λ failure. EndsAt (S.seen store.old).files word.entry.now (failed_as failure)) }
+    ensures caused { IfErr result (λ failure. IsCaused (S.seen store.old) (S.seen store.new) (failed_as failure)) }
     ensures counted { IfOk result (λ t. steps.new ≤ steps.old + nodes_of t) }
-    ensures files_kept { S.files store.new ≡ S.files store.old }
-    ensures faults_never_fall { NeverFalls (S.faults store.old) (S.faults store.new) }
-    ensures misses_never_fall { NeverFalls (S.misses store.old) (S.misses store.new) }
-    ensures longs_never_fall { NeverFalls (S.longs store.old) (S.longs store.new) }
+    ensures files_kept { (S.seen store.new).files ≡ (S.seen store.old).files }
+    ensures store_goes_on { StoreGoesOn (S.seen store.old) (S.seen store.new) }
 {
     let mut bytes = Vec::new(alloc);
     match store.load(word, &mut bytes) {
@@ -74,16 +70,12 @@ pub(crate) fn read_file<'a, S: Store, L: Ledger>(
     store: &mut S,
     steps: &mut Steps<L>,
 ) -> Result<Buffer, Failure<'a>>
-    ensures read { IfOk result (λ buffer. IsReadAs (S.files store.old) (named_of file.entry) buffer) }
-    ensures failed { IfErr result (λ failure. EndsAt (S.files store.old) file.entry.word.now (failed_as failure)) }
-    ensures caused { IfErr result (λ failure. IsCaused (Rose (S.misses store.old) (S.misses store.new))
-        (Rose (S.longs store.old) (S.longs store.new)) (Rose (S.faults store.old) (S.faults store.new))
-        (failed_as failure)) }
+    ensures read { IfOk result (λ buffer. IsReadAs (S.seen store.old).files (named_of file.entry) buffer) }
+    ensures failed { IfErr result (λ failure. EndsAt (S.seen store.old).files file.entry.word.now (failed_as failure)) }
+    ensures caused { IfErr result (λ failure. IsCaused (S.seen store.old) (S.seen store.new) (failed_as failure)) }
     ensures counted { IfOk result (λ buffer. steps.new ≤ steps.old + nodes_of buffer.tree) }
-    ensures files_kept { S.files store.new ≡ S.files store.old }
-    ensures faults_never_fall { NeverFalls (S.faults store.old) (S.faults store.new) }
-    ensures misses_never_fall { NeverFalls (S.misses store.old) (S.misses store.new) }
-    ensures longs_never_fall { NeverFalls (S.longs store.old) (S.longs store.new) }
+    ensures files_kept { (S.seen store.new).files ≡ (S.seen store.old).files }
+    ensures store_goes_on { StoreGoesOn (S.seen store.old) (S.seen store.new) }
 {
     let name = Vec::from_slice(alloc, file.name)?;
     let tree = read_tree(alloc, file.word.as_bytes(), store, steps)?;

@@ -1,7 +1,8 @@
 // All files that the words name, loaded and read.
 ghost use Rattle.std.specs.Prelude.{◌≡◌, ◌<◌, ◌≤◌, ◌+◌, ◌^◌, ◌⊎◌, ℕ, List, [], ◌∷◌, map, length, IfOk, IfErr, OnOk};
 ghost use Rattle.std.specs.String.{string_bytes};
-ghost use Rattle.tx_outside.specs.Counts.{NeverFalls, Rose};
+ghost use Rattle.tx_outside.specs.Counts.{Rose};
+ghost use Rattle.tx_outside.specs.Outside.{StoreGoesOn, StoreIsFaultless};
 ghost use Rattle.tx_doc.specs.Buffers.{NamesDiffer};
 ghost use Rattle.tx_doc.specs.declared.buffer.Buffer.{Buffer as SomeBuffer};
 ghost use Rattle.tx_words.specs.Seen.{named_of};
@@ -85,17 +86,13 @@ fn add_files<'a, S: Store, L: Ledger>(
     steps: &mut Steps<L>,
 ) -> Result<(), Failure<'a>>
     requires { buffers.old.items ≡ [] }
-    ensures read { OnOk result (AreRead (S.files store.old) (map named_of files.now) buffers.new.items) }
+    ensures read { OnOk result (AreRead (S.seen store.old).files (map named_of files.now) buffers.new.items) }
     ensures failed { IfErr result
-        (λ failure. EndsIn (S.files store.old) (map named_of files.now) (failed_as failure)) }
-    ensures caused { IfErr result (λ failure. IsCaused (Rose (S.misses store.old) (S.misses store.new))
-        (Rose (S.longs store.old) (S.longs store.new)) (Rose (S.faults store.old) (S.faults store.new))
-        (failed_as failure)) }
+        (λ failure. EndsIn (S.seen store.old).files (map named_of files.now) (failed_as failure)) }
+    ensures caused { IfErr result (λ failure. IsCaused (S.seen store.old) (S.seen store.new) (failed_as failure)) }
     ensures counted { OnOk result (steps.new ≤ steps.old + nodes_in buffers.new.items) }
-    ensures files_kept { S.files store.new ≡ S.files store.old }
-    ensures faults_never_fall { NeverFalls (S.faults store.old) (S.faults store.new) }
-    ensures misses_never_fall { NeverFalls (S.misses store.old) (S.misses store.new) }
-    ensures longs_never_fall { NeverFalls (S.longs store.old) (S.longs store.new) }
+    ensures files_kept { (S.seen store.new).files ≡ (S.seen store.old).files }
+    ensures store_goes_on { StoreGoesOn (S.seen store.old) (S.seen store.new) }
 {
     for file in files {
         buffers.push(read_file(alloc, *file, store, steps)?)?;
@@ -113,16 +110,12 @@ fn read_files<'a, S: Store, L: Ledger>(
     steps: &mut Steps<L>,
 ) -> Result<Opened, Failure<'a>>
     ensures size { IfOk result (λ all. (all.width ≡ width) × (all.height ≡ height)) }
-    ensures read { IfOk result (λ all. AreRead (S.files store.old) files.now all.buffers) }
-    ensures failed { IfErr result (λ failure. EndsIn (S.files store.old) files.now (failed_as failure)) }
-    ensures caused { IfErr result (λ failure. IsCaused (Rose (S.misses store.old) (S.misses store.new))
-        (Rose (S.longs store.old) (S.longs store.new)) (Rose (S.faults store.old) (S.faults store.new))
-        (failed_as failure)) }
+    ensures read { IfOk result (λ all. AreRead (S.seen store.old).files files.now all.buffers) }
+    ensures failed { IfErr result (λ failure. EndsIn (S.seen store.old).files files.now (failed_as failure)) }
+    ensures caused { IfErr result (λ failure. IsCaused (S.seen store.old) (S.seen store.new) (failed_as failure)) }
     ensures counted { IfOk result (λ all. steps.new ≤ steps.old + nodes_in all.buffers) }
-    ensures files_kept { S.files store.new ≡ S.files store.old }
-    ensures faults_never_fall { NeverFalls (S.faults store.old) (S.faults store.new) }
-    ensures misses_never_fall { NeverFalls (S.misses store.old) (S.misses store.new) }
-    ensures longs_never_fall { NeverFalls (S.longs store.old) (S.longs store.new) }
+    ensures files_kept { (S.seen store.new).files ≡ (S.seen store.old).files }
+    ensures store_goes_on { StoreGoesOn (S.seen store.old) (S.seen store.new) }
 {
     let mut buffers = Vec::new(alloc);
     add_files(alloc, &mut buffers, files.as_slice(), store, steps)?;
@@ -173,10 +166,9 @@ pub fn open<'a, S: Store, L: Ledger>(
     store: &mut S,
     steps: &mut Steps<L>,
 ) -> Opening<'a>
-    ensures comes { ComesTo (map string_bytes words.now) (S.files store.old) (outcome_of result) }
-    ensures complete { CanBeOpened (map string_bytes words.now) (S.files store.old)
-        → ¬ Rose (S.misses store.old) (S.misses store.new) → ¬ Rose (S.longs store.old) (S.longs store.new)
-        → ¬ Rose (S.faults store.old) (S.faults store.new)
+    ensures comes { ComesTo (map string_bytes words.now) (S.seen store.old).files (outcome_of result) }
+    ensures complete { CanBeOpened (map string_bytes words.now) (S.seen store.old).files
+        → StoreIsFaultless (S.seen store.old) (S.seen store.new)
         → (outcome_of result ≡ no_memory) ⊎ ((all : WasOpened) × (result ≡ Opening.Opened all)) }
 
     // A generated document needs memory alone.
@@ -190,11 +182,11 @@ pub fn open<'a, S: Store, L: Ledger>(
 
     // Where the store is blamed, its count rose.
     ensures missing_counted { (word : List ℕ) → outcome_of result ≡ missing word
-        → Rose (S.misses store.old) (S.misses store.new) }
+        → Rose (S.seen store.old).misses (S.seen store.new).misses }
     ensures fault_counted { (word : List ℕ) → outcome_of result ≡ store_fault word
-        → Rose (S.faults store.old) (S.faults store.new) }
+        → Rose (S.seen store.old).faults (S.seen store.new).faults }
     ensures long_counted { (word : List ℕ) → outcome_of result ≡ too_long word
-        → Rose (S.longs store.old) (S.longs store.new) }
+        → Rose (S.seen store.old).longs (S.seen store.new).longs }
 
     // What was opened is what a session begins with.
     ensures width { IfOpened result (λ all. (20 ≤ all.width) × (all.width ≤ 500)) }
@@ -209,10 +201,8 @@ pub fn open<'a, S: Store, L: Ledger>(
     ensures untouched_unless_asked { (store.new ≡ store.old) ⊎ AskForFiles (map string_bytes words.now) }
     ensures not_asked { (width height number count : ℕ)
         → Ask (map string_bytes words.now) width height (Source.Generated number count) → store.new ≡ store.old }
-    ensures files_kept { S.files store.new ≡ S.files store.old }
-    ensures faults_never_fall { NeverFalls (S.faults store.old) (S.faults store.new) }
-    ensures misses_never_fall { NeverFalls (S.misses store.old) (S.misses store.new) }
-    ensures longs_never_fall { NeverFalls (S.longs store.old) (S.longs store.new) }
+    ensures files_kept { (S.seen store.new).files ≡ (S.seen store.old).files }
+    ensures store_goes_on { StoreGoesOn (S.seen store.old) (S.seen store.new) }
 {
     one_asking();
     match read_words(alloc, words) {

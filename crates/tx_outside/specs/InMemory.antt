@@ -1,7 +1,8 @@
 -- What contracts see of a source, a sink and a store in memory.
-use Rattle.std.specs.Prelude.{ℕ, List, Contains}
+use Rattle.std.specs.Prelude.{ℕ, List, Contains, Some}
 use Rattle.tx_outside.specs.Counts.{raised}
 use Rattle.tx_outside.specs.Files.{Files}
+use Rattle.tx_outside.specs.Outside.{SinkSeen, SourceSeen, StoreSeen}
 
 -- the calls of one object: the numbers of those that fail, the number of the next one, and how many failed
 pub record CallsMade : Type 0 where
@@ -42,3 +43,19 @@ pub record MemoryStore : Type 0 where
   pub calls : CallsMade
   pub misses : ℕ
   pub longs : ℕ
+
+-- what is seen of them: they tell all that they hold
+abbrev pub seen_source : MemorySource → SourceSeen
+seen_source source = record { left = Some source.left; faults = source.calls.faults }
+
+abbrev pub seen_sink : MemorySink → SinkSeen
+seen_sink sink = record { written = Some sink.written; faults = sink.calls.faults }
+
+abbrev pub seen_store : MemoryStore → StoreSeen
+seen_store store =
+    record {
+      files = Some store.files;
+      faults = store.calls.faults;
+      misses = store.misses;
+      longs = store.longs;
+    }

@@ -2,18 +2,17 @@
 ghost use Rattle.std.specs.Prelude.{◌≡◌, ◌<◌, ◌≤◌, ◌++◌, ℕ, List, [], Option};
 ghost use Rattle.std.specs.Prelude.{length, take, IfOk, OnOk, OnErr, IsOk};
 ghost use Rattle.std.specs.Io.KnownBytes.{append_known};
-ghost use Rattle.tx_outside.specs.Counts.{NeverFalls, Rose};
-ghost use Rattle.tx_outside.specs.Known.{AppendsPart, StaysKnown};
+ghost use Rattle.tx_outside.specs.Counts.{Rose};
+ghost use Rattle.tx_outside.specs.Known.{AppendsPart};
+ghost use Rattle.tx_outside.specs.Outside.{SinkGoesOn, SinkSeen};
 
 use crate::{Failed, WriteFault};
 
 /// A sink of bytes, such as the standard output.
 pub trait Sink {
-    /// The bytes that were written, where the sink tells them.
-    ghost written: { Self → Option (List ℕ) };
-
-    /// How often the sink has failed: a number up to 2^64 - 1 that never falls.
-    ghost faults: { Self → ℕ };
+    /// The bytes that were written, where the sink tells them, and how often it has failed: a number up to 2^64 - 1
+    /// that never falls.
+    ghost seen: { Self → SinkSeen };
 
     /// Writes the first bytes of `piece`, which isn't empty, and answers how many: at least one, since a
     /// device that takes nothing of a piece has failed and counts it. After `Failed` nothing is written.
@@ -21,22 +20,21 @@ pub trait Sink {
         requires { 0 < length piece.now }
         ensures some { IfOk result (λ n. 0 < n) }
         ensures within { IfOk result (λ n. n ≤ length piece.now) }
-        ensures appended { IfOk result (λ n. written self.new ≡ append_known (written self.old) (take n piece.now)) }
-        ensures failed_rose { OnErr result (Rose (faults self.old) (faults self.new)) }
-        ensures failed_keeps { OnErr result (written self.new ≡ written self.old) }
-        ensures faults_never_fall { NeverFalls (faults self.old) (faults self.new) }
-        ensures stays_known { StaysKnown (written self.old) (written self.new) };
+        ensures appended { IfOk result (λ n.
+            (seen self.new).written ≡ append_known (seen self.old).written (take n piece.now)) }
+        ensures failed_rose { OnErr result (Rose (seen self.old).faults (seen self.new).faults) }
+        ensures failed_keeps { OnErr result ((seen self.new).written ≡ (seen self.old).written) }
+        ensures goes_on { SinkGoesOn (seen self.old) (seen self.new) };
 }
 
 /// Writes the whole of `piece`, in as many calls as the sink needs, and in none where it is empty. After
 /// `Failed` a part of the piece is written, from its start on.
 pub fn write_all<O: Sink>(out: &mut O, piece: &[u8]) -> Result<(), WriteFault>
-    ensures written { OnOk result (O.written out.new ≡ append_known (O.written out.old) piece.now) }
+    ensures written { OnOk result ((O.seen out.new).written ≡ append_known (O.seen out.old).written piece.now) }
     ensures empty { piece.now ≡ [] → IsOk result × (out.new ≡ out.old) }
-    ensures failed_rose { OnErr result (Rose (O.faults out.old) (O.faults out.new)) }
-    ensures failed_part { OnErr result (AppendsPart piece.now (O.written out.old) (O.written out.new)) }
-    ensures faults_never_fall { NeverFalls (O.faults out.old) (O.faults out.new) }
-    ensures stays_known { StaysKnown (O.written out.old) (O.written out.new) }
+    ensures failed_rose { OnErr result (Rose (O.seen out.old).faults (O.seen out.new).faults) }
+    ensures failed_part { OnErr result (AppendsPart piece.now (O.seen out.old).written (O.seen out.new).written) }
+    ensures goes_on { SinkGoesOn (O.seen out.old) (O.seen out.new) }
 {
     let mut done = 0;
     while done < piece.len() {

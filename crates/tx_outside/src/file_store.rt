@@ -1,10 +1,10 @@
 // Where files are kept.
-ghost use Rattle.std.specs.Prelude.{◌≡◌, ◌≤◌, ℕ, [], Option, Some};
+ghost use Rattle.std.specs.Prelude.{◌≡◌, ◌≤◌, [], Some};
 ghost use Rattle.std.specs.Prelude.{length, OnOk, OnErr, IfSome, IsErrOf};
-ghost use Rattle.tx_outside.specs.Counts.{NeverFalls, Rose};
-ghost use Rattle.tx_outside.specs.Files.{Files, IsAbsent, IsTooLong, NamesDiffer};
-ghost use Rattle.tx_outside.specs.Files.{OthersKept, WithFile, file_of};
-ghost use Rattle.tx_outside.specs.Known.{StaysKnown, WhereKnown};
+ghost use Rattle.tx_outside.specs.Counts.{Rose};
+ghost use Rattle.tx_outside.specs.Files.{IsAbsent, IsTooLong, NamesDiffer, OthersKept, WithFile, file_of};
+ghost use Rattle.tx_outside.specs.Known.{WhereKnown};
+ghost use Rattle.tx_outside.specs.Outside.{StoreGoesOn, StoreSeen};
 
 use crate::{LoadFault, SaveFault};
 
@@ -13,53 +13,42 @@ pub const MOST_FILE: usize = 16_777_216;
 
 /// A store of files, which are known by their names.
 pub trait Store {
-    /// The name and the bytes of each file, where the store tells them. No two names are equal.
-    ghost files: { Self → Option Files };
-
-    /// How often the store has failed: a number up to 2^64 - 1 that never falls.
-    ghost faults: { Self → ℕ };
-
-    /// How often a file that was asked for wasn't there, counted in the same way.
-    ghost misses: { Self → ℕ };
-
-    /// How often a file that was asked for was too long, counted in the same way.
-    ghost longs: { Self → ℕ };
+    /// The name and the bytes of each file, where the store tells them; no two names are equal. How often the store
+    /// has failed, how often a file that was asked for wasn't there, and how often one was too long: numbers up to
+    /// 2^64 - 1 that never fall.
+    ghost seen: { Self → StoreSeen };
 
     /// Puts the bytes of the file of that name, at most `MOST_FILE`, into `out`, which is empty. After
     /// every fault it is empty again. No file changes.
     fn load(&mut self, name: &[u8], out: &mut Vec<u8>) -> Result<(), LoadFault>
         requires { out.old.items ≡ [] }
-        ensures loaded { OnOk result (IfSome (files self.old) (λ all. file_of all name.now ≡ Some out.new.items)) }
+        ensures loaded { OnOk result (IfSome (seen self.old).files (λ all. file_of all name.now ≡ Some out.new.items)) }
         ensures within_limit { OnOk result (length out.new.items ≤ MOST_FILE) }
         ensures fault_empties { OnErr result (out.new.items ≡ []) }
 
         // Each fault but want of memory has a count that rose, and two say what is kept.
-        ensures missing_rose { IsErrOf result LoadFault.Missing → Rose (misses self.old) (misses self.new) }
-        ensures missing_absent { IsErrOf result LoadFault.Missing → IfSome (files self.old) (IsAbsent name.now) }
-        ensures failed_rose { IsErrOf result LoadFault.Failed → Rose (faults self.old) (faults self.new) }
-        ensures too_long_rose { IsErrOf result LoadFault.TooLong → Rose (longs self.old) (longs self.new) }
-        ensures too_long_there { IsErrOf result LoadFault.TooLong → IfSome (files self.old) (IsTooLong name.now) }
+        ensures missing_rose { IsErrOf result LoadFault.Missing → Rose (seen self.old).misses (seen self.new).misses }
+        ensures missing_absent { IsErrOf result LoadFault.Missing → IfSome (seen self.old).files (IsAbsent name.now) }
+        ensures failed_rose { IsErrOf result LoadFault.Failed → Rose (seen self.old).faults (seen self.new).faults }
+        ensures too_long_rose { IsErrOf result LoadFault.TooLong → Rose (seen self.old).longs (seen self.new).longs }
+        ensures too_long_there { IsErrOf result LoadFault.TooLong → IfSome (seen self.old).files (IsTooLong name.now) }
 
         // What stays.
-        ensures files_kept { files self.new ≡ files self.old }
-        ensures names_differ { IfSome (files self.new) NamesDiffer }
-        ensures faults_never_fall { NeverFalls (faults self.old) (faults self.new) }
-        ensures misses_never_fall { NeverFalls (misses self.old) (misses self.new) }
-        ensures longs_never_fall { NeverFalls (longs self.old) (longs self.new) };
+        ensures files_kept { (seen self.new).files ≡ (seen self.old).files }
+        ensures names_differ { IfSome (seen self.new).files NamesDiffer }
+        ensures goes_on { StoreGoesOn (seen self.old) (seen self.new) };
 
     /// Keeps the bytes under the name, in place of those that were there. After `Failed` the other files
     /// are as before, and what is kept under this name is open. After `Memory` all files are as before.
     fn save(&mut self, name: &[u8], bytes: &[u8]) -> Result<(), SaveFault>
-        ensures saved { OnOk result (WhereKnown (WithFile name.now bytes.now) (files self.old) (files self.new)) }
-        ensures failed_rose { IsErrOf result SaveFault.Failed → Rose (faults self.old) (faults self.new) }
+        ensures saved { OnOk result
+            (WhereKnown (WithFile name.now bytes.now) (seen self.old).files (seen self.new).files) }
+        ensures failed_rose { IsErrOf result SaveFault.Failed → Rose (seen self.old).faults (seen self.new).faults }
         ensures failed_others { IsErrOf result SaveFault.Failed
-            → WhereKnown (OthersKept name.now) (files self.old) (files self.new) }
-        ensures memory_keeps { IsErrOf result SaveFault.Memory → files self.new ≡ files self.old }
+            → WhereKnown (OthersKept name.now) (seen self.old).files (seen self.new).files }
+        ensures memory_keeps { IsErrOf result SaveFault.Memory → (seen self.new).files ≡ (seen self.old).files }
 
         // What stays.
-        ensures stays_known { StaysKnown (files self.old) (files self.new) }
-        ensures names_differ { IfSome (files self.new) NamesDiffer }
-        ensures faults_never_fall { NeverFalls (faults self.old) (faults self.new) }
-        ensures misses_never_fall { NeverFalls (misses self.old) (misses self.new) }
-        ensures longs_never_fall { NeverFalls (longs self.old) (longs self.new) };
+        ensures names_differ { IfSome (seen self.new).files NamesDiffer }
+        ensures goes_on { StoreGoesOn (seen self.old) (seen self.new) };
 }

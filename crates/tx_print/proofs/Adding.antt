@@ -1,35 +1,36 @@
 -- How a printer comes on, piece by piece.
-use Rattle.std.proofs.Common.{◌≡◌, ◌≤◌, ◌<◌, ℕ, ◌+◌, suc, zero-add, Bool, true, false, List, [], ◌∷◌, ◌++◌, length, take, Option, Some, None}
-use Rattle.std.proofs.Common.{Result, Ok, Err, refl, sym, ap, subst, ◌∙◌, append_assoc, arith, length-append, is_err, OnErr}
-use Rattle.std.proofs.lemmas.Grind.{common_steps}
-use Rattle.std.proofs.lemmas.List.{append-nil, take-append-le}
+use Rattle.std.proofs.Common.{◌≡◌, ℕ, true, false, List, [], ◌++◌, Result, Ok, Err, is_err, OnErr}
+use Rattle.std.proofs.Common.{sym, ap, subst, ◌∙◌, append_assoc}
+use Rattle.std.proofs.lemmas.List.{append-nil}
 use Rattle.std.specs.Io.KnownBytes.{append_known}
 use Rattle.tx_outside.specs.declared.faults.WriteFault.{WriteFault}
-use Rattle.tx_outside.specs.Counts.{NeverFalls, Rose}
-use Rattle.tx_outside.specs.Known.{AppendsPart, StaysKnown}
-use Rattle.tx_outside.proofs.Counting.{never_falls_refl, never_falls_then, rose_then, then_rose}
+use Rattle.tx_outside.specs.Counts.{Rose}
+use Rattle.tx_outside.specs.Known.{AppendsPart}
+use Rattle.tx_outside.specs.Outside.{SinkGoesOn, SinkSeen}
+use Rattle.tx_outside.proofs.Counting.{then_rose}
+use Rattle.tx_outside.proofs.GoingOn.{sink_goes_on_refl, sink_goes_on_then}
+use Rattle.tx_outside.proofs.Parts.{cut_before, cut_behind}
 use Rattle.tx_outside.proofs.Pieces.{append_known-nil, append_known-then}
 use Rattle.tx_print.specs.declared.printer.Printer.{Printer}
 use Rattle.tx_print.specs.Writing.{IsPrinted}
 use Rattle.tx_print.specs.Printers.{Holds, Stands, Adds, Ends}
 
 -- two pieces in turn are one piece
-pub adds_then : {a b : List ℕ} {p q r : Printer} {w x y : Option (List ℕ)} {f g h : ℕ} → Adds a p w f q x g
-    → Adds b q x g r y h → Adds (a ++ b) p w f r y h
-adds_then {a} {b} {p} {q} {r} {w} {x} {y} {f} {g} {h} first second =
+pub adds_then : {a b : List ℕ} {p q r : Printer} {x y z : SinkSeen} → Adds a p x q y → Adds b q y r z
+    → Adds (a ++ b) p x r z
+adds_then {a} {b} {p} {q} {r} {x} {y} {z} first second =
     record {
-      goes_on = λ start count before stands.
-          rw (← append_assoc before a b) (second.goes_on start count (before ++ a) (first.goes_on start count before stands));
+      given = λ start front stands.
+          rw (← append_assoc front a b) (second.given start (front ++ a) (first.given start front stands));
     }
 
 -- nothing was given
-pub adds_nothing : {p : Printer} {w : Option (List ℕ)} {f : ℕ} → Adds [] p w f p w f
-adds_nothing {p} {w} {f} = record { goes_on = λ start count before stands. rw (append-nil before) stands }
+pub adds_nothing : {p : Printer} {x : SinkSeen} → Adds [] p x p x
+adds_nothing {p} {x} = record { given = λ start front stands. rw (append-nil front) stands }
 
 -- the same piece in other words
-pub adds_also : {a b : List ℕ} {p q : Printer} {w x : Option (List ℕ)} {f g : ℕ} → a ≡ b → Adds a p w f q x g
-    → Adds b p w f q x g
-adds_also {a} {b} {p} {q} {w} {x} {f} {g} e adds = subst (λ (c : List ℕ). Adds c p w f q x g) e adds
+pub adds_also : {a b : List ℕ} {p q : Printer} {x y : SinkSeen} → a ≡ b → Adds a p x q y → Adds b p x q y
+adds_also {a} {b} {p} {q} {x} {y} e adds = subst (λ (c : List ℕ). Adds c p x q y) e adds
 
 -- what a failed call left
 pub if_err : {A E P : Type 0} (r : Result A E) → is_err r ≡ true → OnErr r P → P
@@ -37,93 +38,71 @@ if_err (Ok x) failed left = cc
 if_err (Err e) failed left = left
 
 -- a new printer
-pub stands_new : (p : Printer) (w : Option (List ℕ)) (f : ℕ) → p.waiting.items ≡ [] → p.failed ≡ false
-    → Stands w f [] p w f
-stands_new p w f none fine =
+pub stands_new : (p : Printer) (x : SinkSeen) → p.waiting.items ≡ [] → p.failed ≡ false → Stands x [] p x
+stands_new p x none fine =
     record {
-      holds = rw fine ([], sym (append_known-nil w), sym none);
+      holds = rw fine ([], sym (append_known-nil x.written), sym none);
       rose = λ failed. absurd (apart (sym fine ∙ failed));
-      never_fall = never_falls_refl f;
-      stays_known = refl;
+      goes_on = sink_goes_on_refl x;
     }
   where
     apart : false ≡ true → ⊥
     apart e = cc
 
--- a part of a text is a part of a longer one
-pub part_longer : (text more : List ℕ) (start w : Option (List ℕ)) → AppendsPart text start w
-    → AppendsPart (text ++ more) start w
-part_longer text more start w (n, short, are) =
-    (n, rw length-append (omega arith), rw (take-append-le n text more (omega arith)) are)
-
-take_behind : (sent waiting : List ℕ) (n : ℕ) → take (length sent + n) (sent ++ waiting) ≡ sent ++ take n waiting
-take_behind [] waiting n = ap (λ k. take k waiting) (zero-add n)
-take_behind (b ∷ sent) waiting n =
-    let e : suc (length sent) + n ≡ suc (length sent + n) = omega arith in
-    ap (λ k. take k (b ∷ (sent ++ waiting))) e ∙ ap (λ t. b ∷ t) (take_behind sent waiting n)
-
--- a part of what waits was written
-pub part_behind : (text waiting sent : List ℕ) (start w x : Option (List ℕ)) → w ≡ append_known start sent
-    → text ≡ sent ++ waiting → AppendsPart waiting w x → AppendsPart text start x
-part_behind text waiting sent start w x once is (n, short, again) = (
-  length sent + n,
-  rw (is, length-append) (omega arith),
-  append_known-then start w x sent (take n waiting) once again
-      ∙ ap (append_known start) (sym (ap (take (length sent + n)) is ∙ take_behind sent waiting n)),
-)
-
 -- once the sink has failed, nothing is written
-pub adds_failed : {p q : Printer} (piece : List ℕ) (w : Option (List ℕ)) (f : ℕ) → p.failed ≡ true → q.failed ≡ true
-    → Adds piece p w f q w f
-adds_failed {p} {q} piece w f before after =
+pub adds_failed : {p q : Printer} (piece : List ℕ) (x : SinkSeen) → p.failed ≡ true → q.failed ≡ true
+    → Adds piece p x q x
+adds_failed {p} {q} piece x before after =
     record {
-      goes_on = λ start count text stands. let held : Holds true text p.waiting.items start w = rw before at stands.holds in
+      given = λ start front stands. let held : Holds true front p.waiting.items start.written x.written =
+          rw before at stands.holds in
           record {
-            holds = rw after (part_longer text piece start w held);
+            holds = rw after (cut_before front piece start.written x.written held);
             rose = λ failed. stands.rose before;
-            never_fall = stands.never_fall;
-            stays_known = stands.stays_known;
+            goes_on = stands.goes_on;
           };
     }
 
 -- a piece waits behind the others
-pub adds_waiting : {p q : Printer} (piece : List ℕ) (w : Option (List ℕ)) (f : ℕ) → p.failed ≡ false → q.failed ≡ false
-    → q.waiting.items ≡ p.waiting.items ++ piece → Adds piece p w f q w f
-adds_waiting {p} {q} piece w f before after waits =
+pub adds_waiting : {p q : Printer} (piece : List ℕ) (x : SinkSeen) → p.failed ≡ false → q.failed ≡ false
+    → q.waiting.items ≡ p.waiting.items ++ piece → Adds piece p x q x
+adds_waiting {p} {q} piece x before after waits =
     record {
-      goes_on = λ start count text stands. let held : Holds false text p.waiting.items start w = rw before at stands.holds in
+      given = λ start front stands. let held : Holds false front p.waiting.items start.written x.written =
+          rw before at stands.holds in
           record {
-            holds = rw after (held.0, held.1, ap (λ t. t ++ piece) held.2 ∙ append_assoc held.0 p.waiting.items piece ∙ ap (λ t. held.0 ++ t) (sym waits));
+            holds = rw after (
+              held.0,
+              held.1,
+              ap (λ t. t ++ piece) held.2 ∙ append_assoc held.0 p.waiting.items piece
+                  ∙ ap (λ t. held.0 ++ t) (sym waits),
+            );
             rose = λ failed. absurd (apart (sym after ∙ failed));
-            never_fall = stands.never_fall;
-            stays_known = stands.stays_known;
+            goes_on = stands.goes_on;
           };
     }
   where
     apart : false ≡ true → ⊥
     apart e = cc
 
-stays_then : (a b c : Option (List ℕ)) → StaysKnown a b → StaysKnown b c → StaysKnown a c
-stays_then a b c first second = second ∙ first
-
 -- what waited is written, and then a piece
-pub adds_written : {p q : Printer} (piece : List ℕ) (w x : Option (List ℕ)) (f g : ℕ) → p.failed ≡ false
-    → q.failed ≡ false → q.waiting.items ≡ [] → x ≡ append_known w (p.waiting.items ++ piece) → NeverFalls f g
-    → StaysKnown w x → Adds piece p w f q x g
-adds_written {p} {q} piece w x f g before after none again falls known =
+pub adds_written : {p q : Printer} (piece : List ℕ) (x y : SinkSeen) → p.failed ≡ false → q.failed ≡ false
+    → q.waiting.items ≡ [] → y.written ≡ append_known x.written (p.waiting.items ++ piece) → SinkGoesOn x y
+    → Adds piece p x q y
+adds_written {p} {q} piece x y before after none again on =
     record {
-      goes_on = λ start count text stands. let held : Holds false text p.waiting.items start w = rw before at stands.holds in
+      given = λ start front stands. let held : Holds false front p.waiting.items start.written x.written =
+          rw before at stands.holds in
+          let sent = held.0 ++ (p.waiting.items ++ piece) in
           record {
             holds = rw after (
-              held.0 ++ (p.waiting.items ++ piece),
-              append_known-then start w x held.0 (p.waiting.items ++ piece) held.1 again,
-              ap (λ t. t ++ piece) held.2 ∙ append_assoc held.0 p.waiting.items piece
-                  ∙ sym (append-nil (held.0 ++ (p.waiting.items ++ piece)))
-                  ∙ ap (λ t. held.0 ++ (p.waiting.items ++ piece) ++ t) (sym none),
+              sent,
+              append_known-then start.written x.written y.written held.0 (p.waiting.items ++ piece) held.1 again,
+              ap (λ t. t ++ piece) held.2 ∙ append_assoc held.0 p.waiting.items piece ∙ sym (append-nil sent)
+                  ∙ ap (λ t. sent ++ t) (sym none),
             );
             rose = λ failed. absurd (apart (sym after ∙ failed));
-            never_fall = never_falls_then count f g stands.never_fall falls;
-            stays_known = stays_then start w x stands.stays_known known;
+            goes_on = sink_goes_on_then start x y stands.goes_on on;
           };
     }
   where
@@ -131,55 +110,49 @@ adds_written {p} {q} piece w x f g before after none again falls known =
     apart e = cc
 
 -- a part of what waited and of a piece is written
-pub adds_broken : {p q : Printer} (piece : List ℕ) (w x : Option (List ℕ)) (f g : ℕ) → p.failed ≡ false
-    → q.failed ≡ true → AppendsPart (p.waiting.items ++ piece) w x → Rose f g → NeverFalls f g → StaysKnown w x
-    → Adds piece p w f q x g
-adds_broken {p} {q} piece w x f g before after part rise falls known =
+pub adds_broken : {p q : Printer} (piece : List ℕ) (x y : SinkSeen) → p.failed ≡ false → q.failed ≡ true
+    → AppendsPart (p.waiting.items ++ piece) x.written y.written → Rose x.faults y.faults → SinkGoesOn x y
+    → Adds piece p x q y
+adds_broken {p} {q} piece x y before after part rise on =
     record {
-      goes_on = λ start count text stands. let held : Holds false text p.waiting.items start w = rw before at stands.holds in
+      given = λ start front stands. let held : Holds false front p.waiting.items start.written x.written =
+          rw before at stands.holds in
+          let whole = ap (λ t. t ++ piece) held.2 ∙ append_assoc held.0 p.waiting.items piece in
+          let cut = cut_behind held.0 (p.waiting.items ++ piece) start.written x.written y.written held.1 part in
           record {
-            holds = rw after (part_behind (text ++ piece) (p.waiting.items ++ piece) held.0 start w x held.1
-                (ap (λ t. t ++ piece) held.2 ∙ append_assoc held.0 p.waiting.items piece) part);
-            rose = λ failed. then_rose count f g stands.never_fall rise;
-            never_fall = never_falls_then count f g stands.never_fall falls;
-            stays_known = stays_then start w x stands.stays_known known;
+            holds = rw after (subst (λ (t : List ℕ). AppendsPart t start.written y.written) (sym whole) cut);
+            rose = λ failed. then_rose start.faults x.faults y.faults stands.goes_on.faults rise;
+            goes_on = sink_goes_on_then start x y stands.goes_on on;
           };
     }
 
 -- all is written
-pub ends_well : {p q : Printer} (w x : Option (List ℕ)) (f g : ℕ) → Adds [] p w f q x g → q.failed ≡ false
-    → q.waiting.items ≡ [] → Ends (Ok tt) p w f x g
-ends_well {p} {q} w x f g adds fine none =
+pub ends_well : {p q : Printer} (x y : SinkSeen) → Adds [] p x q y → q.failed ≡ false → q.waiting.items ≡ []
+    → Ends (Ok tt) p x y
+ends_well {p} {q} x y adds fine none =
     record {
-      all = λ start count text stands. let s : Stands start count (text ++ []) q x g = adds.goes_on start count text stands in
-          let held : Holds false (text ++ []) q.waiting.items start x = rw fine at s.holds in
+      all = λ start text stands. let s : Stands start (text ++ []) q y = adds.given start text stands in
+          let held : Holds false (text ++ []) q.waiting.items start.written y.written = rw fine at s.holds in
           record {
-            is_written = held.1 ∙ ap (append_known start)
+            is_written = held.1 ∙ ap (append_known start.written)
                 (sym (append-nil held.0) ∙ ap (λ t. held.0 ++ t) (sym none) ∙ sym held.2 ∙ append-nil text);
             counted = tt;
-            never_fall = s.never_fall;
-            stays_known = s.stays_known;
+            goes_on = s.goes_on;
           };
     }
 
 -- the sink has failed
-pub ends_badly : {p q : Printer} (fault : WriteFault) (w x : Option (List ℕ)) (f g : ℕ) → Adds [] p w f q x g
-    → q.failed ≡ true → Ends (Err fault) p w f x g
-ends_badly {p} {q} fault w x f g adds failed =
+pub ends_badly : {p q : Printer} (fault : WriteFault) (x y : SinkSeen) → Adds [] p x q y → q.failed ≡ true
+    → Ends (Err fault) p x y
+ends_badly {p} {q} fault x y adds failed =
     record {
-      all = λ start count text stands. let s : Stands start count (text ++ []) q x g = adds.goes_on start count text stands in
-          let held : Holds true (text ++ []) q.waiting.items start x = rw failed at s.holds in
-          record {
-            is_written = rw (append-nil text) at held;
-            counted = s.rose failed;
-            never_fall = s.never_fall;
-            stays_known = s.stays_known;
-          };
+      all = λ start text stands. let s : Stands start (text ++ []) q y = adds.given start text stands in
+          let held : Holds true (text ++ []) q.waiting.items start.written y.written = rw failed at s.holds in
+          record { is_written = rw (append-nil text) at held; counted = s.rose failed; goes_on = s.goes_on };
     }
 
 -- a text that a new printer was given is printed
-pub printed : {text : List ℕ} {p q : Printer} {w x y : Option (List ℕ)} {f g h : ℕ} {result : Result (Unit {0}) WriteFault}
-    → p.waiting.items ≡ [] → p.failed ≡ false → Adds text p w f q x g → Ends result q x g y h
-    → IsPrinted result text w y f h
-printed {text} {p} {q} {w} {x} {y} {f} {g} {h} {result} none fine adds ends =
-    ends.all w f text (adds.goes_on w f [] (stands_new p w f none fine))
+pub printed : {text : List ℕ} {p q : Printer} {x y z : SinkSeen} {result : Result (Unit {0}) WriteFault}
+    → p.waiting.items ≡ [] → p.failed ≡ false → Adds text p x q y → Ends result q y z → IsPrinted result text x z
+printed {text} {p} {q} {x} {y} {z} {result} none fine adds ends =
+    ends.all x text (adds.given x [] (stands_new p x none fine))

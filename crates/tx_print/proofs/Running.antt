@@ -1,9 +1,9 @@
 -- Runs of cells, as they come from the left.
-use Rattle.std.proofs.Common.{◌≡◌, ℕ, ◌+◌, ◌-◌, ◌<◌, ◌≤◌, zero, suc, Bool, true, false, List, [], ◌∷◌, ◌++◌, length, take, drop, get_or, refl, sym, ap, subst, ◌∙◌, append_assoc, arith, add-zero, zero-add}
+use Rattle.std.proofs.Common.{◌≡◌, ℕ, ◌+◌, ◌-◌, ◌<◌, ◌≤◌, zero, suc, Bool, true, false, List, [], ◌∷◌, ◌++◌, length}
+use Rattle.std.proofs.Common.{drop, get_or, refl, sym, ap, subst, ◌∙◌, append_assoc, arith, add-zero, zero-add}
 use Rattle.std.specs.Prelude.{Option, Some, None, ◌==◌, ◌&&◌, if◌then◌else◌, replicate}
 use Rattle.std.specs.List.{flat_map}
 use Rattle.std.proofs.lemmas.Bool.Decides.{Decides-eqb}
-use Rattle.std.proofs.lemmas.Grind.{common_steps}
 use Rattle.std.proofs.lemmas.List.{append-nil, drop_more, replicate-append-replicate}
 use Rattle.std.proofs.lemmas.List.Concat.{flat_map-append}
 use Rattle.std.proofs.lemmas.Slice.Eq.{bytes_eq-Decides}
@@ -11,8 +11,10 @@ use Rattle.std.specs.Str.{bytes_eq}
 use Rattle.tx_items.specs.declared.drawing.Item.{Item}
 use Rattle.tx_layout.specs.Words.{item_cells}
 use Rattle.tx_view_form.specs.Cells.{drawn_in}
-use Rattle.tx_print.specs.Runs.{CellLook, Run, item_looks, look_in, same_look, run_before, runs_before, runs_from, run_text}
+use Rattle.tx_print.specs.Runs.{CellLook, Run, item_looks, look_in, same_look, run_before, runs_from}
+use Rattle.tx_print.specs.Runs.{run_text}
 use Rattle.tx_print.specs.Begun.{OpenRun, is_like, opened, goes_on, ended, runs_behind}
+use Rattle.tx_outside.specs.Outside.{SinkSeen}
 use Rattle.tx_print.specs.declared.printer.Printer.{Printer}
 use Rattle.tx_print.specs.Printers.{Adds}
 use Rattle.tx_print.proofs.Adding.{adds_then, adds_also, adds_nothing}
@@ -131,7 +133,8 @@ longest (suc n) at look cells h =
     ∙ ap (λ k. run_with at k look ∷ runs_from k cells) e
 
 -- cells without attributes
-pub blanks : (n at : ℕ) (cells : List (Option CellLook)) → runs_from at (replicate n None ++ cells) ≡ runs_from (at + n) cells
+pub blanks : (n at : ℕ) (cells : List (Option CellLook))
+    → runs_from at (replicate n None ++ cells) ≡ runs_from (at + n) cells
 blanks zero at cells = ap (λ k. runs_from k cells) (sym (add-zero at))
 blanks (suc n) at cells =
     let e : at + 1 + n ≡ at + suc n = omega arith in
@@ -186,8 +189,10 @@ cells_on (Some run) look at n rest is_open lt =
     by_test true before same other =
         let d : at - run.from + n ≡ at + n - run.from = omega arith in
         ap (λ o. runs_from run.from (replicate (at - run.from) (Some run.look) ++ (replicate n o ++ rest))) (same refl)
-        ∙ ap (runs_from run.from) (sym (append_assoc (replicate (at - run.from) (Some run.look)) (replicate n (Some run.look)) rest)
-        ∙ ap (λ xs. xs ++ rest) (replicate-append-replicate (at - run.from) n (Some run.look) ∙ ap (λ k. replicate k (Some run.look)) d))
+        ∙ ap (runs_from run.from) (sym (append_assoc (replicate (at - run.from) (Some run.look))
+        (replicate n (Some run.look)) rest)
+        ∙ ap (λ xs. xs ++ rest) (replicate-append-replicate (at - run.from) n (Some run.look)
+        ∙ ap (λ k. replicate k (Some run.look)) d))
     by_test false before same other =
         begun_ends run at (replicate n look ++ rest) before (other refl)
         ∙ ap (λ rs. run_with run.from at run.look ∷ rs) (opens look at n rest)
@@ -216,16 +221,16 @@ still_open (Some run) look at n is_open lt = by_test (is_like look run.look) is_
     by_test false before some = opened_there look some
 
 -- some runs are printed, one may have begun, and with those of the cells that are left these are all
-pub record Told (p : Printer) (w : Option (List ℕ)) (f : ℕ) (q : Printer) (x : Option (List ℕ)) (g : ℕ)
-    (begun : Option OpenRun) (at : ℕ) (cells : List (Option CellLook)) (whole : List Run) : Type 0 where
+pub record Told (p : Printer) (w : SinkSeen) (q : Printer) (x : SinkSeen) (begun : Option OpenRun) (at : ℕ)
+    (cells : List (Option CellLook)) (whole : List Run) : Type 0 where
   pub done : List Run
-  pub adds : Adds (flat_map run_text done) p w f q x g
+  pub adds : Adds (flat_map run_text done) p w q x
   pub are : done ++ runs_behind begun at cells ≡ whole
 
-pub told_on : {p q r : Printer} {w x y : Option (List ℕ)} {f g h : ℕ} (begun : Option OpenRun) (look : Option CellLook)
+pub told_on : {p q r : Printer} {w x y : SinkSeen} (begun : Option OpenRun) (look : Option CellLook)
     (at n : ℕ) (rest : List (Option CellLook)) (whole : List Run) → IsOpen begun at → 0 < n
-    → Told p w f q x g begun at (replicate n look ++ rest) whole → Adds (flat_map run_text (ended begun look at)) q x g r y h
-    → Told p w f r y h (goes_on begun look at) (at + n) rest whole
+    → Told p w q x begun at (replicate n look ++ rest) whole → Adds (flat_map run_text (ended begun look at)) q x r y
+    → Told p w r y (goes_on begun look at) (at + n) rest whole
 told_on begun look at n rest whole is_open lt told adds =
     record {
       done = told.done ++ ended begun look at;
@@ -234,9 +239,9 @@ told_on begun look at n rest whole is_open lt told adds =
           ∙ ap (λ rs. told.done ++ rs) (sym (cells_on begun look at n rest is_open lt)) ∙ told.are;
     }
 
-pub told_all : {p q r : Printer} {w x y : Option (List ℕ)} {f g h : ℕ} (begun : Option OpenRun) (at : ℕ) (whole : List Run)
-    → IsOpen begun at → Told p w f q x g begun at [] whole → Adds (flat_map run_text (closed begun at)) q x g r y h
-    → Adds (flat_map run_text whole) p w f r y h
+pub told_all : {p q r : Printer} {w x y : SinkSeen} (begun : Option OpenRun) (at : ℕ) (whole : List Run)
+    → IsOpen begun at → Told p w q x begun at [] whole → Adds (flat_map run_text (closed begun at)) q x r y
+    → Adds (flat_map run_text whole) p w r y
 told_all begun at whole is_open told adds =
     adds_also (sym (flat_map-append run_text told.done (closed begun at))
     ∙ ap (flat_map run_text) (ap (λ rs. told.done ++ rs) (sym (closes begun at is_open)) ∙ told.are))
@@ -244,9 +249,9 @@ told_all begun at whole is_open told adds =
 
 -- ---- as the program goes over items
 
-pub told_start : {p : Printer} {w : Option (List ℕ)} {f : ℕ} (at indent : ℕ) (items others : List Item) → at ≡ indent
+pub told_start : {p : Printer} {w : SinkSeen} (at indent : ℕ) (items others : List Item) → at ≡ indent
     → others ≡ items
-    → Told p w f p w f None at (flat_map item_looks others)
+    → Told p w p w None at (flat_map item_looks others)
     (runs_from 0 (replicate indent None ++ flat_map item_looks items))
 told_start at indent items others e same =
     record {
@@ -258,11 +263,15 @@ told_start at indent items others e same =
           ∙ ap (λ k. runs_from k (flat_map item_looks items)) (zero-add indent));
     }
 
-pub told_same : {p q : Printer} {w x : Option (List ℕ)} {f g : ℕ} (begun : Option OpenRun) (at : ℕ)
-    (cells others : List (Option CellLook)) (whole : List Run) → cells ≡ others → Told p w f q x g begun at cells whole
-    → Told p w f q x g begun at others whole
+pub told_same : {p q : Printer} {w x : SinkSeen} (begun : Option OpenRun) (at : ℕ)
+    (cells others : List (Option CellLook)) (whole : List Run) → cells ≡ others → Told p w q x begun at cells whole
+    → Told p w q x begun at others whole
 told_same begun at cells others whole e told =
-    record { done = told.done; adds = told.adds; are = ap (λ xs. told.done ++ runs_behind begun at xs) (sym e) ∙ told.are }
+    record {
+      done = told.done;
+      adds = told.adds;
+      are = ap (λ xs. told.done ++ runs_behind begun at xs) (sym e) ∙ told.are;
+    }
 
 pub items_less : (items : List Item) (i : ℕ) (x : Item) → i < length items → x ≡ get_or items i x
     → flat_map item_looks (drop i items) ≡ item_looks x ++ flat_map item_looks (drop (i + 1) items)
@@ -277,13 +286,13 @@ item_less items i x n lt is e =
     items_less items i x lt is
     ∙ ap (λ k. replicate k (look_in (drawn_in x)) ++ flat_map item_looks (drop (i + 1) items)) (sym e)
 
-pub told_item : {p q r : Printer} {w x y : Option (List ℕ)} {f g h : ℕ} (begun after : Option OpenRun)
+pub told_item : {p q r : Printer} {w x y : SinkSeen} (begun after : Option OpenRun)
     (own look : Option CellLook) (at n : ℕ) (rest : List (Option CellLook)) (whole : List Run) → own ≡ look
     → after ≡ goes_on begun own at → IsOpen begun at → 0 < n
-    → Told p w f q x g begun at (replicate n look ++ rest) whole
-    → Adds (flat_map run_text (ended begun own at)) q x g r y h → Told p w f r y h after (at + n) rest whole
-told_item {p} {q} {r} {w} {x} {y} {f} {g} {h} begun after own look at n rest whole e is is_open lt told adds =
-    subst (λ (b : Option OpenRun). Told p w f r y h b (at + n) rest whole) (sym is)
+    → Told p w q x begun at (replicate n look ++ rest) whole
+    → Adds (flat_map run_text (ended begun own at)) q x r y → Told p w r y after (at + n) rest whole
+told_item {p} {q} {r} {w} {x} {y} begun after own look at n rest whole e is is_open lt told adds =
+    subst (λ (b : Option OpenRun). Told p w r y b (at + n) rest whole) (sym is)
     (told_on begun own at n rest whole is_open lt
     (told_same begun at (replicate n look ++ rest) (replicate n own ++ rest) whole
     (ap (λ o. replicate n o ++ rest) (sym e)) told)
@@ -294,18 +303,18 @@ pub open_item : (begun after : Option OpenRun) (own : Option CellLook) (at n : �
 open_item begun after own at n is is_open lt =
     subst (λ (b : Option OpenRun). IsOpen b (at + n)) (sym is) (still_open begun own at n is_open lt)
 
-pub told_closed : {p q r : Printer} {w x y : Option (List ℕ)} {f g h : ℕ} (begun : Option OpenRun) (run : OpenRun) (at : ℕ)
+pub told_closed : {p q r : Printer} {w x y : SinkSeen} (begun : Option OpenRun) (run : OpenRun) (at : ℕ)
     (cells : List (Option CellLook)) (whole : List Run) → begun ≡ Some run → cells ≡ [] → IsOpen begun at
-    → Told p w f q x g begun at cells whole → Adds (run_text (run_with run.from at run.look)) q x g r y h
-    → Adds (flat_map run_text whole) p w f r y h
-told_closed {p} {q} {r} {w} {x} {y} {f} {g} {h} begun run at cells whole is none is_open told adds =
+    → Told p w q x begun at cells whole → Adds (run_text (run_with run.from at run.look)) q x r y
+    → Adds (flat_map run_text whole) p w r y
+told_closed {p} {q} {r} {w} {x} {y} begun run at cells whole is none is_open told adds =
     told_all begun at whole is_open (told_same begun at cells [] whole none told)
-    (subst (λ (b : Option OpenRun). Adds (flat_map run_text (closed b at)) q x g r y h) (sym is)
+    (subst (λ (b : Option OpenRun). Adds (flat_map run_text (closed b at)) q x r y) (sym is)
     (adds_also (sym (append-nil (run_text (run_with run.from at run.look)))) adds))
 
-pub told_finished : {p q : Printer} {w x : Option (List ℕ)} {f g : ℕ} (begun : Option OpenRun) (at : ℕ)
+pub told_finished : {p q : Printer} {w x : SinkSeen} (begun : Option OpenRun) (at : ℕ)
     (cells : List (Option CellLook)) (whole : List Run) → begun ≡ None → cells ≡ [] → IsOpen begun at
-    → Told p w f q x g begun at cells whole → Adds (flat_map run_text whole) p w f q x g
-told_finished {p} {q} {w} {x} {f} {g} begun at cells whole is none is_open told =
+    → Told p w q x begun at cells whole → Adds (flat_map run_text whole) p w q x
+told_finished {p} {q} {w} {x} begun at cells whole is none is_open told =
     told_all begun at whole is_open (told_same begun at cells [] whole none told)
-    (subst (λ (b : Option OpenRun). Adds (flat_map run_text (closed b at)) q x g q x g) (sym is) adds_nothing)
+    (subst (λ (b : Option OpenRun). Adds (flat_map run_text (closed b at)) q x q x) (sym is) adds_nothing)

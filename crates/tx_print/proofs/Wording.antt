@@ -1,6 +1,7 @@
 -- Texts, as they are put together.
-use Rattle.std.proofs.Common.{◌≡◌, ◌≢◌, ℕ, ◌+◌, ◌<◌, Bool, true, false, ◌==◌, List, [], ◌∷◌, ◌++◌, length, take, drop, get_or, refl, sym, ap, ◌∙◌, append_assoc, arith}
-use Rattle.std.specs.Prelude.{Option, Some, None, codes, decimal}
+use Rattle.std.proofs.Common.{◌≡◌, ◌≢◌, ℕ, ◌+◌, ◌<◌, Bool, true, false, ◌==◌, List, [], ◌∷◌, ◌++◌, length, take, drop}
+use Rattle.std.proofs.Common.{get_or, refl, sym, ap, ◌∙◌, append_assoc, arith}
+use Rattle.std.specs.Prelude.{Some, None, codes, decimal}
 use Rattle.std.specs.List.{flat_map}
 use Rattle.std.proofs.lemmas.List.{append-nil, drop_all, drop_more, flat_map_more, take_at, take_more}
 use Rattle.std.proofs.lemmas.Bool.{eqb-true, eqb-false}
@@ -15,23 +16,23 @@ use Rattle.tx_lines.specs.declared.cut.Cut.{Cut}
 use Rattle.tx_view_form.specs.Positions.{whole_path}
 use Rattle.tx_print.specs.Lines.{line, shown}
 use Rattle.tx_print.specs.Pages.{page_text, pages_text}
+use Rattle.tx_outside.specs.Outside.{SinkSeen}
 use Rattle.tx_print.specs.declared.printer.Printer.{Printer}
 use Rattle.tx_print.specs.Printers.{Adds}
 use Rattle.tx_print.proofs.Adding.{adds_then, adds_also, adds_nothing}
 
 -- ---- what is left of a text
 
-pub record Leaves (rest whole : List ℕ) (p : Printer) (w : Option (List ℕ)) (f : ℕ) (q : Printer) (x : Option (List ℕ))
-    (g : ℕ) : Type 0 where
+pub record Leaves (rest whole : List ℕ) (p : Printer) (w : SinkSeen) (q : Printer) (x : SinkSeen) : Type 0 where
   pub said : List ℕ
-  pub adds : Adds said p w f q x g
+  pub adds : Adds said p w q x
   pub are : said ++ rest ≡ whole
 
-pub leaves_all : {p : Printer} {w : Option (List ℕ)} {f : ℕ} (whole : List ℕ) → Leaves whole whole p w f p w f
+pub leaves_all : {p : Printer} {w : SinkSeen} (whole : List ℕ) → Leaves whole whole p w p w
 leaves_all whole = record { said = []; adds = adds_nothing; are = refl }
 
-pub leaves_less : {p q r : Printer} {w x y : Option (List ℕ)} {f g h : ℕ} (rest a b whole : List ℕ) → rest ≡ a ++ b
-    → Leaves rest whole p w f q x g → Adds a q x g r y h → Leaves b whole p w f r y h
+pub leaves_less : {p q r : Printer} {w x y : SinkSeen} (rest a b whole : List ℕ) → rest ≡ a ++ b
+    → Leaves rest whole p w q x → Adds a q x r y → Leaves b whole p w r y
 leaves_less rest a b whole e leaves adds =
     record {
       said = leaves.said ++ a;
@@ -39,8 +40,8 @@ leaves_less rest a b whole e leaves adds =
       are = append_assoc leaves.said a b ∙ ap (λ t. leaves.said ++ t) (sym e) ∙ leaves.are;
     }
 
-pub leaves_none : {p q : Printer} {w x : Option (List ℕ)} {f g : ℕ} (rest whole : List ℕ) → rest ≡ []
-    → Leaves rest whole p w f q x g → Adds whole p w f q x g
+pub leaves_none : {p q : Printer} {w x : SinkSeen} (rest whole : List ℕ) → rest ≡ []
+    → Leaves rest whole p w q x → Adds whole p w q x
 leaves_none rest whole e leaves =
     adds_also (sym (append-nil leaves.said) ∙ ap (λ t. leaves.said ++ t) (sym e) ∙ leaves.are) leaves.adds
 

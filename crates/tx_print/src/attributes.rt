@@ -56,7 +56,7 @@ fn is_like(look: Option<&Look>, run: &Begun<'_>) -> bool
 // Prints the line of a run.
 fn push_run<O: Sink>(printer: &mut Printer, run: &Begun<'_>, to: u128, out: &mut O)
     ensures { Adds (run_text (record { from = run.now.from; to = to; look = cell_look run.now.look.now }))
-        printer.old (O.written out.old) (O.faults out.old) printer.new (O.written out.new) (O.faults out.new) }
+        printer.old (O.seen out.old) printer.new (O.seen out.new) }
 {
     push_number(printer, run.from, out);
     printer.push(b" ", out);
@@ -90,7 +90,7 @@ fn go_on<'a, O: Sink>(
 ) -> Option<Begun<'a>>
     ensures run { run_in result ≡ goes_on (run_in begun.entry) (looks_in (option_copied look.entry)) at }
     ensures adds { Adds (flat_map run_text (ended (run_in begun.entry) (looks_in (option_copied look.entry)) at))
-        printer.old (O.written out.old) (O.faults out.old) printer.new (O.written out.new) (O.faults out.new) }
+        printer.old (O.seen out.old) printer.new (O.seen out.new) }
 {
     match begun {
         Some(run) => {
@@ -107,7 +107,7 @@ fn go_on<'a, O: Sink>(
 // Prints the runs of a line.
 fn push_runs<O: Sink>(printer: &mut Printer, line: &Line, out: &mut O)
     ensures { Adds (flat_map run_text (runs_from 0 (looks_on line.now)))
-        printer.old (O.written out.old) (O.faults out.old) printer.new (O.written out.new) (O.faults out.new) }
+        printer.old (O.seen out.old) printer.new (O.seen out.new) }
 {
     let mut at = u128::from(line.indent);
     let mut begun = None;
@@ -126,8 +126,8 @@ fn push_runs<O: Sink>(printer: &mut Printer, line: &Line, out: &mut O)
 
 // Prints the runs of a row, or that there is no such row.
 fn push_attributes<O: Sink>(printer: &mut Printer, view: &View, r: u32, out: &mut O)
-    ensures { Adds (attrs_reply view.now.shown view.now.width r) printer.old (O.written out.old) (O.faults out.old)
-        printer.new (O.written out.new) (O.faults out.new) }
+    ensures { Adds (attrs_reply view.now.shown view.now.width r) printer.old (O.seen out.old)
+        printer.new (O.seen out.new) }
 {
     match view.line(r) {
         Some(line) => push_runs(printer, line, out),
@@ -139,8 +139,7 @@ fn push_attributes<O: Sink>(printer: &mut Printer, view: &View, r: u32, out: &mu
 /// column, the column behind its last, `font-series`, `font-shape` and `color`, in display text. The cells of the indent
 /// and of gaps have no attributes. Past the last row it prints `no cell ROWS WIDTH`.
 pub fn print_attrs<O: Sink>(view: &View, r: u32, out: &mut O) -> Result<(), WriteFault>
-    ensures { IsPrinted result (attrs_reply view.now.shown view.now.width r)
-        (O.written out.old) (O.written out.new) (O.faults out.old) (O.faults out.new) }
+    ensures { IsPrinted result (attrs_reply view.now.shown view.now.width r) (O.seen out.old) (O.seen out.new) }
 {
     let mut printer = Printer::new();
     push_attributes(&mut printer, view, r, out);

@@ -14,8 +14,7 @@ use tx_view::View;
 
 // Prints the path of a unit, or a dash.
 fn push_unit<O: Sink>(printer: &mut Printer, path: Option<&Path>, out: &mut O)
-    ensures { Adds (unit_text (option_copied path.entry)) printer.old (O.written out.old) (O.faults out.old)
-        printer.new (O.written out.new) (O.faults out.new) }
+    ensures { Adds (unit_text (option_copied path.entry)) printer.old (O.seen out.old) printer.new (O.seen out.new) }
 {
     match path {
         Some(path) => push_path(printer, path, out),
@@ -25,8 +24,7 @@ fn push_unit<O: Sink>(printer: &mut Printer, path: Option<&Path>, out: &mut O)
 
 // Prints a space and the detail, or nothing.
 fn push_detail<O: Sink>(printer: &mut Printer, detail: &Text, out: &mut O)
-    ensures { Adds (detail_text detail.now) printer.old (O.written out.old) (O.faults out.old)
-        printer.new (O.written out.new) (O.faults out.new) }
+    ensures { Adds (detail_text detail.now) printer.old (O.seen out.old) printer.new (O.seen out.new) }
 {
     if !detail.bytes().is_empty() {
         printer.push(b" ", out);
@@ -37,7 +35,7 @@ fn push_detail<O: Sink>(printer: &mut Printer, detail: &Text, out: &mut O)
 // Prints an error of the unit with this path, or without one.
 fn push_error<O: Sink>(printer: &mut Printer, path: Option<&Path>, error: &ErrorAt, out: &mut O)
     ensures { Adds (error_text (option_copied path.entry, error.now))
-        printer.old (O.written out.old) (O.faults out.old) printer.new (O.written out.new) (O.faults out.new) }
+        printer.old (O.seen out.old) printer.new (O.seen out.new) }
 {
     push_unit(printer, path, out);
     printer.push(b" ", out);
@@ -49,7 +47,7 @@ fn push_error<O: Sink>(printer: &mut Printer, path: Option<&Path>, error: &Error
 // Prints the error of this number, or nothing past the last one.
 fn push_numbered_error<O: Sink>(printer: &mut Printer, view: &View, k: u32, out: &mut O)
     ensures { Adds (text_in error_text (slice_get (errors_of view.now.shown.units) k))
-        printer.old (O.written out.old) (O.faults out.old) printer.new (O.written out.new) (O.faults out.new) }
+        printer.old (O.seen out.old) printer.new (O.seen out.new) }
 {
     if let Some((path, error)) = view.error(k) {
         push_error(printer, path, error, out);
@@ -58,8 +56,7 @@ fn push_numbered_error<O: Sink>(printer: &mut Printer, view: &View, k: u32, out:
 
 // Prints how many errors there are, and each of them.
 fn push_errors<O: Sink>(printer: &mut Printer, view: &View, out: &mut O)
-    ensures { Adds (errors_text view.now.shown) printer.old (O.written out.old) (O.faults out.old)
-        printer.new (O.written out.new) (O.faults out.new) }
+    ensures { Adds (errors_text view.now.shown) printer.old (O.seen out.old) printer.new (O.seen out.new) }
 {
     let count = view.errors();
     push_numbered(printer, b"errors ", count, out);
@@ -71,8 +68,7 @@ fn push_errors<O: Sink>(printer: &mut Printer, view: &View, out: &mut O)
 /// Prints `errors K`, and of each of the K errors the path of its unit, or a dash for a unit that isn't in the body, its
 /// kind, and its detail where there is one, in display text.
 pub fn print_errors<O: Sink>(view: &View, out: &mut O) -> Result<(), WriteFault>
-    ensures { IsPrinted result (errors_text view.now.shown)
-        (O.written out.old) (O.written out.new) (O.faults out.old) (O.faults out.new) }
+    ensures { IsPrinted result (errors_text view.now.shown) (O.seen out.old) (O.seen out.new) }
 {
     let mut printer = Printer::new();
     push_errors(&mut printer, view, out);

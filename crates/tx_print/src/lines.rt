@@ -10,8 +10,7 @@ use tx_outside::Sink;
 
 // Prints an item.
 fn push_item<O: Sink>(printer: &mut Printer, item: &Item, out: &mut O)
-    ensures { Adds (printed item.now) printer.old (O.written out.old) (O.faults out.old)
-        printer.new (O.written out.new) (O.faults out.new) }
+    ensures { Adds (printed item.now) printer.old (O.seen out.old) printer.new (O.seen out.new) }
 {
     match item {
         Item::Glyph(drawn) => printer.push(drawn.cluster.glyphs.bytes(), out),
@@ -25,8 +24,7 @@ fn push_item<O: Sink>(printer: &mut Printer, item: &Item, out: &mut O)
 
 /// Prints a line.
 pub(crate) fn push_line<O: Sink>(printer: &mut Printer, line: &Line, out: &mut O)
-    ensures { Adds (line_text line.now) printer.old (O.written out.old) (O.faults out.old)
-        printer.new (O.written out.new) (O.faults out.new) }
+    ensures { Adds (line_text line.now) printer.old (O.seen out.old) printer.new (O.seen out.new) }
 {
     push_spaces(printer, line.indent, out);
     for item in line.items.all() {

@@ -25,8 +25,7 @@ fn page_numbered(pages: &[Cut], number: u32) -> Option<Cut>
 
 // Prints how many pages and rows there are.
 fn push_counts<O: Sink>(printer: &mut Printer, view: &View, out: &mut O)
-    ensures { Adds (counts_text view.now.shown) printer.old (O.written out.old) (O.faults out.old)
-        printer.new (O.written out.new) (O.faults out.new) }
+    ensures { Adds (counts_text view.now.shown) printer.old (O.seen out.old) printer.new (O.seen out.new) }
 {
     printer.push(b"pages ", out);
     push_number(printer, view.pages().len(), out);
@@ -36,7 +35,7 @@ fn push_counts<O: Sink>(printer: &mut Printer, view: &View, out: &mut O)
 // Prints a row, or nothing past the last one.
 fn push_row<O: Sink>(printer: &mut Printer, view: &View, r: u32, out: &mut O)
     ensures { Adds (text_in line_text (slice_get (lines_of view.now.shown.units) r))
-        printer.old (O.written out.old) (O.faults out.old) printer.new (O.written out.new) (O.faults out.new) }
+        printer.old (O.seen out.old) printer.new (O.seen out.new) }
 {
     if let Some(line) = view.line(r) {
         push_line(printer, line, out);
@@ -46,7 +45,7 @@ fn push_row<O: Sink>(printer: &mut Printer, view: &View, r: u32, out: &mut O)
 // Prints a page of this number.
 fn push_page<O: Sink>(printer: &mut Printer, view: &View, number: usize, page: Cut, out: &mut O)
     ensures { Adds (page_text (lines_of view.now.shown.units) number page)
-        printer.old (O.written out.old) (O.faults out.old) printer.new (O.written out.new) (O.faults out.new) }
+        printer.old (O.seen out.old) printer.new (O.seen out.new) }
 {
     push_numbered(printer, b"page ", number, out);
     for r in page.from..page.to {
@@ -56,8 +55,7 @@ fn push_page<O: Sink>(printer: &mut Printer, view: &View, number: usize, page: C
 
 // Prints how many pages and rows there are, and each page.
 fn push_pages<O: Sink>(printer: &mut Printer, view: &View, out: &mut O)
-    ensures { Adds (show_text view.now.shown) printer.old (O.written out.old) (O.faults out.old)
-        printer.new (O.written out.new) (O.faults out.new) }
+    ensures { Adds (show_text view.now.shown) printer.old (O.seen out.old) printer.new (O.seen out.new) }
 {
     push_counts(printer, view, out);
     for (i, page) in view.pages().iter().enumerate() {
@@ -67,8 +65,7 @@ fn push_pages<O: Sink>(printer: &mut Printer, view: &View, out: &mut O)
 
 /// Prints `pages P rows R`, the numbers of pages and of rows, and then each page, as [`print_page`] does.
 pub fn print_pages<O: Sink>(view: &View, out: &mut O) -> Result<(), WriteFault>
-    ensures { IsPrinted result (show_text view.now.shown)
-        (O.written out.old) (O.written out.new) (O.faults out.old) (O.faults out.new) }
+    ensures { IsPrinted result (show_text view.now.shown) (O.seen out.old) (O.seen out.new) }
 {
     let mut printer = Printer::new();
     push_pages(&mut printer, view, out);
@@ -77,8 +74,7 @@ pub fn print_pages<O: Sink>(view: &View, out: &mut O) -> Result<(), WriteFault>
 
 // Prints the page of this number, or how many there are.
 fn push_numbered_page<O: Sink>(printer: &mut Printer, view: &View, number: u32, out: &mut O)
-    ensures { Adds (page_reply view.now.shown number) printer.old (O.written out.old) (O.faults out.old)
-        printer.new (O.written out.new) (O.faults out.new) }
+    ensures { Adds (page_reply view.now.shown number) printer.old (O.seen out.old) printer.new (O.seen out.new) }
 {
     match page_numbered(view.pages(), number) {
         Some(page) => push_page(printer, view, number as usize, page, out),
@@ -89,8 +85,7 @@ fn push_numbered_page<O: Sink>(printer: &mut Printer, view: &View, number: u32, 
 /// Prints `page N` and the lines of page n, counted from 1, or `no page P` with the number of pages where there is none.
 /// A line is its indent in spaces, its clusters, and a space for each cell of a gap.
 pub fn print_page<O: Sink>(view: &View, n: u32, out: &mut O) -> Result<(), WriteFault>
-    ensures { IsPrinted result (page_reply view.now.shown n)
-        (O.written out.old) (O.written out.new) (O.faults out.old) (O.faults out.new) }
+    ensures { IsPrinted result (page_reply view.now.shown n) (O.seen out.old) (O.seen out.new) }
 {
     let mut printer = Printer::new();
     push_numbered_page(&mut printer, view, n, out);

@@ -12,8 +12,7 @@ use tx_tree::{Path, Text};
 
 /// Prints so many spaces.
 pub(crate) fn push_spaces<O: Sink>(printer: &mut Printer, count: u32, out: &mut O)
-    ensures { Adds (spaces count) printer.old (O.written out.old) (O.faults out.old)
-        printer.new (O.written out.new) (O.faults out.new) }
+    ensures { Adds (spaces count) printer.old (O.seen out.old) printer.new (O.seen out.new) }
 {
     for _ in 0..count {
         printer.push(b" ", out);
@@ -22,8 +21,7 @@ pub(crate) fn push_spaces<O: Sink>(printer: &mut Printer, count: u32, out: &mut 
 
 /// Prints a number.
 pub(crate) fn push_number<I: Integer, O: Sink>(printer: &mut Printer, number: I, out: &mut O)
-    ensures { Adds (I.text number) printer.old (O.written out.old) (O.faults out.old)
-        printer.new (O.written out.new) (O.faults out.new) }
+    ensures { Adds (I.text number) printer.old (O.seen out.old) printer.new (O.seen out.new) }
 {
     let mut digits = Buffer::new();
     printer.push(digits.format(number).as_bytes(), out);
@@ -36,8 +34,7 @@ pub(crate) fn push_numbered<I: Integer, O: Sink>(
     number: I,
     out: &mut O,
 )
-    ensures { Adds (line (words.now ++ I.text number)) printer.old (O.written out.old) (O.faults out.old)
-        printer.new (O.written out.new) (O.faults out.new) }
+    ensures { Adds (line (words.now ++ I.text number)) printer.old (O.seen out.old) printer.new (O.seen out.new) }
 {
     printer.push(words, out);
     push_number(printer, number, out);
@@ -46,8 +43,7 @@ pub(crate) fn push_numbered<I: Integer, O: Sink>(
 
 /// Prints a slash and a number.
 pub(crate) fn push_step<O: Sink>(printer: &mut Printer, number: u32, out: &mut O)
-    ensures { Adds (47 ∷ decimal number) printer.old (O.written out.old) (O.faults out.old)
-        printer.new (O.written out.new) (O.faults out.new) }
+    ensures { Adds (47 ∷ decimal number) printer.old (O.seen out.old) printer.new (O.seen out.new) }
 {
     printer.push(b"/", out);
     push_number(printer, number, out);
@@ -55,8 +51,7 @@ pub(crate) fn push_step<O: Sink>(printer: &mut Printer, number: u32, out: &mut O
 
 /// Prints a slash and a number for each number of a path.
 pub(crate) fn push_steps<O: Sink>(printer: &mut Printer, path: &Path, out: &mut O)
-    ensures { Adds (numbers_text path.now) printer.old (O.written out.old) (O.faults out.old)
-        printer.new (O.written out.new) (O.faults out.new) }
+    ensures { Adds (numbers_text path.now) printer.old (O.seen out.old) printer.new (O.seen out.new) }
 {
     for number in path.steps() {
         push_step(printer, *number, out);
@@ -65,8 +60,7 @@ pub(crate) fn push_steps<O: Sink>(printer: &mut Printer, path: &Path, out: &mut 
 
 /// Prints a path.
 pub(crate) fn push_path<O: Sink>(printer: &mut Printer, path: &Path, out: &mut O)
-    ensures { Adds (path_text path.now) printer.old (O.written out.old) (O.faults out.old)
-        printer.new (O.written out.new) (O.faults out.new) }
+    ensures { Adds (path_text path.now) printer.old (O.seen out.old) printer.new (O.seen out.new) }
 {
     if path.steps().is_empty() {
         printer.push(b"/", out);
@@ -77,8 +71,7 @@ pub(crate) fn push_path<O: Sink>(printer: &mut Printer, path: &Path, out: &mut O
 
 /// Prints the display text of a text.
 pub(crate) fn push_shown<O: Sink>(printer: &mut Printer, text: &Text, out: &mut O)
-    ensures { Adds (shown text.now) printer.old (O.written out.old) (O.faults out.old)
-        printer.new (O.written out.new) (O.faults out.new) }
+    ensures { Adds (shown text.now) printer.old (O.seen out.old) printer.new (O.seen out.new) }
 {
     if text.bytes().is_empty() {
         return;

@@ -16,8 +16,7 @@ use tx_view::View;
 
 /// Prints `no cell ROWS WIDTH`, with the number of rows and the width of the page.
 pub(crate) fn push_no_cell<O: Sink>(printer: &mut Printer, view: &View, out: &mut O)
-    ensures { Adds (no_cell view.now.shown view.now.width) printer.old (O.written out.old) (O.faults out.old)
-        printer.new (O.written out.new) (O.faults out.new) }
+    ensures { Adds (no_cell view.now.shown view.now.width) printer.old (O.seen out.old) printer.new (O.seen out.new) }
 {
     printer.push(b"no cell ", out);
     push_number(printer, view.rows(), out);
@@ -27,7 +26,7 @@ pub(crate) fn push_no_cell<O: Sink>(printer: &mut Printer, view: &View, out: &mu
 // Prints a slash and the number of an origin at a place, or nothing past its last one.
 fn push_step_at<O: Sink>(printer: &mut Printer, origin: &Ip, i: usize, out: &mut O)
     ensures { Adds (text_in (λ n. 47 ∷ decimal n) (slice_get origin.now i))
-        printer.old (O.written out.old) (O.faults out.old) printer.new (O.written out.new) (O.faults out.new) }
+        printer.old (O.seen out.old) printer.new (O.seen out.new) }
 {
     if let Some(number) = origin.step(i) {
         push_step(printer, number, out);
@@ -36,8 +35,7 @@ fn push_step_at<O: Sink>(printer: &mut Printer, origin: &Ip, i: usize, out: &mut
 
 // Prints a slash and a number for each number of an origin.
 fn push_origin<O: Sink>(printer: &mut Printer, origin: &Ip, out: &mut O)
-    ensures { Adds (numbers_text origin.now) printer.old (O.written out.old) (O.faults out.old)
-        printer.new (O.written out.new) (O.faults out.new) }
+    ensures { Adds (numbers_text origin.now) printer.old (O.seen out.old) printer.new (O.seen out.new) }
 {
     for i in 0..origin.len() {
         push_step_at(printer, origin, i, out);
@@ -46,8 +44,7 @@ fn push_origin<O: Sink>(printer: &mut Printer, origin: &Ip, out: &mut O)
 
 // Prints a slash and the offset of a place, which ends its line.
 fn push_offset<O: Sink>(printer: &mut Printer, offset: u32, out: &mut O)
-    ensures { Adds (line (47 ∷ decimal offset)) printer.old (O.written out.old) (O.faults out.old)
-        printer.new (O.written out.new) (O.faults out.new) }
+    ensures { Adds (line (47 ∷ decimal offset)) printer.old (O.seen out.old) printer.new (O.seen out.new) }
 {
     push_numbered(printer, b"/", offset, out);
 }
@@ -55,7 +52,7 @@ fn push_offset<O: Sink>(printer: &mut Printer, offset: u32, out: &mut O)
 // Prints the line of a place that is told from the path of a unit.
 fn push_spot<O: Sink>(printer: &mut Printer, spot: &Spot<'_>, out: &mut O)
     ensures { Adds (line (place_text (whole_path spot.now) spot.now.offset))
-        printer.old (O.written out.old) (O.faults out.old) printer.new (O.written out.new) (O.faults out.new) }
+        printer.old (O.seen out.old) printer.new (O.seen out.new) }
 {
     push_steps(printer, spot.base(), out);
     match spot.origin() {
@@ -69,8 +66,8 @@ fn push_spot<O: Sink>(printer: &mut Printer, spot: &Spot<'_>, out: &mut O)
 
 // Prints the place behind a row and a column, or that there is no such cell.
 fn push_place_at<O: Sink>(printer: &mut Printer, view: &View, r: u32, c: u32, out: &mut O)
-    ensures { Adds (place_reply view.now.shown view.now.width r c) printer.old (O.written out.old) (O.faults out.old)
-        printer.new (O.written out.new) (O.faults out.new) }
+    ensures { Adds (place_reply view.now.shown view.now.width r c) printer.old (O.seen out.old)
+        printer.new (O.seen out.new) }
 {
     match view.position(r, c) {
         Some(spot) => push_spot(printer, &spot, out),
@@ -81,8 +78,7 @@ fn push_place_at<O: Sink>(printer: &mut Printer, view: &View, r: u32, c: u32, ou
 /// Prints the place of the document behind column c of row r, or `no cell ROWS WIDTH`, with the number of rows and the
 /// width of the page, past the last row or column. Both are counted from 0.
 pub fn print_place<O: Sink>(view: &View, r: u32, c: u32, out: &mut O) -> Result<(), WriteFault>
-    ensures { IsPrinted result (place_reply view.now.shown view.now.width r c)
-        (O.written out.old) (O.written out.new) (O.faults out.old) (O.faults out.new) }
+    ensures { IsPrinted result (place_reply view.now.shown view.now.width r c) (O.seen out.old) (O.seen out.new) }
 {
     let mut printer = Printer::new();
     push_place_at(&mut printer, view, r, c, out);
@@ -91,8 +87,8 @@ pub fn print_place<O: Sink>(view: &View, r: u32, c: u32, out: &mut O) -> Result<
 
 // Prints the line of a place.
 fn push_place<O: Sink>(printer: &mut Printer, place: &Place, out: &mut O)
-    ensures { Adds (line (place_text place.now.path place.now.offset)) printer.old (O.written out.old) (O.faults out.old)
-        printer.new (O.written out.new) (O.faults out.new) }
+    ensures { Adds (line (place_text place.now.path place.now.offset)) printer.old (O.seen out.old)
+        printer.new (O.seen out.new) }
 {
     push_steps(printer, &place.path, out);
     push_offset(printer, place.offset, out);
@@ -100,8 +96,7 @@ fn push_place<O: Sink>(printer: &mut Printer, place: &Place, out: &mut O)
 
 /// Prints a place: a slash before each number of its path and before its offset.
 pub fn print_cursor<O: Sink>(place: &Place, out: &mut O) -> Result<(), WriteFault>
-    ensures { IsPrinted result (line (place_text place.now.path place.now.offset))
-        (O.written out.old) (O.written out.new) (O.faults out.old) (O.faults out.new) }
+    ensures { IsPrinted result (line (place_text place.now.path place.now.offset)) (O.seen out.old) (O.seen out.new) }
 {
     let mut printer = Printer::new();
     push_place(&mut printer, place, out);

@@ -26,8 +26,7 @@ impl Printer {
 
     // Writes what waits.
     fn flush<O: Sink>(&mut self, out: &mut O)
-        ensures adds { Adds [] self.old (O.written out.old) (O.faults out.old)
-            self.new (O.written out.new) (O.faults out.new) }
+        ensures adds { Adds [] self.old (O.seen out.old) self.new (O.seen out.new) }
         ensures empty { self.new.failed ≡ false → self.new.waiting.items ≡ [] }
     {
         if self.failed {
@@ -42,8 +41,7 @@ impl Printer {
     // Writes a piece, where nothing waits.
     fn write<O: Sink>(&mut self, piece: &[u8], out: &mut O)
         requires { self.old.failed ≡ false → self.old.waiting.items ≡ [] }
-        ensures { Adds piece.now self.old (O.written out.old) (O.faults out.old)
-            self.new (O.written out.new) (O.faults out.new) }
+        ensures { Adds piece.now self.old (O.seen out.old) self.new (O.seen out.new) }
     {
         if self.failed {
             return;
@@ -56,8 +54,7 @@ impl Printer {
 
     /// Adds a piece.
     pub(crate) fn push<O: Sink>(&mut self, piece: &[u8], out: &mut O)
-        ensures { Adds piece.now self.old (O.written out.old) (O.faults out.old)
-            self.new (O.written out.new) (O.faults out.new) }
+        ensures { Adds piece.now self.old (O.seen out.old) self.new (O.seen out.new) }
     {
         if self.waiting.try_extend_from_slice(piece).is_err() {
             self.flush(out);
@@ -67,7 +64,7 @@ impl Printer {
 
     /// Writes what waits, and tells whether the sink has failed.
     pub(crate) fn finish<O: Sink>(mut self, out: &mut O) -> Result<(), WriteFault>
-        ensures { Ends result self (O.written out.old) (O.faults out.old) (O.written out.new) (O.faults out.new) }
+        ensures { Ends result self (O.seen out.old) (O.seen out.new) }
     {
         self.flush(out);
         if self.failed {

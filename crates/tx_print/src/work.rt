@@ -8,8 +8,7 @@ use tx_outside::{Sink, WriteFault};
 
 /// Prints `work N`, with this number.
 pub fn print_work<O: Sink>(number: u64, out: &mut O) -> Result<(), WriteFault>
-    ensures { IsPrinted result (work_reply number)
-        (O.written out.old) (O.written out.new) (O.faults out.old) (O.faults out.new) }
+    ensures { IsPrinted result (work_reply number) (O.seen out.old) (O.seen out.new) }
 {
     let mut printer = Printer::new();
     push_numbered(&mut printer, b"work ", number, out);

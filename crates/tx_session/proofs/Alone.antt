@@ -4,14 +4,15 @@ use Rattle.std.proofs.Common.{IfSome, arith}
 use Rattle.std.specs.Io.KnownBytes.{append_known}
 use Rattle.tx_outside.specs.Counts.{Rose}
 use Rattle.tx_outside.specs.Known.{AppendsPart}
+use Rattle.tx_outside.specs.Outside.{SinkSeen, SourceSeen, StoreSeen}
 use Rattle.tx_open.specs.declared.opening.Opened.{Opened}
 use Rattle.tx_open.specs.Outcomes.{ComesTo, generated, no_memory}
 use Rattle.tx_session.specs.declared.status.Status.{Status}
 use Rattle.tx_session.specs.declared.status.Status.TheVariants as statuses
 use Rattle.tx_session.specs.Playing.{IsClosedInPart, IsCutOff, IsLine, IsServed, IsServedAlone}
-use Rattle.tx_session.specs.Runs.{Rises, IsPlayed, IsPlayedAlone, IsReplyAlone, IsReplyBehind, IsRun, generated_script}
-use Rattle.tx_session.specs.Runs.{CanBeRead, no_files, opening_cost, own_line, start_with}
-use Rattle.tx_session.specs.Worlds.{KeepsFiles, Mark, Stored, World}
+use Rattle.tx_session.specs.Runs.{IsOwnLineAlone, IsPlayed, IsPlayedAlone, IsReplyAlone, IsReplyBehind, IsRun}
+use Rattle.tx_session.specs.Runs.{CanBeRead, generated_script, no_files, opening_cost, outside, own_line, start_with}
+use Rattle.tx_session.specs.Worlds.{KeepsFiles, Mark, World}
 use Rattle.tx_session.proofs.Causes.{line_run, run_of, served_closed}
 
 pub never_rose : Rose 0 0 → ⊥
@@ -39,10 +40,7 @@ module _ (all : Opened) (old steps : ℕ) (last : World) (left : List ℕ) (befo
       }
 
   abbrev IsPart : List ℕ → List ℕ → Type 0
-  IsPart done part =
-      IsReplyAlone all old last.steps done part
-      ⊎ ((ended : Status) × (marks : List Mark) × IsPlayedAlone all old last.steps marks ended done
-      × (part ≡ own_line ended))
+  IsPart done part = IsReplyAlone all old last.steps done part ⊎ IsOwnLineAlone all old last.steps done part
 
   cut_alone : IsCutOff beginning last (Some generated_script) before after
       ⊎ IsClosedInPart (Rose 0 0) beginning last (Some generated_script) (Some left) before after
@@ -63,13 +61,13 @@ module _ (all : Opened) (old steps : ℕ) (last : World) (left : List ℕ) (befo
   cut_alone (inr c) = (
     c.played.replies,
     own_line c.status,
-    inr (
-      c.status,
-      c.played.marks,
-      played_alone c.played.script c.played.marks c.status c.played.replies c.played.tells
-          (λ e. never_rose (c.caused e)) c.played.played,
-      refl,
-    ),
+    inr (record {
+      status = c.status;
+      marks = c.played.marks;
+      played = played_alone c.played.script c.played.marks c.status c.played.replies c.played.tells
+          (λ e. never_rose (c.caused e)) c.played.played;
+      own = refl;
+    }),
     subst (λ b. AppendsPart (own_line c.status) b after) c.played.written c.part,
   )
 
@@ -93,18 +91,17 @@ pub short_read : IfSome (Some generated_script) (λ script. ¬ CanBeRead script)
 short_read h = h short_script
 
 -- the run of a generated document
-module _ (rises : Rises) (words : List (List ℕ)) (stored later : Stored) (old new : ℕ) (told : Option (List ℕ))
-    (all : Opened) (status : Status) (before after : Option (List ℕ)) (loaded : KeepsFiles stored later)
-    (same : later ≡ stored) (comes : ComesTo words stored.files (generated all)) where
-  pub generated_run : IsLine no_memory status before after ⊎ IsServedAlone all old new status before after
-      → IsRun rises words status (record { store = stored; input = told; output = before; steps = old })
-      (record { store = later; input = told; output = after; steps = new })
+module _ (words : List (List ℕ)) (stored later : StoreSeen) (old new : ℕ) (input : SourceSeen) (all : Opened)
+    (status : Status) (before after : SinkSeen) (loaded : KeepsFiles stored later) (same : later ≡ stored)
+    (comes : ComesTo words stored.files (generated all)) where
+  pub generated_run : IsLine no_memory status before.written after.written
+      ⊎ IsServedAlone all old new status before.written after.written
+      → IsRun words status (outside stored input before old) (outside later input after new)
   generated_run (inl l) =
-      line_run rises words stored later old new told no_memory status before after loaded tt
+      line_run words stored later old new input no_memory status before after loaded tt
       (λ all. ((λ e. cc), (λ e. cc))) tt l.done l.cut
   generated_run (inr s) =
-      run_of rises words status (record { store = stored; input = told; output = before; steps = old })
-      (record { store = later; input = told; output = after; steps = new })
+      run_of words status (outside stored input before old) (outside later input after new)
       (λ n. let d = s.done n in
       record {
         outcome = generated all;
@@ -112,8 +109,15 @@ module _ (rises : Rises) (words : List (List ℕ)) (stored later : Stored) (old 
         text = d.1 ++ own_line status;
         comes = comes;
         caused = tt;
-        whole = (d.1, d.2, refl, refl, same);
+        whole = record { replies = d.1; played = d.2; written = refl; left = refl; stored = same };
         written = d.3;
       })
       (λ e. let d = s.cut e in
-      record { outcome = generated all; done = d.0; part = d.1; comes = comes; being = (d.2, refl, same); cut = d.3 })
+      record {
+        outcome = generated all;
+        done = d.0;
+        part = d.1;
+        comes = comes;
+        being = record { being = d.2; left = refl; stored = same };
+        cut = d.3;
+      })

@@ -5,7 +5,8 @@ use Rattle.std.proofs.Common.{sym, subst, ◌∙◌}
 use Rattle.std.specs.Prelude.{IfOk, IfErr, OnErr}
 use Rattle.tx_outside.specs.Counts.{Rose}
 use Rattle.tx_outside.specs.declared.faults.WriteFault.{WriteFault}
-use Rattle.tx_outside.proofs.Counting.{never_falls_refl}
+use Rattle.tx_outside.proofs.GoingOn.{store_goes_on_refl}
+use Rattle.tx_outside.specs.Outside.{StoreSeen}
 use Rattle.tx_tree.specs.WideTree.{WideTree}
 use Rattle.tx_tree.specs.declared.places.Place.{Place}
 use Rattle.tx_mod.specs.declared.mods.Mod.{Mod}
@@ -37,10 +38,10 @@ use Rattle.tx_session.specs.Saying.{mark_of, text_of}
 use Rattle.tx_session.specs.States.{IsAnswer, selected_edit, key_edit, by_typing}
 use Rattle.tx_session.specs.States.{by_backspace, by_enter, printed, saved_by}
 use Rattle.tx_session.proofs.Turning.{same_seen}
-use Rattle.tx_session.specs.Worlds.{Seen, Stored, Stores, Mark, plain, lacking, unsaved, told}
+use Rattle.tx_session.specs.Worlds.{Seen, Stores, Mark, plain, lacking, unsaved, told}
 
 -- a command that saves nothing was done
-pub done : (it : Command) (before after : Seen) (store : Stored) (reply : List ℕ)
+pub done : (it : Command) (before after : Seen) (store : StoreSeen) (reply : List ℕ)
     → IsAnswer before.width before.height before.state it after.state reply → after.fresh ≡ fresh_after before it
     → after.width ≡ before.width → after.height ≡ before.height → saved_by before.state it ≡ None
     → IsReply (record { session = before; store = store }) it plain (record { session = after; store = store }) reply
@@ -53,14 +54,14 @@ done it before after store reply a f w h n = record {
 }
 
 -- memory ran out
-pub lacked : (it : Command) (before after : Seen) (store : Stored) (reply : List ℕ) → MayLack before it
+pub lacked : (it : Command) (before after : Seen) (store : StoreSeen) (reply : List ℕ) → MayLack before it
     → IsWanting before after reply
     → IsReply (record { session = before; store = store }) it lacking (record { session = after; store = store }) reply
-lacked it before after store reply m h = (m, h.0, (refl, never_falls_refl store.faults), h.1)
+lacked it before after store reply m h = (m, h.0, (refl, store_goes_on_refl store), h.1)
 
 -- ---- edits and keys
 
-pub change_replied : (m : Mod) (before after : Seen) (store : Stored) (mark : Mark) (reply : List ℕ)
+pub change_replied : (m : Mod) (before after : Seen) (store : StoreSeen) (mark : Mark) (reply : List ℕ)
     → IsChange (edited (selected_edit before.state m) before.state) before mark after reply
     → IsReply (record { session = before; store = store }) (Change m) mark (record { session = after; store = store })
     reply
@@ -70,7 +71,7 @@ change_replied m before after store lacking reply h = lacked (Change m) before a
 change_replied m before after store unsaved reply h = absurd h
 change_replied m before after store (told n) reply h = absurd h
 
-pub typed_replied : (text : List ℕ) (before after : Seen) (store : Stored) (mark : Mark) (reply : List ℕ)
+pub typed_replied : (text : List ℕ) (before after : Seen) (store : StoreSeen) (mark : Mark) (reply : List ℕ)
     → IsKeyChange (by_typing before.state text) before mark after reply
     → IsReply (record { session = before; store = store }) (Typed text) mark
     (record { session = after; store = store }) reply
@@ -80,7 +81,7 @@ typed_replied text before after store lacking reply h = lacked (Typed text) befo
 typed_replied text before after store unsaved reply h = absurd h
 typed_replied text before after store (told n) reply h = absurd h
 
-pub backspace_replied : (before after : Seen) (store : Stored) (mark : Mark) (reply : List ℕ)
+pub backspace_replied : (before after : Seen) (store : StoreSeen) (mark : Mark) (reply : List ℕ)
     → IsKeyChange (by_backspace before.state) before mark after reply
     → IsReply (record { session = before; store = store }) Backspace mark (record { session = after; store = store })
     reply
@@ -90,7 +91,7 @@ backspace_replied before after store lacking reply h = lacked Backspace before a
 backspace_replied before after store unsaved reply h = absurd h
 backspace_replied before after store (told n) reply h = absurd h
 
-pub enter_replied : (before after : Seen) (store : Stored) (mark : Mark) (reply : List ℕ)
+pub enter_replied : (before after : Seen) (store : StoreSeen) (mark : Mark) (reply : List ℕ)
     → IsKeyChange (by_enter before.state) before mark after reply
     → IsReply (record { session = before; store = store }) Enter mark (record { session = after; store = store }) reply
 enter_replied before after store plain reply h =
@@ -221,7 +222,7 @@ neither : (b : Bool) → b || false ≡ b
 neither true = refl
 neither false = refl
 
-pub left_replied : (before after : Seen) (v : WideView) (store : Stored) (mark : Mark) (reply : List ℕ)
+pub left_replied : (before after : Seen) (v : WideView) (store : StoreSeen) (mark : Mark) (reply : List ℕ)
     → IsView before.state.buffers before.width before.height v
     → IsArrival (to_left (stops_of v.units) before.state.cursor) before.state mark after.state reply
     → after.fresh ≡ before.fresh || is_plain mark → after.width ≡ before.width → after.height ≡ before.height
@@ -233,7 +234,7 @@ left_replied before after v store lacking reply is h e w t =
 left_replied before after v store unsaved reply is h e w t = absurd h
 left_replied before after v store (told n) reply is h e w t = absurd h
 
-pub right_replied : (before after : Seen) (v : WideView) (store : Stored) (mark : Mark) (reply : List ℕ)
+pub right_replied : (before after : Seen) (v : WideView) (store : StoreSeen) (mark : Mark) (reply : List ℕ)
     → IsView before.state.buffers before.width before.height v
     → IsArrival (to_right (stops_of v.units) before.state.cursor) before.state mark after.state reply
     → after.fresh ≡ before.fresh || is_plain mark → after.width ≡ before.width → after.height ≡ before.height
@@ -245,7 +246,7 @@ right_replied before after v store lacking reply is h e w t =
 right_replied before after v store unsaved reply is h e w t = absurd h
 right_replied before after v store (told n) reply is h e w t = absurd h
 
-pub click_replied : (r c : ℕ) (before after : Seen) (v : WideView) (width : ℕ) (store : Stored) (mark : Mark)
+pub click_replied : (r c : ℕ) (before after : Seen) (v : WideView) (width : ℕ) (store : StoreSeen) (mark : Mark)
     (reply : List ℕ) → IsView before.state.buffers before.width before.height v
     → IsClicked width v r c before.state mark after.state reply → width ≡ before.width
     → after.fresh ≡ before.fresh || is_plain mark → after.width ≡ before.width → after.height ≡ before.height
@@ -267,7 +268,7 @@ present_view bs cs w x t u v e f g h =
 
 -- ---- printing
 
-pub printed_done : (it : Command) (before : Seen) (w t : ℕ) (v : WideView) (store : Stored) → Prints it
+pub printed_done : (it : Command) (before : Seen) (w t : ℕ) (v : WideView) (store : StoreSeen) → Prints it
     → IsView before.state.buffers before.width before.height v → w ≡ before.width → t ≡ before.height
     → IsReply (record { session = before; store = store }) it plain
     (record { session = record { state = before.state; width = w; height = t; fresh = true }; store = store })
@@ -279,7 +280,7 @@ printed_done it before w t v store p is e f =
     (subst (λ z. IsAnswer before.width before.height before.state it before.state (printed z v it)) (sym e) answer)
     (printed_fresh it before p) e f (printed_saves it before.state p)
 
-pub printed_wanting : (it : Command) (before after : Seen) (store : Stored) → Prints it → after ≡ before
+pub printed_wanting : (it : Command) (before after : Seen) (store : StoreSeen) → Prints it → after ≡ before
     → before.fresh ≡ false
     → IsReply (record { session = before; store = store }) it lacking (record { session = after; store = store })
     wanting_reply
@@ -287,7 +288,7 @@ printed_wanting it before after store p e f =
     lacked it before after store wanting_reply (printed_lacks it before p f) (e, refl)
 
 -- the number of steps is told
-pub work_told : (n : ℕ) (before : Seen) (w t : ℕ) (store : Stored) → w ≡ before.width → t ≡ before.height
+pub work_told : (n : ℕ) (before : Seen) (w t : ℕ) (store : StoreSeen) → w ≡ before.width → t ≡ before.height
     → IsReply (record { session = before; store = store }) Work (told n)
     (record { session = record { state = before.state; width = w; height = t; fresh = true }; store = store })
     (work_reply n)
@@ -298,7 +299,7 @@ work_told n before w t store e f = record {
   said = refl;
 }
 
-pub work_wanting : (before after : Seen) (store : Stored) → after ≡ before → before.fresh ≡ false
+pub work_wanting : (before after : Seen) (store : StoreSeen) → after ≡ before → before.fresh ≡ false
     → IsReply (record { session = before; store = store }) Work lacking (record { session = after; store = store })
     wanting_reply
 work_wanting before after store e f = lacked Work before after store wanting_reply (ap not f) (e, refl)

@@ -3,7 +3,9 @@ use Rattle.std.proofs.Common.{◌≡◌, ◌≢◌, ◌⊎◌, ◌≤◌, ◌+�
 use Rattle.std.proofs.Common.{refl, sym, ap, subst, ◌∙◌, arith}
 use Rattle.std.specs.Io.KnownBytes.{append_known}
 use Rattle.tx_outside.specs.Files.{Files}
+use Rattle.tx_outside.specs.Counts.{Rose}
 use Rattle.tx_outside.specs.Known.{AppendsPart}
+use Rattle.tx_outside.specs.Outside.{SinkSeen, SourceSeen, StoreSeen}
 use Rattle.tx_outside.proofs.Pieces.{append_known-then, append_known-nil}
 use Rattle.tx_session.specs.declared.status.Status.{Status}
 use Rattle.tx_session.specs.declared.status.Status.TheVariants as statuses
@@ -18,73 +20,77 @@ use Rattle.tx_open.specs.Outcomes.{generated, ComesTo, EndsOf, Holds, IsCaused, 
 use Rattle.tx_open.proofs.Files.{no_fault}
 use Rattle.tx_session.specs.Forms.{SpellsNoTree}
 use Rattle.tx_session.specs.Outcomes.{status_of, text_of}
-use Rattle.tx_session.specs.Worlds.{Whole, World, Stored, KeepsFiles, world}
+use Rattle.tx_session.specs.Worlds.{Whole, World, KeepsFiles, world}
 use Rattle.tx_units.specs.Units.{made}
 use Rattle.tx_doc.specs.Forms.{form_of}
-use Rattle.tx_session.specs.Runs.{Rises, Outside, IsRefused, CanBeRead, Tells, IsRun, IsWritten}
-use Rattle.tx_session.specs.Runs.{IsCutShort, IsWhole, IsBeingWritten, opening_cost, own_line, start_with}
+use Rattle.tx_session.specs.Runs.{Outside, outside, IsRefused, CanBeRead, Tells, IsRun, IsWritten}
+use Rattle.tx_session.specs.Runs.{IsCutShort, IsWhole, IsBeingWritten, IsWholeUnopened, IsCutUnopened, opening_cost}
+use Rattle.tx_session.specs.Runs.{own_line, start_with}
 use Rattle.tx_session.specs.Differences.{EndsAtOpening}
 use Rattle.tx_session.specs.Playing.{HasPlayed, IsCutOff, IsEnd, IsClosed, IsClosedInPart, IsServed, IsLine}
 use Rattle.tx_session.proofs.Lining.{long_unread}
 
 -- a run that was written, whole or in part
-pub run_of : (rises : Rises) (words : List (List ℕ)) (status : Status) (before after : Outside)
-    → (status ≢ statuses.OutputFault → IsWritten rises words status before after)
-    → (status ≡ statuses.OutputFault → IsCutShort rises words before after) → IsRun rises words status before after
-run_of rises words statuses.OutputFault before after done cut = cut refl
-run_of rises words statuses.Ok before after done cut = done (λ e. cc)
-run_of rises words statuses.Words before after done cut = done (λ e. cc)
-run_of rises words statuses.Missing before after done cut = done (λ e. cc)
-run_of rises words statuses.Refused before after done cut = done (λ e. cc)
-run_of rises words statuses.StoreFault before after done cut = done (λ e. cc)
-run_of rises words statuses.InputFault before after done cut = done (λ e. cc)
-run_of rises words statuses.NoMemory before after done cut = done (λ e. cc)
-run_of rises words statuses.ScriptLong before after done cut = done (λ e. cc)
+pub run_of : (words : List (List ℕ)) (status : Status) (before after : Outside)
+    → (status ≢ statuses.OutputFault → IsWritten words status before after)
+    → (status ≡ statuses.OutputFault → IsCutShort words before after) → IsRun words status before after
+run_of words statuses.OutputFault before after done cut = cut refl
+run_of words statuses.Ok before after done cut = done (λ e. cc)
+run_of words statuses.Words before after done cut = done (λ e. cc)
+run_of words statuses.Missing before after done cut = done (λ e. cc)
+run_of words statuses.Refused before after done cut = done (λ e. cc)
+run_of words statuses.StoreFault before after done cut = done (λ e. cc)
+run_of words statuses.InputFault before after done cut = done (λ e. cc)
+run_of words statuses.NoMemory before after done cut = done (λ e. cc)
+run_of words statuses.ScriptLong before after done cut = done (λ e. cc)
 
 -- nothing was opened
 abbrev pub IsUnopened : Outcome → Type 0
 IsUnopened o = (all : Opened) → (o ≢ opened all) × (o ≢ generated all)
 
-module _ (before after : Stored) (old new : ℕ) (loaded : KeepsFiles before after) (told : Option (List ℕ)) where
-  whole_line : (o : Outcome) → IsUnopened o → IsWhole o before after old new told [] told (status_of o)
-      (text_of o)
-  whole_line faulty_words u = (refl, refl, refl, refl, loaded)
-  whole_line (missing file) u = (refl, refl, refl, refl, loaded)
-  whole_line (too_long file) u = (refl, refl, refl, refl, loaded)
-  whole_line (no_tree file fault) u = (refl, refl, refl, refl, loaded)
-  whole_line (store_fault file) u = (refl, refl, refl, refl, loaded)
-  whole_line no_memory u = (refl, refl, refl, refl, loaded)
+module _ (before after : Outside) (loaded : KeepsFiles before.store after.store)
+    (left : after.input.left ≡ before.input.left) where
+  nothing_opened : (o : Outcome) → IsWholeUnopened o before after [] (status_of o) (text_of o)
+  nothing_opened o = record { unmarked = refl; ended = refl; written = refl; left = left; kept = loaded }
+
+  whole_line : (o : Outcome) → IsUnopened o → IsWhole o before after [] (status_of o) (text_of o)
+  whole_line faulty_words u = nothing_opened faulty_words
+  whole_line (missing file) u = nothing_opened (missing file)
+  whole_line (too_long file) u = nothing_opened (too_long file)
+  whole_line (no_tree file fault) u = nothing_opened (no_tree file fault)
+  whole_line (store_fault file) u = nothing_opened (store_fault file)
+  whole_line no_memory u = nothing_opened no_memory
   whole_line (opened all) u = absurd ((u all).0 refl)
   whole_line (generated all) u = absurd ((u all).1 refl)
 
-  line_being : (rises : Rises) (o : Outcome)
-      → IsCaused rises.misses rises.longs rises.store_faults o → IsUnopened o
-      → IsBeingWritten rises o before after old new told told [] (text_of o)
-  line_being rises faulty_words c u = (refl, refl, refl, loaded, c)
-  line_being rises (missing file) c u = (refl, refl, refl, loaded, c)
-  line_being rises (too_long file) c u = (refl, refl, refl, loaded, c)
-  line_being rises (no_tree file fault) c u = (refl, refl, refl, loaded, c)
-  line_being rises (store_fault file) c u = (refl, refl, refl, loaded, c)
-  line_being rises no_memory c u = (refl, refl, refl, loaded, c)
-  line_being rises (opened all) c u = absurd ((u all).0 refl)
-  line_being rises (generated all) c u = absurd ((u all).1 refl)
+  nothing_done : (o : Outcome) → IsCaused before.store after.store o → IsCutUnopened o before after [] (text_of o)
+  nothing_done o c = record { none = refl; being = refl; left = left; kept = loaded; caused = c }
+
+  line_being : (o : Outcome) → IsCaused before.store after.store o → IsUnopened o
+      → IsBeingWritten o before after [] (text_of o)
+  line_being faulty_words c u = nothing_done faulty_words c
+  line_being (missing file) c u = nothing_done (missing file) c
+  line_being (too_long file) c u = nothing_done (too_long file) c
+  line_being (no_tree file fault) c u = nothing_done (no_tree file fault) c
+  line_being (store_fault file) c u = nothing_done (store_fault file) c
+  line_being no_memory c u = nothing_done no_memory c
+  line_being (opened all) c u = absurd ((u all).0 refl)
+  line_being (generated all) c u = absurd ((u all).1 refl)
 
 nothing_before : (before after : Option (List ℕ)) (part : List ℕ) → AppendsPart part before after
     → AppendsPart part (append_known before []) after
 nothing_before before after part p = subst (λ b. AppendsPart part b after) (sym (append_known-nil before)) p
 
 -- the line of an outcome that opened nothing
-pub line_run : (rises : Rises) (words : List (List ℕ)) (stored later : Stored) (old new : ℕ)
-    (told : Option (List ℕ)) (o : Outcome) (status : Status) (before after : Option (List ℕ)) → KeepsFiles stored later
-    → IsCaused rises.misses rises.longs rises.store_faults o → IsUnopened o
+pub line_run : (words : List (List ℕ)) (stored later : StoreSeen) (old new : ℕ) (input : SourceSeen) (o : Outcome)
+    (status : Status) (before after : SinkSeen) → KeepsFiles stored later → IsCaused stored later o → IsUnopened o
     → ComesTo words stored.files o
-    → (status ≢ statuses.OutputFault → (status ≡ status_of o) × (after ≡ append_known before (text_of o)))
-    → (status ≡ statuses.OutputFault → AppendsPart (text_of o) before after)
-    → IsRun rises words status (record { store = stored; input = told; output = before; steps = old })
-    (record { store = later; input = told; output = after; steps = new })
-line_run rises words stored later old new told o status before after loaded caused u comes done cut =
-    run_of rises words status (record { store = stored; input = told; output = before; steps = old })
-    (record { store = later; input = told; output = after; steps = new })
+    → (status ≢ statuses.OutputFault
+    → (status ≡ status_of o) × (after.written ≡ append_known before.written (text_of o)))
+    → (status ≡ statuses.OutputFault → AppendsPart (text_of o) before.written after.written)
+    → IsRun words status (outside stored input before old) (outside later input after new)
+line_run words stored later old new input o status before after loaded caused u comes done cut =
+    run_of words status (outside stored input before old) (outside later input after new)
     (λ n. let d = done n in
     record {
       outcome = o;
@@ -92,8 +98,8 @@ line_run rises words stored later old new told o status before after loaded caus
       text = text_of o;
       comes = comes;
       caused = caused;
-      whole = subst (λ s. IsWhole o stored later old new told [] told s (text_of o)) (sym d.0)
-          (whole_line stored later old new loaded told o u);
+      whole = subst (λ s. IsWhole o (outside stored input before old) (outside later input after new) [] s (text_of o))
+          (sym d.0) (whole_line (outside stored input before old) (outside later input after new) loaded refl o u);
       written = d.1;
     })
     (λ e. record {
@@ -101,9 +107,8 @@ line_run rises words stored later old new told o status before after loaded caus
       done = [];
       part = text_of o;
       comes = comes;
-      being = line_being stored later old new loaded told rises o caused u;
-      cut =
-          nothing_before before after (text_of o) (cut e);
+      being = line_being (outside stored input before old) (outside later input after new) loaded refl o caused u;
+      cut = nothing_before before.written after.written (text_of o) (cut e);
     })
 
 closed : (start last : World) (told rest : Option (List ℕ)) (status result : Status)
@@ -176,27 +181,42 @@ served_closed failed statuses.NoMemory start last told rest before after n e = e
 served_closed failed statuses.ScriptLong start last told rest before after n e = e
 
 -- the run of a file that was opened
-module _ (rises : Rises) (words : List (List ℕ)) (stored first : Stored) (old steps : ℕ) (last : World)
-    (told rest : Option (List ℕ)) (all : Opened) (before after : Option (List ℕ)) (loaded : KeepsFiles stored first)
+module _ (words : List (List ℕ)) (stored first : StoreSeen) (old steps : ℕ) (last : World) (input behind : SourceSeen)
+    (all : Opened) (before after : SinkSeen) (loaded : KeepsFiles stored first)
     (within : steps ≤ old + opening_cost all) (comes : ComesTo words stored.files (opened all)) where
   abbrev beginning : World
   beginning = start_with all first steps
 
-  abbrev outside : Outside
-  outside = record { store = stored; input = told; output = before; steps = old }
+  abbrev began : Outside
+  began = outside stored input before old
 
-  abbrev behind : Outside
-  behind = record { store = last.store; input = rest; output = after; steps = last.steps }
+  abbrev ended : Outside
+  ended = outside last.store behind after last.steps
 
-  cut_run : IsCutOff beginning last told before after ⊎ IsClosedInPart rises.input_faults beginning last told rest
-      before after → IsCutShort rises words outside behind
+  abbrev input_rose : Type 0
+  input_rose = Rose input.faults behind.faults
+
+  cut_run : IsCutOff beginning last input.left before.written after.written
+      ⊎ IsClosedInPart input_rose beginning last input.left behind.left before.written after.written
+      → IsCutShort words began ended
   cut_run (inl c) =
       record {
         outcome = opened all;
         done = c.done;
         part = c.reply;
         comes = comes;
-        being = (c.script, first, steps, last, loaded, within, c.tells, refl, refl, inl c.behind);
+        being = record {
+          script = c.script;
+          first = first;
+          steps = steps;
+          last = last;
+          loaded = loaded;
+          begun = within;
+          tells = c.tells;
+          stored = refl;
+          counted = refl;
+          being = inl c.behind;
+        };
         cut = c.part;
       }
   cut_run (inr c) =
@@ -205,83 +225,95 @@ module _ (rises : Rises) (words : List (List ℕ)) (stored first : Stored) (old 
         done = c.played.replies;
         part = own_line c.status;
         comes = comes;
-        being = (
-          c.played.script,
-          first,
-          steps,
-          last,
-          loaded,
-          within,
-          c.played.tells,
-          refl,
-          refl,
-          inr (c.status, c.played.marks, c.played.played, refl, c.caused),
-        );
-        cut = subst (λ b. AppendsPart (own_line c.status) b after) c.played.written c.part;
+        being = record {
+          script = c.played.script;
+          first = first;
+          steps = steps;
+          last = last;
+          loaded = loaded;
+          begun = within;
+          tells = c.played.tells;
+          stored = refl;
+          counted = refl;
+          being = inr (record {
+            status = c.status;
+            marks = c.played.marks;
+            played = c.played.played;
+            own = refl;
+            caused = c.caused;
+          });
+        };
+        cut = subst (λ b. AppendsPart (own_line c.status) b after.written) c.played.written c.part;
       }
 
-  pub opened_run : (status : Status) → IsServed rises.input_faults status beginning last told rest before after
-      → IsRun rises words status outside behind
+  pub opened_run : (status : Status)
+      → IsServed input_rose status beginning last input.left behind.left before.written after.written
+      → IsRun words status began ended
   opened_run status s =
-      run_of rises words status outside behind
-      (λ n. let c = served_closed rises.input_faults status beginning last told rest before after n s in
+      run_of words status began ended
+      (λ n. let c = served_closed input_rose status beginning last input.left behind.left before.written
+      after.written n s in
       record {
         outcome = opened all;
         marks = c.marks;
         text = c.replies ++ own_line status;
         comes = comes;
-        caused =
-            tt;
-        whole = (c.script, c.replies, first, steps, last, loaded, within, c.tells, c.played, refl, refl, refl);
+        caused = tt;
+        whole = record {
+          script = c.script;
+          replies = c.replies;
+          first = first;
+          steps = steps;
+          last = last;
+          loaded = loaded;
+          begun = within;
+          tells = c.tells;
+          played = c.played;
+          stored = refl;
+          counted = refl;
+          written = refl;
+        };
         written = c.written;
       })
-      (λ e. cut_run (subst (λ st. IsServed rises.input_faults st beginning last told rest before after) e s))
+      (λ e. cut_run
+      (subst (λ st. IsServed input_rose st beginning last input.left behind.left before.written after.written) e s))
 
 -- the same, or memory ran out before its session began
-module _ (rises : Rises) (words : List (List ℕ)) (stored first : Stored) (files : Option Files) (faults old mid new : ℕ)
-    (told rest : Option (List ℕ)) (all : Opened) (status : Status) (before after : Option (List ℕ))
-    (loaded : KeepsFiles stored first) (within : mid ≤ old + nodes_in all.buffers)
-    (comes : ComesTo words stored.files (opened all)) where
-  abbrev later : Stored
-  later = record { files = files; faults = faults }
+module _ (words : List (List ℕ)) (stored first later : StoreSeen) (old mid new : ℕ) (input behind : SourceSeen)
+    (all : Opened) (status : Status) (before after : SinkSeen) (loaded : KeepsFiles stored first)
+    (within : mid ≤ old + nodes_in all.buffers) (comes : ComesTo words stored.files (opened all)) where
+  abbrev IsThis : StoreSeen → SourceSeen → Type 0
+  IsThis store source = IsRun words status (outside stored input before old) (outside store source after new)
 
-  abbrev IsThis : Stored → Option (List ℕ) → Type 0
-  IsThis store input =
-      IsRun rises words status (record { store = stored; input = told; output = before; steps = old })
-      (record { store = store; input = input; output = after; steps = new })
-
-  pub whole_run : ((later ≡ first) × (rest ≡ told) × IsLine no_memory status before after)
+  pub whole_run : ((later ≡ first) × (behind ≡ input) × IsLine no_memory status before.written after.written)
       ⊎ ((begun : ℕ) × (last : Whole) × (begun ≤ mid + made all.buffers)
-      × IsServed rises.input_faults status (start_with all first begun) (world last files faults new) told rest before
-      after) → IsThis later rest
+      × IsServed (Rose input.faults behind.faults) status (start_with all first begun) (world last later new) input.left
+      behind.left before.written after.written) → IsThis later behind
   whole_run (inl l) =
-      subst (λ s. IsThis s rest) (sym l.0)
+      subst (λ s. IsThis s behind) (sym l.0)
       (subst (λ r. IsThis first r) (sym l.1)
-      (line_run rises words stored first old new told no_memory status before after loaded tt
+      (line_run words stored first old new input no_memory status before after loaded tt
       (λ all. ((λ e. cc), (λ e. cc))) tt l.2.done l.2.cut))
   whole_run (inr s) =
-      opened_run rises words stored first old s.0 (world s.1 files faults new) told rest all before after loaded
+      opened_run words stored first old s.0 (world s.1 later new) input behind all before after loaded
       (omega (arith, within, s.2)) comes status s.3
 
 -- the line that says why nothing was opened
-module _ (rises : Rises) (words : List (List ℕ)) (stored later : Stored) (old new : ℕ) (o : Outcome) (status : Status)
-    (before after : Option (List ℕ)) (loaded : KeepsFiles stored later)
-    (caused : IsCaused rises.misses rises.longs rises.store_faults o) (u : IsUnopened o)
-    (comes : ComesTo words stored.files o) (line : IsLine o status before after ⊎ IsLine no_memory status before after)
-  where
-    pub reported_run : (told : Option (List ℕ))
-        → IsRun rises words status (record { store = stored; input = told; output = before; steps = old })
-        (record { store = later; input = told; output = after; steps = new })
-    reported_run told =
-        elim line [
-          | inl l ↦ line_run rises words stored later old new told o status before after loaded caused u comes l.done
-              l.cut
-          | inr l ↦ line_run rises words stored later old new told no_memory status before after loaded tt
-              (λ all. ((λ e. cc), (λ e. cc))) tt l.done l.cut
-        ]
+module _ (words : List (List ℕ)) (stored later : StoreSeen) (old new : ℕ) (o : Outcome) (status : Status)
+    (before after : SinkSeen) (loaded : KeepsFiles stored later) (caused : IsCaused stored later o) (u : IsUnopened o)
+    (comes : ComesTo words stored.files o)
+    (line : IsLine o status before.written after.written ⊎ IsLine no_memory status before.written after.written) where
+  pub reported_run : (input : SourceSeen)
+      → IsRun words status (outside stored input before old) (outside later input after new)
+  reported_run input =
+      elim line [
+        | inl l ↦ line_run words stored later old new input o status before after loaded caused u comes l.done l.cut
+        | inr l ↦ line_run words stored later old new input no_memory status before after loaded tt
+            (λ all. ((λ e. cc), (λ e. cc))) tt l.done l.cut
+      ]
 
-    pub reported_status : status ≢ statuses.OutputFault → (status ≡ status_of o) ⊎ (status ≡ statuses.NoMemory)
-    reported_status m = elim line [ inl l ↦ inl (l.done m).0 | inr l ↦ inr (l.done m).0 ]
+  pub reported_status : status ≢ statuses.OutputFault → (status ≡ status_of o) ⊎ (status ≡ statuses.NoMemory)
+  reported_status m = elim line [ inl l ↦ inl (l.done m).0 | inr l ↦ inr (l.done m).0 ]
 
 -- what became of the words, and why
 unopened : (r : Opening) → ((all : Opened) → r ≡ openings.Opened all → ⊥)
@@ -332,10 +364,10 @@ early_status no_memory = ((λ e. cc), (λ e. cc), (λ e. cc))
 early_status (opened all) = ((λ e. cc), (λ e. cc), (λ e. cc))
 early_status (generated all) = ((λ e. cc), (λ e. cc), (λ e. cc))
 
-refused_of : (words : List (List ℕ)) (files : Option Files) (o : Outcome) (long : Type 0) (h : EndsOf words files o)
-    → (long ⊎ ((bytes : List ℕ) × Holds files h.ends.file.word bytes × SpellsNoTree (form_of h.ends.file.word) bytes))
-    → IsRefused words files long
-refused_of words files o long h why =
+refused_of : (words : List (List ℕ)) (old new : StoreSeen) (o : Outcome) (h : EndsOf words old.files o)
+    → (Rose old.longs new.longs ⊎ ((bytes : List ℕ) × Holds old.files h.ends.file.word bytes
+    × SpellsNoTree (form_of h.ends.file.word) bytes)) → IsRefused words old new
+refused_of words old new o h why =
     let ends = h.ends in
     record {
       width = h.width;
@@ -349,19 +381,19 @@ refused_of words files o long h why =
       refused = why;
     }
 
-refused_outcome : (words : List (List ℕ)) (files : Option Files) (o : Outcome) (long : Type 0) → ComesTo words files o
-    → ((word : List ℕ) → o ≡ too_long word → long) → status_of o ≡ statuses.Refused → IsRefused words files long
-refused_outcome words files (too_long f) long h l e = refused_of words files (too_long f) long h (inl (l f refl))
-refused_outcome words files (no_tree f c) long h l e =
+refused_outcome : (words : List (List ℕ)) (old new : StoreSeen) (o : Outcome) → ComesTo words old.files o
+    → IsCaused old new o → status_of o ≡ statuses.Refused → IsRefused words old new
+refused_outcome words old new (too_long f) h c e = refused_of words old new (too_long f) h (inl c)
+refused_outcome words old new (no_tree f fault) h c e =
     let why = h.ends.ends.1 in
-    refused_of words files (no_tree f c) long h
-    (inr (why.bytes, why.held, λ t w k. no_fault (form_of h.ends.file.word) why.bytes c t why.misspelled k w))
-refused_outcome words files faulty_words long h l e = cc
-refused_outcome words files (missing f) long h l e = cc
-refused_outcome words files (store_fault f) long h l e = cc
-refused_outcome words files no_memory long h l e = cc
-refused_outcome words files (opened all) long h l e = cc
-refused_outcome words files (generated all) long h l e = cc
+    refused_of words old new (no_tree f fault) h
+    (inr (why.bytes, why.held, λ t w k. no_fault (form_of h.ends.file.word) why.bytes fault t why.misspelled k w))
+refused_outcome words old new faulty_words h c e = cc
+refused_outcome words old new (missing f) h c e = cc
+refused_outcome words old new (store_fault f) h c e = cc
+refused_outcome words old new no_memory h c e = cc
+refused_outcome words old new (opened all) h c e = cc
+refused_outcome words old new (generated all) h c e = cc
 
 -- a served session, by its status
 unread_told : (told : Option (List ℕ)) (script : List ℕ) → Tells told script → (CanBeRead script → ⊥)
@@ -379,7 +411,7 @@ served_long failed status start last told rest before after s e =
         → IsServed failed statuses.ScriptLong start last told rest before after → IfSome told (λ s. ¬ CanBeRead s)
     long failed told rest c =
         unread_told told c.script c.tells
-        (long_unread c.script start last c.played.0 c.marks c.replies c.played.1 c.played.2 c.played.3)
+        (long_unread c.script start last c.played.lines c.marks c.replies c.played.are c.played.long c.played.answered)
 
 some_unread : (told : Option (List ℕ)) (script : List ℕ) → told ≡ Some script → IfSome told (λ s. ¬ CanBeRead s)
     → CanBeRead script → ⊥
@@ -402,10 +434,10 @@ served_complete failed statuses.Missing start last told rest before after script
 served_complete failed statuses.Refused start last told rest before after script s e can i o = absurd s.played
 served_complete failed statuses.StoreFault start last told rest before after script s e can i o = absurd s.played
 
-module _ (misses longs faults : Type 0) where
-  pub caused_of : (o : Outcome) → ((word : List ℕ) → o ≡ missing word → misses)
-      → ((word : List ℕ) → o ≡ too_long word → longs) → ((word : List ℕ) → o ≡ store_fault word → faults)
-      → IsCaused misses longs faults o
+module _ (old new : StoreSeen) where
+  pub caused_of : (o : Outcome) → ((word : List ℕ) → o ≡ missing word → Rose old.misses new.misses)
+      → ((word : List ℕ) → o ≡ too_long word → Rose old.longs new.longs)
+      → ((word : List ℕ) → o ≡ store_fault word → Rose old.faults new.faults) → IsCaused old new o
   caused_of faulty_words m l f = tt
   caused_of (missing word) m l f = m word refl
   caused_of (too_long word) m l f = l word refl
@@ -415,7 +447,7 @@ module _ (misses longs faults : Type 0) where
   caused_of (opened all) m l f = tt
   caused_of (generated all) m l f = tt
 
-  missed : (o : Outcome) → IsCaused misses longs faults o → status_of o ≡ statuses.Missing → misses
+  missed : (o : Outcome) → IsCaused old new o → status_of o ≡ statuses.Missing → Rose old.misses new.misses
   missed faulty_words c e = cc
   missed (missing word) c e = c
   missed (too_long word) c e = cc
@@ -425,7 +457,7 @@ module _ (misses longs faults : Type 0) where
   missed (opened all) c e = cc
   missed (generated all) c e = cc
 
-  failed_store : (o : Outcome) → IsCaused misses longs faults o → status_of o ≡ statuses.StoreFault → faults
+  failed_store : (o : Outcome) → IsCaused old new o → status_of o ≡ statuses.StoreFault → Rose old.faults new.faults
   failed_store faulty_words c e = cc
   failed_store (missing word) c e = cc
   failed_store (too_long word) c e = cc
@@ -435,16 +467,12 @@ module _ (misses longs faults : Type 0) where
   failed_store (opened all) c e = cc
   failed_store (generated all) c e = cc
 
-  long_file : (o : Outcome) → IsCaused misses longs faults o → (word : List ℕ) → o ≡ too_long word → longs
-  long_file o c word e = subst (IsCaused misses longs faults) e c
-
 -- what became of the words where nothing was opened
-pub record Unopened (words : List (List ℕ)) (files : Option Files) (r : Opening) (status : Status)
-    (misses longs faults : Type 0) : Type 0 where
+pub record Unopened (words : List (List ℕ)) (old new : StoreSeen) (r : Opening) (status : Status) : Type 0 where
   pub not_words : status ≡ statuses.Words → ⊥
-  pub missing_counted : status ≡ statuses.Missing → misses
-  pub refused : status ≡ statuses.Refused → IsRefused words files longs
-  pub fault_counted : status ≡ statuses.StoreFault → faults
+  pub missing_counted : status ≡ statuses.Missing → Rose old.misses new.misses
+  pub refused : status ≡ statuses.Refused → IsRefused words old new
+  pub fault_counted : status ≡ statuses.StoreFault → Rose old.faults new.faults
   pub not_input : status ≡ statuses.InputFault → ⊥
   pub not_long : status ≡ statuses.ScriptLong → ⊥
   pub words_only : AreFaulty words
@@ -480,26 +508,22 @@ nothing_asked words files no_memory h u n faulty = refl
 nothing_asked words files (opened all) h u n faulty = absurd ((u all).0 refl)
 nothing_asked words files (generated all) h u n faulty = absurd ((u all).1 refl)
 
-module _ (words : List (List ℕ)) (stored later : Stored) (old new : ℕ) (r : Opening) (status : Status)
-    (before after : Option (List ℕ)) (misses longs faults failed : Type 0) (loaded : KeepsFiles stored later)
-    (comes : ComesTo words stored.files (outcome_of r)) (caused : IsCaused misses longs faults (outcome_of r))
-    (n : r ≢ openings.FaultyWords) (u : (all : Opened) → r ≡ openings.Opened all → ⊥)
-    (m : (all : Opened) → r ≡ openings.Generated all → ⊥)
-    (line : IsLine (outcome_of r) status before after ⊎ IsLine no_memory status before after) where
-  abbrev rises : Rises
-  rises = record { misses = misses; longs = longs; store_faults = faults; input_faults = failed }
-
-  pub unopened_run : (told : Option (List ℕ))
-      → IsRun rises words status (record { store = stored; input = told; output = before; steps = old })
-      (record { store = later; input = told; output = after; steps = new })
-  unopened_run told =
-      reported_run rises words stored later old new (outcome_of r) status before after loaded caused (unopened r u m)
-      comes line told
+module _ (words : List (List ℕ)) (stored later : StoreSeen) (old new : ℕ) (r : Opening) (status : Status)
+    (before after : SinkSeen) (loaded : KeepsFiles stored later) (comes : ComesTo words stored.files (outcome_of r))
+    (caused : IsCaused stored later (outcome_of r)) (n : r ≢ openings.FaultyWords)
+    (u : (all : Opened) → r ≡ openings.Opened all → ⊥) (m : (all : Opened) → r ≡ openings.Generated all → ⊥)
+    (line : IsLine (outcome_of r) status before.written after.written
+    ⊎ IsLine no_memory status before.written after.written) where
+  pub unopened_run : (input : SourceSeen)
+      → IsRun words status (outside stored input before old) (outside later input after new)
+  unopened_run input =
+      reported_run words stored later old new (outcome_of r) status before after loaded caused (unopened r u m) comes
+      line input
 
   fits : status ≢ statuses.OutputFault → Fits (outcome_of r) status
   fits d =
-      reported_status rises words stored later old new (outcome_of r) status before after loaded caused (unopened r u m)
-      comes line d
+      reported_status words stored later old new (outcome_of r) status before after loaded caused (unopened r u m) comes
+      line d
 
   by_outcome : (s : Status) → status ≡ s → s ≢ statuses.OutputFault → s ≢ statuses.NoMemory
       → status_of (outcome_of r) ≡ s
@@ -523,16 +547,15 @@ module _ (words : List (List ℕ)) (stored later : Stored) (old new : ℕ) (r : 
       → status ≡ statuses.NoMemory
   wanting e d = elim (fits d) [ inl is ↦ is ∙ e | inr is ↦ is ]
 
-  pub unopened_causes : Unopened words stored.files r status misses longs faults
+  pub unopened_causes : Unopened words stored later r status
   unopened_causes =
       record {
         not_words = λ e. words_status (outcome_of r) (worded r n) (by_outcome statuses.Words e (λ d. cc) (λ d. cc));
-        missing_counted = λ e. missed misses longs faults (outcome_of r) caused
+        missing_counted = λ e. missed stored later (outcome_of r) caused
             (by_outcome statuses.Missing e (λ d. cc) (λ d. cc));
-        refused = λ e. refused_outcome words stored.files (outcome_of r) longs comes
-            (long_file misses longs faults (outcome_of r) caused)
+        refused = λ e. refused_outcome words stored later (outcome_of r) comes caused
             (by_outcome statuses.Refused e (λ d. cc) (λ d. cc));
-        fault_counted = λ e. failed_store misses longs faults (outcome_of r) caused
+        fault_counted = λ e. failed_store stored later (outcome_of r) caused
             (by_outcome statuses.StoreFault e (λ d. cc) (λ d. cc));
         not_input = λ e. (early_status (outcome_of r)).0 (by_outcome statuses.InputFault e (λ d. cc) (λ d. cc));
         not_long = λ e. (early_status (outcome_of r)).1 (by_outcome statuses.ScriptLong e (λ d. cc) (λ d. cc));

@@ -3,14 +3,15 @@ use Rattle.std.proofs.Common.{◌≡◌, ℕ, ◌+◌, ◌-◌, ◌^◌, ◌≤�
 use Rattle.std.proofs.Common.{sym, subst, arith}
 use Rattle.tx_outside.specs.Counts.{NeverFalls, Rose}
 use Rattle.tx_outside.proofs.Counting.{never_falls_refl, never_falls_then}
+use Rattle.tx_outside.specs.Outside.{StoreSeen}
 use Rattle.tx_session.specs.Replies.{Reading, nothing, too_long, unread, command, faulty, IsReply, IsReplyTo}
 use Rattle.tx_session.specs.declared.status.Status.{Status}
 use Rattle.tx_session.specs.declared.status.Status.TheVariants as statuses
 use Rattle.tx_open.specs.Outcomes.{Outcome, faulty_words, missing, too_long as file_too_long, no_tree, store_fault}
 use Rattle.tx_open.specs.Outcomes.{no_memory, opened, generated}
-use Rattle.tx_session.specs.Runs.{IsPlayed, IsPlayedAlone, IsWhole, start_with, generated_script, no_files}
+use Rattle.tx_session.specs.Runs.{IsPlayed, IsPlayedAlone, IsWhole, Outside, start_with, generated_script, no_files}
 use Rattle.tx_session.specs.Scripts.{Answered, before_quit}
-use Rattle.tx_session.specs.Worlds.{SeenWorld, World, seen_in, Stored, Mark, plain, lacking, unsaved, told}
+use Rattle.tx_session.specs.Worlds.{SeenWorld, World, seen_in, Mark, plain, lacking, unsaved, told}
 use Rattle.tx_session.specs.Worlds.{Stores, RoseBy, unsaved_in}
 use Rattle.tx_cmd.specs.declared.command.Command.{Command}
 
@@ -22,18 +23,18 @@ Counts mark before after = NeverFalls before after
 same_count : (a b : World) → b ≡ a → NeverFalls a.store.faults b.store.faults
 same_count a b e = subst (λ w. NeverFalls a.store.faults w.store.faults) (sym e) (never_falls_refl a.store.faults)
 
-same_store : (a b : Stored) → b ≡ a → NeverFalls a.faults b.faults
+same_store : (a b : StoreSeen) → b ≡ a → NeverFalls a.faults b.faults
 same_store a b e = subst (λ s. NeverFalls a.faults s.faults) (sym e) (never_falls_refl a.faults)
 
-stores_count : (o : Option (List ℕ × List ℕ)) (a b : Stored) → Stores o a b → NeverFalls a.faults b.faults
+stores_count : (o : Option (List ℕ × List ℕ)) (a b : StoreSeen) → Stores o a b → NeverFalls a.faults b.faults
 stores_count None a b e = subst (λ s. NeverFalls a.faults s.faults) (sym e) (never_falls_refl a.faults)
-stores_count (Some file) a b h = h.1
+stores_count (Some file) a b h = h.1.faults
 
 reply_count : (a b : SeenWorld) (it : Command) (mark : Mark) (reply : List ℕ) → IsReply a it mark b reply
     → Counts mark a.store.faults b.store.faults
 reply_count a b it plain reply h = stores_count _ a.store b.store h.stored
-reply_count a b it lacking reply h = h.2.1
-reply_count a b it unsaved reply h = (h.4.1, h.4.2)
+reply_count a b it lacking reply h = h.2.1.faults
+reply_count a b it unsaved reply h = (h.4.1, h.4.2.faults)
 reply_count a b it (told n) reply h =
     subst (λ s. NeverFalls a.store.faults s.faults) (sym h.stored) (never_falls_refl a.store.faults)
 
@@ -104,17 +105,17 @@ failures_counted a b (l ∷ lines) (m ∷ marks) text h =
 
 played_counted : (v x : World) (script : List ℕ) (marks : List Mark) (r : Option (List ℕ)) (s : Status) (a : List ℕ)
     → IsPlayed v script marks r s x a → RoseBy (unsaved_in marks) v.store.faults x.store.faults
-played_counted v x script marks r statuses.Ok a h = failures_counted v x (before_quit h.0) marks a h.3
-played_counted v x script marks r statuses.ScriptLong a h = failures_counted v x h.0 marks a h.3
-played_counted v x script marks r statuses.InputFault a h = failures_counted v x h.1 marks a h.7
-played_counted v x script marks r statuses.NoMemory a h = failures_counted v x h.3 marks a h.10
+played_counted v x script marks r statuses.Ok a h = failures_counted v x (before_quit h.lines) marks a h.answered
+played_counted v x script marks r statuses.ScriptLong a h = failures_counted v x h.lines marks a h.answered
+played_counted v x script marks r statuses.InputFault a h = failures_counted v x h.ended marks a h.answered
+played_counted v x script marks r statuses.NoMemory a h = failures_counted v x h.ended marks a h.answered
 played_counted v x script marks r statuses.Words a h = absurd h
 played_counted v x script marks r statuses.Missing a h = absurd h
 played_counted v x script marks r statuses.Refused a h = absurd h
 played_counted v x script marks r statuses.StoreFault a h = absurd h
 played_counted v x script marks r statuses.OutputFault a h = absurd h
 
-unopened_counted : (v x : Stored) (marks : List Mark) → marks ≡ [] → NeverFalls v.faults x.faults
+unopened_counted : (v x : StoreSeen) (marks : List Mark) → marks ≡ [] → NeverFalls v.faults x.faults
     → RoseBy (unsaved_in marks) v.faults x.faults
 unopened_counted v x marks e never =
     subst (λ ms. RoseBy (unsaved_in ms) v.faults x.faults) (sym e) (inl (omega (arith, never.kept)))
@@ -123,26 +124,25 @@ none_counted : (n a : ℕ) → RoseBy n 0 0 → n + a ≤ a
 none_counted n a (inl le) = omega (arith, le)
 none_counted n a (inr e) = absurd (omega (arith, e))
 
-pub whole_counted : (o : Outcome) (v x : Stored) (old new : ℕ) (input r : Option (List ℕ)) (marks : List Mark)
-    (s : Status) (a : List ℕ) → IsWhole o v x old new input marks r s a
-    → RoseBy (unsaved_in marks) v.faults x.faults
-whole_counted (opened all) v x old new input r marks s a h =
-    let first : World = start_with all h.2 h.3 in
-    let played : RoseBy (unsaved_in marks) h.2.faults h.4.store.faults =
-    played_counted first h.4 h.0 marks r s h.1 h.8 in
-    subst (λ z. RoseBy (unsaved_in marks) v.faults z.faults) h.9
-    (no_more (unsaved_in marks) v.faults h.2.faults h.4.store.faults h.5.1 played)
-whole_counted (generated all) v x old new input r marks s a h =
-    let p : IsPlayedAlone all old new marks s h.0 = h.1 in
+pub whole_counted : (o : Outcome) (v x : Outside) (marks : List Mark) (s : Status) (a : List ℕ)
+    → IsWhole o v x marks s a → RoseBy (unsaved_in marks) v.store.faults x.store.faults
+whole_counted (opened all) v x marks s a h =
+    let first : World = start_with all h.first h.steps in
+    let played : RoseBy (unsaved_in marks) h.first.faults h.last.store.faults =
+    played_counted first h.last h.script marks x.input.left s h.replies h.played in
+    subst (λ z. RoseBy (unsaved_in marks) v.store.faults z.faults) h.stored
+    (no_more (unsaved_in marks) v.store.faults h.first.faults h.last.store.faults h.loaded.1.faults played)
+whole_counted (generated all) v x marks s a h =
+    let p : IsPlayedAlone all v.steps x.steps marks s h.replies = h.played in
     let played : RoseBy (unsaved_in marks) 0 p.last.store.faults =
-    played_counted (start_with all no_files p.steps) p.last generated_script marks (Some p.left) s h.0 p.played in
+    played_counted (start_with all no_files p.steps) p.last generated_script marks (Some p.left) s h.replies p.played in
     let none : RoseBy (unsaved_in marks) 0 0 =
-    subst (λ (z : Stored). RoseBy (unsaved_in marks) 0 z.faults) p.kept played in
-    subst (λ (z : Stored). RoseBy (unsaved_in marks) v.faults z.faults) (sym h.4)
-    (inl (none_counted (unsaved_in marks) v.faults none))
-whole_counted faulty_words v x old new input r marks s a h = unopened_counted v x marks h.0 h.4.1
-whole_counted (missing f) v x old new input r marks s a h = unopened_counted v x marks h.0 h.4.1
-whole_counted (file_too_long f) v x old new input r marks s a h = unopened_counted v x marks h.0 h.4.1
-whole_counted (no_tree f c) v x old new input r marks s a h = unopened_counted v x marks h.0 h.4.1
-whole_counted (store_fault f) v x old new input r marks s a h = unopened_counted v x marks h.0 h.4.1
-whole_counted no_memory v x old new input r marks s a h = unopened_counted v x marks h.0 h.4.1
+    subst (λ (z : StoreSeen). RoseBy (unsaved_in marks) 0 z.faults) p.kept played in
+    subst (λ (z : StoreSeen). RoseBy (unsaved_in marks) v.store.faults z.faults) (sym h.stored)
+    (inl (none_counted (unsaved_in marks) v.store.faults none))
+whole_counted faulty_words v x marks s a h = unopened_counted v.store x.store marks h.unmarked h.kept.1.faults
+whole_counted (missing f) v x marks s a h = unopened_counted v.store x.store marks h.unmarked h.kept.1.faults
+whole_counted (file_too_long f) v x marks s a h = unopened_counted v.store x.store marks h.unmarked h.kept.1.faults
+whole_counted (no_tree f c) v x marks s a h = unopened_counted v.store x.store marks h.unmarked h.kept.1.faults
+whole_counted (store_fault f) v x marks s a h = unopened_counted v.store x.store marks h.unmarked h.kept.1.faults
+whole_counted no_memory v x marks s a h = unopened_counted v.store x.store marks h.unmarked h.kept.1.faults

@@ -7,14 +7,14 @@ use Rattle.tx_cmd.proofs.Once.{one_command, one_cause, no_cause}
 use Rattle.tx_session.specs.declared.status.Status.{Status}
 use Rattle.tx_session.specs.declared.status.Status.TheVariants as statuses
 use Rattle.tx_session.specs.States.{IsAnswer}
-use Rattle.tx_session.specs.Worlds.{Seen, SeenWorld, World, seen_in, Stored, Mark, plain, lacking, unsaved, told}
+use Rattle.tx_session.specs.Worlds.{Seen, SeenWorld, World, seen_in, Mark, plain, lacking, unsaved, told}
 use Rattle.tx_session.specs.Replies.{fresh_after, Reading, nothing, too_long, unread, command, faulty, wanting_reply}
 use Rattle.tx_session.specs.Replies.{IsRead, IsReply, IsReplyTo, IsRefusal, IsLineReply}
 use Rattle.tx_session.specs.Scripts.{Answered, before_quit, command_line}
 use Rattle.tx_open.specs.Outcomes.{Outcome, faulty_words, missing, too_long as file_too_long, no_tree, store_fault}
 use Rattle.tx_open.specs.Outcomes.{no_memory, opened, generated, ComesTo, IsDecided}
 use Rattle.tx_session.specs.Runs.{IsWhole, IsPlayed, IsPlayedAlone, IsFinal, own_line, start_with, generated_script}
-use Rattle.tx_session.specs.Runs.{no_files}
+use Rattle.tx_session.specs.Runs.{Outside, Tells, no_files}
 use Rattle.tx_session.proofs.Answering.{OneView, one_answer}
 use Rattle.tx_session.proofs.Turning.{same_seen}
 use Rattle.tx_session.proofs.Lining.{script_lines_once, long_unread}
@@ -149,18 +149,21 @@ played_once : (law : OneView) (v w x y : World) (script : List ℕ) (marks : Lis
     (a b : List ℕ) → seen_of v ≡ seen_of w → IsFinal s → IsFinal t → IsPlayed v script marks r s x a
     → IsPlayed w script marks q t y b → (s ≡ t) × (a ≡ b)
 played_once law v w x y script marks r q statuses.Ok statuses.Ok a b e f g h k =
-    let same = script_lines_once script k.0 h.0 k.1 h.1 in (
+    let same = script_lines_once script k.lines h.lines k.are h.are in (
       refl,
-      (answered_once law v w x y (before_quit h.0) marks a b e h.3
-          (subst (λ ls. Answered w (before_quit ls) marks y b) same k.3)).1,
+      (answered_once law v w x y (before_quit h.lines) marks a b e h.answered
+          (subst (λ ls. Answered w (before_quit ls) marks y b) same k.answered)).1,
     )
 played_once law v w x y script marks r q statuses.ScriptLong statuses.ScriptLong a b e f g h k =
-    let same = script_lines_once script k.0 h.0 k.1 h.1 in
-    (refl, (answered_once law v w x y h.0 marks a b e h.3 (subst (λ ls. Answered w ls marks y b) same k.3)).1)
+    let same = script_lines_once script k.lines h.lines k.are h.are in (
+      refl,
+      (answered_once law v w x y h.lines marks a b e h.answered
+          (subst (λ ls. Answered w ls marks y b) same k.answered)).1,
+    )
 played_once law v w x y script marks r q statuses.Ok statuses.ScriptLong a b e f g h k =
-    absurd (long_unread script w y k.0 marks b k.1 k.2 k.3 h.2)
+    absurd (long_unread script w y k.lines marks b k.are k.long k.answered h.readable)
 played_once law v w x y script marks r q statuses.ScriptLong statuses.Ok a b e f g h k =
-    absurd (long_unread script v x h.0 marks a h.1 h.2 h.3 k.2)
+    absurd (long_unread script v x h.lines marks a h.are h.long h.answered k.readable)
 played_once law v w x y script marks r q statuses.Words t a b e f g h k = absurd h
 played_once law v w x y script marks r q statuses.Missing t a b e f g h k = absurd h
 played_once law v w x y script marks r q statuses.Refused t a b e f g h k = absurd h
@@ -184,48 +187,53 @@ played_once law v w x y script marks r q statuses.ScriptLong statuses.OutputFaul
 played_once law v w x y script marks r q statuses.ScriptLong statuses.NoMemory a b e f g h k = absurd g
 
 -- a run that ends with a final status had no fault of the store and no want of memory at opening
-pub decided : (o : Outcome) (before after : Stored) (old new : ℕ) (input r : Option (List ℕ)) (marks : List Mark)
-    (s : Status) (a : List ℕ) → IsFinal s → IsWhole o before after old new input marks r s a → IsDecided o
-decided (store_fault f) before after old new input r marks s a fin w = absurd (subst IsFinal w.1 fin)
-decided no_memory before after old new input r marks s a fin w = absurd (subst IsFinal w.1 fin)
-decided faulty_words before after old new input r marks s a fin w = tt
-decided (missing f) before after old new input r marks s a fin w = tt
-decided (file_too_long f) before after old new input r marks s a fin w = tt
-decided (no_tree f c) before after old new input r marks s a fin w = tt
-decided (opened all) before after old new input r marks s a fin w = tt
-decided (generated all) before after old new input r marks s a fin w = tt
+pub decided : (o : Outcome) (before after : Outside) (marks : List Mark) (s : Status) (a : List ℕ) → IsFinal s
+    → IsWhole o before after marks s a → IsDecided o
+decided (store_fault f) before after marks s a fin w = absurd (subst IsFinal w.ended fin)
+decided no_memory before after marks s a fin w = absurd (subst IsFinal w.ended fin)
+decided faulty_words before after marks s a fin w = tt
+decided (missing f) before after marks s a fin w = tt
+decided (file_too_long f) before after marks s a fin w = tt
+decided (no_tree f c) before after marks s a fin w = tt
+decided (opened all) before after marks s a fin w = tt
+decided (generated all) before after marks s a fin w = tt
 
-module _ (law : OneView) (v w x y : Stored) (i j k l : ℕ) (script : List ℕ) (marks : List Mark)
-    (r q : Option (List ℕ)) (s t : Status) (a b : List ℕ) (fs : IsFinal s) (ft : IsFinal t) where
-  same_whole : (o : Outcome) → IsWhole o v x i k (Some script) marks r s a → IsWhole o w y j l (Some script) marks q t b
-      → (s ≡ t) × (a ≡ b)
+-- the script that the input told
+pub told_script : (input : Option (List ℕ)) (script other : List ℕ) → input ≡ Some script → Tells input other
+    → other ≡ script
+told_script input script other e tells = sym (subst (λ i. Tells i other) e tells)
+
+module _ (law : OneView) (v w x y : Outside) (script : List ℕ) (ev : v.input.left ≡ Some script)
+    (ew : w.input.left ≡ Some script) (marks : List Mark) (s t : Status) (a b : List ℕ) (fs : IsFinal s)
+    (ft : IsFinal t) where
+  same_whole : (o : Outcome) → IsWhole o v x marks s a → IsWhole o w y marks t b → (s ≡ t) × (a ≡ b)
   same_whole (opened all) g h =
-      let first : World = start_with all g.2 g.3 in
-      let other : World = start_with all h.2 h.3 in
-      let same = played_once law first other g.4 h.4 script marks r q s t g.1 h.1 refl fs ft
-      (subst (λ z. IsPlayed first z marks r s g.4 g.1) (sym g.7) g.8)
-      (subst (λ z. IsPlayed other z marks q t h.4 h.1) (sym h.7) h.8) in
-      (same.0, g.11 ∙ (λ n. same.1 n ++ own_line (same.0 n)) ∙ sym h.11)
+      let first : World = start_with all g.first g.steps in
+      let other : World = start_with all h.first h.steps in
+      let same = played_once law first other g.last h.last script marks x.input.left y.input.left s t g.replies
+      h.replies refl fs ft
+      (subst (λ z. IsPlayed first z marks x.input.left s g.last g.replies)
+      (told_script v.input.left script g.script ev g.tells) g.played)
+      (subst (λ z. IsPlayed other z marks y.input.left t h.last h.replies)
+      (told_script w.input.left script h.script ew h.tells) h.played) in
+      (same.0, g.written ∙ (λ n. same.1 n ++ own_line (same.0 n)) ∙ sym h.written)
   same_whole (generated all) g h =
-      let p : IsPlayedAlone all i k marks s g.0 = g.1 in
-      let m : IsPlayedAlone all j l marks t h.0 = h.1 in
+      let p : IsPlayedAlone all v.steps x.steps marks s g.replies = g.played in
+      let m : IsPlayedAlone all w.steps y.steps marks t h.replies = h.played in
       let same = played_once law (start_with all no_files p.steps) (start_with all no_files m.steps) p.last m.last
-      generated_script marks (Some p.left) (Some m.left) s t g.0 h.0 refl fs ft p.played m.played in
-      (same.0, g.2 ∙ (λ n. same.1 n ++ own_line (same.0 n)) ∙ sym h.2)
-  same_whole faulty_words g h = (g.1 ∙ sym h.1, g.2 ∙ sym h.2)
-  same_whole (missing f) g h = (g.1 ∙ sym h.1, g.2 ∙ sym h.2)
-  same_whole (file_too_long f) g h = (g.1 ∙ sym h.1, g.2 ∙ sym h.2)
-  same_whole (no_tree f c) g h = (g.1 ∙ sym h.1, g.2 ∙ sym h.2)
-  same_whole (store_fault f) g h = (g.1 ∙ sym h.1, g.2 ∙ sym h.2)
-  same_whole no_memory g h = (g.1 ∙ sym h.1, g.2 ∙ sym h.2)
+      generated_script marks (Some p.left) (Some m.left) s t g.replies h.replies refl fs ft p.played m.played in
+      (same.0, g.written ∙ (λ n. same.1 n ++ own_line (same.0 n)) ∙ sym h.written)
+  same_whole faulty_words g h = (g.ended ∙ sym h.ended, g.written ∙ sym h.written)
+  same_whole (missing f) g h = (g.ended ∙ sym h.ended, g.written ∙ sym h.written)
+  same_whole (file_too_long f) g h = (g.ended ∙ sym h.ended, g.written ∙ sym h.written)
+  same_whole (no_tree f c) g h = (g.ended ∙ sym h.ended, g.written ∙ sym h.written)
+  same_whole (store_fault f) g h = (g.ended ∙ sym h.ended, g.written ∙ sym h.written)
+  same_whole no_memory g h = (g.ended ∙ sym h.ended, g.written ∙ sym h.written)
 
 pub one_run : (law : OneView) (opens : OneOutcome) (words : List (List ℕ)) (all : Files) (script : List ℕ)
-    (marks : List Mark) (o p : Outcome) (v w x y : Stored) (i j k l : ℕ) (r q : Option (List ℕ)) (s t : Status)
-    (a b : List ℕ) → IsFinal s → IsFinal t
-    → ComesTo words (Some all) o → ComesTo words (Some all) p
-    → IsWhole o v x i k (Some script) marks r s a → IsWhole p w y j l (Some script) marks q t b → (s ≡ t) × (a ≡ b)
-one_run law opens words all script marks o p v w x y i j k l r q s t a b fs ft ho hp g h =
-    let same = opens words all p o hp ho (decided p w y j l (Some script) q marks t b ft h)
-    (decided o v x i k (Some script) r marks s a fs g) in
-    same_whole law v w x y i j k l script marks r q s t a b fs ft o g
-    (subst (λ z. IsWhole z w y j l (Some script) marks q t b) same h)
+    (marks : List Mark) (o p : Outcome) (v w x y : Outside) (s t : Status) (a b : List ℕ) → IsFinal s → IsFinal t
+    → v.input.left ≡ Some script → w.input.left ≡ Some script → ComesTo words (Some all) o → ComesTo words (Some all) p
+    → IsWhole o v x marks s a → IsWhole p w y marks t b → (s ≡ t) × (a ≡ b)
+one_run law opens words all script marks o p v w x y s t a b fs ft ev ew ho hp g h =
+    let same = opens words all p o hp ho (decided p w y marks t b ft h) (decided o v x marks s a fs g) in
+    same_whole law v w x y script ev ew marks s t a b fs ft o g (subst (λ z. IsWhole z w y marks t b) same h)

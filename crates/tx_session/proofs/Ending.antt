@@ -161,14 +161,14 @@ whole_end start seen next told rest before between after script unended nexts.Go
       marks = s.marks ++ t.0 ∷ [];
       replies = s.replies ++ t.1;
       tells = tells;
-      played = (
-        s.ended ++ unended ∷ [],
-        inl (short, (s.ended, unended, s.lines, refl)),
-        inl short,
-        subst (λ ls. Answered start ls (s.marks ++ t.0 ∷ []) next (s.replies ++ t.1))
-            (sym (none_quits start next (s.ended ++ unended ∷ []) (s.marks ++ t.0 ∷ []) (s.replies ++ t.1) a)) a,
-        whole_rest script rest end,
-      );
+      played = record {
+        lines = s.ended ++ unended ∷ [];
+        are = inl (short, (s.ended, unended, s.lines, refl));
+        readable = inl short;
+        answered = subst (λ ls. Answered start ls (s.marks ++ t.0 ∷ []) next (s.replies ++ t.1))
+            (sym (none_quits start next (s.ended ++ unended ∷ []) (s.marks ++ t.0 ∷ []) (s.replies ++ t.1) a)) a;
+        left = whole_rest script rest end;
+      };
       written = append_known-then before between after s.replies t.1 s.written t.3;
     }
 whole_end start seen next told rest before between after script unended nexts.Quit tells short end s t =
@@ -178,14 +178,14 @@ whole_end start seen next told rest before between after script unended nexts.Qu
       marks = s.marks;
       replies = s.replies;
       tells = tells;
-      played = (
-        s.ended ++ unended ∷ [],
-        inl (short, (s.ended, unended, s.lines, refl)),
-        inl short,
-        subst (λ ls. Answered start ls s.marks seen s.replies)
-            (sym (up_to_quit start seen s.ended [] unended s.marks s.replies s.answered t.0)) s.answered,
-        whole_rest script rest end,
-      );
+      played = record {
+        lines = s.ended ++ unended ∷ [];
+        are = inl (short, (s.ended, unended, s.lines, refl));
+        readable = inl short;
+        answered = subst (λ ls. Answered start ls s.marks seen s.replies)
+            (sym (up_to_quit start seen s.ended [] unended s.marks s.replies s.answered t.0)) s.answered;
+        left = whole_rest script rest end;
+      };
       written = t.2 ∙ s.written;
     })
 
@@ -201,19 +201,19 @@ whole_cut start seen next told before between after script unended tells short s
       done = s.replies;
       reply = r.1;
       tells = tells;
-      behind = (
-        s.ended ++ unended ∷ [],
-        s.ended,
-        [],
-        unended,
-        s.marks,
-        seen,
-        r.0,
-        inl (short, (s.ended, unended, s.lines, refl)),
-        refl,
-        s.answered,
-        r.2,
-      );
+      behind = record {
+        lines = s.ended ++ unended ∷ [];
+        before = s.ended;
+        behind = [];
+        one = unended;
+        marks = s.marks;
+        seen = seen;
+        mark = r.0;
+        are = inl (short, (s.ended, unended, s.lines, refl));
+        parts = refl;
+        answered = s.answered;
+        replied = r.2;
+      };
       part = subst (λ b. AppendsPart r.1 b after) s.written r.3;
     }
 
@@ -242,16 +242,16 @@ failed_end start seen told rest before after taken unended e within s =
       marks = s.marks;
       replies = s.replies;
       tells = tells_both told rest taken e;
-      played = (
-        length taken,
-        s.ended,
-        unended,
-        grind (arith, common_steps),
-        within,
-        rest_dropped rest taken,
-        subst (λ bs. HasLines bs s.ended unended) (sym (take-append_seam taken (or_empty rest))) s.lines,
-        s.answered,
-      );
+      played = record {
+        taken = length taken;
+        ended = s.ended;
+        unended = unended;
+        there = grind (arith, common_steps);
+        within = within;
+        left = rest_dropped rest taken;
+        lines = subst (λ bs. HasLines bs s.ended unended) (sym (take-append_seam taken (or_empty rest))) s.lines;
+        answered = s.answered;
+      };
       written = s.written;
     }
 
@@ -279,9 +279,9 @@ long_end start seen told rest before after script taken front unended tells e fu
       marks = s.marks;
       replies = s.replies;
       tells = tells;
-      played = (
-        s.ended,
-        inr (
+      played = record {
+        lines = s.ended;
+        are = inr (
           long,
           (
             unended,
@@ -289,11 +289,11 @@ long_end start seen told rest before after script taken front unended tells e fu
                 (sym (ap (take MOST_SCRIPT) e ∙ ap (λ n. take n (taken ++ (front ++ or_empty rest))) (sym full)
                 ∙ take-append_seam taken (front ++ or_empty rest))) s.lines,
           ),
-        ),
-        long,
-        s.answered,
-        long_rest script taken front rest e full some,
-      );
+        );
+        long = long;
+        answered = s.answered;
+        left = long_rest script taken front rest e full some;
+      };
       written = s.written;
     }
 
@@ -316,15 +316,15 @@ quit_rest : (script upto later more unended : List ℕ) (ended : List (List ℕ)
     → IfSome rest (λ bytes. (bytes ≡ []) ⊎ EndedByQuit script bytes)
 quit_rest script upto later more unended ended None e h q left = tt
 quit_rest script upto later more unended ended (Some bytes) e h q left =
-    inr (
-      upto,
-      later ++ left.0,
-      unended,
-      ended,
-      e ∙ ap (λ x. upto ++ 10 ∷ x) (ap (λ x. later ++ x) left.1 ∙ sym (append_assoc later left.0 bytes)),
-      h,
-      q,
-    )
+    inr (record {
+      upto = upto;
+      between = later ++ left.0;
+      quitting = unended;
+      ended = ended;
+      parts = e ∙ ap (λ x. upto ++ 10 ∷ x) (ap (λ x. later ++ x) left.1 ∙ sym (append_assoc later left.0 bytes));
+      lines = h;
+      quits = q;
+    })
 
 kept_rest : (later more : List ℕ) (rest : Option (List ℕ)) → ((between : List ℕ) × (more ≡ between ++ or_empty rest))
     → IfSome rest (λ bytes. (between : List ℕ) × (later ++ more ≡ between ++ bytes))
@@ -351,14 +351,14 @@ stopped turns.Quit start seen told rest before after script bytes more kept othe
       marks = s.marks;
       replies = s.replies;
       tells = tells;
-      played = (
-        s.ended ++ unended ∷ through.0,
-        through.1,
-        inr (s.ended ++ unended ∷ through.0, through.1, (unended, holds s.ended unended through.0, q)),
-        subst (λ ls. Answered start ls s.marks seen s.replies)
-            (sym (up_to_quit start seen s.ended through.0 unended s.marks s.replies s.answered q)) s.answered,
-        quit_rest script upto later more unended s.ended rest whole s.lines q left,
-      );
+      played = record {
+        lines = s.ended ++ unended ∷ through.0;
+        are = through.1;
+        readable = inr (s.ended ++ unended ∷ through.0, through.1, (unended, holds s.ended unended through.0, q));
+        answered = subst (λ ls. Answered start ls s.marks seen s.replies)
+            (sym (up_to_quit start seen s.ended through.0 unended s.marks s.replies s.answered q)) s.answered;
+        left = quit_rest script upto later more unended s.ended rest whole s.lines q left;
+      };
       written = s.written;
     }
 stopped turns.NoMemory start seen told rest before after script bytes more kept other tells e within left
@@ -368,21 +368,20 @@ stopped turns.NoMemory start seen told rest before after script bytes more kept 
       marks = s.marks;
       replies = s.replies;
       tells = tells;
-      played = (
-        upto,
-        later ++ more,
-        b,
-        s.ended,
-        unended,
-        e ∙ ap (λ x. x ++ more) is
-            ∙ append_assoc upto (b ∷ later) more,
-        line,
-        short,
-        shorter bytes upto b later is within,
-        s.lines,
-        s.answered,
-        kept_rest later more rest left,
-      );
+      played = record {
+        upto = upto;
+        more = later ++ more;
+        byte = b;
+        ended = s.ended;
+        unended = unended;
+        parts = e ∙ ap (λ x. x ++ more) is ∙ append_assoc upto (b ∷ later) more;
+        inside = line;
+        short = short;
+        within = shorter bytes upto b later is within;
+        lines = s.lines;
+        answered = s.answered;
+        left = kept_rest later more rest left;
+      };
       written = s.written;
     }
 stopped turns.OutputFailed start seen told rest before after script bytes more kept other tells e within left
@@ -395,19 +394,19 @@ stopped turns.OutputFailed start seen told rest before after script bytes more k
       done = c.stands.replies;
       reply = c.reply;
       tells = tells;
-      behind = (
-        c.stands.ended ++ c.rest ∷ through.0,
-        c.stands.ended,
-        through.0,
-        c.rest,
-        c.stands.marks,
-        c.seen,
-        c.mark,
-        through.1,
-        refl,
-        c.stands.answered,
-        c.replied,
-      );
+      behind = record {
+        lines = c.stands.ended ++ c.rest ∷ through.0;
+        before = c.stands.ended;
+        behind = through.0;
+        one = c.rest;
+        marks = c.stands.marks;
+        seen = c.seen;
+        mark = c.mark;
+        are = through.1;
+        parts = refl;
+        answered = c.stands.answered;
+        replied = c.replied;
+      };
       part = subst (λ b. AppendsPart c.reply b after) c.stands.written c.part;
     }
 

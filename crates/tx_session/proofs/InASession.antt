@@ -7,6 +7,7 @@ use Rattle.std.specs.List.{AllByRecursion}
 use Rattle.std.specs.Option.{option_map_or}
 use Rattle.tx_outside.specs.Files.{Files}
 use Rattle.tx_outside.specs.declared.file_store.TheConstants.{MOST_FILE}
+use Rattle.tx_outside.specs.Outside.{StoreSeen}
 use Rattle.tx_tree.specs.Limits.{IsWellFormed, IsWithinLimits}
 use Rattle.tx_tree.specs.WideTree.{WideTree, leaf}
 use Rattle.tx_tree.specs.declared.places.Place.{Place}
@@ -58,7 +59,7 @@ use Rattle.tx_session.specs.Scripts.{Answered, command_line}
 use Rattle.tx_session.specs.States.{IsAnswer, IsEditAnswer, IsKeyAnswer, IsStepAnswer, IsChoice, IsClickAnswer}
 use Rattle.tx_session.specs.States.{IsAskedAnswer, IsViewAnswer, selected_edit, selected_tree, key_edit, by_typing}
 use Rattle.tx_session.specs.States.{by_backspace, by_enter, place_of, save_reply, file_saved}
-use Rattle.tx_session.specs.Worlds.{SeenWorld, World, IsAsBefore, seen_in, Stored, Stores, Mark, plain, lacking}
+use Rattle.tx_session.specs.Worlds.{SeenWorld, World, IsAsBefore, seen_in, Stores, Mark, plain, lacking}
 use Rattle.tx_session.specs.Worlds.{unsaved, told}
 use Rattle.tx_session.proofs.Determined.{one_reading, was_read}
 use Rattle.tx_session.proofs.Saved.{saved_alone}
@@ -313,7 +314,7 @@ long_saving form t true n h =
     long_file (line (text_in form t)) (nat_le (length (line (text_in form t))) MOST_FILE) refl n h
 long_saving form t false n h = absurd cc
 
-saved_so : (name : List ℕ) (t : WideTree) (before after : Stored) (reply : List ℕ) (x : Saving) → IsWellFormed t
+saved_so : (name : List ℕ) (t : WideTree) (before after : StoreSeen) (reply : List ℕ) (x : Saving) → IsWellFormed t
     → saving (form_of name) t ≡ x
     → reply ≡ save_reply x → Stores (file_saved name x) before after → IsSavedAlone name t before after reply
     ⊎ IsNotSaved before after reply
@@ -336,7 +337,7 @@ save_line text name reading before next reply e f a =
     saved_so name t before.store next.store reply (saving (form_of name) t)
     (tree_formed state.buffers state.selected f.now).0 refl done.answer.1 done.stored
 
-pub saves_alone : (words : List (List ℕ)) (files : Option Files) (all : Opened) (first : Stored) (steps : ℕ)
+pub saves_alone : (words : List (List ℕ)) (files : Option Files) (all : Opened) (first : StoreSeen) (steps : ℕ)
     → ComesTo words files (opened all)
     → (lines : List (List ℕ)) (marks : List Mark) (seen : World) (done : List ℕ)
     → Answered (start_with all first steps) lines marks seen done

@@ -1,4 +1,3 @@
-pub mod StoreCalls
 pub mod Saved
 pub mod Counted
 pub mod KeptLines

@@ -11,13 +11,14 @@ use Rattle.tx_session.specs.Differences.{Suffices}
 use Rattle.tx_session.specs.Keeps.{kept_after}
 use Rattle.tx_session.specs.Replies.{Reading, nothing, too_long, unread, command, faulty, IsDone, IsReplyTo}
 use Rattle.tx_session.specs.Replies.{IsLineReply}
-use Rattle.tx_session.specs.Runs.{IsWhole, IsPlayed, IsPlayedAlone, IsFinal, start_with, generated_script, no_files}
+use Rattle.tx_session.specs.Runs.{IsWhole, IsPlayed, IsPlayedAlone, IsFinal, Outside, start_with, generated_script}
+use Rattle.tx_session.specs.Runs.{no_files}
 use Rattle.tx_session.specs.Scripts.{Answered, before_quit, command_line}
 use Rattle.tx_session.specs.States.{IsAnswer}
-use Rattle.tx_session.specs.Worlds.{Whole, SeenWorld, World, seen_in, Stored, Mark, plain, lacking, unsaved, told}
+use Rattle.tx_session.specs.Worlds.{Whole, SeenWorld, World, seen_in, Mark, plain, lacking, unsaved, told}
 use Rattle.tx_session.specs.Worlds.{untold}
 use Rattle.tx_session.proofs.Answering.{OneView}
-use Rattle.tx_session.proofs.Determined.{one_reading, one_reply, was_read, IsSomeMark, decided}
+use Rattle.tx_session.proofs.Determined.{one_reading, one_reply, was_read, IsSomeMark, decided, told_script}
 use Rattle.tx_session.proofs.Lining.{script_lines_once, long_unread}
 use Rattle.tx_session.proofs.Openings.{OneOutcome}
 use Rattle.tx_session.proofs.Turning.{same_session}
@@ -152,15 +153,16 @@ played_marks : (law : OneView) (v w x y : World) (script : List ℕ) (marks othe
     → map untold marks ≡ map untold others → IsFinal s → IsFinal t → IsPlayed v script marks r s x a
     → IsPlayed w script others q t y b → marks ≡ others
 played_marks law v w x y script marks others r q statuses.Ok statuses.Ok a b e c d f g h k =
-    marks_once law v w x y (before_quit h.0) marks others a b e c d h.3
-    (subst (λ ls. Answered w (before_quit ls) others y b) (script_lines_once script k.0 h.0 k.1 h.1) k.3)
+    marks_once law v w x y (before_quit h.lines) marks others a b e c d h.answered
+    (subst (λ ls. Answered w (before_quit ls) others y b) (script_lines_once script k.lines h.lines k.are h.are)
+    k.answered)
 played_marks law v w x y script marks others r q statuses.ScriptLong statuses.ScriptLong a b e c d f g h k =
-    marks_once law v w x y h.0 marks others a b e c d h.3
-    (subst (λ ls. Answered w ls others y b) (script_lines_once script k.0 h.0 k.1 h.1) k.3)
+    marks_once law v w x y h.lines marks others a b e c d h.answered
+    (subst (λ ls. Answered w ls others y b) (script_lines_once script k.lines h.lines k.are h.are) k.answered)
 played_marks law v w x y script marks others r q statuses.Ok statuses.ScriptLong a b e c d f g h k =
-    absurd (long_unread script w y k.0 others b k.1 k.2 k.3 h.2)
+    absurd (long_unread script w y k.lines others b k.are k.long k.answered h.readable)
 played_marks law v w x y script marks others r q statuses.ScriptLong statuses.Ok a b e c d f g h k =
-    absurd (long_unread script v x h.0 marks a h.1 h.2 h.3 k.2)
+    absurd (long_unread script v x h.lines marks a h.are h.long h.answered k.readable)
 played_marks law v w x y script marks others r q statuses.Words t a b e c d f g h k = absurd h
 played_marks law v w x y script marks others r q statuses.Missing t a b e c d f g h k = absurd h
 played_marks law v w x y script marks others r q statuses.Refused t a b e c d f g h k = absurd h
@@ -183,36 +185,37 @@ played_marks law v w x y script marks others r q statuses.ScriptLong statuses.In
 played_marks law v w x y script marks others r q statuses.ScriptLong statuses.OutputFault a b e c d f g h k = absurd k
 played_marks law v w x y script marks others r q statuses.ScriptLong statuses.NoMemory a b e c d f g h k = absurd g
 
-module _ (law : OneView) (v w x y : Stored) (i j k l : ℕ) (script : List ℕ) (marks others : List Mark)
-    (r q : Option (List ℕ)) (s t : Status) (a b : List ℕ) (fs : IsFinal s) (ft : IsFinal t) (c : Suffices marks)
-    (d : map untold marks ≡ map untold others) where
-  whole_marks : (o : Outcome) → IsWhole o v x i k (Some script) marks r s a
-      → IsWhole o w y j l (Some script) others q t b → marks ≡ others
+module _ (law : OneView) (v w x y : Outside) (script : List ℕ) (ev : v.input.left ≡ Some script)
+    (ew : w.input.left ≡ Some script) (marks others : List Mark) (s t : Status) (a b : List ℕ) (fs : IsFinal s)
+    (ft : IsFinal t) (c : Suffices marks) (d : map untold marks ≡ map untold others) where
+  whole_marks : (o : Outcome) → IsWhole o v x marks s a → IsWhole o w y others t b → marks ≡ others
   whole_marks (opened all) g h =
-      played_marks law (start_with all g.2 g.3) (start_with all h.2 h.3) g.4 h.4 script marks others r q s t g.1 h.1
+      let first : World = start_with all g.first g.steps in
+      let other : World = start_with all h.first h.steps in
+      played_marks law first other g.last h.last script marks others x.input.left y.input.left s t g.replies h.replies
       refl c d fs ft
-      (subst (λ z. IsPlayed (start_with all g.2 g.3) z marks r s g.4 g.1) (sym g.7) g.8)
-      (subst (λ z. IsPlayed (start_with all h.2 h.3) z others q t h.4 h.1) (sym h.7) h.8)
+      (subst (λ z. IsPlayed first z marks x.input.left s g.last g.replies)
+      (told_script v.input.left script g.script ev g.tells) g.played)
+      (subst (λ z. IsPlayed other z others y.input.left t h.last h.replies)
+      (told_script w.input.left script h.script ew h.tells) h.played)
   whole_marks (generated all) g h =
-      let p : IsPlayedAlone all i k marks s g.0 = g.1 in
-      let m : IsPlayedAlone all j l others t h.0 = h.1 in
+      let p : IsPlayedAlone all v.steps x.steps marks s g.replies = g.played in
+      let m : IsPlayedAlone all w.steps y.steps others t h.replies = h.played in
       played_marks law (start_with all no_files p.steps) (start_with all no_files m.steps) p.last m.last
-      generated_script marks others (Some p.left) (Some m.left) s t g.0 h.0 refl c d fs ft p.played m.played
-  whole_marks faulty_words g h = g.0 ∙ sym h.0
-  whole_marks (missing f) g h = g.0 ∙ sym h.0
-  whole_marks (file_too_long f) g h = g.0 ∙ sym h.0
-  whole_marks (no_tree f z) g h = g.0 ∙ sym h.0
-  whole_marks (store_fault f) g h = g.0 ∙ sym h.0
-  whole_marks no_memory g h = g.0 ∙ sym h.0
+      generated_script marks others (Some p.left) (Some m.left) s t g.replies h.replies refl c d fs ft p.played m.played
+  whole_marks faulty_words g h = g.unmarked ∙ sym h.unmarked
+  whole_marks (missing f) g h = g.unmarked ∙ sym h.unmarked
+  whole_marks (file_too_long f) g h = g.unmarked ∙ sym h.unmarked
+  whole_marks (no_tree f z) g h = g.unmarked ∙ sym h.unmarked
+  whole_marks (store_fault f) g h = g.unmarked ∙ sym h.unmarked
+  whole_marks no_memory g h = g.unmarked ∙ sym h.unmarked
 
 pub numbers_determined : (law : OneView) (opens : OneOutcome) (words : List (List ℕ)) (all : Files) (script : List ℕ)
-    (marks others : List Mark) (o p : Outcome) (v w x y : Stored) (i j k l : ℕ) (r q : Option (List ℕ))
-    (s t : Status) (a b : List ℕ) → IsFinal s → IsFinal t
-    → ComesTo words (Some all) o → ComesTo words (Some all) p → Suffices marks
-    → map untold marks ≡ map untold others → IsWhole o v x i k (Some script) marks r s a
-    → IsWhole p w y j l (Some script) others q t b → marks ≡ others
-numbers_determined law opens words all script marks others o p v w x y i j k l r q s t a b fs ft ho hp c d g h =
-    let same = opens words all p o hp ho (decided p w y j l (Some script) q others t b ft h)
-    (decided o v x i k (Some script) r marks s a fs g) in
-    whole_marks law v w x y i j k l script marks others r q s t a b fs ft c d o g
-    (subst (λ z. IsWhole z w y j l (Some script) others q t b) same h)
+    (marks others : List Mark) (o p : Outcome) (v w x y : Outside) (s t : Status) (a b : List ℕ) → IsFinal s
+    → IsFinal t → v.input.left ≡ Some script → w.input.left ≡ Some script → ComesTo words (Some all) o
+    → ComesTo words (Some all) p → Suffices marks → map untold marks ≡ map untold others → IsWhole o v x marks s a
+    → IsWhole p w y others t b → marks ≡ others
+numbers_determined law opens words all script marks others o p v w x y s t a b fs ft ev ew ho hp c d g h =
+    let same = opens words all p o hp ho (decided p w y others t b ft h) (decided o v x marks s a fs g) in
+    whole_marks law v w x y script ev ew marks others s t a b fs ft c d o g
+    (subst (λ z. IsWhole z w y others t b) same h)

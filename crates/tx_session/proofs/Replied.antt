@@ -1,17 +1,18 @@
 -- A reply that was said is the command's.
 use Rattle.std.proofs.Common.{◌≡◌, ℕ, List, Option, Result, sym, subst}
 use Rattle.tx_outside.specs.declared.faults.WriteFault.{WriteFault}
+use Rattle.tx_outside.specs.Outside.{StoreSeen}
 use Rattle.tx_cmd.specs.declared.command.Command.{Command}
 use Rattle.tx_session.specs.declared.replies.Reply.{Reply}
 use Rattle.tx_session.specs.declared.session.Next.{Next}
 use Rattle.tx_session.specs.Keeps.{Keeps, Takes}
 use Rattle.tx_session.specs.Replies.{IsReply}
 use Rattle.tx_session.specs.Saying.{mark_of, text_of}
-use Rattle.tx_session.specs.Worlds.{Whole, Mark, Stored}
+use Rattle.tx_session.specs.Worlds.{Whole, Mark}
 use Rattle.tx_session.specs.Writing.{IsSaid}
 
 -- what a command answers: its reply, what is kept, and the steps
-abbrev pub IsReplied : Command → (before after : Whole) → (store later : Stored) → (old new : ℕ)
+abbrev pub IsReplied : Command → (before after : Whole) → (store later : StoreSeen) → (old new : ℕ)
     → Result Next WriteFault → (written behind : Option (List ℕ)) → Type 0
 IsReplied it before after store later old new result written behind =
     (mark : Mark) × (reply : List ℕ)
@@ -19,7 +20,7 @@ IsReplied it before after store later old new result written behind =
     reply
     × IsSaid result reply written behind × Keeps before it mark after × Takes before it mark old new
 
-pub is_replied : (it command : Command) (before after : Whole) (store later : Stored) (old new : ℕ) (reply : Reply)
+pub is_replied : (it command : Command) (before after : Whole) (store later : StoreSeen) (old new : ℕ) (reply : Reply)
     (text : List ℕ) (result : Result Next WriteFault) (written behind : Option (List ℕ)) → command ≡ it
     → text ≡ text_of reply
     → IsReply (record { session = before.seen; store = store }) it (mark_of reply)
@@ -38,7 +39,7 @@ is_replied it command before after store later old new reply text result written
 )
 
 -- a reply that was written by itself
-pub is_said : (it command : Command) (before after : Whole) (store later : Stored) (old new : ℕ)
+pub is_said : (it command : Command) (before after : Whole) (store later : StoreSeen) (old new : ℕ)
     (result : Result Next WriteFault) (written behind : Option (List ℕ)) → command ≡ it
     → IsReplied it before after store later old new result written behind
     → IsReplied command before after store later old new result written behind

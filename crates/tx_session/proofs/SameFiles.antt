@@ -5,6 +5,7 @@ use Rattle.std.specs.Prelude.{bytes_eq}
 use Rattle.std.proofs.lemmas.Slice.Eq.{bytes_eq-Decides}
 use Rattle.tx_outside.specs.Files.{Files, file_of, WithFile}
 use Rattle.tx_outside.specs.Known.{WhereKnown}
+use Rattle.tx_outside.specs.Outside.{StoreSeen}
 use Rattle.tx_session.specs.declared.status.Status.{Status}
 use Rattle.tx_session.specs.declared.status.Status.TheVariants as statuses
 use Rattle.tx_session.specs.Differences.{HoldSameFiles}
@@ -12,13 +13,14 @@ use Rattle.tx_open.specs.Outcomes.{Outcome, faulty_words, missing, too_long as f
 use Rattle.tx_open.specs.Outcomes.{no_memory, opened, generated, ComesTo}
 use Rattle.tx_session.specs.Replies.{Reading, nothing, too_long, unread, command, faulty, IsReplyTo}
 use Rattle.tx_session.specs.Replies.{IsLineReply}
-use Rattle.tx_session.specs.Runs.{IsFinal, IsPlayed, IsWhole, start_with}
+use Rattle.tx_session.specs.Runs.{IsFinal, IsPlayed, IsWhole, Outside, start_with}
 use Rattle.tx_session.specs.Scripts.{Answered, before_quit, command_line}
 use Rattle.tx_session.specs.States.{saved_by}
-use Rattle.tx_session.specs.Worlds.{Seen, World, Stored, Mark, plain, lacking, unsaved, told, Stores}
+use Rattle.tx_session.specs.Worlds.{Seen, World, Mark, plain, lacking, unsaved, told, Stores}
 use Rattle.tx_session.specs.Worlds.{unsaved_in}
 use Rattle.tx_session.proofs.Answering.{OneView}
-use Rattle.tx_session.proofs.Determined.{one_reading, was_read, one_line_reply, decided, one_run as one_text_run}
+use Rattle.tx_session.proofs.Determined.{one_reading, was_read, one_line_reply, decided, told_script}
+use Rattle.tx_session.proofs.Determined.{one_run as one_text_run}
 use Rattle.tx_session.proofs.Openings.{OneOutcome}
 use Rattle.tx_session.proofs.Lining.{script_lines_once}
 
@@ -57,7 +59,7 @@ module _ (name bytes : List ℕ) where
   put_in_both None None (Some c) None h k same = absurd k
   put_in_both None None None (Some d) h k same = absurd k
 
-stored_same : (o : Option (List ℕ × List ℕ)) (v s w t : Stored) → Stores o v s → Stores o w t
+stored_same : (o : Option (List ℕ × List ℕ)) (v s w t : StoreSeen) → Stores o v s → Stores o w t
     → HoldSameFiles v.files w.files → HoldSameFiles s.files t.files
 stored_same None v s w t h k same =
     moved v.files s.files w.files t.files (ap (λ x. x.files) h) (ap (λ x. x.files) k) same
@@ -135,11 +137,12 @@ played_files : (law : OneView) (v w x y : World) (script : List ℕ) (marks : Li
     → IsFinal s → IsPlayed v script marks r s x a → IsPlayed w script marks q s y b
     → HoldSameFiles (files_of x) (files_of y)
 played_files law v w x y script marks r q statuses.Ok a b u e hold f h k =
-    answered_files law v w x y (before_quit h.0) marks a b u e hold h.3
-    (subst (λ ls. Answered w (before_quit ls) marks y b) (script_lines_once script k.0 h.0 k.1 h.1) k.3)
+    answered_files law v w x y (before_quit h.lines) marks a b u e hold h.answered
+    (subst (λ ls. Answered w (before_quit ls) marks y b) (script_lines_once script k.lines h.lines k.are h.are)
+    k.answered)
 played_files law v w x y script marks r q statuses.ScriptLong a b u e hold f h k =
-    answered_files law v w x y h.0 marks a b u e hold h.3
-    (subst (λ ls. Answered w ls marks y b) (script_lines_once script k.0 h.0 k.1 h.1) k.3)
+    answered_files law v w x y h.lines marks a b u e hold h.answered
+    (subst (λ ls. Answered w ls marks y b) (script_lines_once script k.lines h.lines k.are h.are) k.answered)
 played_files law v w x y script marks r q statuses.InputFault a b u e hold f h k = absurd f
 played_files law v w x y script marks r q statuses.NoMemory a b u e hold f h k = absurd f
 played_files law v w x y script marks r q statuses.Words a b u e hold f h k = absurd h
@@ -148,43 +151,43 @@ played_files law v w x y script marks r q statuses.Refused a b u e hold f h k = 
 played_files law v w x y script marks r q statuses.StoreFault a b u e hold f h k = absurd h
 played_files law v w x y script marks r q statuses.OutputFault a b u e hold f h k = absurd h
 
-module _ (law : OneView) (v w x y : Stored) (i j k l : ℕ) (files : Files) (ev : v.files ≡ Some files)
-    (ew : w.files ≡ Some files) (script : List ℕ) (marks : List Mark) (r q : Option (List ℕ)) (s : Status)
-    (a b : List ℕ) (final : IsFinal s) where
-  unopened_files : (x.files ≡ v.files) → (y.files ≡ w.files) → HoldSameFiles x.files y.files
-  unopened_files g h = both_tell x.files y.files files (g ∙ ev) (h ∙ ew)
+module _ (law : OneView) (v w x y : Outside) (files : Files) (ev : v.store.files ≡ Some files)
+    (ew : w.store.files ≡ Some files) (script : List ℕ) (sv : v.input.left ≡ Some script)
+    (sw : w.input.left ≡ Some script) (marks : List Mark) (s : Status) (a b : List ℕ) (final : IsFinal s) where
+  unopened_files : x.store.files ≡ v.store.files → y.store.files ≡ w.store.files
+      → HoldSameFiles x.store.files y.store.files
+  unopened_files g h = both_tell x.store.files y.store.files files (g ∙ ev) (h ∙ ew)
 
-  pub whole_files : (o : Outcome) → unsaved_in marks ≡ 0 → IsWhole o v x i k (Some script) marks r s a
-      → IsWhole o w y j l (Some script) marks q s b → HoldSameFiles x.files y.files
+  pub whole_files : (o : Outcome) → unsaved_in marks ≡ 0 → IsWhole o v x marks s a → IsWhole o w y marks s b
+      → HoldSameFiles x.store.files y.store.files
   whole_files (opened all) none g h =
-      let first : World = start_with all g.2 g.3 in
-      let other : World = start_with all h.2 h.3 in
-      let hold : HoldSameFiles g.4.store.files h.4.store.files =
-      played_files law first other g.4 h.4 script marks r q s g.1 h.1 none refl
-      (both_tell g.2.files h.2.files files (g.5.0 ∙ ev) (h.5.0 ∙ ew)) final
-      (subst (λ z. IsPlayed first z marks r s g.4 g.1) (sym g.7) g.8)
-      (subst (λ z. IsPlayed other z marks q s h.4 h.1) (sym h.7) h.8) in
-      moved g.4.store.files x.files h.4.store.files y.files (sym (ap (λ z. z.files) g.9)) (sym (ap (λ z. z.files) h.9))
-      hold
-  whole_files (generated all) none g h = unopened_files (ap (λ z. z.files) g.4) (ap (λ z. z.files) h.4)
-  whole_files faulty_words none g h = unopened_files g.4.0 h.4.0
-  whole_files (missing f) none g h = unopened_files g.4.0 h.4.0
-  whole_files (file_too_long f) none g h = unopened_files g.4.0 h.4.0
-  whole_files (no_tree f c) none g h = unopened_files g.4.0 h.4.0
-  whole_files (store_fault f) none g h = unopened_files g.4.0 h.4.0
-  whole_files no_memory none g h = unopened_files g.4.0 h.4.0
+      let first : World = start_with all g.first g.steps in
+      let other : World = start_with all h.first h.steps in
+      let hold : HoldSameFiles g.last.store.files h.last.store.files =
+      played_files law first other g.last h.last script marks x.input.left y.input.left s g.replies h.replies none refl
+      (both_tell g.first.files h.first.files files (g.loaded.0 ∙ ev) (h.loaded.0 ∙ ew)) final
+      (subst (λ z. IsPlayed first z marks x.input.left s g.last g.replies)
+      (told_script v.input.left script g.script sv g.tells) g.played)
+      (subst (λ z. IsPlayed other z marks y.input.left s h.last h.replies)
+      (told_script w.input.left script h.script sw h.tells) h.played) in
+      moved g.last.store.files x.store.files h.last.store.files y.store.files (sym (ap (λ z. z.files) g.stored))
+      (sym (ap (λ z. z.files) h.stored)) hold
+  whole_files (generated all) none g h = unopened_files (ap (λ z. z.files) g.stored) (ap (λ z. z.files) h.stored)
+  whole_files faulty_words none g h = unopened_files g.kept.0 h.kept.0
+  whole_files (missing f) none g h = unopened_files g.kept.0 h.kept.0
+  whole_files (file_too_long f) none g h = unopened_files g.kept.0 h.kept.0
+  whole_files (no_tree f c) none g h = unopened_files g.kept.0 h.kept.0
+  whole_files (store_fault f) none g h = unopened_files g.kept.0 h.kept.0
+  whole_files no_memory none g h = unopened_files g.kept.0 h.kept.0
 
 pub one_run : (law : OneView) (opens : OneOutcome) (words : List (List ℕ)) (all : Files) (script : List ℕ)
-    (marks : List Mark) (o p : Outcome) (v w x y : Stored) (i j k l : ℕ) (r q : Option (List ℕ)) (s t : Status)
-    (a b : List ℕ) → IsFinal s → IsFinal t → v.files ≡ Some all → w.files ≡ Some all
-    → ComesTo words (Some all) o → ComesTo words (Some all) p → IsWhole o v x i k (Some script) marks r s a
-    → IsWhole p w y j l (Some script) marks q t b
-    → (s ≡ t) × (a ≡ b) × (unsaved_in marks ≡ 0 → HoldSameFiles x.files y.files)
-one_run law opens words all script marks o p v w x y i j k l r q s t a b fs ft ev ew ho hp g h =
-    let said = one_text_run law opens words all script marks o p v w x y i j k l r q s t a b fs ft ho hp g h in
-    let same = opens words all p o hp ho (decided p w y j l (Some script) q marks t b ft h)
-    (decided o v x i k (Some script) r marks s a fs g) in
-    let other : IsWhole o w y j l (Some script) marks q s b =
-    subst (λ z. IsWhole o w y j l (Some script) marks q z b) (sym said.0)
-    (subst (λ z. IsWhole z w y j l (Some script) marks q t b) same h) in
-    (said.0, said.1, λ none. whole_files law v w x y i j k l all ev ew script marks r q s a b fs o none g other)
+    (marks : List Mark) (o p : Outcome) (v w x y : Outside) (s t : Status) (a b : List ℕ) → IsFinal s → IsFinal t
+    → v.store.files ≡ Some all → w.store.files ≡ Some all → v.input.left ≡ Some script → w.input.left ≡ Some script
+    → ComesTo words (Some all) o → ComesTo words (Some all) p → IsWhole o v x marks s a → IsWhole p w y marks t b
+    → (s ≡ t) × (a ≡ b) × (unsaved_in marks ≡ 0 → HoldSameFiles x.store.files y.store.files)
+one_run law opens words all script marks o p v w x y s t a b fs ft ev ew sv sw ho hp g h =
+    let said = one_text_run law opens words all script marks o p v w x y s t a b fs ft sv sw ho hp g h in
+    let same = opens words all p o hp ho (decided p w y marks t b ft h) (decided o v x marks s a fs g) in
+    let other : IsWhole o w y marks s b =
+    subst (λ z. IsWhole o w y marks z b) (sym said.0) (subst (λ z. IsWhole z w y marks t b) same h) in
+    (said.0, said.1, λ none. whole_files law v w x y all ev ew script sv sw marks s a b fs o none g other)

@@ -4,7 +4,8 @@ use Rattle.std.proofs.Common.{Some, None, refl, sym, ap, subst, ◌∙◌, arith
 use Rattle.std.specs.Prelude.{if◌then◌else◌, nat_le}
 use Rattle.tx_outside.specs.declared.file_store.TheConstants.{MOST_FILE}
 use Rattle.tx_outside.specs.Files.{Files, file_of}
-use Rattle.tx_outside.proofs.Counting.{never_falls_refl}
+use Rattle.tx_outside.proofs.GoingOn.{store_goes_on_refl}
+use Rattle.tx_outside.specs.Outside.{StoreSeen}
 use Rattle.tx_tree.specs.Limits.{IsWellFormed, IsWithinLimits}
 use Rattle.tx_tree.specs.WideTree.{WideTree}
 use Rattle.tx_scm.proofs.Spelled.{line_alone as scheme_alone}
@@ -20,7 +21,7 @@ use Rattle.tx_print.specs.Lines.{line}
 use Rattle.tx_session.specs.Saying.{text_of, Says}
 use Rattle.tx_session.specs.Saves.{IsSaveReply, IsKeepReply}
 use Rattle.tx_session.specs.States.{save_reply, file_saved}
-use Rattle.tx_session.specs.Worlds.{Stored, Stores}
+use Rattle.tx_session.specs.Worlds.{Stores}
 use Rattle.tx_words.specs.Names.{buffer_name}
 use Rattle.tx_words.specs.Words.{Ask, named}
 use Rattle.tx_words.specs.declared.asked.Source.TheVariants.{Files as AllFiles}
@@ -65,10 +66,10 @@ saves_bytes form t e le = saves_fitting form t e ∙ fits_is (line (text_in form
 -- ---- replies
 
 -- a reply that saves nothing
-pub said_save : (name : List ℕ) (t : WideTree) (x : Saving) (reply : Reply) (store : Stored)
+pub said_save : (name : List ℕ) (t : WideTree) (x : Saving) (reply : Reply) (store : StoreSeen)
     → saving (form_of name) t ≡ x → file_saved name x ≡ None → Says reply (save_reply x)
     → IsSaveReply name t reply store store
-said_save name t x Wanting store e none says = (refl, never_falls_refl _)
+said_save name t x Wanting store e none says = (refl, store_goes_on_refl store)
 said_save name t x Unsaved store e none says = absurd says
 said_save name t x Done store e none says =
     (says ∙ ap save_reply (sym e), subst (λ o. Stores o store store) (sym (ap (file_saved name) e ∙ none)) refl)
@@ -78,7 +79,7 @@ said_save name t x (Made text) store e none says =
     (says ∙ ap save_reply (sym e), subst (λ o. Stores o store store) (sym (ap (file_saved name) e ∙ none)) refl)
 
 -- the reply where the bytes were given to the store
-module _ (name : List ℕ) (t : WideTree) (bytes : List ℕ) (before after : Stored)
+module _ (name : List ℕ) (t : WideTree) (bytes : List ℕ) (before after : StoreSeen)
     (e : saving (form_of name) t ≡ writes bytes) where
   stored_save : (reply : Reply) → Says reply (save_reply (writes bytes)) → text_of reply ≡ save_reply (writes bytes)
       → Stores (Some (name, bytes)) before after
@@ -99,7 +100,7 @@ module _ (name : List ℕ) (t : WideTree) (bytes : List ℕ) (before after : Sto
       subst (λ r. Says r (save_reply (writes bytes))) (sym k.0) says in stored_save (Made text) same same k.1
 
 -- a reply that was given, where the store kept the bytes
-pub keeps_given : (name bytes : List ℕ) (given : Reply) (before after : Stored) → (given ≡ Wanting → ⊥)
+pub keeps_given : (name bytes : List ℕ) (given : Reply) (before after : StoreSeen) → (given ≡ Wanting → ⊥)
     → (given ≡ Unsaved → ⊥) → Stores (Some (name, bytes)) before after → IsKeepReply name bytes given given before after
 keeps_given name bytes Wanting before after n u s = absurd (n refl)
 keeps_given name bytes Unsaved before after n u s = absurd (u refl)

@@ -12,7 +12,6 @@ pub mod Scripts
 pub mod Sessions
 pub mod Asking
 pub mod Saying
-pub mod Storing
 pub mod Saves
 pub mod Writing
 pub mod Keeping

@@ -8,7 +8,7 @@ use Rattle.tx_open.specs.declared.opening.Opened.{Opened}
 use Rattle.tx_open.specs.Outcomes.{Outcome}
 use Rattle.tx_session.specs.Outcomes.{status_of, text_of}
 use Rattle.tx_session.specs.Worlds.{World, Mark}
-use Rattle.tx_session.specs.Runs.{Tells, IsPlayed, IsPlayedAlone, IsReplyAlone, IsReplyBehind, own_line}
+use Rattle.tx_session.specs.Runs.{Tells, IsOwnLineAlone, IsPlayed, IsPlayedAlone, IsReplyAlone, IsReplyBehind, own_line}
 
 -- the replies are written, and the status's own line isn't yet
 pub record HasPlayed (start last : World) (told rest : Option (List ℕ)) (status : Status)
@@ -61,9 +61,7 @@ pub record IsServedAlone (all : Opened) (old new : ℕ) (status : Status) (befor
   pub done : status ≢ OutputFault → (marks : List Mark) × (replies : List ℕ)
       × IsPlayedAlone all old new marks status replies × (after ≡ append_known before (replies ++ own_line status))
   pub cut : status ≡ OutputFault → (done part : List ℕ)
-      × (IsReplyAlone all old new done part
-      ⊎ ((ended : Status) × (marks : List Mark) × IsPlayedAlone all old new marks ended done
-      × (part ≡ own_line ended)))
+      × (IsReplyAlone all old new done part ⊎ IsOwnLineAlone all old new done part)
       × AppendsPart part (append_known before done) after
 
 -- the line of an outcome that opened nothing, which is written, or in part

@@ -3,8 +3,9 @@ use Rattle.std.specs.Prelude.{◌≡◌, ◌⊎◌, ◌<◌, ◌≤◌, ℕ, tru
 use Rattle.std.specs.Prelude.{length, take, drop, codes, Option, Some, IfSome, Contains, ◌+◌, ◌≢◌}
 use Rattle.std.specs.List.{flat_map}
 use Rattle.std.specs.Io.KnownBytes.{append_known}
-use Rattle.tx_outside.specs.Files.{Files}
+use Rattle.tx_outside.specs.Counts.{Rose}
 use Rattle.tx_outside.specs.Known.{AppendsPart}
+use Rattle.tx_outside.specs.Outside.{SinkSeen, SourceSeen, StoreSeen}
 use Rattle.tx_doc.specs.Forms.{form_of}
 use Rattle.tx_doc.specs.declared.buffer.Buffer.{Buffer}
 use Rattle.tx_words.specs.declared.asked.Source.TheVariants.{Files as AllFiles, Generated}
@@ -23,7 +24,7 @@ use Rattle.tx_print.specs.Lines.{line}
 use Rattle.tx_session.specs.Forms.{SpellsNoTree}
 use Rattle.tx_session.specs.Outcomes.{status_of, text_of}
 use Rattle.tx_session.specs.Replies.{IsLineReply}
-use Rattle.tx_session.specs.Worlds.{Seen, Whole, Stored, stored, World, Mark, KeepsFiles}
+use Rattle.tx_session.specs.Worlds.{Seen, Whole, World, Mark, KeepsFiles}
 use Rattle.tx_session.specs.Scripts.{HasLines, AreLinesOf, Answered, before_quit, command_line, is_quit}
 
 -- the session of what was opened, on pages of the size that was asked for; nothing is shown yet
@@ -45,7 +46,7 @@ abbrev pub opening_cost : Opened → ℕ
 opening_cost all = nodes_in all.buffers + made all.buffers
 
 -- where a session of what was opened begins, when the count of steps is this
-abbrev pub start_with : Opened → Stored → ℕ → World
+abbrev pub start_with : Opened → StoreSeen → ℕ → World
 start_with all store steps = record { session = whole_start all; store = store; steps = steps }
 
 -- the script is this one, as far as the input tells it
@@ -60,34 +61,70 @@ CanBeRead script =
     × ((quitting : List ℕ) × Contains lines quitting × (is_quit quitting ≡ true)))
 
 -- a line `quit` ended in what was taken of the script; this rest of it wasn't taken
-abbrev pub EndedByQuit : List ℕ → List ℕ → Type 0
-EndedByQuit script rest =
-    (upto between quitting : List ℕ) × (ended : List (List ℕ)) × (script ≡ upto ++ 10 ∷ (between ++ rest))
-    × HasLines upto ended quitting × (is_quit quitting ≡ true)
+pub record EndedByQuit (script rest : List ℕ) : Type 0 where
+  pub upto : List ℕ
+  pub between : List ℕ
+  pub quitting : List ℕ
+  pub ended : List (List ℕ)
+  pub parts : script ≡ upto ++ 10 ∷ (between ++ rest)
+  pub lines : HasLines upto ended quitting
+  pub quits : is_quit quitting ≡ true
 
--- How a session ends with a status, over a script of which the input still tells a rest afterwards. The text is the
--- replies, from the first line's on, none left out. After a fault of the input they are those to the lines that had
--- ended in what was taken, in a script that is too long those to the lines that end within the limit, and without
--- memory those to the lines before one of which a byte was taken that couldn't be kept.
+-- ---- how a session ends, over a script of which the input still tells a rest afterwards
+-- The text is the replies, from the first line's on, none left out.
+
+-- the script was read to its end, or to a line `quit`
+pub record IsPlayedThrough (start : World) (script : List ℕ) (marks : List Mark) (rest : Option (List ℕ)) (last : World)
+    (text : List ℕ) : Type 0 where
+  pub lines : List (List ℕ)
+  pub are : AreLinesOf script lines
+  pub readable : CanBeRead script
+  pub answered : Answered start (before_quit lines) marks last text
+  pub left : IfSome rest (λ bytes. (bytes ≡ []) ⊎ EndedByQuit script bytes)
+
+-- the script is too long, and the lines that end within the limit were answered
+pub record IsPlayedToLimit (start : World) (script : List ℕ) (marks : List Mark) (rest : Option (List ℕ)) (last : World)
+    (text : List ℕ) : Type 0 where
+  pub lines : List (List ℕ)
+  pub are : AreLinesOf script lines
+  pub long : MOST_SCRIPT < length script
+  pub answered : Answered start lines marks last text
+  pub left : IfSome rest (λ bytes. (n : ℕ) × (MOST_SCRIPT < n) × (n ≤ length script) × (bytes ≡ drop n script))
+
+-- the input failed, and the lines that had ended in the bytes that were taken were answered
+pub record IsPlayedToFault (start : World) (script : List ℕ) (marks : List Mark) (rest : Option (List ℕ)) (last : World)
+    (text : List ℕ) : Type 0 where
+  pub taken : ℕ
+  pub ended : List (List ℕ)
+  pub unended : List ℕ
+  pub there : taken ≤ length script
+  pub within : taken ≤ MOST_SCRIPT
+  pub left : IfSome rest (λ bytes. bytes ≡ drop taken script)
+  pub lines : HasLines (take taken script) ended unended
+  pub answered : Answered start ended marks last text
+
+-- memory didn't suffice to keep a byte of a line, and the lines before that line were answered
+pub record IsPlayedToWant (start : World) (script : List ℕ) (marks : List Mark) (rest : Option (List ℕ)) (last : World)
+    (text : List ℕ) : Type 0 where
+  pub upto : List ℕ
+  pub more : List ℕ
+  pub byte : ℕ
+  pub ended : List (List ℕ)
+  pub unended : List ℕ
+  pub parts : script ≡ upto ++ byte ∷ more
+  pub inside : byte ≢ 10
+  pub short : length unended ≤ MOST_LINE
+  pub within : length upto < MOST_SCRIPT
+  pub lines : HasLines upto ended unended
+  pub answered : Answered start ended marks last text
+  pub left : IfSome rest (λ bytes. (between : List ℕ) × (more ≡ between ++ bytes))
+
 abbrev pub IsPlayed : World → (script : List ℕ) → (marks : List Mark) → (rest : Option (List ℕ)) → Status
     → (last : World) → (text : List ℕ) → Type 0
-IsPlayed start script marks rest Ok last text =
-    (lines : List (List ℕ)) × AreLinesOf script lines × CanBeRead script
-    × Answered start (before_quit lines) marks last text
-    × IfSome rest (λ bytes. (bytes ≡ []) ⊎ EndedByQuit script bytes)
-IsPlayed start script marks rest ScriptLong last text =
-    (lines : List (List ℕ)) × AreLinesOf script lines × (MOST_SCRIPT < length script)
-    × Answered start lines marks last text
-    × IfSome rest (λ bytes. (n : ℕ) × (MOST_SCRIPT < n) × (n ≤ length script) × (bytes ≡ drop n script))
-IsPlayed start script marks rest InputFault last text =
-    (n : ℕ) × (ended : List (List ℕ)) × (unended : List ℕ) × (n ≤ length script) × (n ≤ MOST_SCRIPT)
-    × IfSome rest (λ bytes. bytes ≡ drop n script)
-    × HasLines (take n script) ended unended × Answered start ended marks last text
-IsPlayed start script marks rest NoMemory last text =
-    (upto more : List ℕ) × (b : ℕ) × (ended : List (List ℕ)) × (unended : List ℕ) × (script ≡ upto ++ b ∷ more)
-    × (b ≢ 10) × (length unended ≤ MOST_LINE) × (length upto < MOST_SCRIPT)
-    × HasLines upto ended unended × Answered start ended marks last text
-    × IfSome rest (λ bytes. (between : List ℕ) × (more ≡ between ++ bytes))
+IsPlayed start script marks rest Ok last text = IsPlayedThrough start script marks rest last text
+IsPlayed start script marks rest ScriptLong last text = IsPlayedToLimit start script marks rest last text
+IsPlayed start script marks rest InputFault last text = IsPlayedToFault start script marks rest last text
+IsPlayed start script marks rest NoMemory last text = IsPlayedToWant start script marks rest last text
 IsPlayed start script marks rest _ last text = ⊥
 
 -- a status's own line, behind the replies
@@ -109,8 +146,8 @@ abbrev pub generated_script : List ℕ
 generated_script = flat_map line generated_lines
 
 -- the store of such a session, which saves nothing: it holds no file
-abbrev pub no_files : Stored
-no_files = stored (Some []) 0
+abbrev pub no_files : StoreSeen
+no_files = record { files = Some []; faults = 0; misses = 0; longs = 0 }
 
 -- The session of a generated document answers its script, over a store without files, which stays so, and without an
 -- input that could fail. It ends with a status, and has written this text.
@@ -127,30 +164,82 @@ pub record IsPlayedAlone (all : Opened) (old new : ℕ) (marks : List Mark) (sta
 
 -- ---- all runs
 
--- A session that ends with a status has written this text, and the store and the count of steps are then as its
--- commands left them. Where no file was opened, nothing is taken of the input. Where a document was generated, the
--- store is as before besides.
-abbrev pub IsWhole : Outcome → (before after : Stored) → (old new : ℕ) → Option (List ℕ) → List Mark
-    → Option (List ℕ) → Status → List ℕ → Type 0
-IsWhole (opened all) before after old new told marks rest status text =
-    (script : List ℕ) × (replies : List ℕ) × (first : Stored) × (steps : ℕ) × (last : World)
-    × KeepsFiles before first × (steps ≤ old + opening_cost all) × Tells told script
-    × IsPlayed (start_with all first steps) script marks rest status last replies
-    × (last.store ≡ after) × (last.steps ≡ new) × (text ≡ replies ++ own_line status)
-IsWhole (generated all) before after old new told marks rest status text =
-    (replies : List ℕ) × IsPlayedAlone all old new marks status replies × (text ≡ replies ++ own_line status)
-    × (rest ≡ told) × (after ≡ before)
-IsWhole unopened before after old new told marks rest status text =
-    (marks ≡ []) × (status ≡ status_of unopened) × (text ≡ text_of unopened) × (rest ≡ told) × KeepsFiles before after
+-- what is seen of what a run has outside itself, and how many steps were counted
+pub record Outside : Type 0 where
+  pub store : StoreSeen
+  pub input : SourceSeen
+  pub output : SinkSeen
+  pub steps : ℕ
+
+abbrev pub outside : StoreSeen → SourceSeen → SinkSeen → ℕ → Outside
+outside store input output steps = record { store = store; input = input; output = output; steps = steps }
+
+-- Files were opened, and their session, which begins with the steps of opening, has ended and written this text. The
+-- store and the count of steps are then as its commands left them.
+pub record IsWholeOpened (all : Opened) (before after : Outside) (marks : List Mark) (status : Status) (text : List ℕ)
+    : Type 0 where
+  pub script : List ℕ
+  pub replies : List ℕ
+  pub first : StoreSeen
+  pub steps : ℕ
+  pub last : World
+  pub loaded : KeepsFiles before.store first
+  pub begun : steps ≤ before.steps + opening_cost all
+  pub tells : Tells before.input.left script
+  pub played : IsPlayed (start_with all first steps) script marks after.input.left status last replies
+  pub stored : last.store ≡ after.store
+  pub counted : last.steps ≡ after.steps
+  pub written : text ≡ replies ++ own_line status
+
+-- a document was generated; its session leaves the store and what the input tells as they were
+pub record IsWholeGenerated (all : Opened) (before after : Outside) (marks : List Mark) (status : Status)
+    (text : List ℕ) : Type 0 where
+  pub replies : List ℕ
+  pub played : IsPlayedAlone all before.steps after.steps marks status replies
+  pub written : text ≡ replies ++ own_line status
+  pub left : after.input.left ≡ before.input.left
+  pub stored : after.store ≡ before.store
+
+-- nothing was opened, and nothing is taken of the input
+pub record IsWholeUnopened (unopened : Outcome) (before after : Outside) (marks : List Mark) (status : Status)
+    (text : List ℕ) : Type 0 where
+  pub unmarked : marks ≡ []
+  pub ended : status ≡ status_of unopened
+  pub written : text ≡ text_of unopened
+  pub left : after.input.left ≡ before.input.left
+  pub kept : KeepsFiles before.store after.store
+
+abbrev pub IsWhole : Outcome → (before after : Outside) → List Mark → Status → List ℕ → Type 0
+IsWhole (opened all) before after marks status text = IsWholeOpened all before after marks status text
+IsWhole (generated all) before after marks status text = IsWholeGenerated all before after marks status text
+IsWhole unopened before after marks status text = IsWholeUnopened unopened before after marks status text
+
+-- ---- a run that the output cuts short
 
 -- the reply to one of the script's lines, behind the replies to all lines before it
-abbrev pub IsReplyBehind : World → (script : List ℕ) → (next : World) → (done reply : List ℕ) → Type 0
-IsReplyBehind start script next done reply =
-    (lines before behind : List (List ℕ)) × (one : List ℕ) × (marks : List Mark) × (seen : World) × (mark : Mark)
-    × AreLinesOf script lines × (lines ≡ before ++ one ∷ behind) × Answered start before marks seen done
-    × IsLineReply seen (command_line one) mark next reply
+pub record IsReplyBehind (start : World) (script : List ℕ) (next : World) (done reply : List ℕ) : Type 0 where
+  pub lines : List (List ℕ)
+  pub before : List (List ℕ)
+  pub behind : List (List ℕ)
+  pub one : List ℕ
+  pub marks : List Mark
+  pub seen : World
+  pub mark : Mark
+  pub are : AreLinesOf script lines
+  pub parts : lines ≡ before ++ one ∷ behind
+  pub answered : Answered start before marks seen done
+  pub replied : IsLineReply seen (command_line one) mark next reply
 
--- the same in the session of a generated document
+-- the status's own line, behind all replies
+pub record IsOwnLine (input_failed : Type 0) (start : World) (script : List ℕ) (rest : Option (List ℕ)) (last : World)
+    (done part : List ℕ) : Type 0 where
+  pub status : Status
+  pub marks : List Mark
+  pub played : IsPlayed start script marks rest status last done
+  pub own : part ≡ own_line status
+  pub caused : status ≡ InputFault → input_failed
+
+-- the same two in the session of a generated document
 pub record IsReplyAlone (all : Opened) (old new : ℕ) (done reply : List ℕ) : Type 0 where
   pub steps : ℕ
   pub next : World
@@ -159,64 +248,70 @@ pub record IsReplyAlone (all : Opened) (old new : ℕ) (done reply : List ℕ) :
   pub kept : next.store ≡ no_files
   pub counted : next.steps ≡ new
 
--- whether the counts of misses, of files that are too long, and of faults of the store and of the input rose in a run
-pub record Rises : Type 1 where
-  pub misses : Type 0
-  pub longs : Type 0
-  pub store_faults : Type 0
-  pub input_faults : Type 0
+pub record IsOwnLineAlone (all : Opened) (old new : ℕ) (done part : List ℕ) : Type 0 where
+  pub status : Status
+  pub marks : List Mark
+  pub played : IsPlayedAlone all old new marks status done
+  pub own : part ≡ own_line status
+
+-- files were opened, and this part is being written behind what is done
+pub record IsCutOpened (all : Opened) (before after : Outside) (done part : List ℕ) : Type 0 where
+  pub script : List ℕ
+  pub first : StoreSeen
+  pub steps : ℕ
+  pub last : World
+  pub loaded : KeepsFiles before.store first
+  pub begun : steps ≤ before.steps + opening_cost all
+  pub tells : Tells before.input.left script
+  pub stored : last.store ≡ after.store
+  pub counted : last.steps ≡ after.steps
+  pub being : IsReplyBehind (start_with all first steps) script last done part
+      ⊎ IsOwnLine (Rose before.input.faults after.input.faults) (start_with all first steps) script after.input.left
+      last done part
+
+-- a document was generated
+pub record IsCutGenerated (all : Opened) (before after : Outside) (done part : List ℕ) : Type 0 where
+  pub being : IsReplyAlone all before.steps after.steps done part
+      ⊎ IsOwnLineAlone all before.steps after.steps done part
+  pub left : after.input.left ≡ before.input.left
+  pub stored : after.store ≡ before.store
+
+-- nothing was opened, and the line that says why is being written
+pub record IsCutUnopened (unopened : Outcome) (before after : Outside) (done part : List ℕ) : Type 0 where
+  pub none : done ≡ []
+  pub being : part ≡ text_of unopened
+  pub left : after.input.left ≡ before.input.left
+  pub kept : KeepsFiles before.store after.store
+  pub caused : IsCaused before.store after.store unopened
 
 -- what is being written: some of it is, and this part not yet whole
-abbrev pub IsBeingWritten : Rises → Outcome → (before after : Stored) → (old new : ℕ) → Option (List ℕ)
-    → Option (List ℕ) → (done part : List ℕ) → Type 0
-IsBeingWritten rises (opened all) before after old new told rest done part =
-    (script : List ℕ) × (first : Stored) × (steps : ℕ) × (last : World) × KeepsFiles before first
-    × (steps ≤ old + opening_cost all) × Tells told script × (last.store ≡ after) × (last.steps ≡ new)
-    × (IsReplyBehind (start_with all first steps) script last done part
-    ⊎ ((status : Status) × (marks : List Mark)
-    × IsPlayed (start_with all first steps) script marks rest status last done
-    × (part ≡ own_line status) × (status ≡ InputFault → rises.input_faults)))
-IsBeingWritten rises (generated all) before after old new told rest done part =
-    (IsReplyAlone all old new done part
-    ⊎ ((status : Status) × (marks : List Mark) × IsPlayedAlone all old new marks status done
-    × (part ≡ own_line status)))
-    × (rest ≡ told) × (after ≡ before)
-IsBeingWritten rises unopened before after old new told rest done part =
-    (done ≡ []) × (part ≡ text_of unopened) × (rest ≡ told) × KeepsFiles before after
-    × IsCaused rises.misses rises.longs rises.store_faults unopened
-
--- what a run has outside itself: a store, what the input tells, what is written, where the output tells it, and how
--- many steps were counted
-pub record Outside : Type 0 where
-  pub store : Stored
-  pub input : Option (List ℕ)
-  pub output : Option (List ℕ)
-  pub steps : ℕ
+abbrev pub IsBeingWritten : Outcome → (before after : Outside) → (done part : List ℕ) → Type 0
+IsBeingWritten (opened all) before after done part = IsCutOpened all before after done part
+IsBeingWritten (generated all) before after done part = IsCutGenerated all before after done part
+IsBeingWritten unopened before after done part = IsCutUnopened unopened before after done part
 
 -- The words and the files come to an outcome, and a run of it ends with the status. After a fault of the output only a
 -- part of what was being written is written, from its start on.
-pub record IsWritten (rises : Rises) (words : List (List ℕ)) (status : Status) (before after : Outside) : Type 0 where
+pub record IsWritten (words : List (List ℕ)) (status : Status) (before after : Outside) : Type 0 where
   pub outcome : Outcome
   pub marks : List Mark
   pub text : List ℕ
   pub comes : ComesTo words before.store.files outcome
-  pub caused : IsCaused rises.misses rises.longs rises.store_faults outcome
-  pub whole : IsWhole outcome before.store after.store before.steps after.steps before.input marks after.input status
-      text
-  pub written : after.output ≡ append_known before.output text
+  pub caused : IsCaused before.store after.store outcome
+  pub whole : IsWhole outcome before after marks status text
+  pub written : after.output.written ≡ append_known before.output.written text
 
-pub record IsCutShort (rises : Rises) (words : List (List ℕ)) (before after : Outside) : Type 0 where
+pub record IsCutShort (words : List (List ℕ)) (before after : Outside) : Type 0 where
   pub outcome : Outcome
   pub done : List ℕ
   pub part : List ℕ
   pub comes : ComesTo words before.store.files outcome
-  pub being : IsBeingWritten rises outcome before.store after.store before.steps after.steps before.input after.input
-      done part
-  pub cut : AppendsPart part (append_known before.output done) after.output
+  pub being : IsBeingWritten outcome before after done part
+  pub cut : AppendsPart part (append_known before.output.written done) after.output.written
 
-abbrev pub IsRun : Rises → List (List ℕ) → Status → (before after : Outside) → Type 0
-IsRun rises words OutputFault before after = IsCutShort rises words before after
-IsRun rises words status before after = IsWritten rises words status before after
+abbrev pub IsRun : List (List ℕ) → Status → (before after : Outside) → Type 0
+IsRun words OutputFault before after = IsCutShort words before after
+IsRun words status before after = IsWritten words status before after
 
 -- a status that words, files, script and marks determine: no device failed, and memory sufficed
 abbrev pub IsFinal : Status → Type 0
@@ -232,7 +327,7 @@ AskToGenerate words = (width height number count : ℕ) × Ask words width heigh
 
 -- A file that the words ask for, where those before it are read, is refused: it was too long, or its bytes spell no
 -- tree within the limits.
-pub record IsRefused (words : List (List ℕ)) (files : Option Files) (long : Type 0) : Type 0 where
+pub record IsRefused (words : List (List ℕ)) (old new : StoreSeen) : Type 0 where
   pub width : ℕ
   pub height : ℕ
   pub before : List Named
@@ -240,5 +335,6 @@ pub record IsRefused (words : List (List ℕ)) (files : Option Files) (long : Ty
   pub file : Named
   pub behind : List Named
   pub asked : Ask words width height (AllFiles (before ++ file ∷ behind))
-  pub read : AreRead files before buffers
-  pub refused : long ⊎ ((bytes : List ℕ) × Holds files file.word bytes × SpellsNoTree (form_of file.word) bytes)
+  pub read : AreRead old.files before buffers
+  pub refused : Rose old.longs new.longs
+      ⊎ ((bytes : List ℕ) × Holds old.files file.word bytes × SpellsNoTree (form_of file.word) bytes)

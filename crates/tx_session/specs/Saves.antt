@@ -1,5 +1,6 @@
 -- What became of a file that was to be saved. Only private clauses cite this.
 use Rattle.std.specs.Prelude.{◌≡◌, ℕ, List, Some}
+use Rattle.tx_outside.specs.Outside.{StoreSeen}
 use Rattle.tx_tree.specs.WideTree.{WideTree}
 use Rattle.tx_doc.specs.Forms.{form_of}
 use Rattle.tx_session.specs.declared.replies.Reply.{Reply}
@@ -7,10 +8,10 @@ use Rattle.tx_session.specs.declared.replies.Reply.TheVariants.{Wanting, Unsaved
 use Rattle.tx_session.specs.Forms.{writes, saving}
 use Rattle.tx_session.specs.Saying.{text_of}
 use Rattle.tx_session.specs.States.{save_reply, file_saved}
-use Rattle.tx_session.specs.Worlds.{Stored, Stores, KeepsFiles, FailsToStore}
+use Rattle.tx_session.specs.Worlds.{Stores, KeepsFiles, FailsToStore}
 
 -- the reply to saving the tree under this name
-abbrev pub IsSaveReply : List ℕ → WideTree → Reply → (before after : Stored) → Type 0
+abbrev pub IsSaveReply : List ℕ → WideTree → Reply → (before after : StoreSeen) → Type 0
 IsSaveReply name t Wanting before after = KeepsFiles before after
 IsSaveReply name t Unsaved before after =
     (bytes : List ℕ) × (saving (form_of name) t ≡ writes bytes) × FailsToStore name before after
@@ -18,7 +19,7 @@ IsSaveReply name t reply before after = (text_of reply ≡ save_reply (saving (f
     × Stores (file_saved name (saving (form_of name) t)) before after
 
 -- the reply to storing these bytes, where another was given for success
-abbrev pub IsKeepReply : List ℕ → List ℕ → (given : Reply) → Reply → (before after : Stored) → Type 0
+abbrev pub IsKeepReply : List ℕ → List ℕ → (given : Reply) → Reply → (before after : StoreSeen) → Type 0
 IsKeepReply name bytes given Wanting before after = KeepsFiles before after
 IsKeepReply name bytes given Unsaved before after = FailsToStore name before after
 IsKeepReply name bytes given reply before after = (reply ≡ given) × Stores (Some (name, bytes)) before after

@@ -3,6 +3,7 @@ use Rattle.std.specs.Prelude.{◌≡◌, ◌⊎◌, ◌<◌, ℕ, List, ◌∷�
 use Rattle.tx_outside.specs.Files.{WithFile}
 use Rattle.tx_outside.specs.Known.{WhereKnown}
 use Rattle.tx_outside.specs.declared.file_store.TheConstants.{MOST_FILE}
+use Rattle.tx_outside.specs.Outside.{StoreSeen}
 use Rattle.tx_tree.specs.WideTree.{WideTree}
 use Rattle.tx_doc.specs.Forms.{form_of}
 use Rattle.tx_session.specs.Causes.{numbered}
@@ -10,17 +11,17 @@ use Rattle.tx_session.specs.Forms.{SpellsAloneIn}
 use Rattle.tx_print.specs.Lines.{line}
 use Rattle.tx_session.specs.Replies.{IsLineReply}
 use Rattle.tx_session.specs.Scripts.{Answered, command_line}
-use Rattle.tx_session.specs.Worlds.{World, Stored, Mark}
+use Rattle.tx_session.specs.Worlds.{World, Mark}
 
 -- the file of this name spells the tree and no other, in the syntax of the name, and the reply counts its bytes
-pub record IsSavedAlone (name : List ℕ) (t : WideTree) (before after : Stored) (reply : List ℕ) : Type 0 where
+pub record IsSavedAlone (name : List ℕ) (t : WideTree) (before after : StoreSeen) (reply : List ℕ) : Type 0 where
   pub bytes : List ℕ
   pub alone : SpellsAloneIn (form_of name) bytes t
   pub said : reply ≡ numbered (codes "saved ") (length bytes)
   pub kept : WhereKnown (WithFile name bytes) before.files after.files
 
 -- the tree has no text in the syntax of the name, or a longer one than a file may have, and the store is untouched
-abbrev pub IsNotSaved : Stored → Stored → List ℕ → Type 0
+abbrev pub IsNotSaved : StoreSeen → StoreSeen → List ℕ → Type 0
 IsNotSaved before after reply =
     (after ≡ before)
     × ((reply ≡ line (codes "no form")) ⊎ ((n : ℕ) × (MOST_FILE < n) × (reply ≡ numbered (codes "no file-long ") n)))

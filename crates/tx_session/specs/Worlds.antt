@@ -1,8 +1,9 @@
 -- A session with what it keeps and its store, and marks of lines.
 use Rattle.std.specs.Prelude.{◌≡◌, ◌≤◌, ◌⊎◌, ◌+◌, ◌-◌, ◌^◌, ℕ, Bool, List, [], ◌∷◌, Option, Some, None}
-use Rattle.tx_outside.specs.Counts.{NeverFalls, Rose}
-use Rattle.tx_outside.specs.Files.{Files, WithFile, OthersKept}
+use Rattle.tx_outside.specs.Counts.{Rose}
+use Rattle.tx_outside.specs.Files.{WithFile, OthersKept}
 use Rattle.tx_outside.specs.Known.{WhereKnown}
+use Rattle.tx_outside.specs.Outside.{StoreGoesOn, StoreSeen}
 use Rattle.tx_state.specs.States.{State}
 use Rattle.tx_view.specs.Stores.{Stores as ViewStores}
 
@@ -26,30 +27,22 @@ pub record Whole : Type 0 where
   pub seen : Seen
   pub keep : Keep
 
--- the files of a store, where it tells them, and how often it has failed
-pub record Stored : Type 0 where
-  pub files : Option Files
-  pub faults : ℕ
-
-abbrev pub stored : Option Files → ℕ → Stored
-stored files faults = record { files = files; faults = faults }
-
 -- a session as it is seen, with its store
 pub record SeenWorld : Type 0 where
   pub session : Seen
-  pub store : Stored
+  pub store : StoreSeen
 
-abbrev pub seen_world : Seen → Option Files → ℕ → SeenWorld
-seen_world session files faults = record { session = session; store = stored files faults }
+abbrev pub seen_world : Seen → StoreSeen → SeenWorld
+seen_world session store = record { session = session; store = store }
 
 -- a session with what it keeps, its store, and how many steps were counted
 pub record World : Type 0 where
   pub session : Whole
-  pub store : Stored
+  pub store : StoreSeen
   pub steps : ℕ
 
-abbrev pub world : Whole → Option Files → ℕ → ℕ → World
-world session files faults steps = record { session = session; store = stored files faults; steps = steps }
+abbrev pub world : Whole → StoreSeen → ℕ → World
+world session store steps = record { session = session; store = store; steps = steps }
 
 abbrev pub seen_in : World → SeenWorld
 seen_in w = record { session = w.session.seen; store = w.store }
@@ -76,19 +69,19 @@ untold unsaved = unsaved
 untold (told n) = plain
 
 -- the store did nothing, or keeps this file
-abbrev pub Stores : Option (List ℕ × List ℕ) → Stored → Stored → Type 0
+abbrev pub Stores : Option (List ℕ × List ℕ) → StoreSeen → StoreSeen → Type 0
 Stores None before after = after ≡ before
 Stores (Some file) before after =
-    WhereKnown (WithFile file.0 file.1) before.files after.files × NeverFalls before.faults after.faults
+    WhereKnown (WithFile file.0 file.1) before.files after.files × StoreGoesOn before after
 
 -- the files are as before
-abbrev pub KeepsFiles : Stored → Stored → Type 0
-KeepsFiles before after = (after.files ≡ before.files) × NeverFalls before.faults after.faults
+abbrev pub KeepsFiles : StoreSeen → StoreSeen → Type 0
+KeepsFiles before after = (after.files ≡ before.files) × StoreGoesOn before after
 
 -- the store failed in saving the file of this name, of which nothing is known then
-abbrev pub FailsToStore : List ℕ → Stored → Stored → Type 0
+abbrev pub FailsToStore : List ℕ → StoreSeen → StoreSeen → Type 0
 FailsToStore name before after = WhereKnown (OthersKept name) before.files after.files × Rose before.faults after.faults
-    × NeverFalls before.faults after.faults
+    × StoreGoesOn before after
 
 -- how many lines are marked as not saved
 abbrev pub unsaved_in : List Mark → ℕ

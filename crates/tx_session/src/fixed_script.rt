@@ -14,9 +14,7 @@ pub(crate) struct FixedScript {
 }
 
 impl Source for FixedScript {
-    ghost left = { λ script. Some script.rest.now };
-
-    ghost faults = { λ _. 0 };
+    ghost seen = { λ script. record { left = Some script.rest.now; faults = 0 } };
 
     fn read(&mut self, into: &mut [u8]) -> Result<usize, Failed> {
         let count = self.rest.len().min(into.len());

@@ -1,5 +1,5 @@
 // A store without files.
-ghost use Rattle.std.specs.Prelude.{Some, []};
+ghost use Rattle.tx_session.specs.Runs.{no_files};
 
 use tx_outside::{LoadFault, SaveFault, Store};
 
@@ -8,13 +8,7 @@ use tx_outside::{LoadFault, SaveFault, Store};
 pub(crate) struct NoFiles;
 
 impl Store for NoFiles {
-    ghost files = { λ _. Some [] };
-
-    ghost faults = { λ _. 0 };
-
-    ghost misses = { λ _. 0 };
-
-    ghost longs = { λ _. 0 };
+    ghost seen = { λ _. no_files };
 
     fn load(&mut self, _name: &[u8], _out: &mut Vec<u8>) -> Result<(), LoadFault> {
         Err(LoadFault::Memory)

@@ -14,8 +14,7 @@ pub(crate) fn print_view<O: Sink>(
     command: &Command,
     out: &mut O,
 ) -> Result<(), WriteFault>
-    ensures { IsPrinted result (printed view.now.width view.now.shown command.now) (O.written out.old)
-        (O.written out.new) (O.faults out.old) (O.faults out.new) }
+    ensures { IsPrinted result (printed view.now.width view.now.shown command.now) (O.seen out.old) (O.seen out.new) }
 {
     match command {
         Command::Show => print_pages(view, out),

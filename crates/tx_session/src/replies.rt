@@ -1,8 +1,8 @@
 // Replies, and how they are written.
 ghost use Rattle.std.specs.Prelude.{◌≡◌, ◌≢◌, ◌++◌, ◌∷◌, ◌⊎◌, ◌≤◌, ℕ, List, length, codes, decimal, IfOk, OnErr, Ok};
 ghost use Rattle.tx_cmd.specs.declared.command.Command.{Command};
-ghost use Rattle.tx_outside.specs.Counts.{NeverFalls, Rose};
-ghost use Rattle.tx_outside.specs.Known.{StaysKnown};
+ghost use Rattle.tx_outside.specs.Counts.{Rose};
+ghost use Rattle.tx_outside.specs.Outside.{SinkGoesOn};
 ghost use Rattle.tx_session.specs.Asking.{is_plain};
 ghost use Rattle.tx_session.specs.Causes.{cause_reply, astray_reply, key_reply, numbered};
 ghost use Rattle.tx_session.specs.FaultTexts.{fault_text};
@@ -156,11 +156,10 @@ pub(crate) fn astray(alloc: Global, cause: PlaceFault) -> Reply
 
 /// Writes a reply.
 pub(crate) fn say<O: Sink>(out: &mut O, reply: &[u8]) -> Result<Next, WriteFault>
-    ensures said { IsSaid result reply.now (O.written out.old) (O.written out.new) }
+    ensures said { IsSaid result reply.now (O.seen out.old).written (O.seen out.new).written }
     ensures goes { result ≢ Ok Next.Quit }
-    ensures failed_rose { OnErr result (Rose (O.faults out.old) (O.faults out.new)) }
-    ensures faults_never_fall { NeverFalls (O.faults out.old) (O.faults out.new) }
-    ensures stays_known { StaysKnown (O.written out.old) (O.written out.new) }
+    ensures failed_rose { OnErr result (Rose (O.seen out.old).faults (O.seen out.new).faults) }
+    ensures output_goes_on { SinkGoesOn (O.seen out.old) (O.seen out.new) }
 {
     write_all(out, reply)?;
     Ok(Next::Go)

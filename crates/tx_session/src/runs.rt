@@ -3,22 +3,22 @@ ghost use Rattle.std.specs.Prelude.{◌≡◌, ◌⊎◌, ◌≤◌, ◌<◌, �
 ghost use Rattle.std.specs.Prelude.{Some, true, false, List, Bool, Option, is_some, IfOk, IfSome};
 ghost use Rattle.std.specs.String.{string_bytes};
 ghost use Rattle.std.specs.Io.KnownBytes.{append_known};
-ghost use Rattle.tx_outside.specs.Counts.{NeverFalls, Rose};
+ghost use Rattle.tx_outside.specs.Counts.{Rose};
 ghost use Rattle.tx_outside.specs.Files.{Files};
-ghost use Rattle.tx_outside.specs.Known.{AppendsPart, StaysKnown};
+ghost use Rattle.tx_outside.specs.Known.{AppendsPart};
+ghost use Rattle.tx_outside.specs.Outside.{SinkGoesOn, SourceGoesOn, StoreGoesOn, StoreIsFaultless};
 ghost use Rattle.tx_words.specs.Words.{AreFaulty};
 ghost use Rattle.tx_open.specs.declared.opening.Opened.{Opened as WasOpened};
 ghost use Rattle.tx_open.specs.Openings.{outcome_of};
 ghost use Rattle.tx_open.specs.Outcomes.{AskForFiles, CanBeOpened, ComesTo, Outcome, generated, no_memory, opened};
 ghost use Rattle.tx_doc.specs.Buffers.{NamesDiffer};
 ghost use Rattle.tx_units.specs.Units.{made};
-ghost use Rattle.tx_session.specs.Runs.{AskToGenerate, CanBeRead, IsFinal, IsRefused, IsRun, IsWhole, IsWritten};
-ghost use Rattle.tx_session.specs.Runs.{opening_cost, own_line, start_of, start_with, whole_start};
+ghost use Rattle.tx_session.specs.Runs.{AskToGenerate, CanBeRead, IsFinal, IsRefused, IsRun, IsWhole, Outside};
+ghost use Rattle.tx_session.specs.Runs.{opening_cost, outside, own_line, start_of, start_with, whole_start};
 ghost use Rattle.tx_session.specs.Differences.{EndsAtOpening, HoldSameFiles, Suffices};
 ghost use Rattle.tx_session.specs.Playing.{IsLine, IsServed, IsServedAlone};
 ghost use Rattle.tx_session.specs.Scripts.{Answered};
-ghost use Rattle.tx_session.specs.Storing.{GoesOn};
-ghost use Rattle.tx_session.specs.Worlds.{Mark, Stored, Whole, World, RoseBy, stored, unsaved_in, untold, world};
+ghost use Rattle.tx_session.specs.Worlds.{Mark, Whole, World, RoseBy, unsaved_in, untold, world};
 ghost use Rattle.tx_session.specs.declared.status.Status.{Status};
 
 use crate::fixed_script::{FixedScript, GENERATED_SCRIPT};
@@ -26,7 +26,7 @@ use crate::no_files::NoFiles;
 use crate::script::play;
 use crate::session::Session;
 use crate::status::Status;
-use crate::unopened::{USAGE, status_of, text_of};
+use crate::unopened::{OUT_OF_MEMORY, USAGE, status_of, text_of};
 use std::alloc::Global;
 use std::mem;
 use std::sync::ledger::Ledger;
@@ -39,11 +39,10 @@ use tx_view_form::one_view;
 fn finish<O: Sink>(out: &mut O, text: &[u8], status: Status) -> Status
     requires { status ≢ Status.OutputFault }
     ensures done { result ≢ Status.OutputFault
-        → (result ≡ status) × (O.written out.new ≡ append_known (O.written out.old) text.now) }
-    ensures cut { result ≡ Status.OutputFault → AppendsPart text.now (O.written out.old) (O.written out.new) }
-    ensures counted { result ≡ Status.OutputFault → Rose (O.faults out.old) (O.faults out.new) }
-    ensures faults_never_fall { NeverFalls (O.faults out.old) (O.faults out.new) }
-    ensures stays_known { StaysKnown (O.written out.old) (O.written out.new) }
+        → (result ≡ status) × ((O.seen out.new).written ≡ append_known (O.seen out.old).written text.now) }
+    ensures cut { result ≡ Status.OutputFault → AppendsPart text.now (O.seen out.old).written (O.seen out.new).written }
+    ensures counted { result ≡ Status.OutputFault → Rose (O.seen out.old).faults (O.seen out.new).faults }
+    ensures output_goes_on { SinkGoesOn (O.seen out.old) (O.seen out.new) }
 {
     match write_all(out, text) {
         Ok(()) => status,
@@ -55,15 +54,14 @@ fn finish<O: Sink>(out: &mut O, text: &[u8], status: Status) -> Status
 fn report<O: Sink>(alloc: Global, failed: &Opening, out: &mut O) -> Status
     requires unopened { (all : WasOpened) → (outcome_of failed.now ≢ opened all)
         × (outcome_of failed.now ≢ generated all) }
-    ensures line { IsLine (outcome_of failed.now) result (O.written out.old) (O.written out.new)
-        ⊎ IsLine no_memory result (O.written out.old) (O.written out.new) }
-    ensures counted { result ≡ Status.OutputFault → Rose (O.faults out.old) (O.faults out.new) }
-    ensures faults_never_fall { NeverFalls (O.faults out.old) (O.faults out.new) }
-    ensures stays_known { StaysKnown (O.written out.old) (O.written out.new) }
+    ensures line { IsLine (outcome_of failed.now) result (O.seen out.old).written (O.seen out.new).written
+        ⊎ IsLine no_memory result (O.seen out.old).written (O.seen out.new).written }
+    ensures counted { result ≡ Status.OutputFault → Rose (O.seen out.old).faults (O.seen out.new).faults }
+    ensures output_goes_on { SinkGoesOn (O.seen out.old) (O.seen out.new) }
 {
     match text_of(alloc, failed) {
         Ok(text) => finish(out, &text, status_of(failed)),
-        Err(Memory) => finish(out, b"memory\n", Status::NoMemory),
+        Err(Memory) => finish(out, OUT_OF_MEMORY, Status::NoMemory),
     }
 }
 
@@ -74,7 +72,7 @@ fn own_line(status: Status) -> &'static [u8]
     match status {
         Status::InputFault => b"input\n",
         Status::ScriptLong => b"script-long\n",
-        Status::NoMemory => b"memory\n",
+        Status::NoMemory => OUT_OF_MEMORY,
         _ => b"",
     }
 }
@@ -105,18 +103,15 @@ fn serve<S: Store, I: Source, O: Sink, L: Ledger>(
     out: &mut O,
     steps: &mut Steps<L>,
 ) -> Status
-    ensures ended { IsServed (Rose (I.faults input.old) (I.faults input.new)) result
-        (world session.old (S.files store.old) (S.faults store.old) steps.old)
-        (world session.new (S.files store.new) (S.faults store.new) steps.new) (I.left input.old) (I.left input.new)
-        (O.written out.old) (O.written out.new) }
-    ensures input_fault_counted { result ≡ Status.InputFault → Rose (I.faults input.old) (I.faults input.new) }
-    ensures output_fault_counted { result ≡ Status.OutputFault → Rose (O.faults out.old) (O.faults out.new) }
-    ensures store_goes_on { GoesOn (S.files store.old) (S.files store.new) (S.faults store.old) (S.faults store.new)
-        (S.misses store.old) (S.misses store.new) (S.longs store.old) (S.longs store.new) }
-    ensures input_faults_never_fall { NeverFalls (I.faults input.old) (I.faults input.new) }
-    ensures output_faults_never_fall { NeverFalls (O.faults out.old) (O.faults out.new) }
-    ensures input_stays_known { StaysKnown (I.left input.old) (I.left input.new) }
-    ensures output_stays_known { StaysKnown (O.written out.old) (O.written out.new) }
+    ensures ended { IsServed (Rose (I.seen input.old).faults (I.seen input.new).faults) result
+        (world session.old (S.seen store.old) steps.old) (world session.new (S.seen store.new) steps.new)
+        (I.seen input.old).left (I.seen input.new).left (O.seen out.old).written (O.seen out.new).written }
+    ensures input_fault_counted { result ≡ Status.InputFault
+        → Rose (I.seen input.old).faults (I.seen input.new).faults }
+    ensures output_fault_counted { result ≡ Status.OutputFault → Rose (O.seen out.old).faults (O.seen out.new).faults }
+    ensures store_goes_on { StoreGoesOn (S.seen store.old) (S.seen store.new) }
+    ensures input_goes_on { SourceGoesOn (I.seen input.old) (I.seen input.new) }
+    ensures output_goes_on { SinkGoesOn (O.seen out.old) (O.seen out.new) }
 {
     match play(alloc, session, store, input, out, steps) {
         Status::OutputFault => Status::OutputFault,
@@ -138,25 +133,24 @@ fn run_opened<S: Store, I: Source, O: Sink, L: Ledger>(
     requires number { (1 ≤ length all.buffers) × (length all.buffers ≤ 16) }
     requires names { NamesDiffer all.buffers }
     ensures ended { ((store.new ≡ store.old) × (input.new ≡ input.old)
-        × IsLine no_memory result (O.written out.old) (O.written out.new))
+        × IsLine no_memory result (O.seen out.old).written (O.seen out.new).written)
         ⊎ ((begun : ℕ) × (last : Whole) × (begun ≤ steps.old + made all.buffers)
-        × IsServed (Rose (I.faults input.old) (I.faults input.new)) result
-        (start_with all (stored (S.files store.old) (S.faults store.old)) begun)
-        (world last (S.files store.new) (S.faults store.new) steps.new) (I.left input.old) (I.left input.new)
-        (O.written out.old) (O.written out.new)) }
+        × IsServed (Rose (I.seen input.old).faults (I.seen input.new).faults) result
+        (start_with all (S.seen store.old) begun) (world last (S.seen store.new) steps.new)
+        (I.seen input.old).left (I.seen input.new).left
+        (O.seen out.old).written (O.seen out.new).written) }
     ensures served { ¬ EndsAtOpening result }
-    ensures script_long { result ≡ Status.ScriptLong → IfSome (I.left input.old) (λ script. ¬ CanBeRead script) }
-    ensures complete { ((script : List ℕ) × (I.left input.old ≡ Some script) × CanBeRead script)
-        → ¬ Rose (I.faults input.old) (I.faults input.new) → ¬ Rose (O.faults out.old) (O.faults out.new)
+    ensures script_long { result ≡ Status.ScriptLong → IfSome (I.seen input.old).left (λ script. ¬ CanBeRead script) }
+    ensures complete { ((script : List ℕ) × ((I.seen input.old).left ≡ Some script) × CanBeRead script)
+        → ¬ Rose (I.seen input.old).faults (I.seen input.new).faults
+        → ¬ Rose (O.seen out.old).faults (O.seen out.new).faults
         → (result ≡ Status.Ok) ⊎ (result ≡ Status.NoMemory) }
-    ensures input_fault_counted { result ≡ Status.InputFault → Rose (I.faults input.old) (I.faults input.new) }
-    ensures output_fault_counted { result ≡ Status.OutputFault → Rose (O.faults out.old) (O.faults out.new) }
-    ensures store_goes_on { GoesOn (S.files store.old) (S.files store.new) (S.faults store.old) (S.faults store.new)
-        (S.misses store.old) (S.misses store.new) (S.longs store.old) (S.longs store.new) }
-    ensures input_faults_never_fall { NeverFalls (I.faults input.old) (I.faults input.new) }
-    ensures output_faults_never_fall { NeverFalls (O.faults out.old) (O.faults out.new) }
-    ensures input_stays_known { StaysKnown (I.left input.old) (I.left input.new) }
-    ensures output_stays_known { StaysKnown (O.written out.old) (O.written out.new) }
+    ensures input_fault_counted { result ≡ Status.InputFault
+        → Rose (I.seen input.old).faults (I.seen input.new).faults }
+    ensures output_fault_counted { result ≡ Status.OutputFault → Rose (O.seen out.old).faults (O.seen out.new).faults }
+    ensures store_goes_on { StoreGoesOn (S.seen store.old) (S.seen store.new) }
+    ensures input_goes_on { SourceGoesOn (I.seen input.old) (I.seen input.new) }
+    ensures output_goes_on { SinkGoesOn (O.seen out.old) (O.seen out.new) }
 {
     match session_of(alloc, all, steps) {
         Ok(mut session) => {
@@ -165,7 +159,7 @@ fn run_opened<S: Store, I: Source, O: Sink, L: Ledger>(
             mem::forget(session);
             status
         }
-        Err(Memory) => finish(out, b"memory\n", Status::NoMemory),
+        Err(Memory) => finish(out, OUT_OF_MEMORY, Status::NoMemory),
     }
 }
 
@@ -180,17 +174,16 @@ fn run_alone<O: Sink, L: Ledger>(
     requires height { (5 ≤ all.height) × (all.height ≤ 500) }
     requires number { (1 ≤ length all.buffers) × (length all.buffers ≤ 16) }
     requires names { NamesDiffer all.buffers }
-    ensures ended { IsLine no_memory result (O.written out.old) (O.written out.new)
+    ensures ended { IsLine no_memory result (O.seen out.old).written (O.seen out.new).written
         ⊎ ((old : ℕ) → steps.old + made all.buffers ≤ old + opening_cost all
-        → IsServedAlone all old steps.new result (O.written out.old) (O.written out.new)) }
+        → IsServedAlone all old steps.new result (O.seen out.old).written (O.seen out.new).written) }
     ensures served { ¬ EndsAtOpening result }
     ensures no_input { result ≢ Status.InputFault }
     ensures not_long { result ≢ Status.ScriptLong }
-    ensures complete { ¬ Rose (O.faults out.old) (O.faults out.new)
+    ensures complete { ¬ Rose (O.seen out.old).faults (O.seen out.new).faults
         → (result ≡ Status.Ok) ⊎ (result ≡ Status.NoMemory) }
-    ensures output_fault_counted { result ≡ Status.OutputFault → Rose (O.faults out.old) (O.faults out.new) }
-    ensures output_faults_never_fall { NeverFalls (O.faults out.old) (O.faults out.new) }
-    ensures output_stays_known { StaysKnown (O.written out.old) (O.written out.new) }
+    ensures output_fault_counted { result ≡ Status.OutputFault → Rose (O.seen out.old).faults (O.seen out.new).faults }
+    ensures output_goes_on { SinkGoesOn (O.seen out.old) (O.seen out.new) }
 {
     let mut files = NoFiles;
     let mut script = FixedScript {
@@ -221,48 +214,34 @@ pub fn run<S: Store, I: Source, O: Sink, L: Ledger>(
     out: &mut O,
     steps: &mut Steps<L>,
 ) -> Status
-    ensures run { IsRun
-        (record {
-          misses = Rose (S.misses store.old) (S.misses store.new);
-          longs = Rose (S.longs store.old) (S.longs store.new);
-          store_faults = Rose (S.faults store.old) (S.faults store.new);
-          input_faults = Rose (I.faults input.old) (I.faults input.new);
-        })
-        (map string_bytes words.now) result
-        (record {
-          store = stored (S.files store.old) (S.faults store.old);
-          input = I.left input.old;
-          output = O.written out.old;
-          steps = steps.old;
-        })
-        (record {
-          store = stored (S.files store.new) (S.faults store.new);
-          input = I.left input.new;
-          output = O.written out.new;
-          steps = steps.new;
-        }) }
+    ensures run { IsRun (map string_bytes words.now) result
+        (outside (S.seen store.old) (I.seen input.old) (O.seen out.old) steps.old)
+        (outside (S.seen store.new) (I.seen input.new) (O.seen out.new) steps.new) }
 
     // Where each status comes.
     ensures words { result ≡ Status.Words → AreFaulty (map string_bytes words.now) }
     ensures words_only { AreFaulty (map string_bytes words.now)
         → (result ≡ Status.Words) ⊎ (result ≡ Status.NoMemory) ⊎ (result ≡ Status.OutputFault) }
-    ensures missing_counted { result ≡ Status.Missing → Rose (S.misses store.old) (S.misses store.new) }
+    ensures missing_counted { result ≡ Status.Missing → Rose (S.seen store.old).misses (S.seen store.new).misses }
     ensures refused { result ≡ Status.Refused
-        → IsRefused (map string_bytes words.now) (S.files store.old) (Rose (S.longs store.old) (S.longs store.new)) }
-    ensures store_fault_counted { result ≡ Status.StoreFault → Rose (S.faults store.old) (S.faults store.new) }
-    ensures input_fault_counted { result ≡ Status.InputFault → Rose (I.faults input.old) (I.faults input.new) }
-    ensures output_fault_counted { result ≡ Status.OutputFault → Rose (O.faults out.old) (O.faults out.new) }
-    ensures script_long { result ≡ Status.ScriptLong → IfSome (I.left input.old) (λ script. ¬ CanBeRead script) }
-    ensures complete { CanBeOpened (map string_bytes words.now) (S.files store.old)
-        → ((script : List ℕ) × (I.left input.old ≡ Some script) × CanBeRead script)
-        → ¬ Rose (S.misses store.old) (S.misses store.new) → ¬ Rose (S.longs store.old) (S.longs store.new)
-        → ¬ Rose (S.faults store.old) (S.faults store.new)
-        → ¬ Rose (I.faults input.old) (I.faults input.new) → ¬ Rose (O.faults out.old) (O.faults out.new)
+        → IsRefused (map string_bytes words.now) (S.seen store.old) (S.seen store.new) }
+    ensures store_fault_counted { result ≡ Status.StoreFault
+        → Rose (S.seen store.old).faults (S.seen store.new).faults }
+    ensures input_fault_counted { result ≡ Status.InputFault
+        → Rose (I.seen input.old).faults (I.seen input.new).faults }
+    ensures output_fault_counted { result ≡ Status.OutputFault → Rose (O.seen out.old).faults (O.seen out.new).faults }
+    ensures script_long { result ≡ Status.ScriptLong → IfSome (I.seen input.old).left (λ script. ¬ CanBeRead script) }
+    ensures complete { CanBeOpened (map string_bytes words.now) (S.seen store.old).files
+        → ((script : List ℕ) × ((I.seen input.old).left ≡ Some script) × CanBeRead script)
+        → StoreIsFaultless (S.seen store.old) (S.seen store.new)
+        → ¬ Rose (I.seen input.old).faults (I.seen input.new).faults
+        → ¬ Rose (O.seen out.old).faults (O.seen out.new).faults
         → (result ≡ Status.Ok) ⊎ (result ≡ Status.NoMemory) }
     ensures complete_generated { AskToGenerate (map string_bytes words.now)
-        → ¬ Rose (O.faults out.old) (O.faults out.new) → (result ≡ Status.Ok) ⊎ (result ≡ Status.NoMemory) }
+        → ¬ Rose (O.seen out.old).faults (O.seen out.new).faults
+        → (result ≡ Status.Ok) ⊎ (result ≡ Status.NoMemory) }
 
-    // What is as before, and what never falls.
+    // What is as before, and what goes on.
     ensures words_touch_nothing { AreFaulty (map string_bytes words.now)
         → (store.new ≡ store.old) × (input.new ≡ input.old) × (steps.new ≡ steps.old) }
     ensures generated_touches_nothing { AskToGenerate (map string_bytes words.now)
@@ -270,15 +249,10 @@ pub fn run<S: Store, I: Source, O: Sink, L: Ledger>(
     ensures untouched_unless_asked { (store.new ≡ store.old) ⊎ AskForFiles (map string_bytes words.now) }
     ensures unread { EndsAtOpening result → input.new ≡ input.old }
     ensures unread_unless_opened { (input.new ≡ input.old)
-        ⊎ ((all : WasOpened) × ComesTo (map string_bytes words.now) (S.files store.old) (opened all)) }
-    ensures files_stay_known { StaysKnown (S.files store.old) (S.files store.new) }
-    ensures output_stays_known { StaysKnown (O.written out.old) (O.written out.new) }
-    ensures input_stays_known { StaysKnown (I.left input.old) (I.left input.new) }
-    ensures store_faults_never_fall { NeverFalls (S.faults store.old) (S.faults store.new) }
-    ensures misses_never_fall { NeverFalls (S.misses store.old) (S.misses store.new) }
-    ensures longs_never_fall { NeverFalls (S.longs store.old) (S.longs store.new) }
-    ensures input_faults_never_fall { NeverFalls (I.faults input.old) (I.faults input.new) }
-    ensures output_faults_never_fall { NeverFalls (O.faults out.old) (O.faults out.new) }
+        ⊎ ((all : WasOpened) × ComesTo (map string_bytes words.now) (S.seen store.old).files (opened all)) }
+    ensures store_goes_on { StoreGoesOn (S.seen store.old) (S.seen store.new) }
+    ensures input_goes_on { SourceGoesOn (I.seen input.old) (I.seen input.new) }
+    ensures output_goes_on { SinkGoesOn (O.seen out.old) (O.seen out.new) }
 {
     let opening = open(alloc, words, store, steps);
     match opening {
@@ -294,11 +268,12 @@ pub fn run<S: Store, I: Source, O: Sink, L: Ledger>(
 /// otherwise. Where the store never failed, they leave the same files.
 pub fn one_run()
     ensures { (words : List (List ℕ)) (all : Files) (script : List ℕ) (marks : List Mark) (o p : Outcome)
-        (v w x y : Stored) (i j k l : ℕ) (r q : Option (List ℕ)) (s t : Status) (a b : List ℕ)
-        → IsFinal s → IsFinal t → v.files ≡ Some all → w.files ≡ Some all → ComesTo words (Some all) o
-        → ComesTo words (Some all) p
-        → IsWhole o v x i k (Some script) marks r s a → IsWhole p w y j l (Some script) marks q t b
-        → (s ≡ t) × (a ≡ b) × (unsaved_in marks ≡ 0 → HoldSameFiles x.files y.files) }
+        (v w x y : Outside) (s t : Status) (a b : List ℕ)
+        → IsFinal s → IsFinal t → v.store.files ≡ Some all → w.store.files ≡ Some all
+        → v.input.left ≡ Some script → w.input.left ≡ Some script
+        → ComesTo words (Some all) o → ComesTo words (Some all) p
+        → IsWhole o v x marks s a → IsWhole p w y marks t b
+        → (s ≡ t) × (a ≡ b) × (unsaved_in marks ≡ 0 → HoldSameFiles x.store.files y.store.files) }
 {
     one_view();
     one_outcome();
@@ -308,10 +283,11 @@ pub fn one_run()
 /// words, files and script whose marks differ in those numbers alone, the marks are the same.
 pub fn numbers_determined()
     ensures { (words : List (List ℕ)) (all : Files) (script : List ℕ) (marks others : List Mark) (o p : Outcome)
-        (v w x y : Stored) (i j k l : ℕ) (r q : Option (List ℕ)) (s t : Status) (a b : List ℕ)
-        → IsFinal s → IsFinal t → ComesTo words (Some all) o → ComesTo words (Some all) p
+        (v w x y : Outside) (s t : Status) (a b : List ℕ)
+        → IsFinal s → IsFinal t → v.input.left ≡ Some script → w.input.left ≡ Some script
+        → ComesTo words (Some all) o → ComesTo words (Some all) p
         → Suffices marks → map untold marks ≡ map untold others
-        → IsWhole o v x i k (Some script) marks r s a → IsWhole p w y j l (Some script) others q t b
+        → IsWhole o v x marks s a → IsWhole p w y others t b
         → marks ≡ others }
 {
     one_view();
@@ -323,8 +299,7 @@ pub fn numbers_determined()
 pub fn failures_counted()
     ensures lines { (before last : World) (lines : List (List ℕ)) (marks : List Mark) (text : List ℕ)
         → Answered before lines marks last text → RoseBy (unsaved_in marks) before.store.faults last.store.faults }
-    ensures whole { (o : Outcome) (before after : Stored) (old new : ℕ) (told rest : Option (List ℕ))
-        (marks : List Mark) (status : Status) (text : List ℕ)
-        → IsWhole o before after old new told marks rest status text
-        → RoseBy (unsaved_in marks) before.faults after.faults }
+    ensures whole { (o : Outcome) (before after : Outside) (marks : List Mark) (status : Status) (text : List ℕ)
+        → IsWhole o before after marks status text
+        → RoseBy (unsaved_in marks) before.store.faults after.store.faults }
 {}

@@ -1,6 +1,7 @@
 // The file of a tree, and saving it.
 ghost use Rattle.std.specs.Prelude.{◌≡◌, ◌≢◌, ◌⊎◌, ◌∷◌, ◌++◌, ℕ, List, [], Option, true, length, IfOk, Some, None};
 ghost use Rattle.tx_outside.specs.Files.{Files, file_of};
+ghost use Rattle.tx_outside.specs.Outside.{StoreGoesOn, StoreSeen};
 ghost use Rattle.tx_session.specs.Forms.{has_text_in, saving, text_in, SpellsAloneIn, writes};
 ghost use Rattle.tx_print.specs.Lines.{line};
 ghost use Rattle.tx_words.specs.Names.{buffer_name};
@@ -10,13 +11,12 @@ ghost use Rattle.tx_open.specs.declared.opening.Opened.{Opened};
 ghost use Rattle.tx_open.specs.Outcomes.{Outcome, opened, ComesTo, IsDecided, IsTreeOf};
 ghost use Rattle.tx_session.specs.Saves.{IsKeepReply, IsSaveReply};
 ghost use Rattle.tx_session.specs.States.{file_saved, selected_tree};
-ghost use Rattle.tx_session.specs.Worlds.{World, Stored, Mark, plain, stored};
+ghost use Rattle.tx_session.specs.Worlds.{World, Mark, plain};
 ghost use Rattle.tx_session.specs.Savings.{IsSavedAlone, IsNotSaved, StandsAmong};
 ghost use Rattle.tx_session.specs.Scripts.{Answered, command_line};
 ghost use Rattle.tx_session.specs.Replies.{command, IsRead, IsLineReply};
 ghost use Rattle.tx_session.specs.Runs.{start_with};
 ghost use Rattle.tx_cmd.specs.declared.command.Command.{Command};
-ghost use Rattle.tx_session.specs.Storing.{GoesOn};
 ghost use Rattle.tx_tree.specs.WideTree.{WideTree};
 ghost use Rattle.tx_tree.specs.Limits.{IsWellFormed, IsWithinLimits};
 ghost use Rattle.tx_doc.specs.Forms.{form_of};
@@ -69,10 +69,8 @@ fn file_bytes(alloc: Global, form: Form, tree: &Tree) -> Result<Vec<u8>, Memory>
 
 /// Saves the tree in the file of this name, in the form that the name says.
 pub(crate) fn save<S: Store>(alloc: Global, tree: &Tree, name: &[u8], store: &mut S) -> Reply
-    ensures saved { IsSaveReply name.now tree.now result (stored (S.files store.old) (S.faults store.old))
-        (stored (S.files store.new) (S.faults store.new)) }
-    ensures store_goes_on { GoesOn (S.files store.old) (S.files store.new) (S.faults store.old) (S.faults store.new)
-        (S.misses store.old) (S.misses store.new) (S.longs store.old) (S.longs store.new) }
+    ensures saved { IsSaveReply name.now tree.now result (S.seen store.old) (S.seen store.new) }
+    ensures store_goes_on { StoreGoesOn (S.seen store.old) (S.seen store.new) }
     ensures store_untouched { file_saved name.now (saving (form_of name.now) tree.now) ≡ None → store.new ≡ store.old }
 {
     let form = form_of(name);
@@ -94,10 +92,8 @@ pub(crate) fn save<S: Store>(alloc: Global, tree: &Tree, name: &[u8], store: &mu
 #[tactic(auto, using(crate::proofs::Saved::keeps_given, std::proofs::lemmas::Grind::common_steps))]
 fn keep<S: Store>(name: &[u8], bytes: &[u8], reply: Reply, store: &mut S) -> Reply
     requires { reply ≢ Reply.Unsaved }
-    ensures kept { IsKeepReply name.now bytes.now reply result (stored (S.files store.old) (S.faults store.old))
-        (stored (S.files store.new) (S.faults store.new)) }
-    ensures store_goes_on { GoesOn (S.files store.old) (S.files store.new) (S.faults store.old) (S.faults store.new)
-        (S.misses store.old) (S.misses store.new) (S.longs store.old) (S.longs store.new) }
+    ensures kept { IsKeepReply name.now bytes.now reply result (S.seen store.old) (S.seen store.new) }
+    ensures store_goes_on { StoreGoesOn (S.seen store.old) (S.seen store.new) }
 {
     if let Reply::Wanting = reply {
         return Reply::Wanting;
@@ -142,7 +138,7 @@ pub fn saved_in_a_session()
     ensures among { (start : World) (before : List (List ℕ)) (one : List ℕ) (behind : List (List ℕ)) (marks : List Mark)
         (last : World) (text : List ℕ) → Answered start (before ++ one ∷ behind) marks last text →
         StandsAmong start before one behind marks last text }
-    ensures saved { (words : List (List ℕ)) (files : Option Files) (all : Opened) (first : Stored) (steps : ℕ) →
+    ensures saved { (words : List (List ℕ)) (files : Option Files) (all : Opened) (first : StoreSeen) (steps : ℕ) →
         ComesTo words files (opened all) →
         (lines : List (List ℕ)) (marks : List Mark) (seen : World) (done : List ℕ) →
         Answered (start_with all first steps) lines marks seen done →

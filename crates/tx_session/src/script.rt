@@ -1,12 +1,11 @@
 // The lines of a script, read and answered one after the other.
 ghost use Rattle.std.specs.Prelude.{◌≡◌, ◌≢◌, ◌≤◌, ◌<◌, ◌+◌, ◌∷◌, ◌++◌, ◌⊎◌, ℕ, List, [], Option};
 ghost use Rattle.std.specs.Prelude.{Bool, length, decimal, IfOk, OnOk, OnErr, IfErr, IfSome, Ok};
-ghost use Rattle.tx_outside.specs.Counts.{NeverFalls, Rose};
-ghost use Rattle.tx_outside.specs.Known.{StaysKnown};
+ghost use Rattle.tx_outside.specs.Counts.{Rose};
+ghost use Rattle.tx_outside.specs.Outside.{SinkGoesOn, SourceGoesOn, StoreGoesOn};
 ghost use Rattle.tx_cmd.specs.declared.command.CmdFault.{CmdFault};
 ghost use Rattle.tx_session.specs.Replies.{refusal, wanting_reply};
 ghost use Rattle.tx_session.specs.Worlds.{World, world};
-ghost use Rattle.tx_session.specs.Storing.{GoesOn};
 ghost use Rattle.tx_session.specs.Scripts.{command_line, is_quit};
 ghost use Rattle.tx_session.specs.Runs.{Tells};
 ghost use Rattle.tx_session.specs.Writing.{IsSaid};
@@ -27,11 +26,10 @@ use tx_outside::{Failed, Sink, Source, Store, WriteFault};
 // Refuses a line that is no command.
 fn refuse<O: Sink>(alloc: Global, out: &mut O, fault: CmdFault) -> Result<Next, WriteFault>
     ensures said { (reply : List ℕ) × ((reply ≡ refusal fault) ⊎ (reply ≡ wanting_reply))
-        × IsSaid result reply (O.written out.old) (O.written out.new) }
+        × IsSaid result reply (O.seen out.old).written (O.seen out.new).written }
     ensures goes { result ≢ Ok Next.Quit }
-    ensures failed_rose { OnErr result (Rose (O.faults out.old) (O.faults out.new)) }
-    ensures faults_never_fall { NeverFalls (O.faults out.old) (O.faults out.new) }
-    ensures stays_known { StaysKnown (O.written out.old) (O.written out.new) }
+    ensures failed_rose { OnErr result (Rose (O.seen out.old).faults (O.seen out.new).faults) }
+    ensures output_goes_on { SinkGoesOn (O.seen out.old) (O.seen out.new) }
 {
     say(out, unread(alloc, fault).text())
 }
@@ -47,13 +45,11 @@ fn answer_line<S: Store, O: Sink, L: Ledger>(
 ) -> Result<Next, WriteFault>
     requires kept { (bytes : List ℕ) × KeepsLine line.now bytes }
     ensures answered { (bytes : List ℕ) → KeepsLine line.now bytes
-        → IsTurned result (world session.old (S.files store.old) (S.faults store.old) steps.old) bytes
-        (world session.new (S.files store.new) (S.faults store.new) steps.new) (O.written out.old) (O.written out.new) }
-    ensures failed_rose { OnErr result (Rose (O.faults out.old) (O.faults out.new)) }
-    ensures store_goes_on { GoesOn (S.files store.old) (S.files store.new) (S.faults store.old) (S.faults store.new)
-        (S.misses store.old) (S.misses store.new) (S.longs store.old) (S.longs store.new) }
-    ensures faults_never_fall { NeverFalls (O.faults out.old) (O.faults out.new) }
-    ensures stays_known { StaysKnown (O.written out.old) (O.written out.new) }
+        → IsTurned result (world session.old (S.seen store.old) steps.old) bytes
+        (world session.new (S.seen store.new) steps.new) (O.seen out.old).written (O.seen out.new).written }
+    ensures failed_rose { OnErr result (Rose (O.seen out.old).faults (O.seen out.new).faults) }
+    ensures store_goes_on { StoreGoesOn (S.seen store.old) (S.seen store.new) }
+    ensures output_goes_on { SinkGoesOn (O.seen out.old) (O.seen out.new) }
 {
     let text = match line.text() {
         Ok(text) => text,
@@ -89,17 +85,15 @@ fn take_byte<S: Store, O: Sink, L: Ledger>(
     requires kept { (bytes : List ℕ) × KeepsLine line.old bytes }
     requires room { line.old.count < MOST_SCRIPT }
     ensures leads { (start : World) (before : Option (List ℕ)) (bytes : List ℕ)
-        → StandsWith start before bytes (world session.old (S.files store.old) (S.faults store.old) steps.old) line.old
-        (O.written out.old)
+        → StandsWith start before bytes (world session.old (S.seen store.old) steps.old) line.old
+        (O.seen out.old).written
         → LeadsTo result start before (bytes ++ byte ∷ [])
-        (world session.new (S.files store.new) (S.faults store.new) steps.new) line.new (O.written out.new) }
+        (world session.new (S.seen store.new) steps.new) line.new (O.seen out.new).written }
     ensures kept { result ≡ Turn.Go → (bytes : List ℕ) × KeepsLine line.new bytes }
     ensures count { line.new.count ≤ line.old.count + 1 }
-    ensures output_failed { result ≡ Turn.OutputFailed → Rose (O.faults out.old) (O.faults out.new) }
-    ensures store_goes_on { GoesOn (S.files store.old) (S.files store.new) (S.faults store.old) (S.faults store.new)
-        (S.misses store.old) (S.misses store.new) (S.longs store.old) (S.longs store.new) }
-    ensures faults_never_fall { NeverFalls (O.faults out.old) (O.faults out.new) }
-    ensures stays_known { StaysKnown (O.written out.old) (O.written out.new) }
+    ensures output_failed { result ≡ Turn.OutputFailed → Rose (O.seen out.old).faults (O.seen out.new).faults }
+    ensures store_goes_on { StoreGoesOn (S.seen store.old) (S.seen store.new) }
+    ensures output_goes_on { SinkGoesOn (O.seen out.old) (O.seen out.new) }
 {
     if byte != b'\n' {
         return match line.add(byte) {
@@ -130,17 +124,15 @@ fn take_piece<S: Store, O: Sink, L: Ledger>(
     requires kept { (bytes : List ℕ) × KeepsLine line.old bytes }
     requires room { line.old.count + length piece.now ≤ MOST_SCRIPT }
     ensures leads { (start : World) (before : Option (List ℕ)) (bytes : List ℕ)
-        → StandsWith start before bytes (world session.old (S.files store.old) (S.faults store.old) steps.old) line.old
-        (O.written out.old)
+        → StandsWith start before bytes (world session.old (S.seen store.old) steps.old) line.old
+        (O.seen out.old).written
         → LeadsTo result start before (bytes ++ piece.now)
-        (world session.new (S.files store.new) (S.faults store.new) steps.new) line.new (O.written out.new) }
+        (world session.new (S.seen store.new) steps.new) line.new (O.seen out.new).written }
     ensures kept { result ≡ Turn.Go → (bytes : List ℕ) × KeepsLine line.new bytes }
     ensures count { line.new.count ≤ line.old.count + length piece.now }
-    ensures output_failed { result ≡ Turn.OutputFailed → Rose (O.faults out.old) (O.faults out.new) }
-    ensures store_goes_on { GoesOn (S.files store.old) (S.files store.new) (S.faults store.old) (S.faults store.new)
-        (S.misses store.old) (S.misses store.new) (S.longs store.old) (S.longs store.new) }
-    ensures faults_never_fall { NeverFalls (O.faults out.old) (O.faults out.new) }
-    ensures stays_known { StaysKnown (O.written out.old) (O.written out.new) }
+    ensures output_failed { result ≡ Turn.OutputFailed → Rose (O.seen out.old).faults (O.seen out.new).faults }
+    ensures store_goes_on { StoreGoesOn (S.seen store.old) (S.seen store.new) }
+    ensures output_goes_on { SinkGoesOn (O.seen out.old) (O.seen out.new) }
 {
     for byte in piece {
         match take_byte(alloc, session, line, *byte, store, out, steps) {
@@ -162,16 +154,14 @@ fn end_script<S: Store, O: Sink, L: Ledger>(
 ) -> Status
     requires kept { (bytes : List ℕ) × KeepsLine line.now bytes }
     ensures end { (start : World) (told : Option (List ℕ)) (before : Option (List ℕ)) (script : List ℕ)
-        → StandsWith start before script (world session.old (S.files store.old) (S.faults store.old) steps.old) line.now
-        (O.written out.old) → Tells told script → length script ≤ MOST_SCRIPT
+        → StandsWith start before script (world session.old (S.seen store.old) steps.old) line.now
+        (O.seen out.old).written → Tells told script → length script ≤ MOST_SCRIPT
         → (rest : Option (List ℕ)) → IfSome rest (λ bytes. bytes ≡ []) → IsEnd result start
-        (world session.new (S.files store.new) (S.faults store.new) steps.new) told rest before (O.written out.new) }
+        (world session.new (S.seen store.new) steps.new) told rest before (O.seen out.new).written }
     ensures status { (result ≡ Status.Ok) ⊎ (result ≡ Status.OutputFault) }
-    ensures output_fault_counted { result ≡ Status.OutputFault → Rose (O.faults out.old) (O.faults out.new) }
-    ensures store_goes_on { GoesOn (S.files store.old) (S.files store.new) (S.faults store.old) (S.faults store.new)
-        (S.misses store.old) (S.misses store.new) (S.longs store.old) (S.longs store.new) }
-    ensures faults_never_fall { NeverFalls (O.faults out.old) (O.faults out.new) }
-    ensures stays_known { StaysKnown (O.written out.old) (O.written out.new) }
+    ensures output_fault_counted { result ≡ Status.OutputFault → Rose (O.seen out.old).faults (O.seen out.new).faults }
+    ensures store_goes_on { StoreGoesOn (S.seen store.old) (S.seen store.new) }
+    ensures output_goes_on { SinkGoesOn (O.seen out.old) (O.seen out.new) }
 {
     match answer_line(alloc, session, line, store, out, steps) {
         Ok(_) => Status::Ok,
@@ -189,17 +179,15 @@ pub(crate) fn play<S: Store, I: Source, O: Sink, L: Ledger>(
     out: &mut O,
     steps: &mut Steps<L>,
 ) -> Status
-    ensures end { IsEnd result (world session.old (S.files store.old) (S.faults store.old) steps.old)
-        (world session.new (S.files store.new) (S.faults store.new) steps.new) (I.left input.old) (I.left input.new)
-        (O.written out.old) (O.written out.new) }
-    ensures input_fault_counted { result ≡ Status.InputFault → Rose (I.faults input.old) (I.faults input.new) }
-    ensures output_fault_counted { result ≡ Status.OutputFault → Rose (O.faults out.old) (O.faults out.new) }
-    ensures store_goes_on { GoesOn (S.files store.old) (S.files store.new) (S.faults store.old) (S.faults store.new)
-        (S.misses store.old) (S.misses store.new) (S.longs store.old) (S.longs store.new) }
-    ensures input_faults_never_fall { NeverFalls (I.faults input.old) (I.faults input.new) }
-    ensures output_faults_never_fall { NeverFalls (O.faults out.old) (O.faults out.new) }
-    ensures input_stays_known { StaysKnown (I.left input.old) (I.left input.new) }
-    ensures output_stays_known { StaysKnown (O.written out.old) (O.written out.new) }
+    ensures end { IsEnd result (world session.old (S.seen store.old) steps.old)
+        (world session.new (S.seen store.new) steps.new) (I.seen input.old).left (I.seen input.new).left
+        (O.seen out.old).written (O.seen out.new).written }
+    ensures input_fault_counted { result ≡ Status.InputFault
+        → Rose (I.seen input.old).faults (I.seen input.new).faults }
+    ensures output_fault_counted { result ≡ Status.OutputFault → Rose (O.seen out.old).faults (O.seen out.new).faults }
+    ensures store_goes_on { StoreGoesOn (S.seen store.old) (S.seen store.new) }
+    ensures input_goes_on { SourceGoesOn (I.seen input.old) (I.seen input.new) }
+    ensures output_goes_on { SinkGoesOn (O.seen out.old) (O.seen out.new) }
 {
     let mut line = KeptLine::new(alloc);
     let mut piece = [0u8; 4096];

@@ -1,8 +1,8 @@
 // A session over a document and its styles.
 ghost use Rattle.std.specs.Prelude.{◌≡◌, ◌≢◌, ◌≤◌, ◌<◌, ◌+◌, ◌↔◌, ℕ, List, [], ◌∷◌, ◌++◌, Bool, true, All};
 ghost use Rattle.std.specs.Prelude.{false, length, is_err, IfOk, IfErr, OnOk, OnErr, Ok, Some, None, Result};
-ghost use Rattle.tx_outside.specs.Counts.{NeverFalls, Rose};
-ghost use Rattle.tx_outside.specs.Known.{StaysKnown};
+ghost use Rattle.tx_outside.specs.Counts.{Rose};
+ghost use Rattle.tx_outside.specs.Outside.{SinkGoesOn, StoreGoesOn, StoreSeen};
 ghost use Rattle.tx_scm.specs.Canonical.{scheme_text};
 ghost use Rattle.tx_print.specs.Lines.{line};
 ghost use Rattle.tx_tree.specs.Places.{IsPlace};
@@ -24,8 +24,7 @@ ghost use Rattle.tx_session.specs.States.{selected_edit, selected_tree, saved_by
 ghost use Rattle.tx_session.specs.Effects.{asks_view};
 ghost use Rattle.tx_session.specs.Replies.{IsReply, unsaved_reply};
 ghost use Rattle.tx_session.specs.Keeps.{Keeps, Takes, edit_cost, key_cost, most_steps};
-ghost use Rattle.tx_session.specs.Worlds.{Mark, Stored, plain, seen_world};
-ghost use Rattle.tx_session.specs.Storing.{GoesOn};
+ghost use Rattle.tx_session.specs.Worlds.{Mark, plain, seen_world};
 ghost use Rattle.tx_session.specs.Saying.{mark_of, text_of};
 ghost use Rattle.tx_cmd.specs.declared.command.Command.{Command};
 ghost use Rattle.tx_session.specs.Writing.{IsSaid};
@@ -255,7 +254,7 @@ impl Session {
 
     // Prints the selected buffer's tree.
     fn tree(&self, alloc: Global) -> Reply
-        ensures { (store : Stored) → IsReply (record { session = self.now.seen; store = store }) Command.Tree
+        ensures { (store : StoreSeen) → IsReply (record { session = self.now.seen; store = store }) Command.Tree
             (mark_of result) (record { session = self.now.seen; store = store }) (text_of result) }
     {
         match self.tree_text(alloc) {
@@ -290,7 +289,7 @@ impl Session {
 
     // Changes the selected buffer.
     fn change<L: Ledger>(&mut self, alloc: Global, m: &Mod, steps: &mut Steps<L>) -> Reply
-        ensures replied { (store : Stored) → IsReply (record { session = self.old.seen; store = store })
+        ensures replied { (store : StoreSeen) → IsReply (record { session = self.old.seen; store = store })
             (Command.Change m.now) (mark_of result) (record { session = self.new.seen; store = store })
             (text_of result) }
         ensures keeps { Keeps self.old (Command.Change m.now) (mark_of result) self.new }
@@ -334,7 +333,7 @@ impl Session {
 
     // Types a text.
     fn typed<L: Ledger>(&mut self, alloc: Global, text: &Text, steps: &mut Steps<L>) -> Reply
-        ensures replied { (store : Stored) → IsReply (record { session = self.old.seen; store = store })
+        ensures replied { (store : StoreSeen) → IsReply (record { session = self.old.seen; store = store })
             (Command.Typed text.now) (mark_of result) (record { session = self.new.seen; store = store })
             (text_of result) }
         ensures keeps { Keeps self.old (Command.Typed text.now) (mark_of result) self.new }
@@ -346,7 +345,7 @@ impl Session {
 
     // Takes back what stands before the cursor.
     fn backspace<L: Ledger>(&mut self, alloc: Global, steps: &mut Steps<L>) -> Reply
-        ensures replied { (store : Stored) → IsReply (record { session = self.old.seen; store = store })
+        ensures replied { (store : StoreSeen) → IsReply (record { session = self.old.seen; store = store })
             Command.Backspace (mark_of result) (record { session = self.new.seen; store = store }) (text_of result) }
         ensures keeps { Keeps self.old Command.Backspace (mark_of result) self.new }
         ensures takes { Takes self.old Command.Backspace (mark_of result) steps.old steps.new }
@@ -357,7 +356,7 @@ impl Session {
 
     // Begins a paragraph at the cursor.
     fn enter<L: Ledger>(&mut self, alloc: Global, steps: &mut Steps<L>) -> Reply
-        ensures replied { (store : Stored) → IsReply (record { session = self.old.seen; store = store })
+        ensures replied { (store : StoreSeen) → IsReply (record { session = self.old.seen; store = store })
             Command.Enter (mark_of result) (record { session = self.new.seen; store = store }) (text_of result) }
         ensures keeps { Keeps self.old Command.Enter (mark_of result) self.new }
         ensures takes { Takes self.old Command.Enter (mark_of result) steps.old steps.new }
@@ -368,7 +367,7 @@ impl Session {
 
     // Takes the last edit back.
     fn undo<L: Ledger>(&mut self, alloc: Global, steps: &mut Steps<L>) -> Reply
-        ensures replied { (store : Stored) → IsReply (record { session = self.old.seen; store = store })
+        ensures replied { (store : StoreSeen) → IsReply (record { session = self.old.seen; store = store })
             Command.Undo (mark_of result) (record { session = self.new.seen; store = store }) (text_of result) }
         ensures keeps { Keeps self.old Command.Undo (mark_of result) self.new }
         ensures takes { Takes self.old Command.Undo (mark_of result) steps.old steps.new }
@@ -389,7 +388,7 @@ impl Session {
 
     // Makes the edit again that was taken back last.
     fn redo<L: Ledger>(&mut self, alloc: Global, steps: &mut Steps<L>) -> Reply
-        ensures replied { (store : Stored) → IsReply (record { session = self.old.seen; store = store })
+        ensures replied { (store : StoreSeen) → IsReply (record { session = self.old.seen; store = store })
             Command.Redo (mark_of result) (record { session = self.new.seen; store = store }) (text_of result) }
         ensures keeps { Keeps self.old Command.Redo (mark_of result) self.new }
         ensures takes { Takes self.old Command.Redo (mark_of result) steps.old steps.new }
@@ -410,7 +409,7 @@ impl Session {
 
     // Selects the buffer of a name.
     fn choose(&mut self, name: &Name) -> Reply
-        ensures replied { (store : Stored) → IsReply (record { session = self.old.seen; store = store })
+        ensures replied { (store : StoreSeen) → IsReply (record { session = self.old.seen; store = store })
             (Command.At name.now) (mark_of result) (record { session = self.new.seen; store = store })
             (text_of result) }
         ensures keep { self.new.keep ≡ self.old.keep }
@@ -423,7 +422,7 @@ impl Session {
 
     // Puts the cursor at a place.
     fn go(&mut self, alloc: Global, numbers: &Path) -> Reply
-        ensures replied { (store : Stored) → IsReply (record { session = self.old.seen; store = store })
+        ensures replied { (store : StoreSeen) → IsReply (record { session = self.old.seen; store = store })
             (Command.Go numbers.now) (mark_of result) (record { session = self.new.seen; store = store })
             (text_of result) }
         ensures keep { self.new.keep ≡ self.old.keep }
@@ -437,7 +436,7 @@ impl Session {
 
     // Puts the cursor at the place behind a cell.
     fn click<L: Ledger>(&mut self, alloc: Global, r: u32, c: u32, steps: &mut Steps<L>) -> Reply
-        ensures replied { (store : Stored) → IsReply (record { session = self.old.seen; store = store })
+        ensures replied { (store : StoreSeen) → IsReply (record { session = self.old.seen; store = store })
             (Command.Click r c) (mark_of result) (record { session = self.new.seen; store = store }) (text_of result) }
         ensures keeps { Keeps self.old (Command.Click r c) (mark_of result) self.new }
         ensures takes { Takes self.old (Command.Click r c) (mark_of result) steps.old steps.new }
@@ -452,7 +451,7 @@ impl Session {
 
     // Puts the cursor at the stop before it.
     fn left<L: Ledger>(&mut self, alloc: Global, steps: &mut Steps<L>) -> Reply
-        ensures replied { (store : Stored) → IsReply (record { session = self.old.seen; store = store })
+        ensures replied { (store : StoreSeen) → IsReply (record { session = self.old.seen; store = store })
             Command.Left (mark_of result) (record { session = self.new.seen; store = store }) (text_of result) }
         ensures keeps { Keeps self.old Command.Left (mark_of result) self.new }
         ensures takes { Takes self.old Command.Left (mark_of result) steps.old steps.new }
@@ -467,7 +466,7 @@ impl Session {
 
     // Puts the cursor at the stop behind it.
     fn right<L: Ledger>(&mut self, alloc: Global, steps: &mut Steps<L>) -> Reply
-        ensures replied { (store : Stored) → IsReply (record { session = self.old.seen; store = store })
+        ensures replied { (store : StoreSeen) → IsReply (record { session = self.old.seen; store = store })
             Command.Right (mark_of result) (record { session = self.new.seen; store = store }) (text_of result) }
         ensures keeps { Keeps self.old Command.Right (mark_of result) self.new }
         ensures takes { Takes self.old Command.Right (mark_of result) steps.old steps.new }
@@ -490,14 +489,13 @@ impl Session {
     ) -> Result<Next, WriteFault>
         requires { Prints command.now }
         ensures said { (mark : Mark) × (reply : List ℕ)
-            × ((store : Stored) → IsReply (record { session = self.old.seen; store = store }) command.now mark
+            × ((store : StoreSeen) → IsReply (record { session = self.old.seen; store = store }) command.now mark
             (record { session = self.new.seen; store = store }) reply)
-            × IsSaid result reply (O.written out.old) (O.written out.new)
+            × IsSaid result reply (O.seen out.old).written (O.seen out.new).written
             × Keeps self.old command.now mark self.new × Takes self.old command.now mark steps.old steps.new }
         ensures goes { result ≢ Ok Next.Quit }
-        ensures failed_rose { OnErr result (Rose (O.faults out.old) (O.faults out.new)) }
-        ensures faults_never_fall { NeverFalls (O.faults out.old) (O.faults out.new) }
-        ensures stays_known { StaysKnown (O.written out.old) (O.written out.new) }
+        ensures failed_rose { OnErr result (Rose (O.seen out.old).faults (O.seen out.new).faults) }
+        ensures output_goes_on { SinkGoesOn (O.seen out.old) (O.seen out.new) }
     {
         if let Err(Memory) = self.view.refresh(alloc, steps) {
             return say(out, NO_MEMORY);
@@ -514,14 +512,13 @@ impl Session {
         steps: &mut Steps<L>,
     ) -> Result<Next, WriteFault>
         ensures said { (mark : Mark) × (reply : List ℕ)
-            × ((store : Stored) → IsReply (record { session = self.old.seen; store = store }) Command.Work mark
+            × ((store : StoreSeen) → IsReply (record { session = self.old.seen; store = store }) Command.Work mark
             (record { session = self.new.seen; store = store }) reply)
-            × IsSaid result reply (O.written out.old) (O.written out.new)
+            × IsSaid result reply (O.seen out.old).written (O.seen out.new).written
             × Keeps self.old Command.Work mark self.new × Takes self.old Command.Work mark steps.old steps.new }
         ensures goes { result ≢ Ok Next.Quit }
-        ensures failed_rose { OnErr result (Rose (O.faults out.old) (O.faults out.new)) }
-        ensures faults_never_fall { NeverFalls (O.faults out.old) (O.faults out.new) }
-        ensures stays_known { StaysKnown (O.written out.old) (O.written out.new) }
+        ensures failed_rose { OnErr result (Rose (O.seen out.old).faults (O.seen out.new).faults) }
+        ensures output_goes_on { SinkGoesOn (O.seen out.old) (O.seen out.new) }
     {
         match self.view.refresh(alloc, steps) {
             Ok(()) => {
@@ -536,24 +533,21 @@ impl Session {
     // Prints the cursor's place, which takes no memory.
     fn say_cursor<O: Sink>(&self, out: &mut O) -> Result<Next, WriteFault>
         ensures said { (reply : List ℕ)
-            × ((store : Stored) → IsReply (record { session = self.now.seen; store = store }) Command.Cursor plain
+            × ((store : StoreSeen) → IsReply (record { session = self.now.seen; store = store }) Command.Cursor plain
             (record { session = self.now.seen; store = store }) reply)
-            × IsSaid result reply (O.written out.old) (O.written out.new) }
+            × IsSaid result reply (O.seen out.old).written (O.seen out.new).written }
         ensures goes { result ≢ Ok Next.Quit }
-        ensures failed_rose { OnErr result (Rose (O.faults out.old) (O.faults out.new)) }
-        ensures faults_never_fall { NeverFalls (O.faults out.old) (O.faults out.new) }
-        ensures stays_known { StaysKnown (O.written out.old) (O.written out.new) }
+        ensures failed_rose { OnErr result (Rose (O.seen out.old).faults (O.seen out.new).faults) }
+        ensures output_goes_on { SinkGoesOn (O.seen out.old) (O.seen out.new) }
     {
         going(print_cursor(self.state.cursor(), out))
     }
 
     // Saves the selected buffer's tree.
     fn save<S: Store>(&self, alloc: Global, name: &Name, store: &mut S) -> Reply
-        ensures saved { IsReply (seen_world self.now.seen (S.files store.old) (S.faults store.old))
-            (Command.Save name.now) (mark_of result)
-            (seen_world self.now.seen (S.files store.new) (S.faults store.new)) (text_of result) }
-        ensures store_goes_on { GoesOn (S.files store.old) (S.files store.new) (S.faults store.old) (S.faults store.new)
-            (S.misses store.old) (S.misses store.new) (S.longs store.old) (S.longs store.new) }
+        ensures saved { IsReply (seen_world self.now.seen (S.seen store.old)) (Command.Save name.now) (mark_of result)
+            (seen_world self.now.seen (S.seen store.new)) (text_of result) }
+        ensures store_goes_on { StoreGoesOn (S.seen store.old) (S.seen store.new) }
         ensures store_untouched { saved_by self.now.seen.state (Command.Save name.now) ≡ None → store.new ≡ store.old }
     {
         save(alloc, self.selected(), name.bytes(), store)
@@ -569,19 +563,17 @@ impl Session {
         steps: &mut Steps<L>,
     ) -> Result<Next, WriteFault>
         ensures replied { (mark : Mark) × (reply : List ℕ)
-            × IsReply (seen_world self.old.seen (S.files store.old) (S.faults store.old)) command.now mark
-            (seen_world self.new.seen (S.files store.new) (S.faults store.new)) reply
-            × IsSaid result reply (O.written out.old) (O.written out.new)
+            × IsReply (seen_world self.old.seen (S.seen store.old)) command.now mark
+            (seen_world self.new.seen (S.seen store.new)) reply
+            × IsSaid result reply (O.seen out.old).written (O.seen out.new).written
             × Keeps self.old command.now mark self.new × Takes self.old command.now mark steps.old steps.new }
         ensures quits { result ≡ Ok Next.Quit ↔ command.now ≡ Command.Quit }
         ensures quit_writes_nothing { command.now ≡ Command.Quit → out.new ≡ out.old }
         ensures quit_takes_nothing { command.now ≡ Command.Quit → steps.new ≡ steps.old }
-        ensures failed_rose { OnErr result (Rose (O.faults out.old) (O.faults out.new)) }
+        ensures failed_rose { OnErr result (Rose (O.seen out.old).faults (O.seen out.new).faults) }
         ensures store_untouched { saved_by self.old.seen.state command.now ≡ None → store.new ≡ store.old }
-        ensures store_goes_on { GoesOn (S.files store.old) (S.files store.new) (S.faults store.old) (S.faults store.new)
-            (S.misses store.old) (S.misses store.new) (S.longs store.old) (S.longs store.new) }
-        ensures faults_never_fall { NeverFalls (O.faults out.old) (O.faults out.new) }
-        ensures stays_known { StaysKnown (O.written out.old) (O.written out.new) }
+        ensures store_goes_on { StoreGoesOn (S.seen store.old) (S.seen store.new) }
+        ensures output_goes_on { SinkGoesOn (O.seen out.old) (O.seen out.new) }
     {
         match command {
             Command::Quit => Ok(Next::Quit),
@@ -627,16 +619,17 @@ impl Session {
         steps: &mut Steps<L>,
     ) -> Result<Next, WriteFault>
         ensures replied { (mark : Mark) × (reply : List ℕ)
-            × IsReply (seen_world self.old.seen (S.files store.old) (S.faults store.old)) command.now mark
-            (seen_world self.new.seen (S.files store.new) (S.faults store.new)) reply
-            × IsSaid result reply (O.written out.old) (O.written out.new)
+            × IsReply (seen_world self.old.seen (S.seen store.old)) command.now mark
+            (seen_world self.new.seen (S.seen store.new)) reply
+            × IsSaid result reply (O.seen out.old).written (O.seen out.new).written
             × Keeps self.old command.now mark self.new × Takes self.old command.now mark steps.old steps.new }
         ensures quits { result ≡ Ok Next.Quit ↔ command.now ≡ Command.Quit }
         ensures quit_writes_nothing { command.now ≡ Command.Quit → out.new ≡ out.old }
         ensures quit_takes_nothing { command.now ≡ Command.Quit → steps.new ≡ steps.old }
-        ensures failed_rose { OnErr result (Rose (O.faults out.old) (O.faults out.new)) }
-        ensures no_store_counted { OnOk result ((before : List ℕ) → O.written out.old ≡ Some before
-            → O.written out.new ≡ Some (before ++ unsaved_reply) → Rose (S.faults store.old) (S.faults store.new)) }
+        ensures failed_rose { OnErr result (Rose (O.seen out.old).faults (O.seen out.new).faults) }
+        ensures no_store_counted { OnOk result ((before : List ℕ) → (O.seen out.old).written ≡ Some before
+            → (O.seen out.new).written ≡ Some (before ++ unsaved_reply)
+            → Rose (S.seen store.old).faults (S.seen store.new).faults) }
         ensures cursor { IsPlace (document_of self.new.seen.state.buffers)
             self.new.seen.state.cursor.path self.new.seen.state.cursor.offset }
         ensures few { length self.new.seen.state.buffers ≤ 16 }
@@ -649,10 +642,8 @@ impl Session {
         ensures store_untouched { saved_by self.old.seen.state command.now ≡ None → store.new ≡ store.old }
         ensures counted { asks_view command.now ≡ false
             → steps.new ≤ steps.old + most_steps self.old.seen.state command.now }
-        ensures store_goes_on { GoesOn (S.files store.old) (S.files store.new) (S.faults store.old) (S.faults store.new)
-            (S.misses store.old) (S.misses store.new) (S.longs store.old) (S.longs store.new) }
-        ensures faults_never_fall { NeverFalls (O.faults out.old) (O.faults out.new) }
-        ensures stays_known { StaysKnown (O.written out.old) (O.written out.new) }
+        ensures store_goes_on { StoreGoesOn (S.seen store.old) (S.seen store.new) }
+        ensures output_goes_on { SinkGoesOn (O.seen out.old) (O.seen out.new) }
     {
         let next = self.answer(alloc, command, store, out, steps);
         let _cursor = self.state.cursor();

@@ -15,6 +15,9 @@ use tx_tree::ReadFault;
 /// How the program is called, as a line.
 pub(crate) const USAGE: &[u8] = b"usage: tmx [--width N] [--height N] FILE [STYLE]...\n";
 
+/// That memory ran out, as a line.
+pub(crate) const OUT_OF_MEMORY: &[u8] = b"memory\n";
+
 // A line: a word, the file's word and the rest.
 fn line_of(alloc: Global, word: &[u8], file: &[u8], rest: &[u8]) -> Result<Vec<u8>, Memory>
     ensures { IfOk result (λ text. text.items ≡ line (word.now ++ (file.now ++ rest.now))) }

@@ -22,7 +22,7 @@ enum Great<'a> {
     Words(usize, usize),
 }
 
-fn add_times(bytes: &mut Vec<u8>, piece: &str, times: usize) -> Result<(), AllocError> {
+pub(crate) fn add_times(bytes: &mut Vec<u8>, piece: &str, times: usize) -> Result<(), AllocError> {
     for _ in 0..times {
         bytes.extend_from_slice(piece.as_bytes())?;
     }

@@ -1,5 +1,6 @@
 // What a run has outside itself: files, an input and an output in memory; and whether it ends as is wanted.
-ghost use Rattle.std.specs.Prelude.{◌≡◌, Some};
+ghost use Rattle.std.specs.Prelude.{◌≡◌};
+ghost use Rattle.tx_outside.specs.InMemory.{seen_source};
 
 use std::alloc::{AllocError, Global};
 use std::sync::ledger::{Blank, Ledger};
@@ -45,9 +46,7 @@ pub struct SlowSource {
 }
 
 impl Source for SlowSource {
-    ghost left = { λ slow. Some slow.source.left };
-
-    ghost faults = { λ slow. slow.source.calls.faults };
+    ghost seen = { λ slow. seen_source slow.source };
 
     fn read(&mut self, into: &mut [u8]) -> Result<usize, Failed> {
         let mut one = [0u8];

@@ -1,5 +1,6 @@
 -- What a store over files has counted.
-use Rattle.std.specs.Prelude.{ℕ}
+use Rattle.std.specs.Prelude.{ℕ, None}
+use Rattle.tx_outside.specs.Outside.{StoreSeen}
 use Rattle.tx_system.specs.declared.file_store.FileStore.{FileStore}
 
 -- how often the store has failed
@@ -13,3 +14,13 @@ misses_of store = store.misses
 -- how often a file that was asked for was too long
 abbrev pub longs_of : {R : Type 0} → FileStore R → ℕ
 longs_of store = store.longs
+
+-- what is seen of the files, whose contents aren't told
+abbrev pub seen_files : {R : Type 0} → FileStore R → StoreSeen
+seen_files store =
+    record {
+      files = None;
+      faults = faults_of store;
+      misses = misses_of store;
+      longs = longs_of store;
+    }

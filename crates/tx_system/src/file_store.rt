@@ -1,6 +1,6 @@
 // Files by their paths.
-ghost use Rattle.std.specs.Prelude.{None, ◌≡◌, ◌≤◌, [], length, OnOk};
-ghost use Rattle.tx_system.specs.Counts.{faults_of, longs_of, misses_of};
+ghost use Rattle.std.specs.Prelude.{◌≡◌, ◌≤◌, [], length, OnOk};
+ghost use Rattle.tx_system.specs.Counts.{faults_of, longs_of, misses_of, seen_files};
 
 use crate::counts::raised;
 use crate::loading::read_to_limit;
@@ -65,13 +65,7 @@ impl<'a, R: Files> FileStore<'a, R> {
 }
 
 impl<R: Files> Store for FileStore<'_, R> {
-    ghost files = { λ _. None };
-
-    ghost faults = { λ store. faults_of store };
-
-    ghost misses = { λ store. misses_of store };
-
-    ghost longs = { λ store. longs_of store };
+    ghost seen = { λ store. seen_files store };
 
     fn load(&mut self, name: &[u8], out: &mut Vec<u8>) -> Result<(), LoadFault> {
         let loaded = self.load_file(name, out);

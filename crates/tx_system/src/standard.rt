@@ -1,8 +1,9 @@
 // The standard input and output.
-ghost use Rattle.std.specs.Prelude.{◌≡◌, ◌<◌, ◌≤◌, None, length, take, IfOk, OnErr};
+ghost use Rattle.std.specs.Prelude.{◌≡◌, ◌<◌, ◌≤◌, length, take, IfOk, OnErr};
 ghost use Rattle.std.specs.Io.KnownBytes.{Appends, Consumes, IsAtEnd, Keeps, append_known, prepend_known};
-ghost use Rattle.tx_outside.specs.Counts.{NeverFalls, Rose};
-ghost use Rattle.tx_system.specs.Devices.{input_faults, output_faults, reader_of, writer_of};
+ghost use Rattle.tx_outside.specs.Counts.{Rose};
+ghost use Rattle.tx_outside.specs.Outside.{SinkGoesOn, SourceGoesOn};
+ghost use Rattle.tx_system.specs.Devices.{input_faults, output_faults, reader_of, seen_input, seen_output, writer_of};
 
 use crate::counts::raised;
 use std::io::{self, Read, Write};
@@ -26,9 +27,7 @@ impl<R: Read + Drop> StandardInput<R> {
 }
 
 impl<R: Read + Drop> Source for StandardInput<R> {
-    ghost left = { λ _. None };
-
-    ghost faults = { λ input. input_faults input };
+    ghost seen = { λ input. seen_input input };
 
     /// What the reader gives, no more and no less. It answers 0 only at the reader's end, and fails only where the
     /// reader did.
@@ -43,7 +42,7 @@ impl<R: Read + Drop> Source for StandardInput<R> {
         ensures failed_rose { OnErr result (Rose (input_faults self.old) (input_faults self.new)) }
         ensures failed_takes_nothing { OnErr result
             (Keeps (R.remaining (reader_of self.old)) (R.remaining (reader_of self.new))) }
-        ensures faults_never_fall { NeverFalls (input_faults self.old) (input_faults self.new) }
+        ensures goes_on { SourceGoesOn (seen_input self.old) (seen_input self.new) }
     {
         match self.reader.read(into) {
             Ok(count) => Ok(count),
@@ -86,9 +85,7 @@ impl<W: Write + Drop> StandardOutput<W> {
 }
 
 impl<W: Write + Drop> Sink for StandardOutput<W> {
-    ghost written = { λ _. None };
-
-    ghost faults = { λ output. output_faults output };
+    ghost seen = { λ output. seen_output output };
 
     /// Puts the first bytes of the piece into the writer and flushes it, and answers how many: at least one. Where
     /// the flushing fails, the bytes may have been put in.
@@ -98,7 +95,7 @@ impl<W: Write + Drop> Sink for StandardOutput<W> {
         ensures put { IfOk result (λ n.
             Appends (W.contents (writer_of self.old)) (W.contents (writer_of self.new)) (take n piece.now)) }
         ensures failed_rose { OnErr result (Rose (output_faults self.old) (output_faults self.new)) }
-        ensures faults_never_fall { NeverFalls (output_faults self.old) (output_faults self.new) }
+        ensures goes_on { SinkGoesOn (seen_output self.old) (seen_output self.new) }
     {
         match self.write_some(piece) {
             Ok(count) if count > 0 => Ok(count),

@@ -1,8 +1,9 @@
 // A sink into memory.
-ghost use Rattle.std.specs.Prelude.{◌≡◌, ◌↔◌, ◌⊎◌, ◌<◌, ◌≤◌, ◌-◌, ◌++◌, [], Some};
+ghost use Rattle.std.specs.Prelude.{◌≡◌, ◌↔◌, ◌⊎◌, ◌<◌, ◌≤◌, ◌-◌, ◌++◌, []};
 ghost use Rattle.std.specs.Prelude.{length, take, min, IfOk, IsErr, OnErr};
-ghost use Rattle.tx_outside.specs.Counts.{NeverFalls, Rose};
-ghost use Rattle.tx_outside.specs.InMemory.{NextFails, no_calls, one_more, one_failed};
+ghost use Rattle.tx_outside.specs.Counts.{Rose};
+ghost use Rattle.tx_outside.specs.InMemory.{NextFails, no_calls, one_more, one_failed, seen_sink};
+ghost use Rattle.tx_outside.specs.Outside.{SinkGoesOn};
 
 use super::call_numbers::Calls;
 use crate::{Failed, Sink};
@@ -53,9 +54,7 @@ impl MemSink {
 }
 
 impl Sink for MemSink {
-    ghost written = { λ sink. Some sink.written };
-
-    ghost faults = { λ sink. sink.calls.faults };
+    ghost seen = { seen_sink };
 
     /// Takes as many bytes of the piece as there is room for, and no memory.
     fn write(&mut self, piece: &[u8]) -> Result<usize, Failed>
@@ -73,7 +72,7 @@ impl Sink for MemSink {
 
         ensures some { IfOk result (λ n. 0 < n) }
         ensures failed_rose { OnErr result (Rose self.old.calls.faults self.new.calls.faults) }
-        ensures faults_never_fall { NeverFalls self.old.calls.faults self.new.calls.faults }
+        ensures goes_on { SinkGoesOn (seen_sink self.old) (seen_sink self.new) }
     {
         let listed = self.calls.take_number();
         let space = self.room - self.bytes.len();

@@ -1,8 +1,9 @@
 // A source over bytes in memory.
-ghost use Rattle.std.specs.Prelude.{◌≡◌, ◌↔◌, ◌<◌, ◌++◌, Some};
+ghost use Rattle.std.specs.Prelude.{◌≡◌, ◌↔◌, ◌<◌, ◌++◌};
 ghost use Rattle.std.specs.Prelude.{length, take, drop, min, IfOk, IsErr, OnErr};
-ghost use Rattle.tx_outside.specs.Counts.{NeverFalls, Rose};
-ghost use Rattle.tx_outside.specs.InMemory.{NextFails, no_calls, one_more, one_failed};
+ghost use Rattle.tx_outside.specs.Counts.{Rose};
+ghost use Rattle.tx_outside.specs.InMemory.{NextFails, no_calls, one_more, one_failed, seen_source};
+ghost use Rattle.tx_outside.specs.Outside.{SourceGoesOn};
 
 use super::call_numbers::Calls;
 use crate::{Failed, Source};
@@ -42,9 +43,7 @@ impl MemSource {
 }
 
 impl Source for MemSource {
-    ghost left = { λ source. Some source.left };
-
-    ghost faults = { λ source. source.calls.faults };
+    ghost seen = { seen_source };
 
     /// Takes as many bytes as are left and fit, and leaves the rest of `into` as it was. A call that fails
     /// leaves all of it as it was.
@@ -62,7 +61,7 @@ impl Source for MemSource {
         ensures into { IfOk result (λ n. into.new ≡ take n self.old.left ++ drop n into.old) }
 
         ensures failed_rose { OnErr result (Rose self.old.calls.faults self.new.calls.faults) }
-        ensures faults_never_fall { NeverFalls self.old.calls.faults self.new.calls.faults }
+        ensures goes_on { SourceGoesOn (seen_source self.old) (seen_source self.new) }
     {
         if self.calls.take_number() {
             self.calls.count_fault();

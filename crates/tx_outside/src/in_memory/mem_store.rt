@@ -1,9 +1,10 @@
 // A store of files in memory.
 ghost use Rattle.std.specs.Prelude.{◌≡◌, ◌↔◌, ◌≤◌, [], Some};
 ghost use Rattle.std.specs.Prelude.{length, OnOk, OnErr, IsErrOf, option_copied};
-ghost use Rattle.tx_outside.specs.Counts.{NeverFalls, Rose, raised};
+ghost use Rattle.tx_outside.specs.Counts.{Rose, raised};
 ghost use Rattle.tx_outside.specs.Files.{IsAbsent, IsTooLong, NamesDiffer, WithFile, file_of};
-ghost use Rattle.tx_outside.specs.InMemory.{NextFails, no_calls, one_more, one_failed};
+ghost use Rattle.tx_outside.specs.InMemory.{NextFails, no_calls, one_more, one_failed, seen_store};
+ghost use Rattle.tx_outside.specs.Outside.{StoreGoesOn};
 
 use super::call_numbers::Calls;
 use super::file_list::{find_file, put_file};
@@ -56,13 +57,7 @@ impl MemStore {
 }
 
 impl Store for MemStore {
-    ghost files = { λ store. Some store.files };
-
-    ghost faults = { λ store. store.calls.faults };
-
-    ghost misses = { λ store. store.misses };
-
-    ghost longs = { λ store. store.longs };
+    ghost seen = { seen_store };
 
     /// Every call takes a number, whatever it answers.
     fn load(&mut self, name: &[u8], out: &mut Vec<u8>) -> Result<(), LoadFault>
@@ -97,9 +92,7 @@ impl Store for MemStore {
         ensures too_long_rose { IsErrOf result LoadFault.TooLong → Rose self.old.longs self.new.longs }
         ensures files_kept { self.new.files ≡ self.old.files }
         ensures names_differ { NamesDiffer self.new.files }
-        ensures faults_never_fall { NeverFalls self.old.calls.faults self.new.calls.faults }
-        ensures misses_never_fall { NeverFalls self.old.misses self.new.misses }
-        ensures longs_never_fall { NeverFalls self.old.longs self.new.longs }
+        ensures goes_on { StoreGoesOn (seen_store self.old) (seen_store self.new) }
     {
         if self.calls.take_number() {
             self.calls.count_fault();
@@ -133,9 +126,7 @@ impl Store for MemStore {
         // The trait's clauses on the counts and the names.
         ensures failed_rose { IsErrOf result SaveFault.Failed → Rose self.old.calls.faults self.new.calls.faults }
         ensures names_differ { NamesDiffer self.new.files }
-        ensures faults_never_fall { NeverFalls self.old.calls.faults self.new.calls.faults }
-        ensures misses_never_fall { NeverFalls self.old.misses self.new.misses }
-        ensures longs_never_fall { NeverFalls self.old.longs self.new.longs }
+        ensures goes_on { StoreGoesOn (seen_store self.old) (seen_store self.new) }
     {
         if self.calls.take_number() {
             self.calls.count_fault();

@@ -1,6 +1,6 @@
 use Rattle.std.proofs.Common.{ℕ, List, [], Bor, ◌∙◌, arith}
 use Rattle.std.proofs.lemmas.Result.{err_from_is_err_and}
-use Rattle.tx_outside.proofs.Counting.{never_falls_then}
+use Rattle.tx_outside.proofs.GoingOn.{store_goes_on_then}
 use Rattle.tx_words.specs.declared.asked.FileWord.{FileWord}
 use Rattle.tx_open.specs.Openings.{failed_as}
 use Rattle.tx_open.specs.Outcomes.{no_memory}
@@ -11,7 +11,8 @@ pub returns-in_err-read_file-clause-failed : goal.returns-in_err-read_file-claus
 returns-in_err-read_file-clause-failed g c =
     let p = err_from_is_err_and c.from_residual.result c.from_residual.ensures.1 in
     rw (p.1, p.2)
-    (ends_there (g.S.Store.files c.args.store.now) (g.S.Store.files c.loop-file.store) c.loop-file.invariant.files
+    (ends_there (g.S.Store.seen c.args.store.now).files (g.S.Store.seen c.loop-file.store).files
+    c.loop-file.invariant.files
     c.args.files.now c.loop-file.file-index _ c.loop-file-test.true c.loop-file.buffers.items c.loop-file.invariant.read
     (failed_as c.in_err-read_file.field-0.0) c.in_err-read_file.ensures.failed)
 
@@ -22,7 +23,8 @@ returns-in_err-push-clause-failed g c =
     let nothing : Bor (List ℕ) = record { ref_ptr = (0, 0); now = [] } in
     let nowhere : FileWord = record { word = nothing; name = nothing } in
     rw (p.1, p.2)
-    (ends_there (g.S.Store.files c.args.store.now) (g.S.Store.files c.loop-file.store) c.loop-file.invariant.files
+    (ends_there (g.S.Store.seen c.args.store.now).files (g.S.Store.seen c.loop-file.store).files
+    c.loop-file.invariant.files
     c.args.files.now c.loop-file.file-index nowhere c.loop-file-test.true c.loop-file.buffers.items
     c.loop-file.invariant.read no_memory tt)
 
@@ -31,13 +33,12 @@ loop-file-preserved g c =
     let more = nodes_more c.loop-file.buffers.items c.in_ok-read_file.field-0 _ c.in_ok-push.ensures.items in
     record {
       read =
-          read_more (g.S.Store.files c.args.store.now) (g.S.Store.files c.loop-file.store) c.loop-file.invariant.files
+          read_more (g.S.Store.seen c.args.store.now).files (g.S.Store.seen c.loop-file.store).files
+          c.loop-file.invariant.files
           c.args.files.now c.loop-file.file-index _ c.loop-file-test.true c.loop-file.buffers.items
           c.loop-file.invariant.read c.in_ok-read_file.field-0 _ c.in_ok-push.ensures.items
           c.in_ok-read_file.ensures.read;
       steps = omega (arith, c.loop-file.invariant.steps, c.in_ok-read_file.ensures.counted, more);
       files = c.read_file.ensures.files_kept ∙ c.loop-file.invariant.files;
-      faults = never_falls_then _ _ _ c.loop-file.invariant.faults c.read_file.ensures.faults_never_fall;
-      misses = never_falls_then _ _ _ c.loop-file.invariant.misses c.read_file.ensures.misses_never_fall;
-      longs = never_falls_then _ _ _ c.loop-file.invariant.longs c.read_file.ensures.longs_never_fall;
+      goes_on = store_goes_on_then _ _ _ c.loop-file.invariant.goes_on c.read_file.ensures.store_goes_on;
     }

@@ -1,6 +1,5 @@
 use Rattle.std.proofs.Common.{◌≤◌, map, length, Global, sym, subst, ◌∙◌, rules, arith}
 use Rattle.std.specs.String.{string_bytes}
-use Rattle.tx_outside.specs.Counts.{Rose}
 use Rattle.tx_words.specs.declared.asked.Source.TheVariants.{Files as AllFiles, Generated as FromNumber}
 use Rattle.tx_words.specs.Words.{Ask, AreFaulty, IfFiles, NamesDiffer as WordsDiffer}
 use Rattle.tx_open.specs.Openings.{failed_as}
@@ -12,7 +11,7 @@ use Rattle.tx_open.proofs.opening.open.Goals as goal
 
 pub returns-in-Ok-read_files-clause-number : goal.returns-in-Ok-read_files-clause-number
 returns-in-Ok-read_files-clause-number g c =
-    let same = as_many (g.S.Store.files c.args.store.now) c.in-Files.files c.in-Ok-read_files.all.buffers
+    let same = as_many (g.S.Store.seen c.args.store.now).files c.in-Files.files c.in-Ok-read_files.all.buffers
     c.in-Ok-read_files.ensures.read in
     let few = subst (λ s. IfFiles s (λ files. (1 ≤ length files) × (length files ≤ 16))) c.in-Files.is
     c.in-Ok.ensures.files in
@@ -20,7 +19,7 @@ returns-in-Ok-read_files-clause-number g c =
 
 pub returns-in-Ok-read_files-clause-names : goal.returns-in-Ok-read_files-clause-names
 returns-in-Ok-read_files-clause-names g c =
-    names_differ (g.S.Store.files c.args.store.now) c.in-Files.files c.in-Ok-read_files.all.buffers
+    names_differ (g.S.Store.seen c.args.store.now).files c.in-Files.files c.in-Ok-read_files.all.buffers
     c.in-Ok-read_files.ensures.read (subst (λ s. IfFiles s WordsDiffer) c.in-Files.is c.in-Ok.ensures.names)
 
 pub returns-in-Ok-read_files-clause-untouched : goal.returns-in-Ok-read_files-clause-untouched
@@ -36,21 +35,20 @@ returns-in-Files-clause-untouched g c =
     c.in-Ok.asked.source c.in-Ok.ensures.asked
 
 pub returns-in-Files-clause-complete : goal.returns-in-Files-clause-complete
-returns-in-Files-clause-complete g c = λ can m l f.
+returns-in-Files-clause-complete g c = λ can fine.
     let words = map (string_bytes {Z = Global}) c.args.words.now in
-    let files = g.S.Store.files c.args.store.now in
-    let misses = Rose (g.S.Store.misses c.args.store.now) (g.S.Store.misses c.read_files.new.store) in
-    let longs = Rose (g.S.Store.longs c.args.store.now) (g.S.Store.longs c.read_files.new.store) in
-    let faults = Rose (g.S.Store.faults c.args.store.now) (g.S.Store.faults c.read_files.new.store) in
+    let files = (g.S.Store.seen c.args.store.now).files in
+    let before = g.S.Store.seen c.args.store.now in
+    let after = g.S.Store.seen c.read_files.new.store in
     let outcome = failed_as c.in-Err.failure in
     let caused = c.in-Err.ensures.caused in
     let ask = subst (λ s. Ask words c.in-Ok.asked.width c.in-Ok.asked.height s) c.in-Files.is c.in-Ok.ensures.asked in
     is_opened words (c.one_asking.ensures words) files c.from.result can
     (comes_from words files c.in-Ok.asked.width c.in-Ok.asked.height c.in-Files.files ask
     c.from.result c.in-Err.failure c.from.ensures.0 c.in-Err.ensures.failed)
-    (λ word e. m (missing_caused misses longs faults outcome caused word (sym c.from.ensures.0 ∙ e)))
-    (λ word e. l (long_caused misses longs faults outcome caused word (sym c.from.ensures.0 ∙ e)))
-    (λ word e. f (fault_caused misses longs faults outcome caused word (sym c.from.ensures.0 ∙ e)))
+    (λ word e. fine.no_misses (missing_caused before after outcome caused word (sym c.from.ensures.0 ∙ e)))
+    (λ word e. fine.no_longs (long_caused before after outcome caused word (sym c.from.ensures.0 ∙ e)))
+    (λ word e. fine.no_faults (fault_caused before after outcome caused word (sym c.from.ensures.0 ∙ e)))
 
 -- ---- a generated document
 
@@ -70,7 +68,7 @@ pub returns-in-Err-Faulty-clause-comes : goal.returns-in-Err-Faulty-clause-comes
 returns-in-Err-Faulty-clause-comes g c = c.in-Err-Faulty.ensures.faulty (search rules)
 
 pub returns-in-Err-Faulty-clause-complete : goal.returns-in-Err-Faulty-clause-complete
-returns-in-Err-Faulty-clause-complete g c = λ can m l f.
+returns-in-Err-Faulty-clause-complete g c = λ can fine.
     let faulty : AreFaulty (map (string_bytes {Z = Global}) c.args.words.now)
     = c.in-Err-Faulty.ensures.faulty (search rules) in
     let all = can.all in

@@ -1,7 +1,6 @@
-use Rattle.std.proofs.Common.{◌≡◌, ◌<◌, ◌+◌, ◌∙◌, ap, drop, arith}
+use Rattle.std.proofs.Common.{◌<◌, ◌∙◌, ap, arith}
 use Rattle.std.specs.List.{flat_map}
 use Rattle.std.proofs.lemmas.List.{drop_all}
-use Rattle.tx_items.specs.declared.drawing.Item.{Item}
 use Rattle.tx_print.specs.Runs.{item_looks}
 use Rattle.tx_print.specs.Begun.{run_in, run_of}
 use Rattle.tx_print.proofs.Running.{item_less, open_item, told_closed, told_item, told_same, told_start}
@@ -33,6 +32,7 @@ loop-item-preserved g c =
 
 pub returns-in-Some : goal.returns-in-Some
 returns-in-Some g c =
-    let none = ap (flat_map item_looks) (drop_all c.loop-item.item-index c.all-item-items.result.now c.loop-item-test.false) in
+    let none = ap (flat_map item_looks) (drop_all c.loop-item.item-index c.all-item-items.result.now
+    c.loop-item-test.false) in
     told_closed _ (run_of c.in-Some.last) _ _ _ (ap run_in c.in-Some.is) none c.loop-item.invariant.is_open
     c.loop-item.invariant.told c.push_run.ensures

@@ -10,7 +10,7 @@ invariant-loop-item g l =
     record {
       bound : l.at < (l.item-index + 1) * 2 ^ 32;
       is_open : IsOpen (run_in l.begun) l.at;
-      told : Told l.fn.printer (g.O.Sink.written l.fn.out) (g.O.Sink.faults l.fn.out)
-          l.printer (g.O.Sink.written l.out) (g.O.Sink.faults l.out) (run_in l.begun) l.at
+      told : Told l.fn.printer (g.O.Sink.seen l.fn.out)
+          l.printer (g.O.Sink.seen l.out) (run_in l.begun) l.at
           (flat_map item_looks (drop l.item-index l.item-items)) (runs_from 0 (looks_on l.line));
     }

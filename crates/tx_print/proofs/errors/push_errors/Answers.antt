@@ -1,4 +1,4 @@
-use Rattle.std.proofs.Common.{◌++◌, sym, ap, ◌∙◌, append_assoc, take, length}
+use Rattle.std.proofs.Common.{◌++◌, ap, ◌∙◌, append_assoc, take, length}
 use Rattle.std.specs.Prelude.{codes, decimal}
 use Rattle.std.specs.List.{flat_map}
 use Rattle.tx_view_form.specs.Errors.{errors_of}

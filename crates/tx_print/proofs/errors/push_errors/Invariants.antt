@@ -10,5 +10,6 @@ use Rattle.tx_print.proofs.errors.push_errors.Given as goal
 abbrev pub invariant-loop-k : goal.invariant-loop-k
 invariant-loop-k g l =
     let errors = errors_of l.view.shown.units in
-    Adds (line (codes "errors " ++ decimal (length errors)) ++ flat_map error_text (take l.k errors)) l.fn.printer (g.O.Sink.written l.fn.out) (g.O.Sink.faults l.fn.out)
-    l.printer (g.O.Sink.written l.out) (g.O.Sink.faults l.out)
+    Adds (line (codes "errors " ++ decimal (length errors)) ++ flat_map error_text (take l.k errors)) l.fn.printer
+    (g.O.Sink.seen l.fn.out)
+    l.printer (g.O.Sink.seen l.out)

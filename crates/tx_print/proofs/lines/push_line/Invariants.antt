@@ -6,5 +6,6 @@ use Rattle.tx_print.proofs.lines.push_line.Given as goal
 
 abbrev pub invariant-loop-item : goal.invariant-loop-item
 invariant-loop-item g l =
-    Adds (spaces l.line.indent ++ flat_map printed (take l.item-index l.item-items)) l.fn.printer (g.O.Sink.written l.fn.out) (g.O.Sink.faults l.fn.out)
-    l.printer (g.O.Sink.written l.out) (g.O.Sink.faults l.out)
+    Adds (spaces l.line.indent ++ flat_map printed (take l.item-index l.item-items)) l.fn.printer
+    (g.O.Sink.seen l.fn.out)
+    l.printer (g.O.Sink.seen l.out)

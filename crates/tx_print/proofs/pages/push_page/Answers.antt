@@ -12,7 +12,8 @@ pub loop-r-init : goal.loop-r-init
 loop-r-init g c =
     let lines = lines_of c.args.view.now.shown.units in
     let head = line (codes "page " ++ decimal c.args.number) in
-    adds_also (sym (ap (λ xs. head ++ flat_map line_text xs) (range_none lines c.args.page.from c.args.page.to) ∙ append-nil head))
+    adds_also (sym (ap (λ xs. head ++ flat_map line_text xs) (range_none lines c.args.page.from c.args.page.to)
+    ∙ append-nil head))
     c.push_numbered.ensures
 
 pub loop-r-preserved : goal.loop-r-preserved

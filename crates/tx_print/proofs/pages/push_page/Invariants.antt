@@ -9,5 +9,5 @@ use Rattle.tx_print.proofs.pages.push_page.Given as goal
 abbrev pub invariant-loop-r : goal.invariant-loop-r
 invariant-loop-r g l =
     let lines = slice_range (lines_of l.view.shown.units) l.fn.page.from (min l.r l.fn.page.to) in
-    Adds (line (codes "page " ++ decimal l.number) ++ flat_map line_text lines) l.fn.printer (g.O.Sink.written l.fn.out) (g.O.Sink.faults l.fn.out)
-    l.printer (g.O.Sink.written l.out) (g.O.Sink.faults l.out)
+    Adds (line (codes "page " ++ decimal l.number) ++ flat_map line_text lines) l.fn.printer (g.O.Sink.seen l.fn.out)
+    l.printer (g.O.Sink.seen l.out)

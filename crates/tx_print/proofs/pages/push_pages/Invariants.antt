@@ -7,5 +7,5 @@ use Rattle.tx_print.proofs.pages.push_pages.Given as goal
 abbrev pub invariant-loop-i : goal.invariant-loop-i
 invariant-loop-i g l =
     Leaves (pages_text (lines_of l.view.shown.units) (l.i + 1) (drop l.i l.view.shown.pages)) (show_text l.view.shown)
-    l.fn.printer (g.O.Sink.written l.fn.out) (g.O.Sink.faults l.fn.out)
-    l.printer (g.O.Sink.written l.out) (g.O.Sink.faults l.out)
+    l.fn.printer (g.O.Sink.seen l.fn.out)
+    l.printer (g.O.Sink.seen l.out)

@@ -4,7 +4,8 @@ use Rattle.tx_print.proofs.pieces.push_shown.Goals as goal
 
 pub returns-then-is_empty : goal.returns-then-is_empty
 returns-then-is_empty g c =
-    adds_also (shown_empty c.args.text.now (empty_length _ _ _ c.is_empty.ensures c.bytes.ensures.bytes c.if-is_empty.true))
+    adds_also (shown_empty c.args.text.now (empty_length _ _ _ c.is_empty.ensures c.bytes.ensures.bytes
+    c.if-is_empty.true))
     adds_nothing
 
 pub loop-count-init : goal.loop-count-init

@@ -9,8 +9,8 @@ invariant-loop-count g l =
     record {
       cut : IsCut l.text l.at;
       left : Leaves (shown (drop l.at l.text)) (shown l.text)
-          l.fn.printer (g.O.Sink.written l.fn.out) (g.O.Sink.faults l.fn.out)
-          l.printer (g.O.Sink.written l.out) (g.O.Sink.faults l.out);
+          l.fn.printer (g.O.Sink.seen l.fn.out)
+          l.printer (g.O.Sink.seen l.out);
     }
 
 abbrev pub decreases-loop-count : goal.decreases-loop-count

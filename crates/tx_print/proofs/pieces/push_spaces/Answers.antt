@@ -1,4 +1,3 @@
-use Rattle.std.proofs.Common.{◌≡◌, ◌+◌, ap, sym, ◌∙◌}
 use Rattle.std.proofs.lemmas.List.{replicate-append-replicate}
 use Rattle.tx_print.proofs.Adding.{adds_then, adds_also}
 use Rattle.tx_print.proofs.pieces.push_spaces.Goals as goal

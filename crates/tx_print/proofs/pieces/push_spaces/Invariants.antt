@@ -4,5 +4,5 @@ use Rattle.tx_print.proofs.pieces.push_spaces.Given as goal
 
 abbrev pub invariant-loop : goal.invariant-loop
 invariant-loop g l =
-    Adds (spaces l.counter) l.fn.printer (g.O.Sink.written l.fn.out) (g.O.Sink.faults l.fn.out)
-    l.printer (g.O.Sink.written l.out) (g.O.Sink.faults l.out)
+    Adds (spaces l.counter) l.fn.printer (g.O.Sink.seen l.fn.out)
+    l.printer (g.O.Sink.seen l.out)

@@ -10,5 +10,6 @@ pub loop-number-preserved : goal.loop-number-preserved
 loop-number-preserved g c =
     let numbers = c.steps-number-items.result.now in
     let i = c.loop-number.number-index in
-    adds_also (flat_more (λ i. 47 ∷ decimal i) (take i numbers) _ ∙ ap (flat_map (λ i. 47 ∷ decimal i)) (sym (take_more numbers i 0 c.loop-number-test.true)))
+    adds_also (flat_more (λ i. 47 ∷ decimal i) (take i numbers) _
+    ∙ ap (flat_map (λ i. 47 ∷ decimal i)) (sym (take_more numbers i 0 c.loop-number-test.true)))
     (adds_then c.loop-number.invariant c.push_step.ensures)

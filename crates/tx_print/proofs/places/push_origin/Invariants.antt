@@ -5,5 +5,5 @@ use Rattle.tx_print.proofs.places.push_origin.Given as goal
 
 abbrev pub invariant-loop-i : goal.invariant-loop-i
 invariant-loop-i g l =
-    Adds (numbers_text (take l.i l.origin)) l.fn.printer (g.O.Sink.written l.fn.out) (g.O.Sink.faults l.fn.out)
-    l.printer (g.O.Sink.written l.out) (g.O.Sink.faults l.out)
+    Adds (numbers_text (take l.i l.origin)) l.fn.printer (g.O.Sink.seen l.fn.out)
+    l.printer (g.O.Sink.seen l.out)

@@ -4,4 +4,5 @@ use Rattle.tx_print.proofs.places.push_place.Goals as goal
 
 pub returns : goal.returns
 returns g c =
-    adds_also (place_words c.args.place.now.path c.args.place.now.offset) (adds_then c.push_steps.ensures c.push_offset.ensures)
+    adds_also (place_words c.args.place.now.path c.args.place.now.offset)
+    (adds_then c.push_steps.ensures c.push_offset.ensures)

@@ -12,15 +12,15 @@ pub returns-in-Err-clause-answered : goal.returns-in-Err-clause-answered
 returns-in-Err-clause-answered g c = λ bytes k.
     let is = c.in-Err.ensures.text bytes k in
     long_turned c.refuse.result
-    (world c.args.session.now (g.S.Store.files c.args.store.now) (g.S.Store.faults c.args.store.now)
+    (world c.args.session.now (g.S.Store.seen c.args.store.now)
     c.args.steps.now) bytes
-    (g.O.Sink.written c.args.out.now) (g.O.Sink.written c.refuse.new.out) c.refuse.ensures.goes c.in-Err.count
+    (g.O.Sink.seen c.args.out.now).written (g.O.Sink.seen c.refuse.new.out).written c.refuse.ensures.goes c.in-Err.count
     (subst (λ n. 1048576 < n) is.0 is.1) is.0 c.refuse.ensures.said
 
 pub returns-then-is_empty-clause-answered : goal.returns-then-is_empty-clause-answered
 returns-then-is_empty-clause-answered g c =
     λ bytes k. empty_turned
-    (world c.args.session.now (g.S.Store.files c.args.store.now) (g.S.Store.faults c.args.store.now)
+    (world c.args.session.now (g.S.Store.seen c.args.store.now)
     c.args.steps.now) bytes _ _
     (sym (c.in-Ok.ensures.text bytes k) ∙ no_line _ _ c.is_empty.ensures c.if-is_empty.true) (nothing_written _)
 
@@ -29,21 +29,22 @@ returns-in-Ok-parse-clause-answered g c = λ bytes k.
     let e = c.in-Ok.ensures.text bytes k in
     let r = c.step.ensures.replied in
     stepped_turned
-    (world c.args.session.now (g.S.Store.files c.args.store.now) (g.S.Store.faults c.args.store.now) c.args.steps.now)
-    (world c.step.new.self (g.S.Store.files c.step.new.store) (g.S.Store.faults c.step.new.store) c.step.new.steps)
+    (world c.args.session.now (g.S.Store.seen c.args.store.now) c.args.steps.now)
+    (world c.step.new.self (g.S.Store.seen c.step.new.store) c.step.new.steps)
     c.parse.new.steps bytes c.in-Ok-parse.command _ _
     (subst IsAsked e (some_line _ _ c.is_empty.ensures c.if-is_empty.false, c.in-Ok.ensures.short))
     (subst (λ l. IsCommand l c.in-Ok-parse.command) e c.in-Ok-parse.ensures.ok)
     (c.parse.ensures.rises, c.in-Ok-parse.ensures.counted) c.step.result c.step.ensures.quits.0 c.step.ensures.quits.1
-    (λ q. ap g.O.Sink.written (c.step.ensures.quit_writes_nothing q)) c.step.ensures.quit_takes_nothing r
+    (λ q. ap (λ out. (g.O.Sink.seen out).written) (c.step.ensures.quit_writes_nothing q))
+    c.step.ensures.quit_takes_nothing r
 
 pub returns-in-Err-parse-clause-answered : goal.returns-in-Err-parse-clause-answered
 returns-in-Err-parse-clause-answered g c = λ bytes k.
     let e = c.in-Ok.ensures.text bytes k in
-    let seen = world c.args.session.now (g.S.Store.files c.args.store.now) (g.S.Store.faults c.args.store.now)
+    let seen = world c.args.session.now (g.S.Store.seen c.args.store.now)
     c.args.steps.now in
     refused_turned c.refuse-in-Err-parse.result seen bytes
-    (g.O.Sink.written c.args.out.now) (g.O.Sink.written c.refuse-in-Err-parse.new.out)
+    (g.O.Sink.seen c.args.out.now).written (g.O.Sink.seen c.refuse-in-Err-parse.new.out).written
     c.refuse-in-Err-parse.ensures.goes (record seen { steps = c.parse.new.steps }) c.in-Err-parse.fault
     (counted_on seen c.parse.new.steps c.parse.ensures.rises)
     (subst IsAsked e (some_line _ _ c.is_empty.ensures c.if-is_empty.false, c.in-Ok.ensures.short))

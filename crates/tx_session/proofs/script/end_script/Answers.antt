@@ -6,18 +6,17 @@ use Rattle.tx_session.proofs.script.end_script.Goals as goal
 pub returns-in-Ok-clause-end : goal.returns-in-Ok-clause-end
 returns-in-Ok-clause-end g c =
     λ start told before script s tells short rest end. whole_end start
-    (world c.args.session.now (g.S.Store.files c.args.store.now) (g.S.Store.faults c.args.store.now) c.args.steps.now)
-    (world c.answer_line.new.session (g.S.Store.files c.answer_line.new.store)
-    (g.S.Store.faults c.answer_line.new.store)
-    c.answer_line.new.steps) told rest before (g.O.Sink.written c.args.out.now)
-    (g.O.Sink.written c.answer_line.new.out) script s.rest c.in-Ok.field-0 tells short end s.stands
+    (world c.args.session.now (g.S.Store.seen c.args.store.now) c.args.steps.now)
+    (world c.answer_line.new.session (g.S.Store.seen c.answer_line.new.store)
+    c.answer_line.new.steps) told rest before (g.O.Sink.seen c.args.out.now).written
+    (g.O.Sink.seen c.answer_line.new.out).written script s.rest c.in-Ok.field-0 tells short end s.stands
     (c.in-Ok.ensures.answered s.rest s.kept)
 
 pub returns-in-Err-Failed-clause-end : goal.returns-in-Err-Failed-clause-end
 returns-in-Err-Failed-clause-end g c =
     λ start told before script s tells short rest end. whole_cut start
-    (world c.args.session.now (g.S.Store.files c.args.store.now) (g.S.Store.faults c.args.store.now) c.args.steps.now)
-    (world c.answer_line.new.session (g.S.Store.files c.answer_line.new.store)
-    (g.S.Store.faults c.answer_line.new.store) c.answer_line.new.steps) told before (g.O.Sink.written c.args.out.now)
-    (g.O.Sink.written c.answer_line.new.out) script s.rest tells short s.stands
+    (world c.args.session.now (g.S.Store.seen c.args.store.now) c.args.steps.now)
+    (world c.answer_line.new.session (g.S.Store.seen c.answer_line.new.store) c.answer_line.new.steps) told before
+    (g.O.Sink.seen c.args.out.now).written
+    (g.O.Sink.seen c.answer_line.new.out).written script s.rest tells short s.stands
     (turned_cut _ _ _ _ _ _ _ c.in-Err-Failed.is (c.answer_line.ensures.answered s.rest s.kept))

@@ -1,10 +1,10 @@
 use Rattle.std.proofs.Common.{[], ◌++◌, take, refl, sym, ap, ◌∙◌, arith}
 use Rattle.std.specs.Io.KnownBytes.{prepend_known}
-use Rattle.tx_outside.proofs.Counting.{never_falls_refl, never_falls_then}
+use Rattle.tx_outside.proofs.GoingOn.{sink_goes_on_refl, sink_goes_on_then, source_goes_on_refl, source_goes_on_then}
+use Rattle.tx_outside.proofs.GoingOn.{store_goes_on_refl, store_goes_on_then}
 use Rattle.tx_outside.proofs.Pieces.{append_known-nil, prepend_known-nil}
 use Rattle.tx_session.specs.declared.script.Turn.TheVariants as turns
 use Rattle.tx_session.specs.Worlds.{world}
-use Rattle.tx_session.proofs.StoreCalls.{goes_on_refl, goes_on_then}
 use Rattle.tx_session.proofs.Standing.{stands_first}
 use Rattle.tx_session.proofs.Ending.{at_end, nothing_left, failed_end, stopped_in_read, long_read, read_on, room_on}
 use Rattle.tx_session.proofs.Ending.{count_on}
@@ -21,41 +21,40 @@ loop-session-init g c =
           rest = [];
           stands =
               stands_first
-              (world c.args.session.now (g.S.Store.files c.args.store.now) (g.S.Store.faults c.args.store.now)
+              (world c.args.session.now (g.S.Store.seen c.args.store.now)
               c.args.steps.now)
-              (g.O.Sink.written c.args.out.now) (sym (append_known-nil _));
+              (g.O.Sink.seen c.args.out.now).written (sym (append_known-nil _));
           kept = c.new-line.ensures;
         },
       );
       count = omega (arith, c.new-line.ensures.count);
-      store = goes_on_refl _ _ _ _;
+      store = store_goes_on_refl _;
       piece = refl;
-      input_faults = never_falls_refl _;
-      output_faults = never_falls_refl _;
-      input_known = refl;
-      output_known = refl;
+      input = source_goes_on_refl _;
+      output = sink_goes_on_refl _;
     }
 
 pub returns-in-Ok-eq0-clause-end : goal.returns-in-Ok-eq0-clause-end
 returns-in-Ok-eq0-clause-end g c =
     let t = c.loop-session.invariant.taken in
     c.end_script.ensures.end
-    (world c.args.session.now (g.S.Store.files c.args.store.now) (g.S.Store.faults c.args.store.now) c.args.steps.now)
-    (g.I.Source.left c.args.input.now) (g.O.Sink.written c.args.out.now) t.0 t.3
+    (world c.args.session.now (g.S.Store.seen c.args.store.now) c.args.steps.now)
+    (g.I.Source.seen c.args.input.now).left (g.O.Sink.seen c.args.out.now).written t.0 t.3
     (at_end _ _ _ t.0 c.read.new.into _ c.in-Ok-eq0.field-0-test t.1 c.in-Ok-eq0.ensures.taken
     (c.in-Ok-eq0.ensures.zero_at_end c.in-Ok-eq0.field-0-test)) (omega (arith, t.2))
-    (g.I.Source.left c.read.new.self)
+    (g.I.Source.seen c.read.new.self).left
     (nothing_left _ _ c.read.new.into _ c.in-Ok-eq0.ensures.taken
     (c.in-Ok-eq0.ensures.zero_at_end c.in-Ok-eq0.field-0-test))
 
 pub returns-in-Err-clause-end : goal.returns-in-Err-clause-end
 returns-in-Err-clause-end g c =
     let t = c.loop-session.invariant.taken in
-    failed_end (world c.args.session.now (g.S.Store.files c.args.store.now) (g.S.Store.faults c.args.store.now)
+    failed_end (world c.args.session.now (g.S.Store.seen c.args.store.now)
     c.args.steps.now)
-    (world c.loop-session.session (g.S.Store.files c.loop-session.store) (g.S.Store.faults c.loop-session.store)
+    (world c.loop-session.session (g.S.Store.seen c.loop-session.store)
     c.loop-session.steps)
-    (g.I.Source.left c.args.input.now) (g.I.Source.left c.read.new.self) (g.O.Sink.written c.args.out.now) _ t.0
+    (g.I.Source.seen c.args.input.now).left (g.I.Source.seen c.read.new.self).left
+    (g.O.Sink.seen c.args.out.now).written _ t.0
     t.3.rest
     (t.1 ∙ ap (prepend_known t.0) (sym c.in-Err.ensures.failed_keeps)) (omega (arith, t.2)) t.3.stands
 
@@ -63,62 +62,66 @@ pub returns-in-Quit-clause-end : goal.returns-in-Quit-clause-end
 returns-in-Quit-clause-end g c =
     let t = c.loop-session.invariant.taken in
     stopped_in_read turns.Quit
-    (world c.args.session.now (g.S.Store.files c.args.store.now) (g.S.Store.faults c.args.store.now) c.args.steps.now)
-    (world c.take_piece.new.session (g.S.Store.files c.take_piece.new.store)
-    (g.S.Store.faults c.take_piece.new.store) c.take_piece.new.steps) (g.I.Source.left c.args.input.now)
-    (g.I.Source.left c.loop-session.input) (g.I.Source.left c.read.new.self) (g.O.Sink.written c.args.out.now)
-    (g.O.Sink.written c.take_piece.new.out)
+    (world c.args.session.now (g.S.Store.seen c.args.store.now) c.args.steps.now)
+    (world c.take_piece.new.session (g.S.Store.seen c.take_piece.new.store) c.take_piece.new.steps)
+    (g.I.Source.seen c.args.input.now).left
+    (g.I.Source.seen c.loop-session.input).left (g.I.Source.seen c.read.new.self).left
+    (g.O.Sink.seen c.args.out.now).written
+    (g.O.Sink.seen c.take_piece.new.out).written
     t.0 c.read.new.into c.min-within.result c.in-Ok.count c.loop-session.room c.take_piece.new.line (λ e. cc) t.1
     c.in-Ok.ensures.taken (omega (arith, c.min-within.ensures)) (omega (arith, c.min-within.ensures)) t.2
     (c.in-Quit.ensures.leads
-    (world c.args.session.now (g.S.Store.files c.args.store.now) (g.S.Store.faults c.args.store.now) c.args.steps.now)
-    (g.O.Sink.written c.args.out.now) t.0 t.3)
+    (world c.args.session.now (g.S.Store.seen c.args.store.now) c.args.steps.now)
+    (g.O.Sink.seen c.args.out.now).written t.0 t.3)
 
 pub returns-in-NoMemory-clause-end : goal.returns-in-NoMemory-clause-end
 returns-in-NoMemory-clause-end g c =
     let t = c.loop-session.invariant.taken in
     stopped_in_read turns.NoMemory
-    (world c.args.session.now (g.S.Store.files c.args.store.now) (g.S.Store.faults c.args.store.now) c.args.steps.now)
-    (world c.take_piece.new.session (g.S.Store.files c.take_piece.new.store)
-    (g.S.Store.faults c.take_piece.new.store) c.take_piece.new.steps) (g.I.Source.left c.args.input.now)
-    (g.I.Source.left c.loop-session.input) (g.I.Source.left c.read.new.self) (g.O.Sink.written c.args.out.now)
-    (g.O.Sink.written c.take_piece.new.out)
+    (world c.args.session.now (g.S.Store.seen c.args.store.now) c.args.steps.now)
+    (world c.take_piece.new.session (g.S.Store.seen c.take_piece.new.store) c.take_piece.new.steps)
+    (g.I.Source.seen c.args.input.now).left
+    (g.I.Source.seen c.loop-session.input).left (g.I.Source.seen c.read.new.self).left
+    (g.O.Sink.seen c.args.out.now).written
+    (g.O.Sink.seen c.take_piece.new.out).written
     t.0 c.read.new.into c.min-within.result c.in-Ok.count c.loop-session.room c.take_piece.new.line (λ e. cc) t.1
     c.in-Ok.ensures.taken (omega (arith, c.min-within.ensures)) (omega (arith, c.min-within.ensures)) t.2
     (c.in-NoMemory.ensures.leads
-    (world c.args.session.now (g.S.Store.files c.args.store.now) (g.S.Store.faults c.args.store.now) c.args.steps.now)
-    (g.O.Sink.written c.args.out.now) t.0 t.3)
+    (world c.args.session.now (g.S.Store.seen c.args.store.now) c.args.steps.now)
+    (g.O.Sink.seen c.args.out.now).written t.0 t.3)
 
 pub returns-in-OutputFailed-clause-end : goal.returns-in-OutputFailed-clause-end
 returns-in-OutputFailed-clause-end g c =
     let t = c.loop-session.invariant.taken in
     stopped_in_read turns.OutputFailed
-    (world c.args.session.now (g.S.Store.files c.args.store.now) (g.S.Store.faults c.args.store.now) c.args.steps.now)
-    (world c.take_piece.new.session (g.S.Store.files c.take_piece.new.store)
-    (g.S.Store.faults c.take_piece.new.store) c.take_piece.new.steps) (g.I.Source.left c.args.input.now)
-    (g.I.Source.left c.loop-session.input) (g.I.Source.left c.read.new.self) (g.O.Sink.written c.args.out.now)
-    (g.O.Sink.written c.take_piece.new.out)
+    (world c.args.session.now (g.S.Store.seen c.args.store.now) c.args.steps.now)
+    (world c.take_piece.new.session (g.S.Store.seen c.take_piece.new.store) c.take_piece.new.steps)
+    (g.I.Source.seen c.args.input.now).left
+    (g.I.Source.seen c.loop-session.input).left (g.I.Source.seen c.read.new.self).left
+    (g.O.Sink.seen c.args.out.now).written
+    (g.O.Sink.seen c.take_piece.new.out).written
     t.0 c.read.new.into c.min-within.result c.in-Ok.count c.loop-session.room c.take_piece.new.line (λ e. cc) t.1
     c.in-Ok.ensures.taken (omega (arith, c.min-within.ensures)) (omega (arith, c.min-within.ensures)) t.2
     (c.in-OutputFailed.ensures.leads
-    (world c.args.session.now (g.S.Store.files c.args.store.now) (g.S.Store.faults c.args.store.now) c.args.steps.now)
-    (g.O.Sink.written c.args.out.now) t.0 t.3)
+    (world c.args.session.now (g.S.Store.seen c.args.store.now) c.args.steps.now)
+    (g.O.Sink.seen c.args.out.now).written t.0 t.3)
 
 pub returns-then-within-count-clause-end : goal.returns-then-within-count-clause-end
 returns-then-within-count-clause-end g c =
     let t = c.loop-session.invariant.taken in
-    long_read (world c.args.session.now (g.S.Store.files c.args.store.now) (g.S.Store.faults c.args.store.now)
+    long_read (world c.args.session.now (g.S.Store.seen c.args.store.now)
     c.args.steps.now)
-    (world c.take_piece.new.session (g.S.Store.files c.take_piece.new.store)
-    (g.S.Store.faults c.take_piece.new.store) c.take_piece.new.steps) (g.I.Source.left c.args.input.now)
-    (g.I.Source.left c.loop-session.input) (g.I.Source.left c.read.new.self) (g.O.Sink.written c.args.out.now)
-    (g.O.Sink.written c.take_piece.new.out)
+    (world c.take_piece.new.session (g.S.Store.seen c.take_piece.new.store) c.take_piece.new.steps)
+    (g.I.Source.seen c.args.input.now).left
+    (g.I.Source.seen c.loop-session.input).left (g.I.Source.seen c.read.new.self).left
+    (g.O.Sink.seen c.args.out.now).written
+    (g.O.Sink.seen c.take_piece.new.out).written
     t.0 c.read.new.into c.min-within.result c.in-Ok.count c.loop-session.room c.take_piece.new.line t.1
     c.in-Ok.ensures.taken c.if-within-count.true (omega (arith, c.min-within.ensures, c.if-within-count.true))
     (omega (arith, c.in-Ok.ensures.within, c.read.auto.into, c.loop-session.invariant.piece)) t.2
     (c.in-Go.ensures.leads
-    (world c.args.session.now (g.S.Store.files c.args.store.now) (g.S.Store.faults c.args.store.now) c.args.steps.now)
-    (g.O.Sink.written c.args.out.now) t.0 t.3)
+    (world c.args.session.now (g.S.Store.seen c.args.store.now) c.args.steps.now)
+    (g.O.Sink.seen c.args.out.now).written t.0 t.3)
 
 pub loop-session-preserved : goal.loop-session-preserved
 loop-session-preserved g c =
@@ -137,17 +140,14 @@ loop-session-preserved g c =
               c.loop-session.invariant.piece,
             )) t.2,
         c.in-Go.ensures.leads
-            (world c.args.session.now (g.S.Store.files c.args.store.now) (g.S.Store.faults c.args.store.now)
+            (world c.args.session.now (g.S.Store.seen c.args.store.now)
             c.args.steps.now)
-            (g.O.Sink.written c.args.out.now) t.0 t.3,
+            (g.O.Sink.seen c.args.out.now).written t.0 t.3,
       );
       count = count_on _ c.loop-session.line.count c.loop-session.room c.min-within.result c.read.new.into
           c.take_piece.ensures.count c.loop-session.invariant.count (omega (arith, c.min-within.ensures));
-      store = goes_on_then _ _ _ _ _ _ _ _ _ _ _ _ c.loop-session.invariant.store c.take_piece.ensures.store_goes_on;
+      store = store_goes_on_then _ _ _ c.loop-session.invariant.store c.take_piece.ensures.store_goes_on;
       piece = c.read.auto.into ∙ c.loop-session.invariant.piece;
-      input_faults = never_falls_then _ _ _ c.loop-session.invariant.input_faults c.read.ensures.faults_never_fall;
-      output_faults =
-          never_falls_then _ _ _ c.loop-session.invariant.output_faults c.take_piece.ensures.faults_never_fall;
-      input_known = c.read.ensures.stays_known ∙ c.loop-session.invariant.input_known;
-      output_known = c.take_piece.ensures.stays_known ∙ c.loop-session.invariant.output_known;
+      input = source_goes_on_then _ _ _ c.loop-session.invariant.input c.read.ensures.goes_on;
+      output = sink_goes_on_then _ _ _ c.loop-session.invariant.output c.take_piece.ensures.output_goes_on;
     }

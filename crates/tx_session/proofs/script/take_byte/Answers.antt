@@ -23,8 +23,8 @@ returns-in-Ok-Go-clause-leads g c = λ start before bytes s.
       stands =
           subst (λ bs.
           Stands start before bs []
-          (world c.answer_line.new.session (g.S.Store.files c.answer_line.new.store)
-          (g.S.Store.faults c.answer_line.new.store) c.answer_line.new.steps) (g.O.Sink.written c.answer_line.new.out))
+          (world c.answer_line.new.session (g.S.Store.seen c.answer_line.new.store) c.answer_line.new.steps)
+          (g.O.Sink.seen c.answer_line.new.out).written)
           (sym (ends_at bytes _ c.if-byte-ne10.false)) (stands_next start before bytes s.rest _ _ _ _ went s.stands);
       kept = c.clear.ensures;
     }

@@ -1,6 +1,6 @@
-use Rattle.std.proofs.Common.{◌++◌, take, ◌∙◌, arith}
-use Rattle.tx_outside.proofs.Counting.{never_falls_then, then_rose}
-use Rattle.tx_session.proofs.StoreCalls.{goes_on_then}
+use Rattle.std.proofs.Common.{◌++◌, take, arith}
+use Rattle.tx_outside.proofs.Counting.{then_rose}
+use Rattle.tx_outside.proofs.GoingOn.{sink_goes_on_then, store_goes_on_then}
 use Rattle.tx_session.proofs.Standing.{stops_in_piece, goes_on_in_piece}
 use Rattle.tx_session.proofs.script.take_piece.Goals as goal
 
@@ -13,11 +13,9 @@ returns-in_default g c =
           (c.loop-byte.invariant.leads start before bytes s));
       kept = λ e. absurd (c.in_default.not-Go e);
       count = omega (arith, c.take_byte.ensures.count, c.loop-byte.invariant.count, c.loop-byte-test.true);
-      output_failed = λ e. then_rose _ _ _ c.loop-byte.invariant.faults (c.take_byte.ensures.output_failed e);
-      store_goes_on =
-          goes_on_then _ _ _ _ _ _ _ _ _ _ _ _ c.loop-byte.invariant.store c.take_byte.ensures.store_goes_on;
-      faults_never_fall = never_falls_then _ _ _ c.loop-byte.invariant.faults c.take_byte.ensures.faults_never_fall;
-      stays_known = c.take_byte.ensures.stays_known ∙ c.loop-byte.invariant.known;
+      output_failed = λ e. then_rose _ _ _ c.loop-byte.invariant.output.faults (c.take_byte.ensures.output_failed e);
+      store_goes_on = store_goes_on_then _ _ _ c.loop-byte.invariant.store c.take_byte.ensures.store_goes_on;
+      output_goes_on = sink_goes_on_then _ _ _ c.loop-byte.invariant.output c.take_byte.ensures.output_goes_on;
     }
 
 pub loop-byte-preserved : goal.loop-byte-preserved
@@ -29,7 +27,6 @@ loop-byte-preserved g c =
           (c.take_byte.ensures.leads start before (bytes ++ take c.loop-byte.byte-index c.args.piece.now)
           (c.loop-byte.invariant.leads start before bytes s));
       count = omega (arith, c.take_byte.ensures.count, c.loop-byte.invariant.count);
-      store = goes_on_then _ _ _ _ _ _ _ _ _ _ _ _ c.loop-byte.invariant.store c.take_byte.ensures.store_goes_on;
-      faults = never_falls_then _ _ _ c.loop-byte.invariant.faults c.take_byte.ensures.faults_never_fall;
-      known = c.take_byte.ensures.stays_known ∙ c.loop-byte.invariant.known;
+      store = store_goes_on_then _ _ _ c.loop-byte.invariant.store c.take_byte.ensures.store_goes_on;
+      output = sink_goes_on_then _ _ _ c.loop-byte.invariant.output c.take_byte.ensures.output_goes_on;
     }

@@ -1,8 +1,6 @@
 use Rattle.std.proofs.Common.{◌≤◌, ◌+◌, ◌++◌, ℕ, List, Option, take}
-use Rattle.tx_outside.specs.Counts.{NeverFalls}
-use Rattle.tx_outside.specs.Known.{StaysKnown}
+use Rattle.tx_outside.specs.Outside.{SinkGoesOn, StoreGoesOn}
 use Rattle.tx_session.specs.Worlds.{World, world}
-use Rattle.tx_session.specs.Storing.{GoesOn}
 use Rattle.tx_session.specs.Keeping.{KeepsLine, StandsWith}
 use Rattle.tx_session.proofs.script.take_piece.Given as goal
 
@@ -12,15 +10,12 @@ invariant-loop-byte g l =
       kept : (bytes : List ℕ) × KeepsLine l.line bytes;
       leads : (start : World) (before : Option (List ℕ)) (bytes : List ℕ)
           → StandsWith start before bytes
-          (world l.fn.session (g.S.Store.files l.fn.store) (g.S.Store.faults l.fn.store) l.fn.steps) l.fn.line
-          (g.O.Sink.written l.fn.out)
+          (world l.fn.session (g.S.Store.seen l.fn.store) l.fn.steps) l.fn.line
+          (g.O.Sink.seen l.fn.out).written
           → StandsWith start before (bytes ++ take l.byte-index l.piece)
-          (world l.session (g.S.Store.files l.store) (g.S.Store.faults l.store)
-          l.steps) l.line (g.O.Sink.written l.out);
+          (world l.session (g.S.Store.seen l.store)
+          l.steps) l.line (g.O.Sink.seen l.out).written;
       count : l.line.count ≤ l.fn.line.count + l.byte-index;
-      store : GoesOn (g.S.Store.files l.fn.store) (g.S.Store.files l.store) (g.S.Store.faults l.fn.store)
-          (g.S.Store.faults l.store) (g.S.Store.misses l.fn.store) (g.S.Store.misses l.store)
-          (g.S.Store.longs l.fn.store) (g.S.Store.longs l.store);
-      faults : NeverFalls (g.O.Sink.faults l.fn.out) (g.O.Sink.faults l.out);
-      known : StaysKnown (g.O.Sink.written l.fn.out) (g.O.Sink.written l.out);
+      store : StoreGoesOn (g.S.Store.seen l.fn.store) (g.S.Store.seen l.store);
+      output : SinkGoesOn (g.O.Sink.seen l.fn.out) (g.O.Sink.seen l.out);
     }

@@ -6,9 +6,9 @@ use Rattle.tx_print.proofs.printer.Printer.flush.Goals as goal
 
 pub returns-in-Err-Failed-clause-adds : goal.returns-in-Err-Failed-clause-adds
 returns-in-Err-Failed-clause-adds g c =
-    let before = g.O.Sink.written c.args.out.now in
-    let after = g.O.Sink.written c.write_all.new.out in
+    let before = (g.O.Sink.seen c.args.out.now).written in
+    let after = (g.O.Sink.seen c.write_all.new.out).written in
     let part = subst (λ (t : List ℕ). AppendsPart t before after)
     (c.as_slice.ensures.value ∙ sym (append-nil c.args.self.now.waiting.items)) c.in-Err-Failed.ensures.failed_part in
-    adds_broken _ _ _ _ _ c.if-self.false refl part c.in-Err-Failed.ensures.failed_rose
-    c.write_all.ensures.faults_never_fall c.write_all.ensures.stays_known
+    adds_broken _ _ _ c.if-self.false refl part c.in-Err-Failed.ensures.failed_rose
+    c.write_all.ensures.goes_on

@@ -16,8 +16,8 @@ returns-clause-said g c =
     let it = c.args.command.now in
     let asks = prints_ask it c.requires in
     let text = printed view.width view.shown it in
-    let before = g.O.Sink.written c.args.out.now in
-    let behind = g.O.Sink.written c.print_view.new.out in
+    let before = (g.O.Sink.seen c.args.out.now).written in
+    let behind = (g.O.Sink.seen c.print_view.new.out).written in
     let after : Seen = record { state = inside.state; width = view.width; height = view.height; fresh = true } in
     let is = present_view view.buffers inside.state.buffers view.width inside.view.width view.height inside.view.height
     view.shown (c.refresh.ensures.buffers ∙ c.self.invariant.buffers) c.refresh.ensures.width

@@ -11,8 +11,8 @@ returns-clause-said g c =
     let seen = c.args.self.now.seen in
     let at = c.cursor.result.now in
     let text = line (place_text at.path at.offset) in
-    let before = g.O.Sink.written c.args.out.now in
-    let behind = g.O.Sink.written c.print_cursor.new.out in
+    let before = (g.O.Sink.seen c.args.out.now).written in
+    let behind = (g.O.Sink.seen c.print_cursor.new.out).written in
     let is = c.cursor.ensures.cursor ∙ ap (λ w. w.seen.state.cursor) c.self.view_is in (
       text,
       λ store. done Cursor seen seen store text (refl, ap (λ p. line (place_text p.path p.offset)) is) refl refl refl

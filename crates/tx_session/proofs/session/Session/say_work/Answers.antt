@@ -16,8 +16,8 @@ returns-in-Ok-clause-said g c =
     let view = c.refresh.new.self in
     let n = c.work-number.result in
     let text = work_reply n in
-    let before = g.O.Sink.written c.args.out.now in
-    let behind = g.O.Sink.written c.print_work.new.out in
+    let before = (g.O.Sink.seen c.args.out.now).written in
+    let behind = (g.O.Sink.seen c.print_work.new.out).written in
     let after : Seen = record { state = inside.state; width = view.width; height = view.height; fresh = true } in (
       told n,
       text,

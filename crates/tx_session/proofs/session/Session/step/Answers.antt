@@ -6,11 +6,10 @@ use Rattle.tx_session.proofs.session.Session.step.Goals as goal
 pub returns-clause-no_store_counted : goal.returns-clause-no_store_counted
 returns-clause-no_store_counted g c =
     let r = c.answer-next.ensures.replied in
-    no_store (seen_world c.args.self.now.seen (g.S.Store.files c.args.store.now) (g.S.Store.faults c.args.store.now))
-    (seen_world c.answer-next.new.self.seen (g.S.Store.files c.answer-next.new.store)
-    (g.S.Store.faults c.answer-next.new.store))
-    c.args.command.now r.0 r.1 c.answer-next.result (g.O.Sink.written c.args.out.now)
-    (g.O.Sink.written c.answer-next.new.out) r.2 r.3
+    no_store (seen_world c.args.self.now.seen (g.S.Store.seen c.args.store.now))
+    (seen_world c.answer-next.new.self.seen (g.S.Store.seen c.answer-next.new.store))
+    c.args.command.now r.0 r.1 c.answer-next.result (g.O.Sink.seen c.args.out.now).written
+    (g.O.Sink.seen c.answer-next.new.out).written r.2 r.3
 
 pub returns-clause-counted : goal.returns-clause-counted
 returns-clause-counted g c = λ e.
