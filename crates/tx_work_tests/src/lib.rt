@@ -11,6 +11,8 @@ mod kept;
 #[cfg(test)]
 mod large;
 #[cfg(test)]
+mod parts;
+#[cfg(test)]
 mod plays;
 #[cfg(test)]
 mod random;

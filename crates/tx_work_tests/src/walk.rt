@@ -1,6 +1,7 @@
 // The units of a document one behind the other, from nothing, and what of them has to be made anew.
 ghost use Rattle.std.specs.Prelude.{◌≤◌};
 
+use crate::parts::{Part, is_nested, parts_of};
 use std::alloc::Global;
 use std::sync::ledger::Ledger;
 use tx_base::Steps;
@@ -11,7 +12,7 @@ use tx_tree::{Text, Tree};
 use tx_units::Unit;
 
 // The most steps of a unit, and of all.
-const MOST_UNIT: u64 = 1_000_000;
+pub(crate) const MOST_UNIT: u64 = 1_000_000;
 
 const MOST_ALL: u64 = 16_000_000;
 
@@ -53,7 +54,7 @@ fn is_tree(one: Option<&Tree>, other: &Option<Tree>) -> bool {
 }
 
 // Whether each name has what it had where it was looked up.
-fn agrees(trace: &Trace, env: &Env) -> bool {
+pub(crate) fn agrees(trace: &Trace, env: &Env) -> bool {
     for (name, value) in trace.looks.pairs() {
         if !is_tree(env.get(name), value) {
             return false;
@@ -144,41 +145,32 @@ impl Walk {
         Some(())
     }
 
-    // Adds what is made anew of a unit.
-    fn charge(
-        &mut self,
-        alloc: Global,
-        unit: &Unit,
-        made: &Last,
-        last: Option<&Last>,
-        allowance: u64,
-    ) -> Option<()> {
-        let reached = !fits(last, &self.env, allowance);
-        if reached {
-            let charge = match &made.outcome {
-                Outcome::Over => allowance,
-                Outcome::Done(trace) => trace.cost,
-            };
-            self.work = self.work.checked_add(charge)?;
-        }
-        if unit.path.is_some() && (reached || !is_laid_for(last, &made.attrs)) {
-            let count = item_count(alloc, &made.outcome, &made.attrs)?;
-            self.work = self.work.checked_add(count)?;
-        }
+    // Adds the items of a unit that is laid out anew.
+    fn lay(&mut self, alloc: Global, made: &Last) -> Option<()> {
+        let count = item_count(alloc, &made.outcome, &made.attrs)?;
+        self.work = self.work.checked_add(count)?;
         Some(())
     }
 
-    // The same, and goes behind the unit.
-    fn take(
+    // What a unit costs that is evaluated anew, and its parts. Of these only those cost that aren't kept.
+    fn cost<L: Ledger>(
         &mut self,
         alloc: Global,
         unit: &Unit,
         made: &Last,
-        last: Option<&Last>,
         allowance: u64,
-    ) -> Option<()> {
-        self.charge(alloc, unit, made, last, allowance)?;
-        self.go_behind(&made.outcome, allowance)
+        kept: &[Part],
+        steps: &mut Steps<L>,
+    ) -> Option<(u64, Vec<Part>)> {
+        match &made.outcome {
+            Outcome::Done(_) if is_nested(unit) => {
+                let parts = parts_of(alloc, unit, &mut self.env, kept, steps)?;
+                Some((parts.charge, parts.done))
+            }
+            Outcome::Over if is_nested(unit) => None,
+            Outcome::Done(trace) => Some((trace.cost, Vec::new(alloc))),
+            Outcome::Over => Some((allowance, Vec::new(alloc))),
+        }
     }
 
     // What a unit comes to.
@@ -196,17 +188,27 @@ impl Walk {
         Some(Last { outcome, attrs })
     }
 
-    // Evaluates a unit, which came to this at the last refresh, if it was there.
+    // Evaluates a unit, which came to this at the last refresh, if it was there, and of whose parts this is kept. What
+    // it comes to, and its parts.
     pub(crate) fn pass<L: Ledger>(
         &mut self,
         alloc: Global,
         unit: &Unit,
         last: Option<&Last>,
+        kept: &[Part],
         steps: &mut Steps<L>,
-    ) -> Option<Last> {
+    ) -> Option<(Last, Vec<Part>)> {
         let allowance = MOST_UNIT.min(self.left);
+        let reached = !fits(last, &self.env, allowance);
         let made = self.made(alloc, unit, allowance, steps)?;
-        self.take(alloc, unit, &made, last, allowance)?;
-        Some(made)
+        let (cost, parts) = self.cost(alloc, unit, &made, allowance, kept, steps)?;
+        if reached {
+            self.work = self.work.checked_add(cost)?;
+        }
+        if unit.path.is_some() && (reached || !is_laid_for(last, &made.attrs)) {
+            self.lay(alloc, &made)?;
+        }
+        self.go_behind(&made.outcome, allowance)?;
+        Some((made, parts))
     }
 }

@@ -1,0 +1,199 @@
+// The parts of a paragraph one behind the other, from nothing, and what those cost of which nothing is kept that fits.
+use crate::walk::{MOST_UNIT, agrees};
+use std::alloc::Global;
+use std::sync::ledger::Ledger;
+use tx_base::Steps;
+use tx_env::Env;
+use tx_exec::{Outcome, Trace, eval};
+use tx_origin::{Ip, Tagged};
+use tx_tree::{Path, Text, Tree};
+use tx_units::Unit;
+
+// More than are left in any paragraph at once.
+const MOST_TASKS: u32 = 10_000;
+
+// A part of a paragraph and what it came to. The path is that in the paragraph.
+#[derive(Drop)]
+pub(crate) struct Part {
+    pub(crate) path: Path,
+    trace: Trace,
+}
+
+// What is left to do: to go into a tree or evaluate it, or to give a name back what it had.
+#[derive(Drop)]
+enum Task {
+    Tree(Path, Tree),
+    Restore(Text, Option<Tree>),
+}
+
+// What a paragraph's parts came to so far, and what those cost that aren't kept.
+#[derive(Drop)]
+pub(crate) struct Parts {
+    pub(crate) done: Vec<Part>,
+    pub(crate) charge: u64,
+    tasks: Vec<Task>,
+}
+
+fn is_labelled(tree: &Tree, words: &[u8]) -> bool {
+    match tree.label() {
+        None => false,
+        Some(label) => label.bytes() == words,
+    }
+}
+
+fn is_document(tree: &Tree) -> bool {
+    is_labelled(tree, b"document") && tree.arity() > 0
+}
+
+// Whether it is a `with` of names and texts in turn.
+fn is_scope(tree: &Tree) -> bool {
+    let last = tree.children().len().saturating_sub(1);
+    for (i, child) in tree.children().iter().enumerate() {
+        if i < last && child.text().is_none() {
+            return false;
+        }
+    }
+    is_labelled(tree, b"with") && tree.arity() % 2 == 1
+}
+
+// Whether the unit is evaluated by its parts.
+pub(crate) fn is_nested(unit: &Unit) -> bool {
+    unit.path.is_some() && (is_document(&unit.tagged.tree) || is_scope(&unit.tagged.tree))
+}
+
+fn below(alloc: Global, path: &Path, i: u32) -> Option<Path> {
+    let mut longer = path.copy(alloc).ok()?;
+    longer.push(i).ok()?;
+    Some(longer)
+}
+
+// Whether what is kept at the path fits.
+fn is_kept(kept: &[Part], path: &Path, env: &Env) -> bool {
+    for part in kept {
+        if part.path.steps() == path.steps() {
+            return agrees(&part.trace, env);
+        }
+    }
+    false
+}
+
+impl Parts {
+    fn new(alloc: Global) -> Parts {
+        Parts {
+            done: Vec::new(alloc),
+            charge: 0,
+            tasks: Vec::new(alloc),
+        }
+    }
+
+    fn push_child(&mut self, alloc: Global, path: &Path, tree: &Tree, i: u32) -> Option<()> {
+        let child = tree.child(i)?.share().ok()?;
+        let path = below(alloc, path, i)?;
+        self.tasks.push(Task::Tree(path, child)).ok()
+    }
+
+    // The first child is to come first.
+    fn push_children(&mut self, alloc: Global, path: &Path, tree: &Tree) -> Option<()> {
+        for i in 0..tree.arity() {
+            self.push_child(alloc, path, tree, (tree.arity() - 1).checked_sub(i)?)?;
+        }
+        Some(())
+    }
+
+    // Sets a name, and notes what it had.
+    fn set(&mut self, env: &mut Env, name: &Text, tree: &Tree) -> Option<()> {
+        let had = match env.get(name) {
+            None => None,
+            Some(had) => Some(had.share().ok()?),
+        };
+        let noted = name.copy().ok()?;
+        self.tasks.push(Task::Restore(noted, had)).ok()?;
+        env.set(name.copy().ok()?, tree.share().ok()?).ok()
+    }
+
+    // Sets the names of a `with`. Its last child comes next.
+    fn enter(&mut self, alloc: Global, path: &Path, tree: &Tree, env: &mut Env) -> Option<()> {
+        for pair in tree.children().chunks_exact(2) {
+            self.set(env, pair.get(0)?.text()?, pair.get(1)?)?;
+        }
+        self.push_child(alloc, path, tree, tree.arity().checked_sub(1)?)
+    }
+
+    // Evaluates a part, and sets what it sets.
+    fn evaluate<L: Ledger>(
+        &mut self,
+        alloc: Global,
+        path: Path,
+        tree: Tree,
+        env: &mut Env,
+        kept: &[Part],
+        steps: &mut Steps<L>,
+    ) -> Option<()> {
+        let alone = Tagged {
+            tree,
+            at: Some(Ip::root()),
+        };
+        let Outcome::Done(trace) = eval(alloc, &alone, env, MOST_UNIT, steps).ok()? else {
+            return None;
+        };
+        if !is_kept(kept, &path, env) {
+            self.charge = self.charge.checked_add(trace.cost)?;
+        }
+        env.overlay(&trace.writes).ok()?;
+        self.done.push(Part { path, trace }).ok()
+    }
+
+    // Goes into the tree, or evaluates it.
+    fn take<L: Ledger>(
+        &mut self,
+        alloc: Global,
+        path: Path,
+        tree: Tree,
+        env: &mut Env,
+        kept: &[Part],
+        steps: &mut Steps<L>,
+    ) -> Option<()> {
+        if is_document(&tree) {
+            self.push_children(alloc, &path, &tree)
+        } else if is_scope(&tree) {
+            self.enter(alloc, &path, &tree, env)
+        } else {
+            self.evaluate(alloc, path, tree, env, kept, steps)
+        }
+    }
+
+    fn run<L: Ledger>(
+        &mut self,
+        alloc: Global,
+        task: Task,
+        env: &mut Env,
+        kept: &[Part],
+        steps: &mut Steps<L>,
+    ) -> Option<()> {
+        match task {
+            Task::Tree(path, tree) => self.take(alloc, path, tree, env, kept, steps),
+            Task::Restore(name, None) => env.unset(&name).ok(),
+            Task::Restore(name, Some(had)) => env.set(name, had).ok(),
+        }
+    }
+}
+
+// What the parts of the unit come to, of which this is kept. The names have afterwards what they have behind the unit.
+pub(crate) fn parts_of<L: Ledger>(
+    alloc: Global,
+    unit: &Unit,
+    env: &mut Env,
+    kept: &[Part],
+    steps: &mut Steps<L>,
+) -> Option<Parts> {
+    let mut parts = Parts::new(alloc);
+    let tree = unit.tagged.tree.share().ok()?;
+    parts.tasks.push(Task::Tree(Path::root(alloc), tree)).ok()?;
+    for _ in 0..MOST_TASKS {
+        match parts.tasks.pop() {
+            None => return Some(parts),
+            Some(task) => parts.run(alloc, task, env, kept, steps)?,
+        }
+    }
+    None
+}
