@@ -123,7 +123,7 @@ impl Kept {
     ) -> Option<Vec<Vec<Part>>> {
         let mut parts = Vec::new(alloc);
         mem::swap(&mut parts, &mut self.parts);
-        while parts.len() < self.units.len() {
+        for _ in parts.len()..self.units.len() {
             parts.push(Vec::new(alloc)).ok()?;
         }
         match one_changed(alloc, change, &self.units, trees.last()?)? {

@@ -77,6 +77,14 @@ fn is_kept(kept: &[Part], path: &Path, env: &Env) -> bool {
     false
 }
 
+// Gives the name back what it had.
+fn restore(env: &mut Env, name: Text, had: Option<Tree>) -> Option<()> {
+    match had {
+        None => env.unset(&name).ok(),
+        Some(tree) => env.set(name, tree).ok(),
+    }
+}
+
 impl Parts {
     fn new(alloc: Global) -> Parts {
         Parts {
@@ -172,8 +180,7 @@ impl Parts {
     ) -> Option<()> {
         match task {
             Task::Tree(path, tree) => self.take(alloc, path, tree, env, kept, steps),
-            Task::Restore(name, None) => env.unset(&name).ok(),
-            Task::Restore(name, Some(had)) => env.set(name, had).ok(),
+            Task::Restore(name, had) => restore(env, name, had),
         }
     }
 }
