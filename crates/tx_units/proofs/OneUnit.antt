@@ -1,6 +1,6 @@
 -- An edit inside one paragraph changes one unit.
 use Rattle.std.proofs.Common.{◌≡◌, ℕ, zero, suc, ◌+◌, Bool, true, false, List, [], ◌∷◌, ◌++◌}
-use Rattle.std.proofs.Common.{refl, sym, ap, subst, arith, ◌∙◌}
+use Rattle.std.proofs.Common.{refl, sym, ap, subst, arith, lt_irrefl, ◌∙◌}
 use Rattle.std.specs.Prelude.{codes, if◌then◌else◌, not, ◌&&◌, Option, Some, None, option_map}
 use Rattle.std.specs.Prelude.{option_and_then, slice_get}
 use Rattle.std.specs.List.{find, position, flat_map}
@@ -25,29 +25,27 @@ use Rattle.tx_units.proofs.Fronts.{no_paths, behind}
 
 -- ---- parts of a document
 
--- the tree is none
-pub record IsNoPart (t : WideTree) : Type 0 where
-  pub document : is_document t ≡ false
+-- the tree is no `body`, and no section
+pub record IsNoSection (t : WideTree) : Type 0 where
   pub body : is_body t ≡ false
   pub style : is_labelled (codes "style") t ≡ false
   pub initial : is_labelled (codes "initial") t ≡ false
 
-no_part : (t : WideTree) → is_part t ≡ false → IsNoPart t
-no_part t e =
+no_section : (t : WideTree) → is_part 1 t ≡ false → IsNoSection t
+no_section t e =
     let a = or_parts _ _ e in
     let b = or_parts _ _ a.1 in
-    let c = or_parts _ _ b.1 in
-    record { document = a.0; body = b.0; style = c.0; initial = c.1 }
+    record { body = a.0; style = b.0; initial = b.1 }
 
 off : (b : Bool) → not b ≡ true → b ≡ false
 off true e = cc
 off false e = refl
 
--- what a path with one or two numbers asks
-both_plain : (t x : WideTree) → not (is_part t) && not (is_part x) ≡ true → IsNoPart t × IsNoPart x
-both_plain t x e =
-    let h = and_parts _ _ e in
-    (no_part t (off (is_part t) h.0), no_part x (off (is_part x) h.1))
+-- what is asked at this depth
+both_plain : (depth : ℕ) (t x : WideTree) → not (is_part depth t) && not (is_part depth x) ≡ true
+    → (is_part depth t ≡ false) × (is_part depth x ≡ false)
+both_plain depth t x e =
+    let h = and_parts _ _ e in (off (is_part depth t) h.0, off (is_part depth x) h.1)
 
 -- a tree with one label has no other
 other_label : (l m : List ℕ) (t : WideTree) → bytes_eq l m ≡ false → is_labelled l t ≡ true → is_labelled m t ≡ false
@@ -142,7 +140,7 @@ body_at t c b k d e f g =
 
 -- what stands before the body stays, and unit j of the body has the tree x
 pub record ChangesAt (t u : WideTree) (j : ℕ) (x : WideTree) : Type 0 where
-  pub sections : HaveSameSections t u
+  pub front : (styles : List Buffer) → front_units u styles ≡ front_units t styles
   pub units_are : body_units u ≡ units_with j x (body_units t)
 
 some_same : {A : Type 0} (x y : A) → Some x ≡ Some y → x ≡ y
@@ -157,10 +155,11 @@ at_root t u j v p x d e there has leaves same at =
     let n = unit_at [] 0 (children_of t) j v (ap (λ us. slice_get us j) (sym (body_root t d e)) ∙ there) in
     let on : 0 + j ≡ j = omega arith in
     let own : p ≡ j ∷ [] = some_same p (j ∷ []) (sym has ∙ n.path_is ∙ ap (λ i. Some (i ∷ [])) on) in
+    let plain = both_plain 1 v.tagged.tree x (subst (λ q. leaves_others q v.tagged.tree x ≡ true) own leaves) in
     by (subst (λ q. AreSameBut q t u) own same) (ap (subtree u) (sym own) ∙ at)
-    (both_plain v.tagged.tree x (subst (λ q. leaves_others q v.tagged.tree x ≡ true) own leaves)) n.tree
+    (no_section v.tagged.tree plain.0, no_section x plain.1) n.tree
   where
-    by : AreSameBut (j ∷ []) t u → subtree u (j ∷ []) ≡ Some x → IsNoPart v.tagged.tree × IsNoPart x
+    by : AreSameBut (j ∷ []) t u → subtree u (j ∷ []) ≡ Some x → IsNoSection v.tagged.tree × IsNoSection x
         → slice_get (children_of t) j ≡ Some v.tagged.tree → ChangesAt t u j x
     by s f plain own =
         let c = s.0 in
@@ -169,12 +168,12 @@ at_root t u j v p x d e there has leaves same at =
         let old : c ≡ v.tagged.tree = some_same c v.tagged.tree (sym h.there ∙ own) in
         let new : y ≡ x =
         some_same y x (sym (ap (option_and_then (λ w. Some w)) (child_of j c y t u h)) ∙ f) in
-        let no = subst IsNoPart (sym old) plain.0 in
-        let none = subst IsNoPart (sym new) plain.1 in
+        let no = subst IsNoSection (sym old) plain.0 in
+        let none = subst IsNoSection (sym new) plain.1 in
         let sections = same_sections j c y t u h no.style none.style no.initial none.initial in
         let place = place_in is_body j c y t u h (none.body ∙ sym no.body) ∙ e in
         record {
-          sections = sections;
+          front = λ styles. same_front t u styles sections;
           units_are =
               body_root u (sections.document ∙ d) place
               ∙ ap (numbered [] 0) h.others
@@ -239,7 +238,7 @@ in_document t u c b k j v p x doc e f g is there has same at =
         let stays : is_document first.1 ≡ true =
         same_label (codes "document") first.0 first.1 last.2.label ∙ ap is_document within ∙ is in
         record {
-          sections = m.0;
+          front = λ styles. same_front t u styles m.0;
           units_are =
               m.2
               ∙ ap (λ z. if z then numbered (k ∷ 0 ∷ []) 0 (children_of first.1) else body_unit first.1 (k ∷ 0 ∷ [])
@@ -264,7 +263,7 @@ in_single t u c b k j v p x doc e f g is there has leaves same at =
     by j units_are (ap (λ us. slice_get us j) (sym units_are) ∙ there)
   where
     alone : body_units t ≡ body_unit b (k ∷ 0 ∷ []) ∷ [] → AreSameBut (k ∷ 0 ∷ []) t u
-        → subtree u (k ∷ 0 ∷ []) ≡ Some x → IsNoPart x → ChangesAt t u 0 x
+        → subtree u (k ∷ 0 ∷ []) ≡ Some x → is_document x ≡ false → ChangesAt t u 0 x
     alone all s h plain =
         let first = s.3 in
         let old : s.0 ≡ c = some_same s.0 c (sym s.2.there ∙ f) in
@@ -273,12 +272,12 @@ in_single t u c b k j v p x doc e f g is there has leaves same at =
         ∙ step_down s.1 first.1 0 [] (child_of 0 first.0 first.1 s.0 s.1 first.2)) ∙ h) in
         let m = in_body t u s.0 s.1 first.0 first.1 k doc e s.2 first.2 (ap is_body old ∙ found_body t c k e f) in
         record {
-          sections = m.0;
+          front = λ styles. same_front t u styles m.0;
           units_are =
               m.2
               ∙ ap (units_at (k ∷ 0 ∷ [])) new
               ∙ ap (λ z. if z then numbered (k ∷ 0 ∷ []) 0 (children_of x) else body_unit x (k ∷ 0 ∷ []) ∷ [])
-              plain.document
+              plain
               ∙ ap (units_with 0 x) (sym all);
         }
 
@@ -287,7 +286,7 @@ in_single t u c b k j v p x doc e f g is there has leaves same at =
     by zero all h =
         let one : body_unit b (k ∷ 0 ∷ []) ≡ v = cc in
         let own : p ≡ k ∷ 0 ∷ [] = some_same p (k ∷ 0 ∷ []) (sym has ∙ ap (λ w. w.path) (sym one)) in
-        let plain = both_plain v.tagged.tree x
+        let plain = both_plain 2 v.tagged.tree x
         (subst (λ q. leaves_others q v.tagged.tree x ≡ true) own leaves) in
         alone all (subst (λ q. AreSameBut q t u) own same) (ap (subtree u) (sym own) ∙ at) plain.1
     by (suc i) all h = absurd cc
@@ -297,16 +296,38 @@ in_single t u c b k j v p x doc e f g is there has leaves same at =
 no_unit : (us : List DocUnit) (j : ℕ) (v : DocUnit) → us ≡ [] → slice_get us j ≡ Some v → ⊥
 no_unit us j v none e = let lost : None ≡ Some v = sym (ap (λ vs. slice_get vs j) none) ∙ e in absurd cc
 
-whole : (t : WideTree) (j : ℕ) (v : DocUnit) (p : List ℕ) (x : WideTree) → is_document t ≡ false
-    → slice_get (body_units t) j ≡ Some v → v.path ≡ Some p → leaves_others p v.tagged.tree x ≡ true → ⊥
-whole t j v p x d there has leaves = by j (ap (λ us. slice_get us j) (sym (body_whole t d)) ∙ there)
+-- a document that is one paragraph has no sections
+no_sections : (t u : WideTree) → is_document t ≡ false → is_document u ≡ false
+    → (styles : List Buffer) → front_units u styles ≡ front_units t styles
+no_sections t u d e styles =
+    ap (λ o. base_units ++ (flat_map (named_units styles) (each_once (option_map_or names_in o []))
+    ++ initial_units u)) (none (codes "style") u e ∙ sym (none (codes "style") t d))
+    ∙ ap (λ o. base_units ++ (style_units t styles ++ flat_map entry_units (entries_in o)))
+    (none (codes "initial") u e ∙ sym (none (codes "initial") t d))
   where
-    by : (i : ℕ) → slice_get (body_unit t [] ∷ []) i ≡ Some v → ⊥
+    none : (label : List ℕ) (w : WideTree) → is_document w ≡ false → section label w ≡ None
+    none label w f =
+        ap (λ b. if b then option_and_then (λ part. slice_get (children_of part) 0)
+        (find (is_labelled label) (children_of w)) else None) f
+
+-- the document is one paragraph, and gets another tree that is one
+at_whole : (t u : WideTree) (j : ℕ) (v : DocUnit) (p : List ℕ) (x : WideTree) → is_document t ≡ false
+    → slice_get (body_units t) j ≡ Some v → v.path ≡ Some p → leaves_others p v.tagged.tree x ≡ true
+    → subtree u p ≡ Some x → ChangesAt t u j x
+at_whole t u j v p x d there has leaves at = by j (ap (λ us. slice_get us j) (sym (body_whole t d)) ∙ there)
+  where
+    by : (i : ℕ) → slice_get (body_unit t [] ∷ []) i ≡ Some v → ChangesAt t u i x
     by zero h =
         let one : body_unit t [] ≡ v = cc in
         let own : p ≡ [] = some_same p [] (sym has ∙ ap (λ w. w.path) (sym one)) in
-        let no : false ≡ true = subst (λ q. leaves_others q v.tagged.tree x ≡ true) own leaves in
-        absurd cc
+        let new : u ≡ x = some_same u x (sym (ap (subtree u) own) ∙ at) in
+        let plain = both_plain 0 v.tagged.tree x (subst (λ q. leaves_others q v.tagged.tree x ≡ true) own leaves) in
+        let e : is_document u ≡ false = ap is_document new ∙ plain.1 in
+        record {
+          front = no_sections t u d e;
+          units_are =
+              body_whole u e ∙ ap (λ w. body_unit w [] ∷ []) new ∙ ap (units_with 0 x) (sym (body_whole t d));
+        }
     by (suc i) h = absurd cc
 
 changes_at : (t u : WideTree) (j : ℕ) (v : DocUnit) (p : List ℕ) (x : WideTree)
@@ -337,7 +358,7 @@ changes_at t u j v p x there has leaves same at = by (is_document t) refl
 
     by : (b : Bool) → is_document t ≡ b → ChangesAt t u j x
     by true d = body d (position is_body (children_of t)) refl
-    by false d = absurd (whole t j v p x d there has leaves)
+    by false d = at_whole t u j v p x d there has leaves at
 
 -- ---- all units
 
@@ -348,15 +369,10 @@ in_all : (t u : WideTree) (styles : List Buffer) (i : ℕ) (v : DocUnit) (p : Li
 in_all t u styles i v p x there has leaves same at =
     let b = behind (front_units t styles) (body_units t) i x v p (no_paths t styles) there has in
     let h = changes_at t u b.number v p x b.there has leaves same at in
-    ap (λ us. us ++ body_units u) (same_front t u styles h.sections)
+    ap (λ us. us ++ body_units u) (h.front styles)
     ∙ ap (λ us. front_units t styles ++ us) h.units_are ∙ sym b.changed
 
 pub changes_one : (buffers : List Buffer) (i : ℕ) (t x : WideTree) → ChangesOne buffers i t x
-changes_one [] i t x u p there has leaves same at = by p leaves same
-  where
-    by : (q : List ℕ) → leaves_others q u.tagged.tree x ≡ true → AreSameBut q (leaf []) t
-        → units [] ≡ units_with i x (units [])
-    by [] e s = absurd cc
-    by (k ∷ q) e s = let lost : None ≡ Some s.0 = s.2.there in absurd cc
-changes_one (b ∷ buffers) i t x u p there has leaves same at =
+changes_one [] i t x some u p there has leaves same at = absurd (lt_irrefl 0 some)
+changes_one (b ∷ buffers) i t x some u p there has leaves same at =
     in_all b.tree t buffers i u p x there has leaves same at

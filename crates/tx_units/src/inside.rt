@@ -6,22 +6,23 @@ use crate::documents::is_document;
 use tx_doc::is_labelled;
 use tx_tree::{Path, Tree};
 
-// Whether the tree has one of the labels by which the parts of a document are found.
-fn is_part(t: &Tree) -> bool
-    ensures { result ≡ is_part t.now }
+// Whether a tree at this depth has a label by which a part of the document is found there.
+fn is_part(depth: usize, t: &Tree) -> bool
+    ensures { result ≡ is_part depth t.now }
 {
-    is_document(t)
-        || is_labelled(t, b"body")
-        || is_labelled(t, b"style")
-        || is_labelled(t, b"initial")
+    match depth {
+        0 | 2 => is_document(t),
+        1 => is_labelled(t, b"body") || is_labelled(t, b"style") || is_labelled(t, b"initial"),
+        _ => false,
+    }
 }
 
 /// Whether `new` can take the place of `old`, the paragraph at this path, so that all other units stay, as `inside_law`
-/// says. It can behind two numbers of the path, which lead to the document in a `body`. Before, it can where neither
-/// has a label by which a part of the document is found: `document`, `body`, `style` or `initial`.
+/// says. It can where neither has a label by which a part of the document is found there: at the root and two deep, where
+/// the body may stand, `document`; as a child of the root `body`, `style` and `initial`; deeper none.
 pub fn leaves_others(path: &Path, old: &Tree, new: &Tree) -> bool
     ensures { result ≡ leaves_others path.now old.now new.now }
 {
     let depth = path.steps().len();
-    depth > 2 || depth > 0 && !is_part(old) && !is_part(new)
+    !is_part(depth, old) && !is_part(depth, new)
 }

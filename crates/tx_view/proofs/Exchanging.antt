@@ -109,9 +109,9 @@ unit_missing i buffer ms kept one none =
 
 -- they are those of before, of which one has another tree
 pub exchanged_units : (bs : List Buffer) (buffer i : ℕ) (ms : List Mod) (t x : WideTree) (us : List DocUnit)
-    → ChangesOne bs i t x → IsExchanged i buffer ms t x us → us ≡ units bs
+    → ChangesOne bs i t x → 1 ≤ length bs → IsExchanged i buffer ms t x us → us ≡ units bs
     → changed_by_all ms (tree_of bs buffer) ≡ Some t → units (with_tree bs buffer t) ≡ units_with i x us
-exchanged_units bs buffer i ms t x us law h of made =
+exchanged_units bs buffer i ms t x us law some h of made =
     let own = h.is_now in
     let split = and_parts (is_gone own.path ms) (are_within own.path ms)
     (sym (ap (λ o. option_map_or (λ path. is_gone path ms && are_within path ms) o false) own.has_path)
@@ -119,7 +119,7 @@ exchanged_units bs buffer i ms t x us law h of made =
     let made_of : changed_by_all ms (document_of bs) ≡ Some t =
     subst (λ k. changed_by_all ms (tree_of bs k) ≡ Some t) h.one.document made in
     ap (λ k. units (with_tree bs k t)) h.one.document
-    ∙ law h.one.unit own.path (ap (λ vs. slice_get vs i) (sym of) ∙ h.one.there) own.has_path own.leaves
+    ∙ law some h.one.unit own.path (ap (λ vs. slice_get vs i) (sym of) ∙ h.one.there) own.has_path own.leaves
     (stays_beside ms (document_of bs) t own.path split.0 split.1 made_of) own.there
     ∙ ap (units_with i x) (sym of)
 

@@ -33,7 +33,8 @@ returns-in_ok-carry_in_place-in-Some-clause-target g c =
     let now = ap units c.requires.after
     ∙ exchanged_units c.args.buffers.now c.args.buffer c.in-Some.changed c.args.mods.now c.args.tree.now
     c.in-Some.paragraph us
-    (c.inside_law.ensures c.args.buffers.now c.in-Some.changed c.args.tree.now c.in-Some.paragraph) h
+    (c.inside_law.ensures c.args.buffers.now c.in-Some.changed c.args.tree.now c.in-Some.paragraph)
+    c.requires.some h
     c.requires.of_buffers c.requires.changed in
     let p = in_place c.args.buffer c.in-Some.changed c.is_silent-silent.result c.args.mods.now _ _ c.in-Some.paragraph
     c.args.bridges.now.kept c.carry_in_place.new.self.kept c.carry_in_place.new.self.sources (units c.args.after.now)
@@ -51,7 +52,8 @@ returns-in_ok-carry_in_place-in-Some-clause-kept g c =
     let now = ap units c.requires.after
     ∙ exchanged_units c.args.buffers.now c.args.buffer c.in-Some.changed c.args.mods.now c.args.tree.now
     c.in-Some.paragraph us
-    (c.inside_law.ensures c.args.buffers.now c.in-Some.changed c.args.tree.now c.in-Some.paragraph) h
+    (c.inside_law.ensures c.args.buffers.now c.in-Some.changed c.args.tree.now c.in-Some.paragraph)
+    c.requires.some h
     c.requires.of_buffers c.requires.changed in
     let p = in_place c.args.buffer c.in-Some.changed c.is_silent-silent.result c.args.mods.now _ _ c.in-Some.paragraph
     c.args.bridges.now.kept c.carry_in_place.new.self.kept c.carry_in_place.new.self.sources (units c.args.after.now)
@@ -69,7 +71,8 @@ returns-in_ok-carry_in_place-in-Some-clause-sources g c =
     let now = ap units c.requires.after
     ∙ exchanged_units c.args.buffers.now c.args.buffer c.in-Some.changed c.args.mods.now c.args.tree.now
     c.in-Some.paragraph us
-    (c.inside_law.ensures c.args.buffers.now c.in-Some.changed c.args.tree.now c.in-Some.paragraph) h
+    (c.inside_law.ensures c.args.buffers.now c.in-Some.changed c.args.tree.now c.in-Some.paragraph)
+    c.requires.some h
     c.requires.of_buffers c.requires.changed in
     let p = in_place c.args.buffer c.in-Some.changed c.is_silent-silent.result c.args.mods.now _ _ c.in-Some.paragraph
     c.args.bridges.now.kept c.carry_in_place.new.self.kept c.carry_in_place.new.self.sources (units c.args.after.now)
@@ -87,7 +90,8 @@ returns-in_ok-carry_in_place-in-Some-clause-units g c =
     let now = ap units c.requires.after
     ∙ exchanged_units c.args.buffers.now c.args.buffer c.in-Some.changed c.args.mods.now c.args.tree.now
     c.in-Some.paragraph us
-    (c.inside_law.ensures c.args.buffers.now c.in-Some.changed c.args.tree.now c.in-Some.paragraph) h
+    (c.inside_law.ensures c.args.buffers.now c.in-Some.changed c.args.tree.now c.in-Some.paragraph)
+    c.requires.some h
     c.requires.of_buffers c.requires.changed in
     let p = in_place c.args.buffer c.in-Some.changed c.is_silent-silent.result c.args.mods.now _ _ c.in-Some.paragraph
     c.args.bridges.now.kept c.carry_in_place.new.self.kept c.carry_in_place.new.self.sources (units c.args.after.now)
