@@ -19,7 +19,7 @@ use Rattle.tx_units.specs.Documents.{is_document, section, names_in, each_once}
 use Rattle.tx_units.specs.Inside.{is_part, leaves_others, HasOtherChild, AreSameBut, ChangesOne}
 use Rattle.tx_units.specs.declared.kinds.Unit.{Unit as DocUnit}
 use Rattle.tx_units.specs.Units.{body_unit, units_at, body_units, front_units, base_units, style_units, initial_units}
-use Rattle.tx_units.specs.Units.{named_units, entry_units, units_with, units}
+use Rattle.tx_units.specs.Units.{named_units, entry_units, units_with}
 use Rattle.tx_units.proofs.Exchanged.{same_label, child_of, place_in, found_in, numbered, unit_at, numbered_with}
 use Rattle.tx_units.proofs.Fronts.{no_paths, behind}
 

@@ -70,18 +70,18 @@ impl Unit {
                 tree: self.tagged.tree.share()?,
                 at: share_origin(&self.tagged.at)?,
             },
-            path: copy_path(alloc, &self.path)?,
+            path: self.copy_path(alloc)?,
         })
     }
-}
 
-// The same path, or none again.
-fn copy_path(alloc: Global, path: &Option<Path>) -> Result<Option<Path>, Memory>
-    ensures { IfOk result (λ p. p ≡ path.now) }
-{
-    match path {
-        None => Ok(None),
-        Some(path) => Ok(Some(path.copy(alloc)?)),
+    /// Its path once more, if it has one.
+    pub fn copy_path(&self, alloc: Global) -> Result<Option<Path>, Memory>
+        ensures { IfOk result (λ p. p ≡ self.now.path) }
+    {
+        match &self.path {
+            None => Ok(None),
+            Some(path) => Ok(Some(path.copy(alloc)?)),
+        }
     }
 }
 

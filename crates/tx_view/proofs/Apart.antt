@@ -19,7 +19,7 @@ use Rattle.tx_units.specs.Units.{initial_units, body_units, front_units, units}
 use Rattle.tx_view_form.specs.Outcomes.{Moment, beginning, outcome, behind}
 use Rattle.tx_view_form.specs.Views.{UnitView, AreShown}
 use Rattle.tx_view.specs.Units.{AreAllApart}
-use Rattle.tx_view.proofs.Parts.{all_both}
+use Rattle.tx_view_form.proofs.PathUnits.{all_both}
 
 -- ---- units before those of the body have no path
 

@@ -17,7 +17,8 @@ use Rattle.tx_view_form.specs.Stops.{mark_place, stops_by, unit_stops, same_plac
 use Rattle.tx_view.specs.Marks.{both_ends}
 use Rattle.tx_view.specs.Near.{is_above}
 use Rattle.tx_view.specs.Units.{AreAllApart}
-use Rattle.tx_view.proofs.Parts.{all_both, none_in_both, none_once, once_in_parts}
+use Rattle.tx_view_form.proofs.PathUnits.{all_both}
+use Rattle.tx_view.proofs.Parts.{none_in_both, none_once, once_in_parts}
 
 -- ---- the path of a stop begins with that of its unit
 

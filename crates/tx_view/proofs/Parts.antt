@@ -10,11 +10,6 @@ use Rattle.std.proofs.lemmas.List.{nil_from_length}
 use Rattle.std.proofs.lemmas.List.Folds.{list_any-append}
 use Rattle.std.proofs.lemmas.List.Sums.{fold-append}
 
-pub all_both : {X : Type 0} (R : X → Type 0) (xs ys : List X) → AllByRecursion R xs → AllByRecursion R ys
-    → AllByRecursion R (xs ++ ys)
-all_both R [] ys h k = k
-all_both R (x ∷ xs) ys h k = (h.0, all_both R xs ys h.1 k)
-
 module _ {X : Type 0} (p : X → Bool) where
   -- ---- how many elements stand before the first that passes
 

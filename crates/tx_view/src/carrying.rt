@@ -45,22 +45,12 @@ fn with_tree(
     Ok(all)
 }
 
-// The same path.
-fn copied(alloc: Global, path: &Option<Path>) -> Result<Option<Path>, Memory>
-    ensures { IfOk result (λ p. p ≡ path.now) }
-{
-    match path {
-        None => Ok(None),
-        Some(path) => Ok(Some(path.copy(alloc)?)),
-    }
-}
-
 // The unit, of which nothing is laid out.
 fn blank(alloc: Global, unit: &Unit) -> Result<Shown, Memory>
     ensures { IfOk result (λ x. IsBlank unit.now.path x) }
 {
     Ok(Shown {
-        path: copied(alloc, &unit.path)?,
+        path: unit.copy_path(alloc)?,
         laid: None,
         errors: Vec::new(alloc),
         paragraphs: Vec::new(alloc),

@@ -11,6 +11,6 @@ mod Marking
 mod OnLines
 mod Shortness
 mod Behind
-mod PathUnits
+pub mod PathUnits
 mod Located
 mod Placing
