@@ -57,10 +57,18 @@ fn run_counted<R: Files + Print + Input + AllocGlobal, L: Ledger>(
     )
 }
 
+// Memory ran out before the words were at hand.
+fn run_without_words<R: Print>(rt: &R) -> Status {
+    match println!(rt; "memory") {
+        Ok(()) => Status::NoMemory,
+        Err(_) => Status::OutputFault,
+    }
+}
+
 fn main(rt: HostRuntime) -> ExitCode {
     let status = match words(&rt) {
         Ok(words) => run_counted::<HostRuntime, Brand>(&rt, &words, Blank::new(1)),
-        Err(AllocError) => Status::NoMemory,
+        Err(AllocError) => run_without_words(&rt),
     };
     ExitCode::from(status.number())
 }

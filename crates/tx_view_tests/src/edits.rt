@@ -22,6 +22,46 @@ const EDITS: &[Edit] = &[
     ("d (document \"ab\" (g))", "/0", "\"<#4E2D>y\"", 11),
 ];
 
+// Of a nested paragraph the part that changes is charged alone, and all items are laid out.
+const NESTED: &[Edit] = &[
+    (
+        "d (document (document \"ab\" \"cd\" \"e\") \"z\")",
+        "/0/2",
+        "\"xy\"",
+        9,
+    ),
+    (
+        "d (document (with \"color\" \"red\" (document \"ab\" \"c\")) \"z\")",
+        "/0/2/1",
+        "\"de\"",
+        7,
+    ),
+    (
+        "d (with \"color\" \"red\" (document \"ab\" \"c\"))",
+        "/2/1",
+        "\"de\"",
+        7,
+    ),
+    (
+        "d (document (body (with \"color\" \"red\" (document \"ab\" \"c\"))))",
+        "/0/0/2/1",
+        "\"de\"",
+        7,
+    ),
+    (
+        "d (document (body (document (document \"ab\" \"c\") \"z\")))",
+        "/0/0/0/1",
+        "\"de\"",
+        7,
+    ),
+    (
+        "d (document \"z\" (document (with \"x\" \"1\" \"ab\") (document \"cd\" \"e\")))",
+        "/1/1/1",
+        "\"fgh\"",
+        11,
+    ),
+];
+
 // The steps of the second refresh, where one paragraph was changed behind the first.
 fn work_behind<L: Ledger>(
     alloc: Global,
@@ -52,13 +92,14 @@ fn is_edit<L: Ledger>(alloc: Global, row: &Edit, steps: &mut Steps<L>) -> Option
     Some(work == row.3)
 }
 
-fn not_edited<L: Ledger>(alloc: Global, blank: Blank) -> Option<usize>
+// The number of the first row with other steps.
+fn not_edited<L: Ledger>(alloc: Global, rows: &[Edit], blank: Blank) -> Option<usize>
     requires name { blank.name ≡ L.name }
     requires parts { blank.parts ≡ L.parts }
     requires whole { blank.parts ≡ 1 }
 {
     let mut steps = Steps::<L>::new(blank);
-    for (i, row) in EDITS.iter().enumerate() {
+    for (i, row) in rows.iter().enumerate() {
         if is_edit(alloc, row, &mut steps) != Some(true) {
             return Some(i);
         }
@@ -68,5 +109,9 @@ fn not_edited<L: Ledger>(alloc: Global, blank: Blank) -> Option<usize>
 
 #[test]
 fn work_of_one_paragraph(rt: HostRuntime) {
-    assert_eq!(rt; not_edited::<Brand>(rt.alloc(), Blank::new(1)), None);
+    assert_eq!(rt; not_edited::<Brand>(rt.alloc(), EDITS, Blank::new(1)), None);
+    assert_eq!(rt;
+        not_edited::<Brand>(rt.alloc(), NESTED, Blank::new(1)),
+        None
+    );
 }
