@@ -1,12 +1,14 @@
 -- The end of a unit.
+use Rattle.std.specs.Prelude.{◌&&◌}
+use Rattle.std.proofs.lemmas.List.{append-nil}
 use Rattle.std.proofs.Common.{◌≡◌, Bool, true, false, not, [], ◌∷◌, ◌++◌, refl, sym, ap, ap₂, ◌∙◌}
 use Rattle.tx_tree.specs.WideTree.{WideTree, is_leaf}
 use Rattle.tx_origin.specs.Values.{WideValue}
 use Rattle.tx_items.specs.declared.attributes.Attrs.{Attrs}
 use Rattle.tx_items.specs.Shows.{empty, beside, whole_run, Form, inline, listed, is_inline, show}
-use Rattle.tx_items.specs.Shows.{or_one, unit_paragraphs, shown_paragraphs}
+use Rattle.tx_items.specs.Shows.{begun, or_one, unit_paragraphs, shown_paragraphs, is_blank, part_paragraphs}
 use Rattle.tx_items.specs.Plans.{plan_of}
-use Rattle.tx_items.specs.Running.{State, Adds, HasShown, finished, Finishes}
+use Rattle.tx_items.specs.Running.{State, Adds, HasShown, finished, Finishes, is_nothing, part_finished, FinishesPart}
 use Rattle.tx_items.proofs.Planning.{shows_list}
 
 laid_as : (x : Form) (b : Bool) (end : Attrs) (s u w : State) → is_inline x ≡ not b → s.run ≡ empty
@@ -50,3 +52,57 @@ pub behind_from : (s u : State) (a : Attrs) (v : WideValue)
     → s ≡ record { attrs = a; run = empty; paragraphs = []; errors = [] } → HasShown (show s.attrs v) s u
     → u.attrs ≡ (show a v).after
 behind_from s u a v start h = h.after ∙ ap (λ x. (show x.attrs v).after) start
+
+-- ---- the end of a part
+
+part_as : (x : Form) (b : Bool) (s u w : State) → is_inline x ≡ not b → s.run ≡ empty → s.paragraphs ≡ []
+    → Adds x s u → w.paragraphs ≡ part_finished b u → w.paragraphs ≡ part_paragraphs x u.attrs
+part_as (inline r) true s u w h none bare adds f = absurd cc
+part_as (inline r) false s u w h none bare adds f =
+    f ∙ ap₂ (λ ps q. ps ++ whole_run q u.attrs ∷ []) (adds.1 ∙ bare) (adds.0 ∙ ap (λ q. beside q r) none)
+part_as (listed ps) false s u w h none bare adds f = absurd cc
+part_as (listed ps) true s u w h none bare adds f =
+    f ∙ adds none ∙ ap (λ qs. qs ++ ps) bare ∙ sym (append-nil ps)
+
+blank_as : (x : Form) (b : Bool) (s u : State) → is_inline x ≡ not b → s.run ≡ empty → Adds x s u
+    → not b && is_nothing u.run ≡ is_blank x
+blank_as (inline empty) false s u h none adds = ap is_nothing (adds.0 ∙ ap (λ q. beside q empty) none)
+blank_as (inline (begun a items)) false s u h none adds =
+    ap is_nothing (adds.0 ∙ ap (λ q. beside q (begun a items)) none)
+blank_as (inline r) true s u h none adds = absurd cc
+blank_as (listed ps) true s u h none adds = refl
+blank_as (listed ps) false s u h none adds = absurd cc
+
+in_form : (p : WideTree) (b : Bool) (a c : Attrs) (v : WideValue) → p ≡ plan_of v → b ≡ not (is_leaf p) → c ≡ a
+    → is_inline (show c v).form ≡ not b
+in_form p b a c v is e same =
+    shows_list c v ∙ ap is_leaf (sym is) ∙ sym (not_not (is_leaf p)) ∙ ap not (sym e)
+
+-- the paragraphs of a value shown from the start of a part
+pub part_from : (p : WideTree) (s u w : State) (b : Bool) (a : Attrs) (v : WideValue) → p ≡ plan_of v
+    → b ≡ not (is_leaf p) → s ≡ record { attrs = a; run = empty; paragraphs = []; errors = [] }
+    → HasShown (show s.attrs v) s u → FinishesPart b u w
+    → w.paragraphs ≡ part_paragraphs (show a v).form (show a v).after
+part_from p s u w b a v is e start h f =
+    part_as (show s.attrs v).form b s u w (in_form p b a s.attrs v is e (ap (λ x. x.attrs) start)) (ap (λ x. x.run) start)
+    (ap (λ x. x.paragraphs) start) h.adds f.paragraphs
+    ∙ ap (part_paragraphs (show s.attrs v).form) h.after
+    ∙ ap (λ x. part_paragraphs (show x.attrs v).form (show x.attrs v).after) start
+
+pub part_errors_from : (s u w : State) (b : Bool) (a : Attrs) (v : WideValue)
+    → s ≡ record { attrs = a; run = empty; paragraphs = []; errors = [] } → HasShown (show s.attrs v) s u
+    → FinishesPart b u w → w.errors ≡ (show a v).errors
+part_errors_from s u w b a v start h f =
+    f.errors ∙ h.errors ∙ ap (λ x. x.errors ++ (show x.attrs v).errors) start
+
+pub part_behind_from : (s u w : State) (b : Bool) (a : Attrs) (v : WideValue)
+    → s ≡ record { attrs = a; run = empty; paragraphs = []; errors = [] } → HasShown (show s.attrs v) s u
+    → FinishesPart b u w → w.attrs ≡ (show a v).after
+part_behind_from s u w b a v start h f = f.attrs ∙ behind_from s u a v start h
+
+pub blank_from : (p : WideTree) (s u : State) (b : Bool) (a : Attrs) (v : WideValue) → p ≡ plan_of v
+    → b ≡ not (is_leaf p) → s ≡ record { attrs = a; run = empty; paragraphs = []; errors = [] }
+    → HasShown (show s.attrs v) s u → not b && is_nothing u.run ≡ is_blank (show a v).form
+blank_from p s u b a v is e start h =
+    blank_as (show s.attrs v).form b s u (in_form p b a s.attrs v is e (ap (λ x. x.attrs) start)) (ap (λ x. x.run) start)
+    h.adds ∙ ap (λ x. is_blank (show x.attrs v).form) start

@@ -1,6 +1,8 @@
 -- No cluster that is shown is wider than 2 cells.
 use Rattle.std.proofs.Common.{ℕ, ◌≤◌, Bool, true, false, cond, List, [], ◌∷◌, ◌++◌, get_or, Option, Some, None}
 use Rattle.std.specs.Prelude.{All, codes, ℤ, option_and_then}
+use Rattle.std.proofs.Common.{subst, sym}
+use Rattle.std.proofs.lemmas.List.{append-nil}
 use Rattle.std.proofs.lemmas.List.Elements.{All-nil, All-cons, All-append, All-map}
 use Rattle.tx_prim.specs.Lengths.{length_of}
 use Rattle.tx_origin.specs.Values.{WideValue, WideValues, text, made, none, also, value_text}
@@ -17,7 +19,7 @@ use Rattle.tx_items.specs.Drawing.{is_space, look_of, item_of, drawn, paragraph}
 use Rattle.tx_items.specs.Rules.{Rule, rule_of}
 use Rattle.tx_items.specs.Rules as rules
 use Rattle.tx_items.specs.Shows.{Run, empty, begun, run_of, beside, whole_run, ended, Form, inline, listed, Shown}
-use Rattle.tx_items.specs.Shows.{AllShown}
+use Rattle.tx_items.specs.Shows.{AllShown, part_paragraphs}
 use Rattle.tx_items.specs.Shows.{all_inline, side_by_side, paragraphs_of, joined, one_by_one, error_items, with_shown}
 use Rattle.tx_items.specs.Shows.{assign_shown, cells_of, space_by, space_shown, error_by, error_shown, made_form}
 use Rattle.tx_items.specs.Shows.{tag_shown}
@@ -238,3 +240,11 @@ unit_narrow (listed ps) end h = or_one_narrow end ps h
 
 pub shown_narrow : (a : Attrs) (v : WideValue) → All (λ p. All IsNarrow p.items) (shown_paragraphs a v)
 shown_narrow a v = unit_narrow (show a v).form (show a v).after (show_narrow a v)
+
+part_narrow_as : (x : Form) (end : Attrs) → OfForm x → OfPars (part_paragraphs x end)
+part_narrow_as (inline r) end h = whole_narrow r end h
+part_narrow_as (listed ps) end h = subst OfPars (sym (append-nil ps)) h
+
+pub part_narrow : (a : Attrs) (v : WideValue)
+    → All (λ p. All IsNarrow p.items) (part_paragraphs (show a v).form (show a v).after)
+part_narrow a v = part_narrow_as (show a v).form (show a v).after (show_narrow a v)

@@ -8,7 +8,7 @@ use Rattle.tx_items.specs.declared.drawing.Paragraph.{Paragraph}
 use Rattle.tx_items.specs.declared.drawing.ErrorAt.{ErrorAt}
 use Rattle.tx_items.specs.declared.showing.Showing.{Showing}
 use Rattle.tx_items.specs.Attributes.{with_named, given_back, attribute_in}
-use Rattle.tx_items.specs.Shows.{Run, empty, run_of, beside, whole_run, ended, Form, inline, listed, Shown}
+use Rattle.tx_items.specs.Shows.{begun, Run, empty, run_of, beside, whole_run, ended, Form, inline, listed, Shown}
 use Rattle.tx_items.specs.Shows.{AllShown, all_inline, side_by_side, paragraphs_of, one_by_one, behind_bar, or_one}
 use Rattle.tx_items.specs.Drawing.{drawn}
 use Rattle.tx_items.specs.declared.drawing.Item.TheVariants.{Gap, Down as Lower}
@@ -112,6 +112,20 @@ finished true s = or_one s.attrs (s.paragraphs ++ ended s.run)
 pub record Finishes (is_list : Bool) (s u : State) : Type 0 where
   pub errors : u.errors ≡ s.errors
   pub paragraphs : u.paragraphs ≡ finished is_list s
+
+abbrev pub is_nothing : Run → Bool
+is_nothing empty = true
+is_nothing (begun a items) = false
+
+-- those of a part of a unit
+abbrev pub part_finished : Bool → State → List Paragraph
+part_finished false s = s.paragraphs ++ whole_run s.run s.attrs ∷ []
+part_finished true s = s.paragraphs ++ ended s.run
+
+pub record FinishesPart (is_list : Bool) (s u : State) : Type 0 where
+  pub attrs : u.attrs ≡ s.attrs
+  pub errors : u.errors ≡ s.errors
+  pub paragraphs : u.paragraphs ≡ part_finished is_list s
 
 -- what a tag that nothing says how to show begins with
 abbrev pub tag_front : Attrs → List ℕ → List Item

@@ -241,3 +241,15 @@ unit_paragraphs (listed ps) end = or_one end ps
 -- the paragraphs of a unit
 abbrev pub shown_paragraphs : Attrs → WideValue → List Paragraph
 shown_paragraphs a v = unit_paragraphs (show a v).form (show a v).after
+
+-- ---- parts of units
+
+-- it shows in a line, without an item
+abbrev pub is_blank : Form → Bool
+is_blank (inline empty) = true
+is_blank (inline (begun a items)) = false
+is_blank (listed ps) = false
+
+-- the paragraphs of a part, where it has these attributes behind it as a paragraph without an item
+abbrev pub part_paragraphs : Form → Attrs → List Paragraph
+part_paragraphs x end = one_by_one ((x, end) ∷ [])

@@ -2,7 +2,7 @@
 ghost use Rattle.std.specs.Prelude.{◌≡◌, IfOk, OnOk, MatchOption, Some, None};
 ghost use Rattle.std.specs.Option.{option_copied};
 ghost use Rattle.tx_items.specs.Attributes.{attribute_named, initial, text_in, length_in};
-ghost use Rattle.tx_items.specs.Attributes.{with_value, with_former, with_named};
+ghost use Rattle.tx_items.specs.Attributes.{with_value, with_former, with_named, given_back};
 ghost use Rattle.tx_items.specs.Fields.{attribute_of};
 ghost use Rattle.tx_items.specs.Words.{word_bytes};
 
@@ -131,6 +131,16 @@ impl Attrs {
     {
         match field_of(name.bytes()) {
             Some(field) => self.set_field(alloc, field, value),
+            None => Ok(()),
+        }
+    }
+
+    /// The variable of this name has again what it had in these attributes. Names of other variables change nothing.
+    pub fn restore(&mut self, name: &Text, before: &Attrs) -> Result<(), Memory>
+        ensures restored { OnOk result (self.new ≡ given_back (attribute_named name.now) before.now self.old) }
+    {
+        match field_of(name.bytes()) {
+            Some(field) => self.give_back(field, before),
             None => Ok(()),
         }
     }

@@ -1,5 +1,5 @@
 // What stands in a paragraph.
-ghost use Rattle.std.specs.Prelude.{◌≡◌, ◌≤◌, ◌++◌, ℕ, length, map, IfOk, OnOk, MatchOption, Some, None};
+ghost use Rattle.std.specs.Prelude.{◌≡◌, ◌≤◌, ◌++◌, [], ℕ, length, map, IfOk, OnOk, MatchOption, Some, None};
 ghost use Rattle.std.specs.Option.{option_copied};
 ghost use Rattle.tx_tree.specs.declared.TheConstants.{MOST_TEXT};
 ghost use Rattle.tx_text.specs.Clusters.{items_of, clusters_of};
@@ -215,6 +215,26 @@ impl Items {
 }
 
 impl Paragraph {
+    /// The paragraph without an item, with these attributes.
+    pub fn blank(alloc: Global, attrs: &Attrs) -> Result<Paragraph, Memory>
+        ensures { IfOk result (λ p. p ≡ paragraph [] attrs.now) }
+    {
+        Paragraph::new(alloc, Vec::new(alloc), attrs)
+    }
+
+    /// The same paragraph, which shares its items.
+    pub fn share(&self) -> Result<Paragraph, Memory>
+        ensures { IfOk result (λ p. p ≡ self.now) }
+    {
+        Ok(Paragraph {
+            items: self.items.share()?,
+            mode: self.mode.copy()?,
+            left: self.left,
+            right: self.right,
+            first: self.first,
+        })
+    }
+
     // The paragraph of these items, with these attributes.
     pub(crate) fn new(alloc: Global, items: Vec<Item>, attrs: &Attrs) -> Result<Paragraph, Memory>
         ensures { IfOk result (λ p. p ≡ paragraph items.items attrs.now) }

@@ -11,4 +11,4 @@ mod words;
 
 pub use attributes::Attrs;
 pub use drawing::{Drawn, ErrorAt, Item, Items, Look, Paragraph};
-pub use units::{after, items};
+pub use units::{PartItems, after, items, part_items};

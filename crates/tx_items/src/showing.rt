@@ -16,7 +16,7 @@ ghost use Rattle.tx_items.specs.Shows.{cells_of, space_shown, error_shown, tag_s
 ghost use Rattle.tx_items.specs.Shows.{inline, run_of, empty};
 ghost use Rattle.tx_items.specs.Plans.{plan_of, plans_of, last_plan, joint_plan, list_plan};
 ghost use Rattle.tx_items.specs.Running.{state_of, first_of, HasShown, HasRun, HasPars, EndsRun, EndsParagraph};
-ghost use Rattle.tx_items.specs.Running.{HasAttrs, one_of, bar_of, set_by_pairs, given_back_by_pairs, Finishes};
+ghost use Rattle.tx_items.specs.Running.{HasAttrs, one_of, bar_of, set_by_pairs, given_back_by_pairs, Finishes, FinishesPart};
 ghost use Rattle.tx_items.specs.Running.{tag_front, space_item, length_alone};
 
 use crate::attributes::{Attrs, Field, field_of};
@@ -461,6 +461,16 @@ impl Showing {
             return self.end_paragraph(alloc);
         }
         Ok(())
+    }
+
+    // Ends what a part of a unit shows, as a list or in a line. An empty list stays empty.
+    pub(crate) fn finish_part(&mut self, alloc: Global, is_list: bool) -> Result<(), Memory>
+        ensures { OnOk result (FinishesPart is_list (state_of self.old) (state_of self.new)) }
+    {
+        if is_list {
+            return self.end_run(alloc);
+        }
+        self.end_paragraph(alloc)
     }
 }
 
