@@ -1,44 +1,19 @@
--- Credits of what a part or a byte leaves.
-use Rattle.std.proofs.Common.{◌≡◌, ℕ, ◌+◌, ◌-◌, ◌≤◌, min, Bool, true, false, List, [], ◌∷◌, ◌++◌, length, nat_lt}
-use Rattle.std.proofs.Common.{nat_le, Option, Some, None, refl, ap, arith}
+-- Credits of what a byte leaves.
+use Rattle.std.proofs.Common.{ℕ, ◌+◌, ◌≤◌, Bool, true, false, List, [], ◌∷◌, ◌++◌, length, nat_lt}
+use Rattle.std.proofs.Common.{nat_le, ap, arith}
 use Rattle.std.proofs.lemmas.List.{length-append, length-take}
 use Rattle.tx_tree.specs.declared.TheConstants.{MOST_LABEL}
-use Rattle.tx_tree.specs.WideTree.{WideTree}
-use Rattle.tx_tm_form.specs.declared.bytes.White.{White}
 use Rattle.tx_tm_form.specs.declared.bytes.ByteKind.{ByteKind}
 use Rattle.tx_tm_form.specs.declared.bytes.ByteKind.TheVariants.{Name, Blank, Newline, Return, Less}
 use Rattle.tx_tm_form.specs.declared.bytes.ByteKind.TheVariants.{Greater, Bar, Backslash, Hash, Slash}
 use Rattle.tx_tm_form.specs.declared.places.TagForm.{TagForm}
-use Rattle.tx_tm_form.specs.declared.places.Stage.{Stage}
-use Rattle.tx_tm_form.specs.declared.places.Stage.TheVariants.{Empty, Alone, Ordinary}
 use Rattle.tx_tm_form.specs.Bytes.{can_escape}
 use Rattle.tx_tm_form.specs.Tokens.{escape, head, end_of}
-use Rattle.tx_tm_form.specs.Parts.{leaf_before}
-use Rattle.tx_tm_form.specs.Growing.{Block, behind_run, with_white}
 use Rattle.tx_tm_form.specs.Machine.{Lex, ready, slashed, returned, angled, labelled, Lexed, within, done, if_good}
 use Rattle.tx_tm_form.specs.Machine.{lex_ready, lex_slashed, lex_returned, lex_angled, lex_labelled, lex}
 use Rattle.tx_tm_read.specs.declared.heads.Head.{Head}
 use Rattle.tx_tm_read.specs.Heads.{StandsInFront}
-use Rattle.tx_tm_read.specs.Credits.{line_credit, lex_credit, lexed_credit}
-
--- ---- lines and blocks
-
-leaf_count : (s : List ℕ) → length (leaf_before s []) ≤ 1
-leaf_count [] = omega arith
-leaf_count (b ∷ s) = omega arith
-
-pub line_paid : (ts : List WideTree) (s : List ℕ)
-    → min 1 (length (ts ++ leaf_before s []) - 1) ≤ min 1 (length ts)
-line_paid ts s = omega (arith, leaf_count s, length-append ts (leaf_before s []))
-
-white_line : (s : Stage) (b : Block) (w : White) → line_credit (with_white s b w).now ≡ line_credit b.now
-white_line Empty b w = refl
-white_line Alone b w = refl
-white_line Ordinary b w = refl
-
-pub behind_credit : (b : Block) (r : Option White) → line_credit (behind_run b r).now ≡ line_credit b.now
-behind_credit b None = refl
-behind_credit b (Some w) = white_line b.stage b w
+use Rattle.tx_tm_read.specs.Credits.{lex_credit, lexed_credit}
 
 -- ---- bytes
 

@@ -22,9 +22,10 @@ use Rattle.tx_tm_form.specs.Machine.{next_argument, last_argument, next_block, l
 use Rattle.tx_tm_form.specs.Machine.{by_escape, name_byte, name_end, feed_reading, feed_naming, feed_counting, feed}
 use Rattle.tx_tm_form.specs.Machine.{ready, slashed, returned, angled, labelled, Lexed, within, done, bad, lex}
 use Rattle.tx_tm_form.specs.Machine.{Bytewise, at, lost, given, step, run, Keeping, keep, tree_of, tree_in}
-use Rattle.tx_tm_read.specs.Fits.{IsSmall, RowFits, ContentFits, ChildrenFit, OpensFit, StateFits, ReaderFits}
-use Rattle.tx_tm_read.proofs.Fitting.{within_small, left_row, right_small, node_small, node_row, grown_fits, tree_fits}
-use Rattle.tx_tm_read.proofs.Fitting.{tags_fit, put_fits, put_tag_fits}
+use Rattle.tx_tm_content.specs.ContentFits.{IsSmall, RowFits, ContentFits}
+use Rattle.tx_tm_read.specs.Fits.{ChildrenFit, OpensFit, StateFits, ReaderFits}
+use Rattle.tx_tm_content.proofs.Fitting.{within_small, left_row, right_small, node_small, node_row, grown_fits, tree_fits}
+use Rattle.tx_tm_content.proofs.Fitting.{tags_fit, put_fits, put_tag_fits}
 use Rattle.tx_tm_read.proofs.Stuck.{children_there}
 
 -- ---- one part more

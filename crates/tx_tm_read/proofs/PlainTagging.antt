@@ -19,7 +19,7 @@ use Rattle.tx_tm_read.specs.Fits.{StateFits, ReaderFits}
 use Rattle.tx_tm_read.specs.Heads.{StandsInFront}
 use Rattle.tx_tm_read.specs.PlainTags.{AreArguments, no_argument, argument_more, HasArguments}
 use Rattle.tx_tm_read.specs.Readers.{between, IsAdvance}
-use Rattle.tx_tm_read.specs.Runs.{AreWords, one_byte, byte_more, space_and_byte}
+use Rattle.tx_tm_words.specs.Runs.{AreWords, one_byte, byte_more, space_and_byte}
 use Rattle.tx_tm_read.specs.Spots.{state_of}
 use Rattle.tx_tm_read.proofs.Running.{words_run, head_run, rest_is}
 

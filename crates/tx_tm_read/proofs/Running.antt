@@ -8,30 +8,28 @@ use Rattle.tx_tree.specs.WideTree.{WideTree}
 use Rattle.tx_tm_form.specs.declared.places.Stage.{Stage}
 use Rattle.tx_tm_form.specs.declared.places.Stage.TheVariants.{Empty, Alone, Ordinary}
 use Rattle.tx_tree.specs.Labels.{is_label_byte}
-use Rattle.tx_tm_form.specs.declared.bytes.ByteKind.{ByteKind}
-use Rattle.tx_tm_form.specs.declared.bytes.ByteKind.TheVariants.{Blank, Newline, Return}
 use Rattle.tx_tm_form.specs.declared.bytes.White.{White}
 use Rattle.tx_tm_form.specs.declared.bytes.White.TheVariants.{Spaces, Line, Break}
 use Rattle.tx_tm_form.specs.Bytes.{kind_of, is_plain, is_white, white_of, plus}
 use Rattle.tx_tm_form.specs.declared.places.TagForm.TheVariants.{Short}
-use Rattle.tx_tm_form.specs.Tokens.{white, head, end_of, written}
+use Rattle.tx_tm_form.specs.Tokens.{head, end_of, written}
 use Rattle.tx_tm_form.specs.Parts.{gap, text}
 use Rattle.tx_tm_form.specs.Growing.{Inline, no_parts, grow, longer, ended, resumed, Block, with_white, with_part}
 use Rattle.tx_tm_form.specs.Growing.{widen, as_block, Content}
 use Rattle.tx_tm_form.specs.Growing.{inline, blocks, collecting, put}
-use Rattle.tx_tm_form.specs.Machine.{Open, reading, feed, ready, done, lex_ready, lex, Bytewise, at, given, step}
+use Rattle.tx_tm_form.specs.Machine.{Open, reading, feed, ready, Bytewise, at, given, step}
 use Rattle.tx_tm_form.specs.Machine.{run, Keeping, keep, begun}
 use Rattle.tx_tm_form.specs.Machine.{tree_in, start, reads}
 use Rattle.tx_tm_form.proofs.Formed.{text_text, one_byte_text}
-use Rattle.tx_tm_form.proofs.Words.{lexed_plain, token_run}
+use Rattle.tx_tm_form.proofs.Words.{lexed_white, lexed_plain, token_run}
 use Rattle.tx_tm_form.proofs.Stops.{run_append}
-use Rattle.tx_tm_read.specs.Blocks.{block_at}
+use Rattle.tx_tm_content.specs.Blocks.{block_at}
 use Rattle.tx_tm_read.specs.Fits.{StateFits, ReaderFits}
-use Rattle.tx_tm_read.specs.Runs.{AreWords, one_byte, byte_more, space_and_byte, IsWhiteRun, no_white, white_more}
+use Rattle.tx_tm_words.specs.Runs.{AreWords, one_byte, byte_more, space_and_byte, IsWhiteRun, no_white, white_more}
 use Rattle.tx_tm_read.specs.Heads.{StandsInFront}
 use Rattle.tx_tm_read.specs.declared.heads.Head.{Head}
 use Rattle.tx_tm_read.specs.Readers.{between, reader_of, IsAdvance, IsTree, IsRead}
-use Rattle.tx_tm_read.specs.Words.{lex_of}
+use Rattle.tx_tm_words.specs.Words.{lex_of}
 use Rattle.tx_tm_read.specs.Spots.{state_of}
 use Rattle.tx_tm_read.specs.declared.reader.Reader.{Reader}
 use Rattle.tx_tm_read.specs.declared.tags.Spot.{Spot}
@@ -118,13 +116,6 @@ plain_step : (b : ℕ) (j : Bool) (c : Content) (fs : List Open) → is_plain (k
 unfolding feed
 plain_step b j c fs h = ap (given keep (record { behind_join = j; state = reading c fs })) (lexed_plain (kind_of b) b h)
 
-lexed_white : (k : ByteKind) (b : ℕ) → is_white k ≡ true → lex ready k b ≡ done (white b)
-unfolding lex_ready
-lexed_white Blank b h = refl
-lexed_white Newline b h = refl
-lexed_white Return b h = refl
-lexed_white _ b h = absurd cc
-
 white_step : (b : ℕ) (c : Content) (fs : List Open) → is_white (kind_of b) ≡ true
     → step keep (between false c fs) b ≡ between false (put c (gap (white_of b))) fs
 unfolding feed
@@ -181,31 +172,6 @@ pub read_over : (found : Option WideTree) (w : Bytewise Keeping) (all : List ℕ
 unfolding reads
 read_over None w all e h = λ t i j. h t (ap tree_in e ∙ i) j
 read_over (Some t) w all e h = sym (ap tree_in e) ∙ h
-
-pub word_next : (x : List ℕ) (i b : ℕ) → (0 < i → AreWords (take i x)) → i < length x → get_or x i 0 ≡ b
-    → is_plain (kind_of b) ≡ true → AreWords (take (i + 1) x)
-word_next [] zero b w n e k = absurd (omega arith)
-word_next (a ∷ x) zero b w n e k = subst (λ z. AreWords (z ∷ [])) (sym e) (one_byte b k)
-word_next x (suc i) b w n e k =
-    subst AreWords (sym (take_more x (suc i) 0 n ∙ ap (λ z. take (suc i) x ++ z ∷ []) e))
-    (byte_more (take (suc i) x) b (w (omega arith)) k)
-
-pub word_behind_space : (x : List ℕ) (i b : ℕ) → AreWords (take i x) → i + 1 < length x → get_or x i 0 ≡ 32
-    → get_or x (i + 1) 0 ≡ b → is_plain (kind_of b) ≡ true → AreWords (take (i + 2) x)
-word_behind_space x i b w n s e k =
-    let two : take (i + 1 + 1) x ≡ take i x ++ 32 ∷ b ∷ [] =
-    take_more x (i + 1) 0 n ∙ ap (λ z. take (i + 1) x ++ z ∷ []) e
-    ∙ ap (λ z. z ++ b ∷ []) (take_more x i 0 (omega arith) ∙ ap (λ z. take i x ++ z ∷ []) s)
-    ∙ append_assoc (take i x) (32 ∷ []) (b ∷ []) in
-    let same : i + 1 + 1 ≡ i + 2 = omega arith in
-    subst (λ n. AreWords (take n x)) same (subst AreWords (sym two) (space_and_byte (take i x) b w k))
-
-pub white_next : (x : List ℕ) (i b : ℕ) (v u : White) → IsWhiteRun (take i x) v → i < length x → get_or x i 0 ≡ b
-    → is_white (kind_of b) ≡ true → u ≡ plus v (white_of b) → IsWhiteRun (take (i + 1) x) u
-white_next x i b v u w n e k d =
-    subst (IsWhiteRun (take (i + 1) x)) (sym d)
-    (subst (λ y. IsWhiteRun y (plus v (white_of b)))
-    (sym (take_more x i 0 n ∙ ap (λ z. take i x ++ z ∷ []) e)) (white_more (take i x) v b w k))
 
 -- ---- the answers of one advance
 

@@ -15,11 +15,14 @@ use Rattle.tx_tm_form.specs.Machine.{Open, State, reading, go, open_tag, with_ch
 use Rattle.tx_tm_form.specs.Machine.{last_block, last_argument}
 use Rattle.tx_tm_read.specs.declared.tags.OpenTag.{OpenTag}
 use Rattle.tx_tm_read.specs.declared.tags.Spot.{Spot}
-use Rattle.tx_tm_read.specs.Fits.{IsSmall, RowFits, ChildrenFit, StateFits}
-use Rattle.tx_tm_read.specs.Nodes.{nodes_in, content_nodes, children_nodes, opens_nodes, open_nodes, state_nodes}
-use Rattle.tx_tm_read.specs.Spots.{opens_of, behind_argument, state_of, IsState, Rose, IsBlockTree}
-use Rattle.tx_tm_read.proofs.Fitting.{small_within, right_small, node_row, put_tag_fits, last_within}
-use Rattle.tx_tm_read.proofs.Counts.{nodes_both}
+use Rattle.tx_tm_content.specs.ContentFits.{IsSmall, RowFits}
+use Rattle.tx_tm_read.specs.Fits.{ChildrenFit, StateFits}
+use Rattle.tx_tm_content.specs.ContentNodes.{nodes_in, content_nodes}
+use Rattle.tx_tm_read.specs.Nodes.{children_nodes, opens_nodes, open_nodes, state_nodes}
+use Rattle.tx_tm_content.specs.Blocks.{IsBlockTree}
+use Rattle.tx_tm_read.specs.Spots.{opens_of, behind_argument, state_of, IsState, Rose}
+use Rattle.tx_tm_content.proofs.Fitting.{small_within, right_small, node_row, put_tag_fits, last_within}
+use Rattle.tx_tm_content.proofs.Counts.{nodes_both}
 
 -- ---- blocks of tags
 

@@ -1,25 +1,15 @@
 -- Nodes that bytes which have been read pay for, and that haven't been made yet: a byte pays for one. Each open tag has
 -- one, each line in which a tag stands one for its concat, and each tag of what may be a collection one for the line
 -- that it may stand in.
-use Rattle.std.specs.Prelude.{ℕ, ◌+◌, ◌≤◌, min, List, [], ◌∷◌, length, Option, Some, None, Result, Ok}
+use Rattle.std.specs.Prelude.{ℕ, ◌+◌, ◌≤◌, List, [], ◌∷◌, Option, Some, None}
+use Rattle.tx_tm_content.specs.ContentCredits.{content_credit}
 use Rattle.tx_tm_form.specs.Tokens.{Token, head}
-use Rattle.tx_tm_form.specs.Growing.{Inline, Content, inline, blocks, collecting}
 use Rattle.tx_tm_form.specs.Machine.{Open, State, reading, naming, counting, failed, Lex, labelled, Lexed, within, done, bad}
-use Rattle.tx_tm_read.specs.declared.blocks.Body.{Body}
 use Rattle.tx_tm_read.specs.declared.tags.Spot.{Spot}
 use Rattle.tx_tm_read.specs.declared.reader.Reader.{Reader}
 use Rattle.tx_tm_read.specs.declared.reader.Advance.{Advance}
-use Rattle.tx_tm_read.specs.Words.{lex_of}
-use Rattle.tx_tm_read.specs.Blocks.{content_of}
+use Rattle.tx_tm_words.specs.Words.{lex_of}
 use Rattle.tx_tm_read.specs.Spots.{state_of}
-
-abbrev pub line_credit : Inline → ℕ
-line_credit g = min 1 (length g.done)
-
-abbrev pub content_credit : Content → ℕ
-content_credit (inline p g) = line_credit g
-content_credit (blocks b) = line_credit b.now
-content_credit (collecting x) = length x.entries
 
 abbrev pub opens_credit : List Open → ℕ
 opens_credit [] = 0
@@ -44,14 +34,6 @@ abbrev pub lexed_credit : Lexed → ℕ
 lexed_credit (within q) = lex_credit q
 lexed_credit (done t) = token_credit t
 lexed_credit bad = 0
-
--- what is left of it after an answer, which is nothing after a refusal
-abbrev pub left : {A : Type 0} {E : Type 0} → (A → ℕ) → Result (Option A) E → ℕ
-left credit (Ok (Some x)) = credit x
-left credit _ = 0
-
-abbrev pub body_credit : Body → ℕ
-body_credit b = content_credit (content_of b)
 
 abbrev pub spot_credit : Spot → ℕ
 spot_credit s = state_credit (state_of s)

@@ -1,7 +1,7 @@
 -- Short tags at the front whose arguments are words alone.
 use Rattle.std.specs.Prelude.{◌≡◌, ℕ, ◌<◌, ◌≤◌, List, [], ◌∷◌, ◌++◌, length, take}
 use Rattle.tx_tree.specs.WideTree.{WideTree, leaf}
-use Rattle.tx_tm_read.specs.Runs.{AreWords}
+use Rattle.tx_tm_words.specs.Runs.{AreWords}
 
 -- arguments that are words, each with the bar behind it, and their trees
 pub data AreArguments : List ℕ → List WideTree → Type 0 where

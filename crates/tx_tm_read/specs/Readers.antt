@@ -7,7 +7,7 @@ use Rattle.tx_tm_form.specs.Machine.{Open, ready, Bytewise, at, Keeping, State, 
 use Rattle.tx_tm_form.specs.Machine.{tree_in, reads}
 use Rattle.tx_tm_read.specs.declared.reader.Reader.{Reader}
 use Rattle.tx_tm_read.specs.declared.reader.Advance.{Advance}
-use Rattle.tx_tm_read.specs.Words.{lex_of}
+use Rattle.tx_tm_words.specs.Words.{lex_of}
 use Rattle.tx_tm_read.specs.Fits.{ReaderFits}
 use Rattle.tx_tm_read.specs.Nodes.{state_nodes}
 use Rattle.tx_tm_read.specs.Spots.{state_of}

@@ -1,7 +1,5 @@
 -- Where the reader stands, as a state of the machine.
 use Rattle.std.specs.Prelude.{◌≡◌, ◌≤◌, ◌+◌, ℕ, List, map, reverse, Option, Some, None}
-use Rattle.tx_tree.specs.WideTree.{WideTree}
-use Rattle.tx_tm_form.specs.Growing.{Content, inline, blocks, collecting, block_of}
 use Rattle.tx_tm_form.specs.Machine as machine
 use Rattle.tx_tm_form.specs.declared.places.TagPlace.{TagPlace}
 use Rattle.tx_tm_form.specs.declared.places.TagPlace.TheVariants.{InHeader}
@@ -9,9 +7,9 @@ use Rattle.tx_tm_form.specs.Machine.{Open, in_tag, closed, reading, naming, coun
 use Rattle.tx_tm_read.specs.declared.tags.OpenTag.{OpenTag}
 use Rattle.tx_tm_read.specs.declared.tags.Spot.{Spot}
 use Rattle.tx_tm_read.specs.declared.tags.Spot.TheVariants as spots
-use Rattle.tx_tm_read.specs.Lines.{IsMade}
-use Rattle.tx_tm_read.specs.Blocks.{content_of}
-use Rattle.tx_tm_read.specs.Fits.{RowFits, StateFits}
+use Rattle.tx_tm_content.specs.Blocks.{content_of}
+use Rattle.tx_tm_content.specs.ContentFits.{RowFits}
+use Rattle.tx_tm_read.specs.Fits.{StateFits}
 use Rattle.tx_tm_read.specs.Nodes.{state_nodes}
 
 abbrev pub open_of : OpenTag → Open
@@ -45,9 +43,3 @@ IsState (Some s) m = state_of s ≡ m
 abbrev pub Rose : ℕ → ℕ → ℕ → Option Spot → Type 0
 Rose before after nodes None = Unit {0}
 Rose before after nodes (Some s) = after + nodes ≤ before + state_nodes (state_of s)
-
--- the tree of a block, or none for an argument or past a limit
-abbrev pub IsBlockTree : Option WideTree → Content → Type 0
-IsBlockTree made (inline p g) = made ≡ None
-IsBlockTree made (blocks b) = IsMade made (block_of (blocks b))
-IsBlockTree made (collecting x) = IsMade made (block_of (collecting x))

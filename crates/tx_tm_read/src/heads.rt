@@ -3,8 +3,8 @@ ghost use Rattle.std.specs.Prelude.{◌≡◌, ◌≤◌, ◌<◌, length, slice
 ghost use Rattle.tx_tm_form.specs.Tokens.{end_of};
 ghost use Rattle.tx_tm_read.specs.Heads.{StandsInFront};
 
-use crate::shared_labels::Labels;
 use tx_base::Memory;
+use tx_tm_content::Labels;
 use tx_tree::{Label, is_label_byte};
 
 /// The beginning of a short tag: its label, whether an argument follows, and how many bytes it has.

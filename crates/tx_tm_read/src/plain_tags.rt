@@ -2,11 +2,10 @@
 ghost use Rattle.std.specs.Prelude.{◌≡◌, ◌≤◌, length, IfOk, IfSome};
 ghost use Rattle.tx_tm_read.specs.PlainTags.{HasArguments};
 
-use crate::making::make_leaf;
-use crate::rows::make_room;
-use crate::runs::words_len;
 use std::alloc::Global;
 use tx_base::Memory;
+use tx_tm_content::{make_leaf, make_room};
+use tx_tm_words::words_len;
 use tx_tree::{MOST_TEXT, Tree};
 
 /// The trees of the arguments of a short tag, and how many bytes these have with `>` behind the last one, where each is

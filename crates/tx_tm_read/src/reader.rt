@@ -1,51 +1,37 @@
 // The tree that bytes spell.
 ghost use Rattle.std.specs.Prelude.{◌≡◌, ◌≢◌, ◌≤◌, ◌<◌, ◌+◌, [], Bool, true, false, length, take, drop};
 ghost use Rattle.std.specs.Prelude.{IfOk, IfErr, IfSome, Some, None};
-ghost use Rattle.tx_tree.specs.WideTree.{WideTree, nodes_of};
+ghost use Rattle.tx_tree.specs.WideTree.{nodes_of};
 ghost use Rattle.tx_tree.specs.Limits.{IsWithinLimits};
-ghost use Rattle.tx_tm_form.specs.Tokens.{is_dropped};
 ghost use Rattle.tx_tm_form.specs.Forms.{Spells};
 ghost use Rattle.tx_tm_form.specs.Faults.{IsTmFault};
 ghost use Rattle.tx_tm_form.specs.Machine.{ready, at, reading, given, keep, step, start, run};
-ghost use Rattle.tx_tm_read.specs.Words.{token_of, IsGoodWord, lexed_of, IsGoodLexed};
-ghost use Rattle.tx_tm_read.specs.Blocks.{content_of};
+ghost use Rattle.tx_tm_words.specs.Words.{token_of, IsGoodWord, lexed_of, IsGoodLexed};
+ghost use Rattle.tx_tm_content.specs.Blocks.{content_of};
 ghost use Rattle.tx_tm_read.specs.Nodes.{state_nodes};
 ghost use Rattle.tx_tm_read.specs.Spots.{opens_of, state_of};
 ghost use Rattle.tx_tm_read.specs.Readers.{between, reader_of, IsReader, ReaderRose};
-ghost use Rattle.tx_tm_read.specs.Runs.{AreWords, IsWhiteRun};
+ghost use Rattle.tx_tm_words.specs.Runs.{AreWords, IsWhiteRun};
 ghost use Rattle.tx_tm_read.specs.Heads.{StandsInFront};
 ghost use Rattle.tx_tm_read.specs.PlainTags.{HasArguments};
 ghost use Rattle.tx_tm_read.specs.Readers.{IsAdvance, AdvanceRose, IsTreeOf, IsTree, IsRead};
 ghost use Rattle.tx_tm_read.specs.Credits.{state_credit, token_credit, lexed_credit};
-ghost use Rattle.tx_tm_read.specs.Credits.{left, reader_credit, advance_credit, AdvancePaid};
+ghost use Rattle.tx_tm_content.specs.ContentCredits.{left};
+ghost use Rattle.tx_tm_read.specs.Credits.{reader_credit, advance_credit, AdvancePaid};
 
-use crate::blocks::{Body, Paragraphs};
 use crate::heads::{Head, head_front};
-use crate::lexer::{Lexed, Lexer, Word};
-use crate::measuring::limit;
 use crate::plain_tags::plain_arguments;
-use crate::runs::{white_front, words_len};
-use crate::scan::misspelled;
-use crate::shared_labels::Labels;
-use crate::tags::{OpenTag, Spot};
+use crate::tags::{OpenTag, Spot, let_go};
 use crate::taking::begin;
 use crate::walk::{put_node, put_text, put_white};
 use std::alloc::Global;
 use std::sync::ledger::Ledger;
 use tx_base::{Memory, Steps};
+use tx_tm_content::{Body, Labels, Paragraphs};
+use tx_tm_faults::fault_of;
 use tx_tm_form::{TagForm, White};
+use tx_tm_words::{Lexed, Lexer, TmWord, is_dropped, white_front, words_len};
 use tx_tree::{ReadFault, Tree};
-
-// Whether the word stands for nothing: a join, or a space or a tab behind one.
-pub(crate) fn is_dropped(behind_join: bool, word: &Word) -> bool
-    ensures { result ≡ is_dropped behind_join (token_of word.now) }
-{
-    match word {
-        Word::Join(_) => true,
-        Word::White(byte) => behind_join && (*byte == b' ' || *byte == b'\t'),
-        _ => false,
-    }
-}
 
 /// What has been read.
 #[derive(Drop)]
@@ -67,7 +53,7 @@ fn behind_word<L: Ledger>(
     labels: &Labels,
     behind_join: bool,
     spot: Spot,
-    word: Word,
+    word: TmWord,
     steps: &mut Steps<L>,
 ) -> Result<Option<Reader>, Memory>
     requires { IsGoodWord word }
@@ -459,9 +445,6 @@ impl Reader {
     }
 }
 
-// Drops what was read. A function that drops it at an exit of its own takes the prover long.
-fn let_go(_here: Body, _opens: Vec<OpenTag>) {}
-
 // Behind a short tag at the front, or its beginning, or else behind the first byte.
 fn advance_by_head<L: Ledger>(
     labels: &mut Labels,
@@ -571,21 +554,6 @@ fn read_anew<L: Ledger>(
 {
     let mut labels = Labels::new(alloc)?;
     read_all(&mut labels, bytes, steps)
-}
-
-// Why the bytes spell no tree within the limits.
-fn fault_of(alloc: Global, bytes: &[u8]) -> ReadFault
-    requires { (t : WideTree) → Spells bytes.now t → IsWithinLimits t → ⊥ }
-    ensures { result ≢ ReadFault.Memory → IsTmFault bytes.now result }
-{
-    match misspelled(alloc, bytes) {
-        Ok(Some(fault)) => fault,
-        Ok(None) => match limit(alloc, bytes) {
-            Ok((which, number)) => ReadFault::Limit(which, number),
-            Err(Memory) => ReadFault::Memory,
-        },
-        Err(Memory) => ReadFault::Memory,
-    }
 }
 
 /// The tree that the bytes spell. Whatever it answers, the steps rise by at most one more than the bytes; where it

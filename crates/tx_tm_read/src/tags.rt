@@ -6,12 +6,10 @@ ghost use Rattle.tx_tm_form.specs.Forms.{symbol_bytes};
 ghost use Rattle.tx_tree.specs.WideTree.{leaf};
 ghost use Rattle.tx_tm_read.specs.Fronts.{IsPushed, IsNameFront};
 
-use crate::blocks::Body;
-use crate::making::make_leaf;
-use crate::rows::Row;
 use std::alloc::Global;
 use std::marker::Model;
 use tx_base::Memory;
+use tx_tm_content::{Body, Siblings, make_leaf};
 use tx_tree::{Label, MOST_NAME, MOST_TEXT, Tree};
 
 /// An open tag: the content before it, its label, and its children so far.
@@ -19,7 +17,7 @@ use tx_tree::{Label, MOST_NAME, MOST_TEXT, Tree};
 pub(crate) struct OpenTag {
     pub(crate) before: Body,
     pub(crate) label: Label,
-    pub(crate) children: Row,
+    pub(crate) children: Siblings,
 }
 
 /// The first bytes of a symbol's name. Contracts see them.
@@ -139,3 +137,6 @@ pub(crate) enum Spot {
     /// In the digits of raw data.
     Counting(Digits, Body, Vec<OpenTag>),
 }
+
+// Drops what was read. A function that drops it at an exit of its own takes the prover long.
+pub(crate) fn let_go(_here: Body, _opens: Vec<OpenTag>) {}

@@ -8,25 +8,23 @@ ghost use Rattle.tx_tm_form.specs.Tokens.{escape, plain};
 ghost use Rattle.tx_tm_form.specs.Parts.{raw_data_label};
 ghost use Rattle.tx_tm_form.specs.Growing.{place_of};
 ghost use Rattle.tx_tm_form.specs.Machine.{go, with_node, reading, naming, counting, open_tag, in_tag, next_argument};
-ghost use Rattle.tx_tm_form.specs.Machine.{last_argument, next_block, last_block, header_place, begun, by_escape};
+ghost use Rattle.tx_tm_form.specs.Machine.{last_argument, next_block, last_block, begun, by_escape};
 ghost use Rattle.tx_tm_form.specs.Machine.{name_byte, name_end, feed_reading, feed_naming, feed_counting, feed};
-ghost use Rattle.tx_tm_read.specs.Words.{token_of, IsGoodWord};
-ghost use Rattle.tx_tm_read.specs.Blocks.{content_of};
+ghost use Rattle.tx_tm_words.specs.Words.{token_of, IsGoodWord};
+ghost use Rattle.tx_tm_content.specs.Blocks.{content_of};
 ghost use Rattle.tx_tm_read.specs.Nodes.{state_nodes};
 ghost use Rattle.tx_tm_read.specs.Spots.{opens_of, state_of, IsState, Rose};
-ghost use Rattle.tx_tm_read.specs.Credits.{state_credit, token_credit, left, spot_credit};
+ghost use Rattle.tx_tm_content.specs.ContentCredits.{left};
+ghost use Rattle.tx_tm_read.specs.Credits.{state_credit, token_credit, spot_credit};
 
-use crate::blocks::Body;
-use crate::lexer::Word;
-use crate::making::raw_data_label;
-use crate::rows::Row;
-use crate::shared_labels::Labels;
-use crate::tags::{Digits, NameFront, OpenTag, Spot};
+use crate::tags::{Digits, NameFront, OpenTag, Spot, let_go};
 use crate::walk::{bar_in, close_in, in_place, last_in, next_in, put_node, put_text, put_white};
 use std::alloc::Global;
 use std::sync::ledger::Ledger;
 use tx_base::{Memory, Steps};
+use tx_tm_content::{Body, Labels, Siblings, raw_data_label};
 use tx_tm_form::{Escaped, TagForm, TagPlace, escape_of, white_of};
+use tx_tm_words::{TmWord, header_place, is_digit};
 use tx_tree::{Label, Tree, is_name_byte};
 
 // In a tag that begins.
@@ -45,7 +43,7 @@ fn open_tag(
     let tag = OpenTag {
         before: here,
         label,
-        children: Row::new(alloc),
+        children: Siblings::new(alloc),
     };
     in_place(alloc, place, tag, opens)
 }
@@ -93,12 +91,6 @@ fn end_tag<L: Ledger>(
         None => Ok(None),
         Some(tag) => last_in(labels, &label, here, tag, opens, steps),
     }
-}
-
-pub(crate) fn header_place(more: bool) -> Option<TagPlace>
-    ensures { result ≡ header_place more }
-{
-    if more { Some(TagPlace::InHeader) } else { None }
 }
 
 // Behind the beginning of a tag.
@@ -218,7 +210,7 @@ fn take_escape<L: Ledger>(
 // A word more between parts of the content.
 fn take_part<L: Ledger>(
     labels: &Labels,
-    word: Word,
+    word: TmWord,
     here: Body,
     opens: Vec<OpenTag>,
     steps: &mut Steps<L>,
@@ -233,21 +225,15 @@ fn take_part<L: Ledger>(
     ensures rises { steps.old ≤ steps.new }
 {
     match word {
-        Word::White(byte) => put_white(white_of(byte), here, opens),
-        Word::Join(_) => Ok(None),
-        Word::Plain(byte) => put_text(labels, &[byte], here, opens, steps),
-        Word::Escape(byte) => take_escape(labels, byte, here, opens, steps),
-        Word::Raw => Ok(Some(Spot::Counting(Digits::new(labels.alloc), here, opens))),
-        Word::Head(form, label, more) => begin(labels, form, more, label, here, opens, steps),
-        Word::Bar => take_bar(labels, here, opens, steps),
-        Word::Close => take_close(labels, here, opens, steps),
+        TmWord::White(byte) => put_white(white_of(byte), here, opens),
+        TmWord::Join(_) => Ok(None),
+        TmWord::Plain(byte) => put_text(labels, &[byte], here, opens, steps),
+        TmWord::Escape(byte) => take_escape(labels, byte, here, opens, steps),
+        TmWord::Raw => Ok(Some(Spot::Counting(Digits::new(labels.alloc), here, opens))),
+        TmWord::Head(form, label, more) => begin(labels, form, more, label, here, opens, steps),
+        TmWord::Bar => take_bar(labels, here, opens, steps),
+        TmWord::Close => take_close(labels, here, opens, steps),
     }
-}
-
-pub(crate) fn is_digit(byte: u8) -> bool
-    ensures { result ≡ is_digit byte }
-{
-    matches!(byte, b'0'..=b'9' | b'A'..=b'F' | b'a'..=b'f')
 }
 
 // A byte more of a symbol's name.
@@ -298,16 +284,22 @@ fn name_over<L: Ledger>(
     ensures rises { steps.old ≤ steps.new }
 {
     if name.is_empty() {
+        let_go(here, opens);
         return Ok(None);
     }
-    let symbol = name.symbol(labels.alloc)?;
-    put_text(labels, &symbol, here, opens, steps)
+    match name.symbol(labels.alloc) {
+        Ok(symbol) => put_text(labels, &symbol, here, opens, steps),
+        Err(Memory) => {
+            let_go(here, opens);
+            Err(Memory)
+        }
+    }
 }
 
 // A word more in the name of a symbol.
 fn take_name<L: Ledger>(
     labels: &Labels,
-    word: &Word,
+    word: &TmWord,
     name: NameFront,
     here: Body,
     opens: Vec<OpenTag>,
@@ -322,10 +314,10 @@ fn take_name<L: Ledger>(
     ensures rises { steps.old ≤ steps.new }
 {
     match word {
-        Word::Plain(byte) => plain_on(*byte, name, here, opens),
-        Word::Escape(b'>') => name_over(labels, name, here, opens, steps),
-        Word::Escape(b'|') => name_on(b'|', name, here, opens),
-        Word::Escape(b'\\') => name_on(b'\\', name, here, opens),
+        TmWord::Plain(byte) => plain_on(*byte, name, here, opens),
+        TmWord::Escape(b'>') => name_over(labels, name, here, opens, steps),
+        TmWord::Escape(b'|') => name_on(b'|', name, here, opens),
+        TmWord::Escape(b'\\') => name_on(b'\\', name, here, opens),
         _ => Ok(None),
     }
 }
@@ -382,7 +374,7 @@ fn digits_over<L: Ledger>(
 // A word more in raw data.
 fn take_digit<L: Ledger>(
     labels: &Labels,
-    word: &Word,
+    word: &TmWord,
     digits: Digits,
     here: Body,
     opens: Vec<OpenTag>,
@@ -397,8 +389,8 @@ fn take_digit<L: Ledger>(
     ensures rises { steps.old ≤ steps.new }
 {
     match word {
-        Word::Plain(byte) => digit_on(*byte, digits, here, opens),
-        Word::Close => digits_over(labels, digits, here, opens, steps),
+        TmWord::Plain(byte) => digit_on(*byte, digits, here, opens),
+        TmWord::Close => digits_over(labels, digits, here, opens, steps),
         _ => Ok(None),
     }
 }
@@ -409,7 +401,7 @@ impl Spot {
     pub(crate) fn take<L: Ledger>(
         self,
         labels: &Labels,
-        word: Word,
+        word: TmWord,
         steps: &mut Steps<L>,
     ) -> Result<Option<Spot>, Memory>
         requires { IsGoodWord word }

@@ -6,35 +6,26 @@ ghost use Rattle.tx_tm_form.specs.Bytes.{escape_of};
 ghost use Rattle.tx_tm_form.specs.Parts.{gap, text, tag, same, collection_label};
 ghost use Rattle.tx_tm_form.specs.Growing.{inline, grown, put, place_of, block_behind, tree_of_block, tree_of_entry};
 ghost use Rattle.tx_tm_form.specs.Machine.{reading, naming, counting, in_tag, with_node, closed, next_argument};
-ghost use Rattle.tx_tm_form.specs.Machine.{last_argument, next_block, last_block, with_child, header_place};
+ghost use Rattle.tx_tm_form.specs.Machine.{last_argument, next_block, last_block, with_child};
 ghost use Rattle.tx_tm_form.specs.Machine.{begun, by_escape, feed_reading, feed_naming, feed_counting, feed};
-ghost use Rattle.tx_tm_read.specs.Words.{token_of};
-ghost use Rattle.tx_tm_read.specs.Lines.{IsMade};
-ghost use Rattle.tx_tm_read.specs.Blocks.{block_of, content_of, tags_of};
-ghost use Rattle.tx_tm_read.specs.Nodes.{nodes_in, line_nodes, block_nodes, tags_nodes};
-ghost use Rattle.tx_tm_read.specs.Nodes.{content_nodes, opens_nodes, open_nodes, state_nodes};
+ghost use Rattle.tx_tm_words.specs.Words.{token_of};
+ghost use Rattle.tx_tm_content.specs.Blocks.{block_of, content_of, tags_of};
+ghost use Rattle.tx_tm_content.specs.ContentNodes.{nodes_in, line_nodes, block_nodes, tags_nodes};
+ghost use Rattle.tx_tm_content.specs.ContentNodes.{content_nodes};
+ghost use Rattle.tx_tm_read.specs.Nodes.{opens_nodes, open_nodes, state_nodes};
 ghost use Rattle.tx_tm_read.specs.Spots.{open_of, opens_of, behind_argument};
-ghost use Rattle.tx_tm_read.specs.Spots.{state_of, IsState, IsOpen, IsBlockTree, Rose};
-ghost use Rattle.tx_tm_read.specs.Credits.{line_credit, content_credit, opens_credit, state_credit, left, spot_credit};
+ghost use Rattle.tx_tm_read.specs.Spots.{state_of, IsState, IsOpen, Rose};
+ghost use Rattle.tx_tm_content.specs.ContentCredits.{line_credit, content_credit, left};
+ghost use Rattle.tx_tm_read.specs.Credits.{opens_credit, state_credit, spot_credit};
 
-use crate::blocks::{Body, Paragraphs, TagList};
-use crate::lexer::Word;
-use crate::lines::Line;
-use crate::making::{make_collection, make_node};
-use crate::rows::Row;
-use crate::shared_labels::Labels;
 use crate::tags::{Digits, NameFront, OpenTag, Spot};
 use std::alloc::Global;
 use std::sync::ledger::Ledger;
 use tx_base::{Memory, Steps};
+use tx_tm_content::{Body, Labels, OpenLine, Paragraphs, Siblings, TagList, make_node};
 use tx_tm_form::{Escaped, TagForm, TagPlace, White, escape_of, white_of};
+use tx_tm_words::{TmWord, is_collection, same_bytes};
 use tx_tree::{Label, MOST_DEPTH, Tree};
-
-pub(crate) fn same_bytes(one: &[u8], other: &[u8]) -> bool
-    ensures { result ≡ same one.now other.now }
-{
-    one == other
-}
 
 // In an argument of the tag, or None where the tags are too deep.
 #[tactic(auto, using(crate::proofs::Stuck::too_deep))]
@@ -50,19 +41,12 @@ fn in_argument(
         return Ok(None);
     }
     opens.push(tag)?;
-    Ok(Some(Spot::Reading(Body::Argument(place, Line::new(alloc)), opens)))
-}
-
-// Whether the label is that of collections.
-pub(crate) fn is_collection(label: &Label) -> bool
-    ensures { result ≡ same label.now collection_label }
-{
-    same_bytes(label.bytes(), b"collection")
+    Ok(Some(Spot::Reading(Body::Argument(place, OpenLine::new(alloc)), opens)))
 }
 
 // The content of a block behind these children of a tag.
 #[tactic(auto, using(crate::proofs::Stuck::first_block, crate::proofs::Stuck::other_label, crate::proofs::Stuck::later_block))]
-fn start_block(alloc: Global, label: &Label, children: &Row) -> Body
+fn start_block(alloc: Global, label: &Label, children: &Siblings) -> Body
     ensures { content_of result ≡ block_behind label.now children.now }
 {
     if !children.is_empty() {
@@ -256,32 +240,11 @@ impl OpenTag {
     }
 }
 
-impl Body {
-    // The tree of a block, or None for an argument or where it passes a limit.
-    pub(crate) fn finish_block<L: Ledger>(
-        self,
-        labels: &Labels,
-        steps: &mut Steps<L>,
-    ) -> Result<Option<Tree>, Memory>
-        ensures made { IfOk result (λ made. IsBlockTree made (content_of self)) }
-        ensures counted { IfOk result (λ made.
-            IfSome made (λ t. steps.new + content_nodes (content_of self) ≤ steps.old + nodes_of t)) }
-        ensures bounded { steps.new ≤ steps.old + content_credit (content_of self) + 1 }
-        ensures rises { steps.old ≤ steps.new }
-    {
-        match self {
-            Body::Argument(_, _) => Ok(None),
-            Body::Block(block) => block.finish(labels, steps),
-            Body::Tags(tags) => tags.finish(labels, steps),
-        }
-    }
-}
-
 // Behind `|` in an argument.
 pub(crate) fn bar_in<L: Ledger>(
     labels: &Labels,
     place: TagPlace,
-    line: Line,
+    line: OpenLine,
     tag: OpenTag,
     opens: Vec<OpenTag>,
     steps: &mut Steps<L>,
@@ -331,7 +294,7 @@ fn argument_in<L: Ledger>(
 pub(crate) fn close_in<L: Ledger>(
     labels: &Labels,
     place: TagPlace,
-    line: Line,
+    line: OpenLine,
     tag: OpenTag,
     opens: Vec<OpenTag>,
     steps: &mut Steps<L>,
@@ -402,24 +365,6 @@ fn behind_block<L: Ledger>(
             Ok(None)
         }
         Some(child) => tag.go_on(labels.alloc, place, child, opens),
-    }
-}
-
-impl TagList {
-    // The collection, or None where it passes a limit.
-    fn collection<L: Ledger>(
-        self,
-        alloc: Global,
-        steps: &mut Steps<L>,
-    ) -> Result<Option<Tree>, Memory>
-        ensures made { IfOk result (λ made.
-            IsMade made (node collection_label (forest (map tree_of_entry (tags_of self).entries)))) }
-        ensures counted { IfOk result (λ made.
-            IfSome made (λ t. steps.new + tags_nodes (tags_of self) ≤ steps.old + nodes_of t)) }
-        ensures bounded { steps.new ≤ steps.old + 1 }
-        ensures rises { steps.old ≤ steps.new }
-    {
-        make_collection(alloc, self.into_trees(alloc)?, steps)
     }
 }
 

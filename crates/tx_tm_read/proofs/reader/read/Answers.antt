@@ -10,4 +10,4 @@ returns-in-Ok-Some-clause-found g c =
 pub fault_of-requires : goal.fault_of-requires
 fault_of-requires g c =
     let none = rw c.in-Ok-None.field-0-is at c.in-Ok-None.ensures.found in
-    λ t s w. none t (spelled_is_read c.args.bytes.now t s) w
+    record { none = λ t s w. none t (spelled_is_read c.args.bytes.now t s) w }

@@ -1,4 +1,4 @@
-use Rattle.tx_tm_read.specs.Blocks.{content_of}
+use Rattle.tx_tm_content.specs.Blocks.{content_of}
 use Rattle.tx_tm_read.specs.Spots.{opens_of}
 use Rattle.tx_tm_read.proofs.PlainTagging.{tag_none, tag_some}
 use Rattle.tx_tm_read.proofs.reader.with_plain_tag.Goals as goal

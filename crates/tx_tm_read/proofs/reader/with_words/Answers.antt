@@ -1,5 +1,5 @@
 use Rattle.std.proofs.Common.{take}
-use Rattle.tx_tm_read.specs.Blocks.{content_of}
+use Rattle.tx_tm_content.specs.Blocks.{content_of}
 use Rattle.tx_tm_read.specs.Spots.{opens_of}
 use Rattle.tx_tm_read.proofs.Running.{words_text, words_none, words_some}
 use Rattle.tx_tm_read.proofs.reader.with_words.Goals as goal

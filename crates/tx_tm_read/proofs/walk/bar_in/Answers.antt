@@ -1,6 +1,6 @@
 use Rattle.std.proofs.Common.{refl, Some}
 use Rattle.tx_tm_form.specs.Machine.{with_child}
-use Rattle.tx_tm_read.specs.Nodes.{line_nodes}
+use Rattle.tx_tm_content.specs.ContentNodes.{line_nodes}
 use Rattle.tx_tm_read.specs.Spots.{open_of, opens_of}
 use Rattle.tx_tm_read.proofs.Stuck.{tag_rose}
 use Rattle.tx_tm_read.proofs.walk.bar_in.Goals as goal

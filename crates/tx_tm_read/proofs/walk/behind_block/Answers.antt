@@ -1,7 +1,7 @@
 use Rattle.std.proofs.Common.{refl}
 use Rattle.tx_tm_form.specs.Machine.{with_child}
-use Rattle.tx_tm_read.specs.Blocks.{content_of}
-use Rattle.tx_tm_read.specs.Nodes.{content_nodes}
+use Rattle.tx_tm_content.specs.Blocks.{content_of}
+use Rattle.tx_tm_content.specs.ContentNodes.{content_nodes}
 use Rattle.tx_tm_read.specs.Spots.{open_of, opens_of}
 use Rattle.tx_tm_read.proofs.Stuck.{tag_rose, block_stuck}
 use Rattle.tx_tm_read.proofs.walk.behind_block.Goals as goal

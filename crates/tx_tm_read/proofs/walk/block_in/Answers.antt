@@ -1,8 +1,8 @@
 use Rattle.std.proofs.Common.{refl}
 use Rattle.tx_tm_form.specs.Growing.{tree_of_block}
 use Rattle.tx_tm_form.specs.Machine.{with_child}
-use Rattle.tx_tm_read.specs.Blocks.{block_of}
-use Rattle.tx_tm_read.specs.Nodes.{block_nodes}
+use Rattle.tx_tm_content.specs.Blocks.{block_of}
+use Rattle.tx_tm_content.specs.ContentNodes.{block_nodes}
 use Rattle.tx_tm_read.specs.Spots.{open_of, opens_of}
 use Rattle.tx_tm_read.proofs.Stuck.{close_rose, closed_stuck}
 use Rattle.tx_tm_read.proofs.walk.block_in.Goals as goal

@@ -2,7 +2,7 @@ use Rattle.std.proofs.Common.{true, map}
 use Rattle.tx_tree.specs.WideTree.{node, forest}
 use Rattle.tx_tm_form.specs.Parts.{collection_label}
 use Rattle.tx_tm_form.specs.Growing.{tree_of_entry}
-use Rattle.tx_tm_read.specs.Blocks.{content_of, tags_of}
+use Rattle.tx_tm_content.specs.Blocks.{content_of, tags_of}
 use Rattle.tx_tm_read.specs.Spots.{opens_of}
 use Rattle.tx_tm_read.proofs.Stuck.{tag_stuck_there}
 use Rattle.tx_tm_read.proofs.walk.collection_in.Goals as goal

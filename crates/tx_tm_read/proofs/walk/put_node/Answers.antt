@@ -1,6 +1,6 @@
 use Rattle.std.proofs.Common.{false}
 use Rattle.tx_tree.specs.WideTree.{node, forest}
-use Rattle.tx_tm_read.specs.Blocks.{content_of}
+use Rattle.tx_tm_content.specs.Blocks.{content_of}
 use Rattle.tx_tm_read.specs.Spots.{opens_of}
 use Rattle.tx_tm_read.proofs.Stuck.{tag_stuck_there}
 use Rattle.tx_tm_read.proofs.walk.put_node.Goals as goal

@@ -1,8 +1,8 @@
 use Rattle.std.proofs.Common.{◌+◌}
 use Rattle.tx_tree.specs.WideTree.{nodes_of}
 use Rattle.tx_tm_form.specs.Parts.{tag}
-use Rattle.tx_tm_read.specs.Blocks.{content_of}
-use Rattle.tx_tm_read.specs.Nodes.{content_nodes}
+use Rattle.tx_tm_content.specs.Blocks.{content_of}
+use Rattle.tx_tm_content.specs.ContentNodes.{content_nodes}
 use Rattle.tx_tm_read.specs.Spots.{opens_of}
 use Rattle.tx_tm_read.proofs.Stuck.{rises}
 use Rattle.tx_tm_read.proofs.walk.put_tag.Goals as goal

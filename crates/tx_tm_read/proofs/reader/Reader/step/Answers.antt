@@ -1,6 +1,6 @@
 use Rattle.std.proofs.Common.{arith, ap}
 use Rattle.tx_tm_form.specs.Bytes.{kind_of}
-use Rattle.tx_tm_read.specs.Words.{lex_of}
+use Rattle.tx_tm_words.specs.Words.{lex_of}
 use Rattle.tx_tm_read.specs.Credits.{lexed_credit}
 use Rattle.tx_tm_read.proofs.Crediting.{lex_paid}
 use Rattle.tx_tm_read.proofs.reader.Reader.step.Goals as goal

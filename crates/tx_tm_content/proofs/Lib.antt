@@ -1,0 +1,9 @@
+pub mod Made
+pub mod Texts
+pub mod Counts
+pub mod Rowing
+pub mod Fitting
+pub mod Tallying
+pub mod Widening
+pub mod Replay
+pub mod Paying

@@ -1,0 +1,5 @@
+use Rattle.tx_tm_content.proofs.blocks.Body.with_text.Goals as goal
+
+pub returns-in-None-clause-next : goal.returns-in-None-clause-next
+returns-in-None-clause-next g c =
+    λ k. rw c.in-Argument.is (let h = rw c.in-None.is at c.in_ok-with_text-in-Argument.ensures in h k)

@@ -1,0 +1,4 @@
+pub mod Stands
+pub mod Scans
+pub mod Gauges
+pub mod Bounds

@@ -1,9 +1,0 @@
-use Rattle.std.proofs.Common.{get_or, arith}
-use Rattle.tx_tm_read.proofs.Stopping.{no_stop}
-use Rattle.tx_tm_read.proofs.runs.text_len.Goals as goal
-
-pub returns-in-Some-clause-plain : goal.returns-in-Some-clause-plain
-returns-in-Some-clause-plain c =
-    λ k n s.
-    no_stop c.in-Some.stops (get_or c.args.bytes.now k 0) c.in-Some.ensures.value
-    (c.first_stop.ensures.before k (omega arith) n) s

@@ -1,0 +1,3 @@
+pub mod LabelFronts
+pub mod Words
+pub mod Runs
