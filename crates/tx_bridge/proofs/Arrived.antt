@@ -4,7 +4,8 @@ use Rattle.std.proofs.Common.{◌∙◌, subst, arith}
 use Rattle.std.proofs.lemmas.List.{append-nil}
 use Rattle.std.proofs.lemmas.Option.{slice_get-map}
 use Rattle.std.proofs.lemmas.List.Elements.{recursion_from_All, All-from_recursion}
-use Rattle.std.specs.List.{All, AllByRecursion}
+use Rattle.std.specs.List.{All, AllByRecursion, IsDistinct}
+use Rattle.std.specs.Str.{bytes_eq}
 use Rattle.std.specs.Prelude.{Bool, true, false, ◌&&◌, ◌==◌, is_some, slice_get, if◌then◌else◌}
 use Rattle.std.specs.Option.{option_map, option_map_or}
 use Rattle.tx_tree.specs.WideTree.{WideTree}
@@ -24,11 +25,13 @@ use Rattle.tx_bridge.specs.Sound.{IsSound, Holds, AllHold, entry_of, entries_of,
 use Rattle.tx_bridge.specs.Nested.{KeptParts}
 use Rattle.tx_bridge.specs.HeldParts.{HoldsPart, StoredHolds, AllPartsHold, kept_parts}
 use Rattle.tx_walk.specs.declared.part.Part.{Part as DonePart}
-use Rattle.tx_bridge.specs.Carrying.{is_path, same_kind, same_unit, through, mods_of, Stands, AllStand, AreSameBodies}
-use Rattle.tx_bridge.specs.Slots.{Leads, AllLead, AreApart, AreMoved, AllPlaced, stays, given_from, given_all}
+use Rattle.tx_bridge.specs.Carrying.{is_path, same_kind, same_unit, through, mods_of, Leads, AllLead, Stands}
+use Rattle.tx_bridge.specs.Carrying.{AllStand, AreSameBodies}
+use Rattle.tx_bridge.specs.Slots.{AreApart, AreMoved, AllPlaced, stays, given_from, given_all}
 use Rattle.tx_bridge.specs.Slots.{fresh_bridge, paths_in, bodies_of}
 use Rattle.tx_bridge.proofs.PartsSame.{no_parts, parts_same}
 use Rattle.tx_walk.proofs.Trees.{both, same_is}
+use Rattle.tx_bridge.proofs.WithinUnit.{kept_paths}
 use Rattle.tx_bridge.proofs.Slotting.{path_is, paths_alike, some_once}
 
 -- the new unit w, where the old one of number i has given what is kept of it
@@ -116,7 +119,8 @@ one_sound true i b w same sound_b sound_w = record {
   holds = subst (Holds (wide_outcome b.kept)) (same refl) sound_b.holds;
   once = sound_b.once;
   placed = sound_w.placed;
-  parts = parts_same b.unit w.unit (wide_outcome b.kept) b.parts (same refl) sound_b.placed sound_w.placed sound_b.parts;
+  parts =
+      parts_same b.unit w.unit (wide_outcome b.kept) b.parts (same refl) sound_b.placed sound_w.placed sound_b.parts;
 }
 one_sound false i b w same sound_b sound_w = sound_w
 
@@ -358,7 +362,13 @@ stored_hold t (p ∷ ps) h = (
 
 parts_hold_each : (bs : List Bridge) → AllByRecursion IsSound bs → AllPartsHold (entries_of bs) (parts_in bs)
 parts_hold_each [] h = tt
-parts_hold_each (b ∷ bs) h = (stored_hold b.unit.tagged.tree b.parts h.0.parts.hold, parts_hold_each bs h.1)
+parts_hold_each (b ∷ bs) h = (
+  record {
+    hold = stored_hold b.unit.tagged.tree b.parts h.0.parts.hold;
+    distinct = subst (IsDistinct bytes_eq) (sym (kept_paths b.parts)) h.0.parts.distinct;
+  },
+  parts_hold_each bs h.1,
+)
 
 pub parts_hold_all : (bs : List Bridge) (kept : Kept) (pss : List KeptParts) → entries_of bs ≡ kept
     → parts_in bs ≡ pss → All IsSound bs → AllPartsHold kept pss

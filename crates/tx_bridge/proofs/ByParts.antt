@@ -1,12 +1,12 @@
 -- A unit that is evaluated by its parts.
 use Rattle.std.proofs.Common.{arith, ◌-◌}
-use Rattle.std.proofs.Common.{◌≡◌, ℕ, ◌+◌, ◌≤◌, List, [], ◌∷◌, ◌++◌, map, Option, Some, None, refl, ap, sym, ◌∙◌, subst}
+use Rattle.std.proofs.Common.{◌≡◌, ℕ, ◌+◌, ◌≤◌, List, [], ◌∷◌, map, Option, Some, None, refl, ap, sym, ◌∙◌, subst}
 use Rattle.std.proofs.lemmas.Slice.Eq.{bytes_eq-Decides}
 use Rattle.std.proofs.lemmas.List.Elements.{All-from_recursion}
 use Rattle.std.proofs.lemmas.List.Sums.{sum_by-cons}
-use Rattle.std.specs.Prelude.{Bool, true, false, is_some, ◌&&◌, if◌then◌else◌, min}
+use Rattle.std.specs.Prelude.{Bool, true, false, is_some, if◌then◌else◌, min}
 use Rattle.std.specs.Option.{option_map}
-use Rattle.std.specs.List.{All, AllByRecursion, IsDistinct, sum_by}
+use Rattle.std.specs.List.{All, AllByRecursion, IsDistinct}
 use Rattle.std.specs.FinMap.{get}
 use Rattle.std.specs.Str.{bytes_eq}
 use Rattle.tx_tree.specs.WideTree.{WideTree}
@@ -23,7 +23,7 @@ use Rattle.tx_parts.specs.Openness.{openness}
 use Rattle.tx_parts.specs.Parts.{Part, parts, part_trace, part_cost, Stored, stored}
 use Rattle.tx_parts.specs.Standing.{StandsIn}
 use Rattle.tx_walk.specs.declared.part.Part.{Part as DonePart}
-use Rattle.tx_walk.specs.Held.{Store, IsSound, fits, is_held, charge_of, charges}
+use Rattle.tx_walk.specs.Held.{Store, IsSound, fits, charge_of, charges}
 use Rattle.tx_walk.specs.Open.{is_open}
 use Rattle.tx_walk.specs.Walked.{IsTidy, kept_in, paths_of, Seen, seen, seen_in, seen_parts}
 use Rattle.tx_units.specs.declared.kinds.Unit.{Unit as DocUnit}
@@ -31,9 +31,10 @@ use Rattle.tx_view_form.specs.declared.TheConstants.{MOST_UNIT_STEPS}
 use Rattle.tx_view_form.specs.Outcomes.{Moment, allowance, outcome, charge, behind}
 use Rattle.tx_bridge.specs.Entries.{outcome_of}
 use Rattle.tx_bridge.specs.Nested.{KeptParts, kept_at, is_nested, unit_parts, parts_if_done, fresh_parts, unit_charge}
-use Rattle.tx_bridge.specs.HeldParts.{HoldsPart, PartsHold, AreItsParts, kept_part, kept_parts}
+use Rattle.tx_bridge.specs.HeldParts.{HoldsPart, PartsHold, kept_part, kept_parts}
 use Rattle.tx_bridge.specs.UnitLists.{IsPlaced}
 use Rattle.tx_walk.proofs.Trees.{both}
+use Rattle.tx_walk.proofs.Kept.{Alike, alike}
 use Rattle.tx_bridge.proofs.Used.{AllSupport, AllAllowed, charge_fits}
 
 -- ---- what a walk asks for
@@ -70,7 +71,7 @@ tidy_of t ps h = All-from_recursion IsTidy ps (tidy_by t ps h)
 
 -- ---- what it is charged
 
-same_store : (ps : List DonePart) (path : List ℕ) → kept_in ps path ≡ kept_at (kept_parts ps) path
+pub same_store : (ps : List DonePart) (path : List ℕ) → kept_in ps path ≡ kept_at (kept_parts ps) path
 same_store [] path = refl
 same_store (p ∷ ps) path = ap (λ r. if bytes_eq p.path path then Some (wide_trace p.trace) else r) (same_store ps path)
 
@@ -82,7 +83,8 @@ charges_alike s r h (p ∷ ps) =
     ∙ ap (λ n. charge_of r p + n) (charges_alike s r h ps)
     ∙ sym (sum_by-cons (charge_of r) p ps)
 
-pub same_charges : (ks : List DonePart) (ps : List Part) → charges (kept_in ks) ps ≡ charges (kept_at (kept_parts ks)) ps
+pub same_charges : (ks : List DonePart) (ps : List Part)
+    → charges (kept_in ks) ps ≡ charges (kept_at (kept_parts ks)) ps
 same_charges ks ps = charges_alike (kept_in ks) (kept_at (kept_parts ks)) (same_store ks) ps
 
 -- ---- what it answers
@@ -113,27 +115,6 @@ none_walked : (ds : List DonePart) → map seen ds ≡ [] → ds ≡ []
 none_walked [] h = refl
 none_walked (d ∷ ds) h = cc
 
-record Alike (kept : Store) (d : DonePart) (ds : List DonePart) (p : Part) (ps : List Part) : Type 0 where
-  pub path : d.path ≡ p.path
-  pub trace : Some (wide_trace d.trace) ≡ part_trace p
-  pub others : map seen ds ≡ map (seen_in kept) ps
-
-alike : (kept : Store) (d : DonePart) (ds : List DonePart) (p : Part) (ps : List Part)
-    → map seen (d ∷ ds) ≡ map (seen_in kept) (p ∷ ps) → Alike kept d ds p ps
-alike kept d ds p ps h = record {
-  path = ap (λ ss. (head (seen d) ss).path) h;
-  trace = ap (λ ss. (head (seen d) ss).trace) h;
-  others = ap tail h;
-}
-  where
-    head : Seen → List Seen → Seen
-    head s [] = s
-    head s (x ∷ xs) = x
-
-    tail : List Seen → List Seen
-    tail [] = []
-    tail (x ∷ xs) = xs
-
 holds_one : AllSupport → (t : WideTree) (d : DonePart) (p : Part) → StandsIn [] t p → d.path ≡ p.path
     → Some (wide_trace d.trace) ≡ part_trace p → IsTidy d → HoldsPart t d
 holds_one support t d p stands path trace tidy = record {
@@ -150,13 +131,14 @@ holds_each support kept t [] ps h stand tidy = tt
 holds_each support kept t (d ∷ ds) [] h stand tidy = cc
 holds_each support kept t (d ∷ ds) (p ∷ ps) h stand tidy =
     let a : Alike kept d ds p ps = alike kept d ds p ps h in (
-      holds_one support t d p stand.0 a.path a.trace tidy.0,
+      holds_one support t d p stand.0 (ap (λ (s : Seen). s.path) a.first) (ap (λ (s : Seen). s.trace) a.first) tidy.0,
       holds_each support kept t ds ps a.others stand.1 tidy.1,
     )
 
 -- laws of parts, as the calls state them
-abbrev AllStandIn : Type 0
-AllStandIn = (k c : ℕ) (path : List ℕ) (t : WideTree) (e : Before) → AllByRecursion (StandsIn path t) (parts k c path t e)
+abbrev pub AllStandIn : Type 0
+AllStandIn =
+    (k c : ℕ) (path : List ℕ) (t : WideTree) (e : Before) → AllByRecursion (StandsIn path t) (parts k c path t e)
 
 abbrev AllApart : Type 0
 AllApart = (kept : Store) (k c : ℕ) (t : WideTree) (e : Before) (done : List DonePart)
@@ -168,22 +150,23 @@ AllSameStored = (k c n : ℕ) (path : List ℕ) (t : WideTree) (e d : Before) (t
     → map stored (parts k n path t d) ≡ map stored (parts k c path t e)
 
 module _ (support : AllSupport) (stand : AllStandIn) (apart : AllApart) (same : AllSameStored) (kept : Store) (c : ℕ)
-    (e : Before) (u : DocUnit) (nested : is_nested u ≡ true) (ds : List DonePart) (tidy : AllByRecursion IsTidy ds) where
-  pub walked_hold : (o : Option WideTrace) → o ≡ evaluates MOST_LEVELS c u.tagged.tree e
-      → map seen ds ≡ seen_parts kept (parts MOST_LEVELS c [] u.tagged.tree e) o → PartsHold u o ds
-  unfolding IsDistinct
-  walked_hold None is h =
-      let none : [] ≡ ds = sym (none_walked ds h) in
-      subst (PartsHold u None) none (record { hold = tt; distinct = tt; all = tt })
-  walked_hold (Some trace) is h = record {
-    hold = holds_each support kept u.tagged.tree ds (parts MOST_LEVELS c [] u.tagged.tree e) h
-        (stand MOST_LEVELS c [] u.tagged.tree e) tidy;
-    distinct = apart kept MOST_LEVELS c u.tagged.tree e ds h;
-    all = λ n d agrees allowed.
-        ap (λ b. if b then map stored (parts MOST_LEVELS n [] u.tagged.tree d) else []) nested
-        ∙ same MOST_LEVELS c n [] u.tagged.tree e d trace (sym is) agrees allowed
-        ∙ sym (walked_parts kept ds (parts MOST_LEVELS c [] u.tagged.tree e) (Some trace) h);
-  }
+    (e : Before) (u : DocUnit) (nested : is_nested u ≡ true) (ds : List DonePart) (tidy : AllByRecursion IsTidy ds)
+  where
+    pub walked_hold : (o : Option WideTrace) → o ≡ evaluates MOST_LEVELS c u.tagged.tree e
+        → map seen ds ≡ seen_parts kept (parts MOST_LEVELS c [] u.tagged.tree e) o → PartsHold u o ds
+    unfolding IsDistinct
+    walked_hold None is h =
+        let none : [] ≡ ds = sym (none_walked ds h) in
+        subst (PartsHold u None) none (record { hold = tt; distinct = tt; all = tt })
+    walked_hold (Some trace) is h = record {
+      hold = holds_each support kept u.tagged.tree ds (parts MOST_LEVELS c [] u.tagged.tree e) h
+          (stand MOST_LEVELS c [] u.tagged.tree e) tidy;
+      distinct = apart kept MOST_LEVELS c u.tagged.tree e ds h;
+      all = λ n d agrees allowed.
+          ap (λ b. if b then map stored (parts MOST_LEVELS n [] u.tagged.tree d) else []) nested
+          ∙ same MOST_LEVELS c n [] u.tagged.tree e d trace (sym is) agrees allowed
+          ∙ sym (walked_parts kept ds (parts MOST_LEVELS c [] u.tagged.tree e) (Some trace) h);
+    }
 
 -- ---- at a moment
 
@@ -233,7 +216,8 @@ module _ (u : DocUnit) (m : Moment) (env : NameMap) (left a : ℕ)
       → charges (kept_in ks) (parts MOST_LEVELS a [] u.tagged.tree (get env)) ≡ unit_charge m u (kept_parts ks)
   charge_there ks nested =
       ap (charges (kept_in ks)) parts_there ∙ same_charges ks (unit_parts m u)
-      ∙ sym (ap (λ b. if b then charges (kept_at (kept_parts ks)) (unit_parts m u) else charge m (outcome_of m u)) nested)
+      ∙ sym (ap (λ b. if b then charges (kept_at (kept_parts ks)) (unit_parts m u) else charge m (outcome_of m u))
+      nested)
 
 -- ---- no more than the unit costs
 

@@ -91,6 +91,17 @@ none_kept : (ps : List DonePart) → kept_parts ps ≡ [] → ps ≡ []
 none_kept [] h = refl
 none_kept (p ∷ ps) h = cc
 
+-- a unit without parts is one of the program's
+bare_in : (bs : List Bridge) (i : ℕ) → slice_get (parts_in bs) i ≡ Some []
+    → (b : Bridge) × (slice_get bs i ≡ Some b) × (b.parts ≡ [])
+bare_in [] i e = cc
+bare_in (x ∷ bs) zero e = (x, refl, none_kept x.parts (same_Some (kept_parts x.parts) [] e))
+bare_in (x ∷ bs) (suc i) e = bare_in bs i e
+
+pub bare_at : (bs read : List Bridge) (pss : List KeptParts) → read ≡ bs → parts_in bs ≡ pss → (i : ℕ)
+    → slice_get pss i ≡ Some [] → (b : Bridge) × (slice_get read i ≡ Some b) × (b.parts ≡ [])
+bare_at bs read pss is had i e = bare_in read i (ap (λ ks. slice_get ks i) (ap parts_in is ∙ had) ∙ e)
+
 module _ (through : (ms : List Mod) (t : WideTree) (q : List ℕ) → CarriesThroughAll ms t q)
     (carries : (m : Mod) (t : WideTree) (q : List ℕ) → CarriesSubtree m t q) (i : ℕ) (ms : List Mod)
     (before v t : WideTree) (made : changed_by_all ms before ≡ Some v) (bs : List Bridge) (sound : All IsSound bs)

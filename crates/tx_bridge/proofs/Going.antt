@@ -11,8 +11,7 @@ use Rattle.tx_mod.specs.Moves.{carried_path}
 use Rattle.tx_mod.specs.Mods.{path_of}
 use Rattle.tx_mod.specs.Followed.{CarriesSubtree, changed_by_all, carried_by_all, tree_of}
 use Rattle.tx_mod.specs.InTurn.{cost_of}
-use Rattle.tx_bridge.specs.Carrying.{through}
-use Rattle.tx_bridge.specs.Slots.{Leads, AllLead}
+use Rattle.tx_bridge.specs.Carrying.{through, Leads, AllLead}
 
 abbrev pub Paths : Type 0
 Paths = List (Option (List ℕ))

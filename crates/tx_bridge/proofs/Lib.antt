@@ -18,3 +18,7 @@ pub mod Changing
 pub mod ChangedParts
 pub mod Going
 pub mod Listed
+pub mod Marked
+pub mod Behind
+pub mod Remaining
+pub mod KeptInPlace

@@ -1,15 +1,13 @@
 -- What is kept of parts goes with a unit.
-use Rattle.std.proofs.Common.{◌≡◌, ℕ, ◌≤◌, List, [], map, Option, Some, None, refl, ap, sym, ◌∙◌, subst}
-use Rattle.std.specs.Prelude.{Bool, true, false, ◌&&◌, is_some, if◌then◌else◌}
+use Rattle.std.proofs.Common.{◌≡◌, ℕ, List, [], map, Option, Some, None, refl, ap, sym, ◌∙◌, subst}
+use Rattle.std.specs.Prelude.{Bool, false, ◌&&◌, is_some, if◌then◌else◌}
 use Rattle.std.specs.Option.{option_map}
 use Rattle.std.specs.List.{AllByRecursion, IsDistinct}
-use Rattle.std.specs.Str.{bytes_eq}
 use Rattle.tx_tree.specs.WideTree.{WideTree}
 use Rattle.tx_origin.specs.TaggedTrees.{TaggedTree, tagged_of}
 use Rattle.tx_exec_form.specs.declared.TheConstants.{MOST_LEVELS}
 use Rattle.tx_exec_form.specs.Runs.{Before}
 use Rattle.tx_exec_form.specs.Evaluated.{WideTrace}
-use Rattle.tx_exec_form.specs.Laws.{Agrees}
 use Rattle.tx_parts.specs.Openness.{openness}
 use Rattle.tx_parts.specs.Parts.{parts, stored}
 use Rattle.tx_walk.specs.declared.part.Part.{Part as DonePart}

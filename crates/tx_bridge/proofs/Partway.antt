@@ -18,10 +18,11 @@ use Rattle.tx_units.specs.declared.kinds.Unit.{Unit as DocUnit}
 use Rattle.tx_bridge.specs.declared.bridge.Bridge.{Bridge}
 use Rattle.tx_bridge.specs.Entries.{Entry, units_of, fresh_from, outcome_of}
 use Rattle.tx_bridge.specs.Reached.{fits, reached_from}
-use Rattle.tx_bridge.specs.Nested.{KeptParts, fresh_parts, fresh_parts_from, charge_of, charges_from}
-use Rattle.tx_bridge.specs.HeldParts.{kept_parts}
+use Rattle.tx_bridge.specs.Nested.{KeptParts, fresh_parts, fresh_parts_from, part_flags, part_flags_from}
+use Rattle.tx_bridge.specs.Nested.{charge_of, charges_from}
+use Rattle.tx_bridge.specs.HeldParts.{kept_parts, flags_of_parts}
 use Rattle.tx_bridge.specs.Settled.{AgreesWith, AreSettled}
-use Rattle.tx_bridge.specs.Sound.{IsSound, entry_of, entries_of, parts_in, flags_of, sources_in}
+use Rattle.tx_bridge.specs.Sound.{IsSound, entry_of, entries_of, parts_in, part_flags_in, flags_of, sources_in}
 
 abbrev pub units_in : List Bridge → List DocUnit
 units_in bs = units_of (entries_of bs)
@@ -31,8 +32,8 @@ abbrev pub Stays : List Bridge → List Bridge → Type 0
 Stays old now = (k : ℕ) → slice_get (flags_of now) k ≡ Some false
     → slice_get (entries_of now) k ≡ slice_get (entries_of old) k
 
--- Behind i units, at the moment m, with these charges. What is done, and what is left from here, are all. Where the flag
--- is set, what is left settles from what names have.
+-- Behind i units, at the moment m, with these charges. What is done, and what is left from here, are all. Where the
+-- flag is set, what is left settles from what names have.
 pub record Partway (old now : List Bridge) (i : ℕ) (m : Moment) (flag : Bool) (before after spent : ℕ) : Type 0 where
   pub paid : after ≡ before + spent
   pub room : spent + m.left ≤ MOST_VIEW_STEPS
@@ -40,6 +41,8 @@ pub record Partway (old now : List Bridge) (i : ℕ) (m : Moment) (flag : Bool) 
   pub fresh : entries_of (take i now) ++ fresh_from m (units_in (drop i old)) ≡ fresh_from beginning (units_in old)
   pub parts : parts_in (take i now) ++ fresh_parts_from m (units_in (drop i old))
       ≡ fresh_parts_from beginning (units_in old)
+  pub marks : part_flags_in (take i now) ++ part_flags_from m (entries_of (drop i old)) (parts_in (drop i old))
+      ≡ part_flags_from beginning (entries_of old) (parts_in old)
   pub rest : drop i now ≡ drop i old
   pub flags : flags_of (take i now) ++ reached_from m (entries_of (drop i old))
       ≡ reached_from beginning (entries_of old)
@@ -58,6 +61,7 @@ begun old m flag before sound settled start = record {
   settled = λ e. subst (λ (n : Moment). AreSettled n.env (entries_of old)) (sym start) (settled e);
   fresh = ap (λ n. fresh_from n (units_in old)) start;
   parts = ap (λ n. fresh_parts_from n (units_in old)) start;
+  marks = ap (λ n. part_flags_from n (entries_of old) (parts_in old)) start;
   rest = refl;
   flags = ap (λ n. reached_from n (entries_of old)) start;
   steps = ap (λ n. before + charges_from n (entries_of old) (parts_in old)) start;
@@ -194,10 +198,29 @@ module _ (old now : List Bridge) (i : ℕ) (m : Moment) (flag : Bool) (before af
       ∙ ap (λ bs. parts_in (take i now) ++ fresh_parts_from m (units_in bs)) (sym ahead)
       ∙ p.parts
 
+  pub marks_next : (y : Bridge) → flags_of_parts y.parts
+      ≡ part_flags m (slice_index_or now i d).unit (kept_parts (slice_index_or now i d).parts)
+      → part_flags_in (take (i + 1) (slice_set now i y))
+      ++ part_flags_from (behind m (outcome_of m (slice_index_or now i d).unit)) (entries_of (drop (i + 1) old))
+      (parts_in (drop (i + 1) old))
+      ≡ part_flags_from beginning (entries_of old) (parts_in old)
+  unfolding b
+  marks_next y mark =
+      let rest : List (List Bool) =
+      part_flags_from (behind m (outcome_of m b.unit)) (entries_of (drop (i + 1) old)) (parts_in (drop (i + 1) old)) in
+      ap (λ bs. part_flags_in bs ++ rest) (more_taken y)
+      ∙ ap (λ fs. fs ++ rest) (map-append (λ (w : Bridge). flags_of_parts w.parts) (take i now) (y ∷ []))
+      ∙ append_assoc (part_flags_in (take i now)) (flags_of_parts y.parts ∷ []) rest
+      ∙ ap (λ f. part_flags_in (take i now) ++ f ∷ rest) mark
+      ∙ ap (λ bs. part_flags_in (take i now) ++ part_flags_from m (entries_of bs) (parts_in bs)) (sym ahead)
+      ∙ p.marks
+
   pub rest_next : (y : Bridge) → drop (i + 1) (slice_set now i y) ≡ drop (i + 1) old
   rest_next y = drop-set-lt (i + 1) now i y (omega arith) ∙ sym others
 
   pub next : (y : Bridge) (m1 : Moment) (flag1 : Bool) (after1 charge : ℕ) → IsBrought (slice_index_or now i d) y m
+      → flags_of_parts y.parts
+      ≡ part_flags m (slice_index_or now i d).unit (kept_parts (slice_index_or now i d).parts)
       → y.renewed ≡ not (fits m (wide_outcome (slice_index_or now i d).kept))
       → m1 ≡ behind m (outcome_of m (slice_index_or now i d).unit)
       → charge ≡ charge_of m (entry_of (slice_index_or now i d)) (kept_parts (slice_index_or now i d).parts)
@@ -209,7 +232,7 @@ module _ (old now : List Bridge) (i : ℕ) (m : Moment) (flag : Bool) (before af
       → (flag ≡ true) × (m1.env ≡ env_behind m.env (wide_outcome (slice_index_or now i d).kept)))
       → Partway old (slice_set now i y) (i + 1) m1 flag1 before after1 (spent + charge)
   unfolding b
-  next y m1 flag1 after1 charge brought is_r is_m is_charge is_after most sound kept source goes =
+  next y m1 flag1 after1 charge brought mark is_r is_m is_charge is_after most sound kept source goes =
       record {
         paid = let was : after ≡ before + spent = p.paid in omega (arith, was, is_after);
         room = let had : spent + m.left ≤ MOST_VIEW_STEPS = p.room in omega (arith, had, most);
@@ -223,6 +246,10 @@ module _ (old now : List Bridge) (i : ℕ) (m : Moment) (flag : Bool) (before af
             ap (λ n. parts_in (take (i + 1) (slice_set now i y)) ++ fresh_parts_from n (units_in (drop (i + 1) old)))
             is_m
             ∙ parts_next y brought;
+        marks =
+            ap (λ n. part_flags_in (take (i + 1) (slice_set now i y))
+            ++ part_flags_from n (entries_of (drop (i + 1) old)) (parts_in (drop (i + 1) old))) is_m
+            ∙ marks_next y mark;
         rest = rest_next y;
         flags =
             ap (λ bs. flags_of bs ++ reached_from m1 (entries_of (drop (i + 1) old))) (more_taken y)
@@ -304,7 +331,8 @@ parts_stopped old now i m fresh rest inside =
 
 -- the refresh of unit i failed, before or behind its evaluation
 pub stops : (old now : List Bridge) (i : ℕ) (m : Moment) (flag : Bool) (before after spent : ℕ)
-    → Partway old now i m flag before after spent → i < length now → (d y : Bridge) → y.unit ≡ (slice_index_or now i d).unit
+    → Partway old now i m flag before after spent → i < length now → (d y : Bridge)
+    → y.unit ≡ (slice_index_or now i d).unit
     → (y ≡ slice_index_or now i d) ⊎ (wide_outcome y.kept ≡ outcome_of m (slice_index_or now i d).unit)
     × (kept_parts y.parts ≡ fresh_parts m (slice_index_or now i d).unit)
     → Stops old (slice_set now i y)
@@ -332,6 +360,7 @@ pub ended : (old now : List Bridge) (i : ℕ) (m : Moment) (flag : Bool) (before
     → (entries_of now ≡ fresh_from beginning (units_in old)) × (flags_of now ≡ reached_from beginning (entries_of old))
     × (spent ≡ charges_from beginning (entries_of old) (parts_in old))
     × (parts_in now ≡ fresh_parts_from beginning (units_in old))
+    × (part_flags_in now ≡ part_flags_from beginning (entries_of old) (parts_in old))
 ended old now i m flag before after spent p past =
     let whole : take i now ≡ now = grind (arith, common_steps, past) in
     let none : drop i old ≡ [] = sym p.rest ∙ drop_all i now past in
@@ -347,6 +376,9 @@ ended old now i m flag before after spent p past =
       omega (arith, left, sum, paid),
       sym (append-nil (parts_in now)) ∙ ap (λ bs. parts_in bs ++ []) (sym whole)
           ∙ ap (λ bs. parts_in (take i now) ++ fresh_parts_from m (units_in bs)) (sym none) ∙ p.parts,
+      sym (append-nil (part_flags_in now)) ∙ ap (λ bs. part_flags_in bs ++ []) (sym whole)
+          ∙ ap (λ bs. part_flags_in (take i now) ++ part_flags_from m (entries_of bs) (parts_in bs)) (sym none)
+          ∙ p.marks,
     )
 
 pub any_err : {A E P : Type 0} (r : Result A E) → P → OnErr r P

@@ -19,10 +19,10 @@ use Rattle.tx_bridge.specs.Nested.{KeptParts}
 use Rattle.tx_bridge.specs.HeldParts.{kept_parts}
 use Rattle.tx_bridge.specs.CarryingParts.{parts_from, carried_parts}
 use Rattle.tx_bridge.specs.UnitLists.{AreUnits}
-use Rattle.tx_bridge.specs.Carrying.{is_path, same_unit, through, places_after, number_at, same_number, source}
+use Rattle.tx_bridge.specs.Carrying.{is_path, same_unit, through, unit_places_after, number_at, same_number, source}
 use Rattle.tx_bridge.specs.Carrying.{sources_from, sources, had, taken_from}
-use Rattle.tx_bridge.specs.Carrying.{carried, mods_of, AllStand, AreSameBodies}
-use Rattle.tx_bridge.specs.Slots.{AllLead, AreMoved, stays, given_from, given_all, fresh_bridge, paths_in}
+use Rattle.tx_bridge.specs.Carrying.{carried, mods_of, AllLead, AllStand, AreSameBodies}
+use Rattle.tx_bridge.specs.Slots.{AreMoved, stays, given_from, given_all, fresh_bridge, paths_in}
 use Rattle.tx_bridge.specs.Slots.{bodies_of, given}
 use Rattle.tx_bridge.proofs.Arrived.{with_given, units_bodies, given_bodies}
 use Rattle.tx_bridge.proofs.Arrived.{carried_sound, lead_all, moved_all, sound_placed, fresh_apart, fresh_placed}
@@ -240,7 +240,7 @@ parts_found bs n k b e at =
 abbrev with_trace : DocUnit → Option WideTrace → Entry
 with_trace u o = record { unit = u; trace = o }
 
-heads : {A : Type 0} (x y : A) (xs ys : List A) → x ∷ xs ≡ y ∷ ys → (x ≡ y) × (xs ≡ ys)
+pub heads : {A : Type 0} (x y : A) (xs ys : List A) → x ∷ xs ≡ y ∷ ys → (x ≡ y) × (xs ≡ ys)
 heads x y xs ys e = (cc, cc)
 
 entries_taken : (traces : List (Option WideTrace)) (ws : List Bridge) (ss : List (Option ℕ)) (vs : List DocUnit)
@@ -260,7 +260,7 @@ entries_taken traces (w ∷ ws) (s ∷ ss) (v ∷ vs) e f =
 -- ---- where the old ones stand
 
 places_same : (ms : List Mod) (t : WideTree) (bs : List Bridge)
-    → map (through ms t) (paths_in bs) ≡ places_after ms t (bodies_of bs)
+    → map (through ms t) (paths_in bs) ≡ unit_places_after ms t (bodies_of bs)
 places_same ms t [] = refl
 places_same ms t (b ∷ bs) = ap (λ qs. through ms t b.unit.path ∷ qs) (places_same ms t bs)
 
@@ -285,7 +285,8 @@ module _ (ms : List Mod) (t : WideTree) (old : List Bridge) (us : List DocUnit) 
       ∙ ap (map (had (traces_in old))) given_sources
 
   pub given_parts : parts_in (given ms t old us) ≡ map (parts_from (parts_in old)) (sources_in (given ms t old us))
-  given_parts = found_all parts_in_one (parts_from (parts_in old)) (λ u. refl) (λ i b w. refl) ms t old us (parts_found old)
+  given_parts =
+      found_all parts_in_one (parts_from (parts_in old)) (λ u. refl) (λ i b w. refl) ms t old us (parts_found old)
 
   pub given_carried : entries_of (given ms t old us) ≡ taken_from (traces_in old) (sources ms t (bodies_of old) us) us
   given_carried =

@@ -22,11 +22,10 @@ use Rattle.tx_parts.specs.Composed.{alone}
 use Rattle.tx_parts.specs.Parts.{Stored}
 use Rattle.tx_walk.specs.declared.part.Part.{Part as DonePart}
 use Rattle.tx_walk.specs.Walked.{IsTidy, paths_of}
-use Rattle.tx_bridge.specs.Carrying.{through}
+use Rattle.tx_bridge.specs.Carrying.{through, AllLead}
 use Rattle.tx_bridge.specs.CarryingParts.{part_at, and_part, parts_at, places_below, parts_behind}
 use Rattle.tx_bridge.specs.HeldParts.{HoldsPart, kept_part, kept_parts}
 use Rattle.tx_bridge.specs.Nested.{KeptParts}
-use Rattle.tx_bridge.specs.Slots.{AllLead}
 use Rattle.tx_bridge.proofs.Inside.{rest_is, rest_own, no_rest, begins_is}
 use Rattle.tx_bridge.proofs.Injective.{carried_once}
 
@@ -58,20 +57,20 @@ hold_done t (p ∷ ps) h once = (
   hold_done t ps h.1 once.1,
 )
 
-kept_paths : (ps : List DonePart) → part_paths (kept_parts ps) ≡ paths_of ps
+pub kept_paths : (ps : List DonePart) → part_paths (kept_parts ps) ≡ paths_of ps
 kept_paths [] = refl
 kept_paths (p ∷ ps) = ap (λ qs. p.path ∷ qs) (kept_paths ps)
 
-clash : false ≡ true → ⊥
+pub clash : false ≡ true → ⊥
 clash e = cc
 
 -- ---- one part more
 
-abbrev at_path : Stored → List ℕ → Stored
+abbrev pub at_path : Stored → List ℕ → Stored
 at_path k r = record { path = r; trace = k.trace }
 
 -- what holds without the part and with it where it stands holds
-by_place : (Q : KeptParts → Type 0) (p : List ℕ) (place : Option (List ℕ)) (k : Stored) (ks : KeptParts) → Q ks
+pub by_place : (Q : KeptParts → Type 0) (p : List ℕ) (place : Option (List ℕ)) (k : Stored) (ks : KeptParts) → Q ks
     → ((r : List ℕ) → place ≡ Some (p ++ r) → Q (at_path k r ∷ ks)) → Q (and_part (part_at p place k) ks)
 by_place Q p None k ks none some = none
 by_place Q p (Some q) k ks none some = by_rest (rest_behind p q) refl

@@ -13,11 +13,12 @@ use Rattle.tx_parts.specs.Parts.{Stored}
 use Rattle.tx_bridge.specs.Entries.{Entry, Kept}
 use Rattle.tx_bridge.specs.Nested.{KeptParts}
 
--- what is kept of the units and of their parts, of each unit whether it was reached when the last refresh began, and
--- which unit it was before the last edit
+-- What is kept of the units and of their parts, of each unit whether it was reached when the last refresh began, and
+-- which unit it was before the last edit. Of each part there is a flag, which the last refresh left.
 pub record Bridged : Type 0 where
   pub kept : Kept
   pub parts : List KeptParts
+  pub part_flags : List (List Bool)
   pub renewed : List Bool
   pub sources : List (Option ℕ)
 
@@ -48,8 +49,15 @@ coded_parts = coded_list (coded_list coded_Stored)
 
 abbrev pub coded_Bridged : Coded Bridged
 coded_Bridged =
-    code_by (Kept × (List KeptParts × (List Bool × List (Option ℕ))))
+    code_by (Kept × (List KeptParts × (List (List Bool) × (List Bool × List (Option ℕ)))))
     (coded× (coded_list coded_Entry)
-    (coded× coded_parts (coded× (coded_list coded_bool) (coded_list (coded_option coded_ℕ)))))
-    (λ b. (b.kept, (b.parts, (b.renewed, b.sources))))
-    (λ p. record { kept = p.0; parts = p.1.0; renewed = p.1.1.0; sources = p.1.1.1 }) (λ _. refl)
+    (coded× coded_parts
+    (coded× (coded_list (coded_list coded_bool)) (coded× (coded_list coded_bool) (coded_list (coded_option coded_ℕ))))))
+    (λ b. (b.kept, (b.parts, (b.part_flags, (b.renewed, b.sources)))))
+    (λ p. record {
+      kept = p.0;
+      parts = p.1.0;
+      part_flags = p.1.1.0;
+      renewed = p.1.1.1.0;
+      sources = p.1.1.1.1;
+    }) (λ _. refl)

@@ -2,7 +2,7 @@
 use Rattle.std.specs.Prelude.{◌≡◌, ℕ, zero, suc, ◌+◌, Bool, true, false, ◌&&◌, ◌==◌, if◌then◌else◌, List, [], ◌∷◌, map}
 use Rattle.std.specs.Prelude.{Option, Some, None, option_and_then, slice_get}
 use Rattle.std.specs.Option.{option_map_or}
-use Rattle.std.specs.List.{AllByRecursion}
+use Rattle.std.specs.List.{All, AllByRecursion}
 use Rattle.std.specs.Str.{bytes_eq}
 use Rattle.tx_tree.specs.WideTree.{WideTree}
 use Rattle.tx_tree.specs.Paths.{subtree}
@@ -22,8 +22,8 @@ abbrev pub through : List Mod → WideTree → Option (List ℕ) → Option (Lis
 through ms t path = option_and_then (carried_by_all ms t) path
 
 -- where each unit stands after the modifications: a unit without a path, or whose tree doesn't stay, nowhere
-abbrev pub places_after : List Mod → WideTree → List DocUnit → List (Option (List ℕ))
-places_after ms t us = map (λ u. through ms t u.path) us
+abbrev pub unit_places_after : List Mod → WideTree → List DocUnit → List (Option (List ℕ))
+unit_places_after ms t us = map (λ u. through ms t u.path) us
 
 abbrev pub is_path : List ℕ → Option (List ℕ) → Bool
 is_path p None = false
@@ -64,7 +64,7 @@ sources_from places us j [] = []
 sources_from places us j (v ∷ vs) = source places us j v ∷ sources_from places us (j + 1) vs
 
 abbrev pub sources : List Mod → WideTree → List DocUnit → List DocUnit → List (Option ℕ)
-sources ms t us vs = sources_from (places_after ms t us) us 0 vs
+sources ms t us vs = sources_from (unit_places_after ms t us) us 0 vs
 
 -- what a new unit has, where it is the old one of this number, and old ones have these
 abbrev pub had : {A : Type 0} → List (Option A) → Option ℕ → Option A
@@ -86,6 +86,14 @@ mods_of (suc buffer) ms = []
 
 -- ---- what a call asks
 
+-- the path, if there is one, leads in the tree
+abbrev pub Leads : WideTree → Option (List ℕ) → Type 0
+Leads t None = Unit {0}
+Leads t (Some p) = (x : WideTree) × (subtree t p ≡ Some x)
+
+abbrev pub AllLead : WideTree → List (Option (List ℕ)) → Type 0
+AllLead t ps = All (Leads t) ps
+
 -- the tree has the unit's tree at its path
 abbrev pub Stands : WideTree → DocUnit → Type 0
 Stands t u = (p : List ℕ) → u.path ≡ Some p → subtree t p ≡ Some u.tagged.tree
@@ -93,7 +101,7 @@ Stands t u = (p : List ℕ) → u.path ≡ Some p → subtree t p ≡ Some u.tag
 abbrev pub AllStand : WideTree → List DocUnit → Type 0
 AllStand t us = AllByRecursion (Stands t) us
 
--- the tree u has x at the path of the unit of this number
+-- the tree u has the tree x at the path that the unit of number i has, if it has one
 abbrev pub StandsNow : ℕ → WideTree → WideTree → List DocUnit → Type 0
 StandsNow i x u us = (v : DocUnit) (p : List ℕ) → slice_get us i ≡ Some v → v.path ≡ Some p → subtree u p ≡ Some x
 

@@ -1,18 +1,22 @@
 -- What is kept of parts stays with them through an edit.
-use Rattle.std.specs.Prelude.{ℕ, zero, suc, List, [], ◌∷◌, ◌++◌, map, Option, Some, None}
+use Rattle.std.specs.Prelude.{◌≡◌, ℕ, zero, suc, List, [], ◌∷◌, ◌++◌, map, Option, Some, None}
 use Rattle.std.specs.Prelude.{option_and_then, option_map, slice_get}
 use Rattle.std.specs.Option.{option_map_or}
+use Rattle.std.specs.List.{AllByRecursion}
 use Rattle.tx_tree.specs.WideTree.{WideTree}
 use Rattle.tx_mod.specs.declared.mods.Mod.{Mod}
-use Rattle.tx_mod.specs.Followed.{carried_by_all}
+use Rattle.tx_mod.specs.Followed.{changed_by_all, carried_by_all}
 use Rattle.tx_mod.specs.Moves.{rest_behind}
+use Rattle.tx_exec_form.specs.Evaluated.{WideTrace}
 use Rattle.tx_units.specs.declared.kinds.Unit.{Unit as DocUnit}
 use Rattle.tx_parts.specs.Parts.{Stored}
-use Rattle.tx_bridge.specs.Nested.{KeptParts}
+use Rattle.tx_bridge.specs.Nested.{KeptParts, kept_at}
+use Rattle.tx_bridge.specs.Carrying.{Leads}
 
 -- ---- in the one unit that changes
 
--- where the part of the unit at p stands afterwards, if it stands there
+-- What is kept of a part of the unit at p, which is at this place in the document afterwards: with its path from p on,
+-- and nothing where it is no longer below p.
 abbrev pub part_at : List ℕ → Option (List ℕ) → Stored → Option Stored
 part_at p place k = option_map (λ r. record { path = r; trace = k.trace }) (option_and_then (rest_behind p) place)
 
@@ -43,6 +47,13 @@ parts_but ms t i [] pss = []
 parts_but ms t i (u ∷ us) [] = []
 parts_but ms t zero (u ∷ us) (ks ∷ pss) = parts_within ms t u ks ∷ pss
 parts_but ms t (suc i) (u ∷ us) (ks ∷ pss) = ks ∷ parts_but ms t i us pss
+
+-- Where the modifications apply, and the parts that are kept of the unit at p stand in the tree: what is kept at a path
+-- whose place in the tree stays is kept at it afterwards.
+abbrev pub StaysKept : List Mod → WideTree → List ℕ → KeptParts → Type 0
+StaysKept ms t p ks = (u : WideTree) (q : List ℕ) (trace : WideTrace) → changed_by_all ms t ≡ Some u
+    → AllByRecursion (λ k. Leads t (Some (p ++ k.path))) ks → carried_by_all ms t (p ++ q) ≡ Some (p ++ q)
+    → kept_at ks q ≡ Some trace → kept_at (parts_behind ms t p ks) q ≡ Some trace
 
 -- ---- in the units that stay
 

@@ -32,3 +32,8 @@ abbrev pub fresh_from : Moment → List DocUnit → Kept
 fresh_from m [] = []
 fresh_from m (u ∷ us) =
     record { unit = u; trace = outcome_of m u } ∷ fresh_from (behind m (outcome_of m u)) us
+
+-- the moment behind all of these units, of which the first is evaluated at this moment
+abbrev pub behind_all : Moment → List DocUnit → Moment
+behind_all m [] = m
+behind_all m (u ∷ us) = behind_all (behind m (outcome_of m u)) us

@@ -1,5 +1,5 @@
 -- What is true of what is kept of parts.
-use Rattle.std.specs.Prelude.{◌≡◌, ◌≤◌, ℕ, if◌then◌else◌, List, [], ◌∷◌, map, Option, Some, None}
+use Rattle.std.specs.Prelude.{◌≡◌, ◌≤◌, ℕ, Bool, false, if◌then◌else◌, List, [], ◌∷◌, map, Option, Some, None}
 use Rattle.std.specs.List.{AllByRecursion, IsDistinct}
 use Rattle.std.specs.Str.{bytes_eq}
 use Rattle.tx_tree.specs.WideTree.{WideTree}
@@ -22,6 +22,16 @@ kept_part p = record { path = p.path; trace = Some (wide_trace p.trace) }
 
 abbrev pub kept_parts : List DonePart → KeptParts
 kept_parts ps = map kept_part ps
+
+abbrev pub flags_of_parts : List DonePart → List Bool
+flags_of_parts ps = map (λ p. p.renewed) ps
+
+-- the parts, none of which is told as evaluated
+abbrev pub unmarked_part : DonePart → DonePart
+unmarked_part p = record p { renewed = false }
+
+abbrev pub unmarked : List DonePart → List DonePart
+unmarked ps = map unmarked_part ps
 
 -- the part's path leads in the tree, and its trace supports what stands there
 pub record HoldsPart (t : WideTree) (p : DonePart) : Type 0 where
@@ -53,9 +63,14 @@ pub record StoredHolds (t : WideTree) (s : Stored) : Type 0 where
   pub leads : subtree t s.path ≡ Some there
   pub supports : Supports trace (alone there)
 
--- what is kept of the parts of each unit supports what stands there in the unit's tree
+-- so it is of each part of a unit with this tree, and no two have one path
+pub record StoredAllHold (t : WideTree) (ks : KeptParts) : Type 0 where
+  pub hold : AllByRecursion (StoredHolds t) ks
+  pub distinct : IsDistinct bytes_eq (map (λ k. k.path) ks)
+
+-- so it is of the parts of each unit
 abbrev pub AllPartsHold : Kept → List KeptParts → Type 0
 AllPartsHold [] [] = Unit {0}
 AllPartsHold [] (ks ∷ pss) = ⊥
 AllPartsHold (e ∷ es) [] = ⊥
-AllPartsHold (e ∷ es) (ks ∷ pss) = AllByRecursion (StoredHolds e.unit.tagged.tree) ks × AllPartsHold es pss
+AllPartsHold (e ∷ es) (ks ∷ pss) = StoredAllHold e.unit.tagged.tree ks × AllPartsHold es pss

@@ -9,7 +9,7 @@ use Rattle.tx_mod.specs.declared.mods.Mod.TheVariants.{Assign, Insert, Remove, S
 use Rattle.tx_mod.specs.declared.mods.Mod.TheVariants.{AssignNode, InsertNode, RemoveNode}
 use Rattle.tx_units.specs.declared.kinds.Unit.{Unit as DocUnit}
 
--- the modification puts a subtree into a node
+-- the modification puts the subtree at its path into a node
 abbrev pub wraps : Mod → Bool
 wraps (Assign p x) = false
 wraps (Insert p i x) = false
@@ -24,10 +24,12 @@ wraps (RemoveNode p i) = false
 abbrev pub begins : List ℕ → List ℕ → Bool
 begins front path = starts_with nat_eq path front
 
--- the first modification, if it is inside the subtree at the path, leaves that subtree nowhere
+-- Whether a modification inside the subtree at the path leaves that subtree nowhere. One that puts this very subtree
+-- into a node doesn't.
 abbrev pub leaves_nowhere : List ℕ → Mod → Bool
 leaves_nowhere path m = not (wraps m) || nat_lt (length path) (length (path_of m))
 
+-- there is a first modification, and it does, if it is inside
 abbrev pub is_gone : List ℕ → List Mod → Bool
 is_gone path ms = option_map_or (leaves_nowhere path) (slice_get ms 0) false
 
@@ -35,18 +37,19 @@ is_gone path ms = option_map_or (leaves_nowhere path) (slice_get ms 0) false
 abbrev pub are_within : List ℕ → List Mod → Bool
 are_within path ms = list_all (λ m. begins path (path_of m)) ms
 
--- all modifications are inside the unit's tree, and leave it nowhere
+-- the unit has a path, all modifications are inside its tree, and there is a first one, which leaves it nowhere
 abbrev pub is_changed : List Mod → DocUnit → Bool
 is_changed ms u = option_map_or (λ path. is_gone path ms && are_within path ms) u.path false
 
--- The modifications of the document are all inside the paragraph of number i, which they leave nowhere.
+-- The edit is one of the document, buffer 0. All modifications are inside the paragraph of number i, and there is a
+-- first one, which leaves it nowhere.
 pub record IsOneChanged (i buffer : ℕ) (ms : List Mod) (us : List DocUnit) : Type 0 where
   pub document : buffer ≡ 0
   pub unit : DocUnit
   pub there : slice_get us i ≡ Some unit
   pub changed : is_changed ms unit ≡ true
 
--- there is no such paragraph
+-- there is no such paragraph, as none is where another buffer is edited
 abbrev pub NoneChanged : ℕ → List Mod → List DocUnit → Type 0
 NoneChanged buffer ms us = buffer ≡ 0 → (i : ℕ) (u : DocUnit) → slice_get us i ≡ Some u → is_changed ms u ≡ false
 

@@ -2,7 +2,6 @@ pub mod Moments
 pub mod Entries
 pub mod Reached
 pub mod Nested
-pub mod Parts
 pub mod HeldParts
 pub mod Settled
 pub mod Sound

@@ -1,11 +1,11 @@
 -- What crates above cite by name. They don't open these definitions.
-use Rattle.std.specs.Prelude.{ℕ, List, [], map, Option}
+use Rattle.std.specs.Prelude.{ℕ, Bool, List, [], map, Option}
 use Rattle.tx_tree.specs.WideTree.{WideTree}
 use Rattle.tx_mod.specs.declared.mods.Mod.{Mod}
 use Rattle.tx_units.specs.declared.kinds.Unit.{Unit as DocUnit}
 use Rattle.tx_view_form.specs.Outcomes.{beginning}
 use Rattle.tx_bridge.specs.Entries.{Kept, units_of, nothing_kept, fresh_from}
-use Rattle.tx_bridge.specs.Nested.{KeptParts, fresh_parts_from, charges_from}
+use Rattle.tx_bridge.specs.Nested.{KeptParts, fresh_parts_from, part_flags_from, charges_from}
 use Rattle.tx_bridge.specs.Carrying.{carried, sources, mods_of}
 use Rattle.tx_bridge.specs.CarryingParts.{carried_parts, parts_but}
 
@@ -24,6 +24,10 @@ Fresh kept = fresh_from beginning (units_of kept)
 -- what evaluating from nothing leaves of the parts of these units
 unfoldable pub FreshParts : Kept → List KeptParts
 FreshParts kept = fresh_parts_from beginning (units_of kept)
+
+-- of each part of the units whether nothing that fits is kept at its path
+unfoldable pub PartFlags : Kept → List KeptParts → List (List Bool)
+PartFlags kept parts = part_flags_from beginning kept parts
 
 -- the charges of the units that are reached
 unfoldable pub Charge : Kept → List KeptParts → ℕ

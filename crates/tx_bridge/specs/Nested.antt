@@ -1,13 +1,13 @@
 -- Units that are evaluated by their parts, and what is kept of these.
-use Rattle.std.specs.Prelude.{ℕ, ◌+◌, Bool, ◌&&◌, is_some, if◌then◌else◌, List, [], ◌∷◌, map}
-use Rattle.std.specs.Prelude.{Option, Some, None}
+use Rattle.std.specs.Prelude.{ℕ, ◌+◌, Bool, not, ◌&&◌, is_some, if◌then◌else◌, List, [], ◌∷◌, map}
+use Rattle.std.specs.Prelude.{◌≡◌, false, Option, Some, None, slice_get}
 use Rattle.std.specs.FinMap.{get}
 use Rattle.std.specs.Str.{bytes_eq}
 use Rattle.tx_exec_form.specs.declared.TheConstants.{MOST_LEVELS}
 use Rattle.tx_exec_form.specs.Evaluated.{WideTrace}
 use Rattle.tx_parts.specs.Openness.{openness}
 use Rattle.tx_parts.specs.Parts.{Part, parts, Stored, stored}
-use Rattle.tx_walk.specs.Held.{Store, charges}
+use Rattle.tx_walk.specs.Held.{Store, is_held, charges}
 use Rattle.tx_walk.specs.Open.{is_open}
 use Rattle.tx_units.specs.declared.kinds.Unit.{Unit as DocUnit}
 use Rattle.tx_view_form.specs.Outcomes.{Moment, allowance, charge, behind}
@@ -49,6 +49,30 @@ fresh_parts m u = if is_nested u then parts_if_done (outcome_of m u) (unit_parts
 abbrev pub fresh_parts_from : Moment → List DocUnit → List KeptParts
 fresh_parts_from m [] = []
 fresh_parts_from m (u ∷ us) = fresh_parts m u ∷ fresh_parts_from (behind m (outcome_of m u)) us
+
+-- ---- which parts are evaluated anew
+
+-- of each part whether nothing that fits is kept at its path, and nothing where the unit is over
+abbrev pub flags_if_done : Option WideTrace → Store → List Part → List Bool
+flags_if_done None kept ps = []
+flags_if_done (Some trace) kept ps = map (λ p. not (is_held kept p)) ps
+
+-- so of the parts of the unit, which is evaluated at this moment, where these are kept
+abbrev pub part_flags : Moment → DocUnit → KeptParts → List Bool
+part_flags m u ks = if is_nested u then flags_if_done (outcome_of m u) (kept_at ks) (unit_parts m u) else []
+
+-- of each unit, the first at this moment and each other one behind those before it
+abbrev pub part_flags_from : Moment → Kept → List KeptParts → List (List Bool)
+part_flags_from m [] pss = []
+part_flags_from m (e ∷ es) [] = []
+part_flags_from m (e ∷ es) (ks ∷ pss) =
+    part_flags m e.unit ks ∷ part_flags_from (behind m (outcome_of m e.unit)) es pss
+
+-- What is kept now of a part whose flag is false is what was kept at its path.
+abbrev pub PartsStay : List KeptParts → List KeptParts → List (List Bool) → Type 0
+PartsStay olds news flags = (i k : ℕ) (old new : KeptParts) (fs : List Bool) (s : Stored) → slice_get olds i ≡ Some old
+    → slice_get news i ≡ Some new → slice_get flags i ≡ Some fs → slice_get new k ≡ Some s
+    → slice_get fs k ≡ Some false → kept_at old s.path ≡ s.trace
 
 -- ---- what evaluating again costs
 

@@ -1,10 +1,8 @@
 -- Which new unit an old one is. Private clauses cite these.
-use Rattle.std.specs.Prelude.{◌≡◌, ℕ, ◌+◌, ◌-◌, ◌<◌, ◌^◌, length, Bool, true, false, ◌&&◌, ◌==◌, if◌then◌else◌, List, [], ◌∷◌}
-use Rattle.std.specs.Prelude.{Option, Some, None, slice_get, map}
+use Rattle.std.specs.Prelude.{◌≡◌, ℕ, ◌+◌, ◌-◌, ◌<◌, ◌^◌, Bool, true, false, ◌&&◌, ◌==◌, if◌then◌else◌}
+use Rattle.std.specs.Prelude.{List, [], ◌∷◌, length, Option, Some, None, slice_get, map}
 use Rattle.std.specs.Option.{option_map_or}
-use Rattle.std.specs.List.{All}
 use Rattle.tx_tree.specs.WideTree.{WideTree}
-use Rattle.tx_tree.specs.Paths.{subtree}
 use Rattle.tx_mod.specs.declared.mods.Mod.{Mod}
 use Rattle.tx_exec.specs.declared.outcome.Outcome.TheVariants.{Over}
 use Rattle.tx_units.specs.declared.kinds.Unit.{Unit as DocUnit}
@@ -12,14 +10,6 @@ use Rattle.tx_bridge.specs.declared.bridge.Bridge.{Bridge}
 use Rattle.tx_bridge.specs.Carrying.{is_path, same_unit, through}
 use Rattle.tx_bridge.specs.UnitLists.{IsPlaced}
 use Rattle.tx_bridge.specs.InPlace.{is_changed}
-
--- the path, if there is one, leads in the tree
-abbrev pub Leads : WideTree → Option (List ℕ) → Type 0
-Leads t None = Unit {0}
-Leads t (Some p) = (x : WideTree) × (subtree t p ≡ Some x)
-
-abbrev pub AllLead : WideTree → List (Option (List ℕ)) → Type 0
-AllLead t ps = All (Leads t) ps
 
 -- whether the old unit u of number i, which stands at the place now, is the new unit v of number j
 abbrev pub stays : Option (List ℕ) → ℕ → DocUnit → ℕ → DocUnit → Bool

@@ -18,7 +18,7 @@ use Rattle.tx_bridge.specs.UnitLists.{IsPlaced}
 use Rattle.tx_bridge.specs.Entries.{Entry, Kept}
 use Rattle.tx_bridge.specs.Settled.{AreSettled}
 use Rattle.tx_bridge.specs.Nested.{KeptParts}
-use Rattle.tx_bridge.specs.HeldParts.{PartsHold, kept_parts}
+use Rattle.tx_bridge.specs.HeldParts.{PartsHold, kept_parts, flags_of_parts}
 use Rattle.tx_walk.specs.declared.part.Part.{Part as DonePart}
 use Rattle.tx_bridge.specs.InPlace.{numbers_but}
 
@@ -42,6 +42,9 @@ entries_of bs = map entry_of bs
 
 abbrev pub parts_in : List Bridge → List KeptParts
 parts_in bs = map (λ b. kept_parts b.parts) bs
+
+abbrev pub part_flags_in : List Bridge → List (List Bool)
+part_flags_in bs = map (λ b. flags_of_parts b.parts) bs
 
 abbrev pub flags_of : List Bridge → List Bool
 flags_of bs = map (λ b. b.renewed) bs

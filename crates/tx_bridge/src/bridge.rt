@@ -4,8 +4,8 @@ ghost use Rattle.tx_exec.specs.Outcomes.{wide_outcome, NamesOnce};
 ghost use Rattle.tx_view_form.specs.Outcomes.{behind, env_behind};
 ghost use Rattle.tx_bridge.specs.Entries.{outcome_of};
 ghost use Rattle.tx_bridge.specs.Reached.{fits};
-ghost use Rattle.tx_bridge.specs.Nested.{is_nested, fresh_parts, unit_charge, charge_of};
-ghost use Rattle.tx_bridge.specs.HeldParts.{PartsHold, kept_parts};
+ghost use Rattle.tx_bridge.specs.Nested.{is_nested, fresh_parts, part_flags, unit_charge, charge_of};
+ghost use Rattle.tx_bridge.specs.HeldParts.{PartsHold, kept_parts, flags_of_parts, unmarked};
 ghost use Rattle.tx_bridge.specs.Settled.{AgreesWith, IsSilent};
 ghost use Rattle.tx_bridge.specs.Sound.{IsSound, entry_of, changed_bridge};
 
@@ -84,16 +84,18 @@ impl Bridge {
         self.source = Some(i);
     }
 
-    // The unit wasn't reached. A flag that is down isn't written: of most units memory is only read.
+    // The unit wasn't reached, and so no part was. A flag that is down isn't written: of most units memory is only
+    // read.
     fn leave(&mut self)
         ensures { self.new ≡ record {
           unit = self.old.unit;
           kept = self.old.kept;
-          parts = self.old.parts;
+          parts = unmarked self.old.parts;
           renewed = false;
           source = self.old.source;
         } }
     {
+        self.parts.unmark();
         if self.renewed {
             self.renewed = false;
         }
@@ -110,6 +112,8 @@ impl Bridge {
         ensures exact { IfOk result (λ e. wide_outcome e.outcome ≡ outcome_of moment.old self.now.unit) }
         ensures once { IfOk result (λ e. NamesOnce e.outcome) }
         ensures parts { IfOk result (λ e. kept_parts e.parts ≡ fresh_parts moment.old self.now.unit) }
+        ensures flags { IfOk result (λ e. flags_of_parts e.parts
+            ≡ part_flags moment.old self.now.unit (kept_parts self.now.parts)) }
         ensures hold { IfOk result (λ e. PartsHold self.now.unit (wide_outcome e.outcome) e.parts) }
         ensures charge { IfOk result
             (λ e. e.charge ≡ unit_charge moment.old self.now.unit (kept_parts self.now.parts)) }
@@ -140,6 +144,8 @@ impl Bridge {
         ensures source { self.new.source ≡ self.old.source }
         ensures fresh { OnOk result (wide_outcome self.new.kept ≡ outcome_of moment.old self.old.unit) }
         ensures parts { OnOk result (kept_parts self.new.parts ≡ fresh_parts moment.old self.old.unit) }
+        ensures flags { OnOk result (flags_of_parts self.new.parts
+            ≡ part_flags moment.old self.old.unit (kept_parts self.old.parts)) }
         ensures renewed { OnOk result (self.new.renewed ≡ true) }
         ensures moment { moment.new ≡ moment.old }
         ensures charge { IfOk result
@@ -174,6 +180,8 @@ impl Bridge {
         ensures source { self.new.source ≡ self.old.source }
         ensures fresh { OnOk result (wide_outcome self.new.kept ≡ outcome_of moment.old self.old.unit) }
         ensures parts { OnOk result (kept_parts self.new.parts ≡ fresh_parts moment.old self.old.unit) }
+        ensures flags { OnOk result (flags_of_parts self.new.parts
+            ≡ part_flags moment.old self.old.unit (kept_parts self.old.parts)) }
         ensures renewed { OnOk result (self.new.renewed ≡ not (fits moment.old (wide_outcome self.old.kept))) }
         ensures stays { self.new.renewed ≡ false → wide_outcome self.new.kept ≡ wide_outcome self.old.kept }
         ensures behind { OnOk result (moment.new ≡ behind moment.old (outcome_of moment.old self.old.unit)) }

@@ -1,36 +1,39 @@
 // All units with what is kept of them.
 ghost use Rattle.std.specs.Prelude.{◌≡◌, ℕ, ◌+◌, ◌≤◌, ◌++◌, take, drop, map, IfOk, OnOk, OnErr, Some, None};
-ghost use Rattle.std.specs.Prelude.{[], false, true, MatchOption, slice_get, IsSome, IfSome, option_and_then, length};
+ghost use Rattle.std.specs.Prelude.{[], false, true, MatchOption, slice_get, IsSome, IfSome, IsOk, option_and_then};
+ghost use Rattle.std.specs.Prelude.{length};
 ghost use Rattle.std.specs.Option.{unwrap_or, option_map};
-ghost use Rattle.std.specs.List.{All};
+ghost use Rattle.std.specs.List.{All, IsDistinct};
+ghost use Rattle.std.specs.Str.{bytes_eq};
 ghost use Rattle.std.specs.FinMap as maps;
 ghost use Rattle.tx_tree.specs.WideTree.{WideTree};
 ghost use Rattle.tx_mod.specs.InTurn.{cost_of};
 ghost use Rattle.tx_mod.specs.Followed.{changed_by_all};
 ghost use Rattle.tx_exec.specs.Outcomes.{wide_outcome, NamesOnce};
+ghost use Rattle.tx_walk.specs.Walked.{IsTidy, paths_of};
 ghost use Rattle.tx_units.specs.Units.{units_with};
 ghost use Rattle.tx_view_form.specs.declared.TheConstants.{MOST_VIEW_STEPS};
 ghost use Rattle.tx_view_form.specs.Outcomes.{beginning, behind, value_of};
 ghost use Rattle.tx_bridge.specs.Moments.{IsPaid};
-ghost use Rattle.tx_bridge.specs.Entries.{Entry, units_of, fresh_from, outcome_of};
+ghost use Rattle.tx_bridge.specs.Entries.{Entry, units_of, fresh_from, outcome_of, behind_all};
 ghost use Rattle.tx_bridge.specs.Reached.{reached_from};
-ghost use Rattle.tx_bridge.specs.Nested.{charges_from, fresh_parts_from};
-ghost use Rattle.tx_bridge.specs.HeldParts.{AllPartsHold};
+ghost use Rattle.tx_bridge.specs.Nested.{PartsStay, charges_from, fresh_parts_from, part_flags_from};
+ghost use Rattle.tx_bridge.specs.HeldParts.{AllPartsHold, kept_parts, flags_of_parts};
 ghost use Rattle.tx_bridge.specs.Settled.{AreSettled};
-ghost use Rattle.tx_bridge.specs.Sound.{IsSound, AllHold, entry_of, entries_of, parts_in, flags_of, sources_in};
-ghost use Rattle.tx_bridge.specs.Sound.{source_by};
+ghost use Rattle.tx_bridge.specs.Sound.{IsSound, AllHold, entry_of, entries_of, parts_in, part_flags_in, flags_of};
+ghost use Rattle.tx_bridge.specs.Sound.{sources_in, source_by};
 ghost use Rattle.tx_bridge.specs.UnitLists.{AreUnits};
-ghost use Rattle.tx_bridge.specs.Carrying.{AllStand, StandsNow, AreSameBodies, through, mods_of};
-ghost use Rattle.tx_bridge.specs.Slots.{AllLead, paths_in, given};
+ghost use Rattle.tx_bridge.specs.Carrying.{AllLead, AllStand, StandsNow, AreSameBodies, through, mods_of};
+ghost use Rattle.tx_bridge.specs.Slots.{paths_in, given};
 ghost use Rattle.tx_bridge.specs.InPlace.{IsOneChanged, NoneChanged, numbers_but};
-ghost use Rattle.tx_bridge.specs.Names.{Empty, EmptyParts, Fresh, FreshParts, Charge, Carry, CarryParts, CarryWithin};
-ghost use Rattle.tx_bridge.specs.Names.{Sources};
+ghost use Rattle.tx_bridge.specs.Names.{Empty, EmptyParts, Fresh, FreshParts, PartFlags, Charge};
+ghost use Rattle.tx_bridge.specs.Names.{Carry, CarryParts, CarryWithin, Sources};
 
 use crate::bridge::{Bridge, Way};
 use crate::giving::give_all;
 use crate::in_place::{change_one, one_changed, parts_of_changed};
 use crate::moments::Moment;
-use crate::paths_after::paths_after;
+use crate::paths_after::places_after;
 use std::alloc::Global;
 use std::marker::Model;
 use std::mem;
@@ -39,8 +42,10 @@ use tx_base::{Memory, Steps};
 use tx_exec::Outcome;
 use tx_exec_form::{size_law, trace_laws};
 use tx_mod::{Mod, carried_law, carried_list_law};
+use tx_parts::{fitting_law, standing_law};
 use tx_tree::{Path, Tree};
 use tx_units::Unit;
+use tx_walk::Part;
 
 /// All units, each with the trace that is kept of it, or nothing.
 ///
@@ -56,7 +61,7 @@ pub struct Bridges {
 
 impl Model for Bridges {
     ghost use Rattle.tx_bridge.specs.Bridged.{Bridged, coded_Bridged};
-    ghost use Rattle.tx_bridge.specs.Sound.{AreRight, entries_of, parts_in, flags_of, sources_by};
+    ghost use Rattle.tx_bridge.specs.Sound.{AreRight, entries_of, parts_in, part_flags_in, flags_of, sources_by};
 
     ghost Value = { Bridged };
 
@@ -65,6 +70,7 @@ impl Model for Bridges {
     ghost view = { λ b. record {
       kept = entries_of b.bridges.items;
       parts = parts_in b.bridges.items;
+      part_flags = part_flags_in b.bridges.items;
       renewed = flags_of b.bridges.items;
       sources = sources_by b.way b.bridges.items;
     } };
@@ -102,6 +108,8 @@ fn refresh_all<L: Ledger>(
     ensures fresh { OnOk result (entries_of bridges.new ≡ fresh_from beginning (units_of (entries_of bridges.old))) }
     ensures parts { OnOk result
         (parts_in bridges.new ≡ fresh_parts_from beginning (units_of (entries_of bridges.old))) }
+    ensures parts_renewed { OnOk result
+        (part_flags_in bridges.new ≡ part_flags_from beginning (entries_of bridges.old) (parts_in bridges.old)) }
     ensures renewed { OnOk result (flags_of bridges.new ≡ reached_from beginning (entries_of bridges.old)) }
     ensures charge { IfOk result
         (λ n. n ≡ charges_from beginning (entries_of bridges.old) (parts_in bridges.old)) }
@@ -128,6 +136,20 @@ fn refresh_all<L: Ledger>(
     Ok(charges)
 }
 
+// The moment behind all units, of each of which is kept what it comes to.
+fn moment_behind(alloc: Global, bridges: &[Bridge]) -> Result<Moment, Memory>
+    requires sound { All IsSound bridges.now }
+    requires fresh { entries_of bridges.now ≡ fresh_from beginning (units_of (entries_of bridges.now)) }
+    ensures { IfOk result (λ m. m ≡ behind_all beginning (units_of (entries_of bridges.now))) }
+{
+    trace_laws();
+    let mut moment = Moment::beginning(alloc);
+    for bridge in bridges {
+        moment.go_behind(&bridge.kept)?;
+    }
+    Ok(moment)
+}
+
 fn path_of(alloc: Global, unit: &Unit) -> Result<Option<Path>, Memory>
     ensures { IfOk result (λ p. p ≡ unit.now.path) }
 {
@@ -148,7 +170,7 @@ fn paths_of(alloc: Global, bridges: &[Bridge]) -> Result<Vec<Option<Path>>, Memo
 }
 
 // Where the units with these paths stand after an edit of a buffer.
-fn places_after<L: Ledger>(
+fn unit_places_after<L: Ledger>(
     alloc: Global,
     buffer: u32,
     before: &Tree,
@@ -162,7 +184,7 @@ fn places_after<L: Ledger>(
     ensures counted { steps.new ≤ steps.old + cost_of mods.now }
 {
     if buffer == 0 {
-        return paths_after(alloc, before, mods, paths, steps);
+        return places_after(alloc, before, mods, paths, steps);
     }
     Ok(paths)
 }
@@ -187,7 +209,7 @@ fn give_over<L: Ledger>(
     ensures refused { OnErr result (bridges.new ≡ bridges.old) }
 {
     let paths = paths_of(alloc, bridges)?;
-    let places = places_after(alloc, buffer, before, mods, paths, steps)?;
+    let places = unit_places_after(alloc, buffer, before, mods, paths, steps)?;
     let mut new = bridges_of(alloc, units)?;
     give_all(&mut new, &places, bridges);
     *bridges = new;
@@ -225,11 +247,15 @@ impl Bridges {
     /// agree with what names have before it, and its cost is allowed. The steps rise by the charges of the other units:
     /// a nested one is charged its parts of which nothing that fits is kept. Answers these charges.
     ///
+    /// What is kept of a part whose flag is down behind it is what was kept at the part's path.
+    ///
     /// For want of memory the units before some number are brought there, and the others are as they were.
     #[tactic(auto, unfolding(crate::specs::Names::Fresh, crate::specs::Names::FreshParts, crate::specs::Names::Charge))]
     pub fn refresh<L: Ledger>(&mut self, alloc: Global, steps: &mut Steps<L>) -> Result<u64, Memory>
         ensures fresh { OnOk result (self.new.kept ≡ Fresh self.old.kept) }
         ensures parts { OnOk result (self.new.parts ≡ FreshParts self.old.kept) }
+        ensures parts_renewed { OnOk result (self.new.part_flags ≡ PartFlags self.old.kept self.old.parts) }
+        ensures parts_stay { OnOk result (PartsStay self.old.parts self.new.parts self.new.part_flags) }
         ensures renewed { OnOk result (self.new.renewed ≡ reached_from beginning self.old.kept) }
         ensures charge { IfOk result (λ n. n ≡ Charge self.old.kept self.old.parts) }
         ensures counted { IfOk result (λ n. steps.new ≡ steps.old + n) }
@@ -243,6 +269,8 @@ impl Bridges {
             × (self.new.parts ≡ take n (FreshParts self.old.kept) ++ drop n self.old.parts)) }
     {
         trace_laws();
+        standing_law();
+        fitting_law();
         let settled = mem::replace(&mut self.settled, false);
         let charges = refresh_all(alloc, &mut self.bridges, settled, steps)?;
         self.settled = true;
@@ -255,7 +283,6 @@ impl Bridges {
     ///
     /// `before` is the tree of the buffer before the edit. Which old unit a new one is `source` tells afterwards, and
     /// no two are the same one. For want of memory all is as before.
-    #[tactic(auto, unfolding(crate::specs::Names::Carry, crate::specs::Names::CarryParts, crate::specs::Names::Sources))]
     pub fn carry<L: Ledger>(
         &mut self,
         alloc: Global,
@@ -299,9 +326,8 @@ impl Bridges {
     }
 
     /// What `carry` does where the unit of number `changed`, which `one_changed` tells, has this tree afterwards, and
-    /// each other one stays as it is. Besides, of the parts of that unit those are kept that stay in it. It goes over no
-    /// list but that of these parts; without them it takes no memory and no step.
-    #[tactic(auto, unfolding(crate::specs::Names::Carry, crate::specs::Names::CarryWithin, crate::specs::Names::Sources))]
+    /// each other one stays as it is. Besides, of the parts of that unit those are kept that stay in it. It goes over
+    /// no list but that of these parts. Where none are kept of that unit, it takes no memory and no step.
     pub fn carry_in_place<L: Ledger>(
         &mut self,
         alloc: Global,
@@ -329,6 +355,8 @@ impl Bridges {
             (self.new.sources ≡ numbers_but changed 0 (length (units_of self.old.kept))) }
         ensures units { OnOk result (units_of self.new.kept ≡ units_with changed tree (units_of self.old.kept)) }
         ensures counted { steps.new ≤ steps.old + cost_of mods.now }
+        ensures ready { slice_get self.old.parts changed ≡ Some [] → IsOk result }
+        ensures free { slice_get self.old.parts changed ≡ Some [] → steps.new ≡ steps.old }
         ensures refused { OnErr result (self.new ≡ self.old) }
     {
         carried_list_law();
@@ -350,6 +378,23 @@ impl Bridges {
         match self.bridges.get(i as usize) {
             None => None,
             Some(bridge) => Some(&bridge.kept),
+        }
+    }
+
+    /// What is kept of the parts of the unit, in the order of the document, each with its path from the unit's tree. A
+    /// unit that isn't nested has none, nor has one that is over. None past the last unit.
+    ///
+    /// After a refresh a part's `renewed` tells whether nothing that fits was kept at its path when that began.
+    pub fn parts(&self, i: u32) -> Option<&[Part]>
+        ensures found { MatchOption result (slice_get self.now.kept i ≡ None)
+            (λ ps. slice_get self.now.parts i ≡ Some (kept_parts ps.now)) }
+        ensures renewed { IfSome result (λ ps. slice_get self.now.part_flags i ≡ Some (flags_of_parts ps.now)) }
+        ensures tidy { IfSome result (λ ps. All IsTidy ps.now) }
+        ensures distinct { IfSome result (λ ps. IsDistinct bytes_eq (paths_of ps.now)) }
+    {
+        match self.bridges.get(i as usize) {
+            None => None,
+            Some(bridge) => Some(bridge.parts.all()),
         }
     }
 
@@ -401,5 +446,12 @@ impl Bridges {
             None => unreachable!(),
             Some(bridge) => moment.go_behind(&bridge.kept),
         }
+    }
+    /// The moment behind the last unit, after a refresh: what names have behind all units, and the steps that are left.
+    pub fn end(&self, alloc: Global) -> Result<Moment, Memory>
+        requires fresh { self.now.kept ≡ fresh_from beginning (units_of self.now.kept) }
+        ensures { IfOk result (λ m. m ≡ behind_all beginning (units_of self.now.kept)) }
+    {
+        moment_behind(alloc, &self.bridges)
     }
 }

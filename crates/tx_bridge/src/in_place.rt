@@ -1,5 +1,6 @@
 // An edit inside one paragraph changes one unit, and each other one stays at its number and its path.
-ghost use Rattle.std.specs.Prelude.{◌≡◌, ◌<◌, ◌≤◌, ◌+◌, length, Some, true, IfOk, IsTrue, MatchOption, slice_get};
+ghost use Rattle.std.specs.Prelude.{◌≡◌, ◌<◌, ◌≤◌, ◌+◌, [], length, Some, true, IfOk, IsOk, IsTrue, MatchOption};
+ghost use Rattle.std.specs.Prelude.{slice_get};
 ghost use Rattle.std.specs.List.{list_all, All, AllByRecursion};
 ghost use Rattle.tx_tree.specs.WideTree.{WideTree};
 ghost use Rattle.tx_tree.specs.Paths.{subtree};
@@ -20,7 +21,7 @@ ghost use Rattle.tx_bridge.specs.Slots.{AllUnchanged, IsChangedAt};
 
 use crate::bridge::Bridge;
 use crate::giving::first_body;
-use crate::paths_after::paths_after;
+use crate::paths_after::places_after;
 use crate::unit_parts::UnitParts;
 use crate::within::{add_part_paths, parts_at};
 use std::alloc::Global;
@@ -153,13 +154,15 @@ fn parts_behind<L: Ledger>(
         (λ q. kept_parts q ≡ parts_behind mods.now before.now path.now (kept_parts parts.now)) }
     ensures tidy { IfOk result (λ q. All IsTidy q) }
     ensures counted { steps.new ≤ steps.old + cost_of mods.now }
+    ensures ready { parts.now ≡ [] → IsOk result }
+    ensures free { parts.now ≡ [] → steps.new ≡ steps.old }
 {
     if parts.is_empty() {
         return Ok(UnitParts::none(alloc));
     }
     let mut paths = Vec::with_capacity(alloc, parts.len())?;
     add_part_paths(alloc, path, parts, &mut paths)?;
-    let places = paths_after(alloc, before, mods, paths, steps)?;
+    let places = places_after(alloc, before, mods, paths, steps)?;
     Ok(UnitParts::new(parts_at(alloc, path, &places, parts)?))
 }
 
@@ -180,6 +183,8 @@ pub(crate) fn parts_of_changed<L: Ledger>(
         → kept_parts q ≡ parts_within mods.now before.now b.unit (kept_parts b.parts)) }
     ensures tidy { IfOk result (λ q. All IsTidy q) }
     ensures counted { steps.new ≤ steps.old + cost_of mods.now }
+    ensures ready { (b : Bridge) → slice_get bridges.now changed ≡ Some b → b.parts ≡ [] → IsOk result }
+    ensures free { (b : Bridge) → slice_get bridges.now changed ≡ Some b → b.parts ≡ [] → steps.new ≡ steps.old }
 {
     let bridge = &bridges[changed];
     match &bridge.unit.path {

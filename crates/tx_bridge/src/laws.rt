@@ -9,7 +9,10 @@ ghost use Rattle.tx_mod.specs.declared.mods.Mod.{Mod as Change};
 ghost use Rattle.tx_bridge.specs.InPlace.{is_changed};
 ghost use Rattle.tx_bridge.specs.UnitLists.{AreUnits};
 ghost use Rattle.tx_bridge.specs.Carrying.{AllStand, AreSameBodies};
+ghost use Rattle.tx_bridge.specs.Nested.{KeptParts};
+ghost use Rattle.tx_bridge.specs.CarryingParts.{StaysKept};
 
+use tx_mod::carried_law;
 use tx_units::body_laws;
 
 /// A law: the units of buffers are such as `Bridges` asks for, and their trees stand at their paths in the document.
@@ -24,4 +27,12 @@ pub fn unit_list_laws()
     ensures same { (t : WideTree) (us vs : List DocUnit) → AllStand t us → AllStand t vs → AreSameBodies us vs }
 {
     body_laws();
+}
+
+/// A law: where modifications apply, what is kept of a part of the unit at a path is kept at the part's path afterwards,
+/// if they carry the part's place in the document to itself.
+pub fn staying_parts_law()
+    ensures { (ms : List Change) (t : WideTree) (path : List ℕ) (kept : KeptParts) → StaysKept ms t path kept }
+{
+    carried_law();
 }

@@ -16,5 +16,6 @@ mod unit_parts;
 mod within;
 
 pub use bridges::Bridges;
-pub use laws::unit_list_laws;
+pub use laws::{staying_parts_law, unit_list_laws};
 pub use moments::{Moment, over_value};
+pub use paths_after::places_after;

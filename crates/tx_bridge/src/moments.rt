@@ -12,8 +12,8 @@ ghost use Rattle.std.specs.Str.{bytes_eq};
 ghost use Rattle.tx_walk.specs.Walked.{paths_of};
 ghost use Rattle.tx_bridge.specs.Entries.{outcome_of};
 ghost use Rattle.tx_bridge.specs.Moments.{IsPaid};
-ghost use Rattle.tx_bridge.specs.Nested.{is_nested, fresh_parts, unit_charge};
-ghost use Rattle.tx_bridge.specs.HeldParts.{HoldsPart, PartsHold, kept_parts};
+ghost use Rattle.tx_bridge.specs.Nested.{is_nested, fresh_parts, part_flags, unit_charge};
+ghost use Rattle.tx_bridge.specs.HeldParts.{HoldsPart, PartsHold, kept_parts, flags_of_parts};
 ghost use Rattle.tx_bridge.specs.UnitLists.{IsPlaced};
 
 use crate::unit_parts::UnitParts;
@@ -146,6 +146,7 @@ impl Moment {
         ensures exact { IfOk result (λ e. wide_outcome e.outcome ≡ outcome_of self.old unit.now) }
         ensures once { IfOk result (λ e. NamesOnce e.outcome) }
         ensures parts { IfOk result (λ e. kept_parts e.parts ≡ fresh_parts self.old unit.now) }
+        ensures flags { IfOk result (λ e. flags_of_parts e.parts ≡ part_flags self.old unit.now (kept_parts kept.now)) }
         ensures hold { IfOk result (λ e. PartsHold unit.now (wide_outcome e.outcome) e.parts) }
         ensures charge { IfOk result (λ e. e.charge ≡ unit_charge self.old unit.now (kept_parts kept.now)) }
         ensures counted { IfOk result (λ e. steps.new ≡ steps.old + e.charge) }

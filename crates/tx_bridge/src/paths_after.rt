@@ -6,8 +6,7 @@ ghost use Rattle.tx_mod.specs.Changes.{changed};
 ghost use Rattle.tx_mod.specs.Moves.{carried_path};
 ghost use Rattle.tx_mod.specs.InTurn.{cost_of};
 ghost use Rattle.tx_mod.specs.Followed.{changed_by_all};
-ghost use Rattle.tx_bridge.specs.Carrying.{through};
-ghost use Rattle.tx_bridge.specs.Slots.{Leads, AllLead};
+ghost use Rattle.tx_bridge.specs.Carrying.{through, Leads, AllLead};
 
 use std::alloc::Global;
 use std::sync::ledger::Ledger;
@@ -65,8 +64,9 @@ fn tree_behind<L: Ledger>(
     }
 }
 
-// Where each of the subtrees stands after all modifications.
-pub(crate) fn paths_after<L: Ledger>(
+/// Where the subtrees at these paths stand after all modifications, in the same order: None is for a path that is none,
+/// and for a subtree that doesn't stay. `before` is the tree before the first modification.
+pub fn places_after<L: Ledger>(
     alloc: Global,
     before: &Tree,
     mods: &[Mod],

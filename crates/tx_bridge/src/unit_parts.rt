@@ -2,28 +2,42 @@
 ghost use Rattle.std.specs.Prelude.{◌≡◌, List, []};
 ghost use Rattle.tx_walk.specs.declared.part.Part.{Part as DonePart};
 ghost use Rattle.tx_bridge.specs.Nested.{is_nested};
+ghost use Rattle.tx_bridge.specs.HeldParts.{unmarked};
 
 use std::alloc::Global;
 use std::marker::Model;
 use tx_units::Unit;
 use tx_walk::{Part, is_open};
 
-/// The parts of a unit that are kept. Contracts see their list.
+/// The parts of a unit that are kept, and whether some may be marked as renewed. Contracts see their list.
 #[derive(Drop)]
 pub(crate) struct UnitParts {
     all: Vec<Part>,
+    marked: bool,
 }
 
 impl Model for UnitParts {
-    ghost use Rattle.std.specs.Prelude.{List};
+    ghost use Rattle.std.specs.Prelude.{◌≡◌, false, List};
     ghost use Rattle.tx_walk.specs.declared.part.Part.{Part};
-    ghost use Rattle.tx_bridge.specs.Parts.{coded_Parts};
+    ghost use Rattle.tx_walk.specs.Codes.{coded_Parts};
+    ghost use Rattle.tx_bridge.specs.HeldParts.{unmarked};
 
     ghost Value = { List Part };
 
     ghost coded = { coded_Parts };
 
     ghost view = { λ p. p.all.items };
+
+    ghost invariant = { λ p. p.marked ≡ false → unmarked p.all.items ≡ p.all.items };
+}
+
+// Marks none of the parts as renewed.
+fn unmark_all(parts: &mut [Part])
+    ensures { parts.new ≡ unmarked parts.old }
+{
+    for i in 0..parts.len() {
+        parts[i].renewed = false;
+    }
 }
 
 impl UnitParts {
@@ -33,6 +47,7 @@ impl UnitParts {
     {
         UnitParts {
             all: Vec::new(alloc),
+            marked: false,
         }
     }
 
@@ -40,7 +55,10 @@ impl UnitParts {
     pub(crate) fn new(parts: Vec<Part>) -> UnitParts
         ensures { result ≡ parts.items }
     {
-        UnitParts { all: parts }
+        UnitParts {
+            all: parts,
+            marked: true,
+        }
     }
 
     /// All of them.
@@ -48,6 +66,16 @@ impl UnitParts {
         ensures { result.now ≡ self.now }
     {
         &self.all
+    }
+
+    /// Marks none of them as renewed. Where none may be, memory is only read.
+    pub(crate) fn unmark(&mut self)
+        ensures { self.new ≡ unmarked self.old }
+    {
+        if self.marked {
+            unmark_all(&mut self.all);
+            self.marked = false;
+        }
     }
 }
 

@@ -19,7 +19,7 @@ use tx_tree::Tree;
 use tx_units::units;
 
 // How many units the base style has.
-const BASE: u32 = 26;
+pub(crate) const BASE: u32 = 26;
 
 // The number of a buffer, an edit of it, and a mark for each unit behind those of the base style: a cross where the
 // edit reached it, and else a point.
@@ -78,7 +78,7 @@ const ROWS: &[Row] = &[
 ];
 
 // What evaluating from nothing gives.
-fn from_nothing<L: Ledger>(
+pub(crate) fn from_nothing<L: Ledger>(
     alloc: Global,
     buffers: &[Buffer],
     steps: &mut Steps<L>,
@@ -121,7 +121,11 @@ fn edit<L: Ledger>(
 }
 
 // Buffers, each a name and a tree, `;` between them.
-fn buffers_of<L: Ledger>(alloc: Global, words: &str, steps: &mut Steps<L>) -> Option<Vec<Buffer>> {
+pub(crate) fn buffers_of<L: Ledger>(
+    alloc: Global,
+    words: &str,
+    steps: &mut Steps<L>,
+) -> Option<Vec<Buffer>> {
     let mut buffers = Vec::new(alloc);
     for part in words.split(';') {
         let (name, words) = part.split_once(' ')?;
@@ -366,7 +370,7 @@ fn paragraph_in(bridges: &Bridges, changed: usize, after: &Tree) -> Option<Tree>
 }
 
 // What is kept behind an edit of the first buffer that is carried in place, the tree then, and the charges.
-fn edited_in_place<L: Ledger>(
+pub(crate) fn edited_in_place<L: Ledger>(
     alloc: Global,
     buffers: &[Buffer],
     line: &str,

@@ -28,7 +28,7 @@ abbrev children_paid : ℕ → Option SoFar → ℕ
 children_paid c None = c
 children_paid c (Some b) = b.cost
 
-paid_most : (k c : ℕ) (t : WideTree) (e : Before) (o : Option WideTrace) → evaluates k c t e ≡ o → paid c o ≤ c
+pub paid_most : (k c : ℕ) (t : WideTree) (e : Before) (o : Option WideTrace) → evaluates k c t e ≡ o → paid c o ≤ c
 paid_most k c t e None h = omega arith
 paid_most k c t e (Some trace) h = (allowed k c (alone t) e trace h).0
 

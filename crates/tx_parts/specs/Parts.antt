@@ -24,7 +24,7 @@ part_trace p = evaluates p.levels p.steps p.tree p.before
 abbrev pub HasTrace : Part → Type 0
 HasTrace p = (trace : WideTrace) × (part_trace p ≡ Some trace)
 
--- what is kept of a part: where it stands, and its trace
+-- what is kept of a part: where it stands, and its trace, or None where it is over
 pub record Stored : Type 0 where
   pub path : List ℕ
   pub trace : Option WideTrace

@@ -1,15 +1,14 @@
 -- What parts are charged.
 use Rattle.std.proofs.Common.{◌≡◌, ℕ, zero, suc, ◌+◌, ◌≤◌, List, refl, arith}
 use Rattle.std.proofs.lemmas.List.Sums.{sum_by-le-sum_by}
-use Rattle.std.specs.Prelude.{Bool, true, false, Option, Some, None, if◌then◌else◌}
+use Rattle.std.specs.Prelude.{Bool, true, false, if◌then◌else◌}
 use Rattle.std.specs.List.{sum_by}
 use Rattle.tx_tree.specs.WideTree.{WideTree}
 use Rattle.tx_exec_form.specs.Runs.{Before}
-use Rattle.tx_exec_form.specs.Evaluated.{WideTrace, paid}
-use Rattle.tx_exec_form.proofs.Tracing.{allowed}
-use Rattle.tx_parts.specs.Composed.{alone, evaluates}
+use Rattle.tx_exec_form.specs.Evaluated.{paid}
+use Rattle.tx_parts.specs.Composed.{evaluates}
 use Rattle.tx_parts.specs.Parts.{Part, part_cost, parts}
-use Rattle.tx_parts.proofs.Costing.{parts_cost}
+use Rattle.tx_parts.proofs.Costing.{paid_most, parts_cost}
 use Rattle.tx_walk.specs.Held.{Store, is_held, charge_of, charges}
 
 charge_less : (kept : Store) (p : Part) → charge_of kept p ≤ part_cost p
@@ -25,10 +24,6 @@ pub charges_within : (kept : Store) (k c : ℕ) (path : List ℕ) (t : WideTree)
 charges_within kept k c path t e =
     let all : sum_by part_cost (parts k c path t e) ≤ paid c (evaluates k c t e) = parts_cost k c path t e in
     omega (arith, sum_by-le-sum_by (charge_of kept) part_cost (parts k c path t e) (charge_less kept), all)
-
-paid_most : (k c : ℕ) (t : WideTree) (e : Before) (o : Option WideTrace) → evaluates k c t e ≡ o → paid c o ≤ c
-paid_most k c t e None h = omega arith
-paid_most k c t e (Some trace) h = (allowed k c (alone t) e trace h).0
 
 -- nor than the steps that it has
 pub charges_most : (kept : Store) (k c : ℕ) (path : List ℕ) (t : WideTree) (e : Before) →

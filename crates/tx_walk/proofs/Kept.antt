@@ -25,7 +25,7 @@ pub record Alike (kept : Store) (d : DonePart) (ds : List DonePart) (p : Part) (
   pub first : seen d ≡ seen_in kept p
   pub others : map seen ds ≡ map (seen_in kept) ps
 
-alike : (kept : Store) (d : DonePart) (ds : List DonePart) (p : Part) (ps : List Part) →
+pub alike : (kept : Store) (d : DonePart) (ds : List DonePart) (p : Part) (ps : List Part) →
     map seen (d ∷ ds) ≡ map (seen_in kept) (p ∷ ps) → Alike kept d ds p ps
 alike kept d ds p ps h = record { first = ap (head (seen d)) h; others = ap tail h }
   where

@@ -1,11 +1,23 @@
 -- What is found of what is kept.
 use Rattle.std.specs.Prelude.{◌≡◌, ℕ, true, List, Option, Some, slice_get}
+use Rattle.std.specs.List.Sorted.{IsSortedBy}
+use Rattle.std.specs.declared.cmp.Ordering.{Ordering}
+use Rattle.std.specs.Ordering.{nat_cmp, is_lt}
+use Rattle.std.specs.Cmp.Lexicographic.{slice_cmp}
 use Rattle.tx_exec_form.specs.Runs.{Before}
 use Rattle.tx_exec_form.specs.Evaluated.{WideTrace}
 use Rattle.tx_exec.specs.Outcomes.{wide_trace}
 use Rattle.tx_walk.specs.declared.part.Part.{Part as DonePart}
 use Rattle.tx_walk.specs.Held.{fits}
 use Rattle.tx_walk.specs.Walked.{kept_in, IsTidy}
+
+-- how the part's path compares with this one
+abbrev pub side : List ℕ → DonePart → Ordering
+side path p = slice_cmp nat_cmp p.path path
+
+-- no part's path comes before the path of the part before it
+abbrev pub AreSortedByPath : List DonePart → Type 0
+AreSortedByPath ps = IsSortedBy (λ p q. is_lt (side q.path p)) ps
 
 -- the part of this number is what is kept at the path
 pub record IsKeptAt (kept : List DonePart) (path : List ℕ) (i : ℕ) : Type 0 where

@@ -8,3 +8,4 @@ pub mod Opening
 pub mod Outside
 pub mod Scopes
 pub mod Open
+pub mod Codes

@@ -1,14 +1,14 @@
 -- What a walk has spent.
-use Rattle.std.specs.Prelude.{◌≡◌, ◌≤◌, ◌-◌, ℕ, min}
+use Rattle.std.specs.Prelude.{◌≡◌, ◌≤◌, ◌-◌, ◌^◌, ℕ, min}
 
--- a counter stands still at its greatest value, 2^64 - 1
+-- what a counter of 64 bits has that is raised to n: it stands still at its greatest value
 abbrev pub capped : ℕ → ℕ
-capped n = min n 18446744073709551615
+capped n = min n (2 ^ 64 - 1)
 
--- so much was spent since the steps were as many as at the start
+-- `spent` is by how much the steps have risen since they were as many as at the start, as far as a counter tells
 abbrev pub IsSpentSince : ℕ → ℕ → ℕ → Type 0
 IsSpentSince start steps spent = (start ≤ steps) × (spent ≡ capped (steps - start))
 
--- what is spent rises as the steps do, whatever they were at the start
+-- from the first two to the last two what is spent rises as the steps do, whatever these were at the start
 pub record RisesAlike (steps spent steps1 spent1 : ℕ) : Type 0 where
   pub since : (start : ℕ) → IsSpentSince start steps spent → IsSpentSince start steps1 spent1

@@ -8,9 +8,10 @@ ghost use Rattle.tx_exec.specs.Outcomes.{wide_trace};
 ghost use Rattle.tx_walk.specs.SameTrees.{same};
 ghost use Rattle.tx_walk.specs.Held.{agrees, fits};
 ghost use Rattle.tx_walk.specs.Walked.{IsTidy, kept_in, paths_of};
-ghost use Rattle.tx_walk.specs.Finding.{IsKeptAt, IsHeldBy};
+ghost use Rattle.tx_walk.specs.Finding.{IsHeldBy};
 
 use crate::part::Part;
+use crate::prior::PriorParts;
 use tx_env::Env;
 use tx_exec::Looks;
 use tx_tree::{Path, Text, Tree};
@@ -52,44 +53,10 @@ fn fits(env: &Env, part: &Part) -> bool
     looks_agree(env, &part.trace.looks)
 }
 
-// Whether the part stands at the path.
-fn stands_at(part: &Part, path: &Path) -> bool
-    ensures { result ≡ bytes_eq part.now.path path.now }
-{
-    part.path.steps() == path.steps()
-}
-
-// The number of the part at this path.
-fn number_at(kept: &[Part], path: &Path) -> Option<usize>
-    ensures { MatchOption result (kept_in kept.now path.now ≡ None)
-        (λ i. IsKeptAt kept.now path.now i) }
-{
-    for i in 0..kept.len() {
-        if stands_at(&kept[i], path) {
-            return Some(i);
-        }
-    }
-    None
-}
-
-// The number of the part at this path. It mostly is the hint.
-fn number_near(kept: &[Part], path: &Path, hint: usize) -> Option<usize>
-    requires distinct { IsDistinct bytes_eq (paths_of kept.now) }
-    ensures { MatchOption result (kept_in kept.now path.now ≡ None)
-        (λ i. IsKeptAt kept.now path.now i) }
-{
-    if let Some(part) = kept.get(hint) {
-        if stands_at(part, path) {
-            return Some(hint);
-        }
-    }
-    number_at(kept, path)
-}
-
 /// What is kept at the path, if it fits what names have. The number that is likely next is kept in `next`.
 pub(crate) fn held<'a>(
     env: &Env,
-    kept: &'a [Part],
+    kept: &PriorParts<'a>,
     path: &Path,
     next: &mut usize,
 ) -> Option<&'a Part>
@@ -98,12 +65,13 @@ pub(crate) fn held<'a>(
     ensures { MatchOption result (fits (before_of env.now) (kept_in kept.now path.now) ≡ false)
         (λ p. IsHeldBy (before_of env.now) path.now (kept_in kept.now path.now) p.now) }
 {
-    match number_near(kept, path, *next) {
+    let parts = kept.all();
+    match kept.number_near(path, *next) {
         None => None,
         Some(i) => {
             *next = i + 1;
-            if fits(env, &kept[i]) {
-                Some(&kept[i])
+            if fits(env, &parts[i]) {
+                Some(&parts[i])
             } else {
                 None
             }

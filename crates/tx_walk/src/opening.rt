@@ -10,7 +10,7 @@ use tx_tree::{Label, Tree};
 
 /// How a tree is gone into.
 #[derive(Clone, Copy, Debug, PartialEq, Eq)]
-pub(crate) enum Opening {
+pub enum Opening {
     /// Into each child.
     Document,
     /// Into the last child, with names set to texts.
@@ -49,7 +49,7 @@ fn has_settings(children: &[Tree]) -> bool
 }
 
 /// How the tree is gone into.
-pub(crate) fn opening_of(t: &Tree) -> Opening
+pub fn opening_of(t: &Tree) -> Opening
     ensures { Opens t.now result }
 {
     let Some(label) = t.label() else {

@@ -66,8 +66,8 @@ pub(crate) fn value_at(alloc: Global, path: &Path, value: &Value) -> Result<Valu
     value.under(alloc, &base)
 }
 
-/// The part's value under its path. It is made anew only where it isn't at hand.
-pub(crate) fn placed_value(alloc: Global, part: &Part) -> Result<Value, Memory>
+/// The part's value under its path. It is made anew only where it isn't at hand. The one error is want of memory.
+pub fn placed_value(alloc: Global, part: &Part) -> Result<Value, Memory>
     requires { IsTidy part.now }
     ensures { IfOk result (λ v. v ≡ value_under part.now.path part.now.trace.value) }
 {

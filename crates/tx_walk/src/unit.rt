@@ -12,6 +12,7 @@ ghost use Rattle.tx_walk.specs.Walked.{IsTidy, IsPlaced, kept_in, paths_of, seen
 ghost use Rattle.tx_walk.specs.Steps.{IsAdded, IsReady, parts_if_done};
 
 use crate::part::Part;
+use crate::prior::PriorParts;
 use crate::progress::WalkProgress;
 use crate::walking::walk_tree;
 use std::alloc::Global;
@@ -38,7 +39,7 @@ fn walk_root<L: Ledger>(
     t: &Tree,
     env: &mut Env,
     allowance: u64,
-    kept: &[Part],
+    kept: &PriorParts<'_>,
     progress: &mut WalkProgress,
     done: &mut Vec<Part>,
     steps: &mut Steps<L>,
@@ -98,8 +99,9 @@ fn unit_of(alloc: Global, outcome: Outcome, charge: u64, done: Vec<Part>) -> Wal
 ///
 /// It is gone into each `document` with a child and each `with` of names, texts and a last child, down to trees of
 /// other kinds, which are the parts. A part is held where what is kept at its path fits what names have before it: then
-/// its trace is the part's, and costs nothing. The other parts are evaluated, and the steps rise by their costs, which the
-/// answer tells; a part that is over costs all the steps that it has. The environment is as before after every answer.
+/// its trace is the part's, and costs nothing. The other parts are evaluated, and the steps rise by their costs, which
+/// the answer tells; a part that is over costs all the steps that it has. The environment is as before after every
+/// answer.
 pub fn walk<L: Ledger>(
     alloc: Global,
     t: &Tree,
@@ -126,6 +128,7 @@ pub fn walk<L: Ledger>(
     ensures placed { IfOk result (λ w. All IsPlaced w.parts.items) }
     ensures env { env.new ≡ env.old }
 {
+    let prior = PriorParts::new(kept);
     let mut done = Vec::new(alloc);
     let mut progress = WalkProgress::new();
     let mark = env.enter();
@@ -134,7 +137,7 @@ pub fn walk<L: Ledger>(
         t,
         env,
         allowance,
-        kept,
+        &prior,
         &mut progress,
         &mut done,
         steps,

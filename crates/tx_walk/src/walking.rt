@@ -15,7 +15,7 @@ ghost use Rattle.tx_parts.specs.Parts.{parts};
 ghost use Rattle.tx_walk.specs.Held.{IsSound, charges};
 ghost use Rattle.tx_parts.specs.Composed.{nothing_yet};
 ghost use Rattle.tx_exec.specs.Outcomes.{wide_trace};
-ghost use Rattle.tx_walk.specs.Walked.{IsTidy, IsPlaced, kept_in, paths_of};
+ghost use Rattle.tx_walk.specs.Walked.{AreOnce, IsTidy, IsPlaced, kept_in, paths_of};
 ghost use Rattle.tx_exec_form.specs.Evaluated.{paid};
 ghost use Rattle.tx_origin.specs.Under.{value_under};
 ghost use Rattle.tx_walk.specs.Steps.{trace_under, settled, IsReady, IsBehind, IsAdded, IsPushed, IsNewPushed};
@@ -26,6 +26,7 @@ use crate::fitting::held;
 use crate::joined::Joined;
 use crate::opening::{Opening, opening_of};
 use crate::part::Part;
+use crate::prior::PriorParts;
 use crate::progress::WalkProgress;
 use crate::scopes::with_of;
 use crate::settings::{Settings, settings_of};
@@ -35,7 +36,7 @@ use std::alloc::Global;
 use std::sync::ledger::Ledger;
 use tx_base::{Memory, Steps};
 use tx_env::Env;
-use tx_exec::{Outcome, eval};
+use tx_exec::{Outcome, Trace, eval};
 use tx_origin::{Ip, Tagged};
 use tx_tree::{Path, Text, Tree};
 
@@ -59,6 +60,18 @@ fn path_below(alloc: Global, path: &Path, i: u32) -> Result<Path, Memory>
     Ok(below)
 }
 
+// The trace of this part in the whole. What it sets is set.
+fn trace_of(alloc: Global, part: &Part, env: &mut Env) -> Result<Trace, Memory>
+    requires part_tidy { IsTidy part.now }
+    ensures comes { IfOk result (λ t. wide_trace t ≡ trace_under part.now.path (wide_trace part.now.trace)) }
+    ensures behind { IfOk result (λ t. IsBehind (before_of env.old) (before_of env.new) (Some (wide_trace t))) }
+    ensures once { IfOk result AreOnce }
+    ensures scopes { env.new.scopes ≡ env.old.scopes }
+{
+    set_all(env, part.trace.writes.pairs())?;
+    placed_trace(alloc, part)
+}
+
 // What this part comes to. It comes behind the other parts, and what it sets is set.
 fn settle(alloc: Global, part: Part, env: &mut Env, done: &mut Vec<Part>) -> Result<Outcome, Memory>
     requires part_tidy { IsTidy part }
@@ -71,8 +84,7 @@ fn settle(alloc: Global, part: Part, env: &mut Env, done: &mut Vec<Part>) -> Res
     ensures done_ready { All IsReady done.new.items }
     ensures scopes { env.new.scopes ≡ env.old.scopes }
 {
-    set_all(env, part.trace.writes.pairs())?;
-    let trace = placed_trace(alloc, &part)?;
+    let trace = trace_of(alloc, &part, env)?;
     done.push(part)?;
     Ok(Outcome::Done(trace))
 }
@@ -203,7 +215,7 @@ fn part<L: Ledger>(
     env: &mut Env,
     levels: u32,
     left: u64,
-    kept: &[Part],
+    kept: &PriorParts<'_>,
     progress: &mut WalkProgress,
     done: &mut Vec<Part>,
     steps: &mut Steps<L>,
@@ -243,7 +255,7 @@ pub(crate) fn walk_tree<L: Ledger>(
     env: &mut Env,
     levels: u32,
     left: u64,
-    kept: &[Part],
+    kept: &PriorParts<'_>,
     progress: &mut WalkProgress,
     done: &mut Vec<Part>,
     steps: &mut Steps<L>,
@@ -292,7 +304,7 @@ fn document<L: Ledger>(
     env: &mut Env,
     levels: u32,
     left: u64,
-    kept: &[Part],
+    kept: &PriorParts<'_>,
     progress: &mut WalkProgress,
     done: &mut Vec<Part>,
     steps: &mut Steps<L>,
@@ -348,7 +360,7 @@ fn children<L: Ledger>(
     env: &mut Env,
     levels: u32,
     left: u64,
-    kept: &[Part],
+    kept: &PriorParts<'_>,
     progress: &mut WalkProgress,
     done: &mut Vec<Part>,
     joined: &mut Joined,
@@ -393,7 +405,7 @@ fn one_child<L: Ledger>(
     env: &mut Env,
     levels: u32,
     left: u64,
-    kept: &[Part],
+    kept: &PriorParts<'_>,
     progress: &mut WalkProgress,
     done: &mut Vec<Part>,
     joined: &mut Joined,
@@ -431,7 +443,7 @@ fn scope<L: Ledger>(
     env: &mut Env,
     levels: u32,
     left: u64,
-    kept: &[Part],
+    kept: &PriorParts<'_>,
     progress: &mut WalkProgress,
     done: &mut Vec<Part>,
     steps: &mut Steps<L>,
@@ -474,7 +486,7 @@ fn scope_with<L: Ledger>(
     env: &mut Env,
     levels: u32,
     left: u64,
-    kept: &[Part],
+    kept: &PriorParts<'_>,
     progress: &mut WalkProgress,
     done: &mut Vec<Part>,
     settings: Settings,
@@ -537,7 +549,7 @@ fn inside<L: Ledger>(
     env: &mut Env,
     levels: u32,
     left: u64,
-    kept: &[Part],
+    kept: &PriorParts<'_>,
     progress: &mut WalkProgress,
     done: &mut Vec<Part>,
     pairs: &[(Text, Tree)],
@@ -580,7 +592,7 @@ fn set_inside<L: Ledger>(
     env: &mut Env,
     levels: u32,
     left: u64,
-    kept: &[Part],
+    kept: &PriorParts<'_>,
     progress: &mut WalkProgress,
     done: &mut Vec<Part>,
     pairs: &[(Text, Tree)],

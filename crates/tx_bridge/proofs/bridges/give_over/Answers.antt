@@ -1,13 +1,13 @@
 use Rattle.std.proofs.Common.{◌≡◌, ◌∙◌, ◌++◌, sym, ap, subst, take, drop, length, arith}
 use Rattle.std.proofs.lemmas.Grind.{common_steps}
-use Rattle.tx_bridge.specs.Carrying.{mods_of}
-use Rattle.tx_bridge.specs.Slots.{AreApart, AllLead, AllPlaced, paths_in}
+use Rattle.tx_bridge.specs.Carrying.{AllLead, mods_of}
+use Rattle.tx_bridge.specs.Slots.{AreApart, AllPlaced, paths_in}
 use Rattle.tx_bridge.proofs.Arrived.{fresh_apart, fresh_placed, sound_placed}
 use Rattle.tx_bridge.proofs.Taking.{moved_as, as_given}
 use Rattle.tx_bridge.proofs.bridges.give_over.Goals as goal
 
-pub places_after-requires-clause-lead : goal.places_after-requires-clause-lead
-places_after-requires-clause-lead g c zero_is =
+pub unit_places_after-requires-clause-lead : goal.unit_places_after-requires-clause-lead
+unit_places_after-requires-clause-lead g c zero_is =
     subst (AllLead c.args.before.now) (sym (c.in_ok-paths.ensures ∙ ap paths_in c.deref.ensures.value))
     (c.requires.lead zero_is)
 

@@ -12,16 +12,17 @@ refresh-requires-clause-settled g c =
 pub loop-i-preserved : goal.loop-i-preserved
 loop-i-preserved g c =
     next c.args.bridges.now c.loop-i.bridges c.loop-i.i c.loop-i.moment c.loop-i.still c.args.steps.now
-    c.loop-i.steps c.loop-i.charges c.loop-i.invariant (omega arith) c.index-bridges-i.result c.refresh.new.self c.refresh.new.moment
-    c.in_ok-charge.goes_on c.refresh.new.steps c.in_ok-charge.charge
+    c.loop-i.steps c.loop-i.charges c.loop-i.invariant (omega arith) c.index-bridges-i.result c.refresh.new.self
+    c.refresh.new.moment c.in_ok-charge.goes_on c.refresh.new.steps c.in_ok-charge.charge
     (record {
       unit = c.in_ok-charge.ensures.unit;
       fresh = c.in_ok-charge.ensures.fresh;
       parts = c.in_ok-charge.ensures.parts;
     })
-    c.in_ok-charge.ensures.renewed c.in_ok-charge.ensures.behind c.in_ok-charge.ensures.charge
-    c.in_ok-charge.ensures.counted c.in_ok-charge.ensures.most
-    c.in_ok-charge.ensures.sound c.in_ok-charge.ensures.stays c.in_ok-charge.ensures.source c.in_ok-charge.ensures.settled
+    c.in_ok-charge.ensures.flags c.in_ok-charge.ensures.renewed c.in_ok-charge.ensures.behind
+    c.in_ok-charge.ensures.charge c.in_ok-charge.ensures.counted c.in_ok-charge.ensures.most
+    c.in_ok-charge.ensures.sound c.in_ok-charge.ensures.stays c.in_ok-charge.ensures.source
+    c.in_ok-charge.ensures.settled
 
 pub returns-in_err-charge-clause-sound : goal.returns-in_err-charge-clause-sound
 returns-in_err-charge-clause-sound g c =

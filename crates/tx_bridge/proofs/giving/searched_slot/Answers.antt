@@ -13,8 +13,8 @@ returns-then-has_path-clause-slot c =
 
 pub loop-i-preserved : goal.loop-i-preserved
 loop-i-preserved c =
-    miss_more (λ b. is_path c.args.path.now b.unit.path) c.args.new.now c.loop-i.i c.index-new-i.result c.loop-i.invariant (omega arith)
-    (sym c.has_path.ensures ∙ c.if-has_path.false)
+    miss_more (λ b. is_path c.args.path.now b.unit.path) c.args.new.now c.loop-i.i c.index-new-i.result
+    c.loop-i.invariant (omega arith) (sym c.has_path.ensures ∙ c.if-has_path.false)
 
 pub returns-clause-slot : goal.returns-clause-slot
 returns-clause-slot c =

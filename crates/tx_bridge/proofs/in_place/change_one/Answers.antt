@@ -10,8 +10,8 @@ use Rattle.tx_bridge.proofs.in_place.change_one.Goals as goal
 
 pub returns-clause-changed : goal.returns-clause-changed
 returns-clause-changed c =
-    set_changed c.args.bridges.now c.args.changed c.args.tree c.args.parts c.index-bridges-changed.result c.change.new.self
-    c.requires c.change.ensures.changed
+    set_changed c.args.bridges.now c.args.changed c.args.tree c.args.parts c.index-bridges-changed.result
+    c.change.new.self c.requires c.change.ensures.changed
 
 pub returns-clause-silent : goal.returns-clause-silent
 returns-clause-silent c = λ h b at.

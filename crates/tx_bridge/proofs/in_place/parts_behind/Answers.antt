@@ -5,8 +5,8 @@ use Rattle.tx_bridge.specs.CarryingParts.{parts_at}
 use Rattle.tx_bridge.proofs.WithinUnit.{places_are, places_lead}
 use Rattle.tx_bridge.proofs.in_place.parts_behind.Goals as goal
 
-pub paths_after-requires-clause-lead : goal.paths_after-requires-clause-lead
-paths_after-requires-clause-lead g c =
+pub places_after-requires-clause-lead : goal.places_after-requires-clause-lead
+places_after-requires-clause-lead g c =
     places_lead c.args.before.now c.requires.stands.0 c.args.path.now c.args.parts.now c.add_part_paths.new.paths.items
     (c.in_ok-add_part_paths.ensures
     ∙ ap (λ xs. xs ++ map (λ (p : DonePart). Some (c.args.path.now ++ p.path)) c.args.parts.now)

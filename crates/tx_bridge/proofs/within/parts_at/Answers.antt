@@ -8,10 +8,12 @@ loop-i-preserved c =
     elim c.match-branch-2.branch [
       | in-Some+in_ok-push w ↦
           stays c.args.path.now c.args.places.now c.args.parts.now c.loop-i.stay.items c.loop-i.i
-          c.index-places-i.result c.index-parts-i.result c.loop-i.invariant (search rules) (search rules) (search rules) (search rules)
-          w.in-Some.part c.match-branch-2.stay.items (search rules) (search rules) (search rules)
+          c.index-places-i.result c.index-parts-i.result c.loop-i.invariant
+          (search rules) (search rules) (search rules) (search rules) w.in-Some.part c.match-branch-2.stay.items
+          (search rules) (search rules) (search rules)
       | in_default w ↦
           goes c.args.path.now c.args.places.now c.args.parts.now c.loop-i.stay.items c.loop-i.i
-          c.index-places-i.result c.index-parts-i.result c.loop-i.invariant (search rules) (search rules) (search rules) (search rules)
-          c.in_ok-part.field-0 c.match-branch-2.stay.items w.in_default.not-Some (search rules) (search rules)
+          c.index-places-i.result c.index-parts-i.result c.loop-i.invariant
+          (search rules) (search rules) (search rules) (search rules) c.in_ok-part.field-0 c.match-branch-2.stay.items
+          w.in_default.not-Some (search rules) (search rules)
     ]

@@ -1,7 +1,8 @@
 use Rattle.std.proofs.Common.{sym, subst, ◌∙◌}
 use Rattle.tx_exec.specs.Outcomes.{wide_outcome}
-use Rattle.tx_bridge.specs.HeldParts.{PartsHold}
+use Rattle.tx_bridge.specs.HeldParts.{PartsHold, kept_parts}
 use Rattle.tx_bridge.proofs.PartsSame.{bare_parts}
+use Rattle.tx_bridge.proofs.Marked.{bare_flags}
 use Rattle.tx_bridge.proofs.bridge.Bridge.evaluated.Goals as goal
 
 pub returns-clause-hold : goal.returns-clause-hold
@@ -9,3 +10,8 @@ returns-clause-hold g c =
     subst (PartsHold c.args.self.now.unit (wide_outcome c.in_ok-outcome.outcome)) (sym c.none.ensures)
     (bare_parts c.args.self.now.unit (wide_outcome c.in_ok-outcome.outcome)
     (sym c.is_nested.ensures ∙ c.if-is_nested.false))
+
+pub returns-clause-flags : goal.returns-clause-flags
+returns-clause-flags g c =
+    bare_flags c.args.moment.now c.args.self.now.unit (kept_parts c.args.self.now.parts) c.none.result
+    (sym c.is_nested.ensures ∙ c.if-is_nested.false) c.none.ensures

@@ -1,14 +1,11 @@
-use Rattle.std.proofs.Common.{◌≡◌, ◌∙◌, ◌++◌, ◌<◌, length, take, drop, sym, ap, subst, arith, slice_index_or}
+use Rattle.std.proofs.Common.{◌≡◌, ◌∙◌, ◌++◌, ◌<◌, length, take, drop, sym, ap, subst, arith}
+use mathlib.Core.Bool.{false≢true}
 use Rattle.std.proofs.lemmas.Grind.{common_steps}
-use Rattle.std.proofs.lemmas.List.Elements.{recursion_from_All}
-use Rattle.std.proofs.lemmas.Option.{slice_get-get_or}
 use Rattle.std.specs.Prelude.{slice_get}
-use Rattle.tx_walk.specs.Walked.{IsTidy}
 use Rattle.tx_bridge.specs.Names.{Carry, CarryWithin, Sources}
-use Rattle.tx_bridge.specs.Slots.{bodies_of}
 use Rattle.tx_bridge.specs.Sound.{parts_in, changed_in}
-use Rattle.tx_bridge.proofs.Changing.{in_place, is_within, changed_right, changed_parts}
-use Rattle.tx_bridge.proofs.ChangedParts.{bodies_stand, within_hold, parts_but_is}
+use Rattle.tx_bridge.proofs.Changing.{in_place, is_within, changed_right}
+use Rattle.tx_bridge.proofs.ChangedParts.{bodies_stand, bare_at, within_hold, parts_but_is}
 use Rattle.tx_bridge.proofs.bridges.Bridges.carry_in_place.Goals as goal
 use Rattle.tx_bridge.proofs.bridges.Bridges.carry_in_place.Goals.{then-self, else-self}
 
@@ -121,3 +118,21 @@ returns-clause-units g c =
     (ap (λ b. b.kept) c.self.view_is) c.requires.units c.requires.changed
     (whole ∙ c.change_one-silent.ensures.changed
     ∙ ap (changed_in c.args.changed c.args.tree c.in_ok-parts.parts) c.deref_mut.ensures.value)).units
+
+pub returns-in_err-parts-clause-ready : goal.returns-in_err-parts-clause-ready
+returns-in_err-parts-clause-ready g c none =
+    let at = bare_at c.self.inside.bridges.items c.deref.result.now c.args.self.now.parts c.deref.ensures.value
+    (ap (λ b. b.parts) c.self.view_is) c.args.changed none in
+    absurd (false≢true (c.in_err-parts.ensures.ready at.0 at.1 at.2))
+
+pub returns-in_err-parts-clause-free : goal.returns-in_err-parts-clause-free
+returns-in_err-parts-clause-free g c none =
+    let at = bare_at c.self.inside.bridges.items c.deref.result.now c.args.self.now.parts c.deref.ensures.value
+    (ap (λ b. b.parts) c.self.view_is) c.args.changed none in
+    c.in_err-parts.ensures.free at.0 at.1 at.2
+
+pub returns-clause-free : goal.returns-clause-free
+returns-clause-free g c none =
+    let at = bare_at c.self.inside.bridges.items c.deref.result.now c.args.self.now.parts c.deref.ensures.value
+    (ap (λ b. b.parts) c.self.view_is) c.args.changed none in
+    c.in_ok-parts.ensures.free at.0 at.1 at.2

@@ -3,13 +3,14 @@ use Rattle.std.proofs.lemmas.Grind.{common_steps}
 use Rattle.std.specs.List.{All}
 use Rattle.std.specs.FinMap.{empty}
 use Rattle.tx_view_form.specs.Outcomes.{beginning}
-use Rattle.tx_bridge.specs.Names.{Fresh, FreshParts}
+use Rattle.tx_bridge.specs.Names.{Fresh, FreshParts, PartFlags}
 use Rattle.tx_bridge.specs.Entries.{units_of, fresh_from}
 use Rattle.tx_bridge.specs.Settled.{AreSettled}
-use Rattle.tx_bridge.specs.Nested.{fresh_parts_from}
-use Rattle.tx_bridge.specs.Sound.{IsSound, entries_of, parts_in}
+use Rattle.tx_bridge.specs.Nested.{fresh_parts_from, part_flags_from}
+use Rattle.tx_bridge.specs.Sound.{IsSound, entries_of, parts_in, part_flags_in}
 use Rattle.tx_bridge.proofs.Partway.{any_err}
 use Rattle.tx_bridge.proofs.Used.{fresh_settled}
+use Rattle.tx_bridge.proofs.Remaining.{parts_stay}
 use Rattle.tx_bridge.proofs.bridges.Bridges.refresh.Goals as goal
 
 pub invariant_of-self : goal.invariant_of-self
@@ -56,3 +57,26 @@ invariant_of-self-2 g c =
           subst (AreSettled empty) (sym (ap entries_of whole ∙ c.in_ok-charges.ensures.fresh))
           (fresh_settled c.trace_laws.ensures.agrees beginning (units_of (entries_of c.deref_mut.result.now)));
     }
+
+pub returns-clause-parts_renewed : goal.returns-clause-parts_renewed
+unfolding PartFlags
+returns-clause-parts_renewed g c =
+    let whole : take c.self.inside.bridges.len (c.refresh_all.new.bridges
+    ++ drop (length c.refresh_all.new.bridges) c.self.inside.bridges.items) ≡ c.refresh_all.new.bridges =
+    grind (arith, common_steps) in
+    ap part_flags_in whole ∙ c.in_ok-charges.ensures.parts_renewed
+    ∙ ap (λ es. part_flags_from beginning es (parts_in c.deref_mut.result.now))
+    (ap entries_of c.deref_mut.ensures.value ∙ ap (λ b. b.kept) c.self.view_is)
+    ∙ ap (part_flags_from beginning c.args.self.now.kept)
+    (ap parts_in c.deref_mut.ensures.value ∙ ap (λ b. b.parts) c.self.view_is)
+
+pub returns-clause-parts_stay : goal.returns-clause-parts_stay
+returns-clause-parts_stay g c =
+    let whole : take c.self.inside.bridges.len (c.refresh_all.new.bridges
+    ++ drop (length c.refresh_all.new.bridges) c.self.inside.bridges.items) ≡ c.refresh_all.new.bridges =
+    grind (arith, common_steps) in
+    parts_stay c.trace_laws.ensures.over c.standing_law.ensures.stand c.fitting_law.ensures.all_traced
+    c.deref_mut.result.now c.refresh_all.new.bridges _ c.args.self.now.parts
+    (subst (All IsSound) (sym c.deref_mut.ensures.value) c.self.invariant.sound)
+    (ap parts_in c.deref_mut.ensures.value ∙ ap (λ b. b.parts) c.self.view_is)
+    c.in_ok-charges.ensures.parts c.in_ok-charges.ensures.parts_renewed whole

@@ -3,8 +3,10 @@ use Rattle.std.proofs.lemmas.List.Elements.{recursion_from_All}
 use Rattle.std.specs.FinMap.{get}
 use Rattle.tx_exec.specs.Outcomes.{wide_outcome}
 use Rattle.tx_walk.specs.Walked.{IsTidy, kept_in}
-use Rattle.tx_bridge.specs.HeldParts.{PartsHold, kept_parts}
-use Rattle.tx_bridge.proofs.ByParts.{sound_of, tidy_of, walked_hold, outcome_there, fresh_there, charge_there}
+use Rattle.tx_bridge.specs.HeldParts.{PartsHold, kept_parts, flags_of_parts}
+use Rattle.tx_bridge.proofs.ByParts.{sound_of, tidy_of, walked_hold, parts_there, outcome_there, fresh_there}
+use Rattle.tx_bridge.proofs.ByParts.{charge_there}
+use Rattle.tx_bridge.proofs.Marked.{walked_flags}
 use Rattle.tx_bridge.proofs.moments.Moment.by_parts.Goals as goal
 
 pub walk-requires-clause-sound : goal.walk-requires-clause-sound
@@ -44,3 +46,15 @@ returns-clause-charge g c =
     c.in_ok-walked.ensures.charge
     ∙ charge_there c.args.unit.now c.args.self.now c.self.inside.env.map c.self.inside.left c.min-allowance.result
     c.self.view_is c.min-allowance.ensures c.args.kept.now c.requires.nested
+
+pub returns-clause-flags : goal.returns-clause-flags
+returns-clause-flags g c =
+    ap flags_of_parts c.new.ensures
+    ∙ walked_flags c.args.self.now c.args.unit.now c.args.kept.now c.in_ok-walked.walked.parts.items _
+    (wide_outcome c.in_ok-walked.walked.outcome) c.requires.nested
+    (parts_there c.args.unit.now c.args.self.now c.self.inside.env.map c.self.inside.left c.min-allowance.result
+    c.self.view_is c.min-allowance.ensures)
+    (c.in_ok-walked.ensures.exact
+    ∙ outcome_there c.args.unit.now c.args.self.now c.self.inside.env.map c.self.inside.left c.min-allowance.result
+    c.self.view_is c.min-allowance.ensures c.requires.placed c.requires.nested)
+    c.in_ok-walked.ensures.parts

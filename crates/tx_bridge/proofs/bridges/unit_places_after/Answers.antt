@@ -1,5 +1,5 @@
 use Rattle.tx_bridge.proofs.Arrived.{by_other}
-use Rattle.tx_bridge.proofs.bridges.places_after.Goals as goal
+use Rattle.tx_bridge.proofs.bridges.unit_places_after.Goals as goal
 
 pub returns-clause-ok : goal.returns-clause-ok
 returns-clause-ok g c =

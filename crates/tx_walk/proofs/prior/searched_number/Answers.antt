@@ -2,7 +2,7 @@ use Rattle.std.proofs.Common.{refl, sym, ◌∙◌, length}
 use Rattle.std.proofs.lemmas.Option.{slice_get_read}
 use Rattle.tx_walk.specs.Walked.{kept_in}
 use Rattle.tx_walk.proofs.Found.{past_other, found_there, past_all}
-use Rattle.tx_walk.proofs.fitting.number_at.Goals as goal
+use Rattle.tx_walk.proofs.prior.searched_number.Goals as goal
 
 pub loop-i-preserved : goal.loop-i-preserved
 loop-i-preserved c =

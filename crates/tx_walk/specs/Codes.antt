@@ -1,4 +1,4 @@
--- What is kept of parts, as contracts see it.
+-- Lists of parts, as contracts see them.
 use Rattle.std.specs.Prelude.{List}
 use Rattle.std.specs.Coded.{Coded, coded_list}
 use Rattle.tx_walk.specs.declared.part.Part.{Part as DonePart}

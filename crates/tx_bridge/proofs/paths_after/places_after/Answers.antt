@@ -3,7 +3,7 @@ use Rattle.std.proofs.lemmas.Grind.{common_steps}
 use Rattle.std.specs.Prelude.{option_and_then}
 use Rattle.tx_mod.specs.Moves.{carried_path}
 use Rattle.tx_bridge.proofs.Going.{goes_on, gone}
-use Rattle.tx_bridge.proofs.paths_after.paths_after.Goals as goal
+use Rattle.tx_bridge.proofs.paths_after.places_after.Goals as goal
 
 pub loop-m-preserved : goal.loop-m-preserved
 loop-m-preserved g c =

@@ -1,0 +1,134 @@
+// The parts of nested paragraphs, and what names have at the end.
+ghost use Rattle.std.specs.Prelude.{◌≡◌};
+
+use crate::edits::{BASE, buffers_of, edited_in_place, from_nothing};
+use std::alloc::Global;
+use std::marker::Brand;
+use std::sync::ledger::{Blank, Ledger};
+use tx_base::{Memory, Steps};
+use tx_bridge::{Bridges, Moment};
+use tx_tree::Text;
+use tx_walk::Part;
+
+// A buffer, an edit inside one nested paragraph or before it, and for each paragraph, a `/` between them, a mark for
+// each part: a cross where nothing that fits was kept of it, and else a point.
+type Row = (&'static str, &'static str, &'static str);
+
+const ROWS: &[Row] = &[
+    (
+        "d (document (assign \"n\" \"1\") (with \"color\" \"red\" (document \"long text\" (value \"n\"))))",
+        "assign /1/2/0 \"x\"",
+        "/x.",
+    ),
+    (
+        "d (document (assign \"n\" \"1\") (with \"color\" \"red\" (document \"long text\" (value \"n\"))))",
+        "assign /0/1 \"5\"",
+        "/.x",
+    ),
+    // a paragraph that isn't reached
+    (
+        "d (document (document \"a\" \"b\") (document \"c\" \"d\"))",
+        "insert /1/0 0 \"x\"",
+        "../x.",
+    ),
+];
+
+fn all_marked(parts: &[Part], marks: &[u8]) -> bool {
+    for i in 0..parts.len() {
+        if parts[i].renewed != (marks.get(i) == Some(&b'x')) {
+            return false;
+        }
+    }
+    parts.len() == marks.len()
+}
+
+// Whether the parts of the paragraphs have these marks.
+fn are_marked(bridges: &Bridges, marks: &str) -> Option<bool> {
+    for (i, own) in marks.split('/').enumerate() {
+        let parts = bridges.parts(BASE.checked_add(u32::try_from(i).ok()?)?)?;
+        if !all_marked(parts, own.as_bytes()) {
+            return Some(false);
+        }
+    }
+    Some(true)
+}
+
+fn holds<L: Ledger>(alloc: Global, row: &Row, steps: &mut Steps<L>) -> Option<bool> {
+    let buffers = buffers_of(alloc, row.0, steps)?;
+    if buffers.is_empty() || buffers.len() > 16 {
+        return None;
+    }
+    let (bridges, _, _) = edited_in_place(alloc, &buffers, row.1, steps)?;
+    are_marked(&bridges, row.2)
+}
+
+// The number of the first row that doesn't hold.
+fn first_untrue<L: Ledger>(alloc: Global, blank: Blank) -> Option<usize>
+    requires name { blank.name ≡ L.name }
+    requires parts { blank.parts ≡ L.parts }
+    requires whole { blank.parts ≡ 1 }
+{
+    let mut steps = Steps::<L>::new(blank);
+    for (i, row) in ROWS.iter().enumerate() {
+        if holds(alloc, row, &mut steps) != Some(true) {
+            return Some(i);
+        }
+    }
+    None
+}
+
+#[test]
+fn parts_that_change_are_told(rt: HostRuntime) {
+    assert_eq!(rt; first_untrue::<Brand>(rt.alloc(), Blank::new(1)), None);
+}
+
+// The moment behind all units.
+fn end_of<L: Ledger>(
+    alloc: Global,
+    bridges: &mut Bridges,
+    steps: &mut Steps<L>,
+) -> Result<Moment, Memory> {
+    bridges.refresh(alloc, steps)?;
+    bridges.end(alloc)
+}
+
+// Whether the name has this text behind all units.
+fn ends_with<L: Ledger>(
+    alloc: Global,
+    bridges: &mut Bridges,
+    name: &[u8],
+    text: &[u8],
+    steps: &mut Steps<L>,
+) -> Option<bool> {
+    let moment = end_of(alloc, bridges, steps).ok()?;
+    let name = Text::new(alloc, name).ok()?;
+    let words = moment.env().get(&name)?.text()?;
+    Some(words.bytes() == text)
+}
+
+// What the name `n` has behind a document that sets it twice.
+fn is_last<L: Ledger>(alloc: Global, blank: Blank) -> Option<bool>
+    requires name { blank.name ≡ L.name }
+    requires parts { blank.parts ≡ L.parts }
+    requires whole { blank.parts ≡ 1 }
+{
+    let mut steps = Steps::<L>::new(blank);
+    let words = "d (document (assign \"n\" \"1\") \"a\" (document (assign \"n\" \"2\") \"b\"))";
+    let buffers = buffers_of(alloc, words, &mut steps)?;
+    if buffers.is_empty() || buffers.len() > 16 {
+        return None;
+    }
+    let mut bridges = from_nothing(alloc, &buffers, &mut steps)?;
+    ends_with(
+        alloc,
+        &mut bridges,
+        b"n".as_slice(),
+        b"2".as_slice(),
+        &mut steps,
+    )
+}
+
+#[test]
+fn the_end_has_what_was_set_last(rt: HostRuntime) {
+    assert_eq!(rt; is_last::<Brand>(rt.alloc(), Blank::new(1)), Some(true));
+}
