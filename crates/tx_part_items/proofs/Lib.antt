@@ -1,0 +1,3 @@
+mod Deeper
+mod ByParts
+mod Worked

@@ -1,0 +1,2 @@
+pub mod ItemsUnder
+pub mod ShownParts

@@ -1,0 +1,3 @@
+pub mod LaidParts
+pub mod Finding
+pub mod Laying

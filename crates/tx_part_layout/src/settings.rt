@@ -1,0 +1,84 @@
+// The names and texts of a `with`.
+ghost use Rattle.std.specs.Prelude.{◌≡◌, ℕ, Some, None, IfOk, OnOk, MatchOption, slice_get, List};
+ghost use Rattle.tx_tree.specs.WideTree.{WideTree, leaf, children_of};
+ghost use Rattle.tx_parts.specs.Openness.{Settings as TextSettings, With, openness, settings_in};
+ghost use Rattle.tx_part_items.specs.ShownParts.{settings_set, settings_given_back};
+
+use std::alloc::Global;
+use tx_base::Memory;
+use tx_items::Attrs;
+use tx_tree::{Text, Tree};
+
+// The text that is the child of this number.
+fn text_at(t: &Tree, i: u32) -> Option<&Text>
+    ensures { MatchOption result ((words : List ℕ) → slice_get (children_of t.now) i ≡ Some (leaf words) → ⊥)
+        (λ words. slice_get (children_of t.now) i ≡ Some (leaf words.now)) }
+{
+    match t.child(i) {
+        None => None,
+        Some(kid) => kid.text(),
+    }
+}
+
+/// The names and texts of a `with`, in order.
+pub(crate) fn settings_of(alloc: Global, t: &Tree) -> Result<Vec<(Text, Text)>, Memory>
+    requires opens { (ps : TextSettings) × (b : WideTree) × (settings_in (children_of t.now) ≡ Some (ps, b)) }
+    ensures { (ps : TextSettings) (b : WideTree) → settings_in (children_of t.now) ≡ Some (ps, b) →
+        IfOk result (λ s. s.items ≡ ps) }
+{
+    let mut settings = Vec::new(alloc);
+    for i in 0..t.arity() / 2 {
+        let Some(name) = text_at(t, 2 * i) else {
+            unreachable!()
+        };
+        let Some(words) = text_at(t, 2 * i + 1) else {
+            unreachable!()
+        };
+        settings.push((name.copy()?, words.copy()?))?;
+    }
+    Ok(settings)
+}
+
+/// The last child of a `with`.
+pub(crate) fn inner_of(t: &Tree) -> &Tree
+    requires opens { (ps : TextSettings) × (b : WideTree) × (settings_in (children_of t.now) ≡ Some (ps, b)) }
+    ensures { (ps : TextSettings) (b : WideTree) → settings_in (children_of t.now) ≡ Some (ps, b) → result.now ≡ b }
+{
+    let count = t.arity();
+    if count == 0 {
+        unreachable!()
+    }
+    let Some(inner) = t.child(count - 1) else {
+        unreachable!()
+    };
+    inner
+}
+
+/// Sets each name to its text, in order.
+pub(crate) fn set_each(
+    alloc: Global,
+    settings: &[(Text, Text)],
+    attrs: &mut Attrs,
+) -> Result<(), Memory>
+    ensures { OnOk result (attrs.new ≡ settings_set settings.now attrs.old) }
+{
+    for (name, words) in settings {
+        attrs.set(alloc, name, Some(words))?;
+    }
+    Ok(())
+}
+
+/// What the names set is again what it was before.
+pub(crate) fn restore_each(
+    settings: &[(Text, Text)],
+    before: &Attrs,
+    attrs: &mut Attrs,
+) -> Result<(), Memory>
+    ensures { OnOk result (attrs.new ≡ settings_given_back settings.now before.now attrs.old) }
+{
+    let count = settings.len();
+    for i in 0..count {
+        attrs.restore(&settings[count - 1 - i].0, before)?;
+    }
+    Ok(())
+}
