@@ -17,7 +17,7 @@ use Rattle.tx_exec_form.specs.declared.TheConstants.{MOST_LEVELS}
 use Rattle.tx_exec_form.specs.Evaluated.{WideTrace}
 use Rattle.tx_units.specs.declared.kinds.Unit.{Unit as DocUnit}
 use Rattle.tx_items.specs.declared.attributes.Attrs.{Attrs}
-use Rattle.tx_view_form.specs.Outcomes.{Moment, beginning, charge, behind, allowance, outcome, env_behind, value_of}
+use Rattle.tx_view_form.specs.Outcomes.{Moment, beginning, behind, allowance, outcome, env_behind, value_of}
 use Rattle.tx_view_form.specs.Outcomes.{over_value}
 use Rattle.tx_view_form.specs.Started.{attributes_of}
 use Rattle.tx_view_form.specs.Views.{IsShown, AreShown, paragraphs_at}
@@ -25,12 +25,15 @@ use Rattle.tx_bridge.specs.Entries.{Entry, Kept, units_of, traces_of, fresh_from
 use Rattle.tx_bridge.proofs.Paying.{AllSmall}
 use Rattle.tx_bridge.proofs.Used.{AllAllowed}
 use Rattle.tx_view.specs.declared.shown.Shown.{Shown}
-use Rattle.tx_view.specs.Costs.{items_in, items_of}
+use Rattle.tx_view.specs.Costs.{items_of}
+use Rattle.tx_part_layout.specs.LaidParts.{items_in}
 use Rattle.tx_view.specs.Laid.{IsLaidOut, AreLaid, laid_in, unlaid_from, unlaid, without}
-use Rattle.tx_view.specs.Lone.{SetsNoName, attributes_along, IsLone, IsAlone}
-use Rattle.tx_view.specs.Stores.{same_attrs, is_laid_for, attributes_from}
+use Rattle.tx_view.specs.Lone.{attributes_along, IsLone, IsAlone}
+use Rattle.tx_bridge.specs.Settled.{IsSilent}
+use Rattle.tx_view.specs.Stores.{attributes_from}
+use Rattle.tx_part_layout.specs.LaidParts.{same_attrs, is_before}
 use Rattle.tx_view.specs.Units.{unit_view, unit_views}
-use Rattle.tx_view.proofs.Leaving.{from_along, trace_at}
+use Rattle.tx_view.proofs.Leaving.{from_along}
 use Rattle.tx_view.proofs.Onward.{laid_at, laid_set, laid_by}
 use Rattle.tx_view.proofs.Staying.{heads}
 
@@ -47,8 +50,8 @@ same_all (e ∷ es) (d ∷ ds) many h =
 
 along_same : (i : ℕ) (old new : Kept) (env : NameMap) → length old ≡ length new
     → ((k : ℕ) → k < length old → (k ≡ i → ⊥) → slice_get new k ≡ slice_get old k)
-    → ((t : Option WideTrace) → slice_get (traces_of old) i ≡ Some t → SetsNoName t)
-    → ((t : Option WideTrace) → slice_get (traces_of new) i ≡ Some t → SetsNoName t)
+    → ((t : Option WideTrace) → slice_get (traces_of old) i ≡ Some t → IsSilent t)
+    → ((t : Option WideTrace) → slice_get (traces_of new) i ≡ Some t → IsSilent t)
     → attributes_along env (traces_of new) ≡ attributes_along env (traces_of old)
 along_same i [] [] env many same was is = refl
 along_same i [] (e ∷ new) env many same was is = absurd (omega (arith, many))
@@ -66,7 +69,7 @@ along_same (suc i) (d ∷ old) (e ∷ new) env many same was is =
     (along_same i old new (env_behind env d.trace) (omega (arith, many))
     (λ k less other. same (suc k) (omega (arith, less)) (λ f. other (omega (arith, f)))) was is)
 
-none_silent : (o : Option (Option WideTrace)) (t : Option WideTrace) → o ≡ Some None → o ≡ Some t → SetsNoName t
+none_silent : (o : Option (Option WideTrace)) (t : Option WideTrace) → o ≡ Some None → o ≡ Some t → IsSilent t
 none_silent o t e f env = ap (env_behind env) (sym (same_Some None t (sym e ∙ f)))
 
 -- where the unit that alone was evaluated anew sets no name, the attributes before all are those for which they were
@@ -74,13 +77,13 @@ none_silent o t e f env = ap (env_behind env) (sym (same_Some None t (sym e ∙ 
 pub still_along : (i n : ℕ) (old new : Kept) (flags : List Bool) (xs : List Shown) (a : Attrs) (t : WideTrace)
     → IsLone old xs i a → IsAlone i n old new flags → n ≡ length old → units_of new ≡ units_of old
     → length old ≡ length new → new ≡ fresh_from beginning (units_of new)
-    → slice_get (traces_of new) i ≡ Some (Some t) → SetsNoName (Some t)
+    → slice_get (traces_of new) i ≡ Some (Some t) → IsSilent (Some t)
     → slice_set (laid_in xs) i (Some a) ≡ attributes_from beginning (units_of new)
 still_along i n old new flags xs a t lone alone is_n same many fresh at quiet =
     lone.attributes
     ∙ sym (along_same i old new empty many (λ k less other. alone.stays k (omega (arith, less, is_n)) other)
     (λ o there. none_silent (slice_get (traces_of old) i) o lone.nothing_kept there)
-    (λ o there. subst SetsNoName (same_Some (Some t) o (sym at ∙ there)) quiet))
+    (λ o there. subst IsSilent (same_Some (Some t) o (sym at ∙ there)) quiet))
     ∙ ap (λ es. attributes_along empty (traces_of es)) fresh ∙ sym (from_along beginning (units_of new))
 
 -- ---- what is laid out
@@ -136,7 +139,7 @@ pub record IsReady (kept : Kept) (xs : List Shown) (i : ℕ) (a : Attrs) : Type 
   pub attributes : slice_set (laid_in xs) i (Some a) ≡ attributes_from beginning (units_of kept)
 
 pub ready_is : (i : ℕ) (old new : Kept) (flags : List Bool) (olds xs : List Shown) (a : Attrs)
-    (t : (t : WideTrace) × (slice_get (traces_of new) i ≡ Some (Some t)) × SetsNoName (Some t)) → IsLone old olds i a
+    (t : (t : WideTrace) × (slice_get (traces_of new) i ≡ Some (Some t)) × IsSilent (Some t)) → IsLone old olds i a
     → IsAlone i (length olds) old new flags → length olds ≡ length old → units_of new ≡ units_of old
     → length old ≡ length new → new ≡ fresh_from beginning (units_of old) → xs ≡ without flags olds
     → IsReady new xs i a
@@ -170,9 +173,9 @@ attrs_same a =
     ∙ ap (λ b. b && bytes_eq a.mode a.mode) (texts_same a.color) ∙ texts_same a.mode
 
 laid_for_itself : (laid : Option Attrs) (a : Attrs) (n : ℕ) → laid ≡ Some a
-    → (if is_laid_for laid a then 0 else n) ≡ 0
+    → (if is_before laid a then 0 else n) ≡ 0
 laid_for_itself laid a n is =
-    ap (λ (o : Option Attrs). if is_laid_for o a then 0 else n) is ∙ ap (λ b. if b then 0 else n) (attrs_same a)
+    ap (λ (o : Option Attrs). if is_before o a then 0 else n) is ∙ ap (λ b. if b then 0 else n) (attrs_same a)
 
 pub all_laid : (m : Moment) (us : List DocUnit) (laid : List (Option Attrs)) → laid ≡ attributes_from m us
     → unlaid_from m us laid ≡ 0
@@ -197,8 +200,8 @@ one_laid m (k ∷ es) zero e (o ∷ laid) a fresh at none is =
     let next : Moment = behind m (outcome_of m k.unit) in
     let one = heads k (record { unit = k.unit; trace = outcome_of m k.unit }) es (fresh_from next (units_of es)) fresh in
     let two = heads (Some a) (Some (attributes_of m.env)) laid (attributes_from next (units_of es)) is in
-    let here : (if is_laid_for o (attributes_of m.env) then 0 else items_of m k.unit) ≡ items_of m k.unit =
-    ap (λ (p : Option Attrs). if is_laid_for p (attributes_of m.env) then 0 else items_of m k.unit)
+    let here : (if is_before o (attributes_of m.env) then 0 else items_of m k.unit) ≡ items_of m k.unit =
+    ap (λ (p : Option Attrs). if is_before p (attributes_of m.env) then 0 else items_of m k.unit)
     (same_Some o None none) in
     let items : items_of m k.unit ≡ items_in (paragraphs_at e.unit.path a (value_of e.trace)) =
     ap (λ b. items_in (paragraphs_at k.unit.path b (value_of (outcome_of m k.unit))))

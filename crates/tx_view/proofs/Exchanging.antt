@@ -1,5 +1,5 @@
 -- The units after an edit that changes one paragraph alone.
-use Rattle.std.proofs.Common.{arith, ◌+◌, None, true}
+use Rattle.std.proofs.Common.{arith, ◌+◌, ◌≤◌, None, true}
 use Rattle.std.proofs.Common.{◌≡◌, ℕ, zero, suc, Bool, false, List, [], ◌∷◌, length, map, Option, Some, refl, sym, ap, subst, ◌∙◌}
 use Rattle.std.proofs.lemmas.Bool.{and_parts}
 use Rattle.std.specs.Option.{option_map, option_map_or}

@@ -23,7 +23,8 @@ use Rattle.tx_view.specs.declared.carrying.Target.TheVariants.{InPlace}
 use Rattle.tx_view.specs.declared.shown.Shown.{Shown}
 use Rattle.tx_view.specs.declared.view.View.TheInside.{Inside}
 use Rattle.tx_view.specs.Laid.{AreLaid, laid_in, StaysAs, StayBut, IsTarget, IsMoved, SetNoName}
-use Rattle.tx_view.specs.Lone.{SetsNoName, attributes_along, IsLone}
+use Rattle.tx_view.specs.Lone.{attributes_along, IsLone}
+use Rattle.tx_bridge.specs.Settled.{IsSilent}
 use Rattle.tx_view.specs.Names.{Fresh}
 use Rattle.tx_view.specs.Stores.{attributes_from}
 use Rattle.tx_view.specs.Units.{unit_view, unit_views}
@@ -124,7 +125,7 @@ kept_behind i k all (t ∷ ts) (v ∷ vs) less from many =
 
 along_but : (i k j : ℕ) (all ts : List (Option WideTrace)) (vs : List DocUnit) (env : NameMap) → i ≡ k + j
     → AreFrom all k ts → length ts ≡ length vs
-    → ((t : Option WideTrace) → slice_get ts j ≡ Some t → SetsNoName t)
+    → ((t : Option WideTrace) → slice_get ts j ≡ Some t → IsSilent t)
     → attributes_along env (taken i k all vs) ≡ attributes_along env ts
 along_but i k j all [] [] env e from many silent = refl
 along_but i k j all [] (v ∷ vs) env e from many silent = absurd (omega (arith, many))
@@ -214,7 +215,7 @@ left_alone width buffer ms t old new olds xs to ss vs i a laid is_new is_ss targ
           put_back i 0 i a olds xs (omega arith) stay at ∙ along
           ∙ sym (along_but i 0 i (traces_of old) (traces_of old) vs empty (omega arith) (from_first (traces_of old))
           (as_many old ∙ sym (kept_many width old olds laid) ∙ many)
-          (λ o there. let e = trace_at old i o there in subst SetsNoName e.2 (quiet refl e.0 e.1)))
+          (λ o there. let e = trace_at old i o there in subst IsSilent e.2 (quiet refl e.0 e.1)))
           ∙ ap (attributes_along empty) (sym kept);
     }
   where

@@ -7,7 +7,6 @@ pub mod Costing
 pub mod Stopping
 pub mod Taking
 pub mod Few
-pub mod Alike
 pub mod Forgetting
 pub mod Renewed
 pub mod Onward
@@ -23,6 +22,7 @@ pub mod Apart
 pub mod Neighbours
 pub mod Ranges
 pub mod Near
+pub mod Middle
 pub mod Placed
 pub mod Setting
 pub mod Ends
@@ -30,3 +30,4 @@ pub mod Leaving
 pub mod Alone
 pub mod Likeness
 pub mod Lasting
+pub mod Partly

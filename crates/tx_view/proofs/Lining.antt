@@ -1,36 +1,17 @@
 -- Lines of one paragraph more, and what the weight of paragraphs says of each.
-use Rattle.std.proofs.Common.{◌≡◌, ℕ, ◌+◌, ◌<◌, List, [], ◌∷◌, ◌++◌, length, take, get_or, ap, ◌∙◌, refl, sym, subst}
-use Rattle.std.proofs.Common.{arith, length-append, append_assoc}
+use Rattle.std.proofs.Common.{◌≡◌, ℕ, ◌<◌, List, [], ◌∷◌, length, ap, refl, sym, subst}
+use Rattle.std.proofs.Common.{arith, length-append}
 use Rattle.std.specs.List.{flat_map, All}
-use Rattle.std.proofs.lemmas.List.{append-nil, take_more}
 use Rattle.std.proofs.lemmas.List.Elements.{All-nil, All-cons}
 use Rattle.tx_items.specs.declared.drawing.Paragraph.{Paragraph}
 use Rattle.tx_layout.specs.declared.layout.Line.{Line}
-use Rattle.tx_layout.specs.Shapes.{IsShape}
-use Rattle.tx_view_form.specs.Views.{AreLines, no_lines, lines_then, IsShown}
+use Rattle.tx_view_form.specs.Views.{no_lines, IsShown}
 use Rattle.tx_view_form.specs.Weights.{weight_of}
 use Rattle.std.specs.Prelude.{◌≤◌, ◌*◌, ◌^◌, Option, None}
 use Rattle.tx_origin.specs.Values.{WideValue}
 use Rattle.tx_items.specs.declared.attributes.Attrs.{Attrs}
 use Rattle.tx_items.specs.declared.drawing.ErrorAt.{ErrorAt}
 use Rattle.tx_items.specs.Shows.{show}
-
-pub lines_more : {width : ℕ} {ps : List Paragraph} {ls : List Line} (p : Paragraph) (own : List Line)
-    → AreLines width ps ls
-    → IsShape p width own → AreLines width (ps ++ p ∷ []) (ls ++ own)
-lines_more {width} p own no_lines s =
-    subst (λ (ls : List Line). AreLines width (p ∷ []) ls) (append-nil own) (lines_then p [] own [] s no_lines)
-lines_more {width} p own (lines_then q qs first others t rest) s =
-    subst (λ (ls : List Line). AreLines width (q ∷ (qs ++ p ∷ [])) ls) (sym (append_assoc first others own))
-    (lines_then q (qs ++ p ∷ []) first (others ++ own) t (lines_more p own rest s))
-
-pub lines_next : (width : ℕ) (ps : List Paragraph) (i : ℕ) (p : Paragraph) (ls own new : List Line) → i < length ps
-    → p ≡ get_or ps i p
-    → AreLines width (take i ps) ls → IsShape p width own → new ≡ ls ++ own → AreLines width (take (i + 1) ps) new
-lines_next width ps i p ls own new lt is so shape e =
-    subst (λ (ns : List Line). AreLines width (take (i + 1) ps) ns) (sym e)
-    (subst (λ (qs : List Paragraph). AreLines width qs (ls ++ own))
-    (sym (take_more ps i p lt ∙ ap (λ q. take i ps ++ q ∷ []) (sym is))) (lines_more p own so shape))
 
 pub each_few : (ps : List Paragraph) (n : ℕ) → length (flat_map (λ p. p.items) ps) < n
     → All (λ p. length p.items < n) ps

@@ -22,7 +22,7 @@ use Rattle.tx_view_form.specs.Positions.{IsShort}
 use Rattle.tx_view_form.specs.Views.{paragraphs_at}
 use Rattle.tx_bridge.specs.Entries.{Entry, Kept, units_of, traces_of}
 use Rattle.tx_bridge.specs.UnitLists.{IsPlaced}
-use Rattle.tx_bridge.specs.Carrying.{through, places_after, is_path, number_at, same_unit, same_number, source}
+use Rattle.tx_bridge.specs.Carrying.{through, unit_places_after, is_path, number_at, same_unit, same_number, source}
 use Rattle.tx_bridge.specs.Carrying.{sources_from}
 use Rattle.tx_bridge.specs.Carrying.{had, taken_from, mods_of}
 use Rattle.tx_bridge.specs.Names.{Sources, Carry as CarryKept}
@@ -155,16 +155,16 @@ some_there ms t p None h = cc
 some_there ms t p (Some q) h = refl
 
 agree_by_path : (ms : List Mod) (t : WideTree) (us : List DocUnit) (p : List ℕ) (i : ℕ) (u : DocUnit)
-    → number_at p 0 (places_after ms t us) None ≡ Some i → slice_get us i ≡ Some u → is_some u.path ≡ true
-agree_by_path ms t us p i u h at = by (found_at p 0 (places_after ms t us) None i h)
+    → number_at p 0 (unit_places_after ms t us) None ≡ Some i → slice_get us i ≡ Some u → is_some u.path ≡ true
+agree_by_path ms t us p i u h at = by (found_at p 0 (unit_places_after ms t us) None i h)
   where
-    by : (nowhere ≡ Some i) ⊎ Found p 0 (places_after ms t us) i → is_some u.path ≡ true
+    by : (nowhere ≡ Some i) ⊎ Found p 0 (unit_places_after ms t us) i → is_some u.path ≡ true
     by (inl e) = cc
     by (inr f) =
         let same : f.0 ≡ i = omega (arith, f.2) in
         let there : Some (through ms t u.path) ≡ Some f.1 =
         sym (ap (option_map (place_of ms t)) at) ∙ sym (slice_get-map (place_of ms t) us i)
-        ∙ ap (slice_get (places_after ms t us)) (sym same) ∙ f.3 in
+        ∙ ap (slice_get (unit_places_after ms t us)) (sym same) ∙ f.3 in
         some_there ms t p u.path
         (ap (is_path p) (same_Some (through ms t u.path) f.1 there) ∙ f.4)
 
@@ -196,18 +196,18 @@ agree_by_number us j v i u placed there h at = by (slice_get us j) refl
         placed_at (z ∷ xs) (suc k) x all g = placed_at xs k x all.1 g
 
 agree_one : (ms : List Mod) (t : WideTree) (us : List DocUnit) (j : ℕ) (v : DocUnit) → AllByRecursion IsPlaced us
-    → IsPlaced v → Agree us (source (places_after ms t us) us j v) v
+    → IsPlaced v → Agree us (source (unit_places_after ms t us) us j v) v
 agree_one ms t us j v placed there i u h at = by v.path refl h
   where
     by : (o : Option (List ℕ)) → v.path ≡ o
-        → option_map_or (λ p. number_at p 0 (places_after ms t us) None) o (same_number us j v) ≡ Some i
+        → option_map_or (λ p. number_at p 0 (unit_places_after ms t us) None) o (same_number us j v) ≡ Some i
         → is_some u.path ≡ is_some v.path
     by None e f = agree_by_number us j v i u placed there f at
     by (Some p) e f = agree_by_path ms t us p i u f at ∙ sym (ap is_some e)
 
 pub agree_all : (ms : List Mod) (t : WideTree) (us : List DocUnit) (j : ℕ) (vs : List DocUnit)
     → AllByRecursion IsPlaced us → AllByRecursion IsPlaced vs
-    → AllAgree us (sources_from (places_after ms t us) us j vs) vs
+    → AllAgree us (sources_from (unit_places_after ms t us) us j vs) vs
 agree_all ms t us j [] placed all = tt
 agree_all ms t us j (v ∷ vs) placed all =
     (agree_one ms t us j v placed all.0, agree_all ms t us (j + 1) vs placed all.1)
@@ -377,7 +377,7 @@ pub carried_on : (width buffer : ℕ) (ms : List Mod) (t : WideTree) (old new : 
 unfolding CarryKept Sources
 carried_on width buffer ms t old new olds blanks xs ss vs laid reads blank placed there is_new is_ss is_xs =
     let us : List DocUnit = units_of old in
-    let places = places_after (mods_of buffer ms) t us in
+    let places = unit_places_after (mods_of buffer ms) t us in
     let firsts : List (Option ℕ) = sources_from places us 0 vs in
     let agree : AllAgree us firsts vs = agree_all (mods_of buffer ms) t us 0 vs placed there in
     let many : length firsts ≡ length vs = sources_many places us 0 vs in

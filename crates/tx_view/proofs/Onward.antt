@@ -1,36 +1,36 @@
 -- Units laid out up to some number.
-use Rattle.std.proofs.Common.{◌≡◌, ℕ, zero, suc, ◌+◌, ◌-◌, ◌*◌, ◌<◌, ◌≤◌, ◌^◌, List, [], ◌∷◌, ◌++◌, length, take, drop}
+use Rattle.std.proofs.Common.{◌≡◌, ℕ, zero, suc, ◌+◌, ◌*◌, ◌<◌, ◌≤◌, ◌^◌, List, [], ◌∷◌, ◌++◌, length, take, drop}
 use Rattle.std.proofs.Common.{slice_index_or, slice_set, Bool, true, false, Option, Some, None}
 use Rattle.std.proofs.Common.{refl, ap, sym, subst, ◌∙◌, arith, length-append}
-use Rattle.std.proofs.lemmas.List.{drop_more, drop-drop, drop-set-lt, append_assoc, append-nil, take_more_set, take_all}
-use Rattle.std.proofs.lemmas.List.{drop_all, map_push}
+use Rattle.std.proofs.lemmas.List.{drop_more, drop-set-lt, append_assoc, append-nil, take_more_set, take_all}
+use Rattle.std.proofs.lemmas.List.{drop_all, map_push, length-take-le}
 use Rattle.std.proofs.lemmas.List.Concat.{flat_map-append, length-flat_map}
 use Rattle.std.proofs.lemmas.List.Elements.{All-set}
 use Rattle.std.proofs.lemmas.Option.{same_Some}
 use Rattle.std.specs.List.{flat_map}
-use Rattle.std.specs.Option.{unwrap_or, option_map}
+use Rattle.std.specs.Option.{option_map}
 use Rattle.std.specs.Prelude.{slice_get, if◌then◌else◌}
 use Rattle.tx_tree.proofs.Walks.{drop_item}
 use Rattle.tx_tree.specs.WideTree.{size_of}
 use Rattle.tx_origin.specs.Values.{WideValue, plain}
-use Rattle.tx_origin.specs.TaggedTrees.{tagged_of}
 use Rattle.tx_exec_form.specs.Evaluated.{WideTrace}
-use Rattle.tx_units.specs.declared.kinds.Unit.{Unit as DocUnit}
 use Rattle.tx_items.specs.declared.attributes.Attrs.{Attrs}
 use Rattle.tx_items.specs.declared.drawing.Paragraph.{Paragraph}
 use Rattle.tx_items.specs.Shows.{shown_paragraphs}
-use Rattle.tx_view_form.specs.Outcomes.{Moment, beginning, charge, behind, value_of, over_value}
+use Rattle.tx_view_form.specs.Outcomes.{Moment, beginning, behind, value_of, over_value}
 use Rattle.tx_view_form.specs.Started.{attributes_of}
 use Rattle.tx_view_form.specs.Views.{UnitView, IsShown, AreShown, lines_of, paragraphs_at}
 use Rattle.tx_view_form.specs.Errors.{errors_of}
 use Rattle.tx_view_form.specs.Weights.{weight_of}
 use Rattle.tx_bridge.specs.Entries.{Entry, Kept, units_of, fresh_from, outcome_of}
 use Rattle.tx_bridge.specs.Moments.{IsPaid}
-use Rattle.tx_bridge.proofs.Used.{AllAllowed, charge_fits}
+use Rattle.tx_bridge.proofs.Used.{AllAllowed}
 use Rattle.tx_view.specs.declared.shown.Shown.{Shown}
 use Rattle.tx_view.specs.Units.{unit_view, unit_views, IsReadable}
-use Rattle.tx_view.specs.Stores.{is_laid_for, attributes_from}
-use Rattle.tx_view.specs.Costs.{items_in, items_of}
+use Rattle.tx_view.specs.Stores.{attributes_from}
+use Rattle.tx_part_layout.specs.LaidParts.{is_before}
+use Rattle.tx_view.specs.Costs.{items_of}
+use Rattle.tx_part_layout.specs.LaidParts.{items_in}
 use Rattle.tx_view.specs.Laid.{IsLaid, IsLaidOut, IsNext, AreLaid, laid_in, unlaid_from}
 use Rattle.tx_view.proofs.Forgetting.{AllReadable}
 use Rattle.tx_view.proofs.Few.{few_lines, few_errors}
@@ -90,12 +90,12 @@ laid_by {width} {a} {b} {v} {w} {p} {q} {x} e f g h =
     (subst (λ (o : Option (List ℕ)). IsLaidOut width a v o x) g h))
 
 items_laid : (x : Shown) (a b : Attrs) (p q : Option (List ℕ)) (v w : WideValue) → a ≡ b → p ≡ q → v ≡ w
-    → (if is_laid_for x.laid a then 0 else items_in (paragraphs_at p a v))
-    ≡ (if is_laid_for x.laid b then 0 else items_in (paragraphs_at q b w))
+    → (if is_before x.laid a then 0 else items_in (paragraphs_at p a v))
+    ≡ (if is_before x.laid b then 0 else items_in (paragraphs_at q b w))
 items_laid x a b p q v w e f g =
-    ap (λ c. if is_laid_for x.laid c then 0 else items_in (paragraphs_at p c v)) e
-    ∙ ap (λ o. if is_laid_for x.laid b then 0 else items_in (paragraphs_at o b v)) f
-    ∙ ap (λ u. if is_laid_for x.laid b then 0 else items_in (paragraphs_at q b u)) g
+    ap (λ c. if is_before x.laid c then 0 else items_in (paragraphs_at p c v)) e
+    ∙ ap (λ o. if is_before x.laid b then 0 else items_in (paragraphs_at o b v)) f
+    ∙ ap (λ u. if is_before x.laid b then 0 else items_in (paragraphs_at q b u)) g
 
 at_most : (b : Bool) (n most : ℕ) → n ≤ most → (if b then 0 else n) ≤ most
 at_most true n most h = omega arith
@@ -104,9 +104,9 @@ at_most false n most h = h
 -- what is shown, whether it was laid out anew or not, weighs so much at most
 few_laid : (x : Shown) (p : Option (List ℕ)) (a : Attrs) (v : WideValue)
     → length (flat_map (λ p. p.items) (shown_paragraphs a v)) ≤ weight_of (shown_paragraphs a v)
-    → (if is_laid_for x.laid a then 0 else items_in (paragraphs_at p a v)) ≤ weight_of (shown_paragraphs a v)
+    → (if is_before x.laid a then 0 else items_in (paragraphs_at p a v)) ≤ weight_of (shown_paragraphs a v)
 few_laid x p a v h =
-    at_most (is_laid_for x.laid a) (items_in (paragraphs_at p a v)) (weight_of (shown_paragraphs a v))
+    at_most (is_before x.laid a) (items_in (paragraphs_at p a v)) (weight_of (shown_paragraphs a v))
     (few_items (paragraphs_at p a v) p a v refl h)
 
 -- the premises are what the calls ensure, in their order
@@ -117,14 +117,14 @@ pub next_is : AllAllowed → ((a : Attrs) → weight_of (shown_paragraphs a over
     → e.trace ≡ o → e.trace ≡ outcome_of m e.unit → IsLaid width e x → a ≡ attributes_of m.env
     → after ≡ behind m e.trace → IsPaid m after (value_of e.trace) → IsLaidOut width a (value_of o) x.path y
     → y.laid ≡ Some a
-    → n ≡ (if is_laid_for x.laid a then 0 else items_in (paragraphs_at x.path a (value_of o)))
+    → n ≡ (if is_before x.laid a then 0 else items_in (paragraphs_at x.path a (value_of o)))
     → IsNext width e m after x y n
 next_is allowed over law width e m after x y a o n weight is_o trace laid is_a is_after paid out is_laid is_n =
     let b : Attrs = attributes_of m.env in
     let v : WideValue = value_of e.trace in
     let same_value : value_of o ≡ v = ap value_of (sym is_o) in
     let here : IsLaidOut width b v e.unit.path y = laid_by is_a same_value laid.path out in
-    let count : n ≡ (if is_laid_for x.laid b then 0 else items_in (paragraphs_at e.unit.path b v)) =
+    let count : n ≡ (if is_before x.laid b then 0 else items_in (paragraphs_at e.unit.path b v)) =
     is_n ∙ items_laid x a b x.path e.unit.path (value_of o) v is_a laid.path same_value in
     let heavy : weight_of (shown_paragraphs b v) ≤ 242 * size_of (plain v) =
     subst (λ (u : WideValue). weight_of (shown_paragraphs b u) ≤ 242 * size_of (plain u)) same_value (weight b) in
@@ -145,13 +145,23 @@ next_is allowed over law width e m after x y a o n weight is_o trace laid is_a i
 -- the steps of one unit
 pub steps_is : (width : ℕ) (e : Entry) (m : Moment) (x : Shown) (a : Attrs) (o : Option WideTrace) (n before after : ℕ)
     → e.trace ≡ o → e.trace ≡ outcome_of m e.unit → IsLaid width e x → a ≡ attributes_of m.env
-    → n ≡ (if is_laid_for x.laid a then 0 else items_in (paragraphs_at x.path a (value_of o))) → after ≡ before + n
-    → after ≡ before + (if is_laid_for x.laid (attributes_of m.env) then 0 else items_of m e.unit)
+    → n ≡ (if is_before x.laid a then 0 else items_in (paragraphs_at x.path a (value_of o))) → after ≡ before + n
+    → after ≡ before + (if is_before x.laid (attributes_of m.env) then 0 else items_of m e.unit)
 steps_is width e m x a o n before after is_o trace laid is_a is_n is_after =
     is_after
     ∙ ap (λ k. before + k)
     (is_n ∙ items_laid x a (attributes_of m.env) x.path e.unit.path (value_of o) (value_of (outcome_of m e.unit)) is_a
     laid.path (ap value_of (sym is_o ∙ trace)))
+
+at_seam : {A : Type 0} (xs ys : List A) (y : A) (i : ℕ) → length xs ≡ i → slice_get (xs ++ y ∷ ys) i ≡ Some y
+at_seam [] ys y zero e = refl
+at_seam [] ys y (suc i) e = absurd (omega (arith, e))
+at_seam (x ∷ xs) ys y zero e = absurd (omega (arith, e))
+at_seam (x ∷ xs) ys y (suc i) e = at_seam xs ys y i (omega (arith, e))
+
+laid_as_many : (xs : List Shown) → length (laid_in xs) ≡ length xs
+laid_as_many [] = refl
+laid_as_many (x ∷ xs) = ap suc (laid_as_many xs)
 
 -- ---- up to unit i
 
@@ -232,13 +242,21 @@ module _ (width : ℕ) (kept : Kept) (old now : List Shown) (i : ℕ) (m : Momen
       same_rest e (record { unit = e.unit; trace = outcome_of m e.unit }) rest (fresh_from behind_it (units_of rest))
       both_fresh
 
+  -- the attributes for which it is to be laid out
+  pub right_here : slice_get (attributes_from beginning (units_of kept)) i ≡ Some (Some (attributes_of m.env))
+  right_here =
+      ap (λ l. slice_get l i) (sym p.attributes
+      ∙ ap (λ es. laid_in (take i now) ++ attributes_from m (units_of es)) head)
+      ∙ at_seam (laid_in (take i now)) (attributes_from behind_it (units_of rest)) (Some (attributes_of m.env)) i
+      (laid_as_many (take i now) ∙ length-take-le i now (omega (arith, inside)))
+
   pub laid_here : IsLaid width e (slice_index_or now i d)
   laid_here = laid_at width kept now i e d p.laid at
 
   module _ (y : Shown) (more after1 : ℕ) (m1 : Moment)
       (n : IsNext width e m m1 (slice_index_or now i d) y more)
       (is_after : after1
-      ≡ after + (if is_laid_for (slice_index_or now i d).laid (attributes_of m.env) then 0 else items_of m e.unit))
+      ≡ after + (if is_before (slice_index_or now i d).laid (attributes_of m.env) then 0 else items_of m e.unit))
       (can_read : IsReadable (unit_view y)) where
     abbrev new : List Shown
     new = slice_set now i y
@@ -282,14 +300,14 @@ module _ (width : ℕ) (kept : Kept) (old now : List Shown) (i : ℕ) (m : Momen
         ∙ ap (λ es. laid_in (take i now) ++ attributes_from m (units_of es)) (sym head) ∙ p.attributes
 
     unlaid_next : unlaid_from m (units_of (drop i kept)) (laid_in (drop i now))
-        ≡ (if is_laid_for x.laid (attributes_of m.env) then 0 else items_of m e.unit)
+        ≡ (if is_before x.laid (attributes_of m.env) then 0 else items_of m e.unit)
         + unlaid_from m1 (units_of rest) (laid_in (drop (i + 1) new))
     unlaid_next =
         ap (λ es. unlaid_from m (units_of es) (laid_in (drop i now))) head
         ∙ ap (λ xs. unlaid_from m (units_of (e ∷ rest)) (laid_in xs)) here
-        ∙ ap (λ k. (if is_laid_for x.laid (attributes_of m.env) then 0 else items_of m e.unit)
+        ∙ ap (λ k. (if is_before x.laid (attributes_of m.env) then 0 else items_of m e.unit)
         + unlaid_from k (units_of rest) (laid_in left)) (sym n.behind_is)
-        ∙ ap (λ xs. (if is_laid_for x.laid (attributes_of m.env) then 0 else items_of m e.unit)
+        ∙ ap (λ xs. (if is_before x.laid (attributes_of m.env) then 0 else items_of m e.unit)
         + unlaid_from m1 (units_of rest) (laid_in xs)) (sym dropped)
 
     laid_next : AreLaid width kept new

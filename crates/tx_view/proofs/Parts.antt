@@ -106,6 +106,15 @@ module _ {X : Type 0} (p : X → Bool) where
 
   -- ---- parts
 
+  -- the first that passes is in the second part
+  pub number_in_middle : (before near behind : List X) → list_any p before ≡ false → list_any p near ≡ true
+      → position p (before ++ near ++ behind) ≡ option_map (λ k. length before + k) (position p near)
+  number_in_middle before near behind e g =
+      let both : list_any p (before ++ near) ≡ true = some_in_right before near g in
+      number_some (before ++ near ++ behind) (some_in_left (before ++ near) behind both)
+      ∙ ap Some (len_before (before ++ near) behind both ∙ len_behind before near e)
+      ∙ sym (ap (option_map (λ k. length before + k)) (number_some near g))
+
   pub number_within : (before near behind : List X) → list_any p before ≡ false → list_any p behind ≡ false
       → position p (before ++ near ++ behind) ≡ option_map (λ k. length before + k) (position p near)
   number_within before near behind e f = by (list_any p near) refl
@@ -116,11 +125,7 @@ module _ {X : Type 0} (p : X → Bool) where
           number_none (before ++ near ++ behind)
           (none_in_both (before ++ near) behind (none_in_both before near e g) f)
           ∙ sym (ap (option_map (λ k. length before + k)) (number_none near g))
-      by true g =
-          let both : list_any p (before ++ near) ≡ true = some_in_right before near g in
-          number_some (before ++ near ++ behind) (some_in_left (before ++ near) behind both)
-          ∙ ap Some (len_before (before ++ near) behind both ∙ len_behind before near e)
-          ∙ sym (ap (option_map (λ k. length before + k)) (number_some near g))
+      by true g = number_in_middle before near behind e g
 
   pub first_of_parts : (xs ys : List X) → list_any p xs ≡ false → position p (xs ++ ys) ≡ Some 0 → xs ≡ []
   first_of_parts xs ys e f =
@@ -206,3 +211,64 @@ module _ {X : Type 0} (eq : X → X → Bool) where
   -- the first element is put
   pub once_some : (q : X) (ps : List X) → fold put_by [] (q ∷ ps) ≡ [] → ⊥
   once_some q ps e = let none = ap length e in omega (arith, more_folded (q ∷ []) ps, none)
+
+  -- ---- what passes a test stays, whatever is put
+
+  some_put : (p : X → Bool) (acc : List X) (q : X) → list_any p acc ≡ true → list_any p (put_by acc q) ≡ true
+  some_put p acc q e = pick (list_any (eq q) acc)
+    where
+      pick : (b : Bool) → list_any p (cond b acc (acc ++ q ∷ [])) ≡ true
+      pick true = e
+      pick false = some_in_left p acc (q ∷ []) e
+
+  some_folded : (p : X → Bool) (acc ps : List X) → list_any p acc ≡ true → list_any p (fold put_by acc ps) ≡ true
+  some_folded p acc [] e = e
+  some_folded p acc (q ∷ ps) e = some_folded p (put_by acc q) ps (some_put p acc q e)
+
+  put_there : (acc : List X) (q : X) → eq q q ≡ true → list_any (eq q) (put_by acc q) ≡ true
+  put_there acc q e = pick (list_any (eq q) acc) refl
+    where
+      pick : (b : Bool) → list_any (eq q) acc ≡ b → list_any (eq q) (cond b acc (acc ++ q ∷ [])) ≡ true
+      pick true f = f
+      pick false f = some_in_right (eq q) acc (q ∷ []) (ap (λ b. b || false) e)
+
+  -- what is put behind others
+  pub folded_more : (acc ps : List X)
+      → (ys : List X) × (fold put_by acc ps ≡ acc ++ ys) × (ps ≡ [] → ys ≡ [])
+  folded_more acc [] = ([], sym (append-nil acc), λ e. refl)
+  folded_more acc (q ∷ ps) = by (folded_more (put_by acc q) ps)
+    where
+      more : (b : Bool) → cond b acc (acc ++ q ∷ []) ≡ acc ++ cond b [] (q ∷ [])
+      more true = sym (append-nil acc)
+      more false = refl
+
+      by : ((ys : List X) × (fold put_by (put_by acc q) ps ≡ put_by acc q ++ ys) × (ps ≡ [] → ys ≡ []))
+          → (ys : List X) × (fold put_by acc (q ∷ ps) ≡ acc ++ ys) × (q ∷ ps ≡ [] → ys ≡ [])
+      by rest =
+          let one : List X = cond (list_any (eq q) acc) [] (q ∷ []) in (
+            one ++ rest.0,
+            rest.1 ∙ ap (λ xs. xs ++ rest.0) (more (list_any (eq q) acc)) ∙ append_assoc acc one rest.0,
+            λ e. absurd cc,
+          )
+
+  module _ (same : (x y : X) → eq x y ≡ true → x ≡ y) where
+    some_once : (q : X) (acc ps : List X) → list_any (eq q) ps ≡ true → list_any (eq q) (fold put_by acc ps) ≡ true
+    some_once q acc [] e = absurd cc
+    some_once q acc (x ∷ ps) e = pick (eq q x) refl e (some_once q (put_by acc x) ps)
+      where
+        pick : (b : Bool) → eq q x ≡ b → (b || list_any (eq q) ps) ≡ true
+            → (list_any (eq q) ps ≡ true → list_any (eq q) (fold put_by (put_by acc x) ps) ≡ true)
+            → list_any (eq q) (fold put_by (put_by acc x) ps) ≡ true
+        pick true f g later =
+            let is : x ≡ q = sym (same q x f) in
+            some_folded (eq q) (put_by acc x) ps
+            (ap (λ y. list_any (eq q) (put_by acc y)) is ∙ put_there acc q (ap (eq q) (sym is) ∙ f))
+        pick false f g later = later g
+
+    -- there is one like it where there was one
+    pub once_any : (q : X) (ps : List X) → list_any (eq q) (fold put_by [] ps) ≡ list_any (eq q) ps
+    once_any q ps = by (list_any (eq q) ps) refl
+      where
+        by : (b : Bool) → list_any (eq q) ps ≡ b → list_any (eq q) (fold put_by [] ps) ≡ list_any (eq q) ps
+        by true e = some_once q [] ps e ∙ sym e
+        by false e = none_once (eq q) ps e ∙ sym e

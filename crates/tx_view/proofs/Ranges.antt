@@ -63,8 +63,8 @@ near_parts at a b m c d all near e f before here behind first last =
           (h ∙ ap length (f ∙ sym (append_assoc b m c))));
     }
 
-near_none : (at : Place) (near behind all : List Place) → all ≡ near ++ behind → list_any (same_place at) all ≡ false
-    → (near ≡ [] → behind ≡ []) → AreNear all near at
+pub near_none : (at : Place) (near behind all : List Place) → all ≡ near ++ behind
+    → list_any (same_place at) all ≡ false → (near ≡ [] → behind ≡ []) → AreNear all near at
 near_none at near behind all e none empty =
     let parts = none_in_parts (same_place at) near behind (ap (list_any (same_place at)) (sym e) ∙ none) in
     let lost : stop_number near at ≡ None = number_none (same_place at) near parts.0 in

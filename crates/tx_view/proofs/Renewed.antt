@@ -11,16 +11,16 @@ use Rattle.tx_view_form.specs.Outcomes.{Moment, beginning, behind}
 use Rattle.tx_view_form.specs.Started.{attributes_of}
 use Rattle.tx_bridge.specs.Entries.{Entry, Kept, units_of, outcome_of}
 use Rattle.tx_bridge.specs.Reached.{fits, reached_from}
-use Rattle.tx_view.specs.Stores.{is_laid_for}
+use Rattle.tx_part_layout.specs.LaidParts.{is_before}
 use Rattle.tx_view.specs.Costs.{items_of, is_relaid, relaid_from}
 use Rattle.tx_view.specs.Laid.{unlaid_from, forgotten}
 use Rattle.tx_view.specs.Lone.{IsAlone}
 use Rattle.tx_view.proofs.Staying.{not_equal}
 
 relaid_one : (b : Bool) (laid : Option Attrs) (a : Attrs) (n : ℕ)
-    → (if is_laid_for (if not b then None else laid) a then 0 else n)
-    ≡ (if not b || not (is_laid_for laid a) then n else 0)
-relaid_one true laid a n = by (is_laid_for laid a)
+    → (if is_before (if not b then None else laid) a then 0 else n)
+    ≡ (if not b || not (is_before laid a) then n else 0)
+relaid_one true laid a n = by (is_before laid a)
   where
     by : (c : Bool) → (if c then 0 else n) ≡ (if not c then n else 0)
     by true = refl

@@ -9,15 +9,15 @@ use Rattle.tx_units.specs.Units.{units}
 use Rattle.tx_items.specs.declared.attributes.Attrs.{Attrs}
 use Rattle.tx_view_form.specs.Outcomes.{beginning}
 use Rattle.tx_view_form.specs.Views.{UnitView, AreShown}
-use Rattle.tx_bridge.specs.Nested.{KeptParts}
-use Rattle.tx_bridge.specs.Entries.{Kept, units_of}
+use Rattle.tx_bridge.specs.Nested.{KeptParts, fresh_parts_from}
+use Rattle.tx_bridge.specs.Entries.{Kept, units_of, fresh_from}
 use Rattle.tx_view.specs.declared.shown.Shown.{Shown}
 use Rattle.tx_view.specs.declared.view.View.TheInside.{Inside}
 use Rattle.tx_view.specs.declared.lone.Lone.{Lone}
 use Rattle.tx_view.specs.Laid.{AreLaid, laid_in}
 use Rattle.tx_view.specs.Lone.{IsLone, IsPaged}
 use Rattle.tx_view.specs.Names.{Fresh}
-use Rattle.tx_view.specs.Stores.{Stores}
+use Rattle.tx_view.specs.Stores.{Stores, attributes_from, fresh_stores}
 use Rattle.tx_view.specs.Units.{unit_view, unit_views, sums_from, row_counts, error_counts, IsReadable, AreAllApart}
 use Rattle.tx_view.specs.WholeViews.{WholeView, whole_of, all_of, IsKept}
 use Rattle.tx_view.proofs.Forgetting.{AllReadable}
@@ -143,3 +143,13 @@ standing v sized on shown paged stores apart laid reads none =
       apart = apart;
       lone = left_none v none;
     }
+
+-- all units are evaluated and laid out
+pub all_made : (bs : List Buffer) (old new : Kept) (ps : List KeptParts) (laid : List (Option Attrs))
+    → units_of old ≡ units bs → new ≡ fresh_from beginning (units_of old)
+    → ps ≡ fresh_parts_from beginning (units_of old) → laid ≡ attributes_from beginning (units_of old)
+    → stores_with new ps laid ≡ fresh_stores (units bs)
+all_made bs old new ps laid of kept parts attributes =
+    ap (λ k. stores_with k ps laid) kept ∙ ap (λ q. stores_with (fresh_from beginning (units_of old)) q laid) parts
+    ∙ ap (stores_with (fresh_from beginning (units_of old)) (fresh_parts_from beginning (units_of old))) attributes
+    ∙ ap fresh_stores of

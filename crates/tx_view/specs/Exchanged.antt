@@ -1,6 +1,6 @@
--- A paragraph that an edit changes alone.
-use Rattle.std.specs.Prelude.{◌≡◌, ℕ, zero, suc, ◌+◌, Bool, true, false, if◌then◌else◌, List, [], ◌∷◌, Option, Some, None}
-use Rattle.std.specs.Prelude.{option_and_then}
+-- A paragraph inside which an edit is, and which is found to change alone. That it isn't found says nothing.
+use Rattle.std.specs.Prelude.{◌≡◌, ℕ, zero, suc, ◌+◌, Bool, true, false, if◌then◌else◌, List, [], ◌∷◌, Option, Some}
+use Rattle.std.specs.Prelude.{None, option_and_then}
 use Rattle.std.specs.Option.{option_map_or}
 use Rattle.tx_tree.specs.Paths.{subtree}
 use Rattle.tx_tree.specs.WideTree.{WideTree}
@@ -12,18 +12,18 @@ use Rattle.tx_bridge.specs.InPlace.{is_changed, IsOneChanged}
 use Rattle.tx_bridge.specs.Nested.{KeptParts}
 use Rattle.tx_bridge.specs.Names.{CarryParts, CarryWithin}
 
--- the tree that stands in t where the unit's paragraph stood leaves all other units
+-- the tree that stands in t where the unit's paragraph stood is found to leave all other units
 abbrev pub stays_alone : WideTree → DocUnit → Bool
 stays_alone t u =
     option_map_or (λ p. option_map_or (leaves_others p u.tagged.tree) (subtree t p) false) u.path false
 
--- the number, from i on, of the unit inside whose paragraph all modifications are, if that alone changes
+-- the number, from i on, of the unit inside whose paragraph all modifications are, if this is found of it
 abbrev pub exchanged_from : List Mod → WideTree → ℕ → List DocUnit → Option ℕ
 exchanged_from ms t i [] = None
 exchanged_from ms t i (u ∷ us) =
     if is_changed ms u then (if stays_alone t u then Some i else None) else exchanged_from ms t (i + 1) us
 
--- those of another buffer change none
+-- those of another buffer are inside none
 abbrev pub exchanged_in : ℕ → List Mod → WideTree → List DocUnit → Option ℕ
 exchanged_in zero ms t us = exchanged_from ms t 0 us
 exchanged_in (suc buffer) ms t us = None
@@ -33,12 +33,12 @@ abbrev pub exchanged : ℕ → List Mod → WideTree → List DocUnit → Option
 exchanged buffer ms t us = option_and_then (λ u. exchanged_in buffer ms u us) (changed_by_all ms t)
 
 -- What stays of what is kept of the parts of these units, where the new units are these old ones: where one paragraph
--- alone changes, those of its parts that stay in it, and all of the others.
+-- is found to change alone, those of its parts that stay in it, and all of the others.
 abbrev pub parts_after : ℕ → List Mod → WideTree → List DocUnit → List KeptParts → List (Option ℕ) → List KeptParts
 parts_after buffer ms t us pss ss =
     option_map_or (λ i. CarryWithin i ms t us pss) (exchanged buffer ms t us) (CarryParts pss ss)
 
--- the tree x stands in t where the unit's paragraph stood, and leaves all other units
+-- the tree x stands in t where the unit's paragraph stood, and is found to leave all other units
 pub record IsNow (u : DocUnit) (t x : WideTree) : Type 0 where
   pub path : List ℕ
   pub has_path : u.path ≡ Some path

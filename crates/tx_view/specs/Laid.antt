@@ -1,6 +1,6 @@
 -- Units that are laid out, with what is kept of them. Private clauses cite these.
 use Rattle.std.specs.Prelude.{◌≡◌, ℕ, ◌≤◌, ◌<◌, ◌+◌, ◌*◌, ◌^◌, ◌==◌, Bool, true, false, if◌then◌else◌, List, [], ◌∷◌}
-use Rattle.std.specs.Prelude.{map, length, Option, Some, None, option_and_then, slice_get}
+use Rattle.std.specs.Prelude.{map, length, Option, Some, None, option_and_then, slice_get, ◌⊎◌}
 use Rattle.tx_tree.specs.WideTree.{size_of}
 use Rattle.tx_env.specs.Environments.{NameMap}
 use Rattle.tx_origin.specs.Values.{WideValue, plain}
@@ -11,10 +11,12 @@ use Rattle.tx_view_form.specs.Outcomes.{Moment, behind, env_behind, value_of}
 use Rattle.tx_view_form.specs.Started.{attributes_of}
 use Rattle.tx_view_form.specs.Views.{IsShown}
 use Rattle.tx_view_form.specs.Weights.{weight_of}
+use Rattle.tx_bridge.specs.Bridged.{Bridged}
 use Rattle.tx_bridge.specs.Entries.{Entry, Kept, outcome_of}
 use Rattle.tx_bridge.specs.InPlace.{numbers_but}
 use Rattle.tx_view.specs.Costs.{items_of}
-use Rattle.tx_view.specs.Stores.{is_laid_for}
+use Rattle.tx_view.specs.Stores.{Stores, IsOf}
+use Rattle.tx_part_layout.specs.LaidParts.{is_before}
 use Rattle.tx_view.specs.Units.{unit_view}
 use Rattle.tx_view.specs.declared.carrying.Target.{Target}
 use Rattle.tx_view.specs.declared.carrying.Target.TheVariants.{InPlace, Onto}
@@ -22,6 +24,9 @@ use Rattle.tx_view.specs.declared.shown.Shown.{Shown}
 
 abbrev pub laid_in : List Shown → List (Option Attrs)
 laid_in xs = map (λ x. x.laid) xs
+
+abbrev pub stores_in : Bridged → List Shown → Stores
+stores_in b xs = record { kept = b.kept; parts = b.parts; laid = laid_in xs }
 
 -- this is shown of a unit with this path, where these are the attributes before it and this is its value
 pub record IsLaidOut (width : ℕ) (a : Attrs) (v : WideValue) (path : Option (List ℕ)) (x : Shown) : Type 0 where
@@ -48,7 +53,7 @@ abbrev pub unlaid_from : Moment → List DocUnit → List (Option Attrs) → ℕ
 unlaid_from m [] laid = 0
 unlaid_from m (u ∷ us) [] = 0
 unlaid_from m (u ∷ us) (a ∷ laid) =
-    (if is_laid_for a (attributes_of m.env) then 0 else items_of m u) + unlaid_from (behind m (outcome_of m u)) us laid
+    (if is_before a (attributes_of m.env) then 0 else items_of m u) + unlaid_from (behind m (outcome_of m u)) us laid
 
 -- what was laid out of units with a flag is dropped
 abbrev pub forgotten : List Bool → List (Option Attrs) → List (Option Attrs)
@@ -73,8 +78,19 @@ pub record IsNext (width : ℕ) (e : Entry) (before after : Moment) (x y : Shown
   pub attributes : y.laid ≡ Some (attributes_of before.env)
   pub lines : length y.lines + 242 * after.left ≤ 242 * before.left + 49
   pub errors : length y.errors.items + after.left ≤ before.left + 7
-  pub items_is : items ≡ (if is_laid_for x.laid (attributes_of before.env) then 0 else items_of before e.unit)
+  pub items_is : items ≡ (if is_before x.laid (attributes_of before.env) then 0 else items_of before e.unit)
   pub most : items + 243 * after.left ≤ 243 * before.left + 49
+
+-- ---- what is left for want of memory
+
+-- a unit is laid out as before, by the trace of before, or not at all
+abbrev pub StayLaid : Stores → Stores → Type 0
+StayLaid old new = (i : ℕ) → IsOf new old i ⊎ (slice_get new.laid i ≡ Some None)
+
+-- a unit is laid out as before, or for these attributes
+abbrev pub ArePartlyLaid : List (Option Attrs) → List (Option Attrs) → List (Option Attrs) → Type 0
+ArePartlyLaid old fresh new =
+    (i : ℕ) → (slice_get new i ≡ slice_get old i) ⊎ (slice_get new i ≡ slice_get fresh i)
 
 -- ---- what goes with units through an edit
 

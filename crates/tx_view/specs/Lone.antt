@@ -16,10 +16,6 @@ use Rattle.tx_view.specs.Units.{unit_views, sums_from, row_counts, error_counts}
 use Rattle.tx_view.specs.declared.paging.Pagination.{Pagination}
 use Rattle.tx_view.specs.declared.shown.Shown.{Shown}
 
--- it sets no name
-abbrev pub SetsNoName : Option WideTrace → Type 0
-SetsNoName o = (env : NameMap) → env_behind env o ≡ env
-
 -- the attributes before each unit, where names have this before the first and these are the units' traces
 abbrev pub attributes_along : NameMap → List (Option WideTrace) → List (Option Attrs)
 attributes_along env [] = []

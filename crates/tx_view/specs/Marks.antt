@@ -1,9 +1,10 @@
 -- Marks, as contracts see them, the first and the last of some, and their stops.
-use Rattle.std.specs.Prelude.{ℕ, List, [], ◌∷◌, Option, Some, None, refl}
+use Rattle.std.specs.Prelude.{ℕ, List, [], ◌∷◌, map, Option, Some, None, refl}
 use Rattle.std.specs.List.{flat_map}
 use Rattle.std.specs.Coded.{Coded, code_by, coded×, coded_ℕ, coded_list}
 use Rattle.tx_tree.specs.declared.places.Place.{Place}
-use Rattle.tx_view_form.specs.Positions.{Mark}
+use Rattle.tx_origin.specs.RelativePlaces.{BasedPlace}
+use Rattle.tx_view_form.specs.Positions.{Mark, whole_path}
 use Rattle.tx_view_form.specs.Stops.{mark_place}
 
 abbrev pub first_of : List Mark → Option Mark
@@ -30,6 +31,14 @@ stops_at path (Some m) = both_ends path m
 
 abbrev pub stops_on : List ℕ → List Mark → List Place
 stops_on path ms = flat_map (both_ends path) ms
+
+-- ---- places that are told from the path of their unit
+
+abbrev pub spot_place : BasedPlace → Place
+spot_place s = record { path = whole_path s; offset = s.offset }
+
+abbrev pub spot_places : List BasedPlace → List Place
+spot_places ss = map spot_place ss
 
 -- ---- the code by which proofs tell marks apart
 

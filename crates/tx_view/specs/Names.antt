@@ -6,14 +6,13 @@ use Rattle.tx_doc.specs.declared.buffer.Buffer.{Buffer}
 use Rattle.tx_units.specs.Units.{units}
 use Rattle.tx_view_form.specs.Outcomes.{beginning}
 use Rattle.tx_bridge.specs.Carrying.{had}
-use Rattle.tx_bridge.specs.Entries.{units_of, nothing_kept, fresh_from}
+use Rattle.tx_bridge.specs.Entries.{units_of, nothing_kept}
 use Rattle.tx_bridge.specs.Sound.{AllHold}
 use Rattle.tx_bridge.specs.HeldParts.{AllPartsHold}
-use Rattle.tx_bridge.specs.Nested.{fresh_parts_from}
 use Rattle.tx_bridge.specs.Names.{Charge, Sources, Carry as CarryKept}
 use Rattle.tx_view.specs.Exchanged.{parts_after}
 use Rattle.tx_view.specs.Costs.{relaid_from}
-use Rattle.tx_view.specs.Stores.{Stores, attributes_from}
+use Rattle.tx_view.specs.Stores.{Stores, fresh_stores}
 
 -- nothing is kept of the units of these buffers
 unfoldable pub Empty : List Buffer → Stores
@@ -25,11 +24,7 @@ Empty buffers = record {
 
 -- what making the view of these buffers from nothing leaves
 unfoldable pub Fresh : List Buffer → Stores
-Fresh buffers = record {
-  kept = fresh_from beginning (units buffers);
-  parts = fresh_parts_from beginning (units buffers);
-  laid = attributes_from beginning (units buffers);
-}
+Fresh buffers = fresh_stores (units buffers)
 
 -- What a refresh takes: what the units are charged that are evaluated anew, which for a nested one are the costs of the
 -- parts of which nothing that fits is kept, and the items of those laid out anew.
@@ -46,7 +41,9 @@ Carry buffer ms old s new = record {
   laid = map (had s.laid) (Sources buffer ms (tree_of old buffer) (units_of s.kept) (units new));
 }
 
--- what is kept is of the units of these buffers, and the trace of a unit, or of a part, is that of its tree wherever what
--- it looked up is as it was
+-- what is kept is of the units of these buffers, and the trace of a unit, or of a part, is that of its tree wherever
+-- what it looked up is as it was
 unfoldable pub Holds : List Buffer → Stores → Type 0
-Holds buffers s = AllHold s.kept × AllPartsHold s.kept s.parts × (units_of s.kept ≡ units buffers) × (length s.laid ≡ length s.kept)
+Holds buffers s =
+    AllHold s.kept × AllPartsHold s.kept s.parts × (units_of s.kept ≡ units buffers)
+    × (length s.laid ≡ length s.kept)

@@ -24,6 +24,27 @@ pub record AreNear (all near : List Place) (at : Place) : Type 0 where
   pub first : stop_number near at ≡ Some 0 → before ≡ []
   pub last : (k : ℕ) → stop_number near at ≡ Some k → k + 1 ≡ length near → behind ≡ []
 
+-- ---- stops beside a place
+
+-- place number k, and none before it, is this one
+pub record HasFirst (ps : List Place) (at : Place) (k : ℕ) : Type 0 where
+  pub within : k < length ps
+  pub not_before : list_any (same_place at) (take k ps) ≡ false
+  pub here : list_any (same_place at) ps ≡ true
+
+-- the number of the first of some places that is this one, or none
+abbrev pub IsFirst : List Place → Place → Option ℕ → Type 0
+IsFirst ps at None = list_any (same_place at) ps ≡ false
+IsFirst ps at (Some k) = HasFirst ps at k
+
+-- The place is one of some stops. It is the first of them only where they begin as all do, and the last only where they
+-- end so.
+pub record HasNeighbours (stops : List Place) (at : Place) (from_start to_end : Bool) : Type 0 where
+  pub number : ℕ
+  pub there : stop_number stops at ≡ Some number
+  pub first : number ≡ 0 → from_start ≡ true
+  pub last : number + 1 ≡ length stops → to_end ≡ true
+
 -- ---- units
 
 -- a unit with this path stands above the place, or at it

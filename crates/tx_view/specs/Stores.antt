@@ -1,16 +1,15 @@
 -- What a view keeps from refresh to refresh, as contracts see it.
-use Rattle.std.specs.Prelude.{Bool, false, ◌&&◌, List, [], ◌∷◌, Option, Some, None, refl}
+use Rattle.std.specs.Prelude.{◌≡◌, ℕ, ◌⊎◌, List, [], ◌∷◌, ◌++◌, take, drop, Option, Some, None, refl}
+use Rattle.std.specs.Prelude.{slice_get}
 use Rattle.std.specs.Coded.{Coded, code_by, coded×, coded_list, coded_option}
-use Rattle.std.specs.Ordering.{int_eq}
-use Rattle.std.specs.Str.{bytes_eq}
 use Rattle.tx_items.specs.contracts.attributes.Attrs as one_attrs
 use Rattle.tx_items.specs.declared.attributes.Attrs.{Attrs}
 use Rattle.tx_units.specs.declared.kinds.Unit.{Unit as DocUnit}
-use Rattle.tx_view_form.specs.Outcomes.{Moment, behind}
+use Rattle.tx_view_form.specs.Outcomes.{Moment, beginning, behind}
 use Rattle.tx_view_form.specs.Started.{attributes_of}
 use Rattle.tx_bridge.specs.Bridged.{coded_Entry, coded_parts}
-use Rattle.tx_bridge.specs.Nested.{KeptParts}
-use Rattle.tx_bridge.specs.Entries.{Entry, Kept, outcome_of}
+use Rattle.tx_bridge.specs.Nested.{KeptParts, fresh_parts_from}
+use Rattle.tx_bridge.specs.Entries.{Entry, Kept, fresh_from, outcome_of}
 
 -- of each unit the trace that it came to last, the traces of its parts, and the attributes for which it was laid out
 -- last, if it was
@@ -19,20 +18,33 @@ pub record Stores : Type 0 where
   pub parts : List KeptParts
   pub laid : List (Option Attrs)
 
-abbrev pub same_attrs : Attrs → Attrs → Bool
-same_attrs a b =
-    int_eq a.left b.left && int_eq a.right b.right && int_eq a.first b.first && bytes_eq a.series b.series
-    && bytes_eq a.shape b.shape && bytes_eq a.color b.color && bytes_eq a.mode b.mode
-
--- a unit was laid out for these attributes
-abbrev pub is_laid_for : Option Attrs → Attrs → Bool
-is_laid_for None a = false
-is_laid_for (Some b) a = same_attrs b a
-
 -- the attributes before each unit, from a moment on
 abbrev pub attributes_from : Moment → List DocUnit → List (Option Attrs)
 attributes_from m [] = []
 attributes_from m (u ∷ us) = Some (attributes_of m.env) ∷ attributes_from (behind m (outcome_of m u)) us
+
+-- what making a view of these units from nothing leaves
+abbrev pub fresh_stores : List DocUnit → Stores
+fresh_stores us = record {
+  kept = fresh_from beginning us;
+  parts = fresh_parts_from beginning us;
+  laid = attributes_from beginning us;
+}
+
+-- ---- what a refresh leaves that lacked memory
+
+-- of unit i trace and attributes are those that the other stores have
+pub record IsOf (stores other : Stores) (i : ℕ) : Type 0 where
+  pub kept : slice_get stores.kept i ≡ slice_get other.kept i
+  pub laid : slice_get stores.laid i ≡ slice_get other.laid i
+
+-- The units before number `done` have the traces of the fresh stores, and the others those of the old ones. A unit is
+-- laid out as in the old stores, and has their trace, or as in the fresh ones, and has theirs, or it isn't laid out.
+pub record IsPartlyFresh (old fresh new : Stores) : Type 0 where
+  pub done : ℕ
+  pub kept : new.kept ≡ take done fresh.kept ++ drop done old.kept
+  pub parts : new.parts ≡ take done fresh.parts ++ drop done old.parts
+  pub laid : (i : ℕ) → IsOf new old i ⊎ ((slice_get new.laid i ≡ Some None) ⊎ IsOf new fresh i)
 
 -- ---- the code by which proofs tell them apart
 

@@ -1,5 +1,6 @@
 -- A view, as contracts see it.
-use Rattle.std.specs.Prelude.{◌≡◌, ℕ, ◌≤◌, Bool, true, false, if◌then◌else◌, List, [], length, Option, IfSome, All, refl}
+use Rattle.std.specs.Prelude.{◌≡◌, ℕ, ◌≤◌, Bool, true, false, if◌then◌else◌, List, [], length, Option, IfSome, All}
+use Rattle.std.specs.Prelude.{refl}
 use Rattle.std.specs.Coded.{Coded, code_by, coded×, coded_list, coded_option, coded_ℕ, coded_bool}
 use Rattle.tx_doc.specs.contracts.buffer.Buffer as one_buffer
 use Rattle.tx_doc.specs.declared.buffer.Buffer.{Buffer}

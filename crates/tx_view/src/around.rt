@@ -8,8 +8,8 @@ ghost use Rattle.tx_view_form.specs.Views.{AreShown};
 ghost use Rattle.tx_view.specs.Units.{unit_view, unit_views, IsReadable, AreAllApart};
 ghost use Rattle.tx_view.specs.Near.{is_above, IsHolder, IsRange, AreNear};
 
+use crate::beside::{has_stop, stops_beside};
 use crate::shown::Shown;
-use crate::stops::{has_stop, stops_of};
 use std::alloc::Global;
 use tx_base::Memory;
 use tx_doc::Buffer;
@@ -109,5 +109,5 @@ pub(crate) fn stops_near(alloc: Global, units: &[Shown], at: &Place) -> Result<V
     ensures { IfOk result (λ ps. AreNear (stops_of (unit_views units.now)) ps.items at.now) }
 {
     let (from, to) = range_near(alloc, units, at)?;
-    stops_of(alloc, &units[from..to])
+    stops_beside(alloc, &units[from..to], at)
 }

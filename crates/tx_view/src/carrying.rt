@@ -13,7 +13,7 @@ ghost use Rattle.tx_bridge.specs.Carrying.{AllStand, AreSameBodies};
 ghost use Rattle.tx_view.specs.Exchanged.{IsNow, IsExchanged, stays_alone, exchanged_in, parts_after};
 ghost use Rattle.tx_view.specs.Laid.{IsBlank, AreBlank, with_shown, shown_at, moved, laid_in, unlaid};
 ghost use Rattle.tx_view.specs.Laid.{StayBut, IsTarget, IsFew, IsMoved, SetNoName, IsFormer};
-ghost use Rattle.tx_view.specs.Lone.{SetsNoName};
+ghost use Rattle.tx_bridge.specs.Settled.{IsSilent};
 
 use crate::laying::sets_nothing;
 use crate::sharing::shared;
@@ -153,8 +153,8 @@ fn move_in_place(
     hidden: &mut Vec<Shown>,
 ) -> Option<Attrs>
     ensures stay { StayBut changed 0 (if fresh then shown.old.items else hidden.old.items) hidden.new.items }
-    ensures former { IfSome result (λ a. slice_get (laid_in (if fresh then shown.old.items else hidden.old.items)) changed
-        ≡ Some (Some a)) }
+    ensures former { IfSome result (λ a.
+        slice_get (laid_in (if fresh then shown.old.items else hidden.old.items)) changed ≡ Some (Some a)) }
 {
     if fresh {
         mem::swap(shown, hidden);
@@ -238,7 +238,7 @@ pub(crate) fn move_shown(
     }
 }
 
-// The tree that stands where the unit's paragraph stood, if all other units stay with it.
+// The tree that stands where the unit's paragraph stood, if it is found to leave all other units.
 fn paragraph_now<'a>(unit: &Unit, tree: &'a Tree) -> Option<&'a Tree>
     ensures { MatchOption result (stays_alone tree.now unit.now ≡ false)
         (λ x. IsNow unit.now tree.now x.now × (stays_alone tree.now unit.now ≡ true)) }
@@ -252,8 +252,8 @@ fn paragraph_now<'a>(unit: &Unit, tree: &'a Tree) -> Option<&'a Tree>
     }
 }
 
-// The number of the one unit that an edit changes, where all others stay, and its paragraph afterwards. None where there
-// is no such unit.
+// The number of the unit inside whose paragraph all modifications are, and the paragraph afterwards, if it is found to
+// leave all other units.
 fn exchanged(
     bridges: &Bridges,
     buffer: u32,
@@ -321,7 +321,7 @@ fn carried_anew<L: Ledger>(
 // What is known to be kept of the unit of this number sets no name.
 fn is_silent(bridges: &Bridges, unit: usize) -> bool
     requires { unit < 2 ^ 32 }
-    ensures { IsTrue result → (e : Entry) → slice_get bridges.now.kept unit ≡ Some e → SetsNoName e.trace }
+    ensures { IsTrue result → (e : Entry) → slice_get bridges.now.kept unit ≡ Some e → IsSilent e.trace }
 {
     match bridges.outcome(unit as u32) {
         None => false,

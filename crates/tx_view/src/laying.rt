@@ -23,11 +23,14 @@ ghost use Rattle.tx_view_form.specs.declared.TheConstants.{MOST_VIEW_STEPS};
 ghost use Rattle.tx_bridge.specs.Reached.{reached_from};
 ghost use Rattle.tx_view.specs.Variables.{AreVariables};
 ghost use Rattle.tx_view.specs.Units.{unit_view, unit_views, IsReadable};
-ghost use Rattle.tx_view.specs.Stores.{same_attrs, is_laid_for, attributes_from};
-ghost use Rattle.tx_view.specs.Costs.{items_in, items_of, relaid_from};
+ghost use Rattle.tx_view.specs.Stores.{attributes_from, fresh_stores, IsPartlyFresh};
+ghost use Rattle.tx_part_layout.specs.LaidParts.{same_attrs, is_before};
+ghost use Rattle.tx_view.specs.Costs.{items_of, relaid_from};
+ghost use Rattle.tx_part_layout.specs.LaidParts.{items_in};
 ghost use Rattle.tx_view.specs.Laid.{IsLaid, IsLaidOut, IsNext, AreLaid, laid_in, unlaid_from, unlaid};
-ghost use Rattle.tx_view.specs.Laid.{without};
-ghost use Rattle.tx_view.specs.Lone.{SetsNoName, IsLone, IsAlone, KeepPages};
+ghost use Rattle.tx_view.specs.Laid.{without, stores_in, StayLaid, ArePartlyLaid};
+ghost use Rattle.tx_view.specs.Lone.{IsLone, IsAlone, KeepPages};
+ghost use Rattle.tx_bridge.specs.Settled.{IsSilent};
 
 use crate::lone::{Lone, is_alone_quietly, lay_if};
 use crate::shown::{Shown, show};
@@ -38,42 +41,14 @@ use tx_base::{Memory, Steps};
 use tx_bridge::{Bridges, Moment, over_value};
 use tx_exec::Outcome;
 use tx_exec_form::trace_laws;
-use tx_items::{Attrs, Paragraph};
+use tx_items::Attrs;
+use tx_part_layout::{item_count, same_attrs};
 use tx_tree::Path;
 use tx_view_form::weight_laws;
 
-// Both have the same lengths.
-fn same_lengths(one: &Attrs, other: &Attrs) -> bool
-    ensures { result ≡ (int_eq one.now.left other.now.left && int_eq one.now.right other.now.right
-        && int_eq one.now.first other.now.first) }
-{
-    one.left == other.left && one.right == other.right && one.first == other.first
-}
-
-// Both have the same texts.
-fn same_texts(one: &Attrs, other: &Attrs) -> bool
-    ensures { result ≡ (bytes_eq one.now.series other.now.series && bytes_eq one.now.shape other.now.shape
-        && bytes_eq one.now.color other.now.color && bytes_eq one.now.mode other.now.mode) }
-{
-    one.series.bytes() == other.series.bytes()
-        && one.shape.bytes() == other.shape.bytes()
-        && one.color.bytes() == other.color.bytes()
-        && one.mode.bytes() == other.mode.bytes()
-}
-
-// Both are the same attributes.
-fn same_attrs(one: &Attrs, other: &Attrs) -> bool
-    ensures { result ≡ same_attrs one.now other.now }
-{
-    if same_lengths(one, other) {
-        return same_texts(one, other);
-    }
-    false
-}
-
 // It was laid out for these attributes.
 fn is_laid_for(shown: &Shown, attrs: &Attrs) -> bool
-    ensures { result ≡ is_laid_for shown.now.laid attrs.now }
+    ensures { result ≡ is_before shown.now.laid attrs.now }
 {
     match &shown.laid {
         None => false,
@@ -141,6 +116,7 @@ fn evaluate<L: Ledger>(
     steps: &mut Steps<L>,
 ) -> Result<(u64, bool), Memory>
     requires few { length units.old < 2 ^ 32 }
+    requires as_many { length units.old ≡ length bridges.old.kept }
     ensures kept { OnOk result (bridges.new.kept ≡ fresh_from beginning (units_of bridges.old.kept)) }
     ensures parts { OnOk result (bridges.new.parts ≡ fresh_parts_from beginning (units_of bridges.old.kept)) }
     ensures renewed { OnOk result (bridges.new.renewed ≡ reached_from beginning bridges.old.kept) }
@@ -150,6 +126,9 @@ fn evaluate<L: Ledger>(
     ensures most { IfOk result (λ p. p.0 ≤ MOST_VIEW_STEPS) }
     ensures alone { IfOk result (λ p. p.1 ≡ true
         → IsAlone lone (length units.old) bridges.old.kept bridges.new.kept bridges.new.renewed) }
+    ensures left { OnOk result (StayLaid (stores_in bridges.old units.old) (stores_in bridges.new units.new)) }
+    ensures refused { OnErr result (IsPartlyFresh (stores_in bridges.old units.old)
+        (fresh_stores (units_of bridges.old.kept)) (stores_in bridges.new units.new)) }
     ensures units { units_of bridges.new.kept ≡ units_of bridges.old.kept }
     ensures laid { (width : ℕ) → AreLaid width bridges.old.kept units.old → AreLaid width bridges.new.kept units.new }
     ensures readable { All (λ s. IsReadable (unit_view s)) units.old
@@ -165,18 +144,6 @@ fn evaluate<L: Ledger>(
             Err(memory)
         }
     }
-}
-
-// How many items paragraphs have.
-pub(crate) fn item_count(paragraphs: &[Paragraph]) -> u64
-    requires few { items_in paragraphs.now < 2 ^ 63 }
-    ensures { result ≡ items_in paragraphs.now }
-{
-    let mut count = 0;
-    for paragraph in paragraphs {
-        count += paragraph.items.all().len() as u64;
-    }
-    count
 }
 
 // A law: what a unit that comes to this shows weighs at most 242 for each unit of its size.
@@ -234,7 +201,7 @@ fn lay<L: Ledger>(
         (IsLaidOut width attrs.now (value_of (wide_outcome outcome.now)) shown.old.path shown.new) }
     ensures laid { OnOk result (shown.new.laid ≡ Some attrs.now) }
     ensures readable { IsReadable (unit_view shown.new) }
-    ensures items { IfOk result (λ n. n ≡ if is_laid_for shown.old.laid attrs.now then 0
+    ensures items { IfOk result (λ n. n ≡ if is_before shown.old.laid attrs.now then 0
         else items_in (paragraphs_at shown.old.path attrs.now (value_of (wide_outcome outcome.now)))) }
     ensures counted { IfOk result (λ n. steps.new ≡ steps.old + n) }
     ensures err { OnErr result (shown.new ≡ shown.old) }
@@ -272,7 +239,7 @@ fn lay_next<L: Ledger>(
     ensures next { IfOk result (λ n. (e : Entry) → slice_get bridges.now.kept i ≡ Some e
         → IsNext width e moment.old moment.new shown.old shown.new n) }
     ensures counted { OnOk result ((e : Entry) → slice_get bridges.now.kept i ≡ Some e → steps.new ≡ steps.old
-        + (if is_laid_for shown.old.laid (attributes_of moment.old.env) then 0 else items_of moment.old e.unit)) }
+        + (if is_before shown.old.laid (attributes_of moment.old.env) then 0 else items_of moment.old e.unit)) }
     ensures readable { IsReadable (unit_view shown.new) }
     ensures err { OnErr result (shown.new ≡ shown.old) }
 {
@@ -289,7 +256,7 @@ fn lay_next<L: Ledger>(
 
 /// A unit that comes to this sets no name.
 pub(crate) fn sets_nothing(outcome: &Outcome) -> bool
-    ensures { IsTrue result → SetsNoName (wide_outcome outcome.now) }
+    ensures { IsTrue result → IsSilent (wide_outcome outcome.now) }
 {
     match outcome {
         Outcome::Over => true,
@@ -352,6 +319,8 @@ fn lay_each<L: Ledger>(
     ensures items { IfOk result
         (λ n. n ≡ unlaid_from beginning (units_of bridges.now.kept) (laid_in units.old)) }
     ensures most { IfOk result (λ n. n < 2 ^ 40) }
+    ensures still { ArePartlyLaid (laid_in units.old) (attributes_from beginning (units_of bridges.now.kept))
+        (laid_in units.new) }
     ensures laid { AreLaid width bridges.now.kept units.new }
     ensures readable { All (λ s. IsReadable (unit_view s)) units.new }
 {
@@ -398,6 +367,8 @@ fn lay_from_start<L: Ledger>(
     ensures items { IfOk result
         (λ n. n ≡ unlaid_from beginning (units_of bridges.now.kept) (laid_in units.old)) }
     ensures most { IfOk result (λ n. n < 2 ^ 40) }
+    ensures still { ArePartlyLaid (laid_in units.old) (attributes_from beginning (units_of bridges.now.kept))
+        (laid_in units.new) }
     ensures laid { AreLaid width bridges.now.kept units.new }
     ensures readable { All (λ s. IsReadable (unit_view s)) units.new }
 {
@@ -438,6 +409,8 @@ fn lay_all<L: Ledger>(
     ensures items { IfOk result
         (λ n. n ≡ unlaid_from beginning (units_of bridges.now.kept) (laid_in units.old)) }
     ensures most { IfOk result (λ n. n < 2 ^ 40) }
+    ensures still { ArePartlyLaid (laid_in units.old) (attributes_from beginning (units_of bridges.now.kept))
+        (laid_in units.new) }
     ensures laid { AreLaid width bridges.now.kept units.new }
     ensures readable { All (λ s. IsReadable (unit_view s)) units.new }
 {
@@ -467,6 +440,8 @@ fn lay_out_all<L: Ledger>(
     ensures counted { IfOk result (λ n. steps.new ≡ steps.old + n) }
     ensures work { IfOk result (λ n. n
         ≡ Charge bridges.old.kept bridges.old.parts + relaid_from beginning bridges.old.kept (laid_in units.old)) }
+    ensures refused { OnErr result (IsPartlyFresh (stores_in bridges.old units.old)
+        (fresh_stores (units_of bridges.old.kept)) (stores_in bridges.new units.new)) }
     ensures units { units_of bridges.new.kept ≡ units_of bridges.old.kept }
     ensures laid { AreLaid width bridges.new.kept units.new }
     ensures readable { All (λ s. IsReadable (unit_view s)) units.new }
@@ -504,6 +479,8 @@ fn lay_out_lone<L: Ledger>(
     ensures counted { IfOk result (λ p. steps.new ≡ steps.old + p.0) }
     ensures work { IfOk result (λ p. p.0
         ≡ Charge bridges.old.kept bridges.old.parts + relaid_from beginning bridges.old.kept (laid_in units.old)) }
+    ensures refused { OnErr result (IsPartlyFresh (stores_in bridges.old units.old)
+        (fresh_stores (units_of bridges.old.kept)) (stores_in bridges.new units.new)) }
     ensures units { units_of bridges.new.kept ≡ units_of bridges.old.kept }
     ensures laid { AreLaid width bridges.new.kept units.new }
     ensures readable { All (λ s. IsReadable (unit_view s)) units.new }
@@ -546,6 +523,8 @@ pub(crate) fn lay_out<L: Ledger>(
     ensures counted { IfOk result (λ p. steps.new ≡ steps.old + p.0) }
     ensures work { IfOk result (λ p. p.0
         ≡ Charge bridges.old.kept bridges.old.parts + relaid_from beginning bridges.old.kept (laid_in units.old)) }
+    ensures refused { OnErr result (IsPartlyFresh (stores_in bridges.old units.old)
+        (fresh_stores (units_of bridges.old.kept)) (stores_in bridges.new units.new)) }
     ensures units { units_of bridges.new.kept ≡ units_of bridges.old.kept }
     ensures laid { AreLaid width bridges.new.kept units.new }
     ensures readable { All (λ s. IsReadable (unit_view s)) units.new }

@@ -5,6 +5,7 @@
 #![tactic(auto)]
 
 mod around;
+mod beside;
 mod carrying;
 mod cells;
 mod laying;
@@ -15,6 +16,7 @@ mod places;
 mod searching;
 mod sharing;
 mod shown;
+mod spots;
 mod starts;
 mod stops;
 mod unit_lines;

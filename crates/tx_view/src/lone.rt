@@ -9,13 +9,14 @@ ghost use Rattle.tx_exec_form.specs.Evaluated.{WideTrace};
 ghost use Rattle.tx_view_form.specs.Outcomes.{beginning, value_of};
 ghost use Rattle.tx_view_form.specs.Views.{paragraphs_at};
 ghost use Rattle.tx_bridge.specs.Entries.{Entry, units_of, fresh_from, traces_of};
-ghost use Rattle.tx_view.specs.Costs.{items_in};
-ghost use Rattle.tx_view.specs.Laid.{IsLaidOut, AreLaid, laid_in, unlaid_from};
-ghost use Rattle.tx_view.specs.Lone.{SetsNoName, AreAlike, KeepPages};
+ghost use Rattle.tx_part_layout.specs.LaidParts.{items_in};
+ghost use Rattle.tx_view.specs.Laid.{IsLaidOut, AreLaid, laid_in, unlaid_from, ArePartlyLaid};
+ghost use Rattle.tx_view.specs.Lone.{AreAlike, KeepPages};
+ghost use Rattle.tx_bridge.specs.Settled.{IsSilent};
 ghost use Rattle.tx_view.specs.Stores.{attributes_from};
 ghost use Rattle.tx_view.specs.Units.{unit_view, IsReadable};
 
-use crate::laying::{item_count, outcome_weight_law, shown_of};
+use crate::laying::{outcome_weight_law, shown_of};
 use crate::paging::Pagination;
 use crate::shown::Shown;
 use std::alloc::Global;
@@ -25,6 +26,7 @@ use tx_bridge::Bridges;
 use tx_exec::Outcome;
 use tx_exec_form::{size_law, trace_laws};
 use tx_items::Attrs;
+use tx_part_layout::item_count;
 use tx_view_form::weight_laws;
 
 /// The one unit that has changed since all were laid out: its number, the attributes before it, and the pages of all
@@ -118,6 +120,7 @@ fn lay_only<L: Ledger>(
     ensures most { IfOk result (λ p. p.0 < 2 ^ 63) }
     ensures counted { IfOk result (λ p. steps.new ≡ steps.old + p.0) }
     ensures alike { IfOk result (λ p. p.1 ≡ true → KeepPages units.old units.new) }
+    ensures err { OnErr result (units.new ≡ units.old) }
     ensures laid { AreLaid width bridges.now.kept units.new }
     ensures readable { All (λ s. IsReadable (unit_view s)) units.new }
 {
@@ -159,6 +162,8 @@ pub(crate) fn lay_if<L: Ledger>(
     ensures attributes { IfOk result (λ p. p.1 ≡ true
         → laid_in units.new ≡ attributes_from beginning (units_of bridges.now.kept)) }
     ensures pages { IfOk result (λ p. p.1 ≡ true → KeepPages units.old units.new) }
+    ensures still { ArePartlyLaid (laid_in units.old) (attributes_from beginning (units_of bridges.now.kept))
+        (laid_in units.new) }
     ensures laid { AreLaid width bridges.now.kept units.new }
     ensures readable { All (λ s. IsReadable (unit_view s)) units.new }
 {
@@ -172,7 +177,7 @@ pub(crate) fn lay_if<L: Ledger>(
 // A unit comes to a trace that sets no name.
 fn is_quiet(outcome: &Outcome) -> bool
     ensures { IsTrue result → (t : WideTrace) × (wide_outcome outcome.now ≡ Some t)
-        × SetsNoName (wide_outcome outcome.now) }
+        × IsSilent (wide_outcome outcome.now) }
 {
     match outcome {
         Outcome::Over => false,
@@ -184,7 +189,7 @@ fn is_quiet(outcome: &Outcome) -> bool
 fn comes_quietly(bridges: &Bridges, unit: usize) -> bool
     requires { unit < 2 ^ 32 }
     ensures { IsTrue result → (t : WideTrace) × (slice_get (traces_of bridges.now.kept) unit ≡ Some (Some t))
-        × SetsNoName (Some t) }
+        × IsSilent (Some t) }
 {
     match bridges.outcome(unit as u32) {
         None => false,
@@ -197,7 +202,7 @@ pub(crate) fn is_alone_quietly(alone: bool, bridges: &Bridges, unit: usize) -> b
     requires { unit < 2 ^ 32 }
     ensures alone { IsTrue result → alone ≡ true }
     ensures quiet { IsTrue result → (t : WideTrace) × (slice_get (traces_of bridges.now.kept) unit ≡ Some (Some t))
-        × SetsNoName (Some t) }
+        × IsSilent (Some t) }
 {
     if !alone {
         return false;

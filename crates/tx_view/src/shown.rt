@@ -7,15 +7,15 @@ ghost use Rattle.tx_items.specs.Shows.{shown_paragraphs};
 ghost use Rattle.tx_view_form.specs.Views.{AreLines, IsShown, paragraphs_at};
 ghost use Rattle.tx_view_form.specs.Weights.{weight_of};
 ghost use Rattle.tx_view.specs.Units.{unit_view, IsReadable};
-ghost use Rattle.tx_view.specs.Costs.{items_in};
+ghost use Rattle.tx_part_layout.specs.LaidParts.{items_in};
 
 use crate::unit_lines::UnitLines;
 use std::alloc::Global;
 use std::sync::ledger::Ledger;
 use tx_base::{Memory, Steps};
 use tx_items::{Attrs, ErrorAt, Paragraph, items};
-use tx_layout::{Line, lines};
 use tx_origin::Value;
+use tx_part_layout::lines_of;
 use tx_tree::Path;
 use tx_view_form::{short_law, weight_laws};
 
@@ -29,28 +29,6 @@ pub(crate) struct Shown {
     pub(crate) errors: Vec<ErrorAt>,
     pub(crate) paragraphs: Vec<Paragraph>,
     pub(crate) lines: UnitLines,
-}
-
-// The lines of paragraphs, one paragraph after the other.
-fn lines_of<L: Ledger>(
-    alloc: Global,
-    paragraphs: &[Paragraph],
-    width: u32,
-    steps: &mut Steps<L>,
-) -> Result<Vec<Line>, Memory>
-    requires least_width { 20 ≤ width }
-    requires most_width { width ≤ 500 }
-    requires few { All (λ p. length p.items < 2 ^ 32) paragraphs.now }
-    requires narrow { All (λ p. All IsNarrow p.items) paragraphs.now }
-    ensures lines { IfOk result (λ ls. AreLines width paragraphs.now ls.items) }
-    ensures counted { OnOk result (steps.new ≡ steps.old + items_in paragraphs.now) }
-{
-    let mut all = Vec::with_capacity(alloc, paragraphs.len())?;
-    for paragraph in paragraphs {
-        let mut own = lines(alloc, paragraph, width, steps)?;
-        all.append(&mut own)?;
-    }
-    Ok(all)
 }
 
 /// What a unit with this path shows on pages of this width, where these are its value and the attributes before it.

@@ -1,24 +1,21 @@
 // The places at which a cursor stops.
 ghost use Rattle.std.specs.Prelude.{◌≡◌, All, IfOk, OnOk};
-ghost use Rattle.std.specs.List.{flat_map, fold, list_any};
-ghost use Rattle.tx_view_form.specs.Positions.{IsShort, mark_of, marks_of};
-ghost use Rattle.tx_view_form.specs.Stops.{mark_place, put, same_place, unit_stops, stops_of};
-ghost use Rattle.tx_view.specs.Marks.{first_of, stops_at, stops_on};
+ghost use Rattle.tx_view_form.specs.Stops.{put, stops_of};
+ghost use Rattle.tx_view.specs.Marks.{spot_place};
 ghost use Rattle.tx_view.specs.Units.{unit_view, unit_views, IsReadable};
 ghost use Rattle.std.proofs.Common.{rules};
 ghost use Rattle.std.specs.Cmp.Rules.{comparing, hashing};
 ghost use Rattle.std.specs.Cmp.Lexicographic.{nat_list_eq_equiv};
 
-use crate::marks::{Mark, first_mark, mark_of};
 use crate::shown::Shown;
+use crate::spots::spots_of;
 use indexmap::IndexSet;
 use std::alloc::Global;
 use std::hash::{Hash, Hasher};
 use std::marker::Model;
 use tx_base::Memory;
-use tx_items::{Item, Paragraph};
 use tx_origin::Spot;
-use tx_tree::{Path, Place};
+use tx_tree::Place;
 
 // A place, which is told from others by its path and its offset.
 #[derive(Drop)]
@@ -65,108 +62,13 @@ impl Hash for Stop {
     }
 }
 
-// Puts a place in the text of a cluster, in a unit with this path.
-fn put_mark(
-    alloc: Global,
-    stops: &mut IndexSet<Stop>,
-    path: &Path,
-    mark: &Mark<'_>,
-    offset: u32,
-) -> Result<(), Memory>
-    ensures { OnOk result (stops.new.keys ≡ put stops.old.keys (mark_place path.now mark.now offset)) }
+// Puts the place of a spot, unless it is there already.
+fn put_spot(alloc: Global, stops: &mut IndexSet<Stop>, spot: &Spot<'_>) -> Result<(), Memory>
+    ensures { OnOk result (stops.new.keys ≡ put stops.old.keys (spot_place spot.now)) }
 {
-    let place = Spot::new(path, Some(mark.origin), offset).place(alloc)?;
+    let place = spot.place(alloc)?;
     stops.insert(Stop { place })?;
     Ok(())
-}
-
-// Puts where the cluster of an item begins and ends, if it has a place.
-fn put_item(
-    alloc: Global,
-    stops: &mut IndexSet<Stop>,
-    path: &Path,
-    item: &Item,
-) -> Result<(), Memory>
-    requires { IsShort item.now }
-    ensures { OnOk result (stops.new.keys ≡ fold put stops.old.keys (stops_at path.now (mark_of item.now))) }
-{
-    if let Some(mark) = mark_of(item) {
-        put_mark(alloc, stops, path, &mark, mark.start)?;
-        put_mark(alloc, stops, path, &mark, mark.stop)?;
-    }
-    Ok(())
-}
-
-// Puts where the clusters of items begin and end.
-fn put_items(
-    alloc: Global,
-    stops: &mut IndexSet<Stop>,
-    path: &Path,
-    items: &[Item],
-) -> Result<(), Memory>
-    requires { All IsShort items.now }
-    ensures { OnOk result (stops.new.keys ≡ fold put stops.old.keys (stops_on path.now (marks_of items.now))) }
-{
-    for item in items {
-        put_item(alloc, stops, path, item)?;
-    }
-    Ok(())
-}
-
-// Puts where the clusters of paragraphs begin and end.
-fn put_paragraphs(
-    alloc: Global,
-    stops: &mut IndexSet<Stop>,
-    path: &Path,
-    paragraphs: &[Paragraph],
-) -> Result<(), Memory>
-    requires { All (λ p. All IsShort p.items) paragraphs.now }
-    ensures { OnOk result (stops.new.keys
-        ≡ fold put stops.old.keys (stops_on path.now (marks_of (flat_map (λ p. p.items) paragraphs.now)))) }
-{
-    for paragraph in paragraphs {
-        put_items(alloc, stops, path, paragraph.items.all())?;
-    }
-    Ok(())
-}
-
-// The first mark in paragraphs.
-fn first_in(paragraphs: &[Paragraph]) -> Option<Mark<'_>>
-    requires { All (λ p. All IsShort p.items) paragraphs.now }
-    ensures { result ≡ first_of (marks_of (flat_map (λ p. p.items) paragraphs.now)) }
-{
-    for paragraph in paragraphs {
-        if let Some(mark) = first_mark(paragraph.items.all()) {
-            return Some(mark);
-        }
-    }
-    None
-}
-
-// Puts the place at the start of a unit with this path.
-fn put_path(alloc: Global, stops: &mut IndexSet<Stop>, path: &Path) -> Result<(), Memory>
-    ensures { OnOk result (stops.new.keys ≡ put stops.old.keys (record { path = path.now; offset = 0 })) }
-{
-    let place = Place {
-        path: path.copy(alloc)?,
-        offset: 0,
-    };
-    stops.insert(Stop { place })?;
-    Ok(())
-}
-
-// Puts the stops of a unit.
-fn put_stops(alloc: Global, stops: &mut IndexSet<Stop>, unit: &Shown) -> Result<(), Memory>
-    requires { IsReadable (unit_view unit.now) }
-    ensures { OnOk result (stops.new.keys ≡ fold put stops.old.keys (unit_stops (unit_view unit.now))) }
-{
-    let Some(path) = &unit.path else {
-        return Ok(());
-    };
-    if first_in(&unit.paragraphs).is_none() {
-        return put_path(alloc, stops, path);
-    }
-    put_paragraphs(alloc, stops, path, &unit.paragraphs)
 }
 
 // The stops of units, of equal ones the first.
@@ -174,23 +76,12 @@ fn all_stops(alloc: Global, units: &[Shown]) -> Result<IndexSet<Stop>, Memory>
     requires { All (λ s. IsReadable (unit_view s)) units.now }
     ensures { IfOk result (λ stops. stops.keys ≡ stops_of (unit_views units.now)) }
 {
+    let spots = spots_of(alloc, units)?;
     let mut stops = IndexSet::new(alloc);
-    for unit in units {
-        put_stops(alloc, &mut stops, unit)?;
+    for spot in &spots {
+        put_spot(alloc, &mut stops, spot)?;
     }
     Ok(stops)
-}
-
-/// Whether units have this place among their stops.
-pub(crate) fn has_stop(alloc: Global, units: &[Shown], at: &Place) -> Result<bool, Memory>
-    requires { All (λ s. IsReadable (unit_view s)) units.now }
-    ensures { IfOk result (λ b. b ≡ list_any (same_place at.now) (stops_of (unit_views units.now))) }
-{
-    let stops = all_stops(alloc, units)?;
-    let stop = Stop {
-        place: at.copy(alloc)?,
-    };
-    Ok(stops.contains(&stop))
 }
 
 // The places of stops.

@@ -16,9 +16,10 @@ ghost use Rattle.tx_view_form.specs.Stops.{stops_of};
 ghost use Rattle.tx_view.specs.Near.{AreNear};
 ghost use Rattle.tx_view.specs.Units.{unit_view, unit_views, IsReadable};
 ghost use Rattle.tx_view.specs.Units.{AreAllApart};
-ghost use Rattle.tx_view.specs.Laid.{AreLaid, laid_in};
+ghost use Rattle.tx_view.specs.Laid.{AreLaid, stores_in};
 ghost use Rattle.tx_view.specs.Lone.{IsLone, IsPaged};
 ghost use Rattle.tx_view.specs.Names.{Empty, Fresh, Bound, Carry, Holds};
+ghost use Rattle.tx_view.specs.Stores.{IsPartlyFresh};
 
 use crate::around::{apart_law, stops_near};
 use crate::carrying::{blanks, carried, move_shown};
@@ -130,11 +131,12 @@ fn made_anew<L: Ledger>(
     requires lone { IfSome lone (λ l. IsLone bridges.old.kept all.old l.unit l.attrs
         × IsPaged size.1 (unit_views all.old) l.paged) }
     ensures shown { OnOk result (AreShown size.0 beginning (units buffers.now) (unit_views all.new)) }
-    ensures stores { OnOk result
-        (record { kept = bridges.new.kept; parts = bridges.new.parts; laid = laid_in all.new } ≡ Fresh buffers.now) }
+    ensures stores { OnOk result (stores_in bridges.new all.new ≡ Fresh buffers.now) }
+    ensures refused { OnErr result
+        (IsPartlyFresh (stores_in bridges.old all.old) (Fresh buffers.now) (stores_in bridges.new all.new)) }
     ensures paged { IfOk result (λ p. IsPaged size.1 (unit_views all.new) p.0) }
     ensures apart { OnOk result (AreAllApart (unit_views all.new)) }
-    ensures work { IfOk result (λ p. p.1 ≡ Bound (record { kept = bridges.old.kept; parts = bridges.old.parts; laid = laid_in all.old })) }
+    ensures work { IfOk result (λ p. p.1 ≡ Bound (stores_in bridges.old all.old)) }
     ensures counted { IfOk result (λ p. steps.new ≡ steps.old + p.1) }
     ensures of_buffers { units_of bridges.new.kept ≡ units buffers.now }
     ensures laid { AreLaid size.0 bridges.new.kept all.new }
@@ -196,10 +198,12 @@ impl View {
 
     /// From then on the view is one of its buffers with this tree in place of that of buffer `buffer`, which these
     /// modifications make of the former one, applied one after the other. It isn't fresh and shows nothing. What is
-    /// kept of a unit goes with it: a paragraph of the document goes by the modifications from path to path, and
-    /// another unit stays the one of its number, where kind and tree are the same. Nothing is evaluated. The steps rise
-    /// by at most the paths' lengths, three for each modification, and the nodes that are made for units. For want of
-    /// memory all stays.
+    /// kept of a unit goes with it, and what is kept of the parts of a nested paragraph too: a paragraph of the
+    /// document goes by the modifications from path to path, and another unit stays the one of its number, where kind
+    /// and tree are the same. Of a paragraph inside which all modifications are, and which is found to change alone,
+    /// the parts that stay in it are kept, and no trace of its own. Nothing is evaluated. The steps rise by at most the
+    /// paths' lengths, three for each modification, and the nodes that are made for units. For want of memory all
+    /// stays.
     pub fn edited<L: Ledger>(
         &mut self,
         alloc: Global,
@@ -248,9 +252,13 @@ impl View {
 
     /// Makes the view anew, unless it is fresh, which takes no memory and no step then. What was kept of a unit is used
     /// again where what it looked up is as it was and its cost is allowed, and its lines where its attributes are those
-    /// of before. The steps rise by the charges of the other units, and the items of those that are laid out anew.
+    /// of before. So it is of the parts of a nested unit that is evaluated anew. The steps rise by the charges of the
+    /// other units, which for a nested one are the costs of the other parts, and the items of those that are laid out
+    /// anew.
     ///
-    /// For want of memory it isn't fresh, and a later refresh is right.
+    /// For want of memory it isn't fresh, and a later refresh is right. The units before some number, and their parts,
+    /// have then the traces of the present buffers, and the others what they had. A unit that is laid out then has both
+    /// the trace and the attributes that it had, or both of the present buffers.
     pub fn refresh<L: Ledger>(&mut self, alloc: Global, steps: &mut Steps<L>) -> Result<(), Memory>
         ensures fresh { OnOk result (self.new.fresh ≡ true) }
         ensures view { OnOk result (IsView self.new.buffers self.new.width self.new.height self.new.shown) }
@@ -263,6 +271,7 @@ impl View {
         ensures kept { self.old.fresh ≡ true → self.new ≡ self.old }
         ensures ready { self.old.fresh ≡ true → IsOk result }
         ensures free { self.old.fresh ≡ true → steps.new ≡ steps.old }
+        ensures refused { OnErr result (IsPartlyFresh self.old.stores (Fresh self.old.buffers) self.new.stores) }
         ensures stale { OnErr result (self.new.fresh ≡ false) }
         ensures shown { OnErr result (self.new.shown ≡ self.old.shown) }
         ensures same_work { OnErr result (self.new.work ≡ self.old.work) }
@@ -289,8 +298,8 @@ impl View {
     }
 
     /// Whether it is fresh. At every moment, also behind a refresh that lacked memory, what is kept is of the units of
-    /// the present buffers, and the trace of a unit is that of its tree in each environment that agrees with what it
-    /// looked up.
+    /// the present buffers, and the trace of a unit, or of a part of a nested one, is that of its tree in each
+    /// environment that agrees with what it looked up.
     pub fn fresh(&self) -> bool
         ensures fresh { result ≡ self.now.fresh }
         ensures view { IsTrue result → IsView self.now.buffers self.now.width self.now.height self.now.shown }
@@ -391,10 +400,11 @@ impl View {
     {
         stops_of(alloc, &self.units)
     }
-    /// Some of the stops, one behind the other, in which a place has the stops beside it that it has among all: those
-    /// of its unit, of the nearest unit before with stops and of the nearest one behind. For a place that is no stop
-    /// they are the first ones, and none only where there are no stops. Of other units only the paths are looked at.
-    /// The one error is want of memory.
+
+    /// Some of the stops, one behind the other, in which a place has the stops beside it that it has among all. For a
+    /// place that is no stop they are the first ones, and none only where there are no stops. Of units other than that
+    /// of the place, the nearest one before with a path and the nearest one behind, only the paths are looked at. The
+    /// one error is want of memory.
     pub fn stops_near(&self, alloc: Global, at: &Place) -> Result<Vec<Place>, Memory>
         ensures { IfOk result (λ ps. AreNear (stops_of self.now.shown.units) ps.items at.now) }
     {

@@ -208,22 +208,17 @@ const TWICE: &str =
     (f \"a\" \"b\") \"c\")";
 
 const NEAR: &[Near] = &[
-    (FOUR, "/0", 0, "/0/0 /0/1 /1/0 /1/1 /1/2 "),
-    (FOUR, "/1", 1, "/0/0 /0/1 /1/0 /1/1 /1/2 /2/0 /2/1 "),
-    (FOUR, "/3", 1, "/2/0 /2/1 /3/0 /3/1 "),
+    (FOUR, "/0", 0, "/0/0 /0/1 /1/0 "),
+    (FOUR, "/1", 1, "/0/1 /1/0 /1/1 /1/2 "),
+    (FOUR, "/3", 1, "/2/1 /3/0 /3/1 "),
     // places that are no stops
-    (FOUR, "/1", 3, "/0/0 /0/1 "),
-    (FOUR, "/4", 0, "/0/0 /0/1 "),
-    (FOUR, "/1/0", 0, "/0/0 /0/1 "),
-    (FOUR, "/", 0, "/0/0 /0/1 "),
-    // what stands twice has its stops once
+    (FOUR, "/1", 3, "/0/0 "),
+    (FOUR, "/4", 0, "/0/0 "),
+    (FOUR, "/1/0", 0, "/0/0 "),
+    (FOUR, "/", 0, "/0/0 "),
+    // what stands twice has its stops once, and behind it all stops of the units are listed
     (TWICE, "/2", 0, "/1/0/0 /1/0/1 /1/1/0 /1/1/1 /2/0 /2/1 "),
-    (
-        TWICE,
-        "/1/0",
-        1,
-        "/0/0 /1/0/0 /1/0/1 /1/1/0 /1/1/1 /2/0 /2/1 ",
-    ),
+    (TWICE, "/1/0", 1, "/0/0 /1/0/0 /1/0/1 /1/1/0 /1/1/1 "),
     // a single unit, whose path is that of the root, and none
     ("d \"a\"", "/", 1, "/0 /1 "),
     ("d (document)", "/", 0, ""),

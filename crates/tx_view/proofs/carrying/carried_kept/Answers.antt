@@ -1,4 +1,4 @@
-use Rattle.std.proofs.Common.{◌∙◌, List, ap, sym, rules}
+use Rattle.std.proofs.Common.{◌∙◌, List, ap, sym}
 use Rattle.tx_mod.specs.Followed.{changed_by_all}
 use Rattle.tx_units.specs.declared.kinds.Unit.{Unit as DocUnit}
 use Rattle.tx_units.specs.Units.{units}

@@ -1,4 +1,4 @@
-use Rattle.std.proofs.Common.{true, false, ◌≡◌, arith}
+use Rattle.std.proofs.Common.{true, false, arith}
 use Rattle.std.proofs.lemmas.Option.{slice_get_within}
 use Rattle.tx_bridge.specs.Entries.{units_of}
 use Rattle.tx_view.proofs.Exchanging.{exchanged_at, none_exchanged, number_is, unit_missing}

@@ -3,19 +3,19 @@ use Rattle.tx_exec.specs.Outcomes.{wide_outcome}
 use Rattle.tx_items.specs.Shows.{shown_paragraphs}
 use Rattle.tx_view_form.specs.Outcomes.{value_of}
 use Rattle.tx_view_form.specs.Weights.{weight_of}
-use Rattle.tx_view.specs.Costs.{items_in}
-use Rattle.tx_view.proofs.Alike.{laid_for}
+use Rattle.tx_part_layout.specs.LaidParts.{items_in}
+use Rattle.tx_part_layout.proofs.Alike.{before_is}
 use Rattle.tx_view.proofs.Onward.{few_items}
 use Rattle.tx_view.proofs.laying.lay.Goals as goal
 
 pub returns-then-is_laid_for-clause-shown : goal.returns-then-is_laid_for-clause-shown
 returns-then-is_laid_for-clause-shown g c =
     c.requires.laid c.args.attrs.now
-    (laid_for c.args.shown.now.laid c.args.attrs.now (sym c.is_laid_for.ensures ∙ c.if-is_laid_for.true))
+    (before_is c.args.shown.now.laid c.args.attrs.now (sym c.is_laid_for.ensures ∙ c.if-is_laid_for.true))
 
 pub returns-then-is_laid_for-clause-laid : goal.returns-then-is_laid_for-clause-laid
 returns-then-is_laid_for-clause-laid g c =
-    laid_for c.args.shown.now.laid c.args.attrs.now (sym c.is_laid_for.ensures ∙ c.if-is_laid_for.true)
+    before_is c.args.shown.now.laid c.args.attrs.now (sym c.is_laid_for.ensures ∙ c.if-is_laid_for.true)
 
 pub item_count-requires : goal.item_count-requires
 item_count-requires g c =

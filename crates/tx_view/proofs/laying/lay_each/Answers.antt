@@ -1,9 +1,14 @@
-use Rattle.std.proofs.Common.{◌<◌, ◌∙◌, length, ap, sym, arith}
+use Rattle.std.proofs.Common.{◌<◌, ◌∙◌, length, refl, ap, sym, arith}
 use Rattle.std.proofs.lemmas.List.Elements.{All-set}
-use Rattle.tx_view_form.specs.Outcomes.{Moment, env_behind}
+use Rattle.tx_view_form.specs.Outcomes.{Moment, beginning, env_behind}
+use Rattle.tx_view_form.specs.Started.{attributes_of}
+use Rattle.tx_bridge.specs.Entries.{units_of}
 use Rattle.tx_view.specs.declared.shown.Shown.{Shown}
+use Rattle.tx_view.specs.Laid.{laid_in}
+use Rattle.tx_view.specs.Stores.{attributes_from}
 use Rattle.tx_view.specs.Units.{unit_view, IsReadable}
-use Rattle.tx_view.proofs.Onward.{begun, ended, entry_there, laid_many, laid_here, next, trace_is}
+use Rattle.tx_view.proofs.Onward.{begun, ended, entry_there, laid_many, laid_here, next, right_here, trace_is}
+use Rattle.tx_view.proofs.Partly.{laid_again, laid_more, laid_none}
 use Rattle.tx_view.proofs.laying.lay_each.Goals as goal
 
 pub loop-i-init : goal.loop-i-init
@@ -12,6 +17,9 @@ loop-i-init g c = record {
       begun c.args.width c.args.bridges.now.kept c.args.units.now c.args.moment.now
       c.args.steps.now c.requires.start c.requires.fresh c.requires.laid c.requires.readable;
   attributes = c.requires.attributes;
+  still =
+      laid_none (laid_in c.args.units.now) (attributes_from beginning (units_of c.args.bridges.now.kept))
+      (laid_in c.args.units.now) refl;
 }
 
 pub overflow_cast-i : goal.overflow_cast-i
@@ -99,6 +107,12 @@ loop-i-preserved g c =
           c.lay_next.new.moment (c.in_ok-more.ensures.next e.0 e.1) (c.in_ok-more.ensures.counted e.0 e.1)
           c.in_ok-more.ensures.readable;
       attributes = c.in_ok-pass_attributes.ensures;
+      still =
+          laid_more (laid_in c.args.units.now) (attributes_from beginning (units_of c.args.bridges.now.kept))
+          c.loop-i.units c.loop-i.i c.lay_next.new.shown (attributes_of c.loop-i.moment.env) c.loop-i.invariant.still
+          (right_here c.args.width c.args.bridges.now.kept c.args.units.now c.loop-i.units
+          c.loop-i.i c.loop-i.moment c.loop-i.items c.args.steps.now c.loop-i.steps c.loop-i.invariant.onward
+          (omega arith) c.index-units-i.result e.0 e.1) (c.in_ok-more.ensures.next e.0 e.1).attributes;
     }
 
 pub returns-in_err-pass_attributes-clause-laid : goal.returns-in_err-pass_attributes-clause-laid
@@ -172,3 +186,23 @@ returns-clause-most g c =
     (ended c.args.width c.args.bridges.now.kept c.args.units.now c.loop-i.units
     c.loop-i.i c.loop-i.moment c.loop-i.items c.args.steps.now c.loop-i.steps c.loop-i.invariant.onward
     (omega arith) c.requires.few).most
+
+pub returns-in_err-more-clause-still : goal.returns-in_err-more-clause-still
+returns-in_err-more-clause-still g c =
+    laid_again (laid_in c.args.units.now) (attributes_from beginning (units_of c.args.bridges.now.kept)) c.loop-i.units
+    c.loop-i.i c.lay_next.new.shown c.index-units-i.result c.loop-i.invariant.still c.in_err-more.ensures.err
+
+pub returns-in_err-pass_attributes-clause-still : goal.returns-in_err-pass_attributes-clause-still
+returns-in_err-pass_attributes-clause-still g c =
+    let inside : c.loop-i.i < length c.args.bridges.now.kept =
+    omega (
+      arith,
+      laid_many c.args.width c.args.bridges.now.kept c.loop-i.units c.loop-i.invariant.onward.laid,
+      laid_many c.args.width c.args.bridges.now.kept c.args.units.now c.requires.laid,
+    ) in
+    let e = entry_there c.args.bridges.now.kept c.loop-i.i inside in
+    laid_more (laid_in c.args.units.now) (attributes_from beginning (units_of c.args.bridges.now.kept))
+    c.loop-i.units c.loop-i.i c.lay_next.new.shown (attributes_of c.loop-i.moment.env) c.loop-i.invariant.still
+    (right_here c.args.width c.args.bridges.now.kept c.args.units.now c.loop-i.units
+    c.loop-i.i c.loop-i.moment c.loop-i.items c.args.steps.now c.loop-i.steps c.loop-i.invariant.onward
+    (omega arith) c.index-units-i.result e.0 e.1) (c.in_ok-more.ensures.next e.0 e.1).attributes

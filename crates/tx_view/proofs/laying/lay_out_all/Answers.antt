@@ -5,6 +5,8 @@ use Rattle.tx_view.specs.Costs.{relaid_from}
 use Rattle.tx_view.specs.Laid.{unlaid_from, laid_in}
 use Rattle.tx_view.proofs.Forgetting.{laid_without}
 use Rattle.tx_view.proofs.Onward.{laid_many}
+use Rattle.tx_bridge.proofs.Partway.{any_err}
+use Rattle.tx_view.proofs.Partly.{evaluated}
 use Rattle.tx_view.proofs.Renewed.{relaid_is}
 use Rattle.tx_view.proofs.laying.lay_out_all.Goals as goal
 
@@ -16,6 +18,7 @@ evaluate-requires g c = record {
         laid_many c.args.width c.args.bridges.now.kept c.args.units.now c.requires.laid,
         c.requires.few,
       );
+  as_many = laid_many c.args.width c.args.bridges.now.kept c.args.units.now c.requires.laid;
 }
 
 pub returns-clause-work : goal.returns-clause-work
@@ -28,3 +31,10 @@ returns-clause-work g c =
     (ap laid_in c.in_ok-charges.ensures.shown
     ∙ laid_without c.evaluate.new.bridges.renewed c.args.units.now) in
     omega (arith, relaid, c.in_ok-charges.ensures.charge, c.in_ok-items.ensures.items)
+
+pub returns-in_err-items-clause-refused : goal.returns-in_err-items-clause-refused
+returns-in_err-items-clause-refused g c =
+    any_err c.from_residual-in_err-items.result
+    (evaluated c.args.bridges.now c.evaluate.new.bridges c.args.units.now c.evaluate.new.units c.lay_all.new.units
+    c.in_ok-charges.ensures.kept c.in_ok-charges.ensures.parts c.in_ok-charges.ensures.units
+    c.in_ok-charges.ensures.left c.in_err-items.ensures.still)

@@ -14,6 +14,8 @@ use Rattle.tx_view.proofs.Alone.{ready_is, shown_from, all_laid, without_alone}
 use Rattle.tx_view.proofs.Forgetting.{laid_without}
 use Rattle.tx_view.proofs.Leaving.{laid_within}
 use Rattle.tx_view.proofs.Onward.{laid_many}
+use Rattle.tx_bridge.proofs.Partway.{any_err}
+use Rattle.tx_view.proofs.Partly.{evaluated, laid_then}
 use Rattle.tx_view.proofs.Renewed.{relaid_is, same_many}
 use Rattle.tx_view.proofs.laying.lay_out_lone.Goals as goal
 
@@ -25,6 +27,7 @@ evaluate-requires g c = record {
         laid_many c.args.width c.args.bridges.now.kept c.args.units.now c.requires.laid,
         c.requires.few,
       );
+  as_many = laid_many c.args.width c.args.bridges.now.kept c.args.units.now c.requires.laid;
 }
 
 pub is_alone_quietly-quiet-requires : goal.is_alone_quietly-quiet-requires
@@ -124,3 +127,20 @@ returns-clause-work g c =
       c.in_ok-items.ensures.left,
       c.in_ok-rest.ensures.items,
     )
+
+pub returns-in_err-items-clause-refused : goal.returns-in_err-items-clause-refused
+returns-in_err-items-clause-refused g c =
+    any_err c.from_residual-in_err-items.result
+    (evaluated c.args.bridges.now c.evaluate.new.bridges c.args.units.now c.evaluate.new.units c.lay_if.new.units
+    c.in_ok-charges.ensures.kept c.in_ok-charges.ensures.parts c.in_ok-charges.ensures.units
+    c.in_ok-charges.ensures.left c.in_err-items.ensures.still)
+
+pub returns-in_err-rest-clause-refused : goal.returns-in_err-rest-clause-refused
+returns-in_err-rest-clause-refused g c =
+    any_err c.from_residual-in_err-rest.result
+    (evaluated c.args.bridges.now c.evaluate.new.bridges c.args.units.now c.evaluate.new.units c.lay_all.new.units
+    c.in_ok-charges.ensures.kept c.in_ok-charges.ensures.parts c.in_ok-charges.ensures.units
+    c.in_ok-charges.ensures.left
+    (laid_then (laid_in c.evaluate.new.units) (attributes_from beginning (units_of c.evaluate.new.bridges.kept))
+    (laid_in c.lay_if.new.units) (laid_in c.lay_all.new.units) c.in_ok-items.ensures.still
+    c.in_err-rest.ensures.still))

@@ -3,7 +3,7 @@ use Rattle.tx_exec.specs.Outcomes.{wide_outcome}
 use Rattle.tx_items.specs.Shows.{shown_paragraphs}
 use Rattle.tx_view_form.specs.Outcomes.{value_of}
 use Rattle.tx_view_form.specs.Weights.{weight_of}
-use Rattle.tx_view.specs.Costs.{items_in}
+use Rattle.tx_part_layout.specs.LaidParts.{items_in}
 use Rattle.tx_view.proofs.Onward.{few_items}
 use Rattle.tx_view.proofs.lone.lay_anew.Goals as goal
 

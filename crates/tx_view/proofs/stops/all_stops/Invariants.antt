@@ -1,7 +1,7 @@
 use Rattle.std.proofs.Common.{◌≡◌, take}
-use Rattle.tx_view_form.specs.Stops.{stops_of}
-use Rattle.tx_view.specs.Units.{unit_views}
+use Rattle.tx_view_form.specs.Stops.{each_once}
+use Rattle.tx_view.specs.Marks.{spot_places}
 use Rattle.tx_view.proofs.stops.all_stops.Given as goal
 
-abbrev pub invariant-loop-unit : goal.invariant-loop-unit
-invariant-loop-unit l = l.stops.keys ≡ stops_of (unit_views (take l.unit-index l.units))
+abbrev pub invariant-loop-spot : goal.invariant-loop-spot
+invariant-loop-spot l = l.stops.keys ≡ each_once (spot_places (take l.spot-index l.spot-items))

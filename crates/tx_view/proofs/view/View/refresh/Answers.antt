@@ -1,17 +1,47 @@
 use Rattle.std.proofs.lemmas.List.{take_at}
-use Rattle.std.proofs.Common.{◌≡◌, ◌∙◌, List, length, ap, refl, subst, sym, rules}
+use Rattle.std.proofs.Common.{◌≡◌, ◌∙◌, List, [], length, ap, refl, subst, sym, rules}
+use Rattle.std.specs.Vec.{with_items}
 use Rattle.tx_doc.specs.declared.buffer.Buffer.{Buffer}
 use Rattle.tx_units.specs.Units.{units}
 use Rattle.tx_view_form.specs.Outcomes.{beginning}
 use Rattle.tx_view_form.specs.Views.{AreShown}
 use Rattle.tx_view.specs.declared.shown.Shown.{Shown}
+use Rattle.tx_view.specs.declared.view.View.TheInside.{Inside}
 use Rattle.tx_view.specs.Laid.{AreLaid, laid_in}
 use Rattle.tx_view.specs.Lone.{IsPaged}
 use Rattle.tx_view.specs.Names.{Fresh}
-use Rattle.tx_view.specs.Units.{unit_views, AreAllApart}
+use Rattle.tx_view.specs.Units.{unit_views, sums_from, row_counts, error_counts, AreAllApart}
 use Rattle.tx_view.proofs.Forgetting.{AllReadable}
-use Rattle.tx_view.proofs.Standing.{standing, stores_with}
+use Rattle.tx_view.proofs.Standing.{stale, left_none, standing, stores_with}
 use Rattle.tx_view.proofs.view.View.refresh.Goals as goal
+
+-- behind want of memory
+pub invariant_of-self : goal.invariant_of-self
+invariant_of-self g c =
+    let many : length c.made_anew.new.all ≡ c.self.inside.hidden.len = search rules in
+    let now : c.made_anew.new.all ≡ (with_items c.self.inside.hidden c.made_anew.new.all).items =
+    sym (take_at c.made_anew.new.all _ c.self.inside.hidden.len many) in
+    let same = c.deref.ensures.value in
+    let none : c.self.inside.units.items ≡ [] = c.self.invariant.hidden c.if-self.false in
+    let v : Inside = record c.self.inside {
+      bridges = c.made_anew.new.bridges;
+      hidden = with_items c.self.inside.hidden c.made_anew.new.all;
+      lone = c.replace-lone.new.dest;
+    } in
+    stale v (record {
+      some = c.self.invariant.some;
+      few = c.self.invariant.few;
+      least_width = c.self.invariant.least_width;
+      most_width = c.self.invariant.most_width;
+      least_height = c.self.invariant.least_height;
+      most_height = c.self.invariant.most_height;
+      of_buffers = c.in_err-paged.ensures.of_buffers ∙ ap units same;
+    }) c.if-self.false none
+    (c.self.invariant.rows ∙ ap (λ xs. sums_from 0 (row_counts (unit_views xs))) none)
+    (c.self.invariant.errors ∙ ap (λ xs. sums_from 0 (error_counts (unit_views xs))) none)
+    (subst (λ (xs : List Shown). AreLaid c.self.inside.width c.made_anew.new.bridges.kept xs) now
+    c.in_err-paged.ensures.laid)
+    (subst AllReadable now c.in_err-paged.ensures.readable) (left_none v c.replace-lone.ensures.after)
 
 pub invariant_of-self-2 : goal.invariant_of-self-2
 invariant_of-self-2 g c =
@@ -34,7 +64,8 @@ invariant_of-self-2 g c =
     same c.in_ok-paged.ensures.shown))
     (subst (λ (xs : List Shown). IsPaged c.self.inside.height (unit_views xs) c.in_ok-paged.paged) now
     c.in_ok-paged.ensures.paged)
-    (ap (λ (xs : List Shown). stores_with c.made_anew.new.bridges.kept c.made_anew.new.bridges.parts (laid_in xs)) (sym now)
+    (ap (λ (xs : List Shown). stores_with c.made_anew.new.bridges.kept c.made_anew.new.bridges.parts (laid_in xs))
+    (sym now)
     ∙ c.in_ok-paged.ensures.stores ∙ ap Fresh same)
     (subst (λ (xs : List Shown). AreAllApart (unit_views xs)) now c.in_ok-paged.ensures.apart)
     (subst (λ (xs : List Shown). AreLaid c.self.inside.width c.made_anew.new.bridges.kept xs) now

@@ -2,7 +2,7 @@ use Rattle.std.proofs.Common.{◌≡◌, drop}
 use Rattle.std.specs.List.{flat_map}
 use Rattle.tx_view_form.specs.Positions.{marks_of}
 use Rattle.tx_view.specs.Marks.{first_of}
-use Rattle.tx_view.proofs.stops.first_in.Given as goal
+use Rattle.tx_view.proofs.spots.first_in.Given as goal
 
 abbrev pub invariant-loop-paragraph : goal.invariant-loop-paragraph
 invariant-loop-paragraph l =

@@ -1,7 +1,7 @@
 use Rattle.std.proofs.Common.{sym, ◌∙◌}
 use Rattle.std.specs.Prelude.{Some, None}
 use Rattle.tx_view.proofs.Stopping.{first_paragraph_step}
-use Rattle.tx_view.proofs.stops.first_in.Goals as goal
+use Rattle.tx_view.proofs.spots.first_in.Goals as goal
 
 pub returns-in-Some : goal.returns-in-Some
 returns-in-Some c =
