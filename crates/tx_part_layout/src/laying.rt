@@ -24,7 +24,7 @@ use tx_items::{Attrs, ErrorAt, Paragraph};
 use tx_layout::{Line, lines};
 use tx_part_items::items_under_law;
 use tx_tree::Tree;
-use tx_walk::{Opening, Part, opening_of};
+use tx_walk::{Descent, Part, descent_of};
 
 /// How far a unit is laid out.
 #[derive(Drop)]
@@ -250,10 +250,10 @@ pub(crate) fn lay_tree<L: Ledger>(
     if levels == 0 {
         return Ok(());
     }
-    match opening_of(t) {
-        Opening::Document => lay_children(alloc, t, levels - 1, parts, old, width, laying, steps),
-        Opening::With => lay_with(alloc, t, levels - 1, parts, old, width, laying, steps),
-        Opening::Shut => next_part(alloc, parts, old, width, laying, steps),
+    match descent_of(t) {
+        Descent::Document => lay_children(alloc, t, levels - 1, parts, old, width, laying, steps),
+        Descent::With => lay_with(alloc, t, levels - 1, parts, old, width, laying, steps),
+        Descent::Shut => next_part(alloc, parts, old, width, laying, steps),
     }
 }
 

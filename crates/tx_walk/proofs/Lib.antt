@@ -12,7 +12,7 @@ pub mod Document
 pub mod Ends
 pub mod Soundness
 pub mod Behind
-pub mod Openings
+pub mod Descents
 pub mod Texts
 pub mod Elsewhere
 pub mod Within

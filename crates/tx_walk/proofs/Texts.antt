@@ -11,7 +11,7 @@ use Rattle.tx_parts.specs.Openness.{Settings as TextSettings, settings_in}
 use Rattle.tx_parts.specs.Composed.{settings_cost, setting_values}
 use Rattle.tx_parts.proofs.Settings.{Behind, behind_first}
 use Rattle.tx_walk.specs.declared.settings.Settings.{Settings}
-use Rattle.tx_walk.specs.Opening.{pairs_of, AreSettings}
+use Rattle.tx_walk.specs.Descent.{pairs_of, AreSettings}
 
 -- names and texts in turn, and a last child
 abbrev pub laid : TextSettings → WideTree → List WideTree

@@ -34,7 +34,7 @@ use Rattle.tx_walk.specs.declared.settings.Settings.{Settings}
 use Rattle.tx_walk.specs.Held.{Store, charges}
 use Rattle.tx_walk.specs.Walked.{seen, seen_in}
 use Rattle.tx_walk.specs.Steps.{trace_under, IsAdded}
-use Rattle.tx_walk.specs.Opening.{pairs_of, AreSettings}
+use Rattle.tx_walk.specs.Descent.{pairs_of, AreSettings}
 use Rattle.tx_walk.specs.Scopes.{with_at, FitsWith, IsScope}
 use Rattle.tx_walk.proofs.Charging.{none_charged}
 use Rattle.tx_walk.proofs.Going.{append_none, values_more}

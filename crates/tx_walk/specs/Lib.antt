@@ -4,7 +4,7 @@ pub mod Walked
 pub mod Finding
 pub mod Steps
 pub mod Spending
-pub mod Opening
+pub mod Descent
 pub mod Outside
 pub mod Scopes
 pub mod Open

@@ -7,7 +7,7 @@ use Rattle.tx_exec_form.specs.Evaluated.{WideTrace}
 use Rattle.tx_parts.specs.Atop.{past}
 use Rattle.tx_parts.specs.Openness.{Settings as TextSettings, With, openness}
 use Rattle.tx_walk.specs.declared.settings.Settings.{Settings}
-use Rattle.tx_walk.specs.Opening.{AreSettings}
+use Rattle.tx_walk.specs.Descent.{AreSettings}
 
 -- the trace of the `with` at this origin, which sets this, of the values of names and texts, what these cost, and the
 -- trace of its last child

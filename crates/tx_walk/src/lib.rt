@@ -4,11 +4,11 @@
 //! the parts of which nothing that fits is kept.
 #![tactic(auto)]
 
+mod descent;
 mod fitting;
 mod joined;
 mod laws;
 mod open;
-mod opening;
 mod origins;
 mod outside;
 mod part;
@@ -21,10 +21,10 @@ mod traces;
 mod unit;
 mod walking;
 
+pub use descent::{Descent, descent_of};
 pub use fitting::{looks_agree, same_trees};
 pub use laws::{charges_law, kept_law, walked_law};
 pub use open::is_open;
-pub use opening::{Opening, opening_of};
 pub use part::Part;
 pub use sharing::placed_value;
 pub use unit::{Walked, walk};

@@ -6,7 +6,7 @@ ghost use Rattle.tx_tree.specs.WideTree.{WideTree, leaf, children_of};
 ghost use Rattle.tx_origin.specs.Values.{text};
 ghost use Rattle.tx_parts.specs.Openness.{Settings as TextSettings, settings_in};
 ghost use Rattle.tx_parts.specs.Composed.{settings_cost};
-ghost use Rattle.tx_walk.specs.Opening.{AreSettings, Goes};
+ghost use Rattle.tx_walk.specs.Descent.{AreSettings, Goes};
 
 use crate::origins::origin_of;
 use std::alloc::Global;

@@ -22,9 +22,9 @@ ghost use Rattle.tx_walk.specs.Steps.{trace_under, settled, IsReady, IsBehind, I
 ghost use Rattle.tx_walk.specs.Spending.{RisesAlike};
 ghost use Rattle.tx_walk.specs.Steps.{so_far_of, stage_of, ChildComes, ChildrenCome};
 
+use crate::descent::{Descent, descent_of};
 use crate::fitting::held;
 use crate::joined::Joined;
-use crate::opening::{Opening, opening_of};
 use crate::part::Part;
 use crate::prior::PriorParts;
 use crate::progress::WalkProgress;
@@ -282,14 +282,14 @@ pub(crate) fn walk_tree<L: Ledger>(
     if levels == 0 {
         return Ok(Outcome::Over);
     }
-    match opening_of(t) {
-        Opening::Document => document(
+    match descent_of(t) {
+        Descent::Document => document(
             alloc, t, &path, env, levels, left, kept, progress, done, steps,
         ),
-        Opening::With => scope(
+        Descent::With => scope(
             alloc, t, &path, env, levels, left, kept, progress, done, steps,
         ),
-        Opening::Shut => part(
+        Descent::Shut => part(
             alloc, t, path, env, levels, left, kept, progress, done, steps,
         ),
     }

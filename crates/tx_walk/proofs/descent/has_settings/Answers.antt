@@ -1,6 +1,6 @@
 use Rattle.std.proofs.Common.{arith}
-use Rattle.tx_walk.proofs.Openings.{even_none, odd_some}
-use Rattle.tx_walk.proofs.opening.has_settings.Goals as goal
+use Rattle.tx_walk.proofs.Descents.{even_none, odd_some}
+use Rattle.tx_walk.proofs.descent.has_settings.Goals as goal
 
 pub returns-then-count-eq0 : goal.returns-then-count-eq0
 returns-then-count-eq0 c = even_none c.args.children.now c.if-count-eq0.true

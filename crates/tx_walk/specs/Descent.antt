@@ -5,15 +5,15 @@ use Rattle.tx_env.specs.Pairs.{Name}
 use Rattle.tx_origin.specs.Under.{value_under}
 use Rattle.tx_parts.specs.Openness.{Settings as TextSettings, Document, With, Shut, openness}
 use Rattle.tx_parts.specs.Composed.{settings_cost, setting_values}
-use Rattle.tx_walk.specs.declared.opening.Opening.{Opening}
-use Rattle.tx_walk.specs.declared.opening.Opening.TheVariants as openings
+use Rattle.tx_walk.specs.declared.descent.Descent.{Descent}
+use Rattle.tx_walk.specs.declared.descent.Descent.TheVariants as descents
 use Rattle.tx_walk.specs.declared.settings.Settings.{Settings}
 
 -- this is how the tree is gone into
-abbrev pub Opens : WideTree → Opening → Type 0
-Opens t openings.Document = openness t ≡ Document (children_of t)
-Opens t openings.With = (ps : TextSettings) × (b : WideTree) × (openness t ≡ With ps b)
-Opens t openings.Shut = openness t ≡ Shut
+abbrev pub Descends : WideTree → Descent → Type 0
+Descends t descents.Document = openness t ≡ Document (children_of t)
+Descends t descents.With = (ps : TextSettings) × (b : WideTree) × (openness t ≡ With ps b)
+Descends t descents.Shut = openness t ≡ Shut
 
 abbrev pub pairs_of : TextSettings → List (Name × WideTree)
 pairs_of ps = map (λ p. (p.0, leaf p.1)) ps

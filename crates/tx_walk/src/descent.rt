@@ -4,13 +4,13 @@ ghost use Rattle.std.specs.List.{list_all};
 ghost use Rattle.std.specs.Str.{bytes_eq};
 ghost use Rattle.tx_tree.specs.WideTree.{text_of};
 ghost use Rattle.tx_parts.specs.Openness.{settings_in};
-ghost use Rattle.tx_walk.specs.Opening.{Opens};
+ghost use Rattle.tx_walk.specs.Descent.{Descends};
 
 use tx_tree::{Label, Tree};
 
 /// How a tree is gone into.
 #[derive(Clone, Copy, Debug, PartialEq, Eq)]
-pub enum Opening {
+pub enum Descent {
     /// Into each child.
     Document,
     /// Into the last child, with names set to texts.
@@ -49,20 +49,20 @@ fn has_settings(children: &[Tree]) -> bool
 }
 
 /// How the tree is gone into.
-pub fn opening_of(t: &Tree) -> Opening
-    ensures { Opens t.now result }
+pub fn descent_of(t: &Tree) -> Descent
+    ensures { Descends t.now result }
 {
     let Some(label) = t.label() else {
-        return Opening::Shut;
+        return Descent::Shut;
     };
     if is_document(label) {
         if t.arity() == 0 {
-            return Opening::Shut;
+            return Descent::Shut;
         }
-        return Opening::Document;
+        return Descent::Document;
     }
     if is_with(label) && has_settings(t.children()) {
-        return Opening::With;
+        return Descent::With;
     }
-    Opening::Shut
+    Descent::Shut
 }

@@ -1,8 +1,8 @@
 use Rattle.std.proofs.Common.{sym, ◌∙◌, ap}
 use Rattle.std.specs.Prelude.{is_some}
 use Rattle.tx_parts.specs.Openness.{settings_in}
-use Rattle.tx_walk.proofs.Openings.{with_opens}
-use Rattle.tx_walk.proofs.opening.opening_of.Goals as goal
+use Rattle.tx_walk.proofs.Descents.{with_opens}
+use Rattle.tx_walk.proofs.descent.descent_of.Goals as goal
 
 pub returns-then-has_settings : goal.returns-then-has_settings
 returns-then-has_settings c =
