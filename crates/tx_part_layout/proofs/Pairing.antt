@@ -3,14 +3,11 @@ use Rattle.std.proofs.Common.{◌≡◌, ℕ, suc, ◌+◌, ◌*◌, ◌<◌, �
 use Rattle.std.proofs.Common.{refl, ap, sym, ◌∙◌, arith}
 use Rattle.std.proofs.lemmas.List.{take_more, take_all}
 use Rattle.std.proofs.lemmas.Option.{slice_get-get_or}
-use Rattle.std.specs.Prelude.{Option, Some, None, slice_get}
+use Rattle.std.specs.Prelude.{Some, None, slice_get}
 use Rattle.tx_tree.specs.WideTree.{WideTree, leaf}
 use Rattle.tx_parts.specs.Openness.{Settings as TextSettings, settings_in}
-use Rattle.tx_walk.proofs.Texts.{laid_is, setting_at, SettingAt, settings_count, inner_at}
+use Rattle.tx_walk.proofs.Texts.{text_same, laid_is, setting_at, SettingAt, settings_count, inner_at}
 use Rattle.tx_part_layout.proofs.Reusing.{some_same}
-
-text_same : (x y : List ℕ) (o : Option WideTree) → o ≡ Some (leaf x) → o ≡ Some (leaf y) → x ≡ y
-text_same x y o h g = let same : leaf x ≡ leaf y = cc in cc
 
 pub pair_more : (ps : TextSettings) (b : WideTree) (ts : List WideTree) → settings_in ts ≡ Some (ps, b) → (i : ℕ) →
     i < length ps → (name words : List ℕ) → slice_get ts (2 * i) ≡ Some (leaf name) →
@@ -29,10 +26,6 @@ pair_more ps b ts h i few name words is_name is_words =
     ∙ ap (λ p. take i ps ++ p ∷ []) there
     ∙ ap (λ x. take i ps ++ (x, at.setting.1) ∷ []) (sym first)
     ∙ ap (λ y. take i ps ++ (name, y) ∷ []) (sym second)
-
--- a number below half of the children is that of a setting
-pub below : (i n m k : ℕ) → i < n / 2 → n ≡ m → m ≡ suc (2 * k) → i < k
-below i n m k h e f = omega (arith, h, e, f)
 
 pub all_pairs : (ps : TextSettings) (i n m : ℕ) → n / 2 ≤ i → n ≡ m → m ≡ suc (2 * length ps) → take i ps ≡ ps
 all_pairs ps i n m h e f = take_all i ps (omega (arith, h, e, f))

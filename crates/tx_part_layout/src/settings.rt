@@ -1,6 +1,6 @@
 // The names and texts of a `with`.
-ghost use Rattle.std.specs.Prelude.{◌≡◌, ℕ, Some, None, IfOk, OnOk, MatchOption, slice_get, List};
-ghost use Rattle.tx_tree.specs.WideTree.{WideTree, leaf, children_of};
+ghost use Rattle.std.specs.Prelude.{◌≡◌, Some, IfOk, OnOk};
+ghost use Rattle.tx_tree.specs.WideTree.{WideTree, children_of};
 ghost use Rattle.tx_parts.specs.Openness.{Settings as TextSettings, With, openness, settings_in};
 ghost use Rattle.tx_part_items.specs.ShownParts.{settings_set, settings_given_back};
 
@@ -8,17 +8,7 @@ use std::alloc::Global;
 use tx_base::Memory;
 use tx_items::Attrs;
 use tx_tree::{Text, Tree};
-
-// The text that is the child of this number.
-fn text_at(t: &Tree, i: u32) -> Option<&Text>
-    ensures { MatchOption result ((words : List ℕ) → slice_get (children_of t.now) i ≡ Some (leaf words) → ⊥)
-        (λ words. slice_get (children_of t.now) i ≡ Some (leaf words.now)) }
-{
-    match t.child(i) {
-        None => None,
-        Some(kid) => kid.text(),
-    }
-}
+use tx_walk::text_at;
 
 /// The names and texts of a `with`, in order.
 pub(crate) fn settings_of(alloc: Global, t: &Tree) -> Result<Vec<(Text, Text)>, Memory>

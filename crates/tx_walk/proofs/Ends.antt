@@ -5,7 +5,7 @@ use Rattle.std.specs.List.{IsDistinct}
 use Rattle.std.specs.Map.{keys_of}
 use Rattle.std.specs.Str.{bytes_eq}
 use Rattle.std.specs.FinMap.{empty, from_entries}
-use Rattle.tx_tree.specs.WideTree.{WideTree, label_of}
+use Rattle.tx_tree.specs.WideTree.{WideTree}
 use Rattle.tx_env.specs.Pairs.{Name, Pairs}
 use Rattle.tx_env.specs.Changes.{map_of}
 use Rattle.tx_origin.specs.Values.{WideValue, made, vals}
@@ -21,9 +21,8 @@ use Rattle.tx_walk.specs.Outside.{outside}
 use Rattle.tx_walk.specs.Scopes.{with_at}
 use Rattle.tx_walk.proofs.Elsewhere.{outside_is}
 
-pub document_traced : (base origin : List ℕ) (j : Joined) (t : WideTree) (l m : List ℕ) (v : WideValue) (looks : Pairs)
-    (writes : List (Name × WideTree)) → label_of t ≡ Some (codes "document") → label_of t ≡ Some l → m ≡ l →
-    origin ≡ base → v ≡ made m (vals j.values.items) (Some origin) → looks ≡ j.looks → writes ≡ set_pairs j.writes →
+pub document_traced : (base : List ℕ) (j : Joined) (v : WideValue) (looks : Pairs) (writes : List (Name × WideTree)) →
+    v ≡ made (codes "document") (vals j.values.items) (Some base) → looks ≡ j.looks → writes ≡ set_pairs j.writes →
     IsDistinct bytes_eq (keys_of j.writes) →
     record {
       value = v;
@@ -32,8 +31,7 @@ pub document_traced : (base origin : List ℕ) (j : Joined) (t : WideTree) (l m 
       cost = 1 + j.cost;
       height = 1 + j.height;
     } ≡ document_at base (so_far_of j)
-document_traced base origin j t l m v looks writes named is_l is_m is_base is_v is_looks is_writes once =
-    let label : l ≡ codes "document" = cc in
+document_traced base j v looks writes is_v is_looks is_writes once =
     trace_is v j.writes j.looks looks writes (1 + j.cost) (1 + j.height) is_looks is_writes once
     ∙ ap (λ u. record {
       value = u;
@@ -41,14 +39,12 @@ document_traced base origin j t l m v looks writes named is_l is_m is_base is_v 
       writes = map_of j.writes;
       cost = 1 + j.cost;
       height = 1 + j.height;
-    }) (is_v ∙ ap (λ o. made m (vals j.values.items) (Some o)) is_base
-    ∙ ap (λ n. made n (vals j.values.items) (Some base)) (is_m ∙ label))
+    }) is_v
 
 -- that of a `with`
-pub with_traced : (base origin : List ℕ) (pairs : List (Name × WideTree)) (values vs : List WideValue) (n : ℕ)
-    (trace : Trace) (t : WideTree) (l m : List ℕ) (v : WideValue) (looks : Pairs) (writes : List (Name × WideTree)) →
-    label_of t ≡ Some (codes "with") → label_of t ≡ Some l → m ≡ l → origin ≡ base →
-    vs ≡ values ++ trace.value ∷ [] → v ≡ made m (vals vs) (Some origin) → looks ≡ outside pairs trace.looks →
+pub with_traced : (base : List ℕ) (pairs : List (Name × WideTree)) (values : List WideValue) (n : ℕ) (trace : Trace)
+    (v : WideValue) (looks : Pairs) (writes : List (Name × WideTree)) →
+    v ≡ made (codes "with") (vals (values ++ trace.value ∷ [])) (Some base) → looks ≡ outside pairs trace.looks →
     writes ≡ outside pairs trace.writes →
     record {
       value = v;
@@ -57,17 +53,14 @@ pub with_traced : (base origin : List ℕ) (pairs : List (Name × WideTree)) (va
       cost = 1 + n + trace.cost;
       height = 1 + trace.height;
     } ≡ with_at base (overlaid empty pairs) values n (wide_trace trace)
-with_traced base origin pairs values vs n trace t l m v looks writes is_with is_l is_m is_base pushed is_v is_looks
-    is_writes =
-    let label : l ≡ codes "with" = cc in
+with_traced base pairs values n trace v looks writes is_v is_looks is_writes =
     ap (λ u. record {
       value = u;
       looks = from_entries looks;
       writes = from_entries writes;
       cost = 1 + n + trace.cost;
       height = 1 + trace.height;
-    }) (is_v ∙ ap (λ o. made m (vals vs) (Some o)) is_base ∙ ap (λ x. made x (vals vs) (Some base)) (is_m ∙ label)
-    ∙ ap (λ us. made (codes "with") (vals us) (Some base)) pushed)
+    }) is_v
     ∙ ap (λ u. record {
       value = made (codes "with") (vals (values ++ trace.value ∷ [])) (Some base);
       looks = u;

@@ -1,5 +1,5 @@
 -- The names and texts of a `with`, one by one.
-use Rattle.std.proofs.Common.{◌≡◌, ℕ, zero, suc, ◌+◌, ◌*◌, ◌<◌, ◌≤◌, List, [], ◌∷◌, ◌++◌, map, length}
+use Rattle.std.proofs.Common.{◌≡◌, ℕ, zero, suc, ◌+◌, ◌*◌, ◌/◌, ◌<◌, ◌≤◌, List, [], ◌∷◌, ◌++◌, map, length}
 use Rattle.std.proofs.Common.{take, refl}
 use Rattle.std.proofs.Common.{ap, sym, ◌∙◌, arith}
 use Rattle.std.proofs.lemmas.List.{map-append, take_all}
@@ -117,7 +117,12 @@ pub record SoFar (base : List ℕ) (ps : TextSettings) (i : ℕ) (s : Settings) 
   pub values : s.values.items ≡ map (value_under base) (setting_values 0 (take i ps))
   pub cost : s.cost ≡ settings_cost (take i ps)
 
-text_same : (x y : List ℕ) (o : Option WideTree) → o ≡ Some (leaf x) → o ≡ Some (leaf y) → x ≡ y
+-- a number below half of the children is that of a setting
+pub below : (i n m k : ℕ) → i < n / 2 → n ≡ m → m ≡ suc (2 * k) → i < k
+below i n m k h e f = omega (arith, h, e, f)
+
+-- a text that stands in one place is one text
+pub text_same : (x y : List ℕ) (o : Option WideTree) → o ≡ Some (leaf x) → o ≡ Some (leaf y) → x ≡ y
 text_same x y o h g = let same : leaf x ≡ leaf y = cc in cc
 
 module _ (base : List ℕ) (ps : TextSettings) (b : WideTree) (ts : List WideTree) (h : settings_in ts ≡ Some (ps, b))

@@ -26,5 +26,6 @@ pub use fitting::{looks_agree, same_trees};
 pub use laws::{charges_law, kept_law, walked_law};
 pub use open::is_open;
 pub use part::Part;
+pub use settings::text_at;
 pub use sharing::placed_value;
 pub use unit::{Walked, walk};

@@ -1,8 +1,9 @@
 // What a `with` comes to, by its last child.
-ghost use Rattle.std.specs.Prelude.{◌≡◌, codes, IfOk, IfSome, Some};
+ghost use Rattle.std.specs.Prelude.{◌≡◌, ◌<◌, ◌++◌, ◌∷◌, [], length, codes, IfOk, IfSome, Some};
 ghost use Rattle.std.specs.Option.{option_map};
 ghost use Rattle.std.specs.FinMap.{empty};
-ghost use Rattle.tx_tree.specs.WideTree.{label_of};
+ghost use Rattle.tx_tree.specs.WideTree.{label_of, total_size, deepest};
+ghost use Rattle.tx_origin.specs.Values.{made, vals, plains};
 ghost use Rattle.tx_env.specs.Environments.{overlaid};
 ghost use Rattle.tx_exec.specs.States.{before_of};
 ghost use Rattle.tx_exec.specs.Outcomes.{wide_trace, wide_outcome, NamesOnce};
@@ -10,7 +11,7 @@ ghost use Rattle.tx_walk.specs.Walked.{AreOnce};
 ghost use Rattle.tx_walk.specs.Steps.{IsBehind};
 ghost use Rattle.tx_walk.specs.Scopes.{with_at, FitsWith};
 
-use crate::origins::origin_of;
+use crate::origins::node_at;
 use crate::outside::{looks_outside, writes_outside};
 use crate::settings::Settings;
 use crate::walking::set_all;
@@ -21,6 +22,24 @@ use tx_exec::{Outcome, Trace};
 use tx_origin::Value;
 use tx_tree::{Path, Text, Tree};
 
+// The value of the `with` at this origin, of the values of names and texts and that of its last child.
+fn with_value(
+    alloc: Global,
+    t: &Tree,
+    path: &Path,
+    mut values: Vec<Value>,
+    inner: Value,
+) -> Result<Value, Memory>
+    requires label { label_of t.now ≡ Some (codes "with") }
+    requires arity { length values.items < 65535 }
+    requires depth { deepest (plains (vals (values.items ++ inner ∷ []))) < 400 }
+    requires size { total_size (plains (vals (values.items ++ inner ∷ []))) < 1000000 }
+    ensures { IfOk result (λ v. v ≡ made (codes "with") (vals (values.items ++ inner ∷ [])) (Some path.now)) }
+{
+    values.push(inner)?;
+    node_at(alloc, t, path, values)
+}
+
 // The trace of the `with` at this origin, which sets these pairs, of the values of names and texts, what they cost, and
 // the trace of its last child.
 fn with_trace(
@@ -28,7 +47,7 @@ fn with_trace(
     t: &Tree,
     path: &Path,
     pairs: &[(Text, Tree)],
-    mut values: Vec<Value>,
+    values: Vec<Value>,
     cost: u64,
     trace: Trace,
 ) -> Result<Trace, Memory>
@@ -39,16 +58,11 @@ fn with_trace(
         ≡ with_at path.now (overlaid empty pairs.now) values.items cost (wide_trace trace)) }
     ensures once { IfOk result AreOnce }
 {
-    let Some(label) = t.label() else {
-        unreachable!()
-    };
     let cost = 1 + cost + trace.cost;
     let height = 1 + trace.height;
     let looks = looks_outside(alloc, pairs, &trace.looks)?;
     let writes = writes_outside(alloc, pairs, &trace.writes)?;
-    values.push(trace.value)?;
-    let origin = origin_of(alloc, path)?;
-    let value = Value::node(alloc, label.copy()?, values, Some(origin))?;
+    let value = with_value(alloc, t, path, values, trace.value)?;
     Ok(Trace {
         value,
         looks,

@@ -30,6 +30,38 @@ fn text_value(alloc: Global, base: &Ip, i: u32, words: &Text) -> Result<Value, M
     Value::leaf(alloc, words.copy()?, Some(at))
 }
 
+// The values of a name and its text, which are the children from number i on, behind the others.
+fn add_values(
+    alloc: Global,
+    base: &Ip,
+    i: u32,
+    name: &Text,
+    words: &Text,
+    values: &mut Vec<Value>,
+) -> Result<(), Memory>
+    requires number { i < 65535 }
+    ensures { OnOk result (values.new.items ≡ values.old.items
+        ++ text name.now (Some (base.now ++ i ∷ [])) ∷ text words.now (Some (base.now ++ (i + 1) ∷ [])) ∷ []) }
+{
+    values.push(text_value(alloc, base, i, name)?)?;
+    values.push(text_value(alloc, base, i + 1, words)?)?;
+    Ok(())
+}
+
+// The name with its text behind the others.
+fn add_pair(
+    alloc: Global,
+    name: &Text,
+    words: &Text,
+    pairs: &mut Vec<(Text, Tree)>,
+) -> Result<(), Memory>
+    ensures { OnOk result (pairs.new.items ≡ pairs.old.items ++ (name.now, leaf words.now) ∷ []) }
+{
+    let tree = Tree::leaf(alloc, words.copy()?)?;
+    pairs.push((name.copy()?, tree))?;
+    Ok(())
+}
+
 impl Settings {
     fn new(alloc: Global) -> Settings
         ensures pairs { result.pairs.items ≡ [] }
@@ -64,16 +96,13 @@ impl Settings {
         let first = 1 + name.bytes().len() as u64;
         let second = 1 + words.bytes().len() as u64;
         self.cost += first + second + second;
-        self.values.push(text_value(alloc, base, i, name)?)?;
-        self.values.push(text_value(alloc, base, i + 1, words)?)?;
-        let tree = Tree::leaf(alloc, words.copy()?)?;
-        self.pairs.push((name.copy()?, tree))?;
-        Ok(())
+        add_values(alloc, base, i, name, words, &mut self.values)?;
+        add_pair(alloc, name, words, &mut self.pairs)
     }
 }
 
-// The text that is the child of this number.
-fn text_at(t: &Tree, i: u32) -> Option<&Text>
+/// The text that is the child of this number, or None where that isn't a text.
+pub fn text_at(t: &Tree, i: u32) -> Option<&Text>
     ensures { MatchOption result ((words : List ℕ) → slice_get (children_of t.now) i ≡ Some (leaf words) → ⊥)
         (λ words. slice_get (children_of t.now) i ≡ Some (leaf words.now)) }
 {

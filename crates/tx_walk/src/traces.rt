@@ -10,12 +10,11 @@ ghost use Rattle.tx_walk.specs.Steps.{so_far_of, FitsNode, document_at};
 ghost use Rattle.tx_walk.specs.Walked.{AreOnce};
 
 use crate::joined::Joined;
-use crate::origins::origin_of;
+use crate::origins::node_at;
 use std::alloc::Global;
 use tx_base::Memory;
 use tx_env::{Pairs, Writes};
 use tx_exec::{Looks, Outcome, Trace};
-use tx_origin::Value;
 use tx_tree::{Path, Tree};
 
 // All that was looked up, each name once.
@@ -48,15 +47,11 @@ fn document_trace(alloc: Global, t: &Tree, path: &Path, joined: Joined) -> Resul
     ensures trace { IfOk result (λ w. wide_trace w ≡ document_at path.now (so_far_of joined)) }
     ensures once { IfOk result AreOnce }
 {
-    let Some(label) = t.label() else {
-        unreachable!()
-    };
     let cost = 1 + joined.cost;
     let height = 1 + joined.height;
     let looks = looks_of(joined.looks, alloc)?;
     let writes = writes_of(joined.writes, alloc)?;
-    let origin = origin_of(alloc, path)?;
-    let value = Value::node(alloc, label.copy()?, joined.values, Some(origin))?;
+    let value = node_at(alloc, t, path, joined.values)?;
     Ok(Trace {
         value,
         looks,

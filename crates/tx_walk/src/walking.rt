@@ -129,6 +129,27 @@ fn held_part(
     settle(alloc, part, env, done)
 }
 
+// What the tree comes to alone, with all levels.
+fn eval_alone<L: Ledger>(
+    alloc: Global,
+    t: &Tree,
+    env: &mut Env,
+    left: u64,
+    steps: &mut Steps<L>,
+) -> Result<Outcome, Memory>
+    requires left { left ≤ 1000000 }
+    ensures exact { IfOk result (λ o. wide_outcome o ≡ evaluates 400 left t.now (before_of env.old)) }
+    ensures counted { IfOk result (λ o. steps.new ≡ steps.old + paid left (wide_outcome o)) }
+    ensures names_once { IfOk result NamesOnce }
+    ensures env { env.new ≡ env.old }
+{
+    let alone = Tagged {
+        tree: t.share()?,
+        at: Some(Ip::root()),
+    };
+    eval(alloc, &alone, env, left, steps)
+}
+
 // What the tree comes to with so many levels. Where they don't suffice all steps that are left are taken.
 fn eval_within<L: Ledger>(
     alloc: Global,
@@ -145,11 +166,7 @@ fn eval_within<L: Ledger>(
     ensures names_once { IfOk result NamesOnce }
     ensures env { env.new ≡ env.old }
 {
-    let alone = Tagged {
-        tree: t.share()?,
-        at: Some(Ip::root()),
-    };
-    match eval(alloc, &alone, env, left, steps)? {
+    match eval_alone(alloc, t, env, left, steps)? {
         Outcome::Over => Ok(Outcome::Over),
         Outcome::Done(trace) => {
             if trace.height > levels {

@@ -1,7 +1,7 @@
 use Rattle.std.proofs.Common.{refl, ◌∙◌, ◌*◌, ◌+◌, [], length}
 use Rattle.tx_tree.specs.WideTree.{children_of}
-use Rattle.tx_walk.proofs.Texts.{no_name, no_words, settings_count}
-use Rattle.tx_part_layout.proofs.Pairing.{pairs_next, below, all_pairs}
+use Rattle.tx_walk.proofs.Texts.{below, no_name, no_words, settings_count}
+use Rattle.tx_part_layout.proofs.Pairing.{pairs_next, all_pairs}
 use Rattle.tx_part_layout.proofs.settings.settings_of.Goals as goal
 
 pub unreachable-requires : goal.unreachable-requires

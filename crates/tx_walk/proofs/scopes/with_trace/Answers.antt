@@ -4,11 +4,8 @@ use Rattle.tx_walk.proofs.scopes.with_trace.Goals as goal
 
 pub returns-clause-trace : goal.returns-clause-trace
 returns-clause-trace c =
-    with_traced c.args.path.now c.in_ok-origin.origin c.args.pairs.now c.args.values.items c.push.new.self.items
-    c.args.cost c.args.trace c.args.t.now c.in-Some.label.now c.in_ok-copy.field-0 c.in_ok-value.value
-    c.in_ok-looks.looks c.in_ok-writes.writes c.requires.label c.in-Some.ensures c.in_ok-copy.ensures
-    c.in_ok-origin.ensures c.in_ok-push.ensures.items c.in_ok-value.ensures c.in_ok-looks.ensures
-    c.in_ok-writes.ensures
+    with_traced c.args.path.now c.args.pairs.now c.args.values.items c.args.cost c.args.trace c.in_ok-value.value
+    c.in_ok-looks.looks c.in_ok-writes.writes c.in_ok-value.ensures c.in_ok-looks.ensures c.in_ok-writes.ensures
 
 pub returns-clause-once : goal.returns-clause-once
 returns-clause-once c = (

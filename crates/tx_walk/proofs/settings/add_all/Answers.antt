@@ -1,12 +1,8 @@
-use Rattle.std.proofs.Common.{arith, refl, ◌≡◌, ℕ, ◌*◌, ◌+◌, ◌<◌, ◌≤◌, ◌/◌, length, suc}
+use Rattle.std.proofs.Common.{arith, refl, ◌≡◌, ℕ, ◌*◌, ◌+◌, ◌≤◌, ◌/◌, length, suc}
 use Rattle.tx_tree.specs.WideTree.{children_of}
 use Rattle.tx_walk.proofs.Document.{few_children}
-use Rattle.tx_walk.proofs.Texts.{no_name, no_words, settings_next, settings_stop, settings_end, settings_count}
+use Rattle.tx_walk.proofs.Texts.{below, no_name, no_words, settings_next, settings_stop, settings_end, settings_count}
 use Rattle.tx_walk.proofs.settings.add_all.Goals as goal
-
--- a number below half of the children is that of a setting
-below : (i n m k : ℕ) → i < n / 2 → n ≡ m → m ≡ suc (2 * k) → i < k
-below i n m k h e f = omega (arith, h, e, f)
 
 pub unreachable-requires : goal.unreachable-requires
 unreachable-requires c =
