@@ -61,10 +61,10 @@ moved_all ms t (x ∷ bs) zero q b e f none =
 moved_all ms t (x ∷ bs) (suc i) q b e f none = moved_all ms t bs i q b e f none
 
 -- the tree has the old unit's tree where the unit stands afterwards
-abbrev Arrives : WideTree → Option (List ℕ) → DocUnit → Type 0
+abbrev pub Arrives : WideTree → Option (List ℕ) → DocUnit → Type 0
 Arrives u place x = (p : List ℕ) → place ≡ Some p → subtree u p ≡ Some x.tagged.tree
 
-arrives_at : (ms : List Mod) (t u : WideTree) (x : DocUnit) → changed_by_all ms t ≡ Some u
+pub arrives_at : (ms : List Mod) (t u : WideTree) (x : DocUnit) → changed_by_all ms t ≡ Some u
     → ((q : List ℕ) → CarriesThroughAll ms t q) → Stands t x → (o : Option (List ℕ)) → x.path ≡ o
     → Arrives u (through ms t o) x
 arrives_at ms t u x made law stands None e p f = cc
@@ -90,10 +90,10 @@ tagged_is u v placed there trees paths =
     ∙ ap (tagged_at v.tagged.tree) (placed.origin ∙ roots u.path v.path paths ∙ sym there.origin)
 
 -- where the old unit stands at the new one's path, they have one tree
-abbrev SameAt : Option (List ℕ) → DocUnit → DocUnit → Type 0
+abbrev pub SameAt : Option (List ℕ) → DocUnit → DocUnit → Type 0
 SameAt place u v = (p : List ℕ) → place ≡ Some p → v.path ≡ Some p → u.tagged.tree ≡ v.tagged.tree
 
-some_path : (place o : Option (List ℕ)) (p : List ℕ) → (o ≡ None → place ≡ None) → place ≡ Some p → is_some o ≡ true
+pub some_path : (place o : Option (List ℕ)) (p : List ℕ) → (o ≡ None → place ≡ None) → place ≡ Some p → is_some o ≡ true
 some_path place None p h e = let off : Some p ≡ None = sym e ∙ h refl in cc
 some_path place (Some q) p h e = refl
 
@@ -165,7 +165,7 @@ all_given_sound i (place ∷ places) (b ∷ bs) new match sound h =
 
 -- ---- an edit of the document, and one of another buffer
 
-still : (t : WideTree) (o : Option (List ℕ)) → through [] t o ≡ o
+pub still : (t : WideTree) (o : Option (List ℕ)) → through [] t o ≡ o
 still t None = refl
 still t (Some p) = refl
 

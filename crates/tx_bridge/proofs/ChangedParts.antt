@@ -5,7 +5,7 @@ use Rattle.std.proofs.lemmas.List.Elements.{recursion_from_All}
 use Rattle.std.proofs.lemmas.Option.{same_Some}
 use Rattle.std.specs.List.{All, AllByRecursion, IsDistinct}
 use Rattle.std.specs.Option.{option_map_or}
-use Rattle.std.specs.Prelude.{slice_get}
+use Rattle.std.specs.Prelude.{true, false, ◌&&◌, slice_get}
 use Rattle.tx_tree.specs.WideTree.{WideTree}
 use Rattle.tx_tree.specs.Paths.{subtree}
 use Rattle.tx_mod.specs.declared.mods.Mod.{Mod}
@@ -16,17 +16,19 @@ use Rattle.tx_walk.specs.Walked.{IsTidy}
 use Rattle.tx_bridge.specs.declared.bridge.Bridge.{Bridge}
 use Rattle.tx_bridge.specs.Entries.{Kept, units_of}
 use Rattle.tx_bridge.specs.Nested.{KeptParts}
-use Rattle.tx_bridge.specs.InPlace.{IsOneChanged}
+use Rattle.tx_bridge.specs.InPlace.{is_gone, are_within, IsOneChanged}
 use Rattle.tx_bridge.specs.Sound.{IsSound, entries_of, parts_in, changed_in}
 use Rattle.tx_bridge.specs.Carrying.{AllStand, StandsNow}
 use Rattle.tx_bridge.specs.Slots.{bodies_of}
 use Rattle.tx_bridge.specs.HeldParts.{HoldsPart, kept_parts}
 use Rattle.tx_bridge.specs.CarryingParts.{parts_behind, parts_within, parts_but}
+use Rattle.tx_bridge.specs.Others.{parts_of, put_from}
 use Rattle.tx_bridge.proofs.Slotting.{some_once}
 use Rattle.tx_bridge.proofs.Arrived.{units_bodies}
 use Rattle.tx_bridge.proofs.Single.{body_at as unit_at}
 use Rattle.tx_bridge.proofs.Changing.{AllHoldIn, changed_parts}
-use Rattle.tx_bridge.proofs.WithinUnit.{parts_hold_behind}
+use Rattle.tx_bridge.proofs.WithinUnit.{clash, parts_hold_behind}
+use Rattle.tx_walk.proofs.Trees.{both}
 
 -- where the unit's tree stands
 old_stands : (t : WideTree) (i : ℕ) (us : List DocUnit) → AllStand t us → (u : DocUnit) → slice_get us i ≡ Some u
@@ -52,10 +54,14 @@ body_at (x ∷ bs) (suc i) b e = body_at bs i b e
 bodies_are : (bs : List Bridge) (kept : Kept) → entries_of bs ≡ kept → units_of kept ≡ bodies_of bs
 bodies_are bs kept was = sym (ap units_of was) ∙ units_bodies bs
 
+pub bodies_read : (bs read : List Bridge) (kept : Kept) → read ≡ bs → entries_of bs ≡ kept
+    → units_of kept ≡ bodies_of read
+bodies_read bs read kept is was = bodies_are bs kept was ∙ ap bodies_of (sym is)
+
 pub bodies_stand : (t : WideTree) (bs read : List Bridge) (kept : Kept) → read ≡ bs → entries_of bs ≡ kept
     → AllStand t (units_of kept) → AllStand t (bodies_of read)
 bodies_stand t bs read kept is was h =
-    subst (AllStand t) (bodies_are bs kept was ∙ ap bodies_of (sym is)) h
+    subst (AllStand t) (bodies_read bs read kept is was) h
 
 -- the unit of this number stands in the tree, and its parts hold
 pub stands_for : (t : WideTree) (bs : List Bridge) → AllStand t (bodies_of bs) → All IsSound bs → (i : ℕ) (b : Bridge)
@@ -67,14 +73,6 @@ stands_for t bs stand sound i b at p has ps is =
       old_stands t i (bodies_of bs) stand b.unit (body_at bs i b at) p has,
       subst (AllByRecursion (HoldsPart b.unit.tagged.tree)) (sym is) s.parts.hold,
     )
-
-pub within_none : (ms : List Mod) (t : WideTree) (bs : List Bridge) (i : ℕ) (b : Bridge) → slice_get bs i ≡ Some b
-    → b.unit.path ≡ None → (qs : List DonePart) → qs ≡ [] → (c : Bridge) → slice_get bs i ≡ Some c
-    → kept_parts qs ≡ parts_within ms t c.unit (kept_parts c.parts)
-within_none ms t bs i b at none qs is c there =
-    ap kept_parts is
-    ∙ sym (ap (λ o. option_map_or (λ p. parts_behind ms t p (kept_parts c.parts)) o [])
-    (ap (λ (w : Bridge). w.unit.path) (some_once (slice_get bs i) c b there at) ∙ none))
 
 pub within_some : (ms : List Mod) (t : WideTree) (bs : List Bridge) (i : ℕ) (b : Bridge) → slice_get bs i ≡ Some b
     → (p : List ℕ) → b.unit.path ≡ Some p → (ps : List DonePart) → ps ≡ b.parts → (qs : List DonePart)
@@ -156,3 +154,32 @@ parts_but_is i ms before t bs read kept pss is was had ps answers =
     changed_parts i ms before t ps bs (λ b at. answers b (ap (λ cs. slice_get cs i) is ∙ at))
     ∙ ap (λ us. parts_but ms before i us (parts_in bs)) (sym (bodies_are bs kept was))
     ∙ ap (parts_but ms before i (units_of kept)) had
+
+-- ---- others are put in places of the unit's parts
+
+-- all modifications are inside the tree of the unit of this number, which has a path
+pub within_for : (ms : List Mod) (bs : List Bridge) (i : ℕ) (b : Bridge) → slice_get bs i ≡ Some b
+    → IsOneChanged i 0 ms (bodies_of bs) → (p : List ℕ) → b.unit.path ≡ Some p → are_within p ms ≡ true
+within_for ms bs i b at one p has =
+    let same : one.unit ≡ b.unit = some_once (slice_get (bodies_of bs) i) one.unit b.unit one.there (body_at bs i b at) in
+    (both (is_gone p ms) (are_within p ms)
+    (sym (ap (λ o. option_map_or (λ q. is_gone q ms && are_within q ms) o false) (ap (λ (u : DocUnit). u.path) same ∙ has))
+    ∙ one.changed)).1
+
+pub never_bare : (ms : List Mod) (bs : List Bridge) (i : ℕ) (b : Bridge) → slice_get bs i ≡ Some b
+    → IsOneChanged i 0 ms (bodies_of bs) → b.unit.path ≡ None → ⊥
+never_bare ms bs i b at one none =
+    let same : one.unit ≡ b.unit = some_once (slice_get (bodies_of bs) i) one.unit b.unit one.there (body_at bs i b at) in
+    clash (ap (λ o. option_map_or (λ q. is_gone q ms && are_within q ms) o false)
+    (sym (ap (λ (u : DocUnit). u.path) same ∙ none)) ∙ one.changed)
+
+pub parts_there : (bs : List Bridge) (i : ℕ) (b : Bridge) → slice_get bs i ≡ Some b → parts_of i bs ≡ b.parts
+parts_there bs i b at = ap (λ o. option_map_or (λ (w : Bridge). w.parts) o []) at
+
+-- the premises are what the calls ensure
+pub now_is : (i : ℕ) (t : WideTree) (os : List (ℕ × Option DonePart)) (bs read written new : List Bridge) → read ≡ bs
+    → written ≡ bs → new ≡ changed_in i t (put_from 0 os (parts_of i written)) written
+    → new ≡ changed_in i t (put_from 0 os (parts_of i read)) bs
+now_is i t os bs read written new is was h =
+    h ∙ ap (λ xs. changed_in i t (put_from 0 os (parts_of i xs)) xs) was
+    ∙ ap (λ xs. changed_in i t (put_from 0 os (parts_of i xs)) bs) (sym is)

@@ -31,6 +31,7 @@ use Rattle.tx_bridge.specs.Carrying.{carried, sources, mods_of}
 use Rattle.tx_bridge.specs.Slots.{bodies_of, given, AllUnchanged, IsChangedAt}
 use Rattle.tx_bridge.specs.InPlace.{is_changed, IsOneChanged, NoneChanged, numbers_but}
 use Rattle.tx_bridge.proofs.Arrived.{units_bodies}
+use Rattle.tx_bridge.proofs.Putting.{differs}
 use Rattle.tx_bridge.proofs.Settling.{body_there, settled_one, settled, settled_given, settled_sources, has_path}
 use Rattle.tx_bridge.proofs.Settling.{are_alike_with, many_with, are_units_with}
 use Rattle.tx_bridge.proofs.Single.{NoneTwice, body_at}
@@ -66,13 +67,6 @@ new_entry : (c : Bool) (k : ℕ) (t : WideTree) (ps : List DonePart) (b : Bridge
     → entry_of (settled_one c k b (unit_with t b.unit)) ≡ entry_of (changed_bridge t ps b)
 new_entry true k t ps b e = refl
 new_entry false k t ps b e = cc
-
-differs : (k j : ℕ) → (k ≡ j → ⊥) → k == j ≡ false
-differs k j off = by (k == j) refl
-  where
-    by : (c : Bool) → k == j ≡ c → c ≡ false
-    by true e = absurd (off ((Decides-eqb k j).0 e))
-    by false e = refl
 
 -- those behind it are as they were
 settled_others : (j k : ℕ) (bs : List Bridge) → j < k → entries_of (settled j k bs (bodies_of bs)) ≡ entries_of bs

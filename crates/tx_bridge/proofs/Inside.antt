@@ -69,7 +69,7 @@ begins_is q p e = (starts_is Decides-eqb p q (starts_with nat_eq p q) refl).0 e
 
 -- ---- one modification inside the subtree at q
 
-abbrev by_rest : Mod → WideTree → List ℕ → Option (List ℕ) → Option (List ℕ) → Option (List ℕ)
+abbrev pub by_rest : Mod → WideTree → List ℕ → Option (List ℕ) → Option (List ℕ) → Option (List ℕ)
 by_rest m s r down up =
     option_map_or (λ x. option_map (λ v. path_of m ++ v) (carried_at m s x)) down
     (if is_some up then None else Some r)

@@ -10,6 +10,7 @@ pub mod Handed
 pub mod Arrived
 pub mod Single
 pub mod Taking
+pub mod TreesSame
 pub mod Inside
 pub mod Injective
 pub mod WithinUnit
@@ -22,3 +23,6 @@ pub mod Marked
 pub mod Behind
 pub mod Remaining
 pub mod KeptInPlace
+pub mod KeptPlaces
+pub mod Putting
+pub mod OtherParts

@@ -1,5 +1,5 @@
 -- A refresh that has come to some unit.
-use Rattle.std.proofs.Common.{◌≡◌, ℕ, zero, suc, ◌+◌, ◌<◌, ◌≤◌, List, [], ◌∷◌, ◌++◌, length, take, drop, slice_set}
+use Rattle.std.proofs.Common.{◌≡◌, ℕ, zero, suc, ◌+◌, ◌<◌, ◌≤◌, List, [], ◌∷◌, ◌++◌, length, take, drop, slice_set, map}
 use Rattle.std.proofs.Common.{slice_index_or, refl, ap, sym, subst, ◌∙◌, arith, ◌⊎◌, inl, inr}
 use Rattle.std.proofs.lemmas.List.{drop_more, drop-drop, drop-set-lt, append_assoc, take_more_set, take_at}
 use Rattle.std.proofs.lemmas.List.{take-append-drop, set-get_or, map-append, append-nil, length-map, drop_all}
@@ -32,6 +32,11 @@ abbrev pub Stays : List Bridge → List Bridge → Type 0
 Stays old now = (k : ℕ) → slice_get (flags_of now) k ≡ Some false
     → slice_get (entries_of now) k ≡ slice_get (entries_of old) k
 
+-- so are their parts
+abbrev pub SameParts : List Bridge → List Bridge → Type 0
+SameParts old now = (k : ℕ) → slice_get (flags_of now) k ≡ Some false
+    → slice_get (parts_in now) k ≡ slice_get (parts_in old) k
+
 -- Behind i units, at the moment m, with these charges. What is done, and what is left from here, are all. Where the
 -- flag is set, what is left settles from what names have.
 pub record Partway (old now : List Bridge) (i : ℕ) (m : Moment) (flag : Bool) (before after spent : ℕ) : Type 0 where
@@ -52,6 +57,7 @@ pub record Partway (old now : List Bridge) (i : ℕ) (m : Moment) (flag : Bool) 
   pub units : units_in now ≡ units_in old
   pub sources : sources_in now ≡ sources_in old
   pub stays : Stays old now
+  pub same : SameParts old now
 
 pub begun : (old : List Bridge) (m : Moment) (flag : Bool) (before : ℕ) → All IsSound old
     → (flag ≡ true → AreSettled empty (entries_of old)) → m ≡ beginning → Partway old old 0 m flag before before 0
@@ -69,19 +75,20 @@ begun old m flag before sound settled start = record {
   units = refl;
   sources = refl;
   stays = λ k e. refl;
+  same = λ k e. refl;
 }
 
 -- what an element that is set says of itself
-set_stays : (was : ℕ → Option Entry) (now : List Bridge) (i : ℕ) (y : Bridge)
-    → ((k : ℕ) → slice_get (flags_of now) k ≡ Some false → slice_get (entries_of now) k ≡ was k)
-    → (y.renewed ≡ false → Some (entry_of y) ≡ was i) → (k : ℕ)
+set_stays : {A : Type 0} (f : Bridge → A) (was : ℕ → Option A) (now : List Bridge) (i : ℕ) (y : Bridge)
+    → ((k : ℕ) → slice_get (flags_of now) k ≡ Some false → slice_get (map f now) k ≡ was k)
+    → (y.renewed ≡ false → Some (f y) ≡ was i) → (k : ℕ)
     → slice_get (flags_of (slice_set now i y)) k ≡ Some false
-    → slice_get (entries_of (slice_set now i y)) k ≡ was k
-set_stays was [] i y s h k e = s k e
-set_stays was (x ∷ xs) zero y s h zero e = h (same_Some y.renewed false e)
-set_stays was (x ∷ xs) zero y s h (suc k) e = s (suc k) e
-set_stays was (x ∷ xs) (suc i) y s h zero e = s zero e
-set_stays was (x ∷ xs) (suc i) y s h (suc k) e = set_stays (λ n. was (suc n)) xs i y (λ n. s (suc n)) h k e
+    → slice_get (map f (slice_set now i y)) k ≡ was k
+set_stays f was [] i y s h k e = s k e
+set_stays f was (x ∷ xs) zero y s h zero e = h (same_Some y.renewed false e)
+set_stays f was (x ∷ xs) zero y s h (suc k) e = s (suc k) e
+set_stays f was (x ∷ xs) (suc i) y s h zero e = s zero e
+set_stays f was (x ∷ xs) (suc i) y s h (suc k) e = set_stays f (λ n. was (suc n)) xs i y (λ n. s (suc n)) h k e
 
 set_units : (now : List Bridge) (i : ℕ) (d y : Bridge) → i < length now → y.unit ≡ (slice_index_or now i d).unit
     → units_in (slice_set now i y) ≡ units_in now
@@ -96,12 +103,12 @@ set_sources (x ∷ xs) zero d y inside e = ap (λ s. s ∷ sources_in xs) e
 set_sources (x ∷ xs) (suc i) d y inside e =
     ap (λ ss. x.source ∷ ss) (set_sources xs i d y (omega (arith, inside)) e)
 
-get_dropped : (xs : List Bridge) (i : ℕ) (b : Bridge) (rest : List Bridge) → drop i xs ≡ b ∷ rest
-    → slice_get (entries_of xs) i ≡ Some (entry_of b)
-get_dropped [] zero b rest e = cc
-get_dropped [] (suc i) b rest e = cc
-get_dropped (x ∷ xs) zero b rest e = let same : x ≡ b = cc in ap (λ y. Some (entry_of y)) same
-get_dropped (x ∷ xs) (suc i) b rest e = get_dropped xs i b rest e
+get_dropped : {A : Type 0} (f : Bridge → A) (xs : List Bridge) (i : ℕ) (b : Bridge) (rest : List Bridge)
+    → drop i xs ≡ b ∷ rest → slice_get (map f xs) i ≡ Some (f b)
+get_dropped f [] zero b rest e = cc
+get_dropped f [] (suc i) b rest e = cc
+get_dropped f (x ∷ xs) zero b rest e = let same : x ≡ b = cc in ap (λ y. Some (f y)) same
+get_dropped f (x ∷ xs) (suc i) b rest e = get_dropped f xs i b rest e
 
 -- the unit is brought to what it comes to at the moment
 pub record IsBrought (b y : Bridge) (m : Moment) : Type 0 where
@@ -114,6 +121,9 @@ entry_with u o = record { unit = u; trace = o }
 
 entry_is : (u v : DocUnit) (o r : Option WideTrace) → u ≡ v → o ≡ r → entry_with u o ≡ entry_with v r
 entry_is u v o r e f = ap (λ x. entry_with x o) e ∙ ap (entry_with v) f
+
+abbrev parts_of : Bridge → KeptParts
+parts_of b = kept_parts b.parts
 
 brought_entry : (b y : Bridge) (m : Moment) → IsBrought b y m → entry_of y ≡ entry_with b.unit (outcome_of m b.unit)
 brought_entry b y m h = entry_is y.unit b.unit (wide_outcome y.kept) (outcome_of m b.unit) h.unit h.fresh
@@ -149,9 +159,17 @@ module _ (old now : List Bridge) (i : ℕ) (m : Moment) (flag : Bool) (before af
       → Stays old (slice_set now i y)
   unfolding b
   stays_next y unit kept =
-      set_stays (λ k. slice_get (entries_of old) k) now i y p.stays
+      set_stays entry_of (λ k. slice_get (entries_of old) k) now i y p.stays
       (λ flag. ap Some (entry_is y.unit b.unit (wide_outcome y.kept) (wide_outcome b.kept) unit (kept flag))
-      ∙ sym (get_dropped old i b (drop (i + 1) old) ahead))
+      ∙ sym (get_dropped entry_of old i b (drop (i + 1) old) ahead))
+
+  same_next : (y : Bridge)
+      → (y.renewed ≡ false → kept_parts y.parts ≡ kept_parts (slice_index_or now i d).parts)
+      → SameParts old (slice_set now i y)
+  unfolding b
+  same_next y same =
+      set_stays parts_of (λ k. slice_get (parts_in old) k) now i y p.same
+      (λ flag. ap Some (same flag) ∙ sym (get_dropped parts_of old i b (drop (i + 1) old) ahead))
 
   pub units_next : (y : Bridge) → y.unit ≡ (slice_index_or now i d).unit
       → units_in (slice_set now i y) ≡ units_in old
@@ -227,12 +245,13 @@ module _ (old now : List Bridge) (i : ℕ) (m : Moment) (flag : Bool) (before af
       → after1 ≡ after + charge → charge + m1.left ≤ m.left
       → IsSound y
       → (y.renewed ≡ false → wide_outcome y.kept ≡ wide_outcome (slice_index_or now i d).kept)
+      → (y.renewed ≡ false → kept_parts y.parts ≡ kept_parts (slice_index_or now i d).parts)
       → y.source ≡ (slice_index_or now i d).source
       → (flag1 ≡ true
       → (flag ≡ true) × (m1.env ≡ env_behind m.env (wide_outcome (slice_index_or now i d).kept)))
       → Partway old (slice_set now i y) (i + 1) m1 flag1 before after1 (spent + charge)
   unfolding b
-  next y m1 flag1 after1 charge brought mark is_r is_m is_charge is_after most sound kept source goes =
+  next y m1 flag1 after1 charge brought mark is_r is_m is_charge is_after most sound kept same source goes =
       record {
         paid = let was : after ≡ before + spent = p.paid in omega (arith, was, is_after);
         room = let had : spent + m.left ≤ MOST_VIEW_STEPS = p.room in omega (arith, had, most);
@@ -277,6 +296,7 @@ module _ (old now : List Bridge) (i : ℕ) (m : Moment) (flag : Bool) (before af
         units = units_next y brought.unit;
         sources = sources_next y source;
         stays = stays_next y brought.unit kept;
+        same = same_next y same;
       }
 
 -- the first units are brought there, and the others as they were

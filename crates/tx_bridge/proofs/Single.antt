@@ -45,13 +45,13 @@ number_found p n (q ∷ qs) o i e =
 -- ---- what a source says
 
 -- the old unit of number i stands at the path of the new one
-record ByPath (qs : List (Option (List ℕ))) (v : DocUnit) (i : ℕ) : Type 0 where
+pub record ByPath (qs : List (Option (List ℕ))) (v : DocUnit) (i : ℕ) : Type 0 where
   pub path : List ℕ
   pub has : v.path ≡ Some path
   pub place : slice_get qs i ≡ Some (Some path)
 
 -- the old unit of number i is the new one of number j
-record ByNumber (us : List DocUnit) (j : ℕ) (v : DocUnit) (i : ℕ) : Type 0 where
+pub record ByNumber (us : List DocUnit) (j : ℕ) (v : DocUnit) (i : ℕ) : Type 0 where
   pub none : v.path ≡ None
   pub number : i ≡ j
   pub old : DocUnit
@@ -75,7 +75,7 @@ by_number us j v i none (Some u) at e = by (same_unit u v) refl e
     by true same f = record { none = none; number = sym (same_Some j i f); old = u; there = at; alike = same }
     by false other f = cc
 
-source_says : (qs : List (Option (List ℕ))) (us : List DocUnit) (j : ℕ) (v : DocUnit) (i : ℕ)
+pub source_says : (qs : List (Option (List ℕ))) (us : List DocUnit) (j : ℕ) (v : DocUnit) (i : ℕ)
     → source qs us j v ≡ Some i → ByPath qs v i ⊎ ByNumber us j v i
 source_says qs us j v i e = by v.path refl e
   where
@@ -88,12 +88,12 @@ source_says qs us j v i e = by v.path refl e
 -- ---- two new units
 
 -- the new unit of a number, and its source
-record HasSource (qs : List (Option (List ℕ))) (us vs : List DocUnit) (k n i : ℕ) : Type 0 where
+pub record HasSource (qs : List (Option (List ℕ))) (us vs : List DocUnit) (k n i : ℕ) : Type 0 where
   pub unit : DocUnit
   pub there : slice_get vs k ≡ Some unit
   pub from : source qs us n unit ≡ Some i
 
-source_at : (qs : List (Option (List ℕ))) (us vs : List DocUnit) (j k n i : ℕ) → n ≡ j + k
+pub source_at : (qs : List (Option (List ℕ))) (us vs : List DocUnit) (j k n i : ℕ) → n ≡ j + k
     → slice_get (sources_from qs us j vs) k ≡ Some (Some i) → HasSource qs us vs k n i
 source_at qs us [] j k n i is e = cc
 source_at qs us (v ∷ vs) j zero n i is e =

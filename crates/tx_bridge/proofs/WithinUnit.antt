@@ -1,13 +1,12 @@
 -- The parts of a unit, inside which all modifications are.
-use Rattle.std.proofs.Common.{◌≡◌, ℕ, zero, suc, ◌<◌, Bool, true, false, List, [], ◌∷◌, ◌++◌, length, drop, map}
-use Rattle.std.proofs.Common.{Option, Some, None, ◌+◌, ◌-◌, get_or, take, nat_eq, refl, sym, ap, subst, ◌∙◌, arith}
+use Rattle.std.proofs.Common.{◌≡◌, ℕ, Bool, true, false, List, [], ◌∷◌, ◌++◌, length, drop, map}
+use Rattle.std.proofs.Common.{Option, Some, None, ◌-◌, take, nat_eq, refl, sym, ap, subst, ◌∙◌, arith}
 use Rattle.std.proofs.lemmas.Bool.Decides.{Decides-eqb}
-use Rattle.std.proofs.lemmas.List.{append_assoc, append_cancel_left, drop_more, drop-map, length-drop, map-append}
+use Rattle.std.proofs.lemmas.List.{append_cancel_left, length-drop}
 use Rattle.std.proofs.lemmas.List.{take_all}
-use Rattle.std.proofs.lemmas.List.Elements.{All-push}
 use Rattle.std.proofs.lemmas.Map.Keys.{IsDistinct-head, IsDistinct-tail, IsDistinct-cons}
 use Rattle.std.proofs.lemmas.Slice.Eq.{bytes_eq-Decides, starts_is}
-use Rattle.std.specs.List.{All, AllByRecursion, IsDistinct, starts_with}
+use Rattle.std.specs.List.{AllByRecursion, IsDistinct, starts_with}
 use Rattle.std.specs.Prelude.{option_map}
 use Rattle.std.specs.Str.{bytes_eq}
 use Rattle.tx_tree.specs.WideTree.{WideTree}
@@ -22,9 +21,8 @@ use Rattle.tx_parts.specs.Composed.{alone}
 use Rattle.tx_parts.specs.Parts.{Stored}
 use Rattle.tx_walk.specs.declared.part.Part.{Part as DonePart}
 use Rattle.tx_walk.specs.Walked.{IsTidy, paths_of}
-use Rattle.tx_bridge.specs.Carrying.{through, AllLead}
-use Rattle.tx_bridge.specs.CarryingParts.{part_at, and_part, parts_at, places_below, parts_behind}
-use Rattle.tx_bridge.specs.HeldParts.{HoldsPart, kept_part, kept_parts}
+use Rattle.tx_bridge.specs.CarryingParts.{part_at, and_part, parts_behind}
+use Rattle.tx_bridge.specs.HeldParts.{HoldsPart, kept_parts}
 use Rattle.tx_bridge.specs.Nested.{KeptParts}
 use Rattle.tx_bridge.proofs.Inside.{rest_is, rest_own, no_rest, begins_is}
 use Rattle.tx_bridge.proofs.Injective.{carried_once}
@@ -158,72 +156,6 @@ parts_hold_behind ms t v p old new ps qs through_all law made before after h d i
   where
     held : AllByRecursion (Holds old) (kept_parts ps)
     held = hold_kept old ps h
-
--- ---- where the parts stand in the document
-
-pub places_are : (ms : List Mod) (t : WideTree) (p : List ℕ) (ps : List DonePart) (paths : List (Option (List ℕ)))
-    → paths ≡ map (λ q. Some (p ++ q.path)) ps → map (through ms t) paths ≡ places_below ms t p (kept_parts ps)
-places_are ms t p ps paths is = ap (map (through ms t)) is ∙ each ps
-  where
-    each : (qs : List DonePart) → map (through ms t) (map (λ q. Some (p ++ q.path)) qs)
-        ≡ places_below ms t p (kept_parts qs)
-    each [] = refl
-    each (q ∷ qs) = ap (λ os. carried_by_all ms t (p ++ q.path) ∷ os) (each qs)
-
-pub places_lead : (t old : WideTree) (p : List ℕ) (ps : List DonePart) (paths : List (Option (List ℕ)))
-    → paths ≡ map (λ q. Some (p ++ q.path)) ps → subtree t p ≡ Some old → AllByRecursion (HoldsPart old) ps
-    → AllLead t paths
-places_lead t old p ps paths is e h = subst (AllLead t) (sym is) (each ps h)
-  where
-    each : (qs : List DonePart) → AllByRecursion (HoldsPart old) qs → AllLead t (map (λ q. Some (p ++ q.path)) qs)
-    each [] g k d l = absurd (omega (arith, l))
-    each (q ∷ qs) g zero d l = (g.0.there, subtree_behind p q.path t old e ∙ g.0.leads)
-    each (q ∷ qs) g (suc k) d l = each qs g.1 k d (omega (arith, l))
-
--- ---- going over the parts
-
--- Behind i parts, of which these stay.
-pub record Staying (p : List ℕ) (places : List (Option (List ℕ))) (ps stay : List DonePart) (i : ℕ) : Type 0 where
-  pub parts : kept_parts stay ++ parts_at p (drop i places) (drop i (kept_parts ps))
-      ≡ parts_at p places (kept_parts ps)
-  pub once : All IsTidy stay
-
-module _ (p : List ℕ) (places : List (Option (List ℕ))) (ps stay : List DonePart) (i : ℕ) (place : Option (List ℕ))
-    (d : DonePart) (g : Staying p places ps stay i) (inside : i < length ps) (number : length places ≡ length ps)
-    (is_place : place ≡ get_or places i place) (is_part : d ≡ get_or ps i d) where
-  abbrev rest : KeptParts
-  rest = parts_at p (drop (i + 1) places) (drop (i + 1) (kept_parts ps))
-
-  here : parts_at p (drop i places) (drop i (kept_parts ps)) ≡ and_part (part_at p place (kept_part d)) rest
-  here =
-      ap (λ qs. parts_at p qs (drop i (kept_parts ps)))
-      (drop_more places i place (omega (arith, inside, number)) ∙ ap (λ q. q ∷ drop (i + 1) places) (sym is_place))
-      ∙ ap (parts_at p (place ∷ drop (i + 1) places))
-      (drop-map kept_part i ps
-      ∙ ap (map kept_part) (drop_more ps i d inside ∙ ap (λ q. q ∷ drop (i + 1) ps) (sym is_part))
-      ∙ ap (λ ks. kept_part d ∷ ks) (sym (drop-map kept_part (i + 1) ps)))
-
-  pub goes : (o : Option DonePart) (after : List DonePart) → ((q : DonePart) → o ≡ Some q → ⊥)
-      → option_map kept_part o ≡ part_at p place (kept_part d) → after ≡ stay → Staying p places ps after (i + 1)
-  goes (Some q) after gone is same = absurd (gone q refl)
-  goes None after gone is same =
-      subst (λ qs. Staying p places ps qs (i + 1)) (sym same)
-      (record {
-        parts = ap (λ ks. kept_parts stay ++ ks) (ap (λ k. and_part k rest) is ∙ sym here) ∙ g.parts;
-        once = g.once;
-      })
-
-  pub stays : (q : DonePart) (after : List DonePart) → Some (kept_part q) ≡ part_at p place (kept_part d) → IsTidy q
-      → after ≡ stay ++ q ∷ [] → Staying p places ps after (i + 1)
-  stays q after is once pushed =
-      subst (λ qs. Staying p places ps qs (i + 1)) (sym pushed)
-      (record {
-        parts =
-            ap (λ ks. ks ++ rest) (map-append kept_part stay (q ∷ []))
-            ∙ append_assoc (kept_parts stay) (kept_part q ∷ []) rest
-            ∙ ap (λ ks. kept_parts stay ++ ks) (ap (λ o. and_part o rest) is ∙ sym here) ∙ g.parts;
-        once = All-push IsTidy stay q g.once once;
-      })
 
 -- ---- what stands behind a front
 

@@ -1,6 +1,6 @@
 -- What is kept stays with its unit through an edit.
 use Rattle.std.specs.Prelude.{◌≡◌, ℕ, zero, suc, ◌+◌, Bool, true, false, ◌&&◌, ◌==◌, if◌then◌else◌, List, [], ◌∷◌, map}
-use Rattle.std.specs.Prelude.{Option, Some, None, option_and_then, slice_get}
+use Rattle.std.specs.Prelude.{Option, Some, None, is_some, option_and_then, slice_get}
 use Rattle.std.specs.Option.{option_map_or}
 use Rattle.std.specs.List.{All, AllByRecursion}
 use Rattle.std.specs.Str.{bytes_eq}
@@ -111,3 +111,10 @@ HaveOneTree u v = (p : List ℕ) → u.path ≡ Some p → v.path ≡ Some p →
 
 abbrev pub AreSameBodies : List DocUnit → List DocUnit → Type 0
 AreSameBodies us vs = AllByRecursion (λ u. AllByRecursion (HaveOneTree u) vs) us
+
+-- ---- what a call says
+
+-- each new unit that is an old one has its tree, and a path exactly where that has one
+abbrev pub HaveSameTrees : List DocUnit → List DocUnit → List (Option ℕ) → Type 0
+HaveSameTrees us vs ss = (i j : ℕ) (u v : DocUnit) → slice_get us i ≡ Some u → slice_get vs j ≡ Some v
+    → slice_get ss j ≡ Some (Some i) → (v.tagged.tree ≡ u.tagged.tree) × (is_some v.path ≡ is_some u.path)

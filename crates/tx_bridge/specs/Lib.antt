@@ -8,7 +8,9 @@ pub mod Sound
 pub mod Carrying
 pub mod Slots
 pub mod InPlace
+pub mod Keeping
 pub mod CarryingParts
+pub mod Others
 pub mod UnitLists
 pub mod Bridged
 pub mod Names

@@ -8,6 +8,7 @@ ghost use Rattle.tx_bridge.specs.Nested.{is_nested, fresh_parts, part_flags, uni
 ghost use Rattle.tx_bridge.specs.HeldParts.{PartsHold, kept_parts, flags_of_parts, unmarked};
 ghost use Rattle.tx_bridge.specs.Settled.{AgreesWith, IsSilent};
 ghost use Rattle.tx_bridge.specs.Sound.{IsSound, entry_of, changed_bridge};
+ghost use Rattle.tx_bridge.specs.Others.{put_from};
 
 use crate::fitting::{fits, is_silent};
 use crate::moments::{Evaluated, Moment};
@@ -20,7 +21,7 @@ use tx_exec::Outcome;
 use tx_exec_form::trace_laws;
 use tx_tree::Tree;
 use tx_units::Unit;
-use tx_walk::charges_law;
+use tx_walk::{Part, charges_law};
 
 // How it is known which unit each one was before the last edit.
 #[derive(Clone, Copy, Drop)]
@@ -57,15 +58,16 @@ impl Bridge {
         }
     }
 
-    // The unit has this tree now, and of it these parts are kept. Answers whether what was kept sets no name.
-    pub(crate) fn change(&mut self, tree: Tree, parts: UnitParts) -> bool
-        ensures changed { self.new ≡ changed_bridge tree parts self.old }
+    // The unit has this tree now, these stand for parts of it, and its other parts stay. Answers whether what was kept
+    // sets no name.
+    pub(crate) fn change(&mut self, tree: Tree, others: Vec<(usize, Option<Part>)>) -> bool
+        ensures changed { self.new ≡ changed_bridge tree (put_from 0 others.items self.old.parts) self.old }
         ensures silent { IsTrue result → IsSilent (wide_outcome self.old.kept) }
     {
         let silent = is_silent(&self.kept);
         self.unit.tagged.tree = tree;
         self.kept = Outcome::Over;
-        self.parts = parts;
+        self.parts.put(others);
         silent
     }
 
@@ -184,6 +186,7 @@ impl Bridge {
             ≡ part_flags moment.old self.old.unit (kept_parts self.old.parts)) }
         ensures renewed { OnOk result (self.new.renewed ≡ not (fits moment.old (wide_outcome self.old.kept))) }
         ensures stays { self.new.renewed ≡ false → wide_outcome self.new.kept ≡ wide_outcome self.old.kept }
+        ensures parts_same { self.new.renewed ≡ false → kept_parts self.new.parts ≡ kept_parts self.old.parts }
         ensures behind { OnOk result (moment.new ≡ behind moment.old (outcome_of moment.old self.old.unit)) }
         ensures settled { IfOk result (λ p. p.1 ≡ true → (settled ≡ true)
             × (moment.new.env ≡ env_behind moment.old.env (wide_outcome self.old.kept))) }

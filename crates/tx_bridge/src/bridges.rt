@@ -22,8 +22,9 @@ ghost use Rattle.tx_bridge.specs.HeldParts.{AllPartsHold, kept_parts, flags_of_p
 ghost use Rattle.tx_bridge.specs.Settled.{AreSettled};
 ghost use Rattle.tx_bridge.specs.Sound.{IsSound, AllHold, entry_of, entries_of, parts_in, part_flags_in, flags_of};
 ghost use Rattle.tx_bridge.specs.Sound.{sources_in, source_by};
-ghost use Rattle.tx_bridge.specs.UnitLists.{AreUnits};
-ghost use Rattle.tx_bridge.specs.Carrying.{AllLead, AllStand, StandsNow, AreSameBodies, through, mods_of};
+ghost use Rattle.tx_bridge.specs.UnitLists.{AreUnits, IsPlaced};
+ghost use Rattle.tx_bridge.specs.Carrying.{AllLead, AllStand, StandsNow, AreSameBodies, HaveSameTrees};
+ghost use Rattle.tx_bridge.specs.Carrying.{through, mods_of};
 ghost use Rattle.tx_bridge.specs.Slots.{paths_in, given};
 ghost use Rattle.tx_bridge.specs.InPlace.{IsOneChanged, NoneChanged, numbers_but};
 ghost use Rattle.tx_bridge.specs.Names.{Empty, EmptyParts, Fresh, FreshParts, PartFlags, Charge};
@@ -31,7 +32,7 @@ ghost use Rattle.tx_bridge.specs.Names.{Carry, CarryParts, CarryWithin, Sources}
 
 use crate::bridge::{Bridge, Way};
 use crate::giving::give_all;
-use crate::in_place::{change_one, one_changed, parts_of_changed};
+use crate::in_place::{change_one, one_changed, others_of_changed};
 use crate::moments::Moment;
 use crate::paths_after::places_after;
 use std::alloc::Global;
@@ -120,6 +121,8 @@ fn refresh_all<L: Ledger>(
     ensures sources { sources_in bridges.new ≡ sources_in bridges.old }
     ensures stays { (i : ℕ) → slice_get (flags_of bridges.new) i ≡ Some false
         → slice_get (entries_of bridges.new) i ≡ slice_get (entries_of bridges.old) i }
+    ensures parts_same { OnOk result ((i : ℕ) → slice_get (flags_of bridges.new) i ≡ Some false
+        → slice_get (parts_in bridges.new) i ≡ slice_get (parts_in bridges.old) i) }
     ensures refused { OnErr result ((n : ℕ) × (entries_of bridges.new
         ≡ take n (fresh_from beginning (units_of (entries_of bridges.old))) ++ drop n (entries_of bridges.old))
         × (parts_in bridges.new
@@ -247,7 +250,8 @@ impl Bridges {
     /// agree with what names have before it, and its cost is allowed. The steps rise by the charges of the other units:
     /// a nested one is charged its parts of which nothing that fits is kept. Answers these charges.
     ///
-    /// What is kept of a part whose flag is down behind it is what was kept at the part's path.
+    /// What is kept of a part whose flag is down behind it is what was kept at the part's path. Of a unit that wasn't
+    /// reached all that was kept of its parts stays.
     ///
     /// For want of memory the units before some number are brought there, and the others are as they were.
     #[tactic(auto, unfolding(crate::specs::Names::Fresh, crate::specs::Names::FreshParts, crate::specs::Names::Charge))]
@@ -256,6 +260,8 @@ impl Bridges {
         ensures parts { OnOk result (self.new.parts ≡ FreshParts self.old.kept) }
         ensures parts_renewed { OnOk result (self.new.part_flags ≡ PartFlags self.old.kept self.old.parts) }
         ensures parts_stay { OnOk result (PartsStay self.old.parts self.new.parts self.new.part_flags) }
+        ensures parts_same { OnOk result ((i : ℕ) → slice_get self.new.renewed i ≡ Some false
+            → slice_get self.new.parts i ≡ slice_get self.old.parts i) }
         ensures renewed { OnOk result (self.new.renewed ≡ reached_from beginning self.old.kept) }
         ensures charge { IfOk result (λ n. n ≡ Charge self.old.kept self.old.parts) }
         ensures counted { IfOk result (λ n. steps.new ≡ steps.old + n) }
@@ -282,7 +288,8 @@ impl Bridges {
     /// edited, the one with its path. Another unit is the old one of its number, where kind and tree are the same.
     ///
     /// `before` is the tree of the buffer before the edit. Which old unit a new one is `source` tells afterwards, and
-    /// no two are the same one. For want of memory all is as before.
+    /// no two are the same one. A new unit has the tree of the old one that it is, and a path where that has one. For
+    /// want of memory all is as before.
     pub fn carry<L: Ledger>(
         &mut self,
         alloc: Global,
@@ -304,6 +311,8 @@ impl Bridges {
             (self.new.sources ≡ Sources buffer mods.now before.now (units_of self.old.kept) units.items) }
         ensures once { OnOk result ((i j k : ℕ) → slice_get self.new.sources j ≡ Some (Some i)
             → slice_get self.new.sources k ≡ Some (Some i) → j ≡ k) }
+        ensures same_trees { OnOk result
+            (HaveSameTrees (units_of self.old.kept) units.items self.new.sources) }
         ensures units { OnOk result (units_of self.new.kept ≡ units.items) }
         ensures counted { steps.new ≤ steps.old + cost_of mods.now }
         ensures refused { OnErr result (self.new ≡ self.old) }
@@ -361,8 +370,8 @@ impl Bridges {
     {
         carried_list_law();
         carried_law();
-        let parts = parts_of_changed(alloc, before, mods, &self.bridges, changed, steps)?;
-        let silent = change_one(&mut self.bridges, tree, parts, changed);
+        let others = others_of_changed(alloc, before, mods, &self.bridges, changed, steps)?;
+        let silent = change_one(&mut self.bridges, tree, others, changed);
         self.way = Way::InPlace(changed);
         self.settled = self.settled && silent;
         Ok(())
@@ -381,8 +390,9 @@ impl Bridges {
         }
     }
 
-    /// What is kept of the parts of the unit, in the order of the document, each with its path from the unit's tree. A
-    /// unit that isn't nested has none, nor has one that is over. None past the last unit.
+    /// What is kept of the parts of the unit, in the order of the document, each with its path from the unit's tree. None
+    /// past the last unit. After a refresh a unit that isn't nested has none, nor has one that is over; an edit may leave
+    /// some until the next.
     ///
     /// After a refresh a part's `renewed` tells whether nothing that fits was kept at its path when that began.
     pub fn parts(&self, i: u32) -> Option<&[Part]>
@@ -398,10 +408,12 @@ impl Bridges {
         }
     }
 
-    /// The unit of this number, or None past the last one.
+    /// The unit of this number, or None past the last one. It has a path where it is a paragraph of the body, and then
+    /// the root is its origin; another unit has neither.
     pub fn unit(&self, i: u32) -> Option<&Unit>
-        ensures { MatchOption result (slice_get self.now.kept i ≡ None)
+        ensures found { MatchOption result (slice_get self.now.kept i ≡ None)
             (λ u. option_map (λ e. e.unit) (slice_get self.now.kept i) ≡ Some u.now) }
+        ensures placed { IfSome result (λ u. IsPlaced u.now) }
     {
         match self.bridges.get(i as usize) {
             None => None,
@@ -447,6 +459,7 @@ impl Bridges {
             Some(bridge) => moment.go_behind(&bridge.kept),
         }
     }
+
     /// The moment behind the last unit, after a refresh: what names have behind all units, and the steps that are left.
     pub fn end(&self, alloc: Global) -> Result<Moment, Memory>
         requires fresh { self.now.kept ≡ fresh_from beginning (units_of self.now.kept) }

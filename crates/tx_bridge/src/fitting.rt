@@ -33,8 +33,8 @@ pub(crate) fn fits(moment: &Moment, kept: &Outcome, settled: bool) -> bool
     }
 }
 
-// Whether what is kept sets no name.
-pub(crate) fn is_silent(kept: &Outcome) -> bool
+/// Whether a unit that comes to this sets no name.
+pub fn is_silent(kept: &Outcome) -> bool
     ensures { IsTrue result → IsSilent (wide_outcome kept.now) }
 {
     match kept {

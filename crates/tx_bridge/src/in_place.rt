@@ -1,5 +1,6 @@
 // An edit inside one paragraph changes one unit, and each other one stays at its number and its path.
-ghost use Rattle.std.specs.Prelude.{◌≡◌, ◌<◌, ◌≤◌, ◌+◌, [], length, Some, true, IfOk, IsOk, IsTrue, MatchOption};
+ghost use Rattle.std.specs.Prelude.{◌≡◌, ◌<◌, ◌≤◌, ◌+◌, ◌++◌, [], ◌∷◌, length, Some, true};
+ghost use Rattle.std.specs.Prelude.{IfOk, IsOk, IsTrue, OnOk, MatchOption, if◌then◌else◌};
 ghost use Rattle.std.specs.Prelude.{slice_get};
 ghost use Rattle.std.specs.List.{list_all, All, AllByRecursion};
 ghost use Rattle.tx_tree.specs.WideTree.{WideTree};
@@ -15,15 +16,17 @@ ghost use Rattle.tx_bridge.specs.HeldParts.{HoldsPart, kept_parts};
 ghost use Rattle.tx_bridge.specs.Carrying.{AllStand};
 ghost use Rattle.tx_bridge.specs.CarryingParts.{parts_behind, parts_within};
 ghost use Rattle.tx_bridge.specs.Slots.{bodies_of};
-ghost use Rattle.tx_bridge.specs.InPlace.{wraps, begins, leaves_nowhere, is_gone, is_changed, IsOneChanged};
+ghost use Rattle.tx_bridge.specs.InPlace.{wraps, begins, leaves_nowhere, is_gone, are_within, is_changed, IsOneChanged};
 ghost use Rattle.tx_bridge.specs.InPlace.{NoneChanged};
+ghost use Rattle.tx_bridge.specs.Keeping.{all_keep_place};
+ghost use Rattle.tx_bridge.specs.Others.{others_from, put_from, parts_of};
 ghost use Rattle.tx_bridge.specs.Slots.{AllUnchanged, IsChangedAt};
 
 use crate::bridge::Bridge;
 use crate::giving::first_body;
+use crate::keeping::all_keep_place;
 use crate::paths_after::places_after;
-use crate::unit_parts::UnitParts;
-use crate::within::{add_part_paths, parts_at};
+use crate::within::{others_at, paths_of_parts};
 use std::alloc::Global;
 use std::sync::ledger::Ledger;
 use tx_base::{Memory, Steps};
@@ -138,72 +141,110 @@ pub(crate) fn one_changed(buffer: u32, bridges: &[Bridge], mods: &[Mod]) -> Opti
     changed_unit(bridges, mods)
 }
 
-// The parts of the unit at this path, of which these are kept, that stay in it.
-fn parts_behind<L: Ledger>(
+// The number, if the part isn't found to stay.
+fn add_if_other(
+    mods: &[Mod],
+    path: &Path,
+    part: &Part,
+    number: usize,
+    numbers: &mut Vec<usize>,
+) -> Result<(), Memory>
+    requires within { are_within path.now mods.now ≡ true }
+    ensures { OnOk result (numbers.new.items ≡ numbers.old.items
+        ++ (if all_keep_place mods.now (path.now ++ part.now.path) then [] else number ∷ [])) }
+{
+    if !all_keep_place(mods, path, &part.path) {
+        numbers.push(number)?;
+    }
+    Ok(())
+}
+
+// The numbers of the parts of the unit at this path that aren't found to stay.
+fn others_of(alloc: Global, mods: &[Mod], path: &Path, parts: &[Part]) -> Result<Vec<usize>, Memory>
+    requires within { are_within path.now mods.now ≡ true }
+    ensures { IfOk result (λ v. v.items ≡ others_from mods.now path.now 0 parts.now) }
+{
+    let mut numbers = Vec::new(alloc);
+    for i in 0..parts.len() {
+        add_if_other(mods, path, &parts[i], i, &mut numbers)?;
+    }
+    Ok(numbers)
+}
+
+// What is to stand for parts of the unit at this path that aren't found to stay: the parts with their new paths, and
+// None for one that doesn't stay in it.
+fn others_behind<L: Ledger>(
     alloc: Global,
     before: &Tree,
     mods: &[Mod],
     path: &Path,
     parts: &[Part],
     steps: &mut Steps<L>,
-) -> Result<UnitParts, Memory>
+) -> Result<Vec<(usize, Option<Part>)>, Memory>
     requires applies { (u : WideTree) × (changed_by_all mods.now before.now ≡ Some u) }
+    requires within { are_within path.now mods.now ≡ true }
     requires stands { (x : WideTree) × (subtree before.now path.now ≡ Some x)
         × AllByRecursion (HoldsPart x) parts.now }
-    ensures parts { IfOk result
-        (λ q. kept_parts q ≡ parts_behind mods.now before.now path.now (kept_parts parts.now)) }
-    ensures tidy { IfOk result (λ q. All IsTidy q) }
+    ensures parts { IfOk result (λ os. kept_parts (put_from 0 os.items parts.now)
+        ≡ parts_behind mods.now before.now path.now (kept_parts parts.now)) }
+    ensures tidy { IfOk result (λ os. All IsTidy (put_from 0 os.items parts.now)) }
     ensures counted { steps.new ≤ steps.old + cost_of mods.now }
     ensures ready { parts.now ≡ [] → IsOk result }
     ensures free { parts.now ≡ [] → steps.new ≡ steps.old }
 {
     if parts.is_empty() {
-        return Ok(UnitParts::none(alloc));
+        return Ok(Vec::new(alloc));
     }
-    let mut paths = Vec::with_capacity(alloc, parts.len())?;
-    add_part_paths(alloc, path, parts, &mut paths)?;
+    let numbers = others_of(alloc, mods, path, parts)?;
+    if numbers.is_empty() {
+        return Ok(Vec::new(alloc));
+    }
+    let paths = paths_of_parts(alloc, path, parts, &numbers)?;
     let places = places_after(alloc, before, mods, paths, steps)?;
-    Ok(UnitParts::new(parts_at(alloc, path, &places, parts)?))
+    others_at(alloc, path, &places, parts, &numbers)
 }
 
-// The parts of the unit of this number that stay in it, inside which all modifications are.
-pub(crate) fn parts_of_changed<L: Ledger>(
+// What is to stand for parts of the unit of this number, inside which all modifications are. Each other part stays.
+pub(crate) fn others_of_changed<L: Ledger>(
     alloc: Global,
     before: &Tree,
     mods: &[Mod],
     bridges: &[Bridge],
     changed: usize,
     steps: &mut Steps<L>,
-) -> Result<UnitParts, Memory>
+) -> Result<Vec<(usize, Option<Part>)>, Memory>
     requires applies { (u : WideTree) × (changed_by_all mods.now before.now ≡ Some u) }
     requires there { changed < length bridges.now }
+    requires changed { IsOneChanged changed 0 mods.now (bodies_of bridges.now) }
     requires stand { AllStand before.now (bodies_of bridges.now) }
     requires sound { All IsSound bridges.now }
-    ensures parts { IfOk result (λ q. (b : Bridge) → slice_get bridges.now changed ≡ Some b
-        → kept_parts q ≡ parts_within mods.now before.now b.unit (kept_parts b.parts)) }
-    ensures tidy { IfOk result (λ q. All IsTidy q) }
+    ensures parts { IfOk result (λ os. (b : Bridge) → slice_get bridges.now changed ≡ Some b
+        → kept_parts (put_from 0 os.items (parts_of changed bridges.now))
+        ≡ parts_within mods.now before.now b.unit (kept_parts b.parts)) }
+    ensures tidy { IfOk result (λ os. All IsTidy (put_from 0 os.items (parts_of changed bridges.now))) }
     ensures counted { steps.new ≤ steps.old + cost_of mods.now }
     ensures ready { (b : Bridge) → slice_get bridges.now changed ≡ Some b → b.parts ≡ [] → IsOk result }
     ensures free { (b : Bridge) → slice_get bridges.now changed ≡ Some b → b.parts ≡ [] → steps.new ≡ steps.old }
 {
     let bridge = &bridges[changed];
     match &bridge.unit.path {
-        None => Ok(UnitParts::none(alloc)),
-        Some(path) => parts_behind(alloc, before, mods, path, bridge.parts.all(), steps),
+        None => unreachable!(),
+        Some(path) => others_behind(alloc, before, mods, path, bridge.parts.all(), steps),
     }
 }
 
-// The unit of this number has this tree now, of which these parts are kept. Answers whether what was kept sets no name.
+// The unit of this number has this tree now, and these stand for parts of it. Answers whether what was kept sets no name.
 pub(crate) fn change_one(
     bridges: &mut [Bridge],
     tree: Tree,
-    parts: UnitParts,
+    others: Vec<(usize, Option<Part>)>,
     changed: usize,
 ) -> bool
     requires { changed < length bridges.old }
-    ensures changed { bridges.new ≡ changed_in changed tree parts bridges.old }
+    ensures changed { bridges.new
+        ≡ changed_in changed tree (put_from 0 others.items (parts_of changed bridges.old)) bridges.old }
     ensures silent { IsTrue result → (b : Bridge) → slice_get bridges.old changed ≡ Some b
         → IsSilent (wide_outcome b.kept) }
 {
-    bridges[changed].change(tree, parts)
+    bridges[changed].change(tree, others)
 }

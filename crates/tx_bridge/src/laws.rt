@@ -6,11 +6,13 @@ ghost use Rattle.tx_doc.specs.declared.buffer.Buffer.{Buffer};
 ghost use Rattle.tx_units.specs.declared.kinds.Unit.{Unit as DocUnit};
 ghost use Rattle.tx_units.specs.Units.{units};
 ghost use Rattle.tx_mod.specs.declared.mods.Mod.{Mod as Change};
+ghost use Rattle.tx_mod.specs.Followed.{changed_by_all, carried_by_all};
 ghost use Rattle.tx_bridge.specs.InPlace.{is_changed};
 ghost use Rattle.tx_bridge.specs.UnitLists.{AreUnits};
 ghost use Rattle.tx_bridge.specs.Carrying.{AllStand, AreSameBodies};
 ghost use Rattle.tx_bridge.specs.Nested.{KeptParts};
 ghost use Rattle.tx_bridge.specs.CarryingParts.{StaysKept};
+ghost use Rattle.tx_bridge.specs.Keeping.{all_keep_place};
 
 use tx_mod::carried_law;
 use tx_units::body_laws;
@@ -36,3 +38,9 @@ pub fn staying_parts_law()
 {
     carried_law();
 }
+
+/// A law: what stands at a path that modifications are found to keep, where they apply, is carried to that very path.
+pub fn keeping_law()
+    ensures { (ms : List Change) (t u : WideTree) (q : List ℕ) → changed_by_all ms t ≡ Some u
+        → all_keep_place ms q ≡ true → carried_by_all ms t q ≡ Some q }
+{}

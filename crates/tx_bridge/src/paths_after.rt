@@ -1,5 +1,6 @@
 // Where subtrees stand after modifications.
-ghost use Rattle.std.specs.Prelude.{◌≡◌, ◌≤◌, ◌+◌, length, map, IfOk, IsOk, Ok, Some, option_and_then};
+ghost use Rattle.std.specs.Prelude.{◌≡◌, ◌≤◌, ◌+◌, length, map, IfOk, IsOk, OnOk, Ok, Some};
+ghost use Rattle.std.specs.Prelude.{option_and_then};
 ghost use Rattle.tx_tree.specs.WideTree.{WideTree};
 ghost use Rattle.tx_mod.specs.Mods.{path_of};
 ghost use Rattle.tx_mod.specs.Changes.{changed};
@@ -64,6 +65,27 @@ fn tree_behind<L: Ledger>(
     }
 }
 
+// Brings the paths through one modification, and the tree.
+fn go_behind<L: Ledger>(
+    alloc: Global,
+    t: &mut Tree,
+    m: &Mod,
+    paths: &mut Vec<Option<Path>>,
+    steps: &mut Steps<L>,
+) -> Result<(), Memory>
+    requires applies { IsOk (changed m.now t.old) }
+    requires lead { AllLead t.old paths.old.items }
+    ensures paths { OnOk result (paths.new.items ≡ map (option_and_then (carried_path m.now t.old)) paths.old.items) }
+    ensures tree { OnOk result (changed m.now t.old ≡ Ok t.new) }
+    ensures counted { steps.new ≤ steps.old + (length (path_of m.now) + 3) }
+{
+    let behind = paths_behind(alloc, t, m, paths)?;
+    let tree = tree_behind(alloc, t, m, steps)?;
+    *paths = behind;
+    *t = tree;
+    Ok(())
+}
+
 /// Where the subtrees at these paths stand after all modifications, in the same order: None is for a path that is none,
 /// and for a subtree that doesn't stay. `before` is the tree before the first modification.
 pub fn places_after<L: Ledger>(
@@ -82,8 +104,7 @@ pub fn places_after<L: Ledger>(
     let mut tree = before.share()?;
     let mut paths = paths;
     for m in mods {
-        paths = paths_behind(alloc, &tree, m, &paths)?;
-        tree = tree_behind(alloc, &tree, m, steps)?;
+        go_behind(alloc, &mut tree, m, &mut paths, steps)?;
     }
     Ok(paths)
 }

@@ -3,7 +3,9 @@ ghost use Rattle.std.specs.Prelude.{◌≡◌, List, []};
 ghost use Rattle.tx_walk.specs.declared.part.Part.{Part as DonePart};
 ghost use Rattle.tx_bridge.specs.Nested.{is_nested};
 ghost use Rattle.tx_bridge.specs.HeldParts.{unmarked};
+ghost use Rattle.tx_bridge.specs.Others.{put_from};
 
+use crate::replacing::put_all;
 use std::alloc::Global;
 use std::marker::Model;
 use tx_units::Unit;
@@ -68,6 +70,17 @@ impl UnitParts {
         &self.all
     }
 
+    /// Puts others in the places of the parts of these numbers, which are in order; one that is none goes.
+    pub(crate) fn put(&mut self, others: Vec<(usize, Option<Part>)>)
+        ensures { self.new ≡ put_from 0 others.items self.old }
+    {
+        if others.is_empty() {
+            return;
+        }
+        put_all(&mut self.all, others);
+        self.marked = true;
+    }
+
     /// Marks none of them as renewed. Where none may be, memory is only read.
     pub(crate) fn unmark(&mut self)
         ensures { self.new ≡ unmarked self.old }
@@ -79,8 +92,9 @@ impl UnitParts {
     }
 }
 
-/// Whether the unit is evaluated by its parts.
-pub(crate) fn is_nested(unit: &Unit) -> bool
+/// Whether the unit is evaluated by its parts: a paragraph of the body whose tree is a `document` with a child, or a
+/// `with` of names, texts and a last child.
+pub fn is_nested(unit: &Unit) -> bool
     ensures { result ≡ is_nested unit.now }
 {
     unit.path.is_some() && is_open(&unit.tagged.tree)

@@ -1,10 +1,11 @@
-// Parts that stay in a unit, inside which all modifications are.
-ghost use Rattle.std.specs.Prelude.{◌≡◌, ◌++◌, length, map, IfOk, IfSome, OnOk, Some, option_map};
+// Where parts of a unit stand, inside which all modifications are.
+ghost use Rattle.std.specs.Prelude.{◌≡◌, ◌++◌, length, map, IfOk, IfSome, option_map};
 ghost use Rattle.std.specs.List.{All};
 ghost use Rattle.tx_mod.specs.Moves.{rest_behind};
 ghost use Rattle.tx_walk.specs.Walked.{IsTidy};
-ghost use Rattle.tx_bridge.specs.HeldParts.{kept_part, kept_parts};
-ghost use Rattle.tx_bridge.specs.CarryingParts.{part_at, parts_at};
+ghost use Rattle.tx_bridge.specs.HeldParts.{kept_part};
+ghost use Rattle.tx_bridge.specs.CarryingParts.{part_at};
+ghost use Rattle.tx_bridge.specs.Others.{path_of_part, kept_there, kept_others, kept_of};
 
 use std::alloc::Global;
 use tx_base::Memory;
@@ -22,20 +23,35 @@ fn joined(alloc: Global, path: &Path, below: &Path) -> Result<Path, Memory>
     Ok(all)
 }
 
-/// Puts where the parts of a unit at this path stand in the document behind the paths.
-pub(crate) fn add_part_paths(
+// Where the part of this number, if there is one, stands in the document, where the unit is at this path.
+fn path_of_part(
     alloc: Global,
     path: &Path,
     parts: &[Part],
-    paths: &mut Vec<Option<Path>>,
-) -> Result<(), Memory>
-    ensures { OnOk result
-        (paths.new.items ≡ paths.old.items ++ map (λ p. Some (path.now ++ p.path)) parts.now) }
+    number: usize,
+) -> Result<Option<Path>, Memory>
+    ensures { IfOk result (λ p. p ≡ path_of_part path.now parts.now number) }
 {
-    for part in parts {
-        paths.push(Some(joined(alloc, path, &part.path)?))?;
+    match parts.get(number) {
+        None => Ok(None),
+        Some(part) => Ok(Some(joined(alloc, path, &part.path)?)),
     }
-    Ok(())
+}
+
+/// Where the parts of these numbers stand in the document, where the unit is at this path.
+pub(crate) fn paths_of_parts(
+    alloc: Global,
+    path: &Path,
+    parts: &[Part],
+    numbers: &[usize],
+) -> Result<Vec<Option<Path>>, Memory>
+    ensures { IfOk result (λ v. v.items ≡ map (path_of_part path.now parts.now) numbers.now) }
+{
+    let mut paths = Vec::with_capacity(alloc, numbers.len())?;
+    for number in numbers {
+        paths.push(path_of_part(alloc, path, parts, *number)?)?;
+    }
+    Ok(paths)
 }
 
 // The path with these numbers.
@@ -79,23 +95,42 @@ fn part_at(
     }
 }
 
-/// The parts that stay in the unit at this path, which stand at these places in the document now.
-pub(crate) fn parts_at(
+// So it is of the part of this number, if there is one.
+fn other_at(
+    alloc: Global,
+    path: &Path,
+    place: &Option<Path>,
+    parts: &[Part],
+    number: usize,
+) -> Result<Option<Part>, Memory>
+    requires tidy { All IsTidy parts.now }
+    ensures part { IfOk result (λ o. option_map kept_part o ≡ kept_there path.now parts.now number place.now) }
+    ensures tidy { IfOk result (λ o. IfSome o IsTidy) }
+{
+    match parts.get(number) {
+        None => Ok(None),
+        Some(part) => part_at(alloc, path, place, part),
+    }
+}
+
+/// The parts of these numbers of the unit at this path, which stand at these places in the document now. None is for one
+/// that doesn't stay in the unit.
+pub(crate) fn others_at(
     alloc: Global,
     path: &Path,
     places: &[Option<Path>],
     parts: &[Part],
-) -> Result<Vec<Part>, Memory>
-    requires number { length places.now ≡ length parts.now }
+    numbers: &[usize],
+) -> Result<Vec<(usize, Option<Part>)>, Memory>
+    requires number { length places.now ≡ length numbers.now }
     requires tidy { All IsTidy parts.now }
-    ensures parts { IfOk result (λ v. kept_parts v.items ≡ parts_at path.now places.now (kept_parts parts.now)) }
-    ensures tidy { IfOk result (λ v. All IsTidy v.items) }
+    ensures parts { IfOk result (λ v. kept_of v.items ≡ kept_others path.now parts.now numbers.now places.now) }
+    ensures tidy { IfOk result (λ v. All (λ o. IfSome o.1 IsTidy) v.items) }
 {
-    let mut stay = Vec::new(alloc);
-    for i in 0..parts.len() {
-        if let Some(part) = part_at(alloc, path, &places[i], &parts[i])? {
-            stay.push(part)?;
-        }
+    let mut others = Vec::with_capacity(alloc, numbers.len())?;
+    for j in 0..numbers.len() {
+        let part = other_at(alloc, path, &places[j], parts, numbers[j])?;
+        others.push((numbers[j], part))?;
     }
-    Ok(stay)
+    Ok(others)
 }

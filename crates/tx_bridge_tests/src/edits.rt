@@ -137,7 +137,7 @@ pub(crate) fn buffers_of<L: Ledger>(
 }
 
 // A modification as the line of a script.
-fn change_of<L: Ledger>(alloc: Global, line: &str, steps: &mut Steps<L>) -> Option<Mod> {
+pub(crate) fn change_of<L: Ledger>(alloc: Global, line: &str, steps: &mut Steps<L>) -> Option<Mod> {
     match parse(alloc, line.as_bytes(), steps) {
         Ok(Command::Change(m)) => Some(m),
         _ => None,

@@ -1,7 +1,10 @@
-//! Tests of kept evaluations: which units an edit reaches, and that their outcomes are those from nothing.
+//! Tests of kept evaluations: which units an edit reaches, that their outcomes are those from nothing, and which places
+//! edits are found to leave as they are.
 #![tactic(auto)]
 
 #[cfg(test)]
 mod edits;
+#[cfg(test)]
+mod keeping;
 #[cfg(test)]
 mod parts;

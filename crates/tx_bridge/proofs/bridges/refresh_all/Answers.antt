@@ -21,7 +21,8 @@ loop-i-preserved g c =
     })
     c.in_ok-charge.ensures.flags c.in_ok-charge.ensures.renewed c.in_ok-charge.ensures.behind
     c.in_ok-charge.ensures.charge c.in_ok-charge.ensures.counted c.in_ok-charge.ensures.most
-    c.in_ok-charge.ensures.sound c.in_ok-charge.ensures.stays c.in_ok-charge.ensures.source
+    c.in_ok-charge.ensures.sound c.in_ok-charge.ensures.stays c.in_ok-charge.ensures.parts_same
+    c.in_ok-charge.ensures.source
     c.in_ok-charge.ensures.settled
 
 pub returns-in_err-charge-clause-sound : goal.returns-in_err-charge-clause-sound

@@ -1,8 +1,11 @@
-use Rattle.std.proofs.Common.{subst, slice_index_or}
+use Rattle.std.proofs.Common.{◌∙◌, ap, sym, subst, slice_index_or}
 use Rattle.std.proofs.lemmas.Option.{slice_get-get_or}
 use Rattle.tx_exec.specs.Outcomes.{wide_outcome}
 use Rattle.tx_bridge.specs.declared.bridge.Bridge.{Bridge}
 use Rattle.tx_bridge.specs.Settled.{IsSilent}
+use Rattle.tx_bridge.specs.Sound.{changed_bridge}
+use Rattle.tx_bridge.specs.Others.{put_from, parts_of}
+use Rattle.tx_bridge.proofs.ChangedParts.{parts_there}
 use Rattle.tx_bridge.proofs.Changing.{set_changed}
 use Rattle.tx_bridge.proofs.Slotting.{some_once}
 use Rattle.std.specs.Prelude.{slice_get}
@@ -10,8 +13,15 @@ use Rattle.tx_bridge.proofs.in_place.change_one.Goals as goal
 
 pub returns-clause-changed : goal.returns-clause-changed
 returns-clause-changed c =
-    set_changed c.args.bridges.now c.args.changed c.args.tree c.args.parts c.index-bridges-changed.result
-    c.change.new.self c.requires c.change.ensures.changed
+    let at = slice_get-get_or c.args.bridges.now c.args.changed c.index-bridges-changed.result c.requires in
+    set_changed c.args.bridges.now c.args.changed c.args.tree
+    (put_from 0 c.args.others.items (parts_of c.args.changed c.args.bridges.now)) c.index-bridges-changed.result
+    c.change.new.self c.requires
+    (c.change.ensures.changed
+    ∙ ap (λ ps. changed_bridge c.args.tree (put_from 0 c.args.others.items ps)
+    (slice_index_or c.args.bridges.now c.args.changed c.index-bridges-changed.result))
+    (sym (parts_there c.args.bridges.now c.args.changed
+    (slice_index_or c.args.bridges.now c.args.changed c.index-bridges-changed.result) at)))
 
 pub returns-clause-silent : goal.returns-clause-silent
 returns-clause-silent c = λ h b at.

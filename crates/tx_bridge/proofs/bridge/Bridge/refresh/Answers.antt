@@ -73,3 +73,7 @@ returns-then-fits-clause-flags g c =
 
 pub returns-then-fits-clause-sound : goal.returns-then-fits-clause-sound
 returns-then-fits-clause-sound g c = left_sound c.args.self.now c.leave.new.self c.requires.sound c.leave.ensures
+
+pub returns-then-fits-clause-parts_same : goal.returns-then-fits-clause-parts_same
+returns-then-fits-clause-parts_same g c down =
+    ap (λ (b : Bridge). kept_parts b.parts) c.leave.ensures ∙ unmarked_kept c.args.self.now.parts

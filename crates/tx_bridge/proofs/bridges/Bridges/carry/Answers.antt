@@ -3,6 +3,7 @@ use Rattle.tx_bridge.specs.CarryingParts.{carried_parts}
 use Rattle.tx_bridge.specs.Names.{Carry, CarryParts, Sources}
 use Rattle.tx_bridge.specs.Sound.{sources_in}
 use Rattle.tx_bridge.proofs.Taking.{given_is, given_parts_is, carry_sound, leads_of}
+use Rattle.tx_bridge.proofs.TreesSame.{carry_trees}
 use Rattle.tx_bridge.proofs.bridges.Bridges.carry.Goals as goal
 
 pub give_over-requires-clause-lead : goal.give_over-requires-clause-lead
@@ -36,6 +37,14 @@ returns-clause-once g c =
     (given_is c.args.buffer c.args.mods.now c.args.before.now c.args.self.now.kept c.args.units.items
     c.self.inside.bridges.items c.give_over.new.bridges.items (ap (λ b. b.kept) c.self.view_is) c.self.invariant.sound
     c.requires.units c.in_ok-give_over.ensures.given).once
+
+pub returns-clause-same_trees : goal.returns-clause-same_trees
+returns-clause-same_trees g c =
+    carry_trees c.args.buffer c.args.mods.now c.args.before.now c.args.self.now.kept c.args.units.items
+    c.self.inside.bridges.items c.give_over.new.bridges.items (ap (λ b. b.kept) c.self.view_is)
+    c.self.invariant.sound c.requires.applies
+    (λ q. c.carried_list_law.ensures.same c.args.mods.now c.args.before.now q) c.requires.units c.requires.old
+    c.requires.new c.requires.same c.in_ok-give_over.ensures.given
 
 pub returns-clause-units : goal.returns-clause-units
 returns-clause-units g c =

@@ -1,0 +1,239 @@
+-- The parts of a unit that aren't found to stay are put in their places.
+use Rattle.std.proofs.Common.{◌≡◌, ℕ, zero, suc, ◌+◌, ◌<◌, List, [], ◌∷◌, ◌++◌, length, drop, map, refl, sym, ap}
+use Rattle.std.proofs.Common.{Option, Some, None, ◌∙◌, arith, get_or, subst}
+use Rattle.std.proofs.lemmas.Bool.Decides.{Decides-eqb}
+use Rattle.std.proofs.lemmas.List.{append_assoc, drop_more, map-append}
+use Rattle.std.proofs.lemmas.List.Elements.{All-from_recursion, recursion_from_All, All-push}
+use Rattle.std.specs.List.{All, AllByRecursion}
+use Rattle.std.specs.Prelude.{Bool, true, false, ◌==◌, if◌then◌else◌, slice_get, option_map, option_and_then, IfSome}
+use Rattle.tx_tree.specs.WideTree.{WideTree}
+use Rattle.tx_tree.specs.Paths.{subtree}
+use Rattle.tx_mod.specs.declared.mods.Mod.{Mod}
+use Rattle.tx_mod.specs.Followed.{changed_by_all, carried_by_all}
+use Rattle.tx_mod.proofs.Kept.{subtree_behind}
+use Rattle.tx_parts.specs.Parts.{Stored}
+use Rattle.tx_walk.specs.declared.part.Part.{Part as DonePart}
+use Rattle.tx_walk.specs.Walked.{IsTidy}
+use Rattle.tx_bridge.specs.Carrying.{through, Leads, AllLead}
+use Rattle.tx_bridge.specs.CarryingParts.{part_at, and_part, parts_behind}
+use Rattle.tx_bridge.specs.HeldParts.{HoldsPart, kept_part, kept_parts}
+use Rattle.tx_bridge.specs.Nested.{KeptParts}
+use Rattle.tx_bridge.specs.Keeping.{all_keep_place}
+use Rattle.tx_bridge.specs.Others.{others_from, path_of_part, kept_there, kept_others, kept_of, and_some, put_from}
+use Rattle.tx_bridge.proofs.Inside.{rest_own}
+use Rattle.tx_bridge.proofs.WithinUnit.{at_path}
+use Rattle.tx_bridge.proofs.KeptPlaces.{places_stay}
+use Rattle.tx_bridge.proofs.Putting.{differs, IsAhead, put_past, put_here}
+
+and_same : (o : Option Stored) (ks : KeptParts) → and_some o ks ≡ and_part o ks
+and_same None ks = refl
+and_same (Some k) ks = refl
+
+-- ---- others are put, and what is kept of them
+
+kept_and : (o : Option DonePart) (ps : List DonePart) → kept_parts (and_some o ps)
+    ≡ and_some (option_map kept_part o) (kept_parts ps)
+kept_and None ps = refl
+kept_and (Some q) ps = refl
+
+kept_put : (i : ℕ) (os : List (ℕ × Option DonePart)) (ps : List DonePart)
+    → kept_parts (put_from i os ps) ≡ put_from i (kept_of os) (kept_parts ps)
+kept_put i [] ps = refl
+kept_put i (o ∷ os) [] = refl
+kept_put i (o ∷ os) (p ∷ ps) =
+    by (o.0 == i) (kept_put (i + 1) os ps) (kept_put (i + 1) (o ∷ os) ps)
+  where
+    by : (b : Bool) → kept_parts (put_from (i + 1) os ps) ≡ put_from (i + 1) (kept_of os) (kept_parts ps)
+        → kept_parts (put_from (i + 1) (o ∷ os) ps) ≡ put_from (i + 1) (kept_of (o ∷ os)) (kept_parts ps)
+        → kept_parts (if b then and_some o.1 (put_from (i + 1) os ps) else p ∷ put_from (i + 1) (o ∷ os) ps)
+        ≡ (if b then and_some (option_map kept_part o.1) (put_from (i + 1) (kept_of os) (kept_parts ps))
+        else kept_part p ∷ put_from (i + 1) (kept_of (o ∷ os)) (kept_parts ps))
+    by true e f = kept_and o.1 (put_from (i + 1) os ps) ∙ ap (and_some (option_map kept_part o.1)) e
+    by false e f = ap (λ ks. kept_part p ∷ ks) f
+
+abbrev pub AreTidy : List (ℕ × Option DonePart) → Type 0
+AreTidy os = AllByRecursion (λ (o : ℕ × Option DonePart). IfSome o.1 IsTidy) os
+
+tidy_and : (o : Option DonePart) (ps : List DonePart) → IfSome o IsTidy → AllByRecursion IsTidy ps
+    → AllByRecursion IsTidy (and_some o ps)
+tidy_and None ps h g = g
+tidy_and (Some q) ps h g = (h, g)
+
+tidy_put : (i : ℕ) (os : List (ℕ × Option DonePart)) (ps : List DonePart) → AreTidy os → AllByRecursion IsTidy ps
+    → AllByRecursion IsTidy (put_from i os ps)
+tidy_put i [] ps h g = g
+tidy_put i (o ∷ os) [] h g = tt
+tidy_put i (o ∷ os) (p ∷ ps) h g =
+    by (o.0 == i) (tidy_put (i + 1) os ps h.1 g.1) (tidy_put (i + 1) (o ∷ os) ps h g.1)
+  where
+    by : (b : Bool) → AllByRecursion IsTidy (put_from (i + 1) os ps)
+        → AllByRecursion IsTidy (put_from (i + 1) (o ∷ os) ps)
+        → AllByRecursion IsTidy
+        (if b then and_some o.1 (put_from (i + 1) os ps) else p ∷ put_from (i + 1) (o ∷ os) ps)
+    by true e f = tidy_and o.1 (put_from (i + 1) os ps) h.0 e
+    by false e f = (g.0, f)
+
+-- ---- each part is found to stay, or another one is put
+
+abbrev with_numbers : (ℕ → Option Stored) → List ℕ → List (ℕ × Option Stored)
+with_numbers f ns = map (λ n. (n, f n)) ns
+
+module _ (ms : List Mod) (t u : WideTree) (p : List ℕ) (made : changed_by_all ms t ≡ Some u) where
+  -- the numbers, from k on, aren't those before
+  all_ahead : (f : ℕ → Option Stored) (i k : ℕ) (qs : List DonePart) → i < k
+      → IsAhead i (with_numbers f (others_from ms p k qs))
+  all_ahead f i k [] l = tt
+  all_ahead f i k (q ∷ qs) l =
+      by (all_keep_place ms (p ++ q.path)) (all_ahead f i (k + 1) qs (omega (arith, l)))
+    where
+      by : (b : Bool) → IsAhead i (with_numbers f (others_from ms p (k + 1) qs))
+          → IsAhead i (with_numbers f
+          (if b then others_from ms p (k + 1) qs else k ∷ others_from ms p (k + 1) qs))
+      by true h = h
+      by false h = differs k i (λ e. omega (arith, l, e))
+
+  -- the function answers what is kept of the parts, whose numbers begin with i, afterwards
+  abbrev Tells : (ℕ → Option Stored) → ℕ → List DonePart → Type 0
+  Tells f i qs = (j : ℕ) (q : DonePart) → slice_get qs j ≡ Some q
+      → f (i + j) ≡ part_at p (carried_by_all ms t (p ++ q.path)) (kept_part q)
+
+  all_put : (f : ℕ → Option Stored) (i : ℕ) (qs : List DonePart) → Tells f i qs
+      → put_from i (with_numbers f (others_from ms p i qs)) (kept_parts qs) ≡ parts_behind ms t p (kept_parts qs)
+  all_put f i [] h = refl
+  all_put f i (q ∷ qs) h =
+      by (all_keep_place ms (p ++ q.path)) refl
+      (all_put f (i + 1) qs (λ j r e. ap f (omega arith) ∙ h (suc j) r e))
+    where
+      by : (b : Bool) → all_keep_place ms (p ++ q.path) ≡ b
+          → put_from (i + 1) (with_numbers f (others_from ms p (i + 1) qs)) (kept_parts qs)
+          ≡ parts_behind ms t p (kept_parts qs)
+          → put_from i (with_numbers f (if b then others_from ms p (i + 1) qs else i ∷ others_from ms p (i + 1) qs))
+          (kept_part q ∷ kept_parts qs)
+          ≡ and_part (part_at p (carried_by_all ms t (p ++ q.path)) (kept_part q)) (parts_behind ms t p (kept_parts qs))
+      by true e rest =
+          put_past i (with_numbers f (others_from ms p (i + 1) qs)) (kept_part q) (kept_parts qs)
+          (all_ahead f i (i + 1) qs (omega arith))
+          ∙ ap (λ ks. kept_part q ∷ ks) rest
+          ∙ sym (ap (λ o. and_part (part_at p o (kept_part q)) (parts_behind ms t p (kept_parts qs)))
+          (places_stay ms t u (p ++ q.path) made e)
+          ∙ ap (λ o. and_part (option_map (at_path (kept_part q)) o) (parts_behind ms t p (kept_parts qs)))
+          (rest_own p q.path))
+      by false e rest =
+          put_here i (i, f i) (with_numbers f (others_from ms p (i + 1) qs)) (kept_part q) (kept_parts qs)
+          ((Decides-eqb i i).1 refl)
+          ∙ ap (and_some (f i)) rest ∙ and_same (f i) (parts_behind ms t p (kept_parts qs))
+          ∙ ap (λ o. and_part o (parts_behind ms t p (kept_parts qs))) (ap f (omega arith) ∙ h 0 q refl)
+
+  -- what is kept of the part of this number afterwards
+  abbrev there : List DonePart → ℕ → Option Stored
+  there ps n = kept_there p ps n (through ms t (path_of_part p ps n))
+
+  kept_each : (ps : List DonePart) (ns : List ℕ)
+      → kept_others p ps ns (map (through ms t) (map (path_of_part p ps) ns)) ≡ with_numbers (there ps) ns
+  kept_each ps [] = refl
+  kept_each ps (n ∷ ns) = ap (λ os. (n, there ps n) ∷ os) (kept_each ps ns)
+
+  -- others whose places the modifications tell are put
+  pub others_put : (ps : List DonePart) (os : List (ℕ × Option DonePart)) (ns : List ℕ)
+      (paths places : List (Option (List ℕ))) → ns ≡ others_from ms p 0 ps → paths ≡ map (path_of_part p ps) ns
+      → places ≡ map (through ms t) paths → kept_of os ≡ kept_others p ps ns places
+      → kept_parts (put_from 0 os ps) ≡ parts_behind ms t p (kept_parts ps)
+  others_put ps os ns paths places numbers stood stand is =
+      kept_put 0 os ps
+      ∙ ap (λ ks. put_from 0 ks (kept_parts ps))
+      (is ∙ ap (kept_others p ps ns) (stand ∙ ap (map (through ms t)) stood) ∙ kept_each ps ns
+      ∙ ap (with_numbers (there ps)) numbers)
+      ∙ all_put (there ps) 0 ps
+      (λ j q e. ap (there ps) (omega arith) ∙ ap (λ o. option_and_then
+      (λ (r : DonePart). part_at p (through ms t (option_map (λ (s : DonePart). p ++ s.path) o)) (kept_part r)) o) e)
+
+  -- where all are found to stay, they are as they were
+  pub none_put : (ps : List DonePart) (os : List (ℕ × Option DonePart)) (ns : List ℕ) → ns ≡ others_from ms p 0 ps
+      → ns ≡ [] → os ≡ [] → kept_parts (put_from 0 os ps) ≡ parts_behind ms t p (kept_parts ps)
+  none_put ps os ns numbers empty none =
+      others_put ps os ns [] [] numbers (ap (map (path_of_part p ps)) (sym empty)) refl
+      (ap kept_of none ∙ ap (λ ks. kept_others p ps ks []) (sym empty))
+
+pub tidy_all : (os : List (ℕ × Option DonePart)) (ps : List DonePart)
+    → All (λ (o : ℕ × Option DonePart). IfSome o.1 IsTidy) os → All IsTidy ps → All IsTidy (put_from 0 os ps)
+tidy_all os ps h g =
+    All-from_recursion IsTidy (put_from 0 os ps)
+    (tidy_put 0 os ps (recursion_from_All (λ (o : ℕ × Option DonePart). IfSome o.1 IsTidy) os h)
+    (recursion_from_All IsTidy ps g))
+
+-- ---- what is asked
+
+tidy_held : (x : WideTree) (ps : List DonePart) → AllByRecursion (HoldsPart x) ps → AllByRecursion IsTidy ps
+tidy_held x [] h = tt
+tidy_held x (p ∷ ps) h = (h.0.tidy, tidy_held x ps h.1)
+
+pub held_tidy : (x : WideTree) (ps : List DonePart) → AllByRecursion (HoldsPart x) ps → All IsTidy ps
+held_tidy x ps h = All-from_recursion IsTidy ps (tidy_held x ps h)
+
+module _ (t old : WideTree) (p : List ℕ) (is : subtree t p ≡ Some old) where
+  one_leads : (ps : List DonePart) → AllByRecursion (HoldsPart old) ps → (n : ℕ) → Leads t (path_of_part p ps n)
+  one_leads [] h zero = tt
+  one_leads [] h (suc n) = tt
+  one_leads (q ∷ qs) h zero = (h.0.there, subtree_behind p q.path t old is ∙ h.0.leads)
+  one_leads (q ∷ qs) h (suc n) = one_leads qs h.1 n
+
+  each_leads : (ps : List DonePart) → AllByRecursion (HoldsPart old) ps → (ns : List ℕ)
+      → AllByRecursion (Leads t) (map (path_of_part p ps) ns)
+  each_leads ps h [] = tt
+  each_leads ps h (n ∷ ns) = (one_leads ps h n, each_leads ps h ns)
+
+  pub others_lead : (ps : List DonePart) (ns : List ℕ) (paths : List (Option (List ℕ)))
+      → paths ≡ map (path_of_part p ps) ns → AllByRecursion (HoldsPart old) ps → AllLead t paths
+  others_lead ps ns paths stood h =
+      subst (AllLead t) (sym stood)
+      (All-from_recursion (Leads t) (map (path_of_part p ps) ns) (each_leads ps h ns))
+
+-- ---- going over the parts
+
+pub number_next : (ms : List Mod) (p : List ℕ) (ps : List DonePart) (i : ℕ) (d : DonePart) (ns after : List ℕ)
+    → i < length ps → ns ++ others_from ms p i (drop i ps) ≡ others_from ms p 0 ps
+    → after ≡ ns ++ (if all_keep_place ms (p ++ (get_or ps i d).path) then [] else i ∷ [])
+    → after ++ others_from ms p (i + 1) (drop (i + 1) ps) ≡ others_from ms p 0 ps
+number_next ms p ps i d ns after inside so_far pushed =
+    ap (λ xs. xs ++ others_from ms p (i + 1) (drop (i + 1) ps)) pushed
+    ∙ by (all_keep_place ms (p ++ (get_or ps i d).path))
+    ∙ ap (λ qs. ns ++ others_from ms p i qs) (sym (drop_more ps i d inside)) ∙ so_far
+  where
+    by : (b : Bool) → ns ++ (if b then [] else i ∷ []) ++ others_from ms p (i + 1) (drop (i + 1) ps)
+        ≡ ns ++ (if b then others_from ms p (i + 1) (drop (i + 1) ps)
+        else i ∷ others_from ms p (i + 1) (drop (i + 1) ps))
+    by true = append_assoc ns [] (others_from ms p (i + 1) (drop (i + 1) ps))
+    by false = append_assoc ns (i ∷ []) (others_from ms p (i + 1) (drop (i + 1) ps))
+
+-- behind j of the others
+pub record OthersSoFar (p : List ℕ) (ps : List DonePart) (ns : List ℕ) (places : List (Option (List ℕ)))
+    (os : List (ℕ × Option DonePart)) (j : ℕ) : Type 0 where
+  pub kept : kept_of os ++ kept_others p ps (drop j ns) (drop j places) ≡ kept_others p ps ns places
+  pub tidy : All (λ (o : ℕ × Option DonePart). IfSome o.1 IsTidy) os
+
+pub other_next : (p : List ℕ) (ps : List DonePart) (ns : List ℕ) (places : List (Option (List ℕ)))
+    (os after : List (ℕ × Option DonePart)) (j n : ℕ) (place : Option (List ℕ)) (o : Option DonePart)
+    → OthersSoFar p ps ns places os j → j < length ns → length places ≡ length ns → n ≡ get_or ns j 0
+    → place ≡ get_or places j place → option_map kept_part o ≡ kept_there p ps n place → IfSome o IsTidy
+    → after ≡ os ++ (n, o) ∷ [] → OthersSoFar p ps ns places after (j + 1)
+other_next p ps ns places os after j n place o g inside number is_number is_place is tidy pushed =
+    subst (λ xs. OthersSoFar p ps ns places xs (j + 1)) (sym pushed)
+    (record {
+      kept =
+          ap (λ xs. xs ++ rest) (map-append kept_one os ((n, o) ∷ []))
+          ∙ append_assoc (kept_of os) (kept_one (n, o) ∷ []) rest
+          ∙ ap (λ k. kept_of os ++ (n, k) ∷ rest) is
+          ∙ ap (λ ms. kept_of os ++ kept_others p ps ms (place ∷ drop (j + 1) places))
+          (sym (drop_more ns j 0 inside ∙ ap (λ m. m ∷ drop (j + 1) ns) (sym is_number)))
+          ∙ ap (λ qs. kept_of os ++ kept_others p ps (drop j ns) qs)
+          (sym (drop_more places j place (omega (arith, inside, number))
+          ∙ ap (λ q. q ∷ drop (j + 1) places) (sym is_place)))
+          ∙ g.kept;
+      tidy = All-push (λ (x : ℕ × Option DonePart). IfSome x.1 IsTidy) os (n, o) g.tidy tidy;
+    })
+  where
+    kept_one : ℕ × Option DonePart → ℕ × Option Stored
+    kept_one x = (x.0, option_map kept_part x.1)
+
+    rest : List (ℕ × Option Stored)
+    rest = kept_others p ps (drop (j + 1) ns) (drop (j + 1) places)
