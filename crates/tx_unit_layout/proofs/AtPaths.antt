@@ -1,0 +1,50 @@
+-- What is kept at the path of a part, where no path stands twice.
+use Rattle.std.proofs.Common.{◌≡◌, ℕ, zero, suc, List, [], ◌∷◌, Option, Some, refl, ◌∙◌, subst}
+use Rattle.std.proofs.lemmas.Slice.Eq.{bytes_eq-Decides}
+use Rattle.std.specs.Prelude.{Bool, true, false, if◌then◌else◌, slice_get}
+use Rattle.std.specs.List.{AllByRecursion, IsDistinct}
+use Rattle.std.specs.Str.{bytes_eq}
+use Rattle.tx_exec_form.specs.Evaluated.{WideTrace}
+use Rattle.tx_parts.specs.Parts.{Stored}
+use Rattle.tx_walk.specs.declared.part.Part.{Part as DonePart}
+use Rattle.tx_walk.specs.Walked.{paths_of}
+use Rattle.tx_bridge.specs.HeldParts.{kept_part, kept_parts}
+use Rattle.tx_bridge.specs.Nested.{kept_at}
+use Rattle.tx_unit_layout.specs.LaidUnits.{Stays}
+
+if_true : (b : Bool) (o r : Option WideTrace) → b ≡ true → (if b then o else r) ≡ o
+if_true true o r e = refl
+if_true false o r e = cc
+
+if_false : (b : Bool) (o r : Option WideTrace) → b ≡ false → (if b then o else r) ≡ r
+if_false false o r e = refl
+if_false true o r e = cc
+
+not_at : (path : List ℕ) (ds : List DonePart) (k : ℕ) (s : Stored)
+    → AllByRecursion (λ y. bytes_eq path y ≡ false) (paths_of ds) → slice_get (kept_parts ds) k ≡ Some s
+    → bytes_eq path s.path ≡ false
+not_at path [] k s others h = cc
+not_at path (d ∷ ds) zero s others h =
+    let same : kept_part d ≡ s = cc in
+    subst (λ (r : Stored). bytes_eq path r.path ≡ false) same others.0
+not_at path (d ∷ ds) (suc k) s others h = not_at path ds k s others.1 h
+
+-- each path tells the part that stands there
+pub kept_there : (ds : List DonePart) (k : ℕ) (s : Stored) → IsDistinct bytes_eq (paths_of ds)
+    → slice_get (kept_parts ds) k ≡ Some s → kept_at (kept_parts ds) s.path ≡ s.trace
+unfolding IsDistinct
+kept_there [] k s distinct h = cc
+kept_there (d ∷ ds) zero s distinct h =
+    let same : kept_part d ≡ s = cc in
+    subst (λ (r : Stored). kept_at (kept_parts (d ∷ ds)) r.path ≡ r.trace) same
+    (if_true (bytes_eq d.path d.path) (kept_part d).trace (kept_at (kept_parts ds) d.path)
+    ((bytes_eq-Decides d.path d.path).1 refl))
+kept_there (d ∷ ds) (suc k) s distinct h =
+    if_false (bytes_eq d.path s.path) (kept_part d).trace (kept_at (kept_parts ds) s.path)
+    (not_at d.path ds k s distinct.0 h)
+    ∙ kept_there ds k s distinct.1 h
+
+-- so what is kept stays, whatever the flags
+pub all_stay : (ds : List DonePart) (fs : List Bool) → IsDistinct bytes_eq (paths_of ds)
+    → Stays (kept_parts ds) (kept_parts ds) fs
+all_stay ds fs distinct = λ k s h flag. kept_there ds k s distinct h

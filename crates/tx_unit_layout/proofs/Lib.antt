@@ -1,0 +1,9 @@
+pub mod Heads
+pub mod Filtering
+pub mod Lining
+pub mod Costing
+pub mod AtPaths
+pub mod DoneParts
+pub mod Reusing
+pub mod Renewed
+pub mod ByParts

@@ -1,0 +1,4 @@
+pub mod Codes
+pub mod Views
+pub mod LaidAts
+pub mod LaidUnits

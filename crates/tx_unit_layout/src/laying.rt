@@ -1,0 +1,77 @@
+// A unit laid out.
+ghost use Rattle.std.specs.Prelude.{◌≡◌, ◌+◌, ◌≤◌, map, Some, IfOk, OnOk, OnErr};
+ghost use Rattle.std.specs.List.{All, IsDistinct};
+ghost use Rattle.std.specs.Str.{bytes_eq};
+ghost use Rattle.tx_tree.specs.WideTree.{size_of};
+ghost use Rattle.tx_origin.specs.Values.{plain};
+ghost use Rattle.tx_exec.specs.Outcomes.{wide_outcome};
+ghost use Rattle.tx_walk.specs.Walked.{IsTidy, paths_of};
+ghost use Rattle.tx_view_form.specs.Outcomes.{Moment, value_of};
+ghost use Rattle.tx_view_form.specs.Views.{paragraphs_at};
+ghost use Rattle.tx_bridge.specs.Entries.{outcome_of};
+ghost use Rattle.tx_bridge.specs.HeldParts.{kept_parts, flags_of_parts};
+ghost use Rattle.tx_bridge.specs.Nested.{fresh_parts};
+ghost use Rattle.tx_bridge.specs.UnitLists.{IsPlaced};
+ghost use Rattle.tx_part_layout.specs.LaidParts.{items_in};
+ghost use Rattle.tx_unit_layout.specs.LaidAts.{laid_at, unit_items_anew};
+ghost use Rattle.tx_unit_layout.specs.LaidUnits.{WasLaid, IsLaidOut};
+ghost use Rattle.tx_unit_layout.specs.Views.{unit_view, IsReadable};
+
+use crate::by_parts::lay_by_parts;
+use crate::shown::Shown;
+use crate::whole::lay_whole;
+use std::alloc::Global;
+use std::sync::ledger::Ledger;
+use tx_base::{Memory, Steps};
+use tx_bridge::{is_nested, over_value};
+use tx_exec::Outcome;
+use tx_items::Attrs;
+use tx_units::Unit;
+use tx_walk::Part;
+
+/// Lays a unit out that comes to this at some moment and has these parts then, before which the attributes are these.
+/// Answers how many items were laid out: of a nested unit that isn't over those of the parts that were evaluated anew,
+/// or weren't laid out for the attributes before them, and else all. Pages have 20 to 500 columns. The one error is
+/// want of memory: what was laid out before stays.
+pub fn lay_unit<L: Ledger>(
+    alloc: Global,
+    unit: &Unit,
+    outcome: &Outcome,
+    parts: &[Part],
+    attrs: Attrs,
+    shown: &mut Shown,
+    width: u32,
+    steps: &mut Steps<L>,
+) -> Result<u64, Memory>
+    requires least_width { 20 ≤ width }
+    requires most_width { width ≤ 500 }
+    requires small { size_of (plain (value_of (wide_outcome outcome.now))) ≤ 1000000 }
+    requires placed { IsPlaced unit.now }
+    requires tidy { All IsTidy parts.now }
+    requires distinct { IsDistinct bytes_eq (paths_of parts.now) }
+    requires fresh { (m : Moment) × (wide_outcome outcome.now ≡ outcome_of m unit.now)
+        × (kept_parts parts.now ≡ fresh_parts m unit.now) }
+    requires was_laid { WasLaid width (record { unit = unit.now; trace = wide_outcome outcome.now })
+        (kept_parts parts.now) (flags_of_parts parts.now) shown.old }
+    ensures was_laid { OnOk result (WasLaid width (record { unit = unit.now; trace = wide_outcome outcome.now })
+        (kept_parts parts.now) (flags_of_parts parts.now) shown.new) }
+    ensures laid { OnOk result (shown.new.laid ≡ Some attrs) }
+    ensures shown { OnOk result
+        (IsLaidOut width attrs (value_of (wide_outcome outcome.now)) unit.now.path shown.new) }
+    ensures readable { OnOk result (IsReadable (unit_view shown.new)) }
+    ensures items { IfOk result (λ n. n ≡ unit_items_anew attrs
+        (record { unit = unit.now; trace = wide_outcome outcome.now }) (kept_parts parts.now)
+        (flags_of_parts parts.now) (map laid_at shown.old.parts)) }
+    ensures within { IfOk result
+        (λ n. n ≤ items_in (paragraphs_at unit.now.path attrs (value_of (wide_outcome outcome.now)))) }
+    ensures counted { IfOk result (λ n. steps.new ≡ steps.old + n) }
+    ensures err { OnErr result (shown.new ≡ shown.old) }
+{
+    let Outcome::Done(trace) = outcome else {
+        return lay_whole(alloc, &over_value(alloc)?, attrs, shown, width, steps);
+    };
+    if is_nested(unit) {
+        return lay_by_parts(alloc, unit, trace, parts, attrs, shown, width, steps);
+    }
+    lay_whole(alloc, &trace.value, attrs, shown, width, steps)
+}

@@ -1,0 +1,16 @@
+//! What is shown of a unit. A nested one is laid out by its parts, and what was laid out of a part before is used again
+//! where it still holds.
+#![tactic(auto)]
+
+mod by_parts;
+mod laid_parts;
+mod laying;
+mod shown;
+mod unit_lines;
+mod whole;
+
+pub use laid_parts::LaidParts;
+pub use laying::lay_unit;
+pub use shown::Shown;
+pub use unit_lines::UnitLines;
+pub use whole::outcome_weight_law;
