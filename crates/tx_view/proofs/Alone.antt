@@ -1,5 +1,5 @@
 -- One unit alone is evaluated and laid out anew.
-use Rattle.std.proofs.Common.{◌≡◌, ℕ, zero, suc, ◌<◌, ◌≤◌, List, [], ◌∷◌, length, slice_set, slice_index_or}
+use Rattle.std.proofs.Common.{◌≡◌, ℕ, zero, suc, ◌<◌, ◌≤◌, List, [], ◌∷◌, length, map, slice_set, slice_index_or}
 use Rattle.std.proofs.Common.{Bool, true, false, Option, Some, None, refl, ap, sym, subst, ◌∙◌, arith}
 use Rattle.std.proofs.lemmas.Option.{same_Some}
 use Rattle.std.proofs.lemmas.Bool.Decides.{Decides-int_eq}
@@ -20,22 +20,24 @@ use Rattle.tx_items.specs.declared.attributes.Attrs.{Attrs}
 use Rattle.tx_view_form.specs.Outcomes.{Moment, beginning, behind, allowance, outcome, env_behind, value_of}
 use Rattle.tx_view_form.specs.Outcomes.{over_value}
 use Rattle.tx_view_form.specs.Started.{attributes_of}
-use Rattle.tx_view_form.specs.Views.{IsShown, AreShown, paragraphs_at}
+use Rattle.tx_view_form.specs.Views.{IsShown, AreShown}
+use Rattle.tx_bridge.specs.Bridged.{Bridged}
 use Rattle.tx_bridge.specs.Entries.{Entry, Kept, units_of, traces_of, fresh_from, outcome_of}
+use Rattle.tx_bridge.specs.Nested.{KeptParts, fresh_parts, fresh_parts_from}
 use Rattle.tx_bridge.proofs.Paying.{AllSmall}
 use Rattle.tx_bridge.proofs.Used.{AllAllowed}
-use Rattle.tx_view.specs.declared.shown.Shown.{Shown}
-use Rattle.tx_view.specs.Costs.{items_of}
-use Rattle.tx_part_layout.specs.LaidParts.{items_in}
-use Rattle.tx_view.specs.Laid.{IsLaidOut, AreLaid, laid_in, unlaid_from, unlaid, without}
+use Rattle.tx_unit_layout.specs.declared.shown.Shown.{Shown}
+use Rattle.tx_unit_layout.specs.LaidAts.{laid_at, unit_items_anew}
+use Rattle.tx_unit_layout.specs.LaidUnits.{IsLaidOut}
+use Rattle.tx_view.specs.Costs.{entry_at, items_at}
+use Rattle.tx_view.specs.Laid.{IsUnit, WereLaid, laid_in, items_unlaid_from, unlaid, without}
 use Rattle.tx_view.specs.Lone.{attributes_along, IsLone, IsAlone}
 use Rattle.tx_bridge.specs.Settled.{IsSilent}
 use Rattle.tx_view.specs.Stores.{attributes_from}
 use Rattle.tx_part_layout.specs.LaidParts.{same_attrs, is_before}
-use Rattle.tx_view.specs.Units.{unit_view, unit_views}
-use Rattle.tx_view.proofs.Leaving.{from_along}
-use Rattle.tx_view.proofs.Onward.{laid_at, laid_set, laid_by}
-use Rattle.tx_view.proofs.Staying.{heads}
+use Rattle.tx_view.specs.Units.{unit_views}
+use Rattle.tx_unit_layout.specs.Views.{unit_view}
+use Rattle.tx_view.proofs.Onward.{heads, taking_by}
 
 -- ---- attributes
 
@@ -68,6 +70,12 @@ along_same (suc i) (d ∷ old) (e ∷ new) env many same was is =
     ∙ ap (λ as_laid. Some (attributes_of env) ∷ as_laid)
     (along_same i old new (env_behind env d.trace) (omega (arith, many))
     (λ k less other. same (suc k) (omega (arith, less)) (λ f. other (omega (arith, f)))) was is)
+
+pub from_along : (m : Moment) (us : List DocUnit)
+    → attributes_from m us ≡ attributes_along m.env (traces_of (fresh_from m us))
+from_along m [] = refl
+from_along m (u ∷ us) =
+    ap (λ as_laid. Some (attributes_of m.env) ∷ as_laid) (from_along (behind m (outcome_of m u)) us)
 
 none_silent : (o : Option (Option WideTrace)) (t : Option WideTrace) → o ≡ Some None → o ≡ Some t → IsSilent t
 none_silent o t e f env = ap (env_behind env) (sym (same_Some None t (sym e ∙ f)))
@@ -115,22 +123,26 @@ without_alone (suc i) (f ∷ fs) (x ∷ xs) off none =
     (without_alone i fs xs (λ k less other. off (suc k) (omega (arith, less)) (λ e. other (omega (arith, e)))) none)
 
 -- units that are laid out for the attributes before them are shown
-pub shown_from : (width : ℕ) (m : Moment) (kept : Kept) (xs : List Shown) → AreLaid width kept xs
-    → kept ≡ fresh_from m (units_of kept) → laid_in xs ≡ attributes_from m (units_of kept)
-    → AreShown width m (units_of kept) (unit_views xs)
-shown_from width m [] [] laid fresh is = tt
-shown_from width m [] (x ∷ xs) laid fresh is = absurd laid
-shown_from width m (e ∷ es) [] laid fresh is = absurd laid
-shown_from width m (e ∷ es) (x ∷ xs) laid fresh is =
+pub shown_from : (width : ℕ) (m : Moment) (kept : Kept) (pss : List KeptParts) (fss : List (List Bool))
+    (xs : List Shown) → WereLaid width kept pss fss xs → kept ≡ fresh_from m (units_of kept)
+    → laid_in xs ≡ attributes_from m (units_of kept) → AreShown width m (units_of kept) (unit_views xs)
+shown_from width m [] [] [] [] laid fresh is = tt
+shown_from width m [] [] [] (x ∷ xs) laid fresh is = absurd laid
+shown_from width m [] [] (fs ∷ fss) xs laid fresh is = absurd laid
+shown_from width m [] (ks ∷ pss) fss xs laid fresh is = absurd laid
+shown_from width m (e ∷ es) [] fss xs laid fresh is = absurd laid
+shown_from width m (e ∷ es) (ks ∷ pss) [] xs laid fresh is = absurd laid
+shown_from width m (e ∷ es) (ks ∷ pss) (fs ∷ fss) [] laid fresh is = absurd laid
+shown_from width m (e ∷ es) (ks ∷ pss) (fs ∷ fss) (x ∷ xs) laid fresh is =
     let next : Moment = behind m (outcome_of m e.unit) in
-    let one = heads e (record { unit = e.unit; trace = outcome_of m e.unit }) es (fresh_from next (units_of es)) fresh in
+    let one = heads e (entry_at m e.unit) es (fresh_from next (units_of es)) fresh in
     let two = heads x.laid (Some (attributes_of m.env)) (laid_in xs) (attributes_from next (units_of es)) is in
     let out : IsLaidOut width (attributes_of m.env) (value_of e.trace) e.unit.path x =
-    laid.0.laid (attributes_of m.env) two.0 in (
-      subst (λ (o : Option WideTrace).
-          IsShown width (attributes_of m.env) (value_of o) e.unit.path (unit_view x)) (ap (λ (k : Entry). k.trace) one.0)
+    laid.0.laid.laid (attributes_of m.env) two.0 in
+    let trace : e.trace ≡ outcome_of m e.unit = ap (λ (k : Entry). k.trace) one.0 in (
+      subst (λ (o : Option WideTrace). IsShown width (attributes_of m.env) (value_of o) e.unit.path (unit_view x)) trace
           out.shown,
-      shown_from width next es xs laid.1 one.1 two.1,
+      shown_from width next es pss fss xs laid.1 one.1 two.1,
     )
 
 -- what is left to do then
@@ -177,61 +189,96 @@ laid_for_itself : (laid : Option Attrs) (a : Attrs) (n : ℕ) → laid ≡ Some 
 laid_for_itself laid a n is =
     ap (λ (o : Option Attrs). if is_before o a then 0 else n) is ∙ ap (λ b. if b then 0 else n) (attrs_same a)
 
-pub all_laid : (m : Moment) (us : List DocUnit) (laid : List (Option Attrs)) → laid ≡ attributes_from m us
-    → unlaid_from m us laid ≡ 0
-all_laid m [] laid is = refl
-all_laid m (u ∷ us) [] is = refl
-all_laid m (u ∷ us) (o ∷ laid) is =
+pub all_laid : (m : Moment) (us : List DocUnit) (fss : List (List Bool)) (xs : List Shown)
+    → laid_in xs ≡ attributes_from m us → items_unlaid_from m us fss xs ≡ 0
+all_laid m [] fss xs is = refl
+all_laid m (u ∷ us) [] xs is = refl
+all_laid m (u ∷ us) (fs ∷ fss) [] is = refl
+all_laid m (u ∷ us) (fs ∷ fss) (x ∷ xs) is =
     let next : Moment = behind m (outcome_of m u) in
-    let two = heads o (Some (attributes_of m.env)) laid (attributes_from next us) is in
+    let two = heads x.laid (Some (attributes_of m.env)) (laid_in xs) (attributes_from next us) is in
     omega (
       arith,
-      laid_for_itself o (attributes_of m.env) (items_of m u) two.0,
-      all_laid next us laid two.1,
+      laid_for_itself x.laid (attributes_of m.env) (items_at m u fs (map laid_at x.parts)) two.0,
+      all_laid next us fss xs two.1,
     )
 
-pub one_laid : (m : Moment) (kept : Kept) (i : ℕ) (e : Entry) (laid : List (Option Attrs)) (a : Attrs)
-    → kept ≡ fresh_from m (units_of kept) → slice_get kept i ≡ Some e → slice_get laid i ≡ Some None
-    → slice_set laid i (Some a) ≡ attributes_from m (units_of kept)
-    → unlaid_from m (units_of kept) laid ≡ items_in (paragraphs_at e.unit.path a (value_of e.trace))
-one_laid m [] i e laid a fresh at none is = cc
-one_laid m (k ∷ es) i e [] a fresh at none is = cc
-one_laid m (k ∷ es) zero e (o ∷ laid) a fresh at none is =
+not_laid : (laid : Option Attrs) (a : Attrs) (n : ℕ) → laid ≡ None → (if is_before laid a then 0 else n) ≡ n
+not_laid laid a n none = ap (λ (o : Option Attrs). if is_before o a then 0 else n) none
+
+-- What the one unit takes that isn't laid out, before which the attributes are a. These are its parts with their flags.
+one_laid : (m : Moment) (kept : Kept) (pss : List KeptParts) (fss : List (List Bool)) (i : ℕ) (e : Entry)
+    (ks : KeptParts) (fs : List Bool) (xs : List Shown) (d : Shown) (a : Attrs) → kept ≡ fresh_from m (units_of kept)
+    → pss ≡ fresh_parts_from m (units_of kept) → slice_get kept i ≡ Some e → slice_get pss i ≡ Some ks
+    → slice_get fss i ≡ Some fs → slice_get (laid_in xs) i ≡ Some None
+    → slice_set (laid_in xs) i (Some a) ≡ attributes_from m (units_of kept)
+    → items_unlaid_from m (units_of kept) fss xs ≡ unit_items_anew a e ks fs (map laid_at (slice_index_or xs i d).parts)
+one_laid m [] pss fss i e ks fs xs d a fresh anew at parts flags none is = cc
+one_laid m (k ∷ es) [] fss i e ks fs xs d a fresh anew at parts flags none is = cc
+one_laid m (k ∷ es) (l ∷ pss) [] i e ks fs xs d a fresh anew at parts flags none is = cc
+one_laid m (k ∷ es) (l ∷ pss) (g ∷ fss) i e ks fs [] d a fresh anew at parts flags none is = cc
+one_laid m (k ∷ es) (l ∷ pss) (g ∷ fss) zero e ks fs (x ∷ xs) d a fresh anew at parts flags none is =
     let next : Moment = behind m (outcome_of m k.unit) in
-    let one = heads k (record { unit = k.unit; trace = outcome_of m k.unit }) es (fresh_from next (units_of es)) fresh in
-    let two = heads (Some a) (Some (attributes_of m.env)) laid (attributes_from next (units_of es)) is in
-    let here : (if is_before o (attributes_of m.env) then 0 else items_of m k.unit) ≡ items_of m k.unit =
-    ap (λ (p : Option Attrs). if is_before p (attributes_of m.env) then 0 else items_of m k.unit)
-    (same_Some o None none) in
-    let items : items_of m k.unit ≡ items_in (paragraphs_at e.unit.path a (value_of e.trace)) =
-    ap (λ b. items_in (paragraphs_at k.unit.path b (value_of (outcome_of m k.unit))))
-    (sym (same_Some a (attributes_of m.env) two.0))
-    ∙ ap (λ t. items_in (paragraphs_at k.unit.path a (value_of t))) (sym (ap (λ (x : Entry). x.trace) one.0))
-    ∙ ap (λ (x : Entry). items_in (paragraphs_at x.unit.path a (value_of x.trace))) (same_Some k e at) in
-    omega (arith, here, items, all_laid next (units_of es) laid two.1)
-one_laid m (k ∷ es) (suc i) e (o ∷ laid) a fresh at none is =
+    let one = heads k (entry_at m k.unit) es (fresh_from next (units_of es)) fresh in
+    let two = heads (Some a) (Some (attributes_of m.env)) (laid_in xs) (attributes_from next (units_of es)) is in
+    let three = heads l (fresh_parts m k.unit) pss (fresh_parts_from next (units_of es)) anew in
+    let here : (if is_before x.laid (attributes_of m.env) then 0 else items_at m k.unit g (map laid_at x.parts))
+    ≡ items_at m k.unit g (map laid_at x.parts) =
+    not_laid x.laid (attributes_of m.env) (items_at m k.unit g (map laid_at x.parts)) (same_Some x.laid None none) in
+    let items : items_at m k.unit g (map laid_at x.parts) ≡ unit_items_anew a e ks fs (map laid_at x.parts) =
+    sym (taking_by None a (attributes_of m.env) e (entry_at m k.unit) ks (fresh_parts m k.unit) g (map laid_at x.parts)
+    (same_Some a (attributes_of m.env) two.0) (sym (same_Some k e at) ∙ one.0) (sym (same_Some l ks parts) ∙ three.0))
+    ∙ ap (λ f. unit_items_anew a e ks f (map laid_at x.parts)) (same_Some g fs flags) in
+    omega (arith, here, items, all_laid next (units_of es) fss xs two.1)
+one_laid m (k ∷ es) (l ∷ pss) (g ∷ fss) (suc i) e ks fs (x ∷ xs) d a fresh anew at parts flags none is =
     let next : Moment = behind m (outcome_of m k.unit) in
-    let one = heads k (record { unit = k.unit; trace = outcome_of m k.unit }) es (fresh_from next (units_of es)) fresh in
-    let two = heads o (Some (attributes_of m.env)) (slice_set laid i (Some a)) (attributes_from next (units_of es)) is in
+    let one = heads k (entry_at m k.unit) es (fresh_from next (units_of es)) fresh in
+    let two = heads x.laid (Some (attributes_of m.env)) (slice_set (laid_in xs) i (Some a))
+    (attributes_from next (units_of es)) is in
+    let three = heads l (fresh_parts m k.unit) pss (fresh_parts_from next (units_of es)) anew in
     omega (
       arith,
-      laid_for_itself o (attributes_of m.env) (items_of m k.unit) two.0,
-      one_laid next es i e laid a one.1 at none two.1,
+      laid_for_itself x.laid (attributes_of m.env) (items_at m k.unit g (map laid_at x.parts)) two.0,
+      one_laid next es pss fss i e ks fs xs d a one.1 three.1 at parts flags none two.1,
     )
+
+-- the same of what is kept of it
+pub takes_alone : {b : Bridged} {i : ℕ} {e : Entry} {ks : KeptParts} {fs : List Bool} → IsUnit b i e ks fs
+    → (xs : List Shown) (d : Shown) (a : Attrs) → b.kept ≡ fresh_from beginning (units_of b.kept)
+    → b.parts ≡ fresh_parts_from beginning (units_of b.kept) → slice_get (laid_in xs) i ≡ Some None
+    → slice_set (laid_in xs) i (Some a) ≡ attributes_from beginning (units_of b.kept)
+    → items_unlaid_from beginning (units_of b.kept) b.part_flags xs
+    ≡ unit_items_anew a e ks fs (map laid_at (slice_index_or xs i d).parts)
+takes_alone {b} {i} {e} {ks} {fs} at xs d a fresh anew none is =
+    one_laid beginning b.kept b.parts b.part_flags i e ks fs xs d a fresh anew at.entry at.parts at.flags none is
 
 -- ---- an outcome is small
 
-pub at_moment : (m : Moment) (kept : Kept) (i : ℕ) (e : Entry) → kept ≡ fresh_from m (units_of kept)
-    → slice_get kept i ≡ Some e → (n : Moment) × (e.trace ≡ outcome_of n e.unit)
-at_moment m [] i e fresh at = cc
-at_moment m (k ∷ es) zero e fresh at =
+-- at some moment the unit comes to what is kept of it
+at_moment : (m : Moment) (kept : Kept) (pss : List KeptParts) (i : ℕ) (e : Entry) (ks : KeptParts)
+    → kept ≡ fresh_from m (units_of kept) → pss ≡ fresh_parts_from m (units_of kept) → slice_get kept i ≡ Some e
+    → slice_get pss i ≡ Some ks → (n : Moment) × (e.trace ≡ outcome_of n e.unit) × (ks ≡ fresh_parts n e.unit)
+at_moment m [] pss i e ks fresh anew at parts = cc
+at_moment m (k ∷ es) [] i e ks fresh anew at parts = cc
+at_moment m (k ∷ es) (l ∷ pss) zero e ks fresh anew at parts =
     let next : Moment = behind m (outcome_of m k.unit) in
-    let one = heads k (record { unit = k.unit; trace = outcome_of m k.unit }) es (fresh_from next (units_of es)) fresh in
-    (m, subst (λ (x : Entry). x.trace ≡ outcome_of m x.unit) (same_Some k e at) (ap (λ (x : Entry). x.trace) one.0))
-at_moment m (k ∷ es) (suc i) e fresh at =
+    let one = heads k (entry_at m k.unit) es (fresh_from next (units_of es)) fresh in
+    let two = heads l (fresh_parts m k.unit) pss (fresh_parts_from next (units_of es)) anew in (
+      m,
+      subst (λ (x : Entry). x.trace ≡ outcome_of m x.unit) (same_Some k e at) (ap (λ (x : Entry). x.trace) one.0),
+      sym (same_Some l ks parts) ∙ two.0 ∙ ap (λ (x : Entry). fresh_parts m x.unit) (same_Some k e at),
+    )
+at_moment m (k ∷ es) (l ∷ pss) (suc i) e ks fresh anew at parts =
     let next : Moment = behind m (outcome_of m k.unit) in
-    let one = heads k (record { unit = k.unit; trace = outcome_of m k.unit }) es (fresh_from next (units_of es)) fresh in
-    at_moment next es i e one.1 at
+    let one = heads k (entry_at m k.unit) es (fresh_from next (units_of es)) fresh in
+    let two = heads l (fresh_parts m k.unit) pss (fresh_parts_from next (units_of es)) anew in
+    at_moment next es pss i e ks one.1 two.1 at parts
+
+pub comes_to : {b : Bridged} {i : ℕ} {e : Entry} {ks : KeptParts} {fs : List Bool} → IsUnit b i e ks fs
+    → b.kept ≡ fresh_from beginning (units_of b.kept) → b.parts ≡ fresh_parts_from beginning (units_of b.kept)
+    → (n : Moment) × (e.trace ≡ outcome_of n e.unit) × (ks ≡ fresh_parts n e.unit)
+comes_to {b} {i} {e} {ks} {fs} at fresh anew =
+    at_moment beginning b.kept b.parts i e ks fresh anew at.entry at.parts
 
 pub small_value : AllSmall → AllAllowed → (m : Moment) (u : DocUnit) (o : Option WideTrace) → o ≡ outcome_of m u
     → size_of (plain (value_of o)) ≤ 1000000
@@ -242,29 +289,3 @@ small_value small allowed m u (Some trace) e =
     let fits = (small MOST_LEVELS (allowance m) (tagged_of u.tagged) (get m.env) trace (sym e)).0 in
     let most = (allowed MOST_LEVELS (allowance m) (tagged_of u.tagged) (get m.env) trace (sym e)).0 in
     omega (arith, fits, most)
-
--- ---- the one unit
-
-pub items_at : (width : ℕ) (kept : Kept) (xs : List Shown) (i : ℕ) (e : Entry) (d : Shown) (a b : Attrs)
-    (o : Option WideTrace) (n : ℕ) → kept ≡ fresh_from beginning (units_of kept) → AreLaid width kept xs
-    → slice_get kept i ≡ Some e → e.trace ≡ o → slice_get (laid_in xs) i ≡ Some None
-    → slice_set (laid_in xs) i (Some a) ≡ attributes_from beginning (units_of kept) → b ≡ a
-    → n ≡ items_in (paragraphs_at (slice_index_or xs i d).path b (value_of o))
-    → n ≡ unlaid_from beginning (units_of kept) (laid_in xs)
-items_at width kept xs i e d a b o n fresh laid at trace none ready same is =
-    is
-    ∙ ap (λ p. items_in (paragraphs_at p b (value_of o))) (laid_at width kept xs i e d laid at).path
-    ∙ ap (λ c. items_in (paragraphs_at e.unit.path c (value_of o))) same
-    ∙ ap (λ t. items_in (paragraphs_at e.unit.path a (value_of t))) (sym trace)
-    ∙ sym (one_laid beginning kept i e (laid_in xs) a fresh at none ready)
-
-pub laid_at_one : (width : ℕ) (kept : Kept) (xs : List Shown) (i : ℕ) (e : Entry) (d y : Shown) (b : Attrs)
-    (o : Option WideTrace) → AreLaid width kept xs → slice_get kept i ≡ Some e → e.trace ≡ o
-    → IsLaidOut width b (value_of o) (slice_index_or xs i d).path y → y.laid ≡ Some b
-    → AreLaid width kept (slice_set xs i y)
-laid_at_one width kept xs i e d y b o laid at trace out is =
-    let path = (laid_at width kept xs i e d laid at).path in
-    laid_set width kept xs i e y laid at (record {
-      path = out.shown.path_is ∙ path;
-      laid = λ a there. laid_by (same_Some b a (sym is ∙ there)) (ap value_of (sym trace)) path out;
-    })

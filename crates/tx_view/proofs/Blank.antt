@@ -15,10 +15,13 @@ use Rattle.tx_units.specs.declared.kinds.Unit.{Unit as DocUnit}
 use Rattle.tx_items.specs.declared.attributes.Attrs.{Attrs}
 use Rattle.tx_bridge.specs.Entries.{Kept, nothing_kept}
 use Rattle.tx_bridge.specs.Names.{Empty as EmptyKept, EmptyParts}
-use Rattle.tx_view.specs.declared.shown.Shown.{Shown}
-use Rattle.tx_view.specs.Laid.{AreLaid, IsBlank, AreBlank, laid_in}
+use Rattle.tx_bridge.specs.Nested.{KeptParts}
+use Rattle.tx_unit_layout.specs.LaidAts.{LaidAt, laid_at}
+use Rattle.tx_unit_layout.specs.declared.shown.Shown.{Shown}
+use Rattle.tx_view.specs.Laid.{AreLaid, IsBlank, AreBlank, laid_in, laid_parts_in}
 use Rattle.tx_view.proofs.Forgetting.{AllReadable}
 use Rattle.tx_view.proofs.Moved.{Reads, blank_reads}
+use Rattle.tx_view.proofs.OfParts.{blank_is_laid}
 
 more_blank : (us : List DocUnit) (xs : List Shown) (u : DocUnit) (x : Shown) → AreBlank us xs → IsBlank u.path x
     → AreBlank (us ++ u ∷ []) (xs ++ x ∷ [])
@@ -68,14 +71,20 @@ unfolding EmptyKept
 empty_is us = refl
 
 pub blank_laid : (width : ℕ) (us : List DocUnit) (xs : List Shown) → AreBlank us xs
-    → AreLaid width (nothing_kept us) xs
+    → AreLaid width (nothing_kept us) (map (λ u. []) us) xs
 blank_laid width [] [] h = tt
 blank_laid width [] (x ∷ xs) h = absurd h
 blank_laid width (u ∷ us) [] h = absurd h
-blank_laid width (u ∷ us) (x ∷ xs) h = (
-  record { path = h.0.path_is; laid = λ a is. absurd (let off : None ≡ Some a = sym h.0.laid ∙ is in cc) },
-  blank_laid width us xs h.1,
-)
+blank_laid width (u ∷ us) (x ∷ xs) h =
+    (blank_is_laid width (record { unit = u; trace = None }) [] x h.0, blank_laid width us xs h.1)
+
+pub blank_ats : (us : List DocUnit) (xs : List Shown) → AreBlank us xs
+    → laid_parts_in xs ≡ map {A = DocUnit} {B = List LaidAt} (λ u. []) us
+blank_ats [] [] h = refl
+blank_ats [] (x ∷ xs) h = absurd h
+blank_ats (u ∷ us) [] h = absurd h
+blank_ats (u ∷ us) (x ∷ xs) h =
+    ap (λ ps. map laid_at ps ∷ laid_parts_in xs) h.0.parts ∙ ap (λ lss. [] ∷ lss) (blank_ats us xs h.1)
 
 pub blank_attributes : (us : List DocUnit) (xs : List Shown) → AreBlank us xs
     → laid_in xs ≡ map {A = DocUnit} {B = Option Attrs} (λ u. None) us
@@ -95,8 +104,11 @@ pub blank_readable : (us : List DocUnit) (xs : List Shown) → AreBlank us xs �
 blank_readable us xs h = All-from_recursion Reads xs (each_blank_reads us xs h)
 
 -- as many are laid out as there are units
-pub as_many_laid : (width : ℕ) (es : Kept) (xs : List Shown) → AreLaid width es xs → length (laid_in xs) ≡ length es
-as_many_laid width [] [] h = refl
-as_many_laid width [] (x ∷ xs) h = absurd h
-as_many_laid width (e ∷ es) [] h = absurd h
-as_many_laid width (e ∷ es) (x ∷ xs) h = ap suc (as_many_laid width es xs h.1)
+pub as_many_laid : (width : ℕ) (es : Kept) (pss : List KeptParts) (xs : List Shown) → AreLaid width es pss xs
+    → length (laid_in xs) ≡ length es
+as_many_laid width [] [] [] h = refl
+as_many_laid width [] [] (x ∷ xs) h = absurd h
+as_many_laid width [] (ks ∷ pss) xs h = absurd h
+as_many_laid width (e ∷ es) [] xs h = absurd h
+as_many_laid width (e ∷ es) (ks ∷ pss) [] h = absurd h
+as_many_laid width (e ∷ es) (ks ∷ pss) (x ∷ xs) h = ap suc (as_many_laid width es pss xs h.1)

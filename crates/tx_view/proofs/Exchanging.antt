@@ -1,10 +1,11 @@
 -- The units after an edit that changes one paragraph alone.
-use Rattle.std.proofs.Common.{arith, ◌+◌, ◌≤◌, None, true}
-use Rattle.std.proofs.Common.{◌≡◌, ℕ, zero, suc, Bool, false, List, [], ◌∷◌, length, map, Option, Some, refl, sym, ap, subst, ◌∙◌}
+use Rattle.std.proofs.Common.{◌≡◌, ℕ, zero, suc, ◌+◌, ◌≤◌, Bool, true, false, List, [], ◌∷◌, length, map}
+use Rattle.std.proofs.Common.{Option, Some, None, refl, sym, ap, subst, ◌∙◌, arith}
 use Rattle.std.proofs.lemmas.Bool.{and_parts}
 use Rattle.std.specs.Option.{option_map, option_map_or}
-use Rattle.std.proofs.lemmas.Option.{slice_get-map}
-use Rattle.std.specs.Prelude.{◌&&◌, slice_get, if◌then◌else◌}
+use Rattle.std.proofs.lemmas.Bool.Decides.{Decides-eqb}
+use Rattle.std.proofs.lemmas.Option.{same_Some, slice_get-map}
+use Rattle.std.specs.Prelude.{◌&&◌, ◌==◌, is_some, slice_get, if◌then◌else◌}
 use Rattle.tx_tree.specs.WideTree.{WideTree}
 use Rattle.tx_mod.specs.declared.mods.Mod.{Mod}
 use Rattle.tx_mod.specs.Followed.{changed_by_all}
@@ -13,6 +14,7 @@ use Rattle.tx_doc.specs.declared.buffer.Buffer.{Buffer}
 use Rattle.tx_units.specs.declared.kinds.Unit.{Unit as DocUnit}
 use Rattle.tx_units.specs.Inside.{ChangesOne}
 use Rattle.tx_units.specs.Units.{units, units_with}
+use Rattle.tx_bridge.specs.Carrying.{HaveSameTrees}
 use Rattle.tx_bridge.specs.Entries.{Entry, Kept, units_of}
 use Rattle.tx_bridge.specs.InPlace.{IsOneChanged, NoneChanged, is_changed, is_gone, are_within, numbers_but}
 use Rattle.tx_bridge.specs.Names.{Carry, Sources}
@@ -136,23 +138,65 @@ many_with zero x (u ∷ us) = refl
 many_with (suc i) x (u ∷ us) = ap suc (many_with i x us)
 
 -- what is shown can stay in place
-pub target_with : (i : ℕ) (silent : Bool) (x : WideTree) (us vs : List DocUnit) (ss : List (Option ℕ)) → vs ≡ units_with i x us
-    → ss ≡ numbers_but i 0 (length us) → IsTarget us vs ss (InPlace i silent)
+pub target_with : (i : ℕ) (silent : Bool) (x : WideTree) (us vs : List DocUnit) (ss : List (Option ℕ))
+    → vs ≡ units_with i x us → ss ≡ numbers_but i 0 (length us) → IsTarget us vs ss (InPlace i silent)
 target_with i silent x us vs ss is numbers = (
   numbers ∙ ap (numbers_but i 0) (sym (ap length is ∙ many_with i x us)),
   ap (map (λ u. u.path)) is ∙ paths_with i x us,
 )
 
+-- the others have their trees
+others_same : (i j k m : ℕ) (x : WideTree) (us : List DocUnit) (u v : DocUnit) (n : ℕ) → i ≡ k + j
+    → slice_get us m ≡ Some u → slice_get (units_with j x us) m ≡ Some v
+    → slice_get (numbers_but i k n) m ≡ Some (Some (k + m)) → v ≡ u
+others_same i j k m x [] u v n is at there number = cc
+others_same i j k m x (w ∷ us) u v zero is at there number = cc
+others_same i zero k zero x (w ∷ us) u v (suc n) is at there number =
+    let here : k == i ≡ true = (Decides-eqb k i).1 (omega (arith, is)) in
+    absurd (none_here (k == i) here (same_Some (if k == i then None else Some k) (Some (k + 0)) number))
+  where
+    none_here : (b : Bool) → b ≡ true → (if b then None else Some k) ≡ Some (k + 0) → ⊥
+    none_here true e f = cc
+    none_here false e f = cc
+others_same i (suc j) k zero x (w ∷ us) u v (suc n) is at there number =
+    sym (some_same w v there) ∙ some_same w u at
+others_same i zero k (suc m) x (w ∷ us) u v (suc n) is at there number = some_same v u (sym there ∙ at)
+others_same i (suc j) k (suc m) x (w ∷ us) u v (suc n) is at there number =
+    others_same i j (k + 1) m x us u v n (omega (arith, is)) at there
+    (number ∙ ap (λ l. Some (Some l)) (let e : k + suc m ≡ k + 1 + m = omega arith in e))
+
+-- where number k + m is an old one, it is that of its number
+own_number : (i k n m l : ℕ) → slice_get (numbers_but i k n) m ≡ Some (Some l) → l ≡ k + m
+own_number i k zero m l e = cc
+own_number i k (suc n) zero l e = by (k == i) (same_Some (if k == i then None else Some k) (Some l) e)
+  where
+    by : (b : Bool) → (if b then None else Some k) ≡ Some l → l ≡ k + 0
+    by true f = cc
+    by false f = omega (arith, same_Some k l f)
+own_number i k (suc n) (suc m) l e = omega (arith, own_number i (k + 1) n m l e)
+
+pub same_with : (i n : ℕ) (x : WideTree) (us vs : List DocUnit) (ss : List (Option ℕ)) → vs ≡ units_with i x us
+    → ss ≡ numbers_but i 0 n → HaveSameTrees us vs ss
+same_with i n x us vs ss is numbers l m u v at there number =
+    let own : slice_get (numbers_but i 0 n) m ≡ Some (Some l) = ap (λ ts. slice_get ts m) (sym numbers) ∙ number in
+    let same : l ≡ m = omega (arith, own_number i 0 n m l own) in
+    let e : v ≡ u =
+    others_same i i 0 m x us u v n (omega arith) (ap (slice_get us) (sym same) ∙ at)
+    (ap (λ ws. slice_get ws m) (sym is) ∙ there)
+    (own ∙ ap (λ k. Some (Some k)) (let now : l ≡ 0 + m = omega (arith, same) in now)) in
+    (ap (λ (w : DocUnit). w.tagged.tree) e, ap (λ (w : DocUnit). is_some w.path) e)
+
 -- what is kept, and what is shown, is as it would be behind any edit
-pub record IsInPlace (buffer i : ℕ) (silent : Bool) (ms : List Mod) (t : WideTree) (kept new : Kept) (ss : List (Option ℕ))
-    (vs : List DocUnit) : Type 0 where
+pub record IsInPlace (buffer i : ℕ) (silent : Bool) (ms : List Mod) (t : WideTree) (kept new : Kept)
+    (ss : List (Option ℕ)) (vs : List DocUnit) : Type 0 where
   pub target : IsTarget (units_of kept) vs ss (InPlace i silent)
+  pub same_trees : HaveSameTrees (units_of kept) vs ss
   pub kept_is : new ≡ Carry buffer ms t kept vs
   pub sources : ss ≡ Sources buffer ms t (units_of kept) vs
   pub units_are : units_of new ≡ vs
 
-pub in_place : (buffer i : ℕ) (silent : Bool) (ms : List Mod) (t before x : WideTree) (kept new : Kept) (ss : List (Option ℕ))
-    (vs : List DocUnit) → buffer ≡ 0 → t ≡ before → vs ≡ units_with i x (units_of kept)
+pub in_place : (buffer i : ℕ) (silent : Bool) (ms : List Mod) (t before x : WideTree) (kept new : Kept)
+    (ss : List (Option ℕ)) (vs : List DocUnit) → buffer ≡ 0 → t ≡ before → vs ≡ units_with i x (units_of kept)
     → new ≡ Carry 0 ms before kept (units_with i x (units_of kept))
     → ss ≡ Sources 0 ms before (units_of kept) (units_with i x (units_of kept))
     → ss ≡ numbers_but i 0 (length (units_of kept)) → units_of new ≡ units_with i x (units_of kept)
@@ -161,6 +205,7 @@ in_place buffer i silent ms t before x kept new ss vs first at now carried sourc
     let us : List DocUnit = units_of kept in
     record {
       target = target_with i silent x us vs ss now numbers;
+      same_trees = same_with i (length us) x us vs ss now numbers;
       kept_is =
           carried ∙ ap (λ ws. Carry 0 ms before kept ws) (sym now) ∙ ap (λ w. Carry 0 ms w kept vs) (sym at)
           ∙ ap (λ k. Carry k ms t kept vs) (sym first);

@@ -18,18 +18,21 @@ use Rattle.tx_bridge.specs.Entries.{Entry, Kept, units_of, traces_of, fresh_from
 use Rattle.tx_bridge.specs.Carrying.{had, taken_from}
 use Rattle.tx_bridge.specs.InPlace.{numbers_but}
 use Rattle.tx_bridge.specs.Names.{Sources, Carry as CarryKept}
+use Rattle.tx_bridge.specs.Nested.{KeptParts}
 use Rattle.tx_view.specs.declared.carrying.Target.{Target}
 use Rattle.tx_view.specs.declared.carrying.Target.TheVariants.{InPlace}
-use Rattle.tx_view.specs.declared.shown.Shown.{Shown}
+use Rattle.tx_unit_layout.specs.declared.shown.Shown.{Shown}
 use Rattle.tx_view.specs.declared.view.View.TheInside.{Inside}
-use Rattle.tx_view.specs.Laid.{AreLaid, laid_in, StaysAs, StayBut, IsTarget, IsMoved, SetNoName}
+use Rattle.tx_view.specs.Laid.{AreLaid, laid_in, IsLeftBy, StayBut, IsTarget, IsMoved, SetNoName}
 use Rattle.tx_view.specs.Lone.{attributes_along, IsLone}
 use Rattle.tx_bridge.specs.Settled.{IsSilent}
 use Rattle.tx_view.specs.Names.{Fresh}
 use Rattle.tx_view.specs.Stores.{attributes_from}
-use Rattle.tx_view.specs.Units.{unit_view, unit_views}
+use Rattle.tx_view.specs.Units.{unit_views}
+use Rattle.tx_unit_layout.specs.Views.{unit_view}
 use Rattle.tx_view.specs.WholeViews.{IsKept, all_of}
-use Rattle.tx_view.proofs.Staying.{not_equal, are_equal, AreFrom, had_here, from_first, laid_many}
+use Rattle.tx_view.proofs.Staying.{not_equal, are_equal, AreFrom, had_here, from_first, laid_many, stays_same}
+use Rattle.tx_view.proofs.Staying.{stays_left, stay_behind}
 
 -- for which attributes a unit was laid out
 pub laid_there : (xs : List Shown) (i : ℕ) (d : Shown) (o : Option Attrs) → i < length xs
@@ -41,61 +44,44 @@ laid_there xs i d (Some a) inside is =
 
 -- ---- what stays of what is shown
 
-stays_same : (y x : Shown) (c : Bool) → c ≡ false → StaysAs c y x → x ≡ y
-stays_same y x true e h = cc
-stays_same y x false e h = h
-
-stays_unlaid : (y x : Shown) (c : Bool) → c ≡ true → StaysAs c y x → x.laid ≡ None
-stays_unlaid y x true e h = ap (λ (z : Shown). z.laid) h
-stays_unlaid y x false e h = cc
-
--- number i is none of these
-stay_behind : (i k : ℕ) (ys xs : List Shown) → i < k → StayBut i k ys xs → xs ≡ ys
-stay_behind i k [] [] less h = refl
-stay_behind i k [] (x ∷ xs) less h = absurd h
-stay_behind i k (y ∷ ys) [] less h = absurd h
-stay_behind i k (y ∷ ys) (x ∷ xs) less h =
-    ap (λ z. z ∷ xs) (stays_same y x (k == i) (not_equal k i (λ e. omega (arith, e, less))) h.0)
-    ∙ ap (λ zs. y ∷ zs) (stay_behind i (k + 1) ys xs (omega (arith, less)) h.1)
-
-put_back : (i k j : ℕ) (a : Attrs) (ys xs : List Shown) → i ≡ k + j → StayBut i k ys xs
+put_back : (ms : List Mod) (i k j : ℕ) (a : Attrs) (ys xs : List Shown) → i ≡ k + j → StayBut ms i k ys xs
     → slice_get (laid_in ys) j ≡ Some (Some a) → slice_set (laid_in xs) j (Some a) ≡ laid_in ys
-put_back i k j a [] xs e h at = cc
-put_back i k j a (y ∷ ys) [] e h at = absurd h
-put_back i k zero a (y ∷ ys) (x ∷ xs) e h at =
+put_back ms i k j a [] xs e h at = cc
+put_back ms i k j a (y ∷ ys) [] e h at = absurd h
+put_back ms i k zero a (y ∷ ys) (x ∷ xs) e h at =
     ap (λ b. b ∷ laid_in xs) (sym (same_Some y.laid (Some a) at))
-    ∙ ap (λ zs. y.laid ∷ laid_in zs) (stay_behind i (k + 1) ys xs (omega (arith, e)) h.1)
-put_back i k (suc j) a (y ∷ ys) (x ∷ xs) e h at =
+    ∙ ap (λ zs. y.laid ∷ laid_in zs) (stay_behind ms i (k + 1) ys xs (omega (arith, e)) h.1)
+put_back ms i k (suc j) a (y ∷ ys) (x ∷ xs) e h at =
     ap (λ (z : Shown). z.laid ∷ slice_set (laid_in xs) j (Some a))
-    (stays_same y x (k == i) (not_equal k i (λ f. omega (arith, e, f))) h.0)
-    ∙ ap (λ bs. y.laid ∷ bs) (put_back i (k + 1) j a ys xs (omega (arith, e)) h.1 at)
+    (stays_same ms y x (k == i) (not_equal k i (λ f. omega (arith, e, f))) h.0)
+    ∙ ap (λ bs. y.laid ∷ bs) (put_back ms i (k + 1) j a ys xs (omega (arith, e)) h.1 at)
 
-unlaid_there : (i k j : ℕ) (o : Option Attrs) (ys xs : List Shown) → i ≡ k + j → StayBut i k ys xs
-    → slice_get (laid_in ys) j ≡ Some o → slice_get (laid_in xs) j ≡ Some None
-unlaid_there i k j o [] xs e h at = cc
-unlaid_there i k j o (y ∷ ys) [] e h at = absurd h
-unlaid_there i k zero o (y ∷ ys) (x ∷ xs) e h at =
-    ap Some (stays_unlaid y x (k == i) (are_equal k i (omega (arith, e))) h.0)
-unlaid_there i k (suc j) o (y ∷ ys) (x ∷ xs) e h at =
-    unlaid_there i (k + 1) j o ys xs (omega (arith, e)) h.1 at
+unlaid_there : (ms : List Mod) (i k j : ℕ) (o : Option Attrs) (ys xs : List Shown) → i ≡ k + j
+    → StayBut ms i k ys xs → slice_get (laid_in ys) j ≡ Some o → slice_get (laid_in xs) j ≡ Some None
+unlaid_there ms i k j o [] xs e h at = cc
+unlaid_there ms i k j o (y ∷ ys) [] e h at = absurd h
+unlaid_there ms i k zero o (y ∷ ys) (x ∷ xs) e h at =
+    ap (λ (z : Shown). Some z.laid) (stays_left ms y x (k == i) (are_equal k i (omega (arith, e))) h.0)
+unlaid_there ms i k (suc j) o (y ∷ ys) (x ∷ xs) e h at =
+    unlaid_there ms i (k + 1) j o ys xs (omega (arith, e)) h.1 at
 
-same_view : (y x : Shown) (c : Bool) → StaysAs c y x → unit_view x ≡ unit_view y
-same_view y x true h = ap unit_view h
-same_view y x false h = ap unit_view h
+same_view : (ms : List Mod) (y x : Shown) (c : Bool) → IsLeftBy ms c y x → unit_view x ≡ unit_view y
+same_view ms y x true h = ap unit_view h
+same_view ms y x false h = ap unit_view h
 
-views_stay : (i k : ℕ) (ys xs : List Shown) → StayBut i k ys xs → unit_views xs ≡ unit_views ys
-views_stay i k [] [] h = refl
-views_stay i k [] (x ∷ xs) h = absurd h
-views_stay i k (y ∷ ys) [] h = absurd h
-views_stay i k (y ∷ ys) (x ∷ xs) h =
-    ap (λ z. z ∷ unit_views xs) (same_view y x (k == i) h.0)
-    ∙ ap (λ zs. unit_view y ∷ zs) (views_stay i (k + 1) ys xs h.1)
+views_stay : (ms : List Mod) (i k : ℕ) (ys xs : List Shown) → StayBut ms i k ys xs → unit_views xs ≡ unit_views ys
+views_stay ms i k [] [] h = refl
+views_stay ms i k [] (x ∷ xs) h = absurd h
+views_stay ms i k (y ∷ ys) [] h = absurd h
+views_stay ms i k (y ∷ ys) (x ∷ xs) h =
+    ap (λ z. z ∷ unit_views xs) (same_view ms y x (k == i) h.0)
+    ∙ ap (λ zs. unit_view y ∷ zs) (views_stay ms i (k + 1) ys xs h.1)
 
 -- what units show stays until they are laid out anew
-pub stay_views : (to : Target) (i : ℕ) (ss : List (Option ℕ)) (ys xs : List Shown) → to ≡ InPlace i true
-    → IsMoved to ss ys xs → unit_views xs ≡ unit_views ys
-stay_views to i ss ys xs is moved =
-    views_stay i 0 ys xs (subst (λ (o : Target). IsMoved o ss ys xs) is moved)
+pub stay_views : (ms : List Mod) (to : Target) (i : ℕ) (ss : List (Option ℕ)) (ys xs : List Shown)
+    → to ≡ InPlace i true → IsMoved ms to ss ys xs → unit_views xs ≡ unit_views ys
+stay_views ms to i ss ys xs is moved =
+    views_stay ms i 0 ys xs (subst (λ (o : Target). IsMoved ms o ss ys xs) is moved)
 
 -- ---- what is kept
 
@@ -190,37 +176,40 @@ laid_as_many (x ∷ xs) = ap suc (laid_as_many xs)
 pub laid_within : (xs : List Shown) (i : ℕ) (o : Option Attrs) → slice_get (laid_in xs) i ≡ Some o → i < length xs
 laid_within xs i o at = omega (arith, there_within (laid_in xs) i o at, laid_as_many xs)
 
-pub left_alone : (width buffer : ℕ) (ms : List Mod) (t : WideTree) (old new : Kept) (olds xs : List Shown)
-    (to : Target) (ss : List (Option ℕ)) (vs : List DocUnit) (i : ℕ) (a : Attrs) → AreLaid width old olds
-    → new ≡ CarryKept buffer ms t old vs → ss ≡ Sources buffer ms t (units_of old) vs
-    → IsTarget (units_of old) vs ss to → IsMoved to ss olds xs → SetNoName old to → to ≡ InPlace i true
+pub left_alone : (width buffer : ℕ) (ms : List Mod) (t : WideTree) (old new : Kept) (pss : List KeptParts)
+    (olds xs : List Shown) (to : Target) (ss : List (Option ℕ)) (vs : List DocUnit) (i : ℕ) (a : Attrs)
+    → AreLaid width old pss olds → new ≡ CarryKept buffer ms t old vs → ss ≡ Sources buffer ms t (units_of old) vs
+    → IsTarget (units_of old) vs ss to → IsMoved ms to ss olds xs → SetNoName old to → to ≡ InPlace i true
     → laid_in olds ≡ attributes_along empty (traces_of old) → slice_get (laid_in olds) i ≡ Some (Some a)
     → IsLone new xs i a
 unfolding CarryKept Sources
-left_alone width buffer ms t old new olds xs to ss vs i a laid is_new is_ss target moved silent is along at =
+left_alone width buffer ms t old new pss olds xs to ss vs i a laid is_new is_ss target moved silent is along at =
     let here : IsTarget (units_of old) vs ss (InPlace i true) =
     subst (λ (o : Target). IsTarget (units_of old) vs ss o) is target in
-    let stay : StayBut i 0 olds xs = subst (λ (o : Target). IsMoved o ss olds xs) is moved in
+    let stay : StayBut ms i 0 olds xs = subst (λ (o : Target). IsMoved ms o ss olds xs) is moved in
     let quiet = subst (λ (o : Target). SetNoName old o) is silent in
     let kept : traces_of new ≡ taken i 0 (traces_of old) vs =
     ap traces_of (is_new ∙ ap (λ ns. taken_from (traces_of old) ns vs) (sym is_ss ∙ here.0)) in
-    let many : length olds ≡ length vs = laid_many width old olds vs laid here.1 in
+    let many : length olds ≡ length vs = laid_many width old pss olds vs laid here.1 in
     let inside : i < length olds = laid_within olds i (Some a) at in
     record {
       nothing_kept =
           ap (λ ts. slice_get ts i) kept
           ∙ nothing_there i 0 i (traces_of old) vs (omega arith) (omega (arith, inside, many));
-      nothing_laid = unlaid_there i 0 i (Some a) olds xs (omega arith) stay at;
+      nothing_laid = unlaid_there ms i 0 i (Some a) olds xs (omega arith) stay at;
       attributes =
-          put_back i 0 i a olds xs (omega arith) stay at ∙ along
+          put_back ms i 0 i a olds xs (omega arith) stay at ∙ along
           ∙ sym (along_but i 0 i (traces_of old) (traces_of old) vs empty (omega arith) (from_first (traces_of old))
-          (as_many old ∙ sym (kept_many width old olds laid) ∙ many)
+          (as_many old ∙ sym (kept_many width old pss olds laid) ∙ many)
           (λ o there. let e = trace_at old i o there in subst IsSilent e.2 (quiet refl e.0 e.1)))
           ∙ ap (attributes_along empty) (sym kept);
     }
   where
-    kept_many : (w : ℕ) (es : Kept) (ys : List Shown) → AreLaid w es ys → length ys ≡ length es
-    kept_many w [] [] h = refl
-    kept_many w [] (y ∷ ys) h = absurd h
-    kept_many w (e ∷ es) [] h = absurd h
-    kept_many w (e ∷ es) (y ∷ ys) h = ap suc (kept_many w es ys h.1)
+    kept_many : (w : ℕ) (es : Kept) (qss : List KeptParts) (ys : List Shown) → AreLaid w es qss ys
+        → length ys ≡ length es
+    kept_many w [] [] [] h = refl
+    kept_many w [] [] (y ∷ ys) h = absurd h
+    kept_many w [] (ks ∷ qss) ys h = absurd h
+    kept_many w (e ∷ es) [] ys h = absurd h
+    kept_many w (e ∷ es) (ks ∷ qss) [] h = absurd h
+    kept_many w (e ∷ es) (ks ∷ qss) (y ∷ ys) h = ap suc (kept_many w es qss ys h.1)

@@ -7,7 +7,7 @@ use Rattle.std.specs.Prelude.{All}
 use Rattle.tx_layout.specs.declared.layout.Line.{Line}
 use Rattle.tx_layout.specs.Paging.{Unmarked}
 use Rattle.tx_view_form.specs.Views.{lines_of}
-use Rattle.tx_view.specs.declared.shown.Shown.{Shown}
+use Rattle.tx_unit_layout.specs.declared.shown.Shown.{Shown}
 use Rattle.tx_view.specs.Lone.{AreAlike, KeepPages}
 use Rattle.tx_view.specs.Units.{unit_views, sums_from, row_counts, error_counts}
 use Rattle.tx_view.proofs.Ends.{page_ends, same_pages}

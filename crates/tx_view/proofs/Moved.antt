@@ -1,14 +1,14 @@
 -- What is shown of units went with them.
 use Rattle.std.proofs.Common.{◌≡◌, ℕ, zero, suc, ◌+◌, ◌<◌, ◌≤◌, List, [], ◌∷◌, ◌++◌, length, take, drop, map, slice_set}
-use Rattle.std.proofs.Common.{slice_index_or, Bool, true, false, Option, Some, None, ◌⊎◌, inl, inr, refl, ap, sym}
+use Rattle.std.proofs.Common.{slice_index_or, true, false, Option, Some, None, refl, ap, sym}
 use Rattle.std.proofs.Common.{subst, ◌∙◌, arith}
 use Rattle.std.proofs.lemmas.List.{drop_more, drop-drop, drop-set-lt, append_assoc, append-nil, take_more_set, take_all}
 use Rattle.std.proofs.lemmas.List.{drop_all}
 use Rattle.std.proofs.lemmas.List.Elements.{recursion_from_All, All-from_recursion, All-nil}
-use Rattle.std.proofs.lemmas.Option.{same_Some, slice_get-map}
+use Rattle.std.proofs.lemmas.Option.{slice_get-map}
 use Rattle.std.specs.List.{All, AllByRecursion}
 use Rattle.std.specs.Option.{option_map, option_map_or}
-use Rattle.std.specs.Prelude.{slice_get, option_and_then, is_some, if◌then◌else◌}
+use Rattle.std.specs.Prelude.{slice_get, option_and_then, is_some}
 use Rattle.tx_tree.specs.WideTree.{WideTree}
 use Rattle.tx_mod.specs.declared.mods.Mod.{Mod}
 use Rattle.tx_origin.specs.Values.{WideValue}
@@ -21,22 +21,24 @@ use Rattle.tx_view_form.specs.Outcomes.{value_of}
 use Rattle.tx_view_form.specs.Positions.{IsShort}
 use Rattle.tx_view_form.specs.Views.{paragraphs_at}
 use Rattle.tx_bridge.specs.Entries.{Entry, Kept, units_of, traces_of}
-use Rattle.tx_bridge.specs.UnitLists.{IsPlaced}
-use Rattle.tx_bridge.specs.Carrying.{through, unit_places_after, is_path, number_at, same_unit, same_number, source}
-use Rattle.tx_bridge.specs.Carrying.{sources_from}
-use Rattle.tx_bridge.specs.Carrying.{had, taken_from, mods_of}
-use Rattle.tx_bridge.specs.Names.{Sources, Carry as CarryKept}
-use Rattle.tx_bridge.proofs.Slotting.{paths_alike}
-use Rattle.tx_view.specs.declared.shown.Shown.{Shown}
-use Rattle.tx_view.specs.Units.{unit_view, IsReadable}
-use Rattle.tx_view.specs.Laid.{IsLaid, IsLaidOut, AreLaid, IsBlank, AreBlank, laid_in, with_shown, shown_at, moved}
+use Rattle.tx_bridge.specs.Carrying.{unit_places_after, sources_from, had, taken_from, mods_of, HaveSameTrees}
+use Rattle.tx_bridge.specs.CarryingParts.{parts_from, carried_parts}
+use Rattle.tx_bridge.specs.Names.{Sources, Carry as CarryKept, CarryParts}
+use Rattle.tx_bridge.specs.Nested.{KeptParts}
+use Rattle.tx_unit_layout.specs.LaidAts.{LaidAt, laid_at}
+use Rattle.tx_unit_layout.specs.LaidUnits.{IsLaid, IsLaidOut}
+use Rattle.tx_unit_layout.specs.Views.{unit_view, IsReadable}
+use Rattle.tx_unit_layout.specs.declared.shown.Shown.{Shown}
+use Rattle.tx_view.specs.Exchanged.{laid_parts_of}
+use Rattle.tx_view.specs.Laid.{AreLaid, IsBlank, AreBlank, laid_in, laid_parts_in, taking_shown, source_shown, moved}
 use Rattle.tx_view.proofs.Forgetting.{AllReadable}
+use Rattle.tx_view.proofs.OfParts.{blank_is_laid, same_ats}
 
 -- ---- one new unit after the other
 
 moved_first : (ss : List (Option ℕ)) (old : List Shown) (j : ℕ) (x : Shown) (xs : List Shown)
     → moved (drop j ss) old (x ∷ xs)
-    ≡ with_shown x (shown_at old (option_and_then (λ s. s) (slice_get ss j))) ∷ moved (drop 1 (drop j ss)) old xs
+    ≡ taking_shown x (source_shown old (option_and_then (λ s. s) (slice_get ss j))) ∷ moved (drop 1 (drop j ss)) old xs
 moved_first [] old zero x xs = refl
 moved_first [] old (suc j) x xs = refl
 moved_first (s ∷ ss) old zero x xs = refl
@@ -60,7 +62,8 @@ giving_begins ss was before = record { given = refl; left = λ k h. refl }
 
 -- the old unit that the new one is was taken by none before
 here_left : (ss : List (Option ℕ)) (was old before now : List Shown) (j : ℕ) (s : Option ℕ) → AreOnce ss
-    → Giving ss was old before now j → s ≡ option_and_then (λ t. t) (slice_get ss j) → shown_at old s ≡ shown_at was s
+    → Giving ss was old before now j → s ≡ option_and_then (λ t. t) (slice_get ss j)
+    → source_shown old s ≡ source_shown was s
 here_left ss was old before now j None once g is = refl
 here_left ss was old before now j (Some i) once g is = by (slice_get ss j) refl
   where
@@ -72,15 +75,15 @@ here_left ss was old before now j (Some i) once g is = by (slice_get ss j) refl
 
 pub gives_next : (ss : List (Option ℕ)) (was old before now : List Shown) (j : ℕ) (s : Option ℕ) (d y : Shown)
     (rest : List Shown) → AreOnce ss → Giving ss was old before now j → j < length now
-    → s ≡ option_and_then (λ t. t) (slice_get ss j) → y ≡ with_shown (slice_index_or now j d) (shown_at old s)
+    → s ≡ option_and_then (λ t. t) (slice_get ss j) → y ≡ taking_shown (slice_index_or now j d) (source_shown old s)
     → ((k : ℕ) → (s ≡ Some k → ⊥) → slice_get rest k ≡ slice_get old k)
     → Giving ss was rest before (slice_set now j y) (j + 1)
 gives_next ss was old before now j s d y rest once g inside is made others =
     let x : Shown = slice_index_or now j d in
     let later : List Shown = drop (j + 1) now in
-    let all : y ≡ with_shown x (shown_at was (option_and_then (λ t. t) (slice_get ss j))) =
-    made ∙ ap (with_shown x) (here_left ss was old before now j s once g is)
-    ∙ ap (λ t. with_shown x (shown_at was t)) is in
+    let all : y ≡ taking_shown x (source_shown was (option_and_then (λ t. t) (slice_get ss j))) =
+    made ∙ ap (taking_shown x) (here_left ss was old before now j s once g is)
+    ∙ ap (λ t. taking_shown x (source_shown was t)) is in
     record {
       given =
           ap (λ xs. xs ++ moved (drop (j + 1) ss) was (drop (j + 1) (slice_set now j y))) (take_more_set now j y inside)
@@ -88,7 +91,7 @@ gives_next ss was old before now j s d y rest once g inside is made others =
           ∙ ap (λ xs. take j now ++ y ∷ moved (drop (j + 1) ss) was xs) (drop-set-lt (j + 1) now j y (omega arith))
           ∙ ap (λ z. take j now ++ z ∷ moved (drop (j + 1) ss) was later) all
           ∙ ap (λ ts. take j now
-          ++ with_shown x (shown_at was (option_and_then (λ t. t) (slice_get ss j))) ∷ moved ts was later)
+          ++ taking_shown x (source_shown was (option_and_then (λ t. t) (slice_get ss j))) ∷ moved ts was later)
           (sym (drop-drop 1 j ss))
           ∙ ap (λ xs. take j now ++ xs) (sym (moved_first ss was j x later))
           ∙ ap (λ xs. take j now ++ moved (drop j ss) was xs) (sym (drop_more now j d inside)) ∙ g.given;
@@ -114,103 +117,23 @@ giving_ends ss was old before now j g past =
     nothing [] = refl
     nothing (t ∷ ts) = refl
 
--- ---- a unit has a path where the old one that it is has one
+-- ---- a unit has the tree of the old one that it is
 
-abbrev pub Agree : List DocUnit → Option ℕ → DocUnit → Type 0
-Agree us s v = (i : ℕ) (u : DocUnit) → s ≡ Some i → slice_get us i ≡ Some u → is_some u.path ≡ is_some v.path
+-- and a path where that has one
+abbrev pub Same : List DocUnit → Option ℕ → DocUnit → Type 0
+Same us s v = (i : ℕ) (u : DocUnit) → s ≡ Some i → slice_get us i ≡ Some u
+    → (v.tagged.tree ≡ u.tagged.tree) × (is_some v.path ≡ is_some u.path)
 
-abbrev pub AllAgree : List DocUnit → List (Option ℕ) → List DocUnit → Type 0
-AllAgree us [] vs = Unit {0}
-AllAgree us (s ∷ ss) [] = Unit {0}
-AllAgree us (s ∷ ss) (v ∷ vs) = Agree us s v × AllAgree us ss vs
+abbrev pub AllSame : List DocUnit → List (Option ℕ) → List DocUnit → Type 0
+AllSame us [] vs = Unit {0}
+AllSame us (s ∷ ss) [] = Unit {0}
+AllSame us (s ∷ ss) (v ∷ vs) = Same us s v × AllSame us ss vs
 
-abbrev Found : List ℕ → ℕ → List (Option (List ℕ)) → ℕ → Type 0
-Found p k places i =
-    (n : ℕ) × (q : Option (List ℕ)) × (i ≡ k + n) × (slice_get places n ≡ Some q) × (is_path p q ≡ true)
-
-found_at : (p : List ℕ) (k : ℕ) (places : List (Option (List ℕ))) (found : Option ℕ) (i : ℕ)
-    → number_at p k places found ≡ Some i → (found ≡ Some i) ⊎ Found p k places i
-found_at p k [] found i h = inl h
-found_at p k (q ∷ places) found i h = by (found_at p (k + 1) places (if is_path p q then Some k else found) i h)
-  where
-    first : (b : Bool) → is_path p q ≡ b → (if b then Some k else found) ≡ Some i
-        → (found ≡ Some i) ⊎ Found p k (q ∷ places) i
-    first true e f = inr (0, q, omega (arith, same_Some k i f), refl, e)
-    first false e f = inl f
-
-    by : ((if is_path p q then Some k else found) ≡ Some i) ⊎ Found p (k + 1) places i
-        → (found ≡ Some i) ⊎ Found p k (q ∷ places) i
-    by (inl f) = first (is_path p q) refl f
-    by (inr f) = inr (suc f.0, f.1, omega (arith, f.2), f.3, f.4)
-
-abbrev nowhere : Option ℕ
-nowhere = None
-
-abbrev place_of : List Mod → WideTree → DocUnit → Option (List ℕ)
-place_of ms t u = through ms t u.path
-
-some_there : (ms : List Mod) (t : WideTree) (p : List ℕ) (o : Option (List ℕ)) → is_path p (through ms t o) ≡ true
-    → is_some o ≡ true
-some_there ms t p None h = cc
-some_there ms t p (Some q) h = refl
-
-agree_by_path : (ms : List Mod) (t : WideTree) (us : List DocUnit) (p : List ℕ) (i : ℕ) (u : DocUnit)
-    → number_at p 0 (unit_places_after ms t us) None ≡ Some i → slice_get us i ≡ Some u → is_some u.path ≡ true
-agree_by_path ms t us p i u h at = by (found_at p 0 (unit_places_after ms t us) None i h)
-  where
-    by : (nowhere ≡ Some i) ⊎ Found p 0 (unit_places_after ms t us) i → is_some u.path ≡ true
-    by (inl e) = cc
-    by (inr f) =
-        let same : f.0 ≡ i = omega (arith, f.2) in
-        let there : Some (through ms t u.path) ≡ Some f.1 =
-        sym (ap (option_map (place_of ms t)) at) ∙ sym (slice_get-map (place_of ms t) us i)
-        ∙ ap (slice_get (unit_places_after ms t us)) (sym same) ∙ f.3 in
-        some_there ms t p u.path
-        (ap (is_path p) (same_Some (through ms t u.path) f.1 there) ∙ f.4)
-
-agree_by_number : (us : List DocUnit) (j : ℕ) (v : DocUnit) (i : ℕ) (u : DocUnit) → AllByRecursion IsPlaced us
-    → IsPlaced v → same_number us j v ≡ Some i → slice_get us i ≡ Some u → is_some u.path ≡ is_some v.path
-agree_by_number us j v i u placed there h at = by (slice_get us j) refl
-  where
-    test : (w : DocUnit) (b : Bool) → same_unit w v ≡ b → (if b then Some j else None) ≡ Some i
-        → (same_unit w v ≡ true) × (j ≡ i)
-    test w true e f = (e, same_Some j i f)
-    test w false e f = cc
-
-    by : (o : Option DocUnit) → slice_get us j ≡ o → is_some u.path ≡ is_some v.path
-    by None e =
-        absurd (let off : None ≡ Some i =
-        sym (ap (option_and_then (λ w. if same_unit w v then Some j else None)) e) ∙ h in cc)
-    by (Some w) e =
-        let both : (same_unit w v ≡ true) × (j ≡ i) =
-        test w (same_unit w v) refl
-        (sym (ap (option_and_then (λ w. if same_unit w v then Some j else None)) e) ∙ h) in
-        let same : w ≡ u = same_Some w u (sym e ∙ ap (slice_get us) both.1 ∙ at) in
-        let here : IsPlaced u = placed_at us i u placed at in
-        paths_alike u v here there (ap (λ k. same_unit k v) (sym same) ∙ both.0)
-      where
-        placed_at : (xs : List DocUnit) (k : ℕ) (x : DocUnit) → AllByRecursion IsPlaced xs → slice_get xs k ≡ Some x
-            → IsPlaced x
-        placed_at [] k x all g = cc
-        placed_at (z ∷ xs) zero x all g = subst IsPlaced (same_Some z x g) all.0
-        placed_at (z ∷ xs) (suc k) x all g = placed_at xs k x all.1 g
-
-agree_one : (ms : List Mod) (t : WideTree) (us : List DocUnit) (j : ℕ) (v : DocUnit) → AllByRecursion IsPlaced us
-    → IsPlaced v → Agree us (source (unit_places_after ms t us) us j v) v
-agree_one ms t us j v placed there i u h at = by v.path refl h
-  where
-    by : (o : Option (List ℕ)) → v.path ≡ o
-        → option_map_or (λ p. number_at p 0 (unit_places_after ms t us) None) o (same_number us j v) ≡ Some i
-        → is_some u.path ≡ is_some v.path
-    by None e f = agree_by_number us j v i u placed there f at
-    by (Some p) e f = agree_by_path ms t us p i u f at ∙ sym (ap is_some e)
-
-pub agree_all : (ms : List Mod) (t : WideTree) (us : List DocUnit) (j : ℕ) (vs : List DocUnit)
-    → AllByRecursion IsPlaced us → AllByRecursion IsPlaced vs
-    → AllAgree us (sources_from (unit_places_after ms t us) us j vs) vs
-agree_all ms t us j [] placed all = tt
-agree_all ms t us j (v ∷ vs) placed all =
-    (agree_one ms t us j v placed all.0, agree_all ms t us (j + 1) vs placed all.1)
+pub all_same : (us vs : List DocUnit) (ss : List (Option ℕ)) → HaveSameTrees us vs ss → AllSame us ss vs
+all_same us vs [] h = tt
+all_same us [] (s ∷ ss) h = tt
+all_same us (v ∷ vs) (s ∷ ss) h =
+    (λ i u is at. h i 0 u v at refl (ap Some is), all_same us vs ss (λ i j. h i (suc j)))
 
 pub sources_many : (places : List (Option (List ℕ))) (us : List DocUnit) (j : ℕ) (vs : List DocUnit)
     → length (sources_from places us j vs) ≡ length vs
@@ -242,54 +165,59 @@ out_there width a v p q r y e is h = record {
 abbrev entry : DocUnit → Option WideTrace → Entry
 entry v o = record { unit = v; trace = o }
 
-one_moved : (width : ℕ) (old : Kept) (olds : List Shown) (s : Option ℕ) (v : DocUnit) (x : Shown)
-    → AreLaid width old olds → IsBlank v.path x → Agree (units_of old) s v
-    → IsLaid width (entry v (had (traces_of old) s)) (with_shown x (shown_at olds s))
-one_moved width old olds None v x laid blank agree = record {
-  path = blank.path_is;
-  laid = λ a is. absurd (let off : None ≡ Some a = sym blank.laid ∙ is in cc);
-}
-one_moved width old olds (Some i) v x laid blank agree = by old olds i laid (λ u. agree i u refl)
+one_moved : (width : ℕ) (old : Kept) (pss : List KeptParts) (olds : List Shown) (s : Option ℕ) (v : DocUnit)
+    (x : Shown) → AreLaid width old pss olds → IsBlank v.path x → Same (units_of old) s v
+    → IsLaid width (entry v (had (traces_of old) s)) (parts_from pss s) (parts_from pss s)
+    (taking_shown x (source_shown olds s))
+one_moved width old pss olds None v x laid blank same = blank_is_laid width (entry v None) [] x blank
+one_moved width old pss olds (Some i) v x laid blank same = by old pss olds i laid (λ u. same i u refl)
   where
-    by : (es : Kept) (ys : List Shown) (k : ℕ) → AreLaid width es ys
-        → ((u : DocUnit) → slice_get (units_of es) k ≡ Some u → is_some u.path ≡ is_some v.path)
+    by : (es : Kept) (qss : List KeptParts) (ys : List Shown) (k : ℕ) → AreLaid width es qss ys
+        → ((u : DocUnit) → slice_get (units_of es) k ≡ Some u
+        → (v.tagged.tree ≡ u.tagged.tree) × (is_some v.path ≡ is_some u.path))
         → IsLaid width (entry v (option_and_then (λ o. o) (slice_get (traces_of es) k)))
-        (with_shown x (slice_get ys k))
-    by [] [] k h same = record {
-      path = blank.path_is;
-      laid = λ a is. absurd (let off : None ≡ Some a = sym blank.laid ∙ is in cc);
-    }
-    by [] (y ∷ ys) k h same = absurd h
-    by (e ∷ es) [] k h same = absurd h
-    by (e ∷ es) (y ∷ ys) zero h same = record {
-      path = blank.path_is;
-      laid = λ a is.
-          out_there width a (value_of e.trace) e.unit.path v.path x.path y (same e.unit refl) blank.path_is
-          (h.0.laid a is);
-    }
-    by (e ∷ es) (y ∷ ys) (suc k) h same = by es ys k h.1 same
+        (option_map_or (λ ks. ks) (slice_get qss k) []) (option_map_or (λ ks. ks) (slice_get qss k) [])
+        (taking_shown x (slice_get ys k))
+    by [] [] [] k h alike = blank_is_laid width (entry v None) [] x blank
+    by [] [] (y ∷ ys) k h alike = absurd h
+    by [] (ks ∷ qss) ys k h alike = absurd h
+    by (e ∷ es) [] ys k h alike = absurd h
+    by (e ∷ es) (ks ∷ qss) [] k h alike = absurd h
+    by (e ∷ es) (ks ∷ qss) (y ∷ ys) zero h alike =
+        let both = alike e.unit refl in
+        record {
+          path = blank.path_is;
+          laid = λ a is.
+              out_there width a (value_of e.trace) e.unit.path v.path x.path y (sym both.1) blank.path_is
+              (h.0.laid a is);
+          by_parts = λ a is. h.0.by_parts a is ∙ same_ats a ks e.trace e.unit v both.0 both.1;
+          same = λ a is. refl;
+          parts = h.0.parts;
+        }
+    by (e ∷ es) (ks ∷ qss) (y ∷ ys) (suc k) h alike = by es qss ys k h.1 alike
 
-pub all_moved : (width : ℕ) (old : Kept) (olds : List Shown) (ss : List (Option ℕ)) (vs : List DocUnit)
-    (xs : List Shown) → AreLaid width old olds → AreBlank vs xs → AllAgree (units_of old) ss vs
-    → length ss ≡ length vs → AreLaid width (taken_from (traces_of old) ss vs) (moved ss olds xs)
-all_moved width old olds [] [] [] laid blank agree many = tt
-all_moved width old olds [] [] (x ∷ xs) laid blank agree many = absurd blank
-all_moved width old olds [] (v ∷ vs) xs laid blank agree many = absurd (omega (arith, many))
-all_moved width old olds (s ∷ ss) [] xs laid blank agree many = absurd (omega (arith, many))
-all_moved width old olds (s ∷ ss) (v ∷ vs) [] laid blank agree many = absurd blank
-all_moved width old olds (s ∷ ss) (v ∷ vs) (x ∷ xs) laid blank agree many = (
-  one_moved width old olds s v x laid blank.0 agree.0,
-  all_moved width old olds ss vs xs laid blank.1 agree.1 (omega (arith, many)),
+pub all_moved : (width : ℕ) (old : Kept) (pss : List KeptParts) (olds : List Shown) (ss : List (Option ℕ))
+    (vs : List DocUnit) (xs : List Shown) → AreLaid width old pss olds → AreBlank vs xs
+    → AllSame (units_of old) ss vs → length ss ≡ length vs
+    → AreLaid width (taken_from (traces_of old) ss vs) (carried_parts pss ss) (moved ss olds xs)
+all_moved width old pss olds [] [] [] laid blank same many = tt
+all_moved width old pss olds [] [] (x ∷ xs) laid blank same many = absurd blank
+all_moved width old pss olds [] (v ∷ vs) xs laid blank same many = absurd (omega (arith, many))
+all_moved width old pss olds (s ∷ ss) [] xs laid blank same many = absurd (omega (arith, many))
+all_moved width old pss olds (s ∷ ss) (v ∷ vs) [] laid blank same many = absurd blank
+all_moved width old pss olds (s ∷ ss) (v ∷ vs) (x ∷ xs) laid blank same many = (
+  one_moved width old pss olds s v x laid blank.0 same.0,
+  all_moved width old pss olds ss vs xs laid blank.1 same.1 (omega (arith, many)),
 )
 
 laid_one : (olds : List Shown) (s : Option ℕ) (path : Option (List ℕ)) (x : Shown) → IsBlank path x
-    → (with_shown x (shown_at olds s)).laid ≡ had (laid_in olds) s
+    → (taking_shown x (source_shown olds s)).laid ≡ had (laid_in olds) s
 laid_one olds None path x blank = blank.laid
 laid_one olds (Some i) path x blank =
     by (slice_get olds i)
     ∙ ap (option_and_then (λ a. a)) (sym (slice_get-map (λ (y : Shown). y.laid) olds i))
   where
-    by : (o : Option Shown) → (with_shown x o).laid ≡ option_and_then (λ a. a) (option_map (λ y. y.laid) o)
+    by : (o : Option Shown) → (taking_shown x o).laid ≡ option_and_then (λ a. a) (option_map (λ y. y.laid) o)
     by None = blank.laid
     by (Some y) = refl
 
@@ -303,6 +231,29 @@ laid_moved olds (s ∷ ss) (v ∷ vs) [] blank many = absurd blank
 laid_moved olds (s ∷ ss) (v ∷ vs) (x ∷ xs) blank many =
     ap (λ a. a ∷ laid_in (moved ss olds xs)) (laid_one olds s v.path x blank.0)
     ∙ ap (λ bs. had (laid_in olds) s ∷ bs) (laid_moved olds ss vs xs blank.1 (omega (arith, many)))
+
+ats_one : (olds : List Shown) (s : Option ℕ) (path : Option (List ℕ)) (x : Shown) → IsBlank path x
+    → map laid_at (taking_shown x (source_shown olds s)).parts ≡ laid_parts_of (laid_parts_in olds) s
+ats_one olds None path x blank = ap (map laid_at) blank.parts
+ats_one olds (Some i) path x blank =
+    by (slice_get olds i)
+    ∙ ap (λ o. option_map_or (λ ls. ls) o []) (sym (slice_get-map (λ (y : Shown). map laid_at y.parts) olds i))
+  where
+    by : (o : Option Shown) → map laid_at (taking_shown x o).parts
+        ≡ option_map_or (λ ls. ls) (option_map (λ (y : Shown). map laid_at y.parts) o) []
+    by None = ap (map laid_at) blank.parts
+    by (Some y) = refl
+
+pub ats_moved : (olds : List Shown) (ss : List (Option ℕ)) (vs : List DocUnit) (xs : List Shown) → AreBlank vs xs
+    → length ss ≡ length vs → laid_parts_in (moved ss olds xs) ≡ map (laid_parts_of (laid_parts_in olds)) ss
+ats_moved olds [] [] [] blank many = refl
+ats_moved olds [] [] (x ∷ xs) blank many = absurd blank
+ats_moved olds [] (v ∷ vs) xs blank many = absurd (omega (arith, many))
+ats_moved olds (s ∷ ss) [] xs blank many = absurd (omega (arith, many))
+ats_moved olds (s ∷ ss) (v ∷ vs) [] blank many = absurd blank
+ats_moved olds (s ∷ ss) (v ∷ vs) (x ∷ xs) blank many =
+    ap (λ ls. ls ∷ laid_parts_in (moved ss olds xs)) (ats_one olds s v.path x blank.0)
+    ∙ ap (λ lss. laid_parts_of (laid_parts_in olds) s ∷ lss) (ats_moved olds ss vs xs blank.1 (omega (arith, many)))
 
 abbrev pub Reads : Shown → Type 0
 Reads x = IsReadable (unit_view x)
@@ -322,71 +273,82 @@ none_where : (p q : Option (List ℕ)) → is_some p ≡ is_some q → q ≡ Non
 none_where None q e f = refl
 none_where (Some p) q e f = let off : true ≡ false = e ∙ ap is_some f in cc
 
-one_reads : (width : ℕ) (old : Kept) (olds : List Shown) (s : Option ℕ) (v : DocUnit) (x : Shown)
-    → AreLaid width old olds → AllByRecursion Reads olds → IsBlank v.path x → Agree (units_of old) s v
-    → Reads (with_shown x (shown_at olds s))
-one_reads width old olds None v x laid reads blank agree = blank_reads v.path x blank
-one_reads width old olds (Some i) v x laid reads blank agree = by old olds i laid reads (λ u. agree i u refl)
+one_reads : (width : ℕ) (old : Kept) (pss : List KeptParts) (olds : List Shown) (s : Option ℕ) (v : DocUnit)
+    (x : Shown) → AreLaid width old pss olds → AllByRecursion Reads olds → IsBlank v.path x → Same (units_of old) s v
+    → Reads (taking_shown x (source_shown olds s))
+one_reads width old pss olds None v x laid reads blank same = blank_reads v.path x blank
+one_reads width old pss olds (Some i) v x laid reads blank same =
+    by old pss olds i laid reads (λ u at. sym (same i u refl at).1)
   where
-    by : (es : Kept) (ys : List Shown) (k : ℕ) → AreLaid width es ys → AllByRecursion Reads ys
+    by : (es : Kept) (qss : List KeptParts) (ys : List Shown) (k : ℕ) → AreLaid width es qss ys
+        → AllByRecursion Reads ys
         → ((u : DocUnit) → slice_get (units_of es) k ≡ Some u → is_some u.path ≡ is_some v.path)
-        → Reads (with_shown x (slice_get ys k))
-    by [] [] k h r same = blank_reads v.path x blank
-    by [] (y ∷ ys) k h r same = absurd h
-    by (e ∷ es) [] k h r same = absurd h
-    by (e ∷ es) (y ∷ ys) zero h r same = record {
+        → Reads (taking_shown x (slice_get ys k))
+    by [] [] [] k h r alike = blank_reads v.path x blank
+    by [] [] (y ∷ ys) k h r alike = absurd h
+    by [] (ks ∷ qss) ys k h r alike = absurd h
+    by (e ∷ es) [] ys k h r alike = absurd h
+    by (e ∷ es) (ks ∷ qss) [] k h r alike = absurd h
+    by (e ∷ es) (ks ∷ qss) (y ∷ ys) zero h r alike = record {
       placed = λ none.
-          r.0.placed (h.0.path ∙ none_where e.unit.path v.path (same e.unit refl) (sym blank.path_is ∙ none));
+          r.0.placed (h.0.path ∙ none_where e.unit.path v.path (alike e.unit refl) (sym blank.path_is ∙ none));
       short = r.0.short;
       short_items = r.0.short_items;
     }
-    by (e ∷ es) (y ∷ ys) (suc k) h r same = by es ys k h.1 r.1 same
+    by (e ∷ es) (ks ∷ qss) (y ∷ ys) (suc k) h r alike = by es qss ys k h.1 r.1 alike
 
-each_reads : (width : ℕ) (old : Kept) (olds : List Shown) (ss : List (Option ℕ)) (vs : List DocUnit)
-    (xs : List Shown) → AreLaid width old olds → AllByRecursion Reads olds → AreBlank vs xs
-    → AllAgree (units_of old) ss vs → length ss ≡ length vs → AllByRecursion Reads (moved ss olds xs)
-each_reads width old olds [] [] [] laid reads blank agree many = tt
-each_reads width old olds [] [] (x ∷ xs) laid reads blank agree many = absurd blank
-each_reads width old olds [] (v ∷ vs) xs laid reads blank agree many = absurd (omega (arith, many))
-each_reads width old olds (s ∷ ss) [] xs laid reads blank agree many = absurd (omega (arith, many))
-each_reads width old olds (s ∷ ss) (v ∷ vs) [] laid reads blank agree many = absurd blank
-each_reads width old olds (s ∷ ss) (v ∷ vs) (x ∷ xs) laid reads blank agree many = (
-  one_reads width old olds s v x laid reads blank.0 agree.0,
-  each_reads width old olds ss vs xs laid reads blank.1 agree.1 (omega (arith, many)),
+each_reads : (width : ℕ) (old : Kept) (pss : List KeptParts) (olds : List Shown) (ss : List (Option ℕ))
+    (vs : List DocUnit) (xs : List Shown) → AreLaid width old pss olds → AllByRecursion Reads olds → AreBlank vs xs
+    → AllSame (units_of old) ss vs → length ss ≡ length vs → AllByRecursion Reads (moved ss olds xs)
+each_reads width old pss olds [] [] [] laid reads blank same many = tt
+each_reads width old pss olds [] [] (x ∷ xs) laid reads blank same many = absurd blank
+each_reads width old pss olds [] (v ∷ vs) xs laid reads blank same many = absurd (omega (arith, many))
+each_reads width old pss olds (s ∷ ss) [] xs laid reads blank same many = absurd (omega (arith, many))
+each_reads width old pss olds (s ∷ ss) (v ∷ vs) [] laid reads blank same many = absurd blank
+each_reads width old pss olds (s ∷ ss) (v ∷ vs) (x ∷ xs) laid reads blank same many = (
+  one_reads width old pss olds s v x laid reads blank.0 same.0,
+  each_reads width old pss olds ss vs xs laid reads blank.1 same.1 (omega (arith, many)),
 )
 
-pub all_read : (width : ℕ) (old : Kept) (olds : List Shown) (ss : List (Option ℕ)) (vs : List DocUnit)
-    (xs : List Shown) → AreLaid width old olds → AllReadable olds → AreBlank vs xs → AllAgree (units_of old) ss vs
-    → length ss ≡ length vs → AllReadable (moved ss olds xs)
-all_read width old olds ss vs xs laid reads blank agree many =
+pub all_read : (width : ℕ) (old : Kept) (pss : List KeptParts) (olds : List Shown) (ss : List (Option ℕ))
+    (vs : List DocUnit) (xs : List Shown) → AreLaid width old pss olds → AllReadable olds → AreBlank vs xs
+    → AllSame (units_of old) ss vs → length ss ≡ length vs → AllReadable (moved ss olds xs)
+all_read width old pss olds ss vs xs laid reads blank same many =
     All-from_recursion Reads (moved ss olds xs)
-    (each_reads width old olds ss vs xs laid (recursion_from_All Reads olds reads) blank agree many)
+    (each_reads width old pss olds ss vs xs laid (recursion_from_All Reads olds reads) blank same many)
 
 -- ---- an edit of a buffer
 
-pub record IsCarried (width : ℕ) (new : Kept) (laid : List (Option Attrs)) (xs : List Shown) : Type 0 where
-  pub laid_out : AreLaid width new xs
+pub record IsCarried (width : ℕ) (new : Kept) (parts : List KeptParts) (laid : List (Option Attrs))
+    (lss : List (List LaidAt)) (xs : List Shown) : Type 0 where
+  pub laid_out : AreLaid width new parts xs
   pub readable : AllReadable xs
   pub attributes : laid_in xs ≡ laid
+  pub laid_parts : laid_parts_in xs ≡ lss
 
-pub carried_on : (width buffer : ℕ) (ms : List Mod) (t : WideTree) (old new : Kept) (olds blanks xs : List Shown)
-    (ss : List (Option ℕ)) (vs : List DocUnit) → AreLaid width old olds → AllReadable olds → AreBlank vs blanks
-    → AllByRecursion IsPlaced (units_of old) → AllByRecursion IsPlaced vs → new ≡ CarryKept buffer ms t old vs
-    → ss ≡ Sources buffer ms t (units_of old) vs → xs ≡ moved ss olds blanks
-    → IsCarried width new (map (had (laid_in olds)) (Sources buffer ms t (units_of old) vs)) xs
-unfolding CarryKept Sources
-carried_on width buffer ms t old new olds blanks xs ss vs laid reads blank placed there is_new is_ss is_xs =
+pub carried_on : (width buffer : ℕ) (ms : List Mod) (t : WideTree) (old new : Kept) (pss qss : List KeptParts)
+    (olds blanks xs : List Shown) (ss : List (Option ℕ)) (vs : List DocUnit) → AreLaid width old pss olds
+    → AllReadable olds → AreBlank vs blanks → HaveSameTrees (units_of old) vs ss → new ≡ CarryKept buffer ms t old vs
+    → qss ≡ CarryParts pss ss → ss ≡ Sources buffer ms t (units_of old) vs → xs ≡ moved ss olds blanks
+    → IsCarried width new qss (map (had (laid_in olds)) (Sources buffer ms t (units_of old) vs))
+    (map (laid_parts_of (laid_parts_in olds)) (Sources buffer ms t (units_of old) vs)) xs
+unfolding CarryKept CarryParts Sources
+carried_on width buffer ms t old new pss qss olds blanks xs ss vs laid reads blank trees is_new is_parts is_ss is_xs =
     let us : List DocUnit = units_of old in
     let places = unit_places_after (mods_of buffer ms) t us in
     let firsts : List (Option ℕ) = sources_from places us 0 vs in
-    let agree : AllAgree us firsts vs = agree_all (mods_of buffer ms) t us 0 vs placed there in
+    let same : AllSame us firsts vs =
+    all_same us vs firsts (subst (λ (ts : List (Option ℕ)). HaveSameTrees us vs ts) is_ss trees) in
     let many : length firsts ≡ length vs = sources_many places us 0 vs in
-    let same : xs ≡ moved firsts olds blanks = is_xs ∙ ap (λ ts. moved ts olds blanks) is_ss in
+    let are : xs ≡ moved firsts olds blanks = is_xs ∙ ap (λ ts. moved ts olds blanks) is_ss in
+    let parts : qss ≡ carried_parts pss firsts = is_parts ∙ ap (carried_parts pss) is_ss in
     record {
       laid_out =
-          subst (λ (es : Kept). AreLaid width es xs) (sym is_new)
-          (subst (AreLaid width (taken_from (traces_of old) firsts vs)) (sym same)
-          (all_moved width old olds firsts vs blanks laid blank agree many));
-      readable = subst AllReadable (sym same) (all_read width old olds firsts vs blanks laid reads blank agree many);
-      attributes = ap laid_in same ∙ laid_moved olds firsts vs blanks blank many;
+          subst (λ (es : Kept). AreLaid width es qss xs) (sym is_new)
+          (subst (λ (js : List KeptParts). AreLaid width (taken_from (traces_of old) firsts vs) js xs) (sym parts)
+          (subst (AreLaid width (taken_from (traces_of old) firsts vs) (carried_parts pss firsts)) (sym are)
+          (all_moved width old pss olds firsts vs blanks laid blank same many)));
+      readable = subst AllReadable (sym are) (all_read width old pss olds firsts vs blanks laid reads blank same many);
+      attributes = ap laid_in are ∙ laid_moved olds firsts vs blanks blank many;
+      laid_parts = ap laid_parts_in are ∙ ats_moved olds firsts vs blanks blank many;
     }

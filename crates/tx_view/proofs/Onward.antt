@@ -1,19 +1,20 @@
 -- Units laid out up to some number.
-use Rattle.std.proofs.Common.{◌≡◌, ℕ, zero, suc, ◌+◌, ◌*◌, ◌<◌, ◌≤◌, ◌^◌, List, [], ◌∷◌, ◌++◌, length, take, drop}
-use Rattle.std.proofs.Common.{slice_index_or, slice_set, Bool, true, false, Option, Some, None}
+use Rattle.std.proofs.Common.{◌≡◌, ℕ, zero, suc, ◌+◌, ◌*◌, ◌<◌, ◌≤◌, ◌^◌, List, [], ◌∷◌, ◌++◌, length, take, drop, map}
+use Rattle.std.proofs.Common.{slice_index_or, slice_set, Bool, Option, Some, None}
 use Rattle.std.proofs.Common.{refl, ap, sym, subst, ◌∙◌, arith, length-append}
 use Rattle.std.proofs.lemmas.List.{drop_more, drop-set-lt, append_assoc, append-nil, take_more_set, take_all}
 use Rattle.std.proofs.lemmas.List.{drop_all, map_push, length-take-le}
 use Rattle.std.proofs.lemmas.List.Concat.{flat_map-append, length-flat_map}
 use Rattle.std.proofs.lemmas.List.Elements.{All-set}
 use Rattle.std.proofs.lemmas.Option.{same_Some}
-use Rattle.std.specs.List.{flat_map}
+use Rattle.std.specs.List.{All, flat_map}
 use Rattle.std.specs.Option.{option_map}
 use Rattle.std.specs.Prelude.{slice_get, if◌then◌else◌}
 use Rattle.tx_tree.proofs.Walks.{drop_item}
 use Rattle.tx_tree.specs.WideTree.{size_of}
 use Rattle.tx_origin.specs.Values.{WideValue, plain}
 use Rattle.tx_exec_form.specs.Evaluated.{WideTrace}
+use Rattle.tx_units.specs.declared.kinds.Unit.{Unit as DocUnit}
 use Rattle.tx_items.specs.declared.attributes.Attrs.{Attrs}
 use Rattle.tx_items.specs.declared.drawing.Paragraph.{Paragraph}
 use Rattle.tx_items.specs.Shows.{shown_paragraphs}
@@ -22,35 +23,82 @@ use Rattle.tx_view_form.specs.Started.{attributes_of}
 use Rattle.tx_view_form.specs.Views.{UnitView, IsShown, AreShown, lines_of, paragraphs_at}
 use Rattle.tx_view_form.specs.Errors.{errors_of}
 use Rattle.tx_view_form.specs.Weights.{weight_of}
+use Rattle.tx_bridge.specs.Bridged.{Bridged}
 use Rattle.tx_bridge.specs.Entries.{Entry, Kept, units_of, fresh_from, outcome_of}
 use Rattle.tx_bridge.specs.Moments.{IsPaid}
-use Rattle.tx_bridge.proofs.Used.{AllAllowed}
-use Rattle.tx_view.specs.declared.shown.Shown.{Shown}
-use Rattle.tx_view.specs.Units.{unit_view, unit_views, IsReadable}
+use Rattle.tx_bridge.specs.Nested.{KeptParts, fresh_parts, fresh_parts_from}
+use Rattle.tx_part_layout.specs.LaidParts.{is_before, items_in}
+use Rattle.tx_unit_layout.specs.declared.shown.Shown.{Shown}
+use Rattle.tx_unit_layout.specs.LaidAts.{LaidAt, laid_at, unit_items_anew}
+use Rattle.tx_unit_layout.specs.LaidUnits.{IsLaidOut, WasLaid}
+use Rattle.tx_unit_layout.specs.Views.{unit_view, IsReadable}
+use Rattle.tx_view.specs.Costs.{entry_at}
+use Rattle.tx_view.specs.Laid.{IsNext, IsUnit, WereLaid, laid_in, items_unlaid, items_unlaid_from}
 use Rattle.tx_view.specs.Stores.{attributes_from}
-use Rattle.tx_part_layout.specs.LaidParts.{is_before}
-use Rattle.tx_view.specs.Costs.{items_of}
-use Rattle.tx_part_layout.specs.LaidParts.{items_in}
-use Rattle.tx_view.specs.Laid.{IsLaid, IsLaidOut, IsNext, AreLaid, laid_in, unlaid_from}
-use Rattle.tx_view.proofs.Forgetting.{AllReadable}
+use Rattle.tx_view.specs.Units.{unit_views}
 use Rattle.tx_view.proofs.Few.{few_lines, few_errors}
 use Rattle.tx_view.proofs.UnitRows.{placed_errors, as_many_errors}
 
+-- ---- how many units there are
+
+-- as many as are kept, with parts and flags
+pub record AreMany (kept : Kept) (pss : List KeptParts) (fss : List (List Bool)) (xs : List Shown) : Type 0 where
+  pub shown : length xs ≡ length kept
+  pub parts : length pss ≡ length kept
+  pub flags : length fss ≡ length kept
+
+pub are_many : (width : ℕ) (kept : Kept) (pss : List KeptParts) (fss : List (List Bool)) (xs : List Shown)
+    → WereLaid width kept pss fss xs → AreMany kept pss fss xs
+are_many width [] [] [] [] h = record { shown = refl; parts = refl; flags = refl }
+are_many width [] [] [] (x ∷ xs) h = absurd h
+are_many width [] [] (fs ∷ fss) xs h = absurd h
+are_many width [] (ks ∷ pss) fss xs h = absurd h
+are_many width (e ∷ es) [] fss xs h = absurd h
+are_many width (e ∷ es) (ks ∷ pss) [] xs h = absurd h
+are_many width (e ∷ es) (ks ∷ pss) (fs ∷ fss) [] h = absurd h
+are_many width (e ∷ es) (ks ∷ pss) (fs ∷ fss) (x ∷ xs) h =
+    let m = are_many width es pss fss xs h.1 in
+    record { shown = ap suc m.shown; parts = ap suc m.parts; flags = ap suc m.flags }
+
+pub laid_many : (width : ℕ) (kept : Kept) (pss : List KeptParts) (fss : List (List Bool)) (xs : List Shown)
+    → WereLaid width kept pss fss xs → length xs ≡ length kept
+laid_many width kept pss fss xs h = (are_many width kept pss fss xs h).shown
+
 -- ---- what is shown of one unit
 
-pub laid_many : (width : ℕ) (kept : Kept) (xs : List Shown) → AreLaid width kept xs → length xs ≡ length kept
-laid_many width [] [] h = refl
-laid_many width [] (x ∷ xs) h = absurd h
-laid_many width (e ∷ es) [] h = absurd h
-laid_many width (e ∷ es) (x ∷ xs) h = ap suc (laid_many width es xs h.1)
+pub was_by : {width : ℕ} {e f : Entry} {ks ls : KeptParts} {fs gs : List Bool} {x : Shown} → e ≡ f → ks ≡ ls → fs ≡ gs
+    → WasLaid width e ks fs x → WasLaid width f ls gs x
+was_by {width} {e} {f} {ks} {ls} {fs} {gs} {x} p q r h =
+    subst (λ (k : Entry). WasLaid width k ls gs x) p
+    (subst (λ (l : KeptParts). WasLaid width e l gs x) q (subst (λ (g : List Bool). WasLaid width e ks g x) r h))
 
-pub laid_at : (width : ℕ) (kept : Kept) (xs : List Shown) (i : ℕ) (e : Entry) (d : Shown) → AreLaid width kept xs
-    → slice_get kept i ≡ Some e → IsLaid width e (slice_index_or xs i d)
-laid_at width [] xs i e d h at = cc
-laid_at width (k ∷ es) [] i e d h at = absurd h
-laid_at width (k ∷ es) (x ∷ xs) zero e d h at =
-    subst (λ (y : Entry). IsLaid width y x) (same_Some k e at) h.0
-laid_at width (k ∷ es) (x ∷ xs) (suc i) e d h at = laid_at width es xs i e d h.1 at
+pub was_laid_at : (width : ℕ) (kept : Kept) (pss : List KeptParts) (fss : List (List Bool)) (xs : List Shown) (i : ℕ)
+    (e : Entry) (ks : KeptParts) (fs : List Bool) (d : Shown) → WereLaid width kept pss fss xs
+    → slice_get kept i ≡ Some e → slice_get pss i ≡ Some ks → slice_get fss i ≡ Some fs
+    → WasLaid width e ks fs (slice_index_or xs i d)
+was_laid_at width [] pss fss xs i e ks fs d h at parts flags = cc
+was_laid_at width (k ∷ es) [] fss xs i e ks fs d h at parts flags = absurd h
+was_laid_at width (k ∷ es) (l ∷ pss) [] xs i e ks fs d h at parts flags = absurd h
+was_laid_at width (k ∷ es) (l ∷ pss) (g ∷ fss) [] i e ks fs d h at parts flags = absurd h
+was_laid_at width (k ∷ es) (l ∷ pss) (g ∷ fss) (x ∷ xs) zero e ks fs d h at parts flags =
+    was_by (same_Some k e at) (same_Some l ks parts) (same_Some g fs flags) h.0
+was_laid_at width (k ∷ es) (l ∷ pss) (g ∷ fss) (x ∷ xs) (suc i) e ks fs d h at parts flags =
+    was_laid_at width es pss fss xs i e ks fs d h.1 at parts flags
+
+pub laid_set : (width : ℕ) (kept : Kept) (pss : List KeptParts) (fss : List (List Bool)) (xs : List Shown) (i : ℕ)
+    (e : Entry) (ks : KeptParts) (fs : List Bool) (y : Shown) → WereLaid width kept pss fss xs
+    → slice_get kept i ≡ Some e → slice_get pss i ≡ Some ks → slice_get fss i ≡ Some fs → WasLaid width e ks fs y
+    → WereLaid width kept pss fss (slice_set xs i y)
+laid_set width [] pss fss xs i e ks fs y h at parts flags is = cc
+laid_set width (k ∷ es) [] fss xs i e ks fs y h at parts flags is = absurd h
+laid_set width (k ∷ es) (l ∷ pss) [] xs i e ks fs y h at parts flags is = absurd h
+laid_set width (k ∷ es) (l ∷ pss) (g ∷ fss) [] i e ks fs y h at parts flags is = absurd h
+laid_set width (k ∷ es) (l ∷ pss) (g ∷ fss) (x ∷ xs) zero e ks fs y h at parts flags is =
+    (was_by (sym (same_Some k e at)) (sym (same_Some l ks parts)) (sym (same_Some g fs flags)) is, h.1)
+laid_set width (k ∷ es) (l ∷ pss) (g ∷ fss) (x ∷ xs) (suc i) e ks fs y h at parts flags is =
+    (h.0, laid_set width es pss fss xs i e ks fs y h.1 at parts flags is)
+
+-- ---- what is kept of one unit
 
 -- the entry of which this is kept
 pub entry_with : (kept : Kept) (i : ℕ) (o : Option WideTrace)
@@ -60,18 +108,82 @@ entry_with [] i o h = cc
 entry_with (e ∷ es) zero o h = (e, refl, same_Some e.trace o h)
 entry_with (e ∷ es) (suc i) o h = entry_with es i o h
 
-pub entry_there : (kept : Kept) (i : ℕ) → i < length kept → (e : Entry) × (slice_get kept i ≡ Some e)
-entry_there [] i h = absurd (omega (arith, h))
-entry_there (e ∷ es) zero h = (e, refl)
-entry_there (e ∷ es) (suc i) h = entry_there es i (omega (arith, h))
+pub entry_found : (kept : Kept) (i : ℕ) (u : DocUnit) (o : Option WideTrace)
+    → option_map (λ (e : Entry). e.unit) (slice_get kept i) ≡ Some u
+    → option_map (λ (e : Entry). e.trace) (slice_get kept i) ≡ Some o
+    → slice_get kept i ≡ Some (record { unit = u; trace = o })
+entry_found [] i u o h k = cc
+entry_found (e ∷ es) zero u o h k =
+    ap (λ v. Some (record { unit = v; trace = e.trace })) (same_Some e.unit u h)
+    ∙ ap (λ t. Some (record { unit = u; trace = t })) (same_Some e.trace o k)
+entry_found (e ∷ es) (suc i) u o h k = entry_found es i u o h k
 
-pub laid_set : (width : ℕ) (kept : Kept) (xs : List Shown) (i : ℕ) (e : Entry) (y : Shown) → AreLaid width kept xs
-    → slice_get kept i ≡ Some e → IsLaid width e y → AreLaid width kept (slice_set xs i y)
-laid_set width [] xs i e y h at is = cc
-laid_set width (k ∷ es) [] i e y h at is = absurd h
-laid_set width (k ∷ es) (x ∷ xs) zero e y h at is =
-    (subst (λ (z : Entry). IsLaid width z y) (sym (same_Some k e at)) is, h.1)
-laid_set width (k ∷ es) (x ∷ xs) (suc i) e y h at is = (h.0, laid_set width es xs i e y h.1 at is)
+pub there : {A : Type 0} (xs : List A) (i : ℕ) → i < length xs → (x : A) × (slice_get xs i ≡ Some x)
+there [] i h = absurd (omega (arith, h))
+there (x ∷ xs) zero h = (x, refl)
+there (x ∷ xs) (suc i) h = there xs i (omega (arith, h))
+
+pub entry_there : (kept : Kept) (i : ℕ) → i < length kept → (e : Entry) × (slice_get kept i ≡ Some e)
+entry_there kept i h = there kept i h
+
+-- something is kept of unit i, and of its parts
+pub record HasUnit (b : Bridged) (i : ℕ) : Type 0 where
+  pub entry : Entry
+  pub parts : KeptParts
+  pub flags : List Bool
+  pub is : IsUnit b i entry parts flags
+
+pub unit_there : (width : ℕ) (b : Bridged) (xs : List Shown) (i : ℕ)
+    → WereLaid width b.kept b.parts b.part_flags xs → i < length b.kept → HasUnit b i
+unit_there width b xs i h inside =
+    let many = are_many width b.kept b.parts b.part_flags xs h in
+    let e = there b.kept i inside in
+    let ks = there b.parts i (omega (arith, many.parts, inside)) in
+    let fs = there b.part_flags i (omega (arith, many.flags, inside)) in
+    record {
+      entry = e.0;
+      parts = ks.0;
+      flags = fs.0;
+      is = record { entry = e.1; parts = ks.1; flags = fs.1 };
+    }
+
+-- another entry there is the same one
+pub same_entry : {b : Bridged} {i : ℕ} (u : HasUnit b i) (e : Entry) → slice_get b.kept i ≡ Some e
+    → IsUnit b i e u.parts u.flags
+same_entry u e at = record { entry = at; parts = u.is.parts; flags = u.is.flags }
+
+-- nothing else is
+pub record IsSameUnit (e f : Entry) (ks ls : KeptParts) (fs gs : List Bool) : Type 0 where
+  pub entry : e ≡ f
+  pub parts : ks ≡ ls
+  pub flags : fs ≡ gs
+
+pub unit_once : (b : Bridged) (i : ℕ) (e f : Entry) (ks ls : KeptParts) (fs gs : List Bool) → IsUnit b i e ks fs
+    → IsUnit b i f ls gs → IsSameUnit e f ks ls fs gs
+unit_once b i e f ks ls fs gs h k = record {
+  entry = same_Some e f (sym h.entry ∙ k.entry);
+  parts = same_Some ks ls (sym h.parts ∙ k.parts);
+  flags = same_Some fs gs (sym h.flags ∙ k.flags);
+}
+
+pub unit_found : (b : Bridged) (i : ℕ) (u : DocUnit) (o : Option WideTrace) (ks : KeptParts) (fs : List Bool)
+    → option_map (λ (e : Entry). e.unit) (slice_get b.kept i) ≡ Some u
+    → option_map (λ (e : Entry). e.trace) (slice_get b.kept i) ≡ Some o → slice_get b.parts i ≡ Some ks
+    → slice_get b.part_flags i ≡ Some fs → IsUnit b i (record { unit = u; trace = o }) ks fs
+unit_found b i u o ks fs unit trace parts flags =
+    record { entry = entry_found b.kept i u o unit trace; parts = parts; flags = flags }
+
+pub was_laid_here : {b : Bridged} {i : ℕ} {e : Entry} {ks : KeptParts} {fs : List Bool} → IsUnit b i e ks fs
+    → (width : ℕ) (xs : List Shown) (d : Shown) → WereLaid width b.kept b.parts b.part_flags xs
+    → WasLaid width e ks fs (slice_index_or xs i d)
+was_laid_here {b} {i} {e} {ks} {fs} at width xs d laid =
+    was_laid_at width b.kept b.parts b.part_flags xs i e ks fs d laid at.entry at.parts at.flags
+
+pub laid_set_here : {b : Bridged} {i : ℕ} {e : Entry} {ks : KeptParts} {fs : List Bool} → IsUnit b i e ks fs
+    → (width : ℕ) (xs : List Shown) (y : Shown) → WereLaid width b.kept b.parts b.part_flags xs
+    → WasLaid width e ks fs y → WereLaid width b.kept b.parts b.part_flags (slice_set xs i y)
+laid_set_here {b} {i} {e} {ks} {fs} at width xs y laid was =
+    laid_set width b.kept b.parts b.part_flags xs i e ks fs y laid at.entry at.parts at.flags was
 
 -- ---- one unit more
 
@@ -82,76 +194,62 @@ few_items ps None a v e h = omega (arith, ap items_in e)
 few_items ps (Some path) a v e h =
     omega (arith, ap items_in e, h, length-flat_map (λ (p : Paragraph). p.items) (shown_paragraphs a v))
 
-pub laid_by : {width : ℕ} {a b : Attrs} {v w : WideValue} {p q : Option (List ℕ)} {x : Shown} → a ≡ b → v ≡ w → p ≡ q
-    → IsLaidOut width a v p x → IsLaidOut width b w q x
-laid_by {width} {a} {b} {v} {w} {p} {q} {x} e f g h =
-    subst (λ (c : Attrs). IsLaidOut width c w q x) e
-    (subst (λ (u : WideValue). IsLaidOut width a u q x) f
-    (subst (λ (o : Option (List ℕ)). IsLaidOut width a v o x) g h))
+-- what laying out takes, by what is known to be the same
+pub taking_by : (laid : Option Attrs) (a b : Attrs) (e d : Entry) (ks ls : KeptParts) (fs : List Bool)
+    (ats : List LaidAt) → a ≡ b → e ≡ d → ks ≡ ls
+    → (if is_before laid a then 0 else unit_items_anew a e ks fs ats)
+    ≡ (if is_before laid b then 0 else unit_items_anew b d ls fs ats)
+taking_by laid a b e d ks ls fs ats p q r =
+    ap (λ c. if is_before laid c then 0 else unit_items_anew c e ks fs ats) p
+    ∙ ap (λ k. if is_before laid b then 0 else unit_items_anew b k ks fs ats) q
+    ∙ ap (λ l. if is_before laid b then 0 else unit_items_anew b d l fs ats) r
 
-items_laid : (x : Shown) (a b : Attrs) (p q : Option (List ℕ)) (v w : WideValue) → a ≡ b → p ≡ q → v ≡ w
-    → (if is_before x.laid a then 0 else items_in (paragraphs_at p a v))
-    ≡ (if is_before x.laid b then 0 else items_in (paragraphs_at q b w))
-items_laid x a b p q v w e f g =
-    ap (λ c. if is_before x.laid c then 0 else items_in (paragraphs_at p c v)) e
-    ∙ ap (λ o. if is_before x.laid b then 0 else items_in (paragraphs_at o b v)) f
-    ∙ ap (λ u. if is_before x.laid b then 0 else items_in (paragraphs_at q b u)) g
-
-at_most : (b : Bool) (n most : ℕ) → n ≤ most → (if b then 0 else n) ≤ most
-at_most true n most h = omega arith
-at_most false n most h = h
-
--- what is shown, whether it was laid out anew or not, weighs so much at most
-few_laid : (x : Shown) (p : Option (List ℕ)) (a : Attrs) (v : WideValue)
-    → length (flat_map (λ p. p.items) (shown_paragraphs a v)) ≤ weight_of (shown_paragraphs a v)
-    → (if is_before x.laid a then 0 else items_in (paragraphs_at p a v)) ≤ weight_of (shown_paragraphs a v)
-few_laid x p a v h =
-    at_most (is_before x.laid a) (items_in (paragraphs_at p a v)) (weight_of (shown_paragraphs a v))
-    (few_items (paragraphs_at p a v) p a v refl h)
+pub entry_is : (m : Moment) (e : Entry) → e.trace ≡ outcome_of m e.unit → e ≡ entry_at m e.unit
+entry_is m e trace = ap (λ (t : Option WideTrace). record { unit = e.unit; trace = t }) trace
 
 -- the premises are what the calls ensure, in their order
-pub next_is : AllAllowed → ((a : Attrs) → weight_of (shown_paragraphs a over_value) ≤ 49)
+pub next_is : ((a : Attrs) → weight_of (shown_paragraphs a over_value) ≤ 49)
     → ((ps : List Paragraph) → length (flat_map (λ p. p.items) ps) ≤ weight_of ps) → (width : ℕ) (e : Entry)
-    (m after : Moment) (x y : Shown) (a : Attrs) (o : Option WideTrace) (n : ℕ)
-    → ((b : Attrs) → weight_of (shown_paragraphs b (value_of o)) ≤ 242 * size_of (plain (value_of o)))
-    → e.trace ≡ o → e.trace ≡ outcome_of m e.unit → IsLaid width e x → a ≡ attributes_of m.env
-    → after ≡ behind m e.trace → IsPaid m after (value_of e.trace) → IsLaidOut width a (value_of o) x.path y
-    → y.laid ≡ Some a
-    → n ≡ (if is_before x.laid a then 0 else items_in (paragraphs_at x.path a (value_of o)))
-    → IsNext width e m after x y n
-next_is allowed over law width e m after x y a o n weight is_o trace laid is_a is_after paid out is_laid is_n =
+    (ks : KeptParts) (fs : List Bool) (m after : Moment) (x y : Shown) (a : Attrs) (n : ℕ)
+    → ((b : Attrs) → weight_of (shown_paragraphs b (value_of e.trace)) ≤ 242 * size_of (plain (value_of e.trace)))
+    → e.trace ≡ outcome_of m e.unit → ks ≡ fresh_parts m e.unit → a ≡ attributes_of m.env
+    → after ≡ behind m e.trace → IsPaid m after (value_of e.trace) → WasLaid width e ks fs y → y.laid ≡ Some a
+    → n ≡ (if is_before x.laid a then 0 else unit_items_anew a e ks fs (map laid_at x.parts))
+    → n ≤ items_in (paragraphs_at e.unit.path a (value_of e.trace))
+    → IsNext width e ks fs m after x y n
+next_is over law width e ks fs m after x y a n weight trace parts is_a is_after paid was is_laid is_n within =
     let b : Attrs = attributes_of m.env in
     let v : WideValue = value_of e.trace in
-    let same_value : value_of o ≡ v = ap value_of (sym is_o) in
-    let here : IsLaidOut width b v e.unit.path y = laid_by is_a same_value laid.path out in
-    let count : n ≡ (if is_before x.laid b then 0 else items_in (paragraphs_at e.unit.path b v)) =
-    is_n ∙ items_laid x a b x.path e.unit.path (value_of o) v is_a laid.path same_value in
-    let heavy : weight_of (shown_paragraphs b v) ≤ 242 * size_of (plain v) =
-    subst (λ (u : WideValue). weight_of (shown_paragraphs b u) ≤ 242 * size_of (plain u)) same_value (weight b) in
-    let few : n ≤ weight_of (shown_paragraphs b v) =
-    omega (arith, count, few_laid x e.unit.path b v (law (shown_paragraphs b v))) in
+    let laid_for : y.laid ≡ Some b = is_laid ∙ ap Some is_a in
+    let here : IsLaidOut width b v e.unit.path y = was.laid.laid b laid_for in
+    let few : items_in (paragraphs_at e.unit.path a v) ≤ weight_of (shown_paragraphs a v) =
+    few_items (paragraphs_at e.unit.path a v) e.unit.path a v refl (law (shown_paragraphs a v)) in
     record {
       behind_is = is_after ∙ ap (behind m) trace;
       laid_out = here;
-      attributes = is_laid ∙ ap Some is_a;
-      lines = few_lines b v m after (length y.lines) paid heavy (over b) here.few_lines;
+      attributes = laid_for;
+      was_laid = was;
+      lines = few_lines b v m after (length y.lines) paid (weight b) (over b) here.few_lines;
       errors = few_errors v m after (length y.errors.items) paid here.few_errors;
       items_is =
-          count ∙ items_laid x b b e.unit.path e.unit.path v (value_of (outcome_of m e.unit)) refl refl
-          (ap value_of trace);
-      most = omega (arith, few_lines b v m after n paid heavy (over b) few, paid.falls);
+          is_n
+          ∙ taking_by x.laid a b e (entry_at m e.unit) ks (fresh_parts m e.unit) fs (map laid_at x.parts) is_a
+          (entry_is m e trace) parts;
+      most =
+          omega (
+            arith,
+            few_lines a v m after n paid (weight a) (over a) (omega (arith, few, within)),
+            paid.falls,
+          );
     }
 
--- the steps of one unit
-pub steps_is : (width : ℕ) (e : Entry) (m : Moment) (x : Shown) (a : Attrs) (o : Option WideTrace) (n before after : ℕ)
-    → e.trace ≡ o → e.trace ≡ outcome_of m e.unit → IsLaid width e x → a ≡ attributes_of m.env
-    → n ≡ (if is_before x.laid a then 0 else items_in (paragraphs_at x.path a (value_of o))) → after ≡ before + n
-    → after ≡ before + (if is_before x.laid (attributes_of m.env) then 0 else items_of m e.unit)
-steps_is width e m x a o n before after is_o trace laid is_a is_n is_after =
-    is_after
-    ∙ ap (λ k. before + k)
-    (is_n ∙ items_laid x a (attributes_of m.env) x.path e.unit.path (value_of o) (value_of (outcome_of m e.unit)) is_a
-    laid.path (ap value_of (sym is_o ∙ trace)))
+-- it is so of what is kept, and nothing else is
+pub next_by : {width : ℕ} {e f : Entry} {ks ls : KeptParts} {fs gs : List Bool} {m after : Moment} {x y : Shown} {n : ℕ}
+    → IsSameUnit e f ks ls fs gs → IsNext width f ls gs m after x y n → IsNext width e ks fs m after x y n
+next_by {width} {e} {f} {ks} {ls} {fs} {gs} {m} {after} {x} {y} {n} same h =
+    subst (λ (k : Entry). IsNext width k ks fs m after x y n) (sym same.entry)
+    (subst (λ (l : KeptParts). IsNext width f l fs m after x y n) (sym same.parts)
+    (subst (λ (g : List Bool). IsNext width f ls g m after x y n) (sym same.flags) h))
 
 at_seam : {A : Type 0} (xs ys : List A) (y : A) (i : ℕ) → length xs ≡ i → slice_get (xs ++ y ∷ ys) i ≡ Some y
 at_seam [] ys y zero e = refl
@@ -163,33 +261,47 @@ laid_as_many : (xs : List Shown) → length (laid_in xs) ≡ length xs
 laid_as_many [] = refl
 laid_as_many (x ∷ xs) = ap suc (laid_as_many xs)
 
+there_within : {A : Type 0} (xs : List A) (i : ℕ) (x : A) → slice_get xs i ≡ Some x → i < length xs
+there_within [] i x at = cc
+there_within (y ∷ ys) zero x at = omega arith
+there_within (y ∷ ys) (suc i) x at = omega (arith, there_within ys i x at)
+
+pub laid_within : (xs : List Shown) (i : ℕ) (o : Option Attrs) → slice_get (laid_in xs) i ≡ Some o → i < length xs
+laid_within xs i o at = omega (arith, there_within (laid_in xs) i o at, laid_as_many xs)
+
 -- ---- up to unit i
 
+pub heads : {A : Type 0} (x y : A) (xs ys : List A) → x ∷ xs ≡ y ∷ ys → (x ≡ y) × (xs ≡ ys)
+heads x y xs ys e = (cc, cc)
+
 -- At the moment before unit i. What was done, and what is left from here, are all.
-pub record Onward (width : ℕ) (kept : Kept) (old now : List Shown) (i : ℕ) (m : Moment)
+pub record Onward (width : ℕ) (b : Bridged) (old now : List Shown) (i : ℕ) (m : Moment)
     (items before after : ℕ) : Type 0 where
-  pub fresh : drop i kept ≡ fresh_from m (units_of (drop i kept))
-  pub shown : (others : List UnitView) → AreShown width m (units_of (drop i kept)) others
-      → AreShown width beginning (units_of kept) (unit_views (take i now) ++ others)
-  pub attributes : laid_in (take i now) ++ attributes_from m (units_of (drop i kept))
-      ≡ attributes_from beginning (units_of kept)
-  pub steps : after + unlaid_from m (units_of (drop i kept)) (laid_in (drop i now))
-      ≡ before + unlaid_from beginning (units_of kept) (laid_in old)
-  pub items_is : items + unlaid_from m (units_of (drop i kept)) (laid_in (drop i now))
-      ≡ unlaid_from beginning (units_of kept) (laid_in old)
-  pub within : i ≤ length kept
-  pub laid : AreLaid width kept now
-  pub readable : AllReadable now
+  pub fresh : drop i b.kept ≡ fresh_from m (units_of (drop i b.kept))
+  pub parts_fresh : drop i b.parts ≡ fresh_parts_from m (units_of (drop i b.kept))
+  pub shown : (others : List UnitView) → AreShown width m (units_of (drop i b.kept)) others
+      → AreShown width beginning (units_of b.kept) (unit_views (take i now) ++ others)
+  pub attributes : laid_in (take i now) ++ attributes_from m (units_of (drop i b.kept))
+      ≡ attributes_from beginning (units_of b.kept)
+  pub steps : after + items_unlaid_from m (units_of (drop i b.kept)) (drop i b.part_flags) (drop i now)
+      ≡ before + items_unlaid_from beginning (units_of b.kept) b.part_flags old
+  pub items_is : items + items_unlaid_from m (units_of (drop i b.kept)) (drop i b.part_flags) (drop i now)
+      ≡ items_unlaid_from beginning (units_of b.kept) b.part_flags old
+  pub within : i ≤ length b.kept
+  pub laid : WereLaid width b.kept b.parts b.part_flags now
+  pub readable : All (λ x. IsReadable (unit_view x)) now
   pub lines : length (lines_of (unit_views (take i now))) + 242 * m.left ≤ 242 * 16000000 + 49 * i
   pub errors : length (errors_of (unit_views (take i now))) + m.left ≤ 16000000 + 7 * i
   pub most : items + 243 * m.left ≤ 243 * 16000000 + 49 * i
 
-pub begun : (width : ℕ) (kept : Kept) (old : List Shown) (m : Moment) (steps : ℕ) → m ≡ beginning
-    → kept ≡ fresh_from beginning (units_of kept) → AreLaid width kept old → AllReadable old
-    → Onward width kept old old 0 m 0 steps steps
-begun width kept old m steps start fresh laid readable =
-    subst (λ (k : Moment). Onward width kept old old 0 k 0 steps steps) (sym start) (record {
+pub begun : (width : ℕ) (b : Bridged) (old : List Shown) (m : Moment) (steps : ℕ) → m ≡ beginning
+    → b.kept ≡ fresh_from beginning (units_of b.kept) → b.parts ≡ fresh_parts_from beginning (units_of b.kept)
+    → WereLaid width b.kept b.parts b.part_flags old → All (λ x. IsReadable (unit_view x)) old
+    → Onward width b old old 0 m 0 steps steps
+begun width b old m steps start fresh parts laid readable =
+    subst (λ (k : Moment). Onward width b old old 0 k 0 steps steps) (sym start) (record {
       fresh = fresh;
+      parts_fresh = parts;
       shown = λ others h. h;
       attributes = refl;
       steps = refl;
@@ -202,15 +314,9 @@ begun width kept old m steps start fresh laid readable =
       most = omega arith;
     })
 
-same_first : {A : Type 0} (x y : A) (xs ys : List A) → x ∷ xs ≡ y ∷ ys → x ≡ y
-same_first x y xs ys e = cc
-
-same_rest : {A : Type 0} (x y : A) (xs ys : List A) → x ∷ xs ≡ y ∷ ys → xs ≡ ys
-same_rest x y xs ys e = cc
-
-module _ (width : ℕ) (kept : Kept) (old now : List Shown) (i : ℕ) (m : Moment)
-    (items before after : ℕ) (p : Onward width kept old now i m items before after) (inside : i < length now)
-    (d : Shown) (e : Entry) (at : slice_get kept i ≡ Some e) where
+module _ (width : ℕ) (b : Bridged) (old now : List Shown) (i : ℕ) (m : Moment)
+    (items before after : ℕ) (p : Onward width b old now i m items before after) (inside : i < length now)
+    (d : Shown) (e : Entry) (ks : KeptParts) (fs : List Bool) (at : IsUnit b i e ks fs) where
   abbrev x : Shown
   x = slice_index_or now i d
 
@@ -218,7 +324,13 @@ module _ (width : ℕ) (kept : Kept) (old now : List Shown) (i : ℕ) (m : Momen
   left = drop (i + 1) now
 
   abbrev rest : Kept
-  rest = drop (i + 1) kept
+  rest = drop (i + 1) b.kept
+
+  abbrev rest_parts : List KeptParts
+  rest_parts = drop (i + 1) b.parts
+
+  abbrev rest_flags : List (List Bool)
+  rest_flags = drop (i + 1) b.part_flags
 
   abbrev behind_it : Moment
   behind_it = behind m (outcome_of m e.unit)
@@ -226,37 +338,51 @@ module _ (width : ℕ) (kept : Kept) (old now : List Shown) (i : ℕ) (m : Momen
   here : drop i now ≡ x ∷ left
   here = drop_more now i d inside
 
-  head : drop i kept ≡ e ∷ rest
-  head = drop_item kept i e at
+  head : drop i b.kept ≡ e ∷ rest
+  head = drop_item b.kept i e at.entry
 
-  both_fresh : e ∷ rest ≡ record { unit = e.unit; trace = outcome_of m e.unit } ∷ fresh_from behind_it (units_of rest)
+  head_parts : drop i b.parts ≡ ks ∷ rest_parts
+  head_parts = drop_item b.parts i ks at.parts
+
+  head_flags : drop i b.part_flags ≡ fs ∷ rest_flags
+  head_flags = drop_item b.part_flags i fs at.flags
+
+  both_fresh : e ∷ rest ≡ entry_at m e.unit ∷ fresh_from behind_it (units_of rest)
   both_fresh = sym head ∙ p.fresh ∙ ap (λ es. fresh_from m (units_of es)) head
+
+  both_parts : ks ∷ rest_parts ≡ fresh_parts m e.unit ∷ fresh_parts_from behind_it (units_of rest)
+  both_parts = sym head_parts ∙ p.parts_fresh ∙ ap (λ es. fresh_parts_from m (units_of es)) head
 
   pub trace_is : e.trace ≡ outcome_of m e.unit
   trace_is =
-      ap (λ k. k.trace) (same_first e (record { unit = e.unit; trace = outcome_of m e.unit }) rest
-      (fresh_from behind_it (units_of rest)) both_fresh)
+      ap (λ k. k.trace)
+      (heads e (entry_at m e.unit) rest (fresh_from behind_it (units_of rest)) both_fresh).0
+
+  pub parts_are : ks ≡ fresh_parts m e.unit
+  parts_are =
+      (heads ks (fresh_parts m e.unit) rest_parts (fresh_parts_from behind_it (units_of rest)) both_parts).0
 
   rest_fresh : rest ≡ fresh_from behind_it (units_of rest)
-  rest_fresh =
-      same_rest e (record { unit = e.unit; trace = outcome_of m e.unit }) rest (fresh_from behind_it (units_of rest))
-      both_fresh
+  rest_fresh = (heads e (entry_at m e.unit) rest (fresh_from behind_it (units_of rest)) both_fresh).1
+
+  rest_parts_fresh : rest_parts ≡ fresh_parts_from behind_it (units_of rest)
+  rest_parts_fresh =
+      (heads ks (fresh_parts m e.unit) rest_parts (fresh_parts_from behind_it (units_of rest)) both_parts).1
 
   -- the attributes for which it is to be laid out
-  pub right_here : slice_get (attributes_from beginning (units_of kept)) i ≡ Some (Some (attributes_of m.env))
+  pub right_here : slice_get (attributes_from beginning (units_of b.kept)) i ≡ Some (Some (attributes_of m.env))
   right_here =
       ap (λ l. slice_get l i) (sym p.attributes
       ∙ ap (λ es. laid_in (take i now) ++ attributes_from m (units_of es)) head)
       ∙ at_seam (laid_in (take i now)) (attributes_from behind_it (units_of rest)) (Some (attributes_of m.env)) i
       (laid_as_many (take i now) ∙ length-take-le i now (omega (arith, inside)))
 
-  pub laid_here : IsLaid width e (slice_index_or now i d)
-  laid_here = laid_at width kept now i e d p.laid at
+  pub laid_here : WasLaid width e ks fs (slice_index_or now i d)
+  laid_here = was_laid_here at width now d p.laid
 
   module _ (y : Shown) (more after1 : ℕ) (m1 : Moment)
-      (n : IsNext width e m m1 (slice_index_or now i d) y more)
-      (is_after : after1
-      ≡ after + (if is_before (slice_index_or now i d).laid (attributes_of m.env) then 0 else items_of m e.unit))
+      (n : IsNext width e ks fs m m1 (slice_index_or now i d) y more)
+      (is_after : after1 ≡ after + items_unlaid m e.unit fs (slice_index_or now i d))
       (can_read : IsReadable (unit_view y)) where
     abbrev new : List Shown
     new = slice_set now i y
@@ -270,6 +396,9 @@ module _ (width : ℕ) (kept : Kept) (old now : List Shown) (i : ℕ) (m : Momen
     fresh_next : rest ≡ fresh_from m1 (units_of rest)
     fresh_next = rest_fresh ∙ ap (λ k. fresh_from k (units_of rest)) (sym n.behind_is)
 
+    parts_next : rest_parts ≡ fresh_parts_from m1 (units_of rest)
+    parts_next = rest_parts_fresh ∙ ap (λ k. fresh_parts_from k (units_of rest)) (sym n.behind_is)
+
     views_next : (others : List UnitView)
         → unit_views (take i now) ++ unit_view y ∷ others ≡ unit_views (take (i + 1) new) ++ others
     views_next others =
@@ -277,7 +406,7 @@ module _ (width : ℕ) (kept : Kept) (old now : List Shown) (i : ℕ) (m : Momen
         ∙ append_assoc (unit_views (take i now)) (unit_view y ∷ []) others)
 
     shown_next : (others : List UnitView) → AreShown width m1 (units_of rest) others
-        → AreShown width beginning (units_of kept) (unit_views (take (i + 1) new) ++ others)
+        → AreShown width beginning (units_of b.kept) (unit_views (take (i + 1) new) ++ others)
     shown_next others later =
         let one : IsShown width (attributes_of m.env) (value_of (outcome_of m e.unit)) e.unit.path (unit_view y) =
         subst (λ (o : Option WideTrace).
@@ -285,12 +414,12 @@ module _ (width : ℕ) (kept : Kept) (old now : List Shown) (i : ℕ) (m : Momen
         let after_it : AreShown width behind_it (units_of rest) others =
         subst (λ (k : Moment). AreShown width k (units_of rest) others) n.behind_is later in
         let both : AreShown width m (units_of (e ∷ rest)) (unit_view y ∷ others) = (one, after_it) in
-        subst (λ (vs : List UnitView). AreShown width beginning (units_of kept) vs) (views_next others)
+        subst (λ (vs : List UnitView). AreShown width beginning (units_of b.kept) vs) (views_next others)
         (p.shown (unit_view y ∷ others)
         (subst (λ (es : Kept). AreShown width m (units_of es) (unit_view y ∷ others)) (sym head) both))
 
     attributes_next : laid_in (take (i + 1) new) ++ attributes_from m1 (units_of rest)
-        ≡ attributes_from beginning (units_of kept)
+        ≡ attributes_from beginning (units_of b.kept)
     attributes_next =
         ap (λ xs. laid_in xs ++ attributes_from m1 (units_of rest)) taken
         ∙ ap (λ bs. bs ++ attributes_from m1 (units_of rest)) (map_push (λ (z : Shown). z.laid) (take i now) y)
@@ -299,24 +428,14 @@ module _ (width : ℕ) (kept : Kept) (old now : List Shown) (i : ℕ) (m : Momen
         ∙ ap (λ k. laid_in (take i now) ++ Some (attributes_of m.env) ∷ attributes_from k (units_of rest)) n.behind_is
         ∙ ap (λ es. laid_in (take i now) ++ attributes_from m (units_of es)) (sym head) ∙ p.attributes
 
-    unlaid_next : unlaid_from m (units_of (drop i kept)) (laid_in (drop i now))
-        ≡ (if is_before x.laid (attributes_of m.env) then 0 else items_of m e.unit)
-        + unlaid_from m1 (units_of rest) (laid_in (drop (i + 1) new))
+    unlaid_next : items_unlaid_from m (units_of (drop i b.kept)) (drop i b.part_flags) (drop i now)
+        ≡ items_unlaid m e.unit fs x + items_unlaid_from m1 (units_of rest) rest_flags (drop (i + 1) new)
     unlaid_next =
-        ap (λ es. unlaid_from m (units_of es) (laid_in (drop i now))) head
-        ∙ ap (λ xs. unlaid_from m (units_of (e ∷ rest)) (laid_in xs)) here
-        ∙ ap (λ k. (if is_before x.laid (attributes_of m.env) then 0 else items_of m e.unit)
-        + unlaid_from k (units_of rest) (laid_in left)) (sym n.behind_is)
-        ∙ ap (λ xs. (if is_before x.laid (attributes_of m.env) then 0 else items_of m e.unit)
-        + unlaid_from m1 (units_of rest) (laid_in xs)) (sym dropped)
-
-    laid_next : AreLaid width kept new
-    laid_next =
-        laid_set width kept now i e y p.laid at (record {
-          path = n.laid_out.shown.path_is;
-          laid = λ a is.
-              laid_by (same_Some (attributes_of m.env) a (sym n.attributes ∙ is)) refl refl n.laid_out;
-        })
+        ap (λ es. items_unlaid_from m (units_of es) (drop i b.part_flags) (drop i now)) head
+        ∙ ap (λ fss. items_unlaid_from m (units_of (e ∷ rest)) fss (drop i now)) head_flags
+        ∙ ap (λ xs. items_unlaid_from m (units_of (e ∷ rest)) (fs ∷ rest_flags) xs) here
+        ∙ ap (λ k. items_unlaid m e.unit fs x + items_unlaid_from k (units_of rest) rest_flags left) (sym n.behind_is)
+        ∙ ap (λ xs. items_unlaid m e.unit fs x + items_unlaid_from m1 (units_of rest) rest_flags xs) (sym dropped)
 
     more_of : {A : Type 0} (g : UnitView → List A)
         → length (flat_map g (unit_views (take (i + 1) new)))
@@ -327,44 +446,69 @@ module _ (width : ℕ) (kept : Kept) (old now : List Shown) (i : ℕ) (m : Momen
         ∙ ap (λ ys. flat_map g (unit_views (take i now)) ++ ys) (append-nil (g (unit_view y))))
         ∙ length-append (flat_map g (unit_views (take i now))) (g (unit_view y))
 
-    pub next : Onward width kept old (slice_set now i y) (i + 1) m1 (items + more) before after1
+    pub next : Onward width b old (slice_set now i y) (i + 1) m1 (items + more) before after1
     next = record {
       fresh = fresh_next;
+      parts_fresh = parts_next;
       shown = shown_next;
       attributes = attributes_next;
       steps = omega (arith, unlaid_next, is_after, p.steps);
       items_is = omega (arith, unlaid_next, n.items_is, p.items_is);
-      within = omega (arith, inside, laid_many width kept now p.laid);
-      laid = laid_next;
+      within = omega (arith, inside, laid_many width b.kept b.parts b.part_flags now p.laid);
+      laid = laid_set_here at width now y p.laid n.was_laid;
       readable = All-set (λ (z : Shown). IsReadable (unit_view z)) now i y can_read p.readable;
       lines = omega (arith, more_of (λ (z : UnitView). z.lines), n.lines, p.lines);
       errors = omega (arith, more_of placed_errors, as_many_errors (unit_view y), n.errors, p.errors);
       most = omega (arith, n.most, p.most);
     }
 
--- all units are laid out
-pub record Ended (width : ℕ) (kept : Kept) (old now : List Shown) (items before after : ℕ) : Type 0
-  where
-    pub shown : AreShown width beginning (units_of kept) (unit_views now)
-    pub attributes : laid_in now ≡ attributes_from beginning (units_of kept)
-    pub lines : length (lines_of (unit_views now)) < 2 ^ 32
-    pub errors : length (errors_of (unit_views now)) < 2 ^ 32
-    pub steps : after ≡ before + unlaid_from beginning (units_of kept) (laid_in old)
-    pub items_is : items ≡ unlaid_from beginning (units_of kept) (laid_in old)
-    pub most : items < 2 ^ 40
+-- by what the calls ensure of whatever is kept of unit i
+module _ {width : ℕ} {b : Bridged} {old now : List Shown} {i : ℕ} {m : Moment} {items before after : ℕ}
+    (p : Onward width b old now i m items before after) (inside : i < length now) (d : Shown) where
+  pub inside_kept : i < length b.kept
+  inside_kept = omega (arith, inside, laid_many width b.kept b.parts b.part_flags now p.laid)
 
-pub ended : (width : ℕ) (kept : Kept) (old now : List Shown) (i : ℕ) (m : Moment)
-    (items before after : ℕ) → Onward width kept old now i m items before after → length now ≤ i
-    → length kept < 2 ^ 23 → Ended width kept old now items before after
-ended width kept old now i m items before after p past few =
-    let many : length now ≡ length kept = laid_many width kept now p.laid in
+  pub unit_here : HasUnit b i
+  unit_here = unit_there width b now i p.laid inside_kept
+
+  pub right_there : slice_get (attributes_from beginning (units_of b.kept)) i ≡ Some (Some (attributes_of m.env))
+  right_there =
+      right_here width b old now i m items before after p inside d unit_here.entry unit_here.parts unit_here.flags
+      unit_here.is
+
+  pub next_all : {y : Shown} {more after1 : ℕ} {m1 : Moment}
+      → ((e : Entry) (ks : KeptParts) (fs : List Bool) → IsUnit b i e ks fs
+      → IsNext width e ks fs m m1 (slice_index_or now i d) y more)
+      → ((e : Entry) (ks : KeptParts) (fs : List Bool) → IsUnit b i e ks fs
+      → after1 ≡ after + items_unlaid m e.unit fs (slice_index_or now i d)) → IsReadable (unit_view y)
+      → Onward width b old (slice_set now i y) (i + 1) m1 (items + more) before after1
+  next_all {y} {more} {after1} {m1} nexts counted can_read =
+      let u : HasUnit b i = unit_here in
+      next width b old now i m items before after p inside d u.entry u.parts u.flags u.is y more after1 m1
+      (nexts u.entry u.parts u.flags u.is) (counted u.entry u.parts u.flags u.is) can_read
+
+-- all units are laid out
+pub record Ended (width : ℕ) (b : Bridged) (old now : List Shown) (items before after : ℕ) : Type 0 where
+  pub shown : AreShown width beginning (units_of b.kept) (unit_views now)
+  pub attributes : laid_in now ≡ attributes_from beginning (units_of b.kept)
+  pub lines : length (lines_of (unit_views now)) < 2 ^ 32
+  pub errors : length (errors_of (unit_views now)) < 2 ^ 32
+  pub steps : after ≡ before + items_unlaid_from beginning (units_of b.kept) b.part_flags old
+  pub items_is : items ≡ items_unlaid_from beginning (units_of b.kept) b.part_flags old
+  pub most : items < 2 ^ 40
+
+pub ended : (width : ℕ) (b : Bridged) (old now : List Shown) (i : ℕ) (m : Moment)
+    (items before after : ℕ) → Onward width b old now i m items before after → length now ≤ i
+    → length b.kept < 2 ^ 23 → Ended width b old now items before after
+ended width b old now i m items before after p past few =
+    let many : length now ≡ length b.kept = laid_many width b.kept b.parts b.part_flags now p.laid in
     let whole : take i now ≡ now = take_all i now past in
-    let none : drop i kept ≡ [] = drop_all i kept (omega (arith, past, many)) in
-    let no_items : unlaid_from m (units_of (drop i kept)) (laid_in (drop i now)) ≡ 0 =
-    ap (λ es. unlaid_from m (units_of es) (laid_in (drop i now))) none in
+    let none : drop i b.kept ≡ [] = drop_all i b.kept (omega (arith, past, many)) in
+    let no_items : items_unlaid_from m (units_of (drop i b.kept)) (drop i b.part_flags) (drop i now) ≡ 0 =
+    ap (λ es. items_unlaid_from m (units_of es) (drop i b.part_flags) (drop i now)) none in
     record {
       shown =
-          subst (λ (vs : List UnitView). AreShown width beginning (units_of kept) vs)
+          subst (λ (vs : List UnitView). AreShown width beginning (units_of b.kept) vs)
           (append-nil (unit_views (take i now)) ∙ ap unit_views whole)
           (p.shown [] (subst (λ (es : Kept). AreShown width m (units_of es) []) (sym none) tt));
       attributes =

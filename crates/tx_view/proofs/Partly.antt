@@ -4,6 +4,7 @@ use Rattle.std.proofs.Common.{drop, map, Bool, true, false, Option, Some, None, 
 use Rattle.std.proofs.Common.{slice_set, slice_index_or, append-nil}
 use Rattle.std.proofs.lemmas.List.{take_all, drop_all, set-get_or}
 use Rattle.std.proofs.lemmas.Option.{slice_get_past}
+use Rattle.std.specs.List.{AllByRecursion}
 use Rattle.std.specs.Prelude.{slice_get}
 use Rattle.tx_units.specs.declared.kinds.Unit.{Unit as DocUnit}
 use Rattle.tx_items.specs.declared.attributes.Attrs.{Attrs}
@@ -11,32 +12,68 @@ use Rattle.tx_view_form.specs.Outcomes.{beginning}
 use Rattle.tx_bridge.specs.Bridged.{Bridged}
 use Rattle.tx_bridge.specs.Entries.{Kept, units_of, fresh_from}
 use Rattle.tx_bridge.specs.Nested.{KeptParts, fresh_parts_from}
-use Rattle.tx_view.specs.declared.shown.Shown.{Shown}
-use Rattle.tx_view.specs.Laid.{laid_in, unlaid, without, stores_in, StayLaid, ArePartlyLaid}
+use Rattle.tx_part_layout.specs.declared.laid.LaidPart.{LaidPart}
+use Rattle.tx_unit_layout.specs.LaidAts.{LaidAt, laid_at}
+use Rattle.tx_unit_layout.specs.declared.shown.Shown.{Shown}
+use Rattle.tx_view.specs.Laid.{laid_in, laid_parts_in, without, dropped, dropped_by, without_parts, stores_in}
+use Rattle.tx_view.specs.Laid.{StayLaid, ArePartlyLaid}
 use Rattle.tx_view.specs.Stores.{Stores, IsOf, IsPartlyFresh, fresh_stores, attributes_from}
-use Rattle.tx_view.proofs.Forgetting.{Stay}
+use Rattle.tx_view.proofs.Keeping.{Stay}
 
 -- ---- what was laid out is dropped
 
 -- nothing is laid out
 none_laid : (xs : List Shown) (i : ℕ)
-    → (slice_get (laid_in (map (unlaid true) xs)) i ≡ Some None) ⊎ (length xs ≤ i)
+    → (slice_get (laid_in (map dropped xs)) i ≡ Some None) ⊎ (length xs ≤ i)
 none_laid [] i = inr (omega arith)
 none_laid (x ∷ xs) zero = inl refl
 none_laid (x ∷ xs) (suc i) = by (none_laid xs i)
   where
-    by : (slice_get (laid_in (map (unlaid true) xs)) i ≡ Some None) ⊎ (length xs ≤ i)
-        → (slice_get (laid_in (map (unlaid true) xs)) i ≡ Some None) ⊎ (suc (length xs) ≤ suc i)
+    by : (slice_get (laid_in (map dropped xs)) i ≡ Some None) ⊎ (length xs ≤ i)
+        → (slice_get (laid_in (map dropped xs)) i ≡ Some None) ⊎ (suc (length xs) ≤ suc i)
     by (inl e) = inl e
     by (inr le) = inr (omega (arith, le))
+
+-- of no part anything is
+abbrev pub NoParts : List Shown → Type 0
+NoParts xs = AllByRecursion (λ (ls : List LaidAt). ls ≡ []) (laid_parts_in xs)
+
+no_parts : (xs : List Shown) → NoParts (map dropped xs)
+no_parts [] = tt
+no_parts (x ∷ xs) = (refl, no_parts xs)
+
+parts_left : (ps : List LaidPart) (x : Shown) → x.parts ≡ ps → map laid_at (dropped_by ps x).parts ≡ []
+parts_left [] x none = ap (map laid_at) none
+parts_left (p ∷ ps) x some = refl
+
+pub none_left : (xs : List Shown) → NoParts (without_parts xs)
+none_left [] = tt
+none_left (x ∷ xs) = (parts_left x.parts x refl, none_left xs)
+
+-- a unit is laid out as it was, or not at all
+one_left : (ps : List LaidPart) (x : Shown) → ((dropped_by ps x).laid ≡ x.laid) ⊎ ((dropped_by ps x).laid ≡ None)
+one_left [] x = inl refl
+one_left (p ∷ ps) x = inr refl
+
+units_left : (xs : List Shown) (i : ℕ)
+    → (slice_get (laid_in (without_parts xs)) i ≡ slice_get (laid_in xs) i)
+    ⊎ (slice_get (laid_in (without_parts xs)) i ≡ Some None)
+units_left [] i = inl refl
+units_left (x ∷ xs) zero = by (one_left x.parts x)
+  where
+    by : ((dropped_by x.parts x).laid ≡ x.laid) ⊎ ((dropped_by x.parts x).laid ≡ None)
+        → (Some (dropped_by x.parts x).laid ≡ Some x.laid) ⊎ (Some (dropped_by x.parts x).laid ≡ Some None)
+    by (inl e) = inl (ap Some e)
+    by (inr e) = inr (ap Some e)
+units_left (x ∷ xs) (suc i) = units_left xs i
 
 many_laid : (xs : List Shown) → length (laid_in xs) ≡ length xs
 many_laid [] = refl
 many_laid (x ∷ xs) = ap suc (many_laid xs)
 
-many_unlaid : (xs : List Shown) → length (map (unlaid true) xs) ≡ length xs
-many_unlaid [] = refl
-many_unlaid (x ∷ xs) = ap suc (many_unlaid xs)
+many_dropped : (xs : List Shown) → length (map dropped xs) ≡ length xs
+many_dropped [] = refl
+many_dropped (x ∷ xs) = ap suc (many_dropped xs)
 
 many_units : (es : Kept) → length (units_of es) ≡ length es
 many_units [] = refl
@@ -62,20 +99,21 @@ pub dropped_all : (old new : Bridged) (xs ys : List Shown) (n : ℕ) → length 
     → units_of new.kept ≡ units_of old.kept
     → new.kept ≡ take n (fresh_from beginning (units_of old.kept)) ++ drop n old.kept
     → new.parts ≡ take n (fresh_parts_from beginning (units_of old.kept)) ++ drop n old.parts
-    → ys ≡ map (unlaid true) xs
+    → ys ≡ map dropped xs
     → IsPartlyFresh (stores_in old xs) (fresh_stores (units_of old.kept)) (stores_in new ys)
 dropped_all old new xs ys n many same kept parts is = record {
   done = n;
   kept = kept;
   parts = parts;
   laid = λ i. by i (none_laid xs i);
+  laid_parts = subst NoParts (sym is) (no_parts xs);
 }
   where
-    by : (i : ℕ) → (slice_get (laid_in (map (unlaid true) xs)) i ≡ Some None) ⊎ (length xs ≤ i)
+    by : (i : ℕ) → (slice_get (laid_in (map dropped xs)) i ≡ Some None) ⊎ (length xs ≤ i)
         → IsOf (stores_in new ys) (stores_in old xs) i
         ⊎ ((slice_get (laid_in ys) i ≡ Some None) ⊎ IsOf (stores_in new ys) (fresh_stores (units_of old.kept)) i)
     by i (inl e) = inr (inl (ap (λ zs. slice_get (laid_in zs) i) is ∙ e))
-    by i (inr le) = inl (past_all old new xs ys i many (ap length is ∙ many_unlaid xs) same le)
+    by i (inr le) = inl (past_all old new xs ys i many (ap length is ∙ many_dropped xs) same le)
 
 -- ---- what was laid out of the units with a flag is dropped
 
@@ -192,7 +230,7 @@ pub evaluated : (old new : Bridged) (xs mid ys : List Shown)
     → new.parts ≡ fresh_parts_from beginning (units_of old.kept) → units_of new.kept ≡ units_of old.kept
     → StayLaid (stores_in old xs) (stores_in new mid)
     → ArePartlyLaid (laid_in mid) (attributes_from beginning (units_of new.kept)) (laid_in ys)
-    → IsPartlyFresh (stores_in old xs) (fresh_stores (units_of old.kept)) (stores_in new ys)
+    → IsPartlyFresh (stores_in old xs) (fresh_stores (units_of old.kept)) (stores_in new (without_parts ys))
 evaluated old new xs mid ys kept parts same stay laid =
     let us : List DocUnit = units_of old.kept in
     let fs : Kept = fresh_from beginning us in
@@ -202,33 +240,51 @@ evaluated old new xs mid ys kept parts same stay laid =
       done = n;
       kept = kept ∙ all_taken fs old.kept n (omega arith) (omega arith);
       parts = parts ∙ all_taken ps old.parts n (omega arith) (omega arith);
-      laid = λ i. by i (stay i) (laid i);
+      laid = λ i. by i (units_left ys i) (stay i) (laid i);
+      laid_parts = none_left ys;
     }
   where
-    by : (i : ℕ) → IsOf (stores_in new mid) (stores_in old xs) i ⊎ (slice_get (laid_in mid) i ≡ Some None)
+    by : (i : ℕ)
+        → (slice_get (laid_in (without_parts ys)) i ≡ slice_get (laid_in ys) i)
+        ⊎ (slice_get (laid_in (without_parts ys)) i ≡ Some None)
+        → IsOf (stores_in new mid) (stores_in old xs) i ⊎ (slice_get (laid_in mid) i ≡ Some None)
         → (slice_get (laid_in ys) i ≡ slice_get (laid_in mid) i)
         ⊎ (slice_get (laid_in ys) i ≡ slice_get (attributes_from beginning (units_of new.kept)) i)
-        → IsOf (stores_in new ys) (stores_in old xs) i
-        ⊎ ((slice_get (laid_in ys) i ≡ Some None) ⊎ IsOf (stores_in new ys) (fresh_stores (units_of old.kept)) i)
-    by i (inl h) (inl e) = inl (record { kept = h.kept; laid = e ∙ h.laid })
-    by i (inr none) (inl e) = inr (inl (e ∙ none))
-    by i p (inr e) =
+        → IsOf (stores_in new (without_parts ys)) (stores_in old xs) i
+        ⊎ ((slice_get (laid_in (without_parts ys)) i ≡ Some None)
+        ⊎ IsOf (stores_in new (without_parts ys)) (fresh_stores (units_of old.kept)) i)
+    by i (inr none) p q = inr (inl none)
+    by i (inl g) (inl h) (inl e) = inl (record { kept = h.kept; laid = g ∙ e ∙ h.laid })
+    by i (inl g) (inr none) (inl e) = inr (inl (g ∙ e ∙ none))
+    by i (inl g) p (inr e) =
         inr (inr (record {
           kept = ap (λ es. slice_get es i) kept;
-          laid = e ∙ ap (λ us. slice_get (attributes_from beginning us) i) same;
+          laid = g ∙ e ∙ ap (λ us. slice_get (attributes_from beginning us) i) same;
         }))
 
--- all is as making it from nothing leaves it
-pub all_fresh : (old fresh new : Stores) → new ≡ fresh → IsPartlyFresh old fresh new
-all_fresh old fresh new e =
+-- all is as making it from nothing leaves it, but for what is laid out of parts
+pub all_fresh : (old : Stores) (new : Bridged) (us : List DocUnit) (xs : List Shown) → stores_in new xs ≡ fresh_stores us
+    → IsPartlyFresh old (fresh_stores us) (stores_in new (without_parts xs))
+all_fresh old new us xs e =
+    let fresh : Stores = fresh_stores us in
     let n : ℕ = length fresh.kept + length old.kept + length fresh.parts + length old.parts in
     record {
       done = n;
       kept = ap (λ s. s.kept) e ∙ all_taken fresh.kept old.kept n (omega arith) (omega arith);
       parts = ap (λ s. s.parts) e ∙ all_taken fresh.parts old.parts n (omega arith) (omega arith);
-      laid = λ i.
-          inr (inr (record {
-            kept = ap (λ s. slice_get s.kept i) e;
-            laid = ap (λ s. slice_get s.laid i) e;
-          }));
+      laid = λ i. by i (units_left xs i);
+      laid_parts = none_left xs;
     }
+  where
+    by : (i : ℕ)
+        → (slice_get (laid_in (without_parts xs)) i ≡ slice_get (laid_in xs) i)
+        ⊎ (slice_get (laid_in (without_parts xs)) i ≡ Some None)
+        → IsOf (stores_in new (without_parts xs)) old i
+        ⊎ ((slice_get (laid_in (without_parts xs)) i ≡ Some None)
+        ⊎ IsOf (stores_in new (without_parts xs)) (fresh_stores us) i)
+    by i (inr none) = inr (inl none)
+    by i (inl g) =
+        inr (inr (record {
+          kept = ap (λ s. slice_get s.kept i) e;
+          laid = g ∙ ap (λ s. slice_get s.laid i) e;
+        }))

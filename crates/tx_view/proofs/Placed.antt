@@ -11,8 +11,9 @@ use Rattle.tx_view_form.specs.Views.{UnitView}
 use Rattle.tx_view_form.specs.Positions.{Mark, marks_of}
 use Rattle.tx_view_form.specs.Stops.{same_place, stops_by, unit_stops, each_once}
 use Rattle.tx_view.specs.Near.{shown_stops}
-use Rattle.tx_view.specs.Units.{unit_view, unit_views}
-use Rattle.tx_view.specs.declared.shown.Shown.{Shown}
+use Rattle.tx_view.specs.Units.{unit_views}
+use Rattle.tx_unit_layout.specs.Views.{unit_view}
+use Rattle.tx_unit_layout.specs.declared.shown.Shown.{Shown}
 use Rattle.tx_view.proofs.Parts.{once_some}
 
 some_by : (path : List ℕ) (ms : List Mark) → stops_by path ms ≡ [] → ⊥

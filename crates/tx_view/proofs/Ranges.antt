@@ -12,8 +12,9 @@ use Rattle.std.proofs.lemmas.List.Quantifiers.{position-Some}
 use Rattle.tx_tree.specs.declared.places.Place.{Place}
 use Rattle.tx_view_form.specs.Stops.{same_place, stops_of}
 use Rattle.tx_view.specs.Near.{AreNear, is_above, shown_stops, HasStop, IsRange, stop_number}
-use Rattle.tx_view.specs.Units.{unit_view, unit_views, AreAllApart}
-use Rattle.tx_view.specs.declared.shown.Shown.{Shown}
+use Rattle.tx_view.specs.Units.{unit_views, AreAllApart}
+use Rattle.tx_unit_layout.specs.Views.{unit_view}
+use Rattle.tx_unit_layout.specs.declared.shown.Shown.{Shown}
 use Rattle.tx_view.proofs.Parts.{none_in_both, none_in_parts, some_in_left, some_in_right, number_none, number_below}
 use Rattle.tx_view.proofs.Parts.{not_among, number_within, first_of_parts, last_of_parts}
 use Rattle.tx_view.proofs.Neighbours.{apart_left, apart_right, stops_in_parts, none_above, none_else}

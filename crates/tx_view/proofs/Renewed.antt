@@ -1,7 +1,8 @@
 -- The items of the units that are laid out anew.
-use Rattle.std.proofs.Common.{◌≡◌, ℕ, suc, ◌+◌, List, [], ◌∷◌, length, Bool, true, false, Option, None, refl, ap, sym}
-use Rattle.std.proofs.Common.{◌∙◌, ◌<◌, inl, inr, Some, arith}
-use Rattle.std.proofs.lemmas.Bool.{cases_lt}
+use Rattle.std.proofs.Common.{◌≡◌, ℕ, suc, ◌+◌, List, [], ◌∷◌, length, map, Bool, true, false, Option, None, refl, ap}
+use Rattle.std.proofs.Common.{sym, ◌∙◌, ◌<◌, inl, inr, Some, arith}
+use Rattle.std.proofs.lemmas.Bool.{cases_lt, false_from_ne_true}
+use Rattle.std.proofs.lemmas.Bool.Decides.{Decides-eqb}
 use Rattle.std.proofs.lemmas.Option.{slice_get-get_or, slice_get_past, unwrap_or-slice_get}
 use Rattle.std.proofs.lemmas.List.{length-map}
 use Rattle.std.specs.Option.{unwrap_or}
@@ -10,12 +11,14 @@ use Rattle.tx_items.specs.declared.attributes.Attrs.{Attrs}
 use Rattle.tx_view_form.specs.Outcomes.{Moment, beginning, behind}
 use Rattle.tx_view_form.specs.Started.{attributes_of}
 use Rattle.tx_bridge.specs.Entries.{Entry, Kept, units_of, outcome_of}
+use Rattle.tx_bridge.specs.Nested.{KeptParts, part_flags, part_flags_from}
 use Rattle.tx_bridge.specs.Reached.{fits, reached_from}
 use Rattle.tx_part_layout.specs.LaidParts.{is_before}
-use Rattle.tx_view.specs.Costs.{items_of, is_relaid, relaid_from}
-use Rattle.tx_view.specs.Laid.{unlaid_from, forgotten}
+use Rattle.tx_unit_layout.specs.LaidAts.{LaidAt, laid_at}
+use Rattle.tx_unit_layout.specs.declared.shown.Shown.{Shown}
+use Rattle.tx_view.specs.Costs.{items_at, items_relaid, items_relaid_from}
+use Rattle.tx_view.specs.Laid.{laid_in, laid_parts_in, items_unlaid_from, without}
 use Rattle.tx_view.specs.Lone.{IsAlone}
-use Rattle.tx_view.proofs.Staying.{not_equal}
 
 relaid_one : (b : Bool) (laid : Option Attrs) (a : Attrs) (n : ℕ)
     → (if is_before (if not b then None else laid) a then 0 else n)
@@ -27,15 +30,19 @@ relaid_one true laid a n = by (is_before laid a)
     by false = refl
 relaid_one false laid a n = refl
 
-pub unlaid_is : (m : Moment) (kept : Kept) (laid : List (Option Attrs))
-    → unlaid_from m (units_of kept) (forgotten (reached_from m kept) laid) ≡ relaid_from m kept laid
-unlaid_is m [] laid = refl
-unlaid_is m (e ∷ es) [] = refl
-unlaid_is m (e ∷ es) (a ∷ laid) =
+-- the flags of parts are those by what was kept of them before
+pub unlaid_is : (m : Moment) (kept : Kept) (pss : List KeptParts) (xs : List Shown)
+    → items_unlaid_from m (units_of kept) (part_flags_from m kept pss) (without (reached_from m kept) xs)
+    ≡ items_relaid_from m kept pss (laid_in xs) (laid_parts_in xs)
+unlaid_is m [] pss xs = refl
+unlaid_is m (e ∷ es) [] xs = refl
+unlaid_is m (e ∷ es) (ks ∷ pss) [] = refl
+unlaid_is m (e ∷ es) (ks ∷ pss) (x ∷ xs) =
     let next : Moment = behind m (outcome_of m e.unit) in
-    ap (λ n. n + unlaid_from next (units_of es) (forgotten (reached_from next es) laid))
-    (relaid_one (fits m e.trace) a (attributes_of m.env) (items_of m e.unit))
-    ∙ ap (λ n. (if is_relaid m e a then items_of m e.unit else 0) + n) (unlaid_is next es laid)
+    let ls : List LaidAt = map laid_at x.parts in
+    ap (λ n. n + items_unlaid_from next (units_of es) (part_flags_from next es pss) (without (reached_from next es) xs))
+    (relaid_one (fits m e.trace) x.laid (attributes_of m.env) (items_at m e.unit (part_flags m e.unit ks) ls))
+    ∙ ap (λ n. items_relaid m e ks x.laid ls + n) (unlaid_is next es pss xs)
 
 pub reached_many : (m : Moment) (kept : Kept) → length (reached_from m kept) ≡ length kept
 reached_many m [] = refl
@@ -46,15 +53,19 @@ same_many old new e =
     sym (length-map old (λ (k : Entry). k.unit)) ∙ ap length (sym e) ∙ length-map new (λ (k : Entry). k.unit)
 
 -- the same of flags as a refresh leaves them
-pub relaid_is : (old new : Kept) (flags : List Bool) (laid now : List (Option Attrs))
-    → flags ≡ reached_from beginning old
-    → units_of new ≡ units_of old → now ≡ forgotten flags laid
-    → unlaid_from beginning (units_of new) now ≡ relaid_from beginning old laid
-relaid_is old new flags laid now e f g =
-    ap (λ us. unlaid_from beginning us now) f
-    ∙ ap (unlaid_from beginning (units_of old)) (g ∙ ap (λ fs. forgotten fs laid) e) ∙ unlaid_is beginning old laid
+pub relaid_is : (old new : Kept) (olds : List KeptParts) (flags : List Bool) (marks : List (List Bool))
+    (xs ys : List Shown) → flags ≡ reached_from beginning old → marks ≡ part_flags_from beginning old olds
+    → units_of new ≡ units_of old → ys ≡ without flags xs
+    → items_unlaid_from beginning (units_of new) marks ys ≡ items_relaid_from beginning old olds (laid_in xs) (laid_parts_in xs)
+relaid_is old new olds flags marks xs ys e p f g =
+    ap (λ us. items_unlaid_from beginning us marks ys) f ∙ ap (λ ms. items_unlaid_from beginning (units_of old) ms ys) p
+    ∙ ap (items_unlaid_from beginning (units_of old) (part_flags_from beginning old olds))
+    (g ∙ ap (λ fs. without fs xs) e) ∙ unlaid_is beginning old olds xs
 
 -- ---- none but one
+
+not_equal : (k i : ℕ) → (k ≡ i → ⊥) → k == i ≡ false
+not_equal k i h = false_from_ne_true (k == i) (λ e. absurd (h ((Decides-eqb k i).0 e)))
 
 pub alone_next : (lone i : ℕ) (flags : List Bool) (alone next renewed : Bool)
     → (alone ≡ true → (k : ℕ) → k < i → (k ≡ lone → ⊥) → unwrap_or (slice_get flags k) false ≡ false)

@@ -5,20 +5,23 @@ use Rattle.std.proofs.lemmas.List.Elements.{All-nil}
 use Rattle.std.specs.Prelude.{if◌then◌else◌, None, IfSome}
 use Rattle.tx_doc.specs.declared.buffer.Buffer.{Buffer}
 use Rattle.tx_lines.specs.declared.cut.Cut.{Cut}
+use Rattle.tx_units.specs.declared.kinds.Unit.{Unit as DocUnit}
 use Rattle.tx_units.specs.Units.{units}
 use Rattle.tx_items.specs.declared.attributes.Attrs.{Attrs}
 use Rattle.tx_view_form.specs.Outcomes.{beginning}
 use Rattle.tx_view_form.specs.Views.{UnitView, AreShown}
 use Rattle.tx_bridge.specs.Nested.{KeptParts, fresh_parts_from}
 use Rattle.tx_bridge.specs.Entries.{Kept, units_of, fresh_from}
-use Rattle.tx_view.specs.declared.shown.Shown.{Shown}
+use Rattle.tx_unit_layout.specs.LaidAts.{LaidAt}
+use Rattle.tx_unit_layout.specs.declared.shown.Shown.{Shown}
 use Rattle.tx_view.specs.declared.view.View.TheInside.{Inside}
 use Rattle.tx_view.specs.declared.lone.Lone.{Lone}
-use Rattle.tx_view.specs.Laid.{AreLaid, laid_in}
+use Rattle.tx_view.specs.Laid.{AreLaid, laid_in, laid_parts_in}
 use Rattle.tx_view.specs.Lone.{IsLone, IsPaged}
 use Rattle.tx_view.specs.Names.{Fresh}
-use Rattle.tx_view.specs.Stores.{Stores, attributes_from, fresh_stores}
-use Rattle.tx_view.specs.Units.{unit_view, unit_views, sums_from, row_counts, error_counts, IsReadable, AreAllApart}
+use Rattle.tx_view.specs.Stores.{Stores, attributes_from, laid_parts_from, fresh_stores}
+use Rattle.tx_view.specs.Units.{unit_views, sums_from, row_counts, error_counts, AreAllApart}
+use Rattle.tx_unit_layout.specs.Views.{unit_view, IsReadable}
 use Rattle.tx_view.specs.WholeViews.{WholeView, whole_of, all_of, IsKept}
 use Rattle.tx_view.proofs.Forgetting.{AllReadable}
 
@@ -41,8 +44,8 @@ IsLeft v =
     × IsPaged v.height (unit_views v.hidden.items) l.paged)
 
 pub stale : (v : Inside) → IsSized v → v.fresh ≡ false → v.units.items ≡ [] → v.paged.rows.items ≡ 0 ∷ []
-    → v.paged.errors.items ≡ 0 ∷ [] → AreLaid v.width v.bridges.kept v.hidden.items → AllReadable v.hidden.items
-    → IsLeft v → IsKept v
+    → v.paged.errors.items ≡ 0 ∷ [] → AreLaid v.width v.bridges.kept v.bridges.parts v.hidden.items
+    → AllReadable v.hidden.items → IsLeft v → IsKept v
 stale v sized off none rows errors laid reads left =
     let all : v.hidden.items ≡ all_of v = ap (λ b. if b then v.units.items else v.hidden.items) (sym off) in
     record {
@@ -56,7 +59,7 @@ stale v sized off none rows errors laid reads left =
       kept = λ on. absurd (let both : true ≡ false = sym on ∙ off in cc);
       hidden = λ is. none;
       of_buffers = sized.of_buffers;
-      laid = subst (AreLaid v.width v.bridges.kept) all laid;
+      laid = subst (AreLaid v.width v.bridges.kept v.bridges.parts) all laid;
       all_readable = subst AllReadable all reads;
       rows = rows ∙ ap (λ xs. sums_from 0 (row_counts (unit_views xs))) (sym none);
       errors = errors ∙ ap (λ xs. sums_from 0 (error_counts (unit_views xs))) (sym none);
@@ -66,44 +69,49 @@ stale v sized off none rows errors laid reads left =
     }
 
 abbrev whole_with : List Buffer → ℕ → ℕ → Bool → List UnitView → List Cut → Kept → List KeptParts → List (Option Attrs)
-    → ℕ → WholeView
-whole_with bs w h f us ps k pss l n =
+    → List (List LaidAt) → ℕ → WholeView
+whole_with bs w h f us ps k pss l lss n =
     record {
       buffers = bs;
       width = w;
       height = h;
       fresh = f;
       shown = record { units = us; pages = ps };
-      stores = record { kept = k; parts = pss; laid = l };
+      stores = record { kept = k; parts = pss; laid = l; laid_parts = lss };
       work = n;
     }
 
 pub stale_view : (v : Inside) (bs : List Buffer) (k : Kept) (pss : List KeptParts) (l : List (Option Attrs))
-    → v.fresh ≡ false → v.units.items ≡ [] → v.paged.pages.items ≡ [] → v.buffers.items ≡ bs → v.bridges.kept ≡ k
-    → v.bridges.parts ≡ pss → laid_in v.hidden.items ≡ l
+    (lss : List (List LaidAt)) → v.fresh ≡ false → v.units.items ≡ [] → v.paged.pages.items ≡ []
+    → v.buffers.items ≡ bs → v.bridges.kept ≡ k → v.bridges.parts ≡ pss → laid_in v.hidden.items ≡ l
+    → laid_parts_in v.hidden.items ≡ lss
     → whole_of v ≡ record {
       buffers = bs;
       width = v.width;
       height = v.height;
       fresh = false;
       shown = record { units = []; pages = [] };
-      stores = record { kept = k; parts = pss; laid = l };
+      stores = record { kept = k; parts = pss; laid = l; laid_parts = lss };
       work = v.work;
     }
-stale_view v bs k pss l off none pages is_bs is_k is_p is_l =
+stale_view v bs k pss l lss off none pages is_bs is_k is_p is_l is_lss =
     let w : ℕ = v.width in
     let h : ℕ = v.height in
     let n : ℕ = v.work in
-    ap (λ f. whole_with v.buffers.items w h f (unit_views v.units.items) v.paged.pages.items v.bridges.kept
-    v.bridges.parts (laid_in (if f then v.units.items else v.hidden.items)) n) off
+    let hidden : List Shown = v.hidden.items in
+    let shown : List Shown = v.units.items in
+    ap (λ f. whole_with v.buffers.items w h f (unit_views shown) v.paged.pages.items v.bridges.kept v.bridges.parts
+    (laid_in (if f then shown else hidden)) (laid_parts_in (if f then shown else hidden)) n) off
     ∙ ap (λ xs. whole_with v.buffers.items w h false (unit_views xs) v.paged.pages.items v.bridges.kept
-    v.bridges.parts (laid_in v.hidden.items) n) none
-    ∙ ap (λ ps. whole_with v.buffers.items w h false [] ps v.bridges.kept v.bridges.parts (laid_in v.hidden.items) n)
-    pages
-    ∙ ap (λ cs. whole_with cs w h false [] [] v.bridges.kept v.bridges.parts (laid_in v.hidden.items) n) is_bs
-    ∙ ap (λ es. whole_with bs w h false [] [] es v.bridges.parts (laid_in v.hidden.items) n) is_k
-    ∙ ap (λ ks. whole_with bs w h false [] [] k ks (laid_in v.hidden.items) n) is_p
-    ∙ ap (λ as_laid. whole_with bs w h false [] [] k pss as_laid n) is_l
+    v.bridges.parts (laid_in hidden) (laid_parts_in hidden) n) none
+    ∙ ap (λ ps. whole_with v.buffers.items w h false [] ps v.bridges.kept v.bridges.parts (laid_in hidden)
+    (laid_parts_in hidden) n) pages
+    ∙ ap (λ cs. whole_with cs w h false [] [] v.bridges.kept v.bridges.parts (laid_in hidden) (laid_parts_in hidden) n)
+    is_bs
+    ∙ ap (λ es. whole_with bs w h false [] [] es v.bridges.parts (laid_in hidden) (laid_parts_in hidden) n) is_k
+    ∙ ap (λ ks. whole_with bs w h false [] [] k ks (laid_in hidden) (laid_parts_in hidden) n) is_p
+    ∙ ap (λ as_laid. whole_with bs w h false [] [] k pss as_laid (laid_parts_in hidden) n) is_l
+    ∙ ap (λ ats. whole_with bs w h false [] [] k pss l ats n) is_lss
 
 -- nothing is known
 pub left_none : (v : Inside) → v.lone ≡ None → IsLeft v
@@ -113,14 +121,15 @@ left_none v e =
 
 -- ---- a fresh one
 
-abbrev pub stores_with : Kept → List KeptParts → List (Option Attrs) → Stores
-stores_with k pss l = record { kept = k; parts = pss; laid = l }
+abbrev pub stores_with : Kept → List KeptParts → List (Option Attrs) → List (List LaidAt) → Stores
+stores_with k pss l lss = record { kept = k; parts = pss; laid = l; laid_parts = lss }
 
 pub standing : (v : Inside) → IsSized v → v.fresh ≡ true
     → AreShown v.width beginning (units v.buffers.items) (unit_views v.units.items)
     → IsPaged v.height (unit_views v.units.items) v.paged
-    → stores_with v.bridges.kept v.bridges.parts (laid_in v.units.items) ≡ Fresh v.buffers.items
-    → AreAllApart (unit_views v.units.items) → AreLaid v.width v.bridges.kept v.units.items
+    → stores_with v.bridges.kept v.bridges.parts (laid_in v.units.items) (laid_parts_in v.units.items)
+    ≡ Fresh v.buffers.items
+    → AreAllApart (unit_views v.units.items) → AreLaid v.width v.bridges.kept v.bridges.parts v.units.items
     → AllReadable v.units.items → v.lone ≡ None → IsKept v
 standing v sized on shown paged stores apart laid reads none =
     let all : v.units.items ≡ all_of v = ap (λ b. if b then v.units.items else v.hidden.items) (sym on) in
@@ -132,10 +141,11 @@ standing v sized on shown paged stores apart laid reads none =
       least_height = sized.least_height;
       most_height = sized.most_height;
       fresh = λ is. record { shown = shown; paged = paged.pages };
-      kept = λ is. ap (λ xs. stores_with v.bridges.kept v.bridges.parts (laid_in xs)) (sym all) ∙ stores;
+      kept = λ is.
+          ap (λ xs. stores_with v.bridges.kept v.bridges.parts (laid_in xs) (laid_parts_in xs)) (sym all) ∙ stores;
       hidden = λ off. absurd (let both : true ≡ false = sym on ∙ off in cc);
       of_buffers = sized.of_buffers;
-      laid = subst (AreLaid v.width v.bridges.kept) all laid;
+      laid = subst (AreLaid v.width v.bridges.kept v.bridges.parts) all laid;
       all_readable = subst AllReadable all reads;
       rows = paged.rows;
       errors = paged.errors;
@@ -146,10 +156,12 @@ standing v sized on shown paged stores apart laid reads none =
 
 -- all units are evaluated and laid out
 pub all_made : (bs : List Buffer) (old new : Kept) (ps : List KeptParts) (laid : List (Option Attrs))
-    → units_of old ≡ units bs → new ≡ fresh_from beginning (units_of old)
+    (lss : List (List LaidAt)) → units_of old ≡ units bs → new ≡ fresh_from beginning (units_of old)
     → ps ≡ fresh_parts_from beginning (units_of old) → laid ≡ attributes_from beginning (units_of old)
-    → stores_with new ps laid ≡ fresh_stores (units bs)
-all_made bs old new ps laid of kept parts attributes =
-    ap (λ k. stores_with k ps laid) kept ∙ ap (λ q. stores_with (fresh_from beginning (units_of old)) q laid) parts
-    ∙ ap (stores_with (fresh_from beginning (units_of old)) (fresh_parts_from beginning (units_of old))) attributes
+    → lss ≡ laid_parts_from beginning (units_of old) → stores_with new ps laid lss ≡ fresh_stores (units bs)
+all_made bs old new ps laid lss of kept parts attributes ats =
+    let us : List DocUnit = units_of old in
+    ap (λ k. stores_with k ps laid lss) kept ∙ ap (λ q. stores_with (fresh_from beginning us) q laid lss) parts
+    ∙ ap (λ l. stores_with (fresh_from beginning us) (fresh_parts_from beginning us) l lss) attributes
+    ∙ ap (stores_with (fresh_from beginning us) (fresh_parts_from beginning us) (attributes_from beginning us)) ats
     ∙ ap fresh_stores of

@@ -1,28 +1,38 @@
 -- What is shown stays in place, but for one unit that has changed.
 use Rattle.std.proofs.Common.{◌≡◌, ℕ, zero, suc, ◌+◌, ◌<◌, List, [], ◌∷◌, length, map, slice_set, slice_index_or}
 use Rattle.std.proofs.Common.{Bool, true, false, Option, Some, None, refl, ap, sym, subst, ◌∙◌, arith}
-use Rattle.std.proofs.lemmas.Bool.{false_from_ne_true}
+use Rattle.std.proofs.lemmas.Bool.{false_from_ne_true, and_parts}
 use Rattle.std.proofs.lemmas.Bool.Decides.{Decides-eqb}
 use Rattle.std.proofs.lemmas.List.Elements.{recursion_from_All, All-from_recursion}
 use Rattle.std.specs.List.{AllByRecursion}
-use Rattle.std.specs.Prelude.{slice_get, option_and_then, ◌==◌, if◌then◌else◌}
+use Rattle.std.proofs.lemmas.Option.{same_Some}
+use Rattle.std.specs.Option.{option_map_or}
+use Rattle.std.specs.Prelude.{slice_get, option_and_then, is_some, ◌==◌, ◌&&◌, if◌then◌else◌}
 use Rattle.tx_tree.specs.WideTree.{WideTree}
 use Rattle.tx_mod.specs.declared.mods.Mod.{Mod}
+use Rattle.tx_mod.specs.Followed.{changed_by_all}
 use Rattle.tx_exec_form.specs.Evaluated.{WideTrace}
 use Rattle.tx_units.specs.declared.kinds.Unit.{Unit as DocUnit}
 use Rattle.tx_items.specs.declared.attributes.Attrs.{Attrs}
 use Rattle.tx_view_form.specs.Outcomes.{value_of}
+use Rattle.tx_bridge.specs.Carrying.{had, taken_from, AllStand, HaveSameTrees}
+use Rattle.tx_bridge.specs.CarryingParts.{parts_within, parts_but}
 use Rattle.tx_bridge.specs.Entries.{Entry, Kept, units_of, traces_of}
-use Rattle.tx_bridge.specs.UnitLists.{IsPlaced}
-use Rattle.tx_bridge.specs.Carrying.{had, taken_from}
-use Rattle.tx_bridge.specs.InPlace.{numbers_but}
-use Rattle.tx_bridge.specs.Names.{Sources, Carry as CarryKept}
+use Rattle.tx_bridge.specs.HeldParts.{AllPartsHold}
+use Rattle.tx_bridge.specs.InPlace.{numbers_but, is_gone, are_within, IsOneChanged}
+use Rattle.tx_bridge.specs.Names.{Sources, Carry as CarryKept, CarryParts, CarryWithin}
+use Rattle.tx_bridge.specs.Nested.{KeptParts}
+use Rattle.tx_unit_layout.specs.LaidAts.{laid_at, laid_ats}
+use Rattle.tx_unit_layout.specs.LaidUnits.{IsLaid, IsLaidOut, AreLaidParts}
+use Rattle.tx_unit_layout.specs.declared.shown.Shown.{Shown}
 use Rattle.tx_view.specs.declared.carrying.Target.{Target}
 use Rattle.tx_view.specs.declared.carrying.Target.TheVariants.{InPlace, Onto}
-use Rattle.tx_view.specs.declared.shown.Shown.{Shown}
-use Rattle.tx_view.specs.Laid.{IsLaid, IsLaidOut, AreLaid, laid_in, unlaid, StaysAs, StayBut, IsTarget, IsMoved}
+use Rattle.tx_view.specs.Exchanged.{left_at, left_but, laid_parts_of, parts_after, laid_parts_after}
+use Rattle.tx_view.specs.Laid.{AreLaid, laid_in, laid_parts_in, left_in, IsLeftBy, StayBut}
+use Rattle.tx_view.specs.Laid.{IsTarget, IsWay, IsMoved, IsInside}
 use Rattle.tx_view.proofs.Forgetting.{AllReadable}
-use Rattle.tx_view.proofs.Moved.{Reads, IsCarried, carried_on}
+use Rattle.tx_view.proofs.Moved.{Reads, IsCarried, carried_on, Same, AllSame, all_same}
+use Rattle.tx_view.proofs.OfParts.{Keeps, AllKeep, KeepingLaw, StayingLaw, keeps_all, left_laid, left_ats, same_ats}
 
 -- ---- one entry is reset
 
@@ -32,33 +42,53 @@ not_equal k i h = false_from_ne_true (k == i) (λ e. absurd (h ((Decides-eqb k i
 pub are_equal : (k i : ℕ) → k ≡ i → k == i ≡ true
 are_equal k i e = (Decides-eqb k i).1 e
 
-same_stays : (c : Bool) (y : Shown) → c ≡ false → StaysAs c y y
-same_stays c y e = subst (λ b. StaysAs b y y) (sym e) refl
+same_stays : (ms : List Mod) (c : Bool) (y : Shown) → c ≡ false → IsLeftBy ms c y y
+same_stays ms c y e = subst (λ b. IsLeftBy ms b y y) (sym e) refl
 
 -- number i is none of these
-pub stay_all : (i k : ℕ) (ys : List Shown) → ((n : ℕ) → n < length ys → k + n ≡ i → ⊥) → StayBut i k ys ys
-stay_all i k [] h = tt
-stay_all i k (y ∷ ys) h = (
-  same_stays (k == i) y (not_equal k i (λ e. h 0 (omega arith) (omega (arith, e)))),
-  stay_all i (k + 1) ys (λ n l e. h (suc n) (omega (arith, l)) (omega (arith, e))),
+pub stay_all : (ms : List Mod) (i k : ℕ) (ys : List Shown) → ((n : ℕ) → n < length ys → k + n ≡ i → ⊥)
+    → StayBut ms i k ys ys
+stay_all ms i k [] h = tt
+stay_all ms i k (y ∷ ys) h = (
+  same_stays ms (k == i) y (not_equal k i (λ e. h 0 (omega arith) (omega (arith, e)))),
+  stay_all ms i (k + 1) ys (λ n l e. h (suc n) (omega (arith, l)) (omega (arith, e))),
 )
 
-pub stay_but : (i k j : ℕ) (ys : List Shown) (d x : Shown) → i ≡ k + j → j < length ys
-    → x ≡ unlaid true (slice_index_or ys j d) → StayBut i k ys (slice_set ys j x)
-stay_but i k j [] d x e l is = absurd (omega (arith, l))
-stay_but i k zero (y ∷ ys) d x e l is = (
-  subst (λ b. StaysAs b y x) (sym (are_equal k i (omega (arith, e)))) is,
-  stay_all i (k + 1) ys (λ n less f. omega (arith, e, f)),
+pub stay_but : (ms : List Mod) (i k j : ℕ) (ys : List Shown) (d x : Shown) → i ≡ k + j → j < length ys
+    → x ≡ left_in ms (slice_index_or ys j d) → StayBut ms i k ys (slice_set ys j x)
+stay_but ms i k j [] d x e l is = absurd (omega (arith, l))
+stay_but ms i k zero (y ∷ ys) d x e l is = (
+  subst (λ b. IsLeftBy ms b y x) (sym (are_equal k i (omega (arith, e)))) is,
+  stay_all ms i (k + 1) ys (λ n less f. omega (arith, e, f)),
 )
-stay_but i k (suc j) (y ∷ ys) d x e l is = (
-  same_stays (k == i) y (not_equal k i (λ f. omega (arith, e, f))),
-  stay_but i (k + 1) j ys d x (omega (arith, e)) (omega (arith, l)) is,
+stay_but ms i k (suc j) (y ∷ ys) d x e l is = (
+  same_stays ms (k == i) y (not_equal k i (λ f. omega (arith, e, f))),
+  stay_but ms i (k + 1) j ys d x (omega (arith, e)) (omega (arith, l)) is,
 )
+
+-- ---- what stays of what is shown
+
+pub stays_same : (ms : List Mod) (y x : Shown) (c : Bool) → c ≡ false → IsLeftBy ms c y x → x ≡ y
+stays_same ms y x true e h = cc
+stays_same ms y x false e h = h
+
+pub stays_left : (ms : List Mod) (y x : Shown) (c : Bool) → c ≡ true → IsLeftBy ms c y x → x ≡ left_in ms y
+stays_left ms y x true e h = h
+stays_left ms y x false e h = cc
+
+-- number i is none of these
+pub stay_behind : (ms : List Mod) (i k : ℕ) (ys xs : List Shown) → i < k → StayBut ms i k ys xs → xs ≡ ys
+stay_behind ms i k [] [] less h = refl
+stay_behind ms i k [] (x ∷ xs) less h = absurd h
+stay_behind ms i k (y ∷ ys) [] less h = absurd h
+stay_behind ms i k (y ∷ ys) (x ∷ xs) less h =
+    ap (λ z. z ∷ xs) (stays_same ms y x (k == i) (not_equal k i (λ e. omega (arith, e, less))) h.0)
+    ∙ ap (λ zs. y ∷ zs) (stay_behind ms i (k + 1) ys xs (omega (arith, less)) h.1)
 
 -- ---- what is kept and shown of the new units
 
--- of each number from k on, these are what elements behind number k have
-abbrev pub AreFrom : {A : Type 0} → List (Option A) → ℕ → List (Option A) → Type 0
+-- of each number from k on, these are the elements behind number k
+abbrev pub AreFrom : {A : Type 0} → List A → ℕ → List A → Type 0
 AreFrom all k xs = (n m : ℕ) → m ≡ k + n → slice_get all m ≡ slice_get xs n
 
 pub had_here : {A : Type 0} (all : List (Option A)) (k : ℕ) (x : Option A) (c : Bool) → slice_get all k ≡ Some x
@@ -69,21 +99,41 @@ had_here all k x false e = ap (option_and_then (λ o. o)) e
 abbrev entry : DocUnit → Option WideTrace → Entry
 entry v o = record { unit = v; trace = o }
 
-one_stays : (width : ℕ) (e : Entry) (v : DocUnit) (o : Option WideTrace) (y x : Shown) (c : Bool)
-    → IsLaid width e y → StaysAs c y x → v.path ≡ e.unit.path → o ≡ (if c then None else e.trace)
-    → IsLaid width (entry v o) x
-one_stays width e v o y x true laid same path is = record {
-  path = ap (λ (z : Shown). z.path) same ∙ laid.path ∙ sym path;
-  laid = λ a there. absurd (let off : None ≡ Some a = sym (ap (λ (z : Shown). z.laid) same) ∙ there in cc);
+-- the unit inside which the modifications are
+one_left : (width : ℕ) (ms : List Mod) (t : WideTree) (e : Entry) (ks : KeptParts) (v : DocUnit)
+    (o : Option WideTrace) (y x : Shown) → IsLaid width e ks ks y → x ≡ left_in ms y → v.path ≡ e.unit.path
+    → Keeps ms t e ks
+    → IsLaid width (entry v o) (parts_within ms t e.unit ks) (parts_within ms t e.unit ks) x
+one_left width ms t e ks v o y x laid left path keeps = record {
+  path = ap (λ (z : Shown). z.path) left ∙ laid.path ∙ sym path;
+  laid = λ a there. absurd (off a there);
+  by_parts = λ a there. absurd (off a there);
+  same = λ a there. refl;
+  parts =
+      subst (λ (z : Shown). AreLaidParts width (parts_within ms t e.unit ks) z.parts) (sym left)
+      (left_laid width ms t e ks y laid keeps);
 }
-one_stays width e v o y x false laid same path is = record {
+  where
+    off : (a : Attrs) → x.laid ≡ Some a → ⊥
+    off a there = let none : None ≡ Some a = sym (ap (λ (z : Shown). z.laid) left) ∙ there in cc
+
+-- another unit
+one_stays : (width : ℕ) (e : Entry) (ks : KeptParts) (v : DocUnit) (o : Option WideTrace) (y x : Shown)
+    → IsLaid width e ks ks y → x ≡ y → v.path ≡ e.unit.path → v.tagged.tree ≡ e.unit.tagged.tree → o ≡ e.trace
+    → IsLaid width (entry v o) ks ks x
+one_stays width e ks v o y x laid same path tree is = record {
   path = ap (λ (z : Shown). z.path) same ∙ laid.path ∙ sym path;
   laid = λ a there.
       let out : IsLaidOut width a (value_of e.trace) e.unit.path y =
       laid.laid a (ap (λ (z : Shown). z.laid) (sym same) ∙ there) in
-      subst (λ t. IsLaidOut width a (value_of t) v.path x) (sym is)
+      subst (λ r. IsLaidOut width a (value_of r) v.path x) (sym is)
       (subst (λ p. IsLaidOut width a (value_of e.trace) p x) (sym path)
       (subst (IsLaidOut width a (value_of e.trace) e.unit.path) (sym same) out));
+  by_parts = λ a there.
+      ap (λ (z : Shown). map laid_at z.parts) same ∙ laid.by_parts a (ap (λ (z : Shown). z.laid) (sym same) ∙ there)
+      ∙ same_ats a ks e.trace e.unit v tree (ap is_some path) ∙ ap (λ r. laid_ats a (entry v r) ks) (sym is);
+  same = λ a there. refl;
+  parts = subst (λ (z : Shown). AreLaidParts width ks z.parts) (sym same) laid.parts;
 }
 
 abbrev paths_of : List DocUnit → List (Option (List ℕ))
@@ -92,88 +142,242 @@ paths_of us = map (λ u. u.path) us
 pub heads : {A : Type 0} (x y : A) (xs ys : List A) → x ∷ xs ≡ y ∷ ys → (x ≡ y) × (xs ≡ ys)
 heads x y xs ys e = (cc, cc)
 
-stay_laid : (width i k : ℕ) (traces : List (Option WideTrace)) (es : Kept) (vs : List DocUnit) (ys xs : List Shown)
-    → AreFrom traces k (traces_of es) → AreLaid width es ys → StayBut i k ys xs
-    → paths_of vs ≡ paths_of (units_of es) → AreLaid width (taken_from traces (numbers_but i k (length vs)) vs) xs
-stay_laid width i k traces [] [] [] [] from laid stay paths = tt
-stay_laid width i k traces [] [] [] (x ∷ xs) from laid stay paths = absurd stay
-stay_laid width i k traces [] [] (y ∷ ys) xs from laid stay paths = absurd laid
-stay_laid width i k traces [] (v ∷ vs) ys xs from laid stay paths = cc
-stay_laid width i k traces (e ∷ es) vs [] xs from laid stay paths = absurd laid
-stay_laid width i k traces (e ∷ es) [] (y ∷ ys) xs from laid stay paths = cc
-stay_laid width i k traces (e ∷ es) (v ∷ vs) (y ∷ ys) [] from laid stay paths = absurd stay
-stay_laid width i k traces (e ∷ es) (v ∷ vs) (y ∷ ys) (x ∷ xs) from laid stay paths =
+-- number k, which isn't i, is the old one of its number
+tree_stays : (all : List DocUnit) (i k : ℕ) (u v : DocUnit) → (k ≡ i → ⊥) → slice_get all k ≡ Some u
+    → Same all (if k == i then None else Some k) v → v.tagged.tree ≡ u.tagged.tree
+tree_stays all i k u v off at same =
+    (same k u (ap (λ b. if b then None else Some k) (not_equal k i off)) at).0
+
+trace_stays : (traces : List (Option WideTrace)) (i k : ℕ) (o : Option WideTrace) → (k ≡ i → ⊥)
+    → slice_get traces k ≡ Some o → had traces (if k == i then None else Some k) ≡ o
+trace_stays traces i k o off at =
+    had_here traces k o (k == i) at ∙ ap (λ b. if b then None else o) (not_equal k i off)
+
+-- units behind number i
+stay_past : (width i k : ℕ) (ms : List Mod) (traces : List (Option WideTrace)) (all : List DocUnit) (es : Kept)
+    (pss : List KeptParts) (vs : List DocUnit) (ys xs : List Shown) → i < k → AreFrom traces k (traces_of es)
+    → AreFrom all k (units_of es) → AreLaid width es pss ys → StayBut ms i k ys xs
+    → AllSame all (numbers_but i k (length vs)) vs → paths_of vs ≡ paths_of (units_of es)
+    → AreLaid width (taken_from traces (numbers_but i k (length vs)) vs) pss xs
+stay_past width i k ms traces all [] [] [] [] [] less from units laid stay same paths = tt
+stay_past width i k ms traces all [] [] [] [] (x ∷ xs) less from units laid stay same paths = absurd stay
+stay_past width i k ms traces all [] [] [] (y ∷ ys) xs less from units laid stay same paths = absurd laid
+stay_past width i k ms traces all [] [] (v ∷ vs) ys xs less from units laid stay same paths = cc
+stay_past width i k ms traces all [] (ks ∷ pss) vs ys xs less from units laid stay same paths = absurd laid
+stay_past width i k ms traces all (e ∷ es) [] vs ys xs less from units laid stay same paths = absurd laid
+stay_past width i k ms traces all (e ∷ es) (ks ∷ pss) vs [] xs less from units laid stay same paths = absurd laid
+stay_past width i k ms traces all (e ∷ es) (ks ∷ pss) [] (y ∷ ys) xs less from units laid stay same paths = cc
+stay_past width i k ms traces all (e ∷ es) (ks ∷ pss) (v ∷ vs) (y ∷ ys) [] less from units laid stay same paths =
+    absurd stay
+stay_past width i k ms traces all (e ∷ es) (ks ∷ pss) (v ∷ vs) (y ∷ ys) (x ∷ xs) less from units laid stay same paths =
     let both : (v.path ≡ e.unit.path) × (paths_of vs ≡ paths_of (units_of es)) =
-    heads v.path e.unit.path (paths_of vs) (paths_of (units_of es)) paths in (
-      one_stays width e v (had traces (if k == i then None else Some k)) y x (k == i) laid.0 stay.0 both.0
-          (had_here traces k e.trace (k == i) (from 0 k (omega arith))),
-      stay_laid width i (k + 1) traces es vs ys xs (λ n m f. from (suc n) m (omega (arith, f))) laid.1 stay.1 both.1,
+    heads v.path e.unit.path (paths_of vs) (paths_of (units_of es)) paths in
+    let off : k ≡ i → ⊥ = λ f. omega (arith, f, less) in (
+      one_stays width e ks v (had traces (if k == i then None else Some k)) y x laid.0
+          (stays_same ms y x (k == i) (not_equal k i off) stay.0) both.0
+          (tree_stays all i k e.unit v off (units 0 k (omega arith)) same.0)
+          (trace_stays traces i k e.trace off (from 0 k (omega arith))),
+      stay_past width i (k + 1) ms traces all es pss vs ys xs (omega (arith, less))
+          (λ n m f. from (suc n) m (omega (arith, f))) (λ n m f. units (suc n) m (omega (arith, f))) laid.1 stay.1
+          same.1 both.1,
     )
 
-one_reads : (y x : Shown) (c : Bool) → Reads y → StaysAs c y x → Reads x
-one_reads y x true reads same =
+-- units from the j-th before number i on
+stay_laid : (width i k j : ℕ) (ms : List Mod) (t : WideTree) (traces : List (Option WideTrace)) (all : List DocUnit)
+    (es : Kept) (pss : List KeptParts) (vs : List DocUnit) (ys xs : List Shown) → i ≡ k + j
+    → AreFrom traces k (traces_of es) → AreFrom all k (units_of es) → AreLaid width es pss ys → StayBut ms i k ys xs
+    → AllSame all (numbers_but i k (length vs)) vs → paths_of vs ≡ paths_of (units_of es) → AllKeep ms t es pss
+    → AreLaid width (taken_from traces (numbers_but i k (length vs)) vs) (parts_but ms t j (units_of es) pss) xs
+stay_laid width i k j ms t traces all [] [] [] [] [] is from units laid stay same paths keep = tt
+stay_laid width i k j ms t traces all [] [] [] [] (x ∷ xs) is from units laid stay same paths keep = absurd stay
+stay_laid width i k j ms t traces all [] [] [] (y ∷ ys) xs is from units laid stay same paths keep = absurd laid
+stay_laid width i k j ms t traces all [] [] (v ∷ vs) ys xs is from units laid stay same paths keep = cc
+stay_laid width i k j ms t traces all [] (ks ∷ pss) vs ys xs is from units laid stay same paths keep = absurd laid
+stay_laid width i k j ms t traces all (e ∷ es) [] vs ys xs is from units laid stay same paths keep = absurd laid
+stay_laid width i k j ms t traces all (e ∷ es) (ks ∷ pss) vs [] xs is from units laid stay same paths keep = absurd laid
+stay_laid width i k j ms t traces all (e ∷ es) (ks ∷ pss) [] (y ∷ ys) xs is from units laid stay same paths keep = cc
+stay_laid width i k j ms t traces all (e ∷ es) (ks ∷ pss) (v ∷ vs) (y ∷ ys) [] is from units laid stay same paths keep =
+    absurd stay
+stay_laid width i k zero ms t traces all (e ∷ es) (ks ∷ pss) (v ∷ vs) (y ∷ ys) (x ∷ xs) is from units laid stay same
+    paths keep =
+    let both : (v.path ≡ e.unit.path) × (paths_of vs ≡ paths_of (units_of es)) =
+    heads v.path e.unit.path (paths_of vs) (paths_of (units_of es)) paths in (
+      one_left width ms t e ks v (had traces (if k == i then None else Some k)) y x laid.0
+          (stays_left ms y x (k == i) (are_equal k i (omega (arith, is))) stay.0) both.0 keep.0,
+      stay_past width i (k + 1) ms traces all es pss vs ys xs (omega (arith, is))
+          (λ n m f. from (suc n) m (omega (arith, f))) (λ n m f. units (suc n) m (omega (arith, f))) laid.1 stay.1
+          same.1 both.1,
+    )
+stay_laid width i k (suc j) ms t traces all (e ∷ es) (ks ∷ pss) (v ∷ vs) (y ∷ ys) (x ∷ xs) is from units laid stay same
+    paths keep =
+    let both : (v.path ≡ e.unit.path) × (paths_of vs ≡ paths_of (units_of es)) =
+    heads v.path e.unit.path (paths_of vs) (paths_of (units_of es)) paths in
+    let off : k ≡ i → ⊥ = λ f. omega (arith, f, is) in (
+      one_stays width e ks v (had traces (if k == i then None else Some k)) y x laid.0
+          (stays_same ms y x (k == i) (not_equal k i off) stay.0) both.0
+          (tree_stays all i k e.unit v off (units 0 k (omega arith)) same.0)
+          (trace_stays traces i k e.trace off (from 0 k (omega arith))),
+      stay_laid width i (k + 1) j ms t traces all es pss vs ys xs (omega (arith, is))
+          (λ n m f. from (suc n) m (omega (arith, f))) (λ n m f. units (suc n) m (omega (arith, f))) laid.1 stay.1
+          same.1 both.1 keep.1,
+    )
+
+one_reads : (ms : List Mod) (y x : Shown) (c : Bool) → Reads y → IsLeftBy ms c y x → Reads x
+one_reads ms y x true reads same =
     subst Reads (sym same)
     (record { placed = reads.placed; short = reads.short; short_items = reads.short_items })
-one_reads y x false reads same = subst Reads (sym same) reads
+one_reads ms y x false reads same = subst Reads (sym same) reads
 
-stay_reads : (i k : ℕ) (ys xs : List Shown) → AllByRecursion Reads ys → StayBut i k ys xs → AllByRecursion Reads xs
-stay_reads i k [] [] reads stay = tt
-stay_reads i k [] (x ∷ xs) reads stay = absurd stay
-stay_reads i k (y ∷ ys) [] reads stay = absurd stay
-stay_reads i k (y ∷ ys) (x ∷ xs) reads stay =
-    (one_reads y x (k == i) reads.0 stay.0, stay_reads i (k + 1) ys xs reads.1 stay.1)
+stay_reads : (ms : List Mod) (i k : ℕ) (ys xs : List Shown) → AllByRecursion Reads ys → StayBut ms i k ys xs
+    → AllByRecursion Reads xs
+stay_reads ms i k [] [] reads stay = tt
+stay_reads ms i k [] (x ∷ xs) reads stay = absurd stay
+stay_reads ms i k (y ∷ ys) [] reads stay = absurd stay
+stay_reads ms i k (y ∷ ys) (x ∷ xs) reads stay =
+    (one_reads ms y x (k == i) reads.0 stay.0, stay_reads ms i (k + 1) ys xs reads.1 stay.1)
 
-one_attributes : (y x : Shown) (c : Bool) → StaysAs c y x → x.laid ≡ (if c then None else y.laid)
-one_attributes y x true same = ap (λ (z : Shown). z.laid) same
-one_attributes y x false same = ap (λ (z : Shown). z.laid) same
+one_attributes : (ms : List Mod) (y x : Shown) (c : Bool) → IsLeftBy ms c y x → x.laid ≡ (if c then None else y.laid)
+one_attributes ms y x true same = ap (λ (z : Shown). z.laid) same
+one_attributes ms y x false same = ap (λ (z : Shown). z.laid) same
 
-stay_attributes : (i k : ℕ) (all : List (Option Attrs)) (ys xs : List Shown) → AreFrom all k (laid_in ys)
-    → StayBut i k ys xs → laid_in xs ≡ map (had all) (numbers_but i k (length ys))
-stay_attributes i k all [] [] from stay = refl
-stay_attributes i k all [] (x ∷ xs) from stay = absurd stay
-stay_attributes i k all (y ∷ ys) [] from stay = absurd stay
-stay_attributes i k all (y ∷ ys) (x ∷ xs) from stay =
+stay_attributes : (ms : List Mod) (i k : ℕ) (all : List (Option Attrs)) (ys xs : List Shown)
+    → AreFrom all k (laid_in ys) → StayBut ms i k ys xs → laid_in xs ≡ map (had all) (numbers_but i k (length ys))
+stay_attributes ms i k all [] [] from stay = refl
+stay_attributes ms i k all [] (x ∷ xs) from stay = absurd stay
+stay_attributes ms i k all (y ∷ ys) [] from stay = absurd stay
+stay_attributes ms i k all (y ∷ ys) (x ∷ xs) from stay =
     ap (λ a. a ∷ laid_in xs)
-    (one_attributes y x (k == i) stay.0 ∙ sym (had_here all k y.laid (k == i) (from 0 k (omega arith))))
+    (one_attributes ms y x (k == i) stay.0 ∙ sym (had_here all k y.laid (k == i) (from 0 k (omega arith))))
     ∙ ap (λ as_laid. had all (if k == i then None else Some k) ∷ as_laid)
-    (stay_attributes i (k + 1) all ys xs (λ n m f. from (suc n) m (omega (arith, f))) stay.1)
+    (stay_attributes ms i (k + 1) all ys xs (λ n m f. from (suc n) m (omega (arith, f))) stay.1)
+
+-- of what parts are laid out
+stay_ats : (width i k j : ℕ) (ms : List Mod) (es : Kept) (pss : List KeptParts) (ys xs : List Shown) → i ≡ k + j
+    → AreLaid width es pss ys → StayBut ms i k ys xs
+    → laid_parts_in xs ≡ left_but ms j (units_of es) (laid_parts_in ys)
+stay_ats width i k j ms [] [] [] [] is laid stay = refl
+stay_ats width i k j ms [] [] [] (x ∷ xs) is laid stay = absurd stay
+stay_ats width i k j ms [] [] (y ∷ ys) xs is laid stay = absurd laid
+stay_ats width i k j ms [] (ks ∷ pss) ys xs is laid stay = absurd laid
+stay_ats width i k j ms (e ∷ es) [] ys xs is laid stay = absurd laid
+stay_ats width i k j ms (e ∷ es) (ks ∷ pss) [] xs is laid stay = absurd laid
+stay_ats width i k j ms (e ∷ es) (ks ∷ pss) (y ∷ ys) [] is laid stay = absurd stay
+stay_ats width i k zero ms (e ∷ es) (ks ∷ pss) (y ∷ ys) (x ∷ xs) is laid stay =
+    ap (λ (z : Shown). map laid_at z.parts ∷ laid_parts_in xs)
+    (stays_left ms y x (k == i) (are_equal k i (omega (arith, is))) stay.0)
+    ∙ ap (λ ls. ls ∷ laid_parts_in xs) (left_ats ms e.unit.path y laid.0.path)
+    ∙ ap (λ zs. left_at ms e.unit.path (map laid_at y.parts) ∷ laid_parts_in zs)
+    (stay_behind ms i (k + 1) ys xs (omega (arith, is)) stay.1)
+stay_ats width i k (suc j) ms (e ∷ es) (ks ∷ pss) (y ∷ ys) (x ∷ xs) is laid stay =
+    ap (λ (z : Shown). map laid_at z.parts ∷ laid_parts_in xs)
+    (stays_same ms y x (k == i) (not_equal k i (λ f. omega (arith, f, is))) stay.0)
+    ∙ ap (λ lss. map laid_at y.parts ∷ lss)
+    (stay_ats width i (k + 1) j ms es pss ys xs (omega (arith, is)) laid.1 stay.1)
 
 -- ---- an edit of a buffer
 
-pub laid_many : (width : ℕ) (es : Kept) (ys : List Shown) (vs : List DocUnit) → AreLaid width es ys
-    → paths_of vs ≡ paths_of (units_of es) → length ys ≡ length vs
-laid_many width [] [] [] h e = refl
-laid_many width [] [] (v ∷ vs) h e = cc
-laid_many width [] (y ∷ ys) vs h e = absurd h
-laid_many width (x ∷ es) [] vs h e = absurd h
-laid_many width (x ∷ es) (y ∷ ys) [] h e = cc
-laid_many width (x ∷ es) (y ∷ ys) (v ∷ vs) h e =
-    ap suc (laid_many width es ys vs h.1
+pub laid_many : (width : ℕ) (es : Kept) (pss : List KeptParts) (ys : List Shown) (vs : List DocUnit)
+    → AreLaid width es pss ys → paths_of vs ≡ paths_of (units_of es) → length ys ≡ length vs
+laid_many width [] [] [] [] h e = refl
+laid_many width [] [] [] (v ∷ vs) h e = cc
+laid_many width [] [] (y ∷ ys) vs h e = absurd h
+laid_many width [] (ks ∷ pss) ys vs h e = absurd h
+laid_many width (x ∷ es) [] ys vs h e = absurd h
+laid_many width (x ∷ es) (ks ∷ pss) [] vs h e = absurd h
+laid_many width (x ∷ es) (ks ∷ pss) (y ∷ ys) [] h e = cc
+laid_many width (x ∷ es) (ks ∷ pss) (y ∷ ys) (v ∷ vs) h e =
+    ap suc (laid_many width es pss ys vs h.1
     (heads v.path x.unit.path (paths_of vs) (paths_of (units_of es)) e).1)
 
-pub from_first : {A : Type 0} (all : List (Option A)) → AreFrom all 0 all
+pub from_first : {A : Type 0} (all : List A) → AreFrom all 0 all
 from_first all n m e = let same : m ≡ n = omega (arith, e) in ap (slice_get all) same
 
-pub carried_by : (width buffer : ℕ) (ms : List Mod) (t : WideTree) (old new : Kept) (olds xs : List Shown)
-    (to : Target) (ss : List (Option ℕ)) (vs : List DocUnit) → AreLaid width old olds → AllReadable olds
-    → AllByRecursion IsPlaced (units_of old) → AllByRecursion IsPlaced vs → new ≡ CarryKept buffer ms t old vs
-    → ss ≡ Sources buffer ms t (units_of old) vs → IsTarget (units_of old) vs ss to → IsMoved to ss olds xs
-    → IsCarried width new (map (had (laid_in olds)) (Sources buffer ms t (units_of old) vs)) xs
-unfolding CarryKept Sources
-carried_by width buffer ms t old new olds xs (InPlace i silent) ss vs laid reads placed there is_new is_ss to moves =
-    let is : Sources buffer ms t (units_of old) vs ≡ numbers_but i 0 (length vs) = sym is_ss ∙ to.0 in
+-- what the laws and the call give of the edit
+pub record IsEdit (buffer : ℕ) (ms : List Mod) (t : WideTree) (old : Kept) (pss : List KeptParts) : Type 0 where
+  pub keeping : KeepingLaw
+  pub staying : StayingLaw
+  pub tree : WideTree
+  pub made : changed_by_all ms t ≡ Some tree
+  pub stand : buffer ≡ 0 → AllStand t (units_of old)
+  pub hold : AllPartsHold old pss
+
+pub carried_by : (width buffer : ℕ) (ms : List Mod) (t : WideTree) (old new : Kept) (pss qss : List KeptParts)
+    (olds xs : List Shown) (to : Target) (ss : List (Option ℕ)) (vs : List DocUnit) → AreLaid width old pss olds
+    → AllReadable olds → IsEdit buffer ms t old pss → new ≡ CarryKept buffer ms t old vs
+    → qss ≡ parts_after buffer ms t (units_of old) pss ss → ss ≡ Sources buffer ms t (units_of old) vs
+    → IsTarget (units_of old) vs ss to → IsWay buffer ms t (units_of old) vs ss to → IsMoved ms to ss olds xs
+    → IsCarried width new qss (map (had (laid_in olds)) (Sources buffer ms t (units_of old) vs))
+    (laid_parts_after buffer ms t (units_of old) (laid_parts_in olds) (Sources buffer ms t (units_of old) vs)) xs
+unfolding CarryKept CarryWithin Sources
+carried_by width buffer ms t old new pss qss olds xs (InPlace i silent) ss vs laid reads edit is_new is_parts is_ss to
+    way moves =
+    let us : List DocUnit = units_of old in
+    let is : Sources buffer ms t us vs ≡ numbers_but i 0 (length vs) = sym is_ss ∙ to.0 in
     let kept : new ≡ taken_from (traces_of old) (numbers_but i 0 (length vs)) vs =
     is_new ∙ ap (λ ns. taken_from (traces_of old) ns vs) is in
-    let many : length olds ≡ length vs = laid_many width old olds vs laid to.1 in
+    let parts : qss ≡ parts_but ms t i us pss =
+    is_parts ∙ ap (λ o. option_map_or (λ k. CarryWithin k ms t us pss) o (CarryParts pss ss)) way.0 in
+    let many : length olds ≡ length vs = laid_many width old pss olds vs laid to.1 in
+    let same : AllSame us (numbers_but i 0 (length vs)) vs =
+    all_same us vs (numbers_but i 0 (length vs))
+    (subst (λ (ns : List (Option ℕ)). HaveSameTrees us vs ns) to.0 way.2) in
+    let keep : AllKeep ms t old pss =
+    keeps_all edit.keeping edit.staying ms t edit.tree old pss edit.made (edit.stand way.1.document) edit.hold in
+    let entries : Kept = taken_from (traces_of old) (numbers_but i 0 (length vs)) vs in
+    let stay : AreLaid width entries (parts_but ms t i us pss) xs =
+    stay_laid width i 0 i ms t (traces_of old) us old pss vs olds xs (omega arith) (from_first (traces_of old))
+    (from_first us) laid moves same to.1 keep in
     record {
       laid_out =
-          subst (λ (es : Kept). AreLaid width es xs) (sym kept)
-          (stay_laid width i 0 (traces_of old) old vs olds xs (from_first (traces_of old)) laid moves to.1);
+          subst (λ (es : Kept). AreLaid width es qss xs) (sym kept)
+          (subst (λ (js : List KeptParts). AreLaid width entries js xs) (sym parts) stay);
       readable =
-          All-from_recursion Reads xs (stay_reads i 0 olds xs (recursion_from_All Reads olds reads) moves);
+          All-from_recursion Reads xs (stay_reads ms i 0 olds xs (recursion_from_All Reads olds reads) moves);
       attributes =
-          stay_attributes i 0 (laid_in olds) olds xs (from_first (laid_in olds)) moves
+          stay_attributes ms i 0 (laid_in olds) olds xs (from_first (laid_in olds)) moves
           ∙ ap (λ n. map (had (laid_in olds)) (numbers_but i 0 n)) many ∙ ap (map (had (laid_in olds))) (sym is);
+      laid_parts =
+          stay_ats width i 0 i ms old pss olds xs (omega arith) laid moves
+          ∙ ap (λ o. option_map_or (λ k. left_but ms k us (laid_parts_in olds)) o
+          (map (laid_parts_of (laid_parts_in olds)) (Sources buffer ms t us vs))) (sym way.0);
     }
-carried_by width buffer ms t old new olds xs (Onto blanks) ss vs laid reads placed there is_new is_ss to moves =
-    carried_on width buffer ms t old new olds blanks.items xs ss vs laid reads to placed there is_new is_ss moves
+carried_by width buffer ms t old new pss qss olds xs (Onto blanks) ss vs laid reads edit is_new is_parts is_ss to
+    way moves =
+    let us : List DocUnit = units_of old in
+    let on = carried_on width buffer ms t old new pss qss olds blanks.items xs ss vs laid reads to way.1 is_new
+    (is_parts ∙ ap (λ o. option_map_or (λ k. CarryWithin k ms t us pss) o (CarryParts pss ss)) way.0) is_ss moves in
+    record {
+      laid_out = on.laid_out;
+      readable = on.readable;
+      attributes = on.attributes;
+      laid_parts =
+          on.laid_parts
+          ∙ ap (λ o. option_map_or (λ k. left_but ms k us (laid_parts_in olds)) o
+          (map (laid_parts_of (laid_parts_in olds)) (Sources buffer ms t us vs))) (sym way.0);
+    }
+
+-- ---- the modifications are inside the unit that changes
+
+path_laid : (width : ℕ) (es : Kept) (pss : List KeptParts) (ys : List Shown) (i : ℕ) (u : DocUnit) (x : Shown)
+    → AreLaid width es pss ys → slice_get (units_of es) i ≡ Some u → slice_get ys i ≡ Some x → x.path ≡ u.path
+path_laid width [] pss ys i u x laid at here = cc
+path_laid width (e ∷ es) [] ys i u x laid at here = absurd laid
+path_laid width (e ∷ es) (ks ∷ pss) [] i u x laid at here = absurd laid
+path_laid width (e ∷ es) (ks ∷ pss) (y ∷ ys) zero u x laid at here =
+    ap (λ (z : Shown). z.path) (sym (same_Some y x here)) ∙ laid.0.path
+    ∙ ap (λ (v : DocUnit). v.path) (same_Some e.unit u at)
+path_laid width (e ∷ es) (ks ∷ pss) (y ∷ ys) (suc i) u x laid at here = path_laid width es pss ys i u x laid.1 at here
+
+pub inside_by : (width buffer : ℕ) (ms : List Mod) (t : WideTree) (old : Kept) (pss : List KeptParts)
+    (olds : List Shown) (to : Target) (ss : List (Option ℕ)) (vs : List DocUnit) → AreLaid width old pss olds
+    → IsWay buffer ms t (units_of old) vs ss to → IsInside ms to olds
+inside_by width buffer ms t old pss olds (Onto blanks) ss vs laid way = tt
+inside_by width buffer ms t old pss olds (InPlace i silent) ss vs laid way =
+    let one : IsOneChanged i buffer ms (units_of old) = way.1 in
+    λ x at. by x one.unit.path (path_laid width old pss olds i one.unit x laid one.there at) one.changed
+  where
+    by : (x : Shown) (o : Option (List ℕ)) → x.path ≡ o
+        → option_map_or (λ path. is_gone path ms && are_within path ms) o false ≡ true
+        → (path : List ℕ) × (x.path ≡ Some path) × (are_within path ms ≡ true)
+    by x None is e = absurd cc
+    by x (Some path) is e = (path, is, (and_parts (is_gone path ms) (are_within path ms) e).1)

@@ -13,8 +13,9 @@ use Rattle.tx_items.specs.declared.drawing.Paragraph.{Paragraph}
 use Rattle.tx_view_form.specs.Positions.{Mark, mark_of, marks_of}
 use Rattle.tx_view_form.specs.Stops.{put, each_once, unit_stops, stops_by}
 use Rattle.tx_view.specs.Marks.{first_of, both_ends, stops_at, stops_on, spot_place, spot_places}
-use Rattle.tx_view.specs.Units.{unit_view, unit_views}
-use Rattle.tx_view.specs.declared.shown.Shown.{Shown}
+use Rattle.tx_view.specs.Units.{unit_views}
+use Rattle.tx_unit_layout.specs.Views.{unit_view}
+use Rattle.tx_unit_layout.specs.declared.shown.Shown.{Shown}
 use Rattle.tx_view.proofs.UnitRows.{all_more}
 use Rattle.tx_view.proofs.Finding.{or_else, first_marks}
 

@@ -9,9 +9,10 @@ use Rattle.std.proofs.lemmas.List.Concat.{flat_map-append}
 use Rattle.tx_items.specs.declared.drawing.ErrorAt.{ErrorAt}
 use Rattle.tx_view_form.specs.Views.{UnitView}
 use Rattle.tx_view_form.specs.Cells.{row_in}
-use Rattle.tx_view.specs.Units.{unit_view, unit_views, sums_from, row_counts, error_counts, number_in}
+use Rattle.tx_view.specs.Units.{unit_views, sums_from, row_counts, error_counts, number_in}
+use Rattle.tx_unit_layout.specs.Views.{unit_view}
 use Rattle.tx_view.specs.Rows.{IsRow, IsError}
-use Rattle.tx_view.specs.declared.shown.Shown.{Shown}
+use Rattle.tx_unit_layout.specs.declared.shown.Shown.{Shown}
 use Rattle.tx_view.proofs.Numbering.{sums_length}
 
 -- ---- the sums as units come

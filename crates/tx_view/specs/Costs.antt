@@ -1,25 +1,37 @@
--- How many steps a refresh takes.
+-- How many items a refresh lays out anew.
 use Rattle.std.specs.Prelude.{ℕ, ◌+◌, Bool, not, ◌||◌, if◌then◌else◌, List, [], ◌∷◌, Option}
 use Rattle.tx_units.specs.declared.kinds.Unit.{Unit as DocUnit}
 use Rattle.tx_items.specs.declared.attributes.Attrs.{Attrs}
-use Rattle.tx_view_form.specs.Outcomes.{Moment, behind, value_of}
+use Rattle.tx_view_form.specs.Outcomes.{Moment, behind}
 use Rattle.tx_view_form.specs.Started.{attributes_of}
-use Rattle.tx_view_form.specs.Views.{paragraphs_at}
 use Rattle.tx_bridge.specs.Entries.{Entry, Kept, outcome_of}
+use Rattle.tx_bridge.specs.Nested.{KeptParts, fresh_parts, part_flags}
 use Rattle.tx_bridge.specs.Reached.{fits}
-use Rattle.tx_part_layout.specs.LaidParts.{is_before, items_in}
+use Rattle.tx_part_layout.specs.LaidParts.{is_before}
+use Rattle.tx_unit_layout.specs.LaidAts.{LaidAt, unit_items_anew}
 
--- how many items a unit shows on pages, where it is evaluated at this moment
-abbrev pub items_of : Moment → DocUnit → ℕ
-items_of m u = items_in (paragraphs_at u.path (attributes_of m.env) (value_of (outcome_of m u)))
+-- the unit with what it comes to, where it is evaluated at this moment
+abbrev pub entry_at : Moment → DocUnit → Entry
+entry_at m u = record { unit = u; trace = outcome_of m u }
+
+-- how many items are laid out anew of a unit that is evaluated at this moment, where these are the flags of its parts,
+-- and of these they were laid out before
+abbrev pub items_at : Moment → DocUnit → List Bool → List LaidAt → ℕ
+items_at m u fs ls = unit_items_anew (attributes_of m.env) (entry_at m u) (fresh_parts m u) fs ls
 
 -- a unit is laid out anew where it is evaluated anew, or was laid out for other attributes or not at all
 abbrev pub is_relaid : Moment → Entry → Option Attrs → Bool
 is_relaid m e laid = not (fits m e.trace) || not (is_before laid (attributes_of m.env))
 
--- the items of the units that are laid out anew, from a moment on
-abbrev pub relaid_from : Moment → Kept → List (Option Attrs) → ℕ
-relaid_from m [] laid = 0
-relaid_from m (e ∷ es) [] = 0
-relaid_from m (e ∷ es) (a ∷ laid) =
-    (if is_relaid m e a then items_of m e.unit else 0) + relaid_from (behind m (outcome_of m e.unit)) es laid
+-- the items that are laid out anew of the unit of which this was laid out
+abbrev pub items_relaid : Moment → Entry → KeptParts → Option Attrs → List LaidAt → ℕ
+items_relaid m e ks laid ls = if is_relaid m e laid then items_at m e.unit (part_flags m e.unit ks) ls else 0
+
+-- those of all units, from a moment on
+abbrev pub items_relaid_from : Moment → Kept → List KeptParts → List (Option Attrs) → List (List LaidAt) → ℕ
+items_relaid_from m [] pss laid lss = 0
+items_relaid_from m (e ∷ es) [] laid lss = 0
+items_relaid_from m (e ∷ es) (ks ∷ pss) [] lss = 0
+items_relaid_from m (e ∷ es) (ks ∷ pss) (a ∷ laid) [] = 0
+items_relaid_from m (e ∷ es) (ks ∷ pss) (a ∷ laid) (ls ∷ lss) =
+    items_relaid m e ks a ls + items_relaid_from (behind m (outcome_of m e.unit)) es pss laid lss

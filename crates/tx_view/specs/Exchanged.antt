@@ -1,6 +1,7 @@
 -- A paragraph inside which an edit is, and which is found to change alone. That it isn't found says nothing.
 use Rattle.std.specs.Prelude.{◌≡◌, ℕ, zero, suc, ◌+◌, Bool, true, false, if◌then◌else◌, List, [], ◌∷◌, Option, Some}
-use Rattle.std.specs.Prelude.{None, option_and_then}
+use Rattle.std.specs.Prelude.{None, option_and_then, map, slice_get, ◌++◌}
+use Rattle.std.specs.List.{filter}
 use Rattle.std.specs.Option.{option_map_or}
 use Rattle.tx_tree.specs.Paths.{subtree}
 use Rattle.tx_tree.specs.WideTree.{WideTree}
@@ -10,7 +11,9 @@ use Rattle.tx_units.specs.Inside.{leaves_others}
 use Rattle.tx_mod.specs.Followed.{changed_by_all}
 use Rattle.tx_bridge.specs.InPlace.{is_changed, IsOneChanged}
 use Rattle.tx_bridge.specs.Nested.{KeptParts}
+use Rattle.tx_bridge.specs.Keeping.{all_keep_place}
 use Rattle.tx_bridge.specs.Names.{CarryParts, CarryWithin}
+use Rattle.tx_unit_layout.specs.LaidAts.{LaidAt}
 
 -- the tree that stands in t where the unit's paragraph stood is found to leave all other units
 abbrev pub stays_alone : WideTree → DocUnit → Bool
@@ -37,6 +40,32 @@ exchanged buffer ms t us = option_and_then (λ u. exchanged_in buffer ms u us) (
 abbrev pub parts_after : ℕ → List Mod → WideTree → List DocUnit → List KeptParts → List (Option ℕ) → List KeptParts
 parts_after buffer ms t us pss ss =
     option_map_or (λ i. CarryWithin i ms t us pss) (exchanged buffer ms t us) (CarryParts pss ss)
+
+-- ---- what is laid out of parts
+
+-- of the unit at this path, what is laid out of parts that the modifications are found to leave in their place
+abbrev pub left_at : List Mod → Option (List ℕ) → List LaidAt → List LaidAt
+left_at ms path ls = option_map_or (λ p. filter (λ l. all_keep_place ms (p ++ l.path)) ls) path []
+
+-- so it is of the unit of number i; of the others all stays
+abbrev pub left_but : List Mod → ℕ → List DocUnit → List (List LaidAt) → List (List LaidAt)
+left_but ms i [] lss = []
+left_but ms i (u ∷ us) [] = []
+left_but ms zero (u ∷ us) (ls ∷ lss) = left_at ms u.path ls ∷ lss
+left_but ms (suc i) (u ∷ us) (ls ∷ lss) = ls ∷ left_but ms i us lss
+
+-- what is laid out of the parts of the old unit that a new one is
+abbrev pub laid_parts_of : List (List LaidAt) → Option ℕ → List LaidAt
+laid_parts_of lss s = option_map_or (λ ls. ls) (option_and_then (slice_get lss) s) []
+
+-- What stays of what is laid out of the parts of these units, where the new units are these old ones: where one
+-- paragraph is found to change alone, what is of parts left in their place in it, and all of the others.
+abbrev pub laid_parts_after : ℕ → List Mod → WideTree → List DocUnit → List (List LaidAt) → List (Option ℕ)
+    → List (List LaidAt)
+laid_parts_after buffer ms t us lss ss =
+    option_map_or (λ i. left_but ms i us lss) (exchanged buffer ms t us) (map (laid_parts_of lss) ss)
+
+-- ---- an edit of one paragraph
 
 -- the tree x stands in t where the unit's paragraph stood, and is found to leave all other units
 pub record IsNow (u : DocUnit) (t x : WideTree) : Type 0 where

@@ -1,67 +1,82 @@
 -- Units that are laid out, with what is kept of them. Private clauses cite these.
-use Rattle.std.specs.Prelude.{◌≡◌, ℕ, ◌≤◌, ◌<◌, ◌+◌, ◌*◌, ◌^◌, ◌==◌, Bool, true, false, if◌then◌else◌, List, [], ◌∷◌}
-use Rattle.std.specs.Prelude.{map, length, Option, Some, None, option_and_then, slice_get, ◌⊎◌}
-use Rattle.tx_tree.specs.WideTree.{size_of}
+use Rattle.std.specs.Prelude.{◌≡◌, ℕ, ◌≤◌, ◌<◌, ◌+◌, ◌*◌, ◌^◌, ◌++◌, ◌==◌, Bool, true, false, if◌then◌else◌, List, []}
+use Rattle.std.specs.Prelude.{◌∷◌, map, length, Option, Some, None, option_and_then, slice_get, ◌⊎◌}
+use Rattle.std.specs.List.{filter}
+use Rattle.std.specs.Option.{option_map_or}
+use Rattle.tx_tree.specs.WideTree.{WideTree}
 use Rattle.tx_env.specs.Environments.{NameMap}
-use Rattle.tx_origin.specs.Values.{WideValue, plain}
+use Rattle.tx_mod.specs.declared.mods.Mod.{Mod}
 use Rattle.tx_units.specs.declared.kinds.Unit.{Unit as DocUnit}
 use Rattle.tx_items.specs.declared.attributes.Attrs.{Attrs}
-use Rattle.tx_items.specs.Shows.{shown_paragraphs}
 use Rattle.tx_view_form.specs.Outcomes.{Moment, behind, env_behind, value_of}
 use Rattle.tx_view_form.specs.Started.{attributes_of}
-use Rattle.tx_view_form.specs.Views.{IsShown}
-use Rattle.tx_view_form.specs.Weights.{weight_of}
 use Rattle.tx_bridge.specs.Bridged.{Bridged}
+use Rattle.tx_bridge.specs.Carrying.{HaveSameTrees}
 use Rattle.tx_bridge.specs.Entries.{Entry, Kept, outcome_of}
-use Rattle.tx_bridge.specs.InPlace.{numbers_but}
-use Rattle.tx_view.specs.Costs.{items_of}
-use Rattle.tx_view.specs.Stores.{Stores, IsOf}
+use Rattle.tx_bridge.specs.InPlace.{numbers_but, are_within, IsOneChanged}
+use Rattle.tx_bridge.specs.Keeping.{all_keep_place}
+use Rattle.tx_bridge.specs.Nested.{KeptParts}
 use Rattle.tx_part_layout.specs.LaidParts.{is_before}
-use Rattle.tx_view.specs.Units.{unit_view}
+use Rattle.tx_part_layout.specs.declared.laid.LaidPart.{LaidPart}
+use Rattle.tx_unit_layout.specs.LaidAts.{LaidAt, laid_at}
+use Rattle.tx_unit_layout.specs.LaidUnits.{IsLaidOut, IsLaid, WasLaid}
+use Rattle.tx_unit_layout.specs.declared.shown.Shown.{Shown}
+use Rattle.tx_view.specs.Costs.{items_at}
+use Rattle.tx_view.specs.Exchanged.{exchanged}
+use Rattle.tx_view.specs.Stores.{Stores, IsOf}
 use Rattle.tx_view.specs.declared.carrying.Target.{Target}
 use Rattle.tx_view.specs.declared.carrying.Target.TheVariants.{InPlace, Onto}
-use Rattle.tx_view.specs.declared.shown.Shown.{Shown}
 
 abbrev pub laid_in : List Shown → List (Option Attrs)
 laid_in xs = map (λ x. x.laid) xs
 
+abbrev pub laid_parts_in : List Shown → List (List LaidAt)
+laid_parts_in xs = map (λ x. map laid_at x.parts) xs
+
 abbrev pub stores_in : Bridged → List Shown → Stores
-stores_in b xs = record { kept = b.kept; parts = b.parts; laid = laid_in xs }
+stores_in b xs = record { kept = b.kept; parts = b.parts; laid = laid_in xs; laid_parts = laid_parts_in xs }
 
--- this is shown of a unit with this path, where these are the attributes before it and this is its value
-pub record IsLaidOut (width : ℕ) (a : Attrs) (v : WideValue) (path : Option (List ℕ)) (x : Shown) : Type 0 where
-  pub shown : IsShown width a v path (unit_view x)
-  pub few_lines : length x.lines ≤ weight_of (shown_paragraphs a v)
-  pub few_errors : length x.errors.items ≤ size_of (plain v)
+-- each unit is laid out of what is kept of it
+abbrev pub AreLaid : ℕ → Kept → List KeptParts → List Shown → Type 0
+AreLaid width [] [] [] = Unit {0}
+AreLaid width [] [] (x ∷ xs) = ⊥
+AreLaid width [] (ks ∷ pss) xs = ⊥
+AreLaid width (e ∷ es) [] xs = ⊥
+AreLaid width (e ∷ es) (ks ∷ pss) [] = ⊥
+AreLaid width (e ∷ es) (ks ∷ pss) (x ∷ xs) = IsLaid width e ks ks x × AreLaid width es pss xs
 
--- What is shown has the unit's path. Where it was laid out for some attributes, it is what these and what is kept of
--- the unit show.
-pub record IsLaid (width : ℕ) (e : Entry) (x : Shown) : Type 0 where
-  pub path : x.path ≡ e.unit.path
-  pub laid : (a : Attrs) → x.laid ≡ Some a → IsLaidOut width a (value_of e.trace) e.unit.path x
+-- so it was before the parts with flags were evaluated anew
+abbrev pub WereLaid : ℕ → Kept → List KeptParts → List (List Bool) → List Shown → Type 0
+WereLaid width [] [] [] [] = Unit {0}
+WereLaid width [] [] [] (x ∷ xs) = ⊥
+WereLaid width [] [] (fs ∷ fss) xs = ⊥
+WereLaid width [] (ks ∷ pss) fss xs = ⊥
+WereLaid width (e ∷ es) [] fss xs = ⊥
+WereLaid width (e ∷ es) (ks ∷ pss) [] xs = ⊥
+WereLaid width (e ∷ es) (ks ∷ pss) (fs ∷ fss) [] = ⊥
+WereLaid width (e ∷ es) (ks ∷ pss) (fs ∷ fss) (x ∷ xs) = WasLaid width e ks fs x × WereLaid width es pss fss xs
 
-abbrev pub AreLaid : ℕ → Kept → List Shown → Type 0
-AreLaid width [] [] = Unit {0}
-AreLaid width [] (x ∷ xs) = ⊥
-AreLaid width (e ∷ es) [] = ⊥
-AreLaid width (e ∷ es) (x ∷ xs) = IsLaid width e x × AreLaid width es xs
+-- this is kept of unit i and of its parts, which have these flags
+pub record IsUnit (b : Bridged) (i : ℕ) (e : Entry) (ks : KeptParts) (fs : List Bool) : Type 0 where
+  pub entry : slice_get b.kept i ≡ Some e
+  pub parts : slice_get b.parts i ≡ Some ks
+  pub flags : slice_get b.part_flags i ≡ Some fs
 
 -- ---- what laying out takes
 
--- the items of the units that aren't laid out for the attributes before them, from a moment on
-abbrev pub unlaid_from : Moment → List DocUnit → List (Option Attrs) → ℕ
-unlaid_from m [] laid = 0
-unlaid_from m (u ∷ us) [] = 0
-unlaid_from m (u ∷ us) (a ∷ laid) =
-    (if is_before a (attributes_of m.env) then 0 else items_of m u) + unlaid_from (behind m (outcome_of m u)) us laid
+-- the items of a unit with these flags, if it isn't laid out for the attributes before it, at this moment
+abbrev pub items_unlaid : Moment → DocUnit → List Bool → Shown → ℕ
+items_unlaid m u fs x = if is_before x.laid (attributes_of m.env) then 0 else items_at m u fs (map laid_at x.parts)
 
--- what was laid out of units with a flag is dropped
-abbrev pub forgotten : List Bool → List (Option Attrs) → List (Option Attrs)
-forgotten [] laid = laid
-forgotten (f ∷ fs) [] = []
-forgotten (f ∷ fs) (a ∷ laid) = (if f then None else a) ∷ forgotten fs laid
+-- the items of all such units, from a moment on
+abbrev pub items_unlaid_from : Moment → List DocUnit → List (List Bool) → List Shown → ℕ
+items_unlaid_from m [] fss xs = 0
+items_unlaid_from m (u ∷ us) [] xs = 0
+items_unlaid_from m (u ∷ us) (fs ∷ fss) [] = 0
+items_unlaid_from m (u ∷ us) (fs ∷ fss) (x ∷ xs) =
+    items_unlaid m u fs x + items_unlaid_from (behind m (outcome_of m u)) us fss xs
 
--- so it is of what is shown
+-- units with a flag aren't laid out any more
 abbrev pub unlaid : Bool → Shown → Shown
 unlaid f x = record x { laid = if f then None else x.laid }
 
@@ -72,16 +87,30 @@ without (f ∷ fs) (x ∷ xs) = unlaid f x ∷ without fs xs
 
 -- One unit more is laid out, at the moment before it. `before` and `after` are the moment there and the one behind it,
 -- x and y what was shown and what is shown, and `items` is how many items were laid out.
-pub record IsNext (width : ℕ) (e : Entry) (before after : Moment) (x y : Shown) (items : ℕ) : Type 0 where
+pub record IsNext (width : ℕ) (e : Entry) (ks : KeptParts) (fs : List Bool) (before after : Moment) (x y : Shown)
+    (items : ℕ) : Type 0 where
   pub behind_is : after ≡ behind before (outcome_of before e.unit)
   pub laid_out : IsLaidOut width (attributes_of before.env) (value_of e.trace) e.unit.path y
   pub attributes : y.laid ≡ Some (attributes_of before.env)
+  pub was_laid : WasLaid width e ks fs y
   pub lines : length y.lines + 242 * after.left ≤ 242 * before.left + 49
   pub errors : length y.errors.items + after.left ≤ before.left + 7
-  pub items_is : items ≡ (if is_before x.laid (attributes_of before.env) then 0 else items_of before e.unit)
+  pub items_is : items ≡ items_unlaid before e.unit fs x
   pub most : items + 243 * after.left ≤ 243 * before.left + 49
 
 -- ---- what is left for want of memory
+
+-- nothing is laid out, of the unit or of its parts
+abbrev pub dropped : Shown → Shown
+dropped x = record x { laid = None; parts = [] }
+
+-- where something was laid out of parts of the unit, nothing stays laid out, of it or of them
+abbrev pub dropped_by : List LaidPart → Shown → Shown
+dropped_by [] x = x
+dropped_by (p ∷ ps) x = dropped x
+
+abbrev pub without_parts : List Shown → List Shown
+without_parts xs = map (λ x. dropped_by x.parts x) xs
 
 -- a unit is laid out as before, by the trace of before, or not at all
 abbrev pub StayLaid : Stores → Stores → Type 0
@@ -98,8 +127,10 @@ ArePartlyLaid old fresh new =
 pub record IsBlank (path : Option (List ℕ)) (x : Shown) : Type 0 where
   pub path_is : x.path ≡ path
   pub laid : x.laid ≡ None
+  pub errors : x.errors.items ≡ []
   pub paragraphs : x.paragraphs.items ≡ []
   pub lines : x.lines ≡ []
+  pub parts : x.parts ≡ []
 
 abbrev pub AreBlank : List DocUnit → List Shown → Type 0
 AreBlank [] [] = Unit {0}
@@ -108,30 +139,44 @@ AreBlank (u ∷ us) [] = ⊥
 AreBlank (u ∷ us) (x ∷ xs) = IsBlank u.path x × AreBlank us xs
 
 -- what is shown of the other unit, if there is one, but for its path
-abbrev pub with_shown : Shown → Option Shown → Shown
-with_shown x None = x
-with_shown x (Some y) = record y { path = x.path }
+abbrev pub taking_shown : Shown → Option Shown → Shown
+taking_shown x None = x
+taking_shown x (Some y) = record y { path = x.path }
 
-abbrev pub shown_at : List Shown → Option ℕ → Option Shown
-shown_at old s = option_and_then (λ i. slice_get old i) s
+abbrev pub source_shown : List Shown → Option ℕ → Option Shown
+source_shown old s = option_and_then (λ i. slice_get old i) s
 
 -- of each new unit what was shown of the old one that it is
 abbrev pub moved : List (Option ℕ) → List Shown → List Shown → List Shown
 moved [] old xs = xs
 moved (s ∷ ss) old [] = []
-moved (s ∷ ss) old (x ∷ xs) = with_shown x (shown_at old s) ∷ moved ss old xs
+moved (s ∷ ss) old (x ∷ xs) = taking_shown x (source_shown old s) ∷ moved ss old xs
 
--- what was shown of a unit stays, but isn't laid out any more where the unit has changed
-abbrev pub StaysAs : Bool → Shown → Shown → Type 0
-StaysAs true y x = x ≡ unlaid true y
-StaysAs false y x = x ≡ y
+-- what was shown of a unit through modifications inside it: it isn't laid out any more, and of its parts those are that
+-- are found to be left in their place
+abbrev pub left_in : List Mod → Shown → Shown
+left_in ms y = record y {
+  laid = None;
+  parts = option_map_or (λ path. filter (λ p. all_keep_place ms (path ++ p.path)) y.parts) y.path [];
+}
 
--- so it is of all units from number k on, where number i has changed
-abbrev pub StayBut : ℕ → ℕ → List Shown → List Shown → Type 0
-StayBut i k [] [] = Unit {0}
-StayBut i k [] (x ∷ xs) = ⊥
-StayBut i k (y ∷ ys) [] = ⊥
-StayBut i k (y ∷ ys) (x ∷ xs) = StaysAs (k == i) y x × StayBut i (k + 1) ys xs
+-- where the flag is set, the modifications were inside the unit; else what was shown of it stays as it was
+abbrev pub IsLeftBy : List Mod → Bool → Shown → Shown → Type 0
+IsLeftBy ms true y x = x ≡ left_in ms y
+IsLeftBy ms false y x = x ≡ y
+
+-- so it is of all units from number k on, where all modifications are inside number i
+abbrev pub StayBut : List Mod → ℕ → ℕ → List Shown → List Shown → Type 0
+StayBut ms i k [] [] = Unit {0}
+StayBut ms i k [] (x ∷ xs) = ⊥
+StayBut ms i k (y ∷ ys) [] = ⊥
+StayBut ms i k (y ∷ ys) (x ∷ xs) = IsLeftBy ms (k == i) y x × StayBut ms i (k + 1) ys xs
+
+-- where what is shown stays in place, the modifications are all inside the unit that has changed
+abbrev pub IsInside : List Mod → Target → List Shown → Type 0
+IsInside ms (InPlace i silent) xs =
+    (x : Shown) → slice_get xs i ≡ Some x → (path : List ℕ) × (x.path ≡ Some path) × (are_within path ms ≡ true)
+IsInside ms (Onto blanks) xs = Unit {0}
 
 -- What is shown stays in place where each unit keeps its number and its path, but for one that has changed. Else it
 -- goes to blank ones.
@@ -140,14 +185,20 @@ IsTarget us vs ss (InPlace i silent) =
     (ss ≡ numbers_but i 0 (length vs)) × (map (λ v. v.path) vs ≡ map (λ u. u.path) us)
 IsTarget us vs ss (Onto blanks) = AreBlank vs blanks.items
 
+-- It stays in place where one paragraph is found to change alone. Each new unit has the tree of the old one that it is.
+abbrev pub IsWay : ℕ → List Mod → WideTree → List DocUnit → List DocUnit → List (Option ℕ) → Target → Type 0
+IsWay buffer ms t us vs ss (InPlace i silent) =
+    (exchanged buffer ms t us ≡ Some i) × IsOneChanged i buffer ms us × HaveSameTrees us vs ss
+IsWay buffer ms t us vs ss (Onto blanks) = (exchanged buffer ms t us ≡ None) × HaveSameTrees us vs ss
+
 abbrev pub IsFew : Target → Type 0
 IsFew (InPlace i silent) = Unit {0}
 IsFew (Onto blanks) = length blanks.items < 2 ^ 32
 
 -- what was shown has gone there
-abbrev pub IsMoved : Target → List (Option ℕ) → List Shown → List Shown → Type 0
-IsMoved (InPlace i silent) ss old xs = StayBut i 0 old xs
-IsMoved (Onto blanks) ss old xs = xs ≡ moved ss old blanks.items
+abbrev pub IsMoved : List Mod → Target → List (Option ℕ) → List Shown → List Shown → Type 0
+IsMoved ms (InPlace i silent) ss old xs = StayBut ms i 0 old xs
+IsMoved ms (Onto blanks) ss old xs = xs ≡ moved ss old blanks.items
 
 -- where `silent`, what was kept of the unit that has changed set no name
 abbrev pub SetNoName : Kept → Target → Type 0

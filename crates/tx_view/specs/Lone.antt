@@ -14,7 +14,7 @@ use Rattle.tx_bridge.specs.Entries.{Kept, traces_of}
 use Rattle.tx_view.specs.Laid.{laid_in}
 use Rattle.tx_view.specs.Units.{unit_views, sums_from, row_counts, error_counts}
 use Rattle.tx_view.specs.declared.paging.Pagination.{Pagination}
-use Rattle.tx_view.specs.declared.shown.Shown.{Shown}
+use Rattle.tx_unit_layout.specs.declared.shown.Shown.{Shown}
 
 -- the attributes before each unit, where names have this before the first and these are the units' traces
 abbrev pub attributes_along : NameMap → List (Option WideTrace) → List (Option Attrs)

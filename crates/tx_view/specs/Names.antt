@@ -10,9 +10,9 @@ use Rattle.tx_bridge.specs.Entries.{units_of, nothing_kept}
 use Rattle.tx_bridge.specs.Sound.{AllHold}
 use Rattle.tx_bridge.specs.HeldParts.{AllPartsHold}
 use Rattle.tx_bridge.specs.Names.{Charge, Sources, Carry as CarryKept}
-use Rattle.tx_view.specs.Exchanged.{parts_after}
-use Rattle.tx_view.specs.Costs.{relaid_from}
-use Rattle.tx_view.specs.Stores.{Stores, fresh_stores}
+use Rattle.tx_view.specs.Exchanged.{parts_after, laid_parts_after}
+use Rattle.tx_view.specs.Costs.{items_relaid_from}
+use Rattle.tx_view.specs.Stores.{Stores, fresh_stores, AllLaidAreKept}
 
 -- nothing is kept of the units of these buffers
 unfoldable pub Empty : List Buffer → Stores
@@ -20,6 +20,7 @@ Empty buffers = record {
   kept = nothing_kept (units buffers);
   parts = map (λ u. []) (units buffers);
   laid = map (λ u. None) (units buffers);
+  laid_parts = map (λ u. []) (units buffers);
 }
 
 -- what making the view of these buffers from nothing leaves
@@ -27,9 +28,10 @@ unfoldable pub Fresh : List Buffer → Stores
 Fresh buffers = fresh_stores (units buffers)
 
 -- What a refresh takes: what the units are charged that are evaluated anew, which for a nested one are the costs of the
--- parts of which nothing that fits is kept, and the items of those laid out anew.
+-- parts of which nothing that fits is kept, and the items of those laid out anew, which for a nested one that isn't over
+-- are those of the parts of which nothing that fits is kept, or that aren't laid out for the attributes before them.
 unfoldable pub Bound : Stores → ℕ
-Bound s = Charge s.kept s.parts + relaid_from beginning s.kept s.laid
+Bound s = Charge s.kept s.parts + items_relaid_from beginning s.kept s.parts s.laid s.laid_parts
 
 -- what stays of what is kept, where the modifications of a buffer make the new buffers of the old ones
 unfoldable pub Carry : ℕ → List Mod → List Buffer → Stores → List Buffer → Stores
@@ -39,11 +41,14 @@ Carry buffer ms old s new = record {
       parts_after buffer ms (tree_of old buffer) (units_of s.kept) s.parts
       (Sources buffer ms (tree_of old buffer) (units_of s.kept) (units new));
   laid = map (had s.laid) (Sources buffer ms (tree_of old buffer) (units_of s.kept) (units new));
+  laid_parts =
+      laid_parts_after buffer ms (tree_of old buffer) (units_of s.kept) s.laid_parts
+      (Sources buffer ms (tree_of old buffer) (units_of s.kept) (units new));
 }
 
 -- what is kept is of the units of these buffers, and the trace of a unit, or of a part, is that of its tree wherever
--- what it looked up is as it was
+-- what it looked up is as it was; what is laid out of a part is of one that is kept
 unfoldable pub Holds : List Buffer → Stores → Type 0
 Holds buffers s =
     AllHold s.kept × AllPartsHold s.kept s.parts × (units_of s.kept ≡ units buffers)
-    × (length s.laid ≡ length s.kept)
+    × (length s.laid ≡ length s.kept) × AllLaidAreKept s.parts s.laid_parts

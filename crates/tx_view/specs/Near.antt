@@ -6,7 +6,7 @@ use Rattle.std.specs.Option.{option_map}
 use Rattle.tx_tree.specs.declared.places.Place.{Place}
 use Rattle.tx_view_form.specs.Stops.{same_place, stops_of}
 use Rattle.tx_view.specs.Units.{unit_views}
-use Rattle.tx_view.specs.declared.shown.Shown.{Shown}
+use Rattle.tx_unit_layout.specs.declared.shown.Shown.{Shown}
 
 -- the number of the first of these stops that is the place
 abbrev pub stop_number : List Place → Place → Option ℕ

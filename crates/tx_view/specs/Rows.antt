@@ -3,8 +3,9 @@ use Rattle.std.specs.Prelude.{◌≡◌, ℕ, ◌<◌, List, length, map, slice_
 use Rattle.tx_view_form.specs.Views.{lines_of}
 use Rattle.tx_view_form.specs.Errors.{errors_of}
 use Rattle.tx_view_form.specs.Cells.{row_in}
-use Rattle.tx_view.specs.Units.{unit_view, unit_views}
-use Rattle.tx_view.specs.declared.shown.Shown.{Shown}
+use Rattle.tx_view.specs.Units.{unit_views}
+use Rattle.tx_unit_layout.specs.Views.{unit_view}
+use Rattle.tx_unit_layout.specs.declared.shown.Shown.{Shown}
 
 -- this unit has the row, under this number
 pub record HasRow (xs : List Shown) (r : ℕ) (x : Shown) (k : ℕ) : Type 0 where

@@ -1,15 +1,12 @@
 -- What is kept of units, as the view has it.
-use Rattle.std.specs.Prelude.{◌≡◌, ℕ, ◌+◌, ◌-◌, nat_lt, List, [], ◌∷◌, map, length, Option, None, Some, All}
+use Rattle.std.specs.Prelude.{ℕ, ◌+◌, ◌-◌, nat_lt, List, [], ◌∷◌, map, length, Option, None, Some}
 use Rattle.std.specs.Prelude.{if◌then◌else◌}
 use Rattle.std.specs.List.{AllByRecursion}
 use Rattle.std.specs.Option.{option_map}
 use Rattle.tx_units.specs.Places.{AreApart}
 use Rattle.tx_view_form.specs.Views.{UnitView}
-use Rattle.tx_view_form.specs.Positions.{IsShort}
-use Rattle.tx_view.specs.declared.shown.Shown.{Shown}
-
-abbrev pub unit_view : Shown → UnitView
-unit_view s = record { path = s.path; errors = s.errors.items; paragraphs = s.paragraphs.items; lines = s.lines }
+use Rattle.tx_unit_layout.specs.Views.{unit_view}
+use Rattle.tx_unit_layout.specs.declared.shown.Shown.{Shown}
 
 abbrev pub unit_views : List Shown → List UnitView
 unit_views xs = map unit_view xs
@@ -29,12 +26,6 @@ error_counts xs = map (λ x. length x.errors) xs
 abbrev pub number_in : List ℕ → ℕ → Option (ℕ × ℕ)
 number_in [] k = None
 number_in (n ∷ ns) k = if nat_lt k n then Some (0, k) else option_map (λ p. (p.0 + 1, p.1)) (number_in ns (k - n))
-
--- only a unit with a path has lines, and the places of their clusters are short
-pub record IsReadable (x : UnitView) : Type 0 where
-  pub placed : x.path ≡ None → x.lines ≡ []
-  pub short : All (λ line. All IsShort line.items) x.lines
-  pub short_items : All (λ p. All IsShort p.items) x.paragraphs
 
 -- no path of a unit is that of another, or begins it
 abbrev pub AreAllApart : List UnitView → Type 0

@@ -15,12 +15,13 @@ use Rattle.tx_layout.specs.declared.layout.Line.{Line}
 use Rattle.tx_view_form.specs.Views.{UnitView, WideView, IsView}
 use Rattle.tx_units.specs.Units.{units}
 use Rattle.tx_bridge.specs.Entries.{units_of}
-use Rattle.tx_view.specs.Laid.{laid_in, AreLaid}
+use Rattle.tx_view.specs.Laid.{stores_in, AreLaid}
 use Rattle.tx_view.specs.Lone.{IsLone, IsPaged}
 use Rattle.tx_view.specs.Names.{Fresh}
 use Rattle.tx_view.specs.Stores.{Stores, coded_Stores}
-use Rattle.tx_view.specs.declared.shown.Shown.{Shown}
-use Rattle.tx_view.specs.Units.{unit_view, unit_views, sums_from, row_counts, error_counts, IsReadable, AreAllApart}
+use Rattle.tx_unit_layout.specs.declared.shown.Shown.{Shown}
+use Rattle.tx_view.specs.Units.{unit_views, sums_from, row_counts, error_counts, AreAllApart}
+use Rattle.tx_unit_layout.specs.Views.{unit_view, IsReadable}
 use Rattle.tx_view.specs.declared.view.View.TheInside.{Inside}
 
 -- the buffers, the size of pages, whether it is fresh, what is shown, what is kept from refresh to refresh, and by how
@@ -39,7 +40,7 @@ abbrev pub all_of : Inside → List Shown
 all_of v = if v.fresh then v.units.items else v.hidden.items
 
 abbrev pub stores_of : Inside → Stores
-stores_of v = record { kept = v.bridges.kept; parts = v.bridges.parts; laid = laid_in (all_of v) }
+stores_of v = stores_in v.bridges (all_of v)
 
 abbrev pub whole_of : Inside → WholeView
 whole_of v =
@@ -65,7 +66,7 @@ pub record IsKept (v : Inside) : Type 0 where
   pub kept : v.fresh ≡ true → stores_of v ≡ Fresh v.buffers.items
   pub hidden : v.fresh ≡ false → v.units.items ≡ []
   pub of_buffers : units_of v.bridges.kept ≡ units v.buffers.items
-  pub laid : AreLaid v.width v.bridges.kept (all_of v)
+  pub laid : AreLaid v.width v.bridges.kept v.bridges.parts (all_of v)
   pub all_readable : All (λ s. IsReadable (unit_view s)) (all_of v)
   pub rows : v.paged.rows.items ≡ sums_from 0 (row_counts (unit_views v.units.items))
   pub errors : v.paged.errors.items ≡ sums_from 0 (error_counts (unit_views v.units.items))

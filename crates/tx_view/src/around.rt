@@ -5,15 +5,16 @@ ghost use Rattle.tx_units.specs.Units.{units};
 ghost use Rattle.tx_view_form.specs.Outcomes.{beginning};
 ghost use Rattle.tx_view_form.specs.Stops.{stops_of};
 ghost use Rattle.tx_view_form.specs.Views.{AreShown};
-ghost use Rattle.tx_view.specs.Units.{unit_view, unit_views, IsReadable, AreAllApart};
+ghost use Rattle.tx_view.specs.Units.{unit_views, AreAllApart};
+ghost use Rattle.tx_unit_layout.specs.Views.{unit_view, IsReadable};
 ghost use Rattle.tx_view.specs.Near.{is_above, IsHolder, IsRange, AreNear};
 
 use crate::beside::{has_stop, stops_beside};
-use crate::shown::Shown;
 use std::alloc::Global;
 use tx_base::Memory;
 use tx_doc::Buffer;
 use tx_tree::Place;
+use tx_unit_layout::Shown;
 use tx_units::body_laws;
 
 /// A law: where units are shown of buffers, no path of one is that of another, or begins it.

@@ -7,15 +7,16 @@ ghost use Rattle.tx_origin.specs.RelativePlaces.{path_below};
 ghost use Rattle.tx_view_form.specs.Stops.{same_place, each_once, stops_of};
 ghost use Rattle.tx_view.specs.Marks.{spot_place, spot_places};
 ghost use Rattle.tx_view.specs.Near.{AreNear, IsFirst, HasNeighbours, stop_number};
-ghost use Rattle.tx_view.specs.Units.{unit_view, unit_views, IsReadable};
+ghost use Rattle.tx_view.specs.Units.{unit_views};
+ghost use Rattle.tx_unit_layout.specs.Views.{unit_view, IsReadable};
 
-use crate::shown::Shown;
 use crate::spots::spots_of;
 use crate::stops::stops_of;
 use std::alloc::Global;
 use tx_base::Memory;
 use tx_origin::{Ip, Spot};
 use tx_tree::{Path, Place};
+use tx_unit_layout::Shown;
 
 // So many spots before one and behind it are looked at first.
 const BESIDE: usize = 2;

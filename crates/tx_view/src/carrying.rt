@@ -1,33 +1,32 @@
 // What is shown of units goes with them through an edit.
-ghost use Rattle.std.specs.Prelude.{◌≡◌, ℕ, ◌+◌, ◌≤◌, ◌<◌, ◌^◌, length, slice_get, if◌then◌else◌, IfOk, OnOk, OnErr};
-ghost use Rattle.std.specs.Prelude.{Some, None, IfSome, IsTrue, MatchOption, true, false};
+ghost use Rattle.std.specs.Prelude.{◌≡◌, ℕ, List, ◌+◌, ◌≤◌, ◌<◌, ◌^◌, length, slice_get, if◌then◌else◌, IfOk, OnOk};
+ghost use Rattle.std.specs.Prelude.{OnErr, Some, None, IfSome, IsTrue, MatchOption, true, false};
 ghost use Rattle.tx_tree.specs.WideTree.{WideTree};
 ghost use Rattle.tx_mod.specs.Followed.{changed_by_all};
 ghost use Rattle.tx_mod.specs.InTurn.{cost_of};
 ghost use Rattle.tx_doc.specs.Buffers.{tree_of, with_tree};
 ghost use Rattle.tx_units.specs.Units.{units, made};
 ghost use Rattle.tx_bridge.specs.Entries.{Entry, units_of};
+ghost use Rattle.tx_bridge.specs.InPlace.{are_within};
 ghost use Rattle.tx_bridge.specs.Names.{Carry, CarryParts, Sources};
-ghost use Rattle.tx_bridge.specs.UnitLists.{AreUnits};
-ghost use Rattle.tx_bridge.specs.Carrying.{AllStand, AreSameBodies};
-ghost use Rattle.tx_view.specs.Exchanged.{IsNow, IsExchanged, stays_alone, exchanged_in, parts_after};
-ghost use Rattle.tx_view.specs.Laid.{IsBlank, AreBlank, with_shown, shown_at, moved, laid_in, unlaid};
-ghost use Rattle.tx_view.specs.Laid.{StayBut, IsTarget, IsFew, IsMoved, SetNoName, IsFormer};
 ghost use Rattle.tx_bridge.specs.Settled.{IsSilent};
+ghost use Rattle.tx_bridge.specs.UnitLists.{AreUnits};
+ghost use Rattle.tx_bridge.specs.Carrying.{AllStand, AreSameBodies, HaveSameTrees};
+ghost use Rattle.tx_view.specs.Exchanged.{IsNow, IsExchanged, stays_alone, exchanged_in, parts_after};
+ghost use Rattle.tx_view.specs.Laid.{IsBlank, AreBlank, taking_shown, source_shown, moved, laid_in};
+ghost use Rattle.tx_view.specs.Laid.{left_in, StayBut, IsInside, IsWay, IsTarget, IsFew, IsMoved, SetNoName, IsFormer};
 
-use crate::laying::sets_nothing;
 use crate::sharing::shared;
-use crate::shown::Shown;
-use crate::unit_lines::UnitLines;
 use std::alloc::Global;
 use std::mem;
 use std::sync::ledger::Ledger;
 use tx_base::{Memory, Steps};
-use tx_bridge::{Bridges, unit_list_laws};
+use tx_bridge::{Bridges, is_silent, unit_list_laws};
 use tx_doc::Buffer;
 use tx_items::Attrs;
 use tx_mod::Mod;
 use tx_tree::{Path, Tree};
+use tx_unit_layout::{LaidParts, Shown, UnitLines};
 use tx_units::{Unit, inside_law, leaves_others, unit_count_law, units};
 
 // The buffers with this tree in place of that of one of them.
@@ -55,6 +54,7 @@ fn blank(alloc: Global, unit: &Unit) -> Result<Shown, Memory>
         errors: Vec::new(alloc),
         paragraphs: Vec::new(alloc),
         lines: UnitLines::none(alloc),
+        parts: LaidParts::none(alloc),
     })
 }
 
@@ -72,17 +72,18 @@ pub(crate) fn blanks(alloc: Global, units: &[Unit]) -> Result<Vec<Shown>, Memory
 
 // Takes what is shown of the other unit, but for its path.
 fn take(shown: &mut Shown, other: &mut Shown)
-    ensures { shown.new ≡ with_shown shown.old (Some other.old) }
+    ensures { shown.new ≡ taking_shown shown.old (Some other.old) }
 {
     mem::swap(&mut shown.laid, &mut other.laid);
     mem::swap(&mut shown.errors, &mut other.errors);
     mem::swap(&mut shown.paragraphs, &mut other.paragraphs);
     mem::swap(&mut shown.lines, &mut other.lines);
+    mem::swap(&mut shown.parts, &mut other.parts);
 }
 
 // Takes what is shown of the old unit that this one is, if there is one.
 fn take_from(shown: &mut Shown, source: Option<usize>, old: &mut [Shown])
-    ensures shown { shown.new ≡ with_shown shown.old (shown_at old.old source) }
+    ensures shown { shown.new ≡ taking_shown shown.old (source_shown old.old source) }
     ensures others { (k : ℕ) → (source ≡ Some k → ⊥) → slice_get old.new k ≡ slice_get old.old k }
 {
     if let Some(i) = source {
@@ -125,41 +126,52 @@ fn move_either(
     }
 }
 
-// The unit isn't laid out any more. Answers for which attributes it was.
-fn reset(shown: &mut Shown) -> Option<Attrs>
-    ensures shown { shown.new ≡ unlaid true shown.old }
+// The unit, inside which all modifications are, isn't laid out any more, and of its parts those are that the
+// modifications leave in their place. Answers for which attributes it was.
+fn reset(shown: &mut Shown, mods: &[Mod]) -> Option<Attrs>
+    requires inside { (path : List ℕ) × (shown.old.path ≡ Some path) × (are_within path mods.now ≡ true) }
+    ensures shown { shown.new ≡ left_in mods.now shown.old }
     ensures former { result ≡ shown.old.laid }
 {
+    let Some(path) = &shown.path else {
+        unreachable!();
+    };
+    shown.parts.keep_in_place(mods, path);
     mem::replace(&mut shown.laid, None)
 }
 
-// The unit of this number isn't laid out any more. Answers for which attributes it was.
-fn reset_at(all: &mut [Shown], changed: usize) -> Option<Attrs>
-    ensures stay { StayBut changed 0 all.old all.new }
+// So it is of the unit of this number.
+fn reset_at(all: &mut [Shown], changed: usize, mods: &[Mod]) -> Option<Attrs>
+    requires inside { (x : Shown) → slice_get all.old changed ≡ Some x
+        → (path : List ℕ) × (x.path ≡ Some path) × (are_within path mods.now ≡ true) }
+    ensures stay { StayBut mods.now changed 0 all.old all.new }
     ensures former { IfSome result (λ a. slice_get (laid_in all.old) changed ≡ Some (Some a)) }
 {
     if changed < all.len() {
-        return reset(&mut all[changed]);
+        return reset(&mut all[changed], mods);
     }
     None
 }
 
-// What is shown of all units stays, or else what is hidden, but the unit that has changed isn't laid out any more.
-// Answers for which attributes it was.
+// What is shown of all units stays, or else what is hidden, but the unit inside which all modifications are isn't laid
+// out any more. Answers for which attributes it was.
 fn move_in_place(
     changed: usize,
+    mods: &[Mod],
     fresh: bool,
     shown: &mut Vec<Shown>,
     hidden: &mut Vec<Shown>,
 ) -> Option<Attrs>
-    ensures stay { StayBut changed 0 (if fresh then shown.old.items else hidden.old.items) hidden.new.items }
+    requires inside { (x : Shown) → slice_get (if fresh then shown.old.items else hidden.old.items) changed ≡ Some x
+        → (path : List ℕ) × (x.path ≡ Some path) × (are_within path mods.now ≡ true) }
+    ensures stay { StayBut mods.now changed 0 (if fresh then shown.old.items else hidden.old.items) hidden.new.items }
     ensures former { IfSome result (λ a.
         slice_get (laid_in (if fresh then shown.old.items else hidden.old.items)) changed ≡ Some (Some a)) }
 {
     if fresh {
         mem::swap(shown, hidden);
     }
-    reset_at(hidden, changed)
+    reset_at(hidden, changed, mods)
 }
 
 /// Where what is shown of units goes through an edit: it stays in place, but for this one unit, or it goes to these,
@@ -214,21 +226,23 @@ fn move_onto(
 pub(crate) fn move_shown(
     target: Target,
     bridges: &Bridges,
+    mods: &[Mod],
     fresh: bool,
     shown: &mut Vec<Shown>,
     hidden: &mut Vec<Shown>,
 ) -> Option<(usize, Attrs)>
     requires few { IsFew target }
+    requires inside { IsInside mods.now target (if fresh then shown.old.items else hidden.old.items) }
     requires once { (i j k : ℕ) → slice_get bridges.now.sources j ≡ Some (Some i)
         → slice_get bridges.now.sources k ≡ Some (Some i) → j ≡ k }
-    ensures moved { IsMoved target bridges.now.sources (if fresh then shown.old.items else hidden.old.items)
+    ensures moved { IsMoved mods.now target bridges.now.sources (if fresh then shown.old.items else hidden.old.items)
         hidden.new.items }
     ensures former { IfSome result
         (λ p. IsFormer target fresh (if fresh then shown.old.items else hidden.old.items) p) }
 {
     match target {
         Target::InPlace(changed, silent) => {
-            let former = move_in_place(changed, fresh, shown, hidden);
+            let former = move_in_place(changed, mods, fresh, shown, hidden);
             former_of(changed, silent, fresh, former)
         }
         Target::Onto(blanks) => {
@@ -307,6 +321,8 @@ fn carried_anew<L: Ledger>(
     ensures once { OnOk result ((i j k : ℕ) → slice_get bridges.new.sources j ≡ Some (Some i)
         → slice_get bridges.new.sources k ≡ Some (Some i) → j ≡ k) }
     ensures units { OnOk result (units_of bridges.new.kept ≡ units after.now) }
+    ensures same_trees { OnOk result
+        (HaveSameTrees (units_of bridges.old.kept) (units after.now) bridges.new.sources) }
     ensures counted { steps.new ≤ steps.old + (cost_of mods.now + made after.now) }
     ensures refused { OnErr result (bridges.new ≡ bridges.old) }
 {
@@ -318,14 +334,14 @@ fn carried_anew<L: Ledger>(
     Ok(new)
 }
 
-// What is known to be kept of the unit of this number sets no name.
-fn is_silent(bridges: &Bridges, unit: usize) -> bool
+// What is kept of the unit of this number sets no name. False says nothing.
+fn is_silent_at(bridges: &Bridges, unit: usize) -> bool
     requires { unit < 2 ^ 32 }
     ensures { IsTrue result → (e : Entry) → slice_get bridges.now.kept unit ≡ Some e → IsSilent e.trace }
 {
     match bridges.outcome(unit as u32) {
         None => false,
-        Some(outcome) => sets_nothing(outcome),
+        Some(outcome) => is_silent(outcome),
     }
 }
 
@@ -348,6 +364,8 @@ fn carried_kept<L: Ledger>(
     requires after { after.now ≡ with_tree buffers.now buffer tree.now }
     ensures target { IfOk result
         (λ to. IsTarget (units_of bridges.old.kept) (units after.now) bridges.new.sources to) }
+    ensures way { IfOk result (λ to. IsWay buffer mods.now (tree_of buffers.now buffer) (units_of bridges.old.kept)
+        (units after.now) bridges.new.sources to) }
     ensures few { IfOk result (λ to. IsFew to) }
     ensures silent { IfOk result (λ to. SetNoName bridges.old.kept to) }
     ensures kept { OnOk result (bridges.new.kept
@@ -368,7 +386,7 @@ fn carried_kept<L: Ledger>(
     let before = &buffers[buffer as usize].tree;
     match exchanged(bridges, buffer, mods, tree)? {
         Some((changed, paragraph)) => {
-            let silent = is_silent(bridges, changed);
+            let silent = is_silent_at(bridges, changed);
             bridges.carry_in_place(alloc, before, mods, paragraph, changed, steps)?;
             Ok(Target::InPlace(changed, silent))
         }
@@ -394,6 +412,8 @@ pub(crate) fn carried<L: Ledger>(
     requires of_buffers { units_of bridges.old.kept ≡ units buffers.now }
     ensures buffers { IfOk result (λ p. p.0.items ≡ with_tree buffers.now buffer tree.now) }
     ensures target { IfOk result (λ p. IsTarget (units_of bridges.old.kept)
+        (units (with_tree buffers.now buffer tree.now)) bridges.new.sources p.1) }
+    ensures way { IfOk result (λ p. IsWay buffer mods.now (tree_of buffers.now buffer) (units_of bridges.old.kept)
         (units (with_tree buffers.now buffer tree.now)) bridges.new.sources p.1) }
     ensures kept { OnOk result (bridges.new.kept ≡ Carry buffer mods.now (tree_of buffers.now buffer) bridges.old.kept
         (units (with_tree buffers.now buffer tree.now))) }

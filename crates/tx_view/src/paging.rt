@@ -7,11 +7,11 @@ ghost use Rattle.tx_view.specs.Units.{unit_views};
 ghost use Rattle.tx_view.specs.Lone.{IsPaged};
 
 use crate::searching::{first_errors, first_rows};
-use crate::shown::Shown;
 use std::alloc::Global;
 use tx_base::Memory;
 use tx_layout::Paginator;
 use tx_lines::Cut;
+use tx_unit_layout::Shown;
 
 /// The pages of units, how many rows and how many errors stand before each unit, and how many there are.
 #[derive(Drop)]

@@ -2,12 +2,13 @@
 ghost use Rattle.std.specs.Prelude.{◌≡◌, ◌≤◌, ◌<◌, ◌^◌, ℕ, List, length, slice_index, IfOk};
 ghost use Rattle.tx_view_form.specs.Views.{lines_of};
 ghost use Rattle.tx_view_form.specs.Errors.{errors_of};
-ghost use Rattle.tx_view.specs.Units.{unit_view, unit_views, sums_from, row_counts, error_counts, number_in};
+ghost use Rattle.tx_view.specs.Units.{unit_views, sums_from, row_counts, error_counts, number_in};
+ghost use Rattle.tx_unit_layout.specs.Views.{unit_view};
 ghost use Rattle.tx_view.specs.Rows.{IsRow, IsError};
 
-use crate::shown::Shown;
 use std::alloc::Global;
 use tx_base::Memory;
+use tx_unit_layout::Shown;
 
 /// How many rows stand before each unit, and how many there are.
 pub(crate) fn first_rows(alloc: Global, units: &[Shown]) -> Result<Vec<u32>, Memory>

@@ -4,15 +4,16 @@ ghost use Rattle.std.specs.List.{flat_map};
 ghost use Rattle.tx_view_form.specs.Positions.{IsShort, mark_of, marks_of};
 ghost use Rattle.tx_view_form.specs.Stops.{unit_stops};
 ghost use Rattle.tx_view.specs.Marks.{first_of, stops_at, stops_on, spot_places};
-ghost use Rattle.tx_view.specs.Units.{unit_view, unit_views, IsReadable};
+ghost use Rattle.tx_view.specs.Units.{unit_views};
+ghost use Rattle.tx_unit_layout.specs.Views.{unit_view, IsReadable};
 
 use crate::marks::{Mark, first_mark, mark_of};
-use crate::shown::Shown;
 use std::alloc::Global;
 use tx_base::Memory;
 use tx_items::{Item, Paragraph};
 use tx_origin::Spot;
 use tx_tree::Path;
+use tx_unit_layout::Shown;
 
 // Adds where the cluster of an item begins and ends, if it has a place, in a unit with this path.
 fn add_item<'a>(spots: &mut Vec<Spot<'a>>, path: &'a Path, item: &'a Item) -> Result<(), Memory>
@@ -71,7 +72,8 @@ fn first_in(paragraphs: &[Paragraph]) -> Option<Mark<'_>>
 // Adds the places at which a cursor stops in a unit.
 fn add_unit<'a>(spots: &mut Vec<Spot<'a>>, unit: &'a Shown) -> Result<(), Memory>
     requires { IsReadable (unit_view unit.now) }
-    ensures { OnOk result (spot_places spots.new.items ≡ spot_places spots.old.items ++ unit_stops (unit_view unit.now)) }
+    ensures { OnOk result
+        (spot_places spots.new.items ≡ spot_places spots.old.items ++ unit_stops (unit_view unit.now)) }
 {
     let Some(path) = &unit.path else {
         return Ok(());

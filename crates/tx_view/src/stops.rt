@@ -2,12 +2,12 @@
 ghost use Rattle.std.specs.Prelude.{◌≡◌, All, IfOk, OnOk};
 ghost use Rattle.tx_view_form.specs.Stops.{put, stops_of};
 ghost use Rattle.tx_view.specs.Marks.{spot_place};
-ghost use Rattle.tx_view.specs.Units.{unit_view, unit_views, IsReadable};
+ghost use Rattle.tx_view.specs.Units.{unit_views};
+ghost use Rattle.tx_unit_layout.specs.Views.{unit_view, IsReadable};
 ghost use Rattle.std.proofs.Common.{rules};
 ghost use Rattle.std.specs.Cmp.Rules.{comparing, hashing};
 ghost use Rattle.std.specs.Cmp.Lexicographic.{nat_list_eq_equiv};
 
-use crate::shown::Shown;
 use crate::spots::spots_of;
 use indexmap::IndexSet;
 use std::alloc::Global;
@@ -16,6 +16,7 @@ use std::marker::Model;
 use tx_base::Memory;
 use tx_origin::Spot;
 use tx_tree::Place;
+use tx_unit_layout::Shown;
 
 // A place, which is told from others by its path and its offset.
 #[derive(Drop)]

@@ -14,7 +14,8 @@ ghost use Rattle.tx_view_form.specs.Cells.{drawn_at, row_in};
 ghost use Rattle.tx_view_form.specs.Positions.{position_in};
 ghost use Rattle.tx_view_form.specs.Stops.{stops_of};
 ghost use Rattle.tx_view.specs.Near.{AreNear};
-ghost use Rattle.tx_view.specs.Units.{unit_view, unit_views, IsReadable};
+ghost use Rattle.tx_view.specs.Units.{unit_views};
+ghost use Rattle.tx_unit_layout.specs.Views.{unit_view, IsReadable};
 ghost use Rattle.tx_view.specs.Units.{AreAllApart};
 ghost use Rattle.tx_view.specs.Laid.{AreLaid, stores_in};
 ghost use Rattle.tx_view.specs.Lone.{IsLone, IsPaged};
@@ -24,20 +25,20 @@ ghost use Rattle.tx_view.specs.Stores.{IsPartlyFresh};
 use crate::around::{apart_law, stops_near};
 use crate::carrying::{blanks, carried, move_shown};
 use crate::cells::drawn_at;
-use crate::laying::lay_out;
+use crate::evaluating::forget_all_parts;
 use crate::lone::{Lone, lone_of};
 use crate::paging::{Pagination, all_paged, nothing_paged};
 use crate::places::place_in;
+use crate::refreshing::lay_out;
 use crate::searching::{error_count, error_in, row_count, row_in};
 use crate::sharing::shared;
-use crate::shown::Shown;
 use crate::stops::stops_of;
 use std::alloc::Global;
 use std::marker::Model;
 use std::mem;
 use std::sync::ledger::Ledger;
 use tx_base::{Memory, Steps};
-use tx_bridge::{Bridges, unit_list_laws};
+use tx_bridge::{Bridges, keeping_law, staying_parts_law, unit_list_laws};
 use tx_doc::Buffer;
 use tx_items::{Drawn, ErrorAt};
 use tx_layout::Line;
@@ -45,6 +46,7 @@ use tx_lines::Cut;
 use tx_mod::Mod;
 use tx_origin::Spot;
 use tx_tree::{Path, Place, Tree};
+use tx_unit_layout::Shown;
 use tx_units::{unit_count_law, units};
 
 /// The view of buffers on pages of some width and height. It is fresh where it was made anew since the buffers changed
@@ -110,7 +112,7 @@ fn paged_again(
 }
 
 // Lays the units of the buffers out, and tells their pages and by how much the steps rose. Where one alone has changed
-// since all were laid out, the pages may stay.
+// since all were laid out, the pages may stay. For want of memory nothing is laid out of parts.
 fn made_anew<L: Ledger>(
     alloc: Global,
     buffers: &[Buffer],
@@ -126,7 +128,7 @@ fn made_anew<L: Ledger>(
     requires least_height { 5 ≤ size.1 }
     requires most_height { size.1 ≤ 500 }
     requires of_buffers { units_of bridges.old.kept ≡ units buffers.now }
-    requires laid { AreLaid size.0 bridges.old.kept all.old }
+    requires laid { AreLaid size.0 bridges.old.kept bridges.old.parts all.old }
     requires readable { All (λ s. IsReadable (unit_view s)) all.old }
     requires lone { IfSome lone (λ l. IsLone bridges.old.kept all.old l.unit l.attrs
         × IsPaged size.1 (unit_views all.old) l.paged) }
@@ -139,15 +141,20 @@ fn made_anew<L: Ledger>(
     ensures work { IfOk result (λ p. p.1 ≡ Bound (stores_in bridges.old all.old)) }
     ensures counted { IfOk result (λ p. steps.new ≡ steps.old + p.1) }
     ensures of_buffers { units_of bridges.new.kept ≡ units buffers.now }
-    ensures laid { AreLaid size.0 bridges.new.kept all.new }
+    ensures laid { AreLaid size.0 bridges.new.kept bridges.new.parts all.new }
     ensures readable { All (λ s. IsReadable (unit_view s)) all.new }
 {
     unit_count_law(buffers);
     let (width, height) = size;
     let (work, stays) = lay_out(alloc, bridges, &lone, all, width, steps)?;
     apart_law(buffers, width, all);
-    let paged = paged_again(alloc, all, height, stays, lone)?;
-    Ok((paged, work))
+    match paged_again(alloc, all, height, stays, lone) {
+        Ok(paged) => Ok((paged, work)),
+        Err(memory) => {
+            forget_all_parts(all);
+            Err(memory)
+        }
+    }
 }
 
 impl View {
@@ -201,9 +208,9 @@ impl View {
     /// kept of a unit goes with it, and what is kept of the parts of a nested paragraph too: a paragraph of the
     /// document goes by the modifications from path to path, and another unit stays the one of its number, where kind
     /// and tree are the same. Of a paragraph inside which all modifications are, and which is found to change alone,
-    /// the parts that stay in it are kept, and no trace of its own. Nothing is evaluated. The steps rise by at most the
-    /// paths' lengths, three for each modification, and the nodes that are made for units. For want of memory all
-    /// stays.
+    /// the parts that stay in it are kept, and what is laid out of those that are found to be left in their place, and
+    /// no trace of its own. Nothing is evaluated. The steps rise by at most the paths' lengths, three for each
+    /// modification, and the nodes that are made for units. For want of memory all stays.
     pub fn edited<L: Ledger>(
         &mut self,
         alloc: Global,
@@ -225,6 +232,9 @@ impl View {
             + (cost_of mods.now + made (with_tree self.old.buffers buffer tree.now)) }
     {
         unit_list_laws();
+        staying_parts_law();
+        keeping_law();
+        let _kept = self.bridges.outcome(0);
         let nothing = nothing_paged(alloc)?;
         let (after, target) = carried(
             alloc,
@@ -238,6 +248,7 @@ impl View {
         let former = move_shown(
             target,
             &self.bridges,
+            mods,
             self.fresh,
             &mut self.units,
             &mut self.hidden,
@@ -252,13 +263,14 @@ impl View {
 
     /// Makes the view anew, unless it is fresh, which takes no memory and no step then. What was kept of a unit is used
     /// again where what it looked up is as it was and its cost is allowed, and its lines where its attributes are those
-    /// of before. So it is of the parts of a nested unit that is evaluated anew. The steps rise by the charges of the
-    /// other units, which for a nested one are the costs of the other parts, and the items of those that are laid out
-    /// anew.
+    /// of before. So it is of the parts of a nested unit that is evaluated or laid out anew. The steps rise by the
+    /// charges of the other units, which for a nested one are the costs of the other parts, and the items of those that
+    /// are laid out anew. Of a nested one that isn't over these are the items of the parts that are evaluated anew, or
+    /// aren't laid out for the attributes before them.
     ///
     /// For want of memory it isn't fresh, and a later refresh is right. The units before some number, and their parts,
     /// have then the traces of the present buffers, and the others what they had. A unit that is laid out then has both
-    /// the trace and the attributes that it had, or both of the present buffers.
+    /// the trace and the attributes that it had, or both of the present buffers. Of parts nothing is laid out then.
     pub fn refresh<L: Ledger>(&mut self, alloc: Global, steps: &mut Steps<L>) -> Result<(), Memory>
         ensures fresh { OnOk result (self.new.fresh ≡ true) }
         ensures view { OnOk result (IsView self.new.buffers self.new.width self.new.height self.new.shown) }

@@ -22,43 +22,43 @@ const EDITS: &[Edit] = &[
     ("d (document \"ab\" (g))", "/0", "\"<#4E2D>y\"", 11),
 ];
 
-// Of a nested paragraph the part that changes is charged alone, and all items are laid out.
+// Of a nested paragraph the part that changes is charged alone, and laid out alone.
 const NESTED: &[Edit] = &[
     (
         "d (document (document \"ab\" \"cd\" \"e\") \"z\")",
         "/0/2",
         "\"xy\"",
-        9,
+        5,
     ),
     (
         "d (document (with \"color\" \"red\" (document \"ab\" \"c\")) \"z\")",
         "/0/2/1",
         "\"de\"",
-        7,
+        5,
     ),
     (
         "d (with \"color\" \"red\" (document \"ab\" \"c\"))",
         "/2/1",
         "\"de\"",
-        7,
+        5,
     ),
     (
         "d (document (body (with \"color\" \"red\" (document \"ab\" \"c\"))))",
         "/0/0/2/1",
         "\"de\"",
-        7,
+        5,
     ),
     (
         "d (document (body (document (document \"ab\" \"c\") \"z\")))",
         "/0/0/0/1",
         "\"de\"",
-        7,
+        5,
     ),
     (
         "d (document \"z\" (document (with \"x\" \"1\" \"ab\") (document \"cd\" \"e\")))",
         "/1/1/1",
         "\"fgh\"",
-        11,
+        7,
     ),
 ];
 

@@ -1,10 +1,12 @@
-// The parts of a paragraph one behind the other, from nothing, and what those cost of which nothing is kept that fits.
-use crate::walk::{MOST_UNIT, agrees};
+// The parts of a paragraph one behind the other, from nothing: what those cost of which nothing is kept that fits, and
+// how many items those show that are to be laid out.
+use crate::walk::{MOST_UNIT, agrees, are_same, items_in};
 use std::alloc::Global;
 use std::sync::ledger::Ledger;
 use tx_base::Steps;
 use tx_env::Env;
 use tx_exec::{Outcome, Trace, eval};
+use tx_items::{Attrs, part_items};
 use tx_origin::{Ip, Tagged};
 use tx_tree::{Path, Text, Tree};
 use tx_units::Unit;
@@ -12,25 +14,31 @@ use tx_units::Unit;
 // More than are left in any paragraph at once.
 const MOST_TASKS: u32 = 10_000;
 
-// A part of a paragraph and what it came to. The path is that in the paragraph.
+// A part of a paragraph and what it came to, with the attributes for which it was laid out, if it still is. The path is
+// that in the paragraph.
 #[derive(Drop)]
 pub(crate) struct Part {
     pub(crate) path: Path,
+    pub(crate) laid: Option<Attrs>,
     trace: Trace,
 }
 
-// What is left to do: to go into a tree or evaluate it, or to give a name back what it had.
+// What is left to do: to go into a tree or evaluate it, or to give a name back what it had, and its attribute what it
+// was.
 #[derive(Drop)]
 enum Task {
     Tree(Path, Tree),
-    Restore(Text, Option<Tree>),
+    Restore(Text, Option<Tree>, Attrs),
 }
 
-// What a paragraph's parts came to so far, and what those cost that aren't kept.
+// What a paragraph's parts came to so far, what those cost that aren't kept, how many items those have that are laid
+// out, and the attributes behind them.
 #[derive(Drop)]
 pub(crate) struct Parts {
     pub(crate) done: Vec<Part>,
     pub(crate) charge: u64,
+    pub(crate) items: u64,
+    attrs: Attrs,
     tasks: Vec<Task>,
 }
 
@@ -67,14 +75,35 @@ fn below(alloc: Global, path: &Path, i: u32) -> Option<Path> {
     Some(longer)
 }
 
-// Whether what is kept at the path fits.
-fn is_kept(kept: &[Part], path: &Path, env: &Env) -> bool {
+// What is kept at the path.
+fn kept_at<'a>(kept: &'a [Part], path: &Path) -> Option<&'a Part> {
     for part in kept {
         if part.path.steps() == path.steps() {
-            return agrees(&part.trace, env);
+            return Some(part);
         }
     }
-    false
+    None
+}
+
+// Whether what is kept fits.
+fn is_kept(kept: Option<&Part>, env: &Env) -> bool {
+    match kept {
+        None => false,
+        Some(part) => agrees(&part.trace, env),
+    }
+}
+
+// Whether it was laid out for these attributes.
+fn is_laid(kept: Option<&Part>, attrs: &Attrs) -> bool {
+    match kept {
+        Some(
+            Part {
+                laid: Some(laid),
+                ..
+            },
+        ) => are_same(laid, attrs),
+        _ => false,
+    }
 }
 
 // Gives the name back what it had.
@@ -86,10 +115,12 @@ fn restore(env: &mut Env, name: Text, had: Option<Tree>) -> Option<()> {
 }
 
 impl Parts {
-    fn new(alloc: Global) -> Parts {
+    fn new(alloc: Global, attrs: Attrs) -> Parts {
         Parts {
             done: Vec::new(alloc),
             charge: 0,
+            items: 0,
+            attrs,
             tasks: Vec::new(alloc),
         }
     }
@@ -108,26 +139,59 @@ impl Parts {
         Some(())
     }
 
-    // Sets a name, and notes what it had.
-    fn set(&mut self, env: &mut Env, name: &Text, tree: &Tree) -> Option<()> {
+    // Sets a name and its attribute, and notes what it had, and the attributes before all.
+    fn set(
+        &mut self,
+        alloc: Global,
+        env: &mut Env,
+        name: &Text,
+        tree: &Tree,
+        before: &Attrs,
+    ) -> Option<()> {
         let had = match env.get(name) {
             None => None,
             Some(had) => Some(had.share().ok()?),
         };
         let noted = name.copy().ok()?;
-        self.tasks.push(Task::Restore(noted, had)).ok()?;
+        self.tasks
+            .push(Task::Restore(noted, had, before.copy().ok()?))
+            .ok()?;
+        self.attrs.set(alloc, name, tree.text()).ok()?;
         env.set(name.copy().ok()?, tree.share().ok()?).ok()
     }
 
     // Sets the names of a `with`. Its last child comes next.
     fn enter(&mut self, alloc: Global, path: &Path, tree: &Tree, env: &mut Env) -> Option<()> {
+        let before = self.attrs.copy().ok()?;
         for pair in tree.children().chunks_exact(2) {
-            self.set(env, pair.get(0)?.text()?, pair.get(1)?)?;
+            self.set(alloc, env, pair.get(0)?.text()?, pair.get(1)?, &before)?;
         }
         self.push_child(alloc, path, tree, tree.arity().checked_sub(1)?)
     }
 
-    // Evaluates a part, and sets what it sets.
+    // Shows a part, and goes behind it.
+    fn show(&mut self, alloc: Global, trace: &Trace, stays: bool) -> Option<()> {
+        let shown = part_items(alloc, &trace.value, &self.attrs).ok()?;
+        if !stays {
+            self.items = self.items.checked_add(items_in(&shown.paragraphs)?)?;
+        }
+        self.attrs = shown.after;
+        Some(())
+    }
+
+    // Gives the name back what it had, and its attribute what it was.
+    fn restore(
+        &mut self,
+        env: &mut Env,
+        name: Text,
+        had: Option<Tree>,
+        before: &Attrs,
+    ) -> Option<()> {
+        self.attrs.restore(&name, before).ok()?;
+        restore(env, name, had)
+    }
+
+    // Evaluates a part, shows it, and sets what it sets.
     fn evaluate<L: Ledger>(
         &mut self,
         alloc: Global,
@@ -144,11 +208,15 @@ impl Parts {
         let Outcome::Done(trace) = eval(alloc, &alone, env, MOST_UNIT, steps).ok()? else {
             return None;
         };
-        if !is_kept(kept, &path, env) {
+        let former = kept_at(kept, &path);
+        let fits = is_kept(former, env);
+        if !fits {
             self.charge = self.charge.checked_add(trace.cost)?;
         }
+        let laid = Some(self.attrs.copy().ok()?);
+        self.show(alloc, &trace, fits && is_laid(former, &self.attrs))?;
         env.overlay(&trace.writes).ok()?;
-        self.done.push(Part { path, trace }).ok()
+        self.done.push(Part { path, laid, trace }).ok()
     }
 
     // Goes into the tree, or evaluates it.
@@ -180,20 +248,22 @@ impl Parts {
     ) -> Option<()> {
         match task {
             Task::Tree(path, tree) => self.take(alloc, path, tree, env, kept, steps),
-            Task::Restore(name, had) => restore(env, name, had),
+            Task::Restore(name, had, before) => self.restore(env, name, had, &before),
         }
     }
 }
 
-// What the parts of the unit come to, of which this is kept. The names have afterwards what they have behind the unit.
+// What the parts of the unit come to, of which this is kept, behind these attributes. The names have afterwards what they
+// have behind the unit.
 pub(crate) fn parts_of<L: Ledger>(
     alloc: Global,
     unit: &Unit,
     env: &mut Env,
+    attrs: &Attrs,
     kept: &[Part],
     steps: &mut Steps<L>,
 ) -> Option<Parts> {
-    let mut parts = Parts::new(alloc);
+    let mut parts = Parts::new(alloc, attrs.copy().ok()?);
     let tree = unit.tagged.tree.share().ok()?;
     parts.tasks.push(Task::Tree(Path::root(alloc), tree)).ok()?;
     for _ in 0..MOST_TASKS {

@@ -215,12 +215,12 @@ fn other_paragraphs_are_not_evaluated_again(rt: HostRuntime) -> Result<(), Fail>
     Ok(())
 }
 
-// The assignment takes 7 steps, each part that looks the variable up 5, and each paragraph has 15 items.
+// The assignment takes 7 steps, each part that looks the variable up 5, and each has an item.
 #[test]
 fn other_parts_are_not_evaluated_again(rt: HostRuntime) -> Result<(), Fail> {
-    let work = work_behind::<Brand>(rt.alloc(), &NESTED, 2_000, Blank::new(1)).ok_or(
+    let work = work_behind::<Brand>(rt.alloc(), &NESTED, 5_000, Blank::new(1)).ok_or(
         "a reply differs",
     )?;
-    assert_eq!(rt; work, 367);
+    assert_eq!(rt; work, 115);
     Ok(())
 }

@@ -7,7 +7,7 @@ use std::sync::ledger::Ledger;
 use tx_base::Steps;
 use tx_env::Env;
 use tx_exec::{Outcome, Trace, eval};
-use tx_items::{Attrs, items};
+use tx_items::{Attrs, Paragraph, items};
 use tx_tree::{Text, Tree};
 use tx_units::Unit;
 
@@ -93,7 +93,8 @@ fn set(alloc: Global, attrs: &mut Attrs, env: &Env, name: &[u8]) -> Option<()> {
     }
 }
 
-fn are_same(one: &Attrs, other: &Attrs) -> bool {
+// Whether both are the same attributes.
+pub(crate) fn are_same(one: &Attrs, other: &Attrs) -> bool {
     one.series.bytes() == other.series.bytes()
         && one.shape.bytes() == other.shape.bytes()
         && one.color.bytes() == other.color.bytes()
@@ -110,17 +111,30 @@ fn is_laid_for(last: Option<&Last>, attrs: &Attrs) -> bool {
     }
 }
 
+// How many items paragraphs have.
+pub(crate) fn items_in(paragraphs: &[Paragraph]) -> Option<u64> {
+    let mut count = 0u64;
+    for paragraph in paragraphs {
+        count = count.checked_add(paragraph.items.all().len() as u64)?;
+    }
+    Some(count)
+}
+
 // How many items a paragraph with this trace shows.
 fn item_count(alloc: Global, outcome: &Outcome, attrs: &Attrs) -> Option<u64> {
     let Outcome::Done(trace) = outcome else {
         return Some(OVER_ITEMS);
     };
     let (paragraphs, _errors) = items(alloc, &trace.value, attrs).ok()?;
-    let mut count = 0u64;
-    for paragraph in &paragraphs {
-        count = count.checked_add(paragraph.items.all().len() as u64)?;
-    }
-    Some(count)
+    items_in(&paragraphs)
+}
+
+// What it takes to make a unit anew: the steps of its evaluation and the items, and its parts.
+#[derive(Drop)]
+struct Price {
+    steps: u64,
+    items: u64,
+    parts: Vec<Part>,
 }
 
 impl Walk {
@@ -145,15 +159,27 @@ impl Walk {
         Some(())
     }
 
-    // Adds the items of a unit that is laid out anew.
-    fn lay(&mut self, alloc: Global, made: &Last) -> Option<()> {
-        let count = item_count(alloc, &made.outcome, &made.attrs)?;
-        self.work = self.work.checked_add(count)?;
-        Some(())
+    // What it takes to evaluate a unit that has no parts, and to lay it out.
+    fn whole(&self, alloc: Global, unit: &Unit, made: &Last, allowance: u64) -> Option<Price> {
+        let steps = match &made.outcome {
+            Outcome::Done(trace) => trace.cost,
+            Outcome::Over => allowance,
+        };
+        let items = if unit.path.is_some() {
+            item_count(alloc, &made.outcome, &made.attrs)?
+        } else {
+            0
+        };
+        Some(Price {
+            steps,
+            items,
+            parts: Vec::new(alloc),
+        })
     }
 
-    // What a unit costs that is evaluated anew, and its parts. Of these only those cost that aren't kept.
-    fn cost<L: Ledger>(
+    // What it takes to evaluate a unit, and to lay it out. Of one with parts only those count that aren't kept, or that
+    // aren't laid out for the attributes before them.
+    fn price<L: Ledger>(
         &mut self,
         alloc: Global,
         unit: &Unit,
@@ -161,15 +187,18 @@ impl Walk {
         allowance: u64,
         kept: &[Part],
         steps: &mut Steps<L>,
-    ) -> Option<(u64, Vec<Part>)> {
+    ) -> Option<Price> {
         match &made.outcome {
             Outcome::Done(_) if is_nested(unit) => {
-                let parts = parts_of(alloc, unit, &mut self.env, kept, steps)?;
-                Some((parts.charge, parts.done))
+                let parts = parts_of(alloc, unit, &mut self.env, &made.attrs, kept, steps)?;
+                Some(Price {
+                    steps: parts.charge,
+                    items: parts.items,
+                    parts: parts.done,
+                })
             }
             Outcome::Over if is_nested(unit) => None,
-            Outcome::Done(trace) => Some((trace.cost, Vec::new(alloc))),
-            Outcome::Over => Some((allowance, Vec::new(alloc))),
+            _ => self.whole(alloc, unit, made, allowance),
         }
     }
 
@@ -201,14 +230,14 @@ impl Walk {
         let allowance = MOST_UNIT.min(self.left);
         let reached = !fits(last, &self.env, allowance);
         let made = self.made(alloc, unit, allowance, steps)?;
-        let (cost, parts) = self.cost(alloc, unit, &made, allowance, kept, steps)?;
+        let price = self.price(alloc, unit, &made, allowance, kept, steps)?;
         if reached {
-            self.work = self.work.checked_add(cost)?;
+            self.work = self.work.checked_add(price.steps)?;
         }
-        if unit.path.is_some() && (reached || !is_laid_for(last, &made.attrs)) {
-            self.lay(alloc, &made)?;
+        if reached || !is_laid_for(last, &made.attrs) {
+            self.work = self.work.checked_add(price.items)?;
         }
         self.go_behind(&made.outcome, allowance)?;
-        Some((made, parts))
+        Some((made, price.parts))
     }
 }

@@ -3,8 +3,8 @@ use Rattle.std.specs.List.{list_any}
 use Rattle.std.proofs.lemmas.List.Elements.{All-take, All-drop}
 use Rattle.tx_view_form.specs.Stops.{same_place}
 use Rattle.tx_view.specs.Near.{shown_stops}
-use Rattle.tx_view.specs.Units.{unit_view, IsReadable}
-use Rattle.tx_view.specs.declared.shown.Shown.{Shown}
+use Rattle.tx_unit_layout.specs.Views.{unit_view, IsReadable}
+use Rattle.tx_unit_layout.specs.declared.shown.Shown.{Shown}
 use Rattle.tx_view.proofs.Ranges.{held_nowhere, held_here, held_not_here}
 use Rattle.tx_view.proofs.around.holder.Goals as goal
 

@@ -1,5 +1,5 @@
 use Rattle.std.proofs.Common.{◌-◌, arith, sym, ap, ◌∙◌, is_some}
-use Rattle.tx_view.specs.declared.shown.Shown.{Shown}
+use Rattle.tx_unit_layout.specs.declared.shown.Shown.{Shown}
 use Rattle.tx_view.proofs.Placed.{some_from}
 use Rattle.tx_view.proofs.around.last_placed.Goals as goal
 

@@ -1,7 +1,7 @@
 use Rattle.std.proofs.Common.{◌≡◌, ◌+◌, ◌-◌, ◌≤◌, List, [], length, take, drop, subst, arith, length-drop}
 use Rattle.std.proofs.lemmas.List.{take_all}
 use Rattle.tx_view.specs.Near.{IsHolder, shown_stops}
-use Rattle.tx_view.specs.declared.shown.Shown.{Shown}
+use Rattle.tx_unit_layout.specs.declared.shown.Shown.{Shown}
 use Rattle.tx_view.proofs.Ranges.{range_none, range_some}
 use Rattle.tx_view.proofs.around.range_near.Goals as goal
 

@@ -21,22 +21,22 @@ overflow_cast-changed c =
 pub unreachable-requires : goal.unreachable-requires
 unreachable-requires c =
     unit_missing c.in-Some.changed c.args.buffer c.args.mods.now c.args.bridges.now.kept c.in-Some.ensures
-    c.in_default-unit.ensures
+    c.in_default-unit.ensures.found
 
 pub returns-in-None : goal.returns-in-None
 returns-in-None c =
     number_is c.unit_list_laws.ensures.once c.in-Some.changed c.args.buffer c.args.mods.now c.args.tree.now
     c.args.bridges.now.kept c.in-Some-unit.unit.now false c.requires.units c.in-Some.ensures
-    c.in-Some-unit.ensures c.in-None.ensures
+    c.in-Some-unit.ensures.found c.in-None.ensures
 
 pub returns-in_ok-share-in-Some-paragraph_now : goal.returns-in_ok-share-in-Some-paragraph_now
 returns-in_ok-share-in-Some-paragraph_now c =
     let now = c.in-Some-paragraph_now.ensures in (
       exchanged_at c.in-Some.changed c.args.buffer c.args.mods.now c.args.tree.now
           c.in-Some-paragraph_now.paragraph.now c.in_ok-share-in-Some-paragraph_now.field-0 c.args.bridges.now.kept
-          c.in-Some-unit.unit.now c.in-Some.ensures c.in-Some-unit.ensures now.0
+          c.in-Some-unit.unit.now c.in-Some.ensures c.in-Some-unit.ensures.found now.0
           c.in_ok-share-in-Some-paragraph_now.ensures,
       number_is c.unit_list_laws.ensures.once c.in-Some.changed c.args.buffer c.args.mods.now c.args.tree.now
           c.args.bridges.now.kept c.in-Some-unit.unit.now true c.requires.units c.in-Some.ensures
-          c.in-Some-unit.ensures now.1,
+          c.in-Some-unit.ensures.found now.1,
     )

@@ -9,8 +9,7 @@ use Rattle.tx_view.proofs.laying.lay_each.Given as goal
 
 abbrev pub invariant-loop-i : goal.invariant-loop-i
 invariant-loop-i g l = record {
-  onward :
-      Onward l.width l.bridges.kept l.fn.units l.units l.i l.moment l.items l.fn.steps l.steps;
+  onward : Onward l.width l.bridges l.fn.units l.units l.i l.moment l.items l.fn.steps l.steps;
   attributes : l.attrs ≡ attributes_of l.moment.env;
   still :
       ArePartlyLaid (laid_in l.fn.units) (attributes_from beginning (units_of l.bridges.kept)) (laid_in l.units);

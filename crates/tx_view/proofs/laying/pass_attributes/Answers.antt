@@ -5,8 +5,8 @@ use Rattle.tx_view_form.specs.Started.{attributes_of}
 use Rattle.tx_view.proofs.Onward.{entry_with}
 use Rattle.tx_view.proofs.laying.pass_attributes.Goals as goal
 
-pub returns-then-sets_nothing : goal.returns-then-sets_nothing
-returns-then-sets_nothing c =
+pub returns-then-is_silent : goal.returns-then-is_silent
+returns-then-is_silent c =
     let e = entry_with c.args.bridges.now.kept c.args.i (wide_outcome c.in-Some.outcome.now) c.in-Some.ensures.found in
     let b = c.requires.before e.0 e.1 in
-    b.1 ∙ ap attributes_of (sym (b.2 ∙ ap (env_behind b.0) e.2 ∙ c.sets_nothing.ensures c.if-sets_nothing.true b.0))
+    b.1 ∙ ap attributes_of (sym (b.2 ∙ ap (env_behind b.0) e.2 ∙ c.is_silent.ensures c.if-is_silent.true b.0))

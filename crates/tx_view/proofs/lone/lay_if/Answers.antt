@@ -12,7 +12,7 @@ returns-clause-left g c =
     omega (
       arith,
       c.in_ok-items.ensures.items,
-      all_laid beginning (units_of c.args.bridges.now.kept) (laid_in c.lay_only.new.units)
+      all_laid beginning (units_of c.args.bridges.now.kept) c.args.bridges.now.part_flags c.lay_only.new.units
           c.in_ok-items.ensures.attributes,
     )
 

@@ -5,7 +5,7 @@ use Rattle.tx_layout.specs.Paging.{PagesFrom}
 use Rattle.tx_layout.specs.Told.{HasTold}
 use Rattle.tx_view_form.specs.Views.{UnitView, lines_of}
 use Rattle.tx_view.specs.Units.{unit_views}
-use Rattle.tx_view.specs.declared.shown.Shown.{Shown}
+use Rattle.tx_unit_layout.specs.declared.shown.Shown.{Shown}
 use Rattle.tx_view.proofs.UnitRows.{all_more, sums_fit}
 use Rattle.tx_view.proofs.paging.paged.Goals as goal
 

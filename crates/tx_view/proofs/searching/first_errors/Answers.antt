@@ -1,6 +1,6 @@
 use Rattle.std.proofs.Common.{◌≡◌, ◌+◌, length, ap, rules, arith}
 use Rattle.tx_view_form.specs.Views.{UnitView}
-use Rattle.tx_view.specs.Units.{unit_view}
+use Rattle.tx_unit_layout.specs.Views.{unit_view}
 use Rattle.tx_view.proofs.UnitRows.{sums_fit, sums_next, as_many_errors, placed_errors}
 use Rattle.tx_view.proofs.searching.first_errors.Goals as goal
 

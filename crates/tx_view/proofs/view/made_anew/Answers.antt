@@ -1,20 +1,27 @@
-use Rattle.std.proofs.Common.{List, subst}
+use Rattle.std.proofs.Common.{List, subst, sym}
 use Rattle.tx_units.specs.declared.kinds.Unit.{Unit as DocUnit}
 use Rattle.tx_units.specs.Units.{units}
-use Rattle.tx_view.specs.Laid.{laid_in, stores_in}
+use Rattle.tx_unit_layout.specs.declared.shown.Shown.{Shown}
+use Rattle.tx_view.specs.Laid.{AreLaid, laid_in, laid_parts_in, stores_in}
 use Rattle.tx_view.specs.Names.{Fresh, Bound}
 use Rattle.tx_view.specs.Stores.{fresh_stores, IsPartlyFresh}
 use Rattle.tx_bridge.proofs.Partway.{any_err}
+use Rattle.tx_view.proofs.Forgetting.{AllReadable, readable_left}
+use Rattle.tx_view.proofs.Keeping.{laid_without_parts}
 use Rattle.tx_view.proofs.Partly.{all_fresh}
 use Rattle.tx_view.proofs.Standing.{all_made}
 use Rattle.tx_view.proofs.view.made_anew.Goals as goal
 
-pub returns-clause-stores : goal.returns-clause-stores
+pub returns-in-Ok-clause-stores : goal.returns-in-Ok-clause-stores
 unfolding Fresh
-returns-clause-stores g c =
+returns-in-Ok-clause-stores g c =
     all_made c.args.buffers.now c.args.bridges.now.kept c.lay_out.new.bridges.kept c.lay_out.new.bridges.parts
-    (laid_in c.lay_out.new.units) c.requires.of_buffers c.in_ok-work.ensures.kept c.in_ok-work.ensures.parts
-    c.in_ok-work.ensures.attributes
+    (laid_in c.lay_out.new.units) (laid_parts_in c.lay_out.new.units) c.requires.of_buffers c.in_ok-work.ensures.kept
+    c.in_ok-work.ensures.parts c.in_ok-work.ensures.attributes c.in_ok-work.ensures.laid_parts
+
+pub returns-in-Ok-clause-work : goal.returns-in-Ok-clause-work
+unfolding Bound
+returns-in-Ok-clause-work g c = c.in_ok-work.ensures.work
 
 pub returns-in_err-work-clause-refused : goal.returns-in_err-work-clause-refused
 unfolding Fresh
@@ -23,16 +30,25 @@ returns-in_err-work-clause-refused g c =
     (subst (λ (us : List DocUnit). IsPartlyFresh (stores_in c.args.bridges.now c.args.all.now) (fresh_stores us)
     (stores_in c.lay_out.new.bridges c.lay_out.new.units)) c.requires.of_buffers c.in_err-work.ensures.refused)
 
-pub returns-in_err-paged-clause-refused : goal.returns-in_err-paged-clause-refused
+-- where the pages lack memory
+pub returns-in-Err-clause-refused : goal.returns-in-Err-clause-refused
 unfolding Fresh
-returns-in_err-paged-clause-refused g c =
-    any_err c.from_residual-in_err-paged.result
-    (all_fresh (stores_in c.args.bridges.now c.args.all.now) (fresh_stores (units c.args.buffers.now))
-    (stores_in c.lay_out.new.bridges c.lay_out.new.units)
+returns-in-Err-clause-refused g c =
+    subst (λ (xs : List Shown). IsPartlyFresh (stores_in c.args.bridges.now c.args.all.now)
+    (fresh_stores (units c.args.buffers.now)) (stores_in c.lay_out.new.bridges xs)) (sym c.forget_all_parts.ensures)
+    (all_fresh (stores_in c.args.bridges.now c.args.all.now) c.lay_out.new.bridges (units c.args.buffers.now)
+    c.lay_out.new.units
     (all_made c.args.buffers.now c.args.bridges.now.kept c.lay_out.new.bridges.kept c.lay_out.new.bridges.parts
-    (laid_in c.lay_out.new.units) c.requires.of_buffers c.in_ok-work.ensures.kept c.in_ok-work.ensures.parts
-    c.in_ok-work.ensures.attributes))
+    (laid_in c.lay_out.new.units) (laid_parts_in c.lay_out.new.units) c.requires.of_buffers c.in_ok-work.ensures.kept
+    c.in_ok-work.ensures.parts c.in_ok-work.ensures.attributes c.in_ok-work.ensures.laid_parts))
 
-pub returns-clause-work : goal.returns-clause-work
-unfolding Bound
-returns-clause-work g c = c.in_ok-work.ensures.work
+pub returns-in-Err-clause-laid : goal.returns-in-Err-clause-laid
+returns-in-Err-clause-laid g c =
+    subst (AreLaid c.args.size.0 c.lay_out.new.bridges.kept c.lay_out.new.bridges.parts)
+    (sym c.forget_all_parts.ensures)
+    (laid_without_parts c.args.size.0 c.lay_out.new.bridges.kept c.lay_out.new.bridges.parts c.lay_out.new.units
+    c.in_ok-work.ensures.laid)
+
+pub returns-in-Err-clause-readable : goal.returns-in-Err-clause-readable
+returns-in-Err-clause-readable g c =
+    subst AllReadable (sym c.forget_all_parts.ensures) (readable_left c.lay_out.new.units c.in_ok-work.ensures.readable)

@@ -1,25 +1,31 @@
-use Rattle.std.proofs.Common.{◌∙◌, List, [], length, false, ap, refl, sym, subst, arith}
-use Rattle.std.specs.List.{AllByRecursion}
+use Rattle.std.proofs.Common.{◌∙◌, List, [], length, false, ap, refl, sym, arith}
 use Rattle.std.specs.Prelude.{map}
 use Rattle.tx_doc.specs.Buffers.{tree_of, with_tree}
 use Rattle.tx_doc.specs.declared.buffer.Buffer.{Buffer}
-use Rattle.tx_units.specs.Units.{units}
+use Rattle.tx_units.specs.Units.{units, made}
 use Rattle.tx_bridge.specs.Carrying.{had}
 use Rattle.tx_bridge.specs.Entries.{Kept, units_of}
 use Rattle.tx_bridge.specs.Names.{Sources, Carry as CarryKept}
-use Rattle.tx_bridge.specs.UnitLists.{IsPlaced}
 use Rattle.tx_view.specs.declared.paging.Pagination.{Pagination}
-use Rattle.tx_view.specs.declared.shown.Shown.{Shown}
+use Rattle.tx_unit_layout.specs.declared.shown.Shown.{Shown}
 use Rattle.tx_view.specs.declared.view.View.TheInside.{Inside}
-use Rattle.tx_view.specs.Exchanged.{parts_after}
-use Rattle.tx_view.specs.Laid.{laid_in}
+use Rattle.tx_view.specs.Exchanged.{parts_after, laid_parts_after}
+use Rattle.tx_view.specs.Laid.{laid_in, laid_parts_in}
 use Rattle.tx_view.specs.Names.{Carry}
 use Rattle.tx_view.specs.WholeViews.{WholeView, whole_of, stores_of, all_of}
 use Rattle.tx_view.proofs.Blank.{many_with}
-use Rattle.tx_view.proofs.Staying.{carried_by}
+use Rattle.tx_view.proofs.Editing.{edit_of}
+use Rattle.tx_view.proofs.Staying.{carried_by, inside_by}
 use Rattle.tx_view.proofs.Lasting.{left_by}
 use Rattle.tx_view.proofs.Standing.{stale, stale_view}
 use Rattle.tx_view.proofs.view.View.edited.Goals as goal
+
+pub move_shown-former-requires-clause-inside : goal.move_shown-former-requires-clause-inside
+move_shown-former-requires-clause-inside g c =
+    let bs : List Buffer = c.deref.result.now in
+    inside_by c.self.inside.width c.args.buffer c.args.mods.now (tree_of bs c.args.buffer) c.self.inside.bridges.kept
+    c.self.inside.bridges.parts (all_of c.self.inside) c.in_ok-after.target c.carried.new.bridges.sources
+    (units (with_tree bs c.args.buffer c.args.tree.now)) c.self.invariant.laid c.in_ok-after.ensures.way
 
 pub invariant_of-self-2 : goal.invariant_of-self-2
 invariant_of-self-2 g c =
@@ -28,13 +34,15 @@ invariant_of-self-2 g c =
     let kept : Kept = c.self.inside.bridges.kept in
     let olds : List Shown = all_of c.self.inside in
     let ss = c.carried.new.bridges.sources in
+    let edit = edit_of c.args.buffer c.args.mods.now bs c.self.inside c.args.self.now c.args.tree.now
+    c.keeping_law.ensures c.staying_parts_law.ensures c.unit_list_laws.ensures.stand c.deref.ensures.value
+    c.self.view_is c.requires.changed c.self.invariant.of_buffers c.outcome-kept.ensures.parts_hold in
     let on = carried_by c.self.inside.width c.args.buffer c.args.mods.now (tree_of bs c.args.buffer) kept
-    c.carried.new.bridges.kept olds c.move_shown-former.new.hidden.items c.in_ok-after.target ss (units after)
-    c.self.invariant.laid c.self.invariant.all_readable
-    (subst (AllByRecursion IsPlaced) (sym c.self.invariant.of_buffers)
-    (c.unit_list_laws.ensures.units c.self.inside.buffers.items).placed)
-    (c.unit_list_laws.ensures.units after).placed c.in_ok-after.ensures.kept c.in_ok-after.ensures.sources
-    c.in_ok-after.ensures.target c.move_shown-former.ensures.moved in
+    c.carried.new.bridges.kept c.self.inside.bridges.parts c.carried.new.bridges.parts olds
+    c.move_shown-former.new.hidden.items c.in_ok-after.target ss (units after) c.self.invariant.laid
+    c.self.invariant.all_readable edit c.in_ok-after.ensures.kept c.in_ok-after.ensures.parts
+    c.in_ok-after.ensures.sources c.in_ok-after.ensures.target c.in_ok-after.ensures.way
+    c.move_shown-former.ensures.moved in
     let many = ap length c.in_ok-after.ensures.buffers ∙ many_with bs c.args.buffer c.args.tree.now
     ∙ ap length c.deref.ensures.value in
     stale _ (record {
@@ -63,13 +71,15 @@ returns-clause-ok g c =
     let kept : Kept = c.self.inside.bridges.kept in
     let olds : List Shown = all_of c.self.inside in
     let ss = c.carried.new.bridges.sources in
+    let edit = edit_of c.args.buffer c.args.mods.now bs c.self.inside c.args.self.now c.args.tree.now
+    c.keeping_law.ensures c.staying_parts_law.ensures c.unit_list_laws.ensures.stand c.deref.ensures.value
+    c.self.view_is c.requires.changed c.self.invariant.of_buffers c.outcome-kept.ensures.parts_hold in
     let on = carried_by c.self.inside.width c.args.buffer c.args.mods.now (tree_of bs c.args.buffer) kept
-    c.carried.new.bridges.kept olds c.move_shown-former.new.hidden.items c.in_ok-after.target ss (units after)
-    c.self.invariant.laid c.self.invariant.all_readable
-    (subst (AllByRecursion IsPlaced) (sym c.self.invariant.of_buffers)
-    (c.unit_list_laws.ensures.units c.self.inside.buffers.items).placed)
-    (c.unit_list_laws.ensures.units after).placed c.in_ok-after.ensures.kept c.in_ok-after.ensures.sources
-    c.in_ok-after.ensures.target c.move_shown-former.ensures.moved in
+    c.carried.new.bridges.kept c.self.inside.bridges.parts c.carried.new.bridges.parts olds
+    c.move_shown-former.new.hidden.items c.in_ok-after.target ss (units after) c.self.invariant.laid
+    c.self.invariant.all_readable edit c.in_ok-after.ensures.kept c.in_ok-after.ensures.parts
+    c.in_ok-after.ensures.sources c.in_ok-after.ensures.target c.in_ok-after.ensures.way
+    c.move_shown-former.ensures.moved in
     let v : Inside = record {
       buffers = c.in_ok-after.after;
       width = c.self.inside.width;
@@ -87,13 +97,16 @@ returns-clause-ok g c =
     (parts_after c.args.buffer c.args.mods.now (tree_of bs c.args.buffer) (units_of kept) c.self.inside.bridges.parts
     (Sources c.args.buffer c.args.mods.now (tree_of bs c.args.buffer) (units_of kept) (units after)))
     (map (had (laid_in olds)) (Sources c.args.buffer c.args.mods.now (tree_of bs c.args.buffer) (units_of kept)
-    (units after))) refl c.clear.ensures.items
+    (units after)))
+    (laid_parts_after c.args.buffer c.args.mods.now (tree_of bs c.args.buffer) (units_of kept) (laid_parts_in olds)
+    (Sources c.args.buffer c.args.mods.now (tree_of bs c.args.buffer) (units_of kept) (units after))) refl
+    c.clear.ensures.items
     (ap (λ (p : Pagination). p.pages.items) c.replace-paged.ensures.after ∙ c.in_ok-nothing.ensures.pages)
     c.in_ok-after.ensures.buffers
     c.in_ok-after.ensures.kept
     (c.in_ok-after.ensures.parts
     ∙ ap (parts_after c.args.buffer c.args.mods.now (tree_of bs c.args.buffer) (units_of kept)
-    c.self.inside.bridges.parts) c.in_ok-after.ensures.sources) on.attributes in
+    c.self.inside.bridges.parts) c.in_ok-after.ensures.sources) on.attributes on.laid_parts in
     base
     ∙ ap (λ (cs : List Buffer). record (whole_of c.self.inside) {
       buffers = with_tree cs c.args.buffer c.args.tree.now;
@@ -109,3 +122,12 @@ returns-clause-ok g c =
       stores = Carry c.args.buffer c.args.mods.now w.buffers w.stores
           (with_tree w.buffers c.args.buffer c.args.tree.now);
     }) c.self.view_is
+
+pub returns-clause-counted : goal.returns-clause-counted
+returns-clause-counted g c =
+    omega (
+      arith,
+      c.in_ok-after.ensures.counted,
+      ap (λ (cs : List Buffer). made (with_tree cs c.args.buffer c.args.tree.now))
+          (c.deref.ensures.value ∙ ap (λ (w : WholeView). w.buffers) c.self.view_is),
+    )

@@ -4,10 +4,11 @@ use Rattle.tx_units.specs.Units.{units}
 use Rattle.tx_items.specs.declared.attributes.Attrs.{Attrs}
 use Rattle.tx_bridge.specs.Entries.{Kept, nothing_kept}
 use Rattle.tx_bridge.specs.Nested.{KeptParts}
+use Rattle.tx_unit_layout.specs.LaidAts.{LaidAt}
 use Rattle.tx_view.specs.declared.view.View.TheInside.{Inside}
 use Rattle.tx_view.specs.Laid.{AreLaid, AreBlank}
 use Rattle.tx_view.specs.Names.{Empty}
-use Rattle.tx_view.proofs.Blank.{empty_is, empty_parts_is, blank_laid, blank_attributes, blank_readable}
+use Rattle.tx_view.proofs.Blank.{empty_is, empty_parts_is, blank_laid, blank_attributes, blank_ats, blank_readable}
 use Rattle.tx_view.proofs.Standing.{stale, stale_view}
 use Rattle.tx_view.proofs.view.View.new.Goals as goal
 
@@ -26,8 +27,11 @@ invariant_of-result g c =
       most_height = c.requires.most_height;
       of_buffers = c.in_ok-start.ensures.units ∙ c.in_ok-made.ensures.units ∙ ap units (sym c.in_ok-shared.ensures);
     }) refl c.new.ensures.items c.in_ok-nothing_paged.ensures.rows c.in_ok-nothing_paged.ensures.errors
-    (subst (λ (es : Kept). AreLaid c.args.width es xs) (sym (c.in_ok-start.ensures.empty ∙ empty_is us))
-    (blank_laid c.args.width us xs blank)) (blank_readable us xs blank) tt
+    (subst (λ (es : Kept). AreLaid c.args.width es c.in_ok-start.field-0.parts xs)
+    (sym (c.in_ok-start.ensures.empty ∙ empty_is us))
+    (subst (λ (pss : List KeptParts). AreLaid c.args.width (nothing_kept us) pss xs)
+    (sym (c.in_ok-start.ensures.parts ∙ empty_parts_is us)) (blank_laid c.args.width us xs blank)))
+    (blank_readable us xs blank) tt
 
 pub returns-clause-view : goal.returns-clause-view
 unfolding Empty
@@ -38,6 +42,7 @@ returns-clause-view g c =
     subst (λ (vs : List DocUnit). AreBlank vs xs) c.deref.ensures.value c.in_ok-hidden.ensures in
     let nothing : DocUnit → Option Attrs = λ u. None in
     let none : DocUnit → KeptParts = λ u. [] in
+    let none_at : DocUnit → List LaidAt = λ u. [] in
     let v : Inside = record {
       buffers = c.in_ok-shared.field-0;
       width = c.args.width;
@@ -51,7 +56,9 @@ returns-clause-view g c =
       work = 0;
     } in
     stale_view v c.args.buffers.now (nothing_kept (units c.args.buffers.now)) (map none (units c.args.buffers.now))
-    (map nothing (units c.args.buffers.now)) refl c.new.ensures.items c.in_ok-nothing_paged.ensures.pages
-    c.in_ok-shared.ensures (c.in_ok-start.ensures.empty ∙ empty_is us ∙ ap nothing_kept c.in_ok-made.ensures.units)
+    (map nothing (units c.args.buffers.now)) (map none_at (units c.args.buffers.now)) refl
+    c.new.ensures.items c.in_ok-nothing_paged.ensures.pages c.in_ok-shared.ensures
+    (c.in_ok-start.ensures.empty ∙ empty_is us ∙ ap nothing_kept c.in_ok-made.ensures.units)
     (c.in_ok-start.ensures.parts ∙ empty_parts_is us ∙ ap (map none) c.in_ok-made.ensures.units)
     (blank_attributes us xs blank ∙ ap (map nothing) c.in_ok-made.ensures.units)
+    (blank_ats us xs blank ∙ ap (map none_at) c.in_ok-made.ensures.units)

@@ -5,9 +5,9 @@ use Rattle.tx_doc.specs.declared.buffer.Buffer.{Buffer}
 use Rattle.tx_units.specs.Units.{units}
 use Rattle.tx_view_form.specs.Outcomes.{beginning}
 use Rattle.tx_view_form.specs.Views.{AreShown}
-use Rattle.tx_view.specs.declared.shown.Shown.{Shown}
+use Rattle.tx_unit_layout.specs.declared.shown.Shown.{Shown}
 use Rattle.tx_view.specs.declared.view.View.TheInside.{Inside}
-use Rattle.tx_view.specs.Laid.{AreLaid, laid_in}
+use Rattle.tx_view.specs.Laid.{AreLaid, laid_in, laid_parts_in}
 use Rattle.tx_view.specs.Lone.{IsPaged}
 use Rattle.tx_view.specs.Names.{Fresh}
 use Rattle.tx_view.specs.Units.{unit_views, sums_from, row_counts, error_counts, AreAllApart}
@@ -39,7 +39,8 @@ invariant_of-self g c =
     }) c.if-self.false none
     (c.self.invariant.rows ∙ ap (λ xs. sums_from 0 (row_counts (unit_views xs))) none)
     (c.self.invariant.errors ∙ ap (λ xs. sums_from 0 (error_counts (unit_views xs))) none)
-    (subst (λ (xs : List Shown). AreLaid c.self.inside.width c.made_anew.new.bridges.kept xs) now
+    (subst (λ (xs : List Shown). AreLaid c.self.inside.width c.made_anew.new.bridges.kept
+    c.made_anew.new.bridges.parts xs) now
     c.in_err-paged.ensures.laid)
     (subst AllReadable now c.in_err-paged.ensures.readable) (left_none v c.replace-lone.ensures.after)
 
@@ -64,10 +65,11 @@ invariant_of-self-2 g c =
     same c.in_ok-paged.ensures.shown))
     (subst (λ (xs : List Shown). IsPaged c.self.inside.height (unit_views xs) c.in_ok-paged.paged) now
     c.in_ok-paged.ensures.paged)
-    (ap (λ (xs : List Shown). stores_with c.made_anew.new.bridges.kept c.made_anew.new.bridges.parts (laid_in xs))
-    (sym now)
+    (ap (λ (xs : List Shown). stores_with c.made_anew.new.bridges.kept c.made_anew.new.bridges.parts (laid_in xs)
+    (laid_parts_in xs)) (sym now)
     ∙ c.in_ok-paged.ensures.stores ∙ ap Fresh same)
     (subst (λ (xs : List Shown). AreAllApart (unit_views xs)) now c.in_ok-paged.ensures.apart)
-    (subst (λ (xs : List Shown). AreLaid c.self.inside.width c.made_anew.new.bridges.kept xs) now
+    (subst (λ (xs : List Shown). AreLaid c.self.inside.width c.made_anew.new.bridges.kept
+    c.made_anew.new.bridges.parts xs) now
     c.in_ok-paged.ensures.laid)
     (subst AllReadable now c.in_ok-paged.ensures.readable) c.replace-lone.ensures.after

@@ -2,7 +2,7 @@ use Rattle.std.proofs.Common.{◌≡◌, ◌++◌, ◌<◌, ℕ, true, false, ta
 use Rattle.std.specs.Option.{unwrap_or}
 use Rattle.std.specs.Prelude.{slice_get}
 use Rattle.tx_view.specs.Laid.{without}
-use Rattle.tx_view.proofs.laying.forget_renewed.Given as goal
+use Rattle.tx_view.proofs.evaluating.forget_renewed.Given as goal
 
 abbrev pub invariant-loop-i : goal.invariant-loop-i
 invariant-loop-i l = record {

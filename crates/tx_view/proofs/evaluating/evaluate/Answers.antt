@@ -1,34 +1,39 @@
 use Rattle.std.proofs.Common.{◌≡◌, ◌∙◌, ap, sym, subst, length}
 use Rattle.tx_view_form.specs.Outcomes.{beginning}
-use Rattle.tx_view.specs.Laid.{AreLaid}
-use Rattle.tx_bridge.specs.Names.{Fresh, FreshParts}
+use Rattle.tx_view.specs.Laid.{without_parts}
+use Rattle.tx_bridge.specs.Names.{Fresh, FreshParts, PartFlags}
 use Rattle.tx_view.proofs.Partly.{dropped_all, left_laid}
-use Rattle.tx_view.proofs.Forgetting.{AllReadable, laid_still, laid_unlaid, readable_without, readable_unlaid}
+use Rattle.tx_view.proofs.Forgetting.{AllReadable, readable_without, readable_dropped, all_stay}
+use Rattle.tx_view.proofs.Keeping.{behind_evaluation, behind_refusal}
 use Rattle.tx_view.proofs.Renewed.{reached_many, same_many, alone_is}
-use Rattle.tx_view.proofs.laying.evaluate.Goals as goal
+use Rattle.tx_view.proofs.evaluating.evaluate.Goals as goal
 
 pub returns-in-Ok-clause-laid : goal.returns-in-Ok-clause-laid
+unfolding FreshParts PartFlags
 returns-in-Ok-clause-laid g c width h =
-    let many : length c.refresh.new.self.renewed ≡ length c.refresh.new.self.kept =
-    ap length c.in-Ok.ensures.renewed ∙ reached_many beginning c.args.bridges.now.kept
-    ∙ same_many c.args.bridges.now.kept c.refresh.new.self.kept c.in-Ok.ensures.units in
-    subst (AreLaid width c.refresh.new.self.kept) (sym c.forget_renewed-alone.ensures.shown)
-    (laid_still width c.refresh.new.self.renewed c.args.bridges.now.kept c.refresh.new.self.kept c.args.units.now h
-    c.in-Ok.ensures.units many c.in-Ok.ensures.stays)
+    behind_evaluation width c.args.bridges.now c.refresh.new.self c.args.units.now c.forget_renewed-alone.new.units h
+    c.in-Ok.ensures.units c.in-Ok.ensures.renewed c.in-Ok.ensures.parts c.in-Ok.ensures.parts_renewed
+    c.in-Ok.ensures.stays c.in-Ok.ensures.parts_same c.in-Ok.ensures.parts_stay c.forget_renewed-alone.ensures.shown
 
 pub returns-in-Ok-clause-readable : goal.returns-in-Ok-clause-readable
 returns-in-Ok-clause-readable g c h =
     subst AllReadable (sym c.forget_renewed-alone.ensures.shown)
     (readable_without c.refresh.new.self.renewed c.args.units.now h)
 
-pub returns-in-Err-clause-laid : goal.returns-in-Err-clause-laid
-returns-in-Err-clause-laid g c width h =
-    subst (AreLaid width c.refresh.new.self.kept) (sym c.forget_all.ensures)
-    (laid_unlaid width c.args.bridges.now.kept c.refresh.new.self.kept c.args.units.now h c.in-Err.ensures.units)
+pub returns-in-Err-clause-dropped : goal.returns-in-Err-clause-dropped
+unfolding FreshParts
+returns-in-Err-clause-dropped g c width h =
+    let r = c.in-Err.ensures.refused in
+    behind_refusal width c.args.bridges.now c.refresh.new.self c.args.units.now c.forget_all.new.units r.0 h
+    c.in-Err.ensures.units r.2 c.forget_all.ensures
+
+pub returns-in-Err-clause-no_parts : goal.returns-in-Err-clause-no_parts
+returns-in-Err-clause-no_parts g c =
+    ap without_parts c.forget_all.ensures ∙ all_stay c.args.units.now ∙ sym c.forget_all.ensures
 
 pub returns-in-Err-clause-readable : goal.returns-in-Err-clause-readable
 returns-in-Err-clause-readable g c h =
-    subst AllReadable (sym c.forget_all.ensures) (readable_unlaid c.args.units.now h)
+    subst AllReadable (sym c.forget_all.ensures) (readable_dropped c.args.units.now h)
 
 pub returns-in-Ok-clause-alone : goal.returns-in-Ok-clause-alone
 returns-in-Ok-clause-alone g c = λ yes.

@@ -2,7 +2,7 @@ use Rattle.std.proofs.Common.{◌∙◌, ap, sym, slice_index_or, arith}
 use Rattle.tx_view.specs.Laid.{unlaid}
 use Rattle.tx_view.proofs.Forgetting.{without_next, without_end}
 use Rattle.tx_view.proofs.Renewed.{alone_next}
-use Rattle.tx_view.proofs.laying.forget_renewed.Goals as goal
+use Rattle.tx_view.proofs.evaluating.forget_renewed.Goals as goal
 
 pub loop-i-preserved : goal.loop-i-preserved
 loop-i-preserved c = record {

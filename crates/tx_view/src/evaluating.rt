@@ -1,0 +1,137 @@
+// Units evaluated anew, where nothing fits, and what is laid out of them forgotten.
+ghost use Rattle.std.specs.Prelude.{◌≡◌, ◌+◌, ◌≤◌, ◌<◌, ◌^◌, length, slice_get, All, IfOk, OnOk, OnErr, true, false};
+ghost use Rattle.std.specs.Prelude.{ℕ, map, IsTrue, None};
+ghost use Rattle.std.specs.Option.{unwrap_or};
+ghost use Rattle.tx_view_form.specs.Outcomes.{beginning};
+ghost use Rattle.tx_bridge.specs.Entries.{units_of, fresh_from};
+ghost use Rattle.tx_bridge.specs.Names.{Charge, PartFlags};
+ghost use Rattle.tx_bridge.specs.Nested.{fresh_parts_from};
+ghost use Rattle.tx_view_form.specs.declared.TheConstants.{MOST_VIEW_STEPS};
+ghost use Rattle.tx_bridge.specs.Reached.{reached_from};
+ghost use Rattle.tx_unit_layout.specs.Views.{unit_view, IsReadable};
+ghost use Rattle.tx_view.specs.Stores.{fresh_stores, IsPartlyFresh};
+ghost use Rattle.tx_view.specs.Laid.{AreLaid, WereLaid, unlaid, dropped, dropped_by, without_parts, without};
+ghost use Rattle.tx_view.specs.Laid.{stores_in, StayLaid};
+ghost use Rattle.tx_view.specs.Lone.{IsAlone};
+
+use std::alloc::Global;
+use std::sync::ledger::Ledger;
+use tx_base::{Memory, Steps};
+use tx_bridge::Bridges;
+use tx_unit_layout::Shown;
+
+// Nothing is laid out, where this is true.
+fn forget(shown: &mut Shown, renewed: bool)
+    ensures { shown.new ≡ unlaid renewed shown.old }
+{
+    if renewed {
+        shown.laid = None;
+    }
+}
+
+// Whether still none but the lone unit was renewed, where `alone` says it of the units before this one.
+fn still_alone(alone: bool, renewed: bool, is_lone: bool) -> bool
+    ensures before { IsTrue result → alone ≡ true }
+    ensures here { IsTrue result → is_lone ≡ false → renewed ≡ false }
+{
+    if is_lone {
+        return alone;
+    }
+    if renewed {
+        return false;
+    }
+    alone
+}
+
+// What was laid out of units that were evaluated anew isn't theirs any more. If it answers true, none but number `lone`
+// was.
+fn forget_renewed(units: &mut [Shown], bridges: &Bridges, lone: usize) -> bool
+    requires few { length units.old < 2 ^ 32 }
+    ensures shown { units.new ≡ without bridges.now.renewed units.old }
+    ensures alone { IsTrue result → (k : ℕ) → k < length units.old → (k ≡ lone → ⊥)
+        → unwrap_or (slice_get bridges.now.renewed k) false ≡ false }
+{
+    let mut alone = true;
+    for i in 0..units.len() {
+        let renewed = bridges.renewed(i as u32);
+        forget(&mut units[i], renewed);
+        alone = still_alone(alone, renewed, i == lone);
+    }
+    alone
+}
+
+// Nothing is laid out, of units or of parts.
+fn forget_all(units: &mut [Shown])
+    ensures { units.new ≡ map dropped units.old }
+{
+    for i in 0..units.len() {
+        units[i].laid = None;
+        units[i].parts.forget();
+    }
+}
+
+// Nothing is laid out of the parts, and if something was, nothing of the unit.
+fn forget_parts(shown: &mut Shown)
+    ensures { shown.new ≡ dropped_by shown.old.parts shown.old }
+{
+    if shown.parts.all().is_empty() {
+        return;
+    }
+    shown.laid = None;
+    shown.parts.forget();
+}
+
+/// Nothing is laid out of parts, and nothing of units of whose parts something was.
+pub(crate) fn forget_all_parts(units: &mut [Shown])
+    ensures { units.new ≡ without_parts units.old }
+{
+    for i in 0..units.len() {
+        forget_parts(&mut units[i]);
+    }
+}
+
+/// Evaluates the units of which nothing fits. What was laid out of them isn't theirs any more. Answers the charges, and
+/// whether no other unit than number `lone` was evaluated anew. False says nothing.
+#[tactic(auto, unfolding(tx_bridge::specs::Names::Fresh, tx_bridge::specs::Names::FreshParts))]
+pub(crate) fn evaluate<L: Ledger>(
+    alloc: Global,
+    bridges: &mut Bridges,
+    units: &mut [Shown],
+    lone: usize,
+    steps: &mut Steps<L>,
+) -> Result<(u64, bool), Memory>
+    requires few { length units.old < 2 ^ 32 }
+    requires as_many { length units.old ≡ length bridges.old.kept }
+    ensures kept { OnOk result (bridges.new.kept ≡ fresh_from beginning (units_of bridges.old.kept)) }
+    ensures parts { OnOk result (bridges.new.parts ≡ fresh_parts_from beginning (units_of bridges.old.kept)) }
+    ensures renewed { OnOk result (bridges.new.renewed ≡ reached_from beginning bridges.old.kept) }
+    ensures shown { OnOk result (units.new ≡ without bridges.new.renewed units.old) }
+    ensures charge { IfOk result (λ p. p.0 ≡ Charge bridges.old.kept bridges.old.parts) }
+    ensures counted { IfOk result (λ p. steps.new ≡ steps.old + p.0) }
+    ensures most { IfOk result (λ p. p.0 ≤ MOST_VIEW_STEPS) }
+    ensures alone { IfOk result (λ p. p.1 ≡ true
+        → IsAlone lone (length units.old) bridges.old.kept bridges.new.kept bridges.new.renewed) }
+    ensures left { OnOk result (StayLaid (stores_in bridges.old units.old) (stores_in bridges.new units.new)) }
+    ensures refused { OnErr result (IsPartlyFresh (stores_in bridges.old units.old)
+        (fresh_stores (units_of bridges.old.kept)) (stores_in bridges.new units.new)) }
+    ensures units { units_of bridges.new.kept ≡ units_of bridges.old.kept }
+    ensures laid { OnOk result ((width : ℕ) → AreLaid width bridges.old.kept bridges.old.parts units.old
+        → WereLaid width bridges.new.kept bridges.new.parts bridges.new.part_flags units.new) }
+    ensures dropped { OnErr result ((width : ℕ) → AreLaid width bridges.old.kept bridges.old.parts units.old
+        → AreLaid width bridges.new.kept bridges.new.parts units.new) }
+    ensures no_parts { OnErr result (without_parts units.new ≡ units.new) }
+    ensures flags { OnOk result (bridges.new.part_flags ≡ PartFlags bridges.old.kept bridges.old.parts) }
+    ensures readable { All (λ s. IsReadable (unit_view s)) units.old
+        → All (λ s. IsReadable (unit_view s)) units.new }
+{
+    match bridges.refresh(alloc, steps) {
+        Ok(charges) => {
+            let alone = forget_renewed(units, bridges, lone);
+            Ok((charges, alone))
+        }
+        Err(memory) => {
+            forget_all(units);
+            Err(memory)
+        }
+    }
+}
