@@ -213,9 +213,11 @@ impl Parts {
         if !fits {
             self.charge = self.charge.checked_add(trace.cost)?;
         }
-        let laid = Some(self.attrs.copy().ok()?);
-        self.show(alloc, &trace, fits && is_laid(former, &self.attrs))?;
+        let before = self.attrs.copy().ok()?;
+        let stays = fits && is_laid(former, &before);
+        self.show(alloc, &trace, stays)?;
         env.overlay(&trace.writes).ok()?;
+        let laid = Some(before);
         self.done.push(Part { path, laid, trace }).ok()
     }
 
