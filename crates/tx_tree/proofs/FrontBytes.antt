@@ -71,7 +71,7 @@ label_byte_small : (b : ℕ) → is_label_byte b ≡ true → b < 256
 unfolding is_label_byte
 label_byte_small b h = grind arith
 
-label_bytes : (label : List ℕ) → AllByRecursion (λ b. is_label_byte b ≡ true) label → AreBytes label
+pub label_bytes : (label : List ℕ) → AllByRecursion (λ b. is_label_byte b ≡ true) label → AreBytes label
 label_bytes [] h = tt
 label_bytes (b ∷ label) h = (label_byte_small b h.0, label_bytes label h.1)
 

@@ -10,5 +10,6 @@ pub mod Trees
 pub mod Falls
 pub mod Paths
 pub mod Places
+pub mod SamePlaces
 pub mod PathSpelling
 pub mod PathScan

@@ -30,8 +30,8 @@ pub use limits::limit_laws;
 pub use path_laws::path_law;
 pub use paths::Path;
 pub use places::Place;
-pub use sharing::{share_onto, shares};
-pub use texts::{Text, TextFault, TextPlace, cut_laws, is_name_byte};
+pub use sharing::{share_onto, share_tree, shares};
+pub use texts::{Text, TextFault, TextPlace, cut_laws, is_name_byte, text_of};
 pub use trees::{Kind, Tree};
 pub use tx_base::Memory;
 

@@ -77,6 +77,15 @@ impl Path {
         })
     }
 
+    /// The path to child i of where this path leads.
+    pub fn child(&self, alloc: Global, i: u32) -> Result<Path, Memory>
+        ensures { IfOk result (λ p. p ≡ self.now ++ i ∷ []) }
+    {
+        let mut below = self.copy(alloc)?;
+        below.push(i)?;
+        Ok(below)
+    }
+
     /// The path that the bytes spell: `/` alone for the root, or a `/` before each of 1 to 400 numbers of 1 to 10
     /// digits, which are at most 4,294,967,295.
     pub fn parse(alloc: Global, bytes: &[u8]) -> Result<Path, PathFault>

@@ -15,6 +15,16 @@ pub fn share_onto(into: &mut Vec<Tree>, trees: &[Tree]) -> Result<(), Memory>
     Ok(())
 }
 
+/// The same tree, or none again.
+pub fn share_tree(tree: &Option<Tree>) -> Result<Option<Tree>, Memory>
+    ensures { IfOk result (λ t. t ≡ tree.now) }
+{
+    match tree {
+        None => Ok(None),
+        Some(tree) => Ok(Some(tree.share()?)),
+    }
+}
+
 /// Shares of the trees, in their order.
 pub fn shares(alloc: Global, trees: &[Tree]) -> Result<Vec<Tree>, Memory>
     ensures { IfOk result (λ v. v.items ≡ trees.now) }

@@ -238,6 +238,16 @@ impl Text {
     }
 }
 
+/// The text of these bytes, where the caller knows that they are one within the limit. Else it answers `Memory` too.
+pub fn text_of(alloc: Global, bytes: &[u8]) -> Result<Text, Memory>
+    ensures { IfOk result (λ t. t ≡ bytes.now) }
+{
+    match Text::new(alloc, bytes) {
+        Ok(text) => Ok(text),
+        Err(_) => Err(Memory),
+    }
+}
+
 // Texts are equal where their bytes are.
 impl PartialEq for Text {
     ghost eq = { pointwise nat_eq };
