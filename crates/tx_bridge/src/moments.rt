@@ -26,7 +26,7 @@ use tx_exec::{Outcome, eval};
 use tx_exec_form::{size_law, trace_laws};
 use tx_origin::{Tagged, Value};
 use tx_parts::{fitting_law, standing_law};
-use tx_tree::{Label, Text};
+use tx_tree::{Label, text_of};
 use tx_units::Unit;
 use tx_view_form::{MOST_UNIT_STEPS, MOST_VIEW_STEPS};
 use tx_walk::{Part, walk, walked_law};
@@ -220,16 +220,6 @@ fn value_from(alloc: Global, outcome: Outcome) -> Result<Value, Memory>
     match outcome {
         Outcome::Over => over_value(alloc),
         Outcome::Done(trace) => Ok(trace.value),
-    }
-}
-
-// The text of these bytes, which are one.
-fn text_of(alloc: Global, bytes: &[u8]) -> Result<Text, Memory>
-    ensures { IfOk result (λ t. t ≡ bytes.now) }
-{
-    match Text::new(alloc, bytes) {
-        Ok(text) => Ok(text),
-        Err(_) => Err(Memory),
     }
 }
 

@@ -1,22 +1,12 @@
 -- Where the keys left and right lead among the stops of a view.
-use Rattle.std.specs.Prelude.{ℕ, zero, suc, ◌+◌, ◌==◌, nat_eq, Bool, ◌&&◌, List, Option, Some, None, Result, Ok, Err}
-use Rattle.std.specs.Prelude.{slice_get}
-use Rattle.std.specs.Cmp.Lexicographic.{pointwise}
-use Rattle.std.specs.List.{position}
+use Rattle.std.specs.Prelude.{ℕ, zero, suc, ◌+◌, List, Option, Some, None, Result, Ok, Err, slice_get}
 use Rattle.std.specs.Option.{option_map_or}
+use Rattle.tx_tree.specs.SamePlaces.{stop_number}
 use Rattle.tx_tree.specs.declared.places.Place.{Place}
 use Rattle.tx_edit.specs.declared.faults.EditFault.{EditFault}
 use Rattle.tx_edit.specs.declared.faults.EditFault.TheVariants.{AtStart, AtEnd}
 use Rattle.tx_edit.specs.declared.moves.Move.{Move}
 use Rattle.tx_edit.specs.declared.moves.Move.TheVariants.{Go}
-
--- the paths and the offsets are equal
-abbrev pub same_place : Place → Place → Bool
-same_place a b = pointwise nat_eq a.path b.path && (a.offset == b.offset)
-
--- the number of the first stop that is this place
-abbrev pub stop_number : List Place → Place → Option ℕ
-stop_number stops at = position (same_place at) stops
 
 -- to stop k, or the cause why not where there is none
 abbrev pub to_stop : List Place → ℕ → EditFault → Result Move EditFault

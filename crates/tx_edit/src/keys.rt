@@ -9,7 +9,7 @@ ghost use Rattle.tx_edit.specs.Keys.{typed, joined_in, erased, split_in_concat, 
 
 use crate::faults::EditFault;
 use crate::moves::{Move, edit, edit_twice};
-use crate::paths::{child_path, is_concat_at, is_document_at, parent_of, text_at};
+use crate::paths::{is_concat_at, is_document_at, parent_of, text_at};
 use std::alloc::Global;
 use tx_mod::Mod;
 use tx_tree::{Path, Place, Text, Tree};
@@ -78,7 +78,7 @@ fn join_to_former(alloc: Global, t: &Tree, path: &Path) -> Result<Move, EditFaul
     if k == 0 || !is_document_at(t, &parent) {
         return Err(EditFault::AtStart);
     }
-    let former = child_path(alloc, &parent, k - 1)?;
+    let former = parent.child(alloc, k - 1)?;
     let Some(text) = text_at(t, &former) else {
         return Err(EditFault::AtStart);
     };
@@ -131,7 +131,7 @@ fn split_in_concat(
     if !is_document_at(t, &parent) {
         return Err(EditFault::NotInParagraph);
     }
-    let mut behind = child_path(alloc, &parent, i + 1)?;
+    let mut behind = parent.child(alloc, i + 1)?;
     behind.push(0)?;
     let first = Mod::Split(concat.copy(alloc)?, j, offset);
     let second = Mod::Split(parent, i, j + 1);
@@ -150,7 +150,7 @@ fn split_in(alloc: Global, t: &Tree, path: &Path, offset: u32) -> Result<Move, E
         return Err(EditFault::NotInParagraph);
     };
     if is_document_at(t, &parent) {
-        let behind = child_path(alloc, &parent, i + 1)?;
+        let behind = parent.child(alloc, i + 1)?;
         return Ok(edit(alloc, Mod::Split(parent, i, offset), behind, 0)?);
     }
     if is_concat_at(t, &parent) {

@@ -1,5 +1,5 @@
 // What stands at a path, and above it.
-ghost use Rattle.std.specs.Prelude.{◌≡◌, ◌++◌, ◌∷◌, [], None, Some, MatchOption, IfOk};
+ghost use Rattle.std.specs.Prelude.{◌≡◌, None, Some, MatchOption, IfOk};
 ghost use Rattle.tx_edit.specs.Keys.{text_at, is_document_at, is_concat_at, parent_of};
 
 use std::alloc::Global;
@@ -46,13 +46,4 @@ pub(crate) fn parent_of(alloc: Global, path: &Path) -> Result<Option<(Path, u32)
         Some(i) => Ok(Some((above, i))),
         None => Ok(None),
     }
-}
-
-// The path to child i.
-pub(crate) fn child_path(alloc: Global, path: &Path, i: u32) -> Result<Path, Memory>
-    ensures { IfOk result (λ p. p ≡ path.now ++ i ∷ []) }
-{
-    let mut below = path.copy(alloc)?;
-    below.push(i)?;
-    Ok(below)
 }

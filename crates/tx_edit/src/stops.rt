@@ -1,6 +1,7 @@
 // The keys left and right.
 ghost use Rattle.std.specs.Prelude.{◌≡◌, ◌≢◌, IfOk, IfErr, Ok, Err};
-ghost use Rattle.tx_edit.specs.Stops.{same_place, stop_number, to_stop, to_left, to_right};
+ghost use Rattle.tx_edit.specs.Stops.{to_stop, to_left, to_right};
+ghost use Rattle.tx_tree.specs.SamePlaces.{same_place, stop_number};
 
 use crate::faults::EditFault;
 use crate::moves::Move;

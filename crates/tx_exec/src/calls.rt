@@ -17,7 +17,6 @@ ghost use Rattle.tx_exec.specs.Gives.{LeadsOn, Counts};
 ghost use Rattle.tx_exec.specs.States.{state_of};
 
 use crate::children::kid;
-use crate::errors::text_of;
 use crate::numbers::numbers_in;
 use crate::progress::Progress;
 use crate::stop::Stop;
@@ -26,7 +25,7 @@ use std::alloc::Global;
 use std::sync::ledger::Ledger;
 use tx_base::{Memory, Steps};
 use tx_origin::{Tagged, Value};
-use tx_tree::{Label, MOST_LABEL, Text, Tree, is_label_byte};
+use tx_tree::{Label, MOST_LABEL, Text, Tree, is_label_byte, text_of};
 
 /// The words of a `map-args`: the label of each item, that of the whole, and the name of a parameter.
 #[derive(Drop)]

@@ -13,7 +13,7 @@ use std::alloc::Global;
 use std::sync::ledger::Ledger;
 use tx_base::{Memory, Steps};
 use tx_origin::{Ip, Tagged, Value, share_origin};
-use tx_tree::{Label, Text, Tree};
+use tx_tree::{Label, Text, Tree, text_of};
 
 impl Progress {
     /// The error node of this kind and this detail.
@@ -120,17 +120,6 @@ impl Progress {
         self.need(tree.depth(), levels)?;
         self.pay(steps, tree.size() - 1)?;
         Ok(Value::whole(alloc, tree, at)?)
-    }
-}
-
-/// The text of these bytes.
-pub(crate) fn text_of(alloc: Global, bytes: &[u8]) -> Result<Text, Memory>
-    ensures ok { IfOk result (λ t. t ≡ bytes.now) }
-{
-    match Text::new(alloc, bytes) {
-        Ok(text) => Ok(text),
-        // The evaluator's own words, labels, and names from texts are texts.
-        Err(_) => Err(Memory),
     }
 }
 

@@ -14,7 +14,6 @@ ghost use Rattle.tx_exec.specs.States.{state_of, before_of};
 
 use crate::binding::Binding;
 use crate::children::kid;
-use crate::errors::text_of;
 use crate::frame::Call;
 use crate::macros::{body_behind, body_of, is_macro, is_xmacro};
 use crate::progress::Progress;
@@ -26,7 +25,7 @@ use tx_env::Env;
 use tx_exec_form::{Row, Taking, Unary, row_for};
 use tx_origin::{Ip, Tagged, Value, share_origin};
 use tx_prim::Prim;
-use tx_tree::{Label, Tree};
+use tx_tree::{Label, Tree, text_of};
 
 impl Progress {
     /// The tree's value.

@@ -12,7 +12,6 @@ ghost use Rattle.tx_exec.specs.States.{state_of, before_of};
 ghost use Rattle.tx_exec.specs.declared.picks.Ending.TheVariants.{Limit, Finished};
 
 use crate::children::kid;
-use crate::errors::text_of;
 use crate::frame::Call;
 use crate::picks::{Ending, Pick, half, joined, truth_in};
 use crate::progress::Progress;
@@ -23,7 +22,7 @@ use tx_base::Steps;
 use tx_env::Env;
 use tx_exec_form::{MOST_TURNS, Row};
 use tx_origin::{Tagged, Value};
-use tx_tree::Label;
+use tx_tree::{Label, text_of};
 
 impl Progress {
     /// Rows of conditions, `map-args`, and those that evaluate nothing.

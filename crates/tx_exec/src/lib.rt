@@ -29,4 +29,5 @@ mod tuples;
 mod withs;
 
 pub use looks::Looks;
+pub use names::{looks_of, writes_of};
 pub use outcome::{Outcome, Trace, eval};

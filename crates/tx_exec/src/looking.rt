@@ -10,7 +10,6 @@ ghost use Rattle.tx_exec.specs.Kinds.{IsStill, nothing, nothing_all};
 ghost use Rattle.tx_exec.specs.States.{state_of, before_of};
 
 use crate::children::kid;
-use crate::errors::text_of;
 use crate::progress::Progress;
 use crate::stop::Stop;
 use std::alloc::Global;
@@ -19,7 +18,7 @@ use tx_base::{Memory, Steps};
 use tx_env::Env;
 use tx_exec_form::Row;
 use tx_origin::{Tagged, Value, share_origin};
-use tx_tree::{Label, Text, Tree};
+use tx_tree::{Label, Text, Tree, text_of};
 
 impl Progress {
     /// Rows that evaluate no part.

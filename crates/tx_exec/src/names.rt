@@ -11,7 +11,7 @@ use tx_base::Memory;
 use tx_env::{Pairs, Writes};
 
 /// All that was noted, each name once.
-pub(crate) fn looks_of(noted: Pairs, alloc: Global) -> Result<Looks, Memory>
+pub fn looks_of(noted: Pairs, alloc: Global) -> Result<Looks, Memory>
     ensures all { IfOk result (λ l. l ≡ noted) }
     ensures once { IsDistinct bytes_eq (keys_of noted) }
 {
@@ -20,7 +20,7 @@ pub(crate) fn looks_of(noted: Pairs, alloc: Global) -> Result<Looks, Memory>
 
 /// The names of which a tree was noted, each once.
 #[tactic(auto, using(crate::proofs::Ending::next_some, std::proofs::lemmas::Grind::common_steps))]
-pub(crate) fn writes_of(noted: Pairs, alloc: Global) -> Result<Writes, Memory>
+pub fn writes_of(noted: Pairs, alloc: Global) -> Result<Writes, Memory>
     ensures all { IfOk result (λ w. w ≡ set_pairs noted) }
     ensures once { IsDistinct bytes_eq (keys_of noted) }
 {

@@ -14,7 +14,7 @@ use std::alloc::Global;
 use std::sync::ledger::Ledger;
 use tx_base::{Memory, Steps};
 use tx_origin::{Tagged, Value, share_origin};
-use tx_tree::{Label, Text, Tree};
+use tx_tree::{Label, Text, Tree, share_tree};
 
 /// A name with the value that it is to have.
 #[derive(Drop)]
@@ -87,15 +87,6 @@ impl Parts {
         self.values.push(pair.name)?;
         self.values.push(pair.value)?;
         Ok(())
-    }
-}
-
-fn share_tree(tree: &Option<Tree>) -> Result<Option<Tree>, Memory>
-    ensures { IfOk result (λ t. t ≡ tree.now) }
-{
-    match tree {
-        None => Ok(None),
-        Some(tree) => Ok(Some(tree.share()?)),
     }
 }
 

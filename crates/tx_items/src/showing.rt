@@ -28,7 +28,7 @@ use std::alloc::Global;
 use std::mem;
 use tx_base::Memory;
 use tx_origin::{Ip, Value};
-use tx_prim::{parse_length, text_of};
+use tx_prim::{known_text, parse_length};
 use tx_tree::{Label, Text};
 
 // The greatest number of cells or lines of a space.
@@ -479,7 +479,7 @@ impl Showing {
 fn label_text(alloc: Global, label: &Label) -> Result<Text, Memory>
     ensures { IfOk result (λ t. t ≡ label.now) }
 {
-    text_of(alloc, label.bytes())
+    known_text(alloc, label.bytes())
 }
 
 // The attribute that a name names.

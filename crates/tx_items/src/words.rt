@@ -4,7 +4,7 @@ ghost use Rattle.tx_items.specs.Words.{word_bytes};
 
 use std::alloc::Global;
 use tx_base::Memory;
-use tx_prim::text_of;
+use tx_prim::known_text;
 use tx_tree::Text;
 
 // A text that the rules make.
@@ -56,6 +56,6 @@ impl Word {
     pub(crate) fn text(self, alloc: Global) -> Result<Text, Memory>
         ensures { IfOk result (λ t. t ≡ word_bytes self) }
     {
-        text_of(alloc, self.bytes())
+        known_text(alloc, self.bytes())
     }
 }

@@ -16,7 +16,7 @@ use std::marker::Model;
 use std::rc::Rc;
 use std::sync::ledger::Ledger;
 use tx_base::{Memory, Steps};
-use tx_tree::{Label, Text, Tree, TreeFault};
+use tx_tree::{Label, Text, Tree, TreeFault, share_tree};
 
 /// A tree each of whose nodes has an origin or none. It is within the limits of trees, and answers its size, its depth
 /// and the number of its nodes without a walk. Values share their parts.
@@ -286,7 +286,7 @@ impl Value {
         requires from { IsFrom label.now parts.items from.now }
         ensures { IfOk result (λ v. v ≡ made label.now (vals parts.items) at) }
     {
-        let content = Content::Node(label.copy()?, parts, at, same_tree(from)?);
+        let content = Content::Node(label.copy()?, parts, at, share_tree(from)?);
         Ok(Value {
             size: self.size,
             depth: self.depth,
@@ -314,16 +314,6 @@ impl Value {
                 plain_node(alloc, label, children, steps)
             }
         }
-    }
-}
-
-// The same tree, or none again.
-fn same_tree(tree: &Option<Tree>) -> Result<Option<Tree>, Memory>
-    ensures { IfOk result (λ t. t ≡ tree.now) }
-{
-    match tree {
-        None => Ok(None),
-        Some(tree) => Ok(Some(tree.share()?)),
     }
 }
 

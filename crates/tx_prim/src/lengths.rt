@@ -7,7 +7,7 @@ ghost use Rattle.tx_prim.specs.Lengths.{unit_of, measured, digits_front, digits_
 ghost use Rattle.tx_prim.specs.Lengths.{length_behind, length_of, length_text};
 
 use crate::MOST_WHOLE;
-use crate::making::text_of;
+use crate::making::known_text;
 use crate::numbers::{digits_value, is_digit, signed, split_minus};
 use itoa::Buffer;
 use std::alloc::Global;
@@ -158,5 +158,5 @@ pub fn print_length(alloc: Global, mcell: i64) -> Result<Text, Memory>
     let mut digits = Buffer::new();
     let mut bytes = Vec::from_slice(alloc, digits.format(mcell).as_bytes())?;
     bytes.extend_from_slice(b"mcell")?;
-    text_of(alloc, &bytes)
+    known_text(alloc, &bytes)
 }

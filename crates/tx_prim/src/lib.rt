@@ -22,7 +22,7 @@ pub use amounts::{Amount, Answer, ValueFault};
 pub use items::item_laws;
 pub use laws::{length_laws, name_law, number_law, sameness_law};
 pub use lengths::{parse_length, print_length};
-pub use making::text_of;
+pub use making::known_text;
 pub use names::Prim;
 pub use numbers::parse_number;
 pub use table::primitive;

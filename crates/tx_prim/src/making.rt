@@ -17,7 +17,7 @@ use tx_tree::{Label, LabelFault, MOST_TEXT, Memory, Text, TextFault, Tree, TreeF
 
 /// The text of these bytes, which are one within the limit. The one error is want of memory.
 #[tactic(auto, using(crate::proofs::Sound::right, std::proofs::lemmas::Grind::common_steps))]
-pub fn text_of(alloc: Global, bytes: &[u8]) -> Result<Text, Memory>
+pub fn known_text(alloc: Global, bytes: &[u8]) -> Result<Text, Memory>
     requires text { IsText bytes.now }
     requires short { length bytes.now ≤ MOST_TEXT }
     ensures { IfOk result (λ t. t ≡ bytes.now) }
@@ -35,7 +35,7 @@ pub(crate) fn leaf_of(alloc: Global, bytes: &[u8]) -> Result<Tree, Memory>
     requires short { length bytes.now ≤ MOST_TEXT }
     ensures { IfOk result (λ t. t ≡ leaf bytes.now) }
 {
-    let text = text_of(alloc, bytes)?;
+    let text = known_text(alloc, bytes)?;
     Tree::leaf(alloc, text)
 }
 

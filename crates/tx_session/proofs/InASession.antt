@@ -34,7 +34,8 @@ use Rattle.tx_state.specs.declared.edits.Edit.{Edit}
 use Rattle.tx_edit.specs.declared.faults.EditFault.{EditFault}
 use Rattle.tx_edit.specs.declared.moves.Move.{Move}
 use Rattle.tx_edit.specs.declared.moves.Move.TheVariants.{Edit as KeyEdit, Go as MoveTo}
-use Rattle.tx_edit.specs.Stops.{stop_number, to_left, to_right}
+use Rattle.tx_edit.specs.Stops.{to_left, to_right}
+use Rattle.tx_tree.specs.SamePlaces.{stop_number}
 use Rattle.tx_origin.specs.RelativePlaces.{BasedPlace}
 use Rattle.tx_view_form.specs.Views.{WideView}
 use Rattle.tx_view_form.specs.Positions.{position_in}

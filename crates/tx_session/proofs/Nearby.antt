@@ -8,7 +8,8 @@ use Rattle.tx_edit.specs.declared.faults.EditFault.{EditFault}
 use Rattle.tx_edit.specs.declared.faults.EditFault.TheVariants.{AtStart, AtEnd, Memory}
 use Rattle.tx_edit.specs.declared.moves.Move.{Move}
 use Rattle.tx_edit.specs.declared.moves.Move.TheVariants.{Go}
-use Rattle.tx_edit.specs.Stops.{stop_number, to_left_of, to_left, to_right_of, to_right}
+use Rattle.tx_edit.specs.Stops.{to_left_of, to_left, to_right_of, to_right}
+use Rattle.tx_tree.specs.SamePlaces.{stop_number}
 use Rattle.tx_view.specs.Near.{AreNear}
 use Rattle.tx_view.proofs.Near.{stop_before, stop_behind, same_before, same_behind}
 use Rattle.tx_session.specs.Asking.{Makes}

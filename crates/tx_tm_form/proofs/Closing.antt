@@ -7,7 +7,7 @@ use Rattle.std.proofs.lemmas.List.{append-nil}
 use Rattle.std.proofs.lemmas.Bool.{le-leb, and_parts}
 use Rattle.tx_tree.specs.Labels.{is_label_byte, IsLabel}
 use Rattle.tx_tree.specs.WideTree.{WideTree, node, forest, leaf}
-use Rattle.tx_tree.proofs.FrontBytes.{AreBytes, bytes_together}
+use Rattle.tx_tree.proofs.FrontBytes.{AreBytes, bytes_together, label_bytes}
 use Rattle.tx_tm_form.specs.declared.places.TagForm.{TagForm}
 use Rattle.tx_tm_form.specs.declared.places.TagForm.TheVariants.{Short, Long, Middle, Closing}
 use Rattle.tx_tm_form.specs.declared.places.TagPlace.{TagPlace}
@@ -66,14 +66,6 @@ put_placed [] here p h = place_is (p ∷ []) here ∙ h
 put_placed (f ∷ fs) here p h = h
 
 -- ---- the open tags
-
-label_byte_small : (b : ℕ) → is_label_byte b ≡ true → b < 256
-unfolding is_label_byte
-label_byte_small b h = grind arith
-
-label_bytes : (label : List ℕ) → AllByRecursion (λ b. is_label_byte b ≡ true) label → AreBytes label
-label_bytes [] h = tt
-label_bytes (b ∷ label) h = (label_byte_small b h.0, label_bytes label h.1)
 
 -- a tree is read behind bytes more
 abbrev pub Closable : Bytewise Keeping → Type 0

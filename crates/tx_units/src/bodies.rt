@@ -23,8 +23,7 @@ fn add_paragraphs(
     let _arity = body.arity();
     let paragraphs = body.children();
     for (i, paragraph) in paragraphs.iter().enumerate() {
-        let mut own = path.copy(alloc)?;
-        own.push(i as u32)?;
+        let own = path.child(alloc, i as u32)?;
         units.push(Unit::of_body(paragraph.share()?, own))?;
     }
     Ok(())

@@ -13,10 +13,11 @@ use Rattle.std.proofs.lemmas.List.Folds.{list_any_at, list_any_more}
 use Rattle.std.proofs.lemmas.List.Sums.{fold-append}
 use Rattle.std.proofs.lemmas.Slice.Eq.{bytes_eq-Decides}
 use Rattle.tx_tree.specs.declared.places.Place.{Place}
-use Rattle.tx_view_form.specs.Stops.{same_place, put, each_once}
+use Rattle.tx_view_form.specs.Stops.{put, each_once}
+use Rattle.tx_tree.specs.SamePlaces.{same_place, stop_number}
 use Rattle.tx_origin.specs.RelativePlaces.{BasedPlace}
 use Rattle.tx_view.specs.Marks.{spot_place, spot_places}
-use Rattle.tx_view.specs.Near.{AreNear, HasFirst, IsFirst, HasNeighbours, stop_number}
+use Rattle.tx_view.specs.Near.{AreNear, HasFirst, IsFirst, HasNeighbours}
 use Rattle.tx_view.proofs.Parts.{is_among, none_in_parts, number_in_middle, folded_more, once_any, once_some}
 use Rattle.tx_view.proofs.Parts.{not_among}
 use Rattle.tx_view.proofs.Ranges.{near_none}

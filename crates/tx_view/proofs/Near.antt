@@ -4,8 +4,8 @@ use Rattle.std.proofs.Common.{Option}
 use Rattle.std.proofs.Common.{Some, None, refl, sym, ap, ◌∙◌, arith, append_assoc, append-nil, eq-or-lt_of_le}
 use Rattle.std.specs.Option.{option_map}
 use Rattle.tx_tree.specs.declared.places.Place.{Place}
-use Rattle.tx_view_form.specs.Stops.{same_place}
-use Rattle.tx_view.specs.Near.{AreNear, stop_number}
+use Rattle.tx_tree.specs.SamePlaces.{same_place, stop_number}
+use Rattle.tx_view.specs.Near.{AreNear}
 use Rattle.tx_view.proofs.Parts.{number_below}
 
 -- the stop before the one of this number, and the first where there is no number

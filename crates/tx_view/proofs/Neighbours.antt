@@ -13,7 +13,8 @@ use Rattle.tx_tree.specs.declared.places.Place.{Place}
 use Rattle.tx_units.specs.Places.{AreApart}
 use Rattle.tx_view_form.specs.Views.{UnitView}
 use Rattle.tx_view_form.specs.Positions.{Mark, marks_of}
-use Rattle.tx_view_form.specs.Stops.{mark_place, stops_by, unit_stops, same_place, each_once, stops_of}
+use Rattle.tx_view_form.specs.Stops.{mark_place, stops_by, unit_stops, each_once, stops_of}
+use Rattle.tx_tree.specs.SamePlaces.{same_place}
 use Rattle.tx_view.specs.Marks.{both_ends}
 use Rattle.tx_view.specs.Near.{is_above}
 use Rattle.tx_view.specs.Units.{AreAllApart}

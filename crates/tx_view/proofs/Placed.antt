@@ -9,7 +9,8 @@ use Rattle.std.proofs.lemmas.List.Concat.{flat_map-append}
 use Rattle.tx_tree.specs.declared.places.Place.{Place}
 use Rattle.tx_view_form.specs.Views.{UnitView}
 use Rattle.tx_view_form.specs.Positions.{Mark, marks_of}
-use Rattle.tx_view_form.specs.Stops.{same_place, stops_by, unit_stops, each_once}
+use Rattle.tx_view_form.specs.Stops.{stops_by, unit_stops, each_once}
+use Rattle.tx_tree.specs.SamePlaces.{same_place}
 use Rattle.tx_view.specs.Near.{shown_stops}
 use Rattle.tx_view.specs.Units.{unit_views}
 use Rattle.tx_unit_layout.specs.Views.{unit_view}

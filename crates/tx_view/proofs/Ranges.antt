@@ -10,8 +10,9 @@ use Rattle.std.proofs.lemmas.Bool.{or_from, both_ways}
 use Rattle.std.proofs.lemmas.List.{map-append, length-take-le, drop_more, drop-drop}
 use Rattle.std.proofs.lemmas.List.Quantifiers.{position-Some}
 use Rattle.tx_tree.specs.declared.places.Place.{Place}
-use Rattle.tx_view_form.specs.Stops.{same_place, stops_of}
-use Rattle.tx_view.specs.Near.{AreNear, is_above, shown_stops, HasStop, IsRange, stop_number}
+use Rattle.tx_view_form.specs.Stops.{stops_of}
+use Rattle.tx_tree.specs.SamePlaces.{same_place, stop_number}
+use Rattle.tx_view.specs.Near.{AreNear, is_above, shown_stops, HasStop, IsRange}
 use Rattle.tx_view.specs.Units.{unit_views, AreAllApart}
 use Rattle.tx_unit_layout.specs.Views.{unit_view}
 use Rattle.tx_unit_layout.specs.declared.shown.Shown.{Shown}

@@ -1,16 +1,13 @@
 -- A part of a list of stops that tells what is beside a place as the whole list does.
 use Rattle.std.specs.Prelude.{◌≡◌, ℕ, ◌+◌, ◌-◌, ◌<◌, ◌≤◌, nat_eq, Bool, false, true, List, [], ◌++◌, length, take, drop}
 use Rattle.std.specs.Prelude.{Option, None, Some}
-use Rattle.std.specs.List.{position, list_any, starts_with}
+use Rattle.std.specs.List.{list_any, starts_with}
 use Rattle.std.specs.Option.{option_map}
 use Rattle.tx_tree.specs.declared.places.Place.{Place}
-use Rattle.tx_view_form.specs.Stops.{same_place, stops_of}
+use Rattle.tx_tree.specs.SamePlaces.{same_place, stop_number}
+use Rattle.tx_view_form.specs.Stops.{stops_of}
 use Rattle.tx_view.specs.Units.{unit_views}
 use Rattle.tx_unit_layout.specs.declared.shown.Shown.{Shown}
-
--- the number of the first of these stops that is the place
-abbrev pub stop_number : List Place → Place → Option ℕ
-stop_number stops at = position (same_place at) stops
 
 -- Some of all stops, one behind the other, in which the place has the stops beside it that it has among all. Where it
 -- is none of them it is none of all, and the first of them is the first of all.

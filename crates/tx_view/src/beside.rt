@@ -4,9 +4,10 @@ ghost use Rattle.std.specs.Prelude.{IfOk, OnOk, IfSome, IsTrue, if◌then◌else
 ghost use Rattle.std.specs.List.{list_any};
 ghost use Rattle.std.specs.Str.{bytes_eq};
 ghost use Rattle.tx_origin.specs.RelativePlaces.{path_below};
-ghost use Rattle.tx_view_form.specs.Stops.{same_place, each_once, stops_of};
+ghost use Rattle.tx_view_form.specs.Stops.{each_once, stops_of};
+ghost use Rattle.tx_tree.specs.SamePlaces.{same_place, stop_number};
 ghost use Rattle.tx_view.specs.Marks.{spot_place, spot_places};
-ghost use Rattle.tx_view.specs.Near.{AreNear, IsFirst, HasNeighbours, stop_number};
+ghost use Rattle.tx_view.specs.Near.{AreNear, IsFirst, HasNeighbours};
 ghost use Rattle.tx_view.specs.Units.{unit_views};
 ghost use Rattle.tx_unit_layout.specs.Views.{unit_view, IsReadable};
 

@@ -21,7 +21,6 @@ mod spots;
 mod starts;
 mod stops;
 mod view;
-mod words;
 
 pub use cells::drawn_in;
 pub use view::View;

@@ -4,12 +4,11 @@ ghost use Rattle.tx_items.specs.Attributes.{initial, attribute_named, with_named
 ghost use Rattle.tx_view_form.specs.Started.{attributes_of, set_to};
 ghost use Rattle.tx_view.specs.Variables.{AreVariables};
 
-use crate::words::text_of;
 use std::alloc::Global;
 use tx_base::Memory;
 use tx_env::Env;
 use tx_items::Attrs;
-use tx_tree::Text;
+use tx_tree::{Text, text_of};
 
 /// The names of the seven variables, and the attributes where none of them is set.
 #[derive(Drop)]

@@ -33,7 +33,7 @@ impl Model for Stop {
 }
 
 impl PartialEq for Stop {
-    ghost use Rattle.tx_view_form.specs.Stops.{same_place};
+    ghost use Rattle.tx_tree.specs.SamePlaces.{same_place};
 
     ghost eq = { same_place };
 

@@ -16,7 +16,8 @@ use Rattle.tx_view_form.specs.Views.{UnitView}
 use Rattle.tx_view_form.specs.Cells.{row_in, item_number, item_at}
 use Rattle.tx_view_form.specs.Positions.{Mark, mark_of, marks_of, first_or, nearest, items_on}
 use Rattle.tx_view_form.specs.Positions.{place_by, place_on, place_in, position_in, whole_path}
-use Rattle.tx_view_form.specs.Stops.{mark_place, stops_by, unit_stops, same_place, put, stops_of}
+use Rattle.tx_view_form.specs.Stops.{mark_place, stops_by, unit_stops, put, stops_of}
+use Rattle.tx_tree.specs.SamePlaces.{same_place}
 use Rattle.tx_view_form.proofs.Marking.{some_once, OnMark}
 use Rattle.tx_view_form.proofs.PathUnits.{all_both}
 use Rattle.tx_view_form.proofs.Located.{IsLocated, HasPlaces, ArePlaces}

@@ -1,8 +1,8 @@
 -- The places of the document at which a cursor stops.
-use Rattle.std.specs.Prelude.{ℕ, Bool, ◌&&◌, ◌==◌, List, [], ◌∷◌, ◌++◌, if◌then◌else◌}
+use Rattle.std.specs.Prelude.{ℕ, List, [], ◌∷◌, ◌++◌, if◌then◌else◌}
 use Rattle.std.specs.List.{flat_map, list_any, fold}
 use Rattle.std.specs.Option.{option_map_or}
-use Rattle.std.specs.Str.{bytes_eq}
+use Rattle.tx_tree.specs.SamePlaces.{same_place}
 use Rattle.tx_tree.specs.declared.places.Place.{Place}
 use Rattle.tx_view_form.specs.Views.{UnitView}
 use Rattle.tx_view_form.specs.Positions.{Mark, marks_of}
@@ -19,9 +19,6 @@ stops_by path (m ∷ ms) = flat_map (λ n. mark_place path n n.start ∷ (mark_p
 -- of all items, also those that stand on no line; only a unit with a path has stops
 abbrev pub unit_stops : UnitView → List Place
 unit_stops x = option_map_or (λ path. stops_by path (marks_of (flat_map (λ p. p.items) x.paragraphs))) x.path []
-
-abbrev pub same_place : Place → Place → Bool
-same_place p q = bytes_eq p.path q.path && (p.offset == q.offset)
 
 -- a place that was there before isn't put again
 abbrev pub put : List Place → Place → List Place

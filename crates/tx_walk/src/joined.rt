@@ -11,13 +11,12 @@ ghost use Rattle.tx_parts.specs.Composed.{nothing_yet};
 ghost use Rattle.tx_exec.specs.Outcomes.{wide_trace, wide_outcome, NamesOnce};
 ghost use Rattle.tx_walk.specs.Steps.{so_far_of, with_trace, look_behind, IsJoined};
 
-use crate::sharing::share_tree;
 use std::alloc::Global;
 use tx_base::Memory;
 use tx_env::{Pairs, Writes};
 use tx_exec::{Looks, Outcome, Trace};
 use tx_origin::Value;
-use tx_tree::{Text, Tree};
+use tx_tree::{Text, Tree, share_tree};
 
 /// What trees one behind the other come to together: their values, what they looked up and none before them had set,
 /// what they have set, what they cost, and the levels that they need.

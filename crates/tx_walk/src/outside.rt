@@ -4,12 +4,11 @@ ghost use Rattle.std.specs.List.{list_any};
 ghost use Rattle.std.specs.Str.{bytes_eq};
 ghost use Rattle.tx_walk.specs.Outside.{is_among, outside};
 
-use crate::sharing::share_tree;
 use std::alloc::Global;
 use tx_base::Memory;
 use tx_env::Writes;
 use tx_exec::Looks;
-use tx_tree::{Text, Tree};
+use tx_tree::{Text, Tree, share_tree};
 
 // Whether the name is one of these.
 fn is_among(pairs: &[(Text, Tree)], name: &Text) -> bool

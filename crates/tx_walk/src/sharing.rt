@@ -10,17 +10,7 @@ use tx_base::Memory;
 use tx_env::Writes;
 use tx_exec::{Looks, Trace};
 use tx_origin::Value;
-use tx_tree::{Path, Tree};
-
-/// The same tree, or nothing again.
-pub(crate) fn share_tree(tree: &Option<Tree>) -> Result<Option<Tree>, Memory>
-    ensures { IfOk result (λ t. t ≡ tree.now) }
-{
-    match tree {
-        None => Ok(None),
-        Some(tree) => Ok(Some(tree.share()?)),
-    }
-}
+use tx_tree::{Path, share_tree};
 
 fn share_looks(alloc: Global, looks: &Looks) -> Result<Looks, Memory>
     ensures { IfOk result (λ l. l ≡ looks.now) }

@@ -1,10 +1,6 @@
 // Traces of what children came to together.
 ghost use Rattle.std.specs.Prelude.{◌≡◌, true, false, codes, IfOk, Some, None, if◌then◌else◌};
-ghost use Rattle.std.specs.List.{IsDistinct};
-ghost use Rattle.std.specs.Map.{keys_of};
-ghost use Rattle.std.specs.Str.{bytes_eq};
 ghost use Rattle.tx_tree.specs.WideTree.{label_of};
-ghost use Rattle.tx_exec.specs.States.{set_pairs};
 ghost use Rattle.tx_exec.specs.Outcomes.{wide_trace, wide_outcome, NamesOnce};
 ghost use Rattle.tx_walk.specs.Steps.{so_far_of, FitsNode, document_at};
 ghost use Rattle.tx_walk.specs.Walked.{AreOnce};
@@ -13,32 +9,8 @@ use crate::joined::Joined;
 use crate::origins::node_at;
 use std::alloc::Global;
 use tx_base::Memory;
-use tx_env::{Pairs, Writes};
-use tx_exec::{Looks, Outcome, Trace};
+use tx_exec::{Outcome, Trace, looks_of, writes_of};
 use tx_tree::{Path, Tree};
-
-// All that was looked up, each name once.
-fn looks_of(noted: Pairs, alloc: Global) -> Result<Looks, Memory>
-    ensures all { IfOk result (λ l. l ≡ noted) }
-    ensures once { IsDistinct bytes_eq (keys_of noted) }
-{
-    Ok(Looks::new(noted.into_vec(alloc)?))
-}
-
-// The names that are set, each once.
-#[tactic(auto, using(tx_exec::proofs::Ending::next_some, std::proofs::lemmas::Grind::common_steps))]
-fn writes_of(noted: Pairs, alloc: Global) -> Result<Writes, Memory>
-    ensures all { IfOk result (λ w. w ≡ set_pairs noted) }
-    ensures once { IsDistinct bytes_eq (keys_of noted) }
-{
-    let mut pairs = Vec::new(alloc);
-    for (name, value) in noted.into_vec(alloc)? {
-        if let Some(tree) = value {
-            pairs.push((name, tree))?;
-        }
-    }
-    Ok(Writes::new(pairs))
-}
 
 // The trace of the `document` at this origin, whose children came to this.
 fn document_trace(alloc: Global, t: &Tree, path: &Path, joined: Joined) -> Result<Trace, Memory>

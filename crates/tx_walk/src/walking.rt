@@ -51,15 +51,6 @@ pub(crate) fn set_all(env: &mut Env, pairs: &[(Text, Tree)]) -> Result<(), Memor
     Ok(())
 }
 
-// The path with one number more.
-fn path_below(alloc: Global, path: &Path, i: u32) -> Result<Path, Memory>
-    ensures { IfOk result (λ p. p ≡ path.now ++ i ∷ []) }
-{
-    let mut below = path.copy(alloc)?;
-    below.push(i)?;
-    Ok(below)
-}
-
 // The trace of this part in the whole. What it sets is set.
 fn trace_of(alloc: Global, part: &Part, env: &mut Env) -> Result<Trace, Memory>
     requires part_tidy { IsTidy part.now }
@@ -443,7 +434,7 @@ fn one_child<L: Ledger>(
     ensures done_ready { All IsReady done.new.items }
     ensures scopes { env.new.scopes ≡ env.old.scopes }
 {
-    let below = path_below(alloc, path, i)?;
+    let below = path.child(alloc, i)?;
     let rest = left - joined.cost;
     let outcome = walk_tree(
         alloc, t, below, env, levels, rest, kept, progress, done, steps,
@@ -635,7 +626,7 @@ fn set_inside<L: Ledger>(
     ensures scopes { env.new.scopes ≡ env.old.scopes }
 {
     set_all(env, pairs)?;
-    let below = path_below(alloc, path, i)?;
+    let below = path.child(alloc, i)?;
     walk_tree(
         alloc, t, below, env, levels, left, kept, progress, done, steps,
     )

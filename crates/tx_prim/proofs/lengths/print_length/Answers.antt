@@ -5,8 +5,8 @@ use Rattle.tx_prim.specs.Lengths.{length_text}
 use Rattle.tx_prim.proofs.Plain.{length_is_text}
 use Rattle.tx_prim.proofs.lengths.print_length.Goals as goal
 
-pub text_of-requires-clause-text : goal.text_of-requires-clause-text
-text_of-requires-clause-text c =
+pub known_text-requires-clause-text : goal.known_text-requires-clause-text
+known_text-requires-clause-text c =
     let digits : c.in_ok-bytes.bytes.items ≡ _ = c.in_ok-bytes.ensures.items ∙ c.as_bytes.ensures.value
     ∙ c.format.ensures.text in
     let e : c.deref.result.now ≡ length_text (to_z w64 (of_z w64 c.args.mcell)) = c.deref.ensures.value

@@ -1,7 +1,7 @@
 use Rattle.std.proofs.Common.{◌≡◌, ◌+◌, ◌-◌, take, drop, sym, ap, ◌∙◌, arith}
 use Rattle.std.specs.List.{list_any}
 use Rattle.std.proofs.lemmas.List.Elements.{All-take, All-drop}
-use Rattle.tx_view_form.specs.Stops.{same_place}
+use Rattle.tx_tree.specs.SamePlaces.{same_place}
 use Rattle.tx_view.specs.Near.{shown_stops}
 use Rattle.tx_unit_layout.specs.Views.{unit_view, IsReadable}
 use Rattle.tx_unit_layout.specs.declared.shown.Shown.{Shown}

@@ -1,6 +1,6 @@
 use Rattle.std.proofs.Common.{◌≡◌, false, take}
 use Rattle.std.specs.List.{list_any}
-use Rattle.tx_view_form.specs.Stops.{same_place}
+use Rattle.tx_tree.specs.SamePlaces.{same_place}
 use Rattle.tx_view.specs.Marks.{spot_places}
 use Rattle.tx_view.proofs.beside.first_spot.Given as goal
 
