@@ -2,6 +2,7 @@
 ghost use Rattle.std.specs.Prelude.{◌≡◌, length, IfOk, MatchOption, None, Some, option_copied, slice_get};
 ghost use Rattle.tx_origin.specs.RelativePlaces.{path_below};
 
+use crate::base::Base;
 use crate::paths::Ip;
 use std::alloc::Global;
 use std::marker::Model;
@@ -79,7 +80,7 @@ impl At {
 /// has the path with the origin behind it.
 #[derive(Drop)]
 pub struct Spot<'a> {
-    base: &'a Path,
+    base: Base<'a>,
     origin: Option<&'a Ip>,
     offset: u32,
 }
@@ -92,13 +93,22 @@ impl<'a> Model for Spot<'a> {
 
     ghost coded = { coded_BasedPlace };
 
-    ghost view = { λ s. record { base = s.base.now; origin = option_copied s.origin; offset = s.offset } };
+    ghost view = { λ s. record { base = s.base; origin = option_copied s.origin; offset = s.offset } };
 }
 
 impl<'a> Spot<'a> {
     /// The place below this path at this origin, or at the path's end without one, with this offset.
     pub fn new(base: &'a Path, at: Option<&'a Ip>, offset: u32) -> Spot<'a>
         ensures base { result.base ≡ base.now }
+        ensures origin { result.origin ≡ option_copied at.entry }
+        ensures offset { result.offset ≡ offset }
+    {
+        Spot::behind(Base::new(base), at, offset)
+    }
+
+    /// The same, where the path is lent in two pieces.
+    pub fn behind(base: Base<'a>, at: Option<&'a Ip>, offset: u32) -> Spot<'a>
+        ensures base { result.base ≡ base.entry }
         ensures origin { result.origin ≡ option_copied at.entry }
         ensures offset { result.offset ≡ offset }
     {
@@ -110,10 +120,10 @@ impl<'a> Spot<'a> {
     }
 
     /// The path.
-    pub fn base(&self) -> &Path
+    pub fn base(&self) -> &Base<'a>
         ensures { result.now ≡ self.now.base }
     {
-        self.base
+        &self.base
     }
 
     /// The origin below the path, or None where the spot was made without one.
@@ -135,7 +145,7 @@ impl<'a> Spot<'a> {
         ensures path { IfOk result (λ p. p.path ≡ path_below self.now.base self.now.origin) }
         ensures offset { IfOk result (λ p. p.offset ≡ self.now.offset) }
     {
-        let mut path = self.base.copy(alloc)?;
+        let mut path = self.base.path(alloc)?;
         if let Some(origin) = self.origin {
             origin.add_to(&mut path)?;
         }
