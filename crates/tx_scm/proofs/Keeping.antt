@@ -41,3 +41,5 @@ text_is_none text h =
       | true ↦ λ e. absurd (h (text_test text e))
       | false ↦ λ e. cc
     ] (cc)
+
+pub ruleset node_rules = (kept, too_wide, too_deep, too_big)

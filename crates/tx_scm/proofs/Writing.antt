@@ -1,8 +1,9 @@
 -- The text of a tree by its parts.
 use Rattle.std.proofs.Common.{◌≡◌, ℕ, ◌+◌, List, [], ◌∷◌, ◌++◌, length, length-append, take, ap, refl, arith}
 use Rattle.std.specs.Prelude.{Some}
+use Rattle.std.proofs.lemmas.Grind.{common_steps}
 use Rattle.tx_tree.specs.WideTree.{WideTree, forest, children_of, label_of, text_of}
-use Rattle.tx_tree.proofs.Walks.{leaf_is, node_is}
+use Rattle.tx_tree.proofs.Walks.{leaf_is, node_is, leaf_or_node, item_shallower}
 use Rattle.tx_scm.specs.Spelling.{string_of}
 use Rattle.tx_scm.specs.Canonical.{scheme_text, scheme_texts}
 
@@ -36,3 +37,7 @@ front_kept (x ∷ a) (y ∷ b) (z ∷ whole) e f =
   where
     tails : {v w : ℕ} {s t : List ℕ} → v ∷ s ≡ w ∷ t → s ≡ t
     tails p = cc
+
+pub ruleset length_rules = (leaf_or_node, item_shallower, leaf_text, node_length, common_steps)
+
+pub ruleset text_rules = (leaf_or_node, item_shallower, leaf_text, node_text, common_steps)

@@ -33,7 +33,7 @@ fn escaped_length(bytes: &[u8]) -> u64
 }
 
 // The length of the text of a tree.
-#[tactic(auto, using(tx_tree::proofs::Walks::leaf_or_node, tx_tree::proofs::Walks::item_shallower, crate::proofs::Writing::leaf_text, crate::proofs::Writing::node_length, std::proofs::lemmas::Grind::common_steps))]
+#[tactic(auto, using(crate::proofs::Writing::length_rules))]
 fn tree_length(t: &Tree) -> u64
     ensures { result ≡ capped (length (scheme_text t.now)) }
 {

@@ -51,7 +51,7 @@ fn make_room(trees: &mut Vec<Tree>) -> Result<(), Memory>
 }
 
 // The node of a bracket, or None where it passes a limit.
-#[tactic(auto, using(crate::proofs::Keeping::kept, crate::proofs::Keeping::too_wide, crate::proofs::Keeping::too_deep, crate::proofs::Keeping::too_big))]
+#[tactic(auto, using(crate::proofs::Keeping::node_rules))]
 fn node_of<L: Ledger>(
     alloc: Global,
     bracket: Bracket,

@@ -33,7 +33,7 @@ pub(crate) fn append_string(bytes: &[u8], out: &mut Vec<u8>) -> Result<(), Memor
 }
 
 // Appends the text of a tree.
-#[tactic(auto, using(tx_tree::proofs::Walks::leaf_or_node, tx_tree::proofs::Walks::item_shallower, crate::proofs::Writing::leaf_text, crate::proofs::Writing::node_text, std::proofs::lemmas::Grind::common_steps))]
+#[tactic(auto, using(crate::proofs::Writing::text_rules))]
 fn append_tree(t: &Tree, out: &mut Vec<u8>) -> Result<(), Memory>
     ensures ok { OnOk result (out.new.items ≡ out.old.items ++ scheme_text t.now) }
     ensures grows { take (length out.old.items) out.new.items ≡ out.old.items }
