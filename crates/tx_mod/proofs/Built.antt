@@ -3,6 +3,8 @@ use Rattle.std.proofs.Common.{◌≡◌, ◌≢◌, ℕ, zero, suc, ◌+◌, ◌
 use Rattle.std.proofs.Common.{Some, refl, sym, ap, subst, ◌∙◌, append_assoc, arith}
 use Rattle.std.specs.Prelude.{slice_get, IsSome}
 use Rattle.std.proofs.lemmas.List.{append-nil, take_all, take_rest}
+use Rattle.std.proofs.lemmas.Grind.{common_steps}
+use Rattle.std.proofs.lemmas.Option.{slice_get_within}
 use Rattle.tx_tree.specs.Limits.{IsWithinLimits, IsTreeFault}
 use Rattle.tx_tree.specs.Paths.{subtree}
 use Rattle.tx_tree.specs.Texts.{IsText, IsTextFault}
@@ -95,3 +97,7 @@ pub within_down : (t c u : WideTree) (path rest : List ℕ) (i : ℕ) → slice_
 within_down t c u path rest i f e w =
     child_within (with_child t i (replaced c rest u)) (replaced c rest u) i (child_of_with t c (replaced c rest u) i f)
     (subst IsWithinLimits (replaced_first t c u path rest i f e) w)
+
+pub ruleset child_rules = (with_child_seen, with_child_within, children_seen, common_steps)
+
+pub ruleset path_rules = (leads_down, within_down, replaced_first, slice_get_within, common_steps)

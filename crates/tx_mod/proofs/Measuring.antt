@@ -9,6 +9,7 @@ use Rattle.std.proofs.lemmas.List.{take-append-drop}
 use Rattle.std.proofs.lemmas.Option.{slice_get_past, slice_get_read}
 use Rattle.std.proofs.lemmas.Slice.Eq.{bytes_eq-Decides}
 use Rattle.std.proofs.lemmas.Bool.{le-leb}
+use Rattle.std.proofs.lemmas.Grind.{common_steps}
 use Rattle.tx_tree.specs.Limits.{IsWithinLimits}
 use Rattle.tx_tree.specs.WideTree.{WideTree, Forest, leaf, node, nil, cons, forest, trees, size_of, total_size}
 use Rattle.tx_tree.specs.WideTree.{depth_of, deepest, arity_of, widest, count, text_length_of, longest_text}
@@ -466,3 +467,17 @@ extent_of_node s l ts e = rw (e, trees_forest ts) refl
 pub child_found : (ts : List WideTree) (i : ℕ) (c : WideTree) → i < length ts → c ≡ get_or ts i c
     → slice_get ts i ≡ Some c
 child_found ts i c lt e = slice_get_read ts (length ts) i c refl lt e
+
+pub ruleset insert_rules = (some_size, insert_past, insert_made, common_steps)
+
+pub ruleset remove_rules = (remove_past, remove_made, narrow, common_steps)
+
+pub ruleset split_rules = (split_past, split_past_child, split_clean, split_made, common_steps)
+
+pub ruleset pair_rules = (some_size, pair_made, common_steps)
+
+pub ruleset join_rules = (some_size, join_past, join_refused, join_made, common_steps)
+
+pub ruleset wrap_rules = (wrap_past, wrap_made, common_steps)
+
+pub ruleset unwrap_rules = (unwrap_past, unwrap_is, common_steps)

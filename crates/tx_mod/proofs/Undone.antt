@@ -3,6 +3,7 @@ use Rattle.std.proofs.Common.{◌≡◌, ℕ, ◌+◌, ◌-◌, ◌≤◌, true,
 use Rattle.std.proofs.Common.{length-take, length-drop, arith}
 use Rattle.std.specs.Prelude.{IsOkAnd}
 use Rattle.std.proofs.lemmas.List.{take-append-drop, drop-take, take-take, drop-drop}
+use Rattle.std.proofs.lemmas.Grind.{common_steps}
 use Rattle.tx_tree.specs.Cuts.{is_cut}
 use Rattle.tx_tree.specs.Labels.{is_label_byte, IsLabel}
 use Rattle.tx_tree.specs.Texts.{IsText}
@@ -101,3 +102,5 @@ tuple_is_label = record { each = (refl, (refl, (refl, (refl, (refl, tt))))); som
 
 pub sub_add : (i n : ℕ) → (i + n) - i ≡ n
 sub_add i n = omega arith
+
+pub ruleset extent_rules = (extent_small, labelled_node, common_steps)

@@ -5,6 +5,7 @@ use Rattle.std.specs.Prelude.{slice_get, IsOk, IsOkAnd}
 use Rattle.std.specs.Option.{option_map_or}
 use Rattle.std.proofs.lemmas.List.{drop_more}
 use Rattle.std.proofs.lemmas.Bool.{le-leb, leb-true}
+use Rattle.std.proofs.lemmas.Grind.{common_steps}
 use Rattle.tx_tree.specs.Limits.{IsWithinLimits}
 use Rattle.tx_tree.specs.Paths.{subtree, leading}
 use Rattle.tx_tree.specs.WideTree.{WideTree, children_of, size_of, depth_of, arity_of, text_length_of}
@@ -266,3 +267,7 @@ no_change m t path p e h = let no = subst IsOk (changed_nowhere m t (subst (λ q
 pub inverse_is : (m : Mod) (t s : WideTree) (path : List ℕ) → path ≡ path_of m → subtree t path ≡ Some s
     → inverse_of m t ≡ inverse_at m s
 inverse_is m t s path p e = ap (λ o. option_map_or (inverse_at m) o m) (subst (λ q. subtree t q ≡ Some s) p e)
+
+pub ruleset change_rules = (change_within, change_is, common_steps)
+
+pub ruleset inverse_rules = (inverse_is, no_change, common_steps)

@@ -43,7 +43,7 @@ pub fn applicable(t: &Tree, m: &Mod) -> Result<(), ModFault>
     Ok(())
 }
 
-#[tactic(auto, using(crate::proofs::Whole::change_within, crate::proofs::Whole::change_is, std::proofs::lemmas::Grind::common_steps))]
+#[tactic(auto, using(crate::proofs::Whole::change_rules))]
 // The changed tree, from the subtree that is changed.
 fn applied_at<L: Ledger>(
     alloc: Global,
@@ -81,7 +81,7 @@ pub fn apply<L: Ledger>(
     Ok(applied_at(alloc, t, s, m, steps)?)
 }
 
-#[tactic(auto, using(crate::proofs::Whole::inverse_is, crate::proofs::Whole::no_change, std::proofs::lemmas::Grind::common_steps))]
+#[tactic(auto, using(crate::proofs::Whole::inverse_rules))]
 /// The modification that gives this tree back from the changed one. It is refused as `apply` is, and takes at most one
 /// step.
 pub fn inverse<L: Ledger>(
@@ -102,7 +102,7 @@ pub fn inverse<L: Ledger>(
     Ok(undone(alloc, s, m, steps)?)
 }
 
-#[tactic(auto, using(crate::proofs::Whole::inverse_is, crate::proofs::Whole::no_change, std::proofs::lemmas::Grind::common_steps))]
+#[tactic(auto, using(crate::proofs::Whole::inverse_rules))]
 /// The changed tree, and the modification that gives this one back, or the first cause why there is none. It takes at
 /// most the path's length and four steps, and looks once at whether the modification applies.
 pub fn apply_and_inverse<L: Ledger>(

@@ -68,7 +68,7 @@ pub(crate) fn spliced(
 }
 
 // The tree with another child in place of its child i.
-#[tactic(auto, using(crate::proofs::Built::with_child_seen, crate::proofs::Built::with_child_within, crate::proofs::Built::children_seen, std::proofs::lemmas::Grind::common_steps))]
+#[tactic(auto, using(crate::proofs::Built::child_rules))]
 fn with_child<L: Ledger>(
     alloc: Global,
     t: &Tree,
@@ -90,7 +90,7 @@ fn with_child<L: Ledger>(
 }
 
 // The tree with another subtree where the path leads. It shares all other subtrees.
-#[tactic(auto, using(crate::proofs::Built::leads_down, crate::proofs::Built::within_down, crate::proofs::Built::replaced_first, std::proofs::lemmas::Option::slice_get_within, std::proofs::lemmas::Grind::common_steps))]
+#[tactic(auto, using(crate::proofs::Built::path_rules))]
 pub(crate) fn rebuilt<L: Ledger>(
     alloc: Global,
     t: &Tree,

@@ -32,7 +32,7 @@ fn measure_of(t: &Tree) -> Measure
     }
 }
 
-#[tactic(auto, using(crate::proofs::Measuring::some_size, crate::proofs::Measuring::insert_past, crate::proofs::Measuring::insert_made, std::proofs::lemmas::Grind::common_steps))]
+#[tactic(auto, using(crate::proofs::Measuring::insert_rules))]
 fn measured_insert(s: &Tree, i: u32, x: &Tree) -> Result<Measure, ModFault>
     ensures measured { Measures (inserted s.now i x.now) result }
     ensures small { IfOk result IsSmall }
@@ -100,7 +100,7 @@ pub(crate) fn deepest(trees: &[Tree]) -> u32
     deepest
 }
 
-#[tactic(auto, using(crate::proofs::Measuring::remove_past, crate::proofs::Measuring::remove_made, crate::proofs::Measuring::narrow, std::proofs::lemmas::Grind::common_steps))]
+#[tactic(auto, using(crate::proofs::Measuring::remove_rules))]
 fn measured_remove(s: &Tree, i: u32, n: u32) -> Result<Measure, ModFault>
     ensures measured { Measures (removed s.now i n) result }
     ensures small { IfOk result IsSmall }
@@ -164,7 +164,7 @@ fn is_clean(t: &Tree, j: usize) -> bool
     }
 }
 
-#[tactic(auto, using(crate::proofs::Measuring::split_past, crate::proofs::Measuring::split_past_child, crate::proofs::Measuring::split_clean, crate::proofs::Measuring::split_made, std::proofs::lemmas::Grind::common_steps))]
+#[tactic(auto, using(crate::proofs::Measuring::split_rules))]
 fn measured_split(s: &Tree, i: u32, j: u32) -> Result<Measure, ModFault>
     ensures measured { Measures (split s.now i j) result }
     ensures small { IfOk result IsSmall }
@@ -195,7 +195,7 @@ fn measured_split(s: &Tree, i: u32, j: u32) -> Result<Measure, ModFault>
 }
 
 // Two trees made one: the bytes of the text, or the number of children, unless they can't be joined.
-#[tactic(auto, using(crate::proofs::Measuring::some_size, crate::proofs::Measuring::pair_made, std::proofs::lemmas::Grind::common_steps))]
+#[tactic(auto, using(crate::proofs::Measuring::pair_rules))]
 fn measured_pair(a: &Tree, b: &Tree) -> Result<Measure, ModFault>
     ensures measured { Measures (joined a.now b.now) result }
     ensures small { IfOk result IsSmall }
@@ -228,7 +228,7 @@ fn measured_pair(a: &Tree, b: &Tree) -> Result<Measure, ModFault>
     }
 }
 
-#[tactic(auto, using(crate::proofs::Measuring::some_size, crate::proofs::Measuring::join_past, crate::proofs::Measuring::join_refused, crate::proofs::Measuring::join_made, std::proofs::lemmas::Grind::common_steps))]
+#[tactic(auto, using(crate::proofs::Measuring::join_rules))]
 fn measured_join(s: &Tree, i: u32) -> Result<Measure, ModFault>
     ensures measured { Measures (joined_at s.now i) result }
     ensures small { IfOk result IsSmall }
@@ -260,7 +260,7 @@ fn measured_label(s: &Tree) -> Result<Measure, ModFault>
     }
 }
 
-#[tactic(auto, using(crate::proofs::Measuring::wrap_past, crate::proofs::Measuring::wrap_made, std::proofs::lemmas::Grind::common_steps))]
+#[tactic(auto, using(crate::proofs::Measuring::wrap_rules))]
 fn measured_wrap(s: &Tree, i: u32, x: &Tree) -> Result<Measure, ModFault>
     ensures measured { Measures (wrapped s.now i x.now) result }
     ensures small { IfOk result IsSmall }
@@ -282,7 +282,7 @@ fn measured_wrap(s: &Tree, i: u32, x: &Tree) -> Result<Measure, ModFault>
     })
 }
 
-#[tactic(auto, using(crate::proofs::Measuring::unwrap_past, crate::proofs::Measuring::unwrap_is, std::proofs::lemmas::Grind::common_steps))]
+#[tactic(auto, using(crate::proofs::Measuring::unwrap_rules))]
 fn measured_unwrap(s: &Tree, i: u32) -> Result<Measure, ModFault>
     ensures measured { Measures (unwrapped s.now i) result }
     ensures small { IfOk result IsSmall }

@@ -134,7 +134,7 @@ fn wrap_back<L: Ledger>(
 }
 
 // What gives the subtree back.
-#[tactic(auto, using(crate::proofs::Undone::extent_small, crate::proofs::Undone::labelled_node, std::proofs::lemmas::Grind::common_steps))]
+#[tactic(auto, using(crate::proofs::Undone::extent_rules))]
 pub(crate) fn undone<L: Ledger>(
     alloc: Global,
     s: &Tree,
