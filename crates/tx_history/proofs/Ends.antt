@@ -1,6 +1,7 @@
 -- The last item of a list.
 use Rattle.std.proofs.Common.{◌≡◌, ℕ, zero, suc, ◌-◌, ◌+◌, List, [], ◌∷◌, ◌++◌, length, take, refl, ap, arith}
 use Rattle.std.specs.Prelude.{slice_get, Some, None}
+use Rattle.std.proofs.lemmas.Grind.{common_steps}
 
 -- up to the item at the end, and that one
 last_at : {X : Type 0} → (xs : List X) (n : ℕ) (x : X) → length xs ≡ n + 1 → slice_get xs n ≡ Some x
@@ -29,3 +30,5 @@ with_last (y ∷ xs) x e = last_at (y ∷ xs) (length (y ∷ xs) - 1) x (omega a
 pub without_last : {X : Type 0} → (xs : List X) → slice_get xs (length xs - 1) ≡ None → xs ≡ []
 without_last [] e = refl
 without_last (y ∷ xs) e = some_at (y ∷ xs) (length (y ∷ xs) - 1) (omega arith) e
+
+pub ruleset end_rules = (with_last, without_last, common_steps)

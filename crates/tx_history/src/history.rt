@@ -62,7 +62,7 @@ impl<E: Drop> History<E> {
     }
 
     /// Takes the last entry of the past. `Nothing` comes exactly where there is none, and changes nothing.
-    #[tactic(auto, using(crate::proofs::Ends::with_last, crate::proofs::Ends::without_last, std::proofs::lemmas::Grind::common_steps))]
+    #[tactic(auto, using(crate::proofs::Ends::end_rules))]
     pub fn undo(&mut self) -> Result<E, Nothing>
         ensures taken { IfOk result (λ entry. self.old.past ≡ self.new.past ++ entry ∷ []) }
         ensures nothing { IfErr result (λ _. (self.old.past ≡ []) × (self.new.past ≡ [])) }
@@ -76,7 +76,7 @@ impl<E: Drop> History<E> {
     }
 
     /// Takes the last entry of the future. `Nothing` comes exactly where there is none, and changes nothing.
-    #[tactic(auto, using(crate::proofs::Ends::with_last, crate::proofs::Ends::without_last, std::proofs::lemmas::Grind::common_steps))]
+    #[tactic(auto, using(crate::proofs::Ends::end_rules))]
     pub fn redo(&mut self) -> Result<E, Nothing>
         ensures taken { IfOk result (λ entry. self.old.future ≡ self.new.future ++ entry ∷ []) }
         ensures nothing { IfErr result (λ _. (self.old.future ≡ []) × (self.new.future ≡ [])) }

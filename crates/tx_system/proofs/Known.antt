@@ -38,3 +38,5 @@ written_and_flushed None between after piece h i = tt
 written_and_flushed (Some xs) None after piece h i = absurd h
 written_and_flushed (Some xs) (Some ys) None piece h i = absurd i
 written_and_flushed (Some xs) (Some ys) (Some zs) piece h i = i ∙ h
+
+pub ruleset read_rules = (no_bytes, read_more, read_all, read_too_many)

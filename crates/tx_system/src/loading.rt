@@ -10,7 +10,7 @@ const PIECE: usize = 16_384;
 
 /// Appends what the file holds, up to `MOST_FILE` bytes, to `out`, which is empty. After a fault `out` may hold a
 /// part of it.
-#[tactic(auto, using(crate::proofs::Known::no_bytes, crate::proofs::Known::read_more, crate::proofs::Known::read_all, crate::proofs::Known::read_too_many))]
+#[tactic(auto, using(crate::proofs::Known::read_rules))]
 pub fn read_to_limit<F: Read>(file: &mut F, out: &mut Vec<u8>) -> Result<(), LoadFault>
     requires { out.old.items ≡ [] }
     ensures all { OnOk result (IfSome (F.remaining file.old) (λ bytes. out.new.items ≡ bytes)) }

@@ -2,9 +2,10 @@
 use Rattle.std.proofs.Common.{◌≡◌, ℕ, zero, suc, ◌+◌, ◌<◌, Bool, true, false, ◌&&◌, ltb, cond, List, [], ◌∷◌, length}
 use Rattle.std.proofs.Common.{drop, get_or, arith, add-one, ap, refl, ◌∙◌}
 use Rattle.std.specs.Prelude.{Some, None}
+use Rattle.std.proofs.lemmas.Grind.{common_steps}
 use Rattle.tx_tree.specs.WideTree.{WideTree, Forest, leaf, node, nil, cons, forest, trees, children_of, label_of}
 use Rattle.tx_tree.specs.WideTree.{text_of}
-use Rattle.tx_tree.proofs.Walks.{node_is, leaf_is}
+use Rattle.tx_tree.proofs.Walks.{node_is, leaf_is, item_shallower}
 use Rattle.tx_tm_form.specs.Parts.{same, document_label, collection_label, raw_data_label}
 use Rattle.tx_tm_write.specs.Shapes.{some, are_nodes, is_block, has_two, is_raw, is_digits, all_digits, digits_of}
 use Rattle.tx_tm_write.specs.Shapes.{text_in}
@@ -83,3 +84,9 @@ drop_tree (u ∷ ts) zero t lt e = let same : t ≡ u = e in cc
 drop_tree (u ∷ ts) (suc i) t lt e =
     let rest : forest (drop i ts) ≡ cons t (forest (drop (i + 1) ts)) = drop_tree ts i t (omega arith) e in
     rw add-one (rw add-one at rest)
+
+pub ruleset child_rules = (item_shallower, drop_tree, common_steps)
+
+pub ruleset shape_rules = (no_block, a_document, no_document, some_trees, common_steps)
+
+pub ruleset digit_rules = (not_one, only_one, digits_one, digits_leaf, text_leaf, digits_node, common_steps)

@@ -2,8 +2,9 @@
 use Rattle.std.proofs.Common.{◌≡◌, ℕ, zero, suc, ◌+◌, ◌<◌, ◌≤◌, Bool, true, false, ltb, cond, List, [], ◌∷◌, ◌++◌}
 use Rattle.std.proofs.Common.{length, take, drop, append_assoc, arith, ap, sym, refl, ◌∙◌}
 use Rattle.std.specs.Prelude.{Some, None}
+use Rattle.std.proofs.lemmas.Grind.{common_steps}
 use Rattle.tx_tree.specs.WideTree.{WideTree, leaf, node, forest, children_of, label_of, text_of}
-use Rattle.tx_tree.proofs.Walks.{node_is, leaf_is}
+use Rattle.tx_tree.proofs.Walks.{node_is, leaf_is, leaf_or_node}
 use Rattle.tx_tm_form.specs.Parts.{same, document_label}
 use Rattle.tx_tm_write.specs.Shapes.{some, is_inline, is_raw, is_long, digits_of, IsRaw}
 use Rattle.tx_tm_write.specs.Canonical.{opened, items_text, tag_text, part_text, content_text, parts_text}
@@ -114,3 +115,9 @@ collection_text t label e h =
 pub leaf_block : (t : WideTree) → label_of t ≡ None → block_text t ≡ []
 leaf_block (leaf text) e = refl
 leaf_block (node label ts) e = absurd cc
+
+pub ruleset part_rules = (leaf_or_node, leaf_part, raw_part, long_part_of, short_part, common_steps)
+
+pub ruleset content_rules = (inline_content, tag_content, leaf_content, common_steps)
+
+pub ruleset block_rules = (document_text, collection_text, leaf_block, common_steps)

@@ -73,7 +73,7 @@ fn long_child_length(label: &Label, children: &[Tree], i: usize, child: &Tree) -
 
 // The length of the long tag of a node with this label.
 #[cycle(counting)]
-#[tactic(auto, using(tx_tree::proofs::Walks::item_shallower, crate::proofs::Forms::drop_tree, std::proofs::lemmas::Grind::common_steps))]
+#[tactic(auto, using(crate::proofs::Forms::child_rules))]
 fn long_length(label: &Label, t: &Tree) -> u64
     ensures { result ≡ capped (length (opened 92 label.now ++ long_text label.now (forest (children_of t.now)))) }
 {
@@ -87,7 +87,7 @@ fn long_length(label: &Label, t: &Tree) -> u64
 
 // The length of the items of a text or of the tag of a node.
 #[cycle(counting)]
-#[tactic(auto, using(tx_tree::proofs::Walks::leaf_or_node, crate::proofs::Writing::leaf_part, crate::proofs::Writing::raw_part, crate::proofs::Writing::long_part_of, crate::proofs::Writing::short_part, std::proofs::lemmas::Grind::common_steps))]
+#[tactic(auto, using(crate::proofs::Writing::part_rules))]
 fn part_length(t: &Tree, before: bool, behind: bool) -> u64
     ensures { result ≡ capped (length (part_text before behind t.now)) }
 {
@@ -108,7 +108,7 @@ fn part_length(t: &Tree, before: bool, behind: bool) -> u64
 
 // The length of the children of a node side by side.
 #[cycle(counting)]
-#[tactic(auto, using(tx_tree::proofs::Walks::item_shallower, crate::proofs::Forms::drop_tree, std::proofs::lemmas::Grind::common_steps))]
+#[tactic(auto, using(crate::proofs::Forms::child_rules))]
 fn parts_length(t: &Tree) -> u64
     ensures { result ≡ capped (length (parts_text false (forest (children_of t.now)))) }
 {
@@ -124,7 +124,7 @@ fn parts_length(t: &Tree) -> u64
 
 // The length of content.
 #[cycle(counting)]
-#[tactic(auto, using(crate::proofs::Writing::inline_content, crate::proofs::Writing::tag_content, crate::proofs::Writing::leaf_content, std::proofs::lemmas::Grind::common_steps))]
+#[tactic(auto, using(crate::proofs::Writing::content_rules))]
 fn content_length(t: &Tree) -> u64
     ensures { result ≡ capped (length (content_text t.now)) }
 {
@@ -156,7 +156,7 @@ fn between_length(more: bool) -> u64
 
 // The length of the children of a document.
 #[cycle(counting)]
-#[tactic(auto, using(tx_tree::proofs::Walks::item_shallower, crate::proofs::Forms::drop_tree, std::proofs::lemmas::Grind::common_steps))]
+#[tactic(auto, using(crate::proofs::Forms::child_rules))]
 fn paragraphs_length(t: &Tree) -> u64
     ensures { result ≡ capped (length (paragraphs_text (forest (children_of t.now)))) }
 {
@@ -184,7 +184,7 @@ fn tags_length(t: &Tree) -> u64
 
 // The length of the text of a block.
 #[cycle(counting)]
-#[tactic(auto, using(crate::proofs::Writing::document_text, crate::proofs::Writing::collection_text, crate::proofs::Writing::leaf_block, std::proofs::lemmas::Grind::common_steps))]
+#[tactic(auto, using(crate::proofs::Writing::block_rules))]
 fn block_length(t: &Tree) -> u64
     ensures { result ≡ capped (length (block_text t.now)) }
 {

@@ -58,7 +58,7 @@ fn has_two(trees: &[Tree]) -> bool
 }
 
 /// Whether the tree is a `document` with a child, or a `collection` whose children are all nodes.
-#[tactic(auto, using(crate::proofs::Forms::no_block, crate::proofs::Forms::a_document, crate::proofs::Forms::no_document, crate::proofs::Forms::some_trees, std::proofs::lemmas::Grind::common_steps))]
+#[tactic(auto, using(crate::proofs::Forms::shape_rules))]
 pub fn is_block(t: &Tree) -> bool
     ensures { result ≡ is_block t.now }
 {
@@ -137,7 +137,7 @@ fn all_digits(text: &[u8]) -> bool
 }
 
 // The digits of raw data that is written by them alone.
-#[tactic(auto, using(crate::proofs::Forms::not_one, crate::proofs::Forms::only_one, crate::proofs::Forms::digits_one, crate::proofs::Forms::digits_leaf, crate::proofs::Forms::text_leaf, crate::proofs::Forms::digits_node, std::proofs::lemmas::Grind::common_steps))]
+#[tactic(auto, using(crate::proofs::Forms::digit_rules))]
 pub(crate) fn raw_digits<'a>(label: &Label, children: &'a [Tree]) -> Option<&'a Text>
     ensures { MatchOption result (is_raw label.now (forest children.now) ≡ false)
         (λ d. IsRaw label.now children.now d.now) }

@@ -101,7 +101,7 @@ fn append_long_child(
 
 // Appends the long tag of a node with this label.
 #[cycle(writing)]
-#[tactic(auto, using(tx_tree::proofs::Walks::item_shallower, crate::proofs::Forms::drop_tree, std::proofs::lemmas::Grind::common_steps))]
+#[tactic(auto, using(crate::proofs::Forms::child_rules))]
 fn append_long(label: &Label, t: &Tree, out: &mut Vec<u8>) -> Result<(), Memory>
     ensures ok { OnOk result
         (out.new.items ≡ out.old.items ++ (opened 92 label.now ++ long_text label.now (forest (children_of t.now)))) }
@@ -118,7 +118,7 @@ fn append_long(label: &Label, t: &Tree, out: &mut Vec<u8>) -> Result<(), Memory>
 
 // Appends the items of a text or the tag of a node, where parts that are no spaces may stand before and behind it.
 #[cycle(writing)]
-#[tactic(auto, using(tx_tree::proofs::Walks::leaf_or_node, crate::proofs::Writing::leaf_part, crate::proofs::Writing::raw_part, crate::proofs::Writing::long_part_of, crate::proofs::Writing::short_part, std::proofs::lemmas::Grind::common_steps))]
+#[tactic(auto, using(crate::proofs::Writing::part_rules))]
 fn append_part(t: &Tree, before: bool, behind: bool, out: &mut Vec<u8>) -> Result<(), Memory>
     ensures ok { OnOk result (out.new.items ≡ out.old.items ++ part_text before behind t.now) }
     ensures grows { take (length out.old.items) out.new.items ≡ out.old.items }
@@ -140,7 +140,7 @@ fn append_part(t: &Tree, before: bool, behind: bool, out: &mut Vec<u8>) -> Resul
 
 // Appends the children of a node side by side.
 #[cycle(writing)]
-#[tactic(auto, using(tx_tree::proofs::Walks::item_shallower, crate::proofs::Forms::drop_tree, std::proofs::lemmas::Grind::common_steps))]
+#[tactic(auto, using(crate::proofs::Forms::child_rules))]
 fn append_parts(t: &Tree, out: &mut Vec<u8>) -> Result<(), Memory>
     ensures ok { OnOk result (out.new.items ≡ out.old.items ++ parts_text false (forest (children_of t.now))) }
     ensures grows { take (length out.old.items) out.new.items ≡ out.old.items }
@@ -156,7 +156,7 @@ fn append_parts(t: &Tree, out: &mut Vec<u8>) -> Result<(), Memory>
 
 // Appends content.
 #[cycle(writing)]
-#[tactic(auto, using(crate::proofs::Writing::inline_content, crate::proofs::Writing::tag_content, crate::proofs::Writing::leaf_content, std::proofs::lemmas::Grind::common_steps))]
+#[tactic(auto, using(crate::proofs::Writing::content_rules))]
 fn append_content(t: &Tree, out: &mut Vec<u8>) -> Result<(), Memory>
     ensures ok { OnOk result (out.new.items ≡ out.old.items ++ content_text t.now) }
     ensures grows { take (length out.old.items) out.new.items ≡ out.old.items }
@@ -196,7 +196,7 @@ fn append_between(more: bool, out: &mut Vec<u8>) -> Result<(), Memory>
 
 // Appends the children of a document.
 #[cycle(writing)]
-#[tactic(auto, using(tx_tree::proofs::Walks::item_shallower, crate::proofs::Forms::drop_tree, std::proofs::lemmas::Grind::common_steps))]
+#[tactic(auto, using(crate::proofs::Forms::child_rules))]
 fn append_paragraphs(t: &Tree, out: &mut Vec<u8>) -> Result<(), Memory>
     ensures ok { OnOk result (out.new.items ≡ out.old.items ++ paragraphs_text (forest (children_of t.now))) }
     ensures grows { take (length out.old.items) out.new.items ≡ out.old.items }
@@ -227,7 +227,7 @@ fn append_tags(t: &Tree, out: &mut Vec<u8>) -> Result<(), Memory>
 
 // Appends the text of a block.
 #[cycle(writing)]
-#[tactic(auto, using(crate::proofs::Writing::document_text, crate::proofs::Writing::collection_text, crate::proofs::Writing::leaf_block, std::proofs::lemmas::Grind::common_steps))]
+#[tactic(auto, using(crate::proofs::Writing::block_rules))]
 fn append_block(t: &Tree, out: &mut Vec<u8>) -> Result<(), Memory>
     ensures ok { OnOk result (out.new.items ≡ out.old.items ++ block_text t.now) }
     ensures grows { take (length out.old.items) out.new.items ≡ out.old.items }
