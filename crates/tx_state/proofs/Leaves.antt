@@ -12,9 +12,11 @@ use Rattle.tx_mod.proofs.Back.{well_formed_at}
 use Rattle.std.proofs.lemmas.List.{append-nil}
 use Rattle.std.specs.Prelude.{Bool, true, false, if◌then◌else◌, option_map, unwrap_or, codes}
 use Rattle.std.specs.List.{position}
+use Rattle.std.proofs.lemmas.Grind.{common_steps}
 use Rattle.tx_tree.specs.declared.places.Place.{Place}
 use Rattle.tx_doc.specs.Bodies.{is_labelled, is_body, first_in, body_of}
 use Rattle.tx_state.specs.Cursors.{first_leaf, first_leaf_from, before, cursor_in, first_cursor}
+use Rattle.tx_tree.proofs.Walks.{item_shallower}
 
 -- a child without a leaf, and one with a leaf
 pub leaf_past : (k : ℕ) (t : WideTree) (ts : List WideTree) → first_leaf t ≡ None
@@ -155,3 +157,5 @@ in_body t (Some p) h formed =
 
 pub first_place : (t : WideTree) (at : Place) → IsWellFormed t → at ≡ first_cursor t → IsPlace t at.path at.offset
 first_place t at formed e = subst (λ c. IsPlace t c.path c.offset) (sym e) (in_body t (body_of t) refl formed)
+
+pub ruleset leaf_rules = (item_shallower, leaf_of_node, leaf_itself, common_steps)

@@ -4,6 +4,7 @@ use Rattle.std.proofs.Common.{refl, sym, ap, ◌∙◌, arith, ⊎_elim}
 use Rattle.std.specs.Prelude.{unwrap_or}
 use Rattle.std.proofs.lemmas.List.{reverse-append, take-append-drop, take_at, take_all, length-drop, length-reverse}
 use Rattle.std.proofs.lemmas.Bool.{cases_lt}
+use Rattle.std.proofs.lemmas.Grind.{common_steps}
 use Rattle.tx_tree.specs.WideTree.{WideTree}
 use Rattle.tx_tree.specs.declared.places.Place.{Place}
 use Rattle.tx_mod.specs.declared.mods.Mod.{Mod}
@@ -83,3 +84,5 @@ last_turned {X} d xs =
 
 pub newest_turned : (d : ℕ) (es : List Entry) (e : Entry) → reverse (newest d (es ++ e ∷ [])) ≡ take d (e ∷ reverse es)
 newest_turned d es e = last_turned d (es ++ e ∷ []) ∙ ap (take d) (reverse-append es (e ∷ []))
+
+pub ruleset count_rules = (number_of_past, number_of_future, common_steps)

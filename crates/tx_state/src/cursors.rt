@@ -8,7 +8,7 @@ use tx_base::Memory;
 use tx_doc::body;
 use tx_tree::{Path, Place, Tree};
 
-#[tactic(auto, using(tx_tree::proofs::Walks::item_shallower, crate::proofs::Leaves::leaf_of_node, crate::proofs::Leaves::leaf_itself, std::proofs::lemmas::Grind::common_steps))]
+#[tactic(auto, using(crate::proofs::Leaves::leaf_rules))]
 // Goes on down the tree to its first leaf, if it has one.
 fn to_first_leaf(t: &Tree, path: &mut Path) -> Result<bool, Memory>
     ensures { IfOk result (λ found. GoesOn (first_leaf t.now) found path.old path.new) }

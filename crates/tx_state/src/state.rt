@@ -99,7 +99,7 @@ impl EditorState {
 
     /// The buffers, the document first: 1 to 16, no two of one name, each tree well formed and within the limits. At
     /// most 1,000 edits can be undone or redone, at any time.
-    #[tactic(auto, using(crate::proofs::Moments::number_of_past, crate::proofs::Moments::number_of_future, std::proofs::lemmas::Grind::common_steps))]
+    #[tactic(auto, using(crate::proofs::Moments::count_rules))]
     pub fn buffers(&self) -> &[Buffer]
         ensures buffers { result.now ≡ self.now.buffers }
         ensures some { 1 ≤ length self.now.buffers }

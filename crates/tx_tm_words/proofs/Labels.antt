@@ -20,3 +20,5 @@ is_name b e = grind arith
 
 pub most_one : length {A = ℕ} [] < MOST_LABEL
 most_one = omega arith
+
+pub ruleset name_rules = (is_name, most_one)

@@ -177,7 +177,7 @@ fn lex_returned(kind: ByteKind) -> Option<Lexed>
     }
 }
 
-#[tactic(auto, unfolding(tx_tm_form::specs::Machine::lex_angled), using(crate::proofs::Labels::is_name, crate::proofs::Labels::most_one))]
+#[tactic(auto, unfolding(tx_tm_form::specs::Machine::lex_angled), using(crate::proofs::Labels::name_rules))]
 fn lex_angled(alloc: Global, kind: ByteKind, byte: u8) -> Result<Option<Lexed>, Memory>
     requires { kind ≡ kind_of byte }
     ensures next { IfOk result (λ next. lexed_of next ≡ lex_angled kind byte) }
