@@ -61,3 +61,5 @@ collection_there = collection_is_label
 
 pub raw_data_there : IsLabel raw_data_label
 raw_data_there = raw_data_is_label
+
+pub ruleset concat_rules = (concat_there, concat_none, concat_one, concat_many)

@@ -60,7 +60,7 @@ pub fn make_node<L: Ledger>(
 }
 
 // The one tree, or the concat of several.
-#[tactic(auto, using(crate::proofs::Made::concat_there, crate::proofs::Made::concat_none, crate::proofs::Made::concat_one, crate::proofs::Made::concat_many))]
+#[tactic(auto, using(crate::proofs::Made::concat_rules))]
 pub(crate) fn make_concat<L: Ledger>(
     labels: &Labels,
     mut trees: Vec<Tree>,

@@ -259,3 +259,5 @@ pub last_is : (p : TagPlace) (g : Inline) (f : Open) (fs : List Open) (t : WideT
 last_is p g f fs t r e h =
     subst (λ m. IfOk r (λ next. IsState next m)) (ap (λ u. behind_argument p (with_child f u) fs) e
     ∙ argument_is_last p g f fs) h
+
+pub ruleset start_rules = (first_block, other_label, later_block)

@@ -45,7 +45,7 @@ fn in_argument(
 }
 
 // The content of a block behind these children of a tag.
-#[tactic(auto, using(crate::proofs::Stuck::first_block, crate::proofs::Stuck::other_label, crate::proofs::Stuck::later_block))]
+#[tactic(auto, using(crate::proofs::Stuck::start_rules))]
 fn start_block(alloc: Global, label: &Label, children: &Siblings) -> Body
     ensures { content_of result ≡ block_behind label.now children.now }
 {
