@@ -1,13 +1,12 @@
 -- Attributes that the test finds to be the same are.
 use Rattle.std.proofs.Common.{◌≡◌, ℕ, List, true, ℤ, ap, ◌∙◌}
-use Rattle.std.specs.Prelude.{Option, Some, None}
 use Rattle.std.specs.Ordering.{int_eq}
 use Rattle.std.specs.Str.{bytes_eq}
 use Rattle.std.proofs.lemmas.Bool.Decides.{Decides-int_eq}
 use Rattle.std.proofs.lemmas.Slice.Eq.{bytes_eq-Decides}
 use Rattle.tx_items.specs.declared.attributes.Attrs.{Attrs}
 use Rattle.std.proofs.lemmas.Bool.{and_parts}
-use Rattle.tx_part_layout.specs.LaidParts.{same_attrs, is_before}
+use Rattle.tx_part_layout.specs.LaidParts.{same_attrs}
 
 abbrev attrs_with : List ℕ → List ℕ → List ℕ → List ℕ → ℤ → ℤ → ℤ → Attrs
 attrs_with s h c m l r f =
@@ -38,8 +37,3 @@ attrs_are a b e =
     ∙ same_lengths b.series b.shape b.color b.mode a.left b.left a.right b.right a.first b.first
     ((Decides-int_eq a.left b.left).0 two.0) ((Decides-int_eq a.right b.right).0 two.1)
     ((Decides-int_eq a.first b.first).0 three.1)
-
--- the attributes are these, and no others
-pub before_is : (laid : Option Attrs) (a : Attrs) → is_before laid a ≡ true → laid ≡ Some a
-before_is None a e = cc
-before_is (Some b) a e = ap Some (attrs_are b a e)

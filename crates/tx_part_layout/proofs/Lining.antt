@@ -1,20 +1,17 @@
--- Lines of one paragraph more and of more paragraphs, and how many items these have.
-use Rattle.std.proofs.Common.{◌≡◌, ℕ, ◌+◌, ◌<◌, List, [], ◌∷◌, ◌++◌, length, take, get_or, ap, ◌∙◌, refl, sym, subst}
-use Rattle.std.proofs.Common.{arith, length-append, append_assoc}
-use Rattle.std.specs.Prelude.{◌≤◌, ◌*◌}
-use Rattle.std.specs.List.{flat_map, All}
+-- Lines of one paragraph more, of more paragraphs, and of parts in their places.
+use Rattle.std.proofs.Common.{◌≡◌, ℕ, ◌+◌, ◌<◌, List, [], ◌∷◌, ◌++◌, length, take, get_or, map, ap, ◌∙◌, sym, subst}
+use Rattle.std.proofs.Common.{append_assoc}
+use Rattle.std.specs.List.{All}
 use Rattle.std.proofs.lemmas.List.{append-nil, take_more}
-use Rattle.std.proofs.lemmas.List.Elements.{All-nil, All-cons}
-use Rattle.std.proofs.lemmas.List.Sums.{sum_by_more, sum_by-cons}
-use Rattle.tx_origin.specs.Values.{WideValue}
-use Rattle.tx_items.specs.declared.attributes.Attrs.{Attrs}
+use Rattle.std.proofs.lemmas.List.Elements.{All-head, All-tail}
 use Rattle.tx_items.specs.declared.drawing.Paragraph.{Paragraph}
-use Rattle.tx_items.specs.Shows.{Form, inline, listed, show, part_paragraphs, unit_paragraphs, shown_paragraphs}
 use Rattle.tx_layout.specs.declared.layout.Line.{Line}
 use Rattle.tx_layout.specs.Shapes.{IsShape}
 use Rattle.tx_view_form.specs.Views.{AreLines, no_lines, lines_then}
-use Rattle.tx_view_form.specs.Weights.{weight_of}
-use Rattle.tx_part_layout.specs.LaidParts.{items_in}
+use Rattle.tx_part_items.specs.ItemsUnder.{paragraph_under}
+use Rattle.tx_part_layout.specs.declared.laid.PlacedPart.{PlacedPart}
+use Rattle.tx_part_layout.specs.LinesUnder.{line_under}
+use Rattle.tx_part_layout.specs.LaidParts.{IsLaidPart, placed_paragraphs, placed_lines}
 
 pub both_lines : {width : ℕ} {ps qs : List Paragraph} {ls ms : List Line} → AreLines width ps ls
     → AreLines width qs ms → AreLines width (ps ++ qs) (ls ++ ms)
@@ -36,50 +33,24 @@ lines_next width ps i p ls own new lt is so shape e =
     (subst (λ (qs : List Paragraph). AreLines width qs (ls ++ own))
     (sym (take_more ps i p lt ∙ ap (λ q. take i ps ++ q ∷ []) (sym is))) (both_lines so (own_lines_are p own shape)))
 
--- the items of one paragraph more
-pub items_next : (ps : List Paragraph) (i : ℕ) (p : Paragraph) → i < length ps → p ≡ get_or ps i p
-    → items_in (take (i + 1) ps) ≡ items_in (take i ps) + length p.items
-items_next ps i p lt is =
-    sum_by_more (λ q. length q.items) ps i p lt ∙ ap (λ q. items_in (take i ps) + length q.items) (sym is)
-
--- ---- how many items
-
-items_then : (p : Paragraph) (ps : List Paragraph) → items_in (p ∷ ps) ≡ length p.items + items_in ps
-items_then p ps = sum_by-cons (λ q. length q.items) p ps
-
-items_length : (ps : List Paragraph) → items_in ps ≡ length (flat_map (λ p. p.items) ps)
-items_length [] = refl
-items_length (p ∷ ps) =
-    omega (arith, items_then p ps, items_length ps, length-append p.items (flat_map (λ q. q.items) ps))
-
-pub each_few : (ps : List Paragraph) (n : ℕ) → items_in ps < n → All (λ p. length p.items < n) ps
-each_few [] n h = All-nil (λ p. length p.items < n)
-each_few (p ∷ ps) n h =
-    All-cons (λ q. length q.items < n) p ps (omega (arith, items_then p ps, h))
-    (each_few ps n (omega (arith, items_then p ps, h)))
-
--- a part has the items of a unit with its value
-same_items : (x : Form) (end : Attrs) → items_in (part_paragraphs x end) ≡ items_in (unit_paragraphs x end)
-same_items (inline r) end = refl
-same_items (listed []) end = refl
-same_items (listed (p ∷ ps)) end = ap items_in (append-nil (p ∷ ps))
-
-pub few_in_part : (a : Attrs) (v : WideValue) (n : ℕ) → ((ps : List Paragraph) →
-    length (flat_map (λ p. p.items) ps) ≤ weight_of ps) → weight_of (shown_paragraphs a v) ≤ 242 * n → n ≤ 1000000 →
-    items_in (part_paragraphs (show a v).form (show a v).after) ≤ 242000000
-few_in_part a v n counted w small =
-    omega (
-      arith,
-      same_items (show a v).form (show a v).after,
-      items_length (shown_paragraphs a v),
-      counted (shown_paragraphs a v),
-      w,
-      small,
-    )
-
--- with one paragraph more
-pub lines_pushed : (width : ℕ) (ps qs : List Paragraph) (ls own ms : List Line) (p : Paragraph) →
-    AreLines width ps ls → IsShape p width own → qs ≡ ps ++ p ∷ [] → ms ≡ ls ++ own → AreLines width qs ms
-lines_pushed width ps qs ls own ms p h s e f =
+-- where these are the paragraphs and the lines
+pub lines_are : (width : ℕ) (ps qs : List Paragraph) (ls ms : List Line) → AreLines width ps ls → qs ≡ ps → ms ≡ ls →
+    AreLines width qs ms
+lines_are width ps qs ls ms h e f =
     subst (λ (ns : List Line). AreLines width qs ns) (sym f)
-    (subst (λ (rs : List Paragraph). AreLines width rs (ls ++ own)) (sym e) (both_lines h (own_lines_are p own s)))
+    (subst (λ (rs : List Paragraph). AreLines width rs ls) (sym e) h)
+
+-- the law of lines that stand deeper
+abbrev pub Deeper : Type 0
+Deeper =
+    (base : List ℕ) (width : ℕ) (ps : List Paragraph) (ls : List Line) → AreLines width ps ls →
+    AreLines width (map (paragraph_under base) ps) (map (line_under base) ls)
+
+pub lines_in_place : (deeper : Deeper) (width : ℕ) (ps : List PlacedPart) →
+    All (λ p. IsLaidPart width p.laid.value) ps → AreLines width (placed_paragraphs ps) (placed_lines ps)
+lines_in_place deeper width [] h = no_lines
+lines_in_place deeper width (p ∷ ps) h =
+    both_lines
+    (deeper p.path width p.laid.value.paragraphs.items p.laid.value.lines
+    (All-head (λ q. IsLaidPart width q.laid.value) p ps h).lines)
+    (lines_in_place deeper width ps (All-tail (λ q. IsLaidPart width q.laid.value) p ps h))

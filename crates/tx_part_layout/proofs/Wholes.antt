@@ -3,71 +3,94 @@ use Rattle.std.proofs.Common.{◌≡◌, ℕ, ◌+◌, List, [], ◌∷◌, ◌+
 use Rattle.std.specs.List.{flat_map, All}
 use Rattle.tx_tree.specs.WideTree.{WideTree}
 use Rattle.tx_origin.specs.Values.{WideValue}
-use Rattle.tx_origin.specs.Under.{value_under}
 use Rattle.tx_parts.specs.Parts.{Stored}
 use Rattle.tx_walk.specs.declared.part.Part.{Part as DonePart}
 use Rattle.tx_items.specs.declared.attributes.Attrs.{Attrs}
-use Rattle.tx_items.specs.declared.drawing.Paragraph.{Paragraph}
 use Rattle.tx_items.specs.Shows.{show, or_one, shown_paragraphs}
-use Rattle.std.proofs.lemmas.List.Elements.{All-nil}
-use Rattle.tx_layout.specs.declared.layout.Line.{Line}
-use Rattle.tx_view_form.specs.Views.{AreLines, no_lines}
+use Rattle.tx_view_form.specs.Views.{AreLines}
 use Rattle.tx_exec_form.specs.declared.TheConstants.{MOST_LEVELS}
-use Rattle.tx_part_items.specs.ShownParts.{PartValue, PartsShown, kept_values, own_value, tree_shown}
-use Rattle.tx_part_items.specs.ShownParts.{paragraphs_in_tree, part_errors, parts_shown}
+use Rattle.tx_part_items.specs.ItemsUnder.{paragraph_under}
+use Rattle.tx_part_items.specs.ShownParts.{PartValue, ShownPart, PartsShown, kept_values, own_value, tree_shown}
+use Rattle.tx_part_items.specs.ShownParts.{own_paragraphs, paragraphs_in_tree, part_errors, parts_shown}
 use Rattle.tx_part_items.specs.ShownParts.{paragraphs_by_parts, errors_by_parts}
-use Rattle.tx_part_layout.specs.declared.laid.LaidPart.{LaidPart}
+use Rattle.tx_part_layout.specs.declared.laid.PlacedPart.{PlacedPart}
 use Rattle.tx_part_layout.specs.declared.laying.Laying.{Laying}
-use Rattle.tx_part_layout.specs.LaidParts.{IsLaidPart, LaidFrom, laid_from, shown_from, done_value, items_anew}
+use Rattle.tx_part_layout.specs.LaidParts.{IsLaidPart, AreBelow, LaidFrom, laid_from, shown_from, laid_paragraphs}
+use Rattle.tx_part_layout.specs.LaidParts.{placed_paragraphs, done_value, items_anew}
 use Rattle.tx_part_layout.specs.LaidParts.{whole_shown, IsLaidUnit, ShowsValue}
-use Rattle.tx_part_layout.specs.Laying.{HasLaid, IsRightSoFar, left_values, unended}
+use Rattle.tx_part_layout.specs.Laying.{HasLaid, IsRightSoFar, left_values, given_back_by}
+use Rattle.tx_part_layout.proofs.Lining.{Deeper, both_lines, lines_in_place}
 
 -- at the start nothing is laid out
 pub record Starts (a : Attrs) (x : Laying) : Type 0 where
   pub attrs : x.attrs ≡ a
+  pub frames : x.frames.items ≡ []
   pub next : x.next ≡ 0
   pub parts : x.unit.parts.items ≡ []
-  pub paragraphs : x.unit.paragraphs.items ≡ []
   pub errors : x.unit.errors.items ≡ []
   pub items : x.unit.items ≡ 0
 
 -- at the end of a unit
 pub record Ends (width : ℕ) (y z : Laying) : Type 0 where
-  pub right : IsRightSoFar width z
-  pub paragraphs : z.unit.paragraphs.items ≡ or_one y.attrs (y.unit.paragraphs.items ++ unended y.blank y.attrs)
-  pub parts : map (λ p. p.value) z.unit.parts.items ≡ map (λ p. p.value) y.unit.parts.items
-  pub errors : z.unit.errors.items ≡ y.unit.errors.items
+  pub right : IsRightSoFar width y
+  pub paragraphs : placed_paragraphs z.unit.parts.items ++ z.unit.paragraphs.items
+      ≡ or_one y.attrs (placed_paragraphs y.unit.parts.items)
+  pub lines : AreLines width z.unit.paragraphs.items z.unit.lines
+  pub parts : z.unit.parts ≡ y.unit.parts
+  pub errors : z.unit.errors ≡ y.unit.errors
   pub items : z.unit.items ≡ y.unit.items
 
-module _ (width : ℕ) (old : List LaidPart) (ds : List DonePart) (a : Attrs) (t : WideTree) (x y z : Laying)
+-- parts that are laid out have the paragraphs of those that are shown, as they stand in the tree
+in_tree : (ps : List PlacedPart) (qs : List ShownPart) → map laid_from ps ≡ map shown_from qs →
+    map laid_paragraphs ps ≡ map own_paragraphs qs → placed_paragraphs ps ≡ flat_map paragraphs_in_tree qs
+in_tree [] [] e f = refl
+in_tree [] (q ∷ qs) e f = cc
+in_tree (p ∷ ps) [] e f = cc
+in_tree (p ∷ ps) (q ∷ qs) e f =
+    let from : laid_from p ≡ shown_from q = cc in
+    let own : laid_paragraphs p ≡ own_paragraphs q = cc in
+    let froms : map laid_from ps ≡ map shown_from qs = cc in
+    let owns : map laid_paragraphs ps ≡ map own_paragraphs qs = cc in
+    ap (λ (g : LaidFrom). map (paragraph_under g.path) (laid_paragraphs p) ++ placed_paragraphs ps) from
+    ∙ ap (λ us. map (paragraph_under q.path) us ++ placed_paragraphs ps) own
+    ∙ ap (λ us. paragraphs_in_tree q ++ us) (in_tree ps qs froms owns)
+
+module _ (width : ℕ) (old : List PlacedPart) (ds : List DonePart) (a : Attrs) (t : WideTree) (x y z : Laying)
     (start : Starts a x)
-    (h : (back : Attrs → Attrs) →
-    HasLaid old ds back (parts_shown MOST_LEVELS back x.attrs (left_values ds x.next) t) x y)
+    (h : HasLaid old ds (parts_shown MOST_LEVELS (given_back_by x.frames.items) x.attrs (left_values ds x.next) t) x y)
     (end : Ends width y z) where
   abbrev s : PartsShown
   s = whole_shown a ds t
 
-  from_start : HasLaid old ds (λ b. b) s x y
+  from_start : HasLaid old ds s x y
   from_start =
-      subst (λ (n : ℕ). HasLaid old ds (λ b. b) (parts_shown MOST_LEVELS (λ b. b) a (left_values ds n) t) x y)
-      start.next
-      (subst (λ (b : Attrs). HasLaid old ds (λ c. c) (parts_shown MOST_LEVELS (λ c. c) b (left_values ds x.next) t) x y)
-      start.attrs (h (λ b. b)))
+      subst (λ (n : ℕ). HasLaid old ds (parts_shown MOST_LEVELS (λ b. b) a (left_values ds n) t) x y) start.next
+      (subst (λ (b : Attrs). HasLaid old ds (parts_shown MOST_LEVELS (λ c. c) b (left_values ds x.next) t) x y)
+      start.attrs
+      (subst (λ fs. HasLaid old ds (parts_shown MOST_LEVELS (given_back_by fs) x.attrs (left_values ds x.next) t) x y)
+      start.frames h))
 
-  pub whole_laid : IsLaidUnit width (whole_shown a ds t) z.unit
-  whole_laid =
+  froms : map laid_from y.unit.parts.items ≡ map shown_from s.each
+  froms = from_start.laid ∙ ap (λ ps. map laid_from ps ++ map shown_from s.each) start.parts
+
+  owns : map laid_paragraphs y.unit.parts.items ≡ map own_paragraphs s.each
+  owns = from_start.paragraphs ∙ ap (λ ps. map laid_paragraphs ps ++ map own_paragraphs s.each) start.parts
+
+  pub whole_laid : (deeper : Deeper) → IsLaidUnit width (whole_shown a ds t) z.unit
+  whole_laid deeper =
       let g = from_start in
+      let same : z.unit.parts.items ≡ y.unit.parts.items = ap (λ ps. ps.items) end.parts in
+      let each = subst (All (λ p. IsLaidPart width p.laid.value)) (sym same) end.right.each in
       record {
-        parts =
-            ap (map laid_from) end.parts ∙ g.laid
-            ∙ ap (λ ps. map laid_from (map (λ p. p.value) ps) ++ map shown_from s.each) start.parts;
-        each = end.right.each;
+        parts = ap (map laid_from) same ∙ froms;
+        each = each;
+        below = subst (AreBelow 0) (sym same) end.right.below;
         paragraphs =
-            end.paragraphs ∙ ap (or_one y.attrs) (sym g.paragraphs)
-            ∙ ap (λ ps. or_one y.attrs (ps ++ flat_map paragraphs_in_tree s.each)) start.paragraphs
+            end.paragraphs ∙ ap (or_one y.attrs) (in_tree y.unit.parts.items s.each froms owns)
             ∙ ap (λ b. or_one b (flat_map paragraphs_in_tree s.each)) g.attrs;
-        errors = end.errors ∙ g.errors ∙ ap (λ es. es ++ flat_map part_errors s.each) start.errors;
-        lines = end.right.lines;
+        errors =
+            ap (λ es. es.items) end.errors ∙ g.errors ∙ ap (λ es. es ++ flat_map part_errors s.each) start.errors;
+        lines = both_lines (lines_in_place deeper width z.unit.parts.items each) end.lines;
       }
 
   pub whole_items : z.unit.items ≡ items_anew old ds (whole_shown a ds t).each
@@ -98,44 +121,28 @@ shown_by a v ds ps t each paragraphs errors same =
     subst (λ (vs : List PartValue). ShownBy a v (parts_shown MOST_LEVELS (λ b. b) a vs t) vs) same
     (record { each = each; paragraphs = paragraphs; errors = errors })
 
-abbrev placed_value_of : PartValue → WideValue
-placed_value_of p = value_under p.path p.value
-
 pub shows_value : (width : ℕ) (a : Attrs) (v : WideValue) (ds : List DonePart) (t : WideTree) (z : Laying) →
     IsLaidUnit width (whole_shown a ds t) z.unit → ShownBy a v (whole_shown a ds t) (map done_value ds) →
     ShowsValue width a v ds z.unit
 shows_value width a v ds t z u h =
     let qs = (whole_shown a ds t).each in
-    let laid = map (λ p. p.value) z.unit.parts.items in
+    let laid = z.unit.parts.items in
     record {
       paths =
-          map_two (λ p. p.value) (λ (p : LaidPart). p.path) z.unit.parts.items
-          ∙ map_two laid_from (λ (f : LaidFrom). f.path) laid
+          map_two laid_from (λ (f : LaidFrom). f.path) laid
           ∙ ap (map (λ (f : LaidFrom). f.path)) u.parts
           ∙ sym (map_two shown_from (λ (f : LaidFrom). f.path) qs)
           ∙ map_two own_value (λ (q : PartValue). q.path) qs
           ∙ ap (map (λ (q : PartValue). q.path)) h.each
           ∙ sym (map_two done_value (λ (q : PartValue). q.path) ds);
       values =
-          map_two (λ p. p.value) (λ (p : LaidPart). p.value) z.unit.parts.items
-          ∙ map_two laid_from (λ (f : LaidFrom). f.value) laid
+          map_two laid_from (λ (f : LaidFrom). f.value) laid
           ∙ ap (map (λ (f : LaidFrom). f.value)) u.parts
           ∙ sym (map_two shown_from (λ (f : LaidFrom). f.value) qs)
-          ∙ map_two own_value placed_value_of qs
-          ∙ ap (map placed_value_of) h.each
-          ∙ sym (map_two done_value placed_value_of ds);
+          ∙ map_two own_value (λ (q : PartValue). q.value) qs
+          ∙ ap (map (λ (q : PartValue). q.value)) h.each
+          ∙ sym (map_two done_value (λ (q : PartValue). q.value) ds);
       paragraphs = u.paragraphs ∙ sym h.paragraphs;
       errors = u.errors ∙ sym h.errors;
       lines = u.lines;
-    }
-
-pub nothing_right : (width : ℕ) (x : Laying) → x.unit.parts.items ≡ [] → x.unit.paragraphs.items ≡ [] →
-    x.unit.lines.items ≡ [] → x.unit.items ≡ 0 → IsRightSoFar width x
-nothing_right width x parts paragraphs lines items =
-    record {
-      each = subst (All (λ p. IsLaidPart width p.value)) (sym parts) (All-nil (λ p. IsLaidPart width p.value));
-      lines =
-          subst (λ (ls : List Line). AreLines width x.unit.paragraphs.items ls) (sym lines)
-          (subst (λ (ps : List Paragraph). AreLines width ps []) (sym paragraphs) no_lines);
-      few = omega (arith, items);
     }

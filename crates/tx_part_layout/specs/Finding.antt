@@ -2,21 +2,21 @@
 use Rattle.std.specs.Prelude.{◌≡◌, ℕ, true, false, List, Some, slice_get}
 use Rattle.tx_walk.specs.declared.part.Part.{Part as DonePart}
 use Rattle.tx_items.specs.declared.attributes.Attrs.{Attrs}
-use Rattle.tx_part_layout.specs.declared.laid.LaidPart.{LaidPart}
+use Rattle.tx_part_layout.specs.declared.laid.PlacedPart.{PlacedPart}
 use Rattle.tx_part_layout.specs.LaidParts.{before_at, is_reused}
 
 -- the part of this number is the first at the path
-pub record IsAt (old : List LaidPart) (path : List ℕ) (i : ℕ) : Type 0 where
-  pub part : LaidPart
+pub record IsAt (old : List PlacedPart) (path : List ℕ) (i : ℕ) : Type 0 where
+  pub part : PlacedPart
   pub there : slice_get old i ≡ Some part
   pub stands : part.path ≡ path
-  pub is : before_at old path ≡ Some part.before
+  pub is : before_at old path ≡ Some part.laid.value.before
 
 -- this was laid out of the part before these attributes
-pub record IsReused (old : List LaidPart) (d : DonePart) (a : Attrs) (p : LaidPart) : Type 0 where
+pub record IsReused (old : List PlacedPart) (d : DonePart) (a : Attrs) (p : PlacedPart) : Type 0 where
   pub number : ℕ
   pub there : slice_get old number ≡ Some p
   pub stands : p.path ≡ d.path
   pub kept : d.renewed ≡ false
-  pub before : p.before ≡ a
+  pub before : p.laid.value.before ≡ a
   pub is : is_reused old d a ≡ true

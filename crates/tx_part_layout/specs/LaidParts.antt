@@ -1,58 +1,85 @@
--- What is laid out of the parts of a nested paragraph, and of the paragraph by them.
-use Rattle.std.specs.Prelude.{◌≡◌, ℕ, ◌+◌, Bool, false, not, ◌&&◌, if◌then◌else◌, List, [], ◌∷◌, map, length}
+-- What is laid out of the parts of a nested paragraph, each by itself, and of the paragraph by them.
+use Rattle.std.specs.Prelude.{◌≡◌, ℕ, ◌+◌, Bool, false, not, ◌&&◌, if◌then◌else◌, List, [], ◌∷◌, ◌++◌, map, length}
 use Rattle.std.specs.Prelude.{Option, Some, None}
-use Rattle.std.specs.List.{All, sum_by}
+use Rattle.std.specs.List.{All, flat_map, sum_by}
 use Rattle.std.specs.Ordering.{int_eq}
 use Rattle.std.specs.Str.{bytes_eq}
 use Rattle.tx_tree.specs.WideTree.{WideTree}
 use Rattle.tx_exec_form.specs.declared.TheConstants.{MOST_LEVELS}
 use Rattle.tx_origin.specs.Values.{WideValue}
-use Rattle.tx_origin.specs.Under.{value_under}
 use Rattle.tx_walk.specs.declared.part.Part.{Part as DonePart}
 use Rattle.tx_items.specs.declared.attributes.Attrs.{Attrs}
 use Rattle.tx_items.specs.declared.drawing.Paragraph.{Paragraph}
 use Rattle.tx_items.specs.Shows.{show, is_blank, part_paragraphs, shown_paragraphs}
+use Rattle.tx_layout.specs.declared.layout.Line.{Line}
 use Rattle.tx_view_form.specs.Views.{AreLines}
+use Rattle.tx_part_items.specs.ItemsUnder.{paragraph_under}
 use Rattle.tx_part_items.specs.ShownParts.{PartValue, ShownPart, PartsShown, own_paragraphs}
 use Rattle.tx_part_items.specs.ShownParts.{paragraphs_by_parts, errors_by_parts, parts_shown}
+use Rattle.tx_part_layout.specs.LinesUnder.{line_under}
 use Rattle.tx_part_layout.specs.declared.laid.LaidPart.{LaidPart}
+use Rattle.tx_part_layout.specs.declared.laid.PlacedPart.{PlacedPart}
 use Rattle.tx_part_layout.specs.declared.laid.LaidUnit.{LaidUnit}
 
 -- ---- a part
 
--- What is laid out of a part is what its value shows. As a paragraph without an item it has here the attributes behind
--- the part; in its unit, those at the end of the paragraph.
+-- What is laid out of a part is what its value shows, by itself. As a paragraph without an item it has some attributes,
+-- here `end`.
 pub record IsLaidPart (width : ℕ) (p : LaidPart) : Type 0 where
-  pub paragraphs : p.paragraphs.items ≡ part_paragraphs (show p.before p.value).form (show p.before p.value).after
+  pub end : Attrs
+  pub paragraphs : p.paragraphs.items ≡ part_paragraphs (show p.before p.value).form end
   pub errors : p.errors.items ≡ (show p.before p.value).errors
   pub after : p.after ≡ (show p.before p.value).after
   pub blank : p.blank ≡ is_blank (show p.before p.value).form
-  pub lines : AreLines width p.paragraphs.items p.lines.items
+  pub lines : AreLines width p.paragraphs.items p.lines
 
--- of what a part is laid out: where it stands, its value as it stands in the unit, and the attributes before it
+-- of what a part is laid out: where it stands, its value alone, and the attributes before it
 pub record LaidFrom : Type 0 where
   pub path : List ℕ
   pub value : WideValue
   pub before : Attrs
 
-abbrev pub laid_from : LaidPart → LaidFrom
-laid_from p = record { path = p.path; value = p.value; before = p.before }
+abbrev pub laid_from : PlacedPart → LaidFrom
+laid_from p = record { path = p.path; value = p.laid.value.value; before = p.laid.value.before }
 
 abbrev pub shown_from : ShownPart → LaidFrom
-shown_from p = record { path = p.path; value = value_under p.path p.value; before = p.before }
+shown_from p = record { path = p.path; value = p.value; before = p.before }
 
 -- a part's path, and its value alone
 abbrev pub done_value : DonePart → PartValue
 done_value p = record { path = p.path; value = p.trace.value }
 
+-- ---- parts in their places
+
+abbrev pub laid_paragraphs : PlacedPart → List Paragraph
+laid_paragraphs p = p.laid.value.paragraphs.items
+
+-- as they stand in the unit
+abbrev pub paragraphs_placed : PlacedPart → List Paragraph
+paragraphs_placed p = map (paragraph_under p.path) (laid_paragraphs p)
+
+abbrev pub lines_placed : PlacedPart → List Line
+lines_placed p = map (line_under p.path) p.laid.value.lines
+
+abbrev pub placed_paragraphs : List PlacedPart → List Paragraph
+placed_paragraphs ps = flat_map paragraphs_placed ps
+
+abbrev pub placed_lines : List PlacedPart → List Line
+placed_lines ps = flat_map lines_placed ps
+
+-- each part tells how many lines of its unit stand above it, where so many stand above the first
+abbrev pub AreBelow : ℕ → List PlacedPart → Type 0
+AreBelow n [] = Unit {0}
+AreBelow n (p ∷ ps) = (p.above ≡ n) × AreBelow (n + length p.laid.value.lines) ps
+
 -- ---- what was laid out before
 
-abbrev pub laid_paths : List LaidPart → List (List ℕ)
+abbrev pub laid_paths : List PlacedPart → List (List ℕ)
 laid_paths ps = map (λ p. p.path) ps
 
 -- what was laid out of the part, unless it was renewed, is of its value
-abbrev pub IsOfValue : LaidPart → DonePart → Type 0
-IsOfValue p d = p.path ≡ d.path → d.renewed ≡ false → p.value ≡ value_under d.path d.trace.value
+abbrev pub IsOfValue : PlacedPart → DonePart → Type 0
+IsOfValue p d = p.path ≡ d.path → d.renewed ≡ false → p.laid.value.value ≡ d.trace.value
 
 abbrev pub same_attrs : Attrs → Attrs → Bool
 same_attrs a b =
@@ -60,16 +87,16 @@ same_attrs a b =
     && bytes_eq a.shape b.shape && bytes_eq a.color b.color && bytes_eq a.mode b.mode
 
 -- the attributes before what was laid out first at the path
-abbrev pub before_at : List LaidPart → List ℕ → Option Attrs
+abbrev pub before_at : List PlacedPart → List ℕ → Option Attrs
 before_at [] path = None
-before_at (p ∷ ps) path = if bytes_eq p.path path then Some p.before else before_at ps path
+before_at (p ∷ ps) path = if bytes_eq p.path path then Some p.laid.value.before else before_at ps path
 
 abbrev pub is_before : Option Attrs → Attrs → Bool
 is_before None a = false
 is_before (Some b) a = same_attrs b a
 
 -- what was laid out of a part before these attributes is used again
-abbrev pub is_reused : List LaidPart → DonePart → Attrs → Bool
+abbrev pub is_reused : List PlacedPart → DonePart → Attrs → Bool
 is_reused old d a = not d.renewed && is_before (before_at old d.path) a
 
 -- how many items paragraphs have
@@ -77,7 +104,7 @@ abbrev pub items_in : List Paragraph → ℕ
 items_in ps = sum_by (λ p. length p.items) ps
 
 -- the items of the parts that are laid out anew
-abbrev pub items_anew : List LaidPart → List DonePart → List ShownPart → ℕ
+abbrev pub items_anew : List PlacedPart → List DonePart → List ShownPart → ℕ
 items_anew old [] ps = 0
 items_anew old (d ∷ ds) [] = 0
 items_anew old (d ∷ ds) (p ∷ ps) =
@@ -89,18 +116,21 @@ items_anew old (d ∷ ds) (p ∷ ps) =
 abbrev pub whole_shown : Attrs → List DonePart → WideTree → PartsShown
 whole_shown a ds t = parts_shown MOST_LEVELS (λ b. b) a (map done_value ds) t
 
--- This is laid out of a unit whose parts show so.
+-- This is laid out of a unit whose parts show so. What it has besides its parts stands behind them.
 pub record IsLaidUnit (width : ℕ) (s : PartsShown) (u : LaidUnit) : Type 0 where
-  pub parts : map laid_from (map (λ p. p.value) u.parts.items) ≡ map shown_from s.each
-  pub each : All (λ p. IsLaidPart width p.value) u.parts.items
-  pub paragraphs : u.paragraphs.items ≡ paragraphs_by_parts s
+  pub parts : map laid_from u.parts.items ≡ map shown_from s.each
+  pub each : All (λ p. IsLaidPart width p.laid.value) u.parts.items
+  pub below : AreBelow 0 u.parts.items
+  pub paragraphs : placed_paragraphs u.parts.items ++ u.paragraphs.items ≡ paragraphs_by_parts s
   pub errors : u.errors.items ≡ errors_by_parts s
-  pub lines : AreLines width u.paragraphs.items u.lines.items
+  pub lines : AreLines width (placed_paragraphs u.parts.items ++ u.paragraphs.items)
+      (placed_lines u.parts.items ++ u.lines)
 
 -- This is laid out of a unit with this value and these parts.
 pub record ShowsValue (width : ℕ) (a : Attrs) (v : WideValue) (ds : List DonePart) (u : LaidUnit) : Type 0 where
-  pub paths : map (λ p. p.value.path) u.parts.items ≡ map (λ d. d.path) ds
-  pub values : map (λ p. p.value.value) u.parts.items ≡ map (λ d. value_under d.path d.trace.value) ds
-  pub paragraphs : u.paragraphs.items ≡ shown_paragraphs a v
+  pub paths : map (λ p. p.path) u.parts.items ≡ map (λ d. d.path) ds
+  pub values : map (λ p. p.laid.value.value) u.parts.items ≡ map (λ d. d.trace.value) ds
+  pub paragraphs : placed_paragraphs u.parts.items ++ u.paragraphs.items ≡ shown_paragraphs a v
   pub errors : u.errors.items ≡ (show a v).errors
-  pub lines : AreLines width u.paragraphs.items u.lines.items
+  pub lines : AreLines width (placed_paragraphs u.parts.items ++ u.paragraphs.items)
+      (placed_lines u.parts.items ++ u.lines)

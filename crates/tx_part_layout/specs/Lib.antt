@@ -1,3 +1,4 @@
+pub mod LinesUnder
 pub mod LaidParts
 pub mod Finding
 pub mod Laying

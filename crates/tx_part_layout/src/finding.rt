@@ -1,28 +1,27 @@
 // What was laid out of a part before.
-ghost use Rattle.std.specs.Prelude.{◌≡◌, ◌<◌, None, MatchOption, IsTrue, map, length, false};
+ghost use Rattle.std.specs.Prelude.{◌≡◌, ◌<◌, None, MatchOption, IsTrue, length, false};
 ghost use Rattle.std.specs.List.{IsDistinct};
 ghost use Rattle.std.specs.Str.{bytes_eq};
 ghost use Rattle.tx_part_layout.specs.LaidParts.{laid_paths, before_at, is_reused};
 ghost use Rattle.tx_part_layout.specs.Finding.{IsAt, IsReused};
 
 use crate::attributes::same_attrs;
-use crate::laid::LaidPart;
-use std::rc::Rc;
+use crate::laid::PlacedPart;
 use tx_items::Attrs;
 use tx_tree::Path;
 use tx_walk::Part;
 
 // Whether it was laid out of the part at this path.
-fn stands_at(laid: &LaidPart, path: &Path) -> bool
-    ensures { result ≡ bytes_eq laid.now.path path.now }
+fn stands_at(placed: &PlacedPart, path: &Path) -> bool
+    ensures { result ≡ bytes_eq placed.now.path path.now }
 {
-    laid.path.steps() == path.steps()
+    placed.path.steps() == path.steps()
 }
 
 // The number of the part at this path.
-fn number_at(old: &[Rc<LaidPart>], path: &Path) -> Option<usize>
-    ensures { MatchOption result (before_at (map (λ p. p.value) old.now) path.now ≡ None)
-        (λ i. (i < length old.now) × IsAt (map (λ p. p.value) old.now) path.now i) }
+fn number_at(old: &[PlacedPart], path: &Path) -> Option<usize>
+    ensures { MatchOption result (before_at old.now path.now ≡ None)
+        (λ i. (i < length old.now) × IsAt old.now path.now i) }
 {
     for i in 0..old.len() {
         if stands_at(&old[i], path) {
@@ -33,13 +32,13 @@ fn number_at(old: &[Rc<LaidPart>], path: &Path) -> Option<usize>
 }
 
 // The number of the part at this path. It mostly is the hint.
-fn number_near(old: &[Rc<LaidPart>], path: &Path, hint: usize) -> Option<usize>
-    requires distinct { IsDistinct bytes_eq (laid_paths (map (λ p. p.value) old.now)) }
-    ensures { MatchOption result (before_at (map (λ p. p.value) old.now) path.now ≡ None)
-        (λ i. (i < length old.now) × IsAt (map (λ p. p.value) old.now) path.now i) }
+fn number_near(old: &[PlacedPart], path: &Path, hint: usize) -> Option<usize>
+    requires distinct { IsDistinct bytes_eq (laid_paths old.now) }
+    ensures { MatchOption result (before_at old.now path.now ≡ None)
+        (λ i. (i < length old.now) × IsAt old.now path.now i) }
 {
-    if let Some(laid) = old.get(hint) {
-        if stands_at(laid, path) {
+    if let Some(placed) = old.get(hint) {
+        if stands_at(placed, path) {
             return Some(hint);
         }
     }
@@ -47,26 +46,26 @@ fn number_near(old: &[Rc<LaidPart>], path: &Path, hint: usize) -> Option<usize>
 }
 
 // Whether the part of this number, if there is one, stands at the path.
-fn is_at(old: &[Rc<LaidPart>], path: &Path, hint: usize) -> bool
+fn is_at(old: &[PlacedPart], path: &Path, hint: usize) -> bool
     ensures { IsTrue result → hint < length old.now }
 {
     match old.get(hint) {
         None => false,
-        Some(laid) => stands_at(laid, path),
+        Some(placed) => stands_at(placed, path),
     }
 }
 
 /// What was laid out of the part before these attributes, if it wasn't renewed. The number that is likely next is kept
 /// in `near`.
 pub(crate) fn reused<'a>(
-    old: &'a [Rc<LaidPart>],
+    old: &'a [PlacedPart],
     part: &Part,
     attrs: &Attrs,
     near: &mut usize,
-) -> Option<&'a Rc<LaidPart>>
-    requires distinct { IsDistinct bytes_eq (laid_paths (map (λ p. p.value) old.now)) }
-    ensures { MatchOption result (is_reused (map (λ p. p.value) old.now) part.now attrs.now ≡ false)
-        (λ p. IsReused (map (λ p. p.value) old.now) part.now attrs.now p.now.value) }
+) -> Option<&'a PlacedPart>
+    requires distinct { IsDistinct bytes_eq (laid_paths old.now) }
+    ensures { MatchOption result (is_reused old.now part.now attrs.now ≡ false)
+        (λ p. IsReused old.now part.now attrs.now p.now) }
 {
     let renewed = part.renewed;
     if renewed {
@@ -79,7 +78,7 @@ pub(crate) fn reused<'a>(
         None => None,
         Some(i) => {
             *near = i + 1;
-            if same_attrs(&old[i].before, attrs) {
+            if same_attrs(&old[i].laid.before, attrs) {
                 Some(&old[i])
             } else {
                 None

@@ -1,28 +1,30 @@
 // A part laid out.
-ghost use Rattle.std.specs.Prelude.{◌≡◌, ◌+◌, ◌≤◌, ◌<◌, ◌^◌, ℕ, IfOk, OnOk, All, map, length, false, if◌then◌else◌};
+ghost use Rattle.std.specs.Prelude.{◌≡◌, ◌+◌, ◌≤◌, ◌<◌, ◌^◌, ℕ, [], ◌∷◌, IfOk, OnOk, All, length, true, false};
+ghost use Rattle.std.specs.Prelude.{if◌then◌else◌};
 ghost use Rattle.std.specs.List.{IsDistinct};
 ghost use Rattle.std.specs.Str.{bytes_eq};
 ghost use Rattle.tx_tree.specs.WideTree.{size_of};
-ghost use Rattle.tx_origin.specs.Under.{value_under};
 ghost use Rattle.tx_origin.specs.Values.{plain};
+ghost use Rattle.tx_items.specs.Drawing.{paragraph};
 ghost use Rattle.tx_items.specs.Narrow.{IsNarrow};
+ghost use Rattle.tx_items.specs.Shows.{show, part_paragraphs};
 ghost use Rattle.tx_view_form.specs.Views.{AreLines};
-ghost use Rattle.tx_walk.specs.Walked.{IsTidy};
-ghost use Rattle.tx_part_layout.specs.LaidParts.{IsLaidPart, IsOfValue, LaidFrom, laid_from, laid_paths};
-ghost use Rattle.tx_part_layout.specs.LaidParts.{is_reused, items_in};
+ghost use Rattle.tx_part_layout.specs.LaidParts.{IsLaidPart, IsOfValue, laid_paths, is_reused, items_in};
+ghost use Rattle.tx_part_layout.specs.Laying.{given_back_by};
 
 use crate::finding::reused;
-use crate::laid::LaidPart;
+use crate::laid::{LaidPart, PlacedPart};
+use crate::line_list::LineList;
+use crate::settings::{Frame, give_back};
 use std::alloc::Global;
 use std::rc::Rc;
 use std::sync::ledger::Ledger;
 use tx_base::{Memory, Steps};
-use tx_items::{Attrs, Paragraph, part_items};
+use tx_items::{Attrs, ErrorAt, Paragraph, part_items};
 use tx_layout::{Line, lines};
-use tx_origin::{Value, under_law};
-use tx_tree::Path;
+use tx_origin::Value;
 use tx_view_form::weight_laws;
-use tx_walk::{Part, placed_value};
+use tx_walk::Part;
 
 /// The lines of paragraphs, one paragraph after the other. The steps rise by the number of items.
 pub fn lines_of<L: Ledger>(
@@ -59,12 +61,45 @@ pub fn item_count(paragraphs: &[Paragraph]) -> u64
     count
 }
 
-// What a part with this value shows, where it stands at this path and these are the attributes before it.
+// The paragraph of a part that shows in a line without an item, where these are the attributes behind it, and the
+// `with`s inside which it stands.
+fn blank_paragraphs(
+    alloc: Global,
+    after: &Attrs,
+    frames: &[Frame],
+) -> Result<Vec<Paragraph>, Memory>
+    ensures { IfOk result (λ ps. ps.items ≡ paragraph [] (given_back_by frames.now after.now) ∷ []) }
+{
+    let mut end = after.copy()?;
+    give_back(frames, &mut end)?;
+    let paragraph = Paragraph::blank(alloc, &end)?;
+    let all = vec![in alloc; paragraph]?;
+    Ok(all)
+}
+
+// The paragraphs of a part, where these are its own with the attributes behind it, if it is blank.
+fn ended_paragraphs(
+    alloc: Global,
+    blank: bool,
+    own: Vec<Paragraph>,
+    after: &Attrs,
+    frames: &[Frame],
+) -> Result<Vec<Paragraph>, Memory>
+    ensures { IfOk result (λ ps. ps.items
+        ≡ if blank then paragraph [] (given_back_by frames.now after.now) ∷ [] else own.items) }
+{
+    if blank {
+        return blank_paragraphs(alloc, after, frames);
+    }
+    Ok(own)
+}
+
+// What a part with this value shows, where these are the attributes before it, and the `with`s inside which it stands.
 fn laid_anew<L: Ledger>(
     alloc: Global,
-    path: Path,
     value: Value,
     before: Attrs,
+    frames: &[Frame],
     width: u32,
     steps: &mut Steps<L>,
 ) -> Result<LaidPart, Memory>
@@ -72,7 +107,10 @@ fn laid_anew<L: Ledger>(
     requires most_width { width ≤ 500 }
     requires small { size_of (plain value) ≤ 1000000 }
     ensures laid { IfOk result (λ p. IsLaidPart width p) }
-    ensures from { IfOk result (λ p. laid_from p ≡ record { path = path; value = value; before = before }) }
+    ensures value { IfOk result (λ p. p.value ≡ value) }
+    ensures before { IfOk result (λ p. p.before ≡ before) }
+    ensures paragraphs { IfOk result (λ p. p.paragraphs.items
+        ≡ part_paragraphs (show before value).form (given_back_by frames.now (show before value).after)) }
     ensures few { IfOk result (λ p. items_in p.paragraphs.items ≤ 242000000) }
     ensures counted { IfOk result (λ p. steps.new ≡ steps.old + items_in p.paragraphs.items) }
     ensures rises { steps.old ≤ steps.new }
@@ -80,16 +118,16 @@ fn laid_anew<L: Ledger>(
     let _size = value.size();
     weight_laws();
     let shown = part_items(alloc, &value, &before)?;
-    let lines = lines_of(alloc, &shown.paragraphs, width, steps)?;
+    let paragraphs = ended_paragraphs(alloc, shown.blank, shown.paragraphs, &shown.after, frames)?;
+    let lines = lines_of(alloc, &paragraphs, width, steps)?;
     Ok(LaidPart {
-        path,
         value,
         before,
         after: shown.after,
         blank: shown.blank,
-        paragraphs: shown.paragraphs,
+        paragraphs,
         errors: shown.errors,
-        lines,
+        lines: LineList::new(lines),
     })
 }
 
@@ -98,64 +136,141 @@ fn new_laid<L: Ledger>(
     alloc: Global,
     part: &Part,
     attrs: &Attrs,
+    frames: &[Frame],
     width: u32,
     steps: &mut Steps<L>,
 ) -> Result<(Rc<LaidPart>, u64), Memory>
     requires least_width { 20 ≤ width }
     requires most_width { width ≤ 500 }
-    requires tidy { IsTidy part.now }
     requires small { size_of (plain part.now.trace.value) ≤ 1000000 }
     ensures laid { IfOk result (λ r. IsLaidPart width r.0.value) }
-    ensures from { IfOk result (λ r. laid_from r.0.value ≡ record {
-      path = part.now.path;
-      value = value_under part.now.path part.now.trace.value;
-      before = attrs.now;
-    }) }
+    ensures value { IfOk result (λ r. r.0.value.value ≡ part.now.trace.value) }
+    ensures before { IfOk result (λ r. r.0.value.before ≡ attrs.now) }
+    ensures paragraphs { IfOk result (λ r. r.0.value.paragraphs.items
+        ≡ part_paragraphs (show attrs.now part.now.trace.value).form
+        (given_back_by frames.now (show attrs.now part.now.trace.value).after)) }
     ensures items { IfOk result (λ r. r.1 ≡ items_in r.0.value.paragraphs.items) }
     ensures few { IfOk result (λ r. r.1 ≤ 242000000) }
     ensures counted { IfOk result (λ r. steps.new ≡ steps.old + r.1) }
     ensures rises { steps.old ≤ steps.new }
 {
-    under_law();
-    let path = part.path.copy(alloc)?;
-    let value = placed_value(alloc, part)?;
+    let value = part.trace.value.share()?;
     let before = attrs.copy()?;
-    let laid = laid_anew(alloc, path, value, before, width, steps)?;
+    let laid = laid_anew(alloc, value, before, frames, width, steps)?;
     let items = item_count(&laid.paragraphs);
     Ok((Rc::new(alloc, laid)?, items))
 }
 
-/// What is laid out of a part before these attributes. Answers also how many items were laid out anew.
+// The same errors.
+fn same_errors(alloc: Global, errors: &[ErrorAt]) -> Result<Vec<ErrorAt>, Memory>
+    ensures { IfOk result (λ es. es.items ≡ errors.now) }
+{
+    let mut all = Vec::with_capacity(alloc, errors.len())?;
+    for error in errors {
+        all.push(ErrorAt {
+            kind: error.kind.copy()?,
+            detail: error.detail.copy()?,
+        })?;
+    }
+    Ok(all)
+}
+
+// What was laid out of a part that shows in a line without an item, inside these `with`s.
+fn blank_again<L: Ledger>(
+    alloc: Global,
+    laid: &LaidPart,
+    frames: &[Frame],
+    width: u32,
+    steps: &mut Steps<L>,
+) -> Result<LaidPart, Memory>
+    requires least_width { 20 ≤ width }
+    requires most_width { width ≤ 500 }
+    requires laid { IsLaidPart width laid.now }
+    requires blank { laid.now.blank ≡ true }
+    ensures laid { IfOk result (λ p. IsLaidPart width p) }
+    ensures value { IfOk result (λ p. p.value ≡ laid.now.value) }
+    ensures before { IfOk result (λ p. p.before ≡ laid.now.before) }
+    ensures paragraphs { IfOk result (λ p. p.paragraphs.items
+        ≡ part_paragraphs (show laid.now.before laid.now.value).form
+        (given_back_by frames.now (show laid.now.before laid.now.value).after)) }
+    ensures counted { OnOk result (steps.new ≡ steps.old) }
+    ensures rises { steps.old ≤ steps.new }
+{
+    let paragraphs = blank_paragraphs(alloc, &laid.after, frames)?;
+    let lines = lines_of(alloc, &paragraphs, width, steps)?;
+    Ok(LaidPart {
+        value: laid.value.share()?,
+        before: laid.before.copy()?,
+        after: laid.after.copy()?,
+        blank: true,
+        paragraphs,
+        errors: same_errors(alloc, &laid.errors)?,
+        lines: LineList::new(lines),
+    })
+}
+
+// What was laid out of a part, inside these `with`s. It is the same, unless the part is blank.
+fn laid_again<L: Ledger>(
+    alloc: Global,
+    laid: &Rc<LaidPart>,
+    frames: &[Frame],
+    width: u32,
+    steps: &mut Steps<L>,
+) -> Result<Rc<LaidPart>, Memory>
+    requires least_width { 20 ≤ width }
+    requires most_width { width ≤ 500 }
+    requires laid { IsLaidPart width laid.now.value }
+    ensures laid { IfOk result (λ r. IsLaidPart width r.value) }
+    ensures value { IfOk result (λ r. r.value.value ≡ laid.now.value.value) }
+    ensures before { IfOk result (λ r. r.value.before ≡ laid.now.value.before) }
+    ensures paragraphs { IfOk result (λ r. r.value.paragraphs.items
+        ≡ part_paragraphs (show laid.now.value.before laid.now.value.value).form
+        (given_back_by frames.now (show laid.now.value.before laid.now.value.value).after)) }
+    ensures counted { OnOk result (steps.new ≡ steps.old) }
+    ensures rises { steps.old ≤ steps.new }
+{
+    if laid.blank {
+        let again = blank_again(alloc, laid, frames, width, steps)?;
+        return Ok(Rc::new(alloc, again)?);
+    }
+    Ok(laid.clone()?)
+}
+
+/// What is laid out of a part before these attributes, inside these `with`s. Answers also how many items were laid out
+/// anew.
 pub(crate) fn laid_part<L: Ledger>(
     alloc: Global,
     part: &Part,
     attrs: &Attrs,
-    old: &[Rc<LaidPart>],
+    frames: &[Frame],
+    old: &[PlacedPart],
     near: &mut usize,
     width: u32,
     steps: &mut Steps<L>,
 ) -> Result<(Rc<LaidPart>, u64), Memory>
     requires least_width { 20 ≤ width }
     requires most_width { width ≤ 500 }
-    requires tidy { IsTidy part.now }
     requires small { size_of (plain part.now.trace.value) ≤ 1000000 }
-    requires distinct { IsDistinct bytes_eq (laid_paths (map (λ p. p.value) old.now)) }
-    requires laid { All (λ p. IsLaidPart width p.value) old.now }
-    requires same { All (λ p. IsOfValue p.value part.now) old.now }
+    requires distinct { IsDistinct bytes_eq (laid_paths old.now) }
+    requires laid { All (λ p. IsLaidPart width p.laid.value) old.now }
+    requires same { All (λ p. IsOfValue p part.now) old.now }
     ensures laid { IfOk result (λ r. IsLaidPart width r.0.value) }
-    ensures from { IfOk result (λ r. laid_from r.0.value ≡ record {
-      path = part.now.path;
-      value = value_under part.now.path part.now.trace.value;
-      before = attrs.now;
-    }) }
-    ensures items { IfOk result (λ r. r.1 ≡ if is_reused (map (λ p. p.value) old.now) part.now attrs.now then 0
+    ensures value { IfOk result (λ r. r.0.value.value ≡ part.now.trace.value) }
+    ensures before { IfOk result (λ r. r.0.value.before ≡ attrs.now) }
+    ensures paragraphs { IfOk result (λ r. r.0.value.paragraphs.items
+        ≡ part_paragraphs (show attrs.now part.now.trace.value).form
+        (given_back_by frames.now (show attrs.now part.now.trace.value).after)) }
+    ensures items { IfOk result (λ r. r.1 ≡ if is_reused old.now part.now attrs.now then 0
         else items_in r.0.value.paragraphs.items) }
     ensures few { IfOk result (λ r. r.1 ≤ 242000000) }
     ensures counted { IfOk result (λ r. steps.new ≡ steps.old + r.1) }
     ensures rises { steps.old ≤ steps.new }
 {
     match reused(old, part, attrs, near) {
-        Some(laid) => Ok((laid.clone()?, 0)),
-        None => new_laid(alloc, part, attrs, width, steps),
+        Some(placed) => {
+            let laid = laid_again(alloc, &placed.laid, frames, width, steps)?;
+            Ok((laid, 0))
+        }
+        None => new_laid(alloc, part, attrs, frames, width, steps),
     }
 }

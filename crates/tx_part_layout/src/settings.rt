@@ -1,14 +1,22 @@
-// The names and texts of a `with`.
+// The names and texts of a `with`, and what is given back behind it.
 ghost use Rattle.std.specs.Prelude.{◌≡◌, Some, IfOk, OnOk};
 ghost use Rattle.tx_tree.specs.WideTree.{WideTree, children_of};
 ghost use Rattle.tx_parts.specs.Openness.{Settings as TextSettings, With, openness, settings_in};
 ghost use Rattle.tx_part_items.specs.ShownParts.{settings_set, settings_given_back};
+ghost use Rattle.tx_part_layout.specs.Laying.{given_back_by};
 
 use std::alloc::Global;
 use tx_base::Memory;
 use tx_items::Attrs;
 use tx_tree::{Text, Tree};
 use tx_walk::text_at;
+
+/// A `with` inside which parts stand: its names and texts in order, and the attributes before it.
+#[derive(Drop)]
+pub(crate) struct Frame {
+    pub(crate) settings: Vec<(Text, Text)>,
+    pub(crate) before: Attrs,
+}
 
 /// The names and texts of a `with`, in order.
 pub(crate) fn settings_of(alloc: Global, t: &Tree) -> Result<Vec<(Text, Text)>, Memory>
@@ -69,6 +77,18 @@ pub(crate) fn restore_each(
     let count = settings.len();
     for i in 0..count {
         attrs.restore(&settings[count - 1 - i].0, before)?;
+    }
+    Ok(())
+}
+
+/// What the `with`s set is again what it was before each, the inner ones first.
+pub(crate) fn give_back(frames: &[Frame], attrs: &mut Attrs) -> Result<(), Memory>
+    ensures { OnOk result (attrs.new ≡ given_back_by frames.now attrs.old) }
+{
+    let count = frames.len();
+    for i in 0..count {
+        let frame = &frames[count - 1 - i];
+        restore_each(&frame.settings, &frame.before, attrs)?;
     }
     Ok(())
 }

@@ -9,7 +9,6 @@ ghost use Rattle.tx_exec_form.specs.Runs.{Before};
 ghost use Rattle.tx_exec_form.specs.Evaluated.{WideTrace};
 ghost use Rattle.tx_parts.specs.Composed.{evaluates};
 ghost use Rattle.tx_parts.specs.Parts.{parts as tree_parts, stored};
-ghost use Rattle.tx_walk.specs.Walked.{IsTidy};
 ghost use Rattle.tx_items.specs.Shows.{show, shown_paragraphs};
 ghost use Rattle.tx_view_form.specs.Views.{AreLines};
 ghost use Rattle.tx_part_items.specs.ShownParts.{kept_values, parts_shown};
@@ -17,10 +16,10 @@ ghost use Rattle.tx_part_layout.specs.LaidParts.{IsLaidPart, IsOfValue, IsLaidUn
 ghost use Rattle.tx_part_layout.specs.LaidParts.{whole_shown, ShowsValue};
 ghost use Rattle.tx_part_layout.specs.Laying.{HasLaid, IsRightSoFar};
 
-use crate::laid::{LaidPart, LaidUnit};
+use crate::laid::{LaidUnit, PlacedPart};
 use crate::laying::{Laying, end_unit, lay_tree};
+use crate::under::lines_under_law;
 use std::alloc::Global;
-use std::rc::Rc;
 use std::sync::ledger::Ledger;
 use tx_base::{Memory, Steps};
 use tx_items::Attrs;
@@ -36,28 +35,28 @@ pub fn lay_parts<L: Ledger>(
     tree: &Tree,
     parts: &[Part],
     attrs: &Attrs,
-    old: &[Rc<LaidPart>],
+    old: &[PlacedPart],
     width: u32,
     steps: &mut Steps<L>,
 ) -> Result<LaidUnit, Memory>
     requires least_width { 20 ≤ width }
     requires most_width { width ≤ 500 }
     requires few { length parts.now < 2 ^ 32 }
-    requires tidy { All IsTidy parts.now }
     requires small { All (λ d. size_of (plain d.trace.value) ≤ 1000000) parts.now }
-    requires distinct { IsDistinct bytes_eq (laid_paths (map (λ p. p.value) old.now)) }
-    requires laid { All (λ p. IsLaidPart width p.value) old.now }
-    requires same { All (λ d. All (λ p. IsOfValue p.value d) old.now) parts.now }
+    requires distinct { IsDistinct bytes_eq (laid_paths old.now) }
+    requires laid { All (λ p. IsLaidPart width p.laid.value) old.now }
+    requires same { All (λ d. All (λ p. IsOfValue p d) old.now) parts.now }
     ensures laid { IfOk result (λ u. IsLaidUnit width (whole_shown attrs.now parts.now tree.now) u) }
     ensures shown { (c : ℕ) (e : Before) (trace : WideTrace) → evaluates MOST_LEVELS c tree.now e ≡ Some trace
         → kept_values (map stored (tree_parts MOST_LEVELS c [] tree.now e)) ≡ map done_value parts.now
         → IfOk result (λ u. ShowsValue width attrs.now trace.value parts.now u) }
-    ensures items { IfOk result (λ u. u.items ≡ items_anew (map (λ p. p.value) old.now) parts.now
+    ensures items { IfOk result (λ u. u.items ≡ items_anew old.now parts.now
         (whole_shown attrs.now parts.now tree.now).each) }
     ensures counted { IfOk result (λ u. steps.new ≡ steps.old + u.items) }
     ensures rises { steps.old ≤ steps.new }
 {
     parts_shown_law();
+    lines_under_law();
     let mut laying = Laying::new(alloc, attrs.copy()?);
     lay_tree(alloc, tree, 400, parts, old, width, &mut laying, steps)?;
     end_unit(alloc, width, &mut laying, steps)?;

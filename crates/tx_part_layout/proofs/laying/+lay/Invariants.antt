@@ -1,4 +1,4 @@
-use Rattle.std.proofs.Common.{◌≡◌, ◌+◌, ◌*◌, ◌≤◌, false, drop, map}
+use Rattle.std.proofs.Common.{◌≡◌, ◌+◌, ◌*◌, ◌≤◌, drop}
 use Rattle.tx_part_items.specs.ShownParts.{parts_shown, children_shown}
 use Rattle.tx_part_layout.specs.declared.laying.Laying.{Laying}
 use Rattle.tx_part_layout.specs.Laying.{HasLaid, IsRightSoFar, left_values}
@@ -19,14 +19,13 @@ decreases-lay_with g l = 4 * l.levels + 1
 abbrev pub invariant-lay_children-loop-kid : goal.invariant-lay_children-loop-kid
 invariant-lay_children-loop-kid g l = record {
   going : (z : Laying) →
-      HasLaid (map (λ p. p.value) l.old) l.parts (λ b. b)
+      HasLaid l.old l.parts
       (children_shown (parts_shown l.levels) l.laying.attrs (left_values l.parts l.laying.next)
       (drop l.kid-index l.kid-items)) l.laying z →
-      HasLaid (map (λ p. p.value) l.old) l.parts (λ b. b)
+      HasLaid l.old l.parts
       (children_shown (parts_shown l.levels) l.fn.laying.attrs (left_values l.parts l.fn.laying.next) l.kid-items)
       l.fn.laying z;
   right : IsRightSoFar l.width l.laying;
-  ended : l.laying.blank ≡ false;
   counted : l.steps + l.fn.laying.unit.items ≡ l.fn.steps + l.laying.unit.items;
   rises : l.fn.steps ≤ l.steps;
 }

@@ -1,56 +1,65 @@
-use Rattle.std.proofs.Common.{◌+◌, ◌∙◌, ◌∷◌, ◌++◌, [], map, refl, ap, sym, subst, length, ltb-true}
-use Rattle.std.specs.List.{All}
-use Rattle.std.proofs.lemmas.List.{map-append}
-use Rattle.std.proofs.lemmas.List.Elements.{All-append, All-cons, All-nil}
+use Rattle.std.proofs.Common.{◌+◌, ◌*◌, ◌≤◌, ◌∙◌, refl, ap, sym, subst, length, ltb-true}
 use Rattle.std.proofs.lemmas.Option.{slice_get_read}
-use Rattle.tx_part_layout.specs.declared.laid.LaidPart.{LaidPart}
-use Rattle.tx_part_layout.specs.LaidParts.{IsLaidPart}
-use Rattle.tx_part_layout.specs.Laying.{own_shown, own_lines}
-use Rattle.tx_part_layout.proofs.Growing.{one_laid, one_right}
+use Rattle.tx_tree.specs.WideTree.{size_of}
+use Rattle.tx_origin.specs.Values.{WideValue, plain}
+use Rattle.tx_items.specs.Shows.{show, part_paragraphs, shown_paragraphs}
+use Rattle.tx_view_form.specs.Weights.{weight_of}
+use Rattle.tx_walk.specs.declared.part.Part.{Part as DonePart}
+use Rattle.tx_part_layout.specs.declared.laid.PlacedPart.{PlacedPart}
+use Rattle.tx_part_layout.specs.Laying.{given_back_by}
+use Rattle.tx_part_layout.proofs.Few.{few_lines}
+use Rattle.tx_part_layout.proofs.OnePart.{one_laid}
+use Rattle.tx_part_layout.proofs.Reusing.{all_there}
+use Rattle.tx_part_layout.proofs.SoFar.{one_right}
 use Rattle.tx_part_layout.proofs.laying.next_part.Goals as goal
 
 pub returns-clause-laid : goal.returns-clause-laid
-returns-clause-laid g c = λ back t.
-    one_laid c.items_under_law.ensures.shown c.items_under_law.ensures.part c.args.width _ c.args.parts.now
-    c.in-Some.part.now c.in_ok-laid.laid.value c.in_ok-laid.items c.args.laying.now _ t
-    (slice_get_read c.args.parts.now (length c.args.parts.now) c.args.laying.now.next c.in-Some.part.now refl
-    (ltb-true c.args.laying.now.next (length c.args.parts.now) (sym c.in-Some.ensures.lookup.0))
-    c.in-Some.ensures.lookup.1)
+returns-clause-laid g c = λ t.
+    let x = c.args.laying.now in
+    let d = c.in-Some.part.now in
+    let one = c.in_ok-laid.ensures in
+    let added = c.in_ok-add_part.ensures in
+    let q : PlacedPart = record { path = c.in_ok-copy.field-0; above = x.rows; laid = c.in_ok-laid.laid } in
+    one_laid c.args.width c.args.old.now c.args.parts.now d q c.in_ok-laid.items x _ t
+    (slice_get_read c.args.parts.now (length c.args.parts.now) x.next d refl
+    (ltb-true x.next (length c.args.parts.now) (sym c.in-Some.ensures.lookup.0)) c.in-Some.ensures.lookup.1)
     (record {
-      laid = c.in_ok-laid.ensures.laid;
-      from = c.in_ok-laid.ensures.from;
-      anew = c.in_ok-laid.ensures.items;
-      next = refl;
-      attrs = c.in_ok-laying.ensures ∙ ap (λ (p : LaidPart). p.after) c.deref-2.ensures;
-      blank = ap (λ (p : LaidPart). p.blank) c.deref-3.ensures;
-      parts =
-          ap (map (λ q. q.value))
-          (c.in_ok-push.ensures.items
-          ∙ ap (λ qs. qs.items ++ c.in_ok-laid.laid ∷ []) c.in_ok-add_shown.ensures.parts)
-          ∙ map-append (λ q. q.value) c.args.laying.now.unit.parts.items (c.in_ok-laid.laid ∷ []);
-      paragraphs =
-          c.in_ok-add_shown.ensures.paragraphs
-          ∙ ap (λ (p : LaidPart). c.args.laying.now.unit.paragraphs.items ++ own_shown p) c.deref.ensures;
-      errors =
-          c.in_ok-add_shown.ensures.errors
-          ∙ ap (λ (p : LaidPart). c.args.laying.now.unit.errors.items ++ p.errors.items) c.deref.ensures;
-      items = ap (λ n. n + c.in_ok-laid.items) c.in_ok-add_shown.ensures.items;
+      laid = one.laid;
+      path = c.in_ok-copy.ensures;
+      value = one.value;
+      before = one.before;
+      own =
+          one.paragraphs
+          ∙ ap (λ fs. part_paragraphs (show x.attrs d.trace.value).form
+          (given_back_by fs (show x.attrs d.trace.value).after)) c.deref.ensures.value;
+      anew = one.items;
+      next = ap (λ n. n + 1) added.next;
+      attrs = added.attrs;
+      frames = ap (λ fs. fs.items) added.frames;
+      parts = added.parts;
+      errors = added.errors;
+      rest = ap (λ ps. ps.items) added.rest;
+      rest_lines = added.rest_lines;
+      items = ap (λ n. n + c.in_ok-laid.items) added.items;
     })
-    back
 
 pub returns-clause-right : goal.returns-clause-right
 returns-clause-right g c =
-    let all = All-append (λ q. IsLaidPart c.args.width q.value) c.args.laying.now.unit.parts.items
-    (c.in_ok-laid.laid ∷ []) c.requires.right.each
-    (All-cons (λ q. IsLaidPart c.args.width q.value) c.in_ok-laid.laid [] c.in_ok-laid.ensures.laid
-    (All-nil (λ q. IsLaidPart c.args.width q.value))) in
-    one_right c.args.width c.in_ok-laid.items c.in_ok-laid.laid.value c.args.laying.now _ c.in_ok-laid.ensures.laid
-    c.requires.right
-    (subst (All (λ q. IsLaidPart c.args.width q.value))
-    (sym (c.in_ok-push.ensures.items
-    ∙ ap (λ qs. qs.items ++ c.in_ok-laid.laid ∷ []) c.in_ok-add_shown.ensures.parts)) all)
-    (c.in_ok-add_shown.ensures.paragraphs
-    ∙ ap (λ (p : LaidPart). c.args.laying.now.unit.paragraphs.items ++ own_shown p) c.deref.ensures)
-    (c.in_ok-add_shown.ensures.lines
-    ∙ ap (λ (p : LaidPart). c.args.laying.now.unit.lines.items ++ own_lines p) c.deref.ensures)
-    refl (ap (λ n. n + c.in_ok-laid.items) c.in_ok-add_shown.ensures.items) c.in_ok-laid.ensures.few
+    let x = c.args.laying.now in
+    let d = c.in-Some.part.now in
+    let one = c.in_ok-laid.ensures in
+    let added = c.in_ok-add_part.ensures in
+    let p = c.in_ok-laid.laid.value in
+    let q : PlacedPart = record { path = c.in_ok-copy.field-0; above = x.rows; laid = c.in_ok-laid.laid } in
+    let at = slice_get_read c.args.parts.now (length c.args.parts.now) x.next d refl
+    (ltb-true x.next (length c.args.parts.now) (sym c.in-Some.ensures.lookup.0)) c.in-Some.ensures.lookup.1 in
+    let small : size_of (plain d.trace.value) ≤ 1000000 =
+    all_there (λ (e : DonePart). size_of (plain e.trace.value) ≤ 1000000) c.args.parts.now x.next d c.requires.small
+    at in
+    let weight =
+    subst (λ (v : WideValue). weight_of (shown_paragraphs p.before v) ≤ 242 * size_of (plain d.trace.value))
+    (sym one.value)
+    (c.weight_laws.ensures.value p.before d.trace.value c.size-size.ensures.well_formed) in
+    one_right c.args.width c.in_ok-laid.items q x _ one.laid c.requires.right added.parts refl added.rows added.some
+    (ap (λ n. n + 1) added.next) (ap (λ n. n + c.in_ok-laid.items) added.items) one.few
+    (few_lines c.args.width (size_of (plain d.trace.value)) p one.laid c.weight_laws.ensures.lines weight small)

@@ -2,7 +2,7 @@ use Rattle.std.proofs.Common.{◌≡◌, ◌++◌, List, [], sym, subst, arith, 
 use Rattle.tx_layout.specs.declared.layout.Line.{Line}
 use Rattle.tx_view_form.specs.Views.{AreLines, no_lines}
 use Rattle.tx_part_layout.proofs.Lining.{lines_next}
-use Rattle.tx_part_layout.proofs.Lining.{items_next}
+use Rattle.tx_part_layout.proofs.Few.{items_next}
 use Rattle.tx_part_layout.proofs.part.lines_of.Goals as goal
 
 pub loop-paragraph-init : goal.loop-paragraph-init

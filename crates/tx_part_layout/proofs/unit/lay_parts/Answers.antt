@@ -1,57 +1,60 @@
-use Rattle.std.proofs.Common.{[], ◌∙◌, ap, map}
+use Rattle.std.proofs.Common.{[], ◌∙◌, map}
 use Rattle.tx_exec_form.specs.declared.TheConstants.{MOST_LEVELS}
 use Rattle.tx_parts.specs.Parts.{stored, parts}
-use Rattle.tx_part_layout.proofs.Wholes.{whole_laid, whole_items, shows_value, shown_by, nothing_right}
+use Rattle.tx_part_layout.proofs.SoFar.{nothing_right}
+use Rattle.tx_part_layout.proofs.Wholes.{whole_laid, whole_items, shows_value, shown_by}
 use Rattle.tx_part_layout.proofs.unit.lay_parts.Goals as goal
 
 pub lay_tree-requires-clause-right : goal.lay_tree-requires-clause-right
 lay_tree-requires-clause-right g c =
-    let e = c.new-laying.ensures in
-    nothing_right c.args.width c.new-laying.result e.parts e.paragraphs e.lines e.items
+    let e = c.new-laying.ensures in nothing_right c.args.width c.new-laying.result e.parts e.rows e.some e.items
 
 pub returns-clause-laid : goal.returns-clause-laid
 returns-clause-laid g c =
     let e = c.new-laying.ensures in
     let f = c.in_ok-end_unit.ensures in
-    whole_laid c.args.width (map (λ p. p.value) c.args.old.now) c.args.parts.now c.args.attrs.now c.args.tree.now
+    whole_laid c.args.width c.args.old.now c.args.parts.now c.args.attrs.now c.args.tree.now
     c.new-laying.result c.lay_tree.new.laying c.end_unit.new.laying
     (record {
       attrs = e.attrs ∙ c.in_ok-copy.ensures;
+      frames = e.frames;
       next = e.next;
       parts = e.parts;
-      paragraphs = e.paragraphs;
       errors = e.errors;
       items = e.items;
     })
     c.in_ok-lay_tree.ensures.laid
     (record {
-      right = f.right;
+      right = c.in_ok-lay_tree.ensures.right;
       paragraphs = f.paragraphs;
-      parts = ap (λ ps. map (λ p. p.value) ps.items) f.parts;
-      errors = ap (λ es. es.items) f.errors;
+      lines = f.lines;
+      parts = f.parts;
+      errors = f.errors;
       items = f.items;
     })
+    c.lines_under_law.ensures.lines
 
 pub returns-clause-items : goal.returns-clause-items
 returns-clause-items g c =
     let e = c.new-laying.ensures in
     let f = c.in_ok-end_unit.ensures in
-    whole_items c.args.width (map (λ p. p.value) c.args.old.now) c.args.parts.now c.args.attrs.now c.args.tree.now
+    whole_items c.args.width c.args.old.now c.args.parts.now c.args.attrs.now c.args.tree.now
     c.new-laying.result c.lay_tree.new.laying c.end_unit.new.laying
     (record {
       attrs = e.attrs ∙ c.in_ok-copy.ensures;
+      frames = e.frames;
       next = e.next;
       parts = e.parts;
-      paragraphs = e.paragraphs;
       errors = e.errors;
       items = e.items;
     })
     c.in_ok-lay_tree.ensures.laid
     (record {
-      right = f.right;
+      right = c.in_ok-lay_tree.ensures.right;
       paragraphs = f.paragraphs;
-      parts = ap (λ ps. map (λ p. p.value) ps.items) f.parts;
-      errors = ap (λ es. es.items) f.errors;
+      lines = f.lines;
+      parts = f.parts;
+      errors = f.errors;
       items = f.items;
     })
 
