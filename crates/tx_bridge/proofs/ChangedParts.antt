@@ -22,11 +22,13 @@ use Rattle.tx_bridge.specs.Carrying.{AllStand, StandsNow}
 use Rattle.tx_bridge.specs.Slots.{bodies_of}
 use Rattle.tx_bridge.specs.HeldParts.{HoldsPart, kept_parts}
 use Rattle.tx_bridge.specs.CarryingParts.{parts_behind, parts_within, parts_but}
-use Rattle.tx_bridge.specs.Others.{parts_of, put_from}
+use Rattle.tx_bridge.specs.MovedParts.{AreMovedParts}
+use Rattle.tx_bridge.specs.Others.{kept_of, parts_of, put_from}
 use Rattle.tx_bridge.proofs.Slotting.{some_once}
 use Rattle.tx_bridge.proofs.Arrived.{units_bodies}
 use Rattle.tx_bridge.proofs.Single.{body_at as unit_at}
 use Rattle.tx_bridge.proofs.Changing.{AllHoldIn, changed_parts}
+use Rattle.tx_bridge.proofs.OtherParts.{kept_put, tidy_all, held_tidy}
 use Rattle.tx_bridge.proofs.WithinUnit.{clash, parts_hold_behind}
 use Rattle.tx_walk.proofs.Trees.{both}
 
@@ -74,16 +76,15 @@ stands_for t bs stand sound i b at p has ps is =
       subst (AllByRecursion (HoldsPart b.unit.tagged.tree)) (sym is) s.parts.hold,
     )
 
-pub within_some : (ms : List Mod) (t : WideTree) (bs : List Bridge) (i : ℕ) (b : Bridge) → slice_get bs i ≡ Some b
-    → (p : List ℕ) → b.unit.path ≡ Some p → (ps : List DonePart) → ps ≡ b.parts → (qs : List DonePart)
-    → kept_parts qs ≡ parts_behind ms t p (kept_parts ps) → (c : Bridge) → slice_get bs i ≡ Some c
-    → kept_parts qs ≡ parts_within ms t c.unit (kept_parts c.parts)
-within_some ms t bs i b at p has ps is qs behind c there =
-    let same : c ≡ b = some_once (slice_get bs i) c b there at in
-    behind
-    ∙ ap (λ xs. parts_behind ms t p (kept_parts xs)) (is ∙ ap (λ (w : Bridge). w.parts) (sym same))
-    ∙ sym (ap (λ o. option_map_or (λ q. parts_behind ms t q (kept_parts c.parts)) o [])
-    (ap (λ (w : Bridge). w.unit.path) same ∙ has))
+-- what is told of the unit's parts, which stands at p, is told of those of the entry of this number
+pub moved_there : (ms : List Mod) (t : WideTree) (bs : List Bridge) (i : ℕ) (b : Bridge) → slice_get bs i ≡ Some b
+    → (p : List ℕ) → b.unit.path ≡ Some p → (ps : List DonePart) → ps ≡ b.parts → (os : List (ℕ × Option DonePart))
+    → ((u : DocUnit) → u.path ≡ Some p → AreMovedParts ms t u (kept_parts ps) os) → (c : Bridge)
+    → slice_get bs i ≡ Some c → AreMovedParts ms t c.unit (kept_parts c.parts) os
+moved_there ms t bs i b at p has ps is os moved c there =
+    let same : b ≡ c = some_once (slice_get bs i) b c at there in
+    subst (λ (w : Bridge). AreMovedParts ms t w.unit (kept_parts w.parts) os) same
+    (subst (λ xs. AreMovedParts ms t b.unit (kept_parts xs) os) is (moved b.unit has))
 
 none_kept : (ps : List DonePart) → kept_parts ps ≡ [] → ps ≡ []
 none_kept [] h = refl
@@ -119,67 +120,101 @@ module _ (through : (ms : List Mod) (t : WideTree) (q : List ℕ) → CarriesThr
       → kept_parts ps ≡ parts_within ms before b.unit (kept_parts b.parts) → AllHoldIn t ps
   hold_changed b at ps once is = hold_at b at ps once b.unit.path refl is
 
--- the premises are what the calls ask for, and what they ensure
-
--- what is answered for the unit of number i
-abbrev Answers : ℕ → List Mod → WideTree → List Bridge → List DonePart → Type 0
-Answers i ms before bs ps =
-    (b : Bridge) → slice_get bs i ≡ Some b → kept_parts ps ≡ parts_within ms before b.unit (kept_parts b.parts)
-
-one_there : (i : ℕ) (ms : List Mod) (bs : List Bridge) → IsOneChanged i 0 ms (bodies_of bs)
-    → (b : Bridge) × (slice_get bs i ≡ Some b)
-one_there i ms bs one =
-    let x : (b : Bridge) × (slice_get bs i ≡ Some b) × (b.unit ≡ one.unit) = unit_at bs i one.unit one.there in
-    (x.0, x.1)
-
-pub within_hold : ((ms : List Mod) (t : WideTree) (q : List ℕ) → CarriesThroughAll ms t q)
-    → ((m : Mod) (t : WideTree) (q : List ℕ) → CarriesSubtree m t q) → (i : ℕ) (ms : List Mod) (before t : WideTree)
-    (bs read : List Bridge) (kept : Kept) → read ≡ bs → entries_of bs ≡ kept
-    → ((u : WideTree) × (changed_by_all ms before ≡ Some u)) → All IsSound bs → IsOneChanged i 0 ms (units_of kept)
-    → AllStand before (units_of kept)
-    → ((u : WideTree) → changed_by_all ms before ≡ Some u → StandsNow i t u (units_of kept))
-    → (ps : List DonePart) → All IsTidy ps → Answers i ms before read ps → AllHoldIn t ps
-within_hold through carries i ms before t bs read kept is was made sound one old new ps once answers =
-    let bodies : units_of kept ≡ bodies_of bs = bodies_are bs kept was in
-    let at : (b : Bridge) × (slice_get bs i ≡ Some b) =
-    one_there i ms bs (subst (IsOneChanged i 0 ms) bodies one) in
-    hold_changed through carries i ms before made.0 t made.1 bs sound (subst (AllStand before) bodies old)
-    (subst (StandsNow i t made.0) bodies (new made.0 made.1)) at.0 at.1 ps
-    (recursion_from_All IsTidy ps once) (answers at.0 (ap (λ cs. slice_get cs i) is ∙ at.1))
-
-pub parts_but_is : (i : ℕ) (ms : List Mod) (before t : WideTree) (bs read : List Bridge) (kept : Kept)
-    (pss : List KeptParts) → read ≡ bs → entries_of bs ≡ kept → parts_in bs ≡ pss → (ps : List DonePart)
-    → Answers i ms before read ps → parts_in (changed_in i t ps bs) ≡ parts_but ms before i (units_of kept) pss
-parts_but_is i ms before t bs read kept pss is was had ps answers =
-    changed_parts i ms before t ps bs (λ b at. answers b (ap (λ cs. slice_get cs i) is ∙ at))
-    ∙ ap (λ us. parts_but ms before i us (parts_in bs)) (sym (bodies_are bs kept was))
-    ∙ ap (parts_but ms before i (units_of kept)) had
-
 -- ---- others are put in places of the unit's parts
 
 -- all modifications are inside the tree of the unit of this number, which has a path
 pub within_for : (ms : List Mod) (bs : List Bridge) (i : ℕ) (b : Bridge) → slice_get bs i ≡ Some b
     → IsOneChanged i 0 ms (bodies_of bs) → (p : List ℕ) → b.unit.path ≡ Some p → are_within p ms ≡ true
 within_for ms bs i b at one p has =
-    let same : one.unit ≡ b.unit = some_once (slice_get (bodies_of bs) i) one.unit b.unit one.there (body_at bs i b at) in
+    let same : one.unit ≡ b.unit =
+    some_once (slice_get (bodies_of bs) i) one.unit b.unit one.there (body_at bs i b at) in
     (both (is_gone p ms) (are_within p ms)
-    (sym (ap (λ o. option_map_or (λ q. is_gone q ms && are_within q ms) o false) (ap (λ (u : DocUnit). u.path) same ∙ has))
-    ∙ one.changed)).1
+    (sym (ap (λ o. option_map_or (λ q. is_gone q ms && are_within q ms) o false)
+    (ap (λ (u : DocUnit). u.path) same ∙ has)) ∙ one.changed)).1
 
 pub never_bare : (ms : List Mod) (bs : List Bridge) (i : ℕ) (b : Bridge) → slice_get bs i ≡ Some b
     → IsOneChanged i 0 ms (bodies_of bs) → b.unit.path ≡ None → ⊥
 never_bare ms bs i b at one none =
-    let same : one.unit ≡ b.unit = some_once (slice_get (bodies_of bs) i) one.unit b.unit one.there (body_at bs i b at) in
+    let same : one.unit ≡ b.unit =
+    some_once (slice_get (bodies_of bs) i) one.unit b.unit one.there (body_at bs i b at) in
     clash (ap (λ o. option_map_or (λ q. is_gone q ms && are_within q ms) o false)
     (sym (ap (λ (u : DocUnit). u.path) same ∙ none)) ∙ one.changed)
 
 pub parts_there : (bs : List Bridge) (i : ℕ) (b : Bridge) → slice_get bs i ≡ Some b → parts_of i bs ≡ b.parts
 parts_there bs i b at = ap (λ o. option_map_or (λ (w : Bridge). w.parts) o []) at
 
--- the premises are what the calls ensure
-pub now_is : (i : ℕ) (t : WideTree) (os : List (ℕ × Option DonePart)) (bs read written new : List Bridge) → read ≡ bs
-    → written ≡ bs → new ≡ changed_in i t (put_from 0 os (parts_of i written)) written
-    → new ≡ changed_in i t (put_from 0 os (parts_of i read)) bs
-now_is i t os bs read written new is was h =
-    h ∙ ap (λ xs. changed_in i t (put_from 0 os (parts_of i xs)) xs) was
-    ∙ ap (λ xs. changed_in i t (put_from 0 os (parts_of i xs)) bs) (sym is)
+-- ---- what the calls ask for, and what they ensure
+
+unit_of_entry : (bs : List Bridge) (kept : Kept) → entries_of bs ≡ kept → (i : ℕ) (b : Bridge) → slice_get bs i ≡ Some b
+    → slice_get (units_of kept) i ≡ Some b.unit
+unit_of_entry bs kept was i b at = ap (λ us. slice_get us i) (bodies_are bs kept was) ∙ body_at bs i b at
+
+parts_at : (bs : List Bridge) (i : ℕ) (b : Bridge) → slice_get bs i ≡ Some b
+    → slice_get (parts_in bs) i ≡ Some (kept_parts b.parts)
+parts_at [] i b e = cc
+parts_at (x ∷ bs) zero b e = ap Some (ap (λ (w : Bridge). kept_parts w.parts) (same_Some x b e))
+parts_at (x ∷ bs) (suc i) b e = parts_at bs i b e
+
+-- these are the parts of the unit of this number that aren't found to stay
+abbrev pub AreMovedAt : ℕ → List Mod → WideTree → Kept → List KeptParts → List (ℕ × Option DonePart) → Type 0
+AreMovedAt i ms t kept pss os = (u : DocUnit) (ks : KeptParts) → slice_get (units_of kept) i ≡ Some u
+    → slice_get pss i ≡ Some ks → AreMovedParts ms t u ks os
+
+module _ (i : ℕ) (ms : List Mod) (before : WideTree) (os : List (ℕ × Option DonePart)) (bs : List Bridge) (kept : Kept)
+    (pss : List KeptParts) (was : entries_of bs ≡ kept) (had : parts_in bs ≡ pss) where
+  -- what is told of the entry of this number is told of what is seen of it
+  pub moved_told : (read : List Bridge) → read ≡ bs
+      → ((b : Bridge) → slice_get read i ≡ Some b → AreMovedParts ms before b.unit (kept_parts b.parts) os)
+      → AreMovedAt i ms before kept pss os
+  moved_told read is told u ks at there =
+      let x : (b : Bridge) × (slice_get bs i ≡ Some b) × (b.unit ≡ u) =
+      unit_at bs i u (ap (λ us. slice_get us i) (sym (bodies_are bs kept was)) ∙ at) in
+      let same : kept_parts x.0.parts ≡ ks =
+      same_Some (kept_parts x.0.parts) ks
+      (sym (parts_at bs i x.0 x.1) ∙ ap (λ qs. slice_get qs i) had ∙ there) in
+      subst (λ v. AreMovedParts ms before v ks os) x.2
+      (subst (λ qs. AreMovedParts ms before x.0.unit qs os) same (told x.0 (ap (λ cs. slice_get cs i) is ∙ x.1)))
+
+  module _ (moved : AreMovedAt i ms before kept pss os) where
+    moved_of : (b : Bridge) → slice_get bs i ≡ Some b → AreMovedParts ms before b.unit (kept_parts b.parts) os
+    moved_of b at =
+        moved b.unit (kept_parts b.parts) (unit_of_entry bs kept was i b at)
+        (ap (λ qs. slice_get qs i) (sym had) ∙ parts_at bs i b at)
+
+    -- what is kept of the unit's parts, where they are put
+    kept_moved : (b : Bridge) → slice_get bs i ≡ Some b
+        → kept_parts (put_from 0 os (parts_of i bs)) ≡ parts_within ms before b.unit (kept_parts b.parts)
+    kept_moved b at =
+        kept_put 0 os (parts_of i bs)
+        ∙ ap (λ ps. put_from 0 (kept_of os) (kept_parts ps)) (parts_there bs i b at) ∙ (moved_of b at).kept
+
+    pub parts_moved : (t : WideTree) → parts_in (changed_in i t (put_from 0 os (parts_of i bs)) bs)
+        ≡ parts_but ms before i (units_of kept) pss
+    parts_moved t =
+        changed_parts i ms before t (put_from 0 os (parts_of i bs)) bs kept_moved
+        ∙ ap (λ us. parts_but ms before i us (parts_in bs)) (sym (bodies_are bs kept was))
+        ∙ ap (parts_but ms before i (units_of kept)) had
+
+    pub moved_hold : ((ms : List Mod) (t : WideTree) (q : List ℕ) → CarriesThroughAll ms t q)
+        → ((m : Mod) (t : WideTree) (q : List ℕ) → CarriesSubtree m t q) → (t : WideTree)
+        → ((u : WideTree) × (changed_by_all ms before ≡ Some u)) → All IsSound bs → IsOneChanged i 0 ms (units_of kept)
+        → AllStand before (units_of kept)
+        → ((u : WideTree) → changed_by_all ms before ≡ Some u → StandsNow i t u (units_of kept))
+        → AllHoldIn t (put_from 0 os (parts_of i bs))
+    moved_hold through carries t made sound one old new =
+        let bodies : units_of kept ≡ bodies_of bs = bodies_are bs kept was in
+        let x : (b : Bridge) × (slice_get bs i ≡ Some b) × (b.unit ≡ one.unit) =
+        unit_at bs i one.unit (ap (λ us. slice_get us i) (sym bodies) ∙ one.there) in
+        let s : IsSound x.0 = sound_at bs (recursion_from_All IsSound bs sound) i x.0 x.1 in
+        let tidy : All IsTidy (parts_of i bs) =
+        subst (All IsTidy) (sym (parts_there bs i x.0 x.1))
+        (held_tidy x.0.unit.tagged.tree x.0.parts s.parts.hold) in
+        hold_changed through carries i ms before made.0 t made.1 bs sound (subst (AllStand before) bodies old)
+        (subst (StandsNow i t made.0) bodies (new made.0 made.1)) x.0 x.1 (put_from 0 os (parts_of i bs))
+        (recursion_from_All IsTidy (put_from 0 os (parts_of i bs))
+        (tidy_all os (parts_of i bs) (moved_of x.0 x.1).tidy tidy)) (kept_moved x.0 x.1)
+
+pub now_is : (i : ℕ) (t : WideTree) (os : List (ℕ × Option DonePart)) (bs written new : List Bridge) → written ≡ bs
+    → new ≡ changed_in i t (put_from 0 os (parts_of i written)) written
+    → new ≡ changed_in i t (put_from 0 os (parts_of i bs)) bs
+now_is i t os bs written new was h = h ∙ ap (λ xs. changed_in i t (put_from 0 os (parts_of i xs)) xs) was

@@ -186,7 +186,9 @@ module _ (base : List ℕ) (ms : List Mod) (q : List ℕ) (i : ℕ) (h : KeepsOn
     ahead = drop_more ms i d inside
 
     all : (begins base (path_of m) ≡ true) × (are_within base (drop (i + 1) ms) ≡ true)
-    all = both (begins base (path_of m)) (are_within base (drop (i + 1) ms)) (ap (are_within base) (sym ahead) ∙ h.within)
+    all =
+        both (begins base (path_of m)) (are_within base (drop (i + 1) ms))
+        (ap (are_within base) (sym ahead) ∙ h.within)
 
     rest : keeps_place m q && all_keep_place (drop (i + 1) ms) q ≡ all_keep_place ms q
     rest = ap (λ ns. all_keep_place ns q) (sym ahead) ∙ h.same

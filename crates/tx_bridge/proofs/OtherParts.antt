@@ -1,27 +1,32 @@
--- The parts of a unit that aren't found to stay are put in their places.
+-- The parts of a unit that aren't found to stay, and where they stand afterwards.
 use Rattle.std.proofs.Common.{◌≡◌, ℕ, zero, suc, ◌+◌, ◌<◌, List, [], ◌∷◌, ◌++◌, length, drop, map, refl, sym, ap}
 use Rattle.std.proofs.Common.{Option, Some, None, ◌∙◌, arith, get_or, subst}
 use Rattle.std.proofs.lemmas.Bool.Decides.{Decides-eqb}
 use Rattle.std.proofs.lemmas.List.{append_assoc, drop_more, map-append}
 use Rattle.std.proofs.lemmas.List.Elements.{All-from_recursion, recursion_from_All, All-push}
+use Rattle.std.proofs.lemmas.Option.{same_Some}
 use Rattle.std.specs.List.{All, AllByRecursion}
+use Rattle.std.specs.Option.{option_map_or}
 use Rattle.std.specs.Prelude.{Bool, true, false, ◌==◌, if◌then◌else◌, slice_get, option_map, option_and_then, IfSome}
 use Rattle.tx_tree.specs.WideTree.{WideTree}
 use Rattle.tx_tree.specs.Paths.{subtree}
 use Rattle.tx_mod.specs.declared.mods.Mod.{Mod}
 use Rattle.tx_mod.specs.Followed.{changed_by_all, carried_by_all}
+use Rattle.tx_mod.specs.Moves.{rest_behind}
 use Rattle.tx_mod.proofs.Kept.{subtree_behind}
 use Rattle.tx_parts.specs.Parts.{Stored}
 use Rattle.tx_walk.specs.declared.part.Part.{Part as DonePart}
 use Rattle.tx_walk.specs.Walked.{IsTidy}
 use Rattle.tx_bridge.specs.Carrying.{through, Leads, AllLead}
-use Rattle.tx_bridge.specs.CarryingParts.{part_at, and_part, parts_behind}
+use Rattle.tx_units.specs.declared.kinds.Unit.{Unit as DocUnit}
+use Rattle.tx_bridge.specs.CarryingParts.{part_at, and_part, carried_below, parts_behind}
+use Rattle.tx_bridge.specs.MovedParts.{AreMovedParts, moves_of, places_by}
 use Rattle.tx_bridge.specs.HeldParts.{HoldsPart, kept_part, kept_parts}
 use Rattle.tx_bridge.specs.Nested.{KeptParts}
 use Rattle.tx_bridge.specs.Keeping.{all_keep_place}
 use Rattle.tx_bridge.specs.Others.{others_from, path_of_part, kept_there, kept_others, kept_of, and_some, put_from}
 use Rattle.tx_bridge.proofs.Inside.{rest_own}
-use Rattle.tx_bridge.proofs.WithinUnit.{at_path}
+use Rattle.tx_bridge.proofs.WithinUnit.{at_path, part_paths}
 use Rattle.tx_bridge.proofs.KeptPlaces.{places_stay}
 use Rattle.tx_bridge.proofs.Putting.{differs, IsAhead, put_past, put_here}
 
@@ -36,7 +41,7 @@ kept_and : (o : Option DonePart) (ps : List DonePart) → kept_parts (and_some o
 kept_and None ps = refl
 kept_and (Some q) ps = refl
 
-kept_put : (i : ℕ) (os : List (ℕ × Option DonePart)) (ps : List DonePart)
+pub kept_put : (i : ℕ) (os : List (ℕ × Option DonePart)) (ps : List DonePart)
     → kept_parts (put_from i os ps) ≡ put_from i (kept_of os) (kept_parts ps)
 kept_put i [] ps = refl
 kept_put i (o ∷ os) [] = refl
@@ -75,15 +80,64 @@ tidy_put i (o ∷ os) (p ∷ ps) h g =
 
 -- ---- each part is found to stay, or another one is put
 
-abbrev with_numbers : (ℕ → Option Stored) → List ℕ → List (ℕ × Option Stored)
+abbrev with_numbers : {B : Type 0} → (ℕ → Option B) → List ℕ → List (ℕ × Option B)
 with_numbers f ns = map (λ n. (n, f n)) ns
+
+-- ---- where parts stand, as it is told
+
+module _ (i : ℕ) (os : List (ℕ × Option (List ℕ))) (q : List ℕ) (qs : List (List ℕ)) where
+  place_past : IsAhead i os → places_by i os (q ∷ qs) ≡ Some q ∷ places_by (i + 1) os qs
+  place_past h = by os h
+    where
+      by : (ms : List (ℕ × Option (List ℕ))) → IsAhead i ms
+          → places_by i ms (q ∷ qs) ≡ Some q ∷ places_by (i + 1) ms qs
+      by [] h = refl
+      by (m ∷ ms) h =
+          ap (λ b. if b then m.1 ∷ places_by (i + 1) ms qs else Some q ∷ places_by (i + 1) (m ∷ ms) qs) h
+
+  place_here : (o : ℕ × Option (List ℕ)) → o.0 == i ≡ true
+      → places_by i (o ∷ os) (q ∷ qs) ≡ o.1 ∷ places_by (i + 1) os qs
+  place_here o h =
+      ap (λ b. if b then o.1 ∷ places_by (i + 1) os qs else Some q ∷ places_by (i + 1) (o ∷ os) qs) h
+
+none_placed : (i : ℕ) (os : List (ℕ × Option (List ℕ))) → places_by i os [] ≡ []
+none_placed i [] = refl
+none_placed i (o ∷ os) = refl
+
+-- where one stands that is put, or nowhere
+abbrev place_of : Option Stored → Option (List ℕ)
+place_of o = option_map (λ (k : Stored). k.path) o
+
+place_kept : (o : Option DonePart) → option_map (λ (d : DonePart). d.path) o ≡ place_of (option_map kept_part o)
+place_kept None = refl
+place_kept (Some d) = refl
+
+-- what is kept of the others tells where they stand
+moves_kept : (os : List (ℕ × Option DonePart)) → moves_of os ≡ map (λ k. (k.0, place_of k.1)) (kept_of os)
+moves_kept [] = refl
+moves_kept (o ∷ os) =
+    ap (λ q. (o.0, q) ∷ moves_of os) (place_kept o.1)
+    ∙ ap (λ ms. (o.0, place_of (option_map kept_part o.1)) ∷ ms) (moves_kept os)
+
+moves_numbers : (f : ℕ → Option Stored) (ns : List ℕ)
+    → map (λ k. (k.0, place_of k.1)) (with_numbers f ns) ≡ with_numbers (λ n. place_of (f n)) ns
+moves_numbers f [] = refl
+moves_numbers f (n ∷ ns) = ap (λ ms. (n, place_of (f n)) ∷ ms) (moves_numbers f ns)
+
+place_at : (p : List ℕ) (place : Option (List ℕ)) (k : Stored)
+    → place_of (part_at p place k) ≡ option_and_then (rest_behind p) place
+place_at p place k = by (option_and_then (rest_behind p) place)
+  where
+    by : (o : Option (List ℕ)) → place_of (option_map (at_path k) o) ≡ o
+    by None = refl
+    by (Some r) = refl
 
 module _ (ms : List Mod) (t u : WideTree) (p : List ℕ) (made : changed_by_all ms t ≡ Some u) where
   -- the numbers, from k on, aren't those before
-  all_ahead : (f : ℕ → Option Stored) (i k : ℕ) (qs : List DonePart) → i < k
+  all_ahead : {B : Type 0} (f : ℕ → Option B) (i k : ℕ) (qs : List DonePart) → i < k
       → IsAhead i (with_numbers f (others_from ms p k qs))
   all_ahead f i k [] l = tt
-  all_ahead f i k (q ∷ qs) l =
+  all_ahead {B} f i k (q ∷ qs) l =
       by (all_keep_place ms (p ++ q.path)) (all_ahead f i (k + 1) qs (omega (arith, l)))
     where
       by : (b : Bool) → IsAhead i (with_numbers f (others_from ms p (k + 1) qs))
@@ -124,6 +178,35 @@ module _ (ms : List Mod) (t u : WideTree) (p : List ℕ) (made : changed_by_all 
           ∙ ap (and_some (f i)) rest ∙ and_same (f i) (parts_behind ms t p (kept_parts qs))
           ∙ ap (λ o. and_part o (parts_behind ms t p (kept_parts qs))) (ap f (omega arith) ∙ h 0 q refl)
 
+  -- each part that is found to stay stands where it stood, and of each other one the function tells where
+  all_placed : (g : ℕ → Option (List ℕ)) (i : ℕ) (qs : List DonePart)
+      → ((j : ℕ) (q : DonePart) → slice_get qs j ≡ Some q → g (i + j) ≡ carried_below ms t p q.path)
+      → places_by i (with_numbers g (others_from ms p i qs)) (part_paths (kept_parts qs))
+      ≡ map (carried_below ms t p) (part_paths (kept_parts qs))
+  all_placed g i [] h = none_placed i (with_numbers g (others_from ms p i []))
+  all_placed g i (q ∷ qs) h =
+      by (all_keep_place ms (p ++ q.path)) refl
+      (all_placed g (i + 1) qs (λ j r e. ap g (omega arith) ∙ h (suc j) r e))
+    where
+      by : (b : Bool) → all_keep_place ms (p ++ q.path) ≡ b
+          → places_by (i + 1) (with_numbers g (others_from ms p (i + 1) qs)) (part_paths (kept_parts qs))
+          ≡ map (carried_below ms t p) (part_paths (kept_parts qs))
+          → places_by i (with_numbers g (if b then others_from ms p (i + 1) qs else i ∷ others_from ms p (i + 1) qs))
+          (q.path ∷ part_paths (kept_parts qs))
+          ≡ carried_below ms t p q.path ∷ map (carried_below ms t p) (part_paths (kept_parts qs))
+      by true e rest =
+          place_past i (with_numbers g (others_from ms p (i + 1) qs)) q.path (part_paths (kept_parts qs))
+          (all_ahead g i (i + 1) qs (omega arith))
+          ∙ ap (λ os. Some q.path ∷ os) rest
+          ∙ sym (ap (λ o. option_and_then (rest_behind p) o ∷ map (carried_below ms t p) (part_paths (kept_parts qs)))
+          (places_stay ms t u (p ++ q.path) made e)
+          ∙ ap (λ o. o ∷ map (carried_below ms t p) (part_paths (kept_parts qs))) (rest_own p q.path))
+      by false e rest =
+          place_here i (with_numbers g (others_from ms p (i + 1) qs)) q.path (part_paths (kept_parts qs)) (i, g i)
+          ((Decides-eqb i i).1 refl)
+          ∙ ap (λ os. g i ∷ os) rest
+          ∙ ap (λ o. o ∷ map (carried_below ms t p) (part_paths (kept_parts qs))) (ap g (omega arith) ∙ h 0 q refl)
+
   -- what is kept of the part of this number afterwards
   abbrev there : List DonePart → ℕ → Option Stored
   there ps n = kept_there p ps n (through ms t (path_of_part p ps n))
@@ -133,26 +216,48 @@ module _ (ms : List Mod) (t u : WideTree) (p : List ℕ) (made : changed_by_all 
   kept_each ps [] = refl
   kept_each ps (n ∷ ns) = ap (λ os. (n, there ps n) ∷ os) (kept_each ps ns)
 
-  -- others whose places the modifications tell are put
-  pub others_put : (ps : List DonePart) (os : List (ℕ × Option DonePart)) (ns : List ℕ)
+  there_tells : (ps : List DonePart) → Tells (there ps) 0 ps
+  there_tells ps j q e =
+      ap (there ps) (omega arith) ∙ ap (λ o. option_and_then
+      (λ (r : DonePart). part_at p (through ms t (option_map (λ (s : DonePart). p ++ s.path) o)) (kept_part r)) o) e
+
+  -- others whose places the modifications tell are those that aren't found to stay
+  pub moved_are : (ps : List DonePart) (os : List (ℕ × Option DonePart)) (ns : List ℕ)
       (paths places : List (Option (List ℕ))) → ns ≡ others_from ms p 0 ps → paths ≡ map (path_of_part p ps) ns
       → places ≡ map (through ms t) paths → kept_of os ≡ kept_others p ps ns places
-      → kept_parts (put_from 0 os ps) ≡ parts_behind ms t p (kept_parts ps)
-  others_put ps os ns paths places numbers stood stand is =
-      kept_put 0 os ps
-      ∙ ap (λ ks. put_from 0 ks (kept_parts ps))
-      (is ∙ ap (kept_others p ps ns) (stand ∙ ap (map (through ms t)) stood) ∙ kept_each ps ns
-      ∙ ap (with_numbers (there ps)) numbers)
-      ∙ all_put (there ps) 0 ps
-      (λ j q e. ap (there ps) (omega arith) ∙ ap (λ o. option_and_then
-      (λ (r : DonePart). part_at p (through ms t (option_map (λ (s : DonePart). p ++ s.path) o)) (kept_part r)) o) e)
+      → All (λ (o : ℕ × Option DonePart). IfSome o.1 IsTidy) os → (v : DocUnit) → v.path ≡ Some p
+      → AreMovedParts ms t v (kept_parts ps) os
+  moved_are ps os ns paths places numbers stood stand is tidy v has =
+      let told : kept_of os ≡ with_numbers (there ps) (others_from ms p 0 ps) =
+      is ∙ ap (kept_others p ps ns) (stand ∙ ap (map (through ms t)) stood) ∙ kept_each ps ns
+      ∙ ap (with_numbers (there ps)) numbers in
+      let moves : moves_of os ≡ with_numbers (λ n. place_of (there ps n)) (others_from ms p 0 ps) =
+      moves_kept os ∙ ap (map (λ k. (k.0, place_of k.1))) told
+      ∙ moves_numbers (there ps) (others_from ms p 0 ps) in
+      let placed : places_by 0 (moves_of os) (part_paths (kept_parts ps))
+      ≡ map (carried_below ms t p) (part_paths (kept_parts ps)) =
+      ap (λ xs. places_by 0 xs (part_paths (kept_parts ps))) moves
+      ∙ all_placed (λ n. place_of (there ps n)) 0 ps
+      (λ j q e. ap place_of (there_tells ps j q e)
+      ∙ place_at p (carried_by_all ms t (p ++ q.path)) (kept_part q)) in
+      record {
+        kept =
+            ap (λ ks. put_from 0 ks (kept_parts ps)) told ∙ all_put (there ps) 0 ps (there_tells ps)
+            ∙ sym (ap (λ o. option_map_or (λ q. parts_behind ms t q (kept_parts ps)) o []) has);
+        places = λ q at.
+            subst (λ r. places_by 0 (moves_of os) (part_paths (kept_parts ps))
+            ≡ map (carried_below ms t r) (part_paths (kept_parts ps)))
+            (same_Some p q (sym has ∙ at)) placed;
+        tidy = tidy;
+      }
 
-  -- where all are found to stay, they are as they were
-  pub none_put : (ps : List DonePart) (os : List (ℕ × Option DonePart)) (ns : List ℕ) → ns ≡ others_from ms p 0 ps
-      → ns ≡ [] → os ≡ [] → kept_parts (put_from 0 os ps) ≡ parts_behind ms t p (kept_parts ps)
-  none_put ps os ns numbers empty none =
-      others_put ps os ns [] [] numbers (ap (map (path_of_part p ps)) (sym empty)) refl
-      (ap kept_of none ∙ ap (λ ks. kept_others p ps ks []) (sym empty))
+  -- where all are found to stay, there are none
+  pub none_moved : (ps : List DonePart) (os : List (ℕ × Option DonePart)) → others_from ms p 0 ps ≡ [] → os ≡ []
+      → (v : DocUnit) → v.path ≡ Some p → AreMovedParts ms t v (kept_parts ps) os
+  none_moved ps os empty none =
+      moved_are ps os [] [] [] (sym empty) refl refl (ap kept_of none)
+      (subst (All (λ (o : ℕ × Option DonePart). IfSome o.1 IsTidy)) (sym none)
+      (All-from_recursion (λ (o : ℕ × Option DonePart). IfSome o.1 IsTidy) [] tt))
 
 pub tidy_all : (os : List (ℕ × Option DonePart)) (ps : List DonePart)
     → All (λ (o : ℕ × Option DonePart). IfSome o.1 IsTidy) os → All IsTidy ps → All IsTidy (put_from 0 os ps)

@@ -112,7 +112,8 @@ pub carry_trees : (buffer : ℕ) (ms : List Mod) (t : WideTree) (kept : Kept) (u
     → ((buffer ≡ 0 → ⊥) → AreSameBodies (units_of kept) us)
     → result ≡ given (mods_of buffer ms) t old us → HaveSameTrees (units_of kept) us (sources_in result)
 carry_trees buffer ms t kept us old result was sound applies law are stand_old stand_new same is_given =
-    let carried : IsCarried buffer ms t kept us result = given_is buffer ms t kept us old result was sound are is_given in
+    let carried : IsCarried buffer ms t kept us result =
+    given_is buffer ms t kept us old result was sound are is_given in
     subst (HaveSameTrees (units_of kept) us) (sym carried.sources)
     (trees_same (mods_of buffer ms) t (units_of kept) us
     (each_same buffer ms t (units_of kept) us applies law stand_old stand_new same)

@@ -38,7 +38,7 @@ record Holds (t : WideTree) (k : Stored) : Type 0 where
   leads : subtree t k.path ≡ Some there
   supports : SupportsIfDone there k.trace
 
-abbrev part_paths : KeptParts → List (List ℕ)
+abbrev pub part_paths : KeptParts → List (List ℕ)
 part_paths ks = map (λ k. k.path) ks
 
 hold_kept : (t : WideTree) (ps : List DonePart) → AllByRecursion (HoldsPart t) ps

@@ -33,6 +33,10 @@ parts_at p (q ∷ qs) (k ∷ ks) = and_part (part_at p q k) (parts_at p qs ks)
 abbrev pub places_below : List Mod → WideTree → List ℕ → KeptParts → List (Option (List ℕ))
 places_below ms t p ks = map (λ k. carried_by_all ms t (p ++ k.path)) ks
 
+-- where what stands at q in the unit at p stands in it afterwards, and nothing where it is no longer below p
+abbrev pub carried_below : List Mod → WideTree → List ℕ → List ℕ → Option (List ℕ)
+carried_below ms t p q = option_and_then (rest_behind p) (carried_by_all ms t (p ++ q))
+
 -- the parts of the unit at p that stay in it
 abbrev pub parts_behind : List Mod → WideTree → List ℕ → KeptParts → KeptParts
 parts_behind ms t p ks = parts_at p (places_below ms t p ks) ks

@@ -11,6 +11,7 @@ pub mod InPlace
 pub mod Keeping
 pub mod CarryingParts
 pub mod Others
+pub mod MovedParts
 pub mod UnitLists
 pub mod Bridged
 pub mod Names

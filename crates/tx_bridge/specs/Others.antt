@@ -1,4 +1,4 @@
--- The parts of a unit that changes which aren't found to stay. Private clauses cite these.
+-- Parts of a unit, by their numbers, in the places of which others are put.
 use Rattle.std.specs.Prelude.{ℕ, ◌+◌, ◌==◌, if◌then◌else◌, List, [], ◌∷◌, ◌++◌, map, Option, Some, None}
 use Rattle.std.specs.Prelude.{option_and_then, option_map, slice_get}
 use Rattle.std.specs.Option.{option_map_or}

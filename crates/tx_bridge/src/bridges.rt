@@ -12,12 +12,14 @@ ghost use Rattle.tx_mod.specs.Followed.{changed_by_all};
 ghost use Rattle.tx_exec.specs.Outcomes.{wide_outcome, NamesOnce};
 ghost use Rattle.tx_walk.specs.Walked.{IsTidy, paths_of};
 ghost use Rattle.tx_units.specs.Units.{units_with};
+ghost use Rattle.tx_units.specs.declared.kinds.Unit.{Unit as DocUnit};
 ghost use Rattle.tx_view_form.specs.declared.TheConstants.{MOST_VIEW_STEPS};
 ghost use Rattle.tx_view_form.specs.Outcomes.{beginning, behind, value_of};
 ghost use Rattle.tx_bridge.specs.Moments.{IsPaid};
 ghost use Rattle.tx_bridge.specs.Entries.{Entry, units_of, fresh_from, outcome_of, behind_all};
 ghost use Rattle.tx_bridge.specs.Reached.{reached_from};
-ghost use Rattle.tx_bridge.specs.Nested.{PartsStay, charges_from, fresh_parts_from, part_flags_from};
+ghost use Rattle.tx_bridge.specs.MovedParts.{AreMovedParts};
+ghost use Rattle.tx_bridge.specs.Nested.{KeptParts, PartsStay, charges_from, fresh_parts_from, part_flags_from};
 ghost use Rattle.tx_bridge.specs.HeldParts.{AllPartsHold, kept_parts, flags_of_parts};
 ghost use Rattle.tx_bridge.specs.Settled.{AreSettled};
 ghost use Rattle.tx_bridge.specs.Sound.{IsSound, AllHold, entry_of, entries_of, parts_in, part_flags_in, flags_of};
@@ -334,47 +336,66 @@ impl Bridges {
         one_changed(buffer, &self.bridges, mods)
     }
 
-    /// What `carry` does where the unit of number `changed`, which `one_changed` tells, has this tree afterwards, and
-    /// each other one stays as it is. Besides, of the parts of that unit those are kept that stay in it. It goes over
-    /// no list but that of these parts. Where none are kept of that unit, it takes no memory and no step.
-    pub fn carry_in_place<L: Ledger>(
-        &mut self,
+    /// The parts of the unit of number `changed`, which `one_changed` tells, that aren't found to stay where they are,
+    /// with their numbers, in order: each as it stands in the unit afterwards, or None where it doesn't stay in it.
+    /// Each other part stays at its path. Where none is kept, it takes no memory and no step.
+    pub fn moved_parts<L: Ledger>(
+        &self,
         alloc: Global,
+        before: &Tree,
+        mods: &[Mod],
+        changed: usize,
+        steps: &mut Steps<L>,
+    ) -> Result<Vec<(usize, Option<Part>)>, Memory>
+        requires applies { (u : WideTree) × (changed_by_all mods.now before.now ≡ Some u) }
+        requires changed { IsOneChanged changed 0 mods.now (units_of self.now.kept) }
+        requires old { AllStand before.now (units_of self.now.kept) }
+        ensures moved { IfOk result (λ os. (u : DocUnit) (ks : KeptParts)
+            → slice_get (units_of self.now.kept) changed ≡ Some u → slice_get self.now.parts changed ≡ Some ks
+            → AreMovedParts mods.now before.now u ks os.items) }
+        ensures counted { steps.new ≤ steps.old + cost_of mods.now }
+        ensures ready { slice_get self.now.parts changed ≡ Some [] → IsOk result }
+        ensures free { slice_get self.now.parts changed ≡ Some [] → steps.new ≡ steps.old }
+    {
+        carried_list_law();
+        others_of_changed(alloc, before, mods, &self.bridges, changed, steps)
+    }
+
+    /// What `carry` does where the unit of number `changed`, which `one_changed` tells, has this tree afterwards, and
+    /// each other one stays as it is. Besides, of the parts of that unit those are kept that stay in it; `moved` are
+    /// those that `moved_parts` tells. It goes over no list but that of these parts, and takes no memory.
+    pub fn carry_in_place(
+        &mut self,
         before: &Tree,
         mods: &[Mod],
         tree: Tree,
         changed: usize,
-        steps: &mut Steps<L>,
-    ) -> Result<(), Memory>
+        moved: Vec<(usize, Option<Part>)>,
+    )
         requires applies { (u : WideTree) × (changed_by_all mods.now before.now ≡ Some u) }
         requires units { AreUnits (units_of self.old.kept) }
         requires changed { IsOneChanged changed 0 mods.now (units_of self.old.kept) }
         requires old { AllStand before.now (units_of self.old.kept) }
         requires new { (u : WideTree) → changed_by_all mods.now before.now ≡ Some u
             → StandsNow changed tree u (units_of self.old.kept) }
-        ensures carried { OnOk result (self.new.kept ≡ Carry 0 mods.now before.now self.old.kept
-            (units_with changed tree (units_of self.old.kept))) }
-        ensures parts { OnOk result (self.new.parts
-            ≡ CarryWithin changed mods.now before.now (units_of self.old.kept) self.old.parts) }
-        ensures sources { OnOk result (self.new.sources ≡ Sources 0 mods.now before.now (units_of self.old.kept)
-            (units_with changed tree (units_of self.old.kept))) }
-        ensures once { OnOk result ((i j k : ℕ) → slice_get self.new.sources j ≡ Some (Some i)
-            → slice_get self.new.sources k ≡ Some (Some i) → j ≡ k) }
-        ensures numbers { OnOk result
-            (self.new.sources ≡ numbers_but changed 0 (length (units_of self.old.kept))) }
-        ensures units { OnOk result (units_of self.new.kept ≡ units_with changed tree (units_of self.old.kept)) }
-        ensures counted { steps.new ≤ steps.old + cost_of mods.now }
-        ensures ready { slice_get self.old.parts changed ≡ Some [] → IsOk result }
-        ensures free { slice_get self.old.parts changed ≡ Some [] → steps.new ≡ steps.old }
-        ensures refused { OnErr result (self.new ≡ self.old) }
+        requires moved { (u : DocUnit) (ks : KeptParts) → slice_get (units_of self.old.kept) changed ≡ Some u
+            → slice_get self.old.parts changed ≡ Some ks → AreMovedParts mods.now before.now u ks moved.items }
+        ensures carried { self.new.kept ≡ Carry 0 mods.now before.now self.old.kept
+            (units_with changed tree (units_of self.old.kept)) }
+        ensures parts { self.new.parts
+            ≡ CarryWithin changed mods.now before.now (units_of self.old.kept) self.old.parts }
+        ensures sources { self.new.sources ≡ Sources 0 mods.now before.now (units_of self.old.kept)
+            (units_with changed tree (units_of self.old.kept)) }
+        ensures once { (i j k : ℕ) → slice_get self.new.sources j ≡ Some (Some i)
+            → slice_get self.new.sources k ≡ Some (Some i) → j ≡ k }
+        ensures numbers { self.new.sources ≡ numbers_but changed 0 (length (units_of self.old.kept)) }
+        ensures units { units_of self.new.kept ≡ units_with changed tree (units_of self.old.kept) }
     {
         carried_list_law();
         carried_law();
-        let others = others_of_changed(alloc, before, mods, &self.bridges, changed, steps)?;
-        let silent = change_one(&mut self.bridges, tree, others, changed);
+        let silent = change_one(&mut self.bridges, tree, moved, changed);
         self.way = Way::InPlace(changed);
         self.settled = self.settled && silent;
-        Ok(())
     }
 
     /// What is kept of the unit, which after a refresh is what it comes to. None past the last unit.
@@ -390,9 +411,9 @@ impl Bridges {
         }
     }
 
-    /// What is kept of the parts of the unit, in the order of the document, each with its path from the unit's tree. None
-    /// past the last unit. After a refresh a unit that isn't nested has none, nor has one that is over; an edit may leave
-    /// some until the next.
+    /// What is kept of the parts of the unit, in the order of the document, each with its path from the unit's tree.
+    /// None past the last unit. After a refresh a unit that isn't nested has none, nor has one that is over; an edit
+    /// may leave some until the next.
     ///
     /// After a refresh a part's `renewed` tells whether nothing that fits was kept at its path when that began.
     pub fn parts(&self, i: u32) -> Option<&[Part]>

@@ -7,14 +7,14 @@ ghost use Rattle.tx_tree.specs.WideTree.{WideTree};
 ghost use Rattle.tx_tree.specs.Paths.{subtree};
 ghost use Rattle.tx_mod.specs.InTurn.{cost_of};
 ghost use Rattle.tx_mod.specs.Followed.{changed_by_all};
-ghost use Rattle.tx_walk.specs.Walked.{IsTidy};
 ghost use Rattle.tx_exec.specs.Outcomes.{wide_outcome};
+ghost use Rattle.tx_units.specs.declared.kinds.Unit.{Unit as DocUnit};
 ghost use Rattle.tx_mod.specs.Mods.{path_of};
 ghost use Rattle.tx_bridge.specs.Settled.{IsSilent};
 ghost use Rattle.tx_bridge.specs.Sound.{IsSound, changed_in};
 ghost use Rattle.tx_bridge.specs.HeldParts.{HoldsPart, kept_parts};
 ghost use Rattle.tx_bridge.specs.Carrying.{AllStand};
-ghost use Rattle.tx_bridge.specs.CarryingParts.{parts_behind, parts_within};
+ghost use Rattle.tx_bridge.specs.MovedParts.{AreMovedParts};
 ghost use Rattle.tx_bridge.specs.Slots.{bodies_of};
 ghost use Rattle.tx_bridge.specs.InPlace.{wraps, begins, leaves_nowhere, is_gone, are_within, is_changed, IsOneChanged};
 ghost use Rattle.tx_bridge.specs.InPlace.{NoneChanged};
@@ -185,9 +185,8 @@ fn others_behind<L: Ledger>(
     requires within { are_within path.now mods.now ≡ true }
     requires stands { (x : WideTree) × (subtree before.now path.now ≡ Some x)
         × AllByRecursion (HoldsPart x) parts.now }
-    ensures parts { IfOk result (λ os. kept_parts (put_from 0 os.items parts.now)
-        ≡ parts_behind mods.now before.now path.now (kept_parts parts.now)) }
-    ensures tidy { IfOk result (λ os. All IsTidy (put_from 0 os.items parts.now)) }
+    ensures moved { IfOk result (λ os. (u : DocUnit) → u.path ≡ Some path.now
+        → AreMovedParts mods.now before.now u (kept_parts parts.now) os.items) }
     ensures counted { steps.new ≤ steps.old + cost_of mods.now }
     ensures ready { parts.now ≡ [] → IsOk result }
     ensures free { parts.now ≡ [] → steps.new ≡ steps.old }
@@ -218,10 +217,8 @@ pub(crate) fn others_of_changed<L: Ledger>(
     requires changed { IsOneChanged changed 0 mods.now (bodies_of bridges.now) }
     requires stand { AllStand before.now (bodies_of bridges.now) }
     requires sound { All IsSound bridges.now }
-    ensures parts { IfOk result (λ os. (b : Bridge) → slice_get bridges.now changed ≡ Some b
-        → kept_parts (put_from 0 os.items (parts_of changed bridges.now))
-        ≡ parts_within mods.now before.now b.unit (kept_parts b.parts)) }
-    ensures tidy { IfOk result (λ os. All IsTidy (put_from 0 os.items (parts_of changed bridges.now))) }
+    ensures moved { IfOk result (λ os. (b : Bridge) → slice_get bridges.now changed ≡ Some b
+        → AreMovedParts mods.now before.now b.unit (kept_parts b.parts) os.items) }
     ensures counted { steps.new ≤ steps.old + cost_of mods.now }
     ensures ready { (b : Bridge) → slice_get bridges.now changed ≡ Some b → b.parts ≡ [] → IsOk result }
     ensures free { (b : Bridge) → slice_get bridges.now changed ≡ Some b → b.parts ≡ [] → steps.new ≡ steps.old }
@@ -233,7 +230,8 @@ pub(crate) fn others_of_changed<L: Ledger>(
     }
 }
 
-// The unit of this number has this tree now, and these stand for parts of it. Answers whether what was kept sets no name.
+// The unit of this number has this tree now, and these stand for parts of it. Answers whether what was kept sets no
+// name.
 pub(crate) fn change_one(
     bridges: &mut [Bridge],
     tree: Tree,

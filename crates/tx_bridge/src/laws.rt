@@ -31,8 +31,8 @@ pub fn unit_list_laws()
     body_laws();
 }
 
-/// A law: where modifications apply, what is kept of a part of the unit at a path is kept at the part's path afterwards,
-/// if they carry the part's place in the document to itself.
+/// A law: where modifications apply, what is kept of a part of the unit at a path is kept at the part's path
+/// afterwards, if they carry the part's place in the document to itself.
 pub fn staying_parts_law()
     ensures { (ms : List Change) (t : WideTree) (path : List ℕ) (kept : KeptParts) → StaysKept ms t path kept }
 {

@@ -1,5 +1,5 @@
 // Where parts of a unit stand, inside which all modifications are.
-ghost use Rattle.std.specs.Prelude.{◌≡◌, ◌++◌, length, map, IfOk, IfSome, option_map};
+ghost use Rattle.std.specs.Prelude.{◌≡◌, length, map, IfOk, IfSome, option_map};
 ghost use Rattle.std.specs.List.{All};
 ghost use Rattle.tx_mod.specs.Moves.{rest_behind};
 ghost use Rattle.tx_walk.specs.Walked.{IsTidy};
@@ -9,19 +9,9 @@ ghost use Rattle.tx_bridge.specs.Others.{path_of_part, kept_there, kept_others, 
 
 use std::alloc::Global;
 use tx_base::Memory;
+use tx_origin::Base;
 use tx_tree::Path;
 use tx_walk::Part;
-
-// The path, and the other one behind it.
-fn joined(alloc: Global, path: &Path, below: &Path) -> Result<Path, Memory>
-    ensures { IfOk result (λ p. p ≡ path.now ++ below.now) }
-{
-    let mut all = path.copy(alloc)?;
-    for step in below.steps() {
-        all.push(*step)?;
-    }
-    Ok(all)
-}
 
 // Where the part of this number, if there is one, stands in the document, where the unit is at this path.
 fn path_of_part(
@@ -34,7 +24,7 @@ fn path_of_part(
 {
     match parts.get(number) {
         None => Ok(None),
-        Some(part) => Ok(Some(joined(alloc, path, &part.path)?)),
+        Some(part) => Ok(Some(Base::joined(path, &part.path).path(alloc)?)),
     }
 }
 
@@ -113,8 +103,8 @@ fn other_at(
     }
 }
 
-/// The parts of these numbers of the unit at this path, which stand at these places in the document now. None is for one
-/// that doesn't stay in the unit.
+/// The parts of these numbers of the unit at this path, which stand at these places in the document now. None is for
+/// one that doesn't stay in the unit.
 pub(crate) fn others_at(
     alloc: Global,
     path: &Path,

@@ -386,9 +386,10 @@ pub(crate) fn edited_in_place<L: Ledger>(
     let after = behind_one(alloc, before, &mods, steps)?;
     let changed = bridges.one_changed(0, &mods)?;
     let tree = paragraph_in(&bridges, changed, &after)?;
-    bridges
-        .carry_in_place(alloc, before, &mods, tree, changed, steps)
+    let moved = bridges
+        .moved_parts(alloc, before, &mods, changed, steps)
         .ok()?;
+    bridges.carry_in_place(before, &mods, tree, changed, moved);
     let charges = bridges.refresh(alloc, steps).ok()?;
     Some((bridges, after, charges))
 }

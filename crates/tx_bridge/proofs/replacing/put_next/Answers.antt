@@ -7,8 +7,8 @@ pub returns-in-None-clause-same : goal.returns-in-None-clause-same
 returns-in-None-clause-same c =
     down_same c.args.parts.now c.args.at c.args.i (drop c.args.k c.taken.new.others) [] c.requires.there
     c.move_down.new.parts c.move_down.ensures.front c.move_down.ensures.back c.in-None.ensures.1
-    ∙ ap (λ os. take c.args.at c.args.parts.now ++ put_from c.args.i (drop c.args.k os) (drop c.args.i c.args.parts.now))
-    c.in-None.ensures.0
+    ∙ ap (λ os. take c.args.at c.args.parts.now
+    ++ put_from c.args.i (drop c.args.k os) (drop c.args.i c.args.parts.now)) c.in-None.ensures.0
 
 pub returns-in-Some-None-clause-same : goal.returns-in-Some-None-clause-same
 returns-in-Some-None-clause-same c =
