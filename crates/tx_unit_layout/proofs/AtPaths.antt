@@ -12,11 +12,11 @@ use Rattle.tx_bridge.specs.HeldParts.{kept_part, kept_parts}
 use Rattle.tx_bridge.specs.Nested.{kept_at}
 use Rattle.tx_unit_layout.specs.LaidUnits.{Stays}
 
-if_true : (b : Bool) (o r : Option WideTrace) → b ≡ true → (if b then o else r) ≡ o
+pub if_true : (b : Bool) (o r : Option WideTrace) → b ≡ true → (if b then o else r) ≡ o
 if_true true o r e = refl
 if_true false o r e = cc
 
-if_false : (b : Bool) (o r : Option WideTrace) → b ≡ false → (if b then o else r) ≡ r
+pub if_false : (b : Bool) (o r : Option WideTrace) → b ≡ false → (if b then o else r) ≡ r
 if_false false o r e = refl
 if_false true o r e = cc
 
@@ -30,7 +30,7 @@ not_at path (d ∷ ds) zero s others h =
 not_at path (d ∷ ds) (suc k) s others h = not_at path ds k s others.1 h
 
 -- each path tells the part that stands there
-pub kept_there : (ds : List DonePart) (k : ℕ) (s : Stored) → IsDistinct bytes_eq (paths_of ds)
+kept_there : (ds : List DonePart) (k : ℕ) (s : Stored) → IsDistinct bytes_eq (paths_of ds)
     → slice_get (kept_parts ds) k ≡ Some s → kept_at (kept_parts ds) s.path ≡ s.trace
 unfolding IsDistinct
 kept_there [] k s distinct h = cc

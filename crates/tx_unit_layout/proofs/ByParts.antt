@@ -1,9 +1,8 @@
 -- A unit that is laid out by its parts.
-use Rattle.std.proofs.Common.{◌≡◌, ℕ, ◌≤◌, List, [], ◌∷◌, map, length, refl, ap, sym, ◌∙◌, subst, arith}
+use Rattle.std.proofs.Common.{◌≡◌, ℕ, ◌≤◌, List, [], ◌∷◌, ◌++◌, map, length, refl, ap, ap₂, sym, ◌∙◌, subst, arith}
 use Rattle.std.specs.Prelude.{true, ◌&&◌, is_some, if◌then◌else◌, Option, Some, None}
 use Rattle.std.specs.List.{All, IsDistinct}
 use Rattle.std.specs.Str.{bytes_eq}
-use Rattle.std.proofs.lemmas.List.Elements.{All-map}
 use Rattle.tx_tree.specs.WideTree.{size_of}
 use Rattle.tx_origin.specs.Values.{WideValue, plain}
 use Rattle.tx_exec_form.specs.declared.TheConstants.{MOST_LEVELS}
@@ -23,10 +22,11 @@ use Rattle.tx_view_form.specs.Positions.{IsShort}
 use Rattle.tx_view_form.specs.Views.{AreLines, paragraphs_at}
 use Rattle.tx_view_form.specs.Weights.{weight_of}
 use Rattle.tx_part_items.specs.ShownParts.{ShownPart, PartValue, parts_shown}
-use Rattle.tx_part_layout.specs.declared.laid.LaidPart.{LaidPart}
+use Rattle.tx_part_layout.specs.declared.laid.PlacedPart.{PlacedPart}
 use Rattle.tx_part_layout.specs.declared.laid.LaidUnit.{LaidUnit}
 use Rattle.tx_part_layout.specs.LaidParts.{LaidFrom, laid_from, shown_from, laid_paths, whole_shown, items_in}
-use Rattle.tx_part_layout.specs.LaidParts.{items_anew as part_items_anew, IsLaidPart, IsLaidUnit, ShowsValue}
+use Rattle.tx_part_layout.specs.LaidParts.{items_anew as part_items_anew, IsLaidUnit, ShowsValue}
+use Rattle.tx_part_layout.specs.LaidParts.{placed_paragraphs, placed_lines, AreBelow}
 use Rattle.tx_bridge.specs.Entries.{Entry}
 use Rattle.tx_bridge.specs.HeldParts.{kept_parts, flags_of_parts}
 use Rattle.tx_bridge.specs.Nested.{is_nested}
@@ -36,7 +36,7 @@ use Rattle.tx_unit_layout.specs.LaidUnits.{IsLaidOut, AreLaidParts}
 use Rattle.tx_unit_layout.specs.Views.{unit_view, IsReadable}
 use Rattle.tx_unit_layout.specs.declared.shown.Shown.{Shown}
 use Rattle.tx_unit_layout.proofs.DoneParts.{values_are}
-use Rattle.tx_unit_layout.proofs.Renewed.{own_value, laid_parts}
+use Rattle.tx_unit_layout.proofs.Renewed.{laid_parts}
 use Rattle.tx_unit_layout.proofs.Reusing.{anew_alike, anew_within, at_some}
 
 map_two : {X Y Z : Type 0} (f : X → Y) (g : Y → Z) (xs : List X) → map (λ x. g (f x)) xs ≡ map g (map f xs)
@@ -53,17 +53,17 @@ abbrev from_at : LaidFrom → LaidAt
 from_at f = record { path = f.path; before = f.before }
 
 -- the laid parts are of what these show
-ats_are : (ps : List LaidPart) (qs : List ShownPart) → map laid_from ps ≡ map shown_from qs
+ats_are : (ps : List PlacedPart) (qs : List ShownPart) → map laid_from ps ≡ map shown_from qs
     → map laid_at ps ≡ map shown_at qs
 ats_are ps qs h = map_two laid_from from_at ps ∙ ap (map from_at) h ∙ sym (map_two shown_from from_at qs)
 
-paths_are : (ps : List LaidPart) (qs : List ShownPart) → map laid_from ps ≡ map shown_from qs
+paths_are : (ps : List PlacedPart) (qs : List ShownPart) → map laid_from ps ≡ map shown_from qs
     → laid_paths ps ≡ map (λ q. q.path) qs
 paths_are ps qs h =
     map_two laid_from (λ (f : LaidFrom). f.path) ps ∙ ap (map (λ (f : LaidFrom). f.path)) h
     ∙ sym (map_two shown_from (λ (f : LaidFrom). f.path) qs)
 
-laid_ats_are : (a : Attrs) (e : Entry) (ds : List DonePart) (ps : List LaidPart) → is_by_parts e ≡ true
+laid_ats_are : (a : Attrs) (e : Entry) (ds : List DonePart) (ps : List PlacedPart) → is_by_parts e ≡ true
     → map laid_from ps ≡ map shown_from (whole_shown a ds e.unit.tagged.tree).each
     → map laid_at ps ≡ laid_ats a e (kept_parts ds)
 laid_ats_are a e ds ps by h =
@@ -74,12 +74,12 @@ laid_ats_are a e ds ps by h =
 -- ---- what is shown
 
 -- this is shown of a unit with this path that is laid out so
-pub record IsOf (path : Option (List ℕ)) (a : Attrs) (l : LaidUnit) (x : Shown) : Type 0 where
+pub record IsMade (path : Option (List ℕ)) (l : LaidUnit) (x : Shown) : Type 0 where
   pub path_is : x.path ≡ path
   pub errors : x.errors.items ≡ l.errors.items
   pub paragraphs : x.paragraphs.items ≡ l.paragraphs.items
-  pub lines : x.lines ≡ l.lines.items
-  pub parts : x.parts ≡ map (λ p. p.value) l.parts.items
+  pub lines : x.lines ≡ l.lines
+  pub parts : x.parts ≡ l.parts.items
 
 -- laws, as the calls state them
 abbrev pub AllLined : Type 0
@@ -104,26 +104,27 @@ module _ (width : ℕ) (a : Attrs) (u : DocUnit) (trace : WideTrace) (ds : List 
   by_parts : is_by_parts e ≡ true
   by_parts = ap (λ b. b && true) nested
 
-  part_paths : laid_paths (map (λ p. p.value) l.parts.items) ≡ paths_of ds
-  part_paths = sym (map_two (λ p. p.value) (λ (p : LaidPart). p.path) l.parts.items) ∙ shows.paths
-
   shown_paths : map (λ p. p.path) (whole_shown a ds u.tagged.tree).each ≡ map (λ d. d.path) ds
-  shown_paths =
-      sym (paths_are (map (λ p. p.value) l.parts.items) (whole_shown a ds u.tagged.tree).each laid.parts) ∙ part_paths
+  shown_paths = sym (paths_are l.parts.items (whole_shown a ds u.tagged.tree).each laid.parts) ∙ shows.paths
 
-  module _ (x : Shown) (is : IsOf u.path a l x) where
-    x_lines : AreLines width x.paragraphs.items x.lines
+  module _ (x : Shown) (is : IsMade u.path l x) where
+    x_paragraphs : (unit_view x).paragraphs ≡ placed_paragraphs l.parts.items ++ l.paragraphs.items
+    x_paragraphs = ap₂ (λ ps own. placed_paragraphs ps ++ own) is.parts is.paragraphs
+
+    x_lines : AreLines width (unit_view x).paragraphs (unit_view x).lines
     x_lines =
-        subst (λ (ls : List Line). AreLines width x.paragraphs.items ls) (sym is.lines)
-        (subst (λ (ps : List Paragraph). AreLines width ps l.lines.items) (sym is.paragraphs) shows.lines)
+        subst (λ (ls : List Line). AreLines width (unit_view x).paragraphs ls)
+        (sym (ap₂ (λ ps own. placed_lines ps ++ own) is.parts is.lines))
+        (subst (λ (ps : List Paragraph). AreLines width ps (placed_lines l.parts.items ++ l.lines)) (sym x_paragraphs)
+        shows.lines)
 
     -- it is laid out as its value shows
     pub out_by_parts : AllLined → AllFewErrors → IsLaidOut width a trace.value u.path x
     out_by_parts lined errors =
-        let weight : weight_of x.paragraphs.items ≡ weight_of (shown_paragraphs a trace.value) =
-        ap weight_of (is.paragraphs ∙ shows.paragraphs) in
-        let lines : length x.lines ≤ weight_of x.paragraphs.items =
-        lined width x.paragraphs.items x.lines x_lines in
+        let weight : weight_of (unit_view x).paragraphs ≡ weight_of (shown_paragraphs a trace.value) =
+        ap weight_of (x_paragraphs ∙ shows.paragraphs) in
+        let lines : length (unit_view x).lines ≤ weight_of (unit_view x).paragraphs =
+        lined width (unit_view x).paragraphs (unit_view x).lines x_lines in
         let count : length x.errors.items ≡ length (show a trace.value).errors =
         ap (λ (es : List ErrorAt). length es) (is.errors ∙ shows.errors) in
         let few : length (show a trace.value).errors ≤ size_of (plain trace.value) = errors a trace.value in
@@ -131,23 +132,24 @@ module _ (width : ℕ) (a : Attrs) (u : DocUnit) (trace : WideTrace) (ds : List 
           shown = record {
             path_is = is.path_is;
             errors = is.errors ∙ shows.errors;
-            paragraphs = is.paragraphs ∙ shows.paragraphs ∙ sym (at_some u.path a trace.value has_path);
+            paragraphs = x_paragraphs ∙ shows.paragraphs ∙ sym (at_some u.path a trace.value has_path);
             lines = x_lines;
           };
           few_lines = omega (arith, weight, lines);
           few_errors = omega (arith, count, few);
         }
 
-    pub readable_by_parts : AllShort → All (λ p. All IsShort p.items) (shown_paragraphs a trace.value)
-        → IsReadable (unit_view x)
+    pub readable_by_parts : AllShort → All (λ p. All IsShort p.items) (shown_paragraphs a trace.value) → IsReadable x
     readable_by_parts short items =
-        let own : All (λ p. All IsShort p.items) x.paragraphs.items =
-        subst (λ (ps : List Paragraph). All (λ p. All IsShort p.items) ps) (sym (is.paragraphs ∙ shows.paragraphs))
+        let own : All (λ p. All IsShort p.items) (unit_view x).paragraphs =
+        subst (λ (ps : List Paragraph). All (λ p. All IsShort p.items) ps) (sym (x_paragraphs ∙ shows.paragraphs))
         items in
         record {
-          placed = λ none. pathless x.path x.lines none (ap (λ (p : Option (List ℕ)). is_some p) is.path_is ∙ has_path);
-          short = short width x.paragraphs.items x.lines x_lines own;
+          placed = λ none.
+              pathless x.path (unit_view x).lines none (ap (λ (p : Option (List ℕ)). is_some p) is.path_is ∙ has_path);
+          short = short width (unit_view x).paragraphs (unit_view x).lines x_lines own;
           short_items = own;
+          below = λ b for. subst (AreBelow 0) (sym is.parts) laid.below;
         }
       where
         pathless : (path : Option (List ℕ)) (ls : List Line) → path ≡ None → is_some path ≡ true → ls ≡ []
@@ -156,20 +158,16 @@ module _ (width : ℕ) (a : Attrs) (u : DocUnit) (trace : WideTrace) (ds : List 
 
     -- of what its parts are laid out
     pub ats_by_parts : map laid_at x.parts ≡ laid_ats a e (kept_parts ds)
-    ats_by_parts =
-        ap (map laid_at) is.parts ∙ laid_ats_are a e ds (map (λ p. p.value) l.parts.items) by_parts laid.parts
+    ats_by_parts = ap (map laid_at) is.parts ∙ laid_ats_are a e ds l.parts.items by_parts laid.parts
 
     pub parts_by_parts : IsDistinct bytes_eq (paths_of ds) → AreLaidParts width (kept_parts ds) x.parts
     parts_by_parts distinct =
-        let values : map (λ p. p.value) (map (λ p. p.value) l.parts.items) ≡ map own_value ds =
-        sym (map_two (λ p. p.value) (λ (p : LaidPart). p.value) l.parts.items) ∙ shows.values in
         subst (AreLaidParts width (kept_parts ds)) (sym is.parts)
-        (laid_parts width (map (λ p. p.value) l.parts.items) ds
-        (All-map (IsLaidPart width) (λ p. p.value) l.parts.items laid.each) distinct part_paths values)
+        (laid_parts width l.parts.items ds laid.each distinct shows.paths shows.values)
 
   -- ---- how many items are laid out
 
-  module _ (was old : List LaidPart) (same : was ≡ old) (n : ℕ)
+  module _ (was old : List PlacedPart) (same : was ≡ old) (n : ℕ)
       (is : n ≡ part_items_anew was ds (whole_shown a ds u.tagged.tree).each) where
     anew_is : n ≡ items_by_parts (map laid_at old) (flags_of_parts ds) (whole_shown a ds u.tagged.tree).each
     anew_is =

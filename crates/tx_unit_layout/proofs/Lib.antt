@@ -1,9 +1,11 @@
-pub mod Heads
-pub mod Filtering
-pub mod Lining
-pub mod Costing
-pub mod AtPaths
-pub mod DoneParts
-pub mod Reusing
-pub mod Renewed
-pub mod ByParts
+pub mod Stretching
+mod Below
+mod Told
+mod Heads
+mod Lining
+mod Costing
+mod AtPaths
+mod DoneParts
+mod Reusing
+mod Renewed
+mod ByParts

@@ -13,7 +13,7 @@ use Rattle.tx_items.specs.declared.attributes.Attrs.{Attrs}
 use Rattle.tx_items.specs.declared.drawing.ErrorAt.{ErrorAt}
 use Rattle.tx_items.specs.Shows.{show}
 
-pub each_few : (ps : List Paragraph) (n : ℕ) → length (flat_map (λ p. p.items) ps) < n
+each_few : (ps : List Paragraph) (n : ℕ) → length (flat_map (λ p. p.items) ps) < n
     → All (λ p. length p.items < n) ps
 each_few [] n h = All-nil (λ p. length p.items < n)
 each_few (p ∷ ps) n h =

@@ -1,11 +1,11 @@
 -- What is laid out of a unit anew, and what is kept of it then.
-use Rattle.std.proofs.Common.{◌≡◌, ℕ, zero, suc, List, [], ◌∷◌, map, refl, ap, sym, ◌∙◌, subst}
-use Rattle.std.specs.Prelude.{Bool, true, false, if◌then◌else◌, ◌&&◌, is_some, Option, Some, None, slice_get}
+use Rattle.std.proofs.Common.{◌≡◌, ◌⊎◌, inl, inr, ℕ, zero, suc, List, [], ◌∷◌, map, refl, ap, sym, ◌∙◌, subst}
+use Rattle.std.specs.Prelude.{Bool, true, false, if◌then◌else◌, ◌&&◌, is_some, Option, Some, None}
 use Rattle.std.specs.Prelude.{Result, Ok, Err, OnOk}
 use Rattle.std.specs.List.{All, AllByRecursion, IsDistinct}
 use Rattle.std.specs.Str.{bytes_eq}
-use Rattle.std.proofs.lemmas.List.Elements.{All-nil, All-from_recursion, recursion_from_All}
-use Rattle.tx_origin.specs.Under.{value_under}
+use Rattle.std.proofs.lemmas.List.Elements.{All-nil, All-from_recursion}
+use Rattle.std.proofs.lemmas.Slice.Eq.{bytes_eq-Decides}
 use Rattle.tx_origin.specs.Values.{WideValue}
 use Rattle.tx_exec_form.specs.Evaluated.{WideTrace}
 use Rattle.tx_exec.specs.Outcomes.{wide_trace}
@@ -14,103 +14,128 @@ use Rattle.tx_walk.specs.declared.part.Part.{Part as DonePart}
 use Rattle.tx_walk.specs.Walked.{paths_of}
 use Rattle.tx_items.specs.declared.attributes.Attrs.{Attrs}
 use Rattle.tx_view_form.specs.Outcomes.{value_of}
-use Rattle.tx_part_layout.specs.declared.laid.LaidPart.{LaidPart}
+use Rattle.tx_part_layout.specs.declared.laid.PlacedPart.{PlacedPart}
 use Rattle.tx_part_layout.specs.LaidParts.{IsLaidPart, IsOfValue, laid_paths}
 use Rattle.tx_bridge.specs.Entries.{Entry}
 use Rattle.tx_bridge.specs.HeldParts.{kept_part, kept_parts, flags_of_parts}
 use Rattle.tx_bridge.specs.Nested.{KeptParts, kept_at}
 use Rattle.tx_unit_layout.specs.LaidAts.{laid_at, laid_ats, shown_at, parts_of, is_by_parts}
-use Rattle.tx_unit_layout.specs.LaidUnits.{IsLaidOut, IsOfKept, AreLaidParts, Stays, WasLaid}
+use Rattle.tx_unit_layout.specs.LaidUnits.{IsLaidOut, AreOf, AreLaidParts, Stays, WasLaid}
 use Rattle.tx_unit_layout.specs.declared.shown.Shown.{Shown}
-use Rattle.tx_unit_layout.proofs.AtPaths.{all_stay, kept_there}
+use Rattle.tx_unit_layout.proofs.AtPaths.{if_true, if_false, all_stay}
 use Rattle.tx_unit_layout.proofs.Heads.{first_same, others_same}
 
 -- ---- what was laid out before
 
-each_of_map : {X Y : Type 0} (P : Y → Type 0) (f : X → Y) (xs : List X) → AllByRecursion P (map f xs)
-    → AllByRecursion (λ x. P (f x)) xs
-each_of_map P f [] h = tt
-each_of_map P f (x ∷ xs) h = (h.0, each_of_map P f xs h.1)
+-- what is laid out of a part is of the value that is kept at its path
+record IsOfKept (ks : KeptParts) (p : PlacedPart) : Type 0 where
+  trace : WideTrace
+  kept : kept_at ks p.path ≡ Some trace
+  value : p.laid.value.value ≡ trace.value
 
-pub all_of_map : {X Y : Type 0} (P : Y → Type 0) (f : X → Y) (xs : List X) → All P (map f xs) → All (λ x. P (f x)) xs
-all_of_map P f xs h =
-    All-from_recursion (λ x. P (f x)) xs (each_of_map P f xs (recursion_from_All P (map f xs) h))
+behind_first : (k : Stored) (ks : KeptParts) (ps : List PlacedPart)
+    → AllByRecursion (λ y. bytes_eq k.path y ≡ false) (laid_paths ps) → AllByRecursion (IsOfKept ks) ps
+    → AllByRecursion (IsOfKept (k ∷ ks)) ps
+behind_first k ks [] others h = tt
+behind_first k ks (p ∷ ps) others h = (
+  record {
+    trace = h.0.trace;
+    kept = if_false (bytes_eq k.path p.path) k.trace (kept_at ks p.path) others.0 ∙ h.0.kept;
+    value = h.0.value;
+  },
+  behind_first k ks ps others.1 h.1,
+)
 
-of_value : (held : KeptParts) (p : LaidPart) (d : DonePart) → IsOfKept held p
+each_kept : (ks : KeptParts) (ps : List PlacedPart) → AreOf ks ps → IsDistinct bytes_eq (laid_paths ps)
+    → AllByRecursion (IsOfKept ks) ps
+unfolding IsDistinct
+each_kept [] [] of distinct = tt
+each_kept [] (p ∷ ps) of distinct = absurd of
+each_kept (k ∷ ks) [] of distinct = tt
+each_kept (k ∷ ks) (p ∷ ps) of distinct = (
+  record {
+    trace = of.0.trace;
+    kept =
+        if_true (bytes_eq k.path p.path) k.trace (kept_at ks p.path)
+        ((bytes_eq-Decides k.path p.path).1 (sym of.0.path))
+        ∙ of.0.kept;
+    value = of.0.value;
+  },
+  behind_first k ks ps
+      (subst (λ (q : List ℕ). AllByRecursion (λ y. bytes_eq q y ≡ false) (laid_paths ps)) of.0.path distinct.0)
+      (each_kept ks ps of.1 distinct.1),
+)
+
+either_kept : (ks : KeptParts) (ps : List PlacedPart) → (ps ≡ []) ⊎ AreOf ks ps → IsDistinct bytes_eq (laid_paths ps)
+    → AllByRecursion (IsOfKept ks) ps
+either_kept ks ps (inl none) distinct = subst (AllByRecursion (IsOfKept ks)) (sym none) tt
+either_kept ks ps (inr of) distinct = each_kept ks ps of distinct
+
+of_value : (held : KeptParts) (p : PlacedPart) (d : DonePart) → IsOfKept held p
     → (d.renewed ≡ false → kept_at held d.path ≡ Some (wide_trace d.trace)) → IsOfValue p d
 of_value held p d h stays = λ path down.
     let both : Some h.trace ≡ Some (wide_trace d.trace) = sym h.kept ∙ ap (kept_at held) path ∙ stays down in
     let same : h.trace ≡ wide_trace d.trace = cc in
-    h.value ∙ ap (λ q. value_under q h.trace.value) path
-    ∙ ap (λ (t : WideTrace). value_under d.path t.value) same
+    h.value ∙ ap (λ (t : WideTrace). t.value) same
 
-each_of_value : (held : KeptParts) (ps : List LaidPart) (d : DonePart) → AllByRecursion (IsOfKept held) ps
+each_of_value : (held : KeptParts) (ps : List PlacedPart) (d : DonePart) → AllByRecursion (IsOfKept held) ps
     → (d.renewed ≡ false → kept_at held d.path ≡ Some (wide_trace d.trace)) → AllByRecursion (λ p. IsOfValue p d) ps
 each_of_value held [] d h stays = tt
 each_of_value held (p ∷ ps) d h stays = (of_value held p d h.0 stays, each_of_value held ps d h.1 stays)
 
-of_values : {X : Type 0} (value : X → LaidPart) (held : KeptParts) (xs : List X) (ds : List DonePart)
-    → All (IsOfKept held) (map value xs) → Stays held (kept_parts ds) (flags_of_parts ds)
-    → AllByRecursion (λ d. All (λ x. IsOfValue (value x) d) xs) ds
-of_values value held xs [] h stays = tt
-of_values value held xs (d ∷ ds) h stays = (
-  all_of_map (λ p. IsOfValue p d) value xs
-      (All-from_recursion (λ p. IsOfValue p d) (map value xs)
-      (each_of_value held (map value xs) d (recursion_from_All (IsOfKept held) (map value xs) h)
-      (λ down. stays zero (kept_part d) refl (ap (λ b. Some b) down)))),
-  of_values value held xs ds h (λ k s. stays (suc k) s),
+of_values : (held : KeptParts) (ps : List PlacedPart) (ds : List DonePart) → AllByRecursion (IsOfKept held) ps
+    → Stays held (kept_parts ds) (flags_of_parts ds) → AllByRecursion (λ d. All (λ p. IsOfValue p d) ps) ds
+of_values held ps [] h stays = tt
+of_values held ps (d ∷ ds) h stays = (
+  All-from_recursion (λ p. IsOfValue p d) ps
+      (each_of_value held ps d h (λ down. stays zero (kept_part d) refl (ap (λ b. Some b) down))),
+  of_values held ps ds h (λ k s. stays (suc k) s),
 )
 
 -- what was laid out of parts that stay is of their values
-pub all_of_value : {X : Type 0} (value : X → LaidPart) (held : KeptParts) (xs : List X) (ds : List DonePart)
-    → All (IsOfKept held) (map value xs) → Stays held (kept_parts ds) (flags_of_parts ds)
-    → All (λ d. All (λ x. IsOfValue (value x) d) xs) ds
-all_of_value value held xs ds h stays =
-    All-from_recursion (λ d. All (λ x. IsOfValue (value x) d) xs) ds (of_values value held xs ds h stays)
+pub all_of_value : (width : ℕ) (held : KeptParts) (ps : List PlacedPart) (ds : List DonePart)
+    → AreLaidParts width held ps → Stays held (kept_parts ds) (flags_of_parts ds)
+    → All (λ d. All (λ p. IsOfValue p d) ps) ds
+all_of_value width held ps ds laid stays =
+    All-from_recursion (λ d. All (λ p. IsOfValue p d) ps) ds
+    (of_values held ps ds (either_kept held ps laid.of_kept laid.distinct) stays)
 
 -- ---- what is kept of the parts
 
-abbrev pub own_value : DonePart → WideValue
-own_value d = value_under d.path d.trace.value
+abbrev pub values_of : List PlacedPart → List WideValue
+values_of ps = map (λ p. p.laid.value.value) ps
 
-one_of_kept : (ks : KeptParts) (p : LaidPart) (d : DonePart) → kept_at ks d.path ≡ Some (wide_trace d.trace)
-    → p.path ≡ d.path → p.value ≡ own_value d → IsOfKept ks p
-one_of_kept ks p d kept path value = record {
-  trace = wide_trace d.trace;
-  kept = ap (kept_at ks) path ∙ kept;
-  value = value ∙ ap (λ q. value_under q d.trace.value) (sym path);
-}
-
-each_of_kept : (ks : KeptParts) (ps : List LaidPart) (ds : List DonePart)
-    → ((k : ℕ) (s : Stored) → slice_get (kept_parts ds) k ≡ Some s → kept_at ks s.path ≡ s.trace)
-    → laid_paths ps ≡ paths_of ds → map (λ p. p.value) ps ≡ map own_value ds → AllByRecursion (IsOfKept ks) ps
-each_of_kept ks [] ds kept paths values = tt
-each_of_kept ks (p ∷ ps) [] kept paths values = cc
-each_of_kept ks (p ∷ ps) (d ∷ ds) kept paths values = (
-  one_of_kept ks p d (kept zero (kept_part d) refl) (first_same p.path d.path _ _ paths)
-      (first_same p.value (own_value d) _ _ values),
-  each_of_kept ks ps ds (λ k s. kept (suc k) s) (others_same p.path d.path _ _ paths)
-      (others_same p.value (own_value d) _ _ values),
+are_of : (ps : List PlacedPart) (ds : List DonePart) → laid_paths ps ≡ paths_of ds
+    → values_of ps ≡ map (λ d. d.trace.value) ds → AreOf (kept_parts ds) ps
+are_of [] [] paths values = tt
+are_of [] (d ∷ ds) paths values = cc
+are_of (p ∷ ps) [] paths values = cc
+are_of (p ∷ ps) (d ∷ ds) paths values = (
+  record {
+    path = first_same p.path d.path _ _ paths;
+    trace = wide_trace d.trace;
+    kept = refl;
+    value = first_same p.laid.value.value d.trace.value _ _ values;
+  },
+  are_of ps ds (others_same p.path d.path _ _ paths) (others_same p.laid.value.value d.trace.value _ _ values),
 )
 
 -- what is laid out of the parts is of what is kept of them
-pub laid_parts : (width : ℕ) (ps : List LaidPart) (ds : List DonePart) → All (IsLaidPart width) ps
-    → IsDistinct bytes_eq (paths_of ds) → laid_paths ps ≡ paths_of ds → map (λ p. p.value) ps ≡ map own_value ds
-    → AreLaidParts width (kept_parts ds) ps
+pub laid_parts : (width : ℕ) (ps : List PlacedPart) (ds : List DonePart) → All (λ p. IsLaidPart width p.laid.value) ps
+    → IsDistinct bytes_eq (paths_of ds) → laid_paths ps ≡ paths_of ds
+    → values_of ps ≡ map (λ d. d.trace.value) ds → AreLaidParts width (kept_parts ds) ps
 laid_parts width ps ds each distinct paths values = record {
   each = each;
   distinct = subst (IsDistinct bytes_eq) (sym paths) distinct;
-  of_kept =
-      All-from_recursion (IsOfKept (kept_parts ds)) ps
-      (each_of_kept (kept_parts ds) ps ds (λ k s h. kept_there ds k s distinct h) paths values);
+  of_kept = inr (are_of ps ds paths values);
 }
 
-pub no_parts : (width : ℕ) (ks : KeptParts) (ps : List LaidPart) → ps ≡ [] → AreLaidParts width ks ps
+pub no_parts : (width : ℕ) (ks : KeptParts) (ps : List PlacedPart) → ps ≡ [] → AreLaidParts width ks ps
 unfolding IsDistinct
 no_parts width ks ps is = subst (AreLaidParts width ks) (sym is) (record {
-  each = All-nil (IsLaidPart width);
+  each = All-nil (λ p. IsLaidPart width p.laid.value);
   distinct = tt;
-  of_kept = All-nil (IsOfKept ks);
+  of_kept = inl refl;
 })
 
 -- ---- the unit

@@ -14,19 +14,20 @@ use Rattle.tx_walk.specs.declared.part.Part.{Part as DonePart}
 use Rattle.tx_part_items.specs.ItemsUnder.{item_under, paragraph_under}
 use Rattle.tx_part_items.specs.ShownParts.{ShownPart, own_paragraphs, paragraphs_in_tree}
 use Rattle.tx_part_items.specs.ShownParts.{PartsShown, paragraphs_by_parts}
-use Rattle.tx_part_layout.specs.declared.laid.LaidPart.{LaidPart}
+use Rattle.tx_part_layout.specs.declared.laid.PlacedPart.{PlacedPart}
 use Rattle.tx_part_layout.specs.LaidParts.{before_at, is_before, items_in, items_anew}
 use Rattle.tx_unit_layout.specs.LaidAts.{LaidAt, laid_at, laid_before, stays_laid, items_by_parts}
 use Rattle.tx_unit_layout.proofs.Heads.{first_same, others_same}
 
 -- ---- which parts
 
-before_alike : (old : List LaidPart) (path : List ℕ) → laid_before (map laid_at old) path ≡ before_at old path
+before_alike : (old : List PlacedPart) (path : List ℕ) → laid_before (map laid_at old) path ≡ before_at old path
 before_alike [] path = refl
-before_alike (p ∷ ps) path = ap (λ o. if bytes_eq p.path path then Some p.before else o) (before_alike ps path)
+before_alike (p ∷ ps) path =
+    ap (λ o. if bytes_eq p.path path then Some p.laid.value.before else o) (before_alike ps path)
 
 -- so many items, where shown parts stand at the paths of the parts
-pub anew_alike : (old : List LaidPart) (ds : List DonePart) (ps : List ShownPart)
+pub anew_alike : (old : List PlacedPart) (ds : List DonePart) (ps : List ShownPart)
     → map (λ p. p.path) ps ≡ map (λ d. d.path) ds
     → items_anew old ds ps ≡ items_by_parts (map laid_at old) (map (λ d. d.renewed) ds) ps
 anew_alike old [] ps h = refl

@@ -1,8 +1,8 @@
--- The code by which proofs tell lists of laid parts apart.
+-- The code by which proofs tell lists of placed parts apart.
 use Rattle.std.specs.Prelude.{List}
 use Rattle.std.specs.Coded.{Coded, coded_list}
-use Rattle.tx_part_layout.specs.contracts.laid.LaidPart as one_part
-use Rattle.tx_part_layout.specs.declared.laid.LaidPart.{LaidPart}
+use Rattle.tx_part_layout.specs.contracts.laid.PlacedPart as one_part
+use Rattle.tx_part_layout.specs.declared.laid.PlacedPart.{PlacedPart}
 
-abbrev pub coded_laid_parts : Coded (List LaidPart)
-coded_laid_parts = coded_list one_part.the_row.coded
+abbrev pub coded_placed_parts : Coded (List PlacedPart)
+coded_placed_parts = coded_list one_part.the_row.coded

@@ -9,7 +9,7 @@ use Rattle.tx_items.specs.declared.attributes.Attrs.{Attrs}
 use Rattle.tx_view_form.specs.Outcomes.{value_of}
 use Rattle.tx_view_form.specs.Views.{paragraphs_at}
 use Rattle.tx_part_items.specs.ShownParts.{ShownPart, own_paragraphs, tree_shown}
-use Rattle.tx_part_layout.specs.declared.laid.LaidPart.{LaidPart}
+use Rattle.tx_part_layout.specs.declared.laid.PlacedPart.{PlacedPart}
 use Rattle.tx_part_layout.specs.LaidParts.{is_before, items_in}
 use Rattle.tx_bridge.specs.Entries.{Entry}
 use Rattle.tx_bridge.specs.Nested.{KeptParts, is_nested}
@@ -19,8 +19,8 @@ pub record LaidAt : Type 0 where
   pub path : List ℕ
   pub before : Attrs
 
-abbrev pub laid_at : LaidPart → LaidAt
-laid_at p = record { path = p.path; before = p.before }
+abbrev pub laid_at : PlacedPart → LaidAt
+laid_at p = record { path = p.path; before = p.laid.value.before }
 
 abbrev pub shown_at : ShownPart → LaidAt
 shown_at p = record { path = p.path; before = p.before }

@@ -1,9 +1,8 @@
 -- A unit that is laid out, with what is kept of it.
-use Rattle.std.specs.Prelude.{◌≡◌, ℕ, ◌≤◌, Bool, false, List, map, length, Option, Some, slice_get}
+use Rattle.std.specs.Prelude.{◌≡◌, ℕ, ◌≤◌, ◌⊎◌, Bool, false, List, [], ◌∷◌, map, length, Option, Some, slice_get}
 use Rattle.std.specs.List.{All, IsDistinct}
 use Rattle.std.specs.Str.{bytes_eq}
 use Rattle.tx_tree.specs.WideTree.{size_of}
-use Rattle.tx_origin.specs.Under.{value_under}
 use Rattle.tx_origin.specs.Values.{WideValue, plain}
 use Rattle.tx_exec_form.specs.Evaluated.{WideTrace}
 use Rattle.tx_parts.specs.Parts.{Stored}
@@ -12,7 +11,7 @@ use Rattle.tx_items.specs.Shows.{shown_paragraphs}
 use Rattle.tx_view_form.specs.Outcomes.{value_of}
 use Rattle.tx_view_form.specs.Views.{IsShown}
 use Rattle.tx_view_form.specs.Weights.{weight_of}
-use Rattle.tx_part_layout.specs.declared.laid.LaidPart.{LaidPart}
+use Rattle.tx_part_layout.specs.declared.laid.PlacedPart.{PlacedPart}
 use Rattle.tx_part_layout.specs.LaidParts.{IsLaidPart, laid_paths}
 use Rattle.tx_bridge.specs.Entries.{Entry}
 use Rattle.tx_bridge.specs.Nested.{KeptParts, kept_at}
@@ -23,22 +22,30 @@ use Rattle.tx_unit_layout.specs.declared.shown.Shown.{Shown}
 -- this is shown of a unit with this path, where these are the attributes before it and this is its value
 pub record IsLaidOut (width : ℕ) (a : Attrs) (v : WideValue) (path : Option (List ℕ)) (x : Shown) : Type 0 where
   pub shown : IsShown width a v path (unit_view x)
-  pub few_lines : length x.lines ≤ weight_of (shown_paragraphs a v)
+  pub few_lines : length (unit_view x).lines ≤ weight_of (shown_paragraphs a v)
   pub few_errors : length x.errors.items ≤ size_of (plain v)
 
 -- ---- parts
 
--- what is laid out of a part is of the value that is kept at its path
-pub record IsOfKept (ks : KeptParts) (p : LaidPart) : Type 0 where
+-- what is laid out of a part is of the trace that is kept of it
+pub record IsOf (k : Stored) (p : PlacedPart) : Type 0 where
+  pub path : p.path ≡ k.path
   pub trace : WideTrace
-  pub kept : kept_at ks p.path ≡ Some trace
-  pub value : p.value ≡ value_under p.path trace.value
+  pub kept : k.trace ≡ Some trace
+  pub value : p.laid.value.value ≡ trace.value
 
--- of each part at most one thing is laid out, of what is kept of it
-pub record AreLaidParts (width : ℕ) (ks : KeptParts) (ps : List LaidPart) : Type 0 where
-  pub each : All (IsLaidPart width) ps
+-- so it is of all parts that are kept
+abbrev pub AreOf : KeptParts → List PlacedPart → Type 0
+AreOf [] [] = Unit {0}
+AreOf [] (p ∷ ps) = ⊥
+AreOf (k ∷ ks) [] = ⊥
+AreOf (k ∷ ks) (p ∷ ps) = IsOf k p × AreOf ks ps
+
+-- Of no part something is laid out, or of each part that is kept, in their order. No two have one path.
+pub record AreLaidParts (width : ℕ) (ks : KeptParts) (ps : List PlacedPart) : Type 0 where
+  pub each : All (λ p. IsLaidPart width p.laid.value) ps
   pub distinct : IsDistinct bytes_eq (laid_paths ps)
-  pub of_kept : All (IsOfKept ks) ps
+  pub of_kept : (ps ≡ []) ⊎ AreOf ks ps
 
 -- What is kept now of a part whose flag is down was held at its path.
 abbrev pub Stays : KeptParts → KeptParts → List Bool → Type 0
@@ -47,9 +54,9 @@ Stays held ks fs = (k : ℕ) (s : Stored) → slice_get ks k ≡ Some s → slic
 
 -- ---- a unit
 
--- What is shown has the unit's path. Where the unit is laid out for some attributes, it shows what its trace shows behind
--- these, its parts are laid out for the attributes before each, and what is kept of them is what was held. In any case,
--- what is laid out of a part is of what was held of it.
+-- What is shown has the unit's path. Where the unit is laid out for some attributes, it shows what its trace shows
+-- behind these, its parts are laid out for the attributes before each, and what is kept of them is what was held. In
+-- any case, what is laid out of a part is of what was held of it.
 pub record IsLaid (width : ℕ) (e : Entry) (ks held : KeptParts) (x : Shown) : Type 0 where
   pub path : x.path ≡ e.unit.path
   pub laid : (a : Attrs) → x.laid ≡ Some a → IsLaidOut width a (value_of e.trace) e.unit.path x

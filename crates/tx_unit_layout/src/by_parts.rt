@@ -9,7 +9,7 @@ ghost use Rattle.tx_exec_form.specs.Runs.{Before};
 ghost use Rattle.tx_exec.specs.Outcomes.{wide_trace};
 ghost use Rattle.tx_parts.specs.Composed.{evaluates};
 ghost use Rattle.tx_parts.specs.Parts.{parts as tree_parts, stored};
-ghost use Rattle.tx_walk.specs.Walked.{IsTidy, paths_of};
+ghost use Rattle.tx_walk.specs.Walked.{paths_of};
 ghost use Rattle.tx_view_form.specs.Outcomes.{Moment};
 ghost use Rattle.tx_view_form.specs.Views.{paragraphs_at};
 ghost use Rattle.tx_bridge.specs.Entries.{outcome_of};
@@ -20,11 +20,10 @@ ghost use Rattle.tx_part_items.specs.ShownParts.{kept_values};
 ghost use Rattle.tx_part_layout.specs.LaidParts.{items_in, done_value};
 ghost use Rattle.tx_unit_layout.specs.LaidAts.{laid_at, unit_items_anew};
 ghost use Rattle.tx_unit_layout.specs.LaidUnits.{WasLaid};
-ghost use Rattle.tx_unit_layout.specs.Views.{unit_view, IsReadable};
+ghost use Rattle.tx_unit_layout.specs.Views.{IsReadable};
 
 use crate::laid_parts::LaidParts;
 use crate::shown::Shown;
-use crate::unit_lines::UnitLines;
 use std::alloc::Global;
 use std::sync::ledger::Ledger;
 use tx_base::{Memory, Steps};
@@ -72,7 +71,6 @@ pub(crate) fn lay_by_parts<L: Ledger>(
     requires most_width { width ≤ 500 }
     requires nested { is_nested unit.now ≡ true }
     requires placed { IsPlaced unit.now }
-    requires tidy { All IsTidy parts.now }
     requires distinct { IsDistinct bytes_eq (paths_of parts.now) }
     requires fresh { (m : Moment) × (Some (wide_trace trace.now) ≡ outcome_of m unit.now)
         × (kept_parts parts.now ≡ fresh_parts m unit.now) }
@@ -81,7 +79,7 @@ pub(crate) fn lay_by_parts<L: Ledger>(
     ensures was_laid { OnOk result (WasLaid width (record { unit = unit.now; trace = Some (wide_trace trace.now) })
         (kept_parts parts.now) (flags_of_parts parts.now) shown.new) }
     ensures laid { OnOk result (shown.new.laid ≡ Some attrs) }
-    ensures readable { OnOk result (IsReadable (unit_view shown.new)) }
+    ensures readable { OnOk result (IsReadable shown.new) }
     ensures items { IfOk result (λ n. n ≡ unit_items_anew attrs
         (record { unit = unit.now; trace = Some (wide_trace trace.now) }) (kept_parts parts.now)
         (flags_of_parts parts.now) (map laid_at shown.old.parts)) }
@@ -110,7 +108,7 @@ pub(crate) fn lay_by_parts<L: Ledger>(
         laid: Some(attrs),
         errors: laid.errors,
         paragraphs: laid.paragraphs,
-        lines: UnitLines::new(laid.lines),
+        lines: laid.lines,
         parts: LaidParts::new(laid.parts),
     };
     Ok(items)

@@ -1,33 +1,111 @@
 // What is laid out of the parts of a unit.
-ghost use Rattle.std.specs.Prelude.{◌≡◌, ◌++◌, [], true, map, List};
-ghost use Rattle.std.specs.List.{filter};
-ghost use Rattle.tx_bridge.specs.InPlace.{are_within};
-ghost use Rattle.tx_bridge.specs.Keeping.{all_keep_place};
+ghost use Rattle.std.specs.Prelude.{◌≡◌, ◌++◌, [], drop, map, option_map, All, IfOk, OnOk, IsTrue, IsFalse};
+ghost use Rattle.tx_layout.specs.Paging.{Unmarked};
+ghost use Rattle.tx_part_layout.specs.LaidParts.{laid_paths, placed_lines};
+ghost use Rattle.tx_bridge.specs.MovedParts.{moves_of, places_by};
+ghost use Rattle.tx_unit_layout.specs.Moving.{wide_part, put_at, at_place, laid_by, is_told, part_by};
 
 use std::alloc::Global;
 use std::marker::Model;
-use std::rc::Rc;
-use tx_bridge::all_keep_place;
-use tx_mod::Mod;
-use tx_part_layout::LaidPart;
+use tx_base::Memory;
+use tx_part_layout::PlacedPart;
 use tx_tree::Path;
+use tx_walk::Part;
 
 /// What is laid out of the parts of a unit, in order. Contracts see their list.
 #[derive(Drop)]
 pub struct LaidParts {
-    all: Vec<Rc<LaidPart>>,
+    all: Vec<PlacedPart>,
+    // Whether a line of one of them may end its page.
+    marked: bool,
 }
 
 impl Model for LaidParts {
-    ghost use Rattle.std.specs.Prelude.{map, List};
-    ghost use Rattle.tx_part_layout.specs.declared.laid.LaidPart.{LaidPart};
-    ghost use Rattle.tx_unit_layout.specs.Codes.{coded_laid_parts};
+    ghost use Rattle.std.specs.Prelude.{◌≡◌, false, All, List};
+    ghost use Rattle.tx_layout.specs.Paging.{Unmarked};
+    ghost use Rattle.tx_part_layout.specs.declared.laid.PlacedPart.{PlacedPart};
+    ghost use Rattle.tx_part_layout.specs.LaidParts.{placed_lines};
+    ghost use Rattle.tx_unit_layout.specs.Codes.{coded_placed_parts};
 
-    ghost Value = { List LaidPart };
+    ghost Value = { List PlacedPart };
 
-    ghost coded = { coded_laid_parts };
+    ghost coded = { coded_placed_parts };
 
-    ghost view = { λ l. map (λ p. p.value) l.all.items };
+    ghost view = { λ l. l.all.items };
+
+    ghost invariant = { λ l. l.marked ≡ false → All Unmarked (placed_lines l.all.items) };
+}
+
+// Whether a line of one of the parts may end its page.
+fn are_marked(parts: &[PlacedPart]) -> bool
+    ensures { IsFalse result → All Unmarked (placed_lines parts.now) }
+{
+    for part in parts {
+        if !part.laid.lines.is_unmarked() {
+            return true;
+        }
+    }
+    false
+}
+
+// The part at another path.
+fn at_path(alloc: Global, part: &PlacedPart, path: &Path) -> Result<PlacedPart, Memory>
+    ensures { IfOk result (λ p. wide_part p ≡ put_at path.now part.now) }
+{
+    Ok(PlacedPart {
+        path: path.copy(alloc)?,
+        above: part.above,
+        laid: part.laid.clone()?,
+    })
+}
+
+// Adds the part at this place, if there is one.
+fn add_at(
+    alloc: Global,
+    part: &PlacedPart,
+    place: &Option<Part>,
+    all: &mut Vec<PlacedPart>,
+) -> Result<(), Memory>
+    ensures { OnOk result (map wide_part all.new.items
+        ≡ map wide_part all.old.items ++ at_place (option_map (λ d. d.path) place.now) part.now) }
+{
+    if let Some(there) = place {
+        all.push(at_path(alloc, part, &there.path)?)?;
+    }
+    Ok(())
+}
+
+// Whether that of number k is told of the part of number i.
+fn is_next(moved: &[(usize, Option<Part>)], k: usize, i: usize) -> bool
+    ensures { result ≡ is_told i (drop k (moves_of moved.now)) }
+{
+    if k < moved.len() {
+        moved[k].0 == i
+    } else {
+        false
+    }
+}
+
+// Adds the part of number i, if it stays in its unit, where the first of these that moved from number k on may be it.
+// Answers whether it was.
+fn add_moved(
+    alloc: Global,
+    part: &PlacedPart,
+    i: usize,
+    moved: &[(usize, Option<Part>)],
+    k: usize,
+    all: &mut Vec<PlacedPart>,
+) -> Result<bool, Memory>
+    ensures told { IfOk result (λ b. b ≡ is_told i (drop k (moves_of moved.now))) }
+    ensures added { OnOk result (map wide_part all.new.items
+        ≡ map wide_part all.old.items ++ part_by i (drop k (moves_of moved.now)) part.now) }
+{
+    if is_next(moved, k, i) {
+        add_at(alloc, part, &moved[k].1, all)?;
+        return Ok(true);
+    }
+    all.push(at_path(alloc, part, &part.path)?)?;
+    Ok(false)
 }
 
 impl LaidParts {
@@ -37,21 +115,30 @@ impl LaidParts {
     {
         LaidParts {
             all: Vec::new(alloc),
+            marked: false,
         }
     }
 
     /// These.
-    pub fn new(all: Vec<Rc<LaidPart>>) -> LaidParts
-        ensures { result ≡ map (λ p. p.value) all.items }
+    pub fn new(all: Vec<PlacedPart>) -> LaidParts
+        ensures { result ≡ all.items }
     {
-        LaidParts { all }
+        let marked = are_marked(&all);
+        LaidParts { all, marked }
     }
 
     /// All of them.
-    pub fn all(&self) -> &[Rc<LaidPart>]
-        ensures { map (λ p. p.value) result.now ≡ self.now }
+    pub fn all(&self) -> &[PlacedPart]
+        ensures { result.now ≡ self.now }
     {
         &self.all
+    }
+
+    /// No line of any of them ends its page. False says nothing.
+    pub fn is_unmarked(&self) -> bool
+        ensures { IsTrue result → All Unmarked (placed_lines self.now) }
+    {
+        !self.marked
     }
 
     /// None of them stays.
@@ -59,14 +146,21 @@ impl LaidParts {
         ensures { self.new ≡ [] }
     {
         self.all.clear();
+        self.marked = false;
     }
 
-    /// Those stay whose part the modifications leave in its place, where the unit stands at this path in the document,
-    /// and all modifications are inside it. It takes no memory.
-    pub fn keep_in_place(&mut self, mods: &[Mod], base: &Path)
-        requires within { are_within base.now mods.now ≡ true }
-        ensures { self.new ≡ filter (λ p. all_keep_place mods.now (base.now ++ p.path)) self.old }
+    /// The same, where parts of these numbers moved or don't stay in the unit. Nothing is laid out.
+    pub fn moved(&self, alloc: Global, moved: &[(usize, Option<Part>)]) -> Result<LaidParts, Memory>
+        ensures { IfOk result
+            (λ l. map wide_part l ≡ laid_by (places_by 0 (moves_of moved.now) (laid_paths self.now)) self.now) }
     {
-        self.all.retain(|p| all_keep_place(mods, base, &p.path));
+        let mut all = Vec::with_capacity(alloc, self.all.len())?;
+        let mut k = 0;
+        for i in 0..self.all.len() {
+            if add_moved(alloc, &self.all[i], i, moved, k, &mut all)? {
+                k += 1;
+            }
+        }
+        Ok(LaidParts { all, marked: true })
     }
 }

@@ -1,11 +1,11 @@
 // A unit laid out.
 ghost use Rattle.std.specs.Prelude.{◌≡◌, ◌+◌, ◌≤◌, map, Some, IfOk, OnOk, OnErr};
-ghost use Rattle.std.specs.List.{All, IsDistinct};
+ghost use Rattle.std.specs.List.{IsDistinct};
 ghost use Rattle.std.specs.Str.{bytes_eq};
 ghost use Rattle.tx_tree.specs.WideTree.{size_of};
 ghost use Rattle.tx_origin.specs.Values.{plain};
 ghost use Rattle.tx_exec.specs.Outcomes.{wide_outcome};
-ghost use Rattle.tx_walk.specs.Walked.{IsTidy, paths_of};
+ghost use Rattle.tx_walk.specs.Walked.{paths_of};
 ghost use Rattle.tx_view_form.specs.Outcomes.{Moment, value_of};
 ghost use Rattle.tx_view_form.specs.Views.{paragraphs_at};
 ghost use Rattle.tx_bridge.specs.Entries.{outcome_of};
@@ -15,7 +15,7 @@ ghost use Rattle.tx_bridge.specs.UnitLists.{IsPlaced};
 ghost use Rattle.tx_part_layout.specs.LaidParts.{items_in};
 ghost use Rattle.tx_unit_layout.specs.LaidAts.{laid_at, unit_items_anew};
 ghost use Rattle.tx_unit_layout.specs.LaidUnits.{WasLaid, IsLaidOut};
-ghost use Rattle.tx_unit_layout.specs.Views.{unit_view, IsReadable};
+ghost use Rattle.tx_unit_layout.specs.Views.{IsReadable};
 
 use crate::by_parts::lay_by_parts;
 use crate::shown::Shown;
@@ -47,7 +47,6 @@ pub fn lay_unit<L: Ledger>(
     requires most_width { width ≤ 500 }
     requires small { size_of (plain (value_of (wide_outcome outcome.now))) ≤ 1000000 }
     requires placed { IsPlaced unit.now }
-    requires tidy { All IsTidy parts.now }
     requires distinct { IsDistinct bytes_eq (paths_of parts.now) }
     requires fresh { (m : Moment) × (wide_outcome outcome.now ≡ outcome_of m unit.now)
         × (kept_parts parts.now ≡ fresh_parts m unit.now) }
@@ -58,7 +57,7 @@ pub fn lay_unit<L: Ledger>(
     ensures laid { OnOk result (shown.new.laid ≡ Some attrs) }
     ensures shown { OnOk result
         (IsLaidOut width attrs (value_of (wide_outcome outcome.now)) unit.now.path shown.new) }
-    ensures readable { OnOk result (IsReadable (unit_view shown.new)) }
+    ensures readable { OnOk result (IsReadable shown.new) }
     ensures items { IfOk result (λ n. n ≡ unit_items_anew attrs
         (record { unit = unit.now; trace = wide_outcome outcome.now }) (kept_parts parts.now)
         (flags_of_parts parts.now) (map laid_at shown.old.parts)) }

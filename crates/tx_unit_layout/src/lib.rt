@@ -6,11 +6,11 @@ mod by_parts;
 mod laid_parts;
 mod laying;
 mod shown;
-mod unit_lines;
+mod stretches;
 mod whole;
 
 pub use laid_parts::LaidParts;
 pub use laying::lay_unit;
 pub use shown::Shown;
-pub use unit_lines::UnitLines;
+pub use stretches::Stretch;
 pub use whole::outcome_weight_law;

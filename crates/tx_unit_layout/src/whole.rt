@@ -14,14 +14,13 @@ ghost use Rattle.tx_unit_layout.specs.Views.{unit_view, IsReadable};
 
 use crate::laid_parts::LaidParts;
 use crate::shown::Shown;
-use crate::unit_lines::UnitLines;
 use std::alloc::Global;
 use std::sync::ledger::Ledger;
 use tx_base::{Memory, Steps};
 use tx_exec::Outcome;
 use tx_items::{Attrs, items};
 use tx_origin::Value;
-use tx_part_layout::{item_count, lines_of};
+use tx_part_layout::{LineList, item_count, lines_of};
 use tx_tree::Path;
 use tx_view_form::{short_law, weight_laws};
 
@@ -51,8 +50,8 @@ fn show<L: Ledger>(
     ensures shown { IfOk result (λ s. IsShown width attrs value.now path.now (unit_view s)) }
     ensures laid { IfOk result (λ s. s.laid ≡ Some attrs) }
     ensures no_parts { IfOk result (λ s. s.parts ≡ []) }
-    ensures readable { IfOk result (λ s. IsReadable (unit_view s)) }
-    ensures few_lines { IfOk result (λ s. length s.lines ≤ weight_of (shown_paragraphs attrs value.now)) }
+    ensures readable { IfOk result (λ s. IsReadable s) }
+    ensures few_lines { IfOk result (λ s. length (unit_view s).lines ≤ weight_of (shown_paragraphs attrs value.now)) }
     ensures few_errors { IfOk result (λ s. length s.errors.items ≤ size_of (plain value.now)) }
     ensures counted { OnOk result (steps.new ≡ steps.old + items_in (paragraphs_at path.now attrs value.now)) }
 {
@@ -66,7 +65,7 @@ fn show<L: Ledger>(
             laid: Some(attrs),
             errors,
             paragraphs: Vec::new(alloc),
-            lines: UnitLines::none(alloc),
+            lines: LineList::none(alloc),
             parts: LaidParts::none(alloc),
         });
     };
@@ -77,7 +76,7 @@ fn show<L: Ledger>(
         laid: Some(attrs),
         errors,
         paragraphs,
-        lines: UnitLines::new(lines),
+        lines: LineList::new(lines),
         parts: LaidParts::none(alloc),
     })
 }
@@ -97,7 +96,7 @@ pub(crate) fn lay_whole<L: Ledger>(
     ensures shown { OnOk result (IsLaidOut width attrs value.now shown.old.path shown.new) }
     ensures laid { OnOk result (shown.new.laid ≡ Some attrs) }
     ensures no_parts { OnOk result (shown.new.parts ≡ []) }
-    ensures readable { OnOk result (IsReadable (unit_view shown.new)) }
+    ensures readable { OnOk result (IsReadable shown.new) }
     ensures items { IfOk result (λ n. n ≡ items_in (paragraphs_at shown.old.path attrs value.now)) }
     ensures counted { IfOk result (λ n. steps.new ≡ steps.old + n) }
     ensures err { OnErr result (shown.new ≡ shown.old) }

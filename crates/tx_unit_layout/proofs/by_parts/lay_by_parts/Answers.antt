@@ -1,23 +1,29 @@
-use Rattle.std.proofs.Common.{map, refl, sym, subst, Some}
-use Rattle.std.specs.List.{All}
+use Rattle.std.proofs.Common.{refl, sym, subst, Some}
+use Rattle.std.specs.List.{All, IsDistinct}
+use Rattle.std.specs.Str.{bytes_eq}
 use Rattle.tx_exec.specs.Outcomes.{wide_trace}
-use Rattle.tx_part_layout.specs.LaidParts.{IsLaidPart}
-use Rattle.tx_unit_layout.specs.LaidUnits.{IsOfKept}
+use Rattle.tx_part_layout.specs.LaidParts.{IsLaidPart, laid_paths}
+use Rattle.tx_part_layout.specs.declared.laid.PlacedPart.{PlacedPart}
+use Rattle.tx_unit_layout.specs.LaidUnits.{AreLaidParts}
 use Rattle.tx_unit_layout.specs.declared.shown.Shown.{Shown}
-use Rattle.tx_unit_layout.proofs.ByParts.{IsOf, out_by_parts, readable_by_parts, ats_by_parts, parts_by_parts}
+use Rattle.tx_unit_layout.proofs.ByParts.{IsMade, out_by_parts, readable_by_parts, ats_by_parts, parts_by_parts}
 use Rattle.tx_unit_layout.proofs.ByParts.{items_anew_is, items_within}
-use Rattle.tx_unit_layout.proofs.Renewed.{all_of_map, all_of_value, now_laid}
+use Rattle.tx_unit_layout.proofs.Renewed.{all_of_value, now_laid}
 use Rattle.tx_unit_layout.proofs.by_parts.lay_by_parts.Goals as goal
+
+pub lay_parts-requires-clause-distinct : goal.lay_parts-requires-clause-distinct
+lay_parts-requires-clause-distinct g c =
+    subst (λ ps. IsDistinct bytes_eq (laid_paths ps)) (sym c.all.ensures) c.requires.was_laid.laid.parts.distinct
 
 pub lay_parts-requires-clause-laid : goal.lay_parts-requires-clause-laid
 lay_parts-requires-clause-laid g c =
-    all_of_map (IsLaidPart c.args.width) (λ p. p.value) c.all.result.now
-    (subst (All (IsLaidPart c.args.width)) (sym c.all.ensures) c.requires.was_laid.laid.parts.each)
+    subst (All (λ (p : PlacedPart). IsLaidPart c.args.width p.laid.value)) (sym c.all.ensures)
+    c.requires.was_laid.laid.parts.each
 
 pub lay_parts-requires-clause-same : goal.lay_parts-requires-clause-same
 lay_parts-requires-clause-same g c =
-    all_of_value (λ p. p.value) c.requires.was_laid.held c.all.result.now c.args.parts.now
-    (subst (All (IsOfKept c.requires.was_laid.held)) (sym c.all.ensures) c.requires.was_laid.laid.parts.of_kept)
+    all_of_value c.args.width c.requires.was_laid.held c.all.result.now c.args.parts.now
+    (subst (AreLaidParts c.args.width c.requires.was_laid.held) (sym c.all.ensures) c.requires.was_laid.laid.parts)
     c.requires.was_laid.stays
 
 pub returns-clause-was_laid : goal.returns-clause-was_laid
@@ -25,12 +31,12 @@ returns-clause-was_laid g c =
     let at = c.done_parts_law.ensures.evaluates in
     let trace = wide_trace c.args.trace.now in
     let shows = c.in_ok-laid.ensures.shown at.0 at.1 trace at.2 at.3 in
-    let is : IsOf c.args.unit.now.path c.args.attrs c.in_ok-laid.laid _ = record {
+    let is : IsMade c.args.unit.now.path c.in_ok-laid.laid _ = record {
       path_is = c.in_ok-path.ensures;
       errors = refl;
       paragraphs = refl;
-      lines = c.new.ensures;
-      parts = c.new-2.ensures;
+      lines = refl;
+      parts = c.new.ensures;
     } in
     now_laid c.args.width (record { unit = c.args.unit.now; trace = Some trace }) c.args.parts.now c.args.attrs _
     c.requires.distinct c.in_ok-path.ensures refl
@@ -51,8 +57,8 @@ returns-clause-readable g c =
       laid = Some c.args.attrs;
       errors = c.in_ok-laid.laid.errors;
       paragraphs = c.in_ok-laid.laid.paragraphs;
-      lines = c.new.result;
-      parts = c.new-2.result;
+      lines = c.in_ok-laid.laid.lines;
+      parts = c.new.result;
     } in
     readable_by_parts c.args.width c.args.attrs c.args.unit.now trace c.args.parts.now c.in_ok-laid.laid
     c.requires.nested c.in_ok-laid.ensures.laid shows x
@@ -60,8 +66,8 @@ returns-clause-readable g c =
       path_is = c.in_ok-path.ensures;
       errors = refl;
       paragraphs = refl;
-      lines = c.new.ensures;
-      parts = c.new-2.ensures;
+      lines = refl;
+      parts = c.new.ensures;
     })
     c.short_law.ensures.lines
     (c.short_law.ensures.items c.args.attrs c.args.trace.now.value c.size-size.ensures.well_formed
@@ -73,7 +79,7 @@ returns-clause-items g c =
     let trace = wide_trace c.args.trace.now in
     let shows = c.in_ok-laid.ensures.shown at.0 at.1 trace at.2 at.3 in
     items_anew_is c.args.width c.args.attrs c.args.unit.now trace c.args.parts.now c.in_ok-laid.laid
-    c.requires.nested c.in_ok-laid.ensures.laid shows (map (λ p. p.value) c.all.result.now) c.args.shown.now.parts
+    c.requires.nested c.in_ok-laid.ensures.laid shows c.all.result.now c.args.shown.now.parts
     c.all.ensures c.in_ok-laid.laid.items c.in_ok-laid.ensures.items
 
 pub returns-clause-within : goal.returns-clause-within
@@ -82,5 +88,5 @@ returns-clause-within g c =
     let trace = wide_trace c.args.trace.now in
     let shows = c.in_ok-laid.ensures.shown at.0 at.1 trace at.2 at.3 in
     items_within c.args.width c.args.attrs c.args.unit.now trace c.args.parts.now c.in_ok-laid.laid
-    c.requires.nested c.in_ok-laid.ensures.laid shows (map (λ p. p.value) c.all.result.now) c.args.shown.now.parts
+    c.requires.nested c.in_ok-laid.ensures.laid shows c.all.result.now c.args.shown.now.parts
     c.all.ensures c.in_ok-laid.laid.items c.in_ok-laid.ensures.items
