@@ -5,7 +5,7 @@ use Rattle.std.proofs.Common.{slice_set, slice_index_or}
 use Rattle.std.proofs.lemmas.List.{take_more, length-set}
 use Rattle.std.proofs.lemmas.Option.{slice_get-get_or}
 use Rattle.std.proofs.lemmas.List.Elements.{All-from_recursion}
-use Rattle.std.specs.List.{AllByRecursion}
+use Rattle.std.specs.List.{All, AllByRecursion}
 use Rattle.std.specs.Option.{option_map_or}
 use Rattle.std.specs.Prelude.{slice_get}
 use Rattle.tx_tree.specs.WideTree.{WideTree, leaf}
@@ -18,9 +18,9 @@ use Rattle.tx_bridge.specs.Names.{Empty as EmptyKept, EmptyParts}
 use Rattle.tx_bridge.specs.Nested.{KeptParts}
 use Rattle.tx_unit_layout.specs.LaidAts.{LaidAt, laid_at}
 use Rattle.tx_unit_layout.specs.declared.shown.Shown.{Shown}
+use Rattle.tx_unit_layout.specs.Views.{IsReadable}
 use Rattle.tx_view.specs.Laid.{AreLaid, IsBlank, AreBlank, laid_in, laid_parts_in}
-use Rattle.tx_view.proofs.Forgetting.{AllReadable}
-use Rattle.tx_view.proofs.Moved.{Reads, blank_reads}
+use Rattle.tx_view.proofs.Moved.{blank_reads}
 use Rattle.tx_view.proofs.OfParts.{blank_is_laid}
 
 more_blank : (us : List DocUnit) (xs : List Shown) (u : DocUnit) (x : Shown) → AreBlank us xs → IsBlank u.path x
@@ -94,14 +94,14 @@ blank_attributes (u ∷ us) [] h = absurd h
 blank_attributes (u ∷ us) (x ∷ xs) h =
     ap (λ a. a ∷ laid_in xs) h.0.laid ∙ ap (λ bs. None ∷ bs) (blank_attributes us xs h.1)
 
-each_blank_reads : (us : List DocUnit) (xs : List Shown) → AreBlank us xs → AllByRecursion Reads xs
+each_blank_reads : (us : List DocUnit) (xs : List Shown) → AreBlank us xs → AllByRecursion IsReadable xs
 each_blank_reads [] [] h = tt
 each_blank_reads [] (x ∷ xs) h = absurd h
 each_blank_reads (u ∷ us) [] h = absurd h
 each_blank_reads (u ∷ us) (x ∷ xs) h = (blank_reads u.path x h.0, each_blank_reads us xs h.1)
 
-pub blank_readable : (us : List DocUnit) (xs : List Shown) → AreBlank us xs → AllReadable xs
-blank_readable us xs h = All-from_recursion Reads xs (each_blank_reads us xs h)
+pub blank_readable : (us : List DocUnit) (xs : List Shown) → AreBlank us xs → All IsReadable xs
+blank_readable us xs h = All-from_recursion IsReadable xs (each_blank_reads us xs h)
 
 -- as many are laid out as there are units
 pub as_many_laid : (width : ℕ) (es : Kept) (pss : List KeptParts) (xs : List Shown) → AreLaid width es pss xs

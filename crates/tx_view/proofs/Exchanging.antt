@@ -1,6 +1,6 @@
 -- The units after an edit that changes one paragraph alone.
-use Rattle.std.proofs.Common.{◌≡◌, ℕ, zero, suc, ◌+◌, ◌≤◌, Bool, true, false, List, [], ◌∷◌, length, map}
-use Rattle.std.proofs.Common.{Option, Some, None, refl, sym, ap, subst, ◌∙◌, arith}
+use Rattle.std.proofs.Common.{◌≡◌, ℕ, zero, suc, ◌+◌, ◌≤◌, ◌<◌, Bool, true, false, List, [], ◌∷◌, length, map}
+use Rattle.std.proofs.Common.{slice_index_or, Option, Some, None, refl, sym, ap, subst, ◌∙◌, arith}
 use Rattle.std.proofs.lemmas.Bool.{and_parts}
 use Rattle.std.specs.Option.{option_map, option_map_or}
 use Rattle.std.proofs.lemmas.Bool.Decides.{Decides-eqb}
@@ -14,6 +14,7 @@ use Rattle.tx_doc.specs.declared.buffer.Buffer.{Buffer}
 use Rattle.tx_units.specs.declared.kinds.Unit.{Unit as DocUnit}
 use Rattle.tx_units.specs.Inside.{ChangesOne}
 use Rattle.tx_units.specs.Units.{units, units_with}
+use Rattle.tx_part_layout.specs.declared.laid.PlacedPart.{PlacedPart}
 use Rattle.tx_bridge.specs.Carrying.{HaveSameTrees}
 use Rattle.tx_bridge.specs.Entries.{Entry, Kept, units_of}
 use Rattle.tx_bridge.specs.InPlace.{IsOneChanged, NoneChanged, is_changed, is_gone, are_within, numbers_but}
@@ -22,6 +23,7 @@ use Rattle.tx_bridge.specs.UnitLists.{AreUnits}
 use Rattle.tx_view.specs.Exchanged.{IsNow, IsExchanged, stays_alone, exchanged_from, exchanged_in}
 use Rattle.tx_view.specs.Laid.{IsTarget}
 use Rattle.tx_view.specs.declared.carrying.Target.TheVariants.{InPlace}
+use Rattle.tx_view.proofs.Blank.{tree_at}
 use Rattle.tx_view.proofs.Changing.{stays_beside}
 
 some_same : {A : Type 0} (x y : A) → Some x ≡ Some y → x ≡ y
@@ -138,9 +140,10 @@ many_with zero x (u ∷ us) = refl
 many_with (suc i) x (u ∷ us) = ap suc (many_with i x us)
 
 -- what is shown can stay in place
-pub target_with : (i : ℕ) (silent : Bool) (x : WideTree) (us vs : List DocUnit) (ss : List (Option ℕ))
-    → vs ≡ units_with i x us → ss ≡ numbers_but i 0 (length us) → IsTarget us vs ss (InPlace i silent)
-target_with i silent x us vs ss is numbers = (
+pub target_with : (i : ℕ) (silent : Bool) (ps : List PlacedPart) (x : WideTree) (us vs : List DocUnit)
+    (ss : List (Option ℕ)) → vs ≡ units_with i x us → ss ≡ numbers_but i 0 (length us)
+    → IsTarget us vs ss (InPlace i silent ps)
+target_with i silent ps x us vs ss is numbers = (
   numbers ∙ ap (numbers_but i 0) (sym (ap length is ∙ many_with i x us)),
   ap (map (λ u. u.path)) is ∙ paths_with i x us,
 )
@@ -187,24 +190,24 @@ same_with i n x us vs ss is numbers l m u v at there number =
     (ap (λ (w : DocUnit). w.tagged.tree) e, ap (λ (w : DocUnit). is_some w.path) e)
 
 -- what is kept, and what is shown, is as it would be behind any edit
-pub record IsInPlace (buffer i : ℕ) (silent : Bool) (ms : List Mod) (t : WideTree) (kept new : Kept)
-    (ss : List (Option ℕ)) (vs : List DocUnit) : Type 0 where
-  pub target : IsTarget (units_of kept) vs ss (InPlace i silent)
+pub record IsInPlace (buffer i : ℕ) (silent : Bool) (ps : List PlacedPart) (ms : List Mod) (t : WideTree)
+    (kept new : Kept) (ss : List (Option ℕ)) (vs : List DocUnit) : Type 0 where
+  pub target : IsTarget (units_of kept) vs ss (InPlace i silent ps)
   pub same_trees : HaveSameTrees (units_of kept) vs ss
   pub kept_is : new ≡ Carry buffer ms t kept vs
   pub sources : ss ≡ Sources buffer ms t (units_of kept) vs
   pub units_are : units_of new ≡ vs
 
-pub in_place : (buffer i : ℕ) (silent : Bool) (ms : List Mod) (t before x : WideTree) (kept new : Kept)
-    (ss : List (Option ℕ)) (vs : List DocUnit) → buffer ≡ 0 → t ≡ before → vs ≡ units_with i x (units_of kept)
-    → new ≡ Carry 0 ms before kept (units_with i x (units_of kept))
+in_place : (buffer i : ℕ) (silent : Bool) (ps : List PlacedPart) (ms : List Mod) (t before x : WideTree)
+    (kept new : Kept) (ss : List (Option ℕ)) (vs : List DocUnit) → buffer ≡ 0 → t ≡ before
+    → vs ≡ units_with i x (units_of kept) → new ≡ Carry 0 ms before kept (units_with i x (units_of kept))
     → ss ≡ Sources 0 ms before (units_of kept) (units_with i x (units_of kept))
     → ss ≡ numbers_but i 0 (length (units_of kept)) → units_of new ≡ units_with i x (units_of kept)
-    → IsInPlace buffer i silent ms t kept new ss vs
-in_place buffer i silent ms t before x kept new ss vs first at now carried sources numbers own =
+    → IsInPlace buffer i silent ps ms t kept new ss vs
+in_place buffer i silent ps ms t before x kept new ss vs first at now carried sources numbers own =
     let us : List DocUnit = units_of kept in
     record {
-      target = target_with i silent x us vs ss now numbers;
+      target = target_with i silent ps x us vs ss now numbers;
       same_trees = same_with i (length us) x us vs ss now numbers;
       kept_is =
           carried ∙ ap (λ ws. Carry 0 ms before kept ws) (sym now) ∙ ap (λ w. Carry 0 ms w kept vs) (sym at)
@@ -214,3 +217,19 @@ in_place buffer i silent ms t before x kept new ss vs first at now carried sourc
           ∙ ap (λ k. Sources k ms t us vs) (sym first);
       units_are = own ∙ sym now;
     }
+
+-- so it is where `carry_in_place` was called for the unit that is exchanged
+pub carried_at : (bs after : List Buffer) (buffer i : ℕ) (silent : Bool) (ps : List PlacedPart) (ms : List Mod)
+    (d : Buffer) (t x : WideTree) (kept new : Kept) (ss : List (Option ℕ)) → ChangesOne bs i t x → 1 ≤ length bs
+    → buffer < length bs → IsExchanged i buffer ms t x (units_of kept) → units_of kept ≡ units bs
+    → after ≡ with_tree bs buffer t → changed_by_all ms (tree_of bs buffer) ≡ Some t
+    → new ≡ Carry 0 ms (slice_index_or bs buffer d).tree kept (units_with i x (units_of kept))
+    → ss ≡ Sources 0 ms (slice_index_or bs buffer d).tree (units_of kept) (units_with i x (units_of kept))
+    → ss ≡ numbers_but i 0 (length (units_of kept)) → units_of new ≡ units_with i x (units_of kept)
+    → IsInPlace buffer i silent ps ms (tree_of bs buffer) kept new ss (units after)
+carried_at bs after buffer i silent ps ms d t x kept new ss law some within h of is_after made carried sources numbers
+    own =
+    in_place buffer i silent ps ms (tree_of bs buffer) (slice_index_or bs buffer d).tree x kept new ss (units after)
+    h.one.document (tree_at bs buffer d within)
+    (ap units is_after ∙ exchanged_units bs buffer i ms t x (units_of kept) law some h of made) carried sources numbers
+    own

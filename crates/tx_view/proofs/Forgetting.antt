@@ -1,22 +1,24 @@
 -- What was laid out of units is dropped.
 use Rattle.std.proofs.Common.{◌≡◌, ℕ, zero, suc, ◌+◌, ◌<◌, ◌≤◌, List, [], ◌∷◌, ◌++◌, length, take, drop, map, slice_set}
-use Rattle.std.proofs.Common.{slice_index_or, Bool, false, refl, ap, sym, ◌∙◌, arith}
+use Rattle.std.proofs.Common.{slice_index_or, Bool, true, false, refl, ap, sym, ◌∙◌, arith}
 use Rattle.std.proofs.lemmas.List.{drop_more, drop-drop, drop-set-lt, append_assoc, append-nil, take_more_set}
 use Rattle.std.proofs.lemmas.List.{take_all, drop_all}
-use Rattle.std.proofs.lemmas.List.Elements.{recursion_from_All, All-from_recursion}
+use Rattle.std.proofs.lemmas.List.Elements.{recursion_from_All, All-from_recursion, All-tail}
 use Rattle.std.specs.List.{All, AllByRecursion}
 use Rattle.std.specs.Option.{unwrap_or}
 use Rattle.std.specs.Prelude.{slice_get}
-use Rattle.tx_part_layout.specs.declared.laid.LaidPart.{LaidPart}
+use Rattle.tx_part_layout.specs.LaidParts.{placed_paragraphs, placed_lines}
+use Rattle.tx_part_layout.specs.declared.laid.PlacedPart.{PlacedPart}
+use Rattle.tx_view_form.specs.Positions.{IsShort}
 use Rattle.tx_unit_layout.specs.declared.shown.Shown.{Shown}
-use Rattle.tx_unit_layout.specs.Views.{unit_view, IsReadable}
+use Rattle.tx_unit_layout.specs.Views.{IsReadable}
 use Rattle.tx_view.specs.Laid.{unlaid, without, dropped, dropped_by, without_parts}
 
 abbrev pub AllReadable : List Shown → Type 0
-AllReadable xs = All (λ x. IsReadable (unit_view x)) xs
+AllReadable xs = All IsReadable xs
 
 abbrev AreReadable : List Shown → Type 0
-AreReadable xs = AllByRecursion (λ x. IsReadable (unit_view x)) xs
+AreReadable xs = AllByRecursion IsReadable xs
 
 -- ---- one unit after the other
 
@@ -54,30 +56,49 @@ without_end fs now i past =
 
 -- ---- what stays readable
 
+nothing_behind : {A : Type 0} (xs ys : List A) → xs ++ ys ≡ [] → ys ≡ []
+nothing_behind [] ys e = e
+nothing_behind (x ∷ xs) ys e = cc
+
+all_behind : {A : Type 0} (P : A → Type 0) (xs ys : List A) → All P (xs ++ ys) → All P ys
+all_behind P [] ys h = h
+all_behind P (x ∷ xs) ys h = all_behind P xs ys (All-tail P x (xs ++ ys) h)
+
+one_dropped : (x : Shown) → IsReadable x → IsReadable (dropped x)
+one_dropped x h = record {
+  placed = λ none. nothing_behind (placed_lines x.parts) x.lines (h.placed none);
+  short = all_behind (λ line. All IsShort line.items) (placed_lines x.parts) x.lines h.short;
+  short_items =
+      all_behind (λ p. All IsShort p.items) (placed_paragraphs x.parts) x.paragraphs.items h.short_items;
+  below = λ a is. tt;
+}
+
+one_unlaid : (f : Bool) (x : Shown) → IsReadable x → IsReadable (unlaid f x)
+one_unlaid true x h =
+    record { placed = h.placed; short = h.short; short_items = h.short_items; below = λ a is. cc }
+one_unlaid false x h =
+    record { placed = h.placed; short = h.short; short_items = h.short_items; below = h.below }
+
 readable_each : (fs : List Bool) (xs : List Shown) → AreReadable xs → AreReadable (without fs xs)
 readable_each [] xs h = h
 readable_each (f ∷ fs) [] h = h
-readable_each (f ∷ fs) (x ∷ xs) h =
-    (record { placed = h.0.placed; short = h.0.short; short_items = h.0.short_items }, readable_each fs xs h.1)
+readable_each (f ∷ fs) (x ∷ xs) h = (one_unlaid f x h.0, readable_each fs xs h.1)
 
 pub readable_without : (fs : List Bool) (xs : List Shown) → AllReadable xs → AllReadable (without fs xs)
 readable_without fs xs h =
-    All-from_recursion (λ (x : Shown). IsReadable (unit_view x)) (without fs xs)
-    (readable_each fs xs (recursion_from_All (λ (x : Shown). IsReadable (unit_view x)) xs h))
+    All-from_recursion IsReadable (without fs xs) (readable_each fs xs (recursion_from_All IsReadable xs h))
 
 readable_all : (xs : List Shown) → AreReadable xs → AreReadable (map dropped xs)
 readable_all [] h = tt
-readable_all (x ∷ xs) h =
-    (record { placed = h.0.placed; short = h.0.short; short_items = h.0.short_items }, readable_all xs h.1)
+readable_all (x ∷ xs) h = (one_dropped x h.0, readable_all xs h.1)
 
 pub readable_dropped : (xs : List Shown) → AllReadable xs → AllReadable (map dropped xs)
 readable_dropped xs h =
-    All-from_recursion (λ (x : Shown). IsReadable (unit_view x)) (map dropped xs)
-    (readable_all xs (recursion_from_All (λ (x : Shown). IsReadable (unit_view x)) xs h))
+    All-from_recursion IsReadable (map dropped xs) (readable_all xs (recursion_from_All IsReadable xs h))
 
-one_readable : (ps : List LaidPart) (x : Shown) → IsReadable (unit_view x) → IsReadable (unit_view (dropped_by ps x))
+one_readable : (ps : List PlacedPart) (x : Shown) → IsReadable x → IsReadable (dropped_by ps x)
 one_readable [] x h = h
-one_readable (p ∷ ps) x h = record { placed = h.placed; short = h.short; short_items = h.short_items }
+one_readable (p ∷ ps) x h = one_dropped x h
 
 readable_by : (xs : List Shown) → AreReadable xs → AreReadable (without_parts xs)
 readable_by [] h = tt
@@ -85,8 +106,7 @@ readable_by (x ∷ xs) h = (one_readable x.parts x h.0, readable_by xs h.1)
 
 pub readable_left : (xs : List Shown) → AllReadable xs → AllReadable (without_parts xs)
 readable_left xs h =
-    All-from_recursion (λ (x : Shown). IsReadable (unit_view x)) (without_parts xs)
-    (readable_by xs (recursion_from_All (λ (x : Shown). IsReadable (unit_view x)) xs h))
+    All-from_recursion IsReadable (without_parts xs) (readable_by xs (recursion_from_All IsReadable xs h))
 
 -- where nothing is laid out of parts, all stays
 pub all_stay : (xs : List Shown) → without_parts (map dropped xs) ≡ map dropped xs

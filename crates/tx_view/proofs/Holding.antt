@@ -1,14 +1,18 @@
 -- What is kept is of the units of the buffers.
-use Rattle.std.proofs.Common.{◌≡◌, ℕ, List, [], ◌∷◌, map, subst}
-use Rattle.std.proofs.lemmas.List.Elements.{recursion_from_All}
+use Rattle.std.proofs.Common.{◌≡◌, ℕ, List, [], ◌∷◌, map, Bool, true, false, Option, Some, ◌⊎◌, inl, inr, ap, sym}
+use Rattle.std.proofs.Common.{subst, ◌∙◌}
+use Rattle.std.proofs.lemmas.Slice.Eq.{bytes_eq-Decides}
 use Rattle.std.specs.List.{AllByRecursion}
-use Rattle.tx_part_layout.specs.declared.laid.LaidPart.{LaidPart}
+use Rattle.std.specs.Prelude.{if◌then◌else◌}
+use Rattle.std.specs.Str.{bytes_eq}
+use Rattle.tx_exec_form.specs.Evaluated.{WideTrace}
+use Rattle.tx_part_layout.specs.declared.laid.PlacedPart.{PlacedPart}
 use Rattle.tx_bridge.specs.Entries.{Kept}
 use Rattle.tx_bridge.specs.HeldParts.{AllPartsHold}
-use Rattle.tx_bridge.specs.Nested.{KeptParts}
+use Rattle.tx_bridge.specs.Nested.{KeptParts, kept_at}
 use Rattle.tx_bridge.specs.Sound.{AllHold}
-use Rattle.tx_unit_layout.specs.LaidAts.{laid_at}
-use Rattle.tx_unit_layout.specs.LaidUnits.{IsOfKept}
+use Rattle.tx_unit_layout.specs.LaidAts.{LaidAt, laid_at}
+use Rattle.tx_unit_layout.specs.LaidUnits.{AreOf}
 use Rattle.tx_unit_layout.specs.declared.shown.Shown.{Shown}
 use Rattle.tx_view.specs.Laid.{AreLaid, laid_parts_in}
 use Rattle.tx_view.specs.Names.{Holds}
@@ -17,10 +21,32 @@ use Rattle.tx_view.specs.WholeViews.{WholeView, whole_of, all_of, IsKept}
 use Rattle.tx_view.specs.declared.view.View.TheInside.{Inside}
 use Rattle.tx_view.proofs.Blank.{as_many_laid}
 
-each_kept : (ks : KeptParts) (ps : List LaidPart) → AllByRecursion (IsOfKept ks) ps
+each_kept : (ks : KeptParts) (ps : List PlacedPart) → AreOf ks ps → AllByRecursion (IsKeptAt ks) (map laid_at ps)
+each_kept [] [] h = tt
+each_kept [] (p ∷ ps) h = absurd h
+each_kept (k ∷ ks) [] h = tt
+each_kept (k ∷ ks) (p ∷ ps) h = (
+  (
+    h.0.trace,
+    ap (λ b. if b then k.trace else kept_at ks p.path) ((bytes_eq-Decides k.path p.path).1 (sym h.0.path)) ∙ h.0.kept,
+  ),
+  later (map laid_at ps) (each_kept ks ps h.1),
+)
+  where
+    by : (b : Bool) (o : Option WideTrace) → ((t : WideTrace) × (o ≡ Some t))
+        → (t : WideTrace) × ((if b then k.trace else o) ≡ Some t)
+    by true o found = (h.0.trace, h.0.kept)
+    by false o found = found
+
+    later : (ls : List LaidAt) → AllByRecursion (IsKeptAt ks) ls → AllByRecursion (IsKeptAt (k ∷ ks)) ls
+    later [] found = tt
+    later (l ∷ ls) found = (by (bytes_eq k.path l.path) (kept_at ks l.path) found.0, later ls found.1)
+
+unit_kept : (ks : KeptParts) (ps : List PlacedPart) → (ps ≡ []) ⊎ AreOf ks ps
     → AllByRecursion (IsKeptAt ks) (map laid_at ps)
-each_kept ks [] h = tt
-each_kept ks (p ∷ ps) h = ((h.0.trace, h.0.kept), each_kept ks ps h.1)
+unit_kept ks ps (inl none) =
+    subst (λ (qs : List PlacedPart). AllByRecursion (IsKeptAt ks) (map laid_at qs)) (sym none) tt
+unit_kept ks ps (inr of) = each_kept ks ps of
 
 -- what is laid out of parts is of parts that are kept
 laid_kept : (width : ℕ) (es : Kept) (pss : List KeptParts) (xs : List Shown) → AreLaid width es pss xs
@@ -31,7 +57,7 @@ laid_kept width [] (ks ∷ pss) xs h = absurd h
 laid_kept width (e ∷ es) [] xs h = absurd h
 laid_kept width (e ∷ es) (ks ∷ pss) [] h = absurd h
 laid_kept width (e ∷ es) (ks ∷ pss) (x ∷ xs) h = (
-  each_kept ks x.parts (recursion_from_All (IsOfKept ks) x.parts h.0.parts.of_kept),
+  unit_kept ks x.parts h.0.parts.of_kept,
   laid_kept width es pss xs h.1,
 )
 

@@ -1,28 +1,30 @@
 -- What is laid out of units, and of their parts, stays theirs.
 use Rattle.std.proofs.Common.{◌≡◌, ℕ, zero, suc, List, [], ◌∷◌, ◌++◌, length, take, drop, map, Bool, true, false}
-use Rattle.std.proofs.Common.{Some, refl, ap, sym, subst, ◌∙◌, arith}
+use Rattle.std.proofs.Common.{Some, inl, refl, ap, sym, subst, ◌∙◌, arith}
 use Rattle.std.proofs.lemmas.List.{length-map}
-use Rattle.std.proofs.lemmas.List.Elements.{All-nil}
+use Rattle.std.proofs.lemmas.List.Elements.{All-nil, All-from_recursion, recursion_from_All}
 use Rattle.std.proofs.lemmas.Option.{same_Some}
-use Rattle.std.specs.List.{IsDistinct}
+use Rattle.std.specs.List.{All, AllByRecursion, IsDistinct}
 use Rattle.std.specs.Prelude.{slice_get}
 use Rattle.tx_units.specs.declared.kinds.Unit.{Unit as DocUnit}
 use Rattle.tx_items.specs.declared.attributes.Attrs.{Attrs}
 use Rattle.tx_view_form.specs.Outcomes.{Moment, beginning, behind}
 use Rattle.tx_view_form.specs.Started.{attributes_of}
 use Rattle.tx_part_layout.specs.LaidParts.{IsLaidPart}
-use Rattle.tx_part_layout.specs.declared.laid.LaidPart.{LaidPart}
+use Rattle.tx_part_layout.specs.declared.laid.PlacedPart.{PlacedPart}
 use Rattle.tx_bridge.specs.Bridged.{Bridged}
 use Rattle.tx_bridge.specs.Reached.{reached_from}
 use Rattle.tx_bridge.specs.Entries.{Entry, Kept, units_of, fresh_from, outcome_of}
 use Rattle.tx_bridge.specs.Nested.{KeptParts, fresh_parts, fresh_parts_from, part_flags_from, PartsStay}
 use Rattle.tx_unit_layout.specs.LaidAts.{laid_at, laid_ats}
-use Rattle.tx_unit_layout.specs.LaidUnits.{IsLaid, WasLaid, AreLaidParts, IsOfKept, Stays}
+use Rattle.tx_unit_layout.specs.LaidUnits.{IsLaid, WasLaid, AreLaidParts, Stays}
 use Rattle.tx_unit_layout.specs.declared.shown.Shown.{Shown}
+use Rattle.tx_unit_layout.specs.Views.{IsReadable}
 use Rattle.tx_view.specs.Costs.{entry_at}
 use Rattle.tx_view.specs.Laid.{AreLaid, WereLaid, laid_in, laid_parts_in, unlaid, without, dropped, dropped_by}
 use Rattle.tx_view.specs.Laid.{without_parts}
 use Rattle.tx_view.specs.Stores.{attributes_from, laid_parts_from}
+use Rattle.tx_view.specs.Units.{IsBelow}
 use Rattle.tx_view.proofs.Renewed.{reached_many, same_many}
 
 -- an entry whose unit has no flag stays
@@ -109,7 +111,8 @@ were_laid width fs [] new [] news fss [] h same flags many parts marks stay stil
 were_laid width (f ∷ fs) (d ∷ old) (e ∷ new) (ks ∷ olds) (ls ∷ news) (gs ∷ fss) (x ∷ xs) h same flags many parts marks
     stay still stays = (
       one_were width f d e ks ls gs x h.0 (cc) (λ off. same_Some e d (stay 0 (ap Some off)))
-          (λ off. same_Some ls ks (still 0 (ap Some off))) (λ k s there off. stays 0 k ks ls gs s refl refl refl there off),
+          (λ off. same_Some ls ks (still 0 (ap Some off)))
+          (λ k s there off. stays 0 k ks ls gs s refl refl refl there off),
       were_laid width fs old new olds news fss xs h.1 (cc) (omega (arith, flags)) (omega (arith, many))
           (omega (arith, parts)) (omega (arith, marks)) (λ i. stay (suc i)) (λ i. still (suc i)) (λ i. stays (suc i)),
     )
@@ -159,7 +162,8 @@ mixed_many (suc n) (p ∷ ps) (q ∷ qs) many = ap suc (mixed_many n ps qs (omeg
 
 nothing_of : (width : ℕ) (ks : KeptParts) → AreLaidParts width ks []
 unfolding IsDistinct
-nothing_of width ks = record { each = All-nil (IsLaidPart width); distinct = tt; of_kept = All-nil (IsOfKept ks) }
+nothing_of width ks =
+    record { each = All-nil (λ (p : PlacedPart). IsLaidPart width p.laid.value); distinct = tt; of_kept = inl refl }
 
 one_dropped : (width : ℕ) (d e : Entry) (ks held ls : KeptParts) (x : Shown) → IsLaid width d ks held x
     → e.unit ≡ d.unit → IsLaid width e ls ls (dropped x)
@@ -204,14 +208,14 @@ behind_refusal width old new xs ys n h same parts is =
           (omega (arith, units, as_many, fresh_many beginning (units_of old.kept))),
     )))
 
-one_left : (width : ℕ) (e : Entry) (ks held : KeptParts) (ps : List LaidPart) (x : Shown) → IsLaid width e ks held x
+one_left : (width : ℕ) (e : Entry) (ks held : KeptParts) (ps : List PlacedPart) (x : Shown) → IsLaid width e ks held x
     → x.parts ≡ ps → IsLaid width e ks ks (dropped_by ps x)
 one_left width e ks held [] x h none = record {
   path = h.path;
   laid = h.laid;
   by_parts = h.by_parts;
   same = λ a is. refl;
-  parts = subst (λ (ps : List LaidPart). AreLaidParts width ks ps) (sym none) (nothing_of width ks);
+  parts = subst (λ (ps : List PlacedPart). AreLaidParts width ks ps) (sym none) (nothing_of width ks);
 }
 one_left width e ks held (p ∷ ps) x h some = one_dropped width e e ks held ks x h refl
 
@@ -278,3 +282,18 @@ parts_laid width m [] [] (x ∷ xs) laid fresh parts is = absurd laid
 parts_laid width m [] (ks ∷ pss) xs laid fresh parts is = absurd laid
 parts_laid width m (e ∷ es) [] xs laid fresh parts is = absurd laid
 parts_laid width m (e ∷ es) (ks ∷ pss) [] laid fresh parts is = absurd laid
+
+-- their parts tell how many lines stand above them
+below_each : (m : Moment) (us : List DocUnit) (xs : List Shown) → laid_in xs ≡ attributes_from m us
+    → AllByRecursion IsReadable xs → AllByRecursion IsBelow xs
+below_each m us [] is h = tt
+below_each m [] (x ∷ xs) is h = cc
+below_each m (u ∷ us) (x ∷ xs) is h =
+    let next : Moment = behind m (outcome_of m u) in
+    let two = both x.laid (Some (attributes_of m.env)) (laid_in xs) (attributes_from next us) is in
+    (h.0.below (attributes_of m.env) two.0, below_each next us xs two.1 h.1)
+
+pub all_below : (us : List DocUnit) (xs : List Shown) → laid_in xs ≡ attributes_from beginning us → All IsReadable xs
+    → All IsBelow xs
+all_below us xs is h =
+    All-from_recursion IsBelow xs (below_each beginning us xs is (recursion_from_All IsReadable xs h))

@@ -1,10 +1,11 @@
 -- An edit of one unit that sets no name leaves the attributes before all units.
 use Rattle.std.proofs.Common.{◌≡◌, ℕ, zero, suc, ◌+◌, ◌<◌, List, [], ◌∷◌, length, slice_set, slice_index_or}
 use Rattle.std.proofs.Common.{Bool, true, false, Option, Some, None, refl, ap, sym, subst, ◌∙◌, arith}
-use Rattle.std.proofs.lemmas.Option.{same_Some, slice_get-get_or, slice_get-map}
+use Rattle.std.proofs.lemmas.Option.{same_Some, slice_get_within, slice_get-get_or, slice_get-map}
 use Rattle.std.specs.FinMap.{empty}
+use Rattle.std.specs.List.{All}
 use Rattle.std.specs.Option.{option_map}
-use Rattle.std.specs.Prelude.{slice_get, ◌==◌, if◌then◌else◌, IfSome}
+use Rattle.std.specs.Prelude.{slice_get, ◌==◌, if◌then◌else◌}
 use Rattle.tx_tree.specs.WideTree.{WideTree}
 use Rattle.tx_env.specs.Environments.{NameMap}
 use Rattle.tx_exec_form.specs.Evaluated.{WideTrace}
@@ -12,6 +13,7 @@ use Rattle.tx_mod.specs.declared.mods.Mod.{Mod}
 use Rattle.tx_units.specs.declared.kinds.Unit.{Unit as DocUnit}
 use Rattle.tx_units.specs.Units.{units}
 use Rattle.tx_items.specs.declared.attributes.Attrs.{Attrs}
+use Rattle.tx_layout.specs.Paging.{Unmarked}
 use Rattle.tx_view_form.specs.Outcomes.{Moment, beginning, behind, env_behind}
 use Rattle.tx_view_form.specs.Started.{attributes_of}
 use Rattle.tx_bridge.specs.Entries.{Entry, Kept, units_of, traces_of, fresh_from, outcome_of}
@@ -21,9 +23,10 @@ use Rattle.tx_bridge.specs.Names.{Sources, Carry as CarryKept}
 use Rattle.tx_bridge.specs.Nested.{KeptParts}
 use Rattle.tx_view.specs.declared.carrying.Target.{Target}
 use Rattle.tx_view.specs.declared.carrying.Target.TheVariants.{InPlace}
+use Rattle.tx_part_layout.specs.declared.laid.PlacedPart.{PlacedPart}
 use Rattle.tx_unit_layout.specs.declared.shown.Shown.{Shown}
 use Rattle.tx_view.specs.declared.view.View.TheInside.{Inside}
-use Rattle.tx_view.specs.Laid.{AreLaid, laid_in, IsLeftBy, StayBut, IsTarget, IsMoved, SetNoName}
+use Rattle.tx_view.specs.Laid.{AreLaid, laid_in, StayBut, WasShown, IsTarget, IsMoved, SetNoName}
 use Rattle.tx_view.specs.Lone.{attributes_along, IsLone}
 use Rattle.tx_bridge.specs.Settled.{IsSilent}
 use Rattle.tx_view.specs.Names.{Fresh}
@@ -35,53 +38,75 @@ use Rattle.tx_view.proofs.Staying.{not_equal, are_equal, AreFrom, had_here, from
 use Rattle.tx_view.proofs.Staying.{stays_left, stay_behind}
 
 -- for which attributes a unit was laid out
-pub laid_there : (xs : List Shown) (i : ℕ) (d : Shown) (o : Option Attrs) → i < length xs
-    → o ≡ (slice_index_or xs i d).laid → IfSome o (λ a. slice_get (laid_in xs) i ≡ Some (Some a))
-laid_there xs i d None inside is = tt
-laid_there xs i d (Some a) inside is =
-    slice_get-map (λ (x : Shown). x.laid) xs i
-    ∙ ap (option_map (λ (x : Shown). x.laid)) (slice_get-get_or xs i d inside) ∙ ap Some (sym is)
+pub laid_there : (xs : List Shown) (i : ℕ) (x : Shown) (a : Attrs) → slice_get xs i ≡ Some x → x.laid ≡ Some a
+    → slice_get (laid_in xs) i ≡ Some (Some a)
+laid_there xs i x a at is =
+    slice_get-map (λ (y : Shown). y.laid) xs i ∙ ap (option_map (λ (y : Shown). y.laid)) at ∙ ap Some is
+
+-- for these it was laid out, and what of its lines is said
+pub was_shown : (xs : List Shown) (i : ℕ) (d : Shown) (o : Option Attrs) (a : Attrs) (b : Bool) → i < length xs
+    → o ≡ (slice_index_or xs i d).laid → o ≡ Some a
+    → (b ≡ true → All Unmarked (unit_view (slice_index_or xs i d)).lines)
+    → WasShown xs i (record { unit = i; attrs = a; unmarked = b })
+was_shown xs i d o a b inside is some unmarked = record {
+  number = refl;
+  shown = slice_index_or xs i d;
+  there = slice_get-get_or xs i d inside;
+  laid = sym is ∙ some;
+  unmarked = unmarked;
+}
 
 -- ---- what stays of what is shown
 
-put_back : (ms : List Mod) (i k j : ℕ) (a : Attrs) (ys xs : List Shown) → i ≡ k + j → StayBut ms i k ys xs
+put_back : (ps : List PlacedPart) (i k j : ℕ) (a : Attrs) (ys xs : List Shown) → i ≡ k + j → StayBut ps i k ys xs
     → slice_get (laid_in ys) j ≡ Some (Some a) → slice_set (laid_in xs) j (Some a) ≡ laid_in ys
-put_back ms i k j a [] xs e h at = cc
-put_back ms i k j a (y ∷ ys) [] e h at = absurd h
-put_back ms i k zero a (y ∷ ys) (x ∷ xs) e h at =
+put_back ps i k j a [] xs e h at = cc
+put_back ps i k j a (y ∷ ys) [] e h at = absurd h
+put_back ps i k zero a (y ∷ ys) (x ∷ xs) e h at =
     ap (λ b. b ∷ laid_in xs) (sym (same_Some y.laid (Some a) at))
-    ∙ ap (λ zs. y.laid ∷ laid_in zs) (stay_behind ms i (k + 1) ys xs (omega (arith, e)) h.1)
-put_back ms i k (suc j) a (y ∷ ys) (x ∷ xs) e h at =
+    ∙ ap (λ zs. y.laid ∷ laid_in zs) (stay_behind ps i (k + 1) ys xs (omega (arith, e)) h.1)
+put_back ps i k (suc j) a (y ∷ ys) (x ∷ xs) e h at =
     ap (λ (z : Shown). z.laid ∷ slice_set (laid_in xs) j (Some a))
-    (stays_same ms y x (k == i) (not_equal k i (λ f. omega (arith, e, f))) h.0)
-    ∙ ap (λ bs. y.laid ∷ bs) (put_back ms i (k + 1) j a ys xs (omega (arith, e)) h.1 at)
+    (stays_same ps y x (k == i) (not_equal k i (λ f. omega (arith, e, f))) h.0)
+    ∙ ap (λ bs. y.laid ∷ bs) (put_back ps i (k + 1) j a ys xs (omega (arith, e)) h.1 at)
 
-unlaid_there : (ms : List Mod) (i k j : ℕ) (o : Option Attrs) (ys xs : List Shown) → i ≡ k + j
-    → StayBut ms i k ys xs → slice_get (laid_in ys) j ≡ Some o → slice_get (laid_in xs) j ≡ Some None
-unlaid_there ms i k j o [] xs e h at = cc
-unlaid_there ms i k j o (y ∷ ys) [] e h at = absurd h
-unlaid_there ms i k zero o (y ∷ ys) (x ∷ xs) e h at =
-    ap (λ (z : Shown). Some z.laid) (stays_left ms y x (k == i) (are_equal k i (omega (arith, e))) h.0)
-unlaid_there ms i k (suc j) o (y ∷ ys) (x ∷ xs) e h at =
-    unlaid_there ms i (k + 1) j o ys xs (omega (arith, e)) h.1 at
+unlaid_there : (ps : List PlacedPart) (i k j : ℕ) (o : Option Attrs) (ys xs : List Shown) → i ≡ k + j
+    → StayBut ps i k ys xs → slice_get (laid_in ys) j ≡ Some o → slice_get (laid_in xs) j ≡ Some None
+unlaid_there ps i k j o [] xs e h at = cc
+unlaid_there ps i k j o (y ∷ ys) [] e h at = absurd h
+unlaid_there ps i k zero o (y ∷ ys) (x ∷ xs) e h at =
+    ap (λ (z : Shown). Some z.laid) (stays_left ps y x (k == i) (are_equal k i (omega (arith, e))) h.0)
+unlaid_there ps i k (suc j) o (y ∷ ys) (x ∷ xs) e h at =
+    unlaid_there ps i (k + 1) j o ys xs (omega (arith, e)) h.1 at
 
-same_view : (ms : List Mod) (y x : Shown) (c : Bool) → IsLeftBy ms c y x → unit_view x ≡ unit_view y
-same_view ms y x true h = ap unit_view h
-same_view ms y x false h = ap unit_view h
+-- what units show stays until they are laid out anew, but for that of the unit that has changed
+pub views_but : (ps : List PlacedPart) (i k j : ℕ) (d : Shown) (ys xs : List Shown) → i ≡ k + j → StayBut ps i k ys xs
+    → slice_get ys j ≡ Some d → slice_set (unit_views xs) j (unit_view d) ≡ unit_views ys
+views_but ps i k j d [] xs e h at = cc
+views_but ps i k j d (y ∷ ys) [] e h at = absurd h
+views_but ps i k zero d (y ∷ ys) (x ∷ xs) e h at =
+    ap (λ z. unit_view z ∷ unit_views xs) (sym (same_Some y d at))
+    ∙ ap (λ zs. unit_view y ∷ unit_views zs) (stay_behind ps i (k + 1) ys xs (omega (arith, e)) h.1)
+views_but ps i k (suc j) d (y ∷ ys) (x ∷ xs) e h at =
+    ap (λ z. unit_view z ∷ slice_set (unit_views xs) j (unit_view d))
+    (stays_same ps y x (k == i) (not_equal k i (λ f. omega (arith, e, f))) h.0)
+    ∙ ap (λ us. unit_view y ∷ us) (views_but ps i (k + 1) j d ys xs (omega (arith, e)) h.1 at)
 
-views_stay : (ms : List Mod) (i k : ℕ) (ys xs : List Shown) → StayBut ms i k ys xs → unit_views xs ≡ unit_views ys
-views_stay ms i k [] [] h = refl
-views_stay ms i k [] (x ∷ xs) h = absurd h
-views_stay ms i k (y ∷ ys) [] h = absurd h
-views_stay ms i k (y ∷ ys) (x ∷ xs) h =
-    ap (λ z. z ∷ unit_views xs) (same_view ms y x (k == i) h.0)
-    ∙ ap (λ zs. unit_view y ∷ zs) (views_stay ms i (k + 1) ys xs h.1)
+as_many_stay : (ps : List PlacedPart) (i k : ℕ) (ys xs : List Shown) → StayBut ps i k ys xs → length xs ≡ length ys
+as_many_stay ps i k [] [] h = refl
+as_many_stay ps i k [] (x ∷ xs) h = absurd h
+as_many_stay ps i k (y ∷ ys) [] h = absurd h
+as_many_stay ps i k (y ∷ ys) (x ∷ xs) h = ap suc (as_many_stay ps i (k + 1) ys xs h.1)
 
--- what units show stays until they are laid out anew
-pub stay_views : (ms : List Mod) (to : Target) (i : ℕ) (ss : List (Option ℕ)) (ys xs : List Shown)
-    → to ≡ InPlace i true → IsMoved ms to ss ys xs → unit_views xs ≡ unit_views ys
-stay_views ms to i ss ys xs is moved =
-    views_stay ms i 0 ys xs (subst (λ (o : Target). IsMoved ms o ss ys xs) is moved)
+as_many_views : (xs : List Shown) → length (unit_views xs) ≡ length xs
+as_many_views [] = refl
+as_many_views (x ∷ xs) = ap suc (as_many_views xs)
+
+-- there is a view of that unit
+pub view_there : (ps : List PlacedPart) (i : ℕ) (d : Shown) (ys xs : List Shown) → StayBut ps i 0 ys xs
+    → slice_get ys i ≡ Some d → i < length (unit_views xs)
+view_there ps i d ys xs h at =
+    omega (arith, slice_get_within ys i d at, as_many_stay ps i 0 ys xs h, as_many_views xs)
 
 -- ---- what is kept
 
@@ -163,30 +188,25 @@ as_many : (es : Kept) → length (traces_of es) ≡ length es
 as_many [] = refl
 as_many (e ∷ es) = ap suc (as_many es)
 
-there_within : {A : Type 0} (xs : List A) (i : ℕ) (x : A) → slice_get xs i ≡ Some x → i < length xs
-there_within [] i x h = cc
-there_within (y ∷ xs) zero x h = omega arith
-there_within (y ∷ xs) (suc i) x h = omega (arith, there_within xs i x h)
-
 laid_as_many : (xs : List Shown) → length (laid_in xs) ≡ length xs
 laid_as_many [] = refl
 laid_as_many (x ∷ xs) = ap suc (laid_as_many xs)
 
 -- there is such a unit
 pub laid_within : (xs : List Shown) (i : ℕ) (o : Option Attrs) → slice_get (laid_in xs) i ≡ Some o → i < length xs
-laid_within xs i o at = omega (arith, there_within (laid_in xs) i o at, laid_as_many xs)
+laid_within xs i o at = omega (arith, slice_get_within (laid_in xs) i o at, laid_as_many xs)
 
 pub left_alone : (width buffer : ℕ) (ms : List Mod) (t : WideTree) (old new : Kept) (pss : List KeptParts)
     (olds xs : List Shown) (to : Target) (ss : List (Option ℕ)) (vs : List DocUnit) (i : ℕ) (a : Attrs)
-    → AreLaid width old pss olds → new ≡ CarryKept buffer ms t old vs → ss ≡ Sources buffer ms t (units_of old) vs
-    → IsTarget (units_of old) vs ss to → IsMoved ms to ss olds xs → SetNoName old to → to ≡ InPlace i true
-    → laid_in olds ≡ attributes_along empty (traces_of old) → slice_get (laid_in olds) i ≡ Some (Some a)
-    → IsLone new xs i a
+    (ps : List PlacedPart) → AreLaid width old pss olds → new ≡ CarryKept buffer ms t old vs
+    → ss ≡ Sources buffer ms t (units_of old) vs → IsTarget (units_of old) vs ss to → IsMoved to ss olds xs
+    → SetNoName old to → to ≡ InPlace i true ps → laid_in olds ≡ attributes_along empty (traces_of old)
+    → slice_get (laid_in olds) i ≡ Some (Some a) → IsLone new xs i a
 unfolding CarryKept Sources
-left_alone width buffer ms t old new pss olds xs to ss vs i a laid is_new is_ss target moved silent is along at =
-    let here : IsTarget (units_of old) vs ss (InPlace i true) =
+left_alone width buffer ms t old new pss olds xs to ss vs i a ps laid is_new is_ss target moved silent is along at =
+    let here : IsTarget (units_of old) vs ss (InPlace i true ps) =
     subst (λ (o : Target). IsTarget (units_of old) vs ss o) is target in
-    let stay : StayBut ms i 0 olds xs = subst (λ (o : Target). IsMoved ms o ss olds xs) is moved in
+    let stay : StayBut ps i 0 olds xs = subst (λ (o : Target). IsMoved o ss olds xs) is moved in
     let quiet = subst (λ (o : Target). SetNoName old o) is silent in
     let kept : traces_of new ≡ taken i 0 (traces_of old) vs =
     ap traces_of (is_new ∙ ap (λ ns. taken_from (traces_of old) ns vs) (sym is_ss ∙ here.0)) in
@@ -196,9 +216,9 @@ left_alone width buffer ms t old new pss olds xs to ss vs i a laid is_new is_ss 
       nothing_kept =
           ap (λ ts. slice_get ts i) kept
           ∙ nothing_there i 0 i (traces_of old) vs (omega arith) (omega (arith, inside, many));
-      nothing_laid = unlaid_there ms i 0 i (Some a) olds xs (omega arith) stay at;
+      nothing_laid = unlaid_there ps i 0 i (Some a) olds xs (omega arith) stay at;
       attributes =
-          put_back ms i 0 i a olds xs (omega arith) stay at ∙ along
+          put_back ps i 0 i a olds xs (omega arith) stay at ∙ along
           ∙ sym (along_but i 0 i (traces_of old) (traces_of old) vs empty (omega arith) (from_first (traces_of old))
           (as_many old ∙ sym (kept_many width old pss olds laid) ∙ many)
           (λ o there. let e = trace_at old i o there in subst IsSilent e.2 (quiet refl e.0 e.1)))

@@ -1,4 +1,7 @@
 pub mod Finding
+pub mod Deeper
+pub mod LinesIn
+pub mod Reading
 pub mod NearPlaces
 pub mod Numbering
 pub mod UnitRows
@@ -10,9 +13,9 @@ pub mod Keeping
 pub mod Renewed
 pub mod Onward
 pub mod OfParts
+pub mod ShortParts
 pub mod Moved
 pub mod Staying
-pub mod Editing
 pub mod Blank
 pub mod Changing
 pub mod Exchanging
@@ -26,9 +29,10 @@ pub mod Near
 pub mod Middle
 pub mod Placed
 pub mod Setting
-pub mod Ends
 pub mod Leaving
 pub mod Alone
 pub mod Likeness
+pub mod Endings
 pub mod Lasting
 pub mod Partly
+pub mod RowParts

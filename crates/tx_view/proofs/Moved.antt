@@ -25,13 +25,13 @@ use Rattle.tx_bridge.specs.Carrying.{unit_places_after, sources_from, had, taken
 use Rattle.tx_bridge.specs.CarryingParts.{parts_from, carried_parts}
 use Rattle.tx_bridge.specs.Names.{Sources, Carry as CarryKept, CarryParts}
 use Rattle.tx_bridge.specs.Nested.{KeptParts}
+use Rattle.tx_part_layout.specs.LaidParts.{placed_lines, placed_paragraphs}
 use Rattle.tx_unit_layout.specs.LaidAts.{LaidAt, laid_at}
 use Rattle.tx_unit_layout.specs.LaidUnits.{IsLaid, IsLaidOut}
 use Rattle.tx_unit_layout.specs.Views.{unit_view, IsReadable}
 use Rattle.tx_unit_layout.specs.declared.shown.Shown.{Shown}
 use Rattle.tx_view.specs.Exchanged.{laid_parts_of}
 use Rattle.tx_view.specs.Laid.{AreLaid, IsBlank, AreBlank, laid_in, laid_parts_in, taking_shown, source_shown, moved}
-use Rattle.tx_view.proofs.Forgetting.{AllReadable}
 use Rattle.tx_view.proofs.OfParts.{blank_is_laid, same_ats}
 
 -- ---- one new unit after the other
@@ -255,35 +255,37 @@ ats_moved olds (s ∷ ss) (v ∷ vs) (x ∷ xs) blank many =
     ap (λ ls. ls ∷ laid_parts_in (moved ss olds xs)) (ats_one olds s v.path x blank.0)
     ∙ ap (λ lss. laid_parts_of (laid_parts_in olds) s ∷ lss) (ats_moved olds ss vs xs blank.1 (omega (arith, many)))
 
-abbrev pub Reads : Shown → Type 0
-Reads x = IsReadable (unit_view x)
-
-pub blank_reads : (path : Option (List ℕ)) (x : Shown) → IsBlank path x → Reads x
-blank_reads path x blank = record {
-  placed = λ e. blank.lines;
-  short =
-      subst (λ (ls : List Line). All (λ line. All IsShort line.items) ls) (sym blank.lines)
-      (All-nil (λ (line : Line). All IsShort line.items));
-  short_items =
-      subst (λ (ps : List Paragraph). All (λ p. All IsShort p.items) ps) (sym blank.paragraphs)
-      (All-nil (λ (p : Paragraph). All IsShort p.items));
-}
+pub blank_reads : (path : Option (List ℕ)) (x : Shown) → IsBlank path x → IsReadable x
+blank_reads path x blank =
+    let lines : (unit_view x).lines ≡ [] = ap (λ ps. placed_lines ps ++ x.lines) blank.parts ∙ blank.lines in
+    let paragraphs : (unit_view x).paragraphs ≡ [] =
+    ap (λ ps. placed_paragraphs ps ++ x.paragraphs.items) blank.parts ∙ blank.paragraphs in
+    record {
+      placed = λ e. lines;
+      short =
+          subst (λ (ls : List Line). All (λ line. All IsShort line.items) ls) (sym lines)
+          (All-nil (λ (line : Line). All IsShort line.items));
+      short_items =
+          subst (λ (ps : List Paragraph). All (λ p. All IsShort p.items) ps) (sym paragraphs)
+          (All-nil (λ (p : Paragraph). All IsShort p.items));
+      below = λ a is. absurd (let none : None ≡ Some a = sym blank.laid ∙ is in cc);
+    }
 
 none_where : (p q : Option (List ℕ)) → is_some p ≡ is_some q → q ≡ None → p ≡ None
 none_where None q e f = refl
 none_where (Some p) q e f = let off : true ≡ false = e ∙ ap is_some f in cc
 
 one_reads : (width : ℕ) (old : Kept) (pss : List KeptParts) (olds : List Shown) (s : Option ℕ) (v : DocUnit)
-    (x : Shown) → AreLaid width old pss olds → AllByRecursion Reads olds → IsBlank v.path x → Same (units_of old) s v
-    → Reads (taking_shown x (source_shown olds s))
+    (x : Shown) → AreLaid width old pss olds → AllByRecursion IsReadable olds → IsBlank v.path x
+    → Same (units_of old) s v → IsReadable (taking_shown x (source_shown olds s))
 one_reads width old pss olds None v x laid reads blank same = blank_reads v.path x blank
 one_reads width old pss olds (Some i) v x laid reads blank same =
     by old pss olds i laid reads (λ u at. sym (same i u refl at).1)
   where
     by : (es : Kept) (qss : List KeptParts) (ys : List Shown) (k : ℕ) → AreLaid width es qss ys
-        → AllByRecursion Reads ys
+        → AllByRecursion IsReadable ys
         → ((u : DocUnit) → slice_get (units_of es) k ≡ Some u → is_some u.path ≡ is_some v.path)
-        → Reads (taking_shown x (slice_get ys k))
+        → IsReadable (taking_shown x (slice_get ys k))
     by [] [] [] k h r alike = blank_reads v.path x blank
     by [] [] (y ∷ ys) k h r alike = absurd h
     by [] (ks ∷ qss) ys k h r alike = absurd h
@@ -294,12 +296,13 @@ one_reads width old pss olds (Some i) v x laid reads blank same =
           r.0.placed (h.0.path ∙ none_where e.unit.path v.path (alike e.unit refl) (sym blank.path_is ∙ none));
       short = r.0.short;
       short_items = r.0.short_items;
+      below = r.0.below;
     }
     by (e ∷ es) (ks ∷ qss) (y ∷ ys) (suc k) h r alike = by es qss ys k h.1 r.1 alike
 
 each_reads : (width : ℕ) (old : Kept) (pss : List KeptParts) (olds : List Shown) (ss : List (Option ℕ))
-    (vs : List DocUnit) (xs : List Shown) → AreLaid width old pss olds → AllByRecursion Reads olds → AreBlank vs xs
-    → AllSame (units_of old) ss vs → length ss ≡ length vs → AllByRecursion Reads (moved ss olds xs)
+    (vs : List DocUnit) (xs : List Shown) → AreLaid width old pss olds → AllByRecursion IsReadable olds → AreBlank vs xs
+    → AllSame (units_of old) ss vs → length ss ≡ length vs → AllByRecursion IsReadable (moved ss olds xs)
 each_reads width old pss olds [] [] [] laid reads blank same many = tt
 each_reads width old pss olds [] [] (x ∷ xs) laid reads blank same many = absurd blank
 each_reads width old pss olds [] (v ∷ vs) xs laid reads blank same many = absurd (omega (arith, many))
@@ -311,24 +314,24 @@ each_reads width old pss olds (s ∷ ss) (v ∷ vs) (x ∷ xs) laid reads blank 
 )
 
 pub all_read : (width : ℕ) (old : Kept) (pss : List KeptParts) (olds : List Shown) (ss : List (Option ℕ))
-    (vs : List DocUnit) (xs : List Shown) → AreLaid width old pss olds → AllReadable olds → AreBlank vs xs
-    → AllSame (units_of old) ss vs → length ss ≡ length vs → AllReadable (moved ss olds xs)
+    (vs : List DocUnit) (xs : List Shown) → AreLaid width old pss olds → All IsReadable olds → AreBlank vs xs
+    → AllSame (units_of old) ss vs → length ss ≡ length vs → All IsReadable (moved ss olds xs)
 all_read width old pss olds ss vs xs laid reads blank same many =
-    All-from_recursion Reads (moved ss olds xs)
-    (each_reads width old pss olds ss vs xs laid (recursion_from_All Reads olds reads) blank same many)
+    All-from_recursion IsReadable (moved ss olds xs)
+    (each_reads width old pss olds ss vs xs laid (recursion_from_All IsReadable olds reads) blank same many)
 
 -- ---- an edit of a buffer
 
 pub record IsCarried (width : ℕ) (new : Kept) (parts : List KeptParts) (laid : List (Option Attrs))
     (lss : List (List LaidAt)) (xs : List Shown) : Type 0 where
   pub laid_out : AreLaid width new parts xs
-  pub readable : AllReadable xs
+  pub readable : All IsReadable xs
   pub attributes : laid_in xs ≡ laid
   pub laid_parts : laid_parts_in xs ≡ lss
 
 pub carried_on : (width buffer : ℕ) (ms : List Mod) (t : WideTree) (old new : Kept) (pss qss : List KeptParts)
     (olds blanks xs : List Shown) (ss : List (Option ℕ)) (vs : List DocUnit) → AreLaid width old pss olds
-    → AllReadable olds → AreBlank vs blanks → HaveSameTrees (units_of old) vs ss → new ≡ CarryKept buffer ms t old vs
+    → All IsReadable olds → AreBlank vs blanks → HaveSameTrees (units_of old) vs ss → new ≡ CarryKept buffer ms t old vs
     → qss ≡ CarryParts pss ss → ss ≡ Sources buffer ms t (units_of old) vs → xs ≡ moved ss olds blanks
     → IsCarried width new qss (map (had (laid_in olds)) (Sources buffer ms t (units_of old) vs))
     (map (laid_parts_of (laid_parts_in olds)) (Sources buffer ms t (units_of old) vs)) xs
@@ -348,7 +351,9 @@ carried_on width buffer ms t old new pss qss olds blanks xs ss vs laid reads bla
           (subst (λ (js : List KeptParts). AreLaid width (taken_from (traces_of old) firsts vs) js xs) (sym parts)
           (subst (AreLaid width (taken_from (traces_of old) firsts vs) (carried_parts pss firsts)) (sym are)
           (all_moved width old pss olds firsts vs blanks laid blank same many)));
-      readable = subst AllReadable (sym are) (all_read width old pss olds firsts vs blanks laid reads blank same many);
+      readable =
+          subst (All IsReadable) (sym are)
+          (all_read width old pss olds firsts vs blanks laid reads blank same many);
       attributes = ap laid_in are ∙ laid_moved olds firsts vs blanks blank many;
       laid_parts = ap laid_parts_in are ∙ ats_moved olds firsts vs blanks blank many;
     }

@@ -7,6 +7,7 @@ use Rattle.tx_tree.specs.declared.places.Place.{Place}
 use Rattle.tx_tree.specs.SamePlaces.{same_place, stop_number}
 use Rattle.tx_view.specs.Near.{AreNear}
 use Rattle.tx_view.proofs.Parts.{number_below}
+use Rattle.tx_view.proofs.UnitRows.{get_left}
 
 -- the stop before the one of this number, and the first where there is no number
 abbrev pub stop_before : List Place → Option ℕ → Option Place
@@ -26,11 +27,6 @@ get_behind [] ys k = ap (slice_get ys) (omega arith)
 get_behind (x ∷ xs) ys k =
     let more : length (x ∷ xs) + k ≡ suc (length xs + k) = omega arith in
     ap (slice_get (x ∷ (xs ++ ys))) more ∙ get_behind xs ys k
-
-get_front : {X : Type 0} (xs ys : List X) (k : ℕ) → k < length xs → slice_get (xs ++ ys) k ≡ slice_get xs k
-get_front [] ys k lt = absurd (omega (arith, lt))
-get_front (x ∷ xs) ys zero lt = refl
-get_front (x ∷ xs) ys (suc k) lt = get_front xs ys k (omega (arith, lt))
 
 first_of : {X : Type 0} (xs ys : List X) → (xs ≡ [] → ys ≡ []) → slice_get xs 0 ≡ slice_get (xs ++ ys) 0
 first_of [] ys h = ap (λ zs. slice_get zs 0) (sym (h refl))
@@ -59,7 +55,7 @@ module _ (all near : List Place) (at : Place) (h : AreNear all near at) where
       ap (stop_before all) (ap Some (sym none) ∙ sym (number_of_all (Some 0) e))
   before_by (Some (suc k)) e =
       let more : length h.before + suc k ≡ suc (length h.before + k) = omega arith in
-      sym (get_front near h.behind k (omega (arith, number_below (same_place at) near (suc k) e))) ∙ sym (get_all k)
+      sym (get_left near h.behind k (omega (arith, number_below (same_place at) near (suc k) e))) ∙ sym (get_all k)
       ∙ ap (stop_before all) (ap Some (sym more) ∙ sym (number_of_all (Some (suc k)) e))
 
   pub same_before : stop_before near (stop_number near at) ≡ stop_before all (stop_number all at)
@@ -69,7 +65,7 @@ module _ (all near : List Place) (at : Place) (h : AreNear all near at) where
       → slice_get near (k + 1) ≡ slice_get (near ++ h.behind) (k + 1)
   next_near k e (inl last) =
       ap (λ ps. slice_get ps (k + 1)) (sym (append-nil near) ∙ ap (λ ps. near ++ ps) (sym (h.last k e last)))
-  next_near k e (inr lt) = sym (get_front near h.behind (k + 1) lt)
+  next_near k e (inr lt) = sym (get_left near h.behind (k + 1) lt)
 
   behind_by : (n : Option ℕ) → stop_number near at ≡ n → stop_behind near n ≡ stop_behind all (stop_number all at)
   behind_by None e = same_first e ∙ ap (stop_behind all) (sym (number_of_all None e))

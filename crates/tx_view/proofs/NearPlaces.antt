@@ -1,14 +1,23 @@
 -- The nearest place, by the last mark before and the first behind.
-use Rattle.std.proofs.Common.{◌≡◌, ℕ, ◌-◌, List, [], ◌∷◌, ◌++◌, length, take, drop, refl, sym, ap, ◌∙◌}
-use Rattle.std.proofs.lemmas.List.{take_rest}
-use Rattle.std.specs.Prelude.{Option, Some, None}
+use Rattle.std.proofs.Common.{◌≡◌, ℕ, ◌+◌, ◌-◌, List, [], ◌∷◌, ◌++◌, length, take, drop, map, refl, sym, ap}
+use Rattle.std.proofs.Common.{◌∙◌}
+use Rattle.std.proofs.lemmas.List.{take_rest, take-map, drop-map}
+use Rattle.std.specs.Prelude.{Option, Some, None, slice_get}
+use Rattle.std.specs.List.{flat_map}
+use Rattle.std.specs.Option.{option_map_or}
 use Rattle.tx_origin.specs.RelativePlaces.{BasedPlace}
 use Rattle.tx_items.specs.declared.drawing.Item.{Item}
 use Rattle.tx_layout.specs.declared.layout.Line.{Line}
+use Rattle.tx_part_items.specs.ItemsUnder.{item_under}
+use Rattle.tx_part_layout.specs.LinesUnder.{line_under}
+use Rattle.tx_unit_layout.specs.Stretches.{WideStretch, stretches, stretch_lines}
+use Rattle.tx_unit_layout.specs.declared.shown.Shown.{Shown}
 use Rattle.tx_view_form.specs.Positions.{Mark, marks_of, items_on, nearest, first_or, start_of, stop_of}
 use Rattle.tx_view_form.specs.Positions.{unit_place}
+use Rattle.tx_view.specs.InUnits.{lines_above, lines_below}
 use Rattle.tx_view.specs.Marks.{first_of, last_of}
-use Rattle.tx_view.proofs.Finding.{or_else, first_marks, last_marks}
+use Rattle.tx_view.proofs.Finding.{or_else, first_marks, last_marks, first_append, last_two}
+use Rattle.tx_view.proofs.Finding.{marks_under, marks_on, marks_in, lines_join}
 
 abbrev stop_or : List ℕ → Option Mark → BasedPlace → BasedPlace
 stop_or path (Some m) other = stop_of path m
@@ -99,18 +108,44 @@ near_unit path above below own rest e f g h =
     ∙ ap (λ o. found path None None o (first_of (marks_of (items_on below)))) g
     ∙ ap (λ o. found path None None None o) h
 
+-- ---- lines above and below a line of a stretch
+
+pub last_above_is : (x : Shown) (k i : ℕ) (s : WideStretch) (o : Option Mark) → slice_get (stretches x) k ≡ Some s
+    → o ≡ last_of (marks_on s.part (take i s.lines))
+    → last_of (marks_of (items_on (lines_above x k i))) ≡ or_else o (last_of (marks_in (take k (stretches x))))
+last_above_is x k i s o at is =
+    let front : List Line = flat_map stretch_lines (take k (stretches x)) in
+    ap (λ q. last_of (marks_of (items_on (front ++ take i (option_map_or stretch_lines q []))))) at
+    ∙ ap (λ ls. last_of (marks_of (items_on (front ++ ls)))) (take-map (line_under s.part) i s.lines)
+    ∙ ap last_of (lines_join front (map (line_under s.part) (take i s.lines)))
+    ∙ last_two (marks_of (items_on front)) (marks_on s.part (take i s.lines))
+    ∙ ap (λ q. or_else q (last_of (marks_in (take k (stretches x))))) (sym is)
+
+pub first_below_is : (x : Shown) (k i : ℕ) (s : WideStretch) (o : Option Mark) → slice_get (stretches x) k ≡ Some s
+    → o ≡ first_of (marks_on s.part (take (length s.lines - (i + 1)) (drop (i + 1) s.lines)))
+    → first_of (marks_of (items_on (lines_below x k i)))
+    ≡ or_else o (first_of (marks_in (drop (k + 1) (stretches x))))
+first_below_is x k i s o at is =
+    let back : List Line = flat_map stretch_lines (drop (k + 1) (stretches x)) in
+    ap (λ q. first_of (marks_of (items_on (drop (i + 1) (option_map_or stretch_lines q []) ++ back)))) at
+    ∙ ap (λ ls. first_of (marks_of (items_on (ls ++ back)))) (drop-map (line_under s.part) (i + 1) s.lines)
+    ∙ ap first_of (lines_join (map (line_under s.part) (drop (i + 1) s.lines)) back)
+    ∙ first_append (marks_on s.part (drop (i + 1) s.lines)) (marks_of (items_on back))
+    ∙ ap (λ q. or_else q (first_of (marks_in (drop (k + 1) (stretches x)))))
+    (ap (λ ls. first_of (marks_on s.part ls)) (sym (take_rest s.lines (i + 1))) ∙ sym is)
+
 -- ---- what was found in parts of a slice
 
-pub own_is : (xs ys : List Item) (n : ℕ) (r o : Option Mark) → xs ≡ ys → r ≡ last_of (marks_of (take n xs)) → r ≡ o
-    → last_of (marks_of (take n ys)) ≡ o
-own_is xs ys n r o e h g = ap (λ zs. last_of (marks_of (take n zs))) (sym e) ∙ sym h ∙ g
+pub own_is : (b : List ℕ) (xs : List Item) (n : ℕ) (r o : Option Mark) → r ≡ last_of (marks_under b (take n xs)) → r ≡ o
+    → last_of (marks_of (take n (map (item_under b) xs))) ≡ o
+own_is b xs n r o h g = ap (λ zs. last_of (marks_of zs)) (take-map (item_under b) n xs) ∙ sym h ∙ g
 
-pub rest_is : (xs ys : List Item) (n : ℕ) (r o : Option Mark) → xs ≡ ys
-    → r ≡ first_of (marks_of (take (length xs - n) (drop n xs))) → r ≡ o
-    → first_of (marks_of (drop n ys)) ≡ o
-rest_is xs ys n r o e h g =
-    ap (λ zs. first_of (marks_of (drop n zs))) (sym e) ∙ ap (λ zs. first_of (marks_of zs)) (sym (take_rest xs n))
-    ∙ sym h ∙ g
+pub rest_is : (b : List ℕ) (xs : List Item) (n : ℕ) (r o : Option Mark)
+    → r ≡ first_of (marks_under b (take (length xs - n) (drop n xs))) → r ≡ o
+    → first_of (marks_of (drop n (map (item_under b) xs))) ≡ o
+rest_is b xs n r o h g =
+    ap (λ zs. first_of (marks_of zs)) (drop-map (item_under b) n xs)
+    ∙ ap (λ zs. first_of (marks_under b zs)) (sym (take_rest xs n)) ∙ sym h ∙ g
 
 pub unit_made : (path : List ℕ) (p : BasedPlace) → p.base ≡ path → p.origin ≡ None → p.offset ≡ 0 → p ≡ unit_place path
 unit_made path p e f g = λ i. record { base = e i; origin = f i; offset = g i }

@@ -1,33 +1,34 @@
 -- What is laid out of the parts of a unit, where the unit stays, and where modifications are inside it.
-use Rattle.std.proofs.Common.{◌≡◌, ℕ, Bool, true, false, List, [], ◌∷◌, ◌++◌, map, Option, Some, None, refl, ap, sym}
-use Rattle.std.proofs.Common.{subst, ◌∙◌}
-use Rattle.std.proofs.lemmas.List.Elements.{All-nil, All-filter, All-from_recursion, recursion_from_All}
-use Rattle.std.proofs.lemmas.Map.Keys.{IsDistinct-head, IsDistinct-tail, IsDistinct-cons}
-use Rattle.std.specs.List.{AllByRecursion, IsDistinct, filter}
-use Rattle.std.specs.Option.{option_map_or}
-use Rattle.std.specs.Prelude.{cond, is_some}
+use Rattle.std.proofs.Common.{◌≡◌, ℕ, true, List, [], ◌∷◌, ◌++◌, map, Option, Some, None, refl, ap, sym}
+use Rattle.std.proofs.Common.{subst, ◌∙◌, ◌⊎◌, inl, inr, zero, suc, ◌<◌, length, arith}
+use Rattle.std.proofs.lemmas.Option.{same_Some}
+use Rattle.std.proofs.lemmas.List.Elements.{All-nil, All-from_recursion, recursion_from_All}
+use Rattle.std.specs.List.{AllByRecursion, IsDistinct, All, filter_map, cons_option}
+use Rattle.std.specs.Option.{option_map, option_map_or}
+use Rattle.std.specs.Prelude.{is_some, slice_get, false, ◌&&◌}
 use Rattle.std.specs.Str.{bytes_eq}
 use Rattle.tx_tree.specs.WideTree.{WideTree}
-use Rattle.tx_tree.specs.Paths.{subtree}
 use Rattle.tx_mod.specs.declared.mods.Mod.{Mod}
-use Rattle.tx_mod.specs.Followed.{changed_by_all, carried_by_all}
-use Rattle.tx_mod.proofs.Kept.{subtree_behind}
+use Rattle.tx_mod.specs.Followed.{carried_by_all}
 use Rattle.tx_exec_form.specs.Evaluated.{WideTrace}
 use Rattle.tx_units.specs.declared.kinds.Unit.{Unit as DocUnit}
+use Rattle.tx_walk.specs.declared.part.Part.{Part as DonePart}
 use Rattle.tx_items.specs.declared.attributes.Attrs.{Attrs}
-use Rattle.tx_part_layout.specs.declared.laid.LaidPart.{LaidPart}
+use Rattle.tx_part_layout.specs.declared.laid.PlacedPart.{PlacedPart}
 use Rattle.tx_part_layout.specs.LaidParts.{IsLaidPart, laid_paths}
-use Rattle.tx_bridge.specs.Carrying.{Leads, Stands, AllStand}
-use Rattle.tx_bridge.specs.CarryingParts.{parts_behind, parts_within, StaysKept}
+use Rattle.tx_bridge.specs.CarryingParts.{carried_below, part_at, and_part, parts_behind, parts_within}
 use Rattle.tx_bridge.specs.Entries.{Entry, Kept, units_of}
-use Rattle.tx_bridge.specs.HeldParts.{StoredHolds, AllPartsHold}
-use Rattle.tx_bridge.specs.Keeping.{all_keep_place}
-use Rattle.tx_bridge.specs.Nested.{KeptParts, kept_at}
-use Rattle.tx_unit_layout.specs.LaidAts.{laid_at, laid_ats}
-use Rattle.tx_unit_layout.specs.LaidUnits.{IsLaid, IsOfKept, AreLaidParts}
+use Rattle.tx_bridge.specs.InPlace.{is_changed, is_gone, are_within, IsOneChanged}
+use Rattle.tx_bridge.specs.HeldParts.{AllPartsHold}
+use Rattle.tx_bridge.specs.MovedParts.{moves_of, places_by, AreMovedParts}
+use Rattle.tx_bridge.proofs.ChangedParts.{AreMovedAt}
+use Rattle.tx_bridge.specs.Nested.{KeptParts}
+use Rattle.tx_unit_layout.specs.LaidAts.{LaidAt, laid_at, laid_ats}
+use Rattle.tx_unit_layout.specs.LaidUnits.{IsLaid, AreOf, AreLaidParts}
+use Rattle.tx_unit_layout.specs.Moving.{WidePart, wide_part, put_at, laid_by}
 use Rattle.tx_unit_layout.specs.declared.shown.Shown.{Shown}
 use Rattle.tx_view.specs.Exchanged.{left_at}
-use Rattle.tx_view.specs.Laid.{IsBlank, left_in}
+use Rattle.tx_view.specs.Laid.{AreLaid, IsBlank, parts_left, ArePutBy}
 
 -- ---- nothing is laid out
 
@@ -36,8 +37,11 @@ unfolding IsDistinct
 nothing_twice = tt
 
 pub no_parts : (width : ℕ) (ks : KeptParts) → AreLaidParts width ks []
-no_parts width ks =
-    record { each = All-nil (IsLaidPart width); distinct = nothing_twice; of_kept = All-nil (IsOfKept ks) }
+no_parts width ks = record {
+  each = All-nil (λ (p : PlacedPart). IsLaidPart width p.laid.value);
+  distinct = nothing_twice;
+  of_kept = inl refl;
+}
 
 pub blank_is_laid : (width : ℕ) (e : Entry) (ks : KeptParts) (x : Shown) → IsBlank e.unit.path x
     → IsLaid width e ks ks x
@@ -69,141 +73,205 @@ same_ats a ks o u v tree placed =
     by (Some p) None e = cc
     by (Some p) (Some q) e = refl
 
--- ---- some parts are left
+-- ---- parts that go elsewhere
 
-module _ (f : LaidPart → Bool) where
-  all_apart : (q : List ℕ) (ps : List LaidPart) → AllByRecursion (λ r. bytes_eq q r ≡ false) (laid_paths ps)
-      → AllByRecursion (λ r. bytes_eq q r ≡ false) (laid_paths (filter f ps))
-  all_apart q [] h = tt
-  all_apart q (p ∷ ps) h = by (f p) (all_apart q ps h.1)
+abbrev at_wide : WidePart → LaidAt
+at_wide w = record { path = w.path; before = w.laid.before }
+
+wide_ats : (qs : List PlacedPart) → map at_wide (map wide_part qs) ≡ map laid_at qs
+wide_ats [] = refl
+wide_ats (q ∷ qs) = ap (λ ls. laid_at q ∷ ls) (wide_ats qs)
+
+pub none_wide : (qs : List PlacedPart) → map wide_part qs ≡ [] → qs ≡ []
+none_wide [] e = refl
+none_wide (q ∷ qs) e = cc
+
+-- the parts that are kept, by where they stand in the unit afterwards
+module _ (g : List ℕ → Option (List ℕ)) where
+  abbrev kept_by : KeptParts → KeptParts
+  kept_by [] = []
+  kept_by (k ∷ ks) = and_part (option_map (λ r. record { path = r; trace = k.trace }) (g k.path)) (kept_by ks)
+
+  abbrev put_entry : LaidAt → Option LaidAt
+  put_entry l = option_map (λ q. record l { path = q }) (g l.path)
+
+  ats_by : (ps : List PlacedPart)
+      → map at_wide (laid_by (map g (laid_paths ps)) ps) ≡ filter_map put_entry (map laid_at ps)
+  ats_by [] = refl
+  ats_by (p ∷ ps) = by (g p.path) (ats_by ps)
     where
-      by : (b : Bool) → AllByRecursion (λ r. bytes_eq q r ≡ false) (laid_paths (filter f ps))
-          → AllByRecursion (λ r. bytes_eq q r ≡ false) (laid_paths (cond b (p ∷ filter f ps) (filter f ps)))
-      by true rest = (h.0, rest)
-      by false rest = rest
+      by : (o : Option (List ℕ))
+          → map at_wide (laid_by (map g (laid_paths ps)) ps) ≡ filter_map put_entry (map laid_at ps)
+          → map at_wide (laid_by (o ∷ map g (laid_paths ps)) (p ∷ ps))
+          ≡ cons_option (option_map (λ q. record (laid_at p) { path = q }) o) (filter_map put_entry (map laid_at ps))
+      by None e = e
+      by (Some q) e = ap (λ ls. record (laid_at p) { path = q } ∷ ls) e
 
-  distinct_left : (ps : List LaidPart) → IsDistinct bytes_eq (laid_paths ps)
-      → IsDistinct bytes_eq (laid_paths (filter f ps))
-  distinct_left [] h = h
-  distinct_left (p ∷ ps) h =
-      by (f p) (distinct_left ps (IsDistinct-tail bytes_eq p.path (laid_paths ps) h))
+  -- what is laid out of parts is of those that are kept
+  abbrev AreOfKept : ℕ → KeptParts → List PlacedPart → Type 0
+  AreOfKept width ks qs = AllByRecursion (λ p. IsLaidPart width p.laid.value) qs × AreOf ks qs
+
+  of_by : (width : ℕ) (ks : KeptParts) (ps qs : List PlacedPart) → AreOfKept width ks ps
+      → map wide_part qs ≡ laid_by (map g (laid_paths ps)) ps → AreOfKept width (kept_by ks) qs
+  of_by width [] [] qs h is = subst (AreOfKept width []) (sym (none_wide qs is)) h
+  of_by width [] (p ∷ ps) qs h is = absurd h.1
+  of_by width (k ∷ ks) [] qs h is = absurd h.1
+  of_by width (k ∷ ks) (p ∷ ps) qs h is =
+      subst (λ o. AreOfKept width (and_part (option_map (λ r. record { path = r; trace = k.trace }) o) (kept_by ks)) qs)
+      (ap g h.1.0.path)
+      (by (g p.path) qs is (λ rs e. of_by width ks ps rs (h.0.1, h.1.1) e))
     where
-      by : (b : Bool) → IsDistinct bytes_eq (laid_paths (filter f ps))
-          → IsDistinct bytes_eq (laid_paths (cond b (p ∷ filter f ps) (filter f ps)))
-      by true rest =
-          IsDistinct-cons bytes_eq p.path (laid_paths (filter f ps))
-          (all_apart p.path ps (IsDistinct-head bytes_eq p.path (laid_paths ps) h)) rest
-      by false rest = rest
-
-  kept_left : (ks js : KeptParts) (ps : List LaidPart)
-      → ((p : LaidPart) → f p ≡ true → IsOfKept ks p → IsOfKept js p) → AllByRecursion (IsOfKept ks) ps
-      → AllByRecursion (IsOfKept js) (filter f ps)
-  kept_left ks js [] goes h = tt
-  kept_left ks js (p ∷ ps) goes h = by (f p) refl (kept_left ks js ps goes h.1)
-    where
-      by : (b : Bool) → f p ≡ b → AllByRecursion (IsOfKept js) (filter f ps)
-          → AllByRecursion (IsOfKept js) (cond b (p ∷ filter f ps) (filter f ps))
-      by true e rest = (goes p e h.0, rest)
-      by false e rest = rest
-
-  -- they are of what is kept of the parts then
-  pub parts_left : (width : ℕ) (ks js : KeptParts) (ps : List LaidPart)
-      → ((p : LaidPart) → f p ≡ true → IsOfKept ks p → IsOfKept js p) → AreLaidParts width ks ps
-      → AreLaidParts width js (filter f ps)
-  parts_left width ks js ps goes h = record {
-    each = All-filter f (IsLaidPart width) ps h.each;
-    distinct = distinct_left ps h.distinct;
-    of_kept =
-        All-from_recursion (IsOfKept js) (filter f ps)
-        (kept_left ks js ps goes (recursion_from_All (IsOfKept ks) ps h.of_kept));
-  }
-
--- what is found of a part's path is found of its entry
-ats_left : (g : List ℕ → Bool) (ps : List LaidPart)
-    → map laid_at (filter (λ p. g p.path) ps) ≡ filter (λ l. g l.path) (map laid_at ps)
-ats_left g [] = refl
-ats_left g (p ∷ ps) = by (g p.path) (ats_left g ps)
-  where
-    by : (b : Bool) → map laid_at (filter (λ q. g q.path) ps) ≡ filter (λ l. g l.path) (map laid_at ps)
-        → map laid_at (cond b (p ∷ filter (λ q. g q.path) ps) (filter (λ q. g q.path) ps))
-        ≡ cond b (laid_at p ∷ filter (λ l. g l.path) (map laid_at ps)) (filter (λ l. g l.path) (map laid_at ps))
-    by true e = ap (λ ls. laid_at p ∷ ls) e
-    by false e = e
+      by : (o : Option (List ℕ)) (rs : List PlacedPart)
+          → map wide_part rs ≡ laid_by (o ∷ map g (laid_paths ps)) (p ∷ ps)
+          → ((ss : List PlacedPart) → map wide_part ss ≡ laid_by (map g (laid_paths ps)) ps
+          → AreOfKept width (kept_by ks) ss)
+          → AreOfKept width (and_part (option_map (λ r. record { path = r; trace = k.trace }) o) (kept_by ks)) rs
+      by None rs e rest = rest rs e
+      by (Some q) [] e rest = cc
+      by (Some q) (r ∷ rs) e rest =
+          let same : wide_part r ≡ put_at q p = cc in
+          let more : map wide_part rs ≡ laid_by (map g (laid_paths ps)) ps = cc in
+          let later = rest rs more in (
+            (subst (IsLaidPart width) (sym (ap (λ (w : WidePart). w.laid) same)) h.0.0, later.0),
+            (
+              record {
+                path = ap (λ (w : WidePart). w.path) same;
+                trace = h.1.0.trace;
+                kept = h.1.0.kept;
+                value = ap (λ (w : WidePart). w.laid.value) same ∙ h.1.0.value;
+              },
+              later.1,
+            ),
+          )
 
 -- ---- modifications inside the unit
 
--- what is kept of a part of the unit is kept afterwards where the modifications are found to leave it in its place
-abbrev pub Keeps : List Mod → WideTree → Entry → KeptParts → Type 0
-Keeps ms t e ks = (path q : List ℕ) (trace : WideTrace) → e.unit.path ≡ Some path
-    → all_keep_place ms (path ++ q) ≡ true → kept_at ks q ≡ Some trace
-    → kept_at (parts_behind ms t path ks) q ≡ Some trace
+behind_is : (ms : List Mod) (t : WideTree) (p : List ℕ) (ks : KeptParts)
+    → parts_behind ms t p ks ≡ kept_by (carried_below ms t p) ks
+behind_is ms t p [] = refl
+behind_is ms t p (k ∷ ks) =
+    ap (and_part (part_at p (carried_by_all ms t (p ++ k.path)) k)) (behind_is ms t p ks)
 
--- so it is of each unit
-abbrev pub AllKeep : List Mod → WideTree → Kept → List KeptParts → Type 0
-AllKeep ms t [] pss = Unit {0}
-AllKeep ms t (e ∷ es) [] = Unit {0}
-AllKeep ms t (e ∷ es) (ks ∷ pss) = Keeps ms t e ks × AllKeep ms t es pss
+paths_laid : (ks : KeptParts) (ps : List PlacedPart) → AreOf ks ps → map (λ k. k.path) ks ≡ laid_paths ps
+paths_laid [] [] h = refl
+paths_laid [] (p ∷ ps) h = absurd h
+paths_laid (k ∷ ks) [] h = absurd h
+paths_laid (k ∷ ks) (p ∷ ps) h =
+    ap (λ q. q ∷ map (λ k. k.path) ks) (sym h.0.path) ∙ ap (λ qs. p.path ∷ qs) (paths_laid ks ps h.1)
 
--- the laws, as the calls state them
-abbrev pub KeepingLaw : Type 0
-KeepingLaw = (ms : List Mod) (t u : WideTree) (q : List ℕ) → changed_by_all ms t ≡ Some u
-    → all_keep_place ms q ≡ true → carried_by_all ms t q ≡ Some q
+-- no two have one path
+abbrev pub AreDistinct : KeptParts → Type 0
+AreDistinct ks = IsDistinct bytes_eq (map (λ k. k.path) ks)
 
-abbrev pub StayingLaw : Type 0
-StayingLaw = (ms : List Mod) (t : WideTree) (path : List ℕ) (kept : KeptParts) → StaysKept ms t path kept
+pub all_distinct : (es : Kept) (pss : List KeptParts) → AllPartsHold es pss → AllByRecursion AreDistinct pss
+all_distinct [] [] h = tt
+all_distinct [] (ks ∷ pss) h = absurd h
+all_distinct (e ∷ es) [] h = absurd h
+all_distinct (e ∷ es) (ks ∷ pss) h = (h.0.distinct, all_distinct es pss h.1)
 
--- the parts of a unit that stands in the tree lead there
-lead_below : (t own : WideTree) (path : List ℕ) (ks : KeptParts) → subtree t path ≡ Some own
-    → AllByRecursion (StoredHolds own) ks → AllByRecursion (λ k. Leads t (Some (path ++ k.path))) ks
-lead_below t own path [] at h = tt
-lead_below t own path (k ∷ ks) at h =
-    ((h.0.there, subtree_behind path k.path t own at ∙ h.0.leads), lead_below t own path ks at h.1)
-
-keeps_one : KeepingLaw → StayingLaw → (ms : List Mod) (t u : WideTree) (e : Entry) (ks : KeptParts)
-    → changed_by_all ms t ≡ Some u → Stands t e.unit → AllByRecursion (StoredHolds e.unit.tagged.tree) ks
-    → Keeps ms t e ks
-keeps_one keeping staying ms t u e ks made stands hold path q trace is keep at =
-    staying ms t path ks u q trace made (lead_below t e.unit.tagged.tree path ks (stands path is) hold)
-    (keeping ms t u (path ++ q) made keep) at
-
-pub keeps_all : KeepingLaw → StayingLaw → (ms : List Mod) (t u : WideTree) (es : Kept) (pss : List KeptParts)
-    → changed_by_all ms t ≡ Some u → AllStand t (units_of es) → AllPartsHold es pss → AllKeep ms t es pss
-keeps_all keeping staying ms t u [] pss made stand hold = tt
-keeps_all keeping staying ms t u (e ∷ es) [] made stand hold = tt
-keeps_all keeping staying ms t u (e ∷ es) (ks ∷ pss) made stand hold = (
-  keeps_one keeping staying ms t u e ks made stand.0 hold.0.hold,
-  keeps_all keeping staying ms t u es pss made stand.1 hold.1,
-)
+left_some : (width : ℕ) (ms : List Mod) (t : WideTree) (p : List ℕ) (ks : KeptParts) (ps qs : List PlacedPart)
+    → All (λ r. IsLaidPart width r.laid.value) ps → AreOf ks ps
+    → map wide_part qs ≡ laid_by (map (carried_below ms t p) (laid_paths ps)) ps → AreDistinct (parts_behind ms t p ks)
+    → AreLaidParts width (parts_behind ms t p ks) qs
+left_some width ms t p ks ps qs each of is apart =
+    let h = of_by (carried_below ms t p) width ks ps qs
+    (recursion_from_All (λ (r : PlacedPart). IsLaidPart width r.laid.value) ps each, of) is in
+    let behind : AreOf (parts_behind ms t p ks) qs =
+    subst (λ (js : KeptParts). AreOf js qs) (sym (behind_is ms t p ks)) h.1 in
+    record {
+      each = All-from_recursion (λ (r : PlacedPart). IsLaidPart width r.laid.value) qs h.0;
+      distinct = subst (IsDistinct bytes_eq) (paths_laid (parts_behind ms t p ks) qs behind) apart;
+      of_kept = inr behind;
+    }
 
 -- what stays of the unit inside which they are
 pub left_laid : (width : ℕ) (ms : List Mod) (t : WideTree) (e : Entry) (ks : KeptParts) (y : Shown)
-    → IsLaid width e ks ks y → Keeps ms t e ks
-    → AreLaidParts width (parts_within ms t e.unit ks) (left_in ms y).parts
-left_laid width ms t e ks y laid keeps =
-    subst (λ (o : Option (List ℕ)). AreLaidParts width (parts_within ms t e.unit ks)
-    (option_map_or (λ path. filter (λ p. all_keep_place ms (path ++ p.path)) y.parts) o [])) (sym laid.path)
-    (by e.unit.path refl)
+    (qs : List PlacedPart) → IsLaid width e ks ks y → map wide_part qs ≡ parts_left ms t y.path y.parts
+    → AreDistinct (parts_within ms t e.unit ks) → AreLaidParts width (parts_within ms t e.unit ks) qs
+left_laid width ms t e ks y qs laid is apart =
+    by e.unit.path (is ∙ ap (λ o. parts_left ms t o y.parts) laid.path) apart laid.parts.of_kept
   where
-    by : (o : Option (List ℕ)) → e.unit.path ≡ o
-        → AreLaidParts width (option_map_or (λ p. parts_behind ms t p ks) o [])
-        (option_map_or (λ path. filter (λ p. all_keep_place ms (path ++ p.path)) y.parts) o [])
-    by None is = no_parts width []
-    by (Some path) is =
-        parts_left (λ p. all_keep_place ms (path ++ p.path)) width ks (parts_behind ms t path ks) y.parts
-        (λ p keep h. record {
-          trace = h.trace;
-          kept = keeps path p.path h.trace is keep h.kept;
-          value = h.value;
-        }) laid.parts
+    by : (o : Option (List ℕ)) → map wide_part qs ≡ parts_left ms t o y.parts
+        → AreDistinct (option_map_or (λ p. parts_behind ms t p ks) o []) → (y.parts ≡ []) ⊎ AreOf ks y.parts
+        → AreLaidParts width (option_map_or (λ p. parts_behind ms t p ks) o []) qs
+    by None same d of = subst (AreLaidParts width []) (sym (none_wide qs same)) (no_parts width [])
+    by (Some p) same d (inl none) =
+        subst (AreLaidParts width (parts_behind ms t p ks))
+        (sym (none_wide qs (same ∙ ap (λ ps. laid_by (map (carried_below ms t p) (laid_paths ps)) ps) none)))
+        (no_parts width (parts_behind ms t p ks))
+    by (Some p) same d (inr of) = left_some width ms t p ks y.parts qs laid.parts.each of same d
 
-pub left_ats : (ms : List Mod) (path : Option (List ℕ)) (y : Shown) → y.path ≡ path
-    → map laid_at (left_in ms y).parts ≡ left_at ms path (map laid_at y.parts)
-left_ats ms path y is =
-    ap (λ o. map laid_at
-    (option_map_or (λ p. filter (λ q. all_keep_place ms (p ++ q.path)) y.parts) o [])) is ∙ by path
+pub left_ats : (ms : List Mod) (t : WideTree) (path : Option (List ℕ)) (y : Shown) (qs : List PlacedPart)
+    → y.path ≡ path → map wide_part qs ≡ parts_left ms t y.path y.parts
+    → map laid_at qs ≡ left_at ms t path (map laid_at y.parts)
+left_ats ms t path y qs is left =
+    sym (wide_ats qs) ∙ ap (map at_wide) (left ∙ ap (λ o. parts_left ms t o y.parts) is) ∙ by path
   where
-    by : (o : Option (List ℕ))
-        → map laid_at (option_map_or (λ p. filter (λ q. all_keep_place ms (p ++ q.path)) y.parts) o [])
-        ≡ left_at ms o (map laid_at y.parts)
+    by : (o : Option (List ℕ)) → map at_wide (parts_left ms t o y.parts) ≡ left_at ms t o (map laid_at y.parts)
     by None = refl
-    by (Some p) = ats_left (λ q. all_keep_place ms (p ++ q)) y.parts
+    by (Some p) = ats_by (carried_below ms t p) y.parts
+
+-- ---- what the calls tell
+
+-- the entry of a unit, and what is kept of its parts
+record IsFound (width : ℕ) (es : Kept) (pss : List KeptParts) (i : ℕ) (x : Shown) : Type 0 where
+  entry : Entry
+  parts : KeptParts
+  unit : slice_get (units_of es) i ≡ Some entry.unit
+  kept : slice_get pss i ≡ Some parts
+  laid : IsLaid width entry parts parts x
+
+found : (width : ℕ) (es : Kept) (pss : List KeptParts) (ys : List Shown) (i : ℕ) (x : Shown) → AreLaid width es pss ys
+    → slice_get ys i ≡ Some x → IsFound width es pss i x
+found width [] [] [] i x h at = cc
+found width [] [] (y ∷ ys) i x h at = absurd h
+found width [] (ks ∷ pss) ys i x h at = absurd h
+found width (e ∷ es) [] ys i x h at = absurd h
+found width (e ∷ es) (ks ∷ pss) [] i x h at = absurd h
+found width (e ∷ es) (ks ∷ pss) (y ∷ ys) zero x h at = record {
+  entry = e;
+  parts = ks;
+  unit = refl;
+  kept = refl;
+  laid = subst (IsLaid width e ks ks) (same_Some y x at) h.0;
+}
+found width (e ∷ es) (ks ∷ pss) (y ∷ ys) (suc i) x h at =
+    let f = found width es pss ys i x h.1 at in
+    record { entry = f.entry; parts = f.parts; unit = f.unit; kept = f.kept; laid = f.laid }
+
+-- each unit is laid out, or was
+pub laid_inside : (width : ℕ) (es : Kept) (pss : List KeptParts) (ys : List Shown) (i : ℕ) (u : DocUnit)
+    → AreLaid width es pss ys → slice_get (units_of es) i ≡ Some u → i < length ys
+laid_inside width [] pss ys i u h at = cc
+laid_inside width (e ∷ es) [] ys i u h at = absurd h
+laid_inside width (e ∷ es) (ks ∷ pss) [] i u h at = absurd h
+laid_inside width (e ∷ es) (ks ∷ pss) (y ∷ ys) zero u h at = omega arith
+laid_inside width (e ∷ es) (ks ∷ pss) (y ∷ ys) (suc i) u h at =
+    omega (arith, laid_inside width es pss ys i u h.1 at)
+
+-- the parts are put where those that are kept stand afterwards
+pub left_there : (width i buffer : ℕ) (ms : List Mod) (t : WideTree) (es : Kept) (pss : List KeptParts)
+    (ys : List Shown) (os : List (ℕ × Option DonePart)) (x : Shown) (qs : List PlacedPart) → AreLaid width es pss ys
+    → IsOneChanged i buffer ms (units_of es) → AreMovedAt i ms t es pss os → slice_get ys i ≡ Some x
+    → ArePutBy (moves_of os) ys i qs → map wide_part qs ≡ parts_left ms t x.path x.parts
+left_there width i buffer ms t es pss ys os x qs laid one moved at put =
+    let f : IsFound width es pss i x = found width es pss ys i x laid at in
+    let same : one.unit ≡ f.entry.unit = same_Some one.unit f.entry.unit (sym one.there ∙ f.unit) in
+    let told : AreMovedParts ms t f.entry.unit f.parts os = moved f.entry.unit f.parts f.unit f.kept in
+    put x at
+    ∙ by f.entry.unit.path (ap (is_changed ms) (sym same) ∙ one.changed) f.parts told.places f.laid.parts.of_kept
+    ∙ ap (λ o. parts_left ms t o x.parts) (sym f.laid.path)
+  where
+    by : (o : Option (List ℕ)) → option_map_or (λ path. is_gone path ms && are_within path ms) o false ≡ true
+        → (ks : KeptParts) → ((p : List ℕ) → o ≡ Some p
+        → places_by 0 (moves_of os) (map (λ k. k.path) ks) ≡ map (carried_below ms t p) (map (λ k. k.path) ks))
+        → (x.parts ≡ []) ⊎ AreOf ks x.parts
+        → laid_by (places_by 0 (moves_of os) (laid_paths x.parts)) x.parts ≡ parts_left ms t o x.parts
+    by None changed ks places of = cc
+    by (Some p) changed ks places (inl none) =
+        ap (λ ps. laid_by (places_by 0 (moves_of os) (laid_paths ps)) ps) none
+        ∙ ap (λ ps. laid_by (map (carried_below ms t p) (laid_paths ps)) ps) (sym none)
+    by (Some p) changed ks places (inr of) =
+        let paths = paths_laid ks x.parts of in
+        ap (λ gs. laid_by gs x.parts)
+        (ap (places_by 0 (moves_of os)) (sym paths) ∙ places p refl ∙ ap (map (carried_below ms t p)) paths)

@@ -229,7 +229,7 @@ next_is over law width e ks fs m after x y a n weight trace parts is_a is_after 
       laid_out = here;
       attributes = laid_for;
       was_laid = was;
-      lines = few_lines b v m after (length y.lines) paid (weight b) (over b) here.few_lines;
+      lines = few_lines b v m after (length (unit_view y).lines) paid (weight b) (over b) here.few_lines;
       errors = few_errors v m after (length y.errors.items) paid here.few_errors;
       items_is =
           is_n
@@ -289,14 +289,14 @@ pub record Onward (width : ℕ) (b : Bridged) (old now : List Shown) (i : ℕ) (
       ≡ items_unlaid_from beginning (units_of b.kept) b.part_flags old
   pub within : i ≤ length b.kept
   pub laid : WereLaid width b.kept b.parts b.part_flags now
-  pub readable : All (λ x. IsReadable (unit_view x)) now
+  pub readable : All IsReadable now
   pub lines : length (lines_of (unit_views (take i now))) + 242 * m.left ≤ 242 * 16000000 + 49 * i
   pub errors : length (errors_of (unit_views (take i now))) + m.left ≤ 16000000 + 7 * i
   pub most : items + 243 * m.left ≤ 243 * 16000000 + 49 * i
 
 pub begun : (width : ℕ) (b : Bridged) (old : List Shown) (m : Moment) (steps : ℕ) → m ≡ beginning
     → b.kept ≡ fresh_from beginning (units_of b.kept) → b.parts ≡ fresh_parts_from beginning (units_of b.kept)
-    → WereLaid width b.kept b.parts b.part_flags old → All (λ x. IsReadable (unit_view x)) old
+    → WereLaid width b.kept b.parts b.part_flags old → All IsReadable old
     → Onward width b old old 0 m 0 steps steps
 begun width b old m steps start fresh parts laid readable =
     subst (λ (k : Moment). Onward width b old old 0 k 0 steps steps) (sym start) (record {
@@ -383,7 +383,7 @@ module _ (width : ℕ) (b : Bridged) (old now : List Shown) (i : ℕ) (m : Momen
   module _ (y : Shown) (more after1 : ℕ) (m1 : Moment)
       (n : IsNext width e ks fs m m1 (slice_index_or now i d) y more)
       (is_after : after1 ≡ after + items_unlaid m e.unit fs (slice_index_or now i d))
-      (can_read : IsReadable (unit_view y)) where
+      (can_read : IsReadable y) where
     abbrev new : List Shown
     new = slice_set now i y
 
@@ -456,7 +456,7 @@ module _ (width : ℕ) (b : Bridged) (old now : List Shown) (i : ℕ) (m : Momen
       items_is = omega (arith, unlaid_next, n.items_is, p.items_is);
       within = omega (arith, inside, laid_many width b.kept b.parts b.part_flags now p.laid);
       laid = laid_set_here at width now y p.laid n.was_laid;
-      readable = All-set (λ (z : Shown). IsReadable (unit_view z)) now i y can_read p.readable;
+      readable = All-set IsReadable now i y can_read p.readable;
       lines = omega (arith, more_of (λ (z : UnitView). z.lines), n.lines, p.lines);
       errors = omega (arith, more_of placed_errors, as_many_errors (unit_view y), n.errors, p.errors);
       most = omega (arith, n.most, p.most);
@@ -480,7 +480,7 @@ module _ {width : ℕ} {b : Bridged} {old now : List Shown} {i : ℕ} {m : Momen
       → ((e : Entry) (ks : KeptParts) (fs : List Bool) → IsUnit b i e ks fs
       → IsNext width e ks fs m m1 (slice_index_or now i d) y more)
       → ((e : Entry) (ks : KeptParts) (fs : List Bool) → IsUnit b i e ks fs
-      → after1 ≡ after + items_unlaid m e.unit fs (slice_index_or now i d)) → IsReadable (unit_view y)
+      → after1 ≡ after + items_unlaid m e.unit fs (slice_index_or now i d)) → IsReadable y
       → Onward width b old (slice_set now i y) (i + 1) m1 (items + more) before after1
   next_all {y} {more} {after1} {m1} nexts counted can_read =
       let u : HasUnit b i = unit_here in

@@ -12,7 +12,7 @@ use Rattle.tx_view_form.specs.Outcomes.{beginning}
 use Rattle.tx_bridge.specs.Bridged.{Bridged}
 use Rattle.tx_bridge.specs.Entries.{Kept, units_of, fresh_from}
 use Rattle.tx_bridge.specs.Nested.{KeptParts, fresh_parts_from}
-use Rattle.tx_part_layout.specs.declared.laid.LaidPart.{LaidPart}
+use Rattle.tx_part_layout.specs.declared.laid.PlacedPart.{PlacedPart}
 use Rattle.tx_unit_layout.specs.LaidAts.{LaidAt, laid_at}
 use Rattle.tx_unit_layout.specs.declared.shown.Shown.{Shown}
 use Rattle.tx_view.specs.Laid.{laid_in, laid_parts_in, without, dropped, dropped_by, without_parts, stores_in}
@@ -42,7 +42,7 @@ no_parts : (xs : List Shown) → NoParts (map dropped xs)
 no_parts [] = tt
 no_parts (x ∷ xs) = (refl, no_parts xs)
 
-parts_left : (ps : List LaidPart) (x : Shown) → x.parts ≡ ps → map laid_at (dropped_by ps x).parts ≡ []
+parts_left : (ps : List PlacedPart) (x : Shown) → x.parts ≡ ps → map laid_at (dropped_by ps x).parts ≡ []
 parts_left [] x none = ap (map laid_at) none
 parts_left (p ∷ ps) x some = refl
 
@@ -51,7 +51,7 @@ none_left [] = tt
 none_left (x ∷ xs) = (parts_left x.parts x refl, none_left xs)
 
 -- a unit is laid out as it was, or not at all
-one_left : (ps : List LaidPart) (x : Shown) → ((dropped_by ps x).laid ≡ x.laid) ⊎ ((dropped_by ps x).laid ≡ None)
+one_left : (ps : List PlacedPart) (x : Shown) → ((dropped_by ps x).laid ≡ x.laid) ⊎ ((dropped_by ps x).laid ≡ None)
 one_left [] x = inl refl
 one_left (p ∷ ps) x = inr refl
 
@@ -263,8 +263,8 @@ evaluated old new xs mid ys kept parts same stay laid =
         }))
 
 -- all is as making it from nothing leaves it, but for what is laid out of parts
-pub all_fresh : (old : Stores) (new : Bridged) (us : List DocUnit) (xs : List Shown) → stores_in new xs ≡ fresh_stores us
-    → IsPartlyFresh old (fresh_stores us) (stores_in new (without_parts xs))
+pub all_fresh : (old : Stores) (new : Bridged) (us : List DocUnit) (xs : List Shown)
+    → stores_in new xs ≡ fresh_stores us → IsPartlyFresh old (fresh_stores us) (stores_in new (without_parts xs))
 all_fresh old new us xs e =
     let fresh : Stores = fresh_stores us in
     let n : ℕ = length fresh.kept + length old.kept + length fresh.parts + length old.parts in

@@ -56,7 +56,8 @@ same_many old new e =
 pub relaid_is : (old new : Kept) (olds : List KeptParts) (flags : List Bool) (marks : List (List Bool))
     (xs ys : List Shown) → flags ≡ reached_from beginning old → marks ≡ part_flags_from beginning old olds
     → units_of new ≡ units_of old → ys ≡ without flags xs
-    → items_unlaid_from beginning (units_of new) marks ys ≡ items_relaid_from beginning old olds (laid_in xs) (laid_parts_in xs)
+    → items_unlaid_from beginning (units_of new) marks ys
+    ≡ items_relaid_from beginning old olds (laid_in xs) (laid_parts_in xs)
 relaid_is old new olds flags marks xs ys e p f g =
     ap (λ us. items_unlaid_from beginning us marks ys) f ∙ ap (λ ms. items_unlaid_from beginning (units_of old) ms ys) p
     ∙ ap (items_unlaid_from beginning (units_of old) (part_flags_from beginning old olds))

@@ -2,14 +2,14 @@
 use Rattle.std.proofs.Common.{◌≡◌, ℕ, ◌≤◌, List, [], ◌∷◌, length, Bool, true, false, Option, ap, sym}
 use Rattle.std.proofs.Common.{subst, ◌∙◌}
 use Rattle.std.proofs.lemmas.List.Elements.{All-nil}
-use Rattle.std.specs.Prelude.{if◌then◌else◌, None, IfSome}
+use Rattle.std.specs.Prelude.{if◌then◌else◌, None, IfSome, All}
 use Rattle.tx_doc.specs.declared.buffer.Buffer.{Buffer}
 use Rattle.tx_lines.specs.declared.cut.Cut.{Cut}
 use Rattle.tx_units.specs.declared.kinds.Unit.{Unit as DocUnit}
 use Rattle.tx_units.specs.Units.{units}
 use Rattle.tx_items.specs.declared.attributes.Attrs.{Attrs}
 use Rattle.tx_view_form.specs.Outcomes.{beginning}
-use Rattle.tx_view_form.specs.Views.{UnitView, AreShown}
+use Rattle.tx_view_form.specs.Views.{AreShown}
 use Rattle.tx_bridge.specs.Nested.{KeptParts, fresh_parts_from}
 use Rattle.tx_bridge.specs.Entries.{Kept, units_of, fresh_from}
 use Rattle.tx_unit_layout.specs.LaidAts.{LaidAt}
@@ -17,11 +17,13 @@ use Rattle.tx_unit_layout.specs.declared.shown.Shown.{Shown}
 use Rattle.tx_view.specs.declared.view.View.TheInside.{Inside}
 use Rattle.tx_view.specs.declared.lone.Lone.{Lone}
 use Rattle.tx_view.specs.Laid.{AreLaid, laid_in, laid_parts_in}
-use Rattle.tx_view.specs.Lone.{IsLone, IsPaged}
+use Rattle.tx_view.specs.Lone.{IsLone, IsPaged, WerePages}
+use Rattle.tx_view.specs.RowParts.{AreRowParts}
+use Rattle.tx_view.specs.Rows.{row_parts}
 use Rattle.tx_view.specs.Names.{Fresh}
 use Rattle.tx_view.specs.Stores.{Stores, attributes_from, laid_parts_from, fresh_stores}
-use Rattle.tx_view.specs.Units.{unit_views, sums_from, row_counts, error_counts, AreAllApart}
-use Rattle.tx_unit_layout.specs.Views.{unit_view, IsReadable}
+use Rattle.tx_view.specs.Units.{unit_views, sums_from, row_counts, error_counts, IsBelow, AreAllApart}
+use Rattle.tx_unit_layout.specs.Views.{IsReadable}
 use Rattle.tx_view.specs.WholeViews.{WholeView, whole_of, all_of, IsKept}
 use Rattle.tx_view.proofs.Forgetting.{AllReadable}
 
@@ -41,7 +43,7 @@ pub record IsSized (v : Inside) : Type 0 where
 abbrev pub IsLeft : Inside → Type 0
 IsLeft v =
     IfSome v.lone (λ l. IsLone v.bridges.kept v.hidden.items l.unit l.attrs
-    × IsPaged v.height (unit_views v.hidden.items) l.paged)
+    × WerePages v.height (unit_views v.hidden.items) l)
 
 pub stale : (v : Inside) → IsSized v → v.fresh ≡ false → v.units.items ≡ [] → v.paged.rows.items ≡ 0 ∷ []
     → v.paged.errors.items ≡ 0 ∷ [] → AreLaid v.width v.bridges.kept v.bridges.parts v.hidden.items
@@ -56,6 +58,7 @@ stale v sized off none rows errors laid reads left =
       least_height = sized.least_height;
       most_height = sized.most_height;
       fresh = λ on. absurd (let both : true ≡ false = sym on ∙ off in cc);
+      row_parts = λ on. absurd (let both : true ≡ false = sym on ∙ off in cc);
       kept = λ on. absurd (let both : true ≡ false = sym on ∙ off in cc);
       hidden = λ is. none;
       of_buffers = sized.of_buffers;
@@ -63,20 +66,22 @@ stale v sized off none rows errors laid reads left =
       all_readable = subst AllReadable all reads;
       rows = rows ∙ ap (λ xs. sums_from 0 (row_counts (unit_views xs))) (sym none);
       errors = errors ∙ ap (λ xs. sums_from 0 (error_counts (unit_views xs))) (sym none);
-      readable = subst AllReadable (sym none) (All-nil (λ (x : Shown). IsReadable (unit_view x)));
+      readable = subst AllReadable (sym none) (All-nil IsReadable);
+      below = subst (λ (xs : List Shown). All IsBelow xs) (sym none) (All-nil IsBelow);
       apart = subst (λ (xs : List Shown). AreAllApart (unit_views xs)) (sym none) tt;
       lone = left;
     }
 
-abbrev whole_with : List Buffer → ℕ → ℕ → Bool → List UnitView → List Cut → Kept → List KeptParts → List (Option Attrs)
+abbrev whole_with : List Buffer → ℕ → ℕ → Bool → List Shown → List Cut → Kept → List KeptParts → List (Option Attrs)
     → List (List LaidAt) → ℕ → WholeView
-whole_with bs w h f us ps k pss l lss n =
+whole_with bs w h f xs ps k pss l lss n =
     record {
       buffers = bs;
       width = w;
       height = h;
       fresh = f;
-      shown = record { units = us; pages = ps };
+      shown = record { units = unit_views xs; pages = ps };
+      row_parts = row_parts xs;
       stores = record { kept = k; parts = pss; laid = l; laid_parts = lss };
       work = n;
     }
@@ -91,6 +96,7 @@ pub stale_view : (v : Inside) (bs : List Buffer) (k : Kept) (pss : List KeptPart
       height = v.height;
       fresh = false;
       shown = record { units = []; pages = [] };
+      row_parts = [];
       stores = record { kept = k; parts = pss; laid = l; laid_parts = lss };
       work = v.work;
     }
@@ -100,9 +106,9 @@ stale_view v bs k pss l lss off none pages is_bs is_k is_p is_l is_lss =
     let n : ℕ = v.work in
     let hidden : List Shown = v.hidden.items in
     let shown : List Shown = v.units.items in
-    ap (λ f. whole_with v.buffers.items w h f (unit_views shown) v.paged.pages.items v.bridges.kept v.bridges.parts
+    ap (λ f. whole_with v.buffers.items w h f shown v.paged.pages.items v.bridges.kept v.bridges.parts
     (laid_in (if f then shown else hidden)) (laid_parts_in (if f then shown else hidden)) n) off
-    ∙ ap (λ xs. whole_with v.buffers.items w h false (unit_views xs) v.paged.pages.items v.bridges.kept
+    ∙ ap (λ xs. whole_with v.buffers.items w h false xs v.paged.pages.items v.bridges.kept
     v.bridges.parts (laid_in hidden) (laid_parts_in hidden) n) none
     ∙ ap (λ ps. whole_with v.buffers.items w h false [] ps v.bridges.kept v.bridges.parts (laid_in hidden)
     (laid_parts_in hidden) n) pages
@@ -117,7 +123,7 @@ stale_view v bs k pss l lss off none pages is_bs is_k is_p is_l is_lss =
 pub left_none : (v : Inside) → v.lone ≡ None → IsLeft v
 left_none v e =
     subst (λ (o : Option Lone). IfSome o (λ l. IsLone v.bridges.kept v.hidden.items l.unit l.attrs
-    × IsPaged v.height (unit_views v.hidden.items) l.paged)) (sym e) tt
+    × WerePages v.height (unit_views v.hidden.items) l)) (sym e) tt
 
 -- ---- a fresh one
 
@@ -126,12 +132,13 @@ stores_with k pss l lss = record { kept = k; parts = pss; laid = l; laid_parts =
 
 pub standing : (v : Inside) → IsSized v → v.fresh ≡ true
     → AreShown v.width beginning (units v.buffers.items) (unit_views v.units.items)
+    → AreRowParts v.width beginning (units v.buffers.items) (unit_views v.units.items) (row_parts v.units.items)
     → IsPaged v.height (unit_views v.units.items) v.paged
     → stores_with v.bridges.kept v.bridges.parts (laid_in v.units.items) (laid_parts_in v.units.items)
     ≡ Fresh v.buffers.items
     → AreAllApart (unit_views v.units.items) → AreLaid v.width v.bridges.kept v.bridges.parts v.units.items
-    → AllReadable v.units.items → v.lone ≡ None → IsKept v
-standing v sized on shown paged stores apart laid reads none =
+    → AllReadable v.units.items → All IsBelow v.units.items → v.lone ≡ None → IsKept v
+standing v sized on shown rows paged stores apart laid reads below none =
     let all : v.units.items ≡ all_of v = ap (λ b. if b then v.units.items else v.hidden.items) (sym on) in
     record {
       some = sized.some;
@@ -141,6 +148,7 @@ standing v sized on shown paged stores apart laid reads none =
       least_height = sized.least_height;
       most_height = sized.most_height;
       fresh = λ is. record { shown = shown; paged = paged.pages };
+      row_parts = λ is. rows;
       kept = λ is.
           ap (λ xs. stores_with v.bridges.kept v.bridges.parts (laid_in xs) (laid_parts_in xs)) (sym all) ∙ stores;
       hidden = λ off. absurd (let both : true ≡ false = sym on ∙ off in cc);
@@ -150,6 +158,7 @@ standing v sized on shown paged stores apart laid reads none =
       rows = paged.rows;
       errors = paged.errors;
       readable = reads;
+      below = below;
       apart = apart;
       lone = left_none v none;
     }

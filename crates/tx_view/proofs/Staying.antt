@@ -1,38 +1,44 @@
 -- What is shown stays in place, but for one unit that has changed.
-use Rattle.std.proofs.Common.{◌≡◌, ℕ, zero, suc, ◌+◌, ◌<◌, List, [], ◌∷◌, length, map, slice_set, slice_index_or}
-use Rattle.std.proofs.Common.{Bool, true, false, Option, Some, None, refl, ap, sym, subst, ◌∙◌, arith}
-use Rattle.std.proofs.lemmas.Bool.{false_from_ne_true, and_parts}
+use Rattle.std.proofs.Common.{◌≡◌, ℕ, zero, suc, ◌+◌, ◌<◌, List, [], ◌∷◌, ◌++◌, length, map, slice_set}
+use Rattle.std.proofs.Common.{slice_index_or, Bool, true, false, Option, Some, None, refl, ap, sym, subst, ◌∙◌, arith}
+use Rattle.std.proofs.lemmas.Bool.{false_from_ne_true}
 use Rattle.std.proofs.lemmas.Bool.Decides.{Decides-eqb}
 use Rattle.std.proofs.lemmas.List.Elements.{recursion_from_All, All-from_recursion}
-use Rattle.std.specs.List.{AllByRecursion}
-use Rattle.std.proofs.lemmas.Option.{same_Some}
+use Rattle.std.specs.List.{All, AllByRecursion}
 use Rattle.std.specs.Option.{option_map_or}
-use Rattle.std.specs.Prelude.{slice_get, option_and_then, is_some, ◌==◌, ◌&&◌, if◌then◌else◌}
+use Rattle.std.specs.Prelude.{slice_get, option_and_then, is_some, ◌==◌, if◌then◌else◌}
 use Rattle.tx_tree.specs.WideTree.{WideTree}
 use Rattle.tx_mod.specs.declared.mods.Mod.{Mod}
-use Rattle.tx_mod.specs.Followed.{changed_by_all}
 use Rattle.tx_exec_form.specs.Evaluated.{WideTrace}
 use Rattle.tx_units.specs.declared.kinds.Unit.{Unit as DocUnit}
 use Rattle.tx_items.specs.declared.attributes.Attrs.{Attrs}
+use Rattle.tx_items.specs.declared.drawing.Paragraph.{Paragraph}
+use Rattle.tx_layout.specs.declared.layout.Line.{Line}
 use Rattle.tx_view_form.specs.Outcomes.{value_of}
-use Rattle.tx_bridge.specs.Carrying.{had, taken_from, AllStand, HaveSameTrees}
-use Rattle.tx_bridge.specs.CarryingParts.{parts_within, parts_but}
+use Rattle.tx_part_items.specs.ItemsUnder.{paragraph_under}
+use Rattle.tx_part_layout.specs.LaidParts.{laid_paths, placed_lines}
+use Rattle.tx_part_layout.specs.LinesUnder.{line_under}
+use Rattle.tx_part_layout.specs.declared.laid.PlacedPart.{PlacedPart}
+use Rattle.tx_bridge.specs.Carrying.{had, taken_from, HaveSameTrees}
+use Rattle.tx_bridge.specs.CarryingParts.{carried_below, parts_within, parts_but}
 use Rattle.tx_bridge.specs.Entries.{Entry, Kept, units_of, traces_of}
 use Rattle.tx_bridge.specs.HeldParts.{AllPartsHold}
-use Rattle.tx_bridge.specs.InPlace.{numbers_but, is_gone, are_within, IsOneChanged}
+use Rattle.tx_bridge.specs.InPlace.{numbers_but}
 use Rattle.tx_bridge.specs.Names.{Sources, Carry as CarryKept, CarryParts, CarryWithin}
 use Rattle.tx_bridge.specs.Nested.{KeptParts}
 use Rattle.tx_unit_layout.specs.LaidAts.{laid_at, laid_ats}
 use Rattle.tx_unit_layout.specs.LaidUnits.{IsLaid, IsLaidOut, AreLaidParts}
+use Rattle.tx_unit_layout.specs.Moving.{wide_part, laid_by}
+use Rattle.tx_unit_layout.specs.Views.{unit_view, IsReadable}
 use Rattle.tx_unit_layout.specs.declared.shown.Shown.{Shown}
 use Rattle.tx_view.specs.declared.carrying.Target.{Target}
 use Rattle.tx_view.specs.declared.carrying.Target.TheVariants.{InPlace, Onto}
 use Rattle.tx_view.specs.Exchanged.{left_at, left_but, laid_parts_of, parts_after, laid_parts_after}
-use Rattle.tx_view.specs.Laid.{AreLaid, laid_in, laid_parts_in, left_in, IsLeftBy, StayBut}
-use Rattle.tx_view.specs.Laid.{IsTarget, IsWay, IsMoved, IsInside}
-use Rattle.tx_view.proofs.Forgetting.{AllReadable}
-use Rattle.tx_view.proofs.Moved.{Reads, IsCarried, carried_on, Same, AllSame, all_same}
-use Rattle.tx_view.proofs.OfParts.{Keeps, AllKeep, KeepingLaw, StayingLaw, keeps_all, left_laid, left_ats, same_ats}
+use Rattle.tx_view.specs.Laid.{AreLaid, laid_in, laid_parts_in, parts_left, left_with, IsLeftBy, StayBut}
+use Rattle.tx_view.specs.Laid.{IsTarget, IsWay, IsMoved, IsLeft}
+use Rattle.tx_view.proofs.Moved.{IsCarried, carried_on, Same, AllSame, all_same}
+use Rattle.tx_view.proofs.OfParts.{AreDistinct, all_distinct, left_laid, left_ats, none_wide, same_ats}
+use Rattle.tx_view.proofs.ShortParts.{stays_short}
 
 -- ---- one entry is reset
 
@@ -42,48 +48,48 @@ not_equal k i h = false_from_ne_true (k == i) (λ e. absurd (h ((Decides-eqb k i
 pub are_equal : (k i : ℕ) → k ≡ i → k == i ≡ true
 are_equal k i e = (Decides-eqb k i).1 e
 
-same_stays : (ms : List Mod) (c : Bool) (y : Shown) → c ≡ false → IsLeftBy ms c y y
-same_stays ms c y e = subst (λ b. IsLeftBy ms b y y) (sym e) refl
+same_stays : (ps : List PlacedPart) (c : Bool) (y : Shown) → c ≡ false → IsLeftBy ps c y y
+same_stays ps c y e = subst (λ b. IsLeftBy ps b y y) (sym e) refl
 
 -- number i is none of these
-pub stay_all : (ms : List Mod) (i k : ℕ) (ys : List Shown) → ((n : ℕ) → n < length ys → k + n ≡ i → ⊥)
-    → StayBut ms i k ys ys
-stay_all ms i k [] h = tt
-stay_all ms i k (y ∷ ys) h = (
-  same_stays ms (k == i) y (not_equal k i (λ e. h 0 (omega arith) (omega (arith, e)))),
-  stay_all ms i (k + 1) ys (λ n l e. h (suc n) (omega (arith, l)) (omega (arith, e))),
+pub stay_all : (ps : List PlacedPart) (i k : ℕ) (ys : List Shown) → ((n : ℕ) → n < length ys → k + n ≡ i → ⊥)
+    → StayBut ps i k ys ys
+stay_all ps i k [] h = tt
+stay_all ps i k (y ∷ ys) h = (
+  same_stays ps (k == i) y (not_equal k i (λ e. h 0 (omega arith) (omega (arith, e)))),
+  stay_all ps i (k + 1) ys (λ n l e. h (suc n) (omega (arith, l)) (omega (arith, e))),
 )
 
-pub stay_but : (ms : List Mod) (i k j : ℕ) (ys : List Shown) (d x : Shown) → i ≡ k + j → j < length ys
-    → x ≡ left_in ms (slice_index_or ys j d) → StayBut ms i k ys (slice_set ys j x)
-stay_but ms i k j [] d x e l is = absurd (omega (arith, l))
-stay_but ms i k zero (y ∷ ys) d x e l is = (
-  subst (λ b. IsLeftBy ms b y x) (sym (are_equal k i (omega (arith, e)))) is,
-  stay_all ms i (k + 1) ys (λ n less f. omega (arith, e, f)),
+pub stay_but : (ps : List PlacedPart) (i k j : ℕ) (ys : List Shown) (d x : Shown) → i ≡ k + j → j < length ys
+    → x ≡ left_with ps (slice_index_or ys j d) → StayBut ps i k ys (slice_set ys j x)
+stay_but ps i k j [] d x e l is = absurd (omega (arith, l))
+stay_but ps i k zero (y ∷ ys) d x e l is = (
+  subst (λ b. IsLeftBy ps b y x) (sym (are_equal k i (omega (arith, e)))) is,
+  stay_all ps i (k + 1) ys (λ n less f. omega (arith, e, f)),
 )
-stay_but ms i k (suc j) (y ∷ ys) d x e l is = (
-  same_stays ms (k == i) y (not_equal k i (λ f. omega (arith, e, f))),
-  stay_but ms i (k + 1) j ys d x (omega (arith, e)) (omega (arith, l)) is,
+stay_but ps i k (suc j) (y ∷ ys) d x e l is = (
+  same_stays ps (k == i) y (not_equal k i (λ f. omega (arith, e, f))),
+  stay_but ps i (k + 1) j ys d x (omega (arith, e)) (omega (arith, l)) is,
 )
 
 -- ---- what stays of what is shown
 
-pub stays_same : (ms : List Mod) (y x : Shown) (c : Bool) → c ≡ false → IsLeftBy ms c y x → x ≡ y
-stays_same ms y x true e h = cc
-stays_same ms y x false e h = h
+pub stays_same : (ps : List PlacedPart) (y x : Shown) (c : Bool) → c ≡ false → IsLeftBy ps c y x → x ≡ y
+stays_same ps y x true e h = cc
+stays_same ps y x false e h = h
 
-pub stays_left : (ms : List Mod) (y x : Shown) (c : Bool) → c ≡ true → IsLeftBy ms c y x → x ≡ left_in ms y
-stays_left ms y x true e h = h
-stays_left ms y x false e h = cc
+pub stays_left : (ps : List PlacedPart) (y x : Shown) (c : Bool) → c ≡ true → IsLeftBy ps c y x → x ≡ left_with ps y
+stays_left ps y x true e h = h
+stays_left ps y x false e h = cc
 
 -- number i is none of these
-pub stay_behind : (ms : List Mod) (i k : ℕ) (ys xs : List Shown) → i < k → StayBut ms i k ys xs → xs ≡ ys
-stay_behind ms i k [] [] less h = refl
-stay_behind ms i k [] (x ∷ xs) less h = absurd h
-stay_behind ms i k (y ∷ ys) [] less h = absurd h
-stay_behind ms i k (y ∷ ys) (x ∷ xs) less h =
-    ap (λ z. z ∷ xs) (stays_same ms y x (k == i) (not_equal k i (λ e. omega (arith, e, less))) h.0)
-    ∙ ap (λ zs. y ∷ zs) (stay_behind ms i (k + 1) ys xs (omega (arith, less)) h.1)
+pub stay_behind : (ps : List PlacedPart) (i k : ℕ) (ys xs : List Shown) → i < k → StayBut ps i k ys xs → xs ≡ ys
+stay_behind ps i k [] [] less h = refl
+stay_behind ps i k [] (x ∷ xs) less h = absurd h
+stay_behind ps i k (y ∷ ys) [] less h = absurd h
+stay_behind ps i k (y ∷ ys) (x ∷ xs) less h =
+    ap (λ z. z ∷ xs) (stays_same ps y x (k == i) (not_equal k i (λ e. omega (arith, e, less))) h.0)
+    ∙ ap (λ zs. y ∷ zs) (stay_behind ps i (k + 1) ys xs (omega (arith, less)) h.1)
 
 -- ---- what is kept and shown of the new units
 
@@ -99,19 +105,23 @@ had_here all k x false e = ap (option_and_then (λ o. o)) e
 abbrev entry : DocUnit → Option WideTrace → Entry
 entry v o = record { unit = v; trace = o }
 
+-- these are left of the parts of that unit
+abbrev pub AreLeft : List Mod → WideTree → List PlacedPart → Shown → Type 0
+AreLeft ms t ps y = map wide_part ps ≡ parts_left ms t y.path y.parts
+
 -- the unit inside which the modifications are
-one_left : (width : ℕ) (ms : List Mod) (t : WideTree) (e : Entry) (ks : KeptParts) (v : DocUnit)
-    (o : Option WideTrace) (y x : Shown) → IsLaid width e ks ks y → x ≡ left_in ms y → v.path ≡ e.unit.path
-    → Keeps ms t e ks
+one_left : (width : ℕ) (ms : List Mod) (t : WideTree) (ps : List PlacedPart) (e : Entry) (ks : KeptParts)
+    (v : DocUnit) (o : Option WideTrace) (y x : Shown) → IsLaid width e ks ks y → x ≡ left_with ps y
+    → v.path ≡ e.unit.path → AreLeft ms t ps y → AreDistinct (parts_within ms t e.unit ks)
     → IsLaid width (entry v o) (parts_within ms t e.unit ks) (parts_within ms t e.unit ks) x
-one_left width ms t e ks v o y x laid left path keeps = record {
+one_left width ms t ps e ks v o y x laid left path are apart = record {
   path = ap (λ (z : Shown). z.path) left ∙ laid.path ∙ sym path;
   laid = λ a there. absurd (off a there);
   by_parts = λ a there. absurd (off a there);
   same = λ a there. refl;
   parts =
       subst (λ (z : Shown). AreLaidParts width (parts_within ms t e.unit ks) z.parts) (sym left)
-      (left_laid width ms t e ks y laid keeps);
+      (left_laid width ms t e ks y ps laid are apart);
 }
   where
     off : (a : Attrs) → x.laid ≡ Some a → ⊥
@@ -154,125 +164,173 @@ trace_stays traces i k o off at =
     had_here traces k o (k == i) at ∙ ap (λ b. if b then None else o) (not_equal k i off)
 
 -- units behind number i
-stay_past : (width i k : ℕ) (ms : List Mod) (traces : List (Option WideTrace)) (all : List DocUnit) (es : Kept)
+stay_past : (width i k : ℕ) (ps : List PlacedPart) (traces : List (Option WideTrace)) (all : List DocUnit) (es : Kept)
     (pss : List KeptParts) (vs : List DocUnit) (ys xs : List Shown) → i < k → AreFrom traces k (traces_of es)
-    → AreFrom all k (units_of es) → AreLaid width es pss ys → StayBut ms i k ys xs
+    → AreFrom all k (units_of es) → AreLaid width es pss ys → StayBut ps i k ys xs
     → AllSame all (numbers_but i k (length vs)) vs → paths_of vs ≡ paths_of (units_of es)
     → AreLaid width (taken_from traces (numbers_but i k (length vs)) vs) pss xs
-stay_past width i k ms traces all [] [] [] [] [] less from units laid stay same paths = tt
-stay_past width i k ms traces all [] [] [] [] (x ∷ xs) less from units laid stay same paths = absurd stay
-stay_past width i k ms traces all [] [] [] (y ∷ ys) xs less from units laid stay same paths = absurd laid
-stay_past width i k ms traces all [] [] (v ∷ vs) ys xs less from units laid stay same paths = cc
-stay_past width i k ms traces all [] (ks ∷ pss) vs ys xs less from units laid stay same paths = absurd laid
-stay_past width i k ms traces all (e ∷ es) [] vs ys xs less from units laid stay same paths = absurd laid
-stay_past width i k ms traces all (e ∷ es) (ks ∷ pss) vs [] xs less from units laid stay same paths = absurd laid
-stay_past width i k ms traces all (e ∷ es) (ks ∷ pss) [] (y ∷ ys) xs less from units laid stay same paths = cc
-stay_past width i k ms traces all (e ∷ es) (ks ∷ pss) (v ∷ vs) (y ∷ ys) [] less from units laid stay same paths =
+stay_past width i k ps traces all [] [] [] [] [] less from units laid stay same paths = tt
+stay_past width i k ps traces all [] [] [] [] (x ∷ xs) less from units laid stay same paths = absurd stay
+stay_past width i k ps traces all [] [] [] (y ∷ ys) xs less from units laid stay same paths = absurd laid
+stay_past width i k ps traces all [] [] (v ∷ vs) ys xs less from units laid stay same paths = cc
+stay_past width i k ps traces all [] (ks ∷ pss) vs ys xs less from units laid stay same paths = absurd laid
+stay_past width i k ps traces all (e ∷ es) [] vs ys xs less from units laid stay same paths = absurd laid
+stay_past width i k ps traces all (e ∷ es) (ks ∷ pss) vs [] xs less from units laid stay same paths = absurd laid
+stay_past width i k ps traces all (e ∷ es) (ks ∷ pss) [] (y ∷ ys) xs less from units laid stay same paths = cc
+stay_past width i k ps traces all (e ∷ es) (ks ∷ pss) (v ∷ vs) (y ∷ ys) [] less from units laid stay same paths =
     absurd stay
-stay_past width i k ms traces all (e ∷ es) (ks ∷ pss) (v ∷ vs) (y ∷ ys) (x ∷ xs) less from units laid stay same paths =
+stay_past width i k ps traces all (e ∷ es) (ks ∷ pss) (v ∷ vs) (y ∷ ys) (x ∷ xs) less from units laid stay same paths =
     let both : (v.path ≡ e.unit.path) × (paths_of vs ≡ paths_of (units_of es)) =
     heads v.path e.unit.path (paths_of vs) (paths_of (units_of es)) paths in
     let off : k ≡ i → ⊥ = λ f. omega (arith, f, less) in (
       one_stays width e ks v (had traces (if k == i then None else Some k)) y x laid.0
-          (stays_same ms y x (k == i) (not_equal k i off) stay.0) both.0
+          (stays_same ps y x (k == i) (not_equal k i off) stay.0) both.0
           (tree_stays all i k e.unit v off (units 0 k (omega arith)) same.0)
           (trace_stays traces i k e.trace off (from 0 k (omega arith))),
-      stay_past width i (k + 1) ms traces all es pss vs ys xs (omega (arith, less))
+      stay_past width i (k + 1) ps traces all es pss vs ys xs (omega (arith, less))
           (λ n m f. from (suc n) m (omega (arith, f))) (λ n m f. units (suc n) m (omega (arith, f))) laid.1 stay.1
           same.1 both.1,
     )
 
 -- units from the j-th before number i on
-stay_laid : (width i k j : ℕ) (ms : List Mod) (t : WideTree) (traces : List (Option WideTrace)) (all : List DocUnit)
-    (es : Kept) (pss : List KeptParts) (vs : List DocUnit) (ys xs : List Shown) → i ≡ k + j
-    → AreFrom traces k (traces_of es) → AreFrom all k (units_of es) → AreLaid width es pss ys → StayBut ms i k ys xs
-    → AllSame all (numbers_but i k (length vs)) vs → paths_of vs ≡ paths_of (units_of es) → AllKeep ms t es pss
-    → AreLaid width (taken_from traces (numbers_but i k (length vs)) vs) (parts_but ms t j (units_of es) pss) xs
-stay_laid width i k j ms t traces all [] [] [] [] [] is from units laid stay same paths keep = tt
-stay_laid width i k j ms t traces all [] [] [] [] (x ∷ xs) is from units laid stay same paths keep = absurd stay
-stay_laid width i k j ms t traces all [] [] [] (y ∷ ys) xs is from units laid stay same paths keep = absurd laid
-stay_laid width i k j ms t traces all [] [] (v ∷ vs) ys xs is from units laid stay same paths keep = cc
-stay_laid width i k j ms t traces all [] (ks ∷ pss) vs ys xs is from units laid stay same paths keep = absurd laid
-stay_laid width i k j ms t traces all (e ∷ es) [] vs ys xs is from units laid stay same paths keep = absurd laid
-stay_laid width i k j ms t traces all (e ∷ es) (ks ∷ pss) vs [] xs is from units laid stay same paths keep = absurd laid
-stay_laid width i k j ms t traces all (e ∷ es) (ks ∷ pss) [] (y ∷ ys) xs is from units laid stay same paths keep = cc
-stay_laid width i k j ms t traces all (e ∷ es) (ks ∷ pss) (v ∷ vs) (y ∷ ys) [] is from units laid stay same paths keep =
+stay_laid : (width i k j : ℕ) (ms : List Mod) (t : WideTree) (ps : List PlacedPart)
+    (ts : List (Option WideTrace)) (all : List DocUnit) (es : Kept) (pss : List KeptParts) (vs : List DocUnit)
+    (ys xs : List Shown) → i ≡ k + j
+    → AreFrom ts k (traces_of es) → AreFrom all k (units_of es) → AreLaid width es pss ys → StayBut ps i k ys xs
+    → AllSame all (numbers_but i k (length vs)) vs → paths_of vs ≡ paths_of (units_of es)
+    → ((y : Shown) → slice_get ys j ≡ Some y → AreLeft ms t ps y)
+    → AllByRecursion AreDistinct (parts_but ms t j (units_of es) pss)
+    → AreLaid width (taken_from ts (numbers_but i k (length vs)) vs) (parts_but ms t j (units_of es) pss) xs
+stay_laid width i k j ms t ps ts all [] [] [] [] [] is from units laid stay same at left far = tt
+stay_laid width i k j ms t ps ts all [] [] [] [] (x ∷ xs) is from units laid stay same at left far = absurd stay
+stay_laid width i k j ms t ps ts all [] [] [] (y ∷ ys) xs is from units laid stay same at left far = absurd laid
+stay_laid width i k j ms t ps ts all [] [] (v ∷ vs) ys xs is from units laid stay same at left far = cc
+stay_laid width i k j ms t ps ts all [] (ks ∷ pss) vs ys xs is from units laid stay same at left far = absurd laid
+stay_laid width i k j ms t ps ts all (e ∷ es) [] vs ys xs is from units laid stay same at left far = absurd laid
+stay_laid width i k j ms t ps ts all (e ∷ es) (ks ∷ pss) vs [] xs is from units laid stay same at left far = absurd laid
+stay_laid width i k j ms t ps ts all (e ∷ es) (ks ∷ pss) [] (y ∷ ys) xs is from units laid stay same at left far = cc
+stay_laid width i k j ms t ps ts all (e ∷ es) (ks ∷ pss) (v ∷ vs) (y ∷ ys) [] is from units laid stay same at left far =
     absurd stay
-stay_laid width i k zero ms t traces all (e ∷ es) (ks ∷ pss) (v ∷ vs) (y ∷ ys) (x ∷ xs) is from units laid stay same
-    paths keep =
+stay_laid width i k zero ms t ps ts all (e ∷ es) (ks ∷ pss) (v ∷ vs) (y ∷ ys) (x ∷ xs) is from units laid stay same
+    at left far =
     let both : (v.path ≡ e.unit.path) × (paths_of vs ≡ paths_of (units_of es)) =
-    heads v.path e.unit.path (paths_of vs) (paths_of (units_of es)) paths in (
-      one_left width ms t e ks v (had traces (if k == i then None else Some k)) y x laid.0
-          (stays_left ms y x (k == i) (are_equal k i (omega (arith, is))) stay.0) both.0 keep.0,
-      stay_past width i (k + 1) ms traces all es pss vs ys xs (omega (arith, is))
+    heads v.path e.unit.path (paths_of vs) (paths_of (units_of es)) at in (
+      one_left width ms t ps e ks v (had ts (if k == i then None else Some k)) y x laid.0
+          (stays_left ps y x (k == i) (are_equal k i (omega (arith, is))) stay.0) both.0 (left y refl) far.0,
+      stay_past width i (k + 1) ps ts all es pss vs ys xs (omega (arith, is))
           (λ n m f. from (suc n) m (omega (arith, f))) (λ n m f. units (suc n) m (omega (arith, f))) laid.1 stay.1
           same.1 both.1,
     )
-stay_laid width i k (suc j) ms t traces all (e ∷ es) (ks ∷ pss) (v ∷ vs) (y ∷ ys) (x ∷ xs) is from units laid stay same
-    paths keep =
+stay_laid width i k (suc j) ms t ps ts all (e ∷ es) (ks ∷ pss) (v ∷ vs) (y ∷ ys) (x ∷ xs) is from units laid stay same
+    at left far =
     let both : (v.path ≡ e.unit.path) × (paths_of vs ≡ paths_of (units_of es)) =
-    heads v.path e.unit.path (paths_of vs) (paths_of (units_of es)) paths in
+    heads v.path e.unit.path (paths_of vs) (paths_of (units_of es)) at in
     let off : k ≡ i → ⊥ = λ f. omega (arith, f, is) in (
-      one_stays width e ks v (had traces (if k == i then None else Some k)) y x laid.0
-          (stays_same ms y x (k == i) (not_equal k i off) stay.0) both.0
+      one_stays width e ks v (had ts (if k == i then None else Some k)) y x laid.0
+          (stays_same ps y x (k == i) (not_equal k i off) stay.0) both.0
           (tree_stays all i k e.unit v off (units 0 k (omega arith)) same.0)
-          (trace_stays traces i k e.trace off (from 0 k (omega arith))),
-      stay_laid width i (k + 1) j ms t traces all es pss vs ys xs (omega (arith, is))
+          (trace_stays ts i k e.trace off (from 0 k (omega arith))),
+      stay_laid width i (k + 1) j ms t ps ts all es pss vs ys xs (omega (arith, is))
           (λ n m f. from (suc n) m (omega (arith, f))) (λ n m f. units (suc n) m (omega (arith, f))) laid.1 stay.1
-          same.1 both.1 keep.1,
+          same.1 both.1 left far.1,
     )
 
-one_reads : (ms : List Mod) (y x : Shown) (c : Bool) → Reads y → IsLeftBy ms c y x → Reads x
-one_reads ms y x true reads same =
-    subst Reads (sym same)
-    (record { placed = reads.placed; short = reads.short; short_items = reads.short_items })
-one_reads ms y x false reads same = subst Reads (sym same) reads
+-- that unit stays readable
+left_reads : (ms : List Mod) (t : WideTree) (ps : List PlacedPart) (y : Shown) → IsReadable y → AreLeft ms t ps y
+    → IsReadable (left_with ps y)
+left_reads ms t ps y reads left =
+    let places : List (Option (List ℕ)) =
+    option_map_or (λ p. map (carried_below ms t p) (laid_paths y.parts)) y.path [] in
+    let are : map wide_part ps ≡ laid_by places y.parts = left ∙ by y.path in
+    record {
+      placed = λ none. bare none (reads.placed none);
+      short = stays_short (λ (l : Line). l.items) line_under (λ b l. refl) (λ l. l.lines) places y.parts ps y.lines are
+          reads.short;
+      short_items = stays_short (λ (p : Paragraph). p.items) paragraph_under (λ b p. refl) (λ l. l.paragraphs.items)
+          places y.parts ps y.paragraphs.items are reads.short_items;
+      below = λ a is. absurd (let off : None ≡ Some a = is in cc);
+    }
+  where
+    by : (o : Option (List ℕ)) → parts_left ms t o y.parts
+        ≡ laid_by (option_map_or (λ p. map (carried_below ms t p) (laid_paths y.parts)) o []) y.parts
+    by None = refl
+    by (Some p) = refl
 
-stay_reads : (ms : List Mod) (i k : ℕ) (ys xs : List Shown) → AllByRecursion Reads ys → StayBut ms i k ys xs
-    → AllByRecursion Reads xs
-stay_reads ms i k [] [] reads stay = tt
-stay_reads ms i k [] (x ∷ xs) reads stay = absurd stay
-stay_reads ms i k (y ∷ ys) [] reads stay = absurd stay
-stay_reads ms i k (y ∷ ys) (x ∷ xs) reads stay =
-    (one_reads ms y x (k == i) reads.0 stay.0, stay_reads ms i (k + 1) ys xs reads.1 stay.1)
+    second : (ls own : List Line) → ls ++ own ≡ [] → own ≡ []
+    second [] own e = e
+    second (l ∷ ls) own e = cc
 
-one_attributes : (ms : List Mod) (y x : Shown) (c : Bool) → IsLeftBy ms c y x → x.laid ≡ (if c then None else y.laid)
-one_attributes ms y x true same = ap (λ (z : Shown). z.laid) same
-one_attributes ms y x false same = ap (λ (z : Shown). z.laid) same
+    bare : y.path ≡ None → (unit_view y).lines ≡ [] → (unit_view (left_with ps y)).lines ≡ []
+    bare none lines =
+        ap (λ qs. placed_lines qs ++ y.lines)
+        (none_wide ps (left ∙ ap (λ o. parts_left ms t o y.parts) none))
+        ∙ second (placed_lines y.parts) y.lines lines
 
-stay_attributes : (ms : List Mod) (i k : ℕ) (all : List (Option Attrs)) (ys xs : List Shown)
-    → AreFrom all k (laid_in ys) → StayBut ms i k ys xs → laid_in xs ≡ map (had all) (numbers_but i k (length ys))
-stay_attributes ms i k all [] [] from stay = refl
-stay_attributes ms i k all [] (x ∷ xs) from stay = absurd stay
-stay_attributes ms i k all (y ∷ ys) [] from stay = absurd stay
-stay_attributes ms i k all (y ∷ ys) (x ∷ xs) from stay =
+one_reads : (ps : List PlacedPart) (y x : Shown) (c : Bool) → IsReadable y → IsLeftBy ps c y x
+    → (c ≡ true → IsReadable (left_with ps y)) → IsReadable x
+one_reads ps y x true reads same left = subst IsReadable (sym same) (left refl)
+one_reads ps y x false reads same left = subst IsReadable (sym same) reads
+
+-- number i is none of these
+past_reads : (ps : List PlacedPart) (i k : ℕ) (ys xs : List Shown) → i < k → AllByRecursion IsReadable ys
+    → StayBut ps i k ys xs → AllByRecursion IsReadable xs
+past_reads ps i k ys xs less reads stay =
+    subst (AllByRecursion IsReadable) (sym (stay_behind ps i k ys xs less stay)) reads
+
+stay_reads : (ms : List Mod) (t : WideTree) (ps : List PlacedPart) (i k j : ℕ) (ys xs : List Shown) → i ≡ k + j
+    → AllByRecursion IsReadable ys → StayBut ps i k ys xs
+    → ((y : Shown) → slice_get ys j ≡ Some y → AreLeft ms t ps y) → AllByRecursion IsReadable xs
+stay_reads ms t ps i k j [] [] is reads stay left = tt
+stay_reads ms t ps i k j [] (x ∷ xs) is reads stay left = absurd stay
+stay_reads ms t ps i k j (y ∷ ys) [] is reads stay left = absurd stay
+stay_reads ms t ps i k zero (y ∷ ys) (x ∷ xs) is reads stay left = (
+  one_reads ps y x (k == i) reads.0 stay.0 (λ c. left_reads ms t ps y reads.0 (left y refl)),
+  past_reads ps i (k + 1) ys xs (omega (arith, is)) reads.1 stay.1,
+)
+stay_reads ms t ps i k (suc j) (y ∷ ys) (x ∷ xs) is reads stay left = (
+  subst IsReadable (sym (stays_same ps y x (k == i) (not_equal k i (λ f. omega (arith, f, is))) stay.0)) reads.0,
+  stay_reads ms t ps i (k + 1) j ys xs (omega (arith, is)) reads.1 stay.1 left,
+)
+
+one_attributes : (ps : List PlacedPart) (y x : Shown) (c : Bool) → IsLeftBy ps c y x
+    → x.laid ≡ (if c then None else y.laid)
+one_attributes ps y x true same = ap (λ (z : Shown). z.laid) same
+one_attributes ps y x false same = ap (λ (z : Shown). z.laid) same
+
+stay_attributes : (ps : List PlacedPart) (i k : ℕ) (all : List (Option Attrs)) (ys xs : List Shown)
+    → AreFrom all k (laid_in ys) → StayBut ps i k ys xs → laid_in xs ≡ map (had all) (numbers_but i k (length ys))
+stay_attributes ps i k all [] [] from stay = refl
+stay_attributes ps i k all [] (x ∷ xs) from stay = absurd stay
+stay_attributes ps i k all (y ∷ ys) [] from stay = absurd stay
+stay_attributes ps i k all (y ∷ ys) (x ∷ xs) from stay =
     ap (λ a. a ∷ laid_in xs)
-    (one_attributes ms y x (k == i) stay.0 ∙ sym (had_here all k y.laid (k == i) (from 0 k (omega arith))))
+    (one_attributes ps y x (k == i) stay.0 ∙ sym (had_here all k y.laid (k == i) (from 0 k (omega arith))))
     ∙ ap (λ as_laid. had all (if k == i then None else Some k) ∷ as_laid)
-    (stay_attributes ms i (k + 1) all ys xs (λ n m f. from (suc n) m (omega (arith, f))) stay.1)
+    (stay_attributes ps i (k + 1) all ys xs (λ n m f. from (suc n) m (omega (arith, f))) stay.1)
 
 -- of what parts are laid out
-stay_ats : (width i k j : ℕ) (ms : List Mod) (es : Kept) (pss : List KeptParts) (ys xs : List Shown) → i ≡ k + j
-    → AreLaid width es pss ys → StayBut ms i k ys xs
-    → laid_parts_in xs ≡ left_but ms j (units_of es) (laid_parts_in ys)
-stay_ats width i k j ms [] [] [] [] is laid stay = refl
-stay_ats width i k j ms [] [] [] (x ∷ xs) is laid stay = absurd stay
-stay_ats width i k j ms [] [] (y ∷ ys) xs is laid stay = absurd laid
-stay_ats width i k j ms [] (ks ∷ pss) ys xs is laid stay = absurd laid
-stay_ats width i k j ms (e ∷ es) [] ys xs is laid stay = absurd laid
-stay_ats width i k j ms (e ∷ es) (ks ∷ pss) [] xs is laid stay = absurd laid
-stay_ats width i k j ms (e ∷ es) (ks ∷ pss) (y ∷ ys) [] is laid stay = absurd stay
-stay_ats width i k zero ms (e ∷ es) (ks ∷ pss) (y ∷ ys) (x ∷ xs) is laid stay =
+stay_ats : (width i k j : ℕ) (ms : List Mod) (t : WideTree) (ps : List PlacedPart) (es : Kept) (pss : List KeptParts)
+    (ys xs : List Shown) → i ≡ k + j → AreLaid width es pss ys → StayBut ps i k ys xs
+    → ((y : Shown) → slice_get ys j ≡ Some y → AreLeft ms t ps y)
+    → laid_parts_in xs ≡ left_but ms t j (units_of es) (laid_parts_in ys)
+stay_ats width i k j ms t ps [] [] [] [] is laid stay left = refl
+stay_ats width i k j ms t ps [] [] [] (x ∷ xs) is laid stay left = absurd stay
+stay_ats width i k j ms t ps [] [] (y ∷ ys) xs is laid stay left = absurd laid
+stay_ats width i k j ms t ps [] (ks ∷ pss) ys xs is laid stay left = absurd laid
+stay_ats width i k j ms t ps (e ∷ es) [] ys xs is laid stay left = absurd laid
+stay_ats width i k j ms t ps (e ∷ es) (ks ∷ pss) [] xs is laid stay left = absurd laid
+stay_ats width i k j ms t ps (e ∷ es) (ks ∷ pss) (y ∷ ys) [] is laid stay left = absurd stay
+stay_ats width i k zero ms t ps (e ∷ es) (ks ∷ pss) (y ∷ ys) (x ∷ xs) is laid stay left =
     ap (λ (z : Shown). map laid_at z.parts ∷ laid_parts_in xs)
-    (stays_left ms y x (k == i) (are_equal k i (omega (arith, is))) stay.0)
-    ∙ ap (λ ls. ls ∷ laid_parts_in xs) (left_ats ms e.unit.path y laid.0.path)
-    ∙ ap (λ zs. left_at ms e.unit.path (map laid_at y.parts) ∷ laid_parts_in zs)
-    (stay_behind ms i (k + 1) ys xs (omega (arith, is)) stay.1)
-stay_ats width i k (suc j) ms (e ∷ es) (ks ∷ pss) (y ∷ ys) (x ∷ xs) is laid stay =
+    (stays_left ps y x (k == i) (are_equal k i (omega (arith, is))) stay.0)
+    ∙ ap (λ ls. ls ∷ laid_parts_in xs) (left_ats ms t e.unit.path y ps laid.0.path (left y refl))
+    ∙ ap (λ zs. left_at ms t e.unit.path (map laid_at y.parts) ∷ laid_parts_in zs)
+    (stay_behind ps i (k + 1) ys xs (omega (arith, is)) stay.1)
+stay_ats width i k (suc j) ms t ps (e ∷ es) (ks ∷ pss) (y ∷ ys) (x ∷ xs) is laid stay left =
     ap (λ (z : Shown). map laid_at z.parts ∷ laid_parts_in xs)
-    (stays_same ms y x (k == i) (not_equal k i (λ f. omega (arith, f, is))) stay.0)
+    (stays_same ps y x (k == i) (not_equal k i (λ f. omega (arith, f, is))) stay.0)
     ∙ ap (λ lss. map laid_at y.parts ∷ lss)
-    (stay_ats width i (k + 1) j ms es pss ys xs (omega (arith, is)) laid.1 stay.1)
+    (stay_ats width i (k + 1) j ms t ps es pss ys xs (omega (arith, is)) laid.1 stay.1 left)
 
 -- ---- an edit of a buffer
 
@@ -292,25 +350,25 @@ laid_many width (x ∷ es) (ks ∷ pss) (y ∷ ys) (v ∷ vs) h e =
 pub from_first : {A : Type 0} (all : List A) → AreFrom all 0 all
 from_first all n m e = let same : m ≡ n = omega (arith, e) in ap (slice_get all) same
 
--- what the laws and the call give of the edit
-pub record IsEdit (buffer : ℕ) (ms : List Mod) (t : WideTree) (old : Kept) (pss : List KeptParts) : Type 0 where
-  pub keeping : KeepingLaw
-  pub staying : StayingLaw
-  pub tree : WideTree
-  pub made : changed_by_all ms t ≡ Some tree
-  pub stand : buffer ≡ 0 → AllStand t (units_of old)
-  pub hold : AllPartsHold old pss
+-- what is left is told of the units that are shown, or else of the hidden ones
+pub left_of : (ms : List Mod) (t : WideTree) (to : Target) (fresh : Bool) (xs ys shown hidden : List Shown)
+    → xs ≡ shown → ys ≡ hidden → IsLeft ms t to (if fresh then xs else ys)
+    → IsLeft ms t to (if fresh then shown else hidden)
+left_of ms t to fresh xs ys shown hidden is_shown is_hidden left =
+    subst (λ (zs : List Shown). IsLeft ms t to (if fresh then zs else hidden)) is_shown
+    (subst (λ (zs : List Shown). IsLeft ms t to (if fresh then xs else zs)) is_hidden left)
 
 pub carried_by : (width buffer : ℕ) (ms : List Mod) (t : WideTree) (old new : Kept) (pss qss : List KeptParts)
     (olds xs : List Shown) (to : Target) (ss : List (Option ℕ)) (vs : List DocUnit) → AreLaid width old pss olds
-    → AllReadable olds → IsEdit buffer ms t old pss → new ≡ CarryKept buffer ms t old vs
+    → All IsReadable olds → AllPartsHold new qss → new ≡ CarryKept buffer ms t old vs
     → qss ≡ parts_after buffer ms t (units_of old) pss ss → ss ≡ Sources buffer ms t (units_of old) vs
-    → IsTarget (units_of old) vs ss to → IsWay buffer ms t (units_of old) vs ss to → IsMoved ms to ss olds xs
+    → IsTarget (units_of old) vs ss to → IsWay buffer ms t (units_of old) vs ss to → IsLeft ms t to olds
+    → IsMoved to ss olds xs
     → IsCarried width new qss (map (had (laid_in olds)) (Sources buffer ms t (units_of old) vs))
     (laid_parts_after buffer ms t (units_of old) (laid_parts_in olds) (Sources buffer ms t (units_of old) vs)) xs
 unfolding CarryKept CarryWithin Sources
-carried_by width buffer ms t old new pss qss olds xs (InPlace i silent) ss vs laid reads edit is_new is_parts is_ss to
-    way moves =
+carried_by width buffer ms t old new pss qss olds xs (InPlace i silent ps) ss vs laid reads hold is_new is_parts is_ss
+    to way left moves =
     let us : List DocUnit = units_of old in
     let is : Sources buffer ms t us vs ≡ numbers_but i 0 (length vs) = sym is_ss ∙ to.0 in
     let kept : new ≡ taken_from (traces_of old) (numbers_but i 0 (length vs)) vs =
@@ -321,28 +379,29 @@ carried_by width buffer ms t old new pss qss olds xs (InPlace i silent) ss vs la
     let same : AllSame us (numbers_but i 0 (length vs)) vs =
     all_same us vs (numbers_but i 0 (length vs))
     (subst (λ (ns : List (Option ℕ)). HaveSameTrees us vs ns) to.0 way.2) in
-    let keep : AllKeep ms t old pss =
-    keeps_all edit.keeping edit.staying ms t edit.tree old pss edit.made (edit.stand way.1.document) edit.hold in
+    let apart : AllByRecursion AreDistinct (parts_but ms t i us pss) =
+    subst (AllByRecursion AreDistinct) parts (all_distinct new qss hold) in
     let entries : Kept = taken_from (traces_of old) (numbers_but i 0 (length vs)) vs in
     let stay : AreLaid width entries (parts_but ms t i us pss) xs =
-    stay_laid width i 0 i ms t (traces_of old) us old pss vs olds xs (omega arith) (from_first (traces_of old))
-    (from_first us) laid moves same to.1 keep in
+    stay_laid width i 0 i ms t ps (traces_of old) us old pss vs olds xs (omega arith) (from_first (traces_of old))
+    (from_first us) laid moves same to.1 left apart in
     record {
       laid_out =
           subst (λ (es : Kept). AreLaid width es qss xs) (sym kept)
           (subst (λ (js : List KeptParts). AreLaid width entries js xs) (sym parts) stay);
       readable =
-          All-from_recursion Reads xs (stay_reads ms i 0 olds xs (recursion_from_All Reads olds reads) moves);
+          All-from_recursion IsReadable xs
+          (stay_reads ms t ps i 0 i olds xs (omega arith) (recursion_from_All IsReadable olds reads) moves left);
       attributes =
-          stay_attributes ms i 0 (laid_in olds) olds xs (from_first (laid_in olds)) moves
+          stay_attributes ps i 0 (laid_in olds) olds xs (from_first (laid_in olds)) moves
           ∙ ap (λ n. map (had (laid_in olds)) (numbers_but i 0 n)) many ∙ ap (map (had (laid_in olds))) (sym is);
       laid_parts =
-          stay_ats width i 0 i ms old pss olds xs (omega arith) laid moves
-          ∙ ap (λ o. option_map_or (λ k. left_but ms k us (laid_parts_in olds)) o
+          stay_ats width i 0 i ms t ps old pss olds xs (omega arith) laid moves left
+          ∙ ap (λ o. option_map_or (λ k. left_but ms t k us (laid_parts_in olds)) o
           (map (laid_parts_of (laid_parts_in olds)) (Sources buffer ms t us vs))) (sym way.0);
     }
-carried_by width buffer ms t old new pss qss olds xs (Onto blanks) ss vs laid reads edit is_new is_parts is_ss to
-    way moves =
+carried_by width buffer ms t old new pss qss olds xs (Onto blanks) ss vs laid reads hold is_new is_parts is_ss to
+    way left moves =
     let us : List DocUnit = units_of old in
     let on = carried_on width buffer ms t old new pss qss olds blanks.items xs ss vs laid reads to way.1 is_new
     (is_parts ∙ ap (λ o. option_map_or (λ k. CarryWithin k ms t us pss) o (CarryParts pss ss)) way.0) is_ss moves in
@@ -352,32 +411,6 @@ carried_by width buffer ms t old new pss qss olds xs (Onto blanks) ss vs laid re
       attributes = on.attributes;
       laid_parts =
           on.laid_parts
-          ∙ ap (λ o. option_map_or (λ k. left_but ms k us (laid_parts_in olds)) o
+          ∙ ap (λ o. option_map_or (λ k. left_but ms t k us (laid_parts_in olds)) o
           (map (laid_parts_of (laid_parts_in olds)) (Sources buffer ms t us vs))) (sym way.0);
     }
-
--- ---- the modifications are inside the unit that changes
-
-path_laid : (width : ℕ) (es : Kept) (pss : List KeptParts) (ys : List Shown) (i : ℕ) (u : DocUnit) (x : Shown)
-    → AreLaid width es pss ys → slice_get (units_of es) i ≡ Some u → slice_get ys i ≡ Some x → x.path ≡ u.path
-path_laid width [] pss ys i u x laid at here = cc
-path_laid width (e ∷ es) [] ys i u x laid at here = absurd laid
-path_laid width (e ∷ es) (ks ∷ pss) [] i u x laid at here = absurd laid
-path_laid width (e ∷ es) (ks ∷ pss) (y ∷ ys) zero u x laid at here =
-    ap (λ (z : Shown). z.path) (sym (same_Some y x here)) ∙ laid.0.path
-    ∙ ap (λ (v : DocUnit). v.path) (same_Some e.unit u at)
-path_laid width (e ∷ es) (ks ∷ pss) (y ∷ ys) (suc i) u x laid at here = path_laid width es pss ys i u x laid.1 at here
-
-pub inside_by : (width buffer : ℕ) (ms : List Mod) (t : WideTree) (old : Kept) (pss : List KeptParts)
-    (olds : List Shown) (to : Target) (ss : List (Option ℕ)) (vs : List DocUnit) → AreLaid width old pss olds
-    → IsWay buffer ms t (units_of old) vs ss to → IsInside ms to olds
-inside_by width buffer ms t old pss olds (Onto blanks) ss vs laid way = tt
-inside_by width buffer ms t old pss olds (InPlace i silent) ss vs laid way =
-    let one : IsOneChanged i buffer ms (units_of old) = way.1 in
-    λ x at. by x one.unit.path (path_laid width old pss olds i one.unit x laid one.there at) one.changed
-  where
-    by : (x : Shown) (o : Option (List ℕ)) → x.path ≡ o
-        → option_map_or (λ path. is_gone path ms && are_within path ms) o false ≡ true
-        → (path : List ℕ) × (x.path ≡ Some path) × (are_within path ms ≡ true)
-    by x None is e = absurd cc
-    by x (Some path) is e = (path, is, (and_parts (is_gone path ms) (are_within path ms) e).1)

@@ -9,10 +9,13 @@ use Rattle.std.proofs.lemmas.List.Concat.{flat_map-append}
 use Rattle.tx_items.specs.declared.drawing.ErrorAt.{ErrorAt}
 use Rattle.tx_view_form.specs.Views.{UnitView}
 use Rattle.tx_view_form.specs.Cells.{row_in}
-use Rattle.tx_view.specs.Units.{unit_views, sums_from, row_counts, error_counts, number_in}
+use Rattle.tx_part_layout.specs.LinesUnder.{line_under}
+use Rattle.tx_unit_layout.specs.Stretches.{WideStretch, stretches, stretch_lines, line_parts}
 use Rattle.tx_unit_layout.specs.Views.{unit_view}
-use Rattle.tx_view.specs.Rows.{IsRow, IsError}
 use Rattle.tx_unit_layout.specs.declared.shown.Shown.{Shown}
+use Rattle.tx_unit_layout.proofs.Stretching.{unit_lines}
+use Rattle.tx_view.specs.Units.{unit_views, sums_from, row_counts, error_counts, number_in}
+use Rattle.tx_view.specs.Rows.{unit_row_parts, IsRow, IsError}
 use Rattle.tx_view.proofs.Numbering.{sums_length}
 
 -- ---- the sums as units come
@@ -95,7 +98,7 @@ is_less a b h = grind arith
 is_no_less : (a b : ℕ) → nat_lt a b ≡ false → b ≤ a
 is_no_less a b h = grind arith
 
-get_left : {X : Type 0} (xs ys : List X) (k : ℕ) → k < length xs → slice_get (xs ++ ys) k ≡ slice_get xs k
+pub get_left : {X : Type 0} (xs ys : List X) (k : ℕ) → k < length xs → slice_get (xs ++ ys) k ≡ slice_get xs k
 get_left [] ys k h = absurd (omega arith)
 get_left (x ∷ xs) ys zero h = refl
 get_left (x ∷ xs) ys (suc k) h = get_left xs ys k (omega arith)
@@ -106,16 +109,16 @@ get_right (x ∷ xs) ys zero m h = absurd (omega arith)
 get_right (x ∷ xs) ys (suc k) m h = get_right xs ys k m (omega arith)
 
 -- a number among units: none has it, or this unit has it under this number
-pub record IsAt {X : Type 0} (g : UnitView → List X) (xs : List UnitView) (r u k : ℕ) : Type 0 where
+pub record IsAt {A X : Type 0} (g : A → List X) (xs : List A) (r u k : ℕ) : Type 0 where
   pub there : u < length xs
-  pub within : (d : UnitView) → k < length (g (get_or xs u d))
-  pub same : (d : UnitView) → slice_get (flat_map g xs) r ≡ slice_get (g (get_or xs u d)) k
+  pub within : (d : A) → k < length (g (get_or xs u d))
+  pub same : (d : A) → slice_get (flat_map g xs) r ≡ slice_get (g (get_or xs u d)) k
 
-abbrev pub IsFound : {X : Type 0} → (UnitView → List X) → List UnitView → ℕ → Option (ℕ × ℕ) → Type 0
+abbrev pub IsFound : {A X : Type 0} → (A → List X) → List A → ℕ → Option (ℕ × ℕ) → Type 0
 IsFound g xs r None = slice_get (flat_map g xs) r ≡ None
 IsFound g xs r (Some p) = IsAt g xs r p.0 p.1
 
-found_later : {X : Type 0} (g : UnitView → List X) (x : UnitView) (xs : List UnitView) (r n : ℕ) (o : Option (ℕ × ℕ))
+found_later : {A X : Type 0} (g : A → List X) (x : A) (xs : List A) (r n : ℕ) (o : Option (ℕ × ℕ))
     → n ≡ length (g x) → n ≤ r
     → IsFound g xs (r - n) o → IsFound g (x ∷ xs) r (option_map (λ p. (p.0 + 1, p.1)) o)
 found_later g x xs r n None e le f = get_right (g x) (flat_map g xs) r (r - n) (omega arith) ∙ f
@@ -126,7 +129,7 @@ found_later g x xs r n (Some p) e le f = record {
       ∙ ap (λ m. slice_get (g (get_or (x ∷ xs) m d)) p.1) (sym (add-one p.0));
 }
 
-found_here : {X : Type 0} (g : UnitView → List X) (x : UnitView) (xs : List UnitView) (r n : ℕ) → n ≡ length (g x)
+found_here : {A X : Type 0} (g : A → List X) (x : A) (xs : List A) (r n : ℕ) → n ≡ length (g x)
     → r < n → IsAt g (x ∷ xs) r 0 r
 found_here g x xs r n e lt = record {
   there = omega arith;
@@ -134,15 +137,15 @@ found_here g x xs r n e lt = record {
   same = λ d. get_left (g x) (flat_map g xs) r (omega arith);
 }
 
-found_by : {X : Type 0} (g : UnitView → List X) (x : UnitView) (xs : List UnitView) (r n : ℕ) (o : Option (ℕ × ℕ))
+found_by : {A X : Type 0} (g : A → List X) (x : A) (xs : List A) (r n : ℕ) (o : Option (ℕ × ℕ))
     (b : Bool) → n ≡ length (g x)
     → nat_lt r n ≡ b → IsFound g xs (r - n) o
     → IsFound g (x ∷ xs) r (if b then Some (0, r) else option_map (λ p. (p.0 + 1, p.1)) o)
 found_by g x xs r n o true e t f = found_here g x xs r n e (is_less r n t)
 found_by g x xs r n o false e t f = found_later g x xs r n o e (is_no_less r n t) f
 
-pub is_found : {X : Type 0} (g : UnitView → List X) (h : UnitView → ℕ) → ((x : UnitView) → h x ≡ length (g x))
-    → (xs : List UnitView) (r : ℕ)
+pub is_found : {A X : Type 0} (g : A → List X) (h : A → ℕ) → ((x : A) → h x ≡ length (g x))
+    → (xs : List A) (r : ℕ)
     → IsFound g xs r (number_in (map h xs) r)
 is_found g h same [] r = refl
 is_found g h same (x ∷ xs) r =
@@ -200,6 +203,35 @@ as_many f (x ∷ xs) = omega (arith, as_many f xs)
 pub as_many_errors : (x : UnitView) → length x.errors ≡ length (placed_errors x)
 as_many_errors x = as_many (λ e. (x.path, e)) x.errors
 
+-- ---- rows, each with the part that shows it
+
+parts_of_lines : (ss : List WideStretch) → length (flat_map stretch_lines ss) ≡ length (flat_map line_parts ss)
+parts_of_lines [] = refl
+parts_of_lines (s ∷ ss) =
+    omega (
+      arith,
+      as_many (line_under s.part) s.lines,
+      as_many (λ line. s.part) s.lines,
+      parts_of_lines ss,
+      length-append (stretch_lines s) (flat_map stretch_lines ss),
+      length-append (line_parts s) (flat_map line_parts ss),
+    )
+
+-- there are as many as lines
+pub as_many_parts : (x : Shown) → length (unit_view x).lines ≡ length (unit_row_parts x)
+as_many_parts x = ap length (unit_lines x) ∙ parts_of_lines (stretches x)
+
+counts_same : (xs : List Shown) → map (λ x. length (unit_view x).lines) xs ≡ row_counts (unit_views xs)
+counts_same [] = refl
+counts_same (x ∷ xs) = ap (λ ks. length (unit_view x).lines ∷ ks) (counts_same xs)
+
+part_found : (xs : List Shown) (r : ℕ) (o : Option (ℕ × ℕ)) → o ≡ number_in (row_counts (unit_views xs)) r
+    → IsFound unit_row_parts xs r o
+part_found xs r o e =
+    subst (λ (q : Option (ℕ × ℕ)). IsFound unit_row_parts xs r q)
+    (ap (λ ks. number_in ks r) (counts_same xs) ∙ sym e)
+    (is_found unit_row_parts (λ x. length (unit_view x).lines) as_many_parts xs r)
+
 -- ---- where rows and errors stand
 
 nowhere : UnitView
@@ -210,15 +242,17 @@ read_view : (xs : List Shown) (i : ℕ) (d : Shown) → i < length xs
 read_view xs i d lt = get_or-map unit_view xs i d (unit_view d) lt
 
 row_case : (xs : List Shown) (r : ℕ) (o : Option (ℕ × ℕ)) → IsFound (λ x. x.lines) (unit_views xs) r o
-    → ((d : UnitView) → row_in (unit_views xs) r ≡ row_from (unit_views xs) d o) → IsRow xs r o
-row_case xs r None f h = (h nowhere, f)
-row_case xs r (Some p) f h =
+    → ((d : UnitView) → row_in (unit_views xs) r ≡ row_from (unit_views xs) d o) → IsFound unit_row_parts xs r o
+    → IsRow xs r o
+row_case xs r None f h parts = (h nowhere, f)
+row_case xs r (Some p) f h parts =
     let there : p.0 < length xs = omega (arith, f.there, as_many unit_view xs) in (
       there,
       λ d. record {
         row = h (unit_view d) ∙ ap (λ x. Some (x, p.1)) (read_view xs p.0 d there);
         within = subst (λ (x : UnitView). p.1 < length x.lines) (read_view xs p.0 d there) (f.within (unit_view d));
         line = f.same (unit_view d) ∙ ap (λ x. slice_get x.lines p.1) (read_view xs p.0 d there);
+        part = parts.same d;
       },
     )
 
@@ -228,7 +262,7 @@ row_told xs r o e =
     row_case xs r o
     (subst (λ (q : Option (ℕ × ℕ)). IsFound (λ x. x.lines) (unit_views xs) r q) (sym e)
     (is_found (λ x. x.lines) (λ x. length x.lines) (λ x. refl) (unit_views xs) r))
-    (λ d. row_is (unit_views xs) r d ∙ ap (row_from (unit_views xs) d) (sym e))
+    (λ d. row_is (unit_views xs) r d ∙ ap (row_from (unit_views xs) d) (sym e)) (part_found xs r o e)
 
 error_case : (xs : List Shown) (r : ℕ) (o : Option (ℕ × ℕ)) → IsFound placed_errors (unit_views xs) r o → IsError xs r o
 error_case xs r None f = f

@@ -1,17 +1,17 @@
 -- A paragraph inside which an edit is, and which is found to change alone. That it isn't found says nothing.
 use Rattle.std.specs.Prelude.{◌≡◌, ℕ, zero, suc, ◌+◌, Bool, true, false, if◌then◌else◌, List, [], ◌∷◌, Option, Some}
-use Rattle.std.specs.Prelude.{None, option_and_then, map, slice_get, ◌++◌}
-use Rattle.std.specs.List.{filter}
-use Rattle.std.specs.Option.{option_map_or}
+use Rattle.std.specs.Prelude.{None, option_and_then, map, slice_get}
+use Rattle.std.specs.List.{filter_map}
+use Rattle.std.specs.Option.{option_map, option_map_or}
 use Rattle.tx_tree.specs.Paths.{subtree}
 use Rattle.tx_tree.specs.WideTree.{WideTree}
 use Rattle.tx_mod.specs.declared.mods.Mod.{Mod}
 use Rattle.tx_units.specs.declared.kinds.Unit.{Unit as DocUnit}
 use Rattle.tx_units.specs.Inside.{leaves_others}
 use Rattle.tx_mod.specs.Followed.{changed_by_all}
+use Rattle.tx_bridge.specs.CarryingParts.{carried_below}
 use Rattle.tx_bridge.specs.InPlace.{is_changed, IsOneChanged}
 use Rattle.tx_bridge.specs.Nested.{KeptParts}
-use Rattle.tx_bridge.specs.Keeping.{all_keep_place}
 use Rattle.tx_bridge.specs.Names.{CarryParts, CarryWithin}
 use Rattle.tx_unit_layout.specs.LaidAts.{LaidAt}
 
@@ -43,27 +43,31 @@ parts_after buffer ms t us pss ss =
 
 -- ---- what is laid out of parts
 
--- of the unit at this path, what is laid out of parts that the modifications are found to leave in their place
-abbrev pub left_at : List Mod → Option (List ℕ) → List LaidAt → List LaidAt
-left_at ms path ls = option_map_or (λ p. filter (λ l. all_keep_place ms (p ++ l.path)) ls) path []
+-- what is laid out of a part of the unit at p goes with it to where it stands afterwards
+abbrev pub laid_behind : List Mod → WideTree → List ℕ → LaidAt → Option LaidAt
+laid_behind ms t p l = option_map (λ q. record l { path = q }) (carried_below ms t p l.path)
+
+-- so it is of all parts of the unit at this path, where the modifications of the tree t are all inside it
+abbrev pub left_at : List Mod → WideTree → Option (List ℕ) → List LaidAt → List LaidAt
+left_at ms t path ls = option_map_or (λ p. filter_map (laid_behind ms t p) ls) path []
 
 -- so it is of the unit of number i; of the others all stays
-abbrev pub left_but : List Mod → ℕ → List DocUnit → List (List LaidAt) → List (List LaidAt)
-left_but ms i [] lss = []
-left_but ms i (u ∷ us) [] = []
-left_but ms zero (u ∷ us) (ls ∷ lss) = left_at ms u.path ls ∷ lss
-left_but ms (suc i) (u ∷ us) (ls ∷ lss) = ls ∷ left_but ms i us lss
+abbrev pub left_but : List Mod → WideTree → ℕ → List DocUnit → List (List LaidAt) → List (List LaidAt)
+left_but ms t i [] lss = []
+left_but ms t i (u ∷ us) [] = []
+left_but ms t zero (u ∷ us) (ls ∷ lss) = left_at ms t u.path ls ∷ lss
+left_but ms t (suc i) (u ∷ us) (ls ∷ lss) = ls ∷ left_but ms t i us lss
 
 -- what is laid out of the parts of the old unit that a new one is
 abbrev pub laid_parts_of : List (List LaidAt) → Option ℕ → List LaidAt
 laid_parts_of lss s = option_map_or (λ ls. ls) (option_and_then (slice_get lss) s) []
 
 -- What stays of what is laid out of the parts of these units, where the new units are these old ones: where one
--- paragraph is found to change alone, what is of parts left in their place in it, and all of the others.
+-- paragraph is found to change alone, what is of those of its parts that stay in it, and all of the others.
 abbrev pub laid_parts_after : ℕ → List Mod → WideTree → List DocUnit → List (List LaidAt) → List (Option ℕ)
     → List (List LaidAt)
 laid_parts_after buffer ms t us lss ss =
-    option_map_or (λ i. left_but ms i us lss) (exchanged buffer ms t us) (map (laid_parts_of lss) ss)
+    option_map_or (λ i. left_but ms t i us lss) (exchanged buffer ms t us) (map (laid_parts_of lss) ss)
 
 -- ---- an edit of one paragraph
 

@@ -1,7 +1,7 @@
 -- Units that are laid out, with what is kept of them. Private clauses cite these.
-use Rattle.std.specs.Prelude.{◌≡◌, ℕ, ◌≤◌, ◌<◌, ◌+◌, ◌*◌, ◌^◌, ◌++◌, ◌==◌, Bool, true, false, if◌then◌else◌, List, []}
+use Rattle.std.specs.Prelude.{◌≡◌, ℕ, ◌≤◌, ◌<◌, ◌+◌, ◌*◌, ◌^◌, ◌==◌, Bool, true, false, if◌then◌else◌, List, []}
 use Rattle.std.specs.Prelude.{◌∷◌, map, length, Option, Some, None, option_and_then, slice_get, ◌⊎◌}
-use Rattle.std.specs.List.{filter}
+use Rattle.std.specs.List.{All}
 use Rattle.std.specs.Option.{option_map_or}
 use Rattle.tx_tree.specs.WideTree.{WideTree}
 use Rattle.tx_env.specs.Environments.{NameMap}
@@ -13,17 +13,23 @@ use Rattle.tx_view_form.specs.Started.{attributes_of}
 use Rattle.tx_bridge.specs.Bridged.{Bridged}
 use Rattle.tx_bridge.specs.Carrying.{HaveSameTrees}
 use Rattle.tx_bridge.specs.Entries.{Entry, Kept, outcome_of}
-use Rattle.tx_bridge.specs.InPlace.{numbers_but, are_within, IsOneChanged}
-use Rattle.tx_bridge.specs.Keeping.{all_keep_place}
+use Rattle.tx_bridge.specs.CarryingParts.{carried_below}
+use Rattle.tx_bridge.specs.InPlace.{numbers_but, IsOneChanged}
+use Rattle.tx_bridge.specs.MovedParts.{places_by}
 use Rattle.tx_bridge.specs.Nested.{KeptParts}
 use Rattle.tx_part_layout.specs.LaidParts.{is_before}
-use Rattle.tx_part_layout.specs.declared.laid.LaidPart.{LaidPart}
+use Rattle.tx_part_layout.specs.declared.laid.PlacedPart.{PlacedPart}
+use Rattle.tx_part_layout.specs.LaidParts.{laid_paths}
 use Rattle.tx_unit_layout.specs.LaidAts.{LaidAt, laid_at}
 use Rattle.tx_unit_layout.specs.LaidUnits.{IsLaidOut, IsLaid, WasLaid}
+use Rattle.tx_unit_layout.specs.Moving.{WidePart, wide_part, laid_by}
+use Rattle.tx_unit_layout.specs.Views.{unit_view}
 use Rattle.tx_unit_layout.specs.declared.shown.Shown.{Shown}
 use Rattle.tx_view.specs.Costs.{items_at}
 use Rattle.tx_view.specs.Exchanged.{exchanged}
 use Rattle.tx_view.specs.Stores.{Stores, IsOf}
+use Rattle.tx_layout.specs.Paging.{Unmarked}
+use Rattle.tx_view.specs.declared.carrying.Former.{Former}
 use Rattle.tx_view.specs.declared.carrying.Target.{Target}
 use Rattle.tx_view.specs.declared.carrying.Target.TheVariants.{InPlace, Onto}
 
@@ -93,7 +99,7 @@ pub record IsNext (width : ℕ) (e : Entry) (ks : KeptParts) (fs : List Bool) (b
   pub laid_out : IsLaidOut width (attributes_of before.env) (value_of e.trace) e.unit.path y
   pub attributes : y.laid ≡ Some (attributes_of before.env)
   pub was_laid : WasLaid width e ks fs y
-  pub lines : length y.lines + 242 * after.left ≤ 242 * before.left + 49
+  pub lines : length (unit_view y).lines + 242 * after.left ≤ 242 * before.left + 49
   pub errors : length y.errors.items + after.left ≤ before.left + 7
   pub items_is : items ≡ items_unlaid before e.unit fs x
   pub most : items + 243 * after.left ≤ 243 * before.left + 49
@@ -105,7 +111,7 @@ abbrev pub dropped : Shown → Shown
 dropped x = record x { laid = None; parts = [] }
 
 -- where something was laid out of parts of the unit, nothing stays laid out, of it or of them
-abbrev pub dropped_by : List LaidPart → Shown → Shown
+abbrev pub dropped_by : List PlacedPart → Shown → Shown
 dropped_by [] x = x
 dropped_by (p ∷ ps) x = dropped x
 
@@ -152,63 +158,78 @@ moved [] old xs = xs
 moved (s ∷ ss) old [] = []
 moved (s ∷ ss) old (x ∷ xs) = taking_shown x (source_shown old s) ∷ moved ss old xs
 
--- what was shown of a unit through modifications inside it: it isn't laid out any more, and of its parts those are that
--- are found to be left in their place
-abbrev pub left_in : List Mod → Shown → Shown
-left_in ms y = record y {
-  laid = None;
-  parts = option_map_or (λ path. filter (λ p. all_keep_place ms (path ++ p.path)) y.parts) y.path [];
-}
+-- What is laid out of the parts of the unit at the path, where the modifications of the tree t are all inside it: with
+-- each part to where it stands afterwards.
+abbrev pub parts_left : List Mod → WideTree → Option (List ℕ) → List PlacedPart → List WidePart
+parts_left ms t path ps =
+    option_map_or (λ p. laid_by (map (carried_below ms t p) (laid_paths ps)) ps) path []
 
--- where the flag is set, the modifications were inside the unit; else what was shown of it stays as it was
-abbrev pub IsLeftBy : List Mod → Bool → Shown → Shown → Type 0
-IsLeftBy ms true y x = x ≡ left_in ms y
-IsLeftBy ms false y x = x ≡ y
+-- so it is of unit i, where it is told of its parts where they stand afterwards
+abbrev pub ArePutBy : List (ℕ × Option (List ℕ)) → List Shown → ℕ → List PlacedPart → Type 0
+ArePutBy places xs i ps = (x : Shown) → slice_get xs i ≡ Some x
+    → map wide_part ps ≡ laid_by (places_by 0 places (laid_paths x.parts)) x.parts
 
--- so it is of all units from number k on, where all modifications are inside number i
-abbrev pub StayBut : List Mod → ℕ → ℕ → List Shown → List Shown → Type 0
-StayBut ms i k [] [] = Unit {0}
-StayBut ms i k [] (x ∷ xs) = ⊥
-StayBut ms i k (y ∷ ys) [] = ⊥
-StayBut ms i k (y ∷ ys) (x ∷ xs) = IsLeftBy ms (k == i) y x × StayBut ms i (k + 1) ys xs
+-- it isn't laid out any more, and this is of its parts
+abbrev pub left_with : List PlacedPart → Shown → Shown
+left_with ps x = record x { laid = None; parts = ps }
 
--- where what is shown stays in place, the modifications are all inside the unit that has changed
-abbrev pub IsInside : List Mod → Target → List Shown → Type 0
-IsInside ms (InPlace i silent) xs =
-    (x : Shown) → slice_get xs i ≡ Some x → (path : List ℕ) × (x.path ≡ Some path) × (are_within path ms ≡ true)
-IsInside ms (Onto blanks) xs = Unit {0}
+-- where the flag is set it is left with these parts; else what was shown of it stays as it was
+abbrev pub IsLeftBy : List PlacedPart → Bool → Shown → Shown → Type 0
+IsLeftBy ps true y x = x ≡ left_with ps y
+IsLeftBy ps false y x = x ≡ y
+
+-- so it is of all units from number k on, where number i is left so
+abbrev pub StayBut : List PlacedPart → ℕ → ℕ → List Shown → List Shown → Type 0
+StayBut ps i k [] [] = Unit {0}
+StayBut ps i k [] (x ∷ xs) = ⊥
+StayBut ps i k (y ∷ ys) [] = ⊥
+StayBut ps i k (y ∷ ys) (x ∷ xs) = IsLeftBy ps (k == i) y x × StayBut ps i (k + 1) ys xs
+
+-- where what is shown stays in place, this is left of the parts of the unit that has changed
+abbrev pub IsLeft : List Mod → WideTree → Target → List Shown → Type 0
+IsLeft ms t (InPlace i silent ps) xs = (x : Shown) → slice_get xs i ≡ Some x
+    → map wide_part ps ≡ parts_left ms t x.path x.parts
+IsLeft ms t (Onto blanks) xs = Unit {0}
 
 -- What is shown stays in place where each unit keeps its number and its path, but for one that has changed. Else it
 -- goes to blank ones.
 abbrev pub IsTarget : List DocUnit → List DocUnit → List (Option ℕ) → Target → Type 0
-IsTarget us vs ss (InPlace i silent) =
+IsTarget us vs ss (InPlace i silent ps) =
     (ss ≡ numbers_but i 0 (length vs)) × (map (λ v. v.path) vs ≡ map (λ u. u.path) us)
 IsTarget us vs ss (Onto blanks) = AreBlank vs blanks.items
 
 -- It stays in place where one paragraph is found to change alone. Each new unit has the tree of the old one that it is.
 abbrev pub IsWay : ℕ → List Mod → WideTree → List DocUnit → List DocUnit → List (Option ℕ) → Target → Type 0
-IsWay buffer ms t us vs ss (InPlace i silent) =
+IsWay buffer ms t us vs ss (InPlace i silent ps) =
     (exchanged buffer ms t us ≡ Some i) × IsOneChanged i buffer ms us × HaveSameTrees us vs ss
 IsWay buffer ms t us vs ss (Onto blanks) = (exchanged buffer ms t us ≡ None) × HaveSameTrees us vs ss
 
 abbrev pub IsFew : Target → Type 0
-IsFew (InPlace i silent) = Unit {0}
+IsFew (InPlace i silent ps) = Unit {0}
 IsFew (Onto blanks) = length blanks.items < 2 ^ 32
 
 -- what was shown has gone there
-abbrev pub IsMoved : List Mod → Target → List (Option ℕ) → List Shown → List Shown → Type 0
-IsMoved ms (InPlace i silent) ss old xs = StayBut ms i 0 old xs
-IsMoved ms (Onto blanks) ss old xs = xs ≡ moved ss old blanks.items
+abbrev pub IsMoved : Target → List (Option ℕ) → List Shown → List Shown → Type 0
+IsMoved (InPlace i silent ps) ss old xs = StayBut ps i 0 old xs
+IsMoved (Onto blanks) ss old xs = xs ≡ moved ss old blanks.items
 
 -- where `silent`, what was kept of the unit that has changed set no name
 abbrev pub SetNoName : Kept → Target → Type 0
-SetNoName kept (InPlace i silent) =
+SetNoName kept (InPlace i silent ps) =
     silent ≡ true → (e : Entry) → slice_get kept i ≡ Some e → (env : NameMap) → env_behind env e.trace ≡ env
 SetNoName kept (Onto blanks) = Unit {0}
 
--- The view was fresh, and unit p.0 alone has changed, of which what was kept set no name. It was laid out for the
--- attributes p.1.
-pub record IsFormer (to : Target) (fresh : Bool) (old : List Shown) (p : ℕ × Attrs) : Type 0 where
-  pub target : to ≡ InPlace p.0 true
+-- it tells for which attributes unit i was laid out, and where it tells so, no line of it was the last of its page
+pub record WasShown (old : List Shown) (i : ℕ) (f : Former) : Type 0 where
+  pub number : f.unit ≡ i
+  pub shown : Shown
+  pub there : slice_get old i ≡ Some shown
+  pub laid : shown.laid ≡ Some f.attrs
+  pub unmarked : f.unmarked ≡ true → All Unmarked (unit_view shown).lines
+
+-- The view was fresh, and this unit alone has changed, of which what was kept set no name.
+pub record IsFormer (to : Target) (fresh : Bool) (old : List Shown) (f : Former) : Type 0 where
+  pub parts : List PlacedPart
+  pub target : to ≡ InPlace f.unit true parts
   pub was_fresh : fresh ≡ true
-  pub laid : slice_get (laid_in old) p.0 ≡ Some (Some p.1)
+  pub was : WasShown old f.unit f

@@ -9,4 +9,6 @@ pub mod Lone
 pub mod Exchanged
 pub mod Near
 pub mod Rows
+pub mod RowParts
+pub mod InUnits
 pub mod WholeViews

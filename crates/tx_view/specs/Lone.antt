@@ -1,6 +1,6 @@
 -- One unit that alone has changed since all were laid out.
-use Rattle.std.specs.Prelude.{◌≡◌, ℕ, ◌<◌, Bool, false, List, [], ◌∷◌, length, Option, None, Some, All, slice_get}
-use Rattle.std.specs.Prelude.{slice_set}
+use Rattle.std.specs.Prelude.{◌≡◌, ℕ, ◌+◌, ◌<◌, Bool, true, false, List, [], ◌∷◌, length, Option, None, Some, All}
+use Rattle.std.specs.Prelude.{slice_get, slice_set}
 use Rattle.std.specs.FinMap.{empty}
 use Rattle.std.specs.Option.{unwrap_or}
 use Rattle.tx_env.specs.Environments.{NameMap}
@@ -13,7 +13,9 @@ use Rattle.tx_view_form.specs.Views.{UnitView, lines_of}
 use Rattle.tx_bridge.specs.Entries.{Kept, traces_of}
 use Rattle.tx_view.specs.Laid.{laid_in}
 use Rattle.tx_view.specs.Units.{unit_views, sums_from, row_counts, error_counts}
+use Rattle.tx_view.specs.declared.lone.Lone.{Lone}
 use Rattle.tx_view.specs.declared.paging.Pagination.{Pagination}
+use Rattle.tx_unit_layout.specs.Views.{unit_view}
 use Rattle.tx_unit_layout.specs.declared.shown.Shown.{Shown}
 
 -- the attributes before each unit, where names have this before the first and these are the units' traces
@@ -41,13 +43,27 @@ pub record IsPaged (height : ℕ) (xs : List UnitView) (p : Pagination) : Type 0
   pub rows : p.rows.items ≡ sums_from 0 (row_counts xs)
   pub errors : p.errors.items ≡ sums_from 0 (error_counts xs)
 
--- both have as many lines and as many errors, and no line is the last of its page
-pub record AreAlike (x y : Shown) : Type 0 where
-  pub lines : length x.lines ≡ length y.lines
-  pub errors : length x.errors.items ≡ length y.errors.items
-  pub unmarked : All Unmarked x.lines
-  pub others_unmarked : All Unmarked y.lines
+-- These were the pages while the lone unit was as it was last laid out, and where it tells so, no line of it was the
+-- last of its page.
+pub record WerePages (height : ℕ) (xs : List UnitView) (l : Lone) : Type 0 where
+  pub there : l.unit < length xs
+  pub former : UnitView
+  pub paged : IsPaged height (slice_set xs l.unit former) l.paged
+  pub unmarked : l.unmarked ≡ true → All Unmarked former.lines
 
--- whatever the pages of the ones are, they are those of the others too
-abbrev pub KeepPages : List Shown → List Shown → Type 0
-KeepPages xs ys = (height : ℕ) (p : Pagination) → IsPaged height (unit_views xs) p → IsPaged height (unit_views ys) p
+-- the pages stay, whatever their height
+abbrev pub KeepPages : Lone → List Shown → List Shown → Type 0
+KeepPages l xs ys = (height : ℕ) → WerePages height (unit_views xs) l → IsPaged height (unit_views ys) l.paged
+
+-- between these numbers of sums, i and the next one, n more stand
+pub record IsGap (sums : List ℕ) (i n : ℕ) : Type 0 where
+  pub before : ℕ
+  pub first : slice_get sums i ≡ Some before
+  pub second : slice_get sums (i + 1) ≡ Some (before + n)
+
+-- this has as many lines and errors as the lone unit had, and neither had or has a line that is the last of its page
+pub record AreAlike (l : Lone) (y : Shown) : Type 0 where
+  pub lines : IsGap l.paged.rows.items l.unit (length (unit_view y).lines)
+  pub errors : IsGap l.paged.errors.items l.unit (length y.errors.items)
+  pub unmarked : l.unmarked ≡ true
+  pub still_unmarked : All Unmarked (unit_view y).lines

@@ -5,11 +5,16 @@ use Rattle.std.specs.List.{AllByRecursion}
 use Rattle.std.specs.Option.{option_map}
 use Rattle.tx_units.specs.Places.{AreApart}
 use Rattle.tx_view_form.specs.Views.{UnitView}
+use Rattle.tx_part_layout.specs.LaidParts.{AreBelow}
 use Rattle.tx_unit_layout.specs.Views.{unit_view}
 use Rattle.tx_unit_layout.specs.declared.shown.Shown.{Shown}
 
 abbrev pub unit_views : List Shown → List UnitView
 unit_views xs = map unit_view xs
+
+-- its parts tell how many lines stand above them
+abbrev pub IsBelow : Shown → Type 0
+IsBelow x = AreBelow 0 x.parts
 
 -- the sums of the numbers before each, and of all
 abbrev pub sums_from : ℕ → List ℕ → List ℕ

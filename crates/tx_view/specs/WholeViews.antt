@@ -12,26 +12,30 @@ use Rattle.tx_lines.specs.declared.cut.Cut.{Cut}
 use Rattle.tx_items.specs.declared.drawing.ErrorAt.{ErrorAt}
 use Rattle.tx_items.specs.declared.drawing.Paragraph.{Paragraph}
 use Rattle.tx_layout.specs.declared.layout.Line.{Line}
+use Rattle.tx_view_form.specs.Outcomes.{beginning}
 use Rattle.tx_view_form.specs.Views.{UnitView, WideView, IsView}
 use Rattle.tx_units.specs.Units.{units}
 use Rattle.tx_bridge.specs.Entries.{units_of}
 use Rattle.tx_view.specs.Laid.{stores_in, AreLaid}
-use Rattle.tx_view.specs.Lone.{IsLone, IsPaged}
+use Rattle.tx_view.specs.Lone.{IsLone, WerePages}
 use Rattle.tx_view.specs.Names.{Fresh}
 use Rattle.tx_view.specs.Stores.{Stores, coded_Stores}
 use Rattle.tx_unit_layout.specs.declared.shown.Shown.{Shown}
-use Rattle.tx_view.specs.Units.{unit_views, sums_from, row_counts, error_counts, AreAllApart}
-use Rattle.tx_unit_layout.specs.Views.{unit_view, IsReadable}
+use Rattle.tx_view.specs.RowParts.{AreRowParts}
+use Rattle.tx_view.specs.Rows.{row_parts}
+use Rattle.tx_view.specs.Units.{unit_views, sums_from, row_counts, error_counts, IsBelow, AreAllApart}
+use Rattle.tx_unit_layout.specs.Views.{IsReadable}
 use Rattle.tx_view.specs.declared.view.View.TheInside.{Inside}
 
--- the buffers, the size of pages, whether it is fresh, what is shown, what is kept from refresh to refresh, and by how
--- many steps the last refresh that ended raised the count
+-- the buffers, the size of pages, whether it is fresh, what is shown, of each row the path of the part that shows it,
+-- what is kept from refresh to refresh, and by how many steps the last refresh that ended raised the count
 pub record WholeView : Type 0 where
   pub buffers : List Buffer
   pub width : ℕ
   pub height : ℕ
   pub fresh : Bool
   pub shown : WideView
+  pub row_parts : List (List ℕ)
   pub stores : Stores
   pub work : ℕ
 
@@ -50,6 +54,7 @@ whole_of v =
       height = v.height;
       fresh = v.fresh;
       shown = record { units = unit_views v.units.items; pages = v.paged.pages.items };
+      row_parts = row_parts v.units.items;
       stores = stores_of v;
       work = v.work;
     }
@@ -63,16 +68,19 @@ pub record IsKept (v : Inside) : Type 0 where
   pub least_height : 5 ≤ v.height
   pub most_height : v.height ≤ 500
   pub fresh : v.fresh ≡ true → IsView v.buffers.items v.width v.height (whole_of v).shown
+  pub row_parts : v.fresh ≡ true
+      → AreRowParts v.width beginning (units v.buffers.items) (whole_of v).shown.units (whole_of v).row_parts
   pub kept : v.fresh ≡ true → stores_of v ≡ Fresh v.buffers.items
   pub hidden : v.fresh ≡ false → v.units.items ≡ []
   pub of_buffers : units_of v.bridges.kept ≡ units v.buffers.items
   pub laid : AreLaid v.width v.bridges.kept v.bridges.parts (all_of v)
-  pub all_readable : All (λ s. IsReadable (unit_view s)) (all_of v)
+  pub all_readable : All IsReadable (all_of v)
   pub rows : v.paged.rows.items ≡ sums_from 0 (row_counts (unit_views v.units.items))
   pub errors : v.paged.errors.items ≡ sums_from 0 (error_counts (unit_views v.units.items))
   pub lone : IfSome v.lone (λ l. IsLone v.bridges.kept v.hidden.items l.unit l.attrs
-      × IsPaged v.height (unit_views v.hidden.items) l.paged)
-  pub readable : All (λ s. IsReadable (unit_view s)) v.units.items
+      × WerePages v.height (unit_views v.hidden.items) l)
+  pub readable : All IsReadable v.units.items
+  pub below : All IsBelow v.units.items
   pub apart : AreAllApart (unit_views v.units.items)
 
 -- ---- the code by which proofs tell views apart
@@ -90,16 +98,20 @@ view_code = code_by (List UnitView × List Cut) (coded× (coded_list unit_code) 
     (λ v. (v.units, v.pages)) (λ p. record { units = p.0; pages = p.1 }) (λ _. refl)
 
 abbrev pub whole_code : Coded WholeView
-whole_code = code_by (List Buffer × (ℕ × (ℕ × (Bool × (WideView × (Stores × ℕ))))))
+whole_code = code_by (List Buffer × (ℕ × (ℕ × (Bool × (WideView × (List (List ℕ) × (Stores × ℕ)))))))
     (coded× (coded_list one_buffer.the_row.coded)
-    (coded× coded_ℕ (coded× coded_ℕ (coded× coded_bool (coded× view_code (coded× coded_Stores coded_ℕ))))))
-    (λ v. (v.buffers, (v.width, (v.height, (v.fresh, (v.shown, (v.stores, v.work)))))))
+    (coded× coded_ℕ
+    (coded× coded_ℕ
+    (coded× coded_bool
+    (coded× view_code (coded× (coded_list (coded_list coded_ℕ)) (coded× coded_Stores coded_ℕ)))))))
+    (λ v. (v.buffers, (v.width, (v.height, (v.fresh, (v.shown, (v.row_parts, (v.stores, v.work))))))))
     (λ p. record {
       buffers = p.0;
       width = p.1.0;
       height = p.1.1.0;
       fresh = p.1.1.1.0;
       shown = p.1.1.1.1.0;
-      stores = p.1.1.1.1.1.0;
-      work = p.1.1.1.1.1.1;
+      row_parts = p.1.1.1.1.1.0;
+      stores = p.1.1.1.1.1.1.0;
+      work = p.1.1.1.1.1.1.1;
     }) (λ _. refl)

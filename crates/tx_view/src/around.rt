@@ -45,7 +45,7 @@ fn unit_above(units: &[Shown], at: &Place) -> Option<usize>
 
 // The number of the unit that has a place among its stops.
 fn holder(alloc: Global, units: &[Shown], at: &Place) -> Result<Option<usize>, Memory>
-    requires readable { All (λ s. IsReadable (unit_view s)) units.now }
+    requires readable { All IsReadable units.now }
     requires apart { AreAllApart (unit_views units.now) }
     ensures { IfOk result (λ k. IsHolder units.now at.now k) }
 {
@@ -91,7 +91,7 @@ fn up_to_placed(units: &[Shown]) -> usize
 
 // From which unit to which the stops near a place are those of all that tell what is beside it.
 fn range_near(alloc: Global, units: &[Shown], at: &Place) -> Result<(usize, usize), Memory>
-    requires readable { All (λ s. IsReadable (unit_view s)) units.now }
+    requires readable { All IsReadable units.now }
     requires apart { AreAllApart (unit_views units.now) }
     ensures { IfOk result (IsRange units.now at.now) }
 {
@@ -105,7 +105,7 @@ fn range_near(alloc: Global, units: &[Shown], at: &Place) -> Result<(usize, usiz
 
 /// The stops near a place.
 pub(crate) fn stops_near(alloc: Global, units: &[Shown], at: &Place) -> Result<Vec<Place>, Memory>
-    requires readable { All (λ s. IsReadable (unit_view s)) units.now }
+    requires readable { All IsReadable units.now }
     requires apart { AreAllApart (unit_views units.now) }
     ensures { IfOk result (λ ps. AreNear (stops_of (unit_views units.now)) ps.items at.now) }
 {

@@ -37,14 +37,25 @@ fn may_follow(steps: &[u32], above: usize, origin: &Ip) -> bool
     origin.step(len - above - 1) == Some(steps[len - 1])
 }
 
+// Whether an origin may be what follows so many of these steps and so many more.
+fn may_follow_both(steps: &[u32], front: usize, below: usize, origin: &Ip) -> bool
+    ensures { result ≡ false → (base more : List ℕ) → length base ≡ front → length more ≡ below
+        → steps.now ≡ (base ++ more) ++ origin.now → ⊥ }
+{
+    if steps.len() < front {
+        return false;
+    }
+    may_follow(&steps[front..], below, origin)
+}
+
 // Whether a spot may have this path. False says that it hasn't.
 fn may_lead(spot: &Spot<'_>, path: &Path) -> bool
     ensures { result ≡ false → bytes_eq path.now (path_below spot.now.base spot.now.origin) ≡ false }
 {
-    let above = spot.base().steps().len();
+    let (front, below) = spot.base().pieces();
     match spot.origin() {
         None => true,
-        Some(origin) => may_follow(path.steps(), above, origin),
+        Some(origin) => may_follow_both(path.steps(), front.len(), below.len(), origin),
     }
 }
 
@@ -76,7 +87,7 @@ fn first_spot(alloc: Global, spots: &[Spot<'_>], at: &Place) -> Result<Option<us
 
 /// Whether units have this place among their stops.
 pub(crate) fn has_stop(alloc: Global, units: &[Shown], at: &Place) -> Result<bool, Memory>
-    requires { All (λ s. IsReadable (unit_view s)) units.now }
+    requires { All IsReadable units.now }
     ensures { IfOk result (λ b. b ≡ list_any (same_place at.now) (stops_of (unit_views units.now))) }
 {
     let spots = spots_of(alloc, units)?;
@@ -173,7 +184,7 @@ fn stops_around(
 /// Some of the stops of units, in which the place has those beside it that it has among all. Few paths are made where
 /// few of the clusters beside the place stand in the document more than once.
 pub(crate) fn stops_beside(alloc: Global, units: &[Shown], at: &Place) -> Result<Vec<Place>, Memory>
-    requires { All (λ s. IsReadable (unit_view s)) units.now }
+    requires { All IsReadable units.now }
     ensures { IfOk result (λ ps. AreNear (stops_of (unit_views units.now)) ps.items at.now) }
 {
     let spots = spots_of(alloc, units)?;

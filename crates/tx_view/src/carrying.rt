@@ -1,20 +1,23 @@
 // What is shown of units goes with them through an edit.
 ghost use Rattle.std.specs.Prelude.{◌≡◌, ℕ, List, ◌+◌, ◌≤◌, ◌<◌, ◌^◌, length, slice_get, if◌then◌else◌, IfOk, OnOk};
-ghost use Rattle.std.specs.Prelude.{OnErr, Some, None, IfSome, IsTrue, MatchOption, true, false};
+ghost use Rattle.std.specs.Prelude.{OnErr, Some, None, IfSome, IsTrue, MatchOption, true, false, All};
 ghost use Rattle.tx_tree.specs.WideTree.{WideTree};
 ghost use Rattle.tx_mod.specs.Followed.{changed_by_all};
 ghost use Rattle.tx_mod.specs.InTurn.{cost_of};
 ghost use Rattle.tx_doc.specs.Buffers.{tree_of, with_tree};
 ghost use Rattle.tx_units.specs.Units.{units, made};
 ghost use Rattle.tx_bridge.specs.Entries.{Entry, units_of};
-ghost use Rattle.tx_bridge.specs.InPlace.{are_within};
+ghost use Rattle.tx_bridge.specs.MovedParts.{moves_of};
 ghost use Rattle.tx_bridge.specs.Names.{Carry, CarryParts, Sources};
 ghost use Rattle.tx_bridge.specs.Settled.{IsSilent};
 ghost use Rattle.tx_bridge.specs.UnitLists.{AreUnits};
 ghost use Rattle.tx_bridge.specs.Carrying.{AllStand, AreSameBodies, HaveSameTrees};
+ghost use Rattle.tx_layout.specs.Paging.{Unmarked};
+ghost use Rattle.tx_unit_layout.specs.Views.{unit_view};
 ghost use Rattle.tx_view.specs.Exchanged.{IsNow, IsExchanged, stays_alone, exchanged_in, parts_after};
 ghost use Rattle.tx_view.specs.Laid.{IsBlank, AreBlank, taking_shown, source_shown, moved, laid_in};
-ghost use Rattle.tx_view.specs.Laid.{left_in, StayBut, IsInside, IsWay, IsTarget, IsFew, IsMoved, SetNoName, IsFormer};
+ghost use Rattle.tx_view.specs.Laid.{ArePutBy, left_with, StayBut, IsLeft, IsWay, IsTarget, IsFew, IsMoved, SetNoName};
+ghost use Rattle.tx_view.specs.Laid.{WasShown, IsFormer, AreLaid};
 
 use crate::sharing::shared;
 use std::alloc::Global;
@@ -25,9 +28,11 @@ use tx_bridge::{Bridges, is_silent, unit_list_laws};
 use tx_doc::Buffer;
 use tx_items::Attrs;
 use tx_mod::Mod;
+use tx_part_layout::LineList;
 use tx_tree::{Path, Tree};
-use tx_unit_layout::{LaidParts, Shown, UnitLines};
+use tx_unit_layout::{LaidParts, Shown};
 use tx_units::{Unit, inside_law, leaves_others, unit_count_law, units};
+use tx_walk::Part;
 
 // The buffers with this tree in place of that of one of them.
 fn with_tree(
@@ -53,7 +58,7 @@ fn blank(alloc: Global, unit: &Unit) -> Result<Shown, Memory>
         laid: None,
         errors: Vec::new(alloc),
         paragraphs: Vec::new(alloc),
-        lines: UnitLines::none(alloc),
+        lines: LineList::none(alloc),
         parts: LaidParts::none(alloc),
     })
 }
@@ -126,71 +131,74 @@ fn move_either(
     }
 }
 
-// The unit, inside which all modifications are, isn't laid out any more, and of its parts those are that the
-// modifications leave in their place. Answers for which attributes it was.
-fn reset(shown: &mut Shown, mods: &[Mod]) -> Option<Attrs>
-    requires inside { (path : List ℕ) × (shown.old.path ≡ Some path) × (are_within path mods.now ≡ true) }
-    ensures shown { shown.new ≡ left_in mods.now shown.old }
-    ensures former { result ≡ shown.old.laid }
+/// The one unit that has changed since the view was fresh, where what was kept of it set no name: its number, the
+/// attributes for which it was laid out, and whether none of its lines was the last of a page. False says nothing.
+#[derive(Drop)]
+pub(crate) struct Former {
+    pub(crate) unit: usize,
+    pub(crate) attrs: Attrs,
+    pub(crate) unmarked: bool,
+}
+
+// The unit isn't laid out any more, and this is laid out of its parts. Answers for which attributes it was, and whether
+// no line was the last of its page.
+fn reset(shown: &mut Shown, parts: LaidParts) -> (Option<Attrs>, bool)
+    ensures shown { shown.new ≡ left_with parts shown.old }
+    ensures attrs { result.0 ≡ shown.old.laid }
+    ensures unmarked { result.1 ≡ true → All Unmarked (unit_view shown.old).lines }
 {
-    let Some(path) = &shown.path else {
-        unreachable!();
-    };
-    shown.parts.keep_in_place(mods, path);
-    mem::replace(&mut shown.laid, None)
+    let unmarked = shown.is_unmarked();
+    shown.parts = parts;
+    (mem::replace(&mut shown.laid, None), unmarked)
 }
 
 // So it is of the unit of this number.
-fn reset_at(all: &mut [Shown], changed: usize, mods: &[Mod]) -> Option<Attrs>
-    requires inside { (x : Shown) → slice_get all.old changed ≡ Some x
-        → (path : List ℕ) × (x.path ≡ Some path) × (are_within path mods.now ≡ true) }
-    ensures stay { StayBut mods.now changed 0 all.old all.new }
-    ensures former { IfSome result (λ a. slice_get (laid_in all.old) changed ≡ Some (Some a)) }
+fn reset_at(all: &mut [Shown], unit: usize, parts: LaidParts) -> Option<Former>
+    ensures stay { StayBut parts unit 0 all.old all.new }
+    ensures former { IfSome result (λ f. WasShown all.old unit f) }
 {
-    if changed < all.len() {
-        return reset(&mut all[changed], mods);
+    if unit < all.len() {
+        let (laid, unmarked) = reset(&mut all[unit], parts);
+        let attrs = laid?;
+        return Some(Former {
+            unit,
+            attrs,
+            unmarked,
+        });
     }
     None
 }
 
-// What is shown of all units stays, or else what is hidden, but the unit inside which all modifications are isn't laid
-// out any more. Answers for which attributes it was.
+// What is shown of all units stays, or else what is hidden, but this one isn't laid out any more.
 fn move_in_place(
-    changed: usize,
-    mods: &[Mod],
+    unit: usize,
+    parts: LaidParts,
     fresh: bool,
     shown: &mut Vec<Shown>,
     hidden: &mut Vec<Shown>,
-) -> Option<Attrs>
-    requires inside { (x : Shown) → slice_get (if fresh then shown.old.items else hidden.old.items) changed ≡ Some x
-        → (path : List ℕ) × (x.path ≡ Some path) × (are_within path mods.now ≡ true) }
-    ensures stay { StayBut mods.now changed 0 (if fresh then shown.old.items else hidden.old.items) hidden.new.items }
-    ensures former { IfSome result (λ a.
-        slice_get (laid_in (if fresh then shown.old.items else hidden.old.items)) changed ≡ Some (Some a)) }
+) -> Option<Former>
+    ensures stay { StayBut parts unit 0 (if fresh then shown.old.items else hidden.old.items) hidden.new.items }
+    ensures former { IfSome result
+        (λ f. WasShown (if fresh then shown.old.items else hidden.old.items) unit f) }
 {
     if fresh {
         mem::swap(shown, hidden);
     }
-    reset_at(hidden, changed, mods)
+    reset_at(hidden, unit, parts)
 }
 
 /// Where what is shown of units goes through an edit: it stays in place, but for this one unit, or it goes to these,
-/// of which nothing is laid out. Of that one unit it is said whether what was kept of it is known to set no name.
+/// of which nothing is laid out. Of that one unit it is said whether what was kept of it is known to set no name, and
+/// what stays laid out of its parts.
 #[derive(Drop)]
 pub(crate) enum Target {
-    InPlace(usize, bool),
+    InPlace(usize, bool, LaidParts),
     Onto(Vec<Shown>),
 }
 
-// The number of the unit that has changed, and for which attributes it was laid out, if the view was fresh and the unit
-// set no name.
-fn former_of(
-    changed: usize,
-    silent: bool,
-    fresh: bool,
-    former: Option<Attrs>,
-) -> Option<(usize, Attrs)>
-    ensures { IfSome result (λ p. (p.0 ≡ changed) × (silent ≡ true) × (fresh ≡ true) × (former ≡ Some p.1)) }
+// The unit that has changed, if the view was fresh and the unit set no name.
+fn former_of(silent: bool, fresh: bool, former: Option<Former>) -> Option<Former>
+    ensures { IfSome result (λ f. (silent ≡ true) × (fresh ≡ true) × (former ≡ Some f)) }
 {
     if !silent {
         return None;
@@ -198,8 +206,7 @@ fn former_of(
     if !fresh {
         return None;
     }
-    let attrs = former?;
-    Some((changed, attrs))
+    former
 }
 
 // What is shown goes to these, or else what is hidden, and is hidden then.
@@ -222,28 +229,26 @@ fn move_onto(
 }
 
 /// What is shown of the units, or else what is hidden, goes with them, and is hidden then. It takes no memory. Answers
-/// which one has changed alone since the view was fresh, and for which attributes it was laid out, if that is known.
+/// which one has changed alone since the view was fresh, if that is known.
 pub(crate) fn move_shown(
     target: Target,
     bridges: &Bridges,
-    mods: &[Mod],
     fresh: bool,
     shown: &mut Vec<Shown>,
     hidden: &mut Vec<Shown>,
-) -> Option<(usize, Attrs)>
+) -> Option<Former>
     requires few { IsFew target }
-    requires inside { IsInside mods.now target (if fresh then shown.old.items else hidden.old.items) }
     requires once { (i j k : ℕ) → slice_get bridges.now.sources j ≡ Some (Some i)
         → slice_get bridges.now.sources k ≡ Some (Some i) → j ≡ k }
-    ensures moved { IsMoved mods.now target bridges.now.sources (if fresh then shown.old.items else hidden.old.items)
+    ensures moved { IsMoved target bridges.now.sources (if fresh then shown.old.items else hidden.old.items)
         hidden.new.items }
     ensures former { IfSome result
-        (λ p. IsFormer target fresh (if fresh then shown.old.items else hidden.old.items) p) }
+        (λ f. IsFormer target fresh (if fresh then shown.old.items else hidden.old.items) f) }
 {
     match target {
-        Target::InPlace(changed, silent) => {
-            let former = move_in_place(changed, mods, fresh, shown, hidden);
-            former_of(changed, silent, fresh, former)
+        Target::InPlace(unit, silent, parts) => {
+            let former = move_in_place(unit, parts, fresh, shown, hidden);
+            former_of(silent, fresh, former)
         }
         Target::Onto(blanks) => {
             move_onto(blanks, bridges, fresh, shown, hidden);
@@ -345,10 +350,46 @@ fn is_silent_at(bridges: &Bridges, unit: usize) -> bool
     }
 }
 
+// What is laid out of the parts of the unit of this number, where these moved.
+fn parts_put(
+    alloc: Global,
+    all: &[Shown],
+    unit: usize,
+    moved: &[(usize, Option<Part>)],
+) -> Result<LaidParts, Memory>
+    requires { unit < length all.now }
+    ensures { IfOk result (λ ps. ArePutBy (moves_of moved.now) all.now unit ps) }
+{
+    all[unit].parts.moved(alloc, moved)
+}
+
+// The same, of a unit that is shown, or else hidden.
+fn parts_moved(
+    alloc: Global,
+    fresh: bool,
+    shown: &[Shown],
+    hidden: &[Shown],
+    unit: usize,
+    moved: &[(usize, Option<Part>)],
+) -> Result<LaidParts, Memory>
+    requires { unit < length (if fresh then shown.now else hidden.now) }
+    ensures { IfOk result
+        (λ ps. ArePutBy (moves_of moved.now) (if fresh then shown.now else hidden.now) unit ps) }
+{
+    if fresh {
+        parts_put(alloc, shown, unit, moved)
+    } else {
+        parts_put(alloc, hidden, unit, moved)
+    }
+}
+
 // What is kept of the old units goes to those of the buffers after the edit, and what is shown is to go to the target.
 fn carried_kept<L: Ledger>(
     alloc: Global,
     bridges: &mut Bridges,
+    fresh: bool,
+    shown: &[Shown],
+    hidden: &[Shown],
     buffers: &[Buffer],
     after: &[Buffer],
     buffer: u32,
@@ -362,6 +403,10 @@ fn carried_kept<L: Ledger>(
     requires changed { changed_by_all mods.now (tree_of buffers.now buffer) ≡ Some tree.now }
     requires of_buffers { units_of bridges.old.kept ≡ units buffers.now }
     requires after { after.now ≡ with_tree buffers.now buffer tree.now }
+    requires laid { (width : ℕ) × AreLaid width bridges.old.kept bridges.old.parts
+        (if fresh then shown.now else hidden.now) }
+    ensures left { IfOk result (λ to. IsLeft mods.now (tree_of buffers.now buffer) to
+        (if fresh then shown.now else hidden.now)) }
     ensures target { IfOk result
         (λ to. IsTarget (units_of bridges.old.kept) (units after.now) bridges.new.sources to) }
     ensures way { IfOk result (λ to. IsWay buffer mods.now (tree_of buffers.now buffer) (units_of bridges.old.kept)
@@ -387,8 +432,10 @@ fn carried_kept<L: Ledger>(
     match exchanged(bridges, buffer, mods, tree)? {
         Some((changed, paragraph)) => {
             let silent = is_silent_at(bridges, changed);
-            bridges.carry_in_place(alloc, before, mods, paragraph, changed, steps)?;
-            Ok(Target::InPlace(changed, silent))
+            let moved = bridges.moved_parts(alloc, before, mods, changed, steps)?;
+            let parts = parts_moved(alloc, fresh, shown, hidden, changed, &moved)?;
+            bridges.carry_in_place(before, mods, paragraph, changed, moved);
+            Ok(Target::InPlace(changed, silent, parts))
         }
         None => Ok(Target::Onto(carried_anew(alloc, bridges, after, buffer, before, mods, steps)?)),
     }
@@ -399,6 +446,9 @@ fn carried_kept<L: Ledger>(
 pub(crate) fn carried<L: Ledger>(
     alloc: Global,
     bridges: &mut Bridges,
+    fresh: bool,
+    shown: &[Shown],
+    hidden: &[Shown],
     buffers: &[Buffer],
     buffer: u32,
     mods: &[Mod],
@@ -410,6 +460,10 @@ pub(crate) fn carried<L: Ledger>(
     requires within { buffer < length buffers.now }
     requires changed { changed_by_all mods.now (tree_of buffers.now buffer) ≡ Some tree.now }
     requires of_buffers { units_of bridges.old.kept ≡ units buffers.now }
+    requires laid { (width : ℕ) × AreLaid width bridges.old.kept bridges.old.parts
+        (if fresh then shown.now else hidden.now) }
+    ensures left { IfOk result (λ p. IsLeft mods.now (tree_of buffers.now buffer) p.1
+        (if fresh then shown.now else hidden.now)) }
     ensures buffers { IfOk result (λ p. p.0.items ≡ with_tree buffers.now buffer tree.now) }
     ensures target { IfOk result (λ p. IsTarget (units_of bridges.old.kept)
         (units (with_tree buffers.now buffer tree.now)) bridges.new.sources p.1) }
@@ -431,6 +485,8 @@ pub(crate) fn carried<L: Ledger>(
         + (cost_of mods.now + made (with_tree buffers.now buffer tree.now)) }
 {
     let after = with_tree(alloc, buffers, buffer, tree)?;
-    let target = carried_kept(alloc, bridges, buffers, &after, buffer, mods, tree, steps)?;
+    let target = carried_kept(
+        alloc, bridges, fresh, shown, hidden, buffers, &after, buffer, mods, tree, steps,
+    )?;
     Ok((after, target))
 }

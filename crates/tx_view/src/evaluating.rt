@@ -121,8 +121,8 @@ pub(crate) fn evaluate<L: Ledger>(
         → AreLaid width bridges.new.kept bridges.new.parts units.new) }
     ensures no_parts { OnErr result (without_parts units.new ≡ units.new) }
     ensures flags { OnOk result (bridges.new.part_flags ≡ PartFlags bridges.old.kept bridges.old.parts) }
-    ensures readable { All (λ s. IsReadable (unit_view s)) units.old
-        → All (λ s. IsReadable (unit_view s)) units.new }
+    ensures readable { All IsReadable units.old
+        → All IsReadable units.new }
 {
     match bridges.refresh(alloc, steps) {
         Ok(charges) => {

@@ -15,7 +15,7 @@ ghost use Rattle.tx_bridge.specs.Entries.{Entry, units_of, fresh_from, outcome_o
 ghost use Rattle.tx_bridge.specs.Nested.{KeptParts, fresh_parts, fresh_parts_from};
 ghost use Rattle.tx_bridge.specs.HeldParts.{kept_parts, flags_of_parts};
 ghost use Rattle.tx_bridge.specs.UnitLists.{IsPlaced};
-ghost use Rattle.tx_walk.specs.Walked.{IsTidy, paths_of};
+ghost use Rattle.tx_walk.specs.Walked.{paths_of};
 ghost use Rattle.tx_unit_layout.specs.LaidAts.{laid_at, unit_items_anew};
 ghost use Rattle.tx_view.specs.Variables.{AreVariables};
 ghost use Rattle.tx_view.specs.Units.{unit_views};
@@ -56,17 +56,16 @@ fn lay<L: Ledger>(
     requires most_width { width ≤ 500 }
     requires small { size_of (plain (value_of (wide_outcome outcome.now))) ≤ 1000000 }
     requires placed { IsPlaced unit.now }
-    requires tidy { All IsTidy parts.now }
     requires distinct { IsDistinct bytes_eq (paths_of parts.now) }
     requires fresh { (m : WideMoment) × (wide_outcome outcome.now ≡ outcome_of m unit.now)
         × (kept_parts parts.now ≡ fresh_parts m unit.now) }
     requires was_laid { WasLaid width (record { unit = unit.now; trace = wide_outcome outcome.now })
         (kept_parts parts.now) (flags_of_parts parts.now) shown.old }
-    requires readable { IsReadable (unit_view shown.old) }
+    requires readable { IsReadable shown.old }
     ensures was_laid { WasLaid width (record { unit = unit.now; trace = wide_outcome outcome.now })
         (kept_parts parts.now) (flags_of_parts parts.now) shown.new }
     ensures laid { OnOk result (shown.new.laid ≡ Some attrs.now) }
-    ensures readable { IsReadable (unit_view shown.new) }
+    ensures readable { IsReadable shown.new }
     ensures items { IfOk result (λ n. n ≡ if is_before shown.old.laid attrs.now then 0
         else unit_items_anew attrs.now (record { unit = unit.now; trace = wide_outcome outcome.now })
         (kept_parts parts.now) (flags_of_parts parts.now) (map laid_at shown.old.parts)) }
@@ -102,13 +101,13 @@ fn lay_next<L: Ledger>(
         → (e.trace ≡ outcome_of moment.old e.unit) × (ks ≡ fresh_parts moment.old e.unit) }
     requires was_laid { (e : Entry) (ks : KeptParts) (fs : List Bool) → IsUnit bridges.now i e ks fs
         → WasLaid width e ks fs shown.old }
-    requires readable { IsReadable (unit_view shown.old) }
+    requires readable { IsReadable shown.old }
     requires few { moment.old.left < 2 ^ 32 }
     ensures next { IfOk result (λ n. (e : Entry) (ks : KeptParts) (fs : List Bool) → IsUnit bridges.now i e ks fs
         → IsNext width e ks fs moment.old moment.new shown.old shown.new n) }
     ensures counted { OnOk result ((e : Entry) (ks : KeptParts) (fs : List Bool) → IsUnit bridges.now i e ks fs
         → steps.new ≡ steps.old + items_unlaid moment.old e.unit fs shown.old) }
-    ensures readable { IsReadable (unit_view shown.new) }
+    ensures readable { IsReadable shown.new }
     ensures err { OnErr result (shown.new ≡ shown.old) }
 {
     let Some(unit) = bridges.unit(i) else {
@@ -174,20 +173,21 @@ fn lay_each<L: Ledger>(
     requires fresh { bridges.now.kept ≡ fresh_from beginning (units_of bridges.now.kept) }
     requires fresh_parts { bridges.now.parts ≡ fresh_parts_from beginning (units_of bridges.now.kept) }
     requires laid { WereLaid width bridges.now.kept bridges.now.parts bridges.now.part_flags units.old }
-    requires readable { All (λ s. IsReadable (unit_view s)) units.old }
+    requires readable { All IsReadable units.old }
     ensures shown { OnOk result (AreShown width beginning (units_of bridges.now.kept) (unit_views units.new)) }
     ensures attributes { OnOk result (laid_in units.new ≡ attributes_from beginning (units_of bridges.now.kept)) }
     ensures lines { OnOk result (length (lines_of (unit_views units.new)) < 2 ^ 32) }
     ensures errors { OnOk result (length (errors_of (unit_views units.new)) < 2 ^ 32) }
     ensures counted { OnOk result
-        (steps.new ≡ steps.old + items_unlaid_from beginning (units_of bridges.now.kept) bridges.now.part_flags units.old) }
+        (steps.new ≡ steps.old
+        + items_unlaid_from beginning (units_of bridges.now.kept) bridges.now.part_flags units.old) }
     ensures items { IfOk result
         (λ n. n ≡ items_unlaid_from beginning (units_of bridges.now.kept) bridges.now.part_flags units.old) }
     ensures most { IfOk result (λ n. n < 2 ^ 40) }
     ensures still { ArePartlyLaid (laid_in units.old) (attributes_from beginning (units_of bridges.now.kept))
         (laid_in units.new) }
     ensures laid { WereLaid width bridges.now.kept bridges.now.parts bridges.now.part_flags units.new }
-    ensures readable { All (λ s. IsReadable (unit_view s)) units.new }
+    ensures readable { All IsReadable units.new }
 {
     let mut items = 0;
     for i in 0..units.len() {
@@ -223,20 +223,21 @@ fn lay_from_start<L: Ledger>(
     requires fresh { bridges.now.kept ≡ fresh_from beginning (units_of bridges.now.kept) }
     requires fresh_parts { bridges.now.parts ≡ fresh_parts_from beginning (units_of bridges.now.kept) }
     requires laid { WereLaid width bridges.now.kept bridges.now.parts bridges.now.part_flags units.old }
-    requires readable { All (λ s. IsReadable (unit_view s)) units.old }
+    requires readable { All IsReadable units.old }
     ensures shown { OnOk result (AreShown width beginning (units_of bridges.now.kept) (unit_views units.new)) }
     ensures attributes { OnOk result (laid_in units.new ≡ attributes_from beginning (units_of bridges.now.kept)) }
     ensures lines { OnOk result (length (lines_of (unit_views units.new)) < 2 ^ 32) }
     ensures errors { OnOk result (length (errors_of (unit_views units.new)) < 2 ^ 32) }
     ensures counted { OnOk result
-        (steps.new ≡ steps.old + items_unlaid_from beginning (units_of bridges.now.kept) bridges.now.part_flags units.old) }
+        (steps.new ≡ steps.old
+        + items_unlaid_from beginning (units_of bridges.now.kept) bridges.now.part_flags units.old) }
     ensures items { IfOk result
         (λ n. n ≡ items_unlaid_from beginning (units_of bridges.now.kept) bridges.now.part_flags units.old) }
     ensures most { IfOk result (λ n. n < 2 ^ 40) }
     ensures still { ArePartlyLaid (laid_in units.old) (attributes_from beginning (units_of bridges.now.kept))
         (laid_in units.new) }
     ensures laid { WereLaid width bridges.now.kept bridges.now.parts bridges.now.part_flags units.new }
-    ensures readable { All (λ s. IsReadable (unit_view s)) units.new }
+    ensures readable { All IsReadable units.new }
 {
     let mut moment = Moment::beginning(alloc);
     let mut attrs = variables.attributes(alloc, moment.env())?;
@@ -266,20 +267,21 @@ pub(crate) fn lay_all<L: Ledger>(
     requires fresh { bridges.now.kept ≡ fresh_from beginning (units_of bridges.now.kept) }
     requires fresh_parts { bridges.now.parts ≡ fresh_parts_from beginning (units_of bridges.now.kept) }
     requires laid { WereLaid width bridges.now.kept bridges.now.parts bridges.now.part_flags units.old }
-    requires readable { All (λ s. IsReadable (unit_view s)) units.old }
+    requires readable { All IsReadable units.old }
     ensures shown { OnOk result (AreShown width beginning (units_of bridges.now.kept) (unit_views units.new)) }
     ensures attributes { OnOk result (laid_in units.new ≡ attributes_from beginning (units_of bridges.now.kept)) }
     ensures lines { OnOk result (length (lines_of (unit_views units.new)) < 2 ^ 32) }
     ensures errors { OnOk result (length (errors_of (unit_views units.new)) < 2 ^ 32) }
     ensures counted { OnOk result
-        (steps.new ≡ steps.old + items_unlaid_from beginning (units_of bridges.now.kept) bridges.now.part_flags units.old) }
+        (steps.new ≡ steps.old
+        + items_unlaid_from beginning (units_of bridges.now.kept) bridges.now.part_flags units.old) }
     ensures items { IfOk result
         (λ n. n ≡ items_unlaid_from beginning (units_of bridges.now.kept) bridges.now.part_flags units.old) }
     ensures most { IfOk result (λ n. n < 2 ^ 40) }
     ensures still { ArePartlyLaid (laid_in units.old) (attributes_from beginning (units_of bridges.now.kept))
         (laid_in units.new) }
     ensures laid { WereLaid width bridges.now.kept bridges.now.parts bridges.now.part_flags units.new }
-    ensures readable { All (λ s. IsReadable (unit_view s)) units.new }
+    ensures readable { All IsReadable units.new }
 {
     let variables = Variables::new(alloc)?;
     lay_from_start(alloc, &variables, bridges, units, width, steps)

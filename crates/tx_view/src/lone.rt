@@ -7,7 +7,7 @@ ghost use Rattle.tx_tree.specs.WideTree.{size_of};
 ghost use Rattle.tx_origin.specs.Values.{plain};
 ghost use Rattle.tx_exec.specs.Outcomes.{wide_outcome};
 ghost use Rattle.tx_exec_form.specs.Evaluated.{WideTrace};
-ghost use Rattle.tx_walk.specs.Walked.{IsTidy, paths_of};
+ghost use Rattle.tx_walk.specs.Walked.{paths_of};
 ghost use Rattle.tx_layout.specs.Paging.{Unmarked};
 ghost use Rattle.tx_view_form.specs.Outcomes.{Moment as WideMoment, beginning, value_of};
 ghost use Rattle.tx_bridge.specs.Entries.{units_of, fresh_from, traces_of, outcome_of};
@@ -19,9 +19,11 @@ ghost use Rattle.tx_unit_layout.specs.LaidAts.{laid_at, unit_items_anew};
 ghost use Rattle.tx_unit_layout.specs.LaidUnits.{WasLaid};
 ghost use Rattle.tx_unit_layout.specs.Views.{unit_view, IsReadable};
 ghost use Rattle.tx_view.specs.Laid.{WereLaid, laid_in, items_unlaid_from, ArePartlyLaid};
-ghost use Rattle.tx_view.specs.Lone.{AreAlike, KeepPages};
+ghost use Rattle.tx_view.specs.Lone.{IsGap, AreAlike, KeepPages};
 ghost use Rattle.tx_view.specs.Stores.{attributes_from};
+ghost use Rattle.tx_view.specs.Units.{IsBelow};
 
+use crate::carrying::Former;
 use crate::paging::Pagination;
 use std::alloc::Global;
 use std::sync::ledger::Ledger;
@@ -35,59 +37,60 @@ use tx_units::Unit;
 use tx_view_form::weight_laws;
 use tx_walk::Part;
 
-/// The one unit that has changed since all were laid out: its number, the attributes before it, and the pages of all
-/// units while it was laid out.
+/// The one unit that has changed since all were laid out: its number, the attributes before it, and, of the time when
+/// it was laid out, whether none of its lines was the last of a page, and the pages of all units.
 #[derive(Drop)]
 pub(crate) struct Lone {
     pub(crate) unit: usize,
     pub(crate) attrs: Attrs,
+    pub(crate) unmarked: bool,
     pub(crate) paged: Pagination,
 }
 
-/// The unit of this number with the attributes before it, if there is one, and these pages.
-pub(crate) fn lone_of(former: Option<(usize, Attrs)>, paged: Pagination) -> Option<Lone>
-    ensures { IfSome result (λ l. (former ≡ Some (l.unit, l.attrs)) × (l.paged ≡ paged)) }
+/// That unit, if there is one, and these pages.
+pub(crate) fn lone_of(former: Option<Former>, paged: Pagination) -> Option<Lone>
+    ensures { IfSome result (λ l. (former ≡ Some (record { unit = l.unit; attrs = l.attrs; unmarked = l.unmarked }))
+        × (l.paged ≡ paged)) }
 {
-    let (unit, attrs) = former?;
-    Some(Lone { unit, attrs, paged })
+    let former = former?;
+    Some(Lone {
+        unit: former.unit,
+        attrs: former.attrs,
+        unmarked: former.unmarked,
+        paged,
+    })
 }
 
-// How many lines and errors a unit has. Where `unmarked`, no line is the last of its page.
-#[derive(Clone, Copy, Drop)]
-struct Outline {
-    lines: usize,
-    errors: usize,
-    unmarked: bool,
+// Whether n more stand between these sums, number i and the next one.
+fn is_gap(sums: &[u32], i: usize, n: u64) -> bool
+    ensures { IsTrue result → IsGap sums.now i n }
+{
+    let Some(before) = sums.get(i) else {
+        return false;
+    };
+    let Some(behind) = sums.get(i + 1) else {
+        return false;
+    };
+    if *behind < *before {
+        return false;
+    }
+    u64::from(*behind - *before) == n
 }
 
-// How many lines and errors there are.
-fn outline_of(shown: &Shown) -> Outline
-    ensures lines { result.lines ≡ length shown.now.lines }
-    ensures errors { result.errors ≡ length shown.now.errors.items }
-    ensures unmarked { result.unmarked ≡ true → All Unmarked shown.now.lines }
+// It has as many lines and errors as the lone unit had, and neither has or had a line that is the last of its page.
+// False says nothing.
+fn is_alike(lone: &Lone, shown: &Shown) -> bool
+    requires below { IsBelow shown.now }
+    requires few { length (unit_view shown.now).lines < 2 ^ 63 }
+    ensures { IsTrue result → AreAlike lone.now shown.now }
 {
-    Outline {
-        lines: shown.lines.all().len(),
-        errors: shown.errors.len(),
-        unmarked: shown.lines.is_unmarked(),
-    }
-}
-
-// Both have as many lines and errors, and no line that is the last of its page.
-fn are_alike(one: Outline, other: Outline) -> bool
-    ensures { IsTrue result → (one.lines ≡ other.lines) × (one.errors ≡ other.errors) × (one.unmarked ≡ true)
-        × (other.unmarked ≡ true) }
-{
-    if one.lines != other.lines {
+    if !lone.unmarked || !shown.is_unmarked() {
         return false;
     }
-    if one.errors != other.errors {
+    if !is_gap(&lone.paged.rows, lone.unit, shown.line_count()) {
         return false;
     }
-    if !one.unmarked {
-        return false;
-    }
-    other.unmarked
+    is_gap(&lone.paged.errors, lone.unit, shown.errors.len() as u64)
 }
 
 // Lays a unit out that comes to this at some moment and has these parts then. Answers how many items were laid out, and
@@ -97,7 +100,7 @@ fn lay_anew<L: Ledger>(
     unit: &Unit,
     outcome: &Outcome,
     parts: &[Part],
-    attrs: Attrs,
+    lone: &Lone,
     shown: &mut Shown,
     width: u32,
     steps: &mut Steps<L>,
@@ -106,7 +109,6 @@ fn lay_anew<L: Ledger>(
     requires most_width { width ≤ 500 }
     requires small { size_of (plain (value_of (wide_outcome outcome.now))) ≤ 1000000 }
     requires placed { IsPlaced unit.now }
-    requires tidy { All IsTidy parts.now }
     requires distinct { IsDistinct bytes_eq (paths_of parts.now) }
     requires fresh { (m : WideMoment) × (wide_outcome outcome.now ≡ outcome_of m unit.now)
         × (kept_parts parts.now ≡ fresh_parts m unit.now) }
@@ -114,22 +116,21 @@ fn lay_anew<L: Ledger>(
         (kept_parts parts.now) (flags_of_parts parts.now) shown.old }
     ensures was_laid { OnOk result (WasLaid width (record { unit = unit.now; trace = wide_outcome outcome.now })
         (kept_parts parts.now) (flags_of_parts parts.now) shown.new) }
-    ensures laid { OnOk result (shown.new.laid ≡ Some attrs) }
-    ensures readable { OnOk result (IsReadable (unit_view shown.new)) }
-    ensures items { IfOk result (λ p. p.0 ≡ unit_items_anew attrs
+    ensures laid { OnOk result (shown.new.laid ≡ Some lone.now.attrs) }
+    ensures readable { OnOk result (IsReadable shown.new) }
+    ensures items { IfOk result (λ p. p.0 ≡ unit_items_anew lone.now.attrs
         (record { unit = unit.now; trace = wide_outcome outcome.now }) (kept_parts parts.now)
         (flags_of_parts parts.now) (map laid_at shown.old.parts)) }
     ensures most { IfOk result (λ p. p.0 < 2 ^ 63) }
     ensures counted { IfOk result (λ p. steps.new ≡ steps.old + p.0) }
-    ensures alike { IfOk result (λ p. p.1 ≡ true → AreAlike shown.old shown.new) }
+    ensures alike { IfOk result (λ p. p.1 ≡ true → AreAlike lone.now shown.new) }
     ensures err { OnErr result (shown.new ≡ shown.old) }
 {
     weight_laws();
     outcome_weight_law(outcome);
-    let before = outline_of(shown);
+    let attrs = lone.attrs.copy()?;
     let items = lay_unit(alloc, unit, outcome, parts, attrs, shown, width, steps)?;
-    let alike = are_alike(before, outline_of(shown));
-    Ok((items, alike))
+    Ok((items, is_alike(lone, shown)))
 }
 
 // Lays the unit of this number out, which is the only one that isn't, and before which the attributes are these.
@@ -137,8 +138,7 @@ fn lay_anew<L: Ledger>(
 fn lay_only<L: Ledger>(
     alloc: Global,
     bridges: &Bridges,
-    unit: usize,
-    attrs: &Attrs,
+    lone: &Lone,
     units: &mut [Shown],
     width: u32,
     steps: &mut Steps<L>,
@@ -148,24 +148,24 @@ fn lay_only<L: Ledger>(
     requires few { length bridges.now.kept < 2 ^ 23 }
     requires fresh { bridges.now.kept ≡ fresh_from beginning (units_of bridges.now.kept) }
     requires fresh_parts { bridges.now.parts ≡ fresh_parts_from beginning (units_of bridges.now.kept) }
-    requires nothing_laid { slice_get (laid_in units.old) unit ≡ Some None }
-    requires attributes { slice_set (laid_in units.old) unit (Some attrs.now)
+    requires nothing_laid { slice_get (laid_in units.old) lone.now.unit ≡ Some None }
+    requires attributes { slice_set (laid_in units.old) lone.now.unit (Some lone.now.attrs)
         ≡ attributes_from beginning (units_of bridges.now.kept) }
     requires laid { WereLaid width bridges.now.kept bridges.now.parts bridges.now.part_flags units.old }
-    requires readable { All (λ s. IsReadable (unit_view s)) units.old }
+    requires readable { All IsReadable units.old }
     ensures attributes { OnOk result (laid_in units.new ≡ attributes_from beginning (units_of bridges.now.kept)) }
     ensures items { IfOk result (λ p. p.0
         ≡ items_unlaid_from beginning (units_of bridges.now.kept) bridges.now.part_flags units.old) }
     ensures most { IfOk result (λ p. p.0 < 2 ^ 63) }
     ensures counted { IfOk result (λ p. steps.new ≡ steps.old + p.0) }
-    ensures alike { IfOk result (λ p. p.1 ≡ true → KeepPages units.old units.new) }
+    ensures alike { IfOk result (λ p. p.1 ≡ true → KeepPages lone.now units.old units.new) }
     ensures err { OnErr result (units.new ≡ units.old) }
     ensures laid { WereLaid width bridges.now.kept bridges.now.parts bridges.now.part_flags units.new }
-    ensures readable { All (λ s. IsReadable (unit_view s)) units.new }
+    ensures readable { All IsReadable units.new }
 {
     size_law();
     trace_laws();
-    let i = unit as u32;
+    let i = lone.unit as u32;
     let Some(own) = bridges.unit(i) else {
         unreachable!();
     };
@@ -175,18 +175,16 @@ fn lay_only<L: Ledger>(
     let Some(parts) = bridges.parts(i) else {
         unreachable!();
     };
-    let before = attrs.copy()?;
-    let (items, alike) = lay_anew(
+    lay_anew(
         alloc,
         own,
         outcome,
         parts,
-        before,
-        &mut units[unit],
+        lone,
+        &mut units[lone.unit],
         width,
         steps,
-    )?;
-    Ok((items, alike))
+    )
 }
 
 /// Lays that unit out, where `quiet`. Else nothing is laid out.
@@ -194,8 +192,7 @@ pub(crate) fn lay_if<L: Ledger>(
     alloc: Global,
     bridges: &Bridges,
     quiet: bool,
-    unit: usize,
-    attrs: &Attrs,
+    lone: &Lone,
     units: &mut [Shown],
     width: u32,
     steps: &mut Steps<L>,
@@ -204,12 +201,12 @@ pub(crate) fn lay_if<L: Ledger>(
     requires most_width { width ≤ 500 }
     requires few { length bridges.now.kept < 2 ^ 23 }
     requires fresh { bridges.now.kept ≡ fresh_from beginning (units_of bridges.now.kept) }
-    requires nothing_laid { quiet ≡ true → slice_get (laid_in units.old) unit ≡ Some None }
-    requires attributes { quiet ≡ true → slice_set (laid_in units.old) unit (Some attrs.now)
+    requires nothing_laid { quiet ≡ true → slice_get (laid_in units.old) lone.now.unit ≡ Some None }
+    requires attributes { quiet ≡ true → slice_set (laid_in units.old) lone.now.unit (Some lone.now.attrs)
         ≡ attributes_from beginning (units_of bridges.now.kept) }
     requires fresh_parts { bridges.now.parts ≡ fresh_parts_from beginning (units_of bridges.now.kept) }
     requires laid { WereLaid width bridges.now.kept bridges.now.parts bridges.now.part_flags units.old }
-    requires readable { All (λ s. IsReadable (unit_view s)) units.old }
+    requires readable { All IsReadable units.old }
     ensures left { IfOk result
         (λ p. p.0 + items_unlaid_from beginning (units_of bridges.now.kept) bridges.now.part_flags units.new
         ≡ items_unlaid_from beginning (units_of bridges.now.kept) bridges.now.part_flags units.old) }
@@ -218,17 +215,16 @@ pub(crate) fn lay_if<L: Ledger>(
     ensures quiet { IfOk result (λ p. p.1 ≡ true → quiet ≡ true) }
     ensures attributes { IfOk result (λ p. p.1 ≡ true
         → laid_in units.new ≡ attributes_from beginning (units_of bridges.now.kept)) }
-    ensures pages { IfOk result (λ p. p.1 ≡ true → KeepPages units.old units.new) }
+    ensures pages { IfOk result (λ p. p.1 ≡ true → KeepPages lone.now units.old units.new) }
     ensures still { ArePartlyLaid (laid_in units.old) (attributes_from beginning (units_of bridges.now.kept))
         (laid_in units.new) }
     ensures laid { WereLaid width bridges.now.kept bridges.now.parts bridges.now.part_flags units.new }
-    ensures readable { All (λ s. IsReadable (unit_view s)) units.new }
+    ensures readable { All IsReadable units.new }
 {
     if !quiet {
         return Ok((0, false));
     }
-    let (items, alike) = lay_only(alloc, bridges, unit, attrs, units, width, steps)?;
-    Ok((items, alike))
+    lay_only(alloc, bridges, lone, units, width, steps)
 }
 
 // A unit comes to a trace that sets no name.

@@ -1,9 +1,9 @@
 // The pages of units, and how many rows and errors stand before each.
-ghost use Rattle.std.specs.Prelude.{◌≡◌, ◌≤◌, ◌<◌, ◌^◌, [], ◌∷◌, length, IfOk};
+ghost use Rattle.std.specs.Prelude.{◌≡◌, ◌≤◌, ◌<◌, ◌^◌, [], ◌∷◌, All, length, IfOk};
 ghost use Rattle.tx_view_form.specs.Views.{lines_of};
 ghost use Rattle.tx_view_form.specs.Errors.{errors_of};
 ghost use Rattle.tx_layout.specs.Paging.{PagesFrom};
-ghost use Rattle.tx_view.specs.Units.{unit_views};
+ghost use Rattle.tx_view.specs.Units.{unit_views, IsBelow};
 ghost use Rattle.tx_view.specs.Lone.{IsPaged};
 
 use crate::searching::{first_errors, first_rows};
@@ -51,7 +51,7 @@ fn paged(alloc: Global, units: &[Shown], height: u32) -> Result<Vec<Cut>, Memory
 {
     let mut paginator = Paginator::new(alloc, height);
     for unit in units {
-        unit.lines.tell(&mut paginator)?;
+        unit.tell(&mut paginator)?;
     }
     paginator.finish()
 }
@@ -61,6 +61,7 @@ pub(crate) fn all_paged(alloc: Global, units: &[Shown], height: u32) -> Result<P
     requires least_height { 5 ≤ height }
     requires most_height { height ≤ 500 }
     requires few { length (lines_of (unit_views units.now)) < 2 ^ 32 }
+    requires below { All IsBelow units.now }
     requires few_errors { length (errors_of (unit_views units.now)) < 2 ^ 32 }
     ensures { IfOk result (λ p. IsPaged height (unit_views units.now) p) }
 {

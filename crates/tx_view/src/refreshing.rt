@@ -23,7 +23,6 @@ use std::sync::ledger::Ledger;
 use tx_base::{Memory, Steps};
 use tx_bridge::Bridges;
 use tx_exec_form::trace_laws;
-use tx_items::Attrs;
 use tx_unit_layout::Shown;
 
 // Evaluates the units of which nothing fits, and lays all units out. Answers by how much the steps rose.
@@ -38,7 +37,7 @@ fn lay_out_all<L: Ledger>(
     requires most_width { width ≤ 500 }
     requires few { length bridges.old.kept < 2 ^ 23 }
     requires laid { AreLaid width bridges.old.kept bridges.old.parts units.old }
-    requires readable { All (λ s. IsReadable (unit_view s)) units.old }
+    requires readable { All IsReadable units.old }
     ensures shown { OnOk result (AreShown width beginning (units_of bridges.old.kept) (unit_views units.new)) }
     ensures kept { OnOk result (bridges.new.kept ≡ fresh_from beginning (units_of bridges.old.kept)) }
     ensures parts { OnOk result (bridges.new.parts ≡ fresh_parts_from beginning (units_of bridges.old.kept)) }
@@ -56,7 +55,7 @@ fn lay_out_all<L: Ledger>(
     ensures units { units_of bridges.new.kept ≡ units_of bridges.old.kept }
     ensures laid { OnOk result (AreLaid width bridges.new.kept bridges.new.parts units.new) }
     ensures left { OnErr result (AreLaid width bridges.new.kept bridges.new.parts (without_parts units.new)) }
-    ensures readable { All (λ s. IsReadable (unit_view s)) units.new }
+    ensures readable { All IsReadable units.new }
 {
     let none = units.len();
     let (charges, _) = evaluate(alloc, bridges, units, none, steps)?;
@@ -64,13 +63,11 @@ fn lay_out_all<L: Ledger>(
     Ok(charges + items)
 }
 
-// The same, where one unit alone has changed since all were laid out, and `attrs` are the attributes before it. Answers
-// besides whether the pages stay.
+// The same, where one unit alone has changed since all were laid out. Answers besides whether the pages stay.
 fn lay_out_lone<L: Ledger>(
     alloc: Global,
     bridges: &mut Bridges,
-    unit: usize,
-    attrs: &Attrs,
+    lone: &Lone,
     units: &mut [Shown],
     width: u32,
     steps: &mut Steps<L>,
@@ -78,9 +75,9 @@ fn lay_out_lone<L: Ledger>(
     requires least_width { 20 ≤ width }
     requires most_width { width ≤ 500 }
     requires few { length bridges.old.kept < 2 ^ 23 }
-    requires lone { IsLone bridges.old.kept units.old unit attrs.now }
+    requires lone { IsLone bridges.old.kept units.old lone.now.unit lone.now.attrs }
     requires laid { AreLaid width bridges.old.kept bridges.old.parts units.old }
-    requires readable { All (λ s. IsReadable (unit_view s)) units.old }
+    requires readable { All IsReadable units.old }
     ensures shown { OnOk result (AreShown width beginning (units_of bridges.old.kept) (unit_views units.new)) }
     ensures kept { OnOk result (bridges.new.kept ≡ fresh_from beginning (units_of bridges.old.kept)) }
     ensures parts { OnOk result (bridges.new.parts ≡ fresh_parts_from beginning (units_of bridges.old.kept)) }
@@ -89,7 +86,7 @@ fn lay_out_lone<L: Ledger>(
         (laid_parts_in units.new ≡ laid_parts_from beginning (units_of bridges.old.kept)) }
     ensures lines { IfOk result (λ p. p.1 ≡ false → length (lines_of (unit_views units.new)) < 2 ^ 32) }
     ensures errors { IfOk result (λ p. p.1 ≡ false → length (errors_of (unit_views units.new)) < 2 ^ 32) }
-    ensures pages { IfOk result (λ p. p.1 ≡ true → KeepPages units.old units.new) }
+    ensures pages { IfOk result (λ p. p.1 ≡ true → KeepPages lone.now units.old units.new) }
     ensures counted { IfOk result (λ p. steps.new ≡ steps.old + p.0) }
     ensures work { IfOk result (λ p. p.0
         ≡ Charge bridges.old.kept bridges.old.parts + items_relaid_from beginning bridges.old.kept bridges.old.parts
@@ -99,12 +96,12 @@ fn lay_out_lone<L: Ledger>(
     ensures units { units_of bridges.new.kept ≡ units_of bridges.old.kept }
     ensures laid { OnOk result (AreLaid width bridges.new.kept bridges.new.parts units.new) }
     ensures left { OnErr result (AreLaid width bridges.new.kept bridges.new.parts (without_parts units.new)) }
-    ensures readable { All (λ s. IsReadable (unit_view s)) units.new }
+    ensures readable { All IsReadable units.new }
 {
     trace_laws();
-    let (charges, alone) = evaluate(alloc, bridges, units, unit, steps)?;
-    let quiet = is_alone_quietly(alone, bridges, unit);
-    let (items, alike) = lay_if(alloc, bridges, quiet, unit, attrs, units, width, steps)?;
+    let (charges, alone) = evaluate(alloc, bridges, units, lone.unit, steps)?;
+    let quiet = is_alone_quietly(alone, bridges, lone.unit);
+    let (items, alike) = lay_if(alloc, bridges, quiet, lone, units, width, steps)?;
     let work = charges + items;
     if alike {
         return Ok((work, true));
@@ -128,7 +125,7 @@ fn lay_out_by<L: Ledger>(
     requires few { length bridges.old.kept < 2 ^ 23 }
     requires lone { IfSome lone.now (λ l. IsLone bridges.old.kept units.old l.unit l.attrs) }
     requires laid { AreLaid width bridges.old.kept bridges.old.parts units.old }
-    requires readable { All (λ s. IsReadable (unit_view s)) units.old }
+    requires readable { All IsReadable units.old }
     ensures shown { OnOk result (AreShown width beginning (units_of bridges.old.kept) (unit_views units.new)) }
     ensures kept { OnOk result (bridges.new.kept ≡ fresh_from beginning (units_of bridges.old.kept)) }
     ensures parts { OnOk result (bridges.new.parts ≡ fresh_parts_from beginning (units_of bridges.old.kept)) }
@@ -137,7 +134,8 @@ fn lay_out_by<L: Ledger>(
         (laid_parts_in units.new ≡ laid_parts_from beginning (units_of bridges.old.kept)) }
     ensures lines { IfOk result (λ p. p.1 ≡ false → length (lines_of (unit_views units.new)) < 2 ^ 32) }
     ensures errors { IfOk result (λ p. p.1 ≡ false → length (errors_of (unit_views units.new)) < 2 ^ 32) }
-    ensures pages { IfOk result (λ p. p.1 ≡ true → IsSome lone.now × KeepPages units.old units.new) }
+    ensures pages { IfOk result (λ p. p.1 ≡ true
+        → IsSome lone.now × IfSome lone.now (λ l. KeepPages l units.old units.new)) }
     ensures counted { IfOk result (λ p. steps.new ≡ steps.old + p.0) }
     ensures work { IfOk result (λ p. p.0
         ≡ Charge bridges.old.kept bridges.old.parts + items_relaid_from beginning bridges.old.kept bridges.old.parts
@@ -147,14 +145,14 @@ fn lay_out_by<L: Ledger>(
     ensures units { units_of bridges.new.kept ≡ units_of bridges.old.kept }
     ensures laid { OnOk result (AreLaid width bridges.new.kept bridges.new.parts units.new) }
     ensures left { OnErr result (AreLaid width bridges.new.kept bridges.new.parts (without_parts units.new)) }
-    ensures readable { All (λ s. IsReadable (unit_view s)) units.new }
+    ensures readable { All IsReadable units.new }
 {
     match lone {
         None => {
             let work = lay_out_all(alloc, bridges, units, width, steps)?;
             Ok((work, false))
         }
-        Some(lone) => lay_out_lone(alloc, bridges, lone.unit, &lone.attrs, units, width, steps),
+        Some(lone) => lay_out_lone(alloc, bridges, lone, units, width, steps),
     }
 }
 
@@ -174,7 +172,7 @@ pub(crate) fn lay_out<L: Ledger>(
     requires few { length bridges.old.kept < 2 ^ 23 }
     requires lone { IfSome lone.now (λ l. IsLone bridges.old.kept units.old l.unit l.attrs) }
     requires laid { AreLaid width bridges.old.kept bridges.old.parts units.old }
-    requires readable { All (λ s. IsReadable (unit_view s)) units.old }
+    requires readable { All IsReadable units.old }
     ensures shown { OnOk result (AreShown width beginning (units_of bridges.old.kept) (unit_views units.new)) }
     ensures kept { OnOk result (bridges.new.kept ≡ fresh_from beginning (units_of bridges.old.kept)) }
     ensures parts { OnOk result (bridges.new.parts ≡ fresh_parts_from beginning (units_of bridges.old.kept)) }
@@ -183,7 +181,8 @@ pub(crate) fn lay_out<L: Ledger>(
         (laid_parts_in units.new ≡ laid_parts_from beginning (units_of bridges.old.kept)) }
     ensures lines { IfOk result (λ p. p.1 ≡ false → length (lines_of (unit_views units.new)) < 2 ^ 32) }
     ensures errors { IfOk result (λ p. p.1 ≡ false → length (errors_of (unit_views units.new)) < 2 ^ 32) }
-    ensures pages { IfOk result (λ p. p.1 ≡ true → IsSome lone.now × KeepPages units.old units.new) }
+    ensures pages { IfOk result (λ p. p.1 ≡ true
+        → IsSome lone.now × IfSome lone.now (λ l. KeepPages l units.old units.new)) }
     ensures counted { IfOk result (λ p. steps.new ≡ steps.old + p.0) }
     ensures work { IfOk result (λ p. p.0
         ≡ Charge bridges.old.kept bridges.old.parts + items_relaid_from beginning bridges.old.kept bridges.old.parts
@@ -192,7 +191,7 @@ pub(crate) fn lay_out<L: Ledger>(
         (fresh_stores (units_of bridges.old.kept)) (stores_in bridges.new units.new)) }
     ensures units { units_of bridges.new.kept ≡ units_of bridges.old.kept }
     ensures laid { AreLaid width bridges.new.kept bridges.new.parts units.new }
-    ensures readable { All (λ s. IsReadable (unit_view s)) units.new }
+    ensures readable { All IsReadable units.new }
 {
     match lay_out_by(alloc, bridges, lone, units, width, steps) {
         Ok(done) => Ok(done),

@@ -1,8 +1,9 @@
 // Rows and errors by their numbers: in which unit each stands.
-ghost use Rattle.std.specs.Prelude.{◌≡◌, ◌≤◌, ◌<◌, ◌^◌, ℕ, List, length, slice_index, IfOk};
+ghost use Rattle.std.specs.Prelude.{◌≡◌, ◌≤◌, ◌<◌, ◌^◌, ℕ, List, All, length, slice_index, IfOk};
 ghost use Rattle.tx_view_form.specs.Views.{lines_of};
 ghost use Rattle.tx_view_form.specs.Errors.{errors_of};
 ghost use Rattle.tx_view.specs.Units.{unit_views, sums_from, row_counts, error_counts, number_in};
+ghost use Rattle.tx_view.specs.Units.{IsBelow};
 ghost use Rattle.tx_unit_layout.specs.Views.{unit_view};
 ghost use Rattle.tx_view.specs.Rows.{IsRow, IsError};
 
@@ -12,14 +13,15 @@ use tx_unit_layout::Shown;
 
 /// How many rows stand before each unit, and how many there are.
 pub(crate) fn first_rows(alloc: Global, units: &[Shown]) -> Result<Vec<u32>, Memory>
-    requires { length (lines_of (unit_views units.now)) < 2 ^ 32 }
+    requires few { length (lines_of (unit_views units.now)) < 2 ^ 32 }
+    requires below { All IsBelow units.now }
     ensures { IfOk result (λ firsts. firsts.items ≡ sums_from 0 (row_counts (unit_views units.now))) }
 {
     let mut firsts = Vec::with_capacity(alloc, units.len() + 1)?;
     let mut count = 0u32;
     for unit in units {
         firsts.push(count)?;
-        count += unit.lines.all().len() as u32;
+        count += unit.line_count() as u32;
     }
     firsts.push(count)?;
     Ok(firsts)

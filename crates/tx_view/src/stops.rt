@@ -74,7 +74,7 @@ fn put_spot(alloc: Global, stops: &mut IndexSet<Stop>, spot: &Spot<'_>) -> Resul
 
 // The stops of units, of equal ones the first.
 fn all_stops(alloc: Global, units: &[Shown]) -> Result<IndexSet<Stop>, Memory>
-    requires { All (λ s. IsReadable (unit_view s)) units.now }
+    requires { All IsReadable units.now }
     ensures { IfOk result (λ stops. stops.keys ≡ stops_of (unit_views units.now)) }
 {
     let spots = spots_of(alloc, units)?;
@@ -98,7 +98,7 @@ fn places_of(alloc: Global, stops: &[Stop]) -> Result<Vec<Place>, Memory>
 
 /// The stops of units, of equal ones the first.
 pub(crate) fn stops_of(alloc: Global, units: &[Shown]) -> Result<Vec<Place>, Memory>
-    requires { All (λ s. IsReadable (unit_view s)) units.now }
+    requires { All IsReadable units.now }
     ensures { IfOk result (λ ps. ps.items ≡ stops_of (unit_views units.now)) }
 {
     let stops = all_stops(alloc, units)?;

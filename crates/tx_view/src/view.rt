@@ -1,6 +1,7 @@
 // The view.
-ghost use Rattle.std.specs.Prelude.{◌≡◌, ◌+◌, ◌≤◌, ◌<◌, ◌^◌, [], ◌∷◌, length, true, false, All, MatchOption, IsOk};
-ghost use Rattle.std.specs.Prelude.{IsTrue, IfOk, IsSome, IfSome};
+ghost use Rattle.std.specs.Prelude.{◌≡◌, ℕ, ◌+◌, ◌≤◌, ◌<◌, ◌^◌, List, [], ◌∷◌, length, true, false, All, MatchOption};
+ghost use Rattle.std.specs.Prelude.{IsTrue, IsOk, IfOk, IsSome, IfSome};
+ghost use Rattle.std.specs.Option.{option_map};
 ghost use Rattle.std.specs.Prelude.{OnOk, OnErr, None, Some, option_and_then, option_copied, slice_get};
 ghost use Rattle.tx_mod.specs.Followed.{changed_by_all};
 ghost use Rattle.tx_mod.specs.InTurn.{cost_of};
@@ -15,12 +16,17 @@ ghost use Rattle.tx_view_form.specs.Positions.{position_in};
 ghost use Rattle.tx_view_form.specs.Stops.{stops_of};
 ghost use Rattle.tx_view.specs.Near.{AreNear};
 ghost use Rattle.tx_view.specs.Units.{unit_views};
-ghost use Rattle.tx_unit_layout.specs.Views.{unit_view, IsReadable};
-ghost use Rattle.tx_view.specs.Units.{AreAllApart};
+ghost use Rattle.tx_unit_layout.specs.Views.{IsReadable};
+ghost use Rattle.tx_part_layout.specs.LinesUnder.{line_under};
+ghost use Rattle.tx_view.specs.Units.{AreAllApart, IsBelow};
 ghost use Rattle.tx_view.specs.Laid.{AreLaid, stores_in};
-ghost use Rattle.tx_view.specs.Lone.{IsLone, IsPaged};
+ghost use Rattle.tx_view.specs.Lone.{IsLone, IsPaged, WerePages};
+ghost use Rattle.tx_view.specs.InUnits.{IsBase, drawn_under};
+ghost use Rattle.tx_view.specs.Marks.{spot_place};
 ghost use Rattle.tx_view.specs.Names.{Empty, Fresh, Bound, Carry, Holds};
 ghost use Rattle.tx_view.specs.Stores.{IsPartlyFresh};
+ghost use Rattle.tx_view.specs.RowParts.{AreRowParts};
+ghost use Rattle.tx_view.specs.Rows.{row_parts};
 
 use crate::around::{apart_law, stops_near};
 use crate::carrying::{blanks, carried, move_shown};
@@ -28,7 +34,7 @@ use crate::cells::drawn_at;
 use crate::evaluating::forget_all_parts;
 use crate::lone::{Lone, lone_of};
 use crate::paging::{Pagination, all_paged, nothing_paged};
-use crate::places::place_in;
+use crate::places::{base_of, place_in};
 use crate::refreshing::lay_out;
 use crate::searching::{error_count, error_in, row_count, row_in};
 use crate::sharing::shared;
@@ -38,13 +44,13 @@ use std::marker::Model;
 use std::mem;
 use std::sync::ledger::Ledger;
 use tx_base::{Memory, Steps};
-use tx_bridge::{Bridges, keeping_law, staying_parts_law, unit_list_laws};
+use tx_bridge::{Bridges, unit_list_laws};
 use tx_doc::Buffer;
 use tx_items::{Drawn, ErrorAt};
 use tx_layout::Line;
 use tx_lines::Cut;
 use tx_mod::Mod;
-use tx_origin::Spot;
+use tx_origin::{Base, Spot};
 use tx_tree::{Path, Place, Tree};
 use tx_unit_layout::Shown;
 use tx_units::{unit_count_law, units};
@@ -98,6 +104,7 @@ fn paged_again(
     requires most_height { height ≤ 500 }
     requires few { stays ≡ false → length (lines_of (unit_views units.now)) < 2 ^ 32 }
     requires few_errors { stays ≡ false → length (errors_of (unit_views units.now)) < 2 ^ 32 }
+    requires below { All IsBelow units.now }
     requires some { stays ≡ true → IsSome lone }
     requires stays { stays ≡ true → IfSome lone (λ l. IsPaged height (unit_views units.now) l.paged) }
     ensures { IfOk result (λ p. IsPaged height (unit_views units.now) p) }
@@ -129,9 +136,9 @@ fn made_anew<L: Ledger>(
     requires most_height { size.1 ≤ 500 }
     requires of_buffers { units_of bridges.old.kept ≡ units buffers.now }
     requires laid { AreLaid size.0 bridges.old.kept bridges.old.parts all.old }
-    requires readable { All (λ s. IsReadable (unit_view s)) all.old }
+    requires readable { All IsReadable all.old }
     requires lone { IfSome lone (λ l. IsLone bridges.old.kept all.old l.unit l.attrs
-        × IsPaged size.1 (unit_views all.old) l.paged) }
+        × WerePages size.1 (unit_views all.old) l) }
     ensures shown { OnOk result (AreShown size.0 beginning (units buffers.now) (unit_views all.new)) }
     ensures stores { OnOk result (stores_in bridges.new all.new ≡ Fresh buffers.now) }
     ensures refused { OnErr result
@@ -142,7 +149,10 @@ fn made_anew<L: Ledger>(
     ensures counted { IfOk result (λ p. steps.new ≡ steps.old + p.1) }
     ensures of_buffers { units_of bridges.new.kept ≡ units buffers.now }
     ensures laid { AreLaid size.0 bridges.new.kept bridges.new.parts all.new }
-    ensures readable { All (λ s. IsReadable (unit_view s)) all.new }
+    ensures readable { All IsReadable all.new }
+    ensures below { OnOk result (All IsBelow all.new) }
+    ensures row_parts { OnOk result
+        (AreRowParts size.0 beginning (units buffers.now) (unit_views all.new) (row_parts all.new)) }
 {
     unit_count_law(buffers);
     let (width, height) = size;
@@ -181,6 +191,7 @@ impl View {
           height = height;
           fresh = false;
           shown = record { units = []; pages = [] };
+          row_parts = [];
           stores = Empty buffers.now;
           work = 0;
         }) }
@@ -208,9 +219,9 @@ impl View {
     /// kept of a unit goes with it, and what is kept of the parts of a nested paragraph too: a paragraph of the
     /// document goes by the modifications from path to path, and another unit stays the one of its number, where kind
     /// and tree are the same. Of a paragraph inside which all modifications are, and which is found to change alone,
-    /// the parts that stay in it are kept, and what is laid out of those that are found to be left in their place, and
-    /// no trace of its own. Nothing is evaluated. The steps rise by at most the paths' lengths, three for each
-    /// modification, and the nodes that are made for units. For want of memory all stays.
+    /// the trace goes. What is kept and laid out of the parts that stay in it stays, also of those that move. Nothing
+    /// is evaluated. The steps rise by at most the paths' lengths, three for each modification, and the nodes that are
+    /// made for units. For want of memory all stays.
     pub fn edited<L: Ledger>(
         &mut self,
         alloc: Global,
@@ -225,30 +236,30 @@ impl View {
           buffers = with_tree self.old.buffers buffer tree.now;
           fresh = false;
           shown = record { units = []; pages = [] };
+          row_parts = [];
           stores = Carry buffer mods.now self.old.buffers self.old.stores (with_tree self.old.buffers buffer tree.now);
         }) }
         ensures err { OnErr result (self.new ≡ self.old) }
         ensures counted { steps.new ≤ steps.old
             + (cost_of mods.now + made (with_tree self.old.buffers buffer tree.now)) }
     {
-        unit_list_laws();
-        staying_parts_law();
-        keeping_law();
-        let _kept = self.bridges.outcome(0);
         let nothing = nothing_paged(alloc)?;
         let (after, target) = carried(
             alloc,
             &mut self.bridges,
+            self.fresh,
+            &self.units,
+            &self.hidden,
             &self.buffers,
             buffer,
             mods,
             tree,
             steps,
         )?;
+        let _kept = self.bridges.outcome(0);
         let former = move_shown(
             target,
             &self.bridges,
-            mods,
             self.fresh,
             &mut self.units,
             &mut self.hidden,
@@ -274,6 +285,8 @@ impl View {
     pub fn refresh<L: Ledger>(&mut self, alloc: Global, steps: &mut Steps<L>) -> Result<(), Memory>
         ensures fresh { OnOk result (self.new.fresh ≡ true) }
         ensures view { OnOk result (IsView self.new.buffers self.new.width self.new.height self.new.shown) }
+        ensures row_parts { OnOk result
+            (AreRowParts self.new.width beginning (units self.new.buffers) self.new.shown.units self.new.row_parts) }
         ensures stores { OnOk result (self.new.stores ≡ Fresh self.old.buffers) }
         ensures work { OnOk result (self.old.fresh ≡ false → self.new.work ≡ Bound self.old.stores) }
         ensures counted { OnOk result (self.old.fresh ≡ false → steps.new ≡ steps.old + Bound self.old.stores) }
@@ -286,6 +299,7 @@ impl View {
         ensures refused { OnErr result (IsPartlyFresh self.old.stores (Fresh self.old.buffers) self.new.stores) }
         ensures stale { OnErr result (self.new.fresh ≡ false) }
         ensures shown { OnErr result (self.new.shown ≡ self.old.shown) }
+        ensures same_rows { OnErr result (self.new.row_parts ≡ self.old.row_parts) }
         ensures same_work { OnErr result (self.new.work ≡ self.old.work) }
     {
         if self.fresh {
@@ -315,6 +329,8 @@ impl View {
     pub fn fresh(&self) -> bool
         ensures fresh { result ≡ self.now.fresh }
         ensures view { IsTrue result → IsView self.now.buffers self.now.width self.now.height self.now.shown }
+        ensures row_parts { IsTrue result →
+            AreRowParts self.now.width beginning (units self.now.buffers) self.now.shown.units self.now.row_parts }
         ensures stores { IsTrue result → self.now.stores ≡ Fresh self.now.buffers }
         ensures holds { Holds self.now.buffers self.now.stores }
     {
@@ -350,19 +366,24 @@ impl View {
         &self.paged.pages
     }
 
-    /// The line in row r, or None past the last row.
+    /// The line in row r, or None past the last row. The places of its clusters are told from `base(r)`.
     pub fn line(&self, r: u32) -> Option<&Line>
         ensures { let found = slice_get (lines_of self.now.shown.units) r in
-            MatchOption result (found ≡ None) (λ l. found ≡ Some l.now) }
+            MatchOption result (found ≡ None) (λ l. (part : List ℕ) × (slice_get self.now.row_parts r ≡ Some part)
+            × (found ≡ Some (line_under part l.now))) }
     {
         let (unit, number) = row_in(&self.paged.rows, &self.units, r)?;
-        self.units[unit].lines.all().get(number)
+        let shown = &self.units[unit];
+        let (stretch, own) = shown.line_in(number as u64);
+        shown.stretch(stretch).lines.get(own)
     }
 
-    /// The cluster that covers column c of row r, or None where nothing is drawn there.
+    /// The cluster that covers column c of row r, or None where nothing is drawn there. Its place is told from
+    /// `base(r)`.
     pub fn cell(&self, r: u32, c: u32) -> Option<&Drawn>
         ensures { let found = option_and_then (λ line. drawn_at line c) (slice_get (lines_of self.now.shown.units) r) in
-            MatchOption result (found ≡ None) (λ d. found ≡ Some d.now) }
+            MatchOption result (found ≡ None) (λ d. (part : List ℕ) × (slice_get self.now.row_parts r ≡ Some part)
+            × (found ≡ Some (drawn_under part d.now))) }
     {
         drawn_at(self.line(r)?, c)
     }
@@ -384,18 +405,23 @@ impl View {
         Some((shown.path.as_ref(), &shown.errors[number]))
     }
 
-    /// The path to which places in row r are relative, or None past the last row.
-    pub fn base(&self, r: u32) -> Option<&Path>
-        ensures { let found = option_and_then (λ p. p.0.path) (row_in self.now.shown.units r) in
-            MatchOption result (found ≡ None) (λ p. found ≡ Some p.now) }
+    /// The path from which places in row r are told, or None past the last row: that of the part that shows the row, or
+    /// that of the unit where none does.
+    pub fn base(&self, r: u32) -> Option<Base<'_>>
+        ensures { MatchOption result (slice_get (lines_of self.now.shown.units) r ≡ None)
+            (IsBase self.now.shown.units self.now.row_parts r) }
     {
-        let (unit, _) = row_in(&self.paged.rows, &self.units, r)?;
-        self.units[unit].path.as_ref()
+        let (unit, number) = row_in(&self.paged.rows, &self.units, r)?;
+        let shown = &self.units[unit];
+        let path = shown.path.as_ref()?;
+        let (stretch, _) = shown.line_in(number as u64);
+        Some(base_of(path, shown.stretch(stretch).part))
     }
 
     /// The place of the document behind column c of row r, or None past the last row or column.
     pub fn position(&self, r: u32, c: u32) -> Option<Spot<'_>>
-        ensures { result ≡ position_in self.now.shown.units self.now.width r c }
+        ensures { option_map spot_place result
+            ≡ option_map spot_place (position_in self.now.shown.units self.now.width r c) }
     {
         if c >= self.width {
             return None;
@@ -403,7 +429,7 @@ impl View {
         let (unit, number) = row_in(&self.paged.rows, &self.units, r)?;
         let shown = &self.units[unit];
         let path = shown.path.as_ref()?;
-        Some(place_in(path, shown.lines.all(), number, c))
+        Some(place_in(path, shown, number, c))
     }
 
     /// The places at which a cursor stops, of equal ones the first.

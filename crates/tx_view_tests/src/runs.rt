@@ -56,7 +56,8 @@ pub(crate) fn errors_stand(alloc: Global, view: &View) -> Option<bool> {
     for r in 0..view.rows() {
         if line_told(alloc, view, r)?.as_str().starts_with("<!") {
             let (path, _) = view.error(next)?;
-            if path?.steps() != view.base(r)?.steps() {
+            let base = view.base(r)?.path(alloc).ok()?;
+            if path?.steps() != base.steps() {
                 return Some(false);
             }
             next = next.saturating_add(1);

@@ -1,7 +1,7 @@
 // Documents, and what their views show.
 ghost use Rattle.std.specs.Prelude.{◌≡◌};
 
-use crate::told::{errors_told, near_told, pages_told, place_told, stops_told, view_of};
+use crate::told::{base_told, errors_told, near_told, pages_told, place_told, stops_told, view_of};
 use std::alloc::Global;
 use std::marker::Brand;
 use std::sync::ledger::{Blank, Ledger};
@@ -184,6 +184,27 @@ const PLACED: &[Placed] = &[
     ),
 ];
 
+// Buffers, a row, and the path from which places in it are told, or a dash past the view.
+type Based = (&'static str, u32, &'static str);
+
+const NESTED: &str =
+    "d (document (assign \"n\" \"1\") (with \"color\" \"red\" (document \"long text\" (value \"n\"))))";
+
+const BLANK: &str = "d (document (with \"color\" \"red\" (document \"\" (document) \"b\")))";
+
+const BASED: &[Based] = &[
+    (NESTED, 0, "/0"),
+    (NESTED, 1, "/1/2/0"),
+    (NESTED, 2, "/1/2/1"),
+    (NESTED, 3, "-"),
+    // a part without an item has a row, and one without a paragraph has none
+    (BLANK, 0, "/0/2/0"),
+    (BLANK, 1, "/0/2/2"),
+    (BLANK, 2, "-"),
+    // where no part has a paragraph, the row is that of the unit
+    ("d (document (with \"color\" \"red\" (document)))", 0, "/0"),
+];
+
 const STOPS: &[(&str, &str)] = &[
     ("d (document \"ab\")", "/0/0 /0/1 /0/2 "),
     (
@@ -237,6 +258,11 @@ fn is_placed<L: Ledger>(alloc: Global, row: &Placed, steps: &mut Steps<L>) -> Op
     Some(place_told(alloc, &view, r, c)?.as_str() == row.3)
 }
 
+fn is_based<L: Ledger>(alloc: Global, row: &Based, steps: &mut Steps<L>) -> Option<bool> {
+    let view = view_of(alloc, row.0, (80, 24), steps)?;
+    Some(base_told(alloc, &view, row.1)?.as_str() == row.2)
+}
+
 fn has_stops<L: Ledger>(alloc: Global, row: &(&str, &str), steps: &mut Steps<L>) -> Option<bool> {
     let view = view_of(alloc, row.0, (80, 24), steps)?;
     Some(stops_told(alloc, &view)?.as_str() == row.1)
@@ -269,6 +295,20 @@ fn not_placed<L: Ledger>(alloc: Global, blank: Blank) -> Option<usize>
     let mut steps = Steps::<L>::new(blank);
     for (i, row) in PLACED.iter().enumerate() {
         if is_placed(alloc, row, &mut steps) != Some(true) {
+            return Some(i);
+        }
+    }
+    None
+}
+
+fn not_based<L: Ledger>(alloc: Global, blank: Blank) -> Option<usize>
+    requires name { blank.name ≡ L.name }
+    requires parts { blank.parts ≡ L.parts }
+    requires whole { blank.parts ≡ 1 }
+{
+    let mut steps = Steps::<L>::new(blank);
+    for (i, row) in BASED.iter().enumerate() {
+        if is_based(alloc, row, &mut steps) != Some(true) {
             return Some(i);
         }
     }
@@ -311,6 +351,11 @@ fn pages_and_errors(rt: HostRuntime) {
 #[test]
 fn places_of_cells(rt: HostRuntime) {
     assert_eq!(rt; not_placed::<Brand>(rt.alloc(), Blank::new(1)), None);
+}
+
+#[test]
+fn bases_of_rows(rt: HostRuntime) {
+    assert_eq!(rt; not_based::<Brand>(rt.alloc(), Blank::new(1)), None);
 }
 
 #[test]

@@ -123,6 +123,17 @@ pub(crate) fn place_told(alloc: Global, view: &View, r: u32, c: u32) -> Option<S
     }
 }
 
+/// The path from which places in a row are told, or a dash past the last row.
+pub(crate) fn base_told(alloc: Global, view: &View, r: u32) -> Option<String> {
+    match view.base(r) {
+        None => Some(format!(in alloc; "-").ok()?),
+        Some(base) => {
+            let path = base.path(alloc).ok()?;
+            Some(format!(in alloc; "{path}").ok()?)
+        }
+    }
+}
+
 fn places_told(alloc: Global, places: &[Place]) -> Option<String> {
     let mut text = String::new(alloc);
     for place in places {

@@ -3,8 +3,7 @@ use Rattle.std.specs.List.{list_any}
 use Rattle.std.proofs.lemmas.List.Elements.{All-take, All-drop}
 use Rattle.tx_tree.specs.SamePlaces.{same_place}
 use Rattle.tx_view.specs.Near.{shown_stops}
-use Rattle.tx_unit_layout.specs.Views.{unit_view, IsReadable}
-use Rattle.tx_unit_layout.specs.declared.shown.Shown.{Shown}
+use Rattle.tx_unit_layout.specs.Views.{IsReadable}
 use Rattle.tx_view.proofs.Ranges.{held_nowhere, held_here, held_not_here}
 use Rattle.tx_view.proofs.around.holder.Goals as goal
 
@@ -14,9 +13,8 @@ returns-in_default c =
 
 pub has_stop-requires : goal.has_stop-requires
 has_stop-requires c =
-    All-take (λ (s : Shown). IsReadable (unit_view s)) (c.in-Some.k + 1 - c.in-Some.k)
-    (drop c.in-Some.k c.args.units.now)
-    (All-drop (λ (s : Shown). IsReadable (unit_view s)) c.in-Some.k c.args.units.now c.requires.readable)
+    All-take IsReadable (c.in-Some.k + 1 - c.in-Some.k) (drop c.in-Some.k c.args.units.now)
+    (All-drop IsReadable c.in-Some.k c.args.units.now c.requires.readable)
 
 pub returns-then-here : goal.returns-then-here
 returns-then-here c =

@@ -12,7 +12,8 @@ returns-then-has_neighbours c =
     c.in_ok-stops.stops.items (c.saturating_sub-from.result == 0) (c.min-to.result == length c.args.spots.now)
     c.requires (omega (arith, c.saturating_sub-from.ensures)) c.in_ok-stops.ensures
     (subst (λ (ps : List Place). HasNeighbours ps c.args.at.now (c.saturating_sub-from.result == 0)
-    (c.min-to.result == length c.args.spots.now)) c.deref.ensures.value (c.has_neighbours.ensures c.if-has_neighbours.true))
+    (c.min-to.result == length c.args.spots.now)) c.deref.ensures.value
+    (c.has_neighbours.ensures c.if-has_neighbours.true))
     (λ e. (Decides-eqb c.saturating_sub-from.result 0).0 e)
     (λ e. omega (
       arith,

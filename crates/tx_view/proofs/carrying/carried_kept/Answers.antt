@@ -1,14 +1,26 @@
-use Rattle.std.proofs.Common.{◌∙◌, List, ap, sym}
+use Rattle.std.proofs.Common.{◌∙◌, ℕ, List, Option, ap, sym, subst, slice_index_or, if◌then◌else◌}
 use Rattle.std.specs.Prelude.{option_and_then}
 use Rattle.tx_mod.specs.Followed.{changed_by_all}
 use Rattle.tx_units.specs.declared.kinds.Unit.{Unit as DocUnit}
 use Rattle.tx_units.specs.Units.{units}
+use Rattle.tx_walk.specs.declared.part.Part.{Part as DonePart}
 use Rattle.tx_bridge.specs.Entries.{units_of}
+use Rattle.tx_bridge.specs.MovedParts.{moves_of}
 use Rattle.tx_bridge.specs.Names.{Carry, Sources}
 use Rattle.tx_view.specs.Exchanged.{IsExchanged, exchanged_in}
+use Rattle.tx_view.specs.Laid.{ArePutBy, parts_left}
 use Rattle.tx_view.proofs.Blank.{tree_at}
-use Rattle.tx_view.proofs.Exchanging.{exchanged_units, in_place}
+use Rattle.tx_view.proofs.Exchanging.{carried_at}
+use Rattle.tx_view.proofs.OfParts.{laid_inside, left_there}
 use Rattle.tx_view.proofs.carrying.carried_kept.Goals as goal
+
+pub moved_parts-requires-clause-applies : goal.moved_parts-requires-clause-applies
+moved_parts-requires-clause-applies g c = (
+  c.args.tree.now,
+  ap (changed_by_all c.args.mods.now)
+      (sym (tree_at c.args.buffers.now c.args.buffer c.index-buffers-buffer.result c.requires.within))
+      ∙ c.requires.changed,
+)
 
 pub carry_in_place-requires-clause-applies : goal.carry_in_place-requires-clause-applies
 carry_in_place-requires-clause-applies g c = (
@@ -26,104 +38,88 @@ carried_anew-requires-clause-applies g c = (
       ∙ c.requires.changed,
 )
 
-pub returns-in_ok-carry_in_place-in-Some-clause-target : goal.returns-in_ok-carry_in_place-in-Some-clause-target
-returns-in_ok-carry_in_place-in-Some-clause-target g c =
-    let us : List DocUnit = units_of c.args.bridges.now.kept in
-    let h : IsExchanged c.in-Some.changed c.args.buffer c.args.mods.now c.args.tree.now c.in-Some.paragraph us =
-    (rw c.in-Some.is at c.in_ok-changed.ensures).0 in
-    let now = ap units c.requires.after
-    ∙ exchanged_units c.args.buffers.now c.args.buffer c.in-Some.changed c.args.mods.now c.args.tree.now
-    c.in-Some.paragraph us
-    (c.inside_law.ensures c.args.buffers.now c.in-Some.changed c.args.tree.now c.in-Some.paragraph)
-    c.requires.some h
-    c.requires.of_buffers c.requires.changed in
-    let p = in_place c.args.buffer c.in-Some.changed c.is_silent_at-silent.result c.args.mods.now _ _ c.in-Some.paragraph
-    c.args.bridges.now.kept c.carry_in_place.new.self.kept c.carry_in_place.new.self.sources (units c.args.after.now)
-    h.one.document
-    (tree_at c.args.buffers.now c.args.buffer c.index-buffers-buffer.result c.requires.within) now
-    c.in_ok-carry_in_place-in-Some.ensures.carried c.in_ok-carry_in_place-in-Some.ensures.sources
-    c.in_ok-carry_in_place-in-Some.ensures.numbers c.in_ok-carry_in_place-in-Some.ensures.units in
-    p.target
+pub parts_moved-requires : goal.parts_moved-requires
+parts_moved-requires g c =
+    let h : IsExchanged c.in-Some.changed c.args.buffer c.args.mods.now c.args.tree.now c.in-Some.paragraph
+    (units_of c.args.bridges.now.kept) = (rw c.in-Some.is at c.in_ok-changed.ensures).0 in
+    laid_inside c.requires.laid.0 c.args.bridges.now.kept c.args.bridges.now.parts
+    (if c.args.fresh then c.args.shown.now else c.args.hidden.now) c.in-Some.changed h.one.unit c.requires.laid.1
+    h.one.there
 
-pub returns-in_ok-carry_in_place-in-Some-clause-way : goal.returns-in_ok-carry_in_place-in-Some-clause-way
-returns-in_ok-carry_in_place-in-Some-clause-way g c =
+pub returns-in_ok-parts-in-Some-clause-left : goal.returns-in_ok-parts-in-Some-clause-left
+returns-in_ok-parts-in-Some-clause-left g c x at =
+    let h : IsExchanged c.in-Some.changed c.args.buffer c.args.mods.now c.args.tree.now c.in-Some.paragraph
+    (units_of c.args.bridges.now.kept) = (rw c.in-Some.is at c.in_ok-changed.ensures).0 in
+    left_there c.requires.laid.0 c.in-Some.changed c.args.buffer c.args.mods.now
+    (slice_index_or c.args.buffers.now c.args.buffer c.index-buffers-buffer.result).tree
+    c.args.bridges.now.kept c.args.bridges.now.parts (if c.args.fresh then c.args.shown.now else c.args.hidden.now)
+    c.in_ok-moved-in-Some.moved.items x c.in_ok-parts-in-Some.parts c.requires.laid.1 h.one
+    c.in_ok-moved-in-Some.ensures.moved at
+    (subst (λ (os : List (ℕ × Option DonePart)). ArePutBy (moves_of os)
+    (if c.args.fresh then c.args.shown.now else c.args.hidden.now) c.in-Some.changed c.in_ok-parts-in-Some.parts)
+    c.deref.ensures.value c.in_ok-parts-in-Some.ensures)
+    ∙ ap (λ t. parts_left c.args.mods.now t x.path x.parts)
+    (sym (tree_at c.args.buffers.now c.args.buffer c.index-buffers-buffer.result c.requires.within))
+
+pub returns-in_ok-parts-in-Some-clause-target : goal.returns-in_ok-parts-in-Some-clause-target
+returns-in_ok-parts-in-Some-clause-target g c =
+    let h : IsExchanged c.in-Some.changed c.args.buffer c.args.mods.now c.args.tree.now c.in-Some.paragraph
+    (units_of c.args.bridges.now.kept) = (rw c.in-Some.is at c.in_ok-changed.ensures).0 in
+    (carried_at c.args.buffers.now c.args.after.now c.args.buffer c.in-Some.changed c.is_silent_at-silent.result
+    c.in_ok-parts-in-Some.parts c.args.mods.now c.index-buffers-buffer.result c.args.tree.now c.in-Some.paragraph
+    c.args.bridges.now.kept c.carry_in_place.new.self.kept c.carry_in_place.new.self.sources
+    (c.inside_law.ensures c.args.buffers.now c.in-Some.changed c.args.tree.now c.in-Some.paragraph) c.requires.some
+    c.requires.within h c.requires.of_buffers c.requires.after c.requires.changed c.carry_in_place.ensures.carried
+    c.carry_in_place.ensures.sources c.carry_in_place.ensures.numbers c.carry_in_place.ensures.units).target
+
+pub returns-in_ok-parts-in-Some-clause-kept : goal.returns-in_ok-parts-in-Some-clause-kept
+returns-in_ok-parts-in-Some-clause-kept g c =
+    let h : IsExchanged c.in-Some.changed c.args.buffer c.args.mods.now c.args.tree.now c.in-Some.paragraph
+    (units_of c.args.bridges.now.kept) = (rw c.in-Some.is at c.in_ok-changed.ensures).0 in
+    (carried_at c.args.buffers.now c.args.after.now c.args.buffer c.in-Some.changed c.is_silent_at-silent.result
+    c.in_ok-parts-in-Some.parts c.args.mods.now c.index-buffers-buffer.result c.args.tree.now c.in-Some.paragraph
+    c.args.bridges.now.kept c.carry_in_place.new.self.kept c.carry_in_place.new.self.sources
+    (c.inside_law.ensures c.args.buffers.now c.in-Some.changed c.args.tree.now c.in-Some.paragraph) c.requires.some
+    c.requires.within h c.requires.of_buffers c.requires.after c.requires.changed c.carry_in_place.ensures.carried
+    c.carry_in_place.ensures.sources c.carry_in_place.ensures.numbers c.carry_in_place.ensures.units).kept_is
+
+pub returns-in_ok-parts-in-Some-clause-sources : goal.returns-in_ok-parts-in-Some-clause-sources
+returns-in_ok-parts-in-Some-clause-sources g c =
+    let h : IsExchanged c.in-Some.changed c.args.buffer c.args.mods.now c.args.tree.now c.in-Some.paragraph
+    (units_of c.args.bridges.now.kept) = (rw c.in-Some.is at c.in_ok-changed.ensures).0 in
+    (carried_at c.args.buffers.now c.args.after.now c.args.buffer c.in-Some.changed c.is_silent_at-silent.result
+    c.in_ok-parts-in-Some.parts c.args.mods.now c.index-buffers-buffer.result c.args.tree.now c.in-Some.paragraph
+    c.args.bridges.now.kept c.carry_in_place.new.self.kept c.carry_in_place.new.self.sources
+    (c.inside_law.ensures c.args.buffers.now c.in-Some.changed c.args.tree.now c.in-Some.paragraph) c.requires.some
+    c.requires.within h c.requires.of_buffers c.requires.after c.requires.changed c.carry_in_place.ensures.carried
+    c.carry_in_place.ensures.sources c.carry_in_place.ensures.numbers c.carry_in_place.ensures.units).sources
+
+pub returns-in_ok-parts-in-Some-clause-units : goal.returns-in_ok-parts-in-Some-clause-units
+returns-in_ok-parts-in-Some-clause-units g c =
+    let h : IsExchanged c.in-Some.changed c.args.buffer c.args.mods.now c.args.tree.now c.in-Some.paragraph
+    (units_of c.args.bridges.now.kept) = (rw c.in-Some.is at c.in_ok-changed.ensures).0 in
+    (carried_at c.args.buffers.now c.args.after.now c.args.buffer c.in-Some.changed c.is_silent_at-silent.result
+    c.in_ok-parts-in-Some.parts c.args.mods.now c.index-buffers-buffer.result c.args.tree.now c.in-Some.paragraph
+    c.args.bridges.now.kept c.carry_in_place.new.self.kept c.carry_in_place.new.self.sources
+    (c.inside_law.ensures c.args.buffers.now c.in-Some.changed c.args.tree.now c.in-Some.paragraph) c.requires.some
+    c.requires.within h c.requires.of_buffers c.requires.after c.requires.changed c.carry_in_place.ensures.carried
+    c.carry_in_place.ensures.sources c.carry_in_place.ensures.numbers c.carry_in_place.ensures.units).units_are
+
+pub returns-in_ok-parts-in-Some-clause-way : goal.returns-in_ok-parts-in-Some-clause-way
+returns-in_ok-parts-in-Some-clause-way g c =
     let us : List DocUnit = units_of c.args.bridges.now.kept in
-    let h : IsExchanged c.in-Some.changed c.args.buffer c.args.mods.now c.args.tree.now c.in-Some.paragraph us =
-    (rw c.in-Some.is at c.in_ok-changed.ensures).0 in
-    let now = ap units c.requires.after
-    ∙ exchanged_units c.args.buffers.now c.args.buffer c.in-Some.changed c.args.mods.now c.args.tree.now
-    c.in-Some.paragraph us
-    (c.inside_law.ensures c.args.buffers.now c.in-Some.changed c.args.tree.now c.in-Some.paragraph)
-    c.requires.some h
-    c.requires.of_buffers c.requires.changed in
-    let p = in_place c.args.buffer c.in-Some.changed c.is_silent_at-silent.result c.args.mods.now _ _ c.in-Some.paragraph
-    c.args.bridges.now.kept c.carry_in_place.new.self.kept c.carry_in_place.new.self.sources (units c.args.after.now)
-    h.one.document
-    (tree_at c.args.buffers.now c.args.buffer c.index-buffers-buffer.result c.requires.within) now
-    c.in_ok-carry_in_place-in-Some.ensures.carried c.in_ok-carry_in_place-in-Some.ensures.sources
-    c.in_ok-carry_in_place-in-Some.ensures.numbers c.in_ok-carry_in_place-in-Some.ensures.units in (
+    let h : IsExchanged c.in-Some.changed c.args.buffer c.args.mods.now c.args.tree.now c.in-Some.paragraph
+    (units_of c.args.bridges.now.kept) = (rw c.in-Some.is at c.in_ok-changed.ensures).0 in (
       ap (option_and_then (λ t. exchanged_in c.args.buffer c.args.mods.now t us)) c.requires.changed
           ∙ (rw c.in-Some.is at c.in_ok-changed.ensures).1,
       h.one,
-      p.same_trees,
+      (carried_at c.args.buffers.now c.args.after.now c.args.buffer c.in-Some.changed c.is_silent_at-silent.result
+          c.in_ok-parts-in-Some.parts c.args.mods.now c.index-buffers-buffer.result c.args.tree.now c.in-Some.paragraph
+          c.args.bridges.now.kept c.carry_in_place.new.self.kept c.carry_in_place.new.self.sources
+          (c.inside_law.ensures c.args.buffers.now c.in-Some.changed c.args.tree.now c.in-Some.paragraph) c.requires.some
+          c.requires.within h c.requires.of_buffers c.requires.after c.requires.changed c.carry_in_place.ensures.carried
+          c.carry_in_place.ensures.sources c.carry_in_place.ensures.numbers c.carry_in_place.ensures.units).same_trees,
     )
-
-pub returns-in_ok-carry_in_place-in-Some-clause-kept : goal.returns-in_ok-carry_in_place-in-Some-clause-kept
-returns-in_ok-carry_in_place-in-Some-clause-kept g c =
-    let us : List DocUnit = units_of c.args.bridges.now.kept in
-    let h : IsExchanged c.in-Some.changed c.args.buffer c.args.mods.now c.args.tree.now c.in-Some.paragraph us =
-    (rw c.in-Some.is at c.in_ok-changed.ensures).0 in
-    let now = ap units c.requires.after
-    ∙ exchanged_units c.args.buffers.now c.args.buffer c.in-Some.changed c.args.mods.now c.args.tree.now
-    c.in-Some.paragraph us
-    (c.inside_law.ensures c.args.buffers.now c.in-Some.changed c.args.tree.now c.in-Some.paragraph)
-    c.requires.some h
-    c.requires.of_buffers c.requires.changed in
-    let p = in_place c.args.buffer c.in-Some.changed c.is_silent_at-silent.result c.args.mods.now _ _ c.in-Some.paragraph
-    c.args.bridges.now.kept c.carry_in_place.new.self.kept c.carry_in_place.new.self.sources (units c.args.after.now)
-    h.one.document
-    (tree_at c.args.buffers.now c.args.buffer c.index-buffers-buffer.result c.requires.within) now
-    c.in_ok-carry_in_place-in-Some.ensures.carried c.in_ok-carry_in_place-in-Some.ensures.sources
-    c.in_ok-carry_in_place-in-Some.ensures.numbers c.in_ok-carry_in_place-in-Some.ensures.units in
-    p.kept_is
-
-pub returns-in_ok-carry_in_place-in-Some-clause-sources : goal.returns-in_ok-carry_in_place-in-Some-clause-sources
-returns-in_ok-carry_in_place-in-Some-clause-sources g c =
-    let us : List DocUnit = units_of c.args.bridges.now.kept in
-    let h : IsExchanged c.in-Some.changed c.args.buffer c.args.mods.now c.args.tree.now c.in-Some.paragraph us =
-    (rw c.in-Some.is at c.in_ok-changed.ensures).0 in
-    let now = ap units c.requires.after
-    ∙ exchanged_units c.args.buffers.now c.args.buffer c.in-Some.changed c.args.mods.now c.args.tree.now
-    c.in-Some.paragraph us
-    (c.inside_law.ensures c.args.buffers.now c.in-Some.changed c.args.tree.now c.in-Some.paragraph)
-    c.requires.some h
-    c.requires.of_buffers c.requires.changed in
-    let p = in_place c.args.buffer c.in-Some.changed c.is_silent_at-silent.result c.args.mods.now _ _ c.in-Some.paragraph
-    c.args.bridges.now.kept c.carry_in_place.new.self.kept c.carry_in_place.new.self.sources (units c.args.after.now)
-    h.one.document
-    (tree_at c.args.buffers.now c.args.buffer c.index-buffers-buffer.result c.requires.within) now
-    c.in_ok-carry_in_place-in-Some.ensures.carried c.in_ok-carry_in_place-in-Some.ensures.sources
-    c.in_ok-carry_in_place-in-Some.ensures.numbers c.in_ok-carry_in_place-in-Some.ensures.units in
-    p.sources
-
-pub returns-in_ok-carry_in_place-in-Some-clause-units : goal.returns-in_ok-carry_in_place-in-Some-clause-units
-returns-in_ok-carry_in_place-in-Some-clause-units g c =
-    let us : List DocUnit = units_of c.args.bridges.now.kept in
-    let h : IsExchanged c.in-Some.changed c.args.buffer c.args.mods.now c.args.tree.now c.in-Some.paragraph us =
-    (rw c.in-Some.is at c.in_ok-changed.ensures).0 in
-    let now = ap units c.requires.after
-    ∙ exchanged_units c.args.buffers.now c.args.buffer c.in-Some.changed c.args.mods.now c.args.tree.now
-    c.in-Some.paragraph us
-    (c.inside_law.ensures c.args.buffers.now c.in-Some.changed c.args.tree.now c.in-Some.paragraph)
-    c.requires.some h
-    c.requires.of_buffers c.requires.changed in
-    let p = in_place c.args.buffer c.in-Some.changed c.is_silent_at-silent.result c.args.mods.now _ _ c.in-Some.paragraph
-    c.args.bridges.now.kept c.carry_in_place.new.self.kept c.carry_in_place.new.self.sources (units c.args.after.now)
-    h.one.document
-    (tree_at c.args.buffers.now c.args.buffer c.index-buffers-buffer.result c.requires.within) now
-    c.in_ok-carry_in_place-in-Some.ensures.carried c.in_ok-carry_in_place-in-Some.ensures.sources
-    c.in_ok-carry_in_place-in-Some.ensures.numbers c.in_ok-carry_in_place-in-Some.ensures.units in
-    p.units_are
 
 pub returns-in_ok-carried_anew-in-None-clause-kept : goal.returns-in_ok-carried_anew-in-None-clause-kept
 returns-in_ok-carried_anew-in-None-clause-kept g c =

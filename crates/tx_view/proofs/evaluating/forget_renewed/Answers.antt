@@ -14,8 +14,8 @@ loop-i-preserved c = record {
       ∙ c.loop-i.invariant.shown;
   alone =
       alone_next c.args.lone c.loop-i.i c.args.bridges.now.renewed c.loop-i.alone c.still_alone-alone.result
-      c.renewed-renewed.result c.loop-i.invariant.alone c.still_alone-alone.ensures.before c.still_alone-alone.ensures.here
-      c.renewed-renewed.ensures;
+      c.renewed-renewed.result c.loop-i.invariant.alone c.still_alone-alone.ensures.before
+      c.still_alone-alone.ensures.here c.renewed-renewed.ensures;
 }
 
 pub returns-clause-shown : goal.returns-clause-shown

@@ -3,8 +3,7 @@ use Rattle.std.proofs.lemmas.List.Elements.{All-set}
 use Rattle.tx_view_form.specs.Outcomes.{Moment, beginning, env_behind}
 use Rattle.tx_view_form.specs.Started.{attributes_of}
 use Rattle.tx_bridge.specs.Entries.{units_of}
-use Rattle.tx_unit_layout.specs.declared.shown.Shown.{Shown}
-use Rattle.tx_unit_layout.specs.Views.{unit_view, IsReadable}
+use Rattle.tx_unit_layout.specs.Views.{IsReadable}
 use Rattle.tx_view.specs.Laid.{laid_in}
 use Rattle.tx_view.specs.Stores.{attributes_from}
 use Rattle.tx_view.proofs.Onward.{begun, ended, HasUnit, inside_kept, laid_here, laid_many, next_all, parts_are}
@@ -54,7 +53,7 @@ lay_next-requires-clause-few g c =
 
 pub returns-in_err-more-clause-readable : goal.returns-in_err-more-clause-readable
 returns-in_err-more-clause-readable g c =
-    All-set (λ (s : Shown). IsReadable (unit_view s)) c.loop-i.units c.loop-i.i c.lay_next.new.shown
+    All-set IsReadable c.loop-i.units c.loop-i.i c.lay_next.new.shown
     c.in_err-more.ensures.readable c.loop-i.invariant.onward.readable
 
 pub overflow_add-items : goal.overflow_add-items

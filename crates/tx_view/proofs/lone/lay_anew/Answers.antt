@@ -11,8 +11,8 @@ use Rattle.tx_view.proofs.lone.lay_anew.Goals as goal
 pub returns-clause-most : goal.returns-clause-most
 returns-clause-most g c =
     let v = value_of (wide_outcome c.args.outcome.now) in
-    let ps = paragraphs_at c.args.unit.now.path c.args.attrs v in
-    let few : items_in ps ≤ weight_of (shown_paragraphs c.args.attrs v) =
-    few_items ps c.args.unit.now.path c.args.attrs v refl
-    (c.weight_laws.ensures.items (shown_paragraphs c.args.attrs v)) in
-    omega (arith, c.in_ok-items.ensures.within, few, c.outcome_weight_law.ensures c.args.attrs, c.requires.small)
+    let ps = paragraphs_at c.args.unit.now.path c.in_ok-attrs.attrs v in
+    let few : items_in ps ≤ weight_of (shown_paragraphs c.in_ok-attrs.attrs v) =
+    few_items ps c.args.unit.now.path c.in_ok-attrs.attrs v refl
+    (c.weight_laws.ensures.items (shown_paragraphs c.in_ok-attrs.attrs v)) in
+    omega (arith, c.in_ok-items.ensures.within, few, c.outcome_weight_law.ensures c.in_ok-attrs.attrs, c.requires.small)

@@ -11,6 +11,11 @@ use Rattle.tx_view.proofs.paging.paged.Goals as goal
 
 pub tell-requires : goal.tell-requires
 tell-requires c = record {
+  begun = (
+    lines_of (unit_views (take c.loop-unit.unit-index c.args.units.now)),
+    c.args.height,
+    c.loop-unit.invariant,
+  );
   few =
       omega (
         arith,

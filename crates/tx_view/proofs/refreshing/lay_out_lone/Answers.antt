@@ -35,7 +35,7 @@ pub is_alone_quietly-quiet-requires : goal.is_alone_quietly-quiet-requires
 is_alone_quietly-quiet-requires g c =
     omega (
       arith,
-      laid_within c.args.units.now c.args.unit None c.requires.lone.nothing_laid,
+      laid_within c.args.units.now c.args.lone.now.unit None c.requires.lone.nothing_laid,
       laid_many c.args.width c.args.bridges.now.kept c.args.bridges.now.parts c.args.units.now c.requires.laid,
       c.requires.few,
     )
@@ -54,8 +54,8 @@ lay_if-requires-clause-fresh g c =
 
 pub lay_if-requires-clause-nothing_laid : goal.lay_if-requires-clause-nothing_laid
 lay_if-requires-clause-nothing_laid g c = λ quiet.
-    (ready_is c.args.unit c.args.bridges.now.kept c.evaluate.new.bridges.kept c.evaluate.new.bridges.renewed
-    c.args.units.now c.evaluate.new.units c.args.attrs.now (c.is_alone_quietly-quiet.ensures.quiet quiet)
+    (ready_is c.args.lone.now.unit c.args.bridges.now.kept c.evaluate.new.bridges.kept c.evaluate.new.bridges.renewed
+    c.args.units.now c.evaluate.new.units c.args.lone.now.attrs (c.is_alone_quietly-quiet.ensures.quiet quiet)
     c.requires.lone (c.in_ok-charges.ensures.alone (c.is_alone_quietly-quiet.ensures.alone quiet))
     (laid_many c.args.width c.args.bridges.now.kept c.args.bridges.now.parts c.args.units.now c.requires.laid)
     c.in_ok-charges.ensures.units
@@ -64,8 +64,8 @@ lay_if-requires-clause-nothing_laid g c = λ quiet.
 
 pub lay_if-requires-clause-attributes : goal.lay_if-requires-clause-attributes
 lay_if-requires-clause-attributes g c = λ quiet.
-    (ready_is c.args.unit c.args.bridges.now.kept c.evaluate.new.bridges.kept c.evaluate.new.bridges.renewed
-    c.args.units.now c.evaluate.new.units c.args.attrs.now (c.is_alone_quietly-quiet.ensures.quiet quiet)
+    (ready_is c.args.lone.now.unit c.args.bridges.now.kept c.evaluate.new.bridges.kept c.evaluate.new.bridges.renewed
+    c.args.units.now c.evaluate.new.units c.args.lone.now.attrs (c.is_alone_quietly-quiet.ensures.quiet quiet)
     c.requires.lone (c.in_ok-charges.ensures.alone (c.is_alone_quietly-quiet.ensures.alone quiet))
     (laid_many c.args.width c.args.bridges.now.kept c.args.bridges.now.parts c.args.units.now c.requires.laid)
     c.in_ok-charges.ensures.units
@@ -90,9 +90,9 @@ pub returns-then-alike-clause-pages : goal.returns-then-alike-clause-pages
 returns-then-alike-clause-pages g c = λ _.
     let alone = c.in_ok-charges.ensures.alone (c.is_alone_quietly-quiet.ensures.alone
     (c.in_ok-items.ensures.quiet c.if-alike.true)) in
-    subst (λ (xs : List Shown). KeepPages xs c.lay_if.new.units)
+    subst (λ (xs : List Shown). KeepPages c.args.lone.now xs c.lay_if.new.units)
     (c.in_ok-charges.ensures.shown
-    ∙ without_alone c.args.unit c.evaluate.new.bridges.renewed c.args.units.now alone.no_flag
+    ∙ without_alone c.args.lone.now.unit c.evaluate.new.bridges.renewed c.args.units.now alone.no_flag
     c.requires.lone.nothing_laid) (c.in_ok-items.ensures.pages c.if-alike.true)
 
 pub returns-then-alike-clause-work : goal.returns-then-alike-clause-work

@@ -1,8 +1,11 @@
 use Rattle.std.proofs.Common.{◌≡◌, ◌++◌, take}
-use Rattle.tx_view_form.specs.Positions.{marks_of}
+use Rattle.std.specs.Prelude.{option_copied}
+use Rattle.tx_unit_layout.specs.Stretches.{part_or_root}
 use Rattle.tx_view.specs.Marks.{stops_on, spot_places}
+use Rattle.tx_view.proofs.Finding.{marks_under}
 use Rattle.tx_view.proofs.spots.add_items.Given as goal
 
 abbrev pub invariant-loop-item : goal.invariant-loop-item
 invariant-loop-item l =
-    spot_places l.spots.items ≡ spot_places l.fn.spots.items ++ stops_on l.path (marks_of (take l.item-index l.items))
+    spot_places l.spots.items ≡ spot_places l.fn.spots.items
+    ++ stops_on l.path (marks_under (part_or_root (option_copied l.part)) (take l.item-index l.items))

@@ -2,7 +2,7 @@ use Rattle.std.proofs.Common.{◌∙◌, List, [], length, false, ap, refl, sym,
 use Rattle.std.specs.Prelude.{map}
 use Rattle.tx_doc.specs.Buffers.{tree_of, with_tree}
 use Rattle.tx_doc.specs.declared.buffer.Buffer.{Buffer}
-use Rattle.tx_units.specs.Units.{units, made}
+use Rattle.tx_units.specs.Units.{units}
 use Rattle.tx_bridge.specs.Carrying.{had}
 use Rattle.tx_bridge.specs.Entries.{Kept, units_of}
 use Rattle.tx_bridge.specs.Names.{Sources, Carry as CarryKept}
@@ -14,37 +14,29 @@ use Rattle.tx_view.specs.Laid.{laid_in, laid_parts_in}
 use Rattle.tx_view.specs.Names.{Carry}
 use Rattle.tx_view.specs.WholeViews.{WholeView, whole_of, stores_of, all_of}
 use Rattle.tx_view.proofs.Blank.{many_with}
-use Rattle.tx_view.proofs.Editing.{edit_of}
-use Rattle.tx_view.proofs.Staying.{carried_by, inside_by}
+use Rattle.tx_view.proofs.Staying.{carried_by, left_of}
 use Rattle.tx_view.proofs.Lasting.{left_by}
 use Rattle.tx_view.proofs.Standing.{stale, stale_view}
 use Rattle.tx_view.proofs.view.View.edited.Goals as goal
 
-pub move_shown-former-requires-clause-inside : goal.move_shown-former-requires-clause-inside
-move_shown-former-requires-clause-inside g c =
-    let bs : List Buffer = c.deref.result.now in
-    inside_by c.self.inside.width c.args.buffer c.args.mods.now (tree_of bs c.args.buffer) c.self.inside.bridges.kept
-    c.self.inside.bridges.parts (all_of c.self.inside) c.in_ok-after.target c.carried.new.bridges.sources
-    (units (with_tree bs c.args.buffer c.args.tree.now)) c.self.invariant.laid c.in_ok-after.ensures.way
-
 pub invariant_of-self-2 : goal.invariant_of-self-2
 invariant_of-self-2 g c =
-    let bs : List Buffer = c.deref.result.now in
+    let bs : List Buffer = c.deref-3.result.now in
     let after : List Buffer = with_tree bs c.args.buffer c.args.tree.now in
     let kept : Kept = c.self.inside.bridges.kept in
     let olds : List Shown = all_of c.self.inside in
     let ss = c.carried.new.bridges.sources in
-    let edit = edit_of c.args.buffer c.args.mods.now bs c.self.inside c.args.self.now c.args.tree.now
-    c.keeping_law.ensures c.staying_parts_law.ensures c.unit_list_laws.ensures.stand c.deref.ensures.value
-    c.self.view_is c.requires.changed c.self.invariant.of_buffers c.outcome-kept.ensures.parts_hold in
+    let left = left_of c.args.mods.now (tree_of bs c.args.buffer) c.in_ok-after.target c.self.inside.fresh
+    c.deref.result.now c.deref-2.result.now c.self.inside.units.items c.self.inside.hidden.items c.deref.ensures.value
+    c.deref-2.ensures.value c.in_ok-after.ensures.left in
     let on = carried_by c.self.inside.width c.args.buffer c.args.mods.now (tree_of bs c.args.buffer) kept
     c.carried.new.bridges.kept c.self.inside.bridges.parts c.carried.new.bridges.parts olds
     c.move_shown-former.new.hidden.items c.in_ok-after.target ss (units after) c.self.invariant.laid
-    c.self.invariant.all_readable edit c.in_ok-after.ensures.kept c.in_ok-after.ensures.parts
-    c.in_ok-after.ensures.sources c.in_ok-after.ensures.target c.in_ok-after.ensures.way
-    c.move_shown-former.ensures.moved in
+    c.self.invariant.all_readable c.outcome-kept.ensures.parts_hold c.in_ok-after.ensures.kept
+    c.in_ok-after.ensures.parts c.in_ok-after.ensures.sources c.in_ok-after.ensures.target
+    c.in_ok-after.ensures.way left c.move_shown-former.ensures.moved in
     let many = ap length c.in_ok-after.ensures.buffers ∙ many_with bs c.args.buffer c.args.tree.now
-    ∙ ap length c.deref.ensures.value in
+    ∙ ap length c.deref-3.ensures.value in
     stale _ (record {
       some = omega (arith, many, c.self.invariant.some);
       few = omega (arith, many, c.self.invariant.few);
@@ -66,20 +58,20 @@ invariant_of-self-2 g c =
 pub returns-clause-ok : goal.returns-clause-ok
 unfolding Carry
 returns-clause-ok g c =
-    let bs : List Buffer = c.deref.result.now in
+    let bs : List Buffer = c.deref-3.result.now in
     let after : List Buffer = with_tree bs c.args.buffer c.args.tree.now in
     let kept : Kept = c.self.inside.bridges.kept in
     let olds : List Shown = all_of c.self.inside in
     let ss = c.carried.new.bridges.sources in
-    let edit = edit_of c.args.buffer c.args.mods.now bs c.self.inside c.args.self.now c.args.tree.now
-    c.keeping_law.ensures c.staying_parts_law.ensures c.unit_list_laws.ensures.stand c.deref.ensures.value
-    c.self.view_is c.requires.changed c.self.invariant.of_buffers c.outcome-kept.ensures.parts_hold in
+    let left = left_of c.args.mods.now (tree_of bs c.args.buffer) c.in_ok-after.target c.self.inside.fresh
+    c.deref.result.now c.deref-2.result.now c.self.inside.units.items c.self.inside.hidden.items c.deref.ensures.value
+    c.deref-2.ensures.value c.in_ok-after.ensures.left in
     let on = carried_by c.self.inside.width c.args.buffer c.args.mods.now (tree_of bs c.args.buffer) kept
     c.carried.new.bridges.kept c.self.inside.bridges.parts c.carried.new.bridges.parts olds
     c.move_shown-former.new.hidden.items c.in_ok-after.target ss (units after) c.self.invariant.laid
-    c.self.invariant.all_readable edit c.in_ok-after.ensures.kept c.in_ok-after.ensures.parts
-    c.in_ok-after.ensures.sources c.in_ok-after.ensures.target c.in_ok-after.ensures.way
-    c.move_shown-former.ensures.moved in
+    c.self.invariant.all_readable c.outcome-kept.ensures.parts_hold c.in_ok-after.ensures.kept
+    c.in_ok-after.ensures.parts c.in_ok-after.ensures.sources c.in_ok-after.ensures.target
+    c.in_ok-after.ensures.way left c.move_shown-former.ensures.moved in
     let v : Inside = record {
       buffers = c.in_ok-after.after;
       width = c.self.inside.width;
@@ -112,22 +104,15 @@ returns-clause-ok g c =
       buffers = with_tree cs c.args.buffer c.args.tree.now;
       fresh = false;
       shown = record { units = []; pages = [] };
+      row_parts = [];
       stores = Carry c.args.buffer c.args.mods.now cs (stores_of c.self.inside)
           (with_tree cs c.args.buffer c.args.tree.now);
-    }) c.deref.ensures.value
+    }) c.deref-3.ensures.value
     ∙ ap (λ (w : WholeView). record w {
       buffers = with_tree w.buffers c.args.buffer c.args.tree.now;
       fresh = false;
       shown = record { units = []; pages = [] };
+      row_parts = [];
       stores = Carry c.args.buffer c.args.mods.now w.buffers w.stores
           (with_tree w.buffers c.args.buffer c.args.tree.now);
     }) c.self.view_is
-
-pub returns-clause-counted : goal.returns-clause-counted
-returns-clause-counted g c =
-    omega (
-      arith,
-      c.in_ok-after.ensures.counted,
-      ap (λ (cs : List Buffer). made (with_tree cs c.args.buffer c.args.tree.now))
-          (c.deref.ensures.value ∙ ap (λ (w : WholeView). w.buffers) c.self.view_is),
-    )

@@ -1,5 +1,6 @@
 use Rattle.std.proofs.lemmas.List.{take_at}
 use Rattle.std.proofs.Common.{◌≡◌, ◌∙◌, List, [], length, ap, refl, subst, sym, rules}
+use Rattle.std.specs.List.{All}
 use Rattle.std.specs.Vec.{with_items}
 use Rattle.tx_doc.specs.declared.buffer.Buffer.{Buffer}
 use Rattle.tx_units.specs.Units.{units}
@@ -10,7 +11,9 @@ use Rattle.tx_view.specs.declared.view.View.TheInside.{Inside}
 use Rattle.tx_view.specs.Laid.{AreLaid, laid_in, laid_parts_in}
 use Rattle.tx_view.specs.Lone.{IsPaged}
 use Rattle.tx_view.specs.Names.{Fresh}
-use Rattle.tx_view.specs.Units.{unit_views, sums_from, row_counts, error_counts, AreAllApart}
+use Rattle.tx_view.specs.RowParts.{AreRowParts}
+use Rattle.tx_view.specs.Rows.{row_parts}
+use Rattle.tx_view.specs.Units.{unit_views, sums_from, row_counts, error_counts, IsBelow, AreAllApart}
 use Rattle.tx_view.proofs.Forgetting.{AllReadable}
 use Rattle.tx_view.proofs.Standing.{stale, left_none, standing, stores_with}
 use Rattle.tx_view.proofs.view.View.refresh.Goals as goal
@@ -63,6 +66,10 @@ invariant_of-self-2 g c =
     AreShown c.self.inside.width beginning (units c.self.inside.buffers.items) (unit_views xs)) now
     (subst (λ (bs : List Buffer). AreShown c.self.inside.width beginning (units bs) (unit_views c.made_anew.new.all))
     same c.in_ok-paged.ensures.shown))
+    (subst (λ (xs : List Shown). AreRowParts c.self.inside.width beginning (units c.self.inside.buffers.items)
+    (unit_views xs) (row_parts xs)) now
+    (subst (λ (bs : List Buffer). AreRowParts c.self.inside.width beginning (units bs)
+    (unit_views c.made_anew.new.all) (row_parts c.made_anew.new.all)) same c.in_ok-paged.ensures.row_parts))
     (subst (λ (xs : List Shown). IsPaged c.self.inside.height (unit_views xs) c.in_ok-paged.paged) now
     c.in_ok-paged.ensures.paged)
     (ap (λ (xs : List Shown). stores_with c.made_anew.new.bridges.kept c.made_anew.new.bridges.parts (laid_in xs)
@@ -72,4 +79,5 @@ invariant_of-self-2 g c =
     (subst (λ (xs : List Shown). AreLaid c.self.inside.width c.made_anew.new.bridges.kept
     c.made_anew.new.bridges.parts xs) now
     c.in_ok-paged.ensures.laid)
-    (subst AllReadable now c.in_ok-paged.ensures.readable) c.replace-lone.ensures.after
+    (subst AllReadable now c.in_ok-paged.ensures.readable)
+    (subst (λ (xs : List Shown). All IsBelow xs) now c.in_ok-paged.ensures.below) c.replace-lone.ensures.after
