@@ -2,3 +2,4 @@ pub mod Adding
 pub mod Ranges
 pub mod Running
 pub mod Wording
+mod Deeper

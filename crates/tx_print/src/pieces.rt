@@ -49,11 +49,11 @@ pub(crate) fn push_step<O: Sink>(printer: &mut Printer, number: u32, out: &mut O
     push_number(printer, number, out);
 }
 
-/// Prints a slash and a number for each number of a path.
-pub(crate) fn push_steps<O: Sink>(printer: &mut Printer, path: &Path, out: &mut O)
-    ensures { Adds (numbers_text path.now) printer.old (O.seen out.old) printer.new (O.seen out.new) }
+/// Prints a slash and a number for each of these numbers of a path.
+pub(crate) fn push_steps<O: Sink>(printer: &mut Printer, steps: &[u32], out: &mut O)
+    ensures { Adds (numbers_text steps.now) printer.old (O.seen out.old) printer.new (O.seen out.new) }
 {
-    for number in path.steps() {
+    for number in steps {
         push_step(printer, *number, out);
     }
 }
@@ -65,7 +65,7 @@ pub(crate) fn push_path<O: Sink>(printer: &mut Printer, path: &Path, out: &mut O
     if path.steps().is_empty() {
         printer.push(b"/", out);
     } else {
-        push_steps(printer, path, out);
+        push_steps(printer, path.steps(), out);
     }
 }
 

@@ -9,7 +9,7 @@ ghost use Rattle.tx_print.specs.Writing.{IsPrinted};
 
 use crate::pieces::{push_number, push_numbered, push_step, push_steps};
 use crate::printer::Printer;
-use tx_origin::{Ip, Spot};
+use tx_origin::{Base, Ip, Spot};
 use tx_outside::{Sink, WriteFault};
 use tx_tree::Place;
 use tx_view::View;
@@ -42,6 +42,15 @@ fn push_origin<O: Sink>(printer: &mut Printer, origin: &Ip, out: &mut O)
     }
 }
 
+// Prints a slash and a number for each number of a path that is lent in two pieces.
+fn push_base<O: Sink>(printer: &mut Printer, base: &Base<'_>, out: &mut O)
+    ensures { Adds (numbers_text base.now) printer.old (O.seen out.old) printer.new (O.seen out.new) }
+{
+    let (front, below) = base.pieces();
+    push_steps(printer, front, out);
+    push_steps(printer, below, out);
+}
+
 // Prints a slash and the offset of a place, which ends its line.
 fn push_offset<O: Sink>(printer: &mut Printer, offset: u32, out: &mut O)
     ensures { Adds (line (47 ∷ decimal offset)) printer.old (O.seen out.old) printer.new (O.seen out.new) }
@@ -54,7 +63,7 @@ fn push_spot<O: Sink>(printer: &mut Printer, spot: &Spot<'_>, out: &mut O)
     ensures { Adds (line (place_text (whole_path spot.now) spot.now.offset))
         printer.old (O.seen out.old) printer.new (O.seen out.new) }
 {
-    push_steps(printer, spot.base(), out);
+    push_base(printer, spot.base(), out);
     match spot.origin() {
         Some(origin) => {
             push_origin(printer, origin, out);
@@ -90,7 +99,7 @@ fn push_place<O: Sink>(printer: &mut Printer, place: &Place, out: &mut O)
     ensures { Adds (line (place_text place.now.path place.now.offset)) printer.old (O.seen out.old)
         printer.new (O.seen out.new) }
 {
-    push_steps(printer, &place.path, out);
+    push_steps(printer, place.path.steps(), out);
     push_offset(printer, place.offset, out);
 }
 

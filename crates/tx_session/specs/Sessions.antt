@@ -38,6 +38,7 @@ view_with v p =
       buffers = buffers;
       fresh = false;
       shown = record { units = []; pages = [] };
+      row_parts = [];
       stores = Carry p.buffer p.mods v.buffers v.stores buffers;
     }
 

@@ -8,7 +8,7 @@ use Rattle.tx_print.proofs.pieces.push_steps.Goals as goal
 
 pub loop-number-preserved : goal.loop-number-preserved
 loop-number-preserved g c =
-    let numbers = c.steps-number-items.result.now in
+    let numbers = c.args.steps.now in
     let i = c.loop-number.number-index in
     adds_also (flat_more (λ i. 47 ∷ decimal i) (take i numbers) _
     ∙ ap (flat_map (λ i. 47 ∷ decimal i)) (sym (take_more numbers i 0 c.loop-number-test.true)))

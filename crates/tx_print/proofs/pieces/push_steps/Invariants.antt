@@ -5,5 +5,5 @@ use Rattle.tx_print.proofs.pieces.push_steps.Given as goal
 
 abbrev pub invariant-loop-number : goal.invariant-loop-number
 invariant-loop-number g l =
-    Adds (numbers_text (take l.number-index l.number-items)) l.fn.printer (g.O.Sink.seen l.fn.out)
+    Adds (numbers_text (take l.number-index l.steps)) l.fn.printer (g.O.Sink.seen l.fn.out)
     l.printer (g.O.Sink.seen l.out)
