@@ -143,38 +143,6 @@ fn rest_behind(alloc: Global, front: &Path, path: &Path) -> Option<Option<Path>>
     Some(Some(rest))
 }
 
-// Whether a modification at this path adds or takes away something before or at the path's next step.
-fn moves(path: &Path, at: &Path, from: u32) -> bool {
-    match path.steps().get(at.steps().len()) {
-        None => true,
-        Some(step) => begins(at, path) && *step >= from,
-    }
-}
-
-// Whether the modification, which is of this tree, leaves the subtree at the path in its place.
-fn is_left_by_one(alloc: Global, tree: &Tree, m: &Mod, path: &Path) -> Option<bool> {
-    let Some(next) = behind_one(alloc, tree, m, path)? else {
-        return Some(false);
-    };
-    let still = next.steps() == path.steps();
-    match m {
-        Mod::Insert(at, i, _) | Mod::Remove(at, i, _) if begins(at, path) => {
-            Some(still && !moves(path, at, *i))
-        }
-        _ => Some(still),
-    }
-}
-
-// Whether each modification of the change leaves it there.
-fn is_left(alloc: Global, change: &Change, trees: &[Tree], path: &Path) -> Option<bool> {
-    for (i, m) in change.mods.as_slice().iter().enumerate() {
-        if !is_left_by_one(alloc, trees.get(i)?, m, path)? {
-            return Some(false);
-        }
-    }
-    Some(true)
-}
-
 // The path in the document of a part of the paragraph at this path.
 fn whole_path(alloc: Global, front: &Path, part: &Part) -> Option<Path> {
     let mut path = front.copy(alloc).ok()?;
@@ -199,7 +167,7 @@ fn part_behind(
     }
 }
 
-// The parts that stay in the paragraph that changes. One that was moved isn't laid out any more.
+// The parts that stay in the paragraph that changes, each at the path where it stands then.
 pub(crate) fn parts_behind(
     alloc: Global,
     change: &Change,
@@ -210,11 +178,7 @@ pub(crate) fn parts_behind(
     let front = unit.path.as_ref()?;
     let mut all = Vec::new(alloc);
     for mut part in parts {
-        let at = whole_path(alloc, front, &part)?;
         if let Some(path) = part_behind(alloc, change, trees, front, &part)? {
-            if !is_left(alloc, change, trees, &at)? {
-                part.laid = None;
-            }
             part.path = path;
             all.push(part).ok()?;
         }
