@@ -61,8 +61,8 @@ const ROWS: &[Row] = &[
     ),
     // a style, an initial environment, and the document
     (
-        "d (document (style \"s\") (initial (collection (associate \"k\" \"v\"))) (body (document \"a\" (value \"n\"))));s \
-            (document (assign \"n\" \"1\"))",
+        "d (document (style \"s\") (initial (collection (associate \"k\" \"v\"))) (body (document \"a\" \
+            (value \"n\"))));s (document (assign \"n\" \"1\"))",
         &[
             (1, "assign /0/1 \"2\"", "x..x"),
             (1, "insert / 0 (tuple \"a\")", "xxx.."),

@@ -19,8 +19,8 @@ use Rattle.tx_cmd.specs.Pieces.{tree_is_last}
 abbrev all_words : List Word
 all_words =
     Change Assign ∷ Change Insert ∷ Change Remove ∷ Change Split ∷ Change Join ∷ Change AssignNode ∷ Change InsertNode
-    ∷ Change RemoveNode ∷ Undo ∷ Redo ∷ At ∷ Go ∷ Click ∷ Left ∷ Right ∷ Typed ∷ Backspace ∷ Enter ∷ Show ∷ Page ∷ Errors
-    ∷ Where ∷ Cursor ∷ Attrs ∷ Work ∷ Tree ∷ Save ∷ Quit ∷ []
+    ∷ Change RemoveNode ∷ Undo ∷ Redo ∷ At ∷ Go ∷ Click ∷ Left ∷ Right ∷ Typed ∷ Backspace ∷ Enter ∷ Show ∷ Page
+    ∷ Errors ∷ Where ∷ Cursor ∷ Attrs ∷ Work ∷ Tree ∷ Save ∷ Quit ∷ []
 
 abbrev pub word_named : List ℕ → Option Word
 word_named x = find (λ w. bytes_eq (word_text w) x) all_words

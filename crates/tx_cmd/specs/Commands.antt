@@ -21,7 +21,8 @@ use Rattle.tx_cmd.specs.declared.words.Word.TheVariants.{Left as LeftWord, Right
 use Rattle.tx_cmd.specs.declared.words.Word.TheVariants.{Backspace as BackspaceWord, Enter as EnterWord}
 use Rattle.tx_cmd.specs.declared.words.Word.TheVariants.{Show as ShowWord, Page as PageWord, Errors as ErrorsWord}
 use Rattle.tx_cmd.specs.declared.words.Word.TheVariants.{Where as WhereWord, Cursor as CursorWord, Attrs as AttrsWord}
-use Rattle.tx_cmd.specs.declared.words.Word.TheVariants.{Work as WorkWord, Tree as TreeWord, Save as SaveWord, Quit as QuitWord}
+use Rattle.tx_cmd.specs.declared.words.Word.TheVariants.{Work as WorkWord, Tree as TreeWord, Save as SaveWord}
+use Rattle.tx_cmd.specs.declared.words.Word.TheVariants.{Quit as QuitWord}
 use Rattle.tx_cmd.specs.Words.{word_text}
 use Rattle.tx_cmd.specs.Values.{Value, a_path, a_number, a_label, a_name, a_tree, a_text, Mean}
 

@@ -84,8 +84,8 @@ pub part_from : (p : WideTree) (s u w : State) (b : Bool) (a : Attrs) (v : WideV
     → HasShown (show s.attrs v) s u → FinishesPart b u w
     → w.paragraphs ≡ part_paragraphs (show a v).form (show a v).after
 part_from p s u w b a v is e start h f =
-    part_as (show s.attrs v).form b s u w (in_form p b a s.attrs v is e (ap (λ x. x.attrs) start)) (ap (λ x. x.run) start)
-    (ap (λ x. x.paragraphs) start) h.adds f.paragraphs
+    part_as (show s.attrs v).form b s u w (in_form p b a s.attrs v is e (ap (λ x. x.attrs) start))
+    (ap (λ x. x.run) start) (ap (λ x. x.paragraphs) start) h.adds f.paragraphs
     ∙ ap (part_paragraphs (show s.attrs v).form) h.after
     ∙ ap (λ x. part_paragraphs (show x.attrs v).form (show x.attrs v).after) start
 
@@ -104,5 +104,5 @@ pub blank_from : (p : WideTree) (s u : State) (b : Bool) (a : Attrs) (v : WideVa
     → b ≡ not (is_leaf p) → s ≡ record { attrs = a; run = empty; paragraphs = []; errors = [] }
     → HasShown (show s.attrs v) s u → not b && is_nothing u.run ≡ is_blank (show a v).form
 blank_from p s u b a v is e start h =
-    blank_as (show s.attrs v).form b s u (in_form p b a s.attrs v is e (ap (λ x. x.attrs) start)) (ap (λ x. x.run) start)
-    h.adds ∙ ap (λ x. is_blank (show x.attrs v).form) start
+    blank_as (show s.attrs v).form b s u (in_form p b a s.attrs v is e (ap (λ x. x.attrs) start))
+    (ap (λ x. x.run) start) h.adds ∙ ap (λ x. is_blank (show x.attrs v).form) start

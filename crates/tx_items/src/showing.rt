@@ -16,7 +16,8 @@ ghost use Rattle.tx_items.specs.Shows.{cells_of, space_shown, error_shown, tag_s
 ghost use Rattle.tx_items.specs.Shows.{inline, run_of, empty};
 ghost use Rattle.tx_items.specs.Plans.{plan_of, plans_of, last_plan, joint_plan, list_plan};
 ghost use Rattle.tx_items.specs.Running.{state_of, first_of, HasShown, HasRun, HasPars, EndsRun, EndsParagraph};
-ghost use Rattle.tx_items.specs.Running.{HasAttrs, one_of, bar_of, set_by_pairs, given_back_by_pairs, Finishes, FinishesPart};
+ghost use Rattle.tx_items.specs.Running.{HasAttrs, one_of, bar_of, set_by_pairs, given_back_by_pairs, Finishes};
+ghost use Rattle.tx_items.specs.Running.{FinishesPart};
 ghost use Rattle.tx_items.specs.Running.{tag_front, space_item, length_alone};
 
 use crate::attributes::{Attrs, Field, field_of};

@@ -4,8 +4,8 @@
 //! `specs/Shapes.antt`, over the first-fit relation of `tx_lines`: it speaks of finished lines, and not of how they are
 //! found. By [`one_shape`] at most one list of lines meets it, by [`items_kept`] these lines hold every glyph and every
 //! gap once and in order, and by [`within_page`] none reaches beyond its page. [`pages`] cuts lines into pages, and a
-//! [`Paginator`] those of lines in several slices; [`one_paging`] and [`lines_kept`] say that there is one way to do so,
-//! which leaves nothing out.
+//! [`Paginator`] those of lines in several slices; [`one_paging`] and [`lines_kept`] say that there is one way to do
+//! so, which leaves nothing out.
 #![tactic(auto)]
 
 mod layout;

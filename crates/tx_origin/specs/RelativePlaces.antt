@@ -2,7 +2,7 @@
 use Rattle.std.specs.Prelude.{ℕ, List, ◌++◌, Option, Some, None, refl}
 use Rattle.std.specs.Coded.{Coded, code_by, coded×, coded_ℕ, coded_list, coded_option}
 
--- an origin, and an offset there: a place whose path begins where the path of its unit ends
+-- an origin, and an offset there: a place that is told from a base, where its path begins
 pub record RelativePlace : Type 0 where
   pub origin : List ℕ
   pub offset : ℕ

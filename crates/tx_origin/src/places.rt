@@ -10,7 +10,7 @@ use tx_base::Memory;
 use tx_tree::{Path, Place};
 
 /// An origin, and an offset in what stands there. Contracts see it as a place whose path begins where another path
-/// ends, as that of a unit.
+/// ends, as that of a part of the document.
 #[derive(Drop)]
 pub struct At {
     origin: Ip,

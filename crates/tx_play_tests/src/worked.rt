@@ -194,8 +194,10 @@ const FILES: &[Told<'static>] = &[
         style_name: "s.scm",
         style: b"(document \"b\")",
         script: "at s\ntype \"c\"\ncursor\ntree\nat d\ntree\nat s\nundo\ntree\ncursor\nundo\nat d\ntree",
-        replies: "ok\nok\n/1/0/0/1\n(document \"b\")\nok\n(document (style \"s\") (body (document \"ca\" (hi \"x\"))))\n\
-          ok\nok\n(document \"b\")\n/1/0/0/0\nno undo\nok\n(document (style \"s\") (body (document \"a\" (hi \"x\"))))\n",
+        replies: "ok\nok\n/1/0/0/1\n(document \"b\")\nok\n\
+          (document (style \"s\") (body (document \"ca\" (hi \"x\"))))\n\
+          ok\nok\n(document \"b\")\n/1/0/0/0\nno undo\nok\n\
+          (document (style \"s\") (body (document \"a\" (hi \"x\"))))\n",
         ..TOLD
     },
     Told {

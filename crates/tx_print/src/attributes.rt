@@ -136,8 +136,8 @@ fn push_attributes<O: Sink>(printer: &mut Printer, view: &View, r: u32, out: &mu
 }
 
 /// Prints a line for each longest run of cells of clusters in row r that have the same three attributes: its first
-/// column, the column behind its last, `font-series`, `font-shape` and `color`, in display text. The cells of the indent
-/// and of gaps have no attributes. Past the last row it prints `no cell ROWS WIDTH`.
+/// column, the column behind its last, `font-series`, `font-shape` and `color`, in display text. The cells of the
+/// indent and of gaps have no attributes. Past the last row it prints `no cell ROWS WIDTH`.
 pub fn print_attrs<O: Sink>(view: &View, r: u32, out: &mut O) -> Result<(), WriteFault>
     ensures { IsPrinted result (attrs_reply view.now.shown view.now.width r) (O.seen out.old) (O.seen out.new) }
 {

@@ -65,8 +65,8 @@ fn push_errors<O: Sink>(printer: &mut Printer, view: &View, out: &mut O)
     }
 }
 
-/// Prints `errors K`, and of each of the K errors the path of its unit, or a dash for a unit that isn't in the body, its
-/// kind, and its detail where there is one, in display text.
+/// Prints `errors K`, and of each of the K errors the path of its unit, or a dash for a unit that isn't in the body,
+/// its kind, and its detail where there is one, in display text.
 pub fn print_errors<O: Sink>(view: &View, out: &mut O) -> Result<(), WriteFault>
     ensures { IsPrinted result (errors_text view.now.shown) (O.seen out.old) (O.seen out.new) }
 {

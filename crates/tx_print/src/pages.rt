@@ -82,8 +82,8 @@ fn push_numbered_page<O: Sink>(printer: &mut Printer, view: &View, number: u32, 
     }
 }
 
-/// Prints `page N` and the lines of page n, counted from 1, or `no page P` with the number of pages where there is none.
-/// A line is its indent in spaces, its clusters, and a space for each cell of a gap.
+/// Prints `page N` and the lines of page n, counted from 1, or `no page P` with the number of pages where there is
+/// none. A line is its indent in spaces, its clusters, and a space for each cell of a gap.
 pub fn print_page<O: Sink>(view: &View, n: u32, out: &mut O) -> Result<(), WriteFault>
     ensures { IsPrinted result (page_reply view.now.shown n) (O.seen out.old) (O.seen out.new) }
 {

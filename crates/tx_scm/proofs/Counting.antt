@@ -5,7 +5,8 @@ use Rattle.tx_tree.specs.TextScan.{is_text, begins_text}
 use Rattle.tx_tree.specs.WideTree.{WideTree, leaf, forest, nodes_of, total_nodes}
 use Rattle.tx_scm.specs.declared.kinds.Kind.{Kind}
 use Rattle.tx_scm.specs.declared.kinds.Kind.TheVariants.{White, Opens, Closes, Quote, Backslash, Letter}
-use Rattle.tx_scm.specs.Machine.{the_limits, within, Open, State, Bounds, between, opened, naming, texting, escaping, whole, failed, put}
+use Rattle.tx_scm.specs.Machine.{the_limits, within, Open, State, Bounds, between, opened, naming, texting, escaping}
+use Rattle.tx_scm.specs.Machine.{whole, failed, put}
 use Rattle.tx_scm.specs.Machine.{only_if, node_of, closed, named, lengthened, step_between, step_opened, step_naming}
 use Rattle.tx_scm.specs.Machine.{step_texting, step_escaping, step_whole, step}
 use Rattle.tx_scm.specs.States.{standing, nodes_in, made_by, made_in, IsCounted, CountsOn}
@@ -101,7 +102,8 @@ string_counted from steps (Some u) opens text t w f h = absurd cc
 
 -- a closing bracket makes one
 pub closes_counted : (before after : ℕ) (w : Option WideTree) (opens : List Open) (t : State) → is_some w ≡ false
-    → after ≡ before + 1 → t ≡ step_between (within the_limits) opens Closes → CountsOn (standing w opens) before t after
+    → after ≡ before + 1 → t ≡ step_between (within the_limits) opens Closes
+    → CountsOn (standing w opens) before t after
 closes_counted before after None opens t e f g = λ from h.
     rw (f, g) (between_counted (within the_limits) from before Closes opens h)
 closes_counted before after (Some u) opens t e f g = absurd cc

@@ -1,5 +1,6 @@
 -- Plain bytes of a string, several at once.
-use Rattle.std.proofs.Common.{◌≡◌, ℕ, zero, ◌+◌, ◌-◌, ◌<◌, ◌≤◌, true, false, List, [], ◌∷◌, ◌++◌, length, get_or, take, drop}
+use Rattle.std.proofs.Common.{◌≡◌, ℕ, zero, ◌+◌, ◌-◌, ◌<◌, ◌≤◌, true, false, List, [], ◌∷◌, ◌++◌, length, get_or}
+use Rattle.std.proofs.Common.{take, drop}
 use Rattle.std.proofs.Common.{None, refl, sym, ap, ◌∙◌, append_assoc, take_all, take-take, arith}
 use Rattle.std.specs.Prelude.{slice_range, All}
 use Rattle.std.specs.List.{AllByRecursion}
@@ -85,8 +86,8 @@ module _ (bytes text new : List ℕ) (at last count n : ℕ) (opens : List Open)
       ap (reads (texting text opens))
       (split le ∙ ap (λ x. x ++ drop (at + count) bytes) parts
       ∙ append_assoc (take n run) (b ∷ drop (n + 1) run) (drop (at + count) bytes))
-      ∙ plain_reads (take n run) (b ∷ rest) text opens (recursion_from_All IsPlain (take n run) (All-take IsPlain n run plain))
-      taken
+      ∙ plain_reads (take n run) (b ∷ rest) text opens
+      (recursion_from_All IsPlain (take n run) (All-take IsPlain n run plain)) taken
       ∙ ap (λ t. reads (texting t opens) (b ∷ rest)) (sym grown)
       ∙ plain_stops b rest new opens (All-get_or IsPlain run n 0 lt plain) (stops lt)
 
@@ -97,7 +98,8 @@ pub some_plain : (bytes : List ℕ) (at count : ℕ) → at < length bytes → I
     ⊎ (get_or (slice_range bytes at (length bytes)) count 0 ≡ 92)) → 1 ≤ count
 some_plain bytes at zero lt plain stop =
     let all = slice_range bytes at (length bytes) in
-    let some : 0 < length all = omega (arith, length-take (length bytes - at) (drop at bytes), length-drop at bytes, lt) in
+    let some : 0 < length all =
+    omega (arith, length-take (length bytes - at) (drop at bytes), length-drop at bytes, lt) in
     let first : get_or all 0 0 ≡ get_or bytes at 0 =
     get_or-take (length bytes - at) (drop at bytes) 0 0 (omega (arith, lt)) ∙ get_or-drop at bytes 0 0
     ∙ ap (λ i. get_or bytes i 0) (omega arith) in

@@ -18,7 +18,8 @@ use Rattle.tx_scm.specs.Kinds.{kind_of}
 use Rattle.tx_scm.specs.Spelling.{is_white}
 use Rattle.tx_scm.specs.Recognising.{behind_white}
 use Rattle.tx_scm.specs.Machine.{Open, State, Bounds, between, opened, naming, texting, escaping, whole, failed, put}
-use Rattle.tx_scm.specs.Machine.{the_limits, within, wide, has_room, only_if, named, lengthened, step_between, step_opened}
+use Rattle.tx_scm.specs.Machine.{the_limits, within, wide, has_room, only_if, named, lengthened, step_between}
+use Rattle.tx_scm.specs.Machine.{step_opened}
 use Rattle.tx_scm.specs.Machine.{step_naming, step_texting, step_escaping, step_whole, step, run, tree_in, completes}
 use Rattle.tx_scm.specs.Machine.{reads, leads}
 use Rattle.tx_scm.specs.States.{standing, GoesTo}
@@ -122,7 +123,8 @@ module _ (bounds : Bounds) (opens : List Open) where
       ∙ elim (ltb (length label) 64) as (λ c. ltb (length label) 64 ≡ c
       → completes bounds (only_if c (naming (label ++ b ∷ []) opens)) (x ++ y) ≡ None) [
         | true ↦ λ e.
-            too_many x y (label ++ b ∷ []) h.1 (omega (arith, ltb-true (length label) 64 e, length-append label (b ∷ [])))
+            too_many x y (label ++ b ∷ []) h.1
+            (omega (arith, ltb-true (length label) 64 e, length-append label (b ∷ [])))
             (omega (arith, lt, length-append label (b ∷ [])))
         | false ↦ λ e. failed_run bounds (x ++ y)
       ] refl
@@ -262,7 +264,8 @@ module _ (bytes : List ℕ) (opens : List Open) (at : ℕ) (lt : at < length byt
   quote = ap (λ k. step_between (within the_limits) opens k) quote_kind
 
   pub no_room_for_text : has_room the_limits opens ≡ false → reads (between opens) (drop at bytes) ≡ None
-  no_room_for_text h = step_fails bytes (between opens) at 34 lt is (sym (quote ∙ ap (λ c. only_if c (texting [] opens)) h))
+  no_room_for_text h =
+      step_fails bytes (between opens) at 34 lt is (sym (quote ∙ ap (λ c. only_if c (texting [] opens)) h))
 
   pub opens_string : has_room the_limits opens ≡ true → GoesTo bytes (between opens) at (texting [] opens) (at + 1)
   opens_string h =
@@ -333,7 +336,8 @@ put_stands t [] e = cc
 put_stands t (o ∷ opens) e = cc
 
 module _ (bytes text : List ℕ) (opens : List Open) (at : ℕ) (lt : at < length bytes) (is : get_or bytes at 0 ≡ 34) where
-  ending : step (within the_limits) (texting text opens) (kind_of 34) 34 ≡ only_if (is_text text) (put (leaf text) opens)
+  ending :
+      step (within the_limits) (texting text opens) (kind_of 34) 34 ≡ only_if (is_text text) (put (leaf text) opens)
   unfolding step_texting
   ending = ap (λ k. step_texting (within the_limits) text opens k 34) quote_kind
 

@@ -189,7 +189,8 @@ impl Reader {
     fn close<L: Ledger>(&mut self, steps: &mut Steps<L>) -> Result<bool, Memory>
         requires whole { self.now.whole ≡ None }
         ensures next { IfOk result (λ taken.
-            only_if taken (state_of self.new) ≡ step_between (within the_limits) (opens_of self.old.brackets.items) Closes) }
+            only_if taken (state_of self.new)
+            ≡ step_between (within the_limits) (opens_of self.old.brackets.items) Closes) }
         ensures counted { IfOk result (λ taken. taken ≡ true → steps.new ≡ steps.old + 1) }
         ensures made { steps.new ≤ steps.old + 1 }
         ensures rises { steps.old ≤ steps.new }
@@ -207,7 +208,8 @@ impl Reader {
         }
     }
 
-    // Takes the token whose first byte stands at `at`, and answers the place behind it, or None where no tree goes on so.
+    // Takes the token whose first byte stands at `at`, and answers the place behind it, or None where no tree goes on
+    // so.
     fn take<L: Ledger>(
         &mut self,
         bytes: &[u8],

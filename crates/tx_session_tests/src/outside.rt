@@ -8,8 +8,9 @@ use tx_base::Steps;
 use tx_outside::{Failed, MemSink, MemSource, MemStore, Source, Store, StoredFile};
 use tx_session::{Status, run};
 
-// How a run is set up: a file of the store and the others, the words between bars, the script, the call of the store, of
-// the input and of the sink that fails, if one does, the room of the sink, and whether the input gives one byte a call.
+// How a run is set up: a file of the store and the others, the words between bars, the script, the call of the store,
+// of the input and of the sink that fails, if one does, the room of the sink, and whether the input gives one byte a
+// call.
 #[derive(Clone, Copy)]
 pub struct Setup<'a> {
     pub name: &'a str,

@@ -17,7 +17,8 @@ use Rattle.tx_tm_form.specs.Growing.{resumed, first_stage, with_part, widen, tre
 use Rattle.tx_tm_form.specs.Growing.{tree_of_entry, behind_run, with_entries, as_block, Content, inline, blocks}
 use Rattle.tx_tm_form.specs.Growing.{collecting, put}
 use Rattle.tx_tm_form.proofs.Growth.{entries_append}
-use Rattle.tx_tm_content.specs.ContentFits.{IsSmall, AreSmall, RowFits, LineFits, BlockFitsAt, BlockFits, TagRowFits, TagsFit}
+use Rattle.tx_tm_content.specs.ContentFits.{IsSmall, AreSmall, RowFits, LineFits, BlockFitsAt, BlockFits, TagRowFits}
+use Rattle.tx_tm_content.specs.ContentFits.{TagsFit}
 use Rattle.tx_tm_content.specs.ContentFits.{ContentFits}
 use Rattle.tx_tm_content.proofs.Made.{arity_least}
 

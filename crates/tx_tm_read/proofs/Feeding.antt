@@ -24,7 +24,8 @@ use Rattle.tx_tm_form.specs.Machine.{ready, slashed, returned, angled, labelled,
 use Rattle.tx_tm_form.specs.Machine.{Bytewise, at, lost, given, step, run, Keeping, keep, tree_of, tree_in}
 use Rattle.tx_tm_content.specs.ContentFits.{IsSmall, RowFits, ContentFits}
 use Rattle.tx_tm_read.specs.Fits.{ChildrenFit, OpensFit, StateFits, ReaderFits}
-use Rattle.tx_tm_content.proofs.Fitting.{within_small, left_row, right_small, node_small, node_row, grown_fits, tree_fits}
+use Rattle.tx_tm_content.proofs.Fitting.{within_small, left_row, right_small, node_small, node_row, grown_fits}
+use Rattle.tx_tm_content.proofs.Fitting.{tree_fits}
 use Rattle.tx_tm_content.proofs.Fitting.{tags_fit, put_fits, put_tag_fits}
 use Rattle.tx_tm_read.proofs.Stuck.{children_there}
 

@@ -61,7 +61,10 @@ module _ (c : Content) (label : List ℕ) (fs : List Open) where
     behind_bar =
         run_append y (124 ∷ []) (kept (opened ts)) ∙ ap (λ z. run keep z (124 ∷ [])) words_read
         ∙ token_run Keeping keep bar
-        (record { behind_join = false; state = reading (inline InShort (grow no_parts (text y))) (open_tag c label ts ∷ fs) })
+        (record {
+          behind_join = false;
+          state = reading (inline InShort (grow no_parts (text y))) (open_tag c label ts ∷ fs);
+        })
         [] tt
         ∙ ap (λ t. kept (opened (ts ++ t ∷ []))) (grown_bytes y (some_words y w))
 
@@ -70,7 +73,10 @@ module _ (c : Content) (label : List ℕ) (fs : List Open) where
     behind_last =
         run_append y (62 ∷ []) (kept (opened ts)) ∙ ap (λ z. run keep z (62 ∷ [])) words_read
         ∙ token_run Keeping keep close
-        (record { behind_join = false; state = reading (inline InShort (grow no_parts (text y))) (open_tag c label ts ∷ fs) })
+        (record {
+          behind_join = false;
+          state = reading (inline InShort (grow no_parts (text y))) (open_tag c label ts ∷ fs);
+        })
         [] tt
         ∙ ap (λ t. kept (with_node label (ts ++ t ∷ []) c fs)) (grown_bytes y (some_words y w))
 

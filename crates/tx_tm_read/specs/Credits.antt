@@ -4,7 +4,8 @@
 use Rattle.std.specs.Prelude.{ℕ, ◌+◌, ◌≤◌, List, [], ◌∷◌, Option, Some, None}
 use Rattle.tx_tm_content.specs.ContentCredits.{content_credit}
 use Rattle.tx_tm_form.specs.Tokens.{Token, head}
-use Rattle.tx_tm_form.specs.Machine.{Open, State, reading, naming, counting, failed, Lex, labelled, Lexed, within, done, bad}
+use Rattle.tx_tm_form.specs.Machine.{Open, State, reading, naming, counting, failed, Lex, labelled, Lexed, within}
+use Rattle.tx_tm_form.specs.Machine.{done, bad}
 use Rattle.tx_tm_read.specs.declared.tags.Spot.{Spot}
 use Rattle.tx_tm_read.specs.declared.reader.Reader.{Reader}
 use Rattle.tx_tm_read.specs.declared.reader.Advance.{Advance}

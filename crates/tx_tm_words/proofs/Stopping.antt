@@ -1,5 +1,6 @@
 -- Bytes that end no run.
-use Rattle.std.proofs.Common.{◌≡◌, ◌≢◌, ◌≤◌, ◌<◌, ℕ, Bool, true, false, ◌==◌, ◌||◌, nat_lt, [], ◌∷◌, List, length, take, get_or, refl, sym, ap}
+use Rattle.std.proofs.Common.{◌≡◌, ◌≢◌, ◌≤◌, ◌<◌, ℕ, Bool, true, false, ◌==◌, ◌||◌, nat_lt, [], ◌∷◌, List, length}
+use Rattle.std.proofs.Common.{take, get_or, refl, sym, ap}
 use Rattle.std.proofs.Common.{subst, ◌∙◌, get_or-take, length-take-le, arith}
 use Rattle.std.proofs.lemmas.Bool.{ltb-true}
 use Rattle.std.specs.List.{AllByRecursion, list_any}

@@ -11,7 +11,8 @@ use tx_tm_form::{ByteKind, White, kind_of, white_of};
 /// before a stop that is far away.
 pub const MOST_RUN: usize = 256;
 
-// How many bytes at the front are spaces or stand for themselves. There may be more of them where a byte below 32 is one.
+// How many bytes at the front are spaces or stand for themselves. There may be more of them where a byte below 32 is
+// one.
 fn text_len(bytes: &[u8]) -> usize
     ensures within { result ≤ length bytes.now }
     ensures plain { (k : ℕ) → k < result → slice_index bytes.now k ≢ 32

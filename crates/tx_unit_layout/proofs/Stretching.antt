@@ -55,8 +55,8 @@ lines_none (l ∷ ls) = ap₂ (λ is ks. record l { items = is } ∷ ks) (items_
 -- ---- the unit's paragraphs and lines
 
 stretched : {A : Type 0} (f : PlacedPart → List A) (g : WideStretch → List A)
-    → ((p : PlacedPart) → g (part_stretch p) ≡ f p) → (ps : List PlacedPart) (own : WideStretch) (rest : List A) → g own ≡ rest
-    → flat_map f ps ++ rest ≡ flat_map g (map part_stretch ps ++ own ∷ [])
+    → ((p : PlacedPart) → g (part_stretch p) ≡ f p) → (ps : List PlacedPart) (own : WideStretch) (rest : List A)
+    → g own ≡ rest → flat_map f ps ++ rest ≡ flat_map g (map part_stretch ps ++ own ∷ [])
 stretched f g same [] own rest is = sym is ∙ sym (append-nil (g own))
 stretched f g same (p ∷ ps) own rest is =
     append_assoc (f p) (flat_map f ps) rest

@@ -10,8 +10,8 @@ use Rattle.tx_units.specs.Documents.{is_document}
 use Rattle.tx_units.specs.Units.{units, units_with}
 use Rattle.tx_units.specs.declared.kinds.Unit.{Unit as DocUnit}
 
--- Whether a tree at this depth has a label by which a part of the document is found there. The body may be a `document`,
--- which is the root or stands in a `body`; a section is a child of the root.
+-- Whether a tree at this depth has a label by which a part of the document is found there. The body may be a
+-- `document`, which is the root or stands in a `body`; a section is a child of the root.
 abbrev pub is_part : ℕ → WideTree → Bool
 is_part zero t = is_document t
 is_part (suc zero) t = is_body t || (is_labelled (codes "style") t || is_labelled (codes "initial") t)
@@ -37,5 +37,6 @@ AreSameBut (i ∷ p) t u = (c d : WideTree) × HasOtherChild i c d t u × AreSam
 -- the document then.
 abbrev pub ChangesOne : List Buffer → ℕ → WideTree → WideTree → Type 0
 ChangesOne buffers i t x = 1 ≤ length buffers → (u : DocUnit) (p : List ℕ) → slice_get (units buffers) i ≡ Some u
-    → u.path ≡ Some p → leaves_others p u.tagged.tree x ≡ true → AreSameBut p (document_of buffers) t → subtree t p ≡ Some x
+    → u.path ≡ Some p → leaves_others p u.tagged.tree x ≡ true → AreSameBut p (document_of buffers) t
+    → subtree t p ≡ Some x
     → units (with_tree buffers 0 t) ≡ units_with i x (units buffers)

@@ -24,8 +24,8 @@ pub fn body_laws()
     ensures apart { (t : WideTree) → NoneBegins (body_units t) }
 {}
 
-/// A law: where another tree takes the place of a paragraph of the document, as `leaves_others` allows, the unit of this
-/// paragraph has the other tree, and all other units stay as they are, the paths included.
+/// A law: where another tree takes the place of a paragraph of the document, as `leaves_others` allows, the unit of
+/// this paragraph has the other tree, and all other units stay as they are, the paths included.
 pub fn inside_law()
     ensures { (buffers : List Named) (i : ℕ) (t x : WideTree) → ChangesOne buffers i t x }
 {}

@@ -157,8 +157,8 @@ fn lay_out_by<L: Ledger>(
 }
 
 /// Evaluates the units of which nothing fits, and lays those out that aren't laid out as they should be. Answers by how
-/// much the steps rose, and whether the pages of the units stay, which are in `lone`. For want of memory nothing is laid
-/// out of parts.
+/// much the steps rose, and whether the pages of the units stay, which are in `lone`. For want of memory nothing is
+/// laid out of parts.
 pub(crate) fn lay_out<L: Ledger>(
     alloc: Global,
     bridges: &mut Bridges,

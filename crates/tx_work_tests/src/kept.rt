@@ -9,8 +9,8 @@ use tx_base::Steps;
 use tx_tree::Tree;
 use tx_units::Unit;
 
-// What units came to at the last refresh, the present units, which unit of the last refresh each one is, and what is kept
-// of its parts.
+// What units came to at the last refresh, the present units, which unit of the last refresh each one is, and what is
+// kept of its parts.
 #[derive(Drop)]
 pub(crate) struct Kept {
     last: Vec<Last>,

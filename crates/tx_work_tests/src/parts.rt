@@ -255,8 +255,8 @@ impl Parts {
     }
 }
 
-// What the parts of the unit come to, of which this is kept, behind these attributes. The names have afterwards what they
-// have behind the unit.
+// What the parts of the unit come to, of which this is kept, behind these attributes. The names have afterwards what
+// they have behind the unit.
 pub(crate) fn parts_of<L: Ledger>(
     alloc: Global,
     unit: &Unit,

@@ -163,7 +163,8 @@ pub(crate) const PARTS: Play = Play {
     document: "(document (style (tuple \"s\" \"none\" \"generic\")) (initial (collection (associate \"par-left\" \
         \"1spc\") (associate \"v\" \"7\"))) (body (document \"one\" (value \"v\") (concat \"two\" (a)) (b \"x\") \
         \"three\")))",
-    style: "(document (assign \"a\" \"mac\") (assign \"b\" (macro \"x\" (concat (arg \"x\") (value \"v\")))) \"stray\")",
+    style: "(document (assign \"a\" \"mac\") (assign \"b\" (macro \"x\" (concat (arg \"x\") (value \"v\")))) \
+        \"stray\")",
     paths: &[
         "/", "/0/0", "/1/0", "/1/0/0/1", "/1/0/1/1", "/2/0", "/2/0/0", "/2/0/1", "/2/0/2",
         "/2/0/2/0", "/2/0/3",

@@ -13,8 +13,8 @@ use tx_session::{Status, run};
 // How many paragraphs never end, or have a part that doesn't.
 const ENDLESS: u32 = 18;
 
-// A document is its beginning, so many paragraphs, and its end. A round is two edits, with a page behind each, which has
-// a beginning, so many lines, each in front of one text that the edit decides, and that text once more at the end.
+// A document is its beginning, so many paragraphs, and its end. A round is two edits, with a page behind each, which
+// has a beginning, so many lines, each in front of one text that the edit decides, and that text once more at the end.
 struct Play {
     words: &'static [&'static str],
     begins: &'static str,

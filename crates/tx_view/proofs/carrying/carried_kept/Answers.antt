@@ -116,9 +116,10 @@ returns-in_ok-parts-in-Some-clause-way g c =
       (carried_at c.args.buffers.now c.args.after.now c.args.buffer c.in-Some.changed c.is_silent_at-silent.result
           c.in_ok-parts-in-Some.parts c.args.mods.now c.index-buffers-buffer.result c.args.tree.now c.in-Some.paragraph
           c.args.bridges.now.kept c.carry_in_place.new.self.kept c.carry_in_place.new.self.sources
-          (c.inside_law.ensures c.args.buffers.now c.in-Some.changed c.args.tree.now c.in-Some.paragraph) c.requires.some
-          c.requires.within h c.requires.of_buffers c.requires.after c.requires.changed c.carry_in_place.ensures.carried
-          c.carry_in_place.ensures.sources c.carry_in_place.ensures.numbers c.carry_in_place.ensures.units).same_trees,
+          (c.inside_law.ensures c.args.buffers.now c.in-Some.changed c.args.tree.now c.in-Some.paragraph)
+          c.requires.some c.requires.within h c.requires.of_buffers c.requires.after c.requires.changed
+          c.carry_in_place.ensures.carried c.carry_in_place.ensures.sources
+          c.carry_in_place.ensures.numbers c.carry_in_place.ensures.units).same_trees,
     )
 
 pub returns-in_ok-carried_anew-in-None-clause-kept : goal.returns-in_ok-carried_anew-in-None-clause-kept

@@ -20,5 +20,11 @@ pub returns-in_ok-at-in-Node : goal.returns-in_ok-at-in-Node
 returns-in_ok-at-in-Node t c =
     let moved = rw (take_all _ _ c.loop-part-test.false, c.deref-part-items.ensures.value) at c.loop-part.invariant in
     let content = sym c.deref.ensures ∙ c.in-Node.is in
-    rw (← c.self.view_is, content, vals_under c.args.base.now c.in-Node.parts.items, ← moved, ← c.in_ok-at-in-Node.ensures)
+    rw (
+      ← c.self.view_is,
+      content,
+      vals_under c.args.base.now c.in-Node.parts.items,
+      ← moved,
+      ← c.in_ok-at-in-Node.ensures,
+    )
     c.with_parts.ensures

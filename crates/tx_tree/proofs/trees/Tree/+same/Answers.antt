@@ -9,8 +9,9 @@ returns-then-not-same t c =
     let self_is : c.args.self.now ≡ node c.deref-one.result.now.label (forest c.deref-one.result.now.children.items) =
     sym c.self.view_is ∙ ap wide_of c.in-Node-Node.is-0
     ∙ ap (λ b. node b.label (forest b.children.items)) (sym c.deref-one.ensures) in
-    let other_is : c.args.other.now ≡ node c.deref-two.result.now.label (forest c.deref-two.result.now.children.items) = sym c.other.view_is
-    ∙ ap wide_of c.in-Node-Node.is-1
+    let other_is :
+    c.args.other.now ≡ node c.deref-two.result.now.label (forest c.deref-two.result.now.children.items) =
+    sym c.other.view_is ∙ ap wide_of c.in-Node-Node.is-1
     ∙ ap (λ b. node b.label (forest b.children.items)) (sym c.deref-two.ensures) in
     let within : c.loop-i.i < length c.deref-one.result.now.children.items =
     omega (arith, c.len-i-end.ensures, c.loop-i-test.true) in
@@ -34,8 +35,9 @@ returns-after-loop-i t c =
     let self_is : c.args.self.now ≡ node c.deref-one.result.now.label (forest c.deref-one.result.now.children.items) =
     sym c.self.view_is ∙ ap wide_of c.in-Node-Node.is-0
     ∙ ap (λ b. node b.label (forest b.children.items)) (sym c.deref-one.ensures) in
-    let other_is : c.args.other.now ≡ node c.deref-two.result.now.label (forest c.deref-two.result.now.children.items) = sym c.other.view_is
-    ∙ ap wide_of c.in-Node-Node.is-1
+    let other_is :
+    c.args.other.now ≡ node c.deref-two.result.now.label (forest c.deref-two.result.now.children.items) =
+    sym c.other.view_is ∙ ap wide_of c.in-Node-Node.is-1
     ∙ ap (λ b. node b.label (forest b.children.items)) (sym c.deref-two.ensures) in
     let all : length c.deref-one.result.now.children.items ≤ c.loop-i.i =
     omega (arith, c.len-i-end.ensures, c.loop-i-test.false) in
@@ -49,7 +51,8 @@ returns-after-loop-i t c =
       c.len-in-Node-Node.ensures,
     ) in
     let named : c.deref-one.result.now.label ≡ c.deref-two.result.now.label = search rules in (
-      λ h. self_is ∙ same_at c.deref-one.result.now.label c.deref-two.result.now.label c.deref-one.result.now.children.items
+      λ h. self_is
+          ∙ same_at c.deref-one.result.now.label c.deref-two.result.now.label c.deref-one.result.now.children.items
           c.deref-two.result.now.children.items c.loop-i.i named all all' c.loop-i.invariant ∙ sym other_is,
       λ e. refl,
     )
