@@ -22,7 +22,7 @@ use Rattle.tx_units.specs.Places.{NoneBegins}
 use Rattle.tx_units.specs.Places.{AreApart as PathsApart}
 use Rattle.tx_bridge.specs.Entries.{Entry, Kept, units_of, nothing_kept}
 use Rattle.tx_bridge.specs.Sound.{IsSound, Holds, AllHold, entry_of, entries_of, parts_in, sources_in}
-use Rattle.tx_bridge.specs.Nested.{KeptParts}
+use Rattle.tx_bridge.specs.PartsKept.{KeptParts}
 use Rattle.tx_bridge.specs.HeldParts.{HoldsPart, StoredHolds, AllPartsHold, kept_parts}
 use Rattle.tx_walk.specs.declared.part.Part.{Part as DonePart}
 use Rattle.tx_bridge.specs.Carrying.{is_path, same_kind, same_unit, through, mods_of, Leads, AllLead, Stands}
@@ -40,7 +40,7 @@ with_given i b w = record { unit = w.unit; kept = b.kept; parts = b.parts; renew
 
 -- ---- where old units stand
 
-lead_one : (t : WideTree) (u : DocUnit) → Stands t u → Leads t u.path
+pub lead_one : (t : WideTree) (u : DocUnit) → Stands t u → Leads t u.path
 lead_one t u stands = by_path u.path refl
   where
     by_path : (o : Option (List ℕ)) → u.path ≡ o → Leads t o
@@ -208,41 +208,36 @@ fresh_sound : (us : List DocUnit) → AllByRecursion IsPlaced us → AllByRecurs
 fresh_sound [] h = tt
 fresh_sound (u ∷ us) h = (record { holds = tt; once = tt; placed = h.0; parts = no_parts u }, fresh_sound us h.1)
 
-all_given_units : (i : ℕ) (places : List (Option (List ℕ))) (bs new : List Bridge)
+pub all_given_units : (i : ℕ) (places : List (Option (List ℕ))) (bs new : List Bridge)
     → bodies_of (given_all i places bs new) ≡ bodies_of new
 all_given_units i [] bs new = refl
 all_given_units i (place ∷ places) [] new = refl
 all_given_units i (place ∷ places) (b ∷ bs) new =
     all_given_units (i + 1) places bs (given_from place i b 0 new) ∙ units_given place i b 0 new
 
--- the new units stay
-pub given_bodies : (places : List (Option (List ℕ))) (bs : List Bridge) (us : List DocUnit)
-    → bodies_of (given_all 0 places bs (map fresh_bridge us)) ≡ us
-given_bodies places bs us = all_given_units 0 places bs (map fresh_bridge us) ∙ fresh_units us
-
 -- nothing kept is sound
 pub start_sound : (us : List DocUnit) → AllByRecursion IsPlaced us → All IsSound (map fresh_bridge us)
 start_sound us h = All-from_recursion IsSound (map fresh_bridge us) (fresh_sound us h)
 
-sound_by : (places : List (Option (List ℕ))) (old : List Bridge) (us : List DocUnit) → AllByRecursion IsPlaced us
-    → AllMatch places old us → All IsSound old → All IsSound (given_all 0 places old (map fresh_bridge us))
-sound_by places old us placed match sound =
-    All-from_recursion IsSound (given_all 0 places old (map fresh_bridge us))
-    (all_given_sound 0 places old (map fresh_bridge us) (subst (AllMatch places old) (sym (fresh_units us)) match)
-    (recursion_from_All IsSound old sound) (fresh_sound us placed))
+sound_by : (places : List (Option (List ℕ))) (old new : List Bridge) (us : List DocUnit) → bodies_of new ≡ us
+    → All IsSound new → AllMatch places old us → All IsSound old → All IsSound (given_all 0 places old new)
+sound_by places old new us are fresh match sound =
+    All-from_recursion IsSound (given_all 0 places old new)
+    (all_given_sound 0 places old new (subst (AllMatch places old) (sym are) match)
+    (recursion_from_All IsSound old sound) (recursion_from_All IsSound new fresh))
 
-pub carried_sound : (buffer : ℕ) (ms : List Mod) (t : WideTree) (old : List Bridge) (us : List DocUnit)
+pub carried_sound : (buffer : ℕ) (ms : List Mod) (t : WideTree) (old new : List Bridge) (us : List DocUnit)
     → ((u : WideTree) × (changed_by_all ms t ≡ Some u)) → ((q : List ℕ) → CarriesThroughAll ms t q) → All IsSound old
-    → AllByRecursion IsPlaced us → (buffer ≡ 0 → AllStand t (bodies_of old))
+    → bodies_of new ≡ us → All IsSound new → (buffer ≡ 0 → AllStand t (bodies_of old))
     → (buffer ≡ 0 → (u : WideTree) → changed_by_all ms t ≡ Some u → AllStand u us)
     → ((buffer ≡ 0 → ⊥) → AreSameBodies (bodies_of old) us)
-    → All IsSound (given_all 0 (map (through (mods_of buffer ms) t) (paths_in old)) old (map fresh_bridge us))
-carried_sound zero ms t old us made law sound placed stand_old stand_new same =
-    sound_by (map (through ms t) (paths_in old)) old us placed
+    → All IsSound (given_all 0 (map (through (mods_of buffer ms) t) (paths_in old)) old new)
+carried_sound zero ms t old new us made law sound are fresh stand_old stand_new same =
+    sound_by (map (through ms t) (paths_in old)) old new us are fresh
     (match_document ms t made.0 old us made.1 law (stand_old refl) (stand_new refl made.0 made.1)) sound
-carried_sound (suc buffer) ms t old us made law sound placed stand_old stand_new same =
-    sound_by (map (through [] t) (paths_in old)) old us placed (match_other t old us (same (λ q. omega (arith, q))))
-    sound
+carried_sound (suc buffer) ms t old new us made law sound are fresh stand_old stand_new same =
+    sound_by (map (through [] t) (paths_in old)) old new us are fresh
+    (match_other t old us (same (λ q. omega (arith, q)))) sound
 
 -- ---- the modifications that count
 

@@ -19,21 +19,18 @@ use Rattle.tx_exec_form.specs.Evaluated.{WideTrace, evaluated_in, paid}
 use Rattle.tx_exec_form.specs.Laws.{Agrees, Supports}
 use Rattle.tx_exec.specs.Outcomes.{wide_trace}
 use Rattle.tx_parts.specs.Composed.{alone, evaluates}
-use Rattle.tx_parts.specs.Openness.{openness}
 use Rattle.tx_parts.specs.Parts.{Part, parts, part_trace, part_cost, Stored, stored}
 use Rattle.tx_parts.specs.Standing.{StandsIn}
 use Rattle.tx_walk.specs.declared.part.Part.{Part as DonePart}
 use Rattle.tx_walk.specs.Held.{Store, IsSound, fits, charge_of, charges}
-use Rattle.tx_walk.specs.Open.{is_open}
 use Rattle.tx_walk.specs.Walked.{IsTidy, kept_in, paths_of, Seen, seen, seen_in, seen_parts}
 use Rattle.tx_units.specs.declared.kinds.Unit.{Unit as DocUnit}
 use Rattle.tx_view_form.specs.declared.TheConstants.{MOST_UNIT_STEPS}
 use Rattle.tx_view_form.specs.Outcomes.{Moment, allowance, outcome, charge, behind}
 use Rattle.tx_bridge.specs.Entries.{outcome_of}
-use Rattle.tx_bridge.specs.Nested.{KeptParts, kept_at, is_nested, unit_parts, parts_if_done, fresh_parts, unit_charge}
+use Rattle.tx_bridge.specs.PartsKept.{KeptParts, kept_at, has_parts, unit_parts, parts_if_done, fresh_parts, unit_charge}
 use Rattle.tx_bridge.specs.HeldParts.{HoldsPart, PartsHold, kept_part, kept_parts}
 use Rattle.tx_bridge.specs.UnitLists.{IsPlaced}
-use Rattle.tx_walk.proofs.Trees.{both}
 use Rattle.tx_walk.proofs.Kept.{Alike, alike}
 use Rattle.tx_bridge.proofs.Used.{AllSupport, AllAllowed, charge_fits}
 
@@ -150,7 +147,7 @@ AllSameStored = (k c n : ℕ) (path : List ℕ) (t : WideTree) (e d : Before) (t
     → map stored (parts k n path t d) ≡ map stored (parts k c path t e)
 
 module _ (support : AllSupport) (stand : AllStandIn) (apart : AllApart) (same : AllSameStored) (kept : Store) (c : ℕ)
-    (e : Before) (u : DocUnit) (nested : is_nested u ≡ true) (ds : List DonePart) (tidy : AllByRecursion IsTidy ds)
+    (e : Before) (u : DocUnit) (nested : has_parts u ≡ true) (ds : List DonePart) (tidy : AllByRecursion IsTidy ds)
   where
     pub walked_hold : (o : Option WideTrace) → o ≡ evaluates MOST_LEVELS c u.tagged.tree e
         → map seen ds ≡ seen_parts kept (parts MOST_LEVELS c [] u.tagged.tree e) o → PartsHold u o ds
@@ -177,10 +174,9 @@ rooted (Some p) h = refl
 abbrev tagged_at : WideTree → Option (List ℕ) → TaggedTree
 tagged_at t at = record { tree = t; at = at }
 
-pub is_alone : (u : DocUnit) → IsPlaced u → is_nested u ≡ true → tagged_of u.tagged ≡ alone u.tagged.tree
+pub is_alone : (u : DocUnit) → IsPlaced u → has_parts u ≡ true → tagged_of u.tagged ≡ alone u.tagged.tree
 is_alone u placed nested =
-    ap (tagged_at u.tagged.tree)
-    (placed.origin ∙ rooted u.path (both (is_some u.path) (is_open (openness u.tagged.tree)) nested).0)
+    ap (tagged_at u.tagged.tree) (placed.origin ∙ rooted u.path nested)
 
 module _ (u : DocUnit) (m : Moment) (env : NameMap) (left a : ℕ)
     (view : record { env = env; left = left } ≡ m) (is_a : a ≡ min MOST_UNIT_STEPS left) where
@@ -195,7 +191,7 @@ module _ (u : DocUnit) (m : Moment) (env : NameMap) (left a : ℕ)
       ap (λ n. parts MOST_LEVELS n [] u.tagged.tree (get env)) allowed_is
       ∙ ap (parts MOST_LEVELS (allowance m) [] u.tagged.tree) names_are
 
-  pub outcome_there : IsPlaced u → is_nested u ≡ true
+  pub outcome_there : IsPlaced u → has_parts u ≡ true
       → evaluates MOST_LEVELS a u.tagged.tree (get env) ≡ outcome_of m u
   unfolding outcome
   outcome_there placed nested =
@@ -203,7 +199,7 @@ module _ (u : DocUnit) (m : Moment) (env : NameMap) (left a : ℕ)
       ∙ ap (evaluates MOST_LEVELS (allowance m) u.tagged.tree) names_are
       ∙ ap (λ t. evaluated_in MOST_LEVELS (allowance m) t (get m.env)) (sym (is_alone u placed nested))
 
-  pub fresh_there : (kept : Store) (ds : List DonePart) (o : Option WideTrace) → is_nested u ≡ true → o ≡ outcome_of m u
+  pub fresh_there : (kept : Store) (ds : List DonePart) (o : Option WideTrace) → has_parts u ≡ true → o ≡ outcome_of m u
       → map seen ds ≡ seen_parts kept (parts MOST_LEVELS a [] u.tagged.tree (get env)) o
       → kept_parts ds ≡ fresh_parts m u
   fresh_there kept ds o nested is h =
@@ -212,7 +208,7 @@ module _ (u : DocUnit) (m : Moment) (env : NameMap) (left a : ℕ)
       ∙ ap (λ r. parts_if_done r (unit_parts m u)) is
       ∙ sym (ap (λ b. if b then parts_if_done (outcome_of m u) (unit_parts m u) else []) nested)
 
-  pub charge_there : (ks : List DonePart) → is_nested u ≡ true
+  pub charge_there : (ks : List DonePart) → has_parts u ≡ true
       → charges (kept_in ks) (parts MOST_LEVELS a [] u.tagged.tree (get env)) ≡ unit_charge m u (kept_parts ks)
   charge_there ks nested =
       ap (charges (kept_in ks)) parts_there ∙ same_charges ks (unit_parts m u)
@@ -229,9 +225,9 @@ AllCharged = (kept : Store) (k c : ℕ) (path : List ℕ) (t : WideTree) (e : Be
 charge_most : AllCharged → (m : Moment) (u : DocUnit) (ks : KeptParts) → IsPlaced u
     → unit_charge m u ks ≤ charge m (outcome_of m u)
 unfolding outcome
-charge_most law m u ks placed = by (is_nested u) refl
+charge_most law m u ks placed = by (has_parts u) refl
   where
-    by : (b : Bool) → is_nested u ≡ b → unit_charge m u ks ≤ charge m (outcome_of m u)
+    by : (b : Bool) → has_parts u ≡ b → unit_charge m u ks ≤ charge m (outcome_of m u)
     by true nested =
         let is : unit_charge m u ks ≡ charges (kept_at ks) (unit_parts m u) =
         ap (λ b. if b then charges (kept_at ks) (unit_parts m u) else charge m (outcome_of m u)) nested in

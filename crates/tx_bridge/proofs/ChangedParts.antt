@@ -15,7 +15,7 @@ use Rattle.tx_walk.specs.declared.part.Part.{Part as DonePart}
 use Rattle.tx_walk.specs.Walked.{IsTidy}
 use Rattle.tx_bridge.specs.declared.bridge.Bridge.{Bridge}
 use Rattle.tx_bridge.specs.Entries.{Kept, units_of}
-use Rattle.tx_bridge.specs.Nested.{KeptParts}
+use Rattle.tx_bridge.specs.PartsKept.{KeptParts}
 use Rattle.tx_bridge.specs.InPlace.{is_gone, are_within, IsOneChanged}
 use Rattle.tx_bridge.specs.Sound.{IsSound, entries_of, parts_in, changed_in}
 use Rattle.tx_bridge.specs.Carrying.{AllStand, StandsNow}
@@ -89,17 +89,6 @@ moved_there ms t bs i b at p has ps is os moved c there =
 none_kept : (ps : List DonePart) → kept_parts ps ≡ [] → ps ≡ []
 none_kept [] h = refl
 none_kept (p ∷ ps) h = cc
-
--- a unit without parts is one of the program's
-bare_in : (bs : List Bridge) (i : ℕ) → slice_get (parts_in bs) i ≡ Some []
-    → (b : Bridge) × (slice_get bs i ≡ Some b) × (b.parts ≡ [])
-bare_in [] i e = cc
-bare_in (x ∷ bs) zero e = (x, refl, none_kept x.parts (same_Some (kept_parts x.parts) [] e))
-bare_in (x ∷ bs) (suc i) e = bare_in bs i e
-
-pub bare_at : (bs read : List Bridge) (pss : List KeptParts) → read ≡ bs → parts_in bs ≡ pss → (i : ℕ)
-    → slice_get pss i ≡ Some [] → (b : Bridge) × (slice_get read i ≡ Some b) × (b.parts ≡ [])
-bare_at bs read pss is had i e = bare_in read i (ap (λ ks. slice_get ks i) (ap parts_in is ∙ had) ∙ e)
 
 module _ (through : (ms : List Mod) (t : WideTree) (q : List ℕ) → CarriesThroughAll ms t q)
     (carries : (m : Mod) (t : WideTree) (q : List ℕ) → CarriesSubtree m t q) (i : ℕ) (ms : List Mod)

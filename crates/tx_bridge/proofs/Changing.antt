@@ -130,6 +130,10 @@ changed_right i t ps old now flag after is hold right h =
       sound =
           All-from_recursion IsSound (changed_in i t ps old)
           (changed_sound i t ps old hold (recursion_from_All IsSound old right.sound));
+      units =
+          subst AreUnits
+          (sym (units_changed i t ps old ∙ ap (units_with i t) (units_bodies old)))
+          (are_units_with i t (bodies_of old) (subst AreUnits (units_bodies old) right.units));
       settled = λ e. changed_settled i t ps old empty (h e).1 (right.settled (h e).0);
     })
 

@@ -61,7 +61,7 @@ none_all t [] = refl
 none_all t (o ∷ os) =
     ap (λ q. q ∷ map (through [] t) os) (through_none o t) ∙ ap (λ qs. o ∷ qs) (none_all t os)
 
-first_applies : (m : Mod) (ms : List Mod) (t u : WideTree) → changed_by_all (m ∷ ms) t ≡ Some u
+pub first_applies : (m : Mod) (ms : List Mod) (t u : WideTree) → changed_by_all (m ∷ ms) t ≡ Some u
     → IsOk (changed m t)
 first_applies m ms t u e = by_outcome (changed m t) e
   where

@@ -13,7 +13,7 @@ use Rattle.tx_exec_form.specs.Evaluated.{WideTrace}
 use Rattle.tx_parts.specs.Parts.{Stored}
 use Rattle.tx_bridge.specs.Carrying.{Leads}
 use Rattle.tx_bridge.specs.CarryingParts.{part_at, and_part, parts_behind, StaysKept}
-use Rattle.tx_bridge.specs.Nested.{KeptParts, kept_at}
+use Rattle.tx_bridge.specs.PartsKept.{KeptParts, kept_at}
 use Rattle.tx_bridge.proofs.Inside.{rest_own}
 use Rattle.tx_bridge.proofs.Injective.{carried_once}
 use Rattle.tx_bridge.proofs.WithinUnit.{at_path, by_place, clash}

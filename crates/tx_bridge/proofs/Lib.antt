@@ -26,3 +26,10 @@ pub mod KeptInPlace
 pub mod KeptPlaces
 pub mod Putting
 pub mod OtherParts
+pub mod Passing
+pub mod Above
+pub mod Comers
+pub mod Coming
+pub mod Gathering
+pub mod Received
+pub mod Losing

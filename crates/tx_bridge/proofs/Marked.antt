@@ -21,8 +21,8 @@ use Rattle.tx_view_form.specs.Outcomes.{Moment}
 use Rattle.tx_bridge.specs.declared.bridge.Bridge.{Bridge}
 use Rattle.tx_bridge.specs.Entries.{outcome_of}
 use Rattle.tx_bridge.specs.Reached.{fits}
-use Rattle.tx_bridge.specs.Nested.{KeptParts, kept_at, is_nested, unit_parts, parts_if_done, flags_if_done}
-use Rattle.tx_bridge.specs.Nested.{part_flags}
+use Rattle.tx_bridge.specs.PartsKept.{KeptParts, kept_at, has_parts, unit_parts, parts_if_done, flags_if_done}
+use Rattle.tx_bridge.specs.PartsKept.{part_flags}
 use Rattle.tx_bridge.specs.HeldParts.{HoldsPart, PartsHold, AreItsParts, kept_part, kept_parts, flags_of_parts}
 use Rattle.tx_bridge.specs.HeldParts.{unmarked_part, unmarked}
 use Rattle.tx_bridge.specs.Sound.{IsSound}
@@ -136,7 +136,7 @@ done_flags kept ps (Some trace) = flags_seen_in kept ps
 
 -- those of the unit's parts, of which these were kept
 pub walked_flags : (m : Moment) (u : DocUnit) (ks ds : List DonePart) (ps : List Part) (o : Option WideTrace)
-    → is_nested u ≡ true → ps ≡ unit_parts m u → o ≡ outcome_of m u → map seen ds ≡ seen_parts (kept_in ks) ps o
+    → has_parts u ≡ true → ps ≡ unit_parts m u → o ≡ outcome_of m u → map seen ds ≡ seen_parts (kept_in ks) ps o
     → flags_of_parts ds ≡ part_flags m u (kept_parts ks)
 walked_flags m u ks ds ps o nested are is h =
     sym (flags_of_seen ds) ∙ ap (map (λ (s : Seen). s.renewed)) h ∙ done_flags (kept_in ks) ps o
@@ -145,7 +145,7 @@ walked_flags m u ks ds ps o nested are is h =
     ∙ ap (λ r. flags_if_done r (kept_at (kept_parts ks)) (unit_parts m u)) is
     ∙ sym (ap (λ b. if b then flags_if_done (outcome_of m u) (kept_at (kept_parts ks)) (unit_parts m u) else []) nested)
 
-pub bare_flags : (m : Moment) (u : DocUnit) (ks : KeptParts) (ds : List DonePart) → is_nested u ≡ false → ds ≡ []
+pub bare_flags : (m : Moment) (u : DocUnit) (ks : KeptParts) (ds : List DonePart) → has_parts u ≡ false → ds ≡ []
     → flags_of_parts ds ≡ part_flags m u ks
 bare_flags m u ks ds nested none =
     ap flags_of_parts none
@@ -216,5 +216,5 @@ pub left_flags : AllAgree → (m : Moment) (u : DocUnit) (o : Option WideTrace) 
     → flags_of_parts qs ≡ part_flags m u (kept_parts ds)
 left_flags agree m u o ds qs fit is h are =
     ap flags_of_parts are
-    ∙ flags_of_done agree m u ds (is_nested u) (outcome_of m u) h.distinct
+    ∙ flags_of_done agree m u ds (has_parts u) (outcome_of m u) h.distinct
     (parts_fit m o u (kept_parts ds) fit is h.all)

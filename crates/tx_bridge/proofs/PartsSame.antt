@@ -1,6 +1,6 @@
 -- What is kept of parts goes with a unit.
 use Rattle.std.proofs.Common.{◌≡◌, ℕ, List, [], map, Option, Some, None, refl, ap, sym, ◌∙◌, subst}
-use Rattle.std.specs.Prelude.{Bool, false, ◌&&◌, is_some, if◌then◌else◌}
+use Rattle.std.specs.Prelude.{Bool, false, is_some, if◌then◌else◌}
 use Rattle.std.specs.Option.{option_map}
 use Rattle.std.specs.List.{AllByRecursion, IsDistinct}
 use Rattle.tx_tree.specs.WideTree.{WideTree}
@@ -8,12 +8,10 @@ use Rattle.tx_origin.specs.TaggedTrees.{TaggedTree, tagged_of}
 use Rattle.tx_exec_form.specs.declared.TheConstants.{MOST_LEVELS}
 use Rattle.tx_exec_form.specs.Runs.{Before}
 use Rattle.tx_exec_form.specs.Evaluated.{WideTrace}
-use Rattle.tx_parts.specs.Openness.{openness}
 use Rattle.tx_parts.specs.Parts.{parts, stored}
 use Rattle.tx_walk.specs.declared.part.Part.{Part as DonePart}
-use Rattle.tx_walk.specs.Open.{is_open}
 use Rattle.tx_units.specs.declared.kinds.Unit.{Unit as DocUnit}
-use Rattle.tx_bridge.specs.Nested.{KeptParts, is_nested}
+use Rattle.tx_bridge.specs.PartsKept.{KeptParts, has_parts}
 use Rattle.tx_bridge.specs.HeldParts.{HoldsPart, PartsHold, AreItsParts, kept_parts}
 use Rattle.tx_bridge.specs.UnitLists.{IsPlaced}
 
@@ -23,7 +21,7 @@ unfolding IsDistinct
 no_parts u = record { hold = tt; distinct = tt; all = tt }
 
 -- so it is where the unit isn't nested
-pub bare_parts : (u : DocUnit) (o : Option WideTrace) → is_nested u ≡ false → PartsHold u o []
+pub bare_parts : (u : DocUnit) (o : Option WideTrace) → has_parts u ≡ false → PartsHold u o []
 unfolding IsDistinct
 bare_parts u None nested = record { hold = tt; distinct = tt; all = tt }
 bare_parts u (Some trace) nested = record {
@@ -43,22 +41,19 @@ at_is : (u : DocUnit) → IsPlaced u → is_some u.tagged.at ≡ is_some u.path
 at_is u placed = ap is_some placed.origin ∙ some_at u.path
 
 pub same_nested : (u v : DocUnit) → tagged_of u.tagged ≡ tagged_of v.tagged → IsPlaced u → IsPlaced v
-    → is_nested u ≡ is_nested v
+    → has_parts u ≡ has_parts v
 same_nested u v same placed there =
-    let paths : is_some u.path ≡ is_some v.path =
-    sym (at_is u placed) ∙ ap (λ (t : TaggedTree). is_some t.at) same ∙ at_is v there in
-    ap (λ b. b && is_open (openness u.tagged.tree)) paths
-    ∙ ap (λ (t : TaggedTree). is_some v.path && is_open (openness t.tree)) same
+    sym (at_is u placed) ∙ ap (λ (t : TaggedTree). is_some t.at) same ∙ at_is v there
 
 abbrev asked : Bool → WideTree → ℕ → Before → KeptParts
 asked b t n e = if b then map stored (parts MOST_LEVELS n [] t e) else []
 
 same_parts : (u v : DocUnit) (ks : KeptParts) (o : Option WideTrace) → tagged_of u.tagged ≡ tagged_of v.tagged
-    → is_nested u ≡ is_nested v → AreItsParts u ks o → AreItsParts v ks o
+    → has_parts u ≡ has_parts v → AreItsParts u ks o → AreItsParts v ks o
 same_parts u v ks None same nested h = tt
 same_parts u v ks (Some trace) same nested h = λ n e agrees allowed.
     ap (λ b. asked b v.tagged.tree n e) (sym nested)
-    ∙ ap (λ (t : TaggedTree). asked (is_nested u) t.tree n e) (sym same)
+    ∙ ap (λ (t : TaggedTree). asked (has_parts u) t.tree n e) (sym same)
     ∙ h n e agrees allowed
 
 pub parts_same : (u v : DocUnit) (o : Option WideTrace) (ps : List DonePart) → tagged_of u.tagged ≡ tagged_of v.tagged

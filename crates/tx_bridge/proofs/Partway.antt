@@ -18,8 +18,8 @@ use Rattle.tx_units.specs.declared.kinds.Unit.{Unit as DocUnit}
 use Rattle.tx_bridge.specs.declared.bridge.Bridge.{Bridge}
 use Rattle.tx_bridge.specs.Entries.{Entry, units_of, fresh_from, outcome_of}
 use Rattle.tx_bridge.specs.Reached.{fits, reached_from}
-use Rattle.tx_bridge.specs.Nested.{KeptParts, fresh_parts, fresh_parts_from, part_flags, part_flags_from}
-use Rattle.tx_bridge.specs.Nested.{charge_of, charges_from}
+use Rattle.tx_bridge.specs.PartsKept.{KeptParts, fresh_parts, fresh_parts_from, part_flags, part_flags_from}
+use Rattle.tx_bridge.specs.PartsKept.{charge_of, charges_from}
 use Rattle.tx_bridge.specs.HeldParts.{kept_parts, flags_of_parts}
 use Rattle.tx_bridge.specs.Settled.{AgreesWith, AreSettled}
 use Rattle.tx_bridge.specs.Sound.{IsSound, entry_of, entries_of, parts_in, part_flags_in, flags_of, sources_in}

@@ -25,8 +25,8 @@ use Rattle.tx_units.specs.declared.kinds.Unit.{Unit as DocUnit}
 use Rattle.tx_view_form.specs.Outcomes.{Moment, beginning, allowance, behind}
 use Rattle.tx_bridge.specs.declared.bridge.Bridge.{Bridge}
 use Rattle.tx_bridge.specs.Entries.{units_of, outcome_of}
-use Rattle.tx_bridge.specs.Nested.{KeptParts, kept_at, is_nested, unit_parts, parts_if_done, fresh_parts}
-use Rattle.tx_bridge.specs.Nested.{fresh_parts_from, flags_if_done, part_flags, part_flags_from, PartsStay}
+use Rattle.tx_bridge.specs.PartsKept.{KeptParts, kept_at, has_parts, unit_parts, parts_if_done, fresh_parts}
+use Rattle.tx_bridge.specs.PartsKept.{fresh_parts_from, flags_if_done, part_flags, part_flags_from, PartsStay}
 use Rattle.tx_bridge.specs.HeldParts.{HoldsPart, kept_parts}
 use Rattle.tx_bridge.specs.Sound.{IsSound, entries_of, parts_in, part_flags_in}
 use Rattle.tx_bridge.specs.UnitLists.{IsPlaced}
@@ -102,9 +102,9 @@ module _ (over : AllOver) (stand : AllStandIn) (traced : AllTraced) where
   unit_stays : (m : Moment) (u : DocUnit) (ds : List DonePart) → IsPlaced u
       → AllByRecursion (HoldsPart u.tagged.tree) ds → (k : ℕ) (s : Stored) → slice_get (fresh_parts m u) k ≡ Some s
       → slice_get (part_flags m u (kept_parts ds)) k ≡ Some false → kept_at (kept_parts ds) s.path ≡ s.trace
-  unit_stays m u ds placed hold k s = by (is_nested u) (outcome_of m u) refl refl
+  unit_stays m u ds placed hold k s = by (has_parts u) (outcome_of m u) refl refl
     where
-      by : (b : Bool) (o : Option WideTrace) → is_nested u ≡ b → outcome_of m u ≡ o
+      by : (b : Bool) (o : Option WideTrace) → has_parts u ≡ b → outcome_of m u ≡ o
           → slice_get (if b then parts_if_done o (unit_parts m u) else []) k ≡ Some s
           → slice_get (if b then flags_if_done o (kept_at (kept_parts ds)) (unit_parts m u) else []) k ≡ Some false
           → kept_at (kept_parts ds) s.path ≡ s.trace

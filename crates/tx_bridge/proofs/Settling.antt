@@ -221,7 +221,7 @@ changed_once ms us are j k u v at_j at_k h g = by (j == k) refl
         (λ x is. (apart a.path x).0 a.has (b.has ∙ ap Some is))
         (λ x is. (apart b.path x).1 b.has (a.has ∙ ap Some is)))
 
-goes_from : (ms : List Mod) (t : WideTree) (q : List ℕ) → is_gone q ms ≡ true → are_within q ms ≡ true
+pub goes_from : (ms : List Mod) (t : WideTree) (q : List ℕ) → is_gone q ms ≡ true → are_within q ms ≡ true
     → through ms t (Some q) ≡ None
 goes_from [] t q gone within = cc
 goes_from (m ∷ ms) t q gone within = all_go m ms t q within gone

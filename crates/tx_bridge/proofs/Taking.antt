@@ -5,37 +5,35 @@ use Rattle.std.proofs.lemmas.Bool.Decides.{Decides-eqb}
 use Rattle.std.proofs.lemmas.Option.{slice_get-map}
 use Rattle.std.specs.Prelude.{Bool, true, false, ◌&&◌, ◌==◌, slice_get, if◌then◌else◌, option_and_then}
 use Rattle.std.specs.Option.{option_map, option_map_or}
-use Rattle.std.specs.List.{All}
+use Rattle.std.specs.List.{All, AllByRecursion}
 use Rattle.tx_tree.specs.WideTree.{WideTree}
 use Rattle.tx_mod.specs.declared.mods.Mod.{Mod}
-use Rattle.tx_mod.specs.Followed.{CarriesThroughAll, changed_by_all}
 use Rattle.tx_exec_form.specs.Evaluated.{WideTrace}
 use Rattle.tx_exec.specs.Outcomes.{wide_outcome}
 use Rattle.tx_units.specs.declared.kinds.Unit.{Unit as DocUnit}
 use Rattle.tx_bridge.specs.declared.bridge.Bridge.{Bridge}
 use Rattle.tx_bridge.specs.Entries.{Entry, Kept, units_of, traces_of}
-use Rattle.tx_bridge.specs.Sound.{IsSound, entries_of, parts_in, sources_in}
-use Rattle.tx_bridge.specs.Nested.{KeptParts}
+use Rattle.tx_bridge.specs.Sound.{IsSound, entries_of, sources_in}
+use Rattle.tx_bridge.specs.PartsKept.{KeptParts}
 use Rattle.tx_bridge.specs.HeldParts.{kept_parts}
-use Rattle.tx_bridge.specs.CarryingParts.{parts_from, carried_parts}
 use Rattle.tx_bridge.specs.UnitLists.{AreUnits}
 use Rattle.tx_bridge.specs.Carrying.{is_path, same_unit, through, unit_places_after, number_at, same_number, source}
 use Rattle.tx_bridge.specs.Carrying.{sources_from, sources, had, taken_from}
-use Rattle.tx_bridge.specs.Carrying.{carried, mods_of, AllLead, AllStand, AreSameBodies}
-use Rattle.tx_bridge.specs.Slots.{AreMoved, stays, given_from, given_all, fresh_bridge, paths_in}
+use Rattle.tx_bridge.specs.Carrying.{carried, mods_of}
+use Rattle.tx_bridge.specs.Slots.{stays, given_from, given_all, fresh_bridge, paths_in}
 use Rattle.tx_bridge.specs.Slots.{bodies_of, given}
-use Rattle.tx_bridge.proofs.Arrived.{with_given, units_bodies, given_bodies}
-use Rattle.tx_bridge.proofs.Arrived.{carried_sound, lead_all, moved_all, sound_placed, fresh_apart, fresh_placed}
+use Rattle.tx_bridge.proofs.Arrived.{with_given, units_bodies, all_given_units}
+use Rattle.tx_bridge.proofs.Arrived.{moved_all, sound_placed, fresh_apart, fresh_placed}
 use Rattle.tx_bridge.proofs.Single.{NoneTwice, none_twice}
 
 -- What the new unit v of number j has, once the old units from number i on have given; f says what an old one gives.
-abbrev got : {A : Type 0} → (ℕ → Bridge → A) → ℕ → List (Option (List ℕ)) → List Bridge → ℕ → DocUnit → A → A
+abbrev pub got : {A : Type 0} → (ℕ → Bridge → A) → ℕ → List (Option (List ℕ)) → List Bridge → ℕ → DocUnit → A → A
 got f i [] bs j v o = o
 got f i (q ∷ qs) [] j v o = o
 got f i (q ∷ qs) (b ∷ bs) j v o = got f (i + 1) qs bs j v (if stays q i b.unit j v then f i b else o)
 
 -- so of each new unit; g says what it has before
-abbrev all_got : {A : Type 0} → (ℕ → Bridge → A) → (Bridge → A) → ℕ → List (Option (List ℕ)) → List Bridge → ℕ
+abbrev pub all_got : {A : Type 0} → (ℕ → Bridge → A) → (Bridge → A) → ℕ → List (Option (List ℕ)) → List Bridge → ℕ
     → List Bridge → List A
 all_got f g i qs bs j [] = []
 all_got f g i qs bs j (w ∷ ws) = got f i qs bs j w.unit (g w) ∷ all_got f g i qs bs (j + 1) ws
@@ -67,17 +65,17 @@ module _ {A : Type 0} (f : ℕ → Bridge → A) (g : Bridge → A)
   got_past i q qs j [] = refl
   got_past i q qs j (w ∷ ws) = ap (λ xs. g w ∷ xs) (got_past i q qs (j + 1) ws)
 
-  given_got : (i : ℕ) (qs : List (Option (List ℕ))) (bs ws : List Bridge)
+  pub given_got : (i : ℕ) (qs : List (Option (List ℕ))) (bs ws : List Bridge)
       → map g (given_all i qs bs ws) ≡ all_got f g i qs bs 0 ws
   given_got i [] bs ws = got_none i bs 0 ws
   given_got i (q ∷ qs) [] ws = got_past i q qs 0 ws
   given_got i (q ∷ qs) (b ∷ bs) ws = given_got (i + 1) qs bs (given_from q i b 0 ws) ∙ got_next i q qs b bs 0 ws
 
 -- what an old unit gives: its number
-abbrev number_given : ℕ → Bridge → Option ℕ
+abbrev pub number_given : ℕ → Bridge → Option ℕ
 number_given i b = Some i
 
-abbrev source_in : Bridge → Option ℕ
+abbrev pub source_in : Bridge → Option ℕ
 source_in b = b.source
 
 abbrev trace_in : Bridge → Option WideTrace
@@ -163,16 +161,41 @@ got_source qs bs j v same = by v.path refl
     by (Some p) e = got_path 0 qs bs j v p None same e
     by None e = got_number j 0 qs bs j v e same (omega arith)
 
-all_sources : (qs : List (Option (List ℕ))) (bs : List Bridge) (j : ℕ) (us : List DocUnit) → length qs ≡ length bs
-    → all_got number_given source_in 0 qs bs j (map fresh_bridge us) ≡ sources_from qs (bodies_of bs) j us
-all_sources qs bs j [] same = refl
-all_sources qs bs j (u ∷ us) same =
-    ap (λ s. s ∷ all_got number_given source_in 0 qs bs (j + 1) (map fresh_bridge us)) (got_source qs bs j u same)
-    ∙ ap (λ ss. source qs (bodies_of bs) j u ∷ ss) (all_sources qs bs (j + 1) us same)
+-- ---- new units of which nothing is kept but parts
+
+-- these are the units, of each of which no trace is kept, and which was none before
+abbrev pub AreBare : List DocUnit → List Bridge → Type 0
+AreBare [] [] = Unit {0}
+AreBare [] (w ∷ ws) = ⊥
+AreBare (u ∷ us) [] = ⊥
+AreBare (u ∷ us) (w ∷ ws) = ((w.unit ≡ u) × (trace_in w ≡ None) × (w.source ≡ None)) × AreBare us ws
+
+pub fresh_bare : (us : List DocUnit) → AreBare us (map fresh_bridge us)
+fresh_bare [] = tt
+fresh_bare (u ∷ us) = ((refl, refl, refl), fresh_bare us)
+
+pub bare_bodies : (us : List DocUnit) (ws : List Bridge) → AreBare us ws → bodies_of ws ≡ us
+bare_bodies [] [] h = refl
+bare_bodies [] (w ∷ ws) h = absurd h
+bare_bodies (u ∷ us) [] h = absurd h
+bare_bodies (u ∷ us) (w ∷ ws) h =
+    ap (λ v. v ∷ bodies_of ws) h.0.0 ∙ ap (λ vs. u ∷ vs) (bare_bodies us ws h.1)
+
+all_sources : (qs : List (Option (List ℕ))) (bs : List Bridge) (j : ℕ) (us : List DocUnit) (ws : List Bridge)
+    → AreBare us ws → length qs ≡ length bs
+    → all_got number_given source_in 0 qs bs j ws ≡ sources_from qs (bodies_of bs) j us
+all_sources qs bs j [] [] h same = refl
+all_sources qs bs j [] (w ∷ ws) h same = absurd h
+all_sources qs bs j (u ∷ us) [] h same = absurd h
+all_sources qs bs j (u ∷ us) (w ∷ ws) h same =
+    ap (λ s. s ∷ all_got number_given source_in 0 qs bs (j + 1) ws)
+    (ap (λ v. got number_given 0 qs bs j v w.source) h.0.0 ∙ ap (got number_given 0 qs bs j u) h.0.2
+    ∙ got_source qs bs j u same)
+    ∙ ap (λ ss. source qs (bodies_of bs) j u ∷ ss) (all_sources qs bs (j + 1) us ws h.1 same)
 
 -- ---- what they have, by the number
 
-abbrev parts_in_one : Bridge → KeptParts
+abbrev pub parts_in_one : Bridge → KeptParts
 parts_in_one b = kept_parts b.parts
 
 abbrev traces_in : List Bridge → List (Option WideTrace)
@@ -181,10 +204,10 @@ traces_in bs = map trace_in bs
 -- `find` says what the old unit of a number gives, and what a new one has without one
 module _ {A : Type 0} (g : Bridge → A) (find : Option ℕ → A) where
   -- so it is of the old ones from number i on
-  abbrev AreFrom : ℕ → List Bridge → Type 0
+  abbrev pub AreFrom : ℕ → List Bridge → Type 0
   AreFrom i bs = (n k : ℕ) (b : Bridge) → n ≡ i + k → slice_get bs k ≡ Some b → find (Some n) ≡ g b
 
-  abbrev gives : ℕ → Bridge → A
+  abbrev pub gives : ℕ → Bridge → A
   gives i b = g b
 
   one_found : (i : ℕ) (b : Bridge) (o : Option ℕ) (s : Bool) → find (Some i) ≡ g b
@@ -192,7 +215,7 @@ module _ {A : Type 0} (g : Bridge → A) (find : Option ℕ → A) where
   one_found i b o true at = sym at
   one_found i b o false at = refl
 
-  got_found : (i : ℕ) (qs : List (Option (List ℕ))) (bs : List Bridge) (j : ℕ) (v : DocUnit) (o : Option ℕ)
+  pub got_found : (i : ℕ) (qs : List (Option (List ℕ))) (bs : List Bridge) (j : ℕ) (v : DocUnit) (o : Option ℕ)
       → AreFrom i bs → got gives i qs bs j v (find o) ≡ find (got number_given i qs bs j v o)
   got_found i [] bs j v o h = refl
   got_found i (q ∷ qs) [] j v o h = refl
@@ -201,27 +224,22 @@ module _ {A : Type 0} (g : Bridge → A) (find : Option ℕ → A) where
       ∙ got_found (i + 1) qs bs j v (if stays q i b.unit j v then Some i else o)
       (λ n k c e at. h n (suc k) c (omega (arith, e)) at)
 
-  all_found : ((u : DocUnit) → g (fresh_bridge u) ≡ find None) → (qs : List (Option (List ℕ))) (bs : List Bridge)
-      (j : ℕ) (us : List DocUnit) → AreFrom 0 bs
-      → all_got gives g 0 qs bs j (map fresh_bridge us)
-      ≡ map find (all_got number_given source_in 0 qs bs j (map fresh_bridge us))
-  all_found none qs bs j [] h = refl
-  all_found none qs bs j (u ∷ us) h =
-      ap (λ o. o ∷ all_got gives g 0 qs bs (j + 1) (map fresh_bridge us))
-      (ap (got gives 0 qs bs j u) (none u) ∙ got_found 0 qs bs j u None h)
-      ∙ ap (λ os. find (got number_given 0 qs bs j u None) ∷ os) (all_found none qs bs (j + 1) us h)
+  all_found : (qs : List (Option (List ℕ))) (bs : List Bridge) (j : ℕ) (us : List DocUnit) (ws : List Bridge)
+      → AreBare us ws → AllByRecursion (λ w. g w ≡ find None) ws → AreFrom 0 bs
+      → all_got gives g 0 qs bs j ws ≡ map find (all_got number_given source_in 0 qs bs j ws)
+  all_found qs bs j [] [] bare none h = refl
+  all_found qs bs j [] (w ∷ ws) bare none h = absurd bare
+  all_found qs bs j (u ∷ us) [] bare none h = absurd bare
+  all_found qs bs j (u ∷ us) (w ∷ ws) bare none h =
+      ap (λ o. o ∷ all_got gives g 0 qs bs (j + 1) ws)
+      (ap (got gives 0 qs bs j w.unit) none.0 ∙ got_found 0 qs bs j w.unit None h
+      ∙ ap (λ s. find (got number_given 0 qs bs j w.unit s)) (sym bare.0.2))
+      ∙ ap (λ os. find (got number_given 0 qs bs j w.unit w.source) ∷ os)
+      (all_found qs bs (j + 1) us ws bare.1 none.1 h)
 
-  -- what the new units have, by the old ones that they are
-  found_all : ((u : DocUnit) → g (fresh_bridge u) ≡ find None)
-      → ((i : ℕ) (b w : Bridge) → g (with_given i b w) ≡ g b) → (ms : List Mod) (t : WideTree) (old : List Bridge)
-      (us : List DocUnit) → AreFrom 0 old
-      → map g (given ms t old us) ≡ map find (sources_in (given ms t old us))
-  found_all none keeps ms t old us h =
-      given_got gives g keeps 0 (map (through ms t) (paths_in old)) old (map fresh_bridge us)
-      ∙ all_found none (map (through ms t) (paths_in old)) old 0 us h
-      ∙ ap (map find)
-      (sym (given_got number_given source_in (λ i b w. refl) 0 (map (through ms t) (paths_in old)) old
-      (map fresh_bridge us)))
+-- what is given to these
+abbrev pub given_to : List Bridge → List Mod → WideTree → List Bridge → List Bridge
+given_to ws ms t old = given_all 0 (map (through ms t) (paths_in old)) old ws
 
 trace_found : (bs : List Bridge) (n k : ℕ) (b : Bridge) → n ≡ 0 + k → slice_get bs k ≡ Some b
     → had (traces_in bs) (Some n) ≡ wide_outcome b.kept
@@ -229,13 +247,6 @@ trace_found bs n k b e at =
     let same : n ≡ k = omega (arith, e) in
     ap (λ i. had (traces_in bs) (Some i)) same
     ∙ ap (option_and_then (λ x. x)) (slice_get-map trace_in bs k ∙ ap (option_map trace_in) at)
-
-parts_found : (bs : List Bridge) (n k : ℕ) (b : Bridge) → n ≡ 0 + k → slice_get bs k ≡ Some b
-    → parts_from (parts_in bs) (Some n) ≡ kept_parts b.parts
-parts_found bs n k b e at =
-    let same : n ≡ k = omega (arith, e) in
-    ap (λ i. parts_from (parts_in bs) (Some i)) same
-    ∙ ap (λ o. option_map_or (λ ks. ks) o []) (slice_get-map parts_in_one bs k ∙ ap (option_map parts_in_one) at)
 
 abbrev with_trace : DocUnit → Option WideTrace → Entry
 with_trace u o = record { unit = u; trace = o }
@@ -257,41 +268,52 @@ entries_taken traces (w ∷ ws) (s ∷ ss) (v ∷ vs) e f =
     ap (λ u. with_trace u (trace_in w) ∷ entries_of ws) is_v.0 ∙ ap (λ o. with_trace v o ∷ entries_of ws) is_s.0
     ∙ ap (λ es. with_trace v (had traces s) ∷ es) (entries_taken traces ws ss vs is_v.1 is_s.1)
 
+no_traces : (us : List DocUnit) (ws : List Bridge) → AreBare us ws → AllByRecursion (λ w. trace_in w ≡ None) ws
+no_traces [] [] h = tt
+no_traces [] (w ∷ ws) h = absurd h
+no_traces (u ∷ us) [] h = absurd h
+no_traces (u ∷ us) (w ∷ ws) h = (h.0.1, no_traces us ws h.1)
+
 -- ---- where the old ones stand
 
-places_same : (ms : List Mod) (t : WideTree) (bs : List Bridge)
+pub places_same : (ms : List Mod) (t : WideTree) (bs : List Bridge)
     → map (through ms t) (paths_in bs) ≡ unit_places_after ms t (bodies_of bs)
 places_same ms t [] = refl
 places_same ms t (b ∷ bs) = ap (λ qs. through ms t b.unit.path ∷ qs) (places_same ms t bs)
 
-places_many : (ms : List Mod) (t : WideTree) (bs : List Bridge)
+pub places_many : (ms : List Mod) (t : WideTree) (bs : List Bridge)
     → length (map (through ms t) (paths_in bs)) ≡ length bs
 places_many ms t [] = refl
 places_many ms t (b ∷ bs) = ap suc (places_many ms t bs)
 
-module _ (ms : List Mod) (t : WideTree) (old : List Bridge) (us : List DocUnit) where
-  pub given_from_places : sources_in (given ms t old us)
+module _ (ms : List Mod) (t : WideTree) (old : List Bridge) (us : List DocUnit) (ws : List Bridge)
+    (bare : AreBare us ws) where
+  pub given_from_places : sources_in (given_to ws ms t old)
       ≡ sources_from (map (through ms t) (paths_in old)) (bodies_of old) 0 us
   given_from_places =
-      given_got number_given source_in (λ i b w. refl) 0 (map (through ms t) (paths_in old)) old (map fresh_bridge us)
-      ∙ all_sources (map (through ms t) (paths_in old)) old 0 us (places_many ms t old)
+      given_got number_given source_in (λ i b w. refl) 0 (map (through ms t) (paths_in old)) old ws
+      ∙ all_sources (map (through ms t) (paths_in old)) old 0 us ws bare (places_many ms t old)
 
-  pub given_sources : sources_in (given ms t old us) ≡ sources ms t (bodies_of old) us
+  pub given_sources : sources_in (given_to ws ms t old) ≡ sources ms t (bodies_of old) us
   given_sources = given_from_places ∙ ap (λ qs. sources_from qs (bodies_of old) 0 us) (places_same ms t old)
 
-  given_traces : traces_in (given ms t old us) ≡ map (had (traces_in old)) (sources ms t (bodies_of old) us)
+  given_traces : traces_in (given_to ws ms t old) ≡ map (had (traces_in old)) (sources ms t (bodies_of old) us)
   given_traces =
-      found_all trace_in (had (traces_in old)) (λ u. refl) (λ i b w. refl) ms t old us (trace_found old)
-      ∙ ap (map (had (traces_in old))) given_sources
+      given_got (λ i b. trace_in b) trace_in (λ i b w. refl) 0 (map (through ms t) (paths_in old)) old ws
+      ∙ all_found trace_in (had (traces_in old)) (map (through ms t) (paths_in old)) old 0 us ws bare
+      (no_traces us ws bare) (trace_found old)
+      ∙ ap (map (had (traces_in old)))
+      (sym (given_got number_given source_in (λ i b w. refl) 0 (map (through ms t) (paths_in old)) old ws)
+      ∙ given_sources)
 
-  pub given_parts : parts_in (given ms t old us) ≡ map (parts_from (parts_in old)) (sources_in (given ms t old us))
-  given_parts =
-      found_all parts_in_one (parts_from (parts_in old)) (λ u. refl) (λ i b w. refl) ms t old us (parts_found old)
+  pub given_units_are : bodies_of (given_to ws ms t old) ≡ us
+  given_units_are =
+      all_given_units 0 (map (through ms t) (paths_in old)) old ws ∙ bare_bodies us ws bare
 
-  pub given_carried : entries_of (given ms t old us) ≡ taken_from (traces_in old) (sources ms t (bodies_of old) us) us
+  pub given_carried : entries_of (given_to ws ms t old) ≡ taken_from (traces_in old) (sources ms t (bodies_of old) us) us
   given_carried =
-      entries_taken (traces_in old) (given ms t old us) (sources ms t (bodies_of old) us) us
-      (given_bodies (map (through ms t) (paths_in old)) old us) given_traces
+      entries_taken (traces_in old) (given_to ws ms t old) (sources ms t (bodies_of old) us) us given_units_are
+      given_traces
 
 entries_traces : (bs : List Bridge) → traces_of (entries_of bs) ≡ traces_in bs
 entries_traces [] = refl
@@ -307,73 +329,32 @@ pub record IsCarried (buffer : ℕ) (ms : List Mod) (t : WideTree) (kept : Kept)
   pub once : NoneTwice (sources_in result)
   pub units : units_of (entries_of result) ≡ us
 
-pub given_is : (buffer : ℕ) (ms : List Mod) (t : WideTree) (kept : Kept) (us : List DocUnit)
-    (old result : List Bridge) → entries_of old ≡ kept → All IsSound old → AreUnits us
-    → result ≡ given (mods_of buffer ms) t old us → IsCarried buffer ms t kept us result
-given_is buffer ms t kept us old result was sound are is_given =
+pub given_to_is : (buffer : ℕ) (ms : List Mod) (t : WideTree) (kept : Kept) (us : List DocUnit)
+    (old ws result : List Bridge) → AreBare us ws → entries_of old ≡ kept → All IsSound old → AreUnits us
+    → result ≡ given_to ws (mods_of buffer ms) t old → IsCarried buffer ms t kept us result
+given_to_is buffer ms t kept us old ws result bare was sound are is_given =
     let bodies : units_of kept ≡ bodies_of old = sym (ap units_of was) ∙ units_bodies old in
     let traces : traces_of kept ≡ traces_in old = sym (ap traces_of was) ∙ entries_traces old in
     record {
       entries =
-          ap entries_of is_given ∙ given_carried (mods_of buffer ms) t old us
+          ap entries_of is_given ∙ given_carried (mods_of buffer ms) t old us ws bare
           ∙ ap (λ os. taken_from os (sources (mods_of buffer ms) t (bodies_of old) us) us) (sym traces)
-          ∙ ap (λ ws. taken_from (traces_of kept) (sources (mods_of buffer ms) t ws us) us) (sym bodies);
+          ∙ ap (λ vs. taken_from (traces_of kept) (sources (mods_of buffer ms) t vs us) us) (sym bodies);
       sources =
-          ap sources_in is_given ∙ given_sources (mods_of buffer ms) t old us
-          ∙ ap (λ ws. sources (mods_of buffer ms) t ws us) (sym bodies);
+          ap sources_in is_given ∙ given_sources (mods_of buffer ms) t old us ws bare
+          ∙ ap (λ vs. sources (mods_of buffer ms) t vs us) (sym bodies);
       once =
-          subst NoneTwice (sym (ap sources_in is_given ∙ given_from_places (mods_of buffer ms) t old us))
+          subst NoneTwice (sym (ap sources_in is_given ∙ given_from_places (mods_of buffer ms) t old us ws bare))
           (none_twice (map (through (mods_of buffer ms) t) (paths_in old)) old us (moved_all (mods_of buffer ms) t old)
           (sound_placed old sound) (fresh_apart us are.apart) (fresh_placed us are.placed));
       units =
           ap (λ cs. units_of (entries_of cs)) is_given
-          ∙ units_bodies (given (mods_of buffer ms) t old us)
-          ∙ given_bodies (map (through (mods_of buffer ms) t) (paths_in old)) old us;
+          ∙ units_bodies (given_to ws (mods_of buffer ms) t old)
+          ∙ given_units_are (mods_of buffer ms) t old us ws bare;
     }
 
-pub given_parts_is : (buffer : ℕ) (ms : List Mod) (t : WideTree) (us : List DocUnit) (old result : List Bridge)
-    → result ≡ given (mods_of buffer ms) t old us
-    → parts_in result ≡ carried_parts (parts_in old) (sources_in result)
-given_parts_is buffer ms t us old result is =
-    ap parts_in is ∙ given_parts (mods_of buffer ms) t old us
-    ∙ ap (λ cs. map (parts_from (parts_in old)) (sources_in cs)) (sym is)
-
--- the premises are what the calls ensure, in their order
-pub carry_sound : (buffer : ℕ) (ms : List Mod) (t : WideTree) (kept : Kept) (us : List DocUnit)
-    (old result : List Bridge) → entries_of old ≡ kept → All IsSound old
-    → ((u : WideTree) × (changed_by_all ms t ≡ Some u)) → ((q : List ℕ) → CarriesThroughAll ms t q) → AreUnits us
-    → (buffer ≡ 0 → AllStand t (units_of kept))
-    → (buffer ≡ 0 → (u : WideTree) → changed_by_all ms t ≡ Some u → AllStand u us)
-    → ((buffer ≡ 0 → ⊥) → AreSameBodies (units_of kept) us)
-    → result ≡ given (mods_of buffer ms) t old us → All IsSound result
-carry_sound buffer ms t kept us old result was sound applies law are stand_old stand_new same is_given =
-    let bodies : units_of kept ≡ bodies_of old = sym (ap units_of was) ∙ units_bodies old in
-    subst (All IsSound) (sym is_given)
-    (carried_sound buffer ms t old us applies law sound are.placed (λ e. subst (AllStand t) bodies (stand_old e))
-    stand_new (λ e. subst (λ vs. AreSameBodies vs us) bodies (same e)))
-
--- what giving gives
-pub as_given : (ms : List Mod) (t : WideTree) (us : List DocUnit) (old bs new result : List Bridge)
-    (paths places : List (Option (List ℕ))) → paths ≡ paths_in old → places ≡ map (through ms t) paths → bs ≡ old
-    → new ≡ map fresh_bridge us → result ≡ given_all 0 places bs new → result ≡ given ms t old us
-as_given ms t us old bs new result paths places is_paths is_places is_bs is_new is_result =
-    is_result ∙ ap (λ qs. given_all 0 qs bs new) (is_places ∙ ap (map (through ms t)) is_paths)
-    ∙ ap (λ cs. given_all 0 (map (through ms t) (paths_in old)) cs new) is_bs
-    ∙ ap (given_all 0 (map (through ms t) (paths_in old)) old) is_new
-
--- what the calls ask for
-pub leads_of : (t : WideTree) (kept : Kept) (old : List Bridge) (paths : List (Option (List ℕ)))
-    → entries_of old ≡ kept → paths ≡ paths_in old → AllStand t (units_of kept) → AllLead t paths
-leads_of t kept old paths was is stand =
-    subst (AllLead t) (sym is) (lead_all t old (subst (AllStand t) (sym (ap units_of was) ∙ units_bodies old) stand))
-
-pub moved_as : (ms : List Mod) (t : WideTree) (old bs : List Bridge) (paths places : List (Option (List ℕ)))
-    → paths ≡ paths_in old → places ≡ map (through ms t) paths → bs ≡ old → AreMoved places bs
-moved_as ms t old bs paths places is_paths is_places is_bs =
-    subst (λ qs. AreMoved qs bs) (sym (is_places ∙ ap (map (through ms t)) is_paths))
-    (subst (λ cs. AreMoved (map (through ms t) (paths_in old)) cs) (sym is_bs) (moved_all ms t old))
-
-pub as_many : (ms : List Mod) (t : WideTree) (old bs : List Bridge) (paths places : List (Option (List ℕ)))
-    → paths ≡ paths_in old → places ≡ map (through ms t) paths → bs ≡ old → length places ≡ length bs
-as_many ms t old bs paths places is_paths is_places is_bs =
-    ap length (is_places ∙ ap (map (through ms t)) is_paths) ∙ places_many ms t old ∙ ap length (sym is_bs)
+pub given_is : (buffer : ℕ) (ms : List Mod) (t : WideTree) (kept : Kept) (us : List DocUnit)
+    (old result : List Bridge) → entries_of old ≡ kept → All IsSound old → AreUnits us
+    → result ≡ given (mods_of buffer ms) t old us → IsCarried buffer ms t kept us result
+given_is buffer ms t kept us old result was sound are is_given =
+    given_to_is buffer ms t kept us old (map fresh_bridge us) result (fresh_bare us) was sound are is_given

@@ -18,11 +18,11 @@ use Rattle.tx_bridge.specs.Entries.{Kept, units_of}
 use Rattle.tx_bridge.specs.Sound.{IsSound, entries_of, sources_in}
 use Rattle.tx_bridge.specs.Carrying.{same_kind, same_unit, through, unit_places_after, sources, mods_of, Stands}
 use Rattle.tx_bridge.specs.Carrying.{AllStand, HaveOneTree, AreSameBodies, HaveSameTrees}
-use Rattle.tx_bridge.specs.Slots.{bodies_of, given}
+use Rattle.tx_bridge.specs.Slots.{bodies_of}
 use Rattle.tx_bridge.proofs.Slotting.{some_once, paths_alike}
 use Rattle.tx_bridge.proofs.Arrived.{arrives_at, SameAt, some_path, still, sound_placed, units_bodies}
 use Rattle.tx_bridge.proofs.Single.{ByPath, ByNumber, source_says, HasSource, source_at, body_at}
-use Rattle.tx_bridge.proofs.Taking.{IsCarried, given_is}
+use Rattle.tx_bridge.proofs.Taking.{IsCarried, AreBare, given_to, given_to_is}
 
 -- what holds of all holds of each
 all_at : {A : Type 0} (P : A → Type 0) (xs : List A) (k : ℕ) (x : A) → AllByRecursion P xs → slice_get xs k ≡ Some x
@@ -105,15 +105,15 @@ each_placed old us is sound k u at =
 
 -- the premises are what the calls ensure, in their order
 pub carry_trees : (buffer : ℕ) (ms : List Mod) (t : WideTree) (kept : Kept) (us : List DocUnit)
-    (old result : List Bridge) → entries_of old ≡ kept → All IsSound old
+    (old ws result : List Bridge) → AreBare us ws → entries_of old ≡ kept → All IsSound old
     → ((u : WideTree) × (changed_by_all ms t ≡ Some u)) → ((q : List ℕ) → CarriesThroughAll ms t q) → AreUnits us
     → (buffer ≡ 0 → AllStand t (units_of kept))
     → (buffer ≡ 0 → (u : WideTree) → changed_by_all ms t ≡ Some u → AllStand u us)
     → ((buffer ≡ 0 → ⊥) → AreSameBodies (units_of kept) us)
-    → result ≡ given (mods_of buffer ms) t old us → HaveSameTrees (units_of kept) us (sources_in result)
-carry_trees buffer ms t kept us old result was sound applies law are stand_old stand_new same is_given =
+    → result ≡ given_to ws (mods_of buffer ms) t old → HaveSameTrees (units_of kept) us (sources_in result)
+carry_trees buffer ms t kept us old ws result bare was sound applies law are stand_old stand_new same is_given =
     let carried : IsCarried buffer ms t kept us result =
-    given_is buffer ms t kept us old result was sound are is_given in
+    given_to_is buffer ms t kept us old ws result bare was sound are is_given in
     subst (HaveSameTrees (units_of kept) us) (sym carried.sources)
     (trees_same (mods_of buffer ms) t (units_of kept) us
     (each_same buffer ms t (units_of kept) us applies law stand_old stand_new same)

@@ -21,7 +21,7 @@ use Rattle.tx_walk.specs.Held.{agrees}
 use Rattle.tx_bridge.specs.Reached.{fits}
 use Rattle.tx_bridge.specs.Settled.{AgreesWith, AreSettled, IsSilent}
 use Rattle.tx_bridge.specs.Sound.{Holds, IsSound}
-use Rattle.tx_bridge.specs.Nested.{KeptParts, is_nested, unit_parts, parts_if_done, fresh_parts}
+use Rattle.tx_bridge.specs.PartsKept.{KeptParts, has_parts, unit_parts, parts_if_done, fresh_parts}
 use Rattle.tx_bridge.specs.HeldParts.{PartsHold, AreItsParts}
 use Rattle.tx_walk.specs.declared.part.Part.{Part as DonePart}
 use Rattle.tx_bridge.specs.UnitLists.{IsPlaced}
@@ -88,7 +88,7 @@ parts_fit m (Some trace) u ks fit is all =
     both (agrees (get m.env) trace.looks) (nat_le trace.cost (allowance m)) fit in
     sym (all (allowance m) (get m.env) (agrees_is (get m.env) trace.looks tests.0)
     (leb-true trace.cost (allowance m) tests.1))
-    ∙ ap (λ o. if is_nested u then parts_if_done o (unit_parts m u) else []) is
+    ∙ ap (λ o. if has_parts u then parts_if_done o (unit_parts m u) else []) is
 
 -- the test of a kept trace, by the pairs of its looks
 pub fits_done : (m : Moment) (map : NameMap) (o : Outcome) (trace : Trace) (b : Bool) → o ≡ Done trace → NamesOnce o

@@ -23,31 +23,31 @@ use Rattle.tx_walk.specs.declared.part.Part.{Part as DonePart}
 use Rattle.tx_walk.specs.Walked.{IsTidy, paths_of}
 use Rattle.tx_bridge.specs.CarryingParts.{part_at, and_part, parts_behind}
 use Rattle.tx_bridge.specs.HeldParts.{HoldsPart, kept_parts}
-use Rattle.tx_bridge.specs.Nested.{KeptParts}
+use Rattle.tx_bridge.specs.PartsKept.{KeptParts}
 use Rattle.tx_bridge.proofs.Inside.{rest_is, rest_own, no_rest, begins_is}
 use Rattle.tx_bridge.proofs.Injective.{carried_once}
 
 -- ---- what is kept holds in a tree
 
-abbrev SupportsIfDone : WideTree → Option WideTrace → Type 0
+abbrev pub SupportsIfDone : WideTree → Option WideTrace → Type 0
 SupportsIfDone t None = Unit {0}
 SupportsIfDone t (Some trace) = Supports trace (alone t)
 
-record Holds (t : WideTree) (k : Stored) : Type 0 where
-  there : WideTree
-  leads : subtree t k.path ≡ Some there
-  supports : SupportsIfDone there k.trace
+pub record Holds (t : WideTree) (k : Stored) : Type 0 where
+  pub there : WideTree
+  pub leads : subtree t k.path ≡ Some there
+  pub supports : SupportsIfDone there k.trace
 
 abbrev pub part_paths : KeptParts → List (List ℕ)
 part_paths ks = map (λ k. k.path) ks
 
-hold_kept : (t : WideTree) (ps : List DonePart) → AllByRecursion (HoldsPart t) ps
+pub hold_kept : (t : WideTree) (ps : List DonePart) → AllByRecursion (HoldsPart t) ps
     → AllByRecursion (Holds t) (kept_parts ps)
 hold_kept t [] h = tt
 hold_kept t (p ∷ ps) h =
     (record { there = h.0.there; leads = h.0.leads; supports = h.0.supports }, hold_kept t ps h.1)
 
-hold_done : (t : WideTree) (ps : List DonePart) → AllByRecursion (Holds t) (kept_parts ps) → AllByRecursion IsTidy ps
+pub hold_done : (t : WideTree) (ps : List DonePart) → AllByRecursion (Holds t) (kept_parts ps) → AllByRecursion IsTidy ps
     → AllByRecursion (HoldsPart t) ps
 hold_done t [] h once = tt
 hold_done t (p ∷ ps) h once = (

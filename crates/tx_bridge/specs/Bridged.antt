@@ -11,7 +11,7 @@ use Rattle.tx_units.specs.declared.kinds.Unit.{Unit as DocUnit}
 use Rattle.tx_units.specs.contracts.kinds.Unit as one_unit
 use Rattle.tx_parts.specs.Parts.{Stored}
 use Rattle.tx_bridge.specs.Entries.{Entry, Kept}
-use Rattle.tx_bridge.specs.Nested.{KeptParts}
+use Rattle.tx_bridge.specs.PartsKept.{KeptParts}
 
 -- What is kept of the units and of their parts, of each unit whether it was reached when the last refresh began, and
 -- which unit it was before the last edit. Of each part there is a flag, which the last refresh left.

@@ -1,6 +1,6 @@
 -- What is kept of parts stays with them through an edit.
 use Rattle.std.specs.Prelude.{◌≡◌, ℕ, zero, suc, List, [], ◌∷◌, ◌++◌, map, Option, Some, None}
-use Rattle.std.specs.Prelude.{option_and_then, option_map, slice_get}
+use Rattle.std.specs.Prelude.{option_and_then, option_map}
 use Rattle.std.specs.Option.{option_map_or}
 use Rattle.std.specs.List.{AllByRecursion}
 use Rattle.tx_tree.specs.WideTree.{WideTree}
@@ -10,7 +10,7 @@ use Rattle.tx_mod.specs.Moves.{rest_behind}
 use Rattle.tx_exec_form.specs.Evaluated.{WideTrace}
 use Rattle.tx_units.specs.declared.kinds.Unit.{Unit as DocUnit}
 use Rattle.tx_parts.specs.Parts.{Stored}
-use Rattle.tx_bridge.specs.Nested.{KeptParts, kept_at}
+use Rattle.tx_bridge.specs.PartsKept.{KeptParts, kept_at}
 use Rattle.tx_bridge.specs.Carrying.{Leads}
 
 -- ---- in the one unit that changes
@@ -58,13 +58,3 @@ abbrev pub StaysKept : List Mod → WideTree → List ℕ → KeptParts → Type
 StaysKept ms t p ks = (u : WideTree) (q : List ℕ) (trace : WideTrace) → changed_by_all ms t ≡ Some u
     → AllByRecursion (λ k. Leads t (Some (p ++ k.path))) ks → carried_by_all ms t (p ++ q) ≡ Some (p ++ q)
     → kept_at ks q ≡ Some trace → kept_at (parts_behind ms t p ks) q ≡ Some trace
-
--- ---- in the units that stay
-
--- what is kept of the parts of the old unit that a new one is
-abbrev pub parts_from : List KeptParts → Option ℕ → KeptParts
-parts_from pss s = option_map_or (λ ks. ks) (option_and_then (slice_get pss) s) []
-
--- so it is of each new unit
-abbrev pub carried_parts : List KeptParts → List (Option ℕ) → List KeptParts
-carried_parts pss ss = map (parts_from pss) ss

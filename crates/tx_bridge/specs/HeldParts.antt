@@ -15,7 +15,7 @@ use Rattle.tx_walk.specs.declared.part.Part.{Part as DonePart}
 use Rattle.tx_walk.specs.Walked.{IsTidy, paths_of}
 use Rattle.tx_units.specs.declared.kinds.Unit.{Unit as DocUnit}
 use Rattle.tx_bridge.specs.Entries.{Kept}
-use Rattle.tx_bridge.specs.Nested.{KeptParts, is_nested}
+use Rattle.tx_bridge.specs.PartsKept.{KeptParts, has_parts}
 
 abbrev pub kept_part : DonePart → Stored
 kept_part p = record { path = p.path; trace = Some (wide_trace p.trace) }
@@ -45,7 +45,7 @@ pub record HoldsPart (t : WideTree) (p : DonePart) : Type 0 where
 abbrev pub AreItsParts : DocUnit → KeptParts → Option WideTrace → Type 0
 AreItsParts u ks None = Unit {0}
 AreItsParts u ks (Some trace) = (n : ℕ) (e : Before) → Agrees e trace.looks → trace.cost ≤ n
-    → (if is_nested u then map stored (parts MOST_LEVELS n [] u.tagged.tree e) else []) ≡ ks
+    → (if has_parts u then map stored (parts MOST_LEVELS n [] u.tagged.tree e) else []) ≡ ks
 
 -- what is true of the parts that are kept of a unit, of which this trace is kept
 pub record PartsHold (u : DocUnit) (o : Option WideTrace) (ps : List DonePart) : Type 0 where

@@ -1,7 +1,7 @@
 pub mod Moments
 pub mod Entries
 pub mod Reached
-pub mod Nested
+pub mod PartsKept
 pub mod HeldParts
 pub mod Settled
 pub mod Sound
@@ -12,6 +12,8 @@ pub mod Keeping
 pub mod CarryingParts
 pub mod Others
 pub mod MovedParts
+pub mod PartMoves
+pub mod Courses
 pub mod UnitLists
 pub mod Bridged
 pub mod Names

@@ -8,7 +8,7 @@ use Rattle.tx_units.specs.declared.kinds.Unit.{Unit as DocUnit}
 use Rattle.tx_walk.specs.declared.part.Part.{Part as DonePart}
 use Rattle.tx_walk.specs.Walked.{IsTidy}
 use Rattle.tx_bridge.specs.CarryingParts.{carried_below, parts_within}
-use Rattle.tx_bridge.specs.Nested.{KeptParts}
+use Rattle.tx_bridge.specs.PartsKept.{KeptParts}
 use Rattle.tx_bridge.specs.Others.{kept_of, put_from}
 
 -- where they stand afterwards, by their numbers; one that doesn't stay in the unit stands nowhere

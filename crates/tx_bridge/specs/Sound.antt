@@ -14,10 +14,10 @@ use Rattle.tx_units.specs.Units.{unit_with}
 use Rattle.tx_bridge.specs.declared.bridge.Bridge.{Bridge}
 use Rattle.tx_bridge.specs.declared.bridge.Way.{Way}
 use Rattle.tx_bridge.specs.declared.bridge.Way.TheVariants.{Listed, InPlace}
-use Rattle.tx_bridge.specs.UnitLists.{IsPlaced}
-use Rattle.tx_bridge.specs.Entries.{Entry, Kept}
+use Rattle.tx_bridge.specs.UnitLists.{IsPlaced, AreUnits}
+use Rattle.tx_bridge.specs.Entries.{Entry, Kept, units_of}
 use Rattle.tx_bridge.specs.Settled.{AreSettled}
-use Rattle.tx_bridge.specs.Nested.{KeptParts}
+use Rattle.tx_bridge.specs.PartsKept.{KeptParts}
 use Rattle.tx_bridge.specs.HeldParts.{PartsHold, kept_parts, flags_of_parts}
 use Rattle.tx_walk.specs.declared.part.Part.{Part as DonePart}
 use Rattle.tx_bridge.specs.InPlace.{numbers_but}
@@ -79,7 +79,8 @@ pub record IsSound (b : Bridge) : Type 0 where
   pub placed : IsPlaced b.unit
   pub parts : PartsHold b.unit (wide_outcome b.kept) b.parts
 
--- Each entry is sound, and where the flag is set, all settle in themselves.
+-- Each entry is sound, the units are such as documents have, and where the flag is set, all settle in themselves.
 pub record AreRight (flag : Bool) (bs : List Bridge) : Type 0 where
   pub sound : All IsSound bs
+  pub units : AreUnits (units_of (entries_of bs))
   pub settled : flag ≡ true → AreSettled empty (entries_of bs)

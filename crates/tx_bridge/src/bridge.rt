@@ -4,7 +4,7 @@ ghost use Rattle.tx_exec.specs.Outcomes.{wide_outcome, NamesOnce};
 ghost use Rattle.tx_view_form.specs.Outcomes.{behind, env_behind};
 ghost use Rattle.tx_bridge.specs.Entries.{outcome_of};
 ghost use Rattle.tx_bridge.specs.Reached.{fits};
-ghost use Rattle.tx_bridge.specs.Nested.{is_nested, fresh_parts, part_flags, unit_charge, charge_of};
+ghost use Rattle.tx_bridge.specs.PartsKept.{has_parts, fresh_parts, part_flags, unit_charge, charge_of};
 ghost use Rattle.tx_bridge.specs.HeldParts.{PartsHold, kept_parts, flags_of_parts, unmarked};
 ghost use Rattle.tx_bridge.specs.Settled.{AgreesWith, IsSilent};
 ghost use Rattle.tx_bridge.specs.Sound.{IsSound, entry_of, changed_bridge};
@@ -12,7 +12,7 @@ ghost use Rattle.tx_bridge.specs.Others.{put_from};
 
 use crate::fitting::{fits, is_silent};
 use crate::moments::{Evaluated, Moment};
-use crate::unit_parts::{UnitParts, is_nested};
+use crate::unit_parts::{UnitParts, has_parts};
 use std::alloc::Global;
 use std::mem;
 use std::sync::ledger::Ledger;
@@ -103,7 +103,7 @@ impl Bridge {
         }
     }
 
-    // What the unit comes to at the moment, which stays. It is evaluated by its parts if it is nested.
+    // What the unit comes to at the moment, which stays. A paragraph of the body is evaluated by its parts.
     fn evaluated<L: Ledger>(
         &self,
         alloc: Global,
@@ -122,7 +122,7 @@ impl Bridge {
         ensures counted { IfOk result (λ e. steps.new ≡ steps.old + e.charge) }
         ensures moment { moment.new ≡ moment.old }
     {
-        if is_nested(&self.unit) {
+        if has_parts(&self.unit) {
             return moment.by_parts(alloc, &self.unit, self.parts.all(), steps);
         }
         let outcome = moment.outcome(alloc, &self.unit.tagged, steps)?;

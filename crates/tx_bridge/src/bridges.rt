@@ -1,7 +1,7 @@
 // All units with what is kept of them.
 ghost use Rattle.std.specs.Prelude.{◌≡◌, ℕ, ◌+◌, ◌≤◌, ◌++◌, take, drop, map, IfOk, OnOk, OnErr, Some, None};
 ghost use Rattle.std.specs.Prelude.{[], false, true, MatchOption, slice_get, IsSome, IfSome, IsOk, option_and_then};
-ghost use Rattle.std.specs.Prelude.{length};
+ghost use Rattle.std.specs.Prelude.{length, List};
 ghost use Rattle.std.specs.Option.{unwrap_or, option_map};
 ghost use Rattle.std.specs.List.{All, IsDistinct};
 ghost use Rattle.std.specs.Str.{bytes_eq};
@@ -19,7 +19,7 @@ ghost use Rattle.tx_bridge.specs.Moments.{IsPaid};
 ghost use Rattle.tx_bridge.specs.Entries.{Entry, units_of, fresh_from, outcome_of, behind_all};
 ghost use Rattle.tx_bridge.specs.Reached.{reached_from};
 ghost use Rattle.tx_bridge.specs.MovedParts.{AreMovedParts};
-ghost use Rattle.tx_bridge.specs.Nested.{KeptParts, PartsStay, charges_from, fresh_parts_from, part_flags_from};
+ghost use Rattle.tx_bridge.specs.PartsKept.{KeptParts, PartsStay, charges_from, fresh_parts_from, part_flags_from};
 ghost use Rattle.tx_bridge.specs.HeldParts.{AllPartsHold, kept_parts, flags_of_parts};
 ghost use Rattle.tx_bridge.specs.Settled.{AreSettled};
 ghost use Rattle.tx_bridge.specs.Sound.{IsSound, AllHold, entry_of, entries_of, parts_in, part_flags_in, flags_of};
@@ -27,16 +27,19 @@ ghost use Rattle.tx_bridge.specs.Sound.{sources_in, source_by};
 ghost use Rattle.tx_bridge.specs.UnitLists.{AreUnits, IsPlaced};
 ghost use Rattle.tx_bridge.specs.Carrying.{AllLead, AllStand, StandsNow, AreSameBodies, HaveSameTrees};
 ghost use Rattle.tx_bridge.specs.Carrying.{through, mods_of};
-ghost use Rattle.tx_bridge.specs.Slots.{paths_in, given};
+ghost use Rattle.tx_bridge.specs.Slots.{paths_in};
+ghost use Rattle.tx_bridge.specs.Courses.{given_with};
+ghost use Rattle.tx_mod.specs.declared.mods.Mod.{Mod as Change};
 ghost use Rattle.tx_bridge.specs.InPlace.{IsOneChanged, NoneChanged, numbers_but};
 ghost use Rattle.tx_bridge.specs.Names.{Empty, EmptyParts, Fresh, FreshParts, PartFlags, Charge};
-ghost use Rattle.tx_bridge.specs.Names.{Carry, CarryParts, CarryWithin, Sources};
+ghost use Rattle.tx_bridge.specs.Names.{Carry, CarryParts, CarryWithin, IsCourse, PartMoves, Sources};
 
+use crate::arriving::put_moves;
 use crate::bridge::{Bridge, Way};
+use crate::course::{Course, edit_course};
 use crate::giving::give_all;
 use crate::in_place::{change_one, one_changed, others_of_changed};
 use crate::moments::Moment;
-use crate::paths_after::places_after;
 use std::alloc::Global;
 use std::marker::Model;
 use std::mem;
@@ -46,7 +49,7 @@ use tx_exec::Outcome;
 use tx_exec_form::{size_law, trace_laws};
 use tx_mod::{Mod, carried_law, carried_list_law};
 use tx_parts::{fitting_law, standing_law};
-use tx_tree::{Path, Tree};
+use tx_tree::Tree;
 use tx_units::Unit;
 use tx_walk::Part;
 
@@ -155,68 +158,26 @@ fn moment_behind(alloc: Global, bridges: &[Bridge]) -> Result<Moment, Memory>
     Ok(moment)
 }
 
-fn path_of(alloc: Global, unit: &Unit) -> Result<Option<Path>, Memory>
-    ensures { IfOk result (λ p. p ≡ unit.now.path) }
-{
-    match &unit.path {
-        None => Ok(None),
-        Some(path) => Ok(Some(path.copy(alloc)?)),
-    }
-}
-
-fn paths_of(alloc: Global, bridges: &[Bridge]) -> Result<Vec<Option<Path>>, Memory>
-    ensures { IfOk result (λ v. v.items ≡ paths_in bridges.now) }
-{
-    let mut paths = Vec::with_capacity(alloc, bridges.len())?;
-    for bridge in bridges {
-        paths.push(path_of(alloc, &bridge.unit)?)?;
-    }
-    Ok(paths)
-}
-
-// Where the units with these paths stand after an edit of a buffer.
-fn unit_places_after<L: Ledger>(
+// The new units, with what the old ones give through an edit of a buffer, and with the parts that move to them. For want
+// of memory the old ones stay.
+fn give_over(
     alloc: Global,
-    buffer: u32,
-    before: &Tree,
-    mods: &[Mod],
-    paths: Vec<Option<Path>>,
-    steps: &mut Steps<L>,
-) -> Result<Vec<Option<Path>>, Memory>
-    requires applies { (u : WideTree) × (changed_by_all mods.now before.now ≡ Some u) }
-    requires lead { buffer ≡ 0 → AllLead before.now paths.items }
-    ensures ok { IfOk result (λ v. v.items ≡ map (through (mods_of buffer mods.now) before.now) paths.items) }
-    ensures counted { steps.new ≤ steps.old + cost_of mods.now }
-{
-    if buffer == 0 {
-        return places_after(alloc, before, mods, paths, steps);
-    }
-    Ok(paths)
-}
-
-// The new units, with what the old ones give through an edit of a buffer. For want of memory the old ones stay.
-fn give_over<L: Ledger>(
-    alloc: Global,
-    buffer: u32,
-    before: &Tree,
-    mods: &[Mod],
     bridges: &mut Vec<Bridge>,
     units: Vec<Unit>,
-    steps: &mut Steps<L>,
+    course: Course,
 ) -> Result<(), Memory>
-    requires applies { (u : WideTree) × (changed_by_all mods.now before.now ≡ Some u) }
     requires units { AreUnits units.items }
     requires sound { All IsSound bridges.old.items }
-    requires lead { buffer ≡ 0 → AllLead before.now (paths_in bridges.old.items) }
-    ensures given { OnOk result (bridges.new.items
-        ≡ given (mods_of buffer mods.now) before.now bridges.old.items units.items) }
-    ensures counted { steps.new ≤ steps.old + cost_of mods.now }
+    requires places { (ms : List Change) × (t : WideTree)
+        × (course.places.items ≡ map (through ms t) (paths_in bridges.old.items)) }
+    ensures given { OnOk result ((ms : List Change) (t : WideTree)
+        → course.places.items ≡ map (through ms t) (paths_in bridges.old.items)
+        → bridges.new.items ≡ given_with course.moves.items ms t bridges.old.items units.items) }
     ensures refused { OnErr result (bridges.new ≡ bridges.old) }
 {
-    let paths = paths_of(alloc, bridges)?;
-    let places = unit_places_after(alloc, buffer, before, mods, paths, steps)?;
     let mut new = bridges_of(alloc, units)?;
-    give_all(&mut new, &places, bridges);
+    put_moves(&mut new, course.moves)?;
+    give_all(&mut new, &course.places, bridges);
     *bridges = new;
     Ok(())
 }
@@ -250,7 +211,7 @@ impl Bridges {
 
     /// Brings each unit to what evaluating all from nothing gives. What is kept of a unit is used again where its looks
     /// agree with what names have before it, and its cost is allowed. The steps rise by the charges of the other units:
-    /// a nested one is charged its parts of which nothing that fits is kept. Answers these charges.
+    /// a paragraph of the body is charged its parts of which nothing that fits is kept. Answers these charges.
     ///
     /// What is kept of a part whose flag is down behind it is what was kept at the part's path. Of a unit that wasn't
     /// reached all that was kept of its parts stays.
@@ -287,7 +248,9 @@ impl Bridges {
 
     /// The new units after an edit of a buffer, with what was kept of the old ones that they are. A paragraph of the
     /// body is the old one from whose path the modifications lead to its path, or, where another buffer than 0 was
-    /// edited, the one with its path. Another unit is the old one of its number, where kind and tree are the same.
+    /// edited, the one with its path. Another unit is the old one of its number, where kind and tree are the same. What
+    /// is kept of the parts of an old unit that is none of the new ones goes with the parts to the new units in which
+    /// they stand.
     ///
     /// `before` is the tree of the buffer before the edit. Which old unit a new one is `source` tells afterwards, and
     /// no two are the same one. A new unit has the tree of the old one that it is, and a path where that has one. For
@@ -308,7 +271,9 @@ impl Bridges {
             → AllStand u units.items }
         requires same { (buffer ≡ 0 → ⊥) → AreSameBodies (units_of self.old.kept) units.items }
         ensures carried { OnOk result (self.new.kept ≡ Carry buffer mods.now before.now self.old.kept units.items) }
-        ensures parts { OnOk result (self.new.parts ≡ CarryParts self.old.parts self.new.sources) }
+        ensures parts { OnOk result (self.new.parts ≡ CarryParts self.old.parts
+            (PartMoves buffer mods.now before.now (units_of self.old.kept) self.old.parts units.items)
+            self.new.sources) }
         ensures sources { OnOk result
             (self.new.sources ≡ Sources buffer mods.now before.now (units_of self.old.kept) units.items) }
         ensures once { OnOk result ((i j k : ℕ) → slice_get self.new.sources j ≡ Some (Some i)
@@ -319,16 +284,72 @@ impl Bridges {
         ensures counted { steps.new ≤ steps.old + cost_of mods.now }
         ensures refused { OnErr result (self.new ≡ self.old) }
     {
+        let course = self.course(alloc, buffer, before, mods, &units, steps)?;
+        self.carry_along(alloc, buffer, before, mods, units, course)
+    }
+
+    /// Where the units stand behind an edit of a buffer, after which these are the units, and which parts of those that
+    /// are none of these stand in which of them. `carry_along` takes it. Nothing changes.
+    pub fn course<L: Ledger>(
+        &self,
+        alloc: Global,
+        buffer: u32,
+        before: &Tree,
+        mods: &[Mod],
+        units: &[Unit],
+        steps: &mut Steps<L>,
+    ) -> Result<Course, Memory>
+        requires applies { (u : WideTree) × (changed_by_all mods.now before.now ≡ Some u) }
+        requires units { AreUnits units.now }
+        requires old { buffer ≡ 0 → AllStand before.now (units_of self.now.kept) }
+        ensures course { IfOk result
+            (λ c. IsCourse buffer mods.now before.now (units_of self.now.kept) self.now.parts units.now c) }
+        ensures counted { steps.new ≤ steps.old + cost_of mods.now }
+    {
+        edit_course(alloc, buffer, before, mods, &self.bridges, units, steps)
+    }
+
+    /// What `carry` does, by the course through the edit that `course` tells. It takes no step, and doesn't follow the
+    /// modifications again: its contract alone speaks of them.
+    pub fn carry_along(
+        &mut self,
+        alloc: Global,
+        buffer: u32,
+        before: &Tree,
+        mods: &[Mod],
+        units: Vec<Unit>,
+        course: Course,
+    ) -> Result<(), Memory>
+        requires applies { (u : WideTree) × (changed_by_all mods.now before.now ≡ Some u) }
+        requires units { AreUnits units.items }
+        requires old { buffer ≡ 0 → AllStand before.now (units_of self.old.kept) }
+        requires new { buffer ≡ 0 → (u : WideTree) → changed_by_all mods.now before.now ≡ Some u
+            → AllStand u units.items }
+        requires same { (buffer ≡ 0 → ⊥) → AreSameBodies (units_of self.old.kept) units.items }
+        requires course { IsCourse buffer mods.now before.now (units_of self.old.kept) self.old.parts units.items course }
+        ensures carried { OnOk result (self.new.kept ≡ Carry buffer mods.now before.now self.old.kept units.items) }
+        ensures parts { OnOk result (self.new.parts ≡ CarryParts self.old.parts
+            (PartMoves buffer mods.now before.now (units_of self.old.kept) self.old.parts units.items)
+            self.new.sources) }
+        ensures sources { OnOk result
+            (self.new.sources ≡ Sources buffer mods.now before.now (units_of self.old.kept) units.items) }
+        ensures once { OnOk result ((i j k : ℕ) → slice_get self.new.sources j ≡ Some (Some i)
+            → slice_get self.new.sources k ≡ Some (Some i) → j ≡ k) }
+        ensures same_trees { OnOk result
+            (HaveSameTrees (units_of self.old.kept) units.items self.new.sources) }
+        ensures units { OnOk result (units_of self.new.kept ≡ units.items) }
+        ensures refused { OnErr result (self.new ≡ self.old) }
+    {
         carried_list_law();
-        give_over(alloc, buffer, before, mods, &mut self.bridges, units, steps)?;
+        carried_law();
+        give_over(alloc, &mut self.bridges, units, course)?;
         self.way = Way::Listed;
         self.settled = false;
         Ok(())
     }
 
     /// The number of the one unit inside whose paragraph all modifications are, and which they leave nowhere, or None
-    /// where there is none. Where its paragraph alone changes, `carry_in_place` does what `carry` does, and keeps what
-    /// stays of its parts.
+    /// where there is none. Where its paragraph alone changes, `carry_in_place` does what `carry` does.
     pub fn one_changed(&self, buffer: u32, mods: &[Mod]) -> Option<usize>
         ensures { MatchOption result (NoneChanged buffer mods.now (units_of self.now.kept))
             (λ i. IsOneChanged i buffer mods.now (units_of self.now.kept)) }
@@ -338,7 +359,7 @@ impl Bridges {
 
     /// The parts of the unit of number `changed`, which `one_changed` tells, that aren't found to stay where they are,
     /// with their numbers, in order: each as it stands in the unit afterwards, or None where it doesn't stay in it.
-    /// Each other part stays at its path. Where none is kept, it takes no memory and no step.
+    /// Each other part stays at its path.
     pub fn moved_parts<L: Ledger>(
         &self,
         alloc: Global,
@@ -354,16 +375,14 @@ impl Bridges {
             → slice_get (units_of self.now.kept) changed ≡ Some u → slice_get self.now.parts changed ≡ Some ks
             → AreMovedParts mods.now before.now u ks os.items) }
         ensures counted { steps.new ≤ steps.old + cost_of mods.now }
-        ensures ready { slice_get self.now.parts changed ≡ Some [] → IsOk result }
-        ensures free { slice_get self.now.parts changed ≡ Some [] → steps.new ≡ steps.old }
     {
         carried_list_law();
         others_of_changed(alloc, before, mods, &self.bridges, changed, steps)
     }
 
     /// What `carry` does where the unit of number `changed`, which `one_changed` tells, has this tree afterwards, and
-    /// each other one stays as it is. Besides, of the parts of that unit those are kept that stay in it; `moved` are
-    /// those that `moved_parts` tells. It goes over no list but that of these parts, and takes no memory.
+    /// each other one stays as it is. `moved` are the parts that `moved_parts` tells. It goes over no list but that of
+    /// that unit's parts, and takes no memory.
     pub fn carry_in_place(
         &mut self,
         before: &Tree,
@@ -412,8 +431,9 @@ impl Bridges {
     }
 
     /// What is kept of the parts of the unit, in the order of the document, each with its path from the unit's tree.
-    /// None past the last unit. After a refresh a unit that isn't nested has none, nor has one that is over; an edit
-    /// may leave some until the next.
+    /// None past the last unit. After a refresh a paragraph of the body has some, unless it is over: itself, with the
+    /// empty path, where its tree is neither a `document` with a child nor a `with` of names, texts and a last child.
+    /// Another unit has none. An edit may leave some of a unit that is over until the next refresh.
     ///
     /// After a refresh a part's `renewed` tells whether nothing that fits was kept at its path when that began.
     pub fn parts(&self, i: u32) -> Option<&[Part]>

@@ -25,7 +25,7 @@ ghost use Rattle.tx_bridge.specs.Slots.{AllUnchanged, IsChangedAt};
 use crate::bridge::Bridge;
 use crate::giving::first_body;
 use crate::keeping::all_keep_place;
-use crate::paths_after::places_after;
+use crate::lost::places_left;
 use crate::within::{others_at, paths_of_parts};
 use std::alloc::Global;
 use std::sync::ledger::Ledger;
@@ -60,7 +60,7 @@ fn leaves_nowhere(path: &Path, m: &Mod) -> bool
 }
 
 // Whether the first modification does.
-fn is_gone(path: &Path, mods: &[Mod]) -> bool
+pub(crate) fn is_gone(path: &Path, mods: &[Mod]) -> bool
     ensures { result ≡ is_gone path.now mods.now }
 {
     match mods.get(0) {
@@ -70,7 +70,7 @@ fn is_gone(path: &Path, mods: &[Mod]) -> bool
 }
 
 // Whether all modifications are inside the subtree at the path.
-fn are_within(path: &Path, mods: &[Mod]) -> bool
+pub(crate) fn are_within(path: &Path, mods: &[Mod]) -> bool
     ensures { result ≡ list_all (λ m. begins path.now (path_of m)) mods.now }
 {
     mods.iter().all(|m| begins(path, m.path()))
@@ -188,18 +188,13 @@ fn others_behind<L: Ledger>(
     ensures moved { IfOk result (λ os. (u : DocUnit) → u.path ≡ Some path.now
         → AreMovedParts mods.now before.now u (kept_parts parts.now) os.items) }
     ensures counted { steps.new ≤ steps.old + cost_of mods.now }
-    ensures ready { parts.now ≡ [] → IsOk result }
-    ensures free { parts.now ≡ [] → steps.new ≡ steps.old }
 {
-    if parts.is_empty() {
-        return Ok(Vec::new(alloc));
-    }
     let numbers = others_of(alloc, mods, path, parts)?;
     if numbers.is_empty() {
         return Ok(Vec::new(alloc));
     }
     let paths = paths_of_parts(alloc, path, parts, &numbers)?;
-    let places = places_after(alloc, before, mods, paths, steps)?;
+    let places = places_left(alloc, before, mods, paths, steps)?;
     others_at(alloc, path, &places, parts, &numbers)
 }
 
@@ -220,8 +215,6 @@ pub(crate) fn others_of_changed<L: Ledger>(
     ensures moved { IfOk result (λ os. (b : Bridge) → slice_get bridges.now changed ≡ Some b
         → AreMovedParts mods.now before.now b.unit (kept_parts b.parts) os.items) }
     ensures counted { steps.new ≤ steps.old + cost_of mods.now }
-    ensures ready { (b : Bridge) → slice_get bridges.now changed ≡ Some b → b.parts ≡ [] → IsOk result }
-    ensures free { (b : Bridge) → slice_get bridges.now changed ≡ Some b → b.parts ≡ [] → steps.new ≡ steps.old }
 {
     let bridge = &bridges[changed];
     match &bridge.unit.path {

@@ -10,7 +10,7 @@ ghost use Rattle.tx_mod.specs.Followed.{changed_by_all, carried_by_all};
 ghost use Rattle.tx_bridge.specs.InPlace.{is_changed};
 ghost use Rattle.tx_bridge.specs.UnitLists.{AreUnits};
 ghost use Rattle.tx_bridge.specs.Carrying.{AllStand, AreSameBodies};
-ghost use Rattle.tx_bridge.specs.Nested.{KeptParts};
+ghost use Rattle.tx_bridge.specs.PartsKept.{KeptParts};
 ghost use Rattle.tx_bridge.specs.CarryingParts.{StaysKept};
 ghost use Rattle.tx_bridge.specs.Keeping.{all_keep_place};
 

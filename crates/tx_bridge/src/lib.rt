@@ -4,13 +4,16 @@
 //! above cite the names of `specs/Names.antt` and don't open them.
 #![tactic(auto)]
 
+mod arriving;
 mod bridge;
 mod bridges;
+mod course;
 mod fitting;
 mod giving;
 mod in_place;
 mod keeping;
 mod laws;
+mod lost;
 mod moments;
 mod paths_after;
 mod replacing;
@@ -18,9 +21,10 @@ mod unit_parts;
 mod within;
 
 pub use bridges::Bridges;
+pub use course::{Course, PartMove};
 pub use fitting::is_silent;
 pub use keeping::all_keep_place;
 pub use laws::{keeping_law, staying_parts_law, unit_list_laws};
 pub use moments::{Moment, over_value};
 pub use paths_after::places_after;
-pub use unit_parts::is_nested;
+pub use unit_parts::has_parts;

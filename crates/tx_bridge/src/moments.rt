@@ -12,7 +12,7 @@ ghost use Rattle.std.specs.Str.{bytes_eq};
 ghost use Rattle.tx_walk.specs.Walked.{paths_of};
 ghost use Rattle.tx_bridge.specs.Entries.{outcome_of};
 ghost use Rattle.tx_bridge.specs.Moments.{IsPaid};
-ghost use Rattle.tx_bridge.specs.Nested.{is_nested, fresh_parts, part_flags, unit_charge};
+ghost use Rattle.tx_bridge.specs.PartsKept.{has_parts, fresh_parts, part_flags, unit_charge};
 ghost use Rattle.tx_bridge.specs.HeldParts.{HoldsPart, PartsHold, kept_parts, flags_of_parts};
 ghost use Rattle.tx_bridge.specs.UnitLists.{IsPlaced};
 
@@ -131,7 +131,7 @@ impl Moment {
         }
     }
 
-    // What the nested unit comes to, of which these parts are kept. The moment stays.
+    // What the paragraph of the body comes to, of which these parts are kept. The moment stays.
     pub(crate) fn by_parts<L: Ledger>(
         &mut self,
         alloc: Global,
@@ -139,7 +139,7 @@ impl Moment {
         kept: &[Part],
         steps: &mut Steps<L>,
     ) -> Result<Evaluated, Memory>
-        requires nested { is_nested unit.now ≡ true }
+        requires nested { has_parts unit.now ≡ true }
         requires placed { IsPlaced unit.now }
         requires hold { AllByRecursion (HoldsPart unit.now.tagged.tree) kept.now }
         requires distinct { IsDistinct bytes_eq (paths_of kept.now) }

@@ -48,7 +48,7 @@ fn paths_behind(
     Ok(behind)
 }
 
-fn tree_behind<L: Ledger>(
+pub(crate) fn tree_behind<L: Ledger>(
     alloc: Global,
     t: &Tree,
     m: &Mod,

@@ -1,15 +1,16 @@
 // What is kept of the parts of a unit.
-ghost use Rattle.std.specs.Prelude.{◌≡◌, List, []};
+ghost use Rattle.std.specs.Prelude.{◌≡◌, ◌++◌, List, [], ◌∷◌, OnOk};
 ghost use Rattle.tx_walk.specs.declared.part.Part.{Part as DonePart};
-ghost use Rattle.tx_bridge.specs.Nested.{is_nested};
+ghost use Rattle.tx_bridge.specs.PartsKept.{has_parts};
 ghost use Rattle.tx_bridge.specs.HeldParts.{unmarked};
 ghost use Rattle.tx_bridge.specs.Others.{put_from};
 
 use crate::replacing::put_all;
 use std::alloc::Global;
 use std::marker::Model;
+use tx_base::Memory;
 use tx_units::Unit;
-use tx_walk::{Part, is_open};
+use tx_walk::Part;
 
 /// The parts of a unit that are kept, and whether some may be marked as renewed. Contracts see their list.
 #[derive(Drop)]
@@ -70,6 +71,15 @@ impl UnitParts {
         &self.all
     }
 
+    /// The part comes behind the others.
+    pub(crate) fn add(&mut self, part: Part) -> Result<(), Memory>
+        ensures { OnOk result (self.new ≡ self.old ++ part ∷ []) }
+    {
+        self.marked = true;
+        self.all.push(part)?;
+        Ok(())
+    }
+
     /// Puts others in the places of the parts of these numbers, which are in order; one that is none goes.
     pub(crate) fn put(&mut self, others: Vec<(usize, Option<Part>)>)
         ensures { self.new ≡ put_from 0 others.items self.old }
@@ -92,10 +102,10 @@ impl UnitParts {
     }
 }
 
-/// Whether the unit is evaluated by its parts: a paragraph of the body whose tree is a `document` with a child, or a
-/// `with` of names, texts and a last child.
-pub fn is_nested(unit: &Unit) -> bool
-    ensures { result ≡ is_nested unit.now }
+/// Whether the unit is evaluated by its parts, as each paragraph of the body is. One whose tree is neither a `document`
+/// with a child nor a `with` of names, texts and a last child is its one part.
+pub fn has_parts(unit: &Unit) -> bool
+    ensures { result ≡ has_parts unit.now }
 {
-    unit.path.is_some() && is_open(&unit.tagged.tree)
+    unit.path.is_some()
 }

@@ -56,7 +56,7 @@ fn path_along(alloc: Global, steps: &[u32]) -> Result<Path, Memory>
 }
 
 // What stands behind the front in the path, if the path begins with it.
-fn rest_of(alloc: Global, front: &Path, path: &Path) -> Result<Option<Path>, Memory>
+pub(crate) fn rest_of(alloc: Global, front: &Path, path: &Path) -> Result<Option<Path>, Memory>
     ensures { IfOk result (λ r. r ≡ rest_behind front.now path.now) }
 {
     if !path.steps().starts_with(front.steps()) {

@@ -1,4 +1,4 @@
-use Rattle.std.proofs.Common.{◌≡◌, ◌∙◌, sym, ap, map, arith, []}
+use Rattle.std.proofs.Common.{◌≡◌, ◌∙◌, sym, ap, map, arith}
 use Rattle.std.proofs.lemmas.Grind.{common_steps}
 use Rattle.std.proofs.lemmas.List.{nil_from_length}
 use Rattle.std.specs.List.{All}
@@ -8,26 +8,19 @@ use Rattle.tx_walk.specs.Walked.{IsTidy}
 use Rattle.tx_walk.proofs.Settled.{both_ok}
 use Rattle.tx_bridge.specs.HeldParts.{kept_parts}
 use Rattle.tx_bridge.specs.MovedParts.{AreMovedParts}
-use Rattle.tx_bridge.specs.Others.{path_of_part, kept_of, kept_others, others_from}
+use Rattle.tx_bridge.specs.Others.{path_of_part, kept_of, kept_others}
 use Rattle.tx_bridge.proofs.OtherParts.{moved_are, none_moved, others_lead}
 use Rattle.tx_bridge.proofs.in_place.others_behind.Goals as goal
 
 pub returns-then-is_empty-clause-moved : goal.returns-then-is_empty-clause-moved
 returns-then-is_empty-clause-moved g c =
-    let none : c.args.parts.now ≡ [] = nil_from_length c.args.parts.now (grind (arith, common_steps)) in
     none_moved c.args.mods.now c.args.before.now c.requires.applies.0 c.args.path.now c.requires.applies.1
     c.args.parts.now c.new.result.items
-    (ap (others_from c.args.mods.now c.args.path.now 0) none) c.new.ensures.items
-
-pub returns-then-is_empty-2-clause-moved : goal.returns-then-is_empty-2-clause-moved
-returns-then-is_empty-2-clause-moved g c =
-    none_moved c.args.mods.now c.args.before.now c.requires.applies.0 c.args.path.now c.requires.applies.1
-    c.args.parts.now c.new-then-is_empty-2.result.items
     (sym c.in_ok-numbers.ensures ∙ nil_from_length c.in_ok-numbers.numbers.items (grind (arith, common_steps)))
-    c.new-then-is_empty-2.ensures.items
+    c.new.ensures.items
 
-pub places_after-requires-clause-lead : goal.places_after-requires-clause-lead
-places_after-requires-clause-lead g c =
+pub places_left-requires-clause-lead : goal.places_left-requires-clause-lead
+places_left-requires-clause-lead g c =
     others_lead c.args.before.now c.requires.stands.0 c.args.path.now c.requires.stands.1 c.args.parts.now
     c.deref.result.now c.in_ok-paths.paths.items c.in_ok-paths.ensures c.requires.stands.2
 

@@ -9,9 +9,9 @@ pub returns-clause-hold : goal.returns-clause-hold
 returns-clause-hold g c =
     subst (PartsHold c.args.self.now.unit (wide_outcome c.in_ok-outcome.outcome)) (sym c.none.ensures)
     (bare_parts c.args.self.now.unit (wide_outcome c.in_ok-outcome.outcome)
-    (sym c.is_nested.ensures ∙ c.if-is_nested.false))
+    (sym c.has_parts.ensures ∙ c.if-has_parts.false))
 
 pub returns-clause-flags : goal.returns-clause-flags
 returns-clause-flags g c =
     bare_flags c.args.moment.now c.args.self.now.unit (kept_parts c.args.self.now.parts) c.none.result
-    (sym c.is_nested.ensures ∙ c.if-is_nested.false) c.none.ensures
+    (sym c.has_parts.ensures ∙ c.if-has_parts.false) c.none.ensures

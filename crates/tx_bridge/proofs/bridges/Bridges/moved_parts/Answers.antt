@@ -6,7 +6,7 @@ use Rattle.tx_bridge.specs.HeldParts.{kept_parts}
 use Rattle.tx_bridge.specs.InPlace.{IsOneChanged}
 use Rattle.tx_bridge.specs.MovedParts.{AreMovedParts}
 use Rattle.tx_bridge.proofs.Changing.{is_within}
-use Rattle.tx_bridge.proofs.ChangedParts.{AreMovedAt, bodies_read, bodies_stand, bare_at, moved_told}
+use Rattle.tx_bridge.proofs.ChangedParts.{AreMovedAt, bodies_read, bodies_stand, moved_told}
 use Rattle.tx_bridge.proofs.bridges.Bridges.moved_parts.Goals as goal
 
 pub others_of_changed-requires-clause-there : goal.others_of_changed-requires-clause-there
@@ -37,15 +37,3 @@ returns-clause-moved g c =
     c.args.self.now.kept c.args.self.now.parts (ap (λ b. b.kept) c.self.view_is) (ap (λ b. b.parts) c.self.view_is)
     c.deref.result.now c.deref.ensures.value h)
     c.others_of_changed.ensures.moved
-
-pub returns-clause-ready : goal.returns-clause-ready
-returns-clause-ready g c none =
-    let at = bare_at c.self.inside.bridges.items c.deref.result.now c.args.self.now.parts c.deref.ensures.value
-    (ap (λ b. b.parts) c.self.view_is) c.args.changed none in
-    c.others_of_changed.ensures.ready at.0 at.1 at.2
-
-pub returns-clause-free : goal.returns-clause-free
-returns-clause-free g c none =
-    let at = bare_at c.self.inside.bridges.items c.deref.result.now c.args.self.now.parts c.deref.ensures.value
-    (ap (λ b. b.parts) c.self.view_is) c.args.changed none in
-    c.others_of_changed.ensures.free at.0 at.1 at.2

@@ -6,7 +6,8 @@ use Rattle.tx_view_form.specs.Outcomes.{beginning}
 use Rattle.tx_bridge.specs.Names.{Fresh, FreshParts, PartFlags}
 use Rattle.tx_bridge.specs.Entries.{units_of, fresh_from}
 use Rattle.tx_bridge.specs.Settled.{AreSettled}
-use Rattle.tx_bridge.specs.Nested.{fresh_parts_from, part_flags_from}
+use Rattle.tx_bridge.specs.UnitLists.{AreUnits}
+use Rattle.tx_bridge.specs.PartsKept.{fresh_parts_from, part_flags_from}
 use Rattle.tx_bridge.specs.Sound.{IsSound, entries_of, parts_in, part_flags_in}
 use Rattle.tx_bridge.proofs.Partway.{any_err}
 use Rattle.tx_bridge.proofs.Used.{fresh_settled}
@@ -20,6 +21,10 @@ invariant_of-self g c =
     grind (arith, common_steps) in
     record {
       sound = subst (All IsSound) (sym whole) c.refresh_all.ensures.sound;
+      units =
+          subst AreUnits
+          (sym (ap (λ bs. units_of (entries_of bs)) whole ∙ c.refresh_all.ensures.units
+          ∙ ap (λ bs. units_of (entries_of bs)) c.deref_mut.ensures.value)) c.self.invariant.units;
       settled = λ e. let off : true ≡ false = sym e ∙ c.replace-settled.ensures.after in cc;
     }
 
@@ -53,6 +58,10 @@ invariant_of-self-2 g c =
     grind (arith, common_steps) in
     record {
       sound = subst (All IsSound) (sym whole) c.in_ok-charges.ensures.sound;
+      units =
+          subst AreUnits
+          (sym (ap (λ bs. units_of (entries_of bs)) whole ∙ c.in_ok-charges.ensures.units
+          ∙ ap (λ bs. units_of (entries_of bs)) c.deref_mut.ensures.value)) c.self.invariant.units;
       settled = λ e.
           subst (AreSettled empty) (sym (ap entries_of whole ∙ c.in_ok-charges.ensures.fresh))
           (fresh_settled c.trace_laws.ensures.agrees beginning (units_of (entries_of c.deref_mut.result.now)));

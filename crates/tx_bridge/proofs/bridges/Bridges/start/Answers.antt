@@ -1,3 +1,5 @@
+use Rattle.std.proofs.Common.{subst, sym}
+use Rattle.tx_bridge.specs.UnitLists.{AreUnits}
 use Rattle.tx_bridge.specs.Names.{Empty, EmptyParts}
 use Rattle.tx_bridge.proofs.Arrived.{started}
 use Rattle.tx_bridge.proofs.bridges.Bridges.start.Goals as goal
@@ -7,6 +9,10 @@ invariant_of-result c = record {
   sound =
       (started c.in_ok-bridges_of.field-0.items c.args.units.items c.in_ok-bridges_of.ensures
       c.requires.units.placed).0;
+  units =
+      subst AreUnits
+      (sym (started c.in_ok-bridges_of.field-0.items c.args.units.items c.in_ok-bridges_of.ensures
+      c.requires.units.placed).2) c.requires.units;
   settled = λ e. cc;
 }
 

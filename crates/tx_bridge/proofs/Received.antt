@@ -1,0 +1,276 @@
+-- New units to which parts have come, and to which old ones then give what is kept of them.
+use Rattle.std.proofs.Common.{◌≡◌, ℕ, zero, suc, ◌+◌, List, [], ◌∷◌, ◌++◌, length, map, Option, Some, None, refl, ap, sym}
+use Rattle.std.proofs.Common.{◌∙◌, subst, arith}
+use Rattle.std.proofs.lemmas.List.{append-nil}
+use Rattle.std.proofs.lemmas.List.Elements.{All-from_recursion, recursion_from_All}
+use Rattle.std.proofs.lemmas.Option.{slice_get-map}
+use Rattle.std.specs.List.{All, AllByRecursion, IsDistinct}
+use Rattle.std.specs.Option.{option_map, option_map_or}
+use Rattle.std.specs.Prelude.{slice_get}
+use Rattle.std.specs.Str.{bytes_eq}
+use Rattle.tx_tree.specs.WideTree.{WideTree}
+use Rattle.tx_mod.specs.declared.mods.Mod.{Mod}
+use Rattle.tx_mod.specs.Followed.{CarriesSubtree, CarriesThroughAll, changed_by_all}
+use Rattle.tx_units.specs.declared.kinds.Unit.{Unit as DocUnit}
+use Rattle.tx_units.specs.Places.{NoneBegins}
+use Rattle.tx_bridge.specs.declared.bridge.Bridge.{Bridge}
+use Rattle.tx_bridge.specs.declared.course.Course.{Course}
+use Rattle.tx_bridge.specs.declared.course.PartMove.{PartMove}
+use Rattle.tx_bridge.specs.Carrying.{through, unit_places_after, mods_of, AllStand, Stands, AreSameBodies}
+use Rattle.tx_bridge.specs.Courses.{arrived_parts, joined_by, with_arrived, given_with}
+use Rattle.tx_bridge.specs.Entries.{Kept, units_of}
+use Rattle.tx_bridge.specs.HeldParts.{kept_parts}
+use Rattle.tx_bridge.specs.Names.{PartMoves, CarryParts, IsCourse}
+use Rattle.tx_bridge.specs.PartMoves.{Move, AreMoves, part_moves, seen_move, parts_now, all_parts_now}
+use Rattle.tx_bridge.specs.PartsKept.{KeptParts}
+use Rattle.tx_bridge.specs.Slots.{AreApart, AreMoved, AllPlaced, bodies_of, fresh_bridge, given_all, paths_in}
+use Rattle.tx_bridge.specs.Sound.{IsSound, entries_of, parts_in, sources_in}
+use Rattle.tx_bridge.specs.UnitLists.{AreUnits, IsPlaced}
+use Rattle.tx_bridge.proofs.Arrived.{units_bodies, moved_all, carried_sound}
+use Rattle.tx_bridge.proofs.Comers.{AllHoldParts, arrived_hold, kept_arrived}
+use Rattle.tx_bridge.proofs.Above.{one_above, in_rest}
+use Rattle.tx_bridge.proofs.PartsSame.{no_parts}
+use Rattle.tx_bridge.proofs.Taking.{AreBare, fresh_bare, bare_bodies, got, all_got, given_got, got_found, number_given}
+use Rattle.tx_bridge.proofs.Taking.{source_in, parts_in_one, places_same, places_many}
+use Rattle.tx_bridge.proofs.WithinUnit.{hold_kept, kept_paths}
+
+-- ---- the new units
+
+arrived_bare : (ms : List PartMove) (j : ℕ) (us : List DocUnit) (ws : List Bridge) → AreBare us ws
+    → AreBare us (with_arrived ms j ws)
+arrived_bare ms j [] [] h = tt
+arrived_bare ms j [] (w ∷ ws) h = absurd h
+arrived_bare ms j (u ∷ us) [] h = absurd h
+arrived_bare ms j (u ∷ us) (w ∷ ws) h = (h.0, arrived_bare ms (j + 1) us ws h.1)
+
+-- the new units with the parts that have come to them
+abbrev pub coming : List PartMove → List DocUnit → List Bridge
+coming ms us = with_arrived ms 0 (map fresh_bridge us)
+
+pub coming_bare : (ms : List PartMove) (us : List DocUnit) → AreBare us (coming ms us)
+coming_bare ms us = arrived_bare ms 0 us (map fresh_bridge us) (fresh_bare us)
+
+unit_at : (us : List DocUnit) (ws : List Bridge) (k : ℕ) (w : Bridge) → AreBare us ws → slice_get ws k ≡ Some w
+    → slice_get us k ≡ Some w.unit
+unit_at [] [] k w h e = cc
+unit_at [] (x ∷ ws) k w h e = absurd h
+unit_at (u ∷ us) [] k w h e = absurd h
+unit_at (u ∷ us) (x ∷ ws) zero w h e =
+    let same : x ≡ w = cc in
+    ap (λ v. Some v) (sym h.0.0) ∙ ap (λ (b : Bridge). Some b.unit) same
+unit_at (u ∷ us) (x ∷ ws) (suc k) w h e = unit_at us ws k w h.1 e
+
+pub coming_apart : (ms : List PartMove) (us : List DocUnit) → NoneBegins us → AreApart (coming ms us)
+coming_apart ms us apart j k v w p at_j at_k is_v is_w =
+    let whole : p ++ [] ≡ p = append-nil p in
+    one_above us j k v.unit w.unit (p ++ []) [] [] apart (unit_at us (coming ms us) j v (coming_bare ms us) at_j)
+    (unit_at us (coming ms us) k w (coming_bare ms us) at_k) (in_rest v.unit p [] is_v) (in_rest w.unit p [] is_w)
+
+each_placed : (us : List DocUnit) (k : ℕ) (u : DocUnit) → AllByRecursion IsPlaced us → slice_get us k ≡ Some u
+    → IsPlaced u
+each_placed [] k u h e = cc
+each_placed (v ∷ us) zero u h e = let same : v ≡ u = cc in subst IsPlaced same h.0
+each_placed (v ∷ us) (suc k) u h e = each_placed us k u h.1 e
+
+pub coming_placed : (ms : List PartMove) (us : List DocUnit) → AllByRecursion IsPlaced us → AllPlaced (coming ms us)
+coming_placed ms us placed k b at =
+    each_placed us k b.unit placed (unit_at us (coming ms us) k b (coming_bare ms us) at)
+
+-- ---- where old ones stand
+
+module _ (ms : List Mod) (t : WideTree) (old bs : List Bridge) (places read : List (Option (List ℕ)))
+    (is_places : places ≡ map (through ms t) (paths_in old)) (is_read : read ≡ places) (is_bs : bs ≡ old) where
+  pub moved_as : AreMoved read bs
+  moved_as =
+      subst (λ qs. AreMoved qs bs) (sym (is_read ∙ is_places))
+      (subst (λ cs. AreMoved (map (through ms t) (paths_in old)) cs) (sym is_bs) (moved_all ms t old))
+
+  pub as_many : length read ≡ length bs
+  as_many = ap length (is_read ∙ is_places) ∙ places_many ms t old ∙ ap length (sym is_bs)
+
+  pub as_given : (moves : List PartMove) (us : List DocUnit) (new result : List Bridge) → new ≡ coming moves us
+      → result ≡ given_all 0 read bs new → result ≡ given_with moves ms t old us
+  as_given moves us new result is_new is =
+      is ∙ ap (λ qs. given_all 0 qs bs new) (is_read ∙ is_places)
+      ∙ ap (λ cs. given_all 0 (map (through ms t) (paths_in old)) cs new) is_bs
+      ∙ ap (given_all 0 (map (through ms t) (paths_in old)) old) is_new
+
+-- the places that a course tells
+pub course_places : (ms : List Mod) (t : WideTree) (kept : Kept) (old : List Bridge) (places : List (Option (List ℕ)))
+    → entries_of old ≡ kept → places ≡ unit_places_after ms t (units_of kept)
+    → places ≡ map (through ms t) (paths_in old)
+course_places ms t kept old places was is =
+    is ∙ ap (unit_places_after ms t) (sym (ap units_of was) ∙ units_bodies old) ∙ sym (places_same ms t old)
+
+-- ---- what is kept of parts
+
+kept_of_one : Bridge → KeptParts
+kept_of_one b = kept_parts b.parts
+
+parts_found : (bs : List Bridge) (moves : List Move) (j n k : ℕ) (b : Bridge) → n ≡ 0 + k → slice_get bs k ≡ Some b
+    → parts_now (parts_in bs) moves j (Some n) ≡ kept_parts b.parts
+parts_found bs moves j n k b e at =
+    let same : n ≡ k = omega (arith, e) in
+    ap (λ i. parts_now (parts_in bs) moves j (Some i)) same
+    ∙ ap (λ o. option_map_or (λ ks. ks) o []) (slice_get-map parts_in_one bs k ∙ ap (option_map parts_in_one) at)
+
+all_parts : (ps : List PartMove) (qs : List (Option (List ℕ))) (bs : List Bridge) (j : ℕ) (us : List DocUnit)
+    → all_got (λ i b. kept_parts b.parts) parts_in_one 0 qs bs j (with_arrived ps j (map fresh_bridge us))
+    ≡ all_parts_now (parts_in bs) (map seen_move ps) j
+    (all_got number_given source_in 0 qs bs j (with_arrived ps j (map fresh_bridge us)))
+all_parts ps qs bs j [] = refl
+all_parts ps qs bs j (u ∷ us) =
+    ap (λ x. x ∷ all_got (λ i b. kept_parts b.parts) parts_in_one 0 qs bs (j + 1)
+    (with_arrived ps (j + 1) (map fresh_bridge us)))
+    (ap (got (λ i b. kept_parts b.parts) 0 qs bs j u) (kept_arrived ps j)
+    ∙ got_found parts_in_one (parts_now (parts_in bs) (map seen_move ps) j) 0 qs bs j u None
+    (parts_found bs (map seen_move ps) j))
+    ∙ ap (λ xs. parts_now (parts_in bs) (map seen_move ps) j (got number_given 0 qs bs j u None) ∷ xs)
+    (all_parts ps qs bs (j + 1) us)
+
+pub given_parts : (ps : List PartMove) (ms : List Mod) (t : WideTree) (old : List Bridge) (us : List DocUnit)
+    → parts_in (given_with ps ms t old us)
+    ≡ all_parts_now (parts_in old) (map seen_move ps) 0 (sources_in (given_with ps ms t old us))
+given_parts ps ms t old us =
+    given_got (λ i b. kept_parts b.parts) parts_in_one (λ i b w. refl) 0 (map (through ms t) (paths_in old)) old
+    (coming ps us)
+    ∙ all_parts ps (map (through ms t) (paths_in old)) old 0 us
+    ∙ ap (all_parts_now (parts_in old) (map seen_move ps) 0)
+    (sym (given_got number_given source_in (λ i b w. refl) 0 (map (through ms t) (paths_in old)) old (coming ps us)))
+
+-- ---- what has come holds
+
+held_parts : (ms : List Mod) (t : WideTree) (vs : List DocUnit) (bs : List Bridge) → AllByRecursion IsSound bs
+    → AllHoldParts ms t vs (bodies_of bs) (parts_in bs)
+held_parts ms t vs [] h = tt
+held_parts ms t vs (b ∷ bs) h = (
+  (
+    hold_kept b.unit.tagged.tree b.parts h.0.parts.hold,
+    subst (IsDistinct bytes_eq) (sym (kept_paths b.parts)) h.0.parts.distinct,
+  ),
+  held_parts ms t vs bs h.1,
+)
+
+-- of the unit of number j
+Fits : List PartMove → ℕ → DocUnit → Type 0
+Fits ps j u = IsSound (joined_by (arrived_parts ps j) (fresh_bridge u))
+
+coming_each : (ps : List PartMove) (j : ℕ) (us : List DocUnit)
+    → ((k n : ℕ) (u : DocUnit) → n ≡ j + k → slice_get us k ≡ Some u → Fits ps n u)
+    → AllByRecursion IsSound (with_arrived ps j (map fresh_bridge us))
+unfolding Fits
+coming_each ps j [] h = tt
+coming_each ps j (u ∷ us) h = (
+  h 0 j u (omega arith) refl,
+  coming_each ps (j + 1) us (λ k n v e at. h (suc k) n v (omega (arith, e)) at),
+)
+
+no_moves : (ps : List PartMove) → map seen_move ps ≡ [] → ps ≡ []
+no_moves [] e = refl
+no_moves (m ∷ ps) e = cc
+
+none_comes : (ps : List PartMove) (us : List DocUnit) → AllByRecursion IsPlaced us → ps ≡ []
+    → (k n : ℕ) (u : DocUnit) → n ≡ 0 + k → slice_get us k ≡ Some u → Fits ps n u
+unfolding Fits
+none_comes ps us placed none k n u e at =
+    subst (λ qs. IsSound (joined_by (arrived_parts qs n) (fresh_bridge u))) (sym none)
+    (record { holds = tt; once = tt; placed = each_placed us k u placed at; parts = no_parts u })
+
+stands_at : (w : WideTree) (vs : List DocUnit) (k : ℕ) (v : DocUnit) → AllStand w vs → slice_get vs k ≡ Some v
+    → Stands w v
+stands_at w [] k v h e = cc
+stands_at w (u ∷ vs) zero v h e = let same : u ≡ v = cc in subst (Stands w) same h.0
+stands_at w (u ∷ vs) (suc k) v h e = stands_at w vs k v h.1 e
+
+some_come : (ms : List Mod) (t w : WideTree) (old : List Bridge) (us : List DocUnit) (ps : List PartMove)
+    → ((q : List ℕ) → CarriesThroughAll ms t q) → ((m : Mod) (s : WideTree) (q : List ℕ) → CarriesSubtree m s q)
+    → changed_by_all ms t ≡ Some w → AllStand t (bodies_of old) → NoneBegins (bodies_of old)
+    → AllByRecursion IsSound old → AreMoves (part_moves 0 ms t (bodies_of old) (parts_in old) us) ps
+    → AllStand w us → AllByRecursion IsPlaced us
+    → (k n : ℕ) (u : DocUnit) → n ≡ 0 + k → slice_get us k ≡ Some u → Fits ps n u
+unfolding Fits
+some_come ms t w old us ps through_all law made stand apart sound moves now placed k n u e at =
+    let here : slice_get us n ≡ Some u = let same : n ≡ k = omega (arith, e) in ap (slice_get us) same ∙ at in
+    let hold =
+    arrived_hold ms t w (bodies_of old) us (parts_in old) ps through_all law made stand apart
+    (held_parts ms t us old sound) moves.all moves.tidy n u here (stands_at w us k u now at) in
+    record {
+      holds = tt;
+      once = tt;
+      placed = each_placed us k u placed at;
+      parts = record { hold = hold.0; distinct = hold.1; all = tt };
+    }
+
+coming_fits : (buffer : ℕ) (ms : List Mod) (t : WideTree) (old : List Bridge) (us : List DocUnit)
+    (ps : List PartMove) → ((u : WideTree) × (changed_by_all ms t ≡ Some u))
+    → ((q : List ℕ) → CarriesThroughAll ms t q) → ((m : Mod) (s : WideTree) (q : List ℕ) → CarriesSubtree m s q)
+    → All IsSound old → NoneBegins (bodies_of old) → AllByRecursion IsPlaced us
+    → (buffer ≡ 0 → AllStand t (bodies_of old))
+    → (buffer ≡ 0 → (u : WideTree) → changed_by_all ms t ≡ Some u → AllStand u us)
+    → AreMoves (part_moves buffer ms t (bodies_of old) (parts_in old) us) ps
+    → (k n : ℕ) (u : DocUnit) → n ≡ 0 + k → slice_get us k ≡ Some u → Fits ps n u
+coming_fits zero ms t old us ps made through_all law sound apart placed stand_old stand_new moves =
+    some_come ms t made.0 old us ps through_all law made.1 (stand_old refl) apart (recursion_from_All IsSound old sound)
+    moves (stand_new refl made.0 made.1) placed
+coming_fits (suc buffer) ms t old us ps made through_all law sound apart placed stand_old stand_new moves =
+    none_comes ps us placed (no_moves ps moves.all)
+
+-- the premises are what the calls ask for, and what they ensure
+pub received_sound : (buffer : ℕ) (ms : List Mod) (t : WideTree) (kept : Kept) (pss : List KeptParts)
+    (us : List DocUnit) (old result : List Bridge) (c : Course) → entries_of old ≡ kept → parts_in old ≡ pss
+    → All IsSound old → AreUnits (units_of (entries_of old)) → ((u : WideTree) × (changed_by_all ms t ≡ Some u))
+    → ((q : List ℕ) → CarriesThroughAll ms t q) → ((m : Mod) (s : WideTree) (q : List ℕ) → CarriesSubtree m s q)
+    → AreUnits us → (buffer ≡ 0 → AllStand t (units_of kept))
+    → (buffer ≡ 0 → (u : WideTree) → changed_by_all ms t ≡ Some u → AllStand u us)
+    → ((buffer ≡ 0 → ⊥) → AreSameBodies (units_of kept) us) → IsCourse buffer ms t (units_of kept) pss us c
+    → result ≡ given_with c.moves.items (mods_of buffer ms) t old us → All IsSound result
+unfolding PartMoves
+received_sound buffer ms t kept pss us old result c was had sound units applies through_all law are stand_old stand_new
+    same course is =
+    let bodies : units_of kept ≡ bodies_of old = sym (ap units_of was) ∙ units_bodies old in
+    let apart : NoneBegins (bodies_of old) = (subst AreUnits (units_bodies old) units).apart in
+    let moves : AreMoves (part_moves buffer ms t (bodies_of old) (parts_in old) us) c.moves.items =
+    subst (λ qs. AreMoves (part_moves buffer ms t (bodies_of old) qs us) c.moves.items) (sym had)
+    (subst (λ vs. AreMoves (part_moves buffer ms t vs pss us) c.moves.items) bodies course.moves) in
+    let old_stand : buffer ≡ 0 → AllStand t (bodies_of old) = λ e. subst (AllStand t) bodies (stand_old e) in
+    subst (All IsSound) (sym is)
+    (carried_sound buffer ms t old (coming c.moves.items us) us applies through_all sound
+    (bare_bodies us (coming c.moves.items us) (coming_bare c.moves.items us))
+    (All-from_recursion IsSound (coming c.moves.items us)
+    (coming_each c.moves.items 0 us
+    (coming_fits buffer ms t old us c.moves.items applies through_all law sound apart are.placed old_stand stand_new
+    moves)))
+    old_stand stand_new (λ e. subst (λ vs. AreSameBodies vs us) bodies (same e)))
+
+pub received_parts : (buffer : ℕ) (ms : List Mod) (t : WideTree) (kept : Kept) (pss : List KeptParts)
+    (us : List DocUnit) (old result : List Bridge) (c : Course) → parts_in old ≡ pss
+    → IsCourse buffer ms t (units_of kept) pss us c → result ≡ given_with c.moves.items (mods_of buffer ms) t old us
+    → parts_in result ≡ CarryParts pss (PartMoves buffer ms t (units_of kept) pss us) (sources_in result)
+unfolding CarryParts
+received_parts buffer ms t kept pss us old result c had course is =
+    ap parts_in is ∙ given_parts c.moves.items (mods_of buffer ms) t old us
+    ∙ ap (λ bs. all_parts_now (parts_in old) (map seen_move c.moves.items) 0 (sources_in bs)) (sym is)
+    ∙ ap (λ ms2. all_parts_now (parts_in old) ms2 0 (sources_in result)) course.moves.all
+    ∙ ap (λ qs. all_parts_now qs (PartMoves buffer ms t (units_of kept) pss us) 0 (sources_in result)) had
+
+-- ---- the course
+
+pub bodies_kept : (kept : Kept) (old read : List Bridge) → entries_of old ≡ kept → read ≡ old
+    → bodies_of read ≡ units_of kept
+bodies_kept kept old read was is = ap bodies_of is ∙ sym (units_bodies old) ∙ ap units_of was
+
+pub is_course : (buffer : ℕ) (ms : List Mod) (t : WideTree) (kept : Kept) (pss : List KeptParts) (vs : List DocUnit)
+    (old read : List Bridge) (c : Course) → entries_of old ≡ kept → parts_in old ≡ pss → read ≡ old
+    → c.places.items ≡ map (through (mods_of buffer ms) t) (paths_in read)
+    → AreMoves (part_moves buffer ms t (bodies_of read) (parts_in read) vs) c.moves.items
+    → IsCourse buffer ms t (units_of kept) pss vs c
+unfolding PartMoves
+is_course buffer ms t kept pss vs old read c was had is places moves = record {
+  places =
+      places ∙ places_same (mods_of buffer ms) t read
+      ∙ ap (unit_places_after (mods_of buffer ms) t) (bodies_kept kept old read was is);
+  moves =
+      subst (λ qs. AreMoves (part_moves buffer ms t (units_of kept) qs vs) c.moves.items) (ap parts_in is ∙ had)
+      (subst (λ us. AreMoves (part_moves buffer ms t us (parts_in read) vs) c.moves.items)
+      (bodies_kept kept old read was is) moves);
+}

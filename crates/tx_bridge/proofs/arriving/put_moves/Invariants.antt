@@ -1,0 +1,7 @@
+use Rattle.std.proofs.Common.{◌≡◌}
+use Rattle.tx_bridge.specs.Courses.{with_arrived}
+use Rattle.tx_bridge.proofs.arriving.put_moves.Given as goal
+
+abbrev pub invariant-loop-part_move : goal.invariant-loop-part_move
+invariant-loop-part_move l =
+    with_arrived l.part_move-iterator.rest.items 0 l.new ≡ with_arrived l.fn.moves.items 0 l.fn.new

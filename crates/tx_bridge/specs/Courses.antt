@@ -1,0 +1,63 @@
+-- How units and their parts go through an edit. Private clauses cite these.
+use Rattle.std.specs.Prelude.{◌≡◌, ℕ, ◌+◌, true, ◌==◌, is_some, if◌then◌else◌, List, [], ◌∷◌, ◌++◌, map, Option}
+use Rattle.std.specs.Prelude.{Some, None, slice_get}
+use Rattle.std.specs.Option.{option_map_or}
+use Rattle.std.specs.List.{filter_map}
+use Rattle.tx_tree.specs.WideTree.{WideTree}
+use Rattle.tx_mod.specs.declared.mods.Mod.{Mod}
+use Rattle.tx_mod.specs.Changes.{changed}
+use Rattle.tx_mod.specs.Followed.{tree_of, changed_by_all}
+use Rattle.tx_units.specs.declared.kinds.Unit.{Unit as DocUnit}
+use Rattle.tx_walk.specs.declared.part.Part.{Part as DonePart}
+use Rattle.tx_bridge.specs.declared.bridge.Bridge.{Bridge}
+use Rattle.tx_bridge.specs.declared.course.PartMove.{PartMove}
+use Rattle.tx_bridge.specs.Carrying.{through}
+use Rattle.tx_bridge.specs.PartMoves.{rest_in}
+use Rattle.tx_bridge.specs.Slots.{given_all, fresh_bridge, paths_in}
+
+-- ---- trees between modifications
+
+-- the tree before each modification, where t is that before the first one
+abbrev pub trees_before : List Mod → WideTree → List WideTree
+trees_before [] t = []
+trees_before (m ∷ ms) t = t ∷ option_map_or (trees_before ms) (tree_of (changed m t)) []
+
+-- the modifications apply to t, and these are the trees before each
+pub record IsPassage (ms : List Mod) (t : WideTree) (ts : List WideTree) : Type 0 where
+  pub last : WideTree
+  pub made : changed_by_all ms t ≡ Some last
+  pub trees : ts ≡ trees_before ms t
+
+-- ---- in which unit a place is
+
+-- the place is that of the unit of number j, or below it
+pub record IsUnitAbove (place : List ℕ) (us : List DocUnit) (j : ℕ) : Type 0 where
+  pub unit : DocUnit
+  pub there : slice_get us j ≡ Some unit
+  pub within : is_some (rest_in unit place) ≡ true
+
+-- it is so of no unit
+abbrev pub NoneAbove : List ℕ → List DocUnit → Type 0
+NoneAbove place us = (k : ℕ) (u : DocUnit) → slice_get us k ≡ Some u → rest_in u place ≡ None
+
+-- ---- entries of new units
+
+abbrev pub part_in_unit : ℕ → PartMove → Option DonePart
+part_in_unit j m = if m.to == j then Some m.part else None
+
+-- the parts that have moved to the unit of number j
+abbrev pub arrived_parts : List PartMove → ℕ → List DonePart
+arrived_parts ms j = filter_map (part_in_unit j) ms
+
+abbrev pub joined_by : List DonePart → Bridge → Bridge
+joined_by ps b = record { unit = b.unit; kept = b.kept; parts = b.parts ++ ps; renewed = b.renewed; source = b.source }
+
+-- the entries, from number j on, with the parts that have moved to them
+abbrev pub with_arrived : List PartMove → ℕ → List Bridge → List Bridge
+with_arrived ms j [] = []
+with_arrived ms j (b ∷ bs) = joined_by (arrived_parts ms j) b ∷ with_arrived ms (j + 1) bs
+
+-- the new units, to which these parts have moved, where all old ones have given what is kept of them
+abbrev pub given_with : List PartMove → List Mod → WideTree → List Bridge → List DocUnit → List Bridge
+given_with moves ms t old us =
+    given_all 0 (map (through ms t) (paths_in old)) old (with_arrived moves 0 (map fresh_bridge us))
