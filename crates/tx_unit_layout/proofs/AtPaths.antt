@@ -1,24 +1,16 @@
 -- What is kept at the path of a part, where no path stands twice.
-use Rattle.std.proofs.Common.{◌≡◌, ℕ, zero, suc, List, [], ◌∷◌, Option, Some, refl, ◌∙◌, subst}
+use Rattle.std.proofs.Common.{◌≡◌, ℕ, zero, suc, List, [], ◌∷◌, Some, refl, ◌∙◌, subst}
 use Rattle.std.proofs.lemmas.Slice.Eq.{bytes_eq-Decides}
-use Rattle.std.specs.Prelude.{Bool, true, false, if◌then◌else◌, slice_get}
+use Rattle.std.specs.Prelude.{Bool, false, slice_get}
 use Rattle.std.specs.List.{AllByRecursion, IsDistinct}
 use Rattle.std.specs.Str.{bytes_eq}
-use Rattle.tx_exec_form.specs.Evaluated.{WideTrace}
 use Rattle.tx_parts.specs.Parts.{Stored}
 use Rattle.tx_walk.specs.declared.part.Part.{Part as DonePart}
 use Rattle.tx_walk.specs.Walked.{paths_of}
+use Rattle.tx_walk.proofs.Found.{if_true, if_false}
 use Rattle.tx_bridge.specs.HeldParts.{kept_part, kept_parts}
-use Rattle.tx_bridge.specs.Nested.{kept_at}
+use Rattle.tx_bridge.specs.PartsKept.{kept_at}
 use Rattle.tx_unit_layout.specs.LaidUnits.{Stays}
-
-pub if_true : (b : Bool) (o r : Option WideTrace) → b ≡ true → (if b then o else r) ≡ o
-if_true true o r e = refl
-if_true false o r e = cc
-
-pub if_false : (b : Bool) (o r : Option WideTrace) → b ≡ false → (if b then o else r) ≡ r
-if_false false o r e = refl
-if_false true o r e = cc
 
 not_at : (path : List ℕ) (ds : List DonePart) (k : ℕ) (s : Stored)
     → AllByRecursion (λ y. bytes_eq path y ≡ false) (paths_of ds) → slice_get (kept_parts ds) k ≡ Some s

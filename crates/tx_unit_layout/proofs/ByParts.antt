@@ -1,5 +1,6 @@
 -- A unit that is laid out by its parts.
-use Rattle.std.proofs.Common.{◌≡◌, ℕ, ◌≤◌, List, [], ◌∷◌, ◌++◌, map, length, refl, ap, ap₂, sym, ◌∙◌, subst, arith}
+use Rattle.std.proofs.Common.{◌≡◌, ℕ, ◌≤◌, List, [], ◌++◌, map, length, ap, ap₂, sym, ◌∙◌, subst, arith}
+use Rattle.std.proofs.lemmas.Simd.{map-map}
 use Rattle.std.specs.Prelude.{true, ◌&&◌, is_some, if◌then◌else◌, Option, Some, None}
 use Rattle.std.specs.List.{All, IsDistinct}
 use Rattle.std.specs.Str.{bytes_eq}
@@ -9,9 +10,6 @@ use Rattle.tx_exec_form.specs.declared.TheConstants.{MOST_LEVELS}
 use Rattle.tx_exec_form.specs.Evaluated.{WideTrace}
 use Rattle.tx_walk.specs.declared.part.Part.{Part as DonePart}
 use Rattle.tx_walk.specs.Walked.{paths_of}
-use Rattle.tx_walk.proofs.Trees.{both}
-use Rattle.tx_walk.specs.Open.{is_open}
-use Rattle.tx_parts.specs.Openness.{openness}
 use Rattle.tx_units.specs.declared.kinds.Unit.{Unit as DocUnit}
 use Rattle.tx_items.specs.declared.attributes.Attrs.{Attrs}
 use Rattle.tx_items.specs.declared.drawing.ErrorAt.{ErrorAt}
@@ -29,7 +27,7 @@ use Rattle.tx_part_layout.specs.LaidParts.{items_anew as part_items_anew, IsLaid
 use Rattle.tx_part_layout.specs.LaidParts.{placed_paragraphs, placed_lines, AreBelow}
 use Rattle.tx_bridge.specs.Entries.{Entry}
 use Rattle.tx_bridge.specs.HeldParts.{kept_parts, flags_of_parts}
-use Rattle.tx_bridge.specs.Nested.{is_nested}
+use Rattle.tx_bridge.specs.PartsKept.{has_parts}
 use Rattle.tx_unit_layout.specs.LaidAts.{LaidAt, laid_at, laid_ats, shown_at, parts_of, is_by_parts}
 use Rattle.tx_unit_layout.specs.LaidAts.{items_by_parts, unit_items_anew}
 use Rattle.tx_unit_layout.specs.LaidUnits.{IsLaidOut, AreLaidParts}
@@ -38,10 +36,6 @@ use Rattle.tx_unit_layout.specs.declared.shown.Shown.{Shown}
 use Rattle.tx_unit_layout.proofs.DoneParts.{values_are}
 use Rattle.tx_unit_layout.proofs.Renewed.{laid_parts}
 use Rattle.tx_unit_layout.proofs.Reusing.{anew_alike, anew_within, at_some}
-
-map_two : {X Y Z : Type 0} (f : X → Y) (g : Y → Z) (xs : List X) → map (λ x. g (f x)) xs ≡ map g (map f xs)
-map_two f g [] = refl
-map_two f g (x ∷ xs) = ap (λ ys. g (f x) ∷ ys) (map_two f g xs)
 
 -- what the parts show, by what is kept of them
 parts_are : (a : Attrs) (e : Entry) (ds : List DonePart)
@@ -55,13 +49,13 @@ from_at f = record { path = f.path; before = f.before }
 -- the laid parts are of what these show
 ats_are : (ps : List PlacedPart) (qs : List ShownPart) → map laid_from ps ≡ map shown_from qs
     → map laid_at ps ≡ map shown_at qs
-ats_are ps qs h = map_two laid_from from_at ps ∙ ap (map from_at) h ∙ sym (map_two shown_from from_at qs)
+ats_are ps qs h = sym (map-map from_at laid_from ps) ∙ ap (map from_at) h ∙ map-map from_at shown_from qs
 
 paths_are : (ps : List PlacedPart) (qs : List ShownPart) → map laid_from ps ≡ map shown_from qs
     → laid_paths ps ≡ map (λ q. q.path) qs
 paths_are ps qs h =
-    map_two laid_from (λ (f : LaidFrom). f.path) ps ∙ ap (map (λ (f : LaidFrom). f.path)) h
-    ∙ sym (map_two shown_from (λ (f : LaidFrom). f.path) qs)
+    sym (map-map (λ (f : LaidFrom). f.path) laid_from ps) ∙ ap (map (λ (f : LaidFrom). f.path)) h
+    ∙ map-map (λ (f : LaidFrom). f.path) shown_from qs
 
 laid_ats_are : (a : Attrs) (e : Entry) (ds : List DonePart) (ps : List PlacedPart) → is_by_parts e ≡ true
     → map laid_from ps ≡ map shown_from (whole_shown a ds e.unit.tagged.tree).each
@@ -93,16 +87,16 @@ AllShort = (width : ℕ) (ps : List Paragraph) (lines : List Line) → AreLines 
     → All (λ p. All IsShort p.items) ps → All (λ line. All IsShort line.items) lines
 
 module _ (width : ℕ) (a : Attrs) (u : DocUnit) (trace : WideTrace) (ds : List DonePart) (l : LaidUnit)
-    (nested : is_nested u ≡ true) (laid : IsLaidUnit width (whole_shown a ds u.tagged.tree) l)
+    (body : has_parts u ≡ true) (laid : IsLaidUnit width (whole_shown a ds u.tagged.tree) l)
     (shows : ShowsValue width a trace.value ds l) where
   abbrev e : Entry
   e = record { unit = u; trace = Some trace }
 
   has_path : is_some u.path ≡ true
-  has_path = (both (is_some u.path) (is_open (openness u.tagged.tree)) nested).0
+  has_path = body
 
   by_parts : is_by_parts e ≡ true
-  by_parts = ap (λ b. b && true) nested
+  by_parts = ap (λ b. b && true) body
 
   shown_paths : map (λ p. p.path) (whole_shown a ds u.tagged.tree).each ≡ map (λ d. d.path) ds
   shown_paths = sym (paths_are l.parts.items (whole_shown a ds u.tagged.tree).each laid.parts) ∙ shows.paths

@@ -1,12 +1,11 @@
--- The parts of a nested unit that isn't over.
+-- The parts of a paragraph of the body that isn't over.
 use Rattle.std.proofs.Common.{◌≡◌, ℕ, ◌+◌, ◌≤◌, List, [], ◌∷◌, map, length, Some, refl, ap, sym, ◌∙◌, arith}
 use Rattle.std.specs.Prelude.{true, if◌then◌else◌}
 use Rattle.std.specs.FinMap.{get}
 use Rattle.std.specs.List.{All, AllByRecursion, sum_by}
 use Rattle.std.proofs.lemmas.List.Elements.{All-from_recursion}
 use Rattle.std.proofs.lemmas.List.Sums.{sum_by-cons}
-use Rattle.tx_tree.specs.WideTree.{WideTree, leaf, node, size_of, depth_of}
-use Rattle.tx_origin.specs.TaggedTrees.{TaggedTree}
+use Rattle.tx_tree.specs.WideTree.{WideTree, leaf, node, size_of}
 use Rattle.tx_origin.specs.Values.{plain}
 use Rattle.tx_exec_form.specs.declared.TheConstants.{MOST_LEVELS}
 use Rattle.tx_exec_form.specs.Runs.{Before}
@@ -19,9 +18,11 @@ use Rattle.tx_units.specs.declared.kinds.Unit.{Unit as DocUnit}
 use Rattle.tx_view_form.specs.Outcomes.{Moment, allowance, outcome}
 use Rattle.tx_part_items.specs.ShownParts.{kept_values}
 use Rattle.tx_part_layout.specs.LaidParts.{done_value}
+use Rattle.tx_bridge.proofs.Paying.{AllSmall}
+use Rattle.tx_bridge.proofs.Used.{AllAllowed}
 use Rattle.tx_bridge.specs.Entries.{outcome_of}
 use Rattle.tx_bridge.specs.HeldParts.{kept_part, kept_parts}
-use Rattle.tx_bridge.specs.Nested.{is_nested, unit_parts, parts_if_done, fresh_parts}
+use Rattle.tx_bridge.specs.PartsKept.{has_parts, unit_parts, parts_if_done, fresh_parts}
 use Rattle.tx_bridge.specs.UnitLists.{IsPlaced}
 use Rattle.tx_bridge.proofs.ByParts.{is_alone}
 use Rattle.tx_unit_layout.proofs.Heads.{first_same, others_same}
@@ -34,14 +35,6 @@ values_are (d ∷ ds) = ap (λ vs. done_value d ∷ vs) (values_are ds)
 
 -- ---- laws, as the calls state them
 
-abbrev pub AllSized : Type 0
-AllSized = (k c : ℕ) (t : TaggedTree) (e : Before) (trace : WideTrace) → evaluated_in k c t e ≡ Some trace
-    → (size_of (plain trace.value) ≤ trace.cost) × (depth_of (plain trace.value) ≤ trace.height)
-
-abbrev pub AllAllowed : Type 0
-AllAllowed = (k c : ℕ) (t : TaggedTree) (e : Before) (trace : WideTrace) → evaluated_in k c t e ≡ Some trace
-    → (trace.cost ≤ c) × (trace.height ≤ k)
-
 abbrev pub AllCharged : Type 0
 AllCharged = (k c : ℕ) (path : List ℕ) (t : WideTree) (e : Before)
     → sum_by part_cost (parts k c path t e) ≤ paid c (evaluates k c t e)
@@ -53,7 +46,7 @@ some_size (leaf text) = omega arith
 some_size (node label ts) = omega arith
 
 -- a value is no larger than what its part costs
-part_size : AllSized → (p : Part) (d : DonePart) → stored p ≡ kept_part d → size_of (plain d.trace.value) ≤ part_cost p
+part_size : AllSmall → (p : Part) (d : DonePart) → stored p ≡ kept_part d → size_of (plain d.trace.value) ≤ part_cost p
 part_size law p d same =
     let is : part_trace p ≡ Some (wide_trace d.trace) = ap (λ (s : Stored). s.trace) same in
     let small : size_of (plain d.trace.value) ≤ d.trace.cost =
@@ -70,7 +63,7 @@ larger : (n m : ℕ) (ds : List DonePart) → n ≤ m → AllByRecursion (λ d. 
 larger n m [] le h = tt
 larger n m (d ∷ ds) le h = (omega (arith, le, h.0), larger n m ds le h.1)
 
-are_small : AllSized → (ps : List Part) (ds : List DonePart) → map stored ps ≡ kept_parts ds
+are_small : AllSmall → (ps : List Part) (ds : List DonePart) → map stored ps ≡ kept_parts ds
     → AreSmall (sum_by part_cost ps) ds
 are_small law ps [] h = record { each = tt; count = omega arith }
 are_small law [] (d ∷ ds) h = cc
@@ -100,18 +93,18 @@ pub record AreDone (u : DocUnit) (trace : WideTrace) (ds : List DonePart) : Type
       × (kept_values (map stored (parts MOST_LEVELS c [] u.tagged.tree e)) ≡ map done_value ds)
 
 module _ (m : Moment) (u : DocUnit) (trace : WideTrace) (ds : List DonePart) (placed : IsPlaced u)
-    (nested : is_nested u ≡ true) (is : Some trace ≡ outcome_of m u) (fresh : kept_parts ds ≡ fresh_parts m u) where
+    (body : has_parts u ≡ true) (is : Some trace ≡ outcome_of m u) (fresh : kept_parts ds ≡ fresh_parts m u) where
   evaluates_there : evaluates MOST_LEVELS (allowance m) u.tagged.tree (get m.env) ≡ Some trace
   unfolding outcome
   evaluates_there =
-      ap (λ t. evaluated_in MOST_LEVELS (allowance m) t (get m.env)) (sym (is_alone u placed nested)) ∙ sym is
+      ap (λ t. evaluated_in MOST_LEVELS (allowance m) t (get m.env)) (sym (is_alone u placed body)) ∙ sym is
 
   stored_there : map stored (unit_parts m u) ≡ kept_parts ds
   stored_there =
       ap (λ o. parts_if_done o (unit_parts m u)) is
-      ∙ sym (ap (λ b. if b then parts_if_done (outcome_of m u) (unit_parts m u) else []) nested) ∙ sym fresh
+      ∙ sym (ap (λ b. if b then parts_if_done (outcome_of m u) (unit_parts m u) else []) body) ∙ sym fresh
 
-  pub done_there : AllSized → AllCharged → AllAllowed → AreDone u trace ds
+  pub done_there : AllSmall → AllCharged → AllAllowed → AreDone u trace ds
   done_there sized charged allowed =
       let n = sum_by part_cost (unit_parts m u) in
       let most : n ≤ paid (allowance m) (evaluates MOST_LEVELS (allowance m) u.tagged.tree (get m.env)) =

@@ -3,7 +3,7 @@ mod Below
 mod Told
 mod Heads
 mod Lining
-mod Costing
+pub mod Costing
 mod AtPaths
 mod DoneParts
 mod Reusing

@@ -18,11 +18,12 @@ use Rattle.tx_part_layout.specs.declared.laid.PlacedPart.{PlacedPart}
 use Rattle.tx_part_layout.specs.LaidParts.{IsLaidPart, IsOfValue, laid_paths}
 use Rattle.tx_bridge.specs.Entries.{Entry}
 use Rattle.tx_bridge.specs.HeldParts.{kept_part, kept_parts, flags_of_parts}
-use Rattle.tx_bridge.specs.Nested.{KeptParts, kept_at}
+use Rattle.tx_bridge.specs.PartsKept.{KeptParts, kept_at}
 use Rattle.tx_unit_layout.specs.LaidAts.{laid_at, laid_ats, shown_at, parts_of, is_by_parts}
 use Rattle.tx_unit_layout.specs.LaidUnits.{IsLaidOut, AreOf, AreLaidParts, Stays, WasLaid}
 use Rattle.tx_unit_layout.specs.declared.shown.Shown.{Shown}
-use Rattle.tx_unit_layout.proofs.AtPaths.{if_true, if_false, all_stay}
+use Rattle.tx_walk.proofs.Found.{if_true, if_false}
+use Rattle.tx_unit_layout.proofs.AtPaths.{all_stay}
 use Rattle.tx_unit_layout.proofs.Heads.{first_same, others_same}
 
 -- ---- what was laid out before

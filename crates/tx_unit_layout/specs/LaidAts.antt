@@ -12,7 +12,7 @@ use Rattle.tx_part_items.specs.ShownParts.{ShownPart, own_paragraphs, tree_shown
 use Rattle.tx_part_layout.specs.declared.laid.PlacedPart.{PlacedPart}
 use Rattle.tx_part_layout.specs.LaidParts.{is_before, items_in}
 use Rattle.tx_bridge.specs.Entries.{Entry}
-use Rattle.tx_bridge.specs.Nested.{KeptParts, is_nested}
+use Rattle.tx_bridge.specs.PartsKept.{KeptParts, has_parts}
 
 -- where a part stands in its unit, and the attributes before it for which it was laid out
 pub record LaidAt : Type 0 where
@@ -27,9 +27,9 @@ shown_at p = record { path = p.path; before = p.before }
 
 -- ---- a unit
 
--- a nested unit that isn't over is laid out by its parts
+-- a paragraph of the body that isn't over is laid out by its parts
 abbrev pub is_by_parts : Entry → Bool
-is_by_parts e = is_nested e.unit && is_some e.trace
+is_by_parts e = has_parts e.unit && is_some e.trace
 
 -- what the parts of a unit show, where these are the attributes before it and this is kept of its parts
 abbrev pub parts_of : Attrs → Entry → KeptParts → List ShownPart

@@ -14,7 +14,7 @@ use Rattle.tx_view_form.specs.Weights.{weight_of}
 use Rattle.tx_part_layout.specs.declared.laid.PlacedPart.{PlacedPart}
 use Rattle.tx_part_layout.specs.LaidParts.{IsLaidPart, laid_paths}
 use Rattle.tx_bridge.specs.Entries.{Entry}
-use Rattle.tx_bridge.specs.Nested.{KeptParts, kept_at}
+use Rattle.tx_bridge.specs.PartsKept.{KeptParts, kept_at}
 use Rattle.tx_unit_layout.specs.LaidAts.{laid_at, laid_ats}
 use Rattle.tx_unit_layout.specs.Views.{unit_view}
 use Rattle.tx_unit_layout.specs.declared.shown.Shown.{Shown}

@@ -1,4 +1,4 @@
-// A nested unit laid out by its parts.
+// A paragraph of the body laid out by its parts.
 ghost use Rattle.std.specs.Prelude.{◌≡◌, ◌+◌, ◌≤◌, true, Some, IfOk, OnOk, OnErr, ℕ, [], map, length};
 ghost use Rattle.std.specs.List.{All, IsDistinct};
 ghost use Rattle.std.specs.Str.{bytes_eq};
@@ -14,7 +14,7 @@ ghost use Rattle.tx_view_form.specs.Outcomes.{Moment};
 ghost use Rattle.tx_view_form.specs.Views.{paragraphs_at};
 ghost use Rattle.tx_bridge.specs.Entries.{outcome_of};
 ghost use Rattle.tx_bridge.specs.HeldParts.{kept_parts, flags_of_parts};
-ghost use Rattle.tx_bridge.specs.Nested.{is_nested, fresh_parts};
+ghost use Rattle.tx_bridge.specs.PartsKept.{has_parts, fresh_parts};
 ghost use Rattle.tx_bridge.specs.UnitLists.{IsPlaced};
 ghost use Rattle.tx_part_items.specs.ShownParts.{kept_values};
 ghost use Rattle.tx_part_layout.specs.LaidParts.{items_in, done_value};
@@ -36,10 +36,10 @@ use tx_units::Unit;
 use tx_view_form::{short_law, weight_laws};
 use tx_walk::Part;
 
-// A law: the parts of a nested unit that isn't over are few, and their values are small, as the unit's is. By these
-// parts its tree comes to its trace.
+// A law: the parts of a paragraph of the body that isn't over are few, and their values are small, as the unit's is. By
+// these parts its tree comes to its trace.
 fn done_parts_law(unit: &Unit, trace: &Trace, parts: &[Part])
-    requires nested { is_nested unit.now ≡ true }
+    requires body { has_parts unit.now ≡ true }
     requires placed { IsPlaced unit.now }
     requires fresh { (m : Moment) × (Some (wide_trace trace.now) ≡ outcome_of m unit.now)
         × (kept_parts parts.now ≡ fresh_parts m unit.now) }
@@ -55,8 +55,9 @@ fn done_parts_law(unit: &Unit, trace: &Trace, parts: &[Part])
     trace_laws();
 }
 
-/// Lays a nested unit out that comes to this trace and has these parts, and answers how many items were laid out. What
-/// was laid out of a part that wasn't evaluated anew is used again where the attributes before it are the same.
+/// Lays a paragraph of the body out that comes to this trace and has these parts, and answers how many items were laid
+/// out. What was laid out of a part that wasn't evaluated anew is used again where the attributes before it are the
+/// same.
 pub(crate) fn lay_by_parts<L: Ledger>(
     alloc: Global,
     unit: &Unit,
@@ -69,7 +70,7 @@ pub(crate) fn lay_by_parts<L: Ledger>(
 ) -> Result<u64, Memory>
     requires least_width { 20 ≤ width }
     requires most_width { width ≤ 500 }
-    requires nested { is_nested unit.now ≡ true }
+    requires body { has_parts unit.now ≡ true }
     requires placed { IsPlaced unit.now }
     requires distinct { IsDistinct bytes_eq (paths_of parts.now) }
     requires fresh { (m : Moment) × (Some (wide_trace trace.now) ≡ outcome_of m unit.now)

@@ -1,5 +1,6 @@
 // What is laid out of the parts of a unit.
-ghost use Rattle.std.specs.Prelude.{◌≡◌, ◌++◌, [], drop, map, option_map, All, IfOk, OnOk, IsTrue, IsFalse};
+ghost use Rattle.std.specs.Prelude.{◌≡◌, ◌++◌, [], ◌∷◌, drop, map, option_map, All, IfOk, OnOk, OnErr, IsTrue};
+ghost use Rattle.std.specs.Prelude.{IsFalse};
 ghost use Rattle.tx_layout.specs.Paging.{Unmarked};
 ghost use Rattle.tx_part_layout.specs.LaidParts.{laid_paths, placed_lines};
 ghost use Rattle.tx_bridge.specs.MovedParts.{moves_of, places_by};
@@ -147,6 +148,18 @@ impl LaidParts {
     {
         self.all.clear();
         self.marked = false;
+    }
+
+    /// One more, with what is shown of this part, at this path. Nothing is laid out. For want of memory all stays.
+    pub fn add(&mut self, alloc: Global, part: &PlacedPart, path: &Path) -> Result<(), Memory>
+        ensures added { OnOk result
+            (map wide_part self.new ≡ map wide_part self.old ++ put_at path.now part.now ∷ []) }
+        ensures refused { OnErr result (self.new ≡ self.old) }
+    {
+        let own = at_path(alloc, part, path)?;
+        self.marked = true;
+        self.all.push(own)?;
+        Ok(())
     }
 
     /// The same, where parts of these numbers moved or don't stay in the unit. Nothing is laid out.

@@ -10,7 +10,7 @@ ghost use Rattle.tx_view_form.specs.Outcomes.{Moment, value_of};
 ghost use Rattle.tx_view_form.specs.Views.{paragraphs_at};
 ghost use Rattle.tx_bridge.specs.Entries.{outcome_of};
 ghost use Rattle.tx_bridge.specs.HeldParts.{kept_parts, flags_of_parts};
-ghost use Rattle.tx_bridge.specs.Nested.{fresh_parts};
+ghost use Rattle.tx_bridge.specs.PartsKept.{fresh_parts};
 ghost use Rattle.tx_bridge.specs.UnitLists.{IsPlaced};
 ghost use Rattle.tx_part_layout.specs.LaidParts.{items_in};
 ghost use Rattle.tx_unit_layout.specs.LaidAts.{laid_at, unit_items_anew};
@@ -23,16 +23,16 @@ use crate::whole::lay_whole;
 use std::alloc::Global;
 use std::sync::ledger::Ledger;
 use tx_base::{Memory, Steps};
-use tx_bridge::{is_nested, over_value};
+use tx_bridge::{has_parts, over_value};
 use tx_exec::Outcome;
 use tx_items::Attrs;
 use tx_units::Unit;
 use tx_walk::Part;
 
 /// Lays a unit out that comes to this at some moment and has these parts then, before which the attributes are these.
-/// Answers how many items were laid out: of a nested unit that isn't over those of the parts that were evaluated anew,
-/// or weren't laid out for the attributes before them, and else all. Pages have 20 to 500 columns. The one error is
-/// want of memory: what was laid out before stays.
+/// Answers how many items were laid out: of a paragraph of the body that isn't over those of the parts that were
+/// evaluated anew, or weren't laid out for the attributes before them, and else all. Pages have 20 to 500 columns. The
+/// one error is want of memory: what was laid out before stays.
 pub fn lay_unit<L: Ledger>(
     alloc: Global,
     unit: &Unit,
@@ -69,7 +69,7 @@ pub fn lay_unit<L: Ledger>(
     let Outcome::Done(trace) = outcome else {
         return lay_whole(alloc, &over_value(alloc)?, attrs, shown, width, steps);
     };
-    if is_nested(unit) {
+    if has_parts(unit) {
         return lay_by_parts(alloc, unit, trace, parts, attrs, shown, width, steps);
     }
     lay_whole(alloc, &trace.value, attrs, shown, width, steps)

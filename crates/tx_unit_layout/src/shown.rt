@@ -26,7 +26,7 @@ pub struct Shown {
     pub paragraphs: Vec<Paragraph>,
     /// The lines of these paragraphs.
     pub lines: LineList,
-    /// What is laid out of the parts of a nested unit. It may stay where the unit isn't laid out.
+    /// What is laid out of the parts of a paragraph of the body. It may stay where the unit isn't laid out.
     pub parts: LaidParts,
 }
 

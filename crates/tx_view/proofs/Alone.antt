@@ -9,6 +9,8 @@ use Rattle.std.specs.Ordering.{int_eq}
 use Rattle.std.specs.Str.{bytes_eq}
 use Rattle.std.specs.Option.{unwrap_or}
 use Rattle.std.specs.Prelude.{slice_get, if◌then◌else◌, ◌&&◌}
+use Rattle.tx_view.proofs.Leaving.{from_along}
+use Rattle.tx_bridge.proofs.Taking.{heads}
 use Rattle.tx_env.specs.Environments.{NameMap}
 use Rattle.tx_tree.specs.WideTree.{size_of}
 use Rattle.tx_origin.specs.Values.{plain}
@@ -23,7 +25,7 @@ use Rattle.tx_view_form.specs.Started.{attributes_of}
 use Rattle.tx_view_form.specs.Views.{IsShown, AreShown}
 use Rattle.tx_bridge.specs.Bridged.{Bridged}
 use Rattle.tx_bridge.specs.Entries.{Entry, Kept, units_of, traces_of, fresh_from, outcome_of}
-use Rattle.tx_bridge.specs.Nested.{KeptParts, fresh_parts, fresh_parts_from}
+use Rattle.tx_bridge.specs.PartsKept.{KeptParts, fresh_parts, fresh_parts_from}
 use Rattle.tx_bridge.proofs.Paying.{AllSmall}
 use Rattle.tx_bridge.proofs.Used.{AllAllowed}
 use Rattle.tx_unit_layout.specs.declared.shown.Shown.{Shown}
@@ -37,7 +39,7 @@ use Rattle.tx_view.specs.Stores.{attributes_from}
 use Rattle.tx_part_layout.specs.LaidParts.{same_attrs, is_before}
 use Rattle.tx_view.specs.Units.{unit_views}
 use Rattle.tx_unit_layout.specs.Views.{unit_view}
-use Rattle.tx_view.proofs.Onward.{heads, taking_by}
+use Rattle.tx_view.proofs.Onward.{taking_by}
 
 -- ---- attributes
 
@@ -70,12 +72,6 @@ along_same (suc i) (d ∷ old) (e ∷ new) env many same was is =
     ∙ ap (λ as_laid. Some (attributes_of env) ∷ as_laid)
     (along_same i old new (env_behind env d.trace) (omega (arith, many))
     (λ k less other. same (suc k) (omega (arith, less)) (λ f. other (omega (arith, f)))) was is)
-
-pub from_along : (m : Moment) (us : List DocUnit)
-    → attributes_from m us ≡ attributes_along m.env (traces_of (fresh_from m us))
-from_along m [] = refl
-from_along m (u ∷ us) =
-    ap (λ as_laid. Some (attributes_of m.env) ∷ as_laid) (from_along (behind m (outcome_of m u)) us)
 
 none_silent : (o : Option (Option WideTrace)) (t : Option WideTrace) → o ≡ Some None → o ≡ Some t → IsSilent t
 none_silent o t e f env = ap (env_behind env) (sym (same_Some None t (sym e ∙ f)))

@@ -15,34 +15,36 @@ use Rattle.tx_units.specs.declared.kinds.Unit.{Unit as DocUnit}
 use Rattle.tx_items.specs.declared.attributes.Attrs.{Attrs}
 use Rattle.tx_bridge.specs.Entries.{Kept, nothing_kept}
 use Rattle.tx_bridge.specs.Names.{Empty as EmptyKept, EmptyParts}
-use Rattle.tx_bridge.specs.Nested.{KeptParts}
+use Rattle.tx_bridge.specs.PartMoves.{Move}
+use Rattle.tx_bridge.specs.PartsKept.{KeptParts}
 use Rattle.tx_unit_layout.specs.LaidAts.{LaidAt, laid_at}
 use Rattle.tx_unit_layout.specs.declared.shown.Shown.{Shown}
 use Rattle.tx_unit_layout.specs.Views.{IsReadable}
-use Rattle.tx_view.specs.Laid.{AreLaid, IsBlank, AreBlank, laid_in, laid_parts_in}
+use Rattle.tx_view.specs.Laid.{AreLaid, IsBlank, AreBlank, AreArrived, laid_in, laid_parts_in}
 use Rattle.tx_view.proofs.Moved.{blank_reads}
-use Rattle.tx_view.proofs.OfParts.{blank_is_laid}
+use Rattle.tx_view.proofs.OfParts.{blank_is_laid, none_wide}
 
-more_blank : (us : List DocUnit) (xs : List Shown) (u : DocUnit) (x : Shown) → AreBlank us xs → IsBlank u.path x
-    → AreBlank (us ++ u ∷ []) (xs ++ x ∷ [])
+more_blank : (us : List DocUnit) (xs : List Shown) (u : DocUnit) (x : Shown) → AreBlank us xs
+    → IsBlank u.path [] x → AreBlank (us ++ u ∷ []) (xs ++ x ∷ [])
 more_blank [] [] u x h one = (one, tt)
 more_blank [] (y ∷ xs) u x h one = absurd h
 more_blank (v ∷ us) [] u x h one = absurd h
 more_blank (v ∷ us) (y ∷ xs) u x h one = (h.0, more_blank us xs u x h.1 one)
 
 pub blank_next : (us : List DocUnit) (i : ℕ) (u : DocUnit) (all new : List Shown) (x : Shown) → i < length us
-    → u ≡ get_or us i u → AreBlank (take i us) all → IsBlank u.path x → new ≡ all ++ x ∷ []
+    → u ≡ get_or us i u → AreBlank (take i us) all → IsBlank u.path [] x → new ≡ all ++ x ∷ []
     → AreBlank (take (i + 1) us) new
 blank_next us i u all new x inside is h one e =
     subst (λ (vs : List DocUnit). AreBlank vs new)
     (sym (take_more us i u inside ∙ ap (λ v. take i us ++ v ∷ []) (sym is)))
     (subst (λ (xs : List Shown). AreBlank (take i us ++ u ∷ []) xs) (sym e) (more_blank (take i us) all u x h one))
 
-pub blank_many : (us : List DocUnit) (xs : List Shown) → AreBlank us xs → length xs ≡ length us
-blank_many [] [] h = refl
-blank_many [] (x ∷ xs) h = absurd h
-blank_many (u ∷ us) [] h = absurd h
-blank_many (u ∷ us) (x ∷ xs) h = ap suc (blank_many us xs h.1)
+pub arrived_many : (old : List Shown) (moves : List Move) (j : ℕ) (us : List DocUnit) (xs : List Shown)
+    → AreArrived old moves j us xs → length xs ≡ length us
+arrived_many old moves j [] [] h = refl
+arrived_many old moves j [] (x ∷ xs) h = absurd h
+arrived_many old moves j (u ∷ us) [] h = absurd h
+arrived_many old moves j (u ∷ us) (x ∷ xs) h = ap suc (arrived_many old moves (j + 1) us xs h.1)
 
 -- ---- buffers of which one has another tree
 
@@ -84,7 +86,8 @@ blank_ats [] [] h = refl
 blank_ats [] (x ∷ xs) h = absurd h
 blank_ats (u ∷ us) [] h = absurd h
 blank_ats (u ∷ us) (x ∷ xs) h =
-    ap (λ ps. map laid_at ps ∷ laid_parts_in xs) h.0.parts ∙ ap (λ lss. [] ∷ lss) (blank_ats us xs h.1)
+    ap (λ ps. map laid_at ps ∷ laid_parts_in xs) (none_wide x.parts h.0.parts)
+    ∙ ap (λ lss. [] ∷ lss) (blank_ats us xs h.1)
 
 pub blank_attributes : (us : List DocUnit) (xs : List Shown) → AreBlank us xs
     → laid_in xs ≡ map {A = DocUnit} {B = Option Attrs} (λ u. None) us

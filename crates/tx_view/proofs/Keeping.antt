@@ -6,6 +6,7 @@ use Rattle.std.proofs.lemmas.List.Elements.{All-nil, All-from_recursion, recursi
 use Rattle.std.proofs.lemmas.Option.{same_Some}
 use Rattle.std.specs.List.{All, AllByRecursion, IsDistinct}
 use Rattle.std.specs.Prelude.{slice_get}
+use Rattle.tx_bridge.proofs.Taking.{heads}
 use Rattle.tx_units.specs.declared.kinds.Unit.{Unit as DocUnit}
 use Rattle.tx_items.specs.declared.attributes.Attrs.{Attrs}
 use Rattle.tx_view_form.specs.Outcomes.{Moment, beginning, behind}
@@ -15,7 +16,7 @@ use Rattle.tx_part_layout.specs.declared.laid.PlacedPart.{PlacedPart}
 use Rattle.tx_bridge.specs.Bridged.{Bridged}
 use Rattle.tx_bridge.specs.Reached.{reached_from}
 use Rattle.tx_bridge.specs.Entries.{Entry, Kept, units_of, fresh_from, outcome_of}
-use Rattle.tx_bridge.specs.Nested.{KeptParts, fresh_parts, fresh_parts_from, part_flags_from, PartsStay}
+use Rattle.tx_bridge.specs.PartsKept.{KeptParts, fresh_parts, fresh_parts_from, part_flags_from, PartsStay}
 use Rattle.tx_unit_layout.specs.LaidAts.{laid_at, laid_ats}
 use Rattle.tx_unit_layout.specs.LaidUnits.{IsLaid, WasLaid, AreLaidParts, Stays}
 use Rattle.tx_unit_layout.specs.declared.shown.Shown.{Shown}
@@ -34,9 +35,6 @@ Stay fs old new = (i : ℕ) → slice_get fs i ≡ Some false → slice_get new 
 -- so do its parts
 abbrev pub SameParts : List Bool → List KeptParts → List KeptParts → Type 0
 SameParts fs old new = (i : ℕ) → slice_get fs i ≡ Some false → slice_get new i ≡ slice_get old i
-
-both : {A : Type 0} (x y : A) (xs ys : List A) → x ∷ xs ≡ y ∷ ys → (x ≡ y) × (xs ≡ ys)
-both x y xs ys e = (cc, cc)
 
 -- ---- as many
 
@@ -250,7 +248,7 @@ pub at_rest : (width : ℕ) (m : Moment) (kept : Kept) (pss : List KeptParts) (f
 at_rest width m [] [] [] [] h is = tt
 at_rest width m (e ∷ es) (ks ∷ pss) (fs ∷ fss) (x ∷ xs) h is =
     let next : Moment = behind m (outcome_of m e.unit) in
-    let two = both x.laid (Some (attributes_of m.env)) (laid_in xs) (attributes_from next (units_of es)) is in (
+    let two = heads x.laid (Some (attributes_of m.env)) (laid_in xs) (attributes_from next (units_of es)) is in (
       subst (λ (ls : KeptParts). IsLaid width e ks ls x) (sym (h.0.laid.same (attributes_of m.env) two.0)) h.0.laid,
       at_rest width next es pss fss xs h.1 two.1,
     )
@@ -269,9 +267,9 @@ parts_laid width m [] [] [] laid fresh parts is = refl
 parts_laid width m (e ∷ es) (ks ∷ pss) (x ∷ xs) laid fresh parts is =
     let next : Moment = behind m (outcome_of m e.unit) in
     let a : Attrs = attributes_of m.env in
-    let one = both e (entry_at m e.unit) es (fresh_from next (units_of es)) fresh in
-    let two = both x.laid (Some a) (laid_in xs) (attributes_from next (units_of es)) is in
-    let three = both ks (fresh_parts m e.unit) pss (fresh_parts_from next (units_of es)) parts in
+    let one = heads e (entry_at m e.unit) es (fresh_from next (units_of es)) fresh in
+    let two = heads x.laid (Some a) (laid_in xs) (attributes_from next (units_of es)) is in
+    let three = heads ks (fresh_parts m e.unit) pss (fresh_parts_from next (units_of es)) parts in
     let here : map laid_at x.parts ≡ laid_ats a (entry_at m e.unit) (fresh_parts m e.unit) =
     laid.0.by_parts a two.0 ∙ ap (λ (k : Entry). laid_ats a k ks) one.0
     ∙ ap (λ (ls : KeptParts). laid_ats a (entry_at m e.unit) ls) three.0 in
@@ -290,7 +288,7 @@ below_each m us [] is h = tt
 below_each m [] (x ∷ xs) is h = cc
 below_each m (u ∷ us) (x ∷ xs) is h =
     let next : Moment = behind m (outcome_of m u) in
-    let two = both x.laid (Some (attributes_of m.env)) (laid_in xs) (attributes_from next us) is in
+    let two = heads x.laid (Some (attributes_of m.env)) (laid_in xs) (attributes_from next us) is in
     (h.0.below (attributes_of m.env) two.0, below_each next us xs two.1 h.1)
 
 pub all_below : (us : List DocUnit) (xs : List Shown) → laid_in xs ≡ attributes_from beginning us → All IsReadable xs

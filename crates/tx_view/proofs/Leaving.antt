@@ -20,7 +20,7 @@ use Rattle.tx_bridge.specs.Entries.{Entry, Kept, units_of, traces_of, fresh_from
 use Rattle.tx_bridge.specs.Carrying.{had, taken_from}
 use Rattle.tx_bridge.specs.InPlace.{numbers_but}
 use Rattle.tx_bridge.specs.Names.{Sources, Carry as CarryKept}
-use Rattle.tx_bridge.specs.Nested.{KeptParts}
+use Rattle.tx_bridge.specs.PartsKept.{KeptParts}
 use Rattle.tx_view.specs.declared.carrying.Target.{Target}
 use Rattle.tx_view.specs.declared.carrying.Target.TheVariants.{InPlace}
 use Rattle.tx_part_layout.specs.declared.laid.PlacedPart.{PlacedPart}
@@ -34,7 +34,8 @@ use Rattle.tx_view.specs.Stores.{attributes_from}
 use Rattle.tx_view.specs.Units.{unit_views}
 use Rattle.tx_unit_layout.specs.Views.{unit_view}
 use Rattle.tx_view.specs.WholeViews.{IsKept, all_of}
-use Rattle.tx_view.proofs.Staying.{not_equal, are_equal, AreFrom, had_here, from_first, laid_many, stays_same}
+use Rattle.tx_view.proofs.Numbers.{not_equal, are_equal, AreFrom, from_first}
+use Rattle.tx_view.proofs.Staying.{had_here, laid_many, stays_same}
 use Rattle.tx_view.proofs.Staying.{stays_left, stay_behind}
 
 -- for which attributes a unit was laid out
@@ -188,7 +189,7 @@ as_many : (es : Kept) → length (traces_of es) ≡ length es
 as_many [] = refl
 as_many (e ∷ es) = ap suc (as_many es)
 
-laid_as_many : (xs : List Shown) → length (laid_in xs) ≡ length xs
+pub laid_as_many : (xs : List Shown) → length (laid_in xs) ≡ length xs
 laid_as_many [] = refl
 laid_as_many (x ∷ xs) = ap suc (laid_as_many xs)
 

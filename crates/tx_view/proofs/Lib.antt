@@ -14,6 +14,9 @@ pub mod Renewed
 pub mod Onward
 pub mod OfParts
 pub mod ShortParts
+pub mod Numbers
+pub mod Adding
+pub mod Comers
 pub mod Moved
 pub mod Staying
 pub mod Blank

@@ -4,11 +4,11 @@ use Rattle.std.proofs.Common.{slice_index_or, true, false, Option, Some, None, r
 use Rattle.std.proofs.Common.{subst, ◌∙◌, arith}
 use Rattle.std.proofs.lemmas.List.{drop_more, drop-drop, drop-set-lt, append_assoc, append-nil, take_more_set, take_all}
 use Rattle.std.proofs.lemmas.List.{drop_all}
-use Rattle.std.proofs.lemmas.List.Elements.{recursion_from_All, All-from_recursion, All-nil}
-use Rattle.std.proofs.lemmas.Option.{slice_get-map}
-use Rattle.std.specs.List.{All, AllByRecursion}
+use Rattle.std.proofs.lemmas.List.Elements.{recursion_from_All, All-from_recursion}
+use Rattle.std.proofs.lemmas.Option.{slice_get-map, slice_get_within, same_Some}
+use Rattle.std.specs.List.{All, AllByRecursion, filter_map}
 use Rattle.std.specs.Option.{option_map, option_map_or}
-use Rattle.std.specs.Prelude.{slice_get, option_and_then, is_some}
+use Rattle.std.specs.Prelude.{slice_get, option_and_then, is_some, Bool, if◌then◌else◌}
 use Rattle.tx_tree.specs.WideTree.{WideTree}
 use Rattle.tx_mod.specs.declared.mods.Mod.{Mod}
 use Rattle.tx_origin.specs.Values.{WideValue}
@@ -18,21 +18,31 @@ use Rattle.tx_items.specs.declared.attributes.Attrs.{Attrs}
 use Rattle.tx_items.specs.declared.drawing.Paragraph.{Paragraph}
 use Rattle.tx_layout.specs.declared.layout.Line.{Line}
 use Rattle.tx_view_form.specs.Outcomes.{value_of}
-use Rattle.tx_view_form.specs.Positions.{IsShort}
 use Rattle.tx_view_form.specs.Views.{paragraphs_at}
 use Rattle.tx_bridge.specs.Entries.{Entry, Kept, units_of, traces_of}
 use Rattle.tx_bridge.specs.Carrying.{unit_places_after, sources_from, had, taken_from, mods_of, HaveSameTrees}
-use Rattle.tx_bridge.specs.CarryingParts.{parts_from, carried_parts}
-use Rattle.tx_bridge.specs.Names.{Sources, Carry as CarryKept, CarryParts}
-use Rattle.tx_bridge.specs.Nested.{KeptParts}
-use Rattle.tx_part_layout.specs.LaidParts.{placed_lines, placed_paragraphs}
+use Rattle.tx_bridge.specs.Carrying.{source, number_at, same_number, same_unit, is_path}
+use Rattle.tx_bridge.specs.HeldParts.{AllPartsHold}
+use Rattle.tx_bridge.specs.Names.{Sources, Carry as CarryKept, CarryParts, PartMoves}
+use Rattle.tx_bridge.specs.PartMoves.{Move, parts_now, all_parts_now}
+use Rattle.tx_bridge.specs.PartsKept.{KeptParts}
+use Rattle.tx_part_items.specs.ItemsUnder.{paragraph_under}
+use Rattle.tx_part_layout.specs.LaidParts.{placed_lines}
+use Rattle.tx_part_layout.specs.LinesUnder.{line_under}
+use Rattle.tx_part_layout.specs.declared.laid.PlacedPart.{PlacedPart}
 use Rattle.tx_unit_layout.specs.LaidAts.{LaidAt, laid_at}
 use Rattle.tx_unit_layout.specs.LaidUnits.{IsLaid, IsLaidOut}
-use Rattle.tx_unit_layout.specs.Views.{unit_view, IsReadable}
+use Rattle.tx_unit_layout.specs.Moving.{WidePart}
+use Rattle.tx_unit_layout.specs.Views.{IsReadable}
 use Rattle.tx_unit_layout.specs.declared.shown.Shown.{Shown}
-use Rattle.tx_view.specs.Exchanged.{laid_parts_of}
-use Rattle.tx_view.specs.Laid.{AreLaid, IsBlank, AreBlank, laid_in, laid_parts_in, taking_shown, source_shown, moved}
-use Rattle.tx_view.proofs.OfParts.{blank_is_laid, same_ats}
+use Rattle.tx_view.specs.Exchanged.{laid_now, all_laid_now}
+use Rattle.tx_view.specs.Laid.{AreLaid, IsBlank, AreArrived, laid_in, laid_parts_in, taking_shown, source_shown, moved}
+use Rattle.tx_view.specs.Laid.{going, wide_in_unit}
+use Rattle.tx_view.proofs.Comers.{AreMovesOf, HasShortLines, HasShortItems, moves_are, going_are, all_come}
+use Rattle.tx_view.proofs.Comers.{arrived_laid, arrived_ats, none_comes, short_lines, short_items}
+use Rattle.tx_view.proofs.Numbers.{AreFrom, from_first, some_there}
+use Rattle.tx_view.proofs.OfParts.{AreDistinct, all_distinct, arrived_is_laid, same_ats, none_wide, at_wide, wide_ats}
+use Rattle.tx_view.proofs.ShortParts.{parts_are_short}
 
 -- ---- one new unit after the other
 
@@ -135,6 +145,50 @@ all_same us [] (s ∷ ss) h = tt
 all_same us (v ∷ vs) (s ∷ ss) h =
     (λ i u is at. h i 0 u v at refl (ap Some is), all_same us vs ss (λ i j. h i (suc j)))
 
+-- the old unit that a new one is is one of them
+abbrev pub IsWithin : ℕ → Option ℕ → Type 0
+IsWithin n s = (i : ℕ) → s ≡ Some i → i < n
+
+abbrev pub AreWithin : ℕ → List (Option ℕ) → Type 0
+AreWithin n ss = AllByRecursion (IsWithin n) ss
+
+number_within : (p : List ℕ) (i : ℕ) (places : List (Option (List ℕ))) (found : Option ℕ)
+    → ((k : ℕ) → found ≡ Some k → k < i) → IsWithin (i + length places) (number_at p i places found)
+number_within p i [] found before k e = omega (arith, before k e)
+number_within p i (q ∷ places) found before k e =
+    omega (arith, number_within p (i + 1) places (if is_path p q then Some i else found) (by (is_path p q)) k e)
+  where
+    by : (b : Bool) (k : ℕ) → (if b then Some i else found) ≡ Some k → k < i + 1
+    by true k f = omega (arith, same_Some i k f)
+    by false k f = omega (arith, before k f)
+
+same_within : (us : List DocUnit) (j : ℕ) (v : DocUnit) → IsWithin (length us) (same_number us j v)
+same_within us j v k e = by (slice_get us j) refl e
+  where
+    by_test : (u : DocUnit) → slice_get us j ≡ Some u → (b : Bool) → (if b then Some j else None) ≡ Some k
+        → k < length us
+    by_test u at true f = omega (arith, same_Some j k f, slice_get_within us j u at)
+    by_test u at false f = cc
+
+    by : (o : Option DocUnit) → slice_get us j ≡ o
+        → option_and_then (λ u. if same_unit u v then Some j else None) o ≡ Some k → k < length us
+    by None at f = cc
+    by (Some u) at f = by_test u at (same_unit u v) f
+
+one_within : (places : List (Option (List ℕ))) (us : List DocUnit) (j : ℕ) (v : DocUnit) → length places ≡ length us
+    → IsWithin (length us) (source places us j v)
+one_within places us j v many = by v.path
+  where
+    by : (o : Option (List ℕ))
+        → IsWithin (length us) (option_map_or (λ p. number_at p 0 places None) o (same_number us j v))
+    by None = same_within us j v
+    by (Some p) = λ k e. omega (arith, many, number_within p 0 places None (λ n f. cc) k e)
+
+pub all_within : (places : List (Option (List ℕ))) (us : List DocUnit) (j : ℕ) (vs : List DocUnit)
+    → length places ≡ length us → AreWithin (length us) (sources_from places us j vs)
+all_within places us j [] many = tt
+all_within places us j (v ∷ vs) many = (one_within places us j v many, all_within places us (j + 1) vs many)
+
 pub sources_many : (places : List (Option (List ℕ))) (us : List DocUnit) (j : ℕ) (vs : List DocUnit)
     → length (sources_from places us j vs) ≡ length vs
 sources_many places us j [] = refl
@@ -165,25 +219,31 @@ out_there width a v p q r y e is h = record {
 abbrev entry : DocUnit → Option WideTrace → Entry
 entry v o = record { unit = v; trace = o }
 
-one_moved : (width : ℕ) (old : Kept) (pss : List KeptParts) (olds : List Shown) (s : Option ℕ) (v : DocUnit)
-    (x : Shown) → AreLaid width old pss olds → IsBlank v.path x → Same (units_of old) s v
-    → IsLaid width (entry v (had (traces_of old) s)) (parts_from pss s) (parts_from pss s)
+one_moved : (width : ℕ) (old : Kept) (pss : List KeptParts) (olds : List Shown) (all : List DocUnit)
+    (moves : List Move) (j : ℕ) (s : Option ℕ) (v : DocUnit) (x : Shown) → AreLaid width old pss olds
+    → AreMovesOf pss all moves → IsBlank v.path (filter_map (wide_in_unit olds j) (going olds moves)) x
+    → Same (units_of old) s v → IsWithin (length olds) s → AreDistinct (parts_now pss moves j s)
+    → IsLaid width (entry v (had (traces_of old) s)) (parts_now pss moves j s) (parts_now pss moves j s)
     (taking_shown x (source_shown olds s))
-one_moved width old pss olds None v x laid blank same = blank_is_laid width (entry v None) [] x blank
-one_moved width old pss olds (Some i) v x laid blank same = by old pss olds i laid (λ u. same i u refl)
+one_moved width old pss olds all moves j None v x laid are blank same within apart =
+    arrived_is_laid width (entry v None) (parts_now pss moves j None)
+    (filter_map (wide_in_unit olds j) (going olds moves)) x blank
+    (arrived_laid width old pss olds all j moves x.parts laid are blank.parts apart)
+one_moved width old pss olds all moves j (Some i) v x laid are blank same within apart =
+    by old pss olds i laid (within i refl) (λ u. same i u refl)
   where
-    by : (es : Kept) (qss : List KeptParts) (ys : List Shown) (k : ℕ) → AreLaid width es qss ys
+    by : (es : Kept) (qss : List KeptParts) (ys : List Shown) (k : ℕ) → AreLaid width es qss ys → k < length ys
         → ((u : DocUnit) → slice_get (units_of es) k ≡ Some u
         → (v.tagged.tree ≡ u.tagged.tree) × (is_some v.path ≡ is_some u.path))
         → IsLaid width (entry v (option_and_then (λ o. o) (slice_get (traces_of es) k)))
         (option_map_or (λ ks. ks) (slice_get qss k) []) (option_map_or (λ ks. ks) (slice_get qss k) [])
         (taking_shown x (slice_get ys k))
-    by [] [] [] k h alike = blank_is_laid width (entry v None) [] x blank
-    by [] [] (y ∷ ys) k h alike = absurd h
-    by [] (ks ∷ qss) ys k h alike = absurd h
-    by (e ∷ es) [] ys k h alike = absurd h
-    by (e ∷ es) (ks ∷ qss) [] k h alike = absurd h
-    by (e ∷ es) (ks ∷ qss) (y ∷ ys) zero h alike =
+    by [] [] [] k h inside alike = absurd (omega (arith, inside))
+    by [] [] (y ∷ ys) k h inside alike = absurd h
+    by [] (ks ∷ qss) ys k h inside alike = absurd h
+    by (e ∷ es) [] ys k h inside alike = absurd h
+    by (e ∷ es) (ks ∷ qss) [] k h inside alike = absurd h
+    by (e ∷ es) (ks ∷ qss) (y ∷ ys) zero h inside alike =
         let both = alike e.unit refl in
         record {
           path = blank.path_is;
@@ -194,99 +254,122 @@ one_moved width old pss olds (Some i) v x laid blank same = by old pss olds i la
           same = λ a is. refl;
           parts = h.0.parts;
         }
-    by (e ∷ es) (ks ∷ qss) (y ∷ ys) (suc k) h alike = by es qss ys k h.1 alike
+    by (e ∷ es) (ks ∷ qss) (y ∷ ys) (suc k) h inside alike = by es qss ys k h.1 (omega (arith, inside)) alike
 
-pub all_moved : (width : ℕ) (old : Kept) (pss : List KeptParts) (olds : List Shown) (ss : List (Option ℕ))
-    (vs : List DocUnit) (xs : List Shown) → AreLaid width old pss olds → AreBlank vs xs
-    → AllSame (units_of old) ss vs → length ss ≡ length vs
-    → AreLaid width (taken_from (traces_of old) ss vs) (carried_parts pss ss) (moved ss olds xs)
-all_moved width old pss olds [] [] [] laid blank same many = tt
-all_moved width old pss olds [] [] (x ∷ xs) laid blank same many = absurd blank
-all_moved width old pss olds [] (v ∷ vs) xs laid blank same many = absurd (omega (arith, many))
-all_moved width old pss olds (s ∷ ss) [] xs laid blank same many = absurd (omega (arith, many))
-all_moved width old pss olds (s ∷ ss) (v ∷ vs) [] laid blank same many = absurd blank
-all_moved width old pss olds (s ∷ ss) (v ∷ vs) (x ∷ xs) laid blank same many = (
-  one_moved width old pss olds s v x laid blank.0 same.0,
-  all_moved width old pss olds ss vs xs laid blank.1 same.1 (omega (arith, many)),
+pub all_moved : (width : ℕ) (old : Kept) (pss : List KeptParts) (olds : List Shown) (all : List DocUnit)
+    (moves : List Move) (j : ℕ) (ss : List (Option ℕ)) (vs : List DocUnit) (xs : List Shown)
+    → AreLaid width old pss olds → AreMovesOf pss all moves → AreArrived olds (going olds moves) j vs xs
+    → AllSame (units_of old) ss vs → AreWithin (length olds) ss → length ss ≡ length vs
+    → AllByRecursion AreDistinct (all_parts_now pss moves j ss)
+    → AreLaid width (taken_from (traces_of old) ss vs) (all_parts_now pss moves j ss) (moved ss olds xs)
+all_moved width old pss olds all moves j [] [] [] laid are blank same within many apart = tt
+all_moved width old pss olds all moves j [] [] (x ∷ xs) laid are blank same within many apart = absurd blank
+all_moved width old pss olds all moves j [] (v ∷ vs) xs laid are blank same within many apart =
+    absurd (omega (arith, many))
+all_moved width old pss olds all moves j (s ∷ ss) [] xs laid are blank same within many apart =
+    absurd (omega (arith, many))
+all_moved width old pss olds all moves j (s ∷ ss) (v ∷ vs) [] laid are blank same within many apart = absurd blank
+all_moved width old pss olds all moves j (s ∷ ss) (v ∷ vs) (x ∷ xs) laid are blank same within many apart = (
+  one_moved width old pss olds all moves j s v x laid are blank.0 same.0 within.0 apart.0,
+  all_moved width old pss olds all moves (j + 1) ss vs xs laid are blank.1 same.1 within.1 (omega (arith, many))
+      apart.1,
 )
 
-laid_one : (olds : List Shown) (s : Option ℕ) (path : Option (List ℕ)) (x : Shown) → IsBlank path x
+attributes_one : (olds : List Shown) (s : Option ℕ) (x : Shown) → x.laid ≡ None
     → (taking_shown x (source_shown olds s)).laid ≡ had (laid_in olds) s
-laid_one olds None path x blank = blank.laid
-laid_one olds (Some i) path x blank =
+attributes_one olds None x none = none
+attributes_one olds (Some i) x none =
     by (slice_get olds i)
     ∙ ap (option_and_then (λ a. a)) (sym (slice_get-map (λ (y : Shown). y.laid) olds i))
   where
     by : (o : Option Shown) → (taking_shown x o).laid ≡ option_and_then (λ a. a) (option_map (λ y. y.laid) o)
-    by None = blank.laid
+    by None = none
     by (Some y) = refl
 
-pub laid_moved : (olds : List Shown) (ss : List (Option ℕ)) (vs : List DocUnit) (xs : List Shown) → AreBlank vs xs
-    → length ss ≡ length vs → laid_in (moved ss olds xs) ≡ map (had (laid_in olds)) ss
-laid_moved olds [] [] [] blank many = refl
-laid_moved olds [] [] (x ∷ xs) blank many = absurd blank
-laid_moved olds [] (v ∷ vs) xs blank many = absurd (omega (arith, many))
-laid_moved olds (s ∷ ss) [] xs blank many = absurd (omega (arith, many))
-laid_moved olds (s ∷ ss) (v ∷ vs) [] blank many = absurd blank
-laid_moved olds (s ∷ ss) (v ∷ vs) (x ∷ xs) blank many =
-    ap (λ a. a ∷ laid_in (moved ss olds xs)) (laid_one olds s v.path x blank.0)
-    ∙ ap (λ bs. had (laid_in olds) s ∷ bs) (laid_moved olds ss vs xs blank.1 (omega (arith, many)))
+pub attributes_moved : (olds : List Shown) (moves : List Move) (j : ℕ) (ss : List (Option ℕ)) (vs : List DocUnit)
+    (xs : List Shown) → AreArrived olds moves j vs xs → length ss ≡ length vs
+    → laid_in (moved ss olds xs) ≡ map (had (laid_in olds)) ss
+attributes_moved olds moves j [] [] [] blank many = refl
+attributes_moved olds moves j [] [] (x ∷ xs) blank many = absurd blank
+attributes_moved olds moves j [] (v ∷ vs) xs blank many = absurd (omega (arith, many))
+attributes_moved olds moves j (s ∷ ss) [] xs blank many = absurd (omega (arith, many))
+attributes_moved olds moves j (s ∷ ss) (v ∷ vs) [] blank many = absurd blank
+attributes_moved olds moves j (s ∷ ss) (v ∷ vs) (x ∷ xs) blank many =
+    ap (λ a. a ∷ laid_in (moved ss olds xs)) (attributes_one olds s x blank.0.laid)
+    ∙ ap (λ bs. had (laid_in olds) s ∷ bs)
+    (attributes_moved olds moves (j + 1) ss vs xs blank.1 (omega (arith, many)))
 
-ats_one : (olds : List Shown) (s : Option ℕ) (path : Option (List ℕ)) (x : Shown) → IsBlank path x
-    → map laid_at (taking_shown x (source_shown olds s)).parts ≡ laid_parts_of (laid_parts_in olds) s
-ats_one olds None path x blank = ap (map laid_at) blank.parts
-ats_one olds (Some i) path x blank =
-    by (slice_get olds i)
+ats_one : (olds : List Shown) (moves : List Move) (j : ℕ) (s : Option ℕ) (path : Option (List ℕ)) (x : Shown)
+    → IsBlank path (filter_map (wide_in_unit olds j) (going olds moves)) x → IsWithin (length olds) s
+    → map laid_at (taking_shown x (source_shown olds s)).parts ≡ laid_now (laid_parts_in olds) moves j s
+ats_one olds moves j None path x blank within =
+    sym (wide_ats x.parts) ∙ ap (map at_wide) blank.parts ∙ arrived_ats olds j moves
+ats_one olds moves j (Some i) path x blank within =
+    by (slice_get olds i) (some_there olds i (within i refl))
     ∙ ap (λ o. option_map_or (λ ls. ls) o []) (sym (slice_get-map (λ (y : Shown). map laid_at y.parts) olds i))
   where
-    by : (o : Option Shown) → map laid_at (taking_shown x o).parts
+    by : (o : Option Shown) → is_some o ≡ true → map laid_at (taking_shown x o).parts
         ≡ option_map_or (λ ls. ls) (option_map (λ (y : Shown). map laid_at y.parts) o) []
-    by None = ap (map laid_at) blank.parts
-    by (Some y) = refl
+    by None some = cc
+    by (Some y) some = refl
 
-pub ats_moved : (olds : List Shown) (ss : List (Option ℕ)) (vs : List DocUnit) (xs : List Shown) → AreBlank vs xs
-    → length ss ≡ length vs → laid_parts_in (moved ss olds xs) ≡ map (laid_parts_of (laid_parts_in olds)) ss
-ats_moved olds [] [] [] blank many = refl
-ats_moved olds [] [] (x ∷ xs) blank many = absurd blank
-ats_moved olds [] (v ∷ vs) xs blank many = absurd (omega (arith, many))
-ats_moved olds (s ∷ ss) [] xs blank many = absurd (omega (arith, many))
-ats_moved olds (s ∷ ss) (v ∷ vs) [] blank many = absurd blank
-ats_moved olds (s ∷ ss) (v ∷ vs) (x ∷ xs) blank many =
-    ap (λ ls. ls ∷ laid_parts_in (moved ss olds xs)) (ats_one olds s v.path x blank.0)
-    ∙ ap (λ lss. laid_parts_of (laid_parts_in olds) s ∷ lss) (ats_moved olds ss vs xs blank.1 (omega (arith, many)))
+pub ats_moved : (olds : List Shown) (moves : List Move) (j : ℕ) (ss : List (Option ℕ)) (vs : List DocUnit)
+    (xs : List Shown) → AreArrived olds (going olds moves) j vs xs → AreWithin (length olds) ss → length ss ≡ length vs
+    → laid_parts_in (moved ss olds xs) ≡ all_laid_now (laid_parts_in olds) moves j ss
+ats_moved olds moves j [] [] [] blank within many = refl
+ats_moved olds moves j [] [] (x ∷ xs) blank within many = absurd blank
+ats_moved olds moves j [] (v ∷ vs) xs blank within many = absurd (omega (arith, many))
+ats_moved olds moves j (s ∷ ss) [] xs blank within many = absurd (omega (arith, many))
+ats_moved olds moves j (s ∷ ss) (v ∷ vs) [] blank within many = absurd blank
+ats_moved olds moves j (s ∷ ss) (v ∷ vs) (x ∷ xs) blank within many =
+    ap (λ ls. ls ∷ laid_parts_in (moved ss olds xs)) (ats_one olds moves j s v.path x blank.0 within.0)
+    ∙ ap (λ lss. laid_now (laid_parts_in olds) moves j s ∷ lss)
+    (ats_moved olds moves (j + 1) ss vs xs blank.1 within.1 (omega (arith, many)))
 
-pub blank_reads : (path : Option (List ℕ)) (x : Shown) → IsBlank path x → IsReadable x
+-- a unit without lines but those of parts that have moved to it
+arrived_reads : (path : Option (List ℕ)) (ps : List WidePart) (x : Shown) → IsBlank path ps x
+    → (path ≡ None → x.parts ≡ []) → AllByRecursion (λ p. HasShortLines p.laid.value) x.parts
+    → AllByRecursion (λ p. HasShortItems p.laid.value) x.parts → IsReadable x
+arrived_reads path ps x blank bare lines items = record {
+  placed = λ e.
+      ap (λ qs. placed_lines qs ++ x.lines) (bare (sym blank.path_is ∙ e)) ∙ blank.lines;
+  short = parts_are_short (λ (l : Line). l.items) line_under (λ b l. refl) (λ l. l.lines) x.parts x.lines blank.lines
+      lines;
+  short_items = parts_are_short (λ (p : Paragraph). p.items) paragraph_under (λ b p. refl) (λ l. l.paragraphs.items)
+      x.parts x.paragraphs.items blank.paragraphs items;
+  below = λ a is. absurd (let none : None ≡ Some a = sym blank.laid ∙ is in cc);
+}
+
+pub blank_reads : (path : Option (List ℕ)) (x : Shown) → IsBlank path [] x → IsReadable x
 blank_reads path x blank =
-    let lines : (unit_view x).lines ≡ [] = ap (λ ps. placed_lines ps ++ x.lines) blank.parts ∙ blank.lines in
-    let paragraphs : (unit_view x).paragraphs ≡ [] =
-    ap (λ ps. placed_paragraphs ps ++ x.paragraphs.items) blank.parts ∙ blank.paragraphs in
-    record {
-      placed = λ e. lines;
-      short =
-          subst (λ (ls : List Line). All (λ line. All IsShort line.items) ls) (sym lines)
-          (All-nil (λ (line : Line). All IsShort line.items));
-      short_items =
-          subst (λ (ps : List Paragraph). All (λ p. All IsShort p.items) ps) (sym paragraphs)
-          (All-nil (λ (p : Paragraph). All IsShort p.items));
-      below = λ a is. absurd (let none : None ≡ Some a = sym blank.laid ∙ is in cc);
-    }
+    let none : x.parts ≡ [] = none_wide x.parts blank.parts in
+    arrived_reads path [] x blank (λ e. none)
+    (subst (λ (ps : List PlacedPart). AllByRecursion (λ p. HasShortLines p.laid.value) ps) (sym none) tt)
+    (subst (λ (ps : List PlacedPart). AllByRecursion (λ p. HasShortItems p.laid.value) ps) (sym none) tt)
 
 none_where : (p q : Option (List ℕ)) → is_some p ≡ is_some q → q ≡ None → p ≡ None
 none_where None q e f = refl
 none_where (Some p) q e f = let off : true ≡ false = e ∙ ap is_some f in cc
 
-one_reads : (width : ℕ) (old : Kept) (pss : List KeptParts) (olds : List Shown) (s : Option ℕ) (v : DocUnit)
-    (x : Shown) → AreLaid width old pss olds → AllByRecursion IsReadable olds → IsBlank v.path x
-    → Same (units_of old) s v → IsReadable (taking_shown x (source_shown olds s))
-one_reads width old pss olds None v x laid reads blank same = blank_reads v.path x blank
-one_reads width old pss olds (Some i) v x laid reads blank same =
-    by old pss olds i laid reads (λ u at. sym (same i u refl at).1)
+one_reads : (width : ℕ) (old : Kept) (pss : List KeptParts) (olds : List Shown) (all : List DocUnit)
+    (moves : List Move) (j : ℕ) (s : Option ℕ) (v : DocUnit) (x : Shown) → AreLaid width old pss olds
+    → AllByRecursion IsReadable olds → AreMovesOf pss all moves → slice_get all j ≡ Some v
+    → IsBlank v.path (filter_map (wide_in_unit olds j) moves) x → Same (units_of old) s v
+    → IsReadable (taking_shown x (source_shown olds s))
+one_reads width old pss olds all moves j s v x laid reads are at blank same = by_source s same
   where
+    alone : IsReadable x
+    alone =
+        arrived_reads v.path (filter_map (wide_in_unit olds j) moves) x blank
+        (λ e. none_wide x.parts (blank.parts ∙ none_comes pss all olds j v moves are at e))
+        (all_come HasShortLines olds j moves x.parts (short_lines olds reads) blank.parts)
+        (all_come HasShortItems olds j moves x.parts (short_items olds reads) blank.parts)
+
     by : (es : Kept) (qss : List KeptParts) (ys : List Shown) (k : ℕ) → AreLaid width es qss ys
         → AllByRecursion IsReadable ys
         → ((u : DocUnit) → slice_get (units_of es) k ≡ Some u → is_some u.path ≡ is_some v.path)
         → IsReadable (taking_shown x (slice_get ys k))
-    by [] [] [] k h r alike = blank_reads v.path x blank
+    by [] [] [] k h r alike = alone
     by [] [] (y ∷ ys) k h r alike = absurd h
     by [] (ks ∷ qss) ys k h r alike = absurd h
     by (e ∷ es) [] ys k h r alike = absurd h
@@ -300,25 +383,36 @@ one_reads width old pss olds (Some i) v x laid reads blank same =
     }
     by (e ∷ es) (ks ∷ qss) (y ∷ ys) (suc k) h r alike = by es qss ys k h.1 r.1 alike
 
-each_reads : (width : ℕ) (old : Kept) (pss : List KeptParts) (olds : List Shown) (ss : List (Option ℕ))
-    (vs : List DocUnit) (xs : List Shown) → AreLaid width old pss olds → AllByRecursion IsReadable olds → AreBlank vs xs
-    → AllSame (units_of old) ss vs → length ss ≡ length vs → AllByRecursion IsReadable (moved ss olds xs)
-each_reads width old pss olds [] [] [] laid reads blank same many = tt
-each_reads width old pss olds [] [] (x ∷ xs) laid reads blank same many = absurd blank
-each_reads width old pss olds [] (v ∷ vs) xs laid reads blank same many = absurd (omega (arith, many))
-each_reads width old pss olds (s ∷ ss) [] xs laid reads blank same many = absurd (omega (arith, many))
-each_reads width old pss olds (s ∷ ss) (v ∷ vs) [] laid reads blank same many = absurd blank
-each_reads width old pss olds (s ∷ ss) (v ∷ vs) (x ∷ xs) laid reads blank same many = (
-  one_reads width old pss olds s v x laid reads blank.0 same.0,
-  each_reads width old pss olds ss vs xs laid reads blank.1 same.1 (omega (arith, many)),
+    by_source : (o : Option ℕ) → Same (units_of old) o v → IsReadable (taking_shown x (source_shown olds o))
+    by_source None alike = alone
+    by_source (Some i) alike = by old pss olds i laid reads (λ u there. sym (alike i u refl there).1)
+
+each_reads : (width : ℕ) (old : Kept) (pss : List KeptParts) (olds : List Shown) (all : List DocUnit)
+    (moves : List Move) (j : ℕ) (ss : List (Option ℕ)) (vs : List DocUnit) (xs : List Shown)
+    → AreLaid width old pss olds → AllByRecursion IsReadable olds → AreMovesOf pss all moves → AreFrom all j vs
+    → AreArrived olds moves j vs xs → AllSame (units_of old) ss vs → length ss ≡ length vs
+    → AllByRecursion IsReadable (moved ss olds xs)
+each_reads width old pss olds all moves j [] [] [] laid reads are from blank same many = tt
+each_reads width old pss olds all moves j [] [] (x ∷ xs) laid reads are from blank same many = absurd blank
+each_reads width old pss olds all moves j [] (v ∷ vs) xs laid reads are from blank same many =
+    absurd (omega (arith, many))
+each_reads width old pss olds all moves j (s ∷ ss) [] xs laid reads are from blank same many =
+    absurd (omega (arith, many))
+each_reads width old pss olds all moves j (s ∷ ss) (v ∷ vs) [] laid reads are from blank same many = absurd blank
+each_reads width old pss olds all moves j (s ∷ ss) (v ∷ vs) (x ∷ xs) laid reads are from blank same many = (
+  one_reads width old pss olds all moves j s v x laid reads are (from 0 j (omega arith)) blank.0 same.0,
+  each_reads width old pss olds all moves (j + 1) ss vs xs laid reads are
+      (λ n m e. from (suc n) m (omega (arith, e))) blank.1 same.1 (omega (arith, many)),
 )
 
-pub all_read : (width : ℕ) (old : Kept) (pss : List KeptParts) (olds : List Shown) (ss : List (Option ℕ))
-    (vs : List DocUnit) (xs : List Shown) → AreLaid width old pss olds → All IsReadable olds → AreBlank vs xs
-    → AllSame (units_of old) ss vs → length ss ≡ length vs → All IsReadable (moved ss olds xs)
-all_read width old pss olds ss vs xs laid reads blank same many =
+pub all_read : (width : ℕ) (old : Kept) (pss : List KeptParts) (olds : List Shown) (moves : List Move)
+    (ss : List (Option ℕ)) (vs : List DocUnit) (xs : List Shown) → AreLaid width old pss olds → All IsReadable olds
+    → AreMovesOf pss vs moves → AreArrived olds moves 0 vs xs → AllSame (units_of old) ss vs → length ss ≡ length vs
+    → All IsReadable (moved ss olds xs)
+all_read width old pss olds moves ss vs xs laid reads are blank same many =
     All-from_recursion IsReadable (moved ss olds xs)
-    (each_reads width old pss olds ss vs xs laid (recursion_from_All IsReadable olds reads) blank same many)
+    (each_reads width old pss olds vs moves 0 ss vs xs laid (recursion_from_All IsReadable olds reads) are
+    (from_first vs) blank same many)
 
 -- ---- an edit of a buffer
 
@@ -329,31 +423,57 @@ pub record IsCarried (width : ℕ) (new : Kept) (parts : List KeptParts) (laid :
   pub attributes : laid_in xs ≡ laid
   pub laid_parts : laid_parts_in xs ≡ lss
 
+as_many : (width : ℕ) (es : Kept) (pss : List KeptParts) (ys : List Shown) → AreLaid width es pss ys
+    → length ys ≡ length (units_of es)
+as_many width [] [] [] h = refl
+as_many width [] [] (y ∷ ys) h = absurd h
+as_many width [] (ks ∷ pss) ys h = absurd h
+as_many width (e ∷ es) [] ys h = absurd h
+as_many width (e ∷ es) (ks ∷ pss) [] h = absurd h
+as_many width (e ∷ es) (ks ∷ pss) (y ∷ ys) h = ap suc (as_many width es pss ys h.1)
+
+places_many : (ms : List Mod) (t : WideTree) (us : List DocUnit) → length (unit_places_after ms t us) ≡ length us
+places_many ms t [] = refl
+places_many ms t (u ∷ us) = ap suc (places_many ms t us)
+
 pub carried_on : (width buffer : ℕ) (ms : List Mod) (t : WideTree) (old new : Kept) (pss qss : List KeptParts)
     (olds blanks xs : List Shown) (ss : List (Option ℕ)) (vs : List DocUnit) → AreLaid width old pss olds
-    → All IsReadable olds → AreBlank vs blanks → HaveSameTrees (units_of old) vs ss → new ≡ CarryKept buffer ms t old vs
-    → qss ≡ CarryParts pss ss → ss ≡ Sources buffer ms t (units_of old) vs → xs ≡ moved ss olds blanks
+    → All IsReadable olds → AllPartsHold new qss
+    → AreArrived olds (going olds (PartMoves buffer ms t (units_of old) pss vs)) 0 vs blanks
+    → HaveSameTrees (units_of old) vs ss → new ≡ CarryKept buffer ms t old vs
+    → qss ≡ CarryParts pss (PartMoves buffer ms t (units_of old) pss vs) ss
+    → ss ≡ Sources buffer ms t (units_of old) vs → xs ≡ moved ss olds blanks
     → IsCarried width new qss (map (had (laid_in olds)) (Sources buffer ms t (units_of old) vs))
-    (map (laid_parts_of (laid_parts_in olds)) (Sources buffer ms t (units_of old) vs)) xs
+    (all_laid_now (laid_parts_in olds) (PartMoves buffer ms t (units_of old) pss vs) 0
+    (Sources buffer ms t (units_of old) vs)) xs
 unfolding CarryKept CarryParts Sources
-carried_on width buffer ms t old new pss qss olds blanks xs ss vs laid reads blank trees is_new is_parts is_ss is_xs =
+carried_on width buffer ms t old new pss qss olds blanks xs ss vs laid reads hold blank trees is_new is_parts is_ss
+    is_xs =
     let us : List DocUnit = units_of old in
+    let moves : List Move = PartMoves buffer ms t us pss vs in
     let places = unit_places_after (mods_of buffer ms) t us in
     let firsts : List (Option ℕ) = sources_from places us 0 vs in
     let same : AllSame us firsts vs =
     all_same us vs firsts (subst (λ (ts : List (Option ℕ)). HaveSameTrees us vs ts) is_ss trees) in
     let many : length firsts ≡ length vs = sources_many places us 0 vs in
+    let within : AreWithin (length olds) firsts =
+    subst (λ n. AreWithin n firsts) (sym (as_many width old pss olds laid))
+    (all_within places us 0 vs (places_many (mods_of buffer ms) t us)) in
     let are : xs ≡ moved firsts olds blanks = is_xs ∙ ap (λ ts. moved ts olds blanks) is_ss in
-    let parts : qss ≡ carried_parts pss firsts = is_parts ∙ ap (carried_parts pss) is_ss in
+    let parts : qss ≡ all_parts_now pss moves 0 firsts = is_parts ∙ ap (all_parts_now pss moves 0) is_ss in
+    let apart : AllByRecursion AreDistinct (all_parts_now pss moves 0 firsts) =
+    subst (AllByRecursion AreDistinct) parts (all_distinct new qss hold) in
+    let told : AreMovesOf pss vs moves = moves_are buffer ms t us pss vs in
     record {
       laid_out =
           subst (λ (es : Kept). AreLaid width es qss xs) (sym is_new)
           (subst (λ (js : List KeptParts). AreLaid width (taken_from (traces_of old) firsts vs) js xs) (sym parts)
-          (subst (AreLaid width (taken_from (traces_of old) firsts vs) (carried_parts pss firsts)) (sym are)
-          (all_moved width old pss olds firsts vs blanks laid blank same many)));
+          (subst (AreLaid width (taken_from (traces_of old) firsts vs) (all_parts_now pss moves 0 firsts)) (sym are)
+          (all_moved width old pss olds vs moves 0 firsts vs blanks laid told blank same within many apart)));
       readable =
           subst (All IsReadable) (sym are)
-          (all_read width old pss olds firsts vs blanks laid reads blank same many);
-      attributes = ap laid_in are ∙ laid_moved olds firsts vs blanks blank many;
-      laid_parts = ap laid_parts_in are ∙ ats_moved olds firsts vs blanks blank many;
+          (all_read width old pss olds (going olds moves) firsts vs blanks laid reads
+          (going_are pss vs olds moves told) blank same many);
+      attributes = ap laid_in are ∙ attributes_moved olds (going olds moves) 0 firsts vs blanks blank many;
+      laid_parts = ap laid_parts_in are ∙ ats_moved olds moves 0 firsts vs blanks blank within many;
     }

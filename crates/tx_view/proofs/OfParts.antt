@@ -22,7 +22,7 @@ use Rattle.tx_bridge.specs.InPlace.{is_changed, is_gone, are_within, IsOneChange
 use Rattle.tx_bridge.specs.HeldParts.{AllPartsHold}
 use Rattle.tx_bridge.specs.MovedParts.{moves_of, places_by, AreMovedParts}
 use Rattle.tx_bridge.proofs.ChangedParts.{AreMovedAt}
-use Rattle.tx_bridge.specs.Nested.{KeptParts}
+use Rattle.tx_bridge.specs.PartsKept.{KeptParts}
 use Rattle.tx_unit_layout.specs.LaidAts.{LaidAt, laid_at, laid_ats}
 use Rattle.tx_unit_layout.specs.LaidUnits.{IsLaid, AreOf, AreLaidParts}
 use Rattle.tx_unit_layout.specs.Moving.{WidePart, wide_part, put_at, laid_by}
@@ -43,18 +43,29 @@ no_parts width ks = record {
   of_kept = inl refl;
 }
 
-pub blank_is_laid : (width : ℕ) (e : Entry) (ks : KeptParts) (x : Shown) → IsBlank e.unit.path x
-    → IsLaid width e ks ks x
-blank_is_laid width e ks x blank = record {
+pub none_wide : (qs : List PlacedPart) → map wide_part qs ≡ [] → qs ≡ []
+none_wide [] e = refl
+none_wide (q ∷ qs) e = cc
+
+-- but what is laid out of these parts
+pub arrived_is_laid : (width : ℕ) (e : Entry) (ks : KeptParts) (ps : List WidePart) (x : Shown)
+    → IsBlank e.unit.path ps x → AreLaidParts width ks x.parts → IsLaid width e ks ks x
+arrived_is_laid width e ks ps x blank parts = record {
   path = blank.path_is;
   laid = λ a is. absurd (off a is);
   by_parts = λ a is. absurd (off a is);
   same = λ a is. refl;
-  parts = subst (AreLaidParts width ks) (sym blank.parts) (no_parts width ks);
+  parts = parts;
 }
   where
     off : (a : Attrs) → x.laid ≡ Some a → ⊥
     off a is = let none : None ≡ Some a = sym blank.laid ∙ is in cc
+
+pub blank_is_laid : (width : ℕ) (e : Entry) (ks : KeptParts) (x : Shown) → IsBlank e.unit.path [] x
+    → IsLaid width e ks ks x
+blank_is_laid width e ks x blank =
+    arrived_is_laid width e ks [] x blank
+    (subst (AreLaidParts width ks) (sym (none_wide x.parts blank.parts)) (no_parts width ks))
 
 -- ---- a unit with the same tree
 
@@ -75,16 +86,12 @@ same_ats a ks o u v tree placed =
 
 -- ---- parts that go elsewhere
 
-abbrev at_wide : WidePart → LaidAt
+abbrev pub at_wide : WidePart → LaidAt
 at_wide w = record { path = w.path; before = w.laid.before }
 
-wide_ats : (qs : List PlacedPart) → map at_wide (map wide_part qs) ≡ map laid_at qs
+pub wide_ats : (qs : List PlacedPart) → map at_wide (map wide_part qs) ≡ map laid_at qs
 wide_ats [] = refl
 wide_ats (q ∷ qs) = ap (λ ls. laid_at q ∷ ls) (wide_ats qs)
-
-pub none_wide : (qs : List PlacedPart) → map wide_part qs ≡ [] → qs ≡ []
-none_wide [] e = refl
-none_wide (q ∷ qs) e = cc
 
 -- the parts that are kept, by where they stand in the unit afterwards
 module _ (g : List ℕ → Option (List ℕ)) where
@@ -152,7 +159,7 @@ behind_is ms t p [] = refl
 behind_is ms t p (k ∷ ks) =
     ap (and_part (part_at p (carried_by_all ms t (p ++ k.path)) k)) (behind_is ms t p ks)
 
-paths_laid : (ks : KeptParts) (ps : List PlacedPart) → AreOf ks ps → map (λ k. k.path) ks ≡ laid_paths ps
+pub paths_laid : (ks : KeptParts) (ps : List PlacedPart) → AreOf ks ps → map (λ k. k.path) ks ≡ laid_paths ps
 paths_laid [] [] h = refl
 paths_laid [] (p ∷ ps) h = absurd h
 paths_laid (k ∷ ks) [] h = absurd h
@@ -214,15 +221,15 @@ left_ats ms t path y qs is left =
 -- ---- what the calls tell
 
 -- the entry of a unit, and what is kept of its parts
-record IsFound (width : ℕ) (es : Kept) (pss : List KeptParts) (i : ℕ) (x : Shown) : Type 0 where
-  entry : Entry
-  parts : KeptParts
-  unit : slice_get (units_of es) i ≡ Some entry.unit
-  kept : slice_get pss i ≡ Some parts
-  laid : IsLaid width entry parts parts x
+pub record IsFound (width : ℕ) (es : Kept) (pss : List KeptParts) (i : ℕ) (x : Shown) : Type 0 where
+  pub entry : Entry
+  pub parts : KeptParts
+  pub unit : slice_get (units_of es) i ≡ Some entry.unit
+  pub kept : slice_get pss i ≡ Some parts
+  pub laid : IsLaid width entry parts parts x
 
-found : (width : ℕ) (es : Kept) (pss : List KeptParts) (ys : List Shown) (i : ℕ) (x : Shown) → AreLaid width es pss ys
-    → slice_get ys i ≡ Some x → IsFound width es pss i x
+pub found : (width : ℕ) (es : Kept) (pss : List KeptParts) (ys : List Shown) (i : ℕ) (x : Shown)
+    → AreLaid width es pss ys → slice_get ys i ≡ Some x → IsFound width es pss i x
 found width [] [] [] i x h at = cc
 found width [] [] (y ∷ ys) i x h at = absurd h
 found width [] (ks ∷ pss) ys i x h at = absurd h

@@ -1,15 +1,18 @@
 -- Units laid out up to some number.
 use Rattle.std.proofs.Common.{◌≡◌, ℕ, zero, suc, ◌+◌, ◌*◌, ◌<◌, ◌≤◌, ◌^◌, List, [], ◌∷◌, ◌++◌, length, take, drop, map}
-use Rattle.std.proofs.Common.{slice_index_or, slice_set, Bool, Option, Some, None}
+use Rattle.std.proofs.Common.{slice_index_or, slice_set, Bool, Option, Some}
 use Rattle.std.proofs.Common.{refl, ap, sym, subst, ◌∙◌, arith, length-append}
 use Rattle.std.proofs.lemmas.List.{drop_more, drop-set-lt, append_assoc, append-nil, take_more_set, take_all}
 use Rattle.std.proofs.lemmas.List.{drop_all, map_push, length-take-le}
-use Rattle.std.proofs.lemmas.List.Concat.{flat_map-append, length-flat_map}
+use Rattle.std.proofs.lemmas.List.Concat.{flat_map-append}
 use Rattle.std.proofs.lemmas.List.Elements.{All-set}
 use Rattle.std.proofs.lemmas.Option.{same_Some}
 use Rattle.std.specs.List.{All, flat_map}
 use Rattle.std.specs.Option.{option_map}
 use Rattle.std.specs.Prelude.{slice_get, if◌then◌else◌}
+use Rattle.tx_unit_layout.proofs.Costing.{items_most}
+use Rattle.tx_view.proofs.Leaving.{laid_as_many}
+use Rattle.tx_bridge.proofs.Taking.{heads}
 use Rattle.tx_tree.proofs.Walks.{drop_item}
 use Rattle.tx_tree.specs.WideTree.{size_of}
 use Rattle.tx_origin.specs.Values.{WideValue, plain}
@@ -26,7 +29,7 @@ use Rattle.tx_view_form.specs.Weights.{weight_of}
 use Rattle.tx_bridge.specs.Bridged.{Bridged}
 use Rattle.tx_bridge.specs.Entries.{Entry, Kept, units_of, fresh_from, outcome_of}
 use Rattle.tx_bridge.specs.Moments.{IsPaid}
-use Rattle.tx_bridge.specs.Nested.{KeptParts, fresh_parts, fresh_parts_from}
+use Rattle.tx_bridge.specs.PartsKept.{KeptParts, fresh_parts, fresh_parts_from}
 use Rattle.tx_part_layout.specs.LaidParts.{is_before, items_in}
 use Rattle.tx_unit_layout.specs.declared.shown.Shown.{Shown}
 use Rattle.tx_unit_layout.specs.LaidAts.{LaidAt, laid_at, unit_items_anew}
@@ -187,13 +190,6 @@ laid_set_here {b} {i} {e} {ks} {fs} at width xs y laid was =
 
 -- ---- one unit more
 
-pub few_items : (ps : List Paragraph) (path : Option (List ℕ)) (a : Attrs) (v : WideValue) → ps ≡ paragraphs_at path a v
-    → length (flat_map (λ p. p.items) (shown_paragraphs a v)) ≤ weight_of (shown_paragraphs a v)
-    → items_in ps ≤ weight_of (shown_paragraphs a v)
-few_items ps None a v e h = omega (arith, ap items_in e)
-few_items ps (Some path) a v e h =
-    omega (arith, ap items_in e, h, length-flat_map (λ (p : Paragraph). p.items) (shown_paragraphs a v))
-
 -- what laying out takes, by what is known to be the same
 pub taking_by : (laid : Option Attrs) (a b : Attrs) (e d : Entry) (ks ls : KeptParts) (fs : List Bool)
     (ats : List LaidAt) → a ≡ b → e ≡ d → ks ≡ ls
@@ -223,7 +219,7 @@ next_is over law width e ks fs m after x y a n weight trace parts is_a is_after 
     let laid_for : y.laid ≡ Some b = is_laid ∙ ap Some is_a in
     let here : IsLaidOut width b v e.unit.path y = was.laid.laid b laid_for in
     let few : items_in (paragraphs_at e.unit.path a v) ≤ weight_of (shown_paragraphs a v) =
-    few_items (paragraphs_at e.unit.path a v) e.unit.path a v refl (law (shown_paragraphs a v)) in
+    items_most (paragraphs_at e.unit.path a v) e.unit.path a v refl (law (shown_paragraphs a v)) in
     record {
       behind_is = is_after ∙ ap (behind m) trace;
       laid_out = here;
@@ -257,22 +253,7 @@ at_seam [] ys y (suc i) e = absurd (omega (arith, e))
 at_seam (x ∷ xs) ys y zero e = absurd (omega (arith, e))
 at_seam (x ∷ xs) ys y (suc i) e = at_seam xs ys y i (omega (arith, e))
 
-laid_as_many : (xs : List Shown) → length (laid_in xs) ≡ length xs
-laid_as_many [] = refl
-laid_as_many (x ∷ xs) = ap suc (laid_as_many xs)
-
-there_within : {A : Type 0} (xs : List A) (i : ℕ) (x : A) → slice_get xs i ≡ Some x → i < length xs
-there_within [] i x at = cc
-there_within (y ∷ ys) zero x at = omega arith
-there_within (y ∷ ys) (suc i) x at = omega (arith, there_within ys i x at)
-
-pub laid_within : (xs : List Shown) (i : ℕ) (o : Option Attrs) → slice_get (laid_in xs) i ≡ Some o → i < length xs
-laid_within xs i o at = omega (arith, there_within (laid_in xs) i o at, laid_as_many xs)
-
 -- ---- up to unit i
-
-pub heads : {A : Type 0} (x y : A) (xs ys : List A) → x ∷ xs ≡ y ∷ ys → (x ≡ y) × (xs ≡ ys)
-heads x y xs ys e = (cc, cc)
 
 -- At the moment before unit i. What was done, and what is left from here, are all.
 pub record Onward (width : ℕ) (b : Bridged) (old now : List Shown) (i : ℕ) (m : Moment)

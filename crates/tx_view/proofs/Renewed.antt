@@ -11,7 +11,7 @@ use Rattle.tx_items.specs.declared.attributes.Attrs.{Attrs}
 use Rattle.tx_view_form.specs.Outcomes.{Moment, beginning, behind}
 use Rattle.tx_view_form.specs.Started.{attributes_of}
 use Rattle.tx_bridge.specs.Entries.{Entry, Kept, units_of, outcome_of}
-use Rattle.tx_bridge.specs.Nested.{KeptParts, part_flags, part_flags_from}
+use Rattle.tx_bridge.specs.PartsKept.{KeptParts, part_flags, part_flags_from}
 use Rattle.tx_bridge.specs.Reached.{fits, reached_from}
 use Rattle.tx_part_layout.specs.LaidParts.{is_before}
 use Rattle.tx_unit_layout.specs.LaidAts.{LaidAt, laid_at}

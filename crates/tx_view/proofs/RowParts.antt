@@ -37,7 +37,7 @@ use Rattle.tx_part_layout.specs.declared.laid.LaidPart.{LaidPart}
 use Rattle.tx_part_layout.specs.declared.laid.PlacedPart.{PlacedPart}
 use Rattle.tx_part_layout.specs.LaidParts.{IsLaidPart}
 use Rattle.tx_bridge.specs.Entries.{Kept, fresh_from, outcome_of}
-use Rattle.tx_bridge.specs.Nested.{KeptParts, fresh_parts, fresh_parts_from}
+use Rattle.tx_bridge.specs.PartsKept.{KeptParts, fresh_parts, fresh_parts_from}
 use Rattle.tx_unit_layout.specs.LaidAts.{LaidAt, laid_at, laid_ats, shown_at, parts_of, is_by_parts}
 use Rattle.tx_unit_layout.specs.LaidUnits.{IsLaid, AreLaidParts, AreOf}
 use Rattle.tx_unit_layout.specs.Stretches.{part_stretch, own_stretch, line_parts}

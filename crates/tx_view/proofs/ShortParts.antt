@@ -102,6 +102,18 @@ module _ {L : Type 0} (items : L → List Item) (under : List ℕ → L → L)
         go_short gs ps qs rest h.1,
       )
 
+  pub each_part_short : (ps : List PlacedPart) (rest : List L) → All (λ l. All IsShort (items l)) (placed ps ++ rest)
+      → AllByRecursion (λ p. AllByRecursion (λ l. All IsShort (items l)) (of p.laid.value)) ps
+  each_part_short ps rest h =
+      parts_short ps (halves (placed ps) rest (recursion_from_All OneShort (placed ps ++ rest) h)).0
+
+  pub parts_are_short : (ps : List PlacedPart) (rest : List L) → rest ≡ []
+      → AllByRecursion (λ p. AllByRecursion (λ l. All IsShort (items l)) (of p.laid.value)) ps
+      → All (λ l. All IsShort (items l)) (placed ps ++ rest)
+  parts_are_short ps rest none h =
+      All-from_recursion OneShort (placed ps ++ rest)
+      (joined (placed ps) rest (short_parts ps h) (subst AreShort (sym none) tt))
+
   -- they stay short where parts go elsewhere
   pub stays_short : (gs : List (Option (List ℕ))) (ps qs : List PlacedPart) (rest : List L)
       → map wide_part qs ≡ laid_by gs ps → All (λ l. All IsShort (items l)) (placed ps ++ rest)

@@ -10,7 +10,7 @@ use Rattle.tx_units.specs.Units.{units}
 use Rattle.tx_items.specs.declared.attributes.Attrs.{Attrs}
 use Rattle.tx_view_form.specs.Outcomes.{beginning}
 use Rattle.tx_view_form.specs.Views.{AreShown}
-use Rattle.tx_bridge.specs.Nested.{KeptParts, fresh_parts_from}
+use Rattle.tx_bridge.specs.PartsKept.{KeptParts, fresh_parts_from}
 use Rattle.tx_bridge.specs.Entries.{Kept, units_of, fresh_from}
 use Rattle.tx_unit_layout.specs.LaidAts.{LaidAt}
 use Rattle.tx_unit_layout.specs.declared.shown.Shown.{Shown}

@@ -1,12 +1,11 @@
 -- What is shown stays in place, but for one unit that has changed.
 use Rattle.std.proofs.Common.{◌≡◌, ℕ, zero, suc, ◌+◌, ◌<◌, List, [], ◌∷◌, ◌++◌, length, map, slice_set}
 use Rattle.std.proofs.Common.{slice_index_or, Bool, true, false, Option, Some, None, refl, ap, sym, subst, ◌∙◌, arith}
-use Rattle.std.proofs.lemmas.Bool.{false_from_ne_true}
-use Rattle.std.proofs.lemmas.Bool.Decides.{Decides-eqb}
 use Rattle.std.proofs.lemmas.List.Elements.{recursion_from_All, All-from_recursion}
 use Rattle.std.specs.List.{All, AllByRecursion}
 use Rattle.std.specs.Option.{option_map_or}
 use Rattle.std.specs.Prelude.{slice_get, option_and_then, is_some, ◌==◌, if◌then◌else◌}
+use Rattle.tx_bridge.proofs.Taking.{heads}
 use Rattle.tx_tree.specs.WideTree.{WideTree}
 use Rattle.tx_mod.specs.declared.mods.Mod.{Mod}
 use Rattle.tx_exec_form.specs.Evaluated.{WideTrace}
@@ -24,8 +23,8 @@ use Rattle.tx_bridge.specs.CarryingParts.{carried_below, parts_within, parts_but
 use Rattle.tx_bridge.specs.Entries.{Entry, Kept, units_of, traces_of}
 use Rattle.tx_bridge.specs.HeldParts.{AllPartsHold}
 use Rattle.tx_bridge.specs.InPlace.{numbers_but}
-use Rattle.tx_bridge.specs.Names.{Sources, Carry as CarryKept, CarryParts, CarryWithin}
-use Rattle.tx_bridge.specs.Nested.{KeptParts}
+use Rattle.tx_bridge.specs.Names.{Sources, Carry as CarryKept, CarryParts, CarryWithin, PartMoves}
+use Rattle.tx_bridge.specs.PartsKept.{KeptParts}
 use Rattle.tx_unit_layout.specs.LaidAts.{laid_at, laid_ats}
 use Rattle.tx_unit_layout.specs.LaidUnits.{IsLaid, IsLaidOut, AreLaidParts}
 use Rattle.tx_unit_layout.specs.Moving.{wide_part, laid_by}
@@ -33,20 +32,15 @@ use Rattle.tx_unit_layout.specs.Views.{unit_view, IsReadable}
 use Rattle.tx_unit_layout.specs.declared.shown.Shown.{Shown}
 use Rattle.tx_view.specs.declared.carrying.Target.{Target}
 use Rattle.tx_view.specs.declared.carrying.Target.TheVariants.{InPlace, Onto}
-use Rattle.tx_view.specs.Exchanged.{left_at, left_but, laid_parts_of, parts_after, laid_parts_after}
+use Rattle.tx_view.specs.Exchanged.{left_at, left_but, all_laid_now, parts_after, laid_parts_after}
 use Rattle.tx_view.specs.Laid.{AreLaid, laid_in, laid_parts_in, parts_left, left_with, IsLeftBy, StayBut}
 use Rattle.tx_view.specs.Laid.{IsTarget, IsWay, IsMoved, IsLeft}
 use Rattle.tx_view.proofs.Moved.{IsCarried, carried_on, Same, AllSame, all_same}
+use Rattle.tx_view.proofs.Numbers.{not_equal, are_equal, AreFrom, from_first}
 use Rattle.tx_view.proofs.OfParts.{AreDistinct, all_distinct, left_laid, left_ats, none_wide, same_ats}
 use Rattle.tx_view.proofs.ShortParts.{stays_short}
 
 -- ---- one entry is reset
-
-pub not_equal : (k i : ℕ) → (k ≡ i → ⊥) → k == i ≡ false
-not_equal k i h = false_from_ne_true (k == i) (λ e. absurd (h ((Decides-eqb k i).0 e)))
-
-pub are_equal : (k i : ℕ) → k ≡ i → k == i ≡ true
-are_equal k i e = (Decides-eqb k i).1 e
 
 same_stays : (ps : List PlacedPart) (c : Bool) (y : Shown) → c ≡ false → IsLeftBy ps c y y
 same_stays ps c y e = subst (λ b. IsLeftBy ps b y y) (sym e) refl
@@ -92,10 +86,6 @@ stay_behind ps i k (y ∷ ys) (x ∷ xs) less h =
     ∙ ap (λ zs. y ∷ zs) (stay_behind ps i (k + 1) ys xs (omega (arith, less)) h.1)
 
 -- ---- what is kept and shown of the new units
-
--- of each number from k on, these are the elements behind number k
-abbrev pub AreFrom : {A : Type 0} → List A → ℕ → List A → Type 0
-AreFrom all k xs = (n m : ℕ) → m ≡ k + n → slice_get all m ≡ slice_get xs n
 
 pub had_here : {A : Type 0} (all : List (Option A)) (k : ℕ) (x : Option A) (c : Bool) → slice_get all k ≡ Some x
     → had all (if c then None else Some k) ≡ (if c then None else x)
@@ -148,9 +138,6 @@ one_stays width e ks v o y x laid same path tree is = record {
 
 abbrev paths_of : List DocUnit → List (Option (List ℕ))
 paths_of us = map (λ u. u.path) us
-
-pub heads : {A : Type 0} (x y : A) (xs ys : List A) → x ∷ xs ≡ y ∷ ys → (x ≡ y) × (xs ≡ ys)
-heads x y xs ys e = (cc, cc)
 
 -- number k, which isn't i, is the old one of its number
 tree_stays : (all : List DocUnit) (i k : ℕ) (u v : DocUnit) → (k ≡ i → ⊥) → slice_get all k ≡ Some u
@@ -347,25 +334,23 @@ laid_many width (x ∷ es) (ks ∷ pss) (y ∷ ys) (v ∷ vs) h e =
     ap suc (laid_many width es pss ys vs h.1
     (heads v.path x.unit.path (paths_of vs) (paths_of (units_of es)) e).1)
 
-pub from_first : {A : Type 0} (all : List A) → AreFrom all 0 all
-from_first all n m e = let same : m ≡ n = omega (arith, e) in ap (slice_get all) same
-
 -- what is left is told of the units that are shown, or else of the hidden ones
-pub left_of : (ms : List Mod) (t : WideTree) (to : Target) (fresh : Bool) (xs ys shown hidden : List Shown)
-    → xs ≡ shown → ys ≡ hidden → IsLeft ms t to (if fresh then xs else ys)
-    → IsLeft ms t to (if fresh then shown else hidden)
-left_of ms t to fresh xs ys shown hidden is_shown is_hidden left =
-    subst (λ (zs : List Shown). IsLeft ms t to (if fresh then zs else hidden)) is_shown
-    (subst (λ (zs : List Shown). IsLeft ms t to (if fresh then xs else zs)) is_hidden left)
+pub left_of : (buffer : ℕ) (ms : List Mod) (t : WideTree) (us : List DocUnit) (pss : List KeptParts)
+    (vs : List DocUnit) (to : Target) (fresh : Bool) (xs ys shown hidden : List Shown) → xs ≡ shown → ys ≡ hidden
+    → IsLeft buffer ms t us pss vs to (if fresh then xs else ys)
+    → IsLeft buffer ms t us pss vs to (if fresh then shown else hidden)
+left_of buffer ms t us pss vs to fresh xs ys shown hidden is_shown is_hidden left =
+    subst (λ (zs : List Shown). IsLeft buffer ms t us pss vs to (if fresh then zs else hidden)) is_shown
+    (subst (λ (zs : List Shown). IsLeft buffer ms t us pss vs to (if fresh then xs else zs)) is_hidden left)
 
 pub carried_by : (width buffer : ℕ) (ms : List Mod) (t : WideTree) (old new : Kept) (pss qss : List KeptParts)
     (olds xs : List Shown) (to : Target) (ss : List (Option ℕ)) (vs : List DocUnit) → AreLaid width old pss olds
     → All IsReadable olds → AllPartsHold new qss → new ≡ CarryKept buffer ms t old vs
-    → qss ≡ parts_after buffer ms t (units_of old) pss ss → ss ≡ Sources buffer ms t (units_of old) vs
-    → IsTarget (units_of old) vs ss to → IsWay buffer ms t (units_of old) vs ss to → IsLeft ms t to olds
-    → IsMoved to ss olds xs
+    → qss ≡ parts_after buffer ms t (units_of old) pss vs ss → ss ≡ Sources buffer ms t (units_of old) vs
+    → IsTarget (units_of old) vs ss to → IsWay buffer ms t (units_of old) vs ss to
+    → IsLeft buffer ms t (units_of old) pss vs to olds → IsMoved to ss olds xs
     → IsCarried width new qss (map (had (laid_in olds)) (Sources buffer ms t (units_of old) vs))
-    (laid_parts_after buffer ms t (units_of old) (laid_parts_in olds) (Sources buffer ms t (units_of old) vs)) xs
+    (laid_parts_after buffer ms t (units_of old) pss (laid_parts_in olds) vs (Sources buffer ms t (units_of old) vs)) xs
 unfolding CarryKept CarryWithin Sources
 carried_by width buffer ms t old new pss qss olds xs (InPlace i silent ps) ss vs laid reads hold is_new is_parts is_ss
     to way left moves =
@@ -374,7 +359,9 @@ carried_by width buffer ms t old new pss qss olds xs (InPlace i silent ps) ss vs
     let kept : new ≡ taken_from (traces_of old) (numbers_but i 0 (length vs)) vs =
     is_new ∙ ap (λ ns. taken_from (traces_of old) ns vs) is in
     let parts : qss ≡ parts_but ms t i us pss =
-    is_parts ∙ ap (λ o. option_map_or (λ k. CarryWithin k ms t us pss) o (CarryParts pss ss)) way.0 in
+    is_parts
+    ∙ ap (λ o. option_map_or (λ k. CarryWithin k ms t us pss) o (CarryParts pss (PartMoves buffer ms t us pss vs) ss))
+    way.0 in
     let many : length olds ≡ length vs = laid_many width old pss olds vs laid to.1 in
     let same : AllSame us (numbers_but i 0 (length vs)) vs =
     all_same us vs (numbers_but i 0 (length vs))
@@ -398,13 +385,16 @@ carried_by width buffer ms t old new pss qss olds xs (InPlace i silent ps) ss vs
       laid_parts =
           stay_ats width i 0 i ms t ps old pss olds xs (omega arith) laid moves left
           ∙ ap (λ o. option_map_or (λ k. left_but ms t k us (laid_parts_in olds)) o
-          (map (laid_parts_of (laid_parts_in olds)) (Sources buffer ms t us vs))) (sym way.0);
+          (all_laid_now (laid_parts_in olds) (PartMoves buffer ms t us pss vs) 0 (Sources buffer ms t us vs)))
+          (sym way.0);
     }
 carried_by width buffer ms t old new pss qss olds xs (Onto blanks) ss vs laid reads hold is_new is_parts is_ss to
     way left moves =
     let us : List DocUnit = units_of old in
-    let on = carried_on width buffer ms t old new pss qss olds blanks.items xs ss vs laid reads to way.1 is_new
-    (is_parts ∙ ap (λ o. option_map_or (λ k. CarryWithin k ms t us pss) o (CarryParts pss ss)) way.0) is_ss moves in
+    let on = carried_on width buffer ms t old new pss qss olds blanks.items xs ss vs laid reads hold left way.1 is_new
+    (is_parts
+    ∙ ap (λ o. option_map_or (λ k. CarryWithin k ms t us pss) o (CarryParts pss (PartMoves buffer ms t us pss vs) ss))
+    way.0) is_ss moves in
     record {
       laid_out = on.laid_out;
       readable = on.readable;
@@ -412,5 +402,6 @@ carried_by width buffer ms t old new pss qss olds xs (Onto blanks) ss vs laid re
       laid_parts =
           on.laid_parts
           ∙ ap (λ o. option_map_or (λ k. left_but ms t k us (laid_parts_in olds)) o
-          (map (laid_parts_of (laid_parts_in olds)) (Sources buffer ms t us vs))) (sym way.0);
+          (all_laid_now (laid_parts_in olds) (PartMoves buffer ms t us pss vs) 0 (Sources buffer ms t us vs)))
+          (sym way.0);
     }

@@ -5,7 +5,7 @@ use Rattle.tx_items.specs.declared.attributes.Attrs.{Attrs}
 use Rattle.tx_view_form.specs.Outcomes.{Moment, behind}
 use Rattle.tx_view_form.specs.Started.{attributes_of}
 use Rattle.tx_bridge.specs.Entries.{Entry, Kept, outcome_of}
-use Rattle.tx_bridge.specs.Nested.{KeptParts, fresh_parts, part_flags}
+use Rattle.tx_bridge.specs.PartsKept.{KeptParts, fresh_parts, part_flags}
 use Rattle.tx_bridge.specs.Reached.{fits}
 use Rattle.tx_part_layout.specs.LaidParts.{is_before}
 use Rattle.tx_unit_layout.specs.LaidAts.{LaidAt, unit_items_anew}

@@ -1,7 +1,8 @@
--- A paragraph inside which an edit is, and which is found to change alone. That it isn't found says nothing.
-use Rattle.std.specs.Prelude.{◌≡◌, ℕ, zero, suc, ◌+◌, Bool, true, false, if◌then◌else◌, List, [], ◌∷◌, Option, Some}
-use Rattle.std.specs.Prelude.{None, option_and_then, map, slice_get}
-use Rattle.std.specs.List.{filter_map}
+-- A paragraph inside which an edit is, and which is found to change alone, and what stays of parts through an edit.
+-- That it isn't found says nothing.
+use Rattle.std.specs.Prelude.{◌≡◌, ℕ, zero, suc, ◌+◌, Bool, true, false, ◌==◌, if◌then◌else◌, List, [], ◌∷◌, Option}
+use Rattle.std.specs.Prelude.{Some, None, is_some, option_and_then, slice_get}
+use Rattle.std.specs.List.{filter_map, list_all}
 use Rattle.std.specs.Option.{option_map, option_map_or}
 use Rattle.tx_tree.specs.Paths.{subtree}
 use Rattle.tx_tree.specs.WideTree.{WideTree}
@@ -11,8 +12,9 @@ use Rattle.tx_units.specs.Inside.{leaves_others}
 use Rattle.tx_mod.specs.Followed.{changed_by_all}
 use Rattle.tx_bridge.specs.CarryingParts.{carried_below}
 use Rattle.tx_bridge.specs.InPlace.{is_changed, IsOneChanged}
-use Rattle.tx_bridge.specs.Nested.{KeptParts}
-use Rattle.tx_bridge.specs.Names.{CarryParts, CarryWithin}
+use Rattle.tx_bridge.specs.PartMoves.{Move}
+use Rattle.tx_bridge.specs.PartsKept.{KeptParts}
+use Rattle.tx_bridge.specs.Names.{CarryParts, CarryWithin, PartMoves}
 use Rattle.tx_unit_layout.specs.LaidAts.{LaidAt}
 
 -- the tree that stands in t where the unit's paragraph stood is found to leave all other units
@@ -35,11 +37,14 @@ exchanged_in (suc buffer) ms t us = None
 abbrev pub exchanged : ℕ → List Mod → WideTree → List DocUnit → Option ℕ
 exchanged buffer ms t us = option_and_then (λ u. exchanged_in buffer ms u us) (changed_by_all ms t)
 
--- What stays of what is kept of the parts of these units, where the new units are these old ones: where one paragraph
--- is found to change alone, those of its parts that stay in it, and all of the others.
-abbrev pub parts_after : ℕ → List Mod → WideTree → List DocUnit → List KeptParts → List (Option ℕ) → List KeptParts
-parts_after buffer ms t us pss ss =
-    option_map_or (λ i. CarryWithin i ms t us pss) (exchanged buffer ms t us) (CarryParts pss ss)
+-- What stays of what is kept of the parts of the units us, where the new ones are vs, and are these old ones: where one
+-- paragraph is found to change alone, those of its parts that stay in it, and all of the others. Else all of those that
+-- stay, and parts of another old unit go to the new ones in which they stand.
+abbrev pub parts_after : ℕ → List Mod → WideTree → List DocUnit → List KeptParts → List DocUnit → List (Option ℕ)
+    → List KeptParts
+parts_after buffer ms t us pss vs ss =
+    option_map_or (λ i. CarryWithin i ms t us pss) (exchanged buffer ms t us)
+    (CarryParts pss (PartMoves buffer ms t us pss vs) ss)
 
 -- ---- what is laid out of parts
 
@@ -58,16 +63,43 @@ left_but ms t i (u ∷ us) [] = []
 left_but ms t zero (u ∷ us) (ls ∷ lss) = left_at ms t u.path ls ∷ lss
 left_but ms t (suc i) (u ∷ us) (ls ∷ lss) = ls ∷ left_but ms t i us lss
 
--- what is laid out of the parts of the old unit that a new one is
-abbrev pub laid_parts_of : List (List LaidAt) → Option ℕ → List LaidAt
-laid_parts_of lss s = option_map_or (λ ls. ls) (option_and_then (slice_get lss) s) []
+-- the same at another path
+abbrev pub laid_to : List ℕ → LaidAt → LaidAt
+laid_to path l = record l { path = path }
 
--- What stays of what is laid out of the parts of these units, where the new units are these old ones: where one
--- paragraph is found to change alone, what is of those of its parts that stay in it, and all of the others.
-abbrev pub laid_parts_after : ℕ → List Mod → WideTree → List DocUnit → List (List LaidAt) → List (Option ℕ)
-    → List (List LaidAt)
-laid_parts_after buffer ms t us lss ss =
-    option_map_or (λ i. left_but ms t i us lss) (exchanged buffer ms t us) (map (laid_parts_of lss) ss)
+-- what is laid out of a part that has moved to another unit goes with it
+abbrev pub laid_moved : List (List LaidAt) → Move → Option LaidAt
+laid_moved lss m =
+    option_map (laid_to m.kept.path)
+    (option_and_then (λ ls. slice_get ls m.number) (slice_get lss m.from))
+
+-- something is laid out of each
+abbrev pub all_laid : List (List LaidAt) → List Move → Bool
+all_laid lss moves = list_all (λ m. is_some (laid_moved lss m)) moves
+
+abbrev pub laid_in_unit : List (List LaidAt) → ℕ → Move → Option LaidAt
+laid_in_unit lss j m = if m.to == j then laid_moved lss m else None
+
+-- What is laid out of the parts of the new unit j: all that is of those of the old one that it is, or of those that
+-- have moved to it, if something is of each that has moved.
+abbrev pub laid_now : List (List LaidAt) → List Move → ℕ → Option ℕ → List LaidAt
+laid_now lss moves j s =
+    option_map_or (λ i. option_map_or (λ ls. ls) (slice_get lss i) []) s
+    (if all_laid lss moves then filter_map (laid_in_unit lss j) moves else [])
+
+-- so it is of each new unit, from number j on
+abbrev pub all_laid_now : List (List LaidAt) → List Move → ℕ → List (Option ℕ) → List (List LaidAt)
+all_laid_now lss moves j [] = []
+all_laid_now lss moves j (s ∷ ss) = laid_now lss moves j s ∷ all_laid_now lss moves (j + 1) ss
+
+-- What stays of what is laid out of the parts of the units us, where the new ones are vs, and are these old ones: where
+-- one paragraph is found to change alone, what is of those of its parts that stay in it, and all of the others. Else
+-- all of units that stay, and of parts that go to other units, if something is laid out of each of these.
+abbrev pub laid_parts_after : ℕ → List Mod → WideTree → List DocUnit → List KeptParts → List (List LaidAt)
+    → List DocUnit → List (Option ℕ) → List (List LaidAt)
+laid_parts_after buffer ms t us pss lss vs ss =
+    option_map_or (λ i. left_but ms t i us lss) (exchanged buffer ms t us)
+    (all_laid_now lss (PartMoves buffer ms t us pss vs) 0 ss)
 
 -- ---- an edit of one paragraph
 

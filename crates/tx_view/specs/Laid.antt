@@ -1,8 +1,8 @@
 -- Units that are laid out, with what is kept of them. Private clauses cite these.
 use Rattle.std.specs.Prelude.{◌≡◌, ℕ, ◌≤◌, ◌<◌, ◌+◌, ◌*◌, ◌^◌, ◌==◌, Bool, true, false, if◌then◌else◌, List, []}
-use Rattle.std.specs.Prelude.{◌∷◌, map, length, Option, Some, None, option_and_then, slice_get, ◌⊎◌}
-use Rattle.std.specs.List.{All}
-use Rattle.std.specs.Option.{option_map_or}
+use Rattle.std.specs.Prelude.{◌∷◌, ◌++◌, map, length, Option, Some, None, is_some, option_and_then, slice_get, ◌⊎◌}
+use Rattle.std.specs.List.{All, filter_map, list_all}
+use Rattle.std.specs.Option.{option_map, option_map_or}
 use Rattle.tx_tree.specs.WideTree.{WideTree}
 use Rattle.tx_env.specs.Environments.{NameMap}
 use Rattle.tx_mod.specs.declared.mods.Mod.{Mod}
@@ -16,13 +16,15 @@ use Rattle.tx_bridge.specs.Entries.{Entry, Kept, outcome_of}
 use Rattle.tx_bridge.specs.CarryingParts.{carried_below}
 use Rattle.tx_bridge.specs.InPlace.{numbers_but, IsOneChanged}
 use Rattle.tx_bridge.specs.MovedParts.{places_by}
-use Rattle.tx_bridge.specs.Nested.{KeptParts}
+use Rattle.tx_bridge.specs.Names.{PartMoves}
+use Rattle.tx_bridge.specs.PartMoves.{Move}
+use Rattle.tx_bridge.specs.PartsKept.{KeptParts}
 use Rattle.tx_part_layout.specs.LaidParts.{is_before}
 use Rattle.tx_part_layout.specs.declared.laid.PlacedPart.{PlacedPart}
 use Rattle.tx_part_layout.specs.LaidParts.{laid_paths}
 use Rattle.tx_unit_layout.specs.LaidAts.{LaidAt, laid_at}
 use Rattle.tx_unit_layout.specs.LaidUnits.{IsLaidOut, IsLaid, WasLaid}
-use Rattle.tx_unit_layout.specs.Moving.{WidePart, wide_part, laid_by}
+use Rattle.tx_unit_layout.specs.Moving.{WidePart, wide_part, put_at, laid_by}
 use Rattle.tx_unit_layout.specs.Views.{unit_view}
 use Rattle.tx_unit_layout.specs.declared.shown.Shown.{Shown}
 use Rattle.tx_view.specs.Costs.{items_at}
@@ -129,20 +131,50 @@ ArePartlyLaid old fresh new =
 
 -- ---- what goes with units through an edit
 
--- nothing is shown of a unit with this path
-pub record IsBlank (path : Option (List ℕ)) (x : Shown) : Type 0 where
+-- nothing is shown of a unit with this path but what is laid out of these parts
+pub record IsBlank (path : Option (List ℕ)) (ps : List WidePart) (x : Shown) : Type 0 where
   pub path_is : x.path ≡ path
   pub laid : x.laid ≡ None
   pub errors : x.errors.items ≡ []
   pub paragraphs : x.paragraphs.items ≡ []
   pub lines : x.lines ≡ []
-  pub parts : x.parts ≡ []
+  pub parts : map wide_part x.parts ≡ ps
 
+-- nothing is shown of the units
 abbrev pub AreBlank : List DocUnit → List Shown → Type 0
 AreBlank [] [] = Unit {0}
 AreBlank [] (x ∷ xs) = ⊥
 AreBlank (u ∷ us) [] = ⊥
-AreBlank (u ∷ us) (x ∷ xs) = IsBlank u.path x × AreBlank us xs
+AreBlank (u ∷ us) (x ∷ xs) = IsBlank u.path [] x × AreBlank us xs
+
+-- what is laid out of a part that has moved to another unit, as it is put there
+abbrev pub wide_moved : List Shown → Move → Option WidePart
+wide_moved old m =
+    option_map (put_at m.kept.path) (option_and_then (λ x. slice_get x.parts m.number) (slice_get old m.from))
+
+-- something is laid out of each
+abbrev pub all_wide : List Shown → List Move → Bool
+all_wide old moves = list_all (λ m. is_some (wide_moved old m)) moves
+
+-- the moves with which what is laid out goes: all, or none if nothing is laid out of one of the parts
+abbrev pub going : List Shown → List Move → List Move
+going old moves = if all_wide old moves then moves else []
+
+abbrev pub wide_in_unit : List Shown → ℕ → Move → Option WidePart
+wide_in_unit old j m = if m.to == j then wide_moved old m else None
+
+-- nothing is shown of the units, from number j on, but what is laid out of the parts that have moved to them
+abbrev pub AreArrived : List Shown → List Move → ℕ → List DocUnit → List Shown → Type 0
+AreArrived old moves j [] [] = Unit {0}
+AreArrived old moves j [] (x ∷ xs) = ⊥
+AreArrived old moves j (u ∷ us) [] = ⊥
+AreArrived old moves j (u ∷ us) (x ∷ xs) =
+    IsBlank u.path (filter_map (wide_in_unit old j) moves) x × AreArrived old moves (j + 1) us xs
+
+-- in y is what was in x, and what is laid out of one part more
+pub record HasMore (x y : Shown) (w : WidePart) : Type 0 where
+  pub parts : map wide_part y.parts ≡ map wide_part x.parts ++ w ∷ []
+  pub others : y ≡ record x { parts = y.parts }
 
 -- what is shown of the other unit, if there is one, but for its path
 abbrev pub taking_shown : Shown → Option Shown → Shown
@@ -185,18 +217,20 @@ StayBut ps i k [] (x ∷ xs) = ⊥
 StayBut ps i k (y ∷ ys) [] = ⊥
 StayBut ps i k (y ∷ ys) (x ∷ xs) = IsLeftBy ps (k == i) y x × StayBut ps i (k + 1) ys xs
 
--- where what is shown stays in place, this is left of the parts of the unit that has changed
-abbrev pub IsLeft : List Mod → WideTree → Target → List Shown → Type 0
-IsLeft ms t (InPlace i silent ps) xs = (x : Shown) → slice_get xs i ≡ Some x
+-- Where what is shown stays in place, this is left of the parts of the unit that has changed. Else it goes to blank
+-- ones, to which went before what is laid out of parts that have moved to other units.
+abbrev pub IsLeft : ℕ → List Mod → WideTree → List DocUnit → List KeptParts → List DocUnit → Target → List Shown
+    → Type 0
+IsLeft buffer ms t us pss vs (InPlace i silent ps) xs = (x : Shown) → slice_get xs i ≡ Some x
     → map wide_part ps ≡ parts_left ms t x.path x.parts
-IsLeft ms t (Onto blanks) xs = Unit {0}
+IsLeft buffer ms t us pss vs (Onto blanks) xs =
+    AreArrived xs (going xs (PartMoves buffer ms t us pss vs)) 0 vs blanks.items
 
--- What is shown stays in place where each unit keeps its number and its path, but for one that has changed. Else it
--- goes to blank ones.
+-- What is shown stays in place where each unit keeps its number and its path, but for one that has changed.
 abbrev pub IsTarget : List DocUnit → List DocUnit → List (Option ℕ) → Target → Type 0
 IsTarget us vs ss (InPlace i silent ps) =
     (ss ≡ numbers_but i 0 (length vs)) × (map (λ v. v.path) vs ≡ map (λ u. u.path) us)
-IsTarget us vs ss (Onto blanks) = AreBlank vs blanks.items
+IsTarget us vs ss (Onto blanks) = Unit {0}
 
 -- It stays in place where one paragraph is found to change alone. Each new unit has the tree of the old one that it is.
 abbrev pub IsWay : ℕ → List Mod → WideTree → List DocUnit → List DocUnit → List (Option ℕ) → Target → Type 0

@@ -27,8 +27,8 @@ Empty buffers = record {
 unfoldable pub Fresh : List Buffer → Stores
 Fresh buffers = fresh_stores (units buffers)
 
--- What a refresh takes: what the units are charged that are evaluated anew, which for a nested one are the costs of the
--- parts of which nothing that fits is kept, and the items of those laid out anew, which for a nested one that isn't
+-- What a refresh takes: what the units are charged that are evaluated anew, which for a paragraph of the body are the
+-- costs of the parts of which nothing that fits is kept, and the items of those laid out anew, which for one that isn't
 -- over are those of the parts of which nothing that fits is kept, or that aren't laid out for the attributes before
 -- them.
 unfoldable pub Bound : Stores → ℕ
@@ -39,11 +39,11 @@ unfoldable pub Carry : ℕ → List Mod → List Buffer → Stores → List Buff
 Carry buffer ms old s new = record {
   kept = CarryKept buffer ms (tree_of old buffer) s.kept (units new);
   parts =
-      parts_after buffer ms (tree_of old buffer) (units_of s.kept) s.parts
+      parts_after buffer ms (tree_of old buffer) (units_of s.kept) s.parts (units new)
       (Sources buffer ms (tree_of old buffer) (units_of s.kept) (units new));
   laid = map (had s.laid) (Sources buffer ms (tree_of old buffer) (units_of s.kept) (units new));
   laid_parts =
-      laid_parts_after buffer ms (tree_of old buffer) (units_of s.kept) s.laid_parts
+      laid_parts_after buffer ms (tree_of old buffer) (units_of s.kept) s.parts s.laid_parts (units new)
       (Sources buffer ms (tree_of old buffer) (units_of s.kept) (units new));
 }
 

@@ -7,7 +7,7 @@ use Rattle.tx_view_form.specs.Started.{attributes_of}
 use Rattle.tx_view_form.specs.Views.{UnitView, AreLines}
 use Rattle.tx_part_items.specs.ShownParts.{ShownPart, own_paragraphs}
 use Rattle.tx_bridge.specs.Entries.{outcome_of}
-use Rattle.tx_bridge.specs.Nested.{fresh_parts}
+use Rattle.tx_bridge.specs.PartsKept.{fresh_parts}
 use Rattle.tx_unit_layout.specs.LaidAts.{is_by_parts, parts_of}
 use Rattle.tx_view.specs.Costs.{entry_at}
 

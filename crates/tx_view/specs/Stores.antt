@@ -10,7 +10,7 @@ use Rattle.tx_units.specs.declared.kinds.Unit.{Unit as DocUnit}
 use Rattle.tx_view_form.specs.Outcomes.{Moment, beginning, behind}
 use Rattle.tx_view_form.specs.Started.{attributes_of}
 use Rattle.tx_bridge.specs.Bridged.{coded_Entry, coded_parts}
-use Rattle.tx_bridge.specs.Nested.{KeptParts, kept_at, fresh_parts, fresh_parts_from}
+use Rattle.tx_bridge.specs.PartsKept.{KeptParts, kept_at, fresh_parts, fresh_parts_from}
 use Rattle.tx_bridge.specs.Entries.{Entry, Kept, fresh_from, outcome_of}
 use Rattle.tx_unit_layout.specs.LaidAts.{LaidAt, laid_ats, coded_laid_ats}
 use Rattle.tx_view.specs.Costs.{entry_at}

@@ -1,5 +1,5 @@
 // What is shown of units goes with them through an edit.
-ghost use Rattle.std.specs.Prelude.{◌≡◌, ℕ, List, ◌+◌, ◌≤◌, ◌<◌, ◌^◌, length, slice_get, if◌then◌else◌, IfOk, OnOk};
+ghost use Rattle.std.specs.Prelude.{◌≡◌, ℕ, List, [], ◌+◌, ◌≤◌, ◌<◌, ◌^◌, length, slice_get, if◌then◌else◌, IfOk, OnOk};
 ghost use Rattle.std.specs.Prelude.{OnErr, Some, None, IfSome, IsTrue, MatchOption, true, false, All};
 ghost use Rattle.tx_tree.specs.WideTree.{WideTree};
 ghost use Rattle.tx_mod.specs.Followed.{changed_by_all};
@@ -8,17 +8,18 @@ ghost use Rattle.tx_doc.specs.Buffers.{tree_of, with_tree};
 ghost use Rattle.tx_units.specs.Units.{units, made};
 ghost use Rattle.tx_bridge.specs.Entries.{Entry, units_of};
 ghost use Rattle.tx_bridge.specs.MovedParts.{moves_of};
-ghost use Rattle.tx_bridge.specs.Names.{Carry, CarryParts, Sources};
+ghost use Rattle.tx_bridge.specs.Names.{Carry, CarryParts, PartMoves, Sources};
 ghost use Rattle.tx_bridge.specs.Settled.{IsSilent};
 ghost use Rattle.tx_bridge.specs.UnitLists.{AreUnits};
 ghost use Rattle.tx_bridge.specs.Carrying.{AllStand, AreSameBodies, HaveSameTrees};
 ghost use Rattle.tx_layout.specs.Paging.{Unmarked};
 ghost use Rattle.tx_unit_layout.specs.Views.{unit_view};
 ghost use Rattle.tx_view.specs.Exchanged.{IsNow, IsExchanged, stays_alone, exchanged_in, parts_after};
-ghost use Rattle.tx_view.specs.Laid.{IsBlank, AreBlank, taking_shown, source_shown, moved, laid_in};
+ghost use Rattle.tx_view.specs.Laid.{IsBlank, AreBlank, AreArrived, going, taking_shown, source_shown, moved};
 ghost use Rattle.tx_view.specs.Laid.{ArePutBy, left_with, StayBut, IsLeft, IsWay, IsTarget, IsFew, IsMoved, SetNoName};
 ghost use Rattle.tx_view.specs.Laid.{WasShown, IsFormer, AreLaid};
 
+use crate::arriving::put_either;
 use crate::sharing::shared;
 use std::alloc::Global;
 use std::mem;
@@ -51,7 +52,7 @@ fn with_tree(
 
 // The unit, of which nothing is laid out.
 fn blank(alloc: Global, unit: &Unit) -> Result<Shown, Memory>
-    ensures { IfOk result (λ x. IsBlank unit.now.path x) }
+    ensures { IfOk result (λ x. IsBlank unit.now.path [] x) }
 {
     Ok(Shown {
         path: unit.copy_path(alloc)?,
@@ -299,10 +300,14 @@ fn exchanged(
     }
 }
 
-// What is kept of the old units goes to those of the buffers afterwards, of which nothing is laid out.
+// What is kept of the old units goes to those of the buffers afterwards, of which nothing is laid out but what is of
+// parts of other old units, which goes with these.
 fn carried_anew<L: Ledger>(
     alloc: Global,
     bridges: &mut Bridges,
+    fresh: bool,
+    shown: &[Shown],
+    hidden: &[Shown],
     after: &[Buffer],
     buffer: u32,
     before: &Tree,
@@ -316,11 +321,15 @@ fn carried_anew<L: Ledger>(
     requires new { buffer ≡ 0 → (u : WideTree) → changed_by_all mods.now before.now ≡ Some u
         → AllStand u (units after.now) }
     requires same { (buffer ≡ 0 → ⊥) → AreSameBodies (units_of bridges.old.kept) (units after.now) }
-    ensures blank { IfOk result (λ new. AreBlank (units after.now) new.items) }
+    ensures arrived { IfOk result (λ new. AreArrived (if fresh then shown.now else hidden.now)
+        (going (if fresh then shown.now else hidden.now) (PartMoves buffer mods.now before.now
+        (units_of bridges.old.kept) bridges.old.parts (units after.now))) 0 (units after.now) new.items) }
     ensures few { IfOk result (λ new. length new.items < 2 ^ 32) }
     ensures carried { OnOk result
         (bridges.new.kept ≡ Carry buffer mods.now before.now bridges.old.kept (units after.now)) }
-    ensures parts { OnOk result (bridges.new.parts ≡ CarryParts bridges.old.parts bridges.new.sources) }
+    ensures parts { OnOk result (bridges.new.parts ≡ CarryParts bridges.old.parts
+        (PartMoves buffer mods.now before.now (units_of bridges.old.kept) bridges.old.parts (units after.now))
+        bridges.new.sources) }
     ensures sources { OnOk result
         (bridges.new.sources ≡ Sources buffer mods.now before.now (units_of bridges.old.kept) (units after.now)) }
     ensures once { OnOk result ((i j k : ℕ) → slice_get bridges.new.sources j ≡ Some (Some i)
@@ -334,8 +343,10 @@ fn carried_anew<L: Ledger>(
     unit_list_laws();
     unit_count_law(after);
     let made = units(alloc, after, steps)?;
-    let new = blanks(alloc, &made)?;
-    bridges.carry(alloc, buffer, before, mods, made, steps)?;
+    let mut new = blanks(alloc, &made)?;
+    let course = bridges.course(alloc, buffer, before, mods, &made, steps)?;
+    put_either(alloc, fresh, shown, hidden, &course.moves, &mut new)?;
+    bridges.carry_along(alloc, buffer, before, mods, made, course)?;
     Ok(new)
 }
 
@@ -405,7 +416,8 @@ fn carried_kept<L: Ledger>(
     requires after { after.now ≡ with_tree buffers.now buffer tree.now }
     requires laid { (width : ℕ) × AreLaid width bridges.old.kept bridges.old.parts
         (if fresh then shown.now else hidden.now) }
-    ensures left { IfOk result (λ to. IsLeft mods.now (tree_of buffers.now buffer) to
+    ensures left { IfOk result (λ to. IsLeft buffer mods.now (tree_of buffers.now buffer)
+        (units_of bridges.old.kept) bridges.old.parts (units after.now) to
         (if fresh then shown.now else hidden.now)) }
     ensures target { IfOk result
         (λ to. IsTarget (units_of bridges.old.kept) (units after.now) bridges.new.sources to) }
@@ -416,7 +428,7 @@ fn carried_kept<L: Ledger>(
     ensures kept { OnOk result (bridges.new.kept
         ≡ Carry buffer mods.now (tree_of buffers.now buffer) bridges.old.kept (units after.now)) }
     ensures parts { OnOk result (bridges.new.parts ≡ parts_after buffer mods.now (tree_of buffers.now buffer)
-        (units_of bridges.old.kept) bridges.old.parts bridges.new.sources) }
+        (units_of bridges.old.kept) bridges.old.parts (units after.now) bridges.new.sources) }
     ensures sources { OnOk result (bridges.new.sources ≡ Sources buffer mods.now (tree_of buffers.now buffer)
         (units_of bridges.old.kept) (units after.now)) }
     ensures once { OnOk result ((i j k : ℕ) → slice_get bridges.new.sources j ≡ Some (Some i)
@@ -437,7 +449,9 @@ fn carried_kept<L: Ledger>(
             bridges.carry_in_place(before, mods, paragraph, changed, moved);
             Ok(Target::InPlace(changed, silent, parts))
         }
-        None => Ok(Target::Onto(carried_anew(alloc, bridges, after, buffer, before, mods, steps)?)),
+        None => Ok(Target::Onto(carried_anew(
+            alloc, bridges, fresh, shown, hidden, after, buffer, before, mods, steps,
+        )?)),
     }
 }
 
@@ -462,7 +476,8 @@ pub(crate) fn carried<L: Ledger>(
     requires of_buffers { units_of bridges.old.kept ≡ units buffers.now }
     requires laid { (width : ℕ) × AreLaid width bridges.old.kept bridges.old.parts
         (if fresh then shown.now else hidden.now) }
-    ensures left { IfOk result (λ p. IsLeft mods.now (tree_of buffers.now buffer) p.1
+    ensures left { IfOk result (λ p. IsLeft buffer mods.now (tree_of buffers.now buffer)
+        (units_of bridges.old.kept) bridges.old.parts (units (with_tree buffers.now buffer tree.now)) p.1
         (if fresh then shown.now else hidden.now)) }
     ensures buffers { IfOk result (λ p. p.0.items ≡ with_tree buffers.now buffer tree.now) }
     ensures target { IfOk result (λ p. IsTarget (units_of bridges.old.kept)
@@ -472,7 +487,8 @@ pub(crate) fn carried<L: Ledger>(
     ensures kept { OnOk result (bridges.new.kept ≡ Carry buffer mods.now (tree_of buffers.now buffer) bridges.old.kept
         (units (with_tree buffers.now buffer tree.now))) }
     ensures parts { OnOk result (bridges.new.parts ≡ parts_after buffer mods.now (tree_of buffers.now buffer)
-        (units_of bridges.old.kept) bridges.old.parts bridges.new.sources) }
+        (units_of bridges.old.kept) bridges.old.parts (units (with_tree buffers.now buffer tree.now))
+        bridges.new.sources) }
     ensures sources { OnOk result (bridges.new.sources ≡ Sources buffer mods.now (tree_of buffers.now buffer)
         (units_of bridges.old.kept) (units (with_tree buffers.now buffer tree.now))) }
     ensures once { OnOk result ((i j k : ℕ) → slice_get bridges.new.sources j ≡ Some (Some i)

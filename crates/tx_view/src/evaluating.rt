@@ -5,7 +5,7 @@ ghost use Rattle.std.specs.Option.{unwrap_or};
 ghost use Rattle.tx_view_form.specs.Outcomes.{beginning};
 ghost use Rattle.tx_bridge.specs.Entries.{units_of, fresh_from};
 ghost use Rattle.tx_bridge.specs.Names.{Charge, PartFlags};
-ghost use Rattle.tx_bridge.specs.Nested.{fresh_parts_from};
+ghost use Rattle.tx_bridge.specs.PartsKept.{fresh_parts_from};
 ghost use Rattle.tx_view_form.specs.declared.TheConstants.{MOST_VIEW_STEPS};
 ghost use Rattle.tx_bridge.specs.Reached.{reached_from};
 ghost use Rattle.tx_unit_layout.specs.Views.{unit_view, IsReadable};

@@ -12,7 +12,7 @@ ghost use Rattle.tx_view_form.specs.Started.{attributes_of};
 ghost use Rattle.tx_view_form.specs.Views.{AreShown, lines_of, paragraphs_at};
 ghost use Rattle.tx_view_form.specs.Errors.{errors_of};
 ghost use Rattle.tx_bridge.specs.Entries.{Entry, units_of, fresh_from, outcome_of};
-ghost use Rattle.tx_bridge.specs.Nested.{KeptParts, fresh_parts, fresh_parts_from};
+ghost use Rattle.tx_bridge.specs.PartsKept.{KeptParts, fresh_parts, fresh_parts_from};
 ghost use Rattle.tx_bridge.specs.HeldParts.{kept_parts, flags_of_parts};
 ghost use Rattle.tx_bridge.specs.UnitLists.{IsPlaced};
 ghost use Rattle.tx_walk.specs.Walked.{paths_of};

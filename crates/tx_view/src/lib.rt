@@ -5,6 +5,7 @@
 #![tactic(auto)]
 
 mod around;
+mod arriving;
 mod beside;
 mod carrying;
 mod cells;

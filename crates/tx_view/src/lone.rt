@@ -12,7 +12,7 @@ ghost use Rattle.tx_layout.specs.Paging.{Unmarked};
 ghost use Rattle.tx_view_form.specs.Outcomes.{Moment as WideMoment, beginning, value_of};
 ghost use Rattle.tx_bridge.specs.Entries.{units_of, fresh_from, traces_of, outcome_of};
 ghost use Rattle.tx_bridge.specs.HeldParts.{kept_parts, flags_of_parts};
-ghost use Rattle.tx_bridge.specs.Nested.{fresh_parts, fresh_parts_from};
+ghost use Rattle.tx_bridge.specs.PartsKept.{fresh_parts, fresh_parts_from};
 ghost use Rattle.tx_bridge.specs.Settled.{IsSilent};
 ghost use Rattle.tx_bridge.specs.UnitLists.{IsPlaced};
 ghost use Rattle.tx_unit_layout.specs.LaidAts.{laid_at, unit_items_anew};

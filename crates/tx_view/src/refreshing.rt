@@ -7,7 +7,7 @@ ghost use Rattle.tx_view_form.specs.Views.{AreShown, lines_of};
 ghost use Rattle.tx_view_form.specs.Errors.{errors_of};
 ghost use Rattle.tx_bridge.specs.Entries.{units_of, fresh_from};
 ghost use Rattle.tx_bridge.specs.Names.{Charge};
-ghost use Rattle.tx_bridge.specs.Nested.{fresh_parts_from};
+ghost use Rattle.tx_bridge.specs.PartsKept.{fresh_parts_from};
 ghost use Rattle.tx_view.specs.Units.{unit_views};
 ghost use Rattle.tx_unit_layout.specs.Views.{unit_view, IsReadable};
 ghost use Rattle.tx_view.specs.Stores.{attributes_from, laid_parts_from, fresh_stores, IsPartlyFresh};

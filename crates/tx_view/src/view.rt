@@ -216,12 +216,14 @@ impl View {
 
     /// From then on the view is one of its buffers with this tree in place of that of buffer `buffer`, which these
     /// modifications make of the former one, applied one after the other. It isn't fresh and shows nothing. What is
-    /// kept of a unit goes with it, and what is kept of the parts of a nested paragraph too: a paragraph of the
-    /// document goes by the modifications from path to path, and another unit stays the one of its number, where kind
-    /// and tree are the same. Of a paragraph inside which all modifications are, and which is found to change alone,
-    /// the trace goes. What is kept and laid out of the parts that stay in it stays, also of those that move. Nothing
-    /// is evaluated. The steps rise by at most the paths' lengths, three for each modification, and the nodes that are
-    /// made for units. For want of memory all stays.
+    /// kept of a unit goes with it, and what is kept of its parts too: a paragraph of the document goes by the
+    /// modifications from path to path, and another unit stays the one of its number, where kind and tree are the same.
+    /// Of a paragraph inside which all modifications are, and which is found to change alone, the trace goes. What is
+    /// kept and laid out of the parts that stay in it stays, also of those that move. Else the parts of a paragraph
+    /// that is none afterwards go with what is kept of them to the paragraphs in which they stand then, and what is
+    /// laid out of such parts goes with them, if something is of each. Nothing is evaluated. The steps rise by at most
+    /// the paths' lengths, three for each modification, and the nodes that are made for units. For want of memory all
+    /// stays.
     pub fn edited<L: Ledger>(
         &mut self,
         alloc: Global,
@@ -274,10 +276,10 @@ impl View {
 
     /// Makes the view anew, unless it is fresh, which takes no memory and no step then. What was kept of a unit is used
     /// again where what it looked up is as it was and its cost is allowed, and its lines where its attributes are those
-    /// of before. So it is of the parts of a nested unit that is evaluated or laid out anew. The steps rise by the
-    /// charges of the other units, which for a nested one are the costs of the other parts, and the items of those that
-    /// are laid out anew. Of a nested one that isn't over these are the items of the parts that are evaluated anew, or
-    /// aren't laid out for the attributes before them.
+    /// of before. So it is of the parts of a paragraph of the body that is evaluated or laid out anew. The steps rise
+    /// by the charges of the other units, which for such a paragraph are the costs of the other parts, and the items of
+    /// those that are laid out anew. Of a paragraph of the body that isn't over these are the items of the parts that
+    /// are evaluated anew, or aren't laid out for the attributes before them.
     ///
     /// For want of memory it isn't fresh, and a later refresh is right. The units before some number, and their parts,
     /// have then the traces of the present buffers, and the others what they had. A unit that is laid out then has both
@@ -324,8 +326,8 @@ impl View {
     }
 
     /// Whether it is fresh. At every moment, also behind a refresh that lacked memory, what is kept is of the units of
-    /// the present buffers, and the trace of a unit, or of a part of a nested one, is that of its tree in each
-    /// environment that agrees with what it looked up.
+    /// the present buffers, and the trace of a unit, or of a part of one, is that of its tree in each environment that
+    /// agrees with what it looked up.
     pub fn fresh(&self) -> bool
         ensures fresh { result ≡ self.now.fresh }
         ensures view { IsTrue result → IsView self.now.buffers self.now.width self.now.height self.now.shown }

@@ -41,11 +41,11 @@ returns-clause-was_laid g c =
     now_laid c.args.width (record { unit = c.args.unit.now; trace = Some trace }) c.args.parts.now c.args.attrs _
     c.requires.distinct c.in_ok-path.ensures refl
     (out_by_parts c.args.width c.args.attrs c.args.unit.now trace c.args.parts.now c.in_ok-laid.laid
-    c.requires.nested c.in_ok-laid.ensures.laid shows _ is c.weight_laws.ensures.lines c.weight_laws.ensures.errors)
+    c.requires.body c.in_ok-laid.ensures.laid shows _ is c.weight_laws.ensures.lines c.weight_laws.ensures.errors)
     (ats_by_parts c.args.width c.args.attrs c.args.unit.now trace c.args.parts.now c.in_ok-laid.laid
-    c.requires.nested c.in_ok-laid.ensures.laid shows _ is)
+    c.requires.body c.in_ok-laid.ensures.laid shows _ is)
     (parts_by_parts c.args.width c.args.attrs c.args.unit.now trace c.args.parts.now c.in_ok-laid.laid
-    c.requires.nested c.in_ok-laid.ensures.laid shows _ is c.requires.distinct)
+    c.requires.body c.in_ok-laid.ensures.laid shows _ is c.requires.distinct)
 
 pub returns-clause-readable : goal.returns-clause-readable
 returns-clause-readable g c =
@@ -61,7 +61,7 @@ returns-clause-readable g c =
       parts = c.new.result;
     } in
     readable_by_parts c.args.width c.args.attrs c.args.unit.now trace c.args.parts.now c.in_ok-laid.laid
-    c.requires.nested c.in_ok-laid.ensures.laid shows x
+    c.requires.body c.in_ok-laid.ensures.laid shows x
     (record {
       path_is = c.in_ok-path.ensures;
       errors = refl;
@@ -79,7 +79,7 @@ returns-clause-items g c =
     let trace = wide_trace c.args.trace.now in
     let shows = c.in_ok-laid.ensures.shown at.0 at.1 trace at.2 at.3 in
     items_anew_is c.args.width c.args.attrs c.args.unit.now trace c.args.parts.now c.in_ok-laid.laid
-    c.requires.nested c.in_ok-laid.ensures.laid shows c.all.result.now c.args.shown.now.parts
+    c.requires.body c.in_ok-laid.ensures.laid shows c.all.result.now c.args.shown.now.parts
     c.all.ensures c.in_ok-laid.laid.items c.in_ok-laid.ensures.items
 
 pub returns-clause-within : goal.returns-clause-within
@@ -88,5 +88,5 @@ returns-clause-within g c =
     let trace = wide_trace c.args.trace.now in
     let shows = c.in_ok-laid.ensures.shown at.0 at.1 trace at.2 at.3 in
     items_within c.args.width c.args.attrs c.args.unit.now trace c.args.parts.now c.in_ok-laid.laid
-    c.requires.nested c.in_ok-laid.ensures.laid shows c.all.result.now c.args.shown.now.parts
+    c.requires.body c.in_ok-laid.ensures.laid shows c.all.result.now c.args.shown.now.parts
     c.all.ensures c.in_ok-laid.laid.items c.in_ok-laid.ensures.items

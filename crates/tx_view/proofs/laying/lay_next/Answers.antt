@@ -2,7 +2,7 @@ use Rattle.std.proofs.Common.{◌+◌, ◌∙◌, List, Bool, ap}
 use Rattle.tx_exec.specs.Outcomes.{wide_outcome}
 use Rattle.tx_bridge.specs.Entries.{Entry}
 use Rattle.tx_bridge.specs.HeldParts.{kept_parts, flags_of_parts}
-use Rattle.tx_bridge.specs.Nested.{KeptParts}
+use Rattle.tx_bridge.specs.PartsKept.{KeptParts}
 use Rattle.tx_view.specs.Laid.{IsUnit, IsNext}
 use Rattle.tx_view.proofs.Onward.{unit_found, unit_once, next_is, next_by}
 use Rattle.tx_view.proofs.laying.lay_next.Goals as goal

@@ -15,7 +15,8 @@ use Rattle.tx_view.specs.Lone.{AreAlike, KeepPages}
 use Rattle.tx_view.proofs.Alone.{comes_to, small_value, takes_alone}
 use Rattle.tx_view.proofs.Likeness.{pages_stay}
 use Rattle.tx_view.proofs.Endings.{on_either}
-use Rattle.tx_view.proofs.Onward.{entry_there, laid_many, laid_set_here, laid_within, unit_found, was_laid_here}
+use Rattle.tx_view.proofs.Leaving.{laid_within}
+use Rattle.tx_view.proofs.Onward.{entry_there, laid_many, laid_set_here, unit_found, was_laid_here}
 use Rattle.tx_view.proofs.lone.lay_only.Goals as goal
 
 pub overflow_cast-i : goal.overflow_cast-i

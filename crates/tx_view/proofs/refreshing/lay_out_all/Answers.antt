@@ -2,7 +2,7 @@ use Rattle.std.proofs.Common.{◌≡◌, ◌∙◌, List, ap, sym, subst, arith}
 use Rattle.tx_view_form.specs.Outcomes.{beginning}
 use Rattle.tx_bridge.specs.Entries.{units_of, fresh_from}
 use Rattle.tx_bridge.specs.Names.{PartFlags}
-use Rattle.tx_bridge.specs.Nested.{fresh_parts_from}
+use Rattle.tx_bridge.specs.PartsKept.{fresh_parts_from}
 use Rattle.tx_unit_layout.specs.declared.shown.Shown.{Shown}
 use Rattle.tx_view.specs.Costs.{items_relaid_from}
 use Rattle.tx_view.specs.Laid.{AreLaid, items_unlaid_from, laid_in, laid_parts_in, stores_in}

@@ -5,7 +5,7 @@ use Rattle.tx_view_form.specs.Outcomes.{beginning}
 use Rattle.tx_view_form.specs.Views.{AreShown}
 use Rattle.tx_bridge.specs.Entries.{units_of, fresh_from}
 use Rattle.tx_bridge.specs.Names.{PartFlags}
-use Rattle.tx_bridge.specs.Nested.{fresh_parts_from}
+use Rattle.tx_bridge.specs.PartsKept.{fresh_parts_from}
 use Rattle.tx_unit_layout.specs.declared.shown.Shown.{Shown}
 use Rattle.tx_view.specs.Costs.{items_relaid_from}
 use Rattle.tx_view.specs.Laid.{AreLaid, items_unlaid_from, laid_in, laid_parts_in, stores_in}
@@ -14,7 +14,7 @@ use Rattle.tx_view.specs.Stores.{IsPartlyFresh, fresh_stores, attributes_from, l
 use Rattle.tx_view.specs.Units.{unit_views}
 use Rattle.tx_view.proofs.Alone.{ready_is, shown_from, all_laid, without_alone}
 use Rattle.tx_view.proofs.Keeping.{laid_many, laid_left, at_rest, parts_laid}
-use Rattle.tx_view.proofs.Onward.{laid_within}
+use Rattle.tx_view.proofs.Leaving.{laid_within}
 use Rattle.tx_bridge.proofs.Partway.{any_err}
 use Rattle.tx_view.proofs.Partly.{evaluated, laid_then}
 use Rattle.tx_view.proofs.Renewed.{relaid_is, same_many}

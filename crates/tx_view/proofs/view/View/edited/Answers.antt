@@ -26,8 +26,9 @@ invariant_of-self-2 g c =
     let kept : Kept = c.self.inside.bridges.kept in
     let olds : List Shown = all_of c.self.inside in
     let ss = c.carried.new.bridges.sources in
-    let left = left_of c.args.mods.now (tree_of bs c.args.buffer) c.in_ok-after.target c.self.inside.fresh
-    c.deref.result.now c.deref-2.result.now c.self.inside.units.items c.self.inside.hidden.items c.deref.ensures.value
+    let left = left_of c.args.buffer c.args.mods.now (tree_of bs c.args.buffer) (units_of kept)
+    c.self.inside.bridges.parts (units after) c.in_ok-after.target c.self.inside.fresh c.deref.result.now
+    c.deref-2.result.now c.self.inside.units.items c.self.inside.hidden.items c.deref.ensures.value
     c.deref-2.ensures.value c.in_ok-after.ensures.left in
     let on = carried_by c.self.inside.width c.args.buffer c.args.mods.now (tree_of bs c.args.buffer) kept
     c.carried.new.bridges.kept c.self.inside.bridges.parts c.carried.new.bridges.parts olds
@@ -63,8 +64,9 @@ returns-clause-ok g c =
     let kept : Kept = c.self.inside.bridges.kept in
     let olds : List Shown = all_of c.self.inside in
     let ss = c.carried.new.bridges.sources in
-    let left = left_of c.args.mods.now (tree_of bs c.args.buffer) c.in_ok-after.target c.self.inside.fresh
-    c.deref.result.now c.deref-2.result.now c.self.inside.units.items c.self.inside.hidden.items c.deref.ensures.value
+    let left = left_of c.args.buffer c.args.mods.now (tree_of bs c.args.buffer) (units_of kept)
+    c.self.inside.bridges.parts (units after) c.in_ok-after.target c.self.inside.fresh c.deref.result.now
+    c.deref-2.result.now c.self.inside.units.items c.self.inside.hidden.items c.deref.ensures.value
     c.deref-2.ensures.value c.in_ok-after.ensures.left in
     let on = carried_by c.self.inside.width c.args.buffer c.args.mods.now (tree_of bs c.args.buffer) kept
     c.carried.new.bridges.kept c.self.inside.bridges.parts c.carried.new.bridges.parts olds
@@ -87,10 +89,11 @@ returns-clause-ok g c =
     let base = stale_view v after
     (CarryKept c.args.buffer c.args.mods.now (tree_of bs c.args.buffer) kept (units after))
     (parts_after c.args.buffer c.args.mods.now (tree_of bs c.args.buffer) (units_of kept) c.self.inside.bridges.parts
-    (Sources c.args.buffer c.args.mods.now (tree_of bs c.args.buffer) (units_of kept) (units after)))
+    (units after) (Sources c.args.buffer c.args.mods.now (tree_of bs c.args.buffer) (units_of kept) (units after)))
     (map (had (laid_in olds)) (Sources c.args.buffer c.args.mods.now (tree_of bs c.args.buffer) (units_of kept)
     (units after)))
-    (laid_parts_after c.args.buffer c.args.mods.now (tree_of bs c.args.buffer) (units_of kept) (laid_parts_in olds)
+    (laid_parts_after c.args.buffer c.args.mods.now (tree_of bs c.args.buffer) (units_of kept)
+    c.self.inside.bridges.parts (laid_parts_in olds) (units after)
     (Sources c.args.buffer c.args.mods.now (tree_of bs c.args.buffer) (units_of kept) (units after))) refl
     c.clear.ensures.items
     (ap (λ (p : Pagination). p.pages.items) c.replace-paged.ensures.after ∙ c.in_ok-nothing.ensures.pages)
@@ -98,7 +101,7 @@ returns-clause-ok g c =
     c.in_ok-after.ensures.kept
     (c.in_ok-after.ensures.parts
     ∙ ap (parts_after c.args.buffer c.args.mods.now (tree_of bs c.args.buffer) (units_of kept)
-    c.self.inside.bridges.parts) c.in_ok-after.ensures.sources) on.attributes on.laid_parts in
+    c.self.inside.bridges.parts (units after)) c.in_ok-after.ensures.sources) on.attributes on.laid_parts in
     base
     ∙ ap (λ (cs : List Buffer). record (whole_of c.self.inside) {
       buffers = with_tree cs c.args.buffer c.args.tree.now;

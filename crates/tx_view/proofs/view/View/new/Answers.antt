@@ -3,7 +3,7 @@ use Rattle.tx_units.specs.declared.kinds.Unit.{Unit as DocUnit}
 use Rattle.tx_units.specs.Units.{units}
 use Rattle.tx_items.specs.declared.attributes.Attrs.{Attrs}
 use Rattle.tx_bridge.specs.Entries.{Kept, nothing_kept}
-use Rattle.tx_bridge.specs.Nested.{KeptParts}
+use Rattle.tx_bridge.specs.PartsKept.{KeptParts}
 use Rattle.tx_unit_layout.specs.LaidAts.{LaidAt}
 use Rattle.tx_view.specs.declared.view.View.TheInside.{Inside}
 use Rattle.tx_view.specs.Laid.{AreLaid, AreBlank}

@@ -1,0 +1,23 @@
+-- Numbers that are equal or not, and the elements of a list from a number on.
+use Rattle.std.proofs.Common.{◌≡◌, ℕ, zero, suc, ◌+◌, ◌<◌, true, false, List, [], ◌∷◌, length, refl, ap, arith}
+use Rattle.std.proofs.lemmas.Bool.{false_from_ne_true}
+use Rattle.std.proofs.lemmas.Bool.Decides.{Decides-eqb}
+use Rattle.std.specs.Prelude.{slice_get, is_some, ◌==◌}
+
+pub not_equal : (k i : ℕ) → (k ≡ i → ⊥) → k == i ≡ false
+not_equal k i h = false_from_ne_true (k == i) (λ e. absurd (h ((Decides-eqb k i).0 e)))
+
+pub are_equal : (k i : ℕ) → k ≡ i → k == i ≡ true
+are_equal k i e = (Decides-eqb k i).1 e
+
+-- of each number from k on, these are the elements behind number k
+abbrev pub AreFrom : {A : Type 0} → List A → ℕ → List A → Type 0
+AreFrom all k xs = (n m : ℕ) → m ≡ k + n → slice_get all m ≡ slice_get xs n
+
+pub from_first : {A : Type 0} (all : List A) → AreFrom all 0 all
+from_first all n m e = let same : m ≡ n = omega (arith, e) in ap (slice_get all) same
+
+pub some_there : {A : Type 0} (xs : List A) (i : ℕ) → i < length xs → is_some (slice_get xs i) ≡ true
+some_there [] i less = absurd (omega (arith, less))
+some_there (x ∷ xs) zero less = refl
+some_there (x ∷ xs) (suc i) less = some_there xs i (omega (arith, less))
