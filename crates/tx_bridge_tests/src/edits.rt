@@ -407,7 +407,7 @@ fn holds_in_place<L: Ledger>(alloc: Global, row: &InPlace, steps: &mut Steps<L>)
 }
 
 // Whether all outcomes are those from nothing.
-fn are_fresh<L: Ledger>(
+pub(crate) fn are_fresh<L: Ledger>(
     alloc: Global,
     bridges: &Bridges,
     fresh: &Bridges,

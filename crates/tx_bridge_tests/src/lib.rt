@@ -1,10 +1,12 @@
-//! Tests of kept evaluations: which units an edit reaches, that their outcomes are those from nothing, and which places
-//! edits are found to leave as they are.
+//! Tests of kept evaluations: which units an edit reaches and which parts it renews, also where parts go to other
+//! paragraphs, that their outcomes are those from nothing, and which places edits are found to leave as they are.
 #![tactic(auto)]
 
 #[cfg(test)]
 mod edits;
 #[cfg(test)]
 mod keeping;
+#[cfg(test)]
+mod moves;
 #[cfg(test)]
 mod parts;

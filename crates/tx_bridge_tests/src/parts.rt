@@ -1,4 +1,4 @@
-// The parts of nested paragraphs, and what names have at the end.
+// The parts of paragraphs, and what names have at the end.
 ghost use Rattle.std.specs.Prelude.{◌≡◌};
 
 use crate::edits::{BASE, buffers_of, edited_in_place, from_nothing};
@@ -10,26 +10,53 @@ use tx_bridge::{Bridges, Moment};
 use tx_tree::Text;
 use tx_walk::Part;
 
-// A buffer, an edit inside one nested paragraph or before it, and for each paragraph, a `/` between them, a mark for
-// each part: a cross where nothing that fits was kept of it, and else a point.
+// A buffer, an edit inside one paragraph, and for each paragraph, a `/` between them, a mark for each part: a cross where
+// nothing that fits was kept of it, and else a point.
 type Row = (&'static str, &'static str, &'static str);
 
 const ROWS: &[Row] = &[
     (
         "d (document (assign \"n\" \"1\") (with \"color\" \"red\" (document \"long text\" (value \"n\"))))",
         "assign /1/2/0 \"x\"",
-        "/x.",
+        "./x.",
     ),
     (
         "d (document (assign \"n\" \"1\") (with \"color\" \"red\" (document \"long text\" (value \"n\"))))",
         "assign /0/1 \"5\"",
-        "/.x",
+        "x/.x",
     ),
     // a paragraph that isn't reached
     (
         "d (document (document \"a\" \"b\") (document \"c\" \"d\"))",
         "insert /1/0 0 \"x\"",
         "../x.",
+    ),
+    // one that isn't open is its own part
+    (
+        "d (document \"a\" \"b\" (value \"n\") (concat \"c\" (document \"d\")) \"e\")",
+        "insert /1 0 \"x\"",
+        "./x/././.",
+    ),
+    (
+        "d (document \"a\" (value \"n\") (concat \"c\" (document \"d\")) \"e\")",
+        "assign /0 (assign \"n\" \"1\")",
+        "x/x/./.",
+    ),
+    // also one that is opened or closed now
+    (
+        "d (document (concat \"a\" \"bc\") \"d\")",
+        "assign-node /0 document",
+        "xx/.",
+    ),
+    (
+        "d (document (document \"a\" \"bc\") \"d\")",
+        "assign-node /0 concat",
+        "x/.",
+    ),
+    (
+        "d (document (document \"a\") \"d\")",
+        "remove /0 0 1",
+        "x/.",
     ),
 ];
 

@@ -22,7 +22,7 @@ const EDITS: &[Edit] = &[
     ("d (document \"ab\" (g))", "/0", "\"<#4E2D>y\"", 11),
 ];
 
-// Of a nested paragraph the part that changes is charged alone, and laid out alone.
+// Of a paragraph with parts the one that changes is charged alone, and laid out alone.
 const NESTED: &[Edit] = &[
     (
         "d (document (document \"ab\" \"cd\" \"e\") \"z\")",

@@ -13,3 +13,5 @@ mod runs;
 mod tables;
 #[cfg(test)]
 mod told;
+#[cfg(test)]
+mod wraps;

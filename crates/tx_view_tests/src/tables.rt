@@ -193,16 +193,19 @@ const NESTED: &str =
 const BLANK: &str = "d (document (with \"color\" \"red\" (document \"\" (document) \"b\")))";
 
 const BASED: &[Based] = &[
+    // a paragraph that isn't open is its own part
     (NESTED, 0, "/0"),
     (NESTED, 1, "/1/2/0"),
     (NESTED, 2, "/1/2/1"),
     (NESTED, 3, "-"),
+    ("d \"ab\"", 0, "/"),
     // a part without an item has a row, and one without a paragraph has none
     (BLANK, 0, "/0/2/0"),
     (BLANK, 1, "/0/2/2"),
     (BLANK, 2, "-"),
     // where no part has a paragraph, the row is that of the unit
     ("d (document (with \"color\" \"red\" (document)))", 0, "/0"),
+    ("d (document \"a\" (document))", 1, "/1"),
 ];
 
 const STOPS: &[(&str, &str)] = &[

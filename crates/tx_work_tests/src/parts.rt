@@ -9,17 +9,16 @@ use tx_exec::{Outcome, Trace, eval};
 use tx_items::{Attrs, part_items};
 use tx_origin::{Ip, Tagged};
 use tx_tree::{Path, Text, Tree};
-use tx_units::Unit;
 
 // More than are left in any paragraph at once.
 const MOST_TASKS: u32 = 10_000;
 
-// A part of a paragraph and what it came to, with the attributes for which it was laid out, if it still is. The path is
-// that in the paragraph.
+// A part of a paragraph and what it came to, with the attributes for which it was laid out. The path is that in the
+// document.
 #[derive(Drop)]
 pub(crate) struct Part {
     pub(crate) path: Path,
-    pub(crate) laid: Option<Attrs>,
+    laid: Attrs,
     trace: Trace,
 }
 
@@ -32,13 +31,14 @@ enum Task {
 }
 
 // What a paragraph's parts came to so far, what those cost that aren't kept, how many items those have that are laid
-// out, and the attributes behind them.
+// out, the attributes behind them, and the steps that are left.
 #[derive(Drop)]
 pub(crate) struct Parts {
     pub(crate) done: Vec<Part>,
     pub(crate) charge: u64,
     pub(crate) items: u64,
     attrs: Attrs,
+    left: u64,
     tasks: Vec<Task>,
 }
 
@@ -62,11 +62,6 @@ fn is_scope(tree: &Tree) -> bool {
         }
     }
     is_labelled(tree, b"with") && tree.arity() % 2 == 1
-}
-
-// Whether the unit is evaluated by its parts.
-pub(crate) fn is_nested(unit: &Unit) -> bool {
-    unit.path.is_some() && (is_document(&unit.tagged.tree) || is_scope(&unit.tagged.tree))
 }
 
 fn below(alloc: Global, path: &Path, i: u32) -> Option<Path> {
@@ -96,13 +91,8 @@ fn is_kept(kept: Option<&Part>, env: &Env) -> bool {
 // Whether it was laid out for these attributes.
 fn is_laid(kept: Option<&Part>, attrs: &Attrs) -> bool {
     match kept {
-        Some(
-            Part {
-                laid: Some(laid),
-                ..
-            },
-        ) => are_same(laid, attrs),
-        _ => false,
+        None => false,
+        Some(part) => are_same(&part.laid, attrs),
     }
 }
 
@@ -115,14 +105,19 @@ fn restore(env: &mut Env, name: Text, had: Option<Tree>) -> Option<()> {
 }
 
 impl Parts {
-    fn new(alloc: Global, attrs: Attrs) -> Parts {
+    fn new(alloc: Global, attrs: Attrs, left: u64) -> Parts {
         Parts {
             done: Vec::new(alloc),
             charge: 0,
             items: 0,
             attrs,
+            left,
             tasks: Vec::new(alloc),
         }
+    }
+
+    fn spend(&mut self, steps: u64) {
+        self.left = self.left.saturating_sub(steps);
     }
 
     fn push_child(&mut self, alloc: Global, path: &Path, tree: &Tree, i: u32) -> Option<()> {
@@ -148,6 +143,9 @@ impl Parts {
         tree: &Tree,
         before: &Attrs,
     ) -> Option<()> {
+        self.spend(name.bytes().len() as u64 + 1);
+        self.spend(tree.size());
+        self.spend(tree.size());
         let had = match env.get(name) {
             None => None,
             Some(had) => Some(had.share().ok()?),
@@ -191,7 +189,38 @@ impl Parts {
         restore(env, name, had)
     }
 
-    // Evaluates a part, shows it, and sets what it sets.
+    // Goes behind a part that came to this, and sets what it sets.
+    fn pass(
+        &mut self,
+        alloc: Global,
+        path: Path,
+        trace: Trace,
+        env: &mut Env,
+        former: Option<&Part>,
+    ) -> Option<()> {
+        let fits = is_kept(former, env);
+        if !fits {
+            self.charge = self.charge.checked_add(trace.cost)?;
+        }
+        let laid = self.attrs.copy().ok()?;
+        let stays = fits && is_laid(former, &laid);
+        self.show(alloc, &trace, stays)?;
+        self.spend(trace.cost);
+        env.overlay(&trace.writes).ok()?;
+        self.done.push(Part { path, laid, trace }).ok()
+    }
+
+    // At a part that doesn't end with the steps that are left. It takes them all, unless what is kept of it fits, and
+    // nothing comes behind it.
+    fn stop(&mut self, alloc: Global, left: u64, env: &Env, former: Option<&Part>) -> Option<()> {
+        if !is_kept(former, env) {
+            self.charge = self.charge.checked_add(left)?;
+        }
+        self.tasks = Vec::new(alloc);
+        Some(())
+    }
+
+    // Evaluates a part.
     fn evaluate<L: Ledger>(
         &mut self,
         alloc: Global,
@@ -205,20 +234,12 @@ impl Parts {
             tree,
             at: Some(Ip::root()),
         };
-        let Outcome::Done(trace) = eval(alloc, &alone, env, MOST_UNIT, steps).ok()? else {
-            return None;
-        };
+        let left = MOST_UNIT.min(self.left);
         let former = kept_at(kept, &path);
-        let fits = is_kept(former, env);
-        if !fits {
-            self.charge = self.charge.checked_add(trace.cost)?;
+        match eval(alloc, &alone, env, left, steps).ok()? {
+            Outcome::Done(trace) => self.pass(alloc, path, trace, env, former),
+            Outcome::Over => self.stop(alloc, left, env, former),
         }
-        let before = self.attrs.copy().ok()?;
-        let stays = fits && is_laid(former, &before);
-        self.show(alloc, &trace, stays)?;
-        env.overlay(&trace.writes).ok()?;
-        let laid = Some(before);
-        self.done.push(Part { path, laid, trace }).ok()
     }
 
     // Goes into the tree, or evaluates it.
@@ -232,8 +253,10 @@ impl Parts {
         steps: &mut Steps<L>,
     ) -> Option<()> {
         if is_document(&tree) {
+            self.spend(1);
             self.push_children(alloc, &path, &tree)
         } else if is_scope(&tree) {
+            self.spend(1);
             self.enter(alloc, &path, &tree, env)
         } else {
             self.evaluate(alloc, path, tree, env, kept, steps)
@@ -255,19 +278,23 @@ impl Parts {
     }
 }
 
-// What the parts of the unit come to, of which this is kept, behind these attributes. The names have afterwards what
-// they have behind the unit.
+// What the parts of the paragraph at the path come to with so many steps, where this is kept of the document, behind these
+// attributes. The names have afterwards what they have behind the paragraph, if it isn't over.
 pub(crate) fn parts_of<L: Ledger>(
     alloc: Global,
-    unit: &Unit,
+    path: &Path,
+    tree: &Tree,
+    allowance: u64,
     env: &mut Env,
     attrs: &Attrs,
     kept: &[Part],
     steps: &mut Steps<L>,
 ) -> Option<Parts> {
-    let mut parts = Parts::new(alloc, attrs.copy().ok()?);
-    let tree = unit.tagged.tree.share().ok()?;
-    parts.tasks.push(Task::Tree(Path::root(alloc), tree)).ok()?;
+    let mut parts = Parts::new(alloc, attrs.copy().ok()?, allowance);
+    parts
+        .tasks
+        .push(Task::Tree(path.copy(alloc).ok()?, tree.share().ok()?))
+        .ok()?;
     for _ in 0..MOST_TASKS {
         match parts.tasks.pop() {
             None => return Some(parts),

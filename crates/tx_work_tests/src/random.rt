@@ -4,7 +4,9 @@ ghost use Rattle.tx_doc.specs.Buffers.{NamesDiffer};
 
 use crate::beside::done;
 use crate::kept::Kept;
-use crate::plays::{ATTRIBUTES, BUDGETS, MACROS, MOVES, PARTS, Play, VARIABLES, random_lines};
+use crate::plays::{
+    ATTRIBUTES, BUDGETS, MACROS, MOVES, PARTS, Play, VARIABLES, WRAPS, random_lines,
+};
 use crate::replies::{answer, shown, sink, work};
 use std::alloc::Global;
 use std::marker::Brand;
@@ -318,7 +320,7 @@ fn macros_of_a_style(rt: HostRuntime) -> Result<(), Fail> {
 
 #[test]
 fn variables(rt: HostRuntime) -> Result<(), Fail> {
-    let score = played::<Brand>(rt.alloc(), &VARIABLES, 2, 60, Blank::new(1)).ok_or("no session")?;
+    let score = played::<Brand>(rt.alloc(), &VARIABLES, 2, 90, Blank::new(1)).ok_or("no session")?;
     assert_eq!(rt; score.wrong, None);
     assert!(rt; score.accepted > 25, "{}", score.accepted);
     Ok(())
@@ -359,5 +361,13 @@ fn moves(rt: HostRuntime) -> Result<(), Fail> {
     let score = played::<Brand>(rt.alloc(), &MOVES, 6, 60, Blank::new(1)).ok_or("no session")?;
     assert_eq!(rt; score.wrong, None);
     assert!(rt; score.accepted > 25, "{}", score.accepted);
+    Ok(())
+}
+
+#[test]
+fn wraps(rt: HostRuntime) -> Result<(), Fail> {
+    let score = played::<Brand>(rt.alloc(), &WRAPS, 7, 90, Blank::new(1)).ok_or("no session")?;
+    assert_eq!(rt; score.wrong, None);
+    assert!(rt; score.accepted > 35, "{}", score.accepted);
     Ok(())
 }

@@ -1,14 +1,14 @@
 // The units of a document one behind the other, from nothing, and what of them has to be made anew.
 ghost use Rattle.std.specs.Prelude.{◌≤◌};
 
-use crate::parts::{Part, is_nested, parts_of};
+use crate::parts::{Part, parts_of};
 use std::alloc::Global;
 use std::sync::ledger::Ledger;
 use tx_base::Steps;
 use tx_env::Env;
 use tx_exec::{Outcome, Trace, eval};
-use tx_items::{Attrs, Paragraph, items};
-use tx_tree::{Text, Tree};
+use tx_items::{Attrs, Paragraph};
+use tx_tree::{Path, Text, Tree};
 use tx_units::Unit;
 
 // The most steps of a unit, and of all.
@@ -16,7 +16,7 @@ pub(crate) const MOST_UNIT: u64 = 1_000_000;
 
 const MOST_ALL: u64 = 16_000_000;
 
-// What a unit shows that is over: `<!over>`.
+// What a paragraph shows that is over: `<!over>`.
 const OVER_ITEMS: u64 = 7;
 
 // The variables that are attributes of a paragraph.
@@ -29,13 +29,6 @@ const VARIABLES: [&[u8]; 7] = [
     b"par-right",
     b"par-first",
 ];
-
-// What a unit came to at a refresh, and the attributes before it.
-#[derive(Drop)]
-pub(crate) struct Last {
-    outcome: Outcome,
-    attrs: Attrs,
-}
 
 // Behind some units: what names have, the steps that are left for others, and the steps of what was made anew.
 #[derive(Drop)]
@@ -64,14 +57,9 @@ pub(crate) fn agrees(trace: &Trace, env: &Env) -> bool {
 }
 
 // Whether what a unit came to last is what it comes to now.
-fn fits(last: Option<&Last>, env: &Env, allowance: u64) -> bool {
+fn fits(last: Option<&Outcome>, env: &Env, allowance: u64) -> bool {
     match last {
-        Some(
-            Last {
-                outcome: Outcome::Done(trace),
-                ..
-            },
-        ) => agrees(trace, env) && trace.cost <= allowance,
+        Some(Outcome::Done(trace)) => agrees(trace, env) && trace.cost <= allowance,
         _ => false,
     }
 }
@@ -104,13 +92,6 @@ pub(crate) fn are_same(one: &Attrs, other: &Attrs) -> bool {
         && one.first == other.first
 }
 
-fn is_laid_for(last: Option<&Last>, attrs: &Attrs) -> bool {
-    match last {
-        None => false,
-        Some(last) => are_same(&last.attrs, attrs),
-    }
-}
-
 // How many items paragraphs have.
 pub(crate) fn items_in(paragraphs: &[Paragraph]) -> Option<u64> {
     let mut count = 0u64;
@@ -120,21 +101,15 @@ pub(crate) fn items_in(paragraphs: &[Paragraph]) -> Option<u64> {
     Some(count)
 }
 
-// How many items a paragraph with this trace shows.
-fn item_count(alloc: Global, outcome: &Outcome, attrs: &Attrs) -> Option<u64> {
-    let Outcome::Done(trace) = outcome else {
-        return Some(OVER_ITEMS);
-    };
-    let (paragraphs, _errors) = items(alloc, &trace.value, attrs).ok()?;
-    items_in(&paragraphs)
-}
-
-// What it takes to make a unit anew: the steps of its evaluation and the items, and its parts.
-#[derive(Drop)]
-struct Price {
-    steps: u64,
-    items: u64,
-    parts: Vec<Part>,
+// What names have behind units that come to this.
+fn env_behind(alloc: Global, outcomes: &[Outcome]) -> Option<Env> {
+    let mut env = Env::new(alloc);
+    for outcome in outcomes {
+        if let Outcome::Done(trace) = outcome {
+            env.overlay(&trace.writes).ok()?;
+        }
+    }
+    Some(env)
 }
 
 impl Walk {
@@ -147,10 +122,19 @@ impl Walk {
         }
     }
 
-    // Takes the steps of a unit that comes to this, and sets what it sets.
-    fn go_behind(&mut self, outcome: &Outcome, allowance: u64) -> Option<()> {
+    // Takes the steps of a unit that comes to this, and sets what it sets behind those before it.
+    fn go_behind(
+        &mut self,
+        alloc: Global,
+        before: &[Outcome],
+        outcome: &Outcome,
+        allowance: u64,
+    ) -> Option<()> {
         match outcome {
-            Outcome::Over => self.left = self.left.checked_sub(allowance)?,
+            Outcome::Over => {
+                self.left = self.left.checked_sub(allowance)?;
+                self.env = env_behind(alloc, before)?;
+            }
             Outcome::Done(trace) => {
                 self.left = self.left.checked_sub(trace.cost)?;
                 self.env.overlay(&trace.writes).ok()?;
@@ -159,46 +143,83 @@ impl Walk {
         Some(())
     }
 
-    // What it takes to evaluate a unit that has no parts, and to lay it out.
-    fn whole(&self, alloc: Global, unit: &Unit, made: &Last, allowance: u64) -> Option<Price> {
-        let steps = match &made.outcome {
-            Outcome::Done(trace) => trace.cost,
-            Outcome::Over => allowance,
-        };
-        let items = if unit.path.is_some() {
-            item_count(alloc, &made.outcome, &made.attrs)?
-        } else {
-            0
-        };
-        Some(Price {
-            steps,
-            items,
-            parts: Vec::new(alloc),
-        })
+    fn add(&mut self, steps: u64) -> Option<()> {
+        self.work = self.work.checked_add(steps)?;
+        Some(())
     }
 
-    // What it takes to evaluate a unit, and to lay it out. Of one with parts only those count that aren't kept, or that
-    // aren't laid out for the attributes before them.
-    fn price<L: Ledger>(
+    // Counts a unit that is no paragraph of the body, if it has to be evaluated anew.
+    fn count_other(
+        &mut self,
+        outcome: &Outcome,
+        last: Option<&Outcome>,
+        allowance: u64,
+    ) -> Option<()> {
+        if fits(last, &self.env, allowance) {
+            return Some(());
+        }
+        match outcome {
+            Outcome::Done(trace) => self.add(trace.cost),
+            Outcome::Over => self.add(allowance),
+        }
+    }
+
+    // Counts of a paragraph the parts that aren't kept, and the items of those that aren't laid out for the attributes
+    // before them. One that is over has its items, and takes at most its allowance. Its parts.
+    fn count_paragraph<L: Ledger>(
         &mut self,
         alloc: Global,
-        unit: &Unit,
-        made: &Last,
+        path: &Path,
+        tree: &Tree,
+        outcome: &Outcome,
         allowance: u64,
         kept: &[Part],
         steps: &mut Steps<L>,
-    ) -> Option<Price> {
-        match &made.outcome {
-            Outcome::Done(_) if is_nested(unit) => {
-                let parts = parts_of(alloc, unit, &mut self.env, &made.attrs, kept, steps)?;
-                Some(Price {
-                    steps: parts.charge,
-                    items: parts.items,
-                    parts: parts.done,
-                })
+    ) -> Option<Vec<Part>> {
+        let attrs = attributes(alloc, &self.env)?;
+        let parts = parts_of(
+            alloc,
+            path,
+            tree,
+            allowance,
+            &mut self.env,
+            &attrs,
+            kept,
+            steps,
+        )?;
+        self.add(parts.charge)?;
+        match outcome {
+            Outcome::Done(_) => {
+                self.add(parts.items)?;
+                Some(parts.done)
             }
-            Outcome::Over if is_nested(unit) => None,
-            _ => self.whole(alloc, unit, made, allowance),
+            Outcome::Over => {
+                self.add(OVER_ITEMS)?;
+                Some(Vec::new(alloc))
+            }
+        }
+    }
+
+    // Counts a unit that comes to this.
+    fn count<L: Ledger>(
+        &mut self,
+        alloc: Global,
+        unit: &Unit,
+        outcome: &Outcome,
+        last: Option<&Outcome>,
+        allowance: u64,
+        kept: &[Part],
+        steps: &mut Steps<L>,
+    ) -> Option<Vec<Part>> {
+        match &unit.path {
+            None => {
+                self.count_other(outcome, last, allowance)?;
+                Some(Vec::new(alloc))
+            }
+            Some(path) => {
+                let tree = &unit.tagged.tree;
+                self.count_paragraph(alloc, path, tree, outcome, allowance, kept, steps)
+            }
         }
     }
 
@@ -209,35 +230,27 @@ impl Walk {
         unit: &Unit,
         allowance: u64,
         steps: &mut Steps<L>,
-    ) -> Option<Last>
+    ) -> Option<Outcome>
         requires { allowance ≤ 1000000 }
     {
-        let attrs = attributes(alloc, &self.env)?;
-        let outcome = eval(alloc, &unit.tagged, &mut self.env, allowance, steps).ok()?;
-        Some(Last { outcome, attrs })
+        eval(alloc, &unit.tagged, &mut self.env, allowance, steps).ok()
     }
 
-    // Evaluates a unit, which came to this at the last refresh, if it was there, and of whose parts this is kept. What
-    // it comes to, and its parts.
+    // Evaluates a unit behind those that came to this. At the last refresh it came to the other, if it is no paragraph of
+    // the body and was there, and this is kept of the document. What it comes to, and its parts.
     pub(crate) fn pass<L: Ledger>(
         &mut self,
         alloc: Global,
         unit: &Unit,
-        last: Option<&Last>,
+        before: &[Outcome],
+        last: Option<&Outcome>,
         kept: &[Part],
         steps: &mut Steps<L>,
-    ) -> Option<(Last, Vec<Part>)> {
+    ) -> Option<(Outcome, Vec<Part>)> {
         let allowance = MOST_UNIT.min(self.left);
-        let reached = !fits(last, &self.env, allowance);
-        let made = self.made(alloc, unit, allowance, steps)?;
-        let price = self.price(alloc, unit, &made, allowance, kept, steps)?;
-        if reached {
-            self.work = self.work.checked_add(price.steps)?;
-        }
-        if reached || !is_laid_for(last, &made.attrs) {
-            self.work = self.work.checked_add(price.items)?;
-        }
-        self.go_behind(&made.outcome, allowance)?;
-        Some((made, price.parts))
+        let outcome = self.made(alloc, unit, allowance, steps)?;
+        let parts = self.count(alloc, unit, &outcome, last, allowance, kept, steps)?;
+        self.go_behind(alloc, before, &outcome, allowance)?;
+        Some((outcome, parts))
     }
 }
