@@ -296,7 +296,7 @@ const IN_PLACE: &[InPlace] = &[
     ),
 ];
 
-// A buffer, an edit inside one nested paragraph or before it, and the charges behind it.
+// A buffer, an edit inside one paragraph, and the charges behind it.
 type Nested = (&'static str, &'static str, u64);
 
 const NESTED: &[Nested] = &[

@@ -17,9 +17,9 @@ use tx_tree::Tree;
 use tx_units::units;
 use tx_walk::Part;
 
-// One or two modifications of the document, `;` between them, and what the refresh behind them leaves: of each paragraph,
-// a space between them, its parts, each with its path in the paragraph and a cross where nothing that fits was kept of
-// it, else a point; and the charges. Where this is empty, there is no refresh.
+// One or two modifications of the document, `;` between them, and what the refresh behind them leaves: of each
+// paragraph, a space between them, its parts, each with its path in the paragraph and a cross where nothing that fits
+// was kept of it, else a point; and the charges. Where this is empty, there is no refresh.
 type Edit = (&'static str, &'static str, u64);
 
 // A document, and edits one after the other.

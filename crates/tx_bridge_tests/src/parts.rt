@@ -10,8 +10,8 @@ use tx_bridge::{Bridges, Moment};
 use tx_tree::Text;
 use tx_walk::Part;
 
-// A buffer, an edit inside one paragraph, and for each paragraph, a `/` between them, a mark for each part: a cross where
-// nothing that fits was kept of it, and else a point.
+// A buffer, an edit inside one paragraph, and for each paragraph, a `/` between them, a mark for each part: a cross
+// where nothing that fits was kept of it, and else a point.
 type Row = (&'static str, &'static str, &'static str);
 
 const ROWS: &[Row] = &[

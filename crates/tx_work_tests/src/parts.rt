@@ -278,8 +278,8 @@ impl Parts {
     }
 }
 
-// What the parts of the paragraph at the path come to with so many steps, where this is kept of the document, behind these
-// attributes. The names have afterwards what they have behind the paragraph, if it isn't over.
+// What the parts of the paragraph at the path come to with so many steps, where this is kept of the document, behind
+// these attributes. The names have afterwards what they have behind the paragraph, if it isn't over.
 pub(crate) fn parts_of<L: Ledger>(
     alloc: Global,
     path: &Path,

@@ -236,8 +236,8 @@ impl Walk {
         eval(alloc, &unit.tagged, &mut self.env, allowance, steps).ok()
     }
 
-    // Evaluates a unit behind those that came to this. At the last refresh it came to the other, if it is no paragraph of
-    // the body and was there, and this is kept of the document. What it comes to, and its parts.
+    // Evaluates a unit behind those that came to this. At the last refresh it came to the other, if it is no paragraph
+    // of the body and was there, and this is kept of the document. What it comes to, and its parts.
     pub(crate) fn pass<L: Ledger>(
         &mut self,
         alloc: Global,
