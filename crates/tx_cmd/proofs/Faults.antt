@@ -10,9 +10,9 @@ use Rattle.tx_cmd.specs.declared.words.ArgumentKind.TheVariants.{Path as PathArg
 use Rattle.tx_cmd.specs.declared.words.ArgumentKind.TheVariants.{Label as LabelArgument, Name as NameArgument}
 use Rattle.tx_cmd.specs.declared.words.ArgumentKind.TheVariants.{Tree as TreeArgument, Text as TextArgument}
 use Rattle.tx_cmd.specs.declared.words.Word.{Word}
-use Rattle.tx_cmd.specs.Words.{first_word, word_text, arguments_of, AreLoose, IsLoose}
-use Rattle.tx_cmd.specs.Values.{Value, kind_of, Means, HasMeaning}
-use Rattle.tx_cmd.specs.Pieces.{IsCut, tree_is_last, IsMisfit}
+use Rattle.tx_cmd.specs.Words.{up_to_space, word_text, arguments_of, AreLoose, IsLoose}
+use Rattle.tx_cmd.specs.Values.{Value, argument_kind, Means, HasMeaning}
+use Rattle.tx_cmd.specs.Pieces.{IsCutPiece, tree_is_last, IsMisfit}
 use Rattle.tx_cmd.specs.Refusals.{IsBadPath, IsBadTree, SpellsNode, IsBadPiece, IsFirstFault, HasNoForm}
 use Rattle.tx_cmd.specs.Refusals.{IsRefused, IsCmdFault}
 use Rattle.tx_cmd.specs.declared.TheConstants.{MOST_LINE}
@@ -20,34 +20,34 @@ use Rattle.tx_cmd.proofs.LooseFronts.{loose_cut, line_misfit}
 
 -- the first piece is bad
 pub fault_here : (a : ArgumentKind) (more : List ArgumentKind) (bytes piece rest : List ℕ) (at : ℕ) (fault : CmdFault)
-    → tree_is_last (a ∷ more) ≡ true → IsCut a bytes piece rest → AreLoose (a ∷ more) bytes
+    → tree_is_last (a ∷ more) ≡ true → IsCutPiece a bytes piece rest → AreLoose (a ∷ more) bytes
     → IsBadPiece a piece (at + 1) fault → IsFirstFault (a ∷ more) bytes at fault
 fault_here a more bytes piece rest at fault o c h bad =
     let w = loose_cut a more bytes piece rest o c h in (piece, rest, c.are, w.0, w.1, inl bad)
 
 -- the first piece is good, and one behind it is bad
 pub fault_behind : (v : Value) (more : List ArgumentKind) (bytes piece rest : List ℕ) (at : ℕ) (fault : CmdFault)
-    → tree_is_last (kind_of v ∷ more) ≡ true → IsCut (kind_of v) bytes piece rest
-    → AreLoose (kind_of v ∷ more) bytes → Means piece v → IsFirstFault more rest (at + 1 + length piece) fault
-    → IsFirstFault (kind_of v ∷ more) bytes at fault
+    → tree_is_last (argument_kind v ∷ more) ≡ true → IsCutPiece (argument_kind v) bytes piece rest
+    → AreLoose (argument_kind v ∷ more) bytes → Means piece v → IsFirstFault more rest (at + 1 + length piece) fault
+    → IsFirstFault (argument_kind v ∷ more) bytes at fault
 fault_behind v more bytes piece rest at fault o c h means bad =
-    let w = loose_cut (kind_of v) more bytes piece rest o c h in
+    let w = loose_cut (argument_kind v) more bytes piece rest o c h in
     (piece, rest, c.are, w.0, w.1, inr ((v, refl, means), bad))
 
 -- a line that has not the form of a command with its first word
-pub args_fault : (w : Word) (line first rest : List ℕ) (n : ℕ) → length line ≤ MOST_LINE → first ≡ first_word line
+pub args_fault : (w : Word) (line first rest : List ℕ) (n : ℕ) → length line ≤ MOST_LINE → first ≡ up_to_space line
     → first ≡ word_text w → line ≡ first ++ rest → IsMisfit (arguments_of w) rest (Some n)
     → IsCmdFault line (Args (length first + n))
 args_fault w line first rest n short is_first is_word are h =
     let m = line_misfit w rest n h in
-    let same : word_text w ≡ first_word line = sym is_word ∙ is_first in
+    let same : word_text w ≡ up_to_space line = sym is_word ∙ is_first in
     let whole : word_text w ++ rest ≡ line = ap (λ x. x ++ rest) (sym is_word) ∙ sym are in
-    let none : IsLoose (first_word line) line
+    let none : IsLoose (up_to_space line) line
     → ⊥ = subst (λ x. IsLoose x line → ⊥) same (subst (λ x. IsLoose (word_text w) x → ⊥) whole m.0) in
-    let front : IsLongestFront (IsLoose (first_word line)) line (length (word_text w) + n) = subst
+    let front : IsLongestFront (IsLoose (up_to_space line)) line (length (word_text w) + n) = subst
     (λ x. IsLongestFront (IsLoose x) line (length (word_text w) + n)) same
     (subst (λ x. IsLongestFront (IsLoose (word_text w)) x (length (word_text w) + n)) whole m.1) in
-    let there = subst (λ x. IsLongestFront (IsLoose (first_word line)) line (length x + n)) (sym is_word) front in
+    let there = subst (λ x. IsLongestFront (IsLoose (up_to_space line)) line (length x + n)) (sym is_word) front in
     let form : HasNoForm line (length first + n) = record { known = (w, sym same); none = none; front = there } in
     (short, inl form)
 

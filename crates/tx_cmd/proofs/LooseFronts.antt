@@ -10,7 +10,7 @@ use Rattle.tx_cmd.specs.declared.words.ArgumentKind.TheVariants.{Label as LabelA
 use Rattle.tx_cmd.specs.declared.words.ArgumentKind.TheVariants.{Tree as TreeArgument, Text as TextArgument}
 use Rattle.tx_cmd.specs.declared.words.Word.{Word}
 use Rattle.tx_cmd.specs.Words.{HasNoSpace, IsLoosePiece, AreLoose, IsLoose, arguments_of, word_text}
-use Rattle.tx_cmd.specs.Pieces.{IsTail, EndsPiece, IsCut, tree_is_last, IsMisfit, IsPieceMisfit}
+use Rattle.tx_cmd.specs.Pieces.{IsTail, EndsPiece, IsCutPiece, tree_is_last, IsMisfit, IsPieceMisfit}
 use Rattle.tx_cmd.proofs.Splits.{one_piece, GoesOn, split_front}
 use Rattle.tx_base.proofs.Fronts.{ends_behind}
 use Rattle.tx_cmd.proofs.WordTexts.{one_word}
@@ -80,7 +80,7 @@ one_cut TextArgument p q r s e h k = one_rest p q r s e h k
 
 -- pieces that stand for the arguments are those that the bytes are cut into
 pub loose_cut : (a : ArgumentKind) (more : List ArgumentKind) (bytes piece rest : List ℕ)
-    → tree_is_last (a ∷ more) ≡ true → IsCut a bytes piece rest → AreLoose (a ∷ more) bytes
+    → tree_is_last (a ∷ more) ≡ true → IsCutPiece a bytes piece rest → AreLoose (a ∷ more) bytes
     → IsLoosePiece a piece × AreLoose more rest
 loose_cut a more bytes piece rest o c h =
     let w = one_cut a h.0 piece h.1 rest (sym h.4 ∙ c.are) (loose_ends a more h.0 h.1 o h.2 h.3) c.ends in
@@ -173,7 +173,7 @@ stops_here a more bytes piece rest n spaceless hp hr are h =
         h.1 (subst (IsLoosePiece a) w.0 k.2)
 
 pub misfit_here : (a : ArgumentKind) (more : List ArgumentKind) (bytes piece rest : List ℕ) (n : ℕ)
-    → IsCut a bytes piece rest → IsPieceMisfit a piece (Some n) → IsMisfit (a ∷ more) bytes (Some (1 + n))
+    → IsCutPiece a bytes piece rest → IsPieceMisfit a piece (Some n) → IsMisfit (a ∷ more) bytes (Some (1 + n))
 misfit_here PathArgument more bytes piece rest n c h = absurd (h.1 c.ends.0)
 misfit_here NumberArgument more bytes piece rest n c h =
     stops_here NumberArgument more bytes piece rest n numeral_no_space c.ends.0 c.ends.1 c.are h
@@ -232,7 +232,7 @@ stops_behind a more bytes piece rest n spaceless hp hr are p h =
         h.1 (subst (AreLoose more) w.1 k.3)
 
 pub misfit_behind : (a : ArgumentKind) (more : List ArgumentKind) (bytes piece rest : List ℕ) (n : ℕ)
-    → tree_is_last (a ∷ more) ≡ true → IsCut a bytes piece rest → IsPieceMisfit a piece None
+    → tree_is_last (a ∷ more) ≡ true → IsCutPiece a bytes piece rest → IsPieceMisfit a piece None
     → IsMisfit more rest (Some n)
     → IsMisfit (a ∷ more) bytes (Some (1 + length piece + n))
 misfit_behind PathArgument more bytes piece rest n o c p h =
@@ -251,13 +251,13 @@ misfit_behind TextArgument more bytes piece rest n o c p h =
 -- ---- by the first argument and the others
 
 pub misfit_first : (arguments : List ArgumentKind) (bytes piece rest : List ℕ) (n : ℕ) → 1 ≤ length arguments
-    → IsCut (get_or arguments 0 PathArgument) bytes piece rest
+    → IsCutPiece (get_or arguments 0 PathArgument) bytes piece rest
     → IsPieceMisfit (get_or arguments 0 PathArgument) piece (Some n) → IsMisfit arguments bytes (Some (1 + n))
 misfit_first [] bytes piece rest n some c h = absurd (omega arith)
 misfit_first (a ∷ more) bytes piece rest n some c h = misfit_here a more bytes piece rest n c h
 
 pub misfit_later : (arguments : List ArgumentKind) (bytes piece rest : List ℕ) (n : ℕ) → 1 ≤ length arguments
-    → tree_is_last arguments ≡ true → IsCut (get_or arguments 0 PathArgument) bytes piece rest
+    → tree_is_last arguments ≡ true → IsCutPiece (get_or arguments 0 PathArgument) bytes piece rest
     → IsPieceMisfit (get_or arguments 0 PathArgument) piece None
     → IsMisfit (take (length arguments - 1) (drop 1 arguments)) rest (Some n)
     → IsMisfit arguments bytes (Some (1 + length piece + n))

@@ -11,7 +11,7 @@ use Rattle.tx_tree.specs.Limits.{IsWithinLimits}
 use Rattle.tx_scm.specs.Spelling.{Spells}
 use Rattle.tx_scm.specs.Faults.{IsSchemeFault}
 use Rattle.tx_scm.proofs.OneFault.{once, none}
-use Rattle.tx_cmd.specs.Moved.{moved}
+use Rattle.tx_cmd.specs.Moved.{moved_fault}
 use Rattle.tx_tree.proofs.PathsOnce.{spelled_once as path_once}
 use Rattle.tx_scm.proofs.Complete.{spelled_once as tree_once}
 use Rattle.tx_mod.specs.declared.mods.Mod.{Mod}
@@ -41,11 +41,11 @@ use Rattle.tx_cmd.specs.declared.words.ArgumentKind.{ArgumentKind}
 use Rattle.tx_cmd.specs.declared.words.ArgumentKind.TheVariants.{Path as PathArgument, Number as NumberArgument}
 use Rattle.tx_cmd.specs.declared.words.ArgumentKind.TheVariants.{Label as LabelArgument, Name as NameArgument}
 use Rattle.tx_cmd.specs.declared.words.ArgumentKind.TheVariants.{Tree as TreeArgument, Text as TextArgument}
-use Rattle.tx_cmd.specs.Words.{word_text, arguments_of, arguments_behind, first_word, IsName, IsKnown, IsLoosePiece}
-use Rattle.tx_cmd.specs.Words.{AreLoose, IsLoose}
-use Rattle.tx_cmd.specs.Values.{Value, a_path, a_number, a_label, a_name, a_tree, a_text, kind_of, Means, Mean}
+use Rattle.tx_cmd.specs.Words.{word_text, arguments_of, arguments_behind, up_to_space, IsFileName, IsKnown}
+use Rattle.tx_cmd.specs.Words.{IsLoosePiece, AreLoose, IsLoose}
+use Rattle.tx_cmd.specs.Values.{Value, a_path, a_number, a_label, a_name, a_tree, a_text, argument_kind, Means, Mean}
 use Rattle.tx_cmd.specs.Values.{HasMeaning}
-use Rattle.tx_cmd.specs.Commands.{mod_word, values_behind, word_of, values_of, IsCommand}
+use Rattle.tx_cmd.specs.Commands.{mod_word, values_behind, command_word, values_of, IsCommand}
 use Rattle.tx_cmd.specs.Pieces.{IsTail, tree_is_last}
 use Rattle.tx_cmd.specs.Refusals.{IsBadPath, IsBadTree, SpellsNode, IsBadPiece, IsFirstFault, HasNoForm}
 use Rattle.tx_cmd.specs.Refusals.{IsRefused, IsCmdFault}
@@ -59,12 +59,12 @@ use Rattle.tx_cmd.proofs.LooseFronts.{loose_tail, loose_ends, one_cut, last_of}
 
 abbrev kinds : List Value → List ArgumentKind
 kinds [] = []
-kinds (v ∷ values) = kind_of v ∷ kinds values
+kinds (v ∷ values) = argument_kind v ∷ kinds values
 
 one_text : (piece x y : List ℕ) → Spells piece (leaf x) → Spells piece (leaf y) → x ≡ y
 one_text piece x y h k = let same : leaf x ≡ leaf y = tree_once piece (leaf x) (leaf y) h k in cc
 
-one_value : (piece : List ℕ) (v u : Value) → kind_of v ≡ kind_of u → Means piece v → Means piece u → v ≡ u
+one_value : (piece : List ℕ) (v u : Value) → argument_kind v ≡ argument_kind u → Means piece v → Means piece u → v ≡ u
 one_value piece (a_path p) (a_path q) e h k = ap (λ x. a_path x) (path_once piece p q h k)
 one_value piece (a_path p) (a_number n) e h k = absurd cc
 one_value piece (a_path p) (a_label l) e h k = absurd cc
@@ -103,11 +103,11 @@ one_value piece (a_text x) (a_tree t) e h k = absurd cc
 one_value piece (a_text x) (a_text y) e h k = ap (λ z. a_text z) (one_text piece x y h.0 k.0)
 
 -- what means something may stand for it
-means_loose : (piece : List ℕ) (v : Value) → Means piece v → IsLoosePiece (kind_of v) piece
+means_loose : (piece : List ℕ) (v : Value) → Means piece v → IsLoosePiece (argument_kind v) piece
 means_loose piece (a_path p) h = path_no_space p piece h
 means_loose piece (a_number n) h = (n, h)
 means_loose piece (a_label l) h = subst IsLabel (sym h.1) h.0
-means_loose piece (a_name n) h = subst IsName (sym h.1) h.0
+means_loose piece (a_name n) h = subst IsFileName (sym h.1) h.0
 means_loose piece (a_tree t) h = tt
 means_loose piece (a_text x) h = tt
 
@@ -121,15 +121,16 @@ one_values [] [] x e o h k = refl
 one_values [] (u ∷ us) x e o h k = absurd cc
 one_values (v ∷ vs) [] x e o h k = absurd cc
 one_values (v ∷ vs) (u ∷ us) x e o h k =
-    let same : kind_of v ≡ kind_of u = cc in
+    let same : argument_kind v ≡ argument_kind u = cc in
     let others : kinds vs ≡ kinds us = cc in
     let there : AreLoose (kinds vs) k.1 = subst (λ x. AreLoose x k.1) (sym others) (mean_loose us k.1 k.3) in
-    let piece : IsLoosePiece (kind_of v) k.0 = subst (λ x. IsLoosePiece x k.0) (sym same) (means_loose k.0 u k.2) in
-    let w = one_cut (kind_of v) h.0 k.0 h.1 k.1 (sym h.4 ∙ k.4)
-    (loose_ends (kind_of v) (kinds vs) h.0 h.1 o (means_loose h.0 v h.2) (mean_loose vs h.1 h.3))
-    (loose_ends (kind_of v) (kinds vs) k.0 k.1 o piece there) in
+    let piece : IsLoosePiece (argument_kind v) k.0 = subst (λ x. IsLoosePiece x k.0) (sym same)
+    (means_loose k.0 u k.2) in
+    let w = one_cut (argument_kind v) h.0 k.0 h.1 k.1 (sym h.4 ∙ k.4)
+    (loose_ends (argument_kind v) (kinds vs) h.0 h.1 o (means_loose h.0 v h.2) (mean_loose vs h.1 h.3))
+    (loose_ends (argument_kind v) (kinds vs) k.0 k.1 o piece there) in
     let first : v ≡ u = one_value k.0 v u same (subst (λ x. Means x v) w.0 h.2) k.2 in
-    let rest : vs ≡ us = one_values vs us k.1 others (last_of (kind_of v) (kinds vs) o)
+    let rest : vs ≡ us = one_values vs us k.1 others (last_of (argument_kind v) (kinds vs) o)
     (subst (λ x. Mean x vs) w.1 h.3) k.3 in
     rw (first, rest) refl
 
@@ -145,7 +146,7 @@ mod_kinds (AssignNode p l) = refl
 mod_kinds (InsertNode p i t) = refl
 mod_kinds (RemoveNode p i) = refl
 
-command_kinds : (c : Command) → kinds (values_of c) ≡ arguments_of (word_of c)
+command_kinds : (c : Command) → kinds (values_of c) ≡ arguments_of (command_word c)
 command_kinds (Change m) = ap (λ x. PathArgument ∷ x) (mod_kinds m)
 command_kinds Undo = refl
 command_kinds Redo = refl
@@ -213,7 +214,7 @@ mod_made_again (AssignNode p l) = refl
 mod_made_again (InsertNode p i t) = refl
 mod_made_again (RemoveNode p i) = refl
 
-made_again : (c : Command) → made (word_of c) (values_of c) ≡ c
+made_again : (c : Command) → made (command_word c) (values_of c) ≡ c
 made_again (Change m) = mod_made_again m
 made_again Undo = refl
 made_again Redo = refl
@@ -245,7 +246,7 @@ same_word w v r s line e f hr hs =
     (same, append_cancel_left (word_text v) r s (ap (λ x. word_text x ++ r) (sym same) ∙ sym e ∙ f))
 
 command_in_order : (c : Command) → tree_is_last (kinds (values_of c)) ≡ true
-command_in_order c = subst (λ x. tree_is_last x ≡ true) (sym (command_kinds c)) (arguments_in_order (word_of c))
+command_in_order c = subst (λ x. tree_is_last x ≡ true) (sym (command_kinds c)) (arguments_in_order (command_word c))
 
 mean_tail : (values : List Value) (bytes : List ℕ) → Mean bytes values → IsTail bytes
 mean_tail values bytes h = loose_tail (kinds values) bytes (mean_loose values bytes h)
@@ -254,13 +255,13 @@ pub one_command : (line : List ℕ) (c d : Command) → IsCommand line c → IsC
 one_command line c d h k =
     let r = h.1.0 in
     let s = k.1.0 in
-    let w = same_word (word_of c) (word_of d) r s line h.1.2 k.1.2 (mean_tail (values_of c) r h.1.1)
+    let w = same_word (command_word c) (command_word d) r s line h.1.2 k.1.2 (mean_tail (values_of c) r h.1.1)
     (mean_tail (values_of d) s k.1.1) in
     let same_kinds : kinds (values_of c) ≡ kinds (values_of d) = command_kinds c ∙ ap arguments_of w.0
     ∙ sym (command_kinds d) in
     let values : values_of c ≡ values_of d = one_values (values_of c) (values_of d) s same_kinds (command_in_order c)
     (subst (λ x. Mean x (values_of c)) w.1 h.1.1) k.1.1 in
-    sym (made_again c) ∙ ap (λ x. made x (values_of c)) w.0 ∙ ap (made (word_of d)) values ∙ made_again d
+    sym (made_again c) ∙ ap (λ x. made x (values_of c)) w.0 ∙ ap (made (command_word d)) values ∙ made_again d
 
 -- ---- causes
 
@@ -274,7 +275,7 @@ bad_path_is piece at (TreeFault fault) h = absurd h
 bad_path_is piece at Memory h = absurd h
 
 bad_tree_is : (piece : List ℕ) (at : ℕ) (f : CmdFault) → IsBadTree piece at f
-    → (there : ReadFault) × IsSchemeFault piece there × (f ≡ TreeFault (moved at there))
+    → (there : ReadFault) × IsSchemeFault piece there × (f ≡ TreeFault (moved_fault at there))
 bad_tree_is piece at (TreeFault fault) h = (h.0, h.1, ap (λ x. TreeFault x) h.2)
 bad_tree_is piece at (Long n) h = absurd h
 bad_tree_is piece at Unknown h = absurd h
@@ -297,7 +298,7 @@ one_bad_tree : (piece : List ℕ) (at : ℕ) (f g : CmdFault) → IsBadTree piec
 one_bad_tree piece at f g h k =
     let x = bad_tree_is piece at f h in
     let y = bad_tree_is piece at g k in
-    x.2 ∙ ap (λ there. TreeFault (moved at there)) (once piece x.0 y.0 x.1 y.1) ∙ sym y.2
+    x.2 ∙ ap (λ there. TreeFault (moved_fault at there)) (once piece x.0 y.0 x.1 y.1) ∙ sym y.2
 
 one_bad : (a : ArgumentKind) (piece : List ℕ) (at : ℕ) (f g : CmdFault) → IsBadPiece a piece at f
     → IsBadPiece a piece at g → f ≡ g
@@ -323,7 +324,7 @@ one_bad NumberArgument piece at f g h k = absurd h
 one_bad LabelArgument piece at f g h k = absurd h
 one_bad NameArgument piece at f g h k = absurd h
 
-bad_means_none : (a : ArgumentKind) (piece : List ℕ) (at : ℕ) (f : CmdFault) (v : Value) → kind_of v ≡ a
+bad_means_none : (a : ArgumentKind) (piece : List ℕ) (at : ℕ) (f : CmdFault) (v : Value) → argument_kind v ≡ a
     → IsBadPiece a piece at f → Means piece v → ⊥
 bad_means_none PathArgument piece at f (a_path p) e h k = (bad_path_is piece at f h).1.1 (p, k)
 bad_means_none PathArgument piece at f (a_number n) e h k = absurd cc
@@ -388,35 +389,35 @@ all_good : (values : List Value) (bytes : List ℕ) (at : ℕ) (f : CmdFault) �
     → Mean bytes values → IsFirstFault (kinds values) bytes at f → ⊥
 all_good [] bytes at f o h k = k
 all_good (v ∷ values) bytes at f o h k =
-    let w = one_cut (kind_of v) h.0 k.0 h.1 k.1 (sym h.4 ∙ k.2)
-    (loose_ends (kind_of v) (kinds values) h.0 h.1 o (means_loose h.0 v h.2) (mean_loose values h.1 h.3))
-    (loose_ends (kind_of v) (kinds values) k.0 k.1 o k.3 k.4) in
+    let w = one_cut (argument_kind v) h.0 k.0 h.1 k.1 (sym h.4 ∙ k.2)
+    (loose_ends (argument_kind v) (kinds values) h.0 h.1 o (means_loose h.0 v h.2) (mean_loose values h.1 h.3))
+    (loose_ends (argument_kind v) (kinds values) k.0 k.1 o k.3 k.4) in
     ⊎_elim
-    (λ (y : IsBadPiece (kind_of v) k.0 (at + 1) f). bad_means_none (kind_of v) k.0 (at + 1) f v refl y
+    (λ (y : IsBadPiece (argument_kind v) k.0 (at + 1) f). bad_means_none (argument_kind v) k.0 (at + 1) f v refl y
     (subst (λ x. Means x v) w.0 h.2))
-    (λ (y : HasMeaning (kind_of v) k.0 × IsFirstFault (kinds values) k.1 (at + 1 + length k.0) f).
-    all_good values k.1 (at + 1 + length k.0) f (last_of (kind_of v) (kinds values) o)
+    (λ (y : HasMeaning (argument_kind v) k.0 × IsFirstFault (kinds values) k.1 (at + 1 + length k.0) f).
+    all_good values k.1 (at + 1 + length k.0) f (last_of (argument_kind v) (kinds values) o)
     (subst (λ x. Mean x values) w.1 h.3) y.1)
     k.5
 
 -- a refused line has the form of a command
 refused_loose : (line : List ℕ) (f : CmdFault) → IsRefused line f
-    → IsKnown (first_word line) × IsLoose (first_word line) line
+    → IsKnown (up_to_space line) × IsLoose (up_to_space line) line
 refused_loose line f h =
     let loose = first_loose (arguments_of h.0) h.1 _ f h.3 in
-    let is : first_word line ≡ word_text h.0 = word_is (word_text h.0) h.1 line h.2 (word_no_space h.0)
+    let is : up_to_space line ≡ word_text h.0 = word_is (word_text h.0) h.1 line h.2 (word_no_space h.0)
     (loose_tail (arguments_of h.0) h.1 loose) in
     ((h.0, is), (h.0, h.1, is, loose, h.2 ∙ ap (λ x. x ++ h.1) (sym is)))
 
 -- and so has a command
 command_loose : (line : List ℕ) (c : Command) → IsCommand line c
-    → IsKnown (first_word line) × IsLoose (first_word line) line
+    → IsKnown (up_to_space line) × IsLoose (up_to_space line) line
 command_loose line c h =
-    let w = word_of c in
+    let w = command_word c in
     let rest = h.1.0 in
     let loose : AreLoose (arguments_of w) rest = subst (λ x. AreLoose x rest) (command_kinds c)
     (mean_loose (values_of c) rest h.1.1) in
-    let is : first_word line ≡ word_text w = word_is (word_text w) rest line h.1.2 (word_no_space w)
+    let is : up_to_space line ≡ word_text w = word_is (word_text w) rest line h.1.2 (word_no_space w)
     (loose_tail (arguments_of w) rest loose) in
     ((w, is), (w, rest, is, loose, h.1.2 ∙ ap (λ x. x ++ rest) (sym is)))
 
@@ -431,7 +432,7 @@ one_refused line f g h k =
 
 pub not_refused : (line : List ℕ) (c : Command) (f : CmdFault) → IsCommand line c → IsRefused line f → ⊥
 not_refused line c f h k =
-    let w = same_word (word_of c) k.0 h.1.0 k.1 line h.1.2 k.2 (mean_tail (values_of c) h.1.0 h.1.1)
+    let w = same_word (command_word c) k.0 h.1.0 k.1 line h.1.2 k.2 (mean_tail (values_of c) h.1.0 h.1.1)
     (loose_tail _ k.1 (first_loose (arguments_of k.0) k.1 _ f k.3)) in
     let same_kinds : arguments_of k.0 ≡ kinds (values_of c) = ap arguments_of (sym w.0) ∙ sym (command_kinds c) in
     all_good (values_of c) k.1 (length (word_text k.0)) f (command_in_order c)
@@ -442,7 +443,7 @@ not_refused line c f h k =
 abbrev IsArgs : List ℕ → ℕ → Type 0
 IsArgs line n = HasNoForm line n ⊎ IsRefused line (Args n)
 
-known : (line : List ℕ) (n : ℕ) → IsArgs line n → IsKnown (first_word line)
+known : (line : List ℕ) (n : ℕ) → IsArgs line n → IsKnown (up_to_space line)
 known line n h =
     ⊎_elim (λ (x : HasNoForm line n). x.known) (λ (y : IsRefused line (Args n)). (refused_loose line (Args n) y).0) h
 

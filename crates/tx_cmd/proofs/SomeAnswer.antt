@@ -46,13 +46,13 @@ use Rattle.tx_cmd.specs.declared.words.ArgumentKind.{ArgumentKind}
 use Rattle.tx_cmd.specs.declared.words.ArgumentKind.TheVariants.{Path as PathArgument, Number as NumberArgument}
 use Rattle.tx_cmd.specs.declared.words.ArgumentKind.TheVariants.{Label as LabelArgument, Name as NameArgument}
 use Rattle.tx_cmd.specs.declared.words.ArgumentKind.TheVariants.{Tree as TreeArgument, Text as TextArgument}
-use Rattle.tx_cmd.specs.Words.{word_text, arguments_of, first_word, is_name_byte, IsKnown}
+use Rattle.tx_cmd.specs.Words.{word_text, arguments_of, up_to_space, is_file_name_byte, IsKnown}
 use Rattle.tx_cmd.specs.Words.{IsLoosePiece, AreLoose}
-use Rattle.tx_cmd.specs.Values.{Value, a_path, a_number, a_label, a_name, a_tree, a_text, kind_of, Means, Mean}
-use Rattle.tx_cmd.specs.Commands.{word_of, values_of, IsCommand}
-use Rattle.tx_cmd.specs.Pieces.{IsTail, EndsPiece, IsCut, tree_is_last, IsMisfit, IsPieceMisfit, next_number}
+use Rattle.tx_cmd.specs.Values.{Value, a_path, a_number, a_label, a_name, a_tree, a_text, argument_kind, Means, Mean}
+use Rattle.tx_cmd.specs.Commands.{command_word, values_of, IsCommand}
+use Rattle.tx_cmd.specs.Pieces.{IsTail, EndsPiece, IsCutPiece, tree_is_last, IsMisfit, IsPieceMisfit, next_number}
 use Rattle.tx_cmd.specs.Refusals.{IsBadPiece, IsFirstFault, IsCmdFault}
-use Rattle.tx_cmd.specs.Moved.{moved}
+use Rattle.tx_cmd.specs.Moved.{moved_fault}
 use Rattle.tx_cmd.proofs.Splits.{before_space, behind_is}
 use Rattle.tx_cmd.proofs.Numerals.{AreRead, none_read, read_number, number_stops, read_next, no_next, no_number}
 use Rattle.tx_cmd.proofs.Names.{AreRead as NameRead, none_read as no_name_read, read_more as name_more, read_name}
@@ -100,11 +100,11 @@ name_from zero bytes i e h = all_name bytes (subst NameRead (take_all i bytes (o
 name_from (suc left) bytes i e h =
     elim (cases_lt i 255) [
       | inl few ↦
-          next_one (is_name_byte (get_or bytes i 0)) refl few (λ k. name_from left bytes (i + 1) (omega arith) k)
+          next_one (is_file_name_byte (get_or bytes i 0)) refl few (λ k. name_from left bytes (i + 1) (omega arith) k)
       | inr many ↦ inr (i, name_stops bytes i (omega arith) h (λ d few. absurd (omega arith)))
     ]
   where
-    next_one : (may : Bool) → is_name_byte (get_or bytes i 0) ≡ may → i < 255
+    next_one : (may : Bool) → is_file_name_byte (get_or bytes i 0) ≡ may → i < 255
         → (NameRead (take (i + 1) bytes) → FitsOrStops NameArgument bytes) → FitsOrStops NameArgument bytes
     next_one true f few on = on (name_more bytes i (omega arith) h f few)
     next_one false f few on = inr (i, name_stops bytes i (omega arith) h (λ d less. cc))
@@ -129,34 +129,34 @@ piece_fits TextArgument piece rest h = inl tt
 -- ---- all pieces
 
 abbrev HasCut : ArgumentKind → List ℕ → Type 0
-HasCut a bytes = (piece rest : List ℕ) × IsCut a bytes piece rest
+HasCut a bytes = (piece rest : List ℕ) × IsCutPiece a bytes piece rest
 
 cut_all : (b : ℕ) (x : List ℕ) → b ≡ 32 → b ∷ x ≡ 32 ∷ (x ++ [])
 cut_all b x e = ap (λ k. k ∷ x) e ∙ ap (λ y. 32 ∷ y) (sym (append-nil x))
 
 cut_word : (b : ℕ) (x : List ℕ) → b ≡ 32
-    → b ∷ x ≡ 32 ∷ (first_word x ++ drop (length (first_word x)) x)
+    → b ∷ x ≡ 32 ∷ (up_to_space x ++ drop (length (up_to_space x)) x)
 cut_word b x e = ap (λ k. k ∷ x) e ∙ ap (λ y. 32 ∷ y) (behind_is x).1
 
 some_cut : (a : ArgumentKind) (b : ℕ) (x : List ℕ) → b ≡ 32 → HasCut a (b ∷ x)
 some_cut PathArgument b x e = (
-  first_word x,
-  drop (length (first_word x)) x,
+  up_to_space x,
+  drop (length (up_to_space x)) x,
   record { are = cut_word b x e; ends = (before_space x, (behind_is x).0) },
 )
 some_cut NumberArgument b x e = (
-  first_word x,
-  drop (length (first_word x)) x,
+  up_to_space x,
+  drop (length (up_to_space x)) x,
   record { are = cut_word b x e; ends = (before_space x, (behind_is x).0) },
 )
 some_cut LabelArgument b x e = (
-  first_word x,
-  drop (length (first_word x)) x,
+  up_to_space x,
+  drop (length (up_to_space x)) x,
   record { are = cut_word b x e; ends = (before_space x, (behind_is x).0) },
 )
 some_cut NameArgument b x e = (
-  first_word x,
-  drop (length (first_word x)) x,
+  up_to_space x,
+  drop (length (up_to_space x)) x,
   record { are = cut_word b x e; ends = (before_space x, (behind_is x).0) },
 )
 some_cut TreeArgument b x e = (x, [], record { are = cut_all b x e; ends = refl })
@@ -185,7 +185,7 @@ all_fit (a ∷ more) (b ∷ x) o t =
     let c = some_cut a b x t in
     first_piece c.0 c.1 c.2 (all_fit more c.1 (last_of a more o) (tail_of a c.0 c.1 c.2.ends))
   where
-    first_piece : (piece rest : List ℕ) → IsCut a (b ∷ x) piece rest → AllFitOrStop more rest
+    first_piece : (piece rest : List ℕ) → IsCutPiece a (b ∷ x) piece rest → AllFitOrStop more rest
         → AllFitOrStop (a ∷ more) (b ∷ x)
     first_piece piece rest c others =
         ⊎_elim
@@ -218,7 +218,7 @@ value_of NameArgument x = a_name x
 value_of TreeArgument x = a_tree x
 value_of TextArgument x = a_text x
 
-kind_is : (a : ArgumentKind) (x : Held a) → kind_of (value_of a x) ≡ a
+kind_is : (a : ArgumentKind) (x : Held a) → argument_kind (value_of a x) ≡ a
 kind_is PathArgument x = refl
 kind_is NumberArgument x = refl
 kind_is LabelArgument x = refl
@@ -255,12 +255,12 @@ HasFault piece = (f : ReadFault) × IsSchemeFault piece f
 tree_means : (piece : List ℕ) (at : ℕ) → MeansOrBad TreeArgument piece at
 tree_means piece at =
     ⊎_elim (λ (h : IsRead piece). inl (h.0, (h.1, h.2)))
-    (λ (f : HasFault piece). inr (TreeFault (moved at f.0), (f.0, f.1, refl))) (read_or_fault piece)
+    (λ (f : HasFault piece). inr (TreeFault (moved_fault at f.0), (f.0, f.1, refl))) (read_or_fault piece)
 
 text_means : (piece : List ℕ) (at : ℕ) → MeansOrBad TextArgument piece at
 text_means piece at =
     ⊎_elim (λ (h : IsRead piece). leaf_or_node h.0 h.1 h.2)
-    (λ (f : HasFault piece). inr (TreeFault (moved at f.0), inl (f.0, f.1, refl))) (read_or_fault piece)
+    (λ (f : HasFault piece). inr (TreeFault (moved_fault at f.0), inl (f.0, f.1, refl))) (read_or_fault piece)
   where
     leaf_or_node : (t : WideTree) → Spells piece t → IsWithinLimits t → MeansOrBad TextArgument piece at
     leaf_or_node (leaf x) h k = inl (x, (h, k))
@@ -303,7 +303,7 @@ all_mean (a ∷ more) bytes at h =
 
 -- the command of this word that holds these
 abbrev Makes : Word → List Value → Type 0
-Makes w values = (c : Command) × (word_of c ≡ w) × (values_of c ≡ values)
+Makes w values = (c : Command) × (command_word c ≡ w) × (values_of c ≡ values)
 
 made_of : (w : Word) (h : AllHeld (arguments_of w)) → Makes w (values_held (arguments_of w) h)
 made_of (ChangeWord AssignWord) h = (Change (Assign h.0 h.1.0), refl, refl)
@@ -340,7 +340,7 @@ made_of QuitWord h = (Quit, refl, refl)
 abbrev IsAnswered : List ℕ → Type 0
 IsAnswered line = ((c : Command) × IsCommand line c) ⊎ ((f : CmdFault) × (f ≢ Memory) × IsCmdFault line f)
 
-known_answered : (w : Word) (line first rest : List ℕ) → length line ≤ MOST_LINE → first ≡ first_word line
+known_answered : (w : Word) (line first rest : List ℕ) → length line ≤ MOST_LINE → first ≡ up_to_space line
     → first ≡ word_text w → IsTail rest → line ≡ first ++ rest → IsAnswered line
 known_answered w line first rest short is_first is_word tail are =
     ⊎_elim
@@ -376,12 +376,12 @@ pub some_answer : (line : List ℕ) → IsAnswered line
 some_answer line =
     elim (cases_lt MOST_LINE (length line)) [
       | inl long ↦ inr (Long (length line), (λ e. cc), (long, refl))
-      | inr short ↦ by_word short (word_named (first_word line)) (known (first_word line) _ refl)
+      | inr short ↦ by_word short (word_named (up_to_space line)) (known (up_to_space line) _ refl)
     ]
   where
     by_word : length line ≤ MOST_LINE → (r : Option Word)
-        → MatchOption r (¬ IsKnown (first_word line)) (λ w. first_word line ≡ word_text w) → IsAnswered line
+        → MatchOption r (¬ IsKnown (up_to_space line)) (λ w. up_to_space line ≡ word_text w) → IsAnswered line
     by_word short None h = inr (Unknown, (λ e. cc), (short, h))
     by_word short (Some w) h =
         let b = behind_is line in
-        known_answered w line (first_word line) (drop (length (first_word line)) line) short refl h b.0 b.1
+        known_answered w line (up_to_space line) (drop (length (up_to_space line)) line) short refl h b.0 b.1

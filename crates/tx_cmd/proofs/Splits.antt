@@ -5,29 +5,29 @@ use Rattle.std.specs.List.{position_or_len}
 use Rattle.std.proofs.lemmas.List.{take_rest}
 use Rattle.std.proofs.lemmas.Bool.{eqb-true}
 use borrow.Author.Tests.{eqb-false}
-use Rattle.tx_cmd.specs.Words.{HasNoSpace, first_word}
+use Rattle.tx_cmd.specs.Words.{HasNoSpace, up_to_space}
 use Rattle.tx_cmd.specs.declared.words.ArgumentKind.{ArgumentKind}
 use Rattle.tx_cmd.specs.declared.words.ArgumentKind.TheVariants.{Path as PathArgument, Number as NumberArgument}
 use Rattle.tx_cmd.specs.declared.words.ArgumentKind.TheVariants.{Label as LabelArgument, Name as NameArgument}
 use Rattle.tx_cmd.specs.declared.words.ArgumentKind.TheVariants.{Tree as TreeArgument, Text as TextArgument}
-use Rattle.tx_cmd.specs.Pieces.{IsTail, EndsPiece, IsCut}
+use Rattle.tx_cmd.specs.Pieces.{IsTail, EndsPiece, IsCutPiece}
 
 -- ---- what stands before the first space
 
-first_word-cons : (b : ℕ) (bytes : List ℕ) → first_word (b ∷ bytes) ≡ cond (eqb b 32) [] (b ∷ first_word bytes)
-first_word-cons b bytes =
+up_to_space-cons : (b : ℕ) (bytes : List ℕ) → up_to_space (b ∷ bytes) ≡ cond (eqb b 32) [] (b ∷ up_to_space bytes)
+up_to_space-cons b bytes =
     let n = position_or_len (λ b. b == 32) bytes in
     let one_more : 1 + n ≡ suc n = omega arith in
-    elim (eqb b 32) as (λ c. take (cond (not c) (1 + n) 0) (b ∷ bytes) ≡ cond c [] (b ∷ first_word bytes)) [
+    elim (eqb b 32) as (λ c. take (cond (not c) (1 + n) 0) (b ∷ bytes) ≡ cond c [] (b ∷ up_to_space bytes)) [
       | true ↦ refl
       | false ↦ ap (λ k. take k (b ∷ bytes)) one_more
     ]
 
-pub before_space : (bytes : List ℕ) → HasNoSpace (first_word bytes)
+pub before_space : (bytes : List ℕ) → HasNoSpace (up_to_space bytes)
 before_space [] = tt
 before_space (b ∷ bytes) =
-    subst HasNoSpace (sym (first_word-cons b bytes))
-    (elim (eqb b 32) as (λ c. eqb b 32 ≡ c → HasNoSpace (cond c [] (b ∷ first_word bytes))) [
+    subst HasNoSpace (sym (up_to_space-cons b bytes))
+    (elim (eqb b 32) as (λ c. eqb b 32 ≡ c → HasNoSpace (cond c [] (b ∷ up_to_space bytes))) [
       | true ↦ λ e. tt
       | false ↦ λ e. (eqb-false b 32 e, before_space bytes)
     ] refl)
@@ -35,24 +35,24 @@ before_space (b ∷ bytes) =
 abbrev HasRest : List ℕ → List ℕ → Type 0
 HasRest bytes word = (rest : List ℕ) × IsTail rest × (bytes ≡ word ++ rest)
 
-behind_space : (bytes : List ℕ) → HasRest bytes (first_word bytes)
+behind_space : (bytes : List ℕ) → HasRest bytes (up_to_space bytes)
 behind_space [] = ([], tt, refl)
 behind_space (b ∷ bytes) =
-    subst (HasRest (b ∷ bytes)) (sym (first_word-cons b bytes))
-    (elim (eqb b 32) as (λ c. eqb b 32 ≡ c → HasRest (b ∷ bytes) (cond c [] (b ∷ first_word bytes))) [
+    subst (HasRest (b ∷ bytes)) (sym (up_to_space-cons b bytes))
+    (elim (eqb b 32) as (λ c. eqb b 32 ≡ c → HasRest (b ∷ bytes) (cond c [] (b ∷ up_to_space bytes))) [
       | true ↦ λ e. (b ∷ bytes, eqb-true b 32 e, refl)
       | false ↦ λ e. let w = behind_space bytes in (w.0, w.1, ap (λ x. b ∷ x) w.2)
     ] refl)
 
 -- the rest is what is dropped
 pub behind_is : (bytes : List ℕ)
-    → IsTail (drop (length (first_word bytes)) bytes)
-    × (bytes ≡ first_word bytes ++ drop (length (first_word bytes)) bytes)
+    → IsTail (drop (length (up_to_space bytes)) bytes)
+    × (bytes ≡ up_to_space bytes ++ drop (length (up_to_space bytes)) bytes)
 behind_is bytes =
     let w = behind_space bytes in
-    let e : drop (length (first_word bytes)) bytes ≡ w.0 = ap (drop (length (first_word bytes))) w.2
-    ∙ drop_front (first_word bytes) w.0 in
-    (subst IsTail (sym e) w.1, w.2 ∙ ap (λ x. first_word bytes ++ x) (sym e))
+    let e : drop (length (up_to_space bytes)) bytes ≡ w.0 = ap (drop (length (up_to_space bytes))) w.2
+    ∙ drop_front (up_to_space bytes) w.0 in
+    (subst IsTail (sym e) w.1, w.2 ∙ ap (λ x. up_to_space bytes ++ x) (sym e))
   where
     drop_front : (x y : List ℕ) → drop (length x) (x ++ y) ≡ y
     drop_front [] y = refl
@@ -71,33 +71,33 @@ ends_not_tree TextArgument piece rest other apart h t = absurd (apart refl)
 
 -- behind a space that begins the bytes
 cut_behind : (a : ArgumentKind) (b : ℕ) (x z piece : List ℕ) → (a ≡ TreeArgument → ⊥) → (a ≡ TextArgument → ⊥)
-    → b ≡ 32 → z ≡ x → piece ≡ first_word z
-    → IsCut a (b ∷ x) piece (take (length z - length piece) (drop (length piece) z))
+    → b ≡ 32 → z ≡ x → piece ≡ up_to_space z
+    → IsCutPiece a (b ∷ x) piece (take (length z - length piece) (drop (length piece) z))
 cut_behind a b x z piece other apart space same e =
     let w = behind_is z in
-    let p = first_word z in
-    let at_first : IsCut a (b ∷ x) p (drop (length p) z) = record {
+    let p = up_to_space z in
+    let at_first : IsCutPiece a (b ∷ x) p (drop (length p) z) = record {
       are = ap (λ k. k ∷ x) space ∙ ap (λ k. 32 ∷ k) (sym same ∙ w.1);
       ends = ends_not_tree a p (drop (length p) z) other apart (before_space z) w.0;
     } in
-    subst (λ q. IsCut a (b ∷ x) q (take (length z - length q) (drop (length q) z))) (sym e)
-    (subst (IsCut a (b ∷ x) p) (sym (take_rest z (length p))) at_first)
+    subst (λ q. IsCutPiece a (b ∷ x) q (take (length z - length q) (drop (length q) z))) (sym e)
+    (subst (IsCutPiece a (b ∷ x) p) (sym (take_rest z (length p))) at_first)
 
 pub cut_at : (a : ArgumentKind) (bytes piece : List ℕ) → (a ≡ TreeArgument → ⊥) → (a ≡ TextArgument → ⊥)
-    → 1 ≤ length bytes → IsTail bytes → piece ≡ first_word (take (length bytes - 1) (drop 1 bytes))
-    → IsCut a bytes piece (take (length (take (length bytes - 1) (drop 1 bytes)) - length piece)
+    → 1 ≤ length bytes → IsTail bytes → piece ≡ up_to_space (take (length bytes - 1) (drop 1 bytes))
+    → IsCutPiece a bytes piece (take (length (take (length bytes - 1) (drop 1 bytes)) - length piece)
     (drop (length piece) (take (length bytes - 1) (drop 1 bytes))))
 cut_at a [] piece other apart some tail e = absurd (omega arith)
 cut_at a (b ∷ x) piece other apart some tail e =
     cut_behind a b x (take (length (b ∷ x) - 1) (drop 1 (b ∷ x))) piece other apart tail (take_rest (b ∷ x) 1) e
 
 -- what stands behind the first word of a line
-pub behind_first : (line first : List ℕ) → first ≡ first_word line
+pub behind_first : (line first : List ℕ) → first ≡ up_to_space line
     → (IsTail (take (length line - length first) (drop (length first) line)))
     × (line ≡ first ++ take (length line - length first) (drop (length first) line))
 behind_first line first e =
     let w = behind_is line in
-    let p = first_word line in
+    let p = up_to_space line in
     let at_first : IsTail (take (length line - length p) (drop (length p) line))
     × (line ≡ p ++ take (length line - length p) (drop (length p) line)) =
     (subst IsTail (sym (take_rest line (length p))) w.0, w.1 ∙ ap (λ x. p ++ x) (sym (take_rest line (length p)))) in
@@ -119,10 +119,10 @@ one_piece (b ∷ p) (c ∷ q) r s e hp hq hr hs =
     (rw (same, w.0) refl, w.1)
 
 -- the word of a line that is known to begin with it
-pub word_is : (word rest line : List ℕ) → line ≡ word ++ rest → HasNoSpace word → IsTail rest → first_word line ≡ word
+pub word_is : (word rest line : List ℕ) → line ≡ word ++ rest → HasNoSpace word → IsTail rest → up_to_space line ≡ word
 word_is word rest line e h t =
     let w = behind_space line in
-    (one_piece (first_word line) word w.0 rest (sym w.2 ∙ e) (before_space line) h w.1 t).0
+    (one_piece (up_to_space line) word w.0 rest (sym w.2 ∙ e) (before_space line) h w.1 t).0
 
 -- Where a front of piece and rest goes on to another piece and its rest, the front ends within the piece and the other
 -- piece goes

@@ -49,28 +49,28 @@ values_behind (InsertNode p i t) = a_number i ∷ a_tree t ∷ []
 values_behind (RemoveNode p i) = a_number i ∷ []
 
 -- the first word of a command
-abbrev pub word_of : Command → Word
-word_of (Change m) = ChangeWord (mod_word m)
-word_of Undo = UndoWord
-word_of Redo = RedoWord
-word_of (At n) = AtWord
-word_of (Go p) = GoWord
-word_of (Click r c) = ClickWord
-word_of Left = LeftWord
-word_of Right = RightWord
-word_of (Typed text) = TypedWord
-word_of Backspace = BackspaceWord
-word_of Enter = EnterWord
-word_of Show = ShowWord
-word_of (Page n) = PageWord
-word_of Errors = ErrorsWord
-word_of (PlaceOf r c) = WhereWord
-word_of Cursor = CursorWord
-word_of (Attrs r) = AttrsWord
-word_of Work = WorkWord
-word_of Tree = TreeWord
-word_of (Save n) = SaveWord
-word_of Quit = QuitWord
+abbrev pub command_word : Command → Word
+command_word (Change m) = ChangeWord (mod_word m)
+command_word Undo = UndoWord
+command_word Redo = RedoWord
+command_word (At n) = AtWord
+command_word (Go p) = GoWord
+command_word (Click r c) = ClickWord
+command_word Left = LeftWord
+command_word Right = RightWord
+command_word (Typed text) = TypedWord
+command_word Backspace = BackspaceWord
+command_word Enter = EnterWord
+command_word Show = ShowWord
+command_word (Page n) = PageWord
+command_word Errors = ErrorsWord
+command_word (PlaceOf r c) = WhereWord
+command_word Cursor = CursorWord
+command_word (Attrs r) = AttrsWord
+command_word Work = WorkWord
+command_word Tree = TreeWord
+command_word (Save n) = SaveWord
+command_word Quit = QuitWord
 
 -- what it takes behind that word
 abbrev pub values_of : Command → List Value
@@ -99,4 +99,4 @@ values_of Quit = []
 -- the line is the command, and isn't too long
 abbrev pub IsCommand : List ℕ → Command → Type 0
 IsCommand line command = (length line ≤ MOST_LINE)
-    × ((rest : List ℕ) × Mean rest (values_of command) × (line ≡ word_text (word_of command) ++ rest))
+    × ((rest : List ℕ) × Mean rest (values_of command) × (line ≡ word_text (command_word command) ++ rest))

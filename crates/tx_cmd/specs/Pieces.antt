@@ -26,7 +26,7 @@ EndsPiece LabelArgument piece rest = HasNoSpace piece × IsTail rest
 EndsPiece NameArgument piece rest = HasNoSpace piece × IsTail rest
 
 -- the bytes are a space, the piece for the argument, and the rest
-pub record IsCut (a : ArgumentKind) (bytes piece rest : List ℕ) : Type 0 where
+pub record IsCutPiece (a : ArgumentKind) (bytes piece rest : List ℕ) : Type 0 where
   pub are : bytes ≡ 32 ∷ (piece ++ rest)
   pub ends : EndsPiece a piece rest
 

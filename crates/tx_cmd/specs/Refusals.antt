@@ -17,9 +17,9 @@ use Rattle.tx_cmd.specs.declared.words.ArgumentKind.TheVariants.{Label as LabelA
 use Rattle.tx_cmd.specs.declared.words.ArgumentKind.TheVariants.{Name as NameArgument, Tree as TreeArgument}
 use Rattle.tx_cmd.specs.declared.words.ArgumentKind.TheVariants.{Text as TextArgument}
 use Rattle.tx_cmd.specs.declared.words.Word.{Word}
-use Rattle.tx_cmd.specs.Words.{word_text, arguments_of, first_word, IsKnown, IsLoosePiece, AreLoose, IsLoose}
+use Rattle.tx_cmd.specs.Words.{word_text, arguments_of, up_to_space, IsKnown, IsLoosePiece, AreLoose, IsLoose}
 use Rattle.tx_cmd.specs.Values.{HasMeaning}
-use Rattle.tx_cmd.specs.Moved.{moved}
+use Rattle.tx_cmd.specs.Moved.{moved_fault}
 
 -- the bytes are no path, and so many of the line's bytes, of which the piece begins at this place, begin one
 abbrev pub IsBadPath : List ℕ → ℕ → CmdFault → Type 0
@@ -33,7 +33,7 @@ IsBadPath piece at Memory = ⊥
 -- why the bytes spell no tree within the limits, with all places counted in the line, where the piece begins at this
 -- place
 abbrev pub IsBadTree : List ℕ → ℕ → CmdFault → Type 0
-IsBadTree piece at (Tree fault) = (there : ReadFault) × IsSchemeFault piece there × (fault ≡ moved at there)
+IsBadTree piece at (Tree fault) = (there : ReadFault) × IsSchemeFault piece there × (fault ≡ moved_fault at there)
 IsBadTree piece at (Long n) = ⊥
 IsBadTree piece at Unknown = ⊥
 IsBadTree piece at (Args n) = ⊥
@@ -72,13 +72,13 @@ IsRefused line fault = (w : Word) × (rest : List ℕ) × (line ≡ word_text w 
 -- The line hasn't the form that commands with its first word have, and so many bytes are the longest front of it that
 -- can be continued to a line of that form.
 pub record HasNoForm (line : List ℕ) (n : ℕ) : Type 0 where
-  pub known : IsKnown (first_word line)
-  pub none : ¬ IsLoose (first_word line) line
-  pub front : IsLongestFront (IsLoose (first_word line)) line n
+  pub known : IsKnown (up_to_space line)
+  pub none : ¬ IsLoose (up_to_space line) line
+  pub front : IsLongestFront (IsLoose (up_to_space line)) line n
 
 abbrev pub IsCmdFault : List ℕ → CmdFault → Type 0
 IsCmdFault line (Long n) = (MOST_LINE < length line) × (n ≡ length line)
-IsCmdFault line Unknown = (length line ≤ MOST_LINE) × (¬ IsKnown (first_word line))
+IsCmdFault line Unknown = (length line ≤ MOST_LINE) × (¬ IsKnown (up_to_space line))
 IsCmdFault line (Args n) = (length line ≤ MOST_LINE) × (HasNoForm line n ⊎ IsRefused line (Args n))
 IsCmdFault line (Path n) = (length line ≤ MOST_LINE) × IsRefused line (Path n)
 IsCmdFault line (Tree fault) = (length line ≤ MOST_LINE) × IsRefused line (Tree fault)

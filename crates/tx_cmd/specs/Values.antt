@@ -5,7 +5,7 @@ use Rattle.tx_tree.specs.Labels.{IsLabel}
 use Rattle.tx_tree.specs.Limits.{IsWithinLimits}
 use Rattle.tx_tree.specs.WideTree.{WideTree, leaf, nodes_of}
 use Rattle.tx_scm.specs.Spelling.{Spells}
-use Rattle.tx_cmd.specs.Words.{IsName}
+use Rattle.tx_cmd.specs.Words.{IsFileName}
 use Rattle.tx_cmd.specs.declared.words.ArgumentKind.{ArgumentKind}
 use Rattle.tx_cmd.specs.declared.words.ArgumentKind.TheVariants.{Path as PathArgument, Number as NumberArgument}
 use Rattle.tx_cmd.specs.declared.words.ArgumentKind.TheVariants.{Label as LabelArgument}
@@ -20,20 +20,20 @@ pub data Value : Type 0 where
   a_tree : (t : WideTree) → Value
   a_text : (text : List ℕ) → Value
 
-abbrev pub kind_of : Value → ArgumentKind
-kind_of (a_path p) = PathArgument
-kind_of (a_number n) = NumberArgument
-kind_of (a_label l) = LabelArgument
-kind_of (a_name n) = NameArgument
-kind_of (a_tree t) = TreeArgument
-kind_of (a_text text) = TextArgument
+abbrev pub argument_kind : Value → ArgumentKind
+argument_kind (a_path p) = PathArgument
+argument_kind (a_number n) = NumberArgument
+argument_kind (a_label l) = LabelArgument
+argument_kind (a_name n) = NameArgument
+argument_kind (a_tree t) = TreeArgument
+argument_kind (a_text text) = TextArgument
 
 -- the piece is how the value is written
 abbrev pub Means : List ℕ → Value → Type 0
 Means piece (a_path p) = SpellsPath piece p
 Means piece (a_number n) = IsNumber piece n
 Means piece (a_label l) = IsLabel l × (piece ≡ l)
-Means piece (a_name n) = IsName n × (piece ≡ n)
+Means piece (a_name n) = IsFileName n × (piece ≡ n)
 Means piece (a_tree t) = Spells piece t × IsWithinLimits t
 Means piece (a_text text) = Spells piece (leaf text) × IsWithinLimits (leaf text)
 
@@ -44,14 +44,14 @@ Mean bytes (v ∷ values) = (piece rest : List ℕ) × Means piece v × Mean res
 
 -- the piece stands for some value of this kind
 abbrev pub HasMeaning : ArgumentKind → List ℕ → Type 0
-HasMeaning a piece = (v : Value) × (kind_of v ≡ a) × Means piece v
+HasMeaning a piece = (v : Value) × (argument_kind v ≡ a) × Means piece v
 
 -- the nodes of trees among the values, leaves aside
-abbrev pub nodes_in : List Value → ℕ
-nodes_in [] = 0
-nodes_in (a_tree t ∷ values) = nodes_of t + nodes_in values
-nodes_in (a_path p ∷ values) = nodes_in values
-nodes_in (a_number n ∷ values) = nodes_in values
-nodes_in (a_label l ∷ values) = nodes_in values
-nodes_in (a_name n ∷ values) = nodes_in values
-nodes_in (a_text text ∷ values) = nodes_in values
+abbrev pub nodes_in_values : List Value → ℕ
+nodes_in_values [] = 0
+nodes_in_values (a_tree t ∷ values) = nodes_of t + nodes_in_values values
+nodes_in_values (a_path p ∷ values) = nodes_in_values values
+nodes_in_values (a_number n ∷ values) = nodes_in_values values
+nodes_in_values (a_label l ∷ values) = nodes_in_values values
+nodes_in_values (a_name n ∷ values) = nodes_in_values values
+nodes_in_values (a_text text ∷ values) = nodes_in_values values

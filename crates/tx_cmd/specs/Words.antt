@@ -87,8 +87,8 @@ arguments_of Tree = []
 arguments_of Quit = []
 
 -- what stands before the first space, or the line where it has none
-abbrev pub first_word : List ℕ → List ℕ
-first_word line = before_first (λ b. b == 32) line
+abbrev pub up_to_space : List ℕ → List ℕ
+up_to_space line = before_first (λ b. b == 32) line
 
 -- the bytes are the word of some command
 abbrev pub IsKnown : List ℕ → Type 0
@@ -102,12 +102,12 @@ abbrev pub IsNumeral : List ℕ → Type 0
 IsNumeral digits = (n : ℕ) × IsNumber digits n
 
 -- visible ASCII
-abbrev pub is_name_byte : ℕ → Bool
-is_name_byte b = nat_le 33 b && nat_le b 126
+abbrev pub is_file_name_byte : ℕ → Bool
+is_file_name_byte b = nat_le 33 b && nat_le b 126
 
 -- a name of a file
-pub record IsName (name : List ℕ) : Type 0 where
-  pub each : AllByRecursion (λ b. is_name_byte b ≡ true) name
+pub record IsFileName (name : List ℕ) : Type 0 where
+  pub each : AllByRecursion (λ b. is_file_name_byte b ≡ true) name
   pub some : 1 ≤ length name
   pub short : length name ≤ MOST_NAME
 
@@ -117,7 +117,7 @@ abbrev pub IsLoosePiece : ArgumentKind → List ℕ → Type 0
 IsLoosePiece PathArgument piece = HasNoSpace piece
 IsLoosePiece NumberArgument piece = IsNumeral piece
 IsLoosePiece LabelArgument piece = IsLabel piece
-IsLoosePiece NameArgument piece = IsName piece
+IsLoosePiece NameArgument piece = IsFileName piece
 IsLoosePiece TreeArgument piece = Unit {0}
 IsLoosePiece TextArgument piece = Unit {0}
 

@@ -1,7 +1,7 @@
 // The command of a line.
 ghost use Rattle.std.specs.Prelude.{◌≡◌, ◌+◌, ◌≤◌, IfOk, IfErr, Err};
-ghost use Rattle.tx_cmd.specs.Words.{first_word, TakesMemory};
-ghost use Rattle.tx_cmd.specs.Values.{nodes_in};
+ghost use Rattle.tx_cmd.specs.Words.{up_to_space, TakesMemory};
+ghost use Rattle.tx_cmd.specs.Values.{nodes_in_values};
 ghost use Rattle.tx_cmd.specs.Commands.{IsCommand, values_of};
 ghost use Rattle.tx_cmd.specs.Refusals.{IsCmdFault};
 
@@ -26,8 +26,8 @@ pub fn parse<L: Ledger>(
 ) -> Result<Command, CmdFault>
     ensures ok { IfOk result (IsCommand line.now) }
     ensures refused { IfErr result (IsCmdFault line.now) }
-    ensures memory { result ≡ Err CmdFault.Memory → TakesMemory (first_word line.now) }
-    ensures counted { IfOk result (λ c. steps.new ≤ steps.old + nodes_in (values_of c)) }
+    ensures memory { result ≡ Err CmdFault.Memory → TakesMemory (up_to_space line.now) }
+    ensures counted { IfOk result (λ c. steps.new ≤ steps.old + nodes_in_values (values_of c)) }
     ensures rises { steps.old ≤ steps.new }
 {
     if line.len() > MOST_LINE {

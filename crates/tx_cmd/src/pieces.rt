@@ -2,8 +2,9 @@
 ghost use Rattle.std.specs.Prelude.{◌≡◌, ◌+◌, ◌<◌, ◌≤◌, ◌↔◌, IsTrue, true, [], length, IfOk, IfErr, IfSome, OnErr};
 ghost use Rattle.tx_base.specs.Fronts.{IsLongestFront};
 ghost use Rattle.tx_tree.specs.PathSpelling.{IsNumber};
-ghost use Rattle.tx_cmd.specs.Words.{first_word, is_name_byte, IsNumeral, is_stored, some_stored};
-ghost use Rattle.tx_cmd.specs.Pieces.{IsTail, IsCut, EndsPiece, IsMisfit, IsPieceMisfit, tree_is_last, next_number};
+ghost use Rattle.tx_cmd.specs.Words.{up_to_space, is_file_name_byte, IsNumeral, is_stored, some_stored};
+ghost use Rattle.tx_cmd.specs.Pieces.{IsTail, IsCutPiece, EndsPiece, IsMisfit, IsPieceMisfit, tree_is_last};
+ghost use Rattle.tx_cmd.specs.Pieces.{next_number};
 
 use crate::MOST_NAME;
 use crate::words::ArgumentKind;
@@ -13,7 +14,7 @@ use tx_tree::{Label, LabelFault, MOST_DIGITS, MOST_NUMBER};
 
 /// What stands before the first space, or all bytes where there is none.
 pub fn first_word(bytes: &[u8]) -> &[u8]
-    ensures { result.now ≡ first_word bytes.now }
+    ensures { result.now ≡ up_to_space bytes.now }
 {
     match bytes.iter().position(|byte| *byte == b' ') {
         Some(space) => &bytes[..space],
@@ -25,7 +26,7 @@ pub fn first_word(bytes: &[u8]) -> &[u8]
 pub(crate) fn cut(argument: ArgumentKind, bytes: &[u8]) -> (&[u8], &[u8])
     requires some { 1 ≤ length bytes.now }
     requires tail { IsTail bytes.now }
-    ensures { IsCut argument bytes.now result.0.now result.1.now }
+    ensures { IsCutPiece argument bytes.now result.0.now result.1.now }
 {
     let behind = &bytes[1..];
     match argument {
@@ -75,7 +76,7 @@ pub(crate) fn number(piece: &[u8]) -> Result<u32, usize>
 
 // Whether a name may have the byte at this place.
 fn may_stand(byte: u8, place: usize) -> bool
-    ensures { IsTrue result ↔ (is_name_byte byte ≡ true) × (place < MOST_NAME) }
+    ensures { IsTrue result ↔ (is_file_name_byte byte ≡ true) × (place < MOST_NAME) }
 {
     byte.is_ascii_graphic() && place < MOST_NAME
 }

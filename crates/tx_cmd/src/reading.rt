@@ -6,9 +6,9 @@ ghost use Rattle.tx_tree.specs.WideTree.{leaf, is_leaf, nodes_of};
 ghost use Rattle.tx_scm.specs.Spelling.{Spells};
 ghost use Rattle.tx_mod.specs.Mods.{path_of};
 ghost use Rattle.tx_cmd.specs.Words.{arguments_of, arguments_behind, AreLoose, IsNumeral, some_stored};
-ghost use Rattle.tx_cmd.specs.Values.{Means, Mean, nodes_in, a_path, a_number, a_tree, a_text, a_label, a_name};
-ghost use Rattle.tx_cmd.specs.Commands.{word_of, values_of, mod_word, values_behind};
-ghost use Rattle.tx_cmd.specs.Moved.{moved, IsWithin};
+ghost use Rattle.tx_cmd.specs.Values.{Means, Mean, nodes_in_values, a_path, a_number, a_tree, a_text, a_label, a_name};
+ghost use Rattle.tx_cmd.specs.Commands.{command_word, values_of, mod_word, values_behind};
+ghost use Rattle.tx_cmd.specs.Moved.{moved_fault, HasPlacesWithin};
 ghost use Rattle.tx_cmd.specs.Refusals.{IsBadPath, IsBadTree, IsBadText, IsFirstFault};
 ghost use Rattle.tx_cmd.specs.declared.command.CmdFault.TheVariants.{Memory as NoMemory};
 
@@ -37,9 +37,9 @@ fn read_path(alloc: Global, piece: &[u8], at: usize) -> Result<Path, CmdFault>
 
 // The fault of bytes that begin at this place of the line.
 fn moved(fault: ReadFault, at: usize) -> ReadFault
-    requires places { IsWithin MOST_LINE fault }
+    requires places { HasPlacesWithin MOST_LINE fault }
     requires at { at ≤ MOST_LINE }
-    ensures { result ≡ moved at fault }
+    ensures { result ≡ moved_fault at fault }
 {
     match fault {
         ReadFault::Unclosed(n) => ReadFault::Unclosed(at + n),
@@ -274,7 +274,7 @@ fn change_at<L: Ledger>(
     ensures ok { IfOk result (λ m. Mean bytes.now (values_behind m)) }
     ensures refused { IfErr result (λ fault.
         fault ≢ NoMemory → IsFirstFault (arguments_behind word) bytes.now at fault) }
-    ensures counted { IfOk result (λ m. steps.new ≤ steps.old + nodes_in (values_behind m)) }
+    ensures counted { IfOk result (λ m. steps.new ≤ steps.old + nodes_in_values (values_behind m)) }
     ensures rises { steps.old ≤ steps.new }
 {
     match word {
@@ -304,7 +304,7 @@ fn change<L: Ledger>(
     ensures ok { IfOk result (λ m. Mean bytes.now (a_path (path_of m) ∷ values_behind m)) }
     ensures refused { IfErr result (λ fault.
         fault ≢ NoMemory → IsFirstFault (ArgumentKind.Path ∷ arguments_behind word) bytes.now at fault) }
-    ensures counted { IfOk result (λ m. steps.new ≤ steps.old + nodes_in (values_behind m)) }
+    ensures counted { IfOk result (λ m. steps.new ≤ steps.old + nodes_in_values (values_behind m)) }
     ensures rises { steps.old ≤ steps.new }
 {
     let (piece, rest) = cut(ArgumentKind::Path, bytes);
@@ -328,7 +328,7 @@ fn last_path(alloc: Global, bytes: &[u8], at: usize) -> Result<Path, CmdFault>
 fn plain_command(word: Word, bytes: &[u8]) -> Command
     requires stored { some_stored (arguments_of word) ≡ false }
     requires loose { AreLoose (arguments_of word) bytes.now }
-    ensures word { word_of result ≡ word }
+    ensures word { command_word result ≡ word }
     ensures ok { Mean bytes.now (values_of result) }
 {
     match word {
@@ -368,11 +368,11 @@ pub(crate) fn command<L: Ledger>(
 ) -> Result<Command, CmdFault>
     requires loose { AreLoose (arguments_of word) bytes.now }
     requires place { at + length bytes.now ≤ MOST_LINE }
-    ensures word { IfOk result (λ c. word_of c ≡ word) }
+    ensures word { IfOk result (λ c. command_word c ≡ word) }
     ensures ok { IfOk result (λ c. Mean bytes.now (values_of c)) }
     ensures refused { IfErr result (λ fault. fault ≢ NoMemory → IsFirstFault (arguments_of word) bytes.now at fault) }
     ensures memory { result ≡ Err NoMemory → some_stored (arguments_of word) ≡ true }
-    ensures counted { IfOk result (λ c. steps.new ≤ steps.old + nodes_in (values_of c)) }
+    ensures counted { IfOk result (λ c. steps.new ≤ steps.old + nodes_in_values (values_of c)) }
     ensures rises { steps.old ≤ steps.new }
 {
     match word {

@@ -10,8 +10,8 @@ use Rattle.tx_tm_form.specs.Parts.{document_label}
 use Rattle.tx_tm_write.specs.Shapes.{is_block}
 use Rattle.tx_tm_write.specs.Alone.{SpellsAlone}
 use Rattle.tx_tm_write.specs.Canonical.{paragraph_text, paragraphs_text, tm_text}
-use Rattle.tx_generated.specs.Document.{document_text, drawn, paragraph}
-use Rattle.tx_generated.specs.Tree.{assigned, document, paragraph_tree}
+use Rattle.tx_generated.specs.Document.{document_text, drawn_number, generated_paragraph}
+use Rattle.tx_generated.specs.Tree.{assignment_tree, document, paragraph_tree}
 use Rattle.tx_generated.proofs.Paragraphs.{AreTexts, IsRight, formed_label, first_right, paragraph_right}
 
 -- ---- any paragraphs, by their numbers
@@ -48,18 +48,18 @@ module _ (texts : ℕ → List ℕ) (trees : ℕ → WideTree) (right : (i : ℕ
 -- ---- the document
 
 abbrev text_at : ℕ → ℕ → List ℕ
-text_at number i = paragraph (drawn number i)
+text_at number i = generated_paragraph (drawn_number number i)
 
 abbrev tree_at : ℕ → ℕ → WideTree
-tree_at number i = paragraph_tree (drawn number i)
+tree_at number i = paragraph_tree (drawn_number number i)
 
 right_at : (number i : ℕ) → IsRight (text_at number i) (tree_at number i)
-right_at number i = paragraph_right (drawn number i)
+right_at number i = paragraph_right (drawn_number number i)
 
 pub canonical : (number n : ℕ) → document_text number n ≡ tm_text (document number n)
 canonical number n =
-    all_texts (text_at number) (tree_at number) (right_at number) (codes "<assign|v|tree>") (assigned (codes "tree"))
-    (range_with_len 1 n) first_right.text
+    all_texts (text_at number) (tree_at number) (right_at number) (codes "<assign|v|tree>")
+    (assignment_tree (codes "tree")) (range_with_len 1 n) first_right.text
 
 document_is_label : IsLabel document_label
 unfolding is_label_byte

@@ -13,8 +13,8 @@ use Rattle.tx_tree.specs.Limits.{IsWellFormed, AreWellFormed}
 use Rattle.tx_tm_form.specs.Parts.{same}
 use Rattle.tx_tm_form.proofs.Sound.{same_is}
 use Rattle.tx_tm_write.specs.Canonical.{paragraph_text}
-use Rattle.tx_generated.specs.Document.{first_word, more_words, paragraph, word}
-use Rattle.tx_generated.specs.Tree.{assigned, paragraph_of, paragraph_tree}
+use Rattle.tx_generated.specs.Document.{leading_word, more_words, generated_paragraph, word}
+use Rattle.tx_generated.specs.Tree.{assignment_tree, paragraph_of, paragraph_tree}
 
 -- ---- trees that are well formed, by a test
 
@@ -110,7 +110,7 @@ right bytes t h =
 -- the paragraph of this first word, this half of the step, and this kind
 abbrev is_right_at : ℕ → ℕ → ℕ → Bool
 is_right_at a b kind =
-    is_right (first_word kind (word a) ++ more_words a (2 * b + 1))
+    is_right (leading_word kind (word a) ++ more_words a (2 * b + 1))
     (paragraph_of kind (word a) (more_words a (2 * b + 1)))
 
 abbrev yes : ℕ → Bool
@@ -126,11 +126,11 @@ right_at a b kind x y z =
     (agree_below_at (λ c. agree_below (λ k. is_right_at a c k) yes 4) yes 8 b
     (agree_below_at (λ d. agree_below (λ c. agree_below (λ k. is_right_at d c k) yes 4) yes 8) yes 8 a all_right x) y) z
 
-pub paragraph_right : (drawn : ℕ) → IsRight (paragraph drawn) (paragraph_tree drawn)
+pub paragraph_right : (drawn : ℕ) → IsRight (generated_paragraph drawn) (paragraph_tree drawn)
 paragraph_right drawn =
-    right (paragraph drawn) (paragraph_tree drawn)
+    right (generated_paragraph drawn) (paragraph_tree drawn)
     (right_at (drawn % 8) (drawn / 8 % 8) (drawn / 64 % 4) (omega arith) (omega arith) (omega arith))
 
-pub first_right : IsRight (codes "<assign|v|tree>") (assigned (codes "tree"))
+pub first_right : IsRight (codes "<assign|v|tree>") (assignment_tree (codes "tree"))
 unfolding is_text text_step is_label_byte
-first_right = right (codes "<assign|v|tree>") (assigned (codes "tree")) refl
+first_right = right (codes "<assign|v|tree>") (assignment_tree (codes "tree")) refl

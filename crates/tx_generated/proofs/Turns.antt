@@ -7,7 +7,7 @@ use Rattle.std.specs.List.{range_with_len}
 use Rattle.std.proofs.lemmas.List.{append-nil}
 use Rattle.std.proofs.lemmas.List.Concat.{flat_map-append}
 use Rattle.std.proofs.lemmas.List.Folds.{flat_map-map}
-use Rattle.tx_generated.specs.Document.{document_text, drawn, next, more_words, paragraph, word}
+use Rattle.tx_generated.specs.Document.{document_text, drawn_number, next, more_words, generated_paragraph, word}
 
 -- ---- lists of numbers
 
@@ -54,7 +54,7 @@ all_words a step j old done e h = h ∙ ap (λ n. old ++ flat_map (spaced a step
 -- ---- paragraphs
 
 abbrev apart : ℕ → ℕ → List ℕ
-apart number i = 10 ∷ 10 ∷ paragraph (drawn number i)
+apart number i = 10 ∷ 10 ∷ generated_paragraph (drawn_number number i)
 
 abbrev start : List ℕ
 start = codes "<assign|v|tree>"
@@ -65,13 +65,14 @@ next_number number i x y e f =
 
 pub next_paragraph : (number i x : ℕ) (before between done : List ℕ) → x ≡ iterate next (i + 1) number
     → before ≡ start ++ flat_map (apart number) (range_with_len 1 i) → between ≡ before ++ 10 ∷ 10 ∷ []
-    → done ≡ between ++ paragraph (x / 65536)
+    → done ≡ between ++ generated_paragraph (x / 65536)
     → done ≡ start ++ flat_map (apart number) (range_with_len 1 (i + 1))
 next_paragraph number i x before between done n e f g =
     let last : 1 + i ≡ i + 1 = omega arith in
     let so_far = flat_map (apart number) (range_with_len 1 i) in
-    g ∙ ap (λ z. z ++ paragraph (x / 65536)) f ∙ append_assoc before (10 ∷ 10 ∷ []) (paragraph (x / 65536))
-    ∙ ap (λ z. before ++ 10 ∷ 10 ∷ paragraph (z / 65536)) n
+    g ∙ ap (λ z. z ++ generated_paragraph (x / 65536)) f
+    ∙ append_assoc before (10 ∷ 10 ∷ []) (generated_paragraph (x / 65536))
+    ∙ ap (λ z. before ++ 10 ∷ 10 ∷ generated_paragraph (z / 65536)) n
     ∙ ap (λ z. z ++ apart number (i + 1)) e
     ∙ append_assoc start so_far (apart number (i + 1))
     ∙ ap (λ z. start ++ z) (sym (all_more (apart number) 1 i (i + 1) last))
@@ -81,4 +82,5 @@ pub all_paragraphs : (number i count : ℕ) (done : List ℕ) → i ≡ count
 all_paragraphs number i count done e h =
     h ∙ ap (λ n. start ++ flat_map (apart number) (range_with_len 1 n)) e
     ∙ ap (λ z. start ++ z)
-    (sym (flat_map-map (λ text. 10 ∷ 10 ∷ text) (λ k. paragraph (drawn number k)) (range_with_len 1 count)))
+    (sym (flat_map-map (λ text. 10 ∷ 10 ∷ text) (λ k. generated_paragraph (drawn_number number k))
+    (range_with_len 1 count)))

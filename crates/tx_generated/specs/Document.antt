@@ -11,8 +11,8 @@ abbrev pub next : ℕ → ℕ
 next x = (x * 1103515245 + 12345) % 2 ^ 31
 
 -- the i-th number behind the first one, without its 16 low bits
-abbrev pub drawn : ℕ → ℕ → ℕ
-drawn first i = iterate next i first / 2 ^ 16
+abbrev pub drawn_number : ℕ → ℕ → ℕ
+drawn_number first i = iterate next i first / 2 ^ 16
 
 -- ---- paragraphs
 
@@ -26,8 +26,8 @@ abbrev pub word : ℕ → List ℕ
 word n = get_or words (n % 8) []
 
 -- the first word: as it is, in a tag, behind an assignment of it, or behind the value
-abbrev pub first_word : ℕ → List ℕ → List ℕ
-first_word kind w =
+abbrev pub leading_word : ℕ → List ℕ → List ℕ
+leading_word kind w =
     if kind == 0 then w
     else if kind == 1 then codes "<em|" ++ w ++ codes ">"
     else if kind == 2 then codes "<assign|v|" ++ w ++ codes ">" ++ w
@@ -39,16 +39,17 @@ more_words a step = flat_map (λ j. codes " " ++ word (a + j * step)) (range_wit
 
 -- Six words, of which each is so many further than the one before. The low bits of the number that was drawn tell the
 -- first word, those above them the step, which is odd, and the two above these the kind.
-abbrev pub paragraph : ℕ → List ℕ
-paragraph drawn = first_word (drawn / 64 % 4) (word (drawn % 8)) ++ more_words (drawn % 8) (2 * (drawn / 8 % 8) + 1)
+abbrev pub generated_paragraph : ℕ → List ℕ
+generated_paragraph drawn =
+    leading_word (drawn / 64 % 4) (word (drawn % 8)) ++ more_words (drawn % 8) (2 * (drawn / 8 % 8) + 1)
 
 -- ---- the document
 
 -- an assignment, and so many paragraphs behind it
-abbrev pub paragraphs : ℕ → ℕ → List (List ℕ)
-paragraphs number count =
-    codes "<assign|v|tree>" ∷ map (λ i. paragraph (drawn number i)) (range_with_len 1 count)
+abbrev pub generated_paragraphs : ℕ → ℕ → List (List ℕ)
+generated_paragraphs number count =
+    codes "<assign|v|tree>" ∷ map (λ i. generated_paragraph (drawn_number number i)) (range_with_len 1 count)
 
 -- an empty line between two paragraphs
 abbrev pub document_text : ℕ → ℕ → List ℕ
-document_text number count = join_by (λ text. text) (10 ∷ 10 ∷ []) (paragraphs number count)
+document_text number count = join_by (λ text. text) (10 ∷ 10 ∷ []) (generated_paragraphs number count)

@@ -1,6 +1,6 @@
 // The text, paragraph by paragraph.
 ghost use Rattle.std.specs.Prelude.{◌≡◌, ◌<◌, ◌≤◌, ◌^◌, ◌++◌, IfOk, OnOk, flat_map};
-ghost use Rattle.tx_generated.specs.Document.{document_text, first_word, more_words, next, paragraph, word};
+ghost use Rattle.tx_generated.specs.Document.{document_text, leading_word, more_words, next, generated_paragraph, word};
 
 use std::alloc::Global;
 use tx_base::Memory;
@@ -39,7 +39,7 @@ fn append(pieces: &[&str], out: &mut Vec<u8>) -> Result<(), Memory>
 
 // Appends the first word, in the form of this kind.
 fn append_first(kind: u32, word: &str, out: &mut Vec<u8>) -> Result<(), Memory>
-    ensures { OnOk result (out.new.items ≡ out.old.items ++ first_word kind word.now) }
+    ensures { OnOk result (out.new.items ≡ out.old.items ++ leading_word kind word.now) }
 {
     match kind {
         0 => append(&[word], out),
@@ -63,7 +63,7 @@ fn append_more(a: u32, step: u32, out: &mut Vec<u8>) -> Result<(), Memory>
 
 // Appends the paragraph of a number that was drawn.
 fn append_paragraph(drawn: u32, out: &mut Vec<u8>) -> Result<(), Memory>
-    ensures { OnOk result (out.new.items ≡ out.old.items ++ paragraph drawn) }
+    ensures { OnOk result (out.new.items ≡ out.old.items ++ generated_paragraph drawn) }
 {
     let a = drawn % 8;
     append_first(drawn / 64 % 4, word(a), out)?;

@@ -15,8 +15,8 @@ use Rattle.tx_open.specs.declared.failure.Failure.TheVariants as failures
 use Rattle.tx_open.specs.declared.opening.Opened.{Opened}
 use Rattle.tx_open.specs.declared.opening.Opening.{Opening}
 use Rattle.tx_open.specs.declared.opening.Opening.TheVariants as openings
-use Rattle.tx_open.specs.Openings.{failed_as, outcome_of}
-use Rattle.tx_open.specs.Outcomes.{CanBeOpened, ComesTo, EndsIn, EndsOf, IsCaused, IsOpenedAs, Outcome}
+use Rattle.tx_open.specs.Openings.{failed_as, open_outcome}
+use Rattle.tx_open.specs.Outcomes.{CanBeOpened, ComesTo, EndsIn, EndsOf, IsCaused, IsOpenedAs, OpenOutcome}
 use Rattle.tx_open.specs.Outcomes.{missing, too_long, no_tree, store_fault, no_memory}
 use Rattle.tx_open.proofs.Single.{AskOnce, ends_or_opens, not_files, same_files}
 
@@ -60,10 +60,10 @@ no_number words asked_once names width height a w h number count b =
     not_files names number count asked.2
 
 pub is_opened : (words : List (List ℕ)) (asked_once : AskOnce words) (files : Option Files) (r : Opening)
-    → CanBeOpened words files → ComesTo words files (outcome_of r)
-    → ((word : List ℕ) → outcome_of r ≡ missing word → ⊥)
-    → ((word : List ℕ) → outcome_of r ≡ too_long word → ⊥) → ((word : List ℕ) → outcome_of r ≡ store_fault word → ⊥)
-    → (outcome_of r ≡ no_memory) ⊎ ((all : Opened) × (r ≡ openings.Opened all))
+    → CanBeOpened words files → ComesTo words files (open_outcome r)
+    → ((word : List ℕ) → open_outcome r ≡ missing word → ⊥)
+    → ((word : List ℕ) → open_outcome r ≡ too_long word → ⊥) → ((word : List ℕ) → open_outcome r ≡ store_fault word → ⊥)
+    → (open_outcome r ≡ no_memory) ⊎ ((all : Opened) × (r ≡ openings.Opened all))
 is_opened words asked_once files openings.FaultyWords can h m l f =
     let opens = can.opens in
     let all = can.all in
@@ -85,7 +85,7 @@ is_opened words asked_once files (openings.Generated made) can h m l f =
 -- one of the files that the words ask for isn't read
 module _ (words : List (List ℕ)) (files : Option Files) (width height : ℕ) (names : List Named)
     (asked : Ask words width height (AllFiles names)) where
-  ends_of : (o : Outcome) → EndsIn files names o → EndsOf words files o
+  ends_of : (o : OpenOutcome) → EndsIn files names o → EndsOf words files o
   ends_of o h = record { width = width; height = height; names = names; asked = asked; ends = h }
 
   failed : (f : Failure) → EndsIn files names (failed_as f) → ComesTo words files (failed_as f)
@@ -95,12 +95,12 @@ module _ (words : List (List ℕ)) (files : Option Files) (width height : ℕ) (
   failed (failures.StoreFault word) h = ends_of (store_fault word.now) h
   failed failures.NoMemory h = tt
 
-  pub comes_from : (r : Opening) (f : Failure) → outcome_of r ≡ failed_as f → EndsIn files names (failed_as f)
-      → ComesTo words files (outcome_of r)
+  pub comes_from : (r : Opening) (f : Failure) → open_outcome r ≡ failed_as f → EndsIn files names (failed_as f)
+      → ComesTo words files (open_outcome r)
   comes_from r f e h = subst (ComesTo words files) (sym e) (failed f h)
 
 -- a cause, of each outcome that has one
-module _ (before after : StoreSeen) (o : Outcome) (h : IsCaused before after o) where
+module _ (before after : StoreSeen) (o : OpenOutcome) (h : IsCaused before after o) where
   pub missing_caused : (word : List ℕ) → o ≡ missing word → Rose before.misses after.misses
   missing_caused word e = subst (IsCaused before after) e h
 

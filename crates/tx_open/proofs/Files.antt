@@ -17,7 +17,7 @@ use Rattle.tx_doc.specs.declared.forms.Form.{Form}
 use Rattle.tx_doc.specs.declared.forms.Form.TheVariants.{Tm, Scheme}
 use Rattle.tx_doc.specs.Forms.{form_of}
 use Rattle.tx_open.specs.Forms.{SpellsIn, IsFaultIn}
-use Rattle.tx_open.specs.Outcomes.{EndsAt, Holds, IsDecided, IsFaultOf, IsTreeOf, Outcome}
+use Rattle.tx_open.specs.Outcomes.{EndsAt, FileHolds, IsDecided, IsFaultOf, IsTreeOfFile, OpenOutcome}
 use Rattle.tx_open.specs.Outcomes.{faulty_words, missing, too_long, no_tree, store_fault, no_memory, opened}
 use Rattle.tx_open.specs.Outcomes.{generated}
 
@@ -53,10 +53,10 @@ gone_long None e h = h
 gone_long (Some all) e h = cc
 
 module _ (told : Files) (word : List ℕ) where
-  held_once : (a b : List ℕ) → Holds (Some told) word a → Holds (Some told) word b → b ≡ a
+  held_once : (a b : List ℕ) → FileHolds (Some told) word a → FileHolds (Some told) word b → b ≡ a
   held_once a b h k = there_once (file_of told word) b a k.0 h.0
 
-  pub tree_once : (t u : WideTree) → IsTreeOf (Some told) word t → IsTreeOf (Some told) word u → t ≡ u
+  pub tree_once : (t u : WideTree) → IsTreeOfFile (Some told) word t → IsTreeOfFile (Some told) word u → t ≡ u
   tree_once t u h k =
       one_tree (form_of word) h.bytes t u h.spelled
       (subst (λ (bs : List ℕ). SpellsIn (form_of word) bs u) (held_once h.bytes k.bytes h.held k.held) k.spelled)
@@ -66,19 +66,19 @@ module _ (told : Files) (word : List ℕ) where
       one_fault (form_of word) h.bytes f g h.misspelled
       (subst (λ (bs : List ℕ). IsFaultIn (form_of word) bs g) (held_once h.bytes k.bytes h.held k.held) k.misspelled)
 
-  fault_or_tree : (f : ReadFault) (t : WideTree) → IsFaultOf (Some told) word f → IsTreeOf (Some told) word t → ⊥
+  fault_or_tree : (f : ReadFault) (t : WideTree) → IsFaultOf (Some told) word f → IsTreeOfFile (Some told) word t → ⊥
   fault_or_tree f t h k =
       no_fault (form_of word) h.bytes f t h.misspelled
       (subst (λ (bs : List ℕ). SpellsIn (form_of word) bs t) (held_once h.bytes k.bytes h.held k.held) k.spelled)
       k.within
 
   -- why opening ends at the file
-  pub data Cause (o : Outcome) : Type 0 where
+  pub data Cause (o : OpenOutcome) : Type 0 where
     lacks : o ≡ missing word → IsAbsent word told → Cause o
     too_much : o ≡ too_long word → IsTooLong word told → Cause o
     faulty : (fault : ReadFault) → o ≡ no_tree word fault → IsFaultOf (Some told) word fault → Cause o
 
-  pub cause_of : (o : Outcome) → EndsAt (Some told) word o → IsDecided o → Cause o
+  pub cause_of : (o : OpenOutcome) → EndsAt (Some told) word o → IsDecided o → Cause o
   cause_of (missing w) h d = lacks (ap missing h.0) h.1
   cause_of (too_long w) h d = too_much (ap too_long h.0) h.1
   cause_of (no_tree w fault) h d = faulty fault (ap (λ v. no_tree v fault) h.0) h.1
@@ -88,7 +88,7 @@ module _ (told : Files) (word : List ℕ) where
   cause_of (opened all) h d = absurd h
   cause_of (generated all) h d = absurd h
 
-  pub cause_once : (o p : Outcome) → Cause o → Cause p → o ≡ p
+  pub cause_once : (o p : OpenOutcome) → Cause o → Cause p → o ≡ p
   cause_once o p (lacks e h) (lacks i k) = e ∙ sym i
   cause_once o p (lacks e h) (too_much i k) = absurd (gone_long (file_of told word) h k)
   cause_once o p (lacks e h) (faulty g i k) =
@@ -104,7 +104,7 @@ module _ (told : Files) (word : List ℕ) where
   cause_once o p (faulty f e h) (faulty g i k) = e ∙ ap (no_tree word) (fault_once f g h k) ∙ sym i
 
   -- a file that is read ends nothing
-  pub read_on : (o : Outcome) (t : WideTree) → Cause o → IsTreeOf (Some told) word t → ⊥
+  pub read_on : (o : OpenOutcome) (t : WideTree) → Cause o → IsTreeOfFile (Some told) word t → ⊥
   read_on o t (lacks e h) k = let held = k.held in there_not (file_of told word) k.bytes held.0 h
   read_on o t (too_much e h) k = let held = k.held in there_short (file_of told word) k.bytes held.0 held.1 h
   read_on o t (faulty f e h) k = fault_or_tree f t h k

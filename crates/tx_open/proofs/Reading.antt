@@ -10,8 +10,8 @@ use Rattle.tx_doc.specs.declared.buffer.Buffer.{Buffer}
 use Rattle.tx_doc.specs.Buffers.{NamesDiffer}
 use Rattle.tx_words.specs.declared.asked.FileWord.{FileWord}
 use Rattle.tx_words.specs.Seen.{named_of}
-use Rattle.tx_words.specs.Words.{Named, NamesDiffer as WordsDiffer}
-use Rattle.tx_open.specs.Outcomes.{AreRead, EndsAt, EndsIn, IsReadAs, Outcome, nodes_in}
+use Rattle.tx_words.specs.Words.{Named, AreNamedApart}
+use Rattle.tx_open.specs.Outcomes.{AreRead, EndsAt, EndsIn, IsReadAs, OpenOutcome, nodes_in_buffers}
 
 -- one file more
 one_more : (files : Option Files) (names : List Named) (buffers : List Buffer) (file : Named) (buffer : Buffer)
@@ -34,7 +34,7 @@ module _ (files now : Option Files) (kept : now ≡ files) (all : List FileWord)
       (one_more files (map named_of (take i all)) buffers (named_of (get_or all i d)) buffer read own))
 
   -- opening ends at the file of this number
-  pub ends_there : (outcome : Outcome) → EndsAt now (get_or all i d).word.now outcome
+  pub ends_there : (outcome : OpenOutcome) → EndsAt now (get_or all i d).word.now outcome
       → EndsIn files (map named_of all) outcome
   ends_there outcome ends =
       record {
@@ -51,7 +51,7 @@ module _ (files now : Option Files) (kept : now ≡ files) (all : List FileWord)
 
 -- one buffer more
 pub nodes_more : (buffers : List Buffer) (buffer : Buffer) (later : List Buffer) → later ≡ buffers ++ buffer ∷ []
-    → nodes_in later ≡ nodes_in buffers + nodes_of buffer.tree
+    → nodes_in_buffers later ≡ nodes_in_buffers buffers + nodes_of buffer.tree
 nodes_more buffers buffer later pushed = rw pushed (sum_by_push (λ b. nodes_of b.tree) buffers buffer)
 
 -- as many buffers as files
@@ -74,7 +74,7 @@ own_name files name (f ∷ fs) (b ∷ bs) h a =
     ((λ e. a.0 (sym own.0 ∙ e)), own_name files name fs bs h.1 a.1)
 
 pub names_differ : (files : Option Files) (names : List Named) (buffers : List Buffer) → AreRead files names buffers
-    → WordsDiffer names → NamesDiffer buffers
+    → AreNamedApart names → NamesDiffer buffers
 names_differ files [] [] h a = tt
 names_differ files [] (b ∷ bs) h a = absurd h
 names_differ files (f ∷ fs) [] h a = absurd h

@@ -10,8 +10,8 @@ use Rattle.tx_words.specs.declared.asked.Source.TheVariants.{Files as AllFiles, 
 use Rattle.tx_words.specs.Words.{Ask, AreFaulty, Named}
 use Rattle.tx_open.specs.declared.opening.Opened.{Opened}
 use Rattle.tx_open.specs.Outcomes.{AreRead, ComesTo, EndsIn, EndsOf, IsDecided, IsGenerated, IsGeneratedAs, IsOpenedAs}
-use Rattle.tx_open.specs.Outcomes.{IsReadAs, Outcome, faulty_words, missing, too_long, no_tree, store_fault, no_memory}
-use Rattle.tx_open.specs.Outcomes.{opened, generated}
+use Rattle.tx_open.specs.Outcomes.{IsReadAs, OpenOutcome, faulty_words, missing, too_long, no_tree, store_fault}
+use Rattle.tx_open.specs.Outcomes.{no_memory, opened, generated}
 use Rattle.tx_open.proofs.Files.{Cause, cause_of, cause_once, read_on, tree_once}
 
 module _ (told : Files) where
@@ -33,7 +33,7 @@ module _ (told : Files) where
       ap₂ (λ (x : Buffer) (xs : List Buffer). x ∷ xs) (buffer_once f b c h.0 k.0) (read_once fs bs cs h.1 k.1)
 
   -- files that are read have no place at which it ends
-  read_all : (before behind : List Named) (file : Named) (bs : List Buffer) (o : Outcome)
+  read_all : (before behind : List Named) (file : Named) (bs : List Buffer) (o : OpenOutcome)
       → AreRead (Some told) (before ++ file ∷ behind) bs → Cause told file.word o → ⊥
   read_all [] behind file [] o h c = h
   read_all [] behind file (b ∷ bs) o h c = let own = h.0 in read_on told file.word o b.tree c own.1
@@ -41,11 +41,11 @@ module _ (told : Files) where
   read_all (f ∷ before) behind file (b ∷ bs) o h c = read_all before behind file bs o h.1 c
 
   -- it ends at the file that is read: it doesn't
-  other_file : (f g : Named) (b : Buffer) (o : Outcome) → f ≡ g → Cause told f.word o → IsReadAs (Some told) g b → ⊥
+  other_file : (f g : Named) (b : Buffer) (o : OpenOutcome) → f ≡ g → Cause told f.word o → IsReadAs (Some told) g b → ⊥
   other_file f g b o e c h = read_on told g.word o b.tree (subst (λ (x : Named). Cause told x.word o) e c) h.1
 
   -- there is one place at most
-  one_place : (before later behind beyond : List Named) (f g : Named) (bs cs : List Buffer) (o p : Outcome)
+  one_place : (before later behind beyond : List Named) (f g : Named) (bs cs : List Buffer) (o p : OpenOutcome)
       → before ++ f ∷ behind ≡ later ++ g ∷ beyond → AreRead (Some told) before bs → AreRead (Some told) later cs
       → Cause told f.word o → Cause told g.word p → o ≡ p
   one_place [] [] behind beyond f g bs cs o p e h k c d =
@@ -63,14 +63,14 @@ module _ (told : Files) where
       let rest : before ++ f ∷ behind ≡ later ++ g ∷ beyond = cc in
       one_place before later behind beyond f g bs cs o p rest h.1 k.1 c d
 
-  ends_once : (names others : List Named) (o p : Outcome) → names ≡ others → EndsIn (Some told) names o
+  ends_once : (names others : List Named) (o p : OpenOutcome) → names ≡ others → EndsIn (Some told) names o
       → EndsIn (Some told) others p → IsDecided o → IsDecided p → o ≡ p
   ends_once names others o p e h k d q =
       one_place h.before k.before h.behind k.behind h.file k.file h.buffers k.buffers o p
       (sym h.parts ∙ e ∙ k.parts) h.read k.read (cause_of told h.file.word o h.ends d)
       (cause_of told k.file.word p k.ends q)
 
-  pub ends_or_opens : (names others : List Named) (o : Outcome) (bs : List Buffer) → names ≡ others
+  pub ends_or_opens : (names others : List Named) (o : OpenOutcome) (bs : List Buffer) → names ≡ others
       → EndsIn (Some told) names o → IsDecided o → AreRead (Some told) others bs → ⊥
   ends_or_opens names others o bs e h d read =
       read_all h.before h.behind h.file bs o
@@ -102,13 +102,13 @@ same_buffer n c m d a b e f h k =
 
 module _ (told : Files) (words : List (List ℕ)) (asked_once : AskOnce words) where
   -- what a decided outcome comes from
-  data Came (o : Outcome) : Type 0 where
+  data Came (o : OpenOutcome) : Type 0 where
     by_words : o ≡ faulty_words → AreFaulty words → Came o
     at_end : (all : Opened) → o ≡ opened all → IsOpenedAs words (Some told) all → Came o
     at_once : (all : Opened) → o ≡ generated all → IsGeneratedAs words all → Came o
     at_file : IsDecided o → EndsOf words (Some told) o → Came o
 
-  came_of : (o : Outcome) → ComesTo words (Some told) o → IsDecided o → Came o
+  came_of : (o : OpenOutcome) → ComesTo words (Some told) o → IsDecided o → Came o
   came_of faulty_words h d = by_words refl h
   came_of (missing word) h d = at_file d h
   came_of (too_long word) h d = at_file d h
@@ -150,7 +150,7 @@ module _ (told : Files) (words : List (List ℕ)) (asked_once : AskOnce words) w
       let buffers : all.buffers ≡ other.buffers = h.alone ∙ ap (λ (b : Buffer). b ∷ []) one ∙ sym k.alone in
       λ i. record { width = asked.0 i; height = asked.1 i; buffers = buffers i }
 
-  came_once : (o p : Outcome) → Came o → Came p → o ≡ p
+  came_once : (o p : OpenOutcome) → Came o → Came p → o ≡ p
   came_once o p (by_words e h) (by_words i k) = e ∙ sym i
   came_once o p (by_words e h) (at_end all i k) = absurd (h all.width all.height (AllFiles k.names) k.asked)
   came_once o p (by_words e h) (at_once all i k) =
@@ -180,6 +180,6 @@ module _ (told : Files) (words : List (List ℕ)) (asked_once : AskOnce words) w
       let names = one_list h.width h.height k.width k.height h.names k.names h.asked k.asked in
       ends_once told h.names k.names o p names h.ends k.ends d q
 
-  pub one_outcome : (o p : Outcome) → ComesTo words (Some told) o → ComesTo words (Some told) p → IsDecided o
+  pub one_outcome : (o p : OpenOutcome) → ComesTo words (Some told) o → ComesTo words (Some told) p → IsDecided o
       → IsDecided p → o ≡ p
   one_outcome o p h k d e = came_once o p (came_of o h d) (came_of p k e)

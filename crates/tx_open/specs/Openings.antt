@@ -4,21 +4,21 @@ use Rattle.tx_open.specs.declared.failure.Failure.TheVariants as failures
 use Rattle.tx_open.specs.declared.opening.Opened.{Opened}
 use Rattle.tx_open.specs.declared.opening.Opening.{Opening}
 use Rattle.tx_open.specs.declared.opening.Opening.TheVariants as openings
-use Rattle.tx_open.specs.Outcomes.{Outcome, faulty_words, missing, too_long, no_tree, store_fault, no_memory, opened}
-use Rattle.tx_open.specs.Outcomes.{generated}
+use Rattle.tx_open.specs.Outcomes.{OpenOutcome, faulty_words, missing, too_long, no_tree, store_fault, no_memory}
+use Rattle.tx_open.specs.Outcomes.{opened, generated}
 
-abbrev pub outcome_of : Opening → Outcome
-outcome_of openings.FaultyWords = faulty_words
-outcome_of openings.UnreadWords = no_memory
-outcome_of (openings.Missing word) = missing word.now
-outcome_of (openings.TooLong word) = too_long word.now
-outcome_of (openings.NoTree word fault) = no_tree word.now fault
-outcome_of (openings.StoreFault word) = store_fault word.now
-outcome_of openings.NoMemory = no_memory
-outcome_of (openings.Opened all) = opened all
-outcome_of (openings.Generated all) = generated all
+abbrev pub open_outcome : Opening → OpenOutcome
+open_outcome openings.FaultyWords = faulty_words
+open_outcome openings.UnreadWords = no_memory
+open_outcome (openings.Missing word) = missing word.now
+open_outcome (openings.TooLong word) = too_long word.now
+open_outcome (openings.NoTree word fault) = no_tree word.now fault
+open_outcome (openings.StoreFault word) = store_fault word.now
+open_outcome openings.NoMemory = no_memory
+open_outcome (openings.Opened all) = opened all
+open_outcome (openings.Generated all) = generated all
 
-abbrev pub failed_as : Failure → Outcome
+abbrev pub failed_as : Failure → OpenOutcome
 failed_as (failures.Missing word) = missing word.now
 failed_as (failures.TooLong word) = too_long word.now
 failed_as (failures.NoTree word fault) = no_tree word.now fault

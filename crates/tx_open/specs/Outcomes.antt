@@ -17,15 +17,15 @@ use Rattle.tx_open.specs.Forms.{SpellsIn, IsFaultIn}
 use Rattle.tx_open.specs.declared.opening.Opened.{Opened}
 
 -- an outcome names a file by its word
-pub data Outcome : Type 0 where
-  faulty_words : Outcome
-  missing : (word : List ℕ) → Outcome
-  too_long : (word : List ℕ) → Outcome
-  no_tree : (word : List ℕ) → (fault : ReadFault) → Outcome
-  store_fault : (word : List ℕ) → Outcome
-  no_memory : Outcome
-  opened : (all : Opened) → Outcome
-  generated : (all : Opened) → Outcome
+pub data OpenOutcome : Type 0 where
+  faulty_words : OpenOutcome
+  missing : (word : List ℕ) → OpenOutcome
+  too_long : (word : List ℕ) → OpenOutcome
+  no_tree : (word : List ℕ) → (fault : ReadFault) → OpenOutcome
+  store_fault : (word : List ℕ) → OpenOutcome
+  no_memory : OpenOutcome
+  opened : (all : Opened) → OpenOutcome
+  generated : (all : Opened) → OpenOutcome
 
 -- the words ask for files
 abbrev pub AskForFiles : List (List ℕ) → Type 0
@@ -34,28 +34,28 @@ AskForFiles words = (width height : ℕ) × (names : List Named) × Ask words wi
 -- ---- one file
 
 -- the file has these bytes, as far as the files are known, and they are not too many
-abbrev pub Holds : Option Files → List ℕ → List ℕ → Type 0
-Holds files word bytes = IfSome files (λ all. file_of all word ≡ Some bytes) × (length bytes ≤ MOST_FILE)
+abbrev pub FileHolds : Option Files → List ℕ → List ℕ → Type 0
+FileHolds files word bytes = IfSome files (λ all. file_of all word ≡ Some bytes) × (length bytes ≤ MOST_FILE)
 
 -- the file's bytes spell this tree, in the form by the word, and within the limits
-pub record IsTreeOf (files : Option Files) (word : List ℕ) (tree : WideTree) : Type 0 where
+pub record IsTreeOfFile (files : Option Files) (word : List ℕ) (tree : WideTree) : Type 0 where
   pub bytes : List ℕ
-  pub held : Holds files word bytes
+  pub held : FileHolds files word bytes
   pub spelled : SpellsIn (form_of word) bytes tree
   pub within : IsWithinLimits tree
 
 -- the file's bytes spell none, and this is why
 pub record IsFaultOf (files : Option Files) (word : List ℕ) (fault : ReadFault) : Type 0 where
   pub bytes : List ℕ
-  pub held : Holds files word bytes
+  pub held : FileHolds files word bytes
   pub misspelled : IsFaultIn (form_of word) bytes fault
 
 -- the buffer has the name of the file and its tree
 abbrev pub IsReadAs : Option Files → Named → Buffer → Type 0
-IsReadAs files file buffer = (buffer.name ≡ file.name) × IsTreeOf files file.word buffer.tree
+IsReadAs files file buffer = (buffer.name ≡ file.name) × IsTreeOfFile files file.word buffer.tree
 
 -- Opening ends at the file of this word. A fault of the store and want of memory may come at each.
-abbrev pub EndsAt : Option Files → List ℕ → Outcome → Type 0
+abbrev pub EndsAt : Option Files → List ℕ → OpenOutcome → Type 0
 EndsAt files file (missing word) = (word ≡ file) × IfSome files (IsAbsent file)
 EndsAt files file (too_long word) = (word ≡ file) × IfSome files (IsTooLong file)
 EndsAt files file (no_tree word fault) = (word ≡ file) × IsFaultOf files file fault
@@ -72,11 +72,11 @@ AreRead files (file ∷ others) (buffer ∷ buffers) = IsReadAs files file buffe
 AreRead files _ _ = ⊥
 
 -- the nodes of the trees of buffers, leaves left out
-abbrev pub nodes_in : List Buffer → ℕ
-nodes_in buffers = sum_by (λ buffer. nodes_of buffer.tree) buffers
+abbrev pub nodes_in_buffers : List Buffer → ℕ
+nodes_in_buffers buffers = sum_by (λ buffer. nodes_of buffer.tree) buffers
 
 -- one of the files ends it with this outcome, and those before it are read
-pub record EndsIn (files : Option Files) (names : List Named) (outcome : Outcome) : Type 0 where
+pub record EndsIn (files : Option Files) (names : List Named) (outcome : OpenOutcome) : Type 0 where
   pub before : List Named
   pub buffers : List Buffer
   pub file : Named
@@ -86,7 +86,7 @@ pub record EndsIn (files : Option Files) (names : List Named) (outcome : Outcome
   pub ends : EndsAt files file.word outcome
 
 -- the files that the words ask for end it with this outcome
-pub record EndsOf (words : List (List ℕ)) (files : Option Files) (outcome : Outcome) : Type 0 where
+pub record EndsOf (words : List (List ℕ)) (files : Option Files) (outcome : OpenOutcome) : Type 0 where
   pub width : ℕ
   pub height : ℕ
   pub names : List Named
@@ -114,7 +114,7 @@ pub record IsGeneratedAs (words : List (List ℕ)) (all : Opened) : Type 0 where
 
 -- What the words and the files come to: the first file that isn't read decides. Memory may run out at any time, also
 -- while the words are read.
-abbrev pub ComesTo : List (List ℕ) → Option Files → Outcome → Type 0
+abbrev pub ComesTo : List (List ℕ) → Option Files → OpenOutcome → Type 0
 ComesTo words files faulty_words = AreFaulty words
 ComesTo words files no_memory = Unit {0}
 ComesTo words files (opened all) = IsOpenedAs words files all
@@ -122,13 +122,13 @@ ComesTo words files (generated all) = IsGeneratedAs words all
 ComesTo words files ended = EndsOf words files ended
 
 -- neither a fault of the store nor want of memory
-abbrev pub IsDecided : Outcome → Type 0
+abbrev pub IsDecided : OpenOutcome → Type 0
 IsDecided (store_fault word) = ⊥
 IsDecided no_memory = ⊥
 IsDecided _ = Unit {0}
 
 -- an outcome that blames the store comes only where its count rose
-abbrev pub IsCaused : (before after : StoreSeen) → Outcome → Type 0
+abbrev pub IsCaused : (before after : StoreSeen) → OpenOutcome → Type 0
 IsCaused before after (missing word) = Rose before.misses after.misses
 IsCaused before after (too_long word) = Rose before.longs after.longs
 IsCaused before after (store_fault word) = Rose before.faults after.faults

@@ -6,7 +6,7 @@ ghost use Rattle.tx_tree.specs.WideTree.{nodes_of};
 ghost use Rattle.tx_words.specs.Seen.{named_of};
 ghost use Rattle.tx_open.specs.Forms.{SpellsIn, IsFaultIn};
 ghost use Rattle.tx_open.specs.Openings.{failed_as};
-ghost use Rattle.tx_open.specs.Outcomes.{EndsAt, IsCaused, IsReadAs, IsTreeOf};
+ghost use Rattle.tx_open.specs.Outcomes.{EndsAt, IsCaused, IsReadAs, IsTreeOfFile};
 
 use crate::failure::Failure;
 use std::alloc::Global;
@@ -42,7 +42,7 @@ fn read_tree<'a, S: Store, L: Ledger>(
     store: &mut S,
     steps: &mut Steps<L>,
 ) -> Result<Tree, Failure<'a>>
-    ensures tree { IfOk result (λ t. IsTreeOf (S.seen store.old).files word.entry.now t) }
+    ensures tree { IfOk result (λ t. IsTreeOfFile (S.seen store.old).files word.entry.now t) }
     ensures failed { IfErr result (λ failure. EndsAt (S.seen store.old).files word.entry.now (failed_as failure)) }
     ensures caused { IfErr result (λ failure. IsCaused (S.seen store.old) (S.seen store.new) (failed_as failure)) }
     ensures counted { IfOk result (λ t. steps.new ≤ steps.old + nodes_of t) }

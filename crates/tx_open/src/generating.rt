@@ -3,7 +3,7 @@ ghost use Rattle.std.specs.Prelude.{◌≡◌, ◌<◌, ◌≤◌, ◌+◌, ◌^
 ghost use Rattle.tx_tree.specs.WideTree.{nodes_of};
 ghost use Rattle.tx_tm_form.specs.Forms.{Spells};
 ghost use Rattle.tx_generated.specs.Document.{document_text};
-ghost use Rattle.tx_open.specs.Outcomes.{IsGenerated, nodes_in};
+ghost use Rattle.tx_open.specs.Outcomes.{IsGenerated, nodes_in_buffers};
 ghost use Rattle.tx_doc.specs.declared.buffer.Buffer.{Buffer as SomeBuffer};
 
 use crate::buffers::Buffers;
@@ -56,7 +56,7 @@ pub(crate) fn generated_buffer<L: Ledger>(
     requires few { count ≤ 60000 }
     ensures made { IfOk result
         (λ buffers. (buffer : SomeBuffer) × (buffers ≡ buffer ∷ []) × IsGenerated number count buffer) }
-    ensures counted { IfOk result (λ buffers. steps.new ≤ steps.old + nodes_in buffers) }
+    ensures counted { IfOk result (λ buffers. steps.new ≤ steps.old + nodes_in_buffers buffers) }
 {
     let name = Vec::from_slice(alloc, b"gen")?;
     let tree = tree(alloc, number, count, steps)?;

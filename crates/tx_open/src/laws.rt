@@ -1,13 +1,13 @@
 // What holds of all words and files.
 ghost use Rattle.std.specs.Prelude.{◌≡◌, ℕ, List, Some};
 ghost use Rattle.tx_outside.specs.Files.{Files};
-ghost use Rattle.tx_open.specs.Outcomes.{ComesTo, IsDecided, Outcome};
+ghost use Rattle.tx_open.specs.Outcomes.{ComesTo, IsDecided, OpenOutcome};
 
 use tx_words::one_asking;
 
 /// A law: words and files come to one outcome, faults of the store and want of memory aside.
 pub fn one_outcome()
-    ensures { (words : List (List ℕ)) (told : Files) (o p : Outcome) → ComesTo words (Some told) o
+    ensures { (words : List (List ℕ)) (told : Files) (o p : OpenOutcome) → ComesTo words (Some told) o
         → ComesTo words (Some told) p → IsDecided o → IsDecided p → o ≡ p }
 {
     one_asking();

@@ -8,9 +8,9 @@ ghost use Rattle.tx_doc.specs.declared.buffer.Buffer.{Buffer as SomeBuffer};
 ghost use Rattle.tx_words.specs.Seen.{named_of};
 ghost use Rattle.tx_words.specs.declared.asked.Source.{Source as SomeSource};
 ghost use Rattle.tx_words.specs.Words.{Ask, AreFaulty};
-ghost use Rattle.tx_open.specs.Openings.{IfOpened, failed_as, outcome_of};
+ghost use Rattle.tx_open.specs.Openings.{IfOpened, failed_as, open_outcome};
 ghost use Rattle.tx_open.specs.Outcomes.{AreRead, AskForFiles, CanBeOpened, ComesTo, EndsIn, IsCaused, IsGenerated};
-ghost use Rattle.tx_open.specs.Outcomes.{missing, no_memory, nodes_in, opened, store_fault, too_long};
+ghost use Rattle.tx_open.specs.Outcomes.{missing, no_memory, nodes_in_buffers, opened, store_fault, too_long};
 ghost use Rattle.tx_open.specs.declared.opening.Opened.{Opened as WasOpened};
 
 use crate::buffers::Buffers;
@@ -61,10 +61,10 @@ pub enum Opening<'a> {
 
 impl<'a> From<Failure<'a>> for Opening<'a> {
     ghost use Rattle.std.specs.Prelude.{◌≡◌, ◌≢◌};
-    ghost use Rattle.tx_open.specs.Openings.{failed_as, outcome_of};
+    ghost use Rattle.tx_open.specs.Openings.{failed_as, open_outcome};
     ghost use Rattle.tx_open.specs.declared.opening.Opening.TheVariants.{UnreadWords};
 
-    ghost from_gives = { λ failure opening. (outcome_of opening ≡ failed_as failure) × (opening ≢ UnreadWords) };
+    ghost from_gives = { λ failure opening. (open_outcome opening ≡ failed_as failure) × (opening ≢ UnreadWords) };
 
     fn from(failure: Failure<'a>) -> Opening<'a> {
         match failure {
@@ -90,7 +90,7 @@ fn add_files<'a, S: Store, L: Ledger>(
     ensures failed { IfErr result
         (λ failure. EndsIn (S.seen store.old).files (map named_of files.now) (failed_as failure)) }
     ensures caused { IfErr result (λ failure. IsCaused (S.seen store.old) (S.seen store.new) (failed_as failure)) }
-    ensures counted { OnOk result (steps.new ≤ steps.old + nodes_in buffers.new.items) }
+    ensures counted { OnOk result (steps.new ≤ steps.old + nodes_in_buffers buffers.new.items) }
     ensures files_kept { (S.seen store.new).files ≡ (S.seen store.old).files }
     ensures store_goes_on { StoreGoesOn (S.seen store.old) (S.seen store.new) }
 {
@@ -113,7 +113,7 @@ fn read_files<'a, S: Store, L: Ledger>(
     ensures read { IfOk result (λ all. AreRead (S.seen store.old).files files.now all.buffers) }
     ensures failed { IfErr result (λ failure. EndsIn (S.seen store.old).files files.now (failed_as failure)) }
     ensures caused { IfErr result (λ failure. IsCaused (S.seen store.old) (S.seen store.new) (failed_as failure)) }
-    ensures counted { IfOk result (λ all. steps.new ≤ steps.old + nodes_in all.buffers) }
+    ensures counted { IfOk result (λ all. steps.new ≤ steps.old + nodes_in_buffers all.buffers) }
     ensures files_kept { (S.seen store.new).files ≡ (S.seen store.old).files }
     ensures store_goes_on { StoreGoesOn (S.seen store.old) (S.seen store.new) }
 {
@@ -141,7 +141,7 @@ fn generate<L: Ledger>(
     ensures size { IfOk result (λ all. (all.width ≡ width) × (all.height ≡ height)) }
     ensures made { IfOk result
         (λ all. (buffer : SomeBuffer) × (all.buffers ≡ buffer ∷ []) × IsGenerated number count buffer) }
-    ensures counted { IfOk result (λ all. steps.new ≤ steps.old + nodes_in all.buffers) }
+    ensures counted { IfOk result (λ all. steps.new ≤ steps.old + nodes_in_buffers all.buffers) }
 {
     Ok(Opened {
         width,
@@ -166,26 +166,26 @@ pub fn open<'a, S: Store, L: Ledger>(
     store: &mut S,
     steps: &mut Steps<L>,
 ) -> Opening<'a>
-    ensures comes { ComesTo (map string_bytes words.now) (S.seen store.old).files (outcome_of result) }
+    ensures comes { ComesTo (map string_bytes words.now) (S.seen store.old).files (open_outcome result) }
     ensures complete { CanBeOpened (map string_bytes words.now) (S.seen store.old).files
         → StoreIsFaultless (S.seen store.old) (S.seen store.new)
-        → (outcome_of result ≡ no_memory) ⊎ ((all : WasOpened) × (result ≡ Opening.Opened all)) }
+        → (open_outcome result ≡ no_memory) ⊎ ((all : WasOpened) × (result ≡ Opening.Opened all)) }
 
     // A generated document needs memory alone.
     ensures generated { (width height number count : ℕ)
         → Ask (map string_bytes words.now) width height (Source.Generated number count)
-        → (outcome_of result ≡ no_memory) ⊎ ((all : WasOpened) × (result ≡ Opening.Generated all)) }
+        → (open_outcome result ≡ no_memory) ⊎ ((all : WasOpened) × (result ≡ Opening.Generated all)) }
 
     // It says whether memory ran out while the words were read or afterwards.
     ensures words_read { result ≡ Opening.NoMemory
         → (width height : ℕ) × (source : SomeSource) × Ask (map string_bytes words.now) width height source }
 
     // Where the store is blamed, its count rose.
-    ensures missing_counted { (word : List ℕ) → outcome_of result ≡ missing word
+    ensures missing_counted { (word : List ℕ) → open_outcome result ≡ missing word
         → Rose (S.seen store.old).misses (S.seen store.new).misses }
-    ensures fault_counted { (word : List ℕ) → outcome_of result ≡ store_fault word
+    ensures fault_counted { (word : List ℕ) → open_outcome result ≡ store_fault word
         → Rose (S.seen store.old).faults (S.seen store.new).faults }
-    ensures long_counted { (word : List ℕ) → outcome_of result ≡ too_long word
+    ensures long_counted { (word : List ℕ) → open_outcome result ≡ too_long word
         → Rose (S.seen store.old).longs (S.seen store.new).longs }
 
     // What was opened is what a session begins with.
@@ -193,7 +193,7 @@ pub fn open<'a, S: Store, L: Ledger>(
     ensures height { IfOpened result (λ all. (5 ≤ all.height) × (all.height ≤ 500)) }
     ensures number { IfOpened result (λ all. (1 ≤ length all.buffers) × (length all.buffers ≤ 16)) }
     ensures names { IfOpened result (λ all. NamesDiffer all.buffers) }
-    ensures counted { IfOpened result (λ all. steps.new ≤ steps.old + nodes_in all.buffers) }
+    ensures counted { IfOpened result (λ all. steps.new ≤ steps.old + nodes_in_buffers all.buffers) }
 
     // What is as before, and what never falls.
     ensures untouched { AreFaulty (map string_bytes words.now) → (store.new ≡ store.old) × (steps.new ≡ steps.old) }

@@ -13,11 +13,11 @@ use Rattle.tx_outside.proofs.Parts.{cut_before, cut_behind}
 use Rattle.tx_outside.proofs.Pieces.{append_known-nil, append_known-then}
 use Rattle.tx_print.specs.declared.printer.Printer.{Printer}
 use Rattle.tx_print.specs.Writing.{IsPrinted}
-use Rattle.tx_print.specs.Printers.{Holds, Stands, Adds, Ends}
+use Rattle.tx_print.specs.Printers.{PrinterHolds, PrinterStands, PrinterAdds, Ends}
 
 -- two pieces in turn are one piece
-pub adds_then : {a b : List ℕ} {p q r : Printer} {x y z : SinkSeen} → Adds a p x q y → Adds b q y r z
-    → Adds (a ++ b) p x r z
+pub adds_then : {a b : List ℕ} {p q r : Printer} {x y z : SinkSeen} → PrinterAdds a p x q y → PrinterAdds b q y r z
+    → PrinterAdds (a ++ b) p x r z
 adds_then {a} {b} {p} {q} {r} {x} {y} {z} first second =
     record {
       given = λ start front stands.
@@ -25,12 +25,12 @@ adds_then {a} {b} {p} {q} {r} {x} {y} {z} first second =
     }
 
 -- nothing was given
-pub adds_nothing : {p : Printer} {x : SinkSeen} → Adds [] p x p x
+pub adds_nothing : {p : Printer} {x : SinkSeen} → PrinterAdds [] p x p x
 adds_nothing {p} {x} = record { given = λ start front stands. rw (append-nil front) stands }
 
 -- the same piece in other words
-pub adds_also : {a b : List ℕ} {p q : Printer} {x y : SinkSeen} → a ≡ b → Adds a p x q y → Adds b p x q y
-adds_also {a} {b} {p} {q} {x} {y} e adds = subst (λ (c : List ℕ). Adds c p x q y) e adds
+pub adds_also : {a b : List ℕ} {p q : Printer} {x y : SinkSeen} → a ≡ b → PrinterAdds a p x q y → PrinterAdds b p x q y
+adds_also {a} {b} {p} {q} {x} {y} e adds = subst (λ (c : List ℕ). PrinterAdds c p x q y) e adds
 
 -- what a failed call left
 pub if_err : {A E P : Type 0} (r : Result A E) → is_err r ≡ true → OnErr r P → P
@@ -38,7 +38,7 @@ if_err (Ok x) failed left = cc
 if_err (Err e) failed left = left
 
 -- a new printer
-pub stands_new : (p : Printer) (x : SinkSeen) → p.waiting.items ≡ [] → p.failed ≡ false → Stands x [] p x
+pub stands_new : (p : Printer) (x : SinkSeen) → p.waiting.items ≡ [] → p.failed ≡ false → PrinterStands x [] p x
 stands_new p x none fine =
     record {
       holds = rw fine ([], sym (append_known-nil x.written), sym none);
@@ -51,10 +51,10 @@ stands_new p x none fine =
 
 -- once the sink has failed, nothing is written
 pub adds_failed : {p q : Printer} (piece : List ℕ) (x : SinkSeen) → p.failed ≡ true → q.failed ≡ true
-    → Adds piece p x q x
+    → PrinterAdds piece p x q x
 adds_failed {p} {q} piece x before after =
     record {
-      given = λ start front stands. let held : Holds true front p.waiting.items start.written x.written =
+      given = λ start front stands. let held : PrinterHolds true front p.waiting.items start.written x.written =
           rw before at stands.holds in
           record {
             holds = rw after (cut_before front piece start.written x.written held);
@@ -65,10 +65,10 @@ adds_failed {p} {q} piece x before after =
 
 -- a piece waits behind the others
 pub adds_waiting : {p q : Printer} (piece : List ℕ) (x : SinkSeen) → p.failed ≡ false → q.failed ≡ false
-    → q.waiting.items ≡ p.waiting.items ++ piece → Adds piece p x q x
+    → q.waiting.items ≡ p.waiting.items ++ piece → PrinterAdds piece p x q x
 adds_waiting {p} {q} piece x before after waits =
     record {
-      given = λ start front stands. let held : Holds false front p.waiting.items start.written x.written =
+      given = λ start front stands. let held : PrinterHolds false front p.waiting.items start.written x.written =
           rw before at stands.holds in
           record {
             holds = rw after (
@@ -88,10 +88,10 @@ adds_waiting {p} {q} piece x before after waits =
 -- what waited is written, and then a piece
 pub adds_written : {p q : Printer} (piece : List ℕ) (x y : SinkSeen) → p.failed ≡ false → q.failed ≡ false
     → q.waiting.items ≡ [] → y.written ≡ append_known x.written (p.waiting.items ++ piece) → SinkGoesOn x y
-    → Adds piece p x q y
+    → PrinterAdds piece p x q y
 adds_written {p} {q} piece x y before after none again on =
     record {
-      given = λ start front stands. let held : Holds false front p.waiting.items start.written x.written =
+      given = λ start front stands. let held : PrinterHolds false front p.waiting.items start.written x.written =
           rw before at stands.holds in
           let sent = held.0 ++ (p.waiting.items ++ piece) in
           record {
@@ -112,10 +112,10 @@ adds_written {p} {q} piece x y before after none again on =
 -- a part of what waited and of a piece is written
 pub adds_broken : {p q : Printer} (piece : List ℕ) (x y : SinkSeen) → p.failed ≡ false → q.failed ≡ true
     → AppendsPart (p.waiting.items ++ piece) x.written y.written → Rose x.faults y.faults → SinkGoesOn x y
-    → Adds piece p x q y
+    → PrinterAdds piece p x q y
 adds_broken {p} {q} piece x y before after part rise on =
     record {
-      given = λ start front stands. let held : Holds false front p.waiting.items start.written x.written =
+      given = λ start front stands. let held : PrinterHolds false front p.waiting.items start.written x.written =
           rw before at stands.holds in
           let whole = ap (λ t. t ++ piece) held.2 ∙ append_assoc held.0 p.waiting.items piece in
           let cut = cut_behind held.0 (p.waiting.items ++ piece) start.written x.written y.written held.1 part in
@@ -127,12 +127,12 @@ adds_broken {p} {q} piece x y before after part rise on =
     }
 
 -- all is written
-pub ends_well : {p q : Printer} (x y : SinkSeen) → Adds [] p x q y → q.failed ≡ false → q.waiting.items ≡ []
+pub ends_well : {p q : Printer} (x y : SinkSeen) → PrinterAdds [] p x q y → q.failed ≡ false → q.waiting.items ≡ []
     → Ends (Ok tt) p x y
 ends_well {p} {q} x y adds fine none =
     record {
-      all = λ start text stands. let s : Stands start (text ++ []) q y = adds.given start text stands in
-          let held : Holds false (text ++ []) q.waiting.items start.written y.written = rw fine at s.holds in
+      all = λ start text stands. let s : PrinterStands start (text ++ []) q y = adds.given start text stands in
+          let held : PrinterHolds false (text ++ []) q.waiting.items start.written y.written = rw fine at s.holds in
           record {
             is_written = held.1 ∙ ap (append_known start.written)
                 (sym (append-nil held.0) ∙ ap (λ t. held.0 ++ t) (sym none) ∙ sym held.2 ∙ append-nil text);
@@ -142,17 +142,17 @@ ends_well {p} {q} x y adds fine none =
     }
 
 -- the sink has failed
-pub ends_badly : {p q : Printer} (fault : WriteFault) (x y : SinkSeen) → Adds [] p x q y → q.failed ≡ true
+pub ends_badly : {p q : Printer} (fault : WriteFault) (x y : SinkSeen) → PrinterAdds [] p x q y → q.failed ≡ true
     → Ends (Err fault) p x y
 ends_badly {p} {q} fault x y adds failed =
     record {
-      all = λ start text stands. let s : Stands start (text ++ []) q y = adds.given start text stands in
-          let held : Holds true (text ++ []) q.waiting.items start.written y.written = rw failed at s.holds in
+      all = λ start text stands. let s : PrinterStands start (text ++ []) q y = adds.given start text stands in
+          let held : PrinterHolds true (text ++ []) q.waiting.items start.written y.written = rw failed at s.holds in
           record { is_written = rw (append-nil text) at held; counted = s.rose failed; goes_on = s.goes_on };
     }
 
 -- a text that a new printer was given is printed
 pub printed : {text : List ℕ} {p q : Printer} {x y z : SinkSeen} {result : Result (Unit {0}) WriteFault}
-    → p.waiting.items ≡ [] → p.failed ≡ false → Adds text p x q y → Ends result q y z → IsPrinted result text x z
+    → p.waiting.items ≡ [] → p.failed ≡ false → PrinterAdds text p x q y → Ends result q y z → IsPrinted result text x z
 printed {text} {p} {q} {x} {y} {z} {result} none fine adds ends =
     ends.all x text (adds.given x [] (stands_new p x none fine))

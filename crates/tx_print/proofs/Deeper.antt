@@ -7,10 +7,10 @@ use Rattle.tx_items.specs.declared.drawing.Item.TheVariants.{Glyph, Space, Gap, 
 use Rattle.tx_layout.specs.declared.layout.Line.{Line}
 use Rattle.tx_part_items.specs.ItemsUnder.{item_under}
 use Rattle.tx_part_layout.specs.LinesUnder.{line_under}
-use Rattle.tx_print.specs.Lines.{line, spaces, printed, line_text}
-use Rattle.tx_print.specs.Runs.{CellLook, Run, item_looks, looks_on, runs_from, run_text, runs_or}
+use Rattle.tx_print.specs.Lines.{line, spaces, printed_item, line_text}
+use Rattle.tx_print.specs.Runs.{CellLook, item_looks, looks_on, runs_from, run_text, runs_or}
 
-printed_under : (base : List ℕ) (x : Item) → printed (item_under base x) ≡ printed x
+printed_under : (base : List ℕ) (x : Item) → printed_item (item_under base x) ≡ printed_item x
 printed_under base (Glyph d) = refl
 printed_under base (Space d) = refl
 printed_under base (Gap n) = refl
@@ -34,7 +34,7 @@ flat_under f base h (x ∷ xs) =
     ap (λ ys. ys ++ flat_map f (map (item_under base) xs)) (h x) ∙ ap (λ ys. f x ++ ys) (flat_under f base h xs)
 
 pub text_under : (base : List ℕ) (l : Line) → line_text (line_under base l) ≡ line_text l
-text_under base l = ap (λ t. line (spaces l.indent ++ t)) (flat_under printed base (printed_under base) l.items)
+text_under base l = ap (λ t. line (spaces l.indent ++ t)) (flat_under printed_item base (printed_under base) l.items)
 
 pub runs_under : (base : List ℕ) (l : Line) (otherwise : List ℕ)
     → runs_or otherwise (Some (line_under base l)) ≡ runs_or otherwise (Some l)

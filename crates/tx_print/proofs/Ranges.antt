@@ -4,7 +4,7 @@ use Rattle.std.proofs.Common.{get_or, refl, sym, ap, ◌∙◌, arith, length-dr
 use Rattle.std.specs.Prelude.{Option, Some, None, slice_get, slice_range}
 use Rattle.std.specs.List.{flat_map}
 use Rattle.std.proofs.lemmas.List.{append-nil, flat_map_more, take_more, take_all, get_or-drop}
-use Rattle.tx_print.specs.Printers.{text_in}
+use Rattle.tx_print.specs.Printers.{element_text}
 use Rattle.std.proofs.lemmas.Option.{slice_get_within, get_or_from_slice_get}
 
 -- one element more at the end of a front
@@ -59,20 +59,21 @@ range_past xs i j n le lt e =
 -- ---- their texts
 
 pub take_text : {X : Type 0} (f : X → List ℕ) (xs : List X) (k : ℕ)
-    → flat_map f (take k xs) ++ text_in f (slice_get xs k) ≡ flat_map f (take (k + 1) xs)
+    → flat_map f (take k xs) ++ element_text f (slice_get xs k) ≡ flat_map f (take (k + 1) xs)
 take_text {X} f xs k = by_case (slice_get xs k) refl
   where
-    by_case : (o : Option X) → slice_get xs k ≡ o → flat_map f (take k xs) ++ text_in f o ≡ flat_map f (take (k + 1) xs)
+    by_case : (o : Option X) → slice_get xs k ≡ o
+        → flat_map f (take k xs) ++ element_text f o ≡ flat_map f (take (k + 1) xs)
     by_case None e = append-nil (flat_map f (take k xs)) ∙ ap (flat_map f) (sym (take_none xs k e))
     by_case (Some x) e = flat_map_more f [] (take k xs) x ∙ ap (flat_map f) (sym (take_get xs k x e))
 
 pub range_text : {X : Type 0} (f : X → List ℕ) (xs : List X) (i j n : ℕ) → i ≤ j → j < n
-    → flat_map f (slice_range xs i (min j n)) ++ text_in f (slice_get xs j)
+    → flat_map f (slice_range xs i (min j n)) ++ element_text f (slice_get xs j)
     ≡ flat_map f (slice_range xs i (min (j + 1) n))
 range_text {X} f xs i j n le lt = by_case (slice_get xs j) refl le lt
   where
     by_case : (o : Option X) → slice_get xs j ≡ o → i ≤ j → j < n
-        → flat_map f (slice_range xs i (min j n)) ++ text_in f o ≡ flat_map f (slice_range xs i (min (j + 1) n))
+        → flat_map f (slice_range xs i (min j n)) ++ element_text f o ≡ flat_map f (slice_range xs i (min (j + 1) n))
     by_case None e le lt =
         append-nil (flat_map f (slice_range xs i (min j n))) ∙ ap (flat_map f) (sym (range_past xs i j n le lt e))
     by_case (Some x) e le lt =

@@ -11,12 +11,12 @@ use Rattle.std.specs.Str.{bytes_eq}
 use Rattle.tx_items.specs.declared.drawing.Item.{Item}
 use Rattle.tx_layout.specs.Words.{item_cells}
 use Rattle.tx_view_form.specs.Cells.{drawn_in}
-use Rattle.tx_print.specs.Runs.{CellLook, Run, item_looks, look_in, same_look, run_before, runs_from}
+use Rattle.tx_print.specs.Runs.{CellLook, CellRun, item_looks, look_in, same_look, cell_before, runs_from}
 use Rattle.tx_print.specs.Runs.{run_text}
-use Rattle.tx_print.specs.Begun.{OpenRun, is_like, opened, goes_on, ended, runs_behind}
+use Rattle.tx_print.specs.Begun.{OpenRun, is_like, run_begun, run_going_on, runs_ended, runs_behind}
 use Rattle.tx_outside.specs.Outside.{SinkSeen}
 use Rattle.tx_print.specs.declared.printer.Printer.{Printer}
-use Rattle.tx_print.specs.Printers.{Adds}
+use Rattle.tx_print.specs.Printers.{PrinterAdds}
 use Rattle.tx_print.proofs.Adding.{adds_then, adds_also, adds_nothing}
 
 same_refl : (x : CellLook) → same_look x x ≡ true
@@ -29,7 +29,7 @@ same_refl x =
 abbrev look_with : List ℕ → List ℕ → List ℕ → CellLook
 look_with series shape color = record { series = series; shape = shape; color = color }
 
-abbrev run_with : ℕ → ℕ → CellLook → Run
+abbrev run_with : ℕ → ℕ → CellLook → CellRun
 run_with from to look = record { from = from; to = to; look = look }
 
 -- cells that look the same to the test are the same
@@ -48,30 +48,30 @@ same_is x y e =
     by_parts false b c e f g h = cc
 
 -- the first run can't be one with a cell that looks so before it
-abbrev Apart : ℕ → CellLook → List Run → Type 0
+abbrev Apart : ℕ → CellLook → List CellRun → Type 0
 Apart at look [] = Unit {0}
 Apart at look (r ∷ rs) = ((r.from == at + 1) && same_look look r.look) ≡ false
 
-apart_before : (at : ℕ) (look : CellLook) (rs : List Run) → Apart at look rs
-    → run_before at look rs ≡ run_with at (at + 1) look ∷ rs
+apart_before : (at : ℕ) (look : CellLook) (rs : List CellRun) → Apart at look rs
+    → cell_before at look rs ≡ run_with at (at + 1) look ∷ rs
 apart_before at look [] h = refl
 apart_before at look (r ∷ rs) h = rw h
 
-joined_before : (at to : ℕ) (look : CellLook) (rs : List Run)
-    → run_before at look (run_with (at + 1) to look ∷ rs)
+joined_before : (at to : ℕ) (look : CellLook) (rs : List CellRun)
+    → cell_before at look (run_with (at + 1) to look ∷ rs)
     ≡ run_with at to look ∷ rs
 joined_before at to look rs = rw ((Decides-eqb (at + 1) (at + 1)).1 refl, same_refl look)
 
 -- no run begins before the first cell
-abbrev Begins : ℕ → List Run → Type 0
+abbrev Begins : ℕ → List CellRun → Type 0
 Begins at [] = Unit {0}
 Begins at (r ∷ rs) = at ≤ r.from
 
-begins_earlier : (at : ℕ) (rs : List Run) → Begins (at + 1) rs → Begins at rs
+begins_earlier : (at : ℕ) (rs : List CellRun) → Begins (at + 1) rs → Begins at rs
 begins_earlier at [] h = tt
 begins_earlier at (r ∷ rs) h = omega arith
 
-begins_here : (at : ℕ) (look : CellLook) (rs : List Run) → Begins at (run_before at look rs)
+begins_here : (at : ℕ) (look : CellLook) (rs : List CellRun) → Begins at (cell_before at look rs)
 begins_here at look [] = omega arith
 begins_here at look (r ∷ rs) = by_test ((r.from == at + 1) && same_look look r.look)
   where
@@ -92,12 +92,12 @@ Unlike look [] = Unit {0}
 Unlike look (None ∷ cells) = Unit {0}
 Unlike look (Some other ∷ cells) = same_look look other ≡ false
 
-later_apart : (at : ℕ) (look : CellLook) (rs : List Run) → Begins (at + 1 + 1) rs → Apart at look rs
+later_apart : (at : ℕ) (look : CellLook) (rs : List CellRun) → Begins (at + 1 + 1) rs → Apart at look rs
 later_apart at look [] h = tt
 later_apart at look (r ∷ rs) h = let e : (r.from == at + 1) ≡ false = grind arith in rw e
 
-unlike_here : (at : ℕ) (look other : CellLook) (rs : List Run) → same_look look other ≡ false
-    → Apart at look (run_before (at + 1) other rs)
+unlike_here : (at : ℕ) (look other : CellLook) (rs : List CellRun) → same_look look other ≡ false
+    → Apart at look (cell_before (at + 1) other rs)
 unlike_here at look other [] h = unlike (at + 1 == at + 1)
   where
     unlike : (b : Bool) → (b && same_look look other) ≡ false
@@ -128,7 +128,7 @@ longest : (n at : ℕ) (look : CellLook) (cells : List (Option CellLook)) → Un
 longest zero at look cells h = apart_before at look (runs_from (at + 1) cells) (unlike_apart at look cells h)
 longest (suc n) at look cells h =
     let e : at + 1 + suc n ≡ at + suc (suc n) = omega arith in
-    ap (run_before at look) (longest n (at + 1) look cells h)
+    ap (cell_before at look) (longest n (at + 1) look cells h)
     ∙ joined_before at (at + 1 + suc n) look (runs_from (at + 1 + suc n) cells)
     ∙ ap (λ k. run_with at k look ∷ runs_from k cells) e
 
@@ -147,7 +147,7 @@ IsOpen (Some run) at = run.from < at
 
 -- some cells more behind none that have begun a run
 opens : (look : Option CellLook) (at n : ℕ) (rest : List (Option CellLook))
-    → runs_from at (replicate n look ++ rest) ≡ runs_behind (opened look at) (at + n) rest
+    → runs_from at (replicate n look ++ rest) ≡ runs_behind (run_begun look at) (at + n) rest
 opens None at n rest = blanks n at rest
 opens (Some look) at n rest =
     let e : n ≡ at + n - at = omega arith in ap (λ k. runs_from at (replicate k (Some look) ++ rest)) e
@@ -176,7 +176,7 @@ like_is (Some look) own h = ap Some (sym (same_is own look h))
 cells_on : (begun : Option OpenRun) (look : Option CellLook) (at n : ℕ) (rest : List (Option CellLook))
     → IsOpen begun at → 0 < n
     → runs_behind begun at (replicate n look ++ rest)
-    ≡ ended begun look at ++ runs_behind (goes_on begun look at) (at + n) rest
+    ≡ runs_ended begun look at ++ runs_behind (run_going_on begun look at) (at + n) rest
 cells_on None look at n rest is_open lt = opens look at n rest
 cells_on (Some run) look at n rest is_open lt =
     by_test (is_like look run.look) is_open (like_is look run.look) (not_like look run.look n rest lt)
@@ -185,7 +185,7 @@ cells_on (Some run) look at n rest is_open lt =
         → (b ≡ false → Unlike run.look (replicate n look ++ rest))
         → runs_behind (Some run) at (replicate n look ++ rest)
         ≡ (if b then [] else run_with run.from at run.look ∷ [])
-        ++ runs_behind (if b then Some run else opened look at) (at + n) rest
+        ++ runs_behind (if b then Some run else run_begun look at) (at + n) rest
     by_test true before same other =
         let d : at - run.from + n ≡ at + n - run.from = omega arith in
         ap (λ o. runs_from run.from (replicate (at - run.from) (Some run.look) ++ (replicate n o ++ rest))) (same refl)
@@ -198,7 +198,7 @@ cells_on (Some run) look at n rest is_open lt =
         ∙ ap (λ rs. run_with run.from at run.look ∷ rs) (opens look at n rest)
 
 -- what has begun when no cell is left
-abbrev pub closed : Option OpenRun → ℕ → List Run
+abbrev pub closed : Option OpenRun → ℕ → List CellRun
 closed None at = []
 closed (Some run) at = run_with run.from at run.look ∷ []
 
@@ -207,41 +207,42 @@ closes None at is_open = refl
 closes (Some run) at is_open = begun_ends run at [] is_open tt
 
 pub still_open : (begun : Option OpenRun) (look : Option CellLook) (at n : ℕ) → IsOpen begun at → 0 < n
-    → IsOpen (goes_on begun look at) (at + n)
+    → IsOpen (run_going_on begun look at) (at + n)
 still_open None None at n is_open lt = tt
 still_open None (Some look) at n is_open lt = omega arith
 still_open (Some run) look at n is_open lt = by_test (is_like look run.look) is_open lt
   where
-    opened_there : (other : Option CellLook) → 0 < n → IsOpen (opened other at) (at + n)
+    opened_there : (other : Option CellLook) → 0 < n → IsOpen (run_begun other at) (at + n)
     opened_there None some = tt
     opened_there (Some other) some = omega arith
 
-    by_test : (b : Bool) → run.from < at → 0 < n → IsOpen (if b then Some run else opened look at) (at + n)
+    by_test : (b : Bool) → run.from < at → 0 < n → IsOpen (if b then Some run else run_begun look at) (at + n)
     by_test true before some = omega arith
     by_test false before some = opened_there look some
 
 -- some runs are printed, one may have begun, and with those of the cells that are left these are all
 pub record Told (p : Printer) (w : SinkSeen) (q : Printer) (x : SinkSeen) (begun : Option OpenRun) (at : ℕ)
-    (cells : List (Option CellLook)) (whole : List Run) : Type 0 where
-  pub done : List Run
-  pub adds : Adds (flat_map run_text done) p w q x
+    (cells : List (Option CellLook)) (whole : List CellRun) : Type 0 where
+  pub done : List CellRun
+  pub adds : PrinterAdds (flat_map run_text done) p w q x
   pub are : done ++ runs_behind begun at cells ≡ whole
 
 pub told_on : {p q r : Printer} {w x y : SinkSeen} (begun : Option OpenRun) (look : Option CellLook)
-    (at n : ℕ) (rest : List (Option CellLook)) (whole : List Run) → IsOpen begun at → 0 < n
-    → Told p w q x begun at (replicate n look ++ rest) whole → Adds (flat_map run_text (ended begun look at)) q x r y
-    → Told p w r y (goes_on begun look at) (at + n) rest whole
+    (at n : ℕ) (rest : List (Option CellLook)) (whole : List CellRun) → IsOpen begun at → 0 < n
+    → Told p w q x begun at (replicate n look ++ rest) whole
+    → PrinterAdds (flat_map run_text (runs_ended begun look at)) q x r y
+    → Told p w r y (run_going_on begun look at) (at + n) rest whole
 told_on begun look at n rest whole is_open lt told adds =
     record {
-      done = told.done ++ ended begun look at;
-      adds = adds_also (sym (flat_map-append run_text told.done (ended begun look at))) (adds_then told.adds adds);
-      are = append_assoc told.done (ended begun look at) (runs_behind (goes_on begun look at) (at + n) rest)
+      done = told.done ++ runs_ended begun look at;
+      adds = adds_also (sym (flat_map-append run_text told.done (runs_ended begun look at))) (adds_then told.adds adds);
+      are = append_assoc told.done (runs_ended begun look at) (runs_behind (run_going_on begun look at) (at + n) rest)
           ∙ ap (λ rs. told.done ++ rs) (sym (cells_on begun look at n rest is_open lt)) ∙ told.are;
     }
 
-pub told_all : {p q r : Printer} {w x y : SinkSeen} (begun : Option OpenRun) (at : ℕ) (whole : List Run)
-    → IsOpen begun at → Told p w q x begun at [] whole → Adds (flat_map run_text (closed begun at)) q x r y
-    → Adds (flat_map run_text whole) p w r y
+pub told_all : {p q r : Printer} {w x y : SinkSeen} (begun : Option OpenRun) (at : ℕ) (whole : List CellRun)
+    → IsOpen begun at → Told p w q x begun at [] whole → PrinterAdds (flat_map run_text (closed begun at)) q x r y
+    → PrinterAdds (flat_map run_text whole) p w r y
 told_all begun at whole is_open told adds =
     adds_also (sym (flat_map-append run_text told.done (closed begun at))
     ∙ ap (flat_map run_text) (ap (λ rs. told.done ++ rs) (sym (closes begun at is_open)) ∙ told.are))
@@ -264,7 +265,7 @@ told_start at indent items others e same =
     }
 
 pub told_same : {p q : Printer} {w x : SinkSeen} (begun : Option OpenRun) (at : ℕ)
-    (cells others : List (Option CellLook)) (whole : List Run) → cells ≡ others → Told p w q x begun at cells whole
+    (cells others : List (Option CellLook)) (whole : List CellRun) → cells ≡ others → Told p w q x begun at cells whole
     → Told p w q x begun at others whole
 told_same begun at cells others whole e told =
     record {
@@ -287,10 +288,10 @@ item_less items i x n lt is e =
     ∙ ap (λ k. replicate k (look_in (drawn_in x)) ++ flat_map item_looks (drop (i + 1) items)) (sym e)
 
 pub told_item : {p q r : Printer} {w x y : SinkSeen} (begun after : Option OpenRun)
-    (own look : Option CellLook) (at n : ℕ) (rest : List (Option CellLook)) (whole : List Run) → own ≡ look
-    → after ≡ goes_on begun own at → IsOpen begun at → 0 < n
+    (own look : Option CellLook) (at n : ℕ) (rest : List (Option CellLook)) (whole : List CellRun) → own ≡ look
+    → after ≡ run_going_on begun own at → IsOpen begun at → 0 < n
     → Told p w q x begun at (replicate n look ++ rest) whole
-    → Adds (flat_map run_text (ended begun own at)) q x r y → Told p w r y after (at + n) rest whole
+    → PrinterAdds (flat_map run_text (runs_ended begun own at)) q x r y → Told p w r y after (at + n) rest whole
 told_item {p} {q} {r} {w} {x} {y} begun after own look at n rest whole e is is_open lt told adds =
     subst (λ (b : Option OpenRun). Told p w r y b (at + n) rest whole) (sym is)
     (told_on begun own at n rest whole is_open lt
@@ -298,23 +299,23 @@ told_item {p} {q} {r} {w} {x} {y} begun after own look at n rest whole e is is_o
     (ap (λ o. replicate n o ++ rest) (sym e)) told)
     adds)
 
-pub open_item : (begun after : Option OpenRun) (own : Option CellLook) (at n : ℕ) → after ≡ goes_on begun own at
+pub open_item : (begun after : Option OpenRun) (own : Option CellLook) (at n : ℕ) → after ≡ run_going_on begun own at
     → IsOpen begun at → 0 < n → IsOpen after (at + n)
 open_item begun after own at n is is_open lt =
     subst (λ (b : Option OpenRun). IsOpen b (at + n)) (sym is) (still_open begun own at n is_open lt)
 
 pub told_closed : {p q r : Printer} {w x y : SinkSeen} (begun : Option OpenRun) (run : OpenRun) (at : ℕ)
-    (cells : List (Option CellLook)) (whole : List Run) → begun ≡ Some run → cells ≡ [] → IsOpen begun at
-    → Told p w q x begun at cells whole → Adds (run_text (run_with run.from at run.look)) q x r y
-    → Adds (flat_map run_text whole) p w r y
+    (cells : List (Option CellLook)) (whole : List CellRun) → begun ≡ Some run → cells ≡ [] → IsOpen begun at
+    → Told p w q x begun at cells whole → PrinterAdds (run_text (run_with run.from at run.look)) q x r y
+    → PrinterAdds (flat_map run_text whole) p w r y
 told_closed {p} {q} {r} {w} {x} {y} begun run at cells whole is none is_open told adds =
     told_all begun at whole is_open (told_same begun at cells [] whole none told)
-    (subst (λ (b : Option OpenRun). Adds (flat_map run_text (closed b at)) q x r y) (sym is)
+    (subst (λ (b : Option OpenRun). PrinterAdds (flat_map run_text (closed b at)) q x r y) (sym is)
     (adds_also (sym (append-nil (run_text (run_with run.from at run.look)))) adds))
 
 pub told_finished : {p q : Printer} {w x : SinkSeen} (begun : Option OpenRun) (at : ℕ)
-    (cells : List (Option CellLook)) (whole : List Run) → begun ≡ None → cells ≡ [] → IsOpen begun at
-    → Told p w q x begun at cells whole → Adds (flat_map run_text whole) p w q x
+    (cells : List (Option CellLook)) (whole : List CellRun) → begun ≡ None → cells ≡ [] → IsOpen begun at
+    → Told p w q x begun at cells whole → PrinterAdds (flat_map run_text whole) p w q x
 told_finished {p} {q} {w} {x} begun at cells whole is none is_open told =
     told_all begun at whole is_open (told_same begun at cells [] whole none told)
-    (subst (λ (b : Option OpenRun). Adds (flat_map run_text (closed b at)) q x q x) (sym is) adds_nothing)
+    (subst (λ (b : Option OpenRun). PrinterAdds (flat_map run_text (closed b at)) q x q x) (sym is) adds_nothing)

@@ -18,21 +18,21 @@ use Rattle.tx_print.specs.Lines.{line, shown}
 use Rattle.tx_print.specs.Pages.{page_text, pages_text}
 use Rattle.tx_outside.specs.Outside.{SinkSeen}
 use Rattle.tx_print.specs.declared.printer.Printer.{Printer}
-use Rattle.tx_print.specs.Printers.{Adds}
+use Rattle.tx_print.specs.Printers.{PrinterAdds}
 use Rattle.tx_print.proofs.Adding.{adds_then, adds_also, adds_nothing}
 
 -- ---- what is left of a text
 
 pub record Leaves (rest whole : List ℕ) (p : Printer) (w : SinkSeen) (q : Printer) (x : SinkSeen) : Type 0 where
   pub said : List ℕ
-  pub adds : Adds said p w q x
+  pub adds : PrinterAdds said p w q x
   pub are : said ++ rest ≡ whole
 
 pub leaves_all : {p : Printer} {w : SinkSeen} (whole : List ℕ) → Leaves whole whole p w p w
 leaves_all whole = record { said = []; adds = adds_nothing; are = refl }
 
 pub leaves_less : {p q r : Printer} {w x y : SinkSeen} (rest a b whole : List ℕ) → rest ≡ a ++ b
-    → Leaves rest whole p w q x → Adds a q x r y → Leaves b whole p w r y
+    → Leaves rest whole p w q x → PrinterAdds a q x r y → Leaves b whole p w r y
 leaves_less rest a b whole e leaves adds =
     record {
       said = leaves.said ++ a;
@@ -41,7 +41,7 @@ leaves_less rest a b whole e leaves adds =
     }
 
 pub leaves_none : {p q : Printer} {w x : SinkSeen} (rest whole : List ℕ) → rest ≡ []
-    → Leaves rest whole p w q x → Adds whole p w q x
+    → Leaves rest whole p w q x → PrinterAdds whole p w q x
 leaves_none rest whole e leaves =
     adds_also (sym (append-nil leaves.said) ∙ ap (λ t. leaves.said ++ t) (sym e) ∙ leaves.are) leaves.adds
 

@@ -4,18 +4,18 @@ use Rattle.std.specs.Prelude.{if◌then◌else◌}
 use Rattle.std.specs.Option.{option_map}
 use Rattle.tx_items.specs.Looks.{WideLook}
 use Rattle.tx_print.specs.declared.attributes.Begun.{Begun}
-use Rattle.tx_print.specs.Runs.{CellLook, Run, cell_look, same_look, runs_from}
+use Rattle.tx_print.specs.Runs.{CellLook, CellRun, cell_look, same_look, runs_from}
 
 -- where it began, and how its cells look
 pub record OpenRun : Type 0 where
   pub from : ℕ
   pub look : CellLook
 
-abbrev pub run_of : Begun → OpenRun
-run_of b = record { from = b.from; look = cell_look b.look.now }
+abbrev pub open_run : Begun → OpenRun
+open_run b = record { from = b.from; look = cell_look b.look.now }
 
-abbrev pub run_in : Option Begun → Option OpenRun
-run_in begun = option_map run_of begun
+abbrev pub open_run_in : Option Begun → Option OpenRun
+open_run_in begun = option_map open_run begun
 
 abbrev pub looks_in : Option WideLook → Option CellLook
 looks_in look = option_map cell_look look
@@ -26,22 +26,22 @@ is_like (Some look) own = same_look own look
 is_like None own = false
 
 -- a run may begin at a column
-abbrev pub opened : Option CellLook → ℕ → Option OpenRun
-opened (Some look) at = Some (record { from = at; look = look })
-opened None at = None
+abbrev pub run_begun : Option CellLook → ℕ → Option OpenRun
+run_begun (Some look) at = Some (record { from = at; look = look })
+run_begun None at = None
 
 -- what has begun behind cells at a column
-abbrev pub goes_on : Option OpenRun → Option CellLook → ℕ → Option OpenRun
-goes_on None look at = opened look at
-goes_on (Some run) look at = if is_like look run.look then Some run else opened look at
+abbrev pub run_going_on : Option OpenRun → Option CellLook → ℕ → Option OpenRun
+run_going_on None look at = run_begun look at
+run_going_on (Some run) look at = if is_like look run.look then Some run else run_begun look at
 
 -- what ends at this column
-abbrev pub ended : Option OpenRun → Option CellLook → ℕ → List Run
-ended None look at = []
-ended (Some run) look at =
+abbrev pub runs_ended : Option OpenRun → Option CellLook → ℕ → List CellRun
+runs_ended None look at = []
+runs_ended (Some run) look at =
     if is_like look run.look then [] else record { from = run.from; to = at; look = run.look } ∷ []
 
 -- the runs of cells at a column, where one has begun before them
-abbrev pub runs_behind : Option OpenRun → ℕ → List (Option CellLook) → List Run
+abbrev pub runs_behind : Option OpenRun → ℕ → List (Option CellLook) → List CellRun
 runs_behind None at cells = runs_from at cells
 runs_behind (Some run) at cells = runs_from run.from (replicate (at - run.from) (Some run.look) ++ cells)

@@ -19,14 +19,14 @@ abbrev pub shown : List ℕ → List ℕ
 shown text = display_text (items_of text)
 
 -- a cluster is printed as its characters, and a gap as a space for each of its cells
-abbrev pub printed : Item → List ℕ
-printed (Glyph d) = d.cluster.glyphs
-printed (Space d) = d.cluster.glyphs
-printed (Gap n) = spaces n
-printed Break = []
-printed PageEnd = []
-printed (Down n) = []
+abbrev pub printed_item : Item → List ℕ
+printed_item (Glyph d) = d.cluster.glyphs
+printed_item (Space d) = d.cluster.glyphs
+printed_item (Gap n) = spaces n
+printed_item Break = []
+printed_item PageEnd = []
+printed_item (Down n) = []
 
 -- a line of a page: its indent in spaces, and its items
 abbrev pub line_text : Line → List ℕ
-line_text l = line (spaces l.indent ++ flat_map printed l.items)
+line_text l = line (spaces l.indent ++ flat_map printed_item l.items)

@@ -38,29 +38,29 @@ abbrev pub same_look : CellLook → CellLook → Bool
 same_look x y = bytes_eq x.series y.series && bytes_eq x.shape y.shape && bytes_eq x.color y.color
 
 -- cells from a column up to another, which look the same
-pub record Run : Type 0 where
+pub record CellRun : Type 0 where
   pub from : ℕ
   pub to : ℕ
   pub look : CellLook
 
 -- a cell at a column, before the runs behind it: it makes the first of them longer, or is a run of its own
-abbrev pub run_before : ℕ → CellLook → List Run → List Run
-run_before at look [] = record { from = at; to = at + 1; look = look } ∷ []
-run_before at look (r ∷ rs) =
+abbrev pub cell_before : ℕ → CellLook → List CellRun → List CellRun
+cell_before at look [] = record { from = at; to = at + 1; look = look } ∷ []
+cell_before at look (r ∷ rs) =
     if (r.from == at + 1) && same_look look r.look then record { from = at; to = r.to; look = look } ∷ rs
     else record { from = at; to = at + 1; look = look } ∷ (r ∷ rs)
 
-abbrev pub runs_before : ℕ → Option CellLook → List Run → List Run
-runs_before at (Some look) rs = run_before at look rs
+abbrev pub runs_before : ℕ → Option CellLook → List CellRun → List CellRun
+runs_before at (Some look) rs = cell_before at look rs
 runs_before at None rs = rs
 
 -- the longest runs of cells, of which the first stands at a column
-abbrev pub runs_from : ℕ → List (Option CellLook) → List Run
+abbrev pub runs_from : ℕ → List (Option CellLook) → List CellRun
 runs_from at [] = []
 runs_from at (cell ∷ cells) = runs_before at cell (runs_from (at + 1) cells)
 
 -- the first column, the column behind the last, and the attributes
-abbrev pub run_text : Run → List ℕ
+abbrev pub run_text : CellRun → List ℕ
 run_text r =
     line (decimal r.from ++ 32 ∷ decimal r.to ++ 32 ∷ shown r.look.series ++ 32 ∷ shown r.look.shape
     ++ 32 ∷ shown r.look.color)

@@ -4,8 +4,8 @@ ghost use Rattle.std.specs.List.{flat_map};
 ghost use Rattle.std.specs.Option.{option_copied};
 ghost use Rattle.tx_view_form.specs.Cells.{drawn_in};
 ghost use Rattle.tx_print.specs.Runs.{attrs_reply, cell_look, look_in, looks_on, run_text, runs_from, same_look};
-ghost use Rattle.tx_print.specs.Begun.{ended, goes_on, is_like, looks_in, opened, run_in};
-ghost use Rattle.tx_print.specs.Printers.{Adds};
+ghost use Rattle.tx_print.specs.Begun.{runs_ended, run_going_on, is_like, looks_in, run_begun, open_run_in};
+ghost use Rattle.tx_print.specs.Printers.{PrinterAdds};
 ghost use Rattle.tx_print.specs.Writing.{IsPrinted};
 
 use crate::pieces::{push_number, push_shown};
@@ -55,7 +55,7 @@ fn is_like(look: Option<&Look>, run: &Begun<'_>) -> bool
 
 // Prints the line of a run.
 fn push_run<O: Sink>(printer: &mut Printer, run: &Begun<'_>, to: u128, out: &mut O)
-    ensures { Adds (run_text (record { from = run.now.from; to = to; look = cell_look run.now.look.now }))
+    ensures { PrinterAdds (run_text (record { from = run.now.from; to = to; look = cell_look run.now.look.now }))
         printer.old (O.seen out.old) printer.new (O.seen out.new) }
 {
     push_number(printer, run.from, out);
@@ -72,7 +72,7 @@ fn push_run<O: Sink>(printer: &mut Printer, run: &Begun<'_>, to: u128, out: &mut
 
 // The run that begins at a column behind which cells look so, or None where they aren't those of a cluster.
 fn opened<'a>(look: Option<&'a Look>, at: u128) -> Option<Begun<'a>>
-    ensures { run_in result ≡ opened (looks_in (option_copied look.entry)) at }
+    ensures { open_run_in result ≡ run_begun (looks_in (option_copied look.entry)) at }
 {
     match look {
         Some(look) => Some(Begun { from: at, look }),
@@ -88,8 +88,9 @@ fn go_on<'a, O: Sink>(
     at: u128,
     out: &mut O,
 ) -> Option<Begun<'a>>
-    ensures run { run_in result ≡ goes_on (run_in begun.entry) (looks_in (option_copied look.entry)) at }
-    ensures adds { Adds (flat_map run_text (ended (run_in begun.entry) (looks_in (option_copied look.entry)) at))
+    ensures run { open_run_in result ≡ run_going_on (open_run_in begun.entry) (looks_in (option_copied look.entry)) at }
+    ensures adds { PrinterAdds
+        (flat_map run_text (runs_ended (open_run_in begun.entry) (looks_in (option_copied look.entry)) at))
         printer.old (O.seen out.old) printer.new (O.seen out.new) }
 {
     match begun {
@@ -106,7 +107,7 @@ fn go_on<'a, O: Sink>(
 
 // Prints the runs of a line.
 fn push_runs<O: Sink>(printer: &mut Printer, line: &Line, out: &mut O)
-    ensures { Adds (flat_map run_text (runs_from 0 (looks_on line.now)))
+    ensures { PrinterAdds (flat_map run_text (runs_from 0 (looks_on line.now)))
         printer.old (O.seen out.old) printer.new (O.seen out.new) }
 {
     let mut at = u128::from(line.indent);
@@ -126,7 +127,7 @@ fn push_runs<O: Sink>(printer: &mut Printer, line: &Line, out: &mut O)
 
 // Prints the runs of a row, or that there is no such row.
 fn push_attributes<O: Sink>(printer: &mut Printer, view: &View, r: u32, out: &mut O)
-    ensures { Adds (attrs_reply view.now.shown view.now.width r) printer.old (O.seen out.old)
+    ensures { PrinterAdds (attrs_reply view.now.shown view.now.width r) printer.old (O.seen out.old)
         printer.new (O.seen out.new) }
 {
     match view.line(r) {

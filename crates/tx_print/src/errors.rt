@@ -2,7 +2,7 @@
 ghost use Rattle.std.specs.Prelude.{option_copied, slice_get};
 ghost use Rattle.tx_view_form.specs.Errors.{errors_of};
 ghost use Rattle.tx_print.specs.Errors.{detail_text, error_text, errors_text, unit_text};
-ghost use Rattle.tx_print.specs.Printers.{Adds, text_in};
+ghost use Rattle.tx_print.specs.Printers.{PrinterAdds, element_text};
 ghost use Rattle.tx_print.specs.Writing.{IsPrinted};
 
 use crate::pieces::{push_numbered, push_path, push_shown};
@@ -14,7 +14,8 @@ use tx_view::View;
 
 // Prints the path of a unit, or a dash.
 fn push_unit<O: Sink>(printer: &mut Printer, path: Option<&Path>, out: &mut O)
-    ensures { Adds (unit_text (option_copied path.entry)) printer.old (O.seen out.old) printer.new (O.seen out.new) }
+    ensures { PrinterAdds (unit_text (option_copied path.entry)) printer.old (O.seen out.old) printer.new
+        (O.seen out.new) }
 {
     match path {
         Some(path) => push_path(printer, path, out),
@@ -24,7 +25,7 @@ fn push_unit<O: Sink>(printer: &mut Printer, path: Option<&Path>, out: &mut O)
 
 // Prints a space and the detail, or nothing.
 fn push_detail<O: Sink>(printer: &mut Printer, detail: &Text, out: &mut O)
-    ensures { Adds (detail_text detail.now) printer.old (O.seen out.old) printer.new (O.seen out.new) }
+    ensures { PrinterAdds (detail_text detail.now) printer.old (O.seen out.old) printer.new (O.seen out.new) }
 {
     if !detail.bytes().is_empty() {
         printer.push(b" ", out);
@@ -34,7 +35,7 @@ fn push_detail<O: Sink>(printer: &mut Printer, detail: &Text, out: &mut O)
 
 // Prints an error of the unit with this path, or without one.
 fn push_error<O: Sink>(printer: &mut Printer, path: Option<&Path>, error: &ErrorAt, out: &mut O)
-    ensures { Adds (error_text (option_copied path.entry, error.now))
+    ensures { PrinterAdds (error_text (option_copied path.entry, error.now))
         printer.old (O.seen out.old) printer.new (O.seen out.new) }
 {
     push_unit(printer, path, out);
@@ -46,7 +47,7 @@ fn push_error<O: Sink>(printer: &mut Printer, path: Option<&Path>, error: &Error
 
 // Prints the error of this number, or nothing past the last one.
 fn push_numbered_error<O: Sink>(printer: &mut Printer, view: &View, k: u32, out: &mut O)
-    ensures { Adds (text_in error_text (slice_get (errors_of view.now.shown.units) k))
+    ensures { PrinterAdds (element_text error_text (slice_get (errors_of view.now.shown.units) k))
         printer.old (O.seen out.old) printer.new (O.seen out.new) }
 {
     if let Some((path, error)) = view.error(k) {
@@ -56,7 +57,7 @@ fn push_numbered_error<O: Sink>(printer: &mut Printer, view: &View, k: u32, out:
 
 // Prints how many errors there are, and each of them.
 fn push_errors<O: Sink>(printer: &mut Printer, view: &View, out: &mut O)
-    ensures { Adds (errors_text view.now.shown) printer.old (O.seen out.old) printer.new (O.seen out.new) }
+    ensures { PrinterAdds (errors_text view.now.shown) printer.old (O.seen out.old) printer.new (O.seen out.new) }
 {
     let count = view.errors();
     push_numbered(printer, b"errors ", count, out);

@@ -1,6 +1,6 @@
 // The lines of pages as they are printed.
-ghost use Rattle.tx_print.specs.Lines.{line_text, printed};
-ghost use Rattle.tx_print.specs.Printers.{Adds};
+ghost use Rattle.tx_print.specs.Lines.{line_text, printed_item};
+ghost use Rattle.tx_print.specs.Printers.{PrinterAdds};
 
 use crate::pieces::push_spaces;
 use crate::printer::Printer;
@@ -10,7 +10,7 @@ use tx_outside::Sink;
 
 // Prints an item.
 fn push_item<O: Sink>(printer: &mut Printer, item: &Item, out: &mut O)
-    ensures { Adds (printed item.now) printer.old (O.seen out.old) printer.new (O.seen out.new) }
+    ensures { PrinterAdds (printed_item item.now) printer.old (O.seen out.old) printer.new (O.seen out.new) }
 {
     match item {
         Item::Glyph(drawn) => printer.push(drawn.cluster.glyphs.bytes(), out),
@@ -24,7 +24,7 @@ fn push_item<O: Sink>(printer: &mut Printer, item: &Item, out: &mut O)
 
 /// Prints a line.
 pub(crate) fn push_line<O: Sink>(printer: &mut Printer, line: &Line, out: &mut O)
-    ensures { Adds (line_text line.now) printer.old (O.seen out.old) printer.new (O.seen out.new) }
+    ensures { PrinterAdds (line_text line.now) printer.old (O.seen out.old) printer.new (O.seen out.new) }
 {
     push_spaces(printer, line.indent, out);
     for item in line.items.all() {

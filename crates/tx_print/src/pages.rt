@@ -2,7 +2,7 @@
 ghost use Rattle.std.specs.Prelude.{◌≡◌, slice_get};
 ghost use Rattle.tx_print.specs.Lines.{line_text};
 ghost use Rattle.tx_print.specs.Pages.{counts_text, page_numbered, page_reply, page_text, show_text};
-ghost use Rattle.tx_print.specs.Printers.{Adds, text_in};
+ghost use Rattle.tx_print.specs.Printers.{PrinterAdds, element_text};
 ghost use Rattle.tx_print.specs.Writing.{IsPrinted};
 ghost use Rattle.tx_view_form.specs.Views.{lines_of};
 
@@ -25,7 +25,7 @@ fn page_numbered(pages: &[Cut], number: u32) -> Option<Cut>
 
 // Prints how many pages and rows there are.
 fn push_counts<O: Sink>(printer: &mut Printer, view: &View, out: &mut O)
-    ensures { Adds (counts_text view.now.shown) printer.old (O.seen out.old) printer.new (O.seen out.new) }
+    ensures { PrinterAdds (counts_text view.now.shown) printer.old (O.seen out.old) printer.new (O.seen out.new) }
 {
     printer.push(b"pages ", out);
     push_number(printer, view.pages().len(), out);
@@ -34,7 +34,7 @@ fn push_counts<O: Sink>(printer: &mut Printer, view: &View, out: &mut O)
 
 // Prints a row, or nothing past the last one.
 fn push_row<O: Sink>(printer: &mut Printer, view: &View, r: u32, out: &mut O)
-    ensures { Adds (text_in line_text (slice_get (lines_of view.now.shown.units) r))
+    ensures { PrinterAdds (element_text line_text (slice_get (lines_of view.now.shown.units) r))
         printer.old (O.seen out.old) printer.new (O.seen out.new) }
 {
     if let Some(line) = view.line(r) {
@@ -44,7 +44,7 @@ fn push_row<O: Sink>(printer: &mut Printer, view: &View, r: u32, out: &mut O)
 
 // Prints a page of this number.
 fn push_page<O: Sink>(printer: &mut Printer, view: &View, number: usize, page: Cut, out: &mut O)
-    ensures { Adds (page_text (lines_of view.now.shown.units) number page)
+    ensures { PrinterAdds (page_text (lines_of view.now.shown.units) number page)
         printer.old (O.seen out.old) printer.new (O.seen out.new) }
 {
     push_numbered(printer, b"page ", number, out);
@@ -55,7 +55,7 @@ fn push_page<O: Sink>(printer: &mut Printer, view: &View, number: usize, page: C
 
 // Prints how many pages and rows there are, and each page.
 fn push_pages<O: Sink>(printer: &mut Printer, view: &View, out: &mut O)
-    ensures { Adds (show_text view.now.shown) printer.old (O.seen out.old) printer.new (O.seen out.new) }
+    ensures { PrinterAdds (show_text view.now.shown) printer.old (O.seen out.old) printer.new (O.seen out.new) }
 {
     push_counts(printer, view, out);
     for (i, page) in view.pages().iter().enumerate() {
@@ -74,7 +74,7 @@ pub fn print_pages<O: Sink>(view: &View, out: &mut O) -> Result<(), WriteFault>
 
 // Prints the page of this number, or how many there are.
 fn push_numbered_page<O: Sink>(printer: &mut Printer, view: &View, number: u32, out: &mut O)
-    ensures { Adds (page_reply view.now.shown number) printer.old (O.seen out.old) printer.new (O.seen out.new) }
+    ensures { PrinterAdds (page_reply view.now.shown number) printer.old (O.seen out.old) printer.new (O.seen out.new) }
 {
     match page_numbered(view.pages(), number) {
         Some(page) => push_page(printer, view, number as usize, page, out),

@@ -2,7 +2,7 @@
 ghost use Rattle.std.specs.Prelude.{◌≡◌, ◌++◌, ◌∷◌, [], codes, decimal};
 ghost use Rattle.tx_tree.specs.PathSpelling.{numbers_text, path_text};
 ghost use Rattle.tx_print.specs.Lines.{line, shown, spaces};
-ghost use Rattle.tx_print.specs.Printers.{Adds};
+ghost use Rattle.tx_print.specs.Printers.{PrinterAdds};
 
 use crate::printer::Printer;
 use itoa::{Buffer, Integer};
@@ -12,7 +12,7 @@ use tx_tree::{Path, Text};
 
 /// Prints so many spaces.
 pub(crate) fn push_spaces<O: Sink>(printer: &mut Printer, count: u32, out: &mut O)
-    ensures { Adds (spaces count) printer.old (O.seen out.old) printer.new (O.seen out.new) }
+    ensures { PrinterAdds (spaces count) printer.old (O.seen out.old) printer.new (O.seen out.new) }
 {
     for _ in 0..count {
         printer.push(b" ", out);
@@ -21,7 +21,7 @@ pub(crate) fn push_spaces<O: Sink>(printer: &mut Printer, count: u32, out: &mut 
 
 /// Prints a number.
 pub(crate) fn push_number<I: Integer, O: Sink>(printer: &mut Printer, number: I, out: &mut O)
-    ensures { Adds (I.text number) printer.old (O.seen out.old) printer.new (O.seen out.new) }
+    ensures { PrinterAdds (I.text number) printer.old (O.seen out.old) printer.new (O.seen out.new) }
 {
     let mut digits = Buffer::new();
     printer.push(digits.format(number).as_bytes(), out);
@@ -34,7 +34,8 @@ pub(crate) fn push_numbered<I: Integer, O: Sink>(
     number: I,
     out: &mut O,
 )
-    ensures { Adds (line (words.now ++ I.text number)) printer.old (O.seen out.old) printer.new (O.seen out.new) }
+    ensures { PrinterAdds (line (words.now ++ I.text number)) printer.old (O.seen out.old) printer.new
+        (O.seen out.new) }
 {
     printer.push(words, out);
     push_number(printer, number, out);
@@ -43,7 +44,7 @@ pub(crate) fn push_numbered<I: Integer, O: Sink>(
 
 /// Prints a slash and a number.
 pub(crate) fn push_step<O: Sink>(printer: &mut Printer, number: u32, out: &mut O)
-    ensures { Adds (47 ∷ decimal number) printer.old (O.seen out.old) printer.new (O.seen out.new) }
+    ensures { PrinterAdds (47 ∷ decimal number) printer.old (O.seen out.old) printer.new (O.seen out.new) }
 {
     printer.push(b"/", out);
     push_number(printer, number, out);
@@ -51,7 +52,7 @@ pub(crate) fn push_step<O: Sink>(printer: &mut Printer, number: u32, out: &mut O
 
 /// Prints a slash and a number for each of these numbers of a path.
 pub(crate) fn push_steps<O: Sink>(printer: &mut Printer, steps: &[u32], out: &mut O)
-    ensures { Adds (numbers_text steps.now) printer.old (O.seen out.old) printer.new (O.seen out.new) }
+    ensures { PrinterAdds (numbers_text steps.now) printer.old (O.seen out.old) printer.new (O.seen out.new) }
 {
     for number in steps {
         push_step(printer, *number, out);
@@ -60,7 +61,7 @@ pub(crate) fn push_steps<O: Sink>(printer: &mut Printer, steps: &[u32], out: &mu
 
 /// Prints a path.
 pub(crate) fn push_path<O: Sink>(printer: &mut Printer, path: &Path, out: &mut O)
-    ensures { Adds (path_text path.now) printer.old (O.seen out.old) printer.new (O.seen out.new) }
+    ensures { PrinterAdds (path_text path.now) printer.old (O.seen out.old) printer.new (O.seen out.new) }
 {
     if path.steps().is_empty() {
         printer.push(b"/", out);
@@ -71,7 +72,7 @@ pub(crate) fn push_path<O: Sink>(printer: &mut Printer, path: &Path, out: &mut O
 
 /// Prints the display text of a text.
 pub(crate) fn push_shown<O: Sink>(printer: &mut Printer, text: &Text, out: &mut O)
-    ensures { Adds (shown text.now) printer.old (O.seen out.old) printer.new (O.seen out.new) }
+    ensures { PrinterAdds (shown text.now) printer.old (O.seen out.old) printer.new (O.seen out.new) }
 {
     if text.bytes().is_empty() {
         return;

@@ -4,7 +4,7 @@ ghost use Rattle.tx_tree.specs.PathSpelling.{numbers_text, place_text};
 ghost use Rattle.tx_view_form.specs.Positions.{whole_path};
 ghost use Rattle.tx_print.specs.Lines.{line};
 ghost use Rattle.tx_print.specs.Places.{no_cell, place_reply};
-ghost use Rattle.tx_print.specs.Printers.{Adds, text_in};
+ghost use Rattle.tx_print.specs.Printers.{PrinterAdds, element_text};
 ghost use Rattle.tx_print.specs.Writing.{IsPrinted};
 
 use crate::pieces::{push_number, push_numbered, push_step, push_steps};
@@ -16,7 +16,8 @@ use tx_view::View;
 
 /// Prints `no cell ROWS WIDTH`, with the number of rows and the width of the page.
 pub(crate) fn push_no_cell<O: Sink>(printer: &mut Printer, view: &View, out: &mut O)
-    ensures { Adds (no_cell view.now.shown view.now.width) printer.old (O.seen out.old) printer.new (O.seen out.new) }
+    ensures { PrinterAdds (no_cell view.now.shown view.now.width) printer.old (O.seen out.old) printer.new
+        (O.seen out.new) }
 {
     printer.push(b"no cell ", out);
     push_number(printer, view.rows(), out);
@@ -25,7 +26,7 @@ pub(crate) fn push_no_cell<O: Sink>(printer: &mut Printer, view: &View, out: &mu
 
 // Prints a slash and the number of an origin at a place, or nothing past its last one.
 fn push_step_at<O: Sink>(printer: &mut Printer, origin: &Ip, i: usize, out: &mut O)
-    ensures { Adds (text_in (λ n. 47 ∷ decimal n) (slice_get origin.now i))
+    ensures { PrinterAdds (element_text (λ n. 47 ∷ decimal n) (slice_get origin.now i))
         printer.old (O.seen out.old) printer.new (O.seen out.new) }
 {
     if let Some(number) = origin.step(i) {
@@ -35,7 +36,7 @@ fn push_step_at<O: Sink>(printer: &mut Printer, origin: &Ip, i: usize, out: &mut
 
 // Prints a slash and a number for each number of an origin.
 fn push_origin<O: Sink>(printer: &mut Printer, origin: &Ip, out: &mut O)
-    ensures { Adds (numbers_text origin.now) printer.old (O.seen out.old) printer.new (O.seen out.new) }
+    ensures { PrinterAdds (numbers_text origin.now) printer.old (O.seen out.old) printer.new (O.seen out.new) }
 {
     for i in 0..origin.len() {
         push_step_at(printer, origin, i, out);
@@ -44,7 +45,7 @@ fn push_origin<O: Sink>(printer: &mut Printer, origin: &Ip, out: &mut O)
 
 // Prints a slash and a number for each number of a path that is lent in two pieces.
 fn push_base<O: Sink>(printer: &mut Printer, base: &Base<'_>, out: &mut O)
-    ensures { Adds (numbers_text base.now) printer.old (O.seen out.old) printer.new (O.seen out.new) }
+    ensures { PrinterAdds (numbers_text base.now) printer.old (O.seen out.old) printer.new (O.seen out.new) }
 {
     let (front, below) = base.pieces();
     push_steps(printer, front, out);
@@ -53,14 +54,14 @@ fn push_base<O: Sink>(printer: &mut Printer, base: &Base<'_>, out: &mut O)
 
 // Prints a slash and the offset of a place, which ends its line.
 fn push_offset<O: Sink>(printer: &mut Printer, offset: u32, out: &mut O)
-    ensures { Adds (line (47 ∷ decimal offset)) printer.old (O.seen out.old) printer.new (O.seen out.new) }
+    ensures { PrinterAdds (line (47 ∷ decimal offset)) printer.old (O.seen out.old) printer.new (O.seen out.new) }
 {
     push_numbered(printer, b"/", offset, out);
 }
 
 // Prints the line of a place that is told from the path of a unit.
 fn push_spot<O: Sink>(printer: &mut Printer, spot: &Spot<'_>, out: &mut O)
-    ensures { Adds (line (place_text (whole_path spot.now) spot.now.offset))
+    ensures { PrinterAdds (line (place_text (whole_path spot.now) spot.now.offset))
         printer.old (O.seen out.old) printer.new (O.seen out.new) }
 {
     push_base(printer, spot.base(), out);
@@ -75,7 +76,7 @@ fn push_spot<O: Sink>(printer: &mut Printer, spot: &Spot<'_>, out: &mut O)
 
 // Prints the place behind a row and a column, or that there is no such cell.
 fn push_place_at<O: Sink>(printer: &mut Printer, view: &View, r: u32, c: u32, out: &mut O)
-    ensures { Adds (place_reply view.now.shown view.now.width r c) printer.old (O.seen out.old)
+    ensures { PrinterAdds (place_reply view.now.shown view.now.width r c) printer.old (O.seen out.old)
         printer.new (O.seen out.new) }
 {
     match view.position(r, c) {
@@ -96,7 +97,7 @@ pub fn print_place<O: Sink>(view: &View, r: u32, c: u32, out: &mut O) -> Result<
 
 // Prints the line of a place.
 fn push_place<O: Sink>(printer: &mut Printer, place: &Place, out: &mut O)
-    ensures { Adds (line (place_text place.now.path place.now.offset)) printer.old (O.seen out.old)
+    ensures { PrinterAdds (line (place_text place.now.path place.now.offset)) printer.old (O.seen out.old)
         printer.new (O.seen out.new) }
 {
     push_steps(printer, place.path.steps(), out);

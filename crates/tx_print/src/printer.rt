@@ -1,6 +1,6 @@
 // Bytes on their way to a sink, in a buffer of some size, so that few pieces are written.
 ghost use Rattle.std.specs.Prelude.{◌≡◌, [], false};
-ghost use Rattle.tx_print.specs.Printers.{Adds, Ends};
+ghost use Rattle.tx_print.specs.Printers.{PrinterAdds, Ends};
 
 use arrayvec::ArrayVec;
 use tx_outside::{Sink, WriteFault, write_all};
@@ -26,7 +26,7 @@ impl Printer {
 
     // Writes what waits.
     fn flush<O: Sink>(&mut self, out: &mut O)
-        ensures adds { Adds [] self.old (O.seen out.old) self.new (O.seen out.new) }
+        ensures adds { PrinterAdds [] self.old (O.seen out.old) self.new (O.seen out.new) }
         ensures empty { self.new.failed ≡ false → self.new.waiting.items ≡ [] }
     {
         if self.failed {
@@ -41,7 +41,7 @@ impl Printer {
     // Writes a piece, where nothing waits.
     fn write<O: Sink>(&mut self, piece: &[u8], out: &mut O)
         requires { self.old.failed ≡ false → self.old.waiting.items ≡ [] }
-        ensures { Adds piece.now self.old (O.seen out.old) self.new (O.seen out.new) }
+        ensures { PrinterAdds piece.now self.old (O.seen out.old) self.new (O.seen out.new) }
     {
         if self.failed {
             return;
@@ -54,7 +54,7 @@ impl Printer {
 
     /// Adds a piece.
     pub(crate) fn push<O: Sink>(&mut self, piece: &[u8], out: &mut O)
-        ensures { Adds piece.now self.old (O.seen out.old) self.new (O.seen out.new) }
+        ensures { PrinterAdds piece.now self.old (O.seen out.old) self.new (O.seen out.new) }
     {
         if self.waiting.try_extend_from_slice(piece).is_err() {
             self.flush(out);

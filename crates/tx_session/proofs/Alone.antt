@@ -9,10 +9,11 @@ use Rattle.tx_open.specs.declared.opening.Opened.{Opened}
 use Rattle.tx_open.specs.Outcomes.{ComesTo, generated, no_memory}
 use Rattle.tx_session.specs.declared.status.Status.{Status}
 use Rattle.tx_session.specs.declared.status.Status.TheVariants as statuses
-use Rattle.tx_session.specs.Playing.{IsClosedInPart, IsCutOff, IsLine, IsServed, IsServedAlone}
+use Rattle.tx_session.specs.Playing.{IsClosedInPart, IsCutOff, IsUnopenedLine, IsServed, IsServedAlone}
 use Rattle.tx_session.specs.Runs.{IsOwnLineAlone, IsPlayed, IsPlayedAlone, IsReplyAlone, IsReplyBehind, IsRun}
-use Rattle.tx_session.specs.Runs.{CanBeRead, generated_script, no_files, opening_cost, outside, own_line, start_with}
-use Rattle.tx_session.specs.Worlds.{KeepsFiles, Mark, World}
+use Rattle.tx_session.specs.Runs.{CanBeRead, generated_script, no_files, opening_cost, seen_outside, own_line}
+use Rattle.tx_session.specs.Runs.{start_with}
+use Rattle.tx_session.specs.Worlds.{KeepsFiles, LineMark, World}
 use Rattle.tx_session.proofs.Causes.{line_run, run_of, served_closed}
 
 pub never_rose : Rose 0 0 → ⊥
@@ -24,7 +25,7 @@ module _ (all : Opened) (old steps : ℕ) (last : World) (left : List ℕ) (befo
   abbrev beginning : World
   beginning = start_with all no_files steps
 
-  played_alone : (script : List ℕ) (marks : List Mark) (status : Status) (text : List ℕ) → generated_script ≡ script
+  played_alone : (script : List ℕ) (marks : List LineMark) (status : Status) (text : List ℕ) → generated_script ≡ script
       → status ≢ statuses.InputFault → IsPlayed beginning script marks (Some left) status last text
       → IsPlayedAlone all old last.steps marks status text
   played_alone script marks status text e n p =
@@ -94,14 +95,14 @@ short_read h = h short_script
 module _ (words : List (List ℕ)) (stored later : StoreSeen) (old new : ℕ) (input : SourceSeen) (all : Opened)
     (status : Status) (before after : SinkSeen) (loaded : KeepsFiles stored later) (same : later ≡ stored)
     (comes : ComesTo words stored.files (generated all)) where
-  pub generated_run : IsLine no_memory status before.written after.written
+  pub generated_run : IsUnopenedLine no_memory status before.written after.written
       ⊎ IsServedAlone all old new status before.written after.written
-      → IsRun words status (outside stored input before old) (outside later input after new)
+      → IsRun words status (seen_outside stored input before old) (seen_outside later input after new)
   generated_run (inl l) =
       line_run words stored later old new input no_memory status before after loaded tt
       (λ all. ((λ e. cc), (λ e. cc))) tt l.done l.cut
   generated_run (inr s) =
-      run_of words status (outside stored input before old) (outside later input after new)
+      run_of words status (seen_outside stored input before old) (seen_outside later input after new)
       (λ n. let d = s.done n in
       record {
         outcome = generated all;

@@ -27,21 +27,21 @@ use Rattle.tx_cmd.specs.declared.command.Command.TheVariants.{Show, Page, Errors
 use Rattle.tx_session.specs.declared.replies.Reply.{Reply}
 use Rattle.tx_session.specs.declared.replies.Reply.TheVariants.{Wanting}
 use Rattle.tx_session.specs.Asking.{IsChange, IsKeyChange, IsKeptView, IsWanting, IsArrival, IsEdit, Makes, Prints}
-use Rattle.tx_session.specs.Asking.{IsClicked, is_plain, going}
+use Rattle.tx_session.specs.Asking.{IsClicked, is_plain_mark, next_after}
 use Rattle.tx_print.specs.Work.{work_reply}
-use Rattle.tx_print.specs.Writing.{IsWritten, IsCounted}
+use Rattle.tx_print.specs.Writing.{IsTextWritten, IsFaultCounted}
 use Rattle.tx_session.specs.declared.session.Next.TheVariants.{Quit}
 use Rattle.tx_session.specs.Writing.{IsSaid}
 use Rattle.tx_session.specs.Causes.{key_reply}
 use Rattle.tx_session.specs.Replies.{IsReply, MayLack, fresh_after, wanting_reply}
-use Rattle.tx_session.specs.Saying.{mark_of, text_of}
+use Rattle.tx_session.specs.Saying.{reply_mark, reply_text}
 use Rattle.tx_session.specs.States.{IsAnswer, selected_edit, key_edit, by_typing}
-use Rattle.tx_session.specs.States.{by_backspace, by_enter, printed, saved_by}
+use Rattle.tx_session.specs.States.{by_backspace, by_enter, view_reply, saved_by}
 use Rattle.tx_session.proofs.Turning.{same_seen}
-use Rattle.tx_session.specs.Worlds.{Seen, Stores, Mark, plain, lacking, unsaved, told}
+use Rattle.tx_session.specs.Worlds.{SeenSession, StoresFile, LineMark, plain, lacking, unsaved, told}
 
 -- a command that saves nothing was done
-pub done : (it : Command) (before after : Seen) (store : StoreSeen) (reply : List ℕ)
+pub done : (it : Command) (before after : SeenSession) (store : StoreSeen) (reply : List ℕ)
     → IsAnswer before.width before.height before.state it after.state reply → after.fresh ≡ fresh_after before it
     → after.width ≡ before.width → after.height ≡ before.height → saved_by before.state it ≡ None
     → IsReply (record { session = before; store = store }) it plain (record { session = after; store = store }) reply
@@ -50,18 +50,18 @@ done it before after store reply a f w h n = record {
   fresh = f;
   width = w;
   height = h;
-  stored = subst (λ o. Stores o store store) (sym n) refl;
+  stored = subst (λ o. StoresFile o store store) (sym n) refl;
 }
 
 -- memory ran out
-pub lacked : (it : Command) (before after : Seen) (store : StoreSeen) (reply : List ℕ) → MayLack before it
+pub lacked : (it : Command) (before after : SeenSession) (store : StoreSeen) (reply : List ℕ) → MayLack before it
     → IsWanting before after reply
     → IsReply (record { session = before; store = store }) it lacking (record { session = after; store = store }) reply
 lacked it before after store reply m h = (m, h.0, (refl, store_goes_on_refl store), h.1)
 
 -- ---- edits and keys
 
-pub change_replied : (m : Mod) (before after : Seen) (store : StoreSeen) (mark : Mark) (reply : List ℕ)
+pub change_replied : (m : Mod) (before after : SeenSession) (store : StoreSeen) (mark : LineMark) (reply : List ℕ)
     → IsChange (edited (selected_edit before.state m) before.state) before mark after reply
     → IsReply (record { session = before; store = store }) (Change m) mark (record { session = after; store = store })
     reply
@@ -71,7 +71,7 @@ change_replied m before after store lacking reply h = lacked (Change m) before a
 change_replied m before after store unsaved reply h = absurd h
 change_replied m before after store (told n) reply h = absurd h
 
-pub typed_replied : (text : List ℕ) (before after : Seen) (store : StoreSeen) (mark : Mark) (reply : List ℕ)
+pub typed_replied : (text : List ℕ) (before after : SeenSession) (store : StoreSeen) (mark : LineMark) (reply : List ℕ)
     → IsKeyChange (by_typing before.state text) before mark after reply
     → IsReply (record { session = before; store = store }) (Typed text) mark
     (record { session = after; store = store }) reply
@@ -81,7 +81,7 @@ typed_replied text before after store lacking reply h = lacked (Typed text) befo
 typed_replied text before after store unsaved reply h = absurd h
 typed_replied text before after store (told n) reply h = absurd h
 
-pub backspace_replied : (before after : Seen) (store : StoreSeen) (mark : Mark) (reply : List ℕ)
+pub backspace_replied : (before after : SeenSession) (store : StoreSeen) (mark : LineMark) (reply : List ℕ)
     → IsKeyChange (by_backspace before.state) before mark after reply
     → IsReply (record { session = before; store = store }) Backspace mark (record { session = after; store = store })
     reply
@@ -91,7 +91,7 @@ backspace_replied before after store lacking reply h = lacked Backspace before a
 backspace_replied before after store unsaved reply h = absurd h
 backspace_replied before after store (told n) reply h = absurd h
 
-pub enter_replied : (before after : Seen) (store : StoreSeen) (mark : Mark) (reply : List ℕ)
+pub enter_replied : (before after : SeenSession) (store : StoreSeen) (mark : LineMark) (reply : List ℕ)
     → IsKeyChange (by_enter before.state) before mark after reply
     → IsReply (record { session = before; store = store }) Enter mark (record { session = after; store = store }) reply
 enter_replied before after store plain reply h =
@@ -101,7 +101,7 @@ enter_replied before after store unsaved reply h = absurd h
 enter_replied before after store (told n) reply h = absurd h
 
 -- the edit that a key asks for was done or refused
-pub key_changed : (before after : Seen) (mods : List Mod) (to : _) (mark : Mark) (reply : List ℕ)
+pub key_changed : (before after : SeenSession) (mods : List Mod) (to : _) (mark : LineMark) (reply : List ℕ)
     → IsChange (edited (key_edit mods) before.state) before mark after reply
     → IsKeyChange (Ok (KeyEdit mods to)) before mark after reply
 key_changed before after mods to plain reply h = h
@@ -112,49 +112,51 @@ key_changed before after mods to (told n) reply h = absurd h
 -- what was said where a key does nothing, or memory ran out
 abbrev pub IsIdleReply : EditFault → Reply → Type 0
 IsIdleReply fault reply =
-    (fault ≢ Memory → (text_of reply ≡ key_reply fault) × (mark_of reply ≡ plain)) × (fault ≡ Memory → reply ≡ Wanting)
+    (fault ≢ Memory → (reply_text reply ≡ key_reply fault) × (reply_mark reply ≡ plain))
+    × (fault ≡ Memory → reply ≡ Wanting)
 
-abbrev Idles : Result Move EditFault → Seen → Mark → List ℕ → Type 0
+abbrev Idles : Result Move EditFault → SeenSession → LineMark → List ℕ → Type 0
 Idles outcome seen mark text = IsKeyChange outcome seen mark seen text
 
-named_idle : (fault : EditFault) (outcome : Result Move EditFault) (seen : Seen) (reply : Reply) → fault ≢ Memory
-    → IsIdleReply fault reply → outcome ≡ Err fault → Idles outcome seen (mark_of reply) (text_of reply)
+named_idle : (fault : EditFault) (outcome : Result Move EditFault) (seen : SeenSession) (reply : Reply) → fault ≢ Memory
+    → IsIdleReply fault reply → outcome ≡ Err fault → Idles outcome seen (reply_mark reply) (reply_text reply)
 named_idle fault outcome seen reply named h e =
     let said = h.0 named in
     let kept : IsKeptView true seen seen = record { width = refl; height = refl; fresh = refl } in
-    subst (λ o. Idles o seen (mark_of reply) (text_of reply)) (sym e)
-    (subst (λ m. Idles (Err fault) seen m (text_of reply)) (sym said.1) ((named, refl, said.0), kept))
+    subst (λ o. Idles o seen (reply_mark reply) (reply_text reply)) (sym e)
+    (subst (λ m. Idles (Err fault) seen m (reply_text reply)) (sym said.1) ((named, refl, said.0), kept))
 
 -- a key that does nothing changes nothing
-pub idle_changed : (fault : EditFault) (outcome : Result Move EditFault) (seen : Seen) (reply : Reply)
+pub idle_changed : (fault : EditFault) (outcome : Result Move EditFault) (seen : SeenSession) (reply : Reply)
     → IsIdleReply fault reply → (fault ≢ Memory → outcome ≡ Err fault)
-    → IsKeyChange outcome seen (mark_of reply) seen (text_of reply)
+    → IsKeyChange outcome seen (reply_mark reply) seen (reply_text reply)
 idle_changed NoText outcome seen reply h e = named_idle NoText outcome seen reply (λ f. cc) h (e (λ f. cc))
 idle_changed AtStart outcome seen reply h e = named_idle AtStart outcome seen reply (λ f. cc) h (e (λ f. cc))
 idle_changed AtEnd outcome seen reply h e = named_idle AtEnd outcome seen reply (λ f. cc) h (e (λ f. cc))
 idle_changed NotInParagraph outcome seen reply h e =
     named_idle NotInParagraph outcome seen reply (λ f. cc) h (e (λ f. cc))
 idle_changed Memory outcome seen reply h e =
-    subst (λ r. IsKeyChange outcome seen (mark_of r) seen (text_of r)) (sym (h.1 refl)) (refl, refl)
+    subst (λ r. IsKeyChange outcome seen (reply_mark r) seen (reply_text r)) (sym (h.1 refl)) (refl, refl)
 
 named_arrival : (fault : EditFault) (outcome : Result Move EditFault) (state : State) (reply : Reply) → fault ≢ Memory
-    → IsIdleReply fault reply → outcome ≡ Err fault → IsArrival outcome state (mark_of reply) state (text_of reply)
+    → IsIdleReply fault reply → outcome ≡ Err fault
+    → IsArrival outcome state (reply_mark reply) state (reply_text reply)
 named_arrival fault outcome state reply named h e =
     let said = h.0 named in
-    subst (λ o. IsArrival o state (mark_of reply) state (text_of reply)) (sym e)
-    (subst (λ m. IsArrival (Err fault) state m state (text_of reply)) (sym said.1) (named, refl, said.0))
+    subst (λ o. IsArrival o state (reply_mark reply) state (reply_text reply)) (sym e)
+    (subst (λ m. IsArrival (Err fault) state m state (reply_text reply)) (sym said.1) (named, refl, said.0))
 
 -- the same of the state alone
 pub idle_arrival : (fault : EditFault) (outcome : Result Move EditFault) (state : State) (reply : Reply)
     → IsIdleReply fault reply → (fault ≢ Memory → outcome ≡ Err fault)
-    → IsArrival outcome state (mark_of reply) state (text_of reply)
+    → IsArrival outcome state (reply_mark reply) state (reply_text reply)
 idle_arrival NoText outcome state reply h e = named_arrival NoText outcome state reply (λ f. cc) h (e (λ f. cc))
 idle_arrival AtStart outcome state reply h e = named_arrival AtStart outcome state reply (λ f. cc) h (e (λ f. cc))
 idle_arrival AtEnd outcome state reply h e = named_arrival AtEnd outcome state reply (λ f. cc) h (e (λ f. cc))
 idle_arrival NotInParagraph outcome state reply h e =
     named_arrival NotInParagraph outcome state reply (λ f. cc) h (e (λ f. cc))
 idle_arrival Memory outcome state reply h e =
-    subst (λ r. IsArrival outcome state (mark_of r) state (text_of r)) (sym (h.1 refl)) (refl, refl)
+    subst (λ r. IsArrival outcome state (reply_mark r) state (reply_text r)) (sym (h.1 refl)) (refl, refl)
 
 -- what a key makes of what is the document, or its stops, and of the cursor
 pub makes : {X : Type 0} (key : X → Place → Result Move EditFault) (t u : X) (at to : Place)
@@ -173,7 +175,7 @@ edits t (Err fault) h = tt
 
 -- the answer to a command that prints the view
 pub printed_answer : (it : Command) (width height : ℕ) (state : State) (v : WideView) → Prints it
-    → IsView state.buffers width height v → IsAnswer width height state it state (printed width v it)
+    → IsView state.buffers width height v → IsAnswer width height state it state (view_reply width v it)
 printed_answer Show width height state v p h = (v, h, (refl, refl))
 printed_answer (Page n) width height state v p h = (v, h, (refl, refl))
 printed_answer Errors width height state v p h = (v, h, (refl, refl))
@@ -182,7 +184,7 @@ printed_answer (Attrs r) width height state v p h = (v, h, (refl, refl))
 printed_answer it width height state v p h = absurd p
 
 -- it leaves the view fresh
-pub printed_fresh : (it : Command) (seen : Seen) → Prints it → true ≡ fresh_after seen it
+pub printed_fresh : (it : Command) (seen : SeenSession) → Prints it → true ≡ fresh_after seen it
 printed_fresh Show seen p = refl
 printed_fresh (Page n) seen p = refl
 printed_fresh Errors seen p = refl
@@ -199,7 +201,7 @@ printed_saves (Attrs r) state p = refl
 printed_saves it state p = absurd p
 
 -- memory can run out where the view isn't fresh
-pub printed_lacks : (it : Command) (seen : Seen) → Prints it → seen.fresh ≡ false → MayLack seen it
+pub printed_lacks : (it : Command) (seen : SeenSession) → Prints it → seen.fresh ≡ false → MayLack seen it
 printed_lacks Show seen p e = ap not e
 printed_lacks (Page n) seen p e = ap not e
 printed_lacks Errors seen p e = ap not e
@@ -222,10 +224,10 @@ neither : (b : Bool) → b || false ≡ b
 neither true = refl
 neither false = refl
 
-pub left_replied : (before after : Seen) (v : WideView) (store : StoreSeen) (mark : Mark) (reply : List ℕ)
+pub left_replied : (before after : SeenSession) (v : WideView) (store : StoreSeen) (mark : LineMark) (reply : List ℕ)
     → IsView before.state.buffers before.width before.height v
     → IsArrival (to_left (stops_of v.units) before.state.cursor) before.state mark after.state reply
-    → after.fresh ≡ before.fresh || is_plain mark → after.width ≡ before.width → after.height ≡ before.height
+    → after.fresh ≡ before.fresh || is_plain_mark mark → after.width ≡ before.width → after.height ≡ before.height
     → IsReply (record { session = before; store = store }) Left mark (record { session = after; store = store }) reply
 left_replied before after v store plain reply is h e w t =
     done Left before after store reply (v, is, h) (e ∙ either before.fresh) w t refl
@@ -234,10 +236,10 @@ left_replied before after v store lacking reply is h e w t =
 left_replied before after v store unsaved reply is h e w t = absurd h
 left_replied before after v store (told n) reply is h e w t = absurd h
 
-pub right_replied : (before after : Seen) (v : WideView) (store : StoreSeen) (mark : Mark) (reply : List ℕ)
+pub right_replied : (before after : SeenSession) (v : WideView) (store : StoreSeen) (mark : LineMark) (reply : List ℕ)
     → IsView before.state.buffers before.width before.height v
     → IsArrival (to_right (stops_of v.units) before.state.cursor) before.state mark after.state reply
-    → after.fresh ≡ before.fresh || is_plain mark → after.width ≡ before.width → after.height ≡ before.height
+    → after.fresh ≡ before.fresh || is_plain_mark mark → after.width ≡ before.width → after.height ≡ before.height
     → IsReply (record { session = before; store = store }) Right mark (record { session = after; store = store }) reply
 right_replied before after v store plain reply is h e w t =
     done Right before after store reply (v, is, h) (e ∙ either before.fresh) w t refl
@@ -246,10 +248,10 @@ right_replied before after v store lacking reply is h e w t =
 right_replied before after v store unsaved reply is h e w t = absurd h
 right_replied before after v store (told n) reply is h e w t = absurd h
 
-pub click_replied : (r c : ℕ) (before after : Seen) (v : WideView) (width : ℕ) (store : StoreSeen) (mark : Mark)
-    (reply : List ℕ) → IsView before.state.buffers before.width before.height v
+pub click_replied : (r c : ℕ) (before after : SeenSession) (v : WideView) (width : ℕ) (store : StoreSeen)
+    (mark : LineMark) (reply : List ℕ) → IsView before.state.buffers before.width before.height v
     → IsClicked width v r c before.state mark after.state reply → width ≡ before.width
-    → after.fresh ≡ before.fresh || is_plain mark → after.width ≡ before.width → after.height ≡ before.height
+    → after.fresh ≡ before.fresh || is_plain_mark mark → after.width ≡ before.width → after.height ≡ before.height
     → IsReply (record { session = before; store = store }) (Click r c) mark (record { session = after; store = store })
     reply
 click_replied r c before after v width store plain reply is h s e w t =
@@ -268,19 +270,19 @@ present_view bs cs w x t u v e f g h =
 
 -- ---- printing
 
-pub printed_done : (it : Command) (before : Seen) (w t : ℕ) (v : WideView) (store : StoreSeen) → Prints it
+pub printed_done : (it : Command) (before : SeenSession) (w t : ℕ) (v : WideView) (store : StoreSeen) → Prints it
     → IsView before.state.buffers before.width before.height v → w ≡ before.width → t ≡ before.height
     → IsReply (record { session = before; store = store }) it plain
     (record { session = record { state = before.state; width = w; height = t; fresh = true }; store = store })
-    (printed w v it)
+    (view_reply w v it)
 printed_done it before w t v store p is e f =
-    let after : Seen = record { state = before.state; width = w; height = t; fresh = true } in
+    let after : SeenSession = record { state = before.state; width = w; height = t; fresh = true } in
     let answer = printed_answer it before.width before.height before.state v p is in
-    done it before after store (printed w v it)
-    (subst (λ z. IsAnswer before.width before.height before.state it before.state (printed z v it)) (sym e) answer)
+    done it before after store (view_reply w v it)
+    (subst (λ z. IsAnswer before.width before.height before.state it before.state (view_reply z v it)) (sym e) answer)
     (printed_fresh it before p) e f (printed_saves it before.state p)
 
-pub printed_wanting : (it : Command) (before after : Seen) (store : StoreSeen) → Prints it → after ≡ before
+pub printed_wanting : (it : Command) (before after : SeenSession) (store : StoreSeen) → Prints it → after ≡ before
     → before.fresh ≡ false
     → IsReply (record { session = before; store = store }) it lacking (record { session = after; store = store })
     wanting_reply
@@ -288,7 +290,7 @@ printed_wanting it before after store p e f =
     lacked it before after store wanting_reply (printed_lacks it before p f) (e, refl)
 
 -- the number of steps is told
-pub work_told : (n : ℕ) (before : Seen) (w t : ℕ) (store : StoreSeen) → w ≡ before.width → t ≡ before.height
+pub work_told : (n : ℕ) (before : SeenSession) (w t : ℕ) (store : StoreSeen) → w ≡ before.width → t ≡ before.height
     → IsReply (record { session = before; store = store }) Work (told n)
     (record { session = record { state = before.state; width = w; height = t; fresh = true }; store = store })
     (work_reply n)
@@ -299,21 +301,21 @@ work_told n before w t store e f = record {
   said = refl;
 }
 
-pub work_wanting : (before after : Seen) (store : StoreSeen) → after ≡ before → before.fresh ≡ false
+pub work_wanting : (before after : SeenSession) (store : StoreSeen) → after ≡ before → before.fresh ≡ false
     → IsReply (record { session = before; store = store }) Work lacking (record { session = after; store = store })
     wanting_reply
 work_wanting before after store e f = lacked Work before after store wanting_reply (ap not f) (e, refl)
 
 pub printed_said : (r : Result (Unit {0}) WriteFault) (text : List ℕ) (before after : Option (List ℕ))
-    → IsWritten r text before after → IsSaid (going r) text before after
+    → IsTextWritten r text before after → IsSaid (next_after r) text before after
 printed_said (Ok u) text before after h = h
 printed_said (Err fault) text before after h = h
 
-pub printed_goes : (r : Result (Unit {0}) WriteFault) → going r ≢ Ok Quit
+pub printed_goes : (r : Result (Unit {0}) WriteFault) → next_after r ≢ Ok Quit
 printed_goes (Ok u) e = cc
 printed_goes (Err fault) e = cc
 
-pub printed_rose : (r : Result (Unit {0}) WriteFault) (before after : ℕ) → IsCounted r before after
-    → OnErr (going r) (Rose before after)
+pub printed_rose : (r : Result (Unit {0}) WriteFault) (before after : ℕ) → IsFaultCounted r before after
+    → OnErr (next_after r) (Rose before after)
 printed_rose (Ok u) before after h = tt
 printed_rose (Err fault) before after h = h

@@ -5,7 +5,7 @@ use Rattle.tx_mod.specs.declared.faults.ModFault.{ModFault}
 use Rattle.tx_doc.specs.declared.buffer.Buffer.{Buffer}
 use Rattle.tx_doc.specs.Buffers.{number_of}
 use Rattle.tx_state.specs.States.{State}
-use Rattle.tx_state.specs.Edits.{edited, undone, redone}
+use Rattle.tx_state.specs.Edits.{edited, undone_state, redone_state}
 use Rattle.tx_edit.specs.declared.faults.EditFault.{EditFault}
 use Rattle.tx_edit.specs.declared.moves.Move.{Move}
 use Rattle.tx_edit.specs.declared.moves.Move.TheVariants.{Edit as KeyEdit, Go as MoveTo}
@@ -82,8 +82,8 @@ pub one_answer : (law : OneView) (width height : ℕ) (state : State) (it : Comm
     → IsAnswer width height state it s a → IsAnswer width height state it t b → (s ≡ t) × (a ≡ b)
 one_answer law width height state (Change m) s t a b h k =
     one_edit state (edited (selected_edit state m) state) s t a b h k
-one_answer law width height state Undo s t a b h k = one_step state (codes "no undo") (undone state) s t a b h k
-one_answer law width height state Redo s t a b h k = one_step state (codes "no redo") (redone state) s t a b h k
+one_answer law width height state Undo s t a b h k = one_step state (codes "no undo") (undone_state state) s t a b h k
+one_answer law width height state Redo s t a b h k = one_step state (codes "no redo") (redone_state state) s t a b h k
 one_answer law width height state (At name) s t a b h k = one_choice state (number_of state.buffers name) s t a b h k
 one_answer law width height state (Go numbers) s t a b h k = one_go state numbers s t a b h k
 one_answer law width height state (Typed text) s t a b h k = one_key state (by_typing state text) s t a b h k

@@ -14,25 +14,25 @@ use Rattle.tx_words.specs.Words.{Ask, AreFaulty}
 use Rattle.tx_open.specs.declared.opening.Opened.{Opened}
 use Rattle.tx_open.specs.declared.opening.Opening.{Opening}
 use Rattle.tx_open.specs.declared.opening.Opening.TheVariants as openings
-use Rattle.tx_open.specs.Openings.{outcome_of}
-use Rattle.tx_open.specs.Outcomes.{Outcome, faulty_words, missing, too_long, no_tree, store_fault, no_memory, opened}
-use Rattle.tx_open.specs.Outcomes.{generated, ComesTo, EndsOf, Holds, IsCaused, nodes_in}
+use Rattle.tx_open.specs.Openings.{open_outcome}
+use Rattle.tx_open.specs.Outcomes.{OpenOutcome, faulty_words, missing, too_long, no_tree, store_fault, no_memory}
+use Rattle.tx_open.specs.Outcomes.{opened, generated, ComesTo, EndsOf, FileHolds, IsCaused, nodes_in_buffers}
 use Rattle.tx_open.proofs.Files.{no_fault}
 use Rattle.tx_session.specs.Forms.{SpellsNoTree}
-use Rattle.tx_session.specs.Outcomes.{status_of, text_of}
-use Rattle.tx_session.specs.Worlds.{Whole, World, KeepsFiles, world}
+use Rattle.tx_session.specs.Outcomes.{status_of, outcome_text}
+use Rattle.tx_session.specs.Worlds.{WholeSession, World, KeepsFiles, world}
 use Rattle.tx_units.specs.Units.{made}
 use Rattle.tx_doc.specs.Forms.{form_of}
-use Rattle.tx_session.specs.Runs.{Outside, outside, IsRefused, CanBeRead, Tells, IsRun, IsWritten}
+use Rattle.tx_session.specs.Runs.{Outside, seen_outside, IsFileRefused, CanBeRead, TellsScript, IsRun, IsRunWritten}
 use Rattle.tx_session.specs.Runs.{IsCutShort, IsWhole, IsBeingWritten, IsWholeUnopened, IsCutUnopened, opening_cost}
 use Rattle.tx_session.specs.Runs.{own_line, start_with}
 use Rattle.tx_session.specs.Differences.{EndsAtOpening}
-use Rattle.tx_session.specs.Playing.{HasPlayed, IsCutOff, IsEnd, IsClosed, IsClosedInPart, IsServed, IsLine}
+use Rattle.tx_session.specs.Playing.{HasPlayed, IsCutOff, IsEnd, IsClosed, IsClosedInPart, IsServed, IsUnopenedLine}
 use Rattle.tx_session.proofs.Lining.{long_unread}
 
 -- a run that was written, whole or in part
 pub run_of : (words : List (List ℕ)) (status : Status) (before after : Outside)
-    → (status ≢ statuses.OutputFault → IsWritten words status before after)
+    → (status ≢ statuses.OutputFault → IsRunWritten words status before after)
     → (status ≡ statuses.OutputFault → IsCutShort words before after) → IsRun words status before after
 run_of words statuses.OutputFault before after done cut = cut refl
 run_of words statuses.Ok before after done cut = done (λ e. cc)
@@ -45,15 +45,15 @@ run_of words statuses.NoMemory before after done cut = done (λ e. cc)
 run_of words statuses.ScriptLong before after done cut = done (λ e. cc)
 
 -- nothing was opened
-abbrev pub IsUnopened : Outcome → Type 0
+abbrev pub IsUnopened : OpenOutcome → Type 0
 IsUnopened o = (all : Opened) → (o ≢ opened all) × (o ≢ generated all)
 
 module _ (before after : Outside) (loaded : KeepsFiles before.store after.store)
     (left : after.input.left ≡ before.input.left) where
-  nothing_opened : (o : Outcome) → IsWholeUnopened o before after [] (status_of o) (text_of o)
+  nothing_opened : (o : OpenOutcome) → IsWholeUnopened o before after [] (status_of o) (outcome_text o)
   nothing_opened o = record { unmarked = refl; ended = refl; written = refl; left = left; kept = loaded }
 
-  whole_line : (o : Outcome) → IsUnopened o → IsWhole o before after [] (status_of o) (text_of o)
+  whole_line : (o : OpenOutcome) → IsUnopened o → IsWhole o before after [] (status_of o) (outcome_text o)
   whole_line faulty_words u = nothing_opened faulty_words
   whole_line (missing file) u = nothing_opened (missing file)
   whole_line (too_long file) u = nothing_opened (too_long file)
@@ -63,11 +63,12 @@ module _ (before after : Outside) (loaded : KeepsFiles before.store after.store)
   whole_line (opened all) u = absurd ((u all).0 refl)
   whole_line (generated all) u = absurd ((u all).1 refl)
 
-  nothing_done : (o : Outcome) → IsCaused before.store after.store o → IsCutUnopened o before after [] (text_of o)
+  nothing_done : (o : OpenOutcome) → IsCaused before.store after.store o
+      → IsCutUnopened o before after [] (outcome_text o)
   nothing_done o c = record { none = refl; being = refl; left = left; kept = loaded; caused = c }
 
-  line_being : (o : Outcome) → IsCaused before.store after.store o → IsUnopened o
-      → IsBeingWritten o before after [] (text_of o)
+  line_being : (o : OpenOutcome) → IsCaused before.store after.store o → IsUnopened o
+      → IsBeingWritten o before after [] (outcome_text o)
   line_being faulty_words c u = nothing_done faulty_words c
   line_being (missing file) c u = nothing_done (missing file) c
   line_being (too_long file) c u = nothing_done (too_long file) c
@@ -82,33 +83,36 @@ nothing_before : (before after : Option (List ℕ)) (part : List ℕ) → Append
 nothing_before before after part p = subst (λ b. AppendsPart part b after) (sym (append_known-nil before)) p
 
 -- the line of an outcome that opened nothing
-pub line_run : (words : List (List ℕ)) (stored later : StoreSeen) (old new : ℕ) (input : SourceSeen) (o : Outcome)
+pub line_run : (words : List (List ℕ)) (stored later : StoreSeen) (old new : ℕ) (input : SourceSeen) (o : OpenOutcome)
     (status : Status) (before after : SinkSeen) → KeepsFiles stored later → IsCaused stored later o → IsUnopened o
     → ComesTo words stored.files o
     → (status ≢ statuses.OutputFault
-    → (status ≡ status_of o) × (after.written ≡ append_known before.written (text_of o)))
-    → (status ≡ statuses.OutputFault → AppendsPart (text_of o) before.written after.written)
-    → IsRun words status (outside stored input before old) (outside later input after new)
+    → (status ≡ status_of o) × (after.written ≡ append_known before.written (outcome_text o)))
+    → (status ≡ statuses.OutputFault → AppendsPart (outcome_text o) before.written after.written)
+    → IsRun words status (seen_outside stored input before old) (seen_outside later input after new)
 line_run words stored later old new input o status before after loaded caused u comes done cut =
-    run_of words status (outside stored input before old) (outside later input after new)
+    run_of words status (seen_outside stored input before old) (seen_outside later input after new)
     (λ n. let d = done n in
     record {
       outcome = o;
       marks = [];
-      text = text_of o;
+      text = outcome_text o;
       comes = comes;
       caused = caused;
-      whole = subst (λ s. IsWhole o (outside stored input before old) (outside later input after new) [] s (text_of o))
-          (sym d.0) (whole_line (outside stored input before old) (outside later input after new) loaded refl o u);
+      whole = subst
+          (λ s. IsWhole o (seen_outside stored input before old) (seen_outside later input after new) [] s
+          (outcome_text o)) (sym d.0)
+          (whole_line (seen_outside stored input before old) (seen_outside later input after new) loaded refl o u);
       written = d.1;
     })
     (λ e. record {
       outcome = o;
       done = [];
-      part = text_of o;
+      part = outcome_text o;
       comes = comes;
-      being = line_being (outside stored input before old) (outside later input after new) loaded refl o caused u;
-      cut = nothing_before before.written after.written (text_of o) (cut e);
+      being = line_being (seen_outside stored input before old) (seen_outside later input after new) loaded refl o
+          caused u;
+      cut = nothing_before before.written after.written (outcome_text o) (cut e);
     })
 
 closed : (start last : World) (told rest : Option (List ℕ)) (status result : Status)
@@ -188,10 +192,10 @@ module _ (words : List (List ℕ)) (stored first : StoreSeen) (old steps : ℕ) 
   beginning = start_with all first steps
 
   abbrev began : Outside
-  began = outside stored input before old
+  began = seen_outside stored input before old
 
   abbrev ended : Outside
-  ended = outside last.store behind after last.steps
+  ended = seen_outside last.store behind after last.steps
 
   abbrev input_rose : Type 0
   input_rose = Rose input.faults behind.faults
@@ -281,12 +285,12 @@ module _ (words : List (List ℕ)) (stored first : StoreSeen) (old steps : ℕ) 
 -- the same, or memory ran out before its session began
 module _ (words : List (List ℕ)) (stored first later : StoreSeen) (old mid new : ℕ) (input behind : SourceSeen)
     (all : Opened) (status : Status) (before after : SinkSeen) (loaded : KeepsFiles stored first)
-    (within : mid ≤ old + nodes_in all.buffers) (comes : ComesTo words stored.files (opened all)) where
+    (within : mid ≤ old + nodes_in_buffers all.buffers) (comes : ComesTo words stored.files (opened all)) where
   abbrev IsThis : StoreSeen → SourceSeen → Type 0
-  IsThis store source = IsRun words status (outside stored input before old) (outside store source after new)
+  IsThis store source = IsRun words status (seen_outside stored input before old) (seen_outside store source after new)
 
-  pub whole_run : ((later ≡ first) × (behind ≡ input) × IsLine no_memory status before.written after.written)
-      ⊎ ((begun : ℕ) × (last : Whole) × (begun ≤ mid + made all.buffers)
+  pub whole_run : ((later ≡ first) × (behind ≡ input) × IsUnopenedLine no_memory status before.written after.written)
+      ⊎ ((begun : ℕ) × (last : WholeSession) × (begun ≤ mid + made all.buffers)
       × IsServed (Rose input.faults behind.faults) status (start_with all first begun) (world last later new) input.left
       behind.left before.written after.written) → IsThis later behind
   whole_run (inl l) =
@@ -299,12 +303,13 @@ module _ (words : List (List ℕ)) (stored first later : StoreSeen) (old mid new
       (omega (arith, within, s.2)) comes status s.3
 
 -- the line that says why nothing was opened
-module _ (words : List (List ℕ)) (stored later : StoreSeen) (old new : ℕ) (o : Outcome) (status : Status)
+module _ (words : List (List ℕ)) (stored later : StoreSeen) (old new : ℕ) (o : OpenOutcome) (status : Status)
     (before after : SinkSeen) (loaded : KeepsFiles stored later) (caused : IsCaused stored later o) (u : IsUnopened o)
     (comes : ComesTo words stored.files o)
-    (line : IsLine o status before.written after.written ⊎ IsLine no_memory status before.written after.written) where
+    (line : IsUnopenedLine o status before.written after.written
+    ⊎ IsUnopenedLine no_memory status before.written after.written) where
   pub reported_run : (input : SourceSeen)
-      → IsRun words status (outside stored input before old) (outside later input after new)
+      → IsRun words status (seen_outside stored input before old) (seen_outside later input after new)
   reported_run input =
       elim line [
         | inl l ↦ line_run words stored later old new input o status before after loaded caused u comes l.done l.cut
@@ -317,7 +322,7 @@ module _ (words : List (List ℕ)) (stored later : StoreSeen) (old new : ℕ) (o
 
 -- what became of the words, and why
 unopened : (r : Opening) → ((all : Opened) → r ≡ openings.Opened all → ⊥)
-    → ((all : Opened) → r ≡ openings.Generated all → ⊥) → IsUnopened (outcome_of r)
+    → ((all : Opened) → r ≡ openings.Generated all → ⊥) → IsUnopened (open_outcome r)
 unopened openings.FaultyWords n m all = ((λ e. cc), (λ e. cc))
 unopened (openings.Missing f) n m all = ((λ e. cc), (λ e. cc))
 unopened (openings.TooLong f) n m all = ((λ e. cc), (λ e. cc))
@@ -328,7 +333,7 @@ unopened openings.NoMemory n m all = ((λ e. cc), (λ e. cc))
 unopened (openings.Opened found) n m all = absurd (n found refl)
 unopened (openings.Generated found) n m all = absurd (m found refl)
 
-worded : (r : Opening) → r ≢ openings.FaultyWords → outcome_of r ≢ faulty_words
+worded : (r : Opening) → r ≢ openings.FaultyWords → open_outcome r ≢ faulty_words
 worded openings.FaultyWords n e = n refl
 worded (openings.Missing f) n e = cc
 worded (openings.TooLong f) n e = cc
@@ -340,10 +345,10 @@ worded (openings.Opened all) n e = cc
 worded (openings.Generated all) n e = cc
 
 -- an outcome that opened nothing, with a status
-abbrev pub Fits : Outcome → Status → Type 0
+abbrev pub Fits : OpenOutcome → Status → Type 0
 Fits o status = (status ≡ status_of o) ⊎ (status ≡ statuses.NoMemory)
 
-words_status : (o : Outcome) → o ≢ faulty_words → status_of o ≡ statuses.Words → ⊥
+words_status : (o : OpenOutcome) → o ≢ faulty_words → status_of o ≡ statuses.Words → ⊥
 words_status faulty_words n e = n refl
 words_status (missing f) n e = cc
 words_status (too_long f) n e = cc
@@ -353,7 +358,7 @@ words_status no_memory n e = cc
 words_status (opened all) n e = cc
 words_status (generated all) n e = cc
 
-early_status : (o : Outcome) → (status_of o ≡ statuses.InputFault → ⊥) × (status_of o ≡ statuses.ScriptLong → ⊥)
+early_status : (o : OpenOutcome) → (status_of o ≡ statuses.InputFault → ⊥) × (status_of o ≡ statuses.ScriptLong → ⊥)
     × (status_of o ≡ statuses.OutputFault → ⊥)
 early_status faulty_words = ((λ e. cc), (λ e. cc), (λ e. cc))
 early_status (missing f) = ((λ e. cc), (λ e. cc), (λ e. cc))
@@ -364,9 +369,9 @@ early_status no_memory = ((λ e. cc), (λ e. cc), (λ e. cc))
 early_status (opened all) = ((λ e. cc), (λ e. cc), (λ e. cc))
 early_status (generated all) = ((λ e. cc), (λ e. cc), (λ e. cc))
 
-refused_of : (words : List (List ℕ)) (old new : StoreSeen) (o : Outcome) (h : EndsOf words old.files o)
-    → (Rose old.longs new.longs ⊎ ((bytes : List ℕ) × Holds old.files h.ends.file.word bytes
-    × SpellsNoTree (form_of h.ends.file.word) bytes)) → IsRefused words old new
+refused_of : (words : List (List ℕ)) (old new : StoreSeen) (o : OpenOutcome) (h : EndsOf words old.files o)
+    → (Rose old.longs new.longs ⊎ ((bytes : List ℕ) × FileHolds old.files h.ends.file.word bytes
+    × SpellsNoTree (form_of h.ends.file.word) bytes)) → IsFileRefused words old new
 refused_of words old new o h why =
     let ends = h.ends in
     record {
@@ -381,8 +386,8 @@ refused_of words old new o h why =
       refused = why;
     }
 
-refused_outcome : (words : List (List ℕ)) (old new : StoreSeen) (o : Outcome) → ComesTo words old.files o
-    → IsCaused old new o → status_of o ≡ statuses.Refused → IsRefused words old new
+refused_outcome : (words : List (List ℕ)) (old new : StoreSeen) (o : OpenOutcome) → ComesTo words old.files o
+    → IsCaused old new o → status_of o ≡ statuses.Refused → IsFileRefused words old new
 refused_outcome words old new (too_long f) h c e = refused_of words old new (too_long f) h (inl c)
 refused_outcome words old new (no_tree f fault) h c e =
     let why = h.ends.ends.1 in
@@ -396,7 +401,7 @@ refused_outcome words old new (opened all) h c e = cc
 refused_outcome words old new (generated all) h c e = cc
 
 -- a served session, by its status
-unread_told : (told : Option (List ℕ)) (script : List ℕ) → Tells told script → (CanBeRead script → ⊥)
+unread_told : (told : Option (List ℕ)) (script : List ℕ) → TellsScript told script → (CanBeRead script → ⊥)
     → IfSome told (λ s. ¬ CanBeRead s)
 unread_told None script tells h = tt
 unread_told (Some s) script tells h = λ r. h (subst CanBeRead tells r)
@@ -435,7 +440,7 @@ served_complete failed statuses.Refused start last told rest before after script
 served_complete failed statuses.StoreFault start last told rest before after script s e can i o = absurd s.played
 
 module _ (old new : StoreSeen) where
-  pub caused_of : (o : Outcome) → ((word : List ℕ) → o ≡ missing word → Rose old.misses new.misses)
+  pub caused_of : (o : OpenOutcome) → ((word : List ℕ) → o ≡ missing word → Rose old.misses new.misses)
       → ((word : List ℕ) → o ≡ too_long word → Rose old.longs new.longs)
       → ((word : List ℕ) → o ≡ store_fault word → Rose old.faults new.faults) → IsCaused old new o
   caused_of faulty_words m l f = tt
@@ -447,7 +452,7 @@ module _ (old new : StoreSeen) where
   caused_of (opened all) m l f = tt
   caused_of (generated all) m l f = tt
 
-  missed : (o : Outcome) → IsCaused old new o → status_of o ≡ statuses.Missing → Rose old.misses new.misses
+  missed : (o : OpenOutcome) → IsCaused old new o → status_of o ≡ statuses.Missing → Rose old.misses new.misses
   missed faulty_words c e = cc
   missed (missing word) c e = c
   missed (too_long word) c e = cc
@@ -457,7 +462,7 @@ module _ (old new : StoreSeen) where
   missed (opened all) c e = cc
   missed (generated all) c e = cc
 
-  failed_store : (o : Outcome) → IsCaused old new o → status_of o ≡ statuses.StoreFault → Rose old.faults new.faults
+  failed_store : (o : OpenOutcome) → IsCaused old new o → status_of o ≡ statuses.StoreFault → Rose old.faults new.faults
   failed_store faulty_words c e = cc
   failed_store (missing word) c e = cc
   failed_store (too_long word) c e = cc
@@ -471,15 +476,15 @@ module _ (old new : StoreSeen) where
 pub record Unopened (words : List (List ℕ)) (old new : StoreSeen) (r : Opening) (status : Status) : Type 0 where
   pub not_words : status ≡ statuses.Words → ⊥
   pub missing_counted : status ≡ statuses.Missing → Rose old.misses new.misses
-  pub refused : status ≡ statuses.Refused → IsRefused words old new
+  pub refused : status ≡ statuses.Refused → IsFileRefused words old new
   pub fault_counted : status ≡ statuses.StoreFault → Rose old.faults new.faults
   pub not_input : status ≡ statuses.InputFault → ⊥
   pub not_long : status ≡ statuses.ScriptLong → ⊥
   pub words_only : AreFaulty words
       → (status ≡ statuses.Words) ⊎ (status ≡ statuses.NoMemory) ⊎ (status ≡ statuses.OutputFault)
-  pub complete : (outcome_of r ≡ no_memory) ⊎ ((all : Opened) × (r ≡ openings.Opened all))
+  pub complete : (open_outcome r ≡ no_memory) ⊎ ((all : Opened) × (r ≡ openings.Opened all))
       → (status ≡ statuses.OutputFault → ⊥) → status ≡ statuses.NoMemory
-  pub complete_generated : (outcome_of r ≡ no_memory) ⊎ ((all : Opened) × (r ≡ openings.Generated all))
+  pub complete_generated : (open_outcome r ≡ no_memory) ⊎ ((all : Opened) × (r ≡ openings.Generated all))
       → (status ≡ statuses.OutputFault → ⊥) → status ≡ statuses.NoMemory
 
 is_output_fault : (s : Status) → (s ≡ statuses.OutputFault) ⊎ (s ≢ statuses.OutputFault)
@@ -494,10 +499,10 @@ is_output_fault statuses.NoMemory = inr (λ e. cc)
 is_output_fault statuses.ScriptLong = inr (λ e. cc)
 
 -- where a file decided, the words ask for files
-asking : (words : List (List ℕ)) (files : Option Files) (o : Outcome) → EndsOf words files o → AreFaulty words → ⊥
+asking : (words : List (List ℕ)) (files : Option Files) (o : OpenOutcome) → EndsOf words files o → AreFaulty words → ⊥
 asking words files o h faulty = faulty h.width h.height (AllFiles h.names) h.asked
 
-nothing_asked : (words : List (List ℕ)) (files : Option Files) (o : Outcome) → ComesTo words files o → IsUnopened o
+nothing_asked : (words : List (List ℕ)) (files : Option Files) (o : OpenOutcome) → ComesTo words files o → IsUnopened o
     → o ≢ faulty_words → AreFaulty words → status_of o ≡ statuses.NoMemory
 nothing_asked words files faulty_words h u n faulty = absurd (n refl)
 nothing_asked words files (missing word) h u n faulty = absurd (asking words files (missing word) h faulty)
@@ -509,56 +514,56 @@ nothing_asked words files (opened all) h u n faulty = absurd ((u all).0 refl)
 nothing_asked words files (generated all) h u n faulty = absurd ((u all).1 refl)
 
 module _ (words : List (List ℕ)) (stored later : StoreSeen) (old new : ℕ) (r : Opening) (status : Status)
-    (before after : SinkSeen) (loaded : KeepsFiles stored later) (comes : ComesTo words stored.files (outcome_of r))
-    (caused : IsCaused stored later (outcome_of r)) (n : r ≢ openings.FaultyWords)
+    (before after : SinkSeen) (loaded : KeepsFiles stored later) (comes : ComesTo words stored.files (open_outcome r))
+    (caused : IsCaused stored later (open_outcome r)) (n : r ≢ openings.FaultyWords)
     (u : (all : Opened) → r ≡ openings.Opened all → ⊥) (m : (all : Opened) → r ≡ openings.Generated all → ⊥)
-    (line : IsLine (outcome_of r) status before.written after.written
-    ⊎ IsLine no_memory status before.written after.written) where
+    (line : IsUnopenedLine (open_outcome r) status before.written after.written
+    ⊎ IsUnopenedLine no_memory status before.written after.written) where
   pub unopened_run : (input : SourceSeen)
-      → IsRun words status (outside stored input before old) (outside later input after new)
+      → IsRun words status (seen_outside stored input before old) (seen_outside later input after new)
   unopened_run input =
-      reported_run words stored later old new (outcome_of r) status before after loaded caused (unopened r u m) comes
+      reported_run words stored later old new (open_outcome r) status before after loaded caused (unopened r u m) comes
       line input
 
-  fits : status ≢ statuses.OutputFault → Fits (outcome_of r) status
+  fits : status ≢ statuses.OutputFault → Fits (open_outcome r) status
   fits d =
-      reported_status words stored later old new (outcome_of r) status before after loaded caused (unopened r u m) comes
-      line d
+      reported_status words stored later old new (open_outcome r) status before after loaded caused (unopened r u m)
+      comes line d
 
   by_outcome : (s : Status) → status ≡ s → s ≢ statuses.OutputFault → s ≢ statuses.NoMemory
-      → status_of (outcome_of r) ≡ s
+      → status_of (open_outcome r) ≡ s
   by_outcome s e o w = elim (fits (λ d. o (sym e ∙ d))) [ inl is ↦ sym is ∙ e | inr is ↦ absurd (w (sym e ∙ is)) ]
 
   -- the words ask for nothing, or memory ran out before they were read
-  none_asked : AreFaulty words → status_of (outcome_of r) ≡ statuses.NoMemory
-  none_asked faulty = nothing_asked words stored.files (outcome_of r) comes (unopened r u m) (worded r n) faulty
+  none_asked : AreFaulty words → status_of (open_outcome r) ≡ statuses.NoMemory
+  none_asked faulty = nothing_asked words stored.files (open_outcome r) comes (unopened r u m) (worded r n) faulty
 
-  opened_not : (outcome_of r ≡ no_memory) ⊎ ((all : Opened) × (r ≡ openings.Opened all))
-      → status_of (outcome_of r) ≡ statuses.NoMemory
+  opened_not : (open_outcome r ≡ no_memory) ⊎ ((all : Opened) × (r ≡ openings.Opened all))
+      → status_of (open_outcome r) ≡ statuses.NoMemory
   opened_not (inl e) = ap status_of e
   opened_not (inr e) = absurd (u e.0 e.1)
 
-  generated_not : (outcome_of r ≡ no_memory) ⊎ ((all : Opened) × (r ≡ openings.Generated all))
-      → status_of (outcome_of r) ≡ statuses.NoMemory
+  generated_not : (open_outcome r ≡ no_memory) ⊎ ((all : Opened) × (r ≡ openings.Generated all))
+      → status_of (open_outcome r) ≡ statuses.NoMemory
   generated_not (inl e) = ap status_of e
   generated_not (inr e) = absurd (m e.0 e.1)
 
-  wanting : status_of (outcome_of r) ≡ statuses.NoMemory → status ≢ statuses.OutputFault
+  wanting : status_of (open_outcome r) ≡ statuses.NoMemory → status ≢ statuses.OutputFault
       → status ≡ statuses.NoMemory
   wanting e d = elim (fits d) [ inl is ↦ is ∙ e | inr is ↦ is ]
 
   pub unopened_causes : Unopened words stored later r status
   unopened_causes =
       record {
-        not_words = λ e. words_status (outcome_of r) (worded r n) (by_outcome statuses.Words e (λ d. cc) (λ d. cc));
-        missing_counted = λ e. missed stored later (outcome_of r) caused
+        not_words = λ e. words_status (open_outcome r) (worded r n) (by_outcome statuses.Words e (λ d. cc) (λ d. cc));
+        missing_counted = λ e. missed stored later (open_outcome r) caused
             (by_outcome statuses.Missing e (λ d. cc) (λ d. cc));
-        refused = λ e. refused_outcome words stored later (outcome_of r) comes caused
+        refused = λ e. refused_outcome words stored later (open_outcome r) comes caused
             (by_outcome statuses.Refused e (λ d. cc) (λ d. cc));
-        fault_counted = λ e. failed_store stored later (outcome_of r) caused
+        fault_counted = λ e. failed_store stored later (open_outcome r) caused
             (by_outcome statuses.StoreFault e (λ d. cc) (λ d. cc));
-        not_input = λ e. (early_status (outcome_of r)).0 (by_outcome statuses.InputFault e (λ d. cc) (λ d. cc));
-        not_long = λ e. (early_status (outcome_of r)).1 (by_outcome statuses.ScriptLong e (λ d. cc) (λ d. cc));
+        not_input = λ e. (early_status (open_outcome r)).0 (by_outcome statuses.InputFault e (λ d. cc) (λ d. cc));
+        not_long = λ e. (early_status (open_outcome r)).1 (by_outcome statuses.ScriptLong e (λ d. cc) (λ d. cc));
         words_only = λ faulty. elim (is_output_fault status) [
           | inl e ↦ inr (inr e)
           | inr d ↦ inr (inl (wanting (none_asked faulty) d))

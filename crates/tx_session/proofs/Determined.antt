@@ -7,21 +7,23 @@ use Rattle.tx_cmd.proofs.Once.{one_command, one_cause, no_cause}
 use Rattle.tx_session.specs.declared.status.Status.{Status}
 use Rattle.tx_session.specs.declared.status.Status.TheVariants as statuses
 use Rattle.tx_session.specs.States.{IsAnswer}
-use Rattle.tx_session.specs.Worlds.{Seen, SeenWorld, World, seen_in, Mark, plain, lacking, unsaved, told}
+use Rattle.tx_session.specs.Worlds.{SeenSession, SeenWorld, World, seen_of_world, LineMark, plain, lacking, unsaved}
+use Rattle.tx_session.specs.Worlds.{told}
 use Rattle.tx_session.specs.Replies.{fresh_after, Reading, nothing, too_long, unread, command, faulty, wanting_reply}
-use Rattle.tx_session.specs.Replies.{IsRead, IsReply, IsReplyTo, IsRefusal, IsLineReply}
+use Rattle.tx_session.specs.Replies.{IsLineRead, IsReply, IsReplyTo, IsRefusalReply, IsLineReply}
 use Rattle.tx_session.specs.Scripts.{Answered, before_quit, command_line}
-use Rattle.tx_open.specs.Outcomes.{Outcome, faulty_words, missing, too_long as file_too_long, no_tree, store_fault}
+use Rattle.tx_open.specs.Outcomes.{OpenOutcome, faulty_words, missing, too_long as file_too_long, no_tree, store_fault}
 use Rattle.tx_open.specs.Outcomes.{no_memory, opened, generated, ComesTo, IsDecided}
 use Rattle.tx_session.specs.Runs.{IsWhole, IsPlayed, IsPlayedAlone, IsFinal, own_line, start_with, generated_script}
-use Rattle.tx_session.specs.Runs.{Outside, Tells, no_files}
+use Rattle.tx_session.specs.Runs.{Outside, TellsScript, no_files}
 use Rattle.tx_session.proofs.Answering.{OneView, one_answer}
 use Rattle.tx_session.proofs.Turning.{same_seen}
 use Rattle.tx_session.proofs.Lining.{script_lines_once, long_unread}
 use Rattle.tx_session.proofs.Openings.{OneOutcome}
 
 -- of two readings without want of memory
-pub one_reading : (text : List ℕ) (a b : Reading) → a ≢ unread → b ≢ unread → IsRead text a → IsRead text b → a ≡ b
+pub one_reading : (text : List ℕ) (a b : Reading) → a ≢ unread → b ≢ unread → IsLineRead text a → IsLineRead text b
+    → a ≡ b
 one_reading text unread b n m h k = absurd (n refl)
 one_reading text nothing unread n m h k = absurd (m refl)
 one_reading text (too_long c) unread n m h k = absurd (m refl)
@@ -45,12 +47,12 @@ one_reading text (faulty f) (command d) n m h k = absurd (no_cause text d f h.1 
 one_reading text (faulty f) (faulty e) n m h k = ap (λ f. faulty f) (one_cause text f e h.1 k.1 h.2 k.2)
 
 -- with a fresh view
-abbrev made_fresh : Seen → Seen
+abbrev made_fresh : SeenSession → SeenSession
 made_fresh x = record x { fresh = true }
 
 -- what the answer depends on
 module _ (law : OneView) (v w : SeenWorld) (same : v.session ≡ w.session) where
-  pub one_reply : (it : Command) (mark : Mark) (s t : SeenWorld) (a b : List ℕ) → IsReply v it mark s a
+  pub one_reply : (it : Command) (mark : LineMark) (s t : SeenWorld) (a b : List ℕ) → IsReply v it mark s a
       → IsReply w it mark t b → (s.session ≡ t.session) × (a ≡ b)
   one_reply it plain s t a b h k =
       let again : IsAnswer v.session.width v.session.height v.session.state it t.session.state b =
@@ -68,7 +70,7 @@ module _ (law : OneView) (v w : SeenWorld) (same : v.session ≡ w.session) wher
       (h.session ∙ ap made_fresh same ∙ sym k.session, h.said ∙ sym k.said)
 
 -- as it is seen
-abbrev seen_of : World → Seen
+abbrev seen_of : World → SeenSession
 seen_of w = w.session.seen
 
 both_before : (v w s t : World) → seen_of v ≡ seen_of w → s.session ≡ v.session → t.session ≡ w.session
@@ -76,21 +78,22 @@ both_before : (v w s t : World) → seen_of v ≡ seen_of w → s.session ≡ v.
 both_before v w s t same e f = ap (λ x. x.seen) e ∙ same ∙ sym (ap (λ x. x.seen) f)
 
 module _ (law : OneView) (v w : World) (same : seen_of v ≡ seen_of w) where
-  one_refusal : (text : List ℕ) (mark : Mark) (s t : World) (a b : List ℕ) → IsRefusal v text mark s a
-      → IsRefusal w text mark t b → (seen_of s ≡ seen_of t) × (a ≡ b)
+  one_refusal : (text : List ℕ) (mark : LineMark) (s t : World) (a b : List ℕ) → IsRefusalReply v text mark s a
+      → IsRefusalReply w text mark t b → (seen_of s ≡ seen_of t) × (a ≡ b)
   one_refusal text plain s t a b h k = (both_before v w s t same h.0.session k.0.session, h.1 ∙ sym k.1)
   one_refusal text lacking s t a b h k = (both_before v w s t same h.0.session k.0.session, h.1 ∙ sym k.1)
   one_refusal text unsaved s t a b h k = absurd h
   one_refusal text (told n) s t a b h k = absurd h
 
-  one_reply_to : (reading : Reading) (mark : Mark) (s t : World) (a b : List ℕ) → IsReplyTo v reading mark s a
+  one_reply_to : (reading : Reading) (mark : LineMark) (s t : World) (a b : List ℕ) → IsReplyTo v reading mark s a
       → IsReplyTo w reading mark t b → (seen_of s ≡ seen_of t) × (a ≡ b)
   one_reply_to nothing mark s t a b h k =
       (both_before v w s t same (ap (λ x. x.session) h.1) (ap (λ x. x.session) k.1), h.2 ∙ sym k.2)
   one_reply_to (too_long n) mark s t a b h k = one_refusal _ mark s t a b h.0 k.0
   one_reply_to unread mark s t a b h k = (both_before v w s t same h.1.session k.1.session, h.2 ∙ sym k.2)
   one_reply_to (command c) mark s t a b h k =
-      one_reply law (seen_in v) (seen_in w) same c mark (seen_in s) (seen_in t) a b h.1.replied k.1.replied
+      one_reply law (seen_of_world v) (seen_of_world w) same c mark (seen_of_world s)
+      (seen_of_world t) a b h.1.replied k.1.replied
   one_reply_to (faulty f) mark s t a b h k = one_refusal _ mark s t a b h k
 
 -- where memory ran out, what is seen of the session has not changed, whatever the line is
@@ -103,11 +106,11 @@ lacked v (command c) next reply h = let r = h.1.replied in (r.1, r.3)
 lacked v (faulty f) next reply h = (ap (λ x. x.seen) h.0.session, h.1)
 
 -- with another mark the line was read
-abbrev pub IsSomeMark : Mark → Type 0
+abbrev pub IsSomeMark : LineMark → Type 0
 IsSomeMark lacking = ⊥
 IsSomeMark mark = Unit {0}
 
-pub was_read : (v : World) (reading : Reading) (mark : Mark) (next : World) (reply : List ℕ) → IsSomeMark mark
+pub was_read : (v : World) (reading : Reading) (mark : LineMark) (next : World) (reply : List ℕ) → IsSomeMark mark
     → IsReplyTo v reading mark next reply → reading ≢ unread
 was_read v nothing mark next reply m h e = cc
 was_read v (too_long n) mark next reply m h e = cc
@@ -116,14 +119,14 @@ was_read v (command c) mark next reply m h e = cc
 was_read v (faulty f) mark next reply m h e = cc
 
 module _ (law : OneView) (v w : World) (same : seen_of v ≡ seen_of w) (text : List ℕ) where
-  read_reply : (mark : Mark) (s t : World) (a b : List ℕ) → IsSomeMark mark → IsLineReply v text mark s a
+  read_reply : (mark : LineMark) (s t : World) (a b : List ℕ) → IsSomeMark mark → IsLineReply v text mark s a
       → IsLineReply w text mark t b → (seen_of s ≡ seen_of t) × (a ≡ b)
   read_reply mark s t a b m h k =
       one_reply_to law v w same h.0 mark s t a b h.2
       (subst (λ r. IsReplyTo w r mark t b)
       (one_reading text k.0 h.0 (was_read w k.0 mark t b m k.2) (was_read v h.0 mark s a m h.2) k.1 h.1) k.2)
 
-  pub one_line_reply : (mark : Mark) (s t : World) (a b : List ℕ) → IsLineReply v text mark s a
+  pub one_line_reply : (mark : LineMark) (s t : World) (a b : List ℕ) → IsLineReply v text mark s a
       → IsLineReply w text mark t b → (seen_of s ≡ seen_of t) × (a ≡ b)
   one_line_reply lacking s t a b h k = let x = lacked v h.0 s a h.2 in let y = lacked w k.0 t b k.2 in
       (x.0 ∙ same ∙ sym y.0, x.1 ∙ sym y.1)
@@ -132,7 +135,7 @@ module _ (law : OneView) (v w : World) (same : seen_of v ≡ seen_of w) (text : 
   one_line_reply (told n) s t a b h k = read_reply (told n) s t a b tt h k
 
 -- lines with the same marks have the same replies
-pub answered_once : (law : OneView) (v w s t : World) (lines : List (List ℕ)) (marks : List Mark) (a b : List ℕ)
+pub answered_once : (law : OneView) (v w s t : World) (lines : List (List ℕ)) (marks : List LineMark) (a b : List ℕ)
     → seen_of v ≡ seen_of w → Answered v lines marks s a → Answered w lines marks t b
     → (seen_of s ≡ seen_of t) × (a ≡ b)
 answered_once law v w s t [] [] a b same h k =
@@ -144,7 +147,7 @@ answered_once law v w s t (l ∷ lines) (m ∷ marks) a b same h k =
     let more = answered_once law h.0 k.0 s t lines marks h.2 k.2 one.0 h.4 k.4 in
     (more.0, h.5 ∙ (λ i. one.1 i ++ more.1 i) ∙ sym k.5)
 
-played_once : (law : OneView) (v w x y : World) (script : List ℕ) (marks : List Mark) (r q : Option (List ℕ))
+played_once : (law : OneView) (v w x y : World) (script : List ℕ) (marks : List LineMark) (r q : Option (List ℕ))
     (s t : Status)
     (a b : List ℕ) → seen_of v ≡ seen_of w → IsFinal s → IsFinal t → IsPlayed v script marks r s x a
     → IsPlayed w script marks q t y b → (s ≡ t) × (a ≡ b)
@@ -187,7 +190,7 @@ played_once law v w x y script marks r q statuses.ScriptLong statuses.OutputFaul
 played_once law v w x y script marks r q statuses.ScriptLong statuses.NoMemory a b e f g h k = absurd g
 
 -- a run that ends with a final status had no fault of the store and no want of memory at opening
-pub decided : (o : Outcome) (before after : Outside) (marks : List Mark) (s : Status) (a : List ℕ) → IsFinal s
+pub decided : (o : OpenOutcome) (before after : Outside) (marks : List LineMark) (s : Status) (a : List ℕ) → IsFinal s
     → IsWhole o before after marks s a → IsDecided o
 decided (store_fault f) before after marks s a fin w = absurd (subst IsFinal w.ended fin)
 decided no_memory before after marks s a fin w = absurd (subst IsFinal w.ended fin)
@@ -199,14 +202,14 @@ decided (opened all) before after marks s a fin w = tt
 decided (generated all) before after marks s a fin w = tt
 
 -- the script that the input told
-pub told_script : (input : Option (List ℕ)) (script other : List ℕ) → input ≡ Some script → Tells input other
+pub told_script : (input : Option (List ℕ)) (script other : List ℕ) → input ≡ Some script → TellsScript input other
     → other ≡ script
-told_script input script other e tells = sym (subst (λ i. Tells i other) e tells)
+told_script input script other e tells = sym (subst (λ i. TellsScript i other) e tells)
 
 module _ (law : OneView) (v w x y : Outside) (script : List ℕ) (ev : v.input.left ≡ Some script)
-    (ew : w.input.left ≡ Some script) (marks : List Mark) (s t : Status) (a b : List ℕ) (fs : IsFinal s)
+    (ew : w.input.left ≡ Some script) (marks : List LineMark) (s t : Status) (a b : List ℕ) (fs : IsFinal s)
     (ft : IsFinal t) where
-  same_whole : (o : Outcome) → IsWhole o v x marks s a → IsWhole o w y marks t b → (s ≡ t) × (a ≡ b)
+  same_whole : (o : OpenOutcome) → IsWhole o v x marks s a → IsWhole o w y marks t b → (s ≡ t) × (a ≡ b)
   same_whole (opened all) g h =
       let first : World = start_with all g.first g.steps in
       let other : World = start_with all h.first h.steps in
@@ -231,7 +234,8 @@ module _ (law : OneView) (v w x y : Outside) (script : List ℕ) (ev : v.input.l
   same_whole no_memory g h = (g.ended ∙ sym h.ended, g.written ∙ sym h.written)
 
 pub one_run : (law : OneView) (opens : OneOutcome) (words : List (List ℕ)) (all : Files) (script : List ℕ)
-    (marks : List Mark) (o p : Outcome) (v w x y : Outside) (s t : Status) (a b : List ℕ) → IsFinal s → IsFinal t
+    (marks : List LineMark) (o p : OpenOutcome) (v w x y : Outside) (s t : Status) (a b : List ℕ) → IsFinal s
+    → IsFinal t
     → v.input.left ≡ Some script → w.input.left ≡ Some script → ComesTo words (Some all) o → ComesTo words (Some all) p
     → IsWhole o v x marks s a → IsWhole p w y marks t b → (s ≡ t) × (a ≡ b)
 one_run law opens words all script marks o p v w x y s t a b fs ft ev ew ho hp g h =

@@ -14,9 +14,9 @@ use Rattle.tx_outside.specs.Known.{AppendsPart}
 use Rattle.tx_session.specs.declared.TheConstants.{MOST_SCRIPT}
 use Rattle.tx_print.specs.Lines.{line}
 use Rattle.tx_session.specs.Replies.{IsLineReply}
-use Rattle.tx_session.specs.Worlds.{World, Mark}
-use Rattle.tx_session.specs.Scripts.{IsOneLine, HasLines, AreLinesOf, Answered, before_quit, command_line, is_quit}
-use Rattle.tx_session.specs.Runs.{EndedByQuit, Tells}
+use Rattle.tx_session.specs.Worlds.{World, LineMark}
+use Rattle.tx_session.specs.Scripts.{IsOneLine, HasEndedLines, AreLinesOf, Answered, before_quit, command_line, is_quit}
+use Rattle.tx_session.specs.Runs.{EndedByQuit, TellsScript}
 use Rattle.tx_session.specs.declared.session.Next.{Next}
 use Rattle.tx_session.specs.declared.session.Next.TheVariants as nexts
 use Rattle.tx_session.specs.declared.kept_line.KeptLine.{KeptLine}
@@ -24,22 +24,23 @@ use Rattle.tx_session.specs.declared.script.Turn.{Turn}
 use Rattle.tx_session.specs.declared.script.Turn.TheVariants as turns
 use Rattle.tx_session.specs.declared.status.Status.{Status}
 use Rattle.tx_session.specs.declared.status.Status.TheVariants as statuses
-use Rattle.tx_session.specs.Keeping.{Stands, StandsWith, IsTurned, LeadsTo}
+use Rattle.tx_session.specs.Keeping.{StandsAnswered, StandsWith, IsTurned, TurnLeadsTo}
 use Rattle.tx_session.specs.Playing.{HasPlayed, IsCutOff, IsEnd}
 use Rattle.tx_session.proofs.Quits.{replied_goes_on}
 use Rattle.tx_session.proofs.Standing.{line_goes_on, line_ends, no_lines, answered_next}
 
 -- a byte and a list of lines, from the left
 abbrev Lined : List ℕ → Type 0
-Lined bytes = (ended : List (List ℕ)) × (rest : List ℕ) × HasLines bytes ended rest
+Lined bytes = (ended : List (List ℕ)) × (rest : List ℕ) × HasEndedLines bytes ended rest
 
 joined : (e r l x front more : List ℕ) → front ≡ e ++ r → more ≡ l ++ x
     → front ++ 10 ∷ more ≡ (e ++ ((r ++ 10 ∷ []) ++ l)) ++ x
 joined e r l x front more h k = grind (arith, common_steps)
 
 -- lines side by side
-pub lines_joined : (front more : List ℕ) (ended later : List (List ℕ)) (rest last : List ℕ) → HasLines front ended rest
-    → HasLines more later last → HasLines (front ++ 10 ∷ more) (ended ++ rest ∷ later) last
+pub lines_joined : (front more : List ℕ) (ended later : List (List ℕ)) (rest last : List ℕ)
+    → HasEndedLines front ended rest
+    → HasEndedLines more later last → HasEndedLines (front ++ 10 ∷ more) (ended ++ rest ∷ later) last
 lines_joined front more ended later rest last h k =
     record {
       whole = joined (flat_map line ended) rest (flat_map line later) last front more h.whole k.whole
@@ -79,7 +80,7 @@ front_through script upto more e within = ap (take MOST_SCRIPT) e ∙ take_throu
 
 -- where a line ends within the limit, it is one of the script's lines
 pub lines_through : (script upto more : List ℕ) (ended : List (List ℕ)) (rest : List ℕ) → script ≡ upto ++ 10 ∷ more
-    → HasLines upto ended rest → length upto < MOST_SCRIPT
+    → HasEndedLines upto ended rest → length upto < MOST_SCRIPT
     → (later : List (List ℕ)) × AreLinesOf script (ended ++ rest ∷ later)
 lines_through script upto more ended rest e h within =
     elim (cases script) [ inl short ↦ short_one short | inr long ↦ long_one long ]
@@ -96,7 +97,7 @@ lines_through script upto more ended rest e h within =
             (
               ended ++ rest ∷ l.0,
               l.1,
-              subst (λ s. HasLines s (ended ++ rest ∷ l.0) l.1) (sym e)
+              subst (λ s. HasEndedLines s (ended ++ rest ∷ l.0) l.1) (sym e)
                   (lines_joined upto more ended l.0 rest l.1 h l.2),
               sym (append_assoc ended (rest ∷ l.0) (l.1 ∷ [])),
             ),
@@ -111,7 +112,7 @@ lines_through script upto more ended rest e h within =
             long,
             (
               l.1,
-              subst (λ s. HasLines s (ended ++ rest ∷ l.0) l.1) (sym (front_through script upto more e within))
+              subst (λ s. HasEndedLines s (ended ++ rest ∷ l.0) l.1) (sym (front_through script upto more e within))
                   (lines_joined upto _ ended l.0 rest l.1 h l.2),
             ),
           ),
@@ -125,7 +126,7 @@ module _ {A : Type 0} (p : A → Bool) where
   before_stop x xs e = grind (arith, common_steps)
 
 -- lines that were answered are none of them `quit`
-pub none_quits : (seen last : World) (lines : List (List ℕ)) (marks : List Mark) (text : List ℕ)
+pub none_quits : (seen last : World) (lines : List (List ℕ)) (marks : List LineMark) (text : List ℕ)
     → Answered seen lines marks last text → before_quit lines ≡ lines
 none_quits seen last [] marks text a = refl
 none_quits seen last (l ∷ lines) [] text a = absurd a
@@ -134,7 +135,7 @@ none_quits seen last (l ∷ lines) (m ∷ marks) text a =
     before_next is_quit l lines goes ∙ ap (λ x. l ∷ x) (none_quits a.0 last lines marks a.2 a.4)
 
 -- the lines before the first `quit`
-pub up_to_quit : (seen last : World) (lines later : List (List ℕ)) (quitting : List ℕ) (marks : List Mark)
+pub up_to_quit : (seen last : World) (lines later : List (List ℕ)) (quitting : List ℕ) (marks : List LineMark)
     (text : List ℕ) → Answered seen lines marks last text → is_quit quitting ≡ true
     → before_quit (lines ++ quitting ∷ later) ≡ lines
 up_to_quit seen last [] later quitting marks text a q = before_stop is_quit quitting later q
@@ -151,8 +152,8 @@ whole_rest script (Some bytes) e = inl e
 
 -- the script has ended, and its last line was answered
 pub whole_end : (start seen next : World) (told rest before between after : Option (List ℕ)) (script unended : List ℕ)
-    (n : Next) → Tells told script → length script ≤ MOST_SCRIPT → IfSome rest (λ bytes. bytes ≡ [])
-    → Stands start before script unended seen between → IsTurned (Ok n) seen unended next between after
+    (n : Next) → TellsScript told script → length script ≤ MOST_SCRIPT → IfSome rest (λ bytes. bytes ≡ [])
+    → StandsAnswered start before script unended seen between → IsTurned (Ok n) seen unended next between after
     → HasPlayed start next told rest statuses.Ok before after
 whole_end start seen next told rest before between after script unended nexts.Go tells short end s t =
     let a = answered_next start s.ended s.marks seen next s.replies t.1 unended t.0 s.answered t.2 in
@@ -191,9 +192,9 @@ whole_end start seen next told rest before between after script unended nexts.Qu
 
 -- the same, where the reply to it is written in part
 pub whole_cut : (start seen next : World) (told before between after : Option (List ℕ)) (script unended : List ℕ)
-    → Tells told script → length script ≤ MOST_SCRIPT
-    → Stands start before script unended seen between
-    → ((mark : Mark) × (reply : List ℕ) × IsLineReply seen (command_line unended) mark next reply
+    → TellsScript told script → length script ≤ MOST_SCRIPT
+    → StandsAnswered start before script unended seen between
+    → ((mark : LineMark) × (reply : List ℕ) × IsLineReply seen (command_line unended) mark next reply
     × AppendsPart reply between after) → IsCutOff start next told before after
 whole_cut start seen next told before between after script unended tells short s r =
     record {
@@ -223,9 +224,9 @@ or_empty None = []
 or_empty (Some bytes) = bytes
 
 pub tells_both : (told rest : Option (List ℕ)) (taken : List ℕ) → told ≡ prepend_known taken rest
-    → Tells told (taken ++ or_empty rest)
-tells_both told None taken e = subst (λ t. Tells t (taken ++ [])) (sym e) tt
-tells_both told (Some bytes) taken e = subst (λ t. Tells t (taken ++ bytes)) (sym e) refl
+    → TellsScript told (taken ++ or_empty rest)
+tells_both told None taken e = subst (λ t. TellsScript t (taken ++ [])) (sym e) tt
+tells_both told (Some bytes) taken e = subst (λ t. TellsScript t (taken ++ bytes)) (sym e) refl
 
 pub rest_dropped : (rest : Option (List ℕ)) (taken : List ℕ)
     → IfSome rest (λ bytes. bytes ≡ drop (length taken) (taken ++ or_empty rest))
@@ -235,7 +236,8 @@ rest_dropped (Some bytes) taken = sym (drop-append_seam taken bytes)
 -- the input failed
 pub failed_end : (start seen : World) (told rest before after : Option (List ℕ)) (taken unended : List ℕ)
     → told ≡ prepend_known taken rest → length taken ≤ MOST_SCRIPT
-    → Stands start before taken unended seen after → HasPlayed start seen told rest statuses.InputFault before after
+    → StandsAnswered start before taken unended seen after
+    → HasPlayed start seen told rest statuses.InputFault before after
 failed_end start seen told rest before after taken unended e within s =
     record {
       script = taken ++ or_empty rest;
@@ -249,7 +251,7 @@ failed_end start seen told rest before after taken unended e within s =
         there = grind (arith, common_steps);
         within = within;
         left = rest_dropped rest taken;
-        lines = subst (λ bs. HasLines bs s.ended unended) (sym (take-append_seam taken (or_empty rest))) s.lines;
+        lines = subst (λ bs. HasEndedLines bs s.ended unended) (sym (take-append_seam taken (or_empty rest))) s.lines;
         answered = s.answered;
       };
       written = s.written;
@@ -269,8 +271,10 @@ long_rest script taken front (Some bytes) e full some =
     )
 
 pub long_end : (start seen : World) (told rest before after : Option (List ℕ)) (script taken front unended : List ℕ)
-    → Tells told script → script ≡ taken ++ (front ++ or_empty rest) → length taken ≡ MOST_SCRIPT → 0 < length front
-    → Stands start before taken unended seen after → HasPlayed start seen told rest statuses.ScriptLong before after
+    → TellsScript told script → script ≡ taken ++ (front ++ or_empty rest) → length taken ≡ MOST_SCRIPT
+    → 0 < length front
+    → StandsAnswered start before taken unended seen after
+    → HasPlayed start seen told rest statuses.ScriptLong before after
 long_end start seen told rest before after script taken front unended tells e full some s =
     let long : MOST_SCRIPT < length script =
     omega (arith, ap length e, length-append taken (front ++ or_empty rest), length-append front (or_empty rest)) in
@@ -285,7 +289,7 @@ long_end start seen told rest before after script taken front unended tells e fu
           long,
           (
             unended,
-            subst (λ bs. HasLines bs s.ended unended)
+            subst (λ bs. HasEndedLines bs s.ended unended)
                 (sym (ap (take MOST_SCRIPT) e ∙ ap (λ n. take n (taken ++ (front ++ or_empty rest))) (sym full)
                 ∙ take-append_seam taken (front ++ or_empty rest))) s.lines,
           ),
@@ -311,7 +315,7 @@ holds : (lines : List (List ℕ)) (one : List ℕ) (later : List (List ℕ)) →
 holds lines one later = Contains-append_right lines (one ∷ later) one (0, grind arith, refl)
 
 quit_rest : (script upto later more unended : List ℕ) (ended : List (List ℕ)) (rest : Option (List ℕ))
-    → script ≡ upto ++ 10 ∷ (later ++ more) → HasLines upto ended unended → is_quit unended ≡ true
+    → script ≡ upto ++ 10 ∷ (later ++ more) → HasEndedLines upto ended unended → is_quit unended ≡ true
     → ((between : List ℕ) × (more ≡ between ++ or_empty rest))
     → IfSome rest (λ bytes. (bytes ≡ []) ⊎ EndedByQuit script bytes)
 quit_rest script upto later more unended ended None e h q left = tt
@@ -334,9 +338,9 @@ kept_rest later more (Some bytes) left =
 
 -- within what was taken: `quit`, want of memory, or a fault of the output
 pub stopped : (turn : Turn) (start seen : World) (told rest before after : Option (List ℕ)) (script bytes more : List ℕ)
-    (kept : KeptLine) → turn ≢ turns.Go → Tells told script → script ≡ bytes ++ more
+    (kept : KeptLine) → turn ≢ turns.Go → TellsScript told script → script ≡ bytes ++ more
     → length bytes ≤ MOST_SCRIPT → ((between : List ℕ) × (more ≡ between ++ or_empty rest))
-    → LeadsTo turn start before bytes seen kept after
+    → TurnLeadsTo turn start before bytes seen kept after
     → IsEnd (status_of_turn turn) start seen told rest before after
 stopped turns.Go start seen told rest before after script bytes more kept other tells e within left l =
     absurd (other refl)
@@ -447,7 +451,7 @@ pub stopped_in_read : (turn : Turn) (start seen : World) (told mid rest before a
     (taken into : List ℕ) (within count room : ℕ) (kept : KeptLine) → turn ≢ turns.Go
     → told ≡ prepend_known taken mid → mid ≡ prepend_known (take count into) rest → within ≤ count → within ≤ room
     → length taken + room ≡ MOST_SCRIPT
-    → LeadsTo turn start before (taken ++ take within into) seen kept after
+    → TurnLeadsTo turn start before (taken ++ take within into) seen kept after
     → IsEnd (status_of_turn turn) start seen told rest before after
 stopped_in_read turn start seen told mid rest before after taken into within count room kept other first second part
     fits e l =
@@ -476,10 +480,10 @@ long_read start seen told mid rest before after taken into within count room kep
 -- the input is at its end
 pub at_end : (told mid rest : Option (List ℕ)) (taken into : List ℕ) (count : ℕ) → count ≡ 0
     → told ≡ prepend_known taken mid → mid ≡ prepend_known (take count into) rest → IfSome mid (λ bytes. bytes ≡ [])
-    → Tells told taken
-at_end told None rest taken into count zero first second end = subst (λ t. Tells t taken) (sym first) tt
+    → TellsScript told taken
+at_end told None rest taken into count zero first second end = subst (λ t. TellsScript t taken) (sym first) tt
 at_end told (Some bytes) rest taken into count zero first second end =
-    subst (λ t. Tells t taken) (sym first) (ap (λ x. taken ++ x) end ∙ append-nil taken)
+    subst (λ t. TellsScript t taken) (sym first) (ap (λ x. taken ++ x) end ∙ append-nil taken)
 
 -- the loop goes on
 pub read_on : (told mid rest : Option (List ℕ)) (taken into : List ℕ) (within count : ℕ) → count ≤ within

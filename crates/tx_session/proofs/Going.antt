@@ -7,7 +7,7 @@ use Rattle.tx_tree.proofs.PlaceFaults.{place_fault_once, place_has_no_fault}
 use Rattle.tx_mod.specs.Moves.{place}
 use Rattle.tx_doc.specs.Buffers.{document_of}
 use Rattle.tx_state.specs.States.{State}
-use Rattle.tx_state.specs.Edits.{Goes, IsAstray}
+use Rattle.tx_state.specs.Edits.{CursorGoes, IsAstray}
 
 -- one list before one last number
 last_once : (p q : List ℕ) (a b : ℕ) → p ++ a ∷ [] ≡ q ++ b ∷ [] → (p ≡ q) × (a ≡ b)
@@ -23,12 +23,13 @@ last_once (x ∷ p) (y ∷ q) a b e =
 none_last : (p : List ℕ) (a : ℕ) → [] ≡ p ++ a ∷ [] → ⊥
 none_last p a e = omega (arith, ap length e, length-append p (a ∷ []))
 
-pub goes_once : (state : State) (numbers : List ℕ) (s t : State) → Goes state numbers s → Goes state numbers t → s ≡ t
+pub goes_once : (state : State) (numbers : List ℕ) (s t : State) → CursorGoes state numbers s
+    → CursorGoes state numbers t → s ≡ t
 goes_once state numbers s t h k =
     let same = last_once h.0 k.0 h.1 k.1 (sym h.2 ∙ k.2) in
     h.4 ∙ (λ i. record state { cursor = place (same.0 i) (same.1 i) }) ∙ sym k.4
 
-pub goes_or_not : (state : State) (numbers : List ℕ) (s : State) (f : PlaceFault) → Goes state numbers s
+pub goes_or_not : (state : State) (numbers : List ℕ) (s : State) (f : PlaceFault) → CursorGoes state numbers s
     → IsAstray state numbers f → ⊥
 goes_or_not state numbers s f h (inl k) = none_last h.0 h.1 (sym k.0 ∙ h.2)
 goes_or_not state numbers s f h (inr k) =

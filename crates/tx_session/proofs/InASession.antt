@@ -17,7 +17,7 @@ use Rattle.tx_tm_form.proofs.Formed.{spelled_tree}
 use Rattle.tx_mod.specs.declared.mods.Mod.{Mod}
 use Rattle.tx_mod.specs.declared.mods.Mod.TheVariants.{Assign, Insert, Remove, Split, Join, AssignNode, InsertNode}
 use Rattle.tx_mod.specs.declared.mods.Mod.TheVariants.{RemoveNode}
-use Rattle.tx_mod.specs.Changes.{Outcome as Changed}
+use Rattle.tx_mod.specs.Changes.{Outcome}
 use Rattle.tx_mod.specs.InTurn.{changed_in_turn, AreSound}
 use Rattle.tx_mod.specs.Moves.{place}
 use Rattle.tx_mod.specs.Sound.{IsSound}
@@ -46,21 +46,21 @@ use Rattle.tx_cmd.specs.declared.command.Command.TheVariants.{Change, Undo, Redo
 use Rattle.tx_cmd.specs.declared.command.Command.TheVariants.{Backspace, Enter, Show, Page, Errors, PlaceOf, Cursor}
 use Rattle.tx_cmd.specs.declared.command.Command.TheVariants.{Attrs, Work, Tree, Save, Quit}
 use Rattle.tx_cmd.specs.Commands.{IsCommand}
-use Rattle.tx_session.specs.Forms.{Saving, no_form, file_long, writes, fitting, saving, has_text_in, text_in}
+use Rattle.tx_session.specs.Forms.{Saving, no_form, file_long, writes, fitting, saving, has_text_in, form_text}
 use Rattle.tx_print.specs.Lines.{line}
 use Rattle.tx_open.specs.declared.opening.Opened.{Opened}
 use Rattle.tx_open.specs.Forms.{SpellsIn}
 use Rattle.tx_open.specs.Outcomes.{opened, AreRead, ComesTo}
 use Rattle.tx_words.specs.Words.{Named}
-use Rattle.tx_session.specs.Replies.{Reading, nothing, too_long, unread, command, faulty, IsRead, IsReply, IsReplyTo}
-use Rattle.tx_session.specs.Replies.{IsRefusal, IsLineReply}
-use Rattle.tx_session.specs.Runs.{start_of, start_with}
+use Rattle.tx_session.specs.Replies.{Reading, nothing, too_long, unread, command, faulty, IsLineRead, IsReply}
+use Rattle.tx_session.specs.Replies.{IsReplyTo, IsRefusalReply, IsLineReply}
+use Rattle.tx_session.specs.Runs.{seen_start, start_with}
 use Rattle.tx_session.specs.Savings.{IsSavedAlone, IsNotSaved, StandsAmong}
 use Rattle.tx_session.specs.Scripts.{Answered, command_line}
 use Rattle.tx_session.specs.States.{IsAnswer, IsEditAnswer, IsKeyAnswer, IsStepAnswer, IsChoice, IsClickAnswer}
 use Rattle.tx_session.specs.States.{IsAskedAnswer, IsViewAnswer, selected_edit, selected_tree, key_edit, by_typing}
-use Rattle.tx_session.specs.States.{by_backspace, by_enter, place_of, save_reply, file_saved}
-use Rattle.tx_session.specs.Worlds.{SeenWorld, World, IsAsBefore, seen_in, Stores, Mark, plain, lacking}
+use Rattle.tx_session.specs.States.{by_backspace, by_enter, whole_place, save_reply, file_saved}
+use Rattle.tx_session.specs.Worlds.{SeenWorld, World, IsAsBefore, seen_of_world, StoresFile, LineMark, plain, lacking}
 use Rattle.tx_session.specs.Worlds.{unsaved, told}
 use Rattle.tx_session.proofs.Determined.{one_reading, was_read}
 use Rattle.tx_session.proofs.Saved.{saved_alone}
@@ -123,7 +123,7 @@ sound_change text (AssignNode p l) h = h.1.1.3.2.0
 sound_change text (InsertNode p i t) h = well_formed h.1.1.3.3.0 t h.1.1.3.3.2.0
 sound_change text (RemoveNode p i) h = tt
 
-edit_formed : (edit : Edit) (s next : State) (reply : List ℕ) (o : Changed) → AreSound edit.mods → IsFormed s
+edit_formed : (edit : Edit) (s next : State) (reply : List ℕ) (o : Outcome) → AreSound edit.mods → IsFormed s
     → changed_in_turn edit.mods (tree_of s.buffers edit.buffer) ≡ o
     → IsEditAnswer s (with_outcome edit s o) next reply → IsFormed next
 edit_formed edit s next reply (Err cause) h f e a = subst IsFormed (sym a.0) f
@@ -155,7 +155,7 @@ choice_formed s next None reply f a = subst IsFormed (sym a.0) f
 
 click_formed : (s next : State) (none : List ℕ) (o : Option BasedPlace) (reply : List ℕ) → IsFormed s
     → IsClickAnswer s none o next reply → IsFormed next
-click_formed s next none (Some p) reply f a = cursor_formed s next (place_of p) a.0 f
+click_formed s next none (Some p) reply f a = cursor_formed s next (whole_place p) a.0 f
 click_formed s next none None reply f a = subst IsFormed (sym a.0) f
 
 asked_formed : (width : ℕ) (v : WideView) (s next : State) (it : Command) (reply : List ℕ) → IsFormed s
@@ -236,7 +236,7 @@ same_formed before after e f = subst IsFormedWorld (sym e) f
 still_formed : (before after : World) → IsAsBefore before after → IsFormedWorld before → IsFormedWorld after
 still_formed before after h f = subst (λ x. IsFormed x.seen.state) (sym h.session) f
 
-command_formed : (text : List ℕ) (it : Command) (before next : SeenWorld) (mark : Mark) (reply : List ℕ)
+command_formed : (text : List ℕ) (it : Command) (before next : SeenWorld) (mark : LineMark) (reply : List ℕ)
     → IsCommand text it → IsFormed before.session.state
     → IsReply before it mark next reply → IsFormed next.session.state
 command_formed text it before next plain reply h f a =
@@ -246,25 +246,25 @@ command_formed text it before next lacking reply h f a = subst (λ x. IsFormed x
 command_formed text it before next unsaved reply h f a = subst (λ x. IsFormed x.state) (sym a.3) f
 command_formed text it before next (told n) reply h f a = subst (λ x. IsFormed x.state) (sym a.session) f
 
-refusal_formed : (before next : World) (text : List ℕ) (mark : Mark) (reply : List ℕ) → IsFormedWorld before
-    → IsRefusal before text mark next reply → IsFormedWorld next
+refusal_formed : (before next : World) (text : List ℕ) (mark : LineMark) (reply : List ℕ) → IsFormedWorld before
+    → IsRefusalReply before text mark next reply → IsFormedWorld next
 refusal_formed before next text plain reply f a = still_formed before next a.0 f
 refusal_formed before next text lacking reply f a = still_formed before next a.0 f
 refusal_formed before next text unsaved reply f a = absurd a
 refusal_formed before next text (told n) reply f a = absurd a
 
-reply_formed : (text : List ℕ) (reading : Reading) (before next : World) (mark : Mark) (reply : List ℕ)
-    → IsRead text reading → IsFormedWorld before
+reply_formed : (text : List ℕ) (reading : Reading) (before next : World) (mark : LineMark) (reply : List ℕ)
+    → IsLineRead text reading → IsFormedWorld before
     → IsReplyTo before reading mark next reply → IsFormedWorld next
 reply_formed text nothing before next mark reply h f a = same_formed before next a.1 f
 reply_formed text (too_long count) before next mark reply h f a = refusal_formed before next _ mark reply f a.0
 reply_formed text unread before next mark reply h f a = still_formed before next a.1 f
 reply_formed text (command it) before next mark reply h f a =
-    command_formed text it (seen_in before) (seen_in next) mark reply h.1 f a.1.replied
+    command_formed text it (seen_of_world before) (seen_of_world next) mark reply h.1 f a.1.replied
 reply_formed text (faulty cause) before next mark reply h f a = refusal_formed before next _ mark reply f a
 
-lines_formed : (before last : World) (lines : List (List ℕ)) (marks : List Mark) (text : List ℕ) → IsFormedWorld before
-    → Answered before lines marks last text → IsFormedWorld last
+lines_formed : (before last : World) (lines : List (List ℕ)) (marks : List LineMark) (text : List ℕ)
+    → IsFormedWorld before → Answered before lines marks last text → IsFormedWorld last
 lines_formed before last [] [] text f a = same_formed before last a.0 f
 lines_formed before last [] (mark ∷ marks) text f a = absurd a
 lines_formed before last (one ∷ lines) [] text f a = absurd a
@@ -293,7 +293,7 @@ read_formed files (f ∷ fs) (b ∷ bs) h =
     let tree = h.0.1 in
     ((opened_formed (form_of f.word) tree.bytes b.tree tree.spelled, tree.within), read_formed files fs bs h.1)
 
-start_formed : (all : Opened) → AreFormed all.buffers → IsFormed (start_of all).state
+start_formed : (all : Opened) → AreFormed all.buffers → IsFormed (seen_start all).state
 start_formed all f = record { now = f; past = tt; future = tt }
 
 abbrev count_in : Saving → ℕ
@@ -310,14 +310,14 @@ long_file bytes true e n h = absurd cc
 long_file bytes false e n h = subst (λ m. MOST_FILE < m) (ap count_in h) (past (length bytes) e)
 
 long_saving : (form : Form) (t : WideTree) (b : Bool) (n : ℕ)
-    → (if b then fitting (line (text_in form t)) else no_form) ≡ file_long n → MOST_FILE < n
+    → (if b then fitting (line (form_text form t)) else no_form) ≡ file_long n → MOST_FILE < n
 long_saving form t true n h =
-    long_file (line (text_in form t)) (nat_le (length (line (text_in form t))) MOST_FILE) refl n h
+    long_file (line (form_text form t)) (nat_le (length (line (form_text form t))) MOST_FILE) refl n h
 long_saving form t false n h = absurd cc
 
 saved_so : (name : List ℕ) (t : WideTree) (before after : StoreSeen) (reply : List ℕ) (x : Saving) → IsWellFormed t
     → saving (form_of name) t ≡ x
-    → reply ≡ save_reply x → Stores (file_saved name x) before after → IsSavedAlone name t before after reply
+    → reply ≡ save_reply x → StoresFile (file_saved name x) before after → IsSavedAlone name t before after reply
     ⊎ IsNotSaved before after reply
 saved_so name t before after reply no_form f e r s = inr (s, inl r)
 saved_so name t before after reply (file_long n) f e r s =
@@ -340,9 +340,9 @@ save_line text name reading before next reply e f a =
 
 pub saves_alone : (words : List (List ℕ)) (files : Option Files) (all : Opened) (first : StoreSeen) (steps : ℕ)
     → ComesTo words files (opened all)
-    → (lines : List (List ℕ)) (marks : List Mark) (seen : World) (done : List ℕ)
+    → (lines : List (List ℕ)) (marks : List LineMark) (seen : World) (done : List ℕ)
     → Answered (start_with all first steps) lines marks seen done
-    → (one name reply : List ℕ) (next : World) → IsRead (command_line one) (command (Save name))
+    → (one name reply : List ℕ) (next : World) → IsLineRead (command_line one) (command (Save name))
     → IsLineReply seen (command_line one) plain next reply
     → IsSavedAlone name (selected_tree seen.session.seen.state) seen.store next.store reply
     ⊎ IsNotSaved seen.store next.store reply
@@ -356,8 +356,8 @@ saves_alone words files all first steps opens lines marks seen done a one name r
     save_line (command_line one) name r.0 seen next reply is now r.2
 
 -- one line among others
-pub stands_among : (start : World) (before : List (List ℕ)) (one : List ℕ) (behind : List (List ℕ)) (marks : List Mark)
-    (last : World) (text : List ℕ)
+pub stands_among : (start : World) (before : List (List ℕ)) (one : List ℕ) (behind : List (List ℕ))
+    (marks : List LineMark) (last : World) (text : List ℕ)
     → Answered start (before ++ one ∷ behind) marks last text → StandsAmong start before one behind marks last text
 stands_among start [] one behind [] last text a = absurd a
 stands_among start [] one behind (mark ∷ marks) last text a = record {

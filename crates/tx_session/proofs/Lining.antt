@@ -5,8 +5,8 @@ use Rattle.std.specs.List.{flat_map}
 use Rattle.std.proofs.lemmas.List.Elements.{All-head, All-tail}
 use Rattle.tx_session.specs.declared.TheConstants.{MOST_SCRIPT}
 use Rattle.tx_print.specs.Lines.{line}
-use Rattle.tx_session.specs.Worlds.{World, Mark}
-use Rattle.tx_session.specs.Scripts.{IsOneLine, HasLines, AreLinesOf, Answered, command_line, is_quit}
+use Rattle.tx_session.specs.Worlds.{World, LineMark}
+use Rattle.tx_session.specs.Scripts.{IsOneLine, HasEndedLines, AreLinesOf, Answered, command_line, is_quit}
 use Rattle.tx_session.specs.Runs.{CanBeRead}
 use Rattle.tx_session.proofs.Quits.{replied_goes_on}
 
@@ -62,8 +62,8 @@ same_lines (x ∷ a) (y ∷ b) r s ha hb hr hs e =
     let o = same_lines a b r s (others_of x a ha) (others_of y b hb) hr hs f.1 in
     (λ i. f.0 i ∷ o.0 i, o.1)
 
-pub lines_once : (bytes : List ℕ) (a b : List (List ℕ)) (r s : List ℕ) → HasLines bytes a r → HasLines bytes b s
-    → (a ≡ b) × (r ≡ s)
+pub lines_once : (bytes : List ℕ) (a b : List (List ℕ)) (r s : List ℕ) → HasEndedLines bytes a r
+    → HasEndedLines bytes b s → (a ≡ b) × (r ≡ s)
 lines_once bytes a b r s h k = same_lines a b r s h.each k.each h.last k.last (sym h.whole ∙ k.whole)
 
 pub script_lines_once : (script : List ℕ) (a b : List (List ℕ)) → AreLinesOf script a → AreLinesOf script b → a ≡ b
@@ -74,7 +74,7 @@ script_lines_once script a b (inr h) (inl k) = absurd (omega (arith, h.0, k.0))
 script_lines_once script a b (inr h) (inr k) = (lines_once (take MOST_SCRIPT script) a b h.1.0 k.1.0 h.1.1 k.1.1).0
 
 -- no line that was answered is `quit`
-answered_not_quit : (seen last : World) (lines : List (List ℕ)) (marks : List Mark) (text one : List ℕ) (k : ℕ)
+answered_not_quit : (seen last : World) (lines : List (List ℕ)) (marks : List LineMark) (text one : List ℕ) (k : ℕ)
     → Answered seen lines marks last text → k < length lines → get_or lines k one ≡ one → is_quit one ≡ true → ⊥
 answered_not_quit seen last [] marks text one k a lt e q = omega (arith, lt)
 answered_not_quit seen last (l ∷ lines) [] text one k a lt e q = a
@@ -84,7 +84,7 @@ answered_not_quit seen last (l ∷ lines) (m ∷ marks) text one (suc k) a lt e 
     answered_not_quit a.0 last lines marks a.2 one k a.4 (omega (arith, lt)) e q
 
 -- a script that is too long and whose lines were all answered can't be read
-pub long_unread : (script : List ℕ) (seen last : World) (lines : List (List ℕ)) (marks : List Mark) (text : List ℕ)
+pub long_unread : (script : List ℕ) (seen last : World) (lines : List (List ℕ)) (marks : List LineMark) (text : List ℕ)
     → AreLinesOf script lines → MOST_SCRIPT < length script → Answered seen lines marks last text → CanBeRead script → ⊥
 long_unread script seen last lines marks text are long a (inl short) = omega (arith, long, short)
 long_unread script seen last lines marks text are long a (inr (others, those, (one, (k, lt, e), q))) =

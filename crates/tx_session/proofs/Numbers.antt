@@ -3,7 +3,7 @@ use Rattle.std.proofs.Common.{◌≡◌, ◌≢◌, ℕ, true, List, [], ◌∷�
 use Rattle.tx_outside.specs.Files.{Files}
 use Rattle.tx_cmd.specs.declared.command.Command.{Command}
 use Rattle.tx_cmd.specs.declared.command.Command.TheVariants.{Work}
-use Rattle.tx_open.specs.Outcomes.{Outcome, faulty_words, missing, too_long as file_too_long, no_tree, store_fault}
+use Rattle.tx_open.specs.Outcomes.{OpenOutcome, faulty_words, missing, too_long as file_too_long, no_tree, store_fault}
 use Rattle.tx_open.specs.Outcomes.{no_memory, opened, generated, ComesTo}
 use Rattle.tx_session.specs.declared.status.Status.{Status}
 use Rattle.tx_session.specs.declared.status.Status.TheVariants as statuses
@@ -15,8 +15,8 @@ use Rattle.tx_session.specs.Runs.{IsWhole, IsPlayed, IsPlayedAlone, IsFinal, Out
 use Rattle.tx_session.specs.Runs.{no_files}
 use Rattle.tx_session.specs.Scripts.{Answered, before_quit, command_line}
 use Rattle.tx_session.specs.States.{IsAnswer}
-use Rattle.tx_session.specs.Worlds.{Whole, SeenWorld, World, seen_in, Mark, plain, lacking, unsaved, told}
-use Rattle.tx_session.specs.Worlds.{untold}
+use Rattle.tx_session.specs.Worlds.{WholeSession, SeenWorld, World, seen_of_world, LineMark, plain, lacking, unsaved}
+use Rattle.tx_session.specs.Worlds.{told, untold}
 use Rattle.tx_session.proofs.Answering.{OneView}
 use Rattle.tx_session.proofs.Determined.{one_reading, one_reply, was_read, IsSomeMark, decided, told_script}
 use Rattle.tx_session.proofs.Lining.{script_lines_once, long_unread}
@@ -30,7 +30,7 @@ not_work v w it reply e h =
     subst (λ c. IsAnswer v.session.width v.session.height v.session.state c w.session.state reply) e h.answer in none
 
 -- what is kept behind a command is decided by what stood before it and by what is seen behind it
-one_keep : (it : Command) (a b c d : Whole) → a ≡ b → c.seen ≡ d.seen
+one_keep : (it : Command) (a b c d : WholeSession) → a ≡ b → c.seen ≡ d.seen
     → c.keep ≡ kept_after a.seen.state it c.seen.state a.keep → d.keep ≡ kept_after b.seen.state it d.seen.state b.keep
     → c ≡ d
 one_keep it a b c d e f g h =
@@ -38,7 +38,7 @@ one_keep it a b c d e f g h =
     (g ∙ (λ i. kept_after (e i).seen.state it (f i).state (e i).keep) ∙ sym h)
 
 module _ (law : OneView) (v w : World) (same : v.session ≡ w.session) where
-  abbrev Once : Mark → Mark → World → World → Type 0
+  abbrev Once : LineMark → LineMark → World → World → Type 0
   Once m n s t = (m ≡ n) × (s.session ≡ t.session)
 
   both_stay : (s t : World) → s.session ≡ v.session → t.session ≡ w.session → s.session ≡ t.session
@@ -54,7 +54,8 @@ module _ (law : OneView) (v w : World) (same : v.session ≡ w.session) where
   plain_once unread s t a b h k = both_stay s t h.1.session k.1.session
   plain_once (command c) s t a b h k =
       one_keep c v.session w.session s.session t.session same
-      (one_reply law (seen_in v) (seen_in w) seen_same c plain (seen_in s) (seen_in t) a b h.1.replied k.1.replied).0
+      (one_reply law (seen_of_world v) (seen_of_world w) seen_same c plain (seen_of_world s)
+      (seen_of_world t) a b h.1.replied k.1.replied).0
       h.1.keeps k.1.keeps
   plain_once (faulty f) s t a b h k = both_stay s t h.0.session k.0.session
 
@@ -94,19 +95,19 @@ told_or_plain v w n unread s t a b h k = let bad = k.0 in cc
 told_or_plain v w n (command c) s t a b h k =
     let done = h.1.replied in
     let it = k.1.replied in
-    not_work (seen_in v) (seen_in s) c a it.work done
+    not_work (seen_of_world v) (seen_of_world s) c a it.work done
 told_or_plain v w n (faulty f) s t a b h k = k
 
 module _ (law : OneView) (v w : World) (same : v.session ≡ w.session) (text : List ℕ) (s t : World)
     (a b : List ℕ) where
   -- both lines were read alike
-  read_alike : (m n : Mark) → IsSomeMark m → IsSomeMark n → (h : IsLineReply v text m s a)
+  read_alike : (m n : LineMark) → IsSomeMark m → IsSomeMark n → (h : IsLineReply v text m s a)
       → (k : IsLineReply w text n t b) → IsReplyTo w h.0 n t b
   read_alike m n p q h k =
       subst (λ r. IsReplyTo w r n t b)
       (one_reading text k.0 h.0 (was_read w k.0 n t b q k.2) (was_read v h.0 m s a p h.2) k.1 h.1) k.2
 
-  line_once : (m n : Mark) → m ≢ lacking → untold m ≡ untold n → IsLineReply v text m s a → IsLineReply w text n t b
+  line_once : (m n : LineMark) → m ≢ lacking → untold m ≡ untold n → IsLineReply v text m s a → IsLineReply w text n t b
       → Once law v w same m n s t
   line_once lacking n x e h k = absurd (x refl)
   line_once plain plain x e h k =
@@ -127,15 +128,15 @@ module _ (law : OneView) (v w : World) (same : v.session ≡ w.session) (text : 
   line_once (told i) lacking x e h k = absurd cc
   line_once (told i) unsaved x e h k = absurd cc
 
-abbrev first_mark : List Mark → Mark
+abbrev first_mark : List LineMark → LineMark
 first_mark [] = plain
 first_mark (m ∷ marks) = m
 
-abbrev later_marks : List Mark → List Mark
+abbrev later_marks : List LineMark → List LineMark
 later_marks [] = []
 later_marks (m ∷ marks) = marks
 
-marks_once : (law : OneView) (v w s t : World) (lines : List (List ℕ)) (marks others : List Mark) (a b : List ℕ)
+marks_once : (law : OneView) (v w s t : World) (lines : List (List ℕ)) (marks others : List LineMark) (a b : List ℕ)
     → v.session ≡ w.session → Suffices marks → map untold marks ≡ map untold others → Answered v lines marks s a
     → Answered w lines others t b → marks ≡ others
 marks_once law v w s t [] [] [] a b same x e h k = refl
@@ -148,7 +149,7 @@ marks_once law v w s t (l ∷ lines) (m ∷ marks) (n ∷ others) a b same x e h
     let more = marks_once law h.0 k.0 s t lines marks others h.2 k.2 one.1 x.1 (ap later_marks e) h.4 k.4 in
     (λ i. one.0 i ∷ more i)
 
-played_marks : (law : OneView) (v w x y : World) (script : List ℕ) (marks others : List Mark)
+played_marks : (law : OneView) (v w x y : World) (script : List ℕ) (marks others : List LineMark)
     (r q : Option (List ℕ)) (s t : Status) (a b : List ℕ) → v.session ≡ w.session → Suffices marks
     → map untold marks ≡ map untold others → IsFinal s → IsFinal t → IsPlayed v script marks r s x a
     → IsPlayed w script others q t y b → marks ≡ others
@@ -186,9 +187,9 @@ played_marks law v w x y script marks others r q statuses.ScriptLong statuses.Ou
 played_marks law v w x y script marks others r q statuses.ScriptLong statuses.NoMemory a b e c d f g h k = absurd g
 
 module _ (law : OneView) (v w x y : Outside) (script : List ℕ) (ev : v.input.left ≡ Some script)
-    (ew : w.input.left ≡ Some script) (marks others : List Mark) (s t : Status) (a b : List ℕ) (fs : IsFinal s)
+    (ew : w.input.left ≡ Some script) (marks others : List LineMark) (s t : Status) (a b : List ℕ) (fs : IsFinal s)
     (ft : IsFinal t) (c : Suffices marks) (d : map untold marks ≡ map untold others) where
-  whole_marks : (o : Outcome) → IsWhole o v x marks s a → IsWhole o w y others t b → marks ≡ others
+  whole_marks : (o : OpenOutcome) → IsWhole o v x marks s a → IsWhole o w y others t b → marks ≡ others
   whole_marks (opened all) g h =
       let first : World = start_with all g.first g.steps in
       let other : World = start_with all h.first h.steps in
@@ -211,7 +212,7 @@ module _ (law : OneView) (v w x y : Outside) (script : List ℕ) (ev : v.input.l
   whole_marks no_memory g h = g.unmarked ∙ sym h.unmarked
 
 pub numbers_determined : (law : OneView) (opens : OneOutcome) (words : List (List ℕ)) (all : Files) (script : List ℕ)
-    (marks others : List Mark) (o p : Outcome) (v w x y : Outside) (s t : Status) (a b : List ℕ) → IsFinal s
+    (marks others : List LineMark) (o p : OpenOutcome) (v w x y : Outside) (s t : Status) (a b : List ℕ) → IsFinal s
     → IsFinal t → v.input.left ≡ Some script → w.input.left ≡ Some script → ComesTo words (Some all) o
     → ComesTo words (Some all) p → Suffices marks → map untold marks ≡ map untold others → IsWhole o v x marks s a
     → IsWhole p w y others t b → marks ≡ others

@@ -1,8 +1,8 @@
 -- What a law of opening says: words and files come to one outcome.
 use Rattle.std.specs.Prelude.{◌≡◌, ℕ, List, Some}
 use Rattle.tx_outside.specs.Files.{Files}
-use Rattle.tx_open.specs.Outcomes.{ComesTo, IsDecided, Outcome}
+use Rattle.tx_open.specs.Outcomes.{ComesTo, IsDecided, OpenOutcome}
 
 abbrev pub OneOutcome : Type 0
-OneOutcome = (words : List (List ℕ)) (told : Files) (o p : Outcome) → ComesTo words (Some told) o
+OneOutcome = (words : List (List ℕ)) (told : Files) (o p : OpenOutcome) → ComesTo words (Some told) o
     → ComesTo words (Some told) p → IsDecided o → IsDecided p → o ≡ p

@@ -19,7 +19,7 @@ use Rattle.tx_mod.specs.declared.faults.ModFault.TheVariants.{TooLong, TooWide, 
 use Rattle.tx_doc.specs.Forms.{form_of}
 use Rattle.tx_doc.specs.Buffers.{number_of}
 use Rattle.tx_state.specs.States.{State}
-use Rattle.tx_state.specs.Edits.{edited, undone, redone}
+use Rattle.tx_state.specs.Edits.{edited, undone_state, redone_state}
 use Rattle.tx_edit.specs.declared.faults.EditFault.{EditFault}
 use Rattle.tx_edit.specs.declared.faults.EditFault.TheVariants as keys
 use Rattle.tx_edit.specs.declared.faults.EditFault.TheVariants.{NoText, AtStart, AtEnd, NotInParagraph}
@@ -36,7 +36,7 @@ use Rattle.tx_print.specs.Lines.{shown}
 use Rattle.tx_print.specs.Pages.{show_text, page_or, page_numbered}
 use Rattle.tx_print.specs.Errors.{errors_text}
 use Rattle.tx_print.specs.Places.{no_cell, place_or}
-use Rattle.tx_print.specs.Runs.{Run, run_text, runs_or, runs_from, looks_on}
+use Rattle.tx_print.specs.Runs.{CellRun, run_text, runs_or, runs_from, looks_on}
 use Rattle.tx_cmd.specs.declared.command.Command.{Command}
 use Rattle.tx_cmd.specs.declared.command.Command.TheVariants.{Change, Undo, Redo, At, Go, Click, Left, Right, Typed}
 use Rattle.tx_cmd.specs.declared.command.Command.TheVariants.{Backspace, Enter, Show, Page, Errors, PlaceOf, Cursor}
@@ -50,10 +50,10 @@ use Rattle.tx_session.specs.Forms.{Saving, no_form, file_long, writes, saving}
 use Rattle.tx_print.specs.Lines.{line}
 use Rattle.tx_print.specs.Work.{work_reply}
 use Rattle.tx_session.specs.Replies.{wanting_reply, unsaved_reply, refusal, IsDone, IsReply}
-use Rattle.tx_session.specs.States.{selected_edit, selected_tree, key_edit, by_typing, by_backspace, by_enter, printed}
-use Rattle.tx_session.specs.States.{IsAnswer, IsEditAnswer, IsKeyAnswer, IsStepAnswer, IsChoice, IsGoAnswer}
+use Rattle.tx_session.specs.States.{selected_edit, selected_tree, key_edit, by_typing, by_backspace, by_enter}
+use Rattle.tx_session.specs.States.{view_reply, IsAnswer, IsEditAnswer, IsKeyAnswer, IsStepAnswer, IsChoice, IsGoAnswer}
 use Rattle.tx_session.specs.States.{IsClickAnswer, IsAskedAnswer, IsViewAnswer, done_reply, save_reply}
-use Rattle.tx_session.specs.Worlds.{SeenWorld, Mark, plain, lacking, unsaved, told}
+use Rattle.tx_session.specs.Worlds.{SeenWorld, LineMark, plain, lacking, unsaved, told}
 use Rattle.tx_session.specs.Writing.{IsSaid}
 
 -- the first six bytes are those of one of the two
@@ -186,12 +186,12 @@ two_spaces a b c last more = omega (
   spaces_both a (32 ∷ b),
 )
 
-plain_run : (r : Run) (more : List ℕ) → 2 ≤ spaces_in (run_text r ++ more)
+plain_run : (r : CellRun) (more : List ℕ) → 2 ≤ spaces_in (run_text r ++ more)
 plain_run r more =
     two_spaces (decimal r.from ++ 32 ∷ decimal r.to ++ 32 ∷ shown r.look.series) (shown r.look.shape)
     (shown r.look.color) 10 more
 
-plain_runs : (rs : List Run) → IsPlainReply (flat_map run_text rs)
+plain_runs : (rs : List CellRun) → IsPlainReply (flat_map run_text rs)
 plain_runs [] = begun [] refl
 plain_runs (r ∷ rs) = spaced (flat_map run_text (r ∷ rs)) (plain_run r (flat_map run_text rs))
 
@@ -199,7 +199,7 @@ plain_attrs : (v : WideView) (width : ℕ) (l : Option Line) → IsPlainReply (r
 plain_attrs v width (Some l) = plain_runs (runs_from 0 (looks_on l))
 plain_attrs v width None = plain_no_cell v width
 
-plain_printed : (width : ℕ) (v : WideView) (it : Command) → IsPlainReply (printed width v it)
+plain_printed : (width : ℕ) (v : WideView) (it : Command) → IsPlainReply (view_reply width v it)
 plain_printed width v Show = begun (show_text v) refl
 plain_printed width v (Page n) = plain_page v n (page_numbered v.pages n)
 plain_printed width v Errors = begun (errors_text v) refl
@@ -215,7 +215,7 @@ plain_asked width v state Left next reply h =
     plain_key state (to_left (stops_of v.units) state.cursor) next reply h
 plain_asked width v state Right next reply h =
     plain_key state (to_right (stops_of v.units) state.cursor) next reply h
-plain_asked width v state it next reply h = kept reply (printed width v it) h.1 (plain_printed width v it)
+plain_asked width v state it next reply h = kept reply (view_reply width v it) h.1 (plain_printed width v it)
 
 plain_viewed : (width height : ℕ) (state : State) (it : Command) (next : State) (reply : List ℕ)
     → IsViewAnswer width height state it next reply → IsPlainReply reply
@@ -226,9 +226,9 @@ plain_answer : (width height : ℕ) (state : State) (it : Command) (next : State
 plain_answer width height state (Change m) next reply h =
     plain_edit state (edited (selected_edit state m) state) next reply h
 plain_answer width height state Undo next reply h =
-    plain_step state (codes "no undo") (undone state) next reply (begun (line (codes "no undo")) refl) h
+    plain_step state (codes "no undo") (undone_state state) next reply (begun (line (codes "no undo")) refl) h
 plain_answer width height state Redo next reply h =
-    plain_step state (codes "no redo") (redone state) next reply (begun (line (codes "no redo")) refl) h
+    plain_step state (codes "no redo") (redone_state state) next reply (begun (line (codes "no redo")) refl) h
 plain_answer width height state (At name) next reply h =
     plain_choice state (number_of state.buffers name) next reply h
 plain_answer width height state (Go numbers) next reply h = plain_go state numbers next reply h
@@ -276,14 +276,14 @@ abbrev says_memory : List ℕ → Bool
 says_memory reply = bytes_eq (take 4 reply) (110 ∷ 111 ∷ 32 ∷ 109 ∷ [])
 
 -- where the reply of a failed store was written whole, the store has failed
-counted : (v w : SeenWorld) (it : Command) (mark : Mark) (reply : List ℕ) → IsReply v it mark w reply
+counted : (v w : SeenWorld) (it : Command) (mark : LineMark) (reply : List ℕ) → IsReply v it mark w reply
     → reply ≡ unsaved_reply → Rose v.store.faults w.store.faults
 counted v w it plain reply h e = absurd ((plain_done v w it reply h).1 e)
 counted v w it lacking reply h e = absurd (differ (ap says_memory (sym e ∙ h.3)))
 counted v w it unsaved reply h e = h.4.1
 counted v w it (told n) reply h e = absurd ((plain_told n).1 (sym h.said ∙ e))
 
-pub failure_counted : (v w : SeenWorld) (it : Command) (mark : Mark) (reply : List ℕ) (next : Next)
+pub failure_counted : (v w : SeenWorld) (it : Command) (mark : LineMark) (reply : List ℕ) (next : Next)
     (before after : Option (List ℕ)) (bytes : List ℕ)
     → IsReply v it mark w reply → IsSaid (Ok next) reply before after → before ≡ Some bytes
     → after ≡ Some (bytes ++ unsaved_reply) → Rose v.store.faults w.store.faults
@@ -293,7 +293,7 @@ failure_counted v w it mark reply next before after bytes h said b a =
     let same : bytes ++ reply ≡ bytes ++ unsaved_reply = cc in
     counted v w it mark reply h (append_cancel_left bytes reply unsaved_reply same)
 
-pub no_store : (v w : SeenWorld) (it : Command) (mark : Mark) (reply : List ℕ) (result : Result Next WriteFault)
+pub no_store : (v w : SeenWorld) (it : Command) (mark : LineMark) (reply : List ℕ) (result : Result Next WriteFault)
     (before after : Option (List ℕ)) → IsReply v it mark w reply → IsSaid result reply before after
     → OnOk result ((bytes : List ℕ) → before ≡ Some bytes → after ≡ Some (bytes ++ unsaved_reply)
     → Rose v.store.faults w.store.faults)

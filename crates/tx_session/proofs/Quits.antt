@@ -9,12 +9,12 @@ use Rattle.tx_cmd.specs.declared.command.Command.{Command}
 use Rattle.tx_cmd.specs.declared.command.Command.TheVariants.{Quit}
 use Rattle.tx_cmd.specs.declared.command.CmdFault.{CmdFault}
 use Rattle.tx_cmd.specs.declared.command.CmdFault.TheVariants.{Memory}
-use Rattle.tx_cmd.specs.Words.{first_word, word_text, arguments_of, some_stored, TakesMemory}
+use Rattle.tx_cmd.specs.Words.{up_to_space, word_text, arguments_of, some_stored, TakesMemory}
 use Rattle.tx_cmd.proofs.WordTexts.{one_word}
 use Rattle.tx_cmd.specs.Commands.{IsCommand}
 use Rattle.tx_cmd.specs.Refusals.{IsCmdFault}
 use Rattle.tx_cmd.proofs.Once.{one_command, no_cause}
-use Rattle.tx_session.specs.Worlds.{World, Mark}
+use Rattle.tx_session.specs.Worlds.{World, LineMark}
 use Rattle.tx_session.specs.Replies.{nothing, too_long, unread, command, faulty, IsLineReply}
 
 quit_is : (line : List ℕ) → bytes_eq line (codes "quit") ≡ true → line ≡ codes "quit"
@@ -38,21 +38,21 @@ quit_faultless : (line : List ℕ) (fault : CmdFault) → fault ≢ Memory → I
 quit_faultless line fault named is e = no_cause line Quit fault named (quit_command line e) is
 
 -- reading `quit` takes no memory
-quit_storeless : (line : List ℕ) → bytes_eq line (codes "quit") ≡ true → TakesMemory (first_word line) → ⊥
+quit_storeless : (line : List ℕ) → bytes_eq line (codes "quit") ≡ true → TakesMemory (up_to_space line) → ⊥
 quit_storeless line e t =
-    let same : t.0 ≡ QuitWord = one_word t.0 QuitWord (sym t.1 ∙ ap first_word (quit_is line e)) in
+    let same : t.0 ≡ QuitWord = one_word t.0 QuitWord (sym t.1 ∙ ap up_to_space (quit_is line e)) in
     let stored : some_stored (arguments_of QuitWord) ≡ true =
     subst (λ w. some_stored (arguments_of w) ≡ true) same t.2 in
     cc
 
 -- a line that has a reply isn't `quit`
-pub replied_goes_on : (seen next : World) (line : List ℕ) (mark : Mark) (reply : List ℕ)
+pub replied_goes_on : (seen next : World) (line : List ℕ) (mark : LineMark) (reply : List ℕ)
     → IsLineReply seen line mark next reply → bytes_eq line (codes "quit") ≡ false
 replied_goes_on seen next line mark reply r =
     not_true (bytes_eq line (codes "quit")) (reads seen next line mark reply r)
   where
-    reads : (seen next : World) (line : List ℕ) (mark : Mark) (reply : List ℕ) → IsLineReply seen line mark next reply
-        → bytes_eq line (codes "quit") ≡ true → ⊥
+    reads : (seen next : World) (line : List ℕ) (mark : LineMark) (reply : List ℕ)
+        → IsLineReply seen line mark next reply → bytes_eq line (codes "quit") ≡ true → ⊥
     reads seen next line mark reply (nothing, is, r) e = omega (arith, ap length (sym is ∙ quit_is line e))
     reads seen next line mark reply (too_long count, is, r) e = omega (arith, is.0, ap length (quit_is line e))
     reads seen next line mark reply (unread, is, r) e = quit_storeless line e is.1

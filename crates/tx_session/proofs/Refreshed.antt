@@ -18,11 +18,11 @@ use Rattle.tx_session.specs.Asking.{IsArrival, IsClicked, Prints}
 use Rattle.tx_session.specs.Keeps.{Keeps, Takes, TakesAsking, TakesLacking, IsKeptLacking, kept_after}
 use Rattle.tx_session.specs.Keeps.{most_steps}
 use Rattle.tx_session.specs.Keeps.{refreshed}
-use Rattle.tx_session.specs.Keeps.{refresh_cost, carried, mods_of}
+use Rattle.tx_session.specs.Keeps.{refresh_cost, carried_keep, command_mods}
 use Rattle.tx_session.specs.Effects.{asks_view, keeps_buffers}
-use Rattle.tx_session.specs.Saying.{mark_of}
+use Rattle.tx_session.specs.Saying.{reply_mark}
 use Rattle.tx_session.specs.Sessions.{keep_of}
-use Rattle.tx_session.specs.Worlds.{Seen, Keep, Whole, Mark, plain, lacking, unsaved, told}
+use Rattle.tx_session.specs.Worlds.{SeenSession, Keep, WholeSession, LineMark, plain, lacking, unsaved, told}
 
 -- ---- the view
 
@@ -56,26 +56,26 @@ view_steps v old new h k = by_fresh v.fresh refl
 -- ---- commands that ask the view
 
 -- the mark of a reply that was made, or for which memory ran out
-abbrev pub IsMade : Mark → Type 0
+abbrev pub IsMade : LineMark → Type 0
 IsMade plain = Unit {0}
 IsMade lacking = Unit {0}
 IsMade unsaved = ⊥
 IsMade (told n) = ⊥
 
-asked_kept : (it : Command) (before after : Whole) → asks_view it ≡ true
+asked_kept : (it : Command) (before after : WholeSession) → asks_view it ≡ true
     → after.keep ≡ refreshed before.seen.state.buffers before.keep
     → after.keep ≡ kept_after before.seen.state it after.seen.state before.keep
 asked_kept it before after e h =
     let k = before.keep in
     let state = before.seen.state in
     subst (λ b. after.keep ≡ (if b then refreshed state.buffers k else if keeps_buffers state it then k
-    else option_map_or (carried state.buffers after.seen.state.buffers k) (mods_of state it) k)) (sym e) h
+    else option_map_or (carried_keep state.buffers after.seen.state.buffers k) (command_mods state it) k)) (sym e) h
 
 -- a fresh view stays
 fresh_stays : (bs : List Buffer) (k : Keep) → k.fresh ≡ true → refreshed bs k ≡ k
 fresh_stays bs k f = ap (λ b. if b then k else record { fresh = true; stores = Fresh bs; work = Bound k.stores }) f
 
-pub asked_keeps : (it : Command) (before after : Whole) (mark : Mark) → asks_view it ≡ true → IsMade mark
+pub asked_keeps : (it : Command) (before after : WholeSession) (mark : LineMark) → asks_view it ≡ true → IsMade mark
     → after.keep ≡ refreshed before.seen.state.buffers before.keep → Keeps before it mark after
 asked_keeps it before after plain e m h = asked_kept it before after e h
 asked_keeps it before after lacking e m h =
@@ -87,13 +87,13 @@ asked_keeps it before after unsaved e m h = absurd m
 asked_keeps it before after (told n) e m h = absurd m
 
 -- the number that is told is the one that is kept
-pub told_keeps : (it : Command) (before after : Whole) (n : ℕ) → asks_view it ≡ true
+pub told_keeps : (it : Command) (before after : WholeSession) (n : ℕ) → asks_view it ≡ true
     → after.keep ≡ refreshed before.seen.state.buffers before.keep → n ≡ after.keep.work
     → Keeps before it (told n) after
 told_keeps it before after n e h w = (asked_kept it before after e h, w)
 
 -- memory ran out in the refresh, which a fresh view doesn't make
-pub lacked_keeps : (it : Command) (before after : Whole) → asks_view it ≡ true
+pub lacked_keeps : (it : Command) (before after : WholeSession) → asks_view it ≡ true
     → (before.keep.fresh ≡ true → after.keep ≡ before.keep) → after.keep.fresh ≡ false
     → after.keep.work ≡ before.keep.work → Keeps before it lacking after
 lacked_keeps it before after e same f w =
@@ -102,7 +102,7 @@ lacked_keeps it before after e same f w =
     let bs = before.seen.state.buffers in
     subst (λ b. IsKeptLacking b bs k next) (sym e) (same, inr (f, w))
 
-pub asked_takes : (it : Command) (before : Whole) (mark : Mark) (old new : ℕ) → asks_view it ≡ true
+pub asked_takes : (it : Command) (before : WholeSession) (mark : LineMark) (old new : ℕ) → asks_view it ≡ true
     → new ≡ old + refresh_cost before.keep → Takes before it mark old new
 asked_takes it before plain old new e h = subst (λ b. TakesAsking b before it old new) (sym e) h
 asked_takes it before lacking old new e h = subst (λ b. TakesLacking b before it old new) (sym e) (λ f. free f)
@@ -114,7 +114,7 @@ asked_takes it before lacking old new e h = subst (λ b. TakesLacking b before i
 asked_takes it before unsaved old new e h = subst (λ b. TakesAsking b before it old new) (sym e) h
 asked_takes it before (told n) old new e h = subst (λ b. TakesAsking b before it old new) (sym e) h
 
-pub lacked_takes : (it : Command) (before : Whole) (old new : ℕ) → asks_view it ≡ true
+pub lacked_takes : (it : Command) (before : WholeSession) (old new : ℕ) → asks_view it ≡ true
     → (before.keep.fresh ≡ true → new ≡ old) → Takes before it lacking old new
 lacked_takes it before old new e h = subst (λ b. TakesLacking b before it old new) (sym e) h
 
@@ -129,26 +129,26 @@ prints_ask it p = absurd p
 -- ---- behind a refresh of the view of a session
 
 -- a key or a click makes its reply, or memory runs out
-pub arrival_made : (outcome : Result Move EditFault) (before after : State) (mark : Mark) (reply : List ℕ)
+pub arrival_made : (outcome : Result Move EditFault) (before after : State) (mark : LineMark) (reply : List ℕ)
     → IsArrival outcome before mark after reply → IsMade mark
 arrival_made outcome before after plain reply h = tt
 arrival_made outcome before after lacking reply h = tt
 arrival_made outcome before after unsaved reply h = absurd h
 arrival_made outcome before after (told n) reply h = absurd h
 
-pub clicked_made : (width : ℕ) (v : WideView) (r c : ℕ) (before after : State) (mark : Mark) (reply : List ℕ)
+pub clicked_made : (width : ℕ) (v : WideView) (r c : ℕ) (before after : State) (mark : LineMark) (reply : List ℕ)
     → IsClicked width v r c before mark after reply → IsMade mark
 clicked_made width v r c before after plain reply h = tt
 clicked_made width v r c before after lacking reply h = tt
 clicked_made width v r c before after unsaved reply h = absurd h
 clicked_made width v r c before after (told n) reply h = absurd h
 
-module _ (it : Command) (asks : asks_view it ≡ true) (now : Whole) (seen after : Seen) (v w : WholeView)
+module _ (it : Command) (asks : asks_view it ≡ true) (now : WholeSession) (seen after : SeenSession) (v w : WholeView)
     (is : record { seen = seen; keep = keep_of v } ≡ now) where
-  abbrev next : Whole
+  abbrev next : WholeSession
   next = record { seen = after; keep = keep_of w }
 
-  pub keeps_asked : (mark : Mark) → IsMade mark → v.buffers ≡ seen.state.buffers → w.fresh ≡ true
+  pub keeps_asked : (mark : LineMark) → IsMade mark → v.buffers ≡ seen.state.buffers → w.fresh ≡ true
       → w.stores ≡ Fresh v.buffers → (v.fresh ≡ false → w.work ≡ Bound v.stores) → (v.fresh ≡ true → w ≡ v)
       → Keeps now it mark next
   keeps_asked mark m e f g h k =
@@ -174,7 +174,7 @@ module _ (it : Command) (asks : asks_view it ≡ true) (now : Whole) (seen after
       subst (λ x. Takes x it lacking old new) is
       (lacked_takes it (record { seen = seen; keep = keep_of v }) old new asks h)
 
-  pub takes_asked : (mark : Mark) (old new : ℕ) → (v.fresh ≡ false → new ≡ old + Bound v.stores)
+  pub takes_asked : (mark : LineMark) (old new : ℕ) → (v.fresh ≡ false → new ≡ old + Bound v.stores)
       → (v.fresh ≡ true → new ≡ old) → Takes now it mark old new
   takes_asked mark old new h k =
       subst (λ x. Takes x it mark old new) is
@@ -182,19 +182,19 @@ module _ (it : Command) (asks : asks_view it ≡ true) (now : Whole) (seen after
 
 -- ---- other commands
 
-pub unasked_takes : (it : Command) (before : Whole) (mark : Mark) (old new : ℕ) → asks_view it ≡ false
+pub unasked_takes : (it : Command) (before : WholeSession) (mark : LineMark) (old new : ℕ) → asks_view it ≡ false
     → new ≤ old + most_steps before.seen.state it → Takes before it mark old new
 unasked_takes it before plain old new e h = subst (λ b. TakesAsking b before it old new) (sym e) h
 unasked_takes it before lacking old new e h = subst (λ b. TakesLacking b before it old new) (sym e) h
 unasked_takes it before unsaved old new e h = subst (λ b. TakesAsking b before it old new) (sym e) h
 unasked_takes it before (told n) old new e h = subst (λ b. TakesAsking b before it old new) (sym e) h
 
-pub free_takes : (it : Command) (before : Whole) (mark : Mark) (now : ℕ) → asks_view it ≡ false
+pub free_takes : (it : Command) (before : WholeSession) (mark : LineMark) (now : ℕ) → asks_view it ≡ false
     → Takes before it mark now now
 free_takes it before mark now e = unasked_takes it before mark now now e (omega arith)
 
 -- what a command takes that doesn't ask the view
-pub most_taken : (it : Command) (before : Whole) (mark : Mark) (old new : ℕ) → Takes before it mark old new
+pub most_taken : (it : Command) (before : WholeSession) (mark : LineMark) (old new : ℕ) → Takes before it mark old new
     → asks_view it ≡ false → new ≤ old + most_steps before.seen.state it
 most_taken it before plain old new h e = subst (λ b. TakesAsking b before it old new) e h
 most_taken it before lacking old new h e = subst (λ b. TakesLacking b before it old new) e h
@@ -202,13 +202,13 @@ most_taken it before unsaved old new h e = subst (λ b. TakesAsking b before it 
 most_taken it before (told n) old new h e = subst (λ b. TakesAsking b before it old new) e h
 
 -- one that leaves the view as it is
-module _ (it : Command) (before after : Whole) (asks_not : asks_view it ≡ false)
+module _ (it : Command) (before after : WholeSession) (asks_not : asks_view it ≡ false)
     (keeps : keeps_buffers before.seen.state it ≡ true) (same : after.keep ≡ before.keep) where
   still : after.keep ≡ kept_after before.seen.state it after.seen.state before.keep
   still =
       let k = before.keep in
       let state = before.seen.state in
-      let left = option_map_or (carried state.buffers after.seen.state.buffers k) (mods_of state it) k in
+      let left = option_map_or (carried_keep state.buffers after.seen.state.buffers k) (command_mods state it) k in
       same
       ∙ sym (ap (λ b. if b then refreshed state.buffers k else if keeps_buffers state it then k else left) asks_not
       ∙ ap (λ b. if b then k else left) keeps)
@@ -217,7 +217,7 @@ module _ (it : Command) (before after : Whole) (asks_not : asks_view it ≡ fals
   still_lacking =
       subst (λ b. IsKeptLacking b before.seen.state.buffers before.keep after.keep) (sym asks_not) same
 
-  pub still_keeps : (reply : Reply) → Keeps before it (mark_of reply) after
+  pub still_keeps : (reply : Reply) → Keeps before it (reply_mark reply) after
   still_keeps Done = still
   still_keeps (Fixed text) = still
   still_keeps (Made text) = still

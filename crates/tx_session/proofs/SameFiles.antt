@@ -9,14 +9,14 @@ use Rattle.tx_outside.specs.Outside.{StoreSeen}
 use Rattle.tx_session.specs.declared.status.Status.{Status}
 use Rattle.tx_session.specs.declared.status.Status.TheVariants as statuses
 use Rattle.tx_session.specs.Differences.{HoldSameFiles}
-use Rattle.tx_open.specs.Outcomes.{Outcome, faulty_words, missing, too_long as file_too_long, no_tree, store_fault}
+use Rattle.tx_open.specs.Outcomes.{OpenOutcome, faulty_words, missing, too_long as file_too_long, no_tree, store_fault}
 use Rattle.tx_open.specs.Outcomes.{no_memory, opened, generated, ComesTo}
 use Rattle.tx_session.specs.Replies.{Reading, nothing, too_long, unread, command, faulty, IsReplyTo}
 use Rattle.tx_session.specs.Replies.{IsLineReply}
 use Rattle.tx_session.specs.Runs.{IsFinal, IsPlayed, IsWhole, Outside, start_with}
 use Rattle.tx_session.specs.Scripts.{Answered, before_quit, command_line}
 use Rattle.tx_session.specs.States.{saved_by}
-use Rattle.tx_session.specs.Worlds.{Seen, World, Mark, plain, lacking, unsaved, told, Stores}
+use Rattle.tx_session.specs.Worlds.{SeenSession, World, LineMark, plain, lacking, unsaved, told, StoresFile}
 use Rattle.tx_session.specs.Worlds.{unsaved_in}
 use Rattle.tx_session.proofs.Answering.{OneView}
 use Rattle.tx_session.proofs.Determined.{one_reading, was_read, one_line_reply, decided, told_script}
@@ -59,7 +59,7 @@ module _ (name bytes : List ℕ) where
   put_in_both None None (Some c) None h k same = absurd k
   put_in_both None None None (Some d) h k same = absurd k
 
-stored_same : (o : Option (List ℕ × List ℕ)) (v s w t : StoreSeen) → Stores o v s → Stores o w t
+stored_same : (o : Option (List ℕ × List ℕ)) (v s w t : StoreSeen) → StoresFile o v s → StoresFile o w t
     → HoldSameFiles v.files w.files → HoldSameFiles s.files t.files
 stored_same None v s w t h k same =
     moved v.files s.files w.files t.files (ap (λ x. x.files) h) (ap (λ x. x.files) k) same
@@ -68,7 +68,7 @@ stored_same (Some file) v s w t h k same = put_in_both file.0 file.1 v.files s.f
 abbrev files_of : World → Option Files
 files_of w = w.store.files
 
-abbrev seen_of : World → Seen
+abbrev seen_of : World → SeenSession
 seen_of w = w.session.seen
 
 lacked_files : (v : World) (reading : Reading) (next : World) (reply : List ℕ) → IsReplyTo v reading lacking next reply
@@ -96,11 +96,11 @@ module _ (v w : World) (same : seen_of v ≡ seen_of w) (hold : HoldSameFiles (f
   plain_files unread s t a b h k = stored_same None v.store s.store w.store t.store h.1.store k.1.store hold
   plain_files (command c) s t a b h k =
       stored_same (saved_by v.session.seen.state c) v.store s.store w.store t.store h.1.replied.stored
-      (subst (λ x. Stores (saved_by x.state c) w.store t.store) (sym same) k.1.replied.stored) hold
+      (subst (λ x. StoresFile (saved_by x.state c) w.store t.store) (sym same) k.1.replied.stored) hold
   plain_files (faulty f) s t a b h k = stored_same None v.store s.store w.store t.store h.0.store k.0.store hold
 
-  line_files : (text : List ℕ) (mark : Mark) (s t : World) (a b : List ℕ) → mark ≢ unsaved → IsLineReply v text mark s a
-      → IsLineReply w text mark t b → HoldSameFiles (files_of s) (files_of t)
+  line_files : (text : List ℕ) (mark : LineMark) (s t : World) (a b : List ℕ) → mark ≢ unsaved
+      → IsLineReply v text mark s a → IsLineReply w text mark t b → HoldSameFiles (files_of s) (files_of t)
   line_files text unsaved s t a b n h k = absurd (n refl)
   line_files text lacking s t a b n h k =
       moved (files_of v) (files_of s) (files_of w) (files_of t) (lacked_files v h.0 s a h.2)
@@ -113,13 +113,13 @@ module _ (v w : World) (same : seen_of v ≡ seen_of w) (hold : HoldSameFiles (f
       (subst (λ r. IsReplyTo w r plain t b)
       (one_reading text k.0 h.0 (was_read w k.0 plain t b tt k.2) (was_read v h.0 plain s a tt h.2) k.1 h.1) k.2)
 
-saves : (m : Mark) (marks : List Mark) → unsaved_in (m ∷ marks) ≡ 0 → (m ≢ unsaved) × (unsaved_in marks ≡ 0)
+saves : (m : LineMark) (marks : List LineMark) → unsaved_in (m ∷ marks) ≡ 0 → (m ≢ unsaved) × (unsaved_in marks ≡ 0)
 saves plain marks e = (λ f. cc, e)
 saves lacking marks e = (λ f. cc, e)
 saves unsaved marks e = absurd (omega (arith, e))
 saves (told n) marks e = (λ f. cc, e)
 
-pub answered_files : (law : OneView) (v w s t : World) (lines : List (List ℕ)) (marks : List Mark) (a b : List ℕ)
+pub answered_files : (law : OneView) (v w s t : World) (lines : List (List ℕ)) (marks : List LineMark) (a b : List ℕ)
     → unsaved_in marks ≡ 0 → seen_of v ≡ seen_of w → HoldSameFiles (files_of v) (files_of w)
     → Answered v lines marks s a → Answered w lines marks t b → HoldSameFiles (files_of s) (files_of t)
 answered_files law v w s t [] [] a b u same hold h k =
@@ -132,7 +132,7 @@ answered_files law v w s t (l ∷ lines) (m ∷ marks) a b u same hold h k =
     answered_files law h.0 k.0 s t lines marks h.2 k.2 kept.1 one.0
     (line_files v w same hold (command_line l) m h.0 k.0 h.1 k.1 kept.0 h.3 k.3) h.4 k.4
 
-played_files : (law : OneView) (v w x y : World) (script : List ℕ) (marks : List Mark) (r q : Option (List ℕ))
+played_files : (law : OneView) (v w x y : World) (script : List ℕ) (marks : List LineMark) (r q : Option (List ℕ))
     (s : Status) (a b : List ℕ) → unsaved_in marks ≡ 0 → seen_of v ≡ seen_of w → HoldSameFiles (files_of v) (files_of w)
     → IsFinal s → IsPlayed v script marks r s x a → IsPlayed w script marks q s y b
     → HoldSameFiles (files_of x) (files_of y)
@@ -153,12 +153,12 @@ played_files law v w x y script marks r q statuses.OutputFault a b u e hold f h 
 
 module _ (law : OneView) (v w x y : Outside) (files : Files) (ev : v.store.files ≡ Some files)
     (ew : w.store.files ≡ Some files) (script : List ℕ) (sv : v.input.left ≡ Some script)
-    (sw : w.input.left ≡ Some script) (marks : List Mark) (s : Status) (a b : List ℕ) (final : IsFinal s) where
+    (sw : w.input.left ≡ Some script) (marks : List LineMark) (s : Status) (a b : List ℕ) (final : IsFinal s) where
   unopened_files : x.store.files ≡ v.store.files → y.store.files ≡ w.store.files
       → HoldSameFiles x.store.files y.store.files
   unopened_files g h = both_tell x.store.files y.store.files files (g ∙ ev) (h ∙ ew)
 
-  pub whole_files : (o : Outcome) → unsaved_in marks ≡ 0 → IsWhole o v x marks s a → IsWhole o w y marks s b
+  pub whole_files : (o : OpenOutcome) → unsaved_in marks ≡ 0 → IsWhole o v x marks s a → IsWhole o w y marks s b
       → HoldSameFiles x.store.files y.store.files
   whole_files (opened all) none g h =
       let first : World = start_with all g.first g.steps in
@@ -181,7 +181,8 @@ module _ (law : OneView) (v w x y : Outside) (files : Files) (ev : v.store.files
   whole_files no_memory none g h = unopened_files g.kept.0 h.kept.0
 
 pub one_run : (law : OneView) (opens : OneOutcome) (words : List (List ℕ)) (all : Files) (script : List ℕ)
-    (marks : List Mark) (o p : Outcome) (v w x y : Outside) (s t : Status) (a b : List ℕ) → IsFinal s → IsFinal t
+    (marks : List LineMark) (o p : OpenOutcome) (v w x y : Outside) (s t : Status) (a b : List ℕ) → IsFinal s
+    → IsFinal t
     → v.store.files ≡ Some all → w.store.files ≡ Some all → v.input.left ≡ Some script → w.input.left ≡ Some script
     → ComesTo words (Some all) o → ComesTo words (Some all) p → IsWhole o v x marks s a → IsWhole p w y marks t b
     → (s ≡ t) × (a ≡ b) × (unsaved_in marks ≡ 0 → HoldSameFiles x.store.files y.store.files)

@@ -16,17 +16,17 @@ use Rattle.tx_session.specs.declared.script.Turn.{Turn}
 use Rattle.tx_session.specs.declared.script.Turn.TheVariants as turns
 use Rattle.tx_print.specs.Lines.{line}
 use Rattle.tx_session.specs.Replies.{IsLineReply}
-use Rattle.tx_session.specs.Worlds.{World, Mark}
-use Rattle.tx_session.specs.Scripts.{IsOneLine, HasLines, Answered, command_line}
-use Rattle.tx_session.specs.Keeping.{Stands, StandsWith, IsCutAt, IsTurned, LeadsTo}
+use Rattle.tx_session.specs.Worlds.{World, LineMark}
+use Rattle.tx_session.specs.Scripts.{IsOneLine, HasEndedLines, Answered, command_line}
+use Rattle.tx_session.specs.Keeping.{StandsAnswered, StandsWith, IsCutAt, IsTurned, TurnLeadsTo}
 
 -- no byte
-pub no_lines : HasLines [] [] []
+pub no_lines : HasEndedLines [] [] []
 no_lines = record { whole = refl; each = All-nil IsOneLine; last = All-nil (λ b. b ≢ 10) }
 
 -- one byte more of a line
-pub line_goes_on : (bytes : List ℕ) (ended : List (List ℕ)) (rest : List ℕ) (b : ℕ) → b ≢ 10 → HasLines bytes ended rest
-    → HasLines (bytes ++ b ∷ []) ended (rest ++ b ∷ [])
+pub line_goes_on : (bytes : List ℕ) (ended : List (List ℕ)) (rest : List ℕ) (b : ℕ) → b ≢ 10
+    → HasEndedLines bytes ended rest → HasEndedLines (bytes ++ b ∷ []) ended (rest ++ b ∷ [])
 line_goes_on bytes ended rest b other h =
     record {
       whole = ap (λ x. x ++ b ∷ []) h.whole ∙ append_assoc (flat_map line ended) rest (b ∷ []);
@@ -35,8 +35,8 @@ line_goes_on bytes ended rest b other h =
     }
 
 -- a line ends
-pub line_ends : (bytes : List ℕ) (ended : List (List ℕ)) (rest : List ℕ) → HasLines bytes ended rest
-    → HasLines (bytes ++ 10 ∷ []) (ended ++ rest ∷ []) []
+pub line_ends : (bytes : List ℕ) (ended : List (List ℕ)) (rest : List ℕ) → HasEndedLines bytes ended rest
+    → HasEndedLines (bytes ++ 10 ∷ []) (ended ++ rest ∷ []) []
 line_ends bytes ended rest h =
     record {
       whole = grind (arith, common_steps, flat_map-append, h.whole);
@@ -45,8 +45,8 @@ line_ends bytes ended rest h =
     }
 
 -- one line more is answered
-pub answered_next : (seen : World) (lines : List (List ℕ)) (marks : List Mark) (between last : World)
-    (text reply one : List ℕ) (mark : Mark)
+pub answered_next : (seen : World) (lines : List (List ℕ)) (marks : List LineMark) (between last : World)
+    (text reply one : List ℕ) (mark : LineMark)
     → Answered seen lines marks between text → IsLineReply between (command_line one) mark last reply
     → Answered seen (lines ++ one ∷ []) (marks ++ mark ∷ []) last (text ++ reply)
 answered_next seen [] [] between last text reply one mark a r = (
@@ -70,14 +70,15 @@ answered_next seen (l ∷ lines) (m ∷ marks) between last text reply one mark 
 
 -- the start of a script
 pub stands_first : (start : World) (before : Option (List ℕ)) → before ≡ append_known before []
-    → Stands start before [] [] start before
+    → StandsAnswered start before [] [] start before
 stands_first start before e =
     record { ended = []; marks = []; replies = []; lines = no_lines; answered = (refl, refl); written = e }
 
 -- the next byte belongs to the line
 pub stands_on : (start : World) (before : Option (List ℕ)) (bytes rest : List ℕ) (b : ℕ) (seen : World)
     (after : Option (List ℕ)) → b ≢ 10
-    → Stands start before bytes rest seen after → Stands start before (bytes ++ b ∷ []) (rest ++ b ∷ []) seen after
+    → StandsAnswered start before bytes rest seen after
+    → StandsAnswered start before (bytes ++ b ∷ []) (rest ++ b ∷ []) seen after
 stands_on start before bytes rest b seen after other s =
     record {
       ended = s.ended;
@@ -91,9 +92,9 @@ stands_on start before bytes rest b seen after other s =
 -- the next byte ends the line, which is answered
 pub stands_next : (start : World) (before : Option (List ℕ)) (bytes rest : List ℕ) (seen next : World)
     (between after : Option (List ℕ))
-    → ((mark : Mark) × (reply : List ℕ) × IsLineReply seen (command_line rest) mark next reply
+    → ((mark : LineMark) × (reply : List ℕ) × IsLineReply seen (command_line rest) mark next reply
     × (after ≡ append_known between reply))
-    → Stands start before bytes rest seen between → Stands start before (bytes ++ 10 ∷ []) [] next after
+    → StandsAnswered start before bytes rest seen between → StandsAnswered start before (bytes ++ 10 ∷ []) [] next after
 stands_next start before bytes rest seen next between after r s =
     record {
       ended = s.ended ++ rest ∷ [];
@@ -107,23 +108,23 @@ stands_next start before bytes rest seen next between after r s =
 -- what a line was turned into, by the answer
 pub turned_go : (n : Next) (seen next : World) (bytes : List ℕ) (before after : Option (List ℕ)) → n ≡ nexts.Go
     → IsTurned (Ok n) seen bytes next before after
-    → (mark : Mark) × (reply : List ℕ) × IsLineReply seen (command_line bytes) mark next reply
+    → (mark : LineMark) × (reply : List ℕ) × IsLineReply seen (command_line bytes) mark next reply
     × (after ≡ append_known before reply)
 turned_go nexts.Go seen next bytes before after e t = t
 turned_go nexts.Quit seen next bytes before after e t = cc
 
 pub turned_cut : (result : Result Next WriteFault) (fault : WriteFault) (seen next : World) (bytes : List ℕ)
     (before after : Option (List ℕ)) → result ≡ Err fault → IsTurned result seen bytes next before after
-    → (mark : Mark) × (reply : List ℕ) × IsLineReply seen (command_line bytes) mark next reply
+    → (mark : LineMark) × (reply : List ℕ) × IsLineReply seen (command_line bytes) mark next reply
     × AppendsPart reply before after
 turned_cut result fault seen next bytes before after e t = subst (λ r. IsTurned r seen bytes next before after) e t
 
 -- the reply to the line that ends is written in part
 pub cut_at : (start : World) (before : Option (List ℕ)) (bytes rest : List ℕ) (seen next : World)
     (between after : Option (List ℕ))
-    → ((mark : Mark) × (reply : List ℕ) × IsLineReply seen (command_line rest) mark next reply
+    → ((mark : LineMark) × (reply : List ℕ) × IsLineReply seen (command_line rest) mark next reply
     × AppendsPart reply between after)
-    → Stands start before bytes rest seen between → IsCutAt start before bytes next after
+    → StandsAnswered start before bytes rest seen between → IsCutAt start before bytes next after
 cut_at start before bytes rest seen next between after r s =
     record {
       rest = rest;
@@ -142,7 +143,8 @@ ends_at bytes b e = ap (λ x. bytes ++ x ∷ []) e
 -- where a session ended within some bytes, it ended within more of them
 pub stops_within : (turn : Turn) (start : World) (before : Option (List ℕ)) (bytes more : List ℕ) (seen : World)
     (kept : KeptLine) (after : Option (List ℕ)) → turn ≢ turns.Go
-    → LeadsTo turn start before bytes seen kept after → LeadsTo turn start before (bytes ++ more) seen kept after
+    → TurnLeadsTo turn start before bytes seen kept after
+    → TurnLeadsTo turn start before (bytes ++ more) seen kept after
 stops_within turns.Go start before bytes more seen kept after other l = absurd (other refl)
 stops_within turns.Quit start before bytes more seen kept after other l =
     (l.0, l.1 ++ more, l.2, ap (λ x. x ++ more) l.3 ∙ append_assoc l.0 (10 ∷ l.1) more, l.4, l.5)
@@ -162,20 +164,20 @@ piece_rest bytes piece i =
 
 pub stops_in_piece : (turn : Turn) (start : World) (before : Option (List ℕ)) (bytes piece : List ℕ) (i : ℕ)
     (seen : World) (kept : KeptLine) (after : Option (List ℕ)) → i < length piece → turn ≢ turns.Go
-    → LeadsTo turn start before ((bytes ++ take i piece) ++ slice_index_or piece i 0 ∷ []) seen kept after
-    → LeadsTo turn start before (bytes ++ piece) seen kept after
+    → TurnLeadsTo turn start before ((bytes ++ take i piece) ++ slice_index_or piece i 0 ∷ []) seen kept after
+    → TurnLeadsTo turn start before (bytes ++ piece) seen kept after
 stops_in_piece turn start before bytes piece i seen kept after lt other l =
-    subst (λ bs. LeadsTo turn start before bs seen kept after) (piece_rest bytes piece (i + 1))
+    subst (λ bs. TurnLeadsTo turn start before bs seen kept after) (piece_rest bytes piece (i + 1))
     (stops_within turn start before (bytes ++ take (i + 1) piece) (drop (i + 1) piece) seen kept after other
-    (subst (λ bs. LeadsTo turn start before bs seen kept after) (piece_next bytes piece i lt) l))
+    (subst (λ bs. TurnLeadsTo turn start before bs seen kept after) (piece_next bytes piece i lt) l))
 
 pub goes_on_in_piece : (turn : Turn) (start : World) (before : Option (List ℕ)) (bytes piece : List ℕ) (i : ℕ)
     (seen : World) (kept : KeptLine) (after : Option (List ℕ)) → i < length piece → turn ≡ turns.Go
-    → LeadsTo turn start before ((bytes ++ take i piece) ++ slice_index_or piece i 0 ∷ []) seen kept after
+    → TurnLeadsTo turn start before ((bytes ++ take i piece) ++ slice_index_or piece i 0 ∷ []) seen kept after
     → StandsWith start before (bytes ++ take (i + 1) piece) seen kept after
 goes_on_in_piece turn start before bytes piece i seen kept after lt is l =
     subst (λ bs. StandsWith start before bs seen kept after) (piece_next bytes piece i lt)
-    (subst (λ t. LeadsTo t start before ((bytes ++ take i piece) ++ slice_index_or piece i 0 ∷ []) seen kept after)
+    (subst (λ t. TurnLeadsTo t start before ((bytes ++ take i piece) ++ slice_index_or piece i 0 ∷ []) seen kept after)
     is l)
 
 pub whole_piece : (start : World) (before : Option (List ℕ)) (bytes piece : List ℕ) (i : ℕ) (seen : World)

@@ -9,15 +9,16 @@ use Rattle.tx_cmd.specs.declared.command.Command.{Command}
 use Rattle.tx_cmd.specs.declared.command.Command.TheVariants.{Quit}
 use Rattle.tx_cmd.specs.declared.command.CmdFault.{CmdFault}
 use Rattle.tx_cmd.specs.declared.command.CmdFault.TheVariants as causes
-use Rattle.tx_cmd.specs.Words.{first_word, TakesMemory}
+use Rattle.tx_cmd.specs.Words.{up_to_space, TakesMemory}
 use Rattle.tx_cmd.specs.Commands.{IsCommand, values_of}
 use Rattle.tx_cmd.specs.Refusals.{IsCmdFault}
-use Rattle.tx_cmd.specs.Values.{nodes_in}
+use Rattle.tx_cmd.specs.Values.{nodes_in_values}
 use Rattle.tx_session.specs.declared.session.Next.{Next}
 use Rattle.tx_session.specs.declared.session.Next.TheVariants as nexts
 use Rattle.tx_session.specs.Keeps.{Keeps, Takes}
-use Rattle.tx_session.specs.Worlds.{Seen, Whole, World, IsAsBefore, seen_in, Mark, plain, lacking, unsaved, told}
-use Rattle.tx_session.specs.Replies.{nothing, too_long, unread, command, faulty, IsAsked, IsRefusal, IsReply}
+use Rattle.tx_session.specs.Worlds.{SeenSession, WholeSession, World, IsAsBefore, seen_of_world, LineMark, plain}
+use Rattle.tx_session.specs.Worlds.{lacking, unsaved, told}
+use Rattle.tx_session.specs.Replies.{nothing, too_long, unread, command, faulty, IsAsked, IsRefusalReply, IsReply}
 use Rattle.tx_session.specs.Replies.{IsLineReply, refusal, wanting_reply}
 use Rattle.tx_session.specs.Scripts.{command_line}
 use Rattle.tx_session.proofs.Quits.{quit_spelled}
@@ -33,27 +34,28 @@ counted_on seen steps more = record { session = refl; store = refl; steps = more
 
 -- a refusal, or want of memory in its place
 pub refused_reply : (seen next : World) (text reply : List ℕ) → IsAsBefore seen next
-    → (reply ≡ text) ⊎ (reply ≡ wanting_reply) → (mark : Mark) × IsRefusal seen text mark next reply
+    → (reply ≡ text) ⊎ (reply ≡ wanting_reply) → (mark : LineMark) × IsRefusalReply seen text mark next reply
 refused_reply seen next text reply same (inl e) = (plain, (same, e))
 refused_reply seen next text reply same (inr e) = (lacking, (same, e))
 
 long_reply : (seen : World) (line : List ℕ) (count : ℕ) (reply : List ℕ) → MOST_LINE < length line → count ≡ length line
     → (reply ≡ refusal (causes.Long count)) ⊎ (reply ≡ wanting_reply)
-    → (mark : Mark) × IsLineReply seen line mark seen reply
+    → (mark : LineMark) × IsLineReply seen line mark seen reply
 long_reply seen line count reply long is e =
     let r = refused_reply seen seen (refusal (causes.Long count)) reply (as_before seen) e in
     (r.0, (too_long count, (long, is), (r.1, refl)))
 
 lacking_reply : (seen next : World) (line reply : List ℕ) → IsAsBefore seen next → IsAsked line
-    → TakesMemory (first_word line)
-    → (reply ≡ refusal causes.Memory) ⊎ (reply ≡ wanting_reply) → (mark : Mark) × IsLineReply seen line mark next reply
+    → TakesMemory (up_to_space line)
+    → (reply ≡ refusal causes.Memory) ⊎ (reply ≡ wanting_reply)
+    → (mark : LineMark) × IsLineReply seen line mark next reply
 lacking_reply seen next line reply same asked takes (inl e) = (lacking, (unread, (asked, takes), (refl, same, e)))
 lacking_reply seen next line reply same asked takes (inr e) = (lacking, (unread, (asked, takes), (refl, same, e)))
 
 faulty_reply : (seen next : World) (line : List ℕ) (cause : CmdFault) (reply : List ℕ) → IsAsBefore seen next
     → IsAsked line → cause ≢ causes.Memory
     → IsCmdFault line cause → (reply ≡ refusal cause) ⊎ (reply ≡ wanting_reply)
-    → (mark : Mark) × IsLineReply seen line mark next reply
+    → (mark : LineMark) × IsLineReply seen line mark next reply
 faulty_reply seen next line cause reply same asked named is e =
     let r = refused_reply seen next (refusal cause) reply same e in
     (r.0, (faulty cause, (asked, named, is), r.1))
@@ -61,7 +63,7 @@ faulty_reply seen next line cause reply same asked named is e =
 -- a reply was said, and the session goes on
 pub said_turned : (result : Result Next WriteFault) (seen next : World) (bytes reply : List ℕ)
     (before after : Option (List ℕ)) → result ≢ Ok nexts.Quit
-    → (mark : Mark) × IsLineReply seen (command_line bytes) mark next reply → IsSaid result reply before after
+    → (mark : LineMark) × IsLineReply seen (command_line bytes) mark next reply → IsSaid result reply before after
     → IsTurned result seen bytes next before after
 said_turned (Ok nexts.Go) seen next bytes reply before after goes r said = (r.0, reply, r.1, said)
 said_turned (Ok nexts.Quit) seen next bytes reply before after goes r said = absurd (goes refl)
@@ -88,7 +90,7 @@ module _ (result : Result Next WriteFault) (seen : World) (bytes : List ℕ) (be
   -- a line that is no command, or that memory did not suffice to read
   pub refused_turned : (next : World) (cause : CmdFault) → IsAsBefore seen next → IsAsked (command_line bytes)
       → IsCmdFault (command_line bytes) cause
-      → (cause ≡ causes.Memory → TakesMemory (first_word (command_line bytes))) → Said cause
+      → (cause ≡ causes.Memory → TakesMemory (up_to_space (command_line bytes))) → Said cause
       → IsTurned result seen bytes next before after
   refused_turned next (causes.Long n) same asked is takes said =
       named_turned next (causes.Long n) same asked (λ e. cc) is said
@@ -109,17 +111,19 @@ pub empty_turned : (seen : World) (bytes : List ℕ) (before after : Option (Lis
     → after ≡ append_known before [] → IsTurned (Ok nexts.Go) seen bytes seen before after
 empty_turned seen bytes before after e same = (plain, [], (nothing, e, (refl, refl, refl)), same)
 
-pub same_seen : (a b : Seen) → a.state ≡ b.state → a.width ≡ b.width → a.height ≡ b.height → a.fresh ≡ b.fresh → a ≡ b
+pub same_seen : (a b : SeenSession) → a.state ≡ b.state → a.width ≡ b.width → a.height ≡ b.height → a.fresh ≡ b.fresh
+    → a ≡ b
 same_seen a b s w h f = λ i. record { state = s i; width = w i; height = h i; fresh = f i }
 
-pub same_session : (a b : Whole) → a.seen ≡ b.seen → a.keep ≡ b.keep → a ≡ b
+pub same_session : (a b : WholeSession) → a.seen ≡ b.seen → a.keep ≡ b.keep → a ≡ b
 same_session a b s k = λ i. record { seen = s i; keep = k i }
 
 pub same_world : (a b : World) → a.session ≡ b.session → a.store ≡ b.store → a.steps ≡ b.steps → a ≡ b
 same_world a b s k n = λ i. record { session = s i; store = k i; steps = n i }
 
 -- `quit` leaves all as it was
-quit_done : (seen next : World) (mark : Mark) (reply : List ℕ) → IsReply (seen_in seen) Quit mark (seen_in next) reply
+quit_done : (seen next : World) (mark : LineMark) (reply : List ℕ)
+    → IsReply (seen_of_world seen) Quit mark (seen_of_world next) reply
     → Keeps seen.session Quit mark next.session → next.steps ≡ seen.steps → next ≡ seen
 quit_done seen next plain reply r k n =
     let same = same_seen next.session.seen seen.session.seen r.answer.0 r.width r.height r.fresh in
@@ -131,13 +135,13 @@ quit_done seen next (told m) reply r k n = let bad = r.work in absurd cc
 -- what the session's step says of a command that was read when the count of steps was this
 abbrev pub IsStepped : Result Next WriteFault → World → ℕ → World → Command → (before after : Option (List ℕ)) → Type 0
 IsStepped result seen read next it before after =
-    (mark : Mark) × (reply : List ℕ) × IsReply (seen_in seen) it mark (seen_in next) reply
+    (mark : LineMark) × (reply : List ℕ) × IsReply (seen_of_world seen) it mark (seen_of_world next) reply
     × IsSaid result reply before after × Keeps seen.session it mark next.session
     × Takes seen.session it mark read next.steps
 
 -- a command was read, which takes at most these steps
 abbrev pub IsReadBy : World → Command → ℕ → Type 0
-IsReadBy seen it read = (seen.steps ≤ read) × (read ≤ seen.steps + nodes_in (values_of it))
+IsReadBy seen it read = (seen.steps ≤ read) × (read ≤ seen.steps + nodes_in_values (values_of it))
 
 -- no steps are taken in reading `quit`
 quit_read : (seen : World) (read : ℕ) → IsReadBy seen Quit read → read ≡ seen.steps

@@ -21,22 +21,22 @@ use Rattle.tx_session.specs.declared.session.Next.{Next}
 use Rattle.tx_session.specs.declared.session.Next.TheVariants.{Go}
 use Rattle.tx_session.specs.States.{IsEditAnswer, IsKeyAnswer, IsClickAnswer}
 use Rattle.tx_session.specs.Effects.{key_fails}
-use Rattle.tx_session.specs.Keeps.{carried, key_mods}
+use Rattle.tx_session.specs.Keeps.{carried_keep, key_mods}
 use Rattle.tx_session.specs.Replies.{wanting_reply}
-use Rattle.tx_session.specs.Worlds.{Seen, Whole, Mark, plain, lacking, unsaved, told}
+use Rattle.tx_session.specs.Worlds.{SeenSession, WholeSession, LineMark, plain, lacking, unsaved, told}
 
 -- the size of pages is that before, and the view is as fresh unless the buffers changed
-pub record IsKeptView (changed_not : Bool) (before after : Seen) : Type 0 where
+pub record IsKeptView (changed_not : Bool) (before after : SeenSession) : Type 0 where
   pub width : after.width ≡ before.width
   pub height : after.height ≡ before.height
   pub fresh : after.fresh ≡ (changed_not && before.fresh)
 
 -- nothing changed, for want of memory
-abbrev pub IsWanting : Seen → Seen → List ℕ → Type 0
+abbrev pub IsWanting : SeenSession → SeenSession → List ℕ → Type 0
 IsWanting before after reply = (after ≡ before) × (reply ≡ wanting_reply)
 
 -- an edit that comes to this was done or refused
-abbrev pub IsChange : Result State ModFault → Seen → Mark → Seen → List ℕ → Type 0
+abbrev pub IsChange : Result State ModFault → SeenSession → LineMark → SeenSession → List ℕ → Type 0
 IsChange outcome before plain after reply =
     IsEditAnswer before.state outcome after.state reply × IsKeptView (is_err outcome) before after
 IsChange outcome before lacking after reply = IsWanting before after reply
@@ -44,7 +44,7 @@ IsChange outcome before unsaved after reply = ⊥
 IsChange outcome before (told n) after reply = ⊥
 
 -- so of a key
-abbrev pub IsKeyChange : Result Move EditFault → Seen → Mark → Seen → List ℕ → Type 0
+abbrev pub IsKeyChange : Result Move EditFault → SeenSession → LineMark → SeenSession → List ℕ → Type 0
 IsKeyChange made before plain after reply =
     IsKeyAnswer before.state made after.state reply × IsKeptView (key_fails before.state made) before after
 IsKeyChange made before lacking after reply = IsWanting before after reply
@@ -66,26 +66,26 @@ GoesIn t (GoTo to) = IsPlace t to.path to.offset
 GoesIn t (Edit mods to) = ⊥
 
 -- What is kept behind an edit of a buffer: it goes with the modifications, unless they are refused.
-abbrev pub IsEditKept : (refused : Bool) → ℕ × List Mod → Whole → Mark → Whole → Type 0
+abbrev pub IsEditKept : (refused : Bool) → ℕ × List Mod → WholeSession → LineMark → WholeSession → Type 0
 IsEditKept refused edit before plain after =
     after.keep ≡ (if refused then before.keep
-    else carried before.seen.state.buffers after.seen.state.buffers before.keep edit)
+    else carried_keep before.seen.state.buffers after.seen.state.buffers before.keep edit)
 IsEditKept refused edit before lacking after = after.keep ≡ before.keep
 IsEditKept refused edit before unsaved after = ⊥
 IsEditKept refused edit before (told n) after = ⊥
 
 -- so behind a key
-abbrev pub IsKeyKept : Result Move EditFault → Whole → Mark → Whole → Type 0
+abbrev pub IsKeyKept : Result Move EditFault → WholeSession → LineMark → WholeSession → Type 0
 IsKeyKept made before plain after =
     after.keep ≡ (if key_fails before.seen.state made then before.keep
-    else option_map_or (carried before.seen.state.buffers after.seen.state.buffers before.keep) (key_mods made)
+    else option_map_or (carried_keep before.seen.state.buffers after.seen.state.buffers before.keep) (key_mods made)
     before.keep)
 IsKeyKept made before lacking after = after.keep ≡ before.keep
 IsKeyKept made before unsaved after = ⊥
 IsKeyKept made before (told n) after = ⊥
 
 -- the cursor went to the place behind a cell, or there is no such cell
-abbrev pub IsClicked : ℕ → WideView → ℕ → ℕ → State → Mark → State → List ℕ → Type 0
+abbrev pub IsClicked : ℕ → WideView → ℕ → ℕ → State → LineMark → State → List ℕ → Type 0
 IsClicked width v r c before plain after reply =
     IsClickAnswer before (no_cell v width) (position_in v.units width r c) after reply
 IsClicked width v r c before lacking after reply = (after ≡ before) × (reply ≡ wanting_reply)
@@ -93,17 +93,17 @@ IsClicked width v r c before unsaved after reply = ⊥
 IsClicked width v r c before (told n) after reply = ⊥
 
 -- the cursor went where a key leads it
-abbrev pub IsArrival : Result Move EditFault → State → Mark → State → List ℕ → Type 0
+abbrev pub IsArrival : Result Move EditFault → State → LineMark → State → List ℕ → Type 0
 IsArrival outcome before plain after reply = IsKeyAnswer before outcome after reply
 IsArrival outcome before lacking after reply = (after ≡ before) × (reply ≡ wanting_reply)
 IsArrival outcome before unsaved after reply = ⊥
 IsArrival outcome before (told n) after reply = ⊥
 
-abbrev pub is_plain : Mark → Bool
-is_plain plain = true
-is_plain lacking = false
-is_plain unsaved = false
-is_plain (told n) = false
+abbrev pub is_plain_mark : LineMark → Bool
+is_plain_mark plain = true
+is_plain_mark lacking = false
+is_plain_mark unsaved = false
+is_plain_mark (told n) = false
 
 -- the command prints the view
 abbrev pub Prints : Command → Type 0
@@ -115,6 +115,6 @@ Prints (Attrs r) = Unit {0}
 Prints command = ⊥
 
 -- the session goes on behind what was printed
-abbrev pub going : Result (Unit {0}) WriteFault → Result Next WriteFault
-going (Ok done) = Ok Go
-going (Err fault) = Err fault
+abbrev pub next_after : Result (Unit {0}) WriteFault → Result Next WriteFault
+next_after (Ok done) = Ok Go
+next_after (Err fault) = Err fault

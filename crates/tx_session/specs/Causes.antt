@@ -10,25 +10,25 @@ use Rattle.tx_edit.specs.declared.faults.EditFault.TheVariants.{NoText, AtStart,
 use Rattle.tx_print.specs.Lines.{line}
 
 -- a line of words and a number
-abbrev pub numbered : List ℕ → ℕ → List ℕ
-numbered words n = line (words ++ decimal n)
+abbrev pub numbered_line : List ℕ → ℕ → List ℕ
+numbered_line words n = line (words ++ decimal n)
 
 abbrev pub cause_reply : ModFault → List ℕ
-cause_reply (NoPath n) = numbered (codes "no path-end ") n
+cause_reply (NoPath n) = numbered_line (codes "no path-end ") n
 cause_reply NotString = line (codes "no not-string")
 cause_reply NotNode = line (codes "no not-node")
-cause_reply (BadPlace n) = numbered (codes "no bad-place ") n
+cause_reply (BadPlace n) = numbered_line (codes "no bad-place ") n
 cause_reply Differ = line (codes "no differ")
-cause_reply (CutsSymbol n) = numbered (codes "no cuts-symbol ") n
-cause_reply (TooLong n) = numbered (codes "no too-long ") n
-cause_reply (TooWide n) = numbered (codes "no too-wide ") n
-cause_reply (TooDeep n) = numbered (codes "no too-deep ") n
-cause_reply (TooBig n) = numbered (codes "no too-big ") n
+cause_reply (CutsSymbol n) = numbered_line (codes "no cuts-symbol ") n
+cause_reply (TooLong n) = numbered_line (codes "no too-long ") n
+cause_reply (TooWide n) = numbered_line (codes "no too-wide ") n
+cause_reply (TooDeep n) = numbered_line (codes "no too-deep ") n
+cause_reply (TooBig n) = numbered_line (codes "no too-big ") n
 
 abbrev pub astray_reply : PlaceFault → List ℕ
-astray_reply (places.NoPath n) = numbered (codes "no path-end ") n
-astray_reply (places.BadPlace n) = numbered (codes "no bad-place ") n
-astray_reply (places.CutsSymbol n) = numbered (codes "no cuts-symbol ") n
+astray_reply (places.NoPath n) = numbered_line (codes "no path-end ") n
+astray_reply (places.BadPlace n) = numbered_line (codes "no bad-place ") n
+astray_reply (places.CutsSymbol n) = numbered_line (codes "no cuts-symbol ") n
 
 -- why a key does nothing, want of memory aside
 abbrev pub key_reply : EditFault → List ℕ

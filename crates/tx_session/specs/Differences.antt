@@ -7,7 +7,7 @@ use Rattle.tx_outside.specs.Known.{WhereKnown}
 use Rattle.tx_session.specs.declared.status.Status.{Status}
 use Rattle.tx_session.specs.declared.status.Status.TheVariants.{Words, Missing, Refused, StoreFault}
 use Rattle.tx_session.specs.Replies.{wanting_reply, unsaved_reply}
-use Rattle.tx_session.specs.Worlds.{Mark, lacking}
+use Rattle.tx_session.specs.Worlds.{LineMark, lacking}
 
 -- both hold the same bytes under each name, where they tell it
 abbrev pub HoldSameFiles : Option Files → Option Files → Type 0
@@ -15,7 +15,7 @@ HoldSameFiles files others =
     WhereKnown (λ all more. (name : List ℕ) → file_of more name ≡ file_of all name) files others
 
 -- memory sufficed at each line
-abbrev pub Suffices : List Mark → Type 0
+abbrev pub Suffices : List LineMark → Type 0
 Suffices marks = AllByRecursion (λ mark. mark ≢ lacking) marks
 
 -- neither the reply where memory ran out nor the one where the store failed

@@ -7,7 +7,7 @@ use Rattle.tx_edit.specs.declared.faults.EditFault.{EditFault}
 use Rattle.tx_edit.specs.declared.moves.Move.{Move}
 use Rattle.tx_edit.specs.declared.moves.Move.TheVariants.{Edit, Go as MoveTo}
 use Rattle.tx_state.specs.States.{State}
-use Rattle.tx_state.specs.Edits.{edited, undone, redone}
+use Rattle.tx_state.specs.Edits.{edited, undone_state, redone_state}
 use Rattle.tx_session.specs.States.{selected_edit, key_edit, by_typing, by_backspace, by_enter}
 
 -- the command asks the view, which is made where it isn't that of the present buffers
@@ -35,6 +35,6 @@ keeps_buffers state (Change m) = is_err (edited (selected_edit state m) state)
 keeps_buffers state (Typed text) = key_fails state (by_typing state text)
 keeps_buffers state Backspace = key_fails state (by_backspace state)
 keeps_buffers state Enter = key_fails state (by_enter state)
-keeps_buffers state Undo = is_none (undone state)
-keeps_buffers state Redo = is_none (redone state)
+keeps_buffers state Undo = is_none (undone_state state)
+keeps_buffers state Redo = is_none (redone_state state)
 keeps_buffers state _ = true

@@ -12,13 +12,13 @@ limit_word Arity = codes "arity "
 limit_word Depth = codes "depth "
 limit_word Size = codes "size "
 
-abbrev pub fault_text : ReadFault → List ℕ
-fault_text (Unclosed n) = codes "unclosed " ++ decimal n
-fault_text (Stray n) = codes "stray " ++ decimal n
-fault_text (BadEscape n) = codes "bad-escape " ++ decimal n
-fault_text (BadLabel n) = codes "bad-label " ++ decimal n
-fault_text (BadText n) = codes "bad-text " ++ decimal n
-fault_text (Mismatch tag n) = codes "mismatch " ++ (decimal tag ++ (32 ∷ decimal n))
-fault_text (After n) = codes "after " ++ decimal n
-fault_text (Limit which n) = codes "limit " ++ (limit_word which ++ decimal n)
-fault_text Memory = []
+abbrev pub read_fault_text : ReadFault → List ℕ
+read_fault_text (Unclosed n) = codes "unclosed " ++ decimal n
+read_fault_text (Stray n) = codes "stray " ++ decimal n
+read_fault_text (BadEscape n) = codes "bad-escape " ++ decimal n
+read_fault_text (BadLabel n) = codes "bad-label " ++ decimal n
+read_fault_text (BadText n) = codes "bad-text " ++ decimal n
+read_fault_text (Mismatch tag n) = codes "mismatch " ++ (decimal tag ++ (32 ∷ decimal n))
+read_fault_text (After n) = codes "after " ++ decimal n
+read_fault_text (Limit which n) = codes "limit " ++ (limit_word which ++ decimal n)
+read_fault_text Memory = []

@@ -24,9 +24,9 @@ abbrev pub has_text_in : Form → WideTree → Bool
 has_text_in Scheme t = true
 has_text_in Tm t = is_block t
 
-abbrev pub text_in : Form → WideTree → List ℕ
-text_in Scheme t = scheme_text t
-text_in Tm t = tm_text t
+abbrev pub form_text : Form → WideTree → List ℕ
+form_text Scheme t = scheme_text t
+form_text Tm t = tm_text t
 
 -- What saving a tree comes to: the tree has no text in this form, or the file would have so many bytes, which are too
 -- many, or it has these bytes.
@@ -40,4 +40,4 @@ fitting bytes = if nat_le (length bytes) MOST_FILE then writes bytes else file_l
 
 -- a file is the canonical text and one byte 10
 abbrev pub saving : Form → WideTree → Saving
-saving form t = if has_text_in form t then fitting (line (text_in form t)) else no_form
+saving form t = if has_text_in form t then fitting (line (form_text form t)) else no_form

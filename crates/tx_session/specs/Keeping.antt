@@ -12,8 +12,8 @@ use Rattle.tx_session.specs.declared.kept_line.KeptLine.{KeptLine}
 use Rattle.tx_session.specs.declared.script.Turn.{Turn}
 use Rattle.tx_session.specs.declared.script.Turn.TheVariants as turns
 use Rattle.tx_session.specs.Replies.{IsLineReply}
-use Rattle.tx_session.specs.Worlds.{World, Mark}
-use Rattle.tx_session.specs.Scripts.{HasLines, Answered, command_line, is_quit}
+use Rattle.tx_session.specs.Worlds.{World, LineMark}
+use Rattle.tx_session.specs.Scripts.{HasEndedLines, Answered, command_line, is_quit}
 
 -- what is kept of a line of these bytes: enough to answer it
 pub record KeepsLine (line : KeptLine) (bytes : List ℕ) : Type 0 where
@@ -24,20 +24,20 @@ pub record KeepsLine (line : KeptLine) (bytes : List ℕ) : Type 0 where
 -- what became of a line that was kept: it was answered, or it is `quit`, or its reply is written in part
 abbrev pub IsTurned : Result Next WriteFault → World → List ℕ → World → (before after : Option (List ℕ)) → Type 0
 IsTurned (Ok nexts.Go) seen bytes next before after =
-    (mark : Mark) × (reply : List ℕ) × IsLineReply seen (command_line bytes) mark next reply
+    (mark : LineMark) × (reply : List ℕ) × IsLineReply seen (command_line bytes) mark next reply
     × (after ≡ append_known before reply)
 IsTurned (Ok nexts.Quit) seen bytes next before after = (is_quit bytes ≡ true) × (next ≡ seen) × (after ≡ before)
 IsTurned (Err fault) seen bytes next before after =
-    (mark : Mark) × (reply : List ℕ) × IsLineReply seen (command_line bytes) mark next reply
+    (mark : LineMark) × (reply : List ℕ) × IsLineReply seen (command_line bytes) mark next reply
     × AppendsPart reply before after
 
 -- the bytes have these lines, which were answered, and the replies written
-pub record Stands (start : World) (before : Option (List ℕ)) (bytes rest : List ℕ) (seen : World)
+pub record StandsAnswered (start : World) (before : Option (List ℕ)) (bytes rest : List ℕ) (seen : World)
     (after : Option (List ℕ)) : Type 0 where
   pub ended : List (List ℕ)
-  pub marks : List Mark
+  pub marks : List LineMark
   pub replies : List ℕ
-  pub lines : HasLines bytes ended rest
+  pub lines : HasEndedLines bytes ended rest
   pub answered : Answered start ended marks seen replies
   pub written : after ≡ append_known before replies
 
@@ -45,7 +45,7 @@ pub record Stands (start : World) (before : Option (List ℕ)) (bytes rest : Lis
 pub record StandsWith (start : World) (before : Option (List ℕ)) (bytes : List ℕ) (seen : World) (line : KeptLine)
     (after : Option (List ℕ)) : Type 0 where
   pub rest : List ℕ
-  pub stands : Stands start before bytes rest seen after
+  pub stands : StandsAnswered start before bytes rest seen after
   pub kept : KeepsLine line rest
 
 -- the lines that ended in the bytes were answered, and the last reply, to the line behind them, is written in part
@@ -54,20 +54,20 @@ pub record IsCutAt (start : World) (before : Option (List ℕ)) (bytes : List �
   pub rest : List ℕ
   pub seen : World
   pub between : Option (List ℕ)
-  pub mark : Mark
+  pub mark : LineMark
   pub reply : List ℕ
-  pub stands : Stands start before bytes rest seen between
+  pub stands : StandsAnswered start before bytes rest seen between
   pub replied : IsLineReply seen (command_line rest) mark next reply
   pub part : AppendsPart reply between after
 
 -- where the bytes end that were taken until now, or that were taken when the session ended
-abbrev pub LeadsTo : Turn → World → Option (List ℕ) → List ℕ → World → KeptLine → Option (List ℕ) → Type 0
-LeadsTo turns.Go start before bytes seen line after = StandsWith start before bytes seen line after
-LeadsTo turns.Quit start before bytes seen line after =
-    (upto more rest : List ℕ) × (bytes ≡ upto ++ 10 ∷ more) × Stands start before upto rest seen after
+abbrev pub TurnLeadsTo : Turn → World → Option (List ℕ) → List ℕ → World → KeptLine → Option (List ℕ) → Type 0
+TurnLeadsTo turns.Go start before bytes seen line after = StandsWith start before bytes seen line after
+TurnLeadsTo turns.Quit start before bytes seen line after =
+    (upto more rest : List ℕ) × (bytes ≡ upto ++ 10 ∷ more) × StandsAnswered start before upto rest seen after
     × (is_quit rest ≡ true)
-LeadsTo turns.NoMemory start before bytes seen line after =
+TurnLeadsTo turns.NoMemory start before bytes seen line after =
     (upto more rest : List ℕ) × (b : ℕ) × (bytes ≡ upto ++ b ∷ more) × (b ≢ 10) × (length rest ≤ MOST_LINE)
-    × Stands start before upto rest seen after
-LeadsTo turns.OutputFailed start before bytes seen line after =
+    × StandsAnswered start before upto rest seen after
+TurnLeadsTo turns.OutputFailed start before bytes seen line after =
     (upto more : List ℕ) × (bytes ≡ upto ++ 10 ∷ more) × IsCutAt start before upto seen after

@@ -9,7 +9,7 @@ use Rattle.tx_doc.specs.Buffers.{tree_of}
 use Rattle.tx_doc.specs.declared.buffer.Buffer.{Buffer}
 use Rattle.tx_units.specs.Units.{made}
 use Rattle.tx_state.specs.States.{State, KeptEdit}
-use Rattle.tx_state.specs.Edits.{edited, undone, redone}
+use Rattle.tx_state.specs.Edits.{edited, undone_state, redone_state}
 use Rattle.tx_edit.specs.declared.faults.EditFault.{EditFault}
 use Rattle.tx_edit.specs.declared.moves.Move.{Move}
 use Rattle.tx_edit.specs.declared.moves.Move.TheVariants.{Edit, Go as MoveTo}
@@ -18,7 +18,7 @@ use Rattle.tx_cmd.specs.declared.command.Command.TheVariants.{Change, Undo, Redo
 use Rattle.tx_view.specs.Names.{Fresh, Bound, Carry}
 use Rattle.tx_session.specs.Effects.{asks_view, keeps_buffers}
 use Rattle.tx_session.specs.States.{selected_edit, key_edit, by_typing, by_backspace, by_enter}
-use Rattle.tx_session.specs.Worlds.{Keep, Whole, Mark, plain, lacking, unsaved, told}
+use Rattle.tx_session.specs.Worlds.{Keep, WholeSession, LineMark, plain, lacking, unsaved, told}
 
 -- ---- what is kept
 
@@ -28,8 +28,8 @@ refreshed buffers k =
     if k.fresh then k else record { fresh = true; stores = Fresh buffers; work = Bound k.stores }
 
 -- behind modifications of a buffer, which make the new buffers of the old ones
-abbrev pub carried : List Buffer → List Buffer → Keep → ℕ × List Mod → Keep
-carried old new k edit =
+abbrev pub carried_keep : List Buffer → List Buffer → Keep → ℕ × List Mod → Keep
+carried_keep old new k edit =
     record { fresh = false; stores = Carry edit.0 edit.1 old k.stores new; work = k.work }
 
 abbrev pub key_mods : Result Move EditFault → Option (ℕ × List Mod)
@@ -48,21 +48,21 @@ redone_mods [] = None
 redone_mods (kept ∷ others) = Some (kept.buffer, kept.mods)
 
 -- the buffer that a command changes, and by which modifications
-abbrev pub mods_of : State → Command → Option (ℕ × List Mod)
-mods_of state (Change m) = Some (state.selected, m ∷ [])
-mods_of state (Typed text) = key_mods (by_typing state text)
-mods_of state Backspace = key_mods (by_backspace state)
-mods_of state Enter = key_mods (by_enter state)
-mods_of state Undo = undone_mods state.past
-mods_of state Redo = redone_mods state.future
-mods_of state command = None
+abbrev pub command_mods : State → Command → Option (ℕ × List Mod)
+command_mods state (Change m) = Some (state.selected, m ∷ [])
+command_mods state (Typed text) = key_mods (by_typing state text)
+command_mods state Backspace = key_mods (by_backspace state)
+command_mods state Enter = key_mods (by_enter state)
+command_mods state Undo = undone_mods state.past
+command_mods state Redo = redone_mods state.future
+command_mods state command = None
 
 -- what is kept behind a command that is done and leads to the next state
 abbrev pub kept_after : State → Command → State → Keep → Keep
 kept_after state command next k =
     if asks_view command then refreshed state.buffers k
     else if keeps_buffers state command then k
-    else option_map_or (carried state.buffers next.buffers k) (mods_of state command) k
+    else option_map_or (carried_keep state.buffers next.buffers k) (command_mods state command) k
 
 -- Where memory runs out, all that is kept stays, but that a command which asks a view that isn't fresh may have
 -- refreshed it, or begun to.
@@ -72,7 +72,7 @@ IsKeptLacking true buffers k next =
 IsKeptLacking false buffers k next = next ≡ k
 
 -- what is kept behind a command with this mark; the number that is told is that of the last refresh
-abbrev pub Keeps : Whole → Command → Mark → Whole → Type 0
+abbrev pub Keeps : WholeSession → Command → LineMark → WholeSession → Type 0
 Keeps before command plain after =
     after.keep ≡ kept_after before.seen.state command after.seen.state before.keep
 Keeps before command (told n) after =
@@ -106,8 +106,8 @@ most_steps state (Change m) = edit_cost (m ∷ []) (edited (selected_edit state 
 most_steps state (Typed text) = key_cost state (by_typing state text)
 most_steps state Backspace = key_cost state (by_backspace state)
 most_steps state Enter = key_cost state (by_enter state)
-most_steps state Undo = step_cost state.past (undone_mods state.past) (undone state)
-most_steps state Redo = step_cost state.future (redone_mods state.future) (redone state)
+most_steps state Undo = step_cost state.past (undone_mods state.past) (undone_state state)
+most_steps state Redo = step_cost state.future (redone_mods state.future) (redone_state state)
 most_steps state _ = 0
 
 -- the steps of a refresh; a fresh view takes none
@@ -115,16 +115,16 @@ abbrev pub refresh_cost : Keep → ℕ
 refresh_cost k = if k.fresh then 0 else Bound k.stores
 
 -- what a command takes, by whether it asks the view
-abbrev pub TakesAsking : (asks : Bool) → Whole → Command → ℕ → ℕ → Type 0
+abbrev pub TakesAsking : (asks : Bool) → WholeSession → Command → ℕ → ℕ → Type 0
 TakesAsking true before command old new = new ≡ old + refresh_cost before.keep
 TakesAsking false before command old new = new ≤ old + most_steps before.seen.state command
 
 -- where memory ran out; nothing is said of a refresh that wanted it
-abbrev pub TakesLacking : (asks : Bool) → Whole → Command → ℕ → ℕ → Type 0
+abbrev pub TakesLacking : (asks : Bool) → WholeSession → Command → ℕ → ℕ → Type 0
 TakesLacking true before command old new = before.keep.fresh ≡ true → new ≡ old
 TakesLacking false before command old new = new ≤ old + most_steps before.seen.state command
 
 -- what a command with this mark takes
-abbrev pub Takes : Whole → Command → Mark → ℕ → ℕ → Type 0
+abbrev pub Takes : WholeSession → Command → LineMark → ℕ → ℕ → Type 0
 Takes before command lacking old new = TakesLacking (asks_view command) before command old new
 Takes before command mark old new = TakesAsking (asks_view command) before command old new

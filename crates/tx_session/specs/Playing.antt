@@ -5,18 +5,19 @@ use Rattle.tx_outside.specs.Known.{AppendsPart}
 use Rattle.tx_session.specs.declared.status.Status.{Status}
 use Rattle.tx_session.specs.declared.status.Status.TheVariants.{InputFault, OutputFault}
 use Rattle.tx_open.specs.declared.opening.Opened.{Opened}
-use Rattle.tx_open.specs.Outcomes.{Outcome}
-use Rattle.tx_session.specs.Outcomes.{status_of, text_of}
-use Rattle.tx_session.specs.Worlds.{World, Mark}
-use Rattle.tx_session.specs.Runs.{Tells, IsOwnLineAlone, IsPlayed, IsPlayedAlone, IsReplyAlone, IsReplyBehind, own_line}
+use Rattle.tx_open.specs.Outcomes.{OpenOutcome}
+use Rattle.tx_session.specs.Outcomes.{status_of, outcome_text}
+use Rattle.tx_session.specs.Worlds.{World, LineMark}
+use Rattle.tx_session.specs.Runs.{TellsScript, IsOwnLineAlone, IsPlayed, IsPlayedAlone, IsReplyAlone, IsReplyBehind}
+use Rattle.tx_session.specs.Runs.{own_line}
 
 -- the replies are written, and the status's own line isn't yet
 pub record HasPlayed (start last : World) (told rest : Option (List ℕ)) (status : Status)
     (before after : Option (List ℕ)) : Type 0 where
   pub script : List ℕ
-  pub marks : List Mark
+  pub marks : List LineMark
   pub replies : List ℕ
-  pub tells : Tells told script
+  pub tells : TellsScript told script
   pub played : IsPlayed start script marks rest status last replies
   pub written : after ≡ append_known before replies
 
@@ -25,7 +26,7 @@ pub record IsCutOff (start last : World) (told : Option (List ℕ)) (before afte
   pub script : List ℕ
   pub done : List ℕ
   pub reply : List ℕ
-  pub tells : Tells told script
+  pub tells : TellsScript told script
   pub behind : IsReplyBehind start script last done reply
   pub part : AppendsPart reply (append_known before done) after
 
@@ -37,9 +38,9 @@ IsEnd status start last told rest before after = HasPlayed start last told rest 
 pub record IsClosed (start last : World) (told rest : Option (List ℕ)) (status : Status)
     (before after : Option (List ℕ)) : Type 0 where
   pub script : List ℕ
-  pub marks : List Mark
+  pub marks : List LineMark
   pub replies : List ℕ
-  pub tells : Tells told script
+  pub tells : TellsScript told script
   pub played : IsPlayed start script marks rest status last replies
   pub written : after ≡ append_known before (replies ++ own_line status)
 
@@ -58,13 +59,13 @@ IsServed failed status start last told rest before after = IsClosed start last t
 
 -- how the session of a generated document was served: all is written, or the output failed
 pub record IsServedAlone (all : Opened) (old new : ℕ) (status : Status) (before after : Option (List ℕ)) : Type 0 where
-  pub done : status ≢ OutputFault → (marks : List Mark) × (replies : List ℕ)
+  pub done : status ≢ OutputFault → (marks : List LineMark) × (replies : List ℕ)
       × IsPlayedAlone all old new marks status replies × (after ≡ append_known before (replies ++ own_line status))
   pub cut : status ≡ OutputFault → (done part : List ℕ)
       × (IsReplyAlone all old new done part ⊎ IsOwnLineAlone all old new done part)
       × AppendsPart part (append_known before done) after
 
 -- the line of an outcome that opened nothing, which is written, or in part
-pub record IsLine (o : Outcome) (status : Status) (before after : Option (List ℕ)) : Type 0 where
-  pub done : status ≢ OutputFault → (status ≡ status_of o) × (after ≡ append_known before (text_of o))
-  pub cut : status ≡ OutputFault → AppendsPart (text_of o) before after
+pub record IsUnopenedLine (o : OpenOutcome) (status : Status) (before after : Option (List ℕ)) : Type 0 where
+  pub done : status ≢ OutputFault → (status ≡ status_of o) × (after ≡ append_known before (outcome_text o))
+  pub cut : status ≡ OutputFault → AppendsPart (outcome_text o) before after

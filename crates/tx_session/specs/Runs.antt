@@ -11,8 +11,9 @@ use Rattle.tx_doc.specs.declared.buffer.Buffer.{Buffer}
 use Rattle.tx_words.specs.declared.asked.Source.TheVariants.{Files as AllFiles, Generated}
 use Rattle.tx_words.specs.Words.{Ask, Named}
 use Rattle.tx_open.specs.declared.opening.Opened.{Opened}
-use Rattle.tx_open.specs.Outcomes.{Outcome, opened, generated, AreRead, ComesTo, Holds, IsCaused, nodes_in}
-use Rattle.tx_state.specs.States.{opening}
+use Rattle.tx_open.specs.Outcomes.{OpenOutcome, opened, generated, AreRead, ComesTo, FileHolds, IsCaused}
+use Rattle.tx_open.specs.Outcomes.{nodes_in_buffers}
+use Rattle.tx_state.specs.States.{opening_state}
 use Rattle.tx_units.specs.Units.{made}
 use Rattle.tx_view.specs.Names.{Empty}
 use Rattle.tx_cmd.specs.declared.TheConstants.{MOST_LINE}
@@ -22,36 +23,37 @@ use Rattle.tx_session.specs.declared.status.Status.TheVariants.{Ok, StoreFault, 
 use Rattle.tx_session.specs.declared.status.Status.TheVariants.{OutputFault, NoMemory, ScriptLong}
 use Rattle.tx_print.specs.Lines.{line}
 use Rattle.tx_session.specs.Forms.{SpellsNoTree}
-use Rattle.tx_session.specs.Outcomes.{status_of, text_of}
+use Rattle.tx_session.specs.Outcomes.{status_of, outcome_text}
 use Rattle.tx_session.specs.Replies.{IsLineReply}
-use Rattle.tx_session.specs.Worlds.{Seen, Whole, World, Mark, KeepsFiles}
-use Rattle.tx_session.specs.Scripts.{HasLines, AreLinesOf, Answered, before_quit, command_line, is_quit}
+use Rattle.tx_session.specs.Worlds.{SeenSession, WholeSession, World, LineMark, KeepsFiles}
+use Rattle.tx_session.specs.Scripts.{HasEndedLines, AreLinesOf, Answered, before_quit, command_line, is_quit}
 
 -- the session of what was opened, on pages of the size that was asked for; nothing is shown yet
-abbrev pub start_of : Opened → Seen
-start_of all =
+abbrev pub seen_start : Opened → SeenSession
+seen_start all =
     record {
-      state = opening all.buffers;
+      state = opening_state all.buffers;
       width = all.width;
       height = all.height;
       fresh = false;
     }
 
 -- the same with what it keeps of a view, which is nothing yet
-abbrev pub whole_start : Opened → Whole
-whole_start all = record { seen = start_of all; keep = record { fresh = false; stores = Empty all.buffers; work = 0 } }
+abbrev pub whole_start : Opened → WholeSession
+whole_start all =
+    record { seen = seen_start all; keep = record { fresh = false; stores = Empty all.buffers; work = 0 } }
 
 -- the most steps of opening this and starting its session: the nodes, and those that are made for units
 abbrev pub opening_cost : Opened → ℕ
-opening_cost all = nodes_in all.buffers + made all.buffers
+opening_cost all = nodes_in_buffers all.buffers + made all.buffers
 
 -- where a session of what was opened begins, when the count of steps is this
 abbrev pub start_with : Opened → StoreSeen → ℕ → World
 start_with all store steps = record { session = whole_start all; store = store; steps = steps }
 
 -- the script is this one, as far as the input tells it
-abbrev pub Tells : Option (List ℕ) → List ℕ → Type 0
-Tells told script = IfSome told (λ bytes. bytes ≡ script)
+abbrev pub TellsScript : Option (List ℕ) → List ℕ → Type 0
+TellsScript told script = IfSome told (λ bytes. bytes ≡ script)
 
 -- a script is read to its end, or to a line `quit` that ends within the limit
 abbrev pub CanBeRead : List ℕ → Type 0
@@ -67,15 +69,15 @@ pub record EndedByQuit (script rest : List ℕ) : Type 0 where
   pub quitting : List ℕ
   pub ended : List (List ℕ)
   pub parts : script ≡ upto ++ 10 ∷ (between ++ rest)
-  pub lines : HasLines upto ended quitting
+  pub lines : HasEndedLines upto ended quitting
   pub quits : is_quit quitting ≡ true
 
 -- ---- how a session ends, over a script of which the input still tells a rest afterwards
 -- The text is the replies, from the first line's on, none left out.
 
 -- the script was read to its end, or to a line `quit`
-pub record IsPlayedThrough (start : World) (script : List ℕ) (marks : List Mark) (rest : Option (List ℕ)) (last : World)
-    (text : List ℕ) : Type 0 where
+pub record IsPlayedThrough (start : World) (script : List ℕ) (marks : List LineMark) (rest : Option (List ℕ))
+    (last : World) (text : List ℕ) : Type 0 where
   pub lines : List (List ℕ)
   pub are : AreLinesOf script lines
   pub readable : CanBeRead script
@@ -83,8 +85,8 @@ pub record IsPlayedThrough (start : World) (script : List ℕ) (marks : List Mar
   pub left : IfSome rest (λ bytes. (bytes ≡ []) ⊎ EndedByQuit script bytes)
 
 -- the script is too long, and the lines that end within the limit were answered
-pub record IsPlayedToLimit (start : World) (script : List ℕ) (marks : List Mark) (rest : Option (List ℕ)) (last : World)
-    (text : List ℕ) : Type 0 where
+pub record IsPlayedToLimit (start : World) (script : List ℕ) (marks : List LineMark) (rest : Option (List ℕ))
+    (last : World) (text : List ℕ) : Type 0 where
   pub lines : List (List ℕ)
   pub are : AreLinesOf script lines
   pub long : MOST_SCRIPT < length script
@@ -92,20 +94,20 @@ pub record IsPlayedToLimit (start : World) (script : List ℕ) (marks : List Mar
   pub left : IfSome rest (λ bytes. (n : ℕ) × (MOST_SCRIPT < n) × (n ≤ length script) × (bytes ≡ drop n script))
 
 -- the input failed, and the lines that had ended in the bytes that were taken were answered
-pub record IsPlayedToFault (start : World) (script : List ℕ) (marks : List Mark) (rest : Option (List ℕ)) (last : World)
-    (text : List ℕ) : Type 0 where
+pub record IsPlayedToFault (start : World) (script : List ℕ) (marks : List LineMark) (rest : Option (List ℕ))
+    (last : World) (text : List ℕ) : Type 0 where
   pub taken : ℕ
   pub ended : List (List ℕ)
   pub unended : List ℕ
   pub there : taken ≤ length script
   pub within : taken ≤ MOST_SCRIPT
   pub left : IfSome rest (λ bytes. bytes ≡ drop taken script)
-  pub lines : HasLines (take taken script) ended unended
+  pub lines : HasEndedLines (take taken script) ended unended
   pub answered : Answered start ended marks last text
 
 -- memory didn't suffice to keep a byte of a line, and the lines before that line were answered
-pub record IsPlayedToWant (start : World) (script : List ℕ) (marks : List Mark) (rest : Option (List ℕ)) (last : World)
-    (text : List ℕ) : Type 0 where
+pub record IsPlayedToWant (start : World) (script : List ℕ) (marks : List LineMark) (rest : Option (List ℕ))
+    (last : World) (text : List ℕ) : Type 0 where
   pub upto : List ℕ
   pub more : List ℕ
   pub byte : ℕ
@@ -115,11 +117,11 @@ pub record IsPlayedToWant (start : World) (script : List ℕ) (marks : List Mark
   pub inside : byte ≢ 10
   pub short : length unended ≤ MOST_LINE
   pub within : length upto < MOST_SCRIPT
-  pub lines : HasLines upto ended unended
+  pub lines : HasEndedLines upto ended unended
   pub answered : Answered start ended marks last text
   pub left : IfSome rest (λ bytes. (between : List ℕ) × (more ≡ between ++ bytes))
 
-abbrev pub IsPlayed : World → (script : List ℕ) → (marks : List Mark) → (rest : Option (List ℕ)) → Status
+abbrev pub IsPlayed : World → (script : List ℕ) → (marks : List LineMark) → (rest : Option (List ℕ)) → Status
     → (last : World) → (text : List ℕ) → Type 0
 IsPlayed start script marks rest Ok last text = IsPlayedThrough start script marks rest last text
 IsPlayed start script marks rest ScriptLong last text = IsPlayedToLimit start script marks rest last text
@@ -151,7 +153,7 @@ no_files = record { files = Some []; faults = 0; misses = 0; longs = 0 }
 
 -- The session of a generated document answers its script, over a store without files, which stays so, and without an
 -- input that could fail. It ends with a status, and has written this text.
-pub record IsPlayedAlone (all : Opened) (old new : ℕ) (marks : List Mark) (status : Status) (text : List ℕ) : Type 0
+pub record IsPlayedAlone (all : Opened) (old new : ℕ) (marks : List LineMark) (status : Status) (text : List ℕ) : Type 0
   where
     pub steps : ℕ
     pub last : World
@@ -171,13 +173,13 @@ pub record Outside : Type 0 where
   pub output : SinkSeen
   pub steps : ℕ
 
-abbrev pub outside : StoreSeen → SourceSeen → SinkSeen → ℕ → Outside
-outside store input output steps = record { store = store; input = input; output = output; steps = steps }
+abbrev pub seen_outside : StoreSeen → SourceSeen → SinkSeen → ℕ → Outside
+seen_outside store input output steps = record { store = store; input = input; output = output; steps = steps }
 
 -- Files were opened, and their session, which begins with the steps of opening, has ended and written this text. The
 -- store and the count of steps are then as its commands left them.
-pub record IsWholeOpened (all : Opened) (before after : Outside) (marks : List Mark) (status : Status) (text : List ℕ)
-    : Type 0 where
+pub record IsWholeOpened (all : Opened) (before after : Outside) (marks : List LineMark) (status : Status)
+    (text : List ℕ) : Type 0 where
   pub script : List ℕ
   pub replies : List ℕ
   pub first : StoreSeen
@@ -185,14 +187,14 @@ pub record IsWholeOpened (all : Opened) (before after : Outside) (marks : List M
   pub last : World
   pub loaded : KeepsFiles before.store first
   pub begun : steps ≤ before.steps + opening_cost all
-  pub tells : Tells before.input.left script
+  pub tells : TellsScript before.input.left script
   pub played : IsPlayed (start_with all first steps) script marks after.input.left status last replies
   pub stored : last.store ≡ after.store
   pub counted : last.steps ≡ after.steps
   pub written : text ≡ replies ++ own_line status
 
 -- a document was generated; its session leaves the store and what the input tells as they were
-pub record IsWholeGenerated (all : Opened) (before after : Outside) (marks : List Mark) (status : Status)
+pub record IsWholeGenerated (all : Opened) (before after : Outside) (marks : List LineMark) (status : Status)
     (text : List ℕ) : Type 0 where
   pub replies : List ℕ
   pub played : IsPlayedAlone all before.steps after.steps marks status replies
@@ -201,15 +203,15 @@ pub record IsWholeGenerated (all : Opened) (before after : Outside) (marks : Lis
   pub stored : after.store ≡ before.store
 
 -- nothing was opened, and nothing is taken of the input
-pub record IsWholeUnopened (unopened : Outcome) (before after : Outside) (marks : List Mark) (status : Status)
+pub record IsWholeUnopened (unopened : OpenOutcome) (before after : Outside) (marks : List LineMark) (status : Status)
     (text : List ℕ) : Type 0 where
   pub unmarked : marks ≡ []
   pub ended : status ≡ status_of unopened
-  pub written : text ≡ text_of unopened
+  pub written : text ≡ outcome_text unopened
   pub left : after.input.left ≡ before.input.left
   pub kept : KeepsFiles before.store after.store
 
-abbrev pub IsWhole : Outcome → (before after : Outside) → List Mark → Status → List ℕ → Type 0
+abbrev pub IsWhole : OpenOutcome → (before after : Outside) → List LineMark → Status → List ℕ → Type 0
 IsWhole (opened all) before after marks status text = IsWholeOpened all before after marks status text
 IsWhole (generated all) before after marks status text = IsWholeGenerated all before after marks status text
 IsWhole unopened before after marks status text = IsWholeUnopened unopened before after marks status text
@@ -222,9 +224,9 @@ pub record IsReplyBehind (start : World) (script : List ℕ) (next : World) (don
   pub before : List (List ℕ)
   pub behind : List (List ℕ)
   pub one : List ℕ
-  pub marks : List Mark
+  pub marks : List LineMark
   pub seen : World
-  pub mark : Mark
+  pub mark : LineMark
   pub are : AreLinesOf script lines
   pub parts : lines ≡ before ++ one ∷ behind
   pub answered : Answered start before marks seen done
@@ -234,7 +236,7 @@ pub record IsReplyBehind (start : World) (script : List ℕ) (next : World) (don
 pub record IsOwnLine (input_failed : Type 0) (start : World) (script : List ℕ) (rest : Option (List ℕ)) (last : World)
     (done part : List ℕ) : Type 0 where
   pub status : Status
-  pub marks : List Mark
+  pub marks : List LineMark
   pub played : IsPlayed start script marks rest status last done
   pub own : part ≡ own_line status
   pub caused : status ≡ InputFault → input_failed
@@ -250,7 +252,7 @@ pub record IsReplyAlone (all : Opened) (old new : ℕ) (done reply : List ℕ) :
 
 pub record IsOwnLineAlone (all : Opened) (old new : ℕ) (done part : List ℕ) : Type 0 where
   pub status : Status
-  pub marks : List Mark
+  pub marks : List LineMark
   pub played : IsPlayedAlone all old new marks status done
   pub own : part ≡ own_line status
 
@@ -262,7 +264,7 @@ pub record IsCutOpened (all : Opened) (before after : Outside) (done part : List
   pub last : World
   pub loaded : KeepsFiles before.store first
   pub begun : steps ≤ before.steps + opening_cost all
-  pub tells : Tells before.input.left script
+  pub tells : TellsScript before.input.left script
   pub stored : last.store ≡ after.store
   pub counted : last.steps ≡ after.steps
   pub being : IsReplyBehind (start_with all first steps) script last done part
@@ -277,24 +279,24 @@ pub record IsCutGenerated (all : Opened) (before after : Outside) (done part : L
   pub stored : after.store ≡ before.store
 
 -- nothing was opened, and the line that says why is being written
-pub record IsCutUnopened (unopened : Outcome) (before after : Outside) (done part : List ℕ) : Type 0 where
+pub record IsCutUnopened (unopened : OpenOutcome) (before after : Outside) (done part : List ℕ) : Type 0 where
   pub none : done ≡ []
-  pub being : part ≡ text_of unopened
+  pub being : part ≡ outcome_text unopened
   pub left : after.input.left ≡ before.input.left
   pub kept : KeepsFiles before.store after.store
   pub caused : IsCaused before.store after.store unopened
 
 -- what is being written: some of it is, and this part not yet whole
-abbrev pub IsBeingWritten : Outcome → (before after : Outside) → (done part : List ℕ) → Type 0
+abbrev pub IsBeingWritten : OpenOutcome → (before after : Outside) → (done part : List ℕ) → Type 0
 IsBeingWritten (opened all) before after done part = IsCutOpened all before after done part
 IsBeingWritten (generated all) before after done part = IsCutGenerated all before after done part
 IsBeingWritten unopened before after done part = IsCutUnopened unopened before after done part
 
 -- The words and the files come to an outcome, and a run of it ends with the status. After a fault of the output only a
 -- part of what was being written is written, from its start on.
-pub record IsWritten (words : List (List ℕ)) (status : Status) (before after : Outside) : Type 0 where
-  pub outcome : Outcome
-  pub marks : List Mark
+pub record IsRunWritten (words : List (List ℕ)) (status : Status) (before after : Outside) : Type 0 where
+  pub outcome : OpenOutcome
+  pub marks : List LineMark
   pub text : List ℕ
   pub comes : ComesTo words before.store.files outcome
   pub caused : IsCaused before.store after.store outcome
@@ -302,7 +304,7 @@ pub record IsWritten (words : List (List ℕ)) (status : Status) (before after :
   pub written : after.output.written ≡ append_known before.output.written text
 
 pub record IsCutShort (words : List (List ℕ)) (before after : Outside) : Type 0 where
-  pub outcome : Outcome
+  pub outcome : OpenOutcome
   pub done : List ℕ
   pub part : List ℕ
   pub comes : ComesTo words before.store.files outcome
@@ -311,7 +313,7 @@ pub record IsCutShort (words : List (List ℕ)) (before after : Outside) : Type 
 
 abbrev pub IsRun : List (List ℕ) → Status → (before after : Outside) → Type 0
 IsRun words OutputFault before after = IsCutShort words before after
-IsRun words status before after = IsWritten words status before after
+IsRun words status before after = IsRunWritten words status before after
 
 -- a status that words, files, script and marks determine: no device failed, and memory sufficed
 abbrev pub IsFinal : Status → Type 0
@@ -327,7 +329,7 @@ AskToGenerate words = (width height number count : ℕ) × Ask words width heigh
 
 -- A file that the words ask for, where those before it are read, is refused: it was too long, or its bytes spell no
 -- tree within the limits.
-pub record IsRefused (words : List (List ℕ)) (old new : StoreSeen) : Type 0 where
+pub record IsFileRefused (words : List (List ℕ)) (old new : StoreSeen) : Type 0 where
   pub width : ℕ
   pub height : ℕ
   pub before : List Named
@@ -337,4 +339,4 @@ pub record IsRefused (words : List (List ℕ)) (old new : StoreSeen) : Type 0 wh
   pub asked : Ask words width height (AllFiles (before ++ file ∷ behind))
   pub read : AreRead old.files before buffers
   pub refused : Rose old.longs new.longs
-      ⊎ ((bytes : List ℕ) × Holds old.files file.word bytes × SpellsNoTree (form_of file.word) bytes)
+      ⊎ ((bytes : List ℕ) × FileHolds old.files file.word bytes × SpellsNoTree (form_of file.word) bytes)

@@ -6,13 +6,13 @@ use Rattle.std.specs.Str.{bytes_eq}
 use Rattle.tx_session.specs.declared.TheConstants.{MOST_SCRIPT}
 use Rattle.tx_print.specs.Lines.{line}
 use Rattle.tx_session.specs.Replies.{IsLineReply}
-use Rattle.tx_session.specs.Worlds.{World, Mark}
+use Rattle.tx_session.specs.Worlds.{World, LineMark}
 
 abbrev pub IsOneLine : List ℕ → Type 0
 IsOneLine text = All (λ b. b ≢ 10) text
 
 -- the lines that have ended in these bytes, each at a byte 10, and what stands behind the last of them
-pub record HasLines (bytes : List ℕ) (ended : List (List ℕ)) (rest : List ℕ) : Type 0 where
+pub record HasEndedLines (bytes : List ℕ) (ended : List (List ℕ)) (rest : List ℕ) : Type 0 where
   pub whole : bytes ≡ flat_map line ended ++ rest
   pub each : All IsOneLine ended
   pub last : IsOneLine rest
@@ -32,12 +32,12 @@ before_quit lines = before_first is_quit lines
 abbrev pub AreLinesOf : List ℕ → List (List ℕ) → Type 0
 AreLinesOf script lines =
     ((length script ≤ MOST_SCRIPT)
-    × ((ended : List (List ℕ)) × (rest : List ℕ) × HasLines script ended rest × (lines ≡ ended ++ rest ∷ [])))
-    ⊎ ((MOST_SCRIPT < length script) × ((rest : List ℕ) × HasLines (take MOST_SCRIPT script) lines rest))
+    × ((ended : List (List ℕ)) × (rest : List ℕ) × HasEndedLines script ended rest × (lines ≡ ended ++ rest ∷ [])))
+    ⊎ ((MOST_SCRIPT < length script) × ((rest : List ℕ) × HasEndedLines (take MOST_SCRIPT script) lines rest))
 
 -- The lines are answered one after the other, from what a session, what it keeps, its store and the steps are to what
 -- they are then, and none is `quit`. Each has a mark. The text is all the replies.
-abbrev pub Answered : World → List (List ℕ) → (marks : List Mark) → World → (text : List ℕ) → Type 0
+abbrev pub Answered : World → List (List ℕ) → (marks : List LineMark) → World → (text : List ℕ) → Type 0
 Answered before [] [] last text = (last ≡ before) × (text ≡ [])
 Answered before (one ∷ lines) (mark ∷ marks) last text =
     (next : World) × (reply rest : List ℕ) × IsLineReply before (command_line one) mark next reply

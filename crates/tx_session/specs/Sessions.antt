@@ -10,9 +10,9 @@ use Rattle.tx_view.specs.Names.{Carry}
 use Rattle.tx_view.specs.Stores.{Stores, coded_Stores}
 use Rattle.tx_view.specs.WholeViews.{WholeView}
 use Rattle.tx_session.specs.declared.session.Session.TheInside.{Inside}
-use Rattle.tx_session.specs.Worlds.{Seen, Keep, Whole}
+use Rattle.tx_session.specs.Worlds.{SeenSession, Keep, WholeSession}
 
-abbrev seen_code : Coded Seen
+abbrev seen_code : Coded SeenSession
 seen_code =
     code_by (State × (ℕ × (ℕ × Bool))) (coded× one_state.the_row.coded (coded× coded_ℕ (coded× coded_ℕ coded_bool)))
     (λ s. (s.state, (s.width, (s.height, s.fresh))))
@@ -23,12 +23,12 @@ keep_code =
     code_by (Bool × (Stores × ℕ)) (coded× coded_bool (coded× coded_Stores coded_ℕ))
     (λ k. (k.fresh, (k.stores, k.work))) (λ p. record { fresh = p.0; stores = p.1.0; work = p.1.1 }) (λ _. refl)
 
-abbrev pub whole_code : Coded Whole
-whole_code =
-    code_by (Seen × Keep) (coded× seen_code keep_code) (λ w. (w.seen, w.keep))
+abbrev pub whole_session_code : Coded WholeSession
+whole_session_code =
+    code_by (SeenSession × Keep) (coded× seen_code keep_code) (λ w. (w.seen, w.keep))
     (λ p. record { seen = p.0; keep = p.1 }) (λ _. refl)
 
-abbrev pub seen_of : Inside → Seen
+abbrev pub seen_of : Inside → SeenSession
 seen_of s = record { state = s.state; width = s.view.width; height = s.view.height; fresh = s.asked }
 
 -- a view that was told of a change that stands ready
@@ -46,8 +46,8 @@ view_with v p =
 abbrev pub keep_of : WholeView → Keep
 keep_of v = record { fresh = v.fresh; stores = v.stores; work = v.work }
 
-abbrev pub whole_of : Inside → Whole
-whole_of s = record { seen = seen_of s; keep = keep_of s.view }
+abbrev pub whole_session : Inside → WholeSession
+whole_session s = record { seen = seen_of s; keep = keep_of s.view }
 
 -- the view is one of the present buffers, and it was made where it was asked
 pub record IsSession (s : Inside) : Type 0 where

@@ -11,7 +11,7 @@ use Rattle.tx_scm.specs.Canonical.{scheme_text}
 use Rattle.tx_doc.specs.Forms.{form_of}
 use Rattle.tx_doc.specs.Buffers.{document_of, tree_of, number_of}
 use Rattle.tx_state.specs.States.{State}
-use Rattle.tx_state.specs.Edits.{edited, undone, redone, Goes, IsAstray}
+use Rattle.tx_state.specs.Edits.{edited, undone_state, redone_state, CursorGoes, IsAstray}
 use Rattle.tx_state.specs.declared.edits.Edit.{Edit}
 use Rattle.tx_edit.specs.declared.faults.EditFault.{EditFault}
 use Rattle.tx_edit.specs.declared.faults.EditFault.TheVariants.{Memory}
@@ -32,7 +32,7 @@ use Rattle.tx_cmd.specs.declared.command.Command.TheVariants.{Change, Undo, Redo
 use Rattle.tx_cmd.specs.declared.command.Command.TheVariants.{Backspace, Enter, Show, Page, Errors, PlaceOf, Cursor}
 use Rattle.tx_cmd.specs.declared.command.Command.TheVariants.{Attrs, Tree, Save, Work, Quit}
 use Rattle.tx_print.specs.Lines.{line}
-use Rattle.tx_session.specs.Causes.{numbered, cause_reply, astray_reply, key_reply}
+use Rattle.tx_session.specs.Causes.{numbered_line, cause_reply, astray_reply, key_reply}
 use Rattle.tx_session.specs.Forms.{Saving, no_form, file_long, writes, saving}
 
 -- the reply to what is no command
@@ -89,22 +89,22 @@ IsChoice state None next reply = (next ≡ state) × (reply ≡ line (codes "no 
 -- the cursor went to a place, or there was no such place
 abbrev pub IsGoAnswer : State → List ℕ → State → List ℕ → Type 0
 IsGoAnswer state numbers next reply =
-    (Goes state numbers next × (reply ≡ done_reply))
+    (CursorGoes state numbers next × (reply ≡ done_reply))
     ⊎ ((fault : PlaceFault) × IsAstray state numbers fault × (next ≡ state) × (reply ≡ astray_reply fault))
 
-abbrev pub place_of : BasedPlace → Place
-place_of p = record { path = whole_path p; offset = p.offset }
+abbrev pub whole_place : BasedPlace → Place
+whole_place p = record { path = whole_path p; offset = p.offset }
 
 -- the cursor went to the place behind a cell, or there is no such cell
 abbrev pub IsClickAnswer : State → (none : List ℕ) → Option BasedPlace → State → List ℕ → Type 0
-IsClickAnswer state none (Some p) next reply = (next ≡ record state { cursor = place_of p }) × (reply ≡ done_reply)
+IsClickAnswer state none (Some p) next reply = (next ≡ record state { cursor = whole_place p }) × (reply ≡ done_reply)
 IsClickAnswer state none None next reply = (next ≡ state) × (reply ≡ none)
 
 -- the tree was saved, or why it wasn't
 abbrev pub save_reply : Saving → List ℕ
 save_reply no_form = line (codes "no form")
-save_reply (file_long n) = numbered (codes "no file-long ") n
-save_reply (writes bytes) = numbered (codes "saved ") (length bytes)
+save_reply (file_long n) = numbered_line (codes "no file-long ") n
+save_reply (writes bytes) = numbered_line (codes "saved ") (length bytes)
 
 -- the name and the bytes of the file that is saved, if one is
 abbrev pub file_saved : List ℕ → Saving → Option (List ℕ × List ℕ)
@@ -116,13 +116,13 @@ saved_by state (Save name) = file_saved name (saving (form_of name) (selected_tr
 saved_by state _ = None
 
 -- what is printed of a view that is this wide
-abbrev pub printed : ℕ → WideView → Command → List ℕ
-printed width v Show = show_text v
-printed width v (Page n) = page_reply v n
-printed width v Errors = errors_text v
-printed width v (PlaceOf r c) = place_reply v width r c
-printed width v (Attrs r) = attrs_reply v width r
-printed width v _ = []
+abbrev pub view_reply : ℕ → WideView → Command → List ℕ
+view_reply width v Show = show_text v
+view_reply width v (Page n) = page_reply v n
+view_reply width v Errors = errors_text v
+view_reply width v (PlaceOf r c) = place_reply v width r c
+view_reply width v (Attrs r) = attrs_reply v width r
+view_reply width v _ = []
 
 -- the next state and the reply to a command that asks the view, where this is the view
 abbrev pub IsAskedAnswer : ℕ → WideView → State → Command → State → List ℕ → Type 0
@@ -130,7 +130,7 @@ IsAskedAnswer width v state (Click r c) next reply =
     IsClickAnswer state (no_cell v width) (position_in v.units width r c) next reply
 IsAskedAnswer width v state Left next reply = IsKeyAnswer state (to_left (stops_of v.units) state.cursor) next reply
 IsAskedAnswer width v state Right next reply = IsKeyAnswer state (to_right (stops_of v.units) state.cursor) next reply
-IsAskedAnswer width v state command next reply = (next ≡ state) × (reply ≡ printed width v command)
+IsAskedAnswer width v state command next reply = (next ≡ state) × (reply ≡ view_reply width v command)
 
 -- by the view of the buffers, which nothing but they and the size of a page decides
 abbrev pub IsViewAnswer : ℕ → ℕ → State → Command → State → List ℕ → Type 0
@@ -141,8 +141,8 @@ IsViewAnswer width height state command next reply =
 abbrev pub IsAnswer : ℕ → ℕ → State → Command → State → List ℕ → Type 0
 IsAnswer width height state (Change m) next reply =
     IsEditAnswer state (edited (selected_edit state m) state) next reply
-IsAnswer width height state Undo next reply = IsStepAnswer state (codes "no undo") (undone state) next reply
-IsAnswer width height state Redo next reply = IsStepAnswer state (codes "no redo") (redone state) next reply
+IsAnswer width height state Undo next reply = IsStepAnswer state (codes "no undo") (undone_state state) next reply
+IsAnswer width height state Redo next reply = IsStepAnswer state (codes "no redo") (redone_state state) next reply
 IsAnswer width height state (At name) next reply = IsChoice state (number_of state.buffers name) next reply
 IsAnswer width height state (Go numbers) next reply = IsGoAnswer state numbers next reply
 IsAnswer width height state (Typed text) next reply = IsKeyAnswer state (by_typing state text) next reply

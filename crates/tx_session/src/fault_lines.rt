@@ -1,6 +1,6 @@
 // Lines that say why bytes spell no tree.
 ghost use Rattle.std.specs.Prelude.{◌≡◌, ◌++◌, ◌∷◌, List, ℕ, decimal, IfOk};
-ghost use Rattle.tx_session.specs.FaultTexts.{fault_text, limit_word};
+ghost use Rattle.tx_session.specs.FaultTexts.{read_fault_text, limit_word};
 ghost use Rattle.tx_print.specs.Lines.{line};
 
 use itoa::Buffer;
@@ -32,7 +32,7 @@ fn limit_word(which: Which) -> &'static [u8]
 
 // Adds a fault as it is printed.
 fn push_fault(text: &mut Vec<u8>, fault: ReadFault) -> Result<(), Memory>
-    ensures { IfOk result (λ _. text.new.items ≡ text.old.items ++ fault_text fault) }
+    ensures { IfOk result (λ _. text.new.items ≡ text.old.items ++ read_fault_text fault) }
 {
     match fault {
         ReadFault::Unclosed(n) => push_numbered(text, b"unclosed ", n as u64),
@@ -59,7 +59,7 @@ pub(crate) fn line_of_fault(
     words: &[u8],
     fault: ReadFault,
 ) -> Result<Vec<u8>, Memory>
-    ensures { IfOk result (λ text. text.items ≡ line (words.now ++ fault_text fault)) }
+    ensures { IfOk result (λ text. text.items ≡ line (words.now ++ read_fault_text fault)) }
 {
     let mut text = Vec::from_slice(alloc, words)?;
     push_fault(&mut text, fault)?;

@@ -1,6 +1,6 @@
 // What commands print of the view.
 ghost use Rattle.tx_print.specs.Writing.{IsPrinted};
-ghost use Rattle.tx_session.specs.States.{printed};
+ghost use Rattle.tx_session.specs.States.{view_reply};
 
 use tx_cmd::Command;
 use tx_outside::{Sink, WriteFault};
@@ -14,7 +14,8 @@ pub(crate) fn print_view<O: Sink>(
     command: &Command,
     out: &mut O,
 ) -> Result<(), WriteFault>
-    ensures { IsPrinted result (printed view.now.width view.now.shown command.now) (O.seen out.old) (O.seen out.new) }
+    ensures { IsPrinted result (view_reply view.now.width view.now.shown command.now) (O.seen out.old)
+        (O.seen out.new) }
 {
     match command {
         Command::Show => print_pages(view, out),

@@ -3,14 +3,14 @@ ghost use Rattle.std.specs.Prelude.{◌≡◌, ◌≢◌, ◌++◌, ◌∷◌, �
 ghost use Rattle.tx_cmd.specs.declared.command.Command.{Command};
 ghost use Rattle.tx_outside.specs.Counts.{Rose};
 ghost use Rattle.tx_outside.specs.Outside.{SinkGoesOn};
-ghost use Rattle.tx_session.specs.Asking.{is_plain};
-ghost use Rattle.tx_session.specs.Causes.{cause_reply, astray_reply, key_reply, numbered};
-ghost use Rattle.tx_session.specs.FaultTexts.{fault_text};
+ghost use Rattle.tx_session.specs.Asking.{is_plain_mark};
+ghost use Rattle.tx_session.specs.Causes.{cause_reply, astray_reply, key_reply, numbered_line};
+ghost use Rattle.tx_session.specs.FaultTexts.{read_fault_text};
 ghost use Rattle.tx_print.specs.Lines.{line};
 ghost use Rattle.tx_print.specs.Work.{work_reply};
 ghost use Rattle.tx_session.specs.Differences.{IsPlainReply};
 ghost use Rattle.tx_session.specs.Replies.{IsDone, refusal};
-ghost use Rattle.tx_session.specs.Saying.{Says, mark_of, text_of};
+ghost use Rattle.tx_session.specs.Saying.{Says, reply_mark, reply_text};
 ghost use Rattle.tx_session.specs.Worlds.{SeenWorld, plain};
 ghost use Rattle.tx_session.specs.Writing.{IsSaid};
 
@@ -45,7 +45,7 @@ pub(crate) enum Reply {
 impl Reply {
     /// The reply's bytes.
     pub(crate) fn text(&self) -> &[u8]
-        ensures { result.now ≡ text_of self.now }
+        ensures { result.now ≡ reply_text self.now }
     {
         match self {
             Reply::Done => b"ok\n",
@@ -58,7 +58,7 @@ impl Reply {
 
     /// Whether the command was done or refused: memory didn't run out, and the store didn't fail.
     pub(crate) fn is_plain(&self) -> bool
-        ensures { result ≡ is_plain (mark_of self.now) }
+        ensures { result ≡ is_plain_mark (reply_mark self.now) }
     {
         match self {
             Reply::Done | Reply::Fixed(_) | Reply::Made(_) => true,
@@ -69,7 +69,7 @@ impl Reply {
 
 /// A line of words and a number.
 pub(crate) fn numbered(alloc: Global, words: &str, number: u64) -> Reply
-    ensures { Says result (numbered words.now number) }
+    ensures { Says result (numbered_line words.now number) }
 {
     match format!(in alloc; "{words}{number}\n") {
         Ok(text) => Reply::Made(text.into_bytes()),
@@ -89,7 +89,7 @@ pub(crate) fn no_cell(alloc: Global, rows: u32, width: u32) -> Reply
 
 /// The reply to a key that does nothing.
 pub(crate) fn idle(fault: EditFault) -> Reply
-    ensures named { fault ≢ EditFault.Memory → (text_of result ≡ key_reply fault) × (mark_of result ≡ plain) }
+    ensures named { fault ≢ EditFault.Memory → (reply_text result ≡ key_reply fault) × (reply_mark result ≡ plain) }
     ensures wanting { fault ≡ EditFault.Memory → result ≡ Reply.Wanting }
 {
     match fault {
@@ -121,7 +121,7 @@ pub(crate) fn refused(alloc: Global, cause: ModFault) -> Reply
 
 // The reply where a line's tree is none.
 fn no_tree(alloc: Global, fault: ReadFault) -> Reply
-    ensures { Says result (line (codes "no tree " ++ fault_text fault)) }
+    ensures { Says result (line (codes "no tree " ++ read_fault_text fault)) }
 {
     match line_of_fault(alloc, b"no tree ", fault) {
         Ok(text) => Reply::Made(text),

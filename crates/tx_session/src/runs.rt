@@ -9,16 +9,16 @@ ghost use Rattle.tx_outside.specs.Known.{AppendsPart};
 ghost use Rattle.tx_outside.specs.Outside.{SinkGoesOn, SourceGoesOn, StoreGoesOn, StoreIsFaultless};
 ghost use Rattle.tx_words.specs.Words.{AreFaulty};
 ghost use Rattle.tx_open.specs.declared.opening.Opened.{Opened as WasOpened};
-ghost use Rattle.tx_open.specs.Openings.{outcome_of};
-ghost use Rattle.tx_open.specs.Outcomes.{AskForFiles, CanBeOpened, ComesTo, Outcome, generated, no_memory, opened};
+ghost use Rattle.tx_open.specs.Openings.{open_outcome};
+ghost use Rattle.tx_open.specs.Outcomes.{AskForFiles, CanBeOpened, ComesTo, OpenOutcome, generated, no_memory, opened};
 ghost use Rattle.tx_doc.specs.Buffers.{NamesDiffer};
 ghost use Rattle.tx_units.specs.Units.{made};
-ghost use Rattle.tx_session.specs.Runs.{AskToGenerate, CanBeRead, IsFinal, IsRefused, IsRun, IsWhole, Outside};
-ghost use Rattle.tx_session.specs.Runs.{opening_cost, outside, own_line, start_of, start_with, whole_start};
+ghost use Rattle.tx_session.specs.Runs.{AskToGenerate, CanBeRead, IsFinal, IsFileRefused, IsRun, IsWhole, Outside};
+ghost use Rattle.tx_session.specs.Runs.{opening_cost, seen_outside, own_line, seen_start, start_with, whole_start};
 ghost use Rattle.tx_session.specs.Differences.{EndsAtOpening, HoldSameFiles, Suffices};
-ghost use Rattle.tx_session.specs.Playing.{IsLine, IsServed, IsServedAlone};
+ghost use Rattle.tx_session.specs.Playing.{IsUnopenedLine, IsServed, IsServedAlone};
 ghost use Rattle.tx_session.specs.Scripts.{Answered};
-ghost use Rattle.tx_session.specs.Worlds.{Mark, Whole, World, RoseBy, unsaved_in, untold, world};
+ghost use Rattle.tx_session.specs.Worlds.{LineMark, WholeSession, World, RoseBy, unsaved_in, untold, world};
 ghost use Rattle.tx_session.specs.declared.status.Status.{Status};
 
 use crate::fixed_script::{FixedScript, GENERATED_SCRIPT};
@@ -52,10 +52,10 @@ fn finish<O: Sink>(out: &mut O, text: &[u8], status: Status) -> Status
 
 // Writes the line that says why nothing was opened.
 fn report<O: Sink>(alloc: Global, failed: &Opening, out: &mut O) -> Status
-    requires unopened { (all : WasOpened) → (outcome_of failed.now ≢ opened all)
-        × (outcome_of failed.now ≢ generated all) }
-    ensures line { IsLine (outcome_of failed.now) result (O.seen out.old).written (O.seen out.new).written
-        ⊎ IsLine no_memory result (O.seen out.old).written (O.seen out.new).written }
+    requires unopened { (all : WasOpened) → (open_outcome failed.now ≢ opened all)
+        × (open_outcome failed.now ≢ generated all) }
+    ensures line { IsUnopenedLine (open_outcome failed.now) result (O.seen out.old).written (O.seen out.new).written
+        ⊎ IsUnopenedLine no_memory result (O.seen out.old).written (O.seen out.new).written }
     ensures counted { result ≡ Status.OutputFault → Rose (O.seen out.old).faults (O.seen out.new).faults }
     ensures output_goes_on { SinkGoesOn (O.seen out.old) (O.seen out.new) }
 {
@@ -87,7 +87,7 @@ fn session_of<L: Ledger>(
     requires height { (5 ≤ all.height) × (all.height ≤ 500) }
     requires number { (1 ≤ length all.buffers) × (length all.buffers ≤ 16) }
     requires names { NamesDiffer all.buffers }
-    ensures session { IfOk result (λ session. session.seen ≡ start_of all) }
+    ensures session { IfOk result (λ session. session.seen ≡ seen_start all) }
     ensures keep { IfOk result (λ session. session.keep ≡ (whole_start all).keep) }
     ensures counted { steps.new ≤ steps.old + made all.buffers }
 {
@@ -133,8 +133,8 @@ fn run_opened<S: Store, I: Source, O: Sink, L: Ledger>(
     requires number { (1 ≤ length all.buffers) × (length all.buffers ≤ 16) }
     requires names { NamesDiffer all.buffers }
     ensures ended { ((store.new ≡ store.old) × (input.new ≡ input.old)
-        × IsLine no_memory result (O.seen out.old).written (O.seen out.new).written)
-        ⊎ ((begun : ℕ) × (last : Whole) × (begun ≤ steps.old + made all.buffers)
+        × IsUnopenedLine no_memory result (O.seen out.old).written (O.seen out.new).written)
+        ⊎ ((begun : ℕ) × (last : WholeSession) × (begun ≤ steps.old + made all.buffers)
         × IsServed (Rose (I.seen input.old).faults (I.seen input.new).faults) result
         (start_with all (S.seen store.old) begun) (world last (S.seen store.new) steps.new)
         (I.seen input.old).left (I.seen input.new).left
@@ -174,7 +174,7 @@ fn run_alone<O: Sink, L: Ledger>(
     requires height { (5 ≤ all.height) × (all.height ≤ 500) }
     requires number { (1 ≤ length all.buffers) × (length all.buffers ≤ 16) }
     requires names { NamesDiffer all.buffers }
-    ensures ended { IsLine no_memory result (O.seen out.old).written (O.seen out.new).written
+    ensures ended { IsUnopenedLine no_memory result (O.seen out.old).written (O.seen out.new).written
         ⊎ ((old : ℕ) → steps.old + made all.buffers ≤ old + opening_cost all
         → IsServedAlone all old steps.new result (O.seen out.old).written (O.seen out.new).written) }
     ensures served { ¬ EndsAtOpening result }
@@ -215,8 +215,8 @@ pub fn run<S: Store, I: Source, O: Sink, L: Ledger>(
     steps: &mut Steps<L>,
 ) -> Status
     ensures run { IsRun (map string_bytes words.now) result
-        (outside (S.seen store.old) (I.seen input.old) (O.seen out.old) steps.old)
-        (outside (S.seen store.new) (I.seen input.new) (O.seen out.new) steps.new) }
+        (seen_outside (S.seen store.old) (I.seen input.old) (O.seen out.old) steps.old)
+        (seen_outside (S.seen store.new) (I.seen input.new) (O.seen out.new) steps.new) }
 
     // Where each status comes.
     ensures words { result ≡ Status.Words → AreFaulty (map string_bytes words.now) }
@@ -224,7 +224,7 @@ pub fn run<S: Store, I: Source, O: Sink, L: Ledger>(
         → (result ≡ Status.Words) ⊎ (result ≡ Status.NoMemory) ⊎ (result ≡ Status.OutputFault) }
     ensures missing_counted { result ≡ Status.Missing → Rose (S.seen store.old).misses (S.seen store.new).misses }
     ensures refused { result ≡ Status.Refused
-        → IsRefused (map string_bytes words.now) (S.seen store.old) (S.seen store.new) }
+        → IsFileRefused (map string_bytes words.now) (S.seen store.old) (S.seen store.new) }
     ensures store_fault_counted { result ≡ Status.StoreFault
         → Rose (S.seen store.old).faults (S.seen store.new).faults }
     ensures input_fault_counted { result ≡ Status.InputFault
@@ -267,7 +267,7 @@ pub fn run<S: Store, I: Source, O: Sink, L: Ledger>(
 /// numbers `work` told, come to one status and one text, where no device failed otherwise and memory sufficed
 /// otherwise. Where the store never failed, they leave the same files.
 pub fn one_run()
-    ensures { (words : List (List ℕ)) (all : Files) (script : List ℕ) (marks : List Mark) (o p : Outcome)
+    ensures { (words : List (List ℕ)) (all : Files) (script : List ℕ) (marks : List LineMark) (o p : OpenOutcome)
         (v w x y : Outside) (s t : Status) (a b : List ℕ)
         → IsFinal s → IsFinal t → v.store.files ≡ Some all → w.store.files ≡ Some all
         → v.input.left ≡ Some script → w.input.left ≡ Some script
@@ -282,7 +282,7 @@ pub fn one_run()
 /// A law: where memory sufficed at each line, the numbers that `work` told are determined too. Of two runs of the same
 /// words, files and script whose marks differ in those numbers alone, the marks are the same.
 pub fn numbers_determined()
-    ensures { (words : List (List ℕ)) (all : Files) (script : List ℕ) (marks others : List Mark) (o p : Outcome)
+    ensures { (words : List (List ℕ)) (all : Files) (script : List ℕ) (marks others : List LineMark) (o p : OpenOutcome)
         (v w x y : Outside) (s t : Status) (a b : List ℕ)
         → IsFinal s → IsFinal t → v.input.left ≡ Some script → w.input.left ≡ Some script
         → ComesTo words (Some all) o → ComesTo words (Some all) p
@@ -297,9 +297,9 @@ pub fn numbers_determined()
 /// A law: the store's count of faults rises by at least the number of lines that are marked so, or stands at its last
 /// value: over lines that are answered, and over a whole run.
 pub fn failures_counted()
-    ensures lines { (before last : World) (lines : List (List ℕ)) (marks : List Mark) (text : List ℕ)
+    ensures lines { (before last : World) (lines : List (List ℕ)) (marks : List LineMark) (text : List ℕ)
         → Answered before lines marks last text → RoseBy (unsaved_in marks) before.store.faults last.store.faults }
-    ensures whole { (o : Outcome) (before after : Outside) (marks : List Mark) (status : Status) (text : List ℕ)
+    ensures whole { (o : OpenOutcome) (before after : Outside) (marks : List LineMark) (status : Status) (text : List ℕ)
         → IsWhole o before after marks status text
         → RoseBy (unsaved_in marks) before.store.faults after.store.faults }
 {}

@@ -2,19 +2,19 @@
 ghost use Rattle.std.specs.Prelude.{◌≡◌, ◌≢◌, ◌⊎◌, ◌∷◌, ◌++◌, ℕ, List, [], Option, true, length, IfOk, Some, None};
 ghost use Rattle.tx_outside.specs.Files.{Files, file_of};
 ghost use Rattle.tx_outside.specs.Outside.{StoreGoesOn, StoreSeen};
-ghost use Rattle.tx_session.specs.Forms.{has_text_in, saving, text_in, SpellsAloneIn, writes};
+ghost use Rattle.tx_session.specs.Forms.{has_text_in, saving, form_text, SpellsAloneIn, writes};
 ghost use Rattle.tx_print.specs.Lines.{line};
 ghost use Rattle.tx_words.specs.Names.{buffer_name};
-ghost use Rattle.tx_words.specs.Words.{Ask, named};
+ghost use Rattle.tx_words.specs.Words.{Ask, named_file};
 ghost use Rattle.tx_words.specs.declared.asked.Source.TheVariants.{Files as AllFiles};
 ghost use Rattle.tx_open.specs.declared.opening.Opened.{Opened};
-ghost use Rattle.tx_open.specs.Outcomes.{Outcome, opened, ComesTo, IsDecided, IsTreeOf};
+ghost use Rattle.tx_open.specs.Outcomes.{OpenOutcome, opened, ComesTo, IsDecided, IsTreeOfFile};
 ghost use Rattle.tx_session.specs.Saves.{IsKeepReply, IsSaveReply};
 ghost use Rattle.tx_session.specs.States.{file_saved, selected_tree};
-ghost use Rattle.tx_session.specs.Worlds.{World, Mark, plain};
+ghost use Rattle.tx_session.specs.Worlds.{World, LineMark, plain};
 ghost use Rattle.tx_session.specs.Savings.{IsSavedAlone, IsNotSaved, StandsAmong};
 ghost use Rattle.tx_session.specs.Scripts.{Answered, command_line};
-ghost use Rattle.tx_session.specs.Replies.{command, IsRead, IsLineReply};
+ghost use Rattle.tx_session.specs.Replies.{command, IsLineRead, IsLineReply};
 ghost use Rattle.tx_session.specs.Runs.{start_with};
 ghost use Rattle.tx_cmd.specs.declared.command.Command.{Command};
 ghost use Rattle.tx_tree.specs.WideTree.{WideTree};
@@ -45,7 +45,7 @@ fn has_text_in(form: Form, tree: &Tree) -> bool
 #[tactic(auto, using(std::proofs::lemmas::Grind::common_steps))]
 fn file_length(form: Form, tree: &Tree) -> u64
     requires { has_text_in form tree.now ≡ true }
-    ensures { result ≡ length (line (text_in form tree.now)) }
+    ensures { result ≡ length (line (form_text form tree.now)) }
 {
     match form {
         Form::Scheme => tx_scm::length(tree) + 1,
@@ -56,7 +56,7 @@ fn file_length(form: Form, tree: &Tree) -> u64
 // The bytes of the tree's file.
 fn file_bytes(alloc: Global, form: Form, tree: &Tree) -> Result<Vec<u8>, Memory>
     requires { has_text_in form tree.now ≡ true }
-    ensures { IfOk result (λ bytes. bytes.items ≡ line (text_in form tree.now)) }
+    ensures { IfOk result (λ bytes. bytes.items ≡ line (form_text form tree.now)) }
 {
     let mut bytes = Vec::new(alloc);
     match form {
@@ -117,10 +117,10 @@ pub fn saved_spells_alone()
 pub fn saved_opens_again()
     ensures read { (told : Files) (word bytes : List ℕ) (t : WideTree) → IsWellFormed t → IsWithinLimits t
         → saving (form_of word) t ≡ writes bytes → file_of told word ≡ Some bytes
-        → IsTreeOf (Some told) word t × ((u : WideTree) → IsTreeOf (Some told) word u → u ≡ t) }
+        → IsTreeOfFile (Some told) word t × ((u : WideTree) → IsTreeOfFile (Some told) word u → u ≡ t) }
     ensures alone { (words : List (List ℕ)) (told : Files) (width height : ℕ) (word bytes : List ℕ) (t : WideTree)
-        (o : Outcome) → IsWellFormed t → IsWithinLimits t → saving (form_of word) t ≡ writes bytes
-        → Ask words width height (AllFiles (named word ∷ [])) → file_of told word ≡ Some bytes
+        (o : OpenOutcome) → IsWellFormed t → IsWithinLimits t → saving (form_of word) t ≡ writes bytes
+        → Ask words width height (AllFiles (named_file word ∷ [])) → file_of told word ≡ Some bytes
         → ComesTo words (Some told) o → IsDecided o → o ≡ opened (record {
           width = width;
           height = height;
@@ -135,14 +135,15 @@ pub fn saved_opens_again()
 /// memory nor the store failed leaves a file that spells the selected buffer's present tree and no other, or the store
 /// as it was, with the reason.
 pub fn saved_in_a_session()
-    ensures among { (start : World) (before : List (List ℕ)) (one : List ℕ) (behind : List (List ℕ)) (marks : List Mark)
-        (last : World) (text : List ℕ) → Answered start (before ++ one ∷ behind) marks last text →
-        StandsAmong start before one behind marks last text }
+    ensures among { (start : World) (before : List (List ℕ)) (one : List ℕ) (behind : List (List ℕ))
+        (marks : List LineMark) (last : World) (text : List ℕ)
+        → Answered start (before ++ one ∷ behind) marks last text
+        → StandsAmong start before one behind marks last text }
     ensures saved { (words : List (List ℕ)) (files : Option Files) (all : Opened) (first : StoreSeen) (steps : ℕ) →
         ComesTo words files (opened all) →
-        (lines : List (List ℕ)) (marks : List Mark) (seen : World) (done : List ℕ) →
+        (lines : List (List ℕ)) (marks : List LineMark) (seen : World) (done : List ℕ) →
         Answered (start_with all first steps) lines marks seen done →
-        (one name reply : List ℕ) (next : World) → IsRead (command_line one) (command (Command.Save name)) →
+        (one name reply : List ℕ) (next : World) → IsLineRead (command_line one) (command (Command.Save name)) →
         IsLineReply seen (command_line one) plain next reply →
         IsSavedAlone name (selected_tree seen.session.seen.state) seen.store next.store reply
         ⊎ IsNotSaved seen.store next.store reply }

@@ -7,9 +7,9 @@ ghost use Rattle.tx_cmd.specs.declared.command.CmdFault.{CmdFault};
 ghost use Rattle.tx_session.specs.Replies.{refusal, wanting_reply};
 ghost use Rattle.tx_session.specs.Worlds.{World, world};
 ghost use Rattle.tx_session.specs.Scripts.{command_line, is_quit};
-ghost use Rattle.tx_session.specs.Runs.{Tells};
+ghost use Rattle.tx_session.specs.Runs.{TellsScript};
 ghost use Rattle.tx_session.specs.Writing.{IsSaid};
-ghost use Rattle.tx_session.specs.Keeping.{KeepsLine, StandsWith, LeadsTo, IsTurned};
+ghost use Rattle.tx_session.specs.Keeping.{KeepsLine, StandsWith, TurnLeadsTo, IsTurned};
 ghost use Rattle.tx_session.specs.Playing.{IsEnd};
 
 use crate::MOST_SCRIPT;
@@ -87,7 +87,7 @@ fn take_byte<S: Store, O: Sink, L: Ledger>(
     ensures leads { (start : World) (before : Option (List ℕ)) (bytes : List ℕ)
         → StandsWith start before bytes (world session.old (S.seen store.old) steps.old) line.old
         (O.seen out.old).written
-        → LeadsTo result start before (bytes ++ byte ∷ [])
+        → TurnLeadsTo result start before (bytes ++ byte ∷ [])
         (world session.new (S.seen store.new) steps.new) line.new (O.seen out.new).written }
     ensures kept { result ≡ Turn.Go → (bytes : List ℕ) × KeepsLine line.new bytes }
     ensures count { line.new.count ≤ line.old.count + 1 }
@@ -126,7 +126,7 @@ fn take_piece<S: Store, O: Sink, L: Ledger>(
     ensures leads { (start : World) (before : Option (List ℕ)) (bytes : List ℕ)
         → StandsWith start before bytes (world session.old (S.seen store.old) steps.old) line.old
         (O.seen out.old).written
-        → LeadsTo result start before (bytes ++ piece.now)
+        → TurnLeadsTo result start before (bytes ++ piece.now)
         (world session.new (S.seen store.new) steps.new) line.new (O.seen out.new).written }
     ensures kept { result ≡ Turn.Go → (bytes : List ℕ) × KeepsLine line.new bytes }
     ensures count { line.new.count ≤ line.old.count + length piece.now }
@@ -155,7 +155,7 @@ fn end_script<S: Store, O: Sink, L: Ledger>(
     requires kept { (bytes : List ℕ) × KeepsLine line.now bytes }
     ensures end { (start : World) (told : Option (List ℕ)) (before : Option (List ℕ)) (script : List ℕ)
         → StandsWith start before script (world session.old (S.seen store.old) steps.old) line.now
-        (O.seen out.old).written → Tells told script → length script ≤ MOST_SCRIPT
+        (O.seen out.old).written → TellsScript told script → length script ≤ MOST_SCRIPT
         → (rest : Option (List ℕ)) → IfSome rest (λ bytes. bytes ≡ []) → IsEnd result start
         (world session.new (S.seen store.new) steps.new) told rest before (O.seen out.new).written }
     ensures status { (result ≡ Status.Ok) ⊎ (result ≡ Status.OutputFault) }

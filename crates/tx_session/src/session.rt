@@ -8,7 +8,7 @@ ghost use Rattle.tx_print.specs.Lines.{line};
 ghost use Rattle.tx_tree.specs.Places.{IsPlace};
 ghost use Rattle.tx_mod.specs.InTurn.{changed_in_turn, cost_of};
 ghost use Rattle.tx_doc.specs.Buffers.{document_of, tree_of, with_tree, NamesDiffer, AreFormed};
-ghost use Rattle.tx_state.specs.States.{opening};
+ghost use Rattle.tx_state.specs.States.{opening_state};
 ghost use Rattle.tx_state.specs.Edits.{edited};
 ghost use Rattle.tx_edit.specs.declared.faults.EditFault.{EditFault as KeyFault};
 ghost use Rattle.tx_edit.specs.declared.moves.Move.{Move as KeyMove};
@@ -18,14 +18,14 @@ ghost use Rattle.tx_view_form.specs.Stops.{stops_of};
 ghost use Rattle.tx_units.specs.Units.{made};
 ghost use Rattle.tx_view.specs.Names.{Empty, Holds};
 ghost use Rattle.tx_session.specs.Asking.{IsChange, IsKeyChange, IsArrival, IsClicked, IsEdit, GoesIn, Makes, Prints};
-ghost use Rattle.tx_session.specs.Asking.{going, IsEditKept, IsKeyKept};
+ghost use Rattle.tx_session.specs.Asking.{next_after, IsEditKept, IsKeyKept};
 ghost use Rattle.tx_session.specs.Sessions.{view_with};
 ghost use Rattle.tx_session.specs.States.{selected_edit, selected_tree, saved_by, by_typing, by_backspace, by_enter};
 ghost use Rattle.tx_session.specs.Effects.{asks_view};
 ghost use Rattle.tx_session.specs.Replies.{IsReply, unsaved_reply};
 ghost use Rattle.tx_session.specs.Keeps.{Keeps, Takes, edit_cost, key_cost, most_steps};
-ghost use Rattle.tx_session.specs.Worlds.{Mark, plain, seen_world};
-ghost use Rattle.tx_session.specs.Saying.{mark_of, text_of};
+ghost use Rattle.tx_session.specs.Worlds.{LineMark, plain, seen_world};
+ghost use Rattle.tx_session.specs.Saying.{reply_mark, reply_text};
 ghost use Rattle.tx_cmd.specs.declared.command.Command.{Command};
 ghost use Rattle.tx_session.specs.Writing.{IsSaid};
 
@@ -70,15 +70,15 @@ pub struct Session {
 }
 
 impl Model for Session {
-    ghost use Rattle.tx_session.specs.Worlds.{Whole};
+    ghost use Rattle.tx_session.specs.Worlds.{WholeSession};
 
-    ghost Value = { Whole };
+    ghost Value = { WholeSession };
 
-    ghost use Rattle.tx_session.specs.Sessions.{whole_code, whole_of, IsSession};
+    ghost use Rattle.tx_session.specs.Sessions.{whole_session_code, whole_session, IsSession};
 
-    ghost coded = { whole_code };
+    ghost coded = { whole_session_code };
 
-    ghost view = { whole_of };
+    ghost view = { whole_session };
 
     ghost invariant = { IsSession };
 }
@@ -119,7 +119,7 @@ fn tell<L: Ledger>(
 
 // The session goes on behind what was printed.
 fn going(printed: Result<(), WriteFault>) -> Result<Next, WriteFault>
-    ensures { result ≡ going printed }
+    ensures { result ≡ next_after printed }
 {
     match printed {
         Ok(()) => Ok(Next::Go),
@@ -131,7 +131,7 @@ fn going(printed: Result<(), WriteFault>) -> Result<Next, WriteFault>
 fn arrive(state: &mut EditorState, made: Result<Move, EditFault>) -> Reply
     requires { IfOk made (GoesIn (document_of state.old.buffers)) }
     ensures { (outcome : Result KeyMove KeyFault) → Makes made outcome
-        → IsArrival outcome state.old (mark_of result) state.new (text_of result) }
+        → IsArrival outcome state.old (reply_mark result) state.new (reply_text result) }
 {
     match made {
         Ok(Move::Go(place)) => {
@@ -146,7 +146,7 @@ fn arrive(state: &mut EditorState, made: Result<Move, EditFault>) -> Reply
 // Puts the cursor at the place behind a cell, unless there is no such cell.
 fn go_to_cell(alloc: Global, state: &mut EditorState, view: &View, r: u32, c: u32) -> Reply
     requires { IsView state.old.buffers view.now.width view.now.height view.now.shown }
-    ensures { IsClicked view.now.width view.now.shown r c state.old (mark_of result) state.new (text_of result) }
+    ensures { IsClicked view.now.width view.now.shown r c state.old (reply_mark result) state.new (reply_text result) }
 {
     place_law(state.buffers());
     match view.position(r, c) {
@@ -164,8 +164,8 @@ fn go_to_cell(alloc: Global, state: &mut EditorState, view: &View, r: u32, c: u3
 // Puts the cursor at the stop before it, unless there is none.
 fn go_left(alloc: Global, state: &mut EditorState, view: &View) -> Reply
     requires { IsView state.old.buffers view.now.width view.now.height view.now.shown }
-    ensures { IsArrival (to_left (stops_of view.now.shown.units) state.old.cursor) state.old (mark_of result)
-        state.new (text_of result) }
+    ensures { IsArrival (to_left (stops_of view.now.shown.units) state.old.cursor) state.old (reply_mark result)
+        state.new (reply_text result) }
 {
     place_law(state.buffers());
     let cursor = state.cursor();
@@ -181,8 +181,8 @@ fn go_left(alloc: Global, state: &mut EditorState, view: &View) -> Reply
 // Puts the cursor at the stop behind it, unless there is none.
 fn go_right(alloc: Global, state: &mut EditorState, view: &View) -> Reply
     requires { IsView state.old.buffers view.now.width view.now.height view.now.shown }
-    ensures { IsArrival (to_right (stops_of view.now.shown.units) state.old.cursor) state.old (mark_of result)
-        state.new (text_of result) }
+    ensures { IsArrival (to_right (stops_of view.now.shown.units) state.old.cursor) state.old (reply_mark result)
+        state.new (reply_text result) }
 {
     place_law(state.buffers());
     let cursor = state.cursor();
@@ -214,7 +214,7 @@ impl Session {
         requires least_height { 5 ≤ height }
         requires most_height { height ≤ 500 }
         ensures session { IfOk result (λ s.
-            s.seen ≡ record { state = opening buffers.items; width = width; height = height; fresh = false }) }
+            s.seen ≡ record { state = opening_state buffers.items; width = width; height = height; fresh = false }) }
         ensures keep { IfOk result (λ s.
             s.keep ≡ record { fresh = false; stores = Empty buffers.items; work = 0 }) }
         ensures cursor { IfOk result (λ s.
@@ -255,7 +255,7 @@ impl Session {
     // Prints the selected buffer's tree.
     fn tree(&self, alloc: Global) -> Reply
         ensures { (store : StoreSeen) → IsReply (record { session = self.now.seen; store = store }) Command.Tree
-            (mark_of result) (record { session = self.now.seen; store = store }) (text_of result) }
+            (reply_mark result) (record { session = self.now.seen; store = store }) (reply_text result) }
     {
         match self.tree_text(alloc) {
             Ok(text) => Reply::Made(text),
@@ -267,10 +267,10 @@ impl Session {
     fn edit<L: Ledger>(&mut self, alloc: Global, edit: Edit, steps: &mut Steps<L>) -> Reply
         requires buffer { edit.buffer < length self.old.seen.state.buffers }
         requires moving { edit.cursor ≡ None }
-        ensures changed { IsChange (edited edit self.old.seen.state) self.old.seen (mark_of result) self.new.seen
-            (text_of result) }
+        ensures changed { IsChange (edited edit self.old.seen.state) self.old.seen (reply_mark result) self.new.seen
+            (reply_text result) }
         ensures keeps { IsEditKept (is_err (edited edit self.old.seen.state)) (edit.buffer, edit.mods) self.old
-            (mark_of result) self.new }
+            (reply_mark result) self.new }
         ensures counted { steps.new ≤ steps.old + edit_cost edit.mods (edited edit self.old.seen.state) }
     {
         match self.state.prepare_edit(alloc, edit, steps) {
@@ -290,10 +290,10 @@ impl Session {
     // Changes the selected buffer.
     fn change<L: Ledger>(&mut self, alloc: Global, m: &Mod, steps: &mut Steps<L>) -> Reply
         ensures replied { (store : StoreSeen) → IsReply (record { session = self.old.seen; store = store })
-            (Command.Change m.now) (mark_of result) (record { session = self.new.seen; store = store })
-            (text_of result) }
-        ensures keeps { Keeps self.old (Command.Change m.now) (mark_of result) self.new }
-        ensures takes { Takes self.old (Command.Change m.now) (mark_of result) steps.old steps.new }
+            (Command.Change m.now) (reply_mark result) (record { session = self.new.seen; store = store })
+            (reply_text result) }
+        ensures keeps { Keeps self.old (Command.Change m.now) (reply_mark result) self.new }
+        ensures takes { Takes self.old (Command.Change m.now) (reply_mark result) steps.old steps.new }
     {
         match selected_edit(alloc, &self.state, m) {
             Ok(edit) => self.edit(alloc, edit, steps),
@@ -310,9 +310,9 @@ impl Session {
     ) -> Reply
         requires { IfOk made IsEdit }
         ensures changed { (outcome : Result KeyMove KeyFault) → Makes made outcome
-            → IsKeyChange outcome self.old.seen (mark_of result) self.new.seen (text_of result) }
+            → IsKeyChange outcome self.old.seen (reply_mark result) self.new.seen (reply_text result) }
         ensures keeps { (outcome : Result KeyMove KeyFault) → Makes made outcome
-            → IsKeyKept outcome self.old (mark_of result) self.new }
+            → IsKeyKept outcome self.old (reply_mark result) self.new }
         ensures counted { (outcome : Result KeyMove KeyFault) → Makes made outcome
             → steps.new ≤ steps.old + key_cost self.old.seen.state outcome }
     {
@@ -334,10 +334,10 @@ impl Session {
     // Types a text.
     fn typed<L: Ledger>(&mut self, alloc: Global, text: &Text, steps: &mut Steps<L>) -> Reply
         ensures replied { (store : StoreSeen) → IsReply (record { session = self.old.seen; store = store })
-            (Command.Typed text.now) (mark_of result) (record { session = self.new.seen; store = store })
-            (text_of result) }
-        ensures keeps { Keeps self.old (Command.Typed text.now) (mark_of result) self.new }
-        ensures takes { Takes self.old (Command.Typed text.now) (mark_of result) steps.old steps.new }
+            (Command.Typed text.now) (reply_mark result) (record { session = self.new.seen; store = store })
+            (reply_text result) }
+        ensures keeps { Keeps self.old (Command.Typed text.now) (reply_mark result) self.new }
+        ensures takes { Takes self.old (Command.Typed text.now) (reply_mark result) steps.old steps.new }
     {
         let made = type_text(alloc, self.state.document(), self.state.cursor(), text);
         self.keyed(alloc, made, steps)
@@ -346,9 +346,10 @@ impl Session {
     // Takes back what stands before the cursor.
     fn backspace<L: Ledger>(&mut self, alloc: Global, steps: &mut Steps<L>) -> Reply
         ensures replied { (store : StoreSeen) → IsReply (record { session = self.old.seen; store = store })
-            Command.Backspace (mark_of result) (record { session = self.new.seen; store = store }) (text_of result) }
-        ensures keeps { Keeps self.old Command.Backspace (mark_of result) self.new }
-        ensures takes { Takes self.old Command.Backspace (mark_of result) steps.old steps.new }
+            Command.Backspace (reply_mark result) (record { session = self.new.seen; store = store })
+            (reply_text result) }
+        ensures keeps { Keeps self.old Command.Backspace (reply_mark result) self.new }
+        ensures takes { Takes self.old Command.Backspace (reply_mark result) steps.old steps.new }
     {
         let made = backspace(alloc, self.state.document(), self.state.cursor());
         self.keyed(alloc, made, steps)
@@ -357,9 +358,9 @@ impl Session {
     // Begins a paragraph at the cursor.
     fn enter<L: Ledger>(&mut self, alloc: Global, steps: &mut Steps<L>) -> Reply
         ensures replied { (store : StoreSeen) → IsReply (record { session = self.old.seen; store = store })
-            Command.Enter (mark_of result) (record { session = self.new.seen; store = store }) (text_of result) }
-        ensures keeps { Keeps self.old Command.Enter (mark_of result) self.new }
-        ensures takes { Takes self.old Command.Enter (mark_of result) steps.old steps.new }
+            Command.Enter (reply_mark result) (record { session = self.new.seen; store = store }) (reply_text result) }
+        ensures keeps { Keeps self.old Command.Enter (reply_mark result) self.new }
+        ensures takes { Takes self.old Command.Enter (reply_mark result) steps.old steps.new }
     {
         let made = enter(alloc, self.state.document(), self.state.cursor());
         self.keyed(alloc, made, steps)
@@ -368,9 +369,9 @@ impl Session {
     // Takes the last edit back.
     fn undo<L: Ledger>(&mut self, alloc: Global, steps: &mut Steps<L>) -> Reply
         ensures replied { (store : StoreSeen) → IsReply (record { session = self.old.seen; store = store })
-            Command.Undo (mark_of result) (record { session = self.new.seen; store = store }) (text_of result) }
-        ensures keeps { Keeps self.old Command.Undo (mark_of result) self.new }
-        ensures takes { Takes self.old Command.Undo (mark_of result) steps.old steps.new }
+            Command.Undo (reply_mark result) (record { session = self.new.seen; store = store }) (reply_text result) }
+        ensures keeps { Keeps self.old Command.Undo (reply_mark result) self.new }
+        ensures takes { Takes self.old Command.Undo (reply_mark result) steps.old steps.new }
     {
         match self.state.prepare_undo(alloc, steps) {
             Ok(prepared) => {
@@ -389,9 +390,9 @@ impl Session {
     // Makes the edit again that was taken back last.
     fn redo<L: Ledger>(&mut self, alloc: Global, steps: &mut Steps<L>) -> Reply
         ensures replied { (store : StoreSeen) → IsReply (record { session = self.old.seen; store = store })
-            Command.Redo (mark_of result) (record { session = self.new.seen; store = store }) (text_of result) }
-        ensures keeps { Keeps self.old Command.Redo (mark_of result) self.new }
-        ensures takes { Takes self.old Command.Redo (mark_of result) steps.old steps.new }
+            Command.Redo (reply_mark result) (record { session = self.new.seen; store = store }) (reply_text result) }
+        ensures keeps { Keeps self.old Command.Redo (reply_mark result) self.new }
+        ensures takes { Takes self.old Command.Redo (reply_mark result) steps.old steps.new }
     {
         match self.state.prepare_redo(alloc, steps) {
             Ok(prepared) => {
@@ -410,8 +411,8 @@ impl Session {
     // Selects the buffer of a name.
     fn choose(&mut self, name: &Name) -> Reply
         ensures replied { (store : StoreSeen) → IsReply (record { session = self.old.seen; store = store })
-            (Command.At name.now) (mark_of result) (record { session = self.new.seen; store = store })
-            (text_of result) }
+            (Command.At name.now) (reply_mark result) (record { session = self.new.seen; store = store })
+            (reply_text result) }
         ensures keep { self.new.keep ≡ self.old.keep }
     {
         match self.state.select(name.bytes()) {
@@ -423,8 +424,8 @@ impl Session {
     // Puts the cursor at a place.
     fn go(&mut self, alloc: Global, numbers: &Path) -> Reply
         ensures replied { (store : StoreSeen) → IsReply (record { session = self.old.seen; store = store })
-            (Command.Go numbers.now) (mark_of result) (record { session = self.new.seen; store = store })
-            (text_of result) }
+            (Command.Go numbers.now) (reply_mark result) (record { session = self.new.seen; store = store })
+            (reply_text result) }
         ensures keep { self.new.keep ≡ self.old.keep }
     {
         match self.state.go(alloc, numbers) {
@@ -437,9 +438,10 @@ impl Session {
     // Puts the cursor at the place behind a cell.
     fn click<L: Ledger>(&mut self, alloc: Global, r: u32, c: u32, steps: &mut Steps<L>) -> Reply
         ensures replied { (store : StoreSeen) → IsReply (record { session = self.old.seen; store = store })
-            (Command.Click r c) (mark_of result) (record { session = self.new.seen; store = store }) (text_of result) }
-        ensures keeps { Keeps self.old (Command.Click r c) (mark_of result) self.new }
-        ensures takes { Takes self.old (Command.Click r c) (mark_of result) steps.old steps.new }
+            (Command.Click r c) (reply_mark result) (record { session = self.new.seen; store = store })
+            (reply_text result) }
+        ensures keeps { Keeps self.old (Command.Click r c) (reply_mark result) self.new }
+        ensures takes { Takes self.old (Command.Click r c) (reply_mark result) steps.old steps.new }
     {
         if let Err(Memory) = self.view.refresh(alloc, steps) {
             return Reply::Wanting;
@@ -452,9 +454,9 @@ impl Session {
     // Puts the cursor at the stop before it.
     fn left<L: Ledger>(&mut self, alloc: Global, steps: &mut Steps<L>) -> Reply
         ensures replied { (store : StoreSeen) → IsReply (record { session = self.old.seen; store = store })
-            Command.Left (mark_of result) (record { session = self.new.seen; store = store }) (text_of result) }
-        ensures keeps { Keeps self.old Command.Left (mark_of result) self.new }
-        ensures takes { Takes self.old Command.Left (mark_of result) steps.old steps.new }
+            Command.Left (reply_mark result) (record { session = self.new.seen; store = store }) (reply_text result) }
+        ensures keeps { Keeps self.old Command.Left (reply_mark result) self.new }
+        ensures takes { Takes self.old Command.Left (reply_mark result) steps.old steps.new }
     {
         if let Err(Memory) = self.view.refresh(alloc, steps) {
             return Reply::Wanting;
@@ -467,9 +469,9 @@ impl Session {
     // Puts the cursor at the stop behind it.
     fn right<L: Ledger>(&mut self, alloc: Global, steps: &mut Steps<L>) -> Reply
         ensures replied { (store : StoreSeen) → IsReply (record { session = self.old.seen; store = store })
-            Command.Right (mark_of result) (record { session = self.new.seen; store = store }) (text_of result) }
-        ensures keeps { Keeps self.old Command.Right (mark_of result) self.new }
-        ensures takes { Takes self.old Command.Right (mark_of result) steps.old steps.new }
+            Command.Right (reply_mark result) (record { session = self.new.seen; store = store }) (reply_text result) }
+        ensures keeps { Keeps self.old Command.Right (reply_mark result) self.new }
+        ensures takes { Takes self.old Command.Right (reply_mark result) steps.old steps.new }
     {
         if let Err(Memory) = self.view.refresh(alloc, steps) {
             return Reply::Wanting;
@@ -488,7 +490,7 @@ impl Session {
         steps: &mut Steps<L>,
     ) -> Result<Next, WriteFault>
         requires { Prints command.now }
-        ensures said { (mark : Mark) × (reply : List ℕ)
+        ensures said { (mark : LineMark) × (reply : List ℕ)
             × ((store : StoreSeen) → IsReply (record { session = self.old.seen; store = store }) command.now mark
             (record { session = self.new.seen; store = store }) reply)
             × IsSaid result reply (O.seen out.old).written (O.seen out.new).written
@@ -511,7 +513,7 @@ impl Session {
         out: &mut O,
         steps: &mut Steps<L>,
     ) -> Result<Next, WriteFault>
-        ensures said { (mark : Mark) × (reply : List ℕ)
+        ensures said { (mark : LineMark) × (reply : List ℕ)
             × ((store : StoreSeen) → IsReply (record { session = self.old.seen; store = store }) Command.Work mark
             (record { session = self.new.seen; store = store }) reply)
             × IsSaid result reply (O.seen out.old).written (O.seen out.new).written
@@ -545,8 +547,8 @@ impl Session {
 
     // Saves the selected buffer's tree.
     fn save<S: Store>(&self, alloc: Global, name: &Name, store: &mut S) -> Reply
-        ensures saved { IsReply (seen_world self.now.seen (S.seen store.old)) (Command.Save name.now) (mark_of result)
-            (seen_world self.now.seen (S.seen store.new)) (text_of result) }
+        ensures saved { IsReply (seen_world self.now.seen (S.seen store.old)) (Command.Save name.now)
+            (reply_mark result) (seen_world self.now.seen (S.seen store.new)) (reply_text result) }
         ensures store_goes_on { StoreGoesOn (S.seen store.old) (S.seen store.new) }
         ensures store_untouched { saved_by self.now.seen.state (Command.Save name.now) ≡ None → store.new ≡ store.old }
     {
@@ -562,7 +564,7 @@ impl Session {
         out: &mut O,
         steps: &mut Steps<L>,
     ) -> Result<Next, WriteFault>
-        ensures replied { (mark : Mark) × (reply : List ℕ)
+        ensures replied { (mark : LineMark) × (reply : List ℕ)
             × IsReply (seen_world self.old.seen (S.seen store.old)) command.now mark
             (seen_world self.new.seen (S.seen store.new)) reply
             × IsSaid result reply (O.seen out.old).written (O.seen out.new).written
@@ -618,7 +620,7 @@ impl Session {
         out: &mut O,
         steps: &mut Steps<L>,
     ) -> Result<Next, WriteFault>
-        ensures replied { (mark : Mark) × (reply : List ℕ)
+        ensures replied { (mark : LineMark) × (reply : List ℕ)
             × IsReply (seen_world self.old.seen (S.seen store.old)) command.now mark
             (seen_world self.new.seen (S.seen store.new)) reply
             × IsSaid result reply (O.seen out.old).written (O.seen out.new).written

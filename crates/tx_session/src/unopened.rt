@@ -1,9 +1,9 @@
 // What a run writes where nothing was opened.
 ghost use Rattle.std.specs.Prelude.{◌≡◌, ◌++◌, IfOk};
-ghost use Rattle.tx_open.specs.Openings.{outcome_of};
+ghost use Rattle.tx_open.specs.Openings.{open_outcome};
 ghost use Rattle.tx_open.specs.Outcomes.{no_tree};
 ghost use Rattle.tx_print.specs.Lines.{line};
-ghost use Rattle.tx_session.specs.Outcomes.{status_of, text_of};
+ghost use Rattle.tx_session.specs.Outcomes.{status_of, outcome_text};
 
 use crate::fault_lines::line_of_fault;
 use crate::status::Status;
@@ -31,7 +31,7 @@ fn line_of(alloc: Global, word: &[u8], file: &[u8], rest: &[u8]) -> Result<Vec<u
 
 /// The status with which the run ends, or `Ok` where files were opened or a document was generated.
 pub(crate) fn status_of(opening: &Opening) -> Status
-    ensures { result ≡ status_of (outcome_of opening.now) }
+    ensures { result ≡ status_of (open_outcome opening.now) }
 {
     match opening {
         Opening::FaultyWords => Status::Words,
@@ -45,7 +45,7 @@ pub(crate) fn status_of(opening: &Opening) -> Status
 
 // The line that says why a file wasn't read.
 fn refused_line(alloc: Global, file: &[u8], fault: ReadFault) -> Result<Vec<u8>, Memory>
-    ensures { IfOk result (λ text. text.items ≡ text_of (no_tree file.now fault)) }
+    ensures { IfOk result (λ text. text.items ≡ outcome_text (no_tree file.now fault)) }
 {
     let mut words = Vec::from_slice(alloc, b"refused ")?;
     words.extend_from_slice(file)?;
@@ -55,7 +55,7 @@ fn refused_line(alloc: Global, file: &[u8], fault: ReadFault) -> Result<Vec<u8>,
 
 /// What the run writes where nothing was opened.
 pub(crate) fn text_of(alloc: Global, opening: &Opening) -> Result<Vec<u8>, Memory>
-    ensures { IfOk result (λ text. text.items ≡ text_of (outcome_of opening.now)) }
+    ensures { IfOk result (λ text. text.items ≡ outcome_text (open_outcome opening.now)) }
 {
     match opening {
         Opening::FaultyWords => Ok(Vec::from_slice(alloc, USAGE)?),

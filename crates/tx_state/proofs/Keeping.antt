@@ -10,10 +10,10 @@ use Rattle.tx_state.specs.declared.edits.Entry.{Entry}
 use Rattle.tx_state.specs.declared.edits.Prepared.{Prepared}
 use Rattle.tx_state.specs.declared.state.EditorState.TheInside.{Inside}
 use Rattle.tx_state.specs.States.{State}
-use Rattle.tx_state.specs.Edits.{undone, redone}
-use Rattle.tx_state.specs.Ready.{IsReady, IsReadyUndo, IsReadyRedo, with_edit, with_undo, with_redo}
-use Rattle.tx_state.specs.Entries.{led_to, kept_edits, undoes, redoes, AllLead}
-use Rattle.tx_state.specs.Kept.{state_of, IsKept}
+use Rattle.tx_state.specs.Edits.{undone_state, redone_state}
+use Rattle.tx_state.specs.Ready.{IsReadyChange, IsReadyUndo, IsReadyRedo, with_edit, with_undo, with_redo}
+use Rattle.tx_state.specs.Entries.{led_to, kept_edits, undoes, redoes, EntriesLead}
+use Rattle.tx_state.specs.Kept.{stored_state, IsKept}
 use Rattle.tx_state.proofs.Trees.{length_put, names_put}
 use Rattle.tx_state.proofs.Moments.{entry_of, newest_turned, edits_of_take, lead_of_take}
 use Rattle.tx_state.proofs.Turning.{IsLedBack, lead_back, undoes_back, redoes_back, turned_round}
@@ -26,7 +26,7 @@ pub record IsPut (s next : Inside) (p : Prepared) : Type 0 where
   pub cursor : next.cursor ≡ p.cursor
   pub depth : next.history.depth ≡ s.history.depth
 
-led : (s : Inside) (p : Prepared) → IsKept s → IsReady (state_of s) p
+led : (s : Inside) (p : Prepared) → IsKept s → IsReadyChange (stored_state s) p
     → IsLedBack s.buffers.items p.buffer p.tree p.back s.cursor
 led s p kept r = record { within = r.buffer; returns = r.back; place = kept.cursor }
 
@@ -34,10 +34,10 @@ led s p kept r = record { within = r.buffer; returns = r.back; place = kept.curs
 record IsNext (s next : Inside) (p : Prepared) (past future : List Entry) : Type 0 where
   done : reverse next.history.past ≡ past
   left : reverse next.history.future ≡ future
-  back : AllLead (with_tree s.buffers.items p.buffer p.tree) past
-  on : AllLead (with_tree s.buffers.items p.buffer p.tree) future
+  back : EntriesLead (with_tree s.buffers.items p.buffer p.tree) past
+  on : EntriesLead (with_tree s.buffers.items p.buffer p.tree) future
 
-next_kept : (s next : Inside) (p : Prepared) (past future : List Entry) → IsKept s → IsReady (state_of s) p
+next_kept : (s next : Inside) (p : Prepared) (past future : List Entry) → IsKept s → IsReadyChange (stored_state s) p
     → IsPut s next p → IsNext s next p past future → IsKept next
 next_kept s next p past future kept r put h =
     let bs : List Buffer = with_tree s.buffers.items p.buffer p.tree in
@@ -52,8 +52,8 @@ next_kept s next p past future kept r put h =
           (subst (λ n. n < length s.buffers.items) (sym put.selected) kept.selected);
       cursor = subst (λ d. IsPlace (document_of next.buffers.items) d.path d.offset) (sym put.cursor)
           (subst (λ cs. IsPlace (document_of cs) p.cursor.path p.cursor.offset) same r.cursor);
-      past = subst (AllLead next.buffers.items) (sym h.done) (subst (λ cs. AllLead cs past) same h.back);
-      future = subst (AllLead next.buffers.items) (sym h.left) (subst (λ cs. AllLead cs future) same h.on);
+      past = subst (EntriesLead next.buffers.items) (sym h.done) (subst (λ cs. EntriesLead cs past) same h.back);
+      future = subst (EntriesLead next.buffers.items) (sym h.left) (subst (λ cs. EntriesLead cs future) same h.on);
       depth = put.depth ∙ kept.depth;
     }
 
@@ -65,14 +65,14 @@ next_is : (s next : Inside) (p : Prepared) (past future : List Entry) → IsPut 
       past = kept_edits undoes (with_tree s.buffers.items p.buffer p.tree) past;
       future = kept_edits redoes (with_tree s.buffers.items p.buffer p.tree) future;
     }
-    ≡ state_of next
+    ≡ stored_state next
 next_is s next p past future put h =
     rw (put.buffers, put.selected, put.cursor, h.done, h.left) refl
 
-pub edit_kept : (s next : Inside) (p : Prepared) → IsKept s → IsReady (state_of s) p → IsPut s next p
+pub edit_kept : (s next : Inside) (p : Prepared) → IsKept s → IsReadyChange (stored_state s) p → IsPut s next p
     → next.history.past ≡ newest s.history.depth (s.history.past ++ entry_of p.buffer p.back s.cursor ∷ [])
     → next.history.future ≡ []
-    → IsKept next × (with_edit (state_of s) p ≡ state_of next)
+    → IsKept next × (with_edit (stored_state s) p ≡ stored_state next)
 edit_kept s next p kept r put was empty =
     let bs : List Buffer = s.buffers.items in
     let l = led s p kept r in
@@ -106,26 +106,26 @@ edit_kept s next p kept r put was empty =
           ∙ next_is s next p (take MOST_UNDO es) [] put h,
     )
 
-pub undo_kept : (s next : Inside) (p : Prepared) (e : Entry) (rest : List Entry) → IsKept s → IsReadyUndo (state_of s) p
-    → IsPut s next p
+pub undo_kept : (s next : Inside) (p : Prepared) (e : Entry) (rest : List Entry) → IsKept s
+    → IsReadyUndo (stored_state s) p → IsPut s next p
     → s.history.past ≡ rest ++ e ∷ [] → next.history.past ≡ rest
     → next.history.future ≡ s.history.future ++ entry_of p.buffer p.back s.cursor ∷ []
-    → IsKept next × (undone (state_of s) ≡ Some (state_of next))
+    → IsKept next × (undone_state (stored_state s) ≡ Some (stored_state next))
 undo_kept s next p e rest kept r put was past future =
     let bs : List Buffer = s.buffers.items in
     let l = led s p kept r.ready in
     let f : Entry = entry_of p.buffer p.back s.cursor in
     let first : reverse s.history.past ≡ e ∷ reverse rest = turned_round rest e s.history.past was in
-    let all : AllLead bs (e ∷ reverse rest) = subst (AllLead bs) first kept.past in
-    let goes : undone (state_of s) ≡ undone (seen_from s (e ∷ reverse rest)) =
-    ap (λ es. undone (seen_from s es)) first in
+    let all : EntriesLead bs (e ∷ reverse rest) = subst (EntriesLead bs) first kept.past in
+    let goes : undone_state (stored_state s) ≡ undone_state (seen_from s (e ∷ reverse rest)) =
+    ap (λ es. undone_state (seen_from s es)) first in
     let there : led_to bs e ≡ with_tree bs p.buffer p.tree =
-    ap (λ x. x.buffers) (same_state _ (with_undo (state_of s) p) (sym goes ∙ r.is)) in
+    ap (λ x. x.buffers) (same_state _ (with_undo (stored_state s) p) (sym goes ∙ r.is)) in
     let h : IsNext s next p (reverse rest) (f ∷ reverse s.history.future) =
     record {
       done = ap reverse past;
       left = turned_round s.history.future f next.history.future future;
-      back = subst (λ cs. AllLead cs (reverse rest)) there all.1;
+      back = subst (λ cs. EntriesLead cs (reverse rest)) there all.1;
       on = lead_back bs p.buffer p.tree p.back s.cursor (reverse s.history.future) l kept.future;
     } in
     let behind : drop 1 (kept_edits undoes bs (reverse s.history.past)) ≡ kept_edits undoes
@@ -166,26 +166,27 @@ undo_kept s next p e rest kept r put was past future =
               kept_edits redoes s.buffers.items (reverse s.history.future);
         }
 
-pub redo_kept : (s next : Inside) (p : Prepared) (e : Entry) (rest : List Entry) → IsKept s → IsReadyRedo (state_of s) p
-    → IsPut s next p
+pub redo_kept : (s next : Inside) (p : Prepared) (e : Entry) (rest : List Entry) → IsKept s
+    → IsReadyRedo (stored_state s) p → IsPut s next p
     → s.history.future ≡ rest ++ e ∷ [] → next.history.future ≡ rest
     → next.history.past ≡ s.history.past ++ entry_of p.buffer p.back s.cursor ∷ []
-    → IsKept next × (redone (state_of s) ≡ Some (state_of next))
+    → IsKept next × (redone_state (stored_state s) ≡ Some (stored_state next))
 redo_kept s next p e rest kept r put was future past =
     let bs : List Buffer = s.buffers.items in
     let l = led s p kept r.ready in
     let f : Entry = entry_of p.buffer p.back s.cursor in
     let first : reverse s.history.future ≡ e ∷ reverse rest = turned_round rest e s.history.future was in
-    let all : AllLead bs (e ∷ reverse rest) = subst (AllLead bs) first kept.future in
-    let goes : redone (state_of s) ≡ redone (seen_on s (e ∷ reverse rest)) = ap (λ es. redone (seen_on s es)) first in
+    let all : EntriesLead bs (e ∷ reverse rest) = subst (EntriesLead bs) first kept.future in
+    let goes : redone_state (stored_state s) ≡ redone_state (seen_on s (e ∷ reverse rest)) =
+    ap (λ es. redone_state (seen_on s es)) first in
     let there : led_to bs e ≡ with_tree bs p.buffer p.tree =
-    ap (λ x. x.buffers) (same_state _ (with_redo (state_of s) p) (sym goes ∙ r.is)) in
+    ap (λ x. x.buffers) (same_state _ (with_redo (stored_state s) p) (sym goes ∙ r.is)) in
     let h : IsNext s next p (f ∷ reverse s.history.past) (reverse rest) =
     record {
       done = turned_round s.history.past f next.history.past past;
       left = ap reverse future;
       back = lead_back bs p.buffer p.tree p.back s.cursor (reverse s.history.past) l kept.past;
-      on = subst (λ cs. AllLead cs (reverse rest)) there all.1;
+      on = subst (λ cs. EntriesLead cs (reverse rest)) there all.1;
     } in
     let behind : drop 1 (kept_edits redoes bs (reverse s.history.future)) ≡ kept_edits redoes
     (with_tree bs p.buffer p.tree) (reverse rest) =

@@ -15,7 +15,7 @@ use Rattle.std.specs.List.{position}
 use Rattle.std.proofs.lemmas.Grind.{common_steps}
 use Rattle.tx_tree.specs.declared.places.Place.{Place}
 use Rattle.tx_doc.specs.Bodies.{is_labelled, is_body, first_in, body_of}
-use Rattle.tx_state.specs.Cursors.{first_leaf, first_leaf_from, before, cursor_in, first_cursor}
+use Rattle.tx_state.specs.Cursors.{first_leaf, first_leaf_from, place_before, cursor_in, first_cursor}
 use Rattle.tx_tree.proofs.Walks.{item_shallower}
 
 -- a child without a leaf, and one with a leaf
@@ -148,7 +148,8 @@ in_subtree t s p (Some rest) h formed e = let found = leaf_leads s rest h in
     start_place t found.0 (p ++ rest) formed (subtree_on t s found.0 p rest e found.1)
 
 in_body : (t : WideTree) (o : Option (List ℕ)) → body_of t ≡ o → IsWellFormed t
-    → IsPlace t (option_map_or (cursor_in t) o (before [])).path (option_map_or (cursor_in t) o (before [])).offset
+    → IsPlace t (option_map_or (cursor_in t) o (place_before [])).path
+    (option_map_or (cursor_in t) o (place_before [])).offset
 in_body t None h formed = start_place t t [] formed refl
 in_body t (Some p) h formed =
     let found = body_leads t p h in

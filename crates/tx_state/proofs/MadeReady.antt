@@ -20,12 +20,12 @@ use Rattle.tx_state.specs.declared.edits.Entry.{Entry}
 use Rattle.tx_state.specs.declared.edits.Prepared.{Prepared}
 use Rattle.tx_state.specs.declared.state.EditorState.TheInside.{Inside}
 use Rattle.tx_state.specs.States.{State, KeptEdit, present}
-use Rattle.tx_state.specs.Edits.{edited, edited_to, cursor_after, with_outcome, GivesPlace, undone, redone}
-use Rattle.tx_state.specs.Ready.{IsReady, IsReadyUndo, IsReadyRedo, with_edit, with_undo, with_redo, cost_both_ways}
-use Rattle.tx_state.specs.Ready.{first_cost}
-use Rattle.tx_state.specs.Entries.{led_to, kept_edits, undoes, redoes, Leads, AllLead}
+use Rattle.tx_state.specs.Edits.{edited, edited_to, cursor_after, with_outcome, GivesPlace, undone_state, redone_state}
+use Rattle.tx_state.specs.Ready.{IsReadyChange, IsReadyUndo, IsReadyRedo, with_edit, with_undo, with_redo}
+use Rattle.tx_state.specs.Ready.{cost_both_ways, first_cost}
+use Rattle.tx_state.specs.Entries.{led_to, kept_edits, undoes, redoes, EntryLeads, EntriesLead}
 use Rattle.tx_state.specs.Changing.{IsPlaceIn, IsAlong}
-use Rattle.tx_state.specs.Kept.{state_of, IsKept}
+use Rattle.tx_state.specs.Kept.{stored_state, IsKept}
 use Rattle.tx_state.proofs.Trees.{tree_put, document_kept}
 use Rattle.tx_state.proofs.Moments.{led_there, kept_edit}
 use Rattle.tx_state.proofs.Turning.{turned_round}
@@ -81,7 +81,7 @@ valid_cursor s edit u (Some at) d given h = given
 
 pub made_ready : (s : State) (edit : Edit) (p : Prepared) (place : Option Place)
     → IsPlace (document_of s.buffers) s.cursor.path s.cursor.offset → GivesPlace edit s → IsMadeReady s edit p place
-    → IsReady s p × (p.cursor ≡ cursor_after edit s) × (edited edit s ≡ Ok (with_edit s p))
+    → IsReadyChange s p × (p.cursor ≡ cursor_after edit s) × (edited edit s ≡ Ok (with_edit s p))
 made_ready s edit p place at gives m =
     let zero_if : (edit.buffer == 0) ≡ true → edit.buffer ≡ 0 = λ t. eqb-true edit.buffer 0 t in
     let some_if : (edit.buffer == 0) ≡ false → 0 < edit.buffer = λ t.
@@ -119,7 +119,8 @@ along_there : (bs : List Buffer) (e : Entry) (p : Prepared) → IsAlong bs e p
     → led_to bs e ≡ with_tree bs p.buffer p.tree
 along_there bs e p a = led_there bs e p.tree a.tree ∙ ap (λ k. with_tree bs k p.tree) (sym a.buffer)
 
-along_ready : (s : State) (e : Entry) (p : Prepared) → Leads s.buffers e → IsAlong s.buffers e p → IsReady s p
+along_ready : (s : State) (e : Entry) (p : Prepared) → EntryLeads s.buffers e
+    → IsAlong s.buffers e p → IsReadyChange s p
 along_ready s e p leads a =
     record {
       buffer = rw a.buffer leads.buffer;
@@ -155,47 +156,47 @@ pub record IsRedoReady (s : State) (p : Prepared) : Type 0 where
 first_same : (x y : KeptEdit) (xs ys : List KeptEdit) → x ∷ xs ≡ y ∷ ys → x ≡ y
 first_same x y xs ys h = cc
 
-pub undo_leads : (s : Inside) (e : Entry) → IsKept s → last s.history.past ≡ Some e → Leads s.buffers.items e
-undo_leads s e kept h = let all : AllLead s.buffers.items (e ∷ (newest_of s.history.past e h).rest) =
-    subst (AllLead s.buffers.items) (newest_of s.history.past e h).is kept.past in all.0
+pub undo_leads : (s : Inside) (e : Entry) → IsKept s → last s.history.past ≡ Some e → EntryLeads s.buffers.items e
+undo_leads s e kept h = let all : EntriesLead s.buffers.items (e ∷ (newest_of s.history.past e h).rest) =
+    subst (EntriesLead s.buffers.items) (newest_of s.history.past e h).is kept.past in all.0
 
-pub redo_leads : (s : Inside) (e : Entry) → IsKept s → last s.history.future ≡ Some e → Leads s.buffers.items e
-redo_leads s e kept h = let all : AllLead s.buffers.items (e ∷ (newest_of s.history.future e h).rest) =
-    subst (AllLead s.buffers.items) (newest_of s.history.future e h).is kept.future in all.0
+pub redo_leads : (s : Inside) (e : Entry) → IsKept s → last s.history.future ≡ Some e → EntryLeads s.buffers.items e
+redo_leads s e kept h = let all : EntriesLead s.buffers.items (e ∷ (newest_of s.history.future e h).rest) =
+    subst (EntriesLead s.buffers.items) (newest_of s.history.future e h).is kept.future in all.0
 
 pub undo_cost : (s : Inside) (e : Entry) → IsKept s → last s.history.past ≡ Some e
-    → cost_both_ways e.mods ≡ first_cost (state_of s).past
+    → cost_both_ways e.mods ≡ first_cost (stored_state s).past
 undo_cost s e kept h =
     let leads = undo_leads s e kept h in
     ap (λ n. 2 * n) (sym (cost_back e.mods (tree_of s.buffers.items e.buffer) leads.applies.0 leads.applies.1))
     ∙ ap (λ es. first_cost (kept_edits undoes s.buffers.items es)) (sym (newest_of s.history.past e h).is)
 
 pub redo_cost : (s : Inside) (e : Entry) → IsKept s → last s.history.future ≡ Some e
-    → cost_both_ways e.mods ≡ first_cost (state_of s).future
+    → cost_both_ways e.mods ≡ first_cost (stored_state s).future
 redo_cost s e kept h =
     ap (λ es. first_cost (kept_edits redoes s.buffers.items es)) (sym (newest_of s.history.future e h).is)
 
 pub undo_ready : (s : Inside) (p : Prepared) (e : Entry) → IsKept s → last s.history.past ≡ Some e
-    → IsAlong s.buffers.items e p → IsUndoReady (state_of s) p
+    → IsAlong s.buffers.items e p → IsUndoReady (stored_state s) p
 undo_ready s p e kept h a =
     let bs : List Buffer = s.buffers.items in
     let n = newest_of s.history.past e h in
     let es : List Entry = n.rest in
-    let all : AllLead bs (e ∷ es) = subst (AllLead bs) n.is kept.past in
+    let all : EntriesLead bs (e ∷ es) = subst (EntriesLead bs) n.is kept.past in
     let there = along_there bs e p a in
     let t : WideTree = tree_of bs e.buffer in
-    let now : KeptEdit = record { moment = present (state_of s); buffer = e.buffer; mods = undoes bs e } in
-    let future : List KeptEdit = (state_of s).future in
+    let now : KeptEdit = record { moment = present (stored_state s); buffer = e.buffer; mods = undoes bs e } in
+    let future : List KeptEdit = (stored_state s).future in
     let behind : kept_edits undoes (led_to bs e) es ≡ drop 1 (kept_edits undoes bs (reverse s.history.past)) =
     ap (λ xs. drop 1 (kept_edits undoes bs xs)) (sym n.is) in
-    let turned_is : now ≡ record { moment = present (state_of s); buffer = p.buffer; mods = p.back } =
-    ap (λ k. record { moment = present (state_of s); buffer = k; mods = undoes bs e }) (sym a.buffer)
-    ∙ ap (λ ms. record { moment = present (state_of s); buffer = p.buffer; mods = ms }) (sym a.back) in
+    let turned_is : now ≡ record { moment = present (stored_state s); buffer = p.buffer; mods = p.back } =
+    ap (λ k. record { moment = present (stored_state s); buffer = k; mods = undoes bs e }) (sym a.buffer)
+    ∙ ap (λ ms. record { moment = present (stored_state s); buffer = p.buffer; mods = ms }) (sym a.back) in
     record {
       ready = record {
-        ready = along_ready (state_of s) e p all.0 a;
+        ready = along_ready (stored_state s) e p all.0 a;
         is = ap (λ xs.
-            undone (record {
+            undone_state (record {
               buffers = bs;
               selected = s.selected;
               cursor = s.cursor;
@@ -250,25 +251,25 @@ undo_ready s p e kept h a =
     }
 
 pub redo_ready : (s : Inside) (p : Prepared) (e : Entry) → IsKept s → last s.history.future ≡ Some e
-    → IsAlong s.buffers.items e p → IsRedoReady (state_of s) p
+    → IsAlong s.buffers.items e p → IsRedoReady (stored_state s) p
 redo_ready s p e kept h a =
     let bs : List Buffer = s.buffers.items in
     let n = newest_of s.history.future e h in
     let es : List Entry = n.rest in
-    let all : AllLead bs (e ∷ es) = subst (AllLead bs) n.is kept.future in
+    let all : EntriesLead bs (e ∷ es) = subst (EntriesLead bs) n.is kept.future in
     let there = along_there bs e p a in
-    let now : KeptEdit = record { moment = present (state_of s); buffer = e.buffer; mods = e.mods } in
-    let past : List KeptEdit = (state_of s).past in
+    let now : KeptEdit = record { moment = present (stored_state s); buffer = e.buffer; mods = e.mods } in
+    let past : List KeptEdit = (stored_state s).past in
     let behind : kept_edits redoes (led_to bs e) es ≡ drop 1 (kept_edits redoes bs (reverse s.history.future)) =
     ap (λ xs. drop 1 (kept_edits redoes bs xs)) (sym n.is) in
-    let turned_is : now ≡ record { moment = present (state_of s); buffer = p.buffer; mods = p.mods } =
-    ap (λ k. record { moment = present (state_of s); buffer = k; mods = e.mods }) (sym a.buffer)
-    ∙ ap (λ ms. record { moment = present (state_of s); buffer = p.buffer; mods = ms }) (sym a.mods) in
+    let turned_is : now ≡ record { moment = present (stored_state s); buffer = p.buffer; mods = p.mods } =
+    ap (λ k. record { moment = present (stored_state s); buffer = k; mods = e.mods }) (sym a.buffer)
+    ∙ ap (λ ms. record { moment = present (stored_state s); buffer = p.buffer; mods = ms }) (sym a.mods) in
     record {
       ready = record {
-        ready = along_ready (state_of s) e p all.0 a;
+        ready = along_ready (stored_state s) e p all.0 a;
         is = ap (λ xs.
-            redone (record {
+            redone_state (record {
               buffers = bs;
               selected = s.selected;
               cursor = s.cursor;
@@ -318,26 +319,26 @@ redo_ready s p e kept h a =
     }
 
 -- where there is no entry there is no edit
-pub no_undo : (s : Inside) → last s.history.past ≡ None → undone (state_of s) ≡ None
+pub no_undo : (s : Inside) → last s.history.past ≡ None → undone_state (stored_state s) ≡ None
 no_undo s h =
-    ap (λ xs. undone
+    ap (λ xs. undone_state
     (record {
       buffers = s.buffers.items;
       selected = s.selected;
       cursor = s.cursor;
       past = kept_edits undoes s.buffers.items (reverse xs);
-      future = (state_of s).future;
+      future = (stored_state s).future;
     }))
     (without_last s.history.past h)
 
-pub no_redo : (s : Inside) → last s.history.future ≡ None → redone (state_of s) ≡ None
+pub no_redo : (s : Inside) → last s.history.future ≡ None → redone_state (stored_state s) ≡ None
 no_redo s h =
-    ap (λ xs. redone
+    ap (λ xs. redone_state
     (record {
       buffers = s.buffers.items;
       selected = s.selected;
       cursor = s.cursor;
-      past = (state_of s).past;
+      past = (stored_state s).past;
       future =
           kept_edits redoes s.buffers.items (reverse xs);
     })) (without_last s.history.future h)

@@ -14,7 +14,7 @@ use Rattle.tx_history.specs.Lists.{newest}
 use Rattle.tx_state.specs.declared.edits.Entry.{Entry}
 use Rattle.tx_doc.specs.declared.buffer.Buffer.{Buffer}
 use Rattle.tx_doc.specs.Buffers.{tree_of, with_tree}
-use Rattle.tx_state.specs.Entries.{led_to, kept_edits, undoes, redoes, AllLead}
+use Rattle.tx_state.specs.Entries.{led_to, kept_edits, undoes, redoes, EntriesLead}
 use Rattle.tx_state.specs.States.{KeptEdit}
 use Rattle.tx_state.proofs.Trees.{tree_put, put_back}
 
@@ -63,7 +63,7 @@ edits_of_take how zero bs es = refl
 edits_of_take how (suc n) bs [] = refl
 edits_of_take how (suc n) bs (e ∷ es) = ap (λ ks. kept_edit how bs e ∷ ks) (edits_of_take how n (led_to bs e) es)
 
-pub lead_of_take : (n : ℕ) (bs : List Buffer) (es : List Entry) → AllLead bs es → AllLead bs (take n es)
+pub lead_of_take : (n : ℕ) (bs : List Buffer) (es : List Entry) → EntriesLead bs es → EntriesLead bs (take n es)
 lead_of_take zero bs es h = tt
 lead_of_take (suc n) bs [] h = tt
 lead_of_take (suc n) bs (e ∷ es) h = (h.0, lead_of_take n (led_to bs e) es h.1)

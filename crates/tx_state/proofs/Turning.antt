@@ -11,7 +11,7 @@ use Rattle.tx_doc.specs.declared.buffer.Buffer.{Buffer}
 use Rattle.tx_doc.specs.Buffers.{tree_of, with_tree, document_of}
 use Rattle.tx_state.specs.declared.edits.Entry.{Entry}
 use Rattle.tx_state.specs.States.{KeptEdit}
-use Rattle.tx_state.specs.Entries.{led_to, kept_edits, undoes, redoes, AllLead}
+use Rattle.tx_state.specs.Entries.{led_to, kept_edits, undoes, redoes, EntriesLead}
 use Rattle.tx_state.proofs.Trees.{tree_put, length_put}
 use Rattle.tx_state.proofs.Moments.{How, entry_of, led_back}
 
@@ -22,8 +22,8 @@ pub record IsLedBack (bs : List Buffer) (k : ℕ) (u : WideTree) (back : List Mo
   pub place : IsPlace (document_of bs) c.path c.offset
 
 pub lead_back : (bs : List Buffer) (k : ℕ) (u : WideTree) (back : List Mod) (c : Place) (es : List Entry)
-    → IsLedBack bs k u back c → AllLead bs es
-    → AllLead (with_tree bs k u) (entry_of k back c ∷ es)
+    → IsLedBack bs k u back c → EntriesLead bs es
+    → EntriesLead (with_tree bs k u) (entry_of k back c ∷ es)
 lead_back bs k u back c es h all =
     let there : led_to (with_tree bs k u) (entry_of k back c) ≡ bs = led_back bs k u back c h.within h.returns in (
       record {
@@ -31,7 +31,7 @@ lead_back bs k u back c es h all =
         applies = (tree_of bs k, (ap (changed_in_turn back) (tree_put bs k u h.within) ∙ h.returns));
         cursor = subst (λ cs. IsPlace (document_of cs) c.path c.offset) (sym there) h.place;
       },
-      subst (λ cs. AllLead cs es) (sym there) all,
+      subst (λ cs. EntriesLead cs es) (sym there) all,
     )
 
 -- the edits behind an entry that leads back

@@ -17,13 +17,13 @@ abbrev mutual
   first_leaf_from k nil = None
   first_leaf_from k (cons t ts) = option_map_or (λ path. Some (k ∷ path)) (first_leaf t) (first_leaf_from (k + 1) ts)
 
-abbrev pub before : List ℕ → Place
-before path = record { path = path; offset = 0 }
+abbrev pub place_before : List ℕ → Place
+place_before path = record { path = path; offset = 0 }
 
 -- before the first leaf of the subtree at this path, or before the subtree where it has no leaf
 abbrev pub cursor_in : WideTree → List ℕ → Place
-cursor_in t path = before (path ++ option_map_or (λ s. unwrap_or (first_leaf s) []) (subtree t path) [])
+cursor_in t path = place_before (path ++ option_map_or (λ s. unwrap_or (first_leaf s) []) (subtree t path) [])
 
 -- before the first leaf of the body, or the body; before the root where there is no body
 abbrev pub first_cursor : WideTree → Place
-first_cursor t = option_map_or (cursor_in t) (body_of t) (before [])
+first_cursor t = option_map_or (cursor_in t) (body_of t) (place_before [])

@@ -70,20 +70,20 @@ abbrev pub back_to : State → List KeptEdit → Option State
 back_to state [] = None
 back_to state (kept ∷ past) = Some (at_moment state kept past (turned state kept ∷ state.future))
 
-abbrev pub undone : State → Option State
-undone state = back_to state state.past
+abbrev pub undone_state : State → Option State
+undone_state state = back_to state state.past
 
 -- the edit that was taken back last is made again, if there is one
 abbrev pub on_to : State → List KeptEdit → Option State
 on_to state [] = None
 on_to state (kept ∷ future) = Some (at_moment state kept (turned state kept ∷ state.past) future)
 
-abbrev pub redone : State → Option State
-redone state = on_to state state.future
+abbrev pub redone_state : State → Option State
+redone_state state = on_to state state.future
 
 -- the cursor goes to a place of the document, which the numbers name, the offset last
-abbrev pub Goes : State → List ℕ → State → Type 0
-Goes state numbers next =
+abbrev pub CursorGoes : State → List ℕ → State → Type 0
+CursorGoes state numbers next =
     (path : List ℕ) × (offset : ℕ) × (numbers ≡ path ++ offset ∷ []) × IsPlace (document_of state.buffers) path offset
     × (next ≡ record state { cursor = place path offset })
 

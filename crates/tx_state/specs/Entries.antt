@@ -33,12 +33,12 @@ kept_edits mods buffers (entry ∷ entries) =
     } ∷ kept_edits mods (led_to buffers entry) entries
 
 -- the modifications of an entry apply, and its cursor is a place of the document that it leads to
-pub record Leads (buffers : List Buffer) (entry : Entry) : Type 0 where
+pub record EntryLeads (buffers : List Buffer) (entry : Entry) : Type 0 where
   pub buffer : entry.buffer < length buffers
   pub applies : (u : WideTree) × (changed_in_turn entry.mods (tree_of buffers entry.buffer) ≡ Ok u)
   pub cursor : IsPlace (document_of (led_to buffers entry)) entry.cursor.path entry.cursor.offset
 
 -- the same of all entries, one after the other
-abbrev pub AllLead : List Buffer → List Entry → Type 0
-AllLead buffers [] = Unit {0}
-AllLead buffers (entry ∷ entries) = Leads buffers entry × AllLead (led_to buffers entry) entries
+abbrev pub EntriesLead : List Buffer → List Entry → Type 0
+EntriesLead buffers [] = Unit {0}
+EntriesLead buffers (entry ∷ entries) = EntryLeads buffers entry × EntriesLead (led_to buffers entry) entries

@@ -6,12 +6,12 @@ use Rattle.tx_mod.specs.declared.mods.Mod.{Mod}
 use Rattle.tx_mod.specs.InTurn.{changed_in_turn, inverses_of, cost_of}
 use Rattle.tx_doc.specs.Buffers.{tree_of, with_tree, document_of}
 use Rattle.tx_state.specs.declared.edits.Prepared.{Prepared}
-use Rattle.tx_state.specs.Edits.{edited_to, undone, redone}
+use Rattle.tx_state.specs.Edits.{edited_to, undone_state, redone_state}
 use Rattle.tx_state.specs.States.{State, KeptEdit, present}
 
 -- What stands ready leads from the state: its modifications make its tree of the buffer's tree, those that lead back
 -- are their inverses and are undone by them, and its cursor is a place of the document afterwards.
-pub record IsReady (state : State) (p : Prepared) : Type 0 where
+pub record IsReadyChange (state : State) (p : Prepared) : Type 0 where
   pub buffer : p.buffer < length state.buffers
   pub tree : changed_in_turn p.mods (tree_of state.buffers p.buffer) ≡ Ok p.tree
   pub inverses : p.back ≡ inverses_of p.mods (tree_of state.buffers p.buffer)
@@ -47,12 +47,12 @@ with_redo state p =
 
 -- what stands ready is the undo, or the redo, of this state
 pub record IsReadyUndo (state : State) (p : Prepared) : Type 0 where
-  pub ready : IsReady state p
-  pub is : undone state ≡ Some (with_undo state p)
+  pub ready : IsReadyChange state p
+  pub is : undone_state state ≡ Some (with_undo state p)
 
 pub record IsReadyRedo (state : State) (p : Prepared) : Type 0 where
-  pub ready : IsReady state p
-  pub is : redone state ≡ Some (with_redo state p)
+  pub ready : IsReadyChange state p
+  pub is : redone_state state ≡ Some (with_redo state p)
 
 -- the steps that are allowed for a change and its inverses along all paths
 abbrev pub cost_both_ways : List Mod → ℕ

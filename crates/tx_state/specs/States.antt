@@ -7,14 +7,14 @@ use Rattle.tx_doc.specs.declared.buffer.Buffer.{Buffer}
 use Rattle.tx_state.specs.Cursors.{first_cursor}
 
 -- all buffers, whole, and the cursor in buffer 0
-pub record Moment : Type 0 where
+pub record StateMoment : Type 0 where
   pub buffers : List Buffer
   pub cursor : Place
 
 -- An edit that can be taken back, with the moment before it, or one that can be made again, with the moment behind it:
 -- the buffer that it changes, and its modifications.
 pub record KeptEdit : Type 0 where
-  pub moment : Moment
+  pub moment : StateMoment
   pub buffer : ℕ
   pub mods : List Mod
 
@@ -27,10 +27,10 @@ pub record State : Type 0 where
   pub past : List KeptEdit
   pub future : List KeptEdit
 
-abbrev pub present : State → Moment
+abbrev pub present : State → StateMoment
 present state = record { buffers = state.buffers; cursor = state.cursor }
 
 -- a session begins with these buffers, the document selected
-abbrev pub opening : List Buffer → State
-opening buffers =
+abbrev pub opening_state : List Buffer → State
+opening_state buffers =
     record { buffers = buffers; selected = 0; cursor = first_cursor (document_of buffers); past = []; future = [] }

@@ -1,7 +1,7 @@
 // Where the cursor stands at first.
 ghost use Rattle.std.specs.Prelude.{◌≡◌, ◌++◌, ℕ, List, IfOk, Some, None, Bool, true, false};
 ghost use Rattle.tx_state.specs.Cursors.{first_leaf, first_cursor};
-ghost use Rattle.tx_state.specs.Walks.{GoesOn};
+ghost use Rattle.tx_state.specs.Walks.{WalkGoesOn};
 
 use std::alloc::Global;
 use tx_base::Memory;
@@ -11,7 +11,7 @@ use tx_tree::{Path, Place, Tree};
 #[tactic(auto, using(crate::proofs::Leaves::leaf_rules))]
 // Goes on down the tree to its first leaf, if it has one.
 fn to_first_leaf(t: &Tree, path: &mut Path) -> Result<bool, Memory>
-    ensures { IfOk result (λ found. GoesOn (first_leaf t.now) found path.old path.new) }
+    ensures { IfOk result (λ found. WalkGoesOn (first_leaf t.now) found path.old path.new) }
 {
     let _arity = t.arity();
     let Some(_label) = t.label() else {

@@ -3,7 +3,7 @@ ghost use Rattle.std.specs.Prelude.{◌≡◌, ◌≤◌, ◌+◌, ◌<◌, IfOk
 ghost use Rattle.std.specs.Option.{option_map_or};
 ghost use Rattle.tx_mod.specs.InTurn.{changed_in_turn, inverses_of, AreUndone};
 ghost use Rattle.tx_doc.specs.Buffers.{tree_of};
-ghost use Rattle.tx_state.specs.Entries.{Leads};
+ghost use Rattle.tx_state.specs.Entries.{EntryLeads};
 ghost use Rattle.tx_state.specs.Changing.{IsAlong};
 ghost use Rattle.tx_state.specs.Ready.{cost_both_ways};
 
@@ -68,7 +68,7 @@ pub(crate) fn step_along<L: Ledger>(
     entry: &Entry,
     steps: &mut Steps<L>,
 ) -> Result<Prepared, Memory>
-    requires { Leads buffers.now entry.now }
+    requires { EntryLeads buffers.now entry.now }
     ensures along { IfOk result (IsAlong buffers.now entry.now) }
     ensures counted { steps.new ≤ steps.old + cost_both_ways entry.now.mods }
 {

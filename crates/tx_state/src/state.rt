@@ -10,9 +10,10 @@ ghost use Rattle.tx_tree.specs.declared.faults.PlaceFault.{PlaceFault as PlaceCa
 ghost use Rattle.tx_doc.specs.Buffers.{document_of, tree_of, with_tree, number_of, NamesDiffer, AreFormed};
 ghost use Rattle.tx_state.specs.declared.faults.GoFault.{GoFault};
 ghost use Rattle.tx_state.specs.declared.faults.UndoFault.{UndoFault};
-ghost use Rattle.tx_state.specs.States.{KeptEdit, opening};
-ghost use Rattle.tx_state.specs.Edits.{edited, undone, redone, cursor_after, GivesPlace, Goes, IsAstray, Selects};
-ghost use Rattle.tx_state.specs.Ready.{IsReady, IsReadyUndo, IsReadyRedo, with_edit, cost_both_ways, first_cost};
+ghost use Rattle.tx_state.specs.States.{KeptEdit, opening_state};
+ghost use Rattle.tx_state.specs.Edits.{edited, undone_state, redone_state, cursor_after, GivesPlace, CursorGoes};
+ghost use Rattle.tx_state.specs.Edits.{IsAstray, Selects};
+ghost use Rattle.tx_state.specs.Ready.{IsReadyChange, IsReadyUndo, IsReadyRedo, with_edit, cost_both_ways, first_cost};
 
 use crate::changing::change_in_turn;
 use crate::cursors::first_cursor;
@@ -48,11 +49,11 @@ impl Model for EditorState {
 
     ghost Value = { State };
 
-    ghost use Rattle.tx_state.specs.Kept.{state_code, state_of, IsKept};
+    ghost use Rattle.tx_state.specs.Kept.{state_code, stored_state, IsKept};
 
     ghost coded = { state_code };
 
-    ghost view = { state_of };
+    ghost view = { stored_state };
 
     ghost invariant = { IsKept };
 }
@@ -84,7 +85,7 @@ impl EditorState {
         requires some { 1 ≤ length buffers.items }
         requires few { length buffers.items ≤ MOST_BUFFERS }
         requires names { NamesDiffer buffers.items }
-        ensures { IfOk result (λ state. state ≡ opening buffers.items) }
+        ensures { IfOk result (λ state. state ≡ opening_state buffers.items) }
     {
         let document = &buffers[0].tree;
         let _size = document.size();
@@ -173,7 +174,7 @@ impl EditorState {
     ) -> Result<Prepared, ApplyFault>
         requires buffer { edit.buffer < length self.now.buffers }
         requires cursor { GivesPlace edit self.now }
-        ensures ready { IfOk result (IsReady self.now) }
+        ensures ready { IfOk result (IsReadyChange self.now) }
         ensures edit { IfOk result (λ p.
             (p.buffer ≡ edit.buffer) × (p.mods ≡ edit.mods) × (p.cursor ≡ cursor_after edit self.now)) }
         ensures ok { IfOk result (λ p. edited edit self.now ≡ Ok (with_edit self.now p)) }
@@ -202,7 +203,7 @@ impl EditorState {
     /// Puts an edit in place that was made ready for this state, and answers the buffer's former tree. It takes no
     /// memory. The moment before can be undone, of the last 1,000, and what was undone can't be redone any more.
     pub fn finish_edit(&mut self, prepared: Prepared) -> Tree
-        requires { IsReady self.old prepared }
+        requires { IsReadyChange self.old prepared }
         ensures done { self.new ≡ with_edit self.old prepared }
         ensures former { result ≡ tree_of self.old.buffers prepared.buffer }
     {
@@ -233,7 +234,7 @@ impl EditorState {
         ensures ready { IfOk result (IsReadyUndo self.now) }
         ensures inverses { IfOk result (λ p. (e : KeptEdit) (past : List KeptEdit) → self.now.past ≡ e ∷ past
             → (p.buffer ≡ e.buffer) × (p.mods ≡ inverses_of e.mods (tree_of e.moment.buffers e.buffer))) }
-        ensures nothing { result ≡ Err UndoFault.Nothing → undone self.now ≡ None }
+        ensures nothing { result ≡ Err UndoFault.Nothing → undone_state self.now ≡ None }
         ensures counted { steps.new ≤ steps.old + first_cost self.now.past }
     {
         match self.history.last_done() {
@@ -246,7 +247,7 @@ impl EditorState {
     /// former tree. It takes no memory. Buffers and cursor are those before the edit.
     pub fn finish_undo(&mut self, prepared: Prepared) -> Tree
         requires { IsReadyUndo self.old prepared }
-        ensures done { undone self.old ≡ Some self.new }
+        ensures done { undone_state self.old ≡ Some self.new }
         ensures former { result ≡ tree_of self.old.buffers prepared.buffer }
     {
         let _len = self.history.len();
@@ -279,7 +280,7 @@ impl EditorState {
         ensures ready { IfOk result (IsReadyRedo self.now) }
         ensures same { IfOk result (λ p. (e : KeptEdit) (future : List KeptEdit) → self.now.future ≡ e ∷ future
             → (p.buffer ≡ e.buffer) × (p.mods ≡ e.mods)) }
-        ensures nothing { result ≡ Err UndoFault.Nothing → redone self.now ≡ None }
+        ensures nothing { result ≡ Err UndoFault.Nothing → redone_state self.now ≡ None }
         ensures counted { steps.new ≤ steps.old + first_cost self.now.future }
     {
         match self.history.last_undone() {
@@ -292,7 +293,7 @@ impl EditorState {
     /// tree. It takes no memory.
     pub fn finish_redo(&mut self, prepared: Prepared) -> Tree
         requires { IsReadyRedo self.old prepared }
-        ensures done { redone self.old ≡ Some self.new }
+        ensures done { redone_state self.old ≡ Some self.new }
         ensures former { result ≡ tree_of self.old.buffers prepared.buffer }
     {
         let _len = self.history.len();
@@ -326,7 +327,7 @@ impl EditorState {
     /// Puts the cursor at the place that these numbers name, of which the last one is the offset. Without a number
     /// there is no place (`NoPath(0)`). After an error the state is as before.
     pub fn go(&mut self, alloc: Global, numbers: &Path) -> Result<(), GoFault>
-        ensures ok { OnOk result (Goes self.old numbers.now self.new) }
+        ensures ok { OnOk result (CursorGoes self.old numbers.now self.new) }
         ensures astray { IfErr result (λ fault.
             (cause : PlaceCause) → fault ≡ GoFault.Astray cause → IsAstray self.old numbers.now cause) }
         ensures kept { OnErr result (self.new ≡ self.old) }

@@ -8,7 +8,7 @@ use Rattle.std.proofs.lemmas.Str.Pattern.{IsSplitOnceResult, split_after, split_
 use Rattle.tx_tree.specs.PathSpelling.{is_digit}
 use Rattle.tx_words.specs.declared.asked.Source.{Source}
 use Rattle.tx_words.specs.declared.asked.Source.TheVariants.{Files, Generated}
-use Rattle.tx_words.specs.Words.{Generates, IsNumberIn, IsSource, MayOpen, is_generator, named}
+use Rattle.tx_words.specs.Words.{Generates, IsNumberIn, IsSource, MayOpen, is_generator, named_file}
 
 abbrev gen : List ℕ
 gen = codes "gen:"
@@ -124,7 +124,7 @@ no_generator word number count e g =
 
 -- files that may not be opened
 pub not_opened : (word : List ℕ) (styles : List (List ℕ)) (source : Source) → is_generator word ≡ false
-    → (MayOpen (map named (word ∷ styles)) → ⊥) → IsSource (Some word) styles source → ⊥
+    → (MayOpen (map named_file (word ∷ styles)) → ⊥) → IsSource (Some word) styles source → ⊥
 not_opened word styles (Files files) e closed h = closed (subst MayOpen h.1 h.2)
 not_opened word styles (Generated number count) e closed h = no_generator word number count e h.0
 

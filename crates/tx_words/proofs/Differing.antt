@@ -6,7 +6,7 @@ use Rattle.std.specs.Str.{bytes_eq}
 use Rattle.std.proofs.lemmas.List.{drop_more, take_all, length-drop}
 use Rattle.std.proofs.lemmas.Slice.Eq.{bytes_eq-Decides}
 use Rattle.tx_words.specs.declared.asked.FileWord.{FileWord}
-use Rattle.tx_words.specs.Words.{Named, NamesDiffer}
+use Rattle.tx_words.specs.Words.{Named, AreNamedApart}
 use Rattle.tx_words.specs.Seen.{named_of}
 
 -- what is asked of the first and of the others is asked of the others, where it holds of the first
@@ -53,12 +53,12 @@ behind files k = take_all (length files - k) (drop k files) (omega (arith, lengt
 -- the name of the file at the place stands behind it too
 pub shared_at : (A : Type 0) (files : List FileWord) (i : ℕ) (d : FileWord) → i < length files
     → (IsFree (get_or files i d).name.now (map named_of (take (length files - (i + 1)) (drop (i + 1) files))) → ⊥)
-    → (NamesDiffer (map named_of (drop i files)) ↔ A) → A → ⊥
+    → (AreNamedApart (map named_of (drop i files)) ↔ A) → A → ⊥
 shared_at A files i d lt shared h =
-    first_fails (λ free. shared (rw (behind files (i + 1)) free)) (one_more NamesDiffer A files i d lt h)
+    first_fails (λ free. shared (rw (behind files (i + 1)) free)) (one_more AreNamedApart A files i d lt h)
 
 -- the name of the file at the place is its own
 pub own_at : (A : Type 0) (files : List FileWord) (i : ℕ) (d : FileWord) → i < length files
     → IsFree (get_or files i d).name.now (map named_of (take (length files - (i + 1)) (drop (i + 1) files)))
-    → (NamesDiffer (map named_of (drop i files)) ↔ A) → (NamesDiffer (map named_of (drop (i + 1) files)) ↔ A)
-own_at A files i d lt own h = first_holds (rw (behind files (i + 1)) at own) (one_more NamesDiffer A files i d lt h)
+    → (AreNamedApart (map named_of (drop i files)) ↔ A) → (AreNamedApart (map named_of (drop (i + 1) files)) ↔ A)
+own_at A files i d lt own h = first_holds (rw (behind files (i + 1)) at own) (one_more AreNamedApart A files i d lt h)

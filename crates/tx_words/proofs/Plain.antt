@@ -18,8 +18,8 @@ use Rattle.clap.specs.declared.parser.matches.ValueSource.TheVariants.{CommandLi
 use Rattle.clap.proofs.TakesLemmas.{leaf_takes}
 use Rattle.tx_words.specs.declared.asked.Source.{Source}
 use Rattle.tx_words.specs.declared.asked.Source.TheVariants.{Files, Generated}
-use Rattle.tx_words.specs.Words.{Ask, Generates, IsSource, MayOpen, RowsAsk, is_generator, named, styles_in, tmx}
-use Rattle.tx_words.specs.Plain.{is_plain}
+use Rattle.tx_words.specs.Words.{Ask, Generates, IsSource, MayOpen, RowsAsk, is_generator, named_file, styles_in, tmx}
+use Rattle.tx_words.specs.Plain.{is_plain_word}
 
 abbrev shape : Shape
 shape = (built tmx).top
@@ -29,7 +29,7 @@ rules = (built tmx).top.rules
 
 -- ---- one word
 
-plain_facts : (word : Text) → is_plain word ≡ true
+plain_facts : (word : Text) → is_plain_word word ≡ true
     → (bytes_eq word (45 ∷ 45 ∷ []) ≡ false) × (long_of word ≡ None) × (short_of word ≡ None)
 plain_facts [] e = (refl, refl, refl)
 plain_facts (b ∷ bs) e = go (b == 45) e
@@ -41,7 +41,7 @@ plain_facts (b ∷ bs) e = go (b == 45) e
     go true e = absurd cc
     go false e = (refl, refl, refl)
 
-met_plain : (waiting : Waiting) (position : ℕ) (word : Text) (h : Held) → is_plain word ≡ true
+met_plain : (waiting : Waiting) (position : ℕ) (word : Text) (h : Held) → is_plain_word word ≡ true
     → subcommand_or_other rules None waiting position word h ≡ plain_word rules waiting word h
 met_plain waiting position word h e =
     let f = plain_facts word e in
@@ -49,7 +49,7 @@ met_plain waiting position word h e =
     ∙ ap (λ (o : Option (Text × Option Text)). long_or_other rules waiting word o h) f.1
     ∙ ap (λ (o : Option Text). short_or_plain rules waiting word o h) f.2
 
-passes_plain : (word : Text) (h : Held) → is_plain word ≡ true → other_passes shape None word h ≡ true
+passes_plain : (word : Text) (h : Held) → is_plain_word word ≡ true → other_passes shape None word h ≡ true
 passes_plain word h e =
     let f = plain_facts word e in
     ap (λ (b : Bool). b || flag_word_passes rules false (long_of word) word h) f.0
@@ -90,18 +90,18 @@ many file before last = record {
   stopped = None;
 }
 
-first_step : (file : Text) → is_plain file ≡ true → walked rules [] (walk_from nothing_held) file ≡ first file
+first_step : (file : Text) → is_plain_word file ≡ true → walked rules [] (walk_from nothing_held) file ≡ first file
 unfolding walked
 first_step file e =
     ap (λ (p : Held × Step). after_step rules file (walk_from nothing_held) p.0 p.1)
     (met_plain idle 1 file nothing_held e)
 
-second_step : (file word : Text) → is_plain word ≡ true → walked rules [] (first file) word ≡ many file [] word
+second_step : (file word : Text) → is_plain_word word ≡ true → walked rules [] (first file) word ≡ many file [] word
 unfolding walked
 second_step file word e =
     ap (λ (p : Held × Step). after_step rules word (first file) p.0 p.1) (met_plain idle 2 word (first file).held e)
 
-next_step : (file : Text) (before : List Text) (last word : Text) → is_plain word ≡ true
+next_step : (file : Text) (before : List Text) (last word : Text) → is_plain_word word ≡ true
     → walked rules [] (many file before last) word ≡ many file (before ++ last ∷ []) word
 unfolding walked
 next_step file [] last word e =
@@ -111,17 +111,17 @@ next_step file (d ∷ ds) last word e =
     ap (λ (p : Held × Step). after_step rules word (many file (d ∷ ds) last) p.0 p.1)
     (met_plain positional 2 word (many file (d ∷ ds) last).held e)
 
-first_turn : (file : Text) → is_plain file ≡ true → turn_passes shape [] (walk_from nothing_held) file ≡ true
+first_turn : (file : Text) → is_plain_word file ≡ true → turn_passes shape [] (walk_from nothing_held) file ≡ true
 first_turn file e =
     and_from _ _ (passes_plain file nothing_held e)
     (ap (λ (p : Held × Step). step_passes shape 1 p.0 p.1) (met_plain idle 1 file nothing_held e))
 
-second_turn : (file word : Text) → is_plain word ≡ true → turn_passes shape [] (first file) word ≡ true
+second_turn : (file word : Text) → is_plain_word word ≡ true → turn_passes shape [] (first file) word ≡ true
 second_turn file word e =
     and_from _ _ (passes_plain word (first file).held e)
     (ap (λ (p : Held × Step). step_passes shape 2 p.0 p.1) (met_plain idle 2 word (first file).held e))
 
-next_turn : (file : Text) (before : List Text) (last word : Text) → is_plain word ≡ true
+next_turn : (file : Text) (before : List Text) (last word : Text) → is_plain_word word ≡ true
     → turn_passes shape [] (many file before last) word ≡ true
 next_turn file before last word e =
     and_from _ _ (passes_plain word (many file before last).held e)
@@ -132,7 +132,7 @@ next_turn file before last word e =
 abbrev Ends : Text → List Text → Walk → Type 0
 Ends file styles w = (before : List Text) × (last : Text) × (w ≡ many file before last) × (before ++ last ∷ [] ≡ styles)
 
-styles_walk : (file : Text) (before : List Text) (last : Text) (rest : List Text) → list_all is_plain rest ≡ true
+styles_walk : (file : Text) (before : List Text) (last : Text) (rest : List Text) → list_all is_plain_word rest ≡ true
     → Ends file (before ++ last ∷ rest) (fold (walked rules []) (many file before last) rest)
 styles_walk file before last [] e = (before, last, refl, refl)
 styles_walk file before last (word ∷ rest) e =
@@ -142,7 +142,7 @@ styles_walk file before last (word ∷ rest) e =
     let same = ap (λ (w : Walk). fold (walked rules []) w rest) step ∙ end.2 in
     (end.0, end.1, same, end.3 ∙ append_assoc before (last ∷ []) (word ∷ rest))
 
-styles_pass : (file : Text) (before : List Text) (last : Text) (rest : List Text) → list_all is_plain rest ≡ true
+styles_pass : (file : Text) (before : List Text) (last : Text) (rest : List Text) → list_all is_plain_word rest ≡ true
     → walk_passes shape [] (many file before last) rest ≡ true
 unfolding walk_passes
 styles_pass file before last [] e = refl
@@ -161,7 +161,7 @@ end_rows : (file : Text) (before : List Text) (last : Text)
 end_rows file [] last = refl
 end_rows file (d ∷ ds) last = refl
 
-rows_are : (file : Text) (styles : List Text) → list_all is_plain (file ∷ styles) ≡ true
+rows_are : (file : Text) (styles : List Text) → list_all is_plain_word (file ∷ styles) ≡ true
     → finished rules (walk rules [] nothing_held (file ∷ styles)).held ≡ all_rows file styles
 rows_are file [] e = ap (λ (w : Walk). finished rules w.held) (first_step file (and_parts _ _ e).0)
 rows_are file (word ∷ rest) e =
@@ -173,7 +173,7 @@ rows_are file (word ∷ rest) e =
     ap (λ (w : Walk). finished rules w.held) (there ∙ end.2) ∙ end_rows file end.0 end.1
     ∙ ap (λ (xs : List Text). all_rows file xs) end.3
 
-settles : (file : Text) (styles : List Text) → list_all is_plain (file ∷ styles) ≡ true
+settles : (file : Text) (styles : List Text) → list_all is_plain_word (file ∷ styles) ≡ true
     → settle_passes rules false (walk rules [] nothing_held (file ∷ styles)).held ≡ true
 settles file [] e = ap (λ (w : Walk). settle_passes rules false w.held) (first_step file (and_parts _ _ e).0)
 settles file (word ∷ rest) e =
@@ -184,7 +184,7 @@ settles file (word ∷ rest) e =
     let end = styles_walk file [] word rest l.1 in
     ap (λ (w : Walk). settle_passes rules false w.held) (there ∙ end.2)
 
-walks : (file : Text) (styles : List Text) → list_all is_plain (file ∷ styles) ≡ true
+walks : (file : Text) (styles : List Text) → list_all is_plain_word (file ∷ styles) ≡ true
     → walk_passes shape [] (walk_from nothing_held) (file ∷ styles) ≡ true
 unfolding walk_passes
 walks file [] e = and_from _ _ (first_turn file (and_parts _ _ e).0) refl
@@ -199,7 +199,7 @@ valid : (file : Text) (styles : List Text) → is_valid shape (all_rows file sty
 valid file [] = refl
 valid file (s ∷ styles) = refl
 
-plain_taken : (program file : Text) (styles : List Text) → list_all is_plain (file ∷ styles) ≡ true
+plain_taken : (program file : Text) (styles : List Text) → list_all is_plain_word (file ∷ styles) ≡ true
     → takes tmx (program ∷ file ∷ styles) ≡ true
 plain_taken program file styles e =
     let simple : is_simple tmx ≡ true = refl in
@@ -230,21 +230,22 @@ rows_ask file styles source h = record {
 }
 
 -- words that don't begin with a hyphen, behind the program's name, are the document's and those of styles
-source_ask : (program file : Text) (styles : List Text) (source : Source) → list_all is_plain (file ∷ styles) ≡ true
-    → IsSource (Some file) styles source → Ask (program ∷ file ∷ styles) 80 24 source
+source_ask : (program file : Text) (styles : List Text) (source : Source)
+    → list_all is_plain_word (file ∷ styles) ≡ true → IsSource (Some file) styles source
+    → Ask (program ∷ file ∷ styles) 80 24 source
 source_ask program file styles source e h = record {
   taken = plain_taken program file styles e;
   found = subst (λ (r : List Row). RowsAsk r 80 24 source) (sym (rows_are file styles e))
       (rows_ask file styles source h);
 }
 
-pub plain_ask : (program file : Text) (styles : List Text) → list_all is_plain (file ∷ styles) ≡ true
-    → is_generator file ≡ false → MayOpen (map named (file ∷ styles))
-    → Ask (program ∷ file ∷ styles) 80 24 (Files (map named (file ∷ styles)))
+pub plain_ask : (program file : Text) (styles : List Text) → list_all is_plain_word (file ∷ styles) ≡ true
+    → is_generator file ≡ false → MayOpen (map named_file (file ∷ styles))
+    → Ask (program ∷ file ∷ styles) 80 24 (Files (map named_file (file ∷ styles)))
 plain_ask program file styles e files fit =
-    source_ask program file styles (Files (map named (file ∷ styles))) e (files, refl, fit)
+    source_ask program file styles (Files (map named_file (file ∷ styles))) e (files, refl, fit)
 
 pub generated_ask : (program word : Text) (number count : ℕ) → Generates word number count
     → Ask (program ∷ word ∷ []) 80 24 (Generated number count)
 generated_ask program word number count g =
-    source_ask program word [] (Generated number count) (ap (λ w. list_all is_plain (w ∷ [])) g.parts) (g, refl)
+    source_ask program word [] (Generated number count) (ap (λ w. list_all is_plain_word (w ∷ [])) g.parts) (g, refl)

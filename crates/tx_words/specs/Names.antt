@@ -20,5 +20,5 @@ pub record Named : Type 0 where
   pub word : List ℕ
   pub name : List ℕ
 
-abbrev pub named : List ℕ → Named
-named word = record { word = word; name = buffer_name word }
+abbrev pub named_file : List ℕ → Named
+named_file word = record { word = word; name = buffer_name word }

@@ -2,6 +2,6 @@
 use Rattle.std.specs.Prelude.{◌==◌, ℕ, Bool, true, not, List, [], ◌∷◌}
 
 -- the word doesn't begin with a hyphen
-abbrev pub is_plain : List ℕ → Bool
-is_plain [] = true
-is_plain (b ∷ word) = not (b == 45)
+abbrev pub is_plain_word : List ℕ → Bool
+is_plain_word [] = true
+is_plain_word (b ∷ word) = not (b == 45)

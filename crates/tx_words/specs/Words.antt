@@ -7,7 +7,7 @@ use Rattle.clap.specs.declared.builder.ArgAction.TheVariants.{Set, Append}
 use Rattle.tx_tree.specs.PathSpelling.{IsNumber}
 use Rattle.tx_words.specs.declared.asked.Source.{Source}
 use Rattle.tx_words.specs.declared.asked.Source.TheVariants.{Files, Generated}
-pub use Rattle.tx_words.specs.Names.{Named, named}
+pub use Rattle.tx_words.specs.Names.{Named, named_file}
 
 -- ---- the command, in the words of `clap`
 
@@ -16,8 +16,8 @@ abbrev pub option : List ℕ → Rule
 option name = record (new_rule name) { long = Some name; action = Some Set }
 
 -- the document's file, which has to be there
-abbrev pub document : Rule
-document = record (new_rule (codes "FILE")) { required = true; action = Some Set }
+abbrev pub document_rule : Rule
+document_rule = record (new_rule (codes "FILE")) { required = true; action = Some Set }
 
 -- the files of styles, any number of them
 abbrev pub styles : Rule
@@ -27,7 +27,7 @@ styles = record (new_rule (codes "STYLE")) { action = Some Append }
 abbrev pub tmx : App
 tmx =
     let sizes = with_rule (with_rule (new_app (codes "tmx")) (option (codes "width"))) (option (codes "height")) in
-    with_rule (with_rule sizes document) styles
+    with_rule (with_rule sizes document_rule) styles
 
 -- ---- what is asked for
 
@@ -47,15 +47,15 @@ abbrev pub HaveNames : List Named → Type 0
 HaveNames = AllByRecursion (λ file. file.name ≢ [])
 
 -- no two have one name
-abbrev pub NamesDiffer : List Named → Type 0
-NamesDiffer [] = Unit {0}
-NamesDiffer (file ∷ others) = AllByRecursion (λ other. other.name ≢ file.name) others × NamesDiffer others
+abbrev pub AreNamedApart : List Named → Type 0
+AreNamedApart [] = Unit {0}
+AreNamedApart (file ∷ others) = AllByRecursion (λ other. other.name ≢ file.name) others × AreNamedApart others
 
 -- at most 16 files, each with a name of its own
 pub record MayOpen (files : List Named) : Type 0 where
   pub few : length files ≤ 16
   pub have_names : HaveNames files
-  pub differ : NamesDiffer files
+  pub differ : AreNamedApart files
 
 -- ---- generated documents
 
@@ -78,7 +78,7 @@ pub record Generates (word : List ℕ) (number count : ℕ) : Type 0 where
 abbrev pub IsSource : Option (List ℕ) → List (List ℕ) → Source → Type 0
 IsSource None behind source = ⊥
 IsSource (Some word) behind (Files files) =
-    (is_generator word ≡ false) × (files ≡ map named (word ∷ behind)) × MayOpen files
+    (is_generator word ≡ false) × (files ≡ map named_file (word ∷ behind)) × MayOpen files
 IsSource (Some word) behind (Generated number count) = Generates word number count × (behind ≡ [])
 
 -- the words of the styles that `clap` found

@@ -1,8 +1,8 @@
 // What holds of all words.
 ghost use Rattle.std.specs.Prelude.{◌≡◌, [], ◌∷◌, ℕ, List, true, false, map};
 ghost use Rattle.std.specs.List.{list_all};
-ghost use Rattle.tx_words.specs.Words.{Ask, Generates, MayOpen, is_generator, named};
-ghost use Rattle.tx_words.specs.Plain.{is_plain};
+ghost use Rattle.tx_words.specs.Words.{Ask, Generates, MayOpen, is_generator, named_file};
+ghost use Rattle.tx_words.specs.Plain.{is_plain_word};
 ghost use Rattle.tx_words.specs.declared.asked.Source.{Source};
 ghost use Rattle.tx_words.specs.declared.asked.Source.TheVariants.{Files, Generated};
 
@@ -16,9 +16,9 @@ pub fn one_asking()
 /// pages are 80 by 24. The first of them begins with no `gen:`; where it does, and stands alone, it asks for the
 /// document that is generated from its numbers.
 pub fn plain_words()
-    ensures files { (program file : List ℕ) (styles : List (List ℕ)) → list_all is_plain (file ∷ styles) ≡ true
-        → is_generator file ≡ false → MayOpen (map named (file ∷ styles))
-        → Ask (program ∷ file ∷ styles) 80 24 (Files (map named (file ∷ styles))) }
+    ensures files { (program file : List ℕ) (styles : List (List ℕ)) → list_all is_plain_word (file ∷ styles) ≡ true
+        → is_generator file ≡ false → MayOpen (map named_file (file ∷ styles))
+        → Ask (program ∷ file ∷ styles) 80 24 (Files (map named_file (file ∷ styles))) }
     ensures generated { (program word : List ℕ) (number count : ℕ) → Generates word number count
         → Ask (program ∷ word ∷ []) 80 24 (Generated number count) }
 {}

@@ -2,7 +2,7 @@
 ghost use Rattle.std.specs.Prelude.{◌≡◌, ◌≢◌, true, false, map, IfOk, IsErrOf};
 ghost use Rattle.std.specs.String.{string_bytes};
 ghost use Rattle.clap.specs.Words.{app_of, found_of, matches_of, rows_of, rule_of, takes};
-ghost use Rattle.tx_words.specs.Words.{document, option, styles, tmx};
+ghost use Rattle.tx_words.specs.Words.{document_rule, option, styles, tmx};
 
 use crate::faults::WordsFault;
 use clap::error::ErrorKind;
@@ -20,7 +20,7 @@ fn option<'a>(alloc: Global, name: &'a str) -> Arg<'a>
 
 // The document's file, which has to be there.
 fn document<'a>(alloc: Global) -> Arg<'a>
-    ensures rule { rule_of result ≡ document }
+    ensures rule { rule_of result ≡ document_rule }
     ensures local { result.global ≡ false }
 {
     Arg::new(alloc, "FILE")

@@ -4,8 +4,8 @@ ghost use Rattle.std.specs.Prelude.{IfOk, IsErrOf, OnOk, Some, option_map, unwra
 ghost use Rattle.std.specs.String.{string_bytes};
 ghost use Rattle.std.specs.List.{AllByRecursion};
 ghost use Rattle.clap.specs.Words.{all_of, first_of, found_of, rows_of};
-ghost use Rattle.tx_words.specs.Words.{Ask, AreFaulty, HaveNames, IfFiles, IfGenerated, IsSource, MayOpen, NamesDiffer};
-ghost use Rattle.tx_words.specs.Words.{RowsAsk, is_generator, named, styles_in};
+ghost use Rattle.tx_words.specs.Words.{Ask, AreFaulty, HaveNames, IfFiles, IfGenerated, IsSource, MayOpen};
+ghost use Rattle.tx_words.specs.Words.{AreNamedApart, RowsAsk, is_generator, named_file, styles_in};
 ghost use Rattle.tx_words.specs.declared.asked.Source.{Source as Asked};
 ghost use Rattle.tx_words.specs.Seen.{named_of};
 
@@ -24,7 +24,7 @@ const MOST_FILES: usize = 16;
 
 // The word, with its buffer's name.
 fn file_word<'a>(word: &'a str) -> FileWord<'a>
-    ensures { named_of result ≡ named word.now }
+    ensures { named_of result ≡ named_file word.now }
 {
     FileWord {
         word,
@@ -35,7 +35,7 @@ fn file_word<'a>(word: &'a str) -> FileWord<'a>
 // Puts the words behind the files.
 fn push_all<'a>(files: &mut Vec<FileWord<'a>>, words: &[&'a str]) -> Result<(), Memory>
     ensures { OnOk result
-        (map named_of files.new.items ≡ map named_of files.old.items ++ map named (map (λ w. w.now) words.now)) }
+        (map named_of files.new.items ≡ map named_of files.old.items ++ map named_file (map (λ w. w.now) words.now)) }
 {
     for word in words {
         files.push(file_word(word))?;
@@ -69,7 +69,7 @@ fn is_free(name: &[u8], files: &[FileWord]) -> bool
 
 // Whether no two files have one name.
 fn names_differ(files: &[FileWord]) -> bool
-    ensures { IsTrue result ↔ NamesDiffer (map named_of files.now) }
+    ensures { IsTrue result ↔ AreNamedApart (map named_of files.now) }
 {
     for (i, file) in files.iter().enumerate() {
         if !is_free(file.name, &files[i + 1..]) {
@@ -100,7 +100,7 @@ fn push_values<'a>(
     id: &str,
 ) -> Result<(), Memory>
     ensures { OnOk result (map named_of files.new.items ≡ map named_of files.old.items
-        ++ map named (unwrap_or (all_of id.now (rows_of (found_of matches.now))) [])) }
+        ++ map named_file (unwrap_or (all_of id.now (rows_of (found_of matches.now))) [])) }
 {
     match matches.get_raw(id) {
         Some(values) => push_all(files, values),
@@ -115,7 +115,7 @@ fn files_of<'a>(
     matches: &ArgMatches<'a>,
 ) -> Result<Vec<FileWord<'a>>, Memory>
     ensures { IfOk result (λ files. map named_of files.items
-        ≡ map named (document.now ∷ styles_in (rows_of (found_of matches.now)))) }
+        ≡ map named_file (document.now ∷ styles_in (rows_of (found_of matches.now)))) }
 {
     let mut files = Vec::new(alloc);
     files.push(file_word(document))?;
@@ -212,7 +212,7 @@ pub fn read_words<'a>(alloc: Global, words: &'a [String]) -> Result<Words<'a>, W
     ensures height { IfOk result (λ asked. (5 ≤ asked.height) × (asked.height ≤ 500)) }
     ensures files { IfOk result
         (λ asked. IfFiles asked.source (λ files. (1 ≤ length files) × (length files ≤ 16))) }
-    ensures names { IfOk result (λ asked. IfFiles asked.source NamesDiffer) }
+    ensures names { IfOk result (λ asked. IfFiles asked.source AreNamedApart) }
     ensures number { IfOk result (λ asked. IfGenerated asked.source (λ number count. number < 2 ^ 31)) }
     ensures count { IfOk result
         (λ asked. IfGenerated asked.source (λ number count. (1 ≤ count) × (count ≤ 60000))) }

@@ -1,7 +1,7 @@
 use Rattle.std.proofs.Common.{◌≤◌, map, length, Global, sym, subst, ◌∙◌, rules, arith}
 use Rattle.std.specs.String.{string_bytes}
 use Rattle.tx_words.specs.declared.asked.Source.TheVariants.{Files as AllFiles, Generated as FromNumber}
-use Rattle.tx_words.specs.Words.{Ask, AreFaulty, IfFiles, NamesDiffer as WordsDiffer}
+use Rattle.tx_words.specs.Words.{Ask, AreFaulty, IfFiles, AreNamedApart}
 use Rattle.tx_open.specs.Openings.{failed_as}
 use Rattle.tx_open.proofs.Complete.{asks, comes_from, fault_caused, is_opened, long_caused, missing_caused}
 use Rattle.tx_open.proofs.Reading.{as_many, names_differ}
@@ -20,7 +20,7 @@ returns-in-Ok-read_files-clause-number g c =
 pub returns-in-Ok-read_files-clause-names : goal.returns-in-Ok-read_files-clause-names
 returns-in-Ok-read_files-clause-names g c =
     names_differ (g.S.Store.seen c.args.store.now).files c.in-Files.files c.in-Ok-read_files.all.buffers
-    c.in-Ok-read_files.ensures.read (subst (λ s. IfFiles s WordsDiffer) c.in-Files.is c.in-Ok.ensures.names)
+    c.in-Ok-read_files.ensures.read (subst (λ s. IfFiles s AreNamedApart) c.in-Files.is c.in-Ok.ensures.names)
 
 pub returns-in-Ok-read_files-clause-untouched : goal.returns-in-Ok-read_files-clause-untouched
 returns-in-Ok-read_files-clause-untouched g c =

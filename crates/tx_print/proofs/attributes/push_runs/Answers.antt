@@ -2,7 +2,7 @@ use Rattle.std.proofs.Common.{◌<◌, ◌∙◌, ap, arith}
 use Rattle.std.specs.List.{flat_map}
 use Rattle.std.proofs.lemmas.List.{drop_all}
 use Rattle.tx_print.specs.Runs.{item_looks}
-use Rattle.tx_print.specs.Begun.{run_in, run_of}
+use Rattle.tx_print.specs.Begun.{open_run_in, open_run}
 use Rattle.tx_print.proofs.Running.{item_less, open_item, told_closed, told_item, told_same, told_start}
 use Rattle.tx_print.proofs.attributes.push_runs.Goals as goal
 
@@ -34,5 +34,5 @@ pub returns-in-Some : goal.returns-in-Some
 returns-in-Some g c =
     let none = ap (flat_map item_looks) (drop_all c.loop-item.item-index c.all-item-items.result.now
     c.loop-item-test.false) in
-    told_closed _ (run_of c.in-Some.last) _ _ _ (ap run_in c.in-Some.is) none c.loop-item.invariant.is_open
+    told_closed _ (open_run c.in-Some.last) _ _ _ (ap open_run_in c.in-Some.is) none c.loop-item.invariant.is_open
     c.loop-item.invariant.told c.push_run.ensures

@@ -2,7 +2,7 @@ use Rattle.std.proofs.Common.{inl, inr, map, Global, refl, ap, arith}
 use Rattle.std.specs.String.{string_bytes}
 use Rattle.tx_outside.proofs.GoingOn.{source_goes_on_refl, store_goes_on_then}
 use Rattle.tx_words.specs.declared.asked.Source.TheVariants.{Files as AllFiles, Generated as FromNumber}
-use Rattle.tx_open.specs.Openings.{outcome_of}
+use Rattle.tx_open.specs.Openings.{open_outcome}
 use Rattle.tx_open.specs.Outcomes.{faulty_words}
 use Rattle.tx_session.specs.Worlds.{KeepsFiles}
 use Rattle.tx_session.proofs.Causes.{caused_of, line_run, opens_not, unopened_causes, unopened_run, whole_run}
@@ -131,7 +131,7 @@ returns-in_default g c =
     let later = g.O.Sink.seen c.report.new.out in
     let words = map (string_bytes {Z = Global}) c.args.words.now in
     let kept : KeepsFiles before after = (c.open-opening.ensures.files_kept, c.open-opening.ensures.store_goes_on) in
-    let caused = caused_of before after (outcome_of c.open-opening.result) c.open-opening.ensures.missing_counted
+    let caused = caused_of before after (open_outcome c.open-opening.result) c.open-opening.ensures.missing_counted
     c.open-opening.ensures.long_counted c.open-opening.ensures.fault_counted in
     let run = unopened_run words before after c.args.steps.now c.open-opening.new.steps c.open-opening.result
     c.report.result written later kept c.open-opening.ensures.comes caused c.in_default.not-FaultyWords

@@ -1,5 +1,5 @@
 use Rattle.std.proofs.Common.{◌<◌, Err, ap, sym, subst, ◌∙◌}
-use Rattle.tx_cmd.specs.Words.{first_word, TakesMemory}
+use Rattle.tx_cmd.specs.Words.{up_to_space, TakesMemory}
 use Rattle.tx_cmd.specs.Commands.{IsCommand}
 use Rattle.tx_cmd.specs.Refusals.{IsCmdFault}
 use Rattle.tx_session.specs.Replies.{IsAsked}
@@ -49,5 +49,5 @@ returns-in-Err-parse-clause-answered g c = λ bytes k.
     (counted_on seen c.parse.new.steps c.parse.ensures.rises)
     (subst IsAsked e (some_line _ _ c.is_empty.ensures c.if-is_empty.false, c.in-Ok.ensures.short))
     (subst (λ l. IsCmdFault l c.in-Err-parse.fault) e c.in-Err-parse.ensures.refused)
-    (λ m. subst (λ l. TakesMemory (first_word l)) e (c.parse.ensures.memory (c.in-Err-parse.is ∙ ap Err m)))
+    (λ m. subst (λ l. TakesMemory (up_to_space l)) e (c.parse.ensures.memory (c.in-Err-parse.is ∙ ap Err m)))
     c.refuse-in-Err-parse.ensures.said

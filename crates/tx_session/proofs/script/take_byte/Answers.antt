@@ -1,6 +1,6 @@
 use Rattle.tx_session.specs.Worlds.{world}
 use Rattle.std.proofs.Common.{refl, [], ◌∷◌, ◌++◌, sym, subst}
-use Rattle.tx_session.specs.Keeping.{Stands}
+use Rattle.tx_session.specs.Keeping.{StandsAnswered}
 use Rattle.tx_session.proofs.Standing.{stands_on, stands_next, turned_go, turned_cut, cut_at, ends_at}
 use Rattle.tx_session.proofs.script.take_byte.Goals as goal
 
@@ -22,7 +22,7 @@ returns-in-Ok-Go-clause-leads g c = λ start before bytes s.
       rest = [];
       stands =
           subst (λ bs.
-          Stands start before bs []
+          StandsAnswered start before bs []
           (world c.answer_line.new.session (g.S.Store.seen c.answer_line.new.store) c.answer_line.new.steps)
           (g.O.Sink.seen c.answer_line.new.out).written)
           (sym (ends_at bytes _ c.if-byte-ne10.false)) (stands_next start before bytes s.rest _ _ _ _ went s.stands);

@@ -1,7 +1,7 @@
 use Rattle.std.proofs.Common.{refl}
 use Rattle.tx_cmd.specs.declared.command.Command.TheVariants.{Change, Undo, Redo, At, Go, Click, Left, Right, Typed}
 use Rattle.tx_cmd.specs.declared.command.Command.TheVariants.{Backspace, Enter, Cursor, Tree, Work}
-use Rattle.tx_session.specs.Saying.{mark_of}
+use Rattle.tx_session.specs.Saying.{reply_mark}
 use Rattle.tx_session.specs.Worlds.{plain}
 use Rattle.tx_session.proofs.Refreshed.{free_takes, still_keeps}
 use Rattle.tx_session.proofs.Replied.{is_replied, is_said}
@@ -31,7 +31,7 @@ returns-in-Tree-clause-replied g c =
     is_replied Tree c.args.command.now now now store store _ _ c.tree.result c.text.result.now c.say.result
     (g.O.Sink.seen c.args.out.now).written (g.O.Sink.seen c.say.new.out).written c.in-Tree.is c.text.ensures
     (c.tree.ensures store) c.say.ensures.said (still_keeps Tree now now refl refl refl c.tree.result)
-    (free_takes Tree now (mark_of c.tree.result) _ refl)
+    (free_takes Tree now (reply_mark c.tree.result) _ refl)
 
 pub returns-in-Change-clause-replied : goal.returns-in-Change-clause-replied
 returns-in-Change-clause-replied g c =
@@ -72,7 +72,7 @@ returns-in-Go-clause-replied g c =
     (g.O.Sink.seen c.say-in-Go.new.out).written c.in-Go.is c.text-in-Go.ensures (c.go.ensures.replied store)
     c.say-in-Go.ensures.said
     (still_keeps (Go c.in-Go.numbers) c.args.self.now c.go.new.self refl refl c.go.ensures.keep c.go.result)
-    (free_takes (Go c.in-Go.numbers) c.args.self.now (mark_of c.go.result) _ refl)
+    (free_takes (Go c.in-Go.numbers) c.args.self.now (reply_mark c.go.result) _ refl)
 
 pub returns-in-At-clause-replied : goal.returns-in-At-clause-replied
 returns-in-At-clause-replied g c =
@@ -82,7 +82,7 @@ returns-in-At-clause-replied g c =
     (g.O.Sink.seen c.say-in-At.new.out).written c.in-At.is c.text-in-At.ensures (c.choose.ensures.replied store)
     c.say-in-At.ensures.said
     (still_keeps (At c.in-At.name) c.args.self.now c.choose.new.self refl refl c.choose.ensures.keep c.choose.result)
-    (free_takes (At c.in-At.name) c.args.self.now (mark_of c.choose.result) _ refl)
+    (free_takes (At c.in-At.name) c.args.self.now (reply_mark c.choose.result) _ refl)
 
 pub returns-in-Click-clause-replied : goal.returns-in-Click-clause-replied
 returns-in-Click-clause-replied g c =

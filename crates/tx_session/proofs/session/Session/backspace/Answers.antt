@@ -2,7 +2,7 @@ use Rattle.std.proofs.Common.{◌∙◌, ap, refl}
 use Rattle.tx_cmd.specs.declared.command.Command.TheVariants.{Backspace}
 use Rattle.tx_doc.specs.Buffers.{document_of}
 use Rattle.tx_edit.specs.Keys.{erased}
-use Rattle.tx_session.specs.Saying.{mark_of, text_of}
+use Rattle.tx_session.specs.Saying.{reply_mark, reply_text}
 use Rattle.tx_session.specs.States.{by_backspace}
 use Rattle.tx_session.proofs.Answered.{backspace_replied, makes}
 use Rattle.tx_session.proofs.Carried.{backspace_keeps}
@@ -12,7 +12,7 @@ use Rattle.tx_session.proofs.session.Session.backspace.Goals as goal
 pub returns-clause-replied : goal.returns-clause-replied
 returns-clause-replied g c = λ store.
     let seen = c.args.self.now.seen in
-    backspace_replied seen c.keyed.new.self.seen store (mark_of c.keyed.result) (text_of c.keyed.result)
+    backspace_replied seen c.keyed.new.self.seen store (reply_mark c.keyed.result) (reply_text c.keyed.result)
     (c.keyed.ensures.changed (by_backspace seen.state)
     (makes erased c.document.result.now (document_of seen.state.buffers) c.cursor.result.now
     seen.state.cursor c.backspace-made.result
@@ -23,7 +23,7 @@ returns-clause-replied g c = λ store.
 pub returns-clause-keeps : goal.returns-clause-keeps
 returns-clause-keeps g c =
     let seen = c.args.self.now.seen in
-    backspace_keeps c.args.self.now c.keyed.new.self (mark_of c.keyed.result)
+    backspace_keeps c.args.self.now c.keyed.new.self (reply_mark c.keyed.result)
     (c.keyed.ensures.keeps (by_backspace seen.state)
     (makes erased c.document.result.now (document_of seen.state.buffers) c.cursor.result.now
     seen.state.cursor c.backspace-made.result
@@ -34,7 +34,7 @@ returns-clause-keeps g c =
 pub returns-clause-takes : goal.returns-clause-takes
 returns-clause-takes g c =
     let seen = c.args.self.now.seen in
-    unasked_takes Backspace c.args.self.now (mark_of c.keyed.result) _ _ refl
+    unasked_takes Backspace c.args.self.now (reply_mark c.keyed.result) _ _ refl
     (c.keyed.ensures.counted (by_backspace seen.state)
     (makes erased c.document.result.now (document_of seen.state.buffers) c.cursor.result.now
     seen.state.cursor c.backspace-made.result

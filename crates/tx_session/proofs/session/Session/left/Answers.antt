@@ -3,9 +3,9 @@ use Rattle.tx_cmd.specs.declared.command.Command.TheVariants.{Left}
 use Rattle.tx_edit.specs.Stops.{to_left}
 use Rattle.tx_view_form.specs.Stops.{stops_of}
 use Rattle.tx_session.specs.Replies.{IsReply}
-use Rattle.tx_session.specs.Saying.{mark_of, text_of}
+use Rattle.tx_session.specs.Saying.{reply_mark, reply_text}
 use Rattle.tx_session.specs.Sessions.{seen_of}
-use Rattle.tx_session.specs.Worlds.{Seen}
+use Rattle.tx_session.specs.Worlds.{SeenSession}
 use Rattle.tx_session.proofs.Answered.{left_replied, present_view}
 use Rattle.tx_session.proofs.Refreshed.{arrival_made, keeps_asked, takes_asked}
 use Rattle.tx_session.proofs.session.Session.left.Goals as goal
@@ -15,7 +15,7 @@ returns-clause-replied g c = λ store.
     let inside = c.self.inside in
     let view = c.refresh.new.self in
     let reply = c.go_left-reply.result in
-    let after : Seen = record {
+    let after : SeenSession = record {
       state = c.go_left-reply.new.state;
       width = view.width;
       height = view.height;
@@ -24,9 +24,9 @@ returns-clause-replied g c = λ store.
     let is = present_view view.buffers inside.state.buffers view.width inside.view.width view.height inside.view.height
     view.shown (c.refresh.ensures.buffers ∙ c.self.invariant.buffers) c.refresh.ensures.width
     c.refresh.ensures.height c.in_default.ensures.view in
-    subst (λ s. IsReply (record { session = s; store = store }) Left (mark_of reply)
-    (record { session = after; store = store }) (text_of reply)) (ap (λ w. w.seen) c.self.view_is)
-    (left_replied (seen_of inside) after view.shown store (mark_of reply) (text_of reply) is
+    subst (λ s. IsReply (record { session = s; store = store }) Left (reply_mark reply)
+    (record { session = after; store = store }) (reply_text reply)) (ap (λ w. w.seen) c.self.view_is)
+    (left_replied (seen_of inside) after view.shown store (reply_mark reply) (reply_text reply) is
     c.go_left-reply.ensures (ap (λ b. inside.asked || b) c.is_plain.ensures) c.refresh.ensures.width
     c.refresh.ensures.height)
 
@@ -35,13 +35,13 @@ returns-clause-keeps g c =
     let inside = c.self.inside in
     let view = c.refresh.new.self in
     let reply = c.go_left-reply.result in
-    keeps_asked Left refl c.args.self.now (seen_of inside) _ inside.view view c.self.view_is (mark_of reply)
+    keeps_asked Left refl c.args.self.now (seen_of inside) _ inside.view view c.self.view_is (reply_mark reply)
     (arrival_made (to_left (stops_of view.shown.units) inside.state.cursor) inside.state c.go_left-reply.new.state
-    (mark_of reply) (text_of reply) c.go_left-reply.ensures) c.self.invariant.buffers c.in_default.ensures.fresh
+    (reply_mark reply) (reply_text reply) c.go_left-reply.ensures) c.self.invariant.buffers c.in_default.ensures.fresh
     c.in_default.ensures.stores c.in_default.ensures.work c.refresh.ensures.kept
 
 pub returns-clause-takes : goal.returns-clause-takes
 returns-clause-takes g c =
     let inside = c.self.inside in
     takes_asked Left refl c.args.self.now (seen_of inside) (seen_of inside) inside.view c.refresh.new.self
-    c.self.view_is (mark_of c.go_left-reply.result) _ _ c.in_default.ensures.counted c.refresh.ensures.free
+    c.self.view_is (reply_mark c.go_left-reply.result) _ _ c.in_default.ensures.counted c.refresh.ensures.free

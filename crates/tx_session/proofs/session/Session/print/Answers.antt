@@ -1,8 +1,8 @@
 use Rattle.std.proofs.Common.{◌∙◌, true, ap, subst, sym}
 use Rattle.tx_session.specs.Replies.{IsReply}
 use Rattle.tx_session.specs.Sessions.{seen_of}
-use Rattle.tx_session.specs.States.{printed}
-use Rattle.tx_session.specs.Worlds.{Seen, plain}
+use Rattle.tx_session.specs.States.{view_reply}
+use Rattle.tx_session.specs.Worlds.{SeenSession, plain}
 use Rattle.tx_session.specs.Writing.{IsSaid}
 use Rattle.tx_session.proofs.Answered.{printed_done, printed_said, present_view}
 use Rattle.tx_session.proofs.Refreshed.{keeps_asked, prints_ask, takes_asked}
@@ -15,10 +15,10 @@ returns-clause-said g c =
     let view = c.refresh.new.self in
     let it = c.args.command.now in
     let asks = prints_ask it c.requires in
-    let text = printed view.width view.shown it in
+    let text = view_reply view.width view.shown it in
     let before = (g.O.Sink.seen c.args.out.now).written in
     let behind = (g.O.Sink.seen c.print_view.new.out).written in
-    let after : Seen = record { state = inside.state; width = view.width; height = view.height; fresh = true } in
+    let after : SeenSession = record { state = inside.state; width = view.width; height = view.height; fresh = true } in
     let is = present_view view.buffers inside.state.buffers view.width inside.view.width view.height inside.view.height
     view.shown (c.refresh.ensures.buffers ∙ c.self.invariant.buffers) c.refresh.ensures.width
     c.refresh.ensures.height c.in_default.ensures.view in (

@@ -3,7 +3,7 @@ use Rattle.tx_cmd.specs.declared.command.Command.TheVariants.{Work}
 use Rattle.tx_print.specs.Work.{work_reply}
 use Rattle.tx_session.specs.Replies.{IsReply}
 use Rattle.tx_session.specs.Sessions.{seen_of}
-use Rattle.tx_session.specs.Worlds.{Seen, told}
+use Rattle.tx_session.specs.Worlds.{SeenSession, told}
 use Rattle.tx_session.specs.Writing.{IsSaid}
 use Rattle.tx_session.proofs.Answered.{printed_said, work_told}
 use Rattle.tx_session.proofs.Refreshed.{keeps_told, takes_asked}
@@ -18,7 +18,8 @@ returns-in-Ok-clause-said g c =
     let text = work_reply n in
     let before = (g.O.Sink.seen c.args.out.now).written in
     let behind = (g.O.Sink.seen c.print_work.new.out).written in
-    let after : Seen = record { state = inside.state; width = view.width; height = view.height; fresh = true } in (
+    let after : SeenSession =
+    record { state = inside.state; width = view.width; height = view.height; fresh = true } in (
       told n,
       text,
       λ store. subst (λ s. IsReply (record { session = s; store = store }) Work (told n)

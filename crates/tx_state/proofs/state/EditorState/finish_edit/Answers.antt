@@ -1,5 +1,5 @@
 use Rattle.std.proofs.Common.{rules, refl, sym, ap, subst, ◌∙◌}
-use Rattle.tx_state.specs.Ready.{IsReady, with_edit}
+use Rattle.tx_state.specs.Ready.{IsReadyChange, with_edit}
 use Rattle.tx_state.proofs.Keeping.{edit_kept}
 use Rattle.tx_state.proofs.state.EditorState.finish_edit.Goals as goal
 
@@ -13,7 +13,7 @@ invariant_of-self c =
           c.exchange-former.new.cursor;
       history = c.done.new.self;
     }) c.args.prepared c.self.invariant
-    (subst (λ s. IsReady s c.args.prepared) (sym c.self.view_is) c.requires)
+    (subst (λ s. IsReadyChange s c.args.prepared) (sym c.self.view_is) c.requires)
     (record { buffers = search rules; selected = refl; cursor = search rules; depth = search rules }) (search rules)
     (search rules)).0
 
@@ -27,7 +27,7 @@ returns-clause-done c =
           c.exchange-former.new.cursor;
       history = c.done.new.self;
     }) c.args.prepared c.self.invariant
-    (subst (λ s. IsReady s c.args.prepared) (sym c.self.view_is) c.requires)
+    (subst (λ s. IsReadyChange s c.args.prepared) (sym c.self.view_is) c.requires)
     (record { buffers = search rules; selected = refl; cursor = search rules; depth = search rules }) (search rules)
     (search rules)).1
     ∙ ap (λ s. with_edit s c.args.prepared) c.self.view_is

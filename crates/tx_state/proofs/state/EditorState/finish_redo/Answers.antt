@@ -1,5 +1,5 @@
 use Rattle.std.proofs.Common.{rules, refl, sym, ap, subst, ◌∙◌}
-use Rattle.tx_state.specs.Edits.{redone}
+use Rattle.tx_state.specs.Edits.{redone_state}
 use Rattle.tx_state.specs.Ready.{IsReadyRedo}
 use Rattle.tx_state.proofs.Keeping.{redo_kept}
 use Rattle.tx_state.proofs.state.EditorState.finish_redo.Goals as goal
@@ -21,7 +21,7 @@ invariant_of-self c =
 
 pub returns-clause-done : goal.returns-clause-done
 returns-clause-done c =
-    ap redone (sym c.self.view_is)
+    ap redone_state (sym c.self.view_is)
     ∙ (redo_kept c.self.inside
     (record {
       buffers = c.exchange-former.new.buffers;

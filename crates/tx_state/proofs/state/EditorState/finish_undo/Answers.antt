@@ -1,5 +1,5 @@
 use Rattle.std.proofs.Common.{rules, refl, sym, ap, subst, ◌∙◌}
-use Rattle.tx_state.specs.Edits.{undone}
+use Rattle.tx_state.specs.Edits.{undone_state}
 use Rattle.tx_state.specs.Ready.{IsReadyUndo}
 use Rattle.tx_state.proofs.Keeping.{undo_kept}
 use Rattle.tx_state.proofs.state.EditorState.finish_undo.Goals as goal
@@ -21,7 +21,7 @@ invariant_of-self c =
 
 pub returns-clause-done : goal.returns-clause-done
 returns-clause-done c =
-    ap undone (sym c.self.view_is)
+    ap undone_state (sym c.self.view_is)
     ∙ (undo_kept c.self.inside
     (record {
       buffers = c.exchange-former.new.buffers;

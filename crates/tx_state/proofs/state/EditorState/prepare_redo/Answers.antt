@@ -1,18 +1,18 @@
 use Rattle.std.proofs.Common.{rules, ◌≤◌, ◌+◌, sym, ap, subst, ◌∙◌}
 use Rattle.tx_state.specs.Changing.{IsAlong}
 use Rattle.tx_state.specs.Ready.{IsReadyRedo, first_cost}
-use Rattle.tx_state.specs.Edits.{redone}
-use Rattle.tx_state.specs.Entries.{Leads}
+use Rattle.tx_state.specs.Edits.{redone_state}
+use Rattle.tx_state.specs.Entries.{EntryLeads}
 use Rattle.tx_state.proofs.MadeReady.{redo_leads, redo_cost, redo_ready, no_redo}
 use Rattle.tx_state.proofs.state.EditorState.prepare_redo.Goals as goal
 
 pub step_along-requires : goal.step_along-requires
 step_along-requires g c =
-    subst (λ bs. Leads bs c.in-Some.entry.now) (sym c.deref.ensures.value)
+    subst (λ bs. EntryLeads bs c.in-Some.entry.now) (sym c.deref.ensures.value)
     (redo_leads c.self.inside c.in-Some.entry.now c.self.invariant (search rules))
 
 pub returns-in-None-clause-nothing : goal.returns-in-None-clause-nothing
-returns-in-None-clause-nothing g c = λ _. ap redone (sym c.self.view_is) ∙ no_redo c.self.inside (search rules)
+returns-in-None-clause-nothing g c = λ _. ap redone_state (sym c.self.view_is) ∙ no_redo c.self.inside (search rules)
 
 pub returns-in_ok-step_along-in-Some-clause-ready : goal.returns-in_ok-step_along-in-Some-clause-ready
 returns-in_ok-step_along-in-Some-clause-ready g c =
