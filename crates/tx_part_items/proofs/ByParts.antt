@@ -17,7 +17,7 @@ use Rattle.tx_parts.specs.Atop.{env_atop}
 use Rattle.tx_parts.specs.Openness.{Settings, Openness, Document, With, Shut, openness}
 use Rattle.tx_parts.specs.Composed.{evaluates, SoFar, nothing_yet, with_child, children_from, document_trace}
 use Rattle.tx_parts.specs.Composed.{set_by, settings_cost, setting_values, with_trace, composed_as}
-use Rattle.tx_parts.specs.Parts.{Part, stored, parts, parts_from, parts_as}
+use Rattle.tx_parts.specs.Parts.{Part, stored, parts, parts_from, parts_as, parts_by}
 use Rattle.tx_parts.proofs.Settings.{none_low}
 use Rattle.tx_parts.proofs.Composing.{inner_are}
 use Rattle.tx_parts.proofs.Children.{FirstDone, first_done}
@@ -228,9 +228,10 @@ module _ (k : ℕ) (all : AllShow k) (c : ℕ) (path : List ℕ) (e : Before) wh
         show = show_nothing;
       }
   children_show i sofar b (t ∷ ts) h =
-      by (first_done k c i sofar t ts e b h) (λ trace g. children_show (i + 1) (with_child i sofar trace) b ts g)
+      by (first_done (evaluates k) c i sofar t ts e b h)
+      (λ trace g. children_show (i + 1) (with_child i sofar trace) b ts g)
     where
-      by : FirstDone k c i sofar t ts e b → ((trace : WideTrace) →
+      by : FirstDone (evaluates k) c i sofar t ts e b → ((trace : WideTrace) →
           children_from (evaluates k) c (i + 1) (with_child i sofar trace) ts e ≡ Some b →
           ChildrenShow k path (with_child i sofar trace) b ts
           (values_of (parts_from k (parts k) c path (i + 1) (with_child i sofar trace) ts e))) →
@@ -332,7 +333,7 @@ module _ (k : ℕ) (all : AllShow k) (c : ℕ) (path : List ℕ) (t : WideTree) 
   each_step Shut h = shut_part path (evaluates (suc k) c t e) trace back a rest t h
 
 all_show : (k : ℕ) → AllShow k
-unfolding parts parts_shown
+unfolding parts_by parts_shown
 all_show zero c path t e trace back a rest h =
     let off : None ≡ Some trace = sym (none_low c t e) ∙ h in
     cc

@@ -5,7 +5,7 @@ use Rattle.tx_tree.specs.WideTree.{WideTree, leaf, node, forest}
 use Rattle.tx_exec_form.specs.Runs.{Before, pay, need}
 use Rattle.tx_exec_form.specs.Rows.{ex, row, node_run, leaf_run, rebuilt, assigned, stored as stored_text}
 use Rattle.tx_exec_form.specs.Evaluated.{evaluated_in}
-use Rattle.tx_parts.specs.Parts.{parts, stored}
+use Rattle.tx_parts.specs.Parts.{parts, stored, parts_by}
 use Rattle.tx_items.specs.Attributes.{initial, attribute_named}
 use Rattle.tx_items.specs.Rules.{rule_of}
 use Rattle.tx_items.specs.Shows.{show}
@@ -31,7 +31,7 @@ counts s = map {B = ℕ × List ℕ} (λ p. (length p.items, p.mode)) (paragraph
 -- (document "ab" "c")
 two_texts : (e : Before) → colors (shown (tag (codes "document") (leaf (codes "ab") ∷ leaf (codes "c") ∷ [])) e) ≡
     ((0 ∷ []), codes "black", codes "black") ∷ ((1 ∷ []), codes "black", codes "black") ∷ []
-unfolding parts_shown show parts evaluated_in ex leaf_run pay need
+unfolding parts_shown show parts_by evaluated_in ex leaf_run pay need
 two_texts e = refl
 
 -- (with "color" "red" (document "ab" "")): within the inner document it is red
@@ -41,12 +41,12 @@ in_red = tag (codes "with") (leaf (codes "color") ∷ leaf (codes "red") ∷
 
 red_texts : (e : Before) → colors (shown in_red e) ≡
     ((2 ∷ 0 ∷ []), codes "red", codes "red") ∷ ((2 ∷ 1 ∷ []), codes "red", codes "red") ∷ []
-unfolding in_red parts_shown show parts evaluated_in ex leaf_run pay need attribute_named
+unfolding in_red parts_shown show parts_by evaluated_in ex leaf_run pay need attribute_named
 red_texts e = refl
 
 -- and behind it black again
 black_behind : (e : Before) → (shown in_red e).after.color ≡ codes "black"
-unfolding in_red parts_shown show parts evaluated_in ex leaf_run pay need attribute_named
+unfolding in_red parts_shown show parts_by evaluated_in ex leaf_run pay need attribute_named
 black_behind e = refl
 
 -- (document (with "par-mode" "center" "")): the empty paragraph has the outer mode
@@ -55,20 +55,20 @@ centered = tag (codes "document")
     (tag (codes "with") (leaf (codes "par-mode") ∷ leaf (codes "center") ∷ leaf [] ∷ []) ∷ [])
 
 outer_mode : (e : Before) → modes (shown centered e) ≡ ((0 ∷ 2 ∷ []), codes "center", codes "left") ∷ []
-unfolding centered parts_shown show parts evaluated_in ex leaf_run pay need attribute_named
+unfolding centered parts_shown show parts_by evaluated_in ex leaf_run pay need attribute_named
 outer_mode e = refl
 
 -- (document (document)): no part has a paragraph, and the whole is an empty one
 empty_whole : (e : Before) → counts (shown (tag (codes "document") (tag (codes "document") [] ∷ [])) e) ≡
     (0, codes "left") ∷ []
-unfolding parts_shown show rule_of parts evaluated_in ex node_run row rebuilt pay need
+unfolding parts_shown show rule_of parts_by evaluated_in ex node_run row rebuilt pay need
 empty_whole e = refl
 
 -- (document (assign "par-mode" "center")): one empty paragraph, with the mode behind the part
 assigned_mode : (e : Before) → counts (shown (tag (codes "document")
     (tag (codes "assign") (leaf (codes "par-mode") ∷ leaf (codes "center") ∷ []) ∷ [])) e) ≡
     (0, codes "center") ∷ []
-unfolding parts_shown show rule_of parts evaluated_in ex node_run leaf_run row assigned stored_text pay need
+unfolding parts_shown show rule_of parts_by evaluated_in ex node_run leaf_run row assigned stored_text pay need
     attribute_named
 assigned_mode e = refl
 
@@ -76,14 +76,14 @@ assigned_mode e = refl
 broken : (e : Before) → counts (shown (tag (codes "with")
     (leaf (codes "par-mode") ∷ leaf (codes "center") ∷ tag (codes "next-line") [] ∷ [])) e) ≡
     (1, codes "center") ∷ []
-unfolding parts_shown show rule_of parts evaluated_in ex node_run row rebuilt pay need attribute_named
+unfolding parts_shown show rule_of parts_by evaluated_in ex node_run row rebuilt pay need attribute_named
 broken e = refl
 
 -- (with "par-mode" "center" (concat)): a unit in a line, without an item, has the mode behind the `with`
 behind_with : (e : Before) → counts (shown (tag (codes "with")
     (leaf (codes "par-mode") ∷ leaf (codes "center") ∷ tag (codes "concat") [] ∷ [])) e) ≡
     (0, codes "left") ∷ []
-unfolding parts_shown show rule_of parts evaluated_in ex node_run row rebuilt pay need attribute_named
+unfolding parts_shown show rule_of parts_by evaluated_in ex node_run row rebuilt pay need attribute_named
 behind_with e = refl
 
 -- (document (with "par-mode" "center" (with "par-mode" "right" ""))): the outer `with` gives back last
@@ -93,13 +93,13 @@ twice_set = tag (codes "document") (tag (codes "with") (leaf (codes "par-mode") 
 
 last_given_back : (e : Before) → modes (shown twice_set e) ≡
     ((0 ∷ 2 ∷ 2 ∷ []), codes "right", codes "left") ∷ []
-unfolding twice_set parts_shown show parts evaluated_in ex leaf_run pay need attribute_named
+unfolding twice_set parts_shown show parts_by evaluated_in ex leaf_run pay need attribute_named
 last_given_back e = refl
 
 -- (document (assign "color" "red") ""): what a part sets stays set before those behind it
 assigned_color : (e : Before) → colors (shown (tag (codes "document")
     (tag (codes "assign") (leaf (codes "color") ∷ leaf (codes "red") ∷ []) ∷ leaf [] ∷ [])) e) ≡
     ((0 ∷ []), codes "black", codes "red") ∷ ((1 ∷ []), codes "red", codes "red") ∷ []
-unfolding parts_shown show rule_of parts evaluated_in ex node_run leaf_run row assigned stored_text pay need
+unfolding parts_shown show rule_of parts_by evaluated_in ex node_run leaf_run row assigned stored_text pay need
     attribute_named
 assigned_color e = refl

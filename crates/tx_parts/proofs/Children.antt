@@ -6,7 +6,7 @@ use Rattle.std.specs.Option.{option_map}
 use Rattle.std.proofs.lemmas.Grind.{common_steps}
 use Rattle.tx_tree.specs.WideTree.{WideTree, Forest, node, nil, cons, trees}
 use Rattle.tx_origin.specs.Values.{WideValue, made, vals}
-use Rattle.tx_origin.specs.TaggedTrees.{kids_from}
+use Rattle.tx_origin.specs.TaggedTrees.{TaggedTree, kids_from}
 use Rattle.tx_exec_form.specs.Runs.{Before, State, Ran, Over, Done, on_done, give}
 use Rattle.tx_exec_form.specs.Frames.{top}
 use Rattle.tx_exec_form.specs.Words.{row_of}
@@ -17,7 +17,10 @@ use Rattle.tx_exec_form.proofs.Tracing.{allowed}
 use Rattle.tx_parts.specs.Atop.{atop, env_atop, both_looks}
 use Rattle.tx_origin.specs.Under.{value_under}
 use Rattle.tx_parts.specs.Adding.{after_part, part_ran}
-use Rattle.tx_parts.specs.Composed.{alone, evaluates, SoFar, nothing_yet, with_child, children_from, document_trace}
+use Rattle.tx_parts.specs.Shells.{bare}
+use Rattle.tx_parts.specs.Composed.{Tracer, alone, evaluates, SoFar, nothing_yet, with_child, children_from}
+use Rattle.tx_parts.specs.Composed.{document_trace}
+use Rattle.tx_parts.specs.Layered.{evaluates_bare}
 use Rattle.tx_parts.proofs.PartRuns.{part_is}
 use Rattle.tx_parts.proofs.Running.{fresh, row_alone, node_start}
 
@@ -27,38 +30,56 @@ use Rattle.tx_parts.proofs.Running.{fresh, row_alone, node_start}
 abbrev pub IsWithin : ℕ → ℕ → SoFar → Type 0
 IsWithin k c a = (a.cost ≤ c) × (a.height ≤ k)
 
-pub child_within : (k c i : ℕ) (a : SoFar) (t : WideTree) (e : Before) (trace : WideTrace) → IsWithin k c a →
-    evaluates k (c - a.cost) t e ≡ Some trace → IsWithin k c (with_child i a trace)
-child_within k c i a t e trace h q =
-    let bounds : (trace.cost ≤ c - a.cost) × (trace.height ≤ k) = allowed k (c - a.cost) (alone t) e trace q in
+pub tagged_within : (k c i : ℕ) (a : SoFar) (t : TaggedTree) (e : Before) (trace : WideTrace) → IsWithin k c a →
+    evaluated_in k (c - a.cost) t e ≡ Some trace → IsWithin k c (with_child i a trace)
+tagged_within k c i a t e trace h q =
+    let bounds : (trace.cost ≤ c - a.cost) × (trace.height ≤ k) = allowed k (c - a.cost) t e trace q in
     (omega (arith, h.0, bounds.0), omega (arith, h.1, bounds.1))
 
--- the first of several children is done, and then the others
-pub record FirstDone (k c i : ℕ) (a : SoFar) (t : WideTree) (ts : List WideTree) (e : Before) (b : SoFar) : Type 0 where
-  pub trace : WideTrace
-  pub first : evaluates k (c - a.cost) t (env_atop a.writes e) ≡ Some trace
-  pub others : children_from (evaluates k) c (i + 1) (with_child i a trace) ts e ≡ Some b
+pub child_within : (k c i : ℕ) (a : SoFar) (t : WideTree) (e : Before) (trace : WideTrace) → IsWithin k c a →
+    evaluates k (c - a.cost) t e ≡ Some trace → IsWithin k c (with_child i a trace)
+child_within k c i a t e trace h q = tagged_within k c i a (alone t) e trace h q
 
-pub first_done : (k c i : ℕ) (a : SoFar) (t : WideTree) (ts : List WideTree) (e : Before) (b : SoFar) →
-    children_from (evaluates k) c i a (t ∷ ts) e ≡ Some b → FirstDone k c i a t ts e b
-first_done k c i a t ts e b h = by (evaluates k (c - a.cost) t (env_atop a.writes e)) refl h
+-- the first of several children is done, and then the others
+pub record FirstDone (tracer : Tracer) (c i : ℕ) (a : SoFar) (t : WideTree) (ts : List WideTree) (e : Before)
+    (b : SoFar) : Type 0 where
+  pub trace : WideTrace
+  pub first : tracer (c - a.cost) t (env_atop a.writes e) ≡ Some trace
+  pub others : children_from tracer c (i + 1) (with_child i a trace) ts e ≡ Some b
+
+pub first_done : (tracer : Tracer) (c i : ℕ) (a : SoFar) (t : WideTree) (ts : List WideTree) (e : Before) (b : SoFar) →
+    children_from tracer c i a (t ∷ ts) e ≡ Some b → FirstDone tracer c i a t ts e b
+first_done tracer c i a t ts e b h = by (tracer (c - a.cost) t (env_atop a.writes e)) refl h
   where
-    by : (o : Option WideTrace) → evaluates k (c - a.cost) t (env_atop a.writes e) ≡ o →
-        option_and_then (λ trace. children_from (evaluates k) c (i + 1) (with_child i a trace) ts e) o ≡ Some b →
-        FirstDone k c i a t ts e b
+    by : (o : Option WideTrace) → tracer (c - a.cost) t (env_atop a.writes e) ≡ o →
+        option_and_then (λ trace. children_from tracer c (i + 1) (with_child i a trace) ts e) o ≡ Some b →
+        FirstDone tracer c i a t ts e b
     by None q g = cc
     by (Some trace) q g = record { trace = trace; first = q; others = g }
 
-pub children_within : (k c i : ℕ) (a : SoFar) (ts : List WideTree) (e : Before) (b : SoFar) → IsWithin k c a →
-    children_from (evaluates k) c i a ts e ≡ Some b → IsWithin k c b
-children_within k c i a [] e b h q = let same : a ≡ b = cc in subst (IsWithin k c) same h
-children_within k c i a (t ∷ ts) e b h q =
-    by (first_done k c i a t ts e b q) (λ a' g p. children_within k c (i + 1) a' ts e b g p)
+-- k levels and the steps are enough for each trace
+abbrev pub IsBounded : ℕ → Tracer → Type 0
+IsBounded k tracer = (c : ℕ) (t : WideTree) (e : Before) (trace : WideTrace) → tracer c t e ≡ Some trace →
+    (trace.cost ≤ c) × (trace.height ≤ k)
+
+pub evaluates_bounded : (k : ℕ) → IsBounded k (evaluates k)
+evaluates_bounded k c t e trace h = allowed k c (alone t) e trace h
+
+pub bare_bounded : (k : ℕ) → IsBounded k (evaluates_bare k)
+bare_bounded k c t e trace h = allowed k c (bare t) e trace h
+
+pub children_within : (k : ℕ) (tracer : Tracer) → IsBounded k tracer → (c i : ℕ) (a : SoFar) (ts : List WideTree)
+    (e : Before) (b : SoFar) → IsWithin k c a → children_from tracer c i a ts e ≡ Some b → IsWithin k c b
+children_within k tracer bounds c i a [] e b h q = let same : a ≡ b = cc in subst (IsWithin k c) same h
+children_within k tracer bounds c i a (t ∷ ts) e b h q =
+    by (first_done tracer c i a t ts e b q) (λ a' g p. children_within k tracer bounds c (i + 1) a' ts e b g p)
   where
-    by : FirstDone k c i a t ts e b → ((a' : SoFar) → IsWithin k c a' →
-        children_from (evaluates k) c (i + 1) a' ts e ≡ Some b → IsWithin k c b) → IsWithin k c b
-    by f go = go (with_child i a f.trace)
-        (child_within k c i a t (env_atop a.writes e) f.trace h f.first) f.others
+    by : FirstDone tracer c i a t ts e b → ((a' : SoFar) → IsWithin k c a' →
+        children_from tracer c (i + 1) a' ts e ≡ Some b → IsWithin k c b) → IsWithin k c b
+    by f go =
+        let most : (f.trace.cost ≤ c - a.cost) × (f.trace.height ≤ k) =
+        bounds (c - a.cost) t (env_atop a.writes e) f.trace f.first in
+        go (with_child i a f.trace) (omega (arith, h.0, most.0), omega (arith, h.1, most.1)) f.others
 
 -- ---- the run of the children
 
@@ -70,7 +91,7 @@ abbrev pub children_ran : ℕ → ℕ → Option SoFar → Ran (List WideValue)
 children_ran k c None = Over
 children_ran k c (Some b) = Done b.values (state_behind k c b)
 
-one_more : (k c i : ℕ) (a : SoFar) (trace : WideTrace) → IsWithin k c a → IsWithin k c (with_child i a trace) →
+pub one_more : (k c i : ℕ) (a : SoFar) (trace : WideTrace) → IsWithin k c a → IsWithin k c (with_child i a trace) →
     after_part k (state_behind k c a) trace ≡ state_behind k c (with_child i a trace)
 one_more k c i a trace h g =
     let left : (c - a.cost) - trace.cost ≡ c - (a.cost + trace.cost) = omega arith in
@@ -141,7 +162,7 @@ document_row : row_of (codes "document") ≡ rows.Same
 document_row = refl
 
 -- nothing is done yet
-at_first : (k c : ℕ) → fresh c k ≡ state_behind k c nothing_yet
+pub at_first : (k c : ℕ) → fresh c k ≡ state_behind k c nothing_yet
 at_first k c =
     let left : c ≡ c - 0 = omega arith in
     let slack : k ≡ k - 0 = omega arith in
@@ -166,4 +187,5 @@ document_is k c ts e =
         ∙ ap (λ r. traced (suc k) c (on_done e (λ vs. give (made (codes "document") (vals vs) (Some []))) r))
         (each_is k (c - 1) 0 nothing_yet ts e (omega arith, omega arith))
         ∙ document_traced k c (children_from (evaluates k) (c - 1) 0 nothing_yet (trees ts) e) one
-        (λ b g. children_within k (c - 1) 0 nothing_yet (trees ts) e b (omega arith, omega arith) g) e
+        (λ b g. children_within k (evaluates k) (evaluates_bounded k) (c - 1) 0 nothing_yet (trees ts) e b
+        (omega arith, omega arith) g) e

@@ -1,15 +1,14 @@
 -- The trace of a tree is composed of those of its parts.
-use Rattle.std.proofs.Common.{◌≡◌, ℕ, zero, suc, ap, subst, refl, sym, ◌∙◌}
-use mathlib.Core.Path.{fun_ext}
+use Rattle.std.proofs.Common.{◌≡◌, ℕ, suc, subst, refl, sym}
 use Rattle.std.proofs.lemmas.Slice.Eq.{bytes_eq-Decides}
 use Rattle.std.specs.Prelude.{Bool, true, false, if◌then◌else◌, List, Option, Some, None, codes}
 use Rattle.std.specs.Str.{bytes_eq}
 use Rattle.tx_tree.specs.WideTree.{WideTree, Forest, leaf, node, nil, cons, trees}
 use Rattle.tx_exec_form.specs.Runs.{Before}
 use Rattle.tx_parts.specs.Openness.{Settings, settings_in, document_openness, with_openness, Shut, openness}
-use Rattle.tx_parts.specs.Composed.{evaluates, composed_as, composed}
+use Rattle.tx_parts.specs.Composed.{evaluates, composed_as}
 use Rattle.tx_parts.proofs.Children.{document_is}
-use Rattle.tx_parts.proofs.Settings.{with_is, none_low}
+use Rattle.tx_parts.proofs.Settings.{with_is}
 
 module _ (k c : ℕ) (e : Before) where
   by_document : (ts : Forest) → evaluates (suc k) c (node (codes "document") ts) e ≡
@@ -44,10 +43,3 @@ pub inner_are : (k c : ℕ) (t : WideTree) (e : Before) →
 inner_are k c (leaf words) e = refl
 inner_are k c (node label ts) e =
     by_label k c e label ts (bytes_eq label (codes "document")) (bytes_eq label (codes "with")) refl refl
-
-pub composed_is : (k c : ℕ) (t : WideTree) (e : Before) → evaluates k c t e ≡ composed k c t e
-unfolding composed
-composed_is zero c t e = none_low c t e
-composed_is (suc k) c t e =
-    let below : evaluates k ≡ composed k = fun_ext (λ n. fun_ext (λ u. fun_ext (λ d. composed_is k n u d))) in
-    inner_are k c t e ∙ ap (λ tracer. composed_as (openness t) k tracer c t e) below

@@ -10,12 +10,18 @@ use Rattle.tx_exec_form.specs.Runs.{Before}
 use Rattle.tx_exec_form.specs.Evaluated.{WideTrace, paid}
 use Rattle.tx_exec_form.proofs.Tracing.{allowed}
 use Rattle.tx_parts.specs.Atop.{env_atop}
-use Rattle.tx_parts.specs.Openness.{Settings, Openness, Document, With, Shut, openness}
+use Rattle.tx_parts.specs.Openness.{Settings, Openness, Document, With, Shut}
 use Rattle.tx_parts.specs.Composed.{alone, evaluates, SoFar, nothing_yet, with_child, children_from, document_trace}
 use Rattle.tx_parts.specs.Composed.{set_by, settings_cost, with_trace, composed_as}
-use Rattle.tx_parts.specs.Parts.{Part, part_cost, Finder, parts_from, parts_as, parts}
-use Rattle.tx_parts.proofs.Children.{IsWithin, child_within, children_within}
-use Rattle.tx_parts.proofs.Composing.{inner_are}
+use Rattle.tx_parts.specs.Shells.{Layer}
+use Rattle.tx_parts.specs.Opening.{Sheller, closed, Opening, ByTree, ByShell, opening}
+use Rattle.tx_parts.specs.Layered.{layer_values, layer_cost, inside_layer, layer_trace, child_trace, layer_composed}
+use Rattle.tx_parts.specs.Layered.{composed_layers, evaluates_in, shell_trace, composed_opened}
+use Rattle.tx_parts.specs.Shellers.{IsSheller}
+use Rattle.tx_parts.specs.Parts.{Part, part_cost, Finder, parts_from, parts_as, parts, LayerFinder, parts_layers}
+use Rattle.tx_parts.specs.Parts.{parts_opened, parts_by, parts_in}
+use Rattle.tx_parts.proofs.Children.{IsWithin, child_within, children_within, evaluates_bounded}
+use Rattle.tx_parts.proofs.Opened.{in_bounded, opened_is, closed_is}
 
 abbrev total : List Part → ℕ
 total ps = sum_by part_cost ps
@@ -35,9 +41,10 @@ paid_most k c t e (Some trace) h = (allowed k c (alone t) e trace h).0
 children_most : (k c : ℕ) (ts : List WideTree) (e : Before) (o : Option SoFar) →
     children_from (evaluates k) c 0 nothing_yet ts e ≡ o → children_paid c o ≤ c
 children_most k c ts e None h = omega arith
-children_most k c ts e (Some b) h = (children_within k c 0 nothing_yet ts e b (omega arith, omega arith) h).0
+children_most k c ts e (Some b) h = (children_within k (evaluates k) (evaluates_bounded k) c 0 nothing_yet
+    ts e b (omega arith, omega arith) h).0
 
-abbrev CostBelow : ℕ → Finder → Type 0
+abbrev pub CostBelow : ℕ → Finder → Type 0
 CostBelow k finder = (c : ℕ) (path : List ℕ) (t : WideTree) (e : Before) →
     total (finder c path t e) ≤ paid c (evaluates k c t e)
 
@@ -106,9 +113,76 @@ module _ (k : ℕ) (finder : Finder) (below : CostBelow k finder) where
       (evaluates k (c - (1 + settings_cost ps)) u (env_atop (set_by ps) e)) refl)
   open_cost Shut c path t e = omega arith
 
+-- ---- layers
+
+abbrev pub CostInside : ℕ → LayerFinder → Type 0
+CostInside k inside = (ls : List Layer) (i c : ℕ) (path : List ℕ) (t : WideTree) (e : Before) →
+    total (inside ls i c path t e) ≤ paid c (evaluates_in k ls i c t e)
+
+in_most : (k : ℕ) (ls : List Layer) (i c : ℕ) (t : WideTree) (e : Before) (o : Option WideTrace) →
+    evaluates_in k ls i c t e ≡ o → paid c o ≤ c
+in_most k ls i c t e None h = omega arith
+in_most k ls i c t e (Some trace) h = (in_bounded k ls i c t e trace h).0
+
+-- with n steps more round what is inside
+round_cost : (g : WideTrace → WideTrace) (n c m : ℕ) → ((u : WideTrace) → (g u).cost ≡ n + u.cost) → (b : Bool)
+    (o : Option WideTrace) → m ≤ paid (c - n) o → paid (c - n) o ≤ c - n →
+    m ≤ paid c (if b then option_map g o else None)
+round_cost g n c m more true None h p = omega (arith, h)
+round_cost g n c m more true (Some trace) h p =
+    let cost : (g trace).cost ≡ n + trace.cost = more trace in
+    omega (arith, h, cost)
+round_cost g n c m more false o h p = omega (arith, h, p)
+
+module _ (k : ℕ) (finder : Finder) (below : CostBelow k finder) (inside : LayerFinder)
+    (within : CostInside k inside) where
+  layers_cost : (ls : List Layer) (i c : ℕ) (path : List ℕ) (t : WideTree) (e : Before) →
+      total (parts_layers k finder inside ls i c path t e) ≤
+      paid c (composed_layers k (evaluates k) (evaluates_in k) ls i c t e)
+  layers_cost [] i c path t e =
+      round_cost (child_trace i) 1 c (total (finder (c - 1) (path ++ i ∷ []) t e)) (λ u. refl) (nat_le 1 c)
+      (evaluates k (c - 1) t e) (below (c - 1) (path ++ i ∷ []) t e)
+      (paid_most k (c - 1) t e (evaluates k (c - 1) t e) refl)
+  layers_cost (l ∷ ls) i c path t e = by (layer_values k l c e)
+    where
+      by : (o : Option SoFar) → total (option_map_or
+          (λ a. inside ls i (c - layer_cost l.names a) path t (inside_layer l.names a e)) o []) ≤
+          paid c (option_and_then (λ a. layer_composed l.names a (evaluates_in k ls i) c t e) o)
+      by None = omega arith
+      by (Some a) =
+          round_cost (layer_trace l.names a) (layer_cost l.names a) c
+          (total (inside ls i (c - layer_cost l.names a) path t (inside_layer l.names a e))) (λ u. refl)
+          (nat_le (layer_cost l.names a) c)
+          (evaluates_in k ls i (c - layer_cost l.names a) t (inside_layer l.names a e))
+          (within ls i (c - layer_cost l.names a) path t (inside_layer l.names a e))
+          (in_most k ls i (c - layer_cost l.names a) t (inside_layer l.names a e)
+          (evaluates_in k ls i (c - layer_cost l.names a) t (inside_layer l.names a e)) refl)
+
+  opened_cost : (o : Opening) (c : ℕ) (path : List ℕ) (t : WideTree) (e : Before) →
+      total (parts_opened o k finder inside c path t e) ≤
+      paid c (composed_opened o k (evaluates k) (evaluates_in k) c t e)
+  opened_cost (ByTree o) c path t e = open_cost k finder below o c path t e
+  opened_cost (ByShell shell u) c path t e =
+      round_cost (shell_trace t e) 1 c (total (inside shell.layers shell.inner (c - 1) path u e)) (λ v. refl)
+      (nat_le 1 c) (evaluates_in k shell.layers shell.inner (c - 1) u e)
+      (within shell.layers shell.inner (c - 1) path u e)
+      (in_most k shell.layers shell.inner (c - 1) u e (evaluates_in k shell.layers shell.inner (c - 1) u e) refl)
+
+module _ (sheller : Sheller) (sound : IsSheller sheller) where
+  mutual
+    unfolding parts_by parts_in evaluates_in
+
+    pub parts_by_cost : (k : ℕ) → CostBelow k (parts_by sheller k)
+    parts_by_cost zero c path t e = omega arith
+    parts_by_cost (suc k) c path t e =
+        subst (λ o. total (parts_by sheller (suc k) c path t e) ≤ paid c o) (sym (opened_is sheller sound k c t e))
+        (opened_cost k (parts_by sheller k) (parts_by_cost k) (parts_in sheller k) (parts_in_cost k)
+        (opening sheller t e) c path t e)
+
+    pub parts_in_cost : (k : ℕ) → CostInside k (parts_in sheller k)
+    parts_in_cost zero ls i c path t e = omega arith
+    parts_in_cost (suc k) ls i c path t e =
+        layers_cost k (parts_by sheller k) (parts_by_cost k) (parts_in sheller k) (parts_in_cost k) ls i c path t e
+
 pub parts_cost : (k : ℕ) → CostBelow k (parts k)
-unfolding parts
-parts_cost zero c path t e = omega arith
-parts_cost (suc k) c path t e =
-    subst (λ o. total (parts_as (openness t) k (parts k) c path t e) ≤ paid c o) (sym (inner_are k c t e))
-    (open_cost k (parts k) (parts_cost k) (openness t) c path t e)
+parts_cost k = parts_by_cost closed closed_is k

@@ -6,9 +6,16 @@ pub mod Running
 pub mod Children
 pub mod Restoring
 pub mod Settings
+pub mod Layers
+pub mod LayerValues
+pub mod Inside
 pub mod Composing
+pub mod Opened
+pub mod Openers
+pub mod MacroShells
 pub mod Fitting
 pub mod Standing
 pub mod Costing
 pub mod Pairing
 mod Worked
+mod WorkedShells

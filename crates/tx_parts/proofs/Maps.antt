@@ -61,7 +61,7 @@ get_both l w k q =
 
 -- ---- with nothing set or looked up
 
-or_none : {A : Type 0} (o : Option A) → option_or o None ≡ o
+pub or_none : {A : Type 0} (o : Option A) → option_or o None ≡ o
 or_none (Some a) = refl
 or_none None = refl
 
@@ -81,7 +81,7 @@ looks_nothing l w = same (both_looks l w empty) l
 
 -- ---- setting
 
-get_pair : (x : Name) (t : Option WideTree) (m : NameMap) (q : Name) →
+pub get_pair : (x : Name) (t : Option WideTree) (m : NameMap) (q : Name) →
     get (with_pair x t m) q ≡ cond (tied q x) t (get m q)
 get_pair x (Some t) m q = get-insert nat_list_cmp_total m x t q
 get_pair x None m q = get-remove nat_list_cmp_total m x q

@@ -23,7 +23,7 @@ use Rattle.tx_parts.proofs.Maps.{atop_nothing, looks_nothing, unless, get_atop, 
 use Rattle.tx_parts.proofs.Shifting.{added, ran_added, ex_shifts}
 
 -- the state of the whole is where a part begins, seen in the whole
-begun : (k : ℕ) (s : State) → s.slack ≤ k → added s.own s.looks s.slack (start k s.left) ≡ s
+pub begun : (k : ℕ) (s : State) → s.slack ≤ k → added s.own s.looks s.slack (start k s.left) ≡ s
 begun k s low =
     let level : min s.slack k ≡ s.slack = omega (arith, low) in
     ap (λ m. record { own = m; looks = both_looks s.looks s.own empty; left = s.left; slack = min s.slack k })

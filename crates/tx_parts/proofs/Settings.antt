@@ -25,12 +25,11 @@ use Rattle.tx_parts.specs.Adding.{after_part, part_ran}
 use Rattle.tx_parts.specs.Openness.{Settings, and_setting, settings_in}
 use Rattle.tx_parts.specs.Composed.{alone, evaluates, set_by, settings_cost, setting_values, with_trace}
 use Rattle.tx_parts.proofs.PartRuns.{part_is}
-use Rattle.tx_parts.proofs.Running.{fresh, row_alone, node_start, both_paid, text_then}
+use Rattle.tx_parts.proofs.Running.{none_there, fresh, row_alone, node_start, both_paid, text_then}
 use Rattle.tx_parts.proofs.Restoring.{sets_of, all_set, set_by_is, restored_is, first_looks}
 
 pub none_low : (c : ℕ) (t : WideTree) (e : Before) → evaluated_in 0 c (alone t) e ≡ None
-unfolding evaluated_in ex
-none_low c t e = refl
+none_low c t e = none_there c (alone t) e
 
 -- a trace needs a level
 pub is_high : (k c : ℕ) (t : WideTree) (e : Before) (trace : WideTrace) → evaluates k c t e ≡ Some trace →

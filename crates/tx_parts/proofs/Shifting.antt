@@ -344,7 +344,7 @@ module _ (w : NameMap) (l : LookMap) (n : ℕ) where
           (two_under base vs name v)
           (withs label at (vs ++ name ∷ v ∷ []) (ps ++ (y, Some (plain v)) ∷ []) ts (raised_more ps y (plain v) h))))))
 
-      with_rows : (label : List ℕ) (at : Option (List ℕ)) (kids : List TaggedTree) →
+      pub with_rows : (label : List ℕ) (at : Option (List ℕ)) (kids : List TaggedTree) →
           Goes (with_row k below f label at kids)
           (with_row k below (F f) label (origin_under base at) (map T kids))
       with_rows label at kids =
@@ -399,7 +399,7 @@ module _ (w : NameMap) (l : LookMap) (n : ℕ) where
       applieds_all label kids None = bads k label
       applieds_all label kids (Some m) = belows _ _
 
-      tag_founds : (label : List ℕ) (at : Option (List ℕ)) (kids : List TaggedTree) (t : Option WideTree) →
+      pub tag_founds : (label : List ℕ) (at : Option (List ℕ)) (kids : List TaggedTree) (t : Option WideTree) →
           Goes (tag_found k below label at kids f t)
           (tag_found k below label (origin_under base at) (map T kids) (F f) t)
       unfolding called

@@ -15,7 +15,11 @@ use Rattle.tx_parts.specs.Atop.{env_atop}
 use Rattle.tx_parts.specs.Openness.{Settings, settings_in, Openness, Document, With, Shut, document_openness}
 use Rattle.tx_parts.specs.Openness.{with_openness, openness}
 use Rattle.tx_parts.specs.Composed.{evaluates, SoFar, nothing_yet, with_child, set_by, settings_cost}
-use Rattle.tx_parts.specs.Parts.{Part, Finder, parts_from, parts_as, parts}
+use Rattle.tx_parts.specs.Shells.{Layer, Shell}
+use Rattle.tx_parts.specs.Opening.{Sheller, closed, Opening, ByTree, ByShell, opening, opening_by, shell_opening}
+use Rattle.tx_parts.specs.Layered.{layer_values, layer_cost, inside_layer}
+use Rattle.tx_parts.specs.Parts.{Part, Finder, parts_from, parts_as, parts, LayerFinder, parts_layers, parts_opened}
+use Rattle.tx_parts.specs.Parts.{parts_by, parts_in}
 use Rattle.tx_parts.specs.Standing.{StandsIn}
 use Rattle.tx_parts.proofs.Settings.{Behind, behind_first}
 
@@ -140,10 +144,51 @@ module _ (k : ℕ) (finder : Finder) (below : StandBelow finder) where
       (below (c - (1 + settings_cost ps)) (path ++ (2 * length ps) ∷ []) u (env_atop (set_by ps) e))
   open_stands Shut c path t e h = (record { below = []; path_is = sym (append-nil path); leads = refl }, tt)
 
+-- those of a child in layers stand in the child
+abbrev pub StandInside : LayerFinder → Type 0
+StandInside inside = (ls : List Layer) (i c : ℕ) (path : List ℕ) (u : WideTree) (e : Before) →
+    AllStand (path ++ i ∷ []) u (inside ls i c path u e)
+
+module _ (k : ℕ) (finder : Finder) (below : StandBelow finder) (inside : LayerFinder)
+    (within : StandInside inside) where
+  layers_stand : StandInside (parts_layers k finder inside)
+  layers_stand [] i c path u e = below (c - 1) (path ++ i ∷ []) u e
+  layers_stand (l ∷ ls) i c path u e = by (layer_values k l c e)
+    where
+      by : (o : Option SoFar) → AllStand (path ++ i ∷ []) u (option_map_or
+          (λ a. inside ls i (c - layer_cost l.names a) path u (inside_layer l.names a e)) o [])
+      by None = tt
+      by (Some a) = within ls i (c - layer_cost l.names a) path u (inside_layer l.names a e)
+
+  opened_stands : (o : Option Shell) (c : ℕ) (path : List ℕ) (t : WideTree) (e : Before) →
+      AllStand path t (parts_opened (opening_by o t) k finder inside c path t e)
+  opened_stands None c path t e = open_stands k finder below (openness t) c path t e refl
+  opened_stands (Some shell) c path t e = by (slice_get (children_of t) shell.inner) refl
+    where
+      by : (r : Option WideTree) → slice_get (children_of t) shell.inner ≡ r →
+          AllStand path t (parts_opened (shell_opening shell r (openness t)) k finder inside c path t e)
+      by None h = open_stands k finder below (openness t) c path t e refl
+      by (Some u) h =
+          lifted path t shell.inner u (inside shell.layers shell.inner (c - 1) path u e) h
+          (within shell.layers shell.inner (c - 1) path u e)
+
+module _ (sheller : Sheller) where
+  mutual
+    unfolding parts_by parts_in
+
+    pub parts_by_stand : (k : ℕ) → StandBelow (parts_by sheller k)
+    parts_by_stand zero c path t e = tt
+    parts_by_stand (suc k) c path t e =
+        opened_stands k (parts_by sheller k) (parts_by_stand k) (parts_in sheller k) (parts_in_stand k) (sheller t e) c
+        path t e
+
+    pub parts_in_stand : (k : ℕ) → StandInside (parts_in sheller k)
+    parts_in_stand zero ls i c path u e = tt
+    parts_in_stand (suc k) ls i c path u e =
+        layers_stand k (parts_by sheller k) (parts_by_stand k) (parts_in sheller k) (parts_in_stand k) ls i c path u e
+
 pub parts_stand : (k : ℕ) → StandBelow (parts k)
-unfolding parts
-parts_stand zero c path t e = tt
-parts_stand (suc k) c path t e = open_stands k (parts k) (parts_stand k) (openness t) c path t e refl
+parts_stand k = parts_by_stand closed k
 
 -- ---- no two stand at one path
 
@@ -272,10 +317,41 @@ module _ (k : ℕ) (finder : Finder) (stand : StandBelow finder) (below : Differ
       below (c - (1 + settings_cost ps)) (path ++ (2 * length ps) ∷ []) u (env_atop (set_by ps) e)
   open_differ Shut c path t e = (tt, tt)
 
-differing : (k : ℕ) → DifferBelow (parts k)
-unfolding parts
-differing zero c path t e = tt
-differing (suc k) c path t e = open_differ k (parts k) (parts_stand k) (differing k) (openness t) c path t e
+abbrev DifferInside : LayerFinder → Type 0
+DifferInside inside = (ls : List Layer) (i c : ℕ) (path : List ℕ) (u : WideTree) (e : Before) →
+    AllDiffer (inside ls i c path u e)
+
+module _ (k : ℕ) (finder : Finder) (stand : StandBelow finder) (below : DifferBelow finder) (inside : LayerFinder)
+    (within : DifferInside inside) where
+  layers_differ : DifferInside (parts_layers k finder inside)
+  layers_differ [] i c path u e = below (c - 1) (path ++ i ∷ []) u e
+  layers_differ (l ∷ ls) i c path u e = by (layer_values k l c e)
+    where
+      by : (o : Option SoFar) → AllDiffer (option_map_or
+          (λ a. inside ls i (c - layer_cost l.names a) path u (inside_layer l.names a e)) o [])
+      by None = tt
+      by (Some a) = within ls i (c - layer_cost l.names a) path u (inside_layer l.names a e)
+
+  opened_differ : (o : Opening) (c : ℕ) (path : List ℕ) (t : WideTree) (e : Before) →
+      AllDiffer (parts_opened o k finder inside c path t e)
+  opened_differ (ByTree o) c path t e = open_differ k finder stand below o c path t e
+  opened_differ (ByShell shell u) c path t e = within shell.layers shell.inner (c - 1) path u e
+
+module _ (sheller : Sheller) where
+  mutual
+    unfolding parts_by parts_in
+
+    differing : (k : ℕ) → DifferBelow (parts_by sheller k)
+    differing zero c path t e = tt
+    differing (suc k) c path t e =
+        opened_differ k (parts_by sheller k) (parts_by_stand sheller k) (differing k) (parts_in sheller k)
+        (differing_in k) (opening sheller t e) c path t e
+
+    differing_in : (k : ℕ) → DifferInside (parts_in sheller k)
+    differing_in zero ls i c path u e = tt
+    differing_in (suc k) ls i c path u e =
+        layers_differ k (parts_by sheller k) (parts_by_stand sheller k) (differing k) (parts_in sheller k)
+        (differing_in k) ls i c path u e
 
 not_paths : (path : List ℕ) (ps : List Part) → NotIn path ps →
     AllByRecursion (λ q. bytes_eq path q ≡ false) (map (λ p. p.path) ps)
@@ -287,6 +363,10 @@ unfolding IsDistinct
 distinct [] h = tt
 distinct (p ∷ ps) h = (not_paths p.path ps h.0, distinct ps h.1)
 
+pub parts_by_differ : (sheller : Sheller) (k c : ℕ) (path : List ℕ) (t : WideTree) (e : Before) →
+    IsDistinct bytes_eq (map (λ p. p.path) (parts_by sheller k c path t e))
+parts_by_differ sheller k c path t e = distinct (parts_by sheller k c path t e) (differing sheller k c path t e)
+
 pub parts_differ : (k c : ℕ) (path : List ℕ) (t : WideTree) (e : Before) →
     IsDistinct bytes_eq (map (λ p. p.path) (parts k c path t e))
-parts_differ k c path t e = distinct (parts k c path t e) (differing k c path t e)
+parts_differ k c path t e = parts_by_differ closed k c path t e

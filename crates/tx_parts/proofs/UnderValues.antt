@@ -7,7 +7,7 @@ use Rattle.std.specs.Option.{option_map}
 use Rattle.std.specs.Str.{bytes_eq}
 use Rattle.tx_tree.specs.WideTree.{WideTree, Forest, leaf, node, nil, cons}
 use Rattle.tx_env.specs.Pairs.{Name}
-use Rattle.tx_origin.specs.Values.{WideValue, WideValues, text, made, none, also, vals, value_text, plain, plains}
+use Rattle.tx_origin.specs.Values.{WideValue, text, made, also, value_text, plain}
 use Rattle.tx_origin.specs.Values.{child_at, whole, wholes}
 use Rattle.tx_origin.specs.TaggedTrees.{TaggedTree, kids_from, kids_at, kids_of}
 use Rattle.tx_prim.specs.Numbers.{number_of}

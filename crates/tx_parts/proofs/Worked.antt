@@ -12,7 +12,7 @@ use Rattle.tx_exec_form.specs.Rows.{ex, row, node_run, leaf_run, only_child, val
 use Rattle.tx_exec_form.specs.Rows.{assigned, stored}
 use Rattle.tx_exec_form.specs.Evaluated.{WideTrace, traced, evaluated_in}
 use Rattle.tx_parts.specs.Composed.{evaluates}
-use Rattle.tx_parts.specs.Parts.{Part, part_trace, parts}
+use Rattle.tx_parts.specs.Parts.{Part, part_trace, parts, parts_by}
 use Rattle.tx_parts.proofs.Running.{fresh}
 
 abbrev cost_in : Option WideTrace → Option ℕ
@@ -47,5 +47,5 @@ costs ps = map {B = List ℕ × Option ℕ} (λ p. (p.path, cost_in (part_trace 
 -- at the path 1
 two_parts : (e : Before) →
     costs (parts 9 100 (1 ∷ []) paragraph e) ≡ ((1 ∷ 2 ∷ 0 ∷ []), Some 10) ∷ ((1 ∷ 2 ∷ 1 ∷ []), Some 2) ∷ []
-unfolding parts evaluated_in ex leaf_run pay need
+unfolding parts_by evaluated_in ex leaf_run pay need
 two_parts e = refl

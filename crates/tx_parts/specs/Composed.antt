@@ -1,9 +1,10 @@
 -- The trace of an open tree, composed of the traces of its inner trees.
-use Rattle.std.specs.Prelude.{ℕ, zero, suc, ◌+◌, ◌*◌, ◌-◌, max, nat_le, if◌then◌else◌, List, [], ◌∷◌, ◌++◌, length, map}
+use Rattle.std.specs.Prelude.{ℕ, suc, ◌+◌, ◌*◌, ◌-◌, max, nat_le, if◌then◌else◌, List, [], ◌∷◌, ◌++◌, length, map}
 use Rattle.std.specs.Prelude.{Option, Some, None, option_and_then, codes}
 use Rattle.std.specs.Option.{option_map}
 use Rattle.std.specs.FinMap.{empty}
 use Rattle.tx_tree.specs.WideTree.{WideTree, leaf}
+use Rattle.tx_env.specs.Pairs.{Name}
 use Rattle.tx_env.specs.Environments.{NameMap, overlaid}
 use Rattle.tx_origin.specs.Values.{WideValue, text, made, vals}
 use Rattle.tx_origin.specs.TaggedTrees.{TaggedTree}
@@ -12,7 +13,7 @@ use Rattle.tx_exec_form.specs.Runs.{Before}
 use Rattle.tx_exec_form.specs.Evaluated.{WideTrace, evaluated_in}
 use Rattle.tx_parts.specs.Atop.{atop, env_atop, past, both_looks}
 use Rattle.tx_origin.specs.Under.{value_under}
-use Rattle.tx_parts.specs.Openness.{Settings, Openness, Document, With, Shut, openness}
+use Rattle.tx_parts.specs.Openness.{Settings, Openness, Document, With, Shut}
 
 -- a tree that is evaluated alone stands at an origin of its own
 abbrev pub alone : WideTree → TaggedTree
@@ -68,9 +69,13 @@ document_trace a = record {
 
 -- ---- `with`
 
+-- the names with what the settings give them
+abbrev pub setting_pairs : Settings → List (Name × WideTree)
+setting_pairs ps = map (λ p. (p.0, leaf p.1)) ps
+
 -- what the settings set
 abbrev pub set_by : Settings → NameMap
-set_by ps = overlaid empty (map (λ p. (p.0, leaf p.1)) ps)
+set_by ps = overlaid empty (setting_pairs ps)
 
 -- both texts are evaluated, and the second is stored
 abbrev pub settings_cost : Settings → ℕ
@@ -105,8 +110,3 @@ composed_as (With ps b) k tracer c t e =
     then option_map (with_trace ps) (tracer (c - (1 + settings_cost ps)) b (env_atop (set_by ps) e))
     else None
 composed_as Shut k tracer c t e = evaluates (suc k) c t e
-
--- The trace of a tree with k levels, where only trees that aren't open are evaluated.
-unfoldable pub composed : ℕ → Tracer
-composed zero c t e = None
-composed (suc k) c t e = composed_as (openness t) k (composed k) c t e

@@ -1,7 +1,12 @@
 pub mod Atop
 pub mod Adding
 pub mod Openness
+pub mod Shells
+pub mod MacroBodies
+pub mod Opening
 pub mod Composed
+pub mod Layered
+pub mod Shellers
 pub mod Parts
 pub mod Fitting
 pub mod Standing

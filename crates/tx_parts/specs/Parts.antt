@@ -5,8 +5,11 @@ use Rattle.tx_tree.specs.WideTree.{WideTree}
 use Rattle.tx_exec_form.specs.Runs.{Before}
 use Rattle.tx_exec_form.specs.Evaluated.{WideTrace, paid}
 use Rattle.tx_parts.specs.Atop.{env_atop}
-use Rattle.tx_parts.specs.Openness.{Openness, Document, With, Shut, openness}
+use Rattle.tx_parts.specs.Openness.{Openness, Document, With, Shut}
+use Rattle.tx_parts.specs.Shells.{Layer}
+use Rattle.tx_parts.specs.Opening.{Sheller, closed, Opening, ByTree, ByShell, opening}
 use Rattle.tx_parts.specs.Composed.{evaluates, SoFar, nothing_yet, with_child, set_by, settings_cost}
+use Rattle.tx_parts.specs.Layered.{layer_values, layer_cost, inside_layer}
 
 -- where it stands, the levels and steps that it has, and what names have before it
 pub record Part : Type 0 where
@@ -56,7 +59,32 @@ parts_as (With ps b) k finder c path t e =
 parts_as Shut k finder c path t e =
     record { path = path; tree = t; levels = suc k; steps = c; before = e } ∷ []
 
+-- those of a tree in layers, which is the child of this number
+abbrev pub LayerFinder : Type 0
+LayerFinder = List Layer → ℕ → Finder
+
+abbrev pub parts_layers : ℕ → Finder → LayerFinder → LayerFinder
+parts_layers k finder inside [] i c path t e = finder (c - 1) (path ++ i ∷ []) t e
+parts_layers k finder inside (l ∷ ls) i c path t e =
+    option_map_or (λ a. inside ls i (c - layer_cost l.names a) path t (inside_layer l.names a e))
+    (layer_values k l c e) []
+
+abbrev pub parts_opened : Opening → ℕ → Finder → LayerFinder → Finder
+parts_opened (ByTree o) k finder inside c path t e = parts_as o k finder c path t e
+parts_opened (ByShell shell u) k finder inside c path t e = inside shell.layers shell.inner (c - 1) path u e
+
 -- with k levels
-unfoldable pub parts : ℕ → Finder
-parts zero c path t e = []
-parts (suc k) c path t e = parts_as (openness t) k (parts k) c path t e
+unfoldable mutual
+  pub parts_by : Sheller → ℕ → Finder
+  parts_by sheller zero c path t e = []
+  parts_by sheller (suc k) c path t e =
+      parts_opened (opening sheller t e) k (parts_by sheller k) (parts_in sheller k) c path t e
+
+  pub parts_in : Sheller → ℕ → LayerFinder
+  parts_in sheller zero ls i c path t e = []
+  parts_in sheller (suc k) ls i c path t e =
+      parts_layers k (parts_by sheller k) (parts_in sheller k) ls i c path t e
+
+-- where nothing has a shell
+abbrev pub parts : ℕ → Finder
+parts k = parts_by closed k
