@@ -20,10 +20,10 @@ use Rattle.tx_parts.specs.Openness.{Openness, Document, With, Shut, settings_in,
 use Rattle.tx_parts.specs.Openness.{openness}
 use Rattle.tx_parts.specs.Atop.{env_atop}
 use Rattle.tx_parts.specs.Composed.{alone, evaluates, SoFar, nothing_yet, children_from, document_trace, composed_as}
-use Rattle.tx_parts.specs.Parts.{parts_as, parts, parts_from}
+use Rattle.tx_parts.specs.Parts.{parts_as, parts, parts_from, parts_by}
 use Rattle.tx_parts.proofs.Composing.{inner_are}
 use Rattle.tx_walk.specs.declared.part.Part.{Part as DonePart}
-use Rattle.tx_walk.specs.Held.{Store, charges}
+use Rattle.tx_walk.specs.Held.{Stores, charges}
 use Rattle.tx_walk.specs.Walked.{seen, seen_in}
 use Rattle.tx_walk.specs.Steps.{trace_under, IsBehind, IsAdded, below, document_at, FitsNode, Stage, ChildrenDone}
 use Rattle.tx_walk.specs.Steps.{ChildrenCome}
@@ -95,11 +95,11 @@ module _ (k c : ℕ) (path : List ℕ) (t : WideTree) (e : Before) (opens : open
 
   pub document_parts : parts k c path t e ≡ parts_from (k - 1) (parts (k - 1)) (c - 1) path 0 nothing_yet
       (children_of t) e
-  unfolding parts
+  unfolding parts_by
   document_parts =
       ap (λ n. parts n c path t e) (sym upper) ∙ ap (λ o. parts_as o (k - 1) (parts (k - 1)) c path t e) opens
 
-module _ (kept : Store) (k c : ℕ) (path : List ℕ) (t : WideTree) (opens : openness t ≡ Document (children_of t))
+module _ (kept : Stores) (k c : ℕ) (path : List ℕ) (t : WideTree) (opens : openness t ≡ Document (children_of t))
     (some : 0 < k) (left : 0 < c) (a b : SoFar) (names names1 : Before) (old new : List DonePart) (before after : ℕ)
   where
     abbrev first : Stage

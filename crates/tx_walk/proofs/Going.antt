@@ -22,7 +22,7 @@ use Rattle.tx_parts.specs.Composed.{alone, evaluates, SoFar, nothing_yet, with_c
 use Rattle.tx_parts.specs.Parts.{Part, parts, parts_from}
 use Rattle.tx_parts.proofs.PartRuns.{atop_twice}
 use Rattle.tx_walk.specs.declared.part.Part.{Part as DonePart}
-use Rattle.tx_walk.specs.Held.{Store, charge_of, charges}
+use Rattle.tx_walk.specs.Held.{Stores, charge_of, charges}
 use Rattle.tx_walk.specs.Walked.{seen, seen_in}
 use Rattle.tx_walk.specs.Steps.{trace_under, IsBehind, IsAdded, with_trace, IsJoined, below, Stage, ChildDone}
 use Rattle.tx_walk.specs.Steps.{ChildOver}
@@ -30,7 +30,7 @@ use Rattle.tx_walk.specs.Steps.{ChildComes, ChildrenDone, ChildrenOver}
 
 -- ---- one child
 
-module _ (kept : Store) (k c : ℕ) (path : List ℕ) (i : ℕ) (t : WideTree) (a b : SoFar) (names names1 : Before)
+module _ (kept : Stores) (k c : ℕ) (path : List ℕ) (i : ℕ) (t : WideTree) (a b : SoFar) (names names1 : Before)
     (old new : List DonePart) (before after : ℕ) where
   abbrev first : Stage
   first = record { joined = a; names = names; done = map seen old; count = before }
@@ -79,7 +79,7 @@ module _ (kept : Store) (k c : ℕ) (path : List ℕ) (i : ℕ) (t : WideTree) (
 -- ---- the loop
 
 -- Behind i children.
-pub record Going (kept : Store) (k c : ℕ) (path : List ℕ) (kids : List WideTree) (s : Stage) (i : ℕ) (s1 : Stage) :
+pub record Going (kept : Stores) (k c : ℕ) (path : List ℕ) (kids : List WideTree) (s : Stage) (i : ℕ) (s1 : Stage) :
     Type 0 where
   pub so_far : SoFar
   pub run : children_from (evaluates k) c 0 nothing_yet kids s.names ≡
@@ -101,7 +101,7 @@ pub append_none : {X : Type 0} (xs : List X) → xs ++ [] ≡ xs
 append_none [] = refl
 append_none (x ∷ xs) = ap (λ ys. x ∷ ys) (append_none xs)
 
-pub begins : (kept : Store) (k c : ℕ) (path : List ℕ) (kids : List WideTree) (s : Stage) →
+pub begins : (kept : Stores) (k c : ℕ) (path : List ℕ) (kids : List WideTree) (s : Stage) →
     s.joined ≡ nothing_yet → Going kept k c path kids s 0 s
 begins kept k c path kids s h =
     record {
@@ -136,7 +136,7 @@ below_more base i a w =
       height = max a.height w.height;
     }) (values_more base i a.values w.value)
 
-module _ (kept : Store) (k c : ℕ) (path : List ℕ) (kids : List WideTree) (s : Stage) (i : ℕ) (s1 : Stage)
+module _ (kept : Stores) (k c : ℕ) (path : List ℕ) (kids : List WideTree) (s : Stage) (i : ℕ) (s1 : Stage)
     (g : Going kept k c path kids s i s1) (t : WideTree) (there : slice_get kids i ≡ Some t) where
   pub cost_is : s1.joined.cost ≡ g.so_far.cost
   cost_is = ap (λ (a : SoFar). a.cost) g.joined
@@ -225,7 +225,7 @@ drop_all [] (suc n) h = refl
 drop_all (x ∷ xs) zero h = absurd (omega (arith, h))
 drop_all {X} (x ∷ xs) (suc n) h = drop_all {X = X} xs n (omega (arith, h))
 
-pub ends : (kept : Store) (k c : ℕ) (path : List ℕ) (kids : List WideTree) (s : Stage) (i : ℕ) (s1 : Stage) →
+pub ends : (kept : Stores) (k c : ℕ) (path : List ℕ) (kids : List WideTree) (s : Stage) (i : ℕ) (s1 : Stage) →
     Going kept k c path kids s i s1 → i ≡ length kids → ChildrenDone kept k c path kids s s1
 ends kept k c path kids s i s1 g h =
     let all : parts_from k (parts k) c path 0 nothing_yet kids s.names ≡ g.earlier =

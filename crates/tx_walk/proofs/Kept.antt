@@ -17,15 +17,15 @@ use Rattle.tx_parts.specs.Parts.{Part, parts, part_trace}
 use Rattle.tx_parts.specs.Standing.{StandsIn}
 use Rattle.tx_parts.proofs.Standing.{parts_stand, parts_differ}
 use Rattle.tx_walk.specs.declared.part.Part.{Part as DonePart}
-use Rattle.tx_walk.specs.Held.{Store, IsSound}
+use Rattle.tx_walk.specs.Held.{Store, Stores, IsSound, AreSound, only}
 use Rattle.tx_walk.specs.Walked.{Seen, seen, seen_in, kept_in, paths_of}
 
 -- the first of each and the others
-pub record Alike (kept : Store) (d : DonePart) (ds : List DonePart) (p : Part) (ps : List Part) : Type 0 where
+pub record Alike (kept : Stores) (d : DonePart) (ds : List DonePart) (p : Part) (ps : List Part) : Type 0 where
   pub first : seen d ≡ seen_in kept p
   pub others : map seen ds ≡ map (seen_in kept) ps
 
-pub alike : (kept : Store) (d : DonePart) (ds : List DonePart) (p : Part) (ps : List Part) →
+pub alike : (kept : Stores) (d : DonePart) (ds : List DonePart) (p : Part) (ps : List Part) →
     map seen (d ∷ ds) ≡ map (seen_in kept) (p ∷ ps) → Alike kept d ds p ps
 alike kept d ds p ps h = record { first = ap (head (seen d)) h; others = ap tail h }
   where
@@ -44,7 +44,7 @@ pub record Found (path : List ℕ) (t : WideTree) (at : List ℕ) (trace : WideT
   pub is_at : part.path ≡ at
   pub comes : part_trace part ≡ Some trace
 
-found_in : (kept : Store) (path : List ℕ) (t : WideTree) (at : List ℕ) (trace : WideTrace) (ds : List DonePart)
+found_in : (kept : Stores) (path : List ℕ) (t : WideTree) (at : List ℕ) (trace : WideTrace) (ds : List DonePart)
     (ps : List Part) → map seen ds ≡ map (seen_in kept) ps → AllByRecursion (StandsIn path t) ps →
     kept_in ds at ≡ Some trace → Found path t at trace
 found_in kept path t at trace [] ps h stand found = cc
@@ -75,7 +75,7 @@ supported path t u at below trace f is_below leads =
     subst (λ v. Supports trace (alone v)) tree
     (supports f.part.levels f.part.steps (alone f.part.tree) f.part.before trace f.comes)
 
-pub walked_sound : (kept : Store) (k c : ℕ) (path : List ℕ) (t : WideTree) (e : Before) (ds : List DonePart) →
+pub walked_sound : (kept : Stores) (k c : ℕ) (path : List ℕ) (t : WideTree) (e : Before) (ds : List DonePart) →
     map seen ds ≡ map (seen_in kept) (parts k c path t e) → IsSound (kept_in ds) path t
 walked_sound kept k c path t e ds h =
     record {
@@ -96,7 +96,14 @@ sound_none t = record { holds = λ below u trace leads found. absurd (none_found
     none_found : (trace : WideTrace) → None ≡ Some trace → ⊥
     none_found trace h = cc
 
-paths_are : (kept : Store) (ds : List DonePart) (ps : List Part) → map seen ds ≡ map (seen_in kept) ps →
+pub none_twice : IsDistinct bytes_eq (paths_of [])
+unfolding IsDistinct
+none_twice = tt
+
+pub sound_alone : (kept : Store) (t : WideTree) → IsSound kept [] t → AreSound (only kept) [] t
+sound_alone kept t sound = record { own = sound; spare = sound_none t }
+
+paths_are : (kept : Stores) (ds : List DonePart) (ps : List Part) → map seen ds ≡ map (seen_in kept) ps →
     paths_of ds ≡ map (λ p. p.path) ps
 paths_are kept [] [] h = refl
 paths_are kept [] (p ∷ ps) h = cc
@@ -106,7 +113,7 @@ paths_are kept (d ∷ ds) (p ∷ ps) h =
     ∙ ap (λ xs. p.path ∷ xs) (paths_are kept ds ps a.others))
     (alike kept d ds p ps h)
 
-pub walked_distinct : (kept : Store) (k c : ℕ) (path : List ℕ) (t : WideTree) (e : Before) (ds : List DonePart) →
+pub walked_distinct : (kept : Stores) (k c : ℕ) (path : List ℕ) (t : WideTree) (e : Before) (ds : List DonePart) →
     map seen ds ≡ map (seen_in kept) (parts k c path t e) → IsDistinct bytes_eq (paths_of ds)
 walked_distinct kept k c path t e ds h =
     subst (IsDistinct bytes_eq) (sym (paths_are kept ds (parts k c path t e) h)) (parts_differ k c path t e)

@@ -8,7 +8,7 @@ use Rattle.tx_origin.specs.Under.{value_under}
 use Rattle.tx_origin.proofs.Under.{under_none}
 use Rattle.tx_parts.specs.Parts.{Part}
 use Rattle.tx_walk.specs.declared.part.Part.{Part as DonePart}
-use Rattle.tx_walk.specs.Held.{Store}
+use Rattle.tx_walk.specs.Held.{Stores}
 use Rattle.tx_walk.specs.Walked.{seen, seen_in, seen_parts}
 use Rattle.tx_walk.specs.Steps.{trace_under, IsAdded, parts_if_done}
 
@@ -26,7 +26,7 @@ none_under (Some trace) =
 pub at_root : (base : List ℕ) (o r : Option WideTrace) → base ≡ [] → r ≡ option_map (trace_under base) o → r ≡ o
 at_root base o r e h = h ∙ ap (λ p. option_map (trace_under p) o) e ∙ none_under o
 
-pub all_seen : (kept : Store) (ps : List Part) (old new : List DonePart) (o : Option WideTrace) → old ≡ [] →
+pub all_seen : (kept : Stores) (ps : List Part) (old new : List DonePart) (o : Option WideTrace) → old ≡ [] →
     IsAdded kept ps old new o → map seen (parts_if_done o new) ≡ seen_parts kept ps o
 all_seen kept ps old new None e h = refl
 all_seen kept ps old new (Some trace) e h = h ∙ ap (λ us. map seen us ++ map (seen_in kept) ps) e

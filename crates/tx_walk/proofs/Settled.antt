@@ -3,7 +3,7 @@ use Rattle.std.proofs.Common.{◌≡◌, ℕ, zero, suc, ◌+◌, ◌-◌, ◌<�
 use Rattle.std.proofs.Common.{subst, ◌∙◌, leb-true, leb-false, arith}
 use Rattle.std.proofs.lemmas.List.{map-append}
 use Rattle.std.proofs.lemmas.List.Sums.{sum_by-cons}
-use Rattle.std.specs.Prelude.{Bool, true, false, not, nat_le, ◌&&◌, if◌then◌else◌, Option, Some, None, IfSome}
+use Rattle.std.specs.Prelude.{Bool, true, false, not, nat_le, ◌&&◌, ◌||◌, if◌then◌else◌, Option, Some, None, IfSome}
 use Rattle.std.specs.Prelude.{Result, Ok, Err, IfOk, OnOk}
 use Rattle.std.specs.Option.{option_map}
 use Rattle.tx_tree.specs.WideTree.{WideTree}
@@ -14,12 +14,12 @@ use Rattle.tx_exec_form.proofs.Tracing.{supports, agrees, allowed}
 use Rattle.tx_exec.specs.Outcomes.{wide_trace}
 use Rattle.tx_parts.specs.Openness.{Shut, openness}
 use Rattle.tx_parts.specs.Composed.{alone, evaluates}
-use Rattle.tx_parts.specs.Parts.{Part, parts_as, parts}
+use Rattle.tx_parts.specs.Parts.{Part, parts_as, parts, parts_by}
 use Rattle.tx_parts.proofs.PartRuns.{none_allowed}
 use Rattle.tx_walk.specs.declared.part.Part.{Part as DonePart}
-use Rattle.tx_walk.specs.Held.{Store, fits, charge_of, charges, IsSound}
+use Rattle.tx_walk.specs.Held.{Store, Stores, fits, charge_of, charges, IsSound, AreSound}
 use Rattle.tx_walk.specs.Held as held
-use Rattle.tx_walk.specs.Finding.{IsHeldBy}
+use Rattle.tx_walk.specs.Finding.{IsHeldBy, IsHeldIn, IsUnheld}
 use Rattle.tx_walk.proofs.Agreed.{agrees_is}
 use Rattle.tx_walk.specs.Walked.{seen, seen_in}
 use Rattle.tx_walk.specs.Steps.{trace_under, IsAdded, settled, IsPushed, IsNewPushed}
@@ -98,14 +98,34 @@ new_pushed k c path t e old new p (Some trace) comes stands renewed pushed =
 
 -- ---- what is held
 
-pub held_settles : (kept : Store) (k c : ℕ) (path : List ℕ) (t : WideTree) (e : Before) (p : DonePart) →
+found_settles : (kept : Store) (k c : ℕ) (path : List ℕ) (t : WideTree) (e : Before) (p : DonePart) →
     IsSound kept path t → IsHeldBy e path (kept path) p → Settles k c path t e (wide_trace p.trace)
     (settled k c path (wide_trace p.trace))
-held_settles kept k c path t e p sound h =
+found_settles kept k c path t e p sound h =
     let support : Supports (wide_trace p.trace) (alone t) =
     sound.holds [] t (wide_trace p.trace) refl (ap kept (append_none path) ∙ h.is) in
     let fit : held.agrees e (wide_trace p.trace).looks ≡ true = sym (ap (fits e) h.is) ∙ h.held in
     settles k c path t e (wide_trace p.trace) support (agrees_is e (wide_trace p.trace).looks fit)
+
+pub held_settles : (kept : Stores) (k c : ℕ) (path : List ℕ) (t : WideTree) (e : Before) (p : DonePart)
+    (renewed : Bool) → AreSound kept path t → IsHeldIn e path kept p renewed →
+    Settles k c path t e (wide_trace p.trace) (settled k c path (wide_trace p.trace))
+held_settles kept k c path t e p false sound h = found_settles kept.own k c path t e p sound.own h
+held_settles kept k c path t e p true sound h = found_settles kept.spare k c path t e p sound.spare h.1
+
+pub own_fits : (e : Before) (path : List ℕ) (kept : Stores) (p : DonePart) (renewed : Bool) →
+    IsHeldIn e path kept p renewed → renewed ≡ not (fits e (kept.own path))
+own_fits e path kept p false h = ap not (sym h.held)
+own_fits e path kept p true h = ap not (sym h.0)
+
+one_fits : (e : Before) (path : List ℕ) (kept : Stores) (p : DonePart) (renewed : Bool) →
+    IsHeldIn e path kept p renewed → (fits e (kept.own path) || fits e (kept.spare path)) ≡ true
+one_fits e path kept p false h = ap (λ b. b || fits e (kept.spare path)) h.held
+one_fits e path kept p true h = ap (λ b. b || fits e (kept.spare path)) h.0 ∙ h.1.held
+
+none_fits : (e : Before) (path : List ℕ) (kept : Stores) → IsUnheld e path kept →
+    (fits e (kept.own path) || fits e (kept.spare path)) ≡ false
+none_fits e path kept h = ap (λ b. b || fits e (kept.spare path)) h.own ∙ h.spare
 
 pub outcome_cost : (k c cost : ℕ) (base : List ℕ) (t : WideTree) (e : Before) (o : Option WideTrace) →
     o ≡ option_map (trace_under base) (evaluates k c t e) → cost + c ≤ 1000000 →
@@ -128,7 +148,7 @@ one_part k c path t e = record { path = path; tree = t; levels = k; steps = c; b
 
 pub shut_parts : (k c : ℕ) (path : List ℕ) (t : WideTree) (e : Before) → openness t ≡ Shut → 0 < k →
     parts k c path t e ≡ one_part k c path t e ∷ []
-unfolding parts
+unfolding parts_by
 shut_parts zero c path t e h some = absurd (omega (arith, some))
 shut_parts (suc k) c path t e h some = ap (λ o. parts_as o k (parts k) c path t e) h
 
@@ -140,11 +160,11 @@ charge_new : (held : Bool) (n : ℕ) → held ≡ false → (if held then 0 else
 charge_new false n h = omega arith
 charge_new true n h = cc
 
-module _ (kept : Store) (k c : ℕ) (path : List ℕ) (t : WideTree) (e : Before) (shut : openness t ≡ Shut)
+module _ (kept : Stores) (k c : ℕ) (path : List ℕ) (t : WideTree) (e : Before) (shut : openness t ≡ Shut)
     (some : 0 < k) where
   seen_one : (p : DonePart) (w : WideTrace) (fit : Bool) → p.path ≡ path → evaluates k c t e ≡ Some
       (wide_trace p.trace) →
-      fits e (kept path) ≡ fit → p.renewed ≡ not fit → seen p ≡ seen_in kept (one_part k c path t e)
+      fits e (kept.own path) ≡ fit → p.renewed ≡ not fit → seen p ≡ seen_in kept (one_part k c path t e)
   seen_one p w fit is_path comes is_fit renewed =
       ap (λ q. record { path = q; trace = Some (wide_trace p.trace); renewed = p.renewed }) is_path
       ∙ ap (λ o. record { path = path; trace = o; renewed = p.renewed }) (sym comes)
@@ -160,37 +180,43 @@ module _ (kept : Store) (k c : ℕ) (path : List ℕ) (t : WideTree) (e : Before
       ∙ ap (λ ps. map seen old ++ map (seen_in kept) ps) (sym (shut_parts k c path t e shut some))
 
   pub held_added : (old new : List DonePart) (p : DonePart) (o : Option WideTrace) →
-      Settles k c path t e (wide_trace p.trace) o → p.path ≡ path → p.renewed ≡ false →
-      fits e (kept path) ≡ true → IsPushed old p new o → IsAdded kept (parts k c path t e) old new o
-  held_added old new p None s is_path renewed fit pushed = tt
-  held_added old new p (Some trace) (is_done a b) is_path renewed fit pushed =
-      added old new p pushed (seen_one p (wide_trace p.trace) true is_path b fit renewed)
-  held_added old new p (Some trace) (is_over a b) is_path renewed fit pushed = cc
+      Settles k c path t e (wide_trace p.trace) o → p.path ≡ path → p.renewed ≡ not (fits e (kept.own path)) →
+      IsPushed old p new o → IsAdded kept (parts k c path t e) old new o
+  held_added old new p None s is_path renewed pushed = tt
+  held_added old new p (Some trace) (is_done a b) is_path renewed pushed =
+      added old new p pushed (seen_one p (wide_trace p.trace) (fits e (kept.own path)) is_path b refl renewed)
+  held_added old new p (Some trace) (is_over a b) is_path renewed pushed = cc
 
-  pub new_added : (old new : List DonePart) (o : Option WideTrace) → fits e (kept path) ≡ false →
+  pub new_added : (old new : List DonePart) (o : Option WideTrace) → fits e (kept.own path) ≡ false →
       IsNewPushed k c path t e old new o → IsAdded kept (parts k c path t e) old new o
   new_added old new None fit pushed = tt
   new_added old new (Some trace) fit pushed =
       added old new pushed.part pushed.pushed
       (seen_one pushed.part trace false pushed.stands pushed.comes fit pushed.renewed)
 
-  charges_one : charges kept (parts k c path t e) ≡ (if fits e (kept path) then 0 else paid c (evaluates k c t e)) + 0
+  charges_one : charges kept (parts k c path t e) ≡
+      (if fits e (kept.own path) || fits e (kept.spare path) then 0 else paid c (evaluates k c t e)) + 0
   charges_one =
       ap (charges kept) (shut_parts k c path t e shut some)
       ∙ sum_by-cons (charge_of kept) (one_part k c path t e) []
 
-  pub held_counted : (before : ℕ) → fits e (kept path) ≡ true → before ≡ before + charges kept (parts k c path t e)
-  held_counted before fit =
+  pub held_counted : (before : ℕ) (p : DonePart) (renewed : Bool) → IsHeldIn e path kept p renewed →
+      before ≡ before + charges kept (parts k c path t e)
+  held_counted before p renewed h =
       let none : charges kept (parts k c path t e) ≡ 0 =
-      charges_one ∙ charge_held (fits e (kept path)) (paid c (evaluates k c t e)) fit in
+      charges_one
+      ∙ charge_held (fits e (kept.own path) || fits e (kept.spare path)) (paid c (evaluates k c t e))
+      (one_fits e path kept p renewed h) in
       omega (arith, none)
 
-  pub new_counted : (before after : ℕ) → fits e (kept path) ≡ false → after ≡ before + paid c (evaluates k c t e) →
+  pub new_counted : (before after : ℕ) → IsUnheld e path kept → after ≡ before + paid c (evaluates k c t e) →
       after ≡ before + charges kept (parts k c path t e)
-  new_counted before after fit h =
+  new_counted before after h is =
       let all : charges kept (parts k c path t e) ≡ paid c (evaluates k c t e) =
-      charges_one ∙ charge_new (fits e (kept path)) (paid c (evaluates k c t e)) fit in
-      h ∙ ap (λ n. before + n) (sym all)
+      charges_one
+      ∙ charge_new (fits e (kept.own path) || fits e (kept.spare path)) (paid c (evaluates k c t e))
+      (none_fits e path kept h) in
+      is ∙ ap (λ n. before + n) (sym all)
 
 -- ---- results
 

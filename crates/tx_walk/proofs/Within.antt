@@ -26,12 +26,12 @@ use Rattle.tx_parts.specs.Openness.{Settings as TextSettings, Openness, Document
 use Rattle.tx_parts.specs.Openness.{document_openness, with_openness, openness}
 use Rattle.tx_parts.specs.Atop.{atop, env_atop, past}
 use Rattle.tx_parts.specs.Composed.{alone, evaluates, set_by, settings_cost, setting_values, with_trace, composed_as}
-use Rattle.tx_parts.specs.Parts.{parts_as, parts}
+use Rattle.tx_parts.specs.Parts.{parts_as, parts, parts_by}
 use Rattle.tx_parts.proofs.Maps.{get_atop, atop_nothing, atop_set}
 use Rattle.tx_parts.proofs.Composing.{inner_are}
 use Rattle.tx_walk.specs.declared.part.Part.{Part as DonePart}
 use Rattle.tx_walk.specs.declared.settings.Settings.{Settings}
-use Rattle.tx_walk.specs.Held.{Store, charges}
+use Rattle.tx_walk.specs.Held.{Stores, charges}
 use Rattle.tx_walk.specs.Walked.{seen, seen_in}
 use Rattle.tx_walk.specs.Steps.{trace_under, IsAdded}
 use Rattle.tx_walk.specs.Descent.{pairs_of, AreSettings}
@@ -193,19 +193,19 @@ module _ (k c : ℕ) (path : List ℕ) (t : WideTree) (ps : TextSettings) (b : W
 
   pub with_parts : parts k c path t e ≡ parts (k - 1) (c - (1 + settings_cost ps)) (path ++ (2 * length ps) ∷ []) b
       (env_atop (set_by ps) e)
-  unfolding parts
+  unfolding parts_by
   with_parts =
       ap (λ n. parts n c path t e) (sym upper) ∙ ap (λ o. parts_as o (k - 1) (parts (k - 1)) c path t e) opens
 
 -- where no step is left for the last child nothing is charged
-pub dear_charged : (kept : Store) (k c : ℕ) (path : List ℕ) (t : WideTree) (ps : TextSettings) (b : WideTree)
+pub dear_charged : (kept : Stores) (k c : ℕ) (path : List ℕ) (t : WideTree) (ps : TextSettings) (b : WideTree)
     (e : Before) → openness t ≡ With ps b → 0 < k → c ≤ settings_cost ps → charges kept (parts k c path t e) ≡ 0
 dear_charged kept k c path t ps b e opens some dear =
     ap (charges kept) (with_parts k c path t ps b e opens some)
     ∙ none_charged kept (k - 1) (c - (1 + settings_cost ps)) (path ++ (2 * length ps) ∷ []) b (env_atop (set_by ps) e)
     (omega (arith, dear))
 
-module _ (kept : Store) (k c : ℕ) (path : List ℕ) (t : WideTree) (ps : TextSettings) (b : WideTree) (e e1 : Before)
+module _ (kept : Stores) (k c : ℕ) (path : List ℕ) (t : WideTree) (ps : TextSettings) (b : WideTree) (e e1 : Before)
     (opens : openness t ≡ With ps b) (some : 0 < k) (left : settings_cost ps < c) (s : Settings)
     (are : AreSettings path ps s) (rest i : ℕ) (is_e : e1 ≡ env_atop (set_by ps) e)
     (is_rest : rest ≡ c - (1 + settings_cost ps)) (is_i : i ≡ 2 * length ps) (o r : Option WideTrace) where
@@ -321,7 +321,7 @@ scope_over k c path t e r opens some f is =
     (f opens.0 opens.1 (named t opens.0 opens.1 opens.2).texts) in
     with_over k c path t opens.0 opens.1 e opens.2 some (omega (arith, dear))
 
-pub scope_charged : (kept : Store) (k c : ℕ) (path : List ℕ) (t : WideTree) (e : Before) (r : Option Settings)
+pub scope_charged : (kept : Stores) (k c : ℕ) (path : List ℕ) (t : WideTree) (e : Before) (r : Option Settings)
     (opens : (ps : TextSettings) × (b : WideTree) × (openness t ≡ With ps b)) → 0 < k →
     ((ps : TextSettings) (b : WideTree) → settings_in (children_of t) ≡ Some (ps, b) →
     MatchOption r (c < settings_cost ps) (λ x. AreSettings path ps x)) → r ≡ None →
@@ -338,12 +338,12 @@ module _ (k c : ℕ) (path : List ℕ) (t : WideTree) (s : Settings) (sc : IsSco
       let cost : s.cost ≡ settings_cost sc.texts = sc.are.cost in
       with_over k c path t sc.texts sc.inner e sc.opens some (omega (arith, h, cost))
 
-  pub dear_with : (kept : Store) (e : Before) → c ≤ s.cost → charges kept (parts k c path t e) ≡ 0
+  pub dear_with : (kept : Stores) (e : Before) → c ≤ s.cost → charges kept (parts k c path t e) ≡ 0
   dear_with kept e h =
       let cost : s.cost ≡ settings_cost sc.texts = sc.are.cost in
       dear_charged kept k c path t sc.texts sc.inner e sc.opens some (omega (arith, h, cost))
 
-  module _ (kept : Store) (less : s.cost < c) (u : WideTree) (i n : ℕ) (is_n : n ≡ length (children_of t))
+  module _ (kept : Stores) (less : s.cost < c) (u : WideTree) (i n : ℕ) (is_n : n ≡ length (children_of t))
       (is_i : i ≡ n - 1) (there : slice_get (children_of t) i ≡ Some u) (rest : ℕ) (is_rest : rest ≡ c - 1 - s.cost)
       (m : NameMap) (pairs : List (Name × WideTree)) (is_pairs : pairs ≡ s.pairs.items) (o r : Option WideTrace) where
     cost_is : s.cost ≡ settings_cost sc.texts

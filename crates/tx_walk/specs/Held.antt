@@ -1,5 +1,5 @@
 -- What is kept of parts, which parts it holds, and what the others are charged.
-use Rattle.std.specs.Prelude.{ℕ, Bool, false, ◌≡◌, ◌++◌, if◌then◌else◌, List, Option, Some, None}
+use Rattle.std.specs.Prelude.{ℕ, Bool, false, ◌||◌, ◌≡◌, ◌++◌, if◌then◌else◌, List, Option, Some, None}
 use Rattle.std.specs.List.{list_all, sum_by}
 use Rattle.std.specs.FinMap.{entries}
 use Rattle.tx_tree.specs.WideTree.{WideTree}
@@ -25,19 +25,37 @@ abbrev pub fits : Before → Option WideTrace → Bool
 fits e None = false
 fits e (Some trace) = agrees e trace.looks
 
--- a part is held where what is kept at its path fits what names have before it
-abbrev pub is_held : Store → Part → Bool
-is_held kept p = fits p.before (kept p.path)
+-- what is kept at the part's path fits what names have before it
+abbrev pub serves : Store → Part → Bool
+serves kept p = fits p.before (kept p.path)
+
+-- what is kept, and a spare, which is looked up where that doesn't fit
+pub record Stores : Type 0 where
+  pub own : Store
+  pub spare : Store
+
+-- this alone, with nothing spare
+abbrev pub only : Store → Stores
+only kept = record { own = kept; spare = λ path. None }
+
+-- a part is held where what is kept at its path fits, or what the spare has there
+abbrev pub is_held : Stores → Part → Bool
+is_held kept p = serves kept.own p || serves kept.spare p
 
 -- what a part costs, unless it is held
-abbrev pub charge_of : Store → Part → ℕ
+abbrev pub charge_of : Stores → Part → ℕ
 charge_of kept p = if is_held kept p then 0 else part_cost p
 
 -- the costs of the parts that aren't held
-abbrev pub charges : Store → List Part → ℕ
+abbrev pub charges : Stores → List Part → ℕ
 charges kept ps = sum_by (charge_of kept) ps
 
 -- What is kept at a path in the tree, which stands at this path, supports what stands there.
 pub record IsSound (kept : Store) (path : List ℕ) (t : WideTree) : Type 0 where
   pub holds : (below : List ℕ) (u : WideTree) (trace : WideTrace) → subtree t below ≡ Some u →
       kept (path ++ below) ≡ Some trace → Supports trace (alone u)
+
+-- so does what the spare has there
+pub record AreSound (kept : Stores) (path : List ℕ) (t : WideTree) : Type 0 where
+  pub own : IsSound kept.own path t
+  pub spare : IsSound kept.spare path t

@@ -2,6 +2,7 @@ pub mod SameTrees
 pub mod Held
 pub mod Walked
 pub mod Finding
+pub mod Prior
 pub mod Steps
 pub mod Spending
 pub mod Descent

@@ -19,7 +19,7 @@ use Rattle.tx_parts.specs.Composed.{evaluates, SoFar, nothing_yet, children_from
 use Rattle.tx_parts.specs.Parts.{Part, parts, parts_from}
 use Rattle.tx_walk.specs.declared.part.Part.{Part as DonePart}
 use Rattle.tx_walk.specs.declared.joined.Joined.{Joined}
-use Rattle.tx_walk.specs.Held.{Store, charges}
+use Rattle.tx_walk.specs.Held.{Stores, charges}
 use Rattle.tx_walk.specs.Walked.{IsTidy, IsPlaced, Seen, seen, seen_in}
 
 -- the trace with each origin of its value under the path
@@ -32,7 +32,7 @@ IsBehind before after None = Unit {0}
 IsBehind before after (Some trace) = after ≡ env_atop trace.writes before
 
 -- the parts of a tree that isn't over come behind the others
-abbrev pub IsAdded : Store → List Part → List DonePart → List DonePart → Option WideTrace → Type 0
+abbrev pub IsAdded : Stores → List Part → List DonePart → List DonePart → Option WideTrace → Type 0
 IsAdded kept ps old new None = Unit {0}
 IsAdded kept ps old new (Some trace) = map seen new ≡ map seen old ++ map (seen_in kept) ps
 
@@ -132,7 +132,7 @@ stage_of j env done count =
     record { joined = so_far_of j; names = before_of env; done = map seen done; count = count }
 
 -- the child of number i is done
-pub record ChildDone (kept : Store) (k c : ℕ) (path : List ℕ) (i : ℕ) (t : WideTree) (s s1 : Stage) : Type 0 where
+pub record ChildDone (kept : Stores) (k c : ℕ) (path : List ℕ) (i : ℕ) (t : WideTree) (s s1 : Stage) : Type 0 where
   pub trace : WideTrace
   pub comes : evaluates k (c - s.joined.cost) t s.names ≡ Some trace
   pub joined : s1.joined ≡ with_trace s.joined (trace_under (path ++ i ∷ []) trace)
@@ -141,16 +141,16 @@ pub record ChildDone (kept : Store) (k c : ℕ) (path : List ℕ) (i : ℕ) (t :
   pub count : s1.count ≡ s.count + charges kept (parts k (c - s.joined.cost) (path ++ i ∷ []) t s.names)
 
 -- it is over
-pub record ChildOver (kept : Store) (k c : ℕ) (path : List ℕ) (i : ℕ) (t : WideTree) (s s1 : Stage) : Type 0 where
+pub record ChildOver (kept : Stores) (k c : ℕ) (path : List ℕ) (i : ℕ) (t : WideTree) (s s1 : Stage) : Type 0 where
   pub comes : evaluates k (c - s.joined.cost) t s.names ≡ None
   pub count : s1.count ≡ s.count + charges kept (parts k (c - s.joined.cost) (path ++ i ∷ []) t s.names)
 
-abbrev pub ChildComes : Store → ℕ → ℕ → List ℕ → ℕ → WideTree → Stage → Stage → Bool → Type 0
+abbrev pub ChildComes : Stores → ℕ → ℕ → List ℕ → ℕ → WideTree → Stage → Stage → Bool → Type 0
 ChildComes kept k c path i t s s1 true = ChildDone kept k c path i t s s1
 ChildComes kept k c path i t s s1 false = ChildOver kept k c path i t s s1
 
 -- all children are done
-pub record ChildrenDone (kept : Store) (k c : ℕ) (path : List ℕ) (kids : List WideTree) (s s1 : Stage) : Type 0
+pub record ChildrenDone (kept : Stores) (k c : ℕ) (path : List ℕ) (kids : List WideTree) (s s1 : Stage) : Type 0
   where
     pub so_far : SoFar
     pub comes : children_from (evaluates k) c 0 nothing_yet kids s.names ≡ Some so_far
@@ -161,10 +161,10 @@ pub record ChildrenDone (kept : Store) (k c : ℕ) (path : List ℕ) (kids : Lis
     pub many : length so_far.values ≡ length kids
 
 -- one of them is over
-pub record ChildrenOver (kept : Store) (k c : ℕ) (path : List ℕ) (kids : List WideTree) (s s1 : Stage) : Type 0 where
+pub record ChildrenOver (kept : Stores) (k c : ℕ) (path : List ℕ) (kids : List WideTree) (s s1 : Stage) : Type 0 where
   pub comes : children_from (evaluates k) c 0 nothing_yet kids s.names ≡ None
   pub count : s1.count ≡ s.count + charges kept (parts_from k (parts k) c path 0 nothing_yet kids s.names)
 
-abbrev pub ChildrenCome : Store → ℕ → ℕ → List ℕ → List WideTree → Stage → Stage → Bool → Type 0
+abbrev pub ChildrenCome : Stores → ℕ → ℕ → List ℕ → List WideTree → Stage → Stage → Bool → Type 0
 ChildrenCome kept k c path kids s s1 true = ChildrenDone kept k c path kids s s1
 ChildrenCome kept k c path kids s s1 false = ChildrenOver kept k c path kids s s1

@@ -10,12 +10,16 @@ use Rattle.tx_exec.specs.declared.outcome.Trace.{Trace}
 use Rattle.tx_exec.specs.Outcomes.{wide_trace}
 use Rattle.tx_parts.specs.Parts.{Part, part_trace}
 use Rattle.tx_walk.specs.declared.part.Part.{Part as DonePart}
-use Rattle.tx_walk.specs.Held.{Store, is_held}
+use Rattle.tx_walk.specs.Held.{Store, Stores, serves}
 
 -- the first of the parts at the path tells what is kept there
 abbrev pub kept_in : List DonePart → Store
 kept_in [] path = None
 kept_in (p ∷ ps) path = if bytes_eq p.path path then Some (wide_trace p.trace) else kept_in ps path
+
+-- what these parts tell, and those of the spare
+abbrev pub stores_in : List DonePart → List DonePart → Stores
+stores_in kept spare = record { own = kept_in kept; spare = kept_in spare }
 
 abbrev pub paths_of : List DonePart → List (List ℕ)
 paths_of ps = map (λ p. p.path) ps
@@ -33,7 +37,7 @@ pub record IsTidy (p : DonePart) : Type 0 where
 abbrev pub IsPlaced : DonePart → Type 0
 IsPlaced p = is_some p.placed ≡ true
 
--- where a part stands, what it comes to, and whether it wasn't held
+-- where a part stands, what it comes to, and whether nothing that is kept there fits, whatever the spare has
 pub record Seen : Type 0 where
   pub path : List ℕ
   pub trace : Option WideTrace
@@ -42,10 +46,10 @@ pub record Seen : Type 0 where
 abbrev pub seen : DonePart → Seen
 seen p = record { path = p.path; trace = Some (wide_trace p.trace); renewed = p.renewed }
 
-abbrev pub seen_in : Store → Part → Seen
-seen_in kept p = record { path = p.path; trace = part_trace p; renewed = not (is_held kept p) }
+abbrev pub seen_in : Stores → Part → Seen
+seen_in kept p = record { path = p.path; trace = part_trace p; renewed = not (serves kept.own p) }
 
 -- each part of a tree with its trace, and none where the tree is over
-abbrev pub seen_parts : Store → List Part → Option WideTrace → List Seen
+abbrev pub seen_parts : Stores → List Part → Option WideTrace → List Seen
 seen_parts kept ps None = []
 seen_parts kept ps (Some trace) = map (seen_in kept) ps

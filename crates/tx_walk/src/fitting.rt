@@ -8,10 +8,12 @@ ghost use Rattle.tx_exec.specs.Outcomes.{wide_trace};
 ghost use Rattle.tx_walk.specs.SameTrees.{same};
 ghost use Rattle.tx_walk.specs.Held.{agrees, fits};
 ghost use Rattle.tx_walk.specs.Walked.{IsTidy, kept_in, paths_of};
-ghost use Rattle.tx_walk.specs.Finding.{IsHeldBy};
+ghost use Rattle.tx_walk.specs.Finding.{AreFindable, IsHeldBy, IsHeldIn, IsUnheld};
+ghost use Rattle.tx_walk.specs.Prior.{stores_of};
 
 use crate::part::Part;
-use crate::prior::PriorParts;
+use crate::prior::{PriorParts, PriorStores};
+use crate::progress::NextNumbers;
 use tx_env::Env;
 use tx_exec::Looks;
 use tx_tree::{Path, Text, Tree};
@@ -53,13 +55,8 @@ fn fits(env: &Env, part: &Part) -> bool
     looks_agree(env, &part.trace.looks)
 }
 
-/// What is kept at the path, if it fits what names have. The number that is likely next is kept in `next`.
-pub(crate) fn held<'a>(
-    env: &Env,
-    kept: &PriorParts<'a>,
-    path: &Path,
-    next: &mut usize,
-) -> Option<&'a Part>
+// What is kept at the path, if it fits what names have. The number that is likely next is kept in `next`.
+fn found<'a>(env: &Env, kept: &PriorParts<'a>, path: &Path, next: &mut usize) -> Option<&'a Part>
     requires tidy { All IsTidy kept.now }
     requires distinct { IsDistinct bytes_eq (paths_of kept.now) }
     ensures { MatchOption result (fits (before_of env.now) (kept_in kept.now path.now) ≡ false)
@@ -77,4 +74,38 @@ pub(crate) fn held<'a>(
             }
         }
     }
+}
+
+/// A part that holds the one at its path. `renewed` says that nothing that is kept there fits, so that it is the
+/// spare's.
+#[derive(Drop)]
+pub(crate) struct HeldPart<'a> {
+    pub part: &'a Part,
+    pub renewed: bool,
+}
+
+/// What holds the part at the path where names have this: what is kept there, and else what the spare has. The numbers
+/// that are likely next are kept in `next`.
+pub(crate) fn held<'a>(
+    env: &Env,
+    kept: &PriorStores<'a>,
+    path: &Path,
+    next: &mut NextNumbers,
+) -> Option<HeldPart<'a>>
+    requires own { AreFindable kept.now.own }
+    requires spare { AreFindable kept.now.spare }
+    ensures { MatchOption result (IsUnheld (before_of env.now) path.now (stores_of kept.now))
+        (λ h. IsHeldIn (before_of env.now) path.now (stores_of kept.now) h.part.now h.renewed) }
+{
+    if let Some(part) = found(env, &kept.own, path, &mut next.own) {
+        return Some(HeldPart {
+            part,
+            renewed: false,
+        });
+    }
+    let part = found(env, &kept.spare, path, &mut next.spare)?;
+    Some(HeldPart {
+        part,
+        renewed: true,
+    })
 }

@@ -17,7 +17,7 @@ pub struct Part {
     pub path: Path,
     /// Its trace alone, with origins that begin at the part.
     pub trace: Trace,
-    /// Whether nothing that fits was kept of it, so that it was evaluated.
+    /// Whether nothing that fits was kept of it, so that it was evaluated, or is the spare's.
     pub renewed: bool,
     /// The value of its trace with origins that begin at the unit, where it is at hand.
     pub placed: Option<Value>,

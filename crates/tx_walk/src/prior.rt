@@ -128,3 +128,23 @@ impl<'a> PriorParts<'a> {
         self.number_at(path)
     }
 }
+
+/// Parts that are kept, and those of the spare.
+#[derive(Drop)]
+pub(crate) struct PriorStores<'a> {
+    pub own: PriorParts<'a>,
+    pub spare: PriorParts<'a>,
+}
+
+impl<'a> PriorStores<'a> {
+    /// These parts.
+    pub(crate) fn new(own: &'a [Part], spare: &'a [Part]) -> PriorStores<'a>
+        ensures own { result.own ≡ own.now }
+        ensures spare { result.spare ≡ spare.now }
+    {
+        PriorStores {
+            own: PriorParts::new(own),
+            spare: PriorParts::new(spare),
+        }
+    }
+}

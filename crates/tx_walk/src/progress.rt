@@ -2,11 +2,18 @@
 ghost use Rattle.std.specs.Prelude.{◌≡◌, ◌+◌};
 ghost use Rattle.tx_walk.specs.Spending.{capped};
 
-/// The number of the kept part that is likely next, and the steps spent so far. They stand still at the greatest value
-/// of the counter, which no walk reaches.
+/// The numbers of the parts that are likely next, of those that are kept and of the spare's.
+#[derive(Drop)]
+pub(crate) struct NextNumbers {
+    pub own: usize,
+    pub spare: usize,
+}
+
+/// The numbers of the parts that are likely next, and the steps spent so far. They stand still at the greatest
+/// value of the counter, which no walk reaches.
 #[derive(Drop)]
 pub(crate) struct WalkProgress {
-    pub next: usize,
+    pub next: NextNumbers,
     pub spent: u64,
 }
 
@@ -15,7 +22,10 @@ impl WalkProgress {
     pub(crate) fn new() -> WalkProgress
         ensures { result.spent ≡ 0 }
     {
-        WalkProgress { next: 0, spent: 0 }
+        WalkProgress {
+            next: NextNumbers { own: 0, spare: 0 },
+            spent: 0,
+        }
     }
 
     /// Spends so many steps.

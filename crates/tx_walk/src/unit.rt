@@ -7,12 +7,14 @@ ghost use Rattle.tx_exec.specs.States.{before_of};
 ghost use Rattle.tx_exec.specs.Outcomes.{wide_outcome, NamesOnce};
 ghost use Rattle.tx_parts.specs.Composed.{evaluates};
 ghost use Rattle.tx_parts.specs.Parts.{parts};
-ghost use Rattle.tx_walk.specs.Held.{IsSound, charges};
-ghost use Rattle.tx_walk.specs.Walked.{IsTidy, IsPlaced, kept_in, paths_of, seen, seen_parts};
+ghost use Rattle.tx_walk.specs.Held.{AreSound, charges};
+ghost use Rattle.tx_walk.specs.Walked.{IsTidy, IsPlaced, stores_in, paths_of, seen, seen_parts};
+ghost use Rattle.tx_walk.specs.Finding.{AreFindable};
+ghost use Rattle.tx_walk.specs.Prior.{stores_of};
 ghost use Rattle.tx_walk.specs.Steps.{IsAdded, IsReady, parts_if_done};
 
 use crate::part::Part;
-use crate::prior::PriorParts;
+use crate::prior::PriorStores;
 use crate::progress::WalkProgress;
 use crate::walking::walk_tree;
 use std::alloc::Global;
@@ -39,25 +41,25 @@ fn walk_root<L: Ledger>(
     t: &Tree,
     env: &mut Env,
     allowance: u64,
-    kept: &PriorParts<'_>,
+    kept: &PriorStores<'_>,
     progress: &mut WalkProgress,
     done: &mut Vec<Part>,
     steps: &mut Steps<L>,
 ) -> Result<Outcome, Memory>
     requires allowance { allowance ≤ 1000000 }
     requires scopes { length env.old.scopes ≤ 1000001 }
-    requires sound { IsSound (kept_in kept.now) [] t.now }
-    requires distinct { IsDistinct bytes_eq (paths_of kept.now) }
-    requires kept_tidy { All IsTidy kept.now }
+    requires sound { AreSound (stores_of kept.now) [] t.now }
+    requires own { AreFindable kept.now.own }
+    requires spare { AreFindable kept.now.spare }
     requires done_ready { All IsReady done.old.items }
     requires nothing { progress.old.spent ≡ 0 }
     ensures exact { IfOk result (λ o. wide_outcome o ≡ evaluates MOST_LEVELS allowance t.now (before_of env.old)) }
-    ensures added { IfOk result (λ o. IsAdded (kept_in kept.now)
+    ensures added { IfOk result (λ o. IsAdded (stores_of kept.now)
         (parts MOST_LEVELS allowance [] t.now (before_of env.old))
         done.old.items done.new.items (wide_outcome o)) }
-    ensures counted { OnOk result (steps.new ≡ steps.old + charges (kept_in kept.now)
+    ensures counted { OnOk result (steps.new ≡ steps.old + charges (stores_of kept.now)
         (parts MOST_LEVELS allowance [] t.now (before_of env.old))) }
-    ensures spent { OnOk result (progress.new.spent ≡ charges (kept_in kept.now)
+    ensures spent { OnOk result (progress.new.spent ≡ charges (stores_of kept.now)
         (parts MOST_LEVELS allowance [] t.now (before_of env.old))) }
     ensures names_once { IfOk result NamesOnce }
     ensures done_ready { All IsReady done.new.items }
@@ -98,37 +100,40 @@ fn unit_of(alloc: Global, outcome: Outcome, charge: u64, done: Vec<Part>) -> Wal
 /// at most 1,000,000, and 400 levels. The origins of its value begin at the tree, and so do the paths of its parts.
 ///
 /// It is gone into each `document` with a child and each `with` of names, texts and a last child, down to trees of
-/// other kinds, which are the parts. A part is held where what is kept at its path fits what names have before it: then
-/// its trace is the part's, and costs nothing. The other parts are evaluated, and the steps rise by their costs, which
-/// the answer tells; a part that is over costs all the steps that it has. The environment is as before after every
-/// answer.
+/// other kinds, which are the parts. A part is held where what is kept at its path fits what names have before it, or
+/// what the spare has there does: then its trace is the part's, and costs nothing. A part that the spare alone holds is
+/// told as renewed. The other parts are evaluated, and the steps rise by their costs, which the answer tells; a part
+/// that is over costs all the steps that it has. The environment is as before after every answer.
 pub fn walk<L: Ledger>(
     alloc: Global,
     t: &Tree,
     env: &mut Env,
     allowance: u64,
     kept: &[Part],
+    spare: &[Part],
     steps: &mut Steps<L>,
 ) -> Result<Walked, Memory>
     requires allowance { allowance ≤ 1000000 }
     requires scopes { length env.old.scopes ≤ 1000000 }
-    requires sound { IsSound (kept_in kept.now) [] t.now }
+    requires sound { AreSound (stores_in kept.now spare.now) [] t.now }
     requires distinct { IsDistinct bytes_eq (paths_of kept.now) }
     requires tidy { All IsTidy kept.now }
+    requires spare_distinct { IsDistinct bytes_eq (paths_of spare.now) }
+    requires spare_tidy { All IsTidy spare.now }
     ensures exact { IfOk result
         (λ w. wide_outcome w.outcome ≡ evaluates MOST_LEVELS allowance t.now (before_of env.old)) }
-    ensures parts { IfOk result (λ w. map seen w.parts.items ≡ seen_parts (kept_in kept.now)
+    ensures parts { IfOk result (λ w. map seen w.parts.items ≡ seen_parts (stores_in kept.now spare.now)
         (parts MOST_LEVELS allowance [] t.now (before_of env.old)) (wide_outcome w.outcome)) }
-    ensures counted { IfOk result (λ w. steps.new ≡ steps.old + charges (kept_in kept.now)
+    ensures counted { IfOk result (λ w. steps.new ≡ steps.old + charges (stores_in kept.now spare.now)
         (parts MOST_LEVELS allowance [] t.now (before_of env.old))) }
-    ensures charge { IfOk result (λ w. w.charge ≡ charges (kept_in kept.now)
+    ensures charge { IfOk result (λ w. w.charge ≡ charges (stores_in kept.now spare.now)
         (parts MOST_LEVELS allowance [] t.now (before_of env.old))) }
     ensures once { IfOk result (λ w. NamesOnce w.outcome) }
     ensures tidy { IfOk result (λ w. All IsTidy w.parts.items) }
     ensures placed { IfOk result (λ w. All IsPlaced w.parts.items) }
     ensures env { env.new ≡ env.old }
 {
-    let prior = PriorParts::new(kept);
+    let prior = PriorStores::new(kept, spare);
     let mut done = Vec::new(alloc);
     let mut progress = WalkProgress::new();
     let mark = env.enter();

@@ -1,8 +1,7 @@
 // The walk over a tree by its parts.
-ghost use Rattle.std.specs.Prelude.{◌≡◌, ◌≤◌, ◌<◌, ◌+◌, ◌-◌, ◌^◌, ◌++◌, ◌∷◌, [], false, Some, IfOk, OnOk, length};
-ghost use Rattle.std.specs.List.{All, IsDistinct};
+ghost use Rattle.std.specs.Prelude.{◌≡◌, ◌≤◌, ◌<◌, ◌+◌, ◌-◌, ◌^◌, ◌++◌, ◌∷◌, [], Some, IfOk, OnOk, length};
+ghost use Rattle.std.specs.List.{All};
 ghost use Rattle.std.specs.Option.{option_map};
-ghost use Rattle.std.specs.Str.{bytes_eq};
 ghost use Rattle.std.specs.FinMap.{get};
 ghost use Rattle.tx_tree.specs.WideTree.{WideTree, children_of};
 ghost use Rattle.tx_env.specs.Environments.{overlaid};
@@ -12,10 +11,12 @@ ghost use Rattle.tx_parts.specs.Composed.{evaluates};
 ghost use Rattle.tx_parts.specs.Openness.{Settings as TextSettings, Document, With, Shut, openness};
 ghost use Rattle.tx_walk.specs.Scopes.{IsScope};
 ghost use Rattle.tx_parts.specs.Parts.{parts};
-ghost use Rattle.tx_walk.specs.Held.{IsSound, charges};
+ghost use Rattle.tx_walk.specs.Held.{AreSound, charges};
 ghost use Rattle.tx_parts.specs.Composed.{nothing_yet};
 ghost use Rattle.tx_exec.specs.Outcomes.{wide_trace};
-ghost use Rattle.tx_walk.specs.Walked.{AreOnce, IsTidy, IsPlaced, kept_in, paths_of};
+ghost use Rattle.tx_walk.specs.Walked.{AreOnce, IsTidy, IsPlaced};
+ghost use Rattle.tx_walk.specs.Finding.{AreFindable};
+ghost use Rattle.tx_walk.specs.Prior.{stores_of};
 ghost use Rattle.tx_exec_form.specs.Evaluated.{paid};
 ghost use Rattle.tx_origin.specs.Under.{value_under};
 ghost use Rattle.tx_walk.specs.Steps.{trace_under, settled, IsReady, IsBehind, IsAdded, IsPushed, IsNewPushed};
@@ -26,7 +27,7 @@ use crate::descent::{Descent, descent_of};
 use crate::fitting::held;
 use crate::joined::Joined;
 use crate::part::Part;
-use crate::prior::PriorParts;
+use crate::prior::PriorStores;
 use crate::progress::WalkProgress;
 use crate::scopes::with_of;
 use crate::settings::{Settings, settings_of};
@@ -84,6 +85,7 @@ fn settle(alloc: Global, part: Part, env: &mut Env, done: &mut Vec<Part>) -> Res
 fn held_part(
     alloc: Global,
     found: &Part,
+    renewed: bool,
     path: Path,
     env: &mut Env,
     levels: u32,
@@ -99,7 +101,7 @@ fn held_part(
         (record {
           path = path;
           trace = found.now.trace;
-          renewed = false;
+          renewed = renewed;
           placed = Some (value_under path found.now.trace.value);
         }) done.new.items (wide_outcome o)) }
     ensures names_once { IfOk result NamesOnce }
@@ -114,7 +116,7 @@ fn held_part(
     let part = Part {
         path,
         trace,
-        renewed: false,
+        renewed,
         placed: Some(placed),
     };
     settle(alloc, part, env, done)
@@ -223,7 +225,7 @@ fn part<L: Ledger>(
     env: &mut Env,
     levels: u32,
     left: u64,
-    kept: &PriorParts<'_>,
+    kept: &PriorStores<'_>,
     progress: &mut WalkProgress,
     done: &mut Vec<Part>,
     steps: &mut Steps<L>,
@@ -232,24 +234,33 @@ fn part<L: Ledger>(
     requires some { 0 < levels }
     requires levels { levels ≤ 400 }
     requires left { left ≤ 1000000 }
-    requires sound { IsSound (kept_in kept.now) path t.now }
-    requires distinct { IsDistinct bytes_eq (paths_of kept.now) }
-    requires kept_tidy { All IsTidy kept.now }
+    requires sound { AreSound (stores_of kept.now) path t.now }
+    requires own { AreFindable kept.now.own }
+    requires spare { AreFindable kept.now.spare }
     requires done_ready { All IsReady done.old.items }
     ensures exact { IfOk result
         (λ o. wide_outcome o ≡ option_map (trace_under path) (evaluates levels left t.now (before_of env.old))) }
     ensures behind { IfOk result (λ o. IsBehind (before_of env.old) (before_of env.new) (wide_outcome o)) }
-    ensures added { IfOk result (λ o. IsAdded (kept_in kept.now) (parts levels left path t.now (before_of env.old))
+    ensures added { IfOk result (λ o. IsAdded (stores_of kept.now) (parts levels left path t.now (before_of env.old))
         done.old.items done.new.items (wide_outcome o)) }
     ensures counted { OnOk result (steps.new
-        ≡ steps.old + charges (kept_in kept.now) (parts levels left path t.now (before_of env.old))) }
+        ≡ steps.old + charges (stores_of kept.now) (parts levels left path t.now (before_of env.old))) }
     ensures spent { OnOk result (RisesAlike steps.old progress.old.spent steps.new progress.new.spent) }
     ensures names_once { IfOk result NamesOnce }
     ensures done_ready { All IsReady done.new.items }
     ensures scopes { env.new.scopes ≡ env.old.scopes }
 {
     match held(env, kept, &path, &mut progress.next) {
-        Some(found) => held_part(alloc, found, path, env, levels, left, done),
+        Some(held) => held_part(
+            alloc,
+            held.part,
+            held.renewed,
+            path,
+            env,
+            levels,
+            left,
+            done,
+        ),
         None => new_part(alloc, t, path, env, levels, left, progress, done, steps),
     }
 }
@@ -263,7 +274,7 @@ pub(crate) fn walk_tree<L: Ledger>(
     env: &mut Env,
     levels: u32,
     left: u64,
-    kept: &PriorParts<'_>,
+    kept: &PriorStores<'_>,
     progress: &mut WalkProgress,
     done: &mut Vec<Part>,
     steps: &mut Steps<L>,
@@ -271,17 +282,17 @@ pub(crate) fn walk_tree<L: Ledger>(
     requires levels { levels ≤ 400 }
     requires left { left ≤ 1000000 }
     requires scopes { length env.old.scopes + levels < 2 ^ 32 - 1 }
-    requires sound { IsSound (kept_in kept.now) path t.now }
-    requires distinct { IsDistinct bytes_eq (paths_of kept.now) }
-    requires kept_tidy { All IsTidy kept.now }
+    requires sound { AreSound (stores_of kept.now) path t.now }
+    requires own { AreFindable kept.now.own }
+    requires spare { AreFindable kept.now.spare }
     requires done_ready { All IsReady done.old.items }
     ensures exact { IfOk result
         (λ o. wide_outcome o ≡ option_map (trace_under path) (evaluates levels left t.now (before_of env.old))) }
     ensures behind { IfOk result (λ o. IsBehind (before_of env.old) (before_of env.new) (wide_outcome o)) }
-    ensures added { IfOk result (λ o. IsAdded (kept_in kept.now) (parts levels left path t.now (before_of env.old))
+    ensures added { IfOk result (λ o. IsAdded (stores_of kept.now) (parts levels left path t.now (before_of env.old))
         done.old.items done.new.items (wide_outcome o)) }
     ensures counted { OnOk result (steps.new
-        ≡ steps.old + charges (kept_in kept.now) (parts levels left path t.now (before_of env.old))) }
+        ≡ steps.old + charges (stores_of kept.now) (parts levels left path t.now (before_of env.old))) }
     ensures spent { OnOk result (RisesAlike steps.old progress.old.spent steps.new progress.new.spent) }
     ensures names_once { IfOk result NamesOnce }
     ensures done_ready { All IsReady done.new.items }
@@ -312,7 +323,7 @@ fn document<L: Ledger>(
     env: &mut Env,
     levels: u32,
     left: u64,
-    kept: &PriorParts<'_>,
+    kept: &PriorStores<'_>,
     progress: &mut WalkProgress,
     done: &mut Vec<Part>,
     steps: &mut Steps<L>,
@@ -322,17 +333,17 @@ fn document<L: Ledger>(
     requires levels { levels ≤ 400 }
     requires left { left ≤ 1000000 }
     requires scopes { length env.old.scopes + levels < 2 ^ 32 - 1 }
-    requires sound { IsSound (kept_in kept.now) path.now t.now }
-    requires distinct { IsDistinct bytes_eq (paths_of kept.now) }
-    requires kept_tidy { All IsTidy kept.now }
+    requires sound { AreSound (stores_of kept.now) path.now t.now }
+    requires own { AreFindable kept.now.own }
+    requires spare { AreFindable kept.now.spare }
     requires done_ready { All IsReady done.old.items }
     ensures exact { IfOk result
         (λ o. wide_outcome o ≡ option_map (trace_under path.now) (evaluates levels left t.now (before_of env.old))) }
     ensures behind { IfOk result (λ o. IsBehind (before_of env.old) (before_of env.new) (wide_outcome o)) }
-    ensures added { IfOk result (λ o. IsAdded (kept_in kept.now) (parts levels left path.now t.now (before_of env.old))
-        done.old.items done.new.items (wide_outcome o)) }
+    ensures added { IfOk result (λ o. IsAdded (stores_of kept.now)
+        (parts levels left path.now t.now (before_of env.old)) done.old.items done.new.items (wide_outcome o)) }
     ensures counted { OnOk result (steps.new
-        ≡ steps.old + charges (kept_in kept.now) (parts levels left path.now t.now (before_of env.old))) }
+        ≡ steps.old + charges (stores_of kept.now) (parts levels left path.now t.now (before_of env.old))) }
     ensures spent { OnOk result (RisesAlike steps.old progress.old.spent steps.new progress.new.spent) }
     ensures names_once { IfOk result NamesOnce }
     ensures done_ready { All IsReady done.new.items }
@@ -368,7 +379,7 @@ fn children<L: Ledger>(
     env: &mut Env,
     levels: u32,
     left: u64,
-    kept: &PriorParts<'_>,
+    kept: &PriorStores<'_>,
     progress: &mut WalkProgress,
     done: &mut Vec<Part>,
     joined: &mut Joined,
@@ -377,12 +388,12 @@ fn children<L: Ledger>(
     requires levels { levels < 400 }
     requires left { left ≤ 1000000 }
     requires scopes { length env.old.scopes + levels < 2 ^ 32 - 1 }
-    requires sound { IsSound (kept_in kept.now) path.now t.now }
-    requires distinct { IsDistinct bytes_eq (paths_of kept.now) }
-    requires kept_tidy { All IsTidy kept.now }
+    requires sound { AreSound (stores_of kept.now) path.now t.now }
+    requires own { AreFindable kept.now.own }
+    requires spare { AreFindable kept.now.spare }
     requires done_ready { All IsReady done.old.items }
     requires nothing { so_far_of joined.old ≡ nothing_yet }
-    ensures comes { IfOk result (λ went. ChildrenCome (kept_in kept.now) levels left path.now
+    ensures comes { IfOk result (λ went. ChildrenCome (stores_of kept.now) levels left path.now
         (children_of t.now) (stage_of joined.old env.old done.old.items steps.old)
         (stage_of joined.new env.new done.new.items steps.new) went) }
     ensures spent { OnOk result (RisesAlike steps.old progress.old.spent steps.new progress.new.spent) }
@@ -413,7 +424,7 @@ fn one_child<L: Ledger>(
     env: &mut Env,
     levels: u32,
     left: u64,
-    kept: &PriorParts<'_>,
+    kept: &PriorStores<'_>,
     progress: &mut WalkProgress,
     done: &mut Vec<Part>,
     joined: &mut Joined,
@@ -422,12 +433,12 @@ fn one_child<L: Ledger>(
     requires levels { levels < 400 }
     requires left { left ≤ 1000000 }
     requires scopes { length env.old.scopes + levels < 2 ^ 32 - 1 }
-    requires sound { IsSound (kept_in kept.now) (path.now ++ i ∷ []) t.now }
-    requires distinct { IsDistinct bytes_eq (paths_of kept.now) }
-    requires kept_tidy { All IsTidy kept.now }
+    requires sound { AreSound (stores_of kept.now) (path.now ++ i ∷ []) t.now }
+    requires own { AreFindable kept.now.own }
+    requires spare { AreFindable kept.now.spare }
     requires done_ready { All IsReady done.old.items }
     requires cost { joined.old.cost ≤ left }
-    ensures comes { IfOk result (λ went. ChildComes (kept_in kept.now) levels left path.now i t.now
+    ensures comes { IfOk result (λ went. ChildComes (stores_of kept.now) levels left path.now i t.now
         (stage_of joined.old env.old done.old.items steps.old) (stage_of joined.new env.new done.new.items steps.new)
         went) }
     ensures spent { OnOk result (RisesAlike steps.old progress.old.spent steps.new progress.new.spent) }
@@ -451,7 +462,7 @@ fn scope<L: Ledger>(
     env: &mut Env,
     levels: u32,
     left: u64,
-    kept: &PriorParts<'_>,
+    kept: &PriorStores<'_>,
     progress: &mut WalkProgress,
     done: &mut Vec<Part>,
     steps: &mut Steps<L>,
@@ -461,17 +472,17 @@ fn scope<L: Ledger>(
     requires levels { levels ≤ 400 }
     requires left { left ≤ 1000000 }
     requires scopes { length env.old.scopes + levels < 2 ^ 32 - 1 }
-    requires sound { IsSound (kept_in kept.now) path.now t.now }
-    requires distinct { IsDistinct bytes_eq (paths_of kept.now) }
-    requires kept_tidy { All IsTidy kept.now }
+    requires sound { AreSound (stores_of kept.now) path.now t.now }
+    requires own { AreFindable kept.now.own }
+    requires spare { AreFindable kept.now.spare }
     requires done_ready { All IsReady done.old.items }
     ensures exact { IfOk result
         (λ o. wide_outcome o ≡ option_map (trace_under path.now) (evaluates levels left t.now (before_of env.old))) }
     ensures behind { IfOk result (λ o. IsBehind (before_of env.old) (before_of env.new) (wide_outcome o)) }
-    ensures added { IfOk result (λ o. IsAdded (kept_in kept.now) (parts levels left path.now t.now (before_of env.old))
-        done.old.items done.new.items (wide_outcome o)) }
+    ensures added { IfOk result (λ o. IsAdded (stores_of kept.now)
+        (parts levels left path.now t.now (before_of env.old)) done.old.items done.new.items (wide_outcome o)) }
     ensures counted { OnOk result (steps.new
-        ≡ steps.old + charges (kept_in kept.now) (parts levels left path.now t.now (before_of env.old))) }
+        ≡ steps.old + charges (stores_of kept.now) (parts levels left path.now t.now (before_of env.old))) }
     ensures spent { OnOk result (RisesAlike steps.old progress.old.spent steps.new progress.new.spent) }
     ensures names_once { IfOk result NamesOnce }
     ensures done_ready { All IsReady done.new.items }
@@ -494,7 +505,7 @@ fn scope_with<L: Ledger>(
     env: &mut Env,
     levels: u32,
     left: u64,
-    kept: &PriorParts<'_>,
+    kept: &PriorStores<'_>,
     progress: &mut WalkProgress,
     done: &mut Vec<Part>,
     settings: Settings,
@@ -505,17 +516,17 @@ fn scope_with<L: Ledger>(
     requires levels { levels ≤ 400 }
     requires left { left ≤ 1000000 }
     requires scopes { length env.old.scopes + levels < 2 ^ 32 - 1 }
-    requires sound { IsSound (kept_in kept.now) path.now t.now }
-    requires distinct { IsDistinct bytes_eq (paths_of kept.now) }
-    requires kept_tidy { All IsTidy kept.now }
+    requires sound { AreSound (stores_of kept.now) path.now t.now }
+    requires own { AreFindable kept.now.own }
+    requires spare { AreFindable kept.now.spare }
     requires done_ready { All IsReady done.old.items }
     ensures exact { IfOk result
         (λ o. wide_outcome o ≡ option_map (trace_under path.now) (evaluates levels left t.now (before_of env.old))) }
     ensures behind { IfOk result (λ o. IsBehind (before_of env.old) (before_of env.new) (wide_outcome o)) }
-    ensures added { IfOk result (λ o. IsAdded (kept_in kept.now) (parts levels left path.now t.now (before_of env.old))
-        done.old.items done.new.items (wide_outcome o)) }
+    ensures added { IfOk result (λ o. IsAdded (stores_of kept.now)
+        (parts levels left path.now t.now (before_of env.old)) done.old.items done.new.items (wide_outcome o)) }
     ensures counted { OnOk result (steps.new
-        ≡ steps.old + charges (kept_in kept.now) (parts levels left path.now t.now (before_of env.old))) }
+        ≡ steps.old + charges (stores_of kept.now) (parts levels left path.now t.now (before_of env.old))) }
     ensures spent { OnOk result (RisesAlike steps.old progress.old.spent steps.new progress.new.spent) }
     ensures names_once { IfOk result NamesOnce }
     ensures done_ready { All IsReady done.new.items }
@@ -557,7 +568,7 @@ fn inside<L: Ledger>(
     env: &mut Env,
     levels: u32,
     left: u64,
-    kept: &PriorParts<'_>,
+    kept: &PriorStores<'_>,
     progress: &mut WalkProgress,
     done: &mut Vec<Part>,
     pairs: &[(Text, Tree)],
@@ -565,17 +576,17 @@ fn inside<L: Ledger>(
 ) -> Result<Outcome, Memory>
     requires levels { levels < 400 }
     requires left { left ≤ 1000000 }
-    requires sound { IsSound (kept_in kept.now) (path.now ++ i ∷ []) t.now }
-    requires distinct { IsDistinct bytes_eq (paths_of kept.now) }
-    requires kept_tidy { All IsTidy kept.now }
+    requires sound { AreSound (stores_of kept.now) (path.now ++ i ∷ []) t.now }
+    requires own { AreFindable kept.now.own }
+    requires spare { AreFindable kept.now.spare }
     requires done_ready { All IsReady done.old.items }
     requires scopes { length env.old.scopes + levels < 2 ^ 32 - 2 }
     ensures exact { IfOk result (λ o. wide_outcome o ≡ option_map (trace_under (path.now ++ i ∷ []))
         (evaluates levels left t.now (get (overlaid env.old.map pairs.now)))) }
-    ensures added { IfOk result (λ o. IsAdded (kept_in kept.now)
+    ensures added { IfOk result (λ o. IsAdded (stores_of kept.now)
         (parts levels left (path.now ++ i ∷ []) t.now (get (overlaid env.old.map pairs.now)))
         done.old.items done.new.items (wide_outcome o)) }
-    ensures counted { OnOk result (steps.new ≡ steps.old + charges (kept_in kept.now)
+    ensures counted { OnOk result (steps.new ≡ steps.old + charges (stores_of kept.now)
         (parts levels left (path.now ++ i ∷ []) t.now (get (overlaid env.old.map pairs.now)))) }
     ensures spent { OnOk result (RisesAlike steps.old progress.old.spent steps.new progress.new.spent) }
     ensures names_once { IfOk result NamesOnce }
@@ -600,7 +611,7 @@ fn set_inside<L: Ledger>(
     env: &mut Env,
     levels: u32,
     left: u64,
-    kept: &PriorParts<'_>,
+    kept: &PriorStores<'_>,
     progress: &mut WalkProgress,
     done: &mut Vec<Part>,
     pairs: &[(Text, Tree)],
@@ -608,17 +619,17 @@ fn set_inside<L: Ledger>(
 ) -> Result<Outcome, Memory>
     requires levels { levels < 400 }
     requires left { left ≤ 1000000 }
-    requires sound { IsSound (kept_in kept.now) (path.now ++ i ∷ []) t.now }
-    requires distinct { IsDistinct bytes_eq (paths_of kept.now) }
-    requires kept_tidy { All IsTidy kept.now }
+    requires sound { AreSound (stores_of kept.now) (path.now ++ i ∷ []) t.now }
+    requires own { AreFindable kept.now.own }
+    requires spare { AreFindable kept.now.spare }
     requires done_ready { All IsReady done.old.items }
     requires scopes { length env.old.scopes + levels < 2 ^ 32 - 1 }
     ensures exact { IfOk result (λ o. wide_outcome o ≡ option_map (trace_under (path.now ++ i ∷ []))
         (evaluates levels left t.now (get (overlaid env.old.map pairs.now)))) }
-    ensures added { IfOk result (λ o. IsAdded (kept_in kept.now)
+    ensures added { IfOk result (λ o. IsAdded (stores_of kept.now)
         (parts levels left (path.now ++ i ∷ []) t.now (get (overlaid env.old.map pairs.now)))
         done.old.items done.new.items (wide_outcome o)) }
-    ensures counted { OnOk result (steps.new ≡ steps.old + charges (kept_in kept.now)
+    ensures counted { OnOk result (steps.new ≡ steps.old + charges (stores_of kept.now)
         (parts levels left (path.now ++ i ∷ []) t.now (get (overlaid env.old.map pairs.now)))) }
     ensures spent { OnOk result (RisesAlike steps.old progress.old.spent steps.new progress.new.spent) }
     ensures names_once { IfOk result NamesOnce }

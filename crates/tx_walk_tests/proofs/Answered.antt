@@ -7,20 +7,19 @@ use Rattle.tx_tree.specs.WideTree.{WideTree}
 use Rattle.tx_exec_form.specs.Evaluated.{WideTrace}
 use Rattle.tx_parts.specs.Parts.{Part}
 use Rattle.tx_walk.specs.declared.part.Part.{Part as DonePart}
-use Rattle.tx_walk.specs.Held.{Store, IsSound}
+use Rattle.tx_walk.specs.Held.{Stores, IsSound}
 use Rattle.tx_walk.specs.Walked.{kept_in, paths_of, seen, seen_in, seen_parts}
-use Rattle.tx_walk_tests.proofs.Nothing.{none_twice}
 
-pub answered_sound : (kept : Store) (ps : List Part) (o : Option WideTrace) (done : List DonePart) (t : WideTree) →
+pub answered_sound : (kept : Stores) (ps : List Part) (o : Option WideTrace) (done : List DonePart) (t : WideTree) →
     map seen done ≡ seen_parts kept ps o → IsSound (kept_in []) [] t →
     (map seen done ≡ map (seen_in kept) ps → IsSound (kept_in done) [] t) → IsSound (kept_in done) [] t
 answered_sound kept ps (Some trace) done t h nothing law = law h
 answered_sound kept ps None [] t h nothing law = nothing
 answered_sound kept ps None (d ∷ done) t h nothing law = cc
 
-pub answered_distinct : (kept : Store) (ps : List Part) (o : Option WideTrace) (done : List DonePart) →
-    map seen done ≡ seen_parts kept ps o →
+pub answered_distinct : (kept : Stores) (ps : List Part) (o : Option WideTrace) (done : List DonePart) →
+    map seen done ≡ seen_parts kept ps o → IsDistinct bytes_eq (paths_of []) →
     (map seen done ≡ map (seen_in kept) ps → IsDistinct bytes_eq (paths_of done)) → IsDistinct bytes_eq (paths_of done)
-answered_distinct kept ps (Some trace) done h law = law h
-answered_distinct kept ps None [] h law = none_twice
-answered_distinct kept ps None (d ∷ done) h law = cc
+answered_distinct kept ps (Some trace) done h nothing law = law h
+answered_distinct kept ps None [] h nothing law = nothing
+answered_distinct kept ps None (d ∷ done) h nothing law = cc

@@ -2,8 +2,8 @@
 ghost use Rattle.std.specs.Prelude.{◌≡◌, ◌≤◌, [], IfSome};
 ghost use Rattle.std.specs.List.{All, IsDistinct};
 ghost use Rattle.std.specs.Str.{bytes_eq};
-ghost use Rattle.tx_walk.specs.Held.{IsSound};
-ghost use Rattle.tx_walk.specs.Walked.{IsTidy, kept_in, paths_of};
+ghost use Rattle.tx_walk.specs.Held.{IsSound, AreSound};
+ghost use Rattle.tx_walk.specs.Walked.{IsTidy, kept_in, stores_in, paths_of};
 
 use std::alloc::Global;
 use std::marker::Brand;
@@ -48,6 +48,65 @@ const ROWS: &[Row] = &[
     ("(document (while \"true\" \"ab\") (value \"n\"))", "1", 2),
 ];
 
+// A tree, and what the name `n` had where it was walked for what is kept and for the spare, and what it has now.
+struct SpareRow {
+    tree: &'static str,
+    kept: &'static str,
+    spare: &'static str,
+    now: &'static str,
+    // what the walk costs, and which parts are renewed
+    charge: u64,
+    renewed: &'static [bool],
+}
+
+const SPARE_ROWS: &[SpareRow] = &[
+    // the spare alone serves
+    SpareRow {
+        tree: "(document \"a\" (value \"n\"))",
+        kept: "1",
+        spare: "2",
+        now: "2",
+        charge: 0,
+        renewed: &[false, true],
+    },
+    // both do
+    SpareRow {
+        tree: "(document \"a\" (value \"n\"))",
+        kept: "2",
+        spare: "2",
+        now: "2",
+        charge: 0,
+        renewed: &[false, false],
+    },
+    // what is kept alone does
+    SpareRow {
+        tree: "(document (value \"n\") \"a\")",
+        kept: "2",
+        spare: "1",
+        now: "2",
+        charge: 0,
+        renewed: &[false, false],
+    },
+    // neither does
+    SpareRow {
+        tree: "(document \"a\" (value \"n\"))",
+        kept: "1",
+        spare: "2",
+        now: "3",
+        charge: 5,
+        renewed: &[false, true],
+    },
+    // where the name is set before it, what it had doesn't count
+    SpareRow {
+        tree: "(document (value \"n\") (with \"n\" \"5\" (value \"n\")))",
+        kept: "1",
+        spare: "2",
+        now: "2",
+        charge: 0,
+        renewed: &[true, false],
+    },
+];
+
 fn tree_of<L: Ledger>(alloc: Global, words: &str, steps: &mut Steps<L>) -> Option<Tree> {
     tx_scm::read(alloc, words.as_bytes(), steps).ok()
 }
@@ -79,26 +138,29 @@ fn by_parts<L: Ledger>(
     kept_law();
     walked_law();
     let mut env = env_of(alloc, words)?;
-    match walk(alloc, t, &mut env, allowance, &[], steps) {
+    match walk(alloc, t, &mut env, allowance, &[], &[], steps) {
         Ok(walked) => Some(walked),
         Err(_) => None,
     }
 }
 
-// The tree by its parts, of which these are kept.
+// The tree by its parts, of which these are kept, and these are spare.
 fn again<L: Ledger>(
     alloc: Global,
     t: &Tree,
     words: &str,
     kept: &[Part],
+    spare: &[Part],
     steps: &mut Steps<L>,
 ) -> Option<Walked>
-    requires sound { IsSound (kept_in kept.now) [] t.now }
+    requires sound { AreSound (stores_in kept.now spare.now) [] t.now }
     requires distinct { IsDistinct bytes_eq (paths_of kept.now) }
     requires tidy { All IsTidy kept.now }
+    requires spare_distinct { IsDistinct bytes_eq (paths_of spare.now) }
+    requires spare_tidy { All IsTidy spare.now }
 {
     let mut env = env_of(alloc, words)?;
-    walk(alloc, t, &mut env, ALLOWANCE, kept, steps).ok()
+    walk(alloc, t, &mut env, ALLOWANCE, kept, spare, steps).ok()
 }
 
 // Whether so many steps suffice. Where they don't there are no parts.
@@ -174,7 +236,8 @@ fn is_held<L: Ledger>(
     requires distinct { IsDistinct bytes_eq (paths_of kept.now) }
     requires tidy { All IsTidy kept.now }
 {
-    let walked = again(alloc, t, row.1, kept, steps)?;
+    kept_law();
+    let walked = again(alloc, t, row.1, kept, &[], steps)?;
     let alike = same(alloc, &walked.outcome, whole, steps)?;
     let held = walked
         .parts
@@ -195,6 +258,33 @@ fn holds<L: Ledger>(alloc: Global, row: &Row, steps: &mut Steps<L>) -> Option<bo
     Some(alike && anew && held && exact && walked.parts.len() == row.2)
 }
 
+// Whether the tree comes to what evaluating it gives, for this charge, and these parts are renewed.
+fn spares<L: Ledger>(alloc: Global, row: &SpareRow, steps: &mut Steps<L>) -> Option<bool> {
+    let tree = tree_of(alloc, row.tree, steps)?;
+    let kept = by_parts(alloc, &tree, row.kept, ALLOWANCE, steps)?;
+    let spare = by_parts(alloc, &tree, row.spare, ALLOWANCE, steps)?;
+    let walked = again(alloc, &tree, row.now, &kept.parts, &spare.parts, steps)?;
+    let whole = whole(alloc, &tree, row.now, steps)?;
+    let alike = same(alloc, &walked.outcome, &whole, steps)?;
+    let flags = walked.parts.iter().map(|part| part.renewed);
+    Some(alike && flags.eq(row.renewed.iter().copied()) && walked.charge == row.charge)
+}
+
+// The number of the first row with a spare that doesn't hold.
+fn first_not_spared<L: Ledger>(alloc: Global, blank: Blank) -> Option<usize>
+    requires name { blank.name ≡ L.name }
+    requires parts { blank.parts ≡ L.parts }
+    requires whole { blank.parts ≡ 1 }
+{
+    let mut steps = Steps::<L>::new(blank);
+    for (i, row) in SPARE_ROWS.iter().enumerate() {
+        if spares(alloc, row, &mut steps) != Some(true) {
+            return Some(i);
+        }
+    }
+    None
+}
+
 // The number of the first row that doesn't hold.
 fn first_untrue<L: Ledger>(alloc: Global, blank: Blank) -> Option<usize>
     requires name { blank.name ≡ L.name }
@@ -213,4 +303,9 @@ fn first_untrue<L: Ledger>(alloc: Global, blank: Blank) -> Option<usize>
 #[test]
 fn the_whole_is_what_its_parts_come_to(rt: HostRuntime) {
     assert_eq!(rt; first_untrue::<Brand>(rt.alloc(), Blank::new(1)), None);
+}
+
+#[test]
+fn a_spare_serves_where_what_is_kept_does_not(rt: HostRuntime) {
+    assert_eq!(rt; first_not_spared::<Brand>(rt.alloc(), Blank::new(1)), None);
 }

@@ -8,7 +8,7 @@ use Rattle.tx_exec.specs.Outcomes.{wide_outcome}
 use Rattle.tx_parts.proofs.Settings.{none_low}
 use Rattle.tx_parts.specs.Composed.{evaluates}
 use Rattle.tx_parts.specs.Parts.{parts}
-use Rattle.tx_walk.specs.Walked.{kept_in}
+use Rattle.tx_walk.specs.Prior.{stores_of}
 use Rattle.tx_walk.specs.Steps.{trace_under, so_far_of, stage_of, IsBehind, IsAdded}
 use Rattle.tx_walk.proofs.Spending.{stays, rise_both}
 use Rattle.tx_walk.proofs.Charging.{none_charged, low_charged, nothing_more}
@@ -30,14 +30,14 @@ walk_tree-returns-then-levels-eq0-clause-exact g t c =
 
 pub walk_tree-returns-then-levels-eq0-clause-counted : goal.walk_tree-returns-then-levels-eq0-clause-counted
 walk_tree-returns-then-levels-eq0-clause-counted g t c =
-    nothing_more c.args.steps.now (low_charged (kept_in c.args.kept.now) c.args.levels c.args.left c.args.path
+    nothing_more c.args.steps.now (low_charged (stores_of c.args.kept.now) c.args.levels c.args.left c.args.path
     c.args.t.now (before_of c.args.env.now) c.if-levels-eq0.true)
 
 pub one_child-walk_tree-requires : goal.one_child-walk_tree-requires
 one_child-walk_tree-requires g t c κs within =
     search (
       rules,
-      sound_at (kept_in c.args.kept.now) _ c.in_ok-below.below c.args.t.now c.in_ok-below.ensures
+      sound_at (stores_of c.args.kept.now) _ c.in_ok-below.below c.args.t.now c.in_ok-below.ensures
           c.requires.sound,
     )
 
@@ -49,7 +49,7 @@ one_child-add_outcome-requires-clause-cost g t c =
 pub one_child-returns-clause-comes : goal.one_child-returns-clause-comes
 one_child-returns-clause-comes g t c =
     IfOk-weaker c.add_outcome.result _ _
-    (λ went h. child_comes (kept_in c.args.kept.now) c.args.levels c.args.left c.args.path.now c.args.i
+    (λ went h. child_comes (stores_of c.args.kept.now) c.args.levels c.args.left c.args.path.now c.args.i
     c.args.t.now (so_far_of c.args.joined.now) (so_far_of c.add_outcome.new.self) (before_of c.args.env.now)
     (before_of c.walk_tree.new.env) c.args.done.now.items c.walk_tree.new.done.items c.args.steps.now
     c.walk_tree.new.steps c.in_ok-below.below (c.args.left - c.args.joined.now.cost)
@@ -60,7 +60,7 @@ one_child-returns-clause-comes g t c =
 
 pub children-loop-i-init : goal.children-loop-i-init
 children-loop-i-init g t c = record {
-  going = begins (kept_in c.args.kept.now) c.args.levels c.args.left c.args.path.now
+  going = begins (stores_of c.args.kept.now) c.args.levels c.args.left c.args.path.now
       (children_of c.args.t.now) (stage_of c.args.joined.now c.args.env.now c.args.done.now.items c.args.steps.now)
       c.requires.nothing;
   done_ready = c.requires.done_ready;
@@ -70,7 +70,7 @@ children-loop-i-init g t c = record {
 
 pub children-loop-i-preserved : goal.children-loop-i-preserved
 children-loop-i-preserved g t c = record {
-  going = next (kept_in c.args.kept.now) c.args.levels c.args.left c.args.path.now
+  going = next (stores_of c.args.kept.now) c.args.levels c.args.left c.args.path.now
       (children_of c.args.t.now) (stage_of c.args.joined.now c.args.env.now c.args.done.now.items c.args.steps.now)
       c.loop-i.i (stage_of c.loop-i.joined c.loop-i.env c.loop-i.done.items c.loop-i.steps) c.loop-i.invariant.going
       c.in-Some.kid.now c.in-Some.ensures (stage_of c.one_child.new.joined c.one_child.new.env
@@ -86,13 +86,13 @@ pub children-one_child-requires : goal.children-one_child-requires
 children-one_child-requires g t c κs within =
     search (
       rules,
-      child_sound (kept_in c.args.kept.now) c.args.path.now c.args.t.now c.in-Some.kid.now c.loop-i.i
+      child_sound (stores_of c.args.kept.now) c.args.path.now c.args.t.now c.in-Some.kid.now c.loop-i.i
           c.in-Some.ensures c.requires.sound,
     )
 
 pub children-returns-then-not-went-clause-comes : goal.children-returns-then-not-went-clause-comes
 children-returns-then-not-went-clause-comes g t c =
-    stops (kept_in c.args.kept.now) c.args.levels c.args.left c.args.path.now
+    stops (stores_of c.args.kept.now) c.args.levels c.args.left c.args.path.now
     (children_of c.args.t.now) (stage_of c.args.joined.now c.args.env.now c.args.done.now.items c.args.steps.now)
     c.loop-i.i (stage_of c.loop-i.joined c.loop-i.env c.loop-i.done.items c.loop-i.steps) c.loop-i.invariant.going
     c.in-Some.kid.now c.in-Some.ensures (stage_of c.one_child.new.joined c.one_child.new.env
@@ -101,7 +101,7 @@ children-returns-then-not-went-clause-comes g t c =
 
 pub children-returns-clause-comes : goal.children-returns-clause-comes
 children-returns-clause-comes g t c =
-    ends (kept_in c.args.kept.now) c.args.levels c.args.left c.args.path.now
+    ends (stores_of c.args.kept.now) c.args.levels c.args.left c.args.path.now
     (children_of c.args.t.now) (stage_of c.args.joined.now c.args.env.now c.args.done.now.items c.args.steps.now)
     c.loop-i.i (stage_of c.loop-i.joined c.loop-i.env c.loop-i.done.items c.loop-i.steps) c.loop-i.invariant.going
     (omega (arith, c.loop-i-test.false, c.loop-i.auto.i-end, c.arity-i-end.ensures))
@@ -114,13 +114,13 @@ document-returns-then-left-eq0-clause-exact g t c =
 
 pub document-returns-then-left-eq0-clause-counted : goal.document-returns-then-left-eq0-clause-counted
 document-returns-then-left-eq0-clause-counted g t c =
-    nothing_more c.args.steps.now (none_charged (kept_in c.args.kept.now) c.args.levels c.args.left c.args.path.now
+    nothing_more c.args.steps.now (none_charged (stores_of c.args.kept.now) c.args.levels c.args.left c.args.path.now
     c.args.t.now (before_of c.args.env.now) c.if-left-eq0.true)
 
 pub document-document_of-requires : goal.document-document_of-requires
 document-document_of-requires g t c = record {
   label = document_label c.args.t.now c.requires.opens;
-  fits = comes_fits (kept_in c.args.kept.now) c.args.levels c.args.left c.args.path.now c.args.t.now
+  fits = comes_fits (stores_of c.args.kept.now) c.args.levels c.args.left c.args.path.now c.args.t.now
       c.requires.opens
       c.requires.some (omega arith) (so_far_of c.new-joined.result) (so_far_of c.children.new.joined)
       (before_of c.args.env.now) (before_of c.children.new.env) c.args.done.now.items c.children.new.done.items
@@ -130,7 +130,7 @@ document-document_of-requires g t c = record {
 
 pub document-returns-clause-exact : goal.document-returns-clause-exact
 document-returns-clause-exact g t c =
-    IfOk-weaker c.document_of.result _ _ (λ o h. h ∙ comes_exact (kept_in c.args.kept.now) c.args.levels c.args.left
+    IfOk-weaker c.document_of.result _ _ (λ o h. h ∙ comes_exact (stores_of c.args.kept.now) c.args.levels c.args.left
     c.args.path.now c.args.t.now c.requires.opens
     c.requires.some (omega arith) (so_far_of c.new-joined.result) (so_far_of c.children.new.joined)
     (before_of c.args.env.now) (before_of c.children.new.env) c.args.done.now.items c.children.new.done.items
@@ -141,7 +141,7 @@ pub document-returns-clause-behind : goal.document-returns-clause-behind
 document-returns-clause-behind g t c =
     IfOk-weaker c.document_of.result _ _
     (λ o h. subst (IsBehind (before_of c.args.env.now) (before_of c.children.new.env)) (sym h)
-    (comes_behind (kept_in c.args.kept.now) c.args.levels c.args.left c.args.path.now c.args.t.now
+    (comes_behind (stores_of c.args.kept.now) c.args.levels c.args.left c.args.path.now c.args.t.now
     c.requires.opens
     c.requires.some (omega arith) (so_far_of c.new-joined.result) (so_far_of c.children.new.joined)
     (before_of c.args.env.now) (before_of c.children.new.env) c.args.done.now.items c.children.new.done.items
@@ -151,10 +151,10 @@ document-returns-clause-behind g t c =
 pub document-returns-clause-added : goal.document-returns-clause-added
 document-returns-clause-added g t c =
     IfOk-weaker c.document_of.result _ _
-    (λ o h. subst (IsAdded (kept_in c.args.kept.now)
+    (λ o h. subst (IsAdded (stores_of c.args.kept.now)
     (parts c.args.levels c.args.left c.args.path.now c.args.t.now (before_of c.args.env.now))
     c.args.done.now.items c.children.new.done.items) (sym h)
-    (comes_added (kept_in c.args.kept.now) c.args.levels c.args.left c.args.path.now c.args.t.now
+    (comes_added (stores_of c.args.kept.now) c.args.levels c.args.left c.args.path.now c.args.t.now
     c.requires.opens
     c.requires.some (omega arith) (so_far_of c.new-joined.result) (so_far_of c.children.new.joined)
     (before_of c.args.env.now) (before_of c.children.new.env) c.args.done.now.items c.children.new.done.items
@@ -164,7 +164,7 @@ document-returns-clause-added g t c =
 pub document-returns-clause-counted : goal.document-returns-clause-counted
 document-returns-clause-counted g t c =
     any_ok c.document_of.result _
-    (comes_counted (kept_in c.args.kept.now) c.args.levels c.args.left c.args.path.now c.args.t.now
+    (comes_counted (stores_of c.args.kept.now) c.args.levels c.args.left c.args.path.now c.args.t.now
     c.requires.opens
     c.requires.some (omega arith) (so_far_of c.new-joined.result) (so_far_of c.children.new.joined)
     (before_of c.args.env.now) (before_of c.children.new.env) c.args.done.now.items c.children.new.done.items
@@ -174,7 +174,7 @@ pub set_inside-walk_tree-requires : goal.set_inside-walk_tree-requires
 set_inside-walk_tree-requires g t c κs within =
     search (
       rules,
-      sound_at (kept_in c.args.kept.now) _ c.in_ok-below.below c.args.t.now c.in_ok-below.ensures
+      sound_at (stores_of c.args.kept.now) _ c.in_ok-below.below c.args.t.now c.in_ok-below.ensures
           c.requires.sound,
     )
 
@@ -194,7 +194,7 @@ scope-returns-in-None-clause-exact g t c =
 
 pub scope-returns-in-None-clause-counted : goal.scope-returns-in-None-clause-counted
 scope-returns-in-None-clause-counted g t c =
-    nothing_more c.args.steps.now (scope_charged (kept_in c.args.kept.now) c.args.levels c.args.left c.args.path.now
+    nothing_more c.args.steps.now (scope_charged (stores_of c.args.kept.now) c.args.levels c.args.left c.args.path.now
     c.args.t.now (before_of c.args.env.now) c.in_ok-settings_of.field-0 c.requires.opens c.requires.some
     c.in_ok-settings_of.ensures c.in-None.is)
 
@@ -207,12 +207,12 @@ scope_with-returns-then-settings-left-clause-exact g t c =
 pub scope_with-returns-then-settings-left-clause-counted : goal.scope_with-returns-then-settings-left-clause-counted
 scope_with-returns-then-settings-left-clause-counted g t c =
     nothing_more c.args.steps.now (dear_with c.args.levels c.args.left c.args.path.now c.args.t.now c.args.settings
-    c.requires.scope c.requires.some (kept_in c.args.kept.now) (before_of c.args.env.now) c.if-settings-left.true)
+    c.requires.scope c.requires.some (stores_of c.args.kept.now) (before_of c.args.env.now) c.if-settings-left.true)
 
 pub scope_with-with_of-requires-clause-fits : goal.scope_with-with_of-requires-clause-fits
 scope_with-with_of-requires-clause-fits g t c =
     closed_fits c.args.levels c.args.left c.args.path.now c.args.t.now c.args.settings c.requires.scope
-    c.requires.some (kept_in c.args.kept.now) c.if-settings-left.false c.in-Some.inner.now (c.arity-last.result - 1)
+    c.requires.some (stores_of c.args.kept.now) c.if-settings-left.false c.in-Some.inner.now (c.arity-last.result - 1)
     c.arity-last.result c.arity-last.ensures refl c.in-Some.ensures (c.args.left - 1 - c.args.settings.cost) refl
     c.args.env.now.map c.deref.result.now c.deref.ensures.value (wide_outcome c.in_ok-outcome.outcome) None
     c.in_ok-outcome.ensures.exact c.requires.levels c.requires.left c.size-size.ensures.within
@@ -221,7 +221,7 @@ pub scope_with-returns-clause-exact : goal.scope_with-returns-clause-exact
 scope_with-returns-clause-exact g t c =
     IfOk-weaker c.with_of.result _ _ (λ o h.
     closed_exact c.args.levels c.args.left c.args.path.now c.args.t.now c.args.settings c.requires.scope
-    c.requires.some (kept_in c.args.kept.now) c.if-settings-left.false c.in-Some.inner.now (c.arity-last.result - 1)
+    c.requires.some (stores_of c.args.kept.now) c.if-settings-left.false c.in-Some.inner.now (c.arity-last.result - 1)
     c.arity-last.result c.arity-last.ensures refl c.in-Some.ensures (c.args.left - 1 - c.args.settings.cost) refl
     c.args.env.now.map c.deref.result.now c.deref.ensures.value (wide_outcome c.in_ok-outcome.outcome) (wide_outcome o)
     c.in_ok-outcome.ensures.exact h)
@@ -231,7 +231,7 @@ pub scope_with-returns-clause-added : goal.scope_with-returns-clause-added
 scope_with-returns-clause-added g t c =
     IfOk-weaker c.with_of.result _ _ (λ o h.
     closed_added c.args.levels c.args.left c.args.path.now c.args.t.now c.args.settings c.requires.scope
-    c.requires.some (kept_in c.args.kept.now) c.if-settings-left.false c.in-Some.inner.now (c.arity-last.result - 1)
+    c.requires.some (stores_of c.args.kept.now) c.if-settings-left.false c.in-Some.inner.now (c.arity-last.result - 1)
     c.arity-last.result c.arity-last.ensures refl c.in-Some.ensures (c.args.left - 1 - c.args.settings.cost) refl
     c.args.env.now.map c.deref.result.now c.deref.ensures.value (wide_outcome c.in_ok-outcome.outcome) (wide_outcome o)
     c.args.done.now.items c.inside.new.done.items h c.in_ok-outcome.ensures.added)
@@ -242,7 +242,7 @@ scope_with-returns-clause-counted g t c =
     any_ok c.with_of.result _
     (closed_counted c.args.levels c.args.left c.args.path.now c.args.t.now c.args.settings
     c.requires.scope
-    c.requires.some (kept_in c.args.kept.now) c.if-settings-left.false c.in-Some.inner.now (c.arity-last.result - 1)
+    c.requires.some (stores_of c.args.kept.now) c.if-settings-left.false c.in-Some.inner.now (c.arity-last.result - 1)
     c.arity-last.result c.arity-last.ensures refl c.in-Some.ensures (c.args.left - 1 - c.args.settings.cost) refl
     c.args.env.now.map c.deref.result.now c.deref.ensures.value (wide_outcome c.in_ok-outcome.outcome) None
     c.args.steps.now c.inside.new.steps c.in_ok-outcome.ensures.counted)

@@ -1,7 +1,7 @@
 use Rattle.std.proofs.Common.{◌≡◌, ◌+◌, ◌-◌, ◌*◌}
 use Rattle.std.specs.List.{All}
 use Rattle.tx_tree.specs.WideTree.{children_of}
-use Rattle.tx_walk.specs.Walked.{kept_in}
+use Rattle.tx_walk.specs.Prior.{stores_of}
 use Rattle.tx_walk.specs.Spending.{RisesAlike}
 use Rattle.tx_walk.specs.Steps.{IsReady, stage_of}
 use Rattle.tx_walk.proofs.Going.{Going}
@@ -33,7 +33,7 @@ decreases-set_inside g l = 8 * l.levels + 1
 
 abbrev pub invariant-children-loop-i : goal.invariant-children-loop-i
 invariant-children-loop-i g l = record {
-  going : Going (kept_in l.kept) l.levels l.left l.path (children_of l.t)
+  going : Going (stores_of l.kept) l.levels l.left l.path (children_of l.t)
       (stage_of l.fn.joined l.fn.env l.fn.done.items l.fn.steps) l.i
       (stage_of l.joined l.env l.done.items l.steps);
   done_ready : All IsReady l.done.items;
