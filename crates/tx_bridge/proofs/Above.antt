@@ -1,18 +1,19 @@
 -- In which unit a place is.
-use Rattle.std.proofs.Common.{◌≡◌, ℕ, zero, suc, ◌+◌, ◌<◌, List, [], ◌∷◌, ◌++◌, length, Option, Some, None, refl, nat_eq}
-use Rattle.std.proofs.Common.{ap, sym, ◌∙◌, subst, arith, slice_index_or}
+use Rattle.std.proofs.Common.{◌≡◌, ℕ, zero, suc, ◌+◌, ◌<◌, List, [], ◌∷◌, ◌++◌, length, Option, Some, None, refl}
+use Rattle.std.proofs.Common.{nat_eq}
+use Rattle.std.proofs.Common.{ap, sym, ◌∙◌, subst, arith, slice_index_or, ◌≤◌}
 use Rattle.std.proofs.lemmas.List.{append-nil}
 use Rattle.std.proofs.lemmas.Option.{same_Some, slice_get-get_or}
 use Rattle.std.proofs.lemmas.Slice.Eq.{bytes_eq-Decides}
 use Rattle.std.specs.List.{AllByRecursion, list_any, starts_with}
 use Rattle.std.specs.Option.{option_map_or}
-use Rattle.std.specs.Prelude.{Bool, true, false, not, ◌||◌, is_some, slice_get, option_and_then}
+use Rattle.std.specs.Prelude.{Bool, true, false, not, ◌||◌, is_some, slice_get, option_and_then, MatchOption}
 use Rattle.tx_mod.specs.Moves.{rest_behind}
 use Rattle.tx_units.specs.declared.kinds.Unit.{Unit as DocUnit}
 use Rattle.tx_units.specs.Places.{AreApart, NoneBegins}
 use Rattle.tx_bridge.specs.Carrying.{is_path}
-use Rattle.tx_bridge.specs.Courses.{IsUnitAbove, NoneAbove}
-use Rattle.tx_bridge.specs.PartMoves.{stands_at, is_vacant, rest_in, unit_above}
+use Rattle.tx_bridge.specs.Courses.{IsUnitAbove}
+use Rattle.tx_bridge.specs.PartMoves.{NoneAbove, is_outside, stands_at, is_vacant, rest_in, unit_above}
 use Rattle.tx_bridge.proofs.Inside.{rest_is, rest_own, fronts_meet}
 use Rattle.tx_bridge.proofs.WithinUnit.{no_rest_of, rest_of_is}
 
@@ -75,16 +76,17 @@ one_above (w ∷ us) (suc j) (suc k) u v place r s h at_j at_k e f =
 
 -- ---- the first one
 
-none_above_from : (j : ℕ) (us : List DocUnit) (place : List ℕ) → NoneAbove place us → unit_above j us place ≡ None
-none_above_from j [] place h = refl
-none_above_from j (v ∷ vs) place h =
-    ap (λ o. option_map_or (λ r. Some (j, r)) o (unit_above (j + 1) vs place)) (h 0 v refl)
-    ∙ none_above_from (j + 1) vs place (λ k u e. h (suc k) u e)
+none_above_from : (j n : ℕ) (us : List DocUnit) (place : List ℕ) → NoneAbove place us → n ≡ j + length us
+    → unit_above j us place ≡ (n, place)
+none_above_from j n [] place h is = let same : j ≡ n = omega (arith, is) in ap (λ i. (i, place)) same
+none_above_from j n (v ∷ vs) place h is =
+    ap (λ o. option_map_or (λ r. (j, r)) o (unit_above (j + 1) vs place)) (h 0 v refl)
+    ∙ none_above_from (j + 1) n vs place (λ k u e. h (suc k) u e) (omega (arith, is))
 
-pub none_above : (us : List DocUnit) (place : List ℕ) → NoneAbove place us → unit_above 0 us place ≡ None
-none_above us place h = none_above_from 0 us place h
+pub none_above : (us : List DocUnit) (place : List ℕ) → NoneAbove place us → unit_above 0 us place ≡ (length us, place)
+none_above us place h = none_above_from 0 (length us) us place h (omega arith)
 
-off_rest : (v : DocUnit) (place : List ℕ) → ((s : List ℕ) → rest_in v place ≡ Some s → ⊥) → rest_in v place ≡ None
+pub off_rest : (v : DocUnit) (place : List ℕ) → ((s : List ℕ) → rest_in v place ≡ Some s → ⊥) → rest_in v place ≡ None
 off_rest v place h = by (rest_in v place) refl
   where
     by : (o : Option (List ℕ)) → rest_in v place ≡ o → o ≡ None
@@ -92,22 +94,65 @@ off_rest v place h = by (rest_in v place) refl
     by (Some s) e = absurd (h s e)
 
 above_from : (us : List DocUnit) (k j n : ℕ) (u : DocUnit) (place r : List ℕ) → NoneBegins us
-    → slice_get us k ≡ Some u → rest_in u place ≡ Some r → n ≡ j + k → unit_above j us place ≡ Some (n, r)
+    → slice_get us k ≡ Some u → rest_in u place ≡ Some r → n ≡ j + k → unit_above j us place ≡ (n, r)
 above_from [] k j n u place r h at e is = cc
 above_from (v ∷ vs) zero j n u place r h at e is =
     let same : v ≡ u = unit_is v u vs at in
     let here : j ≡ n = omega (arith, is) in
-    ap (λ o. option_map_or (λ x. Some (j, x)) o (unit_above (j + 1) vs place))
+    ap (λ o. option_map_or (λ x. (j, x)) o (unit_above (j + 1) vs place))
     (ap (λ (w : DocUnit). rest_in w place) same ∙ e)
-    ∙ ap (λ i. Some (i, r)) here
+    ∙ ap (λ i. (i, r)) here
 above_from (v ∷ vs) (suc k) j n u place r h at e is =
-    ap (λ o. option_map_or (λ x. Some (j, x)) o (unit_above (j + 1) vs place))
+    ap (λ o. option_map_or (λ x. (j, x)) o (unit_above (j + 1) vs place))
     (off_rest v place (λ s f. never_both v u place s r (apart_from v.path vs k u h.0 at) f e))
     ∙ above_from vs k (j + 1) n u place r h.1 at e (omega (arith, is))
 
 pub above_is : (us : List DocUnit) (j : ℕ) (u : DocUnit) (place r : List ℕ) → NoneBegins us → slice_get us j ≡ Some u
-    → rest_in u place ≡ Some r → unit_above 0 us place ≡ Some (j, r)
+    → rest_in u place ≡ Some r → unit_above 0 us place ≡ (j, r)
 above_is us j u place r h at e = above_from us j 0 j u place r h at e (omega arith)
+
+-- ---- what the number tells
+
+-- the unit of that number has the place
+pub record IsFound (vs : List DocUnit) (n : ℕ) (place r : List ℕ) : Type 0 where
+  pub unit : DocUnit
+  pub there : slice_get vs n ≡ Some unit
+  pub rest : rest_in unit place ≡ Some r
+
+-- a number that units have is that of one
+pub found_at : (j : ℕ) (vs : List DocUnit) (place : List ℕ) → (unit_above j vs place).0 < j + length vs
+    → (k : ℕ) × ((unit_above j vs place).0 ≡ j + k) × IsFound vs k place (unit_above j vs place).1
+found_at j [] place few = absurd (omega (arith, few))
+found_at j (v ∷ vs) place few = by (rest_in v place) refl few (found_at (j + 1) vs place)
+  where
+    by : (o : Option (List ℕ)) → rest_in v place ≡ o
+        → (option_map_or (λ r. (j, r)) o (unit_above (j + 1) vs place)).0 < j + length (v ∷ vs)
+        → ((unit_above (j + 1) vs place).0 < j + 1 + length vs → (k : ℕ)
+        × ((unit_above (j + 1) vs place).0 ≡ j + 1 + k) × IsFound vs k place (unit_above (j + 1) vs place).1)
+        → (k : ℕ) × ((option_map_or (λ r. (j, r)) o (unit_above (j + 1) vs place)).0 ≡ j + k)
+        × IsFound (v ∷ vs) k place (option_map_or (λ r. (j, r)) o (unit_above (j + 1) vs place)).1
+    by (Some r) is less later = (0, omega arith, record { unit = v; there = refl; rest = is })
+    by None is less later =
+        let f = later (omega (arith, less)) in
+        (suc f.0, omega (arith, f.1), record { unit = f.2.unit; there = f.2.there; rest = f.2.rest })
+
+-- the number behind the last unit is told where none is above
+pub far_at : (j : ℕ) (vs : List DocUnit) (place : List ℕ) → j + length vs ≤ (unit_above j vs place).0
+    → ((unit_above j vs place).1 ≡ place) × NoneAbove place vs
+far_at j [] place far = (refl, (λ k u e. cc))
+far_at j (v ∷ vs) place far = by (rest_in v place) refl far (far_at (j + 1) vs place)
+  where
+    by : (o : Option (List ℕ)) → rest_in v place ≡ o
+        → j + length (v ∷ vs) ≤ (option_map_or (λ r. (j, r)) o (unit_above (j + 1) vs place)).0
+        → (j + 1 + length vs ≤ (unit_above (j + 1) vs place).0
+        → ((unit_above (j + 1) vs place).1 ≡ place) × NoneAbove place vs)
+        → ((option_map_or (λ r. (j, r)) o (unit_above (j + 1) vs place)).1 ≡ place) × NoneAbove place (v ∷ vs)
+    by (Some r) is more later = absurd (omega (arith, more))
+    by None is more later = let f = later (omega (arith, more)) in (f.0, none f.1)
+      where
+        none : NoneAbove place vs → NoneAbove place (v ∷ vs)
+        none rest zero u e = ap (λ (w : DocUnit). rest_in w place) (sym (unit_is v u vs e)) ∙ is
+        none rest (suc k) u e = rest k u e
 
 -- ---- whether a unit stands at the place
 
@@ -199,6 +244,32 @@ above_test u path place true is h =
 above_test u path place false is h =
     ap is_some (sym (ap (option_and_then (λ p. rest_behind p place)) is ∙ no_rest_of path place (sym h)))
 
+-- ---- whether one is above
+
+pub outside_is : (us : List DocUnit) (place : List ℕ) → NoneAbove place us → is_outside us place ≡ true
+outside_is us place h =
+    ap not (any_false (λ u. is_some (rest_in u place)) us (λ k u at. ap is_some (h k u at)))
+
+pub inside_is : (us : List DocUnit) (place : List ℕ) (j : ℕ) → IsUnitAbove place us j → is_outside us place ≡ false
+inside_is us place j h =
+    ap not (any_true (λ u. is_some (rest_in u place)) us j h.unit h.there h.within)
+
+pub inside_told : (us : List DocUnit) (place : List ℕ) (o : Option ℕ) (j : ℕ)
+    → MatchOption o (NoneAbove place us) (λ k. IsUnitAbove place us k) → o ≡ Some j → is_outside us place ≡ false
+inside_told us place o j h e =
+    inside_is us place j
+    (subst (λ r. MatchOption r (NoneAbove place us) (λ k. IsUnitAbove place us k)) e h)
+
+pub outside_none : (us : List DocUnit) (place : List ℕ) → is_outside us place ≡ true → NoneAbove place us
+outside_none us place h k u at = by (rest_in u place) refl
+  where
+    by : (o : Option (List ℕ)) → rest_in u place ≡ o → o ≡ None
+    by None e = refl
+    by (Some r) e =
+        let off : false ≡ true =
+        sym (ap not (any_true (λ v. is_some (rest_in v place)) us k u at (ap is_some e))) ∙ h in
+        absurd (cc)
+
 -- ---- what is read of the unit
 
 read_at : (us : List DocUnit) (j : ℕ) (u : DocUnit) → j < length us → u ≡ slice_index_or us j u
@@ -236,7 +307,7 @@ module _ (us : List DocUnit) (place : List ℕ) (j : ℕ) (d : DocUnit) (path : 
       absurd (cc)
 
   pub above_read : (rest : List ℕ) → NoneBegins us → Some rest ≡ rest_behind path place
-      → Some (j, rest) ≡ unit_above 0 us place
+      → (j, rest) ≡ unit_above 0 us place
   above_read rest apart e =
       sym (above_is us j (slice_index_or us j d) place rest apart (slice_get-get_or us j d inside)
       (rest_is_behind ∙ sym e))

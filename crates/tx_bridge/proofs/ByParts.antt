@@ -4,7 +4,7 @@ use Rattle.std.proofs.Common.{◌≡◌, ℕ, ◌+◌, ◌≤◌, List, [], ◌�
 use Rattle.std.proofs.lemmas.Slice.Eq.{bytes_eq-Decides}
 use Rattle.std.proofs.lemmas.List.Elements.{All-from_recursion}
 use Rattle.std.proofs.lemmas.List.Sums.{sum_by-cons}
-use Rattle.std.specs.Prelude.{Bool, true, false, is_some, if◌then◌else◌, min}
+use Rattle.std.specs.Prelude.{Bool, true, false, ◌||◌, is_some, if◌then◌else◌, min}
 use Rattle.std.specs.Option.{option_map}
 use Rattle.std.specs.List.{All, AllByRecursion, IsDistinct}
 use Rattle.std.specs.FinMap.{get}
@@ -22,13 +22,14 @@ use Rattle.tx_parts.specs.Composed.{alone, evaluates}
 use Rattle.tx_parts.specs.Parts.{Part, parts, part_trace, part_cost, Stored, stored}
 use Rattle.tx_parts.specs.Standing.{StandsIn}
 use Rattle.tx_walk.specs.declared.part.Part.{Part as DonePart}
-use Rattle.tx_walk.specs.Held.{Store, IsSound, fits, charge_of, charges}
+use Rattle.tx_walk.specs.Held.{Store, Stores, IsSound, fits, only, charge_of, charges}
 use Rattle.tx_walk.specs.Walked.{IsTidy, kept_in, paths_of, Seen, seen, seen_in, seen_parts}
 use Rattle.tx_units.specs.declared.kinds.Unit.{Unit as DocUnit}
 use Rattle.tx_view_form.specs.declared.TheConstants.{MOST_UNIT_STEPS}
 use Rattle.tx_view_form.specs.Outcomes.{Moment, allowance, outcome, charge, behind}
 use Rattle.tx_bridge.specs.Entries.{outcome_of}
-use Rattle.tx_bridge.specs.PartsKept.{KeptParts, kept_at, has_parts, unit_parts, parts_if_done, fresh_parts, unit_charge}
+use Rattle.tx_bridge.specs.PartsKept.{KeptParts, kept_at, has_parts, unit_parts, parts_if_done, fresh_parts}
+use Rattle.tx_bridge.specs.PartsKept.{unit_charge}
 use Rattle.tx_bridge.specs.HeldParts.{HoldsPart, PartsHold, kept_part, kept_parts}
 use Rattle.tx_bridge.specs.UnitLists.{IsPlaced}
 use Rattle.tx_walk.proofs.Kept.{Alike, alike}
@@ -72,16 +73,17 @@ pub same_store : (ps : List DonePart) (path : List ℕ) → kept_in ps path ≡ 
 same_store [] path = refl
 same_store (p ∷ ps) path = ap (λ r. if bytes_eq p.path path then Some (wide_trace p.trace) else r) (same_store ps path)
 
-charges_alike : (s r : Store) → ((path : List ℕ) → s path ≡ r path) → (ps : List Part) → charges s ps ≡ charges r ps
+charges_alike : (s r : Store) → ((path : List ℕ) → s path ≡ r path) → (ps : List Part)
+    → charges (only s) ps ≡ charges (only r) ps
 charges_alike s r h [] = refl
 charges_alike s r h (p ∷ ps) =
-    sum_by-cons (charge_of s) p ps
-    ∙ ap (λ o. (if fits p.before o then 0 else part_cost p) + charges s ps) (h p.path)
-    ∙ ap (λ n. charge_of r p + n) (charges_alike s r h ps)
-    ∙ sym (sum_by-cons (charge_of r) p ps)
+    sum_by-cons (charge_of (only s)) p ps
+    ∙ ap (λ o. (if fits p.before o || false then 0 else part_cost p) + charges (only s) ps) (h p.path)
+    ∙ ap (λ n. charge_of (only r) p + n) (charges_alike s r h ps)
+    ∙ sym (sum_by-cons (charge_of (only r)) p ps)
 
 pub same_charges : (ks : List DonePart) (ps : List Part)
-    → charges (kept_in ks) ps ≡ charges (kept_at (kept_parts ks)) ps
+    → charges (only (kept_in ks)) ps ≡ charges (only (kept_at (kept_parts ks))) ps
 same_charges ks ps = charges_alike (kept_in ks) (kept_at (kept_parts ks)) (same_store ks) ps
 
 -- ---- what it answers
@@ -93,16 +95,16 @@ kept_of_seen : (ds : List DonePart) → map of_seen (map seen ds) ≡ kept_parts
 kept_of_seen [] = refl
 kept_of_seen (d ∷ ds) = ap (λ ks. kept_part d ∷ ks) (kept_of_seen ds)
 
-stored_of_seen : (kept : Store) (ps : List Part) → map of_seen (map (seen_in kept) ps) ≡ map stored ps
+stored_of_seen : (kept : Stores) (ps : List Part) → map of_seen (map (seen_in kept) ps) ≡ map stored ps
 stored_of_seen kept [] = refl
 stored_of_seen kept (p ∷ ps) = ap (λ ks. stored p ∷ ks) (stored_of_seen kept ps)
 
-done_of_seen : (kept : Store) (ps : List Part) (o : Option WideTrace)
+done_of_seen : (kept : Stores) (ps : List Part) (o : Option WideTrace)
     → map of_seen (seen_parts kept ps o) ≡ parts_if_done o ps
 done_of_seen kept ps None = refl
 done_of_seen kept ps (Some trace) = stored_of_seen kept ps
 
-pub walked_parts : (kept : Store) (ds : List DonePart) (ps : List Part) (o : Option WideTrace)
+pub walked_parts : (kept : Stores) (ds : List DonePart) (ps : List Part) (o : Option WideTrace)
     → map seen ds ≡ seen_parts kept ps o → kept_parts ds ≡ parts_if_done o ps
 walked_parts kept ds ps o h = sym (kept_of_seen ds) ∙ ap (map of_seen) h ∙ done_of_seen kept ps o
 
@@ -121,7 +123,7 @@ holds_one support t d p stands path trace tidy = record {
   tidy = tidy;
 }
 
-holds_each : AllSupport → (kept : Store) (t : WideTree) (ds : List DonePart) (ps : List Part)
+holds_each : AllSupport → (kept : Stores) (t : WideTree) (ds : List DonePart) (ps : List Part)
     → map seen ds ≡ map (seen_in kept) ps → AllByRecursion (StandsIn [] t) ps → AllByRecursion IsTidy ds
     → AllByRecursion (HoldsPart t) ds
 holds_each support kept t [] ps h stand tidy = tt
@@ -138,7 +140,7 @@ AllStandIn =
     (k c : ℕ) (path : List ℕ) (t : WideTree) (e : Before) → AllByRecursion (StandsIn path t) (parts k c path t e)
 
 abbrev AllApart : Type 0
-AllApart = (kept : Store) (k c : ℕ) (t : WideTree) (e : Before) (done : List DonePart)
+AllApart = (kept : Stores) (k c : ℕ) (t : WideTree) (e : Before) (done : List DonePart)
     → map seen done ≡ map (seen_in kept) (parts k c [] t e) → IsDistinct bytes_eq (paths_of done)
 
 abbrev AllSameStored : Type 0
@@ -146,7 +148,7 @@ AllSameStored = (k c n : ℕ) (path : List ℕ) (t : WideTree) (e d : Before) (t
     → evaluates k c t e ≡ Some trace → Agrees d trace.looks → trace.cost ≤ n
     → map stored (parts k n path t d) ≡ map stored (parts k c path t e)
 
-module _ (support : AllSupport) (stand : AllStandIn) (apart : AllApart) (same : AllSameStored) (kept : Store) (c : ℕ)
+module _ (support : AllSupport) (stand : AllStandIn) (apart : AllApart) (same : AllSameStored) (kept : Stores) (c : ℕ)
     (e : Before) (u : DocUnit) (nested : has_parts u ≡ true) (ds : List DonePart) (tidy : AllByRecursion IsTidy ds)
   where
     pub walked_hold : (o : Option WideTrace) → o ≡ evaluates MOST_LEVELS c u.tagged.tree e
@@ -199,7 +201,8 @@ module _ (u : DocUnit) (m : Moment) (env : NameMap) (left a : ℕ)
       ∙ ap (evaluates MOST_LEVELS (allowance m) u.tagged.tree) names_are
       ∙ ap (λ t. evaluated_in MOST_LEVELS (allowance m) t (get m.env)) (sym (is_alone u placed nested))
 
-  pub fresh_there : (kept : Store) (ds : List DonePart) (o : Option WideTrace) → has_parts u ≡ true → o ≡ outcome_of m u
+  pub fresh_there : (kept : Stores) (ds : List DonePart) (o : Option WideTrace) → has_parts u ≡ true
+      → o ≡ outcome_of m u
       → map seen ds ≡ seen_parts kept (parts MOST_LEVELS a [] u.tagged.tree (get env)) o
       → kept_parts ds ≡ fresh_parts m u
   fresh_there kept ds o nested is h =
@@ -209,17 +212,17 @@ module _ (u : DocUnit) (m : Moment) (env : NameMap) (left a : ℕ)
       ∙ sym (ap (λ b. if b then parts_if_done (outcome_of m u) (unit_parts m u) else []) nested)
 
   pub charge_there : (ks : List DonePart) → has_parts u ≡ true
-      → charges (kept_in ks) (parts MOST_LEVELS a [] u.tagged.tree (get env)) ≡ unit_charge m u (kept_parts ks)
+      → charges (only (kept_in ks)) (parts MOST_LEVELS a [] u.tagged.tree (get env)) ≡ unit_charge m u (kept_parts ks)
   charge_there ks nested =
-      ap (charges (kept_in ks)) parts_there ∙ same_charges ks (unit_parts m u)
-      ∙ sym (ap (λ b. if b then charges (kept_at (kept_parts ks)) (unit_parts m u) else charge m (outcome_of m u))
-      nested)
+      ap (charges (only (kept_in ks))) parts_there ∙ same_charges ks (unit_parts m u)
+      ∙ sym (ap (λ b. if b then charges (only (kept_at (kept_parts ks))) (unit_parts m u)
+      else charge m (outcome_of m u)) nested)
 
 -- ---- no more than the unit costs
 
 -- the law, as the call states it
 abbrev pub AllCharged : Type 0
-AllCharged = (kept : Store) (k c : ℕ) (path : List ℕ) (t : WideTree) (e : Before)
+AllCharged = (kept : Stores) (k c : ℕ) (path : List ℕ) (t : WideTree) (e : Before)
     → charges kept (parts k c path t e) ≤ paid c (evaluates k c t e)
 
 charge_most : AllCharged → (m : Moment) (u : DocUnit) (ks : KeptParts) → IsPlaced u
@@ -229,11 +232,11 @@ charge_most law m u ks placed = by (has_parts u) refl
   where
     by : (b : Bool) → has_parts u ≡ b → unit_charge m u ks ≤ charge m (outcome_of m u)
     by true nested =
-        let is : unit_charge m u ks ≡ charges (kept_at ks) (unit_parts m u) =
-        ap (λ b. if b then charges (kept_at ks) (unit_parts m u) else charge m (outcome_of m u)) nested in
-        let most : charges (kept_at ks) (unit_parts m u)
+        let is : unit_charge m u ks ≡ charges (only (kept_at ks)) (unit_parts m u) =
+        ap (λ b. if b then charges (only (kept_at ks)) (unit_parts m u) else charge m (outcome_of m u)) nested in
+        let most : charges (only (kept_at ks)) (unit_parts m u)
         ≤ paid (allowance m) (evaluates MOST_LEVELS (allowance m) u.tagged.tree (get m.env)) =
-        law (kept_at ks) MOST_LEVELS (allowance m) [] u.tagged.tree (get m.env) in
+        law (only (kept_at ks)) MOST_LEVELS (allowance m) [] u.tagged.tree (get m.env) in
         let same : paid (allowance m) (evaluates MOST_LEVELS (allowance m) u.tagged.tree (get m.env))
         ≡ charge m (outcome_of m u) =
         ap (λ t. paid (allowance m) (evaluated_in MOST_LEVELS (allowance m) t (get m.env)))
@@ -241,7 +244,7 @@ charge_most law m u ks placed = by (has_parts u) refl
         omega (arith, is, most, same)
     by false other =
         let is : unit_charge m u ks ≡ charge m (outcome_of m u) =
-        ap (λ b. if b then charges (kept_at ks) (unit_parts m u) else charge m (outcome_of m u)) other in
+        ap (λ b. if b then charges (only (kept_at ks)) (unit_parts m u) else charge m (outcome_of m u)) other in
         omega (arith, is)
 
 pub spent_most : AllCharged → AllAllowed → (m after : Moment) (u : DocUnit) (ks : KeptParts) (n : ℕ) → IsPlaced u

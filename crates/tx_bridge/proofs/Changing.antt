@@ -30,6 +30,8 @@ use Rattle.tx_bridge.specs.CarryingParts.{parts_within, parts_but}
 use Rattle.tx_bridge.specs.Carrying.{carried, sources, mods_of}
 use Rattle.tx_bridge.specs.Slots.{bodies_of, given, AllUnchanged, IsChangedAt}
 use Rattle.tx_bridge.specs.InPlace.{is_changed, IsOneChanged, NoneChanged, numbers_but}
+use Rattle.tx_bridge.specs.Strays.{AreStrays, AreTidy, strays_in}
+use Rattle.tx_bridge.specs.declared.strays.Stray.{Stray as DoneStray}
 use Rattle.tx_bridge.proofs.Arrived.{units_bodies}
 use Rattle.tx_bridge.proofs.Putting.{differs}
 use Rattle.tx_bridge.proofs.Settling.{body_there, settled_one, settled, settled_given, settled_sources, has_path}
@@ -122,10 +124,13 @@ changed_settled (suc i) t ps (b ∷ bs) env silent h =
     (h.0, changed_settled i t ps bs (env_behind env (wide_outcome b.kept)) silent h.1)
 
 pub changed_right : (i : ℕ) (t : WideTree) (ps : List DonePart) (old now : List Bridge) (flag after : Bool)
-    → now ≡ changed_in i t ps old → AllHoldIn t ps → AreRight flag old
-    → (after ≡ true → (flag ≡ true) × IsSilentAt old i) → AreRight after now
-changed_right i t ps old now flag after is hold right h =
-    subst (AreRight after) (sym is)
+    (was are : List DoneStray) → now ≡ changed_in i t ps old → AllHoldIn t ps → AreRight flag old was
+    → (after ≡ true → (flag ≡ true) × IsSilentAt old i)
+    → (AreStrays (units_of (entries_of old)) (strays_in was)
+    → AreStrays (units_with i t (units_of (entries_of old))) (strays_in are)) → (AreTidy was → AreTidy are)
+    → AreRight after now are
+changed_right i t ps old now flag after was are is hold right h stray tidy =
+    subst (λ bs. AreRight after bs are) (sym is)
     (record {
       sound =
           All-from_recursion IsSound (changed_in i t ps old)
@@ -135,6 +140,9 @@ changed_right i t ps old now flag after is hold right h =
           (sym (units_changed i t ps old ∙ ap (units_with i t) (units_bodies old)))
           (are_units_with i t (bodies_of old) (subst AreUnits (units_bodies old) right.units));
       settled = λ e. changed_settled i t ps old empty (h e).1 (right.settled (h e).0);
+      strays =
+          subst (λ us. AreStrays us (strays_in are)) (sym (units_changed i t ps old)) (stray right.strays);
+      tidy = tidy right.tidy;
     })
 
 -- the parts that are kept

@@ -1,11 +1,11 @@
--- Parts that have moved to new units hold there.
+-- Parts that have moved to new units hold there, and those that stand in none are apart.
 use Rattle.std.proofs.Common.{◌≡◌, ℕ, suc, ◌+◌, Bool, true, false, List, [], ◌∷◌, ◌++◌, map, refl, sym, ap, subst}
-use Rattle.std.proofs.Common.{Option, Some, None, ◌∙◌, arith}
+use Rattle.std.proofs.Common.{Option, Some, None, ◌∙◌, arith, length}
 use Rattle.std.proofs.lemmas.Bool.Decides.{Decides-eqb}
 use Rattle.std.proofs.lemmas.List.{append_cancel_left}
 use Rattle.std.proofs.lemmas.List.Elements.{filter_map-append, recursion_from_All}
 use Rattle.std.proofs.lemmas.Map.Keys.{IsDistinct-head, IsDistinct-tail, IsDistinct-cons}
-use Rattle.std.proofs.lemmas.Option.{same_Some}
+use Rattle.std.proofs.lemmas.Option.{same_Some, slice_get_within}
 use Rattle.std.proofs.lemmas.Slice.Eq.{bytes_eq-Decides}
 use Rattle.std.specs.List.{All, AllByRecursion, IsDistinct, cons_option, filter_map}
 use Rattle.std.specs.Option.{option_map, option_map_or}
@@ -24,10 +24,10 @@ use Rattle.tx_bridge.specs.declared.course.PartMove.{PartMove}
 use Rattle.tx_bridge.specs.Carrying.{through, Stands, AllStand}
 use Rattle.tx_bridge.specs.Courses.{arrived_parts}
 use Rattle.tx_bridge.specs.HeldParts.{HoldsPart, kept_part, kept_parts}
-use Rattle.tx_bridge.specs.PartMoves.{Move, is_vacant, rest_in, unit_above, move_to, move_of, moves_below, moves_from}
-use Rattle.tx_bridge.specs.PartMoves.{seen_move, kept_in_unit, arrived}
+use Rattle.tx_bridge.specs.PartMoves.{Move, NoneAbove, is_vacant, rest_in, unit_above, move_to, move_from, move_of}
+use Rattle.tx_bridge.specs.PartMoves.{moves_below, moves_from, part_moves, seen_move, kept_in_unit, arrived}
 use Rattle.tx_bridge.specs.PartsKept.{KeptParts}
-use Rattle.tx_bridge.proofs.Above.{IsIn, rest_in_is}
+use Rattle.tx_bridge.proofs.Above.{IsIn, rest_in_is, in_rest, found_at, far_at}
 use Rattle.tx_bridge.proofs.Inside.{fronts_meet}
 use Rattle.tx_bridge.proofs.Injective.{carried_once}
 use Rattle.tx_bridge.proofs.WithinUnit.{Holds, part_paths, hold_done, kept_paths, clash}
@@ -52,7 +52,7 @@ unit_standing left i o ks = if left then option_map_or (λ p. standing_below i p
 module _ (ms : List Mod) (t : WideTree) (vs : List DocUnit) where
   -- what moves, if it moves
   abbrev goes : Standing → Option Move
-  goes e = option_map (move_to e.from e.number e.kept) (option_and_then (unit_above 0 vs) (carried_by_all ms t e.path))
+  goes e = move_from ms t vs e.from e.number e.path e.kept
 
   abbrev standing_from : ℕ → List DocUnit → List KeptParts → List Standing
   standing_from i [] pss = []
@@ -249,121 +249,166 @@ module _ (ms : List Mod) (t : WideTree) (vs : List DocUnit) where
       (unit_distinct (is_vacant (through ms t u.path) vs) i u.path ks h.0.1) (all_distinct (i + 1) us pss apart.1 h.1)
       (unit_apart (is_vacant (through ms t u.path) vs) u.path i ks (i + 1) us pss apart.0)
 
+-- ---- strays
+
+-- strays with these paths, which stand in no unit, differ from what stands in one
+inside_differs : (u : DocUnit) (p a : List ℕ) (n k : ℕ) (ks : KeptParts) → u.path ≡ Some p
+    → AllByRecursion (λ s. rest_in u s.path ≡ None) ks → DiffersFrom (p ++ a) (standing_below n [] k ks)
+inside_differs u p a n k [] has h = tt
+inside_differs u p a n k (s ∷ ks) has h = (
+  off_by (bytes_eq (p ++ a) s.path)
+      (λ e.
+      let same : p ++ a ≡ s.path = (bytes_eq-Decides (p ++ a) s.path).0 e in
+      let off : None ≡ Some a = sym h.0 ∙ ap (rest_in u) (sym same) ∙ in_rest u p a has in
+      cc),
+  inside_differs u p a n (k + 1) ks has h.1,
+)
+
+parts_beside : (u : DocUnit) (p : List ℕ) (i k : ℕ) (qs : KeptParts) (n : ℕ) (ks : KeptParts) → u.path ≡ Some p
+    → AllByRecursion (λ s. rest_in u s.path ≡ None) ks
+    → AllDiffer (standing_below i p k qs) (standing_below n [] 0 ks)
+parts_beside u p i k [] n ks has h = tt
+parts_beside u p i k (q ∷ qs) n ks has h =
+    (inside_differs u p q.path n 0 ks has h, parts_beside u p i (k + 1) qs n ks has h)
+
+unit_beside : (u : DocUnit) (left : Bool) (i : ℕ) (o : Option (List ℕ)) (qs : KeptParts) (n : ℕ) (ks : KeptParts)
+    → u.path ≡ o → AllByRecursion (λ s. rest_in u s.path ≡ None) ks
+    → AllDiffer (unit_standing left i o qs) (standing_below n [] 0 ks)
+unit_beside u true i (Some p) qs n ks has h = parts_beside u p i 0 qs n ks has h
+unit_beside u true i None qs n ks has h = tt
+unit_beside u false i o qs n ks has h = tt
+
+-- none of these stands in a unit
+abbrev pub AllOutside : List DocUnit → KeptParts → Type 0
+AllOutside us ks = AllByRecursion (λ s. NoneAbove s.path us) ks
+
+outside_first : (u : DocUnit) (us : List DocUnit) (ks : KeptParts) → AllOutside (u ∷ us) ks
+    → AllByRecursion (λ s. rest_in u s.path ≡ None) ks
+outside_first u us [] h = tt
+outside_first u us (s ∷ ks) h = (h.0 0 u refl, outside_first u us ks h.1)
+
+outside_others : (u : DocUnit) (us : List DocUnit) (ks : KeptParts) → AllOutside (u ∷ us) ks → AllOutside us ks
+outside_others u us [] h = tt
+outside_others u us (s ∷ ks) h = ((λ k v e. h.0 (suc k) v e), outside_others u us ks h.1)
+
+-- what is kept of strays holds in the tree, no two have one path, and none stands in a unit
+pub record HoldAside (t : WideTree) (us : List DocUnit) (ks : KeptParts) : Type 0 where
+  pub hold : AllByRecursion (Holds t) ks
+  pub distinct : IsDistinct bytes_eq (part_paths ks)
+  pub outside : AllOutside us ks
+
+module _ (ms : List Mod) (t : WideTree) (vs : List DocUnit) where
+  all_beside : (i : ℕ) (us : List DocUnit) (pss : List KeptParts) (n : ℕ) (ks : KeptParts) → AllOutside us ks
+      → AllDiffer (standing_from ms t vs i us pss) (standing_below n [] 0 ks)
+  all_beside i [] pss n ks out = tt
+  all_beside i (u ∷ us) [] n ks out = tt
+  all_beside i (u ∷ us) (qs ∷ pss) n ks out =
+      all_onto (λ e. DiffersFrom e.path (standing_below n [] 0 ks))
+      (unit_standing (is_vacant (through ms t u.path) vs) i u.path qs) (standing_from ms t vs (i + 1) us pss)
+      (unit_beside u (is_vacant (through ms t u.path) vs) i u.path qs n ks refl (outside_first u us ks out))
+      (all_beside (i + 1) us pss n ks (outside_others u us ks out))
+
+  module _ (us : List DocUnit) (pss : List KeptParts) (ks : KeptParts) where
+    -- parts of units, and strays
+    abbrev everything : List Standing
+    everything = standing_from ms t vs 0 us pss ++ standing_below (length us) [] 0 ks
+
+    everything_goes : part_moves 0 ms t us pss ks vs ≡ filter_map (goes ms t vs) everything
+    everything_goes =
+        ap (λ xs. xs ++ moves_below ms t vs (length us) [] 0 ks) (all_go ms t vs 0 us pss)
+        ∙ ap (λ xs. filter_map (goes ms t vs) (standing_from ms t vs 0 us pss) ++ xs)
+        (below_goes ms t vs (length us) [] 0 ks)
+        ∙ sym (filter_map-append (goes ms t vs) (standing_from ms t vs 0 us pss)
+        (standing_below (length us) [] 0 ks))
+
+    module _ (stand : AllStand t us) (hold : AllHoldParts ms t vs us pss) (aside : HoldAside t us ks) where
+      everything_leads : AllByRecursion (Leading t) everything
+      everything_leads =
+          all_onto (Leading t) (standing_from ms t vs 0 us pss) (standing_below (length us) [] 0 ks)
+          (all_lead ms t vs 0 us pss stand hold) (below_leads t t (length us) [] 0 ks refl aside.hold)
+
+      everything_distinct : NoneBegins us → IsDistinct bytes_eq (paths_of_all everything)
+      everything_distinct apart =
+          distinct_onto (standing_from ms t vs 0 us pss) (standing_below (length us) [] 0 ks)
+          (all_distinct ms t vs 0 us pss apart hold) (below_distinct (length us) [] 0 ks aside.distinct)
+          (all_beside 0 us pss (length us) ks aside.outside)
+
 -- ---- where they come to
-
-some_pair : {A : Type 0} (x y : A) → Some x ≡ Some y → x ≡ y
-some_pair x y e = same_Some x y e
-
--- the unit of that number has the place
-record IsFound (vs : List DocUnit) (n : ℕ) (place r : List ℕ) : Type 0 where
-  unit : DocUnit
-  there : slice_get vs n ≡ Some unit
-  rest : rest_in unit place ≡ Some r
-
-found_at : (j : ℕ) (vs : List DocUnit) (place : List ℕ) (x : ℕ × List ℕ) → unit_above j vs place ≡ Some x
-    → (k : ℕ) × (x.0 ≡ j + k) × IsFound vs k place x.1
-found_at j [] place x e = cc
-found_at j (v ∷ vs) place x e = by (rest_in v place) refl (found_at (j + 1) vs place x)
-  where
-    by : (o : Option (List ℕ)) → rest_in v place ≡ o
-        → (unit_above (j + 1) vs place ≡ Some x → (k : ℕ) × (x.0 ≡ j + 1 + k) × IsFound vs k place x.1)
-        → (k : ℕ) × (x.0 ≡ j + k) × IsFound (v ∷ vs) k place x.1
-    by (Some r) is later =
-        let same : (j, r) ≡ x =
-        some_pair (j, r) x
-        (sym (ap (λ o. option_map_or (λ q. Some (j, q)) o (unit_above (j + 1) vs place)) is) ∙ e) in (
-          0,
-          ap (λ (y : ℕ × List ℕ). y.0) (sym same) ∙ omega arith,
-          record { unit = v; there = refl; rest = is ∙ ap (λ (y : ℕ × List ℕ). Some y.1) same },
-        )
-    by None is later =
-        let f : (k : ℕ) × (x.0 ≡ j + 1 + k) × IsFound vs k place x.1 =
-        later (sym (ap (λ o. option_map_or (λ q. Some (j, q)) o (unit_above (j + 1) vs place)) is) ∙ e) in (
-          suc f.0,
-          omega (arith, f.1),
-          record { unit = f.2.unit; there = f.2.there; rest = f.2.rest },
-        )
 
 module _ (ms : List Mod) (t w : WideTree) (vs : List DocUnit)
     (through_all : (q : List ℕ) → CarriesThroughAll ms t q)
     (law : (m : Mod) (s : WideTree) (q : List ℕ) → CarriesSubtree m s q) (made : changed_by_all ms t ≡ Some w)
-    (j : ℕ) (v : DocUnit) (at : slice_get vs j ≡ Some v) (now : Stands w v) where
+    (j : ℕ) (IsFront : List ℕ → Type 0) (one : (p q : List ℕ) → IsFront p → IsFront q → p ≡ q)
+    (x : WideTree) (stands : (p : List ℕ) → IsFront p → subtree w p ≡ Some x)
+    (fronted : (place : List ℕ) → (unit_above 0 vs place).0 ≡ j
+    → (p : List ℕ) × IsFront p × (place ≡ p ++ (unit_above 0 vs place).1)) where
   abbrev arrives : Standing → Option Stored
   arrives e = option_and_then (kept_in_unit j) (goes ms t vs e)
 
   abbrev there_at : List ℕ → Standing → Stored
   there_at r e = record { path = r; trace = e.kept.trace }
 
-  -- it stands below the unit's path
+  -- it stands at a place to which this number is told
   record Comes (e : Standing) (r : List ℕ) : Type 0 where
-    path : List ℕ
-    has : v.path ≡ Some path
-    place : carried_by_all ms t e.path ≡ Some (path ++ r)
-
-  comes_to : (e : Standing) (place : List ℕ) (x : ℕ × List ℕ) → carried_by_all ms t e.path ≡ Some place
-      → unit_above 0 vs place ≡ Some x → x.0 ≡ j → Comes e x.1
-  comes_to e place x is found here =
-      let f : (k : ℕ) × (x.0 ≡ 0 + k) × IsFound vs k place x.1 = found_at 0 vs place x found in
-      let k_is : f.0 ≡ j = omega (arith, f.1, here) in
-      let same : f.2.unit ≡ v =
-      some_pair f.2.unit v (sym f.2.there ∙ ap (slice_get vs) k_is ∙ at) in
-      let y : IsIn v place x.1 =
-      rest_in_is v place x.1 (ap (λ (u : DocUnit). rest_in u place) (sym same) ∙ f.2.rest) in
-      record { path = y.path; has = y.has; place = is ∙ ap (λ z. Some z) y.whole }
+    place : List ℕ
+    is : carried_by_all ms t e.path ≡ Some place
+    number : (unit_above 0 vs place).0 ≡ j
+    rest : (unit_above 0 vs place).1 ≡ r
 
   -- what holds without the part and with it where it comes to holds
   by_above : (Q : KeptParts → Type 0) (e : Standing) (ks : KeptParts) → Q ks
       → ((r : List ℕ) → Comes e r → Q (there_at r e ∷ ks)) → Q (cons_option (arrives e) ks)
   by_above Q e ks none some = by_place (carried_by_all ms t e.path) refl
     where
-      by_test : (place : List ℕ) (x : ℕ × List ℕ) → carried_by_all ms t e.path ≡ Some place
-          → unit_above 0 vs place ≡ Some x → (b : Bool) → x.0 == j ≡ b
-          → Q (cons_option (if b then Some (there_at x.1 e) else None) ks)
-      by_test place x is found true here =
-          some x.1 (comes_to e place x is found ((Decides-eqb x.0 j).0 here))
-      by_test place x is found false here = none
-
-      by_found : (place : List ℕ) → carried_by_all ms t e.path ≡ Some place → (o : Option (ℕ × List ℕ))
-          → unit_above 0 vs place ≡ o
-          → Q (cons_option (option_and_then (kept_in_unit j) (option_map (move_to e.from e.number e.kept) o)) ks)
-      by_found place is None found = none
-      by_found place is (Some x) found = by_test place x is found (x.0 == j) refl
+      by_test : (place : List ℕ) → carried_by_all ms t e.path ≡ Some place
+          → (b : Bool) → (unit_above 0 vs place).0 == j ≡ b
+          → Q (cons_option (if b then Some (there_at (unit_above 0 vs place).1 e) else None) ks)
+      by_test place is true here =
+          some (unit_above 0 vs place).1
+          (record { place = place; is = is; number = (Decides-eqb (unit_above 0 vs place).0 j).0 here; rest = refl })
+      by_test place is false here = none
 
       by_place : (o : Option (List ℕ)) → carried_by_all ms t e.path ≡ o
           → Q (cons_option (option_and_then (kept_in_unit j)
-          (option_map (move_to e.from e.number e.kept) (option_and_then (unit_above 0 vs) o))) ks)
+          (option_map (λ place. move_to e.from e.number e.kept (unit_above 0 vs place)) o)) ks)
       by_place None is = none
-      by_place (Some place) is = by_found place is (unit_above 0 vs place) refl
+      by_place (Some place) is = by_test place is ((unit_above 0 vs place).0 == j) refl
 
-  holds_there : (e : Standing) (r : List ℕ) → Leading t e → Comes e r → Holds v.tagged.tree (there_at r e)
-  holds_there e r h c = record {
+  -- it stands so far below a front
+  below_front : (e : Standing) (r : List ℕ) → Comes e r
+      → (p : List ℕ) × IsFront p × (carried_by_all ms t e.path ≡ Some (p ++ r))
+  below_front e r c =
+      let f = fronted c.place c.number in
+      (f.0, f.1, c.is ∙ ap (λ z. Some z) (f.2 ∙ ap (λ z. f.0 ++ z) c.rest))
+
+  holds_there : (e : Standing) (r : List ℕ) → Leading t e → Comes e r → Holds x (there_at r e)
+  holds_there e r h c = let f = below_front e r c in record {
     there = h.there;
     leads =
-        sym (subtree_behind c.path r w v.tagged.tree (now c.path c.has))
-        ∙ through_all e.path w h.there (c.path ++ r) made h.leads c.place;
+        sym (subtree_behind f.0 r w x (stands f.0 f.1))
+        ∙ through_all e.path w h.there (f.0 ++ r) made h.leads f.2;
     supports = h.supports;
   }
 
   hold_there : (es : List Standing) → AllByRecursion (Leading t) es
-      → AllByRecursion (Holds v.tagged.tree) (filter_map arrives es)
+      → AllByRecursion (Holds x) (filter_map arrives es)
   hold_there [] h = tt
   hold_there (e ∷ es) h =
-      by_above (AllByRecursion (Holds v.tagged.tree)) e (filter_map arrives es) (hold_there es h.1)
+      by_above (AllByRecursion (Holds x)) e (filter_map arrives es) (hold_there es h.1)
       (λ r c. (holds_there e r h.0 c, hold_there es h.1))
-
-  paths_one : (d e : Standing) (r s : List ℕ) (c : Comes d r) (b : Comes e s) → c.path ≡ b.path
-  paths_one d e r s c b = same_Some c.path b.path (sym c.has ∙ b.has)
 
   apart_there : (d e : Standing) (r s : List ℕ) → bytes_eq d.path e.path ≡ false → Leading t d → Leading t e
       → Comes d r → Comes e s → bytes_eq r s ≡ false
   apart_there d e r s apart g h c b =
       off_by (bytes_eq r s)
       (λ is.
-      let one : carried_by_all ms t d.path ≡ Some (b.path ++ s) =
-      c.place ∙ ap (λ p. Some (p ++ r)) (paths_one d e r s c b)
-      ∙ ap (λ z. Some (b.path ++ z)) ((bytes_eq-Decides r s).0 is) in
+      let f = below_front d r c in
+      let y = below_front e s b in
+      let both : carried_by_all ms t d.path ≡ Some (y.0 ++ s) =
+      f.2 ∙ ap (λ p. Some (p ++ r)) (one f.0 y.0 f.1 y.1)
+      ∙ ap (λ z. Some (y.0 ++ z)) ((bytes_eq-Decides r s).0 is) in
       let same : d.path ≡ e.path =
-      carried_once law ms t w d.path e.path (b.path ++ s) g.there h.there made g.leads h.leads one b.place in
+      carried_once law ms t w d.path e.path (y.0 ++ s) g.there h.there made g.leads h.leads both y.2 in
       clash (sym apart ∙ (bytes_eq-Decides d.path e.path).1 same))
 
   all_apart_there : (d : Standing) (r : List ℕ) (es : List Standing) → Leading t d → Comes d r → DiffersFrom d.path es
@@ -419,30 +464,83 @@ tidy_arrived (m ∷ ps) j h = by (m.to == j) (tidy_arrived ps j h.1)
     by true g = (h.0, g)
     by false g = g
 
--- The parts that have moved to the unit v of number j hold there, and no two have one path.
-pub arrived_hold : (ms : List Mod) (t w : WideTree) (us vs : List DocUnit) (pss : List KeptParts)
-    (ps : List PartMove) → ((q : List ℕ) → CarriesThroughAll ms t q)
-    → ((m : Mod) (s : WideTree) (q : List ℕ) → CarriesSubtree m s q) → changed_by_all ms t ≡ Some w
-    → AllStand t us → NoneBegins us → AllHoldParts ms t vs us pss
-    → map seen_move ps ≡ moves_from ms t vs 0 us pss → All (λ m. IsTidy m.part) ps
-    → (j : ℕ) (v : DocUnit) → slice_get vs j ≡ Some v → Stands w v
-    → AllByRecursion (HoldsPart v.tagged.tree) (arrived_parts ps j)
-    × IsDistinct bytes_eq (paths_of (arrived_parts ps j))
-arrived_hold ms t w us vs pss ps through_all law made stand apart hold seen tidy j v at now = (
-  hold_done v.tagged.tree (arrived_parts ps j)
-      (subst (AllByRecursion (Holds v.tagged.tree)) (sym is)
-      (hold_there ms t w vs through_all law made j v at now es (all_lead ms t vs 0 us pss stand hold)))
-      (tidy_arrived ps j (recursion_from_All (λ m. IsTidy m.part) ps tidy)),
-  subst (IsDistinct bytes_eq) (ap part_paths (sym is) ∙ kept_paths (arrived_parts ps j))
-      (distinct_there ms t w vs through_all law made j v at now es (all_lead ms t vs 0 us pss stand hold)
-      (all_distinct ms t vs 0 us pss apart hold)),
-)
+module _ (ms : List Mod) (t w : WideTree) (us vs : List DocUnit) (pss : List KeptParts) (ks : KeptParts)
+    (through_all : (q : List ℕ) → CarriesThroughAll ms t q)
+    (law : (m : Mod) (s : WideTree) (q : List ℕ) → CarriesSubtree m s q) (made : changed_by_all ms t ≡ Some w)
+    (stand : AllStand t us) (apart : NoneBegins us) (hold : AllHoldParts ms t vs us pss) (aside : HoldAside t us ks)
   where
-    es : List Standing
-    es = standing_from ms t vs 0 us pss
+    -- those of this number
+    arrived_as : (j : ℕ) → arrived (part_moves 0 ms t us pss ks vs) j
+        ≡ filter_map (λ e. option_and_then (kept_in_unit j) (goes ms t vs e)) (everything ms t vs us pss ks)
+    arrived_as j =
+        ap (λ xs. arrived xs j) (everything_goes ms t vs us pss ks)
+        ∙ filter_twice (kept_in_unit j) (goes ms t vs) (everything ms t vs us pss ks)
 
-    is : kept_parts (arrived_parts ps j)
-        ≡ filter_map (λ e. option_and_then (kept_in_unit j) (goes ms t vs e)) (standing_from ms t vs 0 us pss)
-    is =
-        kept_arrived ps j ∙ ap (λ xs. arrived xs j) (seen ∙ all_go ms t vs 0 us pss)
-        ∙ filter_twice (kept_in_unit j) (goes ms t vs) (standing_from ms t vs 0 us pss)
+    -- The parts that have moved to the unit v of number j hold there, and no two have one path.
+    module _ (ps : List PartMove) (seen : map seen_move ps ≡ part_moves 0 ms t us pss ks vs)
+        (tidy : All (λ m. IsTidy m.part) ps) (j : ℕ) (v : DocUnit) (at : slice_get vs j ≡ Some v) (now : Stands w v)
+      where
+        below_unit : (place : List ℕ) → (unit_above 0 vs place).0 ≡ j
+            → (p : List ℕ) × (v.path ≡ Some p) × (place ≡ p ++ (unit_above 0 vs place).1)
+        below_unit place here =
+            let f = found_at 0 vs place (omega (arith, here, slice_get_within vs j v at)) in
+            let k_is : f.0 ≡ j = omega (arith, f.1, here) in
+            let same : f.2.unit ≡ v = same_Some f.2.unit v (sym f.2.there ∙ ap (slice_get vs) k_is ∙ at) in
+            let y : IsIn v place (unit_above 0 vs place).1 =
+            rest_in_is v place (unit_above 0 vs place).1
+            (ap (λ (u : DocUnit). rest_in u place) (sym same) ∙ f.2.rest) in
+            (y.path, y.has, y.whole)
+
+        one_path : (p q : List ℕ) → v.path ≡ Some p → v.path ≡ Some q → p ≡ q
+        one_path p q e f = same_Some p q (sym e ∙ f)
+
+        kept_as : kept_parts (arrived_parts ps j)
+            ≡ filter_map (λ e. option_and_then (kept_in_unit j) (goes ms t vs e)) (everything ms t vs us pss ks)
+        kept_as = kept_arrived ps j ∙ ap (λ xs. arrived xs j) seen ∙ arrived_as j
+
+        pub arrived_hold : AllByRecursion (HoldsPart v.tagged.tree) (arrived_parts ps j)
+            × IsDistinct bytes_eq (paths_of (arrived_parts ps j))
+        arrived_hold =
+            let leading = everything_leads ms t vs us pss ks stand hold aside in (
+              hold_done v.tagged.tree (arrived_parts ps j)
+                  (subst (AllByRecursion (Holds v.tagged.tree)) (sym kept_as)
+                  (hold_there ms t w vs through_all law made j (λ p. v.path ≡ Some p) one_path v.tagged.tree now
+                  below_unit (everything ms t vs us pss ks) leading))
+                  (tidy_arrived ps j (recursion_from_All (λ m. IsTidy m.part) ps tidy)),
+              subst (IsDistinct bytes_eq) (ap part_paths (sym kept_as) ∙ kept_paths (arrived_parts ps j))
+                  (distinct_there ms t w vs through_all law made j (λ p. v.path ≡ Some p) one_path v.tagged.tree now
+                  below_unit (everything ms t vs us pss ks) leading
+                  (everything_distinct ms t vs us pss ks stand hold aside apart)),
+            )
+
+    -- Of those that stand in no new unit no two have one path.
+    at_root : (place : List ℕ) → (unit_above 0 vs place).0 ≡ length vs
+        → (p : List ℕ) × (p ≡ []) × (place ≡ p ++ (unit_above 0 vs place).1)
+    at_root place here = ([], refl, sym (far_at 0 vs place (omega (arith, here))).0)
+
+    root_only : (p q : List ℕ) → p ≡ [] → q ≡ [] → p ≡ q
+    root_only p q e f = e ∙ sym f
+
+    root_stands : (p : List ℕ) → p ≡ [] → subtree w p ≡ Some w
+    root_stands p e = ap (subtree w) e
+
+    pub left_distinct : IsDistinct bytes_eq (part_paths (arrived (part_moves 0 ms t us pss ks vs) (length vs)))
+    left_distinct =
+        subst (λ xs. IsDistinct bytes_eq (part_paths xs)) (sym (arrived_as (length vs)))
+        (distinct_there ms t w vs through_all law made (length vs) (λ p. p ≡ []) root_only w root_stands at_root
+        (everything ms t vs us pss ks) (everything_leads ms t vs us pss ks stand hold aside)
+        (everything_distinct ms t vs us pss ks stand hold aside apart))
+
+    all_left_outside : (es : List Standing) → AllOutside vs
+        (filter_map (λ e. option_and_then (kept_in_unit (length vs)) (goes ms t vs e)) es)
+    all_left_outside [] = tt
+    all_left_outside (e ∷ es) =
+        by_above ms t w vs through_all law made (length vs) (λ p. p ≡ []) root_only w root_stands at_root
+        (AllOutside vs) e (filter_map (λ d. option_and_then (kept_in_unit (length vs)) (goes ms t vs d)) es)
+        (all_left_outside es) (λ r c.
+        let far = far_at 0 vs c.place (omega (arith, c.number)) in
+        (subst (λ q. NoneAbove q vs) (sym far.0 ∙ c.rest) far.1, all_left_outside es))
+
+    pub left_outside : AllOutside vs (arrived (part_moves 0 ms t us pss ks vs) (length vs))
+    left_outside =
+        subst (AllOutside vs) (sym (arrived_as (length vs))) (all_left_outside (everything ms t vs us pss ks))

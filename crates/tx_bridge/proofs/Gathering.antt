@@ -2,14 +2,16 @@
 use Rattle.std.proofs.Common.{◌≡◌, ℕ, zero, suc, ◌+◌, ◌<◌, List, [], ◌∷◌, ◌++◌, length, drop, map, refl, sym, ap}
 use Rattle.std.proofs.Common.{◌∙◌, subst, arith, slice_index_or, Option, Some, None}
 use Rattle.std.proofs.lemmas.List.{append_assoc, append-nil, drop_more, map-append}
+use Rattle.std.proofs.lemmas.Option.{same_Some}
 use Rattle.std.specs.List.{AllByRecursion, cons_option}
 use Rattle.std.specs.Option.{option_map}
-use Rattle.std.specs.Prelude.{option_and_then}
 use Rattle.tx_tree.specs.WideTree.{WideTree}
 use Rattle.tx_tree.specs.Paths.{subtree}
 use Rattle.tx_mod.specs.declared.mods.Mod.{Mod}
-use Rattle.tx_mod.specs.Followed.{carried_by_all}
+use Rattle.tx_mod.specs.Followed.{CarriesThroughAll, changed_by_all, carried_by_all}
 use Rattle.tx_mod.proofs.Kept.{subtree_behind}
+use Rattle.tx_exec_form.specs.Laws.{Supports}
+use Rattle.tx_parts.specs.Composed.{alone}
 use Rattle.tx_parts.specs.Parts.{Stored}
 use Rattle.tx_units.specs.declared.kinds.Unit.{Unit as DocUnit}
 use Rattle.tx_walk.specs.declared.part.Part.{Part as DonePart}
@@ -17,11 +19,16 @@ use Rattle.tx_walk.specs.Walked.{IsTidy}
 use Rattle.tx_exec.specs.Outcomes.{wide_trace}
 use Rattle.tx_bridge.specs.declared.bridge.Bridge.{Bridge}
 use Rattle.tx_bridge.specs.declared.course.PartMove.{PartMove}
-use Rattle.tx_bridge.specs.Carrying.{through, Leads, Stands, AllStand}
+use Rattle.tx_bridge.specs.Carrying.{through, Stands, AllStand}
+use Rattle.tx_bridge.specs.Courses.{HasTree}
 use Rattle.tx_bridge.specs.HeldParts.{HoldsPart, kept_part, kept_parts}
-use Rattle.tx_bridge.specs.PartMoves.{Move, unit_above, move_to, move_of, moves_below, unit_moves, moves_from, seen_move}
+use Rattle.tx_bridge.specs.PartMoves.{Move, unit_above, move_to, move_from, move_of, moves_below, unit_moves}
+use Rattle.tx_bridge.specs.PartMoves.{moves_from, move_aside, moves_aside, seen_move}
 use Rattle.tx_bridge.specs.Slots.{bodies_of, paths_in}
 use Rattle.tx_bridge.specs.Sound.{parts_in}
+use Rattle.tx_bridge.specs.Strays.{Stray, HoldsStray, StandAside, AreTidy, kept_strays, stray_of, strays_in}
+use Rattle.tx_bridge.specs.declared.strays.Stray.{Stray as DoneStray}
+use Rattle.tx_bridge.proofs.Above.{far_at}
 
 -- ---- one part
 
@@ -33,24 +40,20 @@ pub one_more : (ps : List PartMove) (m : PartMove) (o : Option Move) → o ≡ S
 one_more ps m o e =
     map-append seen_move ps (m ∷ []) ∙ ap (λ p. map seen_move ps ++ cons_option p []) (sym e)
 
-module _ (ms : List Mod) (t : WideTree) (vs : List DocUnit) (i : ℕ) (p : List ℕ) (k : ℕ) (s : Stored) where
-  pub goes_nowhere : carried_by_all ms t (p ++ s.path) ≡ None → move_of ms t vs i p k s ≡ None
-  goes_nowhere e = ap (λ o. option_map (move_to i k s) (option_and_then (unit_above 0 vs) o)) e
+module _ (ms : List Mod) (t : WideTree) (vs : List DocUnit) (i k : ℕ) (q : List ℕ) (s : Stored) where
+  pub goes_nowhere : carried_by_all ms t q ≡ None → move_from ms t vs i k q s ≡ None
+  goes_nowhere e = ap (option_map (λ place. move_to i k s (unit_above 0 vs place))) e
 
-  pub goes_past : (place : List ℕ) → carried_by_all ms t (p ++ s.path) ≡ Some place → unit_above 0 vs place ≡ None
-      → move_of ms t vs i p k s ≡ None
-  goes_past place e f =
-      ap (λ o. option_map (move_to i k s) (option_and_then (unit_above 0 vs) o)) e ∙ ap (option_map (move_to i k s)) f
-
-  pub goes_below : (place : List ℕ) (x : ℕ × List ℕ) → carried_by_all ms t (p ++ s.path) ≡ Some place
-      → unit_above 0 vs place ≡ Some x → move_of ms t vs i p k s ≡ Some (move_to i k s x)
-  goes_below place x e f =
-      ap (λ o. option_map (move_to i k s) (option_and_then (unit_above 0 vs) o)) e ∙ ap (option_map (move_to i k s)) f
+  pub goes_to : (place : List ℕ) (x : ℕ × List ℕ) → carried_by_all ms t q ≡ Some place → x ≡ unit_above 0 vs place
+      → move_from ms t vs i k q s ≡ Some (move_to i k s x)
+  goes_to place x e is =
+      ap (option_map (λ r. move_to i k s (unit_above 0 vs r))) e ∙ ap (λ y. Some (move_to i k s y)) (sym is)
 
 -- the part is told with its new path and its trace
-pub is_seen : (i k to : ℕ) (d e : DonePart) (rest : List ℕ) → e.path ≡ rest → e.trace ≡ d.trace
-    → move_to i k (kept_part d) (to, rest) ≡ seen_move (record { from = i; number = k; to = to; part = e })
-is_seen i k to d e rest path trace =
+pub is_seen : (i k to : ℕ) (d e : DonePart) (rest : List ℕ) (x : WideTree) → e.path ≡ rest → e.trace ≡ d.trace
+    → move_to i k (kept_part d) (to, rest)
+    ≡ seen_move (record { from = i; number = k; to = to; part = e; tree = x })
+is_seen i k to d e rest x path trace =
     ap (λ q. told q (kept_part d)) (sym path)
     ∙ ap (λ tr. record {
       from = i;
@@ -62,9 +65,24 @@ is_seen i k to d e rest path trace =
     told : List ℕ → Stored → Move
     told q s = record { from = i; number = k; to = to; kept = record { path = q; trace = s.trace } }
 
+-- where it stands in none of the units, its tree stands at its path
+pub has_tree : (ms : List Mod) (t x : WideTree) (vs : List DocUnit) (q place : List ℕ) (m : PartMove)
+    (rest : List ℕ) → ((r : List ℕ) → CarriesThroughAll ms t r) → subtree t q ≡ Some x
+    → carried_by_all ms t q ≡ Some place → (m.to, rest) ≡ unit_above 0 vs place → m.part.path ≡ rest
+    → Supports (wide_trace m.part.trace) (alone m.tree) → m.tree ≡ x
+    → HasTree (λ u. changed_by_all ms t ≡ Some u) (length vs) m
+has_tree ms t x vs q place m rest law at goes above path supports same = record {
+  supports = supports;
+  stands = λ last u made.
+      let to : m.to ≡ (unit_above 0 vs place).0 = ap (λ (y : ℕ × List ℕ). y.0) above in
+      let whole : (unit_above 0 vs place).1 ≡ place = (far_at 0 vs place (omega (arith, to, last))).0 in
+      ap (subtree u) (path ∙ ap (λ (y : ℕ × List ℕ). y.1) above ∙ whole)
+      ∙ law q u x place made at goes ∙ ap (λ z. Some z) (sym same);
+}
+
 -- ---- all of one unit
 
-cons_onto : (o : Option Move) (xs : List Move) → cons_option o [] ++ xs ≡ cons_option o xs
+pub cons_onto : {A : Type 0} (o : Option A) (xs : List A) → cons_option o [] ++ xs ≡ cons_option o xs
 cons_onto None xs = refl
 cons_onto (Some m) xs = refl
 
@@ -87,27 +105,21 @@ module _ (ms : List Mod) (t : WideTree) (vs : List DocUnit) (i : ℕ) (p : List 
       (moves_below ms t vs i p (k + 1) (kept_parts (drop (k + 1) ds))) all (move_of ms t vs i p k (kept_part d)) e
       (ap (λ es. moves_below ms t vs i p k (kept_parts es)) ahead) g
 
--- a part that holds leads in the document
-pub part_leads : (t x : WideTree) (p : List ℕ) (ds : List DonePart) (k : ℕ) (d : DonePart) → subtree t p ≡ Some x
-    → AllByRecursion (HoldsPart x) ds → k < length ds → d ≡ slice_index_or ds k d → Leads t (Some (p ++ d.path))
-part_leads t x p ds k d at hold inside is =
-    subst (λ e. Leads t (Some (p ++ e.path))) (sym is) (by ds k hold inside)
+-- each part holds
+pub part_holds : (x : WideTree) (ds : List DonePart) (k : ℕ) (d : DonePart) → AllByRecursion (HoldsPart x) ds
+    → k < length ds → d ≡ slice_index_or ds k d → HoldsPart x d
+part_holds x ds k d hold inside is = subst (HoldsPart x) (sym is) (by ds k hold inside)
   where
     by : (es : List DonePart) (n : ℕ) → AllByRecursion (HoldsPart x) es → n < length es
-        → Leads t (Some (p ++ (slice_index_or es n d).path))
+        → HoldsPart x (slice_index_or es n d)
     by [] n h l = absurd (omega (arith, l))
-    by (e ∷ es) zero h l = (h.0.there, subtree_behind p e.path t x at ∙ h.0.leads)
+    by (e ∷ es) zero h l = h.0
     by (e ∷ es) (suc n) h l = by es n h.1 (omega (arith, l))
 
-pub part_tidy : (x : WideTree) (ds : List DonePart) (k : ℕ) (d : DonePart) → AllByRecursion (HoldsPart x) ds
-    → k < length ds → d ≡ slice_index_or ds k d → IsTidy d
-part_tidy x ds k d hold inside is = subst IsTidy (sym is) (by ds k hold inside)
-  where
-    by : (es : List DonePart) (n : ℕ) → AllByRecursion (HoldsPart x) es → n < length es
-        → IsTidy (slice_index_or es n d)
-    by [] n h l = absurd (omega (arith, l))
-    by (e ∷ es) zero h l = h.0.tidy
-    by (e ∷ es) (suc n) h l = by es n h.1 (omega (arith, l))
+-- a part of a tree stands in the document
+pub part_at : (t x there : WideTree) (p q whole : List ℕ) → subtree t p ≡ Some x → whole ≡ p ++ q
+    → subtree x q ≡ Some there → subtree t whole ≡ Some there
+part_at t x there p q whole at is leads = ap (subtree t) is ∙ subtree_behind p q t x at ∙ leads
 
 -- ---- all units
 
@@ -156,3 +168,63 @@ many_places ms t bs places is = ap length is ∙ by bs
     by : (cs : List Bridge) → length (map (through ms t) (paths_in cs)) ≡ length cs
     by [] = refl
     by (c ∷ cs) = ap suc (by cs)
+
+-- ---- strays
+
+module _ (ss : List DoneStray) (k : ℕ) (inside : k < length ss) (s : DoneStray) (is : s ≡ slice_index_or ss k s) where
+  strays_ahead : drop k ss ≡ s ∷ drop (k + 1) ss
+  strays_ahead = drop_more ss k s inside ∙ ap (λ x. x ∷ drop (k + 1) ss) (sym is)
+
+  pub strays_next : (ms : List Mod) (t : WideTree) (vs : List DocUnit) (i : ℕ) (old new all : List Move)
+      → new ≡ old ++ cons_option (move_from ms t vs i k s.part.path (kept_part s.part)) []
+      → old ++ moves_below ms t vs i [] k (kept_strays (strays_in (drop k ss))) ≡ all
+      → new ++ moves_below ms t vs i [] (k + 1) (kept_strays (strays_in (drop (k + 1) ss))) ≡ all
+  strays_next ms t vs i old new all e g =
+      gathers old new (moves_below ms t vs i [] k (kept_strays (strays_in (drop k ss))))
+      (moves_below ms t vs i [] (k + 1) (kept_strays (strays_in (drop (k + 1) ss)))) all
+      (move_from ms t vs i k s.part.path (kept_part s.part)) e
+      (ap (λ xs. moves_below ms t vs i [] k (kept_strays (strays_in xs))) strays_ahead) g
+
+  pub aside_next : (vs : List DocUnit) (i : ℕ) (old new all : List Move)
+      → new ≡ old ++ cons_option (move_aside vs i k (kept_part s.part)) []
+      → old ++ moves_aside vs i k (kept_strays (strays_in (drop k ss))) ≡ all
+      → new ++ moves_aside vs i (k + 1) (kept_strays (strays_in (drop (k + 1) ss))) ≡ all
+  aside_next vs i old new all e g =
+      gathers old new (moves_aside vs i k (kept_strays (strays_in (drop k ss))))
+      (moves_aside vs i (k + 1) (kept_strays (strays_in (drop (k + 1) ss)))) all
+      (move_aside vs i k (kept_part s.part)) e
+      (ap (λ xs. moves_aside vs i k (kept_strays (strays_in xs))) strays_ahead) g
+
+  -- what is true of each stray
+  pub each_stray : (P : Stray → Type 0) → AllByRecursion P (strays_in ss) → P (stray_of s)
+  each_stray P h = subst (λ x. P (stray_of x)) (sym is) (by ss k inside h)
+    where
+      by : (xs : List DoneStray) (n : ℕ) → n < length xs → AllByRecursion P (strays_in xs)
+          → P (stray_of (slice_index_or xs n s))
+      by [] n l h = absurd (omega (arith, l))
+      by (x ∷ xs) zero l h = h.0
+      by (x ∷ xs) (suc n) l h = by xs n (omega (arith, l)) h.1
+
+  pub each_tidy : AreTidy ss → IsTidy s.part
+  each_tidy h = subst (λ x. IsTidy x.part) (sym is) (by ss k inside h)
+    where
+      by : (xs : List DoneStray) (n : ℕ) → n < length xs → AreTidy xs → IsTidy (slice_index_or xs n s).part
+      by [] n l h = absurd (omega (arith, l))
+      by (x ∷ xs) zero l h = h.0
+      by (x ∷ xs) (suc n) l h = by xs n (omega (arith, l)) h.1
+
+-- the stray's trace supports its tree
+pub stray_supports : (s : DoneStray) → HoldsStray (stray_of s) → Supports (wide_trace s.part.trace) (alone s.tree)
+stray_supports s h =
+    subst (λ x. Supports x (alone s.tree)) (sym (same_Some (wide_trace s.part.trace) h.trace h.is)) h.supports
+
+pub aside_tree : (s : DoneStray) (all : List Stray) (n : ℕ) (m : PartMove)
+    → Supports (wide_trace s.part.trace) (alone s.tree)
+    → ((u : WideTree) → StandAside u all → subtree u s.part.path ≡ Some s.tree) → m.part.path ≡ s.part.path
+    → m.part.trace ≡ s.part.trace → m.tree ≡ s.tree → HasTree (λ u. StandAside u all) n m
+aside_tree s all n m supports stand path trace tree = record {
+  supports =
+      subst (λ x. Supports (wide_trace m.part.trace) (alone x)) (sym tree)
+      (subst (λ r. Supports (wide_trace r) (alone s.tree)) (sym trace) supports);
+  stands = λ last u aside. ap (subtree u) path ∙ stand u aside ∙ ap (λ z. Some z) (sym tree);
+}

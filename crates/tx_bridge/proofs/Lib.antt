@@ -33,3 +33,6 @@ pub mod Coming
 pub mod Gathering
 pub mod Received
 pub mod Losing
+pub mod Aside
+pub mod Outside
+pub mod Aligned

@@ -12,7 +12,7 @@ use Rattle.tx_exec.specs.Outcomes.{wide_trace, wide_outcome}
 use Rattle.tx_parts.specs.Composed.{alone}
 use Rattle.tx_parts.specs.Parts.{Part, part_trace, Stored, stored}
 use Rattle.tx_walk.specs.declared.part.Part.{Part as DonePart}
-use Rattle.tx_walk.specs.Held.{Store, fits as part_fits, is_held}
+use Rattle.tx_walk.specs.Held.{Store, Stores, fits as part_fits, serves, only}
 use Rattle.tx_walk.specs.Walked.{kept_in, paths_of, Seen, seen, seen_in, seen_parts}
 use Rattle.tx_walk.proofs.Agreed.{agrees_of}
 use Rattle.tx_walk.proofs.Found.{if_true, if_false}
@@ -124,22 +124,22 @@ flags_of_seen : (ds : List DonePart) → map (λ (s : Seen). s.renewed) (map see
 flags_of_seen [] = refl
 flags_of_seen (d ∷ ds) = ap (λ fs. d.renewed ∷ fs) (flags_of_seen ds)
 
-flags_seen_in : (kept : Store) (ps : List Part)
-    → map (λ (s : Seen). s.renewed) (map (seen_in kept) ps) ≡ map (λ p. not (is_held kept p)) ps
+flags_seen_in : (kept : Stores) (ps : List Part)
+    → map (λ (s : Seen). s.renewed) (map (seen_in kept) ps) ≡ map (λ p. not (serves kept.own p)) ps
 flags_seen_in kept [] = refl
-flags_seen_in kept (p ∷ ps) = ap (λ fs. not (is_held kept p) ∷ fs) (flags_seen_in kept ps)
+flags_seen_in kept (p ∷ ps) = ap (λ fs. not (serves kept.own p) ∷ fs) (flags_seen_in kept ps)
 
-done_flags : (kept : Store) (ps : List Part) (o : Option WideTrace)
-    → map (λ (s : Seen). s.renewed) (seen_parts kept ps o) ≡ flags_if_done o kept ps
+done_flags : (kept : Stores) (ps : List Part) (o : Option WideTrace)
+    → map (λ (s : Seen). s.renewed) (seen_parts kept ps o) ≡ flags_if_done o kept.own ps
 done_flags kept ps None = refl
 done_flags kept ps (Some trace) = flags_seen_in kept ps
 
 -- those of the unit's parts, of which these were kept
 pub walked_flags : (m : Moment) (u : DocUnit) (ks ds : List DonePart) (ps : List Part) (o : Option WideTrace)
-    → has_parts u ≡ true → ps ≡ unit_parts m u → o ≡ outcome_of m u → map seen ds ≡ seen_parts (kept_in ks) ps o
+    → has_parts u ≡ true → ps ≡ unit_parts m u → o ≡ outcome_of m u → map seen ds ≡ seen_parts (only (kept_in ks)) ps o
     → flags_of_parts ds ≡ part_flags m u (kept_parts ks)
 walked_flags m u ks ds ps o nested are is h =
-    sym (flags_of_seen ds) ∙ ap (map (λ (s : Seen). s.renewed)) h ∙ done_flags (kept_in ks) ps o
+    sym (flags_of_seen ds) ∙ ap (map (λ (s : Seen). s.renewed)) h ∙ done_flags (only (kept_in ks)) ps o
     ∙ ap (λ (store : Store). flags_if_done o store ps) (fun_ext (same_store ks))
     ∙ ap (flags_if_done o (kept_at (kept_parts ks))) are
     ∙ ap (λ r. flags_if_done r (kept_at (kept_parts ks)) (unit_parts m u)) is
@@ -176,7 +176,7 @@ each_kept (d ∷ ds) distinct = (
 )
 
 one_held : AllAgree → (kept : Store) (d : DonePart) (p : Part) → kept d.path ≡ Some (wide_trace d.trace)
-    → kept_part d ≡ stored p → not (is_held kept p) ≡ false
+    → kept_part d ≡ stored p → not (serves kept p) ≡ false
 one_held agree kept d p is same =
     let path : d.path ≡ p.path = ap (λ (k : Stored). k.path) same in
     let trace : Some (wide_trace d.trace) ≡ part_trace p = ap (λ (k : Stored). k.trace) same in
@@ -186,7 +186,7 @@ one_held agree kept d p is same =
     (agree p.levels p.steps (alone p.tree) p.before (wide_trace d.trace) (sym trace)))
 
 all_held : AllAgree → (kept : Store) (ds : List DonePart) (ps : List Part) → AreKept kept ds
-    → kept_parts ds ≡ map stored ps → flags_of_parts (unmarked ds) ≡ map (λ p. not (is_held kept p)) ps
+    → kept_parts ds ≡ map stored ps → flags_of_parts (unmarked ds) ≡ map (λ p. not (serves kept p)) ps
 all_held agree kept [] [] is same = refl
 all_held agree kept [] (p ∷ ps) is same = cc
 all_held agree kept (d ∷ ds) [] is same = cc
@@ -194,7 +194,7 @@ all_held agree kept (d ∷ ds) (p ∷ ps) is same =
     let parts : (kept_part d ≡ stored p) × (kept_parts ds ≡ map stored ps) =
     heads (kept_part d) (stored p) (kept_parts ds) (map stored ps) same in
     ap (λ fs. false ∷ fs) (all_held agree kept ds ps is.1 parts.1)
-    ∙ ap (λ f. f ∷ map (λ q. not (is_held kept q)) ps) (sym (one_held agree kept d p is.0 parts.0))
+    ∙ ap (λ f. f ∷ map (λ q. not (serves kept q)) ps) (sym (one_held agree kept d p is.0 parts.0))
 
 none_kept : (ds : List DonePart) → kept_parts ds ≡ [] → flags_of_parts (unmarked ds) ≡ []
 none_kept [] h = refl

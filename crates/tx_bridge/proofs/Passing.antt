@@ -114,7 +114,8 @@ module _ (ms : List Mod) (ts : List WideTree) (t : WideTree) (i : ℕ) (old now 
       (ap (λ ns. changed_by_all ns a.tree) (sym at_mod) ∙ a.applies.1)
 
   next_tree : (w : WideTree) × (changed (slice_index_or ms i d) a.tree ≡ Ok w)
-  next_tree = after_one (slice_index_or ms i d) ms a.tree now (changed (slice_index_or ms i d) a.tree) refl along_applies
+  next_tree =
+      after_one (slice_index_or ms i d) ms a.tree now (changed (slice_index_or ms i d) a.tree) refl along_applies
 
   ahead : drop i ts ≡ a.tree ∷ trees_before (drop (i + 1) ms) next_tree.0
   ahead =
@@ -220,7 +221,8 @@ pub places_next : (ms : List Mod) (t : WideTree) (bs : List Bridge) (i : ℕ) (b
     → new ≡ map (through ms t) (paths_in (take (i + 1) bs))
 places_next ms t bs i b old new place inside is was place_is is_new =
     is_new ∙ ap (λ qs. qs ++ place ∷ []) was
-    ∙ ap (λ q. map (through ms t) (paths_in (take i bs)) ++ q ∷ []) (place_is ∙ ap (λ (x : Bridge). through ms t x.unit.path) is)
+    ∙ ap (λ q. map (through ms t) (paths_in (take i bs)) ++ q ∷ [])
+    (place_is ∙ ap (λ (x : Bridge). through ms t x.unit.path) is)
     ∙ sym (map_map_snoc (take i bs) (slice_index_or bs i b))
     ∙ ap (λ cs. map (through ms t) (paths_in cs)) (sym (take_more bs i b inside))
   where

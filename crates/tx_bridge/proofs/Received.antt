@@ -1,12 +1,13 @@
 -- New units to which parts have come, and to which old ones then give what is kept of them.
-use Rattle.std.proofs.Common.{◌≡◌, ℕ, zero, suc, ◌+◌, List, [], ◌∷◌, ◌++◌, length, map, Option, Some, None, refl, ap, sym}
+use Rattle.std.proofs.Common.{◌≡◌, ℕ, zero, suc, ◌+◌, ◌<◌, Bool, List, [], ◌∷◌, ◌++◌, length, map, Option, Some, None}
+use Rattle.std.proofs.Common.{refl, ap, sym}
 use Rattle.std.proofs.Common.{◌∙◌, subst, arith}
 use Rattle.std.proofs.lemmas.List.{append-nil}
 use Rattle.std.proofs.lemmas.List.Elements.{All-from_recursion, recursion_from_All}
-use Rattle.std.proofs.lemmas.Option.{slice_get-map}
+use Rattle.std.proofs.lemmas.Option.{slice_get-map, slice_get_within}
 use Rattle.std.specs.List.{All, AllByRecursion, IsDistinct}
 use Rattle.std.specs.Option.{option_map, option_map_or}
-use Rattle.std.specs.Prelude.{slice_get}
+use Rattle.std.specs.Prelude.{slice_get, IfOk, Ok, Err, Result}
 use Rattle.std.specs.Str.{bytes_eq}
 use Rattle.tx_tree.specs.WideTree.{WideTree}
 use Rattle.tx_mod.specs.declared.mods.Mod.{Mod}
@@ -17,22 +18,29 @@ use Rattle.tx_bridge.specs.declared.bridge.Bridge.{Bridge}
 use Rattle.tx_bridge.specs.declared.course.Course.{Course}
 use Rattle.tx_bridge.specs.declared.course.PartMove.{PartMove}
 use Rattle.tx_bridge.specs.Carrying.{through, unit_places_after, mods_of, AllStand, Stands, AreSameBodies}
-use Rattle.tx_bridge.specs.Courses.{arrived_parts, joined_by, with_arrived, given_with}
+use Rattle.tx_bridge.specs.Courses.{MayFollow, HasTree, strays_left, arrived_parts, joined_by, with_arrived}
+use Rattle.tx_bridge.specs.Courses.{given_with}
 use Rattle.tx_bridge.specs.Entries.{Kept, units_of}
 use Rattle.tx_bridge.specs.HeldParts.{kept_parts}
-use Rattle.tx_bridge.specs.Names.{PartMoves, CarryParts, IsCourse}
-use Rattle.tx_bridge.specs.PartMoves.{Move, AreMoves, part_moves, seen_move, parts_now, all_parts_now}
+use Rattle.tx_bridge.specs.Names.{PartMoves, CarryParts, CarryStrays, IsCourse}
+use Rattle.tx_bridge.specs.PartMoves.{Move, AreMoves, part_moves, seen_move, arrived, parts_now, all_parts_now}
 use Rattle.tx_bridge.specs.PartsKept.{KeptParts}
 use Rattle.tx_bridge.specs.Slots.{AreApart, AreMoved, AllPlaced, bodies_of, fresh_bridge, given_all, paths_in}
-use Rattle.tx_bridge.specs.Sound.{IsSound, entries_of, parts_in, sources_in}
+use Rattle.tx_bridge.specs.Sound.{IsSound, AreRight, entries_of, parts_in, sources_in}
+use Rattle.tx_bridge.specs.Strays.{Stray, kept_strays, HoldsStray, AreStrays, StandAside, strays_in, AreTidy}
+use Rattle.tx_bridge.specs.declared.strays.Stray.{Stray as DoneStray}
 use Rattle.tx_bridge.specs.UnitLists.{AreUnits, IsPlaced}
 use Rattle.tx_bridge.proofs.Arrived.{units_bodies, moved_all, carried_sound}
-use Rattle.tx_bridge.proofs.Comers.{AllHoldParts, arrived_hold, kept_arrived}
+use Rattle.tx_bridge.proofs.Comers.{AllHoldParts, AllOutside, HoldAside, arrived_hold, kept_arrived, left_distinct}
+use Rattle.tx_bridge.proofs.Comers.{left_outside}
+use Rattle.tx_bridge.proofs.Outside.{kept_left, tidy_left, hold_left, stand_left, hold_aside, are_left, aside_none}
+use Rattle.tx_bridge.proofs.Outside.{aside_distinct, aside_outside}
+use Rattle.tx_walk.specs.declared.part.Part.{Part as DonePart}
 use Rattle.tx_bridge.proofs.Above.{one_above, in_rest}
 use Rattle.tx_bridge.proofs.PartsSame.{no_parts}
 use Rattle.tx_bridge.proofs.Taking.{AreBare, fresh_bare, bare_bodies, got, all_got, given_got, got_found, number_given}
 use Rattle.tx_bridge.proofs.Taking.{source_in, parts_in_one, places_same, places_many}
-use Rattle.tx_bridge.proofs.WithinUnit.{hold_kept, kept_paths}
+use Rattle.tx_bridge.proofs.WithinUnit.{hold_kept, kept_paths, part_paths}
 
 -- ---- the new units
 
@@ -165,16 +173,17 @@ coming_each ps j (u ∷ us) h = (
   coming_each ps (j + 1) us (λ k n v e at. h (suc k) n v (omega (arith, e)) at),
 )
 
-no_moves : (ps : List PartMove) → map seen_move ps ≡ [] → ps ≡ []
-no_moves [] e = refl
-no_moves (m ∷ ps) e = cc
-
-none_comes : (ps : List PartMove) (us : List DocUnit) → AllByRecursion IsPlaced us → ps ≡ []
+none_comes : (ps : List PartMove) (us : List DocUnit) → AllByRecursion IsPlaced us
+    → ((n : ℕ) → n < length us → arrived_parts ps n ≡ [])
     → (k n : ℕ) (u : DocUnit) → n ≡ 0 + k → slice_get us k ≡ Some u → Fits ps n u
 unfolding Fits
 none_comes ps us placed none k n u e at =
-    subst (λ qs. IsSound (joined_by (arrived_parts qs n) (fresh_bridge u))) (sym none)
+    subst (λ qs. IsSound (joined_by qs (fresh_bridge u))) (sym (none n (omega (arith, e, slice_get_within us k u at))))
     (record { holds = tt; once = tt; placed = each_placed us k u placed at; parts = no_parts u })
+
+no_parts_kept : (ps : List DonePart) → kept_parts ps ≡ [] → ps ≡ []
+no_parts_kept [] e = refl
+no_parts_kept (p ∷ ps) e = cc
 
 stands_at : (w : WideTree) (vs : List DocUnit) (k : ℕ) (v : DocUnit) → AllStand w vs → slice_get vs k ≡ Some v
     → Stands w v
@@ -182,18 +191,20 @@ stands_at w [] k v h e = cc
 stands_at w (u ∷ vs) zero v h e = let same : u ≡ v = cc in subst (Stands w) same h.0
 stands_at w (u ∷ vs) (suc k) v h e = stands_at w vs k v h.1 e
 
-some_come : (ms : List Mod) (t w : WideTree) (old : List Bridge) (us : List DocUnit) (ps : List PartMove)
+some_come : (ms : List Mod) (t w : WideTree) (old : List Bridge) (us : List DocUnit) (ks : KeptParts)
+    (ps : List PartMove)
     → ((q : List ℕ) → CarriesThroughAll ms t q) → ((m : Mod) (s : WideTree) (q : List ℕ) → CarriesSubtree m s q)
     → changed_by_all ms t ≡ Some w → AllStand t (bodies_of old) → NoneBegins (bodies_of old)
-    → AllByRecursion IsSound old → AreMoves (part_moves 0 ms t (bodies_of old) (parts_in old) us) ps
+    → AllByRecursion IsSound old → HoldAside t (bodies_of old) ks
+    → AreMoves (part_moves 0 ms t (bodies_of old) (parts_in old) ks us) ps
     → AllStand w us → AllByRecursion IsPlaced us
     → (k n : ℕ) (u : DocUnit) → n ≡ 0 + k → slice_get us k ≡ Some u → Fits ps n u
 unfolding Fits
-some_come ms t w old us ps through_all law made stand apart sound moves now placed k n u e at =
+some_come ms t w old us ks ps through_all law made stand apart sound aside moves now placed k n u e at =
     let here : slice_get us n ≡ Some u = let same : n ≡ k = omega (arith, e) in ap (slice_get us) same ∙ at in
     let hold =
-    arrived_hold ms t w (bodies_of old) us (parts_in old) ps through_all law made stand apart
-    (held_parts ms t us old sound) moves.all moves.tidy n u here (stands_at w us k u now at) in
+    arrived_hold ms t w (bodies_of old) us (parts_in old) ks through_all law made stand apart
+    (held_parts ms t us old sound) aside ps moves.all moves.tidy n u here (stands_at w us k u now at) in
     record {
       holds = tt;
       once = tt;
@@ -201,57 +212,149 @@ some_come ms t w old us ps through_all law made stand apart sound moves now plac
       parts = record { hold = hold.0; distinct = hold.1; all = tt };
     }
 
-coming_fits : (buffer : ℕ) (ms : List Mod) (t : WideTree) (old : List Bridge) (us : List DocUnit)
+coming_fits : (buffer : ℕ) (ms : List Mod) (t : WideTree) (old : List Bridge) (us : List DocUnit) (ks : KeptParts)
     (ps : List PartMove) → ((u : WideTree) × (changed_by_all ms t ≡ Some u))
     → ((q : List ℕ) → CarriesThroughAll ms t q) → ((m : Mod) (s : WideTree) (q : List ℕ) → CarriesSubtree m s q)
     → All IsSound old → NoneBegins (bodies_of old) → AllByRecursion IsPlaced us
     → (buffer ≡ 0 → AllStand t (bodies_of old))
     → (buffer ≡ 0 → (u : WideTree) → changed_by_all ms t ≡ Some u → AllStand u us)
-    → AreMoves (part_moves buffer ms t (bodies_of old) (parts_in old) us) ps
+    → (buffer ≡ 0 → HoldAside t (bodies_of old) ks)
+    → AreMoves (part_moves buffer ms t (bodies_of old) (parts_in old) ks us) ps
     → (k n : ℕ) (u : DocUnit) → n ≡ 0 + k → slice_get us k ≡ Some u → Fits ps n u
-coming_fits zero ms t old us ps made through_all law sound apart placed stand_old stand_new moves =
-    some_come ms t made.0 old us ps through_all law made.1 (stand_old refl) apart (recursion_from_All IsSound old sound)
-    moves (stand_new refl made.0 made.1) placed
-coming_fits (suc buffer) ms t old us ps made through_all law sound apart placed stand_old stand_new moves =
-    none_comes ps us placed (no_moves ps moves.all)
+coming_fits zero ms t old us ks ps made through_all law sound apart placed stand_old stand_new aside moves =
+    some_come ms t made.0 old us ks ps through_all law made.1 (stand_old refl) apart
+    (recursion_from_All IsSound old sound) (aside refl) moves (stand_new refl made.0 made.1) placed
+coming_fits (suc buffer) ms t old us ks ps made through_all law sound apart placed stand_old stand_new aside moves =
+    none_comes ps us placed
+    (λ n less. no_parts_kept (arrived_parts ps n)
+    (kept_arrived ps n ∙ ap (λ xs. arrived xs n) moves.all ∙ aside_none us (length (bodies_of old)) 0 n ks less))
 
--- the premises are what the calls ask for, and what they ensure
-pub received_sound : (buffer : ℕ) (ms : List Mod) (t : WideTree) (kept : Kept) (pss : List KeptParts)
-    (us : List DocUnit) (old result : List Bridge) (c : Course) → entries_of old ≡ kept → parts_in old ≡ pss
-    → All IsSound old → AreUnits (units_of (entries_of old)) → ((u : WideTree) × (changed_by_all ms t ≡ Some u))
-    → ((q : List ℕ) → CarriesThroughAll ms t q) → ((m : Mod) (s : WideTree) (q : List ℕ) → CarriesSubtree m s q)
-    → AreUnits us → (buffer ≡ 0 → AllStand t (units_of kept))
-    → (buffer ≡ 0 → (u : WideTree) → changed_by_all ms t ≡ Some u → AllStand u us)
-    → ((buffer ≡ 0 → ⊥) → AreSameBodies (units_of kept) us) → IsCourse buffer ms t (units_of kept) pss us c
-    → result ≡ given_with c.moves.items (mods_of buffer ms) t old us → All IsSound result
-unfolding PartMoves
-received_sound buffer ms t kept pss us old result c was had sound units applies through_all law are stand_old stand_new
-    same course is =
-    let bodies : units_of kept ≡ bodies_of old = sym (ap units_of was) ∙ units_bodies old in
-    let apart : NoneBegins (bodies_of old) = (subst AreUnits (units_bodies old) units).apart in
-    let moves : AreMoves (part_moves buffer ms t (bodies_of old) (parts_in old) us) c.moves.items =
-    subst (λ qs. AreMoves (part_moves buffer ms t (bodies_of old) qs us) c.moves.items) (sym had)
-    (subst (λ vs. AreMoves (part_moves buffer ms t vs pss us) c.moves.items) bodies course.moves) in
-    let old_stand : buffer ≡ 0 → AllStand t (bodies_of old) = λ e. subst (AllStand t) bodies (stand_old e) in
-    subst (All IsSound) (sym is)
-    (carried_sound buffer ms t old (coming c.moves.items us) us applies through_all sound
-    (bare_bodies us (coming c.moves.items us) (coming_bare c.moves.items us))
-    (All-from_recursion IsSound (coming c.moves.items us)
-    (coming_each c.moves.items 0 us
-    (coming_fits buffer ms t old us c.moves.items applies through_all law sound apart are.placed old_stand stand_new
-    moves)))
-    old_stand stand_new (λ e. subst (λ vs. AreSameBodies vs us) bodies (same e)))
+-- ---- what the calls ask for, and what they ensure
+
+module _ (buffer : ℕ) (ms : List Mod) (t : WideTree) (kept : Kept) (pss : List KeptParts) (ss : List Stray)
+    (us : List DocUnit) (old : List Bridge) (flag : Bool) (was : List DoneStray) (c : Course)
+    (is_kept : entries_of old ≡ kept) (is_parts : parts_in old ≡ pss) (is_strays : strays_in was ≡ ss)
+    (right : AreRight flag old was) (applies : (u : WideTree) × (changed_by_all ms t ≡ Some u))
+    (through_all : (q : List ℕ) → CarriesThroughAll ms t q)
+    (law : (m : Mod) (s : WideTree) (q : List ℕ) → CarriesSubtree m s q)
+    (stand_old : buffer ≡ 0 → AllStand t (units_of kept)) (stand_aside : buffer ≡ 0 → StandAside t ss)
+    (course : IsCourse buffer ms t (units_of kept) pss ss us c) where
+  bodies : units_of kept ≡ bodies_of old
+  bodies = sym (ap units_of is_kept) ∙ units_bodies old
+
+  apart_old : NoneBegins (bodies_of old)
+  apart_old = (subst AreUnits (units_bodies old) right.units).apart
+
+  bodies_stand : buffer ≡ 0 → AllStand t (bodies_of old)
+  bodies_stand e = subst (AllStand t) bodies (stand_old e)
+
+  strays_hold : AreStrays (bodies_of old) ss
+  strays_hold =
+      subst (AreStrays (bodies_of old)) is_strays
+      (subst (λ vs. AreStrays vs (strays_in was)) (units_bodies old) right.strays)
+
+  aside : buffer ≡ 0 → HoldAside t (bodies_of old) (kept_strays ss)
+  aside e = hold_aside t (bodies_of old) ss strays_hold (stand_aside e)
+
+  moves : AreMoves (part_moves buffer ms t (bodies_of old) (parts_in old) (kept_strays ss) us) c.moves.items
+  unfolding PartMoves
+  moves =
+      subst (λ qs. AreMoves (part_moves buffer ms t (bodies_of old) qs (kept_strays ss) us) c.moves.items)
+      (sym is_parts)
+      (subst (λ vs. AreMoves (part_moves buffer ms t vs pss (kept_strays ss) us) c.moves.items) bodies course.moves)
+
+  pub received_sound : (result : List Bridge) → AreUnits us
+      → (buffer ≡ 0 → (u : WideTree) → changed_by_all ms t ≡ Some u → AllStand u us)
+      → ((buffer ≡ 0 → ⊥) → AreSameBodies (units_of kept) us)
+      → result ≡ given_with c.moves.items (mods_of buffer ms) t old us → All IsSound result
+  received_sound result are stand_new same is =
+      subst (All IsSound) (sym is)
+      (carried_sound buffer ms t old (coming c.moves.items us) us applies through_all right.sound
+      (bare_bodies us (coming c.moves.items us) (coming_bare c.moves.items us))
+      (All-from_recursion IsSound (coming c.moves.items us)
+      (coming_each c.moves.items 0 us
+      (coming_fits buffer ms t old us (kept_strays ss) c.moves.items applies through_all law right.sound apart_old
+      are.placed bodies_stand stand_new aside moves)))
+      bodies_stand stand_new (λ e. subst (λ vs. AreSameBodies vs us) bodies (same e)))
+
+  -- the strays afterwards
+
+  left_hold : AllByRecursion HoldsStray (strays_in (strays_left c.moves.items (length us)))
+  left_hold = hold_left (MayFollow buffer ms t ss) (length us) c.moves.items course.trees
+
+  left_kept : kept_strays (strays_in (strays_left c.moves.items (length us)))
+      ≡ arrived (part_moves buffer ms t (bodies_of old) (parts_in old) (kept_strays ss) us) (length us)
+  left_kept = kept_left c.moves.items (length us) ∙ ap (λ xs. arrived xs (length us)) moves.all
+
+  abbrev now_left : ℕ → KeptParts
+  now_left b = arrived (part_moves b ms t (bodies_of old) (parts_in old) (kept_strays ss) us) (length us)
+
+  abbrev AreApartNow : ℕ → Type 0
+  AreApartNow b = IsDistinct bytes_eq (part_paths (now_left b)) × AllOutside us (now_left b)
+
+  apart_now : (b : ℕ) → buffer ≡ b → AreApartNow b
+  apart_now zero e =
+      let hold = held_parts ms t us old (recursion_from_All IsSound old right.sound) in (
+        left_distinct ms t applies.0 (bodies_of old) us (parts_in old) (kept_strays ss) through_all law applies.1
+            (bodies_stand e) apart_old hold (aside e),
+        left_outside ms t applies.0 (bodies_of old) us (parts_in old) (kept_strays ss) through_all law applies.1
+            (bodies_stand e) apart_old hold (aside e),
+      )
+  apart_now (suc b) e = (
+    aside_distinct us (length (bodies_of old)) (kept_strays ss) strays_hold.distinct,
+    aside_outside us (length (bodies_of old)) (kept_strays ss),
+  )
+
+  left_are : AreStrays us (strays_in (strays_left c.moves.items (length us)))
+  left_are =
+      let both : AreApartNow buffer = apart_now buffer refl in
+      are_left us c.moves.items (now_left buffer) left_kept left_hold both.0 both.1
+
+  module _ (left : List DoneStray) (is : left ≡ strays_left c.moves.items (length us)) where
+    pub received_strays : (vs : List DocUnit) → vs ≡ us → AreStrays vs (strays_in left)
+    received_strays vs same =
+        subst (λ ws. AreStrays ws (strays_in left)) (sym same)
+        (subst (λ xs. AreStrays us (strays_in xs)) (sym is) left_are)
+
+    pub received_tidy : AreTidy left
+    received_tidy = subst AreTidy (sym is) (tidy_left (length us) c.moves.items course.moves.tidy)
+
+    pub received_kept : kept_strays (strays_in left)
+        ≡ CarryStrays (PartMoves buffer ms t (units_of kept) pss (kept_strays ss) us) (length us)
+    unfolding CarryStrays
+    received_kept =
+        ap (λ xs. kept_strays (strays_in xs)) is ∙ kept_left c.moves.items (length us)
+        ∙ ap (λ xs. arrived xs (length us)) course.moves.all
+
+    pub received_stand : (u : WideTree) → MayFollow buffer ms t ss u → StandAside u (strays_in left)
+    received_stand u after =
+        subst (λ xs. StandAside u (strays_in xs)) (sym is)
+        (stand_left (MayFollow buffer ms t ss) (length us) c.moves.items course.trees u after)
+
+-- the document behind an edit
+pub behind_document : (buffer : ℕ) (ms : List Mod) (t : WideTree) (ss : List Stray) (u : WideTree) → buffer ≡ 0
+    → changed_by_all ms t ≡ Some u → MayFollow buffer ms t ss u
+behind_document zero ms t ss u e made = made
+behind_document (suc buffer) ms t ss u e made = absurd (omega (arith, e))
+
+pub behind_other : (buffer : ℕ) (ms : List Mod) (t : WideTree) (ss : List Stray) (u : WideTree) → (buffer ≡ 0 → ⊥)
+    → StandAside u ss → MayFollow buffer ms t ss u
+behind_other zero ms t ss u e stand = absurd (e refl)
+behind_other (suc buffer) ms t ss u e stand = stand
 
 pub received_parts : (buffer : ℕ) (ms : List Mod) (t : WideTree) (kept : Kept) (pss : List KeptParts)
-    (us : List DocUnit) (old result : List Bridge) (c : Course) → parts_in old ≡ pss
-    → IsCourse buffer ms t (units_of kept) pss us c → result ≡ given_with c.moves.items (mods_of buffer ms) t old us
-    → parts_in result ≡ CarryParts pss (PartMoves buffer ms t (units_of kept) pss us) (sources_in result)
+    (ss : List Stray) (us : List DocUnit) (old result : List Bridge) (c : Course) → parts_in old ≡ pss
+    → IsCourse buffer ms t (units_of kept) pss ss us c
+    → result ≡ given_with c.moves.items (mods_of buffer ms) t old us
+    → parts_in result
+    ≡ CarryParts pss (PartMoves buffer ms t (units_of kept) pss (kept_strays ss) us) (sources_in result)
 unfolding CarryParts
-received_parts buffer ms t kept pss us old result c had course is =
+received_parts buffer ms t kept pss ss us old result c had course is =
     ap parts_in is ∙ given_parts c.moves.items (mods_of buffer ms) t old us
     ∙ ap (λ bs. all_parts_now (parts_in old) (map seen_move c.moves.items) 0 (sources_in bs)) (sym is)
     ∙ ap (λ ms2. all_parts_now (parts_in old) ms2 0 (sources_in result)) course.moves.all
-    ∙ ap (λ qs. all_parts_now qs (PartMoves buffer ms t (units_of kept) pss us) 0 (sources_in result)) had
+    ∙ ap (λ qs. all_parts_now qs (PartMoves buffer ms t (units_of kept) pss (kept_strays ss) us) 0
+    (sources_in result)) had
 
 -- ---- the course
 
@@ -259,18 +362,29 @@ pub bodies_kept : (kept : Kept) (old read : List Bridge) → entries_of old ≡ 
     → bodies_of read ≡ units_of kept
 bodies_kept kept old read was is = ap bodies_of is ∙ sym (units_bodies old) ∙ ap units_of was
 
-pub is_course : (buffer : ℕ) (ms : List Mod) (t : WideTree) (kept : Kept) (pss : List KeptParts) (vs : List DocUnit)
-    (old read : List Bridge) (c : Course) → entries_of old ≡ kept → parts_in old ≡ pss → read ≡ old
+pub all_ok : {X Y : Type 0} (r : Result X Y) (P Q R S : X → Type 0) → ((x : X) → P x → Q x → R x → S x)
+    → IfOk r P → IfOk r Q → IfOk r R → IfOk r S
+all_ok (Ok x) P Q R S f p q h = f x p q h
+all_ok (Err y) P Q R S f p q h = tt
+
+pub is_course : (buffer : ℕ) (ms : List Mod) (t : WideTree) (kept : Kept) (pss : List KeptParts) (ss : List Stray)
+    (vs : List DocUnit) (old read : List Bridge) (aside : List DoneStray) (c : Course) → entries_of old ≡ kept
+    → parts_in old ≡ pss → read ≡ old → strays_in aside ≡ ss
     → c.places.items ≡ map (through (mods_of buffer ms) t) (paths_in read)
-    → AreMoves (part_moves buffer ms t (bodies_of read) (parts_in read) vs) c.moves.items
-    → IsCourse buffer ms t (units_of kept) pss vs c
+    → AreMoves (part_moves buffer ms t (bodies_of read) (parts_in read) (kept_strays (strays_in aside)) vs)
+    c.moves.items
+    → All (HasTree (MayFollow buffer ms t (strays_in aside)) (length vs)) c.moves.items
+    → IsCourse buffer ms t (units_of kept) pss ss vs c
 unfolding PartMoves
-is_course buffer ms t kept pss vs old read c was had is places moves = record {
+is_course buffer ms t kept pss ss vs old read aside c was had is seen places moves trees = record {
   places =
       places ∙ places_same (mods_of buffer ms) t read
       ∙ ap (unit_places_after (mods_of buffer ms) t) (bodies_kept kept old read was is);
   moves =
-      subst (λ qs. AreMoves (part_moves buffer ms t (units_of kept) qs vs) c.moves.items) (ap parts_in is ∙ had)
-      (subst (λ us. AreMoves (part_moves buffer ms t us (parts_in read) vs) c.moves.items)
-      (bodies_kept kept old read was is) moves);
+      subst (λ xs. AreMoves (part_moves buffer ms t (units_of kept) pss (kept_strays xs) vs) c.moves.items) seen
+      (subst (λ qs. AreMoves (part_moves buffer ms t (units_of kept) qs (kept_strays (strays_in aside)) vs)
+      c.moves.items) (ap parts_in is ∙ had)
+      (subst (λ us. AreMoves (part_moves buffer ms t us (parts_in read) (kept_strays (strays_in aside)) vs)
+      c.moves.items) (bodies_kept kept old read was is) moves));
+  trees = subst (λ xs. All (HasTree (MayFollow buffer ms t xs) (length vs)) c.moves.items) seen trees;
 }

@@ -18,7 +18,7 @@ use Rattle.tx_parts.specs.Composed.{alone, evaluates}
 use Rattle.tx_parts.specs.Parts.{Part, HasTrace, parts, part_trace, Stored, stored}
 use Rattle.tx_parts.specs.Standing.{StandsIn}
 use Rattle.tx_walk.specs.declared.part.Part.{Part as DonePart}
-use Rattle.tx_walk.specs.Held.{IsSound as ServesTree, fits, is_held}
+use Rattle.tx_walk.specs.Held.{IsSound as ServesTree, fits, serves}
 use Rattle.tx_walk.specs.Walked.{kept_in}
 use Rattle.tx_walk.proofs.Agreed.{agrees_is}
 use Rattle.tx_units.specs.declared.kinds.Unit.{Unit as DocUnit}
@@ -72,10 +72,10 @@ module _ (over : AllOver) (t : WideTree) (ds : List DonePart) (hold : AllByRecur
   supports_part : (p : Part) (trace : WideTrace) → StandsIn [] t p → kept_at (kept_parts ds) p.path ≡ Some trace
       → Supports trace (alone p.tree)
   supports_part p trace stands is =
-      let serves : ServesTree (kept_in ds) [] t = sound_of t ds hold in
-      serves.holds p.path p.tree trace (ap (subtree t) stands.path_is ∙ stands.leads) (same_store ds p.path ∙ is)
+      let sound : ServesTree (kept_in ds) [] t = sound_of t ds hold in
+      sound.holds p.path p.tree trace (ap (subtree t) stands.path_is ∙ stands.leads) (same_store ds p.path ∙ is)
 
-  part_stays : (p : Part) → StandsIn [] t p → HasTrace p → not (is_held (kept_at (kept_parts ds)) p) ≡ false
+  part_stays : (p : Part) → StandsIn [] t p → HasTrace p → not (serves (kept_at (kept_parts ds)) p) ≡ false
       → kept_at (kept_parts ds) p.path ≡ part_trace p
   part_stays p stands traced flag = by (kept_at (kept_parts ds) p.path) refl flag
     where
@@ -88,12 +88,12 @@ module _ (over : AllOver) (t : WideTree) (ds : List DonePart) (hold : AllByRecur
 
   each_stays : (ps : List Part) → AllByRecursion (StandsIn [] t) ps → AllByRecursion HasTrace ps → (k : ℕ) (s : Stored)
       → slice_get (map stored ps) k ≡ Some s
-      → slice_get (map (λ p. not (is_held (kept_at (kept_parts ds)) p)) ps) k ≡ Some false
+      → slice_get (map (λ p. not (serves (kept_at (kept_parts ds)) p)) ps) k ≡ Some false
       → kept_at (kept_parts ds) s.path ≡ s.trace
   each_stays [] stand traced k s e f = cc
   each_stays (p ∷ ps) stand traced zero s e f =
       subst (λ (x : Stored). kept_at (kept_parts ds) x.path ≡ x.trace) (same_Some (stored p) s e)
-      (part_stays p stand.0 traced.0 (same_Some (not (is_held (kept_at (kept_parts ds)) p)) false f))
+      (part_stays p stand.0 traced.0 (same_Some (not (serves (kept_at (kept_parts ds)) p)) false f))
   each_stays (p ∷ ps) stand traced (suc k) s e f = each_stays ps stand.1 traced.1 k s e f
 
 -- ---- of one unit, and of all

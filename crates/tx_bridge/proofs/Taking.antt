@@ -310,7 +310,8 @@ module _ (ms : List Mod) (t : WideTree) (old : List Bridge) (us : List DocUnit) 
   given_units_are =
       all_given_units 0 (map (through ms t) (paths_in old)) old ws ∙ bare_bodies us ws bare
 
-  pub given_carried : entries_of (given_to ws ms t old) ≡ taken_from (traces_in old) (sources ms t (bodies_of old) us) us
+  pub given_carried : entries_of (given_to ws ms t old)
+      ≡ taken_from (traces_in old) (sources ms t (bodies_of old) us) us
   given_carried =
       entries_taken (traces_in old) (given_to ws ms t old) (sources ms t (bodies_of old) us) us given_units_are
       given_traces

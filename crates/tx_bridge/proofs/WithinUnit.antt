@@ -47,8 +47,8 @@ hold_kept t [] h = tt
 hold_kept t (p ∷ ps) h =
     (record { there = h.0.there; leads = h.0.leads; supports = h.0.supports }, hold_kept t ps h.1)
 
-pub hold_done : (t : WideTree) (ps : List DonePart) → AllByRecursion (Holds t) (kept_parts ps) → AllByRecursion IsTidy ps
-    → AllByRecursion (HoldsPart t) ps
+pub hold_done : (t : WideTree) (ps : List DonePart) → AllByRecursion (Holds t) (kept_parts ps)
+    → AllByRecursion IsTidy ps → AllByRecursion (HoldsPart t) ps
 hold_done t [] h once = tt
 hold_done t (p ∷ ps) h once = (
   record { there = h.0.there; leads = h.0.leads; supports = h.0.supports; tidy = once.0 },

@@ -2,7 +2,7 @@
 use Rattle.std.specs.Prelude.{ℕ, Bool, List, Option, refl}
 use Rattle.std.specs.Coded.{Coded, code_by, coded×, coded_list, coded_option, coded_bool, coded_ℕ}
 use Rattle.std.specs.FinMap.{code}
-use Rattle.tx_tree.specs.WideTree.{coded_WideTree}
+use Rattle.tx_tree.specs.WideTree.{WideTree, coded_WideTree}
 use Rattle.tx_env.specs.Environments.{NameMap, coded_NameMap}
 use Rattle.tx_origin.specs.Values.{WideValue, coded_WideValue}
 use Rattle.tx_exec_form.specs.Maps.{LookMap}
@@ -12,15 +12,17 @@ use Rattle.tx_units.specs.contracts.kinds.Unit as one_unit
 use Rattle.tx_parts.specs.Parts.{Stored}
 use Rattle.tx_bridge.specs.Entries.{Entry, Kept}
 use Rattle.tx_bridge.specs.PartsKept.{KeptParts}
+use Rattle.tx_bridge.specs.Strays.{Stray}
 
--- What is kept of the units and of their parts, of each unit whether it was reached when the last refresh began, and
--- which unit it was before the last edit. Of each part there is a flag, which the last refresh left.
+-- What is kept of the units, of their parts, and of strays, of each unit whether it was reached when the last refresh
+-- began, and which unit it was before the last edit. Of each part there is a flag, which the last refresh left.
 pub record Bridged : Type 0 where
   pub kept : Kept
   pub parts : List KeptParts
   pub part_flags : List (List Bool)
   pub renewed : List Bool
   pub sources : List (Option ℕ)
+  pub strays : List Stray
 
 -- ---- the code by which proofs tell them apart
 
@@ -39,7 +41,7 @@ coded_Entry =
     code_by (DocUnit × Option WideTrace) (coded× one_unit.the_row.coded (coded_option trace_code))
     (λ e. (e.unit, e.trace)) (λ p. record { unit = p.0; trace = p.1 }) (λ _. refl)
 
-abbrev coded_Stored : Coded Stored
+abbrev pub coded_Stored : Coded Stored
 coded_Stored =
     code_by (List ℕ × Option WideTrace) (coded× (coded_list coded_ℕ) (coded_option trace_code))
     (λ p. (p.path, p.trace)) (λ p. record { path = p.0; trace = p.1 }) (λ _. refl)
@@ -47,17 +49,24 @@ coded_Stored =
 abbrev pub coded_parts : Coded (List KeptParts)
 coded_parts = coded_list (coded_list coded_Stored)
 
+abbrev coded_Stray : Coded Stray
+coded_Stray =
+    code_by (Stored × WideTree) (coded× coded_Stored coded_WideTree) (λ s. (s.kept, s.tree))
+    (λ p. record { kept = p.0; tree = p.1 }) (λ _. refl)
+
 abbrev pub coded_Bridged : Coded Bridged
 coded_Bridged =
-    code_by (Kept × (List KeptParts × (List (List Bool) × (List Bool × List (Option ℕ)))))
+    code_by (Kept × (List KeptParts × (List (List Bool) × (List Bool × (List (Option ℕ) × List Stray)))))
     (coded× (coded_list coded_Entry)
     (coded× coded_parts
-    (coded× (coded_list (coded_list coded_bool)) (coded× (coded_list coded_bool) (coded_list (coded_option coded_ℕ))))))
-    (λ b. (b.kept, (b.parts, (b.part_flags, (b.renewed, b.sources)))))
+    (coded× (coded_list (coded_list coded_bool))
+    (coded× (coded_list coded_bool) (coded× (coded_list (coded_option coded_ℕ)) (coded_list coded_Stray))))))
+    (λ b. (b.kept, (b.parts, (b.part_flags, (b.renewed, (b.sources, b.strays))))))
     (λ p. record {
       kept = p.0;
       parts = p.1.0;
       part_flags = p.1.1.0;
       renewed = p.1.1.1.0;
-      sources = p.1.1.1.1;
+      sources = p.1.1.1.1.0;
+      strays = p.1.1.1.1.1;
     }) (λ _. refl)

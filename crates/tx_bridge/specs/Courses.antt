@@ -1,19 +1,25 @@
 -- How units and their parts go through an edit. Private clauses cite these.
-use Rattle.std.specs.Prelude.{◌≡◌, ℕ, ◌+◌, true, ◌==◌, is_some, if◌then◌else◌, List, [], ◌∷◌, ◌++◌, map, Option}
-use Rattle.std.specs.Prelude.{Some, None, slice_get}
+use Rattle.std.specs.Prelude.{◌≡◌, ℕ, zero, suc, ◌+◌, true, ◌==◌, is_some, if◌then◌else◌, List, [], ◌∷◌, ◌++◌, map}
+use Rattle.std.specs.Prelude.{Option, Some, None, slice_get, ◌<◌, ◌^◌, length}
 use Rattle.std.specs.Option.{option_map_or}
 use Rattle.std.specs.List.{filter_map}
 use Rattle.tx_tree.specs.WideTree.{WideTree}
+use Rattle.tx_tree.specs.Paths.{subtree}
 use Rattle.tx_mod.specs.declared.mods.Mod.{Mod}
 use Rattle.tx_mod.specs.Changes.{changed}
 use Rattle.tx_mod.specs.Followed.{tree_of, changed_by_all}
+use Rattle.tx_exec_form.specs.Laws.{Supports}
+use Rattle.tx_exec.specs.Outcomes.{wide_trace}
+use Rattle.tx_parts.specs.Composed.{alone}
 use Rattle.tx_units.specs.declared.kinds.Unit.{Unit as DocUnit}
 use Rattle.tx_walk.specs.declared.part.Part.{Part as DonePart}
 use Rattle.tx_bridge.specs.declared.bridge.Bridge.{Bridge}
 use Rattle.tx_bridge.specs.declared.course.PartMove.{PartMove}
 use Rattle.tx_bridge.specs.Carrying.{through}
 use Rattle.tx_bridge.specs.PartMoves.{rest_in}
-use Rattle.tx_bridge.specs.Slots.{given_all, fresh_bridge, paths_in}
+use Rattle.tx_bridge.specs.Strays.{Stray, StandAside}
+use Rattle.tx_bridge.specs.declared.strays.Stray.{Stray as DoneStray}
+use Rattle.tx_bridge.specs.Slots.{IsInOrder, given_all, fresh_bridge, paths_in}
 
 -- ---- trees between modifications
 
@@ -36,9 +42,32 @@ pub record IsUnitAbove (place : List ℕ) (us : List DocUnit) (j : ℕ) : Type 0
   pub there : slice_get us j ≡ Some unit
   pub within : is_some (rest_in unit place) ≡ true
 
--- it is so of no unit
-abbrev pub NoneAbove : List ℕ → List DocUnit → Type 0
-NoneAbove place us = (k : ℕ) (u : DocUnit) → slice_get us k ≡ Some u → rest_in u place ≡ None
+-- The path of a unit, if it has one, has so many numbers, and the last one is how far the unit stands behind number
+-- `first`.
+pub record AreAligned (first depth : ℕ) (us : List DocUnit) : Type 0 where
+  pub small : first < 2 ^ 63
+  pub order : (k : ℕ) (u : DocUnit) → slice_get us k ≡ Some u → IsInOrder first k u
+  pub depths : (k : ℕ) (u : DocUnit) (p : List ℕ) → slice_get us k ≡ Some u → u.path ≡ Some p → length p ≡ depth
+
+-- ---- what stands where a part stands now
+
+-- the document may be this one behind the edit of a buffer, by which the buffer's tree t changes
+abbrev pub MayFollow : ℕ → List Mod → WideTree → List Stray → WideTree → Type 0
+MayFollow zero ms t strays = λ u. changed_by_all ms t ≡ Some u
+MayFollow (suc buffer) ms t strays = λ u. StandAside u strays
+
+-- The part's trace supports the tree, and where the part stands in none of n units, the tree stands at its path in each
+-- document that may be the one behind the edit.
+pub record HasTree (IsAfter : WideTree → Type 0) (n : ℕ) (m : PartMove) : Type 0 where
+  pub supports : Supports (wide_trace m.part.trace) (alone m.tree)
+  pub stands : m.to ≡ n → (u : WideTree) → IsAfter u → subtree u m.part.path ≡ Some m.tree
+
+-- the parts that stand in none of n units
+abbrev pub stray_left : ℕ → PartMove → Option DoneStray
+stray_left n m = if m.to == n then Some (record { tree = m.tree; part = m.part }) else None
+
+abbrev pub strays_left : List PartMove → ℕ → List DoneStray
+strays_left ms n = filter_map (stray_left n) ms
 
 -- ---- entries of new units
 

@@ -13,6 +13,7 @@ pub mod CarryingParts
 pub mod Others
 pub mod MovedParts
 pub mod PartMoves
+pub mod Strays
 pub mod Courses
 pub mod UnitLists
 pub mod Bridged

@@ -1,5 +1,6 @@
 -- What crates above cite by name. They don't open these definitions.
-use Rattle.std.specs.Prelude.{◌≡◌, ℕ, Bool, List, [], map, Option}
+use Rattle.std.specs.Prelude.{◌≡◌, ℕ, Bool, List, [], length, map, Option}
+use Rattle.std.specs.List.{All}
 use Rattle.tx_tree.specs.WideTree.{WideTree}
 use Rattle.tx_mod.specs.declared.mods.Mod.{Mod}
 use Rattle.tx_units.specs.declared.kinds.Unit.{Unit as DocUnit}
@@ -9,7 +10,9 @@ use Rattle.tx_bridge.specs.PartsKept.{KeptParts, fresh_parts_from, part_flags_fr
 use Rattle.tx_bridge.specs.declared.course.Course.{Course}
 use Rattle.tx_bridge.specs.Carrying.{carried, sources, mods_of, unit_places_after}
 use Rattle.tx_bridge.specs.CarryingParts.{parts_but}
-use Rattle.tx_bridge.specs.PartMoves.{Move, AreMoves, part_moves, all_parts_now}
+use Rattle.tx_bridge.specs.Courses.{MayFollow, HasTree}
+use Rattle.tx_bridge.specs.PartMoves.{Move, AreMoves, arrived, part_moves, all_parts_now}
+use Rattle.tx_bridge.specs.Strays.{Stray, kept_strays, strays_beside}
 
 -- nothing is kept of these units
 unfoldable pub Empty : List DocUnit → Kept
@@ -39,10 +42,17 @@ Charge kept parts = charges_from beginning kept parts
 unfoldable pub Carry : ℕ → List Mod → WideTree → Kept → List DocUnit → Kept
 Carry buffer ms t kept us = carried (mods_of buffer ms) t kept us
 
--- The parts of old units that are none of the new ones, which stand in new ones behind the modifications of a buffer, by
--- which its tree t changes. The old units are us, of whose parts this is kept, and the new ones vs.
-unfoldable pub PartMoves : ℕ → List Mod → WideTree → List DocUnit → List KeptParts → List DocUnit → List Move
-PartMoves buffer ms t us parts vs = part_moves buffer ms t us parts vs
+-- The parts of old units that are none of the new ones, and the strays, with the new units in which they stand behind
+-- the modifications of a buffer, by which its tree t changes. The old units are us, this is kept of their parts and of
+-- the strays, and the new units are vs. Strays count as parts of the unit behind the last one, before the edit and
+-- behind it.
+unfoldable pub PartMoves : ℕ → List Mod → WideTree → List DocUnit → List KeptParts → KeptParts → List DocUnit
+    → List Move
+PartMoves buffer ms t us parts strays vs = part_moves buffer ms t us parts strays vs
+
+-- what is kept of strays, where there are n new units, and parts have so moved
+unfoldable pub CarryStrays : List Move → ℕ → KeptParts
+CarryStrays moves n = arrived moves n
 
 -- what stays of what is kept of the parts of units, where the new units are these old ones, and parts have so moved
 unfoldable pub CarryParts : List KeptParts → List Move → List (Option ℕ) → List KeptParts
@@ -52,14 +62,20 @@ CarryParts parts moves sources = all_parts_now parts moves 0 sources
 unfoldable pub CarryWithin : ℕ → List Mod → WideTree → List DocUnit → List KeptParts → List KeptParts
 CarryWithin i ms t us parts = parts_but ms t i us parts
 
+-- the strays that stay where all modifications of the document are inside the unit of number i
+unfoldable pub StraysBeside : ℕ → List DocUnit → List Stray → List Stray
+StraysBeside i us strays = strays_beside i us strays
+
 -- of the units afterwards, which one of those before each is
 unfoldable pub Sources : ℕ → List Mod → WideTree → List DocUnit → List DocUnit → List (Option ℕ)
 Sources buffer ms t us vs = sources (mods_of buffer ms) t us vs
 
 -- ---- an edit
 
--- where the old units us stand afterwards, of whose parts this is kept, and which of these have moved to the new ones vs
+-- Where the old units us stand afterwards, of whose parts this is kept, as it is of strays, and which of these have
+-- moved to the new ones vs, or stand in none of them.
 pub record IsCourse (buffer : ℕ) (ms : List Mod) (t : WideTree) (us : List DocUnit) (parts : List KeptParts)
-    (vs : List DocUnit) (c : Course) : Type 0 where
+    (strays : List Stray) (vs : List DocUnit) (c : Course) : Type 0 where
   pub places : c.places.items ≡ unit_places_after (mods_of buffer ms) t us
-  pub moves : AreMoves (PartMoves buffer ms t us parts vs) c.moves.items
+  pub moves : AreMoves (PartMoves buffer ms t us parts (kept_strays strays) vs) c.moves.items
+  pub trees : All (HasTree (MayFollow buffer ms t strays) (length vs)) c.moves.items

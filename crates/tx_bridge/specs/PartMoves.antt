@@ -1,7 +1,6 @@
--- Parts of old units that are no new ones: in which new unit each one stands after an edit.
-use Rattle.std.specs.Prelude.{ℕ, zero, suc, ◌+◌, Bool, false, not, ◌==◌, if◌then◌else◌, List, [], ◌∷◌, ◌++◌, map}
-use Rattle.std.specs.Prelude.{◌≡◌, Option, Some}
-use Rattle.std.specs.Prelude.{None, option_and_then, slice_get}
+-- Parts of old units that are no new ones, and strays: in which new unit each one stands after an edit, or in none.
+use Rattle.std.specs.Prelude.{◌≡◌, ℕ, zero, suc, ◌+◌, Bool, false, not, ◌==◌, is_some, if◌then◌else◌, List, [], ◌∷◌}
+use Rattle.std.specs.Prelude.{◌++◌, length, map, Option, Some, None, option_and_then, slice_get}
 use Rattle.std.specs.Option.{option_map, option_map_or}
 use Rattle.std.specs.List.{All, cons_option, filter_map, list_any}
 use Rattle.tx_tree.specs.WideTree.{WideTree}
@@ -16,7 +15,8 @@ use Rattle.tx_bridge.specs.HeldParts.{kept_part}
 use Rattle.tx_bridge.specs.Carrying.{through, is_path}
 use Rattle.tx_bridge.specs.PartsKept.{KeptParts}
 
--- the part of this number of the old unit `from` stands in the new unit `to` now, where this is kept of it
+-- The part of this number of the old unit `from` stands in the new unit `to` now, where this is kept of it. Strays have
+-- the number behind the last unit's, and their paths in the document.
 pub record Move : Type 0 where
   pub from : ℕ
   pub number : ℕ
@@ -37,20 +37,32 @@ is_vacant place vs = not (list_any (stands_at place) vs)
 abbrev pub rest_in : DocUnit → List ℕ → Option (List ℕ)
 rest_in v place = option_and_then (λ p. rest_behind p place) v.path
 
--- the number of the first unit at the place or above it, where these are counted from j on, and the rest of the place
-abbrev pub unit_above : ℕ → List DocUnit → List ℕ → Option (ℕ × List ℕ)
-unit_above j [] place = None
-unit_above j (v ∷ vs) place = option_map_or (λ r. Some (j, r)) (rest_in v place) (unit_above (j + 1) vs place)
+-- no unit is at the place or above it
+abbrev pub NoneAbove : List ℕ → List DocUnit → Type 0
+NoneAbove place us = (k : ℕ) (u : DocUnit) → slice_get us k ≡ Some u → rest_in u place ≡ None
+
+-- whether it is so
+abbrev pub is_outside : List DocUnit → List ℕ → Bool
+is_outside us place = not (list_any (λ u. is_some (rest_in u place)) us)
+
+-- The number of the first unit at the place or above it, where these are counted from j on, and the rest of the place.
+-- Of a place outside of all units it is the number behind the last one, and the whole place.
+abbrev pub unit_above : ℕ → List DocUnit → List ℕ → ℕ × List ℕ
+unit_above j [] place = (j, place)
+unit_above j (v ∷ vs) place = option_map_or (λ r. (j, r)) (rest_in v place) (unit_above (j + 1) vs place)
 
 -- ---- all moves
 
 abbrev pub move_to : ℕ → ℕ → Stored → ℕ × List ℕ → Move
 move_to i k s x = record { from = i; number = k; to = x.0; kept = record { path = x.1; trace = s.trace } }
 
--- that of the part of number k of the old unit i at p, if it stands in a new one
+-- that of the part of number k of the old unit i, which stood at q, if it stands anywhere
+abbrev pub move_from : List Mod → WideTree → List DocUnit → ℕ → ℕ → List ℕ → Stored → Option Move
+move_from ms t vs i k q s = option_map (λ place. move_to i k s (unit_above 0 vs place)) (carried_by_all ms t q)
+
+-- so it is of one of the old unit i at p
 abbrev pub move_of : List Mod → WideTree → List DocUnit → ℕ → List ℕ → ℕ → Stored → Option Move
-move_of ms t vs i p k s =
-    option_map (move_to i k s) (option_and_then (unit_above 0 vs) (carried_by_all ms t (p ++ s.path)))
+move_of ms t vs i p k s = move_from ms t vs i k (p ++ s.path) s
 
 -- so of each part, from number k on
 abbrev pub moves_below : List Mod → WideTree → List DocUnit → ℕ → List ℕ → ℕ → KeptParts → List Move
@@ -68,11 +80,20 @@ moves_from ms t vs i [] pss = []
 moves_from ms t vs i (u ∷ us) [] = []
 moves_from ms t vs i (u ∷ us) (ks ∷ pss) = unit_moves ms t vs i u ks ++ moves_from ms t vs (i + 1) us pss
 
--- Of all parts of the old units us, where vs are the new ones, and the modifications of a buffer change its tree t. Those
--- of another buffer than the document move no part.
-abbrev pub part_moves : ℕ → List Mod → WideTree → List DocUnit → List KeptParts → List DocUnit → List Move
-part_moves zero ms t us pss vs = moves_from ms t vs 0 us pss
-part_moves (suc buffer) ms t us pss vs = []
+-- that of the stray of number k, which stays where it is, where it is in no new unit; strays count as parts of number i
+abbrev pub move_aside : List DocUnit → ℕ → ℕ → Stored → Option Move
+move_aside vs i k s = if is_outside vs s.path then Some (move_to i k s (length vs, s.path)) else None
+
+-- so of each, from number k on
+abbrev pub moves_aside : List DocUnit → ℕ → ℕ → KeptParts → List Move
+moves_aside vs i k [] = []
+moves_aside vs i k (s ∷ ks) = cons_option (move_aside vs i k s) (moves_aside vs i (k + 1) ks)
+
+-- Of all parts of the old units us, and of strays, where vs are the new units, and the modifications of a buffer change
+-- its tree t. Those of another buffer than the document move no part of a unit, and leave strays where they are.
+abbrev pub part_moves : ℕ → List Mod → WideTree → List DocUnit → List KeptParts → KeptParts → List DocUnit → List Move
+part_moves zero ms t us pss ks vs = moves_from ms t vs 0 us pss ++ moves_below ms t vs (length us) [] 0 ks
+part_moves (suc buffer) ms t us pss ks vs = moves_aside vs (length us) 0 ks
 
 -- ---- the moves that the program tells
 
@@ -89,7 +110,7 @@ pub record AreMoves (moves : List Move) (ms : List PartMove) : Type 0 where
 abbrev pub kept_in_unit : ℕ → Move → Option Stored
 kept_in_unit j m = if m.to == j then Some m.kept else None
 
--- what is kept of the parts that have moved to the new unit j
+-- what is kept of the parts that have moved to the new unit j, or of the strays, where j is the number behind the last
 abbrev pub arrived : List Move → ℕ → KeptParts
 arrived moves j = filter_map (kept_in_unit j) moves
 

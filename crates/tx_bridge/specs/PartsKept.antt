@@ -6,7 +6,7 @@ use Rattle.std.specs.Str.{bytes_eq}
 use Rattle.tx_exec_form.specs.declared.TheConstants.{MOST_LEVELS}
 use Rattle.tx_exec_form.specs.Evaluated.{WideTrace}
 use Rattle.tx_parts.specs.Parts.{Part, parts, Stored, stored}
-use Rattle.tx_walk.specs.Held.{Store, is_held, charges}
+use Rattle.tx_walk.specs.Held.{Store, serves, only, charges}
 use Rattle.tx_units.specs.declared.kinds.Unit.{Unit as DocUnit}
 use Rattle.tx_view_form.specs.Outcomes.{Moment, allowance, charge, behind}
 use Rattle.tx_bridge.specs.Entries.{Entry, Kept, outcome_of}
@@ -53,7 +53,7 @@ fresh_parts_from m (u ∷ us) = fresh_parts m u ∷ fresh_parts_from (behind m (
 -- of each part whether nothing that fits is kept at its path, and nothing where the unit is over
 abbrev pub flags_if_done : Option WideTrace → Store → List Part → List Bool
 flags_if_done None kept ps = []
-flags_if_done (Some trace) kept ps = map (λ p. not (is_held kept p)) ps
+flags_if_done (Some trace) kept ps = map (λ p. not (serves kept p)) ps
 
 -- so of the parts of the unit, which is evaluated at this moment, where these are kept
 abbrev pub part_flags : Moment → DocUnit → KeptParts → List Bool
@@ -77,7 +77,7 @@ PartsStay olds news flags = (i k : ℕ) (old new : KeptParts) (fs : List Bool) (
 -- what the unit is charged where it is evaluated: a paragraph of the body the costs of its parts that aren't held
 abbrev pub unit_charge : Moment → DocUnit → KeptParts → ℕ
 unit_charge m u ps =
-    if has_parts u then charges (kept_at ps) (unit_parts m u) else charge m (outcome_of m u)
+    if has_parts u then charges (only (kept_at ps)) (unit_parts m u) else charge m (outcome_of m u)
 
 -- what it is charged, if it is reached
 abbrev pub charge_of : Moment → Entry → KeptParts → ℕ

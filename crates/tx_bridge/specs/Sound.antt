@@ -21,6 +21,8 @@ use Rattle.tx_bridge.specs.PartsKept.{KeptParts}
 use Rattle.tx_bridge.specs.HeldParts.{PartsHold, kept_parts, flags_of_parts}
 use Rattle.tx_walk.specs.declared.part.Part.{Part as DonePart}
 use Rattle.tx_bridge.specs.InPlace.{numbers_but}
+use Rattle.tx_bridge.specs.declared.strays.Stray.{Stray as DoneStray}
+use Rattle.tx_bridge.specs.Strays.{AreStrays, AreTidy, strays_in}
 
 -- A trace that is kept is the tree's, with no more levels than there are, in every environment that agrees with its
 -- looks.
@@ -80,7 +82,10 @@ pub record IsSound (b : Bridge) : Type 0 where
   pub parts : PartsHold b.unit (wide_outcome b.kept) b.parts
 
 -- Each entry is sound, the units are such as documents have, and where the flag is set, all settle in themselves.
-pub record AreRight (flag : Bool) (bs : List Bridge) : Type 0 where
+-- Strays hold, and stand in no unit.
+pub record AreRight (flag : Bool) (bs : List Bridge) (ss : List DoneStray) : Type 0 where
   pub sound : All IsSound bs
   pub units : AreUnits (units_of (entries_of bs))
   pub settled : flag ≡ true → AreSettled empty (entries_of bs)
+  pub strays : AreStrays (units_of (entries_of bs)) (strays_in ss)
+  pub tidy : AreTidy ss

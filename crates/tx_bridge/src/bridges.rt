@@ -28,11 +28,13 @@ ghost use Rattle.tx_bridge.specs.UnitLists.{AreUnits, IsPlaced};
 ghost use Rattle.tx_bridge.specs.Carrying.{AllLead, AllStand, StandsNow, AreSameBodies, HaveSameTrees};
 ghost use Rattle.tx_bridge.specs.Carrying.{through, mods_of};
 ghost use Rattle.tx_bridge.specs.Slots.{paths_in};
-ghost use Rattle.tx_bridge.specs.Courses.{given_with};
+ghost use Rattle.tx_bridge.specs.Courses.{given_with, strays_left};
 ghost use Rattle.tx_mod.specs.declared.mods.Mod.{Mod as Change};
 ghost use Rattle.tx_bridge.specs.InPlace.{IsOneChanged, NoneChanged, numbers_but};
 ghost use Rattle.tx_bridge.specs.Names.{Empty, EmptyParts, Fresh, FreshParts, PartFlags, Charge};
-ghost use Rattle.tx_bridge.specs.Names.{Carry, CarryParts, CarryWithin, IsCourse, PartMoves, Sources};
+ghost use Rattle.tx_bridge.specs.Names.{Carry, CarryParts, CarryStrays, CarryWithin, IsCourse, PartMoves, Sources};
+ghost use Rattle.tx_bridge.specs.Names.{StraysBeside};
+ghost use Rattle.tx_bridge.specs.Strays.{AreStrays, StandAside, kept_strays};
 
 use crate::arriving::put_moves;
 use crate::bridge::{Bridge, Way};
@@ -40,6 +42,7 @@ use crate::course::{Course, edit_course};
 use crate::giving::give_all;
 use crate::in_place::{change_one, one_changed, others_of_changed};
 use crate::moments::Moment;
+use crate::strays::{Stray, keep_beside};
 use std::alloc::Global;
 use std::marker::Model;
 use std::mem;
@@ -56,18 +59,20 @@ use tx_walk::Part;
 /// All units, each with the trace that is kept of it, or nothing.
 ///
 /// At every moment what is kept of a unit supports its tree: it is the trace in every environment that agrees with its
-/// looks.
+/// looks. So it is of each part, and of each stray: a part that is kept, but stands in no unit since an edit.
 #[derive(Drop)]
 pub struct Bridges {
     bridges: Vec<Bridge>,
     way: Way,
     // Whether all looks are known to agree with what the kept traces before them set.
     settled: bool,
+    strays: Vec<Stray>,
 }
 
 impl Model for Bridges {
     ghost use Rattle.tx_bridge.specs.Bridged.{Bridged, coded_Bridged};
     ghost use Rattle.tx_bridge.specs.Sound.{AreRight, entries_of, parts_in, part_flags_in, flags_of, sources_by};
+    ghost use Rattle.tx_bridge.specs.Strays.{strays_in};
 
     ghost Value = { Bridged };
 
@@ -79,9 +84,10 @@ impl Model for Bridges {
       part_flags = part_flags_in b.bridges.items;
       renewed = flags_of b.bridges.items;
       sources = sources_by b.way b.bridges.items;
+      strays = strays_in b.strays.items;
     } };
 
-    ghost invariant = { λ b. AreRight b.settled b.bridges.items };
+    ghost invariant = { λ b. AreRight b.settled b.bridges.items b.strays.items };
 }
 
 // The units, with nothing kept.
@@ -158,11 +164,12 @@ fn moment_behind(alloc: Global, bridges: &[Bridge]) -> Result<Moment, Memory>
     Ok(moment)
 }
 
-// The new units, with what the old ones give through an edit of a buffer, and with the parts that move to them. For want
-// of memory the old ones stay.
+// The new units, with what the old ones give through an edit of a buffer, and with the parts that move to them, and the
+// new strays. For want of memory the old ones stay.
 fn give_over(
     alloc: Global,
     bridges: &mut Vec<Bridge>,
+    strays: &mut Vec<Stray>,
     units: Vec<Unit>,
     course: Course,
 ) -> Result<(), Memory>
@@ -173,12 +180,16 @@ fn give_over(
     ensures given { OnOk result ((ms : List Change) (t : WideTree)
         → course.places.items ≡ map (through ms t) (paths_in bridges.old.items)
         → bridges.new.items ≡ given_with course.moves.items ms t bridges.old.items units.items) }
+    ensures strays { OnOk result (strays.new.items ≡ strays_left course.moves.items (length units.items)) }
     ensures refused { OnErr result (bridges.new ≡ bridges.old) }
+    ensures strays_stay { OnErr result (strays.new ≡ strays.old) }
 {
     let mut new = bridges_of(alloc, units)?;
-    put_moves(&mut new, course.moves)?;
+    let mut left = Vec::new(alloc);
+    put_moves(&mut new, course.moves, &mut left)?;
     give_all(&mut new, &course.places, bridges);
     *bridges = new;
+    *strays = left;
     Ok(())
 }
 
@@ -201,11 +212,13 @@ impl Bridges {
         ensures parts { IfOk result (λ b. b.parts ≡ EmptyParts units.items) }
         ensures units { IfOk result (λ b. units_of b.kept ≡ units.items) }
         ensures sources { IfOk result (λ b. b.sources ≡ map (λ u. None) units.items) }
+        ensures strays { IfOk result (λ b. b.strays ≡ []) }
     {
         Ok(Bridges {
             bridges: bridges_of(alloc, units)?,
             way: Way::Listed,
             settled: false,
+            strays: Vec::new(alloc),
         })
     }
 
@@ -214,9 +227,10 @@ impl Bridges {
     /// a paragraph of the body is charged its parts of which nothing that fits is kept. Answers these charges.
     ///
     /// What is kept of a part whose flag is down behind it is what was kept at the part's path. Of a unit that wasn't
-    /// reached all that was kept of its parts stays.
+    /// reached all that was kept of its parts stays. Strays go.
     ///
-    /// For want of memory the units before some number are brought there, and the others are as they were.
+    /// For want of memory the units before some number are brought there, and the others are as they were, as strays
+    /// are.
     #[tactic(auto, unfolding(crate::specs::Names::Fresh, crate::specs::Names::FreshParts, crate::specs::Names::Charge))]
     pub fn refresh<L: Ledger>(&mut self, alloc: Global, steps: &mut Steps<L>) -> Result<u64, Memory>
         ensures fresh { OnOk result (self.new.kept ≡ Fresh self.old.kept) }
@@ -236,6 +250,8 @@ impl Bridges {
         ensures refused { OnErr result ((n : ℕ) × (self.new.kept
             ≡ take n (Fresh self.old.kept) ++ drop n self.old.kept)
             × (self.new.parts ≡ take n (FreshParts self.old.kept) ++ drop n self.old.parts)) }
+        ensures strays { OnOk result (self.new.strays ≡ []) }
+        ensures strays_stay { OnErr result (self.new.strays ≡ self.old.strays) }
     {
         trace_laws();
         standing_law();
@@ -243,6 +259,7 @@ impl Bridges {
         let settled = mem::replace(&mut self.settled, false);
         let charges = refresh_all(alloc, &mut self.bridges, settled, steps)?;
         self.settled = true;
+        self.strays.clear();
         Ok(charges)
     }
 
@@ -250,7 +267,8 @@ impl Bridges {
     /// body is the old one from whose path the modifications lead to its path, or, where another buffer than 0 was
     /// edited, the one with its path. Another unit is the old one of its number, where kind and tree are the same. What
     /// is kept of the parts of an old unit that is none of the new ones goes with the parts to the new units in which
-    /// they stand.
+    /// they stand, and so do strays. Those that stand in none are the strays afterwards. Where another buffer than 0
+    /// was edited, strays stay.
     ///
     /// `before` is the tree of the buffer before the edit. Which old unit a new one is `source` tells afterwards, and
     /// no two are the same one. A new unit has the tree of the old one that it is, and a path where that has one. For
@@ -270,10 +288,20 @@ impl Bridges {
         requires new { buffer ≡ 0 → (u : WideTree) → changed_by_all mods.now before.now ≡ Some u
             → AllStand u units.items }
         requires same { (buffer ≡ 0 → ⊥) → AreSameBodies (units_of self.old.kept) units.items }
+        requires strays { buffer ≡ 0 → StandAside before.now self.old.strays }
         ensures carried { OnOk result (self.new.kept ≡ Carry buffer mods.now before.now self.old.kept units.items) }
         ensures parts { OnOk result (self.new.parts ≡ CarryParts self.old.parts
-            (PartMoves buffer mods.now before.now (units_of self.old.kept) self.old.parts units.items)
+            (PartMoves buffer mods.now before.now (units_of self.old.kept) self.old.parts
+            (kept_strays self.old.strays) units.items)
             self.new.sources) }
+        ensures strays { OnOk result (kept_strays self.new.strays ≡ CarryStrays
+            (PartMoves buffer mods.now before.now (units_of self.old.kept) self.old.parts
+            (kept_strays self.old.strays) units.items)
+            (length units.items)) }
+        ensures stand { OnOk result (buffer ≡ 0 → (u : WideTree) → changed_by_all mods.now before.now ≡ Some u
+            → StandAside u self.new.strays) }
+        ensures stay { OnOk result ((buffer ≡ 0 → ⊥) → (u : WideTree) → StandAside u self.old.strays
+            → StandAside u self.new.strays) }
         ensures sources { OnOk result
             (self.new.sources ≡ Sources buffer mods.now before.now (units_of self.old.kept) units.items) }
         ensures once { OnOk result ((i j k : ℕ) → slice_get self.new.sources j ≡ Some (Some i)
@@ -288,8 +316,8 @@ impl Bridges {
         self.carry_along(alloc, buffer, before, mods, units, course)
     }
 
-    /// Where the units stand behind an edit of a buffer, after which these are the units, and which parts of those that
-    /// are none of these stand in which of them. `carry_along` takes it. Nothing changes.
+    /// Where the units stand behind an edit of a buffer, after which these are the units, and in which of them the
+    /// parts of those that are none of these stand, and the strays. `carry_along` takes it. Nothing changes.
     pub fn course<L: Ledger>(
         &self,
         alloc: Global,
@@ -302,11 +330,21 @@ impl Bridges {
         requires applies { (u : WideTree) × (changed_by_all mods.now before.now ≡ Some u) }
         requires units { AreUnits units.now }
         requires old { buffer ≡ 0 → AllStand before.now (units_of self.now.kept) }
-        ensures course { IfOk result
-            (λ c. IsCourse buffer mods.now before.now (units_of self.now.kept) self.now.parts units.now c) }
+        requires strays { buffer ≡ 0 → StandAside before.now self.now.strays }
+        ensures course { IfOk result (λ c. IsCourse buffer mods.now before.now (units_of self.now.kept) self.now.parts
+            self.now.strays units.now c) }
         ensures counted { steps.new ≤ steps.old + cost_of mods.now }
     {
-        edit_course(alloc, buffer, before, mods, &self.bridges, units, steps)
+        edit_course(
+            alloc,
+            buffer,
+            before,
+            mods,
+            &self.bridges,
+            &self.strays,
+            units,
+            steps,
+        )
     }
 
     /// What `carry` does, by the course through the edit that `course` tells. It takes no step, and doesn't follow the
@@ -326,11 +364,22 @@ impl Bridges {
         requires new { buffer ≡ 0 → (u : WideTree) → changed_by_all mods.now before.now ≡ Some u
             → AllStand u units.items }
         requires same { (buffer ≡ 0 → ⊥) → AreSameBodies (units_of self.old.kept) units.items }
-        requires course { IsCourse buffer mods.now before.now (units_of self.old.kept) self.old.parts units.items course }
+        requires strays { buffer ≡ 0 → StandAside before.now self.old.strays }
+        requires course { IsCourse buffer mods.now before.now (units_of self.old.kept) self.old.parts self.old.strays
+            units.items course }
         ensures carried { OnOk result (self.new.kept ≡ Carry buffer mods.now before.now self.old.kept units.items) }
         ensures parts { OnOk result (self.new.parts ≡ CarryParts self.old.parts
-            (PartMoves buffer mods.now before.now (units_of self.old.kept) self.old.parts units.items)
+            (PartMoves buffer mods.now before.now (units_of self.old.kept) self.old.parts
+            (kept_strays self.old.strays) units.items)
             self.new.sources) }
+        ensures strays { OnOk result (kept_strays self.new.strays ≡ CarryStrays
+            (PartMoves buffer mods.now before.now (units_of self.old.kept) self.old.parts
+            (kept_strays self.old.strays) units.items)
+            (length units.items)) }
+        ensures stand { OnOk result (buffer ≡ 0 → (u : WideTree) → changed_by_all mods.now before.now ≡ Some u
+            → StandAside u self.new.strays) }
+        ensures stay { OnOk result ((buffer ≡ 0 → ⊥) → (u : WideTree) → StandAside u self.old.strays
+            → StandAside u self.new.strays) }
         ensures sources { OnOk result
             (self.new.sources ≡ Sources buffer mods.now before.now (units_of self.old.kept) units.items) }
         ensures once { OnOk result ((i j k : ℕ) → slice_get self.new.sources j ≡ Some (Some i)
@@ -342,7 +391,7 @@ impl Bridges {
     {
         carried_list_law();
         carried_law();
-        give_over(alloc, &mut self.bridges, units, course)?;
+        give_over(alloc, &mut self.bridges, &mut self.strays, units, course)?;
         self.way = Way::Listed;
         self.settled = false;
         Ok(())
@@ -381,8 +430,9 @@ impl Bridges {
     }
 
     /// What `carry` does where the unit of number `changed`, which `one_changed` tells, has this tree afterwards, and
-    /// each other one stays as it is. `moved` are the parts that `moved_parts` tells. It goes over no list but that of
-    /// that unit's parts, and takes no memory.
+    /// each other one stays as it is. `moved` are the parts that `moved_parts` tells. Strays whose trees hold that
+    /// unit's go, and the others stay. It goes over no lists but that of that unit's parts and that of strays, and
+    /// takes no memory.
     pub fn carry_in_place(
         &mut self,
         before: &Tree,
@@ -399,6 +449,7 @@ impl Bridges {
             → StandsNow changed tree u (units_of self.old.kept) }
         requires moved { (u : DocUnit) (ks : KeptParts) → slice_get (units_of self.old.kept) changed ≡ Some u
             → slice_get self.old.parts changed ≡ Some ks → AreMovedParts mods.now before.now u ks moved.items }
+        requires strays { StandAside before.now self.old.strays }
         ensures carried { self.new.kept ≡ Carry 0 mods.now before.now self.old.kept
             (units_with changed tree (units_of self.old.kept)) }
         ensures parts { self.new.parts
@@ -409,9 +460,13 @@ impl Bridges {
             → slice_get self.new.sources k ≡ Some (Some i) → j ≡ k }
         ensures numbers { self.new.sources ≡ numbers_but changed 0 (length (units_of self.old.kept)) }
         ensures units { units_of self.new.kept ≡ units_with changed tree (units_of self.old.kept) }
+        ensures strays { self.new.strays ≡ StraysBeside changed (units_of self.old.kept) self.old.strays }
+        ensures stand { (u : WideTree) → changed_by_all mods.now before.now ≡ Some u
+            → StandAside u self.new.strays }
     {
         carried_list_law();
         carried_law();
+        keep_beside(&mut self.strays, &self.bridges[changed].unit);
         let silent = change_one(&mut self.bridges, tree, moved, changed);
         self.way = Way::InPlace(changed);
         self.settled = self.settled && silent;
@@ -423,6 +478,7 @@ impl Bridges {
             (λ o. option_map (λ e. e.trace) (slice_get self.now.kept i) ≡ Some (wide_outcome o.now)) }
         ensures holds { AllHold self.now.kept }
         ensures parts_hold { AllPartsHold self.now.kept self.now.parts }
+        ensures strays_hold { AreStrays (units_of self.now.kept) self.now.strays }
     {
         match self.bridges.get(i as usize) {
             None => None,

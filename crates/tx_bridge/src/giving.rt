@@ -29,7 +29,8 @@ fn same_unit(unit: &Unit, other: &Unit) -> bool
     same_kind(unit.kind, other.kind) && same_trees(&unit.tagged.tree, &other.tagged.tree)
 }
 
-fn has_path(unit: &Unit, path: &Path) -> bool
+// The unit has this path.
+pub(crate) fn has_path(unit: &Unit, path: &Path) -> bool
     ensures { result ≡ is_path path.now unit.now.path }
 {
     match &unit.path {
@@ -62,7 +63,7 @@ fn last_number(path: &Path) -> Option<u32>
     Some(steps[steps.len() - 1])
 }
 
-fn is_in_order(unit: &Unit, i: usize, first: usize) -> bool
+pub(crate) fn is_in_order(unit: &Unit, i: usize, first: usize) -> bool
     ensures { IsTrue result → IsInOrder first i unit.now }
 {
     match &unit.path {

@@ -17,6 +17,7 @@ mod lost;
 mod moments;
 mod paths_after;
 mod replacing;
+mod strays;
 mod unit_parts;
 mod within;
 

@@ -163,6 +163,7 @@ impl Moment {
             &mut self.env,
             allowance,
             kept,
+            &[],
             steps,
         )?;
         Ok(Evaluated {

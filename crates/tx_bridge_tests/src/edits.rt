@@ -1,5 +1,5 @@
 // Edits, and the units that are reached behind them.
-ghost use Rattle.std.specs.Prelude.{◌≡◌, ◌<◌, ◌≤◌, Some, length, IfSome, OnSome};
+ghost use Rattle.std.specs.Prelude.{◌≡◌, ◌<◌, ◌≤◌, Some, [], length, IfSome, OnSome};
 ghost use Rattle.tx_mod.specs.Followed.{changed_by_all};
 ghost use Rattle.tx_bridge.specs.Carrying.{StandsNow};
 ghost use Rattle.tx_units.specs.Units.{units};
@@ -85,7 +85,8 @@ pub(crate) fn from_nothing<L: Ledger>(
 ) -> Option<Bridges>
     requires some { 1 ≤ length buffers.now }
     requires few { length buffers.now ≤ 16 }
-    ensures { IfSome result (λ b. units_of b.kept ≡ units buffers.now) }
+    ensures units { IfSome result (λ b. units_of b.kept ≡ units buffers.now) }
+    ensures strays { IfSome result (λ b. b.strays ≡ []) }
 {
     unit_list_laws();
     let units = units(alloc, buffers, steps).ok()?;
@@ -106,7 +107,9 @@ fn edit<L: Ledger>(
     requires some { k < length buffers.old }
     requires few { length buffers.old ≤ 16 }
     requires units { units_of bridges.old.kept ≡ units buffers.old }
+    requires strays { bridges.old.strays ≡ [] }
     ensures units { OnSome result (units_of bridges.new.kept ≡ units buffers.new) }
+    ensures strays { OnSome result (bridges.new.strays ≡ []) }
     ensures many { length buffers.new ≡ length buffers.old }
 {
     unit_list_laws();
@@ -199,7 +202,9 @@ fn holds<L: Ledger>(
     requires some { 1 ≤ length buffers.old }
     requires few { length buffers.old ≤ 16 }
     requires units { units_of bridges.old.kept ≡ units buffers.old }
+    requires strays { bridges.old.strays ≡ [] }
     ensures units { OnSome result (units_of bridges.new.kept ≡ units buffers.new) }
+    ensures strays { OnSome result (bridges.new.strays ≡ []) }
     ensures many { length buffers.new ≡ length buffers.old }
 {
     let (k, line, marks) = *change;
@@ -222,6 +227,7 @@ fn all_hold<L: Ledger>(
     requires some { 1 ≤ length buffers.old }
     requires few { length buffers.old ≤ 16 }
     requires units { units_of bridges.old.kept ≡ units buffers.old }
+    requires strays { bridges.old.strays ≡ [] }
 {
     for change in changes {
         let Some(right) = holds(alloc, bridges, buffers, change, steps) else {

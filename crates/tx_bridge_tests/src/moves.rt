@@ -1,7 +1,9 @@
 // Parts that go with the edit to where they stand then, also in other paragraphs.
-ghost use Rattle.std.specs.Prelude.{◌≡◌, ◌≤◌, Some, length, IfSome, OnSome};
+ghost use Rattle.std.specs.Prelude.{◌≡◌, ◌≤◌, Some, [], length, IfSome, OnSome};
+ghost use Rattle.tx_doc.specs.Buffers.{document_of};
 ghost use Rattle.tx_mod.specs.Followed.{changed_by_all};
 ghost use Rattle.tx_bridge.specs.Entries.{units_of};
+ghost use Rattle.tx_bridge.specs.Strays.{StandAside};
 ghost use Rattle.tx_units.specs.Units.{units};
 
 use crate::edits::{BASE, are_fresh, buffers_of, change_of, from_nothing};
@@ -176,6 +178,28 @@ const ROWS: &[Row] = &[
             ("assign-node /0 document", "/0x/1x /.", 6),
         ],
     ),
+    // a body that is put in: what stood in the document is kept until it is taken out again, or till a refresh
+    (
+        "d (document \"abc\" (document \"de\" \"f\"))",
+        &[
+            ("insert / 0 (tuple (body \"x\"))", "", 0),
+            ("remove / 0 1", "/. /0./1.", 0),
+            ("insert / 0 (tuple (body \"x\"))", "", 0),
+            ("assign /2/1 \"ghi\";insert / 1 (tuple \"z\")", "", 0),
+            ("remove / 0 2", "/. /0./1x", 4),
+            ("insert / 0 (tuple (body \"x\"))", "/x", 2),
+            ("remove / 0 1", "/x /0x/1x", 11),
+        ],
+    ),
+    // an edit of a paragraph of that body leaves it, and it is in a paragraph again where the body is none any more
+    (
+        "d (document \"abc\" \"de\")",
+        &[
+            ("insert / 0 (tuple (body \"x\"))", "", 0),
+            ("assign /0/0 \"yz\"", "", 0),
+            ("assign-node /0 document", "/0x /. /.", 3),
+        ],
+    ),
     // a body that gets a frame, and one that leaves it
     (
         "d (document \"ab\" (document \"cd\" \"e\"))",
@@ -228,7 +252,9 @@ fn edit<L: Ledger>(
     requires some { 1 ≤ length buffers.old }
     requires few { length buffers.old ≤ 16 }
     requires units { units_of bridges.old.kept ≡ units buffers.old }
+    requires strays { StandAside (document_of buffers.old) bridges.old.strays }
     ensures units { OnSome result (units_of bridges.new.kept ≡ units buffers.new) }
+    ensures strays { OnSome result (StandAside (document_of buffers.new) bridges.new.strays) }
     ensures many { length buffers.new ≡ length buffers.old }
 {
     unit_list_laws();
@@ -281,7 +307,8 @@ fn is_brought_to<L: Ledger>(
 ) -> Option<bool>
     requires some { 1 ≤ length buffers.now }
     requires few { length buffers.now ≤ 16 }
-    ensures { units_of bridges.new.kept ≡ units_of bridges.old.kept }
+    ensures units { units_of bridges.new.kept ≡ units_of bridges.old.kept }
+    ensures strays { OnSome result (bridges.new.strays ≡ []) }
 {
     let charges = bridges.refresh(alloc, steps).ok()?;
     let fresh = from_nothing(alloc, buffers, steps)?;
@@ -300,7 +327,9 @@ fn holds<L: Ledger>(
     requires some { 1 ≤ length buffers.old }
     requires few { length buffers.old ≤ 16 }
     requires units { units_of bridges.old.kept ≡ units buffers.old }
+    requires strays { StandAside (document_of buffers.old) bridges.old.strays }
     ensures units { OnSome result (units_of bridges.new.kept ≡ units buffers.new) }
+    ensures strays { OnSome result (StandAside (document_of buffers.new) bridges.new.strays) }
     ensures many { length buffers.new ≡ length buffers.old }
 {
     edit(alloc, bridges, buffers, row.0, steps)?;
@@ -320,6 +349,7 @@ fn all_hold<L: Ledger>(
     requires some { 1 ≤ length buffers.old }
     requires few { length buffers.old ≤ 16 }
     requires units { units_of bridges.old.kept ≡ units buffers.old }
+    requires strays { StandAside (document_of buffers.old) bridges.old.strays }
 {
     for edit in edits {
         let Some(right) = holds(alloc, bridges, buffers, edit, steps) else {

@@ -20,7 +20,7 @@ use Rattle.tx_bridge.specs.PartsKept.{KeptParts}
 use Rattle.tx_unit_layout.specs.LaidAts.{LaidAt, laid_at}
 use Rattle.tx_unit_layout.specs.declared.shown.Shown.{Shown}
 use Rattle.tx_unit_layout.specs.Views.{IsReadable}
-use Rattle.tx_view.specs.Laid.{AreLaid, IsBlank, AreBlank, AreArrived, laid_in, laid_parts_in}
+use Rattle.tx_view.specs.Laid.{PlacedLists, AreLaid, IsBlank, AreBlank, AreArrived, laid_in, laid_parts_in}
 use Rattle.tx_view.proofs.Moved.{blank_reads}
 use Rattle.tx_view.proofs.OfParts.{blank_is_laid, none_wide}
 
@@ -39,7 +39,7 @@ blank_next us i u all new x inside is h one e =
     (sym (take_more us i u inside ∙ ap (λ v. take i us ++ v ∷ []) (sym is)))
     (subst (λ (xs : List Shown). AreBlank (take i us ++ u ∷ []) xs) (sym e) (more_blank (take i us) all u x h one))
 
-pub arrived_many : (old : List Shown) (moves : List Move) (j : ℕ) (us : List DocUnit) (xs : List Shown)
+pub arrived_many : (old : PlacedLists) (moves : List Move) (j : ℕ) (us : List DocUnit) (xs : List Shown)
     → AreArrived old moves j us xs → length xs ≡ length us
 arrived_many old moves j [] [] h = refl
 arrived_many old moves j [] (x ∷ xs) h = absurd h

@@ -7,10 +7,12 @@ use Rattle.std.specs.Prelude.{if◌then◌else◌}
 use Rattle.std.specs.Str.{bytes_eq}
 use Rattle.tx_exec_form.specs.Evaluated.{WideTrace}
 use Rattle.tx_part_layout.specs.declared.laid.PlacedPart.{PlacedPart}
-use Rattle.tx_bridge.specs.Entries.{Kept}
+use Rattle.tx_doc.specs.Buffers.{document_of}
+use Rattle.tx_bridge.specs.Entries.{Kept, units_of}
 use Rattle.tx_bridge.specs.HeldParts.{AllPartsHold}
 use Rattle.tx_bridge.specs.PartsKept.{KeptParts, kept_at}
 use Rattle.tx_bridge.specs.Sound.{AllHold}
+use Rattle.tx_bridge.specs.Strays.{AreStrays, kept_strays}
 use Rattle.tx_unit_layout.specs.LaidAts.{LaidAt, laid_at}
 use Rattle.tx_unit_layout.specs.LaidUnits.{AreOf}
 use Rattle.tx_unit_layout.specs.declared.shown.Shown.{Shown}
@@ -19,6 +21,7 @@ use Rattle.tx_view.specs.Names.{Holds}
 use Rattle.tx_view.specs.Stores.{IsKeptAt, AllLaidAreKept}
 use Rattle.tx_view.specs.WholeViews.{WholeView, whole_of, all_of, IsKept}
 use Rattle.tx_view.specs.declared.view.View.TheInside.{Inside}
+use Rattle.tx_view.proofs.Aside.{all_hold_aside}
 use Rattle.tx_view.proofs.Blank.{as_many_laid}
 
 each_kept : (ks : KeptParts) (ps : List PlacedPart) → AreOf ks ps → AllByRecursion (IsKeptAt ks) (map laid_at ps)
@@ -62,13 +65,16 @@ laid_kept width (e ∷ es) (ks ∷ pss) (x ∷ xs) h = (
 )
 
 pub kept_holds : (v : Inside) (w : WholeView) → whole_of v ≡ w → IsKept v → AllHold v.bridges.kept
-    → AllPartsHold v.bridges.kept v.bridges.parts → Holds w.buffers w.stores
+    → AllPartsHold v.bridges.kept v.bridges.parts → AreStrays (units_of v.bridges.kept) v.bridges.strays
+    → Holds w.buffers w.stores
 unfolding Holds
-kept_holds v w is kept hold parts =
+kept_holds v w is kept hold parts strays =
     subst (λ (x : WholeView). Holds x.buffers x.stores) is (
       hold,
       parts,
       kept.of_buffers,
       as_many_laid v.width v.bridges.kept v.bridges.parts (all_of v) kept.laid,
       laid_kept v.width v.bridges.kept v.bridges.parts (all_of v) kept.laid,
+      all_hold_aside (document_of v.buffers.items) (units_of v.bridges.kept) v.bridges.strays strays kept.aside,
+      unit_kept (kept_strays v.bridges.strays) v.strays kept.strays.of_kept,
     )

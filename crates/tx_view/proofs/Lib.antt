@@ -13,6 +13,7 @@ pub mod Keeping
 pub mod Renewed
 pub mod Onward
 pub mod OfParts
+pub mod Aside
 pub mod ShortParts
 pub mod Numbers
 pub mod Adding

@@ -3,10 +3,10 @@ use Rattle.std.proofs.Common.{◌≡◌, ℕ, zero, suc, ◌+◌, ◌<◌, ◌�
 use Rattle.std.proofs.Common.{slice_index_or, true, false, Option, Some, None, refl, ap, sym}
 use Rattle.std.proofs.Common.{subst, ◌∙◌, arith}
 use Rattle.std.proofs.lemmas.List.{drop_more, drop-drop, drop-set-lt, append_assoc, append-nil, take_more_set, take_all}
-use Rattle.std.proofs.lemmas.List.{drop_all}
+use Rattle.std.proofs.lemmas.List.{drop_all, length-map}
 use Rattle.std.proofs.lemmas.List.Elements.{recursion_from_All, All-from_recursion}
 use Rattle.std.proofs.lemmas.Option.{slice_get-map, slice_get_within, same_Some}
-use Rattle.std.specs.List.{All, AllByRecursion, filter_map}
+use Rattle.std.specs.List.{All, AllByRecursion}
 use Rattle.std.specs.Option.{option_map, option_map_or}
 use Rattle.std.specs.Prelude.{slice_get, option_and_then, is_some, Bool, if◌then◌else◌}
 use Rattle.tx_tree.specs.WideTree.{WideTree}
@@ -23,7 +23,7 @@ use Rattle.tx_bridge.specs.Entries.{Entry, Kept, units_of, traces_of}
 use Rattle.tx_bridge.specs.Carrying.{unit_places_after, sources_from, had, taken_from, mods_of, HaveSameTrees}
 use Rattle.tx_bridge.specs.Carrying.{source, number_at, same_number, same_unit, is_path}
 use Rattle.tx_bridge.specs.HeldParts.{AllPartsHold}
-use Rattle.tx_bridge.specs.Names.{Sources, Carry as CarryKept, CarryParts, PartMoves}
+use Rattle.tx_bridge.specs.Names.{Sources, Carry as CarryKept, CarryParts, CarryStrays, PartMoves}
 use Rattle.tx_bridge.specs.PartMoves.{Move, parts_now, all_parts_now}
 use Rattle.tx_bridge.specs.PartsKept.{KeptParts}
 use Rattle.tx_part_items.specs.ItemsUnder.{paragraph_under}
@@ -31,16 +31,17 @@ use Rattle.tx_part_layout.specs.LaidParts.{placed_lines}
 use Rattle.tx_part_layout.specs.LinesUnder.{line_under}
 use Rattle.tx_part_layout.specs.declared.laid.PlacedPart.{PlacedPart}
 use Rattle.tx_unit_layout.specs.LaidAts.{LaidAt, laid_at}
-use Rattle.tx_unit_layout.specs.LaidUnits.{IsLaid, IsLaidOut}
+use Rattle.tx_unit_layout.specs.LaidUnits.{IsLaid, IsLaidOut, AreLaidParts}
 use Rattle.tx_unit_layout.specs.Moving.{WidePart}
 use Rattle.tx_unit_layout.specs.Views.{IsReadable}
 use Rattle.tx_unit_layout.specs.declared.shown.Shown.{Shown}
-use Rattle.tx_view.specs.Exchanged.{laid_now, all_laid_now}
-use Rattle.tx_view.specs.Laid.{AreLaid, IsBlank, AreArrived, laid_in, laid_parts_in, taking_shown, source_shown, moved}
-use Rattle.tx_view.specs.Laid.{going, wide_in_unit}
-use Rattle.tx_view.proofs.Comers.{AreMovesOf, HasShortLines, HasShortItems, moves_are, going_are, all_come}
-use Rattle.tx_view.proofs.Comers.{arrived_laid, arrived_ats, none_comes, short_lines, short_items}
-use Rattle.tx_view.proofs.Numbers.{AreFrom, from_first, some_there}
+use Rattle.tx_view.specs.Exchanged.{laid_arrived, laid_now, laid_with, all_laid_now}
+use Rattle.tx_view.specs.Laid.{PlacedLists, AreLaid, IsBlank, AreArrived, HaveArrived, HasShortPlaces, laid_in}
+use Rattle.tx_view.specs.Laid.{laid_parts_in, placed_in, wide_arrived, taking_shown, source_shown, moved, going}
+use Rattle.tx_view.proofs.Comers.{AreMovesOf, AreAllLaid, AllParts, HasShortLines, HasShortItems, all_kept, moves_are}
+use Rattle.tx_view.proofs.Comers.{going_are, all_come, all_laid_with, arrived_laid, ats_with, arrived_ats, none_comes}
+use Rattle.tx_view.proofs.Comers.{short_lines, short_items, short_places}
+use Rattle.tx_view.proofs.Numbers.{AreFrom, from_first, some_there, at_front}
 use Rattle.tx_view.proofs.OfParts.{AreDistinct, all_distinct, arrived_is_laid, same_ats, none_wide, at_wide, wide_ats}
 use Rattle.tx_view.proofs.ShortParts.{parts_are_short}
 
@@ -219,17 +220,23 @@ out_there width a v p q r y e is h = record {
 abbrev entry : DocUnit → Option WideTrace → Entry
 entry v o = record { unit = v; trace = o }
 
-one_moved : (width : ℕ) (old : Kept) (pss : List KeptParts) (olds : List Shown) (all : List DocUnit)
-    (moves : List Move) (j : ℕ) (s : Option ℕ) (v : DocUnit) (x : Shown) → AreLaid width old pss olds
-    → AreMovesOf pss all moves → IsBlank v.path (filter_map (wide_in_unit olds j) (going olds moves)) x
-    → Same (units_of old) s v → IsWithin (length olds) s → AreDistinct (parts_now pss moves j s)
+-- what units and strays had, with what was kept of it, and which of it has moved
+pub record HadMoved (width : ℕ) (kss : List KeptParts) (placed : PlacedLists) (all : List DocUnit)
+    (moves : List Move) : Type 0 where
+  pub laid : AreAllLaid width kss placed
+  pub told : AreMovesOf kss all moves
+
+one_moved : (width : ℕ) (old : Kept) (pss : List KeptParts) (olds : List Shown) (kss : List KeptParts)
+    (placed : PlacedLists) (all : List DocUnit) (moves : List Move) (j : ℕ) (s : Option ℕ) (v : DocUnit)
+    (x : Shown) → AreLaid width old pss olds → HadMoved width kss placed all moves
+    → IsBlank v.path (wide_arrived placed (going placed moves) j) x → Same (units_of old) s v
+    → IsWithin (length olds) s → AreDistinct (parts_now pss moves j s)
     → IsLaid width (entry v (had (traces_of old) s)) (parts_now pss moves j s) (parts_now pss moves j s)
     (taking_shown x (source_shown olds s))
-one_moved width old pss olds all moves j None v x laid are blank same within apart =
-    arrived_is_laid width (entry v None) (parts_now pss moves j None)
-    (filter_map (wide_in_unit olds j) (going olds moves)) x blank
-    (arrived_laid width old pss olds all j moves x.parts laid are blank.parts apart)
-one_moved width old pss olds all moves j (Some i) v x laid are blank same within apart =
+one_moved width old pss olds kss placed all moves j None v x laid move blank same within apart =
+    arrived_is_laid width (entry v None) (parts_now pss moves j None) (wide_arrived placed (going placed moves) j) x
+    blank (arrived_laid width kss placed all j moves x.parts move.laid move.told blank.parts apart)
+one_moved width old pss olds kss placed all moves j (Some i) v x laid move blank same within apart =
     by old pss olds i laid (within i refl) (λ u. same i u refl)
   where
     by : (es : Kept) (qss : List KeptParts) (ys : List Shown) (k : ℕ) → AreLaid width es qss ys → k < length ys
@@ -256,24 +263,29 @@ one_moved width old pss olds all moves j (Some i) v x laid are blank same within
         }
     by (e ∷ es) (ks ∷ qss) (y ∷ ys) (suc k) h inside alike = by es qss ys k h.1 (omega (arith, inside)) alike
 
-pub all_moved : (width : ℕ) (old : Kept) (pss : List KeptParts) (olds : List Shown) (all : List DocUnit)
-    (moves : List Move) (j : ℕ) (ss : List (Option ℕ)) (vs : List DocUnit) (xs : List Shown)
-    → AreLaid width old pss olds → AreMovesOf pss all moves → AreArrived olds (going olds moves) j vs xs
+pub all_moved : (width : ℕ) (old : Kept) (pss : List KeptParts) (olds : List Shown) (kss : List KeptParts)
+    (placed : PlacedLists) (all : List DocUnit) (moves : List Move) (j : ℕ) (ss : List (Option ℕ))
+    (vs : List DocUnit) (xs : List Shown) → AreLaid width old pss olds → HadMoved width kss placed all moves
+    → AreArrived placed (going placed moves) j vs xs
     → AllSame (units_of old) ss vs → AreWithin (length olds) ss → length ss ≡ length vs
     → AllByRecursion AreDistinct (all_parts_now pss moves j ss)
     → AreLaid width (taken_from (traces_of old) ss vs) (all_parts_now pss moves j ss) (moved ss olds xs)
-all_moved width old pss olds all moves j [] [] [] laid are blank same within many apart = tt
-all_moved width old pss olds all moves j [] [] (x ∷ xs) laid are blank same within many apart = absurd blank
-all_moved width old pss olds all moves j [] (v ∷ vs) xs laid are blank same within many apart =
+all_moved width old pss olds kss placed all moves j [] [] [] laid move blank same within many apart = tt
+all_moved width old pss olds kss placed all moves j [] [] (x ∷ xs) laid move blank same within many apart =
+    absurd blank
+all_moved width old pss olds kss placed all moves j [] (v ∷ vs) xs laid move blank same within many apart =
     absurd (omega (arith, many))
-all_moved width old pss olds all moves j (s ∷ ss) [] xs laid are blank same within many apart =
+all_moved width old pss olds kss placed all moves j (s ∷ ss) [] xs laid move blank same within many apart =
     absurd (omega (arith, many))
-all_moved width old pss olds all moves j (s ∷ ss) (v ∷ vs) [] laid are blank same within many apart = absurd blank
-all_moved width old pss olds all moves j (s ∷ ss) (v ∷ vs) (x ∷ xs) laid are blank same within many apart = (
-  one_moved width old pss olds all moves j s v x laid are blank.0 same.0 within.0 apart.0,
-  all_moved width old pss olds all moves (j + 1) ss vs xs laid are blank.1 same.1 within.1 (omega (arith, many))
-      apart.1,
-)
+all_moved width old pss olds kss placed all moves j (s ∷ ss) (v ∷ vs) [] laid move blank same within many apart =
+    absurd blank
+all_moved width old pss olds kss placed all moves j (s ∷ ss) (v ∷ vs) (x ∷ xs) laid move blank same within many
+    apart = (
+      one_moved width old pss olds kss placed all moves j s v x laid move blank.0 same.0 within.0 apart.0,
+      all_moved width old pss olds kss placed all moves (j + 1) ss vs xs laid move blank.1 same.1 within.1
+          (omega (arith, many))
+          apart.1,
+    )
 
 attributes_one : (olds : List Shown) (s : Option ℕ) (x : Shown) → x.laid ≡ None
     → (taking_shown x (source_shown olds s)).laid ≡ had (laid_in olds) s
@@ -286,45 +298,55 @@ attributes_one olds (Some i) x none =
     by None = none
     by (Some y) = refl
 
-pub attributes_moved : (olds : List Shown) (moves : List Move) (j : ℕ) (ss : List (Option ℕ)) (vs : List DocUnit)
-    (xs : List Shown) → AreArrived olds moves j vs xs → length ss ≡ length vs
+pub attributes_moved : (olds : List Shown) (placed : PlacedLists) (moves : List Move) (j : ℕ)
+    (ss : List (Option ℕ)) (vs : List DocUnit) (xs : List Shown) → AreArrived placed moves j vs xs
+    → length ss ≡ length vs
     → laid_in (moved ss olds xs) ≡ map (had (laid_in olds)) ss
-attributes_moved olds moves j [] [] [] blank many = refl
-attributes_moved olds moves j [] [] (x ∷ xs) blank many = absurd blank
-attributes_moved olds moves j [] (v ∷ vs) xs blank many = absurd (omega (arith, many))
-attributes_moved olds moves j (s ∷ ss) [] xs blank many = absurd (omega (arith, many))
-attributes_moved olds moves j (s ∷ ss) (v ∷ vs) [] blank many = absurd blank
-attributes_moved olds moves j (s ∷ ss) (v ∷ vs) (x ∷ xs) blank many =
+attributes_moved olds placed moves j [] [] [] blank many = refl
+attributes_moved olds placed moves j [] [] (x ∷ xs) blank many = absurd blank
+attributes_moved olds placed moves j [] (v ∷ vs) xs blank many = absurd (omega (arith, many))
+attributes_moved olds placed moves j (s ∷ ss) [] xs blank many = absurd (omega (arith, many))
+attributes_moved olds placed moves j (s ∷ ss) (v ∷ vs) [] blank many = absurd blank
+attributes_moved olds placed moves j (s ∷ ss) (v ∷ vs) (x ∷ xs) blank many =
     ap (λ a. a ∷ laid_in (moved ss olds xs)) (attributes_one olds s x blank.0.laid)
     ∙ ap (λ bs. had (laid_in olds) s ∷ bs)
-    (attributes_moved olds moves (j + 1) ss vs xs blank.1 (omega (arith, many)))
+    (attributes_moved olds placed moves (j + 1) ss vs xs blank.1 (omega (arith, many)))
 
-ats_one : (olds : List Shown) (moves : List Move) (j : ℕ) (s : Option ℕ) (path : Option (List ℕ)) (x : Shown)
-    → IsBlank path (filter_map (wide_in_unit olds j) (going olds moves)) x → IsWithin (length olds) s
-    → map laid_at (taking_shown x (source_shown olds s)).parts ≡ laid_now (laid_parts_in olds) moves j s
-ats_one olds moves j None path x blank within =
-    sym (wide_ats x.parts) ∙ ap (map at_wide) blank.parts ∙ arrived_ats olds j moves
-ats_one olds moves j (Some i) path x blank within =
+ats_one : (olds : List Shown) (strays : List PlacedPart) (moves : List Move) (j : ℕ) (s : Option ℕ)
+    (path : Option (List ℕ)) (x : Shown)
+    → IsBlank path (wide_arrived (placed_in olds strays) (going (placed_in olds strays) moves) j) x
+    → IsWithin (length olds) s → map laid_at (taking_shown x (source_shown olds s)).parts
+    ≡ laid_now (laid_with (laid_parts_in olds) (map laid_at strays)) moves j s
+ats_one olds strays moves j None path x blank within =
+    sym (wide_ats x.parts) ∙ ap (map at_wide) blank.parts ∙ arrived_ats (placed_in olds strays) j moves
+    ∙ ap (λ lss. laid_arrived lss moves j) (ats_with olds strays)
+ats_one olds strays moves j (Some i) path x blank within =
+    let past : i ≡ length (laid_parts_in olds) → ⊥ =
+    λ e. omega (arith, e, within i refl, length-map olds (λ (y : Shown). map laid_at y.parts)) in
     by (slice_get olds i) (some_there olds i (within i refl))
-    ∙ ap (λ o. option_map_or (λ ls. ls) o []) (sym (slice_get-map (λ (y : Shown). map laid_at y.parts) olds i))
+    ∙ ap (λ o. option_map_or (λ ls. ls) o [])
+    (sym (slice_get-map (λ (y : Shown). map laid_at y.parts) olds i)
+    ∙ sym (at_front (laid_parts_in olds) (map laid_at strays) i past))
   where
     by : (o : Option Shown) → is_some o ≡ true → map laid_at (taking_shown x o).parts
         ≡ option_map_or (λ ls. ls) (option_map (λ (y : Shown). map laid_at y.parts) o) []
     by None some = cc
     by (Some y) some = refl
 
-pub ats_moved : (olds : List Shown) (moves : List Move) (j : ℕ) (ss : List (Option ℕ)) (vs : List DocUnit)
-    (xs : List Shown) → AreArrived olds (going olds moves) j vs xs → AreWithin (length olds) ss → length ss ≡ length vs
-    → laid_parts_in (moved ss olds xs) ≡ all_laid_now (laid_parts_in olds) moves j ss
-ats_moved olds moves j [] [] [] blank within many = refl
-ats_moved olds moves j [] [] (x ∷ xs) blank within many = absurd blank
-ats_moved olds moves j [] (v ∷ vs) xs blank within many = absurd (omega (arith, many))
-ats_moved olds moves j (s ∷ ss) [] xs blank within many = absurd (omega (arith, many))
-ats_moved olds moves j (s ∷ ss) (v ∷ vs) [] blank within many = absurd blank
-ats_moved olds moves j (s ∷ ss) (v ∷ vs) (x ∷ xs) blank within many =
-    ap (λ ls. ls ∷ laid_parts_in (moved ss olds xs)) (ats_one olds moves j s v.path x blank.0 within.0)
-    ∙ ap (λ lss. laid_now (laid_parts_in olds) moves j s ∷ lss)
-    (ats_moved olds moves (j + 1) ss vs xs blank.1 within.1 (omega (arith, many)))
+pub ats_moved : (olds : List Shown) (strays : List PlacedPart) (moves : List Move) (j : ℕ) (ss : List (Option ℕ))
+    (vs : List DocUnit) (xs : List Shown)
+    → AreArrived (placed_in olds strays) (going (placed_in olds strays) moves) j vs xs → AreWithin (length olds) ss
+    → length ss ≡ length vs → laid_parts_in (moved ss olds xs)
+    ≡ all_laid_now (laid_with (laid_parts_in olds) (map laid_at strays)) moves j ss
+ats_moved olds strays moves j [] [] [] blank within many = refl
+ats_moved olds strays moves j [] [] (x ∷ xs) blank within many = absurd blank
+ats_moved olds strays moves j [] (v ∷ vs) xs blank within many = absurd (omega (arith, many))
+ats_moved olds strays moves j (s ∷ ss) [] xs blank within many = absurd (omega (arith, many))
+ats_moved olds strays moves j (s ∷ ss) (v ∷ vs) [] blank within many = absurd blank
+ats_moved olds strays moves j (s ∷ ss) (v ∷ vs) (x ∷ xs) blank within many =
+    ap (λ ls. ls ∷ laid_parts_in (moved ss olds xs)) (ats_one olds strays moves j s v.path x blank.0 within.0)
+    ∙ ap (λ lss. laid_now (laid_with (laid_parts_in olds) (map laid_at strays)) moves j s ∷ lss)
+    (ats_moved olds strays moves (j + 1) ss vs xs blank.1 within.1 (omega (arith, many)))
 
 -- a unit without lines but those of parts that have moved to it
 arrived_reads : (path : Option (List ℕ)) (ps : List WidePart) (x : Shown) → IsBlank path ps x
@@ -351,19 +373,26 @@ none_where : (p q : Option (List ℕ)) → is_some p ≡ is_some q → q ≡ Non
 none_where None q e f = refl
 none_where (Some p) q e f = let off : true ≡ false = e ∙ ap is_some f in cc
 
-one_reads : (width : ℕ) (old : Kept) (pss : List KeptParts) (olds : List Shown) (all : List DocUnit)
-    (moves : List Move) (j : ℕ) (s : Option ℕ) (v : DocUnit) (x : Shown) → AreLaid width old pss olds
-    → AllByRecursion IsReadable olds → AreMovesOf pss all moves → slice_get all j ≡ Some v
-    → IsBlank v.path (filter_map (wide_in_unit olds j) moves) x → Same (units_of old) s v
+-- what is laid out of parts has short places, and this is told of their moves
+pub record CanMove (kss : List KeptParts) (placed : PlacedLists) (all : List DocUnit) (moves : List Move)
+    : Type 0 where
+  pub told : AreMovesOf kss all moves
+  pub lines : AllParts HasShortLines placed
+  pub items : AllParts HasShortItems placed
+
+one_reads : (width : ℕ) (old : Kept) (pss : List KeptParts) (olds : List Shown) (kss : List KeptParts)
+    (placed : PlacedLists) (all : List DocUnit) (moves : List Move) (j : ℕ) (s : Option ℕ) (v : DocUnit)
+    (x : Shown) → AreLaid width old pss olds → AllByRecursion IsReadable olds → CanMove kss placed all moves
+    → slice_get all j ≡ Some v → IsBlank v.path (wide_arrived placed moves j) x → Same (units_of old) s v
     → IsReadable (taking_shown x (source_shown olds s))
-one_reads width old pss olds all moves j s v x laid reads are at blank same = by_source s same
+one_reads width old pss olds kss placed all moves j s v x laid reads can at blank same = by_source s same
   where
     alone : IsReadable x
     alone =
-        arrived_reads v.path (filter_map (wide_in_unit olds j) moves) x blank
-        (λ e. none_wide x.parts (blank.parts ∙ none_comes pss all olds j v moves are at e))
-        (all_come HasShortLines olds j moves x.parts (short_lines olds reads) blank.parts)
-        (all_come HasShortItems olds j moves x.parts (short_items olds reads) blank.parts)
+        arrived_reads v.path (wide_arrived placed moves j) x blank
+        (λ e. none_wide x.parts (blank.parts ∙ none_comes kss all placed j v moves can.told at e))
+        (all_come HasShortLines placed j moves x.parts can.lines blank.parts)
+        (all_come HasShortItems placed j moves x.parts can.items blank.parts)
 
     by : (es : Kept) (qss : List KeptParts) (ys : List Shown) (k : ℕ) → AreLaid width es qss ys
         → AllByRecursion IsReadable ys
@@ -387,43 +416,48 @@ one_reads width old pss olds all moves j s v x laid reads are at blank same = by
     by_source None alike = alone
     by_source (Some i) alike = by old pss olds i laid reads (λ u there. sym (alike i u refl there).1)
 
-each_reads : (width : ℕ) (old : Kept) (pss : List KeptParts) (olds : List Shown) (all : List DocUnit)
-    (moves : List Move) (j : ℕ) (ss : List (Option ℕ)) (vs : List DocUnit) (xs : List Shown)
-    → AreLaid width old pss olds → AllByRecursion IsReadable olds → AreMovesOf pss all moves → AreFrom all j vs
-    → AreArrived olds moves j vs xs → AllSame (units_of old) ss vs → length ss ≡ length vs
+each_reads : (width : ℕ) (old : Kept) (pss : List KeptParts) (olds : List Shown) (kss : List KeptParts)
+    (placed : PlacedLists) (all : List DocUnit) (moves : List Move) (j : ℕ) (ss : List (Option ℕ))
+    (vs : List DocUnit) (xs : List Shown) → AreLaid width old pss olds → AllByRecursion IsReadable olds
+    → CanMove kss placed all moves → AreFrom all j vs → AreArrived placed moves j vs xs
+    → AllSame (units_of old) ss vs → length ss ≡ length vs
     → AllByRecursion IsReadable (moved ss olds xs)
-each_reads width old pss olds all moves j [] [] [] laid reads are from blank same many = tt
-each_reads width old pss olds all moves j [] [] (x ∷ xs) laid reads are from blank same many = absurd blank
-each_reads width old pss olds all moves j [] (v ∷ vs) xs laid reads are from blank same many =
+each_reads width old pss olds kss placed all moves j [] [] [] laid reads can from blank same many = tt
+each_reads width old pss olds kss placed all moves j [] [] (x ∷ xs) laid reads can from blank same many = absurd blank
+each_reads width old pss olds kss placed all moves j [] (v ∷ vs) xs laid reads can from blank same many =
     absurd (omega (arith, many))
-each_reads width old pss olds all moves j (s ∷ ss) [] xs laid reads are from blank same many =
+each_reads width old pss olds kss placed all moves j (s ∷ ss) [] xs laid reads can from blank same many =
     absurd (omega (arith, many))
-each_reads width old pss olds all moves j (s ∷ ss) (v ∷ vs) [] laid reads are from blank same many = absurd blank
-each_reads width old pss olds all moves j (s ∷ ss) (v ∷ vs) (x ∷ xs) laid reads are from blank same many = (
-  one_reads width old pss olds all moves j s v x laid reads are (from 0 j (omega arith)) blank.0 same.0,
-  each_reads width old pss olds all moves (j + 1) ss vs xs laid reads are
+each_reads width old pss olds kss placed all moves j (s ∷ ss) (v ∷ vs) [] laid reads can from blank same many =
+    absurd blank
+each_reads width old pss olds kss placed all moves j (s ∷ ss) (v ∷ vs) (x ∷ xs) laid reads can from blank same many = (
+  one_reads width old pss olds kss placed all moves j s v x laid reads can (from 0 j (omega arith)) blank.0 same.0,
+  each_reads width old pss olds kss placed all moves (j + 1) ss vs xs laid reads can
       (λ n m e. from (suc n) m (omega (arith, e))) blank.1 same.1 (omega (arith, many)),
 )
 
-pub all_read : (width : ℕ) (old : Kept) (pss : List KeptParts) (olds : List Shown) (moves : List Move)
-    (ss : List (Option ℕ)) (vs : List DocUnit) (xs : List Shown) → AreLaid width old pss olds → All IsReadable olds
-    → AreMovesOf pss vs moves → AreArrived olds moves 0 vs xs → AllSame (units_of old) ss vs → length ss ≡ length vs
+pub all_read : (width : ℕ) (old : Kept) (pss : List KeptParts) (olds : List Shown) (kss : List KeptParts)
+    (placed : PlacedLists) (moves : List Move) (ss : List (Option ℕ)) (vs : List DocUnit) (xs : List Shown)
+    → AreLaid width old pss olds → AllByRecursion IsReadable olds → CanMove kss placed vs moves
+    → AreArrived placed moves 0 vs xs → AllSame (units_of old) ss vs → length ss ≡ length vs
     → All IsReadable (moved ss olds xs)
-all_read width old pss olds moves ss vs xs laid reads are blank same many =
+all_read width old pss olds kss placed moves ss vs xs laid reads can blank same many =
     All-from_recursion IsReadable (moved ss olds xs)
-    (each_reads width old pss olds vs moves 0 ss vs xs laid (recursion_from_All IsReadable olds reads) are
-    (from_first vs) blank same many)
+    (each_reads width old pss olds kss placed vs moves 0 ss vs xs laid reads can (from_first vs) blank same many)
 
 -- ---- an edit of a buffer
 
-pub record IsCarried (width : ℕ) (new : Kept) (parts : List KeptParts) (laid : List (Option Attrs))
-    (lss : List (List LaidAt)) (xs : List Shown) : Type 0 where
-  pub laid_out : AreLaid width new parts xs
+pub record IsCarried (width : ℕ) (new : Kept) (pss : List KeptParts) (ks : KeptParts) (laid : List (Option Attrs))
+    (lss : List (List LaidAt)) (ls : List LaidAt) (xs : List Shown) (ps : List PlacedPart) : Type 0 where
+  pub laid_out : AreLaid width new pss xs
   pub readable : All IsReadable xs
   pub attributes : laid_in xs ≡ laid
   pub laid_parts : laid_parts_in xs ≡ lss
+  pub strays : AreLaidParts width ks ps
+  pub short : AllByRecursion HasShortPlaces ps
+  pub laid_strays : map laid_at ps ≡ ls
 
-as_many : (width : ℕ) (es : Kept) (pss : List KeptParts) (ys : List Shown) → AreLaid width es pss ys
+pub as_many : (width : ℕ) (es : Kept) (pss : List KeptParts) (ys : List Shown) → AreLaid width es pss ys
     → length ys ≡ length (units_of es)
 as_many width [] [] [] h = refl
 as_many width [] [] (y ∷ ys) h = absurd h
@@ -432,48 +466,86 @@ as_many width (e ∷ es) [] ys h = absurd h
 as_many width (e ∷ es) (ks ∷ pss) [] h = absurd h
 as_many width (e ∷ es) (ks ∷ pss) (y ∷ ys) h = ap suc (as_many width es pss ys h.1)
 
+many_parts : (width : ℕ) (es : Kept) (pss : List KeptParts) (ys : List Shown) → AreLaid width es pss ys
+    → length (units_of es) ≡ length pss
+many_parts width [] [] [] h = refl
+many_parts width [] [] (y ∷ ys) h = absurd h
+many_parts width [] (ks ∷ pss) ys h = absurd h
+many_parts width (e ∷ es) [] ys h = absurd h
+many_parts width (e ∷ es) (ks ∷ pss) [] h = absurd h
+many_parts width (e ∷ es) (ks ∷ pss) (y ∷ ys) h = ap suc (many_parts width es pss ys h.1)
+
 places_many : (ms : List Mod) (t : WideTree) (us : List DocUnit) → length (unit_places_after ms t us) ≡ length us
 places_many ms t [] = refl
 places_many ms t (u ∷ us) = ap suc (places_many ms t us)
 
+-- what was kept of units and strays, and what was laid out of them
+pub record WasKept (width : ℕ) (old : Kept) (pss : List KeptParts) (ks : KeptParts) (olds : List Shown)
+    (ps : List PlacedPart) : Type 0 where
+  pub laid : AreLaid width old pss olds
+  pub readable : All IsReadable olds
+  pub strays : AreLaidParts width ks ps
+  pub short : AllByRecursion HasShortPlaces ps
+
 pub carried_on : (width buffer : ℕ) (ms : List Mod) (t : WideTree) (old new : Kept) (pss qss : List KeptParts)
-    (olds blanks xs : List Shown) (ss : List (Option ℕ)) (vs : List DocUnit) → AreLaid width old pss olds
-    → All IsReadable olds → AllPartsHold new qss
-    → AreArrived olds (going olds (PartMoves buffer ms t (units_of old) pss vs)) 0 vs blanks
+    (ks js : KeptParts) (olds blanks xs : List Shown) (before after : List PlacedPart) (ss : List (Option ℕ))
+    (vs : List DocUnit) → WasKept width old pss ks olds before → AllPartsHold new qss → AreDistinct js
+    → HaveArrived (placed_in olds before)
+    (going (placed_in olds before) (PartMoves buffer ms t (units_of old) pss ks vs)) vs blanks after
     → HaveSameTrees (units_of old) vs ss → new ≡ CarryKept buffer ms t old vs
-    → qss ≡ CarryParts pss (PartMoves buffer ms t (units_of old) pss vs) ss
+    → qss ≡ CarryParts pss (PartMoves buffer ms t (units_of old) pss ks vs) ss
+    → js ≡ CarryStrays (PartMoves buffer ms t (units_of old) pss ks vs) (length vs)
     → ss ≡ Sources buffer ms t (units_of old) vs → xs ≡ moved ss olds blanks
-    → IsCarried width new qss (map (had (laid_in olds)) (Sources buffer ms t (units_of old) vs))
-    (all_laid_now (laid_parts_in olds) (PartMoves buffer ms t (units_of old) pss vs) 0
-    (Sources buffer ms t (units_of old) vs)) xs
-unfolding CarryKept CarryParts Sources
-carried_on width buffer ms t old new pss qss olds blanks xs ss vs laid reads hold blank trees is_new is_parts is_ss
-    is_xs =
+    → IsCarried width new qss js (map (had (laid_in olds)) (Sources buffer ms t (units_of old) vs))
+    (all_laid_now (laid_with (laid_parts_in olds) (map laid_at before))
+    (PartMoves buffer ms t (units_of old) pss ks vs) 0 (Sources buffer ms t (units_of old) vs))
+    (laid_arrived (laid_with (laid_parts_in olds) (map laid_at before))
+    (PartMoves buffer ms t (units_of old) pss ks vs) (length vs)) xs after
+unfolding CarryKept CarryParts CarryStrays Sources
+carried_on width buffer ms t old new pss qss ks js olds blanks xs before after ss vs was hold distinct blank trees
+    is_new is_parts is_strays is_ss is_xs =
     let us : List DocUnit = units_of old in
-    let moves : List Move = PartMoves buffer ms t us pss vs in
+    let moves : List Move = PartMoves buffer ms t us pss ks vs in
+    let kss : List KeptParts = all_kept pss ks in
+    let placed : PlacedLists = placed_in olds before in
     let places = unit_places_after (mods_of buffer ms) t us in
     let firsts : List (Option ℕ) = sources_from places us 0 vs in
     let same : AllSame us firsts vs =
     all_same us vs firsts (subst (λ (ts : List (Option ℕ)). HaveSameTrees us vs ts) is_ss trees) in
     let many : length firsts ≡ length vs = sources_many places us 0 vs in
     let within : AreWithin (length olds) firsts =
-    subst (λ n. AreWithin n firsts) (sym (as_many width old pss olds laid))
+    subst (λ n. AreWithin n firsts) (sym (as_many width old pss olds was.laid))
     (all_within places us 0 vs (places_many (mods_of buffer ms) t us)) in
     let are : xs ≡ moved firsts olds blanks = is_xs ∙ ap (λ ts. moved ts olds blanks) is_ss in
     let parts : qss ≡ all_parts_now pss moves 0 firsts = is_parts ∙ ap (all_parts_now pss moves 0) is_ss in
     let apart : AllByRecursion AreDistinct (all_parts_now pss moves 0 firsts) =
     subst (AllByRecursion AreDistinct) parts (all_distinct new qss hold) in
-    let told : AreMovesOf pss vs moves = moves_are buffer ms t us pss vs in
+    let told : AreMovesOf kss vs moves = moves_are buffer ms t us pss ks vs (many_parts width old pss olds was.laid) in
+    let all : AreAllLaid width kss placed = all_laid_with width old pss olds ks before was.laid was.strays in
+    let reads : AllByRecursion IsReadable olds = recursion_from_All IsReadable olds was.readable in
+    let lines : AllParts HasShortLines placed = short_lines olds before reads was.short in
+    let items : AllParts HasShortItems placed = short_items olds before reads was.short in
     record {
       laid_out =
           subst (λ (es : Kept). AreLaid width es qss xs) (sym is_new)
-          (subst (λ (js : List KeptParts). AreLaid width (taken_from (traces_of old) firsts vs) js xs) (sym parts)
+          (subst (λ (is : List KeptParts). AreLaid width (taken_from (traces_of old) firsts vs) is xs) (sym parts)
           (subst (AreLaid width (taken_from (traces_of old) firsts vs) (all_parts_now pss moves 0 firsts)) (sym are)
-          (all_moved width old pss olds vs moves 0 firsts vs blanks laid told blank same within many apart)));
+          (all_moved width old pss olds kss placed vs moves 0 firsts vs blanks was.laid
+          (record { laid = all; told = told }) blank.0 same within many apart)));
       readable =
           subst (All IsReadable) (sym are)
-          (all_read width old pss olds (going olds moves) firsts vs blanks laid reads
-          (going_are pss vs olds moves told) blank same many);
-      attributes = ap laid_in are ∙ attributes_moved olds (going olds moves) 0 firsts vs blanks blank many;
-      laid_parts = ap laid_parts_in are ∙ ats_moved olds moves 0 firsts vs blanks blank within many;
+          (all_read width old pss olds kss placed (going placed moves) firsts vs blanks was.laid reads
+          (record { told = going_are kss vs placed moves told; lines = lines; items = items }) blank.0 same many);
+      attributes = ap laid_in are ∙ attributes_moved olds placed (going placed moves) 0 firsts vs blanks blank.0 many;
+      laid_parts = ap laid_parts_in are ∙ ats_moved olds before moves 0 firsts vs blanks blank.0 within many;
+      strays =
+          subst (λ (is : KeptParts). AreLaidParts width is after) (sym is_strays)
+          (arrived_laid width kss placed vs (length vs) moves after all told blank.1 (subst AreDistinct is_strays
+          distinct));
+      short =
+          short_places after (all_come HasShortLines placed (length vs) (going placed moves) after lines blank.1)
+          (all_come HasShortItems placed (length vs) (going placed moves) after items blank.1);
+      laid_strays =
+          sym (wide_ats after) ∙ ap (map at_wide) blank.1 ∙ arrived_ats placed (length vs) moves
+          ∙ ap (λ lss. laid_arrived lss moves (length vs)) (ats_with olds before);
     }

@@ -1,5 +1,6 @@
 -- Numbers that are equal or not, and the elements of a list from a number on.
-use Rattle.std.proofs.Common.{◌≡◌, ℕ, zero, suc, ◌+◌, ◌<◌, true, false, List, [], ◌∷◌, length, refl, ap, arith}
+use Rattle.std.proofs.Common.{◌≡◌, ℕ, zero, suc, ◌+◌, ◌<◌, true, false, List, [], ◌∷◌, ◌++◌, length, Some, refl, ap}
+use Rattle.std.proofs.Common.{arith}
 use Rattle.std.proofs.lemmas.Bool.{false_from_ne_true}
 use Rattle.std.proofs.lemmas.Bool.Decides.{Decides-eqb}
 use Rattle.std.specs.Prelude.{slice_get, is_some, ◌==◌}
@@ -21,3 +22,15 @@ pub some_there : {A : Type 0} (xs : List A) (i : ℕ) → i < length xs → is_s
 some_there [] i less = absurd (omega (arith, less))
 some_there (x ∷ xs) zero less = refl
 some_there (x ∷ xs) (suc i) less = some_there xs i (omega (arith, less))
+
+-- the element that stands behind a list, and those of the list
+pub at_seam : {A : Type 0} (xs : List A) (y : A) → slice_get (xs ++ y ∷ []) (length xs) ≡ Some y
+at_seam [] y = refl
+at_seam (x ∷ xs) y = at_seam xs y
+
+pub at_front : {A : Type 0} (xs : List A) (y : A) (i : ℕ) → (i ≡ length xs → ⊥)
+    → slice_get (xs ++ y ∷ []) i ≡ slice_get xs i
+at_front [] y zero off = absurd (off refl)
+at_front [] y (suc i) off = refl
+at_front (x ∷ xs) y zero off = refl
+at_front (x ∷ xs) y (suc i) off = at_front xs y i (λ e. off (ap suc e))

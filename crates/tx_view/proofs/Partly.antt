@@ -6,12 +6,14 @@ use Rattle.std.proofs.lemmas.List.{take_all, drop_all, set-get_or}
 use Rattle.std.proofs.lemmas.Option.{slice_get_past}
 use Rattle.std.specs.List.{AllByRecursion}
 use Rattle.std.specs.Prelude.{slice_get}
+use Rattle.tx_tree.specs.WideTree.{WideTree}
 use Rattle.tx_units.specs.declared.kinds.Unit.{Unit as DocUnit}
 use Rattle.tx_items.specs.declared.attributes.Attrs.{Attrs}
 use Rattle.tx_view_form.specs.Outcomes.{beginning}
 use Rattle.tx_bridge.specs.Bridged.{Bridged}
 use Rattle.tx_bridge.specs.Entries.{Kept, units_of, fresh_from}
 use Rattle.tx_bridge.specs.PartsKept.{KeptParts, fresh_parts_from}
+use Rattle.tx_bridge.specs.Strays.{Stray, StandAside, kept_strays}
 use Rattle.tx_part_layout.specs.declared.laid.PlacedPart.{PlacedPart}
 use Rattle.tx_unit_layout.specs.LaidAts.{LaidAt, laid_at}
 use Rattle.tx_unit_layout.specs.declared.shown.Shown.{Shown}
@@ -99,14 +101,16 @@ pub dropped_all : (old new : Bridged) (xs ys : List Shown) (n : ℕ) → length 
     → units_of new.kept ≡ units_of old.kept
     → new.kept ≡ take n (fresh_from beginning (units_of old.kept)) ++ drop n old.kept
     → new.parts ≡ take n (fresh_parts_from beginning (units_of old.kept)) ++ drop n old.parts
-    → ys ≡ map dropped xs
+    → new.strays ≡ old.strays → ys ≡ map dropped xs
     → IsPartlyFresh (stores_in old xs) (fresh_stores (units_of old.kept)) (stores_in new ys)
-dropped_all old new xs ys n many same kept parts is = record {
+dropped_all old new xs ys n many same kept parts strays is = record {
   done = n;
   kept = kept;
   parts = parts;
   laid = λ i. by i (none_laid xs i);
   laid_parts = subst NoParts (sym is) (no_parts xs);
+  strays = inl (ap kept_strays strays);
+  laid_strays = refl;
 }
   where
     by : (i : ℕ) → (slice_get (laid_in (map dropped xs)) i ≡ Some None) ⊎ (length xs ≤ i)
@@ -228,10 +232,10 @@ all_taken xs ys n le le' =
 pub evaluated : (old new : Bridged) (xs mid ys : List Shown)
     → new.kept ≡ fresh_from beginning (units_of old.kept)
     → new.parts ≡ fresh_parts_from beginning (units_of old.kept) → units_of new.kept ≡ units_of old.kept
-    → StayLaid (stores_in old xs) (stores_in new mid)
+    → StayLaid (stores_in old xs) (stores_in new mid) → new.strays ≡ []
     → ArePartlyLaid (laid_in mid) (attributes_from beginning (units_of new.kept)) (laid_in ys)
     → IsPartlyFresh (stores_in old xs) (fresh_stores (units_of old.kept)) (stores_in new (without_parts ys))
-evaluated old new xs mid ys kept parts same stay laid =
+evaluated old new xs mid ys kept parts same stay strays laid =
     let us : List DocUnit = units_of old.kept in
     let fs : Kept = fresh_from beginning us in
     let ps : List KeptParts = fresh_parts_from beginning us in
@@ -242,6 +246,8 @@ evaluated old new xs mid ys kept parts same stay laid =
       parts = parts ∙ all_taken ps old.parts n (omega arith) (omega arith);
       laid = λ i. by i (units_left ys i) (stay i) (laid i);
       laid_parts = none_left ys;
+      strays = inr (ap kept_strays strays);
+      laid_strays = refl;
     }
   where
     by : (i : ℕ)
@@ -274,6 +280,8 @@ all_fresh old new us xs e =
       parts = ap (λ s. s.parts) e ∙ all_taken fresh.parts old.parts n (omega arith) (omega arith);
       laid = λ i. by i (units_left xs i);
       laid_parts = none_left xs;
+      strays = inr (ap (λ s. s.strays) e);
+      laid_strays = refl;
     }
   where
     by : (i : ℕ)
@@ -288,3 +296,10 @@ all_fresh old new us xs e =
           kept = ap (λ s. slice_get s.kept i) e;
           laid = g ∙ ap (λ s. slice_get s.laid i) e;
         }))
+
+-- ---- strays stand where they stood
+
+pub stay_aside : (t : WideTree) (old new : List Stray) → (new ≡ old) ⊎ (new ≡ []) → StandAside t old
+    → StandAside t new
+stay_aside t old new (inl same) stand = subst (StandAside t) (sym same) stand
+stay_aside t old new (inr none) stand = subst (StandAside t) (sym none) tt

@@ -1,8 +1,10 @@
 -- What a view keeps, where it isn't fresh, and where it is.
-use Rattle.std.proofs.Common.{◌≡◌, ℕ, ◌≤◌, List, [], ◌∷◌, length, Bool, true, false, Option, ap, sym}
+use Rattle.std.proofs.Common.{◌≡◌, ℕ, ◌+◌, ◌≤◌, List, [], ◌∷◌, length, map, Bool, true, false, Option, ap, sym}
 use Rattle.std.proofs.Common.{subst, ◌∙◌}
 use Rattle.std.proofs.lemmas.List.Elements.{All-nil}
+use Rattle.std.specs.List.{AllByRecursion}
 use Rattle.std.specs.Prelude.{if◌then◌else◌, None, IfSome, All}
+use Rattle.tx_doc.specs.Buffers.{document_of}
 use Rattle.tx_doc.specs.declared.buffer.Buffer.{Buffer}
 use Rattle.tx_lines.specs.declared.cut.Cut.{Cut}
 use Rattle.tx_units.specs.declared.kinds.Unit.{Unit as DocUnit}
@@ -12,20 +14,25 @@ use Rattle.tx_view_form.specs.Outcomes.{beginning}
 use Rattle.tx_view_form.specs.Views.{AreShown}
 use Rattle.tx_bridge.specs.PartsKept.{KeptParts, fresh_parts_from}
 use Rattle.tx_bridge.specs.Entries.{Kept, units_of, fresh_from}
-use Rattle.tx_unit_layout.specs.LaidAts.{LaidAt}
+use Rattle.tx_bridge.specs.Names.{Charge}
+use Rattle.tx_bridge.specs.Strays.{StandAside, kept_strays}
+use Rattle.tx_unit_layout.specs.LaidAts.{LaidAt, laid_at}
+use Rattle.tx_unit_layout.specs.LaidUnits.{AreLaidParts}
 use Rattle.tx_unit_layout.specs.declared.shown.Shown.{Shown}
 use Rattle.tx_view.specs.declared.view.View.TheInside.{Inside}
 use Rattle.tx_view.specs.declared.lone.Lone.{Lone}
-use Rattle.tx_view.specs.Laid.{AreLaid, laid_in, laid_parts_in}
+use Rattle.tx_view.specs.Costs.{items_relaid_from}
+use Rattle.tx_view.specs.Laid.{AreLaid, HasShortPlaces, laid_in, laid_parts_in, stores_in}
 use Rattle.tx_view.specs.Lone.{IsLone, IsPaged, WerePages}
 use Rattle.tx_view.specs.RowParts.{AreRowParts}
 use Rattle.tx_view.specs.Rows.{row_parts}
-use Rattle.tx_view.specs.Names.{Fresh}
+use Rattle.tx_view.specs.Names.{Bound, Fresh}
 use Rattle.tx_view.specs.Stores.{Stores, attributes_from, laid_parts_from, fresh_stores}
 use Rattle.tx_view.specs.Units.{unit_views, sums_from, row_counts, error_counts, IsBelow, AreAllApart}
 use Rattle.tx_unit_layout.specs.Views.{IsReadable}
-use Rattle.tx_view.specs.WholeViews.{WholeView, whole_of, all_of, IsKept}
+use Rattle.tx_view.specs.WholeViews.{WholeView, whole_of, all_of, stores_of, IsKept}
 use Rattle.tx_view.proofs.Forgetting.{AllReadable}
+use Rattle.tx_view.proofs.OfParts.{no_parts}
 
 -- what stays whatever becomes of a view
 pub record IsSized (v : Inside) : Type 0 where
@@ -45,10 +52,16 @@ IsLeft v =
     IfSome v.lone (λ l. IsLone v.bridges.kept v.hidden.items l.unit l.attrs
     × WerePages v.height (unit_views v.hidden.items) l)
 
+-- what is kept and laid out of strays
+pub record AreAside (v : Inside) : Type 0 where
+  pub laid : AreLaidParts v.width (kept_strays v.bridges.strays) v.strays
+  pub short : AllByRecursion HasShortPlaces v.strays
+  pub stand : StandAside (document_of v.buffers.items) v.bridges.strays
+
 pub stale : (v : Inside) → IsSized v → v.fresh ≡ false → v.units.items ≡ [] → v.paged.rows.items ≡ 0 ∷ []
     → v.paged.errors.items ≡ 0 ∷ [] → AreLaid v.width v.bridges.kept v.bridges.parts v.hidden.items
-    → AllReadable v.hidden.items → IsLeft v → IsKept v
-stale v sized off none rows errors laid reads left =
+    → AllReadable v.hidden.items → AreAside v → IsLeft v → IsKept v
+stale v sized off none rows errors laid reads aside left =
     let all : v.hidden.items ≡ all_of v = ap (λ b. if b then v.units.items else v.hidden.items) (sym off) in
     record {
       some = sized.some;
@@ -64,6 +77,9 @@ stale v sized off none rows errors laid reads left =
       of_buffers = sized.of_buffers;
       laid = subst (AreLaid v.width v.bridges.kept v.bridges.parts) all laid;
       all_readable = subst AllReadable all reads;
+      strays = aside.laid;
+      short = aside.short;
+      aside = aside.stand;
       rows = rows ∙ ap (λ xs. sums_from 0 (row_counts (unit_views xs))) (sym none);
       errors = errors ∙ ap (λ xs. sums_from 0 (error_counts (unit_views xs))) (sym none);
       readable = subst AllReadable (sym none) (All-nil IsReadable);
@@ -72,9 +88,13 @@ stale v sized off none rows errors laid reads left =
       lone = left;
     }
 
-abbrev whole_with : List Buffer → ℕ → ℕ → Bool → List Shown → List Cut → Kept → List KeptParts → List (Option Attrs)
-    → List (List LaidAt) → ℕ → WholeView
-whole_with bs w h f xs ps k pss l lss n =
+abbrev pub stores_with : Kept → List KeptParts → List (Option Attrs) → List (List LaidAt) → KeptParts → List LaidAt
+    → Stores
+stores_with k pss l lss ks ls =
+    record { kept = k; parts = pss; laid = l; laid_parts = lss; strays = ks; laid_strays = ls }
+
+abbrev whole_with : List Buffer → ℕ → ℕ → Bool → List Shown → List Cut → Stores → ℕ → WholeView
+whole_with bs w h f xs ps s n =
     record {
       buffers = bs;
       width = w;
@@ -82,14 +102,15 @@ whole_with bs w h f xs ps k pss l lss n =
       fresh = f;
       shown = record { units = unit_views xs; pages = ps };
       row_parts = row_parts xs;
-      stores = record { kept = k; parts = pss; laid = l; laid_parts = lss };
+      stores = s;
       work = n;
     }
 
 pub stale_view : (v : Inside) (bs : List Buffer) (k : Kept) (pss : List KeptParts) (l : List (Option Attrs))
-    (lss : List (List LaidAt)) → v.fresh ≡ false → v.units.items ≡ [] → v.paged.pages.items ≡ []
-    → v.buffers.items ≡ bs → v.bridges.kept ≡ k → v.bridges.parts ≡ pss → laid_in v.hidden.items ≡ l
-    → laid_parts_in v.hidden.items ≡ lss
+    (lss : List (List LaidAt)) (ks : KeptParts) (ls : List LaidAt) → v.fresh ≡ false → v.units.items ≡ []
+    → v.paged.pages.items ≡ [] → v.buffers.items ≡ bs → v.bridges.kept ≡ k → v.bridges.parts ≡ pss
+    → laid_in v.hidden.items ≡ l → laid_parts_in v.hidden.items ≡ lss → kept_strays v.bridges.strays ≡ ks
+    → map laid_at v.strays ≡ ls
     → whole_of v ≡ record {
       buffers = bs;
       width = v.width;
@@ -97,27 +118,32 @@ pub stale_view : (v : Inside) (bs : List Buffer) (k : Kept) (pss : List KeptPart
       fresh = false;
       shown = record { units = []; pages = [] };
       row_parts = [];
-      stores = record { kept = k; parts = pss; laid = l; laid_parts = lss };
+      stores = stores_with k pss l lss ks ls;
       work = v.work;
     }
-stale_view v bs k pss l lss off none pages is_bs is_k is_p is_l is_lss =
+stale_view v bs k pss l lss ks ls off none pages is_bs is_k is_p is_l is_lss is_ks is_ls =
     let w : ℕ = v.width in
     let h : ℕ = v.height in
     let n : ℕ = v.work in
     let hidden : List Shown = v.hidden.items in
     let shown : List Shown = v.units.items in
-    ap (λ f. whole_with v.buffers.items w h f shown v.paged.pages.items v.bridges.kept v.bridges.parts
-    (laid_in (if f then shown else hidden)) (laid_parts_in (if f then shown else hidden)) n) off
-    ∙ ap (λ xs. whole_with v.buffers.items w h false xs v.paged.pages.items v.bridges.kept
-    v.bridges.parts (laid_in hidden) (laid_parts_in hidden) n) none
-    ∙ ap (λ ps. whole_with v.buffers.items w h false [] ps v.bridges.kept v.bridges.parts (laid_in hidden)
-    (laid_parts_in hidden) n) pages
-    ∙ ap (λ cs. whole_with cs w h false [] [] v.bridges.kept v.bridges.parts (laid_in hidden) (laid_parts_in hidden) n)
-    is_bs
-    ∙ ap (λ es. whole_with bs w h false [] [] es v.bridges.parts (laid_in hidden) (laid_parts_in hidden) n) is_k
-    ∙ ap (λ ks. whole_with bs w h false [] [] k ks (laid_in hidden) (laid_parts_in hidden) n) is_p
-    ∙ ap (λ as_laid. whole_with bs w h false [] [] k pss as_laid (laid_parts_in hidden) n) is_l
-    ∙ ap (λ ats. whole_with bs w h false [] [] k pss l ats n) is_lss
+    let kept : Kept = v.bridges.kept in
+    let parts : List KeptParts = v.bridges.parts in
+    let strays : KeptParts = kept_strays v.bridges.strays in
+    let ats : List LaidAt = map laid_at v.strays in
+    let now : Stores = stores_with kept parts (laid_in hidden) (laid_parts_in hidden) strays ats in
+    ap (λ f. whole_with v.buffers.items w h f shown v.paged.pages.items
+    (stores_with kept parts (laid_in (if f then shown else hidden)) (laid_parts_in (if f then shown else hidden))
+    strays ats) n) off
+    ∙ ap (λ xs. whole_with v.buffers.items w h false xs v.paged.pages.items now n) none
+    ∙ ap (λ ps. whole_with v.buffers.items w h false [] ps now n) pages
+    ∙ ap (λ cs. whole_with cs w h false [] [] now n) is_bs
+    ∙ ap (λ s. whole_with bs w h false [] [] s n)
+    (ap (λ es. stores_with es parts (laid_in hidden) (laid_parts_in hidden) strays ats) is_k
+    ∙ ap (λ qss. stores_with k qss (laid_in hidden) (laid_parts_in hidden) strays ats) is_p
+    ∙ ap (λ m. stores_with k pss m (laid_parts_in hidden) strays ats) is_l
+    ∙ ap (λ mss. stores_with k pss l mss strays ats) is_lss ∙ ap (λ js. stores_with k pss l lss js ats) is_ks
+    ∙ ap (stores_with k pss l lss ks) is_ls)
 
 -- nothing is known
 pub left_none : (v : Inside) → v.lone ≡ None → IsLeft v
@@ -125,20 +151,27 @@ left_none v e =
     subst (λ (o : Option Lone). IfSome o (λ l. IsLone v.bridges.kept v.hidden.items l.unit l.attrs
     × WerePages v.height (unit_views v.hidden.items) l)) (sym e) tt
 
--- ---- a fresh one
+-- nothing is laid out of strays
+pub none_aside : (v : Inside) → v.strays ≡ [] → StandAside (document_of v.buffers.items) v.bridges.strays → AreAside v
+none_aside v none stand = record {
+  laid =
+      subst (AreLaidParts v.width (kept_strays v.bridges.strays)) (sym none)
+      (no_parts v.width (kept_strays v.bridges.strays));
+  short = subst (AllByRecursion HasShortPlaces) (sym none) tt;
+  stand = stand;
+}
 
-abbrev pub stores_with : Kept → List KeptParts → List (Option Attrs) → List (List LaidAt) → Stores
-stores_with k pss l lss = record { kept = k; parts = pss; laid = l; laid_parts = lss }
+-- ---- a fresh one
 
 pub standing : (v : Inside) → IsSized v → v.fresh ≡ true
     → AreShown v.width beginning (units v.buffers.items) (unit_views v.units.items)
     → AreRowParts v.width beginning (units v.buffers.items) (unit_views v.units.items) (row_parts v.units.items)
     → IsPaged v.height (unit_views v.units.items) v.paged
     → stores_with v.bridges.kept v.bridges.parts (laid_in v.units.items) (laid_parts_in v.units.items)
-    ≡ Fresh v.buffers.items
+    (kept_strays v.bridges.strays) (map laid_at v.strays) ≡ Fresh v.buffers.items
     → AreAllApart (unit_views v.units.items) → AreLaid v.width v.bridges.kept v.bridges.parts v.units.items
-    → AllReadable v.units.items → All IsBelow v.units.items → v.lone ≡ None → IsKept v
-standing v sized on shown rows paged stores apart laid reads below none =
+    → AllReadable v.units.items → All IsBelow v.units.items → AreAside v → v.lone ≡ None → IsKept v
+standing v sized on shown rows paged stores apart laid reads below aside none =
     let all : v.units.items ≡ all_of v = ap (λ b. if b then v.units.items else v.hidden.items) (sym on) in
     record {
       some = sized.some;
@@ -150,11 +183,15 @@ standing v sized on shown rows paged stores apart laid reads below none =
       fresh = λ is. record { shown = shown; paged = paged.pages };
       row_parts = λ is. rows;
       kept = λ is.
-          ap (λ xs. stores_with v.bridges.kept v.bridges.parts (laid_in xs) (laid_parts_in xs)) (sym all) ∙ stores;
+          ap (λ xs. stores_with v.bridges.kept v.bridges.parts (laid_in xs) (laid_parts_in xs)
+          (kept_strays v.bridges.strays) (map laid_at v.strays)) (sym all) ∙ stores;
       hidden = λ off. absurd (let both : true ≡ false = sym on ∙ off in cc);
       of_buffers = sized.of_buffers;
       laid = subst (AreLaid v.width v.bridges.kept v.bridges.parts) all laid;
       all_readable = subst AllReadable all reads;
+      strays = aside.laid;
+      short = aside.short;
+      aside = aside.stand;
       rows = paged.rows;
       errors = paged.errors;
       readable = reads;
@@ -165,12 +202,23 @@ standing v sized on shown rows paged stores apart laid reads below none =
 
 -- all units are evaluated and laid out
 pub all_made : (bs : List Buffer) (old new : Kept) (ps : List KeptParts) (laid : List (Option Attrs))
-    (lss : List (List LaidAt)) → units_of old ≡ units bs → new ≡ fresh_from beginning (units_of old)
-    → ps ≡ fresh_parts_from beginning (units_of old) → laid ≡ attributes_from beginning (units_of old)
-    → lss ≡ laid_parts_from beginning (units_of old) → stores_with new ps laid lss ≡ fresh_stores (units bs)
-all_made bs old new ps laid lss of kept parts attributes ats =
+    (lss : List (List LaidAt)) (ks : KeptParts) → units_of old ≡ units bs
+    → new ≡ fresh_from beginning (units_of old) → ps ≡ fresh_parts_from beginning (units_of old)
+    → laid ≡ attributes_from beginning (units_of old) → lss ≡ laid_parts_from beginning (units_of old) → ks ≡ []
+    → stores_with new ps laid lss ks [] ≡ fresh_stores (units bs)
+all_made bs old new ps laid lss ks of kept parts attributes ats none =
     let us : List DocUnit = units_of old in
-    ap (λ k. stores_with k ps laid lss) kept ∙ ap (λ q. stores_with (fresh_from beginning us) q laid lss) parts
-    ∙ ap (λ l. stores_with (fresh_from beginning us) (fresh_parts_from beginning us) l lss) attributes
-    ∙ ap (stores_with (fresh_from beginning us) (fresh_parts_from beginning us) (attributes_from beginning us)) ats
+    ap (λ js. stores_with new ps laid lss js []) none ∙ ap (λ k. stores_with k ps laid lss [] []) kept
+    ∙ ap (λ q. stores_with (fresh_from beginning us) q laid lss [] []) parts
+    ∙ ap (λ l. stores_with (fresh_from beginning us) (fresh_parts_from beginning us) l lss [] []) attributes
+    ∙ ap (λ l. stores_with (fresh_from beginning us) (fresh_parts_from beginning us) (attributes_from beginning us) l
+    [] []) ats
     ∙ ap fresh_stores of
+
+-- what a refresh of one that isn't fresh takes
+pub bound_stale : (v : Inside) → v.fresh ≡ false → Bound (stores_in v.bridges v.hidden.items) ≡ Bound (stores_of v)
+unfolding Bound
+bound_stale v stale =
+    ap (λ b. Charge v.bridges.kept v.bridges.parts + items_relaid_from beginning v.bridges.kept v.bridges.parts
+    (laid_in (if b then v.units.items else v.hidden.items))
+    (laid_parts_in (if b then v.units.items else v.hidden.items))) (sym stale)

@@ -2,7 +2,7 @@
 use Rattle.std.proofs.Common.{◌≡◌, ℕ, zero, suc, ◌+◌, ◌<◌, List, [], ◌∷◌, ◌++◌, length, map, slice_set}
 use Rattle.std.proofs.Common.{slice_index_or, Bool, true, false, Option, Some, None, refl, ap, sym, subst, ◌∙◌, arith}
 use Rattle.std.proofs.lemmas.List.Elements.{recursion_from_All, All-from_recursion}
-use Rattle.std.specs.List.{All, AllByRecursion}
+use Rattle.std.specs.List.{AllByRecursion, filter}
 use Rattle.std.specs.Option.{option_map_or}
 use Rattle.std.specs.Prelude.{slice_get, option_and_then, is_some, ◌==◌, if◌then◌else◌}
 use Rattle.tx_bridge.proofs.Taking.{heads}
@@ -23,19 +23,23 @@ use Rattle.tx_bridge.specs.CarryingParts.{carried_below, parts_within, parts_but
 use Rattle.tx_bridge.specs.Entries.{Entry, Kept, units_of, traces_of}
 use Rattle.tx_bridge.specs.HeldParts.{AllPartsHold}
 use Rattle.tx_bridge.specs.InPlace.{numbers_but}
-use Rattle.tx_bridge.specs.Names.{Sources, Carry as CarryKept, CarryParts, CarryWithin, PartMoves}
+use Rattle.tx_bridge.specs.Names.{Sources, Carry as CarryKept, CarryParts, CarryStrays, CarryWithin, PartMoves}
+use Rattle.tx_bridge.specs.PartMoves.{Move}
+use Rattle.tx_bridge.specs.Strays.{is_beside, path_at}
 use Rattle.tx_bridge.specs.PartsKept.{KeptParts}
-use Rattle.tx_unit_layout.specs.LaidAts.{laid_at, laid_ats}
+use Rattle.tx_unit_layout.specs.LaidAts.{LaidAt, laid_at, laid_ats}
 use Rattle.tx_unit_layout.specs.LaidUnits.{IsLaid, IsLaidOut, AreLaidParts}
 use Rattle.tx_unit_layout.specs.Moving.{wide_part, laid_by}
 use Rattle.tx_unit_layout.specs.Views.{unit_view, IsReadable}
 use Rattle.tx_unit_layout.specs.declared.shown.Shown.{Shown}
 use Rattle.tx_view.specs.declared.carrying.Target.{Target}
 use Rattle.tx_view.specs.declared.carrying.Target.TheVariants.{InPlace, Onto}
-use Rattle.tx_view.specs.Exchanged.{left_at, left_but, all_laid_now, parts_after, laid_parts_after}
+use Rattle.tx_view.specs.Exchanged.{left_at, left_but, laid_arrived, laid_with, all_laid_now, parts_after, strays_after}
+use Rattle.tx_view.specs.Exchanged.{laid_parts_after, laid_strays_after}
 use Rattle.tx_view.specs.Laid.{AreLaid, laid_in, laid_parts_in, parts_left, left_with, IsLeftBy, StayBut}
-use Rattle.tx_view.specs.Laid.{IsTarget, IsWay, IsMoved, IsLeft}
-use Rattle.tx_view.proofs.Moved.{IsCarried, carried_on, Same, AllSame, all_same}
+use Rattle.tx_view.specs.Laid.{IsTarget, IsWay, IsMoved, IsLeft, HasShortPlaces}
+use Rattle.tx_view.proofs.Aside.{ats_aside, laid_aside, short_aside}
+use Rattle.tx_view.proofs.Moved.{IsCarried, WasKept, carried_on, Same, AllSame, all_same}
 use Rattle.tx_view.proofs.Numbers.{not_equal, are_equal, AreFrom, from_first}
 use Rattle.tx_view.proofs.OfParts.{AreDistinct, all_distinct, left_laid, left_ats, none_wide, same_ats}
 use Rattle.tx_view.proofs.ShortParts.{stays_short}
@@ -335,34 +339,42 @@ laid_many width (x ∷ es) (ks ∷ pss) (y ∷ ys) (v ∷ vs) h e =
     (heads v.path x.unit.path (paths_of vs) (paths_of (units_of es)) e).1)
 
 -- what is left is told of the units that are shown, or else of the hidden ones
-pub left_of : (buffer : ℕ) (ms : List Mod) (t : WideTree) (us : List DocUnit) (pss : List KeptParts)
-    (vs : List DocUnit) (to : Target) (fresh : Bool) (xs ys shown hidden : List Shown) → xs ≡ shown → ys ≡ hidden
-    → IsLeft buffer ms t us pss vs to (if fresh then xs else ys)
-    → IsLeft buffer ms t us pss vs to (if fresh then shown else hidden)
-left_of buffer ms t us pss vs to fresh xs ys shown hidden is_shown is_hidden left =
-    subst (λ (zs : List Shown). IsLeft buffer ms t us pss vs to (if fresh then zs else hidden)) is_shown
-    (subst (λ (zs : List Shown). IsLeft buffer ms t us pss vs to (if fresh then xs else zs)) is_hidden left)
+pub left_of : (ms : List Mod) (t : WideTree) (us : List DocUnit) (moves : List Move) (vs : List DocUnit) (to : Target)
+    (fresh : Bool) (xs ys shown hidden : List Shown) (before after : List PlacedPart) → xs ≡ shown → ys ≡ hidden
+    → IsLeft ms t us moves vs to (if fresh then xs else ys) before after
+    → IsLeft ms t us moves vs to (if fresh then shown else hidden) before after
+left_of ms t us moves vs to fresh xs ys shown hidden before after is_shown is_hidden left =
+    subst (λ (zs : List Shown). IsLeft ms t us moves vs to (if fresh then zs else hidden) before after) is_shown
+    (subst (λ (zs : List Shown). IsLeft ms t us moves vs to (if fresh then xs else zs) before after) is_hidden left)
 
 pub carried_by : (width buffer : ℕ) (ms : List Mod) (t : WideTree) (old new : Kept) (pss qss : List KeptParts)
-    (olds xs : List Shown) (to : Target) (ss : List (Option ℕ)) (vs : List DocUnit) → AreLaid width old pss olds
-    → All IsReadable olds → AllPartsHold new qss → new ≡ CarryKept buffer ms t old vs
-    → qss ≡ parts_after buffer ms t (units_of old) pss vs ss → ss ≡ Sources buffer ms t (units_of old) vs
+    (ks js : KeptParts) (olds xs : List Shown) (before after : List PlacedPart) (to : Target) (ss : List (Option ℕ))
+    (vs : List DocUnit) → WasKept width old pss ks olds before → AllPartsHold new qss → AreDistinct js
+    → new ≡ CarryKept buffer ms t old vs → qss ≡ parts_after buffer ms t (units_of old) pss ks vs ss
+    → js ≡ strays_after buffer ms t (units_of old) pss ks vs → ss ≡ Sources buffer ms t (units_of old) vs
     → IsTarget (units_of old) vs ss to → IsWay buffer ms t (units_of old) vs ss to
-    → IsLeft buffer ms t (units_of old) pss vs to olds → IsMoved to ss olds xs
-    → IsCarried width new qss (map (had (laid_in olds)) (Sources buffer ms t (units_of old) vs))
-    (laid_parts_after buffer ms t (units_of old) pss (laid_parts_in olds) vs (Sources buffer ms t (units_of old) vs)) xs
+    → IsLeft ms t (units_of old) (PartMoves buffer ms t (units_of old) pss ks vs) vs to olds before after
+    → IsMoved to ss olds xs
+    → IsCarried width new qss js (map (had (laid_in olds)) (Sources buffer ms t (units_of old) vs))
+    (laid_parts_after buffer ms t (units_of old) pss ks (laid_parts_in olds) (map laid_at before) vs
+    (Sources buffer ms t (units_of old) vs))
+    (laid_strays_after buffer ms t (units_of old) pss ks (laid_parts_in olds) (map laid_at before) vs) xs after
 unfolding CarryKept CarryWithin Sources
-carried_by width buffer ms t old new pss qss olds xs (InPlace i silent ps) ss vs laid reads hold is_new is_parts is_ss
-    to way left moves =
+carried_by width buffer ms t old new pss qss ks js olds xs before after (InPlace i silent ps) ss vs was hold distinct
+    is_new is_parts is_strays is_ss to way left moves =
     let us : List DocUnit = units_of old in
+    let told : List Move = PartMoves buffer ms t us pss ks vs in
+    let lss : List (List LaidAt) = laid_with (laid_parts_in olds) (map laid_at before) in
     let is : Sources buffer ms t us vs ≡ numbers_but i 0 (length vs) = sym is_ss ∙ to.0 in
     let kept : new ≡ taken_from (traces_of old) (numbers_but i 0 (length vs)) vs =
     is_new ∙ ap (λ ns. taken_from (traces_of old) ns vs) is in
     let parts : qss ≡ parts_but ms t i us pss =
-    is_parts
-    ∙ ap (λ o. option_map_or (λ k. CarryWithin k ms t us pss) o (CarryParts pss (PartMoves buffer ms t us pss vs) ss))
+    is_parts ∙ ap (λ o. option_map_or (λ k. CarryWithin k ms t us pss) o (CarryParts pss told ss)) way.0 in
+    let beside : js ≡ filter (λ k. is_beside (path_at i us) k.path) ks =
+    is_strays
+    ∙ ap (λ o. option_map_or (λ n. filter (λ k. is_beside (path_at n us) k.path) ks) o (CarryStrays told (length vs)))
     way.0 in
-    let many : length olds ≡ length vs = laid_many width old pss olds vs laid to.1 in
+    let many : length olds ≡ length vs = laid_many width old pss olds vs was.laid to.1 in
     let same : AllSame us (numbers_but i 0 (length vs)) vs =
     all_same us vs (numbers_but i 0 (length vs))
     (subst (λ (ns : List (Option ℕ)). HaveSameTrees us vs ns) to.0 way.2) in
@@ -371,29 +383,44 @@ carried_by width buffer ms t old new pss qss olds xs (InPlace i silent ps) ss vs
     let entries : Kept = taken_from (traces_of old) (numbers_but i 0 (length vs)) vs in
     let stay : AreLaid width entries (parts_but ms t i us pss) xs =
     stay_laid width i 0 i ms t ps (traces_of old) us old pss vs olds xs (omega arith) (from_first (traces_of old))
-    (from_first us) laid moves same to.1 left apart in
+    (from_first us) was.laid moves same to.1 left.0 apart in
     record {
       laid_out =
           subst (λ (es : Kept). AreLaid width es qss xs) (sym kept)
-          (subst (λ (js : List KeptParts). AreLaid width entries js xs) (sym parts) stay);
+          (subst (λ (is : List KeptParts). AreLaid width entries is xs) (sym parts) stay);
       readable =
           All-from_recursion IsReadable xs
-          (stay_reads ms t ps i 0 i olds xs (omega arith) (recursion_from_All IsReadable olds reads) moves left);
+          (stay_reads ms t ps i 0 i olds xs (omega arith) (recursion_from_All IsReadable olds was.readable) moves
+          left.0);
       attributes =
           stay_attributes ps i 0 (laid_in olds) olds xs (from_first (laid_in olds)) moves
           ∙ ap (λ n. map (had (laid_in olds)) (numbers_but i 0 n)) many ∙ ap (map (had (laid_in olds))) (sym is);
       laid_parts =
-          stay_ats width i 0 i ms t ps old pss olds xs (omega arith) laid moves left
+          stay_ats width i 0 i ms t ps old pss olds xs (omega arith) was.laid moves left.0
           ∙ ap (λ o. option_map_or (λ k. left_but ms t k us (laid_parts_in olds)) o
-          (all_laid_now (laid_parts_in olds) (PartMoves buffer ms t us pss vs) 0 (Sources buffer ms t us vs)))
-          (sym way.0);
+          (all_laid_now lss told 0 (Sources buffer ms t us vs))) (sym way.0);
+      strays =
+          subst (λ (is : KeptParts). AreLaidParts width is after) (sym beside)
+          (subst (λ (qs : List PlacedPart). AreLaidParts width (filter (λ k. is_beside (path_at i us) k.path) ks) qs)
+          (sym left.1)
+          (laid_aside (is_beside (path_at i us)) width ks before was.strays (subst AreDistinct beside distinct)));
+      short =
+          subst (AllByRecursion HasShortPlaces) (sym left.1) (short_aside (is_beside (path_at i us)) before was.short);
+      laid_strays =
+          ap (map laid_at) left.1 ∙ ats_aside (is_beside (path_at i us)) before
+          ∙ ap (λ o. option_map_or (λ n. filter (λ l. is_beside (path_at n us) l.path) (map laid_at before)) o
+          (laid_arrived lss told (length vs))) (sym way.0);
     }
-carried_by width buffer ms t old new pss qss olds xs (Onto blanks) ss vs laid reads hold is_new is_parts is_ss to
-    way left moves =
+carried_by width buffer ms t old new pss qss ks js olds xs before after (Onto blanks) ss vs was hold distinct is_new
+    is_parts is_strays is_ss to way left moves =
     let us : List DocUnit = units_of old in
-    let on = carried_on width buffer ms t old new pss qss olds blanks.items xs ss vs laid reads hold left way.1 is_new
-    (is_parts
-    ∙ ap (λ o. option_map_or (λ k. CarryWithin k ms t us pss) o (CarryParts pss (PartMoves buffer ms t us pss vs) ss))
+    let told : List Move = PartMoves buffer ms t us pss ks vs in
+    let lss : List (List LaidAt) = laid_with (laid_parts_in olds) (map laid_at before) in
+    let on = carried_on width buffer ms t old new pss qss ks js olds blanks.items xs before after ss vs was hold
+    distinct left way.1 is_new
+    (is_parts ∙ ap (λ o. option_map_or (λ k. CarryWithin k ms t us pss) o (CarryParts pss told ss)) way.0)
+    (is_strays
+    ∙ ap (λ o. option_map_or (λ n. filter (λ k. is_beside (path_at n us) k.path) ks) o (CarryStrays told (length vs)))
     way.0) is_ss moves in
     record {
       laid_out = on.laid_out;
@@ -402,6 +429,11 @@ carried_by width buffer ms t old new pss qss olds xs (Onto blanks) ss vs laid re
       laid_parts =
           on.laid_parts
           ∙ ap (λ o. option_map_or (λ k. left_but ms t k us (laid_parts_in olds)) o
-          (all_laid_now (laid_parts_in olds) (PartMoves buffer ms t us pss vs) 0 (Sources buffer ms t us vs)))
-          (sym way.0);
+          (all_laid_now lss told 0 (Sources buffer ms t us vs))) (sym way.0);
+      strays = on.strays;
+      short = on.short;
+      laid_strays =
+          on.laid_strays
+          ∙ ap (λ o. option_map_or (λ n. filter (λ l. is_beside (path_at n us) l.path) (map laid_at before)) o
+          (laid_arrived lss told (length vs))) (sym way.0);
     }

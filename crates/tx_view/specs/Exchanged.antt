@@ -1,8 +1,8 @@
 -- A paragraph inside which an edit is, and which is found to change alone, and what stays of parts through an edit.
 -- That it isn't found says nothing.
-use Rattle.std.specs.Prelude.{◌≡◌, ℕ, zero, suc, ◌+◌, Bool, true, false, ◌==◌, if◌then◌else◌, List, [], ◌∷◌, Option}
-use Rattle.std.specs.Prelude.{Some, None, is_some, option_and_then, slice_get}
-use Rattle.std.specs.List.{filter_map, list_all}
+use Rattle.std.specs.Prelude.{◌≡◌, ℕ, zero, suc, ◌+◌, Bool, true, false, ◌==◌, if◌then◌else◌, List, [], ◌∷◌, ◌++◌}
+use Rattle.std.specs.Prelude.{length, Option, Some, None, is_some, option_and_then, slice_get}
+use Rattle.std.specs.List.{filter, filter_map, list_all}
 use Rattle.std.specs.Option.{option_map, option_map_or}
 use Rattle.tx_tree.specs.Paths.{subtree}
 use Rattle.tx_tree.specs.WideTree.{WideTree}
@@ -13,8 +13,9 @@ use Rattle.tx_mod.specs.Followed.{changed_by_all}
 use Rattle.tx_bridge.specs.CarryingParts.{carried_below}
 use Rattle.tx_bridge.specs.InPlace.{is_changed, IsOneChanged}
 use Rattle.tx_bridge.specs.PartMoves.{Move}
+use Rattle.tx_bridge.specs.Strays.{is_beside, path_at}
 use Rattle.tx_bridge.specs.PartsKept.{KeptParts}
-use Rattle.tx_bridge.specs.Names.{CarryParts, CarryWithin, PartMoves}
+use Rattle.tx_bridge.specs.Names.{CarryParts, CarryStrays, CarryWithin, PartMoves}
 use Rattle.tx_unit_layout.specs.LaidAts.{LaidAt}
 
 -- the tree that stands in t where the unit's paragraph stood is found to leave all other units
@@ -40,11 +41,18 @@ exchanged buffer ms t us = option_and_then (λ u. exchanged_in buffer ms u us) (
 -- What stays of what is kept of the parts of the units us, where the new ones are vs, and are these old ones: where one
 -- paragraph is found to change alone, those of its parts that stay in it, and all of the others. Else all of those that
 -- stay, and parts of another old unit go to the new ones in which they stand.
-abbrev pub parts_after : ℕ → List Mod → WideTree → List DocUnit → List KeptParts → List DocUnit → List (Option ℕ)
-    → List KeptParts
-parts_after buffer ms t us pss vs ss =
+abbrev pub parts_after : ℕ → List Mod → WideTree → List DocUnit → List KeptParts → KeptParts → List DocUnit
+    → List (Option ℕ) → List KeptParts
+parts_after buffer ms t us pss strays vs ss =
     option_map_or (λ i. CarryWithin i ms t us pss) (exchanged buffer ms t us)
-    (CarryParts pss (PartMoves buffer ms t us pss vs) ss)
+    (CarryParts pss (PartMoves buffer ms t us pss strays vs) ss)
+
+-- What is kept then of parts that stand in no unit, of which this was kept: where one paragraph is found to change
+-- alone, of those that its path isn't below. Else of all that stand in no new unit.
+abbrev pub strays_after : ℕ → List Mod → WideTree → List DocUnit → List KeptParts → KeptParts → List DocUnit → KeptParts
+strays_after buffer ms t us pss strays vs =
+    option_map_or (λ i. filter (λ k. is_beside (path_at i us) k.path) strays) (exchanged buffer ms t us)
+    (CarryStrays (PartMoves buffer ms t us pss strays vs) (length vs))
 
 -- ---- what is laid out of parts
 
@@ -80,26 +88,40 @@ all_laid lss moves = list_all (λ m. is_some (laid_moved lss m)) moves
 abbrev pub laid_in_unit : List (List LaidAt) → ℕ → Move → Option LaidAt
 laid_in_unit lss j m = if m.to == j then laid_moved lss m else None
 
+-- what is laid out of the parts that have moved to the new unit j, if something is of each that has moved
+abbrev pub laid_arrived : List (List LaidAt) → List Move → ℕ → List LaidAt
+laid_arrived lss moves j = if all_laid lss moves then filter_map (laid_in_unit lss j) moves else []
+
 -- What is laid out of the parts of the new unit j: all that is of those of the old one that it is, or of those that
--- have moved to it, if something is of each that has moved.
+-- have moved to it.
 abbrev pub laid_now : List (List LaidAt) → List Move → ℕ → Option ℕ → List LaidAt
 laid_now lss moves j s =
-    option_map_or (λ i. option_map_or (λ ls. ls) (slice_get lss i) []) s
-    (if all_laid lss moves then filter_map (laid_in_unit lss j) moves else [])
+    option_map_or (λ i. option_map_or (λ ls. ls) (slice_get lss i) []) s (laid_arrived lss moves j)
 
 -- so it is of each new unit, from number j on
 abbrev pub all_laid_now : List (List LaidAt) → List Move → ℕ → List (Option ℕ) → List (List LaidAt)
 all_laid_now lss moves j [] = []
 all_laid_now lss moves j (s ∷ ss) = laid_now lss moves j s ∷ all_laid_now lss moves (j + 1) ss
 
+-- of each unit, and last of the parts that stand in none
+abbrev pub laid_with : List (List LaidAt) → List LaidAt → List (List LaidAt)
+laid_with lss ls = lss ++ ls ∷ []
+
 -- What stays of what is laid out of the parts of the units us, where the new ones are vs, and are these old ones: where
 -- one paragraph is found to change alone, what is of those of its parts that stay in it, and all of the others. Else
 -- all of units that stay, and of parts that go to other units, if something is laid out of each of these.
-abbrev pub laid_parts_after : ℕ → List Mod → WideTree → List DocUnit → List KeptParts → List (List LaidAt)
-    → List DocUnit → List (Option ℕ) → List (List LaidAt)
-laid_parts_after buffer ms t us pss lss vs ss =
+abbrev pub laid_parts_after : ℕ → List Mod → WideTree → List DocUnit → List KeptParts → KeptParts → List (List LaidAt)
+    → List LaidAt → List DocUnit → List (Option ℕ) → List (List LaidAt)
+laid_parts_after buffer ms t us pss strays lss ls vs ss =
     option_map_or (λ i. left_but ms t i us lss) (exchanged buffer ms t us)
-    (all_laid_now lss (PartMoves buffer ms t us pss vs) 0 ss)
+    (all_laid_now (laid_with lss ls) (PartMoves buffer ms t us pss strays vs) 0 ss)
+
+-- what stays of what is laid out of parts that stand in no unit, as of what is kept of them
+abbrev pub laid_strays_after : ℕ → List Mod → WideTree → List DocUnit → List KeptParts → KeptParts → List (List LaidAt)
+    → List LaidAt → List DocUnit → List LaidAt
+laid_strays_after buffer ms t us pss strays lss ls vs =
+    option_map_or (λ i. filter (λ l. is_beside (path_at i us) l.path) ls) (exchanged buffer ms t us)
+    (laid_arrived (laid_with lss ls) (PartMoves buffer ms t us pss strays vs) (length vs))
 
 -- ---- an edit of one paragraph
 

@@ -1,7 +1,7 @@
 -- Units that are laid out, with what is kept of them. Private clauses cite these.
 use Rattle.std.specs.Prelude.{◌≡◌, ℕ, ◌≤◌, ◌<◌, ◌+◌, ◌*◌, ◌^◌, ◌==◌, Bool, true, false, if◌then◌else◌, List, []}
 use Rattle.std.specs.Prelude.{◌∷◌, ◌++◌, map, length, Option, Some, None, is_some, option_and_then, slice_get, ◌⊎◌}
-use Rattle.std.specs.List.{All, filter_map, list_all}
+use Rattle.std.specs.List.{All, AllByRecursion, filter, filter_map, list_all}
 use Rattle.std.specs.Option.{option_map, option_map_or}
 use Rattle.tx_tree.specs.WideTree.{WideTree}
 use Rattle.tx_env.specs.Environments.{NameMap}
@@ -9,6 +9,7 @@ use Rattle.tx_mod.specs.declared.mods.Mod.{Mod}
 use Rattle.tx_units.specs.declared.kinds.Unit.{Unit as DocUnit}
 use Rattle.tx_items.specs.declared.attributes.Attrs.{Attrs}
 use Rattle.tx_view_form.specs.Outcomes.{Moment, behind, env_behind, value_of}
+use Rattle.tx_view_form.specs.Positions.{IsShort}
 use Rattle.tx_view_form.specs.Started.{attributes_of}
 use Rattle.tx_bridge.specs.Bridged.{Bridged}
 use Rattle.tx_bridge.specs.Carrying.{HaveSameTrees}
@@ -16,8 +17,8 @@ use Rattle.tx_bridge.specs.Entries.{Entry, Kept, outcome_of}
 use Rattle.tx_bridge.specs.CarryingParts.{carried_below}
 use Rattle.tx_bridge.specs.InPlace.{numbers_but, IsOneChanged}
 use Rattle.tx_bridge.specs.MovedParts.{places_by}
-use Rattle.tx_bridge.specs.Names.{PartMoves}
 use Rattle.tx_bridge.specs.PartMoves.{Move}
+use Rattle.tx_bridge.specs.Strays.{kept_strays, is_beside, path_at}
 use Rattle.tx_bridge.specs.PartsKept.{KeptParts}
 use Rattle.tx_part_layout.specs.LaidParts.{is_before}
 use Rattle.tx_part_layout.specs.declared.laid.PlacedPart.{PlacedPart}
@@ -41,8 +42,20 @@ laid_in xs = map (λ x. x.laid) xs
 abbrev pub laid_parts_in : List Shown → List (List LaidAt)
 laid_parts_in xs = map (λ x. map laid_at x.parts) xs
 
+-- where nothing is laid out of parts that stand in no unit
 abbrev pub stores_in : Bridged → List Shown → Stores
-stores_in b xs = record { kept = b.kept; parts = b.parts; laid = laid_in xs; laid_parts = laid_parts_in xs }
+stores_in b xs = record {
+  kept = b.kept;
+  parts = b.parts;
+  laid = laid_in xs;
+  laid_parts = laid_parts_in xs;
+  strays = kept_strays b.strays;
+  laid_strays = [];
+}
+
+-- where this is laid out of them
+abbrev pub all_stores_in : Bridged → List Shown → List PlacedPart → Stores
+all_stores_in b xs ps = record (stores_in b xs) { laid_strays = map laid_at ps }
 
 -- each unit is laid out of what is kept of it
 abbrev pub AreLaid : ℕ → Kept → List KeptParts → List Shown → Type 0
@@ -147,29 +160,51 @@ AreBlank [] (x ∷ xs) = ⊥
 AreBlank (u ∷ us) [] = ⊥
 AreBlank (u ∷ us) (x ∷ xs) = IsBlank u.path [] x × AreBlank us xs
 
--- what is laid out of a part that has moved to another unit, as it is put there
-abbrev pub wide_moved : List Shown → Move → Option WidePart
+-- what is laid out of the parts of each unit, and last of those that stand in none
+abbrev pub PlacedLists : Type 0
+PlacedLists = List (List PlacedPart)
+
+abbrev pub placed_in : List Shown → List PlacedPart → PlacedLists
+placed_in xs ps = map (λ x. x.parts) xs ++ ps ∷ []
+
+-- what is laid out of a part that has moved, as it is put where it stands now
+abbrev pub wide_moved : PlacedLists → Move → Option WidePart
 wide_moved old m =
-    option_map (put_at m.kept.path) (option_and_then (λ x. slice_get x.parts m.number) (slice_get old m.from))
+    option_map (put_at m.kept.path) (option_and_then (λ ps. slice_get ps m.number) (slice_get old m.from))
 
 -- something is laid out of each
-abbrev pub all_wide : List Shown → List Move → Bool
+abbrev pub all_wide : PlacedLists → List Move → Bool
 all_wide old moves = list_all (λ m. is_some (wide_moved old m)) moves
 
 -- the moves with which what is laid out goes: all, or none if nothing is laid out of one of the parts
-abbrev pub going : List Shown → List Move → List Move
+abbrev pub going : PlacedLists → List Move → List Move
 going old moves = if all_wide old moves then moves else []
 
-abbrev pub wide_in_unit : List Shown → ℕ → Move → Option WidePart
+abbrev pub wide_in_unit : PlacedLists → ℕ → Move → Option WidePart
 wide_in_unit old j m = if m.to == j then wide_moved old m else None
 
+-- what is laid out of the parts that have moved to the unit of number j, as it is put there
+abbrev pub wide_arrived : PlacedLists → List Move → ℕ → List WidePart
+wide_arrived old moves j = filter_map (wide_in_unit old j) moves
+
 -- nothing is shown of the units, from number j on, but what is laid out of the parts that have moved to them
-abbrev pub AreArrived : List Shown → List Move → ℕ → List DocUnit → List Shown → Type 0
+abbrev pub AreArrived : PlacedLists → List Move → ℕ → List DocUnit → List Shown → Type 0
 AreArrived old moves j [] [] = Unit {0}
 AreArrived old moves j [] (x ∷ xs) = ⊥
 AreArrived old moves j (u ∷ us) [] = ⊥
 AreArrived old moves j (u ∷ us) (x ∷ xs) =
-    IsBlank u.path (filter_map (wide_in_unit old j) moves) x × AreArrived old moves (j + 1) us xs
+    IsBlank u.path (wide_arrived old moves j) x × AreArrived old moves (j + 1) us xs
+
+-- So it is of all units, and behind the last one this is laid out of the parts that have moved to none.
+abbrev pub HaveArrived : PlacedLists → List Move → List DocUnit → List Shown → List PlacedPart → Type 0
+HaveArrived old moves us xs ps =
+    AreArrived old moves 0 us xs × (map wide_part ps ≡ wide_arrived old moves (length us))
+
+-- the places of the clusters of a part are short
+abbrev pub HasShortPlaces : PlacedPart → Type 0
+HasShortPlaces p =
+    AllByRecursion (λ line. All IsShort line.items) p.laid.value.lines
+    × AllByRecursion (λ q. All IsShort q.items) p.laid.value.paragraphs.items
 
 -- in y is what was in x, and what is laid out of one part more
 pub record HasMore (x y : Shown) (w : WidePart) : Type 0 where
@@ -217,14 +252,20 @@ StayBut ps i k [] (x ∷ xs) = ⊥
 StayBut ps i k (y ∷ ys) [] = ⊥
 StayBut ps i k (y ∷ ys) (x ∷ xs) = IsLeftBy ps (k == i) y x × StayBut ps i (k + 1) ys xs
 
+-- what stays laid out of parts that stand in no unit, where the unit of number i of these changes alone
+abbrev pub placed_beside : ℕ → List DocUnit → List PlacedPart → List PlacedPart
+placed_beside i us ps = filter (λ p. is_beside (path_at i us) p.path) ps
+
 -- Where what is shown stays in place, this is left of the parts of the unit that has changed. Else it goes to blank
--- ones, to which went before what is laid out of parts that have moved to other units.
-abbrev pub IsLeft : ℕ → List Mod → WideTree → List DocUnit → List KeptParts → List DocUnit → Target → List Shown
-    → Type 0
-IsLeft buffer ms t us pss vs (InPlace i silent ps) xs = (x : Shown) → slice_get xs i ≡ Some x
-    → map wide_part ps ≡ parts_left ms t x.path x.parts
-IsLeft buffer ms t us pss vs (Onto blanks) xs =
-    AreArrived xs (going xs (PartMoves buffer ms t us pss vs)) 0 vs blanks.items
+-- ones, to which went before what is laid out of parts that have moved. Of parts that stand in no unit `before` was
+-- laid out, and `after` is.
+abbrev pub IsLeft : List Mod → WideTree → List DocUnit → List Move → List DocUnit → Target → List Shown
+    → List PlacedPart → List PlacedPart → Type 0
+IsLeft ms t us moves vs (InPlace i silent ps) xs before after =
+    ((x : Shown) → slice_get xs i ≡ Some x → map wide_part ps ≡ parts_left ms t x.path x.parts)
+    × (after ≡ placed_beside i us before)
+IsLeft ms t us moves vs (Onto blanks) xs before after =
+    HaveArrived (placed_in xs before) (going (placed_in xs before) moves) vs blanks.items after
 
 -- What is shown stays in place where each unit keeps its number and its path, but for one that has changed.
 abbrev pub IsTarget : List DocUnit → List DocUnit → List (Option ℕ) → Target → Type 0

@@ -1,18 +1,19 @@
 -- What crates above cite by name. They don't open these definitions.
 use Rattle.std.specs.Prelude.{◌≡◌, ℕ, ◌+◌, List, [], map, length, None}
+use Rattle.std.specs.List.{AllByRecursion}
 use Rattle.tx_mod.specs.declared.mods.Mod.{Mod}
-use Rattle.tx_doc.specs.Buffers.{tree_of}
+use Rattle.tx_doc.specs.Buffers.{document_of, tree_of}
 use Rattle.tx_doc.specs.declared.buffer.Buffer.{Buffer}
 use Rattle.tx_units.specs.Units.{units}
 use Rattle.tx_view_form.specs.Outcomes.{beginning}
 use Rattle.tx_bridge.specs.Carrying.{had}
 use Rattle.tx_bridge.specs.Entries.{units_of, nothing_kept}
 use Rattle.tx_bridge.specs.Sound.{AllHold}
-use Rattle.tx_bridge.specs.HeldParts.{AllPartsHold}
+use Rattle.tx_bridge.specs.HeldParts.{AllPartsHold, StoredAllHold}
 use Rattle.tx_bridge.specs.Names.{Charge, Sources, Carry as CarryKept}
-use Rattle.tx_view.specs.Exchanged.{parts_after, laid_parts_after}
+use Rattle.tx_view.specs.Exchanged.{parts_after, strays_after, laid_parts_after, laid_strays_after}
 use Rattle.tx_view.specs.Costs.{items_relaid_from}
-use Rattle.tx_view.specs.Stores.{Stores, fresh_stores, AllLaidAreKept}
+use Rattle.tx_view.specs.Stores.{Stores, fresh_stores, IsKeptAt, AllLaidAreKept}
 
 -- nothing is kept of the units of these buffers
 unfoldable pub Empty : List Buffer → Stores
@@ -21,6 +22,8 @@ Empty buffers = record {
   parts = map (λ u. []) (units buffers);
   laid = map (λ u. None) (units buffers);
   laid_parts = map (λ u. []) (units buffers);
+  strays = [];
+  laid_strays = [];
 }
 
 -- what making the view of these buffers from nothing leaves
@@ -39,17 +42,23 @@ unfoldable pub Carry : ℕ → List Mod → List Buffer → Stores → List Buff
 Carry buffer ms old s new = record {
   kept = CarryKept buffer ms (tree_of old buffer) s.kept (units new);
   parts =
-      parts_after buffer ms (tree_of old buffer) (units_of s.kept) s.parts (units new)
+      parts_after buffer ms (tree_of old buffer) (units_of s.kept) s.parts s.strays (units new)
       (Sources buffer ms (tree_of old buffer) (units_of s.kept) (units new));
   laid = map (had s.laid) (Sources buffer ms (tree_of old buffer) (units_of s.kept) (units new));
   laid_parts =
-      laid_parts_after buffer ms (tree_of old buffer) (units_of s.kept) s.parts s.laid_parts (units new)
-      (Sources buffer ms (tree_of old buffer) (units_of s.kept) (units new));
+      laid_parts_after buffer ms (tree_of old buffer) (units_of s.kept) s.parts s.strays s.laid_parts s.laid_strays
+      (units new) (Sources buffer ms (tree_of old buffer) (units_of s.kept) (units new));
+  strays = strays_after buffer ms (tree_of old buffer) (units_of s.kept) s.parts s.strays (units new);
+  laid_strays =
+      laid_strays_after buffer ms (tree_of old buffer) (units_of s.kept) s.parts s.strays s.laid_parts s.laid_strays
+      (units new);
 }
 
--- what is kept is of the units of these buffers, and the trace of a unit, or of a part, is that of its tree wherever
--- what it looked up is as it was; what is laid out of a part is of one that is kept
+-- What is kept is of the units of these buffers, or of parts of the document that stand in none. The trace of a unit,
+-- or of a part, is that of its tree wherever what it looked up is as it was. What is laid out of a part is of one that
+-- is kept.
 unfoldable pub Holds : List Buffer → Stores → Type 0
 Holds buffers s =
     AllHold s.kept × AllPartsHold s.kept s.parts × (units_of s.kept ≡ units buffers)
     × (length s.laid ≡ length s.kept) × AllLaidAreKept s.parts s.laid_parts
+    × StoredAllHold (document_of buffers) s.strays × AllByRecursion (IsKeptAt s.strays) s.laid_strays

@@ -9,19 +9,22 @@ use Rattle.tx_items.specs.declared.attributes.Attrs.{Attrs}
 use Rattle.tx_units.specs.declared.kinds.Unit.{Unit as DocUnit}
 use Rattle.tx_view_form.specs.Outcomes.{Moment, beginning, behind}
 use Rattle.tx_view_form.specs.Started.{attributes_of}
-use Rattle.tx_bridge.specs.Bridged.{coded_Entry, coded_parts}
+use Rattle.tx_bridge.specs.Bridged.{coded_Entry, coded_Stored, coded_parts}
 use Rattle.tx_bridge.specs.PartsKept.{KeptParts, kept_at, fresh_parts, fresh_parts_from}
 use Rattle.tx_bridge.specs.Entries.{Entry, Kept, fresh_from, outcome_of}
 use Rattle.tx_unit_layout.specs.LaidAts.{LaidAt, laid_ats, coded_laid_ats}
 use Rattle.tx_view.specs.Costs.{entry_at}
 
--- of each unit the trace that it came to last, the traces of its parts, the attributes for which it was laid out last,
--- if it was, and those for which parts of it were
+-- Of each unit the trace that it came to last, the traces of its parts, the attributes for which it was laid out last,
+-- if it was, and those for which parts of it were. Of parts that stand in no unit, each with its path in the document,
+-- the traces, and the attributes for which they were laid out.
 pub record Stores : Type 0 where
   pub kept : Kept
   pub parts : List KeptParts
   pub laid : List (Option Attrs)
   pub laid_parts : List (List LaidAt)
+  pub strays : KeptParts
+  pub laid_strays : List LaidAt
 
 -- the attributes before each unit, from a moment on
 abbrev pub attributes_from : Moment → List DocUnit → List (Option Attrs)
@@ -41,6 +44,8 @@ fresh_stores us = record {
   parts = fresh_parts_from beginning us;
   laid = attributes_from beginning us;
   laid_parts = laid_parts_from beginning us;
+  strays = [];
+  laid_strays = [];
 }
 
 -- something is kept at the path
@@ -63,21 +68,31 @@ pub record IsOf (stores other : Stores) (i : ℕ) : Type 0 where
 
 -- The units before number `done` have the traces of the fresh stores, and the others those of the old ones. A unit is
 -- laid out as in the old stores, and has their trace, or as in the fresh ones, and has theirs, or it isn't laid out.
--- Of parts nothing is.
+-- Of parts nothing is. What is kept of parts that stand in no unit is as in the old stores, or nothing.
 pub record IsPartlyFresh (old fresh new : Stores) : Type 0 where
   pub done : ℕ
   pub kept : new.kept ≡ take done fresh.kept ++ drop done old.kept
   pub parts : new.parts ≡ take done fresh.parts ++ drop done old.parts
   pub laid : (i : ℕ) → IsOf new old i ⊎ ((slice_get new.laid i ≡ Some None) ⊎ IsOf new fresh i)
   pub laid_parts : AllByRecursion (λ ls. ls ≡ []) new.laid_parts
+  pub strays : (new.strays ≡ old.strays) ⊎ (new.strays ≡ [])
+  pub laid_strays : new.laid_strays ≡ []
 
 -- ---- the code by which proofs tell them apart
 
 abbrev pub coded_Stores : Coded Stores
 coded_Stores =
-    code_by (List Entry × (List KeptParts × (List (Option Attrs) × List (List LaidAt))))
+    code_by (List Entry × (List KeptParts × (List (Option Attrs) × (List (List LaidAt) × (KeptParts × List LaidAt)))))
     (coded× (coded_list coded_Entry)
     (coded× coded_parts
-    (coded× (coded_list (coded_option one_attrs.the_row.coded)) (coded_list coded_laid_ats))))
-    (λ s. (s.kept, (s.parts, (s.laid, s.laid_parts))))
-    (λ p. record { kept = p.0; parts = p.1.0; laid = p.1.1.0; laid_parts = p.1.1.1 }) (λ _. refl)
+    (coded× (coded_list (coded_option one_attrs.the_row.coded))
+    (coded× (coded_list coded_laid_ats) (coded× (coded_list coded_Stored) coded_laid_ats)))))
+    (λ s. (s.kept, (s.parts, (s.laid, (s.laid_parts, (s.strays, s.laid_strays))))))
+    (λ p. record {
+      kept = p.0;
+      parts = p.1.0;
+      laid = p.1.1.0;
+      laid_parts = p.1.1.1.0;
+      strays = p.1.1.1.1.0;
+      laid_strays = p.1.1.1.1.1;
+    }) (λ _. refl)

@@ -2,6 +2,8 @@
 use Rattle.std.specs.Prelude.{◌≡◌, ℕ, ◌≤◌, Bool, true, false, if◌then◌else◌, List, [], length, Option, IfSome, All}
 use Rattle.std.specs.Prelude.{refl}
 use Rattle.std.specs.Coded.{Coded, code_by, coded×, coded_list, coded_option, coded_ℕ, coded_bool}
+use Rattle.std.specs.List.{AllByRecursion}
+use Rattle.tx_doc.specs.Buffers.{document_of}
 use Rattle.tx_doc.specs.contracts.buffer.Buffer as one_buffer
 use Rattle.tx_doc.specs.declared.buffer.Buffer.{Buffer}
 use Rattle.tx_items.specs.contracts.drawing.ErrorAt as one_error
@@ -16,7 +18,9 @@ use Rattle.tx_view_form.specs.Outcomes.{beginning}
 use Rattle.tx_view_form.specs.Views.{UnitView, WideView, IsView}
 use Rattle.tx_units.specs.Units.{units}
 use Rattle.tx_bridge.specs.Entries.{units_of}
-use Rattle.tx_view.specs.Laid.{stores_in, AreLaid}
+use Rattle.tx_bridge.specs.Strays.{StandAside, kept_strays}
+use Rattle.tx_unit_layout.specs.LaidUnits.{AreLaidParts}
+use Rattle.tx_view.specs.Laid.{all_stores_in, AreLaid, HasShortPlaces}
 use Rattle.tx_view.specs.Lone.{IsLone, WerePages}
 use Rattle.tx_view.specs.Names.{Fresh}
 use Rattle.tx_view.specs.Stores.{Stores, coded_Stores}
@@ -44,7 +48,7 @@ abbrev pub all_of : Inside → List Shown
 all_of v = if v.fresh then v.units.items else v.hidden.items
 
 abbrev pub stores_of : Inside → Stores
-stores_of v = stores_in v.bridges (all_of v)
+stores_of v = all_stores_in v.bridges (all_of v) v.strays
 
 abbrev pub whole_of : Inside → WholeView
 whole_of v =
@@ -75,6 +79,9 @@ pub record IsKept (v : Inside) : Type 0 where
   pub of_buffers : units_of v.bridges.kept ≡ units v.buffers.items
   pub laid : AreLaid v.width v.bridges.kept v.bridges.parts (all_of v)
   pub all_readable : All IsReadable (all_of v)
+  pub strays : AreLaidParts v.width (kept_strays v.bridges.strays) v.strays
+  pub short : AllByRecursion HasShortPlaces v.strays
+  pub aside : StandAside (document_of v.buffers.items) v.bridges.strays
   pub rows : v.paged.rows.items ≡ sums_from 0 (row_counts (unit_views v.units.items))
   pub errors : v.paged.errors.items ≡ sums_from 0 (error_counts (unit_views v.units.items))
   pub lone : IfSome v.lone (λ l. IsLone v.bridges.kept v.hidden.items l.unit l.attrs

@@ -1,21 +1,23 @@
-// What is shown of units goes with them through an edit.
-ghost use Rattle.std.specs.Prelude.{◌≡◌, ℕ, List, [], ◌+◌, ◌≤◌, ◌<◌, ◌^◌, length, slice_get, if◌then◌else◌, IfOk, OnOk};
+// What is shown of units, and of strays, which are parts that stand in no unit, goes with them through an edit.
+ghost use Rattle.std.specs.Prelude.{◌≡◌, ℕ, [], ◌+◌, ◌≤◌, ◌<◌, ◌^◌, length, slice_get, if◌then◌else◌, IfOk, OnOk};
 ghost use Rattle.std.specs.Prelude.{OnErr, Some, None, IfSome, IsTrue, MatchOption, true, false, All};
 ghost use Rattle.tx_tree.specs.WideTree.{WideTree};
 ghost use Rattle.tx_mod.specs.Followed.{changed_by_all};
 ghost use Rattle.tx_mod.specs.InTurn.{cost_of};
-ghost use Rattle.tx_doc.specs.Buffers.{tree_of, with_tree};
+ghost use Rattle.tx_doc.specs.Buffers.{document_of, tree_of, with_tree};
 ghost use Rattle.tx_units.specs.Units.{units, made};
 ghost use Rattle.tx_bridge.specs.Entries.{Entry, units_of};
 ghost use Rattle.tx_bridge.specs.MovedParts.{moves_of};
-ghost use Rattle.tx_bridge.specs.Names.{Carry, CarryParts, PartMoves, Sources};
+ghost use Rattle.tx_bridge.specs.Names.{Carry, CarryParts, CarryStrays, PartMoves, Sources};
+ghost use Rattle.tx_bridge.specs.Strays.{StandAside, kept_strays};
 ghost use Rattle.tx_bridge.specs.Settled.{IsSilent};
 ghost use Rattle.tx_bridge.specs.UnitLists.{AreUnits};
 ghost use Rattle.tx_bridge.specs.Carrying.{AllStand, AreSameBodies, HaveSameTrees};
 ghost use Rattle.tx_layout.specs.Paging.{Unmarked};
 ghost use Rattle.tx_unit_layout.specs.Views.{unit_view};
-ghost use Rattle.tx_view.specs.Exchanged.{IsNow, IsExchanged, stays_alone, exchanged_in, parts_after};
-ghost use Rattle.tx_view.specs.Laid.{IsBlank, AreBlank, AreArrived, going, taking_shown, source_shown, moved};
+ghost use Rattle.tx_view.specs.Exchanged.{IsNow, IsExchanged, stays_alone, exchanged_in, parts_after, strays_after};
+ghost use Rattle.tx_view.specs.Laid.{IsBlank, AreBlank, HaveArrived, placed_in, placed_beside, going, taking_shown};
+ghost use Rattle.tx_view.specs.Laid.{source_shown, moved};
 ghost use Rattle.tx_view.specs.Laid.{ArePutBy, left_with, StayBut, IsLeft, IsWay, IsTarget, IsFew, IsMoved, SetNoName};
 ghost use Rattle.tx_view.specs.Laid.{WasShown, IsFormer, AreLaid};
 
@@ -308,6 +310,7 @@ fn carried_anew<L: Ledger>(
     fresh: bool,
     shown: &[Shown],
     hidden: &[Shown],
+    strays: &mut LaidParts,
     after: &[Buffer],
     buffer: u32,
     before: &Tree,
@@ -321,15 +324,24 @@ fn carried_anew<L: Ledger>(
     requires new { buffer ≡ 0 → (u : WideTree) → changed_by_all mods.now before.now ≡ Some u
         → AllStand u (units after.now) }
     requires same { (buffer ≡ 0 → ⊥) → AreSameBodies (units_of bridges.old.kept) (units after.now) }
-    ensures arrived { IfOk result (λ new. AreArrived (if fresh then shown.now else hidden.now)
-        (going (if fresh then shown.now else hidden.now) (PartMoves buffer mods.now before.now
-        (units_of bridges.old.kept) bridges.old.parts (units after.now))) 0 (units after.now) new.items) }
+    requires aside { buffer ≡ 0 → StandAside before.now bridges.old.strays }
+    ensures arrived { IfOk result (λ new. HaveArrived (placed_in (if fresh then shown.now else hidden.now) strays.old)
+        (going (placed_in (if fresh then shown.now else hidden.now) strays.old) (PartMoves buffer mods.now before.now
+        (units_of bridges.old.kept) bridges.old.parts (kept_strays bridges.old.strays) (units after.now)))
+        (units after.now) new.items strays.new) }
     ensures few { IfOk result (λ new. length new.items < 2 ^ 32) }
     ensures carried { OnOk result
         (bridges.new.kept ≡ Carry buffer mods.now before.now bridges.old.kept (units after.now)) }
     ensures parts { OnOk result (bridges.new.parts ≡ CarryParts bridges.old.parts
-        (PartMoves buffer mods.now before.now (units_of bridges.old.kept) bridges.old.parts (units after.now))
-        bridges.new.sources) }
+        (PartMoves buffer mods.now before.now (units_of bridges.old.kept) bridges.old.parts
+        (kept_strays bridges.old.strays) (units after.now)) bridges.new.sources) }
+    ensures strays { OnOk result (kept_strays bridges.new.strays ≡ CarryStrays
+        (PartMoves buffer mods.now before.now (units_of bridges.old.kept) bridges.old.parts
+        (kept_strays bridges.old.strays) (units after.now)) (length (units after.now))) }
+    ensures stand { OnOk result (buffer ≡ 0 → (u : WideTree) → changed_by_all mods.now before.now ≡ Some u
+        → StandAside u bridges.new.strays) }
+    ensures stay { OnOk result ((buffer ≡ 0 → ⊥) → (u : WideTree) → StandAside u bridges.old.strays
+        → StandAside u bridges.new.strays) }
     ensures sources { OnOk result
         (bridges.new.sources ≡ Sources buffer mods.now before.now (units_of bridges.old.kept) (units after.now)) }
     ensures once { OnOk result ((i j k : ℕ) → slice_get bridges.new.sources j ≡ Some (Some i)
@@ -339,14 +351,26 @@ fn carried_anew<L: Ledger>(
         (HaveSameTrees (units_of bridges.old.kept) (units after.now) bridges.new.sources) }
     ensures counted { steps.new ≤ steps.old + (cost_of mods.now + made after.now) }
     ensures refused { OnErr result (bridges.new ≡ bridges.old) }
+    ensures still { OnErr result (strays.new ≡ strays.old) }
 {
     unit_list_laws();
     unit_count_law(after);
     let made = units(alloc, after, steps)?;
     let mut new = blanks(alloc, &made)?;
+    let mut new_strays = LaidParts::none(alloc);
     let course = bridges.course(alloc, buffer, before, mods, &made, steps)?;
-    put_either(alloc, fresh, shown, hidden, &course.moves, &mut new)?;
+    put_either(
+        alloc,
+        fresh,
+        shown,
+        hidden,
+        strays.all(),
+        &course.moves,
+        &mut new,
+        &mut new_strays,
+    )?;
     bridges.carry_along(alloc, buffer, before, mods, made, course)?;
+    *strays = new_strays;
     Ok(new)
 }
 
@@ -394,6 +418,19 @@ fn parts_moved(
     }
 }
 
+// What is laid out of strays stays where the unit of this number changes alone, but of those whose trees hold it.
+fn keep_beside(bridges: &Bridges, unit: usize, strays: &mut LaidParts)
+    requires { unit < 2 ^ 32 }
+    ensures { strays.new ≡ placed_beside unit (units_of bridges.now.kept) strays.old }
+{
+    let Some(changed) = bridges.unit(unit as u32) else {
+        return;
+    };
+    if let Some(path) = &changed.path {
+        strays.drop_fronts(path);
+    }
+}
+
 // What is kept of the old units goes to those of the buffers after the edit, and what is shown is to go to the target.
 fn carried_kept<L: Ledger>(
     alloc: Global,
@@ -401,6 +438,7 @@ fn carried_kept<L: Ledger>(
     fresh: bool,
     shown: &[Shown],
     hidden: &[Shown],
+    strays: &mut LaidParts,
     buffers: &[Buffer],
     after: &[Buffer],
     buffer: u32,
@@ -416,9 +454,11 @@ fn carried_kept<L: Ledger>(
     requires after { after.now ≡ with_tree buffers.now buffer tree.now }
     requires laid { (width : ℕ) × AreLaid width bridges.old.kept bridges.old.parts
         (if fresh then shown.now else hidden.now) }
-    ensures left { IfOk result (λ to. IsLeft buffer mods.now (tree_of buffers.now buffer)
-        (units_of bridges.old.kept) bridges.old.parts (units after.now) to
-        (if fresh then shown.now else hidden.now)) }
+    requires aside { StandAside (document_of buffers.now) bridges.old.strays }
+    ensures left { IfOk result (λ to. IsLeft mods.now (tree_of buffers.now buffer) (units_of bridges.old.kept)
+        (PartMoves buffer mods.now (tree_of buffers.now buffer) (units_of bridges.old.kept) bridges.old.parts
+        (kept_strays bridges.old.strays) (units after.now)) (units after.now) to
+        (if fresh then shown.now else hidden.now) strays.old strays.new) }
     ensures target { IfOk result
         (λ to. IsTarget (units_of bridges.old.kept) (units after.now) bridges.new.sources to) }
     ensures way { IfOk result (λ to. IsWay buffer mods.now (tree_of buffers.now buffer) (units_of bridges.old.kept)
@@ -428,7 +468,12 @@ fn carried_kept<L: Ledger>(
     ensures kept { OnOk result (bridges.new.kept
         ≡ Carry buffer mods.now (tree_of buffers.now buffer) bridges.old.kept (units after.now)) }
     ensures parts { OnOk result (bridges.new.parts ≡ parts_after buffer mods.now (tree_of buffers.now buffer)
-        (units_of bridges.old.kept) bridges.old.parts (units after.now) bridges.new.sources) }
+        (units_of bridges.old.kept) bridges.old.parts (kept_strays bridges.old.strays) (units after.now)
+        bridges.new.sources) }
+    ensures strays { OnOk result (kept_strays bridges.new.strays ≡ strays_after buffer mods.now
+        (tree_of buffers.now buffer) (units_of bridges.old.kept) bridges.old.parts (kept_strays bridges.old.strays)
+        (units after.now)) }
+    ensures aside { OnOk result (StandAside (document_of after.now) bridges.new.strays) }
     ensures sources { OnOk result (bridges.new.sources ≡ Sources buffer mods.now (tree_of buffers.now buffer)
         (units_of bridges.old.kept) (units after.now)) }
     ensures once { OnOk result ((i j k : ℕ) → slice_get bridges.new.sources j ≡ Some (Some i)
@@ -436,6 +481,7 @@ fn carried_kept<L: Ledger>(
     ensures units { OnOk result (units_of bridges.new.kept ≡ units after.now) }
     ensures counted { steps.new ≤ steps.old + (cost_of mods.now + made after.now) }
     ensures refused { OnErr result (bridges.new ≡ bridges.old) }
+    ensures still { OnErr result (strays.new ≡ strays.old) }
 {
     unit_list_laws();
     inside_law();
@@ -446,23 +492,25 @@ fn carried_kept<L: Ledger>(
             let silent = is_silent_at(bridges, changed);
             let moved = bridges.moved_parts(alloc, before, mods, changed, steps)?;
             let parts = parts_moved(alloc, fresh, shown, hidden, changed, &moved)?;
+            keep_beside(bridges, changed, strays);
             bridges.carry_in_place(before, mods, paragraph, changed, moved);
             Ok(Target::InPlace(changed, silent, parts))
         }
         None => Ok(Target::Onto(carried_anew(
-            alloc, bridges, fresh, shown, hidden, after, buffer, before, mods, steps,
+            alloc, bridges, fresh, shown, hidden, strays, after, buffer, before, mods, steps,
         )?)),
     }
 }
 
 /// The buffers after an edit of one of them, and where what is shown of the units is to go. What is kept of the old
-/// units goes with them.
+/// units goes with them, and what is kept and laid out of strays goes to where they stand.
 pub(crate) fn carried<L: Ledger>(
     alloc: Global,
     bridges: &mut Bridges,
     fresh: bool,
     shown: &[Shown],
     hidden: &[Shown],
+    strays: &mut LaidParts,
     buffers: &[Buffer],
     buffer: u32,
     mods: &[Mod],
@@ -476,9 +524,12 @@ pub(crate) fn carried<L: Ledger>(
     requires of_buffers { units_of bridges.old.kept ≡ units buffers.now }
     requires laid { (width : ℕ) × AreLaid width bridges.old.kept bridges.old.parts
         (if fresh then shown.now else hidden.now) }
-    ensures left { IfOk result (λ p. IsLeft buffer mods.now (tree_of buffers.now buffer)
-        (units_of bridges.old.kept) bridges.old.parts (units (with_tree buffers.now buffer tree.now)) p.1
-        (if fresh then shown.now else hidden.now)) }
+    requires aside { StandAside (document_of buffers.now) bridges.old.strays }
+    ensures left { IfOk result (λ p. IsLeft mods.now (tree_of buffers.now buffer) (units_of bridges.old.kept)
+        (PartMoves buffer mods.now (tree_of buffers.now buffer) (units_of bridges.old.kept) bridges.old.parts
+        (kept_strays bridges.old.strays) (units (with_tree buffers.now buffer tree.now)))
+        (units (with_tree buffers.now buffer tree.now)) p.1 (if fresh then shown.now else hidden.now) strays.old
+        strays.new) }
     ensures buffers { IfOk result (λ p. p.0.items ≡ with_tree buffers.now buffer tree.now) }
     ensures target { IfOk result (λ p. IsTarget (units_of bridges.old.kept)
         (units (with_tree buffers.now buffer tree.now)) bridges.new.sources p.1) }
@@ -487,8 +538,13 @@ pub(crate) fn carried<L: Ledger>(
     ensures kept { OnOk result (bridges.new.kept ≡ Carry buffer mods.now (tree_of buffers.now buffer) bridges.old.kept
         (units (with_tree buffers.now buffer tree.now))) }
     ensures parts { OnOk result (bridges.new.parts ≡ parts_after buffer mods.now (tree_of buffers.now buffer)
-        (units_of bridges.old.kept) bridges.old.parts (units (with_tree buffers.now buffer tree.now))
-        bridges.new.sources) }
+        (units_of bridges.old.kept) bridges.old.parts (kept_strays bridges.old.strays)
+        (units (with_tree buffers.now buffer tree.now)) bridges.new.sources) }
+    ensures strays { OnOk result (kept_strays bridges.new.strays ≡ strays_after buffer mods.now
+        (tree_of buffers.now buffer) (units_of bridges.old.kept) bridges.old.parts (kept_strays bridges.old.strays)
+        (units (with_tree buffers.now buffer tree.now))) }
+    ensures aside { OnOk result
+        (StandAside (document_of (with_tree buffers.now buffer tree.now)) bridges.new.strays) }
     ensures sources { OnOk result (bridges.new.sources ≡ Sources buffer mods.now (tree_of buffers.now buffer)
         (units_of bridges.old.kept) (units (with_tree buffers.now buffer tree.now))) }
     ensures once { OnOk result ((i j k : ℕ) → slice_get bridges.new.sources j ≡ Some (Some i)
@@ -497,12 +553,13 @@ pub(crate) fn carried<L: Ledger>(
     ensures few { IfOk result (λ p. IsFew p.1) }
     ensures silent { IfOk result (λ p. SetNoName bridges.old.kept p.1) }
     ensures refused { OnErr result (bridges.new ≡ bridges.old) }
+    ensures still { OnErr result (strays.new ≡ strays.old) }
     ensures counted { steps.new ≤ steps.old
         + (cost_of mods.now + made (with_tree buffers.now buffer tree.now)) }
 {
     let after = with_tree(alloc, buffers, buffer, tree)?;
     let target = carried_kept(
-        alloc, bridges, fresh, shown, hidden, buffers, &after, buffer, mods, tree, steps,
+        alloc, bridges, fresh, shown, hidden, strays, buffers, &after, buffer, mods, tree, steps,
     )?;
     Ok((after, target))
 }

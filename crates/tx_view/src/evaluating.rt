@@ -1,6 +1,6 @@
 // Units evaluated anew, where nothing fits, and what is laid out of them forgotten.
 ghost use Rattle.std.specs.Prelude.{◌≡◌, ◌+◌, ◌≤◌, ◌<◌, ◌^◌, length, slice_get, All, IfOk, OnOk, OnErr, true, false};
-ghost use Rattle.std.specs.Prelude.{ℕ, map, IsTrue, None};
+ghost use Rattle.std.specs.Prelude.{ℕ, [], map, IsTrue, None};
 ghost use Rattle.std.specs.Option.{unwrap_or};
 ghost use Rattle.tx_view_form.specs.Outcomes.{beginning};
 ghost use Rattle.tx_bridge.specs.Entries.{units_of, fresh_from};
@@ -120,6 +120,8 @@ pub(crate) fn evaluate<L: Ledger>(
     ensures dropped { OnErr result ((width : ℕ) → AreLaid width bridges.old.kept bridges.old.parts units.old
         → AreLaid width bridges.new.kept bridges.new.parts units.new) }
     ensures no_parts { OnErr result (without_parts units.new ≡ units.new) }
+    ensures strays { OnOk result (bridges.new.strays ≡ []) }
+    ensures strays_stay { OnErr result (bridges.new.strays ≡ bridges.old.strays) }
     ensures flags { OnOk result (bridges.new.part_flags ≡ PartFlags bridges.old.kept bridges.old.parts) }
     ensures readable { All IsReadable units.old
         → All IsReadable units.new }

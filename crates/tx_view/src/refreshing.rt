@@ -1,6 +1,6 @@
 // Units evaluated and laid out.
 ghost use Rattle.std.specs.Prelude.{◌≡◌, ◌+◌, ◌≤◌, ◌<◌, ◌^◌, length, All, IfOk, OnOk, OnErr, Some, true, false};
-ghost use Rattle.std.specs.Prelude.{IsSome, IfSome, None};
+ghost use Rattle.std.specs.Prelude.{IsSome, IfSome, None, [], ◌⊎◌};
 ghost use Rattle.tx_items.specs.declared.attributes.Attrs.{Attrs};
 ghost use Rattle.tx_view_form.specs.Outcomes.{beginning};
 ghost use Rattle.tx_view_form.specs.Views.{AreShown, lines_of};
@@ -55,6 +55,9 @@ fn lay_out_all<L: Ledger>(
     ensures units { units_of bridges.new.kept ≡ units_of bridges.old.kept }
     ensures laid { OnOk result (AreLaid width bridges.new.kept bridges.new.parts units.new) }
     ensures left { OnErr result (AreLaid width bridges.new.kept bridges.new.parts (without_parts units.new)) }
+    ensures strays { OnOk result (bridges.new.strays ≡ []) }
+    ensures strays_left { OnErr result
+        ((bridges.new.strays ≡ bridges.old.strays) ⊎ (bridges.new.strays ≡ [])) }
     ensures readable { All IsReadable units.new }
 {
     let none = units.len();
@@ -96,6 +99,9 @@ fn lay_out_lone<L: Ledger>(
     ensures units { units_of bridges.new.kept ≡ units_of bridges.old.kept }
     ensures laid { OnOk result (AreLaid width bridges.new.kept bridges.new.parts units.new) }
     ensures left { OnErr result (AreLaid width bridges.new.kept bridges.new.parts (without_parts units.new)) }
+    ensures strays { OnOk result (bridges.new.strays ≡ []) }
+    ensures strays_left { OnErr result
+        ((bridges.new.strays ≡ bridges.old.strays) ⊎ (bridges.new.strays ≡ [])) }
     ensures readable { All IsReadable units.new }
 {
     trace_laws();
@@ -145,6 +151,9 @@ fn lay_out_by<L: Ledger>(
     ensures units { units_of bridges.new.kept ≡ units_of bridges.old.kept }
     ensures laid { OnOk result (AreLaid width bridges.new.kept bridges.new.parts units.new) }
     ensures left { OnErr result (AreLaid width bridges.new.kept bridges.new.parts (without_parts units.new)) }
+    ensures strays { OnOk result (bridges.new.strays ≡ []) }
+    ensures strays_left { OnErr result
+        ((bridges.new.strays ≡ bridges.old.strays) ⊎ (bridges.new.strays ≡ [])) }
     ensures readable { All IsReadable units.new }
 {
     match lone {
@@ -191,6 +200,9 @@ pub(crate) fn lay_out<L: Ledger>(
         (fresh_stores (units_of bridges.old.kept)) (stores_in bridges.new units.new)) }
     ensures units { units_of bridges.new.kept ≡ units_of bridges.old.kept }
     ensures laid { AreLaid width bridges.new.kept bridges.new.parts units.new }
+    ensures strays { OnOk result (bridges.new.strays ≡ []) }
+    ensures strays_left { OnErr result
+        ((bridges.new.strays ≡ bridges.old.strays) ⊎ (bridges.new.strays ≡ [])) }
     ensures readable { All IsReadable units.new }
 {
     match lay_out_by(alloc, bridges, lone, units, width, steps) {

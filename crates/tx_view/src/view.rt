@@ -1,6 +1,6 @@
 // The view.
 ghost use Rattle.std.specs.Prelude.{◌≡◌, ℕ, ◌+◌, ◌≤◌, ◌<◌, ◌^◌, List, [], ◌∷◌, length, true, false, All, MatchOption};
-ghost use Rattle.std.specs.Prelude.{IsTrue, IsOk, IfOk, IsSome, IfSome};
+ghost use Rattle.std.specs.Prelude.{IsTrue, IsOk, IfOk, IsSome, IfSome, ◌⊎◌};
 ghost use Rattle.std.specs.Option.{option_map};
 ghost use Rattle.std.specs.Prelude.{OnOk, OnErr, None, Some, option_and_then, option_copied, slice_get};
 ghost use Rattle.tx_mod.specs.Followed.{changed_by_all};
@@ -52,7 +52,7 @@ use tx_lines::Cut;
 use tx_mod::Mod;
 use tx_origin::{Base, Spot};
 use tx_tree::{Path, Place, Tree};
-use tx_unit_layout::Shown;
+use tx_unit_layout::{LaidParts, Shown};
 use tx_units::{unit_count_law, units};
 
 /// The view of buffers on pages of some width and height. It is fresh where it was made anew since the buffers changed
@@ -72,6 +72,8 @@ pub struct View {
     units: Vec<Shown>,
     // what was shown of each unit before the buffers changed, and nothing where it is fresh
     hidden: Vec<Shown>,
+    // what is laid out of strays, the parts that stand in no unit, by their paths in the document: of each, or of none
+    strays: LaidParts,
     // the pages of what is shown
     paged: Pagination,
     // the one unit that has changed since the view was fresh, if it is known that all others stay
@@ -148,6 +150,9 @@ fn made_anew<L: Ledger>(
     ensures work { IfOk result (λ p. p.1 ≡ Bound (stores_in bridges.old all.old)) }
     ensures counted { IfOk result (λ p. steps.new ≡ steps.old + p.1) }
     ensures of_buffers { units_of bridges.new.kept ≡ units buffers.now }
+    ensures strays { OnOk result (bridges.new.strays ≡ []) }
+    ensures strays_left { OnErr result
+        ((bridges.new.strays ≡ bridges.old.strays) ⊎ (bridges.new.strays ≡ [])) }
     ensures laid { AreLaid size.0 bridges.new.kept bridges.new.parts all.new }
     ensures readable { All IsReadable all.new }
     ensures below { OnOk result (All IsBelow all.new) }
@@ -208,6 +213,7 @@ impl View {
             bridges: Bridges::start(alloc, made)?,
             units: Vec::new(alloc),
             hidden,
+            strays: LaidParts::none(alloc),
             paged: nothing_paged(alloc)?,
             lone: None,
             work: 0,
@@ -219,11 +225,12 @@ impl View {
     /// kept of a unit goes with it, and what is kept of its parts too: a paragraph of the document goes by the
     /// modifications from path to path, and another unit stays the one of its number, where kind and tree are the same.
     /// Of a paragraph inside which all modifications are, and which is found to change alone, the trace goes. What is
-    /// kept and laid out of the parts that stay in it stays, also of those that move. Else the parts of a paragraph
-    /// that is none afterwards go with what is kept of them to the paragraphs in which they stand then, and what is
-    /// laid out of such parts goes with them, if something is of each. Nothing is evaluated. The steps rise by at most
-    /// the paths' lengths, three for each modification, and the nodes that are made for units. For want of memory all
-    /// stays.
+    /// kept and laid out of the parts that stay in it stays, also of those that move. So are strays, the parts that
+    /// stand in no paragraph since an edit, but for one that holds it. Else the parts of a paragraph that is none
+    /// afterwards, and strays, go with what is kept of them to the paragraphs in which they stand then, or they are
+    /// strays. What is laid out of such parts goes with them, if something is of each. Nothing is evaluated. The steps
+    /// rise by at most the paths' lengths, three for each modification, and the nodes that are made for units. For want
+    /// of memory all stays.
     pub fn edited<L: Ledger>(
         &mut self,
         alloc: Global,
@@ -252,6 +259,7 @@ impl View {
             self.fresh,
             &self.units,
             &self.hidden,
+            &mut self.strays,
             &self.buffers,
             buffer,
             mods,
@@ -279,11 +287,12 @@ impl View {
     /// of before. So it is of the parts of a paragraph of the body that is evaluated or laid out anew. The steps rise
     /// by the charges of the other units, which for such a paragraph are the costs of the other parts, and the items of
     /// those that are laid out anew. Of a paragraph of the body that isn't over these are the items of the parts that
-    /// are evaluated anew, or aren't laid out for the attributes before them.
+    /// are evaluated anew, or aren't laid out for the attributes before them. Afterwards there are no strays.
     ///
     /// For want of memory it isn't fresh, and a later refresh is right. The units before some number, and their parts,
     /// have then the traces of the present buffers, and the others what they had. A unit that is laid out then has both
-    /// the trace and the attributes that it had, or both of the present buffers. Of parts nothing is laid out then.
+    /// the trace and the attributes that it had, or both of the present buffers. What is kept of strays is as before,
+    /// or nothing is. Of parts nothing is laid out then.
     pub fn refresh<L: Ledger>(&mut self, alloc: Global, steps: &mut Steps<L>) -> Result<(), Memory>
         ensures fresh { OnOk result (self.new.fresh ≡ true) }
         ensures view { OnOk result (IsView self.new.buffers self.new.width self.new.height self.new.shown) }
@@ -309,6 +318,7 @@ impl View {
         }
         let size = (self.width, self.height);
         let lone = mem::replace(&mut self.lone, None);
+        self.strays.forget();
         let (paged, work) = made_anew(
             alloc,
             &self.buffers,
@@ -326,8 +336,8 @@ impl View {
     }
 
     /// Whether it is fresh. At every moment, also behind a refresh that lacked memory, what is kept is of the units of
-    /// the present buffers, and the trace of a unit, or of a part of one, is that of its tree in each environment that
-    /// agrees with what it looked up.
+    /// the present buffers, or of strays that stand in the document, and the trace of a unit, or of a part or a stray,
+    /// is that of its tree in each environment that agrees with what it looked up.
     pub fn fresh(&self) -> bool
         ensures fresh { result ≡ self.now.fresh }
         ensures view { IsTrue result → IsView self.now.buffers self.now.width self.now.height self.now.shown }

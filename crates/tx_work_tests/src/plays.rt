@@ -329,6 +329,53 @@ pub(crate) const WRAPS: Play = Play {
     ],
 };
 
+// Bodies that come and go, so that what they leave out stands in no paragraph for a while.
+pub(crate) const BODIES: Play = Play {
+    document: "(document (assign \"v\" \"1\") \"ab\" (value \"v\") (with \"color\" \"red\" (document \"cd\" (value \
+        \"v\"))) (em (document (assign \"v\" \"6\") \"gh\" (value \"v\"))) (concat \"i\" (em \"j\")))",
+    style: "(document)",
+    paths: &[
+        "/", "/0", "/0/0", "/1", "/1/0", "/2", "/3", "/3/2", "/3/2/0", "/4/0", "/4/0/1", "/5",
+    ],
+    trees: &[
+        "\"k\"",
+        "(tuple \"l\" (value \"v\"))",
+        "(body (document \"m\" \"n\"))",
+        "(tuple (body (value \"v\")))",
+        "(tuple (assign \"v\" \"4\"))",
+    ],
+    edits: &[
+        "insert / 0 (tuple (body \"x\"))",
+        "insert / 0 (tuple (body \"x\"))\nundo",
+        "insert / 0 (tuple (body \"x\"))\nundo\nredo\nundo",
+        "insert / 1 (tuple (body (document \"y\" (value \"v\"))))",
+        "insert / 1 (tuple (body (document \"y\" (value \"v\"))))\nundo",
+        "insert / 2 (tuple (body (document \"y\" \"z\")))\ninsert /2/0/0 0 \"p\"\nremove / 2 1",
+        "insert / 0 (tuple (body \"x\"))\ninsert / 3 (tuple \"q\")\nremove / 0 1",
+        "insert / 0 (tuple (body \"x\"))\ninsert /2 0 \"q\"\nremove / 0 1",
+        "insert / 0 (tuple (body \"x\"))\nsplit / 4 1\nassign /0/0 \"r\"\nremove / 0 1",
+        "insert / 0 (tuple (body \"x\"))\ninsert-node / 1 (document \"front\")\nundo\nremove / 0 1",
+        "assign-node /4 body",
+        "assign-node /4 body\nassign-node /4 em",
+        "assign-node /4 body\nassign-node /4 document",
+        "assign-node /4 em",
+        "insert-node /3 0 (body)",
+        "insert-node /3 0 (body)\nremove-node /3 0",
+        "remove-node /3 0",
+        "remove / 0 1",
+        "remove / 1 1",
+        "assign /0/0 \"s\"",
+        "insert /1/0 1 (tuple \"t\")",
+        "at s\ninsert / 0 (tuple (assign \"v\" \"2\"))\nat d",
+        "insert / 0 (tuple (body \"x\"))\nat s\ninsert / 0 (tuple \"top\")\nat d\nremove / 0 1",
+        "undo",
+        "undo\nundo",
+        "undo\nundo\nundo",
+        "redo",
+        "redo\nredo",
+    ],
+};
+
 // One of these.
 fn pick(words: &'static [&'static str], dice: &mut Dice) -> Option<&'static str> {
     let n = words.len();

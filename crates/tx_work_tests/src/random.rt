@@ -5,7 +5,7 @@ ghost use Rattle.tx_doc.specs.Buffers.{NamesDiffer};
 use crate::beside::done;
 use crate::kept::Kept;
 use crate::plays::{
-    ATTRIBUTES, BUDGETS, MACROS, MOVES, PARTS, Play, VARIABLES, WRAPS, random_lines,
+    ATTRIBUTES, BODIES, BUDGETS, MACROS, MOVES, PARTS, Play, VARIABLES, WRAPS, random_lines,
 };
 use crate::replies::{answer, shown, sink, work};
 use std::alloc::Global;
@@ -367,6 +367,14 @@ fn moves(rt: HostRuntime) -> Result<(), Fail> {
 #[test]
 fn wraps(rt: HostRuntime) -> Result<(), Fail> {
     let score = played::<Brand>(rt.alloc(), &WRAPS, 7, 90, Blank::new(1)).ok_or("no session")?;
+    assert_eq!(rt; score.wrong, None);
+    assert!(rt; score.accepted > 35, "{}", score.accepted);
+    Ok(())
+}
+
+#[test]
+fn bodies(rt: HostRuntime) -> Result<(), Fail> {
+    let score = played::<Brand>(rt.alloc(), &BODIES, 8, 90, Blank::new(1)).ok_or("no session")?;
     assert_eq!(rt; score.wrong, None);
     assert!(rt; score.accepted > 35, "{}", score.accepted);
     Ok(())

@@ -8,10 +8,11 @@ use Rattle.tx_bridge.proofs.bridges.give_over.Goals as goal
 
 pub give_all-requires-clause-apart : goal.give_all-requires-clause-apart
 give_all-requires-clause-apart c =
-    let whole : take c.in_ok-new.new.len (c.put_moves.new.new ++ drop (length c.put_moves.new.new) c.in_ok-new.new.items)
+    let whole : take c.in_ok-new.new.len
+    (c.put_moves.new.new ++ drop (length c.put_moves.new.new) c.in_ok-new.new.items)
     ≡ c.put_moves.new.new = grind (arith, common_steps) in
     subst AreApart
-    (sym (c.deref_mut-2.ensures.value ∙ whole ∙ c.in_ok-put_moves.ensures
+    (sym (c.deref_mut-2.ensures.value ∙ whole ∙ c.in_ok-put_moves.ensures.units
     ∙ ap (with_arrived c.args.course.moves.items 0) (c.deref_mut.ensures.value ∙ c.in_ok-new.ensures)))
     (coming_apart c.args.course.moves.items c.args.units.items c.requires.units.apart)
 
@@ -33,18 +34,20 @@ give_all-requires-clause-placed c =
 
 pub give_all-requires-clause-all : goal.give_all-requires-clause-all
 give_all-requires-clause-all c =
-    let whole : take c.in_ok-new.new.len (c.put_moves.new.new ++ drop (length c.put_moves.new.new) c.in_ok-new.new.items)
+    let whole : take c.in_ok-new.new.len
+    (c.put_moves.new.new ++ drop (length c.put_moves.new.new) c.in_ok-new.new.items)
     ≡ c.put_moves.new.new = grind (arith, common_steps) in
     subst AllPlaced
-    (sym (c.deref_mut-2.ensures.value ∙ whole ∙ c.in_ok-put_moves.ensures
+    (sym (c.deref_mut-2.ensures.value ∙ whole ∙ c.in_ok-put_moves.ensures.units
     ∙ ap (with_arrived c.args.course.moves.items 0) (c.deref_mut.ensures.value ∙ c.in_ok-new.ensures)))
     (coming_placed c.args.course.moves.items c.args.units.items c.requires.units.placed)
 
 pub returns-clause-given : goal.returns-clause-given
 returns-clause-given c = λ ms t is.
-    let whole : take c.in_ok-new.new.len (c.put_moves.new.new ++ drop (length c.put_moves.new.new) c.in_ok-new.new.items)
+    let whole : take c.in_ok-new.new.len
+    (c.put_moves.new.new ++ drop (length c.put_moves.new.new) c.in_ok-new.new.items)
     ≡ c.put_moves.new.new = grind (arith, common_steps) in
-    let now = c.deref_mut-2.ensures.value ∙ whole ∙ c.in_ok-put_moves.ensures
+    let now = c.deref_mut-2.ensures.value ∙ whole ∙ c.in_ok-put_moves.ensures.units
     ∙ ap (with_arrived c.args.course.moves.items 0) (c.deref_mut.ensures.value ∙ c.in_ok-new.ensures) in
     let end : take c.in_ok-new.new.len (c.give_all.new.new ++ drop (length c.give_all.new.new)
     (take c.in_ok-new.new.len (c.put_moves.new.new ++ drop (length c.put_moves.new.new) c.in_ok-new.new.items)))

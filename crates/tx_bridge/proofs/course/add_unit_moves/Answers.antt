@@ -7,10 +7,14 @@ pub add_moves-requires-clause-passage : goal.add_moves-requires-clause-passage
 add_moves-requires-clause-passage c = (
   c.requires.passage.0,
   c.requires.passage.1,
-  (
-    c.args.bridge.now.unit.tagged.tree,
-    c.requires.passage.2 c.in-Some.path c.in-Some.is,
-    subst (AllByRecursion (HoldsPart c.args.bridge.now.unit.tagged.tree)) (sym c.all.ensures)
-        c.requires.sound.parts.hold,
-  ),
+  c.requires.passage.2 c.in-Some.path c.in-Some.is,
 )
+
+pub add_moves-requires-clause-hold : goal.add_moves-requires-clause-hold
+add_moves-requires-clause-hold c =
+    subst (AllByRecursion (HoldsPart c.args.bridge.now.unit.tagged.tree)) (sym c.all.ensures)
+    c.requires.sound.parts.hold
+
+pub returns-clause-trees : goal.returns-clause-trees
+returns-clause-trees c = λ t h stand all.
+    c.in_ok-add_moves.ensures.trees t h (stand c.in-Some.path c.in-Some.is) all

@@ -14,6 +14,6 @@ returns-in-None c =
 pub returns-in-Some-number_above : goal.returns-in-Some-number_above
 returns-in-Some-number_above c =
     vacant_read c.args.units.now c.in-Some.place c.in-Some-number_above.j c.index-units-j.result c.has_path.result
-    c.requires c.in-Some-number_above.ensures.unit_above c.in-Some-number_above.ensures.within c.index-units-j.is
+    c.requires.apart c.in-Some-number_above.ensures.unit_above c.in-Some-number_above.ensures.within c.index-units-j.is
     c.has_path.ensures
     ∙ ap (λ o. is_vacant o c.args.units.now) (sym c.in-Some.is)

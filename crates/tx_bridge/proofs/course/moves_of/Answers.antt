@@ -31,4 +31,8 @@ loop-i-preserved c = (
       c.index-bridges-i.result c.index-bridges-i.is c.args.places.now c.index-places-i.result places
       c.index-places-i.is)) (c.loop-i.invariant.0 t h stand places)),
   c.in_ok-hint.ensures.tidy c.loop-i.invariant.1,
+  (λ t h stand.
+      c.in_ok-hint.ensures.trees t h
+      (unit_stands c.args.mods.now t c.args.units.now c.args.bridges.now c.loop-i.i (omega arith)
+      c.index-bridges-i.result c.index-bridges-i.is stand) (c.loop-i.invariant.2 t h stand)),
 )

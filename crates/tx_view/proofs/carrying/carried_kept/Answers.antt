@@ -1,14 +1,23 @@
-use Rattle.std.proofs.Common.{◌∙◌, ℕ, List, Option, ap, sym, subst, slice_index_or, if◌then◌else◌}
+use Rattle.std.proofs.Common.{◌≡◌, ◌∙◌, ℕ, List, length, Option, Some, ap, sym, subst, slice_index_or, if◌then◌else◌}
+use Rattle.std.specs.List.{filter}
+use Rattle.std.specs.Option.{option_map_or}
 use Rattle.std.specs.Prelude.{option_and_then}
+use Rattle.tx_tree.specs.WideTree.{WideTree}
+use Rattle.tx_doc.specs.Buffers.{document_of, tree_of}
+use Rattle.tx_doc.specs.declared.buffer.Buffer.{Buffer}
 use Rattle.tx_mod.specs.Followed.{changed_by_all}
 use Rattle.tx_units.specs.declared.kinds.Unit.{Unit as DocUnit}
 use Rattle.tx_units.specs.Units.{units}
 use Rattle.tx_walk.specs.declared.part.Part.{Part as DonePart}
 use Rattle.tx_bridge.specs.Entries.{units_of}
 use Rattle.tx_bridge.specs.MovedParts.{moves_of}
-use Rattle.tx_bridge.specs.Names.{Carry, Sources}
-use Rattle.tx_view.specs.Exchanged.{IsExchanged, exchanged_in}
+use Rattle.tx_bridge.specs.Names.{Carry, CarryStrays, PartMoves, Sources}
+use Rattle.tx_bridge.specs.PartsKept.{KeptParts}
+use Rattle.tx_bridge.specs.Strays.{StandAside, is_beside, kept_strays, path_at}
+use Rattle.tx_unit_layout.specs.declared.shown.Shown.{Shown}
+use Rattle.tx_view.specs.Exchanged.{IsExchanged, exchanged, exchanged_in}
 use Rattle.tx_view.specs.Laid.{ArePutBy, parts_left}
+use Rattle.tx_view.proofs.Aside.{aside_after, aside_before, kept_beside}
 use Rattle.tx_view.proofs.Blank.{tree_at}
 use Rattle.tx_view.proofs.Exchanging.{carried_at}
 use Rattle.tx_view.proofs.OfParts.{laid_inside, left_there}
@@ -47,19 +56,72 @@ parts_moved-requires g c =
     h.one.there
 
 pub returns-in_ok-parts-in-Some-clause-left : goal.returns-in_ok-parts-in-Some-clause-left
-returns-in_ok-parts-in-Some-clause-left g c x at =
+returns-in_ok-parts-in-Some-clause-left g c =
+    let xs : List Shown = if c.args.fresh then c.args.shown.now else c.args.hidden.now in
+    let h : IsExchanged c.in-Some.changed c.args.buffer c.args.mods.now c.args.tree.now c.in-Some.paragraph
+    (units_of c.args.bridges.now.kept) = (rw c.in-Some.is at c.in_ok-changed.ensures).0 in (
+      λ x at.
+          left_there c.requires.laid.0 c.in-Some.changed c.args.buffer c.args.mods.now
+          (slice_index_or c.args.buffers.now c.args.buffer c.index-buffers-buffer.result).tree
+          c.args.bridges.now.kept c.args.bridges.now.parts xs c.in_ok-moved-in-Some.moved.items x
+          c.in_ok-parts-in-Some.parts c.requires.laid.1 h.one c.in_ok-moved-in-Some.ensures.moved at
+          (subst (λ (os : List (ℕ × Option DonePart)). ArePutBy (moves_of os) xs c.in-Some.changed
+          c.in_ok-parts-in-Some.parts) c.deref.ensures.value c.in_ok-parts-in-Some.ensures)
+          ∙ ap (λ t. parts_left c.args.mods.now t x.path x.parts)
+          (sym (tree_at c.args.buffers.now c.args.buffer c.index-buffers-buffer.result c.requires.within)),
+      c.keep_beside.ensures,
+    )
+
+pub returns-in_ok-parts-in-Some-clause-strays : goal.returns-in_ok-parts-in-Some-clause-strays
+returns-in_ok-parts-in-Some-clause-strays g c =
+    let us : List DocUnit = units_of c.args.bridges.now.kept in
+    let ks : KeptParts = kept_strays c.args.bridges.now.strays in
+    let t : WideTree = tree_of c.args.buffers.now c.args.buffer in
+    let found : exchanged c.args.buffer c.args.mods.now t us ≡ Some c.in-Some.changed =
+    ap (option_and_then (λ u. exchanged_in c.args.buffer c.args.mods.now u us)) c.requires.changed
+    ∙ (rw c.in-Some.is at c.in_ok-changed.ensures).1 in
+    ap kept_strays c.carry_in_place.ensures.strays ∙ kept_beside c.in-Some.changed us c.args.bridges.now.strays
+    ∙ ap (λ o. option_map_or (λ i. filter (λ k. is_beside (path_at i us) k.path) ks) o
+    (CarryStrays (PartMoves c.args.buffer c.args.mods.now t us c.args.bridges.now.parts ks (units c.args.after.now))
+    (length (units c.args.after.now)))) (sym found)
+
+pub returns-in_ok-parts-in-Some-clause-aside : goal.returns-in_ok-parts-in-Some-clause-aside
+returns-in_ok-parts-in-Some-clause-aside g c =
     let h : IsExchanged c.in-Some.changed c.args.buffer c.args.mods.now c.args.tree.now c.in-Some.paragraph
     (units_of c.args.bridges.now.kept) = (rw c.in-Some.is at c.in_ok-changed.ensures).0 in
-    left_there c.requires.laid.0 c.in-Some.changed c.args.buffer c.args.mods.now
-    (slice_index_or c.args.buffers.now c.args.buffer c.index-buffers-buffer.result).tree
-    c.args.bridges.now.kept c.args.bridges.now.parts (if c.args.fresh then c.args.shown.now else c.args.hidden.now)
-    c.in_ok-moved-in-Some.moved.items x c.in_ok-parts-in-Some.parts c.requires.laid.1 h.one
-    c.in_ok-moved-in-Some.ensures.moved at
-    (subst (λ (os : List (ℕ × Option DonePart)). ArePutBy (moves_of os)
-    (if c.args.fresh then c.args.shown.now else c.args.hidden.now) c.in-Some.changed c.in_ok-parts-in-Some.parts)
-    c.deref.ensures.value c.in_ok-parts-in-Some.ensures)
-    ∙ ap (λ t. parts_left c.args.mods.now t x.path x.parts)
+    subst (λ (bs : List Buffer). StandAside (document_of bs) c.carry_in_place.new.self.strays) (sym c.requires.after)
+    (aside_after c.args.buffers.now c.args.buffer c.args.mods.now c.args.tree.now
+    (slice_index_or c.args.buffers.now c.args.buffer c.index-buffers-buffer.result).tree c.args.bridges.now.strays
+    c.carry_in_place.new.self.strays c.requires.within
     (sym (tree_at c.args.buffers.now c.args.buffer c.index-buffers-buffer.result c.requires.within))
+    c.requires.changed c.requires.aside (λ first. c.carry_in_place.ensures.stand)
+    (λ other. absurd (other h.one.document)))
+
+pub carry_in_place-requires-clause-strays : goal.carry_in_place-requires-clause-strays
+carry_in_place-requires-clause-strays g c =
+    let h : IsExchanged c.in-Some.changed c.args.buffer c.args.mods.now c.args.tree.now c.in-Some.paragraph
+    (units_of c.args.bridges.now.kept) = (rw c.in-Some.is at c.in_ok-changed.ensures).0 in
+    aside_before c.args.buffers.now c.args.buffer
+    (slice_index_or c.args.buffers.now c.args.buffer c.index-buffers-buffer.result).tree c.args.bridges.now.strays
+    (sym (tree_at c.args.buffers.now c.args.buffer c.index-buffers-buffer.result c.requires.within))
+    c.requires.aside h.one.document
+
+pub carried_anew-requires-clause-aside : goal.carried_anew-requires-clause-aside
+carried_anew-requires-clause-aside g c first =
+    aside_before c.args.buffers.now c.args.buffer
+    (slice_index_or c.args.buffers.now c.args.buffer c.index-buffers-buffer.result).tree c.args.bridges.now.strays
+    (sym (tree_at c.args.buffers.now c.args.buffer c.index-buffers-buffer.result c.requires.within))
+    c.requires.aside first
+
+pub returns-in_ok-carried_anew-in-None-clause-aside : goal.returns-in_ok-carried_anew-in-None-clause-aside
+returns-in_ok-carried_anew-in-None-clause-aside g c =
+    subst (λ (bs : List Buffer). StandAside (document_of bs) c.carried_anew.new.bridges.strays) (sym c.requires.after)
+    (aside_after c.args.buffers.now c.args.buffer c.args.mods.now c.args.tree.now
+    (slice_index_or c.args.buffers.now c.args.buffer c.index-buffers-buffer.result).tree c.args.bridges.now.strays
+    c.carried_anew.new.bridges.strays c.requires.within
+    (sym (tree_at c.args.buffers.now c.args.buffer c.index-buffers-buffer.result c.requires.within))
+    c.requires.changed c.requires.aside c.in_ok-carried_anew-in-None.ensures.stand
+    c.in_ok-carried_anew-in-None.ensures.stay)
 
 pub returns-in_ok-parts-in-Some-clause-target : goal.returns-in_ok-parts-in-Some-clause-target
 returns-in_ok-parts-in-Some-clause-target g c =

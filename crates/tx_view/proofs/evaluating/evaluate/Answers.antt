@@ -54,4 +54,4 @@ unfolding Fresh FreshParts
 returns-in-Err-clause-refused g c =
     let r = c.in-Err.ensures.refused in
     dropped_all c.args.bridges.now c.refresh.new.self c.args.units.now c.forget_all.new.units r.0 c.requires.as_many
-    c.in-Err.ensures.units r.1 r.2 c.forget_all.ensures
+    c.in-Err.ensures.units r.1 r.2 c.in-Err.ensures.strays_stay c.forget_all.ensures

@@ -69,7 +69,7 @@ returns-in_err-items-clause-refused g c =
     any_err c.from_residual-in_err-items.result
     (evaluated c.args.bridges.now c.evaluate.new.bridges c.args.units.now c.evaluate.new.units c.lay_all.new.units
     c.in_ok-charges.ensures.kept c.in_ok-charges.ensures.parts c.in_ok-charges.ensures.units
-    c.in_ok-charges.ensures.left c.in_err-items.ensures.still)
+    c.in_ok-charges.ensures.left c.in_ok-charges.ensures.strays c.in_err-items.ensures.still)
 
 pub returns-in_err-items-clause-left : goal.returns-in_err-items-clause-left
 returns-in_err-items-clause-left g c =

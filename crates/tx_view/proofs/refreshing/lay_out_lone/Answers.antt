@@ -139,14 +139,14 @@ returns-in_err-items-clause-refused g c =
     any_err c.from_residual-in_err-items.result
     (evaluated c.args.bridges.now c.evaluate.new.bridges c.args.units.now c.evaluate.new.units c.lay_if.new.units
     c.in_ok-charges.ensures.kept c.in_ok-charges.ensures.parts c.in_ok-charges.ensures.units
-    c.in_ok-charges.ensures.left c.in_err-items.ensures.still)
+    c.in_ok-charges.ensures.left c.in_ok-charges.ensures.strays c.in_err-items.ensures.still)
 
 pub returns-in_err-rest-clause-refused : goal.returns-in_err-rest-clause-refused
 returns-in_err-rest-clause-refused g c =
     any_err c.from_residual-in_err-rest.result
     (evaluated c.args.bridges.now c.evaluate.new.bridges c.args.units.now c.evaluate.new.units c.lay_all.new.units
     c.in_ok-charges.ensures.kept c.in_ok-charges.ensures.parts c.in_ok-charges.ensures.units
-    c.in_ok-charges.ensures.left
+    c.in_ok-charges.ensures.left c.in_ok-charges.ensures.strays
     (laid_then (laid_in c.evaluate.new.units) (attributes_from beginning (units_of c.evaluate.new.bridges.kept))
     (laid_in c.lay_if.new.units) (laid_in c.lay_all.new.units) c.in_ok-items.ensures.still
     c.in_err-rest.ensures.still))

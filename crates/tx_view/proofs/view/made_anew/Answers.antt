@@ -1,8 +1,9 @@
-use Rattle.std.proofs.Common.{List, subst, sym}
+use Rattle.std.proofs.Common.{List, ap, subst, sym}
 use Rattle.tx_units.specs.declared.kinds.Unit.{Unit as DocUnit}
 use Rattle.tx_units.specs.Units.{units}
 use Rattle.tx_view_form.specs.Outcomes.{beginning}
 use Rattle.tx_bridge.specs.Entries.{units_of}
+use Rattle.tx_bridge.specs.Strays.{kept_strays}
 use Rattle.tx_unit_layout.specs.declared.shown.Shown.{Shown}
 use Rattle.tx_view.specs.Laid.{AreLaid, laid_in, laid_parts_in, stores_in}
 use Rattle.tx_view.specs.Names.{Fresh, Bound}
@@ -22,8 +23,9 @@ pub returns-in-Ok-clause-stores : goal.returns-in-Ok-clause-stores
 unfolding Fresh
 returns-in-Ok-clause-stores g c =
     all_made c.args.buffers.now c.args.bridges.now.kept c.lay_out.new.bridges.kept c.lay_out.new.bridges.parts
-    (laid_in c.lay_out.new.units) (laid_parts_in c.lay_out.new.units) c.requires.of_buffers c.in_ok-work.ensures.kept
-    c.in_ok-work.ensures.parts c.in_ok-work.ensures.attributes c.in_ok-work.ensures.laid_parts
+    (laid_in c.lay_out.new.units) (laid_parts_in c.lay_out.new.units) (kept_strays c.lay_out.new.bridges.strays)
+    c.requires.of_buffers c.in_ok-work.ensures.kept c.in_ok-work.ensures.parts c.in_ok-work.ensures.attributes
+    c.in_ok-work.ensures.laid_parts (ap kept_strays c.in_ok-work.ensures.strays)
 
 pub returns-in-Ok-clause-work : goal.returns-in-Ok-clause-work
 unfolding Bound
@@ -45,8 +47,9 @@ returns-in-Err-clause-refused g c =
     (all_fresh (stores_in c.args.bridges.now c.args.all.now) c.lay_out.new.bridges (units c.args.buffers.now)
     c.lay_out.new.units
     (all_made c.args.buffers.now c.args.bridges.now.kept c.lay_out.new.bridges.kept c.lay_out.new.bridges.parts
-    (laid_in c.lay_out.new.units) (laid_parts_in c.lay_out.new.units) c.requires.of_buffers c.in_ok-work.ensures.kept
-    c.in_ok-work.ensures.parts c.in_ok-work.ensures.attributes c.in_ok-work.ensures.laid_parts))
+    (laid_in c.lay_out.new.units) (laid_parts_in c.lay_out.new.units) (kept_strays c.lay_out.new.bridges.strays)
+    c.requires.of_buffers c.in_ok-work.ensures.kept c.in_ok-work.ensures.parts c.in_ok-work.ensures.attributes
+    c.in_ok-work.ensures.laid_parts (ap kept_strays c.in_ok-work.ensures.strays)))
 
 pub returns-in-Err-clause-laid : goal.returns-in-Err-clause-laid
 returns-in-Err-clause-laid g c =

@@ -3,6 +3,8 @@ use Rattle.tx_bridge.specs.Carrying.{mods_of}
 use Rattle.tx_bridge.specs.Names.{Carry, Sources}
 use Rattle.tx_bridge.specs.UnitLists.{AreUnits}
 use Rattle.tx_bridge.proofs.Received.{coming, coming_bare, course_places, received_sound, received_parts}
+use Rattle.tx_bridge.proofs.Received.{received_strays, received_tidy, received_kept, received_stand}
+use Rattle.tx_bridge.proofs.Received.{behind_document, behind_other}
 use Rattle.tx_bridge.proofs.Taking.{given_to_is}
 use Rattle.tx_bridge.proofs.TreesSame.{carry_trees}
 use Rattle.tx_bridge.proofs.bridges.Bridges.carry_along.Goals as goal
@@ -65,7 +67,7 @@ returns-clause-units c =
 pub returns-clause-parts : goal.returns-clause-parts
 returns-clause-parts c =
     received_parts c.args.buffer c.args.mods.now c.args.before.now c.args.self.now.kept c.args.self.now.parts
-    c.args.units.items c.self.inside.bridges.items c.give_over.new.bridges.items c.args.course
+    c.args.self.now.strays c.args.units.items c.self.inside.bridges.items c.give_over.new.bridges.items c.args.course
     (ap (λ b. b.parts) c.self.view_is) c.requires.course
     (c.in_ok-give_over.ensures.given (mods_of c.args.buffer c.args.mods.now) c.args.before.now
     (course_places (mods_of c.args.buffer c.args.mods.now) c.args.before.now c.args.self.now.kept
@@ -85,28 +87,83 @@ returns-clause-same_trees c =
     c.self.inside.bridges.items c.args.course.places.items (ap (λ b. b.kept) c.self.view_is)
     c.requires.course.places))
 
+pub returns-clause-strays : goal.returns-clause-strays
+returns-clause-strays c =
+    received_kept c.args.buffer c.args.mods.now c.args.before.now c.args.self.now.kept c.args.self.now.parts
+    c.args.self.now.strays c.args.units.items c.self.inside.bridges.items c.self.inside.settled
+    c.self.inside.strays.items c.args.course (ap (λ b. b.kept) c.self.view_is) (ap (λ b. b.parts) c.self.view_is)
+    (ap (λ b. b.strays) c.self.view_is) c.self.invariant c.requires.applies
+    (λ q. c.carried_list_law.ensures.same c.args.mods.now c.args.before.now q) c.carried_law.ensures c.requires.old
+    c.requires.strays c.requires.course
+    c.give_over.new.strays.items c.in_ok-give_over.ensures.strays
+
+pub returns-clause-stand : goal.returns-clause-stand
+returns-clause-stand c = λ e u made.
+    received_stand c.args.buffer c.args.mods.now c.args.before.now c.args.self.now.kept c.args.self.now.parts
+    c.args.self.now.strays c.args.units.items c.self.inside.bridges.items c.self.inside.settled
+    c.self.inside.strays.items c.args.course (ap (λ b. b.kept) c.self.view_is) (ap (λ b. b.parts) c.self.view_is)
+    (ap (λ b. b.strays) c.self.view_is) c.self.invariant c.requires.applies
+    (λ q. c.carried_list_law.ensures.same c.args.mods.now c.args.before.now q) c.carried_law.ensures c.requires.old
+    c.requires.strays c.requires.course
+    c.give_over.new.strays.items c.in_ok-give_over.ensures.strays u
+    (behind_document c.args.buffer c.args.mods.now c.args.before.now c.args.self.now.strays u e made)
+
+pub returns-clause-stay : goal.returns-clause-stay
+returns-clause-stay c = λ e u stand.
+    received_stand c.args.buffer c.args.mods.now c.args.before.now c.args.self.now.kept c.args.self.now.parts
+    c.args.self.now.strays c.args.units.items c.self.inside.bridges.items c.self.inside.settled
+    c.self.inside.strays.items c.args.course (ap (λ b. b.kept) c.self.view_is) (ap (λ b. b.parts) c.self.view_is)
+    (ap (λ b. b.strays) c.self.view_is) c.self.invariant c.requires.applies
+    (λ q. c.carried_list_law.ensures.same c.args.mods.now c.args.before.now q) c.carried_law.ensures c.requires.old
+    c.requires.strays c.requires.course
+    c.give_over.new.strays.items c.in_ok-give_over.ensures.strays u
+    (behind_other c.args.buffer c.args.mods.now c.args.before.now c.args.self.now.strays u e stand)
+
 pub invariant_of-self-2 : goal.invariant_of-self-2
-invariant_of-self-2 c = record {
-  sound =
-      received_sound c.args.buffer c.args.mods.now c.args.before.now c.args.self.now.kept c.args.self.now.parts
-      c.args.units.items c.self.inside.bridges.items c.give_over.new.bridges.items c.args.course
-      (ap (λ b. b.kept) c.self.view_is) (ap (λ b. b.parts) c.self.view_is) c.self.invariant.sound
-      c.self.invariant.units c.requires.applies
-      (λ q. c.carried_list_law.ensures.same c.args.mods.now c.args.before.now q) c.carried_law.ensures c.requires.units
-      c.requires.old c.requires.new c.requires.same c.requires.course
-      (c.in_ok-give_over.ensures.given (mods_of c.args.buffer c.args.mods.now) c.args.before.now
-      (course_places (mods_of c.args.buffer c.args.mods.now) c.args.before.now c.args.self.now.kept
-      c.self.inside.bridges.items c.args.course.places.items (ap (λ b. b.kept) c.self.view_is)
-      c.requires.course.places));
-  units =
-      subst AreUnits
-      (sym (given_to_is c.args.buffer c.args.mods.now c.args.before.now c.args.self.now.kept c.args.units.items
-      c.self.inside.bridges.items (coming c.args.course.moves.items c.args.units.items) c.give_over.new.bridges.items
-      (coming_bare c.args.course.moves.items c.args.units.items) (ap (λ b. b.kept) c.self.view_is)
-      c.self.invariant.sound c.requires.units
-      (c.in_ok-give_over.ensures.given (mods_of c.args.buffer c.args.mods.now) c.args.before.now
-      (course_places (mods_of c.args.buffer c.args.mods.now) c.args.before.now c.args.self.now.kept
-      c.self.inside.bridges.items c.args.course.places.items (ap (λ b. b.kept) c.self.view_is)
-      c.requires.course.places))).units) c.requires.units;
-  settled = λ e. cc;
-}
+invariant_of-self-2 c =
+    let units = (given_to_is c.args.buffer c.args.mods.now c.args.before.now c.args.self.now.kept c.args.units.items
+    c.self.inside.bridges.items (coming c.args.course.moves.items c.args.units.items) c.give_over.new.bridges.items
+    (coming_bare c.args.course.moves.items c.args.units.items) (ap (λ b. b.kept) c.self.view_is)
+    c.self.invariant.sound c.requires.units
+    (c.in_ok-give_over.ensures.given (mods_of c.args.buffer c.args.mods.now) c.args.before.now
+    (course_places (mods_of c.args.buffer c.args.mods.now) c.args.before.now c.args.self.now.kept
+    c.self.inside.bridges.items c.args.course.places.items (ap (λ b. b.kept) c.self.view_is)
+    c.requires.course.places))).units in
+    record {
+      sound =
+          received_sound c.args.buffer c.args.mods.now c.args.before.now c.args.self.now.kept c.args.self.now.parts
+          c.args.self.now.strays c.args.units.items c.self.inside.bridges.items c.self.inside.settled
+          c.self.inside.strays.items c.args.course (ap (λ b. b.kept) c.self.view_is)
+          (ap (λ b. b.parts) c.self.view_is)
+          (ap (λ b. b.strays) c.self.view_is) c.self.invariant c.requires.applies
+          (λ q. c.carried_list_law.ensures.same c.args.mods.now c.args.before.now q) c.carried_law.ensures
+          c.requires.old
+          c.requires.strays c.requires.course
+          c.give_over.new.bridges.items c.requires.units c.requires.new c.requires.same
+          (c.in_ok-give_over.ensures.given (mods_of c.args.buffer c.args.mods.now) c.args.before.now
+          (course_places (mods_of c.args.buffer c.args.mods.now) c.args.before.now c.args.self.now.kept
+          c.self.inside.bridges.items c.args.course.places.items (ap (λ b. b.kept) c.self.view_is)
+          c.requires.course.places));
+      units = subst AreUnits (sym units) c.requires.units;
+      settled = λ e. cc;
+      strays =
+          received_strays c.args.buffer c.args.mods.now c.args.before.now c.args.self.now.kept c.args.self.now.parts
+          c.args.self.now.strays c.args.units.items c.self.inside.bridges.items c.self.inside.settled
+          c.self.inside.strays.items c.args.course (ap (λ b. b.kept) c.self.view_is)
+          (ap (λ b. b.parts) c.self.view_is)
+          (ap (λ b. b.strays) c.self.view_is) c.self.invariant c.requires.applies
+          (λ q. c.carried_list_law.ensures.same c.args.mods.now c.args.before.now q) c.carried_law.ensures
+          c.requires.old
+          c.requires.strays c.requires.course
+          c.give_over.new.strays.items c.in_ok-give_over.ensures.strays _ units;
+      tidy =
+          received_tidy c.args.buffer c.args.mods.now c.args.before.now c.args.self.now.kept c.args.self.now.parts
+          c.args.self.now.strays c.args.units.items c.self.inside.bridges.items c.self.inside.settled
+          c.self.inside.strays.items c.args.course (ap (λ b. b.kept) c.self.view_is)
+          (ap (λ b. b.parts) c.self.view_is)
+          (ap (λ b. b.strays) c.self.view_is) c.self.invariant c.requires.applies
+          (λ q. c.carried_list_law.ensures.same c.args.mods.now c.args.before.now q) c.carried_law.ensures
+          c.requires.old
+          c.requires.strays c.requires.course
+          c.give_over.new.strays.items c.in_ok-give_over.ensures.strays;
+    }

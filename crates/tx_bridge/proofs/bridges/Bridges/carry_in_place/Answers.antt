@@ -1,9 +1,13 @@
 use Rattle.std.proofs.Common.{◌≡◌, ◌∙◌, ◌++◌, ◌<◌, length, take, drop, sym, ap, subst, arith}
 use Rattle.std.proofs.lemmas.Grind.{common_steps}
 use Rattle.std.specs.Prelude.{slice_get}
-use Rattle.tx_bridge.specs.Names.{Carry, CarryWithin, Sources}
+use Rattle.tx_units.specs.Units.{units_with}
+use Rattle.tx_bridge.specs.Entries.{units_of}
+use Rattle.tx_bridge.specs.Names.{Carry, CarryWithin, Sources, StraysBeside}
 use Rattle.tx_bridge.specs.Others.{put_from, parts_of}
-use Rattle.tx_bridge.specs.Sound.{parts_in}
+use Rattle.tx_bridge.specs.Sound.{entries_of, parts_in}
+use Rattle.tx_bridge.specs.Strays.{AreStrays, AreTidy, StandAside, is_beside, strays_in}
+use Rattle.tx_bridge.proofs.Aside.{strays_seen, are_beside, beside_seen, tidy_beside, stay_beside, stand_beside}
 use Rattle.tx_bridge.proofs.Changing.{in_place, is_within, changed_right}
 use Rattle.tx_bridge.proofs.ChangedParts.{moved_hold, parts_moved, now_is}
 use Rattle.tx_bridge.proofs.bridges.Bridges.carry_in_place.Goals as goal
@@ -24,7 +28,8 @@ invariant_of-self c =
     c.change_one-silent.new.bridges c.deref_mut.ensures.value c.change_one-silent.ensures.changed in
     changed_right c.args.changed c.args.tree
     (put_from 0 c.args.moved.items (parts_of c.args.changed c.self.inside.bridges.items))
-    c.self.inside.bridges.items _ c.self.inside.settled c.if-self.self now
+    c.self.inside.bridges.items _ c.self.inside.settled c.if-self.self c.self.inside.strays.items
+    c.keep_beside.new.strays.items now
     (moved_hold c.args.changed c.args.mods.now c.args.before.now c.args.moved.items c.self.inside.bridges.items
     c.args.self.now.kept c.args.self.now.parts (ap (λ b. b.kept) c.self.view_is) (ap (λ b. b.parts) c.self.view_is)
     c.requires.moved c.carried_list_law.ensures.same c.carried_law.ensures c.args.tree c.requires.applies
@@ -38,6 +43,34 @@ invariant_of-self c =
       )
       | else-self w ↦ cc
     ])
+    (λ h. subst (AreStrays (units_with c.args.changed c.args.tree (units_of (entries_of c.self.inside.bridges.items))))
+    (sym (ap strays_in c.keep_beside.ensures
+    ∙ beside_seen c.index.result.now.unit.path c.self.inside.strays.items))
+    (are_beside c.args.changed c.args.tree (units_of (entries_of c.self.inside.bridges.items))
+    (λ s. is_beside c.index.result.now.unit.path s.kept.path) (strays_in c.self.inside.strays.items) h))
+    (λ h. subst AreTidy (sym c.keep_beside.ensures)
+    (tidy_beside c.index.result.now.unit.path c.self.inside.strays.items h))
+
+pub returns-clause-strays : goal.returns-clause-strays
+unfolding StraysBeside
+returns-clause-strays c =
+    stay_beside c.args.changed c.args.mods.now c.self.inside.bridges.items c.args.self.now.kept
+    c.self.inside.strays.items c.keep_beside.new.strays.items c.args.self.now.strays c.index.result.now
+    (ap (λ b. b.kept) c.self.view_is) (ap (λ b. b.strays) c.self.view_is) c.requires.changed c.index.ensures
+    c.keep_beside.ensures
+
+pub returns-clause-stand : goal.returns-clause-stand
+returns-clause-stand c = λ u made.
+    subst (StandAside u)
+    (sym (stay_beside c.args.changed c.args.mods.now c.self.inside.bridges.items c.args.self.now.kept
+    c.self.inside.strays.items c.keep_beside.new.strays.items c.args.self.now.strays c.index.result.now
+    (ap (λ b. b.kept) c.self.view_is) (ap (λ b. b.strays) c.self.view_is) c.requires.changed c.index.ensures
+    c.keep_beside.ensures))
+    (stand_beside c.args.mods.now c.args.before.now u (units_of c.args.self.now.kept) c.args.changed
+    c.requires.changed made (λ q. c.carried_list_law.ensures.same c.args.mods.now c.args.before.now q)
+    c.args.self.now.strays c.requires.strays
+    (strays_seen c.self.inside.bridges.items c.args.self.now.kept c.self.inside.strays.items c.args.self.now.strays
+    (ap (λ b. b.kept) c.self.view_is) (ap (λ b. b.strays) c.self.view_is) c.self.invariant.strays).outside)
 
 pub returns-clause-carried : goal.returns-clause-carried
 unfolding Carry

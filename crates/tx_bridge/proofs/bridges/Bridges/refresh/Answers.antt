@@ -9,6 +9,8 @@ use Rattle.tx_bridge.specs.Settled.{AreSettled}
 use Rattle.tx_bridge.specs.UnitLists.{AreUnits}
 use Rattle.tx_bridge.specs.PartsKept.{fresh_parts_from, part_flags_from}
 use Rattle.tx_bridge.specs.Sound.{IsSound, entries_of, parts_in, part_flags_in}
+use Rattle.tx_bridge.specs.Strays.{AreStrays, strays_in}
+use Rattle.tx_bridge.proofs.Aside.{none_aside, none_tidy}
 use Rattle.tx_bridge.proofs.Partway.{any_err}
 use Rattle.tx_bridge.proofs.Used.{fresh_settled}
 use Rattle.tx_bridge.proofs.Remaining.{parts_stay}
@@ -26,6 +28,11 @@ invariant_of-self g c =
           (sym (ap (λ bs. units_of (entries_of bs)) whole ∙ c.refresh_all.ensures.units
           ∙ ap (λ bs. units_of (entries_of bs)) c.deref_mut.ensures.value)) c.self.invariant.units;
       settled = λ e. let off : true ≡ false = sym e ∙ c.replace-settled.ensures.after in cc;
+      strays =
+          subst (λ us. AreStrays us (strays_in c.self.inside.strays.items))
+          (sym (ap (λ bs. units_of (entries_of bs)) whole ∙ c.refresh_all.ensures.units
+          ∙ ap (λ bs. units_of (entries_of bs)) c.deref_mut.ensures.value)) c.self.invariant.strays;
+      tidy = c.self.invariant.tidy;
     }
 
 pub returns-in_err-charges-clause-refused : goal.returns-in_err-charges-clause-refused
@@ -65,6 +72,8 @@ invariant_of-self-2 g c =
       settled = λ e.
           subst (AreSettled empty) (sym (ap entries_of whole ∙ c.in_ok-charges.ensures.fresh))
           (fresh_settled c.trace_laws.ensures.agrees beginning (units_of (entries_of c.deref_mut.result.now)));
+      strays = none_aside _ c.clear.new.self.items c.clear.ensures.items;
+      tidy = none_tidy c.clear.new.self.items c.clear.ensures.items;
     }
 
 pub returns-clause-parts_renewed : goal.returns-clause-parts_renewed

@@ -1,7 +1,8 @@
-use Rattle.std.proofs.Common.{subst, sym}
+use Rattle.std.proofs.Common.{subst, sym, rules}
 use Rattle.tx_bridge.specs.UnitLists.{AreUnits}
 use Rattle.tx_bridge.specs.Names.{Empty, EmptyParts}
 use Rattle.tx_bridge.proofs.Arrived.{started}
+use Rattle.tx_bridge.proofs.Aside.{none_aside, none_tidy}
 use Rattle.tx_bridge.proofs.bridges.Bridges.start.Goals as goal
 
 pub invariant_of-result : goal.invariant_of-result
@@ -14,6 +15,8 @@ invariant_of-result c = record {
       (sym (started c.in_ok-bridges_of.field-0.items c.args.units.items c.in_ok-bridges_of.ensures
       c.requires.units.placed).2) c.requires.units;
   settled = λ e. cc;
+  strays = none_aside _ c.new.result.items (search rules);
+  tidy = none_tidy c.new.result.items (search rules);
 }
 
 pub returns-clause-empty : goal.returns-clause-empty

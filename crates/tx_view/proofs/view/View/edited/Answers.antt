@@ -1,19 +1,24 @@
-use Rattle.std.proofs.Common.{◌∙◌, List, [], length, false, ap, refl, sym, arith}
+use Rattle.std.proofs.Common.{◌∙◌, List, [], length, false, ap, refl, sym, subst, arith}
 use Rattle.std.specs.Prelude.{map}
-use Rattle.tx_doc.specs.Buffers.{tree_of, with_tree}
+use Rattle.tx_doc.specs.Buffers.{document_of, tree_of, with_tree}
 use Rattle.tx_doc.specs.declared.buffer.Buffer.{Buffer}
 use Rattle.tx_units.specs.Units.{units}
 use Rattle.tx_bridge.specs.Carrying.{had}
 use Rattle.tx_bridge.specs.Entries.{Kept, units_of}
-use Rattle.tx_bridge.specs.Names.{Sources, Carry as CarryKept}
+use Rattle.tx_bridge.specs.Names.{PartMoves, Sources, Carry as CarryKept}
+use Rattle.tx_bridge.specs.PartMoves.{Move}
+use Rattle.tx_bridge.specs.PartsKept.{KeptParts}
+use Rattle.tx_bridge.specs.Strays.{StandAside, kept_strays}
 use Rattle.tx_view.specs.declared.paging.Pagination.{Pagination}
+use Rattle.tx_unit_layout.specs.LaidAts.{laid_at}
 use Rattle.tx_unit_layout.specs.declared.shown.Shown.{Shown}
 use Rattle.tx_view.specs.declared.view.View.TheInside.{Inside}
-use Rattle.tx_view.specs.Exchanged.{parts_after, laid_parts_after}
+use Rattle.tx_view.specs.Exchanged.{parts_after, strays_after, laid_parts_after, laid_strays_after}
 use Rattle.tx_view.specs.Laid.{laid_in, laid_parts_in}
 use Rattle.tx_view.specs.Names.{Carry}
 use Rattle.tx_view.specs.WholeViews.{WholeView, whole_of, stores_of, all_of}
 use Rattle.tx_view.proofs.Blank.{many_with}
+use Rattle.tx_view.proofs.Moved.{WasKept}
 use Rattle.tx_view.proofs.Staying.{carried_by, left_of}
 use Rattle.tx_view.proofs.Lasting.{left_by}
 use Rattle.tx_view.proofs.Standing.{stale, stale_view}
@@ -26,15 +31,25 @@ invariant_of-self-2 g c =
     let kept : Kept = c.self.inside.bridges.kept in
     let olds : List Shown = all_of c.self.inside in
     let ss = c.carried.new.bridges.sources in
-    let left = left_of c.args.buffer c.args.mods.now (tree_of bs c.args.buffer) (units_of kept)
-    c.self.inside.bridges.parts (units after) c.in_ok-after.target c.self.inside.fresh c.deref.result.now
-    c.deref-2.result.now c.self.inside.units.items c.self.inside.hidden.items c.deref.ensures.value
+    let strays : KeptParts = kept_strays c.self.inside.bridges.strays in
+    let moves : List Move = PartMoves c.args.buffer c.args.mods.now (tree_of bs c.args.buffer) (units_of kept)
+    c.self.inside.bridges.parts strays (units after) in
+    let left = left_of c.args.mods.now (tree_of bs c.args.buffer) (units_of kept) moves (units after)
+    c.in_ok-after.target c.self.inside.fresh c.deref.result.now c.deref-2.result.now c.self.inside.units.items
+    c.self.inside.hidden.items c.self.inside.strays c.carried.new.strays c.deref.ensures.value
     c.deref-2.ensures.value c.in_ok-after.ensures.left in
+    let was : WasKept c.self.inside.width kept c.self.inside.bridges.parts strays olds c.self.inside.strays = record {
+      laid = c.self.invariant.laid;
+      readable = c.self.invariant.all_readable;
+      strays = c.self.invariant.strays;
+      short = c.self.invariant.short;
+    } in
     let on = carried_by c.self.inside.width c.args.buffer c.args.mods.now (tree_of bs c.args.buffer) kept
-    c.carried.new.bridges.kept c.self.inside.bridges.parts c.carried.new.bridges.parts olds
-    c.move_shown-former.new.hidden.items c.in_ok-after.target ss (units after) c.self.invariant.laid
-    c.self.invariant.all_readable c.outcome-kept.ensures.parts_hold c.in_ok-after.ensures.kept
-    c.in_ok-after.ensures.parts c.in_ok-after.ensures.sources c.in_ok-after.ensures.target
+    c.carried.new.bridges.kept c.self.inside.bridges.parts c.carried.new.bridges.parts strays
+    (kept_strays c.carried.new.bridges.strays) olds c.move_shown-former.new.hidden.items c.self.inside.strays
+    c.carried.new.strays c.in_ok-after.target ss (units after) was c.outcome-kept.ensures.parts_hold
+    c.outcome-kept.ensures.strays_hold.distinct c.in_ok-after.ensures.kept c.in_ok-after.ensures.parts
+    c.in_ok-after.ensures.strays c.in_ok-after.ensures.sources c.in_ok-after.ensures.target
     c.in_ok-after.ensures.way left c.move_shown-former.ensures.moved in
     let many = ap length c.in_ok-after.ensures.buffers ∙ many_with bs c.args.buffer c.args.tree.now
     ∙ ap length c.deref-3.ensures.value in
@@ -50,6 +65,12 @@ invariant_of-self-2 g c =
     (ap (λ (p : Pagination). p.rows.items) c.replace-paged.ensures.after ∙ c.in_ok-nothing.ensures.rows)
     (ap (λ (p : Pagination). p.errors.items) c.replace-paged.ensures.after ∙ c.in_ok-nothing.ensures.errors)
     on.laid_out on.readable
+    (record {
+      laid = on.strays;
+      short = on.short;
+      stand = subst (λ (cs : List Buffer). StandAside (document_of cs) c.carried.new.bridges.strays)
+          (sym c.in_ok-after.ensures.buffers) c.in_ok-after.ensures.aside;
+    })
     (left_by c.self.inside c.args.buffer c.args.mods.now (tree_of bs c.args.buffer) c.carried.new.bridges.kept
     c.move_shown-former.new.hidden.items c.in_ok-after.target ss (units after) c.move_shown-former.result
     c.replace-paged.result c.lone_of.result c.self.invariant c.in_ok-after.ensures.kept c.in_ok-after.ensures.sources
@@ -64,15 +85,25 @@ returns-clause-ok g c =
     let kept : Kept = c.self.inside.bridges.kept in
     let olds : List Shown = all_of c.self.inside in
     let ss = c.carried.new.bridges.sources in
-    let left = left_of c.args.buffer c.args.mods.now (tree_of bs c.args.buffer) (units_of kept)
-    c.self.inside.bridges.parts (units after) c.in_ok-after.target c.self.inside.fresh c.deref.result.now
-    c.deref-2.result.now c.self.inside.units.items c.self.inside.hidden.items c.deref.ensures.value
+    let strays : KeptParts = kept_strays c.self.inside.bridges.strays in
+    let moves : List Move = PartMoves c.args.buffer c.args.mods.now (tree_of bs c.args.buffer) (units_of kept)
+    c.self.inside.bridges.parts strays (units after) in
+    let left = left_of c.args.mods.now (tree_of bs c.args.buffer) (units_of kept) moves (units after)
+    c.in_ok-after.target c.self.inside.fresh c.deref.result.now c.deref-2.result.now c.self.inside.units.items
+    c.self.inside.hidden.items c.self.inside.strays c.carried.new.strays c.deref.ensures.value
     c.deref-2.ensures.value c.in_ok-after.ensures.left in
+    let was : WasKept c.self.inside.width kept c.self.inside.bridges.parts strays olds c.self.inside.strays = record {
+      laid = c.self.invariant.laid;
+      readable = c.self.invariant.all_readable;
+      strays = c.self.invariant.strays;
+      short = c.self.invariant.short;
+    } in
     let on = carried_by c.self.inside.width c.args.buffer c.args.mods.now (tree_of bs c.args.buffer) kept
-    c.carried.new.bridges.kept c.self.inside.bridges.parts c.carried.new.bridges.parts olds
-    c.move_shown-former.new.hidden.items c.in_ok-after.target ss (units after) c.self.invariant.laid
-    c.self.invariant.all_readable c.outcome-kept.ensures.parts_hold c.in_ok-after.ensures.kept
-    c.in_ok-after.ensures.parts c.in_ok-after.ensures.sources c.in_ok-after.ensures.target
+    c.carried.new.bridges.kept c.self.inside.bridges.parts c.carried.new.bridges.parts strays
+    (kept_strays c.carried.new.bridges.strays) olds c.move_shown-former.new.hidden.items c.self.inside.strays
+    c.carried.new.strays c.in_ok-after.target ss (units after) was c.outcome-kept.ensures.parts_hold
+    c.outcome-kept.ensures.strays_hold.distinct c.in_ok-after.ensures.kept c.in_ok-after.ensures.parts
+    c.in_ok-after.ensures.strays c.in_ok-after.ensures.sources c.in_ok-after.ensures.target
     c.in_ok-after.ensures.way left c.move_shown-former.ensures.moved in
     let v : Inside = record {
       buffers = c.in_ok-after.after;
@@ -82,6 +113,7 @@ returns-clause-ok g c =
       bridges = c.carried.new.bridges;
       units = c.clear.new.self;
       hidden = c.move_shown-former.new.hidden;
+      strays = c.carried.new.strays;
       paged = c.replace-paged.new.dest;
       lone = c.lone_of.result;
       work = c.self.inside.work;
@@ -89,19 +121,25 @@ returns-clause-ok g c =
     let base = stale_view v after
     (CarryKept c.args.buffer c.args.mods.now (tree_of bs c.args.buffer) kept (units after))
     (parts_after c.args.buffer c.args.mods.now (tree_of bs c.args.buffer) (units_of kept) c.self.inside.bridges.parts
-    (units after) (Sources c.args.buffer c.args.mods.now (tree_of bs c.args.buffer) (units_of kept) (units after)))
+    strays (units after)
+    (Sources c.args.buffer c.args.mods.now (tree_of bs c.args.buffer) (units_of kept) (units after)))
     (map (had (laid_in olds)) (Sources c.args.buffer c.args.mods.now (tree_of bs c.args.buffer) (units_of kept)
     (units after)))
     (laid_parts_after c.args.buffer c.args.mods.now (tree_of bs c.args.buffer) (units_of kept)
-    c.self.inside.bridges.parts (laid_parts_in olds) (units after)
-    (Sources c.args.buffer c.args.mods.now (tree_of bs c.args.buffer) (units_of kept) (units after))) refl
+    c.self.inside.bridges.parts strays (laid_parts_in olds) (map laid_at c.self.inside.strays) (units after)
+    (Sources c.args.buffer c.args.mods.now (tree_of bs c.args.buffer) (units_of kept) (units after)))
+    (strays_after c.args.buffer c.args.mods.now (tree_of bs c.args.buffer) (units_of kept)
+    c.self.inside.bridges.parts strays (units after))
+    (laid_strays_after c.args.buffer c.args.mods.now (tree_of bs c.args.buffer) (units_of kept)
+    c.self.inside.bridges.parts strays (laid_parts_in olds) (map laid_at c.self.inside.strays) (units after)) refl
     c.clear.ensures.items
     (ap (λ (p : Pagination). p.pages.items) c.replace-paged.ensures.after ∙ c.in_ok-nothing.ensures.pages)
     c.in_ok-after.ensures.buffers
     c.in_ok-after.ensures.kept
     (c.in_ok-after.ensures.parts
     ∙ ap (parts_after c.args.buffer c.args.mods.now (tree_of bs c.args.buffer) (units_of kept)
-    c.self.inside.bridges.parts (units after)) c.in_ok-after.ensures.sources) on.attributes on.laid_parts in
+    c.self.inside.bridges.parts strays (units after)) c.in_ok-after.ensures.sources) on.attributes on.laid_parts
+    c.in_ok-after.ensures.strays on.laid_strays in
     base
     ∙ ap (λ (cs : List Buffer). record (whole_of c.self.inside) {
       buffers = with_tree cs c.args.buffer c.args.tree.now;

@@ -4,12 +4,13 @@ use Rattle.tx_units.specs.Units.{units}
 use Rattle.tx_items.specs.declared.attributes.Attrs.{Attrs}
 use Rattle.tx_bridge.specs.Entries.{Kept, nothing_kept}
 use Rattle.tx_bridge.specs.PartsKept.{KeptParts}
-use Rattle.tx_unit_layout.specs.LaidAts.{LaidAt}
+use Rattle.tx_bridge.specs.Strays.{StandAside, kept_strays}
+use Rattle.tx_unit_layout.specs.LaidAts.{LaidAt, laid_at}
 use Rattle.tx_view.specs.declared.view.View.TheInside.{Inside}
 use Rattle.tx_view.specs.Laid.{AreLaid, AreBlank}
 use Rattle.tx_view.specs.Names.{Empty}
 use Rattle.tx_view.proofs.Blank.{empty_is, empty_parts_is, blank_laid, blank_attributes, blank_ats, blank_readable}
-use Rattle.tx_view.proofs.Standing.{stale, stale_view}
+use Rattle.tx_view.proofs.Standing.{stale, none_aside, stale_view}
 use Rattle.tx_view.proofs.view.View.new.Goals as goal
 
 pub invariant_of-result : goal.invariant_of-result
@@ -31,7 +32,8 @@ invariant_of-result g c =
     (sym (c.in_ok-start.ensures.empty ∙ empty_is us))
     (subst (λ (pss : List KeptParts). AreLaid c.args.width (nothing_kept us) pss xs)
     (sym (c.in_ok-start.ensures.parts ∙ empty_parts_is us)) (blank_laid c.args.width us xs blank)))
-    (blank_readable us xs blank) tt
+    (blank_readable us xs blank)
+    (none_aside _ c.none.ensures (subst (StandAside _) (sym c.in_ok-start.ensures.strays) tt)) tt
 
 pub returns-clause-view : goal.returns-clause-view
 unfolding Empty
@@ -51,14 +53,16 @@ returns-clause-view g c =
       bridges = c.in_ok-start.field-0;
       units = c.new.result;
       hidden = c.in_ok-hidden.hidden;
+      strays = c.none.result;
       paged = c.in_ok-nothing_paged.field-0;
       lone = None;
       work = 0;
     } in
     stale_view v c.args.buffers.now (nothing_kept (units c.args.buffers.now)) (map none (units c.args.buffers.now))
-    (map nothing (units c.args.buffers.now)) (map none_at (units c.args.buffers.now)) refl
+    (map nothing (units c.args.buffers.now)) (map none_at (units c.args.buffers.now)) [] [] refl
     c.new.ensures.items c.in_ok-nothing_paged.ensures.pages c.in_ok-shared.ensures
     (c.in_ok-start.ensures.empty ∙ empty_is us ∙ ap nothing_kept c.in_ok-made.ensures.units)
     (c.in_ok-start.ensures.parts ∙ empty_parts_is us ∙ ap (map none) c.in_ok-made.ensures.units)
     (blank_attributes us xs blank ∙ ap (map nothing) c.in_ok-made.ensures.units)
     (blank_ats us xs blank ∙ ap (map none_at) c.in_ok-made.ensures.units)
+    (ap kept_strays c.in_ok-start.ensures.strays) (ap (map laid_at) c.none.ensures)
