@@ -6,12 +6,8 @@ mod budgets;
 #[cfg(test)]
 mod columns;
 #[cfg(test)]
-mod edits;
-#[cfg(test)]
 mod runs;
 #[cfg(test)]
 mod tables;
 #[cfg(test)]
 mod told;
-#[cfg(test)]
-mod wraps;
