@@ -1,26 +1,34 @@
--- The parts of a tree cost at most what the tree does.
+-- The parts of a tree and the trees of its layers cost at most what the tree does.
 use Rattle.std.proofs.Common.{◌≡◌, ℕ, zero, suc, ◌+◌, ◌*◌, ◌-◌, ◌≤◌, List, [], ◌∷◌, ◌++◌, length, subst, refl, sym}
 use Rattle.std.proofs.Common.{arith}
+use Rattle.std.proofs.lemmas.Grind.{common_steps}
 use Rattle.std.proofs.lemmas.List.Sums.{sum_by-append}
 use Rattle.std.specs.Prelude.{Bool, true, false, nat_le, if◌then◌else◌, Option, Some, None, option_and_then}
 use Rattle.std.specs.Option.{option_map, option_map_or}
 use Rattle.std.specs.List.{sum_by}
-use Rattle.tx_tree.specs.WideTree.{WideTree}
+use Rattle.tx_tree.specs.WideTree.{WideTree, leaf}
+use Rattle.tx_origin.proofs.Parts.{nodes_le_size}
 use Rattle.tx_exec_form.specs.Runs.{Before}
+use Rattle.tx_exec_form.specs.Rows.{sizes}
 use Rattle.tx_exec_form.specs.Evaluated.{WideTrace, paid}
 use Rattle.tx_exec_form.proofs.Tracing.{allowed}
 use Rattle.tx_parts.specs.Atop.{env_atop}
-use Rattle.tx_parts.specs.Openness.{Settings, Openness, Document, With, Shut}
+use Rattle.tx_parts.specs.Openness.{Settings, Openness, Document, With, Shut, openness}
 use Rattle.tx_parts.specs.Composed.{alone, evaluates, SoFar, nothing_yet, with_child, children_from, document_trace}
 use Rattle.tx_parts.specs.Composed.{set_by, settings_cost, with_trace, composed_as}
-use Rattle.tx_parts.specs.Shells.{Layer}
+use Rattle.tx_env.specs.Pairs.{Name}
+use Rattle.tx_parts.specs.Shells.{Layer, bare, in_turn}
 use Rattle.tx_parts.specs.Opening.{Sheller, closed, Opening, ByTree, ByShell, opening}
-use Rattle.tx_parts.specs.Layered.{layer_values, layer_cost, inside_layer, layer_trace, child_trace, layer_composed}
+use Rattle.tx_parts.specs.Layered.{evaluates_bare, layer_values, layer_pairs, as_sets, layer_cost}
+use Rattle.tx_parts.specs.Layered.{inside_layer, layer_trace, child_trace, layer_composed}
 use Rattle.tx_parts.specs.Layered.{composed_layers, evaluates_in, shell_trace, composed_opened}
 use Rattle.tx_parts.specs.Shellers.{IsSheller}
 use Rattle.tx_parts.specs.Parts.{Part, part_cost, Finder, parts_from, parts_as, parts, LayerFinder, parts_layers}
 use Rattle.tx_parts.specs.Parts.{parts_opened, parts_by, parts_in}
-use Rattle.tx_parts.proofs.Children.{IsWithin, child_within, children_within, evaluates_bounded}
+use Rattle.tx_parts.specs.LayerCosts.{tree_costs, tree_costs_from, layer_tree_costs, Counter, counts_from, counts_as, LayerCounter}
+use Rattle.tx_parts.specs.LayerCosts.{set_nodes, costs_inside, costs_layers, costs_opened, layer_costs_by, layer_costs_in}
+use Rattle.tx_parts.proofs.Children.{IsWithin, tagged_within, child_within, children_within, evaluates_bounded}
+use Rattle.tx_parts.proofs.Children.{bare_bounded}
 use Rattle.tx_parts.proofs.Opened.{in_bounded, opened_is, closed_is}
 
 abbrev total : List Part → ℕ
@@ -44,13 +52,13 @@ children_most k c ts e None h = omega arith
 children_most k c ts e (Some b) h = (children_within k (evaluates k) (evaluates_bounded k) c 0 nothing_yet
     ts e b (omega arith, omega arith) h).0
 
-abbrev pub CostBelow : ℕ → Finder → Type 0
-CostBelow k finder = (c : ℕ) (path : List ℕ) (t : WideTree) (e : Before) →
-    total (finder c path t e) ≤ paid c (evaluates k c t e)
+abbrev pub CostBelow : ℕ → Finder → Counter → Type 0
+CostBelow k finder counter = (c : ℕ) (path : List ℕ) (t : WideTree) (e : Before) →
+    total (finder c path t e) + counter c t e ≤ paid c (evaluates k c t e)
 
-module _ (k : ℕ) (finder : Finder) (below : CostBelow k finder) where
+module _ (k : ℕ) (finder : Finder) (counter : Counter) (below : CostBelow k finder counter) where
   children_cost : (c : ℕ) (path : List ℕ) (i : ℕ) (a : SoFar) (ts : List WideTree) (e : Before) → IsWithin k c a →
-      a.cost + total (parts_from k finder c path i a ts e) ≤
+      a.cost + (total (parts_from k finder c path i a ts e) + counts_from k counter c i a ts e) ≤
       children_paid c (children_from (evaluates k) c i a ts e)
   children_cost c path i a [] e h = omega arith
   children_cost c path i a (t ∷ ts) e h =
@@ -59,11 +67,15 @@ module _ (k : ℕ) (finder : Finder) (below : CostBelow k finder) where
       (λ a' g. children_cost c path (i + 1) a' ts e g)
     where
       by : (o : Option WideTrace) → evaluates k (c - a.cost) t (env_atop a.writes e) ≡ o →
-          total (finder (c - a.cost) (path ++ i ∷ []) t (env_atop a.writes e)) ≤ paid (c - a.cost) o →
-          ((a' : SoFar) → IsWithin k c a' → a'.cost + total (parts_from k finder c path (i + 1) a' ts e) ≤
+          total (finder (c - a.cost) (path ++ i ∷ []) t (env_atop a.writes e))
+          + counter (c - a.cost) t (env_atop a.writes e) ≤ paid (c - a.cost) o →
+          ((a' : SoFar) → IsWithin k c a' → a'.cost + (total (parts_from k finder c path (i + 1) a' ts e)
+          + counts_from k counter c (i + 1) a' ts e) ≤
           children_paid c (children_from (evaluates k) c (i + 1) a' ts e)) →
-          a.cost + total (finder (c - a.cost) (path ++ i ∷ []) t (env_atop a.writes e)
-          ++ option_map_or (λ trace. parts_from k finder c path (i + 1) (with_child i a trace) ts e) o []) ≤
+          a.cost + (total (finder (c - a.cost) (path ++ i ∷ []) t (env_atop a.writes e)
+          ++ option_map_or (λ trace. parts_from k finder c path (i + 1) (with_child i a trace) ts e) o [])
+          + (counter (c - a.cost) t (env_atop a.writes e)
+          + option_map_or (λ trace. counts_from k counter c (i + 1) (with_child i a trace) ts e) o 0)) ≤
           children_paid c
           (option_and_then (λ trace. children_from (evaluates k) c (i + 1) (with_child i a trace) ts e) o)
       by None q first go =
@@ -73,10 +85,11 @@ module _ (k : ℕ) (finder : Finder) (below : CostBelow k finder) where
           omega (arith, both, first, h.0)
       by (Some trace) q first go =
           let rest : List Part = parts_from k finder c path (i + 1) (with_child i a trace) ts e in
+          let more : ℕ = counts_from k counter c (i + 1) (with_child i a trace) ts e in
           let both : total (finder (c - a.cost) (path ++ i ∷ []) t (env_atop a.writes e) ++ rest) ≡
           total (finder (c - a.cost) (path ++ i ∷ []) t (env_atop a.writes e)) + total rest =
           total_both (finder (c - a.cost) (path ++ i ∷ []) t (env_atop a.writes e)) rest in
-          let later : (a.cost + trace.cost) + total rest ≤
+          let later : (a.cost + trace.cost) + (total rest + more) ≤
           children_paid c (children_from (evaluates k) c (i + 1) (with_child i a trace) ts e) =
           go (with_child i a trace) (child_within k c i a t (env_atop a.writes e) trace h q) in
           omega (arith, both, first, later)
@@ -96,93 +109,221 @@ module _ (k : ℕ) (finder : Finder) (below : CostBelow k finder) where
   with_cost ps c n false o h g = omega (arith, h, g)
 
   open_cost : (o : Openness) (c : ℕ) (path : List ℕ) (t : WideTree) (e : Before) →
-      total (parts_as o k finder c path t e) ≤ paid c (composed_as o k (evaluates k) c t e)
+      total (parts_as o k finder c path t e) + counts_as o k counter c t e ≤
+      paid c (composed_as o k (evaluates k) c t e)
   open_cost (Document ts) c path t e =
-      let all : 0 + total (parts_from k finder (c - 1) path 0 nothing_yet ts e) ≤
+      let all : 0 + (total (parts_from k finder (c - 1) path 0 nothing_yet ts e)
+      + counts_from k counter (c - 1) 0 nothing_yet ts e) ≤
       children_paid (c - 1) (children_from (evaluates k) (c - 1) 0 nothing_yet ts e) =
       children_cost (c - 1) path 0 nothing_yet ts e (omega arith, omega arith) in
-      document_cost c (total (parts_from k finder (c - 1) path 0 nothing_yet ts e)) (nat_le 1 c)
+      document_cost c (total (parts_from k finder (c - 1) path 0 nothing_yet ts e)
+      + counts_from k counter (c - 1) 0 nothing_yet ts e) (nat_le 1 c)
       (children_from (evaluates k) (c - 1) 0 nothing_yet ts e) (omega (arith, all))
       (children_most k (c - 1) ts e (children_from (evaluates k) (c - 1) 0 nothing_yet ts e) refl)
   open_cost (With ps u) c path t e =
       with_cost ps c
-      (total (finder (c - (1 + settings_cost ps)) (path ++ (2 * length ps) ∷ []) u (env_atop (set_by ps) e)))
+      (total (finder (c - (1 + settings_cost ps)) (path ++ (2 * length ps) ∷ []) u (env_atop (set_by ps) e))
+      + counter (c - (1 + settings_cost ps)) u (env_atop (set_by ps) e))
       (nat_le (1 + settings_cost ps) c) (evaluates k (c - (1 + settings_cost ps)) u (env_atop (set_by ps) e))
       (below (c - (1 + settings_cost ps)) (path ++ (2 * length ps) ∷ []) u (env_atop (set_by ps) e))
       (paid_most k (c - (1 + settings_cost ps)) u (env_atop (set_by ps) e)
       (evaluates k (c - (1 + settings_cost ps)) u (env_atop (set_by ps) e)) refl)
   open_cost Shut c path t e = omega arith
 
+-- ---- the trees of a layer
+
+module _ (k c i : ℕ) (a : SoFar) (x : Name) (xs : List Name) (t : WideTree) (ts : List WideTree) (e : Before) where
+  abbrev rest : SoFar → ℕ
+  rest z = tree_costs_from k c (i + 1 + 1) z xs ts e
+
+  abbrev children_after : SoFar → Option SoFar
+  children_after z = children_from (evaluates_bare k) c (i + 1 + 1) z (in_turn xs ts) e
+
+  by_tree : (b : SoFar) (o : Option WideTrace) → a.cost ≤ b.cost → IsWithin k c b →
+      evaluates_bare k (c - b.cost) t (env_atop b.writes e) ≡ o →
+      ((z : SoFar) → IsWithin k c z → z.cost + rest z ≤ children_paid c (children_after z)) →
+      a.cost + (paid (c - b.cost) o + option_map_or (λ trace. rest (with_child (i + 1) b trace)) o 0) ≤
+      children_paid c (option_and_then (λ trace. children_after (with_child (i + 1) b trace)) o)
+  by_tree b None more within q go = let cost : b.cost ≤ c = within.0 in omega (arith, more, cost)
+  by_tree b (Some trace) more within q go =
+      let later : (b.cost + trace.cost) + rest (with_child (i + 1) b trace) ≤
+      children_paid c (children_after (with_child (i + 1) b trace)) =
+      go (with_child (i + 1) b trace) (tagged_within k c (i + 1) b (bare t) (env_atop b.writes e) trace within q) in
+      omega (arith, more, later)
+
+  by_name : (o : Option WideTrace) → IsWithin k c a →
+      evaluates_bare k (c - a.cost) (leaf x) (env_atop a.writes e) ≡ o →
+      ((z : SoFar) → IsWithin k c z → z.cost + rest z ≤ children_paid c (children_after z)) →
+      a.cost + option_map_or (λ name. tree_costs k c (i + 1) (with_child i a name) t rest e) o 0 ≤
+      children_paid c (option_and_then (λ name. children_from (evaluates_bare k) c (i + 1) (with_child i a name)
+      (t ∷ in_turn xs ts) e) o)
+  by_name None h q go = let cost : a.cost ≤ c = h.0 in omega (arith, cost)
+  by_name (Some name) h q go =
+      by_tree (with_child i a name) (evaluates_bare k (c - (with_child i a name).cost) t
+      (env_atop (with_child i a name).writes e)) (omega arith)
+      (tagged_within k c i a (bare (leaf x)) (env_atop a.writes e) name h q) refl go
+
+-- names and trees from here on
+trees_cost : (k c i : ℕ) (a : SoFar) (xs : List Name) (ts : List WideTree) (e : Before) → IsWithin k c a →
+    a.cost + tree_costs_from k c i a xs ts e ≤
+    children_paid c (children_from (evaluates_bare k) c i a (in_turn xs ts) e)
+trees_cost k c i a [] ts e h = omega arith
+trees_cost k c i a (x ∷ xs) [] e h = omega arith
+trees_cost k c i a (x ∷ xs) (t ∷ ts) e h =
+    by_name k c i a x xs t ts e (evaluates_bare k (c - a.cost) (leaf x) (env_atop a.writes e)) h refl
+    (λ z g. trees_cost k c (i + 1 + 1) z xs ts e g)
+
+layer_trees_cost : (k : ℕ) (l : Layer) (c : ℕ) (e : Before) →
+    layer_tree_costs k l c e ≤ children_paid (c - 1) (layer_values k l c e)
+layer_trees_cost k l c e =
+    let all : 0 + layer_tree_costs k l c e ≤ children_paid (c - 1) (layer_values k l c e) =
+    trees_cost k (c - 1) 0 nothing_yet l.names l.trees e (omega arith, omega arith) in
+    omega (arith, all)
+
+nodes_most : (ps : List (Name × WideTree)) → set_nodes ps ≤ sizes (as_sets ps)
+nodes_most [] = omega arith
+nodes_most (p ∷ ps) = omega (arith, nodes_le_size p.1, nodes_most ps)
+
+layer_most : (k : ℕ) (l : Layer) (c : ℕ) (e : Before) (o : Option SoFar) → layer_values k l c e ≡ o →
+    children_paid (c - 1) o ≤ c - 1
+layer_most k l c e None h = omega arith
+layer_most k l c e (Some b) h = (children_within k (evaluates_bare k) (bare_bounded k) (c - 1) 0 nothing_yet
+    (in_turn l.names l.trees) e b (omega arith, omega arith) h).0
+
 -- ---- layers
 
-abbrev pub CostInside : ℕ → LayerFinder → Type 0
-CostInside k inside = (ls : List Layer) (i c : ℕ) (path : List ℕ) (t : WideTree) (e : Before) →
-    total (inside ls i c path t e) ≤ paid c (evaluates_in k ls i c t e)
+abbrev pub CostInside : ℕ → LayerFinder → LayerCounter → Type 0
+CostInside k inside costs = (ls : List Layer) (i c : ℕ) (path : List ℕ) (t : WideTree) (e : Before) →
+    total (inside ls i c path t e) + costs ls c t e ≤ paid c (evaluates_in k ls i c t e)
 
-in_most : (k : ℕ) (ls : List Layer) (i c : ℕ) (t : WideTree) (e : Before) (o : Option WideTrace) →
+pub in_most : (k : ℕ) (ls : List Layer) (i c : ℕ) (t : WideTree) (e : Before) (o : Option WideTrace) →
     evaluates_in k ls i c t e ≡ o → paid c o ≤ c
 in_most k ls i c t e None h = omega arith
 in_most k ls i c t e (Some trace) h = (in_bounded k ls i c t e trace h).0
 
--- with n steps more round what is inside
-round_cost : (g : WideTrace → WideTrace) (n c m : ℕ) → ((u : WideTrace) → (g u).cost ≡ n + u.cost) → (b : Bool)
-    (o : Option WideTrace) → m ≤ paid (c - n) o → paid (c - n) o ≤ c - n →
-    m ≤ paid c (if b then option_map g o else None)
-round_cost g n c m more true None h p = omega (arith, h)
-round_cost g n c m more true (Some trace) h p =
+-- with n steps more round what is inside, of which p are counted
+round_cost : (g : WideTrace → WideTrace) (n c m p : ℕ) → ((u : WideTrace) → (g u).cost ≡ n + u.cost) → (b : Bool)
+    (o : Option WideTrace) → m ≤ paid (c - n) o → paid (c - n) o ≤ c - n → p ≤ n → p ≤ c →
+    m + p ≤ paid c (if b then option_map g o else None)
+round_cost g n c m p more true None h most few low = omega (arith, h, few, low)
+round_cost g n c m p more true (Some trace) h most few low =
     let cost : (g trace).cost ≡ n + trace.cost = more trace in
-    omega (arith, h, cost)
-round_cost g n c m more false o h p = omega (arith, h, p)
+    omega (arith, h, cost, few)
+round_cost g n c m p more false o h most few low = omega (arith, h, most, few, low)
 
-module _ (k : ℕ) (finder : Finder) (below : CostBelow k finder) (inside : LayerFinder)
-    (within : CostInside k inside) where
+module _ (k : ℕ) (finder : Finder) (counter : Counter) (below : CostBelow k finder counter) (inside : LayerFinder)
+    (costs : LayerCounter) (within : CostInside k inside costs) where
   layers_cost : (ls : List Layer) (i c : ℕ) (path : List ℕ) (t : WideTree) (e : Before) →
-      total (parts_layers k finder inside ls i c path t e) ≤
+      total (parts_layers k finder inside ls i c path t e) + costs_layers k counter costs ls c t e ≤
       paid c (composed_layers k (evaluates k) (evaluates_in k) ls i c t e)
   layers_cost [] i c path t e =
-      round_cost (child_trace i) 1 c (total (finder (c - 1) (path ++ i ∷ []) t e)) (λ u. refl) (nat_le 1 c)
-      (evaluates k (c - 1) t e) (below (c - 1) (path ++ i ∷ []) t e)
-      (paid_most k (c - 1) t e (evaluates k (c - 1) t e) refl)
-  layers_cost (l ∷ ls) i c path t e = by (layer_values k l c e)
+      let all = round_cost (child_trace i) 1 c (total (finder (c - 1) (path ++ i ∷ []) t e) + counter (c - 1) t e) 0
+      (λ u. refl) (nat_le 1 c) (evaluates k (c - 1) t e) (below (c - 1) (path ++ i ∷ []) t e)
+      (paid_most k (c - 1) t e (evaluates k (c - 1) t e) refl) (omega arith) (omega arith) in
+      omega (arith, all)
+  layers_cost (l ∷ ls) i c path t e =
+      by (layer_values k l c e) (layer_trees_cost k l c e) (layer_most k l c e (layer_values k l c e) refl)
     where
-      by : (o : Option SoFar) → total (option_map_or
-          (λ a. inside ls i (c - layer_cost l.names a) path t (inside_layer l.names a e)) o []) ≤
-          paid c (option_and_then (λ a. layer_composed l.names a (evaluates_in k ls i) c t e) o)
-      by None = omega arith
-      by (Some a) =
-          round_cost (layer_trace l.names a) (layer_cost l.names a) c
-          (total (inside ls i (c - layer_cost l.names a) path t (inside_layer l.names a e))) (λ u. refl)
-          (nat_le (layer_cost l.names a) c)
+      by_test : (a : SoFar) (d : Bool) → layer_tree_costs k l c e ≤ a.cost → a.cost ≤ c - 1 →
+          d ≡ nat_le (layer_cost l.names a) c →
+          total (inside ls i (c - layer_cost l.names a) path t (inside_layer l.names a e))
+          + (layer_tree_costs k l c e + (if d then set_nodes (layer_pairs l.names a.values)
+          + costs ls (c - layer_cost l.names a) t (inside_layer l.names a e) else 0)) ≤
+          paid c (if d then option_map (layer_trace l.names a)
+          (evaluates_in k ls i (c - layer_cost l.names a) t (inside_layer l.names a e)) else None)
+      by_test a true trees most q =
+          let nodes : set_nodes (layer_pairs l.names a.values) ≤ sizes (as_sets (layer_pairs l.names a.values)) =
+          nodes_most (layer_pairs l.names a.values) in
+          let low : layer_cost l.names a ≤ c = grind (arith, common_steps, q) in
+          let all = round_cost (layer_trace l.names a) (layer_cost l.names a) c
+          (total (inside ls i (c - layer_cost l.names a) path t (inside_layer l.names a e))
+          + costs ls (c - layer_cost l.names a) t (inside_layer l.names a e))
+          (layer_tree_costs k l c e + set_nodes (layer_pairs l.names a.values)) (λ u. refl) true
           (evaluates_in k ls i (c - layer_cost l.names a) t (inside_layer l.names a e))
           (within ls i (c - layer_cost l.names a) path t (inside_layer l.names a e))
           (in_most k ls i (c - layer_cost l.names a) t (inside_layer l.names a e)
           (evaluates_in k ls i (c - layer_cost l.names a) t (inside_layer l.names a e)) refl)
+          (omega (arith, trees, nodes)) (omega (arith, trees, nodes, low)) in
+          omega (arith, all)
+      by_test a false trees most q =
+          let below : total (inside ls i (c - layer_cost l.names a) path t (inside_layer l.names a e))
+          + costs ls (c - layer_cost l.names a) t (inside_layer l.names a e) ≤ paid (c - layer_cost l.names a)
+          (evaluates_in k ls i (c - layer_cost l.names a) t (inside_layer l.names a e)) =
+          within ls i (c - layer_cost l.names a) path t (inside_layer l.names a e) in
+          let few = in_most k ls i (c - layer_cost l.names a) t (inside_layer l.names a e)
+          (evaluates_in k ls i (c - layer_cost l.names a) t (inside_layer l.names a e)) refl in
+          omega (arith, trees, most, below, few)
+
+      by : (o : Option SoFar) → layer_tree_costs k l c e ≤ children_paid (c - 1) o →
+          children_paid (c - 1) o ≤ c - 1 → total (option_map_or
+          (λ a. inside ls i (c - layer_cost l.names a) path t (inside_layer l.names a e)) o [])
+          + (layer_tree_costs k l c e
+          + option_map_or (λ a. costs_inside l.names a (costs ls) c t e) o 0) ≤
+          paid c (option_and_then (λ a. layer_composed l.names a (evaluates_in k ls i) c t e) o)
+      by None trees most = omega (arith, trees, most)
+      by (Some a) trees most = by_test a (nat_le (layer_cost l.names a) c) trees most refl
 
   opened_cost : (o : Opening) (c : ℕ) (path : List ℕ) (t : WideTree) (e : Before) →
-      total (parts_opened o k finder inside c path t e) ≤
+      total (parts_opened o k finder inside c path t e) + costs_opened o k counter costs c t e ≤
       paid c (composed_opened o k (evaluates k) (evaluates_in k) c t e)
-  opened_cost (ByTree o) c path t e = open_cost k finder below o c path t e
+  opened_cost (ByTree o) c path t e = open_cost k finder counter below o c path t e
   opened_cost (ByShell shell u) c path t e =
-      round_cost (shell_trace t e) 1 c (total (inside shell.layers shell.inner (c - 1) path u e)) (λ v. refl)
+      let all = round_cost (shell_trace t e) 1 c (total (inside shell.layers shell.inner (c - 1) path u e)
+      + costs shell.layers (c - 1) u e) 0 (λ v. refl)
       (nat_le 1 c) (evaluates_in k shell.layers shell.inner (c - 1) u e)
       (within shell.layers shell.inner (c - 1) path u e)
       (in_most k shell.layers shell.inner (c - 1) u e (evaluates_in k shell.layers shell.inner (c - 1) u e) refl)
+      (omega arith) (omega arith) in
+      omega (arith, all)
 
 module _ (sheller : Sheller) (sound : IsSheller sheller) where
   mutual
-    unfolding parts_by parts_in evaluates_in
+    unfolding parts_by parts_in layer_costs_by layer_costs_in evaluates_in
 
-    pub parts_by_cost : (k : ℕ) → CostBelow k (parts_by sheller k)
-    parts_by_cost zero c path t e = omega arith
-    parts_by_cost (suc k) c path t e =
-        subst (λ o. total (parts_by sheller (suc k) c path t e) ≤ paid c o) (sym (opened_is sheller sound k c t e))
-        (opened_cost k (parts_by sheller k) (parts_by_cost k) (parts_in sheller k) (parts_in_cost k)
-        (opening sheller t e) c path t e)
+    pub all_cost : (k : ℕ) → CostBelow k (parts_by sheller k) (layer_costs_by sheller k)
+    all_cost zero c path t e = omega arith
+    all_cost (suc k) c path t e =
+        subst (λ o. total (parts_by sheller (suc k) c path t e) + layer_costs_by sheller (suc k) c t e ≤ paid c o)
+        (sym (opened_is sheller sound k c t e))
+        (opened_cost k (parts_by sheller k) (layer_costs_by sheller k) (all_cost k) (parts_in sheller k)
+        (layer_costs_in sheller k) (all_cost_in k) (opening sheller t e) c path t e)
 
-    pub parts_in_cost : (k : ℕ) → CostInside k (parts_in sheller k)
-    parts_in_cost zero ls i c path t e = omega arith
-    parts_in_cost (suc k) ls i c path t e =
-        layers_cost k (parts_by sheller k) (parts_by_cost k) (parts_in sheller k) (parts_in_cost k) ls i c path t e
+    pub all_cost_in : (k : ℕ) → CostInside k (parts_in sheller k) (layer_costs_in sheller k)
+    all_cost_in zero ls i c path t e = omega arith
+    all_cost_in (suc k) ls i c path t e =
+        layers_cost k (parts_by sheller k) (layer_costs_by sheller k) (all_cost k) (parts_in sheller k)
+        (layer_costs_in sheller k) (all_cost_in k) ls i c path t e
 
-pub parts_cost : (k : ℕ) → CostBelow k (parts k)
-parts_cost k = parts_by_cost closed closed_is k
+pub parts_cost : (k c : ℕ) (path : List ℕ) (t : WideTree) (e : Before) →
+    total (parts k c path t e) ≤ paid c (evaluates k c t e)
+parts_cost k c path t e =
+    let all : total (parts k c path t e) + layer_costs_by closed k c t e ≤ paid c (evaluates k c t e) =
+    all_cost closed closed_is k c path t e in
+    omega (arith, all)
+
+-- ---- where nothing has a shell
+
+module _ (k : ℕ) (counter : Counter) (none : (c : ℕ) (t : WideTree) (e : Before) → counter c t e ≡ 0) where
+  none_from : (c i : ℕ) (a : SoFar) (ts : List WideTree) (e : Before) → counts_from k counter c i a ts e ≡ 0
+  none_from c i a [] e = refl
+  none_from c i a (t ∷ ts) e =
+      let first : counter (c - a.cost) t (env_atop a.writes e) ≡ 0 = none (c - a.cost) t (env_atop a.writes e) in
+      by (evaluates k (c - a.cost) t (env_atop a.writes e)) first (λ a'. none_from c (i + 1) a' ts e)
+    where
+      by : (o : Option WideTrace) → counter (c - a.cost) t (env_atop a.writes e) ≡ 0 →
+          ((a' : SoFar) → counts_from k counter c (i + 1) a' ts e ≡ 0) →
+          counter (c - a.cost) t (env_atop a.writes e)
+          + option_map_or (λ trace. counts_from k counter c (i + 1) (with_child i a trace) ts e) o 0 ≡ 0
+      by None first go = omega (arith, first)
+      by (Some trace) first go = omega (arith, first, go (with_child i a trace))
+
+  none_as : (o : Openness) (c : ℕ) (t : WideTree) (e : Before) → counts_as o k counter c t e ≡ 0
+  none_as (Document ts) c t e = none_from (c - 1) 0 nothing_yet ts e
+  none_as (With ps b) c t e = none (c - (1 + settings_cost ps)) b (env_atop (set_by ps) e)
+  none_as Shut c t e = refl
+
+-- no layer costs anything
+pub closed_costs : (k c : ℕ) (t : WideTree) (e : Before) → layer_costs_by closed k c t e ≡ 0
+unfolding layer_costs_by
+closed_costs zero c t e = refl
+closed_costs (suc k) c t e = none_as k (layer_costs_by closed k) (closed_costs k) (openness t) c t e

@@ -1,8 +1,10 @@
 -- The names and the trees of a layer come to their values in order, and then the row's last child begins.
-use Rattle.std.proofs.Common.{◌≡◌, ℕ, zero, suc, ◌+◌, ◌*◌, ◌-◌, List, [], ◌∷◌, ◌++◌, length, map, ap, refl, sym, ◌∙◌}
+use Rattle.std.proofs.Common.{◌≡◌, ℕ, zero, suc, ◌+◌, ◌*◌, ◌-◌, ◌≤◌, List, [], ◌∷◌, ◌++◌, length, map, ap, refl, sym, ◌∙◌}
 use Rattle.std.proofs.Common.{arith}
 use Rattle.std.proofs.lemmas.List.{append_assoc}
 use Rattle.std.specs.Prelude.{Bool, true, false, nat_le, if◌then◌else◌, Option, Some, None, option_and_then, codes}
+use Rattle.std.proofs.lemmas.Grind.{common_steps}
+use Rattle.std.specs.FinMap.{empty}
 use Rattle.tx_tree.specs.WideTree.{WideTree, leaf}
 use Rattle.tx_env.specs.Pairs.{Name}
 use Rattle.tx_origin.specs.Values.{WideValue, text, value_text, plain}
@@ -45,6 +47,39 @@ text_value (suc k) c x at e trace h =
     (sym (ap (traced (suc k) c) (sym (done_give e (ex (suc k) (record { tree = leaf x; at = at }) top e
     (start (suc k) c))) ∙ text_then k x at e c (suc k) give (omega arith))) ∙ h)
 
+-- its trace, with a level
+pub text_traced : (k c : ℕ) (x : List ℕ) (at : Option (List ℕ)) (e : Before) →
+    evaluated_in (suc k) c (record { tree = leaf x; at = at }) e ≡ (if nat_le (1 + length x) c then Some (record {
+      value = text x at;
+      looks = empty;
+      writes = empty;
+      cost = 1 + length x;
+      height = 1;
+    }) else None)
+unfolding evaluated_in
+text_traced k c x at e =
+    ap (traced (suc k) c) (sym (done_give e (ex (suc k) (record { tree = leaf x; at = at }) top e (start (suc k) c)))
+    ∙ text_then k x at e c (suc k) give (omega arith))
+    ∙ by (nat_le (1 + length x) c) refl
+  where
+    by : (b : Bool) → b ≡ nat_le (1 + length x) c →
+        traced (suc k) c (if b then Done (text x at) (fresh (c - (1 + length x)) k) else Over) ≡
+        (if b then Some (record {
+          value = text x at;
+          looks = empty;
+          writes = empty;
+          cost = 1 + length x;
+          height = 1;
+        }) else None)
+    by true q =
+        let low : 1 + length x ≤ c = grind (arith, common_steps, q) in
+        let cost : c - (c - (1 + length x)) ≡ 1 + length x = omega (arith, low) in
+        let height : suc k - k ≡ 1 = omega arith in
+        ap (λ n. Some (record { value = text x at; looks = empty; writes = empty; cost = n; height = suc k - k })) cost
+        ∙ ap (λ n. Some (record { value = text x at; looks = empty; writes = empty; cost = 1 + length x; height = n }))
+        height
+    by false q = refl
+
 -- ---- names with what they are to have
 
 pub pairs_past : (done xs : List Name) (vs : List WideValue) → length vs ≡ 2 * length done →
@@ -57,7 +92,7 @@ pairs_past (d ∷ ds) xs (u ∷ []) h = absurd (omega (arith, h))
 pairs_past (d ∷ ds) xs (u ∷ v ∷ vs) h =
     ap (λ ps. (d, plain v) ∷ ps) (pairs_past ds xs vs (omega (arith, h)))
 
-pairs_more : (done : List Name) (x : Name) (vs : List WideValue) (n v : WideValue) → length vs ≡ 2 * length done →
+pub pairs_more : (done : List Name) (x : Name) (vs : List WideValue) (n v : WideValue) → length vs ≡ 2 * length done →
     layer_pairs (done ++ x ∷ []) (vs ++ n ∷ v ∷ []) ≡ layer_pairs done vs ++ (x, plain v) ∷ []
 pairs_more [] x [] n v h = refl
 pairs_more [] x (u ∷ us) n v h = absurd (omega (arith, h))

@@ -8,5 +8,6 @@ pub mod Composed
 pub mod Layered
 pub mod Shellers
 pub mod Parts
+pub mod LayerCosts
 pub mod Fitting
 pub mod Standing

@@ -1,5 +1,5 @@
 -- Shells: what an opener tells of a tag. The tag does what layers of `with` do that stand round one of its children.
-use Rattle.std.specs.Prelude.{◌≡◌, ℕ, zero, suc, ◌<◌, Bool, true, false, ◌&&◌, not, is_some, List, [], ◌∷◌, ◌++◌}
+use Rattle.std.specs.Prelude.{◌≡◌, ℕ, zero, suc, ◌*◌, ◌<◌, Bool, true, false, ◌&&◌, not, is_some, List, [], ◌∷◌, ◌++◌}
 use Rattle.std.specs.Prelude.{length, map, Option, Some, None, slice_get, codes}
 use Rattle.std.specs.List.{AllByRecursion}
 use Rattle.tx_tree.specs.WideTree.{WideTree, Forest, leaf, node, children_of}
@@ -76,8 +76,9 @@ shell_run (suc k) shell (node label ts) = do
 
 -- ---- what is true of a shell
 
+-- The `with` for which the layer stands is a tree: it has as many names as trees, and at most 65,535 children.
 abbrev pub IsFull : Layer → Type 0
-IsFull l = length l.names ≡ length l.trees
+IsFull l = (length l.names ≡ length l.trees) × (2 * length l.names < 65535)
 
 -- A tag with this shell, where names have this. It runs so alone, and so it does in the whole.
 pub record IsShell (shell : Shell) (t : WideTree) (e : Before) : Type 0 where

@@ -1,5 +1,5 @@
 // Laws of evaluation by parts where some tags have shells.
-ghost use Rattle.std.specs.Prelude.{Some, ◌≡◌, ◌≤◌, ℕ, suc, List, [], ◌∷◌, map};
+ghost use Rattle.std.specs.Prelude.{Some, ◌≡◌, ◌≤◌, ◌+◌, ℕ, suc, List, [], ◌∷◌, map};
 ghost use Rattle.std.specs.List.{AllByRecursion, IsDistinct, sum_by};
 ghost use Rattle.std.specs.Str.{bytes_eq};
 ghost use Rattle.tx_tree.specs.WideTree.{WideTree, Forest, node};
@@ -17,7 +17,8 @@ ghost use Rattle.tx_parts.specs.Opening.{Sheller, closed, opens_nothing, shells_
 ghost use Rattle.tx_parts.specs.Composed.{evaluates};
 ghost use Rattle.tx_parts.specs.Layered.{layer_values, evaluates_in, composed_layers, composed_opened, composed_by};
 ghost use Rattle.tx_parts.specs.Shellers.{IsSheller};
-ghost use Rattle.tx_parts.specs.Parts.{HasTrace, stored, part_cost, parts_by};
+ghost use Rattle.tx_parts.specs.Parts.{HasTrace, stored, part_cost, parts_by, parts_in};
+ghost use Rattle.tx_parts.specs.LayerCosts.{layer_costs_by, layer_costs_in};
 ghost use Rattle.tx_parts.specs.Fitting.{AllFit};
 ghost use Rattle.tx_parts.specs.Standing.{StandsIn};
 
@@ -89,8 +90,14 @@ pub fn opened_standing_law()
         IsDistinct bytes_eq (map (λ p. p.path) (parts_by sheller k c path t e)) }
 {}
 
-/// A law: the parts of a tree together cost at most what the tree costs, or what it may cost where it is over.
+/// A law: the parts of a tree and the trees of its layers together cost at most what the tree costs, or what it may cost
+/// where it is over. So they do in a tree in layers. Where nothing has a shell no layer costs anything.
 pub fn opened_cost_law()
-    ensures { (sheller : Sheller) → IsSheller sheller → (k c : ℕ) (path : List ℕ) (t : WideTree) (e : Before) →
-        sum_by part_cost (parts_by sheller k c path t e) ≤ paid c (evaluates k c t e) }
+    ensures tree { (sheller : Sheller) → IsSheller sheller → (k c : ℕ) (path : List ℕ) (t : WideTree) (e : Before) →
+        sum_by part_cost (parts_by sheller k c path t e) + layer_costs_by sheller k c t e ≤
+        paid c (evaluates k c t e) }
+    ensures inside { (sheller : Sheller) → IsSheller sheller → (k : ℕ) (ls : List Layer) (i c : ℕ) (path : List ℕ)
+        (t : WideTree) (e : Before) → sum_by part_cost (parts_in sheller k ls i c path t e)
+        + layer_costs_in sheller k ls c t e ≤ paid c (evaluates_in k ls i c t e) }
+    ensures nothing { (k c : ℕ) (t : WideTree) (e : Before) → layer_costs_by closed k c t e ≡ 0 }
 {}

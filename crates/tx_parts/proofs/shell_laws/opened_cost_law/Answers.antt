@@ -1,5 +1,5 @@
-use Rattle.tx_parts.proofs.Costing.{parts_by_cost}
+use Rattle.tx_parts.proofs.Costing.{all_cost, all_cost_in, closed_costs}
 use Rattle.tx_parts.proofs.shell_laws.opened_cost_law.Goals as goal
 
 pub returns : goal.returns
-returns c = parts_by_cost
+returns c = record { tree = all_cost; inside = all_cost_in; nothing = closed_costs }

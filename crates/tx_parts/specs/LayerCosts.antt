@@ -1,0 +1,95 @@
+-- What layers cost, of those tags with shells that are gone into on the way to a tree's parts: what their trees cost,
+-- and a step for each node of what these come to, which is what names are set to. The names aren't counted, nor are the
+-- tags and the nodes of the layers themselves.
+use Rattle.std.specs.Prelude.{ℕ, zero, suc, ◌+◌, ◌-◌, nat_le, if◌then◌else◌, List, [], ◌∷◌}
+use Rattle.std.specs.Option.{option_map_or}
+use Rattle.tx_tree.specs.WideTree.{WideTree, leaf, nodes_of}
+use Rattle.tx_env.specs.Pairs.{Name}
+use Rattle.tx_exec_form.specs.Runs.{Before}
+use Rattle.tx_exec_form.specs.Evaluated.{paid}
+use Rattle.tx_parts.specs.Atop.{env_atop}
+use Rattle.tx_parts.specs.Openness.{Openness, Document, With, Shut}
+use Rattle.tx_parts.specs.Shells.{Layer}
+use Rattle.tx_parts.specs.Opening.{Sheller, Opening, ByTree, ByShell, opening}
+use Rattle.tx_parts.specs.Composed.{evaluates, SoFar, nothing_yet, with_child, set_by, settings_cost}
+use Rattle.tx_parts.specs.Layered.{evaluates_bare, layer_values, layer_pairs, layer_cost, inside_layer}
+
+-- ---- a layer
+
+-- what a tree of a layer costs behind this, or all steps that are left where it is over, and what those behind it do
+abbrev pub tree_costs : ℕ → ℕ → ℕ → SoFar → WideTree → (SoFar → ℕ) → Before → ℕ
+tree_costs k c i a t rest e =
+    paid (c - a.cost) (evaluates_bare k (c - a.cost) t (env_atop a.writes e))
+    + option_map_or (λ trace. rest (with_child i a trace))
+    (evaluates_bare k (c - a.cost) t (env_atop a.writes e)) 0
+
+-- the trees from here on, each behind its name, which is the child of number i
+abbrev pub tree_costs_from : ℕ → ℕ → ℕ → SoFar → List Name → List WideTree → Before → ℕ
+tree_costs_from k c i a [] ts e = 0
+tree_costs_from k c i a (x ∷ xs) [] e = 0
+tree_costs_from k c i a (x ∷ xs) (t ∷ ts) e =
+    option_map_or (λ name. tree_costs k c (i + 1) (with_child i a name) t
+    (λ b. tree_costs_from k c (i + 1 + 1) b xs ts e) e)
+    (evaluates_bare k (c - a.cost) (leaf x) (env_atop a.writes e)) 0
+
+-- all trees of a layer
+abbrev pub layer_tree_costs : ℕ → Layer → ℕ → Before → ℕ
+layer_tree_costs k l c e = tree_costs_from k (c - 1) 0 nothing_yet l.names l.trees e
+
+-- the nodes of what names are set to
+abbrev pub set_nodes : List (Name × WideTree) → ℕ
+set_nodes [] = 0
+set_nodes (p ∷ ps) = nodes_of p.1 + set_nodes ps
+
+-- ---- layers, and any tree
+
+-- what is counted in a tree with so many steps in an environment
+abbrev pub Counter : Type 0
+Counter = ℕ → WideTree → Before → ℕ
+
+-- in the children from number i on, behind what the earlier ones came to
+abbrev pub counts_from : ℕ → Counter → ℕ → ℕ → SoFar → List WideTree → Before → ℕ
+counts_from k counter c i a [] e = 0
+counts_from k counter c i a (t ∷ ts) e =
+    counter (c - a.cost) t (env_atop a.writes e)
+    + option_map_or (λ trace. counts_from k counter c (i + 1) (with_child i a trace) ts e)
+    (evaluates k (c - a.cost) t (env_atop a.writes e)) 0
+
+-- of `suc k` levels the inner trees have k
+abbrev pub counts_as : Openness → ℕ → Counter → Counter
+counts_as (Document ts) k counter c t e = counts_from k counter (c - 1) 0 nothing_yet ts e
+counts_as (With ps b) k counter c t e = counter (c - (1 + settings_cost ps)) b (env_atop (set_by ps) e)
+counts_as Shut k counter c t e = 0
+
+-- in a tree in layers, and what their trees cost
+abbrev pub LayerCounter : Type 0
+LayerCounter = List Layer → Counter
+
+-- behind the trees of a layer with these names: nothing, where what it costs isn't allowed
+abbrev pub costs_inside : List Name → SoFar → Counter → Counter
+costs_inside xs a inside c t e =
+    if nat_le (layer_cost xs a) c
+    then set_nodes (layer_pairs xs a.values) + inside (c - layer_cost xs a) t (inside_layer xs a e)
+    else 0
+
+abbrev pub costs_layers : ℕ → Counter → LayerCounter → LayerCounter
+costs_layers k counter inside [] c t e = counter (c - 1) t e
+costs_layers k counter inside (l ∷ ls) c t e =
+    layer_tree_costs k l c e
+    + option_map_or (λ a. costs_inside l.names a (inside ls) c t e) (layer_values k l c e) 0
+
+abbrev pub costs_opened : Opening → ℕ → Counter → LayerCounter → Counter
+costs_opened (ByTree o) k counter inside c t e = counts_as o k counter c t e
+costs_opened (ByShell shell u) k counter inside c t e = inside shell.layers (c - 1) u e
+
+-- with k levels
+unfoldable mutual
+  pub layer_costs_by : Sheller → ℕ → Counter
+  layer_costs_by sheller zero c t e = 0
+  layer_costs_by sheller (suc k) c t e =
+      costs_opened (opening sheller t e) k (layer_costs_by sheller k) (layer_costs_in sheller k) c t e
+
+  pub layer_costs_in : Sheller → ℕ → LayerCounter
+  layer_costs_in sheller zero ls c t e = 0
+  layer_costs_in sheller (suc k) ls c t e =
+      costs_layers k (layer_costs_by sheller k) (layer_costs_in sheller k) ls c t e
