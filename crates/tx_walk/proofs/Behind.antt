@@ -1,5 +1,5 @@
 -- What names have behind a part, and what a tree comes to at an origin of its own.
-use Rattle.std.proofs.Common.{◌≡◌, ℕ, ◌+◌, List, [], ap, sym, ◌∙◌}
+use Rattle.std.proofs.Common.{◌≡◌, ℕ, ◌+◌, List, ap, sym, ◌∙◌}
 use Rattle.std.specs.Prelude.{Option, Some, None}
 use Rattle.std.specs.List.{IsDistinct}
 use Rattle.std.specs.Map.{keys_of}
@@ -8,14 +8,12 @@ use Rattle.std.specs.FinMap.{get, from_entries}
 use Rattle.tx_tree.specs.WideTree.{WideTree}
 use Rattle.tx_env.specs.Pairs.{Name}
 use Rattle.tx_env.specs.Environments.{NameMap, overlaid}
-use Rattle.tx_exec_form.specs.Runs.{Before}
-use Rattle.tx_exec_form.specs.Evaluated.{WideTrace, evaluated, paid}
+use Rattle.tx_exec_form.specs.Evaluated.{WideTrace, paid}
 use Rattle.tx_exec.specs.declared.outcome.Trace.{Trace}
 use Rattle.tx_exec.specs.declared.outcome.Outcome.{Outcome}
 use Rattle.tx_exec.specs.declared.outcome.Outcome.TheVariants.{Over, Done}
 use Rattle.tx_exec.specs.Outcomes.{wide_trace, wide_outcome}
 use Rattle.tx_parts.specs.Atop.{env_atop}
-use Rattle.tx_parts.specs.Composed.{evaluates}
 use Rattle.tx_parts.proofs.Pairing.{overlaid_is}
 
 pub set_behind : (before after : NameMap) (pairs ws vs : List (Name × WideTree)) → after ≡ overlaid before pairs →
@@ -23,12 +21,6 @@ pub set_behind : (before after : NameMap) (pairs ws vs : List (Name × WideTree)
 set_behind before after pairs ws vs h is_ws is_vs once =
     ap get h ∙ ap (λ us. get (overlaid before us)) is_ws ∙ overlaid_is before ws once
     ∙ ap (λ us. env_atop (from_entries us) (get before)) (sym is_vs)
-
-pub alone_is : (t u : WideTree) (at : List ℕ) (e : Before) (c : ℕ) → u ≡ t → at ≡ [] →
-    evaluated (record { tree = u; at = Some at }) e c ≡ evaluates 400 c t e
-alone_is t u at e c is_t is_root =
-    ap (λ v. evaluated (record { tree = v; at = Some at }) e c) is_t
-    ∙ ap (λ p. evaluated (record { tree = t; at = Some p }) e c) is_root
 
 pub comes_over : (o : Outcome) (r : Option WideTrace) → wide_outcome o ≡ r → o ≡ Over → r ≡ None
 comes_over o r h is = sym h ∙ ap wide_outcome is

@@ -20,10 +20,11 @@ use Rattle.tx_parts.specs.Openness.{Openness, Document, With, Shut, settings_in,
 use Rattle.tx_parts.specs.Openness.{openness}
 use Rattle.tx_parts.specs.Atop.{env_atop}
 use Rattle.tx_parts.specs.Composed.{alone, evaluates, SoFar, nothing_yet, children_from, document_trace, composed_as}
-use Rattle.tx_parts.specs.Parts.{parts_as, parts, parts_from, parts_by}
+use Rattle.tx_parts.specs.Parts.{parts_from, parts_by}
 use Rattle.tx_parts.proofs.Composing.{inner_are}
 use Rattle.tx_walk.specs.declared.part.Part.{Part as DonePart}
-use Rattle.tx_walk.specs.Held.{Stores, charges}
+use Rattle.tx_walk.specs.Guides.{Guide, charged, charged_from}
+use Rattle.tx_walk.proofs.Unshelled.{parts_are, charged_are}
 use Rattle.tx_walk.specs.Walked.{seen, seen_in}
 use Rattle.tx_walk.specs.Steps.{trace_under, IsBehind, IsAdded, below, document_at, FitsNode, Stage, ChildrenDone}
 use Rattle.tx_walk.specs.Steps.{ChildrenCome}
@@ -93,81 +94,89 @@ module _ (k c : ℕ) (path : List ℕ) (t : WideTree) (e : Before) (opens : open
       whole_is ∙ ap (λ b. if b then option_map document_trace (children_from (evaluates (k - 1)) (c - 1) 0 nothing_yet
       (children_of t) e) else None) few
 
-  pub document_parts : parts k c path t e ≡ parts_from (k - 1) (parts (k - 1)) (c - 1) path 0 nothing_yet
-      (children_of t) e
-  unfolding parts_by
-  document_parts =
-      ap (λ n. parts n c path t e) (sym upper) ∙ ap (λ o. parts_as o (k - 1) (parts (k - 1)) c path t e) opens
+  pub document_parts : (guide : Guide) → guide.sheller t e ≡ None → parts_by guide.sheller k c path t e ≡
+      parts_from (k - 1) (parts_by guide.sheller (k - 1)) (c - 1) path 0 nothing_yet (children_of t) e
+  document_parts guide unshelled =
+      ap (λ n. parts_by guide.sheller n c path t e) (sym upper)
+      ∙ parts_are guide c path t e (Document (children_of t)) unshelled opens (k - 1)
 
-module _ (kept : Stores) (k c : ℕ) (path : List ℕ) (t : WideTree) (opens : openness t ≡ Document (children_of t))
+  pub document_charged : (guide : Guide) → guide.sheller t e ≡ None → charged guide k c path t e ≡
+      charged_from guide (k - 1) (c - 1) path 0 nothing_yet (children_of t) e
+  document_charged guide unshelled =
+      ap (λ n. charged guide n c path t e) (sym upper)
+      ∙ charged_are guide c path t e (Document (children_of t)) unshelled opens (k - 1)
+
+module _ (guide : Guide) (k c : ℕ) (path : List ℕ) (t : WideTree) (opens : openness t ≡ Document (children_of t))
     (some : 0 < k) (left : 0 < c) (a b : SoFar) (names names1 : Before) (old new : List DonePart) (before after : ℕ)
-  where
-    abbrev first : Stage
-    first = record { joined = a; names = names; done = map seen old; count = before }
+    (unshelled : guide.sheller t names ≡ None) where
+  abbrev first : Stage
+  first = record { joined = a; names = names; done = map seen old; count = before }
 
-    abbrev last : Stage
-    last = record { joined = b; names = names1; done = map seen new; count = after }
+  abbrev last : Stage
+  last = record { joined = b; names = names1; done = map seen new; count = after }
 
-    module _ (d : ChildrenDone kept (k - 1) (c - 1) path (children_of t) first last) where
-      done_is : evaluates k c t names ≡ Some (document_trace d.so_far)
-      done_is = document_is k c path t names opens some left ∙ ap (option_map document_trace) d.comes
+  module _ (d : ChildrenDone guide (k - 1) (c - 1) path (children_of t) first last) where
+    done_is : evaluates k c t names ≡ Some (document_trace d.so_far)
+    done_is = document_is k c path t names opens some left ∙ ap (option_map document_trace) d.comes
 
-      pub done_exact : Some (document_at path b) ≡ option_map (trace_under path) (evaluates k c t names)
-      done_exact =
-          ap (λ (x : SoFar). Some (document_at path x)) d.joined ∙ ap Some (sym (below_trace path d.so_far))
-          ∙ ap (option_map (trace_under path)) (sym done_is)
+    pub done_exact : Some (document_at path b) ≡ option_map (trace_under path) (evaluates k c t names)
+    done_exact =
+        ap (λ (x : SoFar). Some (document_at path x)) d.joined ∙ ap Some (sym (below_trace path d.so_far))
+        ∙ ap (option_map (trace_under path)) (sym done_is)
 
-      pub done_fits : k ≤ 400 → c ≤ 1000000 → IsWithinLimits t → FitsNode b
-      done_fits low few within =
-          let bounds : (1 + d.so_far.cost ≤ c) × (1 + d.so_far.height ≤ k) =
-          allowed k c (alone t) names (document_trace d.so_far) done_is in
-          let sizes : (1 + total_size (plains (vals d.so_far.values)) ≤ 1 + d.so_far.cost)
-          × (1 + deepest (plains (vals d.so_far.values)) ≤ 1 + d.so_far.height) =
-          small k c (alone t) names (document_trace d.so_far) done_is in
-          let moved : plains (vals (map (value_under path) d.so_far.values)) ≡ plains (vals d.so_far.values) =
-          plains_moved path d.so_far.values in
-          let size : total_size (plains (vals (map (value_under path) d.so_far.values))) ≡
-          total_size (plains (vals d.so_far.values)) = ap total_size moved in
-          let depth : deepest (plains (vals (map (value_under path) d.so_far.values))) ≡
-          deepest (plains (vals d.so_far.values)) = ap deepest moved in
-          let arity : length (map (value_under path) d.so_far.values) ≡ length d.so_far.values =
-          length-map d.so_far.values (value_under path) in
-          let many : length d.so_far.values ≡ length (children_of t) = d.many in
-          subst FitsNode (sym d.joined) (record {
-            arity = omega (arith, arity, many, few_children t within);
-            size = omega (arith, size, sizes.0, bounds.0, few);
-            depth = omega (arith, depth, sizes.1, bounds.1, low);
-            cost = omega (arith, bounds.0, few);
-            height = omega (arith, bounds.1, low);
-          })
+    pub done_fits : k ≤ 400 → c ≤ 1000000 → IsWithinLimits t → FitsNode b
+    done_fits low few within =
+        let bounds : (1 + d.so_far.cost ≤ c) × (1 + d.so_far.height ≤ k) =
+        allowed k c (alone t) names (document_trace d.so_far) done_is in
+        let sizes : (1 + total_size (plains (vals d.so_far.values)) ≤ 1 + d.so_far.cost)
+        × (1 + deepest (plains (vals d.so_far.values)) ≤ 1 + d.so_far.height) =
+        small k c (alone t) names (document_trace d.so_far) done_is in
+        let moved : plains (vals (map (value_under path) d.so_far.values)) ≡ plains (vals d.so_far.values) =
+        plains_moved path d.so_far.values in
+        let size : total_size (plains (vals (map (value_under path) d.so_far.values))) ≡
+        total_size (plains (vals d.so_far.values)) = ap total_size moved in
+        let depth : deepest (plains (vals (map (value_under path) d.so_far.values))) ≡
+        deepest (plains (vals d.so_far.values)) = ap deepest moved in
+        let arity : length (map (value_under path) d.so_far.values) ≡ length d.so_far.values =
+        length-map d.so_far.values (value_under path) in
+        let many : length d.so_far.values ≡ length (children_of t) = d.many in
+        subst FitsNode (sym d.joined) (record {
+          arity = omega (arith, arity, many, few_children t within);
+          size = omega (arith, size, sizes.0, bounds.0, few);
+          depth = omega (arith, depth, sizes.1, bounds.1, low);
+          cost = omega (arith, bounds.0, few);
+          height = omega (arith, bounds.1, low);
+        })
 
-    pub comes_exact : (went : Bool) → ChildrenCome kept (k - 1) (c - 1) path (children_of t) first last went →
-        (if went then Some (document_at path b) else None) ≡ option_map (trace_under path) (evaluates k c t names)
-    comes_exact true d = done_exact d
-    comes_exact false d =
-        sym (ap (option_map (trace_under path)) (document_is k c path t names opens some left
-        ∙ ap (option_map document_trace) d.comes))
+  pub comes_exact : (went : Bool) → ChildrenCome guide (k - 1) (c - 1) path (children_of t) first last went →
+      (if went then Some (document_at path b) else None) ≡ option_map (trace_under path) (evaluates k c t names)
+  comes_exact true d = done_exact d
+  comes_exact false d =
+      sym (ap (option_map (trace_under path)) (document_is k c path t names opens some left
+      ∙ ap (option_map document_trace) d.comes))
 
-    pub comes_fits : (went : Bool) → ChildrenCome kept (k - 1) (c - 1) path (children_of t) first last went →
-        k ≤ 400 → c ≤ 1000000 → IsWithinLimits t → went ≡ true → FitsNode b
-    comes_fits true d low few within h = done_fits d low few within
-    comes_fits false d low few within h = cc
+  pub comes_fits : (went : Bool) → ChildrenCome guide (k - 1) (c - 1) path (children_of t) first last went →
+      k ≤ 400 → c ≤ 1000000 → IsWithinLimits t → went ≡ true → FitsNode b
+  comes_fits true d low few within h = done_fits d low few within
+  comes_fits false d low few within h = cc
 
-    pub comes_behind : (went : Bool) → ChildrenCome kept (k - 1) (c - 1) path (children_of t) first last went →
-        IsBehind names names1 (if went then Some (document_at path b) else None)
-    comes_behind true d =
-        d.names ∙ ap (λ m. env_atop m names) (sym (ap (λ (x : SoFar). x.writes) d.joined))
-    comes_behind false d = tt
+  pub comes_behind : (went : Bool) → ChildrenCome guide (k - 1) (c - 1) path (children_of t) first last went →
+      IsBehind names names1 (if went then Some (document_at path b) else None)
+  comes_behind true d =
+      d.names ∙ ap (λ m. env_atop m names) (sym (ap (λ (x : SoFar). x.writes) d.joined))
+  comes_behind false d = tt
 
-    pub comes_added : (went : Bool) → ChildrenCome kept (k - 1) (c - 1) path (children_of t) first last went →
-        IsAdded kept (parts k c path t names) old new (if went then Some (document_at path b) else None)
-    comes_added true d =
-        d.done ∙ ap (λ ps. map seen old ++ map (seen_in kept) ps) (sym (document_parts k c path t names opens some))
-    comes_added false d = tt
+  pub comes_added : (went : Bool) → ChildrenCome guide (k - 1) (c - 1) path (children_of t) first last went →
+      IsAdded guide.stores (parts_by guide.sheller k c path t names) old new
+      (if went then Some (document_at path b) else None)
+  comes_added true d =
+      d.done ∙ ap (λ ps. map seen old ++ map (seen_in guide.stores) ps)
+      (sym (document_parts k c path t names opens some guide unshelled))
+  comes_added false d = tt
 
-    pub comes_counted : (went : Bool) → ChildrenCome kept (k - 1) (c - 1) path (children_of t) first last went →
-        after ≡ before + charges kept (parts k c path t names)
-    comes_counted true d =
-        d.count ∙ ap (λ ps. before + charges kept ps) (sym (document_parts k c path t names opens some))
-    comes_counted false d =
-        d.count ∙ ap (λ ps. before + charges kept ps) (sym (document_parts k c path t names opens some))
+  pub comes_counted : (went : Bool) → ChildrenCome guide (k - 1) (c - 1) path (children_of t) first last went →
+      after ≡ before + charged guide k c path t names
+  comes_counted true d =
+      d.count ∙ ap (λ n. before + n) (sym (document_charged k c path t names opens some guide unshelled))
+  comes_counted false d =
+      d.count ∙ ap (λ n. before + n) (sym (document_charged k c path t names opens some guide unshelled))

@@ -19,10 +19,12 @@ use Rattle.tx_exec_form.specs.Evaluated.{WideTrace}
 use Rattle.tx_exec_form.proofs.Tracing.{allowed}
 use Rattle.tx_parts.specs.Atop.{atop, env_atop, both_looks}
 use Rattle.tx_parts.specs.Composed.{alone, evaluates, SoFar, nothing_yet, with_child, children_from}
-use Rattle.tx_parts.specs.Parts.{Part, parts, parts_from}
+use Rattle.tx_parts.specs.Parts.{Part, parts_from, parts_by}
+use Rattle.tx_parts.specs.LayerCosts.{counts_from, layer_costs_by}
 use Rattle.tx_parts.proofs.PartRuns.{atop_twice}
 use Rattle.tx_walk.specs.declared.part.Part.{Part as DonePart}
-use Rattle.tx_walk.specs.Held.{Stores, charge_of, charges}
+use Rattle.tx_walk.specs.Held.{charge_of, charges}
+use Rattle.tx_walk.specs.Guides.{Guide, charged, charged_from}
 use Rattle.tx_walk.specs.Walked.{seen, seen_in}
 use Rattle.tx_walk.specs.Steps.{trace_under, IsBehind, IsAdded, with_trace, IsJoined, below, Stage, ChildDone}
 use Rattle.tx_walk.specs.Steps.{ChildOver}
@@ -30,7 +32,7 @@ use Rattle.tx_walk.specs.Steps.{ChildComes, ChildrenDone, ChildrenOver}
 
 -- ---- one child
 
-module _ (kept : Stores) (k c : ℕ) (path : List ℕ) (i : ℕ) (t : WideTree) (a b : SoFar) (names names1 : Before)
+module _ (guide : Guide) (k c : ℕ) (path : List ℕ) (i : ℕ) (t : WideTree) (a b : SoFar) (names names1 : Before)
     (old new : List DonePart) (before after : ℕ) where
   abbrev first : Stage
   first = record { joined = a; names = names; done = map seen old; count = before }
@@ -40,9 +42,10 @@ module _ (kept : Stores) (k c : ℕ) (path : List ℕ) (i : ℕ) (t : WideTree) 
 
   by_comes : (o : Option WideTrace) (went : Bool) (r : Option WideTrace) →
       evaluates k (c - a.cost) t names ≡ r → o ≡ option_map (trace_under (path ++ i ∷ [])) r →
-      IsBehind names names1 o → IsAdded kept (parts k (c - a.cost) (path ++ i ∷ []) t names) old new o →
-      after ≡ before + charges kept (parts k (c - a.cost) (path ++ i ∷ []) t names) →
-      IsJoined a b o went → ChildComes kept k c path i t first last went
+      IsBehind names names1 o → IsAdded guide.stores (parts_by guide.sheller k (c - a.cost) (path ++ i ∷ []) t names)
+      old new o →
+      after ≡ before + charged guide k (c - a.cost) (path ++ i ∷ []) t names →
+      IsJoined a b o went → ChildComes guide k c path i t first last went
   by_comes None true None q e behind is_added counted joined = let off : true ≡ false = joined in cc
   by_comes None false None q e behind is_added counted joined = record { comes = q; count = counted }
   by_comes None went (Some w) q e behind is_added counted joined = cc
@@ -62,24 +65,24 @@ module _ (kept : Stores) (k c : ℕ) (path : List ℕ) (i : ℕ) (t : WideTree) 
 
   pub child_comes : (at : List ℕ) (rest : ℕ) (o : Option WideTrace) (went : Bool) → at ≡ path ++ i ∷ [] →
       rest ≡ c - a.cost → o ≡ option_map (trace_under at) (evaluates k rest t names) →
-      IsBehind names names1 o → IsAdded kept (parts k rest at t names) old new o →
-      after ≡ before + charges kept (parts k rest at t names) →
-      IsJoined a b o went → ChildComes kept k c path i t first last went
+      IsBehind names names1 o → IsAdded guide.stores (parts_by guide.sheller k rest at t names) old new o →
+      after ≡ before + charged guide k rest at t names →
+      IsJoined a b o went → ChildComes guide k c path i t first last went
   child_comes at rest o went is_at is_rest e behind is_added counted joined =
       by_comes o went (evaluates k (c - a.cost) t names) refl
       (e ∙ ap (λ p. option_map (trace_under p) (evaluates k rest t names)) is_at
       ∙ ap (λ n. option_map (trace_under (path ++ i ∷ [])) (evaluates k n t names)) is_rest)
       behind
-      (subst (λ p. IsAdded kept (parts k (c - a.cost) p t names) old new o) is_at
-      (subst (λ n. IsAdded kept (parts k n at t names) old new o) is_rest is_added))
-      (counted ∙ ap (λ n. before + charges kept (parts k n at t names)) is_rest
-      ∙ ap (λ p. before + charges kept (parts k (c - a.cost) p t names)) is_at)
+      (subst (λ p. IsAdded guide.stores (parts_by guide.sheller k (c - a.cost) p t names) old new o) is_at
+      (subst (λ n. IsAdded guide.stores (parts_by guide.sheller k n at t names) old new o) is_rest is_added))
+      (counted ∙ ap (λ n. before + charged guide k n at t names) is_rest
+      ∙ ap (λ p. before + charged guide k (c - a.cost) p t names) is_at)
       joined
 
 -- ---- the loop
 
 -- Behind i children.
-pub record Going (kept : Stores) (k c : ℕ) (path : List ℕ) (kids : List WideTree) (s : Stage) (i : ℕ) (s1 : Stage) :
+pub record Going (guide : Guide) (k c : ℕ) (path : List ℕ) (kids : List WideTree) (s : Stage) (i : ℕ) (s1 : Stage) :
     Type 0 where
   pub so_far : SoFar
   pub run : children_from (evaluates k) c 0 nothing_yet kids s.names ≡
@@ -87,10 +90,13 @@ pub record Going (kept : Stores) (k c : ℕ) (path : List ℕ) (kids : List Wide
   pub joined : s1.joined ≡ below path so_far
   pub names : s1.names ≡ env_atop so_far.writes s.names
   pub earlier : List Part
-  pub parts_are : parts_from k (parts k) c path 0 nothing_yet kids s.names ≡
-      earlier ++ parts_from k (parts k) c path i so_far (drop i kids) s.names
-  pub done : s1.done ≡ s.done ++ map (seen_in kept) earlier
-  pub count : s1.count ≡ s.count + charges kept earlier
+  pub parts_are : parts_from k (parts_by guide.sheller k) c path 0 nothing_yet kids s.names ≡
+      earlier ++ parts_from k (parts_by guide.sheller k) c path i so_far (drop i kids) s.names
+  pub done : s1.done ≡ s.done ++ map (seen_in guide.stores) earlier
+  pub spent : ℕ
+  pub count : s1.count ≡ s.count + spent
+  pub charged_are : charged_from guide k c path 0 nothing_yet kids s.names ≡
+      spent + charged_from guide k c path i so_far (drop i kids) s.names
   pub cost : so_far.cost ≤ c
   pub many : length so_far.values ≡ i
 
@@ -101,9 +107,9 @@ pub append_none : {X : Type 0} (xs : List X) → xs ++ [] ≡ xs
 append_none [] = refl
 append_none (x ∷ xs) = ap (λ ys. x ∷ ys) (append_none xs)
 
-pub begins : (kept : Stores) (k c : ℕ) (path : List ℕ) (kids : List WideTree) (s : Stage) →
-    s.joined ≡ nothing_yet → Going kept k c path kids s 0 s
-begins kept k c path kids s h =
+pub begins : (guide : Guide) (k c : ℕ) (path : List ℕ) (kids : List WideTree) (s : Stage) →
+    s.joined ≡ nothing_yet → Going guide k c path kids s 0 s
+begins guide k c path kids s h =
     record {
       so_far = nothing_yet;
       run = refl;
@@ -112,10 +118,50 @@ begins kept k c path kids s h =
       earlier = [];
       parts_are = refl;
       done = sym (append_none s.done);
+      spent = 0;
       count = omega arith;
+      charged_are = omega arith;
       cost = omega arith;
       many = refl;
     }
+
+-- what a child is charged, and those behind it
+module _ (guide : Guide) (k c : ℕ) (path : List ℕ) (i : ℕ) (a : SoFar) (t : WideTree) (ts : List WideTree)
+    (e : Before) where
+  abbrev parts_here : List Part
+  parts_here = parts_by guide.sheller k (c - a.cost) (path ++ i ∷ []) t (env_atop a.writes e)
+
+  abbrev costs_here : ℕ
+  costs_here = layer_costs_by guide.sheller k (c - a.cost) t (env_atop a.writes e)
+
+  abbrev parts_behind : Option WideTrace → List Part
+  parts_behind o = option_map_or
+      (λ trace. parts_from k (parts_by guide.sheller k) c path (i + 1) (with_child i a trace) ts e) o []
+
+  abbrev costs_behind : Option WideTrace → ℕ
+  costs_behind o = option_map_or
+      (λ trace. counts_from k (layer_costs_by guide.sheller k) c (i + 1) (with_child i a trace) ts e) o 0
+
+  by_behind : (o : Option WideTrace) →
+      charges guide.stores (parts_here ++ parts_behind o) + (costs_here + costs_behind o) ≡
+      (charges guide.stores parts_here + costs_here)
+      + option_map_or (λ trace. charged_from guide k c path (i + 1) (with_child i a trace) ts e) o 0
+  by_behind None =
+      let both : charges guide.stores (parts_here ++ []) ≡ charges guide.stores parts_here =
+      ap (charges guide.stores) (append_none parts_here) in
+      omega (arith, both)
+  by_behind (Some trace) =
+      let both : charges guide.stores (parts_here ++ parts_behind (Some trace)) ≡
+      charges guide.stores parts_here + charges guide.stores (parts_behind (Some trace)) =
+      sum_by-append (charge_of guide.stores) parts_here (parts_behind (Some trace)) in
+      omega (arith, both)
+
+  charged_behind : (o : Option WideTrace) → evaluates k (c - a.cost) t (env_atop a.writes e) ≡ o →
+      charged_from guide k c path i a (t ∷ ts) e ≡
+      charged guide k (c - a.cost) (path ++ i ∷ []) t (env_atop a.writes e)
+      + option_map_or (λ trace. charged_from guide k c path (i + 1) (with_child i a trace) ts e) o 0
+  charged_behind o q =
+      ap (λ x. charges guide.stores (parts_here ++ parts_behind x) + (costs_here + costs_behind x)) q ∙ by_behind o
 
 -- the values under the path, with one more
 pub values_more : (base : List ℕ) (i : ℕ) (vs : List WideValue) (v : WideValue) →
@@ -136,8 +182,14 @@ below_more base i a w =
       height = max a.height w.height;
     }) (values_more base i a.values w.value)
 
-module _ (kept : Stores) (k c : ℕ) (path : List ℕ) (kids : List WideTree) (s : Stage) (i : ℕ) (s1 : Stage)
-    (g : Going kept k c path kids s i s1) (t : WideTree) (there : slice_get kids i ≡ Some t) where
+stopped : (a b n m x y spent : ℕ) → a ≡ b + n → n ≡ m → b ≡ x + spent → y ≡ spent + (m + 0) → a ≡ x + y
+stopped a b n m x y spent h is so all = omega (arith, h, is, so, all)
+
+ended : (a x spent y : ℕ) → a ≡ x + spent → y ≡ spent + (0 + 0) → a ≡ x + y
+ended a x spent y h all = omega (arith, h, all)
+
+module _ (guide : Guide) (k c : ℕ) (path : List ℕ) (kids : List WideTree) (s : Stage) (i : ℕ) (s1 : Stage)
+    (g : Going guide k c path kids s i s1) (t : WideTree) (there : slice_get kids i ≡ Some t) where
   pub cost_is : s1.joined.cost ≡ g.so_far.cost
   cost_is = ap (λ (a : SoFar). a.cost) g.joined
 
@@ -148,11 +200,27 @@ module _ (kept : Stores) (k c : ℕ) (path : List ℕ) (kids : List WideTree) (s
       ap (λ n. evaluates k (c - n) t s1.names) cost_is
       ∙ ap (evaluates k (c - g.so_far.cost) t) g.names
 
-  parts_at : parts k (c - s1.joined.cost) (path ++ i ∷ []) t s1.names ≡
-      parts k (c - g.so_far.cost) (path ++ i ∷ []) t (env_atop g.so_far.writes s.names)
+  parts_at : parts_by guide.sheller k (c - s1.joined.cost) (path ++ i ∷ []) t s1.names ≡
+      parts_by guide.sheller k (c - g.so_far.cost) (path ++ i ∷ []) t (env_atop g.so_far.writes s.names)
   parts_at =
-      ap (λ n. parts k (c - n) (path ++ i ∷ []) t s1.names) cost_is
-      ∙ ap (parts k (c - g.so_far.cost) (path ++ i ∷ []) t) g.names
+      ap (λ n. parts_by guide.sheller k (c - n) (path ++ i ∷ []) t s1.names) cost_is
+      ∙ ap (parts_by guide.sheller k (c - g.so_far.cost) (path ++ i ∷ []) t) g.names
+
+  charged_at : charged guide k (c - s1.joined.cost) (path ++ i ∷ []) t s1.names ≡
+      charged guide k (c - g.so_far.cost) (path ++ i ∷ []) t (env_atop g.so_far.writes s.names)
+  charged_at =
+      ap (λ n. charged guide k (c - n) (path ++ i ∷ []) t s1.names) cost_is
+      ∙ ap (charged guide k (c - g.so_far.cost) (path ++ i ∷ []) t) g.names
+
+  charged_so : (o : Option WideTrace) →
+      evaluates k (c - g.so_far.cost) t (env_atop g.so_far.writes s.names) ≡ o →
+      charged_from guide k c path i g.so_far (drop i kids) s.names ≡
+      charged guide k (c - g.so_far.cost) (path ++ i ∷ []) t (env_atop g.so_far.writes s.names)
+      + option_map_or (λ trace. charged_from guide k c path (i + 1) (with_child i g.so_far trace) (drop (i + 1) kids)
+      s.names) o 0
+  charged_so o q =
+      ap (λ ts. charged_from guide k c path i g.so_far ts s.names) (drop_item kids i t there)
+      ∙ charged_behind guide k c path i g.so_far t (drop (i + 1) kids) s.names o q
 
   run_at : children_from (evaluates k) c 0 nothing_yet kids s.names ≡
       option_and_then (λ trace. children_from (evaluates k) c (i + 1) (with_child i g.so_far trace) (drop (i + 1) kids)
@@ -160,16 +228,16 @@ module _ (kept : Stores) (k c : ℕ) (path : List ℕ) (kids : List WideTree) (s
   run_at =
       g.run ∙ ap (λ ts. children_from (evaluates k) c i g.so_far ts s.names) (drop_item kids i t there)
 
-  pub next : (s2 : Stage) → ChildDone kept k c path i t s1 s2 → Going kept k c path kids s (i + 1) s2
+  pub next : (s2 : Stage) → ChildDone guide k c path i t s1 s2 → Going guide k c path kids s (i + 1) s2
   next s2 d =
       let comes : evaluates k (c - g.so_far.cost) t (env_atop g.so_far.writes s.names) ≡ Some d.trace =
       sym at_child ∙ d.comes in
-      let here : List Part = parts k (c - g.so_far.cost) (path ++ i ∷ []) t (env_atop g.so_far.writes s.names) in
+      let here : List Part = parts_by guide.sheller k (c - g.so_far.cost) (path ++ i ∷ []) t (env_atop g.so_far.writes
+      s.names) in
       let bounds : (d.trace.cost ≤ c - g.so_far.cost) × (d.trace.height ≤ k) =
       allowed k (c - g.so_far.cost) (alone t) (env_atop g.so_far.writes s.names) d.trace comes in
-      let both : charges kept (g.earlier ++ here) ≡ charges kept g.earlier + charges kept here =
-      sum_by-append (charge_of kept) g.earlier here in
       let cost : g.so_far.cost ≤ c = g.cost in
+      let mine : ℕ = charged guide k (c - g.so_far.cost) (path ++ i ∷ []) t (env_atop g.so_far.writes s.names) in
       let many : length g.so_far.values ≡ i = g.many in
       record {
         so_far = with_child i g.so_far d.trace;
@@ -181,42 +249,35 @@ module _ (kept : Stores) (k c : ℕ) (path : List ℕ) (kids : List WideTree) (s
             ∙ sym (atop_twice d.trace.writes g.so_far.writes s.names);
         earlier = g.earlier ++ here;
         parts_are = g.parts_are
-            ∙ ap (λ ts. g.earlier ++ parts_from k (parts k) c path i g.so_far ts s.names) (drop_item kids i t there)
+            ∙ ap (λ ts. g.earlier ++ parts_from k (parts_by guide.sheller k) c path i g.so_far ts s.names) (drop_item
+            kids i t there)
             ∙ ap (λ o. g.earlier ++ (here ++ option_map_or
-            (λ trace. parts_from k (parts k) c path (i + 1) (with_child i g.so_far trace) (drop (i + 1) kids) s.names)
+            (λ trace. parts_from k (parts_by guide.sheller k) c path (i + 1) (with_child i g.so_far trace) (drop (i + 1)
+            kids) s.names)
             o [])) comes
-            ∙ sym (append_assoc g.earlier here (parts_from k (parts k) c path (i + 1) (with_child i g.so_far d.trace)
+            ∙ sym (append_assoc g.earlier here (parts_from k (parts_by guide.sheller k) c path (i + 1) (with_child i
+            g.so_far d.trace)
             (drop (i + 1) kids) s.names));
-        done = d.done ∙ ap (λ ps. s1.done ++ map (seen_in kept) ps) parts_at
-            ∙ ap (λ xs. xs ++ map (seen_in kept) here) g.done
-            ∙ append_assoc s.done (map (seen_in kept) g.earlier) (map (seen_in kept) here)
-            ∙ ap (λ xs. s.done ++ xs) (sym (map-append (seen_in kept) g.earlier here));
-        count = d.count ∙ ap (λ ps. s1.count + charges kept ps) parts_at
-            ∙ ap (λ n. n + charges kept here) g.count ∙ omega (arith, both);
+        done = d.done ∙ ap (λ ps. s1.done ++ map (seen_in guide.stores) ps) parts_at
+            ∙ ap (λ xs. xs ++ map (seen_in guide.stores) here) g.done
+            ∙ append_assoc s.done (map (seen_in guide.stores) g.earlier) (map (seen_in guide.stores) here)
+            ∙ ap (λ xs. s.done ++ xs) (sym (map-append (seen_in guide.stores) g.earlier here));
+        spent = g.spent + mine;
+        count = d.count ∙ ap (λ n. s1.count + n) charged_at ∙ ap (λ n. n + mine) g.count ∙ omega arith;
+        charged_are = g.charged_are ∙ ap (λ n. g.spent + n) (charged_so (Some d.trace) comes) ∙ omega arith;
         cost = omega (arith, cost, bounds.0);
         many = length-append g.so_far.values (value_under (i ∷ []) d.trace.value ∷ []) ∙ ap (λ n. n + 1) many;
       }
 
-  pub stops : (s2 : Stage) → ChildOver kept k c path i t s1 s2 → ChildrenOver kept k c path kids s s2
+  pub stops : (s2 : Stage) → ChildOver guide k c path i t s1 s2 → ChildrenOver guide k c path kids s s2
   stops s2 d =
       let comes : evaluates k (c - g.so_far.cost) t (env_atop g.so_far.writes s.names) ≡ None =
       sym at_child ∙ d.comes in
-      let here : List Part = parts k (c - g.so_far.cost) (path ++ i ∷ []) t (env_atop g.so_far.writes s.names) in
-      let both : charges kept (g.earlier ++ here) ≡ charges kept g.earlier + charges kept here =
-      sum_by-append (charge_of kept) g.earlier here in
-      let all : parts_from k (parts k) c path 0 nothing_yet kids s.names ≡ g.earlier ++ here =
-      g.parts_are
-      ∙ ap (λ ts. g.earlier ++ parts_from k (parts k) c path i g.so_far ts s.names) (drop_item kids i t there)
-      ∙ ap (λ o. g.earlier ++ (here ++ option_map_or
-      (λ trace. parts_from k (parts k) c path (i + 1) (with_child i g.so_far trace) (drop (i + 1) kids) s.names)
-      o [])) comes
-      ∙ ap (λ ps. g.earlier ++ ps) (append_none here) in
       record {
         comes = run_at ∙ ap (option_and_then (λ trace. children_from (evaluates k) c (i + 1)
             (with_child i g.so_far trace) (drop (i + 1) kids) s.names)) comes;
-        count = d.count ∙ ap (λ ps. s1.count + charges kept ps) parts_at
-            ∙ ap (λ n. n + charges kept here) g.count ∙ omega (arith, both)
-            ∙ ap (λ ps. s.count + charges kept ps) (sym all);
+        count = stopped _ _ _ _ _ _ g.spent d.count charged_at g.count (g.charged_are ∙ ap (λ n. g.spent + n)
+            (charged_so None comes));
       }
 
 drop_all : {X : Type 0} (xs : List X) (n : ℕ) → n ≡ length xs → drop n xs ≡ []
@@ -225,18 +286,21 @@ drop_all [] (suc n) h = refl
 drop_all (x ∷ xs) zero h = absurd (omega (arith, h))
 drop_all {X} (x ∷ xs) (suc n) h = drop_all {X = X} xs n (omega (arith, h))
 
-pub ends : (kept : Stores) (k c : ℕ) (path : List ℕ) (kids : List WideTree) (s : Stage) (i : ℕ) (s1 : Stage) →
-    Going kept k c path kids s i s1 → i ≡ length kids → ChildrenDone kept k c path kids s s1
-ends kept k c path kids s i s1 g h =
-    let all : parts_from k (parts k) c path 0 nothing_yet kids s.names ≡ g.earlier =
-    g.parts_are ∙ ap (λ ts. g.earlier ++ parts_from k (parts k) c path i g.so_far ts s.names) (drop_all kids i h)
+pub ends : (guide : Guide) (k c : ℕ) (path : List ℕ) (kids : List WideTree) (s : Stage) (i : ℕ) (s1 : Stage) →
+    Going guide k c path kids s i s1 → i ≡ length kids → ChildrenDone guide k c path kids s s1
+ends guide k c path kids s i s1 g h =
+    let all : parts_from k (parts_by guide.sheller k) c path 0 nothing_yet kids s.names ≡ g.earlier =
+    g.parts_are ∙ ap (λ ts. g.earlier ++ parts_from k (parts_by guide.sheller k) c path i g.so_far ts s.names) (drop_all
+    kids i h)
     ∙ append_none g.earlier in
     record {
       so_far = g.so_far;
       comes = g.run ∙ ap (λ ts. children_from (evaluates k) c i g.so_far ts s.names) (drop_all kids i h);
       joined = g.joined;
       names = g.names;
-      done = g.done ∙ ap (λ ps. s.done ++ map (seen_in kept) ps) (sym all);
-      count = g.count ∙ ap (λ ps. s.count + charges kept ps) (sym all);
+      done = g.done ∙ ap (λ ps. s.done ++ map (seen_in guide.stores) ps) (sym all);
+      count = ended _ _ g.spent _ g.count (g.charged_are ∙ ap (λ ts. g.spent + charged_from guide k c path i g.so_far ts
+          s.names)
+          (drop_all kids i h));
       many = g.many ∙ h;
     }

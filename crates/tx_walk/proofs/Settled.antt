@@ -8,17 +8,20 @@ use Rattle.std.specs.Prelude.{Result, Ok, Err, IfOk, OnOk}
 use Rattle.std.specs.Option.{option_map}
 use Rattle.tx_tree.specs.WideTree.{WideTree}
 use Rattle.tx_exec_form.specs.Runs.{Before}
-use Rattle.tx_exec_form.specs.Evaluated.{WideTrace, paid}
+use Rattle.tx_origin.specs.TaggedTrees.{TaggedTree}
+use Rattle.tx_exec_form.specs.Evaluated.{WideTrace, evaluated_in, paid}
 use Rattle.tx_exec_form.specs.Laws.{Agrees, Supports}
 use Rattle.tx_exec_form.proofs.Tracing.{supports, agrees, allowed}
 use Rattle.tx_exec.specs.Outcomes.{wide_trace}
 use Rattle.tx_parts.specs.Openness.{Shut, openness}
 use Rattle.tx_parts.specs.Composed.{alone, evaluates}
-use Rattle.tx_parts.specs.Parts.{Part, parts_as, parts, parts_by}
+use Rattle.tx_parts.specs.Parts.{Part, parts_by}
 use Rattle.tx_parts.proofs.PartRuns.{none_allowed}
 use Rattle.tx_walk.specs.declared.part.Part.{Part as DonePart}
 use Rattle.tx_walk.specs.Held.{Store, Stores, fits, charge_of, charges, IsSound, AreSound}
 use Rattle.tx_walk.specs.Held as held
+use Rattle.tx_walk.specs.Guides.{Guide, charged}
+use Rattle.tx_walk.proofs.Unshelled.{parts_are, charged_are}
 use Rattle.tx_walk.specs.Finding.{IsHeldBy, IsHeldIn, IsUnheld}
 use Rattle.tx_walk.proofs.Agreed.{agrees_is}
 use Rattle.tx_walk.specs.Walked.{seen, seen_in}
@@ -51,20 +54,20 @@ module _ (k c : ℕ) (base : List ℕ) (t : WideTree) (e : Before) (w : WideTrac
   settles = by (nat_le w.cost c) (nat_le w.height k) refl refl
 
 -- what is done with some levels is done with as many as it needs
-pub done_lower : (m k c : ℕ) (t : WideTree) (e : Before) (w : WideTrace) → evaluates m c t e ≡ Some w → w.height ≤ k →
-    evaluates k c t e ≡ Some w
+pub done_lower : (m k c : ℕ) (t : TaggedTree) (e : Before) (w : WideTrace) → evaluated_in m c t e ≡ Some w →
+    w.height ≤ k → evaluated_in k c t e ≡ Some w
 done_lower m k c t e w h low =
-    let bounds : (w.cost ≤ c) × (w.height ≤ m) = allowed m c (alone t) e w h in
-    supports m c (alone t) e w h k c e (agrees m c (alone t) e w h) bounds.0 low
+    let bounds : (w.cost ≤ c) × (w.height ≤ m) = allowed m c t e w h in
+    supports m c t e w h k c e (agrees m c t e w h) bounds.0 low
 
 -- and over with fewer
-pub over_below : (m k c : ℕ) (t : WideTree) (e : Before) (w : WideTrace) → evaluates m c t e ≡ Some w → k < w.height →
-    evaluates k c t e ≡ None
+pub over_below : (m k c : ℕ) (t : TaggedTree) (e : Before) (w : WideTrace) → evaluated_in m c t e ≡ Some w →
+    k < w.height → evaluated_in k c t e ≡ None
 over_below m k c t e w h high =
-    none_allowed w k c (alone t) e (supports m c (alone t) e w h) (agrees m c (alone t) e w h) (inr high)
+    none_allowed w k c t e (supports m c t e w h) (agrees m c t e w h) (inr high)
 
-pub cost_within : (m c : ℕ) (t : WideTree) (e : Before) (w : WideTrace) → evaluates m c t e ≡ Some w → w.cost ≤ c
-cost_within m c t e w h = (allowed m c (alone t) e w h).0
+pub cost_within : (m c : ℕ) (t : TaggedTree) (e : Before) (w : WideTrace) → evaluated_in m c t e ≡ Some w → w.cost ≤ c
+cost_within m c t e w h = (allowed m c t e w h).0
 
 -- the rest of what was left is counted too
 pub rest_counted : (before between after c cost : ℕ) → between ≡ before + cost → cost ≤ c →
@@ -72,16 +75,16 @@ pub rest_counted : (before between after c cost : ℕ) → between ≡ before + 
 rest_counted before between after c cost h few g = omega (arith, h, few, g)
 
 -- what is over with all levels is over with fewer
-pub over_lower : (m k c : ℕ) (t : WideTree) (e : Before) → k ≤ m → evaluates m c t e ≡ None → evaluates k c t e ≡ None
-over_lower m k c t e low none = by (evaluates k c t e) refl
+pub over_lower : (m k c : ℕ) (t : TaggedTree) (e : Before) → k ≤ m → evaluated_in m c t e ≡ None →
+    evaluated_in k c t e ≡ None
+over_lower m k c t e low none = by (evaluated_in k c t e) refl
   where
-    by : (o : Option WideTrace) → evaluates k c t e ≡ o → o ≡ None
+    by : (o : Option WideTrace) → evaluated_in k c t e ≡ o → o ≡ None
     by None h = refl
     by (Some w) h =
-        let bounds : (w.cost ≤ c) × (w.height ≤ k) = allowed k c (alone t) e w h in
+        let bounds : (w.cost ≤ c) × (w.height ≤ k) = allowed k c t e w h in
         let off : Some w ≡ None =
-        sym (supports k c (alone t) e w h m c e (agrees k c (alone t) e w h) bounds.0 (omega (arith, low, bounds.1)))
-        ∙ none in
+        sym (supports k c t e w h m c e (agrees k c t e w h) bounds.0 (omega (arith, low, bounds.1))) ∙ none in
         cc
 
 pub settled_exact : (k c : ℕ) (base : List ℕ) (t : WideTree) (e : Before) (w : WideTrace) (o : Option WideTrace) →
@@ -146,11 +149,20 @@ outcome_cost k c cost base t e o h few = by o (evaluates k c t e) refl h
 abbrev pub one_part : ℕ → ℕ → List ℕ → WideTree → Before → Part
 one_part k c path t e = record { path = path; tree = t; levels = k; steps = c; before = e }
 
-pub shut_parts : (k c : ℕ) (path : List ℕ) (t : WideTree) (e : Before) → openness t ≡ Shut → 0 < k →
-    parts k c path t e ≡ one_part k c path t e ∷ []
-unfolding parts_by
-shut_parts zero c path t e h some = absurd (omega (arith, some))
-shut_parts (suc k) c path t e h some = ap (λ o. parts_as o k (parts k) c path t e) h
+pub shut_parts : (guide : Guide) (k c : ℕ) (path : List ℕ) (t : WideTree) (e : Before) →
+    guide.sheller t e ≡ None → openness t ≡ Shut → 0 < k →
+    parts_by guide.sheller k c path t e ≡ one_part k c path t e ∷ []
+shut_parts guide zero c path t e unshelled h some = absurd (omega (arith, some))
+shut_parts guide (suc k) c path t e unshelled h some = parts_are guide c path t e Shut unshelled h k
+
+pub shut_charged : (guide : Guide) (k c : ℕ) (path : List ℕ) (t : WideTree) (e : Before) →
+    guide.sheller t e ≡ None → openness t ≡ Shut → 0 < k →
+    charged guide k c path t e ≡ charges guide.stores (one_part k c path t e ∷ []) + 0
+shut_charged guide zero c path t e unshelled h some = absurd (omega (arith, some))
+shut_charged guide (suc k) c path t e unshelled h some = charged_are guide c path t e Shut unshelled h k
+
+plus_none : (n : ℕ) → n + 0 ≡ n
+plus_none n = omega arith
 
 charge_held : (held : Bool) (n : ℕ) → held ≡ true → (if held then 0 else n) + 0 ≡ 0
 charge_held true n h = refl
@@ -160,11 +172,11 @@ charge_new : (held : Bool) (n : ℕ) → held ≡ false → (if held then 0 else
 charge_new false n h = omega arith
 charge_new true n h = cc
 
-module _ (kept : Stores) (k c : ℕ) (path : List ℕ) (t : WideTree) (e : Before) (shut : openness t ≡ Shut)
-    (some : 0 < k) where
+module _ (guide : Guide) (k c : ℕ) (path : List ℕ) (t : WideTree) (e : Before) (shut : openness t ≡ Shut)
+    (some : 0 < k) (unshelled : guide.sheller t e ≡ None) where
   seen_one : (p : DonePart) (w : WideTrace) (fit : Bool) → p.path ≡ path → evaluates k c t e ≡ Some
       (wide_trace p.trace) →
-      fits e (kept.own path) ≡ fit → p.renewed ≡ not fit → seen p ≡ seen_in kept (one_part k c path t e)
+      fits e (guide.stores.own path) ≡ fit → p.renewed ≡ not fit → seen p ≡ seen_in guide.stores (one_part k c path t e)
   seen_one p w fit is_path comes is_fit renewed =
       ap (λ q. record { path = q; trace = Some (wide_trace p.trace); renewed = p.renewed }) is_path
       ∙ ap (λ o. record { path = path; trace = o; renewed = p.renewed }) (sym comes)
@@ -172,50 +184,56 @@ module _ (kept : Stores) (k c : ℕ) (path : List ℕ) (t : WideTree) (e : Befor
       (renewed ∙ ap not (sym is_fit))
 
   added : (old new : List DonePart) (p : DonePart) → new ≡ old ++ p ∷ [] →
-      seen p ≡ seen_in kept (one_part k c path t e) →
-      map seen new ≡ map seen old ++ map (seen_in kept) (parts k c path t e)
+      seen p ≡ seen_in guide.stores (one_part k c path t e) →
+      map seen new ≡ map seen old ++ map (seen_in guide.stores) (parts_by guide.sheller k c path t e)
   added old new p pushed one =
       ap (map seen) pushed ∙ map-append seen old (p ∷ [])
       ∙ ap (λ s. map seen old ++ s ∷ []) one
-      ∙ ap (λ ps. map seen old ++ map (seen_in kept) ps) (sym (shut_parts k c path t e shut some))
+      ∙ ap (λ ps. map seen old ++ map (seen_in guide.stores) ps) (sym (shut_parts guide k c path t e unshelled shut
+      some))
 
   pub held_added : (old new : List DonePart) (p : DonePart) (o : Option WideTrace) →
-      Settles k c path t e (wide_trace p.trace) o → p.path ≡ path → p.renewed ≡ not (fits e (kept.own path)) →
-      IsPushed old p new o → IsAdded kept (parts k c path t e) old new o
+      Settles k c path t e (wide_trace p.trace) o → p.path ≡ path → p.renewed ≡ not (fits e (guide.stores.own path)) →
+      IsPushed old p new o → IsAdded guide.stores (parts_by guide.sheller k c path t e) old new o
   held_added old new p None s is_path renewed pushed = tt
   held_added old new p (Some trace) (is_done a b) is_path renewed pushed =
-      added old new p pushed (seen_one p (wide_trace p.trace) (fits e (kept.own path)) is_path b refl renewed)
+      added old new p pushed (seen_one p (wide_trace p.trace) (fits e (guide.stores.own path)) is_path b refl renewed)
   held_added old new p (Some trace) (is_over a b) is_path renewed pushed = cc
 
-  pub new_added : (old new : List DonePart) (o : Option WideTrace) → fits e (kept.own path) ≡ false →
-      IsNewPushed k c path t e old new o → IsAdded kept (parts k c path t e) old new o
+  pub new_added : (old new : List DonePart) (o : Option WideTrace) → fits e (guide.stores.own path) ≡ false →
+      IsNewPushed k c path t e old new o → IsAdded guide.stores (parts_by guide.sheller k c path t e) old new o
   new_added old new None fit pushed = tt
   new_added old new (Some trace) fit pushed =
       added old new pushed.part pushed.pushed
       (seen_one pushed.part trace false pushed.stands pushed.comes fit pushed.renewed)
 
-  charges_one : charges kept (parts k c path t e) ≡
-      (if fits e (kept.own path) || fits e (kept.spare path) then 0 else paid c (evaluates k c t e)) + 0
+  charges_one : charged guide k c path t e ≡
+      (if fits e (guide.stores.own path) || fits e (guide.stores.spare path) then 0 else paid c (evaluates k c t e)) + 0
   charges_one =
-      ap (charges kept) (shut_parts k c path t e shut some)
-      ∙ sum_by-cons (charge_of kept) (one_part k c path t e) []
+      let one : charges guide.stores (one_part k c path t e ∷ []) ≡
+      (if fits e (guide.stores.own path) || fits e (guide.stores.spare path) then 0 else paid c (evaluates k c t e)) + 0
+      =
+      sum_by-cons (charge_of guide.stores) (one_part k c path t e) [] in
+      shut_charged guide k c path t e unshelled shut some ∙ ap (λ n. n + 0) one
+      ∙ plus_none ((if fits e (guide.stores.own path) || fits e (guide.stores.spare path) then 0
+      else paid c (evaluates k c t e)) + 0)
 
-  pub held_counted : (before : ℕ) (p : DonePart) (renewed : Bool) → IsHeldIn e path kept p renewed →
-      before ≡ before + charges kept (parts k c path t e)
+  pub held_counted : (before : ℕ) (p : DonePart) (renewed : Bool) → IsHeldIn e path guide.stores p renewed →
+      before ≡ before + charged guide k c path t e
   held_counted before p renewed h =
-      let none : charges kept (parts k c path t e) ≡ 0 =
+      let none : charged guide k c path t e ≡ 0 =
       charges_one
-      ∙ charge_held (fits e (kept.own path) || fits e (kept.spare path)) (paid c (evaluates k c t e))
-      (one_fits e path kept p renewed h) in
+      ∙ charge_held (fits e (guide.stores.own path) || fits e (guide.stores.spare path)) (paid c (evaluates k c t e))
+      (one_fits e path guide.stores p renewed h) in
       omega (arith, none)
 
-  pub new_counted : (before after : ℕ) → IsUnheld e path kept → after ≡ before + paid c (evaluates k c t e) →
-      after ≡ before + charges kept (parts k c path t e)
+  pub new_counted : (before after : ℕ) → IsUnheld e path guide.stores → after ≡ before + paid c (evaluates k c t e) →
+      after ≡ before + charged guide k c path t e
   new_counted before after h is =
-      let all : charges kept (parts k c path t e) ≡ paid c (evaluates k c t e) =
+      let all : charged guide k c path t e ≡ paid c (evaluates k c t e) =
       charges_one
-      ∙ charge_new (fits e (kept.own path) || fits e (kept.spare path)) (paid c (evaluates k c t e))
-      (none_fits e path kept h) in
+      ∙ charge_new (fits e (guide.stores.own path) || fits e (guide.stores.spare path)) (paid c (evaluates k c t e))
+      (none_fits e path guide.stores h) in
       is ∙ ap (λ n. before + n) (sym all)
 
 -- ---- results

@@ -26,12 +26,14 @@ use Rattle.tx_parts.specs.Openness.{Settings as TextSettings, Openness, Document
 use Rattle.tx_parts.specs.Openness.{document_openness, with_openness, openness}
 use Rattle.tx_parts.specs.Atop.{atop, env_atop, past}
 use Rattle.tx_parts.specs.Composed.{alone, evaluates, set_by, settings_cost, setting_values, with_trace, composed_as}
-use Rattle.tx_parts.specs.Parts.{parts_as, parts, parts_by}
+use Rattle.tx_parts.specs.Shellers.{IsSheller}
+use Rattle.tx_parts.specs.Parts.{parts_by}
 use Rattle.tx_parts.proofs.Maps.{get_atop, atop_nothing, atop_set}
 use Rattle.tx_parts.proofs.Composing.{inner_are}
 use Rattle.tx_walk.specs.declared.part.Part.{Part as DonePart}
 use Rattle.tx_walk.specs.declared.settings.Settings.{Settings}
-use Rattle.tx_walk.specs.Held.{Stores, charges}
+use Rattle.tx_walk.specs.Guides.{Guide, charged}
+use Rattle.tx_walk.proofs.Unshelled.{parts_are, charged_are}
 use Rattle.tx_walk.specs.Walked.{seen, seen_in}
 use Rattle.tx_walk.specs.Steps.{trace_under, IsAdded}
 use Rattle.tx_walk.specs.Descent.{pairs_of, AreSettings}
@@ -88,7 +90,7 @@ named (node l ts) ps b h = by (bytes_eq l (codes "document")) (bytes_eq l (codes
 
 -- ---- what names have inside
 
-set_atop : (n m : NameMap) (ws : List (Name × WideTree)) → overlaid (atop n m) ws ≡ atop (overlaid n ws) m
+pub set_atop : (n m : NameMap) (ws : List (Name × WideTree)) → overlaid (atop n m) ws ≡ atop (overlaid n ws) m
 set_atop n m [] = refl
 set_atop n m (w ∷ ws) =
     ap (λ x. overlaid x ws) (sym (atop_set n m w.0 w.1)) ∙ set_atop (insert n w.0 w.1) m ws
@@ -191,24 +193,33 @@ module _ (k c : ℕ) (path : List ℕ) (t : WideTree) (ps : TextSettings) (b : W
       whole_is ∙ ap (λ x. if x then option_map (with_trace ps)
       (evaluates (k - 1) (c - (1 + settings_cost ps)) b (env_atop (set_by ps) e)) else None) none
 
-  pub with_parts : parts k c path t e ≡ parts (k - 1) (c - (1 + settings_cost ps)) (path ++ (2 * length ps) ∷ []) b
+  pub with_parts : (guide : Guide) → guide.sheller t e ≡ None → parts_by guide.sheller k c path t e ≡
+      parts_by guide.sheller (k - 1) (c - (1 + settings_cost ps)) (path ++ (2 * length ps) ∷ []) b
       (env_atop (set_by ps) e)
-  unfolding parts_by
-  with_parts =
-      ap (λ n. parts n c path t e) (sym upper) ∙ ap (λ o. parts_as o (k - 1) (parts (k - 1)) c path t e) opens
+  with_parts guide unshelled =
+      ap (λ n. parts_by guide.sheller n c path t e) (sym upper)
+      ∙ parts_are guide c path t e (With ps b) unshelled opens (k - 1)
+
+  pub with_charged : (guide : Guide) → guide.sheller t e ≡ None → charged guide k c path t e ≡
+      charged guide (k - 1) (c - (1 + settings_cost ps)) (path ++ (2 * length ps) ∷ []) b (env_atop (set_by ps) e)
+  with_charged guide unshelled =
+      ap (λ n. charged guide n c path t e) (sym upper)
+      ∙ charged_are guide c path t e (With ps b) unshelled opens (k - 1)
 
 -- where no step is left for the last child nothing is charged
-pub dear_charged : (kept : Stores) (k c : ℕ) (path : List ℕ) (t : WideTree) (ps : TextSettings) (b : WideTree)
-    (e : Before) → openness t ≡ With ps b → 0 < k → c ≤ settings_cost ps → charges kept (parts k c path t e) ≡ 0
-dear_charged kept k c path t ps b e opens some dear =
-    ap (charges kept) (with_parts k c path t ps b e opens some)
-    ∙ none_charged kept (k - 1) (c - (1 + settings_cost ps)) (path ++ (2 * length ps) ∷ []) b (env_atop (set_by ps) e)
-    (omega (arith, dear))
+pub dear_charged : (guide : Guide) → IsSheller guide.sheller → (k c : ℕ) (path : List ℕ) (t : WideTree)
+    (ps : TextSettings) (b : WideTree) (e : Before) → guide.sheller t e ≡ None → openness t ≡ With ps b → 0 < k →
+    c ≤ settings_cost ps → charged guide k c path t e ≡ 0
+dear_charged guide sound k c path t ps b e unshelled opens some dear =
+    with_charged k c path t ps b e opens some guide unshelled
+    ∙ none_charged guide sound (k - 1) (c - (1 + settings_cost ps)) (path ++ (2 * length ps) ∷ []) b
+    (env_atop (set_by ps) e) (omega (arith, dear))
 
-module _ (kept : Stores) (k c : ℕ) (path : List ℕ) (t : WideTree) (ps : TextSettings) (b : WideTree) (e e1 : Before)
+module _ (guide : Guide) (k c : ℕ) (path : List ℕ) (t : WideTree) (ps : TextSettings) (b : WideTree) (e e1 : Before)
     (opens : openness t ≡ With ps b) (some : 0 < k) (left : settings_cost ps < c) (s : Settings)
     (are : AreSettings path ps s) (rest i : ℕ) (is_e : e1 ≡ env_atop (set_by ps) e)
-    (is_rest : rest ≡ c - (1 + settings_cost ps)) (is_i : i ≡ 2 * length ps) (o r : Option WideTrace) where
+    (is_rest : rest ≡ c - (1 + settings_cost ps)) (is_i : i ≡ 2 * length ps) (o r : Option WideTrace)
+    (unshelled : guide.sheller t e ≡ None) where
   abbrev below : ℕ → ℕ → Before → Option WideTrace
   below n j d = option_map (trace_under (path ++ j ∷ [])) (evaluates (k - 1) n b d)
 
@@ -264,30 +275,38 @@ module _ (kept : Stores) (k c : ℕ) (path : List ℕ) (t : WideTree) (ps : Text
       by_fits (evaluates (k - 1) (c - (1 + settings_cost ps)) b (env_atop (set_by ps) e)) o refl (h ∙ moved)
       low few within
 
-  parts_moved : parts (k - 1) rest (path ++ i ∷ []) b e1 ≡ parts k c path t e
+  parts_moved : parts_by guide.sheller (k - 1) rest (path ++ i ∷ []) b e1 ≡ parts_by guide.sheller k c path t e
   parts_moved =
-      ap (λ n. parts (k - 1) n (path ++ i ∷ []) b e1) is_rest
-      ∙ ap (λ j. parts (k - 1) (c - (1 + settings_cost ps)) (path ++ j ∷ []) b e1) is_i
-      ∙ ap (parts (k - 1) (c - (1 + settings_cost ps)) (path ++ (2 * length ps) ∷ []) b) is_e
-      ∙ sym (with_parts k c path t ps b e opens some)
+      ap (λ n. parts_by guide.sheller (k - 1) n (path ++ i ∷ []) b e1) is_rest
+      ∙ ap (λ j. parts_by guide.sheller (k - 1) (c - (1 + settings_cost ps)) (path ++ j ∷ []) b e1) is_i
+      ∙ ap (parts_by guide.sheller (k - 1) (c - (1 + settings_cost ps)) (path ++ (2 * length ps) ∷ []) b) is_e
+      ∙ sym (with_parts k c path t ps b e opens some guide unshelled)
+
+  charged_moved : charged guide (k - 1) rest (path ++ i ∷ []) b e1 ≡ charged guide k c path t e
+  charged_moved =
+      ap (λ n. charged guide (k - 1) n (path ++ i ∷ []) b e1) is_rest
+      ∙ ap (λ j. charged guide (k - 1) (c - (1 + settings_cost ps)) (path ++ j ∷ []) b e1) is_i
+      ∙ ap (charged guide (k - 1) (c - (1 + settings_cost ps)) (path ++ (2 * length ps) ∷ []) b) is_e
+      ∙ sym (with_charged k c path t ps b e opens some guide unshelled)
 
   pub scope_added : (old new : List DonePart) →
       r ≡ option_map (with_at path (overlaid empty s.pairs.items) s.values.items s.cost) o →
-      IsAdded kept (parts (k - 1) rest (path ++ i ∷ []) b e1) old new o → IsAdded kept (parts k c path t e) old new r
+      IsAdded guide.stores (parts_by guide.sheller (k - 1) rest (path ++ i ∷ []) b e1) old new o →
+      IsAdded guide.stores (parts_by guide.sheller k c path t e) old new r
   scope_added old new g h = by o r g h
     where
       by : (o r : Option WideTrace) →
           r ≡ option_map (with_at path (overlaid empty s.pairs.items) s.values.items s.cost) o →
-          IsAdded kept (parts (k - 1) rest (path ++ i ∷ []) b e1) old new o →
-          IsAdded kept (parts k c path t e) old new r
+          IsAdded guide.stores (parts_by guide.sheller (k - 1) rest (path ++ i ∷ []) b e1) old new o →
+          IsAdded guide.stores (parts_by guide.sheller k c path t e) old new r
       by o None g h = tt
       by None (Some u) g h = cc
-      by (Some w) (Some u) g h = h ∙ ap (λ qs. map seen old ++ map (seen_in kept) qs) parts_moved
+      by (Some w) (Some u) g h = h ∙ ap (λ qs. map seen old ++ map (seen_in guide.stores) qs) parts_moved
 
   pub scope_counted : (before after : ℕ) →
-      after ≡ before + charges kept (parts (k - 1) rest (path ++ i ∷ []) b e1) →
-      after ≡ before + charges kept (parts k c path t e)
-  scope_counted before after h = h ∙ ap (λ qs. before + charges kept qs) parts_moved
+      after ≡ before + charged guide (k - 1) rest (path ++ i ∷ []) b e1 →
+      after ≡ before + charged guide k c path t e
+  scope_counted before after h = h ∙ ap (λ n. before + n) charged_moved
 
 -- ---- as the walk goes
 
@@ -321,16 +340,17 @@ scope_over k c path t e r opens some f is =
     (f opens.0 opens.1 (named t opens.0 opens.1 opens.2).texts) in
     with_over k c path t opens.0 opens.1 e opens.2 some (omega (arith, dear))
 
-pub scope_charged : (kept : Stores) (k c : ℕ) (path : List ℕ) (t : WideTree) (e : Before) (r : Option Settings)
+pub scope_charged : (guide : Guide) → IsSheller guide.sheller → (k c : ℕ) (path : List ℕ) (t : WideTree) (e : Before)
+    (r : Option Settings) → guide.sheller t e ≡ None →
     (opens : (ps : TextSettings) × (b : WideTree) × (openness t ≡ With ps b)) → 0 < k →
     ((ps : TextSettings) (b : WideTree) → settings_in (children_of t) ≡ Some (ps, b) →
     MatchOption r (c < settings_cost ps) (λ x. AreSettings path ps x)) → r ≡ None →
-    charges kept (parts k c path t e) ≡ 0
-scope_charged kept k c path t e r opens some f is =
+    charged guide k c path t e ≡ 0
+scope_charged guide sound k c path t e r unshelled opens some f is =
     let dear : c < settings_cost opens.0 =
     subst (λ o. MatchOption o (c < settings_cost opens.0) (λ x. AreSettings path opens.0 x)) is
     (f opens.0 opens.1 (named t opens.0 opens.1 opens.2).texts) in
-    dear_charged kept k c path t opens.0 opens.1 e opens.2 some (omega (arith, dear))
+    dear_charged guide sound k c path t opens.0 opens.1 e unshelled opens.2 some (omega (arith, dear))
 
 module _ (k c : ℕ) (path : List ℕ) (t : WideTree) (s : Settings) (sc : IsScope t path s) (some : 0 < k) where
   pub too_dear : (e : Before) → c ≤ s.cost → evaluates k c t e ≡ None
@@ -338,14 +358,16 @@ module _ (k c : ℕ) (path : List ℕ) (t : WideTree) (s : Settings) (sc : IsSco
       let cost : s.cost ≡ settings_cost sc.texts = sc.are.cost in
       with_over k c path t sc.texts sc.inner e sc.opens some (omega (arith, h, cost))
 
-  pub dear_with : (kept : Stores) (e : Before) → c ≤ s.cost → charges kept (parts k c path t e) ≡ 0
-  dear_with kept e h =
+  pub dear_with : (guide : Guide) → IsSheller guide.sheller → (e : Before) → guide.sheller t e ≡ None → c ≤ s.cost →
+      charged guide k c path t e ≡ 0
+  dear_with guide sound e unshelled h =
       let cost : s.cost ≡ settings_cost sc.texts = sc.are.cost in
-      dear_charged kept k c path t sc.texts sc.inner e sc.opens some (omega (arith, h, cost))
+      dear_charged guide sound k c path t sc.texts sc.inner e unshelled sc.opens some (omega (arith, h, cost))
 
-  module _ (kept : Stores) (less : s.cost < c) (u : WideTree) (i n : ℕ) (is_n : n ≡ length (children_of t))
+  module _ (guide : Guide) (less : s.cost < c) (u : WideTree) (i n : ℕ) (is_n : n ≡ length (children_of t))
       (is_i : i ≡ n - 1) (there : slice_get (children_of t) i ≡ Some u) (rest : ℕ) (is_rest : rest ≡ c - 1 - s.cost)
-      (m : NameMap) (pairs : List (Name × WideTree)) (is_pairs : pairs ≡ s.pairs.items) (o r : Option WideTrace) where
+      (m : NameMap) (pairs : List (Name × WideTree)) (is_pairs : pairs ≡ s.pairs.items) (o r : Option WideTrace)
+      (unshelled : guide.sheller t (get m) ≡ None) where
     cost_is : s.cost ≡ settings_cost sc.texts
     cost_is = sc.are.cost
 
@@ -373,27 +395,28 @@ module _ (k c : ℕ) (path : List ℕ) (t : WideTree) (s : Settings) (sc : IsSco
         r ≡ option_map (with_at path (overlaid empty s.pairs.items) s.values.items s.cost) o →
         r ≡ option_map (trace_under path) (evaluates k c t (get m))
     closed_exact h g =
-        scope_exact kept k c path t sc.texts u (get m) (get (overlaid m pairs)) opens_so some left_so s sc.are
-        rest i inside_so rest_so last_is o r h g
+        scope_exact guide k c path t sc.texts u (get m) (get (overlaid m pairs)) opens_so some left_so s sc.are
+        rest i inside_so rest_so last_is o r unshelled h g
 
     pub closed_fits :
         o ≡ option_map (trace_under (path ++ i ∷ [])) (evaluates (k - 1) rest u (get (overlaid m pairs))) →
         k ≤ 400 → c ≤ 1000000 → IsWithinLimits t → IfSome o (λ w. FitsWith s.values.items s.cost w)
     closed_fits h low few within =
-        scope_fits kept k c path t sc.texts u (get m) (get (overlaid m pairs)) opens_so some left_so s sc.are
-        rest i inside_so rest_so last_is o r h low few within
+        scope_fits guide k c path t sc.texts u (get m) (get (overlaid m pairs)) opens_so some left_so s sc.are
+        rest i inside_so rest_so last_is o r unshelled h low few within
 
     pub closed_added : (old new : List DonePart) →
         r ≡ option_map (with_at path (overlaid empty s.pairs.items) s.values.items s.cost) o →
-        IsAdded kept (parts (k - 1) rest (path ++ i ∷ []) u (get (overlaid m pairs))) old new o →
-        IsAdded kept (parts k c path t (get m)) old new r
+        IsAdded guide.stores (parts_by guide.sheller (k - 1) rest (path ++ i ∷ []) u (get (overlaid m pairs))) old new o
+        →
+        IsAdded guide.stores (parts_by guide.sheller k c path t (get m)) old new r
     closed_added old new g h =
-        scope_added kept k c path t sc.texts u (get m) (get (overlaid m pairs)) opens_so some left_so s sc.are
-        rest i inside_so rest_so last_is o r old new g h
+        scope_added guide k c path t sc.texts u (get m) (get (overlaid m pairs)) opens_so some left_so s sc.are
+        rest i inside_so rest_so last_is o r unshelled old new g h
 
     pub closed_counted : (before after : ℕ) →
-        after ≡ before + charges kept (parts (k - 1) rest (path ++ i ∷ []) u (get (overlaid m pairs))) →
-        after ≡ before + charges kept (parts k c path t (get m))
+        after ≡ before + charged guide (k - 1) rest (path ++ i ∷ []) u (get (overlaid m pairs)) →
+        after ≡ before + charged guide k c path t (get m)
     closed_counted before after h =
-        scope_counted kept k c path t sc.texts u (get m) (get (overlaid m pairs)) opens_so some left_so s sc.are
-        rest i inside_so rest_so last_is o r before after h
+        scope_counted guide k c path t sc.texts u (get m) (get (overlaid m pairs)) opens_so some left_so s sc.are
+        rest i inside_so rest_so last_is o r unshelled before after h

@@ -3,10 +3,14 @@ pub mod Held
 pub mod Walked
 pub mod Finding
 pub mod Prior
+pub mod Shells
+pub mod Guides
 pub mod Steps
 pub mod Spending
 pub mod Descent
 pub mod Outside
 pub mod Scopes
+pub mod Layers
+pub mod Shelled
 pub mod Open
 pub mod Codes

@@ -16,10 +16,11 @@ use Rattle.tx_exec.specs.Outcomes.{wide_trace}
 use Rattle.tx_exec.specs.States.{before_of}
 use Rattle.tx_parts.specs.Atop.{atop, env_atop, both_looks}
 use Rattle.tx_parts.specs.Composed.{evaluates, SoFar, nothing_yet, children_from}
-use Rattle.tx_parts.specs.Parts.{Part, parts, parts_from}
+use Rattle.tx_parts.specs.Parts.{Part, parts_by, parts_from}
 use Rattle.tx_walk.specs.declared.part.Part.{Part as DonePart}
 use Rattle.tx_walk.specs.declared.joined.Joined.{Joined}
-use Rattle.tx_walk.specs.Held.{Stores, charges}
+use Rattle.tx_walk.specs.Held.{Stores}
+use Rattle.tx_walk.specs.Guides.{Guide, charged, charged_from}
 use Rattle.tx_walk.specs.Walked.{IsTidy, IsPlaced, Seen, seen, seen_in}
 
 -- the trace with each origin of its value under the path
@@ -132,39 +133,41 @@ stage_of j env done count =
     record { joined = so_far_of j; names = before_of env; done = map seen done; count = count }
 
 -- the child of number i is done
-pub record ChildDone (kept : Stores) (k c : ℕ) (path : List ℕ) (i : ℕ) (t : WideTree) (s s1 : Stage) : Type 0 where
+pub record ChildDone (guide : Guide) (k c : ℕ) (path : List ℕ) (i : ℕ) (t : WideTree) (s s1 : Stage) : Type 0 where
   pub trace : WideTrace
   pub comes : evaluates k (c - s.joined.cost) t s.names ≡ Some trace
   pub joined : s1.joined ≡ with_trace s.joined (trace_under (path ++ i ∷ []) trace)
   pub names : s1.names ≡ env_atop trace.writes s.names
-  pub done : s1.done ≡ s.done ++ map (seen_in kept) (parts k (c - s.joined.cost) (path ++ i ∷ []) t s.names)
-  pub count : s1.count ≡ s.count + charges kept (parts k (c - s.joined.cost) (path ++ i ∷ []) t s.names)
+  pub done : s1.done ≡ s.done ++ map (seen_in guide.stores)
+      (parts_by guide.sheller k (c - s.joined.cost) (path ++ i ∷ []) t s.names)
+  pub count : s1.count ≡ s.count + charged guide k (c - s.joined.cost) (path ++ i ∷ []) t s.names
 
 -- it is over
-pub record ChildOver (kept : Stores) (k c : ℕ) (path : List ℕ) (i : ℕ) (t : WideTree) (s s1 : Stage) : Type 0 where
+pub record ChildOver (guide : Guide) (k c : ℕ) (path : List ℕ) (i : ℕ) (t : WideTree) (s s1 : Stage) : Type 0 where
   pub comes : evaluates k (c - s.joined.cost) t s.names ≡ None
-  pub count : s1.count ≡ s.count + charges kept (parts k (c - s.joined.cost) (path ++ i ∷ []) t s.names)
+  pub count : s1.count ≡ s.count + charged guide k (c - s.joined.cost) (path ++ i ∷ []) t s.names
 
-abbrev pub ChildComes : Stores → ℕ → ℕ → List ℕ → ℕ → WideTree → Stage → Stage → Bool → Type 0
-ChildComes kept k c path i t s s1 true = ChildDone kept k c path i t s s1
-ChildComes kept k c path i t s s1 false = ChildOver kept k c path i t s s1
+abbrev pub ChildComes : Guide → ℕ → ℕ → List ℕ → ℕ → WideTree → Stage → Stage → Bool → Type 0
+ChildComes guide k c path i t s s1 true = ChildDone guide k c path i t s s1
+ChildComes guide k c path i t s s1 false = ChildOver guide k c path i t s s1
 
 -- all children are done
-pub record ChildrenDone (kept : Stores) (k c : ℕ) (path : List ℕ) (kids : List WideTree) (s s1 : Stage) : Type 0
+pub record ChildrenDone (guide : Guide) (k c : ℕ) (path : List ℕ) (kids : List WideTree) (s s1 : Stage) : Type 0
   where
     pub so_far : SoFar
     pub comes : children_from (evaluates k) c 0 nothing_yet kids s.names ≡ Some so_far
     pub joined : s1.joined ≡ below path so_far
     pub names : s1.names ≡ env_atop so_far.writes s.names
-    pub done : s1.done ≡ s.done ++ map (seen_in kept) (parts_from k (parts k) c path 0 nothing_yet kids s.names)
-    pub count : s1.count ≡ s.count + charges kept (parts_from k (parts k) c path 0 nothing_yet kids s.names)
+    pub done : s1.done ≡ s.done ++ map (seen_in guide.stores)
+        (parts_from k (parts_by guide.sheller k) c path 0 nothing_yet kids s.names)
+    pub count : s1.count ≡ s.count + charged_from guide k c path 0 nothing_yet kids s.names
     pub many : length so_far.values ≡ length kids
 
 -- one of them is over
-pub record ChildrenOver (kept : Stores) (k c : ℕ) (path : List ℕ) (kids : List WideTree) (s s1 : Stage) : Type 0 where
+pub record ChildrenOver (guide : Guide) (k c : ℕ) (path : List ℕ) (kids : List WideTree) (s s1 : Stage) : Type 0 where
   pub comes : children_from (evaluates k) c 0 nothing_yet kids s.names ≡ None
-  pub count : s1.count ≡ s.count + charges kept (parts_from k (parts k) c path 0 nothing_yet kids s.names)
+  pub count : s1.count ≡ s.count + charged_from guide k c path 0 nothing_yet kids s.names
 
-abbrev pub ChildrenCome : Stores → ℕ → ℕ → List ℕ → List WideTree → Stage → Stage → Bool → Type 0
-ChildrenCome kept k c path kids s s1 true = ChildrenDone kept k c path kids s s1
-ChildrenCome kept k c path kids s s1 false = ChildrenOver kept k c path kids s s1
+abbrev pub ChildrenCome : Guide → ℕ → ℕ → List ℕ → List WideTree → Stage → Stage → Bool → Type 0
+ChildrenCome guide k c path kids s s1 true = ChildrenDone guide k c path kids s s1
+ChildrenCome guide k c path kids s s1 false = ChildrenOver guide k c path kids s s1

@@ -12,6 +12,7 @@ ghost use Rattle.tx_exec.specs.Outcomes.{wide_trace, wide_outcome, NamesOnce};
 ghost use Rattle.tx_walk.specs.Steps.{so_far_of, with_trace, look_behind, IsJoined};
 
 use std::alloc::Global;
+use std::mem;
 use tx_base::Memory;
 use tx_env::{Pairs, Writes};
 use tx_exec::{Looks, Outcome, Trace};
@@ -30,7 +31,7 @@ pub(crate) struct Joined {
 }
 
 // A look more, where the name has none yet.
-fn note_look(looks: &mut Pairs, name: &Text, found: &Option<Tree>) -> Result<(), Memory>
+pub(crate) fn note_look(looks: &mut Pairs, name: &Text, found: &Option<Tree>) -> Result<(), Memory>
     ensures { OnOk result (from_entries looks.new ≡ noted (from_entries looks.old) name.now found.now) }
 {
     if looks.lists(name) {
@@ -56,7 +57,7 @@ fn join_look(
 }
 
 // The looks that come behind others, but those at names that were set.
-fn join_looks(own: &Pairs, looks: &mut Pairs, more: &Looks) -> Result<(), Memory>
+pub(crate) fn join_looks(own: &Pairs, looks: &mut Pairs, more: &Looks) -> Result<(), Memory>
     ensures { OnOk result (from_entries looks.new
         ≡ both_looks (from_entries looks.old) (map_of own.now) (from_entries more.now)) }
 {
@@ -67,7 +68,7 @@ fn join_looks(own: &Pairs, looks: &mut Pairs, more: &Looks) -> Result<(), Memory
 }
 
 // What is set behind what was set.
-fn join_writes(own: &mut Pairs, more: &Writes) -> Result<(), Memory>
+pub(crate) fn join_writes(own: &mut Pairs, more: &Writes) -> Result<(), Memory>
     requires { IsDistinct bytes_eq (keys_of more.now) }
     ensures { OnOk result (map_of own.new ≡ atop (from_entries more.now) (map_of own.old)) }
 {
@@ -92,7 +93,7 @@ impl Joined {
     }
 
     // With this trace behind the others.
-    fn add(&mut self, trace: Trace) -> Result<(), Memory>
+    pub(crate) fn add(&mut self, trace: Trace) -> Result<(), Memory>
         requires cost { self.old.cost + trace.cost ≤ 1000000 }
         requires once { IsDistinct bytes_eq (keys_of trace.writes) }
         ensures { OnOk result (so_far_of self.new ≡ with_trace (so_far_of self.old) (wide_trace trace)) }
@@ -103,6 +104,13 @@ impl Joined {
         self.height = self.height.max(trace.height);
         self.values.push(trace.value)?;
         Ok(())
+    }
+
+    /// All of it. Nothing is left.
+    pub(crate) fn take(&mut self, alloc: Global) -> Joined
+        ensures { result ≡ self.old }
+    {
+        mem::replace(self, Joined::new(alloc))
     }
 
     /// With this trace behind the others, and whether there is one.

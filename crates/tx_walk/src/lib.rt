@@ -5,9 +5,12 @@
 #![tactic(auto)]
 
 mod descent;
+mod evaluating;
 mod fitting;
 mod joined;
 mod laws;
+mod layering;
+mod layers;
 mod open;
 mod origins;
 mod outside;
@@ -17,6 +20,9 @@ mod progress;
 mod scopes;
 mod settings;
 mod sharing;
+mod shelled;
+mod shells;
+mod shut_trees;
 mod traces;
 mod unit;
 mod walking;
@@ -27,5 +33,6 @@ pub use laws::{charges_law, kept_law, walked_law};
 pub use open::is_open;
 pub use part::Part;
 pub use settings::text_at;
-pub use sharing::placed_value;
-pub use unit::{Walked, walk};
+pub use sharing::{placed_value, share_trace};
+pub use shells::{Closed, Layer, Opener, Shell};
+pub use unit::{Walked, walk, walk_with};

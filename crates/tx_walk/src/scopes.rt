@@ -1,5 +1,5 @@
 // What a `with` comes to, by its last child.
-ghost use Rattle.std.specs.Prelude.{◌≡◌, ◌<◌, ◌++◌, ◌∷◌, [], length, codes, IfOk, IfSome, Some};
+ghost use Rattle.std.specs.Prelude.{◌≡◌, ◌<◌, ◌++◌, ◌∷◌, [], length, codes, IfOk, OnOk, IfSome, Some};
 ghost use Rattle.std.specs.Option.{option_map};
 ghost use Rattle.std.specs.FinMap.{empty};
 ghost use Rattle.tx_tree.specs.WideTree.{label_of, total_size, deepest};
@@ -14,13 +14,23 @@ ghost use Rattle.tx_walk.specs.Scopes.{with_at, FitsWith};
 use crate::origins::node_at;
 use crate::outside::{looks_outside, writes_outside};
 use crate::settings::Settings;
-use crate::walking::set_all;
 use std::alloc::Global;
 use tx_base::Memory;
 use tx_env::Env;
 use tx_exec::{Outcome, Trace};
 use tx_origin::Value;
 use tx_tree::{Path, Text, Tree};
+
+/// Sets each name to its tree, in order, up to the first for which there is no memory.
+pub(crate) fn set_all(env: &mut Env, pairs: &[(Text, Tree)]) -> Result<(), Memory>
+    ensures map { OnOk result (env.new.map ≡ overlaid env.old.map pairs.now) }
+    ensures scopes { env.new.scopes ≡ env.old.scopes }
+{
+    for (name, tree) in pairs {
+        env.set(name.copy()?, tree.share()?)?;
+    }
+    Ok(())
+}
 
 // The value of the `with` at this origin, of the values of names and texts and that of its last child.
 fn with_value(

@@ -32,8 +32,8 @@ fn share_writes(alloc: Global, writes: &Writes) -> Result<Writes, Memory>
     Ok(Writes::new(pairs))
 }
 
-/// The same trace.
-pub(crate) fn share_trace(alloc: Global, trace: &Trace) -> Result<Trace, Memory>
+/// The same trace. It shares its value and its trees. The one error is want of memory.
+pub fn share_trace(alloc: Global, trace: &Trace) -> Result<Trace, Memory>
     ensures { IfOk result (λ t. t ≡ trace.now) }
 {
     Ok(Trace {

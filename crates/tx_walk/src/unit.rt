@@ -6,7 +6,9 @@ ghost use Rattle.tx_exec_form.specs.declared.TheConstants.{MOST_LEVELS};
 ghost use Rattle.tx_exec.specs.States.{before_of};
 ghost use Rattle.tx_exec.specs.Outcomes.{wide_outcome, NamesOnce};
 ghost use Rattle.tx_parts.specs.Composed.{evaluates};
-ghost use Rattle.tx_parts.specs.Parts.{parts};
+ghost use Rattle.tx_parts.specs.Opening.{shells_by};
+ghost use Rattle.tx_parts.specs.Parts.{parts, parts_by};
+ghost use Rattle.tx_walk.specs.Guides.{guide_of, charged};
 ghost use Rattle.tx_walk.specs.Held.{AreSound, charges};
 ghost use Rattle.tx_walk.specs.Walked.{IsTidy, IsPlaced, stores_in, paths_of, seen, seen_parts};
 ghost use Rattle.tx_walk.specs.Finding.{AreFindable};
@@ -16,6 +18,7 @@ ghost use Rattle.tx_walk.specs.Steps.{IsAdded, IsReady, parts_if_done};
 use crate::part::Part;
 use crate::prior::PriorStores;
 use crate::progress::WalkProgress;
+use crate::shells::{Closed, Opener};
 use crate::walking::walk_tree;
 use std::alloc::Global;
 use std::sync::ledger::Ledger;
@@ -36,11 +39,12 @@ pub struct Walked {
 }
 
 // What the tree comes to, with all levels and at the root's origin. Its parts come behind the others.
-fn walk_root<L: Ledger>(
+fn walk_root<O: Opener, L: Ledger>(
     alloc: Global,
     t: &Tree,
     env: &mut Env,
     allowance: u64,
+    opener: &O,
     kept: &PriorStores<'_>,
     progress: &mut WalkProgress,
     done: &mut Vec<Part>,
@@ -55,19 +59,19 @@ fn walk_root<L: Ledger>(
     requires nothing { progress.old.spent ≡ 0 }
     ensures exact { IfOk result (λ o. wide_outcome o ≡ evaluates MOST_LEVELS allowance t.now (before_of env.old)) }
     ensures added { IfOk result (λ o. IsAdded (stores_of kept.now)
-        (parts MOST_LEVELS allowance [] t.now (before_of env.old))
+        (parts_by (shells_by (O.opens opener.now)) MOST_LEVELS allowance [] t.now (before_of env.old))
         done.old.items done.new.items (wide_outcome o)) }
-    ensures counted { OnOk result (steps.new ≡ steps.old + charges (stores_of kept.now)
-        (parts MOST_LEVELS allowance [] t.now (before_of env.old))) }
-    ensures spent { OnOk result (progress.new.spent ≡ charges (stores_of kept.now)
-        (parts MOST_LEVELS allowance [] t.now (before_of env.old))) }
+    ensures counted { OnOk result (steps.new ≡ steps.old
+        + charged (guide_of (O.opens opener.now) kept.now) MOST_LEVELS allowance [] t.now (before_of env.old)) }
+    ensures spent { OnOk result (progress.new.spent
+        ≡ charged (guide_of (O.opens opener.now) kept.now) MOST_LEVELS allowance [] t.now (before_of env.old)) }
     ensures names_once { IfOk result NamesOnce }
     ensures done_ready { All IsReady done.new.items }
     ensures scopes { env.new.scopes ≡ env.old.scopes }
 {
     let root = Path::root(alloc);
     walk_tree(
-        alloc, t, root, env, 400, allowance, kept, progress, done, steps,
+        alloc, t, root, env, 400, allowance, opener, kept, progress, done, steps,
     )
 }
 
@@ -99,11 +103,64 @@ fn unit_of(alloc: Global, outcome: Outcome, charge: u64, done: Vec<Part>) -> Wal
 /// What the tree of a unit comes to without a frame: just what evaluating it gives, where this many steps are allowed,
 /// at most 1,000,000, and 400 levels. The origins of its value begin at the tree, and so do the paths of its parts.
 ///
-/// It is gone into each `document` with a child and each `with` of names, texts and a last child, down to trees of
-/// other kinds, which are the parts. A part is held where what is kept at its path fits what names have before it, or
-/// what the spare has there does: then its trace is the part's, and costs nothing. A part that the spare alone holds is
-/// told as renewed. The other parts are evaluated, and the steps rise by their costs, which the answer tells; a part
-/// that is over costs all the steps that it has. The environment is as before after every answer.
+/// It is gone into each `document` with a child, each `with` of names, texts and a last child, and each tag for which
+/// the opener tells a shell, down to trees of other kinds, which are the parts. A part is held where what is kept at
+/// its path fits what names have before it, or what the spare has there does: then its trace is the part's, and costs
+/// nothing. A part that the spare alone holds is told as renewed. The other parts are evaluated, and so are the trees
+/// of all layers, and the steps rise by their costs, which the answer tells, and by one for each node of what the
+/// layers' names are set to. A part that is over costs all the steps that it has. The environment is as before after
+/// every answer.
+pub fn walk_with<O: Opener, L: Ledger>(
+    alloc: Global,
+    t: &Tree,
+    env: &mut Env,
+    allowance: u64,
+    opener: &O,
+    kept: &[Part],
+    spare: &[Part],
+    steps: &mut Steps<L>,
+) -> Result<Walked, Memory>
+    requires allowance { allowance ≤ 1000000 }
+    requires scopes { length env.old.scopes ≤ 1000000 }
+    requires sound { AreSound (stores_in kept.now spare.now) [] t.now }
+    requires distinct { IsDistinct bytes_eq (paths_of kept.now) }
+    requires tidy { All IsTidy kept.now }
+    requires spare_distinct { IsDistinct bytes_eq (paths_of spare.now) }
+    requires spare_tidy { All IsTidy spare.now }
+    ensures exact { IfOk result
+        (λ w. wide_outcome w.outcome ≡ evaluates MOST_LEVELS allowance t.now (before_of env.old)) }
+    ensures parts { IfOk result (λ w. map seen w.parts.items ≡ seen_parts (stores_in kept.now spare.now)
+        (parts_by (shells_by (O.opens opener.now)) MOST_LEVELS allowance [] t.now (before_of env.old))
+        (wide_outcome w.outcome)) }
+    ensures counted { IfOk result (λ w. steps.new ≡ steps.old + w.charge) }
+    ensures charge { IfOk result (λ w. w.charge ≡ charged
+        (record { stores = stores_in kept.now spare.now; sheller = shells_by (O.opens opener.now) })
+        MOST_LEVELS allowance [] t.now (before_of env.old)) }
+    ensures once { IfOk result (λ w. NamesOnce w.outcome) }
+    ensures tidy { IfOk result (λ w. All IsTidy w.parts.items) }
+    ensures placed { IfOk result (λ w. All IsPlaced w.parts.items) }
+    ensures env { env.new ≡ env.old }
+{
+    let prior = PriorStores::new(kept, spare);
+    let mut done = Vec::new(alloc);
+    let mut progress = WalkProgress::new();
+    let mark = env.enter();
+    let outcome = walk_root(
+        alloc,
+        t,
+        env,
+        allowance,
+        opener,
+        &prior,
+        &mut progress,
+        &mut done,
+        steps,
+    );
+    env.leave(mark);
+    Ok(unit_of(alloc, outcome?, progress.spent, done))
+}
+
+/// The same where nothing has a shell.
 pub fn walk<L: Ledger>(
     alloc: Global,
     t: &Tree,
@@ -133,20 +190,5 @@ pub fn walk<L: Ledger>(
     ensures placed { IfOk result (λ w. All IsPlaced w.parts.items) }
     ensures env { env.new ≡ env.old }
 {
-    let prior = PriorStores::new(kept, spare);
-    let mut done = Vec::new(alloc);
-    let mut progress = WalkProgress::new();
-    let mark = env.enter();
-    let outcome = walk_root(
-        alloc,
-        t,
-        env,
-        allowance,
-        &prior,
-        &mut progress,
-        &mut done,
-        steps,
-    );
-    env.leave(mark);
-    Ok(unit_of(alloc, outcome?, progress.spent, done))
+    walk_with(alloc, t, env, allowance, &Closed, kept, spare, steps)
 }

@@ -2,4 +2,10 @@
 #![tactic(auto)]
 
 #[cfg(test)]
+mod boxes;
+#[cfg(test)]
+mod outcomes;
+#[cfg(test)]
+mod shells;
+#[cfg(test)]
 mod walks;

@@ -5,13 +5,13 @@ ghost use Rattle.std.specs.Str.{bytes_eq};
 ghost use Rattle.tx_walk.specs.Held.{IsSound, AreSound};
 ghost use Rattle.tx_walk.specs.Walked.{IsTidy, kept_in, stores_in, paths_of};
 
+use crate::outcomes::{evaluated, same, tree_of};
 use std::alloc::Global;
 use std::marker::Brand;
 use std::sync::ledger::{Blank, Ledger};
 use tx_base::Steps;
 use tx_env::Env;
-use tx_exec::{Outcome, eval};
-use tx_origin::{Ip, Tagged};
+use tx_exec::Outcome;
 use tx_tree::{Text, Tree};
 use tx_walk::{Part, Walked, kept_law, walk, walked_law};
 
@@ -107,10 +107,6 @@ const SPARE_ROWS: &[SpareRow] = &[
     },
 ];
 
-fn tree_of<L: Ledger>(alloc: Global, words: &str, steps: &mut Steps<L>) -> Option<Tree> {
-    tx_scm::read(alloc, words.as_bytes(), steps).ok()
-}
-
 // An environment where `n` has this text.
 fn env_of(alloc: Global, words: &str) -> Option<Env>
     ensures { IfSome result (λ env. env.scopes ≡ []) }
@@ -200,27 +196,7 @@ fn is_exact<L: Ledger>(
 // What the whole tree comes to.
 fn whole<L: Ledger>(alloc: Global, t: &Tree, words: &str, steps: &mut Steps<L>) -> Option<Outcome> {
     let mut env = env_of(alloc, words)?;
-    let tagged = Tagged {
-        tree: t.share().ok()?,
-        at: Some(Ip::root()),
-    };
-    eval(alloc, &tagged, &mut env, ALLOWANCE, steps).ok()
-}
-
-fn same<L: Ledger>(
-    alloc: Global,
-    one: &Outcome,
-    other: &Outcome,
-    steps: &mut Steps<L>,
-) -> Option<bool> {
-    match (one, other) {
-        (Outcome::Done(a), Outcome::Done(b)) => {
-            let value = a.value.plain(alloc, steps).ok()?;
-            let fresh = b.value.plain(alloc, steps).ok()?;
-            Some(value.same(&fresh) && a.cost == b.cost && a.height == b.height)
-        }
-        _ => Some(false),
-    }
+    evaluated(alloc, t, &mut env, ALLOWANCE, steps)
 }
 
 // Whether a second walk holds each part, with the same value, and has as many.

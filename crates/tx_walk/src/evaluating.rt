@@ -1,0 +1,103 @@
+// Trees that are evaluated on the way.
+ghost use Rattle.std.specs.Prelude.{◌≡◌, ◌≤◌, ◌+◌, IfOk, OnOk};
+ghost use Rattle.tx_exec_form.specs.Evaluated.{evaluated_in, paid};
+ghost use Rattle.tx_exec.specs.States.{before_of};
+ghost use Rattle.tx_exec.specs.Outcomes.{wide_outcome, NamesOnce};
+ghost use Rattle.tx_walk.specs.Spending.{RisesAlike};
+
+use crate::progress::WalkProgress;
+use std::alloc::Global;
+use std::sync::ledger::Ledger;
+use tx_base::{Memory, Steps};
+use tx_env::Env;
+use tx_exec::{Outcome, eval};
+use tx_origin::{Ip, Tagged};
+use tx_tree::Tree;
+
+// What the tree at this origin comes to without a frame, with all levels.
+fn eval_at<L: Ledger>(
+    alloc: Global,
+    t: &Tree,
+    at: Option<Ip>,
+    env: &mut Env,
+    left: u64,
+    steps: &mut Steps<L>,
+) -> Result<Outcome, Memory>
+    requires left { left ≤ 1000000 }
+    ensures exact { IfOk result
+        (λ o. wide_outcome o ≡ evaluated_in 400 left (record { tree = t.now; at = at }) (before_of env.old)) }
+    ensures counted { IfOk result (λ o. steps.new ≡ steps.old + paid left (wide_outcome o)) }
+    ensures names_once { IfOk result NamesOnce }
+    ensures env { env.new ≡ env.old }
+{
+    let tagged = Tagged {
+        tree: t.share()?,
+        at,
+    };
+    eval(alloc, &tagged, env, left, steps)
+}
+
+// The same with so many levels. Where they don't suffice all steps that are left are taken.
+fn eval_within<L: Ledger>(
+    alloc: Global,
+    t: &Tree,
+    at: Option<Ip>,
+    env: &mut Env,
+    levels: u32,
+    left: u64,
+    steps: &mut Steps<L>,
+) -> Result<Outcome, Memory>
+    requires levels { levels ≤ 400 }
+    requires left { left ≤ 1000000 }
+    ensures exact { IfOk result
+        (λ o. wide_outcome o ≡ evaluated_in levels left (record { tree = t.now; at = at }) (before_of env.old)) }
+    ensures counted { IfOk result (λ o. steps.new ≡ steps.old + paid left (wide_outcome o)) }
+    ensures names_once { IfOk result NamesOnce }
+    ensures env { env.new ≡ env.old }
+{
+    match eval_at(alloc, t, at, env, left, steps)? {
+        Outcome::Over => Ok(Outcome::Over),
+        Outcome::Done(trace) => {
+            if trace.height > levels {
+                steps.add(left - trace.cost);
+                return Ok(Outcome::Over);
+            }
+            Ok(Outcome::Done(trace))
+        }
+    }
+}
+
+// What it takes of the steps that are left: all of them where it is over.
+fn paid_of(outcome: &Outcome, left: u64) -> u64
+    ensures { result ≡ paid left (wide_outcome outcome.now) }
+{
+    match outcome {
+        Outcome::Over => left,
+        Outcome::Done(trace) => trace.cost,
+    }
+}
+
+/// What the tree at this origin comes to without a frame, with so many levels and steps. What it takes is spent.
+pub(crate) fn spend_on<L: Ledger>(
+    alloc: Global,
+    t: &Tree,
+    at: Option<Ip>,
+    env: &mut Env,
+    levels: u32,
+    left: u64,
+    progress: &mut WalkProgress,
+    steps: &mut Steps<L>,
+) -> Result<Outcome, Memory>
+    requires levels { levels ≤ 400 }
+    requires left { left ≤ 1000000 }
+    ensures exact { IfOk result
+        (λ o. wide_outcome o ≡ evaluated_in levels left (record { tree = t.now; at = at }) (before_of env.old)) }
+    ensures counted { IfOk result (λ o. steps.new ≡ steps.old + paid left (wide_outcome o)) }
+    ensures spent { OnOk result (RisesAlike steps.old progress.old.spent steps.new progress.new.spent) }
+    ensures names_once { IfOk result NamesOnce }
+    ensures env { env.new ≡ env.old }
+{
+    let outcome = eval_within(alloc, t, at, env, levels, left, steps)?;
+    progress.spend(paid_of(&outcome, left));
+    Ok(outcome)
+}
