@@ -5,7 +5,7 @@ use Rattle.std.specs.Prelude.{Some, slice_get}
 use Rattle.tx_tree.proofs.Walks.{drop_item}
 use Rattle.tx_origin.specs.TaggedTrees.{tagged_of}
 use Rattle.tx_exec.specs.Outcomes.{wide_outcome}
-use Rattle.tx_view_form.specs.Outcomes.{Moment, beginning, charge, behind}
+use Rattle.tx_view_form.specs.Outcomes.{Moment, charge, behind}
 use Rattle.tx_bridge.specs.declared.bridge.Bridge.{Bridge}
 use Rattle.tx_bridge.specs.Entries.{Entry, fresh_from, outcome_of, behind_all}
 use Rattle.tx_bridge.specs.Sound.{entries_of, entry_of}
@@ -13,12 +13,12 @@ use Rattle.tx_bridge.proofs.Partway.{units_in}
 use Rattle.tx_bridge.proofs.Taking.{heads}
 use Rattle.tx_bridge.proofs.Used.{AllAllowed, charge_fits}
 
--- behind i units, at the moment m
-pub record BehindSome (bs : List Bridge) (i : ℕ) (m : Moment) : Type 0 where
-  pub moment : behind_all m (units_in (drop i bs)) ≡ behind_all beginning (units_in bs)
+-- behind i units, at the moment m, from the moment `start`
+pub record BehindSome (bs : List Bridge) (start : Moment) (i : ℕ) (m : Moment) : Type 0 where
+  pub moment : behind_all m (units_in (drop i bs)) ≡ behind_all start (units_in bs)
   pub fresh : entries_of (drop i bs) ≡ fresh_from m (units_in (drop i bs))
 
-module _ (bs : List Bridge) (i : ℕ) (m : Moment) (p : BehindSome bs i m) (b : Bridge)
+module _ (bs : List Bridge) (start : Moment) (i : ℕ) (m : Moment) (p : BehindSome bs start i m) (b : Bridge)
     (there : slice_get bs i ≡ Some b) where
   ahead : drop i bs ≡ b ∷ drop (i + 1) bs
   ahead = drop_item bs i b there
@@ -40,7 +40,7 @@ module _ (bs : List Bridge) (i : ℕ) (m : Moment) (p : BehindSome bs i m) (b : 
   pub has_enough : AllAllowed → charge m (wide_outcome b.kept) ≤ m.left
   has_enough allowed = charge_fits allowed m (wide_outcome b.kept) (tagged_of b.unit.tagged) comes
 
-  pub behind_next : (n : Moment) → n ≡ behind m (wide_outcome b.kept) → BehindSome bs (i + 1) n
+  pub behind_next : (n : Moment) → n ≡ behind m (wide_outcome b.kept) → BehindSome bs start (i + 1) n
   behind_next n is =
       let at : n ≡ behind m (outcome_of m b.unit) = is ∙ ap (behind m) comes in
       record {
@@ -50,6 +50,6 @@ module _ (bs : List Bridge) (i : ℕ) (m : Moment) (p : BehindSome bs i m) (b : 
       }
 
 -- behind all units
-pub behind_whole : (bs : List Bridge) (i : ℕ) (m : Moment) → BehindSome bs i m → length bs ≤ i
-    → m ≡ behind_all beginning (units_in bs)
-behind_whole bs i m p past = ap (λ cs. behind_all m (units_in cs)) (sym (drop_all i bs past)) ∙ p.moment
+pub behind_whole : (bs : List Bridge) (start : Moment) (i : ℕ) (m : Moment) → BehindSome bs start i m → length bs ≤ i
+    → m ≡ behind_all start (units_in bs)
+behind_whole bs start i m p past = ap (λ cs. behind_all m (units_in cs)) (sym (drop_all i bs past)) ∙ p.moment

@@ -2,9 +2,9 @@
 use Rattle.std.proofs.Common.{arith, ◌-◌}
 use Rattle.std.proofs.Common.{◌≡◌, ℕ, ◌+◌, ◌≤◌, List, [], ◌∷◌, map, Option, Some, None, refl, ap, sym, ◌∙◌, subst}
 use Rattle.std.proofs.lemmas.Slice.Eq.{bytes_eq-Decides}
+use mathlib.Core.Path.{fun_ext}
 use Rattle.std.proofs.lemmas.List.Elements.{All-from_recursion}
-use Rattle.std.proofs.lemmas.List.Sums.{sum_by-cons}
-use Rattle.std.specs.Prelude.{Bool, true, false, ◌||◌, is_some, if◌then◌else◌, min}
+use Rattle.std.specs.Prelude.{Bool, true, false, is_some, if◌then◌else◌, min}
 use Rattle.std.specs.Option.{option_map}
 use Rattle.std.specs.List.{All, AllByRecursion, IsDistinct}
 use Rattle.std.specs.FinMap.{get}
@@ -19,17 +19,18 @@ use Rattle.tx_exec_form.specs.Evaluated.{WideTrace, evaluated_in, paid}
 use Rattle.tx_exec_form.specs.Laws.{Agrees, Supports}
 use Rattle.tx_exec.specs.Outcomes.{wide_trace}
 use Rattle.tx_parts.specs.Composed.{alone, evaluates}
-use Rattle.tx_parts.specs.Parts.{Part, parts, part_trace, part_cost, Stored, stored}
+use Rattle.tx_parts.specs.Parts.{Part, parts, part_trace, Stored, stored}
 use Rattle.tx_parts.specs.Standing.{StandsIn}
 use Rattle.tx_walk.specs.declared.part.Part.{Part as DonePart}
-use Rattle.tx_walk.specs.Held.{Store, Stores, IsSound, fits, only, charge_of, charges}
-use Rattle.tx_walk.specs.Walked.{IsTidy, kept_in, paths_of, Seen, seen, seen_in, seen_parts}
+use Rattle.tx_walk.specs.Held.{Store, Stores, IsSound, charges}
+use Rattle.tx_walk.specs.Walked.{IsTidy, kept_in, stores_in, paths_of, Seen, seen, seen_in, seen_parts}
 use Rattle.tx_units.specs.declared.kinds.Unit.{Unit as DocUnit}
 use Rattle.tx_view_form.specs.declared.TheConstants.{MOST_UNIT_STEPS}
 use Rattle.tx_view_form.specs.Outcomes.{Moment, allowance, outcome, charge, behind}
 use Rattle.tx_bridge.specs.Entries.{outcome_of}
 use Rattle.tx_bridge.specs.PartsKept.{KeptParts, kept_at, has_parts, unit_parts, parts_if_done, fresh_parts}
-use Rattle.tx_bridge.specs.PartsKept.{unit_charge}
+use Rattle.tx_bridge.specs.Reached.{fits}
+use Rattle.tx_bridge.specs.Spares.{UnitSpare, stores_with, unit_charge_with}
 use Rattle.tx_bridge.specs.HeldParts.{HoldsPart, PartsHold, kept_part, kept_parts}
 use Rattle.tx_bridge.specs.UnitLists.{IsPlaced}
 use Rattle.tx_walk.proofs.Kept.{Alike, alike}
@@ -73,18 +74,14 @@ pub same_store : (ps : List DonePart) (path : List ℕ) → kept_in ps path ≡ 
 same_store [] path = refl
 same_store (p ∷ ps) path = ap (λ r. if bytes_eq p.path path then Some (wide_trace p.trace) else r) (same_store ps path)
 
-charges_alike : (s r : Store) → ((path : List ℕ) → s path ≡ r path) → (ps : List Part)
-    → charges (only s) ps ≡ charges (only r) ps
-charges_alike s r h [] = refl
-charges_alike s r h (p ∷ ps) =
-    sum_by-cons (charge_of (only s)) p ps
-    ∙ ap (λ o. (if fits p.before o || false then 0 else part_cost p) + charges (only s) ps) (h p.path)
-    ∙ ap (λ n. charge_of (only r) p + n) (charges_alike s r h ps)
-    ∙ sym (sum_by-cons (charge_of (only r)) p ps)
+abbrev pub both_stores : Store → Store → Stores
+both_stores own spare = record { own = own; spare = spare }
 
-pub same_charges : (ks : List DonePart) (ps : List Part)
-    → charges (only (kept_in ks)) ps ≡ charges (only (kept_at (kept_parts ks))) ps
-same_charges ks ps = charges_alike (kept_in ks) (kept_at (kept_parts ks)) (same_store ks) ps
+pub same_charges : (ks qs : List DonePart) (ps : List Part)
+    → charges (stores_in ks qs) ps ≡ charges (stores_with (kept_parts ks) (kept_parts qs)) ps
+same_charges ks qs ps =
+    ap (λ s. charges (both_stores s (kept_in qs)) ps) (fun_ext (same_store ks))
+    ∙ ap (λ s. charges (both_stores (kept_at (kept_parts ks)) s) ps) (fun_ext (same_store qs))
 
 -- ---- what it answers
 
@@ -143,7 +140,7 @@ abbrev AllApart : Type 0
 AllApart = (kept : Stores) (k c : ℕ) (t : WideTree) (e : Before) (done : List DonePart)
     → map seen done ≡ map (seen_in kept) (parts k c [] t e) → IsDistinct bytes_eq (paths_of done)
 
-abbrev AllSameStored : Type 0
+abbrev pub AllSameStored : Type 0
 AllSameStored = (k c n : ℕ) (path : List ℕ) (t : WideTree) (e d : Before) (trace : WideTrace)
     → evaluates k c t e ≡ Some trace → Agrees d trace.looks → trace.cost ≤ n
     → map stored (parts k n path t d) ≡ map stored (parts k c path t e)
@@ -211,12 +208,10 @@ module _ (u : DocUnit) (m : Moment) (env : NameMap) (left a : ℕ)
       ∙ ap (λ r. parts_if_done r (unit_parts m u)) is
       ∙ sym (ap (λ b. if b then parts_if_done (outcome_of m u) (unit_parts m u) else []) nested)
 
-  pub charge_there : (ks : List DonePart) → has_parts u ≡ true
-      → charges (only (kept_in ks)) (parts MOST_LEVELS a [] u.tagged.tree (get env)) ≡ unit_charge m u (kept_parts ks)
-  charge_there ks nested =
-      ap (charges (only (kept_in ks))) parts_there ∙ same_charges ks (unit_parts m u)
-      ∙ sym (ap (λ b. if b then charges (only (kept_at (kept_parts ks))) (unit_parts m u)
-      else charge m (outcome_of m u)) nested)
+  pub charge_there : (ks qs : List DonePart)
+      → charges (stores_in ks qs) (parts MOST_LEVELS a [] u.tagged.tree (get env))
+      ≡ charges (stores_with (kept_parts ks) (kept_parts qs)) (unit_parts m u)
+  charge_there ks qs = ap (charges (stores_in ks qs)) parts_there ∙ same_charges ks qs (unit_parts m u)
 
 -- ---- no more than the unit costs
 
@@ -225,32 +220,40 @@ abbrev pub AllCharged : Type 0
 AllCharged = (kept : Stores) (k c : ℕ) (path : List ℕ) (t : WideTree) (e : Before)
     → charges kept (parts k c path t e) ≤ paid c (evaluates k c t e)
 
-charge_most : AllCharged → (m : Moment) (u : DocUnit) (ks : KeptParts) → IsPlaced u
-    → unit_charge m u ks ≤ charge m (outcome_of m u)
+charge_most : AllCharged → (m : Moment) (u : DocUnit) (ks : KeptParts) (s : UnitSpare) → IsPlaced u
+    → unit_charge_with m u ks s ≤ charge m (outcome_of m u)
 unfolding outcome
-charge_most law m u ks placed = by (has_parts u) refl
+charge_most law m u ks s placed = by (has_parts u) refl
   where
-    by : (b : Bool) → has_parts u ≡ b → unit_charge m u ks ≤ charge m (outcome_of m u)
+    unused : (b : Bool) (n : ℕ) → (if b then 0 else n) ≤ n
+    unused true n = omega arith
+    unused false n = omega arith
+
+    by : (b : Bool) → has_parts u ≡ b → unit_charge_with m u ks s ≤ charge m (outcome_of m u)
     by true nested =
-        let is : unit_charge m u ks ≡ charges (only (kept_at ks)) (unit_parts m u) =
-        ap (λ b. if b then charges (only (kept_at ks)) (unit_parts m u) else charge m (outcome_of m u)) nested in
-        let most : charges (only (kept_at ks)) (unit_parts m u)
+        let is : unit_charge_with m u ks s ≡ charges (stores_with ks s.parts) (unit_parts m u) =
+        ap (λ b. if b then charges (stores_with ks s.parts) (unit_parts m u)
+        else if fits m s.trace then 0 else charge m (outcome_of m u)) nested in
+        let most : charges (stores_with ks s.parts) (unit_parts m u)
         ≤ paid (allowance m) (evaluates MOST_LEVELS (allowance m) u.tagged.tree (get m.env)) =
-        law (only (kept_at ks)) MOST_LEVELS (allowance m) [] u.tagged.tree (get m.env) in
+        law (stores_with ks s.parts) MOST_LEVELS (allowance m) [] u.tagged.tree (get m.env) in
         let same : paid (allowance m) (evaluates MOST_LEVELS (allowance m) u.tagged.tree (get m.env))
         ≡ charge m (outcome_of m u) =
         ap (λ t. paid (allowance m) (evaluated_in MOST_LEVELS (allowance m) t (get m.env)))
         (sym (is_alone u placed nested)) in
         omega (arith, is, most, same)
     by false other =
-        let is : unit_charge m u ks ≡ charge m (outcome_of m u) =
-        ap (λ b. if b then charges (only (kept_at ks)) (unit_parts m u) else charge m (outcome_of m u)) other in
-        omega (arith, is)
+        let is : unit_charge_with m u ks s ≡ (if fits m s.trace then 0 else charge m (outcome_of m u)) =
+        ap (λ b. if b then charges (stores_with ks s.parts) (unit_parts m u)
+        else if fits m s.trace then 0 else charge m (outcome_of m u)) other in
+        let most : (if fits m s.trace then 0 else charge m (outcome_of m u)) ≤ charge m (outcome_of m u) =
+        unused (fits m s.trace) (charge m (outcome_of m u)) in
+        omega (arith, is, most)
 
-pub spent_most : AllCharged → AllAllowed → (m after : Moment) (u : DocUnit) (ks : KeptParts) (n : ℕ) → IsPlaced u
-    → n ≡ unit_charge m u ks → after ≡ behind m (outcome_of m u) → n + after.left ≤ m.left
-spent_most law allowed m after u ks n placed is at =
-    let most : unit_charge m u ks ≤ charge m (outcome_of m u) = charge_most law m u ks placed in
+pub spent_most : AllCharged → AllAllowed → (m after : Moment) (u : DocUnit) (ks : KeptParts) (s : UnitSpare) (n : ℕ)
+    → IsPlaced u → n ≡ unit_charge_with m u ks s → after ≡ behind m (outcome_of m u) → n + after.left ≤ m.left
+spent_most law allowed m after u ks s n placed is at =
+    let most : unit_charge_with m u ks s ≤ charge m (outcome_of m u) = charge_most law m u ks s placed in
     let enough : charge m (outcome_of m u) ≤ m.left =
     charge_fits allowed m (outcome_of m u) (tagged_of u.tagged) refl in
     let left : after.left ≡ m.left - charge m (outcome_of m u) = ap (λ (k : Moment). k.left) at in

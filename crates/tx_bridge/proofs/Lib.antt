@@ -36,3 +36,6 @@ pub mod Losing
 pub mod Aside
 pub mod Outside
 pub mod Aligned
+pub mod Lending
+pub mod Spared
+pub mod Refreshed

@@ -12,8 +12,8 @@ use Rattle.tx_exec.specs.Outcomes.{wide_trace, wide_outcome}
 use Rattle.tx_parts.specs.Composed.{alone}
 use Rattle.tx_parts.specs.Parts.{Part, part_trace, Stored, stored}
 use Rattle.tx_walk.specs.declared.part.Part.{Part as DonePart}
-use Rattle.tx_walk.specs.Held.{Store, Stores, fits as part_fits, serves, only}
-use Rattle.tx_walk.specs.Walked.{kept_in, paths_of, Seen, seen, seen_in, seen_parts}
+use Rattle.tx_walk.specs.Held.{Store, Stores, fits as part_fits, serves}
+use Rattle.tx_walk.specs.Walked.{stores_in, paths_of, Seen, seen, seen_in, seen_parts}
 use Rattle.tx_walk.proofs.Agreed.{agrees_of}
 use Rattle.tx_walk.proofs.Found.{if_true, if_false}
 use Rattle.tx_units.specs.declared.kinds.Unit.{Unit as DocUnit}
@@ -135,11 +135,11 @@ done_flags kept ps None = refl
 done_flags kept ps (Some trace) = flags_seen_in kept ps
 
 -- those of the unit's parts, of which these were kept
-pub walked_flags : (m : Moment) (u : DocUnit) (ks ds : List DonePart) (ps : List Part) (o : Option WideTrace)
-    → has_parts u ≡ true → ps ≡ unit_parts m u → o ≡ outcome_of m u → map seen ds ≡ seen_parts (only (kept_in ks)) ps o
+pub walked_flags : (m : Moment) (u : DocUnit) (ks qs ds : List DonePart) (ps : List Part) (o : Option WideTrace)
+    → has_parts u ≡ true → ps ≡ unit_parts m u → o ≡ outcome_of m u → map seen ds ≡ seen_parts (stores_in ks qs) ps o
     → flags_of_parts ds ≡ part_flags m u (kept_parts ks)
-walked_flags m u ks ds ps o nested are is h =
-    sym (flags_of_seen ds) ∙ ap (map (λ (s : Seen). s.renewed)) h ∙ done_flags (only (kept_in ks)) ps o
+walked_flags m u ks qs ds ps o nested are is h =
+    sym (flags_of_seen ds) ∙ ap (map (λ (s : Seen). s.renewed)) h ∙ done_flags (stores_in ks qs) ps o
     ∙ ap (λ (store : Store). flags_if_done o store ps) (fun_ext (same_store ks))
     ∙ ap (flags_if_done o (kept_at (kept_parts ks))) are
     ∙ ap (λ r. flags_if_done r (kept_at (kept_parts ks)) (unit_parts m u)) is

@@ -8,18 +8,17 @@ use Rattle.std.proofs.lemmas.Option.{same_Some}
 use Rattle.std.proofs.lemmas.Grind.{common_steps}
 use Rattle.std.specs.List.{All}
 use Rattle.std.specs.Prelude.{Bool, true, false, not, Option, Some, Result, Ok, Err, OnErr, slice_get}
-use Rattle.std.specs.FinMap.{empty}
 use Rattle.tx_env.specs.Environments.{NameMap}
 use Rattle.tx_exec_form.specs.Evaluated.{WideTrace}
 use Rattle.tx_exec.specs.Outcomes.{wide_outcome}
 use Rattle.tx_view_form.specs.declared.TheConstants.{MOST_VIEW_STEPS}
-use Rattle.tx_view_form.specs.Outcomes.{Moment, beginning, behind, env_behind}
+use Rattle.tx_view_form.specs.Outcomes.{Moment, behind, env_behind}
 use Rattle.tx_units.specs.declared.kinds.Unit.{Unit as DocUnit}
 use Rattle.tx_bridge.specs.declared.bridge.Bridge.{Bridge}
 use Rattle.tx_bridge.specs.Entries.{Entry, units_of, fresh_from, outcome_of}
 use Rattle.tx_bridge.specs.Reached.{fits, reached_from}
 use Rattle.tx_bridge.specs.PartsKept.{KeptParts, fresh_parts, fresh_parts_from, part_flags, part_flags_from}
-use Rattle.tx_bridge.specs.PartsKept.{charge_of, charges_from}
+use Rattle.tx_bridge.specs.Spares.{Spares, first_spare, charge_with, charges_with}
 use Rattle.tx_bridge.specs.HeldParts.{kept_parts, flags_of_parts}
 use Rattle.tx_bridge.specs.Settled.{AgreesWith, AreSettled}
 use Rattle.tx_bridge.specs.Sound.{IsSound, entry_of, entries_of, parts_in, part_flags_in, flags_of, sources_in}
@@ -37,40 +36,41 @@ abbrev pub SameParts : List Bridge → List Bridge → Type 0
 SameParts old now = (k : ℕ) → slice_get (flags_of now) k ≡ Some false
     → slice_get (parts_in now) k ≡ slice_get (parts_in old) k
 
--- Behind i units, at the moment m, with these charges. What is done, and what is left from here, are all. Where the
--- flag is set, what is left settles from what names have.
-pub record Partway (old now : List Bridge) (i : ℕ) (m : Moment) (flag : Bool) (before after spent : ℕ) : Type 0 where
+-- Behind i units, at the moment m, with these charges, of a refresh from the moment `start` with these spares. What is
+-- done, and what is left from here, are all. Where the flag is set, what is left settles from what names have.
+pub record Partway (old now : List Bridge) (spares : Spares) (start : Moment) (i : ℕ) (m : Moment) (flag : Bool)
+    (before after spent : ℕ) : Type 0 where
   pub paid : after ≡ before + spent
   pub room : spent + m.left ≤ MOST_VIEW_STEPS
   pub settled : flag ≡ true → AreSettled m.env (entries_of (drop i old))
-  pub fresh : entries_of (take i now) ++ fresh_from m (units_in (drop i old)) ≡ fresh_from beginning (units_in old)
+  pub fresh : entries_of (take i now) ++ fresh_from m (units_in (drop i old)) ≡ fresh_from start (units_in old)
   pub parts : parts_in (take i now) ++ fresh_parts_from m (units_in (drop i old))
-      ≡ fresh_parts_from beginning (units_in old)
+      ≡ fresh_parts_from start (units_in old)
   pub marks : part_flags_in (take i now) ++ part_flags_from m (entries_of (drop i old)) (parts_in (drop i old))
-      ≡ part_flags_from beginning (entries_of old) (parts_in old)
+      ≡ part_flags_from start (entries_of old) (parts_in old)
   pub rest : drop i now ≡ drop i old
-  pub flags : flags_of (take i now) ++ reached_from m (entries_of (drop i old))
-      ≡ reached_from beginning (entries_of old)
-  pub steps : after + charges_from m (entries_of (drop i old)) (parts_in (drop i old))
-      ≡ before + charges_from beginning (entries_of old) (parts_in old)
+  pub flags : flags_of (take i now) ++ reached_from m (entries_of (drop i old)) ≡ reached_from start (entries_of old)
+  pub steps : after + charges_with m (entries_of (drop i old)) (parts_in (drop i old)) (drop i spares)
+      ≡ before + charges_with start (entries_of old) (parts_in old) spares
   pub sound : All IsSound now
   pub units : units_in now ≡ units_in old
   pub sources : sources_in now ≡ sources_in old
   pub stays : Stays old now
   pub same : SameParts old now
 
-pub begun : (old : List Bridge) (m : Moment) (flag : Bool) (before : ℕ) → All IsSound old
-    → (flag ≡ true → AreSettled empty (entries_of old)) → m ≡ beginning → Partway old old 0 m flag before before 0
-begun old m flag before sound settled start = record {
+pub begun : (old : List Bridge) (spares : Spares) (start : Moment) (flag : Bool) (before : ℕ) → All IsSound old
+    → (flag ≡ true → AreSettled start.env (entries_of old)) → start.left ≤ MOST_VIEW_STEPS
+    → Partway old old spares start 0 start flag before before 0
+begun old spares start flag before sound settled left = record {
   paid = omega arith;
-  room = let left : m.left ≡ MOST_VIEW_STEPS = ap (λ (n : Moment). n.left) start in omega (arith, left);
-  settled = λ e. subst (λ (n : Moment). AreSettled n.env (entries_of old)) (sym start) (settled e);
-  fresh = ap (λ n. fresh_from n (units_in old)) start;
-  parts = ap (λ n. fresh_parts_from n (units_in old)) start;
-  marks = ap (λ n. part_flags_from n (entries_of old) (parts_in old)) start;
+  room = omega (arith, left);
+  settled = settled;
+  fresh = refl;
+  parts = refl;
+  marks = refl;
   rest = refl;
-  flags = ap (λ n. reached_from n (entries_of old)) start;
-  steps = ap (λ n. before + charges_from n (entries_of old) (parts_in old)) start;
+  flags = refl;
+  steps = refl;
   sound = sound;
   units = refl;
   sources = refl;
@@ -128,8 +128,9 @@ parts_of b = kept_parts b.parts
 brought_entry : (b y : Bridge) (m : Moment) → IsBrought b y m → entry_of y ≡ entry_with b.unit (outcome_of m b.unit)
 brought_entry b y m h = entry_is y.unit b.unit (wide_outcome y.kept) (outcome_of m b.unit) h.unit h.fresh
 
-module _ (old now : List Bridge) (i : ℕ) (m : Moment) (flag : Bool) (before after spent : ℕ)
-    (p : Partway old now i m flag before after spent) (inside : i < length now) (d : Bridge) where
+module _ (old now : List Bridge) (spares : Spares) (start : Moment) (i : ℕ) (m : Moment) (flag : Bool)
+    (before after spent : ℕ) (p : Partway old now spares start i m flag before after spent)
+    (inside : i < length now) (d : Bridge) where
   b : Bridge
   b = slice_index_or now i d
 
@@ -142,6 +143,10 @@ module _ (old now : List Bridge) (i : ℕ) (m : Moment) (flag : Bool) (before af
 
   ahead : drop i old ≡ b ∷ drop (i + 1) old
   ahead = sym p.rest ∙ here ∙ ap (λ bs. b ∷ bs) (sym others)
+
+  pub next_is : drop i old ≡ slice_index_or now i d ∷ drop (i + 1) old
+  unfolding b
+  next_is = ahead
 
   settled_here : flag ≡ true → AreSettled m.env (entry_of b ∷ entries_of (drop (i + 1) old))
   settled_here e = subst (λ bs. AreSettled m.env (entries_of bs)) ahead (p.settled e)
@@ -183,7 +188,7 @@ module _ (old now : List Bridge) (i : ℕ) (m : Moment) (flag : Bool) (before af
   pub front_next : (y : Bridge) → IsBrought (slice_index_or now i d) y m
       → entries_of (take (i + 1) (slice_set now i y))
       ++ fresh_from (behind m (outcome_of m (slice_index_or now i d).unit)) (units_in (drop (i + 1) old))
-      ≡ fresh_from beginning (units_in old)
+      ≡ fresh_from start (units_in old)
   unfolding b
   front_next y brought =
       ap (λ bs. entries_of bs ++ fresh_from (behind m (outcome_of m b.unit)) (units_in (drop (i + 1) old)))
@@ -201,7 +206,7 @@ module _ (old now : List Bridge) (i : ℕ) (m : Moment) (flag : Bool) (before af
   pub parts_next : (y : Bridge) → IsBrought (slice_index_or now i d) y m
       → parts_in (take (i + 1) (slice_set now i y))
       ++ fresh_parts_from (behind m (outcome_of m (slice_index_or now i d).unit)) (units_in (drop (i + 1) old))
-      ≡ fresh_parts_from beginning (units_in old)
+      ≡ fresh_parts_from start (units_in old)
   unfolding b
   parts_next y brought =
       ap (λ bs. parts_in bs ++ fresh_parts_from (behind m (outcome_of m b.unit)) (units_in (drop (i + 1) old)))
@@ -221,7 +226,7 @@ module _ (old now : List Bridge) (i : ℕ) (m : Moment) (flag : Bool) (before af
       → part_flags_in (take (i + 1) (slice_set now i y))
       ++ part_flags_from (behind m (outcome_of m (slice_index_or now i d).unit)) (entries_of (drop (i + 1) old))
       (parts_in (drop (i + 1) old))
-      ≡ part_flags_from beginning (entries_of old) (parts_in old)
+      ≡ part_flags_from start (entries_of old) (parts_in old)
   unfolding b
   marks_next y mark =
       let rest : List (List Bool) =
@@ -241,7 +246,8 @@ module _ (old now : List Bridge) (i : ℕ) (m : Moment) (flag : Bool) (before af
       ≡ part_flags m (slice_index_or now i d).unit (kept_parts (slice_index_or now i d).parts)
       → y.renewed ≡ not (fits m (wide_outcome (slice_index_or now i d).kept))
       → m1 ≡ behind m (outcome_of m (slice_index_or now i d).unit)
-      → charge ≡ charge_of m (entry_of (slice_index_or now i d)) (kept_parts (slice_index_or now i d).parts)
+      → charge ≡ charge_with m (entry_of (slice_index_or now i d)) (kept_parts (slice_index_or now i d).parts)
+      (first_spare (drop i spares))
       → after1 ≡ after + charge → charge + m1.left ≤ m.left
       → IsSound y
       → (y.renewed ≡ false → wide_outcome y.kept ≡ wide_outcome (slice_index_or now i d).kept)
@@ -249,7 +255,7 @@ module _ (old now : List Bridge) (i : ℕ) (m : Moment) (flag : Bool) (before af
       → y.source ≡ (slice_index_or now i d).source
       → (flag1 ≡ true
       → (flag ≡ true) × (m1.env ≡ env_behind m.env (wide_outcome (slice_index_or now i d).kept)))
-      → Partway old (slice_set now i y) (i + 1) m1 flag1 before after1 (spent + charge)
+      → Partway old (slice_set now i y) spares start (i + 1) m1 flag1 before after1 (spent + charge)
   unfolding b
   next y m1 flag1 after1 charge brought mark is_r is_m is_charge is_after most sound kept same source goes =
       record {
@@ -282,15 +288,17 @@ module _ (old now : List Bridge) (i : ℕ) (m : Moment) (flag : Bool) (before af
             ∙ p.flags;
         steps =
             let rest : List Bridge = drop (i + 1) old in
-            let more : charges_from m (entries_of (drop i old)) (parts_in (drop i old))
-            ≡ charge_of m (entry_of b) (kept_parts b.parts)
-            + charges_from (behind m (outcome_of m b.unit)) (entries_of rest) (parts_in rest) =
-            ap (λ bs. charges_from m (entries_of bs) (parts_in bs)) ahead in
-            let moved : charges_from m1 (entries_of rest) (parts_in rest)
-            ≡ charges_from (behind m (outcome_of m b.unit)) (entries_of rest) (parts_in rest) =
-            ap (λ n. charges_from n (entries_of rest) (parts_in rest)) is_m in
-            let was : after + charges_from m (entries_of (drop i old)) (parts_in (drop i old))
-            ≡ before + charges_from beginning (entries_of old) (parts_in old) = p.steps in
+            let more : charges_with m (entries_of (drop i old)) (parts_in (drop i old)) (drop i spares)
+            ≡ charge_with m (entry_of b) (kept_parts b.parts) (first_spare (drop i spares))
+            + charges_with (behind m (outcome_of m b.unit)) (entries_of rest) (parts_in rest) (drop 1 (drop i spares)) =
+            ap (λ bs. charges_with m (entries_of bs) (parts_in bs) (drop i spares)) ahead in
+            let moved : charges_with m1 (entries_of rest) (parts_in rest) (drop (i + 1) spares)
+            ≡ charges_with (behind m (outcome_of m b.unit)) (entries_of rest) (parts_in rest) (drop 1 (drop i spares)) =
+            ap (λ n. charges_with n (entries_of rest) (parts_in rest) (drop (i + 1) spares)) is_m
+            ∙ ap (charges_with (behind m (outcome_of m b.unit)) (entries_of rest) (parts_in rest))
+            (sym (drop-drop 1 i spares)) in
+            let was : after + charges_with m (entries_of (drop i old)) (parts_in (drop i old)) (drop i spares)
+            ≡ before + charges_with start (entries_of old) (parts_in old) spares = p.steps in
             omega (arith, more, moved, was, is_charge, is_after);
         sound = All-set IsSound now i y sound p.sound;
         units = units_next y brought.unit;
@@ -300,10 +308,10 @@ module _ (old now : List Bridge) (i : ℕ) (m : Moment) (flag : Bool) (before af
       }
 
 -- the first units are brought there, and the others as they were
-abbrev pub Stops : List Bridge → List Bridge → Type 0
-Stops old now =
-    (n : ℕ) × (entries_of now ≡ take n (fresh_from beginning (units_in old)) ++ drop n (entries_of old))
-    × (parts_in now ≡ take n (fresh_parts_from beginning (units_in old)) ++ drop n (parts_in old))
+abbrev pub Stops : Moment → List Bridge → List Bridge → Type 0
+Stops start old now =
+    (n : ℕ) × (entries_of now ≡ take n (fresh_from start (units_in old)) ++ drop n (entries_of old))
+    × (parts_in now ≡ take n (fresh_parts_from start (units_in old)) ++ drop n (parts_in old))
 
 map_take : (n : ℕ) (bs : List Bridge) → length (entries_of (take n bs)) ≡ length (take n bs)
 map_take n bs = length-map (take n bs) entry_of
@@ -314,30 +322,30 @@ drop_entries (suc n) [] = refl
 drop_entries (suc n) (b ∷ bs) = drop_entries n bs
 
 -- stopped behind i units
-stopped : (old now : List Bridge) (i : ℕ) (m : Moment)
-    → entries_of (take i now) ++ fresh_from m (units_in (drop i old)) ≡ fresh_from beginning (units_in old)
+stopped : (start : Moment) (old now : List Bridge) (i : ℕ) (m : Moment)
+    → entries_of (take i now) ++ fresh_from m (units_in (drop i old)) ≡ fresh_from start (units_in old)
     → drop i now ≡ drop i old → i ≤ length now
-    → entries_of now ≡ take i (fresh_from beginning (units_in old)) ++ drop i (entries_of old)
-stopped old now i m fresh rest inside =
+    → entries_of now ≡ take i (fresh_from start (units_in old)) ++ drop i (entries_of old)
+stopped start old now i m fresh rest inside =
     let many : length (take i now) ≡ i = grind (arith, common_steps, inside) in
     ap entries_of (sym (take-append-drop i now))
     ∙ map-append entry_of (take i now) (drop i now)
     ∙ ap (λ es. es ++ entries_of (drop i now))
     (sym (take_at (entries_of (take i now)) (fresh_from m (units_in (drop i old))) i (map_take i now ∙ many))
     ∙ ap (take i) fresh)
-    ∙ ap (λ bs. take i (fresh_from beginning (units_in old)) ++ entries_of bs) rest
-    ∙ ap (λ es. take i (fresh_from beginning (units_in old)) ++ es) (drop_entries i old)
+    ∙ ap (λ bs. take i (fresh_from start (units_in old)) ++ entries_of bs) rest
+    ∙ ap (λ es. take i (fresh_from start (units_in old)) ++ es) (drop_entries i old)
 
 drop_parts : (n : ℕ) (bs : List Bridge) → parts_in (drop n bs) ≡ drop n (parts_in bs)
 drop_parts zero bs = refl
 drop_parts (suc n) [] = refl
 drop_parts (suc n) (b ∷ bs) = drop_parts n bs
 
-parts_stopped : (old now : List Bridge) (i : ℕ) (m : Moment)
-    → parts_in (take i now) ++ fresh_parts_from m (units_in (drop i old)) ≡ fresh_parts_from beginning (units_in old)
+parts_stopped : (start : Moment) (old now : List Bridge) (i : ℕ) (m : Moment)
+    → parts_in (take i now) ++ fresh_parts_from m (units_in (drop i old)) ≡ fresh_parts_from start (units_in old)
     → drop i now ≡ drop i old → i ≤ length now
-    → parts_in now ≡ take i (fresh_parts_from beginning (units_in old)) ++ drop i (parts_in old)
-parts_stopped old now i m fresh rest inside =
+    → parts_in now ≡ take i (fresh_parts_from start (units_in old)) ++ drop i (parts_in old)
+parts_stopped start old now i m fresh rest inside =
     let many : length (take i now) ≡ i = grind (arith, common_steps, inside) in
     let one : Bridge → KeptParts = λ w. kept_parts w.parts in
     ap parts_in (sym (take-append-drop i now))
@@ -346,48 +354,50 @@ parts_stopped old now i m fresh rest inside =
     (sym (take_at (parts_in (take i now)) (fresh_parts_from m (units_in (drop i old))) i
     (length-map (take i now) one ∙ many))
     ∙ ap (take i) fresh)
-    ∙ ap (λ bs. take i (fresh_parts_from beginning (units_in old)) ++ parts_in bs) rest
-    ∙ ap (λ ks. take i (fresh_parts_from beginning (units_in old)) ++ ks) (drop_parts i old)
+    ∙ ap (λ bs. take i (fresh_parts_from start (units_in old)) ++ parts_in bs) rest
+    ∙ ap (λ ks. take i (fresh_parts_from start (units_in old)) ++ ks) (drop_parts i old)
 
 -- the refresh of unit i failed, before or behind its evaluation
-pub stops : (old now : List Bridge) (i : ℕ) (m : Moment) (flag : Bool) (before after spent : ℕ)
-    → Partway old now i m flag before after spent → i < length now → (d y : Bridge)
-    → y.unit ≡ (slice_index_or now i d).unit
+pub stops : (old now : List Bridge) (spares : Spares) (start : Moment) (i : ℕ) (m : Moment) (flag : Bool)
+    (before after spent : ℕ) → Partway old now spares start i m flag before after spent → i < length now
+    → (d y : Bridge) → y.unit ≡ (slice_index_or now i d).unit
     → (y ≡ slice_index_or now i d) ⊎ (wide_outcome y.kept ≡ outcome_of m (slice_index_or now i d).unit)
     × (kept_parts y.parts ≡ fresh_parts m (slice_index_or now i d).unit)
-    → Stops old (slice_set now i y)
-stops old now i m flag before after spent p inside d y unit (inl same) = (
+    → Stops start old (slice_set now i y)
+stops old now spares start i m flag before after spent p inside d y unit (inl same) = (
   i,
-  ap entries_of (ap (slice_set now i) same ∙ set-get_or now i d) ∙ stopped old now i m p.fresh p.rest (omega arith),
-  ap parts_in (ap (slice_set now i) same ∙ set-get_or now i d) ∙ parts_stopped old now i m p.parts p.rest (omega arith),
+  ap entries_of (ap (slice_set now i) same ∙ set-get_or now i d)
+      ∙ stopped start old now i m p.fresh p.rest (omega arith),
+  ap parts_in (ap (slice_set now i) same ∙ set-get_or now i d)
+      ∙ parts_stopped start old now i m p.parts p.rest (omega arith),
 )
-stops old now i m flag before after spent p inside d y unit (inr fresh) =
+stops old now spares start i m flag before after spent p inside d y unit (inr fresh) =
     let many : i + 1 ≤ length (slice_set now i y) = grind (arith, common_steps, inside) in (
       i + 1,
-      stopped old (slice_set now i y) (i + 1) (behind m (outcome_of m (slice_index_or now i d).unit))
-          (front_next old now i m flag before after spent p inside d y
+      stopped start old (slice_set now i y) (i + 1) (behind m (outcome_of m (slice_index_or now i d).unit))
+          (front_next old now spares start i m flag before after spent p inside d y
           (record { unit = unit; fresh = fresh.0; parts = fresh.1 }))
-          (rest_next old now i m flag before after spent p inside d y) many,
-      parts_stopped old (slice_set now i y) (i + 1) (behind m (outcome_of m (slice_index_or now i d).unit))
-          (parts_next old now i m flag before after spent p inside d y
+          (rest_next old now spares start i m flag before after spent p inside d y) many,
+      parts_stopped start old (slice_set now i y) (i + 1) (behind m (outcome_of m (slice_index_or now i d).unit))
+          (parts_next old now spares start i m flag before after spent p inside d y
           (record { unit = unit; fresh = fresh.0; parts = fresh.1 }))
-          (rest_next old now i m flag before after spent p inside d y) many,
+          (rest_next old now spares start i m flag before after spent p inside d y) many,
     )
 
 -- all units are behind
-pub ended : (old now : List Bridge) (i : ℕ) (m : Moment) (flag : Bool) (before after spent : ℕ)
-    → Partway old now i m flag before after spent → length now ≤ i
-    → (entries_of now ≡ fresh_from beginning (units_in old)) × (flags_of now ≡ reached_from beginning (entries_of old))
-    × (spent ≡ charges_from beginning (entries_of old) (parts_in old))
-    × (parts_in now ≡ fresh_parts_from beginning (units_in old))
-    × (part_flags_in now ≡ part_flags_from beginning (entries_of old) (parts_in old))
-ended old now i m flag before after spent p past =
+pub ended : (old now : List Bridge) (spares : Spares) (start : Moment) (i : ℕ) (m : Moment) (flag : Bool)
+    (before after spent : ℕ) → Partway old now spares start i m flag before after spent → length now ≤ i
+    → (entries_of now ≡ fresh_from start (units_in old)) × (flags_of now ≡ reached_from start (entries_of old))
+    × (spent ≡ charges_with start (entries_of old) (parts_in old) spares)
+    × (parts_in now ≡ fresh_parts_from start (units_in old))
+    × (part_flags_in now ≡ part_flags_from start (entries_of old) (parts_in old))
+ended old now spares start i m flag before after spent p past =
     let whole : take i now ≡ now = grind (arith, common_steps, past) in
     let none : drop i old ≡ [] = sym p.rest ∙ drop_all i now past in
-    let left : charges_from m (entries_of (drop i old)) (parts_in (drop i old)) ≡ 0 =
-    ap (λ bs. charges_from m (entries_of bs) (parts_in bs)) none in
-    let sum : after + charges_from m (entries_of (drop i old)) (parts_in (drop i old))
-    ≡ before + charges_from beginning (entries_of old) (parts_in old) = p.steps in
+    let left : charges_with m (entries_of (drop i old)) (parts_in (drop i old)) (drop i spares) ≡ 0 =
+    ap (λ bs. charges_with m (entries_of bs) (parts_in bs) (drop i spares)) none in
+    let sum : after + charges_with m (entries_of (drop i old)) (parts_in (drop i old)) (drop i spares)
+    ≡ before + charges_with start (entries_of old) (parts_in old) spares = p.steps in
     let paid : after ≡ before + spent = p.paid in (
       sym (append-nil (entries_of now)) ∙ ap (λ bs. entries_of bs ++ []) (sym whole)
           ∙ ap (λ bs. entries_of (take i now) ++ fresh_from m (units_in bs)) (sym none) ∙ p.fresh,

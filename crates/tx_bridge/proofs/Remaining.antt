@@ -22,7 +22,7 @@ use Rattle.tx_walk.specs.Held.{IsSound as ServesTree, fits, serves}
 use Rattle.tx_walk.specs.Walked.{kept_in}
 use Rattle.tx_walk.proofs.Agreed.{agrees_is}
 use Rattle.tx_units.specs.declared.kinds.Unit.{Unit as DocUnit}
-use Rattle.tx_view_form.specs.Outcomes.{Moment, beginning, allowance, behind}
+use Rattle.tx_view_form.specs.Outcomes.{Moment, allowance, behind}
 use Rattle.tx_bridge.specs.declared.bridge.Bridge.{Bridge}
 use Rattle.tx_bridge.specs.Entries.{units_of, outcome_of}
 use Rattle.tx_bridge.specs.PartsKept.{KeptParts, kept_at, has_parts, unit_parts, parts_if_done, fresh_parts}
@@ -128,13 +128,13 @@ module _ (over : AllOver) (stand : AllStandIn) (traced : AllTraced) where
   units_stay m (b ∷ bs) sound (suc i) k old new fs s is_old is_new is_fs at flag =
       units_stay (behind m (outcome_of m b.unit)) bs sound.1 i k old new fs s is_old is_new is_fs at flag
 
-  pub parts_stay : (bs items whole : List Bridge) (olds : List KeptParts) → All IsSound bs → parts_in bs ≡ olds
-      → parts_in items ≡ fresh_parts_from beginning (units_of (entries_of bs))
-      → part_flags_in items ≡ part_flags_from beginning (entries_of bs) (parts_in bs) → whole ≡ items
+  pub parts_stay : (m : Moment) (bs items whole : List Bridge) (olds : List KeptParts) → All IsSound bs
+      → parts_in bs ≡ olds → parts_in items ≡ fresh_parts_from m (units_of (entries_of bs))
+      → part_flags_in items ≡ part_flags_from m (entries_of bs) (parts_in bs) → whole ≡ items
       → PartsStay olds (parts_in whole) (part_flags_in whole)
-  parts_stay bs items whole olds sound had are marks is =
+  parts_stay m bs items whole olds sound had are marks is =
       subst (λ pss. PartsStay pss (parts_in whole) (part_flags_in whole)) had
       (subst (λ ws. PartsStay (parts_in bs) (parts_in ws) (part_flags_in ws)) (sym is)
       (subst (PartsStay (parts_in bs) (parts_in items)) (sym marks)
-      (subst (λ pss. PartsStay (parts_in bs) pss (part_flags_from beginning (entries_of bs) (parts_in bs))) (sym are)
-      (units_stay beginning bs (recursion_from_All IsSound bs sound)))))
+      (subst (λ pss. PartsStay (parts_in bs) pss (part_flags_from m (entries_of bs) (parts_in bs))) (sym are)
+      (units_stay m bs (recursion_from_All IsSound bs sound)))))

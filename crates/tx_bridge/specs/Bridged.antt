@@ -14,8 +14,9 @@ use Rattle.tx_bridge.specs.Entries.{Entry, Kept}
 use Rattle.tx_bridge.specs.PartsKept.{KeptParts}
 use Rattle.tx_bridge.specs.Strays.{Stray}
 
--- What is kept of the units, of their parts, and of strays, of each unit whether it was reached when the last refresh
--- began, and which unit it was before the last edit. Of each part there is a flag, which the last refresh left.
+-- What is kept of the units, of their parts, and of strays, and which unit each was before the last edit. Of each unit
+-- there is a flag, which says behind a refresh whether it was reached when that began, and one of each part. An edit may
+-- take flags off.
 pub record Bridged : Type 0 where
   pub kept : Kept
   pub parts : List KeptParts

@@ -17,4 +17,6 @@ pub mod Strays
 pub mod Courses
 pub mod UnitLists
 pub mod Bridged
+pub mod Spares
+pub mod Lent
 pub mod Names

@@ -1,12 +1,15 @@
--- What crates above cite by name. They don't open these definitions.
+-- What crates above cite by name. No contract above opens these definitions, and few proofs do.
 use Rattle.std.specs.Prelude.{◌≡◌, ℕ, Bool, List, [], length, map, Option}
 use Rattle.std.specs.List.{All}
 use Rattle.tx_tree.specs.WideTree.{WideTree}
+use Rattle.tx_env.specs.Pairs.{Name}
 use Rattle.tx_mod.specs.declared.mods.Mod.{Mod}
 use Rattle.tx_units.specs.declared.kinds.Unit.{Unit as DocUnit}
 use Rattle.tx_view_form.specs.Outcomes.{beginning}
+use Rattle.tx_bridge.specs.Moments.{beginning_with}
 use Rattle.tx_bridge.specs.Entries.{Kept, units_of, nothing_kept, fresh_from}
 use Rattle.tx_bridge.specs.PartsKept.{KeptParts, fresh_parts_from, part_flags_from, charges_from}
+use Rattle.tx_bridge.specs.Spares.{Spares, charges_with}
 use Rattle.tx_bridge.specs.declared.course.Course.{Course}
 use Rattle.tx_bridge.specs.Carrying.{carried, sources, mods_of, unit_places_after}
 use Rattle.tx_bridge.specs.CarryingParts.{parts_but}
@@ -37,6 +40,23 @@ PartFlags kept parts = part_flags_from beginning kept parts
 -- the charges of the units that are reached
 unfoldable pub Charge : Kept → List KeptParts → ℕ
 Charge kept parts = charges_from beginning kept parts
+
+-- ---- the same, where these names are set before the first unit
+
+unfoldable pub FreshFrom : List (Name × WideTree) → Kept → Kept
+FreshFrom start kept = fresh_from (beginning_with start) (units_of kept)
+
+unfoldable pub FreshPartsFrom : List (Name × WideTree) → Kept → List KeptParts
+FreshPartsFrom start kept = fresh_parts_from (beginning_with start) (units_of kept)
+
+unfoldable pub PartFlagsFrom : List (Name × WideTree) → Kept → List KeptParts → List (List Bool)
+PartFlagsFrom start kept parts = part_flags_from (beginning_with start) kept parts
+
+-- the charges, where so much is spare of the units
+unfoldable pub ChargeFrom : List (Name × WideTree) → Kept → List KeptParts → Spares → ℕ
+ChargeFrom start kept parts spares = charges_with (beginning_with start) kept parts spares
+
+-- ---- through an edit
 
 -- what stays of what is kept through the modifications of a buffer, by which its tree t changes
 unfoldable pub Carry : ℕ → List Mod → WideTree → Kept → List DocUnit → Kept
@@ -69,8 +89,6 @@ StraysBeside i us strays = strays_beside i us strays
 -- of the units afterwards, which one of those before each is
 unfoldable pub Sources : ℕ → List Mod → WideTree → List DocUnit → List DocUnit → List (Option ℕ)
 Sources buffer ms t us vs = sources (mods_of buffer ms) t us vs
-
--- ---- an edit
 
 -- Where the old units us stand afterwards, of whose parts this is kept, as it is of strays, and which of these have
 -- moved to the new ones vs, or stand in none of them.

@@ -1,4 +1,4 @@
--- Which units are evaluated anew.
+-- Of which units what is kept can't be used. Of the parts of such a paragraph some may be held all the same.
 use Rattle.std.specs.Prelude.{nat_le, Bool, false, not, ◌&&◌, List, [], ◌∷◌, Option, Some, None}
 use Rattle.std.specs.FinMap.{get}
 use Rattle.tx_exec_form.specs.Evaluated.{WideTrace}

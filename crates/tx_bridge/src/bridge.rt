@@ -1,10 +1,13 @@
 // A unit with what is kept of it.
 ghost use Rattle.std.specs.Prelude.{◌≡◌, ◌+◌, ◌≤◌, ◌⊎◌, [], None, Some, false, true, not, IfOk, OnOk, OnErr, IsTrue};
+ghost use Rattle.std.specs.Prelude.{MatchOption, IfSome, option_copied};
 ghost use Rattle.tx_exec.specs.Outcomes.{wide_outcome, NamesOnce};
 ghost use Rattle.tx_view_form.specs.Outcomes.{behind, env_behind};
 ghost use Rattle.tx_bridge.specs.Entries.{outcome_of};
 ghost use Rattle.tx_bridge.specs.Reached.{fits};
-ghost use Rattle.tx_bridge.specs.PartsKept.{has_parts, fresh_parts, part_flags, unit_charge, charge_of};
+ghost use Rattle.tx_bridge.specs.PartsKept.{has_parts, fresh_parts, part_flags};
+ghost use Rattle.tx_bridge.specs.Spares.{unit_charge_with, charge_with};
+ghost use Rattle.tx_bridge.specs.Lent.{spare_of, spare_parts, IsSpareOf, IsUsable};
 ghost use Rattle.tx_bridge.specs.HeldParts.{PartsHold, kept_parts, flags_of_parts, unmarked};
 ghost use Rattle.tx_bridge.specs.Settled.{AgreesWith, IsSilent};
 ghost use Rattle.tx_bridge.specs.Sound.{IsSound, entry_of, changed_bridge};
@@ -21,7 +24,7 @@ use tx_exec::Outcome;
 use tx_exec_form::trace_laws;
 use tx_tree::Tree;
 use tx_units::Unit;
-use tx_walk::{Part, charges_law};
+use tx_walk::{Part, charges_law, share_trace};
 
 // How it is known which unit each one was before the last edit.
 #[derive(Clone, Copy, Drop)]
@@ -41,6 +44,26 @@ pub(crate) struct Bridge {
     pub(crate) parts: UnitParts,
     pub(crate) renewed: bool,
     pub(crate) source: Option<usize>,
+}
+
+// The same outcome.
+fn share_outcome(alloc: Global, outcome: &Outcome) -> Result<Outcome, Memory>
+    ensures { IfOk result (λ o. o ≡ outcome.now) }
+{
+    match outcome {
+        Outcome::Over => Ok(Outcome::Over),
+        Outcome::Done(trace) => Ok(Outcome::Done(share_trace(alloc, trace)?)),
+    }
+}
+
+// What is spare of the unit's parts.
+fn lent_parts<'a>(spare: Option<&'a Bridge>) -> &'a [Part]
+    ensures { result.now ≡ spare_parts (option_copied spare.entry) }
+{
+    match spare {
+        None => &[],
+        Some(other) => other.parts.all(),
+    }
 }
 
 impl Bridge {
@@ -103,27 +126,49 @@ impl Bridge {
         }
     }
 
-    // What the unit comes to at the moment, which stays. A paragraph of the body is evaluated by its parts.
-    fn evaluated<L: Ledger>(
+    // What is spare of the unit, where that can be used at the moment.
+    fn usable<'a>(&self, moment: &Moment, spare: Option<&'a Bridge>) -> Option<&'a Outcome>
+        requires spare { IfSome (option_copied spare) (IsSpareOf self.now.unit) }
+        ensures { MatchOption result (fits moment.now (spare_of (option_copied spare.entry)).trace ≡ false)
+            (λ o. IsUsable moment.now self.now.unit (option_copied spare.entry) o.now) }
+    {
+        match spare {
+            None => None,
+            Some(other) => {
+                if fits(moment, &other.kept, false) {
+                    Some(&other.kept)
+                } else {
+                    None
+                }
+            }
+        }
+    }
+
+    // What the unit, which has no parts, comes to at the moment, which stays. What is spare of it is shared, where that
+    // can be used, and costs nothing.
+    fn evaluated_whole<L: Ledger>(
         &self,
         alloc: Global,
         moment: &mut Moment,
+        spare: Option<&Bridge>,
         steps: &mut Steps<L>,
     ) -> Result<Evaluated, Memory>
-        requires sound { IsSound self.now }
+        requires bare { has_parts self.now.unit ≡ false }
+        requires spare { IfSome (option_copied spare) (IsSpareOf self.now.unit) }
         ensures exact { IfOk result (λ e. wide_outcome e.outcome ≡ outcome_of moment.old self.now.unit) }
         ensures once { IfOk result (λ e. NamesOnce e.outcome) }
-        ensures parts { IfOk result (λ e. kept_parts e.parts ≡ fresh_parts moment.old self.now.unit) }
-        ensures flags { IfOk result (λ e. flags_of_parts e.parts
-            ≡ part_flags moment.old self.now.unit (kept_parts self.now.parts)) }
-        ensures hold { IfOk result (λ e. PartsHold self.now.unit (wide_outcome e.outcome) e.parts) }
-        ensures charge { IfOk result
-            (λ e. e.charge ≡ unit_charge moment.old self.now.unit (kept_parts self.now.parts)) }
+        ensures parts { IfOk result (λ e. e.parts ≡ []) }
+        ensures charge { IfOk result (λ e. e.charge ≡ unit_charge_with moment.old self.now.unit
+            (kept_parts self.now.parts) (spare_of (option_copied spare.entry))) }
         ensures counted { IfOk result (λ e. steps.new ≡ steps.old + e.charge) }
         ensures moment { moment.new ≡ moment.old }
     {
-        if has_parts(&self.unit) {
-            return moment.by_parts(alloc, &self.unit, self.parts.all(), steps);
+        if let Some(outcome) = self.usable(moment, spare) {
+            return Ok(Evaluated {
+                outcome: share_outcome(alloc, outcome)?,
+                parts: UnitParts::none(alloc),
+                charge: 0,
+            });
         }
         let outcome = moment.outcome(alloc, &self.unit.tagged, steps)?;
         let charge = moment.charge_of(&outcome);
@@ -134,14 +179,44 @@ impl Bridge {
         })
     }
 
+    // What the unit comes to at the moment, which stays. A paragraph of the body is evaluated by its parts.
+    fn evaluated<L: Ledger>(
+        &self,
+        alloc: Global,
+        moment: &mut Moment,
+        spare: Option<&Bridge>,
+        steps: &mut Steps<L>,
+    ) -> Result<Evaluated, Memory>
+        requires sound { IsSound self.now }
+        requires spare { IfSome (option_copied spare) (IsSpareOf self.now.unit) }
+        ensures exact { IfOk result (λ e. wide_outcome e.outcome ≡ outcome_of moment.old self.now.unit) }
+        ensures once { IfOk result (λ e. NamesOnce e.outcome) }
+        ensures parts { IfOk result (λ e. kept_parts e.parts ≡ fresh_parts moment.old self.now.unit) }
+        ensures flags { IfOk result (λ e. flags_of_parts e.parts
+            ≡ part_flags moment.old self.now.unit (kept_parts self.now.parts)) }
+        ensures hold { IfOk result (λ e. PartsHold self.now.unit (wide_outcome e.outcome) e.parts) }
+        ensures charge { IfOk result (λ e. e.charge ≡ unit_charge_with moment.old self.now.unit
+            (kept_parts self.now.parts) (spare_of (option_copied spare.entry))) }
+        ensures counted { IfOk result (λ e. steps.new ≡ steps.old + e.charge) }
+        ensures moment { moment.new ≡ moment.old }
+    {
+        if has_parts(&self.unit) {
+            let lent = lent_parts(spare);
+            return moment.by_parts(alloc, &self.unit, self.parts.all(), lent, steps);
+        }
+        self.evaluated_whole(alloc, moment, spare, steps)
+    }
+
     // Keeps what the unit comes to at the moment, which stays, and its parts. Answers the charge.
     fn renew<L: Ledger>(
         &mut self,
         alloc: Global,
         moment: &mut Moment,
+        spare: Option<&Bridge>,
         steps: &mut Steps<L>,
     ) -> Result<u64, Memory>
         requires sound { IsSound self.old }
+        requires spare { IfSome (option_copied spare) (IsSpareOf self.old.unit) }
         ensures unit { self.new.unit ≡ self.old.unit }
         ensures source { self.new.source ≡ self.old.source }
         ensures fresh { OnOk result (wide_outcome self.new.kept ≡ outcome_of moment.old self.old.unit) }
@@ -150,22 +225,23 @@ impl Bridge {
             ≡ part_flags moment.old self.old.unit (kept_parts self.old.parts)) }
         ensures renewed { OnOk result (self.new.renewed ≡ true) }
         ensures moment { moment.new ≡ moment.old }
-        ensures charge { IfOk result
-            (λ n. n ≡ unit_charge moment.old self.old.unit (kept_parts self.old.parts)) }
+        ensures charge { IfOk result (λ n. n ≡ unit_charge_with moment.old self.old.unit
+            (kept_parts self.old.parts) (spare_of (option_copied spare.entry))) }
         ensures counted { IfOk result (λ n. steps.new ≡ steps.old + n) }
         ensures sound { IsSound self.new }
         ensures err { OnErr result (self.new ≡ self.old) }
     {
         trace_laws();
-        let evaluated = self.evaluated(alloc, moment, steps)?;
+        let evaluated = self.evaluated(alloc, moment, spare, steps)?;
         self.kept = evaluated.outcome;
         self.parts = evaluated.parts;
         self.renewed = true;
         Ok(evaluated.charge)
     }
 
-    // Keeps what the unit comes to at the moment, and goes behind it. The unit is evaluated where what is kept can't be
-    // used. Where `settled`, the looks are known to agree with what names have.
+    // Keeps what the unit comes to at the moment, and goes behind it. Where what is kept can't be used, the unit is
+    // evaluated, unless what is spare of it can be used. Where `settled`, the looks are known to agree with what names
+    // have.
     //
     // Answers the charge, and whether names have behind it what they have where all units before it, and it, keep what
     // they kept. False says nothing.
@@ -174,9 +250,11 @@ impl Bridge {
         alloc: Global,
         moment: &mut Moment,
         settled: bool,
+        spare: Option<&Bridge>,
         steps: &mut Steps<L>,
     ) -> Result<(u64, bool), Memory>
         requires sound { IsSound self.old }
+        requires spare { IfSome (option_copied spare) (IsSpareOf self.old.unit) }
         requires settled { settled ≡ true → AgreesWith moment.old.env (wide_outcome self.old.kept) }
         ensures unit { self.new.unit ≡ self.old.unit }
         ensures source { self.new.source ≡ self.old.source }
@@ -190,8 +268,8 @@ impl Bridge {
         ensures behind { OnOk result (moment.new ≡ behind moment.old (outcome_of moment.old self.old.unit)) }
         ensures settled { IfOk result (λ p. p.1 ≡ true → (settled ≡ true)
             × (moment.new.env ≡ env_behind moment.old.env (wide_outcome self.old.kept))) }
-        ensures charge { IfOk result
-            (λ p. p.0 ≡ charge_of moment.old (entry_of self.old) (kept_parts self.old.parts)) }
+        ensures charge { IfOk result (λ p. p.0 ≡ charge_with moment.old (entry_of self.old)
+            (kept_parts self.old.parts) (spare_of (option_copied spare.entry))) }
         ensures counted { IfOk result (λ p. steps.new ≡ steps.old + p.0) }
         ensures most { IfOk result (λ p. p.0 + moment.new.left ≤ moment.old.left) }
         ensures sound { IsSound self.new }
@@ -207,7 +285,7 @@ impl Bridge {
             return Ok((0, settled));
         }
         let silent = is_silent(&self.kept);
-        let charge = self.renew(alloc, moment, steps)?;
+        let charge = self.renew(alloc, moment, spare, steps)?;
         moment.go_behind(&self.kept)?;
         Ok((charge, settled && silent && is_silent(&self.kept)))
     }

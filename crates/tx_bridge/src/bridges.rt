@@ -1,7 +1,7 @@
 // All units with what is kept of them.
 ghost use Rattle.std.specs.Prelude.{◌≡◌, ℕ, ◌+◌, ◌≤◌, ◌++◌, take, drop, map, IfOk, OnOk, OnErr, Some, None};
 ghost use Rattle.std.specs.Prelude.{[], false, true, MatchOption, slice_get, IsSome, IfSome, IsOk, option_and_then};
-ghost use Rattle.std.specs.Prelude.{length, List};
+ghost use Rattle.std.specs.Prelude.{length, List, option_copied};
 ghost use Rattle.std.specs.Option.{unwrap_or, option_map};
 ghost use Rattle.std.specs.List.{All, IsDistinct};
 ghost use Rattle.std.specs.Str.{bytes_eq};
@@ -15,11 +15,13 @@ ghost use Rattle.tx_units.specs.Units.{units_with};
 ghost use Rattle.tx_units.specs.declared.kinds.Unit.{Unit as DocUnit};
 ghost use Rattle.tx_view_form.specs.declared.TheConstants.{MOST_VIEW_STEPS};
 ghost use Rattle.tx_view_form.specs.Outcomes.{beginning, behind, value_of};
-ghost use Rattle.tx_bridge.specs.Moments.{IsPaid};
+ghost use Rattle.tx_bridge.specs.Moments.{IsPaid, beginning_with};
 ghost use Rattle.tx_bridge.specs.Entries.{Entry, units_of, fresh_from, outcome_of, behind_all};
 ghost use Rattle.tx_bridge.specs.Reached.{reached_from};
 ghost use Rattle.tx_bridge.specs.MovedParts.{AreMovedParts};
-ghost use Rattle.tx_bridge.specs.PartsKept.{KeptParts, PartsStay, charges_from, fresh_parts_from, part_flags_from};
+ghost use Rattle.tx_bridge.specs.PartsKept.{KeptParts, PartsStay, fresh_parts_from, part_flags_from};
+ghost use Rattle.tx_bridge.specs.Spares.{spares_of, charges_with};
+ghost use Rattle.tx_bridge.specs.Lent.{spares_in, HaveUnitsOf};
 ghost use Rattle.tx_bridge.specs.HeldParts.{AllPartsHold, kept_parts, flags_of_parts};
 ghost use Rattle.tx_bridge.specs.Settled.{AreSettled};
 ghost use Rattle.tx_bridge.specs.Sound.{IsSound, AllHold, entry_of, entries_of, parts_in, part_flags_in, flags_of};
@@ -32,6 +34,7 @@ ghost use Rattle.tx_bridge.specs.Courses.{given_with, strays_left};
 ghost use Rattle.tx_mod.specs.declared.mods.Mod.{Mod as Change};
 ghost use Rattle.tx_bridge.specs.InPlace.{IsOneChanged, NoneChanged, numbers_but};
 ghost use Rattle.tx_bridge.specs.Names.{Empty, EmptyParts, Fresh, FreshParts, PartFlags, Charge};
+ghost use Rattle.tx_bridge.specs.Names.{FreshFrom, FreshPartsFrom, PartFlagsFrom, ChargeFrom};
 ghost use Rattle.tx_bridge.specs.Names.{Carry, CarryParts, CarryStrays, CarryWithin, IsCourse, PartMoves, Sources};
 ghost use Rattle.tx_bridge.specs.Names.{StraysBeside};
 ghost use Rattle.tx_bridge.specs.Strays.{AreStrays, StandAside, kept_strays};
@@ -48,6 +51,7 @@ use std::marker::Model;
 use std::mem;
 use std::sync::ledger::Ledger;
 use tx_base::{Memory, Steps};
+use tx_env::Writes;
 use tx_exec::Outcome;
 use tx_exec_form::{size_law, trace_laws};
 use tx_mod::{Mod, carried_law, carried_list_law};
@@ -104,27 +108,52 @@ fn bridges_of(alloc: Global, units: Vec<Unit>) -> Result<Vec<Bridge>, Memory>
     )
 }
 
-// Brings each unit to what evaluating from nothing gives, and answers the charges. For want of memory it stops: those
-// before are brought there, and the others are as they were.
+// What others have kept of the units, and nothing where there are no others.
+fn lent_bridges<'a>(spare: Option<&'a Bridges>) -> &'a [Bridge]
+    ensures spares { spares_in result.now ≡ spares_of (option_copied spare.entry) }
+    ensures kept { MatchOption (option_copied spare.entry) (result.now ≡ [])
+        (λ others. entries_of result.now ≡ others.kept) }
+    ensures sound { All IsSound result.now }
+{
+    match spare {
+        None => &[],
+        Some(others) => &others.bridges,
+    }
+}
+
+// What others have kept of the unit of this number.
+fn lent_at(lent: &[Bridge], i: usize) -> Option<&Bridge>
+    ensures { option_copied result ≡ slice_get lent.now i }
+{
+    lent.get(i)
+}
+
+// Brings each unit to what evaluating from this moment on gives, and answers the charges. For want of memory it stops:
+// those before are brought there, and the others are as they were.
 //
 // Where all looks are known to agree with what the kept traces before them set, none are compared, up to a unit that is
 // evaluated anew and sets names, or whose kept trace did.
 fn refresh_all<L: Ledger>(
     alloc: Global,
     bridges: &mut [Bridge],
+    start: Moment,
     settled: bool,
+    spare: &[Bridge],
     steps: &mut Steps<L>,
 ) -> Result<u64, Memory>
     requires sound { All IsSound bridges.old }
-    requires settled { settled ≡ true → AreSettled maps.empty (entries_of bridges.old) }
-    ensures fresh { OnOk result (entries_of bridges.new ≡ fresh_from beginning (units_of (entries_of bridges.old))) }
+    requires left { start.left ≤ MOST_VIEW_STEPS }
+    requires settled { settled ≡ true → AreSettled start.env (entries_of bridges.old) }
+    requires spare { All IsSound spare.now }
+    requires same { HaveUnitsOf spare.now bridges.old }
+    ensures fresh { OnOk result (entries_of bridges.new ≡ fresh_from start (units_of (entries_of bridges.old))) }
     ensures parts { OnOk result
-        (parts_in bridges.new ≡ fresh_parts_from beginning (units_of (entries_of bridges.old))) }
+        (parts_in bridges.new ≡ fresh_parts_from start (units_of (entries_of bridges.old))) }
     ensures parts_renewed { OnOk result
-        (part_flags_in bridges.new ≡ part_flags_from beginning (entries_of bridges.old) (parts_in bridges.old)) }
-    ensures renewed { OnOk result (flags_of bridges.new ≡ reached_from beginning (entries_of bridges.old)) }
-    ensures charge { IfOk result
-        (λ n. n ≡ charges_from beginning (entries_of bridges.old) (parts_in bridges.old)) }
+        (part_flags_in bridges.new ≡ part_flags_from start (entries_of bridges.old) (parts_in bridges.old)) }
+    ensures renewed { OnOk result (flags_of bridges.new ≡ reached_from start (entries_of bridges.old)) }
+    ensures charge { IfOk result (λ n. n
+        ≡ charges_with start (entries_of bridges.old) (parts_in bridges.old) (spares_in spare.now)) }
     ensures counted { IfOk result (λ n. steps.new ≡ steps.old + n) }
     ensures most { IfOk result (λ n. n ≤ MOST_VIEW_STEPS) }
     ensures sound { All IsSound bridges.new }
@@ -135,29 +164,30 @@ fn refresh_all<L: Ledger>(
     ensures parts_same { OnOk result ((i : ℕ) → slice_get (flags_of bridges.new) i ≡ Some false
         → slice_get (parts_in bridges.new) i ≡ slice_get (parts_in bridges.old) i) }
     ensures refused { OnErr result ((n : ℕ) × (entries_of bridges.new
-        ≡ take n (fresh_from beginning (units_of (entries_of bridges.old))) ++ drop n (entries_of bridges.old))
+        ≡ take n (fresh_from start (units_of (entries_of bridges.old))) ++ drop n (entries_of bridges.old))
         × (parts_in bridges.new
-        ≡ take n (fresh_parts_from beginning (units_of (entries_of bridges.old))) ++ drop n (parts_in bridges.old))) }
+        ≡ take n (fresh_parts_from start (units_of (entries_of bridges.old))) ++ drop n (parts_in bridges.old))) }
 {
-    let mut moment = Moment::beginning(alloc);
+    let mut moment = start;
     let mut still = settled;
     let mut charges = 0;
     for i in 0..bridges.len() {
-        let (charge, goes_on) = bridges[i].refresh(alloc, &mut moment, still, steps)?;
+        let other = lent_at(spare, i);
+        let (charge, goes_on) = bridges[i].refresh(alloc, &mut moment, still, other, steps)?;
         still = goes_on;
         charges += charge;
     }
     Ok(charges)
 }
 
-// The moment behind all units, of each of which is kept what it comes to.
-fn moment_behind(alloc: Global, bridges: &[Bridge]) -> Result<Moment, Memory>
+// The moment behind all units, of each of which is kept what it comes to from this moment on.
+fn moment_behind(start: Moment, bridges: &[Bridge]) -> Result<Moment, Memory>
     requires sound { All IsSound bridges.now }
-    requires fresh { entries_of bridges.now ≡ fresh_from beginning (units_of (entries_of bridges.now)) }
-    ensures { IfOk result (λ m. m ≡ behind_all beginning (units_of (entries_of bridges.now))) }
+    requires fresh { entries_of bridges.now ≡ fresh_from start (units_of (entries_of bridges.now)) }
+    ensures { IfOk result (λ m. m ≡ behind_all start (units_of (entries_of bridges.now))) }
 {
     trace_laws();
-    let mut moment = Moment::beginning(alloc);
+    let mut moment = start;
     for bridge in bridges {
         moment.go_behind(&bridge.kept)?;
     }
@@ -231,7 +261,6 @@ impl Bridges {
     ///
     /// For want of memory the units before some number are brought there, and the others are as they were, as strays
     /// are.
-    #[tactic(auto, unfolding(crate::specs::Names::Fresh, crate::specs::Names::FreshParts, crate::specs::Names::Charge))]
     pub fn refresh<L: Ledger>(&mut self, alloc: Global, steps: &mut Steps<L>) -> Result<u64, Memory>
         ensures fresh { OnOk result (self.new.kept ≡ Fresh self.old.kept) }
         ensures parts { OnOk result (self.new.parts ≡ FreshParts self.old.kept) }
@@ -253,12 +282,57 @@ impl Bridges {
         ensures strays { OnOk result (self.new.strays ≡ []) }
         ensures strays_stay { OnErr result (self.new.strays ≡ self.old.strays) }
     {
+        let none = Writes::new(Vec::new(alloc));
+        self.refresh_from(alloc, &none, None, steps)
+    }
+
+    /// Brings each unit to what evaluating all of them gives where these names are set before the first one, in order.
+    /// `refresh` is this with no names and no spare.
+    ///
+    /// What the spare has kept of the same units, of which nothing more is known, serves where what is kept doesn't,
+    /// and costs nothing: of a paragraph of the body part by part, and of another unit the whole. Flags don't count it:
+    /// they say whether what was kept fits. The spare stays as it is.
+    #[tactic(auto, unfolding(crate::specs::Names::FreshFrom, crate::specs::Names::FreshPartsFrom))]
+    pub fn refresh_from<L: Ledger>(
+        &mut self,
+        alloc: Global,
+        start: &Writes,
+        spare: Option<&Bridges>,
+        steps: &mut Steps<L>,
+    ) -> Result<u64, Memory>
+        requires same { IfSome (option_copied spare) (λ others. units_of others.kept ≡ units_of self.old.kept) }
+        ensures fresh { OnOk result (self.new.kept ≡ FreshFrom start.now self.old.kept) }
+        ensures parts { OnOk result (self.new.parts ≡ FreshPartsFrom start.now self.old.kept) }
+        ensures parts_renewed { OnOk result
+            (self.new.part_flags ≡ PartFlagsFrom start.now self.old.kept self.old.parts) }
+        ensures parts_stay { OnOk result (PartsStay self.old.parts self.new.parts self.new.part_flags) }
+        ensures parts_same { OnOk result ((i : ℕ) → slice_get self.new.renewed i ≡ Some false
+            → slice_get self.new.parts i ≡ slice_get self.old.parts i) }
+        ensures renewed { OnOk result
+            (self.new.renewed ≡ reached_from (beginning_with start.now) self.old.kept) }
+        ensures charge { IfOk result (λ n. n
+            ≡ ChargeFrom start.now self.old.kept self.old.parts (spares_of (option_copied spare.entry))) }
+        ensures counted { IfOk result (λ n. steps.new ≡ steps.old + n) }
+        ensures most { IfOk result (λ n. n ≤ MOST_VIEW_STEPS) }
+        ensures units { units_of self.new.kept ≡ units_of self.old.kept }
+        ensures sources { self.new.sources ≡ self.old.sources }
+        ensures stays { (i : ℕ) → slice_get self.new.renewed i ≡ Some false
+            → slice_get self.new.kept i ≡ slice_get self.old.kept i }
+        ensures refused { OnErr result ((n : ℕ) × (self.new.kept
+            ≡ take n (FreshFrom start.now self.old.kept) ++ drop n self.old.kept)
+            × (self.new.parts ≡ take n (FreshPartsFrom start.now self.old.kept) ++ drop n self.old.parts)) }
+        ensures strays { OnOk result (self.new.strays ≡ []) }
+        ensures strays_stay { OnErr result (self.new.strays ≡ self.old.strays) }
+    {
         trace_laws();
         standing_law();
         fitting_law();
-        let settled = mem::replace(&mut self.settled, false);
-        let charges = refresh_all(alloc, &mut self.bridges, settled, steps)?;
-        self.settled = true;
+        let lent = lent_bridges(spare);
+        let bare = start.pairs().is_empty();
+        let moment = Moment::beginning_with(alloc, start)?;
+        let settled = mem::replace(&mut self.settled, false) && bare;
+        let charges = refresh_all(alloc, &mut self.bridges, moment, settled, lent, steps)?;
+        self.settled = bare;
         self.strays.clear();
         Ok(charges)
     }
@@ -268,7 +342,7 @@ impl Bridges {
     /// edited, the one with its path. Another unit is the old one of its number, where kind and tree are the same. What
     /// is kept of the parts of an old unit that is none of the new ones goes with the parts to the new units in which
     /// they stand, and so do strays. Those that stand in none are the strays afterwards. Where another buffer than 0
-    /// was edited, strays stay.
+    /// was edited, strays stay, but for those that would stand in a new unit.
     ///
     /// `before` is the tree of the buffer before the edit. Which old unit a new one is `source` tells afterwards, and
     /// no two are the same one. A new unit has the tree of the old one that it is, and a path where that has one. For
@@ -518,7 +592,8 @@ impl Bridges {
         }
     }
 
-    /// Whether the unit was reached when the last refresh began. Past the last unit it is false.
+    /// Behind a refresh, whether the unit was reached when that began. An edit may take this off. Past the last unit it
+    /// is false.
     pub fn renewed(&self, i: u32) -> bool
         ensures { result ≡ unwrap_or (slice_get self.now.renewed i) false }
     {
@@ -562,6 +637,15 @@ impl Bridges {
         requires fresh { self.now.kept ≡ fresh_from beginning (units_of self.now.kept) }
         ensures { IfOk result (λ m. m ≡ behind_all beginning (units_of self.now.kept)) }
     {
-        moment_behind(alloc, &self.bridges)
+        moment_behind(Moment::beginning(alloc), &self.bridges)
+    }
+
+    /// The same after a refresh from the moment in which these names have been set.
+    pub fn end_from(&self, alloc: Global, start: &Writes) -> Result<Moment, Memory>
+        requires fresh { self.now.kept ≡ fresh_from (beginning_with start.now) (units_of self.now.kept) }
+        ensures { IfOk result (λ m. m ≡ behind_all (beginning_with start.now) (units_of self.now.kept)) }
+    {
+        let start = Moment::beginning_with(alloc, start)?;
+        moment_behind(start, &self.bridges)
     }
 }

@@ -1,5 +1,5 @@
 // Laws of what calls ask for.
-ghost use Rattle.std.specs.Prelude.{◌≡◌, ℕ, List, Some, true, slice_get};
+ghost use Rattle.std.specs.Prelude.{◌≡◌, ℕ, List, [], Some, true, slice_get};
 ghost use Rattle.tx_tree.specs.WideTree.{WideTree};
 ghost use Rattle.tx_doc.specs.Buffers.{document_of};
 ghost use Rattle.tx_doc.specs.declared.buffer.Buffer.{Buffer};
@@ -8,13 +8,21 @@ ghost use Rattle.tx_units.specs.Units.{units};
 ghost use Rattle.tx_mod.specs.declared.mods.Mod.{Mod as Change};
 ghost use Rattle.tx_mod.specs.Followed.{changed_by_all, carried_by_all};
 ghost use Rattle.tx_bridge.specs.InPlace.{is_changed};
-ghost use Rattle.tx_bridge.specs.UnitLists.{AreUnits};
+ghost use Rattle.tx_exec_form.specs.Evaluated.{WideTrace};
+ghost use Rattle.tx_view_form.specs.Outcomes.{Moment};
+ghost use Rattle.tx_bridge.specs.Entries.{Entry, Kept, outcome_of};
+ghost use Rattle.tx_bridge.specs.Reached.{fits};
+ghost use Rattle.tx_bridge.specs.PartsKept.{fresh_parts, charges_from};
+ghost use Rattle.tx_bridge.specs.Spares.{charge_with, charges_with};
+ghost use Rattle.tx_bridge.specs.UnitLists.{AreUnits, IsPlaced};
 ghost use Rattle.tx_bridge.specs.Carrying.{AllStand, AreSameBodies};
 ghost use Rattle.tx_bridge.specs.PartsKept.{KeptParts};
 ghost use Rattle.tx_bridge.specs.CarryingParts.{StaysKept};
 ghost use Rattle.tx_bridge.specs.Keeping.{all_keep_place};
 
+use tx_exec_form::trace_laws;
 use tx_mod::carried_law;
+use tx_parts::{fitting_law, standing_law};
 use tx_units::body_laws;
 
 /// A law: the units of buffers are such as `Bridges` asks for, and their trees stand at their paths in the document.
@@ -44,3 +52,18 @@ pub fn keeping_law()
     ensures { (ms : List Change) (t u : WideTree) (q : List ℕ) → changed_by_all ms t ≡ Some u
         → all_keep_place ms q ≡ true → carried_by_all ms t q ≡ Some q }
 {}
+
+/// A law: where nothing is spare, `refresh_from` charges what `refresh` does. A unit is charged nothing where a trace
+/// that is spare of it can be used at the moment, and its parts are spare as well, as a refresh leaves both of them, at
+/// whatever moment.
+pub fn spare_law()
+    ensures nothing { (m : Moment) (es : Kept) (pss : List KeptParts)
+        → charges_with m es pss [] ≡ charges_from m es pss }
+    ensures whole { (m n : Moment) (e : Entry) (ps : KeptParts) (trace : WideTrace) → IsPlaced e.unit
+        → outcome_of n e.unit ≡ Some trace → fits m (Some trace) ≡ true
+        → charge_with m e ps (record { trace = Some trace; parts = fresh_parts n e.unit }) ≡ 0 }
+{
+    trace_laws();
+    fitting_law();
+    standing_law();
+}

@@ -11,8 +11,10 @@ ghost use Rattle.std.specs.List.{AllByRecursion, IsDistinct};
 ghost use Rattle.std.specs.Str.{bytes_eq};
 ghost use Rattle.tx_walk.specs.Walked.{paths_of};
 ghost use Rattle.tx_bridge.specs.Entries.{outcome_of};
-ghost use Rattle.tx_bridge.specs.Moments.{IsPaid};
-ghost use Rattle.tx_bridge.specs.PartsKept.{has_parts, fresh_parts, part_flags, unit_charge};
+ghost use Rattle.tx_bridge.specs.Moments.{IsPaid, beginning_with};
+ghost use Rattle.tx_bridge.specs.PartsKept.{has_parts, fresh_parts, part_flags, unit_parts};
+ghost use Rattle.tx_bridge.specs.Spares.{stores_with};
+ghost use Rattle.tx_walk.specs.Held.{charges};
 ghost use Rattle.tx_bridge.specs.HeldParts.{HoldsPart, PartsHold, kept_parts, flags_of_parts};
 ghost use Rattle.tx_bridge.specs.UnitLists.{IsPlaced};
 
@@ -83,6 +85,18 @@ impl Moment {
         }
     }
 
+    /// Before the first unit, where these names have been set, in order.
+    pub fn beginning_with(alloc: Global, start: &Writes) -> Result<Moment, Memory>
+        ensures { IfOk result (λ m. m ≡ beginning_with start.now) }
+    {
+        let mut env = Env::new(alloc);
+        set_names(&mut env, start)?;
+        Ok(Moment {
+            env,
+            left: MOST_VIEW_STEPS,
+        })
+    }
+
     /// What names have.
     pub fn env(&self) -> &Env
         ensures { result.now.map ≡ self.now.env }
@@ -131,24 +145,28 @@ impl Moment {
         }
     }
 
-    // What the paragraph of the body comes to, of which these parts are kept. The moment stays.
+    // What the paragraph of the body comes to, of which these parts are kept, and these are spare. The moment stays.
     pub(crate) fn by_parts<L: Ledger>(
         &mut self,
         alloc: Global,
         unit: &Unit,
         kept: &[Part],
+        spare: &[Part],
         steps: &mut Steps<L>,
     ) -> Result<Evaluated, Memory>
         requires nested { has_parts unit.now ≡ true }
         requires placed { IsPlaced unit.now }
         requires hold { AllByRecursion (HoldsPart unit.now.tagged.tree) kept.now }
         requires distinct { IsDistinct bytes_eq (paths_of kept.now) }
+        requires spare_hold { AllByRecursion (HoldsPart unit.now.tagged.tree) spare.now }
+        requires spare_distinct { IsDistinct bytes_eq (paths_of spare.now) }
         ensures exact { IfOk result (λ e. wide_outcome e.outcome ≡ outcome_of self.old unit.now) }
         ensures once { IfOk result (λ e. NamesOnce e.outcome) }
         ensures parts { IfOk result (λ e. kept_parts e.parts ≡ fresh_parts self.old unit.now) }
         ensures flags { IfOk result (λ e. flags_of_parts e.parts ≡ part_flags self.old unit.now (kept_parts kept.now)) }
         ensures hold { IfOk result (λ e. PartsHold unit.now (wide_outcome e.outcome) e.parts) }
-        ensures charge { IfOk result (λ e. e.charge ≡ unit_charge self.old unit.now (kept_parts kept.now)) }
+        ensures charge { IfOk result (λ e. e.charge
+            ≡ charges (stores_with (kept_parts kept.now) (kept_parts spare.now)) (unit_parts self.old unit.now)) }
         ensures counted { IfOk result (λ e. steps.new ≡ steps.old + e.charge) }
         ensures stays { self.new ≡ self.old }
     {
@@ -163,7 +181,7 @@ impl Moment {
             &mut self.env,
             allowance,
             kept,
-            &[],
+            spare,
             steps,
         )?;
         Ok(Evaluated {

@@ -70,7 +70,7 @@ fn all_marked(parts: &[Part], marks: &[u8]) -> bool {
 }
 
 // Whether the parts of the paragraphs have these marks.
-fn are_marked(bridges: &Bridges, marks: &str) -> Option<bool> {
+pub(crate) fn are_marked(bridges: &Bridges, marks: &str) -> Option<bool> {
     for (i, own) in marks.split('/').enumerate() {
         let parts = bridges.parts(BASE.checked_add(u32::try_from(i).ok()?)?)?;
         if !all_marked(parts, own.as_bytes()) {

@@ -5,7 +5,8 @@ use Rattle.tx_bridge.proofs.bridges.moment_behind.Goals as goal
 
 pub go_behind-requires-clause-enough : goal.go_behind-requires-clause-enough
 go_behind-requires-clause-enough c =
-    has_enough c.args.bridges.now c.loop-bridge.bridge-index c.loop-bridge.moment c.loop-bridge.invariant
+    has_enough c.args.bridges.now c.args.start c.loop-bridge.bridge-index c.loop-bridge.moment
+    c.loop-bridge.invariant
     c.bridge-item.result
     (slice_get_read c.args.bridges.now (length c.args.bridges.now) c.loop-bridge.bridge-index c.bridge-item.result refl
     c.loop-bridge-test.true c.bridge-item.is)
@@ -13,7 +14,8 @@ go_behind-requires-clause-enough c =
 
 pub loop-bridge-preserved : goal.loop-bridge-preserved
 loop-bridge-preserved c =
-    behind_next c.args.bridges.now c.loop-bridge.bridge-index c.loop-bridge.moment c.loop-bridge.invariant
+    behind_next c.args.bridges.now c.args.start c.loop-bridge.bridge-index c.loop-bridge.moment
+    c.loop-bridge.invariant
     c.bridge-item.result
     (slice_get_read c.args.bridges.now (length c.args.bridges.now) c.loop-bridge.bridge-index c.bridge-item.result refl
     c.loop-bridge-test.true c.bridge-item.is)
@@ -21,5 +23,6 @@ loop-bridge-preserved c =
 
 pub returns : goal.returns
 returns c =
-    behind_whole c.args.bridges.now c.loop-bridge.bridge-index c.loop-bridge.moment c.loop-bridge.invariant
+    behind_whole c.args.bridges.now c.args.start c.loop-bridge.bridge-index c.loop-bridge.moment
+    c.loop-bridge.invariant
     (omega arith)

@@ -1,6 +1,7 @@
+use Rattle.tx_bridge.specs.Lent.{spares_in}
 use Rattle.tx_bridge.proofs.Partway.{Partway}
 use Rattle.tx_bridge.proofs.bridges.refresh_all.Given as goal
 
 abbrev pub invariant-loop-i : goal.invariant-loop-i
-invariant-loop-i g l = Partway l.fn.bridges l.bridges l.i l.moment l.still l.fn.steps l.steps
-    l.charges
+invariant-loop-i g l = Partway l.fn.bridges l.bridges (spares_in l.spare) l.fn.start l.i l.moment l.still l.fn.steps
+    l.steps l.charges

@@ -1,24 +1,50 @@
-use Rattle.std.proofs.Common.{◌≡◌, sym, subst, ◌∙◌}
-use Rattle.std.specs.Prelude.{IfOk}
+use Rattle.std.proofs.Common.{◌≡◌, [], sym, ap, subst, ◌∙◌}
+use Rattle.std.proofs.lemmas.Result.{IfOk-weaker}
+use Rattle.std.specs.Prelude.{IfOk, option_copied}
+use Rattle.std.specs.List.{IsDistinct}
+use Rattle.std.specs.Str.{bytes_eq}
 use Rattle.tx_exec.specs.Outcomes.{wide_outcome}
-use Rattle.tx_bridge.specs.HeldParts.{PartsHold, kept_parts}
-use Rattle.tx_bridge.specs.PartsKept.{unit_charge}
+use Rattle.tx_walk.specs.Held.{charges}
+use Rattle.tx_walk.specs.Walked.{paths_of}
+use Rattle.tx_bridge.specs.declared.moments.Evaluated.{Evaluated}
+use Rattle.tx_bridge.specs.HeldParts.{PartsHold, kept_parts, flags_of_parts}
+use Rattle.tx_bridge.specs.PartsKept.{part_flags, unit_parts}
+use Rattle.tx_bridge.specs.Spares.{stores_with}
+use Rattle.tx_bridge.specs.Lent.{spare_of}
 use Rattle.tx_bridge.proofs.PartsSame.{bare_parts}
 use Rattle.tx_bridge.proofs.Marked.{bare_flags}
+use Rattle.tx_bridge.proofs.Lending.{spare_distinct, spare_parts_are, parts_charge}
 use Rattle.tx_bridge.proofs.bridge.Bridge.evaluated.Goals as goal
 
-pub returns-clause-hold : goal.returns-clause-hold
-returns-clause-hold g c =
-    subst (PartsHold c.args.self.now.unit (wide_outcome c.in_ok-outcome.outcome)) (sym c.none.ensures)
-    (bare_parts c.args.self.now.unit (wide_outcome c.in_ok-outcome.outcome)
-    (sym c.has_parts.ensures ∙ c.if-has_parts.false))
-
-pub returns-clause-flags : goal.returns-clause-flags
-returns-clause-flags g c =
-    bare_flags c.args.moment.now c.args.self.now.unit (kept_parts c.args.self.now.parts) c.none.result
-    (sym c.has_parts.ensures ∙ c.if-has_parts.false) c.none.ensures
+pub by_parts-requires-clause-spare_distinct : goal.by_parts-requires-clause-spare_distinct
+by_parts-requires-clause-spare_distinct g c =
+    subst (λ ps. IsDistinct bytes_eq (paths_of ps)) (sym c.lent_parts-lent.ensures)
+    (spare_distinct c.args.self.now.unit (option_copied c.args.spare) c.requires.spare)
 
 pub returns-then-has_parts-clause-charge : goal.returns-then-has_parts-clause-charge
 returns-then-has_parts-clause-charge g c =
-    subst (λ ps. IfOk c.by_parts.result (λ e. e.charge
-    ≡ unit_charge c.args.moment.now c.args.self.now.unit (kept_parts ps))) c.all.ensures c.by_parts.ensures.charge
+    subst (λ n. IfOk c.by_parts.result (λ e. e.charge ≡ n))
+    (ap (λ ps. charges (stores_with (kept_parts ps) (kept_parts c.lent_parts-lent.result.now))
+    (unit_parts c.args.moment.now c.args.self.now.unit)) c.all.ensures
+    ∙ parts_charge c.args.moment.now c.args.self.now.unit (kept_parts c.args.self.now.parts)
+    (kept_parts c.lent_parts-lent.result.now) (spare_of (option_copied c.args.spare))
+    (sym c.has_parts.ensures ∙ c.if-has_parts.true)
+    (ap kept_parts c.lent_parts-lent.ensures ∙ spare_parts_are (option_copied c.args.spare)))
+    c.by_parts.ensures.charge
+
+pub returns-clause-hold : goal.returns-clause-hold
+returns-clause-hold g c =
+    IfOk-weaker c.evaluated_whole.result (λ e. e.parts ≡ [])
+    (λ e. PartsHold c.args.self.now.unit (wide_outcome e.outcome) e.parts)
+    (λ (e : Evaluated) none. subst (PartsHold c.args.self.now.unit (wide_outcome e.outcome)) (sym none)
+    (bare_parts c.args.self.now.unit (wide_outcome e.outcome) (sym c.has_parts.ensures ∙ c.if-has_parts.false)))
+    c.evaluated_whole.ensures.parts
+
+pub returns-clause-flags : goal.returns-clause-flags
+returns-clause-flags g c =
+    IfOk-weaker c.evaluated_whole.result (λ e. e.parts ≡ [])
+    (λ e. flags_of_parts e.parts
+    ≡ part_flags c.args.moment.now c.args.self.now.unit (kept_parts c.args.self.now.parts))
+    (λ (e : Evaluated) none. bare_flags c.args.moment.now c.args.self.now.unit (kept_parts c.args.self.now.parts)
+    e.parts (sym c.has_parts.ensures ∙ c.if-has_parts.false) none)
+    c.evaluated_whole.ensures.parts

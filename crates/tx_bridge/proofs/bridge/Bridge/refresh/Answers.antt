@@ -1,8 +1,10 @@
 use Rattle.std.proofs.Common.{◌≤◌, sym, ap, subst, ◌∙◌}
+use Rattle.std.specs.Prelude.{option_copied}
 use Rattle.tx_origin.specs.TaggedTrees.{tagged_of}
 use Rattle.tx_exec.specs.Outcomes.{wide_outcome}
 use Rattle.tx_view_form.specs.Outcomes.{Moment, charge, behind}
 use Rattle.tx_bridge.specs.HeldParts.{kept_parts}
+use Rattle.tx_bridge.specs.Lent.{spare_of}
 use Rattle.tx_bridge.proofs.ByParts.{spent_most}
 use Rattle.tx_bridge.proofs.Used.{fits_is, charge_fits, parts_fit}
 use Rattle.tx_bridge.specs.declared.bridge.Bridge.{Bridge}
@@ -48,7 +50,8 @@ returns-then-fits-clause-parts g c =
 pub returns-then-silent-clause-most : goal.returns-then-silent-clause-most
 returns-then-silent-clause-most g c =
     spent_most c.charges_law.ensures c.trace_laws.ensures.allowed c.args.moment.now c.go_behind-2.new.self
-    c.args.self.now.unit (kept_parts c.args.self.now.parts) c.in_ok-charge.charge c.requires.sound.placed
+    c.args.self.now.unit (kept_parts c.args.self.now.parts) (spare_of (option_copied c.args.spare))
+    c.in_ok-charge.charge c.requires.sound.placed
     c.in_ok-charge.ensures.charge
     (c.in_ok-go_behind-2.ensures.behind
     ∙ ap (λ (m : Moment). behind m (wide_outcome c.renew.new.self.kept)) c.in_ok-charge.ensures.moment
@@ -57,7 +60,8 @@ returns-then-silent-clause-most g c =
 pub returns-else-silent-clause-most : goal.returns-else-silent-clause-most
 returns-else-silent-clause-most g c =
     spent_most c.charges_law.ensures c.trace_laws.ensures.allowed c.args.moment.now c.go_behind-2.new.self
-    c.args.self.now.unit (kept_parts c.args.self.now.parts) c.in_ok-charge.charge c.requires.sound.placed
+    c.args.self.now.unit (kept_parts c.args.self.now.parts) (spare_of (option_copied c.args.spare))
+    c.in_ok-charge.charge c.requires.sound.placed
     c.in_ok-charge.ensures.charge
     (c.in_ok-go_behind-2.ensures.behind
     ∙ ap (λ (m : Moment). behind m (wide_outcome c.renew.new.self.kept)) c.in_ok-charge.ensures.moment

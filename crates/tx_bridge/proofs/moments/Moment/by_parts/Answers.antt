@@ -2,9 +2,7 @@ use Rattle.std.proofs.Common.{ap, sym, subst, ◌∙◌}
 use Rattle.std.proofs.lemmas.List.Elements.{recursion_from_All}
 use Rattle.std.specs.FinMap.{get}
 use Rattle.tx_exec.specs.Outcomes.{wide_outcome}
-use Rattle.tx_walk.specs.Held.{only}
-use Rattle.tx_walk.specs.Walked.{IsTidy, kept_in}
-use Rattle.tx_walk.proofs.Kept.{none_twice, sound_alone}
+use Rattle.tx_walk.specs.Walked.{IsTidy, stores_in}
 use Rattle.tx_bridge.specs.HeldParts.{PartsHold, kept_parts, flags_of_parts}
 use Rattle.tx_bridge.proofs.ByParts.{sound_of, tidy_of, walked_hold, parts_there, outcome_there, fresh_there}
 use Rattle.tx_bridge.proofs.ByParts.{charge_there}
@@ -12,12 +10,13 @@ use Rattle.tx_bridge.proofs.Marked.{walked_flags}
 use Rattle.tx_bridge.proofs.moments.Moment.by_parts.Goals as goal
 
 pub walk-requires-clause-sound : goal.walk-requires-clause-sound
-walk-requires-clause-sound g c =
-    sound_alone (kept_in c.args.kept.now) c.args.unit.now.tagged.tree
-    (sound_of c.args.unit.now.tagged.tree c.args.kept.now c.requires.hold)
+walk-requires-clause-sound g c = record {
+  own = sound_of c.args.unit.now.tagged.tree c.args.kept.now c.requires.hold;
+  spare = sound_of c.args.unit.now.tagged.tree c.args.spare.now c.requires.spare_hold;
+}
 
-pub walk-requires-clause-spare_distinct : goal.walk-requires-clause-spare_distinct
-walk-requires-clause-spare_distinct g c = none_twice
+pub walk-requires-clause-spare_tidy : goal.walk-requires-clause-spare_tidy
+walk-requires-clause-spare_tidy g c = tidy_of c.args.unit.now.tagged.tree c.args.spare.now c.requires.spare_hold
 
 pub walk-requires-clause-tidy : goal.walk-requires-clause-tidy
 walk-requires-clause-tidy g c = tidy_of c.args.unit.now.tagged.tree c.args.kept.now c.requires.hold
@@ -32,7 +31,8 @@ pub returns-clause-parts : goal.returns-clause-parts
 returns-clause-parts g c =
     ap kept_parts c.new.ensures
     ∙ fresh_there c.args.unit.now c.args.self.now c.self.inside.env.map c.self.inside.left c.min-allowance.result
-    c.self.view_is c.min-allowance.ensures (only (kept_in c.args.kept.now)) c.in_ok-walked.walked.parts.items
+    c.self.view_is c.min-allowance.ensures (stores_in c.args.kept.now c.args.spare.now)
+    c.in_ok-walked.walked.parts.items
     (wide_outcome c.in_ok-walked.walked.outcome) c.requires.nested
     (c.in_ok-walked.ensures.exact
     ∙ outcome_there c.args.unit.now c.args.self.now c.self.inside.env.map c.self.inside.left c.min-allowance.result
@@ -43,7 +43,7 @@ pub returns-clause-hold : goal.returns-clause-hold
 returns-clause-hold g c =
     subst (PartsHold c.args.unit.now (wide_outcome c.in_ok-walked.walked.outcome)) (sym c.new.ensures)
     (walked_hold c.trace_laws.ensures.supports c.standing_law.ensures.stand c.walked_law.ensures.distinct
-    c.fitting_law.ensures.same_stored (only (kept_in c.args.kept.now)) c.min-allowance.result
+    c.fitting_law.ensures.same_stored (stores_in c.args.kept.now c.args.spare.now) c.min-allowance.result
     (get c.self.inside.env.map) c.args.unit.now c.requires.nested c.in_ok-walked.walked.parts.items
     (recursion_from_All IsTidy c.in_ok-walked.walked.parts.items c.in_ok-walked.ensures.tidy)
     (wide_outcome c.in_ok-walked.walked.outcome) c.in_ok-walked.ensures.exact c.in_ok-walked.ensures.parts)
@@ -52,12 +52,12 @@ pub returns-clause-charge : goal.returns-clause-charge
 returns-clause-charge g c =
     c.in_ok-walked.ensures.charge
     ∙ charge_there c.args.unit.now c.args.self.now c.self.inside.env.map c.self.inside.left c.min-allowance.result
-    c.self.view_is c.min-allowance.ensures c.args.kept.now c.requires.nested
+    c.self.view_is c.min-allowance.ensures c.args.kept.now c.args.spare.now
 
 pub returns-clause-flags : goal.returns-clause-flags
 returns-clause-flags g c =
     ap flags_of_parts c.new.ensures
-    ∙ walked_flags c.args.self.now c.args.unit.now c.args.kept.now c.in_ok-walked.walked.parts.items _
+    ∙ walked_flags c.args.self.now c.args.unit.now c.args.kept.now c.args.spare.now c.in_ok-walked.walked.parts.items _
     (wide_outcome c.in_ok-walked.walked.outcome) c.requires.nested
     (parts_there c.args.unit.now c.args.self.now c.self.inside.env.map c.self.inside.left c.min-allowance.result
     c.self.view_is c.min-allowance.ensures)

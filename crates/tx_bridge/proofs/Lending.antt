@@ -1,0 +1,130 @@
+-- What others have kept of the same units.
+use Rattle.std.proofs.Common.{◌≡◌, ℕ, zero, suc, ◌<◌, List, [], ◌∷◌, length, drop, slice_index_or}
+use Rattle.std.proofs.Common.{Option, Some, None, refl, ap, sym, subst, ◌∙◌}
+use Rattle.std.proofs.lemmas.Option.{same_Some, slice_get-get_or, slice_get_within}
+use Rattle.std.specs.Prelude.{true, if◌then◌else◌, IfSome, MatchOption, slice_get, map, zip}
+use Rattle.std.specs.List.{All, AllByRecursion, IsDistinct}
+use Rattle.std.specs.Str.{bytes_eq}
+use Rattle.tx_origin.specs.TaggedTrees.{tagged_of}
+use Rattle.tx_exec.specs.Outcomes.{wide_outcome}
+use Rattle.tx_walk.specs.Held.{charges}
+use Rattle.tx_walk.specs.Walked.{paths_of}
+use Rattle.tx_units.specs.declared.kinds.Unit.{Unit as DocUnit}
+use Rattle.tx_view_form.specs.Outcomes.{Moment, charge}
+use Rattle.tx_bridge.specs.declared.bridge.Bridge.{Bridge}
+use Rattle.tx_bridge.specs.Bridged.{Bridged}
+use Rattle.tx_bridge.specs.Entries.{Entry, units_of, outcome_of}
+use Rattle.tx_bridge.specs.Reached.{fits}
+use Rattle.tx_bridge.specs.HeldParts.{HoldsPart, kept_parts}
+use Rattle.tx_bridge.specs.Sound.{Holds, IsSound, entries_of, parts_in}
+use Rattle.tx_bridge.specs.PartsKept.{KeptParts, has_parts, unit_parts}
+use Rattle.tx_bridge.specs.Spares.{UnitSpare, first_spare, kept_spare, spares_of, stores_with, unit_charge_with}
+use Rattle.tx_bridge.specs.Spares.{charge_with}
+use Rattle.tx_bridge.specs.Lent.{lent_spare, spare_of, spare_parts, spares_in, IsSpareOf, IsUsable, HaveUnitsOf}
+use Rattle.tx_bridge.proofs.Partway.{units_in}
+use Rattle.tx_bridge.proofs.Taking.{heads}
+use Rattle.tx_bridge.proofs.Used.{fits_is}
+
+-- ---- of one unit
+
+pub spare_hold : (u : DocUnit) (o : Option Bridge) → IfSome o (IsSpareOf u)
+    → AllByRecursion (HoldsPart u.tagged.tree) (spare_parts o)
+spare_hold u None h = tt
+spare_hold u (Some b) h =
+    subst (λ (v : DocUnit). AllByRecursion (HoldsPart v.tagged.tree) b.parts) h.unit h.sound.parts.hold
+
+pub spare_distinct : (u : DocUnit) (o : Option Bridge) → IfSome o (IsSpareOf u)
+    → IsDistinct bytes_eq (paths_of (spare_parts o))
+unfolding IsDistinct
+spare_distinct u None h = tt
+spare_distinct u (Some b) h = h.sound.parts.distinct
+
+pub spare_parts_are : (o : Option Bridge) → kept_parts (spare_parts o) ≡ (spare_of o).parts
+spare_parts_are None = refl
+spare_parts_are (Some b) = refl
+
+-- what a paragraph of the body is charged
+pub parts_charge : (m : Moment) (u : DocUnit) (ks qs : KeptParts) (s : UnitSpare) → has_parts u ≡ true → qs ≡ s.parts
+    → charges (stores_with ks qs) (unit_parts m u) ≡ unit_charge_with m u ks s
+parts_charge m u ks qs s nested same =
+    ap (λ rs. charges (stores_with ks rs) (unit_parts m u)) same
+    ∙ sym (ap (λ b. if b then charges (stores_with ks s.parts) (unit_parts m u)
+    else if fits m s.trace then 0 else charge m (outcome_of m u)) nested)
+
+-- where it can be used, the unit comes to it
+pub is_usable : (m : Moment) (u : DocUnit) (o : Option Bridge) (b : Bridge) → o ≡ Some b → IfSome o (IsSpareOf u)
+    → fits m (wide_outcome b.kept) ≡ true → IsUsable m u o b.kept
+is_usable m u o b is h fit =
+    let own : IsSpareOf u b = subst (λ p. IfSome p (IsSpareOf u)) is h in
+    record {
+      fitting = ap (λ p. fits m (spare_of p).trace) is ∙ fit;
+      comes =
+          fits_is m (wide_outcome b.kept) (tagged_of u.tagged)
+          (subst (λ (v : DocUnit). Holds (wide_outcome b.kept) (tagged_of v.tagged)) own.unit own.sound.holds) fit;
+      once = own.sound.once;
+    }
+
+-- ---- of all
+
+-- what is spare of a unit is the first of what is left there
+pub first_lent : (ss : List Bridge) (i : ℕ) → first_spare (drop i (spares_in ss)) ≡ spare_of (slice_get ss i)
+first_lent [] zero = refl
+first_lent [] (suc i) = refl
+first_lent (s ∷ ss) zero = refl
+first_lent (s ∷ ss) (suc i) = first_lent ss i
+
+pub charged : (m : Moment) (e : Entry) (ps : KeptParts) (o r : Option Bridge) (s : UnitSpare) (n : ℕ)
+    → n ≡ charge_with m e ps (spare_of o) → o ≡ r → s ≡ spare_of r → n ≡ charge_with m e ps s
+charged m e ps o r s n is same first =
+    is ∙ ap (λ p. charge_with m e ps (spare_of p)) same ∙ ap (charge_with m e ps) (sym first)
+
+sound_at : (ss : List Bridge) (i : ℕ) (s : Bridge) → All IsSound ss → slice_get ss i ≡ Some s → IsSound s
+sound_at ss i s h is =
+    let inside : i < length ss = slice_get_within ss i s is in
+    subst IsSound (same_Some (slice_index_or ss i s) s (sym (slice_get-get_or ss i s inside) ∙ is)) (h i s inside)
+
+pub item_dropped : (xs : List Bridge) (i : ℕ) (b : Bridge) (rest : List Bridge) → drop i xs ≡ b ∷ rest
+    → slice_get xs i ≡ Some b
+item_dropped [] zero b rest e = cc
+item_dropped [] (suc i) b rest e = cc
+item_dropped (x ∷ xs) zero b rest e = ap Some (heads x b xs rest e).0
+item_dropped (x ∷ xs) (suc i) b rest e = item_dropped xs i b rest e
+
+-- what is lent of the unit of number i, of those from there on
+pub lent_here : (ss old : List Bridge) (i : ℕ) (b : Bridge) (rest : List Bridge) → All IsSound ss
+    → HaveUnitsOf ss old → drop i old ≡ b ∷ rest → IfSome (slice_get ss i) (IsSpareOf b.unit)
+lent_here ss old i b rest sound same ahead = by (slice_get ss i) refl
+  where
+    by : (o : Option Bridge) → slice_get ss i ≡ o → IfSome o (IsSpareOf b.unit)
+    by None is = tt
+    by (Some s) is =
+        record { unit = same i s b is (item_dropped old i b rest ahead); sound = sound_at ss i s sound is }
+
+units_alike : (ss bs : List Bridge) → units_in ss ≡ units_in bs → HaveUnitsOf ss bs
+units_alike [] bs e i s b is_s is_b = cc
+units_alike (x ∷ ss) [] e i s b is_s is_b = cc
+units_alike (x ∷ ss) (y ∷ bs) e zero s b is_s is_b =
+    ap (λ (z : Bridge). z.unit) (sym (same_Some x s is_s))
+    ∙ (heads x.unit y.unit (units_in ss) (units_in bs) e).0
+    ∙ ap (λ (z : Bridge). z.unit) (same_Some y b is_b)
+units_alike (x ∷ ss) (y ∷ bs) e (suc i) s b is_s is_b =
+    units_alike ss bs (heads x.unit y.unit (units_in ss) (units_in bs) e).1 i s b is_s is_b
+
+none_lent : (bs : List Bridge) → HaveUnitsOf [] bs
+none_lent bs i s b is_s is_b = cc
+
+pub have_units : (ss bs : List Bridge) (o : Option Bridged) → MatchOption o (ss ≡ []) (λ b. entries_of ss ≡ b.kept)
+    → IfSome o (λ b. units_of b.kept ≡ units_in bs) → HaveUnitsOf ss bs
+have_units ss bs None none same = subst (λ xs. HaveUnitsOf xs bs) (sym none) (none_lent bs)
+have_units ss bs (Some b) kept same = units_alike ss bs (ap units_of kept ∙ same)
+
+-- what is lent, as contracts see it
+pub zipped : (ss : List Bridge) → map kept_spare (zip (entries_of ss) (parts_in ss)) ≡ spares_in ss
+zipped [] = refl
+zipped (s ∷ ss) = ap (λ r. lent_spare s ∷ r) (zipped ss)
+
+pub all_lent : (ss : List Bridge) (o : Bridged) → entries_of ss ≡ o.kept → parts_in ss ≡ o.parts
+    → spares_in ss ≡ spares_of (Some o)
+all_lent ss o kept parts =
+    sym (zipped ss) ∙ ap (λ es. map kept_spare (zip es (parts_in ss))) kept
+    ∙ ap (λ pss. map kept_spare (zip o.kept pss)) parts
