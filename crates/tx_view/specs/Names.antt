@@ -54,9 +54,9 @@ Carry buffer ms old s new = record {
       (units new);
 }
 
--- What is kept is of the units of these buffers, or of parts of the document that stand in none. The trace of a unit,
--- or of a part, is that of its tree wherever what it looked up is as it was. What is laid out of a part is of one that
--- is kept.
+-- What is kept is of the units of these buffers, of their parts, and of strays, which are places of the document. The
+-- trace of a unit, of a part or of a stray is that of its tree wherever what it looked up is as it was. What is laid out
+-- of a part, or of a stray, is of one that is kept.
 unfoldable pub Holds : List Buffer → Stores → Type 0
 Holds buffers s =
     AllHold s.kept × AllPartsHold s.kept s.parts × (units_of s.kept ≡ units buffers)

@@ -8,6 +8,7 @@ use std::marker::Brand;
 use std::sync::ledger::{Blank, Ledger};
 use std::test::Fail;
 use tx_base::Steps;
+use tx_view::View;
 
 // Eight turns, in which a name is set to a text of n bytes. They take 34 + 2 n steps each, and with what stands around
 // them 294 + 16 n: 848,294 for 53,000 bytes, and 720,294 for 45,000. A row names them by `@`.
@@ -49,12 +50,25 @@ const BUDGETS: &[(&str, &str)] = &[
     ),
 ];
 
+fn are_lines(alloc: Global, view: &View, lines: &str) -> Option<bool> {
+    let same = lines_told(alloc, view)?.as_str() == lines;
+    Some(same && errors_stand(alloc, view)?)
+}
+
+fn has_lines<L: Ledger>(
+    alloc: Global,
+    document: &str,
+    lines: &str,
+    steps: &mut Steps<L>,
+) -> Option<bool> {
+    let view = view_of(alloc, document, (80, 24), steps)?;
+    are_lines(alloc, &view, lines)
+}
+
 fn is_budget<L: Ledger>(alloc: Global, row: &(&str, &str), steps: &mut Steps<L>) -> Option<bool> {
     let told = row.0.replace(alloc, "@", TURNS).ok()?;
     let document = document_of(alloc, told.as_str())?;
-    let view = view_of(alloc, document.as_str(), (80, 24), steps)?;
-    let lines = lines_told(alloc, &view)?;
-    Some(lines.as_str() == row.1 && errors_stand(alloc, &view)?)
+    has_lines(alloc, document.as_str(), row.1, steps)
 }
 
 fn not_told<L: Ledger>(alloc: Global, blank: Blank) -> Option<usize>

@@ -72,10 +72,14 @@ fn rows_told(alloc: Global, view: &View) -> Option<String> {
     Some(text)
 }
 
+fn are_placed(alloc: Global, view: &View, rows: &str) -> Option<bool> {
+    let past = view.position(0, WIDTH).is_none() && view.position(view.rows(), 0).is_none();
+    Some(past && rows_told(alloc, view)?.as_str() == rows)
+}
+
 fn is_placed<L: Ledger>(alloc: Global, row: &(&str, &str), steps: &mut Steps<L>) -> Option<bool> {
     let view = view_of(alloc, row.0, (WIDTH, 5), steps)?;
-    let past = view.position(0, WIDTH).is_none() && view.position(view.rows(), 0).is_none();
-    Some(past && rows_told(alloc, &view)?.as_str() == row.1)
+    are_placed(alloc, &view, row.1)
 }
 
 fn not_placed<L: Ledger>(alloc: Global, blank: Blank) -> Option<usize>

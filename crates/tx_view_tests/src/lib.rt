@@ -4,10 +4,16 @@
 #[cfg(test)]
 mod budgets;
 #[cfg(test)]
+mod changes;
+#[cfg(test)]
 mod columns;
+#[cfg(test)]
+mod edits;
 #[cfg(test)]
 mod runs;
 #[cfg(test)]
 mod tables;
 #[cfg(test)]
 mod told;
+#[cfg(test)]
+mod wraps;

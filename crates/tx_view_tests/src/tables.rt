@@ -7,6 +7,7 @@ use std::marker::Brand;
 use std::sync::ledger::{Blank, Ledger};
 use std::test::Fail;
 use tx_base::Steps;
+use tx_view::View;
 
 // Buffers, the width and the height of pages, the lines with a stroke behind each line and each page, and the errors.
 type Shown = (&'static str, (u32, u32), &'static str, &'static str);
@@ -248,32 +249,51 @@ const NEAR: &[Near] = &[
     ("d (document)", "/", 0, ""),
 ];
 
+fn are_shown(alloc: Global, view: &View, pages: &str, errors: &str) -> Option<bool> {
+    let same = pages_told(alloc, view)?.as_str() == pages;
+    Some(view.fresh() && same && errors_told(alloc, view)?.as_str() == errors)
+}
+
 fn is_shown<L: Ledger>(alloc: Global, row: &Shown, steps: &mut Steps<L>) -> Option<bool> {
     let view = view_of(alloc, row.0, row.1, steps)?;
-    let pages = pages_told(alloc, &view)?;
-    let errors = errors_told(alloc, &view)?;
-    Some(view.fresh() && pages.as_str() == row.2 && errors.as_str() == row.3)
+    are_shown(alloc, &view, row.2, row.3)
+}
+
+fn is_place(alloc: Global, view: &View, cell: (u32, u32), place: &str) -> Option<bool> {
+    let (r, c) = cell;
+    Some(place_told(alloc, view, r, c)?.as_str() == place)
 }
 
 fn is_placed<L: Ledger>(alloc: Global, row: &Placed, steps: &mut Steps<L>) -> Option<bool> {
     let view = view_of(alloc, row.0, (row.1, 24), steps)?;
-    let (r, c) = row.2;
-    Some(place_told(alloc, &view, r, c)?.as_str() == row.3)
+    is_place(alloc, &view, row.2, row.3)
+}
+
+fn is_base(alloc: Global, view: &View, r: u32, base: &str) -> Option<bool> {
+    Some(base_told(alloc, view, r)?.as_str() == base)
 }
 
 fn is_based<L: Ledger>(alloc: Global, row: &Based, steps: &mut Steps<L>) -> Option<bool> {
     let view = view_of(alloc, row.0, (80, 24), steps)?;
-    Some(base_told(alloc, &view, row.1)?.as_str() == row.2)
+    is_base(alloc, &view, row.1, row.2)
+}
+
+fn are_stops(alloc: Global, view: &View, stops: &str) -> Option<bool> {
+    Some(stops_told(alloc, view)?.as_str() == stops)
 }
 
 fn has_stops<L: Ledger>(alloc: Global, row: &(&str, &str), steps: &mut Steps<L>) -> Option<bool> {
     let view = view_of(alloc, row.0, (80, 24), steps)?;
-    Some(stops_told(alloc, &view)?.as_str() == row.1)
+    are_stops(alloc, &view, row.1)
+}
+
+fn are_near(alloc: Global, view: &View, path: &str, offset: u32, stops: &str) -> Option<bool> {
+    Some(near_told(alloc, view, path, offset)?.as_str() == stops)
 }
 
 fn has_near<L: Ledger>(alloc: Global, row: &Near, steps: &mut Steps<L>) -> Option<bool> {
     let view = view_of(alloc, row.0, (80, 24), steps)?;
-    Some(near_told(alloc, &view, row.1, row.2)?.as_str() == row.3)
+    are_near(alloc, &view, row.1, row.2, row.3)
 }
 
 fn not_shown<L: Ledger>(alloc: Global, blank: Blank) -> Option<usize>

@@ -1,5 +1,5 @@
 // Views of buffers, as text.
-ghost use Rattle.std.specs.Prelude.{◌≤◌};
+ghost use Rattle.std.specs.Prelude.{◌≡◌, ◌≤◌, IfSome};
 
 use std::alloc::Global;
 use std::sync::ledger::Ledger;
@@ -10,6 +10,13 @@ use tx_layout::Line;
 use tx_tree::{Path, Place};
 use tx_view::View;
 
+fn buffer_of<L: Ledger>(alloc: Global, told: &str, steps: &mut Steps<L>) -> Option<Buffer> {
+    let (name, words) = told.split_once(' ')?;
+    let tree = tx_scm::read(alloc, words.as_bytes(), steps).ok()?;
+    let name = Name::from(Vec::from_slice(alloc, name.as_bytes()).ok()?);
+    Some(Buffer { name, tree })
+}
+
 /// The buffers that are told: of each a name and a tree, `;` between them.
 pub(crate) fn buffers_of<L: Ledger>(
     alloc: Global,
@@ -18,22 +25,20 @@ pub(crate) fn buffers_of<L: Ledger>(
 ) -> Option<Vec<Buffer>> {
     let mut buffers = Vec::new(alloc);
     for part in told.split(';') {
-        let (name, words) = part.split_once(' ')?;
-        let name = Name::from(Vec::from_slice(alloc, name.as_bytes()).ok()?);
-        let tree = tx_scm::read(alloc, words.as_bytes(), steps).ok()?;
-        buffers.push(Buffer { name, tree }).ok()?;
+        buffers.push(buffer_of(alloc, part, steps)?).ok()?;
     }
     Some(buffers)
 }
 
-/// The fresh view of the buffers that are told, on pages of this width and height.
-pub(crate) fn view_of<L: Ledger>(
+// The view of these buffers before any refresh.
+fn view_before<L: Ledger>(
     alloc: Global,
-    told: &str,
+    buffers: &[Buffer],
     size: (u32, u32),
     steps: &mut Steps<L>,
-) -> Option<View> {
-    let buffers = buffers_of(alloc, told, steps)?;
+) -> Option<View>
+    ensures { IfSome result (λ v. v.buffers ≡ buffers.now) }
+{
     let (width, height) = size;
     if buffers.is_empty()
         || buffers.len() > 16
@@ -44,9 +49,32 @@ pub(crate) fn view_of<L: Ledger>(
     {
         return None;
     }
-    let mut view = View::new(alloc, &buffers, width, height, steps).ok()?;
+    View::new(alloc, buffers, width, height, steps).ok()
+}
+
+/// The fresh view of these buffers, on pages of this width and height.
+pub(crate) fn view_on<L: Ledger>(
+    alloc: Global,
+    buffers: &[Buffer],
+    size: (u32, u32),
+    steps: &mut Steps<L>,
+) -> Option<View>
+    ensures { IfSome result (λ v. v.buffers ≡ buffers.now) }
+{
+    let mut view = view_before(alloc, buffers, size, steps)?;
     view.refresh(alloc, steps).ok()?;
     Some(view)
+}
+
+/// The fresh view of the buffers that are told, on pages of this width and height.
+pub(crate) fn view_of<L: Ledger>(
+    alloc: Global,
+    told: &str,
+    size: (u32, u32),
+    steps: &mut Steps<L>,
+) -> Option<View> {
+    let buffers = buffers_of(alloc, told, steps)?;
+    view_on(alloc, &buffers, size, steps)
 }
 
 fn push_item(text: &mut String, item: &Item) -> Option<()> {
@@ -90,24 +118,34 @@ pub(crate) fn line_told(alloc: Global, view: &View, r: u32) -> Option<String> {
     Some(text)
 }
 
+fn push_path(alloc: Global, text: &mut String, path: Option<&Path>) -> Option<()> {
+    match path {
+        None => text.push('-').ok(),
+        Some(path) => text
+            .push_str(format!(in alloc; "{path}").ok()?.as_str())
+            .ok(),
+    }
+}
+
+fn push_bytes(text: &mut String, bytes: &[u8]) -> Option<()> {
+    text.push_str(str::from_utf8(bytes).ok()?).ok()
+}
+
+fn push_error(alloc: Global, text: &mut String, view: &View, k: u32) -> Option<()> {
+    let (path, error) = view.error(k)?;
+    push_path(alloc, text, path)?;
+    text.push(' ').ok()?;
+    push_bytes(text, error.kind.bytes())?;
+    text.push(' ').ok()?;
+    push_bytes(text, error.detail.bytes())?;
+    text.push('/').ok()
+}
+
 /// The errors, each with the path of its unit or a dash.
 pub(crate) fn errors_told(alloc: Global, view: &View) -> Option<String> {
     let mut text = String::new(alloc);
     for k in 0..view.errors() {
-        let (path, error) = view.error(k)?;
-        match path {
-            None => text.push('-').ok()?,
-            Some(path) => text
-                .push_str(format!(in alloc; "{path}").ok()?.as_str())
-                .ok()?,
-        }
-        text.push(' ').ok()?;
-        text.push_str(str::from_utf8(error.kind.bytes()).ok()?)
-            .ok()?;
-        text.push(' ').ok()?;
-        text.push_str(str::from_utf8(error.detail.bytes()).ok()?)
-            .ok()?;
-        text.push('/').ok()?;
+        push_error(alloc, &mut text, view, k)?;
     }
     Some(text)
 }
