@@ -108,12 +108,12 @@ pub record Giving (places : List (Option (List ℕ))) (old now start new : List 
   pub placed : AllPlaced new
   pub order : (first : ℕ) → AreInOrder first start → AreInOrder first new
 
-get_dropped : (xs : List Bridge) (i : ℕ) (b : Bridge) (rest : List Bridge) → drop i xs ≡ b ∷ rest
+pub item_dropped : (xs : List Bridge) (i : ℕ) (b : Bridge) (rest : List Bridge) → drop i xs ≡ b ∷ rest
     → slice_get xs i ≡ Some b
-get_dropped [] zero b rest e = cc
-get_dropped [] (suc i) b rest e = cc
-get_dropped (x ∷ xs) zero b rest e = let same : x ≡ b = cc in ap Some same
-get_dropped (x ∷ xs) (suc i) b rest e = get_dropped xs i b rest e
+item_dropped [] zero b rest e = cc
+item_dropped [] (suc i) b rest e = cc
+item_dropped (x ∷ xs) zero b rest e = let same : x ≡ b = cc in ap Some same
+item_dropped (x ∷ xs) (suc i) b rest e = item_dropped xs i b rest e
 
 module _ (places : List (Option (List ℕ))) (old now start new : List Bridge) (i : ℕ)
     (g : Giving places old now start new i) where
@@ -153,7 +153,7 @@ module _ (places : List (Option (List ℕ))) (old now start new : List Bridge) (
 
   old_here : i < length now → (d : Bridge) → slice_get old i ≡ Some (slice_index_or now i d)
   old_here inside d =
-      get_dropped old i (slice_index_or now i d) (drop (i + 1) now) (sym g.rest ∙ drop_more now i d inside)
+      item_dropped old i (slice_index_or now i d) (drop (i + 1) now) (sym g.rest ∙ drop_more now i d inside)
 
   pub moved_here : AreMoved places old → i < length now → i < length places → (d : Bridge) (q : Option (List ℕ))
       → q ≡ slice_index_or places i q → (slice_index_or now i d).unit.path ≡ None → q ≡ None

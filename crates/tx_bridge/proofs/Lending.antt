@@ -22,6 +22,7 @@ use Rattle.tx_bridge.specs.Spares.{UnitSpare, first_spare, kept_spare, spares_of
 use Rattle.tx_bridge.specs.Spares.{charge_with}
 use Rattle.tx_bridge.specs.Lent.{lent_spare, spare_of, spare_parts, spares_in, IsSpareOf, IsUsable, HaveUnitsOf}
 use Rattle.tx_bridge.proofs.Partway.{units_in}
+use Rattle.tx_bridge.proofs.Handed.{item_dropped}
 use Rattle.tx_bridge.proofs.Taking.{heads}
 use Rattle.tx_bridge.proofs.Used.{fits_is}
 
@@ -82,13 +83,6 @@ sound_at : (ss : List Bridge) (i : ℕ) (s : Bridge) → All IsSound ss → slic
 sound_at ss i s h is =
     let inside : i < length ss = slice_get_within ss i s is in
     subst IsSound (same_Some (slice_index_or ss i s) s (sym (slice_get-get_or ss i s inside) ∙ is)) (h i s inside)
-
-pub item_dropped : (xs : List Bridge) (i : ℕ) (b : Bridge) (rest : List Bridge) → drop i xs ≡ b ∷ rest
-    → slice_get xs i ≡ Some b
-item_dropped [] zero b rest e = cc
-item_dropped [] (suc i) b rest e = cc
-item_dropped (x ∷ xs) zero b rest e = ap Some (heads x b xs rest e).0
-item_dropped (x ∷ xs) (suc i) b rest e = item_dropped xs i b rest e
 
 -- what is lent of the unit of number i, of those from there on
 pub lent_here : (ss old : List Bridge) (i : ℕ) (b : Bridge) (rest : List Bridge) → All IsSound ss

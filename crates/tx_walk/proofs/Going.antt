@@ -2,7 +2,7 @@
 use Rattle.std.proofs.Common.{◌≡◌, ℕ, zero, suc, ◌+◌, ◌-◌, ◌≤◌, max, List, [], ◌∷◌, ◌++◌, map, length, drop, refl}
 use Rattle.std.proofs.Common.{ap, sym, subst, ◌∙◌, append_assoc, length-append, arith}
 use mathlib.Core.Path.{fun_ext}
-use Rattle.std.proofs.lemmas.List.{map-append}
+use Rattle.std.proofs.lemmas.List.{drop_all, map-append}
 use Rattle.std.proofs.lemmas.List.Sums.{sum_by-append}
 use Rattle.std.specs.Prelude.{Bool, true, false, Option, Some, None, option_and_then, slice_get}
 use Rattle.std.specs.Option.{option_map, option_map_or, option_or}
@@ -280,27 +280,23 @@ module _ (guide : Guide) (k c : ℕ) (path : List ℕ) (kids : List WideTree) (s
             (charged_so None comes));
       }
 
-drop_all : {X : Type 0} (xs : List X) (n : ℕ) → n ≡ length xs → drop n xs ≡ []
-drop_all [] zero h = refl
-drop_all [] (suc n) h = refl
-drop_all (x ∷ xs) zero h = absurd (omega (arith, h))
-drop_all {X} (x ∷ xs) (suc n) h = drop_all {X = X} xs n (omega (arith, h))
-
 pub ends : (guide : Guide) (k c : ℕ) (path : List ℕ) (kids : List WideTree) (s : Stage) (i : ℕ) (s1 : Stage) →
     Going guide k c path kids s i s1 → i ≡ length kids → ChildrenDone guide k c path kids s s1
 ends guide k c path kids s i s1 g h =
     let all : parts_from k (parts_by guide.sheller k) c path 0 nothing_yet kids s.names ≡ g.earlier =
-    g.parts_are ∙ ap (λ ts. g.earlier ++ parts_from k (parts_by guide.sheller k) c path i g.so_far ts s.names) (drop_all
-    kids i h)
-    ∙ append_none g.earlier in
+    g.parts_are ∙ ap (λ ts. g.earlier ++ parts_from k (parts_by guide.sheller k) c path i g.so_far ts s.names)
+    (drop_all i kids (omega (arith, h))) ∙ append_none g.earlier in
     record {
       so_far = g.so_far;
-      comes = g.run ∙ ap (λ ts. children_from (evaluates k) c i g.so_far ts s.names) (drop_all kids i h);
+      comes = g.run ∙ ap (λ ts. children_from (evaluates k) c i g.so_far ts s.names) (drop_all i kids (omega (
+        arith,
+        h,
+      )));
       joined = g.joined;
       names = g.names;
       done = g.done ∙ ap (λ ps. s.done ++ map (seen_in guide.stores) ps) (sym all);
       count = ended _ _ g.spent _ g.count (g.charged_are ∙ ap (λ ts. g.spent + charged_from guide k c path i g.so_far ts
           s.names)
-          (drop_all kids i h));
+          (drop_all i kids (omega (arith, h))));
       many = g.many ∙ h;
     }

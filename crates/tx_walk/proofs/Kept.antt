@@ -1,4 +1,4 @@
--- What a walk answered can be kept for the next one.
+-- What a walk answered can be kept for the next one, whatever shells trees have.
 use Rattle.std.proofs.Common.{◌≡◌, ℕ, List, [], ◌∷◌, ◌++◌, map, refl, ap, sym, subst, ◌∙◌}
 use Rattle.std.proofs.lemmas.List.{append_cancel_left}
 use Rattle.std.proofs.lemmas.Slice.Eq.{bytes_eq-Decides}
@@ -13,9 +13,10 @@ use Rattle.tx_exec_form.specs.Laws.{Supports}
 use Rattle.tx_exec_form.proofs.Tracing.{supports}
 use Rattle.tx_exec.specs.Outcomes.{wide_trace}
 use Rattle.tx_parts.specs.Composed.{alone}
-use Rattle.tx_parts.specs.Parts.{Part, parts, part_trace}
+use Rattle.tx_parts.specs.Opening.{Sheller}
+use Rattle.tx_parts.specs.Parts.{Part, parts_by, part_trace}
 use Rattle.tx_parts.specs.Standing.{StandsIn}
-use Rattle.tx_parts.proofs.Standing.{parts_stand, parts_differ}
+use Rattle.tx_parts.proofs.Standing.{parts_by_stand, parts_by_differ}
 use Rattle.tx_walk.specs.declared.part.Part.{Part as DonePart}
 use Rattle.tx_walk.specs.Held.{Store, Stores, IsSound, AreSound, only}
 use Rattle.tx_walk.specs.Walked.{Seen, seen, seen_in, kept_in, paths_of}
@@ -75,13 +76,15 @@ supported path t u at below trace f is_below leads =
     subst (λ v. Supports trace (alone v)) tree
     (supports f.part.levels f.part.steps (alone f.part.tree) f.part.before trace f.comes)
 
-pub walked_sound : (kept : Stores) (k c : ℕ) (path : List ℕ) (t : WideTree) (e : Before) (ds : List DonePart) →
-    map seen ds ≡ map (seen_in kept) (parts k c path t e) → IsSound (kept_in ds) path t
-walked_sound kept k c path t e ds h =
+pub walked_sound : (kept : Stores) (sheller : Sheller) (k c : ℕ) (path : List ℕ) (t : WideTree) (e : Before)
+    (ds : List DonePart) → map seen ds ≡ map (seen_in kept) (parts_by sheller k c path t e) →
+    IsSound (kept_in ds) path t
+walked_sound kept sheller k c path t e ds h =
     record {
       holds = λ below u trace leads found.
           by below u trace leads
-          (found_in kept path t (path ++ below) trace ds (parts k c path t e) h (parts_stand k c path t e) found);
+          (found_in kept path t (path ++ below) trace ds (parts_by sheller k c path t e) h
+          (parts_by_stand sheller k c path t e) found);
     }
   where
     by : (below : List ℕ) (u : WideTree) (trace : WideTrace) → subtree t below ≡ Some u →
@@ -113,7 +116,9 @@ paths_are kept (d ∷ ds) (p ∷ ps) h =
     ∙ ap (λ xs. p.path ∷ xs) (paths_are kept ds ps a.others))
     (alike kept d ds p ps h)
 
-pub walked_distinct : (kept : Stores) (k c : ℕ) (path : List ℕ) (t : WideTree) (e : Before) (ds : List DonePart) →
-    map seen ds ≡ map (seen_in kept) (parts k c path t e) → IsDistinct bytes_eq (paths_of ds)
-walked_distinct kept k c path t e ds h =
-    subst (IsDistinct bytes_eq) (sym (paths_are kept ds (parts k c path t e) h)) (parts_differ k c path t e)
+pub walked_distinct : (kept : Stores) (sheller : Sheller) (k c : ℕ) (path : List ℕ) (t : WideTree) (e : Before)
+    (ds : List DonePart) → map seen ds ≡ map (seen_in kept) (parts_by sheller k c path t e) →
+    IsDistinct bytes_eq (paths_of ds)
+walked_distinct kept sheller k c path t e ds h =
+    subst (IsDistinct bytes_eq) (sym (paths_are kept ds (parts_by sheller k c path t e) h))
+    (parts_by_differ sheller k c path t e)

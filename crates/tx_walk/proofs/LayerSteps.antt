@@ -1,7 +1,7 @@
 -- The names and trees of a layer, one behind the other.
 use Rattle.std.proofs.Common.{◌≡◌, ℕ, zero, suc, ◌+◌, ◌*◌, ◌-◌, ◌<◌, ◌≤◌, max, List, [], ◌∷◌, ◌++◌, length, take}
 use Rattle.std.proofs.Common.{drop, refl, ap, sym, subst, ◌∙◌, append_assoc, length-append, arith}
-use Rattle.std.proofs.lemmas.List.{map-append}
+use Rattle.std.proofs.lemmas.List.{drop_all, take_all, map-append}
 use Rattle.std.specs.Prelude.{Bool, true, false, nat_le, if◌then◌else◌, Option, Some, None, option_and_then, slice_get}
 use Rattle.std.specs.Option.{option_map_or}
 use Rattle.std.specs.List.{IsDistinct}
@@ -327,30 +327,18 @@ module _ (k c : ℕ) (l : Layer) (s : LayerStage) (i : ℕ) (s1 : LayerStage) (g
       }
   setting_over s2 (at_tree done d) = tree_over done s2 d
 
-drop_all : {X : Type 0} (xs : List X) (n : ℕ) → n ≡ length xs → drop n xs ≡ []
-drop_all [] zero h = refl
-drop_all [] (suc n) h = refl
-drop_all (x ∷ xs) zero h = absurd (omega (arith, h))
-drop_all {X} (x ∷ xs) (suc n) h = drop_all {X = X} xs n (omega (arith, h))
-
-take_all : {X : Type 0} (xs : List X) (n : ℕ) → n ≡ length xs → take n xs ≡ xs
-take_all [] zero h = refl
-take_all [] (suc n) h = refl
-take_all (x ∷ xs) zero h = absurd (omega (arith, h))
-take_all {X} (x ∷ xs) (suc n) h = ap (λ ys. x ∷ ys) (take_all {X = X} xs n (omega (arith, h)))
-
 pub layer_ends : (k c : ℕ) (l : Layer) (s : LayerStage) (i : ℕ) (s1 : LayerStage) → LayerGoing k c l s i s1 →
     i ≡ length l.names → length l.names ≡ length l.trees → LayerDone k c l s s1
 layer_ends k c l s i s1 g h full =
     let costs : tree_costs_from k c 0 nothing_yet l.names l.trees s.names ≡ g.spent + 0 =
     g.costs ∙ ap (λ ys. g.spent + tree_costs_from k c g.number s1.joined ys (drop i l.trees) s.names)
-    (drop_all l.names i h) in
+    (drop_all i l.names (omega (arith, h))) in
     let before : s1.count ≡ s.count + g.spent = g.count in
     let many : length s1.joined.values ≡ 2 * i = g.many in
     record {
       comes = g.run ∙ ap (λ ys. children_from (evaluates_bare k) c g.number s1.joined (in_turn ys (drop i l.trees))
-          s.names) (drop_all l.names i h);
-      settings = g.settings ∙ ap (λ ys. layer_pairs ys s1.joined.values) (take_all l.names i h);
+          s.names) (drop_all i l.names (omega (arith, h)));
+      settings = g.settings ∙ ap (λ ys. layer_pairs ys s1.joined.values) (take_all i l.names (omega (arith, h)));
       names = g.names;
       count = omega (arith, before, costs);
       many = omega (arith, many, h);

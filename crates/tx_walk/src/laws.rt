@@ -6,17 +6,19 @@ ghost use Rattle.tx_tree.specs.WideTree.{WideTree};
 ghost use Rattle.tx_exec_form.specs.Runs.{Before};
 ghost use Rattle.tx_exec_form.specs.Evaluated.{paid};
 ghost use Rattle.tx_parts.specs.Composed.{evaluates};
-ghost use Rattle.tx_parts.specs.Parts.{parts};
+ghost use Rattle.tx_parts.specs.Opening.{Sheller};
+ghost use Rattle.tx_parts.specs.Parts.{parts, parts_by};
 ghost use Rattle.tx_walk.specs.declared.part.Part.{Part as DonePart};
 ghost use Rattle.tx_walk.specs.Held.{Store, Stores, IsSound, AreSound, only, charges};
 ghost use Rattle.tx_walk.specs.Walked.{kept_in, paths_of, seen, seen_in};
 
-/// A law: the parts that a walk answers are such as the next walk of the tree asks for.
+/// A law: the parts that a walk answers, whatever shells trees have, are such as the next walk of the tree asks for.
 pub fn walked_law()
-    ensures sound { (kept : Stores) (k c : ℕ) (t : WideTree) (e : Before) (done : List DonePart) →
-        map seen done ≡ map (seen_in kept) (parts k c [] t e) → IsSound (kept_in done) [] t }
-    ensures distinct { (kept : Stores) (k c : ℕ) (t : WideTree) (e : Before) (done : List DonePart) →
-        map seen done ≡ map (seen_in kept) (parts k c [] t e) → IsDistinct bytes_eq (paths_of done) }
+    ensures sound { (kept : Stores) (sheller : Sheller) (k c : ℕ) (t : WideTree) (e : Before) (done : List DonePart) →
+        map seen done ≡ map (seen_in kept) (parts_by sheller k c [] t e) → IsSound (kept_in done) [] t }
+    ensures distinct { (kept : Stores) (sheller : Sheller) (k c : ℕ) (t : WideTree) (e : Before)
+        (done : List DonePart) → map seen done ≡ map (seen_in kept) (parts_by sheller k c [] t e) →
+        IsDistinct bytes_eq (paths_of done) }
 {}
 
 /// A law: where nothing is kept, it is such as a walk of any tree asks for. What is kept is sound with nothing spare

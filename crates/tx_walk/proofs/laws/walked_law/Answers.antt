@@ -4,6 +4,6 @@ use Rattle.tx_walk.proofs.laws.walked_law.Goals as goal
 
 pub returns : goal.returns
 returns c = record {
-  sound = λ kept k c. walked_sound kept k c [];
-  distinct = λ kept k c. walked_distinct kept k c [];
+  sound = λ kept sheller k c. walked_sound kept sheller k c [];
+  distinct = λ kept sheller k c. walked_distinct kept sheller k c [];
 }

@@ -2,6 +2,7 @@ use Rattle.std.proofs.Common.{ap, sym, subst, ◌∙◌}
 use Rattle.std.proofs.lemmas.List.Elements.{recursion_from_All}
 use Rattle.std.specs.FinMap.{get}
 use Rattle.tx_exec.specs.Outcomes.{wide_outcome}
+use Rattle.tx_parts.specs.Opening.{closed}
 use Rattle.tx_walk.specs.Walked.{IsTidy, stores_in}
 use Rattle.tx_bridge.specs.HeldParts.{PartsHold, kept_parts, flags_of_parts}
 use Rattle.tx_bridge.proofs.ByParts.{sound_of, tidy_of, walked_hold, parts_there, outcome_there, fresh_there}
@@ -42,9 +43,10 @@ returns-clause-parts g c =
 pub returns-clause-hold : goal.returns-clause-hold
 returns-clause-hold g c =
     subst (PartsHold c.args.unit.now (wide_outcome c.in_ok-walked.walked.outcome)) (sym c.new.ensures)
-    (walked_hold c.trace_laws.ensures.supports c.standing_law.ensures.stand c.walked_law.ensures.distinct
-    c.fitting_law.ensures.same_stored (stores_in c.args.kept.now c.args.spare.now) c.min-allowance.result
-    (get c.self.inside.env.map) c.args.unit.now c.requires.nested c.in_ok-walked.walked.parts.items
+    (walked_hold c.trace_laws.ensures.supports c.standing_law.ensures.stand
+    (λ kept. c.walked_law.ensures.distinct kept closed) c.fitting_law.ensures.same_stored
+    (stores_in c.args.kept.now c.args.spare.now) c.min-allowance.result (get c.self.inside.env.map)
+    c.args.unit.now c.requires.nested c.in_ok-walked.walked.parts.items
     (recursion_from_All IsTidy c.in_ok-walked.walked.parts.items c.in_ok-walked.ensures.tidy)
     (wide_outcome c.in_ok-walked.walked.outcome) c.in_ok-walked.ensures.exact c.in_ok-walked.ensures.parts)
 
