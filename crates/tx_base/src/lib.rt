@@ -6,8 +6,6 @@
 
 mod out_of_memory;
 mod step_count;
-#[cfg(test)]
-mod tests;
 
 pub use out_of_memory::Memory;
 pub use step_count::Steps;

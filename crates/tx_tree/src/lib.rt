@@ -14,8 +14,6 @@ mod path_laws;
 mod paths;
 mod places;
 mod sharing;
-#[cfg(test)]
-mod tests;
 mod texts;
 mod trees;
 

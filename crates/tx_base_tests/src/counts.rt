@@ -1,11 +1,11 @@
 // Want of memory in words, and a count that is made and raised.
 ghost use Rattle.std.specs.Prelude.{◌≡◌};
 
-use crate::{Memory, Steps};
 use std::alloc::AllocError;
 use std::marker::Brand;
 use std::sync::ledger::{Blank, Ledger};
 use std::test::Fail;
+use tx_base::{Memory, Steps};
 
 fn wanting() -> Result<(), Memory> {
     Err(AllocError)?;
