@@ -3,7 +3,8 @@ ghost use Rattle.std.specs.Prelude.{◌≡◌};
 ghost use Rattle.tx_mod.specs.Mods.{path_of};
 ghost use Rattle.tx_bridge.specs.InPlace.{begins, are_within};
 
-use crate::edits::change_of;
+use crate::buffers::modifications;
+use crate::rows::{Row, first_untrue};
 use std::alloc::Global;
 use std::marker::Brand;
 use std::sync::ledger::{Blank, Ledger};
@@ -14,58 +15,50 @@ use tx_tree::Path;
 
 // Modifications, `;` between them, a path that all of them are below, one behind it, and whether what stands there is
 // found to stay.
-type Row = (&'static str, &'static str, &'static str, bool);
+struct PlaceRow(&'static str, &'static str, &'static str, bool);
 
-const ROWS: &[Row] = &[
+const PLACES: &[PlaceRow] = &[
     // beside the modification, above it, and what it changes
-    ("assign /1/2 \"x\"", "/1", "/1", true),
-    ("assign /1/2 \"x\"", "/1", "/3/2", true),
-    ("assign /1/2/0 \"x\"", "/1", "/2", false),
-    ("assign /1/2 \"x\"", "/1", "/", false),
-    ("assign /1/2 \"x\"", "/1", "/2", false),
-    ("assign /1/2 \"x\"", "/1", "/2/0", false),
-    ("insert /1 2 (tuple \"x\")", "/1", "/1/5", true),
-    ("insert /1 2 (tuple \"x\")", "/1", "/2", false),
-    ("insert /1 2 (tuple \"x\")", "/1", "/", false),
-    ("remove /1/0 2 3", "/1", "/0/1", true),
-    ("remove /1/0 2 3", "/1", "/0/2", false),
-    ("remove /1/0 2 3", "/1", "/0/5", false),
+    PlaceRow("assign /1/2 \"x\"", "/1", "/1", true),
+    PlaceRow("assign /1/2 \"x\"", "/1", "/3/2", true),
+    PlaceRow("assign /1/2/0 \"x\"", "/1", "/2", false),
+    PlaceRow("assign /1/2 \"x\"", "/1", "/", false),
+    PlaceRow("assign /1/2 \"x\"", "/1", "/2", false),
+    PlaceRow("assign /1/2 \"x\"", "/1", "/2/0", false),
+    PlaceRow("insert /1 2 (tuple \"x\")", "/1", "/1/5", true),
+    PlaceRow("insert /1 2 (tuple \"x\")", "/1", "/2", false),
+    PlaceRow("insert /1 2 (tuple \"x\")", "/1", "/", false),
+    PlaceRow("remove /1/0 2 3", "/1", "/0/1", true),
+    PlaceRow("remove /1/0 2 3", "/1", "/0/2", false),
+    PlaceRow("remove /1/0 2 3", "/1", "/0/5", false),
     // of the child that is split what stands before the cut
-    ("split /1 2 3", "/1", "/1", true),
-    ("split /1 2 3", "/1", "/2", false),
-    ("split /1 2 3", "/1", "/2/2/0", true),
-    ("split /1 2 3", "/1", "/2/3", false),
-    ("split /1 2 3", "/1", "/3", false),
+    PlaceRow("split /1 2 3", "/1", "/1", true),
+    PlaceRow("split /1 2 3", "/1", "/2", false),
+    PlaceRow("split /1 2 3", "/1", "/2/2/0", true),
+    PlaceRow("split /1 2 3", "/1", "/2/3", false),
+    PlaceRow("split /1 2 3", "/1", "/3", false),
     // of two children that are joined what stands in the first
-    ("join /1 2", "/1", "/1", true),
-    ("join /1 2", "/1", "/2", false),
-    ("join /1 2", "/1", "/2/0", true),
-    ("join /1 2", "/1", "/3/0", false),
-    ("join /1 2", "/1", "/4", false),
-    ("assign-node /1/0 em", "/1", "/0", false),
-    ("assign-node /1/0 em", "/1", "/0/7", true),
-    ("insert-node /1/0 0 (f)", "/1", "/0", false),
-    ("insert-node /1/0 0 (f)", "/1", "/0/0", false),
-    ("remove-node /1/0 0", "/1", "/0/0", false),
+    PlaceRow("join /1 2", "/1", "/1", true),
+    PlaceRow("join /1 2", "/1", "/2", false),
+    PlaceRow("join /1 2", "/1", "/2/0", true),
+    PlaceRow("join /1 2", "/1", "/3/0", false),
+    PlaceRow("join /1 2", "/1", "/4", false),
+    PlaceRow("assign-node /1/0 em", "/1", "/0", false),
+    PlaceRow("assign-node /1/0 em", "/1", "/0/7", true),
+    PlaceRow("insert-node /1/0 0 (f)", "/1", "/0", false),
+    PlaceRow("insert-node /1/0 0 (f)", "/1", "/0/0", false),
+    PlaceRow("remove-node /1/0 0", "/1", "/0/0", false),
     // all of them
-    ("insert /1 2 (tuple \"x\");remove /1 1 1", "/1", "/0", true),
-    ("insert /1 2 (tuple \"x\");remove /1 1 1", "/1", "/1", false),
-    ("remove /1 1 1;insert /1 2 (tuple \"x\")", "/1", "/1", false),
-    (
+    PlaceRow("insert /1 2 (tuple \"x\");remove /1 1 1", "/1", "/0", true),
+    PlaceRow("insert /1 2 (tuple \"x\");remove /1 1 1", "/1", "/1", false),
+    PlaceRow("remove /1 1 1;insert /1 2 (tuple \"x\")", "/1", "/1", false),
+    PlaceRow(
         "insert / 2 (tuple \"x\");assign /0/1 \"x\"",
         "/",
         "/0/0",
         true,
     ),
 ];
-
-fn modifications<L: Ledger>(alloc: Global, lines: &str, steps: &mut Steps<L>) -> Option<Vec<Mod>> {
-    let mut mods = Vec::new(alloc);
-    for line in lines.split(';') {
-        mods.push(change_of(alloc, line, steps)?).ok()?;
-    }
-    Some(mods)
-}
 
 fn begins(base: &Path, m: &Mod) -> bool
     ensures { result ≡ begins base.now (path_of m.now) }
@@ -79,34 +72,27 @@ fn are_within(base: &Path, mods: &[Mod]) -> bool
     mods.iter().all(|m| begins(base, m))
 }
 
-// Whether the row says what is found.
-fn holds<L: Ledger>(alloc: Global, row: &Row, steps: &mut Steps<L>) -> Option<bool> {
-    let (lines, base, below, stays) = *row;
-    let mods = modifications(alloc, lines, steps)?;
+// Whether what stands at the path below the base is found to stay. None where a modification isn't below the base.
+fn is_kept(alloc: Global, mods: &[Mod], base: &str, below: &str) -> Option<bool> {
     let base = Path::parse(alloc, base.as_bytes()).ok()?;
     let below = Path::parse(alloc, below.as_bytes()).ok()?;
-    if !are_within(&base, &mods) {
+    if !are_within(&base, mods) {
         return None;
     }
-    Some(all_keep_place(&mods, &base, &below) == stays)
+    Some(all_keep_place(mods, &base, &below))
 }
 
-// The number of the first row that doesn't hold.
-fn first_untrue<L: Ledger>(alloc: Global, blank: Blank) -> Option<usize>
-    requires name { blank.name ≡ L.name }
-    requires parts { blank.parts ≡ L.parts }
-    requires whole { blank.parts ≡ 1 }
-{
-    let mut steps = Steps::<L>::new(blank);
-    for (i, row) in ROWS.iter().enumerate() {
-        if holds(alloc, row, &mut steps) != Some(true) {
-            return Some(i);
-        }
+impl Row for PlaceRow {
+    // Whether the row says what is found.
+    fn holds<L: Ledger>(&self, alloc: Global, steps: &mut Steps<L>) -> Option<bool> {
+        let PlaceRow(lines, base, below, stays) = *self;
+        let mods = modifications(alloc, lines, steps)?;
+        Some(is_kept(alloc, &mods, base, below)? == stays)
     }
-    None
 }
 
 #[test]
 fn places_that_stay_are_found(rt: HostRuntime) {
-    assert_eq!(rt; first_untrue::<Brand>(rt.alloc(), Blank::new(1)), None);
+    let wrong = first_untrue::<Brand, _>(rt.alloc(), PLACES, Blank::new(1));
+    assert_eq!(rt; wrong, None);
 }

@@ -1,8 +1,13 @@
-//! Tests of kept evaluations: which units an edit reaches and which parts it renews, also where parts go to other
-//! paragraphs, that their outcomes are those from nothing, also behind a start and with a spare, and which places edits
-//! are found to leave as they are.
+//! Tests of kept evaluations. Of units that are evaluated by their parts: that the whole is what evaluating it gives,
+//! also where an opener opens tags and with a spare. Of edits: which units they reach and which parts they renew, also
+//! where parts go to other paragraphs, that outcomes are those from nothing, also behind a start and with a spare, and
+//! which places edits are found to leave as they are.
 #![tactic(auto)]
 
+#[cfg(test)]
+mod boxes;
+#[cfg(test)]
+mod buffers;
 #[cfg(test)]
 mod edits;
 #[cfg(test)]
@@ -10,6 +15,16 @@ mod keeping;
 #[cfg(test)]
 mod moves;
 #[cfg(test)]
+mod outcomes;
+#[cfg(test)]
 mod parts;
 #[cfg(test)]
+mod rows;
+#[cfg(test)]
+mod series;
+#[cfg(test)]
+mod shells;
+#[cfg(test)]
 mod starts;
+#[cfg(test)]
+mod walks;

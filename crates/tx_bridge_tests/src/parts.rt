@@ -1,7 +1,9 @@
 // The parts of paragraphs, and what names have at the end.
 ghost use Rattle.std.specs.Prelude.{◌≡◌};
 
-use crate::edits::{BASE, buffers_of, edited_in_place, from_nothing};
+use crate::buffers::{BASE, buffers_of, from_nothing};
+use crate::edits::edited_in_place;
+use crate::rows::{Row, first_untrue};
 use std::alloc::Global;
 use std::marker::Brand;
 use std::sync::ledger::{Blank, Ledger};
@@ -12,48 +14,48 @@ use tx_walk::Part;
 
 // A buffer, an edit inside one paragraph, and for each paragraph, a `/` between them, a mark for each part: a cross
 // where nothing that fits was kept of it, and else a point.
-type Row = (&'static str, &'static str, &'static str);
+struct MarksRow(&'static str, &'static str, &'static str);
 
-const ROWS: &[Row] = &[
-    (
+const MARKS: &[MarksRow] = &[
+    MarksRow(
         "d (document (assign \"n\" \"1\") (with \"color\" \"red\" (document \"long text\" (value \"n\"))))",
         "assign /1/2/0 \"x\"",
         "./x.",
     ),
-    (
+    MarksRow(
         "d (document (assign \"n\" \"1\") (with \"color\" \"red\" (document \"long text\" (value \"n\"))))",
         "assign /0/1 \"5\"",
         "x/.x",
     ),
     // a paragraph that isn't reached
-    (
+    MarksRow(
         "d (document (document \"a\" \"b\") (document \"c\" \"d\"))",
         "insert /1/0 0 \"x\"",
         "../x.",
     ),
     // one that isn't open is its own part
-    (
+    MarksRow(
         "d (document \"a\" \"b\" (value \"n\") (concat \"c\" (document \"d\")) \"e\")",
         "insert /1 0 \"x\"",
         "./x/././.",
     ),
-    (
+    MarksRow(
         "d (document \"a\" (value \"n\") (concat \"c\" (document \"d\")) \"e\")",
         "assign /0 (assign \"n\" \"1\")",
         "x/x/./.",
     ),
     // also one that is opened or closed now
-    (
+    MarksRow(
         "d (document (concat \"a\" \"bc\") \"d\")",
         "assign-node /0 document",
         "xx/.",
     ),
-    (
+    MarksRow(
         "d (document (document \"a\" \"bc\") \"d\")",
         "assign-node /0 concat",
         "x/.",
     ),
-    (
+    MarksRow(
         "d (document (document \"a\") \"d\")",
         "remove /0 0 1",
         "x/.",
@@ -80,33 +82,18 @@ pub(crate) fn are_marked(bridges: &Bridges, marks: &str) -> Option<bool> {
     Some(true)
 }
 
-fn holds<L: Ledger>(alloc: Global, row: &Row, steps: &mut Steps<L>) -> Option<bool> {
-    let buffers = buffers_of(alloc, row.0, steps)?;
-    if buffers.is_empty() || buffers.len() > 16 {
-        return None;
+impl Row for MarksRow {
+    fn holds<L: Ledger>(&self, alloc: Global, steps: &mut Steps<L>) -> Option<bool> {
+        let mut buffers = buffers_of(alloc, self.0, steps)?;
+        let (bridges, _) = edited_in_place(alloc, &mut buffers, self.1, steps)?;
+        are_marked(&bridges, self.2)
     }
-    let (bridges, _, _) = edited_in_place(alloc, &buffers, row.1, steps)?;
-    are_marked(&bridges, row.2)
-}
-
-// The number of the first row that doesn't hold.
-fn first_untrue<L: Ledger>(alloc: Global, blank: Blank) -> Option<usize>
-    requires name { blank.name ≡ L.name }
-    requires parts { blank.parts ≡ L.parts }
-    requires whole { blank.parts ≡ 1 }
-{
-    let mut steps = Steps::<L>::new(blank);
-    for (i, row) in ROWS.iter().enumerate() {
-        if holds(alloc, row, &mut steps) != Some(true) {
-            return Some(i);
-        }
-    }
-    None
 }
 
 #[test]
 fn parts_that_change_are_told(rt: HostRuntime) {
-    assert_eq!(rt; first_untrue::<Brand>(rt.alloc(), Blank::new(1)), None);
+    let wrong = first_untrue::<Brand, _>(rt.alloc(), MARKS, Blank::new(1));
+    assert_eq!(rt; wrong, None);
 }
 
 // The moment behind all units.
@@ -119,7 +106,14 @@ fn end_of<L: Ledger>(
     bridges.end(alloc)
 }
 
-// Whether the name has this text behind all units.
+// Whether the name has this text at the moment.
+pub(crate) fn has_text(alloc: Global, moment: &Moment, name: &[u8], text: &[u8]) -> Option<bool> {
+    let name = Text::new(alloc, name).ok()?;
+    let words = moment.env().get(&name)?.text()?;
+    Some(words.bytes() == text)
+}
+
+// Whether it has behind all units.
 fn ends_with<L: Ledger>(
     alloc: Global,
     bridges: &mut Bridges,
@@ -128,9 +122,7 @@ fn ends_with<L: Ledger>(
     steps: &mut Steps<L>,
 ) -> Option<bool> {
     let moment = end_of(alloc, bridges, steps).ok()?;
-    let name = Text::new(alloc, name).ok()?;
-    let words = moment.env().get(&name)?.text()?;
-    Some(words.bytes() == text)
+    has_text(alloc, &moment, name, text)
 }
 
 // What the name `n` has behind a document that sets it twice.
@@ -142,9 +134,6 @@ fn is_last<L: Ledger>(alloc: Global, blank: Blank) -> Option<bool>
     let mut steps = Steps::<L>::new(blank);
     let words = "d (document (assign \"n\" \"1\") \"a\" (document (assign \"n\" \"2\") \"b\"))";
     let buffers = buffers_of(alloc, words, &mut steps)?;
-    if buffers.is_empty() || buffers.len() > 16 {
-        return None;
-    }
     let mut bridges = from_nothing(alloc, &buffers, &mut steps)?;
     ends_with(
         alloc,

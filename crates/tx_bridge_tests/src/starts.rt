@@ -3,8 +3,10 @@ ghost use Rattle.std.specs.Prelude.{◌≡◌, ◌≤◌, length, IfSome, option
 ghost use Rattle.tx_units.specs.Units.{units};
 ghost use Rattle.tx_bridge.specs.Entries.{units_of};
 
-use crate::edits::{are_fresh, buffers_of};
-use crate::parts::are_marked;
+use crate::buffers::{are_fresh, buffers_of};
+use crate::outcomes::tree_of;
+use crate::parts::{are_marked, has_text};
+use crate::rows::{Row, first_untrue};
 use std::alloc::Global;
 use std::marker::Brand;
 use std::sync::ledger::{Blank, Ledger};
@@ -12,7 +14,7 @@ use tx_base::{Memory, Steps};
 use tx_bridge::{Bridges, Moment, unit_list_laws};
 use tx_doc::Buffer;
 use tx_env::Writes;
-use tx_tree::Text;
+use tx_tree::{Text, Tree};
 use tx_units::units;
 
 // Names and texts, `;` between them.
@@ -24,7 +26,7 @@ type Start = &'static str;
 //
 // The name `n` costs 2, and `(value "n")` that, 1 and the size of what it gives: the text's length and 1, or 13 where
 // the name is unset.
-type Row = (
+struct StartRow(
     &'static str,
     Option<Start>,
     Option<Start>,
@@ -33,9 +35,9 @@ type Row = (
     &'static str,
 );
 
-const ROWS: &[Row] = &[
+const STARTS: &[StartRow] = &[
     // a name that a paragraph looks up, and one that the document sets before
-    (
+    StartRow(
         "d (document \"a\" (value \"n\"))",
         Some(""),
         None,
@@ -43,7 +45,7 @@ const ROWS: &[Row] = &[
         6,
         "./x",
     ),
-    (
+    StartRow(
         "d (document \"a\" (value \"n\"))",
         Some("n \"xy\""),
         None,
@@ -51,7 +53,7 @@ const ROWS: &[Row] = &[
         16,
         "./x",
     ),
-    (
+    StartRow(
         "d (document (assign \"n\" \"1\") (value \"n\"))",
         Some(""),
         None,
@@ -60,7 +62,7 @@ const ROWS: &[Row] = &[
         "./.",
     ),
     // the spare holds all, where nothing is kept, and where something else is
-    (
+    StartRow(
         "d (document \"a\" (value \"n\"))",
         None,
         Some("n \"xy\""),
@@ -68,7 +70,7 @@ const ROWS: &[Row] = &[
         0,
         "x/x",
     ),
-    (
+    StartRow(
         "d (document \"a\" (value \"n\"))",
         Some("n \"z\""),
         Some("n \"xy\""),
@@ -77,7 +79,7 @@ const ROWS: &[Row] = &[
         "./x",
     ),
     // it holds one part of two
-    (
+    StartRow(
         "d (document (document \"ab\" (value \"n\")) \"c\")",
         None,
         Some("n \"1\""),
@@ -86,7 +88,7 @@ const ROWS: &[Row] = &[
         "xx/x",
     ),
     // what is kept holds one part, and the spare the other
-    (
+    StartRow(
         "d (document (document (value \"n\") (value \"m\")))",
         Some("n \"1\";m \"1\""),
         Some("n \"2\";m \"2\""),
@@ -95,7 +97,7 @@ const ROWS: &[Row] = &[
         ".x",
     ),
     // a unit without parts
-    (
+    StartRow(
         "d (document (style \"s\") (body (document \"a\")));s (document (value \"n\"))",
         None,
         Some("n \"xy\""),
@@ -103,7 +105,7 @@ const ROWS: &[Row] = &[
         0,
         "/x",
     ),
-    (
+    StartRow(
         "d (document (style \"s\") (body (document \"a\")));s (document (value \"n\"))",
         None,
         Some("n \"xy\""),
@@ -112,7 +114,7 @@ const ROWS: &[Row] = &[
         "/x",
     ),
     // what is over is no spare
-    (
+    StartRow(
         "d (document (while \"true\" \"abcdefghij\") \"b\")",
         Some(""),
         Some(""),
@@ -122,6 +124,13 @@ const ROWS: &[Row] = &[
     ),
 ];
 
+// A name with its tree.
+fn pair_of<L: Ledger>(alloc: Global, words: &str, steps: &mut Steps<L>) -> Option<(Text, Tree)> {
+    let (name, words) = words.split_once(' ')?;
+    let tree = tree_of(alloc, words, steps)?;
+    Some((Text::new(alloc, name.as_bytes()).ok()?, tree))
+}
+
 // The names with their trees.
 fn writes_of<L: Ledger>(alloc: Global, words: &str, steps: &mut Steps<L>) -> Option<Writes> {
     let mut pairs = Vec::new(alloc);
@@ -129,10 +138,7 @@ fn writes_of<L: Ledger>(alloc: Global, words: &str, steps: &mut Steps<L>) -> Opt
         return Some(Writes::new(pairs));
     }
     for part in words.split(';') {
-        let (name, words) = part.split_once(' ')?;
-        let name = Text::new(alloc, name.as_bytes()).ok()?;
-        let tree = tx_scm::read(alloc, words.as_bytes(), steps).ok()?;
-        pairs.push((name, tree)).ok()?;
+        pairs.push(pair_of(alloc, part, steps)?).ok()?;
     }
     Some(Writes::new(pairs))
 }
@@ -158,56 +164,67 @@ fn kept_from<L: Ledger>(
     Some(bridges)
 }
 
+// The charges of a refresh from this start, and with a spare.
+fn charged<L: Ledger>(
+    alloc: Global,
+    bridges: &mut Bridges,
+    spare: &Bridges,
+    words: &str,
+    steps: &mut Steps<L>,
+) -> Option<u64>
+    requires same { units_of spare.now.kept ≡ units_of bridges.old.kept }
+{
+    let start = writes_of(alloc, words, steps)?;
+    bridges.refresh_from(alloc, &start, Some(spare), steps).ok()
+}
+
+// Whether all outcomes are those of a refresh from nothing, with this start.
+fn are_from_start<L: Ledger>(
+    alloc: Global,
+    buffers: &[Buffer],
+    bridges: &Bridges,
+    words: &str,
+    steps: &mut Steps<L>,
+) -> Option<bool>
+    requires some { 1 ≤ length buffers.now }
+    requires few { length buffers.now ≤ 16 }
+{
+    let fresh = kept_from(alloc, buffers, Some(words), steps)?;
+    are_fresh(alloc, bridges, &fresh, steps)
+}
+
 // Whether the refresh costs what it is to cost, leaves what a refresh from nothing leaves, and marks these parts.
 fn is_refreshed<L: Ledger>(
     alloc: Global,
     buffers: &[Buffer],
     bridges: &mut Bridges,
     spare: &Bridges,
-    row: &Row,
+    row: &StartRow,
     steps: &mut Steps<L>,
 ) -> Option<bool>
     requires some { 1 ≤ length buffers.now }
     requires few { length buffers.now ≤ 16 }
     requires same { units_of spare.now.kept ≡ units_of bridges.old.kept }
 {
-    let start = writes_of(alloc, row.3, steps)?;
-    let charge = bridges
-        .refresh_from(alloc, &start, Some(spare), steps)
-        .ok()?;
-    let fresh = kept_from(alloc, buffers, Some(row.3), steps)?;
-    let right = are_fresh(alloc, bridges, &fresh, steps)? && are_marked(bridges, row.5)?;
-    Some(charge == row.4 && right)
+    let charge = charged(alloc, bridges, spare, row.3, steps)?;
+    let fresh = are_from_start(alloc, buffers, bridges, row.3, steps)?;
+    let marked = are_marked(bridges, row.5)?;
+    Some(charge == row.4 && fresh && marked)
 }
 
-fn holds<L: Ledger>(alloc: Global, row: &Row, steps: &mut Steps<L>) -> Option<bool> {
-    let buffers = buffers_of(alloc, row.0, steps)?;
-    if buffers.is_empty() || buffers.len() > 16 {
-        return None;
+impl Row for StartRow {
+    fn holds<L: Ledger>(&self, alloc: Global, steps: &mut Steps<L>) -> Option<bool> {
+        let buffers = buffers_of(alloc, self.0, steps)?;
+        let mut bridges = kept_from(alloc, &buffers, self.1, steps)?;
+        let spare = kept_from(alloc, &buffers, self.2, steps)?;
+        is_refreshed(alloc, &buffers, &mut bridges, &spare, self, steps)
     }
-    let mut bridges = kept_from(alloc, &buffers, row.1, steps)?;
-    let spare = kept_from(alloc, &buffers, row.2, steps)?;
-    is_refreshed(alloc, &buffers, &mut bridges, &spare, row, steps)
-}
-
-// The number of the first row that doesn't hold.
-fn first_untrue<L: Ledger>(alloc: Global, blank: Blank) -> Option<usize>
-    requires name { blank.name ≡ L.name }
-    requires parts { blank.parts ≡ L.parts }
-    requires whole { blank.parts ≡ 1 }
-{
-    let mut steps = Steps::<L>::new(blank);
-    for (i, row) in ROWS.iter().enumerate() {
-        if holds(alloc, row, &mut steps) != Some(true) {
-            return Some(i);
-        }
-    }
-    None
 }
 
 #[test]
 fn what_fits_from_a_start_is_used_again(rt: HostRuntime) {
-    assert_eq!(rt; first_untrue::<Brand>(rt.alloc(), Blank::new(1)), None);
+    let wrong = first_untrue::<Brand, _>(rt.alloc(), STARTS, Blank::new(1));
+    assert_eq!(rt; wrong, None);
 }
 
 // The moment behind all units, from a start.
@@ -221,6 +238,20 @@ fn end_behind<L: Ledger>(
     bridges.end_from(alloc, start)
 }
 
+// Whether the name has this text behind all units, from a start.
+fn ends_with<L: Ledger>(
+    alloc: Global,
+    bridges: &mut Bridges,
+    start: &str,
+    name: &[u8],
+    text: &[u8],
+    steps: &mut Steps<L>,
+) -> Option<bool> {
+    let start = writes_of(alloc, start, steps)?;
+    let end = end_behind(alloc, bridges, &start, steps).ok()?;
+    has_text(alloc, &end, name, text)
+}
+
 // Whether the name that the start sets has this text behind units that don't set it.
 fn is_still_set<L: Ledger>(alloc: Global, blank: Blank) -> Option<bool>
     requires name { blank.name ≡ L.name }
@@ -229,15 +260,9 @@ fn is_still_set<L: Ledger>(alloc: Global, blank: Blank) -> Option<bool>
 {
     let mut steps = Steps::<L>::new(blank);
     let buffers = buffers_of(alloc, "d (document (value \"n\"))", &mut steps)?;
-    if buffers.is_empty() || buffers.len() > 16 {
-        return None;
-    }
     let mut bridges = kept_from(alloc, &buffers, None, &mut steps)?;
-    let start = writes_of(alloc, "n \"xy\"", &mut steps)?;
-    let end = end_behind(alloc, &mut bridges, &start, &mut steps).ok()?;
-    let name = Text::new(alloc, b"n".as_slice()).ok()?;
-    let text = end.env().get(&name)?.text()?;
-    Some(text.bytes() == b"xy".as_slice())
+    let (name, text) = (b"n".as_slice(), b"xy".as_slice());
+    ends_with(alloc, &mut bridges, "n \"xy\"", name, text, &mut steps)
 }
 
 #[test]

@@ -45,25 +45,15 @@ pub(crate) fn told_edit<L: Ledger>(
     edited(alloc, before, change, steps)
 }
 
-// What comes of the inverse, and of the modification behind that.
-#[derive(Clone, Copy)]
-pub(crate) struct Redone {
-    pub(crate) back: bool,
-    pub(crate) again: bool,
-}
-
 // The inverse gives the tree back, its own inverse is the modification, and that gives the changed tree again.
-pub(crate) fn undone_and_redone<L: Ledger>(
+pub(crate) fn is_undone_and_redone<L: Ledger>(
     alloc: Global,
     edit: &Remade,
     steps: &mut Steps<L>,
-) -> Option<Redone> {
+) -> Option<bool> {
     let (back, twice) = apply_and_inverse(alloc, &edit.after, &edit.inverse, steps).ok()?;
     let again = apply(alloc, &back, &edit.change, steps).ok()?;
-    Some(Redone {
-        back: back.same(&edit.before),
-        again: again.same(&edit.after) && same_change(&twice, &edit.change),
-    })
+    Some(back.same(&edit.before) && again.same(&edit.after) && same_change(&twice, &edit.change))
 }
 
 // A copy of the modification in a list is the same.

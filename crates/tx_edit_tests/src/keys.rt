@@ -1,7 +1,7 @@
 // Keys: what they make of a tree at a place, and where they lead among stops.
 ghost use Rattle.std.specs.Prelude.{◌≡◌};
 
-use crate::samples::{changes, place, same_change, tree};
+use crate::samples::{changes, is_place, is_tree, place, same_change, tree};
 use std::alloc::Global;
 use std::marker::Brand;
 use std::sync::ledger::{Blank, Ledger};
@@ -11,26 +11,20 @@ use tx_edit::{EditFault, Move, backspace, enter, left, right, type_text};
 use tx_mod::{Mod, apply};
 use tx_tree::{Place, Text, Tree};
 
-fn same_place(a: &Place, b: &Place) -> bool {
-    a.offset == b.offset && a.path.steps() == b.path.steps()
-}
-
 // The key at the place, or None where the place is none of the tree. Any other word than `backspace` and `enter` is
 // typed.
 fn pressed(alloc: Global, t: &Tree, at: &Place, key: &str) -> Option<Result<Move, EditFault>> {
-    match at.check(t) {
-        Ok(()) => {
-            if key == "backspace" {
-                return Some(backspace(alloc, t, at));
-            }
-            if key == "enter" {
-                return Some(enter(alloc, t, at));
-            }
-            let text = Text::new(alloc, key.as_bytes()).ok()?;
-            Some(type_text(alloc, t, at, &text))
-        }
-        Err(_) => None,
+    let Ok(()) = at.check(t) else {
+        return None;
+    };
+    if key == "backspace" {
+        return Some(backspace(alloc, t, at));
     }
+    if key == "enter" {
+        return Some(enter(alloc, t, at));
+    }
+    let text = Text::new(alloc, key.as_bytes()).ok()?;
+    Some(type_text(alloc, t, at, &text))
 }
 
 fn are_same(a: &[Mod], b: &[Mod]) -> bool {
@@ -59,6 +53,14 @@ fn after_all<L: Ledger>(
     Some(now)
 }
 
+// The words tell these modifications.
+fn are_changes<L: Ledger>(alloc: Global, words: &str, mods: &[Mod], steps: &mut Steps<L>) -> bool {
+    match changes(alloc, words, steps) {
+        Some(told) => are_same(told.as_slice(), mods),
+        None => false,
+    }
+}
+
 // The move has these modifications, which make the tree `after`, and leaves the cursor at this place of it.
 fn is_edit<L: Ledger>(
     alloc: Global,
@@ -72,195 +74,204 @@ fn is_edit<L: Ledger>(
     let Move::Edit(own, at) = made else {
         return Some(false);
     };
-    let told = changes(alloc, mods, steps)?;
+    let told = are_changes(alloc, mods, own.as_slice(), steps) && is_place(alloc, to, at);
     let changed = after_all(alloc, t, own.as_slice(), steps)?;
-    let same_tree = changed.same(&tree(alloc, after, steps)?);
-    let same_cursor = same_place(at, &place(alloc, to)?) && at.check(&changed).is_ok();
-    Some(are_same(own.as_slice(), told.as_slice()) && same_tree && same_cursor)
+    Some(told && at.check(&changed).is_ok() && is_tree(alloc, after, &changed, steps))
 }
 
-// The tree, the cursor and the key of a row.
-fn told_key<L: Ledger>(
-    alloc: Global,
-    words: &str,
-    steps: &mut Steps<L>,
-) -> Option<(Tree, Result<Move, EditFault>)> {
-    let (before, rest) = words.split_once(" | ")?;
-    let (at, key) = rest.split_once(" | ")?;
-    let t = tree(alloc, before, steps)?;
+// The key at a place that the word tells.
+fn pressed_at(alloc: Global, t: &Tree, words: &str) -> Option<Result<Move, EditFault>> {
+    let (at, key) = words.split_once(" | ")?;
     let at = place(alloc, at)?;
-    let got = pressed(alloc, &t, &at, key)?;
-    Some((t, got))
-}
-
-fn edits<L: Ledger>(alloc: Global, key: &[u8], want: &[u8], blank: Blank) -> Option<bool>
-    requires name { blank.name ≡ L.name }
-    requires parts { blank.parts ≡ L.parts }
-    requires whole { blank.parts ≡ 1 }
-{
-    let (Ok(key), Ok(want)) = (str::from_utf8(key), str::from_utf8(want)) else {
-        return None;
-    };
-    let mut steps = Steps::<L>::new(blank);
-    let (t, got) = told_key(alloc, key, &mut steps)?;
-    is_edit(alloc, &t, &got.ok()?, want, &mut steps)
+    pressed(alloc, t, &at, key)
 }
 
 // What keys make: a tree, a cursor and a key; then modifications, the cursor afterwards and the changed tree.
-const EDITS: [(&[u8], &[u8]); 22] = [
+const EDITS: &[(&str, &str)] = &[
     (
-        br#"(document "abc" "d") | /0/1 | <alpha>"#,
-        br#"insert /0 1 "<alpha>" | /0/8 | (document "a<alpha>bc" "d")"#,
+        r#"(document "abc" "d") | /0/1 | <alpha>"#,
+        r#"insert /0 1 "<alpha>" | /0/8 | (document "a<alpha>bc" "d")"#,
     ),
     (
-        br#"(document "a<alpha>bc" "d") | /0/8 | backspace"#,
-        br#"remove /0 1 7 | /0/1 | (document "abc" "d")"#,
+        r#"(document "a<alpha>bc" "d") | /0/8 | backspace"#,
+        r#"remove /0 1 7 | /0/1 | (document "abc" "d")"#,
     ),
     (
-        br#"(document "abc" "d") | /0/1 | enter"#,
-        br#"split / 0 1 | /1/0 | (document "a" "bc" "d")"#,
+        r#"(document "abc" "d") | /0/1 | enter"#,
+        r#"split / 0 1 | /1/0 | (document "a" "bc" "d")"#,
     ),
     (
-        br#"(document "a" "bc" "d") | /1/0 | backspace"#,
-        br#"join / 0 | /0/1 | (document "abc" "d")"#,
+        r#"(document "a" "bc" "d") | /1/0 | backspace"#,
+        r#"join / 0 | /0/1 | (document "abc" "d")"#,
     ),
     (
-        br#"(document "a" "b") | /0/1 |  "#,
-        br#"insert /0 1 " " | /0/2 | (document "a " "b")"#,
+        r#"(document "a" "b") | /0/1 |  "#,
+        r#"insert /0 1 " " | /0/2 | (document "a " "b")"#,
     ),
-    (br#""ab" | /2 | xy"#, br#"insert / 2 "xy" | /4 | "abxy""#),
-    (br#""" | /0 | "#, br#"insert / 0 "" | /0 | """#),
+    (r#""ab" | /2 | xy"#, r#"insert / 2 "xy" | /4 | "abxy""#),
+    (r#""" | /0 | "#, r#"insert / 0 "" | /0 | """#),
     (
-        br#"(f (g "a") "b") | /0/0/0 | <b><c>"#,
-        br#"insert /0/0 0 "<b><c>" | /0/0/6 | (f (g "<b><c>a") "b")"#,
+        r#"(f (g "a") "b") | /0/0/0 | <b><c>"#,
+        r#"insert /0/0 0 "<b><c>" | /0/0/6 | (f (g "<b><c>a") "b")"#,
     ),
-    (br#""abc" | /3 | backspace"#, br#"remove / 2 1 | /2 | "ab""#),
-    (br#""abc" | /1 | backspace"#, br#"remove / 0 1 | /0 | "bc""#),
+    (r#""abc" | /3 | backspace"#, r#"remove / 2 1 | /2 | "ab""#),
+    (r#""abc" | /1 | backspace"#, r#"remove / 0 1 | /0 | "bc""#),
     (
-        br#"(f "<a><bcd>e") | /0/8 | backspace"#,
-        br#"remove /0 3 5 | /0/3 | (f "<a>e")"#,
-    ),
-    (
-        br#"(f "<a>b") | /0/3 | backspace"#,
-        br#"remove /0 0 3 | /0/0 | (f "b")"#,
+        r#"(f "<a><bcd>e") | /0/8 | backspace"#,
+        r#"remove /0 3 5 | /0/3 | (f "<a>e")"#,
     ),
     (
-        br#"(document "<a>" "<b>" "") | /1/0 | backspace"#,
-        br#"join / 0 | /0/3 | (document "<a><b>" "")"#,
+        r#"(f "<a>b") | /0/3 | backspace"#,
+        r#"remove /0 0 3 | /0/0 | (f "b")"#,
     ),
     (
-        br#"(f (document "" "")) | /0/1/0 | backspace"#,
-        br#"join /0 0 | /0/0/0 | (f (document ""))"#,
+        r#"(document "<a>" "<b>" "") | /1/0 | backspace"#,
+        r#"join / 0 | /0/3 | (document "<a><b>" "")"#,
     ),
     (
-        br#"(document "x" (g) "y" "z") | /3/0 | backspace"#,
-        br#"join / 2 | /2/1 | (document "x" (g) "yz")"#,
+        r#"(f (document "" "")) | /0/1/0 | backspace"#,
+        r#"join /0 0 | /0/0/0 | (f (document ""))"#,
     ),
     (
-        br#"(document "x" "ab") | /1/0 | enter"#,
-        br#"split / 1 0 | /2/0 | (document "x" "" "ab")"#,
+        r#"(document "x" (g) "y" "z") | /3/0 | backspace"#,
+        r#"join / 2 | /2/1 | (document "x" (g) "yz")"#,
     ),
     (
-        br#"(document "x" "ab<c>") | /1/5 | enter"#,
-        br#"split / 1 5 | /2/0 | (document "x" "ab<c>" "")"#,
+        r#"(document "x" "ab") | /1/0 | enter"#,
+        r#"split / 1 0 | /2/0 | (document "x" "" "ab")"#,
     ),
     (
-        br#"(document (concat "ab" (f) "cd") "x") | /0/2/1 | enter"#,
-        br#"split /0 2 1 & split / 0 3 | /1/0/0 | (document (concat "ab" (f) "c") (concat "d") "x")"#,
+        r#"(document "x" "ab<c>") | /1/5 | enter"#,
+        r#"split / 1 5 | /2/0 | (document "x" "ab<c>" "")"#,
     ),
     (
-        br#"(document "x" (concat "ab" (f))) | /1/0/0 | enter"#,
-        br#"split /1 0 0 & split / 1 1 | /2/0/0 | (document "x" (concat "") (concat "ab" (f)))"#,
+        r#"(document (concat "ab" (f) "cd") "x") | /0/2/1 | enter"#,
+        r#"split /0 2 1 & split / 0 3 | /1/0/0 | (document (concat "ab" (f) "c") (concat "d") "x")"#,
     ),
     (
-        br#"(f (document (concat "a"))) | /0/0/0/1 | enter"#,
-        br#"split /0/0 0 1 & split /0 0 1 | /0/1/0/0 | (f (document (concat "a") (concat "")))"#,
+        r#"(document "x" (concat "ab" (f))) | /1/0/0 | enter"#,
+        r#"split /1 0 0 & split / 1 1 | /2/0/0 | (document "x" (concat "") (concat "ab" (f)))"#,
     ),
     (
-        br#"(concat (document "ab")) | /0/0/1 | enter"#,
-        br#"split /0 0 1 | /0/1/0 | (concat (document "a" "b"))"#,
+        r#"(f (document (concat "a"))) | /0/0/0/1 | enter"#,
+        r#"split /0/0 0 1 & split /0 0 1 | /0/1/0/0 | (f (document (concat "a") (concat "")))"#,
     ),
     (
-        br#"(document (document "ab")) | /0/0/1 | enter"#,
-        br#"split /0 0 1 | /0/1/0 | (document (document "a" "b"))"#,
+        r#"(concat (document "ab")) | /0/0/1 | enter"#,
+        r#"split /0 0 1 | /0/1/0 | (concat (document "a" "b"))"#,
+    ),
+    (
+        r#"(document (document "ab")) | /0/0/1 | enter"#,
+        r#"split /0 0 1 | /0/1/0 | (document (document "a" "b"))"#,
     ),
 ];
 
-#[test]
-fn what_keys_make(rt: HostRuntime) -> Result<(), Fail> {
-    for (key, want) in EDITS {
-        let holds = edits::<Brand>(rt.alloc(), key, want, Blank::new(1)).ok_or("no row")?;
-        assert!(rt; holds, "at {key:?}");
-    }
-    Ok(())
+fn edits<L: Ledger>(alloc: Global, row: &(&str, &str), steps: &mut Steps<L>) -> Option<bool> {
+    let (before, words) = row.0.split_once(" | ")?;
+    let t = tree(alloc, before, steps)?;
+    let made = pressed_at(alloc, &t, words)?.ok()?;
+    is_edit(alloc, &t, &made, row.1, steps)
 }
 
-fn fault<L: Ledger>(alloc: Global, key: &[u8], blank: Blank) -> Option<EditFault>
+fn first_wrong_edit<L: Ledger>(alloc: Global, rows: &[(&str, &str)], blank: Blank) -> Option<usize>
     requires name { blank.name ≡ L.name }
     requires parts { blank.parts ≡ L.parts }
     requires whole { blank.parts ≡ 1 }
 {
-    let Ok(key) = str::from_utf8(key) else {
-        return None;
-    };
     let mut steps = Steps::<L>::new(blank);
-    let (_tree, got) = told_key(alloc, key, &mut steps)?;
-    got.err()
+    for (number, row) in rows.iter().enumerate() {
+        if edits(alloc, row, &mut steps) != Some(true) {
+            return Some(number);
+        }
+    }
+    None
+}
+
+#[test]
+fn what_keys_make(rt: HostRuntime) -> Result<(), Fail> {
+    let wrong = first_wrong_edit::<Brand>(rt.alloc(), EDITS, Blank::new(1));
+    assert_eq!(rt; wrong, None);
+    Ok(())
+}
+
+// A tree, a cursor and a key, and why that makes nothing.
+const NOTHING: &[(&str, EditFault)] = &[
+    (r#"(f "a") | /0 | x"#, EditFault::NoText),
+    (r#"(document (f)) | /0/1 | x"#, EditFault::NoText),
+    (r#"(f "a") | /1 | backspace"#, EditFault::NoText),
+    (r#"(document (f)) | /0/0 | enter"#, EditFault::NoText),
+    (r#""ab" | /0 | backspace"#, EditFault::AtStart),
+    (r#"(document "ab") | /0/0 | backspace"#, EditFault::AtStart),
+    (r#"(f "a" "b") | /1/0 | backspace"#, EditFault::AtStart),
+    (
+        r#"(document (f) "b") | /1/0 | backspace"#,
+        EditFault::AtStart,
+    ),
+    (
+        r#"(document "x" (f) "b") | /2/0 | backspace"#,
+        EditFault::AtStart,
+    ),
+    (
+        r#"(document (concat "a" "b")) | /0/1/0 | backspace"#,
+        EditFault::AtStart,
+    ),
+    (
+        r#"(document "a" (concat "b")) | /1/0/0 | backspace"#,
+        EditFault::AtStart,
+    ),
+    (r#""ab" | /1 | enter"#, EditFault::NotInParagraph),
+    (r#"(f "ab") | /0/1 | enter"#, EditFault::NotInParagraph),
+    (r#"(concat "ab") | /0/1 | enter"#, EditFault::NotInParagraph),
+    (
+        r#"(f (concat "ab")) | /0/0/1 | enter"#,
+        EditFault::NotInParagraph,
+    ),
+    (
+        r#"(document (f "ab")) | /0/0/1 | enter"#,
+        EditFault::NotInParagraph,
+    ),
+    (
+        r#"(document (concat (concat "ab"))) | /0/0/0/1 | enter"#,
+        EditFault::NotInParagraph,
+    ),
+    (
+        r#"(document (concat (f "ab"))) | /0/0/0/0 | enter"#,
+        EditFault::NotInParagraph,
+    ),
+];
+
+fn makes_nothing<L: Ledger>(
+    alloc: Global,
+    row: &(&str, EditFault),
+    steps: &mut Steps<L>,
+) -> Option<bool> {
+    let (before, words) = row.0.split_once(" | ")?;
+    let t = tree(alloc, before, steps)?;
+    Some(pressed_at(alloc, &t, words)?.err() == Some(row.1))
+}
+
+fn first_wrong_fault<L: Ledger>(
+    alloc: Global,
+    rows: &[(&str, EditFault)],
+    blank: Blank,
+) -> Option<usize>
+    requires name { blank.name ≡ L.name }
+    requires parts { blank.parts ≡ L.parts }
+    requires whole { blank.parts ≡ 1 }
+{
+    let mut steps = Steps::<L>::new(blank);
+    for (number, row) in rows.iter().enumerate() {
+        if makes_nothing(alloc, row, &mut steps) != Some(true) {
+            return Some(number);
+        }
+    }
+    None
 }
 
 #[test]
 fn keys_that_make_nothing(rt: HostRuntime) -> Result<(), Fail> {
-    let rows: [(&[u8], EditFault); 18] = [
-        (br#"(f "a") | /0 | x"#, EditFault::NoText),
-        (br#"(document (f)) | /0/1 | x"#, EditFault::NoText),
-        (br#"(f "a") | /1 | backspace"#, EditFault::NoText),
-        (br#"(document (f)) | /0/0 | enter"#, EditFault::NoText),
-        (br#""ab" | /0 | backspace"#, EditFault::AtStart),
-        (br#"(document "ab") | /0/0 | backspace"#, EditFault::AtStart),
-        (br#"(f "a" "b") | /1/0 | backspace"#, EditFault::AtStart),
-        (
-            br#"(document (f) "b") | /1/0 | backspace"#,
-            EditFault::AtStart,
-        ),
-        (
-            br#"(document "x" (f) "b") | /2/0 | backspace"#,
-            EditFault::AtStart,
-        ),
-        (
-            br#"(document (concat "a" "b")) | /0/1/0 | backspace"#,
-            EditFault::AtStart,
-        ),
-        (
-            br#"(document "a" (concat "b")) | /1/0/0 | backspace"#,
-            EditFault::AtStart,
-        ),
-        (br#""ab" | /1 | enter"#, EditFault::NotInParagraph),
-        (br#"(f "ab") | /0/1 | enter"#, EditFault::NotInParagraph),
-        (
-            br#"(concat "ab") | /0/1 | enter"#,
-            EditFault::NotInParagraph,
-        ),
-        (
-            br#"(f (concat "ab")) | /0/0/1 | enter"#,
-            EditFault::NotInParagraph,
-        ),
-        (
-            br#"(document (f "ab")) | /0/0/1 | enter"#,
-            EditFault::NotInParagraph,
-        ),
-        (
-            br#"(document (concat (concat "ab"))) | /0/0/0/1 | enter"#,
-            EditFault::NotInParagraph,
-        ),
-        (
-            br#"(document (concat (f "ab"))) | /0/0/0/0 | enter"#,
-            EditFault::NotInParagraph,
-        ),
-    ];
-    for (key, want) in rows {
-        let got = fault::<Brand>(rt.alloc(), key, Blank::new(1)).ok_or("no row")?;
-        assert_eq!(rt; got, want, "at {key:?}");
-    }
+    let wrong = first_wrong_fault::<Brand>(rt.alloc(), NOTHING, Blank::new(1));
+    assert_eq!(rt; wrong, None);
     Ok(())
 }
 
@@ -287,65 +298,76 @@ fn gone(alloc: Global, words: &str) -> Option<Result<Move, EditFault>> {
     Some(right(alloc, &stops, &cursor))
 }
 
-fn goes(alloc: Global, words: &[u8], to: &[u8]) -> Option<bool> {
-    let (Ok(words), Ok(to)) = (str::from_utf8(words), str::from_utf8(to)) else {
-        return None;
-    };
-    let Move::Go(at) = gone(alloc, words)?.ok()? else {
-        return Some(false);
-    };
-    Some(same_place(&at, &place(alloc, to)?))
+// A key, the cursor and the stops, and the stop that it leads to.
+const AMONG: &[(&str, &str)] = &[
+    ("right /0/0 | /0/0 /0/1 /0/2 /0/3 /1/0 /1/1", "/0/1"),
+    ("right /0/1 | /0/0 /0/1 /1/0 /1/1", "/1/0"),
+    ("right /0/2 | /0/0 /0/1 /0/2 /1/0 /1/1", "/1/0"),
+    ("right /1/0/1 | /0/0 /1/0/0 /1/0/1 /2/0 /2/1", "/2/0"),
+    ("left /2/0 | /0/0 /1/0/0 /1/0/1 /2/0 /2/1", "/1/0/1"),
+    ("left /0/1 | /0/0 /0/1", "/0/0"),
+    ("right /0/1 | /0/0 /0/1 /0/2 /0/1 /0/3", "/0/2"),
+    ("left /0/1 | /0/0 /0/1 /0/2 /0/1 /0/3", "/0/0"),
+    ("right /0/0 | /0/0 /0/0", "/0/0"),
+    ("left /0/4 | /0/2 /0/3", "/0/2"),
+    ("right /0/0/3 | /0/2 /0/3", "/0/2"),
+    ("left /3 | /0/3 /3 /4", "/0/3"),
+];
+
+fn goes(alloc: Global, words: &str, to: &str) -> Option<bool> {
+    match gone(alloc, words)?.ok()? {
+        Move::Go(at) => Some(is_place(alloc, to, &at)),
+        Move::Edit(..) => Some(false),
+    }
+}
+
+fn first_wrong_stop(alloc: Global, rows: &[(&str, &str)]) -> Option<usize> {
+    for (number, row) in rows.iter().enumerate() {
+        if goes(alloc, row.0, row.1) != Some(true) {
+            return Some(number);
+        }
+    }
+    None
 }
 
 #[test]
 fn keys_among_stops(rt: HostRuntime) -> Result<(), Fail> {
-    let rows: [(&[u8], &[u8]); 12] = [
-        (b"right /0/0 | /0/0 /0/1 /0/2 /0/3 /1/0 /1/1", b"/0/1"),
-        (b"right /0/1 | /0/0 /0/1 /1/0 /1/1", b"/1/0"),
-        (b"right /0/2 | /0/0 /0/1 /0/2 /1/0 /1/1", b"/1/0"),
-        (b"right /1/0/1 | /0/0 /1/0/0 /1/0/1 /2/0 /2/1", b"/2/0"),
-        (b"left /2/0 | /0/0 /1/0/0 /1/0/1 /2/0 /2/1", b"/1/0/1"),
-        (b"left /0/1 | /0/0 /0/1", b"/0/0"),
-        (b"right /0/1 | /0/0 /0/1 /0/2 /0/1 /0/3", b"/0/2"),
-        (b"left /0/1 | /0/0 /0/1 /0/2 /0/1 /0/3", b"/0/0"),
-        (b"right /0/0 | /0/0 /0/0", b"/0/0"),
-        (b"left /0/4 | /0/2 /0/3", b"/0/2"),
-        (b"right /0/0/3 | /0/2 /0/3", b"/0/2"),
-        (b"left /3 | /0/3 /3 /4", b"/0/3"),
-    ];
-    for (words, to) in rows {
-        let holds = goes(rt.alloc(), words, to).ok_or("no row")?;
-        assert!(rt; holds, "at {words:?}");
-    }
+    let wrong = first_wrong_stop(rt.alloc(), AMONG);
+    assert_eq!(rt; wrong, None);
     Ok(())
 }
 
-fn stop_fault(alloc: Global, words: &[u8]) -> Option<EditFault> {
-    let Ok(words) = str::from_utf8(words) else {
-        return None;
-    };
-    gone(alloc, words)?.err()
+// A key, the cursor and the stops, and why it leads nowhere.
+const PAST: &[(&str, EditFault)] = &[
+    (
+        "left /0/0 | /0/0 /0/1 /0/2 /0/3 /1/0 /1/1",
+        EditFault::AtStart,
+    ),
+    (
+        "right /1/1 | /0/0 /0/1 /0/2 /0/3 /1/0 /1/1",
+        EditFault::AtEnd,
+    ),
+    ("left /0/0 | ", EditFault::AtStart),
+    ("right /0/0 | ", EditFault::AtEnd),
+    ("left /0/0 | /0/0 /0/1 /0/0", EditFault::AtStart),
+    ("right /0/1 | /0/0 /0/1", EditFault::AtEnd),
+];
+
+fn first_wrong_end(alloc: Global, rows: &[(&str, EditFault)]) -> Option<usize> {
+    for (number, row) in rows.iter().enumerate() {
+        let Some(answer) = gone(alloc, row.0) else {
+            return Some(number);
+        };
+        if answer.err() != Some(row.1) {
+            return Some(number);
+        }
+    }
+    None
 }
 
 #[test]
 fn keys_past_the_stops(rt: HostRuntime) -> Result<(), Fail> {
-    let rows: [(&[u8], EditFault); 6] = [
-        (
-            b"left /0/0 | /0/0 /0/1 /0/2 /0/3 /1/0 /1/1",
-            EditFault::AtStart,
-        ),
-        (
-            b"right /1/1 | /0/0 /0/1 /0/2 /0/3 /1/0 /1/1",
-            EditFault::AtEnd,
-        ),
-        (b"left /0/0 | ", EditFault::AtStart),
-        (b"right /0/0 | ", EditFault::AtEnd),
-        (b"left /0/0 | /0/0 /0/1 /0/0", EditFault::AtStart),
-        (b"right /0/1 | /0/0 /0/1", EditFault::AtEnd),
-    ];
-    for (words, want) in rows {
-        let got = stop_fault(rt.alloc(), words).ok_or("no row")?;
-        assert_eq!(rt; got, want, "at {words:?}");
-    }
+    let wrong = first_wrong_end(rt.alloc(), PAST);
+    assert_eq!(rt; wrong, None);
     Ok(())
 }

@@ -1,5 +1,5 @@
-//! Tests of modifications, paths and places, and of the state of an editing session: the tables row by row, limits,
-//! undo to its end, random modifications and a random session.
+//! Tests of modifications, paths and places, and of the state of an editing session: tables, each asked for its first
+//! wrong row, limits, undo to its end, random modifications and a random session.
 #![tactic(auto)]
 
 #[cfg(test)]
@@ -10,6 +10,8 @@ mod documents;
 mod inverses;
 #[cfg(test)]
 mod keys;
+#[cfg(test)]
+mod limits;
 #[cfg(test)]
 mod lists;
 #[cfg(test)]

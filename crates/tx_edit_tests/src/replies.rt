@@ -230,3 +230,29 @@ pub(crate) fn reply<L: Ledger>(
     }
     command_reply(alloc, state, line, steps)
 }
+
+// The command is answered as is told behind it.
+fn is_answered<L: Ledger>(
+    alloc: Global,
+    state: &mut EditorState,
+    line: &str,
+    steps: &mut Steps<L>,
+) -> Option<bool> {
+    let (command, want) = line.split_once(" => ")?;
+    Some(reply(alloc, state, command, steps)?.as_str() == want)
+}
+
+// The commands, with bars between them, are answered as is told behind them.
+pub(crate) fn are_answered<L: Ledger>(
+    alloc: Global,
+    state: &mut EditorState,
+    lines: &str,
+    steps: &mut Steps<L>,
+) -> bool {
+    for line in lines.split('|') {
+        if is_answered(alloc, state, line.trim(), steps) != Some(true) {
+            return false;
+        }
+    }
+    true
+}

@@ -25,6 +25,39 @@ pub(crate) fn number(word: &str) -> Option<u32> {
     word.parse::<u32>().ok()
 }
 
+// The words tell this tree.
+pub(crate) fn is_tree<L: Ledger>(
+    alloc: Global,
+    words: &str,
+    t: &Tree,
+    steps: &mut Steps<L>,
+) -> bool {
+    match tree(alloc, words, steps) {
+        Some(told) => told.same(t),
+        None => false,
+    }
+}
+
+// The word tells this place.
+pub(crate) fn is_place(alloc: Global, word: &str, at: &Place) -> bool {
+    match place(alloc, word) {
+        Some(told) => same_place(&told, at),
+        None => false,
+    }
+}
+
+pub(crate) fn same_place(a: &Place, b: &Place) -> bool {
+    a.offset == b.offset && a.path.steps() == b.path.steps()
+}
+
+// The path is printed as the word.
+pub(crate) fn is_printed(alloc: Global, path: &Path, word: &str) -> bool {
+    match format!(in alloc; "{path}") {
+        Ok(printed) => printed.as_str() == word,
+        Err(_) => false,
+    }
+}
+
 // Two numbers, and none behind them.
 fn numbers(words: &str) -> Option<(u32, u32)> {
     let (i, n) = words.split_once(' ')?;
@@ -41,39 +74,47 @@ fn number_and_tree<L: Ledger>(
     Some((number(i)?, tree(alloc, rest, steps)?))
 }
 
-pub(crate) fn change<L: Ledger>(alloc: Global, words: &str, steps: &mut Steps<L>) -> Option<Mod> {
-    let (kind, rest) = words.split_once(' ')?;
-    let (to, rest) = rest.split_once(' ')?;
-    let path = path(alloc, to)?;
-    if kind == "assign" {
-        return Some(Mod::Assign(path, tree(alloc, rest, steps)?));
-    }
-    if kind == "insert" {
-        let (i, x) = number_and_tree(alloc, rest, steps)?;
-        return Some(Mod::Insert(path, i, x));
-    }
+// A modification that has only numbers beside its path, or a label.
+fn plain_change(alloc: Global, kind: &str, to: &str, rest: &str) -> Option<Mod> {
     if kind == "remove" {
         let (i, n) = numbers(rest)?;
-        return Some(Mod::Remove(path, i, n));
+        return Some(Mod::Remove(path(alloc, to)?, i, n));
     }
     if kind == "split" {
         let (i, j) = numbers(rest)?;
-        return Some(Mod::Split(path, i, j));
+        return Some(Mod::Split(path(alloc, to)?, i, j));
     }
     if kind == "join" {
-        return Some(Mod::Join(path, number(rest)?));
+        let i = number(rest)?;
+        return Some(Mod::Join(path(alloc, to)?, i));
+    }
+    if kind == "remove-node" {
+        let i = number(rest)?;
+        return Some(Mod::RemoveNode(path(alloc, to)?, i));
     }
     if kind == "assign-node" {
-        return Some(Mod::AssignNode(path, Label::new(alloc, rest.as_bytes()).ok()?));
+        let label = Label::new(alloc, rest.as_bytes()).ok()?;
+        return Some(Mod::AssignNode(path(alloc, to)?, label));
+    }
+    None
+}
+
+pub(crate) fn change<L: Ledger>(alloc: Global, words: &str, steps: &mut Steps<L>) -> Option<Mod> {
+    let (kind, rest) = words.split_once(' ')?;
+    let (to, rest) = rest.split_once(' ')?;
+    if kind == "assign" {
+        let x = tree(alloc, rest, steps)?;
+        return Some(Mod::Assign(path(alloc, to)?, x));
+    }
+    if kind == "insert" {
+        let (i, x) = number_and_tree(alloc, rest, steps)?;
+        return Some(Mod::Insert(path(alloc, to)?, i, x));
     }
     if kind == "insert-node" {
         let (i, x) = number_and_tree(alloc, rest, steps)?;
-        return Some(Mod::InsertNode(path, i, x));
+        return Some(Mod::InsertNode(path(alloc, to)?, i, x));
     }
-    if kind == "remove-node" {
-        return Some(Mod::RemoveNode(path, number(rest)?));
-    }
-    None
+    plain_change(alloc, kind, to, rest)
 }
 
 // Modifications with ` & ` between them.

@@ -87,18 +87,27 @@ fn machine_reply<L: Ledger>(
     machine.change(alloc, &m, steps)
 }
 
-// Whether state and machine give the same reply and are the same behind it, and whether the reply is `ok`.
-fn agree<L: Ledger>(
+// A state, and the machine that it is compared with.
+#[derive(Drop)]
+struct Pair {
+    state: EditorState,
+    machine: Machine,
+}
+
+// Whether the command is accepted. None where state and machine reply otherwise or aren't the same behind it.
+fn accepted<L: Ledger>(
     alloc: Global,
-    state: &mut EditorState,
-    machine: &mut Machine,
+    pair: &mut Pair,
     line: &str,
     steps: &mut Steps<L>,
-) -> Option<(bool, bool)> {
-    let want = machine_reply(alloc, machine, line, steps)?;
-    let got = reply(alloc, state, line, steps)?;
-    let same = got.as_str() == want.as_str() && machine.is_state(state);
-    Some((same, got.as_str() == "ok"))
+) -> Option<bool> {
+    let want = machine_reply(alloc, &mut pair.machine, line, steps)?;
+    let got = reply(alloc, &mut pair.state, line, steps)?;
+    if got.as_str() == want.as_str() && pair.machine.is_state(&pair.state) {
+        Some(got.as_str() == "ok")
+    } else {
+        None
+    }
 }
 
 // How many commands of each kind were accepted.
@@ -111,6 +120,10 @@ struct Counts {
 }
 
 impl Counts {
+    fn are_enough(&self) -> bool {
+        self.changes > 300 && self.undone > 100 && self.redone > 30 && self.gone > 100
+    }
+
     fn add(&mut self, kind: Kind) {
         match kind {
             Kind::Change => self.changes = self.changes.saturating_add(1),
@@ -121,55 +134,73 @@ impl Counts {
     }
 }
 
-// One random command. None where state and machine differ.
+// One random command, which is counted where it is accepted.
 fn trial<L: Ledger>(
     alloc: Global,
-    state: &mut EditorState,
-    machine: &mut Machine,
+    pair: &mut Pair,
     kind: Kind,
+    counts: &mut Counts,
     dice: &mut Dice,
     steps: &mut Steps<L>,
-) -> Option<bool> {
-    let line = random_command(alloc, state.document(), kind, dice)?;
-    let (same, accepted) = agree(alloc, state, machine, line.as_str(), steps)?;
-    if same { Some(accepted) } else { None }
+) -> Option<()> {
+    let line = random_command(alloc, pair.state.document(), kind, dice)?;
+    if accepted(alloc, pair, line.as_str(), steps)? {
+        counts.add(kind);
+    }
+    Some(())
 }
 
-// A session of so many commands.
-fn session<L: Ledger>(alloc: Global, seed: u32, count: u32, blank: Blank) -> Option<Counts>
+fn pair_of<L: Ledger>(alloc: Global, words: &str, steps: &mut Steps<L>) -> Option<Pair> {
+    let state = opened(alloc, words, steps)?;
+    let machine = Machine::new(alloc, &state)?;
+    Some(Pair { state, machine })
+}
+
+// The first of 2000 commands at which the pair differs.
+fn first_difference<L: Ledger>(
+    alloc: Global,
+    pair: &mut Pair,
+    counts: &mut Counts,
+    steps: &mut Steps<L>,
+) -> Option<u32> {
+    let mut dice = Dice { state: 20_011 };
+    let mut stretch = 3;
+    for number in 0..2000 {
+        if number % 8 == 0 {
+            stretch = dice.roll(6);
+        }
+        let kind = random_kind(&mut dice, stretch);
+        if trial(alloc, pair, kind, counts, &mut dice, steps).is_none() {
+            return Some(number);
+        }
+    }
+    None
+}
+
+// The first command at which state and machine differ, and how many were accepted up to it.
+fn session<L: Ledger>(alloc: Global, blank: Blank) -> (Option<u32>, Counts)
     requires name { blank.name ≡ L.name }
     requires parts { blank.parts ≡ L.parts }
     requires whole { blank.parts ≡ 1 }
 {
     let mut steps = Steps::<L>::new(blank);
-    let mut dice = Dice { state: seed };
-    let mut state = opened(alloc, "(document \"abc\" (f \"d<e>\"))", &mut steps)?;
-    let mut machine = Machine::new(alloc, &state)?;
     let mut counts = Counts {
         changes: 0,
         undone: 0,
         redone: 0,
         gone: 0,
     };
-    let mut stretch = 3;
-    for i in 0..count {
-        if i % 8 == 0 {
-            stretch = dice.roll(6);
-        }
-        let kind = random_kind(&mut dice, stretch);
-        if trial(alloc, &mut state, &mut machine, kind, &mut dice, &mut steps)? {
-            counts.add(kind);
-        }
-    }
-    Some(counts)
+    let differs = match pair_of(alloc, "(document \"abc\" (f \"d<e>\"))", &mut steps) {
+        Some(mut pair) => first_difference(alloc, &mut pair, &mut counts, &mut steps),
+        None => Some(0),
+    };
+    (differs, counts)
 }
 
 #[test]
 fn a_random_session(rt: HostRuntime) -> Result<(), Fail> {
-    let counts = session::<Brand>(rt.alloc(), 20_011, 2000, Blank::new(1)).ok_or("they differ")?;
-    assert!(rt; counts.changes > 300, "{counts:?}");
-    assert!(rt; counts.undone > 100, "{counts:?}");
-    assert!(rt; counts.redone > 30, "{counts:?}");
-    assert!(rt; counts.gone > 100, "{counts:?}");
+    let (differs, counts) = session::<Brand>(rt.alloc(), Blank::new(1));
+    assert_eq!(rt; differs, None);
+    assert!(rt; counts.are_enough(), "{counts:?}");
     Ok(())
 }

@@ -1,7 +1,7 @@
 // Undo to its end, and edits that pass a limit.
 ghost use Rattle.std.specs.Prelude.{◌≡◌};
 
-use crate::replies::{cursor_of, edit, opened, redo, reply, text_of, undo};
+use crate::replies::{are_answered, cursor_of, edit, opened, redo, text_of, undo};
 use crate::samples::change;
 use std::alloc::Global;
 use std::marker::Brand;
@@ -83,7 +83,7 @@ fn redo_all<L: Ledger>(
 }
 
 // What came of the edits: sizes after them and after undo and redo, and how often undo and redo went.
-#[derive(Clone, Copy, Debug, PartialEq, Eq)]
+#[derive(Clone, Copy, PartialEq, Eq)]
 struct Turns {
     edited: u64,
     undone: u64,
@@ -108,38 +108,52 @@ fn turned_over<L: Ledger>(
     })
 }
 
-fn to_the_end<L: Ledger>(alloc: Global, count: u64, blank: Blank) -> Option<Turns>
+// How many edits are made, and how many of them are undone and redone.
+const TURNS: &[(u64, u64)] = &[
+    (0, 0),
+    (1, 1),
+    (999, 999),
+    (1000, 1000),
+    (1001, 1000),
+    (1500, 1000),
+];
+
+fn told_turns(count: u64, kept: u64) -> Turns {
+    let size = count.saturating_add(2);
+    Turns {
+        edited: size,
+        undone: kept,
+        left: size.saturating_sub(kept),
+        redone: kept,
+        back: size,
+    }
+}
+
+fn is_turned<L: Ledger>(alloc: Global, row: &(u64, u64), steps: &mut Steps<L>) -> Option<bool> {
+    let m = change(alloc, "insert /0 0 \"x\"", steps)?;
+    let mut state = opened(alloc, "(document \"\")", steps)?;
+    let got = turned_over(alloc, &mut state, &m, row.0, steps)?;
+    Some(got == told_turns(row.0, row.1))
+}
+
+fn first_wrong_turn<L: Ledger>(alloc: Global, rows: &[(u64, u64)], blank: Blank) -> Option<usize>
     requires name { blank.name ≡ L.name }
     requires parts { blank.parts ≡ L.parts }
     requires whole { blank.parts ≡ 1 }
 {
     let mut steps = Steps::<L>::new(blank);
-    let m = change(alloc, "insert /0 0 \"x\"", &mut steps)?;
-    let mut state = opened(alloc, "(document \"\")", &mut steps)?;
-    turned_over(alloc, &mut state, &m, count, &mut steps)
+    for (number, row) in rows.iter().enumerate() {
+        if is_turned(alloc, row, &mut steps) != Some(true) {
+            return Some(number);
+        }
+    }
+    None
 }
 
 #[test]
 fn a_thousand_edits_are_undone(rt: HostRuntime) -> Result<(), Fail> {
-    for (count, kept) in [
-        (0, 0),
-        (1, 1),
-        (999, 999),
-        (1000, 1000),
-        (1001, 1000),
-        (1500, 1000u64),
-    ] {
-        let got = to_the_end::<Brand>(rt.alloc(), count, Blank::new(1)).ok_or("no end")?;
-        let size = count + 2;
-        let want = Turns {
-            edited: size,
-            undone: kept,
-            left: size - kept,
-            redone: kept,
-            back: size,
-        };
-        assert_eq!(rt; got, want, "at {count}");
-    }
+    let wrong = first_wrong_turn::<Brand>(rt.alloc(), TURNS, Blank::new(1));
+    assert_eq!(rt; wrong, None);
     Ok(())
 }
 
@@ -167,42 +181,71 @@ fn long_text(alloc: Global, length: u32) -> Option<String> {
     Some(words)
 }
 
-// The reply to the command, where the document and the past are as before.
-fn refused_on<L: Ledger>(
-    alloc: Global,
-    words: &str,
-    line: &str,
-    steps: &mut Steps<L>,
-) -> Option<String> {
-    let mut state = opened(alloc, words, steps)?;
-    let got = reply(alloc, &mut state, line, steps)?;
-    let after = reply(alloc, &mut state, "undo", steps)?;
-    let text = text_of(alloc, state.document())?;
-    if after.as_str() == "no undo" && text.as_str() == words {
-        Some(got)
-    } else {
-        None
-    }
+// A document: nodes in nodes, or a text of so many bytes.
+#[derive(Clone, Copy)]
+enum Extreme {
+    Nested(u32),
+    Long(u32),
 }
 
-// The replies to a change that makes the tree too deep, and to one that makes a text too long.
-fn past_limits<L: Ledger>(alloc: Global, blank: Blank) -> Option<(String, String)>
+// A document, and commands with their replies: a change that passes a limit, and that there is nothing to undo then.
+const LIMITS: &[(Extreme, &str)] = &[
+    (
+        Extreme::Nested(399),
+        "insert-node / 0 (b) => no too-deep 401 | undo => no undo",
+    ),
+    (
+        Extreme::Long(1_048_575),
+        "insert / 0 \"x\" => no too-long 1048576 | undo => no undo",
+    ),
+];
+
+// The commands are answered as is told, and the document stays.
+fn stays_under<L: Ledger>(
+    alloc: Global,
+    words: &str,
+    lines: &str,
+    steps: &mut Steps<L>,
+) -> Option<bool> {
+    let mut state = opened(alloc, words, steps)?;
+    let answered = are_answered(alloc, &mut state, lines, steps);
+    let text = text_of(alloc, state.document())?;
+    Some(answered && text.as_str() == words)
+}
+
+fn is_refused<L: Ledger>(
+    alloc: Global,
+    row: &(Extreme, &str),
+    steps: &mut Steps<L>,
+) -> Option<bool> {
+    let words = match row.0 {
+        Extreme::Nested(depth) => nested(alloc, depth)?,
+        Extreme::Long(length) => long_text(alloc, length)?,
+    };
+    stays_under(alloc, words.as_str(), row.1, steps)
+}
+
+fn first_wrong_limit<L: Ledger>(
+    alloc: Global,
+    rows: &[(Extreme, &str)],
+    blank: Blank,
+) -> Option<usize>
     requires name { blank.name ≡ L.name }
     requires parts { blank.parts ≡ L.parts }
     requires whole { blank.parts ≡ 1 }
 {
     let mut steps = Steps::<L>::new(blank);
-    let deep = nested(alloc, 399)?;
-    let too_deep = refused_on(alloc, deep.as_str(), "insert-node / 0 (b)", &mut steps)?;
-    let long = long_text(alloc, 1_048_575)?;
-    let too_long = refused_on(alloc, long.as_str(), "insert / 0 \"x\"", &mut steps)?;
-    Some((too_deep, too_long))
+    for (number, row) in rows.iter().enumerate() {
+        if is_refused(alloc, row, &mut steps) != Some(true) {
+            return Some(number);
+        }
+    }
+    None
 }
 
 #[test]
 fn edits_past_a_limit(rt: HostRuntime) -> Result<(), Fail> {
-    let (deep, long) = past_limits::<Brand>(rt.alloc(), Blank::new(1)).ok_or("no reply")?;
-    assert_eq!(rt; deep.as_str(), "no too-deep 401");
-    assert_eq!(rt; long.as_str(), "no too-long 1048576");
+    let wrong = first_wrong_limit::<Brand>(rt.alloc(), LIMITS, Blank::new(1));
+    assert_eq!(rt; wrong, None);
     Ok(())
 }

@@ -1,13 +1,13 @@
 // Paths and places: what is read, printed and refused.
 ghost use Rattle.std.specs.Prelude.{◌≡◌};
 
-use crate::samples::{path, place, tree};
+use crate::samples::{is_printed, path, place, tree};
 use std::alloc::Global;
 use std::marker::Brand;
 use std::sync::ledger::{Blank, Ledger};
 use std::test::Fail;
 use tx_base::Steps;
-use tx_tree::{Path, PathFault, PlaceFault};
+use tx_tree::{Path, PathFault, Place, PlaceFault, Tree};
 
 // A path of so many numbers.
 fn long_path(alloc: Global, count: usize) -> Option<String> {
@@ -18,154 +18,227 @@ fn long_path(alloc: Global, count: usize) -> Option<String> {
     Some(word)
 }
 
+// Paths, and how they are printed.
+const PATHS: &[(&str, &str)] = &[
+    ("/", "/"),
+    ("/0", "/0"),
+    ("/12/0/345", "/12/0/345"),
+    ("/007", "/7"),
+    ("/4294967295", "/4294967295"),
+];
+
+fn is_read(alloc: Global, word: &str, want: &str) -> Option<bool> {
+    let path = Path::parse(alloc, word.as_bytes()).ok()?;
+    Some(is_printed(alloc, &path, want))
+}
+
+fn first_wrong_path(alloc: Global, rows: &[(&str, &str)]) -> Option<usize> {
+    for (number, row) in rows.iter().enumerate() {
+        if is_read(alloc, row.0, row.1) != Some(true) {
+            return Some(number);
+        }
+    }
+    None
+}
+
+// How many numbers are read of a path of so many.
+fn read_of(alloc: Global, count: usize) -> Option<usize> {
+    let word = long_path(alloc, count)?;
+    let path = Path::parse(alloc, word.as_bytes()).ok()?;
+    Some(path.steps().len())
+}
+
 #[test]
 fn paths_are_read_and_printed(rt: HostRuntime) -> Result<(), Fail> {
-    let alloc = rt.alloc();
-    let rows = [
-        ("/", "/"),
-        ("/0", "/0"),
-        ("/12/0/345", "/12/0/345"),
-        ("/007", "/7"),
-        ("/4294967295", "/4294967295"),
-    ];
-    for (word, want) in rows {
-        let path = Path::parse(alloc, word.as_bytes())?;
-        let printed = format!(in alloc; "{path}")?;
-        assert_eq!(rt; printed.as_str(), want);
-    }
-    let word = long_path(alloc, 400).ok_or("no word")?;
-    let longest = Path::parse(alloc, word.as_bytes())?;
-    assert_eq!(rt; longest.steps().len(), 400);
+    assert_eq!(rt; first_wrong_path(rt.alloc(), PATHS), None);
+    assert_eq!(rt; read_of(rt.alloc(), 400), Some(400));
     Ok(())
+}
+
+// Words that are no paths, and where that shows.
+const REFUSED: &[(&str, usize)] = &[
+    ("", 0),
+    ("x", 0),
+    ("0/1", 0),
+    ("//", 1),
+    ("/x", 1),
+    ("/0/", 3),
+    ("/0/x", 3),
+    ("/12a", 3),
+    ("/4294967296", 10),
+    ("/00000000000", 11),
+    ("/ 1", 1),
+    ("/1 ", 2),
+];
+
+fn first_unrefused(alloc: Global, rows: &[(&str, usize)]) -> Option<usize> {
+    for (number, row) in rows.iter().enumerate() {
+        let fault = Path::parse(alloc, row.0.as_bytes()).err();
+        if fault != Some(PathFault::BadPath(row.1)) {
+            return Some(number);
+        }
+    }
+    None
+}
+
+// The fault of a path of so many numbers.
+fn fault_of(alloc: Global, count: usize) -> Option<PathFault> {
+    let word = long_path(alloc, count)?;
+    Path::parse(alloc, word.as_bytes()).err()
 }
 
 #[test]
 fn paths_that_are_refused(rt: HostRuntime) -> Result<(), Fail> {
-    let alloc = rt.alloc();
-    let rows = [
-        ("", 0usize),
-        ("x", 0),
-        ("0/1", 0),
-        ("//", 1),
-        ("/x", 1),
-        ("/0/", 3),
-        ("/0/x", 3),
-        ("/12a", 3),
-        ("/4294967296", 10),
-        ("/00000000000", 11),
-        ("/ 1", 1),
-        ("/1 ", 2),
-    ];
-    for (word, want) in rows {
-        let got = Path::parse(alloc, word.as_bytes()).err();
-        assert_eq!(rt; got, Some(PathFault::BadPath(want)), "at {word}");
-    }
-    let word = long_path(alloc, 401).ok_or("no word")?;
-    let got = Path::parse(alloc, word.as_bytes()).err();
-    assert_eq!(rt; got, Some(PathFault::BadPath(800)));
+    assert_eq!(rt; first_unrefused(rt.alloc(), REFUSED), None);
+    assert_eq!(rt; fault_of(rt.alloc(), 401), Some(PathFault::BadPath(800)));
     Ok(())
+}
+
+// The path is empty, and has the numbers 4 and 5 then.
+fn grows(path: &mut Path) -> Option<bool> {
+    let empty = path.pop().is_none();
+    path.push(4).ok()?;
+    path.push(5).ok()?;
+    Some(empty)
+}
+
+// The path loses its last number, and its copy doesn't.
+fn shrinks(path: &mut Path, copy: &Path) -> bool {
+    path.pop() == Some(5)
+        && path.steps() == [4u32].as_slice()
+        && copy.steps() == [4u32, 5].as_slice()
+}
+
+fn grows_and_shrinks(alloc: Global) -> Option<bool> {
+    let mut path = Path::root(alloc);
+    let grown = grows(&mut path)?;
+    let copy = path.copy(alloc).ok()?;
+    Some(grown && shrinks(&mut path, &copy))
 }
 
 #[test]
 fn paths_grow_and_shrink(rt: HostRuntime) -> Result<(), Fail> {
-    let alloc = rt.alloc();
-    let mut path = Path::root(alloc);
-    assert_eq!(rt; path.pop(), None);
-    path.push(4)?;
-    path.push(5)?;
-    let copy = path.copy(alloc)?;
-    assert_eq!(rt; path.pop(), Some(5));
-    assert_eq!(rt; path.steps(), [4u32].as_slice());
-    assert_eq!(rt; copy.steps(), [4u32, 5].as_slice());
+    assert_eq!(rt; grows_and_shrinks(rt.alloc()), Some(true));
     Ok(())
 }
 
-// Why the word is no place of the tree, or None where it is one.
-fn place_fault<L: Ledger>(alloc: Global, word: &[u8], blank: Blank) -> Option<Option<PlaceFault>>
+// The tree that the places and paths below are of.
+const TREE: &str = r#"(f "ab<c>d" (g ""))"#;
+
+// Places, and why they are none of the tree.
+const PLACES: &[(&str, Option<PlaceFault>)] = &[
+    ("/0", None),
+    ("/1", None),
+    ("/2", Some(PlaceFault::BadPlace(1))),
+    ("/0/0", None),
+    ("/0/2", None),
+    ("/0/3", Some(PlaceFault::CutsSymbol(3))),
+    ("/0/4", Some(PlaceFault::CutsSymbol(4))),
+    ("/0/5", None),
+    ("/0/6", None),
+    ("/0/7", Some(PlaceFault::BadPlace(6))),
+    ("/0/4294967295", Some(PlaceFault::BadPlace(6))),
+    ("/1/1", None),
+    ("/1/0/0", None),
+    ("/1/0/1", Some(PlaceFault::BadPlace(0))),
+    ("/2/0", Some(PlaceFault::NoPath(0))),
+    ("/1/1/0", Some(PlaceFault::NoPath(1))),
+    ("/0/0/9", Some(PlaceFault::NoPath(1))),
+];
+
+// The place is printed as the word.
+fn is_spelled(alloc: Global, at: &Place, word: &str) -> bool {
+    match format!(in alloc; "{at}") {
+        Ok(printed) => printed.as_str() == word,
+        Err(_) => false,
+    }
+}
+
+fn is_judged(alloc: Global, t: &Tree, word: &str, want: Option<PlaceFault>) -> Option<bool> {
+    let at = place(alloc, word)?;
+    let copy = at.copy(alloc).ok()?;
+    Some(copy.check(t).err() == want && is_spelled(alloc, &at, word))
+}
+
+fn is_told<L: Ledger>(
+    alloc: Global,
+    row: &(&str, Option<PlaceFault>),
+    steps: &mut Steps<L>,
+) -> Option<bool> {
+    let t = tree(alloc, TREE, steps)?;
+    is_judged(alloc, &t, row.0, row.1)
+}
+
+fn first_wrong_place<L: Ledger>(
+    alloc: Global,
+    rows: &[(&str, Option<PlaceFault>)],
+    blank: Blank,
+) -> Option<usize>
     requires name { blank.name ≡ L.name }
     requires parts { blank.parts ≡ L.parts }
     requires whole { blank.parts ≡ 1 }
 {
-    let Ok(word) = str::from_utf8(word) else {
-        return None;
-    };
     let mut steps = Steps::<L>::new(blank);
-    let t = tree(alloc, r#"(f "ab<c>d" (g ""))"#, &mut steps)?;
-    let at = place(alloc, word)?;
-    Some(at.copy(alloc).ok()?.check(&t).err())
-}
-
-// The place that the word spells is printed as the word.
-fn is_printed(alloc: Global, word: &[u8]) -> Option<bool> {
-    let Ok(word) = str::from_utf8(word) else {
-        return None;
-    };
-    let at = place(alloc, word)?;
-    let printed = format!(in alloc; "{at}").ok()?;
-    Some(printed.as_bytes() == word.as_bytes())
+    for (number, row) in rows.iter().enumerate() {
+        if is_told(alloc, row, &mut steps) != Some(true) {
+            return Some(number);
+        }
+    }
+    None
 }
 
 #[test]
 fn places_of_a_tree(rt: HostRuntime) -> Result<(), Fail> {
-    let rows: [(&[u8], Option<PlaceFault>); 17] = [
-        (b"/0", None),
-        (b"/1", None),
-        (b"/2", Some(PlaceFault::BadPlace(1))),
-        (b"/0/0", None),
-        (b"/0/2", None),
-        (b"/0/3", Some(PlaceFault::CutsSymbol(3))),
-        (b"/0/4", Some(PlaceFault::CutsSymbol(4))),
-        (b"/0/5", None),
-        (b"/0/6", None),
-        (b"/0/7", Some(PlaceFault::BadPlace(6))),
-        (b"/0/4294967295", Some(PlaceFault::BadPlace(6))),
-        (b"/1/1", None),
-        (b"/1/0/0", None),
-        (b"/1/0/1", Some(PlaceFault::BadPlace(0))),
-        (b"/2/0", Some(PlaceFault::NoPath(0))),
-        (b"/1/1/0", Some(PlaceFault::NoPath(1))),
-        (b"/0/0/9", Some(PlaceFault::NoPath(1))),
-    ];
-    for (word, want) in rows {
-        let got = place_fault::<Brand>(rt.alloc(), word, Blank::new(1)).ok_or("no place")?;
-        assert_eq!(rt; got, want, "at {word:?}");
-        assert_eq!(rt; is_printed(rt.alloc(), word), Some(true), "at {word:?}");
-    }
+    let wrong = first_wrong_place::<Brand>(rt.alloc(), PLACES, Blank::new(1));
+    assert_eq!(rt; wrong, None);
     Ok(())
 }
 
-// The size of the subtree at the path.
-fn size_at<L: Ledger>(alloc: Global, word: &[u8], blank: Blank) -> Option<Option<u64>>
+// Paths, and the sizes of the subtrees that they lead to.
+const SIZES: &[(&str, Option<u64>)] = &[
+    ("/", Some(10)),
+    ("/0", Some(7)),
+    ("/1", Some(2)),
+    ("/1/0", Some(1)),
+    ("/2", None),
+    ("/0/0", None),
+    ("/1/1", None),
+];
+
+fn has_size<L: Ledger>(
+    alloc: Global,
+    row: &(&str, Option<u64>),
+    steps: &mut Steps<L>,
+) -> Option<bool> {
+    let t = tree(alloc, TREE, steps)?;
+    let q = path(alloc, row.0)?;
+    match t.at(&q) {
+        Some(s) => Some(row.1 == Some(s.size())),
+        None => Some(row.1.is_none()),
+    }
+}
+
+fn first_wrong_size<L: Ledger>(
+    alloc: Global,
+    rows: &[(&str, Option<u64>)],
+    blank: Blank,
+) -> Option<usize>
     requires name { blank.name ≡ L.name }
     requires parts { blank.parts ≡ L.parts }
     requires whole { blank.parts ≡ 1 }
 {
-    let Ok(word) = str::from_utf8(word) else {
-        return None;
-    };
     let mut steps = Steps::<L>::new(blank);
-    let t = tree(alloc, r#"(f "ab<c>d" (g ""))"#, &mut steps)?;
-    let q = path(alloc, word)?;
-    match t.at(&q) {
-        Some(s) => Some(Some(s.size())),
-        None => Some(None),
+    for (number, row) in rows.iter().enumerate() {
+        if has_size(alloc, row, &mut steps) != Some(true) {
+            return Some(number);
+        }
     }
+    None
 }
 
 #[test]
 fn subtrees_at_paths(rt: HostRuntime) -> Result<(), Fail> {
-    let rows: [(&[u8], Option<u64>); 7] = [
-        (b"/", Some(10u64)),
-        (b"/0", Some(7)),
-        (b"/1", Some(2)),
-        (b"/1/0", Some(1)),
-        (b"/2", None),
-        (b"/0/0", None),
-        (b"/1/1", None),
-    ];
-    for (word, want) in rows {
-        let got = size_at::<Brand>(rt.alloc(), word, Blank::new(1)).ok_or("no tree")?;
-        assert_eq!(rt; got, want, "at {word:?}");
-    }
+    let wrong = first_wrong_size::<Brand>(rt.alloc(), SIZES, Blank::new(1));
+    assert_eq!(rt; wrong, None);
     Ok(())
 }

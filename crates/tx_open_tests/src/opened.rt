@@ -3,6 +3,7 @@ use std::alloc::{AllocError, Global};
 use std::str;
 use tx_doc::Buffer;
 use tx_open::{Opened, Opening};
+use tx_tree::ReadFault;
 
 fn add(text: &mut String, word: &str, bytes: &[u8]) -> Result<(), AllocError> {
     text.push_str(word)?;
@@ -35,6 +36,19 @@ fn all(alloc: Global, opened: &Opened) -> Result<String, AllocError> {
     Ok(text)
 }
 
+// The file's word, and why it is no tree.
+fn refused(alloc: Global, file: &[u8], fault: &ReadFault) -> Result<String, AllocError> {
+    let mut text = line(alloc, "refused ", file)?;
+    text.push_str(&format!(in alloc; " {fault}")?)?;
+    Ok(text)
+}
+
+fn generated(alloc: Global, opened: &Opened) -> Result<String, AllocError> {
+    let mut text = String::from_str(alloc, "generated ")?;
+    text.push_str(&all(alloc, opened)?)?;
+    Ok(text)
+}
+
 // What opening comes to.
 pub(crate) fn shown(alloc: Global, opening: &Opening) -> Result<String, AllocError> {
     match opening {
@@ -42,19 +56,10 @@ pub(crate) fn shown(alloc: Global, opening: &Opening) -> Result<String, AllocErr
         Opening::UnreadWords => String::from_str(alloc, "unread"),
         Opening::Missing(word) => line(alloc, "missing ", word),
         Opening::TooLong(word) => line(alloc, "long ", word),
-        Opening::NoTree(word, fault) => {
-            let mut text = line(alloc, "refused ", word)?;
-            let why = format!(in alloc; " {fault}")?;
-            text.push_str(&why)?;
-            Ok(text)
-        }
+        Opening::NoTree(word, fault) => refused(alloc, word, fault),
         Opening::StoreFault(word) => line(alloc, "store ", word),
         Opening::NoMemory => String::from_str(alloc, "memory"),
         Opening::Opened(opened) => all(alloc, opened),
-        Opening::Generated(opened) => {
-            let mut text = String::from_str(alloc, "generated ")?;
-            text.push_str(&all(alloc, opened)?)?;
-            Ok(text)
-        }
+        Opening::Generated(opened) => generated(alloc, opened),
     }
 }

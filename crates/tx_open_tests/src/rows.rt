@@ -177,15 +177,21 @@ fn first_wrong<L: Ledger>(
     Ok(None)
 }
 
-// What opening comes to where the second file has one byte more than a file may have.
+// A store where the second file has one byte more than a file may have.
+fn long_store(alloc: Global) -> Result<MemStore, SaveFault> {
+    let mut store = store_of(alloc, "a.scm (f);c.scm )", None)?;
+    store.save(b"b.scm", &vec![in alloc; b' '; MOST_FILE + 1]?)?;
+    Ok(store)
+}
+
+// What opening comes to over that store.
 fn of_long<L: Ledger>(alloc: Global, blank: Blank) -> Result<String, SaveFault>
     requires name { blank.name ≡ L.name }
     requires parts { blank.parts ≡ L.parts }
     requires whole { blank.parts ≡ 1 }
 {
     let mut steps = Steps::<L>::new(blank);
-    let mut store = store_of(alloc, "a.scm (f);c.scm )", None)?;
-    store.save(b"b.scm", &vec![in alloc; b' '; MOST_FILE + 1]?)?;
+    let mut store = long_store(alloc)?;
     let words = "|tmx|a.scm|b.scm|c.scm";
     Ok(comes_to(alloc, words, &mut store, &mut steps)?)
 }

@@ -1,8 +1,13 @@
-//! Tests of sessions that are played line by line: worked ones, whole ones, and random ones beside new ones.
+//! Tests of sessions that are played line by line: worked ones, whole ones, pages, files that are too long, and random
+//! ones beside new ones.
 #![tactic(auto)]
 
 #[cfg(test)]
 mod anew;
+#[cfg(test)]
+mod long_files;
+#[cfg(test)]
+mod pages;
 #[cfg(test)]
 mod played;
 #[cfg(test)]

@@ -8,7 +8,7 @@ use tx_base::Steps;
 use tx_cmd::{CmdFault, parse};
 use tx_doc::{Buffer, Form, Name, form_of};
 use tx_outside::{MemSink, MemStore};
-use tx_session::Session;
+use tx_session::{Next, Session};
 use tx_tree::{ReadFault, Tree};
 
 // A document, a style or no name and no bytes, the columns and rows of a page, the lines of a script, and their
@@ -104,25 +104,35 @@ fn refusal(alloc: Global, fault: CmdFault) -> Option<String> {
     line.ok()
 }
 
-// Answers a line; None where its reply couldn't be written.
-fn answer<L: Ledger>(
+// Answers a line. What the session does then; None where its reply couldn't be written.
+pub(crate) fn answer<L: Ledger>(
     alloc: Global,
     session: &mut Session,
     line: &[u8],
     store: &mut MemStore,
     out: &mut MemSink,
     steps: &mut Steps<L>,
-) -> Option<()> {
+) -> Option<Next> {
     match parse(alloc, line, steps) {
-        Ok(command) => {
-            session.step(alloc, &command, store, out, steps).ok()?;
-        }
+        Ok(command) => session.step(alloc, &command, store, out, steps).ok(),
         Err(fault) => {
             let line = refusal(alloc, fault)?;
             tx_outside::write_all(out, line.as_bytes()).ok()?;
+            Some(Next::Go)
         }
     }
-    Some(())
+}
+
+// What the session does after a line.
+pub(crate) fn next_of<L: Ledger>(
+    alloc: Global,
+    session: &mut Session,
+    line: &[u8],
+    steps: &mut Steps<L>,
+) -> Option<Next> {
+    let mut store = MemStore::new(Vec::new(alloc), Vec::new(alloc));
+    let mut out = MemSink::new(alloc, 16_000, Vec::new(alloc)).ok()?;
+    answer(alloc, session, line, &mut store, &mut out, steps)
 }
 
 // Answers the lines of a script, of which those without bytes are none.

@@ -242,6 +242,7 @@ const LONGEST: &[Run<'static>] = &[(
     "ok\nsaved 1048578\n",
 )];
 
+// Words, and the longest text that is evaluated, and one letter more.
 const SHOWN: &[Run<'static>] = &[
     (
         "a.scm",
@@ -256,6 +257,20 @@ const SHOWN: &[Run<'static>] = &[
         ("show\n", "", 0, ""),
         Status::OutputFault,
         "pages 1042 rows 25000\npage 1\n",
+    ),
+    (
+        "a.scm",
+        Great::Wide(999_999, 0, 0),
+        ("show\n", "", 0, ""),
+        Status::OutputFault,
+        "pages 521 rows 12500\npage 1\naaaaaaaaaaaaaa",
+    ),
+    (
+        "a.scm",
+        Great::Wide(1_000_000, 0, 0),
+        ("show\n", "", 0, ""),
+        Status::Ok,
+        "pages 1 rows 1\npage 1\n<!over>\n",
     ),
 ];
 
@@ -354,7 +369,7 @@ fn the_longest_lines_are_commands(rt: HostRuntime) -> Result<(), Fail> {
     Ok(())
 }
 
-// 70,000 words, and a million of them.
+// 70,000 words and a million of them, and a million letters.
 #[test]
 fn many_words_are_shown(rt: HostRuntime) -> Result<(), Fail> {
     let wrong = first_wrong_run::<Brand>(rt.alloc(), SHOWN, Blank::new(1))?;

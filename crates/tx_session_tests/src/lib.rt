@@ -14,11 +14,7 @@ mod limits;
 #[cfg(test)]
 mod lines;
 #[cfg(test)]
-mod long_files;
-#[cfg(test)]
 mod outside;
-#[cfg(test)]
-mod pages;
 #[cfg(test)]
 mod sample;
 #[cfg(test)]

@@ -1,4 +1,4 @@
 use Rattle.tx_bridge_tests.proofs.edits.edits_of_nested_paragraphs_reach_their_parts.Given as goal
 
-abbrev pub ghosts-not_kept_nested : goal.ghosts-not_kept_nested
-ghosts-not_kept_nested g a = record { name = a.blank.name; parts = a.blank.parts }
+abbrev pub ghosts-first_untrue : goal.ghosts-first_untrue
+ghosts-first_untrue g a = record { name = a.blank.name; parts = a.blank.parts }

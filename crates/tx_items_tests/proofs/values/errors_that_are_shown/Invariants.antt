@@ -1,4 +1,0 @@
-use Rattle.tx_items_tests.proofs.values.errors_that_are_shown.Given as goal
-
-abbrev pub ghosts-is_shown : goal.ghosts-is_shown
-ghosts-is_shown g a = record { name = a.blank.name; parts = a.blank.parts }
