@@ -3,7 +3,7 @@ ghost use Rattle.std.specs.Prelude.{◌≡◌};
 
 use crate::inverses::{Remade, is_copied, is_undone_and_redone, told_edit};
 use crate::samples::{
-    change, is_place, is_tree, path, path_after, place, place_after, same_change, stays, tree,
+    change, is_place, is_tree, path, path_after, place, place_after, same_change, stays,
 };
 use std::alloc::Global;
 use std::marker::Brand;
@@ -11,6 +11,7 @@ use std::sync::ledger::{Blank, Ledger};
 use std::test::Fail;
 use tx_base::Steps;
 use tx_mod::{ApplyFault, Mod, ModFault, applicable, apply, inverse};
+use tx_samples::tree_of;
 use tx_tree::{Path, Tree};
 
 // A tree, a modification of it, the changed tree, and the inverse.
@@ -311,7 +312,7 @@ fn has_fault<L: Ledger>(
     steps: &mut Steps<L>,
 ) -> Option<bool> {
     let (before, words) = row.0.split_once(" | ")?;
-    let t = tree(alloc, before, steps)?;
+    let t = tree_of(alloc, before, steps)?;
     let m = change(alloc, words, steps)?;
     Some(all_faults(alloc, &t, &m, steps) == Some(row.1))
 }

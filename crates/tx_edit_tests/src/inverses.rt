@@ -1,10 +1,11 @@
 // A modification with what it makes of a tree, and what undoes it.
 
-use crate::samples::{change, same_change, tree};
+use crate::samples::{change, same_change};
 use std::alloc::Global;
 use std::sync::ledger::Ledger;
 use tx_base::Steps;
 use tx_mod::{Mod, ModList, apply, apply_and_inverse, inverse};
+use tx_samples::tree_of;
 use tx_tree::Tree;
 
 // A modification of a tree, what it makes of it, and its inverse.
@@ -40,7 +41,7 @@ pub(crate) fn told_edit<L: Ledger>(
     words: &str,
     steps: &mut Steps<L>,
 ) -> Option<Remade> {
-    let before = tree(alloc, before, steps)?;
+    let before = tree_of(alloc, before, steps)?;
     let change = change(alloc, words, steps)?;
     edited(alloc, before, change, steps)
 }

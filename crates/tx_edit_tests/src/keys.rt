@@ -1,7 +1,7 @@
 // Keys: what they make of a tree at a place, and where they lead among stops.
 ghost use Rattle.std.specs.Prelude.{◌≡◌};
 
-use crate::samples::{changes, is_place, is_tree, place, same_change, tree};
+use crate::samples::{changes, is_place, is_tree, place, same_change};
 use std::alloc::Global;
 use std::marker::Brand;
 use std::sync::ledger::{Blank, Ledger};
@@ -9,6 +9,7 @@ use std::test::Fail;
 use tx_base::Steps;
 use tx_edit::{EditFault, Move, backspace, enter, left, right, type_text};
 use tx_mod::{Mod, apply};
+use tx_samples::tree_of;
 use tx_tree::{Place, Text, Tree};
 
 // The key at the place, or None where the place is none of the tree. Any other word than `backspace` and `enter` is
@@ -168,7 +169,7 @@ const EDITS: &[(&str, &str)] = &[
 
 fn edits<L: Ledger>(alloc: Global, row: &(&str, &str), steps: &mut Steps<L>) -> Option<bool> {
     let (before, words) = row.0.split_once(" | ")?;
-    let t = tree(alloc, before, steps)?;
+    let t = tree_of(alloc, before, steps)?;
     let made = pressed_at(alloc, &t, words)?.ok()?;
     is_edit(alloc, &t, &made, row.1, steps)
 }
@@ -246,7 +247,7 @@ fn makes_nothing<L: Ledger>(
     steps: &mut Steps<L>,
 ) -> Option<bool> {
     let (before, words) = row.0.split_once(" | ")?;
-    let t = tree(alloc, before, steps)?;
+    let t = tree_of(alloc, before, steps)?;
     Some(pressed_at(alloc, &t, words)?.err() == Some(row.1))
 }
 

@@ -1,12 +1,13 @@
 // States, and what they reply to commands, for tests.
 ghost use Rattle.std.specs.Prelude.{◌≡◌, ◌<◌, length, IfSome};
 
-use crate::samples::{change, changes, number, path, tree};
+use crate::samples::{change, changes, number, path};
 use std::alloc::Global;
 use std::sync::ledger::Ledger;
 use tx_base::Steps;
 use tx_doc::{Buffer, Name};
 use tx_mod::{ApplyFault, Mod, ModFault, ModList};
+use tx_samples::tree_of;
 use tx_state::{Edit, EditorState, GoFault, UndoFault};
 use tx_tree::{PlaceFault, Tree};
 
@@ -28,7 +29,7 @@ fn buffer<L: Ledger>(
     let name = Vec::from_slice(alloc, name).ok()?;
     Some(Buffer {
         name: Name::from(name),
-        tree: tree(alloc, words, steps)?,
+        tree: tree_of(alloc, words, steps)?,
     })
 }
 

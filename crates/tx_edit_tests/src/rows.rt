@@ -2,13 +2,14 @@
 ghost use Rattle.std.specs.Prelude.{◌≡◌};
 
 use crate::replies::{are_answered, opened};
-use crate::samples::{is_printed, is_tree, tree};
+use crate::samples::{is_printed, is_tree};
 use std::alloc::Global;
 use std::marker::Brand;
 use std::sync::ledger::{Blank, Ledger};
 use std::test::Fail;
 use tx_base::Steps;
 use tx_doc::body;
+use tx_samples::tree_of;
 use tx_state::EditorState;
 
 // The style is as it was when the state was opened.
@@ -191,7 +192,7 @@ const BODIES: &[(&str, &str)] = &[
 ];
 
 fn has_body<L: Ledger>(alloc: Global, row: &(&str, &str), steps: &mut Steps<L>) -> Option<bool> {
-    let t = tree(alloc, row.0, steps)?;
+    let t = tree_of(alloc, row.0, steps)?;
     match body(alloc, &t).ok()? {
         Some(path) => Some(is_printed(alloc, &path, row.1)),
         None => Some(row.1 == "-"),

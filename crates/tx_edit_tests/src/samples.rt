@@ -4,11 +4,8 @@ use std::alloc::Global;
 use std::sync::ledger::Ledger;
 use tx_base::Steps;
 use tx_mod::{Mod, ModList, applicable, carried, moved};
+use tx_samples::tree_of;
 use tx_tree::{Label, Path, Place, Tree};
-
-pub(crate) fn tree<L: Ledger>(alloc: Global, words: &str, steps: &mut Steps<L>) -> Option<Tree> {
-    tx_scm::read(alloc, words.as_bytes(), steps).ok()
-}
 
 pub(crate) fn path(alloc: Global, word: &str) -> Option<Path> {
     Path::parse(alloc, word.as_bytes()).ok()
@@ -32,7 +29,7 @@ pub(crate) fn is_tree<L: Ledger>(
     t: &Tree,
     steps: &mut Steps<L>,
 ) -> bool {
-    match tree(alloc, words, steps) {
+    match tree_of(alloc, words, steps) {
         Some(told) => told.same(t),
         None => false,
     }
@@ -71,7 +68,7 @@ fn number_and_tree<L: Ledger>(
     steps: &mut Steps<L>,
 ) -> Option<(u32, Tree)> {
     let (i, rest) = words.split_once(' ')?;
-    Some((number(i)?, tree(alloc, rest, steps)?))
+    Some((number(i)?, tree_of(alloc, rest, steps)?))
 }
 
 // A modification that has only numbers beside its path, or a label.
@@ -103,7 +100,7 @@ pub(crate) fn change<L: Ledger>(alloc: Global, words: &str, steps: &mut Steps<L>
     let (kind, rest) = words.split_once(' ')?;
     let (to, rest) = rest.split_once(' ')?;
     if kind == "assign" {
-        let x = tree(alloc, rest, steps)?;
+        let x = tree_of(alloc, rest, steps)?;
         return Some(Mod::Assign(path(alloc, to)?, x));
     }
     if kind == "insert" {

@@ -3,7 +3,7 @@ ghost use Rattle.std.specs.Prelude.{◌≡◌};
 
 use crate::inverses::{Remade, edited, is_undone_and_redone};
 use crate::random::{random_change, random_path, random_words};
-use crate::samples::{change, path_after, place_after, stays, tree};
+use crate::samples::{change, path_after, place_after, stays};
 use std::alloc::Global;
 use std::marker::Brand;
 use std::sync::ledger::{Blank, Ledger};
@@ -11,6 +11,7 @@ use std::test::Fail;
 use tx_base::Steps;
 use tx_dice::Dice;
 use tx_mod::{Mod, applicable};
+use tx_samples::tree_of;
 use tx_tree::{Place, Tree};
 
 // How many modifications applied, and how many paths were carried.
@@ -103,7 +104,7 @@ fn told_change<L: Ledger>(
 
 fn told_tree<L: Ledger>(alloc: Global, dice: &mut Dice, steps: &mut Steps<L>) -> Option<Tree> {
     let words = random_words(alloc, dice)?;
-    tree(alloc, &words, steps)
+    tree_of(alloc, &words, steps)
 }
 
 // A random modification of a random tree.

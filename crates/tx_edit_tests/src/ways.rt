@@ -1,12 +1,13 @@
 // Paths and places: what is read, printed and refused.
 ghost use Rattle.std.specs.Prelude.{◌≡◌};
 
-use crate::samples::{is_printed, path, place, tree};
+use crate::samples::{is_printed, path, place};
 use std::alloc::Global;
 use std::marker::Brand;
 use std::sync::ledger::{Blank, Ledger};
 use std::test::Fail;
 use tx_base::Steps;
+use tx_samples::tree_of;
 use tx_tree::{Path, PathFault, Place, PlaceFault, Tree};
 
 // A path of so many numbers.
@@ -165,7 +166,7 @@ fn is_told<L: Ledger>(
     row: &(&str, Option<PlaceFault>),
     steps: &mut Steps<L>,
 ) -> Option<bool> {
-    let t = tree(alloc, TREE, steps)?;
+    let t = tree_of(alloc, TREE, steps)?;
     is_judged(alloc, &t, row.0, row.1)
 }
 
@@ -210,7 +211,7 @@ fn has_size<L: Ledger>(
     row: &(&str, Option<u64>),
     steps: &mut Steps<L>,
 ) -> Option<bool> {
-    let t = tree(alloc, TREE, steps)?;
+    let t = tree_of(alloc, TREE, steps)?;
     let q = path(alloc, row.0)?;
     match t.at(&q) {
         Some(s) => Some(row.1 == Some(s.size())),

@@ -1,7 +1,7 @@
 // Trees of the tables, and random ones, evaluated beside the plain reading of the table of evaluation.
 ghost use Rattle.std.specs.Prelude.{◌≡◌};
 
-use crate::cases::{Case, at_root, text_of, tree_of};
+use crate::cases::{Case, at_root, text_of};
 use crate::conditions::{ALL_ARGUMENTS, CONDITIONS};
 use crate::flows::FLOW;
 use crate::found::{FOUND, FOUND_TOO};
@@ -16,6 +16,7 @@ use tx_dice::Dice;
 use tx_env::Env;
 use tx_exec::{Outcome, Trace, eval};
 use tx_exec_form::MOST_LEVELS;
+use tx_samples::tree_of;
 use tx_tree::{Text, Tree};
 
 // Names with what they have, and a tree.

@@ -6,7 +6,7 @@ use std::sync::ledger::Ledger;
 use tx_base::Steps;
 use tx_env::Env;
 use tx_origin::{Ip, Tagged};
-use tx_scm::read;
+use tx_samples::tree_of;
 use tx_tree::{Path, Text, Tree};
 
 // A tree, names with what they have, names that are looked up and unset, the value, the origins of the value and of its
@@ -25,10 +25,6 @@ pub(crate) type Case = (
 
 pub(crate) fn text_of(alloc: Global, word: &str) -> Option<Text> {
     Text::new(alloc, word.as_bytes()).ok()
-}
-
-pub(crate) fn tree_of<L: Ledger>(alloc: Global, words: &str, steps: &mut Steps<L>) -> Option<Tree> {
-    read(alloc, words.as_bytes(), steps).ok()
 }
 
 // The tree, standing at the root.

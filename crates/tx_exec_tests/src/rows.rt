@@ -1,7 +1,7 @@
 // Tables of trees with what they come to, each tried at its cost and one below, and at the greatest height and above.
 ghost use Rattle.std.specs.Prelude.{◌≡◌, ◌≤◌};
 
-use crate::cases::{Case, at_root, set_all, tree_of};
+use crate::cases::{Case, at_root, set_all};
 use crate::computed::{COMPUTED, COMPUTED_TOO};
 use crate::conditions::{ALL_ARGUMENTS, CONDITIONS};
 use crate::flows::FLOW;
@@ -17,6 +17,7 @@ use tx_env::Env;
 use tx_exec::{Outcome, eval};
 use tx_exec_form::MOST_LEVELS;
 use tx_origin::Tagged;
+use tx_samples::tree_of;
 use tx_tree::Tree;
 
 // Sets the names of the row, and the macro that passes its argument on.

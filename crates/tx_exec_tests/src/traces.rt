@@ -1,11 +1,12 @@
 // Whether a trace is the one of a row.
-use crate::cases::{Case, is_origin, tree_of};
+use crate::cases::{Case, is_origin};
 use std::alloc::Global;
 use std::sync::ledger::Ledger;
 use tx_base::Steps;
 use tx_env::Writes;
 use tx_exec::{Looks, Trace};
 use tx_origin::Value;
+use tx_samples::tree_of;
 use tx_tree::Tree;
 
 fn is_tree<L: Ledger>(

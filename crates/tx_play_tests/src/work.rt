@@ -8,6 +8,7 @@ use std::marker::Brand;
 use std::sync::ledger::{Blank, Ledger};
 use std::test::Fail;
 use tx_base::Steps;
+use tx_samples::number_in;
 use tx_session::Session;
 
 // A document in the Scheme syntax, the lines of a script, and the most that `work` prints behind them.
@@ -30,17 +31,6 @@ const ROWS: &[Row] = &[
         7,
     ),
 ];
-
-// The number in a line `work N`.
-fn number_in(reply: &[u8]) -> Option<u64> {
-    let (word, rest) = str::from_utf8(reply).ok()?.split_once(' ')?;
-    let (number, _) = rest.split_once('\n')?;
-    if word == "work" {
-        number.parse::<u64>().ok()
-    } else {
-        None
-    }
-}
 
 // What `work` prints.
 fn work_of<L: Ledger>(alloc: Global, session: &mut Session, steps: &mut Steps<L>) -> Option<u64> {

@@ -13,11 +13,12 @@ use std::sync::ledger::Ledger;
 use tx_base::Steps;
 use tx_items::{Attrs, Drawn, ErrorAt, Item, Paragraph, after, items};
 use tx_origin::{Ip, Value};
+use tx_samples::tree_of;
 use tx_tree::Text;
 
 // The value that the words spell in the Scheme syntax. It stands at the root.
 fn value<L: Ledger>(alloc: Global, words: &str, steps: &mut Steps<L>) -> Option<Value> {
-    let tree = tx_scm::read(alloc, words.as_bytes(), steps).ok()?;
+    let tree = tree_of(alloc, words, steps)?;
     Value::whole(alloc, &tree, &Some(Ip::root())).ok()
 }
 

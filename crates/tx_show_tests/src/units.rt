@@ -5,8 +5,9 @@ use std::alloc::{AllocError, Global};
 use std::marker::Brand;
 use std::sync::ledger::{Blank, Ledger};
 use tx_base::Steps;
-use tx_doc::{Buffer, Name};
+use tx_doc::Buffer;
 use tx_origin::Ip;
+use tx_samples::told_buffers;
 use tx_tree::Path;
 use tx_units::{Unit, base_units, front_units, units, with_body};
 
@@ -158,23 +159,6 @@ const ROWS: &[(&str, &str)] = &[
             (quote \"y\"));Body /1/0/0 / \"p\";",
     ),
 ];
-
-// The buffer that is told: a name, a space and a tree.
-fn told_buffer<L: Ledger>(alloc: Global, told: &str, steps: &mut Steps<L>) -> Option<Buffer> {
-    let (name, words) = told.split_once(' ')?;
-    let tree = tx_scm::read(alloc, words.as_bytes(), steps).ok()?;
-    let name = Name::from(Vec::from_slice(alloc, name.as_bytes()).ok()?);
-    Some(Buffer { name, tree })
-}
-
-// The buffers that are told.
-fn told_buffers<L: Ledger>(alloc: Global, told: &str, steps: &mut Steps<L>) -> Option<Vec<Buffer>> {
-    let mut buffers = Vec::new(alloc);
-    for part in told.split(';') {
-        buffers.push(told_buffer(alloc, part, steps)?).ok()?;
-    }
-    Some(buffers)
-}
 
 // Adds the text, where there is memory for it.
 fn add(text: Result<String, AllocError>, out: &mut Vec<u8>) -> Option<()> {

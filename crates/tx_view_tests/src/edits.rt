@@ -4,7 +4,7 @@ ghost use Rattle.tx_doc.specs.Buffers.{tree_of};
 ghost use Rattle.tx_mod.specs.Followed.{changed_by_all};
 
 use crate::changes::{behind_one, work_behind};
-use crate::told::{buffers_of, view_on};
+use crate::told::view_on;
 use std::alloc::Global;
 use std::marker::Brand;
 use std::sync::ledger::{Blank, Ledger};
@@ -12,6 +12,7 @@ use std::test::Fail;
 use tx_base::Steps;
 use tx_doc::Buffer;
 use tx_mod::Mod;
+use tx_samples::{told_buffers, tree_of};
 use tx_tree::{Path, Tree};
 
 // Buffers, the path of a paragraph of the document, the tree that is put there, and the steps of the refresh behind it.
@@ -72,7 +73,7 @@ fn assign_of<L: Ledger>(
     steps: &mut Steps<L>,
 ) -> Option<Vec<Mod>> {
     let path = Path::parse(alloc, path.as_bytes()).ok()?;
-    let tree = tx_scm::read(alloc, tree.as_bytes(), steps).ok()?;
+    let tree = tree_of(alloc, tree, steps)?;
     vec![in alloc; Mod::Assign(path, tree)].ok()
 }
 
@@ -118,7 +119,7 @@ fn is_edit_of<L: Ledger>(
 }
 
 fn is_edit<L: Ledger>(alloc: Global, row: &Edit, steps: &mut Steps<L>) -> Option<bool> {
-    let buffers = buffers_of(alloc, row.0, steps)?;
+    let buffers = told_buffers(alloc, row.0, steps)?;
     is_edit_of(alloc, &buffers, row, steps)
 }
 

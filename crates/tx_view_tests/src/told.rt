@@ -4,31 +4,12 @@ ghost use Rattle.std.specs.Prelude.{◌≡◌, ◌≤◌, IfSome};
 use std::alloc::Global;
 use std::sync::ledger::Ledger;
 use tx_base::Steps;
-use tx_doc::{Buffer, Name};
+use tx_doc::Buffer;
 use tx_items::Item;
 use tx_layout::Line;
+use tx_samples::told_buffers;
 use tx_tree::{Path, Place};
 use tx_view::View;
-
-fn buffer_of<L: Ledger>(alloc: Global, told: &str, steps: &mut Steps<L>) -> Option<Buffer> {
-    let (name, words) = told.split_once(' ')?;
-    let tree = tx_scm::read(alloc, words.as_bytes(), steps).ok()?;
-    let name = Name::from(Vec::from_slice(alloc, name.as_bytes()).ok()?);
-    Some(Buffer { name, tree })
-}
-
-/// The buffers that are told: of each a name and a tree, `;` between them.
-pub(crate) fn buffers_of<L: Ledger>(
-    alloc: Global,
-    told: &str,
-    steps: &mut Steps<L>,
-) -> Option<Vec<Buffer>> {
-    let mut buffers = Vec::new(alloc);
-    for part in told.split(';') {
-        buffers.push(buffer_of(alloc, part, steps)?).ok()?;
-    }
-    Some(buffers)
-}
 
 // The view of these buffers before any refresh.
 fn view_before<L: Ledger>(
@@ -73,7 +54,7 @@ pub(crate) fn view_of<L: Ledger>(
     size: (u32, u32),
     steps: &mut Steps<L>,
 ) -> Option<View> {
-    let buffers = buffers_of(alloc, told, steps)?;
+    let buffers = told_buffers(alloc, told, steps)?;
     view_on(alloc, &buffers, size, steps)
 }
 

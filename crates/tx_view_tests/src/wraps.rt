@@ -6,7 +6,7 @@ ghost use Rattle.tx_mod.specs.Changes.{changed};
 ghost use Rattle.tx_mod.specs.Followed.{changed_by_all};
 
 use crate::changes::{behind_one, work_behind};
-use crate::told::{buffers_of, errors_told, pages_told, stops_told, view_of, view_on};
+use crate::told::{errors_told, pages_told, stops_told, view_of, view_on};
 use std::alloc::Global;
 use std::marker::Brand;
 use std::sync::ledger::{Blank, Ledger};
@@ -14,6 +14,7 @@ use std::test::Fail;
 use tx_base::Steps;
 use tx_doc::Buffer;
 use tx_mod::{Mod, apply_and_inverse};
+use tx_samples::{told_buffers, tree_of};
 use tx_tree::{Path, Tree};
 use tx_view::View;
 
@@ -228,7 +229,7 @@ fn wrap_of<L: Ledger>(
 ) -> Option<Vec<Mod>> {
     let (path, i, node) = wrap;
     let path = Path::parse(alloc, path.as_bytes()).ok()?;
-    let node = tx_scm::read(alloc, node.as_bytes(), steps).ok()?;
+    let node = tree_of(alloc, node, steps)?;
     vec![in alloc; Mod::InsertNode(path, i, node)].ok()
 }
 
@@ -247,7 +248,7 @@ fn is_wrapped_in<L: Ledger>(
 }
 
 fn is_wrapped<L: Ledger>(alloc: Global, row: &Wrap, steps: &mut Steps<L>) -> Option<bool> {
-    let buffers = buffers_of(alloc, row.0, steps)?;
+    let buffers = told_buffers(alloc, row.0, steps)?;
     is_wrapped_in(alloc, &buffers, row, steps)
 }
 

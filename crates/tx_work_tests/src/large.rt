@@ -1,7 +1,6 @@
 // A paragraph that is put in at the top of a large document.
 ghost use Rattle.std.specs.Prelude.{◌≡◌};
 
-use crate::replies::number_in;
 use crate::rounds::{MOST_WRITTEN, Outside, ends, words_of};
 use std::alloc::Global;
 use std::marker::Brand;
@@ -10,6 +9,7 @@ use std::test::Fail;
 use tx_base::Steps;
 use tx_generated::generated;
 use tx_outside::{MemSink, MemSource, MemStore, StoredFile};
+use tx_samples::number_in;
 
 const SCRIPT: &[u8] = b"show\ninsert / 0 (tuple \"top\")\npage 1\nwork\n";
 

@@ -15,8 +15,9 @@ use std::test::Fail;
 use tx_base::{Memory, Steps};
 use tx_cmd::{Command, parse};
 use tx_dice::Dice;
-use tx_doc::{Buffer, Name};
+use tx_doc::Buffer;
 use tx_outside::MemSink;
+use tx_samples::buffer_of;
 use tx_session::Session;
 use tx_state::EditorState;
 use tx_units::units;
@@ -38,17 +39,6 @@ struct Game {
 struct Score {
     wrong: Option<u32>,
     accepted: u32,
-}
-
-fn buffer_of<L: Ledger>(
-    alloc: Global,
-    name: &str,
-    words: &str,
-    steps: &mut Steps<L>,
-) -> Option<Buffer> {
-    let tree = tx_scm::read(alloc, words.as_bytes(), steps).ok()?;
-    let name = Name::from(Vec::from_slice(alloc, name.as_bytes()).ok()?);
-    Some(Buffer { name, tree })
 }
 
 fn buffers_of<L: Ledger>(alloc: Global, play: &Play, steps: &mut Steps<L>) -> Option<Vec<Buffer>>

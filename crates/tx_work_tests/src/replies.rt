@@ -4,18 +4,8 @@ use std::sync::ledger::Ledger;
 use tx_base::Steps;
 use tx_cmd::Command;
 use tx_outside::{MemSink, MemStore};
+use tx_samples::number_in;
 use tx_session::Session;
-
-// The number in a line `work N`.
-pub(crate) fn number_in(reply: &[u8]) -> Option<u64> {
-    let (word, rest) = str::from_utf8(reply).ok()?.split_once(' ')?;
-    let (number, _) = rest.split_once('\n')?;
-    if word == "work" {
-        number.parse::<u64>().ok()
-    } else {
-        None
-    }
-}
 
 // Adds the reply to a command, over a store without files.
 pub(crate) fn answer<L: Ledger>(

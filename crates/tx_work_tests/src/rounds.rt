@@ -1,13 +1,13 @@
 // A run over a document of paragraphs that never end, and one that is changed many times.
 ghost use Rattle.std.specs.Prelude.{◌≡◌};
 
-use crate::replies::number_in;
 use std::alloc::Global;
 use std::marker::Brand;
 use std::sync::ledger::{Blank, Ledger};
 use std::test::Fail;
 use tx_base::Steps;
 use tx_outside::{MemSink, MemSource, MemStore, StoredFile};
+use tx_samples::number_in;
 use tx_session::{Status, run};
 
 // How many paragraphs never end, or have a part that doesn't.

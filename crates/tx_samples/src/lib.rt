@@ -1,0 +1,59 @@
+//! What tests are made from: trees and buffers in words, and numbers in replies.
+#![tactic(auto)]
+
+ghost use Rattle.std.specs.Prelude.{◌≡◌, IfSome};
+ghost use Rattle.tx_scm.specs.Spelling.{Spells};
+
+use std::alloc::Global;
+use std::sync::ledger::Ledger;
+use tx_base::Steps;
+use tx_doc::{Buffer, Name};
+use tx_tree::Tree;
+
+/// The tree that the words spell in the Scheme syntax. None where they spell none, and for want of memory.
+pub fn tree_of<L: Ledger>(alloc: Global, words: &str, steps: &mut Steps<L>) -> Option<Tree>
+    ensures { IfSome result (λ t. Spells words.now t) }
+{
+    tx_scm::read(alloc, words.as_bytes(), steps).ok()
+}
+
+/// The buffer of this name with the tree that the words spell. None where they spell none, and for want of memory.
+pub fn buffer_of<L: Ledger>(
+    alloc: Global,
+    name: &str,
+    words: &str,
+    steps: &mut Steps<L>,
+) -> Option<Buffer>
+    ensures name { IfSome result (λ b. b.name ≡ name.now) }
+    ensures tree { IfSome result (λ b. Spells words.now b.tree) }
+{
+    let tree = tree_of(alloc, words, steps)?;
+    let name = Name::from(Vec::from_slice(alloc, name.as_bytes()).ok()?);
+    Some(Buffer { name, tree })
+}
+
+/// The buffers that are told: of each a name, a space and a tree, with `;` between them. None where one isn't told so,
+/// and for want of memory.
+pub fn told_buffers<L: Ledger>(
+    alloc: Global,
+    told: &str,
+    steps: &mut Steps<L>,
+) -> Option<Vec<Buffer>> {
+    let mut buffers = Vec::new(alloc);
+    for part in told.split(';') {
+        let (name, words) = part.split_once(' ')?;
+        buffers.push(buffer_of(alloc, name, words, steps)?).ok()?;
+    }
+    Some(buffers)
+}
+
+/// The number in a reply that is one line, `work N`. None where it is none.
+pub fn number_in(reply: &[u8]) -> Option<u64> {
+    let (word, rest) = str::from_utf8(reply).ok()?.split_once(' ')?;
+    let (number, _) = rest.split_once('\n')?;
+    if word == "work" {
+        number.parse::<u64>().ok()
+    } else {
+        None
+    }
+}
