@@ -11,11 +11,12 @@ use Rattle.tx_edit.specs.declared.faults.EditFault.{EditFault}
 use Rattle.tx_edit.specs.declared.moves.Move.{Move}
 use Rattle.tx_view_form.specs.Views.{WideView}
 use Rattle.tx_view.specs.Names.{Fresh, Bound}
+use Rattle.tx_view.specs.Stores.{IsPartlyFresh}
 use Rattle.tx_view.specs.WholeViews.{WholeView}
 use Rattle.tx_session.specs.declared.replies.Reply.{Reply}
 use Rattle.tx_session.specs.declared.replies.Reply.TheVariants.{Done, Fixed, Made, Wanting, Unsaved}
 use Rattle.tx_session.specs.Asking.{IsArrival, IsClicked, Prints}
-use Rattle.tx_session.specs.Keeps.{Keeps, Takes, TakesAsking, TakesLacking, IsKeptLacking, kept_after}
+use Rattle.tx_session.specs.Keeps.{Keeps, Takes, TakesAsking, TakesLacking, IsBrokenOff, IsKeptLacking, kept_after}
 use Rattle.tx_session.specs.Keeps.{most_steps}
 use Rattle.tx_session.specs.Keeps.{refreshed}
 use Rattle.tx_session.specs.Keeps.{refresh_cost, carried_keep, command_mods}
@@ -94,13 +95,13 @@ told_keeps it before after n e h w = (asked_kept it before after e h, w)
 
 -- memory ran out in the refresh, which a fresh view doesn't make
 pub lacked_keeps : (it : Command) (before after : WholeSession) → asks_view it ≡ true
-    → (before.keep.fresh ≡ true → after.keep ≡ before.keep) → after.keep.fresh ≡ false
-    → after.keep.work ≡ before.keep.work → Keeps before it lacking after
-lacked_keeps it before after e same f w =
+    → (before.keep.fresh ≡ true → after.keep ≡ before.keep)
+    → IsBrokenOff before.seen.state.buffers before.keep after.keep → Keeps before it lacking after
+lacked_keeps it before after e same off =
     let k = before.keep in
     let next = after.keep in
     let bs = before.seen.state.buffers in
-    subst (λ b. IsKeptLacking b bs k next) (sym e) (same, inr (f, w))
+    subst (λ b. IsKeptLacking b bs k next) (sym e) (same, inr off)
 
 pub asked_takes : (it : Command) (before : WholeSession) (mark : LineMark) (old new : ℕ) → asks_view it ≡ true
     → new ≡ old + refresh_cost before.keep → Takes before it mark old new
@@ -164,10 +165,13 @@ module _ (it : Command) (asks : asks_view it ≡ true) (now : WholeSession) (see
       (told_keeps it (record { seen = seen; keep = keep_of v }) next n asks
       (view_refreshed v w seen.state.buffers e f g h k) told_so)
 
-  pub keeps_lacking : (v.fresh ≡ true → w ≡ v) → w.fresh ≡ false → w.work ≡ v.work → Keeps now it lacking next
-  keeps_lacking k f g =
+  pub keeps_lacking : v.buffers ≡ seen.state.buffers → (v.fresh ≡ true → w ≡ v) → w.fresh ≡ false
+      → IsPartlyFresh v.stores (Fresh v.buffers) w.stores → w.work ≡ v.work → Keeps now it lacking next
+  keeps_lacking e k f h g =
+      let partly = subst (λ bs. IsPartlyFresh v.stores (Fresh bs) w.stores) e h in
       subst (λ x. Keeps x it lacking next) is
-      (lacked_keeps it (record { seen = seen; keep = keep_of v }) next asks (λ e. ap keep_of (k e)) f g)
+      (lacked_keeps it (record { seen = seen; keep = keep_of v }) next asks (λ e. ap keep_of (k e))
+      (record { stale = f; stores = partly; work = g }))
 
   pub takes_lacking : (old new : ℕ) → (v.fresh ≡ true → new ≡ old) → Takes now it lacking old new
   takes_lacking old new h =

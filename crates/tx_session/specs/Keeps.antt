@@ -16,6 +16,7 @@ use Rattle.tx_edit.specs.declared.moves.Move.TheVariants.{Edit, Go as MoveTo}
 use Rattle.tx_cmd.specs.declared.command.Command.{Command}
 use Rattle.tx_cmd.specs.declared.command.Command.TheVariants.{Change, Undo, Redo, Typed, Backspace, Enter}
 use Rattle.tx_view.specs.Names.{Fresh, Bound, Carry}
+use Rattle.tx_view.specs.Stores.{IsPartlyFresh}
 use Rattle.tx_session.specs.Effects.{asks_view, keeps_buffers}
 use Rattle.tx_session.specs.States.{selected_edit, key_edit, by_typing, by_backspace, by_enter}
 use Rattle.tx_session.specs.Worlds.{Keep, WholeSession, LineMark, plain, lacking, unsaved, told}
@@ -64,11 +65,17 @@ kept_after state command next k =
     else if keeps_buffers state command then k
     else option_map_or (carried_keep state.buffers next.buffers k) (command_mods state command) k
 
+-- Memory ran out in a refresh: some of what is kept was brought up to date by then, and the rest is as before, or gone.
+pub record IsBrokenOff (buffers : List Buffer) (k next : Keep) : Type 0 where
+  pub stale : next.fresh ≡ false
+  pub stores : IsPartlyFresh k.stores (Fresh buffers) next.stores
+  pub work : next.work ≡ k.work
+
 -- Where memory runs out, all that is kept stays, but that a command which asks a view that isn't fresh may have
 -- refreshed it, or begun to.
 abbrev pub IsKeptLacking : (asks : Bool) → List Buffer → Keep → Keep → Type 0
 IsKeptLacking true buffers k next =
-    (k.fresh ≡ true → next ≡ k) × ((next ≡ refreshed buffers k) ⊎ ((next.fresh ≡ false) × (next.work ≡ k.work)))
+    (k.fresh ≡ true → next ≡ k) × ((next ≡ refreshed buffers k) ⊎ IsBrokenOff buffers k next)
 IsKeptLacking false buffers k next = next ≡ k
 
 -- what is kept behind a command with this mark; the number that is told is that of the last refresh
