@@ -5,15 +5,15 @@ ghost use Rattle.tx_tree.specs.WideTree.{WideTree};
 ghost use Rattle.tx_tree.specs.Limits.{IsWithinLimits};
 ghost use Rattle.tx_tree.specs.ReadFaults.{IsPassed};
 ghost use Rattle.tx_tm_form.specs.Bytes.{escape_of, escaped_bytes};
-ghost use Rattle.tx_tm_form.specs.Parts.{same, collection_label};
+ghost use Rattle.tx_tm_form.specs.Parts.{same_bytes, collection_label};
 ghost use Rattle.tx_tm_form.specs.Forms.{Spells};
 ghost use Rattle.tx_tm_form.specs.Machine.{ready, at, step};
-ghost use Rattle.tx_tm_form.specs.Measures.{sums_of, between, in_open, closed_open, bar_gauge, close_gauge};
+ghost use Rattle.tx_tm_form.specs.Measures.{sums_of, gauge_between, in_open, closed_open, bar_gauge, close_gauge};
 ghost use Rattle.tx_tm_form.specs.Measures.{next_gauge, last_gauge, begun_gauge, escape_gauge, part_gauge};
 ghost use Rattle.tx_tm_form.specs.Measures.{symbol_gauge, digit_gauge, feed_gauge, keep_gauge, start_gauge, put_sums};
 ghost use Rattle.tx_tm_words.specs.Words.{token_of};
 ghost use Rattle.tx_tm_faults.specs.Gauges.{open_of, opens_of, gauge_of, meter_of, IsMeter};
-ghost use Rattle.tx_tm_faults.specs.Bounds.{IsSmall, most_of, most_in_content, most_in_open, most_in, HasRoom};
+ghost use Rattle.tx_tm_faults.specs.Bounds.{IsSmallCount, most_of, most_in_content, most_in_open, most_in, HasRoom};
 
 use crate::opens::{OpenGauge, kept};
 use crate::sums::{
@@ -37,7 +37,7 @@ pub(crate) struct Gauge {
 }
 
 fn between(here: ContentSums, opens: Vec<OpenGauge>) -> Gauge
-    ensures { gauge_of result ≡ between here (opens_of opens.items) }
+    ensures { gauge_of result ≡ gauge_between here (opens_of opens.items) }
 {
     Gauge {
         within: Within::Parts,
@@ -61,7 +61,7 @@ fn in_open(
 
 // Behind the tag.
 fn closed_open(tag: OpenGauge, opens: Vec<OpenGauge>) -> Gauge
-    requires { IsSmall (most_in_open (open_of tag) + 1) }
+    requires { IsSmallCount (most_in_open (open_of tag) + 1) }
     ensures { gauge_of result ≡ closed_open (open_of tag) (opens_of opens.items) }
 {
     let node = PartSums::Tag(false, node_sums(tag.children));
@@ -136,7 +136,12 @@ fn new_open(
     opens: Vec<OpenGauge>,
 ) -> Result<Gauge, Memory>
     ensures { IfOk result (λ next. gauge_of next
-        ≡ in_open inner (record { before = here; collects = same label.now collection_label; children = sums_of [] })
+        ≡ in_open inner (record {
+          before = here;
+          collects = same_bytes label.now collection_label;
+          children =
+              sums_of [];
+        })
         (opens_of opens.items)) }
 {
     let tag = OpenGauge {
@@ -181,15 +186,15 @@ fn begun_gauge(
 
 // Behind so many bytes of a text.
 fn text_gauge(length: u64, here: ContentSums, opens: Vec<OpenGauge>) -> Gauge
-    requires { IsSmall (most_in_content here + length) }
-    ensures { gauge_of result ≡ between (put_sums here (PartSums.Text length)) (opens_of opens.items) }
+    requires { IsSmallCount (most_in_content here + length) }
+    ensures { gauge_of result ≡ gauge_between (put_sums here (PartSums.Text length)) (opens_of opens.items) }
 {
     between(put_sums(here, PartSums::Text(length)), opens)
 }
 
 // Behind a backslash and a byte.
 fn escape_gauge(byte: u8, here: ContentSums, opens: Vec<OpenGauge>) -> Gauge
-    requires { IsSmall (most_in_content here + 1) }
+    requires { IsSmallCount (most_in_content here + 1) }
     ensures { gauge_of result ≡ escape_gauge (escape_of byte) here (opens_of opens.items) }
 {
     match escape_of(byte) {
@@ -234,7 +239,7 @@ fn part_gauge(
 
 // A word more in the name of a symbol, behind so many bytes of it.
 fn symbol_gauge(length: u64, here: ContentSums, opens: Vec<OpenGauge>, word: &TmWord) -> Gauge
-    requires { IsSmall (length + most_in_content here + 2) }
+    requires { IsSmallCount (length + most_in_content here + 2) }
     ensures { gauge_of result ≡ symbol_gauge length here (opens_of opens.items) (token_of word.now) }
 {
     match word {
@@ -249,7 +254,7 @@ fn symbol_gauge(length: u64, here: ContentSums, opens: Vec<OpenGauge>, word: &Tm
 
 // A word more in raw data, behind so many digits.
 fn digit_gauge(length: u64, here: ContentSums, opens: Vec<OpenGauge>, word: &TmWord) -> Gauge
-    requires { IsSmall (length + most_in_content here + 4) }
+    requires { IsSmallCount (length + most_in_content here + 4) }
     ensures { gauge_of result ≡ digit_gauge length here (opens_of opens.items) (token_of word.now) }
 {
     match word {
@@ -268,7 +273,7 @@ fn digit_gauge(length: u64, here: ContentSums, opens: Vec<OpenGauge>, word: &TmW
 impl Gauge {
     // Behind the word.
     fn take(self, alloc: Global, word: &TmWord) -> Result<Gauge, Memory>
-        requires { IsSmall (most_in (gauge_of self) + 4) }
+        requires { IsSmallCount (most_in (gauge_of self) + 4) }
         ensures { IfOk result (λ next. gauge_of next ≡ feed_gauge (gauge_of self) (token_of word.now)) }
     {
         match self.within {
@@ -300,7 +305,7 @@ impl Meter {
 
     // Behind a byte, or None where no word goes on so.
     fn step(self, alloc: Global, byte: u8) -> Result<Option<Meter>, Memory>
-        requires { IsSmall (most_in (gauge_of self.gauge) + 4) }
+        requires { IsSmallCount (most_in (gauge_of self.gauge) + 4) }
         ensures { IfOk result (λ next. IsMeter next (step keep_gauge (meter_of self) byte)) }
     {
         let Meter {

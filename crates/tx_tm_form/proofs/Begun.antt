@@ -9,7 +9,7 @@ use Rattle.tx_tm_form.specs.declared.bytes.ByteKind.TheVariants.{Return, Backsla
 use Rattle.tx_tm_form.specs.declared.places.TagForm.{TagForm}
 use Rattle.tx_tm_form.specs.declared.places.TagForm.TheVariants.{Short, Long, Middle, Closing}
 use Rattle.tx_tm_form.specs.Bytes.{kind_of}
-use Rattle.tx_tm_form.specs.Tokens.{Token, mark_of, written}
+use Rattle.tx_tm_form.specs.Tokens.{Token, form_mark, written}
 use Rattle.tx_tm_form.specs.Machine.{Lex, ready, slashed, returned, angled, labelled, lex_slashed, lex_angled, Bytewise}
 use Rattle.tx_tm_form.specs.Machine.{at, given, step, run, Keeping, keep, keeps, start}
 use Rattle.tx_tm_form.specs.Faults.{begun_bytes, IsBegun, IsScanned}
@@ -28,7 +28,7 @@ module _ (S : Type 0) (fd : S → Token → S) where
       ∙ ap (λ a. run fd (at (labelled form a) s) []) (append_assoc m (b ∷ []) l)
 
   label_begun : (form : TagForm) (l : List ℕ) (s : S) → IsBegun (labelled form l)
-      → run fd (at angled s) (mark_of form ++ l) ≡ at (labelled form l) s
+      → run fd (at angled s) (form_mark form ++ l) ≡ at (labelled form l) s
   unfolding lex_angled
   label_begun Short [] s h = absurd (omega (arith, h.1))
   label_begun Short (b ∷ l) s h =
@@ -47,7 +47,7 @@ module _ (S : Type 0) (fd : S → Token → S) where
   begun_run slashed s h = backslash_step S fd s []
   begun_run returned s h = backslash_step S fd s (13 ∷ []) ∙ byte_of S fd Return 13 slashed s [] return_kind
   begun_run angled s h = less_step S fd s []
-  begun_run (labelled form l) s h = less_step S fd s (mark_of form ++ l) ∙ label_begun form l s h
+  begun_run (labelled form l) s h = less_step S fd s (form_mark form ++ l) ∙ label_begun form l s h
 
   pub run_behind : (x y : List ℕ) (w : Bytewise S) → run fd w (x ++ y) ≡ run fd (run fd w x) y
   run_behind [] y w = refl
