@@ -6,7 +6,7 @@ use Rattle.tx_tree.specs.WideTree.{WideTree, text_of, total_nodes}
 use Rattle.tx_origin.specs.Values.{WideValue, vals, plain, plains, whole}
 use Rattle.tx_origin.specs.TaggedTrees.{TaggedTree, tagged_of}
 use Rattle.tx_prim.specs.declared.names.Prim.{Prim}
-use Rattle.tx_prim.specs.Table.{value_of as primitive_value}
+use Rattle.tx_prim.specs.Table.{primitive_value}
 use Rattle.tx_exec_form.specs.Runs.{Run, ◌>>=◌, ◌>>◌, pay}
 use Rattle.tx_exec_form.specs.Frames.{Frame}
 use Rattle.tx_exec_form.specs.Words.{is_label}
@@ -25,8 +25,8 @@ map_by k below f label numbers None = wrong k (codes "bad") label
 map_by k below f label numbers (Some w) = map_of k below f label w.foo w.root w.name numbers
 
 -- from the one number to before the other
-abbrev pub between : Option (ℕ × ℕ) → Option (List ℕ)
-between = option_map (λ p. range_with_len p.0 (p.1 - p.0))
+abbrev pub range_between : Option (ℕ × ℕ) → Option (List ℕ)
+range_between = option_map (λ p. range_with_len p.0 (p.1 - p.0))
 
 -- an error, or the call
 abbrev pub map_made : ℕ → Eval → Frame → List ℕ → List ℕ → MapCall → Run WideValue

@@ -8,7 +8,7 @@ use Rattle.tx_tree.specs.WideTree.{WideTree, Forest, leaf, node, nil, cons, tree
 use Rattle.tx_tree.specs.WideTree.{total_nodes}
 use Rattle.tx_prim.specs.declared.names.Prim.{Prim}
 use Rattle.tx_prim.specs.Names.{named as primitive_named}
-use Rattle.tx_prim.specs.Table.{value_of as primitive_value}
+use Rattle.tx_prim.specs.Table.{primitive_value}
 use Rattle.tx_tree.specs.Paths.{subtree}
 use Rattle.tx_origin.specs.Values.{WideValue, text, made, none, vals, value_text, plain, plains}
 use Rattle.tx_origin.specs.Values.{child_at, whole, wholes}
@@ -17,7 +17,7 @@ use Rattle.tx_env.specs.Pairs.{Name}
 use Rattle.tx_exec_form.specs.Runs.{Before, State, Ran, Over, Done, Run, on_done, ◌>>=◌, give, pay, need, look}
 use Rattle.tx_exec_form.specs.Runs.{set}
 use Rattle.tx_exec_form.specs.Frames.{Frame, top, call, call_all, caller_of, Found, Unbound, Missing, Here, All}
-use Rattle.tx_exec_form.specs.Frames.{first_of, others_of, argument, argument_in}
+use Rattle.tx_exec_form.specs.Frames.{first_argument, others_of, argument, argument_in}
 use Rattle.tx_exec_form.specs.Numbers.{numbers_of, tree_at, kid_at, part_of, part_among, from_number, to_number}
 use Rattle.tx_exec_form.specs.Numbers.{numbers_between}
 use Rattle.tx_exec_form.specs.Words.{row_of, is_label}
@@ -194,7 +194,7 @@ module _ (root : TaggedTree) where
   FoundStands (Here t) = Stands root t
   FoundStands (All ts) = AllStand root ts
 
-  first_stands : (ts : List TaggedTree) → AllStand root ts → FoundStands (first_of ts)
+  first_stands : (ts : List TaggedTree) → AllStand root ts → FoundStands (first_argument ts)
   first_stands [] h = tt
   first_stands (t ∷ ts) h = h.0
 

@@ -8,7 +8,7 @@ use Rattle.tx_tree.specs.WideTree.{WideTree, leaf, node, children_of, size_of, t
 use Rattle.tx_tree.specs.WideTree.{total_nodes}
 use Rattle.tx_prim.specs.declared.names.Prim.{Prim}
 use Rattle.tx_prim.specs.Names.{named as primitive_named}
-use Rattle.tx_prim.specs.Table.{value_of as primitive_value}
+use Rattle.tx_prim.specs.Table.{primitive_value}
 use Rattle.tx_origin.specs.Values.{WideValue, text, made, vals, value_text, plain, plains, whole}
 use Rattle.tx_origin.specs.TaggedTrees.{TaggedTree, kids_from, kids_of}
 use Rattle.tx_origin.proofs.Parts.{total_size-append, deepest-append}
