@@ -36,7 +36,7 @@ pub(crate) struct Gauge {
     opens: Vec<OpenGauge>,
 }
 
-fn between(here: ContentSums, opens: Vec<OpenGauge>) -> Gauge
+fn gauge_between(here: ContentSums, opens: Vec<OpenGauge>) -> Gauge
     ensures { gauge_of result ≡ gauge_between here (opens_of opens.items) }
 {
     Gauge {
@@ -56,7 +56,7 @@ fn in_open(
 {
     let here = opening_sums(inner, tag.collects, tag.children);
     opens.push(tag)?;
-    Ok(between(here, opens))
+    Ok(gauge_between(here, opens))
 }
 
 // Behind the tag.
@@ -65,7 +65,7 @@ fn closed_open(tag: OpenGauge, opens: Vec<OpenGauge>) -> Gauge
     ensures { gauge_of result ≡ closed_open (open_of tag) (opens_of opens.items) }
 {
     let node = PartSums::Tag(false, node_sums(tag.children));
-    between(put_sums(tag.before.sums(), node), opens)
+    gauge_between(put_sums(tag.before.sums(), node), opens)
 }
 
 fn bar_gauge(here: ContentSums, mut opens: Vec<OpenGauge>) -> Result<Gauge, Memory>
@@ -74,10 +74,10 @@ fn bar_gauge(here: ContentSums, mut opens: Vec<OpenGauge>) -> Result<Gauge, Memo
 {
     match here {
         ContentSums::Argument(place, line) => match opens.pop() {
-            None => Ok(between(here, opens)),
+            None => Ok(gauge_between(here, opens)),
             Some(tag) => in_open(Some(place), tag.with_child(line_sums(line)), opens),
         },
-        ContentSums::Block(_) | ContentSums::Tags(_, _) => Ok(between(here, opens)),
+        ContentSums::Block(_) | ContentSums::Tags(_, _) => Ok(gauge_between(here, opens)),
     }
 }
 
@@ -87,7 +87,7 @@ fn close_gauge(here: ContentSums, mut opens: Vec<OpenGauge>) -> Result<Gauge, Me
 {
     match here {
         ContentSums::Argument(place, line) => match opens.pop() {
-            None => Ok(between(here, opens)),
+            None => Ok(gauge_between(here, opens)),
             Some(tag) => {
                 let tag = tag.with_child(line_sums(line));
                 match place {
@@ -96,7 +96,7 @@ fn close_gauge(here: ContentSums, mut opens: Vec<OpenGauge>) -> Result<Gauge, Me
                 }
             }
         },
-        ContentSums::Block(_) | ContentSums::Tags(_, _) => Ok(between(here, opens)),
+        ContentSums::Block(_) | ContentSums::Tags(_, _) => Ok(gauge_between(here, opens)),
     }
 }
 
@@ -109,7 +109,7 @@ fn next_gauge(
     ensures { IfOk result (λ next. gauge_of next ≡ next_gauge inner here (opens_of opens.items)) }
 {
     match opens.pop() {
-        None => Ok(between(here, opens)),
+        None => Ok(gauge_between(here, opens)),
         Some(tag) => in_open(inner, tag.with_child(body_sums(here)), opens),
     }
 }
@@ -119,10 +119,10 @@ fn last_gauge(here: ContentSums, mut opens: Vec<OpenGauge>) -> Gauge
     ensures { gauge_of result ≡ last_gauge here (opens_of opens.items) }
 {
     match opens.pop() {
-        None => between(here, opens),
+        None => gauge_between(here, opens),
         Some(tag) => {
             let part = long_sums(tag.children, here);
-            between(put_sums(tag.before.sums(), part), opens)
+            gauge_between(put_sums(tag.before.sums(), part), opens)
         }
     }
 }
@@ -136,12 +136,8 @@ fn new_open(
     opens: Vec<OpenGauge>,
 ) -> Result<Gauge, Memory>
     ensures { IfOk result (λ next. gauge_of next
-        ≡ in_open inner (record {
-          before = here;
-          collects = same_bytes label.now collection_label;
-          children =
-              sums_of [];
-        })
+        ≡ in_open inner
+        (record { before = here; collects = same_bytes label.now collection_label; children = sums_of [] })
         (opens_of opens.items)) }
 {
     let tag = OpenGauge {
@@ -170,7 +166,7 @@ fn begun_gauge(
                 return new_open(alloc, Some(TagPlace::InShort), label, here, opens);
             }
             let node = PartSums::Tag(false, node_sums(no_sums()));
-            Ok(between(put_sums(here, node), opens))
+            Ok(gauge_between(put_sums(here, node), opens))
         }
         TagForm::Long => new_open(alloc, header_place(more), label, here, opens),
         TagForm::Middle => next_gauge(header_place(more), here, opens),
@@ -189,7 +185,7 @@ fn text_gauge(length: u64, here: ContentSums, opens: Vec<OpenGauge>) -> Gauge
     requires { IsSmallCount (most_in_content here + length) }
     ensures { gauge_of result ≡ gauge_between (put_sums here (PartSums.Text length)) (opens_of opens.items) }
 {
-    between(put_sums(here, PartSums::Text(length)), opens)
+    gauge_between(put_sums(here, PartSums::Text(length)), opens)
 }
 
 // Behind a backslash and a byte.
@@ -221,9 +217,9 @@ fn part_gauge(
     match word {
         TmWord::White(byte) => {
             let gap = PartSums::Gap(white_of(*byte));
-            Ok(between(put_sums(here, gap), opens))
+            Ok(gauge_between(put_sums(here, gap), opens))
         }
-        TmWord::Join(_) => Ok(between(here, opens)),
+        TmWord::Join(_) => Ok(gauge_between(here, opens)),
         TmWord::Plain(_) => Ok(text_gauge(1, here, opens)),
         TmWord::Escape(byte) => Ok(escape_gauge(*byte, here, opens)),
         TmWord::Raw => Ok(Gauge {
@@ -260,7 +256,7 @@ fn digit_gauge(length: u64, here: ContentSums, opens: Vec<OpenGauge>, word: &TmW
     match word {
         TmWord::Close => {
             let node = PartSums::Tag(false, node_sums(leaf_sums(length)));
-            between(put_sums(here, node), opens)
+            gauge_between(put_sums(here, node), opens)
         }
         _ => Gauge {
             within: Within::Digits(length + 1),
@@ -299,7 +295,7 @@ impl Meter {
         Meter {
             lexer: Lexer::Ready,
             behind_join: false,
-            gauge: between(empty_file(), Vec::new(alloc)),
+            gauge: gauge_between(empty_file(), Vec::new(alloc)),
         }
     }
 
