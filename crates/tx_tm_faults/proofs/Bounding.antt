@@ -40,7 +40,7 @@ use Rattle.tx_tm_form.specs.Tokens.{Token, white, join, plain, escape, raw, head
 use Rattle.tx_tm_form.specs.Parts.{collection_label, same_bytes}
 use Rattle.tx_tm_form.specs.Machine.{header_place, Lex, ready, slashed, returned, angled, labelled, Lexed, within, done}
 use Rattle.tx_tm_form.specs.Machine.{bad, if_good, lex_ready, lex_slashed, lex_returned, lex_angled, lex_labelled, lex}
-use Rattle.tx_tm_form.specs.Machine.{Bytewise, at, lost, given, step, run}
+use Rattle.tx_tm_form.specs.Machine.{Bytewise, at, lost, after_lexed, step, run}
 use Rattle.tx_tm_faults.specs.declared.measuring.Meter.{Meter}
 use Rattle.tx_tm_faults.specs.declared.opens.OpenGauge.{OpenGauge}
 use Rattle.tx_tm_faults.specs.Gauges.{open_of, opens_of, gauge_of, meter_of}
@@ -399,7 +399,7 @@ most_of_bytes (at q k) = 2 * most_in k.gauge + 3 * begun_by q
 most_of_bytes lost = 0
 
 given_most : (n : ℕ) (k : Gauged) (r : Lexed) → IsPaid n r
-    → most_of_bytes (given keep_gauge k r) ≤ 2 * most_in k.gauge + 3 * n + 3
+    → most_of_bytes (after_lexed keep_gauge k r) ≤ 2 * most_in k.gauge + 3 * n + 3
 given_most n k (within q) h = omega (arith, h)
 given_most n k (done t) h = omega (arith, h, keep_most k t)
 given_most n k bad h = omega arith

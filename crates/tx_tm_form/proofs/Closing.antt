@@ -22,7 +22,8 @@ use Rattle.tx_tm_form.specs.Growing.{tree_as_block, tree_of_block, as_block, fil
 use Rattle.tx_tm_form.specs.Machine.{Open, open_tag, State, reading, naming, counting, failed, go, open_with_child}
 use Rattle.tx_tm_form.specs.Machine.{in_tag}
 use Rattle.tx_tm_form.specs.Machine.{last_argument, next_block, last_block, feed, feeds, Lex, ready, slashed, returned}
-use Rattle.tx_tm_form.specs.Machine.{angled, labelled, lex_slashed, lex_returned, lex_angled, Bytewise, at, lost, given}
+use Rattle.tx_tm_form.specs.Machine.{angled, labelled, lex_slashed, lex_returned, lex_angled, Bytewise, at, lost}
+use Rattle.tx_tm_form.specs.Machine.{after_lexed}
 use Rattle.tx_tm_form.specs.Machine.{step, run, Keeping, keep, start, tree_in, reads}
 use Rattle.tx_tm_form.specs.Fronts.{begins, begins_open, can_begin, can_go_on, goes_on}
 use Rattle.tx_tm_form.specs.Faults.{IsBegun}
@@ -283,16 +284,16 @@ label_closes Closing m j here (f ∷ fs) v g h =
 
 slashed_ends : (j : Bool) (s : State) → step keep (at slashed (keeping j s)) 10 ≡ at ready (keeping true s)
 unfolding lex_slashed
-slashed_ends j s = ap (λ k. given keep (keeping j s) (lex_slashed k 10)) newline_kind
+slashed_ends j s = ap (λ k. after_lexed keep (keeping j s) (lex_slashed k 10)) newline_kind
 
 returned_ends : (j : Bool) (s : State) → step keep (at returned (keeping j s)) 10 ≡ at ready (keeping true s)
 unfolding lex_returned
-returned_ends j s = ap (λ k. given keep (keeping j s) (lex_returned k)) newline_kind
+returned_ends j s = ap (λ k. after_lexed keep (keeping j s) (lex_returned k)) newline_kind
 
 angled_ends : (j : Bool) (here : Content) (fs : List Open)
     → step keep (at angled (keeping j (reading here fs))) 35 ≡ at ready (keeping false (counting [] here fs))
 unfolding lex_angled feed
-angled_ends j here fs = ap (λ k. given keep (keeping j (reading here fs)) (lex_angled k 35)) hash_kind
+angled_ends j here fs = ap (λ k. after_lexed keep (keeping j (reading here fs)) (lex_angled k 35)) hash_kind
 
 goes_on_ready : (q : Lex) (s : State) → can_go_on q s ≡ true → can_go_on ready s ≡ true
 goes_on_ready q (reading here fs) h = refl

@@ -20,7 +20,7 @@ use Rattle.tx_tm_form.specs.Machine.{Open, State, reading, naming, counting, fai
 use Rattle.tx_tm_form.specs.Machine.{next_argument, last_argument, next_block, last_block, header_place, begun}
 use Rattle.tx_tm_form.specs.Machine.{by_escape, name_byte, name_end, feed_reading, feed_naming, feed_counting, feed}
 use Rattle.tx_tm_form.specs.Machine.{Lex, ready, slashed, returned, angled, labelled, Lexed, within, done, bad, lex}
-use Rattle.tx_tm_form.specs.Machine.{Bytewise, at, lost, given, step, run, Keeping, keep, start}
+use Rattle.tx_tm_form.specs.Machine.{Bytewise, at, lost, after_lexed, step, run, Keeping, keep, start}
 use Rattle.tx_tm_form.specs.Fronts.{begins, begins_open, can_begin, can_go_on, goes_on}
 use Rattle.tx_tm_form.specs.Marks.{Standing, with_inner, if_marked, mark_bar, mark_close, mark_next, mark_last}
 use Rattle.tx_tm_form.specs.Marks.{bar_marks, close_marks, next_marks, last_marks, begun_marks, escape_marks}
@@ -257,7 +257,8 @@ IsSame lost lost = Unit {0}
 IsSame (at q k) lost = ⊥
 IsSame lost (at r m) = ⊥
 
-given_same : (r : Lexed) (k : Keeping) (m : Marked) → IsKept k m → IsSame (given keep k r) (given keep_marks m r)
+given_same : (r : Lexed) (k : Keeping) (m : Marked) → IsKept k m
+    → IsSame (after_lexed keep k r) (after_lexed keep_marks m r)
 given_same (within q) k m h = (refl, h)
 given_same (done t) k m h = (refl, keep_same k m t h)
 given_same bad k m h = tt
@@ -265,7 +266,7 @@ given_same bad k m h = tt
 step_same : (w : Bytewise Keeping) (v : Bytewise Marked) (b : ℕ) → IsSame w v
     → IsSame (step keep w b) (step keep_marks v b)
 step_same (at q k) (at r m) b h =
-    subst (λ z. IsSame (given keep k (lex q (kind_of b) b)) (given keep_marks m (lex z (kind_of b) b))) h.0
+    subst (λ z. IsSame (after_lexed keep k (lex q (kind_of b) b)) (after_lexed keep_marks m (lex z (kind_of b) b))) h.0
     (given_same (lex q (kind_of b) b) k m h.1)
 step_same lost lost b h = tt
 step_same (at q k) lost b h = absurd h

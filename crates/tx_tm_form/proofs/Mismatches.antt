@@ -14,7 +14,7 @@ use Rattle.tx_tm_form.specs.declared.places.TagForm.{TagForm}
 use Rattle.tx_tm_form.specs.declared.places.TagForm.TheVariants.{Short, Long, Middle, Closing}
 use Rattle.tx_tm_form.specs.Bytes.{kind_of}
 use Rattle.tx_tm_form.specs.Tokens.{Token, head, form_mark, label_end, written, IsToken}
-use Rattle.tx_tm_form.specs.Machine.{Lex, ready, labelled, Bytewise, at, given, step, run, keep}
+use Rattle.tx_tm_form.specs.Machine.{Lex, ready, labelled, Bytewise, at, after_lexed, step, run, keep}
 use Rattle.tx_tm_form.specs.Machine.{start}
 use Rattle.tx_tm_form.specs.Fronts.{begins, goes_on, IsLongestTmFront, StopsAt}
 use Rattle.tx_tm_form.specs.Marks.{feed_standing, Marked, keep_marks, start_marks}
@@ -116,7 +116,7 @@ letter_goes_on : (form : TagForm) (l r : List ℕ) (b place : ℕ) (ms : List Ta
     → IsRepeated (labelled form l) → m.now ≡ in_block place (l ++ b ∷ r) ms → IsLabel (l ++ b ∷ r)
     → marks_go_on (step keep_marks (at (labelled form l) m) b) ≡ true
 letter_goes_on form l r b place ms m h e v =
-    ap (λ x. marks_go_on (given keep_marks m x))
+    ap (λ x. marks_go_on (after_lexed keep_marks m x))
     (lexed_letter form l (kind_of b) b (name_kind b (middle_of _ l b r v.each))
     (omega (arith, length-append l (b ∷ r), v.short)))
     ∙ ap (λ o. standing_goes_on (labelled form (l ++ b ∷ [])) o) e

@@ -18,7 +18,7 @@ use Rattle.tx_tm_form.specs.Machine.{Open, State, reading, naming, counting, fai
 use Rattle.tx_tm_form.specs.Machine.{next_block}
 use Rattle.tx_tm_form.specs.Machine.{last_block, header_place, feed, Lex, ready, slashed, returned, angled, labelled}
 use Rattle.tx_tm_form.specs.Machine.{Lexed, within, done, bad, if_good, lex_angled, lex_labelled, lex, Bytewise, at}
-use Rattle.tx_tm_form.specs.Machine.{lost, given, step, run, Keeping, keep, start, state_tree, tree_in, reads}
+use Rattle.tx_tm_form.specs.Machine.{lost, after_lexed, step, run, Keeping, keep, start, state_tree, tree_in, reads}
 use Rattle.tx_tm_form.specs.Fronts.{begins, begins_open, can_begin, can_go_on, goes_on}
 use Rattle.tx_tm_form.proofs.Words.{spelled_is_read}
 
@@ -41,7 +41,7 @@ keep_failed j t =
     (λ z. (let r : Keeping = if z then keeping true failed else keeping false (feed failed t) in r).state ≡ failed)
     [ true ↦ refl | false ↦ refl ]
 
-failed_stops : (r : Lexed) (j : Bool) → goes_on (given keep (keeping j failed) r) ≡ false
+failed_stops : (r : Lexed) (j : Bool) → goes_on (after_lexed keep (keeping j failed) r) ≡ false
 failed_stops (within q) j = cannot_fail_on q
 failed_stops (done t) j = ap (λ s. can_go_on ready s) (keep_failed j t)
 failed_stops bad j = refl
@@ -108,7 +108,7 @@ head_fails Closing l false here fs e = last_fails (place_of here) l here fs e
 -- ---- one byte more
 
 angled_stops : (k : ByteKind) (b : ℕ) (j : Bool) (s : State) → can_go_on angled s ≡ false
-    → goes_on (given keep (keeping j s) (lex_angled k b)) ≡ false
+    → goes_on (after_lexed keep (keeping j s) (lex_angled k b)) ≡ false
 unfolding lex_angled feed
 angled_stops k b j (reading here fs) h = absurd cc
 angled_stops k b j failed h = failed_stops (lex_angled k b) j
@@ -125,13 +125,13 @@ angled_stops Hash b j (counting n here fs) h = refl
 angled_stops Name b j (counting n here fs) h = refl
 angled_stops _ b j (counting n here fs) h = refl
 
-if_good_stops : (d : Bool) (k : Keeping) (r : Lexed) → goes_on (given keep k r) ≡ false
-    → goes_on (given keep k (if_good d r)) ≡ false
+if_good_stops : (d : Bool) (k : Keeping) (r : Lexed) → goes_on (after_lexed keep k r) ≡ false
+    → goes_on (after_lexed keep k (if_good d r)) ≡ false
 if_good_stops true k r h = h
 if_good_stops false k r h = refl
 
 head_stops : (form : TagForm) (l : List ℕ) (more j : Bool) (s : State) → can_go_on (labelled form l) s ≡ false
-    → goes_on (given keep (keeping j s) (done (head form l more))) ≡ false
+    → goes_on (after_lexed keep (keeping j s) (done (head form l more))) ≡ false
 unfolding feed
 head_stops form l more j (reading here fs) h = ap (λ s. can_go_on ready s) (head_fails form l more here fs h)
 head_stops form l more j (naming n here fs) h = refl
@@ -147,7 +147,7 @@ letter_stops form l b (counting n here fs) h = refl
 letter_stops form l b failed h = refl
 
 labelled_stops : (k : ByteKind) (form : TagForm) (l : List ℕ) (b : ℕ) (j : Bool) (s : State)
-    → can_go_on (labelled form l) s ≡ false → goes_on (given keep (keeping j s) (lex_labelled form l k b)) ≡ false
+    → can_go_on (labelled form l) s ≡ false → goes_on (after_lexed keep (keeping j s) (lex_labelled form l k b)) ≡ false
 unfolding lex_labelled
 labelled_stops Name form l b j s h =
     if_good_stops _ (keeping j s) (within (labelled form (l ++ b ∷ []))) (letter_stops form l b s h)

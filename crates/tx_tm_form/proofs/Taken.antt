@@ -21,7 +21,8 @@ use Rattle.tx_tm_form.specs.Forms.{Pieces, nothing, tokens_of, piece_parts, Spel
 use Rattle.tx_tm_form.specs.Growing.{file_tree}
 use Rattle.tx_tm_form.specs.Machine.{State, reading, naming, counting, failed, feeds, Lex, ready, slashed, returned}
 use Rattle.tx_tm_form.specs.Machine.{angled, labelled, Lexed, within, done, bad, if_good, lex_ready, lex_slashed}
-use Rattle.tx_tm_form.specs.Machine.{lex_returned, lex_angled, lex_labelled, lex, Bytewise, at, lost, given, step, run}
+use Rattle.tx_tm_form.specs.Machine.{lex_returned, lex_angled, lex_labelled, lex, Bytewise, at, lost, after_lexed, step}
+use Rattle.tx_tm_form.specs.Machine.{run}
 use Rattle.tx_tm_form.specs.Machine.{Keeping, keep, keeps, start, state_tree, tree_in, reads}
 use Rattle.tx_tm_form.specs.Faults.{begun_bytes, HasByte, IsBegun}
 use Rattle.tx_tm_form.proofs.Growth.{file_is}
@@ -162,7 +163,7 @@ Scanned (at q k) x = (ts : List Token) × AllByRecursion IsToken ts × (k ≡ ke
 Scanned lost x = Unit {0}
 
 given_scanned : (r : Lexed) (q : Lex) (k : Keeping) (x : List ℕ) (b : ℕ) → Scanned (at q k) x
-    → Comes (begun_bytes q ++ b ∷ []) r → Scanned (given keep k r) (x ++ b ∷ [])
+    → Comes (begun_bytes q ++ b ∷ []) r → Scanned (after_lexed keep k r) (x ++ b ∷ [])
 given_scanned (within p) q k x b h i =
     (h.0, h.1, h.2, i.0, rw (h.4, ← i.1) (append_assoc (flat_map written h.0) (begun_bytes q) (b ∷ [])))
 given_scanned (done t) q k x b h i = (

@@ -41,7 +41,8 @@ use Rattle.tx_tm_form.specs.Machine.{in_tag}
 use Rattle.tx_tm_form.specs.Machine.{next_argument, last_argument, next_block, last_block, header_place, begun}
 use Rattle.tx_tm_form.specs.Machine.{by_escape, name_byte, name_end, feed_reading, feed_naming, feed_counting, feed}
 use Rattle.tx_tm_form.specs.Machine.{ready, slashed, returned, angled, labelled, Lexed, within, done, bad, lex}
-use Rattle.tx_tm_form.specs.Machine.{Bytewise, at, lost, given, step, run, Keeping, keep, start, state_tree, tree_in}
+use Rattle.tx_tm_form.specs.Machine.{Bytewise, at, lost, after_lexed, step, run, Keeping, keep, start, state_tree}
+use Rattle.tx_tm_form.specs.Machine.{tree_in}
 use Rattle.tx_tm_form.specs.Machine.{reads}
 use Rattle.tx_tm_form.specs.Measures.{sums_of, no_sums, both, leaf_sums, node_sums, concat_sums, line_so_far, no_line}
 use Rattle.tx_tm_form.specs.Measures.{ended_line, line_sums, grow_line, block_sums_of, no_block, first_stage_of}
@@ -448,7 +449,8 @@ AreGauged lost lost = Unit {0}
 AreGauged (at q k) lost = ⊥
 AreGauged lost (at r m) = ⊥
 
-given_gauged : (r : Lexed) (k : Keeping) (m : Gauged) → IsGauged k m → AreGauged (given keep k r) (given keep_gauge m r)
+given_gauged : (r : Lexed) (k : Keeping) (m : Gauged) → IsGauged k m
+    → AreGauged (after_lexed keep k r) (after_lexed keep_gauge m r)
 given_gauged (within q) k m h = (refl, h)
 given_gauged (done t) k m h = (refl, keep_weighed k m t h)
 given_gauged bad k m h = tt
@@ -456,7 +458,8 @@ given_gauged bad k m h = tt
 step_gauged : (w : Bytewise Keeping) (v : Bytewise Gauged) (b : ℕ) → AreGauged w v
     → AreGauged (step keep w b) (step keep_gauge v b)
 step_gauged (at q k) (at r m) b h =
-    subst (λ z. AreGauged (given keep k (lex q (kind_of b) b)) (given keep_gauge m (lex z (kind_of b) b))) h.0
+    subst (λ z. AreGauged (after_lexed keep k (lex q (kind_of b) b))
+    (after_lexed keep_gauge m (lex z (kind_of b) b))) h.0
     (given_gauged (lex q (kind_of b) b) k m h.1)
 step_gauged lost lost b h = tt
 step_gauged (at q k) lost b h = absurd h

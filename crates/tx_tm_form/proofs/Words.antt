@@ -20,7 +20,7 @@ use Rattle.tx_tm_form.specs.Forms.{tokens_of, piece_parts, Spells}
 use Rattle.tx_tm_form.specs.Growing.{blocks, no_paragraphs}
 use Rattle.tx_tm_form.specs.Machine.{State, reading, feed, feeds, Lex, ready, slashed, returned, angled, labelled}
 use Rattle.tx_tm_form.specs.Machine.{within, done, if_good, lex_ready, lex_slashed, lex_returned, lex_angled}
-use Rattle.tx_tm_form.specs.Machine.{lex_labelled, lex, Bytewise, at, given, run, Keeping, keep, keeps, start}
+use Rattle.tx_tm_form.specs.Machine.{lex_labelled, lex, Bytewise, at, after_lexed, run, Keeping, keep, keeps, start}
 use Rattle.tx_tm_form.specs.Machine.{state_tree}
 use Rattle.tx_tm_form.specs.Machine.{tree_in, reads}
 use Rattle.tx_tm_form.proofs.Growth.{file_is}
@@ -122,8 +122,8 @@ lexed_letter form m k b h n =
 module _ (S : Type 0) (fd : S → Token → S) where
   -- a byte of a known kind
   pub byte_of : (k : ByteKind) (b : ℕ) (q : Lex) (s : S) (y : List ℕ) → kind_of b ≡ k
-      → run fd (at q s) (b ∷ y) ≡ run fd (given fd s (lex q k b)) y
-  byte_of k b q s y e = ap (λ k. run fd (given fd s (lex q k b)) y) e
+      → run fd (at q s) (b ∷ y) ≡ run fd (after_lexed fd s (lex q k b)) y
+  byte_of k b q s y e = ap (λ k. run fd (after_lexed fd s (lex q k b)) y) e
 
   pub backslash_step : (s : S) (y : List ℕ) → run fd (at ready s) (92 ∷ y) ≡ run fd (at slashed s) y
   unfolding lex_ready
@@ -138,9 +138,9 @@ module _ (S : Type 0) (fd : S → Token → S) where
   unfolding lex_labelled
   end_step true form m s y n =
       byte_of Bar 124 (labelled form m) s y bar_kind
-      ∙ ap (λ c. run fd (given fd s (if_good c (done (head form m true)))) y) (le-leb _ _ n)
+      ∙ ap (λ c. run fd (after_lexed fd s (if_good c (done (head form m true)))) y) (le-leb _ _ n)
   end_step false form m s y n = byte_of Greater 62 (labelled form m) s y greater_kind
-      ∙ ap (λ c. run fd (given fd s (if_good c (done (head form m false)))) y) (le-leb _ _ n)
+      ∙ ap (λ c. run fd (after_lexed fd s (if_good c (done (head form m false)))) y) (le-leb _ _ n)
 
   pub label_run : (l m : List ℕ) (more : Bool) (form : TagForm) (s : S) (y : List ℕ)
       → AllByRecursion (λ b. is_label_byte b ≡ true) l → length m + length l ≤ MOST_LABEL → 1 ≤ length m + length l
@@ -149,7 +149,7 @@ module _ (S : Type 0) (fd : S → Token → S) where
       end_step more form m s y (omega (arith, k))
       ∙ ap (λ a. run fd (at ready (fd s (head form a more))) y) (sym (append-nil m))
   label_run (b ∷ l) m more form s y h n k =
-      ap (λ r. run fd (given fd s r) (l ++ label_end more ∷ y))
+      ap (λ r. run fd (after_lexed fd s r) (l ++ label_end more ∷ y))
       (lexed_letter form m (kind_of b) b (name_kind b h.0) (omega arith))
       ∙ label_run l (m ++ b ∷ []) more form s y h.1 (omega (arith, length-append m (b ∷ [])))
       (omega (arith, length-append m (b ∷ [])))
@@ -161,7 +161,7 @@ module _ (S : Type 0) (fd : S → Token → S) where
   unfolding lex_angled
   mark_run Short [] more s y h = absurd (omega (arith, h.some))
   mark_run Short (b ∷ l) more s y h =
-      ap (λ r. run fd (given fd s r) (l ++ label_end more ∷ y)) (lexed_first (kind_of b) b (name_kind b h.each.0))
+      ap (λ r. run fd (after_lexed fd s r) (l ++ label_end more ∷ y)) (lexed_first (kind_of b) b (name_kind b h.each.0))
       ∙ label_run l (b ∷ []) more Short s y h.each.1 (omega (arith, h.short)) (omega arith)
   mark_run Long l more s y h = byte_of Backslash 92 angled s (l ++ label_end more ∷ y) backslash_kind
       ∙ label_run l [] more Long s y h.each (omega (arith, h.short)) (omega (arith, h.some))
@@ -173,13 +173,13 @@ module _ (S : Type 0) (fd : S → Token → S) where
   pub token_run : (t : Token) (s : S) (y : List ℕ) → IsToken t
       → run fd (at ready s) (written t ++ y) ≡ run fd (at ready (fd s t)) y
   unfolding lex_ready lex_slashed lex_returned lex_angled
-  token_run (white b) s y h = ap (λ r. run fd (given fd s r) y) (lexed_white (kind_of b) b h)
-  token_run (plain b) s y h = ap (λ r. run fd (given fd s r) y) (lexed_plain (kind_of b) b h)
+  token_run (white b) s y h = ap (λ r. run fd (after_lexed fd s r) y) (lexed_white (kind_of b) b h)
+  token_run (plain b) s y h = ap (λ r. run fd (after_lexed fd s r) y) (lexed_plain (kind_of b) b h)
   token_run (join true) s y h = backslash_step s (13 ∷ 10 ∷ y) ∙ byte_of Return 13 slashed s (10 ∷ y) return_kind
       ∙ byte_of Newline 10 returned s y newline_kind
   token_run (join false) s y h = backslash_step s (10 ∷ y) ∙ byte_of Newline 10 slashed s y newline_kind
   token_run (escape b) s y h =
-      backslash_step s (b ∷ y) ∙ ap (λ r. run fd (given fd s r) y) (lexed_escape (kind_of b) b refl h)
+      backslash_step s (b ∷ y) ∙ ap (λ r. run fd (after_lexed fd s r) y) (lexed_escape (kind_of b) b refl h)
   token_run raw s y h = less_step s (35 ∷ y) ∙ byte_of Hash 35 angled s y hash_kind
   token_run (head form l more) s y h =
       less_step s ((form_mark form ++ (l ++ label_end more ∷ [])) ++ y)

@@ -195,13 +195,13 @@ pub data Bytewise (S : Type 0) : Type 0 where
   at : (q : Lex) (s : S) → Bytewise S
   lost : Bytewise S
 
-abbrev pub given : {S : Type 0} → (S → Token → S) → S → Lexed → Bytewise S
-given fd s (within q) = at q s
-given fd s (done t) = at ready (fd s t)
-given fd s bad = lost
+abbrev pub after_lexed : {S : Type 0} → (S → Token → S) → S → Lexed → Bytewise S
+after_lexed fd s (within q) = at q s
+after_lexed fd s (done t) = at ready (fd s t)
+after_lexed fd s bad = lost
 
 abbrev pub step : {S : Type 0} → (S → Token → S) → Bytewise S → ℕ → Bytewise S
-step fd (at q s) b = given fd s (lex q (kind_of b) b)
+step fd (at q s) b = after_lexed fd s (lex q (kind_of b) b)
 step fd lost b = lost
 
 abbrev pub run : {S : Type 0} → (S → Token → S) → Bytewise S → List ℕ → Bytewise S

@@ -22,7 +22,7 @@ use Rattle.tx_tm_form.specs.Machine.{closed}
 use Rattle.tx_tm_form.specs.Machine.{next_argument, last_argument, next_block, last_block, header_place, begun}
 use Rattle.tx_tm_form.specs.Machine.{by_escape, name_byte, name_end, feed_reading, feed_naming, feed_counting, feed}
 use Rattle.tx_tm_form.specs.Machine.{ready, slashed, returned, angled, labelled, Lexed, within, done, bad, lex}
-use Rattle.tx_tm_form.specs.Machine.{Bytewise, at, lost, given, step, run, Keeping, keep, state_tree, tree_in}
+use Rattle.tx_tm_form.specs.Machine.{Bytewise, at, lost, after_lexed, step, run, Keeping, keep, state_tree, tree_in}
 use Rattle.tx_tm_content.specs.ContentFits.{IsSmallTree, RowFits, ContentFits}
 use Rattle.tx_tm_read.specs.Fits.{ChildrenFit, OpensFit, StateFits, ReaderFits}
 use Rattle.tx_tm_content.proofs.Fitting.{within_small, left_row, right_small, node_small, node_row, grown_fits}
@@ -217,7 +217,7 @@ keep_fit k t h =
       | false ↦ λ i. feed_fit k.state t i
     ] h
 
-given_fit : (r : Lexed) (k : Keeping) → ReaderFits (given keep k r) → StateFits k.state
+given_fit : (r : Lexed) (k : Keeping) → ReaderFits (after_lexed keep k r) → StateFits k.state
 given_fit (within q) k h = h
 given_fit (done t) k h = keep_fit k t h
 given_fit bad k h = absurd h

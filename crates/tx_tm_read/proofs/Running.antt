@@ -17,7 +17,7 @@ use Rattle.tx_tm_form.specs.Parts.{gap, text}
 use Rattle.tx_tm_form.specs.Growing.{Inline, no_parts, grow, longer, ended, resumed, Block, with_white, with_part}
 use Rattle.tx_tm_form.specs.Growing.{widen, as_block, Content}
 use Rattle.tx_tm_form.specs.Growing.{inline, blocks, collecting, put_part}
-use Rattle.tx_tm_form.specs.Machine.{Open, reading, feed, ready, Bytewise, at, given, step}
+use Rattle.tx_tm_form.specs.Machine.{Open, reading, feed, ready, Bytewise, at, after_lexed, step}
 use Rattle.tx_tm_form.specs.Machine.{run, Keeping, keep, begun}
 use Rattle.tx_tm_form.specs.Machine.{tree_in, start, reads}
 use Rattle.tx_tm_form.proofs.Formed.{text_text, one_byte_text}
@@ -114,13 +114,14 @@ put_gaps (collecting t) v w =
 plain_step : (b : ℕ) (j : Bool) (c : Content) (fs : List Open) → is_plain (kind_of b) ≡ true
     → step keep (reader_between_words j c fs) b ≡ reader_between_words false (put_part c (text (b ∷ []))) fs
 unfolding feed
-plain_step b j c fs h = ap (given keep (record { behind_join = j; state = reading c fs })) (lexed_plain (kind_of b) b h)
+plain_step b j c fs h = ap (after_lexed keep (record { behind_join = j; state = reading c fs }))
+    (lexed_plain (kind_of b) b h)
 
 white_step : (b : ℕ) (c : Content) (fs : List Open) → is_white (kind_of b) ≡ true
     → step keep (reader_between_words false c fs) b ≡ reader_between_words false (put_part c (gap (white_of b))) fs
 unfolding feed
 white_step b c fs h =
-    ap (given keep (record { behind_join = false; state = reading c fs })) (lexed_white (kind_of b) b h)
+    ap (after_lexed keep (record { behind_join = false; state = reading c fs })) (lexed_white (kind_of b) b h)
 
 space_kind : is_white (kind_of 32) ≡ true
 unfolding kind_of is_label_byte

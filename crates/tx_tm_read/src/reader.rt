@@ -5,7 +5,7 @@ ghost use Rattle.tx_tree.specs.WideTree.{nodes_of};
 ghost use Rattle.tx_tree.specs.Limits.{IsWithinLimits};
 ghost use Rattle.tx_tm_form.specs.Forms.{Spells};
 ghost use Rattle.tx_tm_form.specs.Faults.{IsTmFault};
-ghost use Rattle.tx_tm_form.specs.Machine.{ready, at, reading, given, keep, step, start, run};
+ghost use Rattle.tx_tm_form.specs.Machine.{ready, at, reading, after_lexed, keep, step, start, run};
 ghost use Rattle.tx_tm_words.specs.Words.{token_of, IsGoodWord, lexed_of, IsGoodLexed};
 ghost use Rattle.tx_tm_content.specs.Blocks.{content_of};
 ghost use Rattle.tx_tm_read.specs.Nodes.{state_nodes};
@@ -91,7 +91,8 @@ fn behind_lexed<L: Ledger>(
 ) -> Result<Option<Reader>, Memory>
     requires { IsGoodLexed lexed }
     ensures next { IfOk result (λ next.
-        IsReader next (given keep (record { behind_join = behind_join; state = state_of spot }) (lexed_of lexed))) }
+        IsReader next (after_lexed keep (record { behind_join = behind_join; state = state_of spot })
+        (lexed_of lexed))) }
     ensures counted { IfOk result (ReaderRose steps.old steps.new (state_nodes (state_of spot))) }
     ensures bounded { steps.new + left reader_credit result
         ≤ steps.old + state_credit (state_of spot) + lexed_credit (lexed_of lexed) }
