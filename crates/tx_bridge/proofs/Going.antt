@@ -9,7 +9,7 @@ use Rattle.tx_mod.specs.declared.mods.Mod.{Mod}
 use Rattle.tx_mod.specs.Changes.{Outcome, changed}
 use Rattle.tx_mod.specs.Moves.{carried_path}
 use Rattle.tx_mod.specs.Mods.{path_of}
-use Rattle.tx_mod.specs.Followed.{CarriesSubtree, changed_by_all, carried_by_all, tree_of}
+use Rattle.tx_mod.specs.Followed.{CarriesSubtree, changed_by_all, carried_by_all, outcome_tree}
 use Rattle.tx_mod.specs.InTurn.{cost_of}
 use Rattle.tx_bridge.specs.Carrying.{through, Leads, AllLead}
 
@@ -43,7 +43,8 @@ through_step : (m : Mod) (ms : List Mod) (t u : WideTree) → changed m t ≡ Ok
     → through ms u (option_and_then (carried_path m t) o) ≡ through (m ∷ ms) t o
 through_step m ms t u e None = refl
 through_step m ms t u e (Some q) =
-    sym (ap (λ oc. option_and_then (λ v. option_and_then (carried_by_all ms v) (carried_path m t q)) (tree_of oc)) e)
+    sym (ap (λ oc. option_and_then (λ v. option_and_then (carried_by_all ms v) (carried_path m t q))
+    (outcome_tree oc)) e)
 
 through_all : (m : Mod) (ms : List Mod) (t u : WideTree) → changed m t ≡ Ok u → (os : Paths)
     → map (through ms u) (map (option_and_then (carried_path m t)) os) ≡ map (through (m ∷ ms) t) os
@@ -65,7 +66,7 @@ pub first_applies : (m : Mod) (ms : List Mod) (t u : WideTree) → changed_by_al
     → IsOk (changed m t)
 first_applies m ms t u e = by_outcome (changed m t) e
   where
-    by_outcome : (o : Outcome) → option_and_then (changed_by_all ms) (tree_of o) ≡ Some u → IsOk o
+    by_outcome : (o : Outcome) → option_and_then (changed_by_all ms) (outcome_tree o) ≡ Some u → IsOk o
     by_outcome (Ok v) f = refl
     by_outcome (Err cause) f = absurd (cc)
 
@@ -98,7 +99,7 @@ module _ (ms : List Mod) (i : ℕ) (old now : Paths) (t u : WideTree) (before af
             ∙ ap (λ ns. map (through ns u) now) (sym split) ∙ g.paths;
         applies = (
           g.applies.0,
-          sym (ap (λ oc. option_and_then (changed_by_all (drop (i + 1) ms)) (tree_of oc)) e)
+          sym (ap (λ oc. option_and_then (changed_by_all (drop (i + 1) ms)) (outcome_tree oc)) e)
               ∙ ap (λ ns. changed_by_all ns u) (sym split) ∙ g.applies.1,
         );
         lead =

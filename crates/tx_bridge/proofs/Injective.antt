@@ -15,7 +15,7 @@ use Rattle.tx_mod.specs.Changes.{Outcome, changed}
 use Rattle.tx_mod.specs.Moves.{rest_behind, child_or_self, shifted, some_path, carried_by_insert, carried_by_remove}
 use Rattle.tx_mod.specs.Moves.{carried_in_split, carried_by_split, carried_in_join, carried_by_join, carried_by_unwrap}
 use Rattle.tx_mod.specs.Moves.{carried_at, carried_path}
-use Rattle.tx_mod.specs.Followed.{CarriesSubtree, tree_of, changed_by_all, carried_by_all}
+use Rattle.tx_mod.specs.Followed.{CarriesSubtree, outcome_tree, changed_by_all, carried_by_all}
 use Rattle.tx_mod.proofs.Cases.{by_test}
 use Rattle.tx_mod.proofs.Kept.{subtree_behind}
 use Rattle.tx_bridge.proofs.Inside.{rest_is, rest_own, stands_at}
@@ -281,9 +281,9 @@ carried_once law (m ∷ ms) t u q s r x y made f g e h =
     step : (o : Outcome) (c d : Option (List ℕ)) → changed m t ≡ o → carried_path m t q ≡ c → carried_path m t s ≡ d
         → ((v : WideTree) (a b : List ℕ) → changed_by_all ms v ≡ Some u → subtree v a ≡ Some x → subtree v b ≡ Some y
         → carried_by_all ms v a ≡ Some r → carried_by_all ms v b ≡ Some r → a ≡ b)
-        → option_and_then (changed_by_all ms) (tree_of o) ≡ Some u
-        → option_and_then (λ v. option_and_then (carried_by_all ms v) c) (tree_of o) ≡ Some r
-        → option_and_then (λ v. option_and_then (carried_by_all ms v) d) (tree_of o) ≡ Some r → q ≡ s
+        → option_and_then (changed_by_all ms) (outcome_tree o) ≡ Some u
+        → option_and_then (λ v. option_and_then (carried_by_all ms v) c) (outcome_tree o) ≡ Some r
+        → option_and_then (λ v. option_and_then (carried_by_all ms v) d) (outcome_tree o) ≡ Some r → q ≡ s
     step (Err cause) c d made1 ec ed ih all eq es = cc
     step (Ok v) None d made1 ec ed ih all eq es = cc
     step (Ok v) (Some a) None made1 ec ed ih all eq es = cc

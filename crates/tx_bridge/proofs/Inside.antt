@@ -18,7 +18,7 @@ use Rattle.tx_mod.specs.declared.faults.ModFault.TheVariants.{NoPath}
 use Rattle.tx_mod.specs.Mods.{path_of}
 use Rattle.tx_mod.specs.Changes.{Outcome, changed, changed_at, put_back}
 use Rattle.tx_mod.specs.Moves.{rest_behind, carried_at, carried_path}
-use Rattle.tx_mod.specs.Followed.{tree_of, changed_by_all, carried_by_all}
+use Rattle.tx_mod.specs.Followed.{outcome_tree, changed_by_all, carried_by_all}
 use Rattle.tx_bridge.specs.InPlace.{wraps, begins, leaves_nowhere, are_within}
 use Rattle.tx_walk.proofs.Trees.{both}
 
@@ -148,8 +148,8 @@ goes m t q inside h = by (subtree t (path_of m))
 
 stay_step : (m : Mod) (ms : List Mod) (t u : WideTree) (q r : List ℕ) → begins q (path_of m) ≡ true → IsNoFront q r
     → IsNoFront r q → ((v : WideTree) → changed_by_all ms v ≡ Some u → carried_by_all ms v r ≡ Some r)
-    → (o : Outcome) → changed m t ≡ o → option_and_then (changed_by_all ms) (tree_of o) ≡ Some u
-    → option_and_then (λ v. option_and_then (carried_by_all ms v) (carried_path m t r)) (tree_of o) ≡ Some r
+    → (o : Outcome) → changed m t ≡ o → option_and_then (changed_by_all ms) (outcome_tree o) ≡ Some u
+    → option_and_then (λ v. option_and_then (carried_by_all ms v) (carried_path m t r)) (outcome_tree o) ≡ Some r
 stay_step m ms t u q r inside f g ih (Ok v) made h =
     ap (option_and_then (carried_by_all ms v)) (one_stays m t v q r made inside f g) ∙ ih v h
 stay_step m ms t u q r inside f g ih (Err cause) made h = cc
@@ -163,7 +163,7 @@ all_stay (m ∷ ms) t u q r inside f g made =
     stay_step m ms t u q r all.0 f g (λ v h. all_stay ms v u q r all.1 f g h) (changed m t) refl made
 
 go_step : (m : Mod) (ms : List Mod) (t : WideTree) (q : List ℕ) → carried_path m t q ≡ None → (o : Outcome)
-    → option_and_then (λ v. option_and_then (carried_by_all ms v) (carried_path m t q)) (tree_of o) ≡ None
+    → option_and_then (λ v. option_and_then (carried_by_all ms v) (carried_path m t q)) (outcome_tree o) ≡ None
 go_step m ms t q none (Ok v) = ap (option_and_then (carried_by_all ms v)) none
 go_step m ms t q none (Err cause) = refl
 

@@ -18,7 +18,7 @@ use Rattle.tx_mod.specs.Changes.{Outcome, changed}
 use Rattle.tx_mod.specs.Moves.{rest_behind, child_or_self, some_path, carried_by_insert, carried_by_remove}
 use Rattle.tx_mod.specs.Moves.{carried_in_split, carried_by_split, carried_in_join, carried_by_join}
 use Rattle.tx_mod.specs.Moves.{carried_at, carried_path}
-use Rattle.tx_mod.specs.Followed.{tree_of, changed_by_all, carried_by_all}
+use Rattle.tx_mod.specs.Followed.{outcome_tree, changed_by_all, carried_by_all}
 use Rattle.tx_mod.proofs.Cases.{by_test}
 use Rattle.tx_walk.proofs.Trees.{both}
 use Rattle.tx_bridge.specs.InPlace.{begins, are_within}
@@ -144,8 +144,8 @@ places_stay (m ∷ ms) t u q made keep =
   where
     by : (o : Outcome) → changed m t ≡ o
         → ((v : WideTree) → changed_by_all ms v ≡ Some u → carried_by_all ms v q ≡ Some q) → keeps_place m q ≡ true
-        → option_and_then (changed_by_all ms) (tree_of o) ≡ Some u
-        → option_and_then (λ v. option_and_then (carried_by_all ms v) (carried_path m t q)) (tree_of o) ≡ Some q
+        → option_and_then (changed_by_all ms) (outcome_tree o) ≡ Some u
+        → option_and_then (λ v. option_and_then (carried_by_all ms v) (carried_path m t q)) (outcome_tree o) ≡ Some q
     by (Err cause) e ih one h = cc
     by (Ok v) e ih one h = ap (option_and_then (carried_by_all ms v)) (place_stays m t v q e one) ∙ ih v h
 

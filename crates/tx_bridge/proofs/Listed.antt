@@ -9,11 +9,11 @@ use Rattle.tx_tree.specs.WideTree.{WideTree, leaf, node, nil, cons}
 use Rattle.tx_tree.specs.Paths.{subtree}
 use Rattle.tx_doc.specs.Buffers.{tree_of, document_of, number_of}
 use Rattle.tx_doc.specs.declared.buffer.Buffer.{Buffer}
-use Rattle.tx_units.specs.BaseStyle.{tag, assign, base_style}
+use Rattle.tx_units.specs.BaseStyle.{tag, assign_tag, base_style}
 use Rattle.tx_units.specs.Documents.{style_names, entries, paragraphs}
 use Rattle.tx_units.specs.declared.kinds.Unit.{Unit as DocUnit}
 use Rattle.tx_units.specs.declared.kinds.UnitKind.TheVariants.{Base, Style, Initial}
-use Rattle.tx_units.specs.Places.{StandsIn, AreApart, NoneBegins}
+use Rattle.tx_units.specs.Places.{UnitStandsIn, AreApart, NoneBegins}
 use Rattle.tx_units.specs.Units.{unit, base_units, loaded_units, absent_unit, named_units, style_units, entry_units}
 use Rattle.tx_units.specs.Units.{initial_units, body_units, front_units, units}
 use Rattle.tx_bridge.specs.UnitLists.{IsPlaced, AreUnits, is_body}
@@ -48,7 +48,8 @@ all_flat f h (x ∷ xs) = all_both IsBare (f x) (flat_map f xs) (h x) (all_flat 
 base_bare : AllByRecursion IsBare base_units
 unfolding base_units
 base_bare =
-    mapped (λ row. unit Base (assign (leaf row.0) row.1)) (λ row. record { path = refl; origin = refl; kind = refl })
+    mapped (λ row. unit Base (assign_tag (leaf row.0) row.1))
+    (λ row. record { path = refl; origin = refl; kind = refl })
     base_style
 
 named_bare : (styles : List Buffer) (name : List ℕ) → AllByRecursion IsBare (named_units styles name)
@@ -74,7 +75,7 @@ entry_bare (node label (cons x nil)) = tt
 entry_bare (node label (cons x (cons v nil))) = pick (bytes_eq label (codes "associate"))
   where
     pick : (b : Bool)
-        → AllByRecursion IsBare (cond b (unit Initial (assign x (tag (codes "quote") (v ∷ []))) ∷ []) [])
+        → AllByRecursion IsBare (cond b (unit Initial (assign_tag x (tag (codes "quote") (v ∷ []))) ∷ []) [])
     pick true = (record { path = refl; origin = refl; kind = refl }, tt)
     pick false = tt
 entry_bare (node label (cons x (cons v (cons w ts)))) = tt
@@ -97,7 +98,7 @@ bare_placed u h = record {
   origin = h.origin ∙ sym (ap (option_map (λ _. [])) h.path);
 }
 
-body_placed : (t : WideTree) (u : DocUnit) → StandsIn t u → IsPlaced u
+body_placed : (t : WideTree) (u : DocUnit) → UnitStandsIn t u → IsPlaced u
 body_placed t u h = record {
   path = ap is_some h.has_path ∙ sym (ap is_body h.is_body);
   origin = h.at_root ∙ sym (ap (option_map (λ _. [])) h.has_path);
@@ -106,7 +107,7 @@ body_placed t u h = record {
 bare_stands : (t : WideTree) (u : DocUnit) → IsBare u → Stands t u
 bare_stands t u h p e = let off : None ≡ Some p = sym h.path ∙ e in cc
 
-body_stands : (t : WideTree) (u : DocUnit) → StandsIn t u → Stands t u
+body_stands : (t : WideTree) (u : DocUnit) → UnitStandsIn t u → Stands t u
 body_stands t u h p e =
     ap (subtree t) (some_once p h.path (sym e ∙ h.has_path)) ∙ h.leads
 
@@ -126,7 +127,7 @@ front_apart (u ∷ us) vs h apart = (all_apart u h.0 (us ++ vs), front_apart us 
 
 -- ---- all units, by the laws of those of a body
 
-module _ (stand : (t : WideTree) → AllByRecursion (StandsIn t) (body_units t))
+module _ (stand : (t : WideTree) → AllByRecursion (UnitStandsIn t) (body_units t))
     (apart : (t : WideTree) → NoneBegins (body_units t)) (buffers : List Buffer) where
   bare : AllByRecursion IsBare (front_units (document_of buffers) (drop 1 buffers))
   bare = front_bare (document_of buffers) (drop 1 buffers)
@@ -136,7 +137,7 @@ module _ (stand : (t : WideTree) → AllByRecursion (StandsIn t) (body_units t))
     placed =
         all_both IsPlaced (front_units (document_of buffers) (drop 1 buffers)) (body_units (document_of buffers))
         (all_then IsBare IsPlaced bare_placed (front_units (document_of buffers) (drop 1 buffers)) bare)
-        (all_then (StandsIn (document_of buffers)) IsPlaced (body_placed (document_of buffers))
+        (all_then (UnitStandsIn (document_of buffers)) IsPlaced (body_placed (document_of buffers))
         (body_units (document_of buffers)) (stand (document_of buffers)));
     apart =
         front_apart (front_units (document_of buffers) (drop 1 buffers)) (body_units (document_of buffers)) bare
@@ -149,7 +150,7 @@ module _ (stand : (t : WideTree) → AllByRecursion (StandsIn t) (body_units t))
       (body_units (document_of buffers))
       (all_then IsBare (Stands (document_of buffers)) (bare_stands (document_of buffers))
       (front_units (document_of buffers) (drop 1 buffers)) bare)
-      (all_then (StandsIn (document_of buffers)) (Stands (document_of buffers)) (body_stands (document_of buffers))
+      (all_then (UnitStandsIn (document_of buffers)) (Stands (document_of buffers)) (body_stands (document_of buffers))
       (body_units (document_of buffers)) (stand (document_of buffers)))
 
 -- ---- units of one document have one tree at one path

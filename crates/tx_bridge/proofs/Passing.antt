@@ -11,7 +11,7 @@ use Rattle.tx_mod.specs.declared.mods.Mod.{Mod}
 use Rattle.tx_mod.specs.Changes.{Outcome, changed}
 use Rattle.tx_mod.specs.Moves.{carried_path}
 use Rattle.tx_mod.specs.Mods.{path_of}
-use Rattle.tx_mod.specs.Followed.{CarriesSubtree, changed_by_all, carried_by_all, tree_of}
+use Rattle.tx_mod.specs.Followed.{CarriesSubtree, changed_by_all, carried_by_all, outcome_tree}
 use Rattle.tx_mod.specs.InTurn.{cost_of}
 use Rattle.tx_bridge.specs.declared.bridge.Bridge.{Bridge}
 use Rattle.tx_bridge.specs.Carrying.{through, Leads, AllStand}
@@ -37,11 +37,11 @@ pass_starts ms t u before e applies =
 -- the modification of the tree leads on
 goes_to : (m : Mod) (ms : List Mod) (u w : WideTree) → changed m u ≡ Ok w
     → trees_before (m ∷ ms) u ≡ u ∷ trees_before ms w
-goes_to m ms u w e = ap (λ oc. u ∷ option_map_or (trees_before ms) (tree_of oc) []) e
+goes_to m ms u w e = ap (λ oc. u ∷ option_map_or (trees_before ms) (outcome_tree oc) []) e
 
 all_to : (m : Mod) (ms : List Mod) (u w : WideTree) → changed m u ≡ Ok w
     → changed_by_all (m ∷ ms) u ≡ changed_by_all ms w
-all_to m ms u w e = ap (λ oc. option_and_then (changed_by_all ms) (tree_of oc)) e
+all_to m ms u w e = ap (λ oc. option_and_then (changed_by_all ms) (outcome_tree oc)) e
 
 module _ (ms : List Mod) (i : ℕ) (ts : List WideTree) (t u : WideTree) (before after : ℕ)
     (g : Passing ms i ts t u before after) (inside : i < length ms) (d : Mod) where
@@ -147,7 +147,7 @@ module _ (ms : List Mod) (ts : List WideTree) (t : WideTree) (i : ℕ) (old now 
   split_all =
       ap (λ ns. carried_by_all ns a.tree now) at_mod
       ∙ ap (λ oc. option_and_then (λ v. option_and_then (carried_by_all (drop (i + 1) ms) v)
-      (carried_path (slice_index_or ms i d) a.tree now)) (tree_of oc)) next_tree.1
+      (carried_path (slice_index_or ms i d) a.tree now)) (outcome_tree oc)) next_tree.1
 
   -- the path leads nowhere
   pub along_ends : carried_path (slice_index_or ms i d) a.tree now ≡ None → None ≡ carried_by_all ms t old

@@ -15,7 +15,7 @@ use Rattle.tx_exec.specs.declared.outcome.Trace.{Trace}
 use Rattle.tx_exec.specs.declared.outcome.Outcome.{Outcome}
 use Rattle.tx_exec.specs.declared.outcome.Outcome.TheVariants.{Done, Over}
 use Rattle.tx_view_form.specs.declared.TheConstants.{MOST_UNIT_STEPS}
-use Rattle.tx_view_form.specs.Outcomes.{Moment, allowance, outcome, behind, value_of, over_value, charge}
+use Rattle.tx_view_form.specs.Outcomes.{Moment, allowance, outcome, behind, unit_value, over_value, charge}
 use Rattle.tx_bridge.specs.Moments.{IsPaid}
 use Rattle.tx_bridge.proofs.Once.{overlaid_same}
 use Rattle.tx_bridge.proofs.Used.{AllAllowed}
@@ -70,7 +70,7 @@ AllSmall = (k c : ℕ) (t : TaggedTree) (e : Before) (trace : WideTrace) → eva
     → (size_of (plain trace.value) ≤ trace.cost) × (depth_of (plain trace.value) ≤ trace.height)
 
 pub paid_for : AllSmall → AllAllowed → (m after : Moment) (t : TaggedTree) (o : Option WideTrace) (v : WideValue)
-    → o ≡ outcome t m → v ≡ value_of o → after ≡ behind m o → IsPaid m after v
+    → o ≡ outcome t m → v ≡ unit_value o → after ≡ behind m o → IsPaid m after v
 unfolding outcome
 paid_for small allowed m after t None v e is at =
     let seven : size_of (plain over_value) ≡ 7 = refl in

@@ -7,7 +7,7 @@ use Rattle.tx_tree.specs.WideTree.{WideTree}
 use Rattle.tx_tree.specs.Paths.{subtree}
 use Rattle.tx_mod.specs.declared.mods.Mod.{Mod}
 use Rattle.tx_mod.specs.Changes.{changed}
-use Rattle.tx_mod.specs.Followed.{tree_of, changed_by_all}
+use Rattle.tx_mod.specs.Followed.{outcome_tree, changed_by_all}
 use Rattle.tx_exec_form.specs.Laws.{Supports}
 use Rattle.tx_exec.specs.Outcomes.{wide_trace}
 use Rattle.tx_parts.specs.Composed.{alone}
@@ -26,7 +26,7 @@ use Rattle.tx_bridge.specs.Slots.{IsInOrder, given_all, fresh_bridge, paths_in}
 -- the tree before each modification, where t is that before the first one
 abbrev pub trees_before : List Mod → WideTree → List WideTree
 trees_before [] t = []
-trees_before (m ∷ ms) t = t ∷ option_map_or (trees_before ms) (tree_of (changed m t)) []
+trees_before (m ∷ ms) t = t ∷ option_map_or (trees_before ms) (outcome_tree (changed m t)) []
 
 -- the modifications apply to t, and these are the trees before each
 pub record IsPassage (ms : List Mod) (t : WideTree) (ts : List WideTree) : Type 0 where

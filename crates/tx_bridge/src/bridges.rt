@@ -14,7 +14,7 @@ ghost use Rattle.tx_walk.specs.Walked.{IsTidy, paths_of};
 ghost use Rattle.tx_units.specs.Units.{units_with};
 ghost use Rattle.tx_units.specs.declared.kinds.Unit.{Unit as DocUnit};
 ghost use Rattle.tx_view_form.specs.declared.TheConstants.{MOST_VIEW_STEPS};
-ghost use Rattle.tx_view_form.specs.Outcomes.{beginning, behind, value_of};
+ghost use Rattle.tx_view_form.specs.Outcomes.{beginning, behind, unit_value};
 ghost use Rattle.tx_bridge.specs.Moments.{IsPaid, beginning_with};
 ghost use Rattle.tx_bridge.specs.Entries.{Entry, units_of, fresh_from, outcome_of, behind_all};
 ghost use Rattle.tx_bridge.specs.Reached.{reached_from};
@@ -621,7 +621,7 @@ impl Bridges {
         ensures behind { OnOk result ((e : Entry) → slice_get self.now.kept i ≡ Some e
             → moment.new ≡ behind moment.old e.trace) }
         ensures paid { OnOk result ((e : Entry) → slice_get self.now.kept i ≡ Some e
-            → IsPaid moment.old moment.new (value_of e.trace)) }
+            → IsPaid moment.old moment.new (unit_value e.trace)) }
         ensures err { OnErr result (moment.new ≡ moment.old) }
     {
         size_law();

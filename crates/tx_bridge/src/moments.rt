@@ -5,7 +5,7 @@ ghost use Rattle.tx_env.specs.Environments.{overlaid};
 ghost use Rattle.tx_origin.specs.Values.{plain};
 ghost use Rattle.tx_origin.specs.TaggedTrees.{tagged_of};
 ghost use Rattle.tx_exec.specs.Outcomes.{wide_outcome, NamesOnce};
-ghost use Rattle.tx_view_form.specs.Outcomes.{beginning, allowance, outcome, charge, behind, value_of, over_value};
+ghost use Rattle.tx_view_form.specs.Outcomes.{beginning, allowance, outcome, charge, behind, unit_value, over_value};
 ghost use Rattle.std.specs.Prelude.{true};
 ghost use Rattle.std.specs.List.{AllByRecursion, IsDistinct};
 ghost use Rattle.std.specs.Str.{bytes_eq};
@@ -218,7 +218,7 @@ impl Moment {
         t: &Tagged,
         steps: &mut Steps<L>,
     ) -> Result<Value, Memory>
-        ensures value { IfOk result (λ v. v ≡ value_of (outcome (tagged_of t.now) self.old)) }
+        ensures value { IfOk result (λ v. v ≡ unit_value (outcome (tagged_of t.now) self.old)) }
         ensures behind { OnOk result (self.new ≡ behind self.old (outcome (tagged_of t.now) self.old)) }
         ensures counted { OnOk result (steps.new ≡ steps.old + charge self.old (outcome (tagged_of t.now) self.old)) }
         ensures paid { IfOk result (λ v. IsPaid self.old self.new v) }
@@ -234,7 +234,7 @@ impl Moment {
 
 // The value of a unit that comes to this.
 fn value_from(alloc: Global, outcome: Outcome) -> Result<Value, Memory>
-    ensures { IfOk result (λ v. v ≡ value_of (wide_outcome outcome)) }
+    ensures { IfOk result (λ v. v ≡ unit_value (wide_outcome outcome)) }
 {
     match outcome {
         Outcome::Over => over_value(alloc),

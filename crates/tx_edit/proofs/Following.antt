@@ -19,11 +19,11 @@ use Rattle.tx_mod.specs.declared.mods.Mod.{Mod}
 use Rattle.tx_mod.specs.declared.mods.Mod.TheVariants.{Insert, Remove, Split, Join}
 use Rattle.tx_mod.specs.Changes.{Outcome, inserted, removed, split_child, split, joined, in_place_of_two, joined_at}
 use Rattle.tx_mod.specs.Changes.{changed_at, changed}
-use Rattle.tx_mod.specs.InTurn.{changed_in_turn, moved_in_turn, AreSound}
-use Rattle.tx_mod.specs.Mods.{path_of, put_in, taken_out, extent, is_clean, before, behind, replaced}
-use Rattle.tx_mod.specs.Moves.{place, below, child_or_self, moved_in_split, moved_by_split, moved_in_join}
+use Rattle.tx_mod.specs.InTurn.{changed_in_turn, moved_in_turn, AreSoundMods}
+use Rattle.tx_mod.specs.Mods.{path_of, put_in, taken_out, extent, is_clean, tree_up_to, tree_from, replaced}
+use Rattle.tx_mod.specs.Moves.{place, place_from_above, child_or_self, moved_in_split, moved_by_split, moved_in_join}
 use Rattle.tx_mod.specs.Moves.{moved_by_join, moved_at, moved_place}
-use Rattle.tx_mod.specs.Sound.{IsSound}
+use Rattle.tx_mod.specs.Sound.{IsSoundMod}
 use Rattle.tx_mod.proofs.Cases.{by_test}
 use Rattle.tx_mod.proofs.InTurn.{begun}
 use Rattle.tx_mod.proofs.Kept.{split_left}
@@ -49,7 +49,7 @@ pub record Follows (t : WideTree) (at : Place) (m : Move) : Type 0 where
   pub moved : IsMoved t at m
   pub place : StandsAfter t m
 
-follows : (mods : List Mod) (t : WideTree) (at to : Place) → AreSound mods → IsWellFormed t
+follows : (mods : List Mod) (t : WideTree) (at to : Place) → AreSoundMods mods → IsWellFormed t
     → IsPlace t at.path at.offset → IsLimited (changed_in_turn mods t)
     → (IsOk (changed_in_turn mods t) → to ≡ moved_in_turn mods t at) → Follows t at (Edit mods to)
 follows mods t at to sound formed h limited moved =
@@ -61,9 +61,10 @@ follows mods t at to sound formed h limited moved =
     }
 
 -- one modification, whose path the cursor's begins with
-follows_one : (m : Mod) (t s v : WideTree) (at to : Place) (r : List ℕ) → IsSound m → IsWellFormed t
+follows_one : (m : Mod) (t s v : WideTree) (at to : Place) (r : List ℕ) → IsSoundMod m → IsWellFormed t
     → IsPlace t at.path at.offset → subtree t (path_of m) ≡ Some s → changed_at m s ≡ Ok v
-    → at.path ≡ path_of m ++ r → to ≡ below (path_of m) (moved_at m s r at.offset) → Follows t at (Edit (m ∷ []) to)
+    → at.path ≡ path_of m ++ r → to ≡ place_from_above (path_of m) (moved_at m s r at.offset)
+    → Follows t at (Edit (m ∷ []) to)
 follows_one m t s v at to r sound formed h found made e is =
     follows (m ∷ []) t at to (sound, tt) formed h (one_applies m [] t s v found made (λ w f g. tt))
     (λ _. is ∙ sym (moved_below m t s at r found e) ∙ sym (moved_once m t at))
@@ -168,7 +169,7 @@ joining t at p a b i formed there start is found former =
     let made = two_joined s i a b first.child f in
     follows_one (Join p i) t s made.tree at (place (p ++ i ∷ []) (length a)) ((i + 1) ∷ [])
     tt formed there first.found made.is is
-    (ap (below p) (sym (ap (moved_by_join s i ((i + 1) ∷ [])) start ∙ join_moves s i a b first.child f)))
+    (ap (place_from_above p) (sym (ap (moved_by_join s i ((i + 1) ∷ [])) start ∙ join_moves s i a b first.child f)))
 
 -- ---- enter
 
@@ -177,7 +178,7 @@ child_split : (s c : WideTree) (i j : ℕ) → slice_get (children_of s) i ≡ S
 child_split (leaf text) c i j e le clean = absurd (cc)
 child_split (node l ts) c i j e le clean =
     record {
-      tree = node l (forest (take i (trees ts) ++ before c j ∷ behind c j ∷ drop (i + 1) (trees ts)));
+      tree = node l (forest (take i (trees ts) ++ tree_up_to c j ∷ tree_from c j ∷ drop (i + 1) (trees ts)));
       is = ap (λ o. option_map_or (split_child l (trees ts) i j) o (Err (BadPlace (length (trees ts))))) e
           ∙ asked_ok (nat_le j (extent c)) (BadPlace (extent c)) _ (le-leb j (extent c) le)
           ∙ asked_ok (is_clean c j) (CutsSymbol j) _ clean;
@@ -215,7 +216,7 @@ splitting t at p text i formed there is found =
     let made = child_split c.parent (leaf text) i o c.child (cut_within text o cut) (cut_tested text o cut) in
     follows_one (Split p i o) t c.parent made.tree at (place (p ++ (i + 1) ∷ []) 0) (i ∷ [])
     tt formed there c.found made.is is
-    (ap (below p) (sym (split_moves c.parent (leaf text) i o [] o c.child ∙ text_moves text i o)))
+    (ap (place_from_above p) (sym (split_moves c.parent (leaf text) i o [] o c.child ∙ text_moves text i o)))
 
 -- after the first of two splits: the node that was split is a child, and can be split between the two
 record IsSplitOnce (w : WideTree) (p : List ℕ) (i j : ℕ) : Type 0 where
@@ -233,9 +234,9 @@ split_once t s c v w p i j o found e made is =
     let there : subtree w (p ++ i ∷ []) ≡ Some v = ap (λ z. subtree z (p ++ i ∷ [])) is
     ∙ subtree_of_replaced (p ++ i ∷ []) t s v found in
     let d = child_at p w v i there in
-    let front : slice_get (children_of v) j ≡ Some (before c o) = split_left s v c j o made e in
-    let inner : IsNode v = node_with v (before c o) j front in
-    let within : j < length (children_of v) = slice_get_within (children_of v) j (before c o) front in
+    let front : slice_get (children_of v) j ≡ Some (tree_up_to c o) = split_left s v c j o made e in
+    let inner : IsNode v = node_with v (tree_up_to c o) j front in
+    let within : j < length (children_of v) = slice_get_within (children_of v) j (tree_up_to c o) front in
     record {
       parent = d.parent;
       child = v;
@@ -270,7 +271,7 @@ second_moves : (w : WideTree) (p : List ℕ) (i j : ℕ) → IsSplitOnce w p i j
 second_moves w p i j d =
     moved_below (Split p i (j + 1)) w d.parent (place ((p ++ i ∷ []) ++ (j + 1) ∷ []) 0) (i ∷ (j + 1) ∷ []) d.found
     (append_assoc p (i ∷ []) ((j + 1) ∷ []))
-    ∙ ap (below p)
+    ∙ ap (place_from_above p)
     (split_moves d.parent d.child i (j + 1) ((j + 1) ∷ []) 0 d.at ∙ node_moves d.child i (j + 1) d.inner)
 
 splitting_both : (t : WideTree) (at : Place) (p text : List ℕ) (i j : ℕ) → IsWellFormed t
@@ -291,7 +292,7 @@ splitting_both t at p text i j formed there is found =
     (tree_made m t c.parent made.tree w c.found made.is e) in
     let first : moved_place m t at ≡ mid =
     moved_below m t c.parent at (j ∷ []) c.found is
-    ∙ ap (below q) (split_moves c.parent (leaf text) j o [] o c.child ∙ text_moves text j o) in
+    ∙ ap (place_from_above q) (split_moves c.parent (leaf text) j o [] o c.child ∙ text_moves text j o) in
     follows (m ∷ n ∷ []) t at to (tt, (tt, tt)) formed there
     (one_applies m (n ∷ []) t c.parent made.tree c.found made.is
     (λ w e f. let d = once w e in one_applies n [] w d.parent d.made.tree d.found d.made.is (λ x g k. tt)))

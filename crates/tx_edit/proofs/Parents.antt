@@ -8,7 +8,7 @@ use Rattle.tx_tree.specs.Paths.{subtree}
 use Rattle.tx_tree.specs.WideTree.{WideTree, Forest, leaf, node, children_of, text_of}
 use Rattle.tx_tree.proofs.Walking.{step_down}
 use Rattle.tx_tree.proofs.Walks.{leaf_is}
-use Rattle.tx_mod.specs.Ways.{AreSmall}
+use Rattle.tx_mod.specs.Ways.{AreChildNumbers}
 use Rattle.tx_mod.proofs.Replacing.{down}
 use Rattle.tx_mod.proofs.Small.{leads_small}
 use Rattle.tx_doc.specs.Bodies.{is_labelled}
@@ -96,14 +96,14 @@ concat_found t path e = labelled_found (codes "concat") t path e
 
 -- ---- the number of a child is small
 
-last_small : (p : List ℕ) (i : ℕ) → AreSmall (p ++ i ∷ []) → i ≤ 65535
+last_small : (p : List ℕ) (i : ℕ) → AreChildNumbers (p ++ i ∷ []) → i ≤ 65535
 last_small [] i h = h.0
 last_small (k ∷ p) i h = last_small p i h.1
 
 pub child_small : (t s : WideTree) (path : List ℕ) (last : List ℕ × ℕ) → IsWithinLimits t → subtree t path ≡ Some s
     → parent_of path ≡ Some last → last.1 ≤ 65535
 child_small t s path last w found e =
-    last_small last.0 last.1 (subst AreSmall (path_is path last e) (leads_small t path (ap is_some found) w))
+    last_small last.0 last.1 (subst AreChildNumbers (path_is path last e) (leads_small t path (ap is_some found) w))
 
 pub text_small : (t : WideTree) (path : List ℕ) (last : List ℕ × ℕ) → IsWithinLimits t → IsSome (text_at t path)
     → parent_of path ≡ Some last → last.1 ≤ 65535

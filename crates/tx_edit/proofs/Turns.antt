@@ -14,10 +14,10 @@ use Rattle.tx_mod.specs.declared.faults.ModFault.{ModFault}
 use Rattle.tx_mod.specs.declared.faults.ModFault.TheVariants.{TooLong, TooWide, TooDeep, TooBig}
 use Rattle.tx_mod.specs.declared.mods.Mod.{Mod}
 use Rattle.tx_mod.specs.Changes.{Outcome, asking, changed_at, limited, changed}
-use Rattle.tx_mod.specs.Followed.{tree_of}
-use Rattle.tx_mod.specs.InTurn.{then_changed, changed_in_turn, moved_in_turn, AreSound}
+use Rattle.tx_mod.specs.Followed.{outcome_tree}
+use Rattle.tx_mod.specs.InTurn.{then_changed, changed_in_turn, moved_in_turn, AreSoundMods}
 use Rattle.tx_mod.specs.Mods.{path_of, replaced}
-use Rattle.tx_mod.specs.Moves.{rest_behind, below, moved_at, moved_place}
+use Rattle.tx_mod.specs.Moves.{rest_behind, place_from_above, moved_at, moved_place}
 use Rattle.tx_mod.proofs.Back.{same_tree, made_of}
 use Rattle.tx_mod.proofs.Formed.{stays_well_formed}
 use Rattle.tx_mod.proofs.InTurn.{begun}
@@ -70,7 +70,7 @@ one_applies m ms t s v found made next =
 -- ---- where a place stands
 
 pub moved_once : (m : Mod) (t : WideTree) (at : Place) → moved_in_turn (m ∷ []) t at ≡ moved_place m t at
-moved_once m t at = from (tree_of (changed m t))
+moved_once m t at = from (outcome_tree (changed m t))
   where
     from : (o : Option WideTree)
         → option_map_or (λ u. moved_in_turn [] u (moved_place m t at)) o (moved_place m t at) ≡ moved_place m t at
@@ -80,7 +80,7 @@ moved_once m t at = from (tree_of (changed m t))
 pub moved_first : (m : Mod) (ms : List Mod) (t w : WideTree) (at : Place) → changed m t ≡ Ok w
     → moved_in_turn (m ∷ ms) t at ≡ moved_in_turn ms w (moved_place m t at)
 moved_first m ms t w at e =
-    ap (λ o. option_map_or (λ u. moved_in_turn ms u (moved_place m t at)) (tree_of o) (moved_place m t at)) e
+    ap (λ o. option_map_or (λ u. moved_in_turn ms u (moved_place m t at)) (outcome_tree o) (moved_place m t at)) e
 
 rest_of : (p r : List ℕ) → rest_behind p (p ++ r) ≡ Some r
 rest_of [] r = refl
@@ -88,16 +88,17 @@ rest_of (i ∷ p) r = ap (λ b. if b then rest_behind p (p ++ r) else None) (eq-
 
 -- a place below the path of the modification moves by the table
 pub moved_below : (m : Mod) (t s : WideTree) (at : Place) (r : List ℕ) → subtree t (path_of m) ≡ Some s
-    → at.path ≡ path_of m ++ r → moved_place m t at ≡ below (path_of m) (moved_at m s r at.offset)
+    → at.path ≡ path_of m ++ r → moved_place m t at ≡ place_from_above (path_of m) (moved_at m s r at.offset)
 moved_below m t s at r found e =
     ap (λ o. option_map_or
-    (λ x. option_map_or (λ q. below (path_of m) (moved_at m x q at.offset)) (rest_behind (path_of m) at.path) at)
+    (λ x. option_map_or (λ q. place_from_above (path_of m) (moved_at m x q at.offset))
+    (rest_behind (path_of m) at.path) at)
     o at) found
-    ∙ ap (λ o. option_map_or (λ q. below (path_of m) (moved_at m s q at.offset)) o at)
+    ∙ ap (λ o. option_map_or (λ q. place_from_above (path_of m) (moved_at m s q at.offset)) o at)
     (ap (rest_behind (path_of m)) e ∙ rest_of (path_of m) r)
 
 -- a moved place is a place of the changed tree
-pub stays_in_turn : (ms : List Mod) (t u : WideTree) (at : Place) → AreSound ms → IsWellFormed t
+pub stays_in_turn : (ms : List Mod) (t u : WideTree) (at : Place) → AreSoundMods ms → IsWellFormed t
     → changed_in_turn ms t ≡ Ok u → IsPlace t at.path at.offset
     → IsPlace u (moved_in_turn ms t at).path (moved_in_turn ms t at).offset
 stays_in_turn [] t u at sound formed e h = subst (λ z. IsPlace z at.path at.offset) (same_tree t u e) h

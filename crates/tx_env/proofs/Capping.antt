@@ -5,7 +5,7 @@ use Rattle.std.specs.Prelude.{nat_le}
 use Rattle.std.proofs.lemmas.Bool.{cases_lt}
 use Rattle.std.proofs.lemmas.Grind.{common_steps}
 use Rattle.tx_env.specs.Pairs.{Pairs, put}
-use Rattle.tx_env.specs.Changes.{Change, undone, capped, AreFrom}
+use Rattle.tx_env.specs.Changes.{Change, undone, capped_changes, AreFrom}
 use Rattle.tx_env.specs.ScopedView.{changes_of}
 use Rattle.tx_env.specs.declared.scoped.Past.{Past}
 
@@ -20,14 +20,16 @@ le_min : (k a n : ℕ) → k ≤ n → nat_le k (min a n) ≡ nat_le k a
 le_min k a n h = le_min_by k a n h (cases_lt a n)
 
 -- the maps of scopes up to that one are the same
-pub capped_undone : (k n : ℕ) (ps : Pairs) (cs : List Change) → k ≤ n → undone k ps (capped n cs) ≡ undone k ps cs
+pub capped_undone : (k n : ℕ) (ps : Pairs) (cs : List Change) → k ≤ n
+    → undone k ps (capped_changes n cs) ≡ undone k ps cs
 capped_undone k n ps [] h = refl
 capped_undone k n ps (c ∷ cs) h =
-    ap (λ b. cond b (put c.1.0 c.1.1 (undone k ps (capped n cs))) (undone k ps (capped n cs))) (le_min k c.0 n h)
+    ap (λ b. cond b (put c.1.0 c.1.1 (undone k ps (capped_changes n cs))) (undone k ps (capped_changes n cs)))
+    (le_min k c.0 n h)
     ∙ ap (λ m. cond (nat_le k c.0) (put c.1.0 c.1.1 m) m) (capped_undone k n ps cs h)
 
 pub capped_from : (m n s : ℕ) (ps : Pairs) (cs : List Change) → AreFrom m n ps cs
-    → AreFrom (min m s) (s + 1) ps (capped s cs)
+    → AreFrom (min m s) (s + 1) ps (capped_changes s cs)
 capped_from m n s ps [] h = tt
 capped_from m n s ps (c ∷ cs) h = (omega (arith, h.0), omega arith, h.2, capped_from c.0 n s ps cs h.3)
 
@@ -61,8 +63,8 @@ pub capped_next : (n i : ℕ) (ps qs us : List Past) (p x : Past) → i < length
 capped_next n i ps qs us p x lt is s m b e h = rw (e, add-one) (next n i ps qs p x lt is s m b h)
 
 pub capped_all : (n i : ℕ) (ps qs : List Past) → length ps ≤ i → IsCappedTo n i ps qs
-    → changes_of ps ≡ capped n (changes_of qs)
-capped_all n zero [] qs le h = subst (λ zs. [] ≡ capped n (changes_of zs)) h refl
+    → changes_of ps ≡ capped_changes n (changes_of qs)
+capped_all n zero [] qs le h = subst (λ zs. [] ≡ capped_changes n (changes_of zs)) h refl
 capped_all n zero (p ∷ ps) qs le h = absurd (omega arith)
 capped_all n (suc i) [] [] le h = refl
 capped_all n (suc i) [] (q ∷ qs) le h = absurd h

@@ -4,7 +4,7 @@ use Rattle.std.specs.Prelude.{Option, Some, IsSome, if◌then◌else◌}
 use Rattle.std.specs.Str.{bytes_eq}
 use Rattle.std.specs.Cmp.Lexicographic.{bytes_decides}
 use Rattle.tx_tree.specs.WideTree.{WideTree}
-use Rattle.tx_env.specs.Pairs.{Name, Pairs, joined, listed, find, put}
+use Rattle.tx_env.specs.Pairs.{Name, Pairs, flattened, listed, find, put}
 use Rattle.tx_env.specs.Changes.{AreSame}
 
 -- what is listed at y behind the pair of z, where x was put
@@ -45,13 +45,13 @@ listed_put x y t ((z, u) ∷ ps) =
     ∙ listed_in x y z t u ps (bytes_eq x z) (bytes_eq y z) (bytes_eq y x) refl refl refl (listed_put x y t ps)
 
 pub joined_cond : (b : Bool) (t : Option WideTree) (o : Option (Option WideTree))
-    → joined (cond b (Some t) o) ≡ cond b t (joined o)
+    → flattened (cond b (Some t) o) ≡ cond b t (flattened o)
 joined_cond true t o = refl
 joined_cond false t o = refl
 
 pub find_put : (x y : Name) (t : Option WideTree) (ps : Pairs)
     → find y (put x t ps) ≡ (if bytes_eq y x then t else find y ps)
-find_put x y t ps = ap joined (listed_put x y t ps) ∙ joined_cond (bytes_eq y x) t (listed y ps)
+find_put x y t ps = ap flattened (listed_put x y t ps) ∙ joined_cond (bytes_eq y x) t (listed y ps)
 
 kept_if : (b : Bool) (t : Option WideTree) (o : Option (Option WideTree)) → IsSome o → IsSome (cond b (Some t) o)
 kept_if true t o h = refl

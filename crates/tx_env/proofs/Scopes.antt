@@ -5,7 +5,7 @@ use Rattle.std.specs.Prelude.{Option}
 use Rattle.tx_tree.specs.WideTree.{WideTree}
 use Rattle.tx_env.specs.Pairs.{Pairs, put, find}
 use Rattle.tx_env.specs.Environments.{NameMap}
-use Rattle.tx_env.specs.Changes.{Change, undone, map_of, maps_below, capped, AreSame, AreFrom}
+use Rattle.tx_env.specs.Changes.{Change, undone, map_of, maps_below, capped_changes, AreSame, AreFrom}
 use Rattle.tx_env.specs.ScopedView.{changes_of, EndsOutside}
 use Rattle.tx_env.specs.declared.scoped.Past.{Past}
 use Rattle.tx_env.proofs.Maps.{same_maps, map_put}
@@ -70,38 +70,41 @@ pub left_below : (n : ℕ) (map : Pairs) (ps : List Past) (all : List NameMap) �
 left_below n map ps all h ends e = sym e ∙ opened n map (changes_of ps) (from_left n map ps h ends)
 
 -- a scope is closed, and its changes are kept
-pub kept_below : (n s : ℕ) (map : Pairs) (cs ds : List Change) → n ≡ s + 1 → ds ≡ capped s cs
+pub kept_below : (n s : ℕ) (map : Pairs) (cs ds : List Change) → n ≡ s + 1 → ds ≡ capped_changes s cs
     → maps_below (n + 1) map cs ≡ maps_below n map ds ++ map_of (undone n map cs) ∷ []
 kept_below n s map cs ds e f =
     below_one n map cs ∙ ap (λ ms. ms ++ map_of (undone n map cs) ∷ [])
     (below_same n map map cs ds
     (λ k lt y. ap (find y) (sym (capped_undone k s map cs (omega (arith, lt, e))) ∙ ap (undone k map) (sym f))))
 
-pub kept_from : (n s : ℕ) (map : Pairs) (cs ds : List Change) → AreFrom 0 (n + 1) map cs → n ≡ s + 1 → ds ≡ capped s cs
+pub kept_from : (n s : ℕ) (map : Pairs) (cs ds : List Change) → AreFrom 0 (n + 1) map cs → n ≡ s + 1
+    → ds ≡ capped_changes s cs
     → AreFrom 0 n map ds
 kept_from n s map cs ds h e f =
     let least : min 0 s ≡ 0 = omega arith in
     let capped_all = capped_from 0 (n + 1) s map cs h in
-    let from = subst (λ k. AreFrom k (s + 1) map (capped s cs)) least capped_all in
-    subst (AreFrom 0 n map) (sym f) (subst (λ m. AreFrom 0 m map (capped s cs)) (sym e) from)
+    let from = subst (λ k. AreFrom k (s + 1) map (capped_changes s cs)) least capped_all in
+    subst (AreFrom 0 n map) (sym f) (subst (λ m. AreFrom 0 m map (capped_changes s cs)) (sym e) from)
 
-pub closed_below : (n : ℕ) (map : Pairs) (cs ds : List Change) → (n ≡ 0 → ds ≡ []) → (0 < n → ds ≡ capped (n - 1) cs)
+pub closed_below : (n : ℕ) (map : Pairs) (cs ds : List Change) → (n ≡ 0 → ds ≡ [])
+    → (0 < n → ds ≡ capped_changes (n - 1) cs)
     → maps_below (n + 1) map cs ≡ maps_below n map ds ++ map_of (undone n map cs) ∷ []
 closed_below zero map cs ds none some = below_one zero map cs
 closed_below (suc n) map cs ds none some =
     let less : suc n - 1 ≡ n = omega arith in
-    kept_below (suc n) n map cs ds (omega arith) (some (omega arith) ∙ ap (λ s. capped s cs) less)
+    kept_below (suc n) n map cs ds (omega arith) (some (omega arith) ∙ ap (λ s. capped_changes s cs) less)
 
 pub closed_scopes : (n : ℕ) (map : Pairs) (cs ds : List Change) (all : List NameMap) → all ≡ maps_below (n + 1) map cs
-    → (n ≡ 0 → ds ≡ []) → (0 < n → ds ≡ capped (n - 1) cs) → (x : NameMap) × (all ≡ maps_below n map ds ++ x ∷ [])
+    → (n ≡ 0 → ds ≡ []) → (0 < n → ds ≡ capped_changes (n - 1) cs)
+    → (x : NameMap) × (all ≡ maps_below n map ds ++ x ∷ [])
 closed_scopes n map cs ds all e none some = (map_of (undone n map cs), e ∙ closed_below n map cs ds none some)
 
 pub closed_from : (n : ℕ) (map : Pairs) (cs ds : List Change) → AreFrom 0 (n + 1) map cs → (n ≡ 0 → ds ≡ [])
-    → (0 < n → ds ≡ capped (n - 1) cs) → AreFrom 0 n map ds
+    → (0 < n → ds ≡ capped_changes (n - 1) cs) → AreFrom 0 n map ds
 closed_from zero map cs ds h none some = rw (none refl) tt
 closed_from (suc n) map cs ds h none some =
     let less : suc n - 1 ≡ n = omega arith in
-    kept_from (suc n) n map cs ds h (omega arith) (some (omega arith) ∙ ap (λ s. capped s cs) less)
+    kept_from (suc n) n map cs ds h (omega arith) (some (omega arith) ∙ ap (λ s. capped_changes s cs) less)
 
 pub ruleset enter_rules = (count_below, opened, opened_from)
 

@@ -40,6 +40,6 @@ abbrev pub AreSame : Pairs → Pairs → Type 0
 AreSame ps qs = (y : Name) → find y ps ≡ find y qs
 
 -- the changes as made in no scope behind number n
-abbrev pub capped : ℕ → List Change → List Change
-capped n [] = []
-capped n (c ∷ cs) = (min c.0 n, c.1) ∷ capped n cs
+abbrev pub capped_changes : ℕ → List Change → List Change
+capped_changes n [] = []
+capped_changes n (c ∷ cs) = (min c.0 n, c.1) ∷ capped_changes n cs

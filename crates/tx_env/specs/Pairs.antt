@@ -12,9 +12,9 @@ Name = List ℕ
 abbrev pub Pairs : Type 0
 Pairs = List (Name × Option WideTree)
 
-abbrev pub joined : Option (Option WideTree) → Option WideTree
-joined None = None
-joined (Some t) = t
+abbrev pub flattened : Option (Option WideTree) → Option WideTree
+flattened None = None
+flattened (Some t) = t
 
 -- what stands in the list at the name, if it is listed
 abbrev pub listed : Name → Pairs → Option (Option WideTree)
@@ -22,7 +22,7 @@ listed x ps = lookup (bytes_eq x) ps
 
 -- what the name has
 abbrev pub find : Name → Pairs → Option WideTree
-find x ps = joined (listed x ps)
+find x ps = flattened (listed x ps)
 
 -- with this at the name: in place of what stands there, or at the end
 abbrev pub put : Name → Option WideTree → Pairs → Pairs

@@ -2,7 +2,7 @@
 ghost use Rattle.std.specs.Prelude.{◌≡◌, ℕ, ◌+◌, ◌-◌, ◌<◌, ◌^◌, ◌++◌, ◌∷◌, [], length};
 ghost use Rattle.std.specs.Prelude.{MatchOption, IfOk, OnOk, OnErr, None, Some};
 ghost use Rattle.std.specs.FinMap as maps;
-ghost use Rattle.tx_env.specs.Changes.{capped, with_pair};
+ghost use Rattle.tx_env.specs.Changes.{capped_changes, with_pair};
 ghost use Rattle.tx_env.specs.Environments.{NameMap};
 ghost use Rattle.tx_env.specs.Pairs.{find};
 ghost use Rattle.tx_env.specs.ScopedView.{changes_of, EndsOutside};
@@ -157,7 +157,7 @@ fn pop_in(pasts: &mut Vec<Past>, scope: u64) -> Option<Past>
 // nothing goes back any more.
 fn close_last(pasts: &mut Vec<Past>, number: u64)
     ensures outermost { number ≡ 0 → changes_of pasts.new.items ≡ [] }
-    ensures inner { 0 < number → changes_of pasts.new.items ≡ capped (number - 1) (changes_of pasts.old.items) }
+    ensures inner { 0 < number → changes_of pasts.new.items ≡ capped_changes (number - 1) (changes_of pasts.old.items) }
 {
     if number == 0 {
         pasts.clear();
@@ -169,7 +169,7 @@ fn close_last(pasts: &mut Vec<Past>, number: u64)
 // The changes in scopes behind this number count as made in the scope of this number.
 #[tactic(auto, using(crate::proofs::Capping::capped_rules, std::proofs::lemmas::Grind::common_steps))]
 fn cap(pasts: &mut Vec<Past>, scope: u64)
-    ensures { changes_of pasts.new.items ≡ capped scope (changes_of pasts.old.items) }
+    ensures { changes_of pasts.new.items ≡ capped_changes scope (changes_of pasts.old.items) }
 {
     for past in pasts.iter_mut() {
         past.scope = past.scope.min(scope);

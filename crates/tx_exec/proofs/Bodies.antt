@@ -8,7 +8,7 @@ use Rattle.std.specs.Str.{bytes_eq}
 use Rattle.tx_tree.specs.WideTree.{WideTree, leaf, node, text_of}
 use Rattle.tx_tree.proofs.Walks.{drop_item}
 use Rattle.tx_origin.specs.TaggedTrees.{TaggedTree}
-use Rattle.tx_exec_form.specs.Frames.{Found, Unbound, Missing, Here, first_of, others_of, argument}
+use Rattle.tx_exec_form.specs.Frames.{Found, Unbound, Missing, Here, first_argument, others_of, argument}
 use Rattle.tx_exec.specs.FrameView.{word_of, params_of}
 use Rattle.tx_exec_form.specs.Rows.{and_name, macro_in}
 use Rattle.tx_origin.proofs.Kids.{kid_rules}
@@ -72,12 +72,12 @@ two_left (u ∷ v ∷ ts) zero t lt e = let same : u ≡ t = cc in ap (λ w. wor
 two_left (u ∷ v ∷ ts) (suc i) t lt e = two_left (v ∷ ts) i t (omega (arith, lt)) e
 
 argument_test : (x p : List ℕ) (ps : List (List ℕ)) (ts : List TaggedTree) (b : Bool) → bytes_eq p x ≡ b
-    → argument x (p ∷ ps) ts ≡ (if b then first_of ts else argument x ps (others_of ts))
-argument_test x p ps ts b e = ap (λ c. if c then first_of ts else argument x ps (others_of ts)) e
+    → argument x (p ∷ ps) ts ≡ (if b then first_argument ts else argument x ps (others_of ts))
+argument_test x p ps ts b e = ap (λ c. if c then first_argument ts else argument x ps (others_of ts)) e
 
 pub argument_here : (x : List ℕ) (kids : List WideTree) (args : List TaggedTree) (i : ℕ) (t : WideTree) (r : Found)
     → i + 1 < length kids → slice_get kids i ≡ Some t → bytes_eq (word_of t) x ≡ true
-    → argument x (params_of (drop i kids)) (drop i args) ≡ r → first_of (drop i args) ≡ r
+    → argument x (params_of (drop i kids)) (drop i args) ≡ r → first_argument (drop i args) ≡ r
 argument_here x kids args i t r lt e h run =
     sym (ap (λ ps. argument x ps (drop i args)) (two_left kids i t lt e)
     ∙ argument_test x (word_of t) _ (drop i args) true h) ∙ run
@@ -110,10 +110,10 @@ argument_none x (t ∷ ts) args e = absurd (omega (arith, e))
 pub ruleset argument_rules = (argument_next, argument_none, kid_rules, common_steps)
 
 pub first_some : (ts : List TaggedTree) (i : ℕ) (t : TaggedTree) → slice_get ts i ≡ Some t
-    → first_of (drop i ts) ≡ Here t
-first_some ts i t e = ap first_of (drop_item ts i t e)
+    → first_argument (drop i ts) ≡ Here t
+first_some ts i t e = ap first_argument (drop_item ts i t e)
 
-pub first_none : (ts : List TaggedTree) (i : ℕ) → slice_get ts i ≡ None → first_of (drop i ts) ≡ Missing
+pub first_none : (ts : List TaggedTree) (i : ℕ) → slice_get ts i ≡ None → first_argument (drop i ts) ≡ Missing
 first_none [] zero e = refl
 first_none [] (suc i) e = refl
 first_none (t ∷ ts) zero e = absurd cc

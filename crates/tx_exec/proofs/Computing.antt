@@ -7,7 +7,7 @@ use Rattle.std.proofs.lemmas.Bool.{cases_lt}
 use Rattle.tx_tree.specs.WideTree.{WideTree, leaf, node, forest, cons, nodes_of, total_nodes, total_size, size_of}
 use Rattle.tx_tree.specs.WideTree.{depth_of}
 use Rattle.tx_prim.specs.declared.names.Prim.{Prim}
-use Rattle.tx_prim.specs.Table.{value_of as primitive_value}
+use Rattle.tx_prim.specs.Table.{primitive_value}
 use Rattle.tx_origin.specs.Values.{WideValue, vals, plain, plains, whole}
 use Rattle.tx_origin.proofs.Wholes.{plain_whole}
 use Rattle.tx_origin.proofs.Parts.{nodes_le_size}

@@ -11,7 +11,8 @@ use Rattle.tx_origin.specs.TaggedTrees.{TaggedTree}
 use Rattle.tx_exec_form.specs.Frames.{Frame}
 use Rattle.tx_exec_form.specs.Words.{is_label}
 use Rattle.tx_exec_form.specs.Numbers.{from_number, to_number, numbers_between}
-use Rattle.tx_exec_form.specs.Rows.{Eval, wrong, map_args, map_named, map_of, map_numbered, mapped, evaluated_made}
+use Rattle.tx_exec_form.specs.Rows.{Eval, wrong, map_args, map_named, map_args_run, map_numbered, mapped}
+use Rattle.tx_exec_form.specs.Rows.{evaluated_made}
 use Rattle.tx_exec_form.specs.Rows.{item_call, call_over}
 use Rattle.tx_exec.specs.CallRuns.{label_in}
 
@@ -54,7 +55,7 @@ module _ (k : ℕ) (below : Eval) (f : Frame) (label : List ℕ) where
   pub no_foo : (ns : List TaggedTree) (foo root name : WideTree) → label_in foo ≡ None
       → map_named k below f label ns foo root name ≡ wrong k (codes "bad") label
   no_foo ns (leaf a) (leaf b) (leaf x) h =
-      if_first (is_label a) (is_label b) (map_of k below f label a b x ns) (wrong k (codes "bad") label)
+      if_first (is_label a) (is_label b) (map_args_run k below f label a b x ns) (wrong k (codes "bad") label)
       (label_none (is_label a) a h)
   no_foo ns (leaf a) (leaf b) (node l ts) h = refl
   no_foo ns (leaf a) (node l ts) name h = refl
@@ -63,7 +64,7 @@ module _ (k : ℕ) (below : Eval) (f : Frame) (label : List ℕ) where
   pub no_root : (ns : List TaggedTree) (foo root name : WideTree) → label_in root ≡ None
       → map_named k below f label ns foo root name ≡ wrong k (codes "bad") label
   no_root ns (leaf a) (leaf b) (leaf x) h =
-      if_second (is_label a) (is_label b) (map_of k below f label a b x ns) (wrong k (codes "bad") label)
+      if_second (is_label a) (is_label b) (map_args_run k below f label a b x ns) (wrong k (codes "bad") label)
       (label_none (is_label b) b h)
   no_root ns (leaf a) (leaf b) (node l ts) h = refl
   no_root ns (leaf a) (node l ts) name h = refl
@@ -71,14 +72,14 @@ module _ (k : ℕ) (below : Eval) (f : Frame) (label : List ℕ) where
 
   pub all_words : (ns : List TaggedTree) (foo root name : WideTree) (a b x : List ℕ) → label_in foo ≡ Some a
       → label_in root ≡ Some b → text_of name ≡ Some x
-      → map_named k below f label ns foo root name ≡ map_of k below f label a b x ns
+      → map_named k below f label ns foo root name ≡ map_args_run k below f label a b x ns
   all_words ns (leaf c) (leaf d) (leaf y) a b x p q h =
-      let both = if_both (is_label c) (is_label d) (map_of k below f label c d y ns) (wrong k (codes "bad") label)
+      let both = if_both (is_label c) (is_label d) (map_args_run k below f label c d y ns) (wrong k (codes "bad") label)
       (label_some (is_label c) c a p) (label_some (is_label d) d b q) in
       let same : y ≡ x = cc in
-      both ∙ ap (λ z. map_of k below f label z d y ns) (label_same (is_label c) c a p)
-      ∙ ap (λ z. map_of k below f label a z y ns) (label_same (is_label d) d b q)
-      ∙ ap (λ z. map_of k below f label a b z ns) same
+      both ∙ ap (λ z. map_args_run k below f label z d y ns) (label_same (is_label c) c a p)
+      ∙ ap (λ z. map_args_run k below f label a z y ns) (label_same (is_label d) d b q)
+      ∙ ap (λ z. map_args_run k below f label a b z ns) same
   all_words ns (leaf c) (leaf d) (node l ts) a b x p q h = absurd cc
   all_words ns (leaf c) (node l ts) name a b x p q h = absurd cc
   all_words ns (node l ts) root name a b x p q h = absurd cc

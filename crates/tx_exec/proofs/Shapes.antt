@@ -6,7 +6,8 @@ use Rattle.tx_origin.specs.Values.{whole}
 use Rattle.tx_origin.specs.TaggedTrees.{TaggedTree}
 use Rattle.tx_exec_form.specs.Runs.{◌>>=◌, ◌>>◌, need, pay, give}
 use Rattle.tx_exec_form.specs.Frames.{Frame}
-use Rattle.tx_exec_form.specs.Rows.{Eval, EvalAll, wrong, assign, taken, quote, macro, only, only_child, arg, arg_named}
+use Rattle.tx_exec_form.specs.Rows.{Eval, EvalAll, wrong, assign, taken, quote, macro, unary_row, only_child, arg}
+use Rattle.tx_exec_form.specs.Rows.{arg_named}
 use Rattle.tx_exec_form.specs.Rows.{arg_of}
 use Rattle.tx_exec_form.specs.declared.rows.Unary.{Unary}
 use Rattle.tx_exec_form.specs.declared.rows.Taking.{Taking}
@@ -50,13 +51,13 @@ pub ruleset macro_rules = (macro_none, macro_some, plain_whole, common_steps)
 
 pub only_one : (unary : Unary) (k : ℕ) (below : Eval) (f : Frame) (label : List ℕ) (ts : List TaggedTree)
     (x : TaggedTree) → length ts ≡ 1 → slice_get ts 0 ≡ Some x
-    → only unary k below f label ts ≡ only_child unary k below f label x
+    → unary_row unary k below f label ts ≡ only_child unary k below f label x
 only_one unary k below f label [] x n a = absurd (omega (arith, n))
 only_one unary k below f label (y ∷ []) x n a = let first : y ≡ x = cc in ap (only_child unary k below f label) first
 only_one unary k below f label (y ∷ z ∷ ts) x n a = absurd (omega (arith, n))
 
 pub only_not : (unary : Unary) (k : ℕ) (below : Eval) (f : Frame) (label : List ℕ) (ts : List TaggedTree)
-    → (length ts ≡ 1 → ⊥) → only unary k below f label ts ≡ wrong k (codes "bad") label
+    → (length ts ≡ 1 → ⊥) → unary_row unary k below f label ts ≡ wrong k (codes "bad") label
 only_not unary k below f label [] n = refl
 only_not unary k below f label (y ∷ []) n = absurd (n refl)
 only_not unary k below f label (y ∷ z ∷ ts) n = refl

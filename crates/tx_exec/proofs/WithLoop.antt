@@ -16,9 +16,9 @@ use Rattle.tx_exec_form.specs.Rows.{assign, assigned, with_body, with_parts, wit
 use Rattle.tx_exec.specs.declared.stop.Stop.{Stop}
 use Rattle.tx_exec.specs.Gives.{Gives, Fails}
 use Rattle.tx_exec.specs.Settings.{sets_of, nodes_in}
-use Rattle.tx_exec.specs.Told.{IsCounted}
+use Rattle.tx_exec.specs.Told.{AreSettingsCounted}
 use Rattle.tx_exec.specs.PartRuns.{kid_run, pair_named, pair_run, paired, stored_pair, assign_run}
-use Rattle.tx_exec.specs.PartRuns.{size_in_pair, IsShallowPair, held_run, ended, with_run}
+use Rattle.tx_exec.specs.PartRuns.{size_in_pair, IsShallowPair, held_run, node_ended, with_run}
 use Rattle.tx_exec.specs.declared.withs.Setting.{Setting}
 use Rattle.tx_exec.specs.declared.withs.Pair.{Pair}
 use Rattle.tx_exec.proofs.Each.{stop_bind, fails_as}
@@ -147,23 +147,24 @@ module _ (label : List ℕ) (at : Option (List ℕ)) (vs : List WideValue) (e : 
   where
     by_closed : (v : WideValue) (r : Ran (Unit {0}))
         → on_done {A = Unit {0}} e (λ _. give (made label (vals (vs ++ v ∷ [])) at)) r
-        ≡ on_done e (ended label at vs) (on_done {A = Unit {0}} e (λ _. give v) r)
+        ≡ on_done e (node_ended label at vs) (on_done {A = Unit {0}} e (λ _. give v) r)
     by_closed v Over = refl
     by_closed v (Done u s) = refl
 
     by_body : (old : Sets) (r : Ran WideValue)
-        → on_done e (closed label at vs old) r ≡ on_done e (ended label at vs) (on_done e (set_back old) r)
+        → on_done e (closed label at vs old) r ≡ on_done e (node_ended label at vs) (on_done e (set_back old) r)
     by_body old Over = refl
     by_body old (Done v s) = by_closed v (set_all old e s)
 
     by_set : (old : Sets) (r : Ran (Unit {0})) → on_done {A = Unit {0}} e (λ _. m >>= closed label at vs old) r
-        ≡ on_done e (ended label at vs) (on_done {A = Unit {0}} e (λ _. m >>= set_back old) r)
+        ≡ on_done e (node_ended label at vs) (on_done {A = Unit {0}} e (λ _. m >>= set_back old) r)
     by_set old Over = refl
     by_set old (Done u s) = by_body old (m e s)
 
     by_paid : (r : Ran (Unit {0}))
         → on_done {A = Unit {0}} e (λ _. kept ps >>= λ o. set_all ps >> (m >>= closed label at vs o)) r
-        ≡ on_done {A = Unit {0}} e (λ _. (kept ps >>= λ o. set_all ps >> (m >>= set_back o)) >>= ended label at vs) r
+        ≡ on_done {A = Unit {0}} e (λ _. (kept ps >>= λ o. set_all ps >> (m >>= set_back o))
+        >>= node_ended label at vs) r
     unfolding kept
     by_paid Over = refl
     by_paid (Done u s) = by_set (kept_of ps s.own) (set_all ps e s)
@@ -192,17 +193,17 @@ pub with_unpaid : (below : Eval) (f : Frame) (label : List ℕ) (at : Option (Li
     → Fails x (with_run below f label at vs ps ts i e s)
 unfolding with_run
 with_unpaid below f label at vs ps ts i e s n x hn h =
-    let rest : Unit {0} → Run WideValue = λ _. held_run below f ps ts i >>= ended label at vs in
+    let rest : Unit {0} → Run WideValue = λ _. held_run below f ps ts i >>= node_ended label at vs in
     fails_as x _ _ (ap (λ m. on_done e rest (pay m e s)) (sym hn)) (stop_bind x e rest (pay n e s) h)
 
 pub with_begun : (below : Eval) (f : Frame) (label : List ℕ) (at : Option (List ℕ)) (vs : List WideValue) (ps qs : Sets)
     (ts : List TaggedTree) (i : ℕ) (e : Before) (s s1 : State) (n : ℕ) → n ≡ sizes ps → qs ≡ ps → pay n e s ≡ Done tt s1
-    → with_run below f label at vs ps ts i e s ≡ on_done e (ended label at vs) (held_run below f qs ts i e s1)
+    → with_run below f label at vs ps ts i e s ≡ on_done e (node_ended label at vs) (held_run below f qs ts i e s1)
 unfolding with_run
 with_begun below f label at vs ps qs ts i e s s1 n hn hq hp =
     let paid : pay (sizes ps) e s ≡ Done tt s1 = ap (λ m. pay m e s) (sym hn) ∙ hp in
-    ap (on_done {A = Unit {0}} e (λ _. held_run below f ps ts i >>= ended label at vs)) paid
-    ∙ ap (λ xs. on_done e (ended label at vs) (held_run below f xs ts i e s1)) (sym hq)
+    ap (on_done {A = Unit {0}} e (λ _. held_run below f ps ts i >>= node_ended label at vs)) paid
+    ∙ ap (λ xs. on_done e (node_ended label at vs) (held_run below f xs ts i e s1)) (sym hq)
 
 pub held_begun : (below : Eval) (f : Frame) (ps old : Sets) (ts : List TaggedTree) (i : ℕ) (e : Before) (s s1 : State)
     → old ≡ kept_of ps s.own → set_all ps e s ≡ Done tt s1
@@ -224,11 +225,11 @@ sizes_more [] x v = omega arith
 sizes_more (p ∷ ps) x v = omega (arith, sizes_more ps x v)
 
 pub told_next : (vs us : List WideValue) (ss qs : List Setting) (p : Pair)
-    (sum count sum' count' left left' start levels i : ℕ) → IsCounted vs ss sum count left start levels i
+    (sum count sum' count' left left' start levels i : ℕ) → AreSettingsCounted vs ss sum count left start levels i
     → us ≡ vs ++ p.name ∷ p.value ∷ [] → sets_of qs ≡ sets_of ss ++ (p.words, Some (plain p.value)) ∷ []
     → nodes_in qs ≡ nodes_in ss + nodes_of (plain p.value) → sum' ≡ sum + size_of (plain p.value)
     → count' ≡ count + nodes_of (plain p.value) → size_in_pair (Some p) + left' ≤ left → IsShallowPair levels (Some p)
-    → IsCounted us qs sum' count' left' start levels (i + 1)
+    → AreSettingsCounted us qs sum' count' left' start levels (i + 1)
 told_next vs us ss qs p sum count sum' count' left left' start levels i h a b c et en g d =
     let two : us ≡ (vs ++ p.name ∷ []) ++ p.value ∷ [] = a ∙ sym (two_more vs _ _ p.name p.value refl refl) in
     record {
@@ -242,7 +243,8 @@ told_next vs us ss qs p sum count sum' count' left left' start levels i h a b c 
     }
 
 pub told_within : (vs : List WideValue) (ss : List Setting) (sum count left start levels i : ℕ)
-    → IsCounted vs ss sum count left start levels i → start ≤ 1000000 → IsCounted vs ss sum count left 1000000 levels i
+    → AreSettingsCounted vs ss sum count left start levels i → start ≤ 1000000
+    → AreSettingsCounted vs ss sum count left 1000000 levels i
 told_within vs ss sum count left start levels i h g =
     record {
       total = h.total;

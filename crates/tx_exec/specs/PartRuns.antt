@@ -62,12 +62,12 @@ held_run below f ps kids i = do
   set_all old
   give v
 
-abbrev pub ended : List ℕ → Option (List ℕ) → List WideValue → WideValue → Run WideValue
-ended label at vs v = give (made label (vals (vs ++ v ∷ [])) at)
+abbrev pub node_ended : List ℕ → Option (List ℕ) → List WideValue → WideValue → Run WideValue
+node_ended label at vs v = give (made label (vals (vs ++ v ∷ [])) at)
 
 unfoldable pub with_run :
     Eval → Frame → List ℕ → Option (List ℕ) → List WideValue → Sets → List TaggedTree → ℕ → Run WideValue
 with_run below f label at vs ps kids i = do
   pay (sizes ps)
   v ← held_run below f ps kids i
-  ended label at vs v
+  node_ended label at vs v

@@ -8,7 +8,8 @@ use Rattle.tx_exec.specs.declared.withs.Setting.{Setting}
 use Rattle.tx_exec.specs.declared.withs.Parts.{Parts}
 
 -- of i pairs, where at the start there were this many steps, and now this many are left
-pub record IsCounted (values : List WideValue) (ss : List Setting) (sum count left start levels i : ℕ) : Type 0 where
+pub record AreSettingsCounted (values : List WideValue) (ss : List Setting)
+    (sum count left start levels i : ℕ) : Type 0 where
   pub total : sum ≡ sizes (sets_of ss)
   pub nodes : count ≡ nodes_in ss
   pub few : count ≤ sum
@@ -19,7 +20,7 @@ pub record IsCounted (values : List WideValue) (ss : List Setting) (sum count le
 
 abbrev pub IsTold : Parts → ℕ → ℕ → ℕ → ℕ → Type 0
 IsTold parts left start levels i =
-    IsCounted parts.values.items parts.settings.items parts.total parts.nodes left start levels i
+    AreSettingsCounted parts.values.items parts.settings.items parts.total parts.nodes left start levels i
 
 abbrev pub ToldIfNone : {X : Type 0} → Type 0 → Option X → Type 0
 ToldIfNone P None = P

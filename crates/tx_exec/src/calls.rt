@@ -12,7 +12,7 @@ ghost use Rattle.tx_exec_form.specs.Words.{is_label};
 ghost use Rattle.tx_exec_form.specs.Numbers.{numbers_of, from_number, to_number, numbers_between};
 ghost use Rattle.tx_exec_form.specs.Rows.{Eval, map_args, map_named, map_numbered, evaluated_made};
 ghost use Rattle.tx_exec_form.specs.Rows.{item_call, call_over};
-ghost use Rattle.tx_exec.specs.CallRuns.{label_in, map_by, between, map_made};
+ghost use Rattle.tx_exec.specs.CallRuns.{label_in, map_by, range_between, map_made};
 ghost use Rattle.tx_exec.specs.Gives.{LeadsOn, Counts};
 ghost use Rattle.tx_exec.specs.States.{state_of};
 
@@ -157,7 +157,8 @@ fn to_number(count: u32, numbers: &[i64]) -> i64
 // Between which numbers of parts the calls go: from the first, to before the second.
 #[tactic(auto, using(crate::proofs::MapCalls::between_rules, std::proofs::lemmas::Grind::common_steps))]
 fn numbers_between(count: u32, numbers: &[i64]) -> Option<(u32, u32)>
-    ensures between { between result ≡ numbers_between count (from_number numbers.now) (to_number count numbers.now) }
+    ensures between { range_between result
+        ≡ numbers_between count (from_number numbers.now) (to_number count numbers.now) }
     ensures order { IfSome result (λ p. p.0 ≤ p.1) }
 {
     let from = from_number(numbers);

@@ -4,7 +4,7 @@ ghost use Rattle.tx_tree.specs.WideTree.{size_of, depth_of, total_size, deepest,
 ghost use Rattle.tx_origin.specs.Values.{vals, plain, plains};
 ghost use Rattle.tx_origin.specs.TaggedTrees.{tagged_of, kids_of};
 ghost use Rattle.tx_exec_form.specs.Rows.{ex, ex_all, each, rebuilt, node_run, row, by_name, tag_run, called};
-ghost use Rattle.tx_exec_form.specs.Rows.{only, only_child, eval_of};
+ghost use Rattle.tx_exec_form.specs.Rows.{unary_row, only_child, eval_of};
 ghost use Rattle.tx_prim.specs.Names.{named};
 ghost use Rattle.tx_exec.specs.FrameView.{frame_in, frame_by};
 ghost use Rattle.tx_exec.specs.Gives.{Gives, Counts};
@@ -295,7 +295,7 @@ impl Progress {
         requires levels { levels ≤ 400 }
         requires left { self.old.left ≤ 1000000 }
         ensures gives { Gives (λ v. v) result
-            (only unary levels (ex (levels - 1)) (frame_in frame.entry) label.now (kids_of (tagged_of t.now))
+            (unary_row unary levels (ex (levels - 1)) (frame_in frame.entry) label.now (kids_of (tagged_of t.now))
             (before_of env.now) (state_of self.old))
             (state_of self.new) }
         ensures paid { Counts result (steps.old + self.old.left) (steps.new + self.new.left) }

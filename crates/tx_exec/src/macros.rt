@@ -3,7 +3,7 @@ ghost use Rattle.std.specs.Prelude.{◌≡◌, ◌+◌, ◌≤◌, Ok, Some, Non
 ghost use Rattle.tx_tree.specs.WideTree.{children_of};
 ghost use Rattle.tx_origin.specs.TaggedTrees.{tagged_of, kids_of};
 ghost use Rattle.std.specs.Prelude.{drop};
-ghost use Rattle.tx_exec_form.specs.Frames.{argument, argument_in, call_all, top, first_of};
+ghost use Rattle.tx_exec_form.specs.Frames.{argument, argument_in, call_all, top, first_argument};
 ghost use Rattle.tx_exec_form.specs.Rows.{is_macro, is_xmacro, macro_in, xmacro_in};
 ghost use Rattle.tx_exec.specs.FrameView.{params_of, found_of, word_of, first_word};
 ghost use Rattle.std.specs.Prelude.{◌<◌};
@@ -133,7 +133,7 @@ pub(crate) fn all_arguments(meaning: &Tree, tag: &Tagged, name: &[u8]) -> Result
 // The argument of this number.
 #[tactic(auto, using(crate::proofs::Bodies::first_rules, std::proofs::lemmas::Grind::common_steps))]
 fn argument_at(alloc: Global, tag: &Tagged, i: u32) -> Result<Argument, Memory>
-    ensures { IfOk result (λ r. found_of r ≡ first_of (drop i (kids_of (tagged_of tag.now)))) }
+    ensures { IfOk result (λ r. found_of r ≡ first_argument (drop i (kids_of (tagged_of tag.now)))) }
 {
     match tag.child(alloc, i)? {
         None => Ok(Argument::Missing),

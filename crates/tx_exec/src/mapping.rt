@@ -1,7 +1,7 @@
 // `map-args`: the calls on the parts of an argument, or on all arguments.
 ghost use Rattle.std.specs.Prelude.{◌≡◌, ◌+◌, ◌-◌, ◌<◌, ◌≤◌, Ok, Some, None, Option, drop, length};
 ghost use Rattle.tx_origin.specs.TaggedTrees.{tagged_of, kids_of};
-ghost use Rattle.tx_exec_form.specs.Rows.{ex, map_args, map_of, map_parts};
+ghost use Rattle.tx_exec_form.specs.Rows.{ex, map_args, map_args_run, map_parts};
 ghost use Rattle.tx_exec.specs.FrameView.{frame_in};
 ghost use Rattle.tx_exec.specs.Gives.{Gives, Counts};
 ghost use Rattle.tx_exec.specs.States.{state_of, before_of};
@@ -48,7 +48,7 @@ impl Progress {
 
     // The parts of what this name has, and the numbers behind it.
     #[cycle(ev)]
-    #[tactic(auto, unfolding(tx_exec_form::specs::Rows::map_of))]
+    #[tactic(auto, unfolding(tx_exec_form::specs::Rows::map_args_run))]
     fn map_of<L: Ledger>(
         &mut self,
         alloc: Global,
@@ -65,7 +65,7 @@ impl Progress {
         requires left { self.old.left ≤ 1000000 }
         requires three { 3 ≤ length (kids_of (tagged_of t.now)) }
         ensures gives { Gives (λ v. v) result
-            (map_of levels (ex (levels - 1)) (frame_in frame.entry) label.now words.now.foo words.now.root
+            (map_args_run levels (ex (levels - 1)) (frame_in frame.entry) label.now words.now.foo words.now.root
             words.now.name (drop 3 (kids_of (tagged_of t.now)))
             (before_of env.now) (state_of self.old))
             (state_of self.new) }

@@ -8,7 +8,7 @@ use Rattle.tx_tree.specs.WideTree.{WideTree, Forest, leaf, node, nil, cons, tree
 use Rattle.tx_tree.specs.WideTree.{total_nodes}
 use Rattle.tx_prim.specs.declared.names.Prim.{Prim}
 use Rattle.tx_prim.specs.Names.{named as primitive_named}
-use Rattle.tx_prim.specs.Table.{value_of as primitive_value}
+use Rattle.tx_prim.specs.Table.{primitive_value}
 use Rattle.tx_tree.specs.Paths.{subtree}
 use Rattle.tx_origin.specs.Values.{WideValue, text, made, none, vals, value_text, plain, plains}
 use Rattle.tx_origin.specs.Values.{child_at, whole, wholes}
@@ -17,18 +17,19 @@ use Rattle.tx_env.specs.Pairs.{Name}
 use Rattle.tx_exec_form.specs.Runs.{Before, State, Ran, Over, Done, Run, on_done, ◌>>=◌, give, pay, need, look}
 use Rattle.tx_exec_form.specs.Runs.{set}
 use Rattle.tx_exec_form.specs.Frames.{Frame, top, call, call_all, caller_of, Found, Unbound, Missing, Here, All}
-use Rattle.tx_exec_form.specs.Frames.{first_of, others_of, argument, argument_in}
+use Rattle.tx_exec_form.specs.Frames.{first_argument, others_of, argument, argument_in}
 use Rattle.tx_exec_form.specs.Numbers.{numbers_of, tree_at, kid_at, part_of, part_among, from_number, to_number}
 use Rattle.tx_exec_form.specs.Numbers.{numbers_between}
 use Rattle.tx_exec_form.specs.Words.{row_of, is_label}
 use Rattle.tx_exec_form.specs.declared.TheConstants.{MOST_TURNS}
 use Rattle.tx_exec_form.specs.Rows.{Eval, error_node, wrong, taken, each, rebuilt, named, stored, assigned, assign}
 use Rattle.tx_exec_form.specs.Rows.{Sets, set_all, sizes, kept, with_body, with_parts, is_odd, value_found, truth}
-use Rattle.tx_exec_form.specs.Rows.{value_of, provides_of, eval_of, behind, only_child, only, quote, used, part_used}
+use Rattle.tx_exec_form.specs.Rows.{value_of, provides_of, eval_of, unary_run, only_child, unary_row, quote, used}
+use Rattle.tx_exec_form.specs.Rows.{part_used}
 use Rattle.tx_exec_form.specs.Rows.{numbered, arg_part, arg_found, arg_of, arg_named, arg, macro_in, applied, is_macro}
 use Rattle.tx_exec_form.specs.Rows.{called, tag_found, tag_run, macro, row, leaf_run, node_run, level, ex, EvalAll}
 use Rattle.tx_exec_form.specs.Rows.{itself, xmacro, all_used, all_numbered, all_part, tuple_of, call_over}
-use Rattle.tx_exec_form.specs.Rows.{evaluated_made, mapped, map_numbered, map_parts, map_found, map_of, map_named}
+use Rattle.tx_exec_form.specs.Rows.{evaluated_made, mapped, map_numbered, map_parts, map_found, map_args_run, map_named}
 use Rattle.tx_exec_form.specs.Rows.{map_args, value_truth, decided, chosen, joined, turns, while_row}
 use Rattle.tx_exec_form.specs.Rows.{primitive, by_name, xmacro_in, is_xmacro, applied_all, tuple_run, ex_all}
 use Rattle.tx_exec_form.specs.Laws.{LeadsTo, ComesFrom, AllComeFrom}
@@ -194,7 +195,7 @@ module _ (root : TaggedTree) where
   FoundStands (Here t) = Stands root t
   FoundStands (All ts) = AllStand root ts
 
-  first_stands : (ts : List TaggedTree) → AllStand root ts → FoundStands (first_of ts)
+  first_stands : (ts : List TaggedTree) → AllStand root ts → FoundStands (first_argument ts)
   first_stands [] h = tt
   first_stands (t ∷ ts) h = h.0
 
@@ -388,13 +389,13 @@ module _ (root : TaggedTree) where
       unfolding eval_of
       eval_ofs v = skip V (pay (size_of (plain v))) (λ _. belows (record { tree = plain v; at = None }) f tt framed)
 
-      behinds : (unary : Unary) (label : List ℕ) (v : WideValue) → Yields V (behind unary k below f label v)
+      behinds : (unary : Unary) (label : List ℕ) (v : WideValue) → Yields V (unary_run unary k below f label v)
       behinds unaries.Value label v = value_ofs label v
       behinds unaries.Provides label v = provides_ofs label v
       behinds unaries.Eval label v = eval_ofs v
 
       onlys : (unary : Unary) (label : List ℕ) (kids : List TaggedTree) → AllStand root kids →
-          Yields V (only unary k below f label kids)
+          Yields V (unary_row unary k below f label kids)
       unfolding only_child
       onlys unary label [] h = bads label
       onlys unary label (x ∷ []) h = bind V V (belows x f h.0 framed) (λ v _. behinds unary label v)
@@ -468,7 +469,7 @@ module _ (root : TaggedTree) where
 
       map_nameds : (label : List ℕ) (numbers : List TaggedTree) (foo root' x : WideTree) → AllStand root numbers
           → Yields V (map_named k below f label numbers foo root' x)
-      unfolding map_of
+      unfolding map_args_run
       map_nameds label numbers (leaf foo) (leaf root') (leaf x) h =
           tests (is_label foo
           && is_label root') _ _ (map_founds label foo root' x numbers (argument_in x f) h) (bads label)

@@ -22,11 +22,13 @@ use Rattle.tx_exec_form.specs.Words.{row_of, is_label}
 use Rattle.tx_exec_form.specs.declared.TheConstants.{MOST_TURNS}
 use Rattle.tx_exec_form.specs.Rows.{Eval, wrong, taken, each, rebuilt, named, stored, assigned, assign, Sets, set_all}
 use Rattle.tx_exec_form.specs.Rows.{kept, kept_of, with_body, with_parts, is_odd, value_found, value_of, provides_of}
-use Rattle.tx_exec_form.specs.Rows.{eval_of, behind, only_child, only, quote, used, part_used, numbered, arg_part}
+use Rattle.tx_exec_form.specs.Rows.{eval_of, unary_run, only_child, unary_row, quote, used, part_used, numbered}
+use Rattle.tx_exec_form.specs.Rows.{arg_part}
 use Rattle.tx_exec_form.specs.Rows.{arg_found, arg_of, arg_named, arg, macro_in, applied, is_macro, called, tag_found}
 use Rattle.tx_exec_form.specs.Rows.{tag_run, macro, row, leaf_run, node_run, level, ex, EvalAll, itself, xmacro}
 use Rattle.tx_exec_form.specs.Rows.{all_used, all_numbered, all_part, call_over, evaluated_made, mapped, map_numbered}
-use Rattle.tx_exec_form.specs.Rows.{map_parts, map_found, map_of, map_named, map_args, value_truth, decided, chosen}
+use Rattle.tx_exec_form.specs.Rows.{map_parts, map_found, map_args_run, map_named, map_args, value_truth, decided}
+use Rattle.tx_exec_form.specs.Rows.{chosen}
 use Rattle.tx_exec_form.specs.Rows.{joined, turns, while_row, primitive, by_name, xmacro_in}
 use Rattle.tx_exec_form.specs.Rows.{is_xmacro, applied_all, tuple_run, ex_all}
 use Rattle.tx_exec_form.specs.Evaluated.{start}
@@ -315,13 +317,13 @@ module _ (k k' : ℕ) where
     eval_ofs v = bind k k' (pays k k' _) (λ _. belows _ f)
 
     behinds : (unary : Unary) (label : List ℕ) (v : WideValue) →
-        Follows k k' (behind unary k below f label v) (behind unary k' below' f label v)
+        Follows k k' (unary_run unary k below f label v) (unary_run unary k' below' f label v)
     behinds unaries.Value label v = value_ofs label v
     behinds unaries.Provides label v = provides_ofs label v
     behinds unaries.Eval label v = eval_ofs v
 
     onlys : (unary : Unary) (label : List ℕ) (kids : List TaggedTree) →
-        Follows k k' (only unary k below f label kids) (only unary k' below' f label kids)
+        Follows k k' (unary_row unary k below f label kids) (unary_row unary k' below' f label kids)
     unfolding only_child
     onlys unary label [] = bads label
     onlys unary label (x ∷ []) = bind k k' (belows x f) (λ v. behinds unary label v)
@@ -399,7 +401,7 @@ module _ (k k' : ℕ) where
 
     map_nameds : (label : List ℕ) (numbers : List TaggedTree) (foo root x : WideTree)
         → Follows k k' (map_named k below f label numbers foo root x) (map_named k' below' f label numbers foo root x)
-    unfolding map_of
+    unfolding map_args_run
     map_nameds label numbers (leaf foo) (leaf root) (leaf x) =
         tests (is_label foo
         && is_label root) _ _ _ _ (map_founds label foo root x numbers (argument_in x f)) (bads label)

@@ -8,7 +8,7 @@ use Rattle.tx_tree.specs.WideTree.{WideTree, leaf, node, children_of, size_of, t
 use Rattle.tx_tree.specs.WideTree.{total_nodes}
 use Rattle.tx_prim.specs.declared.names.Prim.{Prim}
 use Rattle.tx_prim.specs.Names.{named as primitive_named}
-use Rattle.tx_prim.specs.Table.{value_of as primitive_value}
+use Rattle.tx_prim.specs.Table.{primitive_value}
 use Rattle.tx_origin.specs.Values.{WideValue, text, made, vals, value_text, plain, plains, whole}
 use Rattle.tx_origin.specs.TaggedTrees.{TaggedTree, kids_from, kids_of}
 use Rattle.tx_origin.proofs.Parts.{total_size-append, deepest-append}
@@ -22,11 +22,12 @@ use Rattle.tx_exec_form.specs.Words.{row_of, is_label}
 use Rattle.tx_exec_form.specs.declared.TheConstants.{MOST_TURNS}
 use Rattle.tx_exec_form.specs.Rows.{Eval, wrong, taken, each, rebuilt, named, stored, assigned, assign, Sets, set_all}
 use Rattle.tx_exec_form.specs.Rows.{sizes, kept, kept_of, with_body, with_parts, is_odd, value_found, truth, value_of}
-use Rattle.tx_exec_form.specs.Rows.{provides_of, eval_of, behind, only_child, only, quote, used, part_used, numbered}
+use Rattle.tx_exec_form.specs.Rows.{provides_of, eval_of, unary_run, only_child, unary_row, quote, used, part_used}
+use Rattle.tx_exec_form.specs.Rows.{numbered}
 use Rattle.tx_exec_form.specs.Rows.{arg_part, arg_found, arg_of, arg_named, arg, macro_in, applied, is_macro, called}
 use Rattle.tx_exec_form.specs.Rows.{tag_found, tag_run, macro, row, leaf_run, node_run, level, ex, EvalAll, itself}
 use Rattle.tx_exec_form.specs.Rows.{xmacro, all_used, all_numbered, all_part, tuple_of, call_over, evaluated_made}
-use Rattle.tx_exec_form.specs.Rows.{mapped, map_numbered, map_parts, map_found, map_of, map_named, map_args}
+use Rattle.tx_exec_form.specs.Rows.{mapped, map_numbered, map_parts, map_found, map_args_run, map_named, map_args}
 use Rattle.tx_exec_form.specs.Rows.{value_truth, decided, chosen, joined, turns, while_row, primitive}
 use Rattle.tx_exec_form.specs.Rows.{by_name, xmacro_in, is_xmacro, applied_all, tuple_run, ex_all}
 use Rattle.tx_exec_form.specs.declared.rows.Row.{Row}
@@ -388,13 +389,13 @@ module _ (j : ℕ) where
       eval_ofs v l l' i i' p r = pays l i _ (λ a. tails _ f _ l' i i' (omega (arith, p)) r)
 
       behinds : (unary : Unary) (label : List ℕ) (v : WideValue) (l l' i i' : ℕ) → l ≤ l' → i ≤ i' →
-          Leads (At l i) (behind unary (suc j) below f label v) (Fits l' (suc j) i')
+          Leads (At l i) (unary_run unary (suc j) below f label v) (Fits l' (suc j) i')
       behinds unaries.Value label v l l' i i' p r = value_ofs label v l l' i i' p r
       behinds unaries.Provides label v l l' i i' p r = provides_ofs label v l l' i i' p r
       behinds unaries.Eval label v l l' i i' p r = eval_ofs v l l' i i' p r
 
       onlys : (unary : Unary) (label : List ℕ) (kids : List TaggedTree) (l i : ℕ) →
-          Leads (At l i) (only unary (suc j) below f label kids) (Fits (suc l) (suc j) i)
+          Leads (At l i) (unary_row unary (suc j) below f label kids) (Fits (suc l) (suc j) i)
       unfolding only_child
       onlys unary label [] l i = bads label l (suc l) i i (omega arith) (omega arith)
       onlys unary label (x ∷ []) l i =
@@ -483,7 +484,7 @@ module _ (j : ℕ) where
 
       map_nameds : (label : List ℕ) (numbers : List TaggedTree) (foo root x : WideTree) (l i : ℕ) → i ≤ j
           → Leads (At l i) (map_named (suc j) below f label numbers foo root x) (Fits (suc l) (suc j) i)
-      unfolding map_of
+      unfolding map_args_run
       map_nameds label numbers (leaf foo) (leaf root) (leaf x) l i le =
           tests (is_label foo
           && is_label root) _ _ l (suc l) i i (map_founds label foo root x numbers l i (argument_in x f) le)

@@ -22,9 +22,9 @@ pub data Found : Type 0 where
   Here : TaggedTree → Found
   All : List TaggedTree → Found
 
-abbrev pub first_of : List TaggedTree → Found
-first_of [] = Missing
-first_of (t ∷ ts) = Here t
+abbrev pub first_argument : List TaggedTree → Found
+first_argument [] = Missing
+first_argument (t ∷ ts) = Here t
 
 abbrev pub others_of : List TaggedTree → List TaggedTree
 others_of [] = []
@@ -33,7 +33,7 @@ others_of (t ∷ ts) = ts
 -- Each parameter has the argument at its own place, and the first of equal parameters counts.
 abbrev pub argument : Name → List Name → List TaggedTree → Found
 argument x [] ts = Unbound
-argument x (p ∷ ps) ts = if bytes_eq p x then first_of ts else argument x ps (others_of ts)
+argument x (p ∷ ps) ts = if bytes_eq p x then first_argument ts else argument x ps (others_of ts)
 
 abbrev pub argument_in : Name → Frame → Found
 argument_in x top = Unbound

@@ -9,7 +9,7 @@ use Rattle.tx_tree.specs.WideTree.{WideTree, leaf, node, forest, children_of, si
 use Rattle.tx_prim.specs.declared.names.Prim.{Prim}
 use Rattle.tx_prim.specs.Names.{named as primitive_named}
 use Rattle.tx_prim.specs.Operands.{truth_of}
-use Rattle.tx_prim.specs.Table.{value_of as primitive_value}
+use Rattle.tx_prim.specs.Table.{primitive_value}
 use Rattle.tx_origin.specs.Values.{WideValue, text, made, none, vals, value_text, plain, plains, whole}
 use Rattle.tx_origin.specs.TaggedTrees.{TaggedTree, kids_from, kids_of}
 use Rattle.tx_env.specs.Pairs.{Name}
@@ -101,13 +101,13 @@ set_all (p ∷ ps) = do
   set p.0 p.1
   set_all ps
 
-abbrev pub size_in : Option WideTree → ℕ
-size_in None = 0
-size_in (Some t) = size_of t
+abbrev pub size_or_zero : Option WideTree → ℕ
+size_or_zero None = 0
+size_or_zero (Some t) = size_of t
 
 abbrev pub sizes : Sets → ℕ
 sizes [] = 0
-sizes (p ∷ ps) = size_in p.1 + sizes ps
+sizes (p ∷ ps) = size_or_zero p.1 + sizes ps
 
 -- the names with what the evaluation has set them to, or nothing
 abbrev pub kept_of : Sets → NameMap → Sets
@@ -168,17 +168,17 @@ eval_of below f v = do
   below (record { tree = plain v; at = None }) f
 
 -- what is done with the value of the one child
-abbrev pub behind : Unary → ℕ → Eval → Frame → List ℕ → WideValue → Run WideValue
-behind unaries.Value k below f label v = value_of k label v
-behind unaries.Provides k below f label v = provides_of k label v
-behind unaries.Eval k below f label v = eval_of below f v
+abbrev pub unary_run : Unary → ℕ → Eval → Frame → List ℕ → WideValue → Run WideValue
+unary_run unaries.Value k below f label v = value_of k label v
+unary_run unaries.Provides k below f label v = provides_of k label v
+unary_run unaries.Eval k below f label v = eval_of below f v
 
 unfoldable pub only_child : Unary → ℕ → Eval → Frame → List ℕ → TaggedTree → Run WideValue
-only_child unary k below f label t = below t f >>= behind unary k below f label
+only_child unary k below f label t = below t f >>= unary_run unary k below f label
 
-abbrev pub only : Unary → ℕ → Eval → Frame → List ℕ → List TaggedTree → Run WideValue
-only unary k below f label (t ∷ []) = only_child unary k below f label t
-only unary k below f label other = wrong k (codes "bad") label
+abbrev pub unary_row : Unary → ℕ → Eval → Frame → List ℕ → List TaggedTree → Run WideValue
+unary_row unary k below f label (t ∷ []) = only_child unary k below f label t
+unary_row unary k below f label other = wrong k (codes "bad") label
 
 -- ---- quote, macro and xmacro
 
@@ -303,12 +303,13 @@ map_found k below f label foo root x numbers (Here t) =
     map_parts k below f label foo root x (length (kids_of t)) numbers
 map_found k below f label foo root x numbers (All ts) = map_parts k below f label foo root x (length ts) numbers
 
-unfoldable pub map_of : ℕ → Eval → Frame → List ℕ → List ℕ → List ℕ → Name → List TaggedTree → Run WideValue
-map_of k below f label foo root x numbers = map_found k below f label foo root x numbers (argument_in x f)
+unfoldable pub map_args_run : ℕ → Eval → Frame → List ℕ → List ℕ → List ℕ → Name → List TaggedTree → Run WideValue
+map_args_run k below f label foo root x numbers = map_found k below f label foo root x numbers (argument_in x f)
 
 abbrev pub map_named : ℕ → Eval → Frame → List ℕ → List TaggedTree → WideTree → WideTree → WideTree → Run WideValue
 map_named k below f label numbers (leaf foo) (leaf root) (leaf x) =
-    if is_label foo && is_label root then map_of k below f label foo root x numbers else wrong k (codes "bad") label
+    if is_label foo && is_label root then map_args_run k below f label foo root x numbers
+    else wrong k (codes "bad") label
 map_named k below f label numbers foo root x = wrong k (codes "bad") label
 
 -- two labels and a name, which aren't evaluated, and at most two numbers
@@ -436,9 +437,9 @@ row rows.RawData k below below_all t label kids f = give (made label none t.at)
 row rows.DrdProps k below below_all t label kids f = give (text [] None)
 row rows.Assign k below below_all t label kids f = assign k below f label t.at kids
 row rows.With k below below_all t label kids f = with_row k below f label t.at kids
-row rows.Value k below below_all t label kids f = only unaries.Value k below f label kids
-row rows.Provides k below below_all t label kids f = only unaries.Provides k below f label kids
-row rows.Eval k below below_all t label kids f = only unaries.Eval k below f label kids
+row rows.Value k below below_all t label kids f = unary_row unaries.Value k below f label kids
+row rows.Provides k below below_all t label kids f = unary_row unaries.Provides k below f label kids
+row rows.Eval k below below_all t label kids f = unary_row unaries.Eval k below f label kids
 row rows.Macro k below below_all t label kids f = macro k label t kids
 row rows.XMacro k below below_all t label kids f = xmacro k label t kids
 row rows.Quote k below below_all t label kids f = quote k label kids

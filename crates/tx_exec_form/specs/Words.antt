@@ -7,8 +7,8 @@ use Rattle.tx_tree.specs.Labels.{is_label_byte}
 use Rattle.tx_exec_form.specs.declared.rows.Row.{Row}
 use Rattle.tx_exec_form.specs.declared.rows.Row.TheVariants as rows
 
-abbrev pub is_same : List ℕ → Bool
-is_same l =
+abbrev pub is_same_row : List ℕ → Bool
+is_same_row l =
     bytes_eq l (codes "concat") || bytes_eq l (codes "document") || bytes_eq l (codes "tuple")
     || bytes_eq l (codes "error") || bytes_eq l (codes "next-line") || bytes_eq l (codes "new-page")
     || bytes_eq l (codes "hspace") || bytes_eq l (codes "vspace")
@@ -33,7 +33,7 @@ name_row_of l =
 
 abbrev pub row_of : List ℕ → Row
 row_of l =
-    if is_same l then rows.Same else
+    if is_same_row l then rows.Same else
     if is_refused l then rows.Refused else
     if bytes_eq l (codes "raw-data") then rows.RawData else
     if bytes_eq l (codes "drd-props") then rows.DrdProps else

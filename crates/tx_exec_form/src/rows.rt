@@ -1,6 +1,6 @@
 // The row of the table of evaluation that a label has.
 ghost use Rattle.std.specs.Prelude.{◌≡◌};
-ghost use Rattle.tx_exec_form.specs.Words.{is_same, is_refused, name_row_of, row_of};
+ghost use Rattle.tx_exec_form.specs.Words.{is_same_row, is_refused, name_row_of, row_of};
 
 /// A row of the table of evaluation.
 #[derive(Clone, Copy, Debug, PartialEq, Eq)]
@@ -65,8 +65,8 @@ pub enum Taking {
     Quoted,
 }
 
-fn is_same(label: &[u8]) -> bool
-    ensures { result ≡ is_same label.now }
+fn is_same_row(label: &[u8]) -> bool
+    ensures { result ≡ is_same_row label.now }
 {
     label == b"concat".as_slice()
         || label == b"document".as_slice()
@@ -122,7 +122,7 @@ fn name_row(label: &[u8]) -> Row
 pub fn row_for(label: &[u8]) -> Row
     ensures { result ≡ row_of label.now }
 {
-    if is_same(label) {
+    if is_same_row(label) {
         return Row::Same;
     }
     if is_refused(label) {

@@ -10,7 +10,7 @@ use Rattle.tx_tree.specs.Texts.{IsText}
 use Rattle.tx_tree.specs.TextScan.{is_text, text_step}
 use Rattle.tx_tree.specs.Labels.{is_label_byte, IsLabel}
 use Rattle.tx_tree.specs.Limits.{IsWellFormed, AreWellFormed}
-use Rattle.tx_tm_form.specs.Parts.{same}
+use Rattle.tx_tm_form.specs.Parts.{same_bytes}
 use Rattle.tx_tm_form.proofs.Sound.{same_is}
 use Rattle.tx_tm_write.specs.Canonical.{paragraph_text}
 use Rattle.tx_generated.specs.Document.{leading_word, more_words, generated_paragraph, word}
@@ -90,7 +90,7 @@ small t h =
 
 -- the text is that of the tree, which is well formed and small
 abbrev is_right : List ℕ → WideTree → Bool
-is_right text t = same text (paragraph_text t) && (is_formed t && is_small t)
+is_right text t = same_bytes text (paragraph_text t) && (is_formed t && is_small t)
 
 pub record IsRight (bytes : List ℕ) (t : WideTree) : Type 0 where
   pub text : bytes ≡ paragraph_text t
@@ -99,7 +99,7 @@ pub record IsRight (bytes : List ℕ) (t : WideTree) : Type 0 where
 
 right : (bytes : List ℕ) (t : WideTree) → is_right bytes t ≡ true → IsRight bytes t
 right bytes t h =
-    let p = and_parts (same bytes (paragraph_text t)) (is_formed t && is_small t) h in
+    let p = and_parts (same_bytes bytes (paragraph_text t)) (is_formed t && is_small t) h in
     let q = and_parts (is_formed t) (is_small t) p.1 in
     record {
       text = same_is bytes (paragraph_text t) p.0;

@@ -4,9 +4,9 @@ use Rattle.std.proofs.Common.{refl, sym, ap, ap₂, ◌∙◌, subst, append_ass
 use Rattle.std.proofs.lemmas.List.{drop_all}
 use Rattle.tx_origin.specs.Values.{WideValue, WideValues, none, also, vals}
 use Rattle.tx_items.specs.declared.attributes.Attrs.{Attrs}
-use Rattle.tx_items.specs.Shows.{empty, beside, ended, whole_run, Form, inline, listed, Shown, AllShown, is_inline}
+use Rattle.tx_items.specs.Shows.{empty, beside, run_ended, whole_run, Form, inline, listed, Shown, AllShown, is_inline}
 use Rattle.tx_items.specs.Shows.{one_by_one, document_shown, show, show_all}
-use Rattle.tx_items.specs.Running.{State, Adds, HasShown, HasPars, EndsRun, EndsParagraph, one_of, both}
+use Rattle.tx_items.specs.Running.{State, Adds, HasShown, HasPars, EndsRun, EndsParagraph, one_of, both_shown}
 use Rattle.tx_items.proofs.Runs.{inline_case, list_case, show_all_also, item_first}
 
 one_append : (xs ys : List (Form × Attrs)) → one_by_one (xs ++ ys) ≡ one_by_one xs ++ one_by_one ys
@@ -15,7 +15,7 @@ one_append ((inline r, a) ∷ xs) ys = ap (λ ps. whole_run r a ∷ ps) (one_app
 one_append ((listed ps, a) ∷ xs) ys =
     ap (λ qs. ps ++ qs) (one_append xs ys) ∙ sym (append_assoc ps (one_by_one xs) (one_by_one ys))
 
-pars_both : (x y : AllShown) (s u w : State) → HasPars x s u → HasPars y u w → HasPars (both x y) s w
+pars_both : (x y : AllShown) (s u w : State) → HasPars x s u → HasPars y u w → HasPars (both_shown x y) s w
 pars_both x y s u w h k = record {
   after = k.after;
   errors = k.errors ∙ ap (λ es. es ++ y.errors) h.errors ∙ append_assoc s.errors x.errors y.errors;
@@ -86,7 +86,7 @@ pars_document all s u h = record {
   errors = h.errors;
   adds = λ clean.
       let p = h.pars clean in
-      ap₂ (λ ps q. ps ++ ended q) p.1 p.0 ∙ append-nil (s.paragraphs ++ one_by_one all.each);
+      ap₂ (λ ps q. ps ++ run_ended q) p.1 p.0 ∙ append-nil (s.paragraphs ++ one_by_one all.each);
 }
 
 -- ---- one turn of a loop

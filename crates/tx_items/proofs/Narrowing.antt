@@ -18,16 +18,18 @@ use Rattle.tx_items.specs.Attributes.{with_named, attribute_in}
 use Rattle.tx_items.specs.Drawing.{is_space, look_of, item_of, drawn, paragraph}
 use Rattle.tx_items.specs.Rules.{Rule, rule_of}
 use Rattle.tx_items.specs.Rules as rules
-use Rattle.tx_items.specs.Shows.{Run, empty, begun, run_of, beside, whole_run, ended, Form, inline, listed, Shown}
+use Rattle.tx_items.specs.Shows.{ItemRun, empty, begun, run_of, beside, whole_run, run_ended, Form, inline, listed}
+use Rattle.tx_items.specs.Shows.{Shown}
 use Rattle.tx_items.specs.Shows.{AllShown, part_paragraphs}
-use Rattle.tx_items.specs.Shows.{all_inline, side_by_side, paragraphs_of, joined, one_by_one, error_items, with_shown}
-use Rattle.tx_items.specs.Shows.{assign_shown, cells_of, space_by, space_shown, error_by, error_shown, made_form}
+use Rattle.tx_items.specs.Shows.{all_inline, side_by_side, paragraphs_of, joined_forms, one_by_one, error_items}
+use Rattle.tx_items.specs.Shows.{with_shown}
+use Rattle.tx_items.specs.Shows.{assign_shown, cells_of_length, space_by, space_shown, error_by, error_shown, made_form}
 use Rattle.tx_items.specs.Shows.{tag_shown}
 use Rattle.tx_items.specs.Shows.{rule_shown, giving_back, show, show_all, show_with, or_one, unit_paragraphs}
 use Rattle.tx_items.specs.Shows.{shown_paragraphs}
 use Rattle.tx_items.specs.Narrow.{IsNarrow}
 
-abbrev OfRun : Run → Type 0
+abbrev OfRun : ItemRun → Type 0
 OfRun empty = Unit {0}
 OfRun (begun a xs) = All IsNarrow xs
 
@@ -46,7 +48,7 @@ run_narrow : (a : Attrs) (xs : List Item) → All IsNarrow xs → OfRun (run_of 
 run_narrow a [] h = tt
 run_narrow a (x ∷ xs) h = h
 
-beside_narrow : (r s : Run) → OfRun r → OfRun s → OfRun (beside r s)
+beside_narrow : (r s : ItemRun) → OfRun r → OfRun s → OfRun (beside r s)
 beside_narrow empty s h k = k
 beside_narrow (begun a xs) empty h k = h
 beside_narrow (begun a xs) (begun b ys) h k = All-append IsNarrow xs ys h k
@@ -55,11 +57,11 @@ one_paragraph : (xs : List Item) (a : Attrs) → All IsNarrow xs → OfPars (par
 one_paragraph xs a h =
     All-cons (λ p. All IsNarrow p.items) (paragraph xs a) [] h (All-nil (λ p. All IsNarrow p.items))
 
-ended_narrow : (r : Run) → OfRun r → OfPars (ended r)
+ended_narrow : (r : ItemRun) → OfRun r → OfPars (run_ended r)
 ended_narrow empty h = All-nil (λ p. All IsNarrow p.items)
 ended_narrow (begun a xs) h = one_paragraph xs a h
 
-whole_narrow : (r : Run) (a : Attrs) → OfRun r → OfPars (whole_run r a ∷ [])
+whole_narrow : (r : ItemRun) (a : Attrs) → OfRun r → OfPars (whole_run r a ∷ [])
 whole_narrow empty a h = one_paragraph [] a (All-nil IsNarrow)
 whole_narrow (begun b xs) a h = one_paragraph xs b h
 
@@ -71,11 +73,11 @@ side_narrow [] h = tt
 side_narrow ((inline r, a) ∷ fs) h = beside_narrow r (side_by_side fs) h.0 (side_narrow fs h.1)
 side_narrow ((listed ps, a) ∷ fs) h = side_narrow fs h.1
 
-paragraphs_narrow : (r : Run) (fs : List (Form × Attrs)) → OfRun r → OfForms fs → OfPars (paragraphs_of r fs)
+paragraphs_narrow : (r : ItemRun) (fs : List (Form × Attrs)) → OfRun r → OfForms fs → OfPars (paragraphs_of r fs)
 paragraphs_narrow r [] h k = ended_narrow r h
 paragraphs_narrow r ((inline q, a) ∷ fs) h k = paragraphs_narrow (beside r q) fs (beside_narrow r q h k.0) k.1
 paragraphs_narrow r ((listed ps, a) ∷ fs) h k =
-    pars_append (ended r ++ ps) (paragraphs_of empty fs) (pars_append (ended r) ps (ended_narrow r h) k.0)
+    pars_append (run_ended r ++ ps) (paragraphs_of empty fs) (pars_append (run_ended r) ps (ended_narrow r h) k.0)
     (paragraphs_narrow empty fs tt k.1)
 
 one_narrow : (fs : List (Form × Attrs)) → OfForms fs → OfPars (one_by_one fs)
@@ -84,7 +86,7 @@ one_narrow ((inline r, a) ∷ fs) h =
     pars_append (whole_run r a ∷ []) (one_by_one fs) (whole_narrow r a h.0) (one_narrow fs h.1)
 one_narrow ((listed ps, a) ∷ fs) h = pars_append ps (one_by_one fs) h.0 (one_narrow fs h.1)
 
-joined_narrow : (fs : List (Form × Attrs)) → OfForms fs → OfForm (joined fs)
+joined_narrow : (fs : List (Form × Attrs)) → OfForms fs → OfForm (joined_forms fs)
 joined_narrow fs h = pick (all_inline fs)
   where
     pick : (b : Bool) → OfForm (cond b (inline (side_by_side fs)) (listed (paragraphs_of empty fs)))
@@ -145,7 +147,7 @@ space_by_narrow : (item : ℕ → Item) → ((n : ℕ) → IsNarrow (item n)) �
     → OfForm (space_by item a label z).form
 space_by_narrow item h a label None = bad_narrow a label
 space_by_narrow item h a label (Some z) =
-    All-cons IsNarrow (item (cells_of z)) [] (h (cells_of z)) (All-nil IsNarrow)
+    All-cons IsNarrow (item (cells_of_length z)) [] (h (cells_of_length z)) (All-nil IsNarrow)
 
 space_narrow : (item : ℕ → Item) → ((n : ℕ) → IsNarrow (item n)) → (a : Attrs) (label : List ℕ) (vs : WideValues)
     → OfForm (space_shown item a label vs).form
@@ -165,7 +167,7 @@ error_shown_narrow a label (also k none) = bad_narrow a label
 error_shown_narrow a label (also k (also d none)) = error_by_narrow a label (value_text k) (value_text d)
 error_shown_narrow a label (also k (also d (also e vs))) = bad_narrow a label
 
-forms_behind : (fs : List (Form × Attrs)) (r : Run) (a : Attrs) → OfForms fs → OfRun r
+forms_behind : (fs : List (Form × Attrs)) (r : ItemRun) (a : Attrs) → OfForms fs → OfRun r
     → OfForms (fs ++ (inline r, a) ∷ [])
 forms_behind [] r a h k = (k, tt)
 forms_behind (f ∷ fs) r a h k = (h.0, forms_behind fs r a h.1 k)

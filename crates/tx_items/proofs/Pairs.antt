@@ -5,7 +5,7 @@ use Rattle.std.proofs.Common.{Option, Some, None, refl, sym, ap, ap₂, ◌∙�
 use Rattle.tx_origin.specs.Values.{WideValue, vals, value_text}
 use Rattle.tx_items.specs.declared.attributes.Attrs.{Attrs}
 use Rattle.tx_items.specs.Attributes.{with_named, given_back, attribute_in}
-use Rattle.tx_items.specs.Shows.{ended, beside, Form, inline, listed, Shown, with_shown, giving_back, show}
+use Rattle.tx_items.specs.Shows.{run_ended, beside, Form, inline, listed, Shown, with_shown, giving_back, show}
 use Rattle.tx_items.specs.Shows.{show_with}
 use Rattle.tx_items.specs.Running.{State, Adds, HasShown, HasAttrs, set_by_pairs, given_back_by_pairs}
 
@@ -116,7 +116,7 @@ with_odd before a (x ∷ (v ∷ xs)) d h =
 adds_same : (x : Form) (s m u w : State) → m.run ≡ s.run → m.paragraphs ≡ s.paragraphs → w.run ≡ u.run
     → w.paragraphs ≡ u.paragraphs → Adds x m u → Adds x s w
 adds_same (inline r) s m u w a b c d h = (c ∙ h.0 ∙ ap (λ q. beside q r) a, d ∙ h.1 ∙ b)
-adds_same (listed ps) s m u w a b c d h = λ clean. ap₂ (λ qs q. qs ++ ended q) d c ∙ h (a ∙ clean)
+adds_same (listed ps) s m u w a b c d h = λ clean. ap₂ (λ qs q. qs ++ run_ended q) d c ∙ h (a ∙ clean)
     ∙ ap (λ qs. qs ++ ps) b
 
 pub with_whole : (xs : List WideValue) (last : WideValue) (label : List ℕ) (s m u w : State) (before : Attrs)

@@ -19,8 +19,9 @@ use Rattle.tx_items.specs.Attributes.{with_named, attribute_in}
 use Rattle.tx_items.specs.Drawing.{drawn}
 use Rattle.tx_items.specs.Rules.{Rule, rule_of}
 use Rattle.tx_items.specs.Rules as rules
-use Rattle.tx_items.specs.Shows.{Run, empty, run_of, Form, inline, listed, Shown, AllShown, is_inline, all_inline}
-use Rattle.tx_items.specs.Shows.{side_by_side, paragraphs_of, joined, with_shown, assign_shown, space_by, space_shown}
+use Rattle.tx_items.specs.Shows.{ItemRun, empty, run_of, Form, inline, listed, Shown, AllShown, is_inline, all_inline}
+use Rattle.tx_items.specs.Shows.{side_by_side, paragraphs_of, joined_forms, with_shown, assign_shown, space_by}
+use Rattle.tx_items.specs.Shows.{space_shown}
 use Rattle.tx_items.specs.Shows.{error_by, error_shown, made_form, rule_shown, giving_back, show, show_all}
 use Rattle.tx_items.specs.Shows.{show_with}
 use Rattle.tx_items.specs.Plans.{line_plan, list_plan, some_list, joint_plan, rule_plan, plan_of, plans_of, last_plan}
@@ -32,7 +33,7 @@ not_or : (x y : Bool) → (x && not y) ≡ not (not x || y)
 not_or true y = refl
 not_or false y = refl
 
-joined_inline : (fs : List (Form × Attrs)) → is_inline (joined fs) ≡ all_inline fs
+joined_inline : (fs : List (Form × Attrs)) → is_inline (joined_forms fs) ≡ all_inline fs
 joined_inline fs = pick (all_inline fs)
   where
     pick : (b : Bool) → is_inline (cond b (inline (side_by_side fs)) (listed (paragraphs_of empty fs))) ≡ b
@@ -46,7 +47,8 @@ joint_leaf ps = pick (some_list ps)
     pick true = refl
     pick false = refl
 
-inline_behind : (fs : List (Form × Attrs)) (r : Run) (a : Attrs) → all_inline (fs ++ (inline r, a) ∷ []) ≡ all_inline fs
+inline_behind : (fs : List (Form × Attrs)) (r : ItemRun) (a : Attrs)
+    → all_inline (fs ++ (inline r, a) ∷ []) ≡ all_inline fs
 inline_behind [] r a = refl
 inline_behind (f ∷ fs) r a = ap (λ b. is_inline f.0 && b) (inline_behind fs r a)
 
@@ -95,7 +97,7 @@ rule_inline rules.Vspace a label vs all last plans end h k = space_inline Down a
 rule_inline rules.Error a label vs all last plans end h k = error_inline a label vs
 rule_inline rules.Other a label vs all last plans end h k =
     let t = all true in
-    let close : Run = run_of t.after (drawn t.after None (codes "<gtr>")) in
+    let close : ItemRun = run_of t.after (drawn t.after None (codes "<gtr>")) in
     joined_inline (
     made_form a (drawn a None (codes "<less>") ++ drawn a None label) ∷ (t.each ++ (inline close, t.after) ∷ [])
     )

@@ -7,16 +7,18 @@ use Rattle.tx_origin.specs.Values.{WideValue, WideValues, none, also, vals}
 use Rattle.tx_items.specs.declared.attributes.Attrs.{Attrs}
 use Rattle.tx_items.specs.declared.drawing.Paragraph.{Paragraph}
 use Rattle.tx_items.specs.Drawing.{drawn}
-use Rattle.tx_items.specs.Shows.{Run, empty, begun, run_of, beside, ended, Form, inline, listed, Shown, AllShown}
+use Rattle.tx_items.specs.Shows.{ItemRun, empty, begun, run_of, beside, run_ended, Form, inline, listed, Shown}
+use Rattle.tx_items.specs.Shows.{AllShown}
 use Rattle.tx_items.specs.Shows.{all_inline, is_inline, side_by_side, paragraphs_of, concat_shown, in_line}
 use Rattle.tx_items.specs.Shows.{made_error, tag_shown, show, show_all}
-use Rattle.tx_items.specs.Running.{State, Adds, HasShown, Goes, HasRun, EndsRun, one_of, bar_of, both, tag_front}
+use Rattle.tx_items.specs.Running.{State, Adds, HasShown, ShowsForms, HasRun, EndsRun, one_of, bar_of, both_shown}
+use Rattle.tx_items.specs.Running.{tag_front}
 
-pub beside_empty : (r : Run) → beside r empty ≡ r
+pub beside_empty : (r : ItemRun) → beside r empty ≡ r
 beside_empty empty = refl
 beside_empty (begun a xs) = refl
 
-pub beside_assoc : (q r s : Run) → beside (beside q r) s ≡ beside q (beside r s)
+pub beside_assoc : (q r s : ItemRun) → beside (beside q r) s ≡ beside q (beside r s)
 beside_assoc empty r s = refl
 beside_assoc (begun a xs) empty s = refl
 beside_assoc (begun a xs) (begun b ys) empty = refl
@@ -37,7 +39,8 @@ both_inline [] ys h = (refl, h)
 both_inline ((inline r, a) ∷ xs) ys h = both_inline xs ys h
 both_inline ((listed ps, a) ∷ xs) ys h = absurd cc
 
-goes_both : (xs ys : List (Form × Attrs)) (s u w : State) → Goes xs s u → Goes ys u w → Goes (xs ++ ys) s w
+goes_both : (xs ys : List (Form × Attrs)) (s u w : State) → ShowsForms xs s u → ShowsForms ys u w
+    → ShowsForms (xs ++ ys) s w
 goes_both xs ys s u w h k = record {
   pars = λ rest.
       k.pars rest ∙ h.pars (ys ++ rest)
@@ -52,14 +55,14 @@ goes_both xs ys s u w h k = record {
       );
 }
 
-pub run_both : (x y : AllShown) (s u w : State) → HasRun x s u → HasRun y u w → HasRun (both x y) s w
+pub run_both : (x y : AllShown) (s u w : State) → HasRun x s u → HasRun y u w → HasRun (both_shown x y) s w
 run_both x y s u w h k = record {
   after = k.after;
   errors = k.errors ∙ ap (λ es. es ++ y.errors) h.errors ∙ append_assoc s.errors x.errors y.errors;
   goes = goes_both x.each y.each s u w h.goes k.goes;
 }
 
-goes_nothing : (s : State) → Goes [] s s
+goes_nothing : (s : State) → ShowsForms [] s s
 goes_nothing s = record { pars = λ rest. refl; side = λ _. (sym (beside_empty s.run), refl) }
 
 run_none : (barred : Bool) (s : State) → HasRun (show_all barred s.attrs none) s s
@@ -75,8 +78,8 @@ run_nothing s = record {
 }
 
 -- items alone
-goes_inline : (r : Run) (a : Attrs) (s u : State) → (u.run ≡ beside s.run r) × (u.paragraphs ≡ s.paragraphs)
-    → Goes ((inline r, a) ∷ []) s u
+goes_inline : (r : ItemRun) (a : Attrs) (s u : State) → (u.run ≡ beside s.run r) × (u.paragraphs ≡ s.paragraphs)
+    → ShowsForms ((inline r, a) ∷ []) s u
 goes_inline r a s u h = record {
   pars = λ rest. ap₂ (λ ps q. ps ++ paragraphs_of q rest) h.1 h.0;
   side = λ _. (h.0 ∙ ap (beside s.run) (sym (beside_empty r)), h.1);
@@ -84,15 +87,15 @@ goes_inline r a s u h = record {
 
 -- a list, with the runs before and behind it ended
 goes_listed : (ps : List Paragraph) (a : Attrs) (s s' u' u : State) → EndsRun s s' → Adds (listed ps) s' u'
-    → EndsRun u' u → Goes ((listed ps, a) ∷ []) s u
+    → EndsRun u' u → ShowsForms ((listed ps, a) ∷ []) s u
 goes_listed ps a s s' u' u before h behind =
-    let all : u.paragraphs ≡ (s.paragraphs ++ ended s.run) ++ ps =
+    let all : u.paragraphs ≡ (s.paragraphs ++ run_ended s.run) ++ ps =
     behind.paragraphs ∙ h before.run ∙ ap (λ qs. qs ++ ps) before.paragraphs in
     record {
       pars = λ rest.
           ap₂ (λ qs q. qs ++ paragraphs_of q rest) all behind.run
-          ∙ ap (λ qs. qs ++ paragraphs_of empty rest) (append_assoc s.paragraphs (ended s.run) ps)
-          ∙ append_assoc s.paragraphs (ended s.run ++ ps) (paragraphs_of empty rest);
+          ∙ ap (λ qs. qs ++ paragraphs_of empty rest) (append_assoc s.paragraphs (run_ended s.run) ps)
+          ∙ append_assoc s.paragraphs (run_ended s.run ++ ps) (paragraphs_of empty rest);
       side = λ no. absurd cc;
     }
 
@@ -111,7 +114,7 @@ no_bar a s e = record { after = e; errors = sym (append-nil s.errors); goes = go
 
 -- ---- one value
 
-pub inline_case : (x : Form) → is_inline x ≡ true → (r : Run) × (x ≡ inline r)
+pub inline_case : (x : Form) → is_inline x ≡ true → (r : ItemRun) × (x ≡ inline r)
 inline_case (inline r) h = (r, refl)
 inline_case (listed ps) h = absurd cc
 
@@ -122,7 +125,7 @@ list_case (listed ps) h = (ps, refl)
 pub part_inline : (t : Shown) (s u : State) → is_inline t.form ≡ true → HasShown t s u → HasRun (one_of t) s u
 part_inline t s u is h =
     let found = inline_case t.form is in
-    let P : Form → Type 0 = λ x. Adds x s u → Goes ((x, t.after) ∷ []) s u in
+    let P : Form → Type 0 = λ x. Adds x s u → ShowsForms ((x, t.after) ∷ []) s u in
     record {
       after = h.after;
       errors = h.errors;
@@ -133,7 +136,7 @@ pub part_listed : (t : Shown) (s s' u' u : State) → is_inline t.form ≡ false
     → EndsRun u' u → HasRun (one_of t) s u
 part_listed t s s' u' u is before h behind =
     let found = list_case t.form is in
-    let P : Form → Type 0 = λ x. Adds x s' u' → Goes ((x, t.after) ∷ []) s u in
+    let P : Form → Type 0 = λ x. Adds x s' u' → ShowsForms ((x, t.after) ∷ []) s u in
     record {
       after = behind.attrs ∙ h.after;
       errors = behind.errors ∙ h.errors ∙ ap (λ es. es ++ t.errors) before.errors;
@@ -143,7 +146,7 @@ part_listed t s s' u' u is before h behind =
 -- ---- several values
 
 pub show_all_also : (barred : Bool) (a : Attrs) (v : WideValue) (vs : WideValues)
-    → show_all barred a (also v vs) ≡ both (both (bar_of barred a) (one_of (show a v)))
+    → show_all barred a (also v vs) ≡ both_shown (both_shown (bar_of barred a) (one_of (show a v)))
     (show_all barred (show a v).after vs)
 unfolding show_all show
 show_all_also true a v vs = refl
@@ -159,7 +162,8 @@ run_more barred v vs s m u w bar one rest =
     let others : HasRun (show_all barred (show s.attrs v).after vs) u w = subst Q first.after rest in
     let R : AllShown → Type 0 = λ all. HasRun all s w in
     subst R (sym (show_all_also barred s.attrs v vs))
-    (run_both (both (bar_of barred s.attrs) (one_of (show s.attrs v))) (show_all barred (show s.attrs v).after vs) s u w
+    (run_both (both_shown (bar_of barred s.attrs) (one_of (show s.attrs v)))
+    (show_all barred (show s.attrs v).after vs) s u w
     (run_both (bar_of barred s.attrs) (one_of (show s.attrs v)) s m u bar first) others)
 
 -- several are one value
@@ -186,19 +190,20 @@ pub run_tag : (label : List ℕ) (all : AllShown) (s m u w : State)
     → HasShown (tag_shown s.attrs label all) s w
 run_tag label all s m u w front each close =
     let e = made_error (codes "undefined-tag") label in
-    let opened : Run = run_of s.attrs (tag_front s.attrs label) in
+    let opened : ItemRun = run_of s.attrs (tag_front s.attrs label) in
     let opening : AllShown = record { each = (inline opened, s.attrs) ∷ []; after = s.attrs; errors = e ∷ [] } in
-    let closed : Attrs → Run = λ a. run_of a (drawn a None (codes "<gtr>")) in
+    let closed : Attrs → ItemRun = λ a. run_of a (drawn a None (codes "<gtr>")) in
     let closing : Attrs → AllShown = λ a. record { each = (inline (closed a), a) ∷ []; after = a; errors = [] } in
     let first : HasRun opening s m =
     record { after = front.after; errors = front.errors; goes = goes_inline opened s.attrs s m front.adds } in
     let last : HasRun (closing u.attrs) u w =
     record { after = close.after; errors = close.errors; goes = goes_inline (closed u.attrs) u.attrs u w close.adds } in
     let P : Attrs → Type 0 = λ a. HasRun (closing a) u w in
-    let rest : AllShown = both all (closing all.after) in
-    let whole : HasRun (both opening rest) s w =
+    let rest : AllShown = both_shown all (closing all.after) in
+    let whole : HasRun (both_shown opening rest) s w =
     run_both opening rest s m w first (run_both all (closing all.after) m u w each (subst P each.after last)) in
-    let shown_so : HasShown (concat_shown (both opening rest)) s w = run_joined (both opening rest) s w whole in
+    let shown_so : HasShown (concat_shown (both_shown opening rest)) s w =
+    run_joined (both_shown opening rest) s w whole in
     record {
       after = shown_so.after;
       errors = shown_so.errors ∙ ap (λ es. s.errors ++ (e ∷ es)) (append-nil all.errors);

@@ -7,7 +7,7 @@ use Rattle.tx_items.specs.declared.drawing.Item.{Item}
 use Rattle.tx_items.specs.declared.drawing.ErrorAt.{ErrorAt}
 use Rattle.tx_items.specs.Drawing.{drawn}
 use Rattle.tx_items.specs.Shows.{begun, run_of, beside, inline, in_line, error_items}
-use Rattle.tx_items.specs.Running.{State, HasShown, first_of}
+use Rattle.tx_items.specs.Running.{State, HasShown, attrs_of_first}
 use Rattle.tx_items.proofs.Runs.{beside_assoc}
 
 run_append : (a : Attrs) (xs ys : List Item) → run_of a (xs ++ ys) ≡ beside (run_of a xs) (run_of a ys)
@@ -17,7 +17,7 @@ run_append a (x ∷ xs) (y ∷ ys) = refl
 
 -- a run with its first attributes, behind which items come
 pub run_grows : (first a : Attrs) (xs ys : List Item)
-    → run_of (first_of xs first a) (xs ++ ys) ≡ beside (run_of first xs) (run_of a ys)
+    → run_of (attrs_of_first xs first a) (xs ++ ys) ≡ beside (run_of first xs) (run_of a ys)
 run_grows first a [] ys = refl
 run_grows first a (x ∷ xs) [] = ap (λ zs. begun first (x ∷ zs)) (append-nil xs)
 run_grows first a (x ∷ xs) (y ∷ ys) = refl

@@ -48,9 +48,9 @@ length_or None = pos 0
 length_or (Some z) = z
 
 -- the length that a text writes, or 0
-abbrev pub length_in : Option (List ℕ) → ℤ
-length_in None = pos 0
-length_in (Some words) = length_or (length_of words)
+abbrev pub length_or_zero : Option (List ℕ) → ℤ
+length_or_zero None = pos 0
+length_or_zero (Some words) = length_or (length_of words)
 
 -- an attribute is set to a text, or to what is none
 abbrev pub with_value : Attribute → Option (List ℕ) → Attrs → Attrs
@@ -58,9 +58,9 @@ with_value Series value a = record a { series = text_in (codes "medium") value }
 with_value Shape value a = record a { shape = text_in (codes "right") value }
 with_value Color value a = record a { color = text_in (codes "black") value }
 with_value Mode value a = record a { mode = text_in (codes "left") value }
-with_value Left value a = record a { left = length_in value }
-with_value Right value a = record a { right = length_in value }
-with_value First value a = record a { first = length_in value }
+with_value Left value a = record a { left = length_or_zero value }
+with_value Right value a = record a { right = length_or_zero value }
+with_value First value a = record a { first = length_or_zero value }
 
 -- the same, or nothing where no attribute is named
 abbrev pub with_named : Option Attribute → Option (List ℕ) → Attrs → Attrs

@@ -8,7 +8,8 @@ use Rattle.tx_items.specs.declared.drawing.Paragraph.{Paragraph}
 use Rattle.tx_items.specs.declared.drawing.ErrorAt.{ErrorAt}
 use Rattle.tx_items.specs.declared.showing.Showing.{Showing}
 use Rattle.tx_items.specs.Attributes.{with_named, given_back, attribute_in}
-use Rattle.tx_items.specs.Shows.{begun, Run, empty, run_of, beside, whole_run, ended, Form, inline, listed, Shown}
+use Rattle.tx_items.specs.Shows.{begun, ItemRun, empty, run_of, beside, whole_run, run_ended, Form, inline, listed}
+use Rattle.tx_items.specs.Shows.{Shown}
 use Rattle.tx_items.specs.Shows.{AllShown, all_inline, side_by_side, paragraphs_of, one_by_one, behind_bar, or_one}
 use Rattle.tx_items.specs.Drawing.{drawn}
 use Rattle.tx_items.specs.declared.drawing.Item.TheVariants.{Gap, Down as Lower}
@@ -18,7 +19,7 @@ use Rattle.tx_items.specs.declared.showing.Space.TheVariants.{Across, Down}
 -- what is shown so far: the finished paragraphs, and the run that may still grow
 pub record State : Type 0 where
   pub attrs : Attrs
-  pub run : Run
+  pub run : ItemRun
   pub paragraphs : List Paragraph
   pub errors : List ErrorAt
 
@@ -33,7 +34,7 @@ state_of s = record {
 -- items go behind the run; a list stands behind no run, and its last run may still be open
 abbrev pub Adds : Form → State → State → Type 0
 Adds (inline r) s u = (u.run ≡ beside s.run r) × (u.paragraphs ≡ s.paragraphs)
-Adds (listed ps) s u = s.run ≡ empty → u.paragraphs ++ ended u.run ≡ s.paragraphs ++ ps
+Adds (listed ps) s u = s.run ≡ empty → u.paragraphs ++ run_ended u.run ≡ s.paragraphs ++ ps
 
 pub record HasShown (one : Shown) (s u : State) : Type 0 where
   pub after : u.attrs ≡ one.after
@@ -41,7 +42,7 @@ pub record HasShown (one : Shown) (s u : State) : Type 0 where
   pub adds : Adds one.form s u
 
 -- several, of which each list ends the run before it and its own
-pub record Goes (fs : List (Form × Attrs)) (s u : State) : Type 0 where
+pub record ShowsForms (fs : List (Form × Attrs)) (s u : State) : Type 0 where
   pub pars : (rest : List (Form × Attrs))
       → u.paragraphs ++ paragraphs_of u.run rest ≡ s.paragraphs ++ paragraphs_of s.run (fs ++ rest)
   pub side : all_inline fs ≡ true → (u.run ≡ beside s.run (side_by_side fs)) × (u.paragraphs ≡ s.paragraphs)
@@ -49,7 +50,7 @@ pub record Goes (fs : List (Form × Attrs)) (s u : State) : Type 0 where
 pub record HasRun (all : AllShown) (s u : State) : Type 0 where
   pub after : u.attrs ≡ all.after
   pub errors : u.errors ≡ s.errors ++ all.errors
-  pub goes : Goes all.each s u
+  pub goes : ShowsForms all.each s u
 
 -- the same where each is paragraphs of its own, behind no run
 pub record HasPars (all : AllShown) (s u : State) : Type 0 where
@@ -58,15 +59,15 @@ pub record HasPars (all : AllShown) (s u : State) : Type 0 where
   pub pars : s.run ≡ empty → (u.run ≡ empty) × (u.paragraphs ≡ s.paragraphs ++ one_by_one all.each)
 
 -- the attributes at the first item of what will be the run
-abbrev pub first_of : List Item → Attrs → Attrs → Attrs
-first_of [] first attrs = attrs
-first_of (x ∷ xs) first attrs = first
+abbrev pub attrs_of_first : List Item → Attrs → Attrs → Attrs
+attrs_of_first [] first attrs = attrs
+attrs_of_first (x ∷ xs) first attrs = first
 
 pub record EndsRun (s u : State) : Type 0 where
   pub attrs : u.attrs ≡ s.attrs
   pub errors : u.errors ≡ s.errors
   pub run : u.run ≡ empty
-  pub paragraphs : u.paragraphs ≡ s.paragraphs ++ ended s.run
+  pub paragraphs : u.paragraphs ≡ s.paragraphs ++ run_ended s.run
 
 pub record EndsParagraph (s u : State) : Type 0 where
   pub attrs : u.attrs ≡ s.attrs
@@ -81,8 +82,8 @@ one_of one = record { each = (one.form, one.after) ∷ []; after = one.after; er
 abbrev pub bar_of : Bool → Attrs → AllShown
 bar_of barred a = record { each = behind_bar barred a []; after = a; errors = [] }
 
-abbrev pub both : AllShown → AllShown → AllShown
-both x y = record { each = x.each ++ y.each; after = y.after; errors = x.errors ++ y.errors }
+abbrev pub both_shown : AllShown → AllShown → AllShown
+both_shown x y = record { each = x.each ++ y.each; after = y.after; errors = x.errors ++ y.errors }
 
 -- the attributes are these, and nothing else is changed
 pub record HasAttrs (attrs : Attrs) (s u : State) : Type 0 where
@@ -107,20 +108,20 @@ given_back_by_pairs (also x (also v vs)) before a =
 -- the paragraphs at the end of a unit that shows as a list, or in a line
 abbrev pub finished : Bool → State → List Paragraph
 finished false s = s.paragraphs ++ whole_run s.run s.attrs ∷ []
-finished true s = or_one s.attrs (s.paragraphs ++ ended s.run)
+finished true s = or_one s.attrs (s.paragraphs ++ run_ended s.run)
 
 pub record Finishes (is_list : Bool) (s u : State) : Type 0 where
   pub errors : u.errors ≡ s.errors
   pub paragraphs : u.paragraphs ≡ finished is_list s
 
-abbrev pub is_nothing : Run → Bool
+abbrev pub is_nothing : ItemRun → Bool
 is_nothing empty = true
 is_nothing (begun a items) = false
 
 -- those of a part of a unit
 abbrev pub part_finished : Bool → State → List Paragraph
 part_finished false s = s.paragraphs ++ whole_run s.run s.attrs ∷ []
-part_finished true s = s.paragraphs ++ ended s.run
+part_finished true s = s.paragraphs ++ run_ended s.run
 
 pub record FinishesPart (is_list : Bool) (s u : State) : Type 0 where
   pub attrs : u.attrs ≡ s.attrs

@@ -15,33 +15,33 @@ use Rattle.tx_items.specs.Rules as rules
 
 -- ---- runs: items in a line, with the attributes at the first of them
 
-pub data Run : Type 0 where
-  empty : Run
-  begun : (first : Attrs) → (items : List Item) → Run
+pub data ItemRun : Type 0 where
+  empty : ItemRun
+  begun : (first : Attrs) → (items : List Item) → ItemRun
 
-abbrev pub run_of : Attrs → List Item → Run
+abbrev pub run_of : Attrs → List Item → ItemRun
 run_of a [] = empty
 run_of a (x ∷ xs) = begun a (x ∷ xs)
 
-abbrev pub beside : Run → Run → Run
+abbrev pub beside : ItemRun → ItemRun → ItemRun
 beside empty r = r
 beside (begun a xs) empty = begun a xs
 beside (begun a xs) (begun b ys) = begun a (xs ++ ys)
 
 -- a run as a paragraph, before these attributes
-abbrev pub whole_run : Run → Attrs → Paragraph
+abbrev pub whole_run : ItemRun → Attrs → Paragraph
 whole_run empty end = paragraph [] end
 whole_run (begun a xs) end = paragraph xs a
 
 -- a run with an item is a paragraph
-abbrev pub ended : Run → List Paragraph
-ended empty = []
-ended (begun a xs) = paragraph xs a ∷ []
+abbrev pub run_ended : ItemRun → List Paragraph
+run_ended empty = []
+run_ended (begun a xs) = paragraph xs a ∷ []
 
 -- ---- what is shown
 
 pub data Form : Type 0 where
-  inline : Run → Form
+  inline : ItemRun → Form
   listed : List Paragraph → Form
 
 -- what a value shows as, the attributes behind it, and its errors
@@ -64,20 +64,20 @@ abbrev pub all_inline : List (Form × Attrs) → Bool
 all_inline [] = true
 all_inline (f ∷ fs) = is_inline f.0 && all_inline fs
 
-abbrev pub side_by_side : List (Form × Attrs) → Run
+abbrev pub side_by_side : List (Form × Attrs) → ItemRun
 side_by_side [] = empty
 side_by_side ((inline r, a) ∷ fs) = beside r (side_by_side fs)
 side_by_side ((listed ps, a) ∷ fs) = side_by_side fs
 
 -- behind a run: each run with an item is a paragraph, in its place
-abbrev pub paragraphs_of : Run → List (Form × Attrs) → List Paragraph
-paragraphs_of r [] = ended r
+abbrev pub paragraphs_of : ItemRun → List (Form × Attrs) → List Paragraph
+paragraphs_of r [] = run_ended r
 paragraphs_of r ((inline q, a) ∷ fs) = paragraphs_of (beside r q) fs
-paragraphs_of r ((listed ps, a) ∷ fs) = ended r ++ ps ++ paragraphs_of empty fs
+paragraphs_of r ((listed ps, a) ∷ fs) = run_ended r ++ ps ++ paragraphs_of empty fs
 
 -- in a line where all are
-abbrev pub joined : List (Form × Attrs) → Form
-joined fs = if all_inline fs then inline (side_by_side fs) else listed (paragraphs_of empty fs)
+abbrev pub joined_forms : List (Form × Attrs) → Form
+joined_forms fs = if all_inline fs then inline (side_by_side fs) else listed (paragraphs_of empty fs)
 
 -- each that is in a line is a paragraph, also without an item
 abbrev pub one_by_one : List (Form × Attrs) → List Paragraph
@@ -116,7 +116,7 @@ bad a label = failed a (codes "bad") label
 -- ---- rules, each with its label and its parts
 
 abbrev pub concat_shown : AllShown → Shown
-concat_shown all = record { form = joined all.each; after = all.after; errors = all.errors }
+concat_shown all = record { form = joined_forms all.each; after = all.after; errors = all.errors }
 
 abbrev pub document_shown : AllShown → Shown
 document_shown all = record { form = listed (one_by_one all.each); after = all.after; errors = all.errors }
@@ -134,13 +134,13 @@ assign_shown a label (also x (also v none)) =
 assign_shown a label (also x (also v (also w vs))) = bad a label
 
 -- the whole thousands of a length, from 0 to 500
-abbrev pub cells_of : ℤ → ℕ
-cells_of (pos n) = min 500 (n / 1000)
-cells_of (negsuc n) = 0
+abbrev pub cells_of_length : ℤ → ℕ
+cells_of_length (pos n) = min 500 (n / 1000)
+cells_of_length (negsuc n) = 0
 
 abbrev pub space_by : (ℕ → Item) → Attrs → List ℕ → Option ℤ → Shown
 space_by item a label None = bad a label
-space_by item a label (Some length) = in_line a (item (cells_of length) ∷ [])
+space_by item a label (Some length) = in_line a (item (cells_of_length length) ∷ [])
 
 abbrev pub space_shown : (ℕ → Item) → Attrs → List ℕ → WideValues → Shown
 space_shown item a label none = bad a label
@@ -166,7 +166,7 @@ made_form a items = (inline (run_of a items), a)
 abbrev pub tag_shown : Attrs → List ℕ → AllShown → Shown
 tag_shown a label all =
     record {
-      form = joined (
+      form = joined_forms (
           made_form a (drawn a None (codes "<less>") ++ drawn a None label)
           ∷ (all.each ++ made_form all.after (drawn all.after None (codes "<gtr>")) ∷ [])
           );

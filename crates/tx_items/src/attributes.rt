@@ -1,7 +1,7 @@
 // Attributes: what the seven variables of a place are set to.
 ghost use Rattle.std.specs.Prelude.{◌≡◌, IfOk, OnOk, MatchOption, Some, None};
 ghost use Rattle.std.specs.Option.{option_copied};
-ghost use Rattle.tx_items.specs.Attributes.{attribute_named, initial, text_in, length_in};
+ghost use Rattle.tx_items.specs.Attributes.{attribute_named, initial, text_in, length_or_zero};
 ghost use Rattle.tx_items.specs.Attributes.{with_value, with_former, with_named, given_back};
 ghost use Rattle.tx_items.specs.Fields.{attribute_of};
 ghost use Rattle.tx_items.specs.Words.{word_bytes};
@@ -79,8 +79,8 @@ fn text_in(alloc: Global, otherwise: Word, value: Option<&Text>) -> Result<Text,
 }
 
 // The length that the text writes, or 0 where there is no text, or it writes none.
-fn length_in(value: Option<&Text>) -> i64
-    ensures { result ≡ length_in (option_copied value.entry) }
+fn length_or_zero(value: Option<&Text>) -> i64
+    ensures { result ≡ length_or_zero (option_copied value.entry) }
 {
     match value {
         Some(text) => match parse_length(text) {
@@ -154,9 +154,9 @@ impl Attrs {
             Field::Shape => self.shape = text_in(alloc, Word::Right, value)?,
             Field::Color => self.color = text_in(alloc, Word::Black, value)?,
             Field::Mode => self.mode = text_in(alloc, Word::Left, value)?,
-            Field::Left => self.left = length_in(value),
-            Field::Right => self.right = length_in(value),
-            Field::First => self.first = length_in(value),
+            Field::Left => self.left = length_or_zero(value),
+            Field::Right => self.right = length_or_zero(value),
+            Field::First => self.first = length_or_zero(value),
         }
         Ok(())
     }

@@ -12,10 +12,10 @@ ghost use Rattle.tx_items.specs.Drawing.{drawn};
 ghost use Rattle.tx_items.specs.Rows.{rule_in};
 ghost use Rattle.tx_items.specs.Rules.{rule_of};
 ghost use Rattle.tx_items.specs.Shows.{in_line, error_items, failed, bad, made_error, with_shown, assign_shown};
-ghost use Rattle.tx_items.specs.Shows.{cells_of, space_shown, error_shown, tag_shown, show, show_all, show_with};
+ghost use Rattle.tx_items.specs.Shows.{cells_of_length, space_shown, error_shown, tag_shown, show, show_all, show_with};
 ghost use Rattle.tx_items.specs.Shows.{inline, run_of, empty};
 ghost use Rattle.tx_items.specs.Plans.{plan_of, plans_of, last_plan, joint_plan, list_plan};
-ghost use Rattle.tx_items.specs.Running.{state_of, first_of, HasShown, HasRun, HasPars, EndsRun, EndsParagraph};
+ghost use Rattle.tx_items.specs.Running.{state_of, attrs_of_first, HasShown, HasRun, HasPars, EndsRun, EndsParagraph};
 ghost use Rattle.tx_items.specs.Running.{HasAttrs, one_of, bar_of, set_by_pairs, given_back_by_pairs, Finishes};
 ghost use Rattle.tx_items.specs.Running.{FinishesPart};
 ghost use Rattle.tx_items.specs.Running.{tag_front, space_item, length_alone};
@@ -74,7 +74,7 @@ impl Showing {
     fn begin(&mut self) -> Result<(), Memory>
         ensures { OnOk result ((self.new.attrs ≡ self.old.attrs) × (self.new.run ≡ self.old.run)
             × (self.new.paragraphs ≡ self.old.paragraphs) × (self.new.errors ≡ self.old.errors)
-            × (self.new.first ≡ first_of self.old.run.items self.old.first self.old.attrs)) }
+            × (self.new.first ≡ attrs_of_first self.old.run.items self.old.first self.old.attrs)) }
     {
         if self.run.is_empty() {
             self.first = self.attrs.copy()?;
@@ -275,7 +275,7 @@ impl Showing {
             (state_of self.old) (state_of self.new)) }
     {
         match length_alone(value) {
-            Some(length) => self.add_item(space_item(space, cells_of(length))),
+            Some(length) => self.add_item(space_item(space, cells_of_length(length))),
             None => self.bad(alloc, label),
         }
     }
@@ -509,8 +509,8 @@ fn length_alone(value: &Value) -> Option<i64>
 }
 
 // The whole thousands of a length, from 0 to 500.
-fn cells_of(length: i64) -> u32
-    ensures { result ≡ cells_of length }
+fn cells_of_length(length: i64) -> u32
+    ensures { result ≡ cells_of_length length }
 {
     (length / 1000).clamp(0, MOST_SPACE) as u32
 }

@@ -19,7 +19,7 @@ use Rattle.tx_layout.specs.declared.layout.Line.{Line}
 use Rattle.tx_layout.specs.Frames.{least_width}
 use Rattle.tx_layout.specs.Words.{Blank, IsSpan, SpansFrom}
 use Rattle.tx_layout.specs.Segments.{piece_of, no_span, lines_of, HasWords}
-use Rattle.tx_layout.specs.Shapes.{is_cut, empty_line, page_ending, with_last, behind_cut, or_empty, is_ink}
+use Rattle.tx_layout.specs.Shapes.{is_break, empty_line, page_ending, with_last, behind_cut, or_empty, is_ink}
 use Rattle.tx_layout.specs.Shapes.{HasLines, last_segment, then_cut}
 use Rattle.tx_layout.proofs.Spans.{rises}
 
@@ -39,7 +39,7 @@ blank_dry Break h = refl
 blank_dry PageEnd h = refl
 blank_dry (Down n) h = refl
 
-cut_dry : (i : Item) → is_cut i ≡ true → is_ink i ≡ false
+cut_dry : (i : Item) → is_break i ≡ true → is_ink i ≡ false
 cut_dry (Glyph d) h = let no : false ≡ true = h in cc
 cut_dry (Space d) h = refl
 cut_dry (Gap n) h = let no : false ≡ true = h in cc

@@ -17,9 +17,9 @@ use Rattle.tx_layout.specs.declared.pieces.Span.{Span}
 use Rattle.tx_layout.specs.declared.segments.Row.{Row}
 use Rattle.tx_layout.specs.declared.layout.Line.{Line}
 use Rattle.tx_layout.specs.Frames.{least_width, frame_of}
-use Rattle.tx_layout.specs.Words.{cells_across, capped}
+use Rattle.tx_layout.specs.Words.{cells_across, capped_item}
 use Rattle.tx_layout.specs.Segments.{shift, piece_of, width_at, indent_at, no_span, line_of, lines_of}
-use Rattle.tx_layout.specs.Shapes.{is_cut, Cutting, Whole, empty_line, page_ending, with_last, behind_cut}
+use Rattle.tx_layout.specs.Shapes.{is_break, Cutting, Whole, empty_line, page_ending, with_last, behind_cut}
 use Rattle.tx_layout.specs.Shapes.{or_empty, HasLines, last_segment, then_cut, items_shown, IsShape}
 use Rattle.tx_layout.specs.Rows.{line_at, empty_row, row_ending, rows_behind, rows_or_empty, IsWithin, row_at, rows_at}
 use Rattle.tx_layout.specs.Rows.{Rises, AreRows, OwnLines}
@@ -226,7 +226,7 @@ shape_more frame items b start end rows rows' own own' cut on there whole cuttin
     let parts : drop start items ≡ segment ++ cut ∷ drop (end + 1) items =
     drop_split items start end on
     ∙ ap (λ l. segment ++ l) (drop_more items end cut there ∙ ap (λ i. i ∷ drop (end + 1) items) (sym is)) in
-    let cuts : is_cut cut ≡ true =
+    let cuts : is_break cut ≡ true =
     subst Cutting (sym is)
     (at_slice Cutting items end (end + 1) end cut cutting (omega arith) (omega arith) (omega arith)) in
     let lines : List Line = behind_cut cut (or_empty b false ours.words) in
@@ -258,11 +258,11 @@ shape_done frame items b start end rows rows' own on within past whole ours f so
 
 -- the lines of a paragraph, from what each call gave
 pub laid_out : (p : Paragraph) (width least : ℕ) (frame : Frame) (shown given : List Item) (rows lent : List Row)
-    (lines : List Line) → frame ≡ frame_of p width → least ≡ least_width frame → shown ≡ map (capped least) p.items
+    (lines : List Line) → frame ≡ frame_of p width → least ≡ least_width frame → shown ≡ map (capped_item least) p.items
     → given ≡ shown → HasLines frame true given (map (line_at given) rows) → lent ≡ rows
     → lines ≡ map (line_at shown) lent → IsShape p width lines
 laid_out p width least frame shown given rows lent lines f e s g h l m =
-    let all : given ≡ items_shown p width = g ∙ s ∙ ap (λ n. map (capped n) p.items) (e ∙ ap least_width f) in
+    let all : given ≡ items_shown p width = g ∙ s ∙ ap (λ n. map (capped_item n) p.items) (e ∙ ap least_width f) in
     let same : lines ≡ map (line_at given) rows = m ∙ ap₂ (λ is rs. map (line_at is) rs) (sym g) l in
     let P : Frame → List Item → List Line → Type 0 = λ a is ls. HasLines a true is ls in
     subst (λ (a : Frame). P a (items_shown p width) lines) f

@@ -14,7 +14,7 @@ use Rattle.tx_layout.specs.declared.layout.Line.{Line}
 use Rattle.tx_layout.specs.Frames.{least_width}
 use Rattle.tx_layout.specs.Words.{cells_across, Solid, Blank, IsSpan, SpansFrom}
 use Rattle.tx_layout.specs.Segments.{piece_of, width_at, lines_of, HasWords}
-use Rattle.tx_layout.specs.Shapes.{Whole, is_cut, behind_cut, or_empty, HasLines, last_segment, then_cut}
+use Rattle.tx_layout.specs.Shapes.{Whole, is_break, behind_cut, or_empty, HasLines, last_segment, then_cut}
 use Rattle.tx_layout.proofs.Slices.{at_slice, at_drop, cells_le}
 
 no_both : (i : Item) → Blank i → Solid i → ⊥
@@ -104,11 +104,11 @@ words_once frame b items lines others h k =
 
 -- ---- segments
 
-unlike : (i j : Item) → i ≡ j → is_cut i ≡ true → is_cut j ≡ false → ⊥
-unlike i j e t f = let no : true ≡ false = sym t ∙ ap is_cut e ∙ f in cc
+unlike : (i j : Item) → i ≡ j → is_break i ≡ true → is_break j ≡ false → ⊥
+unlike i j e t f = let no : true ≡ false = sym t ∙ ap is_break e ∙ f in cc
 
 -- a list without a cut has none in it
-none_inside : (segment : List Item) (cut : Item) (rest : List Item) → is_cut cut ≡ true
+none_inside : (segment : List Item) (cut : Item) (rest : List Item) → is_break cut ≡ true
     → All Whole (segment ++ cut ∷ rest) → ⊥
 none_inside [] cut rest is h = unlike cut cut refl is (All-head Whole cut rest h)
 none_inside (x ∷ xs) cut rest is h = none_inside xs cut rest is (All-tail Whole x (xs ++ cut ∷ rest) h)
@@ -120,7 +120,7 @@ record SameCut (x y : List Item) (a b : Item) (s t : List Item) : Type 0 where
   behind : s ≡ t
 
 same_cut : (x y : List Item) (a b : Item) (s t : List Item) → x ++ a ∷ s ≡ y ++ b ∷ t → All Whole x → All Whole y
-    → is_cut a ≡ true → is_cut b ≡ true → SameCut x y a b s t
+    → is_break a ≡ true → is_break b ≡ true → SameCut x y a b s t
 same_cut [] [] a b s t e h k p q = record { before = refl; here = cc; behind = cc }
 same_cut [] (j ∷ y) a b s t e h k p q =
     let first : a ≡ j = cc in

@@ -16,7 +16,7 @@ use Rattle.tx_layout.specs.declared.measures.Frame.{Frame}
 use Rattle.tx_layout.specs.declared.pieces.Span.{Span}
 use Rattle.tx_layout.specs.declared.segments.Row.{Row}
 use Rattle.tx_layout.specs.Frames.{least_width, IsFrame}
-use Rattle.tx_layout.specs.Words.{capped, SpansFrom}
+use Rattle.tx_layout.specs.Words.{capped_item, SpansFrom}
 use Rattle.tx_layout.specs.Segments.{piece_of, width_at}
 use Rattle.tx_layout.specs.Rows.{capped_piece, Narrow, rows_at, AreRows}
 use Rattle.tx_layout.proofs.Spans.{is_width}
@@ -95,7 +95,7 @@ filled items ss pieces first later cuts a b e h =
     uncapped (map (piece_of items) ss) first later cuts a b (subst P (e ∙ map_both items ss) h)
 
 -- items as they stand on lines are no wider than the least width
-one_shown : (least : ℕ) (i : Item) → 10 ≤ least → IsNarrow i → Narrow least (capped least i)
+one_shown : (least : ℕ) (i : Item) → 10 ≤ least → IsNarrow i → Narrow least (capped_item least i)
 one_shown least (Glyph d) h n = omega arith
 one_shown least (Space d) h n = omega arith
 one_shown least (Gap m) h n = omega arith
@@ -104,10 +104,11 @@ one_shown least PageEnd h n = omega arith
 one_shown least (Down m) h n = omega arith
 
 pub all_shown : (least : ℕ) (items : List Item) → 10 ≤ least → All IsNarrow items
-    → All (Narrow least) (map (capped least) items)
+    → All (Narrow least) (map (capped_item least) items)
 all_shown least [] h n = All-nil (Narrow least)
 all_shown least (x ∷ xs) h n =
-    All-cons (Narrow least) (capped least x) (map (capped least) xs) (one_shown least x h (All-head IsNarrow x xs n))
+    All-cons (Narrow least) (capped_item least x) (map (capped_item least) xs)
+    (one_shown least x h (All-head IsNarrow x xs n))
     (all_shown least xs h (All-tail IsNarrow x xs n))
 
 -- the rows of a segment's words, from what each call gave
@@ -134,11 +135,11 @@ are_rows frame b start least width segment spans given shown pieces filling cuts
     }
 
 pub shown_narrow : (frame : Frame) (least : ℕ) (items shown given : List Item) → IsFrame frame
-    → least ≡ least_width frame → All IsNarrow items → shown ≡ map (capped least) items → given ≡ shown
+    → least ≡ least_width frame → All IsNarrow items → shown ≡ map (capped_item least) items → given ≡ shown
     → All (Narrow (least_width frame)) given
 shown_narrow frame least items shown given hf e n s g =
     let first = hf.first.0 in
     let later = hf.later.0 in
     let wide : 10 ≤ least_width frame = omega arith in
-    let same : given ≡ map (capped (least_width frame)) items = g ∙ s ∙ ap (λ l. map (capped l) items) e in
+    let same : given ≡ map (capped_item (least_width frame)) items = g ∙ s ∙ ap (λ l. map (capped_item l) items) e in
     subst (All (Narrow (least_width frame))) (sym same) (all_shown (least_width frame) items wide n)

@@ -7,23 +7,23 @@ use Rattle.tx_items.specs.declared.drawing.Paragraph.{Paragraph}
 use Rattle.tx_layout.specs.declared.measures.Frame.{Frame}
 use Rattle.tx_layout.specs.declared.layout.Line.{Line}
 use Rattle.tx_layout.specs.Frames.{frame_of, least_width}
-use Rattle.tx_layout.specs.Words.{capped}
+use Rattle.tx_layout.specs.Words.{capped_item}
 use Rattle.tx_layout.specs.Segments.{HasWords}
 
 -- what cuts a paragraph into segments
-abbrev pub is_cut : Item → Bool
-is_cut (Glyph d) = false
-is_cut (Space d) = false
-is_cut (Gap n) = false
-is_cut Break = true
-is_cut PageEnd = true
-is_cut (Down n) = true
+abbrev pub is_break : Item → Bool
+is_break (Glyph d) = false
+is_break (Space d) = false
+is_break (Gap n) = false
+is_break Break = true
+is_break PageEnd = true
+is_break (Down n) = true
 
 abbrev pub Cutting : Item → Type 0
-Cutting item = is_cut item ≡ true
+Cutting item = is_break item ≡ true
 
 abbrev pub Whole : Item → Type 0
-Whole item = is_cut item ≡ false
+Whole item = is_break item ≡ false
 
 abbrev pub empty_line : Line
 empty_line = record { indent = 0; items = []; page_end = false }
@@ -62,7 +62,7 @@ pub data HasLines (frame : Frame) : Bool → List Item → List Line → Type 0 
   last_segment : (is_first : Bool) (segment : List Item) (words : List Line) → All Whole segment
       → HasWords frame is_first segment words → HasLines frame is_first segment (or_empty is_first true words)
   then_cut : (is_first : Bool) (items segment : List Item) (cut : Item) (rest : List Item) (words others : List Line)
-      → items ≡ segment ++ cut ∷ rest → All Whole segment → is_cut cut ≡ true → HasWords frame is_first segment words
+      → items ≡ segment ++ cut ∷ rest → All Whole segment → is_break cut ≡ true → HasWords frame is_first segment words
       → HasLines frame false rest others
       → HasLines frame is_first items (behind_cut cut (or_empty is_first false words) ++ others)
 
@@ -77,7 +77,7 @@ is_ink (Down n) = false
 
 -- the items of a paragraph as they stand on lines
 abbrev pub items_shown : Paragraph → ℕ → List Item
-items_shown p width = map (capped (least_width (frame_of p width))) p.items
+items_shown p width = map (capped_item (least_width (frame_of p width))) p.items
 
 -- these are the lines of the paragraph on a page of this width
 abbrev pub IsShape : Paragraph → ℕ → List Line → Type 0

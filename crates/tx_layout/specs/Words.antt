@@ -6,13 +6,13 @@ use Rattle.tx_items.specs.declared.drawing.Item.TheVariants.{Glyph, Space, Gap, 
 use Rattle.tx_layout.specs.declared.pieces.Span.{Span}
 
 -- a gap counts as at most the least width
-abbrev pub capped : ℕ → Item → Item
-capped least (Glyph d) = Glyph d
-capped least (Space d) = Space d
-capped least (Gap n) = Gap (min n least)
-capped least Break = Break
-capped least PageEnd = PageEnd
-capped least (Down n) = Down n
+abbrev pub capped_item : ℕ → Item → Item
+capped_item least (Glyph d) = Glyph d
+capped_item least (Space d) = Space d
+capped_item least (Gap n) = Gap (min n least)
+capped_item least Break = Break
+capped_item least PageEnd = PageEnd
+capped_item least (Down n) = Down n
 
 -- the cells that an item takes on its line
 abbrev pub item_cells : Item → ℕ
@@ -26,19 +26,19 @@ item_cells (Down n) = 0
 abbrev pub cells_across : List Item → ℕ
 cells_across items = sum_by item_cells items
 
-abbrev pub is_blank : Item → Bool
-is_blank (Glyph d) = false
-is_blank (Space d) = true
-is_blank (Gap n) = false
-is_blank Break = false
-is_blank PageEnd = false
-is_blank (Down n) = false
+abbrev pub is_blank_item : Item → Bool
+is_blank_item (Glyph d) = false
+is_blank_item (Space d) = true
+is_blank_item (Gap n) = false
+is_blank_item Break = false
+is_blank_item PageEnd = false
+is_blank_item (Down n) = false
 
 abbrev pub Blank : Item → Type 0
-Blank item = is_blank item ≡ true
+Blank item = is_blank_item item ≡ true
 
 abbrev pub Solid : Item → Type 0
-Solid item = is_blank item ≡ false
+Solid item = is_blank_item item ≡ false
 
 -- spaces, and a piece of a word behind them, which ends at a space, at the end of the items, or where one item more
 -- would make it too wide

@@ -5,7 +5,7 @@ ghost use Rattle.tx_items.specs.declared.drawing.Item.{Item};
 ghost use Rattle.tx_items.specs.declared.drawing.Paragraph.{Paragraph};
 ghost use Rattle.tx_items.specs.Narrow.{IsNarrow};
 ghost use Rattle.tx_layout.specs.declared.layout.Line.{Line};
-ghost use Rattle.tx_layout.specs.Words.{capped, cells_across};
+ghost use Rattle.tx_layout.specs.Words.{capped_item, cells_across};
 ghost use Rattle.tx_layout.specs.Shapes.{items_shown, IsShape, is_ink};
 ghost use Rattle.tx_layout.specs.Rows.{IsWithin, line_at};
 
@@ -84,7 +84,7 @@ impl Line {
 
 // The item as it stands on a line of a paragraph with this least width.
 fn item_shown(item: &Item, least: u32) -> Result<Item, Memory>
-    ensures { IfOk result (λ i. i ≡ capped least item.now) }
+    ensures { IfOk result (λ i. i ≡ capped_item least item.now) }
 {
     match item {
         Item::Glyph(drawn) => Ok(Item::Glyph(drawn.copy()?)),
@@ -98,7 +98,7 @@ fn item_shown(item: &Item, least: u32) -> Result<Item, Memory>
 
 // Whether the item stands on lines as it is, where this is the least width.
 fn is_kept(item: &Item, least: u32) -> bool
-    ensures { IsTrue result → capped least item.now ≡ item.now }
+    ensures { IsTrue result → capped_item least item.now ≡ item.now }
 {
     match item {
         Item::Glyph(_) => true,
@@ -112,7 +112,7 @@ fn is_kept(item: &Item, least: u32) -> bool
 
 // Whether all items stand on lines as they are.
 fn are_kept(items: &[Item], least: u32) -> bool
-    ensures { IsTrue result → map (capped least) items.now ≡ items.now }
+    ensures { IsTrue result → map (capped_item least) items.now ≡ items.now }
 {
     for item in items {
         if !is_kept(item, least) {
@@ -124,7 +124,7 @@ fn are_kept(items: &[Item], least: u32) -> bool
 
 // The items as they stand on lines, with gaps cut.
 fn items_cut(alloc: Global, items: &[Item], least: u32) -> Result<Items, Memory>
-    ensures { IfOk result (λ shown. shown ≡ map (capped least) items.now) }
+    ensures { IfOk result (λ shown. shown ≡ map (capped_item least) items.now) }
 {
     let mut shown = Vec::with_capacity(alloc, items.len())?;
     for item in items {
@@ -135,7 +135,7 @@ fn items_cut(alloc: Global, items: &[Item], least: u32) -> Result<Items, Memory>
 
 // The items as they stand on lines.
 fn items_shown(alloc: Global, items: &Items, least: u32) -> Result<Items, Memory>
-    ensures { IfOk result (λ shown. shown ≡ map (capped least) items.now) }
+    ensures { IfOk result (λ shown. shown ≡ map (capped_item least) items.now) }
 {
     if are_kept(items.all(), least) {
         return items.share();

@@ -1,6 +1,6 @@
 // Words of a segment, cut into pieces.
 ghost use Rattle.std.specs.Prelude.{◌≡◌, ◌≤◌, ◌<◌, ◌+◌, ◌^◌, ◌⊎◌, min, map, length, All, IfOk, slice_range};
-ghost use Rattle.tx_layout.specs.Words.{is_blank, item_cells, cells_across, Solid, Blank, IsSpan, SpansFrom};
+ghost use Rattle.tx_layout.specs.Words.{is_blank_item, item_cells, cells_across, Solid, Blank, IsSpan, SpansFrom};
 ghost use Rattle.tx_layout.specs.Segments.{piece_of};
 ghost use Rattle.tx_layout.specs.Rows.{Narrow, capped_piece};
 
@@ -24,8 +24,8 @@ pub struct Span {
 const TOO_MANY: u32 = 501;
 
 // Whether a space stands here.
-fn is_blank(item: &Item) -> bool
-    ensures { result ≡ is_blank item.now }
+fn is_blank_item(item: &Item) -> bool
+    ensures { result ≡ is_blank_item item.now }
 {
     match item {
         Item::Glyph(_) => false,
@@ -72,7 +72,7 @@ fn spaces_end(items: &[Item], from: usize) -> usize
 {
     let mut end = from;
     while end < items.len() {
-        if !is_blank(&items[end]) {
+        if !is_blank_item(&items[end]) {
             return end;
         }
         end += 1;
@@ -97,7 +97,7 @@ fn piece_end(items: &[Item], from: usize, least: u32) -> usize
     let mut used = item_cells(&items[from]);
     let mut end = from + 1;
     while end < items.len() {
-        if is_blank(&items[end]) {
+        if is_blank_item(&items[end]) {
             return end;
         }
         let more = used + item_cells(&items[end]);

@@ -3,7 +3,7 @@ ghost use Rattle.std.specs.Prelude.{◌≡◌, ◌≤◌, ◌<◌, ◌+◌, ◌^
 ghost use Rattle.std.specs.Prelude.{slice_range};
 ghost use Rattle.tx_items.specs.declared.drawing.Item.{Item};
 ghost use Rattle.tx_layout.specs.Frames.{least_width, IsFrame};
-ghost use Rattle.tx_layout.specs.Shapes.{is_cut, Cutting, Whole, HasLines};
+ghost use Rattle.tx_layout.specs.Shapes.{is_break, Cutting, Whole, HasLines};
 ghost use Rattle.tx_layout.specs.Rows.{Narrow, IsWithin, line_at, rows_behind, rows_or_empty, OwnLines};
 
 use crate::measures::Frame;
@@ -20,8 +20,8 @@ const EMPTY: Row = Row {
 };
 
 // Whether a paragraph is cut here.
-fn is_cut(item: &Item) -> bool
-    ensures { result ≡ is_cut item.now }
+fn is_break(item: &Item) -> bool
+    ensures { result ≡ is_break item.now }
 {
     match item {
         Item::Glyph(_) => false,
@@ -43,7 +43,7 @@ fn cut_place(items: &[Item], from: usize) -> usize
 {
     let mut end = from;
     while end < items.len() {
-        if is_cut(&items[end]) {
+        if is_break(&items[end]) {
             return end;
         }
         end += 1;

@@ -22,11 +22,12 @@ use Rattle.tx_mod.specs.declared.faults.ModFault.TheVariants.{NoPath, NotNode, B
 use Rattle.tx_mod.specs.declared.mods.Mod.{Mod}
 use Rattle.tx_mod.specs.declared.mods.Mod.TheVariants.{Assign, Insert, Remove, Split, Join, AssignNode, InsertNode}
 use Rattle.tx_mod.specs.declared.mods.Mod.TheVariants.{RemoveNode}
-use Rattle.tx_mod.specs.Mods.{path_of, tuple, put_in, taken_out, part_of, extent, is_clean, before, behind, replaced}
+use Rattle.tx_mod.specs.Mods.{path_of, tuple, put_in, taken_out, slice_of, extent, is_clean, tree_up_to, tree_from}
+use Rattle.tx_mod.specs.Mods.{replaced}
 use Rattle.tx_mod.specs.Changes.{Outcome, asking, inserted, removed, split, split_child, joined, joined_at}
 use Rattle.tx_mod.specs.Changes.{in_place_of_two, labelled, wrapped, unwrapped, changed_at, limited, put_back, changed}
 use Rattle.tx_mod.specs.Inverses.{removed_part, without_child, inverse_at}
-use Rattle.tx_mod.specs.Sound.{IsSound, GivesBack}
+use Rattle.tx_mod.specs.Sound.{IsSoundMod, GivesBack}
 use Rattle.tx_mod.proofs.Lists.{list_at}
 use Rattle.tx_mod.proofs.Measuring.{join_is, split_is, unwrap_is}
 use Rattle.tx_mod.proofs.Remade.{texts_together, text_before, text_behind, asked_ok}
@@ -48,15 +49,15 @@ put_taken {X} xs ys i le =
 
 -- taken out and put in again
 pub taken_put : {X : Type 0} (xs : List X) (i n : ℕ) → i + n ≤ length xs
-    → put_in (taken_out xs i n) i (part_of xs i n) ≡ xs
+    → put_in (taken_out xs i n) i (slice_of xs i n) ≡ xs
 taken_put {X} xs i n le =
     let front : length (take i xs) ≡ i = length-take-le {A = X} i xs (omega arith) in
     let one : take i (taken_out xs i n) ≡ take i xs = take_at (take i xs) (drop (i + n) xs) i front in
     let two : drop i (taken_out xs i n) ≡ drop (i + n) xs = drop_at (take i xs) (drop (i + n) xs) i front in
-    let rest : part_of xs i n ++ drop (i + n) xs ≡ drop i xs = ap (λ z. part_of xs i n ++ z) (sym (drop-drop n i xs))
+    let rest : slice_of xs i n ++ drop (i + n) xs ≡ drop i xs = ap (λ z. slice_of xs i n ++ z) (sym (drop-drop n i xs))
     ∙ take-append-drop n (drop i xs) in
-    ap (λ z. z ++ part_of xs i n ++ drop i (taken_out xs i n)) one ∙ ap (λ z. take i xs ++ part_of xs i n ++ z) two
-    ∙ append_assoc (take i xs) (part_of xs i n) (drop (i + n) xs)
+    ap (λ z. z ++ slice_of xs i n ++ drop i (taken_out xs i n)) one ∙ ap (λ z. take i xs ++ slice_of xs i n ++ z) two
+    ∙ append_assoc (take i xs) (slice_of xs i n) (drop (i + n) xs)
     ∙ ap (λ z. take i xs ++ z) rest ∙ take-append-drop i xs
 
 pub get_at : {X : Type 0} → (xs : List X) (x : X) (ys : List X) (n : ℕ) → length xs ≡ n
@@ -150,7 +151,7 @@ remove_back (leaf text) v i n h e =
     let cut : is_cut w i ≡ true = cut_between (take i text) (drop (i + n) text) i (text_before text i h b.0)
     (text_behind text (i + n) h c.0) front in
     let fits : i ≤ length w = omega (arith, length-append (take i text) (drop (i + n) text), front) in
-    ap (λ z. inserted z i (leaf (part_of text i n))) (sym (same_tree (leaf w) v c.1))
+    ap (λ z. inserted z i (leaf (slice_of text i n))) (sym (same_tree (leaf w) v c.1))
     ∙ asked_ok (leb i (length w)) (BadPlace (length w)) _ (le-leb i (length w) fits)
     ∙ asked_ok (is_cut w i) (CutsSymbol i) _ cut
     ∙ ap (λ z. Ok (leaf z)) (taken_put text i n le)
@@ -158,7 +159,7 @@ remove_back (node l ts) v i n h e =
     let a = ok_asked (leb (i + n) (length (trees ts))) (BadPlace (length (trees ts))) _ v e in
     let le : i + n ≤ length (trees ts) = leb-true (i + n) (length (trees ts)) a.0 in
     let ws : List WideTree = taken_out (trees ts) i n in
-    let us : List WideTree = part_of (trees ts) i n in
+    let us : List WideTree = slice_of (trees ts) i n in
     let fits : i ≤ length ws =
     omega (
       arith,
@@ -180,7 +181,7 @@ remove_back (node l ts) v i n h e =
 
 -- ---- splitting and joining
 
-rejoined : (c : WideTree) (j : ℕ) → joined (before c j) (behind c j) ≡ Ok c
+rejoined : (c : WideTree) (j : ℕ) → joined (tree_up_to c j) (tree_from c j) ≡ Ok c
 rejoined (leaf text) j = ap (λ z. Ok (leaf z)) (take-append-drop j text)
 rejoined (node l ts) j =
     asked_ok (bytes_eq l l) Differ _ (eq_self l)
@@ -198,22 +199,23 @@ split_back (node l ts) v i j e =
     let a = ok_asked (leb j (extent c)) (BadPlace (extent c)) _ v g.2 in
     let b = ok_asked (is_clean c j) (CutsSymbol j) _ v a.1 in
     let rest : List WideTree = drop (i + 1) T in
-    let ws : List WideTree = take i T ++ before c j ∷ behind c j ∷ rest in
+    let ws : List WideTree = take i T ++ tree_up_to c j ∷ tree_from c j ∷ rest in
     let within : i < length T = slice_get_within T i c g.1 in
     let front : length (take i T) ≡ i = length-take-le i T (omega arith) in
-    let first : slice_get ws i ≡ Some (before c j) = get_at (take i T) (before c j) (behind c j ∷ rest) i front in
-    let regrouped : ws ≡ (take i T ++ before c j ∷ []) ++ behind c j ∷ rest =
-    sym (append_assoc (take i T) (before c j ∷ []) (behind c j ∷ rest)) in
-    let second : slice_get ws (i + 1) ≡ Some (behind c j) =
+    let first : slice_get ws i ≡ Some (tree_up_to c j) =
+    get_at (take i T) (tree_up_to c j) (tree_from c j ∷ rest) i front in
+    let regrouped : ws ≡ (take i T ++ tree_up_to c j ∷ []) ++ tree_from c j ∷ rest =
+    sym (append_assoc (take i T) (tree_up_to c j ∷ []) (tree_from c j ∷ rest)) in
+    let second : slice_get ws (i + 1) ≡ Some (tree_from c j) =
     ap (λ zs. slice_get zs (i + 1)) regrouped
-    ∙ get_at (take i T ++ before c j ∷ []) (behind c j) rest (i + 1)
-    (omega (arith, length-append (take i T) (before c j ∷ []), front)) in
-    let one : take i ws ≡ take i T = take_at (take i T) (before c j ∷ behind c j ∷ rest) i front in
+    ∙ get_at (take i T ++ tree_up_to c j ∷ []) (tree_from c j) rest (i + 1)
+    (omega (arith, length-append (take i T) (tree_up_to c j ∷ []), front)) in
+    let one : take i ws ≡ take i T = take_at (take i T) (tree_up_to c j ∷ tree_from c j ∷ rest) i front in
     let two : drop (i + 2) ws ≡ rest =
-    ap (drop (i + 2)) (sym (append_assoc (take i T) (before c j ∷ behind c j ∷ []) rest))
-    ∙ drop_at (take i T ++ before c j ∷ behind c j ∷ []) rest (i + 2)
-    (omega (arith, length-append (take i T) (before c j ∷ behind c j ∷ []), front)) in
-    join_is v l ws i (before c j) (behind c j) (sym (same_tree (node l (forest ws)) v b.1)) first second
+    ap (drop (i + 2)) (sym (append_assoc (take i T) (tree_up_to c j ∷ tree_from c j ∷ []) rest))
+    ∙ drop_at (take i T ++ tree_up_to c j ∷ tree_from c j ∷ []) rest (i + 2)
+    (omega (arith, length-append (take i T) (tree_up_to c j ∷ tree_from c j ∷ []), front)) in
+    join_is v l ws i (tree_up_to c j) (tree_from c j) (sym (same_tree (node l (forest ws)) v b.1)) first second
     ∙ ap (in_place_of_two l ws i) (rejoined c j)
     ∙ ap (λ zs. Ok (node l (forest (zs ++ c ∷ drop (i + 2) ws)))) one
     ∙ ap (λ zs. Ok (node l (forest (take i T ++ c ∷ zs)))) two
@@ -224,8 +226,8 @@ split_back (node l ts) v i j e =
 record IsResplit (a b c : WideTree) : Type 0 where
   there : extent a ≤ extent c
   clean : is_clean c (extent a) ≡ true
-  front : before c (extent a) ≡ a
-  back : behind c (extent a) ≡ b
+  front : tree_up_to c (extent a) ≡ a
+  back : tree_from c (extent a) ≡ b
 
 resplit : (a b c : WideTree) → IsWellFormed a → IsWellFormed b → joined a b ≡ Ok c → IsResplit a b c
 resplit (leaf x) (leaf y) c h k e =
@@ -296,7 +298,7 @@ join_back (node l ts) v i h e =
     ∙ split_is v l ws i j c (sym t.2) found
     ∙ asked_ok (leb j (extent c)) (BadPlace (extent c)) _ (le-leb j (extent c) r.there)
     ∙ asked_ok (is_clean c j) (CutsSymbol j) _ r.clean
-    ∙ ap (λ z. Ok (node l (forest (take i ws ++ z ∷ behind c j ∷ drop (i + 1) ws)))) r.front
+    ∙ ap (λ z. Ok (node l (forest (take i ws ++ z ∷ tree_from c j ∷ drop (i + 1) ws)))) r.front
     ∙ ap (λ z. Ok (node l (forest (take i ws ++ a ∷ z ∷ drop (i + 1) ws)))) r.back
     ∙ ap (λ zs. Ok (node l (forest (zs ++ a ∷ b ∷ drop (i + 1) ws)))) one
     ∙ ap (λ zs. Ok (node l (forest (take i T ++ a ∷ b ∷ zs)))) two
@@ -331,7 +333,7 @@ unwrap_back (node l ts) v i e =
     let ws : List WideTree = taken_out T i 1 in
     let fits : i ≤ length ws =
     omega (arith, length-append (take i T) (drop (i + 1) T), length-take-le i T (omega arith)) in
-    let part : part_of T i 1 ≡ v ∷ [] = ap (take 1) (drop_item T i v found) in
+    let part : slice_of T i 1 ≡ v ∷ [] = ap (take 1) (drop_item T i v found) in
     ap (λ zs. asking (leb i (length zs)) (BadPlace (length zs)) (Ok (node l (forest (put_in zs i (v ∷ []))))))
     (trees_forest ws)
     ∙ asked_ok (leb i (length ws)) (BadPlace (length ws)) _ (le-leb i (length ws) fits)
@@ -341,7 +343,7 @@ unwrap_back (node l ts) v i e =
 
 -- ---- all kinds
 
-back_at : (m : Mod) (s v : WideTree) → IsSound m → IsWellFormed s → changed_at m s ≡ Ok v
+back_at : (m : Mod) (s v : WideTree) → IsSoundMod m → IsWellFormed s → changed_at m s ≡ Ok v
     → changed_at (inverse_at m s) v ≡ Ok s
 back_at (Assign p x) s v h k e = refl
 back_at (Insert p i x) s v h k e = insert_back s x v i k h e

@@ -17,7 +17,7 @@ use Rattle.tx_tree.proofs.Children.{trees_forest, count-forest}
 use Rattle.tx_tree.proofs.TextFaults.{text_has_no_fault}
 use Rattle.tx_tree.proofs.TreeFaults.{tree_has_no_fault}
 use Rattle.tx_tree.proofs.Walking.{step_down}
-use Rattle.tx_mod.specs.Mods.{with_child, replaced}
+use Rattle.tx_mod.specs.Mods.{with_child_at, replaced}
 use Rattle.tx_mod.proofs.Lists.{drop_past}
 use Rattle.tx_mod.proofs.Replacing.{replaced_down, text_in_replaced, arity_in_replaced, size_of_subtree, depth_with}
 use Rattle.tx_mod.proofs.Replacing.{with_same_child, child_of_with}
@@ -58,7 +58,7 @@ set_is (x ∷ xs) (suc i) v lt = let rest : set xs i v ≡ take i xs ++ v ∷ dr
     ap (λ z. x ∷ z) (rest ∙ ap (λ z. take i xs ++ v ∷ z) (sym (drop_past xs x i)))
 
 pub with_child_seen : (t v : WideTree) (i : ℕ) (l : List ℕ) (ts : List WideTree) → t ≡ node l (forest ts)
-    → i < length ts → with_child t i v ≡ node l (forest ((take i ts ++ v ∷ []) ++ drop (i + 1) ts))
+    → i < length ts → with_child_at t i v ≡ node l (forest ((take i ts ++ v ∷ []) ++ drop (i + 1) ts))
 with_child_seen t v i l ts e lt =
     rw (e, trees_forest ts)
     (ap (λ us. node l (forest us)) (set_is ts i v lt ∙ sym (append_assoc (take i ts) (v ∷ []) (drop (i + 1) ts))))
@@ -66,7 +66,7 @@ with_child_seen t v i l ts e lt =
 -- the limits of a node made of the parts
 pub with_child_within : (t v : WideTree) (i : ℕ) (l : List ℕ) (ts us : List WideTree) → t ≡ node l (forest ts)
     → i < length ts → us ≡ (take i ts ++ v ∷ []) ++ drop (i + 1) ts
-    → IsWithinLimits (with_child t i v) → IsWithinLimits (node l (forest us))
+    → IsWithinLimits (with_child_at t i v) → IsWithinLimits (node l (forest us))
 with_child_within t v i l ts us e lt is w = rw is (subst IsWithinLimits (with_child_seen t v i l ts e lt) w)
 
 -- ---- the first step of a path
@@ -76,14 +76,14 @@ pub leads_down : (t c : WideTree) (path rest : List ℕ) (i : ℕ) → slice_get
 leads_down t c path rest i f e h = subst (λ o. IsSome o) (ap (subtree t) e ∙ step_down t c i rest f) h
 
 pub replaced_first : (t c u : WideTree) (path rest : List ℕ) (i : ℕ) → slice_get (children_of t) i ≡ Some c
-    → path ≡ i ∷ rest → replaced t path u ≡ with_child t i (replaced c rest u)
+    → path ≡ i ∷ rest → replaced t path u ≡ with_child_at t i (replaced c rest u)
 replaced_first t c u path rest i f e = ap (λ p. replaced t p u) e ∙ replaced_down t c i rest u f
 
 -- a child is within the limits
 pub child_within : (t c : WideTree) (i : ℕ) → slice_get (children_of t) i ≡ Some c → IsWithinLimits t → IsWithinLimits c
 child_within t c i f w =
-    let e : replaced t (i ∷ []) c ≡ with_child t i c = replaced_down t c i [] c f in
-    let same : with_child t i c ≡ t = with_same_child t c i f in
+    let e : replaced t (i ∷ []) c ≡ with_child_at t i c = replaced_down t c i [] c f in
+    let same : with_child_at t i c ≡ t = with_same_child t c i f in
     let path : subtree t (i ∷ []) ≡ Some c = step_down t c i [] f in
     record {
       text = omega (arith, w.text, text_in_replaced (i ∷ []) t c c path, ap text_length_of e, ap text_length_of same);
@@ -95,7 +95,8 @@ child_within t c i f w =
 pub within_down : (t c u : WideTree) (path rest : List ℕ) (i : ℕ) → slice_get (children_of t) i ≡ Some c
     → path ≡ i ∷ rest → IsWithinLimits (replaced t path u) → IsWithinLimits (replaced c rest u)
 within_down t c u path rest i f e w =
-    child_within (with_child t i (replaced c rest u)) (replaced c rest u) i (child_of_with t c (replaced c rest u) i f)
+    child_within (with_child_at t i (replaced c rest u)) (replaced c rest u) i
+    (child_of_with t c (replaced c rest u) i f)
     (subst IsWithinLimits (replaced_first t c u path rest i f e) w)
 
 pub ruleset child_rules = (with_child_seen, with_child_within, children_seen, common_steps)

@@ -15,10 +15,11 @@ use Rattle.tx_mod.specs.declared.faults.ModFault.TheVariants.{NotNode, BadPlace,
 use Rattle.tx_mod.specs.declared.mods.Mod.{Mod}
 use Rattle.tx_mod.specs.declared.mods.Mod.TheVariants.{Assign, Insert, Remove, Split, Join, AssignNode, InsertNode}
 use Rattle.tx_mod.specs.declared.mods.Mod.TheVariants.{RemoveNode}
-use Rattle.tx_mod.specs.Mods.{path_of, tuple, put_in, taken_out, is_clean, extent, before, behind, with_child, replaced}
+use Rattle.tx_mod.specs.Mods.{path_of, tuple, put_in, taken_out, is_clean, extent, tree_up_to, tree_from, with_child_at}
+use Rattle.tx_mod.specs.Mods.{replaced}
 use Rattle.tx_mod.specs.Changes.{inserted, removed, split, split_child, joined, joined_at, in_place_of_two, limited}
 use Rattle.tx_mod.specs.Changes.{labelled, wrapped, unwrapped, changed_at, changed}
-use Rattle.tx_mod.specs.Sound.{IsSound, StaysWellFormed}
+use Rattle.tx_mod.specs.Sound.{IsSoundMod, StaysWellFormed}
 use Rattle.tx_mod.proofs.Back.{ok_asked, ok_got, ok_two, same_tree, child_well_formed, well_formed_at, made_of}
 use Rattle.tx_mod.proofs.Remade.{texts_together, text_before, text_behind, text_put_in, text_taken_out}
 use Rattle.tx_mod.proofs.Replacing.{down, replaced_down}
@@ -93,11 +94,11 @@ remove_formed (node l ts) v i n h e =
     subst IsWellFormed (same_tree (node l (forest (taken_out (trees ts) i n))) v a.1)
     (h.0, formed_taken_out (trees ts) i n (all_of ts h.1))
 
-before_formed : (c : WideTree) (j : ℕ) → IsWellFormed c → is_clean c j ≡ true → IsWellFormed (before c j)
+before_formed : (c : WideTree) (j : ℕ) → IsWellFormed c → is_clean c j ≡ true → IsWellFormed (tree_up_to c j)
 before_formed (leaf text) j h e = text_before text j h e
 before_formed (node l ts) j h e = (h.0, formed_take j (trees ts) (all_of ts h.1))
 
-behind_formed : (c : WideTree) (j : ℕ) → IsWellFormed c → is_clean c j ≡ true → IsWellFormed (behind c j)
+behind_formed : (c : WideTree) (j : ℕ) → IsWellFormed c → is_clean c j ≡ true → IsWellFormed (tree_from c j)
 behind_formed (leaf text) j h e = text_behind text j h e
 behind_formed (node l ts) j h e = (h.0, formed_drop j (trees ts) (all_of ts h.1))
 
@@ -119,7 +120,7 @@ split_formed (node l ts) v i j h e =
     let a = ok_asked _ (BadPlace (extent c)) _ v g.2 in
     let b = ok_asked (is_clean c j) (CutsSymbol j) _ v a.1 in
     let k : IsWellFormed c = child_well_formed ts i c h.1 g.1 in
-    let halves : List WideTree = before c j ∷ behind c j ∷ drop (i + 1) T in
+    let halves : List WideTree = tree_up_to c j ∷ tree_from c j ∷ drop (i + 1) T in
     subst IsWellFormed (same_tree (node l (forest (take i T ++ halves))) v b.1) (
       h.0,
       AreWellFormed-append (take i T) halves (formed_take i T (all_of ts h.1))
@@ -157,7 +158,7 @@ wrap_formed s (node l ts) v i h k e =
 unwrap_formed : (s v : WideTree) (i : ℕ) → IsWellFormed s → unwrapped s i ≡ Ok v → IsWellFormed v
 unwrap_formed s v i h e = child_formed s v i h (shape_unwrapped s v i e)
 
-formed_at : (m : Mod) (s v : WideTree) → IsSound m → IsWellFormed s → changed_at m s ≡ Ok v → IsWellFormed v
+formed_at : (m : Mod) (s v : WideTree) → IsSoundMod m → IsWellFormed s → changed_at m s ≡ Ok v → IsWellFormed v
 formed_at (Assign p x) s v h k e = subst IsWellFormed (same_tree x v e) h
 formed_at (Insert p i x) s v h k e = insert_formed s x v i k h e
 formed_at (Remove p i n) s v h k e = remove_formed s v i n k e
@@ -169,7 +170,7 @@ formed_at (RemoveNode p i) s v h k e = unwrap_formed s v i k e
 
 -- ---- the whole tree
 
-with_formed : (t v : WideTree) (i : ℕ) → IsWellFormed t → IsWellFormed v → IsWellFormed (with_child t i v)
+with_formed : (t v : WideTree) (i : ℕ) → IsWellFormed t → IsWellFormed v → IsWellFormed (with_child_at t i v)
 with_formed (leaf text) v i h k = h
 with_formed (node l ts) v i h k = (h.0, formed_set (trees ts) i v (all_of ts h.1) k)
 

@@ -9,7 +9,7 @@ use Rattle.tx_tree.specs.Paths.{subtree}
 use Rattle.tx_tree.specs.WideTree.{WideTree}
 use Rattle.tx_mod.specs.declared.mods.Mod.{Mod}
 use Rattle.tx_mod.specs.Changes.{Outcome, changed}
-use Rattle.tx_mod.specs.Followed.{tree_of, changed_by_all}
+use Rattle.tx_mod.specs.Followed.{outcome_tree, changed_by_all}
 use Rattle.tx_mod.specs.InTurn.{then_changed, changed_in_turn, inverses_of, cost_of, CanBeUndone}
 use Rattle.tx_mod.specs.Inverses.{inverse_at, inverse_of}
 use Rattle.tx_mod.specs.Mods.{path_of}
@@ -18,12 +18,12 @@ use Rattle.tx_mod.proofs.Formed.{stays_well_formed}
 use Rattle.tx_mod.proofs.Twice.{made_again}
 
 -- all modifications make a tree, or some cause stops them
-pub same_in_turn : (ms : List Mod) (t : WideTree) → tree_of (changed_in_turn ms t) ≡ changed_by_all ms t
+pub same_in_turn : (ms : List Mod) (t : WideTree) → outcome_tree (changed_in_turn ms t) ≡ changed_by_all ms t
 same_in_turn [] t = refl
 same_in_turn (m ∷ ms) t = step (changed m t) (λ u. same_in_turn ms u)
   where
-    step : (o : Outcome) → ((u : WideTree) → tree_of (changed_in_turn ms u) ≡ changed_by_all ms u)
-        → tree_of (then_changed (changed_in_turn ms) o) ≡ option_and_then (changed_by_all ms) (tree_of o)
+    step : (o : Outcome) → ((u : WideTree) → outcome_tree (changed_in_turn ms u) ≡ changed_by_all ms u)
+        → outcome_tree (then_changed (changed_in_turn ms) o) ≡ option_and_then (changed_by_all ms) (outcome_tree o)
     step (Ok u) ih = ih u
     step (Err cause) ih = refl
 
@@ -46,7 +46,7 @@ first_then m ms t v e = ap (then_changed (changed_in_turn ms)) e
 
 pub inverses_from : (m : Mod) (ms : List Mod) (t v : WideTree) → changed m t ≡ Ok v
     → inverses_of (m ∷ ms) t ≡ inverses_of ms v ++ inverse_of m t ∷ []
-inverses_from m ms t v e = ap (λ o. option_map_or (inverses_of ms) (tree_of o) [] ++ inverse_of m t ∷ []) e
+inverses_from m ms t v e = ap (λ o. option_map_or (inverses_of ms) (outcome_tree o) [] ++ inverse_of m t ∷ []) e
 
 -- two lists, one after the other
 pub both_in_turn : (ms ns : List Mod) (t v : WideTree) → changed_in_turn ms t ≡ Ok v

@@ -14,7 +14,7 @@ use Rattle.tx_mod.specs.declared.faults.ModFault.TheVariants.{Differ}
 use Rattle.tx_mod.specs.declared.mods.Mod.{Mod}
 use Rattle.tx_mod.specs.declared.mods.Mod.TheVariants.{Assign, Insert, Remove, Split, Join, AssignNode, InsertNode}
 use Rattle.tx_mod.specs.declared.mods.Mod.TheVariants.{RemoveNode}
-use Rattle.tx_mod.specs.Mods.{path_of, put_in, taken_out, extent, before, behind, with_child, replaced}
+use Rattle.tx_mod.specs.Mods.{path_of, put_in, taken_out, extent, tree_up_to, tree_from, with_child_at, replaced}
 use Rattle.tx_mod.specs.Changes.{inserted, removed, split, joined, joined_at, labelled, unwrapped, changed_at}
 use Rattle.tx_mod.specs.Moves.{rest_behind, child_or_self, shifted, some_path, carried_by_insert, carried_by_remove}
 use Rattle.tx_mod.specs.Moves.{carried_in_split, carried_by_split, carried_in_join, carried_by_join, carried_by_unwrap}
@@ -70,7 +70,7 @@ pub split_front : (s v c : WideTree) (i j k : ℕ) → split s i j ≡ Ok v → 
 split_front s v c i j k e lt f =
     let h = shape_split s v i j e in
     let T : List WideTree = children_of s in
-    let rest : List WideTree = before h.child j ∷ behind h.child j ∷ drop (i + 1) T in
+    let rest : List WideTree = tree_up_to h.child j ∷ tree_from h.child j ∷ drop (i + 1) T in
     child_in v h.label (take i T ++ rest) k c h.is (two_front T rest i k c lt f)
 
 pub split_back : (s v c : WideTree) (i j k : ℕ) → split s i j ≡ Ok v → i < k → slice_get (children_of s) k ≡ Some c
@@ -78,52 +78,53 @@ pub split_back : (s v c : WideTree) (i j k : ℕ) → split s i j ≡ Ok v → i
 split_back s v c i j k e lt f =
     let h = shape_split s v i j e in
     let T : List WideTree = children_of s in
-    let rest : List WideTree = before h.child j ∷ behind h.child j ∷ drop (i + 1) T in
+    let rest : List WideTree = tree_up_to h.child j ∷ tree_from h.child j ∷ drop (i + 1) T in
     let within : i < length T = slice_get_within T i h.child h.found in
     child_in v h.label (take i T ++ rest) (k + 1) c h.is
     (at_cut T rest i (k + 1) (2 + (k - (i + 1))) c (omega arith) (omega arith)
-    (get_behind (before h.child j ∷ behind h.child j ∷ []) (drop (i + 1) T) (2 + (k - (i + 1))) (k - (i + 1)) c refl
+    (get_behind (tree_up_to h.child j ∷ tree_from h.child j ∷ []) (drop (i + 1) T) (2 + (k - (i + 1)))
+    (k - (i + 1)) c refl
     (get_drop T (i + 1) k (k - (i + 1)) c f (omega arith))))
 
 pub split_left : (s v c : WideTree) (i j : ℕ) → split s i j ≡ Ok v → slice_get (children_of s) i ≡ Some c
-    → slice_get (children_of v) i ≡ Some (before c j)
+    → slice_get (children_of v) i ≡ Some (tree_up_to c j)
 split_left s v c i j e f =
     let h = shape_split s v i j e in
     let T : List WideTree = children_of s in
-    let rest : List WideTree = before h.child j ∷ behind h.child j ∷ drop (i + 1) T in
+    let rest : List WideTree = tree_up_to h.child j ∷ tree_from h.child j ∷ drop (i + 1) T in
     let within : i < length T = slice_get_within T i h.child h.found in
     let same : h.child ≡ c = same_some h.child c (sym h.found ∙ f) in
-    child_in v h.label (take i T ++ rest) i (before c j) h.is
-    (at_cut T rest i i 0 (before c j) (omega arith) (omega arith) (ap (λ z. Some (before z j)) same))
+    child_in v h.label (take i T ++ rest) i (tree_up_to c j) h.is
+    (at_cut T rest i i 0 (tree_up_to c j) (omega arith) (omega arith) (ap (λ z. Some (tree_up_to z j)) same))
   where
     same_some : (a b : WideTree) → ◌≡◌ {A = Option WideTree} (Some a) (Some b) → a ≡ b
     same_some a b g = cc
 
 pub split_right : (s v c : WideTree) (i j : ℕ) → split s i j ≡ Ok v → slice_get (children_of s) i ≡ Some c
-    → slice_get (children_of v) (i + 1) ≡ Some (behind c j)
+    → slice_get (children_of v) (i + 1) ≡ Some (tree_from c j)
 split_right s v c i j e f =
     let h = shape_split s v i j e in
     let T : List WideTree = children_of s in
-    let rest : List WideTree = before h.child j ∷ behind h.child j ∷ drop (i + 1) T in
+    let rest : List WideTree = tree_up_to h.child j ∷ tree_from h.child j ∷ drop (i + 1) T in
     let within : i < length T = slice_get_within T i h.child h.found in
     let same : h.child ≡ c = same_some h.child c (sym h.found ∙ f) in
-    child_in v h.label (take i T ++ rest) (i + 1) (behind c j) h.is
-    (at_cut T rest i (i + 1) 1 (behind c j) (omega arith) (omega arith) (ap (λ z. Some (behind z j)) same))
+    child_in v h.label (take i T ++ rest) (i + 1) (tree_from c j) h.is
+    (at_cut T rest i (i + 1) 1 (tree_from c j) (omega arith) (omega arith) (ap (λ z. Some (tree_from z j)) same))
   where
     same_some : (a b : WideTree) → ◌≡◌ {A = Option WideTree} (Some a) (Some b) → a ≡ b
     same_some a b g = cc
 
 pub before_child : (c d : WideTree) (j l : ℕ) → l < j → slice_get (children_of c) l ≡ Some d
-    → slice_get (children_of (before c j)) l ≡ Some d
+    → slice_get (children_of (tree_up_to c j)) l ≡ Some d
 before_child (leaf text) d j l lt f = absurd (cc)
 before_child (node m us) d j l lt f =
-    child_in (before (node m us) j) m (take j (trees us)) l d refl (get_take (trees us) j l d f lt)
+    child_in (tree_up_to (node m us) j) m (take j (trees us)) l d refl (get_take (trees us) j l d f lt)
 
 pub behind_child : (c d : WideTree) (j l : ℕ) → j ≤ l → slice_get (children_of c) l ≡ Some d
-    → slice_get (children_of (behind c j)) (l - j) ≡ Some d
+    → slice_get (children_of (tree_from c j)) (l - j) ≡ Some d
 behind_child (leaf text) d j l le f = absurd (cc)
 behind_child (node m us) d j l le f =
-    child_in (behind (node m us) j) m (drop j (trees us)) (l - j) d refl
+    child_in (tree_from (node m us) j) m (drop j (trees us)) (l - j) d refl
     (get_drop (trees us) j l (l - j) d f (omega arith))
 
 pub join_front : (s v c : WideTree) (i k : ℕ) → joined_at s i ≡ Ok v → k < i → slice_get (children_of s) k ≡ Some c
@@ -219,11 +220,11 @@ split_child_keeps s v x c i j [] r e g f = keeps_none v x r
 split_child_keeps s v x c i j (l ∷ w) r e g f =
     by_test (Keeps v x r) (leb j l) (Some ((i + 1) ∷ (l - j) ∷ w)) (Some (i ∷ l ∷ w))
     (λ t. keeps_some v x r ((i + 1) ∷ (l - j) ∷ w)
-    (step_down v (behind c j) (i + 1) ((l - j) ∷ w) (split_right s v c i j e g)
-    ∙ child_stays c (behind c j) l (l - j) w x (λ d h. behind_child c d j l (leb-true j l t) h) f))
+    (step_down v (tree_from c j) (i + 1) ((l - j) ∷ w) (split_right s v c i j e g)
+    ∙ child_stays c (tree_from c j) l (l - j) w x (λ d h. behind_child c d j l (leb-true j l t) h) f))
     (λ t. keeps_some v x r (i ∷ l ∷ w)
-    (step_down v (before c j) i (l ∷ w) (split_left s v c i j e g)
-    ∙ child_stays c (before c j) l l w x (λ d h. before_child c d j l (leb-false j l t) h) f))
+    (step_down v (tree_up_to c j) i (l ∷ w) (split_left s v c i j e g)
+    ∙ child_stays c (tree_up_to c j) l l w x (λ d h. before_child c d j l (leb-false j l t) h) f))
 
 split_keeps : (s v x : WideTree) (i j : ℕ) (q r : List ℕ) → split s i j ≡ Ok v → subtree s q ≡ Some x
     → Keeps v x r (carried_by_split i j q)
@@ -348,11 +349,11 @@ parted (i ∷ p) (k ∷ q) t s v e f g =
     tested : (c n : WideTree) (b b' : Bool) → eqb i k ≡ b → eqb k i ≡ b' → slice_get (children_of t) i ≡ Some c
         → (rest_behind p q ≡ None → rest_behind q p ≡ None → subtree n q ≡ subtree c q)
         → (if b then rest_behind p q else None) ≡ None → (if b' then rest_behind q p else None) ≡ None
-        → subtree (with_child t i n) (k ∷ q) ≡ subtree t (k ∷ q)
+        → subtree (with_child_at t i n) (k ∷ q) ≡ subtree t (k ∷ q)
     tested c n true true t1 t2 found ih h h' =
         let same : i ≡ k = eqb-true i k t1 in
-        subst (λ z. subtree (with_child t i n) (z ∷ q) ≡ subtree t (z ∷ q)) same
-        (step_down (with_child t i n) n i q (child_of_with t c n i found) ∙ ih h h' ∙ sym (step_down t c i q found))
+        subst (λ z. subtree (with_child_at t i n) (z ∷ q) ≡ subtree t (z ∷ q)) same
+        (step_down (with_child_at t i n) n i q (child_of_with t c n i found) ∙ ih h h' ∙ sym (step_down t c i q found))
     tested c n true false t1 t2 found ih h h' = absurd (eqb-false k i t2 (sym (eqb-true i k t1)))
     tested c n false b' t1 t2 found ih h h' =
         let ne : k ≡ i → ⊥ = λ z. eqb-false i k t1 (sym z) in

@@ -19,10 +19,10 @@ use Rattle.tx_tree.proofs.Walks.{drop_item}
 use Rattle.tx_mod.specs.declared.faults.ModFault.{ModFault}
 use Rattle.tx_mod.specs.declared.faults.ModFault.TheVariants.{NotNode, BadPlace, CutsSymbol, Differ}
 use Rattle.tx_mod.specs.declared.measures.Measure.{Measure}
-use Rattle.tx_mod.specs.Mods.{tuple, put_in, taken_out, extent, is_clean, before, behind}
+use Rattle.tx_mod.specs.Mods.{tuple, put_in, taken_out, extent, is_clean, tree_up_to, tree_from}
 use Rattle.tx_mod.specs.Changes.{Outcome, asking, inserted, removed, split, split_child, joined, joined_at}
 use Rattle.tx_mod.specs.Changes.{in_place_of_two, wrapped, unwrapped}
-use Rattle.tx_mod.specs.Measures.{IsPeak, IsMade}
+use Rattle.tx_mod.specs.Measures.{IsPeak, HasMeasure}
 use Rattle.tx_mod.proofs.Lists.{list_at}
 
 pub some_size : (t : WideTree) → 1 ≤ size_of t
@@ -117,7 +117,7 @@ peak_max most n wide h = record { within = λ le. omega arith; past = λ lt. ome
 pub made_node : (outcome : Outcome) (a : Measure) (l : List ℕ) (ts : List WideTree) → outcome ≡ Ok (node l (forest ts))
     → a.text ≡ 0 → a.arity ≡ length ts
     → widest (forest ts) ≤ 65535 → longest_text (forest ts) ≤ 1048575 → a.depth ≡ 1 + deepest (forest ts)
-    → a.size ≡ 1 + total_size (forest ts) → IsMade outcome a
+    → a.size ≡ 1 + total_size (forest ts) → HasMeasure outcome a
 made_node outcome a l ts is text arity wide long depth size =
     record {
       tree = node l (forest ts);
@@ -147,7 +147,7 @@ pub insert_made : (s x : WideTree) (l m : List ℕ) (ts us : List WideTree) (i :
     → x ≡ node m (forest us) → m ≡ tuple → i ≤ length ts
     → IsWithinLimits s → IsWithinLimits x → a.text ≡ 0 → a.arity ≡ length ts + length us
     → a.depth ≡ max (depth_of s) (depth_of x) → a.size + 1 ≡ size_of s + size_of x
-    → IsMade (inserted s i x) a
+    → HasMeasure (inserted s i x) a
 insert_made s x l m ts us i a e f named le w v text arity depth size =
     let p = of_put_in ts us i in
     let n = narrow s l ts e w in
@@ -173,7 +173,8 @@ insert_past s x l m ts us i e f named lt =
 pub remove_made : (s : WideTree) (l : List ℕ) (ts : List WideTree) (i n : ℕ) (a : Measure) → s ≡ node l (forest ts)
     → i + n ≤ length ts → IsWithinLimits s → a.text ≡ 0 → a.arity ≡ 0
     → a.depth ≡ 1 + max (deepest (forest (take i ts))) (deepest (forest (drop (i + n) ts)))
-    → a.size ≡ 1 + total_size (forest (take i ts)) + total_size (forest (drop (i + n) ts)) → IsMade (removed s i n) a
+    → a.size ≡ 1 + total_size (forest (take i ts)) + total_size (forest (drop (i + n) ts))
+    → HasMeasure (removed s i n) a
 remove_made s l ts i n a e le w text arity depth size =
     let m = narrow s l ts e w in
     let p = of_both (take i ts) (drop (i + n) ts) in
@@ -217,10 +218,10 @@ remove_past s l ts i n e lt =
 
 -- the two halves of a child
 pub record AreHalves (c : WideTree) (j : ℕ) : Type 0 where
-  pub size : size_of (before c j) + size_of (behind c j) ≡ size_of c + 1
-  pub depth : max (depth_of (before c j)) (depth_of (behind c j)) ≡ depth_of c
-  pub wide : max (arity_of (before c j)) (arity_of (behind c j)) ≤ arity_of c
-  pub long : max (text_length_of (before c j)) (text_length_of (behind c j)) ≤ text_length_of c
+  pub size : size_of (tree_up_to c j) + size_of (tree_from c j) ≡ size_of c + 1
+  pub depth : max (depth_of (tree_up_to c j)) (depth_of (tree_from c j)) ≡ depth_of c
+  pub wide : max (arity_of (tree_up_to c j)) (arity_of (tree_from c j)) ≤ arity_of c
+  pub long : max (text_length_of (tree_up_to c j)) (text_length_of (tree_from c j)) ≤ text_length_of c
 
 pub halves : (c : WideTree) (j : ℕ) → j ≤ extent c → AreHalves c j
 halves (leaf text) j le =
@@ -273,29 +274,30 @@ split_past_child s l ts i j c e f lt =
     split_is s l ts i j c e f
     ∙ ap (λ b. asking b (BadPlace (extent c))
     (asking (is_clean c j) (CutsSymbol j)
-    (Ok (node l (forest (take i ts ++ before c j ∷ behind c j ∷ drop (i + 1) ts)))))) no
+    (Ok (node l (forest (take i ts ++ tree_up_to c j ∷ tree_from c j ∷ drop (i + 1) ts)))))) no
 
 pub split_clean : (s : WideTree) (l : List ℕ) (ts : List WideTree) (i j : ℕ) (c : WideTree) (b : Bool)
     → s ≡ node l (forest ts) → slice_get ts i ≡ Some c → j ≤ extent c → is_clean c j ≡ b
     → split s i j ≡ asking b (CutsSymbol j)
-    (Ok (node l (forest (take i ts ++ before c j ∷ behind c j ∷ drop (i + 1) ts))))
+    (Ok (node l (forest (take i ts ++ tree_up_to c j ∷ tree_from c j ∷ drop (i + 1) ts))))
 split_clean s l ts i j c b e f le clean =
     split_is s l ts i j c e f
     ∙ ap (λ d. asking d (BadPlace (extent c))
     (asking (is_clean c j) (CutsSymbol j)
-    (Ok (node l (forest (take i ts ++ before c j ∷ behind c j ∷ drop (i + 1) ts)))))) (le-leb j (extent c) le)
-    ∙ ap (λ d. asking d (CutsSymbol j) (Ok (node l (forest (take i ts ++ before c j ∷ behind c j ∷ drop (i + 1) ts)))))
+    (Ok (node l (forest (take i ts ++ tree_up_to c j ∷ tree_from c j ∷ drop (i + 1) ts)))))) (le-leb j (extent c) le)
+    ∙ ap (λ d. asking d (CutsSymbol j)
+    (Ok (node l (forest (take i ts ++ tree_up_to c j ∷ tree_from c j ∷ drop (i + 1) ts)))))
     clean
 
 pub split_made : (s : WideTree) (l : List ℕ) (ts : List WideTree) (i j : ℕ) (c : WideTree) (a : Measure)
     → s ≡ node l (forest ts) → slice_get ts i ≡ Some c → j ≤ extent c → is_clean c j ≡ true
     → IsWithinLimits s → a.text ≡ 0 → a.arity ≡ length ts + 1 → a.depth ≡ depth_of s → a.size ≡ size_of s + 1
-    → IsMade (split s i j) a
+    → HasMeasure (split s i j) a
 split_made s l ts i j c a e f le clean w text arity depth size =
     let n = narrow s l ts e w in
     let r = of_round ts i c f in
     let h = halves c j le in
-    let us : List WideTree = before c j ∷ behind c j ∷ drop (i + 1) ts in
+    let us : List WideTree = tree_up_to c j ∷ tree_from c j ∷ drop (i + 1) ts in
     let p = of_both (take i ts) us in
     made_node (split s i j) a l (take i ts ++ us) (split_clean s l ts i j c true e f le clean) text
     (omega (arith, arity, p.many, r.many)) (omega (arith, p.wide, r.wide, n.wide, h.wide))
@@ -314,7 +316,7 @@ nodes_joined s x l m ts us e f named =
 pub pair_made : (s x : WideTree) (l m : List ℕ) (ts us : List WideTree) (a : Measure) → s ≡ node l (forest ts)
     → x ≡ node m (forest us) → l ≡ m → IsWithinLimits s → IsWithinLimits x → a.text ≡ 0
     → a.arity ≡ length ts + length us → a.depth ≡ max (depth_of s) (depth_of x) → a.size + 1 ≡ size_of s + size_of x
-    → IsMade (joined s x) a
+    → HasMeasure (joined s x) a
 pair_made s x l m ts us a e f named w v text arity depth size =
     let p = of_both ts us in
     let n = narrow s l ts e w in
@@ -335,7 +337,7 @@ wrap_past s x l ts i e lt =
 pub wrap_made : (s x : WideTree) (l : List ℕ) (ts : List WideTree) (i : ℕ) (a : Measure) → x ≡ node l (forest ts)
     → i ≤ length ts → IsWithinLimits s → IsWithinLimits x → a.text ≡ 0
     → a.arity ≡ length ts + 1 → a.depth ≡ max (depth_of x) (depth_of s + 1) → a.size ≡ size_of s + size_of x
-    → IsMade (wrapped s i x) a
+    → HasMeasure (wrapped s i x) a
 wrap_made s x l ts i a e le w v text arity depth size =
     let p = of_put_in ts (s ∷ []) i in
     let n = narrow x l ts e v in
@@ -406,8 +408,8 @@ peak_other most n peak x h le = record { within = λ w. omega (arith, h.within w
 
 pub join_made : (s : WideTree) (l : List ℕ) (ts : List WideTree) (i : ℕ) (a b : WideTree) (pair whole : Measure)
     → s ≡ node l (forest ts) → slice_get ts i ≡ Some a → slice_get ts (i + 1) ≡ Some b
-    → IsMade (joined a b) pair → IsWithinLimits s → whole.text ≡ pair.text → whole.arity ≡ pair.arity
-    → whole.depth ≡ depth_of s → whole.size + 1 ≡ size_of s → IsMade (joined_at s i) whole
+    → HasMeasure (joined a b) pair → IsWithinLimits s → whole.text ≡ pair.text → whole.arity ≡ pair.arity
+    → whole.depth ≡ depth_of s → whole.size + 1 ≡ size_of s → HasMeasure (joined_at s i) whole
 join_made s l ts i a b pair whole e f g h w text arity depth size =
     let n = narrow s l ts e w in
     let c : WideTree = h.tree in

@@ -17,7 +17,7 @@ use Rattle.tx_tree.proofs.Cutting.{cut_test, cut_text, text_rest}
 use Rattle.tx_tree.proofs.PlaceFaults.{items_append}
 use Rattle.tx_mod.specs.declared.faults.ModFault.{ModFault}
 use Rattle.tx_mod.specs.declared.faults.ModFault.TheVariants.{NotNode, BadPlace, CutsSymbol, Differ}
-use Rattle.tx_mod.specs.Mods.{tuple, put_in, taken_out, extent, is_clean, before, behind}
+use Rattle.tx_mod.specs.Mods.{tuple, put_in, taken_out, extent, is_clean, tree_up_to, tree_from}
 use Rattle.tx_mod.specs.Changes.{Outcome, asking, inserted, removed, split, split_child, joined, joined_at}
 use Rattle.tx_mod.specs.Changes.{in_place_of_two, labelled, wrapped, unwrapped}
 use Rattle.tx_mod.proofs.Measuring.{some_size, halves, of_both}
@@ -158,7 +158,8 @@ pub record IsSplit (s : WideTree) (l : List ℕ) (ts : List WideTree) (i j : ℕ
   pub found : slice_get ts i ≡ Some child
   pub there : j ≤ extent child
   pub clean : is_clean child j ≡ true
-  pub tree : IsTree (split s i j) (node l (forest (take i ts ++ before child j ∷ behind child j ∷ drop (i + 1) ts)))
+  pub tree : IsTree (split s i j)
+      (node l (forest (take i ts ++ tree_up_to child j ∷ tree_from child j ∷ drop (i + 1) ts)))
 
 pub node_split : (s : WideTree) (l : List ℕ) (ts : List WideTree) (i j : ℕ) → s ≡ node l (forest ts)
     → IsOkAnd (split s i j) IsWithinLimits → IsSplit s l ts i j
@@ -168,7 +169,7 @@ node_split s l ts i j e h =
     let g = got IsWithinLimits (split_child l ts i j) (BadPlace (length ts)) (slice_get ts i)
     (subst (λ o. IsOkAnd o IsWithinLimits) is h) in
     let c : WideTree = g.0 in
-    let tree : WideTree = node l (forest (take i ts ++ before c j ∷ behind c j ∷ drop (i + 1) ts)) in
+    let tree : WideTree = node l (forest (take i ts ++ tree_up_to c j ∷ tree_from c j ∷ drop (i + 1) ts)) in
     let a = asked IsWithinLimits (leb j (extent c)) (BadPlace (extent c))
     (asking (is_clean c j) (CutsSymbol j) (Ok tree)) g.2 in
     let b = asked IsWithinLimits (is_clean c j) (CutsSymbol j) (Ok tree) a.1 in
@@ -278,26 +279,27 @@ narrower a b c size depth wide long w = (
 )
 
 pub halves_within : (c : WideTree) (j : ℕ) → j ≤ extent c → IsWithinLimits c
-    → IsWithinLimits (before c j) × IsWithinLimits (behind c j)
-halves_within c j le w = let h = halves c j le in narrower (before c j) (behind c j) c h.size h.depth h.wide h.long w
+    → IsWithinLimits (tree_up_to c j) × IsWithinLimits (tree_from c j)
+halves_within c j le w = let h = halves c j le in
+    narrower (tree_up_to c j) (tree_from c j) c h.size h.depth h.wide h.long w
 
 -- the parts of a node before and from a place
 pub node_before : (t : WideTree) (l : List ℕ) (ts us : List WideTree) (j : ℕ) → t ≡ node l (forest ts)
-    → us ≡ take j ts ++ [] ++ drop (length ts) ts → before t j ≡ node l (forest us)
+    → us ≡ take j ts ++ [] ++ drop (length ts) ts → tree_up_to t j ≡ node l (forest us)
 node_before t l ts us j e is =
     rw (e, trees_forest ts, is, drop_all (length ts) ts (omega arith))
     (ap (λ x. node l (forest x)) (sym (append-nil (take j ts ++ []) ∙ append-nil (take j ts))))
 
 pub node_behind : (t : WideTree) (l : List ℕ) (ts us : List WideTree) (j : ℕ) → t ≡ node l (forest ts)
-    → us ≡ take 0 ts ++ [] ++ drop j ts → behind t j ≡ node l (forest us)
+    → us ≡ take 0 ts ++ [] ++ drop j ts → tree_from t j ≡ node l (forest us)
 node_behind t l ts us j e is = rw (e, trees_forest ts, is) refl
 
 pub leaf_before : (t : WideTree) (text : List ℕ) (j : ℕ) → t ≡ leaf text → is_clean t j ≡ true
-    → (is_cut text j ≡ true) × (before t j ≡ leaf (take j text))
-leaf_before t text j e h = (subst (λ x. is_clean x j ≡ true) e h, ap (λ x. before x j) e)
+    → (is_cut text j ≡ true) × (tree_up_to t j ≡ leaf (take j text))
+leaf_before t text j e h = (subst (λ x. is_clean x j ≡ true) e h, ap (λ x. tree_up_to x j) e)
 
 pub leaf_behind : (t : WideTree) (text bytes : List ℕ) (j : ℕ) → t ≡ leaf text
-    → bytes ≡ take 0 text ++ [] ++ drop j text → behind t j ≡ leaf bytes
+    → bytes ≡ take 0 text ++ [] ++ drop j text → tree_from t j ≡ leaf bytes
 leaf_behind t text bytes j e is = rw (e, is) refl
 
 -- ---- pairs

@@ -9,7 +9,7 @@ use Rattle.tx_tree.specs.WideTree.{WideTree, Forest, leaf, node, nil, cons, fore
 use Rattle.tx_tree.specs.WideTree.{total_size, depth_of, deepest, arity_of, widest, count, text_length_of, longest_text}
 use Rattle.tx_tree.proofs.Children.{trees_forest, forest_trees}
 use Rattle.tx_tree.proofs.Walking.{step_down}
-use Rattle.tx_mod.specs.Mods.{with_child, replaced}
+use Rattle.tx_mod.specs.Mods.{with_child_at, replaced}
 use Rattle.tx_mod.proofs.Lists.{get_of_set, get_of_set_other, set_to_same, total_size_of_set, deepest_of_set}
 use Rattle.tx_mod.proofs.Lists.{longest_text_of_set, text_length_in_set, widest_of_set, arity_in_set, count_of_set}
 
@@ -25,19 +25,19 @@ down t i path s e =
     (λ c f g. record { child = c; found = f; further = g })
 
 pub replaced_down : (t c : WideTree) (i : ℕ) (path : List ℕ) (u : WideTree) → slice_get (children_of t) i ≡ Some c
-    → replaced t (i ∷ path) u ≡ with_child t i (replaced c path u)
-replaced_down t c i path u e = ap (λ o. option_map_or (λ x. with_child t i (replaced x path u)) o t) e
+    → replaced t (i ∷ path) u ≡ with_child_at t i (replaced c path u)
+replaced_down t c i path u e = ap (λ o. option_map_or (λ x. with_child_at t i (replaced x path u)) o t) e
 
 -- ---- a tree with another child
 
 pub child_of_with : (t c v : WideTree) (i : ℕ) → slice_get (children_of t) i ≡ Some c
-    → slice_get (children_of (with_child t i v)) i ≡ Some v
+    → slice_get (children_of (with_child_at t i v)) i ≡ Some v
 child_of_with (leaf text) c v i e = absurd (cc)
 child_of_with (node l ts) c v i e = ap (λ us. slice_get us i) (trees_forest (set (trees ts) i v))
     ∙ get_of_set (trees ts) i c v e
 
 pub other_child_of_with : (t v : WideTree) (i j : ℕ) → (j ≡ i → ⊥)
-    → slice_get (children_of (with_child t i v)) j ≡ slice_get (children_of t) j
+    → slice_get (children_of (with_child_at t i v)) j ≡ slice_get (children_of t) j
 other_child_of_with (leaf text) v i j h = refl
 other_child_of_with (node l ts) v i j h = ap (λ us. slice_get us j) (trees_forest (set (trees ts) i v))
     ∙ get_of_set_other (trees ts) i j v h
@@ -47,12 +47,12 @@ set_set [] i x y = refl
 set_set (z ∷ xs) zero x y = refl
 set_set {X} (z ∷ xs) (suc i) x y = ap (λ w. z ∷ w) (set_set {X = X} xs i x y)
 
-pub with_with_child : (t v w : WideTree) (i : ℕ) → with_child (with_child t i v) i w ≡ with_child t i w
+pub with_with_child : (t v w : WideTree) (i : ℕ) → with_child_at (with_child_at t i v) i w ≡ with_child_at t i w
 with_with_child (leaf text) v w i = refl
 with_with_child (node l ts) v w i = ap (λ us. node l (forest (set us i w))) (trees_forest (set (trees ts) i v))
     ∙ ap (λ us. node l (forest us)) (set_set (trees ts) i v w)
 
-pub with_same_child : (t c : WideTree) (i : ℕ) → slice_get (children_of t) i ≡ Some c → with_child t i c ≡ t
+pub with_same_child : (t c : WideTree) (i : ℕ) → slice_get (children_of t) i ≡ Some c → with_child_at t i c ≡ t
 with_same_child (leaf text) c i e = refl
 with_same_child (node l ts) c i e = ap (λ us. node l (forest us)) (set_to_same (trees ts) i c e)
     ∙ ap (node l) (forest_trees ts)
@@ -65,7 +65,7 @@ subtree_of_replaced [] t s u e = refl
 subtree_of_replaced (i ∷ path) t s u e =
     let d = down t i path s e in
     ap (λ x. subtree x (i ∷ path)) (replaced_down t d.child i path u d.found)
-    ∙ step_down (with_child t i (replaced d.child path u)) (replaced d.child path u) i path
+    ∙ step_down (with_child_at t i (replaced d.child path u)) (replaced d.child path u) i path
     (child_of_with t d.child (replaced d.child path u) i d.found)
     ∙ subtree_of_replaced path d.child s u d.further
 
@@ -76,22 +76,22 @@ replaced_again (i ∷ path) t s u v e =
     let d = down t i path s e in
     let c : WideTree = replaced d.child path u in
     ap (λ x. replaced x (i ∷ path) v) (replaced_down t d.child i path u d.found)
-    ∙ replaced_down (with_child t i c) c i path v (child_of_with t d.child c i d.found)
+    ∙ replaced_down (with_child_at t i c) c i path v (child_of_with t d.child c i d.found)
     ∙ with_with_child t c (replaced c path v) i
-    ∙ ap (with_child t i) (replaced_again path d.child s u v d.further)
+    ∙ ap (with_child_at t i) (replaced_again path d.child s u v d.further)
     ∙ sym (replaced_down t d.child i path v d.found)
 
 pub replaced_by_same : (path : List ℕ) (t s : WideTree) → subtree t path ≡ Some s → replaced t path s ≡ t
 replaced_by_same [] t s e = let same : t ≡ s = cc in sym same
 replaced_by_same (i ∷ path) t s e =
     let d = down t i path s e in
-    replaced_down t d.child i path s d.found ∙ ap (with_child t i) (replaced_by_same path d.child s d.further)
+    replaced_down t d.child i path s d.found ∙ ap (with_child_at t i) (replaced_by_same path d.child s d.further)
     ∙ with_same_child t d.child i d.found
 
 -- ---- numbers of a tree with another child
 
 size_with : (t c v : WideTree) (i : ℕ) → slice_get (children_of t) i ≡ Some c
-    → size_of (with_child t i v) + size_of c ≡ size_of t + size_of v
+    → size_of (with_child_at t i v) + size_of c ≡ size_of t + size_of v
 size_with (leaf text) c v i e = absurd (cc)
 size_with (node l ts) c v i e = omega (arith, total_size_of_set (trees ts) i c v e, ap total_size (forest_trees ts))
 
@@ -100,20 +100,20 @@ abbrev pub aside : WideTree → ℕ → ℕ
 aside t i = max (deepest (forest (take i (children_of t)))) (deepest (forest (drop (i + 1) (children_of t))))
 
 pub depth_with : (t c v : WideTree) (i : ℕ) → slice_get (children_of t) i ≡ Some c
-    → depth_of (with_child t i v) ≡ 1 + max (aside t i) (depth_of v)
+    → depth_of (with_child_at t i v) ≡ 1 + max (aside t i) (depth_of v)
 depth_with (leaf text) c v i e = absurd (cc)
 depth_with (node l ts) c v i e = omega (arith, deepest_of_set (trees ts) i c v e)
 
-text_with : (t v : WideTree) (i : ℕ) → text_length_of (with_child t i v) ≤ max (text_length_of t) (text_length_of v)
+text_with : (t v : WideTree) (i : ℕ) → text_length_of (with_child_at t i v) ≤ max (text_length_of t) (text_length_of v)
 text_with (leaf text) v i = omega arith
 text_with (node l ts) v i = omega (arith, longest_text_of_set (trees ts) i v, ap longest_text (forest_trees ts))
 
 text_in : (t c v : WideTree) (i : ℕ) → slice_get (children_of t) i ≡ Some c
-    → text_length_of v ≤ text_length_of (with_child t i v)
+    → text_length_of v ≤ text_length_of (with_child_at t i v)
 text_in (leaf text) c v i e = absurd (cc)
 text_in (node l ts) c v i e = text_length_in_set (trees ts) i c v e
 
-arity_with : (t v : WideTree) (i : ℕ) → arity_of (with_child t i v) ≤ max (arity_of t) (arity_of v)
+arity_with : (t v : WideTree) (i : ℕ) → arity_of (with_child_at t i v) ≤ max (arity_of t) (arity_of v)
 arity_with (leaf text) v i = omega arith
 arity_with (node l ts) v i =
     omega (
@@ -124,7 +124,8 @@ arity_with (node l ts) v i =
       ap count (forest_trees ts),
     )
 
-arity_in : (t c v : WideTree) (i : ℕ) → slice_get (children_of t) i ≡ Some c → arity_of v ≤ arity_of (with_child t i v)
+arity_in : (t c v : WideTree) (i : ℕ) → slice_get (children_of t) i ≡ Some c
+    → arity_of v ≤ arity_of (with_child_at t i v)
 arity_in (leaf text) c v i e = absurd (cc)
 arity_in (node l ts) c v i e = omega (arith, arity_in_set (trees ts) i c v e)
 

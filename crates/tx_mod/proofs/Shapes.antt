@@ -12,7 +12,7 @@ use Rattle.tx_tree.specs.WideTree.{WideTree, leaf, node, forest, trees, children
 use Rattle.tx_tree.proofs.Children.{trees_forest, forest_trees}
 use Rattle.tx_tree.proofs.Walking.{step_down}
 use Rattle.tx_mod.specs.declared.faults.ModFault.TheVariants.{NotNode, BadPlace, CutsSymbol}
-use Rattle.tx_mod.specs.Mods.{tuple, put_in, taken_out, extent, is_clean, before, behind}
+use Rattle.tx_mod.specs.Mods.{tuple, put_in, taken_out, extent, is_clean, tree_up_to, tree_from}
 use Rattle.tx_mod.specs.Changes.{inserted, removed, split, split_child, joined, joined_at, in_place_of_two, labelled}
 use Rattle.tx_mod.specs.Changes.{wrapped, unwrapped}
 use Rattle.tx_mod.specs.Moves.{child_or_self}
@@ -133,7 +133,7 @@ pub record IsSplitAt (s v : WideTree) (i j : ℕ) : Type 0 where
   pub fits : j ≤ extent child
   pub clean : is_clean child j ≡ true
   pub is : v ≡ node label
-      (forest (take i (children_of s) ++ before child j ∷ behind child j ∷ drop (i + 1) (children_of s)))
+      (forest (take i (children_of s) ++ tree_up_to child j ∷ tree_from child j ∷ drop (i + 1) (children_of s)))
 
 pub shape_split : (s v : WideTree) (i j : ℕ) → split s i j ≡ Ok v → IsSplitAt s v i j
 shape_split (leaf text) v i j e = absurd (cc)
@@ -149,7 +149,7 @@ shape_split (node l ts) v i j e =
       found = g.1;
       fits = leb-true j (extent c) a.0;
       clean = b.0;
-      is = sym (same_tree (node l (forest (take i T ++ before c j ∷ behind c j ∷ drop (i + 1) T))) v b.1);
+      is = sym (same_tree (node l (forest (take i T ++ tree_up_to c j ∷ tree_from c j ∷ drop (i + 1) T))) v b.1);
     }
 
 pub record IsJoinedAt (s v : WideTree) (i : ℕ) : Type 0 where

@@ -9,7 +9,7 @@ use Rattle.tx_tree.specs.WideTree.{WideTree, leaf, node, children_of}
 use Rattle.tx_tree.proofs.Children.{arity_le}
 use Rattle.tx_tree.proofs.Cutting.{cut_within}
 use Rattle.tx_mod.specs.Moves.{rest_behind}
-use Rattle.tx_mod.specs.Ways.{AreSmall}
+use Rattle.tx_mod.specs.Ways.{AreChildNumbers}
 use Rattle.tx_mod.proofs.Built.{child_within}
 use Rattle.tx_mod.proofs.Cases.{by_test}
 use Rattle.tx_mod.proofs.Replacing.{down}
@@ -20,24 +20,24 @@ number_small (leaf text) c i e w = absurd (cc)
 number_small (node l ts) c i e w =
     omega (arith, slice_get_within (children_of (node l ts)) i c e, arity_le l ts, w.arity)
 
-path_small : (path : List ℕ) (t s : WideTree) → subtree t path ≡ Some s → IsWithinLimits t → AreSmall path
+path_small : (path : List ℕ) (t s : WideTree) → subtree t path ≡ Some s → IsWithinLimits t → AreChildNumbers path
 path_small [] t s e w = tt
 path_small (i ∷ path) t s e w = let d = down t i path s e in
     (number_small t d.child i d.found w, path_small path d.child s d.further (child_within t d.child i d.found w))
 
 -- a path that leads has small numbers
-pub leads_small : (t : WideTree) (path : List ℕ) → IsSome (subtree t path) → IsWithinLimits t → AreSmall path
+pub leads_small : (t : WideTree) (path : List ℕ) → IsSome (subtree t path) → IsWithinLimits t → AreChildNumbers path
 leads_small t path h w = found (subtree t path) refl h
   where
-    found : (o : Option WideTree) → subtree t path ≡ o → IsSome o → AreSmall path
+    found : (o : Option WideTree) → subtree t path ≡ o → IsSome o → AreChildNumbers path
     found None e k = absurd (cc)
     found (Some s) e k = path_small path t s e w
 
-pub rest_small : (p q r : List ℕ) → rest_behind p q ≡ Some r → AreSmall q → AreSmall r
-rest_small [] q r e h = let same : q ≡ r = cc in subst AreSmall same h
+pub rest_small : (p q r : List ℕ) → rest_behind p q ≡ Some r → AreChildNumbers q → AreChildNumbers r
+rest_small [] q r e h = let same : q ≡ r = cc in subst AreChildNumbers same h
 rest_small (i ∷ p) [] r e h = absurd (cc)
 rest_small (i ∷ p) (k ∷ q) r e h =
-    by_test (λ o. o ≡ Some r → AreSmall r) (eqb i k) (rest_behind p q) None (λ t f. rest_small p q r f h.1)
+    by_test (λ o. o ≡ Some r → AreChildNumbers r) (eqb i k) (rest_behind p q) None (λ t f. rest_small p q r f h.1)
     (λ t f. absurd (cc)) e
 
 offset_small : (s : WideTree) (o : ℕ) → IsOffset s o → IsWithinLimits s → o ≤ 1048575

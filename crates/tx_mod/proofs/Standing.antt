@@ -18,12 +18,14 @@ use Rattle.tx_mod.specs.declared.faults.ModFault.TheVariants.{Differ, BadPlace, 
 use Rattle.tx_mod.specs.declared.mods.Mod.{Mod}
 use Rattle.tx_mod.specs.declared.mods.Mod.TheVariants.{Assign, Insert, Remove, Split, Join, AssignNode, InsertNode}
 use Rattle.tx_mod.specs.declared.mods.Mod.TheVariants.{RemoveNode}
-use Rattle.tx_mod.specs.Mods.{path_of, put_in, taken_out, extent, is_clean, before, behind, with_child, replaced}
+use Rattle.tx_mod.specs.Mods.{path_of, put_in, taken_out, extent, is_clean, tree_up_to, tree_from, with_child_at}
+use Rattle.tx_mod.specs.Mods.{replaced}
 use Rattle.tx_mod.specs.Changes.{inserted, removed, split, joined, joined_at, labelled, unwrapped, changed_at}
-use Rattle.tx_mod.specs.Moves.{rest_behind, place, below, child_or_self, shifted, moved_by_insert, moved_by_remove}
+use Rattle.tx_mod.specs.Moves.{rest_behind, place, place_from_above, child_or_self, shifted, moved_by_insert}
+use Rattle.tx_mod.specs.Moves.{moved_by_remove}
 use Rattle.tx_mod.specs.Moves.{moved_in_split, moved_by_split, moved_in_join, moved_by_join, moved_by_unwrap, moved_at}
 use Rattle.tx_mod.specs.Moves.{moved_place}
-use Rattle.tx_mod.specs.Sound.{IsSound}
+use Rattle.tx_mod.specs.Sound.{IsSoundMod}
 use Rattle.tx_mod.specs.Followed.{StaysPlace}
 use Rattle.tx_mod.proofs.Cases.{by_test}
 use Rattle.tx_mod.proofs.Replacing.{down, replaced_down, child_of_with, other_child_of_with, subtree_of_replaced}
@@ -173,15 +175,16 @@ split_child_place s v (leaf text) i j [] o f clean fits e g h =
     (cut_in_front (take j text) (drop j text) text o whole ha (omega arith) h))
 split_child_place s v (node m us) i j [] o f clean fits e g h =
     by_test (Has v) (eqb o 1) (place ((i + 1) ∷ []) 1) (place (i ∷ []) o)
-    (λ t. at_child v (behind (node m us) j) (i + 1) [] 1 (split_right s v (node m us) i j e g) (omega arith))
-    (λ t. at_child v (before (node m us) j) i [] o (split_left s v (node m us) i j e g) h)
+    (λ t. at_child v (tree_from (node m us) j) (i + 1) [] 1 (split_right s v (node m us) i j e g) (omega arith))
+    (λ t. at_child v (tree_up_to (node m us) j) i [] o (split_left s v (node m us) i j e g) h)
 split_child_place s v (node m us) i j (l ∷ w) o f clean fits e g h =
     by_test (Has v) (leb j l) (place ((i + 1) ∷ (l - j) ∷ w) o) (place (i ∷ l ∷ w) o)
-    (λ t. at_child v (behind (node m us) j) (i + 1) ((l - j) ∷ w) o (split_right s v (node m us) i j e g)
-    (below_child (node m us) (behind (node m us) j) l (l - j) w o
+    (λ t. at_child v (tree_from (node m us) j) (i + 1) ((l - j) ∷ w) o (split_right s v (node m us) i j e g)
+    (below_child (node m us) (tree_from (node m us) j) l (l - j) w o
     (λ d q. behind_child (node m us) d j l (leb-true j l t) q) h))
-    (λ t. at_child v (before (node m us) j) i (l ∷ w) o (split_left s v (node m us) i j e g)
-    (below_child (node m us) (before (node m us) j) l l w o (λ d q. before_child (node m us) d j l (leb-false j l t) q)
+    (λ t. at_child v (tree_up_to (node m us) j) i (l ∷ w) o (split_left s v (node m us) i j e g)
+    (below_child (node m us) (tree_up_to (node m us) j) l l w o
+    (λ d q. before_child (node m us) d j l (leb-false j l t) q)
     h))
 
 split_place : (s v : WideTree) (i j : ℕ) (r : List ℕ) (o : ℕ) → IsWellFormed s → split s i j ≡ Ok v → IsPlace s r o
@@ -292,7 +295,8 @@ unwrap_place (node l ts) v i (k ∷ u) o f e h =
 
 -- ---- all kinds
 
-place_of_changed : (m : Mod) (s v : WideTree) (r : List ℕ) (o : ℕ) → IsSound m → IsWellFormed s → changed_at m s ≡ Ok v
+place_of_changed : (m : Mod) (s v : WideTree) (r : List ℕ) (o : ℕ) → IsSoundMod m → IsWellFormed s
+    → changed_at m s ≡ Ok v
     → IsPlace s r o → Has v (moved_at m s r o)
 place_of_changed (Assign p x) s v r o k f e h = subst (λ z. IsPlace z [] 0) (same_tree x v e) (first_place x k)
 place_of_changed (Insert p i x) s v r o k f e h = insert_place s x v i r o f k e h
@@ -305,7 +309,7 @@ place_of_changed (RemoveNode p i) s v r o k f e h = unwrap_place s v i r o f e h
 
 -- ---- places of the whole tree
 
-with_offset : (t n : WideTree) (i o : ℕ) → IsOffset t o → IsOffset (with_child t i n) o
+with_offset : (t n : WideTree) (i o : ℕ) → IsOffset t o → IsOffset (with_child_at t i n) o
 with_offset (leaf text) n i o h = h
 with_offset (node l ts) n i o h = h
 
@@ -324,15 +328,15 @@ place_aside (i ∷ p) (k ∷ q) t s v o e g h =
   where
     tested : (c n : WideTree) (b : Bool) → eqb i k ≡ b → slice_get (children_of t) i ≡ Some c
         → (rest_behind p q ≡ None → IsPlace c q o → IsPlace n q o) → (if b then rest_behind p q else None) ≡ None
-        → IsPlace (with_child t i n) (k ∷ q) o
+        → IsPlace (with_child_at t i n) (k ∷ q) o
     tested c n true a found ih f =
         let same : i ≡ k = eqb-true i k a in
-        subst (λ z. IsPlace (with_child t i n) (z ∷ q) o) same
-        (at_child (with_child t i n) n i q o (child_of_with t c n i found)
+        subst (λ z. IsPlace (with_child_at t i n) (z ∷ q) o) same
+        (at_child (with_child_at t i n) n i q o (child_of_with t c n i found)
         (ih f (of_child t c i q o found (subst (λ z. IsPlace t (z ∷ q) o) (sym same) h))))
     tested c n false a found ih f =
         let ne : k ≡ i → ⊥ = λ z. eqb-false i k a (sym z) in
-        below_child t (with_child t i n) k k q o (λ d f'. other_child_of_with t n i k ne ∙ f') h
+        below_child t (with_child_at t i n) k k q o (λ d f'. other_child_of_with t n i k ne ∙ f') h
 
 pub stays_place : (m : Mod) (t : WideTree) (at : Place) → StaysPlace m t at
 stays_place m t at u sound formed e h =
@@ -347,7 +351,8 @@ stays_place m t at u sound formed e h =
     moved_to : Option WideTree → Place
     moved_to o =
         option_map_or
-        (λ s. option_map_or (λ r. below (path_of m) (moved_at m s r at.offset)) (rest_behind (path_of m) at.path) at) o
+        (λ s. option_map_or (λ r. place_from_above (path_of m) (moved_at m s r at.offset))
+        (rest_behind (path_of m) at.path) at) o
         at
 
     stands : (o : Option (List ℕ)) → rest_behind (path_of m) at.path ≡ o → (s v : WideTree)
@@ -356,7 +361,8 @@ stays_place m t at u sound formed e h =
         → Has (replaced t (path_of m) v) (moved_to (Some s))
     stands None a s v found f =
         subst (λ o.
-        Has (replaced t (path_of m) v) (option_map_or (λ r. below (path_of m) (moved_at m s r at.offset)) o at))
+        Has (replaced t (path_of m) v)
+        (option_map_or (λ r. place_from_above (path_of m) (moved_at m s r at.offset)) o at))
         (sym a) (place_aside (path_of m) at.path t s v at.offset a found h)
     stands (Some r) a s v found f =
         let was : IsPlace s r at.offset =
@@ -364,7 +370,8 @@ stays_place m t at u sound formed e h =
         ∙ subtree_behind (path_of m) r t s found) h in
         let now : Place = moved_at m s r at.offset in
         subst (λ o.
-        Has (replaced t (path_of m) v) (option_map_or (λ b. below (path_of m) (moved_at m s b at.offset)) o at))
+        Has (replaced t (path_of m) v)
+        (option_map_or (λ b. place_from_above (path_of m) (moved_at m s b at.offset)) o at))
         (sym a)
         (subst (λ z. IsSomeAnd z (λ x. IsOffset x now.offset))
         (sym (subtree_behind (path_of m) now.path (replaced t (path_of m) v) v

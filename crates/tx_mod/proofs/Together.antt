@@ -11,7 +11,7 @@ use Rattle.tx_mod.specs.declared.mods.Mod.{Mod}
 use Rattle.tx_mod.specs.declared.mods.Mod.TheVariants.{Assign, Insert, Remove, Split, Join, AssignNode, InsertNode}
 use Rattle.tx_mod.specs.declared.mods.Mod.TheVariants.{RemoveNode}
 use Rattle.tx_mod.specs.Mods.{path_of, extent}
-use Rattle.tx_mod.specs.Moves.{rest_behind, place, below, child_or_self, shifted, some_path, moved_by_insert}
+use Rattle.tx_mod.specs.Moves.{rest_behind, place, place_from_above, child_or_self, shifted, some_path, moved_by_insert}
 use Rattle.tx_mod.specs.Moves.{moved_by_remove, moved_in_split, moved_by_split, moved_in_join, moved_by_join}
 use Rattle.tx_mod.specs.Moves.{moved_by_unwrap, moved_at, moved_place, carried_by_insert, carried_by_remove}
 use Rattle.tx_mod.specs.Moves.{carried_in_split, carried_by_split, carried_in_join, carried_by_join}
@@ -134,16 +134,16 @@ meets_at (RemoveNode p i) s x q o f = unwrap_meets i q o
 -- ---- places of the whole tree
 
 below_meets : (p : List ℕ) (o : ℕ) (at : Place) (c : Option (List ℕ)) → Meets o at c
-    → Meets o (below p at) (option_map (λ v. p ++ v) c)
+    → Meets o (place_from_above p at) (option_map (λ v. p ++ v) c)
 below_meets p o at None h = meets_none o _
-below_meets p o at (Some v) h = meets_some o _ (p ++ v) (ap (below p) (h v refl))
+below_meets p o at (Some v) h = meets_some o _ (p ++ v) (ap (place_from_above p) (h v refl))
 
 pub moves_with_path : (m : Mod) (t x : WideTree) (q r : List ℕ) (o : ℕ) → subtree t q ≡ Some x
     → carried_path m t q ≡ Some r → moved_place m t (place q o) ≡ place r o
 moves_with_path m t x q r o f = whole (subtree t (path_of m)) refl r
   where
     within : (s : WideTree) (b : Option (List ℕ)) → subtree t (path_of m) ≡ Some s → rest_behind (path_of m) q ≡ b
-        → Meets o (option_map_or (λ v. below (path_of m) (moved_at m s v o)) b (place q o))
+        → Meets o (option_map_or (λ v. place_from_above (path_of m) (moved_at m s v o)) b (place q o))
         (option_map_or (λ v. option_map (λ w. path_of m ++ w) (carried_at m s v)) b
         (if is_some (rest_behind q (path_of m)) then None else Some q))
     within s None found e =
@@ -156,7 +156,8 @@ moves_with_path m t x q r o f = whole (subtree t (path_of m)) refl r
 
     whole : (a : Option WideTree) → subtree t (path_of m) ≡ a
         → Meets o
-        (option_map_or (λ s. option_map_or (λ v. below (path_of m) (moved_at m s v o)) (rest_behind (path_of m) q)
+        (option_map_or (λ s. option_map_or (λ v. place_from_above (path_of m) (moved_at m s v o))
+        (rest_behind (path_of m) q)
         (place q o)) a (place q o))
         (option_map_or (λ s. option_map_or (λ v. option_map (λ w. path_of m ++ w) (carried_at m s v))
         (rest_behind (path_of m) q) (if is_some (rest_behind q (path_of m)) then None else Some q)) a None)

@@ -16,7 +16,7 @@ use Rattle.tx_mod.specs.declared.faults.ModFault.TheVariants.{NotNode, BadPlace,
 use Rattle.tx_mod.specs.declared.mods.Mod.{Mod}
 use Rattle.tx_mod.specs.declared.mods.Mod.TheVariants.{Assign, Insert, Remove, Split, Join, AssignNode, InsertNode}
 use Rattle.tx_mod.specs.declared.mods.Mod.TheVariants.{RemoveNode}
-use Rattle.tx_mod.specs.Mods.{path_of, tuple, put_in, taken_out, part_of, extent, is_clean, before, behind}
+use Rattle.tx_mod.specs.Mods.{path_of, tuple, put_in, taken_out, slice_of, extent, is_clean, tree_up_to, tree_from}
 use Rattle.tx_mod.specs.Changes.{inserted, removed, split, split_child, labelled, wrapped, changed_at}
 use Rattle.tx_mod.specs.Inverses.{removed_part, without_child, inverse_at, inverse_of}
 use Rattle.tx_mod.specs.Sound.{IsMadeAgain}
@@ -24,7 +24,7 @@ use Rattle.tx_mod.proofs.Back.{ok_asked, ok_got, same_tree, get_at, put_taken, m
 use Rattle.tx_mod.proofs.Replacing.{subtree_of_replaced}
 
 -- what was put in among others is the part there
-part_put : {X : Type 0} (xs ys : List X) (i : ℕ) → i ≤ length xs → part_of (put_in xs i ys) i (length ys) ≡ ys
+part_put : {X : Type 0} (xs ys : List X) (i : ℕ) → i ≤ length xs → slice_of (put_in xs i ys) i (length ys) ≡ ys
 part_put {X} xs ys i le =
     let front : length (take i xs) ≡ i = length-take-le {A = X} i xs le in
     ap (λ z. take (length ys) (drop i z)) (append_assoc (take i xs) ys (drop i xs))
@@ -45,12 +45,12 @@ insert_again (node l ts) (node m us) v i e =
     let named : m ≡ tuple = (bytes_eq-Decides m tuple).0 a.0 in
     let ws : List WideTree = put_in (trees ts) i (trees us) in
     ap (λ z. removed_part z i (length (trees us))) (sym (same_tree (node l (forest ws)) v b.1))
-    ∙ ap (λ zs. node tuple (forest (part_of zs i (length (trees us))))) (trees_forest ws)
+    ∙ ap (λ zs. node tuple (forest (slice_of zs i (length (trees us))))) (trees_forest ws)
     ∙ ap (λ zs. node tuple (forest zs)) (part_put (trees ts) (trees us) i (leb-true i (length (trees ts)) b.0))
     ∙ ap (node tuple) (forest_trees us)
     ∙ ap (λ n. node n us) (sym named)
 
-part_length : {X : Type 0} (xs : List X) (i n : ℕ) → i + n ≤ length xs → length (part_of xs i n) ≡ n
+part_length : {X : Type 0} (xs : List X) (i n : ℕ) → i + n ≤ length xs → length (slice_of xs i n) ≡ n
 part_length {X} xs i n le = length-take-le {A = X} n (drop i xs) (omega (arith, length-drop {A = X} i xs))
 
 remove_again : (s v : WideTree) (i n : ℕ) → removed s i n ≡ Ok v → extent (removed_part s i n) ≡ n
@@ -58,10 +58,10 @@ remove_again (leaf text) v i n e = let a = ok_asked (leb (i + n) (length text)) 
     part_length text i n (leb-true (i + n) (length text) a.0)
 remove_again (node l ts) v i n e =
     let a = ok_asked (leb (i + n) (length (trees ts))) (BadPlace (length (trees ts))) _ v e in
-    ap length (trees_forest (part_of (trees ts) i n))
+    ap length (trees_forest (slice_of (trees ts) i n))
     ∙ part_length (trees ts) i n (leb-true (i + n) (length (trees ts)) a.0)
 
-extent_before : (c : WideTree) (j : ℕ) → j ≤ extent c → extent (before c j) ≡ j
+extent_before : (c : WideTree) (j : ℕ) → j ≤ extent c → extent (tree_up_to c j) ≡ j
 extent_before (leaf text) j le = length-take-le j text le
 extent_before (node l ts) j le = ap length (trees_forest (take j (trees ts))) ∙ length-take-le j (trees ts) le
 
@@ -74,11 +74,11 @@ split_again (node l ts) v i j e =
     let a = ok_asked (leb j (extent c)) (BadPlace (extent c)) _ v g.2 in
     let b = ok_asked (is_clean c j) (CutsSymbol j) _ v a.1 in
     let within : i < length T = slice_get_within T i c g.1 in
-    let rest : List WideTree = behind c j ∷ drop (i + 1) T in
-    let ws : List WideTree = take i T ++ before c j ∷ rest in
+    let rest : List WideTree = tree_from c j ∷ drop (i + 1) T in
+    let ws : List WideTree = take i T ++ tree_up_to c j ∷ rest in
     ap (λ z. option_map_or extent (slice_get (children_of z) i) 0) (sym (same_tree (node l (forest ws)) v b.1))
     ∙ ap (λ zs. option_map_or extent (slice_get zs i) 0) (trees_forest ws)
-    ∙ ap (λ o. option_map_or extent o 0) (get_at (take i T) (before c j) rest i (length-take-le i T (omega arith)))
+    ∙ ap (λ o. option_map_or extent o 0) (get_at (take i T) (tree_up_to c j) rest i (length-take-le i T (omega arith)))
     ∙ extent_before c j (leb-true j (extent c) a.0)
 
 label_again : (s v : WideTree) (l : List ℕ) → labelled s l ≡ Ok v → unwrap_or (label_of v) [] ≡ l

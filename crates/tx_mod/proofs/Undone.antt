@@ -11,7 +11,7 @@ use Rattle.tx_tree.specs.Limits.{IsWithinLimits}
 use Rattle.tx_tree.specs.WideTree.{WideTree, leaf, node, forest, label_of, total_size}
 use Rattle.tx_tree.proofs.Children.{trees_forest, count-forest, count-trees}
 use Rattle.tx_tree.proofs.Cutting.{text_rest}
-use Rattle.tx_mod.specs.Mods.{tuple, taken_out, part_of, extent}
+use Rattle.tx_mod.specs.Mods.{tuple, taken_out, slice_of, extent}
 use Rattle.tx_mod.specs.Changes.{labelled}
 use Rattle.tx_mod.specs.Inverses.{removed_part, without_child}
 use Rattle.tx_mod.proofs.Measuring.{of_parts, of_both, narrow, size_of_node, depth_of_node}
@@ -39,7 +39,7 @@ text_between text bytes i n h e f is =
 
 -- a part of the children of a node, under another label
 pub part_within : (s : WideTree) (l m : List ℕ) (ts us : List WideTree) (i n : ℕ) → s ≡ node l (forest ts)
-    → us ≡ part_of ts i n → IsWithinLimits s → IsWithinLimits (node m (forest us))
+    → us ≡ slice_of ts i n → IsWithinLimits s → IsWithinLimits (node m (forest us))
 part_within s l m ts us i n e is w =
     let all = narrow s l ts e w in
     let a = of_parts ts i in
@@ -47,7 +47,7 @@ part_within s l m ts us i n e is w =
     rw is
     (record {
       text = omega (arith, a.long, b.long, all.long);
-      arity = omega (arith, a.wide, b.wide, all.wide, a.many, b.many, all.many, count-forest (part_of ts i n));
+      arity = omega (arith, a.wide, b.wide, all.wide, a.many, b.many, all.many, count-forest (slice_of ts i n));
       depth = omega (arith, a.depth, b.depth, depth_of_node s l ts e, w.depth);
       size = omega (arith, a.size, b.size, size_of_node s l ts e, w.size);
     })
@@ -85,10 +85,10 @@ taken_within s l ts us i n e is w =
         drop-drop n i ts in omega (arith, q.size, ap (λ x. total_size (forest x)) same)
 
 pub part_is : (s : WideTree) (l : List ℕ) (ts us : List WideTree) (i n : ℕ) → s ≡ node l (forest ts)
-    → us ≡ part_of ts i n → removed_part s i n ≡ node tuple (forest us)
+    → us ≡ slice_of ts i n → removed_part s i n ≡ node tuple (forest us)
 part_is s l ts us i n e is = rw (e, trees_forest ts, is) refl
 
-pub part_of_leaf : (s : WideTree) (text bytes : List ℕ) (i n : ℕ) → s ≡ leaf text → bytes ≡ part_of text i n
+pub part_of_leaf : (s : WideTree) (text bytes : List ℕ) (i n : ℕ) → s ≡ leaf text → bytes ≡ slice_of text i n
     → removed_part s i n ≡ leaf bytes
 part_of_leaf s text bytes i n e is = rw (e, is) refl
 

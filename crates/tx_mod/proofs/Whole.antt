@@ -15,7 +15,7 @@ use Rattle.tx_mod.specs.declared.measures.Measure.{Measure}
 use Rattle.tx_mod.specs.declared.mods.Mod.{Mod}
 use Rattle.tx_mod.specs.Mods.{path_of, replaced}
 use Rattle.tx_mod.specs.Changes.{Outcome, asking, changed_at, limited, put_back, changed}
-use Rattle.tx_mod.specs.Measures.{IsPeak, IsMade}
+use Rattle.tx_mod.specs.Measures.{IsPeak, HasMeasure}
 use Rattle.tx_mod.proofs.Replacing.{aside, size_of_replaced, depth_of_replaced, text_of_replaced, text_in_replaced}
 use Rattle.tx_mod.proofs.Replacing.{arity_of_replaced, arity_in_replaced, subtree_of_replaced, down}
 use Rattle.tx_mod.specs.Inverses.{inverse_at, inverse_of}
@@ -108,26 +108,27 @@ whole_peak most n peak old new h le low high =
     record { within = λ w. omega (arith, h.within w); past = λ p. omega (arith, h.past p) }
 
 pub whole_text : (m : Mod) (t s : WideTree) (a : Measure) (e : subtree t (path_of m) ≡ Some s)
-    (h : IsMade (changed_at m s) a) → IsWithinLimits t
+    (h : HasMeasure (changed_at m s) a) → IsWithinLimits t
     → IsPeak 1048575 a.text (text_length_of (replaced t (path_of m) h.tree))
 whole_text m t s a e h w =
     whole_peak 1048575 a.text (text_length_of h.tree) (text_length_of t) _ h.text w.text
     (text_in_replaced (path_of m) t s h.tree e) (text_of_replaced (path_of m) t s h.tree e)
 
 pub whole_arity : (m : Mod) (t s : WideTree) (a : Measure) (e : subtree t (path_of m) ≡ Some s)
-    (h : IsMade (changed_at m s) a) → IsWithinLimits t → IsPeak 65535 a.arity (arity_of (replaced t (path_of m) h.tree))
+    (h : HasMeasure (changed_at m s) a) → IsWithinLimits t
+    → IsPeak 65535 a.arity (arity_of (replaced t (path_of m) h.tree))
 whole_arity m t s a e h w =
     whole_peak 65535 a.arity (arity_of h.tree) (arity_of t) _ h.arity w.arity
     (arity_in_replaced (path_of m) t s h.tree e) (arity_of_replaced (path_of m) t s h.tree e)
 
-pub too_long : (m : Mod) (t s : WideTree) (a : Measure) → subtree t (path_of m) ≡ Some s → IsMade (changed_at m s) a
+pub too_long : (m : Mod) (t s : WideTree) (a : Measure) → subtree t (path_of m) ≡ Some s → HasMeasure (changed_at m s) a
     → IsWithinLimits t → 1048575 < a.text → changed m t ≡ Err (TooLong a.text)
 too_long m t s a e h w lt =
     let u : WideTree = replaced t (path_of m) h.tree in
     let is : text_length_of u ≡ a.text = (whole_text m t s a e h w).past lt in
     changed_is m t s h.tree e h.is ∙ limited_long u (omega arith) ∙ ap (λ n. Err (TooLong n)) is
 
-pub too_wide : (m : Mod) (t s : WideTree) (a : Measure) → subtree t (path_of m) ≡ Some s → IsMade (changed_at m s) a
+pub too_wide : (m : Mod) (t s : WideTree) (a : Measure) → subtree t (path_of m) ≡ Some s → HasMeasure (changed_at m s) a
     → IsWithinLimits t → a.text ≤ 1048575 → 65535 < a.arity
     → changed m t ≡ Err (TooWide a.arity)
 too_wide m t s a e h w short lt =
@@ -137,7 +138,7 @@ too_wide m t s a e h w short lt =
     ∙ ap (λ n. Err (TooWide n)) is
 
 pub too_deep : (m : Mod) (t s : WideTree) (a : Measure) (depth : ℕ) → subtree t (path_of m) ≡ Some s
-    → IsMade (changed_at m s) a → IsWithinLimits t → a.text ≤ 1048575 → a.arity ≤ 65535
+    → HasMeasure (changed_at m s) a → IsWithinLimits t → a.text ≤ 1048575 → a.arity ≤ 65535
     → ((v : WideTree) → depth_of v ≡ a.depth → depth_of (replaced t (path_of m) v) ≡ depth) → 400 < depth
     → changed m t ≡ Err (TooDeep depth)
 too_deep m t s a depth e h w short narrow deep lt =
@@ -148,7 +149,7 @@ too_deep m t s a depth e h w short narrow deep lt =
     (omega arith) ∙ ap (λ n. Err (TooDeep n)) is
 
 pub too_big : (m : Mod) (t s : WideTree) (a : Measure) (depth size : ℕ) → subtree t (path_of m) ≡ Some s
-    → IsMade (changed_at m s) a → IsWithinLimits t → a.text ≤ 1048575 → a.arity ≤ 65535
+    → HasMeasure (changed_at m s) a → IsWithinLimits t → a.text ≤ 1048575 → a.arity ≤ 65535
     → ((v : WideTree) → depth_of v ≡ a.depth → depth_of (replaced t (path_of m) v) ≡ depth) → depth ≤ 400
     → size + size_of s ≡ size_of t + a.size → 8000000 < size → changed m t ≡ Err (TooBig size)
 too_big m t s a depth size e h w short narrow deep le sized lt =
@@ -160,7 +161,7 @@ too_big m t s a depth size e h w short narrow deep le sized lt =
     (omega arith) (omega arith) ∙ ap (λ n. Err (TooBig n)) is
 
 pub all_within : (m : Mod) (t s : WideTree) (a : Measure) (depth size : ℕ) → subtree t (path_of m) ≡ Some s
-    → IsMade (changed_at m s) a → IsWithinLimits t → a.text ≤ 1048575 → a.arity ≤ 65535
+    → HasMeasure (changed_at m s) a → IsWithinLimits t → a.text ≤ 1048575 → a.arity ≤ 65535
     → ((v : WideTree) → depth_of v ≡ a.depth → depth_of (replaced t (path_of m) v) ≡ depth) → depth ≤ 400
     → size + size_of s ≡ size_of t + a.size → size ≤ 8000000 → IsOk (changed m t)
 all_within m t s a depth size e h w short narrow deep le sized small =

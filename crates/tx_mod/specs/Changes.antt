@@ -15,7 +15,7 @@ use Rattle.tx_mod.specs.declared.faults.ApplyFault.TheVariants.{Refused, Memory}
 use Rattle.tx_mod.specs.declared.mods.Mod.{Mod}
 use Rattle.tx_mod.specs.declared.mods.Mod.TheVariants.{Assign, Insert, Remove, Split, Join}
 use Rattle.tx_mod.specs.declared.mods.Mod.TheVariants.{AssignNode, InsertNode, RemoveNode}
-use Rattle.tx_mod.specs.Mods.{path_of, tuple, put_in, taken_out, extent, is_clean, before, behind, replaced}
+use Rattle.tx_mod.specs.Mods.{path_of, tuple, put_in, taken_out, extent, is_clean, tree_up_to, tree_from, replaced}
 
 -- a tree, or a cause
 abbrev pub Outcome : Type 0
@@ -53,7 +53,7 @@ abbrev pub split_child : List ℕ → List WideTree → ℕ → ℕ → WideTree
 split_child l ts i j c =
     asking (nat_le j (extent c)) (BadPlace (extent c))
     (asking (is_clean c j) (CutsSymbol j)
-    (Ok (node l (forest (take i ts ++ before c j ∷ behind c j ∷ drop (i + 1) ts)))))
+    (Ok (node l (forest (take i ts ++ tree_up_to c j ∷ tree_from c j ∷ drop (i + 1) ts)))))
 
 -- child i becomes two
 abbrev pub split : WideTree → ℕ → ℕ → Outcome

@@ -8,12 +8,12 @@ use Rattle.tx_tree.specs.WideTree.{WideTree}
 use Rattle.tx_mod.specs.declared.mods.Mod.{Mod}
 use Rattle.tx_mod.specs.Changes.{Outcome, changed}
 use Rattle.tx_mod.specs.Moves.{moved_place, carried_path}
-use Rattle.tx_mod.specs.Sound.{IsSound}
+use Rattle.tx_mod.specs.Sound.{IsSoundMod}
 
 -- a moved place is a place of the changed tree
 abbrev pub StaysPlace : Mod → WideTree → Place → Type 0
 StaysPlace m t at =
-    (u : WideTree) → IsSound m → IsWellFormed t → changed m t ≡ Ok u → IsPlace t at.path at.offset
+    (u : WideTree) → IsSoundMod m → IsWellFormed t → changed m t ≡ Ok u → IsPlace t at.path at.offset
     → IsPlace u (moved_place m t at).path (moved_place m t at).offset
 
 -- where a path is carried, the same subtree stands
@@ -22,20 +22,20 @@ CarriesSubtree m t q = (u x : WideTree) (r : List ℕ) → changed m t ≡ Ok u 
     → carried_path m t q ≡ Some r → subtree u r ≡ Some x
 
 -- the tree of an outcome
-abbrev pub tree_of : Outcome → Option WideTree
-tree_of (Ok u) = Some u
-tree_of (Err cause) = None
+abbrev pub outcome_tree : Outcome → Option WideTree
+outcome_tree (Ok u) = Some u
+outcome_tree (Err cause) = None
 
 -- the tree after all modifications, one after the other, if each makes one
 abbrev pub changed_by_all : List Mod → WideTree → Option WideTree
 changed_by_all [] t = Some t
-changed_by_all (m ∷ ms) t = option_and_then (changed_by_all ms) (tree_of (changed m t))
+changed_by_all (m ∷ ms) t = option_and_then (changed_by_all ms) (outcome_tree (changed m t))
 
 -- where the subtree at q stands after all modifications, one after the other
 abbrev pub carried_by_all : List Mod → WideTree → List ℕ → Option (List ℕ)
 carried_by_all [] t q = Some q
 carried_by_all (m ∷ ms) t q =
-    option_and_then (λ u. option_and_then (carried_by_all ms u) (carried_path m t q)) (tree_of (changed m t))
+    option_and_then (λ u. option_and_then (carried_by_all ms u) (carried_path m t q)) (outcome_tree (changed m t))
 
 -- carried through two lists is carried through one and then the other
 abbrev pub Composes : List Mod → List Mod → WideTree → List ℕ → Type 0
@@ -43,8 +43,8 @@ Composes ms ns t q = carried_by_all (ms ++ ns) t q
     ≡ option_and_then (λ u. option_and_then (carried_by_all ns u) (carried_by_all ms t q)) (changed_by_all ms t)
 
 -- where one step leads nowhere, all lead nowhere
-abbrev pub StopsAt : List Mod → Mod → List Mod → WideTree → List ℕ → Type 0
-StopsAt ms m ns t q =
+abbrev pub PathStopsAt : List Mod → Mod → List Mod → WideTree → List ℕ → Type 0
+PathStopsAt ms m ns t q =
     (u : WideTree) (r : List ℕ) → changed_by_all ms t ≡ Some u → carried_by_all ms t q ≡ Some r
     → carried_path m u r ≡ None → carried_by_all (ms ++ m ∷ ns) t q ≡ None
 

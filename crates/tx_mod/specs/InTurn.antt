@@ -7,11 +7,11 @@ use Rattle.tx_tree.specs.Limits.{IsWellFormed, IsWithinLimits}
 use Rattle.tx_tree.specs.WideTree.{WideTree}
 use Rattle.tx_mod.specs.declared.mods.Mod.{Mod}
 use Rattle.tx_mod.specs.Changes.{Outcome, changed}
-use Rattle.tx_mod.specs.Followed.{tree_of}
+use Rattle.tx_mod.specs.Followed.{outcome_tree}
 use Rattle.tx_mod.specs.Inverses.{inverse_of}
 use Rattle.tx_mod.specs.Mods.{path_of}
 use Rattle.tx_mod.specs.Moves.{moved_place}
-use Rattle.tx_mod.specs.Sound.{IsSound}
+use Rattle.tx_mod.specs.Sound.{IsSoundMod}
 
 -- what follows a tree, or the cause
 abbrev pub then_changed : (WideTree → Outcome) → Outcome → Outcome
@@ -26,21 +26,21 @@ changed_in_turn (m ∷ ms) t = then_changed (changed_in_turn ms) (changed m t)
 -- what gives the tree back: the inverse of each modification in the tree that it changes, the last one first
 abbrev pub inverses_of : List Mod → WideTree → List Mod
 inverses_of [] t = []
-inverses_of (m ∷ ms) t = option_map_or (inverses_of ms) (tree_of (changed m t)) [] ++ inverse_of m t ∷ []
+inverses_of (m ∷ ms) t = option_map_or (inverses_of ms) (outcome_tree (changed m t)) [] ++ inverse_of m t ∷ []
 
 -- where a place of the tree t stands after all modifications
 abbrev pub moved_in_turn : List Mod → WideTree → Place → Place
 moved_in_turn [] t at = at
 moved_in_turn (m ∷ ms) t at =
-    option_map_or (λ u. moved_in_turn ms u (moved_place m t at)) (tree_of (changed m t)) (moved_place m t at)
+    option_map_or (λ u. moved_in_turn ms u (moved_place m t at)) (outcome_tree (changed m t)) (moved_place m t at)
 
 -- the steps that are allowed for one change along all paths
 abbrev pub cost_of : List Mod → ℕ
 cost_of [] = 0
 cost_of (m ∷ ms) = length (path_of m) + 3 + cost_of ms
 
-abbrev pub AreSound : List Mod → Type 0
-AreSound = AllByRecursion IsSound
+abbrev pub AreSoundMods : List Mod → Type 0
+AreSoundMods = AllByRecursion IsSoundMod
 
 -- what is known of modifications that are sound and apply to a well formed tree: the tree afterwards is well formed,
 -- what undoes them gives the tree back and is allowed as many steps, and what undoes the undoing are they themselves
@@ -53,4 +53,5 @@ pub record AreUndone (ms : List Mod) (t u : WideTree) : Type 0 where
 
 abbrev pub CanBeUndone : List Mod → WideTree → Type 0
 CanBeUndone ms t =
-    (u : WideTree) → AreSound ms → IsWellFormed t → IsWithinLimits t → changed_in_turn ms t ≡ Ok u → AreUndone ms t u
+    (u : WideTree) → AreSoundMods ms → IsWellFormed t → IsWithinLimits t → changed_in_turn ms t ≡ Ok u
+    → AreUndone ms t u

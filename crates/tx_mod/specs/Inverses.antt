@@ -6,12 +6,12 @@ use Rattle.tx_tree.specs.WideTree.{WideTree, leaf, node, forest, trees, children
 use Rattle.tx_mod.specs.declared.mods.Mod.{Mod}
 use Rattle.tx_mod.specs.declared.mods.Mod.TheVariants.{Assign, Insert, Remove, Split, Join}
 use Rattle.tx_mod.specs.declared.mods.Mod.TheVariants.{AssignNode, InsertNode, RemoveNode}
-use Rattle.tx_mod.specs.Mods.{path_of, tuple, taken_out, part_of, extent}
+use Rattle.tx_mod.specs.Mods.{path_of, tuple, taken_out, slice_of, extent}
 
 -- what a removal takes out, as a text or as a tuple
 abbrev pub removed_part : WideTree → ℕ → ℕ → WideTree
-removed_part (leaf text) i n = leaf (part_of text i n)
-removed_part (node l ts) i n = node tuple (forest (part_of (trees ts) i n))
+removed_part (leaf text) i n = leaf (slice_of text i n)
+removed_part (node l ts) i n = node tuple (forest (slice_of (trees ts) i n))
 
 -- the node without child i
 abbrev pub without_child : WideTree → ℕ → WideTree

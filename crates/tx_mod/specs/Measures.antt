@@ -19,7 +19,7 @@ pub record IsPeak (most n peak : ℕ) : Type 0 where
   pub past : most < n → peak ≡ n
 
 -- the outcome is a tree of this measure
-pub record IsMade (outcome : Outcome) (a : Measure) : Type 0 where
+pub record HasMeasure (outcome : Outcome) (a : Measure) : Type 0 where
   pub tree : WideTree
   pub is : outcome ≡ Ok tree
   pub text : IsPeak MOST_TEXT a.text (text_length_of tree)
@@ -28,10 +28,10 @@ pub record IsMade (outcome : Outcome) (a : Measure) : Type 0 where
   pub size : a.size ≡ size_of tree
 
 -- the measure of the outcome, or its cause
-abbrev pub Measures : Outcome → Result Measure ModFault → Type 0
-Measures outcome result = MatchResult result (λ a. IsMade outcome a) (λ cause. outcome ≡ Err cause)
+abbrev pub MeasuresOutcome : Outcome → Result Measure ModFault → Type 0
+MeasuresOutcome outcome result = MatchResult result (λ a. HasMeasure outcome a) (λ cause. outcome ≡ Err cause)
 
 -- two trees within the limits make no greater depth or size
-pub record IsSmall (a : Measure) : Type 0 where
+pub record IsSmallMeasure (a : Measure) : Type 0 where
   pub depth : a.depth ≤ 401
   pub size : a.size ≤ 16000001

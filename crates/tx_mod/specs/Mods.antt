@@ -31,8 +31,8 @@ abbrev pub taken_out : {X : Type 0} → List X → ℕ → ℕ → List X
 taken_out xs i n = take i xs ++ drop (i + n) xs
 
 -- the n of the list from place i on
-abbrev pub part_of : {X : Type 0} → List X → ℕ → ℕ → List X
-part_of xs i n = take n (drop i xs)
+abbrev pub slice_of : {X : Type 0} → List X → ℕ → ℕ → List X
+slice_of xs i n = take n (drop i xs)
 
 -- how many bytes a leaf has, or children a node
 abbrev pub extent : WideTree → ℕ
@@ -45,20 +45,20 @@ is_clean (leaf text) j = is_cut text j
 is_clean (node label ts) j = true
 
 -- the tree before place j, and from there on
-abbrev pub before : WideTree → ℕ → WideTree
-before (leaf text) j = leaf (take j text)
-before (node label ts) j = node label (forest (take j (trees ts)))
+abbrev pub tree_up_to : WideTree → ℕ → WideTree
+tree_up_to (leaf text) j = leaf (take j text)
+tree_up_to (node label ts) j = node label (forest (take j (trees ts)))
 
-abbrev pub behind : WideTree → ℕ → WideTree
-behind (leaf text) j = leaf (drop j text)
-behind (node label ts) j = node label (forest (drop j (trees ts)))
+abbrev pub tree_from : WideTree → ℕ → WideTree
+tree_from (leaf text) j = leaf (drop j text)
+tree_from (node label ts) j = node label (forest (drop j (trees ts)))
 
 -- the tree with u as child i
-abbrev pub with_child : WideTree → ℕ → WideTree → WideTree
-with_child (leaf text) i u = leaf text
-with_child (node label ts) i u = node label (forest (slice_set (trees ts) i u))
+abbrev pub with_child_at : WideTree → ℕ → WideTree → WideTree
+with_child_at (leaf text) i u = leaf text
+with_child_at (node label ts) i u = node label (forest (slice_set (trees ts) i u))
 
 -- the tree with u where the path leads
 abbrev pub replaced : WideTree → List ℕ → WideTree → WideTree
 replaced t [] u = u
-replaced t (i ∷ path) u = option_map_or (λ c. with_child t i (replaced c path u)) (slice_get (children_of t) i) t
+replaced t (i ∷ path) u = option_map_or (λ c. with_child_at t i (replaced c path u)) (slice_get (children_of t) i) t

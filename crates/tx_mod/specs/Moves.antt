@@ -20,8 +20,8 @@ abbrev pub place : List ℕ → ℕ → Place
 place path o = record { path = path; offset = o }
 
 -- the place, as seen from above p
-abbrev pub below : List ℕ → Place → Place
-below p at = place (p ++ at.path) at.offset
+abbrev pub place_from_above : List ℕ → Place → Place
+place_from_above p at = place (p ++ at.path) at.offset
 
 -- child i of the tree, or the tree itself where it has none
 abbrev pub child_or_self : WideTree → ℕ → WideTree
@@ -90,7 +90,7 @@ moved_at (RemoveNode p i) s r o = moved_by_unwrap i r o
 abbrev pub moved_place : Mod → WideTree → Place → Place
 moved_place m t at =
     option_map_or (λ s.
-    option_map_or (λ r. below (path_of m) (moved_at m s r at.offset)) (rest_behind (path_of m) at.path) at)
+    option_map_or (λ r. place_from_above (path_of m) (moved_at m s r at.offset)) (rest_behind (path_of m) at.path) at)
     (subtree t (path_of m)) at
 
 -- the path, unless it is that of the changed subtree itself

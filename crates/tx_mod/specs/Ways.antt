@@ -7,15 +7,15 @@ use Rattle.tx_mod.specs.declared.ways.Way.{Way}
 use Rattle.tx_mod.specs.declared.ways.Way.TheVariants.{Rest, Step, Steps}
 use Rattle.tx_mod.specs.Moves.{place}
 
-abbrev pub numbers_of : Way → List ℕ
-numbers_of (Rest r) = r.now
-numbers_of (Step k r) = k ∷ r.now
-numbers_of (Steps k l r) = k ∷ l ∷ r.now
+abbrev pub way_numbers : Way → List ℕ
+way_numbers (Rest r) = r.now
+way_numbers (Step k r) = k ∷ r.now
+way_numbers (Steps k l r) = k ∷ l ∷ r.now
 
 -- the stand is this place
-abbrev pub StandsAt : Stand → Place → Type 0
-StandsAt a at = place (numbers_of a.way) a.offset ≡ at
+abbrev pub IsPlaceOf : Stand → Place → Type 0
+IsPlaceOf a at = place (way_numbers a.way) a.offset ≡ at
 
 -- each number is one of a child
-abbrev pub AreSmall : List ℕ → Type 0
-AreSmall r = AllByRecursion (λ k. k ≤ 65535) r
+abbrev pub AreChildNumbers : List ℕ → Type 0
+AreChildNumbers r = AllByRecursion (λ k. k ≤ 65535) r

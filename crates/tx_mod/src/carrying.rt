@@ -5,7 +5,7 @@ ghost use Rattle.tx_mod.specs.Changes.{changed};
 ghost use Rattle.tx_mod.specs.Moves.{carried_by_insert, carried_by_remove, carried_in_split};
 ghost use Rattle.tx_mod.specs.Moves.{carried_by_split, carried_in_join, carried_by_join};
 ghost use Rattle.tx_mod.specs.Moves.{carried_by_unwrap, carried_at, carried_path, some_path};
-ghost use Rattle.tx_mod.specs.Ways.{numbers_of, AreSmall};
+ghost use Rattle.tx_mod.specs.Ways.{way_numbers, AreChildNumbers};
 
 use crate::mods::Mod;
 use crate::moving::{child_or_self, extent_of, shifted};
@@ -16,9 +16,9 @@ use tx_tree::{Path, Tree};
 
 fn carried_by_insert(i: u32, n: u32, rest: &[u32]) -> Option<Way<'_>>
     requires extent { n ≤ 1048575 }
-    requires small { AreSmall rest.now }
+    requires small { AreChildNumbers rest.now }
     ensures { MatchOption result (carried_by_insert i n rest.now ≡ None)
-        (λ w. carried_by_insert i n rest.now ≡ Some (numbers_of w)) }
+        (λ w. carried_by_insert i n rest.now ≡ Some (way_numbers w)) }
 {
     let (k, others) = first_step(rest)?;
     Some(Way::Step(shifted(i, n, k), others))
@@ -26,7 +26,7 @@ fn carried_by_insert(i: u32, n: u32, rest: &[u32]) -> Option<Way<'_>>
 
 fn carried_by_remove(i: u32, n: u32, rest: &[u32]) -> Option<Way<'_>>
     ensures { MatchOption result (carried_by_remove i n rest.now ≡ None)
-        (λ w. carried_by_remove i n rest.now ≡ Some (numbers_of w)) }
+        (λ w. carried_by_remove i n rest.now ≡ Some (way_numbers w)) }
 {
     let end = u64::from(i) + u64::from(n);
     let (k, others) = first_step(rest)?;
@@ -43,7 +43,7 @@ fn carried_by_remove(i: u32, n: u32, rest: &[u32]) -> Option<Way<'_>>
 fn carried_in_split(i: u32, j: u32, rest: &[u32]) -> Option<Way<'_>>
     requires child { i ≤ 65535 }
     ensures { MatchOption result (carried_in_split i j rest.now ≡ None)
-        (λ w. carried_in_split i j rest.now ≡ Some (numbers_of w)) }
+        (λ w. carried_in_split i j rest.now ≡ Some (way_numbers w)) }
 {
     let (k, others) = first_step(rest)?;
     if j <= k {
@@ -54,9 +54,9 @@ fn carried_in_split(i: u32, j: u32, rest: &[u32]) -> Option<Way<'_>>
 }
 
 fn carried_by_split(i: u32, j: u32, rest: &[u32]) -> Option<Way<'_>>
-    requires small { AreSmall rest.now }
+    requires small { AreChildNumbers rest.now }
     ensures { MatchOption result (carried_by_split i j rest.now ≡ None)
-        (λ w. carried_by_split i j rest.now ≡ Some (numbers_of w)) }
+        (λ w. carried_by_split i j rest.now ≡ Some (way_numbers w)) }
 {
     let (k, others) = first_step(rest)?;
     if i < k {
@@ -71,9 +71,9 @@ fn carried_by_split(i: u32, j: u32, rest: &[u32]) -> Option<Way<'_>>
 // A path below child i + 1, which becomes the end of child i, behind n children.
 fn carried_in_join(i: u32, n: u32, rest: &[u32]) -> Option<Way<'_>>
     requires extent { n ≤ 1048575 }
-    requires small { AreSmall rest.now }
+    requires small { AreChildNumbers rest.now }
     ensures { MatchOption result (carried_in_join i n rest.now ≡ None)
-        (λ w. carried_in_join i n rest.now ≡ Some (numbers_of w)) }
+        (λ w. carried_in_join i n rest.now ≡ Some (way_numbers w)) }
 {
     let (k, others) = first_step(rest)?;
     Some(Way::Steps(i, k + n, others))
@@ -81,9 +81,9 @@ fn carried_in_join(i: u32, n: u32, rest: &[u32]) -> Option<Way<'_>>
 
 fn carried_by_join(i: u32, n: u32, rest: &[u32]) -> Option<Way<'_>>
     requires extent { n ≤ 1048575 }
-    requires small { AreSmall rest.now }
+    requires small { AreChildNumbers rest.now }
     ensures { MatchOption result (carried_by_join i n rest.now ≡ None)
-        (λ w. carried_by_join i n rest.now ≡ Some (numbers_of w)) }
+        (λ w. carried_by_join i n rest.now ≡ Some (way_numbers w)) }
 {
     let (k, others) = first_step(rest)?;
     let next = u64::from(i) + 1;
@@ -101,7 +101,7 @@ fn carried_by_join(i: u32, n: u32, rest: &[u32]) -> Option<Way<'_>>
 
 fn carried_by_unwrap(i: u32, rest: &[u32]) -> Option<Way<'_>>
     ensures { MatchOption result (carried_by_unwrap i rest.now ≡ None)
-        (λ w. carried_by_unwrap i rest.now ≡ Some (numbers_of w)) }
+        (λ w. carried_by_unwrap i rest.now ≡ Some (way_numbers w)) }
 {
     let (k, others) = first_step(rest)?;
     if k == i {
@@ -113,16 +113,16 @@ fn carried_by_unwrap(i: u32, rest: &[u32]) -> Option<Way<'_>>
 
 // The path, unless it is that of the changed subtree itself.
 fn some_path(rest: &[u32]) -> Option<Way<'_>>
-    ensures { MatchOption result (some_path rest.now ≡ None) (λ w. some_path rest.now ≡ Some (numbers_of w)) }
+    ensures { MatchOption result (some_path rest.now ≡ None) (λ w. some_path rest.now ≡ Some (way_numbers w)) }
 {
     let (k, others) = first_step(rest)?;
     Some(Way::Step(k, others))
 }
 
 fn carried_at<'a>(m: &Mod, s: &Tree, rest: &'a [u32]) -> Option<Way<'a>>
-    requires small { AreSmall rest.now }
+    requires small { AreChildNumbers rest.now }
     ensures { MatchOption result (carried_at m.now s.now rest.now ≡ None)
-        (λ w. carried_at m.now s.now rest.now ≡ Some (numbers_of w)) }
+        (λ w. carried_at m.now s.now rest.now ≡ Some (way_numbers w)) }
 {
     match m {
         Mod::Assign(..) => None,

@@ -6,16 +6,16 @@ ghost use Rattle.tx_tree.specs.declared.places.Place.{Place as Position};
 ghost use Rattle.tx_mod.specs.declared.mods.Mod.{Mod as Change};
 ghost use Rattle.tx_mod.specs.Changes.{changed};
 ghost use Rattle.tx_mod.specs.Followed.{StaysPlace, CarriesSubtree, CarriesThroughAll, Composes};
-ghost use Rattle.tx_mod.specs.Followed.{StopsAt, carried_by_all, changed_by_all, tree_of};
+ghost use Rattle.tx_mod.specs.Followed.{PathStopsAt, carried_by_all, changed_by_all, outcome_tree};
 ghost use Rattle.tx_mod.specs.Moves.{carried_path, moved_place, place};
 ghost use Rattle.tx_mod.specs.InTurn.{CanBeUndone, changed_in_turn};
-ghost use Rattle.tx_mod.specs.Sound.{IsSound, StaysWellFormed, GivesBack, IsMadeAgain};
+ghost use Rattle.tx_mod.specs.Sound.{IsSoundMod, StaysWellFormed, GivesBack, IsMadeAgain};
 
 use crate::mods::Mod;
 
 /// The parts of a modification in hand are well formed: trees that are put in, and the label that is given.
 pub fn sound(m: &Mod)
-    ensures { IsSound m.now }
+    ensures { IsSoundMod m.now }
 {
     match m {
         Mod::Assign(_, x) | Mod::Insert(_, _, x) | Mod::InsertNode(_, _, x) => {
@@ -45,7 +45,7 @@ pub fn inverse_law()
 /// modification of it is refused.
 pub fn list_inverse_law()
     ensures undone { (ms : List Change) (t : WideTree) → CanBeUndone ms t }
-    ensures tree { (ms : List Change) (t : WideTree) → tree_of (changed_in_turn ms t) ≡ changed_by_all ms t }
+    ensures tree { (ms : List Change) (t : WideTree) → outcome_tree (changed_in_turn ms t) ≡ changed_by_all ms t }
 {}
 
 /// A moved place is a place of the changed tree.
@@ -72,6 +72,6 @@ pub fn carried_list_law()
         → carried_by_all (m ∷ []) t q ≡ carried_path m t q }
     ensures composed { (ms ns : List Change) (t : WideTree) (q : List ℕ) → Composes ms ns t q }
     ensures stops { (ms : List Change) (m : Change) (ns : List Change) (t : WideTree) (q : List ℕ)
-        → StopsAt ms m ns t q }
+        → PathStopsAt ms m ns t q }
     ensures same { (ms : List Change) (t : WideTree) (q : List ℕ) → CarriesThroughAll ms t q }
 {}

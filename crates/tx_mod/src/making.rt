@@ -4,7 +4,7 @@ ghost use Rattle.tx_tree.specs.Limits.{IsWithinLimits};
 ghost use Rattle.tx_tree.specs.Paths.{subtree};
 ghost use Rattle.tx_tree.specs.Texts.{IsText};
 ghost use Rattle.tx_tree.specs.WideTree.{leaf, node, forest, children_of};
-ghost use Rattle.tx_mod.specs.Mods.{replaced, with_child};
+ghost use Rattle.tx_mod.specs.Mods.{replaced, with_child_at};
 
 use crate::parts::{Parts, parts_of};
 use crate::ways::first_step;
@@ -69,7 +69,7 @@ pub(crate) fn spliced(
 
 // The tree with another child in place of its child i.
 #[tactic(auto, using(crate::proofs::Built::child_rules))]
-fn with_child<L: Ledger>(
+fn with_child_at<L: Ledger>(
     alloc: Global,
     t: &Tree,
     i: u32,
@@ -77,8 +77,8 @@ fn with_child<L: Ledger>(
     steps: &mut Steps<L>,
 ) -> Result<Tree, Memory>
     requires there { i < length (children_of t.now) }
-    requires within { IsWithinLimits (with_child t.now i child) }
-    ensures made { IfOk result (λ u. u ≡ with_child t.now i child) }
+    requires within { IsWithinLimits (with_child_at t.now i child) }
+    ensures made { IfOk result (λ u. u ≡ with_child_at t.now i child) }
     ensures counted { steps.new ≤ steps.old + 1 }
 {
     let Parts::Node(label, children) = parts_of(t) else {
@@ -110,5 +110,5 @@ pub(crate) fn rebuilt<L: Ledger>(
         unreachable!();
     };
     let child = rebuilt(alloc, child, rest, new, steps)?;
-    with_child(alloc, t, i, child, steps)
+    with_child_at(alloc, t, i, child, steps)
 }

@@ -4,7 +4,7 @@ ghost use Rattle.tx_tree.specs.WideTree.{forest, total_size, deepest};
 ghost use Rattle.tx_mod.specs.Mods.{extent, is_clean};
 ghost use Rattle.tx_mod.specs.Changes.{changed_at, inserted, removed, split, joined};
 ghost use Rattle.tx_mod.specs.Changes.{joined_at, labelled, wrapped, unwrapped};
-ghost use Rattle.tx_mod.specs.Measures.{IsMade, Measures, IsSmall};
+ghost use Rattle.tx_mod.specs.Measures.{HasMeasure, MeasuresOutcome, IsSmallMeasure};
 
 use crate::faults::ModFault;
 use crate::mods::{Mod, TUPLE};
@@ -21,8 +21,8 @@ pub(crate) struct Measure {
 }
 
 fn measure_of(t: &Tree) -> Measure
-    ensures made { IsMade (Ok t.now) result }
-    ensures small { IsSmall result }
+    ensures made { HasMeasure (Ok t.now) result }
+    ensures small { IsSmallMeasure result }
 {
     Measure {
         text: 0,
@@ -34,8 +34,8 @@ fn measure_of(t: &Tree) -> Measure
 
 #[tactic(auto, using(crate::proofs::Measuring::insert_rules))]
 fn measured_insert(s: &Tree, i: u32, x: &Tree) -> Result<Measure, ModFault>
-    ensures measured { Measures (inserted s.now i x.now) result }
-    ensures small { IfOk result IsSmall }
+    ensures measured { MeasuresOutcome (inserted s.now i x.now) result }
+    ensures small { IfOk result IsSmallMeasure }
 {
     let depth = u64::from(s.depth().max(x.depth()));
     let size = s.size() + x.size() - 1;
@@ -102,8 +102,8 @@ pub(crate) fn deepest(trees: &[Tree]) -> u32
 
 #[tactic(auto, using(crate::proofs::Measuring::remove_rules))]
 fn measured_remove(s: &Tree, i: u32, n: u32) -> Result<Measure, ModFault>
-    ensures measured { Measures (removed s.now i n) result }
-    ensures small { IfOk result IsSmall }
+    ensures measured { MeasuresOutcome (removed s.now i n) result }
+    ensures small { IfOk result IsSmallMeasure }
 {
     let _size = s.size();
     let end = i as usize + n as usize;
@@ -166,8 +166,8 @@ fn is_clean(t: &Tree, j: usize) -> bool
 
 #[tactic(auto, using(crate::proofs::Measuring::split_rules))]
 fn measured_split(s: &Tree, i: u32, j: u32) -> Result<Measure, ModFault>
-    ensures measured { Measures (split s.now i j) result }
-    ensures small { IfOk result IsSmall }
+    ensures measured { MeasuresOutcome (split s.now i j) result }
+    ensures small { IfOk result IsSmallMeasure }
 {
     let size = s.size() + 1;
     let depth = u64::from(s.depth());
@@ -197,8 +197,8 @@ fn measured_split(s: &Tree, i: u32, j: u32) -> Result<Measure, ModFault>
 // Two trees made one: the bytes of the text, or the number of children, unless they can't be joined.
 #[tactic(auto, using(crate::proofs::Measuring::pair_rules))]
 fn measured_pair(a: &Tree, b: &Tree) -> Result<Measure, ModFault>
-    ensures measured { Measures (joined a.now b.now) result }
-    ensures small { IfOk result IsSmall }
+    ensures measured { MeasuresOutcome (joined a.now b.now) result }
+    ensures small { IfOk result IsSmallMeasure }
 {
     let depth = u64::from(a.depth().max(b.depth()));
     let size = a.size() + b.size() - 1;
@@ -230,8 +230,8 @@ fn measured_pair(a: &Tree, b: &Tree) -> Result<Measure, ModFault>
 
 #[tactic(auto, using(crate::proofs::Measuring::join_rules))]
 fn measured_join(s: &Tree, i: u32) -> Result<Measure, ModFault>
-    ensures measured { Measures (joined_at s.now i) result }
-    ensures small { IfOk result IsSmall }
+    ensures measured { MeasuresOutcome (joined_at s.now i) result }
+    ensures small { IfOk result IsSmallMeasure }
 {
     let size = s.size() - 1;
     let depth = u64::from(s.depth());
@@ -250,8 +250,8 @@ fn measured_join(s: &Tree, i: u32) -> Result<Measure, ModFault>
 }
 
 fn measured_label(s: &Tree) -> Result<Measure, ModFault>
-    ensures measured { (l : List ℕ) → Measures (labelled s.now l) result }
-    ensures small { IfOk result IsSmall }
+    ensures measured { (l : List ℕ) → MeasuresOutcome (labelled s.now l) result }
+    ensures small { IfOk result IsSmallMeasure }
 {
     let made = measure_of(s);
     match parts_of(s) {
@@ -262,8 +262,8 @@ fn measured_label(s: &Tree) -> Result<Measure, ModFault>
 
 #[tactic(auto, using(crate::proofs::Measuring::wrap_rules))]
 fn measured_wrap(s: &Tree, i: u32, x: &Tree) -> Result<Measure, ModFault>
-    ensures measured { Measures (wrapped s.now i x.now) result }
-    ensures small { IfOk result IsSmall }
+    ensures measured { MeasuresOutcome (wrapped s.now i x.now) result }
+    ensures small { IfOk result IsSmallMeasure }
 {
     let depth = u64::from(x.depth().max(s.depth() + 1));
     let size = s.size() + x.size();
@@ -284,8 +284,8 @@ fn measured_wrap(s: &Tree, i: u32, x: &Tree) -> Result<Measure, ModFault>
 
 #[tactic(auto, using(crate::proofs::Measuring::unwrap_rules))]
 fn measured_unwrap(s: &Tree, i: u32) -> Result<Measure, ModFault>
-    ensures measured { Measures (unwrapped s.now i) result }
-    ensures small { IfOk result IsSmall }
+    ensures measured { MeasuresOutcome (unwrapped s.now i) result }
+    ensures small { IfOk result IsSmallMeasure }
 {
     let Parts::Node(_, children) = parts_of(s) else {
         return Err(ModFault::NotNode);
@@ -298,8 +298,8 @@ fn measured_unwrap(s: &Tree, i: u32) -> Result<Measure, ModFault>
 
 /// What the modification makes of the subtree that its path leads to, measured.
 pub(crate) fn measured(s: &Tree, m: &Mod) -> Result<Measure, ModFault>
-    ensures measured { Measures (changed_at m.now s.now) result }
-    ensures small { IfOk result IsSmall }
+    ensures measured { MeasuresOutcome (changed_at m.now s.now) result }
+    ensures small { IfOk result IsSmallMeasure }
 {
     match m {
         Mod::Assign(_, x) => Ok(measure_of(x)),

@@ -7,7 +7,7 @@ ghost use Rattle.tx_mod.specs.Mods.{extent};
 ghost use Rattle.tx_mod.specs.Moves.{child_or_self, shifted, place, moved_by_insert};
 ghost use Rattle.tx_mod.specs.Moves.{moved_by_remove, moved_in_split, moved_by_split, moved_in_join};
 ghost use Rattle.tx_mod.specs.Moves.{moved_by_join, moved_by_unwrap, moved_at, moved_place};
-ghost use Rattle.tx_mod.specs.Ways.{numbers_of, StandsAt, AreSmall};
+ghost use Rattle.tx_mod.specs.Ways.{way_numbers, IsPlaceOf, AreChildNumbers};
 
 use crate::laws::sound;
 use crate::measures::extent;
@@ -49,9 +49,9 @@ pub(crate) fn shifted(i: u32, n: u32, k: u32) -> u32
 
 fn moved_by_insert<'a>(s: &Tree, i: u32, n: u32, rest: &'a [u32], offset: u32) -> Stand<'a>
     requires extent { n ≤ 1048575 }
-    requires small { AreSmall rest.now }
+    requires small { AreChildNumbers rest.now }
     requires offset { offset ≤ 1048575 }
-    ensures { StandsAt result (moved_by_insert s.now i n rest.now offset) }
+    ensures { IsPlaceOf result (moved_by_insert s.now i n rest.now offset) }
 {
     match (s.kind(), first_step(rest)) {
         (Kind::Leaf, _) => Way::Rest(rest).at(shifted(i, n, offset)),
@@ -61,9 +61,9 @@ fn moved_by_insert<'a>(s: &Tree, i: u32, n: u32, rest: &'a [u32], offset: u32) -
 }
 
 fn moved_by_remove<'a>(s: &Tree, i: u32, n: u32, rest: &'a [u32], offset: u32) -> Stand<'a>
-    requires small { AreSmall rest.now }
+    requires small { AreChildNumbers rest.now }
     requires offset { offset ≤ 1048575 }
-    ensures { StandsAt result (moved_by_remove s.now i n rest.now offset) }
+    ensures { IsPlaceOf result (moved_by_remove s.now i n rest.now offset) }
 {
     let end = u64::from(i) + u64::from(n);
     match (s.kind(), first_step(rest)) {
@@ -91,9 +91,9 @@ fn moved_by_remove<'a>(s: &Tree, i: u32, n: u32, rest: &'a [u32], offset: u32) -
 
 // A place of child i, which becomes two before and from j.
 fn moved_in_split<'a>(c: &Tree, i: u32, j: u32, rest: &'a [u32], offset: u32) -> Stand<'a>
-    requires small { AreSmall rest.now }
+    requires small { AreChildNumbers rest.now }
     requires child { i ≤ 65535 }
-    ensures { StandsAt result (moved_in_split c.now i j rest.now offset) }
+    ensures { IsPlaceOf result (moved_in_split c.now i j rest.now offset) }
 {
     match (c.kind(), first_step(rest)) {
         (Kind::Leaf, _) => {
@@ -121,8 +121,8 @@ fn moved_in_split<'a>(c: &Tree, i: u32, j: u32, rest: &'a [u32], offset: u32) ->
 }
 
 fn moved_by_split<'a>(s: &Tree, i: u32, j: u32, rest: &'a [u32], offset: u32) -> Stand<'a>
-    requires small { AreSmall rest.now }
-    ensures { StandsAt result (moved_by_split s.now i j rest.now offset) }
+    requires small { AreChildNumbers rest.now }
+    ensures { IsPlaceOf result (moved_by_split s.now i j rest.now offset) }
 {
     let Some((k, others)) = first_step(rest) else {
         return Way::Rest(&[]).at(offset);
@@ -139,9 +139,9 @@ fn moved_by_split<'a>(s: &Tree, i: u32, j: u32, rest: &'a [u32], offset: u32) ->
 // A place of child i + 1, which becomes the end of child i, behind n bytes or children.
 fn moved_in_join<'a>(c: &Tree, i: u32, n: u32, rest: &'a [u32], offset: u32) -> Stand<'a>
     requires extent { n ≤ 1048575 }
-    requires small { AreSmall rest.now }
+    requires small { AreChildNumbers rest.now }
     requires offset { offset ≤ 1048575 }
-    ensures { StandsAt result (moved_in_join c.now i n rest.now offset) }
+    ensures { IsPlaceOf result (moved_in_join c.now i n rest.now offset) }
 {
     match (c.kind(), first_step(rest)) {
         (Kind::Leaf, _) => Way::Step(i, rest).at(offset + n),
@@ -151,9 +151,9 @@ fn moved_in_join<'a>(c: &Tree, i: u32, n: u32, rest: &'a [u32], offset: u32) -> 
 }
 
 fn moved_by_join<'a>(s: &Tree, i: u32, rest: &'a [u32], offset: u32) -> Stand<'a>
-    requires small { AreSmall rest.now }
+    requires small { AreChildNumbers rest.now }
     requires offset { offset ≤ 1048575 }
-    ensures { StandsAt result (moved_by_join s.now i rest.now offset) }
+    ensures { IsPlaceOf result (moved_by_join s.now i rest.now offset) }
 {
     let Some((k, others)) = first_step(rest) else {
         return Way::Rest(&[]).at(offset);
@@ -170,7 +170,7 @@ fn moved_by_join<'a>(s: &Tree, i: u32, rest: &'a [u32], offset: u32) -> Stand<'a
 }
 
 fn moved_by_unwrap(i: u32, rest: &[u32], offset: u32) -> Stand<'_>
-    ensures { StandsAt result (moved_by_unwrap i rest.now offset) }
+    ensures { IsPlaceOf result (moved_by_unwrap i rest.now offset) }
 {
     match first_step(rest) {
         Some((k, others)) => {
@@ -185,9 +185,9 @@ fn moved_by_unwrap(i: u32, rest: &[u32], offset: u32) -> Stand<'_>
 }
 
 fn moved_at<'a>(m: &Mod, s: &Tree, rest: &'a [u32], offset: u32) -> Stand<'a>
-    requires small { AreSmall rest.now }
+    requires small { AreChildNumbers rest.now }
     requires offset { offset ≤ 1048575 }
-    ensures { StandsAt result (moved_at m.now s.now rest.now offset) }
+    ensures { IsPlaceOf result (moved_at m.now s.now rest.now offset) }
 {
     match m {
         Mod::Assign(..) => Way::Rest(&[]).at(0),

@@ -1,7 +1,7 @@
 // What a modification makes of the subtree that its path leads to.
 ghost use Rattle.std.specs.Prelude.{◌≡◌, ◌+◌, ◌++◌, ◌≤◌, length, take, drop, true, Ok, IfOk, IsOkAnd};
 ghost use Rattle.tx_tree.specs.Limits.{IsWithinLimits};
-ghost use Rattle.tx_mod.specs.Mods.{before, behind, extent, is_clean};
+ghost use Rattle.tx_mod.specs.Mods.{tree_up_to, tree_from, extent, is_clean};
 ghost use Rattle.tx_mod.specs.Changes.{changed_at, inserted, removed, split, joined};
 ghost use Rattle.tx_mod.specs.Changes.{joined_at, labelled, wrapped, unwrapped};
 
@@ -85,7 +85,7 @@ fn remove<L: Ledger>(
 fn front<L: Ledger>(alloc: Global, t: &Tree, j: usize, steps: &mut Steps<L>) -> Result<Tree, Memory>
     requires there { j ≤ extent t.now }
     requires clean { is_clean t.now j ≡ true }
-    ensures made { IfOk result (λ v. v ≡ before t.now j) }
+    ensures made { IfOk result (λ v. v ≡ tree_up_to t.now j) }
     ensures counted { steps.new ≤ steps.old + 1 }
 {
     let _size = t.size();
@@ -102,7 +102,7 @@ fn front<L: Ledger>(alloc: Global, t: &Tree, j: usize, steps: &mut Steps<L>) -> 
 fn back<L: Ledger>(alloc: Global, t: &Tree, j: usize, steps: &mut Steps<L>) -> Result<Tree, Memory>
     requires there { j ≤ extent t.now }
     requires clean { is_clean t.now j ≡ true }
-    ensures made { IfOk result (λ v. v ≡ behind t.now j) }
+    ensures made { IfOk result (λ v. v ≡ tree_from t.now j) }
     ensures counted { steps.new ≤ steps.old + 1 }
 {
     let _size = t.size();

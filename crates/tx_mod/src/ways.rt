@@ -1,7 +1,7 @@
 // Paths and places as they are known before they are made.
 ghost use Rattle.std.specs.Prelude.{◌≡◌, ◌++◌, [], ◌∷◌, None, Some, MatchOption, OnOk, IfOk};
 ghost use Rattle.tx_mod.specs.Moves.{rest_behind};
-ghost use Rattle.tx_mod.specs.Ways.{numbers_of};
+ghost use Rattle.tx_mod.specs.Ways.{way_numbers};
 
 use std::alloc::Global;
 use tx_base::Memory;
@@ -73,7 +73,7 @@ fn push_all(path: &mut Path, numbers: &[u32]) -> Result<(), Memory>
 
 // The way, from the end of the path on.
 pub(crate) fn path_below(alloc: Global, path: &Path, way: Way<'_>) -> Result<Path, Memory>
-    ensures { IfOk result (λ q. q ≡ path.now ++ numbers_of way.entry) }
+    ensures { IfOk result (λ q. q ≡ path.now ++ way_numbers way.entry) }
 {
     let mut whole = path.copy(alloc)?;
     let rest = match way {

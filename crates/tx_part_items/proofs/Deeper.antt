@@ -16,9 +16,11 @@ use Rattle.tx_items.specs.Attributes.{with_named, attribute_in}
 use Rattle.tx_items.specs.Drawing.{is_space, look_of, item_of, drawn}
 use Rattle.tx_items.specs.Rules.{Rule, rule_of}
 use Rattle.tx_items.specs.Rules as rules
-use Rattle.tx_items.specs.Shows.{Run, empty, begun, run_of, beside, whole_run, ended, Form, inline, listed, Shown}
-use Rattle.tx_items.specs.Shows.{AllShown, all_inline, side_by_side, paragraphs_of, joined, one_by_one, in_line}
-use Rattle.tx_items.specs.Shows.{made_error, error_items, failed, bad, with_shown, assign_shown, cells_of, space_by}
+use Rattle.tx_items.specs.Shows.{ItemRun, empty, begun, run_of, beside, whole_run, run_ended, Form, inline, listed}
+use Rattle.tx_items.specs.Shows.{Shown}
+use Rattle.tx_items.specs.Shows.{AllShown, all_inline, side_by_side, paragraphs_of, joined_forms, one_by_one, in_line}
+use Rattle.tx_items.specs.Shows.{made_error, error_items, failed, bad, with_shown, assign_shown, cells_of_length}
+use Rattle.tx_items.specs.Shows.{space_by}
 use Rattle.tx_items.specs.Shows.{space_shown, error_by, error_shown, made_form, tag_shown, behind_bar, rule_shown}
 use Rattle.tx_items.specs.Shows.{giving_back, show, show_all, show_with, or_one, unit_paragraphs, shown_paragraphs}
 use Rattle.tx_part_items.specs.ItemsUnder.{item_under, paragraph_under, run_under, form_under, shown_under}
@@ -64,16 +66,16 @@ module _ (base : List ℕ) where
   run_deeper a [] = refl
   run_deeper a (x ∷ xs) = refl
 
-  beside_deeper : (r s : Run) → beside (run_under base r) (run_under base s) ≡ run_under base (beside r s)
+  beside_deeper : (r s : ItemRun) → beside (run_under base r) (run_under base s) ≡ run_under base (beside r s)
   beside_deeper empty s = refl
   beside_deeper (begun a xs) empty = refl
   beside_deeper (begun a xs) (begun b ys) = ap (begun a) (sym (map-append (item_under base) xs ys))
 
-  whole_deeper : (r : Run) (end : Attrs) → whole_run (run_under base r) end ≡ paragraph_under base (whole_run r end)
+  whole_deeper : (r : ItemRun) (end : Attrs) → whole_run (run_under base r) end ≡ paragraph_under base (whole_run r end)
   whole_deeper empty end = refl
   whole_deeper (begun a xs) end = refl
 
-  ended_deeper : (r : Run) → ended (run_under base r) ≡ map (paragraph_under base) (ended r)
+  ended_deeper : (r : ItemRun) → run_ended (run_under base r) ≡ map (paragraph_under base) (run_ended r)
   ended_deeper empty = refl
   ended_deeper (begun a xs) = refl
 
@@ -94,17 +96,18 @@ module _ (base : List ℕ) where
       ap (beside (run_under base r)) (side_deeper fs) ∙ beside_deeper r (side_by_side fs)
   side_deeper ((listed ps, a) ∷ fs) = side_deeper fs
 
-  runs_deeper : (r : Run) (fs : List (Form × Attrs)) →
+  runs_deeper : (r : ItemRun) (fs : List (Form × Attrs)) →
       paragraphs_of (run_under base r) (forms_under fs) ≡ map (paragraph_under base) (paragraphs_of r fs)
   runs_deeper r [] = ended_deeper r
   runs_deeper r ((inline q, a) ∷ fs) =
       ap (λ s. paragraphs_of s (forms_under fs)) (beside_deeper r q) ∙ runs_deeper (beside r q) fs
   runs_deeper r ((listed ps, a) ∷ fs) =
       ap (λ es. es ++ map (paragraph_under base) ps ++ paragraphs_of empty (forms_under fs)) (ended_deeper r)
-      ∙ ap (λ qs. map (paragraph_under base) (ended r) ++ map (paragraph_under base) ps ++ qs) (runs_deeper empty fs)
+      ∙ ap (λ qs. map (paragraph_under base) (run_ended r) ++ map (paragraph_under base) ps ++ qs)
+      (runs_deeper empty fs)
       ∙ ap (λ es. es ++ map (paragraph_under base) (paragraphs_of empty fs))
-      (sym (map-append (paragraph_under base) (ended r) ps))
-      ∙ sym (map-append (paragraph_under base) (ended r ++ ps) (paragraphs_of empty fs))
+      (sym (map-append (paragraph_under base) (run_ended r) ps))
+      ∙ sym (map-append (paragraph_under base) (run_ended r ++ ps) (paragraphs_of empty fs))
 
   pub one_deeper : (fs : List (Form × Attrs)) →
       one_by_one (forms_under fs) ≡ map (paragraph_under base) (one_by_one fs)
@@ -116,7 +119,7 @@ module _ (base : List ℕ) where
       ap (λ qs. map (paragraph_under base) ps ++ qs) (one_deeper fs)
       ∙ sym (map-append (paragraph_under base) ps (one_by_one fs))
 
-  joined_deeper : (fs : List (Form × Attrs)) → joined (forms_under fs) ≡ form_under base (joined fs)
+  joined_deeper : (fs : List (Form × Attrs)) → joined_forms (forms_under fs) ≡ form_under base (joined_forms fs)
   joined_deeper fs =
       ap (λ b. if b then inline (side_by_side (forms_under fs)) else listed (paragraphs_of empty (forms_under fs)))
       (inline_deeper fs) ∙ by (all_inline fs)
@@ -207,7 +210,7 @@ module _ (base : List ℕ) where
   space_by_deeper : (item : ℕ → Item) → ((n : ℕ) → item_under base (item n) ≡ item n) → (a : Attrs)
       (label : List ℕ) (z : Option ℤ) → space_by item a label z ≡ shown_under base (space_by item a label z)
   space_by_deeper item h a label None = bad_deeper a label
-  space_by_deeper item h a label (Some z) = ap (λ x. in_line a (x ∷ [])) (sym (h (cells_of z)))
+  space_by_deeper item h a label (Some z) = ap (λ x. in_line a (x ∷ [])) (sym (h (cells_of_length z)))
 
   space_deeper : (item : ℕ → Item) → ((n : ℕ) → item_under base (item n) ≡ item n) → (a : Attrs) (label : List ℕ)
       (vs : WideValues) → space_shown item a label (values_under base vs) ≡
@@ -238,10 +241,10 @@ module _ (base : List ℕ) where
   all_under all = record all { each = forms_under all.each }
 
   concat_deeper : (all : AllShown) → (record {
-    form = joined (forms_under all.each);
+    form = joined_forms (forms_under all.each);
     after = all.after;
     errors = all.errors;
-  }) ≡ shown_under base (record { form = joined all.each; after = all.after; errors = all.errors })
+  }) ≡ shown_under base (record { form = joined_forms all.each; after = all.after; errors = all.errors })
   concat_deeper all =
       ap {B = Shown} (λ f. record { form = f; after = all.after; errors = all.errors }) (joined_deeper all.each)
 
@@ -271,7 +274,7 @@ module _ (base : List ℕ) where
         form = f;
         after = all.after;
         errors = made_error (codes "undefined-tag") label ∷ all.errors;
-      }) (ap joined same ∙ joined_deeper (made_form a front ∷ (all.each ++ made_form all.after close ∷ [])))
+      }) (ap joined_forms same ∙ joined_deeper (made_form a front ∷ (all.each ++ made_form all.after close ∷ [])))
 
   with_shown_deeper : (a : Attrs) (label : List ℕ) (last : Option Shown) →
       with_shown a label (option_map (shown_under base) last) ≡ shown_under base (with_shown a label last)
@@ -283,7 +286,7 @@ module _ (base : List ℕ) where
       last' ≡ option_map (shown_under base) last → rule_shown r a label (values_under base vs) all' last' ≡
       shown_under base (rule_shown r a label vs all last)
   rule_deeper rules.Concat a label vs all' all last' last h k =
-      ap {B = Shown} (λ s. record { form = joined s.each; after = s.after; errors = s.errors }) (h false)
+      ap {B = Shown} (λ s. record { form = joined_forms s.each; after = s.after; errors = s.errors }) (h false)
       ∙ concat_deeper (all false)
   rule_deeper rules.Document a label vs all' all last' last h k =
       ap {B = Shown} (λ s. record { form = listed (one_by_one s.each); after = s.after; errors = s.errors }) (h false)

@@ -5,7 +5,7 @@ use Rattle.tx_items.specs.Looks.{WideLook}
 use Rattle.tx_items.specs.declared.drawing.Item.{Item}
 use Rattle.tx_items.specs.declared.drawing.Item.TheVariants.{Glyph, Space, Gap, Break, PageEnd, Down}
 use Rattle.tx_items.specs.declared.drawing.Paragraph.{Paragraph}
-use Rattle.tx_items.specs.Shows.{Run, empty, begun, Form, inline, listed, Shown}
+use Rattle.tx_items.specs.Shows.{ItemRun, empty, begun, Form, inline, listed, Shown}
 
 abbrev pub look_under : List ℕ → WideLook → WideLook
 look_under base look = record look { at = origin_under base look.at }
@@ -21,7 +21,7 @@ item_under base (Down n) = Down n
 abbrev pub paragraph_under : List ℕ → Paragraph → Paragraph
 paragraph_under base p = record p { items = map (item_under base) p.items }
 
-abbrev pub run_under : List ℕ → Run → Run
+abbrev pub run_under : List ℕ → ItemRun → ItemRun
 run_under base empty = empty
 run_under base (begun a items) = begun a (map (item_under base) items)
 

@@ -14,10 +14,10 @@ use Rattle.tx_layout.specs.declared.measures.Frame.{Frame}
 use Rattle.tx_layout.specs.declared.pieces.Span.{Span}
 use Rattle.tx_layout.specs.declared.layout.Line.{Line}
 use Rattle.tx_layout.specs.Frames.{frame_of, least_width}
-use Rattle.tx_layout.specs.Words.{capped, item_cells, cells_across, is_blank, Blank, IsSpan, SpansFrom}
+use Rattle.tx_layout.specs.Words.{capped_item, item_cells, cells_across, is_blank_item, Blank, IsSpan, SpansFrom}
 use Rattle.tx_layout.specs.Segments.{shift, piece_of, width_at, indent_at, line_with, no_span, line_of, lines_of}
 use Rattle.tx_layout.specs.Segments.{HasWords}
-use Rattle.tx_layout.specs.Shapes.{is_cut, Whole, empty_line, page_ending, with_last, behind_cut, or_empty, HasLines}
+use Rattle.tx_layout.specs.Shapes.{is_break, Whole, empty_line, page_ending, with_last, behind_cut, or_empty, HasLines}
 use Rattle.tx_layout.specs.Shapes.{last_segment, then_cut, items_shown, IsShape}
 use Rattle.tx_view_form.specs.Views.{AreLines, no_lines, lines_then}
 use Rattle.tx_part_items.specs.ItemsUnder.{item_under, paragraph_under}
@@ -44,7 +44,7 @@ module _ (base : List ℕ) where
   same_cells PageEnd = refl
   same_cells (Down n) = refl
 
-  same_blank : (i : Item) → is_blank (item_under base i) ≡ is_blank i
+  same_blank : (i : Item) → is_blank_item (item_under base i) ≡ is_blank_item i
   same_blank (Glyph d) = refl
   same_blank (Space d) = refl
   same_blank (Gap n) = refl
@@ -52,7 +52,7 @@ module _ (base : List ℕ) where
   same_blank PageEnd = refl
   same_blank (Down n) = refl
 
-  same_cut : (i : Item) → is_cut (item_under base i) ≡ is_cut i
+  same_cut : (i : Item) → is_break (item_under base i) ≡ is_break i
   same_cut (Glyph d) = refl
   same_cut (Space d) = refl
   same_cut (Gap n) = refl
@@ -60,7 +60,7 @@ module _ (base : List ℕ) where
   same_cut PageEnd = refl
   same_cut (Down n) = refl
 
-  capped_under : (least : ℕ) (i : Item) → capped least (item_under base i) ≡ item_under base (capped least i)
+  capped_under : (least : ℕ) (i : Item) → capped_item least (item_under base i) ≡ item_under base (capped_item least i)
   capped_under least (Glyph d) = refl
   capped_under least (Space d) = refl
   capped_under least (Gap n) = refl
@@ -69,14 +69,14 @@ module _ (base : List ℕ) where
   capped_under least (Down n) = refl
 
   all_capped : (least : ℕ) (items : List Item) →
-      map (capped least) (items_under items) ≡ items_under (map (capped least) items)
+      map (capped_item least) (items_under items) ≡ items_under (map (capped_item least) items)
   all_capped least [] = refl
   all_capped least (i ∷ items) = ap₂ (λ x xs. x ∷ xs) (capped_under least i) (all_capped least items)
 
-  blank_under : (b : Bool) (items : List Item) → All (λ i. is_blank i ≡ b) items
-      → All (λ i. is_blank i ≡ b) (items_under items)
+  blank_under : (b : Bool) (items : List Item) → All (λ i. is_blank_item i ≡ b) items
+      → All (λ i. is_blank_item i ≡ b) (items_under items)
   blank_under b items h =
-      All-map (λ i. is_blank i ≡ b) (item_under base) items (λ k d lt. same_blank (get_or items k d) ∙ h k d lt)
+      All-map (λ i. is_blank_item i ≡ b) (item_under base) items (λ k d lt. same_blank (get_or items k d) ∙ h k d lt)
 
   whole_under : (items : List Item) → All Whole items → All Whole (items_under items)
   whole_under items h =
@@ -101,10 +101,10 @@ module _ (base : List ℕ) where
       cells_across (slice_range (items_under items) from to) ≡ cells_across (slice_range items from to)
   cells_in items from to = ap cells_across (slice_under items from to) ∙ cells_under (slice_range items from to)
 
-  blank_in : (b : Bool) (items : List Item) (from to : ℕ) → All (λ i. is_blank i ≡ b) (slice_range items from to)
-      → All (λ i. is_blank i ≡ b) (slice_range (items_under items) from to)
+  blank_in : (b : Bool) (items : List Item) (from to : ℕ) → All (λ i. is_blank_item i ≡ b) (slice_range items from to)
+      → All (λ i. is_blank_item i ≡ b) (slice_range (items_under items) from to)
   blank_in b items from to h =
-      subst (All (λ i. is_blank i ≡ b)) (sym (slice_under items from to))
+      subst (All (λ i. is_blank_item i ≡ b)) (sym (slice_under items from to))
       (blank_under b (slice_range items from to) h)
 
   span_under : (least : ℕ) (items : List Item) (s : Span) → IsSpan least items s → IsSpan least (items_under items) s

@@ -8,7 +8,7 @@ use Rattle.std.specs.FinMap.{get}
 use Rattle.tx_tree.specs.WideTree.{WideTree, leaf, node, children_of, size_of, depth_of, total_nodes}
 use Rattle.tx_prim.specs.declared.names.Prim.{Prim}
 use Rattle.tx_prim.specs.Names.{named as primitive_named}
-use Rattle.tx_prim.specs.Table.{value_of as primitive_value}
+use Rattle.tx_prim.specs.Table.{primitive_value}
 use Rattle.tx_origin.specs.Values.{WideValue, text, made, vals, value_text, plain, plains, whole}
 use Rattle.tx_origin.specs.TaggedTrees.{TaggedTree, kids_from, kids_of}
 use Rattle.tx_env.specs.Pairs.{Name}
@@ -24,11 +24,13 @@ use Rattle.tx_exec_form.specs.declared.TheConstants.{MOST_TURNS}
 use Rattle.tx_exec_form.specs.Rows.{Eval, wrong, taken, each, rebuilt, named, stored, assigned, assign, Sets, set_all}
 use Rattle.tx_exec_form.specs.Rows.{kept, kept_of, with_body, with_parts, with_row, is_odd, value_found}
 use Rattle.tx_exec_form.specs.Rows.{value_of, provides_of}
-use Rattle.tx_exec_form.specs.Rows.{eval_of, behind, only_child, only, quote, used, part_used, numbered, arg_part}
+use Rattle.tx_exec_form.specs.Rows.{eval_of, unary_run, only_child, unary_row, quote, used, part_used, numbered}
+use Rattle.tx_exec_form.specs.Rows.{arg_part}
 use Rattle.tx_exec_form.specs.Rows.{arg_found, arg_of, arg_named, arg, macro_in, applied, is_macro, called, tag_found}
 use Rattle.tx_exec_form.specs.Rows.{tag_run, macro, row, leaf_run, node_run, level, ex, EvalAll, itself, xmacro}
 use Rattle.tx_exec_form.specs.Rows.{all_used, all_numbered, all_part, call_over, evaluated_made, mapped, map_numbered}
-use Rattle.tx_exec_form.specs.Rows.{map_parts, map_found, map_of, map_named, map_args, value_truth, decided, chosen}
+use Rattle.tx_exec_form.specs.Rows.{map_parts, map_found, map_args_run, map_named, map_args, value_truth, decided}
+use Rattle.tx_exec_form.specs.Rows.{chosen}
 use Rattle.tx_exec_form.specs.Rows.{joined, turns, while_row, primitive, by_name, xmacro_in, tuple_of}
 use Rattle.tx_exec_form.specs.Rows.{is_xmacro, applied_all, tuple_run, ex_all}
 use Rattle.tx_exec_form.specs.declared.rows.Row.{Row}
@@ -359,16 +361,16 @@ module _ (w : NameMap) (l : LookMap) (n : ℕ) where
           (sym (plain_under base v)) (next (pays _) (λ _. belows _ f))
 
       behinds : (unary : Unary) (label : List ℕ) (v : WideValue) →
-          Goes (behind unary k below f label v) (behind unary k below (F f) label (V v))
+          Goes (unary_run unary k below f label v) (unary_run unary k below (F f) label (V v))
       behinds unaries.Value label v = value_ofs k label v
       behinds unaries.Provides label v = provides_ofs k label v
       behinds unaries.Eval label v = eval_ofs v
 
       onlys : (unary : Unary) (label : List ℕ) (kids : List TaggedTree) →
-          Goes (only unary k below f label kids) (only unary k below (F f) label (map T kids))
+          Goes (unary_row unary k below f label kids) (unary_row unary k below (F f) label (map T kids))
       unfolding only_child
       onlys unary label [] = bads k label
-      onlys unary label (x ∷ []) = bind (behind unary k below (F f) label) (belows x f) (λ v. behinds unary label v)
+      onlys unary label (x ∷ []) = bind (unary_run unary k below (F f) label) (belows x f) (λ v. behinds unary label v)
       onlys unary label (x ∷ y ∷ ts) = bads k label
 
       useds : (taking : Taking) (t : TaggedTree) → Goes (used taking k below f t) (used taking k below (F f) (T t))
@@ -459,10 +461,11 @@ module _ (w : NameMap) (l : LookMap) (n : ℕ) where
           parts_counted label foo root x _ _ numbers (sym (count_under base ts))
 
       map_ofs : (label foo root x : List ℕ) (numbers : List TaggedTree) →
-          Goes (map_of k below f label foo root x numbers) (map_of k below (F f) label foo root x (map T numbers))
-      unfolding map_of
+          Goes (map_args_run k below f label foo root x numbers)
+          (map_args_run k below (F f) label foo root x (map T numbers))
+      unfolding map_args_run
       map_ofs label foo root x numbers =
-          subst (λ r. Goes (map_of k below f label foo root x numbers)
+          subst (λ r. Goes (map_args_run k below f label foo root x numbers)
           (map_found k below (F f) label foo root x (map T numbers) r)) (sym (found_in base x f))
           (map_founds label foo root x numbers (argument_in x f))
 

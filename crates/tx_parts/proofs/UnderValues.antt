@@ -13,7 +13,7 @@ use Rattle.tx_origin.specs.TaggedTrees.{TaggedTree, kids_from, kids_at, kids_of}
 use Rattle.tx_prim.specs.Numbers.{number_of}
 use Rattle.tx_prim.specs.Operands.{truth_of}
 use Rattle.tx_exec_form.specs.Frames.{Frame, top, call, call_all, caller_of, Found, Unbound, Missing, Here, All}
-use Rattle.tx_exec_form.specs.Frames.{argument, argument_in, first_of, others_of}
+use Rattle.tx_exec_form.specs.Frames.{argument, argument_in, first_argument, others_of}
 use Rattle.tx_exec_form.specs.Numbers.{value_number, numbers_of, tree_at, kid_at, part_of, part_among}
 use Rattle.tx_exec_form.specs.Rows.{value_truth, is_odd}
 use Rattle.tx_origin.specs.Under.{origin_under, tree_under, value_under, values_under}
@@ -147,7 +147,8 @@ module _ (base : List ℕ) where
   among_under ts n ns =
       ap (λ o. option_and_then (λ u. part_of u ns) o) (at_under ts n) ∙ onward ns (part_under ns) (tree_at ts n)
 
-  first_under : (ts : List TaggedTree) → first_of (map (tree_under base) ts) ≡ found_under base (first_of ts)
+  first_under : (ts : List TaggedTree)
+      → first_argument (map (tree_under base) ts) ≡ found_under base (first_argument ts)
   first_under [] = refl
   first_under (t ∷ ts) = refl
 
@@ -164,7 +165,8 @@ module _ (base : List ℕ) where
       argument x ps (map (tree_under base) ts) ≡ found_under base (argument x ps ts)
   argument_under x [] ts = refl
   argument_under x (p ∷ ps) ts =
-      by_test (bytes_eq p x) (first_of ts) (argument x ps (others_of ts)) (first_of (map (tree_under base) ts))
+      by_test (bytes_eq p x) (first_argument ts) (argument x ps (others_of ts))
+      (first_argument (map (tree_under base) ts))
       (argument x ps (others_of (map (tree_under base) ts))) (first_under ts)
       (ap (argument x ps) (others_under ts) ∙ argument_under x ps (others_of ts))
 

@@ -10,7 +10,7 @@ use Rattle.tx_tree.proofs.PathReading.{number_grows, number_after-append}
 use Rattle.tx_prim.specs.Numbers.{if_fits, signed}
 use Rattle.std.specs.Prelude.{option_and_then}
 use Rattle.std.proofs.Math.Nat.{mul-le-mul_left}
-use Rattle.tx_prim.specs.Lengths.{thousandths, unit_of, measured}
+use Rattle.tx_prim.specs.Lengths.{thousandths, unit_of, measured_length}
 
 -- three digits behind the point
 pub three : (v : ℕ) (decimals : List ℕ) → number_after v (take 3 (decimals ++ codes "000")) ≡ v * 1000 + number_after 0
@@ -59,25 +59,25 @@ at_end digits i v le small e =
 
 pub measured_is : (minus : Bool) (whole decimals unit : List ℕ) (u n : ℕ) → Some u ≡ unit_of unit
     → n ≡ number_after 0 whole * u + number_after 0 (take 3 (decimals ++ codes "000")) * u / 1000
-    → if_fits (signed minus n) ≡ measured minus whole decimals unit
+    → if_fits (signed minus n) ≡ measured_length minus whole decimals unit
 measured_is minus whole decimals unit u n is e =
     ap (λ m. if_fits (signed minus m)) (e ∙ sym (size_is whole decimals u))
     ∙ ap (option_and_then (λ v. if_fits (signed minus (thousandths whole decimals * v / 1000)))) is
 
 over : (minus : Bool) (whole decimals unit : List ℕ) (u n : ℕ) → Some u ≡ unit_of unit
     → n ≡ number_after 0 whole * u + number_after 0 (take 3 (decimals ++ codes "000")) * u / 1000
-    → 2 ^ 64 ≤ n → None ≡ measured minus whole decimals unit
+    → 2 ^ 64 ≤ n → None ≡ measured_length minus whole decimals unit
 over minus whole decimals unit u n is e le = none_fits minus n le ∙ measured_is minus whole decimals unit u n is e
 
 pub whole_over : (minus : Bool) (whole decimals unit : List ℕ) (u : ℕ) → Some u ≡ unit_of unit → 1 ≤ u
-    → (number_after 0 whole < 2 ^ 64 → ⊥) → None ≡ measured minus whole decimals unit
+    → (number_after 0 whole < 2 ^ 64 → ⊥) → None ≡ measured_length minus whole decimals unit
 whole_over minus whole decimals unit u is some many =
     over minus whole decimals unit u
     (number_after 0 whole * u + number_after 0 (take 3 (decimals ++ codes "000")) * u / 1000) is refl
     (omega (arith, many, mul-le-mul_left (number_after 0 whole) some))
 
 pub product_over : (minus : Bool) (whole decimals unit : List ℕ) (u w : ℕ) → Some u ≡ unit_of unit
-    → w ≡ number_after 0 whole → (w * u < 2 ^ 64 → ⊥) → None ≡ measured minus whole decimals unit
+    → w ≡ number_after 0 whole → (w * u < 2 ^ 64 → ⊥) → None ≡ measured_length minus whole decimals unit
 product_over minus whole decimals unit u w is e many =
     over minus whole decimals unit u (w * u + number_after 0 (take 3 (decimals ++ codes "000")) * u / 1000) is
     (ap (λ n. n * u + number_after 0 (take 3 (decimals ++ codes "000")) * u / 1000) e)
@@ -91,7 +91,7 @@ sum_is whole decimals u w p f e g h =
 
 pub sum_over : (minus : Bool) (whole decimals unit : List ℕ) (u w p f : ℕ) → Some u ≡ unit_of unit
     → w ≡ number_after 0 whole → p ≡ w * u → f ≡ number_after 0 (take 3 (decimals ++ codes "000"))
-    → (p + f * u / 1000 < 2 ^ 64 → ⊥) → None ≡ measured minus whole decimals unit
+    → (p + f * u / 1000 < 2 ^ 64 → ⊥) → None ≡ measured_length minus whole decimals unit
 sum_over minus whole decimals unit u w p f is e g h many =
     over minus whole decimals unit u (p + f * u / 1000) is (sum_is whole decimals u w p f e g h) (omega (arith, many))
 

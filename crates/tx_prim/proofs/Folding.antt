@@ -7,11 +7,11 @@ use Rattle.std.proofs.lemmas.List.{at_drop_more}
 use Rattle.tx_prim.specs.declared.amounts.Amount.{Amount}
 use Rattle.tx_prim.specs.declared.amounts.Operation.{Operation}
 use Rattle.tx_prim.specs.Numbers.{if_fits}
-use Rattle.tx_prim.specs.Arithmetic.{folded, operation, size_in}
+use Rattle.tx_prim.specs.Arithmetic.{folded, operation, amount_size}
 
 pub folded_next : (op : Operation) (first x z r : ℤ) (others : List Amount) (i : ℕ) (d : Amount) → i < length others
     → folded op first others ≡ folded op x (drop i others)
-    → r ≡ size_in (get_or others i d) → FitsSigned w64 r → FitsSigned w64 z
+    → r ≡ amount_size (get_or others i d) → FitsSigned w64 r → FitsSigned w64 z
     → Some z ≡ if_fits (operation op x (to_z w64 (of_z w64 r)))
     → folded op first others ≡ folded op (to_z w64 (of_z w64 z)) (drop (i + 1) others)
 folded_next op first x z r others i d lt e is f g next =

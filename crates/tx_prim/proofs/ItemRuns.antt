@@ -7,7 +7,7 @@ use Rattle.std.proofs.lemmas.List.{append-nil, length-append, at_drop_more, take
 use Rattle.std.proofs.lemmas.List.Concat.{flat_map-append}
 use Rattle.tx_tree.specs.Texts.{Item, byte, symbol, is_name_byte, IsItem, item_bytes, IsText}
 use Rattle.tx_tree.proofs.PlaceFaults.{items_append}
-use Rattle.tx_prim.specs.Items.{items_of, symbol_items, joined_lists}
+use Rattle.tx_prim.specs.Items.{text_items, symbol_items, joined_lists}
 
 by_test : {A : Type 0} (P : A → Type 0) (b : Bool) (x y : A) → (b ≡ true → P x) → (b ≡ false → P y) → P (cond b x y)
 by_test P true x y f g = f refl
@@ -28,11 +28,11 @@ two c x y z w e f = ap (λ v. cond c v y) e ∙ ap (λ v. cond c z v) f
 symbol_onto : (s a rest : List ℕ) → symbol_items (s ++ a) rest ≡ onto s (symbol_items a rest)
 symbol_onto s a [] = refl
 symbol_onto s a (b ∷ rest) =
-    two (b == 62) (((s ++ a) ++ b ∷ []) ∷ items_of rest) (symbol_items ((s ++ a) ++ b ∷ []) rest)
-    (onto s ((a ++ b ∷ []) ∷ items_of rest)) (onto s (symbol_items (a ++ b ∷ []) rest))
-    (ap (λ x. x ∷ items_of rest) (append_assoc s a (b ∷ [])))
+    two (b == 62) (((s ++ a) ++ b ∷ []) ∷ text_items rest) (symbol_items ((s ++ a) ++ b ∷ []) rest)
+    (onto s ((a ++ b ∷ []) ∷ text_items rest)) (onto s (symbol_items (a ++ b ∷ []) rest))
+    (ap (λ x. x ∷ text_items rest) (append_assoc s a (b ∷ [])))
     (ap (λ x. symbol_items x rest) (append_assoc s a (b ∷ [])) ∙ symbol_onto s (a ++ b ∷ []) rest)
-    ∙ sym (onto_cond s (b == 62) ((a ++ b ∷ []) ∷ items_of rest) (symbol_items (a ++ b ∷ []) rest))
+    ∙ sym (onto_cond s (b == 62) ((a ++ b ∷ []) ∷ text_items rest) (symbol_items (a ++ b ∷ []) rest))
 
 pub symbol_begun : (s rest : List ℕ) → symbol_items s rest ≡ onto s (symbol_items [] rest)
 symbol_begun s rest = ap (λ x. symbol_items x rest) (sym (append-nil s)) ∙ symbol_onto s [] rest
@@ -48,14 +48,14 @@ same_count s rest = ap length (symbol_begun s rest) ∙ length_onto s (symbol_it
 some_symbol : (s rest : List ℕ) → 1 ≤ length (symbol_items s rest)
 some_symbol s [] = omega arith
 some_symbol s (b ∷ rest) =
-    by_test (λ xs. 1 ≤ length xs) (b == 62) ((s ++ b ∷ []) ∷ items_of rest) (symbol_items (s ++ b ∷ []) rest)
+    by_test (λ xs. 1 ≤ length xs) (b == 62) ((s ++ b ∷ []) ∷ text_items rest) (symbol_items (s ++ b ∷ []) rest)
     (λ e. omega arith) (λ e. some_symbol (s ++ b ∷ []) rest)
 
 -- ---- the number of items
 
 -- how many items begin yet, outside a symbol and within one
 abbrev pub begin_yet : Bool → List ℕ → ℕ
-begin_yet false rest = length (items_of rest)
+begin_yet false rest = length (text_items rest)
 begin_yet true rest = length (symbol_items [] rest) - 1
 
 count_within : (b : ℕ) (rest : List ℕ) (c : Bool) → (b == 62) ≡ c → begin_yet true (b ∷ rest) ≡ begin_yet (not c) rest
@@ -90,7 +90,7 @@ counted_between bytes i count count' total s s' lt e is n t =
 
 -- how many bytes stand before the end of n items more, outside a symbol and within one
 abbrev pub bytes_yet : Bool → ℕ → List ℕ → ℕ
-bytes_yet false n rest = length (joined_lists (take n (items_of rest)))
+bytes_yet false n rest = length (joined_lists (take n (text_items rest)))
 bytes_yet true n rest = length (joined_lists (take (suc n) (symbol_items [] rest)))
 
 joined_onto : (s : List ℕ) (n : ℕ) (xs : List (List ℕ)) → 1 ≤ length xs
@@ -142,17 +142,17 @@ part_between bytes i (suc n) n' total s s' lt e is some m t =
 -- ---- all items are the bytes
 
 mutual
-  pub joined_items : (bytes : List ℕ) → joined_lists (items_of bytes) ≡ bytes
+  pub joined_items : (bytes : List ℕ) → joined_lists (text_items bytes) ≡ bytes
   joined_items [] = refl
   joined_items (b ∷ bytes) =
-      by_test (λ xs. joined_lists xs ≡ b ∷ bytes) (b == 60) (symbol_items (b ∷ []) bytes) ((b ∷ []) ∷ items_of bytes)
+      by_test (λ xs. joined_lists xs ≡ b ∷ bytes) (b == 60) (symbol_items (b ∷ []) bytes) ((b ∷ []) ∷ text_items bytes)
       (λ e. joined_symbol (b ∷ []) bytes)
       (λ e. ap (λ z. b ∷ z) (joined_items bytes))
 
   joined_symbol : (s bytes : List ℕ) → joined_lists (symbol_items s bytes) ≡ s ++ bytes
   joined_symbol s [] = refl
   joined_symbol s (b ∷ bytes) =
-      by_test (λ xs. joined_lists xs ≡ s ++ b ∷ bytes) (b == 62) ((s ++ b ∷ []) ∷ items_of bytes)
+      by_test (λ xs. joined_lists xs ≡ s ++ b ∷ bytes) (b == 62) ((s ++ b ∷ []) ∷ text_items bytes)
       (symbol_items (s ++ b ∷ []) bytes)
       (λ e. ap (λ z. (s ++ b ∷ []) ++ z) (joined_items bytes) ∙ append_assoc s (b ∷ []) bytes)
       (λ e. joined_symbol (s ++ b ∷ []) bytes ∙ append_assoc s (b ∷ []) bytes)
@@ -193,11 +193,11 @@ ends_rise (x ∷ xs) (suc i) (suc j) le =
       length-append x (joined_lists (take j xs)),
     )
 
-pub part_is : (bytes : List ℕ) (i j start end : ℕ) → i ≤ j → start ≡ length (joined_lists (take i (items_of bytes)))
-    → end ≡ length (joined_lists (take j (items_of bytes)))
-    → take (end - start) (drop start bytes) ≡ joined_lists (take (j - i) (drop i (items_of bytes)))
+pub part_is : (bytes : List ℕ) (i j start end : ℕ) → i ≤ j → start ≡ length (joined_lists (take i (text_items bytes)))
+    → end ≡ length (joined_lists (take j (text_items bytes)))
+    → take (end - start) (drop start bytes) ≡ joined_lists (take (j - i) (drop i (text_items bytes)))
 part_is bytes i j start end le e f =
-    let xs = items_of bytes in
+    let xs = text_items bytes in
     let sum : i + (j - i) ≡ j = omega arith in
     rw (e, f, ← sum) (joined_part xs i (j - i) bytes (joined_items bytes)
     ∙ ap (λ k. joined_lists (take k (drop i xs))) (let back : j - i ≡ (i + (j - i)) - i = omega arith in back))
@@ -205,21 +205,22 @@ part_is bytes i j start end le e f =
 -- ---- the items of a text
 
 named_symbol : (s name rest : List ℕ) → AllByRecursion (λ b. is_name_byte b ≡ true) name
-    → symbol_items s ((name ++ 62 ∷ []) ++ rest) ≡ (s ++ (name ++ 62 ∷ [])) ∷ items_of rest
+    → symbol_items s ((name ++ 62 ∷ []) ++ rest) ≡ (s ++ (name ++ 62 ∷ [])) ∷ text_items rest
 named_symbol s [] rest h = refl
 named_symbol s (b ∷ name) rest h =
     let other : (b == 62) ≡ false = grind (arith, h.0) in
-    let later : symbol_items (s ++ b ∷ []) ((name ++ 62 ∷ []) ++ rest) ≡ ((s ++ b ∷ []) ++ (name ++ 62 ∷ [])) ∷ items_of
+    let later : symbol_items (s ++ b ∷ []) ((name ++ 62 ∷ []) ++ rest)
+    ≡ ((s ++ b ∷ []) ++ (name ++ 62 ∷ [])) ∷ text_items
     rest = named_symbol (s ++ b ∷ []) name rest h.1 in
-    rw other (later ∙ ap (λ z. z ∷ items_of rest) (append_assoc s (b ∷ []) (name ++ 62 ∷ [])))
+    rw other (later ∙ ap (λ z. z ∷ text_items rest) (append_assoc s (b ∷ []) (name ++ 62 ∷ [])))
 
 item_front : (item : Item) (rest : List ℕ) → IsItem item
-    → items_of (item_bytes item ++ rest) ≡ item_bytes item ∷ items_of rest
+    → text_items (item_bytes item ++ rest) ≡ item_bytes item ∷ text_items rest
 item_front (byte b) rest h = let other : (b == 60) ≡ false = grind (arith, h) in rw other refl
 item_front (symbol name) rest h = named_symbol (60 ∷ []) name rest h.each
 
 pub items_are : (items : List Item) → AllByRecursion IsItem items
-    → items_of (flat_map item_bytes items) ≡ map item_bytes items
+    → text_items (flat_map item_bytes items) ≡ map item_bytes items
 items_are [] h = refl
 items_are (item ∷ items) h =
     item_front item (flat_map item_bytes items) h.0 ∙ ap (λ z. item_bytes item ∷ z) (items_are items h.1)
@@ -257,10 +258,11 @@ joined_text : (xs : List (List ℕ)) → AllByRecursion IsText xs → IsText (jo
 joined_text [] h = no_text
 joined_text (x ∷ xs) h = one_text x (joined_lists xs) h.0 (joined_text xs h.1)
 
-pub part_text : (bytes : List ℕ) (i k : ℕ) → IsText bytes → IsText (joined_lists (take k (drop i (items_of bytes))))
+pub part_text : (bytes : List ℕ) (i k : ℕ) → IsText bytes → IsText (joined_lists (take k (drop i (text_items bytes))))
 part_text bytes i k h =
-    let each : AllByRecursion IsText (items_of bytes) =
-    subst (AllByRecursion IsText) (sym (ap items_of h.2 ∙ items_are h.0 h.1)) (texts h.0 h.1) in
-    joined_text (take k (drop i (items_of bytes))) (taken k (drop i (items_of bytes)) (dropped i (items_of bytes) each))
+    let each : AllByRecursion IsText (text_items bytes) =
+    subst (AllByRecursion IsText) (sym (ap text_items h.2 ∙ items_are h.0 h.1)) (texts h.0 h.1) in
+    joined_text (take k (drop i (text_items bytes)))
+    (taken k (drop i (text_items bytes)) (dropped i (text_items bytes) each))
 
 pub ruleset between = (ends_rise, part_is, part_text)

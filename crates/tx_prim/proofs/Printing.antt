@@ -10,8 +10,8 @@ use Rattle.std.proofs.lemmas.List.{append-nil, take_at, drop_at}
 use Rattle.std.proofs.lemmas.Fmt.{decimal_by_steps, decimal_nonempty, length-decimal-le}
 use Rattle.tx_tree.specs.PathSpelling.{is_digit, number_after}
 use Rattle.tx_tree.proofs.PathReading.{number_after-append}
-use Rattle.tx_prim.specs.Numbers.{fits, if_fits, signed, has_minus, behind_minus, are_digits, number_of}
-use Rattle.tx_prim.specs.Lengths.{digits_front, digits_rest, length_behind, length_of, length_text, measured}
+use Rattle.tx_prim.specs.Numbers.{fits_word, if_fits, signed, has_minus, behind_minus, are_digits, number_of}
+use Rattle.tx_prim.specs.Lengths.{digits_front, digits_rest, length_behind, length_of, length_text, measured_length}
 use Rattle.tx_prim.proofs.Plain.{decimal_digits}
 use Rattle.tx_prim.proofs.Digits.{measured_is}
 
@@ -107,7 +107,7 @@ unsigned_is minus n lt =
     let some : nat_lt 0 (length ds) ≡ true = lt-ltb 0 (length ds) (decimal_nonempty n lt) in
     let size : n ≡ number_after 0 ds * 1 + 0 = omega (arith, decimal_value n lt) in
     let behind : length_behind minus ds (codes "mcell") ≡ if_fits (signed minus n) =
-    ap (λ c. cond c (measured minus ds [] (codes "mcell")) None) some
+    ap (λ c. cond c (measured_length minus ds [] (codes "mcell")) None) some
     ∙ sym (measured_is minus ds [] (codes "mcell") 1 n refl size) in
     ap (λ d. cond (nat_lt 18 (length d)) None (length_behind minus d (digits_rest (ds ++ codes "mcell"))))
     (front_is ds digits)
@@ -125,13 +125,13 @@ negative : (n : ℕ) → suc n < 2 ^ 64 → length_of (length_text (negsuc n)) �
     None (if_fits (negsuc n))
 negative n lt = unsigned_is true (suc n) lt
 
-held : (z : ℤ) → fits z ≡ true → if_fits z ≡ Some z
+held : (z : ℤ) → fits_word z ≡ true → if_fits z ≡ Some z
 held z h = ap (λ c. cond c (Some z) None) h
 
 few : (n : ℕ) → n < 10 ^ 18 → nat_lt 18 (length (decimal n)) ≡ false
 few n lt = le-ltb 18 (length (decimal n)) (length-decimal-le 18 n (omega arith) lt (omega (arith, lt)))
 
-small : (z : ℤ) → unsigned_abs z < 10 ^ 18 → fits z ≡ true
+small : (z : ℤ) → unsigned_abs z < 10 ^ 18 → fits_word z ≡ true
 small (pos n) lt = lt-ltb n (2 ^ 63) (omega (arith, lt))
 small (negsuc n) lt = lt-ltb n (2 ^ 63) (omega (arith, lt))
 
@@ -141,7 +141,7 @@ length_read (pos n) lt = positive n (omega (arith, lt)) ∙ ap (λ c. cond c Non
 length_read (negsuc n) lt = negative n (omega (arith, lt)) ∙ ap (λ c. cond c None (if_fits (negsuc n))) (few (suc n) lt)
     ∙ held (negsuc n) (small (negsuc n) lt)
 
-pub length_unread : (z : ℤ) → fits z ≡ true → 10 ^ 18 ≤ unsigned_abs z → length_of (length_text z) ≡ None
+pub length_unread : (z : ℤ) → fits_word z ≡ true → 10 ^ 18 ≤ unsigned_abs z → length_of (length_text z) ≡ None
 length_unread (pos n) f le =
     let lt : n < 2 ^ 64 = omega (arith, ltb-true n (2 ^ 63) f) in
     positive n lt ∙ ap (λ c. cond c None (if_fits (pos n))) (lt-ltb 18 (length (decimal n)) (long_digits n lt le))
@@ -164,7 +164,7 @@ number_unsigned minus n lt =
     ap (λ c. cond c (if_fits (signed minus (number_after 0 (decimal n)))) None) (digits_there n lt)
     ∙ ap (λ m. if_fits (signed minus m)) (decimal_value n lt)
 
-pub number_read : (z : ℤ) → fits z ≡ true → number_of (signed_decimal z) ≡ Some z
+pub number_read : (z : ℤ) → fits_word z ≡ true → number_of (signed_decimal z) ≡ Some z
 number_read (pos n) f =
     let lt : n < 2 ^ 64 = omega (arith, ltb-true n (2 ^ 63) f) in
     let first = first_digit (decimal n) [] (decimal_nonempty n lt) (decimal_digits n lt) in

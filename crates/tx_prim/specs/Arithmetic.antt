@@ -19,9 +19,9 @@ use Rattle.tx_prim.specs.Numbers.{if_fits}
 use Rattle.tx_prim.specs.Same.{is_same}
 use Rattle.tx_prim.specs.Operands.{amount_of}
 
-abbrev pub size_in : Amount → ℤ
-size_in (Number z) = z
-size_in (Length z) = z
+abbrev pub amount_size : Amount → ℤ
+amount_size (Number z) = z
+amount_size (Length z) = z
 
 abbrev pub is_length : Amount → Bool
 is_length (Number z) = false
@@ -51,19 +51,19 @@ operation Multiply x y = x *ℤ y
 -- from the left, where 64 bits hold what comes out of each step
 abbrev pub folded : Operation → ℤ → List Amount → Option ℤ
 folded op x [] = Some x
-folded op x (a ∷ others) = option_and_then (λ z. folded op z others) (if_fits (operation op x (size_in a)))
+folded op x (a ∷ others) = option_and_then (λ z. folded op z others) (if_fits (operation op x (amount_size a)))
 
 -- one or more numbers, or one or more lengths
 abbrev pub total : Operation → List Amount → Answer
 total op [] = Failed Bad
 total op (a ∷ others) =
-    if list_all (are_alike a) others then if_held (is_length a) (folded op (size_in a) others) else Failed Bad
+    if list_all (are_alike a) others then if_held (is_length a) (folded op (amount_size a) others) else Failed Bad
 
 abbrev pub plus : List Amount → Answer
 plus amounts = total Add amounts
 
 abbrev pub minus : List Amount → Answer
-minus (a ∷ []) = if_held (is_length a) (if_fits (neg_ℤ (size_in a)))
+minus (a ∷ []) = if_held (is_length a) (if_fits (neg_ℤ (amount_size a)))
 minus amounts = total Subtract amounts
 
 -- one or more, of which one may be a length
@@ -71,7 +71,7 @@ abbrev pub times : List Amount → Answer
 times [] = Failed Bad
 times (a ∷ others) =
     if nat_le (count_by is_length (a ∷ others)) 1
-    then if_held (list_any is_length (a ∷ others)) (folded Multiply (size_in a) others)
+    then if_held (list_any is_length (a ∷ others)) (folded Multiply (amount_size a) others)
     else Failed Bad
 
 -- the quotient, cut toward zero

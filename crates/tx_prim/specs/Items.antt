@@ -3,15 +3,15 @@ use Rattle.std.specs.Prelude.{ℕ, ◌==◌, if◌then◌else◌, List, [], ◌�
 use Rattle.std.specs.List.{flat_map}
 
 abbrev mutual
-  pub items_of : List ℕ → List (List ℕ)
-  items_of [] = []
-  items_of (b ∷ bytes) = if b == 60 then symbol_items (b ∷ []) bytes else (b ∷ []) ∷ items_of bytes
+  pub text_items : List ℕ → List (List ℕ)
+  text_items [] = []
+  text_items (b ∷ bytes) = if b == 60 then symbol_items (b ∷ []) bytes else (b ∷ []) ∷ text_items bytes
 
   -- behind the beginning of a symbol
   pub symbol_items : List ℕ → List ℕ → List (List ℕ)
   symbol_items symbol [] = symbol ∷ []
   symbol_items symbol (b ∷ bytes) =
-      if b == 62 then (symbol ++ b ∷ []) ∷ items_of bytes else symbol_items (symbol ++ b ∷ []) bytes
+      if b == 62 then (symbol ++ b ∷ []) ∷ text_items bytes else symbol_items (symbol ++ b ∷ []) bytes
 
 abbrev pub joined_lists : {A : Type 0} → List (List A) → List A
 joined_lists lists = flat_map (λ l. l) lists

@@ -27,8 +27,8 @@ abbrev pub thousandths : List ℕ → List ℕ → ℕ
 thousandths whole decimals = number_after 0 (whole ++ take 3 (decimals ++ codes "000"))
 
 -- so many thousandths of the unit, cut toward zero
-abbrev pub measured : Bool → List ℕ → List ℕ → List ℕ → Option ℤ
-measured minus whole decimals unit =
+abbrev pub measured_length : Bool → List ℕ → List ℕ → List ℕ → Option ℤ
+measured_length minus whole decimals unit =
     option_and_then (λ u. if_fits (signed minus (thousandths whole decimals * u / 1000))) (unit_of unit)
 
 -- the digits in front, and what stands behind them
@@ -44,8 +44,8 @@ length_behind minus whole [] = None
 length_behind minus whole (b ∷ bytes) =
     if b == 46
     then (if nat_lt 0 (length (digits_front bytes))
-    then measured minus whole (digits_front bytes) (digits_rest bytes) else None)
-    else (if nat_lt 0 (length whole) then measured minus whole [] (b ∷ bytes) else None)
+    then measured_length minus whole (digits_front bytes) (digits_rest bytes) else None)
+    else (if nat_lt 0 (length whole) then measured_length minus whole [] (b ∷ bytes) else None)
 
 -- the length that the bytes write
 abbrev pub length_of : List ℕ → Option ℤ

@@ -5,12 +5,12 @@ use Rattle.std.specs.List.{list_all}
 use Rattle.tx_tree.specs.PathSpelling.{is_digit, number_after}
 
 -- 64 bits with a sign hold the number: it lies from -2 ^ 63 to 2 ^ 63 - 1
-abbrev pub fits : ℤ → Bool
-fits (pos n) = nat_lt n (2 ^ 63)
-fits (negsuc n) = nat_lt n (2 ^ 63)
+abbrev pub fits_word : ℤ → Bool
+fits_word (pos n) = nat_lt n (2 ^ 63)
+fits_word (negsuc n) = nat_lt n (2 ^ 63)
 
 abbrev pub if_fits : ℤ → Option ℤ
-if_fits z = if fits z then Some z else None
+if_fits z = if fits_word z then Some z else None
 
 -- whether a minus sign stands in front, and what stands behind it
 abbrev pub has_minus : List ℕ → Bool

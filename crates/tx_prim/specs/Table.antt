@@ -21,7 +21,7 @@ use Rattle.tx_prim.specs.declared.table.Calculation.TheVariants.{Sum, Difference
 use Rattle.tx_prim.specs.declared.table.Connective.{Connective}
 use Rattle.tx_prim.specs.declared.table.Connective.TheVariants.{AllTrue, SomeTrue, OneTrue, NoneTrue}
 use Rattle.tx_prim.specs.Lengths.{length_text}
-use Rattle.tx_prim.specs.Items.{items_of, joined_lists}
+use Rattle.tx_prim.specs.Items.{text_items, joined_lists}
 use Rattle.tx_prim.specs.Operands.{every, number_in, amount_in, truth_in, tuple_in, part}
 use Rattle.tx_prim.specs.Arithmetic.{plus, minus, times, quotient, remainder, of_two, compared}
 use Rattle.tx_prim.specs.Arithmetic.{sameness, all_true, some_true, one_true, none_true}
@@ -61,11 +61,11 @@ on_all row (Some operands) = row operands
 
 -- items of a text, or children
 abbrev pub length_in : WideTree → ℕ
-length_in (leaf text) = length (items_of text)
+length_in (leaf text) = length (text_items text)
 length_in (node label ts) = length (trees ts)
 
-abbrev pub count : ℕ → Answer
-count n = Value (Count (pos n))
+abbrev pub count_answer : ℕ → Answer
+count_answer n = Value (Count (pos n))
 
 abbrev pub joined_texts : Option (List (List ℕ)) → Option (List (List WideTree)) → WideTree
 joined_texts (Some texts) tuples = leaf (joined_lists texts)
@@ -84,25 +84,25 @@ abbrev pub tuple_part : Option (List WideTree) → WideTree
 tuple_part None = failure NoPart Range
 tuple_part (Some ts) = tuple_node ts
 
-abbrev pub part_of : WideTree → ℤ → ℤ → WideTree
-part_of (leaf text) i j = text_part (part i j (items_of text))
-part_of (node label ts) i j =
+abbrev pub tree_part : WideTree → ℤ → ℤ → WideTree
+tree_part (leaf text) i j = text_part (part i j (text_items text))
+tree_part (node label ts) i j =
     option_map_or (λ us. tuple_part (part i j us)) (tuple_in (node label ts)) (failure Bad Range)
 
 abbrev pub ranged : List WideTree → WideTree
 ranged (t ∷ i ∷ j ∷ []) =
-    option_map_or (λ m. option_map_or (λ n. part_of t m n) (number_in j) (failure Bad Range))
+    option_map_or (λ m. option_map_or (λ n. tree_part t m n) (number_in j) (failure Bad Range))
     (number_in i) (failure Bad Range)
 ranged operands = failure Bad Range
 
 -- the child of this number
-abbrev pub child_at : List WideTree → ℤ → Option WideTree
-child_at ts (pos n) = slice_get ts n
-child_at ts z = None
+abbrev pub child_numbered : List WideTree → ℤ → Option WideTree
+child_numbered ts (pos n) = slice_get ts n
+child_numbered ts z = None
 
 abbrev pub looked_up : List WideTree → WideTree
 looked_up (node label ts ∷ i ∷ []) =
-    option_map_or (λ n. option_map_or (λ t. t) (child_at (trees ts) n) (failure NoPart LookUp))
+    option_map_or (λ n. option_map_or (λ t. t) (child_numbered (trees ts) n) (failure NoPart LookUp))
     (number_in i) (failure Bad LookUp)
 looked_up operands = failure Bad LookUp
 
@@ -112,7 +112,7 @@ label_told operands = failure Bad GetLabel
 
 -- items of a text, or children
 abbrev pub length_row : List WideTree → Answer
-length_row (t ∷ []) = count (length_in t)
+length_row (t ∷ []) = count_answer (length_in t)
 length_row operands = Failed Bad
 
 abbrev pub tuple_row : List WideTree → Answer
@@ -120,7 +120,7 @@ tuple_row (t ∷ []) = Truth (is_some (tuple_in t))
 tuple_row operands = Failed Bad
 
 abbrev pub arity_row : List WideTree → Answer
-arity_row (t ∷ []) = count (length (children_of t))
+arity_row (t ∷ []) = count_answer (length (children_of t))
 arity_row operands = Failed Bad
 
 abbrev pub calculated : Calculation → List Amount → Answer
@@ -138,26 +138,26 @@ connected NoneTrue = none_true
 
 -- ---- a row for each name
 
-abbrev pub value_of : Prim → List WideTree → WideTree
-value_of Plus ts = told Plus (on_all (calculated Sum) (every amount_in ts))
-value_of Minus ts = told Minus (on_all (calculated Difference) (every amount_in ts))
-value_of Times ts = told Times (on_all (calculated Product) (every amount_in ts))
-value_of Div ts = told Div (on_all (calculated Quotient) (every amount_in ts))
-value_of Mod ts = told Mod (on_all (calculated Remainder) (every amount_in ts))
-value_of Equal ts = told Equal (sameness true ts)
-value_of Unequal ts = told Unequal (sameness false ts)
-value_of Less ts = told Less (compared Before ts)
-value_of LessEq ts = told LessEq (compared NotBehind ts)
-value_of Greater ts = told Greater (compared Behind ts)
-value_of GreaterEq ts = told GreaterEq (compared NotBefore ts)
-value_of And ts = told And (on_all (connected AllTrue) (every truth_in ts))
-value_of Or ts = told Or (on_all (connected SomeTrue) (every truth_in ts))
-value_of Xor ts = told Xor (on_all (connected OneTrue) (every truth_in ts))
-value_of Not ts = told Not (on_all (connected NoneTrue) (every truth_in ts))
-value_of Merge ts = merged ts
-value_of Length ts = told Length (length_row ts)
-value_of Range ts = ranged ts
-value_of IsTuple ts = told IsTuple (tuple_row ts)
-value_of LookUp ts = looked_up ts
-value_of GetLabel ts = label_told ts
-value_of GetArity ts = told GetArity (arity_row ts)
+abbrev pub primitive_value : Prim → List WideTree → WideTree
+primitive_value Plus ts = told Plus (on_all (calculated Sum) (every amount_in ts))
+primitive_value Minus ts = told Minus (on_all (calculated Difference) (every amount_in ts))
+primitive_value Times ts = told Times (on_all (calculated Product) (every amount_in ts))
+primitive_value Div ts = told Div (on_all (calculated Quotient) (every amount_in ts))
+primitive_value Mod ts = told Mod (on_all (calculated Remainder) (every amount_in ts))
+primitive_value Equal ts = told Equal (sameness true ts)
+primitive_value Unequal ts = told Unequal (sameness false ts)
+primitive_value Less ts = told Less (compared Before ts)
+primitive_value LessEq ts = told LessEq (compared NotBehind ts)
+primitive_value Greater ts = told Greater (compared Behind ts)
+primitive_value GreaterEq ts = told GreaterEq (compared NotBefore ts)
+primitive_value And ts = told And (on_all (connected AllTrue) (every truth_in ts))
+primitive_value Or ts = told Or (on_all (connected SomeTrue) (every truth_in ts))
+primitive_value Xor ts = told Xor (on_all (connected OneTrue) (every truth_in ts))
+primitive_value Not ts = told Not (on_all (connected NoneTrue) (every truth_in ts))
+primitive_value Merge ts = merged ts
+primitive_value Length ts = told Length (length_row ts)
+primitive_value Range ts = ranged ts
+primitive_value IsTuple ts = told IsTuple (tuple_row ts)
+primitive_value LookUp ts = looked_up ts
+primitive_value GetLabel ts = label_told ts
+primitive_value GetArity ts = told GetArity (arity_row ts)

@@ -1,6 +1,6 @@
 // Numbers and lengths, and what a primitive answers without making a tree.
 ghost use Rattle.std.specs.Prelude.{◌≡◌};
-ghost use Rattle.tx_prim.specs.Arithmetic.{size_in, is_length, are_alike, amount};
+ghost use Rattle.tx_prim.specs.Arithmetic.{amount_size, is_length, are_alike, amount};
 
 /// A number, or a length in thousandths of a cell.
 #[derive(Clone, Copy, Debug, PartialEq, Eq)]
@@ -51,7 +51,7 @@ pub enum Operation {
 impl Amount {
     // The number, or the thousandths of a cell.
     pub(crate) fn size(self) -> i64
-        ensures { result ≡ size_in self }
+        ensures { result ≡ amount_size self }
     {
         match self {
             Amount::Number(n) => n,

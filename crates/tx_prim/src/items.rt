@@ -3,11 +3,11 @@ ghost use Rattle.std.specs.Prelude.{◌≡◌, ◌≤◌, ◌-◌, length, take,
 ghost use Rattle.std.specs.List.{AllByRecursion, flat_map};
 ghost use Rattle.std.specs.Prelude.{List, map};
 ghost use Rattle.tx_tree.specs.Texts.{Item, IsItem, item_bytes};
-ghost use Rattle.tx_prim.specs.Items.{items_of, joined_lists};
+ghost use Rattle.tx_prim.specs.Items.{text_items, joined_lists};
 
 // The number of items of the bytes.
 pub(crate) fn item_count(bytes: &[u8]) -> usize
-    ensures value { result ≡ length (items_of bytes.now) }
+    ensures value { result ≡ length (text_items bytes.now) }
     ensures within { result ≤ length bytes.now }
 {
     let mut count = 0usize;
@@ -25,7 +25,7 @@ pub(crate) fn item_count(bytes: &[u8]) -> usize
 
 // The number of the bytes of so many items.
 pub(crate) fn bytes_of_items(bytes: &[u8], items: usize) -> usize
-    ensures value { result ≡ length (joined_lists (take items (items_of bytes.now))) }
+    ensures value { result ≡ length (joined_lists (take items (text_items bytes.now))) }
     ensures within { result ≤ length bytes.now }
 {
     let mut left = items;
@@ -47,7 +47,7 @@ pub(crate) fn bytes_of_items(bytes: &[u8], items: usize) -> usize
 #[tactic(auto, using(crate::proofs::ItemRuns::between, std::proofs::lemmas::Grind::common_steps))]
 pub(crate) fn items_between(bytes: &[u8], i: usize, j: usize) -> &[u8]
     requires { i ≤ j }
-    ensures items { result.now ≡ joined_lists (take (j - i) (drop i (items_of bytes.now))) }
+    ensures items { result.now ≡ joined_lists (take (j - i) (drop i (text_items bytes.now))) }
     ensures within { length result.now ≤ length bytes.now }
 {
     let start = bytes_of_items(bytes, i);
@@ -58,5 +58,5 @@ pub(crate) fn items_between(bytes: &[u8], i: usize, j: usize) -> &[u8]
 /// The items of a text, counted by where symbols begin and end, are those that it is made of.
 pub fn item_laws()
     ensures { (items : List Item) → AllByRecursion IsItem items
-        → items_of (flat_map item_bytes items) ≡ map item_bytes items }
+        → text_items (flat_map item_bytes items) ≡ map item_bytes items }
 {}

@@ -3,7 +3,7 @@ ghost use Rattle.std.specs.Prelude.{◌≡◌, ◌<◌, ◌≤◌, ◌-◌, ◌+
 ghost use Rattle.std.specs.List.{list_all, prefix_len};
 ghost use Rattle.std.specs.Str.{bytes_eq};
 ghost use Rattle.tx_tree.specs.PathSpelling.{is_digit, number_after};
-ghost use Rattle.tx_prim.specs.Lengths.{unit_of, measured, digits_front, digits_rest};
+ghost use Rattle.tx_prim.specs.Lengths.{unit_of, measured_length, digits_front, digits_rest};
 ghost use Rattle.tx_prim.specs.Lengths.{length_behind, length_of, length_text};
 
 use crate::MOST_WHOLE;
@@ -94,10 +94,10 @@ fn first_three(decimals: &[u8]) -> u64
 }
 
 // So many thousandths of the unit of this name, cut toward zero, where 64 bits hold them.
-fn measured(minus: bool, whole: &[u8], decimals: &[u8], unit: &[u8]) -> Option<i64>
+fn measured_length(minus: bool, whole: &[u8], decimals: &[u8], unit: &[u8]) -> Option<i64>
     requires whole { list_all is_digit whole.now ≡ true }
     requires decimals { list_all is_digit decimals.now ≡ true }
-    ensures { result ≡ measured minus whole.now decimals.now unit.now }
+    ensures { result ≡ measured_length minus whole.now decimals.now unit.now }
 {
     let unit = unit_of(unit)?;
     let whole = digits_value(whole)?;
@@ -119,13 +119,13 @@ fn length_behind(minus: bool, whole: &[u8], bytes: &[u8]) -> Option<i64>
             if decimals.is_empty() {
                 return None;
             }
-            measured(minus, whole, decimals, unit)
+            measured_length(minus, whole, decimals, unit)
         }
         unit => {
             if whole.is_empty() {
                 return None;
             }
-            measured(minus, whole, &[], unit)
+            measured_length(minus, whole, &[], unit)
         }
     }
 }

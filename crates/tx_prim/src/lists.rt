@@ -5,10 +5,10 @@ ghost use Rattle.std.specs.Prelude.{◌++◌};
 ghost use Rattle.tx_tree.specs.WideTree.{forest, total_size, text_of};
 ghost use Rattle.tx_tree.specs.Limits.{IsWithinLimits};
 ghost use Rattle.tx_tree.specs.Texts.{IsText};
-ghost use Rattle.tx_prim.specs.Items.{joined_lists, items_of};
+ghost use Rattle.tx_prim.specs.Items.{joined_lists, text_items};
 ghost use Rattle.tx_prim.specs.Operands.{every, tuple_in, part, IsRising, AreShallow};
-ghost use Rattle.tx_prim.specs.Table.{merged, joined_texts, ranged, part_of, looked_up};
-ghost use Rattle.tx_prim.specs.Table.{label_told, text_part, tuple_part, tuple_node, child_at};
+ghost use Rattle.tx_prim.specs.Table.{merged, joined_texts, ranged, tree_part, looked_up};
+ghost use Rattle.tx_prim.specs.Table.{label_told, text_part, tuple_part, tuple_node, child_numbered};
 
 use crate::MOST_OPERANDS;
 use crate::amounts::ValueFault;
@@ -117,7 +117,7 @@ fn part_of_text<L: Ledger>(
     j: i64,
     steps: &mut Steps<L>,
 ) -> Result<Tree, Memory>
-    ensures made { IfOk result (λ t. t ≡ text_part (part i j (items_of text.now))) }
+    ensures made { IfOk result (λ t. t ≡ text_part (part i j (text_items text.now))) }
     ensures counted { OnOk result (steps.new ≡ steps.old + 1) }
 {
     let bytes = text.bytes();
@@ -153,14 +153,14 @@ fn part_of_tuple<L: Ledger>(
 }
 
 // The part of a text or a tuple.
-fn part_of<L: Ledger>(
+fn tree_part<L: Ledger>(
     alloc: Global,
     t: &Tree,
     i: i64,
     j: i64,
     steps: &mut Steps<L>,
 ) -> Result<Tree, Memory>
-    ensures made { IfOk result (λ u. u ≡ part_of t.now i j) }
+    ensures made { IfOk result (λ u. u ≡ tree_part t.now i j) }
     ensures counted { OnOk result (steps.new ≡ steps.old + 1) }
 {
     if let Some(text) = t.text() {
@@ -183,7 +183,7 @@ pub(crate) fn range<L: Ledger>(
 {
     match operands {
         [t, i, j] => match (number_in(i), number_in(j)) {
-            (Some(i), Some(j)) => part_of(alloc, t, i, j, steps),
+            (Some(i), Some(j)) => tree_part(alloc, t, i, j, steps),
             _ => failure(alloc, ValueFault::Bad, Prim::Range, steps),
         },
         _ => failure(alloc, ValueFault::Bad, Prim::Range, steps),
@@ -191,8 +191,9 @@ pub(crate) fn range<L: Ledger>(
 }
 
 // The child of this number.
-fn child_at(children: &[Tree], i: i64) -> Option<&Tree>
-    ensures { MatchOption result (child_at children.now i ≡ None) (λ t. child_at children.now i ≡ Some t.now) }
+fn child_numbered(children: &[Tree], i: i64) -> Option<&Tree>
+    ensures { MatchOption result (child_numbered children.now i ≡ None)
+        (λ t. child_numbered children.now i ≡ Some t.now) }
 {
     if i < 0 {
         return None;
@@ -216,7 +217,7 @@ pub(crate) fn look_up<L: Ledger>(
 {
     match operands {
         [t, i] => match (t.kind(), number_in(i)) {
-            (Kind::Node, Some(i)) => match child_at(t.children(), i) {
+            (Kind::Node, Some(i)) => match child_numbered(t.children(), i) {
                 Some(child) => {
                     steps.tick();
                     child.share()

@@ -2,7 +2,7 @@
 ghost use Rattle.std.specs.Prelude.{◌≡◌, ◌≤◌, ◌+◌, IfOk, OnOk};
 ghost use Rattle.tx_tree.specs.WideTree.{forest, total_size};
 ghost use Rattle.tx_prim.specs.Operands.{every, amount_in, truth_in};
-ghost use Rattle.tx_prim.specs.Table.{value_of, told, on_all, calculated, connected};
+ghost use Rattle.tx_prim.specs.Table.{primitive_value, told, on_all, calculated, connected};
 
 use crate::MOST_OPERANDS;
 use crate::amounts::{Amount, Answer, Operation};
@@ -111,7 +111,7 @@ pub fn primitive<L: Ledger>(
     steps: &mut Steps<L>,
 ) -> Result<Tree, Memory>
     requires { total_size (forest operands.now) ≤ MOST_OPERANDS }
-    ensures value { IfOk result (λ t. t ≡ value_of which operands.now) }
+    ensures value { IfOk result (λ t. t ≡ primitive_value which operands.now) }
     ensures counted { OnOk result (steps.new ≡ steps.old + 1) }
 {
     match which {

@@ -8,7 +8,7 @@ use Rattle.std.proofs.lemmas.Bool.{eqb-true, eqb-false}
 use Rattle.std.proofs.lemmas.List.Concat.{flat_map-append}
 use Rattle.tx_tree.specs.PathSpelling.{numbers_text, path_text, place_text}
 use Rattle.tx_tree.specs.Texts.{IsText, IsCut}
-use Rattle.tx_text.specs.Clusters.{item_at, items_of}
+use Rattle.tx_text.specs.Clusters.{item_beginning_at, items_of}
 use Rattle.tx_text.specs.Displays.{display_text, item_text}
 use Rattle.tx_origin.specs.RelativePlaces.{BasedPlace, path_below}
 use Rattle.tx_layout.specs.declared.layout.Line.{Line}
@@ -133,10 +133,11 @@ steps_words (n ∷ path) e = refl
 
 -- ---- display texts
 
-pub shown_less : (text : List ℕ) (at next : ℕ) → items_of (drop at text) ≡ item_at text at ++ items_of (drop next text)
-    → shown (drop at text) ≡ display_text (item_at text at) ++ shown (drop next text)
+pub shown_less : (text : List ℕ) (at next : ℕ)
+    → items_of (drop at text) ≡ item_beginning_at text at ++ items_of (drop next text)
+    → shown (drop at text) ≡ display_text (item_beginning_at text at) ++ shown (drop next text)
 shown_less text at next e =
-    ap display_text e ∙ flat_map-append item_text (item_at text at) (items_of (drop next text))
+    ap display_text e ∙ flat_map-append item_text (item_beginning_at text at) (items_of (drop next text))
 
 pub shown_end : (text : List ℕ) (at : ℕ) → at ≡ length text → shown (drop at text) ≡ []
 shown_end text at e = ap shown (drop_all at text (omega arith))

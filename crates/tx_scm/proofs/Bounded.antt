@@ -5,7 +5,7 @@ use Rattle.std.proofs.Math.Nat.{le-max_left, le-max_right}
 use Rattle.tx_tree.specs.Limits.{IsWithinLimits}
 use Rattle.tx_tree.specs.WideTree.{WideTree, Forest, cons, node, count, depth_of, deepest, arity_of, widest}
 use Rattle.tx_tree.specs.WideTree.{text_length_of, longest_text, size_of, total_size}
-use Rattle.tx_scm.specs.Machine.{Limits, the_limits, keeps}
+use Rattle.tx_scm.specs.Machine.{Limits, the_limits, may_keep}
 
 -- the tree passes no limit
 pub record IsBelow (limits : Limits) (t : WideTree) : Type 0 where
@@ -48,14 +48,14 @@ module _ (limits : Limits) where
         size = omega (arith, w.size);
       }
 
-  pub keeps_below : (t : WideTree) → IsBelow limits t → keeps limits t ≡ true
-  unfolding keeps
+  pub keeps_below : (t : WideTree) → IsBelow limits t → may_keep limits t ≡ true
+  unfolding may_keep
   keeps_below t w =
       and_from _ _ (le-leb _ _ w.text)
       (and_from _ _ (le-leb _ _ w.arity) (and_from _ _ (le-leb _ _ w.depth) (le-leb _ _ w.size)))
 
-  pub below_kept : (t : WideTree) → keeps limits t ≡ true → IsBelow limits t
-  unfolding keeps
+  pub below_kept : (t : WideTree) → may_keep limits t ≡ true → IsBelow limits t
+  unfolding may_keep
   below_kept t e =
       let text = and_parts _ _ e in
       let arity = and_parts _ _ text.1 in

@@ -16,8 +16,10 @@ use Rattle.tx_scm.specs.declared.kinds.Kind.{Kind}
 use Rattle.tx_scm.specs.declared.kinds.Kind.TheVariants.{Opens, Closes, Quote, Backslash, Letter}
 use Rattle.tx_scm.specs.Spelling.{AreWhite, escaped, string_of, SpellsTree, SpellsTrees, Spells}
 use Rattle.tx_scm.specs.Kinds.{kind_of}
-use Rattle.tx_scm.specs.Machine.{Open, Bounds, Limits, between, opened, naming, texting, whole, put, only_if, has_place}
-use Rattle.tx_scm.specs.Machine.{has_room, within, keeps, closed, named, lengthened, step_between, step_opened}
+use Rattle.tx_scm.specs.Machine.{Open, Bounds, Limits, between, opened, naming, texting, whole, put_tree, only_if}
+use Rattle.tx_scm.specs.Machine.{has_place}
+use Rattle.tx_scm.specs.Machine.{has_tree_room, within, may_keep, closed, with_bracket, lengthened, step_between}
+use Rattle.tx_scm.specs.Machine.{step_opened}
 use Rattle.tx_scm.specs.Machine.{step_naming, step_texting, step_escaping, step_whole, run, tree_in, completes}
 use Rattle.tx_scm.proofs.ByteKinds.{white_kind, letter_kind, opens_kind, closes_kind, quote_kind, backslash_kind}
 use Rattle.tx_scm.proofs.ByteKinds.{EscapedAs, escaped_as}
@@ -82,11 +84,11 @@ module _ (bounds : Bounds) where
       ∙ lengthened_is text y opens b l g
 
   pub text_end : (text y : List ℕ) (opens : List Open) → IsText text
-      → run bounds (texting text opens) (34 ∷ y) ≡ run bounds (put (leaf text) opens) y
+      → run bounds (texting text opens) (34 ∷ y) ≡ run bounds (put_tree (leaf text) opens) y
   unfolding step_texting
   text_end text y opens h =
       ap (λ k. run bounds (step_texting bounds text opens k 34) y) quote_kind
-      ∙ ap (λ c. run bounds (only_if c (put (leaf text) opens)) y) (text_tested text h)
+      ∙ ap (λ c. run bounds (only_if c (put_tree (leaf text) opens)) y) (text_tested text h)
 
   -- ---- labels
 
@@ -106,18 +108,18 @@ module _ (bounds : Bounds) where
       ∙ ap (λ a. run bounds (naming a opens) y) (append_assoc label (b ∷ []) more)
 
   name_ends : (k : Kind) (b : ℕ) (label : List ℕ) (opens : List Open) → (k ≡ Letter → ⊥)
-      → step_naming bounds label opens k b ≡ step_between bounds (named label opens) k
+      → step_naming bounds label opens k b ≡ step_between bounds (with_bracket label opens) k
   unfolding step_naming
   name_ends Letter b label opens h = absurd (h refl)
   name_ends _ b label opens h = refl
 
   after_name : (y label : List ℕ) (opens : List Open) → NoLetter y
-      → run bounds (naming label opens) y ≡ run bounds (between (named label opens)) y
+      → run bounds (naming label opens) y ≡ run bounds (between (with_bracket label opens)) y
   after_name [] label opens h = absurd h
   after_name (b ∷ y) label opens h = ap (λ s. run bounds s y) (name_ends (kind_of b) b label opens h)
 
   pub label_run : (label y : List ℕ) (opens : List Open) → IsLabel label → NoLetter y
-      → run bounds (opened opens) (label ++ y) ≡ run bounds (between (named label opens)) y
+      → run bounds (opened opens) (label ++ y) ≡ run bounds (between (with_bracket label opens)) y
   unfolding step_opened
   label_run [] y opens h n = absurd (omega (arith, h.some))
   label_run (b ∷ label) y opens h n =
@@ -190,33 +192,33 @@ module _ (limits : Limits) where
   pub text_run : (more text y : List ℕ) (opens : List Open) → IsText (text ++ more)
       → length text + length more ≤ limits.text
       → run (within limits) (texting text opens) (flat_map escaped more ++ 34 ∷ y) ≡ run (within limits)
-      (put (leaf (text ++ more)) opens) y
+      (put_tree (leaf (text ++ more)) opens) y
   text_run [] text y opens h n =
       text_end (within limits) text y opens (subst IsText (append-nil text) h)
-      ∙ ap (λ a. run (within limits) (put (leaf a) opens) y) (sym (append-nil text))
+      ∙ ap (λ a. run (within limits) (put_tree (leaf a) opens) y) (sym (append-nil text))
   text_run (b ∷ more) text y opens h n =
       let longer : IsText ((text ++ b ∷ []) ++ more) = subst IsText (sym (append_assoc text (b ∷ []) more)) h in
       ap (λ x. run (within limits) (texting text opens) x) (append_assoc (escaped b) (flat_map escaped more) (34 ∷ y))
       ∙ text_byte (within limits) (kind_of b) (escaped b) b text (flat_map escaped more ++ 34 ∷ y) opens refl
       (escaped_as (kind_of b) b refl) (lt-ltb _ _ (omega arith)) (begins_tested (text ++ b ∷ []) more longer)
       ∙ text_run more (text ++ b ∷ []) y opens longer (omega (arith, length-append text (b ∷ [])))
-      ∙ ap (λ a. run (within limits) (put (leaf a) opens) y) (append_assoc text (b ∷ []) more)
+      ∙ ap (λ a. run (within limits) (put_tree (leaf a) opens) y) (append_assoc text (b ∷ []) more)
 
   room_is : (opens : List Open) → length opens < limits.depth → has_place limits opens ≡ true
-      → has_room limits opens ≡ true
+      → has_tree_room limits opens ≡ true
   room_is opens n r = and_from _ _ (lt-ltb _ _ n) r
 
   kept_step : (y : List ℕ) (o : Open) (opens : List Open) (t : WideTree) → node o.label (forest o.children) ≡ t
       → IsBelow limits t
-      → run (within limits) (closed (within limits) (o ∷ opens)) y ≡ run (within limits) (put t opens) y
+      → run (within limits) (closed (within limits) (o ∷ opens)) y ≡ run (within limits) (put_tree t opens) y
   kept_step y o opens t e h =
-      ap (λ u. run (within limits) (only_if (keeps limits u) (put u opens)) y) e
-      ∙ ap (λ c. run (within limits) (only_if c (put t opens)) y) (keeps_below limits t h)
+      ap (λ u. run (within limits) (only_if (may_keep limits u) (put_tree u opens)) y) e
+      ∙ ap (λ c. run (within limits) (only_if c (put_tree t opens)) y) (keeps_below limits t h)
 
   mutual
     pub complete_tree : (t : WideTree) (x y : List ℕ) (opens : List Open) → length opens + depth_of t ≤ limits.depth
         → IsBelow limits t → has_place limits opens ≡ true
-        → SpellsTree x t → run (within limits) (between opens) (x ++ y) ≡ run (within limits) (put t opens) y
+        → SpellsTree x t → run (within limits) (between opens) (x ++ y) ≡ run (within limits) (put_tree t opens) y
     complete_tree (leaf text) x y opens d w r h =
         ap (λ b. run (within limits) (between opens) b) (leaf_parts x text y h.1)
         ∙ quote_step (within limits) (flat_map escaped text ++ 34 ∷ y) opens (room_is opens (omega arith) r)

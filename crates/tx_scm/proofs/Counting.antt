@@ -6,8 +6,9 @@ use Rattle.tx_tree.specs.WideTree.{WideTree, leaf, forest, nodes_of, total_nodes
 use Rattle.tx_scm.specs.declared.kinds.Kind.{Kind}
 use Rattle.tx_scm.specs.declared.kinds.Kind.TheVariants.{White, Opens, Closes, Quote, Backslash, Letter}
 use Rattle.tx_scm.specs.Machine.{the_limits, within, Open, State, Bounds, between, opened, naming, texting, escaping}
-use Rattle.tx_scm.specs.Machine.{whole, failed, put}
-use Rattle.tx_scm.specs.Machine.{only_if, node_of, closed, named, lengthened, step_between, step_opened, step_naming}
+use Rattle.tx_scm.specs.Machine.{whole, failed, put_tree}
+use Rattle.tx_scm.specs.Machine.{only_if, node_of, closed, with_bracket, lengthened, step_between, step_opened}
+use Rattle.tx_scm.specs.Machine.{step_naming}
 use Rattle.tx_scm.specs.Machine.{step_texting, step_escaping, step_whole, step}
 use Rattle.tx_scm.specs.States.{standing, nodes_in, made_by, made_in, IsCounted, CountsOn}
 
@@ -22,7 +23,7 @@ module _ (from steps : ℕ) where
   only_counted false s h = tt
 
   pub put_counted : (t : WideTree) (opens : List Open) → steps ≤ from + (nodes_of t + nodes_in opens)
-      → IsCounted from steps (put t opens)
+      → IsCounted from steps (put_tree t opens)
   put_counted t [] h = omega arith
   put_counted t (o ∷ opens) h = omega (arith, h, total_nodes-append o.children (t ∷ []))
 
@@ -30,7 +31,7 @@ module _ (bounds : Bounds) (from steps : ℕ) where
   close_counted : (opens : List Open) → steps ≤ from + nodes_in opens → IsCounted from (steps + 1) (closed bounds opens)
   close_counted [] h = tt
   close_counted (o ∷ opens) h =
-      only_counted from (steps + 1) (bounds.keeps (node_of o)) (put (node_of o) opens)
+      only_counted from (steps + 1) (bounds.keeps (node_of o)) (put_tree (node_of o) opens)
       (put_counted from (steps + 1) (node_of o) opens (omega (arith, h)))
 
   between_counted : (k : Kind) (opens : List Open) → steps ≤ from + nodes_in opens
@@ -54,7 +55,7 @@ module _ (bounds : Bounds) (from steps : ℕ) where
   unfolding step_naming
   naming_counted Letter b label opens h =
       only_counted from (steps + 0) (ltb (length label) 64) (naming (label ++ b ∷ []) opens) (omega arith)
-  naming_counted k b label opens h = between_counted k (named label opens) (omega arith)
+  naming_counted k b label opens h = between_counted k (with_bracket label opens) (omega arith)
 
   lengthened_counted : (text : List ℕ) (b : ℕ) (opens : List Open) → steps ≤ from + nodes_in opens
       → IsCounted from (steps + 0) (lengthened bounds text opens b)
@@ -66,7 +67,7 @@ module _ (bounds : Bounds) (from steps : ℕ) where
       → IsCounted from (steps + 0) (step_texting bounds text opens k b)
   unfolding step_texting
   texting_counted Quote b text opens h =
-      only_counted from (steps + 0) (is_text text) (put (leaf text) opens)
+      only_counted from (steps + 0) (is_text text) (put_tree (leaf text) opens)
       (put_counted from (steps + 0) (leaf text) opens (omega arith))
   texting_counted Backslash b text opens h = omega arith
   texting_counted _ b text opens h = lengthened_counted text b opens h
@@ -95,7 +96,7 @@ module _ (bounds : Bounds) (from steps : ℕ) where
 
 -- a string makes no node
 pub string_counted : (from steps : ℕ) (w : Option WideTree) (opens : List Open) (text : List ℕ) (t : State) → w ≡ None
-    → t ≡ put (leaf text) opens → IsCounted from steps (standing w opens) → IsCounted from steps t
+    → t ≡ put_tree (leaf text) opens → IsCounted from steps (standing w opens) → IsCounted from steps t
 string_counted from steps None opens text t w f h =
     subst (IsCounted from steps) (sym f) (put_counted from steps (leaf text) opens (omega (arith, h)))
 string_counted from steps (Some u) opens text t w f h = absurd cc

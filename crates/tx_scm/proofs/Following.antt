@@ -12,8 +12,9 @@ use Rattle.tx_scm.specs.declared.spots.Spot.{Spot}
 use Rattle.tx_scm.specs.declared.spots.Spot.TheVariants.{Between, Opened, Naming, Escaping, Whole}
 use Rattle.tx_scm.specs.Kinds.{kind_of}
 use Rattle.tx_scm.specs.Machine as machine
-use Rattle.tx_scm.specs.Machine.{Open, State, wide, between, opened, naming, texting, escaping, whole, failed, put}
-use Rattle.tx_scm.specs.Machine.{node_of, named, step_between, step_opened, step_naming, step_texting, step_escaping}
+use Rattle.tx_scm.specs.Machine.{Open, State, wide, between, opened, naming, texting, escaping, whole, failed, put_tree}
+use Rattle.tx_scm.specs.Machine.{node_of, with_bracket, step_between, step_opened, step_naming, step_texting}
+use Rattle.tx_scm.specs.Machine.{step_escaping}
 use Rattle.tx_scm.specs.Machine.{step_whole, run}
 use Rattle.tx_scm.specs.Spots.{after_tree, closed, only_if, between_step, opened_step, naming_step, in_text, lengthened}
 use Rattle.tx_scm.specs.Spots.{texting_step, escaping_step, whole_step, step, spots}
@@ -43,7 +44,7 @@ next (Some s) k b = step s k b
 
 -- ---- trees and brackets
 
-put_spot : (t : WideTree) (opens : List Open) → spot_of (put t opens) ≡ Some (after_tree (length opens))
+put_spot : (t : WideTree) (opens : List Open) → spot_of (put_tree t opens) ≡ Some (after_tree (length opens))
 put_spot t [] = refl
 put_spot t (o ∷ opens) = refl
 
@@ -73,7 +74,7 @@ naming_spot Letter b label opens =
     only_spot (ltb (length label) 64) (naming (label ++ b ∷ []) opens) (Naming (length label + 1) (length opens))
     (ap (λ m. Some (Naming m (length opens))) (length-append label (b ∷ [])))
 naming_spot k b label opens =
-    between_spot k (named label opens) ∙ ap (λ m. between_step m k) (sym (add-one (length opens)))
+    between_spot k (with_bracket label opens) ∙ ap (λ m. between_step m k) (sym (add-one (length opens)))
 
 -- ---- strings
 
@@ -104,7 +105,7 @@ lengthened_spot text opens b = begun_spot (place_of (text ++ b ∷ [])) (text ++
     ∙ ap (λ p. in_text p (length opens)) (place_more text b)
 
 ended_spot : (p : Option TextPlace) (t : WideTree) (opens : List Open)
-    → spot_of (machine.only_if (is_between p) (put t opens)) ≡ next (in_text p (length opens)) Quote 34
+    → spot_of (machine.only_if (is_between p) (put_tree t opens)) ≡ next (in_text p (length opens)) Quote 34
 unfolding texting_step
 ended_spot None t opens = refl
 ended_spot (Some BetweenItems) t opens = put_spot t opens

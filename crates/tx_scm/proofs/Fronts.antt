@@ -23,7 +23,7 @@ use Rattle.tx_scm.specs.declared.spots.Spot.TheVariants.{Between, Opened, Naming
 use Rattle.tx_scm.specs.Kinds.{kind_of}
 use Rattle.tx_scm.specs.Spelling.{is_white, escaped, string_of, SpellsTree, Spells}
 use Rattle.tx_scm.specs.Faults.{ends_label, IsInLabelPlace, IsEscapeOpen, IsStringOpen, IsStop, IsKind, IsSchemeFault}
-use Rattle.tx_scm.specs.Machine.{Open, State, wide, between, opened, naming, texting, escaping, whole, failed, put}
+use Rattle.tx_scm.specs.Machine.{Open, State, wide, between, opened, naming, texting, escaping, whole, failed, put_tree}
 use Rattle.tx_scm.specs.Machine.{node_of, run}
 use Rattle.tx_scm.specs.Spots.{closed, only_if, between_step, naming_step, in_text, whole_step, step, spots, fault_at}
 use Rattle.tx_scm.proofs.ByteKinds.{white_kind}
@@ -48,7 +48,7 @@ close_one : (x : List ℕ) → GoesOn (x ++ 41 ∷ []) → GoesOn x
 close_one x c =
     (41 ∷ c.0, (omega arith, c.1), (c.2.0, subst (λ z. Spells z c.2.0) (append_assoc x (41 ∷ []) c.0) c.2.1))
 
-close_all : (opens : List Open) (t : WideTree) (x : List ℕ) → Took (put t opens) x → GoesOn x
+close_all : (opens : List Open) (t : WideTree) (x : List ℕ) → Took (put_tree t opens) x → GoesOn x
 close_all [] t x h = ([], tt, (t, subst (λ z. Spells z t) (sym (append-nil x)) h))
 close_all (o ∷ opens) t x h =
     let grown : Open = record { label = o.label; children = o.children ++ t ∷ [] } in

@@ -7,29 +7,29 @@ use Rattle.tx_tree.specs.WideTree.{WideTree, node, forest, count, widest, depth_
 use Rattle.tx_tree.proofs.Children.{count-forest}
 use Rattle.tx_tree.proofs.Scanning.{text_test, text_tested}
 use Rattle.std.proofs.Math.Nat.{le-max_left}
-use Rattle.tx_scm.specs.Machine.{the_limits, keeps}
+use Rattle.tx_scm.specs.Machine.{the_limits, may_keep}
 use Rattle.tx_scm.proofs.Bounded.{IsBelow, keeps_below, below_kept, below_within}
 
-pub kept : (t : WideTree) → IsWithinLimits t → keeps the_limits t ≡ true
+pub kept : (t : WideTree) → IsWithinLimits t → may_keep the_limits t ≡ true
 kept t h = keeps_below the_limits t (below_within t h)
 
-not_kept : (t : WideTree) → (IsBelow the_limits t → ⊥) → keeps the_limits t ≡ false
+not_kept : (t : WideTree) → (IsBelow the_limits t → ⊥) → may_keep the_limits t ≡ false
 not_kept t h =
-    elim (keeps the_limits t) as (λ c. keeps the_limits t ≡ c → c ≡ false) [
+    elim (may_keep the_limits t) as (λ c. may_keep the_limits t ≡ c → c ≡ false) [
       | true ↦ λ e. absurd (h (below_kept the_limits t e))
       | false ↦ λ e. cc
     ] (cc)
 
 pub too_wide : (label : List ℕ) (ts : List WideTree) → 65535 < length ts
-    → keeps the_limits (node label (forest ts)) ≡ false
+    → may_keep the_limits (node label (forest ts)) ≡ false
 too_wide label ts h =
     not_kept (node label (forest ts))
     (λ w. absurd (omega (arith, w.arity, count-forest ts, le-max_left (count (forest ts)) (widest (forest ts)))))
 
-pub too_deep : (t : WideTree) → 400 < depth_of t → keeps the_limits t ≡ false
+pub too_deep : (t : WideTree) → 400 < depth_of t → may_keep the_limits t ≡ false
 too_deep t h = not_kept t (λ w. absurd (omega (arith, w.depth)))
 
-pub too_big : (t : WideTree) → 8000000 < size_of t → keeps the_limits t ≡ false
+pub too_big : (t : WideTree) → 8000000 < size_of t → may_keep the_limits t ≡ false
 too_big t h = not_kept t (λ w. absurd (omega (arith, w.size)))
 
 pub text_is : (text : List ℕ) → IsText text → is_text text ≡ true

@@ -12,8 +12,9 @@ use Rattle.tx_scm.specs.declared.measures.Part.{Part}
 use Rattle.tx_scm.specs.declared.measures.Part.TheVariants.{Outside, Inside, Escaped}
 use Rattle.tx_scm.specs.Kinds.{kind_of}
 use Rattle.tx_scm.specs.Spelling.{AreWhite, escaped, SpellsTree, SpellsTrees, Spells}
-use Rattle.tx_scm.specs.Measuring.{Gauge, counted, closed, longer, outside_step, inside_step, step, step_in, measured}
-use Rattle.tx_scm.specs.Measuring.{nothing, Measures, AreSmall, IsShort, IsSmall}
+use Rattle.tx_scm.specs.Measuring.{Gauge, counted, gauge_closed, gauge_longer, outside_step, inside_step, step, step_in}
+use Rattle.tx_scm.specs.Measuring.{measured}
+use Rattle.tx_scm.specs.Measuring.{empty_gauge, Measures, AreCountsBelow, IsShortPart, IsSmallGauge}
 use Rattle.tx_scm.proofs.ByteKinds.{white_kind, letter_kind, opens_kind, closes_kind, quote_kind, backslash_kind}
 use Rattle.tx_scm.proofs.ByteKinds.{EscapedAs, escaped_as}
 use Rattle.tx_scm.proofs.Complete.{leaf_parts, node_parts, cons_parts}
@@ -148,11 +149,11 @@ mutual
       ∙ same_counts counts _ _ _ _ _ _ _ _ _ _ y (omega arith) (omega arith) (omega arith) (omega arith) (omega arith)
 
 -- the numbers behind all bytes are those of the tree
-pub measures : (bytes : List ℕ) (t : WideTree) → Spells bytes t → Measures (measured nothing bytes) t
+pub measures : (bytes : List ℕ) (t : WideTree) → Spells bytes t → Measures (measured empty_gauge bytes) t
 measures bytes t h =
-    let is : measured nothing bytes ≡ at_rest [] (max 0 (text_length_of t)) (max 0 (arity_of t))
+    let is : measured empty_gauge bytes ≡ at_rest [] (max 0 (text_length_of t)) (max 0 (arity_of t))
     (max 0 (0 + depth_of t)) (0 + size_of t) =
-    ap (λ b. measured nothing b) h.6
+    ap (λ b. measured empty_gauge b) h.6
     ∙ white_run [] 0 0 0 0 h.0 (h.1 ++ h.2) h.3
     ∙ tree_run t [] 0 0 0 0 h.1 h.2 h.4
     ∙ ap (λ x. measured
@@ -177,25 +178,25 @@ module _ (bytes : List ℕ) (g : Gauge) (i : ℕ) where
 -- ---- each number is at most the number of bytes
 
 module _ (m n : ℕ) (le : m ≤ n) where
-  are_small : (counts : List ℕ) → AreSmall m counts → AreSmall n counts
+  are_small : (counts : List ℕ) → AreCountsBelow m counts → AreCountsBelow n counts
   are_small [] h = tt
   are_small (c ∷ counts) h = (omega (arith, le, h.0), are_small counts h.1)
 
-  is_short : (part : Part) → IsShort m part → IsShort n part
+  is_short : (part : Part) → IsShortPart m part → IsShortPart n part
   is_short Outside h = tt
   is_short (Inside c) h = omega (arith, le, h)
   is_short (Escaped c) h = omega (arith, le, h)
 
-  pub small_more : (g : Gauge) → IsSmall m g → IsSmall n g
+  pub small_more : (g : Gauge) → IsSmallGauge m g → IsSmallGauge n g
   small_more g h =
       record { part = is_short g.part h.part; counts = are_small g.counts h.counts; size = omega (arith, le, h.size) }
 
-counted_small : (n : ℕ) (counts : List ℕ) → AreSmall n counts → AreSmall (n + 1) (counted counts)
+counted_small : (n : ℕ) (counts : List ℕ) → AreCountsBelow n counts → AreCountsBelow (n + 1) (counted counts)
 counted_small n [] h = tt
 counted_small n (c ∷ counts) h = (omega (arith, h.0), are_small n (n + 1) (omega arith) counts h.1)
 
-module _ (n : ℕ) (g : Gauge) (some : 0 < n) (h : IsSmall n g) where
-  longer_small : (m : ℕ) → m < n → IsSmall (n + 1) (longer g m)
+module _ (n : ℕ) (g : Gauge) (some : 0 < n) (h : IsSmallGauge n g) where
+  longer_small : (m : ℕ) → m < n → IsSmallGauge (n + 1) (gauge_longer g m)
   longer_small m lt =
       record {
         part = omega (arith, lt);
@@ -203,7 +204,7 @@ module _ (n : ℕ) (g : Gauge) (some : 0 < n) (h : IsSmall n g) where
         size = omega (arith, h.size);
       }
 
-  closed_small : (counts : List ℕ) → AreSmall n counts → IsSmall (n + 1) (closed g counts)
+  closed_small : (counts : List ℕ) → AreCountsBelow n counts → IsSmallGauge (n + 1) (gauge_closed g counts)
   closed_small [] k = small_more n (n + 1) (omega arith) g h
   closed_small (c ∷ counts) k =
       record {
@@ -212,7 +213,7 @@ module _ (n : ℕ) (g : Gauge) (some : 0 < n) (h : IsSmall n g) where
         size = omega (arith, h.size);
       }
 
-  outside_small : (k : Kind) → IsSmall (n + 1) (outside_step g k)
+  outside_small : (k : Kind) → IsSmallGauge (n + 1) (outside_step g k)
   unfolding outside_step
   outside_small Opens =
       record {
@@ -230,7 +231,7 @@ module _ (n : ℕ) (g : Gauge) (some : 0 < n) (h : IsSmall n g) where
   outside_small Closes = closed_small g.counts h.counts
   outside_small _ = small_more n (n + 1) (omega arith) g h
 
-  inside_small : (m : ℕ) (k : Kind) → m < n → IsSmall (n + 1) (inside_step g m k)
+  inside_small : (m : ℕ) (k : Kind) → m < n → IsSmallGauge (n + 1) (inside_step g m k)
   unfolding inside_step
   inside_small m Quote lt =
       record { part = tt; counts = counted_small n g.counts h.counts; size = omega (arith, h.size) }
@@ -242,10 +243,10 @@ module _ (n : ℕ) (g : Gauge) (some : 0 < n) (h : IsSmall n g) where
       }
   inside_small m _ lt = longer_small m lt
 
-  part_small : (part : Part) (k : Kind) → IsShort n part → IsSmall (n + 1) (step_in part g k)
+  part_small : (part : Part) (k : Kind) → IsShortPart n part → IsSmallGauge (n + 1) (step_in part g k)
   part_small Outside k lt = outside_small k
   part_small (Inside m) k lt = inside_small m k lt
   part_small (Escaped m) k lt = longer_small m lt
 
-  pub step_small : (k : Kind) → IsSmall (n + 1) (step g k)
+  pub step_small : (k : Kind) → IsSmallGauge (n + 1) (step g k)
   step_small k = part_small g.part k h.part

@@ -8,10 +8,11 @@ use Rattle.tx_scm.specs.declared.kinds.Kind.{Kind}
 use Rattle.tx_scm.specs.declared.kinds.Kind.TheVariants.{White, Opens, Closes, Quote, Backslash, Letter}
 use Rattle.tx_scm.specs.Kinds.{kind_of}
 use Rattle.tx_scm.specs.Machine.{Open, State, Bounds, the_limits, within, between, opened, naming, texting, escaping}
-use Rattle.tx_scm.specs.Machine.{whole, failed, put, only_if, node_of, closed, named, lengthened, step_between}
+use Rattle.tx_scm.specs.Machine.{whole, failed, put_tree, only_if, node_of, closed, with_bracket, lengthened}
+use Rattle.tx_scm.specs.Machine.{step_between}
 use Rattle.tx_scm.specs.Machine.{step_opened, step_naming, step_texting, step_escaping, step_whole, step, completes}
 use Rattle.tx_scm.specs.Machine.{reads}
-use Rattle.tx_scm.specs.Sizes.{size_in, IsSized, begun_by, texted_by, grown_by}
+use Rattle.tx_scm.specs.Sizes.{opens_size, IsSized, begun_by, texted_by, grown_by}
 use Rattle.tx_scm.specs.States.{standing}
 use Rattle.tx_scm.proofs.Exact.{found}
 
@@ -20,18 +21,18 @@ module _ (n : ℕ) where
   only_sized true s h = h
   only_sized false s h = tt
 
-  pub put_sized : (t : WideTree) (opens : List Open) → n ≡ size_of t + size_in opens → IsSized n (put t opens)
+  pub put_sized : (t : WideTree) (opens : List Open) → n ≡ size_of t + opens_size opens → IsSized n (put_tree t opens)
   put_sized t [] h = omega (arith, h)
   put_sized t (o ∷ opens) h = omega (arith, h, total_size-append o.children (t ∷ []))
 
 module _ (bounds : Bounds) (n : ℕ) where
-  closed_sized : (opens : List Open) → n ≡ size_in opens → IsSized (n + 0) (closed bounds opens)
+  closed_sized : (opens : List Open) → n ≡ opens_size opens → IsSized (n + 0) (closed bounds opens)
   closed_sized [] h = tt
   closed_sized (o ∷ opens) h =
-      only_sized (n + 0) (bounds.keeps (node_of o)) (put (node_of o) opens)
+      only_sized (n + 0) (bounds.keeps (node_of o)) (put_tree (node_of o) opens)
       (put_sized (n + 0) (node_of o) opens (omega (arith, h)))
 
-  between_sized : (k : Kind) (opens : List Open) → n ≡ size_in opens
+  between_sized : (k : Kind) (opens : List Open) → n ≡ opens_size opens
       → IsSized (n + begun_by k) (step_between bounds opens k)
   unfolding step_between
   between_sized White opens h = omega (arith, h)
@@ -40,35 +41,36 @@ module _ (bounds : Bounds) (n : ℕ) where
   between_sized Closes opens h = closed_sized opens h
   between_sized _ opens h = tt
 
-  opened_sized : (k : Kind) (b : ℕ) (opens : List Open) → n ≡ 1 + size_in opens
+  opened_sized : (k : Kind) (b : ℕ) (opens : List Open) → n ≡ 1 + opens_size opens
       → IsSized (n + 0) (step_opened opens k b)
   unfolding step_opened
   opened_sized White b opens h = omega (arith, h)
   opened_sized Letter b opens h = omega (arith, h)
   opened_sized _ b opens h = tt
 
-  naming_sized : (k : Kind) (b : ℕ) (label : List ℕ) (opens : List Open) → n ≡ 1 + size_in opens
+  naming_sized : (k : Kind) (b : ℕ) (label : List ℕ) (opens : List Open) → n ≡ 1 + opens_size opens
       → IsSized (n + begun_by k) (step_naming bounds label opens k b)
   unfolding step_naming
   naming_sized Letter b label opens h =
       only_sized (n + 0) (ltb (length label) 64) (naming (label ++ b ∷ []) opens) (omega (arith, h))
-  naming_sized k b label opens h = between_sized k (named label opens) (omega (arith, h))
+  naming_sized k b label opens h = between_sized k (with_bracket label opens) (omega (arith, h))
 
-  lengthened_sized : (text : List ℕ) (b : ℕ) (opens : List Open) → n ≡ 1 + length text + size_in opens
+  lengthened_sized : (text : List ℕ) (b : ℕ) (opens : List Open) → n ≡ 1 + length text + opens_size opens
       → IsSized (n + 1) (lengthened bounds text opens b)
   lengthened_sized text b opens h =
       only_sized (n + 1) (bounds.longer text && begins_text (text ++ b ∷ [])) (texting (text ++ b ∷ []) opens)
       (omega (arith, h, length-append text (b ∷ [])))
 
-  texting_sized : (k : Kind) (b : ℕ) (text : List ℕ) (opens : List Open) → n ≡ 1 + length text + size_in opens
+  texting_sized : (k : Kind) (b : ℕ) (text : List ℕ) (opens : List Open) → n ≡ 1 + length text + opens_size opens
       → IsSized (n + texted_by k) (step_texting bounds text opens k b)
   unfolding step_texting
   texting_sized Quote b text opens h =
-      only_sized (n + 0) (is_text text) (put (leaf text) opens) (put_sized (n + 0) (leaf text) opens (omega (arith, h)))
+      only_sized (n + 0) (is_text text) (put_tree (leaf text) opens)
+      (put_sized (n + 0) (leaf text) opens (omega (arith, h)))
   texting_sized Backslash b text opens h = omega (arith, h)
   texting_sized _ b text opens h = lengthened_sized text b opens h
 
-  escaping_sized : (k : Kind) (b : ℕ) (text : List ℕ) (opens : List Open) → n ≡ 1 + length text + size_in opens
+  escaping_sized : (k : Kind) (b : ℕ) (text : List ℕ) (opens : List Open) → n ≡ 1 + length text + opens_size opens
       → IsSized (n + 1) (step_escaping bounds text opens k b)
   unfolding step_escaping
   escaping_sized Quote b text opens h = lengthened_sized text b opens h
@@ -128,7 +130,7 @@ closes_sized n m (Some u) opens t e f g h = absurd cc
 
 -- a string is as large as its leaf
 pub string_sized : (n m : ℕ) (w : Option WideTree) (opens : List Open) (text : List ℕ) (t : State) → w ≡ None
-    → m ≡ n + (1 + length text) → t ≡ put (leaf text) opens → IsSized n (standing w opens) → IsSized m t
+    → m ≡ n + (1 + length text) → t ≡ put_tree (leaf text) opens → IsSized n (standing w opens) → IsSized m t
 string_sized n m None opens text t w e f h =
     subst (IsSized m) (sym f) (put_sized m (leaf text) opens (omega (arith, e, h)))
 string_sized n m (Some u) opens text t w e f h = absurd cc

@@ -15,7 +15,8 @@ use Rattle.tx_scm.specs.declared.kinds.Kind.TheVariants.{White, Opens, Closes, Q
 use Rattle.tx_scm.specs.Spelling.{is_white, AreWhite, escaped, string_of, SpellsTree, SpellsTrees, Spells}
 use Rattle.tx_scm.specs.Kinds.{kind_of}
 use Rattle.tx_scm.specs.Machine.{Open, State, Bounds, the_limits, between, opened, naming, texting, escaping, whole}
-use Rattle.tx_scm.specs.Machine.{failed, put, only_if, within, keeps, node_of, closed, named, lengthened, step_between}
+use Rattle.tx_scm.specs.Machine.{failed, put_tree, only_if, within, may_keep, node_of, closed, with_bracket, lengthened}
+use Rattle.tx_scm.specs.Machine.{step_between}
 use Rattle.tx_scm.specs.Machine.{step_opened, step_naming, step_texting, step_escaping, step_whole, step, run, tree_in}
 use Rattle.tx_scm.specs.Machine.{completes}
 use Rattle.tx_scm.proofs.ByteKinds.{is_white_kind, is_letter_kind, is_opens_kind, is_closes_kind, is_quote_kind}
@@ -54,7 +55,7 @@ Took (whole t) x = Spells x t
 Took failed x = Unit {0}
 
 pub put_took : (opens : List Open) (t : WideTree) (p y : List ℕ) → OpensTook opens p → SpellsTree y t
-    → Took (put t opens) (p ++ y)
+    → Took (put_tree t opens) (p ++ y)
 put_took [] t p y h k = (p, y, [], h, k, tt, rw append-nil refl)
 put_took (o ∷ opens) t p y h k = (
   h.0,
@@ -76,7 +77,7 @@ white_took (o ∷ opens) x b w h =
     (h.0, h.1, h.2, h.3 ++ b ∷ [], h.4, h.5, h.6, h.7, all_snoc _ h.3 b h.8 w, rw h.9 (simp append_assoc))
 
 pub named_took : (label : List ℕ) (opens : List Open) (x : List ℕ) → Took (naming label opens) x
-    → OpensTook (named label opens) x
+    → OpensTook (with_bracket label opens) x
 named_took label opens x h = (h.0, h.1, [], [], h.2, h.3, h.4, refl, tt, rw (h.5, append-nil) refl)
 
 only_took : (c : Bool) (s : State) (x : List ℕ) → (c ≡ true → Took s x) → Took (only_if c s) x
@@ -95,8 +96,8 @@ module _ (bounds : Bounds) where
       let inner = h.1 ++ (o.label ++ (h.2 ++ (h.3 ++ 41 ∷ []))) in
       let tree : SpellsTree (40 ∷ inner) (node_of o) = (h.1, h.2, h.3, h.5, h.6, h.7, h.8, refl) in
       let e : x ++ 41 ∷ [] ≡ h.0 ++ 40 ∷ inner = rw h.9 (simp append_assoc) in
-      only_took (bounds.keeps (node_of o)) (put (node_of o) opens) (x ++ 41 ∷ [])
-      (λ kept. subst (λ z. Took (put (node_of o) opens) z) (sym e)
+      only_took (bounds.keeps (node_of o)) (put_tree (node_of o) opens) (x ++ 41 ∷ [])
+      (λ kept. subst (λ z. Took (put_tree (node_of o) opens) z) (sym e)
       (put_took opens (node_of o) h.0 (40 ∷ inner) h.4 tree))
 
   between_took : (k : Kind) (b : ℕ) (opens : List Open) (x : List ℕ) → kind_of b ≡ k → OpensTook opens x
@@ -141,7 +142,7 @@ module _ (bounds : Bounds) where
         },
         rw h.5 (simp append_assoc),
       ))
-  naming_took k b label opens x e h = between_took k b (named label opens) x e (named_took label opens x h)
+  naming_took k b label opens x e h = between_took k b (with_bracket label opens) x e (named_took label opens x h)
 
   lengthened_took : (text : List ℕ) (opens : List Open) (b : ℕ) (p x : List ℕ) → OpensTook opens p
       → x ++ b ∷ [] ≡ p ++ 34 ∷ (flat_map escaped text ++ escaped b)
@@ -154,10 +155,10 @@ module _ (bounds : Bounds) where
       → Took (texting text opens) x → Took (step_texting bounds text opens k b) (x ++ b ∷ [])
   unfolding step_texting
   texting_took Quote b text opens x e h =
-      only_took (is_text text) (put (leaf text) opens) (x ++ b ∷ []) (λ is.
+      only_took (is_text text) (put_tree (leaf text) opens) (x ++ b ∷ []) (λ is.
       let parts : x ++ b ∷ [] ≡ h.0 ++ string_of text = rw (is_quote_kind b e, h.2) (simp append_assoc) in
       let tree : SpellsTree (string_of text) (leaf text) = (text_test text is, refl) in
-      subst (λ z. Took (put (leaf text) opens) z) (sym parts)
+      subst (λ z. Took (put_tree (leaf text) opens) z) (sym parts)
       (put_took opens (leaf text) h.0 (string_of text) h.1 tree))
   texting_took Backslash b text opens x e h = (h.0, h.1, rw (is_backslash_kind b e, h.2) (simp append_assoc))
   texting_took White b text opens x e h =
@@ -210,7 +211,7 @@ Fits (escaping text opens) = length text ≤ the_limits.text
 Fits (whole t) = IsWithinLimits t
 Fits _ = Unit {0}
 
-put_fits : (t : WideTree) (opens : List Open) → IsWithinLimits t → Fits (put t opens)
+put_fits : (t : WideTree) (opens : List Open) → IsWithinLimits t → Fits (put_tree t opens)
 put_fits t [] h = h
 put_fits t (o ∷ opens) h = tt
 
@@ -221,7 +222,7 @@ only_fits false s h = tt
 close_fits : (opens : List Open) → Fits (closed (within the_limits) opens)
 close_fits [] = tt
 close_fits (o ∷ opens) =
-    only_fits (keeps the_limits (node_of o)) (put (node_of o) opens)
+    only_fits (may_keep the_limits (node_of o)) (put_tree (node_of o) opens)
     (λ kept. put_fits (node_of o) opens (within_below (node_of o) (below_kept the_limits (node_of o) kept)))
 
 between_fits : (k : Kind) (opens : List Open) → Fits (step_between (within the_limits) opens k)
@@ -242,7 +243,7 @@ naming_fits : (k : Kind) (label : List ℕ) (opens : List Open) (b : ℕ)
     → Fits (step_naming (within the_limits) label opens k b)
 unfolding step_naming
 naming_fits Letter label opens b = only_fits (ltb (length label) 64) (naming (label ++ b ∷ []) opens) (λ lt. tt)
-naming_fits k label opens b = between_fits k (named label opens)
+naming_fits k label opens b = between_fits k (with_bracket label opens)
 
 lengthened_fits : (text : List ℕ) (opens : List Open) (b : ℕ) → Fits (lengthened (within the_limits) text opens b)
 lengthened_fits text opens b =
@@ -261,7 +262,7 @@ texting_fits : (k : Kind) (text : List ℕ) (opens : List Open) (b : ℕ) → le
     → Fits (step_texting (within the_limits) text opens k b)
 unfolding step_texting
 texting_fits Quote text opens b h =
-    only_fits (is_text text) (put (leaf text) opens) (λ is. put_fits (leaf text) opens (leaf_within text h))
+    only_fits (is_text text) (put_tree (leaf text) opens) (λ is. put_fits (leaf text) opens (leaf_within text h))
 texting_fits Backslash text opens b h = h
 texting_fits _ text opens b h = lengthened_fits text opens b
 

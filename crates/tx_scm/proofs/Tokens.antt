@@ -17,8 +17,10 @@ use Rattle.tx_scm.specs.declared.kinds.Kind.TheVariants.{White, Opens, Closes, Q
 use Rattle.tx_scm.specs.Kinds.{kind_of}
 use Rattle.tx_scm.specs.Spelling.{is_white}
 use Rattle.tx_scm.specs.Recognising.{behind_white}
-use Rattle.tx_scm.specs.Machine.{Open, State, Bounds, between, opened, naming, texting, escaping, whole, failed, put}
-use Rattle.tx_scm.specs.Machine.{the_limits, within, wide, has_room, only_if, named, lengthened, step_between}
+use Rattle.tx_scm.specs.Machine.{Open, State, Bounds, between, opened, naming, texting, escaping, whole, failed}
+use Rattle.tx_scm.specs.Machine.{put_tree}
+use Rattle.tx_scm.specs.Machine.{the_limits, within, wide, has_tree_room, only_if, with_bracket, lengthened}
+use Rattle.tx_scm.specs.Machine.{step_between}
 use Rattle.tx_scm.specs.Machine.{step_opened}
 use Rattle.tx_scm.specs.Machine.{step_naming, step_texting, step_escaping, step_whole, step, run, tree_in, completes}
 use Rattle.tx_scm.specs.Machine.{reads, leads}
@@ -186,7 +188,7 @@ module _ (bytes : List ℕ) (opens : List Open) (at from count : ℕ) (lt : at <
       ∙ opened_white bounds opens (drop (at + 1) bytes)
       ∙ ap (run bounds (opened opens)) (sym rest)
 
-  module _ (room : has_room the_limits opens ≡ true) where
+  module _ (room : has_tree_room the_limits opens ≡ true) where
     none_here : completes (within the_limits) (opened opens) (drop from bytes) ≡ None
         → reads (between opens) (drop at bytes) ≡ None
     unfolding reads
@@ -220,7 +222,7 @@ module _ (bytes : List ℕ) (opens : List Open) (at from count : ℕ) (lt : at <
 
     named_here : (bounds : Bounds) → bounds.room opens ≡ true → IsLabel letters → NoLetter (drop (from + count) bytes)
         → run bounds (between opens) (drop at bytes)
-        ≡ run bounds (between (named letters opens)) (drop (from + count) bytes)
+        ≡ run bounds (between (with_bracket letters opens)) (drop (from + count) bytes)
     named_here bounds room label other =
         opened_here bounds room ∙ ap (run bounds (opened opens)) split
         ∙ label_run bounds letters (drop (from + count) bytes) opens label other
@@ -230,7 +232,7 @@ module _ (bytes : List ℕ) (opens : List Open) (at from count : ℕ) (lt : at <
         record { each = each h; some = omega (arith, size le, some); short = omega (arith, size le, short) }
 
     pub opens_bracket : at < from → from + count < length bytes → IsLabel letters → StopsThere
-        → GoesTo bytes (between opens) at (between (named letters opens)) (from + count)
+        → GoesTo bytes (between opens) at (between (with_bracket letters opens)) (from + count)
     unfolding reads leads
     opens_bracket from_at there label stop =
         let behind : 0 < length (drop (from + count) bytes) =
@@ -248,26 +250,26 @@ module _ (bytes : List ℕ) (opens : List Open) (at from count : ℕ) (lt : at <
         }
 
 module _ (bytes : List ℕ) (opens : List Open) (at : ℕ) (lt : at < length bytes) (is : get_or bytes at 0 ≡ 40) where
-  refused : has_room the_limits opens ≡ false → step (within the_limits) (between opens) (kind_of 40) 40 ≡ failed
+  refused : has_tree_room the_limits opens ≡ false → step (within the_limits) (between opens) (kind_of 40) 40 ≡ failed
   unfolding step_between
   refused h = ap (λ k. step_between (within the_limits) opens k) opens_kind ∙ ap (λ c. only_if c (opened opens)) h
 
-  pub no_room : has_room the_limits opens ≡ false → reads (between opens) (drop at bytes) ≡ None
+  pub no_room : has_tree_room the_limits opens ≡ false → reads (between opens) (drop at bytes) ≡ None
   no_room h = step_fails bytes (between opens) at 40 lt is (sym (refused h))
 
 -- ---- a string
 
 module _ (bytes : List ℕ) (opens : List Open) (at : ℕ) (lt : at < length bytes) (is : get_or bytes at 0 ≡ 34) where
   quote : step (within the_limits) (between opens) (kind_of 34) 34
-      ≡ only_if (has_room the_limits opens) (texting [] opens)
+      ≡ only_if (has_tree_room the_limits opens) (texting [] opens)
   unfolding step_between
   quote = ap (λ k. step_between (within the_limits) opens k) quote_kind
 
-  pub no_room_for_text : has_room the_limits opens ≡ false → reads (between opens) (drop at bytes) ≡ None
+  pub no_room_for_text : has_tree_room the_limits opens ≡ false → reads (between opens) (drop at bytes) ≡ None
   no_room_for_text h =
       step_fails bytes (between opens) at 34 lt is (sym (quote ∙ ap (λ c. only_if c (texting [] opens)) h))
 
-  pub opens_string : has_room the_limits opens ≡ true → GoesTo bytes (between opens) at (texting [] opens) (at + 1)
+  pub opens_string : has_tree_room the_limits opens ≡ true → GoesTo bytes (between opens) at (texting [] opens) (at + 1)
   opens_string h =
       byte_goes bytes (between opens) at 34 lt is (texting [] opens) (λ e. cc)
       (sym (quote ∙ ap (λ c. only_if c (texting [] opens)) h))
@@ -331,25 +333,26 @@ module _ (bytes text : List ℕ) (opens : List Open) (at : ℕ) (lt : at < lengt
 
 -- the quote behind a text
 
-put_stands : (t : WideTree) (opens : List Open) → put t opens ≡ failed → ⊥
+put_stands : (t : WideTree) (opens : List Open) → put_tree t opens ≡ failed → ⊥
 put_stands t [] e = cc
 put_stands t (o ∷ opens) e = cc
 
 module _ (bytes text : List ℕ) (opens : List Open) (at : ℕ) (lt : at < length bytes) (is : get_or bytes at 0 ≡ 34) where
   ending :
-      step (within the_limits) (texting text opens) (kind_of 34) 34 ≡ only_if (is_text text) (put (leaf text) opens)
+      step (within the_limits) (texting text opens) (kind_of 34) 34
+      ≡ only_if (is_text text) (put_tree (leaf text) opens)
   unfolding step_texting
   ending = ap (λ k. step_texting (within the_limits) text opens k 34) quote_kind
 
   pub no_text : (IsText text → ⊥) → reads (texting text opens) (drop at bytes) ≡ None
   no_text h =
       step_fails bytes (texting text opens) at 34 lt is
-      (sym (ending ∙ ap (λ c. only_if c (put (leaf text) opens)) (text_is_none text h)))
+      (sym (ending ∙ ap (λ c. only_if c (put_tree (leaf text) opens)) (text_is_none text h)))
 
-  pub text_ends : IsText text → GoesTo bytes (texting text opens) at (put (leaf text) opens) (at + 1)
+  pub text_ends : IsText text → GoesTo bytes (texting text opens) at (put_tree (leaf text) opens) (at + 1)
   text_ends h =
-      byte_goes bytes (texting text opens) at 34 lt is (put (leaf text) opens) (put_stands (leaf text) opens)
-      (sym (ending ∙ ap (λ c. only_if c (put (leaf text) opens)) (text_is text h)))
+      byte_goes bytes (texting text opens) at 34 lt is (put_tree (leaf text) opens) (put_stands (leaf text) opens)
+      (sym (ending ∙ ap (λ c. only_if c (put_tree (leaf text) opens)) (text_is text h)))
 
 -- ---- tokens of one byte
 

@@ -16,7 +16,8 @@ use Rattle.tx_scm.specs.Kinds.{kind_of}
 use Rattle.tx_scm.specs.Spelling.{escaped, SpellsTrees, Spells}
 use Rattle.tx_scm.specs.Faults.{AreOpen, IsLabelOpen, IsStringOpen, IsEscapeOpen}
 use Rattle.tx_scm.specs.Machine.{Open, State, Bounds, Limits, between, opened, naming, texting, escaping, whole, failed}
-use Rattle.tx_scm.specs.Machine.{put, only_if, within, wide, node_of, closed, named, lengthened, step_between}
+use Rattle.tx_scm.specs.Machine.{put_tree, only_if, within, wide, node_of, closed, with_bracket, lengthened}
+use Rattle.tx_scm.specs.Machine.{step_between}
 use Rattle.tx_scm.specs.Machine.{step_opened, step_naming, step_texting, step_escaping, step, run}
 use Rattle.tx_scm.proofs.ByteKinds.{letter_kind, backslash_kind, escaped_as}
 use Rattle.tx_scm.proofs.Bounded.{AreBelow}
@@ -42,7 +43,7 @@ run-append bounds (b ∷ x) y s = run-append bounds x y (step bounds s (kind_of 
 module _ (bounds : Bounds) where
   closed_agrees : (opens : List Open) → (closed bounds opens ≡ failed) ⊎ (closed bounds opens ≡ closed wide opens)
   closed_agrees [] = inr refl
-  closed_agrees (o ∷ opens) = only_agrees (bounds.keeps (node_of o)) (put (node_of o) opens)
+  closed_agrees (o ∷ opens) = only_agrees (bounds.keeps (node_of o)) (put_tree (node_of o) opens)
 
   between_agrees : (k : Kind) (opens : List Open) → (step_between bounds opens k ≡ failed)
       ⊎ (step_between bounds opens k ≡ step_between wide opens k)
@@ -57,7 +58,7 @@ module _ (bounds : Bounds) where
       ⊎ (step_naming bounds label opens k b ≡ step_naming wide label opens k b)
   unfolding step_naming
   naming_agrees Letter b label opens = inr refl
-  naming_agrees k b label opens = between_agrees k (named label opens)
+  naming_agrees k b label opens = between_agrees k (with_bracket label opens)
 
   lengthened_agrees : (text : List ℕ) (opens : List Open) (b : ℕ) → (lengthened bounds text opens b ≡ failed)
       ⊎ (lengthened bounds text opens b ≡ lengthened wide text opens b)
@@ -117,7 +118,7 @@ wide_whole x t h =
 
 -- the children of a bracket
 wide_trees : (ts : Forest) (x y label : List ℕ) (opens : List Open) → SpellsTrees x ts
-    → run wide (between (named label opens)) (x ++ y) ≡ run wide (between (open_of label (trees ts) ∷ opens)) y
+    → run wide (between (with_bracket label opens)) (x ++ y) ≡ run wide (between (open_of label (trees ts) ∷ opens)) y
 wide_trees ts x y label opens h =
     let limits : Limits =
     record {
@@ -128,13 +129,13 @@ wide_trees ts x y label opens h =
     } in
     let below : AreBelow limits ts =
     record { text = omega arith; arity = omega arith; depth = omega arith; size = omega arith } in
-    let come : run (within limits) (between (named label opens)) (x ++ []) ≡ between
+    let come : run (within limits) (between (with_bracket label opens)) (x ++ []) ≡ between
     (open_of label (trees ts) ∷ opens) =
     complete_trees limits ts x [] label [] opens (omega arith) below (omega arith) h in
-    let all : run wide (between (named label opens)) x ≡ between (open_of label (trees ts) ∷ opens) =
-    comes_too (within limits) x (between (named label opens)) _ (λ e. cc)
-    (ap (λ z. run (within limits) (between (named label opens)) z) (sym (append-nil x)) ∙ come) in
-    run-append wide x y (between (named label opens)) ∙ ap (λ s. run wide s y) all
+    let all : run wide (between (with_bracket label opens)) x ≡ between (open_of label (trees ts) ∷ opens) =
+    comes_too (within limits) x (between (with_bracket label opens)) _ (λ e. cc)
+    (ap (λ z. run (within limits) (between (with_bracket label opens)) z) (sym (append-nil x)) ∙ come) in
+    run-append wide x y (between (with_bracket label opens)) ∙ ap (λ s. run wide s y) all
 
 -- ---- open brackets
 

@@ -43,16 +43,16 @@ abbrev pub has_place : Limits → List Open → Bool
 has_place limits [] = true
 has_place limits (o ∷ opens) = nat_lt (length o.children) limits.arity
 
-abbrev pub has_room : Limits → List Open → Bool
-has_room limits opens = nat_lt (length opens) limits.depth && has_place limits opens
+abbrev pub has_tree_room : Limits → List Open → Bool
+has_tree_room limits opens = nat_lt (length opens) limits.depth && has_place limits opens
 
-unfoldable pub keeps : Limits → WideTree → Bool
-keeps limits t = nat_le (text_length_of t) limits.text
+unfoldable pub may_keep : Limits → WideTree → Bool
+may_keep limits t = nat_le (text_length_of t) limits.text
     && (nat_le (arity_of t) limits.arity && (nat_le (depth_of t) limits.depth && nat_le (size_of t) limits.size))
 
 abbrev pub within : Limits → Bounds
 within limits =
-    record { room = has_room limits; longer = λ text. nat_lt (length text) limits.text; keeps = keeps limits }
+    record { room = has_tree_room limits; longer = λ text. nat_lt (length text) limits.text; keeps = may_keep limits }
 
 -- everything is let in
 abbrev pub wide : Bounds
@@ -63,16 +63,16 @@ only_if true s = s
 only_if false s = failed
 
 -- a tree more
-abbrev pub put : WideTree → List Open → State
-put t [] = whole t
-put t (o ∷ opens) = between (record { label = o.label; children = o.children ++ t ∷ [] } ∷ opens)
+abbrev pub put_tree : WideTree → List Open → State
+put_tree t [] = whole t
+put_tree t (o ∷ opens) = between (record { label = o.label; children = o.children ++ t ∷ [] } ∷ opens)
 
 abbrev pub node_of : Open → WideTree
 node_of o = node o.label (forest o.children)
 
 abbrev pub closed : Bounds → List Open → State
 closed bounds [] = failed
-closed bounds (o ∷ opens) = only_if (bounds.keeps (node_of o)) (put (node_of o) opens)
+closed bounds (o ∷ opens) = only_if (bounds.keeps (node_of o)) (put_tree (node_of o) opens)
 
 unfoldable pub step_between : Bounds → List Open → Kind → State
 step_between bounds opens White = between opens
@@ -86,12 +86,12 @@ step_opened opens White b = opened opens
 step_opened opens Letter b = naming (b ∷ []) opens
 step_opened opens _ b = failed
 
-abbrev pub named : List ℕ → List Open → List Open
-named label opens = record { label = label; children = [] } ∷ opens
+abbrev pub with_bracket : List ℕ → List Open → List Open
+with_bracket label opens = record { label = label; children = [] } ∷ opens
 
 unfoldable pub step_naming : Bounds → List ℕ → List Open → Kind → ℕ → State
 step_naming bounds label opens Letter b = only_if (nat_lt (length label) MOST_LABEL) (naming (label ++ b ∷ []) opens)
-step_naming bounds label opens kind b = step_between bounds (named label opens) kind
+step_naming bounds label opens kind b = step_between bounds (with_bracket label opens) kind
 
 -- a byte more in a string
 abbrev pub lengthened : Bounds → List ℕ → List Open → ℕ → State
@@ -99,7 +99,7 @@ lengthened bounds text opens b =
     only_if (bounds.longer text && begins_text (text ++ b ∷ [])) (texting (text ++ b ∷ []) opens)
 
 unfoldable pub step_texting : Bounds → List ℕ → List Open → Kind → ℕ → State
-step_texting bounds text opens Quote b = only_if (is_text text) (put (leaf text) opens)
+step_texting bounds text opens Quote b = only_if (is_text text) (put_tree (leaf text) opens)
 step_texting bounds text opens Backslash b = escaping text opens
 step_texting bounds text opens _ b = lengthened bounds text opens b
 

@@ -24,8 +24,8 @@ counted [] = []
 counted (n ∷ counts) = (n + 1) ∷ counts
 
 -- a tree begins
-abbrev pub begun : Gauge → Part → List ℕ → Gauge
-begun g part counts =
+abbrev pub gauge_begun : Gauge → Part → List ℕ → Gauge
+gauge_begun g part counts =
     record {
       part = part;
       counts = counts;
@@ -36,9 +36,9 @@ begun g part counts =
     }
 
 -- the innermost bracket closes
-abbrev pub closed : Gauge → List ℕ → Gauge
-closed g [] = g
-closed g (n ∷ counts) =
+abbrev pub gauge_closed : Gauge → List ℕ → Gauge
+gauge_closed g [] = g
+gauge_closed g (n ∷ counts) =
     record {
       part = g.part;
       counts = counted counts;
@@ -49,14 +49,14 @@ closed g (n ∷ counts) =
     }
 
 unfoldable pub outside_step : Gauge → Kind → Gauge
-outside_step g Opens = begun g g.part (0 ∷ g.counts)
-outside_step g Quote = begun g (Inside 0) g.counts
-outside_step g Closes = closed g g.counts
+outside_step g Opens = gauge_begun g g.part (0 ∷ g.counts)
+outside_step g Quote = gauge_begun g (Inside 0) g.counts
+outside_step g Closes = gauge_closed g g.counts
 outside_step g _ = g
 
 -- a byte more of a text of so many
-abbrev pub longer : Gauge → ℕ → Gauge
-longer g n =
+abbrev pub gauge_longer : Gauge → ℕ → Gauge
+gauge_longer g n =
     record {
       part = Inside (n + 1);
       counts = g.counts;
@@ -78,12 +78,12 @@ inside_step g n Quote =
     }
 inside_step g n Backslash =
     record { part = Escaped n; counts = g.counts; text = g.text; arity = g.arity; depth = g.depth; size = g.size }
-inside_step g n _ = longer g n
+inside_step g n _ = gauge_longer g n
 
 abbrev pub step_in : Part → Gauge → Kind → Gauge
 step_in Outside g kind = outside_step g kind
 step_in (Inside n) g kind = inside_step g n kind
-step_in (Escaped n) g kind = longer g n
+step_in (Escaped n) g kind = gauge_longer g n
 
 abbrev pub step : Gauge → Kind → Gauge
 step g kind = step_in g.part g kind
@@ -93,8 +93,8 @@ abbrev pub measured : Gauge → List ℕ → Gauge
 measured g [] = g
 measured g (b ∷ bytes) = measured (step g (kind_of b)) bytes
 
-abbrev pub nothing : Gauge
-nothing = record { part = Outside; counts = []; text = 0; arity = 0; depth = 0; size = 0 }
+abbrev pub empty_gauge : Gauge
+empty_gauge = record { part = Outside; counts = []; text = 0; arity = 0; depth = 0; size = 0 }
 
 -- the numbers are those of the tree
 pub record Measures (g : Gauge) (t : WideTree) : Type 0 where
@@ -105,15 +105,15 @@ pub record Measures (g : Gauge) (t : WideTree) : Type 0 where
 
 -- ---- numbers that can be counted on
 
-abbrev pub AreSmall : ℕ → List ℕ → Type 0
-AreSmall bound counts = AllByRecursion (λ n. n < bound) counts
+abbrev pub AreCountsBelow : ℕ → List ℕ → Type 0
+AreCountsBelow bound counts = AllByRecursion (λ n. n < bound) counts
 
-abbrev pub IsShort : ℕ → Part → Type 0
-IsShort bound Outside = Unit {0}
-IsShort bound (Inside n) = n < bound
-IsShort bound (Escaped n) = n < bound
+abbrev pub IsShortPart : ℕ → Part → Type 0
+IsShortPart bound Outside = Unit {0}
+IsShortPart bound (Inside n) = n < bound
+IsShortPart bound (Escaped n) = n < bound
 
-pub record IsSmall (bound : ℕ) (g : Gauge) : Type 0 where
-  pub part : IsShort bound g.part
-  pub counts : AreSmall bound g.counts
+pub record IsSmallGauge (bound : ℕ) (g : Gauge) : Type 0 where
+  pub part : IsShortPart bound g.part
+  pub counts : AreCountsBelow bound g.counts
   pub size : g.size < bound

@@ -6,18 +6,18 @@ use Rattle.tx_scm.specs.declared.kinds.Kind.TheVariants.{Opens, Quote, Backslash
 use Rattle.tx_scm.specs.Machine.{Open, State, between, opened, naming, texting, escaping, whole, failed}
 
 -- the size of all open brackets
-abbrev pub size_in : List Open → ℕ
-size_in [] = 0
-size_in (o ∷ opens) = 1 + total_size (forest o.children) + size_in opens
+abbrev pub opens_size : List Open → ℕ
+opens_size [] = 0
+opens_size (o ∷ opens) = 1 + total_size (forest o.children) + opens_size opens
 
 -- so large is what was begun
 abbrev pub IsSized : ℕ → State → Type 0
 IsSized n failed = Unit {0}
-IsSized n (between opens) = n ≡ size_in opens
-IsSized n (opened opens) = n ≡ 1 + size_in opens
-IsSized n (naming label opens) = n ≡ 1 + size_in opens
-IsSized n (texting text opens) = n ≡ 1 + length text + size_in opens
-IsSized n (escaping text opens) = n ≡ 1 + length text + size_in opens
+IsSized n (between opens) = n ≡ opens_size opens
+IsSized n (opened opens) = n ≡ 1 + opens_size opens
+IsSized n (naming label opens) = n ≡ 1 + opens_size opens
+IsSized n (texting text opens) = n ≡ 1 + length text + opens_size opens
+IsSized n (escaping text opens) = n ≡ 1 + length text + opens_size opens
 IsSized n (whole t) = n ≡ size_of t
 
 -- a bracket and a string begin with size 1

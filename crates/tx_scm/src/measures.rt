@@ -4,7 +4,8 @@ ghost use Rattle.tx_tree.specs.Limits.{IsWithinLimits};
 ghost use Rattle.tx_tree.specs.ReadFaults.{IsPassed};
 ghost use Rattle.tx_tree.specs.WideTree.{WideTree};
 ghost use Rattle.tx_scm.specs.Spelling.{Spells};
-ghost use Rattle.tx_scm.specs.Measuring.{AreSmall, IsSmall, Measures, counted, outside_step, longer, inside_step, step};
+ghost use Rattle.tx_scm.specs.Measuring.{AreCountsBelow, IsSmallGauge, Measures, counted, outside_step, gauge_longer};
+ghost use Rattle.tx_scm.specs.Measuring.{inside_step, step};
 ghost use Rattle.tx_scm.specs.Gauges.{counts_of, gauge_of};
 
 use crate::kinds::{Kind, kind_of};
@@ -41,7 +42,7 @@ pub(crate) struct Gauge {
 
 // A child more in the innermost bracket.
 fn counted(mut counts: Vec<usize>) -> Result<Vec<usize>, Memory>
-    requires { AreSmall (2 ^ 63) (counts_of counts.items) }
+    requires { AreCountsBelow (2 ^ 63) (counts_of counts.items) }
     ensures { IfOk result (λ next. counts_of next.items ≡ counted (counts_of counts.items)) }
 {
     if let Some(last) = counts.pop() {
@@ -52,7 +53,7 @@ fn counted(mut counts: Vec<usize>) -> Result<Vec<usize>, Memory>
 
 #[tactic(auto, unfolding(crate::specs::Measuring::outside_step))]
 fn outside_step(mut gauge: Gauge, kind: Kind) -> Result<Gauge, Memory>
-    requires { IsSmall (2 ^ 63) (gauge_of gauge) }
+    requires { IsSmallGauge (2 ^ 63) (gauge_of gauge) }
     ensures { IfOk result (λ next. gauge_of next ≡ outside_step (gauge_of gauge) kind) }
 {
     match kind {
@@ -81,10 +82,10 @@ fn outside_step(mut gauge: Gauge, kind: Kind) -> Result<Gauge, Memory>
 }
 
 // A byte more of a text of so many.
-fn longer(mut gauge: Gauge, length: usize) -> Gauge
+fn gauge_longer(mut gauge: Gauge, length: usize) -> Gauge
     requires size { (gauge_of gauge).size < 2 ^ 63 }
     requires text { length < 2 ^ 63 }
-    ensures { gauge_of result ≡ longer (gauge_of gauge) length }
+    ensures { gauge_of result ≡ gauge_longer (gauge_of gauge) length }
 {
     gauge.part = Part::Inside(length + 1);
     gauge.size += 1;
@@ -93,7 +94,7 @@ fn longer(mut gauge: Gauge, length: usize) -> Gauge
 
 #[tactic(auto, unfolding(crate::specs::Measuring::inside_step))]
 fn inside_step(mut gauge: Gauge, length: usize, kind: Kind) -> Result<Gauge, Memory>
-    requires small { IsSmall (2 ^ 63) (gauge_of gauge) }
+    requires small { IsSmallGauge (2 ^ 63) (gauge_of gauge) }
     requires text { length < 2 ^ 63 }
     ensures { IfOk result (λ next. gauge_of next ≡ inside_step (gauge_of gauge) length kind) }
 {
@@ -108,19 +109,19 @@ fn inside_step(mut gauge: Gauge, length: usize, kind: Kind) -> Result<Gauge, Mem
             gauge.part = Part::Escaped(length);
             Ok(gauge)
         }
-        _ => Ok(longer(gauge, length)),
+        _ => Ok(gauge_longer(gauge, length)),
     }
 }
 
 // Behind one byte more.
 fn step(gauge: Gauge, kind: Kind) -> Result<Gauge, Memory>
-    requires { IsSmall (2 ^ 63) (gauge_of gauge) }
+    requires { IsSmallGauge (2 ^ 63) (gauge_of gauge) }
     ensures { IfOk result (λ next. gauge_of next ≡ step (gauge_of gauge) kind) }
 {
     match gauge.part {
         Part::Outside => outside_step(gauge, kind),
         Part::Inside(length) => inside_step(gauge, length, kind),
-        Part::Escaped(length) => Ok(longer(gauge, length)),
+        Part::Escaped(length) => Ok(gauge_longer(gauge, length)),
     }
 }
 

@@ -9,8 +9,9 @@ ghost use Rattle.tx_scm.specs.declared.kinds.Kind.TheVariants.{Closes};
 ghost use Rattle.tx_scm.specs.Spelling.{Spells};
 ghost use Rattle.tx_scm.specs.Faults.{IsSchemeFault};
 ghost use Rattle.tx_scm.specs.Kinds.{kind_of};
-ghost use Rattle.tx_scm.specs.Machine.{within, the_limits, has_room, keeps, put, between, step_between, only_if};
-ghost use Rattle.tx_scm.specs.Machine.{reads, node_of, named};
+ghost use Rattle.tx_scm.specs.Machine.{within, the_limits, has_tree_room, may_keep, put_tree, between, step_between};
+ghost use Rattle.tx_scm.specs.Machine.{only_if};
+ghost use Rattle.tx_scm.specs.Machine.{reads, node_of, with_bracket};
 ghost use Rattle.tx_scm.specs.Sizes.{IsSized};
 ghost use Rattle.tx_scm.specs.States.{open_of, opens_of, state_of, made_in, CountsOn, Goes};
 
@@ -30,8 +31,8 @@ use tx_tree::{
 };
 
 // Whether one tree more may stand in the innermost bracket.
-fn has_room(brackets: &Vec<Bracket>) -> bool
-    ensures { result ≡ has_room the_limits (opens_of brackets.now.items) }
+fn has_tree_room(brackets: &Vec<Bracket>) -> bool
+    ensures { result ≡ has_tree_room the_limits (opens_of brackets.now.items) }
 {
     brackets.len() < MOST_DEPTH as usize
         && match brackets.last() {
@@ -58,7 +59,7 @@ fn node_of<L: Ledger>(
     steps: &mut Steps<L>,
 ) -> Result<Option<Tree>, Memory>
     ensures found { IfOk result (λ found.
-        found ≡ (if keeps the_limits (node_of (open_of bracket)) then Some (node_of (open_of bracket)) else None)) }
+        found ≡ (if may_keep the_limits (node_of (open_of bracket)) then Some (node_of (open_of bracket)) else None)) }
     ensures counted { steps.new ≡ steps.old + 1 }
 {
     let Bracket {
@@ -91,9 +92,9 @@ impl Reader {
     }
 
     // Adds a tree to the innermost bracket.
-    fn put(&mut self, tree: Tree) -> Result<(), Memory>
+    fn put_tree(&mut self, tree: Tree) -> Result<(), Memory>
         requires { self.now.whole ≡ None }
-        ensures next { IfOk result (λ _. state_of self.new ≡ put tree (opens_of self.old.brackets.items)) }
+        ensures next { IfOk result (λ _. state_of self.new ≡ put_tree tree (opens_of self.old.brackets.items)) }
         ensures size { self.new.size ≡ self.old.size }
     {
         match self.brackets.pop() {
@@ -111,7 +112,7 @@ impl Reader {
     fn begin(&mut self, label: Label) -> Result<(), Memory>
         requires { self.now.whole ≡ None }
         ensures next { IfOk result (λ _.
-            state_of self.new ≡ between (named label (opens_of self.old.brackets.items))) }
+            state_of self.new ≡ between (with_bracket label (opens_of self.old.brackets.items))) }
         ensures size { self.new.size ≡ self.old.size }
     {
         self.brackets.push(Bracket {
@@ -133,7 +134,7 @@ impl Reader {
         ensures sized { IfOk result (λ found. IfSome found (λ _.
             IsSized self.old.size (state_of self.old) → IsSized self.new.size (state_of self.new))) }
     {
-        if !has_room(&self.brackets) {
+        if !has_tree_room(&self.brackets) {
             return Ok(None);
         }
         let from = behind_white(bytes, at + 1);
@@ -171,14 +172,14 @@ impl Reader {
         ensures sized { IfOk result (λ found. IfSome found (λ _.
             IsSized self.old.size (state_of self.old) → IsSized self.new.size (state_of self.new))) }
     {
-        if !has_room(&self.brackets) {
+        if !has_tree_room(&self.brackets) {
             return Ok(None);
         }
         match string_text(self.alloc, bytes, at + 1)? {
             None => Ok(None),
             Some((text, end)) => {
                 self.size += 1 + text.bytes().len();
-                self.put(Tree::leaf(self.alloc, text)?)?;
+                self.put_tree(Tree::leaf(self.alloc, text)?)?;
                 Ok(Some(end))
             }
         }
@@ -202,7 +203,7 @@ impl Reader {
         match node_of(self.alloc, bracket, steps)? {
             None => Ok(false),
             Some(tree) => {
-                self.put(tree)?;
+                self.put_tree(tree)?;
                 Ok(true)
             }
         }

@@ -2,7 +2,7 @@
 ghost use Rattle.std.specs.Prelude.{◌≡◌, ◌≢◌, ◌<◌, ◌≤◌, ◌⊎◌, List, [], length, get_or, take, All, IfOk};
 ghost use Rattle.std.specs.Bool.{OnTrue, OnFalse};
 ghost use Rattle.tx_tree.specs.WideTree.{leaf};
-ghost use Rattle.tx_scm.specs.Machine.{Open, put, texting};
+ghost use Rattle.tx_scm.specs.Machine.{Open, put_tree, texting};
 ghost use Rattle.tx_scm.specs.Plain.{IsPlain};
 ghost use Rattle.tx_scm.specs.States.{Goes, GoesBehind};
 
@@ -92,7 +92,7 @@ pub(crate) fn string_text(
 ) -> Result<Option<(Text, usize)>, Memory>
     requires { at ≤ length bytes.now }
     ensures { (opens : List Open) → IfOk result
-        (GoesBehind bytes.now (texting [] opens) at (λ text. put (leaf text) opens)) }
+        (GoesBehind bytes.now (texting [] opens) at (λ text. put_tree (leaf text) opens)) }
 {
     let mut text = TextBuilder::new(alloc);
     let mut end = at;

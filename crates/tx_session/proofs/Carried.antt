@@ -6,7 +6,7 @@ use Rattle.std.specs.Option.{option_map_or}
 use Rattle.tx_tree.specs.WideTree.{WideTree}
 use Rattle.tx_mod.specs.declared.faults.ModFault.{ModFault}
 use Rattle.tx_mod.specs.declared.mods.Mod.{Mod}
-use Rattle.tx_mod.specs.Followed.{changed_by_all, tree_of as tree_made}
+use Rattle.tx_mod.specs.Followed.{changed_by_all, outcome_tree as tree_made}
 use Rattle.tx_mod.specs.InTurn.{changed_in_turn, cost_of, inverses_of}
 use Rattle.tx_mod.proofs.InTurn.{same_in_turn}
 use Rattle.tx_doc.specs.Buffers.{tree_of, with_tree}

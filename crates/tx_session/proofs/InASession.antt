@@ -18,9 +18,9 @@ use Rattle.tx_mod.specs.declared.mods.Mod.{Mod}
 use Rattle.tx_mod.specs.declared.mods.Mod.TheVariants.{Assign, Insert, Remove, Split, Join, AssignNode, InsertNode}
 use Rattle.tx_mod.specs.declared.mods.Mod.TheVariants.{RemoveNode}
 use Rattle.tx_mod.specs.Changes.{Outcome}
-use Rattle.tx_mod.specs.InTurn.{changed_in_turn, AreSound}
+use Rattle.tx_mod.specs.InTurn.{changed_in_turn, AreSoundMods}
 use Rattle.tx_mod.specs.Moves.{place}
-use Rattle.tx_mod.specs.Sound.{IsSound}
+use Rattle.tx_mod.specs.Sound.{IsSoundMod}
 use Rattle.tx_mod.proofs.InTurn.{can_be_undone}
 use Rattle.tx_doc.specs.declared.buffer.Buffer.{Buffer}
 use Rattle.tx_doc.specs.declared.forms.Form.{Form}
@@ -113,7 +113,7 @@ first_kept (suc n) (e ∷ es) h = (h.0, first_kept n es h.1)
 -- ---- commands
 
 -- the parts that a line puts in are well formed
-sound_change : (text : List ℕ) (m : Mod) → IsCommand text (Change m) → IsSound m
+sound_change : (text : List ℕ) (m : Mod) → IsCommand text (Change m) → IsSoundMod m
 sound_change text (Assign p t) h = well_formed h.1.1.3.0 t h.1.1.3.2.0
 sound_change text (Insert p i t) h = well_formed h.1.1.3.3.0 t h.1.1.3.3.2.0
 sound_change text (Remove p i n) h = tt
@@ -123,7 +123,7 @@ sound_change text (AssignNode p l) h = h.1.1.3.2.0
 sound_change text (InsertNode p i t) h = well_formed h.1.1.3.3.0 t h.1.1.3.3.2.0
 sound_change text (RemoveNode p i) h = tt
 
-edit_formed : (edit : Edit) (s next : State) (reply : List ℕ) (o : Outcome) → AreSound edit.mods → IsFormed s
+edit_formed : (edit : Edit) (s next : State) (reply : List ℕ) (o : Outcome) → AreSoundMods edit.mods → IsFormed s
     → changed_in_turn edit.mods (tree_of s.buffers edit.buffer) ≡ o
     → IsEditAnswer s (with_outcome edit s o) next reply → IsFormed next
 edit_formed edit s next reply (Err cause) h f e a = subst IsFormed (sym a.0) f

@@ -7,7 +7,7 @@ use Rattle.tx_tree.specs.Texts.{IsText}
 use Rattle.tx_tree.specs.WideTree.{WideTree, leaf}
 use Rattle.tx_tree.specs.declared.places.Place.{Place}
 use Rattle.tx_scm.proofs.Spelled.{well_formed}
-use Rattle.tx_mod.specs.InTurn.{AreSound}
+use Rattle.tx_mod.specs.InTurn.{AreSoundMods}
 use Rattle.tx_mod.proofs.Cases.{by_test}
 use Rattle.tx_edit.specs.declared.faults.EditFault.{EditFault}
 use Rattle.tx_edit.specs.declared.faults.EditFault.TheVariants.{NoText, AtStart, AtEnd, NotInParagraph}
@@ -24,7 +24,7 @@ use Rattle.tx_cmd.specs.Commands.{IsCommand}
 
 -- the modifications of a key are sound
 abbrev pub IsSoundKey : Result Move EditFault → Type 0
-IsSoundKey (Ok (KeyEdit mods to)) = AreSound mods
+IsSoundKey (Ok (KeyEdit mods to)) = AreSoundMods mods
 IsSoundKey (Ok (MoveTo to)) = Unit {0}
 IsSoundKey (Err fault) = Unit {0}
 

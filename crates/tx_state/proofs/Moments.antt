@@ -8,7 +8,7 @@ use Rattle.std.proofs.lemmas.Grind.{common_steps}
 use Rattle.tx_tree.specs.WideTree.{WideTree}
 use Rattle.tx_tree.specs.declared.places.Place.{Place}
 use Rattle.tx_mod.specs.declared.mods.Mod.{Mod}
-use Rattle.tx_mod.specs.Followed.{tree_of as made_of}
+use Rattle.tx_mod.specs.Followed.{outcome_tree as made_of}
 use Rattle.tx_mod.specs.InTurn.{changed_in_turn}
 use Rattle.tx_history.specs.Lists.{newest}
 use Rattle.tx_state.specs.declared.edits.Entry.{Entry}

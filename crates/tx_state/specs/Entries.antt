@@ -3,7 +3,7 @@ use Rattle.std.specs.Prelude.{◌≡◌, ◌<◌, List, [], ◌∷◌, length, u
 use Rattle.tx_tree.specs.WideTree.{WideTree}
 use Rattle.tx_tree.specs.Places.{IsPlace}
 use Rattle.tx_mod.specs.declared.mods.Mod.{Mod}
-use Rattle.tx_mod.specs.Followed.{tree_of as made_of}
+use Rattle.tx_mod.specs.Followed.{outcome_tree as made_of}
 use Rattle.tx_mod.specs.InTurn.{changed_in_turn, inverses_of}
 use Rattle.tx_doc.specs.Buffers.{tree_of, with_tree, document_of}
 use Rattle.tx_doc.specs.declared.buffer.Buffer.{Buffer}

@@ -6,7 +6,7 @@ ghost use Rattle.tx_mod.specs.InTurn.{changed_in_turn, inverses_of, moved_in_tur
 ghost use Rattle.tx_mod.specs.Inverses.{inverse_of};
 ghost use Rattle.tx_mod.specs.Mods.{path_of};
 ghost use Rattle.tx_mod.specs.Moves.{moved_place};
-ghost use Rattle.tx_mod.specs.Sound.{IsSound};
+ghost use Rattle.tx_mod.specs.Sound.{IsSoundMod};
 ghost use Rattle.tx_state.specs.Changing.{IsPlaceIn};
 ghost use Rattle.tx_state.specs.Ready.{cost_both_ways};
 
@@ -55,7 +55,7 @@ fn change_once<L: Ledger>(
     ensures place { OnOk result (now.new.place ≡ option_map (moved_place m.now now.old.tree) now.old.place) }
     ensures valid { OnOk result (IsPlaceIn now.new.tree now.new.place) }
     ensures refused { IfErr result (IsRefusal (changed m.now now.old.tree)) }
-    ensures sound { IsSound m.now }
+    ensures sound { IsSoundMod m.now }
     ensures counted { steps.new ≤ steps.old + (length (path_of m.now) + 4) }
 {
     sound(m);

@@ -11,13 +11,13 @@ use Rattle.tx_tree.proofs.Cutting.{cut_within}
 use Rattle.tx_tree.proofs.PlaceFaults.{items_append}
 use Rattle.tx_text.specs.Tables.{byte_code}
 use Rattle.tx_text.specs.Displays.{item_text, display_text}
-use Rattle.tx_text.specs.Clusters.{items_of, item_at}
+use Rattle.tx_text.specs.Clusters.{items_of, item_beginning_at}
 use Rattle.tx_text.proofs.Reading.{items_again}
 
 -- an item stands at a place, and behind it is a cut
 pub record Stands (bytes : List ℕ) (at : ℕ) (item : Item) : Type 0 where
   pub is_item : IsItem item
-  pub alone : item_at bytes at ≡ item ∷ []
+  pub alone : item_beginning_at bytes at ≡ item ∷ []
   pub goes_on : items_of (drop at bytes) ≡ item ∷ items_of (drop (at + length (item_bytes item)) bytes)
   pub next : IsCut bytes (at + length (item_bytes item))
   pub spelled : drop at bytes ≡ item_bytes item ++ drop (at + length (item_bytes item)) bytes
@@ -118,11 +118,11 @@ symbol_stands bytes at name h lt opened e = let found = stands bytes at h lt in 
 
 -- what `show_item` says of an item that stands at a place
 pub text_there : (text : List ℕ) (at : ℕ) (item : Item) → Stands text at item
-    → display_text (item_at text at) ≡ item_text item
+    → display_text (item_beginning_at text at) ≡ item_text item
 text_there text at item s = ap display_text s.alone ∙ append-nil (item_text item)
 
 pub long_there : (text : List ℕ) (at : ℕ) (item : Item) → Stands text at item
-    → length (flat_map item_bytes (item_at text at)) ≡ length (item_bytes item)
+    → length (flat_map item_bytes (item_beginning_at text at)) ≡ length (item_bytes item)
 long_there text at item s = ap (λ l. length (flat_map item_bytes l)) s.alone ∙ ap length (append-nil (item_bytes item))
 
 pub cut_behind : (text : List ℕ) (at n : ℕ) (item : Item) → Stands text at item → n ≡ at + length (item_bytes item)
@@ -130,10 +130,10 @@ pub cut_behind : (text : List ℕ) (at n : ℕ) (item : Item) → Stands text at
 cut_behind text at n item s e = subst (IsCut text) (sym e) s.next
 
 pub items_behind_it : (text : List ℕ) (at n : ℕ) (item : Item) → Stands text at item → n ≡ at + length (item_bytes item)
-    → items_of (drop at text) ≡ item_at text at ++ items_of (drop n text)
+    → items_of (drop at text) ≡ item_beginning_at text at ++ items_of (drop n text)
 items_behind_it text at n item s e =
     s.goes_on ∙ ap (λ l. l ++ items_of (drop (at + length (item_bytes item)) text)) (sym s.alone)
-    ∙ ap (λ k. item_at text at ++ items_of (drop k text)) (sym e)
+    ∙ ap (λ k. item_beginning_at text at ++ items_of (drop k text)) (sym e)
 
 inside : (text bytes : List ℕ) (at : ℕ) → bytes ≡ text → IsCut text at → (at ≡ length bytes → ⊥) → at < length text
 inside text bytes at same h other =
@@ -157,6 +157,6 @@ byte_here text bytes at same h other unopened =
     (byte_stands text at h (inside text bytes at same h other) (λ k. unopened (ap (λ l. get_or l at 0) same ∙ k)))
 
 pub byte_shows : (text : List ℕ) (at b code : ℕ) → Stands text at (byte b) → code ≡ byte_code b
-    → encode_utf8 code ≡ display_text (item_at text at)
+    → encode_utf8 code ≡ display_text (item_beginning_at text at)
 byte_shows text at b code s e =
     ap encode_utf8 e ∙ sym (append-nil (encode_utf8 (byte_code b))) ∙ sym (text_there text at (byte b) s)

@@ -64,5 +64,5 @@ abbrev pub clusters_of : List Item → List Cluster
 clusters_of items = map (cluster_of items) (with_offsets 0 (graphemes true (display_text items)))
 
 -- the item that begins at a cut of a text, alone, or none at the end of the text
-abbrev pub item_at : List ℕ → ℕ → List Item
-item_at bytes at = take 1 (items_of (drop at bytes))
+abbrev pub item_beginning_at : List ℕ → ℕ → List Item
+item_beginning_at bytes at = take 1 (items_of (drop at bytes))

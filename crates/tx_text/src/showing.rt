@@ -3,7 +3,7 @@ ghost use Rattle.std.specs.Prelude.{◌≡◌, ◌≤◌, ◌<◌, ◌+◌, ◌=
 ghost use Rattle.std.specs.List.{flat_map, take_while};
 ghost use Rattle.tx_tree.specs.Texts.{IsCut, IsName, item_bytes, symbol as Symbol};
 ghost use Rattle.tx_text.specs.Displays.{item_text, display_text};
-ghost use Rattle.tx_text.specs.Clusters.{item_at, items_of};
+ghost use Rattle.tx_text.specs.Clusters.{item_beginning_at, items_of};
 
 use crate::displays::symbol_char;
 use crate::tables::byte_char;
@@ -66,14 +66,15 @@ pub fn show_item(text: &Text, at: usize, into: &mut [u8]) -> Option<(usize, usiz
     ensures at_end { (result ≡ None) ↔ (at ≡ length text.now) }
     ensures untouched { result ≡ None → into.new ≡ into.old }
     ensures shown { IfSome result (λ (count, next). into.new
-        ≡ display_text (item_at text.now at) ++ drop count into.old) }
-    ensures count { IfSome result (λ (count, next). count ≡ length (display_text (item_at text.now at))) }
+        ≡ display_text (item_beginning_at text.now at) ++ drop count into.old) }
+    ensures count { IfSome result (λ (count, next). count ≡ length (display_text (item_beginning_at text.now at))) }
     ensures short { IfSome result (λ (count, next). count ≤ 50) }
-    ensures next { IfSome result (λ (count, next). next ≡ at + length (flat_map item_bytes (item_at text.now at))) }
+    ensures next { IfSome result (λ (count, next). next
+        ≡ at + length (flat_map item_bytes (item_beginning_at text.now at))) }
     ensures further { IfSome result (λ (count, next). at < next) }
     ensures next_cut { IfSome result (λ (count, next). IsCut text.now next) }
     ensures rest { IfSome result (λ (count, next). items_of (drop at text.now)
-        ≡ item_at text.now at ++ items_of (drop next text.now)) }
+        ≡ item_beginning_at text.now at ++ items_of (drop next text.now)) }
 {
     let bytes = text.bytes();
     if at == bytes.len() {

@@ -11,19 +11,21 @@ use Rattle.tx_tm_form.specs.declared.bytes.White.TheVariants.{Spaces, Line, Brea
 use Rattle.tx_tm_form.specs.declared.places.Stage.{Stage}
 use Rattle.tx_tm_form.specs.declared.places.Stage.TheVariants.{Empty, Alone, Ordinary}
 use Rattle.tx_tm_form.specs.Parts.{tag, leaf_before}
-use Rattle.tx_tm_form.specs.Growing.{Inline, no_parts, grow, grown, no_paragraphs, widen, ended, resumed, Entry}
+use Rattle.tx_tm_form.specs.Growing.{Inline, no_parts, grow, grown, no_paragraphs, widen, ended, resumed}
+use Rattle.tx_tm_form.specs.Growing.{CollectionEntry}
 use Rattle.tx_tm_form.specs.Growing.{tree_of_entry, behind_run, with_entries}
 use Rattle.tx_tm_content.specs.declared.tag_rows.TagEntry.{TagEntry}
 use Rattle.tx_tm_content.specs.declared.tag_rows.Tally.{Tally}
 use Rattle.tx_tm_content.specs.ContentFits.{RowFits, BlockFits, TagRowFits}
-use Rattle.tx_tm_content.specs.Tallies.{begins, tally_at, tally_more, tally_from, no_tally, tally_of, IsFew}
+use Rattle.tx_tm_content.specs.Tallies.{begins_paragraph, tally_at, tally_more, tally_from, no_tally, tally_of}
+use Rattle.tx_tm_content.specs.Tallies.{IsTallyWithinLimits}
 use Rattle.tx_tm_content.specs.Blocks.{block_at, tag_stage}
 use Rattle.tx_tm_content.specs.TagRows.{entry_of, IsTagRow}
 use Rattle.tx_tm_content.proofs.Fitting.{grown_light}
 
 -- ---- one tag more
 
-tally_append : (n : Tally) (es fs : List Entry) → tally_from n (es ++ fs) ≡ tally_from (tally_from n es) fs
+tally_append : (n : Tally) (es fs : List CollectionEntry) → tally_from n (es ++ fs) ≡ tally_from (tally_from n es) fs
 tally_append n [] fs = refl
 tally_append n (e ∷ es) fs = tally_append (tally_more n e) es fs
 
@@ -45,15 +47,15 @@ below_at true n k m size h = record { ended = omega (arith, h.ended); tags = ome
 below_at false n k m size h =
     record { ended = omega (arith, h.ended); tags = omega (arith, h.tags); size = omega (arith, h.size) }
 
-below : (es : List Entry) (n : Tally) (k m : ℕ) → IsBelow n k m
+below : (es : List CollectionEntry) (n : Tally) (k m : ℕ) → IsBelow n k m
     → IsBelow (tally_from n es) (k + length (map tree_of_entry es)) (m + total_size (forest (map tree_of_entry es)))
 below [] n k m h = record { ended = omega (arith, h.ended); tags = omega (arith, h.tags); size = omega (arith, h.size) }
 below (e ∷ es) n k m h =
     let i = below es (tally_more n e) (suc k) (m + size_of e.tree)
-    (below_at (begins e.before n.tags) n k m (size_of e.tree) h) in
+    (below_at (begins_paragraph e.before n.tags) n k m (size_of e.tree) h) in
     record { ended = omega (arith, i.ended); tags = omega (arith, i.tags); size = omega (arith, i.size) }
 
-row_few : (k : ℕ) (es : List Entry) → RowFits k (map tree_of_entry es) → IsFew (tally_of es)
+row_few : (k : ℕ) (es : List CollectionEntry) → RowFits k (map tree_of_entry es) → IsTallyWithinLimits (tally_of es)
 row_few k es h =
     let i = below es no_tally 0 0 (record { ended = omega arith; tags = omega arith; size = refl }) in
     record {
@@ -123,7 +125,8 @@ tagged_size g t =
     )
 
 -- the first tag of a block
-first_under : (z : Bool) (n : Tally) (r : Option White) (c : Bool) (t : WideTree) → begins r n.tags ≡ z → n.ended ≤ 0
+first_under : (z : Bool) (n : Tally) (r : Option White) (c : Bool) (t : WideTree) → begins_paragraph r n.tags ≡ z
+    → n.ended ≤ 0
     → n.tags ≤ 0 → n.size ≤ 0 → IsUnder (tally_at z n (size_of t)) (tag_stage Empty c) [] (grow no_parts (tag false t))
 first_under true n (Some Break) c t e f g h = absurd (omega (arith, g, ltb-true 0 n.tags e))
 first_under true n (Some Spaces) c t e f g h = absurd cc
@@ -134,7 +137,7 @@ first_under false n r false t e f g h = record { ended = f; tags = omega (arith,
 
 -- a later one, behind so many paragraphs, trees and bytes
 later_under : (z : Bool) (n : Tally) (r : Option White) (t : WideTree) (full : List WideTree) (now : Inline)
-    → begins r n.tags ≡ z → n.ended ≤ length full → n.tags ≤ length now.done
+    → begins_paragraph r n.tags ≡ z → n.ended ≤ length full → n.tags ≤ length now.done
     → n.size ≤ total_size (forest full) + total_size (forest now.done)
     → IsUnder (tally_at z n (size_of t)) Ordinary (ended r full now) (grow (resumed r now) (tag false t))
 later_under true n (Some Break) t full now e f g h = record {
@@ -167,15 +170,16 @@ later_under false n None t full now e f g h =
 
 more_under : (n : Tally) (s : Stage) (full : List WideTree) (now : Inline) (r : Option White) (c : Bool) (t : WideTree)
     → IsUnder n s full now
-    → IsUnder (tally_at (begins r n.tags) n (size_of t)) (tag_stage s c) (full_with s r full now)
+    → IsUnder (tally_at (begins_paragraph r n.tags) n (size_of t)) (tag_stage s c) (full_with s r full now)
     (grow (now_with s r now) (tag false t))
-more_under n Empty full now r c t h = first_under (begins r n.tags) n r c t refl h.ended h.tags h.size
+more_under n Empty full now r c t h = first_under (begins_paragraph r n.tags) n r c t refl h.ended h.tags h.size
 more_under n Alone full now r c t h =
-    later_under (begins r n.tags) n r t full now refl (omega (arith, h.ended)) h.tags (omega (arith, h.size))
-more_under n Ordinary full now r c t h = later_under (begins r n.tags) n r t full now refl h.ended h.tags h.size
+    later_under (begins_paragraph r n.tags) n r t full now refl (omega (arith, h.ended)) h.tags (omega (arith, h.size))
+more_under n Ordinary full now r c t h =
+    later_under (begins_paragraph r n.tags) n r t full now refl h.ended h.tags h.size
 
 under_few : (k : ℕ) (n : Tally) (s : Stage) (full : List WideTree) (now : Inline) → IsUnder n s full now
-    → BlockFits k (block_at s full now) → IsFew n
+    → BlockFits k (block_at s full now) → IsTallyWithinLimits n
 under_few k n Empty full now h i =
     record { ended = omega (arith, h.ended); tags = omega (arith, h.tags); size = omega (arith, h.size) }
 under_few k n Alone full now h i =
@@ -191,27 +195,30 @@ under_few k n Ordinary full now h i =
       size = omega (arith, h.size, i.2);
     }
 
-under : (k : ℕ) (es : List Entry) (n : Tally) (s : Stage) (full : List WideTree) (now : Inline) → IsUnder n s full now
-    → BlockFits k (with_entries (block_at s full now) es) → IsFew (tally_from n es)
+under : (k : ℕ) (es : List CollectionEntry) (n : Tally) (s : Stage) (full : List WideTree) (now : Inline)
+    → IsUnder n s full now
+    → BlockFits k (with_entries (block_at s full now) es) → IsTallyWithinLimits (tally_from n es)
 under k [] n s full now h i = under_few k n s full now h i
 under k (e ∷ es) n s full now h i =
     under k es (tally_more n e) (tag_stage s e.collects) (full_with s e.before full now)
     (grow (now_with s e.before now) (tag false e.tree)) (more_under n s full now e.before e.collects e.tree h)
     (subst (λ b. BlockFits k (with_entries b es)) (widened s full now e.before e.collects e.tree) i)
 
-block_few : (k : ℕ) (es : List Entry) → BlockFits k (with_entries no_paragraphs es) → IsFew (tally_of es)
+block_few : (k : ℕ) (es : List CollectionEntry) → BlockFits k (with_entries no_paragraphs es)
+    → IsTallyWithinLimits (tally_of es)
 block_few k es h =
     under k es no_tally Empty [] no_parts (record { ended = omega arith; tags = omega arith; size = omega arith }) h
 
 -- ---- either
 
-tags_few : (k : ℕ) (es : List Entry) → TagRowFits k es → IsFew (tally_of es)
+tags_few : (k : ℕ) (es : List CollectionEntry) → TagRowFits k es → IsTallyWithinLimits (tally_of es)
 tags_few k es (inl h) = row_few k es h
 tags_few k es (inr h) = block_few k es h
 
-pub too_many_tags : (es : List TagEntry) (n : Tally) → n ≡ tally_of (map entry_of es) → (IsFew n → ⊥) → (k : ℕ)
+pub too_many_tags : (es : List TagEntry) (n : Tally) → n ≡ tally_of (map entry_of es) → (IsTallyWithinLimits n → ⊥)
+    → (k : ℕ)
     → TagRowFits k (map entry_of es) → ⊥
-too_many_tags es n e h k f = h (subst IsFew (sym e) (tags_few k (map entry_of es) f))
+too_many_tags es n e h k f = h (subst IsTallyWithinLimits (sym e) (tags_few k (map entry_of es) f))
 
 pub more_stuck : (es : List TagEntry) (e : TagEntry) → ((k : ℕ) → TagRowFits k (map entry_of (es ++ e ∷ [])) → ⊥)
     → (k : ℕ) → TagRowFits k (map entry_of es ++ entry_of e ∷ []) → ⊥

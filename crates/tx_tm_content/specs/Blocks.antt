@@ -53,14 +53,14 @@ tag_stage Ordinary c = Ordinary
 abbrev pub block_at : Stage → List WideTree → Inline → Block
 block_at s full now = record { full = full; now = now; run = None; stage = s }
 
-pub record GoesOn (r : Resumed) (full : List WideTree) (now : Inline) : Type 0 where
+pub record IsResumedWith (r : Resumed) (full : List WideTree) (now : Inline) : Type 0 where
   pub full_is : r.full ≡ full
   pub now_is : r.now ≡ now
 
 -- these, or else no tree within the limits comes of them
 abbrev pub IsGoing : Option Resumed → List WideTree → Inline → Type 0
 IsGoing None full now = (around : ℕ) → RowFits around full → LineFits around now → ⊥
-IsGoing (Some r) full now = GoesOn r full now
+IsGoing (Some r) full now = IsResumedWith r full now
 
 abbrev pub IsResumed : Option Resumed → Block → Type 0
 IsResumed next b = IsGoing next (full_behind b) (now_behind b)
@@ -87,5 +87,5 @@ IsContent (Some b) c = content_of b ≡ c
 -- the tree of a block, or none for an argument or past a limit
 abbrev pub IsBlockTree : Option WideTree → Content → Type 0
 IsBlockTree made (inline p g) = made ≡ None
-IsBlockTree made (blocks b) = IsMade made (growing.block_of (blocks b))
-IsBlockTree made (collecting x) = IsMade made (growing.block_of (collecting x))
+IsBlockTree made (blocks b) = IsMade made (growing.tree_as_block (blocks b))
+IsBlockTree made (collecting x) = IsMade made (growing.tree_as_block (collecting x))

@@ -5,22 +5,22 @@ use Rattle.tx_tree.specs.declared.TheConstants.{MOST_TEXT, MOST_ARITY, MOST_DEPT
 use Rattle.tx_tree.specs.WideTree.{WideTree, forest, text_length_of, arity_of, depth_of, size_of, total_size}
 use Rattle.tx_tm_form.specs.declared.places.Stage.{Stage}
 use Rattle.tx_tm_form.specs.declared.places.Stage.TheVariants.{Empty, Alone, Ordinary}
-use Rattle.tx_tm_form.specs.Growing.{Inline, Block, no_paragraphs, Entry, Tags, tree_of_entry}
+use Rattle.tx_tm_form.specs.Growing.{Inline, Block, no_paragraphs, CollectionEntry, Tags, tree_of_entry}
 use Rattle.tx_tm_form.specs.Growing.{with_entries, Content, inline, blocks, collecting}
 
 -- a tree within the limits, also with so many nodes round it
-pub record IsSmall (around : ℕ) (t : WideTree) : Type 0 where
+pub record IsSmallTree (around : ℕ) (t : WideTree) : Type 0 where
   pub text : text_length_of t ≤ MOST_TEXT
   pub arity : arity_of t ≤ MOST_ARITY
   pub depth : depth_of t + around ≤ MOST_DEPTH
   pub size : size_of t ≤ MOST_SIZE
 
-abbrev pub AreSmall : ℕ → List WideTree → Type 0
-AreSmall around = AllByRecursion (IsSmall around)
+abbrev pub AreSmallTrees : ℕ → List WideTree → Type 0
+AreSmallTrees around = AllByRecursion (IsSmallTree around)
 
 -- trees that one node within the limits can have
 pub record RowFits (around : ℕ) (ts : List WideTree) : Type 0 where
-  pub each : AreSmall around ts
+  pub each : AreSmallTrees around ts
   pub few : length ts ≤ MOST_ARITY
   pub light : total_size (forest ts) ≤ MOST_SIZE
 
@@ -38,7 +38,7 @@ abbrev pub BlockFits : ℕ → Block → Type 0
 BlockFits around b = BlockFitsAt b.stage around b
 
 -- as the children of a collection, or as an ordinary block
-abbrev pub TagRowFits : ℕ → List Entry → Type 0
+abbrev pub TagRowFits : ℕ → List CollectionEntry → Type 0
 TagRowFits around es = RowFits around (map tree_of_entry es) ⊎ BlockFits around (with_entries no_paragraphs es)
 
 abbrev pub TagsFit : ℕ → Tags → Type 0

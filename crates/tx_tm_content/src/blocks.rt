@@ -6,7 +6,7 @@ ghost use Rattle.tx_tm_form.specs.declared.bytes.White.TheVariants.{Spaces};
 ghost use Rattle.tx_tm_form.specs.declared.places.Stage.TheVariants.{Ordinary};
 ghost use Rattle.tx_tm_form.specs.Parts.{gap, text, tag, document_label, collection_label};
 ghost use Rattle.tx_tm_form.specs.Growing.{no_paragraphs, no_tags, grown, ended, resumed, widen, tree_of_block};
-ghost use Rattle.tx_tm_form.specs.Growing.{behind_run, as_block, tree_of_entry, collecting, put, place_of, grow};
+ghost use Rattle.tx_tm_form.specs.Growing.{behind_run, as_block, tree_of_entry, collecting, put_part, place_of, grow};
 ghost use Rattle.tx_tm_content.specs.Lines.{IsMade};
 ghost use Rattle.tx_tm_content.specs.Blocks.{block_of, tags_of, content_of, tag_stage, block_at};
 ghost use Rattle.tx_tm_content.specs.Blocks.{IsGoing, IsResumed, IsBlock, IsTagged, IsTagList, IsContent, IsBlockTree};
@@ -332,7 +332,7 @@ impl TagList {
 
     // With a tag, or None where a limit is passed.
     fn with(self, collects: bool, tree: Tree) -> Result<Option<TagList>, Memory>
-        ensures { IfOk result (λ next. IsTagList next (put (collecting (tags_of self)) (tag collects tree))) }
+        ensures { IfOk result (λ next. IsTagList next (put_part (collecting (tags_of self)) (tag collects tree))) }
     {
         let TagList { entries, run } = self;
         let entry = TagEntry {
@@ -461,7 +461,7 @@ impl Body {
     /// With white, or None where a limit is passed.
     #[inline(always)]
     pub fn with_white(self, white: White) -> Result<Option<Body>, Memory>
-        ensures next { IfOk result (λ next. IsContent next (put (content_of self) (gap white))) }
+        ensures next { IfOk result (λ next. IsContent next (put_part (content_of self) (gap white))) }
         ensures counted { IfOk result (λ next.
             IfSome next (λ b. content_nodes (content_of b) ≡ content_nodes (content_of self))) }
     {
@@ -487,7 +487,7 @@ impl Body {
         steps: &mut Steps<L>,
     ) -> Result<Option<Body>, Memory>
         requires { IsText items.now }
-        ensures next { IfOk result (λ next. IsContent next (put (content_of self) (text items.now))) }
+        ensures next { IfOk result (λ next. IsContent next (put_part (content_of self) (text items.now))) }
         ensures counted { IfOk result (λ next.
             IfSome next (λ b. steps.new + content_nodes (content_of self) ≤ steps.old + content_nodes (content_of b))) }
         ensures bounded { steps.new + left body_credit result ≤ steps.old + content_credit (content_of self) }
@@ -517,7 +517,7 @@ impl Body {
         tree: Tree,
         steps: &mut Steps<L>,
     ) -> Result<Option<Body>, Memory>
-        ensures next { IfOk result (λ next. IsContent next (put (content_of self) (tag collects tree))) }
+        ensures next { IfOk result (λ next. IsContent next (put_part (content_of self) (tag collects tree))) }
         ensures counted { IfOk result (λ next. IfSome next (λ b.
             steps.new + (content_nodes (content_of self) + nodes_of tree) ≤ steps.old + content_nodes (content_of b))) }
         ensures bounded { steps.new + left body_credit result ≤ steps.old + content_credit (content_of self) + 1 }

@@ -1,6 +1,6 @@
 // Tags that may become the children of a collection, or stand in paragraphs.
 ghost use Rattle.std.specs.Prelude.{◌≡◌, ◌↔◌, ◌++◌, ◌∷◌, [], IfOk, IsTrue};
-ghost use Rattle.tx_tm_content.specs.Tallies.{begins, tally_more, no_tally, IsFew};
+ghost use Rattle.tx_tm_content.specs.Tallies.{begins_paragraph, tally_more, no_tally, IsTallyWithinLimits};
 ghost use Rattle.tx_tm_content.specs.TagRows.{entry_of, IsTagRowed};
 
 use std::alloc::Global;
@@ -29,8 +29,8 @@ pub(crate) struct Tally {
 }
 
 // Whether a tag behind the run is the first of a paragraph, behind so many tags of another.
-fn begins(run: Option<White>, tags: usize) -> bool
-    ensures { result ≡ begins run tags }
+fn begins_paragraph(run: Option<White>, tags: usize) -> bool
+    ensures { result ≡ begins_paragraph run tags }
 {
     matches!(run, Some(White::Break)) && tags > 0
 }
@@ -48,11 +48,11 @@ impl Tally {
 
     // With a tag more.
     fn with(self, entry: &TagEntry) -> Tally
-        requires { IsFew self }
+        requires { IsTallyWithinLimits self }
         ensures { result ≡ tally_more self (entry_of entry.now) }
     {
         let size = self.size + entry.tree.size();
-        if begins(entry.before, self.tags) {
+        if begins_paragraph(entry.before, self.tags) {
             Tally {
                 ended: self.ended + 1,
                 tags: 1,
@@ -69,7 +69,7 @@ impl Tally {
 
     // Whether so many may stand in a collection or in a document within the limits.
     fn is_few(self) -> bool
-        ensures { IsTrue result ↔ IsFew self }
+        ensures { IsTrue result ↔ IsTallyWithinLimits self }
     {
         self.ended <= MOST_ARITY && self.tags <= MOST_ARITY && self.size <= MOST_SIZE
     }

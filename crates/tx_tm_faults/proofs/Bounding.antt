@@ -29,20 +29,22 @@ use Rattle.tx_tm_form.specs.declared.measures.Within.{Within}
 use Rattle.tx_tm_form.specs.declared.measures.Within.TheVariants.{Parts, Symbol, Digits}
 use Rattle.tx_tm_form.specs.Measures.{no_sums, both, leaf_sums, node_sums, concat_sums, no_line, ended_line, line_sums}
 use Rattle.tx_tm_form.specs.Measures.{grow_line, no_block, ended_sums, resumed_line, white_block, part_block}
-use Rattle.tx_tm_form.specs.Measures.{widen_block, block_at, block_sums, put_sums, body_sums, long_sums, opening_sums}
-use Rattle.tx_tm_form.specs.Measures.{Gauge, child_in, closed_open, bar_gauge, close_gauge, next_gauge, last_gauge}
+use Rattle.tx_tm_form.specs.Measures.{widen_block, block_sums_at, block_sums, put_sums, body_sums, long_sums}
+use Rattle.tx_tm_form.specs.Measures.{opening_sums}
+use Rattle.tx_tm_form.specs.Measures.{Gauge, with_child_sums, closed_open, bar_gauge, close_gauge, next_gauge}
+use Rattle.tx_tm_form.specs.Measures.{last_gauge}
 use Rattle.tx_tm_form.specs.Measures.{begun_gauge, escape_gauge, part_gauge, name_gauge, symbol_gauge, digit_gauge}
 use Rattle.tx_tm_form.specs.Measures.{feed_in, feed_gauge, Gauged, keep_gauge, start_gauge}
 use Rattle.tx_tm_form.specs.Bytes.{kind_of, escape_of, white_of, can_escape}
 use Rattle.tx_tm_form.specs.Tokens.{Token, white, join, plain, escape, raw, head, bar, close, is_dropped}
-use Rattle.tx_tm_form.specs.Parts.{collection_label, same}
+use Rattle.tx_tm_form.specs.Parts.{collection_label, same_bytes}
 use Rattle.tx_tm_form.specs.Machine.{header_place, Lex, ready, slashed, returned, angled, labelled, Lexed, within, done}
 use Rattle.tx_tm_form.specs.Machine.{bad, if_good, lex_ready, lex_slashed, lex_returned, lex_angled, lex_labelled, lex}
-use Rattle.tx_tm_form.specs.Machine.{Bytewise, at, lost, given, step, run}
+use Rattle.tx_tm_form.specs.Machine.{Bytewise, at, lost, after_lexed, step, run}
 use Rattle.tx_tm_faults.specs.declared.measuring.Meter.{Meter}
 use Rattle.tx_tm_faults.specs.declared.opens.OpenGauge.{OpenGauge}
 use Rattle.tx_tm_faults.specs.Gauges.{open_of, opens_of, gauge_of, meter_of}
-use Rattle.tx_tm_faults.specs.Bounds.{IsSmall, most_of, most_in_line, most_in_part, of_run, most_in_block}
+use Rattle.tx_tm_faults.specs.Bounds.{IsSmallCount, most_of, most_in_line, most_in_part, of_run, most_in_block}
 use Rattle.tx_tm_faults.specs.Bounds.{most_in_content, most_in_open, most_in_opens, most_within, most_at, most_in}
 
 -- ---- trees
@@ -139,7 +141,7 @@ widen_most b (Gap w) = white_most b.stage b w
 widen_most b (Text n) = part_most b.stage b (Text n)
 widen_most b (Tag c s) = part_most b.stage b (Tag c s)
 
-block_at_most : (s : Stage) (b : BlockSums) → most_of (block_at s b) ≤ most_in_block b
+block_at_most : (s : Stage) (b : BlockSums) → most_of (block_sums_at s b) ≤ most_in_block b
 block_at_most Empty b = omega arith
 block_at_most Alone b = omega (arith, line_most b.now)
 block_at_most Ordinary b =
@@ -201,9 +203,9 @@ closed_most : (o : OpenSums) (os : List OpenSums) → most_in (closed_open o os)
 closed_most o os = omega (arith, put_most o.before (Tag false (node_sums o.children)), node_most o.children)
 
 closed_with : (o : OpenSums) (g : LineSums) (os : List OpenSums)
-    → most_in (closed_open (child_in o (line_sums g)) os) ≤ most_in_line g + most_in_opens (o ∷ os) + 1
+    → most_in (closed_open (with_child_sums o (line_sums g)) os) ≤ most_in_line g + most_in_opens (o ∷ os) + 1
 closed_with o g os =
-    omega (arith, closed_most (child_in o (line_sums g)) os, both_most o.children (line_sums g), line_most g)
+    omega (arith, closed_most (with_child_sums o (line_sums g)) os, both_most o.children (line_sums g), line_most g)
 
 close_most : (here : ContentSums) (os : List OpenSums) → most_in (close_gauge here os) ≤ most_at here os + 1
 close_most (of.Argument InHeader g) [] = omega arith
@@ -241,7 +243,7 @@ begun_most : (form : TagForm) (more : Bool) (label : List ℕ) (here : ContentSu
 begun_most Short true label here os = omega arith
 begun_most Short false label here os = omega (arith, put_most here (Tag false (node_sums no_sums)))
 begun_most Long more label here os =
-    omega (arith, opening_most (header_place more) (same label collection_label) no_sums)
+    omega (arith, opening_most (header_place more) (same_bytes label collection_label) no_sums)
 begun_most Middle more label here os = omega (arith, next_most (header_place more) here os)
 begun_most Closing true label here os = omega (arith, next_most (Some InClosing) here os)
 begun_most Closing false label here os = omega (arith, last_most here os)
@@ -397,7 +399,7 @@ most_of_bytes (at q k) = 2 * most_in k.gauge + 3 * begun_by q
 most_of_bytes lost = 0
 
 given_most : (n : ℕ) (k : Gauged) (r : Lexed) → IsPaid n r
-    → most_of_bytes (given keep_gauge k r) ≤ 2 * most_in k.gauge + 3 * n + 3
+    → most_of_bytes (after_lexed keep_gauge k r) ≤ 2 * most_in k.gauge + 3 * n + 3
 given_most n k (within q) h = omega (arith, h)
 given_most n k (done t) h = omega (arith, h, keep_most k t)
 given_most n k bad h = omega arith
@@ -415,7 +417,7 @@ front_short bytes n = omega (arith, length-take n bytes)
 
 -- what is counted of a slice, and of a token more
 pub metered_small : (bytes : List ℕ) (n : ℕ) (m : Meter) → length bytes < 2 ^ 63
-    → run keep_gauge start_gauge (take n bytes) ≡ meter_of m → IsSmall (most_in (gauge_of m.gauge) + 4)
+    → run keep_gauge start_gauge (take n bytes) ≡ meter_of m → IsSmallCount (most_in (gauge_of m.gauge) + 4)
 metered_small bytes n m h e =
     let all : 2 * most_in (gauge_of m.gauge) ≤ 4 + 3 * length (take n bytes) =
     omega (
@@ -426,5 +428,5 @@ metered_small bytes n m h e =
     omega (arith, all, front_short bytes n, h)
 
 pub metered_end : (bytes : List ℕ) (n : ℕ) (m : Meter) → length bytes < 2 ^ 63
-    → run keep_gauge start_gauge (take n bytes) ≡ meter_of m → IsSmall (most_in_content m.gauge.here)
+    → run keep_gauge start_gauge (take n bytes) ≡ meter_of m → IsSmallCount (most_in_content m.gauge.here)
 metered_end bytes n m h e = omega (arith, metered_small bytes n m h e)

@@ -9,11 +9,11 @@ use Rattle.tx_tree.specs.declared.faults.ReadFault.{ReadFault}
 use Rattle.tx_tree.specs.declared.faults.ReadFault.TheVariants.{Stray, Mismatch}
 use Rattle.tx_tm_form.specs.declared.places.TagPlace.{TagPlace}
 use Rattle.tx_tm_form.specs.declared.places.TagForm.{TagForm}
-use Rattle.tx_tm_form.specs.Tokens.{mark_of, end_of, written, head}
+use Rattle.tx_tm_form.specs.Tokens.{form_mark, label_end, written, head}
 use Rattle.tx_tm_form.specs.Fronts.{begins}
 use Rattle.tx_tm_form.specs.Marks.{mismatch, begins_mark, begins_marks}
 use Rattle.tx_tm_faults.specs.declared.marking.OpenMark.{OpenMark}
-use Rattle.tx_tm_faults.specs.Stands.{label_in, mark_in, first_mark}
+use Rattle.tx_tm_faults.specs.Stands.{label_of_mark, mark_in, first_mark}
 
 first_get : (ms : List OpenMark) (d : OpenMark) → 0 < length ms → first_mark ms ≡ Some (get_or ms 0 d)
 first_get [] d h = absurd (omega (arith, h))
@@ -29,9 +29,9 @@ last_is_first (m ∷ ms) =
     ∙ sym (first_get (reverse (m ∷ ms)) m (omega (arith, length-reverse (m ∷ ms))))
 
 pub head_length : (form : TagForm) (l : List ℕ) (more : Bool)
-    → length (written (head form l more)) ≡ length (mark_of form) + length l + 2
+    → length (written (head form l more)) ≡ length (form_mark form) + length l + 2
 head_length form l more =
-    omega (arith, length-append (mark_of form) (l ++ end_of more ∷ []), length-append l (end_of more ∷ []))
+    omega (arith, length-append (form_mark form) (l ++ label_end more ∷ []), length-append l (label_end more ∷ []))
 
 pub begins_is : (l m : List ℕ) → starts_with nat_eq m l ≡ begins l m
 begins_is [] m = refl
@@ -69,7 +69,7 @@ module _ (bytes : List ℕ) where
   begins_some l (k ∷ ms) m e = ap (λ o. begins_there o l) (sym e)
 
   block_begins : (w : Option TagPlace) (l : List ℕ) (m : OpenMark) → is_some w ≡ false
-      → begins l (label_in bytes m) ≡ begins_mark w l (mark_in bytes m)
+      → begins l (label_of_mark bytes m) ≡ begins_mark w l (mark_in bytes m)
   block_begins None l m e = refl
   block_begins (Some p) l m e = absurd cc
 
@@ -79,7 +79,7 @@ module _ (bytes : List ℕ) where
   argument_begins None l m e = absurd cc
 
   pub in_block : (l : List ℕ) (ms : List OpenMark) (m : OpenMark) → first_mark ms ≡ Some m → is_some m.inner ≡ false
-      → begins l (label_in bytes m) ≡ begins_marks l (map (mark_in bytes) ms)
+      → begins l (label_of_mark bytes m) ≡ begins_marks l (map (mark_in bytes) ms)
   in_block l ms m e k = block_begins m.inner l m k ∙ begins_some l ms m e
 
   pub in_argument : (l : List ℕ) (ms : List OpenMark) (m : OpenMark) → first_mark ms ≡ Some m → is_some m.inner ≡ true

@@ -9,13 +9,13 @@ use Rattle.tx_tm_form.specs.declared.bytes.ByteKind.TheVariants.{Name, Blank, Ne
 use Rattle.tx_tm_form.specs.declared.bytes.ByteKind.TheVariants.{Backslash, Hash, Slash, Other}
 use Rattle.tx_tm_form.specs.declared.places.TagForm.{TagForm}
 use Rattle.tx_tm_form.specs.Bytes.{kind_of, can_escape}
-use Rattle.tx_tm_form.specs.Tokens.{Token, escape, head, mark_of, end_of, written}
+use Rattle.tx_tm_form.specs.Tokens.{Token, escape, head, form_mark, label_end, written}
 use Rattle.tx_tm_form.specs.Machine.{Lex, ready, slashed, returned, angled, labelled, Lexed, within, done, if_good}
 use Rattle.tx_tm_form.specs.Machine.{lex_ready, lex_slashed, lex_returned, lex_angled, lex_labelled, lex}
 use Rattle.tx_tm_form.specs.Faults.{begun_bytes}
 use Rattle.tx_tm_form.proofs.Words.{newline_only}
 use Rattle.tx_tm_words.proofs.Stopping.{greater_only, bar_only}
-use Rattle.tx_tm_faults.specs.Stands.{StandsAt}
+use Rattle.tx_tm_faults.specs.Stands.{BytesStandAt}
 
 -- ---- the bytes of a word
 
@@ -69,10 +69,10 @@ angled_done Hash b e = ap (λ z. 60 ∷ z ∷ []) (hash_only b e)
 angled_done Name b e = tt
 angled_done _ b e = tt
 
-head_bytes : (form : TagForm) (l : List ℕ) (more : Bool) (b : ℕ) → b ≡ end_of more
+head_bytes : (form : TagForm) (l : List ℕ) (more : Bool) (b : ℕ) → b ≡ label_end more
     → begun_bytes (labelled form l) ++ b ∷ [] ≡ written (head form l more)
-head_bytes form l more b e = ap (λ z. 60 ∷ z) (append_assoc (mark_of form) l (b ∷ []))
-    ∙ ap (λ z. 60 ∷ (mark_of form ++ (l ++ z ∷ []))) e
+head_bytes form l more b e = ap (λ z. 60 ∷ z) (append_assoc (form_mark form) l (b ∷ []))
+    ∙ ap (λ z. 60 ∷ (form_mark form ++ (l ++ z ∷ []))) e
 
 labelled_done : (k : ByteKind) (form : TagForm) (l : List ℕ) (b : ℕ) → kind_of b ≡ k
     → IsDone (begun_bytes (labelled form l) ++ b ∷ []) (lex_labelled form l k b)
@@ -99,26 +99,26 @@ pub word_bytes : (q : Lex) (b : ℕ) (t : Token) → done t ≡ lex q (kind_of b
 word_bytes q b t e = subst (IsDone (begun_bytes q ++ b ∷ [])) (sym e) (lex_done q b)
 
 pub word_there : (bytes : List ℕ) (n : ℕ) (q : Lex) (b : ℕ) (t : Token) → done t ≡ lex q (kind_of b) b
-    → StandsAt bytes n (begun_bytes q ++ b ∷ []) → StandsAt bytes n (written t)
-word_there bytes n q b t e h = subst (StandsAt bytes n) (word_bytes q b t e) h
+    → BytesStandAt bytes n (begun_bytes q ++ b ∷ []) → BytesStandAt bytes n (written t)
+word_there bytes n q b t e h = subst (BytesStandAt bytes n) (word_bytes q b t e) h
 
 -- ---- a part between two others
 
-pub part_there : (u v w x : List ℕ) → x ≡ u ++ (v ++ w) → StandsAt x (length u) v
+pub part_there : (u v w x : List ℕ) → x ≡ u ++ (v ++ w) → BytesStandAt x (length u) v
 part_there u v w x e =
     ap (λ z. take (length v) (drop (length u) z)) e ∙ ap (take (length v)) (drop-append_seam u (v ++ w))
     ∙ take-append_seam v w
 
 -- the label of a word that stands there
 pub label_there : (bytes : List ℕ) (n : ℕ) (form : TagForm) (l : List ℕ) (more : Bool)
-    → StandsAt bytes n (written (head form l more)) → StandsAt bytes (n + (1 + length (mark_of form))) l
+    → BytesStandAt bytes n (written (head form l more)) → BytesStandAt bytes (n + (1 + length (form_mark form))) l
 label_there bytes n form l more h =
     let rest = drop (length (written (head form l more))) (drop n bytes) in
-    let all : drop n bytes ≡ (60 ∷ mark_of form) ++ (l ++ (end_of more ∷ rest)) =
+    let all : drop n bytes ≡ (60 ∷ form_mark form) ++ (l ++ (label_end more ∷ rest)) =
     sym (take-append-drop (length (written (head form l more))) (drop n bytes)) ∙ ap (λ z. z ++ rest) h
-    ∙ ap (λ z. 60 ∷ z) (append_assoc (mark_of form) (l ++ end_of more ∷ []) rest
-    ∙ ap (λ z. mark_of form ++ z) (append_assoc l (end_of more ∷ []) rest)) in
-    let one : n + (1 + length (mark_of form)) ≡ n + length (60 ∷ mark_of form) = omega arith in
+    ∙ ap (λ z. 60 ∷ z) (append_assoc (form_mark form) (l ++ label_end more ∷ []) rest
+    ∙ ap (λ z. form_mark form ++ z) (append_assoc l (label_end more ∷ []) rest)) in
+    let one : n + (1 + length (form_mark form)) ≡ n + length (60 ∷ form_mark form) = omega arith in
     ap (λ k. take (length l) (drop k bytes)) one
-    ∙ sym (ap (take (length l)) (drop-drop (length (60 ∷ mark_of form)) n bytes))
-    ∙ part_there (60 ∷ mark_of form) l (end_of more ∷ rest) (drop n bytes) all
+    ∙ sym (ap (take (length l)) (drop-drop (length (60 ∷ form_mark form)) n bytes))
+    ∙ part_there (60 ∷ form_mark form) l (label_end more ∷ rest) (drop n bytes) all

@@ -8,7 +8,7 @@ use Rattle.tx_tm_form.specs.Machine.{Lex, at, step, run}
 use Rattle.tx_tm_form.specs.Marks.{Marked, keep_marks, start_marks}
 use Rattle.tx_tm_form.specs.Faults.{begun_bytes}
 use Rattle.tx_tm_faults.specs.declared.scan.Scan.{Scan}
-use Rattle.tx_tm_faults.specs.Stands.{standing_of, StandsAt}
+use Rattle.tx_tm_faults.specs.Stands.{standing_of, BytesStandAt}
 use Rattle.tx_tm_words.specs.Words.{lex_of}
 use Rattle.tx_tm_faults.specs.Scans.{scan_of}
 use Rattle.tx_tm_form.proofs.Begun.{scanned_run, read_behind}
@@ -45,7 +45,7 @@ taken_so_far bytes n s e =
 -- what has begun of a word, and the next byte, stand behind the bytes that were taken
 pub begun_there : (bytes : List ℕ) (n : ℕ) (s : Scan) → n < length bytes
     → run keep_marks start_marks (take n bytes) ≡ scan_of bytes s
-    → StandsAt bytes s.taken (begun_bytes (lex_of s.lexer) ++ get_or bytes n 0 ∷ [])
+    → BytesStandAt bytes s.taken (begun_bytes (lex_of s.lexer) ++ get_or bytes n 0 ∷ [])
 begun_there bytes n s lt e =
     let t = words_taken (take n bytes) (lex_of s.lexer) (marked_of bytes s) e in
     let q = begun_bytes (lex_of s.lexer) in
@@ -55,7 +55,7 @@ begun_there bytes n s lt e =
     ∙ append_assoc t.0 q (b ∷ []) in
     let all : bytes ≡ t.0 ++ ((q ++ b ∷ []) ++ rest) = sym (take-append-drop (n + 1) bytes) ∙ ap (λ z. z ++ rest) more
     ∙ append_assoc t.0 (q ++ b ∷ []) rest in
-    subst (λ k. StandsAt bytes k (q ++ b ∷ [])) (sym t.2) (part_there t.0 (q ++ b ∷ []) rest bytes all)
+    subst (λ k. BytesStandAt bytes k (q ++ b ∷ [])) (sym t.2) (part_there t.0 (q ++ b ∷ []) rest bytes all)
 
 pub scan_more : (bytes : List ℕ) (n : ℕ) (s next : Scan) → n < length bytes
     → run keep_marks start_marks (take n bytes) ≡ scan_of bytes s

@@ -16,8 +16,8 @@ use Rattle.tx_tm_form.specs.declared.measures.Within.TheVariants.{Parts, Symbol,
 use Rattle.tx_tm_form.specs.Measures.{Gauge}
 
 -- numbers of 64 bits hold it, and one more
-abbrev pub IsSmall : ℕ → Type 0
-IsSmall n = n + 1 < 2 ^ 64
+abbrev pub IsSmallCount : ℕ → Type 0
+IsSmallCount n = n + 1 < 2 ^ 64
 
 -- the greatest of the numbers that are added up
 abbrev pub most_of : Sums → ℕ
@@ -77,4 +77,4 @@ most_in g = most_within g.within + most_at g.here g.opens
 
 -- a token more adds 4 at most
 abbrev pub HasRoom : ContentSums → List OpenSums → Type 0
-HasRoom here os = IsSmall (most_at here os + 4)
+HasRoom here os = IsSmallCount (most_at here os + 4)

@@ -13,13 +13,13 @@ use Rattle.tx_tm_faults.specs.declared.measuring.Gauge.{Gauge}
 use Rattle.tx_tm_faults.specs.declared.measuring.Meter.{Meter}
 use Rattle.tx_tm_words.specs.Words.{lex_of}
 
-abbrev pub before_of : Before → ContentSums
-before_of (Argument p g) = sums.Argument p g
-before_of (Block b) = sums.Block b.value
-before_of (Tags s b) = sums.Tags s.value b.value
+abbrev pub sums_before : Before → ContentSums
+sums_before (Argument p g) = sums.Argument p g
+sums_before (Block b) = sums.Block b.value
+sums_before (Tags s b) = sums.Tags s.value b.value
 
 abbrev pub open_of : OpenGauge → OpenSums
-open_of o = record { before = before_of o.before; collects = o.collects; children = o.children }
+open_of o = record { before = sums_before o.before; collects = o.collects; children = o.children }
 
 -- the innermost first
 abbrev pub opens_of : List OpenGauge → List OpenSums

@@ -6,21 +6,21 @@ use Rattle.tx_tm_faults.specs.declared.marking.OpenMark.{OpenMark}
 use Rattle.tx_tm_faults.specs.declared.marking.Stand.{Stand}
 
 -- the part stands at this place of the bytes
-abbrev pub StandsAt : List ℕ → ℕ → List ℕ → Type 0
-StandsAt bytes at part = take (length part) (drop at bytes) ≡ part
+abbrev pub BytesStandAt : List ℕ → ℕ → List ℕ → Type 0
+BytesStandAt bytes at part = take (length part) (drop at bytes) ≡ part
 
-abbrev pub label_in : List ℕ → OpenMark → List ℕ
-label_in bytes m = take m.label_len (drop m.label_at bytes)
+abbrev pub label_of_mark : List ℕ → OpenMark → List ℕ
+label_of_mark bytes m = take m.label_len (drop m.label_at bytes)
 
 abbrev pub mark_in : List ℕ → OpenMark → TagMark
-mark_in bytes m = record { at = m.at; label = label_in bytes m; inner = m.inner }
+mark_in bytes m = record { at = m.at; label = label_of_mark bytes m; inner = m.inner }
 
 -- the innermost first
-abbrev pub marks_of : List ℕ → List OpenMark → List TagMark
-marks_of bytes ms = map (mark_in bytes) (reverse ms)
+abbrev pub tag_marks : List ℕ → List OpenMark → List TagMark
+tag_marks bytes ms = map (mark_in bytes) (reverse ms)
 
 abbrev pub standing_of : List ℕ → Stand → Standing
-standing_of bytes s = record { inside = s.inside; marks = marks_of bytes s.marks.items }
+standing_of bytes s = record { inside = s.inside; marks = tag_marks bytes s.marks.items }
 
 abbrev pub stood : List ℕ → Option Stand → Option Standing
 stood bytes None = None

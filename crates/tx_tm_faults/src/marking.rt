@@ -3,13 +3,13 @@ ghost use Rattle.std.specs.Prelude.{◌≡◌, ℕ, ◌≤◌, ◌<◌, ◌+◌,
 ghost use Rattle.std.specs.Prelude.{reverse, true, nat_lt, nat_le, if◌then◌else◌, IfOk, None};
 ghost use Rattle.tx_tree.specs.Texts.{is_name_byte};
 ghost use Rattle.tx_tm_form.specs.Bytes.{escape_of, is_digit};
-ghost use Rattle.tx_tm_form.specs.Parts.{same};
-ghost use Rattle.tx_tm_form.specs.Tokens.{mark_of, written};
+ghost use Rattle.tx_tm_form.specs.Parts.{same_bytes};
+ghost use Rattle.tx_tm_form.specs.Tokens.{form_mark, written};
 ghost use Rattle.tx_tm_form.specs.Marks.{with_inner, mark_bar, mark_close, mark_next, mark_last, bar_marks};
 ghost use Rattle.tx_tm_form.specs.Marks.{close_marks, next_marks, last_marks, begun_marks, escape_marks};
 ghost use Rattle.tx_tm_form.specs.Marks.{part_marks, name_marks, symbol_marks, digit_marks, feed_marks};
 ghost use Rattle.tx_tm_words.specs.Words.{token_of};
-ghost use Rattle.tx_tm_faults.specs.Stands.{label_in, mark_in, marks_of, stood, StandsAt};
+ghost use Rattle.tx_tm_faults.specs.Stands.{label_of_mark, mark_in, tag_marks, stood, BytesStandAt};
 
 use std::alloc::Global;
 use tx_base::Memory;
@@ -33,7 +33,7 @@ pub(crate) struct OpenMark {
 impl OpenMark {
     // Its label in the bytes. Neither minimum ever cuts it: with them no bound has to be carried along.
     pub(crate) fn label<'a>(&self, bytes: &'a [u8]) -> &'a [u8]
-        ensures { result.now ≡ label_in bytes.now self.now }
+        ensures { result.now ≡ label_of_mark bytes.now self.now }
     {
         let rest = &bytes[self.label_at.min(bytes.len())..];
         &rest[..(self.label_len as usize).min(rest.len())]
@@ -50,7 +50,7 @@ pub(crate) struct Stand {
 // Between parts.
 fn between(marks: Vec<OpenMark>) -> Option<Stand>
     ensures { (bytes : List ℕ)
-        → stood bytes result ≡ Some (record { inside = Inside.Parts; marks = marks_of bytes marks.items }) }
+        → stood bytes result ≡ Some (record { inside = Inside.Parts; marks = tag_marks bytes marks.items }) }
 {
     Some(Stand {
         inside: Inside::Parts,
@@ -66,7 +66,7 @@ fn within(
 ) -> Result<Option<Stand>, Memory>
     ensures { (bytes : List ℕ) → IfOk result (λ next. stood bytes next ≡ Some (record {
       inside = Inside.Parts;
-      marks = with_inner inner (mark_in bytes mark) ∷ marks_of bytes marks.items;
+      marks = with_inner inner (mark_in bytes mark) ∷ tag_marks bytes marks.items;
     })) }
 {
     mark.inner = inner;
@@ -77,7 +77,7 @@ fn within(
 // Behind `|` in what stands open of the tag.
 fn bar_in(mark: OpenMark, marks: Vec<OpenMark>) -> Result<Option<Stand>, Memory>
     ensures { (bytes : List ℕ) → IfOk result (λ next.
-        stood bytes next ≡ mark_bar mark.inner (mark_in bytes mark ∷ marks_of bytes marks.items)) }
+        stood bytes next ≡ mark_bar mark.inner (mark_in bytes mark ∷ tag_marks bytes marks.items)) }
 {
     match mark.inner {
         None => Ok(None),
@@ -88,7 +88,7 @@ fn bar_in(mark: OpenMark, marks: Vec<OpenMark>) -> Result<Option<Stand>, Memory>
 // Behind `>` there.
 fn close_in(mark: OpenMark, marks: Vec<OpenMark>) -> Result<Option<Stand>, Memory>
     ensures { (bytes : List ℕ) → IfOk result (λ next.
-        stood bytes next ≡ mark_close mark.inner (mark_in bytes mark) (marks_of bytes marks.items)) }
+        stood bytes next ≡ mark_close mark.inner (mark_in bytes mark) (tag_marks bytes marks.items)) }
 {
     match mark.inner {
         None => Ok(None),
@@ -106,7 +106,7 @@ fn next_in(
     marks: Vec<OpenMark>,
 ) -> Result<Option<Stand>, Memory>
     ensures { IfOk result (λ next. stood bytes.now next
-        ≡ mark_next mark.inner label.now inner (mark_in bytes.now mark) (marks_of bytes.now marks.items)) }
+        ≡ mark_next mark.inner label.now inner (mark_in bytes.now mark) (tag_marks bytes.now marks.items)) }
 {
     if mark.inner.is_some() || !same_bytes(label.bytes(), mark.label(bytes)) {
         return Ok(None);
@@ -117,7 +117,7 @@ fn next_in(
 // Behind a closing tag of this label without arguments.
 fn last_in(bytes: &[u8], label: &Label, mark: OpenMark, marks: Vec<OpenMark>) -> Option<Stand>
     ensures { stood bytes.now result
-        ≡ mark_last mark.inner label.now (mark_in bytes.now mark) (marks_of bytes.now marks.items) }
+        ≡ mark_last mark.inner label.now (mark_in bytes.now mark) (tag_marks bytes.now marks.items) }
 {
     if mark.inner.is_some() || !same_bytes(label.bytes(), mark.label(bytes)) {
         return None;
@@ -126,7 +126,7 @@ fn last_in(bytes: &[u8], label: &Label, mark: OpenMark, marks: Vec<OpenMark>) ->
 }
 
 fn bar_marks(mut marks: Vec<OpenMark>) -> Result<Option<Stand>, Memory>
-    ensures { (bytes : List ℕ) → IfOk result (λ next. stood bytes next ≡ bar_marks (marks_of bytes marks.items)) }
+    ensures { (bytes : List ℕ) → IfOk result (λ next. stood bytes next ≡ bar_marks (tag_marks bytes marks.items)) }
 {
     match marks.pop() {
         None => Ok(None),
@@ -135,7 +135,7 @@ fn bar_marks(mut marks: Vec<OpenMark>) -> Result<Option<Stand>, Memory>
 }
 
 fn close_marks(mut marks: Vec<OpenMark>) -> Result<Option<Stand>, Memory>
-    ensures { (bytes : List ℕ) → IfOk result (λ next. stood bytes next ≡ close_marks (marks_of bytes marks.items)) }
+    ensures { (bytes : List ℕ) → IfOk result (λ next. stood bytes next ≡ close_marks (tag_marks bytes marks.items)) }
 {
     match marks.pop() {
         None => Ok(None),
@@ -149,7 +149,8 @@ fn next_marks(
     inner: Option<TagPlace>,
     mut marks: Vec<OpenMark>,
 ) -> Result<Option<Stand>, Memory>
-    ensures { IfOk result (λ next. stood bytes.now next ≡ next_marks label.now inner (marks_of bytes.now marks.items)) }
+    ensures { IfOk result (λ next. stood bytes.now next
+        ≡ next_marks label.now inner (tag_marks bytes.now marks.items)) }
 {
     match marks.pop() {
         None => Ok(None),
@@ -158,7 +159,7 @@ fn next_marks(
 }
 
 fn last_marks(bytes: &[u8], label: &Label, mut marks: Vec<OpenMark>) -> Option<Stand>
-    ensures { stood bytes.now result ≡ last_marks label.now (marks_of bytes.now marks.items) }
+    ensures { stood bytes.now result ≡ last_marks label.now (tag_marks bytes.now marks.items) }
 {
     match marks.pop() {
         None => None,
@@ -174,10 +175,10 @@ fn new_mark(
     inner: Option<TagPlace>,
     marks: Vec<OpenMark>,
 ) -> Result<Option<Stand>, Memory>
-    ensures { (bytes : List ℕ) → StandsAt bytes label_at label.now
+    ensures { (bytes : List ℕ) → BytesStandAt bytes label_at label.now
         → IfOk result (λ next. stood bytes next ≡ Some (record {
           inside = Inside.Parts;
-          marks = record { at = at; label = label.now; inner = inner } ∷ marks_of bytes marks.items;
+          marks = record { at = at; label = label.now; inner = inner } ∷ tag_marks bytes marks.items;
         })) }
 {
     let mark = OpenMark {
@@ -199,9 +200,9 @@ fn begun_marks(
     marks: Vec<OpenMark>,
 ) -> Result<Option<Stand>, Memory>
     requires small { at < 2 ^ 63 }
-    requires there { StandsAt bytes.now (at + (1 + length (mark_of form))) label.now }
+    requires there { BytesStandAt bytes.now (at + (1 + length (form_mark form))) label.now }
     ensures { IfOk result (λ next.
-        stood bytes.now next ≡ begun_marks at form more label.now (marks_of bytes.now marks.items)) }
+        stood bytes.now next ≡ begun_marks at form more label.now (tag_marks bytes.now marks.items)) }
 {
     match form {
         TagForm::Short => {
@@ -225,7 +226,7 @@ fn begun_marks(
 
 // Behind a backslash and a byte.
 fn escape_marks(byte: u8, marks: Vec<OpenMark>) -> Option<Stand>
-    ensures { (bytes : List ℕ) → stood bytes result ≡ escape_marks (escape_of byte) byte (marks_of bytes marks.items) }
+    ensures { (bytes : List ℕ) → stood bytes result ≡ escape_marks (escape_of byte) byte (tag_marks bytes marks.items) }
 {
     match escape_of(byte) {
         Some(Escaped::Mark | Escaped::Byte(_)) => between(marks),
@@ -251,9 +252,9 @@ fn part_marks(
     word: &TmWord,
 ) -> Result<Option<Stand>, Memory>
     requires small { at < 2 ^ 63 }
-    requires there { StandsAt bytes.now at (written (token_of word.now)) }
+    requires there { BytesStandAt bytes.now at (written (token_of word.now)) }
     ensures { IfOk result (λ next.
-        stood bytes.now next ≡ part_marks at (marks_of bytes.now marks.items) (token_of word.now)) }
+        stood bytes.now next ≡ part_marks at (tag_marks bytes.now marks.items) (token_of word.now)) }
 {
     match word {
         TmWord::White(_) | TmWord::Plain(_) => Ok(between(marks)),
@@ -271,7 +272,7 @@ fn part_marks(
 
 // A byte of a symbol's name, behind so many.
 fn name_marks(good: bool, length: usize, marks: Vec<OpenMark>) -> Option<Stand>
-    ensures { (bytes : List ℕ) → stood bytes result ≡ name_marks good length (marks_of bytes marks.items) }
+    ensures { (bytes : List ℕ) → stood bytes result ≡ name_marks good length (tag_marks bytes marks.items) }
 {
     if !good || length >= MOST_NAME {
         return None;
@@ -285,7 +286,7 @@ fn name_marks(good: bool, length: usize, marks: Vec<OpenMark>) -> Option<Stand>
 // A word more in the name of a symbol, behind so many bytes of it.
 fn symbol_marks(length: usize, marks: Vec<OpenMark>, word: &TmWord) -> Option<Stand>
     ensures { (bytes : List ℕ)
-        → stood bytes result ≡ symbol_marks length (marks_of bytes marks.items) (token_of word.now) }
+        → stood bytes result ≡ symbol_marks length (tag_marks bytes marks.items) (token_of word.now) }
 {
     match word {
         TmWord::Plain(byte) => name_marks(is_name_byte(*byte), length, marks),
@@ -302,7 +303,7 @@ fn symbol_marks(length: usize, marks: Vec<OpenMark>, word: &TmWord) -> Option<St
 
 // A word more in raw data.
 fn digit_marks(marks: Vec<OpenMark>, word: &TmWord) -> Option<Stand>
-    ensures { (bytes : List ℕ) → stood bytes result ≡ digit_marks (marks_of bytes marks.items) (token_of word.now) }
+    ensures { (bytes : List ℕ) → stood bytes result ≡ digit_marks (tag_marks bytes marks.items) (token_of word.now) }
 {
     match word {
         TmWord::Plain(byte) => {
@@ -328,9 +329,9 @@ impl Stand {
         word: &TmWord,
     ) -> Result<Option<Stand>, Memory>
         requires small { at < 2 ^ 63 }
-        requires there { StandsAt bytes.now at (written (token_of word.now)) }
+        requires there { BytesStandAt bytes.now at (written (token_of word.now)) }
         ensures { IfOk result (λ next. stood bytes.now next
-            ≡ feed_marks at self.inside (marks_of bytes.now self.marks.items) (token_of word.now)) }
+            ≡ feed_marks at self.inside (tag_marks bytes.now self.marks.items) (token_of word.now)) }
     {
         match self.inside {
             Inside::Parts => part_marks(bytes, at, self.marks, word),

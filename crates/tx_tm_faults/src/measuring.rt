@@ -5,15 +5,15 @@ ghost use Rattle.tx_tree.specs.WideTree.{WideTree};
 ghost use Rattle.tx_tree.specs.Limits.{IsWithinLimits};
 ghost use Rattle.tx_tree.specs.ReadFaults.{IsPassed};
 ghost use Rattle.tx_tm_form.specs.Bytes.{escape_of, escaped_bytes};
-ghost use Rattle.tx_tm_form.specs.Parts.{same, collection_label};
+ghost use Rattle.tx_tm_form.specs.Parts.{same_bytes, collection_label};
 ghost use Rattle.tx_tm_form.specs.Forms.{Spells};
 ghost use Rattle.tx_tm_form.specs.Machine.{ready, at, step};
-ghost use Rattle.tx_tm_form.specs.Measures.{sums_of, between, in_open, closed_open, bar_gauge, close_gauge};
+ghost use Rattle.tx_tm_form.specs.Measures.{sums_of, gauge_between, in_open, closed_open, bar_gauge, close_gauge};
 ghost use Rattle.tx_tm_form.specs.Measures.{next_gauge, last_gauge, begun_gauge, escape_gauge, part_gauge};
 ghost use Rattle.tx_tm_form.specs.Measures.{symbol_gauge, digit_gauge, feed_gauge, keep_gauge, start_gauge, put_sums};
 ghost use Rattle.tx_tm_words.specs.Words.{token_of};
 ghost use Rattle.tx_tm_faults.specs.Gauges.{open_of, opens_of, gauge_of, meter_of, IsMeter};
-ghost use Rattle.tx_tm_faults.specs.Bounds.{IsSmall, most_of, most_in_content, most_in_open, most_in, HasRoom};
+ghost use Rattle.tx_tm_faults.specs.Bounds.{IsSmallCount, most_of, most_in_content, most_in_open, most_in, HasRoom};
 
 use crate::opens::{OpenGauge, kept};
 use crate::sums::{
@@ -36,8 +36,8 @@ pub(crate) struct Gauge {
     opens: Vec<OpenGauge>,
 }
 
-fn between(here: ContentSums, opens: Vec<OpenGauge>) -> Gauge
-    ensures { gauge_of result ≡ between here (opens_of opens.items) }
+fn gauge_between(here: ContentSums, opens: Vec<OpenGauge>) -> Gauge
+    ensures { gauge_of result ≡ gauge_between here (opens_of opens.items) }
 {
     Gauge {
         within: Within::Parts,
@@ -56,16 +56,16 @@ fn in_open(
 {
     let here = opening_sums(inner, tag.collects, tag.children);
     opens.push(tag)?;
-    Ok(between(here, opens))
+    Ok(gauge_between(here, opens))
 }
 
 // Behind the tag.
 fn closed_open(tag: OpenGauge, opens: Vec<OpenGauge>) -> Gauge
-    requires { IsSmall (most_in_open (open_of tag) + 1) }
+    requires { IsSmallCount (most_in_open (open_of tag) + 1) }
     ensures { gauge_of result ≡ closed_open (open_of tag) (opens_of opens.items) }
 {
     let node = PartSums::Tag(false, node_sums(tag.children));
-    between(put_sums(tag.before.sums(), node), opens)
+    gauge_between(put_sums(tag.before.sums(), node), opens)
 }
 
 fn bar_gauge(here: ContentSums, mut opens: Vec<OpenGauge>) -> Result<Gauge, Memory>
@@ -74,10 +74,10 @@ fn bar_gauge(here: ContentSums, mut opens: Vec<OpenGauge>) -> Result<Gauge, Memo
 {
     match here {
         ContentSums::Argument(place, line) => match opens.pop() {
-            None => Ok(between(here, opens)),
+            None => Ok(gauge_between(here, opens)),
             Some(tag) => in_open(Some(place), tag.with_child(line_sums(line)), opens),
         },
-        ContentSums::Block(_) | ContentSums::Tags(_, _) => Ok(between(here, opens)),
+        ContentSums::Block(_) | ContentSums::Tags(_, _) => Ok(gauge_between(here, opens)),
     }
 }
 
@@ -87,7 +87,7 @@ fn close_gauge(here: ContentSums, mut opens: Vec<OpenGauge>) -> Result<Gauge, Me
 {
     match here {
         ContentSums::Argument(place, line) => match opens.pop() {
-            None => Ok(between(here, opens)),
+            None => Ok(gauge_between(here, opens)),
             Some(tag) => {
                 let tag = tag.with_child(line_sums(line));
                 match place {
@@ -96,7 +96,7 @@ fn close_gauge(here: ContentSums, mut opens: Vec<OpenGauge>) -> Result<Gauge, Me
                 }
             }
         },
-        ContentSums::Block(_) | ContentSums::Tags(_, _) => Ok(between(here, opens)),
+        ContentSums::Block(_) | ContentSums::Tags(_, _) => Ok(gauge_between(here, opens)),
     }
 }
 
@@ -109,7 +109,7 @@ fn next_gauge(
     ensures { IfOk result (λ next. gauge_of next ≡ next_gauge inner here (opens_of opens.items)) }
 {
     match opens.pop() {
-        None => Ok(between(here, opens)),
+        None => Ok(gauge_between(here, opens)),
         Some(tag) => in_open(inner, tag.with_child(body_sums(here)), opens),
     }
 }
@@ -119,10 +119,10 @@ fn last_gauge(here: ContentSums, mut opens: Vec<OpenGauge>) -> Gauge
     ensures { gauge_of result ≡ last_gauge here (opens_of opens.items) }
 {
     match opens.pop() {
-        None => between(here, opens),
+        None => gauge_between(here, opens),
         Some(tag) => {
             let part = long_sums(tag.children, here);
-            between(put_sums(tag.before.sums(), part), opens)
+            gauge_between(put_sums(tag.before.sums(), part), opens)
         }
     }
 }
@@ -136,7 +136,8 @@ fn new_open(
     opens: Vec<OpenGauge>,
 ) -> Result<Gauge, Memory>
     ensures { IfOk result (λ next. gauge_of next
-        ≡ in_open inner (record { before = here; collects = same label.now collection_label; children = sums_of [] })
+        ≡ in_open inner
+        (record { before = here; collects = same_bytes label.now collection_label; children = sums_of [] })
         (opens_of opens.items)) }
 {
     let tag = OpenGauge {
@@ -165,7 +166,7 @@ fn begun_gauge(
                 return new_open(alloc, Some(TagPlace::InShort), label, here, opens);
             }
             let node = PartSums::Tag(false, node_sums(no_sums()));
-            Ok(between(put_sums(here, node), opens))
+            Ok(gauge_between(put_sums(here, node), opens))
         }
         TagForm::Long => new_open(alloc, header_place(more), label, here, opens),
         TagForm::Middle => next_gauge(header_place(more), here, opens),
@@ -181,15 +182,15 @@ fn begun_gauge(
 
 // Behind so many bytes of a text.
 fn text_gauge(length: u64, here: ContentSums, opens: Vec<OpenGauge>) -> Gauge
-    requires { IsSmall (most_in_content here + length) }
-    ensures { gauge_of result ≡ between (put_sums here (PartSums.Text length)) (opens_of opens.items) }
+    requires { IsSmallCount (most_in_content here + length) }
+    ensures { gauge_of result ≡ gauge_between (put_sums here (PartSums.Text length)) (opens_of opens.items) }
 {
-    between(put_sums(here, PartSums::Text(length)), opens)
+    gauge_between(put_sums(here, PartSums::Text(length)), opens)
 }
 
 // Behind a backslash and a byte.
 fn escape_gauge(byte: u8, here: ContentSums, opens: Vec<OpenGauge>) -> Gauge
-    requires { IsSmall (most_in_content here + 1) }
+    requires { IsSmallCount (most_in_content here + 1) }
     ensures { gauge_of result ≡ escape_gauge (escape_of byte) here (opens_of opens.items) }
 {
     match escape_of(byte) {
@@ -216,9 +217,9 @@ fn part_gauge(
     match word {
         TmWord::White(byte) => {
             let gap = PartSums::Gap(white_of(*byte));
-            Ok(between(put_sums(here, gap), opens))
+            Ok(gauge_between(put_sums(here, gap), opens))
         }
-        TmWord::Join(_) => Ok(between(here, opens)),
+        TmWord::Join(_) => Ok(gauge_between(here, opens)),
         TmWord::Plain(_) => Ok(text_gauge(1, here, opens)),
         TmWord::Escape(byte) => Ok(escape_gauge(*byte, here, opens)),
         TmWord::Raw => Ok(Gauge {
@@ -234,7 +235,7 @@ fn part_gauge(
 
 // A word more in the name of a symbol, behind so many bytes of it.
 fn symbol_gauge(length: u64, here: ContentSums, opens: Vec<OpenGauge>, word: &TmWord) -> Gauge
-    requires { IsSmall (length + most_in_content here + 2) }
+    requires { IsSmallCount (length + most_in_content here + 2) }
     ensures { gauge_of result ≡ symbol_gauge length here (opens_of opens.items) (token_of word.now) }
 {
     match word {
@@ -249,13 +250,13 @@ fn symbol_gauge(length: u64, here: ContentSums, opens: Vec<OpenGauge>, word: &Tm
 
 // A word more in raw data, behind so many digits.
 fn digit_gauge(length: u64, here: ContentSums, opens: Vec<OpenGauge>, word: &TmWord) -> Gauge
-    requires { IsSmall (length + most_in_content here + 4) }
+    requires { IsSmallCount (length + most_in_content here + 4) }
     ensures { gauge_of result ≡ digit_gauge length here (opens_of opens.items) (token_of word.now) }
 {
     match word {
         TmWord::Close => {
             let node = PartSums::Tag(false, node_sums(leaf_sums(length)));
-            between(put_sums(here, node), opens)
+            gauge_between(put_sums(here, node), opens)
         }
         _ => Gauge {
             within: Within::Digits(length + 1),
@@ -268,7 +269,7 @@ fn digit_gauge(length: u64, here: ContentSums, opens: Vec<OpenGauge>, word: &TmW
 impl Gauge {
     // Behind the word.
     fn take(self, alloc: Global, word: &TmWord) -> Result<Gauge, Memory>
-        requires { IsSmall (most_in (gauge_of self) + 4) }
+        requires { IsSmallCount (most_in (gauge_of self) + 4) }
         ensures { IfOk result (λ next. gauge_of next ≡ feed_gauge (gauge_of self) (token_of word.now)) }
     {
         match self.within {
@@ -294,13 +295,13 @@ impl Meter {
         Meter {
             lexer: Lexer::Ready,
             behind_join: false,
-            gauge: between(empty_file(), Vec::new(alloc)),
+            gauge: gauge_between(empty_file(), Vec::new(alloc)),
         }
     }
 
     // Behind a byte, or None where no word goes on so.
     fn step(self, alloc: Global, byte: u8) -> Result<Option<Meter>, Memory>
-        requires { IsSmall (most_in (gauge_of self.gauge) + 4) }
+        requires { IsSmallCount (most_in (gauge_of self.gauge) + 4) }
         ensures { IfOk result (λ next. IsMeter next (step keep_gauge (meter_of self) byte)) }
     {
         let Meter {

@@ -1,8 +1,8 @@
 // Open tags that are measured.
 ghost use Rattle.std.specs.Prelude.{◌≡◌, ◌+◌, IfOk};
-ghost use Rattle.tx_tm_form.specs.Measures.{child_in};
-ghost use Rattle.tx_tm_faults.specs.Bounds.{IsSmall, most_of};
-ghost use Rattle.tx_tm_faults.specs.Gauges.{before_of, open_of};
+ghost use Rattle.tx_tm_form.specs.Measures.{with_child_sums};
+ghost use Rattle.tx_tm_faults.specs.Bounds.{IsSmallCount, most_of};
+ghost use Rattle.tx_tm_faults.specs.Gauges.{sums_before, open_of};
 
 use crate::sums::both;
 use std::alloc::Global;
@@ -32,7 +32,7 @@ pub(crate) struct OpenGauge {
 
 /// The measures as they are kept.
 pub(crate) fn kept(alloc: Global, here: ContentSums) -> Result<Before, Memory>
-    ensures { IfOk result (λ before. before_of before ≡ here) }
+    ensures { IfOk result (λ before. sums_before before ≡ here) }
 {
     match here {
         ContentSums::Argument(place, line) => Ok(Before::Argument(place, line)),
@@ -47,7 +47,7 @@ pub(crate) fn kept(alloc: Global, here: ContentSums) -> Result<Before, Memory>
 impl Before {
     /// The measures.
     pub(crate) fn sums(self) -> ContentSums
-        ensures { result ≡ before_of self }
+        ensures { result ≡ sums_before self }
     {
         match self {
             Before::Argument(place, line) => ContentSums::Argument(place, line),
@@ -62,8 +62,8 @@ impl Before {
 impl OpenGauge {
     /// With a child more.
     pub(crate) fn with_child(self, child: Sums) -> OpenGauge
-        requires { IsSmall (most_of self.children + most_of child) }
-        ensures { open_of result ≡ child_in (open_of self) child }
+        requires { IsSmallCount (most_of self.children + most_of child) }
+        ensures { open_of result ≡ with_child_sums (open_of self) child }
     {
         OpenGauge {
             before: self.before,

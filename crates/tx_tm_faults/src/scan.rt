@@ -1,14 +1,14 @@
 // Why bytes spell no tree: a second pass, with no trees.
 ghost use Rattle.std.specs.Prelude.{◌≡◌, ℕ, ◌≤◌, ◌<◌, ◌+◌, ◌^◌, ◌∷◌, [], ◌++◌, ◌||◌, List, length};
 ghost use Rattle.std.specs.Prelude.{reverse, true, false, if◌then◌else◌, option_copied, Some, None, IfOk};
-ghost use Rattle.tx_tm_form.specs.Tokens.{mark_of, written};
+ghost use Rattle.tx_tm_form.specs.Tokens.{form_mark, written};
 ghost use Rattle.tx_tm_form.specs.Machine.{ready, at, step};
 ghost use Rattle.tx_tm_form.specs.Fronts.{begins};
 ghost use Rattle.tx_tm_form.specs.Faults.{begun_bytes};
 ghost use Rattle.tx_tm_form.specs.Marks.{is_parts, is_symbol, begins_marks, form_goes_on, keep_marks, start_marks};
 ghost use Rattle.tx_tm_form.specs.Marks.{marks_go_on, mismatch, fault_by, stop_fault, is_whole, spells_whole};
 ghost use Rattle.tx_tm_words.specs.Words.{token_of, lex_of};
-ghost use Rattle.tx_tm_faults.specs.Stands.{marks_of, first_mark, standing_of, StandsAt};
+ghost use Rattle.tx_tm_faults.specs.Stands.{tag_marks, first_mark, standing_of, BytesStandAt};
 ghost use Rattle.tx_tm_faults.specs.Scans.{scan_of, IsScan, Tells};
 
 use crate::marking::{OpenMark, Stand};
@@ -36,7 +36,7 @@ fn begins(bytes: &[u8], others: &[u8]) -> bool
 
 // Whether the label so far goes on to that of the innermost tag, of which a block stands open.
 fn begins_marks(bytes: &[u8], label: &LabelFront, marks: &[OpenMark]) -> bool
-    ensures { result ≡ begins_marks label.now (marks_of bytes.now marks.now) }
+    ensures { result ≡ begins_marks label.now (tag_marks bytes.now marks.now) }
 {
     match innermost(marks) {
         None => false,
@@ -45,7 +45,7 @@ fn begins_marks(bytes: &[u8], label: &LabelFront, marks: &[OpenMark]) -> bool
 }
 
 fn form_goes_on(bytes: &[u8], form: TagForm, label: &LabelFront, marks: &[OpenMark]) -> bool
-    ensures { result ≡ form_goes_on form label.now (marks_of bytes.now marks.now) }
+    ensures { result ≡ form_goes_on form label.now (tag_marks bytes.now marks.now) }
 {
     match form {
         TagForm::Short | TagForm::Long => true,
@@ -67,7 +67,7 @@ fn is_symbol(inside: Inside) -> bool
 
 // The fault of a byte in the label of a middle or closing tag.
 fn mismatch(marks: &[OpenMark], place: usize) -> ReadFault
-    ensures { (bytes : List ℕ) → result ≡ mismatch (marks_of bytes marks.now) place }
+    ensures { (bytes : List ℕ) → result ≡ mismatch (tag_marks bytes marks.now) place }
 {
     match innermost(marks) {
         None => ReadFault::Stray(place),
@@ -76,7 +76,7 @@ fn mismatch(marks: &[OpenMark], place: usize) -> ReadFault
 }
 
 fn mark_len(form: TagForm) -> usize
-    ensures { result ≡ length (mark_of form) }
+    ensures { result ≡ length (form_mark form) }
 {
     match form {
         TagForm::Short => 0,
@@ -116,7 +116,7 @@ fn behind_word(
     word: &TmWord,
 ) -> Result<Option<Scan>, Memory>
     requires small { taken < 2 ^ 63 }
-    requires there { StandsAt bytes.now taken (written (token_of word.now)) }
+    requires there { BytesStandAt bytes.now taken (written (token_of word.now)) }
     ensures { IfOk result (λ next. IsScan bytes.now next (at ready
         (keep_marks
         (record { taken = taken; behind_join = behind_join; now = Some (standing_of bytes.now stand) })
@@ -208,7 +208,7 @@ impl Scan {
     // Behind a byte, or None where no word goes on so, or where it cannot stand there.
     fn step(self, alloc: Global, bytes: &[u8], byte: u8) -> Result<Option<Scan>, Memory>
         requires small { self.taken < 2 ^ 63 }
-        requires there { StandsAt bytes.now self.taken (begun_bytes (lex_of self.lexer) ++ byte ∷ []) }
+        requires there { BytesStandAt bytes.now self.taken (begun_bytes (lex_of self.lexer) ++ byte ∷ []) }
         ensures { IfOk result (λ next. IsScan bytes.now next (step keep_marks (scan_of bytes.now self) byte)) }
     {
         let Scan {

@@ -6,9 +6,9 @@ ghost use Rattle.std.specs.Prelude.{◌≡◌, ◌+◌, max, ◌==◌, ◌&&◌,
 ghost use Rattle.tx_tm_form.specs.Growing.{longer};
 ghost use Rattle.tx_tm_form.specs.Measures.{no_sums, both, leaf_sums, node_sums, concat_sums, no_line, ended_line};
 ghost use Rattle.tx_tm_form.specs.Measures.{line_sums, grow_line, no_block, first_stage_of, ended_sums};
-ghost use Rattle.tx_tm_form.specs.Measures.{resumed_line, white_block, part_block, widen_block, block_at};
+ghost use Rattle.tx_tm_form.specs.Measures.{resumed_line, white_block, part_block, widen_block, block_sums_at};
 ghost use Rattle.tx_tm_form.specs.Measures.{block_sums, put_sums, body_sums, long_sums, body_behind, opening_sums};
-ghost use Rattle.tx_tm_faults.specs.Bounds.{IsSmall, most_of, most_in_line, most_in_part};
+ghost use Rattle.tx_tm_faults.specs.Bounds.{IsSmallCount, most_of, most_in_line, most_in_part};
 ghost use Rattle.tx_tm_faults.specs.Bounds.{of_run, most_in_block, most_in_content};
 
 use tx_tm_form::{BlockSums, ContentSums, LineSums, PartSums, Stage, Sums, TagPlace, White};
@@ -28,7 +28,7 @@ pub(crate) fn no_sums() -> Sums
 
 // Of all these trees.
 pub(crate) fn both(one: Sums, other: Sums) -> Sums
-    requires { IsSmall (most_of one + most_of other) }
+    requires { IsSmallCount (most_of one + most_of other) }
     ensures { result ≡ both one other }
 {
     Sums {
@@ -42,7 +42,7 @@ pub(crate) fn both(one: Sums, other: Sums) -> Sums
 
 // Of a leaf of so many bytes.
 pub(crate) fn leaf_sums(length: u64) -> Sums
-    requires { IsSmall length }
+    requires { IsSmallCount length }
     ensures { result ≡ leaf_sums length }
 {
     Sums {
@@ -56,7 +56,7 @@ pub(crate) fn leaf_sums(length: u64) -> Sums
 
 // Of a node with these children.
 pub(crate) fn node_sums(children: Sums) -> Sums
-    requires { IsSmall (most_of children) }
+    requires { IsSmallCount (most_of children) }
     ensures { result ≡ node_sums children }
 {
     Sums {
@@ -70,7 +70,7 @@ pub(crate) fn node_sums(children: Sums) -> Sums
 
 // Of the one tree, or the empty text, or a concat.
 fn concat_sums(sums: Sums) -> Sums
-    requires { IsSmall (most_of sums) }
+    requires { IsSmallCount (most_of sums) }
     ensures { result ≡ concat_sums sums }
 {
     match sums.count {
@@ -92,7 +92,7 @@ fn no_line() -> LineSums
 
 // Of the trees of a line, the text at its end included.
 fn ended_line(line: LineSums) -> Sums
-    requires { IsSmall (most_in_line line) }
+    requires { IsSmallCount (most_in_line line) }
     ensures { result ≡ ended_line line }
 {
     if line.length == 0 {
@@ -103,14 +103,14 @@ fn ended_line(line: LineSums) -> Sums
 
 // Of the tree of a line.
 pub(crate) fn line_sums(line: LineSums) -> Sums
-    requires { IsSmall (most_in_line line) }
+    requires { IsSmallCount (most_in_line line) }
     ensures { result ≡ line_sums line }
 {
     concat_sums(ended_line(line))
 }
 
 fn gap_line(line: LineSums) -> u64
-    requires { IsSmall line.length }
+    requires { IsSmallCount line.length }
     ensures { result ≡ (if line.in_run then line.length else line.length + 1) }
 {
     if line.in_run {
@@ -120,7 +120,7 @@ fn gap_line(line: LineSums) -> u64
 }
 
 fn grow_line(line: LineSums, part: PartSums) -> LineSums
-    requires { IsSmall (most_in_line line + most_in_part part) }
+    requires { IsSmallCount (most_in_line line + most_in_part part) }
     ensures { result ≡ grow_line line part }
 {
     match part {
@@ -164,7 +164,7 @@ fn first_stage_of(part: PartSums) -> Stage
 
 // Of the paragraphs that have ended before a part behind the run.
 fn ended_sums(run: Option<White>, full: Sums, now: LineSums) -> Sums
-    requires { IsSmall (most_of full + most_in_line now) }
+    requires { IsSmallCount (most_of full + most_in_line now) }
     ensures { result ≡ ended_sums run full now }
 {
     match run {
@@ -175,7 +175,7 @@ fn ended_sums(run: Option<White>, full: Sums, now: LineSums) -> Sums
 
 // What that part goes on with.
 fn resumed_line(run: Option<White>, now: LineSums) -> LineSums
-    requires { IsSmall (most_in_line now + of_run run) }
+    requires { IsSmallCount (most_in_line now + of_run run) }
     ensures { result ≡ resumed_line run now }
 {
     match run {
@@ -201,7 +201,7 @@ fn white_block(block: BlockSums, white: White) -> BlockSums
 }
 
 fn later_block(block: BlockSums, part: PartSums) -> BlockSums
-    requires { IsSmall (most_in_block block + most_in_part part) }
+    requires { IsSmallCount (most_in_block block + most_in_part part) }
     ensures { result ≡ part_block Stage.Ordinary block part }
 {
     BlockSums {
@@ -213,7 +213,7 @@ fn later_block(block: BlockSums, part: PartSums) -> BlockSums
 }
 
 fn part_block(block: BlockSums, part: PartSums) -> BlockSums
-    requires { IsSmall (most_in_block block + most_in_part part) }
+    requires { IsSmallCount (most_in_block block + most_in_part part) }
     ensures { result ≡ part_block block.stage block part }
 {
     match block.stage {
@@ -228,7 +228,7 @@ fn part_block(block: BlockSums, part: PartSums) -> BlockSums
 }
 
 fn widen_block(block: BlockSums, part: PartSums) -> BlockSums
-    requires { IsSmall (most_in_block block + most_in_part part) }
+    requires { IsSmallCount (most_in_block block + most_in_part part) }
     ensures { result ≡ widen_block block part }
 {
     match part {
@@ -239,7 +239,7 @@ fn widen_block(block: BlockSums, part: PartSums) -> BlockSums
 
 // Of the tree of a block.
 fn block_sums(block: BlockSums) -> Sums
-    requires { IsSmall (most_in_block block) }
+    requires { IsSmallCount (most_in_block block) }
     ensures { result ≡ block_sums block }
 {
     match block.stage {
@@ -250,7 +250,7 @@ fn block_sums(block: BlockSums) -> Sums
 }
 
 fn put_tags(tags: Sums, block: BlockSums, part: PartSums) -> ContentSums
-    requires { IsSmall (most_in_content (ContentSums.Tags tags block) + most_in_part part) }
+    requires { IsSmallCount (most_in_content (ContentSums.Tags tags block) + most_in_part part) }
     ensures { result ≡ put_sums (ContentSums.Tags tags block) part }
 {
     let widened = widen_block(block, part);
@@ -262,7 +262,7 @@ fn put_tags(tags: Sums, block: BlockSums, part: PartSums) -> ContentSums
 }
 
 pub(crate) fn put_sums(here: ContentSums, part: PartSums) -> ContentSums
-    requires { IsSmall (most_in_content here + most_in_part part) }
+    requires { IsSmallCount (most_in_content here + most_in_part part) }
     ensures { result ≡ put_sums here part }
 {
     match here {
@@ -276,7 +276,7 @@ pub(crate) fn put_sums(here: ContentSums, part: PartSums) -> ContentSums
 
 // Of the tree of content that is a block.
 pub(crate) fn body_sums(here: ContentSums) -> Sums
-    requires { IsSmall (most_in_content here) }
+    requires { IsSmallCount (most_in_content here) }
     ensures { result ≡ body_sums here }
 {
     match here {
@@ -288,7 +288,7 @@ pub(crate) fn body_sums(here: ContentSums) -> Sums
 
 // Of a long tag with one block, behind these children.
 pub(crate) fn long_sums(children: Sums, here: ContentSums) -> PartSums
-    requires { IsSmall (most_of children + most_in_content here) }
+    requires { IsSmallCount (most_of children + most_in_content here) }
     ensures { result ≡ long_sums children here }
 {
     match here {

@@ -9,9 +9,9 @@ use Rattle.tx_tm_form.specs.declared.bytes.ByteKind.TheVariants.{Return, Backsla
 use Rattle.tx_tm_form.specs.declared.places.TagForm.{TagForm}
 use Rattle.tx_tm_form.specs.declared.places.TagForm.TheVariants.{Short, Long, Middle, Closing}
 use Rattle.tx_tm_form.specs.Bytes.{kind_of}
-use Rattle.tx_tm_form.specs.Tokens.{Token, mark_of, written}
+use Rattle.tx_tm_form.specs.Tokens.{Token, form_mark, written}
 use Rattle.tx_tm_form.specs.Machine.{Lex, ready, slashed, returned, angled, labelled, lex_slashed, lex_angled, Bytewise}
-use Rattle.tx_tm_form.specs.Machine.{at, given, step, run, Keeping, keep, keeps, start}
+use Rattle.tx_tm_form.specs.Machine.{at, after_lexed, step, run, Keeping, keep, keeps, start}
 use Rattle.tx_tm_form.specs.Faults.{begun_bytes, IsBegun, IsScanned}
 use Rattle.tx_tm_form.proofs.Words.{return_kind, bar_kind, backslash_kind, slash_kind, name_kind, lexed_first}
 use Rattle.tx_tm_form.proofs.Words.{lexed_letter, byte_of, backslash_step, less_step, folds, tokens_run, folds_keeps}
@@ -23,16 +23,16 @@ module _ (S : Type 0) (fd : S → Token → S) where
       → length m + length l ≤ MOST_LABEL → run fd (at (labelled form m) s) l ≡ at (labelled form (m ++ l)) s
   letters_run [] m form s h n = ap (λ a. run fd (at (labelled form a) s) []) (sym (append-nil m))
   letters_run (b ∷ l) m form s h n =
-      ap (λ r. run fd (given fd s r) l) (lexed_letter form m (kind_of b) b (name_kind b h.0) (omega arith))
+      ap (λ r. run fd (after_lexed fd s r) l) (lexed_letter form m (kind_of b) b (name_kind b h.0) (omega arith))
       ∙ letters_run l (m ++ b ∷ []) form s h.1 (omega (arith, length-append m (b ∷ [])))
       ∙ ap (λ a. run fd (at (labelled form a) s) []) (append_assoc m (b ∷ []) l)
 
   label_begun : (form : TagForm) (l : List ℕ) (s : S) → IsBegun (labelled form l)
-      → run fd (at angled s) (mark_of form ++ l) ≡ at (labelled form l) s
+      → run fd (at angled s) (form_mark form ++ l) ≡ at (labelled form l) s
   unfolding lex_angled
   label_begun Short [] s h = absurd (omega (arith, h.1))
   label_begun Short (b ∷ l) s h =
-      ap (λ r. run fd (given fd s r) l) (lexed_first (kind_of b) b (name_kind b h.0.0.0))
+      ap (λ r. run fd (after_lexed fd s r) l) (lexed_first (kind_of b) b (name_kind b h.0.0.0))
       ∙ letters_run l (b ∷ []) Short s h.0.0.1 (omega (arith, h.0.1))
   label_begun Long l s h = byte_of S fd Backslash 92 angled s l backslash_kind
       ∙ letters_run l [] Long s h.0.0 (omega (arith, h.0.1))
@@ -47,7 +47,7 @@ module _ (S : Type 0) (fd : S → Token → S) where
   begun_run slashed s h = backslash_step S fd s []
   begun_run returned s h = backslash_step S fd s (13 ∷ []) ∙ byte_of S fd Return 13 slashed s [] return_kind
   begun_run angled s h = less_step S fd s []
-  begun_run (labelled form l) s h = less_step S fd s (mark_of form ++ l) ∙ label_begun form l s h
+  begun_run (labelled form l) s h = less_step S fd s (form_mark form ++ l) ∙ label_begun form l s h
 
   pub run_behind : (x y : List ℕ) (w : Bytewise S) → run fd w (x ++ y) ≡ run fd (run fd w x) y
   run_behind [] y w = refl

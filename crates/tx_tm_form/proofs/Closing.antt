@@ -13,14 +13,17 @@ use Rattle.tx_tm_form.specs.declared.places.TagForm.TheVariants.{Short, Long, Mi
 use Rattle.tx_tm_form.specs.declared.places.TagPlace.{TagPlace}
 use Rattle.tx_tm_form.specs.declared.places.TagPlace.TheVariants.{InShort, InHeader, InClosing}
 use Rattle.tx_tm_form.specs.Bytes.{kind_of, is_plain, escape_of, can_escape}
-use Rattle.tx_tm_form.specs.Tokens.{Token, plain, escape, head, close, written, IsToken, is_dropped, kept}
-use Rattle.tx_tm_form.specs.Parts.{Part, text, tag, raw_data_label}
-use Rattle.tx_tm_form.specs.Forms.{nothing, parts_of, symbol_bytes, Spells}
-use Rattle.tx_tm_form.specs.Growing.{Content, inline, blocks, collecting, no_paragraphs, put, place_of, content_of}
-use Rattle.tx_tm_form.specs.Growing.{block_of, tree_of_block, as_block, file_tree, long_of, block_behind}
-use Rattle.tx_tm_form.specs.Machine.{Open, open_tag, State, reading, naming, counting, failed, go, with_child, in_tag}
+use Rattle.tx_tm_form.specs.Tokens.{Token, plain, escape, head, close, written, IsToken, is_dropped, without_joins}
+use Rattle.tx_tm_form.specs.Parts.{ContentPart, text, tag, raw_data_label}
+use Rattle.tx_tm_form.specs.Forms.{nothing, piece_parts, symbol_bytes, Spells}
+use Rattle.tx_tm_form.specs.Growing.{Content, inline, blocks, collecting, no_paragraphs, put_part, place_of}
+use Rattle.tx_tm_form.specs.Growing.{tree_as_argument}
+use Rattle.tx_tm_form.specs.Growing.{tree_as_block, tree_of_block, as_block, file_tree, long_of, block_behind}
+use Rattle.tx_tm_form.specs.Machine.{Open, open_tag, State, reading, naming, counting, failed, go, open_with_child}
+use Rattle.tx_tm_form.specs.Machine.{in_tag}
 use Rattle.tx_tm_form.specs.Machine.{last_argument, next_block, last_block, feed, feeds, Lex, ready, slashed, returned}
-use Rattle.tx_tm_form.specs.Machine.{angled, labelled, lex_slashed, lex_returned, lex_angled, Bytewise, at, lost, given}
+use Rattle.tx_tm_form.specs.Machine.{angled, labelled, lex_slashed, lex_returned, lex_angled, Bytewise, at, lost}
+use Rattle.tx_tm_form.specs.Machine.{after_lexed}
 use Rattle.tx_tm_form.specs.Machine.{step, run, Keeping, keep, start, tree_in, reads}
 use Rattle.tx_tm_form.specs.Fronts.{begins, begins_open, can_begin, can_go_on, goes_on}
 use Rattle.tx_tm_form.specs.Faults.{IsBegun}
@@ -52,7 +55,7 @@ frame_label (Some InClosing) l ks q h = h.4.2
 frame_label None l ks q h = h.2
 
 pub here_placed : (fs : List Open) (here : Content) (ts : List Token) → Here here fs ts → IsPlaced here fs
-here_placed [] here ts h = ap place_of h.1 ∙ place_is (parts_of h.0) (blocks no_paragraphs)
+here_placed [] here ts h = ap place_of h.1 ∙ place_is (piece_parts h.0) (blocks no_paragraphs)
 here_placed (f ∷ fs) here ts h = (frame_label h.0 f.label f.children h.2 h.5, here_placed fs f.before h.1 h.4)
 
 took_opened : (s : State) (ts : List Token) → Took s ts → IsOpened s
@@ -61,7 +64,7 @@ took_opened (naming n here fs) ts h = here_placed fs here h.0 h.1
 took_opened (counting ds here fs) ts h = here_placed fs here h.0 h.1
 took_opened failed ts h = tt
 
-put_placed : (fs : List Open) (here : Content) (p : Part) → IsPlaced here fs → IsPlaced (put here p) fs
+put_placed : (fs : List Open) (here : Content) (p : ContentPart) → IsPlaced here fs → IsPlaced (put_part here p) fs
 put_placed [] here p h = place_is (p ∷ []) here ∙ h
 put_placed (f ∷ fs) here p h = h
 
@@ -96,27 +99,27 @@ file_closes (collecting x) e = (tree_of_block (as_block x), refl)
 -- in a block, where the open tag may end or go on
 pub last_there : (here : Content) (f : Open) (fs : List Open) → place_of here ≡ None
     → feed (reading here (f ∷ fs)) (head Closing f.label false) ≡ reading
-    (put f.before (long_of f.label f.children here)) fs
+    (put_part f.before (long_of f.label f.children here)) fs
 unfolding feed
 last_there here f fs e =
     ap (λ o. last_block o f.label here (f ∷ fs)) e
-    ∙ ap (λ c. go c (reading (put f.before (long_of f.label f.children here)) fs)) (same_self f.label)
+    ∙ ap (λ c. go c (reading (put_part f.before (long_of f.label f.children here)) fs)) (same_self f.label)
 
 pub middle_there : (here : Content) (f : Open) (fs : List Open) → place_of here ≡ None
-    → feed (reading here (f ∷ fs)) (head Middle f.label false) ≡ in_tag None (with_child f (block_of here)) fs
+    → feed (reading here (f ∷ fs)) (head Middle f.label false) ≡ in_tag None (open_with_child f (tree_as_block here)) fs
 unfolding feed
 middle_there here f fs e =
     ap (λ o. next_block o f.label None here (f ∷ fs)) e
-    ∙ ap (λ c. go c (in_tag None (with_child f (block_of here)) fs)) (same_self f.label)
+    ∙ ap (λ c. go c (in_tag None (open_with_child f (tree_as_block here)) fs)) (same_self f.label)
 
 block_closes : (f : Open) (fs : List Open) (here : Content) (j : Bool) → place_of here ≡ None → IsPlaced here (f ∷ fs)
     → Closes fs → Closable (at ready (keeping j (reading here (f ∷ fs))))
 block_closes f fs here j e v h =
     by_token (head Closing f.label false) j (reading here (f ∷ fs))
-    (reading (put f.before (long_of f.label f.children here)) fs) v.0
+    (reading (put_part f.before (long_of f.label f.children here)) fs) v.0
     (omega arith, (omega arith, bytes_together f.label (62 ∷ []) (label_bytes f.label v.0.each) (omega arith, tt))) refl
     (last_there here f fs e)
-    (h (put f.before (long_of f.label f.children here)) false
+    (h (put_part f.before (long_of f.label f.children here)) false
     (put_placed fs f.before (long_of f.label f.children here) v.1))
 
 new_block_closes : (f : Open) (fs : List Open) (ts : List WideTree) → IsLabel f.label → IsPlaced f.before fs → Closes fs
@@ -129,18 +132,18 @@ tag_closes : (w : Option TagPlace) (f : Open) (fs : List Open) (here : Content) 
 unfolding feed
 tag_closes None f fs here j e v h = block_closes f fs here j e v h
 tag_closes (Some InShort) f fs here j e v h =
-    let x : Part = tag false (node f.label (forest (f.children ++ content_of here ∷ []))) in
-    by_token close j (reading here (f ∷ fs)) (reading (put f.before x) fs) tt (omega arith, tt) refl
-    (ap (λ o. last_argument o here (f ∷ fs)) e) (h (put f.before x) false (put_placed fs f.before x v.1))
+    let x : ContentPart = tag false (node f.label (forest (f.children ++ tree_as_argument here ∷ []))) in
+    by_token close j (reading here (f ∷ fs)) (reading (put_part f.before x) fs) tt (omega arith, tt) refl
+    (ap (λ o. last_argument o here (f ∷ fs)) e) (h (put_part f.before x) false (put_placed fs f.before x v.1))
 tag_closes (Some InClosing) f fs here j e v h =
-    let x : Part = tag false (node f.label (forest (f.children ++ content_of here ∷ []))) in
-    by_token close j (reading here (f ∷ fs)) (reading (put f.before x) fs) tt (omega arith, tt) refl
-    (ap (λ o. last_argument o here (f ∷ fs)) e) (h (put f.before x) false (put_placed fs f.before x v.1))
+    let x : ContentPart = tag false (node f.label (forest (f.children ++ tree_as_argument here ∷ []))) in
+    by_token close j (reading here (f ∷ fs)) (reading (put_part f.before x) fs) tt (omega arith, tt) refl
+    (ap (λ o. last_argument o here (f ∷ fs)) e) (h (put_part f.before x) false (put_placed fs f.before x v.1))
 tag_closes (Some InHeader) f fs here j e v h =
-    by_token close j (reading here (f ∷ fs)) (in_tag None (with_child f (content_of here)) fs) tt
+    by_token close j (reading here (f ∷ fs)) (in_tag None (open_with_child f (tree_as_argument here)) fs) tt
     (omega arith, tt) refl
     (ap (λ o. last_argument o here (f ∷ fs)) e)
-    (new_block_closes f fs (f.children ++ content_of here ∷ []) v.0 v.1 h)
+    (new_block_closes f fs (f.children ++ tree_as_argument here ∷ []) v.0 v.1 h)
 
 tags_close : (fs : List Open) → Closes fs
 tags_close [] here j v = let u = file_closes here v in ([], tt, u.0, u.1)
@@ -164,10 +167,10 @@ name_closes : (n : List ℕ) (here : Content) (fs : List Open) (j : Bool) → Is
     → Closable (at ready (keeping j (naming n here fs)))
 unfolding feed
 name_closes n here fs j v h =
-    by_token (escape 62) j (naming n here fs) (reading (put here (text (symbol_bytes n))) fs) escape_greater
+    by_token (escape 62) j (naming n here fs) (reading (put_part here (text (symbol_bytes n))) fs) escape_greater
     (omega arith, (omega arith, tt)) refl
-    (ap (λ z. go z (reading (put here (text (symbol_bytes n))) fs)) (le-leb 1 (length n) h))
-    (tags_close fs (put here (text (symbol_bytes n))) false (put_placed fs here (text (symbol_bytes n)) v))
+    (ap (λ z. go z (reading (put_part here (text (symbol_bytes n))) fs)) (le-leb 1 (length n) h))
+    (tags_close fs (put_part here (text (symbol_bytes n))) false (put_placed fs here (text (symbol_bytes n)) v))
 
 state_closes : (s : State) (j : Bool) → IsOpened s → can_go_on ready s ≡ true → Closable (at ready (keeping j s))
 unfolding feed
@@ -177,9 +180,9 @@ state_closes (naming [] here fs) j v h =
     (name_closes (97 ∷ []) here fs false v (omega arith))
 state_closes (naming (b ∷ n) here fs) j v h = name_closes (b ∷ n) here fs j v (omega arith)
 state_closes (counting ds here fs) j v h =
-    let x : Part = tag false (node raw_data_label (forest (leaf ds ∷ []))) in
-    by_token close j (counting ds here fs) (reading (put here x) fs) tt (omega arith, tt) refl refl
-    (tags_close fs (put here x) false (put_placed fs here x v))
+    let x : ContentPart = tag false (node raw_data_label (forest (leaf ds ∷ []))) in
+    by_token close j (counting ds here fs) (reading (put_part here x) fs) tt (omega arith, tt) refl refl
+    (tags_close fs (put_part here x) false (put_placed fs here x v))
 state_closes failed j v h = absurd cc
 
 -- ---- a tag's beginning
@@ -256,8 +259,8 @@ label_closes : (form : TagForm) (m : List ℕ) (j : Bool) (here : Content) (fs :
 unfolding feed
 label_closes Short m j here fs v g h =
     new_label_closes Short m j here fs g (λ l k.
-    let x : Part = tag false (node l (forest [])) in
-    (reading (put here x) fs, refl, tags_close fs (put here x) false (put_placed fs here x v)))
+    let x : ContentPart = tag false (node l (forest [])) in
+    (reading (put_part here x) fs, refl, tags_close fs (put_part here x) false (put_placed fs here x v)))
 label_closes Long m j here fs v g h =
     new_label_closes Long m j here fs g
     (λ l k. (
@@ -268,29 +271,29 @@ label_closes Long m j here fs v g h =
 label_closes Middle m j here [] v g h = absurd (none_open (place_of here) m h)
 label_closes Middle m j here (f ∷ fs) v g h =
     let p = goes_through (place_of here) m f fs h in
-    open_label_closes Middle m j here f fs (in_tag None (with_child f (block_of here)) fs) v.0 p.1
-    (middle_there here f fs p.0) (new_block_closes f fs (f.children ++ block_of here ∷ []) v.0 v.1 (tags_close fs))
+    open_label_closes Middle m j here f fs (in_tag None (open_with_child f (tree_as_block here)) fs) v.0 p.1
+    (middle_there here f fs p.0) (new_block_closes f fs (f.children ++ tree_as_block here ∷ []) v.0 v.1 (tags_close fs))
 label_closes Closing m j here [] v g h = absurd (none_open (place_of here) m h)
 label_closes Closing m j here (f ∷ fs) v g h =
     let p = goes_through (place_of here) m f fs h in
     let x = long_of f.label f.children here in
-    open_label_closes Closing m j here f fs (reading (put f.before x) fs) v.0 p.1 (last_there here f fs p.0)
-    (tags_close fs (put f.before x) false (put_placed fs f.before x v.1))
+    open_label_closes Closing m j here f fs (reading (put_part f.before x) fs) v.0 p.1 (last_there here f fs p.0)
+    (tags_close fs (put_part f.before x) false (put_placed fs f.before x v.1))
 
 -- ---- any token that has begun
 
 slashed_ends : (j : Bool) (s : State) → step keep (at slashed (keeping j s)) 10 ≡ at ready (keeping true s)
 unfolding lex_slashed
-slashed_ends j s = ap (λ k. given keep (keeping j s) (lex_slashed k 10)) newline_kind
+slashed_ends j s = ap (λ k. after_lexed keep (keeping j s) (lex_slashed k 10)) newline_kind
 
 returned_ends : (j : Bool) (s : State) → step keep (at returned (keeping j s)) 10 ≡ at ready (keeping true s)
 unfolding lex_returned
-returned_ends j s = ap (λ k. given keep (keeping j s) (lex_returned k)) newline_kind
+returned_ends j s = ap (λ k. after_lexed keep (keeping j s) (lex_returned k)) newline_kind
 
 angled_ends : (j : Bool) (here : Content) (fs : List Open)
     → step keep (at angled (keeping j (reading here fs))) 35 ≡ at ready (keeping false (counting [] here fs))
 unfolding lex_angled feed
-angled_ends j here fs = ap (λ k. given keep (keeping j (reading here fs)) (lex_angled k 35)) hash_kind
+angled_ends j here fs = ap (λ k. after_lexed keep (keeping j (reading here fs)) (lex_angled k 35)) hash_kind
 
 goes_on_ready : (q : Lex) (s : State) → can_go_on q s ≡ true → can_go_on ready s ≡ true
 goes_on_ready q (reading here fs) h = refl
@@ -324,11 +327,12 @@ token_closes (labelled form m) failed j g v h = absurd cc
 
 scanned_closes : (w : Bytewise Keeping) (x : List ℕ) → Scanned w x → goes_on w ≡ true → Closable w
 scanned_closes (at q k) x h e =
-    let s : k.state ≡ feeds file_state (kept false h.0) = ap (λ z. z.state) h.2 ∙ keeps_state h.0 false file_state in
-    let took : Took (feeds file_state (kept false h.0)) (kept false h.0) =
-    feeds_took (kept false h.0) file_state [] (kept_tokens h.0 false h.1) (nothing, refl, refl) in
+    let s : k.state ≡ feeds file_state (without_joins false h.0) = ap (λ z. z.state) h.2
+    ∙ keeps_state h.0 false file_state in
+    let took : Took (feeds file_state (without_joins false h.0)) (without_joins false h.0) =
+    feeds_took (without_joins false h.0) file_state [] (kept_tokens h.0 false h.1) (nothing, refl, refl) in
     let opened : IsOpened k.state =
-    subst IsOpened (sym s) (took_opened (feeds file_state (kept false h.0)) (kept false h.0) took) in
+    subst IsOpened (sym s) (took_opened (feeds file_state (without_joins false h.0)) (without_joins false h.0) took) in
     token_closes q k.state k.behind_join h.3 opened e
 scanned_closes lost x h e = absurd cc
 

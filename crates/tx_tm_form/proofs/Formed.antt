@@ -14,13 +14,15 @@ use Rattle.tx_tm_form.specs.declared.bytes.Escaped.TheVariants.{Mark, Byte}
 use Rattle.tx_tm_form.specs.declared.bytes.White.{White}
 use Rattle.tx_tm_form.specs.declared.bytes.White.TheVariants.{Spaces, Line, Break}
 use Rattle.tx_tm_form.specs.Bytes.{kind_of, is_plain, escape_of, escaped_bytes, is_digit}
-use Rattle.tx_tm_form.specs.Parts.{Part, gap, text, tag, concat_label, document_label, collection_label, raw_data_label}
+use Rattle.tx_tm_form.specs.Parts.{ContentPart, gap, text, tag, concat_label, document_label, collection_label}
+use Rattle.tx_tm_form.specs.Parts.{raw_data_label}
 use Rattle.tx_tm_form.specs.Parts.{leaf_before, texts_and_tags, concat_of, content, run_before, with_runs, from_first}
-use Rattle.tx_tm_form.specs.Parts.{unless_last, to_last, into_first, separate, paragraphs, document_of, block}
-use Rattle.tx_tm_form.specs.Parts.{has_no_items, tags_of, same, none, long_tag}
+use Rattle.tx_tm_form.specs.Parts.{unless_last, to_last, into_first, separate, parts_by_paragraph, tree_of_document}
+use Rattle.tx_tm_form.specs.Parts.{block}
+use Rattle.tx_tm_form.specs.Parts.{has_no_items, tag_trees, same_bytes, none, long_tag}
 use Rattle.tx_tm_form.specs.Forms.{AreDigits, Piece, Pieces, Arguments, Blocks, blank, letter, escaped}
 use Rattle.tx_tm_form.specs.Forms.{symbol as symbol_piece, raw_data, short_tag, long_tag_of, nothing, piece}
-use Rattle.tx_tm_form.specs.Forms.{no_argument, argument, no_block, middle_tag, part_of, parts_of, children_of}
+use Rattle.tx_tm_form.specs.Forms.{no_argument, argument, no_block, middle_tag, piece_part, piece_parts, argument_trees}
 use Rattle.tx_tm_form.specs.Forms.{children_of_blocks, symbol_bytes, Spells}
 
 -- ---- texts
@@ -172,30 +174,31 @@ concat_tree (t ∷ u ∷ ts) h = (concat_is_label, h)
 
 -- ---- parts
 
-abbrev pub IsPart : Part → Type 0
+abbrev pub IsPart : ContentPart → Type 0
 IsPart (gap w) = Unit {0}
 IsPart (text x) = IsText x
 IsPart (tag c t) = IsWellFormed t
 
-abbrev pub AreParts : List Part → Type 0
+abbrev pub AreParts : List ContentPart → Type 0
 AreParts = AllByRecursion IsPart
 
 pub space_behind : (r : Bool) (s : List ℕ) → IsText s → IsText (if r then s else s ++ 32 ∷ [])
 space_behind true s h = h
 space_behind false s h = text_text s (32 ∷ []) h (one_byte_text 32 refl)
 
-texts_trees : (ps : List Part) (r : Bool) (s : List ℕ) → AreParts ps → IsText s → AreTrees (texts_and_tags r s ps)
+texts_trees : (ps : List ContentPart) (r : Bool) (s : List ℕ) → AreParts ps → IsText s
+    → AreTrees (texts_and_tags r s ps)
 texts_trees [] r s h k = leaf_trees s [] k tt
 texts_trees (gap w ∷ ps) r s h k = texts_trees ps true (if r then s else s ++ 32 ∷ []) h.1 (space_behind r s k)
 texts_trees (text x ∷ ps) r s h k = texts_trees ps false (s ++ x) h.1 (text_text s x k h.0)
 texts_trees (tag c t ∷ ps) r s h k =
     leaf_trees s (t ∷ texts_and_tags false [] ps) k (h.0, texts_trees ps false [] h.1 no_text)
 
-pub content_tree : (ps : List Part) → AreParts ps → IsWellFormed (content ps)
+pub content_tree : (ps : List ContentPart) → AreParts ps → IsWellFormed (content ps)
 unfolding content
 content_tree ps h = concat_tree (texts_and_tags false [] ps) (texts_trees ps false [] h no_text)
 
-run_parts : (p : Part) (ps : List Part) → IsPart p → AreParts ps → AreParts (run_before p ps)
+run_parts : (p : ContentPart) (ps : List ContentPart) → IsPart p → AreParts ps → AreParts (run_before p ps)
 run_parts (gap v) [] h k = (h, k)
 run_parts (gap v) (gap w ∷ ps) h k = (tt, k.1)
 run_parts (gap v) (text x ∷ ps) h k = (h, k)
@@ -203,49 +206,50 @@ run_parts (gap v) (tag c t ∷ ps) h k = (h, k)
 run_parts (text x) ps h k = (h, k)
 run_parts (tag c t) ps h k = (h, k)
 
-runs_parts : (ps : List Part) → AreParts ps → AreParts (with_runs ps)
+runs_parts : (ps : List ContentPart) → AreParts ps → AreParts (with_runs ps)
 runs_parts [] h = tt
 runs_parts (p ∷ ps) h = run_parts p (with_runs ps) h.0 (runs_parts ps h.1)
 
-first_parts : (ps : List Part) → AreParts ps → AreParts (from_first ps)
+first_parts : (ps : List ContentPart) → AreParts ps → AreParts (from_first ps)
 first_parts [] h = tt
 first_parts (gap w ∷ ps) h = h.1
 first_parts (text x ∷ ps) h = h
 first_parts (tag c t ∷ ps) h = h
 
-unless_parts : (p : Part) (ps : List Part) → IsPart p → AreParts ps → AreParts (unless_last p ps)
+unless_parts : (p : ContentPart) (ps : List ContentPart) → IsPart p → AreParts ps → AreParts (unless_last p ps)
 unless_parts (gap w) [] h k = tt
 unless_parts (gap w) (q ∷ ps) h k = (h, k)
 unless_parts (text x) ps h k = (h, k)
 unless_parts (tag c t) ps h k = (h, k)
 
-last_parts : (ps : List Part) → AreParts ps → AreParts (to_last ps)
+last_parts : (ps : List ContentPart) → AreParts ps → AreParts (to_last ps)
 last_parts [] h = tt
 last_parts (p ∷ ps) h = unless_parts p (to_last ps) h.0 (last_parts ps h.1)
 
-abbrev AreParagraphs : List (List Part) → Type 0
+abbrev AreParagraphs : List (List ContentPart) → Type 0
 AreParagraphs = AllByRecursion AreParts
 
-into_parts : (p : Part) (qs : List (List Part)) → IsPart p → AreParagraphs qs → AreParagraphs (into_first p qs)
+into_parts : (p : ContentPart) (qs : List (List ContentPart)) → IsPart p → AreParagraphs qs
+    → AreParagraphs (into_first p qs)
 into_parts p [] h k = ((h, tt), tt)
 into_parts p (q ∷ qs) h k = ((h, k.0), k.1)
 
-separate_parts : (w : White) (qs : List (List Part)) → AreParagraphs qs → AreParagraphs (separate w qs)
+separate_parts : (w : White) (qs : List (List ContentPart)) → AreParagraphs qs → AreParagraphs (separate w qs)
 separate_parts Spaces qs k = into_parts (gap Spaces) qs tt k
 separate_parts Line qs k = into_parts (gap Line) qs tt k
 separate_parts Break qs k = (tt, k)
 
-paragraph_parts : (ps : List Part) → AreParts ps → AreParagraphs (paragraphs ps)
+paragraph_parts : (ps : List ContentPart) → AreParts ps → AreParagraphs (parts_by_paragraph ps)
 paragraph_parts [] h = tt
-paragraph_parts (gap w ∷ ps) h = separate_parts w (paragraphs ps) (paragraph_parts ps h.1)
-paragraph_parts (text x ∷ ps) h = into_parts (text x) (paragraphs ps) h.0 (paragraph_parts ps h.1)
-paragraph_parts (tag c t ∷ ps) h = into_parts (tag c t) (paragraphs ps) h.0 (paragraph_parts ps h.1)
+paragraph_parts (gap w ∷ ps) h = separate_parts w (parts_by_paragraph ps) (paragraph_parts ps h.1)
+paragraph_parts (text x ∷ ps) h = into_parts (text x) (parts_by_paragraph ps) h.0 (paragraph_parts ps h.1)
+paragraph_parts (tag c t ∷ ps) h = into_parts (tag c t) (parts_by_paragraph ps) h.0 (paragraph_parts ps h.1)
 
-contents : (qs : List (List Part)) → AreParagraphs qs → AreTrees (map content qs)
+contents : (qs : List (List ContentPart)) → AreParagraphs qs → AreTrees (map content qs)
 contents [] h = tt
 contents (q ∷ qs) h = (content_tree q h.0, contents qs h.1)
 
-document_tree : (qs : List (List Part)) → AreParagraphs qs → IsWellFormed (document_of qs)
+document_tree : (qs : List (List ContentPart)) → AreParagraphs qs → IsWellFormed (tree_of_document qs)
 document_tree [] h = (document_is_label, (no_text, tt))
 document_tree ((tag true t ∷ []) ∷ []) h = h.0.0
 document_tree ((tag true t ∷ (p ∷ q)) ∷ []) h = (document_is_label, contents ((tag true t ∷ (p ∷ q)) ∷ []) h)
@@ -261,26 +265,26 @@ document_tree ([] ∷ (r ∷ qs)) h = (document_is_label, contents ([] ∷ (r �
 document_tree ((gap w ∷ q) ∷ (r ∷ qs)) h = (document_is_label, contents ((gap w ∷ q) ∷ (r ∷ qs)) h)
 document_tree ((text x ∷ q) ∷ (r ∷ qs)) h = (document_is_label, contents ((text x ∷ q) ∷ (r ∷ qs)) h)
 
-pub block_tree : (ps : List Part) → AreParts ps → IsWellFormed (block ps)
+pub block_tree : (ps : List ContentPart) → AreParts ps → IsWellFormed (block ps)
 unfolding block
 block_tree ps h =
-    document_tree (paragraphs (to_last (from_first (with_runs ps))))
+    document_tree (parts_by_paragraph (to_last (from_first (with_runs ps))))
     (paragraph_parts (to_last (from_first (with_runs ps)))
     (last_parts (from_first (with_runs ps)) (first_parts (with_runs ps) (runs_parts ps h))))
 
-tags_trees : (ps : List Part) → AreParts ps → AreTrees (tags_of ps)
+tags_trees : (ps : List ContentPart) → AreParts ps → AreTrees (tag_trees ps)
 tags_trees [] h = tt
 tags_trees (gap w ∷ ps) h = tags_trees ps h.1
 tags_trees (text x ∷ ps) h = tags_trees ps h.1
 tags_trees (tag c t ∷ ps) h = (h.0, tags_trees ps h.1)
 
-pub long_part : (l : List ℕ) (us : List WideTree) (ps : List Part) (vs : List WideTree) → IsLabel l → AreTrees us
+pub long_part : (l : List ℕ) (us : List WideTree) (ps : List ContentPart) (vs : List WideTree) → IsLabel l → AreTrees us
     → AreParts ps → AreTrees vs → IsPart (long_tag l us ps vs)
 unfolding long_tag
 long_part l us ps vs a h i k =
-    elim (same l collection_label && none us && none vs && has_no_items ps)
+    elim (same_bytes l collection_label && none us && none vs && has_no_items ps)
     as (λ z. IsPart
-    (if z then tag true (node collection_label (forest (tags_of ps))) else tag false
+    (if z then tag true (node collection_label (forest (tag_trees ps))) else tag false
     (node l (forest (us ++ block ps ∷ vs))))) [
       | true ↦ (collection_is_label, tags_trees ps i)
       | false ↦ (a, trees_trees us (block ps ∷ vs) h (block_tree ps i, k))
@@ -289,7 +293,7 @@ long_part l us ps vs a h i k =
 -- ---- forms
 
 mutual
-  part_tree : (p : Piece) → IsPart (part_of p)
+  part_tree : (p : Piece) → IsPart (piece_part p)
   part_tree (blank b) = tt
   part_tree (letter b h) = one_byte_text b (plain_item b h)
   part_tree (escaped b e h) = escaped_text b e h
@@ -297,22 +301,23 @@ mutual
   part_tree (raw_data ds h) = (raw_data_is_label, (digits_text ds h, tt))
   part_tree (short_tag l h xs) = (h, children_trees xs)
   part_tree (long_tag_of l h xs first others last) =
-      long_part l (children_of xs) (parts_of first) (children_of_blocks others (children_of last)) h (children_trees xs)
-      (parts_trees first) (blocks_trees others (children_of last) (children_trees last))
+      long_part l (argument_trees xs) (piece_parts first) (children_of_blocks others (argument_trees last)) h
+      (children_trees xs)
+      (parts_trees first) (blocks_trees others (argument_trees last) (children_trees last))
 
-  pub parts_trees : (c : Pieces) → AreParts (parts_of c)
+  pub parts_trees : (c : Pieces) → AreParts (piece_parts c)
   parts_trees nothing = tt
   parts_trees (piece p ps) = (part_tree p, parts_trees ps)
 
-  children_trees : (xs : Arguments) → AreTrees (children_of xs)
+  children_trees : (xs : Arguments) → AreTrees (argument_trees xs)
   children_trees no_argument = tt
-  children_trees (argument x xs) = (content_tree (parts_of x) (parts_trees x), children_trees xs)
+  children_trees (argument x xs) = (content_tree (piece_parts x) (parts_trees x), children_trees xs)
 
   blocks_trees : (bs : Blocks) (ts : List WideTree) → AreTrees ts → AreTrees (children_of_blocks bs ts)
   blocks_trees no_block ts h = h
   blocks_trees (middle_tag xs b bs) ts h =
-      trees_trees (children_of xs) (block (parts_of b) ∷ children_of_blocks bs ts) (children_trees xs)
-      (block_tree (parts_of b) (parts_trees b), blocks_trees bs ts h)
+      trees_trees (argument_trees xs) (block (piece_parts b) ∷ children_of_blocks bs ts) (children_trees xs)
+      (block_tree (piece_parts b) (parts_trees b), blocks_trees bs ts h)
 
 pub spelled_tree : (bytes : List ℕ) (t : WideTree) → Spells bytes t → IsWellFormed t
-spelled_tree bytes t h = subst IsWellFormed (sym h.meant) (block_tree (parts_of h.file) (parts_trees h.file))
+spelled_tree bytes t h = subst IsWellFormed (sym h.meant) (block_tree (piece_parts h.file) (parts_trees h.file))

@@ -14,13 +14,13 @@ use Rattle.tx_tm_form.specs.declared.marks.Inside.{Inside}
 use Rattle.tx_tm_form.specs.declared.marks.Inside.TheVariants.{Parts, Symbol, Digits}
 use Rattle.tx_tm_form.specs.Bytes.{kind_of, escape_of, is_digit}
 use Rattle.tx_tm_form.specs.Tokens.{Token, white, join, plain, escape, raw, head, bar, close, written, is_dropped}
-use Rattle.tx_tm_form.specs.Parts.{Part, same}
-use Rattle.tx_tm_form.specs.Growing.{Content, put, place_of, block_of, long_of}
-use Rattle.tx_tm_form.specs.Machine.{Open, State, reading, naming, counting, failed, go, with_child, in_tag}
+use Rattle.tx_tm_form.specs.Parts.{ContentPart, same_bytes}
+use Rattle.tx_tm_form.specs.Growing.{Content, put_part, place_of, tree_as_block, long_of}
+use Rattle.tx_tm_form.specs.Machine.{Open, State, reading, naming, counting, failed, go, open_with_child, in_tag}
 use Rattle.tx_tm_form.specs.Machine.{next_argument, last_argument, next_block, last_block, header_place, begun}
 use Rattle.tx_tm_form.specs.Machine.{by_escape, name_byte, name_end, feed_reading, feed_naming, feed_counting, feed}
 use Rattle.tx_tm_form.specs.Machine.{Lex, ready, slashed, returned, angled, labelled, Lexed, within, done, bad, lex}
-use Rattle.tx_tm_form.specs.Machine.{Bytewise, at, lost, given, step, run, Keeping, keep, start}
+use Rattle.tx_tm_form.specs.Machine.{Bytewise, at, lost, after_lexed, step, run, Keeping, keep, start}
 use Rattle.tx_tm_form.specs.Fronts.{begins, begins_open, can_begin, can_go_on, goes_on}
 use Rattle.tx_tm_form.specs.Marks.{Standing, with_inner, if_marked, mark_bar, mark_close, mark_next, mark_last}
 use Rattle.tx_tm_form.specs.Marks.{bar_marks, close_marks, next_marks, last_marks, begun_marks, escape_marks}
@@ -48,8 +48,8 @@ abbrev pub IsMarked : State → Option Standing → Type 0
 IsMarked s None = s ≡ failed
 IsMarked s (Some z) = IsStanding s z.inside z.marks
 
-put_marks : (fs : List Open) (here : Content) (p : Part) (ms : List TagMark) → AreMarks here fs ms
-    → AreMarks (put here p) fs ms
+put_marks : (fs : List Open) (here : Content) (p : ContentPart) (ms : List TagMark) → AreMarks here fs ms
+    → AreMarks (put_part here p) fs ms
 put_marks [] here p [] h = tt
 put_marks [] here p (m ∷ ms) h = absurd h
 put_marks (f ∷ fs) here p [] h = absurd h
@@ -91,10 +91,10 @@ next_there : (w : Option TagPlace) (l : List ℕ) (p : Option TagPlace) (here : 
     → IsMarked (next_block w l p here (f ∷ fs)) (mark_next w l p m ms)
 next_there (Some w) l p here f fs m ms e h = refl
 next_there None l p here f fs m ms e h =
-    let s : State = in_tag p (with_child f (block_of here)) fs in
-    subst (λ z. IsMarked (go (same l z) s) (if_marked (same l m.label) Parts (with_inner p m ∷ ms))) e
-    (if_same (same l m.label) s Parts (with_inner p m ∷ ms)
-    (λ k. in_marks p m (with_child f (block_of here)) fs ms e h))
+    let s : State = in_tag p (open_with_child f (tree_as_block here)) fs in
+    subst (λ z. IsMarked (go (same_bytes l z) s) (if_marked (same_bytes l m.label) Parts (with_inner p m ∷ ms))) e
+    (if_same (same_bytes l m.label) s Parts (with_inner p m ∷ ms)
+    (λ k. in_marks p m (open_with_child f (tree_as_block here)) fs ms e h))
 
 next_same : (l : List ℕ) (p : Option TagPlace) (here : Content) (fs : List Open) (ms : List TagMark)
     → AreMarks here fs ms → IsMarked (next_block (place_of here) l p here fs) (next_marks l p ms)
@@ -110,9 +110,10 @@ last_there : (w : Option TagPlace) (l : List ℕ) (here : Content) (f : Open) (f
     → IsMarked (last_block w l here (f ∷ fs)) (mark_last w l m ms)
 last_there (Some w) l here f fs m ms e h = refl
 last_there None l here f fs m ms e h =
-    let x : Part = long_of f.label f.children here in
-    subst (λ z. IsMarked (go (same l z) (reading (put f.before x) fs)) (if_marked (same l m.label) Parts ms)) e
-    (if_same (same l m.label) (reading (put f.before x) fs) Parts ms (λ k. put_marks fs f.before x ms h))
+    let x : ContentPart = long_of f.label f.children here in
+    subst (λ z. IsMarked (go (same_bytes l z) (reading (put_part f.before x) fs))
+    (if_marked (same_bytes l m.label) Parts ms)) e
+    (if_same (same_bytes l m.label) (reading (put_part f.before x) fs) Parts ms (λ k. put_marks fs f.before x ms h))
 
 last_same : (l : List ℕ) (here : Content) (fs : List Open) (ms : List TagMark) → AreMarks here fs ms
     → IsMarked (last_block (place_of here) l here fs) (last_marks l ms)
@@ -191,7 +192,7 @@ name_same good n b here fs ms h =
 end_same : (n : List ℕ) (here : Content) (fs : List Open) (ms : List TagMark) → AreMarks here fs ms
     → IsMarked (name_end n here fs) (if_marked (nat_le 1 (length n)) Parts ms)
 end_same n here fs ms h =
-    if_same (nat_le 1 (length n)) (reading (put here _) fs) Parts ms (λ k. put_marks fs here _ ms h)
+    if_same (nat_le 1 (length n)) (reading (put_part here _) fs) Parts ms (λ k. put_marks fs here _ ms h)
 
 symbol_same : (t : Token) (n : List ℕ) (here : Content) (fs : List Open) (ms : List TagMark) → AreMarks here fs ms
     → IsMarked (feed_naming n here fs t) (symbol_marks (length n) ms t)
@@ -256,7 +257,8 @@ IsSame lost lost = Unit {0}
 IsSame (at q k) lost = ⊥
 IsSame lost (at r m) = ⊥
 
-given_same : (r : Lexed) (k : Keeping) (m : Marked) → IsKept k m → IsSame (given keep k r) (given keep_marks m r)
+given_same : (r : Lexed) (k : Keeping) (m : Marked) → IsKept k m
+    → IsSame (after_lexed keep k r) (after_lexed keep_marks m r)
 given_same (within q) k m h = (refl, h)
 given_same (done t) k m h = (refl, keep_same k m t h)
 given_same bad k m h = tt
@@ -264,7 +266,7 @@ given_same bad k m h = tt
 step_same : (w : Bytewise Keeping) (v : Bytewise Marked) (b : ℕ) → IsSame w v
     → IsSame (step keep w b) (step keep_marks v b)
 step_same (at q k) (at r m) b h =
-    subst (λ z. IsSame (given keep k (lex q (kind_of b) b)) (given keep_marks m (lex z (kind_of b) b))) h.0
+    subst (λ z. IsSame (after_lexed keep k (lex q (kind_of b) b)) (after_lexed keep_marks m (lex z (kind_of b) b))) h.0
     (given_same (lex q (kind_of b) b) k m h.1)
 step_same lost lost b h = tt
 step_same (at q k) lost b h = absurd h

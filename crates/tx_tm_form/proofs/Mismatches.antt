@@ -13,8 +13,8 @@ use Rattle.tx_tm_form.specs.declared.marks.TagMark.{TagMark}
 use Rattle.tx_tm_form.specs.declared.places.TagForm.{TagForm}
 use Rattle.tx_tm_form.specs.declared.places.TagForm.TheVariants.{Short, Long, Middle, Closing}
 use Rattle.tx_tm_form.specs.Bytes.{kind_of}
-use Rattle.tx_tm_form.specs.Tokens.{Token, head, mark_of, end_of, written, IsToken}
-use Rattle.tx_tm_form.specs.Machine.{Lex, ready, labelled, Bytewise, at, given, step, run, keep}
+use Rattle.tx_tm_form.specs.Tokens.{Token, head, form_mark, label_end, written, IsToken}
+use Rattle.tx_tm_form.specs.Machine.{Lex, ready, labelled, Bytewise, at, after_lexed, step, run, keep}
 use Rattle.tx_tm_form.specs.Machine.{start}
 use Rattle.tx_tm_form.specs.Fronts.{begins, goes_on, IsLongestTmFront, StopsAt}
 use Rattle.tx_tm_form.specs.Marks.{feed_standing, Marked, keep_marks, start_marks}
@@ -116,7 +116,7 @@ letter_goes_on : (form : TagForm) (l r : List ℕ) (b place : ℕ) (ms : List Ta
     → IsRepeated (labelled form l) → m.now ≡ in_block place (l ++ b ∷ r) ms → IsLabel (l ++ b ∷ r)
     → marks_go_on (step keep_marks (at (labelled form l) m) b) ≡ true
 letter_goes_on form l r b place ms m h e v =
-    ap (λ x. marks_go_on (given keep_marks m x))
+    ap (λ x. marks_go_on (after_lexed keep_marks m x))
     (lexed_letter form l (kind_of b) b (name_kind b (middle_of _ l b r v.each))
     (omega (arith, length-append l (b ∷ r), v.short)))
     ∙ ap (λ o. standing_goes_on (labelled form (l ++ b ∷ [])) o) e
@@ -133,7 +133,7 @@ end_there Closing l false i place ms h = ap (λ o. standing_goes_on ready o) (la
 -- behind the whole of it
 end_goes_on : (form : TagForm) (l : List ℕ) (more : Bool) (place : ℕ) (ms : List TagMark) (m : Marked)
     → IsRepeated (labelled form l) → m.now ≡ in_block place l ms → IsLabel l
-    → marks_go_on (step keep_marks (at (labelled form l) m) (end_of more)) ≡ true
+    → marks_go_on (step keep_marks (at (labelled form l) m) (label_end more)) ≡ true
 end_goes_on form l more place ms m h e v =
     ap marks_go_on (end_step Marked keep_marks more form l m [] v.some)
     ∙ ap (λ o. standing_goes_on ready (feed_standing m.taken o (head form l more))) e
@@ -141,18 +141,18 @@ end_goes_on form l more place ms m h e v =
 
 byte_goes_on : (form : TagForm) (l r : List ℕ) (b : ℕ) (more : Bool) (place : ℕ) (ms : List TagMark) (m : Marked)
     → IsRepeated (labelled form l) → m.now ≡ in_block place (l ++ r) ms → IsLabel (l ++ r)
-    → begins (l ++ b ∷ []) ((l ++ r) ++ end_of more ∷ []) ≡ true
+    → begins (l ++ b ∷ []) ((l ++ r) ++ label_end more ∷ []) ≡ true
     → marks_go_on (step keep_marks (at (labelled form l) m) b) ≡ true
 byte_goes_on form l [] b more place ms m h e v k =
     let same : l ++ [] ≡ l = append-nil l in
-    let c : b ≡ end_of more =
-    next_is l [] b (end_of more) (subst (λ z. begins (l ++ b ∷ []) (z ++ end_of more ∷ []) ≡ true) same k) in
+    let c : b ≡ label_end more =
+    next_is l [] b (label_end more) (subst (λ z. begins (l ++ b ∷ []) (z ++ label_end more ∷ []) ≡ true) same k) in
     ap (λ d. marks_go_on (step keep_marks (at (labelled form l) m) d)) c
     ∙ end_goes_on form l more place ms m h (e ∙ ap (λ z. in_block place z ms) same) (subst IsLabel same v)
 byte_goes_on form l (c ∷ r) b more place ms m h e v k =
     let d : b ≡ c =
-    next_is l (r ++ end_of more ∷ []) b c
-    (subst (λ z. begins (l ++ b ∷ []) z ≡ true) (append_assoc l (c ∷ r) (end_of more ∷ [])) k) in
+    next_is l (r ++ label_end more ∷ []) b c
+    (subst (λ z. begins (l ++ b ∷ []) z ≡ true) (append_assoc l (c ∷ r) (label_end more ∷ [])) k) in
     ap (λ d. marks_go_on (step keep_marks (at (labelled form l) m) d)) d ∙ letter_goes_on form l r c place ms m h e v
 
 -- ---- so the labels differ
@@ -203,11 +203,11 @@ labels_differ bytes place n ts form l h s tag =
     middle_of IsToken tag.before (head Long tag.label tag.more) tag.behind
     (subst (λ x. AllByRecursion IsToken x) tag.found s.each) in (
       begun,
-      λ more. not_true (begins (l ++ b ∷ []) (tag.label ++ end_of more ∷ [])) (λ k.
+      λ more. not_true (begins (l ++ b ∷ []) (tag.label ++ label_end more ∷ [])) (λ k.
           true_and_false (marks_go_on (step keep_marks w b))
           (byte_goes_on form l r.0 b more place o.0 m again (now ∙ ap (λ x. in_block place x o.0) r.1)
           (subst IsLabel r.1 good)
-          (subst (λ x. begins (l ++ b ∷ []) (x ++ end_of more ∷ []) ≡ true) r.1 k)) off),
+          (subst (λ x. begins (l ++ b ∷ []) (x ++ label_end more ∷ []) ≡ true) r.1 k)) off),
     )
 
 -- ---- a whole label
@@ -220,24 +220,24 @@ other_label bytes place n ts form l other more rest h s tag e = λ same.
     let b = get_or bytes n 0 in
     let d = drop (suc n) bytes in
     let x = flat_map written ts in
-    let y = other ++ end_of more ∷ [] in
+    let y = other ++ label_end more ∷ [] in
     let t = open_tag_there bytes place n h in
     let differs = labels_differ bytes place n ts form l h s tag in
-    let as_written : bytes ≡ x ++ ((60 ∷ mark_of form) ++ (y ++ rest)) =
+    let as_written : bytes ≡ x ++ ((60 ∷ form_mark form) ++ (y ++ rest)) =
     e ∙ ap (λ z. z ++ rest) (flat_map-append written ts (head form other more ∷ [])
     ∙ ap (λ z. x ++ z) (append-nil (written (head form other more))))
     ∙ append_assoc x (written (head form other more)) rest
-    ∙ ap (λ z. x ++ (60 ∷ z)) (append_assoc (mark_of form) y rest) in
-    let as_read : bytes ≡ x ++ ((60 ∷ mark_of form) ++ (l ++ b ∷ d)) =
+    ∙ ap (λ z. x ++ (60 ∷ z)) (append_assoc (form_mark form) y rest) in
+    let as_read : bytes ≡ x ++ ((60 ∷ form_mark form) ++ (l ++ b ∷ d)) =
     sym (take-append-drop n bytes)
     ∙ ap (λ z. take n bytes ++ z) (drop-cons bytes n 0 t.0)
     ∙ ap (λ z. z ++ b ∷ d) s.all
-    ∙ append_assoc x (60 ∷ (mark_of form ++ l)) (b ∷ d)
-    ∙ ap (λ z. x ++ (60 ∷ z)) (append_assoc (mark_of form) l (b ∷ d)) in
+    ∙ append_assoc x (60 ∷ (form_mark form ++ l)) (b ∷ d)
+    ∙ ap (λ z. x ++ (60 ∷ z)) (append_assoc (form_mark form) l (b ∷ d)) in
     let both : (l ++ b ∷ []) ++ d ≡ y ++ rest =
     append_assoc l (b ∷ []) d
-    ∙ append_cancel_left (60 ∷ mark_of form) (l ++ b ∷ d) (y ++ rest)
-    (append_cancel_left x ((60 ∷ mark_of form) ++ (l ++ b ∷ d)) ((60 ∷ mark_of form) ++ (y ++ rest))
+    ∙ append_cancel_left (60 ∷ form_mark form) (l ++ b ∷ d) (y ++ rest)
+    (append_cancel_left x ((60 ∷ form_mark form) ++ (l ++ b ∷ d)) ((60 ∷ form_mark form) ++ (y ++ rest))
     (sym as_read ∙ as_written)) in
     let begins_other : begins (l ++ b ∷ []) y ≡ true =
     begins_both (l ++ b ∷ []) y d rest both
@@ -246,7 +246,7 @@ other_label bytes place n ts form l other more rest h s tag e = λ same.
       begins_less l tag.label differs.0,
       ap length same,
       length-append l (b ∷ []),
-      length-append other (end_of more ∷ []),
+      length-append other (label_end more ∷ []),
     )) in
-    true_and_false (begins (l ++ b ∷ []) (tag.label ++ end_of more ∷ []))
-    (subst (λ z. begins (l ++ b ∷ []) (z ++ end_of more ∷ []) ≡ true) same begins_other) (differs.1 more)
+    true_and_false (begins (l ++ b ∷ []) (tag.label ++ label_end more ∷ []))
+    (subst (λ z. begins (l ++ b ∷ []) (z ++ label_end more ∷ []) ≡ true) same begins_other) (differs.1 more)

@@ -17,7 +17,8 @@ use Rattle.tx_tm_form.specs.Tokens.{Token}
 use Rattle.tx_tm_form.specs.Forms.{Spells}
 use Rattle.tx_tm_form.specs.Machine.{Lex, labelled, Bytewise, at, lost, step, run, keep, start}
 use Rattle.tx_tm_form.specs.Fronts.{goes_on, IsLongestTmFront}
-use Rattle.tx_tm_form.specs.Marks.{Standing, standing, Marked, keep_marks, start_marks, standing_goes_on, marks_go_on}
+use Rattle.tx_tm_form.specs.Marks.{Standing, standing_in, Marked, keep_marks, start_marks, standing_goes_on}
+use Rattle.tx_tm_form.specs.Marks.{marks_go_on}
 use Rattle.tx_tm_form.specs.Marks.{stop_fault, spells_whole, fault_from, fault_of}
 use Rattle.tx_tm_form.specs.Faults.{IsScanned, IsInRepeated, IsOpenTag, IsByteFault, IsKind, IsTmFault}
 use Rattle.tx_tm_form.proofs.Words.{one_tree}
@@ -30,7 +31,7 @@ use Rattle.tx_tm_form.proofs.Stopping.{one_more, stop_there, end_there, whole_th
 -- ---- one place of the open tag
 
 abbrev pub file_marked : Marked
-file_marked = marked 0 false (standing Parts [])
+file_marked = marked 0 false (standing_in Parts [])
 
 repeated_scanned : (x : List ℕ) (ts : List Token) → IsInRepeated x ts → (q : Lex) × IsScanned x ts q
 repeated_scanned x ts (l, inl s) = (labelled Middle l, s)

@@ -13,13 +13,14 @@ use Rattle.tx_tm_form.specs.declared.places.TagPlace.TheVariants.{InShort, InHea
 use Rattle.tx_tm_form.specs.declared.marks.TagMark.{TagMark}
 use Rattle.tx_tm_form.specs.declared.marks.Inside.{Inside}
 use Rattle.tx_tm_form.specs.declared.marks.Inside.TheVariants.{Parts, Symbol, Digits}
-use Rattle.tx_tm_form.specs.Tokens.{Token, white, plain, escape, raw, head, bar, close, written, is_dropped, kept}
+use Rattle.tx_tm_form.specs.Tokens.{Token, white, plain, escape, raw, head, bar, close, written, is_dropped}
+use Rattle.tx_tm_form.specs.Tokens.{without_joins}
 use Rattle.tx_tm_form.specs.Forms.{AreDigits, Piece, Pieces, Arguments, Blocks, blank, letter, escaped, symbol}
 use Rattle.tx_tm_form.specs.Forms.{raw_data, short_tag, long_tag_of, nothing, piece, no_argument, argument, no_block}
-use Rattle.tx_tm_form.specs.Forms.{middle_tag, name_token, tokens_of_piece, tokens_of, beginning, more_arguments}
+use Rattle.tx_tm_form.specs.Forms.{middle_tag, name_token, tokens_of_piece, tokens_of, tag_beginning, more_arguments}
 use Rattle.tx_tm_form.specs.Forms.{tokens_of_blocks}
 use Rattle.tx_tm_form.specs.Machine.{header_place}
-use Rattle.tx_tm_form.specs.Marks.{Standing, standing, new_mark, if_marked, escape_marks, name_marks, symbol_marks}
+use Rattle.tx_tm_form.specs.Marks.{Standing, standing_in, new_mark, if_marked, escape_marks, name_marks, symbol_marks}
 use Rattle.tx_tm_form.specs.Marks.{feed_marks, feed_standing, Marked, keep_marks}
 use Rattle.tx_tm_form.specs.Faults.{IsInBlock}
 use Rattle.tx_tm_form.proofs.Complete.{same_self, no_escape_less, no_end}
@@ -34,8 +35,8 @@ marks_fold = folds Marked keep_marks
 -- with such tokens next, joins aside, the machine comes from s to z
 abbrev pub Passes : Option Standing → Option Standing → List Token → Type 0
 Passes s z ts =
-    (vs y : List Token) (i : ℕ) (j : Bool) → kept j vs ≡ ts ++ y
-    → (rest : List Token) × (k : ℕ) × (l : Bool) × (kept l rest ≡ y)
+    (vs y : List Token) (i : ℕ) (j : Bool) → without_joins j vs ≡ ts ++ y
+    → (rest : List Token) × (k : ℕ) × (l : Bool) × (without_joins l rest ≡ y)
     × (marks_fold (marked i j s) vs ≡ marks_fold (marked k l z) rest)
 
 nothing_passes : (s : Option Standing) → Passes s s []
@@ -53,21 +54,21 @@ heads t u x y e = (cc, cc)
 -- what the first kept token does, at its place
 abbrev One : Option Standing → Token → List Token → List Token → ℕ → Bool → Type 0
 One s t vs y i j =
-    (rest : List Token) × (n : ℕ) × (k : ℕ) × (kept false rest ≡ y)
+    (rest : List Token) × (n : ℕ) × (k : ℕ) × (without_joins false rest ≡ y)
     × (marks_fold (marked i j s) vs ≡ marks_fold (marked k false (feed_standing n s t)) rest)
 
-one_token : (vs y : List Token) (t : Token) (s : Option Standing) (i : ℕ) (j : Bool) → kept j vs ≡ t ∷ y
+one_token : (vs y : List Token) (t : Token) (s : Option Standing) (i : ℕ) (j : Bool) → without_joins j vs ≡ t ∷ y
     → One s t vs y i j
 one_token [] y t s i j e = absurd cc
 one_token (v ∷ vs) y t s i j e =
     elim (is_dropped j v)
-    as (λ d. (if d then kept true vs else v ∷ kept false vs) ≡ t ∷ y
-    → (rest : List Token) × (n : ℕ) × (k : ℕ) × (kept false rest ≡ y)
+    as (λ d. (if d then without_joins true vs else v ∷ without_joins false vs) ≡ t ∷ y
+    → (rest : List Token) × (n : ℕ) × (k : ℕ) × (without_joins false rest ≡ y)
     × (marks_fold
     (if d then marked (i + length (written v)) true s else marked (i + length (written v)) false
     (feed_standing i s v)) vs ≡ marks_fold (marked k false (feed_standing n s t)) rest)) [
       | true ↦ λ g. one_token vs y t s (i + length (written v)) true g
-      | false ↦ λ g. let p = heads v t (kept false vs) y g in (
+      | false ↦ λ g. let p = heads v t (without_joins false vs) y g in (
         vs,
         i,
         i + length (written v),
@@ -90,10 +91,10 @@ one_passes s w t h = then_pass s w t [] (λ n. subst (λ z. Passes z w []) (sym 
 -- ---- symbols and raw data
 
 name_step : (b m n : ℕ) (ms : List TagMark) → is_name_byte b ≡ true → m < MOST_NAME
-    → feed_standing n (standing (Symbol m) ms) (name_token b) ≡ standing (Symbol (suc m)) ms
+    → feed_standing n (standing_in (Symbol m) ms) (name_token b) ≡ standing_in (Symbol (suc m)) ms
 name_step b m n ms h lt =
     elim (b == 124 || b == 92) as
-    (λ c. (b == 124 || b == 92) ≡ c → symbol_marks m ms (if c then escape b else plain b) ≡ standing
+    (λ c. (b == 124 || b == 92) ≡ c → symbol_marks m ms (if c then escape b else plain b) ≡ standing_in
     (Symbol (suc m)) ms) [
       | true ↦ λ e.
           ap (λ c. if c then if_marked (nat_le 1 m) Parts ms else name_marks (b == 124 || b == 92) m ms) (no_end b e)
@@ -101,34 +102,36 @@ name_step b m n ms h lt =
       | false ↦ λ e. ap (λ c. if_marked c (Symbol (suc m)) ms) (and_from _ _ h (lt-ltb _ _ lt))
     ] refl
 
-end_step : (m n : ℕ) (ms : List TagMark) → 1 ≤ m → feed_standing n (standing (Symbol m) ms) (escape 62) ≡ standing Parts
+end_step : (m n : ℕ) (ms : List TagMark) → 1 ≤ m
+    → feed_standing n (standing_in (Symbol m) ms) (escape 62) ≡ standing_in Parts
     ms
 end_step m n ms h = ap (λ c. if_marked c Parts ms) (le-leb 1 m h)
 
 name_passes : (name : List ℕ) (m : ℕ) (ms : List TagMark) → AllByRecursion (λ b. is_name_byte b ≡ true) name
     → m + length name ≤ MOST_NAME → 1 ≤ m + length name
-    → Passes (standing (Symbol m) ms) (standing Parts ms) (map name_token name ++ escape 62 ∷ [])
+    → Passes (standing_in (Symbol m) ms) (standing_in Parts ms) (map name_token name ++ escape 62 ∷ [])
 name_passes [] m ms h n k =
-    one_passes (standing (Symbol m) ms) (standing Parts ms) (escape 62) (λ i. end_step m i ms (omega (arith, k)))
+    one_passes (standing_in (Symbol m) ms) (standing_in Parts ms) (escape 62) (λ i. end_step m i ms (omega (arith, k)))
 name_passes (b ∷ name) m ms h n k =
-    then_pass (standing (Symbol m) ms) (standing Parts ms) (name_token b) (map name_token name ++ escape 62 ∷ []) (λ i.
-    subst (λ z. Passes z (standing Parts ms) (map name_token name ++ escape 62 ∷ []))
+    then_pass (standing_in (Symbol m) ms) (standing_in Parts ms) (name_token b) (map name_token name ++ escape 62 ∷ [])
+    (λ i.
+    subst (λ z. Passes z (standing_in Parts ms) (map name_token name ++ escape 62 ∷ []))
     (sym (name_step b m i ms h.0 (omega (arith, n))))
     (name_passes name (suc m) ms h.1 (omega (arith, n)) (omega arith)))
 
 symbol_passes : (name : List ℕ) (ms : List TagMark) → IsName name
-    → Passes (standing Parts ms) (standing Parts ms) (escape 60 ∷ (map name_token name ++ escape 62 ∷ []))
+    → Passes (standing_in Parts ms) (standing_in Parts ms) (escape 60 ∷ (map name_token name ++ escape 62 ∷ []))
 symbol_passes name ms h =
-    then_pass (standing Parts ms) (standing Parts ms) (escape 60) (map name_token name ++ escape 62 ∷ []) (λ i.
-    subst (λ o. Passes (escape_marks o 60 ms) (standing Parts ms) (map name_token name ++ escape 62 ∷ []))
+    then_pass (standing_in Parts ms) (standing_in Parts ms) (escape 60) (map name_token name ++ escape 62 ∷ []) (λ i.
+    subst (λ o. Passes (escape_marks o 60 ms) (standing_in Parts ms) (map name_token name ++ escape 62 ∷ []))
     (sym no_escape_less) (name_passes name 0 ms h.each (omega (arith, h.short)) (omega (arith, h.some))))
 
 digits_pass : (ds : List ℕ) (ms : List TagMark) → AreDigits ds
-    → Passes (standing Digits ms) (standing Parts ms) (map plain ds ++ close ∷ [])
-digits_pass [] ms h = one_passes (standing Digits ms) (standing Parts ms) close (λ i. refl)
+    → Passes (standing_in Digits ms) (standing_in Parts ms) (map plain ds ++ close ∷ [])
+digits_pass [] ms h = one_passes (standing_in Digits ms) (standing_in Parts ms) close (λ i. refl)
 digits_pass (b ∷ ds) ms h =
-    then_pass (standing Digits ms) (standing Parts ms) (plain b) (map plain ds ++ close ∷ []) (λ i.
-    subst (λ c. Passes (if_marked c Digits ms) (standing Parts ms) (map plain ds ++ close ∷ [])) (sym h.0)
+    then_pass (standing_in Digits ms) (standing_in Parts ms) (plain b) (map plain ds ++ close ∷ []) (λ i.
+    subst (λ c. Passes (if_marked c Digits ms) (standing_in Parts ms) (map plain ds ++ close ∷ [])) (sym h.0)
     (digits_pass ds ms h.1))
 
 -- ---- tags
@@ -140,20 +143,20 @@ behind_last InHeader n l ms = new_mark n l None ∷ ms
 behind_last InClosing n l ms = ms
 
 abbrev pub in_argument : TagPlace → ℕ → List ℕ → List TagMark → Option Standing
-in_argument p n l ms = standing Parts (new_mark n l (Some p) ∷ ms)
+in_argument p n l ms = standing_in Parts (new_mark n l (Some p) ∷ ms)
 
 abbrev pub in_block : ℕ → List ℕ → List TagMark → Option Standing
-in_block n l ms = standing Parts (new_mark n l None ∷ ms)
+in_block n l ms = standing_in Parts (new_mark n l None ∷ ms)
 
 close_passes : (p : TagPlace) (n : ℕ) (l : List ℕ) (ms : List TagMark)
-    → Passes (in_argument p n l ms) (standing Parts (behind_last p n l ms)) (close ∷ [])
-close_passes InShort n l ms = one_passes (in_argument InShort n l ms) (standing Parts ms) close (λ i. refl)
+    → Passes (in_argument p n l ms) (standing_in Parts (behind_last p n l ms)) (close ∷ [])
+close_passes InShort n l ms = one_passes (in_argument InShort n l ms) (standing_in Parts ms) close (λ i. refl)
 close_passes InHeader n l ms = one_passes (in_argument InHeader n l ms) (in_block n l ms) close (λ i. refl)
-close_passes InClosing n l ms = one_passes (in_argument InClosing n l ms) (standing Parts ms) close (λ i. refl)
+close_passes InClosing n l ms = one_passes (in_argument InClosing n l ms) (standing_in Parts ms) close (λ i. refl)
 
 -- in a block, a middle or closing tag begins
 pub middle_step : (more : Bool) (n i : ℕ) (l : List ℕ) (ms : List TagMark)
-    → feed_standing i (in_block n l ms) (head Middle l more) ≡ standing Parts (new_mark n l (header_place more) ∷ ms)
+    → feed_standing i (in_block n l ms) (head Middle l more) ≡ standing_in Parts (new_mark n l (header_place more) ∷ ms)
 middle_step more n i l ms = ap (λ c. if_marked c Parts (new_mark n l (header_place more) ∷ ms)) (same_self l)
 
 pub closing_step : (n i : ℕ) (l : List ℕ) (ms : List TagMark)
@@ -161,57 +164,62 @@ pub closing_step : (n i : ℕ) (l : List ℕ) (ms : List TagMark)
 closing_step n i l ms = ap (λ c. if_marked c Parts (new_mark n l (Some InClosing) ∷ ms)) (same_self l)
 
 pub last_step : (n i : ℕ) (l : List ℕ) (ms : List TagMark)
-    → feed_standing i (in_block n l ms) (head Closing l false) ≡ standing Parts ms
+    → feed_standing i (in_block n l ms) (head Closing l false) ≡ standing_in Parts ms
 last_step n i l ms = ap (λ c. if_marked c Parts ms) (same_self l)
 
 mutual
-  piece_passes : (p : Piece) (ms : List TagMark) → Passes (standing Parts ms) (standing Parts ms) (tokens_of_piece p)
-  piece_passes (blank b) ms = one_passes (standing Parts ms) (standing Parts ms) (white b) (λ n. refl)
-  piece_passes (letter b h) ms = one_passes (standing Parts ms) (standing Parts ms) (plain b) (λ n. refl)
+  piece_passes : (p : Piece) (ms : List TagMark)
+      → Passes (standing_in Parts ms) (standing_in Parts ms) (tokens_of_piece p)
+  piece_passes (blank b) ms = one_passes (standing_in Parts ms) (standing_in Parts ms) (white b) (λ n. refl)
+  piece_passes (letter b h) ms = one_passes (standing_in Parts ms) (standing_in Parts ms) (plain b) (λ n. refl)
   piece_passes (escaped b e h) ms =
-      one_passes (standing Parts ms) (standing Parts ms) (escape b) (λ n. ap (λ o. escape_marks o b ms) h)
+      one_passes (standing_in Parts ms) (standing_in Parts ms) (escape b) (λ n. ap (λ o. escape_marks o b ms) h)
   piece_passes (symbol name h) ms = symbol_passes name ms h
   piece_passes (raw_data ds h) ms =
-      then_pass (standing Parts ms) (standing Parts ms) raw (map plain ds ++ close ∷ []) (λ i. digits_pass ds ms h)
+      then_pass (standing_in Parts ms) (standing_in Parts ms) raw (map plain ds ++ close ∷ [])
+      (λ i. digits_pass ds ms h)
   piece_passes (short_tag l h no_argument) ms =
-      one_passes (standing Parts ms) (standing Parts ms) (head Short l false) (λ n. refl)
+      one_passes (standing_in Parts ms) (standing_in Parts ms) (head Short l false) (λ n. refl)
   piece_passes (short_tag l h (argument x xs)) ms =
-      then_pass (standing Parts ms) (standing Parts ms) (head Short l true) (tokens_of x ++ more_arguments xs) (λ n.
-      both_pass (in_argument InShort n l ms) (in_argument InShort n l ms) (standing Parts ms) (tokens_of x)
+      then_pass (standing_in Parts ms) (standing_in Parts ms) (head Short l true) (tokens_of x ++ more_arguments xs)
+      (λ n.
+      both_pass (in_argument InShort n l ms) (in_argument InShort n l ms) (standing_in Parts ms) (tokens_of x)
       (more_arguments xs) (pieces_pass x (new_mark n l (Some InShort) ∷ ms)) (more_pass xs InShort n l ms))
   piece_passes (long_tag_of l h no_argument first others last) ms =
-      then_pass (standing Parts ms) (standing Parts ms) (head Long l false)
-      (tokens_of first ++ (tokens_of_blocks l others ++ beginning Closing l last)) (λ n.
-      both_pass (in_block n l ms) (in_block n l ms) (standing Parts ms) (tokens_of first)
-      (tokens_of_blocks l others ++ beginning Closing l last) (pieces_pass first (new_mark n l None ∷ ms))
-      (both_pass (in_block n l ms) (in_block n l ms) (standing Parts ms) (tokens_of_blocks l others)
-      (beginning Closing l last) (blocks_pass others n l ms) (end_passes last n l ms)))
+      then_pass (standing_in Parts ms) (standing_in Parts ms) (head Long l false)
+      (tokens_of first ++ (tokens_of_blocks l others ++ tag_beginning Closing l last)) (λ n.
+      both_pass (in_block n l ms) (in_block n l ms) (standing_in Parts ms) (tokens_of first)
+      (tokens_of_blocks l others ++ tag_beginning Closing l last) (pieces_pass first (new_mark n l None ∷ ms))
+      (both_pass (in_block n l ms) (in_block n l ms) (standing_in Parts ms) (tokens_of_blocks l others)
+      (tag_beginning Closing l last) (blocks_pass others n l ms) (end_passes last n l ms)))
   piece_passes (long_tag_of l h (argument x xs) first others last) ms =
-      then_pass (standing Parts ms) (standing Parts ms) (head Long l true)
+      then_pass (standing_in Parts ms) (standing_in Parts ms) (head Long l true)
       ((tokens_of x ++ more_arguments xs)
-      ++ (tokens_of first ++ (tokens_of_blocks l others ++ beginning Closing l last))) (λ n.
-      both_pass (in_argument InHeader n l ms) (in_block n l ms) (standing Parts ms) (tokens_of x ++ more_arguments xs)
-      (tokens_of first ++ (tokens_of_blocks l others ++ beginning Closing l last))
+      ++ (tokens_of first ++ (tokens_of_blocks l others ++ tag_beginning Closing l last))) (λ n.
+      both_pass (in_argument InHeader n l ms) (in_block n l ms) (standing_in Parts ms)
+      (tokens_of x ++ more_arguments xs)
+      (tokens_of first ++ (tokens_of_blocks l others ++ tag_beginning Closing l last))
       (both_pass (in_argument InHeader n l ms) (in_argument InHeader n l ms) (in_block n l ms) (tokens_of x)
       (more_arguments xs) (pieces_pass x (new_mark n l (Some InHeader) ∷ ms)) (more_pass xs InHeader n l ms))
-      (both_pass (in_block n l ms) (in_block n l ms) (standing Parts ms) (tokens_of first)
-      (tokens_of_blocks l others ++ beginning Closing l last) (pieces_pass first (new_mark n l None ∷ ms))
-      (both_pass (in_block n l ms) (in_block n l ms) (standing Parts ms) (tokens_of_blocks l others)
-      (beginning Closing l last) (blocks_pass others n l ms) (end_passes last n l ms))))
+      (both_pass (in_block n l ms) (in_block n l ms) (standing_in Parts ms) (tokens_of first)
+      (tokens_of_blocks l others ++ tag_beginning Closing l last) (pieces_pass first (new_mark n l None ∷ ms))
+      (both_pass (in_block n l ms) (in_block n l ms) (standing_in Parts ms) (tokens_of_blocks l others)
+      (tag_beginning Closing l last) (blocks_pass others n l ms) (end_passes last n l ms))))
 
-  pub pieces_pass : (c : Pieces) (ms : List TagMark) → Passes (standing Parts ms) (standing Parts ms) (tokens_of c)
-  pieces_pass nothing ms = nothing_passes (standing Parts ms)
+  pub pieces_pass : (c : Pieces) (ms : List TagMark)
+      → Passes (standing_in Parts ms) (standing_in Parts ms) (tokens_of c)
+  pieces_pass nothing ms = nothing_passes (standing_in Parts ms)
   pieces_pass (piece p c) ms =
-      both_pass (standing Parts ms) (standing Parts ms) (standing Parts ms) (tokens_of_piece p) (tokens_of c)
+      both_pass (standing_in Parts ms) (standing_in Parts ms) (standing_in Parts ms) (tokens_of_piece p) (tokens_of c)
       (piece_passes p ms) (pieces_pass c ms)
 
   pub more_pass : (xs : Arguments) (p : TagPlace) (n : ℕ) (l : List ℕ) (ms : List TagMark)
-      → Passes (in_argument p n l ms) (standing Parts (behind_last p n l ms)) (more_arguments xs)
+      → Passes (in_argument p n l ms) (standing_in Parts (behind_last p n l ms)) (more_arguments xs)
   more_pass no_argument p n l ms = close_passes p n l ms
   more_pass (argument x xs) p n l ms =
-      then_pass (in_argument p n l ms) (standing Parts (behind_last p n l ms)) bar (tokens_of x ++ more_arguments xs)
+      then_pass (in_argument p n l ms) (standing_in Parts (behind_last p n l ms)) bar (tokens_of x ++ more_arguments xs)
       (λ i.
-      both_pass (in_argument p n l ms) (in_argument p n l ms) (standing Parts (behind_last p n l ms)) (tokens_of x)
+      both_pass (in_argument p n l ms) (in_argument p n l ms) (standing_in Parts (behind_last p n l ms)) (tokens_of x)
       (more_arguments xs) (pieces_pass x (new_mark n l (Some p) ∷ ms)) (more_pass xs p n l ms))
 
   pub blocks_pass : (bs : Blocks) (n : ℕ) (l : List ℕ) (ms : List TagMark)
@@ -236,27 +244,27 @@ mutual
       (pieces_pass b (new_mark n l None ∷ ms)) (blocks_pass bs n l ms))))
 
   end_passes : (xs : Arguments) (n : ℕ) (l : List ℕ) (ms : List TagMark)
-      → Passes (in_block n l ms) (standing Parts ms) (beginning Closing l xs)
+      → Passes (in_block n l ms) (standing_in Parts ms) (tag_beginning Closing l xs)
   end_passes no_argument n l ms =
-      one_passes (in_block n l ms) (standing Parts ms) (head Closing l false) (λ i. last_step n i l ms)
+      one_passes (in_block n l ms) (standing_in Parts ms) (head Closing l false) (λ i. last_step n i l ms)
   end_passes (argument x xs) n l ms =
-      then_pass (in_block n l ms) (standing Parts ms) (head Closing l true) (tokens_of x ++ more_arguments xs) (λ i.
-      subst (λ z. Passes z (standing Parts ms) (tokens_of x ++ more_arguments xs)) (sym (closing_step n i l ms))
-      (both_pass (in_argument InClosing n l ms) (in_argument InClosing n l ms) (standing Parts ms) (tokens_of x)
+      then_pass (in_block n l ms) (standing_in Parts ms) (head Closing l true) (tokens_of x ++ more_arguments xs) (λ i.
+      subst (λ z. Passes z (standing_in Parts ms) (tokens_of x ++ more_arguments xs)) (sym (closing_step n i l ms))
+      (both_pass (in_argument InClosing n l ms) (in_argument InClosing n l ms) (standing_in Parts ms) (tokens_of x)
       (more_arguments xs) (pieces_pass x (new_mark n l (Some InClosing) ∷ ms)) (more_pass xs InClosing n l ms)))
 
 -- ---- the mark of an open long tag
 
 -- the tokens behind its beginning
 behind_head : (xs : Arguments) (l : List ℕ) (more : Bool) (n : ℕ) (ms : List TagMark) (x y : List Token)
-    → head Long l more ∷ x ≡ beginning Long l xs ++ y
-    → (z : List Token) × (x ≡ z ++ y) × Passes (standing Parts (new_mark n l (header_place more) ∷ ms))
+    → head Long l more ∷ x ≡ tag_beginning Long l xs ++ y
+    → (z : List Token) × (x ≡ z ++ y) × Passes (standing_in Parts (new_mark n l (header_place more) ∷ ms))
     (in_block n l ms) z
 behind_head no_argument l more n ms x y e =
     let p = beginnings l more false x y e in (
       [],
       p.1,
-      subst (λ c. Passes (standing Parts (new_mark n l (header_place c) ∷ ms)) (in_block n l ms) []) (sym p.0)
+      subst (λ c. Passes (standing_in Parts (new_mark n l (header_place c) ∷ ms)) (in_block n l ms) []) (sym p.0)
           (nothing_passes (in_block n l ms)),
     )
   where
@@ -267,7 +275,7 @@ behind_head (argument c xs) l more n ms x y e =
     let p = beginnings l more true x ((tokens_of c ++ more_arguments xs) ++ y) e in (
       tokens_of c ++ more_arguments xs,
       p.1,
-      subst (λ d. Passes (standing Parts (new_mark n l (header_place d) ∷ ms)) (in_block n l ms)
+      subst (λ d. Passes (standing_in Parts (new_mark n l (header_place d) ∷ ms)) (in_block n l ms)
           (tokens_of c ++ more_arguments xs)) (sym p.0)
           (both_pass (in_argument InHeader n l ms) (in_argument InHeader n l ms) (in_block n l ms) (tokens_of c)
           (more_arguments xs) (pieces_pass c (new_mark n l (Some InHeader) ∷ ms)) (more_pass xs InHeader n l ms)),
@@ -278,12 +286,12 @@ behind_head (argument c xs) l more n ms x y e =
     beginnings l a b x y e = (cc, cc)
 
 -- tokens that are all dropped change nothing
-dropped_now : (ts : List Token) (i : ℕ) (j : Bool) (s : Option Standing) → kept j ts ≡ []
+dropped_now : (ts : List Token) (i : ℕ) (j : Bool) (s : Option Standing) → without_joins j ts ≡ []
     → (marks_fold (marked i j s) ts).now ≡ s
 dropped_now [] i j s e = refl
 dropped_now (t ∷ ts) i j s e =
     elim (is_dropped j t)
-    as (λ d. (if d then kept true ts else t ∷ kept false ts) ≡ []
+    as (λ d. (if d then without_joins true ts else t ∷ without_joins false ts) ≡ []
     → (marks_fold
     (if d then marked (i + length (written t)) true s else marked (i + length (written t)) false
     (feed_standing i s t)) ts).now ≡ s) [
@@ -322,7 +330,7 @@ fold_append (t ∷ a) b m = fold_append a b (keep_marks m t)
 
 -- from where a long tag of this label begins to where its block stands open
 abbrev pub Opens : ℕ → List ℕ → Option Standing → Type 0
-Opens place l o = (ms : List TagMark) × (o ≡ standing Parts (new_mark place l None ∷ ms))
+Opens place l o = (ms : List TagMark) × (o ≡ standing_in Parts (new_mark place l None ∷ ms))
 
 no_some : (s : Standing) (o : Option Standing) → o ≡ None → o ≡ Some s → ⊥
 no_some s o e h = cc
@@ -332,7 +340,7 @@ now_is o p m k e f g = sym e ∙ ap (λ x. x.now) f ∙ g
 
 block_opens : (h : Option Standing) (place : ℕ) (j : Bool) (label : List ℕ) (more : Bool) (behind : List Token)
     (xs : Arguments) (y : List Token)
-    → head Long label more ∷ kept false behind ≡ beginning Long label xs ++ y
+    → head Long label more ∷ without_joins false behind ≡ tag_beginning Long label xs ++ y
     → ((n : ℕ) (ms : List TagMark) → Passes (in_block n label ms) (in_block n label ms) y)
     → (s : Standing) → (marks_fold (marked place j h) (head Long label more ∷ behind)).now ≡ Some s
     → Opens place label (Some s)
@@ -349,24 +357,25 @@ block_opens (Some z) place j label more behind xs y e k s r = opens z.inside r
     opens (Symbol n) r = absurd (no_some s _ (no_standing behind i false) r)
     opens Digits r = absurd (no_some s _ (no_standing behind i false) r)
     opens Parts r =
-        let p = behind_head xs label more place z.marks (kept false behind) y e in
-        let q = both_pass (standing Parts (new_mark place label (header_place more) ∷ z.marks))
+        let p = behind_head xs label more place z.marks (without_joins false behind) y e in
+        let q = both_pass (standing_in Parts (new_mark place label (header_place more) ∷ z.marks))
         (in_block place label z.marks) (in_block place label z.marks) p.0 y p.2 (k place z.marks) behind [] i false
         (p.1 ∙ sym (append-nil (p.0 ++ y))) in (
           z.marks,
           now_is (Some s) (in_block place label z.marks)
-              (marks_fold (marked i false (standing Parts (new_mark place label (header_place more) ∷ z.marks))) behind)
+              (marks_fold (marked i false (standing_in Parts
+              (new_mark place label (header_place more) ∷ z.marks))) behind)
               (marks_fold (marked q.1 q.2 (in_block place label z.marks)) q.0) r q.4
               (dropped_now q.0 q.1 q.2 (in_block place label z.marks) q.3),
         )
 
 -- where a block of a long tag stands open, the first mark is that of the tag
 pub block_mark : (ts : List Token) (place : ℕ) (s : Standing) (h : IsInBlock ts place)
-    → (marks_fold (marked 0 false (standing Parts [])) ts).now ≡ Some s → Opens place h.label (Some s)
+    → (marks_fold (marked 0 false (standing_in Parts [])) ts).now ≡ Some s → Opens place h.label (Some s)
 block_mark ts place s h e =
-    let m0 = marked 0 false (standing Parts []) in
+    let m0 = marked 0 false (standing_in Parts []) in
     let m = marks_fold m0 h.before in
-    let at_place : m.taken ≡ place = omega (arith, taken_behind h.before 0 false (standing Parts []), h.there) in
+    let at_place : m.taken ≡ place = omega (arith, taken_behind h.before 0 false (standing_in Parts []), h.there) in
     let r : (marks_fold m (head Long h.label h.more ∷ h.behind)).now ≡ Some s =
     ap (λ x. x.now) (sym (fold_append h.before (head Long h.label h.more ∷ h.behind) m0))
     ∙ ap (λ x. (marks_fold m0 x).now) (sym h.found) ∙ e in

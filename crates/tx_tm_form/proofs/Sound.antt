@@ -17,14 +17,17 @@ use Rattle.tx_tm_form.specs.declared.places.TagPlace.{TagPlace}
 use Rattle.tx_tm_form.specs.declared.places.TagPlace.TheVariants.{InShort, InHeader, InClosing}
 use Rattle.tx_tm_form.specs.Bytes.{kind_of, is_plain, escape_of, is_digit}
 use Rattle.tx_tm_form.specs.Tokens.{Token, white, join, plain, escape, raw, head, bar, close, IsToken}
-use Rattle.tx_tm_form.specs.Parts.{Part, text, tag, content, block, long_tag, same}
+use Rattle.tx_tm_form.specs.Parts.{ContentPart, text, tag, content, block, long_tag, same_bytes}
 use Rattle.tx_tm_form.specs.Forms.{AreDigits, Piece, Pieces, Arguments, Blocks, blank, letter, escaped, symbol}
 use Rattle.tx_tm_form.specs.Forms.{raw_data, short_tag, long_tag_of, nothing, piece, no_argument, argument, no_block}
-use Rattle.tx_tm_form.specs.Forms.{middle_tag, name_token, tokens_of_piece, tokens_of, beginning, more_arguments}
-use Rattle.tx_tm_form.specs.Forms.{tokens_of_blocks, symbol_bytes, part_of, parts_of, children_of, children_of_blocks}
-use Rattle.tx_tm_form.specs.Growing.{Content, inline, blocks, no_parts, no_paragraphs, put, place_of, content_of}
-use Rattle.tx_tm_form.specs.Growing.{block_of, long_of, block_behind, opening}
-use Rattle.tx_tm_form.specs.Machine.{Open, State, reading, naming, counting, failed, go, open_tag, with_child, in_tag}
+use Rattle.tx_tm_form.specs.Forms.{middle_tag, name_token, tokens_of_piece, tokens_of, tag_beginning, more_arguments}
+use Rattle.tx_tm_form.specs.Forms.{tokens_of_blocks, symbol_bytes, piece_part, piece_parts, argument_trees}
+use Rattle.tx_tm_form.specs.Forms.{children_of_blocks}
+use Rattle.tx_tm_form.specs.Growing.{Content, inline, blocks, no_parts, no_paragraphs, put_part, place_of}
+use Rattle.tx_tm_form.specs.Growing.{tree_as_argument}
+use Rattle.tx_tm_form.specs.Growing.{tree_as_block, long_of, block_behind, opened_content}
+use Rattle.tx_tm_form.specs.Machine.{Open, State, reading, naming, counting, failed, go, open_tag, open_with_child}
+use Rattle.tx_tm_form.specs.Machine.{in_tag}
 use Rattle.tx_tm_form.specs.Machine.{next_argument, last_argument, next_block, last_block, header_place, begun}
 use Rattle.tx_tm_form.specs.Machine.{by_escape, name_byte, name_end, feed_reading, feed_naming, feed_counting, feed}
 use Rattle.tx_tm_form.specs.Machine.{feeds}
@@ -49,12 +52,12 @@ tokens_more nothing p = append-nil (tokens_of_piece p)
 tokens_more (piece q c) p = ap (λ z. tokens_of_piece q ++ z) (tokens_more c p)
     ∙ sym (append_assoc (tokens_of_piece q) (tokens_of c) (tokens_of_piece p))
 
-parts_more : (c : Pieces) (p : Piece) → parts_of (with_piece c p) ≡ parts_of c ++ part_of p ∷ []
+parts_more : (c : Pieces) (p : Piece) → piece_parts (with_piece c p) ≡ piece_parts c ++ piece_part p ∷ []
 parts_more nothing p = refl
-parts_more (piece q c) p = ap (λ z. part_of q ∷ z) (parts_more c p)
+parts_more (piece q c) p = ap (λ z. piece_part q ∷ z) (parts_more c p)
 
 abbrev pub child_of : Pieces → WideTree
-child_of c = content (parts_of c)
+child_of c = content (piece_parts c)
 
 -- arguments that have ended, each with the | behind it
 abbrev pub with_bars : List Pieces → List Token
@@ -72,12 +75,13 @@ more_with (x ∷ xs) c = ap (λ z. bar ∷ (tokens_of x ++ z)) (more_with xs c)
     ∙ ap (λ z. bar ∷ z) (sym (append_assoc (tokens_of x) (bar ∷ with_bars xs) (tokens_of c ++ close ∷ [])))
 
 beginning_with : (form : TagForm) (l : List ℕ) (xs : List Pieces) (c : Pieces)
-    → beginning form l (arguments_with xs c) ≡ head form l true ∷ (with_bars xs ++ (tokens_of c ++ close ∷ []))
+    → tag_beginning form l (arguments_with xs c) ≡ head form l true ∷ (with_bars xs ++ (tokens_of c ++ close ∷ []))
 beginning_with form l [] c = refl
 beginning_with form l (x ∷ xs) c = ap (λ z. head form l true ∷ (tokens_of x ++ z)) (more_with xs c)
     ∙ ap (λ z. head form l true ∷ z) (sym (append_assoc (tokens_of x) (bar ∷ with_bars xs) (tokens_of c ++ close ∷ [])))
 
-children_with : (xs : List Pieces) (c : Pieces) → children_of (arguments_with xs c) ≡ map child_of xs ++ child_of c ∷ []
+children_with : (xs : List Pieces) (c : Pieces)
+    → argument_trees (arguments_with xs c) ≡ map child_of xs ++ child_of c ∷ []
 children_with [] c = refl
 children_with (x ∷ xs) c = ap (λ z. child_of x ∷ z) (children_with xs c)
 
@@ -97,24 +101,24 @@ ended c xs = record { body = c; behind = xs }
 
 abbrev pub ended_tokens : List ℕ → List Ended → List Token
 ended_tokens l [] = []
-ended_tokens l (b ∷ bs) = tokens_of b.body ++ (beginning Middle l b.behind ++ ended_tokens l bs)
+ended_tokens l (b ∷ bs) = tokens_of b.body ++ (tag_beginning Middle l b.behind ++ ended_tokens l bs)
 
 abbrev pub ended_children : List Ended → List WideTree
 ended_children [] = []
-ended_children (b ∷ bs) = block (parts_of b.body) ∷ (children_of b.behind ++ ended_children bs)
+ended_children (b ∷ bs) = block (piece_parts b.body) ∷ (argument_trees b.behind ++ ended_children bs)
 
 ended_tokens_more : (l : List ℕ) (bs : List Ended) (c : Pieces) (xs : Arguments)
-    → ended_tokens l (bs ++ ended c xs ∷ []) ≡ ended_tokens l bs ++ (tokens_of c ++ beginning Middle l xs)
-ended_tokens_more l [] c xs = ap (λ z. tokens_of c ++ z) (append-nil (beginning Middle l xs))
+    → ended_tokens l (bs ++ ended c xs ∷ []) ≡ ended_tokens l bs ++ (tokens_of c ++ tag_beginning Middle l xs)
+ended_tokens_more l [] c xs = ap (λ z. tokens_of c ++ z) (append-nil (tag_beginning Middle l xs))
 ended_tokens_more l (b ∷ bs) c xs = rw (ended_tokens_more l bs c xs) (simp append_assoc refl)
 
 ended_children_more : (bs : List Ended) (c : Pieces) (xs : Arguments)
-    → ended_children (bs ++ ended c xs ∷ []) ≡ ended_children bs ++ block (parts_of c) ∷ children_of xs
-ended_children_more [] c xs = ap (λ z. block (parts_of c) ∷ z) (append-nil (children_of xs))
+    → ended_children (bs ++ ended c xs ∷ []) ≡ ended_children bs ++ block (piece_parts c) ∷ argument_trees xs
+ended_children_more [] c xs = ap (λ z. block (piece_parts c) ∷ z) (append-nil (argument_trees xs))
 ended_children_more (b ∷ bs) c xs =
-    ap (λ z. block (parts_of b.body) ∷ (children_of b.behind ++ z)) (ended_children_more bs c xs)
-    ∙ ap (λ z. block (parts_of b.body) ∷ z)
-    (sym (append_assoc (children_of b.behind) (ended_children bs) (block (parts_of c) ∷ children_of xs)))
+    ap (λ z. block (piece_parts b.body) ∷ (argument_trees b.behind ++ z)) (ended_children_more bs c xs)
+    ∙ ap (λ z. block (piece_parts b.body) ∷ z)
+    (sym (append_assoc (argument_trees b.behind) (ended_children bs) (block (piece_parts c) ∷ argument_trees xs)))
 
 -- the same blocks, from the first one on, and c as the last
 abbrev pub first_body : List Ended → Pieces → Pieces
@@ -129,26 +133,26 @@ pub bodies_tokens : (l : List ℕ) (bs : List Ended) (c : Pieces)
     → tokens_of (first_body bs c) ++ tokens_of_blocks l (other_bodies bs c) ≡ ended_tokens l bs ++ tokens_of c
 bodies_tokens l [] c = append-nil (tokens_of c)
 bodies_tokens l (b ∷ bs) c =
-    ap (λ z. tokens_of b.body ++ (beginning Middle l b.behind ++ z)) (bodies_tokens l bs c)
-    ∙ left_three (tokens_of b.body) (beginning Middle l b.behind) (ended_tokens l bs) (tokens_of c)
+    ap (λ z. tokens_of b.body ++ (tag_beginning Middle l b.behind ++ z)) (bodies_tokens l bs c)
+    ∙ left_three (tokens_of b.body) (tag_beginning Middle l b.behind) (ended_tokens l bs) (tokens_of c)
 
 bodies_part : (l : List ℕ) (bs : List Ended) (ks : List WideTree) (c : Pieces) (ts : List WideTree)
-    → long_tag l ks (parts_of (first_body bs c)) (children_of_blocks (other_bodies bs c) ts) ≡ long_tag l
-    (ks ++ ended_children bs) (parts_of c) ts
-bodies_part l [] ks c ts = ap (λ z. long_tag l z (parts_of c) ts) (sym (append-nil ks))
+    → long_tag l ks (piece_parts (first_body bs c)) (children_of_blocks (other_bodies bs c) ts) ≡ long_tag l
+    (ks ++ ended_children bs) (piece_parts c) ts
+bodies_part l [] ks c ts = ap (λ z. long_tag l z (piece_parts c) ts) (sym (append-nil ks))
 bodies_part l (b ∷ bs) ks c ts =
-    sym (second_block l ks (children_of b.behind) (parts_of b.body) (parts_of (first_body bs c))
+    sym (second_block l ks (argument_trees b.behind) (piece_parts b.body) (piece_parts (first_body bs c))
     (children_of_blocks (other_bodies bs c) ts))
-    ∙ bodies_part l bs (ks ++ block (parts_of b.body) ∷ children_of b.behind) c ts
-    ∙ ap (λ z. long_tag l z (parts_of c) ts)
-    (append_assoc ks (block (parts_of b.body) ∷ children_of b.behind) (ended_children bs))
+    ∙ bodies_part l bs (ks ++ block (piece_parts b.body) ∷ argument_trees b.behind) c ts
+    ∙ ap (λ z. long_tag l z (piece_parts c) ts)
+    (append_assoc ks (block (piece_parts b.body) ∷ argument_trees b.behind) (ended_children bs))
 
 -- ---- what the tokens so far are
 
 -- q goes from an open tag's < to where its present block begins
 abbrev pub BlockFrame : List ℕ → List WideTree → List Token → Type 0
-BlockFrame l ks q = (xs : Arguments) × (bs : List Ended) × IsLabel l × (ks ≡ children_of xs ++ ended_children bs)
-    × (q ≡ beginning Long l xs ++ ended_tokens l bs)
+BlockFrame l ks q = (xs : Arguments) × (bs : List Ended) × IsLabel l × (ks ≡ argument_trees xs ++ ended_children bs)
+    × (q ≡ tag_beginning Long l xs ++ ended_tokens l bs)
 
 -- .. to where its present argument begins
 abbrev pub ArgumentFrame : TagForm → List ℕ → List WideTree → List Token → Type 0
@@ -159,7 +163,7 @@ ArgumentFrame form l ks q =
 abbrev pub BehindFrame : TagForm → List ℕ → List WideTree → List Token → Type 0
 BehindFrame form l ks q =
     (us : List WideTree) × (r : List Token) × (c : Pieces) × (xs : List Pieces) × BlockFrame l us r
-    × (ks ≡ us ++ block (parts_of c) ∷ map child_of xs) × (q ≡ r ++ (tokens_of c ++ head form l true ∷ with_bars xs))
+    × (ks ≡ us ++ block (piece_parts c) ∷ map child_of xs) × (q ≡ r ++ (tokens_of c ++ head form l true ∷ with_bars xs))
 
 abbrev pub Frame : Option TagPlace → List ℕ → List WideTree → List Token → Type 0
 Frame (Some InShort) l ks q = ArgumentFrame Short l ks q
@@ -168,11 +172,11 @@ Frame (Some InClosing) l ks q = BehindFrame Closing l ks q
 Frame None l ks q = BlockFrame l ks q
 
 abbrev pub Here : Content → List Open → List Token → Type 0
-Here here [] ts = (c : Pieces) × (here ≡ puts (blocks no_paragraphs) (parts_of c)) × (ts ≡ tokens_of c)
+Here here [] ts = (c : Pieces) × (here ≡ puts (blocks no_paragraphs) (piece_parts c)) × (ts ≡ tokens_of c)
 Here here (f ∷ fs) ts =
     (w : Option TagPlace) × (u : List Token) × (q : List Token) × (c : Pieces) × Here f.before fs u
     × Frame w f.label f.children q
-    × (here ≡ puts (opening w f.label f.children) (parts_of c)) × (ts ≡ u ++ (q ++ tokens_of c))
+    × (here ≡ puts (opened_content w f.label f.children) (piece_parts c)) × (ts ≡ u ++ (q ++ tokens_of c))
 
 pub record NameSoFar (n : List ℕ) : Type 0 where
   pub each : AllByRecursion (λ b. is_name_byte b ≡ true) n
@@ -186,12 +190,13 @@ Took failed ts = Unit {0}
 
 -- ---- one piece more, and one tag more
 
-put_more : (here start : Content) (c : Pieces) (p : Piece) (x : Part) → here ≡ puts start (parts_of c) → part_of p ≡ x
-    → put here x ≡ puts start (parts_of (with_piece c p))
-put_more here start c p x e k = rw (parts_more c p, puts_append (parts_of c) (part_of p ∷ []) start, ← e, k) refl
+put_more : (here start : Content) (c : Pieces) (p : Piece) (x : ContentPart) → here ≡ puts start (piece_parts c)
+    → piece_part p ≡ x
+    → put_part here x ≡ puts start (piece_parts (with_piece c p))
+put_more here start c p x e k = rw (parts_more c p, puts_append (piece_parts c) (piece_part p ∷ []) start, ← e, k) refl
 
-add_piece : (fs : List Open) (p : Piece) (x : Part) (here : Content) (ts us : List Token) → Here here fs ts
-    → part_of p ≡ x → us ≡ ts ++ tokens_of_piece p → Here (put here x) fs us
+add_piece : (fs : List Open) (p : Piece) (x : ContentPart) (here : Content) (ts us : List Token) → Here here fs ts
+    → piece_part p ≡ x → us ≡ ts ++ tokens_of_piece p → Here (put_part here x) fs us
 add_piece [] p x here ts us h e k =
     (with_piece h.0 p, put_more here (blocks no_paragraphs) h.0 p x h.1 e, rw (k, h.2, tokens_more h.0 p) refl)
 add_piece (f ∷ fs) p x here ts us h e k = (
@@ -201,7 +206,7 @@ add_piece (f ∷ fs) p x here ts us h e k = (
   with_piece h.3 p,
   h.4,
   h.5,
-  put_more here (opening h.0 f.label f.children) h.3 p x h.6 e,
+  put_more here (opened_content h.0 f.label f.children) h.3 p x h.6 e,
   rw (k, h.7, tokens_more h.3 p) (regrouped h.1 h.2 (tokens_of h.3) (tokens_of_piece p)),
 )
 
@@ -210,31 +215,32 @@ into_tag : (w : Option TagPlace) (f : Open) (fs : List Open) (u q ts : List Toke
 into_tag w f fs u q ts h k e = (w, u, q, nothing, h, k, refl, rw (e, append-nil q) refl)
 
 -- where the content stands
-pub place_there : (w : Option TagPlace) (l : List ℕ) (ks : List WideTree) → place_of (opening w l ks) ≡ w
+pub place_there : (w : Option TagPlace) (l : List ℕ) (ks : List WideTree) → place_of (opened_content w l ks) ≡ w
 place_there (Some p) l ks = refl
 place_there None l ks = no_place l ks
 
 abbrev pub Inner : Option TagPlace → Open → Content → List Open → List Token → Type 0
 Inner w f here fs ts =
     (u : List Token) × (q : List Token) × (c : Pieces) × Here f.before fs u × Frame w f.label f.children q
-    × (here ≡ puts (opening w f.label f.children) (parts_of c)) × (ts ≡ u ++ (q ++ tokens_of c))
+    × (here ≡ puts (opened_content w f.label f.children) (piece_parts c)) × (ts ≡ u ++ (q ++ tokens_of c))
 
 pub inner : (f : Open) (here : Content) (fs : List Open) (ts : List Token) → Here here (f ∷ fs) ts
     → (w : Option TagPlace) × (place_of here ≡ w) × Inner w f here fs ts
 inner f here fs ts h = (
   h.0,
-  ap place_of h.6 ∙ place_is (parts_of h.3) (opening h.0 f.label f.children)
+  ap place_of h.6 ∙ place_is (piece_parts h.3) (opened_content h.0 f.label f.children)
       ∙ place_there h.0 f.label f.children,
   (h.1, h.2, h.3, h.4, h.5, h.6, h.7),
 )
 
-argument_is : (p : TagPlace) (c : Pieces) (here : Content) → here ≡ puts (inline p no_parts) (parts_of c)
-    → content_of here ≡ child_of c
-argument_is p c here e = ap content_of (e ∙ puts_inline (parts_of c) p no_parts) ∙ grown_is_content (parts_of c)
+argument_is : (p : TagPlace) (c : Pieces) (here : Content) → here ≡ puts (inline p no_parts) (piece_parts c)
+    → tree_as_argument here ≡ child_of c
+argument_is p c here e = ap tree_as_argument (e ∙ puts_inline (piece_parts c) p no_parts)
+    ∙ grown_is_content (piece_parts c)
 
 block_there : (l : List ℕ) (ks : List WideTree) (c : Pieces) (here : Content)
-    → here ≡ puts (block_behind l ks) (parts_of c) → block_of here ≡ block (parts_of c)
-block_there l ks c here e = ap block_of e ∙ block_is l ks (parts_of c)
+    → here ≡ puts (block_behind l ks) (piece_parts c) → tree_as_block here ≡ block (piece_parts c)
+block_there l ks c here e = ap tree_as_block e ∙ block_is l ks (piece_parts c)
 
 more_tokens : (ts u q c d : List Token) → ts ≡ u ++ (q ++ c) → ts ++ d ≡ u ++ (q ++ (c ++ d))
 more_tokens ts u q c d e = ap (λ z. z ++ d) e ∙ regrouped u q c d
@@ -257,23 +263,23 @@ behind_bar form l ks q c t h e = (
   h.3 ++ c ∷ [],
   h.4,
   rw (h.5, map-append child_of h.3 (c ∷ []), e)
-      (append_assoc h.0 (block (parts_of h.2) ∷ map child_of h.3) (child_of c ∷ [])),
+      (append_assoc h.0 (block (piece_parts h.2) ∷ map child_of h.3) (child_of c ∷ [])),
   rw (h.6, bars_more h.3 c) (simp append_assoc refl),
 )
 
 -- blocks with one more, behind a middle tag
 one_block_more : (l : List ℕ) (ks : List WideTree) (q : List Token) (c : Pieces) (xs : Arguments) (us : List WideTree)
     (r : List Token) → BlockFrame l ks q
-    → us ≡ ks ++ block (parts_of c) ∷ children_of xs → r ≡ q ++ (tokens_of c ++ beginning Middle l xs)
+    → us ≡ ks ++ block (piece_parts c) ∷ argument_trees xs → r ≡ q ++ (tokens_of c ++ tag_beginning Middle l xs)
     → BlockFrame l us r
 one_block_more l ks q c xs us r h e i = (
   h.0,
   h.1 ++ ended c xs ∷ [],
   h.2,
   rw (e, h.3, ended_children_more h.1 c xs)
-      (append_assoc (children_of h.0) (ended_children h.1) (block (parts_of c) ∷ children_of xs)),
+      (append_assoc (argument_trees h.0) (ended_children h.1) (block (piece_parts c) ∷ argument_trees xs)),
   rw (i, h.4, ended_tokens_more l h.1 c xs)
-      (append_assoc (beginning Long l h.0) (ended_tokens l h.1) (tokens_of c ++ beginning Middle l xs)),
+      (append_assoc (tag_beginning Long l h.0) (ended_tokens l h.1) (tokens_of c ++ tag_beginning Middle l xs)),
 )
 
 header_ends : (l : List ℕ) (ks : List WideTree) (q : List Token) (c : Pieces) (t : WideTree)
@@ -288,7 +294,7 @@ header_ends l ks q c t (inl h) e = (
 )
 header_ends l ks q c t (inr h) e =
     one_block_more l h.0 h.1 h.2 (arguments_with h.3 c) _ _ h.4
-    (rw (h.5, e, children_with h.3 c) (append_assoc h.0 (block (parts_of h.2) ∷ map child_of h.3) (child_of c ∷ [])))
+    (rw (h.5, e, children_with h.3 c) (append_assoc h.0 (block (piece_parts h.2) ∷ map child_of h.3) (child_of c ∷ [])))
     (rw (h.6, beginning_with Middle l h.3 c) (simp append_assoc refl))
 
 regroup_blocks : (a b c x d e : List Token) → d ++ e ≡ b ++ c → (a ++ b) ++ (c ++ x) ≡ a ++ (d ++ (e ++ x))
@@ -298,36 +304,36 @@ regroup_blocks a b c x d e h =
 
 -- a long tag ends
 long_ends : (l : List ℕ) (ks : List WideTree) (q : List Token) (c : Pieces) (last : Arguments) (before : Content)
-    (fs : List Open) (u us : List Token) (x : Part)
-    → BlockFrame l ks q → Here before fs u → long_tag l ks (parts_of c) (children_of last) ≡ x
-    → us ≡ u ++ (q ++ (tokens_of c ++ beginning Closing l last)) → Here (put before x) fs us
+    (fs : List Open) (u us : List Token) (x : ContentPart)
+    → BlockFrame l ks q → Here before fs u → long_tag l ks (piece_parts c) (argument_trees last) ≡ x
+    → us ≡ u ++ (q ++ (tokens_of c ++ tag_beginning Closing l last)) → Here (put_part before x) fs us
 long_ends l ks q c last before fs u us x h k i e =
     add_piece fs (long_tag_of l h.2 h.0 (first_body h.1 c) (other_bodies h.1 c) last) x before u us k
-    (bodies_part l h.1 (children_of h.0) c (children_of last)
-    ∙ ap (λ z. long_tag l z (parts_of c) (children_of last)) (sym h.3) ∙ i)
-    (e ∙ ap (λ z. u ++ z) (ap (λ z. z ++ (tokens_of c ++ beginning Closing l last)) h.4
-    ∙ regroup_blocks (beginning Long l h.0) (ended_tokens l h.1) (tokens_of c) (beginning Closing l last)
+    (bodies_part l h.1 (argument_trees h.0) c (argument_trees last)
+    ∙ ap (λ z. long_tag l z (piece_parts c) (argument_trees last)) (sym h.3) ∙ i)
+    (e ∙ ap (λ z. u ++ z) (ap (λ z. z ++ (tokens_of c ++ tag_beginning Closing l last)) h.4
+    ∙ regroup_blocks (tag_beginning Long l h.0) (ended_tokens l h.1) (tokens_of c) (tag_beginning Closing l last)
     (tokens_of (first_body h.1 c)) (tokens_of_blocks l (other_bodies h.1 c)) (bodies_tokens l h.1 c)))
 
 bar_in : (w : Option TagPlace) (f : Open) (here : Content) (fs : List Open) (ts : List Token) → Inner w f here fs ts
     → Took (next_argument w here (f ∷ fs)) (ts ++ bar ∷ [])
 bar_in None f here fs ts h = tt
 bar_in (Some InShort) f here fs ts h =
-    into_tag (Some InShort) (with_child f (content_of here)) fs h.0 (h.1 ++ (tokens_of h.2 ++ bar ∷ []))
+    into_tag (Some InShort) (open_with_child f (tree_as_argument here)) fs h.0 (h.1 ++ (tokens_of h.2 ++ bar ∷ []))
     (ts ++ bar ∷ []) h.3
-    (argument_bar Short f.label f.children h.1 h.2 (content_of here) h.4 (argument_is InShort h.2 here h.5))
+    (argument_bar Short f.label f.children h.1 h.2 (tree_as_argument here) h.4 (argument_is InShort h.2 here h.5))
     (more_tokens ts h.0 h.1 (tokens_of h.2) (bar ∷ []) h.6)
 bar_in (Some InClosing) f here fs ts h =
-    into_tag (Some InClosing) (with_child f (content_of here)) fs h.0 (h.1 ++ (tokens_of h.2 ++ bar ∷ []))
+    into_tag (Some InClosing) (open_with_child f (tree_as_argument here)) fs h.0 (h.1 ++ (tokens_of h.2 ++ bar ∷ []))
     (ts ++ bar ∷ []) h.3
-    (behind_bar Closing f.label f.children h.1 h.2 (content_of here) h.4 (argument_is InClosing h.2 here h.5))
+    (behind_bar Closing f.label f.children h.1 h.2 (tree_as_argument here) h.4 (argument_is InClosing h.2 here h.5))
     (more_tokens ts h.0 h.1 (tokens_of h.2) (bar ∷ []) h.6)
 bar_in (Some InHeader) f here fs ts h =
-    into_tag (Some InHeader) (with_child f (content_of here)) fs h.0 (h.1 ++ (tokens_of h.2 ++ bar ∷ []))
+    into_tag (Some InHeader) (open_with_child f (tree_as_argument here)) fs h.0 (h.1 ++ (tokens_of h.2 ++ bar ∷ []))
     (ts ++ bar ∷ []) h.3
     (⊎_elim (λ k.
-    inl (argument_bar Long f.label f.children h.1 h.2 (content_of here) k (argument_is InHeader h.2 here h.5)))
-    (λ k. inr (behind_bar Middle f.label f.children h.1 h.2 (content_of here) k
+    inl (argument_bar Long f.label f.children h.1 h.2 (tree_as_argument here) k (argument_is InHeader h.2 here h.5)))
+    (λ k. inr (behind_bar Middle f.label f.children h.1 h.2 (tree_as_argument here) k
     (argument_is InHeader h.2 here h.5))) h.4)
     (more_tokens ts h.0 h.1 (tokens_of h.2) (bar ∷ []) h.6)
 
@@ -335,12 +341,13 @@ close_in : (w : Option TagPlace) (f : Open) (here : Content) (fs : List Open) (t
     → Took (last_argument w here (f ∷ fs)) (ts ++ close ∷ [])
 close_in None f here fs ts h = tt
 close_in (Some InHeader) f here fs ts h =
-    into_tag None (with_child f (content_of here)) fs h.0 (h.1 ++ (tokens_of h.2 ++ close ∷ [])) (ts ++ close ∷ []) h.3
-    (header_ends f.label f.children h.1 h.2 (content_of here) h.4 (argument_is InHeader h.2 here h.5))
+    into_tag None (open_with_child f (tree_as_argument here)) fs h.0 (h.1 ++ (tokens_of h.2 ++ close ∷ []))
+    (ts ++ close ∷ []) h.3
+    (header_ends f.label f.children h.1 h.2 (tree_as_argument here) h.4 (argument_is InHeader h.2 here h.5))
     (more_tokens ts h.0 h.1 (tokens_of h.2) (close ∷ []) h.6)
 close_in (Some InShort) f here fs ts h =
     add_piece fs (short_tag f.label h.4.1 (arguments_with h.4.0 h.2))
-    (tag false (node f.label (forest (f.children ++ content_of here ∷ [])))) f.before h.0 (ts ++ close ∷ []) h.3
+    (tag false (node f.label (forest (f.children ++ tree_as_argument here ∷ [])))) f.before h.0 (ts ++ close ∷ []) h.3
     (ap (λ z. tag false (node f.label (forest z)))
     (children_with h.4.0 h.2 ∙ rw (h.4.2, argument_is InShort h.2 here h.5) refl))
     (more_tokens ts h.0 h.1 (tokens_of h.2) (close ∷ []) h.6
@@ -348,23 +355,23 @@ close_in (Some InShort) f here fs ts h =
 close_in (Some InClosing) f here fs ts h =
     let b = h.4 in
     long_ends f.label b.0 b.1 b.2 (arguments_with b.3 h.2) f.before fs h.0 (ts ++ close ∷ [])
-    (tag false (node f.label (forest (f.children ++ content_of here ∷ [])))) b.4 h.3
-    (ap (λ z. long_tag f.label b.0 (parts_of b.2) z) (children_with b.3 h.2)
-    ∙ child_behind f.label b.0 (parts_of b.2) (map child_of b.3) (child_of h.2) []
+    (tag false (node f.label (forest (f.children ++ tree_as_argument here ∷ [])))) b.4 h.3
+    (ap (λ z. long_tag f.label b.0 (piece_parts b.2) z) (children_with b.3 h.2)
+    ∙ child_behind f.label b.0 (piece_parts b.2) (map child_of b.3) (child_of h.2) []
     ∙ ap (λ z. tag false (node f.label (forest z)))
     (sym (rw (b.5, argument_is InClosing h.2 here h.5)
-    (append_assoc b.0 (block (parts_of b.2) ∷ map child_of b.3) (child_of h.2 ∷ [])))))
+    (append_assoc b.0 (block (piece_parts b.2) ∷ map child_of b.3) (child_of h.2 ∷ [])))))
     (more_tokens ts h.0 h.1 (tokens_of h.2) (close ∷ []) h.6
     ∙ ap (λ z. h.0 ++ z) (rw (b.6, beginning_with Closing f.label b.3 h.2) (simp append_assoc refl)))
 
 -- ---- where a block ends
 
-pub same_is : (l m : List ℕ) → same l m ≡ true → l ≡ m
+pub same_is : (l m : List ℕ) → same_bytes l m ≡ true → l ≡ m
 same_is [] [] h = refl
 same_is [] (c ∷ m) h = absurd cc
 same_is (b ∷ l) [] h = absurd cc
 same_is (b ∷ l) (c ∷ m) h =
-    let p = and_parts (b == c) (same l m) h in
+    let p = and_parts (b == c) (same_bytes l m) h in
     ap (λ z. z ∷ l) (is_same_number b c p.0) ∙ ap (λ z. c ∷ z) (same_is l m p.1)
 
 go_took : (c : Bool) (s : State) (ts : List Token) → (c ≡ true → Took s ts) → Took (go c s) ts
@@ -373,30 +380,32 @@ go_took false s ts h = tt
 
 abbrev Goes : Option TagPlace → TagForm → Bool → Open → Content → Type 0
 Goes p form more f here =
-    (c : Pieces) (q : List Token) → BlockFrame f.label f.children q → block_of here ≡ block (parts_of c)
-    → Frame p f.label (f.children ++ block_of here ∷ []) (q ++ (tokens_of c ++ head form f.label more ∷ []))
+    (c : Pieces) (q : List Token) → BlockFrame f.label f.children q → tree_as_block here ≡ block (piece_parts c)
+    → Frame p f.label (f.children ++ tree_as_block here ∷ []) (q ++ (tokens_of c ++ head form f.label more ∷ []))
 
 next_in : (w : Option TagPlace) (f : Open) (l : List ℕ) (p : Option TagPlace) (form : TagForm) (more : Bool)
     (here : Content) (fs : List Open) (ts : List Token) → Inner w f here fs ts
     → Goes p form more f here → Took (next_block w l p here (f ∷ fs)) (ts ++ head form l more ∷ [])
 next_in (Some w) f l p form more here fs ts h k = tt
 next_in None f l p form more here fs ts h k =
-    go_took (same l f.label) (in_tag p (with_child f (block_of here)) fs) (ts ++ head form l more ∷ []) (λ e.
-    into_tag p (with_child f (block_of here)) fs h.0 (h.1 ++ (tokens_of h.2 ++ head form f.label more ∷ []))
+    go_took (same_bytes l f.label) (in_tag p (open_with_child f (tree_as_block here)) fs) (ts ++ head form l more ∷ [])
+    (λ e.
+    into_tag p (open_with_child f (tree_as_block here)) fs h.0 (h.1 ++ (tokens_of h.2 ++ head form f.label more ∷ []))
     (ts ++ head form l more ∷ []) h.3
     (k h.2 h.1 h.4 (block_there f.label f.children h.2 here h.5))
     (ap (λ z. ts ++ head form z more ∷ []) (same_is l f.label e)
     ∙ more_tokens ts h.0 h.1 (tokens_of h.2) (head form f.label more ∷ []) h.6))
 
 goes_behind : (form : TagForm) (f : Open) (here : Content) (c : Pieces) (q : List Token)
-    → BlockFrame f.label f.children q → block_of here ≡ block (parts_of c)
-    → BehindFrame form f.label (f.children ++ block_of here ∷ []) (q ++ (tokens_of c ++ head form f.label true ∷ []))
+    → BlockFrame f.label f.children q → tree_as_block here ≡ block (piece_parts c)
+    → BehindFrame form f.label (f.children ++ tree_as_block here ∷ [])
+    (q ++ (tokens_of c ++ head form f.label true ∷ []))
 goes_behind form f here c q h e = (f.children, q, c, [], h, ap (λ z. f.children ++ z ∷ []) e, refl)
 
 goes_middle : (more : Bool) (f : Open) (here : Content) → Goes (header_place more) Middle more f here
 goes_middle true f here c q h e = inr (goes_behind Middle f here c q h e)
 goes_middle false f here c q h e =
-    one_block_more f.label f.children q c no_argument (f.children ++ block_of here ∷ [])
+    one_block_more f.label f.children q c no_argument (f.children ++ tree_as_block here ∷ [])
     (q ++ (tokens_of c ++ head Middle f.label false ∷ [])) h (ap (λ z. f.children ++ z ∷ []) e) refl
 
 last_in : (w : Option TagPlace) (f : Open) (l : List ℕ) (here : Content) (fs : List Open) (ts : List Token)
@@ -404,11 +413,11 @@ last_in : (w : Option TagPlace) (f : Open) (l : List ℕ) (here : Content) (fs :
     → Took (last_block w l here (f ∷ fs)) (ts ++ head Closing l false ∷ [])
 last_in (Some w) f l here fs ts h = tt
 last_in None f l here fs ts h =
-    go_took (same l f.label) (reading (put f.before (long_of f.label f.children here)) fs)
+    go_took (same_bytes l f.label) (reading (put_part f.before (long_of f.label f.children here)) fs)
     (ts ++ head Closing l false ∷ []) (λ e.
     long_ends f.label f.children h.1 h.2 no_argument f.before fs h.0 (ts ++ head Closing l false ∷ [])
     (long_of f.label f.children here) h.4 h.3
-    (sym (ap (long_of f.label f.children) h.5 ∙ long_is f.label f.children (parts_of h.2)))
+    (sym (ap (long_of f.label f.children) h.5 ∙ long_is f.label f.children (piece_parts h.2)))
     (ap (λ z. ts ++ head Closing z false ∷ []) (same_is l f.label e)
     ∙ more_tokens ts h.0 h.1 (tokens_of h.2) (head Closing f.label false ∷ []) h.6))
 
@@ -504,7 +513,7 @@ name_more b n t here fs ts h e i k = (
 )
 
 name_ends : (n : List ℕ) (here : Content) (fs : List Open) (ts : List Token) → Took (naming n here fs) ts → 1 ≤ length n
-    → Took (reading (put here (text (symbol_bytes n))) fs) (ts ++ escape 62 ∷ [])
+    → Took (reading (put_part here (text (symbol_bytes n))) fs) (ts ++ escape 62 ∷ [])
 name_ends n here fs ts h k =
     add_piece fs (symbol n (record { each = h.2.each; some = k; short = h.2.short })) (text (symbol_bytes n)) here h.0
     (ts ++ escape 62 ∷ []) h.1 refl
@@ -543,9 +552,10 @@ naming_took (escape b) n here fs ts v h =
     elim (b == 62) as
     (λ z. (b == 62) ≡ z → Took (if z then name_end n here fs else name_byte (b == 124 || b == 92) n b here fs)
     (ts ++ escape b ∷ [])) [
-      | true ↦ λ e. go_took (nat_le 1 (length n)) (reading (put here (text (symbol_bytes n))) fs) (ts ++ escape b ∷ [])
+      | true ↦ λ e. go_took (nat_le 1 (length n)) (reading (put_part here (text (symbol_bytes n))) fs)
+          (ts ++ escape b ∷ [])
           (λ k.
-          subst (λ z. Took (reading (put here (text (symbol_bytes n))) fs) (ts ++ escape z ∷ []))
+          subst (λ z. Took (reading (put_part here (text (symbol_bytes n))) fs) (ts ++ escape z ∷ []))
           (sym (is_same_number b 62 e)) (name_ends n here fs ts h (leb-true _ _ k)))
       | false ↦ λ e. byte_took (b == 124 || b == 92) b n (escape b) here fs ts h (escaped_token b) (escaped_name b)
     ] refl

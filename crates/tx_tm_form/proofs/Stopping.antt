@@ -11,10 +11,10 @@ use Rattle.tx_tm_form.specs.declared.places.TagForm.TheVariants.{Short, Long, Mi
 use Rattle.tx_tm_form.specs.declared.marks.TagMark.{TagMark}
 use Rattle.tx_tm_form.specs.declared.marks.Inside.{Inside}
 use Rattle.tx_tm_form.specs.declared.marks.Inside.TheVariants.{Parts, Symbol, Digits}
-use Rattle.tx_tm_form.specs.Tokens.{Token, kept}
+use Rattle.tx_tm_form.specs.Tokens.{Token, without_joins}
 use Rattle.tx_tm_form.specs.Forms.{nothing, Spells}
 use Rattle.tx_tm_form.specs.Machine.{State, reading, naming, counting, failed, feeds, Lex, ready, slashed, returned}
-use Rattle.tx_tm_form.specs.Machine.{angled, labelled, Bytewise, at, lost, step, run, Keeping, keep, start, tree_of}
+use Rattle.tx_tm_form.specs.Machine.{angled, labelled, Bytewise, at, lost, step, run, Keeping, keep, start, state_tree}
 use Rattle.tx_tm_form.specs.Machine.{tree_if, tree_in, reads}
 use Rattle.tx_tm_form.specs.Fronts.{goes_on, IsLongestTmFront}
 use Rattle.tx_tm_form.specs.Marks.{Standing, is_symbol, is_parts, standing_goes_on, Marked, keep_marks, start_marks}
@@ -123,7 +123,7 @@ no_mark : (m : TagMark) (ms : List TagMark) → (length (m ∷ ms) == 0) ≡ tru
 no_mark m ms e = omega (arith, is_same_number (length (m ∷ ms)) 0 e)
 
 whole_in : (s : State) (inside : Inside) (ms : List TagMark) (t : WideTree) → IsStanding s inside ms
-    → tree_of s ≡ Some t → (is_parts inside && length ms == 0) ≡ true
+    → state_tree s ≡ Some t → (is_parts inside && length ms == 0) ≡ true
 whole_in (reading here []) Parts [] t h e = refl
 whole_in (reading here []) Parts (m ∷ ms) t h e = absurd h
 whole_in (reading here []) (Symbol j) ms t h e = absurd h
@@ -133,13 +133,13 @@ whole_in (naming n here fs) inside ms t h e = absurd cc
 whole_in (counting ds here fs) inside ms t h e = absurd cc
 whole_in failed inside ms t h e = absurd cc
 
-whole_of : (s : State) (o : Option Standing) (t : WideTree) → IsMarked s o → tree_of s ≡ Some t → is_whole o ≡ true
-whole_of s None t h e = absurd (let g : tree_of failed ≡ Some t = sym (ap tree_of h) ∙ e in cc)
+whole_of : (s : State) (o : Option Standing) (t : WideTree) → IsMarked s o → state_tree s ≡ Some t → is_whole o ≡ true
+whole_of s None t h e = absurd (let g : state_tree failed ≡ Some t = sym (ap state_tree h) ∙ e in cc)
 whole_of s (Some z) t h e = whole_in s z.inside z.marks t h e
 
 tree_marked : (q : Lex) (k : Keeping) (s : State) (o : Option Standing) (t : WideTree) → k.state ≡ s → IsMarked s o
     → tree_if q k ≡ Some t → (q ≡ ready) × (is_whole o ≡ true)
-tree_marked ready k s o t i h e = (refl, whole_of s o t h (sym (ap tree_of i) ∙ e))
+tree_marked ready k s o t i h e = (refl, whole_of s o t h (sym (ap state_tree i) ∙ e))
 tree_marked slashed k s o t i h e = absurd cc
 tree_marked returned k s o t i h e = absurd cc
 tree_marked angled k s o t i h e = absurd cc
@@ -171,7 +171,7 @@ end_there (at q m) bytes e on h =
     )
 
 file_read_in : (s : State) (inside : Inside) (ms : List TagMark) (ts : List Token) → IsStanding s inside ms
-    → (is_parts inside && length ms == 0) ≡ true → Took s ts → (t : WideTree) × (tree_of s ≡ Some t)
+    → (is_parts inside && length ms == 0) ≡ true → Took s ts → (t : WideTree) × (state_tree s ≡ Some t)
 file_read_in s (Symbol j) ms ts h e k = absurd cc
 file_read_in s Digits ms ts h e k = absurd cc
 file_read_in s Parts (m ∷ ms) ts h e k = absurd (no_mark m ms e)
@@ -182,7 +182,7 @@ file_read_in (counting ds here fs) Parts [] ts h e k = absurd h
 file_read_in failed Parts [] ts h e k = absurd h
 
 file_read : (s : State) (o : Option Standing) (ts : List Token) → IsMarked s o → is_whole o ≡ true → Took s ts
-    → (t : WideTree) × (tree_of s ≡ Some t)
+    → (t : WideTree) × (state_tree s ≡ Some t)
 file_read s (Some z) ts h e k = file_read_in s z.inside z.marks ts h e k
 file_read s None ts h e k = absurd cc
 
@@ -202,9 +202,10 @@ whole_there (at q m) bytes e h =
     let r = read_too bytes q m e in
     let w = whole_ready q m h in
     let b = read_behind bytes q r.0 r.1 in
-    let s : r.0.state ≡ feeds file_state (kept false b.0) = ap (λ y. y.state) b.2 ∙ keeps_state b.0 false file_state in
-    let took : Took r.0.state (kept false b.0) =
-    subst (λ y. Took y (kept false b.0)) (sym s)
-    (feeds_took (kept false b.0) file_state [] (kept_tokens b.0 false b.1.each) (nothing, refl, refl)) in
-    let t = file_read r.0.state m.now (kept false b.0) r.2.1 w.1 took in
+    let s : r.0.state ≡ feeds file_state (without_joins false b.0) = ap (λ y. y.state) b.2
+    ∙ keeps_state b.0 false file_state in
+    let took : Took r.0.state (without_joins false b.0) =
+    subst (λ y. Took y (without_joins false b.0)) (sym s)
+    (feeds_took (without_joins false b.0) file_state [] (kept_tokens b.0 false b.1.each) (nothing, refl, refl)) in
+    let t = file_read r.0.state m.now (without_joins false b.0) r.2.1 w.1 took in
     (t.0, read_is_spelled bytes t.0 (ap tree_in (r.1 ∙ ap (λ p. at p r.0) w.0) ∙ t.1))

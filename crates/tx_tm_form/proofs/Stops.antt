@@ -11,13 +11,14 @@ use Rattle.tx_tm_form.specs.declared.places.TagPlace.{TagPlace}
 use Rattle.tx_tm_form.specs.declared.places.TagPlace.TheVariants.{InClosing}
 use Rattle.tx_tm_form.specs.Bytes.{kind_of}
 use Rattle.tx_tm_form.specs.Tokens.{Token, head, is_dropped}
-use Rattle.tx_tm_form.specs.Parts.{same}
+use Rattle.tx_tm_form.specs.Parts.{same_bytes}
 use Rattle.tx_tm_form.specs.Forms.{Spells}
-use Rattle.tx_tm_form.specs.Growing.{Content, place_of, block_of, long_of, put}
-use Rattle.tx_tm_form.specs.Machine.{Open, State, reading, naming, counting, failed, go, with_child, in_tag, next_block}
+use Rattle.tx_tm_form.specs.Growing.{Content, place_of, tree_as_block, long_of, put_part}
+use Rattle.tx_tm_form.specs.Machine.{Open, State, reading, naming, counting, failed, go, open_with_child, in_tag}
+use Rattle.tx_tm_form.specs.Machine.{next_block}
 use Rattle.tx_tm_form.specs.Machine.{last_block, header_place, feed, Lex, ready, slashed, returned, angled, labelled}
 use Rattle.tx_tm_form.specs.Machine.{Lexed, within, done, bad, if_good, lex_angled, lex_labelled, lex, Bytewise, at}
-use Rattle.tx_tm_form.specs.Machine.{lost, given, step, run, Keeping, keep, start, tree_of, tree_in, reads}
+use Rattle.tx_tm_form.specs.Machine.{lost, after_lexed, step, run, Keeping, keep, start, state_tree, tree_in, reads}
 use Rattle.tx_tm_form.specs.Fronts.{begins, begins_open, can_begin, can_go_on, goes_on}
 use Rattle.tx_tm_form.proofs.Words.{spelled_is_read}
 
@@ -40,7 +41,7 @@ keep_failed j t =
     (λ z. (let r : Keeping = if z then keeping true failed else keeping false (feed failed t) in r).state ≡ failed)
     [ true ↦ refl | false ↦ refl ]
 
-failed_stops : (r : Lexed) (j : Bool) → goes_on (given keep (keeping j failed) r) ≡ false
+failed_stops : (r : Lexed) (j : Bool) → goes_on (after_lexed keep (keeping j failed) r) ≡ false
 failed_stops (within q) j = cannot_fail_on q
 failed_stops (done t) j = ap (λ s. can_go_on ready s) (keep_failed j t)
 failed_stops bad j = refl
@@ -53,10 +54,10 @@ begins_less (a ∷ l) [] b h = absurd cc
 begins_less (a ∷ l) (c ∷ m) b h = let p = and_parts (a == c) (begins (l ++ b ∷ []) m) h in
     and_from _ _ p.0 (begins_less l m b p.1)
 
-same_begins : (l m : List ℕ) → same l m ≡ true → begins l m ≡ true
+same_begins : (l m : List ℕ) → same_bytes l m ≡ true → begins l m ≡ true
 same_begins [] m h = refl
 same_begins (b ∷ l) [] h = absurd cc
-same_begins (b ∷ l) (c ∷ m) h = let p = and_parts (b == c) (same l m) h in and_from _ _ p.0 (same_begins l m p.1)
+same_begins (b ∷ l) (c ∷ m) h = let p = and_parts (b == c) (same_bytes l m) h in and_from _ _ p.0 (same_begins l m p.1)
 
 by_contra : (a b : Bool) → (a ≡ true → b ≡ true) → b ≡ false → a ≡ false
 by_contra true b h e = absurd (let k = h refl in cc)
@@ -84,16 +85,16 @@ next_fails : (w : Option TagPlace) (l : List ℕ) (p : Option TagPlace) (here : 
 next_fails (Some w) l p here fs e = refl
 next_fails None l p here [] e = refl
 next_fails None l p here (f ∷ fs) e =
-    go_false (same l f.label) (in_tag p (with_child f (block_of here)) fs)
-    (by_contra (same l f.label) (begins l f.label) (same_begins l f.label) e)
+    go_false (same_bytes l f.label) (in_tag p (open_with_child f (tree_as_block here)) fs)
+    (by_contra (same_bytes l f.label) (begins l f.label) (same_begins l f.label) e)
 
 last_fails : (w : Option TagPlace) (l : List ℕ) (here : Content) (fs : List Open) → begins_open w l fs ≡ false
     → last_block w l here fs ≡ failed
 last_fails (Some w) l here fs e = refl
 last_fails None l here [] e = refl
 last_fails None l here (f ∷ fs) e =
-    go_false (same l f.label) (reading (put f.before (long_of f.label f.children here)) fs)
-    (by_contra (same l f.label) (begins l f.label) (same_begins l f.label) e)
+    go_false (same_bytes l f.label) (reading (put_part f.before (long_of f.label f.children here)) fs)
+    (by_contra (same_bytes l f.label) (begins l f.label) (same_begins l f.label) e)
 
 head_fails : (form : TagForm) (l : List ℕ) (more : Bool) (here : Content) (fs : List Open)
     → can_begin form l here fs ≡ false → feed (reading here fs) (head form l more) ≡ failed
@@ -107,7 +108,7 @@ head_fails Closing l false here fs e = last_fails (place_of here) l here fs e
 -- ---- one byte more
 
 angled_stops : (k : ByteKind) (b : ℕ) (j : Bool) (s : State) → can_go_on angled s ≡ false
-    → goes_on (given keep (keeping j s) (lex_angled k b)) ≡ false
+    → goes_on (after_lexed keep (keeping j s) (lex_angled k b)) ≡ false
 unfolding lex_angled feed
 angled_stops k b j (reading here fs) h = absurd cc
 angled_stops k b j failed h = failed_stops (lex_angled k b) j
@@ -124,13 +125,13 @@ angled_stops Hash b j (counting n here fs) h = refl
 angled_stops Name b j (counting n here fs) h = refl
 angled_stops _ b j (counting n here fs) h = refl
 
-if_good_stops : (d : Bool) (k : Keeping) (r : Lexed) → goes_on (given keep k r) ≡ false
-    → goes_on (given keep k (if_good d r)) ≡ false
+if_good_stops : (d : Bool) (k : Keeping) (r : Lexed) → goes_on (after_lexed keep k r) ≡ false
+    → goes_on (after_lexed keep k (if_good d r)) ≡ false
 if_good_stops true k r h = h
 if_good_stops false k r h = refl
 
 head_stops : (form : TagForm) (l : List ℕ) (more j : Bool) (s : State) → can_go_on (labelled form l) s ≡ false
-    → goes_on (given keep (keeping j s) (done (head form l more))) ≡ false
+    → goes_on (after_lexed keep (keeping j s) (done (head form l more))) ≡ false
 unfolding feed
 head_stops form l more j (reading here fs) h = ap (λ s. can_go_on ready s) (head_fails form l more here fs h)
 head_stops form l more j (naming n here fs) h = refl
@@ -146,7 +147,7 @@ letter_stops form l b (counting n here fs) h = refl
 letter_stops form l b failed h = refl
 
 labelled_stops : (k : ByteKind) (form : TagForm) (l : List ℕ) (b : ℕ) (j : Bool) (s : State)
-    → can_go_on (labelled form l) s ≡ false → goes_on (given keep (keeping j s) (lex_labelled form l k b)) ≡ false
+    → can_go_on (labelled form l) s ≡ false → goes_on (after_lexed keep (keeping j s) (lex_labelled form l k b)) ≡ false
 unfolding lex_labelled
 labelled_stops Name form l b j s h =
     if_good_stops _ (keeping j s) (within (labelled form (l ++ b ∷ []))) (letter_stops form l b s h)
@@ -181,7 +182,7 @@ run_stops (b ∷ y) w h = run_stops y (step keep w b) (step_stops w b h)
 
 -- ---- what spells a tree
 
-tree_goes_on : (s : State) (t : WideTree) → tree_of s ≡ Some t → can_go_on ready s ≡ true
+tree_goes_on : (s : State) (t : WideTree) → state_tree s ≡ Some t → can_go_on ready s ≡ true
 tree_goes_on (reading here fs) t e = refl
 tree_goes_on (naming n here fs) t e = refl
 tree_goes_on (counting n here fs) t e = refl

@@ -14,14 +14,16 @@ use Rattle.tx_tm_form.specs.declared.bytes.ByteKind.TheVariants.{Backslash, Hash
 use Rattle.tx_tm_form.specs.declared.places.TagForm.{TagForm}
 use Rattle.tx_tm_form.specs.declared.places.TagForm.TheVariants.{Short, Long, Middle, Closing}
 use Rattle.tx_tm_form.specs.Bytes.{kind_of, is_white, is_plain, can_escape}
-use Rattle.tx_tm_form.specs.Tokens.{Token, escape, head, mark_of, end_of, written, IsToken, is_dropped, kept}
+use Rattle.tx_tm_form.specs.Tokens.{Token, escape, head, form_mark, label_end, written, IsToken, is_dropped}
+use Rattle.tx_tm_form.specs.Tokens.{without_joins}
 use Rattle.tx_tm_form.specs.Parts.{block}
-use Rattle.tx_tm_form.specs.Forms.{Pieces, nothing, tokens_of, parts_of, Spells}
+use Rattle.tx_tm_form.specs.Forms.{Pieces, nothing, tokens_of, piece_parts, Spells}
 use Rattle.tx_tm_form.specs.Growing.{file_tree}
 use Rattle.tx_tm_form.specs.Machine.{State, reading, naming, counting, failed, feeds, Lex, ready, slashed, returned}
 use Rattle.tx_tm_form.specs.Machine.{angled, labelled, Lexed, within, done, bad, if_good, lex_ready, lex_slashed}
-use Rattle.tx_tm_form.specs.Machine.{lex_returned, lex_angled, lex_labelled, lex, Bytewise, at, lost, given, step, run}
-use Rattle.tx_tm_form.specs.Machine.{Keeping, keep, keeps, start, tree_of, tree_in, reads}
+use Rattle.tx_tm_form.specs.Machine.{lex_returned, lex_angled, lex_labelled, lex, Bytewise, at, lost, after_lexed, step}
+use Rattle.tx_tm_form.specs.Machine.{run}
+use Rattle.tx_tm_form.specs.Machine.{Keeping, keep, keeps, start, state_tree, tree_in, reads}
 use Rattle.tx_tm_form.specs.Faults.{begun_bytes, HasByte, IsBegun}
 use Rattle.tx_tm_form.proofs.Growth.{file_is}
 use Rattle.tx_tm_form.proofs.Words.{newline_only, return_only, keeps_state, file_state, file_start}
@@ -69,12 +71,12 @@ if_comes : (c : Bool) (x : List ℕ) (r : Lexed) → (c ≡ true → Comes x r) 
 if_comes true x r h = h refl
 if_comes false x r h = tt
 
-head_comes : (form : TagForm) (l : List ℕ) (more : Bool) (b : ℕ) → IsBegun (labelled form l) → b ≡ end_of more
+head_comes : (form : TagForm) (l : List ℕ) (more : Bool) (b : ℕ) → IsBegun (labelled form l) → b ≡ label_end more
     → 1 ≤ length l → Comes (begun_bytes (labelled form l) ++ b ∷ []) (done (head form l more))
 head_comes form l more b h e n = (
   record { each = h.0.0; some = n; short = h.0.1 },
-  ap (λ z. 60 ∷ z) (append_assoc (mark_of form) l (b ∷ []))
-      ∙ ap (λ z. 60 ∷ (mark_of form ++ (l ++ z ∷ []))) e,
+  ap (λ z. 60 ∷ z) (append_assoc (form_mark form) l (b ∷ []))
+      ∙ ap (λ z. 60 ∷ (form_mark form ++ (l ++ z ∷ []))) e,
 )
 
 ready_comes : (k : ByteKind) (b : ℕ) → kind_of b ≡ k → Comes (b ∷ []) (lex_ready k b)
@@ -128,7 +130,7 @@ labelled_comes Name form l b e h =
         (label_last l b h.0.0 (name_only b e), omega (arith, length-append l (b ∷ []), ltb-true _ _ n)),
         has_byte form l b,
       ),
-      ap (λ z. 60 ∷ z) (append_assoc (mark_of form) l (b ∷ [])),
+      ap (λ z. 60 ∷ z) (append_assoc (form_mark form) l (b ∷ [])),
     ))
 labelled_comes Bar form l b e h =
     if_comes (nat_le 1 (length l)) (begun_bytes (labelled form l) ++ b ∷ []) (done (head form l true))
@@ -161,7 +163,7 @@ Scanned (at q k) x = (ts : List Token) × AllByRecursion IsToken ts × (k ≡ ke
 Scanned lost x = Unit {0}
 
 given_scanned : (r : Lexed) (q : Lex) (k : Keeping) (x : List ℕ) (b : ℕ) → Scanned (at q k) x
-    → Comes (begun_bytes q ++ b ∷ []) r → Scanned (given keep k r) (x ++ b ∷ [])
+    → Comes (begun_bytes q ++ b ∷ []) r → Scanned (after_lexed keep k r) (x ++ b ∷ [])
 given_scanned (within p) q k x b h i =
     (h.0, h.1, h.2, i.0, rw (h.4, ← i.1) (append_assoc (flat_map written h.0) (begun_bytes q) (b ∷ [])))
 given_scanned (done t) q k x b h i = (
@@ -183,10 +185,11 @@ run_scanned (b ∷ y) x w h =
     subst (λ z. Scanned (run keep (step keep w b) y) z) (append_assoc x (b ∷ []) y)
     (run_scanned y (x ++ b ∷ []) (step keep w b) (step_scanned w x b h))
 
-pub kept_tokens : (ts : List Token) (j : Bool) → AllByRecursion IsToken ts → AllByRecursion IsToken (kept j ts)
+pub kept_tokens : (ts : List Token) (j : Bool) → AllByRecursion IsToken ts → AllByRecursion IsToken (without_joins j ts)
 kept_tokens [] j h = tt
 kept_tokens (t ∷ ts) j h =
-    elim (is_dropped j t) as (λ z. AllByRecursion IsToken (if z then kept true ts else t ∷ kept false ts)) [
+    elim (is_dropped j t) as (λ z. AllByRecursion IsToken
+    (if z then without_joins true ts else t ∷ without_joins false ts)) [
       | true ↦ kept_tokens ts true h.1
       | false ↦ (h.0, kept_tokens ts false h.1)
     ]
@@ -194,10 +197,10 @@ kept_tokens (t ∷ ts) j h =
 same_tree : (u t : WideTree) → Some u ≡ Some t → t ≡ u
 same_tree u t e = cc
 
-file_of : (s : State) (t : WideTree) (ts : List Token) → tree_of s ≡ Some t → Took s ts
-    → (c : Pieces) × (ts ≡ tokens_of c) × (t ≡ block (parts_of c))
+file_of : (s : State) (t : WideTree) (ts : List Token) → state_tree s ≡ Some t → Took s ts
+    → (c : Pieces) × (ts ≡ tokens_of c) × (t ≡ block (piece_parts c))
 file_of (reading here []) t ts e h =
-    (h.0, h.2, same_tree (block (parts_of h.0)) t (sym (file_is (parts_of h.0)) ∙ ap file_tree (sym h.1) ∙ e))
+    (h.0, h.2, same_tree (block (piece_parts h.0)) t (sym (file_is (piece_parts h.0)) ∙ ap file_tree (sym h.1) ∙ e))
 file_of (reading here (f ∷ fs)) t ts e h = absurd cc
 file_of (naming n here fs) t ts e h = absurd cc
 file_of (counting ds here fs) t ts e h = absurd cc
@@ -205,10 +208,12 @@ file_of failed t ts e h = absurd cc
 
 whole_of : (w : Bytewise Keeping) (x : List ℕ) (t : WideTree) → tree_in w ≡ Some t → Scanned w x → Spells x t
 whole_of (at ready k) x t e h =
-    let s : k.state ≡ feeds file_state (kept false h.0) = ap (λ z. z.state) h.2 ∙ keeps_state h.0 false file_state in
-    let took : Took (feeds file_state (kept false h.0)) (kept false h.0) =
-    feeds_took (kept false h.0) file_state [] (kept_tokens h.0 false h.1) (nothing, refl, refl) in
-    let c = file_of (feeds file_state (kept false h.0)) t (kept false h.0) (sym (ap tree_of s) ∙ e) took in
+    let s : k.state ≡ feeds file_state (without_joins false h.0) = ap (λ z. z.state) h.2
+    ∙ keeps_state h.0 false file_state in
+    let took : Took (feeds file_state (without_joins false h.0)) (without_joins false h.0) =
+    feeds_took (without_joins false h.0) file_state [] (kept_tokens h.0 false h.1) (nothing, refl, refl) in
+    let c = file_of (feeds file_state (without_joins false h.0)) t (without_joins false h.0)
+    (sym (ap state_tree s) ∙ e) took in
     record {
       tokens = h.0;
       file = c.0;

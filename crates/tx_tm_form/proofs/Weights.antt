@@ -28,24 +28,29 @@ use Rattle.tx_tm_form.specs.declared.measures.Within.{Within}
 use Rattle.tx_tm_form.specs.declared.measures.Within.TheVariants.{Parts, Symbol, Digits}
 use Rattle.tx_tm_form.specs.Bytes.{kind_of, escape_of, escaped_bytes, is_digit, white_of}
 use Rattle.tx_tm_form.specs.Tokens.{Token, white, join, plain, escape, raw, head, bar, close, is_dropped}
-use Rattle.tx_tm_form.specs.Parts.{Part, gap, text, tag, concat_label, leaf_before, concat_of, document_label}
-use Rattle.tx_tm_form.specs.Parts.{collection_label, raw_data_label, same, none}
+use Rattle.tx_tm_form.specs.Parts.{ContentPart, gap, text, tag, concat_label, leaf_before, concat_of, document_label}
+use Rattle.tx_tm_form.specs.Parts.{collection_label, raw_data_label, same_bytes, none}
 use Rattle.tx_tm_form.specs.Forms.{symbol_bytes, Spells}
 use Rattle.tx_tm_form.specs.Growing.{Inline, no_parts, grow, grown, Block, no_paragraphs, with_white, ended, resumed}
-use Rattle.tx_tm_form.specs.Growing.{first_stage, with_part, widen, tree_at, tree_of_block, Entry, no_tags}
-use Rattle.tx_tm_form.specs.Growing.{tree_of_entry, with_entries, as_block, Content, inline, blocks, collecting, put}
-use Rattle.tx_tm_form.specs.Growing.{place_of, content_of, block_of, file_tree, long_of, opening}
-use Rattle.tx_tm_form.specs.Machine.{Open, State, reading, naming, counting, failed, go, open_tag, with_child, in_tag}
+use Rattle.tx_tm_form.specs.Growing.{first_stage, with_part, widen, stage_tree, tree_of_block, CollectionEntry, no_tags}
+use Rattle.tx_tm_form.specs.Growing.{tree_of_entry, with_entries, as_block, Content, inline, blocks, collecting}
+use Rattle.tx_tm_form.specs.Growing.{put_part}
+use Rattle.tx_tm_form.specs.Growing.{place_of, tree_as_argument, tree_as_block, file_tree, long_of, opened_content}
+use Rattle.tx_tm_form.specs.Machine.{Open, State, reading, naming, counting, failed, go, open_tag, open_with_child}
+use Rattle.tx_tm_form.specs.Machine.{in_tag}
 use Rattle.tx_tm_form.specs.Machine.{next_argument, last_argument, next_block, last_block, header_place, begun}
 use Rattle.tx_tm_form.specs.Machine.{by_escape, name_byte, name_end, feed_reading, feed_naming, feed_counting, feed}
 use Rattle.tx_tm_form.specs.Machine.{ready, slashed, returned, angled, labelled, Lexed, within, done, bad, lex}
-use Rattle.tx_tm_form.specs.Machine.{Bytewise, at, lost, given, step, run, Keeping, keep, start, tree_of, tree_in}
+use Rattle.tx_tm_form.specs.Machine.{Bytewise, at, lost, after_lexed, step, run, Keeping, keep, start, state_tree}
+use Rattle.tx_tm_form.specs.Machine.{tree_in}
 use Rattle.tx_tm_form.specs.Machine.{reads}
-use Rattle.tx_tm_form.specs.Measures.{sums_of, no_sums, both, leaf_sums, node_sums, concat_sums, line_of, no_line}
+use Rattle.tx_tm_form.specs.Measures.{sums_of, no_sums, both, leaf_sums, node_sums, concat_sums, line_so_far, no_line}
 use Rattle.tx_tm_form.specs.Measures.{ended_line, line_sums, grow_line, block_sums_of, no_block, first_stage_of}
-use Rattle.tx_tm_form.specs.Measures.{ended_sums, resumed_line, white_block, part_block, widen_block, block_at}
-use Rattle.tx_tm_form.specs.Measures.{block_sums, put_sums, place_in, argument_sums, body_sums, long_sums, opening_sums}
-use Rattle.tx_tm_form.specs.Measures.{Gauge, between, open_of, in_open, child_in, closed_open, bar_gauge, close_gauge}
+use Rattle.tx_tm_form.specs.Measures.{ended_sums, resumed_line, white_block, part_block, widen_block, block_sums_at}
+use Rattle.tx_tm_form.specs.Measures.{block_sums, put_sums, tag_place, argument_sums, body_sums, long_sums}
+use Rattle.tx_tm_form.specs.Measures.{opening_sums}
+use Rattle.tx_tm_form.specs.Measures.{Gauge, gauge_between, open_sums, in_open, with_child_sums, closed_open, bar_gauge}
+use Rattle.tx_tm_form.specs.Measures.{close_gauge}
 use Rattle.tx_tm_form.specs.Measures.{next_gauge, last_gauge, begun_gauge, escape_gauge, part_gauge, name_gauge}
 use Rattle.tx_tm_form.specs.Measures.{symbol_gauge, digit_gauge, feed_gauge, Gauged, keep_gauge, start_gauge}
 use Rattle.tx_tm_form.specs.Measures.{IsMeasured}
@@ -92,10 +97,10 @@ sums_concat (t ∷ u ∷ ts) =
 -- ---- lines
 
 abbrev pub of_line : Inline → LineSums
-of_line g = line_of (sums_of g.done) (length g.bytes) g.in_run
+of_line g = line_so_far (sums_of g.done) (length g.bytes) g.in_run
 
 sums_ended : (ts : List WideTree) (s : List ℕ) (r : Bool)
-    → sums_of (ts ++ leaf_before s []) ≡ ended_line (line_of (sums_of ts) (length s) r)
+    → sums_of (ts ++ leaf_before s []) ≡ ended_line (line_so_far (sums_of ts) (length s) r)
 sums_ended ts [] r = ap sums_of (append-nil ts)
 sums_ended ts (b ∷ s) r =
     sums_append ts (leaf (b ∷ s) ∷ [])
@@ -108,7 +113,7 @@ sums_ended ts (b ∷ s) r =
 line_is : (g : Inline) → sums_of (grown g ∷ []) ≡ line_sums (of_line g)
 line_is g = sums_concat (g.done ++ leaf_before g.bytes []) ∙ ap concat_sums (sums_ended g.done g.bytes g.in_run)
 
-abbrev pub of_part : Part → PartSums
+abbrev pub of_part : ContentPart → PartSums
 of_part (gap w) = Gap w
 of_part (text x) = Text (length x)
 of_part (tag c t) = Tag c (sums_of (t ∷ []))
@@ -118,11 +123,11 @@ spaced_length : (r : Bool) (s : List ℕ)
 spaced_length true s = refl
 spaced_length false s = length-append s (32 ∷ [])
 
-grow_is : (g : Inline) (p : Part) → of_line (grow g p) ≡ grow_line (of_line g) (of_part p)
-grow_is g (gap w) = ap (λ n. line_of (sums_of g.done) n true) (spaced_length g.in_run g.bytes)
-grow_is g (text x) = ap (λ n. line_of (sums_of g.done) n false) (length-append g.bytes x)
+grow_is : (g : Inline) (p : ContentPart) → of_line (grow g p) ≡ grow_line (of_line g) (of_part p)
+grow_is g (gap w) = ap (λ n. line_so_far (sums_of g.done) n true) (spaced_length g.in_run g.bytes)
+grow_is g (text x) = ap (λ n. line_so_far (sums_of g.done) n false) (length-append g.bytes x)
 grow_is g (tag c t) =
-    ap (λ s. line_of s 0 false) (sums_append (g.done ++ leaf_before g.bytes []) (t ∷ [])
+    ap (λ s. line_so_far s 0 false) (sums_append (g.done ++ leaf_before g.bytes []) (t ∷ [])
     ∙ ap (λ s. both s (sums_of (t ∷ []))) (sums_ended g.done g.bytes g.in_run))
 
 -- ---- blocks
@@ -130,7 +135,7 @@ grow_is g (tag c t) =
 abbrev pub of_block : Block → BlockSums
 of_block b = block_sums_of (sums_of b.full) (of_line b.now) b.run b.stage
 
-stage_is : (p : Part) → first_stage p ≡ first_stage_of (of_part p)
+stage_is : (p : ContentPart) → first_stage p ≡ first_stage_of (of_part p)
 stage_is (gap w) = refl
 stage_is (text x) = refl
 stage_is (tag true t) = refl
@@ -154,7 +159,7 @@ white_is Empty b w = refl
 white_is Alone b w = refl
 white_is Ordinary b w = refl
 
-later_part : (b : Block) (p : Part)
+later_part : (b : Block) (p : ContentPart)
     → of_block (record {
       full = ended b.run b.full b.now;
       now = grow (resumed b.run b.now) p;
@@ -168,18 +173,18 @@ later_part b p =
     ∙ ap (λ l. block_sums_of (ended_sums b.run (sums_of b.full) (of_line b.now)) l None Ordinary)
     (grow_is (resumed b.run b.now) p ∙ ap (λ l. grow_line l (of_part p)) (resumed_is b.run b.now))
 
-part_is : (s : Stage) (b : Block) (p : Part) → of_block (with_part s b p) ≡ part_block s (of_block b) (of_part p)
+part_is : (s : Stage) (b : Block) (p : ContentPart) → of_block (with_part s b p) ≡ part_block s (of_block b) (of_part p)
 part_is Empty b p = ap (λ l. block_sums_of no_sums l None (first_stage p)) (grow_is no_parts p)
     ∙ ap (λ s. block_sums_of no_sums (grow_line no_line (of_part p)) None s) (stage_is p)
 part_is Alone b p = later_part b p
 part_is Ordinary b p = later_part b p
 
-widen_is : (b : Block) (p : Part) → of_block (widen b p) ≡ widen_block (of_block b) (of_part p)
+widen_is : (b : Block) (p : ContentPart) → of_block (widen b p) ≡ widen_block (of_block b) (of_part p)
 widen_is b (gap w) = white_is b.stage b w
 widen_is b (text x) = part_is b.stage b (text x)
 widen_is b (tag c t) = part_is b.stage b (tag c t)
 
-tree_at_is : (s : Stage) (b : Block) → sums_of (tree_at s b ∷ []) ≡ block_at s (of_block b)
+tree_at_is : (s : Stage) (b : Block) → sums_of (stage_tree s b ∷ []) ≡ block_sums_at s (of_block b)
 tree_at_is Empty b = sums_node document_label (leaf [] ∷ []) ∙ ap node_sums (sums_leaf [])
 tree_at_is Alone b = line_is b.now
 tree_at_is Ordinary b = sums_node document_label (b.full ++ grown b.now ∷ [])
@@ -195,40 +200,41 @@ of_content (inline p g) = of.Argument p (of_line g)
 of_content (blocks b) = of.Block (of_block b)
 of_content (collecting x) = of.Tags (sums_of (map tree_of_entry x.entries)) (of_block (as_block x))
 
-put_is : (c : Content) (p : Part) → of_content (put c p) ≡ put_sums (of_content c) (of_part p)
+put_is : (c : Content) (p : ContentPart) → of_content (put_part c p) ≡ put_sums (of_content c) (of_part p)
 put_is (inline q g) p = ap (of.Argument q) (grow_is g p)
 put_is (blocks b) p = ap of.Block (widen_is b p)
 put_is (collecting x) (gap w) =
     ap (of.Tags (sums_of (map tree_of_entry x.entries)))
     (ap of_block (longer_run (with_entries no_paragraphs x.entries) x.run w) ∙ widen_is (as_block x) (gap w))
 put_is (collecting x) (tag c t) =
-    let e : Entry = record { before = x.run; collects = c; tree = t } in
+    let e : CollectionEntry = record { before = x.run; collects = c; tree = t } in
     ap (λ s. of.Tags s (of_block (with_entries no_paragraphs (x.entries ++ e ∷ []))))
     (ap sums_of (map-append tree_of_entry x.entries (e ∷ [])) ∙ sums_append (map tree_of_entry x.entries) (t ∷ []))
     ∙ ap (λ b. of.Tags (both (sums_of (map tree_of_entry x.entries)) (sums_of (t ∷ []))) b)
     (ap of_block (entries_append x.entries (e ∷ []) no_paragraphs) ∙ widen_is (as_block x) (tag c t))
 put_is (collecting x) (text s) = ap of.Block (widen_is (as_block x) (text s))
 
-place_is_in : (c : Content) → place_of c ≡ place_in (of_content c)
+place_is_in : (c : Content) → place_of c ≡ tag_place (of_content c)
 place_is_in (inline p g) = refl
 place_is_in (blocks b) = refl
 place_is_in (collecting x) = refl
 
-argument_is : (c : Content) → sums_of (content_of c ∷ []) ≡ argument_sums (of_content c)
+argument_is : (c : Content) → sums_of (tree_as_argument c ∷ []) ≡ argument_sums (of_content c)
 argument_is (inline p g) = line_is g
 argument_is (blocks b) = sums_leaf []
 argument_is (collecting x) = sums_leaf []
 
-body_is : (c : Content) → sums_of (block_of c ∷ []) ≡ body_sums (of_content c)
+body_is : (c : Content) → sums_of (tree_as_block c ∷ []) ≡ body_sums (of_content c)
 body_is (inline p g) = sums_leaf []
 body_is (blocks b) = block_sums_is b
 body_is (collecting x) = block_sums_is (as_block x)
 
 with_body : (l : List ℕ) (ks : List WideTree) (c : Content)
-    → sums_of (node l (forest (ks ++ block_of c ∷ [])) ∷ []) ≡ node_sums (both (sums_of ks) (body_sums (of_content c)))
+    → sums_of (node l (forest (ks ++ tree_as_block c ∷ [])) ∷ [])
+    ≡ node_sums (both (sums_of ks) (body_sums (of_content c)))
 with_body l ks c =
-    sums_node l (ks ++ block_of c ∷ [])
-    ∙ ap node_sums (sums_append ks (block_of c ∷ []) ∙ ap (λ s. both (sums_of ks) s) (body_is c))
+    sums_node l (ks ++ tree_as_block c ∷ [])
+    ∙ ap node_sums (sums_append ks (tree_as_block c ∷ []) ∙ ap (λ s. both (sums_of ks) s) (body_is c))
 
 long_is_of : (l : List ℕ) (ks : List WideTree) (c : Content)
     → of_part (long_of l ks c) ≡ long_sums (sums_of ks) (of_content c)
@@ -250,16 +256,17 @@ chosen true = refl
 chosen false = refl
 
 opening_is : (w : Option TagPlace) (l : List ℕ) (ks : List WideTree)
-    → of_content (opening w l ks) ≡ opening_sums w (same l collection_label) (sums_of ks)
+    → of_content (opened_content w l ks) ≡ opening_sums w (same_bytes l collection_label) (sums_of ks)
 opening_is (Some p) l ks = refl
 opening_is None l ks =
-    chosen (same l collection_label && none ks)
-    ∙ ap (λ z. if same l collection_label && z then of.Tags no_sums no_block else of.Block no_block) (none_counted ks)
+    chosen (same_bytes l collection_label && none ks)
+    ∙ ap (λ z. if same_bytes l collection_label && z then of.Tags no_sums no_block else of.Block no_block)
+    (none_counted ks)
 
 -- ---- states
 
 abbrev pub of_open : Open → OpenSums
-of_open f = open_of (of_content f.before) (same f.label collection_label) (sums_of f.children)
+of_open f = open_sums (of_content f.before) (same_bytes f.label collection_label) (sums_of f.children)
 
 abbrev pub gauge_at : Within → Content → List Open → Gauge
 gauge_at w here fs = record { within = w; here = of_content here; opens = map of_open fs }
@@ -275,26 +282,26 @@ go_weighed : (c : Bool) (s : State) (g : Gauge) → IsWeighed s g → IsWeighed 
 go_weighed true s g h = h
 go_weighed false s g h = tt
 
-put_weighed : (here : Content) (fs : List Open) (p : Part) (q : PartSums) → of_part p ≡ q
-    → between (put_sums (of_content here) q) (map of_open fs) ≡ gauge_at Parts (put here p) fs
+put_weighed : (here : Content) (fs : List Open) (p : ContentPart) (q : PartSums) → of_part p ≡ q
+    → gauge_between (put_sums (of_content here) q) (map of_open fs) ≡ gauge_at Parts (put_part here p) fs
 put_weighed here fs p q e =
-    ap (λ c. between c (map of_open fs)) (ap (put_sums (of_content here)) (sym e) ∙ sym (put_is here p))
+    ap (λ c. gauge_between c (map of_open fs)) (ap (put_sums (of_content here)) (sym e) ∙ sym (put_is here p))
 
 tag_weighed : (p : Option TagPlace) (f : Open) (o : OpenSums) (fs : List Open) → of_open f ≡ o
-    → in_open p o (map of_open fs) ≡ gauge_at Parts (opening p f.label f.children) (f ∷ fs)
+    → in_open p o (map of_open fs) ≡ gauge_at Parts (opened_content p f.label f.children) (f ∷ fs)
 tag_weighed p f o fs e =
     ap (λ x. in_open p x (map of_open fs)) (sym e)
-    ∙ ap (λ c. between c (of_open f ∷ map of_open fs)) (sym (opening_is p f.label f.children))
+    ∙ ap (λ c. gauge_between c (of_open f ∷ map of_open fs)) (sym (opening_is p f.label f.children))
 
 child_weighed : (f : Open) (t : WideTree) (s : Sums) → sums_of (t ∷ []) ≡ s
-    → of_open (with_child f t) ≡ child_in (of_open f) s
+    → of_open (open_with_child f t) ≡ with_child_sums (of_open f) s
 child_weighed f t s e =
-    ap (λ z. open_of (of_content f.before) (same f.label collection_label) z)
+    ap (λ z. open_sums (of_content f.before) (same_bytes f.label collection_label) z)
     (sums_append f.children (t ∷ []) ∙ ap (λ z. both (sums_of f.children) z) e)
 
 closed_weighed : (f : Open) (t : WideTree) (s : Sums) (fs : List Open) → sums_of (t ∷ []) ≡ s
-    → closed_open (child_in (of_open f) s) (map of_open fs) ≡ gauge_at Parts
-    (put f.before (tag false (node f.label (forest (f.children ++ t ∷ []))))) fs
+    → closed_open (with_child_sums (of_open f) s) (map of_open fs) ≡ gauge_at Parts
+    (put_part f.before (tag false (node f.label (forest (f.children ++ t ∷ []))))) fs
 closed_weighed f t s fs e =
     put_weighed f.before fs (tag false (node f.label (forest (f.children ++ t ∷ []))))
     (Tag false (node_sums (both (sums_of f.children) s)))
@@ -305,7 +312,7 @@ bar_weighed : (here : Content) (fs : List Open)
     → IsWeighed (next_argument (place_of here) here fs) (bar_gauge (of_content here) (map of_open fs))
 bar_weighed (inline p g) [] = tt
 bar_weighed (inline p g) (f ∷ fs) =
-    tag_weighed (Some p) (with_child f (grown g)) (child_in (of_open f) (line_sums (of_line g))) fs
+    tag_weighed (Some p) (open_with_child f (grown g)) (with_child_sums (of_open f) (line_sums (of_line g))) fs
     (child_weighed f (grown g) (line_sums (of_line g)) (line_is g))
 bar_weighed (blocks b) fs = tt
 bar_weighed (collecting x) fs = tt
@@ -316,7 +323,7 @@ close_weighed (inline InShort g) [] = tt
 close_weighed (inline InHeader g) [] = tt
 close_weighed (inline InClosing g) [] = tt
 close_weighed (inline InHeader g) (f ∷ fs) =
-    tag_weighed None (with_child f (grown g)) (child_in (of_open f) (line_sums (of_line g))) fs
+    tag_weighed None (open_with_child f (grown g)) (with_child_sums (of_open f) (line_sums (of_line g))) fs
     (child_weighed f (grown g) (line_sums (of_line g)) (line_is g))
 close_weighed (inline InShort g) (f ∷ fs) = closed_weighed f (grown g) (line_sums (of_line g)) fs (line_is g)
 close_weighed (inline InClosing g) (f ∷ fs) = closed_weighed f (grown g) (line_sums (of_line g)) fs (line_is g)
@@ -328,16 +335,17 @@ next_weighed : (w : Option TagPlace) (l : List ℕ) (p : Option TagPlace) (here 
 next_weighed (Some w) l p here fs = tt
 next_weighed None l p here [] = tt
 next_weighed None l p here (f ∷ fs) =
-    go_weighed (same l f.label) (in_tag p (with_child f (block_of here)) fs) _
-    (tag_weighed p (with_child f (block_of here)) (child_in (of_open f) (body_sums (of_content here))) fs
-    (child_weighed f (block_of here) (body_sums (of_content here)) (body_is here)))
+    go_weighed (same_bytes l f.label) (in_tag p (open_with_child f (tree_as_block here)) fs) _
+    (tag_weighed p (open_with_child f (tree_as_block here))
+    (with_child_sums (of_open f) (body_sums (of_content here))) fs
+    (child_weighed f (tree_as_block here) (body_sums (of_content here)) (body_is here)))
 
 last_weighed : (w : Option TagPlace) (l : List ℕ) (here : Content) (fs : List Open)
     → IsWeighed (last_block w l here fs) (last_gauge (of_content here) (map of_open fs))
 last_weighed (Some w) l here fs = tt
 last_weighed None l here [] = tt
 last_weighed None l here (f ∷ fs) =
-    go_weighed (same l f.label) (reading (put f.before (long_of f.label f.children here)) fs) _
+    go_weighed (same_bytes l f.label) (reading (put_part f.before (long_of f.label f.children here)) fs) _
     (put_weighed f.before fs (long_of f.label f.children here) (long_sums (sums_of f.children) (of_content here))
     (long_is_of f.label f.children here))
 
@@ -378,9 +386,9 @@ name_more good n b here fs =
     (ap (λ k. gauge_at (Symbol k) here fs) (sym (length-append n (b ∷ []))))
 
 name_over : (n : List ℕ) (here : Content) (fs : List Open)
-    → IsWeighed (name_end n here fs) (between (put_sums (of_content here) (Text (length n + 2))) (map of_open fs))
+    → IsWeighed (name_end n here fs) (gauge_between (put_sums (of_content here) (Text (length n + 2))) (map of_open fs))
 name_over n here fs =
-    go_weighed (nat_le 1 (length n)) (reading (put here (text (symbol_bytes n))) fs) _
+    go_weighed (nat_le 1 (length n)) (reading (put_part here (text (symbol_bytes n))) fs) _
     (put_weighed here fs (text (symbol_bytes n)) (Text (length n + 2))
     (ap Text (omega (arith, length-append n (62 ∷ [])))))
 
@@ -441,7 +449,8 @@ AreGauged lost lost = Unit {0}
 AreGauged (at q k) lost = ⊥
 AreGauged lost (at r m) = ⊥
 
-given_gauged : (r : Lexed) (k : Keeping) (m : Gauged) → IsGauged k m → AreGauged (given keep k r) (given keep_gauge m r)
+given_gauged : (r : Lexed) (k : Keeping) (m : Gauged) → IsGauged k m
+    → AreGauged (after_lexed keep k r) (after_lexed keep_gauge m r)
 given_gauged (within q) k m h = (refl, h)
 given_gauged (done t) k m h = (refl, keep_weighed k m t h)
 given_gauged bad k m h = tt
@@ -449,7 +458,8 @@ given_gauged bad k m h = tt
 step_gauged : (w : Bytewise Keeping) (v : Bytewise Gauged) (b : ℕ) → AreGauged w v
     → AreGauged (step keep w b) (step keep_gauge v b)
 step_gauged (at q k) (at r m) b h =
-    subst (λ z. AreGauged (given keep k (lex q (kind_of b) b)) (given keep_gauge m (lex z (kind_of b) b))) h.0
+    subst (λ z. AreGauged (after_lexed keep k (lex q (kind_of b) b))
+    (after_lexed keep_gauge m (lex z (kind_of b) b))) h.0
     (given_gauged (lex q (kind_of b) b) k m h.1)
 step_gauged lost lost b h = tt
 step_gauged (at q k) lost b h = absurd h
@@ -472,7 +482,7 @@ file_weighed (blocks b) t e = sym (block_sums_is b) ∙ ap (λ u. sums_of (u ∷
 file_weighed (collecting x) t e =
     sym (block_sums_is (as_block x)) ∙ ap (λ u. sums_of (u ∷ [])) (some_tree t (tree_of_block (as_block x)) e)
 
-state_weighed : (s : State) (g : Gauge) (t : WideTree) → IsWeighed s g → tree_of s ≡ Some t
+state_weighed : (s : State) (g : Gauge) (t : WideTree) → IsWeighed s g → state_tree s ≡ Some t
     → body_sums g.here ≡ sums_of (t ∷ [])
 state_weighed (reading here []) g t h e = ap (λ z. body_sums z.here) h ∙ file_weighed here t e
 state_weighed (reading here (f ∷ fs)) g t h e = absurd cc

@@ -13,13 +13,15 @@ use Rattle.tx_tm_form.specs.declared.bytes.ByteKind.TheVariants.{Backslash, Hash
 use Rattle.tx_tm_form.specs.declared.places.TagForm.{TagForm}
 use Rattle.tx_tm_form.specs.declared.places.TagForm.TheVariants.{Short, Long, Middle, Closing}
 use Rattle.tx_tm_form.specs.Bytes.{kind_of, is_white, is_plain, escape_of, can_escape}
-use Rattle.tx_tm_form.specs.Tokens.{Token, white, join, plain, escape, raw, head, bar, close, mark_of, end_of, written}
-use Rattle.tx_tm_form.specs.Tokens.{IsToken, IsTokenList, is_dropped, kept}
-use Rattle.tx_tm_form.specs.Forms.{tokens_of, parts_of, Spells}
+use Rattle.tx_tm_form.specs.Tokens.{Token, white, join, plain, escape, raw, head, bar, close, form_mark, label_end}
+use Rattle.tx_tm_form.specs.Tokens.{written}
+use Rattle.tx_tm_form.specs.Tokens.{IsToken, IsTokenList, is_dropped, without_joins}
+use Rattle.tx_tm_form.specs.Forms.{tokens_of, piece_parts, Spells}
 use Rattle.tx_tm_form.specs.Growing.{blocks, no_paragraphs}
 use Rattle.tx_tm_form.specs.Machine.{State, reading, feed, feeds, Lex, ready, slashed, returned, angled, labelled}
 use Rattle.tx_tm_form.specs.Machine.{within, done, if_good, lex_ready, lex_slashed, lex_returned, lex_angled}
-use Rattle.tx_tm_form.specs.Machine.{lex_labelled, lex, Bytewise, at, given, run, Keeping, keep, keeps, start, tree_of}
+use Rattle.tx_tm_form.specs.Machine.{lex_labelled, lex, Bytewise, at, after_lexed, run, Keeping, keep, keeps, start}
+use Rattle.tx_tm_form.specs.Machine.{state_tree}
 use Rattle.tx_tm_form.specs.Machine.{tree_in, reads}
 use Rattle.tx_tm_form.proofs.Growth.{file_is}
 use Rattle.tx_tm_form.proofs.Complete.{read_pieces}
@@ -120,8 +122,8 @@ lexed_letter form m k b h n =
 module _ (S : Type 0) (fd : S → Token → S) where
   -- a byte of a known kind
   pub byte_of : (k : ByteKind) (b : ℕ) (q : Lex) (s : S) (y : List ℕ) → kind_of b ≡ k
-      → run fd (at q s) (b ∷ y) ≡ run fd (given fd s (lex q k b)) y
-  byte_of k b q s y e = ap (λ k. run fd (given fd s (lex q k b)) y) e
+      → run fd (at q s) (b ∷ y) ≡ run fd (after_lexed fd s (lex q k b)) y
+  byte_of k b q s y e = ap (λ k. run fd (after_lexed fd s (lex q k b)) y) e
 
   pub backslash_step : (s : S) (y : List ℕ) → run fd (at ready s) (92 ∷ y) ≡ run fd (at slashed s) y
   unfolding lex_ready
@@ -132,56 +134,57 @@ module _ (S : Type 0) (fd : S → Token → S) where
   less_step s y = byte_of Less 60 ready s y less_kind
 
   pub end_step : (more : Bool) (form : TagForm) (m : List ℕ) (s : S) (y : List ℕ) → 1 ≤ length m
-      → run fd (at (labelled form m) s) (end_of more ∷ y) ≡ run fd (at ready (fd s (head form m more))) y
+      → run fd (at (labelled form m) s) (label_end more ∷ y) ≡ run fd (at ready (fd s (head form m more))) y
   unfolding lex_labelled
   end_step true form m s y n =
       byte_of Bar 124 (labelled form m) s y bar_kind
-      ∙ ap (λ c. run fd (given fd s (if_good c (done (head form m true)))) y) (le-leb _ _ n)
+      ∙ ap (λ c. run fd (after_lexed fd s (if_good c (done (head form m true)))) y) (le-leb _ _ n)
   end_step false form m s y n = byte_of Greater 62 (labelled form m) s y greater_kind
-      ∙ ap (λ c. run fd (given fd s (if_good c (done (head form m false)))) y) (le-leb _ _ n)
+      ∙ ap (λ c. run fd (after_lexed fd s (if_good c (done (head form m false)))) y) (le-leb _ _ n)
 
   pub label_run : (l m : List ℕ) (more : Bool) (form : TagForm) (s : S) (y : List ℕ)
       → AllByRecursion (λ b. is_label_byte b ≡ true) l → length m + length l ≤ MOST_LABEL → 1 ≤ length m + length l
-      → run fd (at (labelled form m) s) (l ++ end_of more ∷ y) ≡ run fd (at ready (fd s (head form (m ++ l) more))) y
+      → run fd (at (labelled form m) s) (l ++ label_end more ∷ y) ≡ run fd (at ready (fd s (head form (m ++ l) more))) y
   label_run [] m more form s y h n k =
       end_step more form m s y (omega (arith, k))
       ∙ ap (λ a. run fd (at ready (fd s (head form a more))) y) (sym (append-nil m))
   label_run (b ∷ l) m more form s y h n k =
-      ap (λ r. run fd (given fd s r) (l ++ end_of more ∷ y))
+      ap (λ r. run fd (after_lexed fd s r) (l ++ label_end more ∷ y))
       (lexed_letter form m (kind_of b) b (name_kind b h.0) (omega arith))
       ∙ label_run l (m ++ b ∷ []) more form s y h.1 (omega (arith, length-append m (b ∷ [])))
       (omega (arith, length-append m (b ∷ [])))
       ∙ ap (λ a. run fd (at ready (fd s (head form a more))) y) (append_assoc m (b ∷ []) l)
 
   mark_run : (form : TagForm) (l : List ℕ) (more : Bool) (s : S) (y : List ℕ) → IsLabel l
-      → run fd (at angled s) (mark_of form ++ (l ++ end_of more ∷ y)) ≡ run fd (at ready (fd s (head form l more))) y
+      → run fd (at angled s) (form_mark form ++ (l ++ label_end more ∷ y))
+      ≡ run fd (at ready (fd s (head form l more))) y
   unfolding lex_angled
   mark_run Short [] more s y h = absurd (omega (arith, h.some))
   mark_run Short (b ∷ l) more s y h =
-      ap (λ r. run fd (given fd s r) (l ++ end_of more ∷ y)) (lexed_first (kind_of b) b (name_kind b h.each.0))
+      ap (λ r. run fd (after_lexed fd s r) (l ++ label_end more ∷ y)) (lexed_first (kind_of b) b (name_kind b h.each.0))
       ∙ label_run l (b ∷ []) more Short s y h.each.1 (omega (arith, h.short)) (omega arith)
-  mark_run Long l more s y h = byte_of Backslash 92 angled s (l ++ end_of more ∷ y) backslash_kind
+  mark_run Long l more s y h = byte_of Backslash 92 angled s (l ++ label_end more ∷ y) backslash_kind
       ∙ label_run l [] more Long s y h.each (omega (arith, h.short)) (omega (arith, h.some))
-  mark_run Middle l more s y h = byte_of Bar 124 angled s (l ++ end_of more ∷ y) bar_kind
+  mark_run Middle l more s y h = byte_of Bar 124 angled s (l ++ label_end more ∷ y) bar_kind
       ∙ label_run l [] more Middle s y h.each (omega (arith, h.short)) (omega (arith, h.some))
-  mark_run Closing l more s y h = byte_of Slash 47 angled s (l ++ end_of more ∷ y) slash_kind
+  mark_run Closing l more s y h = byte_of Slash 47 angled s (l ++ label_end more ∷ y) slash_kind
       ∙ label_run l [] more Closing s y h.each (omega (arith, h.short)) (omega (arith, h.some))
 
   pub token_run : (t : Token) (s : S) (y : List ℕ) → IsToken t
       → run fd (at ready s) (written t ++ y) ≡ run fd (at ready (fd s t)) y
   unfolding lex_ready lex_slashed lex_returned lex_angled
-  token_run (white b) s y h = ap (λ r. run fd (given fd s r) y) (lexed_white (kind_of b) b h)
-  token_run (plain b) s y h = ap (λ r. run fd (given fd s r) y) (lexed_plain (kind_of b) b h)
+  token_run (white b) s y h = ap (λ r. run fd (after_lexed fd s r) y) (lexed_white (kind_of b) b h)
+  token_run (plain b) s y h = ap (λ r. run fd (after_lexed fd s r) y) (lexed_plain (kind_of b) b h)
   token_run (join true) s y h = backslash_step s (13 ∷ 10 ∷ y) ∙ byte_of Return 13 slashed s (10 ∷ y) return_kind
       ∙ byte_of Newline 10 returned s y newline_kind
   token_run (join false) s y h = backslash_step s (10 ∷ y) ∙ byte_of Newline 10 slashed s y newline_kind
   token_run (escape b) s y h =
-      backslash_step s (b ∷ y) ∙ ap (λ r. run fd (given fd s r) y) (lexed_escape (kind_of b) b refl h)
+      backslash_step s (b ∷ y) ∙ ap (λ r. run fd (after_lexed fd s r) y) (lexed_escape (kind_of b) b refl h)
   token_run raw s y h = less_step s (35 ∷ y) ∙ byte_of Hash 35 angled s y hash_kind
   token_run (head form l more) s y h =
-      less_step s ((mark_of form ++ (l ++ end_of more ∷ [])) ++ y)
-      ∙ ap (λ z. run fd (at angled s) z) (append_assoc (mark_of form) (l ++ end_of more ∷ []) y
-      ∙ ap (λ z. mark_of form ++ z) (append_assoc l (end_of more ∷ []) y))
+      less_step s ((form_mark form ++ (l ++ label_end more ∷ [])) ++ y)
+      ∙ ap (λ z. run fd (at angled s) z) (append_assoc (form_mark form) (l ++ label_end more ∷ []) y
+      ∙ ap (λ z. form_mark form ++ z) (append_assoc l (label_end more ∷ []) y))
       ∙ mark_run form l more s y h
   token_run bar s y h = byte_of Bar 124 ready s y bar_kind
   token_run close s y h = byte_of Greater 62 ready s y greater_kind
@@ -217,13 +220,13 @@ one_token_list bytes ts us h k =
 -- ---- joins
 
 pub keeps_state : (ts : List Token) (j : Bool) (s : State)
-    → (keeps (record { behind_join = j; state = s }) ts).state ≡ feeds s (kept j ts)
+    → (keeps (record { behind_join = j; state = s }) ts).state ≡ feeds s (without_joins j ts)
 keeps_state [] j s = refl
 keeps_state (t ∷ ts) j s =
     elim (is_dropped j t) as
     (λ d. (keeps
     (if d then record { behind_join = true; state = s } else record { behind_join = false; state = feed s t })
-    ts).state ≡ feeds s (if d then kept true ts else t ∷ kept false ts)) [
+    ts).state ≡ feeds s (if d then without_joins true ts else t ∷ without_joins false ts)) [
       | true ↦ keeps_state ts true s
       | false ↦ keeps_state ts false (feed s t)
     ]
@@ -243,11 +246,11 @@ unfolding reads
 spelled_is_read bytes t h =
     ap (λ x. tree_in (run keep start x)) h.found.all
     ∙ ap tree_in (tokens_run Keeping keep h.tokens file_start h.found.each)
-    ∙ ap (λ k. tree_of k.state) (folds_keeps h.tokens file_start)
-    ∙ ap tree_of (keeps_state h.tokens false file_state
+    ∙ ap (λ k. state_tree k.state) (folds_keeps h.tokens file_start)
+    ∙ ap state_tree (keeps_state h.tokens false file_state
     ∙ ap (feeds file_state) (h.formed ∙ sym (append-nil (tokens_of h.file)))
     ∙ read_pieces h.file (blocks no_paragraphs) [] [])
-    ∙ file_is (parts_of h.file)
+    ∙ file_is (piece_parts h.file)
     ∙ ap Some (sym h.meant)
 
 pub one_tree : (bytes : List ℕ) (t u : WideTree) → Spells bytes t → Spells bytes u → t ≡ u

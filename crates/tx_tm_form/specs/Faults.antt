@@ -9,9 +9,9 @@ use Rattle.tx_tree.specs.Labels.{BeginsLabel}
 use Rattle.tx_tree.specs.ReadFaults.{IsFault, Row}
 use Rattle.tx_tm_form.specs.declared.places.TagForm.{TagForm}
 use Rattle.tx_tm_form.specs.declared.places.TagForm.TheVariants.{Short, Long, Middle, Closing}
-use Rattle.tx_tm_form.specs.Tokens.{Token, escape, head, mark_of, end_of, written, IsToken, kept}
+use Rattle.tx_tm_form.specs.Tokens.{Token, escape, head, form_mark, label_end, written, IsToken, without_joins}
 use Rattle.tx_tm_form.specs.Forms.{Pieces, Arguments, Blocks, name_token}
-use Rattle.tx_tm_form.specs.Forms.{tokens_of, beginning, tokens_of_blocks, Spells}
+use Rattle.tx_tm_form.specs.Forms.{tokens_of, tag_beginning, tokens_of_blocks, Spells}
 use Rattle.tx_tm_form.specs.Machine.{Lex, ready, slashed, returned, angled, labelled}
 use Rattle.tx_tm_form.specs.Fronts.{begins}
 
@@ -23,7 +23,7 @@ begun_bytes ready = []
 begun_bytes slashed = 92 ∷ []
 begun_bytes returned = 92 ∷ 13 ∷ []
 begun_bytes angled = 60 ∷ []
-begun_bytes (labelled form label) = 60 ∷ (mark_of form ++ label)
+begun_bytes (labelled form label) = 60 ∷ (form_mark form ++ label)
 
 -- a short tag begins with a byte of its label
 abbrev pub HasByte : TagForm → List ℕ → Type 0
@@ -46,7 +46,7 @@ pub record IsScanned (bytes : List ℕ) (tokens : List Token) (q : Lex) : Type 0
 -- a symbol: `\<`, and the bytes of its name so far
 abbrev pub IsInSymbol : List Token → Type 0
 IsInSymbol tokens =
-    (before : List Token) × (name : List ℕ) × (kept false tokens ≡ before ++ escape 60 ∷ map name_token name)
+    (before : List Token) × (name : List ℕ) × (without_joins false tokens ≡ before ++ escape 60 ∷ map name_token name)
 
 -- A block of the long tag whose < is at this place: from there on stand its beginning, its blocks with the middle tags
 -- between them, and nothing of its end.
@@ -59,8 +59,8 @@ pub record IsInBlock (tokens : List Token) (place : ℕ) : Type 0 where
   pub first : Pieces
   pub others : Blocks
   pub found : tokens ≡ before ++ head Long label more ∷ behind
-  pub formed : head Long label more ∷ kept false behind
-      ≡ beginning Long label arguments ++ (tokens_of first ++ tokens_of_blocks label others)
+  pub formed : head Long label more ∷ without_joins false behind
+      ≡ tag_beginning Long label arguments ++ (tokens_of first ++ tokens_of_blocks label others)
   pub there : place ≡ length (flat_map written before)
 
 -- ---- the table
@@ -119,4 +119,4 @@ IsTmFault = IsFault Spells IsKind
 -- label, or behind all of it one that ends a label.
 abbrev pub Differs : List ℕ → List ℕ → ℕ → Type 0
 Differs label bytes b = (begins bytes label ≡ true)
-    × ((more : Bool) → begins (bytes ++ b ∷ []) (label ++ end_of more ∷ []) ≡ false)
+    × ((more : Bool) → begins (bytes ++ b ∷ []) (label ++ label_end more ∷ []) ≡ false)

@@ -14,10 +14,10 @@ use Rattle.tx_tm_form.specs.declared.places.TagPlace.{TagPlace}
 use Rattle.tx_tm_form.specs.declared.places.TagPlace.TheVariants.{InShort, InHeader, InClosing}
 use Rattle.tx_tm_form.specs.Bytes.{kind_of, escape_of, escaped_bytes, can_escape, is_digit, white_of}
 use Rattle.tx_tm_form.specs.Tokens.{Token, white, join, plain, escape, raw, head, bar, close, is_dropped}
-use Rattle.tx_tm_form.specs.Parts.{gap, text, tag, raw_data_label, same}
+use Rattle.tx_tm_form.specs.Parts.{gap, text, tag, raw_data_label, same_bytes}
 use Rattle.tx_tm_form.specs.Forms.{symbol_bytes}
-use Rattle.tx_tm_form.specs.Growing.{Content, blocks, no_paragraphs, put, place_of}
-use Rattle.tx_tm_form.specs.Growing.{content_of, block_of, file_tree, long_of, opening}
+use Rattle.tx_tm_form.specs.Growing.{Content, blocks, no_paragraphs, put_part, place_of}
+use Rattle.tx_tm_form.specs.Growing.{tree_as_argument, tree_as_block, file_tree, long_of, opened_content}
 
 -- ---- tokens
 
@@ -41,19 +41,19 @@ go false s = failed
 abbrev pub open_tag : Content → List ℕ → List WideTree → Open
 open_tag before label children = record { before = before; label = label; children = children }
 
-abbrev pub with_child : Open → WideTree → Open
-with_child f t = open_tag f.before f.label (f.children ++ t ∷ [])
+abbrev pub open_with_child : Open → WideTree → Open
+open_with_child f t = open_tag f.before f.label (f.children ++ t ∷ [])
 
 -- the next argument or block of an open tag
 abbrev pub in_tag : Option TagPlace → Open → List Open → State
-in_tag p f fs = reading (opening p f.label f.children) (f ∷ fs)
+in_tag p f fs = reading (opened_content p f.label f.children) (f ∷ fs)
 
 abbrev pub with_node : List ℕ → List WideTree → Content → List Open → State
-with_node label children before fs = reading (put before (tag false (node label (forest children)))) fs
+with_node label children before fs = reading (put_part before (tag false (node label (forest children)))) fs
 
 -- behind | in an argument
 abbrev pub next_argument : Option TagPlace → Content → List Open → State
-next_argument (Some p) here (f ∷ fs) = in_tag (Some p) (with_child f (content_of here)) fs
+next_argument (Some p) here (f ∷ fs) = in_tag (Some p) (open_with_child f (tree_as_argument here)) fs
 next_argument _ here fs = failed
 
 abbrev pub closed : Open → List Open → State
@@ -61,19 +61,20 @@ closed f fs = with_node f.label f.children f.before fs
 
 -- behind > in an argument
 abbrev pub last_argument : Option TagPlace → Content → List Open → State
-last_argument (Some InHeader) here (f ∷ fs) = in_tag None (with_child f (content_of here)) fs
-last_argument (Some p) here (f ∷ fs) = closed (with_child f (content_of here)) fs
+last_argument (Some InHeader) here (f ∷ fs) = in_tag None (open_with_child f (tree_as_argument here)) fs
+last_argument (Some p) here (f ∷ fs) = closed (open_with_child f (tree_as_argument here)) fs
 last_argument _ here fs = failed
 
 -- behind a block, where a middle or closing tag goes on
 abbrev pub next_block : Option TagPlace → List ℕ → Option TagPlace → Content → List Open → State
-next_block None label p here (f ∷ fs) = go (same label f.label) (in_tag p (with_child f (block_of here)) fs)
+next_block None label p here (f ∷ fs) =
+    go (same_bytes label f.label) (in_tag p (open_with_child f (tree_as_block here)) fs)
 next_block _ label p here fs = failed
 
 -- behind a block, where a closing tag without arguments stands
 abbrev pub last_block : Option TagPlace → List ℕ → Content → List Open → State
 last_block None label here (f ∷ fs) =
-    go (same label f.label) (reading (put f.before (long_of f.label f.children here)) fs)
+    go (same_bytes label f.label) (reading (put_part f.before (long_of f.label f.children here)) fs)
 last_block _ label here fs = failed
 
 abbrev pub header_place : Bool → Option TagPlace
@@ -89,13 +90,13 @@ begun Closing true label here fs = next_block (place_of here) label (Some InClos
 begun Closing false label here fs = last_block (place_of here) label here fs
 
 abbrev pub by_escape : Option Escaped → ℕ → Content → List Open → State
-by_escape (Some e) b here fs = reading (put here (text (escaped_bytes e))) fs
+by_escape (Some e) b here fs = reading (put_part here (text (escaped_bytes e))) fs
 by_escape None b here fs = go (b == 60) (naming [] here fs)
 
 abbrev pub feed_reading : Content → List Open → Token → State
-feed_reading here fs (white b) = reading (put here (gap (white_of b))) fs
+feed_reading here fs (white b) = reading (put_part here (gap (white_of b))) fs
 feed_reading here fs (join r) = failed
-feed_reading here fs (plain b) = reading (put here (text (b ∷ []))) fs
+feed_reading here fs (plain b) = reading (put_part here (text (b ∷ []))) fs
 feed_reading here fs (escape b) = by_escape (escape_of b) b here fs
 feed_reading here fs raw = counting [] here fs
 feed_reading here fs (head form label more) = begun form more label here fs
@@ -106,7 +107,7 @@ abbrev pub name_byte : Bool → List ℕ → ℕ → Content → List Open → S
 name_byte good name b here fs = go (good && nat_lt (length name) MOST_NAME) (naming (name ++ b ∷ []) here fs)
 
 abbrev pub name_end : List ℕ → Content → List Open → State
-name_end name here fs = go (nat_le 1 (length name)) (reading (put here (text (symbol_bytes name))) fs)
+name_end name here fs = go (nat_le 1 (length name)) (reading (put_part here (text (symbol_bytes name))) fs)
 
 abbrev pub feed_naming : List ℕ → Content → List Open → Token → State
 feed_naming name here fs (plain b) = name_byte (is_name_byte b) name b here fs
@@ -194,13 +195,13 @@ pub data Bytewise (S : Type 0) : Type 0 where
   at : (q : Lex) (s : S) → Bytewise S
   lost : Bytewise S
 
-abbrev pub given : {S : Type 0} → (S → Token → S) → S → Lexed → Bytewise S
-given fd s (within q) = at q s
-given fd s (done t) = at ready (fd s t)
-given fd s bad = lost
+abbrev pub after_lexed : {S : Type 0} → (S → Token → S) → S → Lexed → Bytewise S
+after_lexed fd s (within q) = at q s
+after_lexed fd s (done t) = at ready (fd s t)
+after_lexed fd s bad = lost
 
 abbrev pub step : {S : Type 0} → (S → Token → S) → Bytewise S → ℕ → Bytewise S
-step fd (at q s) b = given fd s (lex q (kind_of b) b)
+step fd (at q s) b = after_lexed fd s (lex q (kind_of b) b)
 step fd lost b = lost
 
 abbrev pub run : {S : Type 0} → (S → Token → S) → Bytewise S → List ℕ → Bytewise S
@@ -227,12 +228,12 @@ keeps k (t ∷ ts) = keeps (keep k t) ts
 abbrev pub start : Bytewise Keeping
 start = at ready (record { behind_join = false; state = reading (blocks no_paragraphs) [] })
 
-abbrev pub tree_of : State → Option WideTree
-tree_of (reading here []) = file_tree here
-tree_of _ = None
+abbrev pub state_tree : State → Option WideTree
+state_tree (reading here []) = file_tree here
+state_tree _ = None
 
 abbrev pub tree_if : Lex → Keeping → Option WideTree
-tree_if ready k = tree_of k.state
+tree_if ready k = state_tree k.state
 tree_if _ k = None
 
 abbrev pub tree_in : Bytewise Keeping → Option WideTree

@@ -15,7 +15,7 @@ use Rattle.tx_tm_form.specs.declared.marks.Inside.{Inside}
 use Rattle.tx_tm_form.specs.declared.marks.Inside.TheVariants.{Parts, Symbol, Digits}
 use Rattle.tx_tm_form.specs.Bytes.{escape_of, is_digit}
 use Rattle.tx_tm_form.specs.Tokens.{Token, white, join, plain, escape, raw, head, bar, close, written, is_dropped}
-use Rattle.tx_tm_form.specs.Parts.{same}
+use Rattle.tx_tm_form.specs.Parts.{same_bytes}
 use Rattle.tx_tm_form.specs.Machine.{header_place, Lex, ready, slashed, returned}
 use Rattle.tx_tm_form.specs.Machine.{angled, labelled, Bytewise, at, lost, step}
 use Rattle.tx_tm_form.specs.Fronts.{begins}
@@ -25,8 +25,8 @@ pub record Standing : Type 0 where
   pub inside : Inside
   pub marks : List TagMark
 
-abbrev pub standing : Inside → List TagMark → Option Standing
-standing inside ms = Some (record { inside = inside; marks = ms })
+abbrev pub standing_in : Inside → List TagMark → Option Standing
+standing_in inside ms = Some (record { inside = inside; marks = ms })
 
 abbrev pub with_inner : Option TagPlace → TagMark → TagMark
 with_inner p m = record { at = m.at; label = m.label; inner = p }
@@ -35,28 +35,28 @@ abbrev pub new_mark : ℕ → List ℕ → Option TagPlace → TagMark
 new_mark n label p = record { at = n; label = label; inner = p }
 
 abbrev pub if_marked : Bool → Inside → List TagMark → Option Standing
-if_marked true inside ms = standing inside ms
+if_marked true inside ms = standing_in inside ms
 if_marked false inside ms = None
 
 -- behind | in an argument
 abbrev pub mark_bar : Option TagPlace → List TagMark → Option Standing
-mark_bar (Some p) ms = standing Parts ms
+mark_bar (Some p) ms = standing_in Parts ms
 mark_bar None ms = None
 
 -- behind > in an argument of the first tag
 abbrev pub mark_close : Option TagPlace → TagMark → List TagMark → Option Standing
-mark_close (Some InHeader) m ms = standing Parts (with_inner None m ∷ ms)
-mark_close (Some p) m ms = standing Parts ms
+mark_close (Some InHeader) m ms = standing_in Parts (with_inner None m ∷ ms)
+mark_close (Some p) m ms = standing_in Parts ms
 mark_close None m ms = None
 
 -- behind a block of the first tag, where a middle or closing tag goes on
 abbrev pub mark_next : Option TagPlace → List ℕ → Option TagPlace → TagMark → List TagMark → Option Standing
-mark_next None label p m ms = if_marked (same label m.label) Parts (with_inner p m ∷ ms)
+mark_next None label p m ms = if_marked (same_bytes label m.label) Parts (with_inner p m ∷ ms)
 mark_next (Some w) label p m ms = None
 
 -- behind a block of the first tag, where a closing tag without arguments stands
 abbrev pub mark_last : Option TagPlace → List ℕ → TagMark → List TagMark → Option Standing
-mark_last None label m ms = if_marked (same label m.label) Parts ms
+mark_last None label m ms = if_marked (same_bytes label m.label) Parts ms
 mark_last (Some w) label m ms = None
 
 abbrev pub bar_marks : List TagMark → Option Standing
@@ -77,23 +77,23 @@ last_marks label (m ∷ ms) = mark_last m.inner label m ms
 
 -- behind the beginning of a tag, whose < is at place n
 abbrev pub begun_marks : ℕ → TagForm → Bool → List ℕ → List TagMark → Option Standing
-begun_marks n Short true label ms = standing Parts (new_mark n label (Some InShort) ∷ ms)
-begun_marks n Short false label ms = standing Parts ms
-begun_marks n Long more label ms = standing Parts (new_mark n label (header_place more) ∷ ms)
+begun_marks n Short true label ms = standing_in Parts (new_mark n label (Some InShort) ∷ ms)
+begun_marks n Short false label ms = standing_in Parts ms
+begun_marks n Long more label ms = standing_in Parts (new_mark n label (header_place more) ∷ ms)
 begun_marks n Middle more label ms = next_marks label (header_place more) ms
 begun_marks n Closing true label ms = next_marks label (Some InClosing) ms
 begun_marks n Closing false label ms = last_marks label ms
 
 abbrev pub escape_marks : Option Escaped → ℕ → List TagMark → Option Standing
-escape_marks (Some e) b ms = standing Parts ms
+escape_marks (Some e) b ms = standing_in Parts ms
 escape_marks None b ms = if_marked (b == 60) (Symbol 0) ms
 
 abbrev pub part_marks : ℕ → List TagMark → Token → Option Standing
-part_marks n ms (white b) = standing Parts ms
+part_marks n ms (white b) = standing_in Parts ms
 part_marks n ms (join r) = None
-part_marks n ms (plain b) = standing Parts ms
+part_marks n ms (plain b) = standing_in Parts ms
 part_marks n ms (escape b) = escape_marks (escape_of b) b ms
-part_marks n ms raw = standing Digits ms
+part_marks n ms raw = standing_in Digits ms
 part_marks n ms (head form label more) = begun_marks n form more label ms
 part_marks n ms bar = bar_marks ms
 part_marks n ms close = close_marks ms
@@ -109,7 +109,7 @@ symbol_marks length ms _ = None
 
 abbrev pub digit_marks : List TagMark → Token → Option Standing
 digit_marks ms (plain b) = if_marked (is_digit b) Digits ms
-digit_marks ms close = standing Parts ms
+digit_marks ms close = standing_in Parts ms
 digit_marks ms _ = None
 
 -- behind a token at place n, or None where it cannot stand
@@ -136,7 +136,7 @@ keep_marks k t =
     else record { taken = k.taken + length (written t); behind_join = false; now = feed_standing k.taken k.now t }
 
 abbrev pub start_marks : Bytewise Marked
-start_marks = at ready (record { taken = 0; behind_join = false; now = standing Parts [] })
+start_marks = at ready (record { taken = 0; behind_join = false; now = standing_in Parts [] })
 
 abbrev pub is_parts : Inside → Bool
 is_parts Parts = true

@@ -24,7 +24,7 @@ use Rattle.tx_tm_form.specs.declared.measures.Within.{Within}
 use Rattle.tx_tm_form.specs.declared.measures.Within.TheVariants.{Parts, Symbol, Digits}
 use Rattle.tx_tm_form.specs.Bytes.{escape_of, escaped_bytes, white_of}
 use Rattle.tx_tm_form.specs.Tokens.{Token, white, join, plain, escape, raw, head, bar, close, is_dropped}
-use Rattle.tx_tm_form.specs.Parts.{collection_label, same}
+use Rattle.tx_tm_form.specs.Parts.{collection_label, same_bytes}
 use Rattle.tx_tm_form.specs.Growing.{longer}
 use Rattle.tx_tm_form.specs.Machine.{header_place, ready, Bytewise, at, lost}
 
@@ -67,11 +67,11 @@ concat_sums s = if s.count == 0 then leaf_sums 0 else if s.count == 1 then s els
 
 -- ---- an argument, or a paragraph
 
-abbrev pub line_of : Sums → ℕ → Bool → LineSums
-line_of done n in_run = record { done = done; length = n; in_run = in_run }
+abbrev pub line_so_far : Sums → ℕ → Bool → LineSums
+line_so_far done n in_run = record { done = done; length = n; in_run = in_run }
 
 abbrev pub no_line : LineSums
-no_line = line_of no_sums 0 false
+no_line = line_so_far no_sums 0 false
 
 abbrev pub ended_line : LineSums → Sums
 ended_line g = if g.length == 0 then g.done else both g.done (leaf_sums g.length)
@@ -80,9 +80,9 @@ abbrev pub line_sums : LineSums → Sums
 line_sums g = concat_sums (ended_line g)
 
 abbrev pub grow_line : LineSums → PartSums → LineSums
-grow_line g (Gap w) = line_of g.done (if g.in_run then g.length else g.length + 1) true
-grow_line g (Text n) = line_of g.done (g.length + n) false
-grow_line g (Tag c s) = line_of (both (ended_line g) s) 0 false
+grow_line g (Gap w) = line_so_far g.done (if g.in_run then g.length else g.length + 1) true
+grow_line g (Text n) = line_so_far g.done (g.length + n) false
+grow_line g (Tag c s) = line_so_far (both (ended_line g) s) 0 false
 
 -- ---- a block
 
@@ -118,13 +118,13 @@ widen_block b (Gap w) = white_block b.stage b w
 widen_block b (Text n) = part_block b.stage b (Text n)
 widen_block b (Tag c s) = part_block b.stage b (Tag c s)
 
-abbrev pub block_at : Stage → BlockSums → Sums
-block_at Empty b = node_sums (leaf_sums 0)
-block_at Alone b = line_sums b.now
-block_at Ordinary b = node_sums (both b.full (line_sums b.now))
+abbrev pub block_sums_at : Stage → BlockSums → Sums
+block_sums_at Empty b = node_sums (leaf_sums 0)
+block_sums_at Alone b = line_sums b.now
+block_sums_at Ordinary b = node_sums (both b.full (line_sums b.now))
 
 abbrev pub block_sums : BlockSums → Sums
-block_sums b = block_at b.stage b
+block_sums b = block_sums_at b.stage b
 
 -- ---- either
 
@@ -135,9 +135,9 @@ put_sums (Tags s b) (Gap w) = Tags s (widen_block b (Gap w))
 put_sums (Tags s b) (Tag c t) = Tags (both s t) (widen_block b (Tag c t))
 put_sums (Tags s b) (Text n) = Block (widen_block b (Text n))
 
-abbrev pub place_in : ContentSums → Option TagPlace
-place_in (Argument p g) = Some p
-place_in _ = None
+abbrev pub tag_place : ContentSums → Option TagPlace
+tag_place (Argument p g) = Some p
+tag_place _ = None
 
 -- of an argument
 abbrev pub argument_sums : ContentSums → Sums
@@ -169,55 +169,56 @@ pub record Gauge : Type 0 where
   pub here : ContentSums
   pub opens : List OpenSums
 
-abbrev pub between : ContentSums → List OpenSums → Gauge
-between here os = record { within = Parts; here = here; opens = os }
+abbrev pub gauge_between : ContentSums → List OpenSums → Gauge
+gauge_between here os = record { within = Parts; here = here; opens = os }
 
-abbrev pub open_of : ContentSums → Bool → Sums → OpenSums
-open_of before collects children = record { before = before; collects = collects; children = children }
+abbrev pub open_sums : ContentSums → Bool → Sums → OpenSums
+open_sums before collects children = record { before = before; collects = collects; children = children }
 
 abbrev pub in_open : Option TagPlace → OpenSums → List OpenSums → Gauge
-in_open p o os = between (opening_sums p o.collects o.children) (o ∷ os)
+in_open p o os = gauge_between (opening_sums p o.collects o.children) (o ∷ os)
 
-abbrev pub child_in : OpenSums → Sums → OpenSums
-child_in o s = open_of o.before o.collects (both o.children s)
+abbrev pub with_child_sums : OpenSums → Sums → OpenSums
+with_child_sums o s = open_sums o.before o.collects (both o.children s)
 
 abbrev pub closed_open : OpenSums → List OpenSums → Gauge
-closed_open o os = between (put_sums o.before (Tag false (node_sums o.children))) os
+closed_open o os = gauge_between (put_sums o.before (Tag false (node_sums o.children))) os
 
 abbrev pub bar_gauge : ContentSums → List OpenSums → Gauge
-bar_gauge (Argument p g) (o ∷ os) = in_open (Some p) (child_in o (line_sums g)) os
-bar_gauge here os = between here os
+bar_gauge (Argument p g) (o ∷ os) = in_open (Some p) (with_child_sums o (line_sums g)) os
+bar_gauge here os = gauge_between here os
 
 abbrev pub close_gauge : ContentSums → List OpenSums → Gauge
-close_gauge (Argument InHeader g) (o ∷ os) = in_open None (child_in o (line_sums g)) os
-close_gauge (Argument p g) (o ∷ os) = closed_open (child_in o (line_sums g)) os
-close_gauge here os = between here os
+close_gauge (Argument InHeader g) (o ∷ os) = in_open None (with_child_sums o (line_sums g)) os
+close_gauge (Argument p g) (o ∷ os) = closed_open (with_child_sums o (line_sums g)) os
+close_gauge here os = gauge_between here os
 
 abbrev pub next_gauge : Option TagPlace → ContentSums → List OpenSums → Gauge
-next_gauge p here [] = between here []
-next_gauge p here (o ∷ os) = in_open p (child_in o (body_sums here)) os
+next_gauge p here [] = gauge_between here []
+next_gauge p here (o ∷ os) = in_open p (with_child_sums o (body_sums here)) os
 
 abbrev pub last_gauge : ContentSums → List OpenSums → Gauge
-last_gauge here [] = between here []
-last_gauge here (o ∷ os) = between (put_sums o.before (long_sums o.children here)) os
+last_gauge here [] = gauge_between here []
+last_gauge here (o ∷ os) = gauge_between (put_sums o.before (long_sums o.children here)) os
 
 abbrev pub begun_gauge : TagForm → Bool → List ℕ → ContentSums → List OpenSums → Gauge
-begun_gauge Short true label here os = in_open (Some InShort) (open_of here (same label collection_label) no_sums) os
-begun_gauge Short false label here os = between (put_sums here (Tag false (node_sums no_sums))) os
+begun_gauge Short true label here os =
+    in_open (Some InShort) (open_sums here (same_bytes label collection_label) no_sums) os
+begun_gauge Short false label here os = gauge_between (put_sums here (Tag false (node_sums no_sums))) os
 begun_gauge Long more label here os =
-    in_open (header_place more) (open_of here (same label collection_label) no_sums) os
+    in_open (header_place more) (open_sums here (same_bytes label collection_label) no_sums) os
 begun_gauge Middle more label here os = next_gauge (header_place more) here os
 begun_gauge Closing true label here os = next_gauge (Some InClosing) here os
 begun_gauge Closing false label here os = last_gauge here os
 
 abbrev pub escape_gauge : Option Escaped → ContentSums → List OpenSums → Gauge
-escape_gauge (Some e) here os = between (put_sums here (Text (length (escaped_bytes e)))) os
+escape_gauge (Some e) here os = gauge_between (put_sums here (Text (length (escaped_bytes e)))) os
 escape_gauge None here os = record { within = Symbol 0; here = here; opens = os }
 
 abbrev pub part_gauge : ContentSums → List OpenSums → Token → Gauge
-part_gauge here os (white b) = between (put_sums here (Gap (white_of b))) os
-part_gauge here os (join r) = between here os
-part_gauge here os (plain b) = between (put_sums here (Text 1)) os
+part_gauge here os (white b) = gauge_between (put_sums here (Gap (white_of b))) os
+part_gauge here os (join r) = gauge_between here os
+part_gauge here os (plain b) = gauge_between (put_sums here (Text 1)) os
 part_gauge here os (escape b) = escape_gauge (escape_of b) here os
 part_gauge here os raw = record { within = Digits 0; here = here; opens = os }
 part_gauge here os (head form label more) = begun_gauge form more label here os
@@ -225,7 +226,7 @@ part_gauge here os bar = bar_gauge here os
 part_gauge here os close = close_gauge here os
 
 abbrev pub name_gauge : Bool → ℕ → ContentSums → List OpenSums → Gauge
-name_gauge true n here os = between (put_sums here (Text (n + 2))) os
+name_gauge true n here os = gauge_between (put_sums here (Text (n + 2))) os
 name_gauge false n here os = record { within = Symbol (n + 1); here = here; opens = os }
 
 abbrev pub symbol_gauge : ℕ → ContentSums → List OpenSums → Token → Gauge
@@ -233,7 +234,7 @@ symbol_gauge n here os (escape b) = name_gauge (b == 62) n here os
 symbol_gauge n here os t = record { within = Symbol (n + 1); here = here; opens = os }
 
 abbrev pub digit_gauge : ℕ → ContentSums → List OpenSums → Token → Gauge
-digit_gauge n here os close = between (put_sums here (Tag false (node_sums (leaf_sums n)))) os
+digit_gauge n here os close = gauge_between (put_sums here (Tag false (node_sums (leaf_sums n)))) os
 digit_gauge n here os t = record { within = Digits (n + 1); here = here; opens = os }
 
 abbrev pub feed_in : Within → ContentSums → List OpenSums → Token → Gauge
@@ -255,7 +256,7 @@ keep_gauge k t =
     else record { behind_join = false; gauge = feed_gauge k.gauge t }
 
 abbrev pub start_gauge : Bytewise Gauged
-start_gauge = at ready (record { behind_join = false; gauge = between (Block no_block) [] })
+start_gauge = at ready (record { behind_join = false; gauge = gauge_between (Block no_block) [] })
 
 -- where the machine stands behind bytes that spell this tree
 abbrev pub IsMeasured : Bytewise Gauged → WideTree → Type 0

@@ -19,16 +19,16 @@ pub data Token : Type 0 where
   close : Token
 
 -- what stands between < and a label
-abbrev pub mark_of : TagForm → List ℕ
-mark_of Short = []
-mark_of Long = 92 ∷ []
-mark_of Middle = 124 ∷ []
-mark_of Closing = 47 ∷ []
+abbrev pub form_mark : TagForm → List ℕ
+form_mark Short = []
+form_mark Long = 92 ∷ []
+form_mark Middle = 124 ∷ []
+form_mark Closing = 47 ∷ []
 
 -- what stands behind a label
-abbrev pub end_of : Bool → ℕ
-end_of true = 124
-end_of false = 62
+abbrev pub label_end : Bool → ℕ
+label_end true = 124
+label_end false = 62
 
 abbrev pub written : Token → List ℕ
 written (white b) = b ∷ []
@@ -37,7 +37,7 @@ written (join true) = 92 ∷ 13 ∷ 10 ∷ []
 written (plain b) = b ∷ []
 written (escape b) = 92 ∷ b ∷ []
 written raw = 60 ∷ 35 ∷ []
-written (head form label more) = 60 ∷ (mark_of form ++ (label ++ end_of more ∷ []))
+written (head form label more) = 60 ∷ (form_mark form ++ (label ++ label_end more ∷ []))
 written bar = 124 ∷ []
 written close = 62 ∷ []
 
@@ -59,6 +59,7 @@ is_dropped behind_join (join r) = true
 is_dropped behind_join (white b) = behind_join && (b == 32 || b == 9)
 is_dropped behind_join _ = false
 
-abbrev pub kept : Bool → List Token → List Token
-kept behind_join [] = []
-kept behind_join (t ∷ ts) = if is_dropped behind_join t then kept true ts else t ∷ kept false ts
+abbrev pub without_joins : Bool → List Token → List Token
+without_joins behind_join [] = []
+without_joins behind_join (t ∷ ts) =
+    if is_dropped behind_join t then without_joins true ts else t ∷ without_joins false ts

@@ -8,7 +8,7 @@ use Rattle.tx_tm_form.specs.declared.bytes.ByteKind.TheVariants.{Name, Blank, Ne
 use Rattle.tx_tm_form.specs.declared.bytes.ByteKind.TheVariants.{Greater, Bar, Backslash, Hash, Slash}
 use Rattle.tx_tm_form.specs.declared.places.TagForm.{TagForm}
 use Rattle.tx_tm_form.specs.Bytes.{can_escape}
-use Rattle.tx_tm_form.specs.Tokens.{escape, head, end_of}
+use Rattle.tx_tm_form.specs.Tokens.{escape, head, label_end}
 use Rattle.tx_tm_form.specs.Machine.{Lex, ready, slashed, returned, angled, labelled, Lexed, within, done, if_good}
 use Rattle.tx_tm_form.specs.Machine.{lex_ready, lex_slashed, lex_returned, lex_angled, lex_labelled, lex}
 use Rattle.tx_tm_read.specs.declared.heads.Head.{Head}
@@ -76,5 +76,5 @@ head_long bytes h s =
       arith,
       length-take h.taken bytes,
       ap length s.there,
-      length-append h.label (end_of h.more ∷ []),
+      length-append h.label (label_end h.more ∷ []),
     )

@@ -13,16 +13,17 @@ use Rattle.tx_tm_form.specs.declared.places.TagPlace.{TagPlace}
 use Rattle.tx_tm_form.specs.declared.places.TagPlace.TheVariants.{InShort, InHeader, InClosing}
 use Rattle.tx_tm_form.specs.Bytes.{kind_of, escape_of, escaped_bytes, is_digit, white_of}
 use Rattle.tx_tm_form.specs.Tokens.{Token, white, join, plain, escape, raw, head, bar, close, is_dropped}
-use Rattle.tx_tm_form.specs.Parts.{Part, gap, text, tag, raw_data_label, collection_label, same}
+use Rattle.tx_tm_form.specs.Parts.{ContentPart, gap, text, tag, raw_data_label, collection_label, same_bytes}
 use Rattle.tx_tm_form.specs.Forms.{symbol_bytes}
 use Rattle.tx_tm_form.specs.Growing.{Inline, grown, tree_of_block, as_block, tree_of_entry, Content, inline, blocks}
-use Rattle.tx_tm_form.specs.Growing.{collecting, put, place_of, file_tree, long_of}
-use Rattle.tx_tm_form.specs.Machine.{Open, State, reading, naming, counting, failed, go, with_child, in_tag, closed}
+use Rattle.tx_tm_form.specs.Growing.{collecting, put_part, place_of, file_tree, long_of}
+use Rattle.tx_tm_form.specs.Machine.{Open, State, reading, naming, counting, failed, go, open_with_child, in_tag}
+use Rattle.tx_tm_form.specs.Machine.{closed}
 use Rattle.tx_tm_form.specs.Machine.{next_argument, last_argument, next_block, last_block, header_place, begun}
 use Rattle.tx_tm_form.specs.Machine.{by_escape, name_byte, name_end, feed_reading, feed_naming, feed_counting, feed}
 use Rattle.tx_tm_form.specs.Machine.{ready, slashed, returned, angled, labelled, Lexed, within, done, bad, lex}
-use Rattle.tx_tm_form.specs.Machine.{Bytewise, at, lost, given, step, run, Keeping, keep, tree_of, tree_in}
-use Rattle.tx_tm_content.specs.ContentFits.{IsSmall, RowFits, ContentFits}
+use Rattle.tx_tm_form.specs.Machine.{Bytewise, at, lost, after_lexed, step, run, Keeping, keep, state_tree, tree_in}
+use Rattle.tx_tm_content.specs.ContentFits.{IsSmallTree, RowFits, ContentFits}
 use Rattle.tx_tm_read.specs.Fits.{ChildrenFit, OpensFit, StateFits, ReaderFits}
 use Rattle.tx_tm_content.proofs.Fitting.{within_small, left_row, right_small, node_small, node_row, grown_fits}
 use Rattle.tx_tm_content.proofs.Fitting.{tree_fits}
@@ -31,7 +32,7 @@ use Rattle.tx_tm_read.proofs.Stuck.{children_there}
 
 -- ---- one part more
 
-opens_fit : (c : Content) (p : Part) (fs : List Open) → OpensFit (put c p) fs → OpensFit c fs
+opens_fit : (c : Content) (p : ContentPart) (fs : List Open) → OpensFit (put_part c p) fs → OpensFit c fs
 opens_fit c p [] h = tt
 opens_fit (inline q g) p (f ∷ fs) h = h
 opens_fit (blocks b) p (f ∷ fs) h = h
@@ -40,7 +41,7 @@ opens_fit (collecting x) p (f ∷ fs) h = (h.0, tt, h.2, h.3)
 abbrev Fit : Content → List Open → Type 0
 Fit here fs = StateFits (reading here fs)
 
-part_fit : (c : Content) (p : Part) (fs : List Open) → Fit (put c p) fs → Fit c fs
+part_fit : (c : Content) (p : ContentPart) (fs : List Open) → Fit (put_part c p) fs → Fit c fs
 part_fit c p fs h = (put_fits (length fs) c p h.0, opens_fit c p fs h.1)
 
 go_fit : (c : Bool) (s : State) → StateFits (go c s) → StateFits s
@@ -55,7 +56,8 @@ any_children (blocks b) k ks h = h
 any_children (collecting x) k ks h = tt
 
 tag_fit : (w : Option TagPlace) (c : Content) (f : Open) (t : WideTree) (fs : List Open)
-    → (IsSmall (suc (length fs)) t → ContentFits (suc (length fs)) c) → StateFits (in_tag w (with_child f t) fs)
+    → (IsSmallTree (suc (length fs)) t → ContentFits (suc (length fs)) c)
+    → StateFits (in_tag w (open_with_child f t) fs)
     → Fit c (f ∷ fs)
 tag_fit w c f t fs i h =
     let o = h.1 in
@@ -70,14 +72,14 @@ tag_fit w c f t fs i h =
       ),
     )
 
-depth_there : (k : ℕ) (l : List ℕ) (ts : List WideTree) → IsSmall k (node l (forest ts)) → k < MOST_DEPTH
+depth_there : (k : ℕ) (l : List ℕ) (ts : List WideTree) → IsSmallTree k (node l (forest ts)) → k < MOST_DEPTH
 depth_there k l ts h = omega (arith, h.depth)
 
 node_fit : (c : Content) (f : Open) (t : WideTree) (fs : List Open)
-    → (IsSmall (suc (length fs)) t → ContentFits (suc (length fs)) c) → StateFits (closed (with_child f t) fs)
+    → (IsSmallTree (suc (length fs)) t → ContentFits (suc (length fs)) c) → StateFits (closed (open_with_child f t) fs)
     → Fit c (f ∷ fs)
 node_fit c f t fs i h =
-    let n : IsSmall (length fs) (node f.label (forest (f.children ++ t ∷ []))) =
+    let n : IsSmallTree (length fs) (node f.label (forest (f.children ++ t ∷ []))) =
     put_tag_fits (length fs) f.before false (node f.label (forest (f.children ++ t ∷ []))) h.0 in
     let ts : RowFits (suc (length fs)) (f.children ++ t ∷ []) = node_row (length fs) f.label (f.children ++ t ∷ []) n in
     let b = part_fit f.before (tag false (node f.label (forest (f.children ++ t ∷ [])))) fs h in (
@@ -120,11 +122,11 @@ next_fit l w (blocks b) [] h = absurd h
 next_fit l w (collecting x) [] h = absurd h
 next_fit l w (blocks b) (f ∷ fs) h =
     tag_fit w (blocks b) f (tree_of_block b) fs (tree_fits (suc (length fs)) b)
-    (go_fit (same l f.label) (in_tag w (with_child f (tree_of_block b)) fs) h)
+    (go_fit (same_bytes l f.label) (in_tag w (open_with_child f (tree_of_block b)) fs) h)
 next_fit l w (collecting x) (f ∷ fs) h =
     tag_fit w (collecting x) f (tree_of_block (as_block x)) fs
     (λ i. tags_fit (suc (length fs)) x (tree_fits (suc (length fs)) (as_block x) i))
-    (go_fit (same l f.label) (in_tag w (with_child f (tree_of_block (as_block x))) fs) h)
+    (go_fit (same_bytes l f.label) (in_tag w (open_with_child f (tree_of_block (as_block x))) fs) h)
 
 last_fit : (l : List ℕ) (c : Content) (fs : List Open) → StateFits (last_block (place_of c) l c fs) → Fit c fs
 last_fit l (inline p g) fs h = absurd h
@@ -132,10 +134,11 @@ last_fit l (blocks b) [] h = absurd h
 last_fit l (collecting x) [] h = absurd h
 last_fit l (blocks b) (f ∷ fs) h =
     node_fit (blocks b) f (tree_of_block b) fs (tree_fits (suc (length fs)) b)
-    (go_fit (same l f.label) (closed (with_child f (tree_of_block b)) fs) h)
+    (go_fit (same_bytes l f.label) (closed (open_with_child f (tree_of_block b)) fs) h)
 last_fit l (collecting x) (f ∷ fs) h =
-    let i = go_fit (same l f.label) (reading (put f.before (long_of f.label f.children (collecting x))) fs) h in
-    let n : IsSmall (length fs) (node collection_label (forest (map tree_of_entry x.entries))) =
+    let i = go_fit (same_bytes l f.label)
+    (reading (put_part f.before (long_of f.label f.children (collecting x))) fs) h in
+    let n : IsSmallTree (length fs) (node collection_label (forest (map tree_of_entry x.entries))) =
     put_tag_fits (length fs) f.before true (node collection_label (forest (map tree_of_entry x.entries))) i.0 in
     let b = part_fit f.before (tag true (node collection_label (forest (map tree_of_entry x.entries)))) fs i in (
       inl (node_row (length fs) collection_label (map tree_of_entry x.entries) n),
@@ -174,7 +177,7 @@ naming_fit (escape b) n c fs h =
     → Fit c fs) [
       | true ↦ λ i.
           part_fit c (text (symbol_bytes n)) fs
-          (go_fit (nat_le 1 (length n)) (reading (put c (text (symbol_bytes n))) fs) i)
+          (go_fit (nat_le 1 (length n)) (reading (put_part c (text (symbol_bytes n))) fs) i)
       | false ↦ λ i. go_fit ((b == 124 || b == 92) && nat_lt (length n) MOST_NAME) (naming (n ++ b ∷ []) c fs) i
     ] h
 naming_fit _ n c fs h = absurd h
@@ -185,7 +188,7 @@ counting_fit (plain b) ds c fs h = let i = go_fit (is_digit b) (counting (ds ++ 
     (omega (arith, i.0, length-append ds (b ∷ [])), i.1, i.2)
 counting_fit close ds c fs h =
     let b = part_fit c (tag false (node raw_data_label (forest (leaf ds ∷ [])))) fs h in
-    let n : IsSmall (length fs) (node raw_data_label (forest (leaf ds ∷ []))) =
+    let n : IsSmallTree (length fs) (node raw_data_label (forest (leaf ds ∷ []))) =
     put_tag_fits (length fs) c false (node raw_data_label (forest (leaf ds ∷ []))) h.0 in
     ((node_small (length fs) raw_data_label (leaf ds ∷ []) n).0.text, b.0, b.1)
 counting_fit _ ds c fs h = absurd h
@@ -214,7 +217,7 @@ keep_fit k t h =
       | false ↦ λ i. feed_fit k.state t i
     ] h
 
-given_fit : (r : Lexed) (k : Keeping) → ReaderFits (given keep k r) → StateFits k.state
+given_fit : (r : Lexed) (k : Keeping) → ReaderFits (after_lexed keep k r) → StateFits k.state
 given_fit (within q) k h = h
 given_fit (done t) k h = keep_fit k t h
 given_fit bad k h = absurd h
@@ -227,20 +230,20 @@ run_fit : (y : List ℕ) (w : Bytewise Keeping) → ReaderFits (run keep w y) �
 run_fit [] w h = h
 run_fit (b ∷ y) w h = step_fit w b (run_fit y (step keep w b) h)
 
-file_fit : (c : Content) (t : WideTree) → file_tree c ≡ Some t → IsSmall 0 t → ContentFits 0 c
+file_fit : (c : Content) (t : WideTree) → file_tree c ≡ Some t → IsSmallTree 0 t → ContentFits 0 c
 file_fit (inline p g) t e h = absurd cc
-file_fit (blocks b) t e h = let same : tree_of_block b ≡ t = cc in tree_fits 0 b (subst (IsSmall 0) (sym same) h)
+file_fit (blocks b) t e h = let same : tree_of_block b ≡ t = cc in tree_fits 0 b (subst (IsSmallTree 0) (sym same) h)
 file_fit (collecting x) t e h = let same : tree_of_block (as_block x) ≡ t =
-    cc in tags_fit 0 x (tree_fits 0 (as_block x) (subst (IsSmall 0) (sym same) h))
+    cc in tags_fit 0 x (tree_fits 0 (as_block x) (subst (IsSmallTree 0) (sym same) h))
 
-state_fit : (s : State) (t : WideTree) → tree_of s ≡ Some t → IsSmall 0 t → StateFits s
+state_fit : (s : State) (t : WideTree) → state_tree s ≡ Some t → IsSmallTree 0 t → StateFits s
 state_fit (reading c []) t e h = (file_fit c t e h, tt)
 state_fit (reading c (f ∷ fs)) t e h = absurd cc
 state_fit (naming n c fs) t e h = absurd cc
 state_fit (counting ds c fs) t e h = absurd cc
 state_fit failed t e h = absurd cc
 
-whole_fit : (w : Bytewise Keeping) (t : WideTree) → tree_in w ≡ Some t → IsSmall 0 t → ReaderFits w
+whole_fit : (w : Bytewise Keeping) (t : WideTree) → tree_in w ≡ Some t → IsSmallTree 0 t → ReaderFits w
 whole_fit (at ready k) t e h = state_fit k.state t e h
 whole_fit (at slashed k) t e h = absurd cc
 whole_fit (at returned k) t e h = absurd cc

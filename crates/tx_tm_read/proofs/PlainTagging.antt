@@ -18,7 +18,7 @@ use Rattle.tx_tm_read.specs.declared.tags.Spot.{Spot}
 use Rattle.tx_tm_read.specs.Fits.{StateFits, ReaderFits}
 use Rattle.tx_tm_read.specs.Heads.{StandsInFront}
 use Rattle.tx_tm_read.specs.PlainTags.{AreArguments, no_argument, argument_more, HasArguments}
-use Rattle.tx_tm_read.specs.Readers.{between, IsAdvance}
+use Rattle.tx_tm_read.specs.Readers.{reader_between_words, IsAdvance}
 use Rattle.tx_tm_words.specs.Runs.{AreWords, one_byte, byte_more, space_and_byte}
 use Rattle.tx_tm_read.specs.Spots.{state_of}
 use Rattle.tx_tm_read.proofs.Running.{words_run, head_run, rest_is}
@@ -51,7 +51,7 @@ module _ (c : Content) (label : List ℕ) (fs : List Open) where
 
   module _ (ts : List WideTree) (y : List ℕ) (w : AreWords y) where
     abbrev read : Bytewise Keeping
-    read = between false (inline InShort (grow no_parts (text y))) (open_tag c label ts ∷ fs)
+    read = reader_between_words false (inline InShort (grow no_parts (text y))) (open_tag c label ts ∷ fs)
 
     words_read : run keep (kept (opened ts)) y ≡ read
     words_read = words_run y false (inline InShort no_parts) (open_tag c label ts ∷ fs) w
@@ -98,21 +98,21 @@ module _ (c : Content) (label : List ℕ) (fs : List Open) where
 
 module _ (j : Bool) (c : Content) (fs : List Open) (h : Head) (rest : List ℕ) (ts : List WideTree) (n : ℕ)
     (front : StandsInFront rest h) (more : h.more ≡ true) (has : HasArguments (drop h.taken rest) ts n) where
-  tag_run : run keep (between j c fs) (take (h.taken + n) rest) ≡ kept (with_node h.label ts c fs)
+  tag_run : run keep (reader_between_words j c fs) (take (h.taken + n) rest) ≡ kept (with_node h.label ts c fs)
   tag_run =
-      ap (run keep (between j c fs)) (take-add h.taken n rest)
-      ∙ run_append (take h.taken rest) (take n (drop h.taken rest)) (between j c fs)
+      ap (run keep (reader_between_words j c fs)) (take-add h.taken n rest)
+      ∙ run_append (take h.taken rest) (take n (drop h.taken rest)) (reader_between_words j c fs)
       ∙ ap (λ z. run keep z (take n (drop h.taken rest))) (head_run j c fs h rest front)
       ∙ ap (λ m. run keep (kept (begun Short m h.label c fs)) (take n (drop h.taken rest))) more
       ∙ all_run c h.label fs (drop h.taken rest) ts n has
 
-  pub tag_none : (StateFits (with_node h.label ts c fs) → ⊥) → IsAdvance None (between j c fs) rest
+  pub tag_none : (StateFits (with_node h.label ts c fs) → ⊥) → IsAdvance None (reader_between_words j c fs) rest
   tag_none o = (h.taken + n, λ i. o (subst ReaderFits tag_run i))
 
   pub tag_some : (s : Spot) → state_of s ≡ with_node h.label ts c fs
       → (0 < h.taken + n) × (h.taken + n ≤ length rest)
       × ((let w : Bytewise Keeping = at ready (record { behind_join = false; state = state_of s }) in w) ≡ run keep
-      (between j c fs) (take (h.taken + n) rest))
+      (reader_between_words j c fs) (take (h.taken + n) rest))
   tag_some s o = (
     omega (arith, front.some),
     omega (arith, front.within, has.within, length-drop h.taken rest),

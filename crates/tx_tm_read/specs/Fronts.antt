@@ -14,6 +14,6 @@ pub record IsDigitFront (bytes : List ℕ) : Type 0 where
   pub short : length bytes ≤ MOST_TEXT
 
 -- with one byte more, where there was room for it
-abbrev pub IsPushed : Option (List ℕ) → Bool → List ℕ → Type 0
-IsPushed None room bytes = room ≡ false
-IsPushed (Some xs) room bytes = (room ≡ true) × (xs ≡ bytes)
+abbrev pub IsBytePushed : Option (List ℕ) → Bool → List ℕ → Type 0
+IsBytePushed None room bytes = room ≡ false
+IsBytePushed (Some xs) room bytes = (room ≡ true) × (xs ≡ bytes)

@@ -3,7 +3,7 @@ use Rattle.std.specs.Prelude.{◌≡◌, ◌≤◌, ◌<◌, ◌+◌, ℕ, Bool,
 use Rattle.tx_tree.specs.WideTree.{WideTree}
 use Rattle.tx_tree.specs.Limits.{IsWithinLimits}
 use Rattle.tx_tm_form.specs.Growing.{Content}
-use Rattle.tx_tm_form.specs.Machine.{Open, ready, Bytewise, at, Keeping, State, reading, keep, run, tree_of}
+use Rattle.tx_tm_form.specs.Machine.{Open, ready, Bytewise, at, Keeping, State, reading, keep, run, state_tree}
 use Rattle.tx_tm_form.specs.Machine.{tree_in, reads}
 use Rattle.tx_tm_read.specs.declared.reader.Reader.{Reader}
 use Rattle.tx_tm_read.specs.declared.reader.Advance.{Advance}
@@ -25,8 +25,8 @@ ReaderRose before after nodes None = Unit {0}
 ReaderRose before after nodes (Some r) = after + nodes ≤ before + state_nodes (state_of r.spot)
 
 -- between two words, behind a join or not
-abbrev pub between : Bool → Content → List Open → Bytewise Keeping
-between j c fs = at ready (record { behind_join = j; state = reading c fs })
+abbrev pub reader_between_words : Bool → Content → List Open → Bytewise Keeping
+reader_between_words j c fs = at ready (record { behind_join = j; state = reading c fs })
 
 -- behind so many bytes, or else no tree within the limits comes of some
 abbrev pub IsAdvance : Option Advance → Bytewise Keeping → List ℕ → Type 0
@@ -40,14 +40,14 @@ AdvanceRose before after nodes (Some a) = after + nodes ≤ before + state_nodes
 
 -- the tree that has been read with no word begun, or else none within the limits
 abbrev pub IsTreeOf : Option WideTree → State → Type 0
-IsTreeOf None s = (t : WideTree) → tree_of s ≡ Some t → IsWithinLimits t → ⊥
-IsTreeOf (Some t) s = tree_of s ≡ Some t
+IsTreeOf None s = (t : WideTree) → state_tree s ≡ Some t → IsWithinLimits t → ⊥
+IsTreeOf (Some t) s = state_tree s ≡ Some t
 
 -- the tree that has been read, or else none within the limits
 abbrev pub IsTree : Option WideTree → Bytewise Keeping → Type 0
 IsTree None w = (t : WideTree) → tree_in w ≡ Some t → IsWithinLimits t → ⊥
 IsTree (Some t) w = tree_in w ≡ Some t
 
-abbrev pub IsRead : Option WideTree → List ℕ → Type 0
-IsRead None bytes = (t : WideTree) → reads bytes ≡ Some t → IsWithinLimits t → ⊥
-IsRead (Some t) bytes = reads bytes ≡ Some t
+abbrev pub IsTreeRead : Option WideTree → List ℕ → Type 0
+IsTreeRead None bytes = (t : WideTree) → reads bytes ≡ Some t → IsWithinLimits t → ⊥
+IsTreeRead (Some t) bytes = reads bytes ≡ Some t

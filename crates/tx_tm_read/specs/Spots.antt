@@ -40,6 +40,6 @@ IsState None m = StateFits m → ⊥
 IsState (Some s) m = state_of s ≡ m
 
 -- the steps rose by no more than the nodes that were made, from so many nodes
-abbrev pub Rose : ℕ → ℕ → ℕ → Option Spot → Type 0
-Rose before after nodes None = Unit {0}
-Rose before after nodes (Some s) = after + nodes ≤ before + state_nodes (state_of s)
+abbrev pub StepsRose : ℕ → ℕ → ℕ → Option Spot → Type 0
+StepsRose before after nodes None = Unit {0}
+StepsRose before after nodes (Some s) = after + nodes ≤ before + state_nodes (state_of s)

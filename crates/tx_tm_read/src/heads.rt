@@ -1,6 +1,6 @@
 // Beginnings of short tags at the front, which are taken at once.
 ghost use Rattle.std.specs.Prelude.{◌≡◌, ◌≤◌, ◌<◌, length, slice_index, IfOk, IfSome};
-ghost use Rattle.tx_tm_form.specs.Tokens.{end_of};
+ghost use Rattle.tx_tm_form.specs.Tokens.{label_end};
 ghost use Rattle.tx_tm_read.specs.Heads.{StandsInFront};
 
 use tx_base::Memory;
@@ -29,7 +29,7 @@ fn letters_len(bytes: &[u8]) -> usize
 
 // Whether the byte ends the beginning of a tag before an argument, or the tag, or None where it ends none.
 fn ends_head(byte: u8) -> Option<bool>
-    ensures { IfSome result (λ more. byte ≡ end_of more) }
+    ensures { IfSome result (λ more. byte ≡ label_end more) }
 {
     match byte {
         b'|' => Some(true),
@@ -65,7 +65,7 @@ fn head_to(
     requires some { 1 ≤ end }
     requires within { end < length bytes.now }
     requires first { slice_index bytes.now 0 ≡ 60 }
-    requires last { slice_index bytes.now end ≡ end_of more }
+    requires last { slice_index bytes.now end ≡ label_end more }
     ensures there { IfOk result (λ found. IfSome found (λ h. StandsInFront bytes.now h)) }
 {
     match labels.tag(&bytes[1..end])? {

@@ -5,16 +5,16 @@ ghost use Rattle.tx_tree.specs.WideTree.{nodes_of};
 ghost use Rattle.tx_tree.specs.Limits.{IsWithinLimits};
 ghost use Rattle.tx_tm_form.specs.Forms.{Spells};
 ghost use Rattle.tx_tm_form.specs.Faults.{IsTmFault};
-ghost use Rattle.tx_tm_form.specs.Machine.{ready, at, reading, given, keep, step, start, run};
+ghost use Rattle.tx_tm_form.specs.Machine.{ready, at, reading, after_lexed, keep, step, start, run};
 ghost use Rattle.tx_tm_words.specs.Words.{token_of, IsGoodWord, lexed_of, IsGoodLexed};
 ghost use Rattle.tx_tm_content.specs.Blocks.{content_of};
 ghost use Rattle.tx_tm_read.specs.Nodes.{state_nodes};
 ghost use Rattle.tx_tm_read.specs.Spots.{opens_of, state_of};
-ghost use Rattle.tx_tm_read.specs.Readers.{between, reader_of, IsReader, ReaderRose};
+ghost use Rattle.tx_tm_read.specs.Readers.{reader_between_words, reader_of, IsReader, ReaderRose};
 ghost use Rattle.tx_tm_words.specs.Runs.{AreWords, IsWhiteRun};
 ghost use Rattle.tx_tm_read.specs.Heads.{StandsInFront};
 ghost use Rattle.tx_tm_read.specs.PlainTags.{HasArguments};
-ghost use Rattle.tx_tm_read.specs.Readers.{IsAdvance, AdvanceRose, IsTreeOf, IsTree, IsRead};
+ghost use Rattle.tx_tm_read.specs.Readers.{IsAdvance, AdvanceRose, IsTreeOf, IsTree, IsTreeRead};
 ghost use Rattle.tx_tm_read.specs.Credits.{state_credit, token_credit, lexed_credit};
 ghost use Rattle.tx_tm_content.specs.ContentCredits.{left};
 ghost use Rattle.tx_tm_read.specs.Credits.{reader_credit, advance_credit, AdvancePaid};
@@ -91,7 +91,8 @@ fn behind_lexed<L: Ledger>(
 ) -> Result<Option<Reader>, Memory>
     requires { IsGoodLexed lexed }
     ensures next { IfOk result (λ next.
-        IsReader next (given keep (record { behind_join = behind_join; state = state_of spot }) (lexed_of lexed))) }
+        IsReader next (after_lexed keep (record { behind_join = behind_join; state = state_of spot })
+        (lexed_of lexed))) }
     ensures counted { IfOk result (ReaderRose steps.old steps.new (state_nodes (state_of spot))) }
     ensures bounded { steps.new + left reader_credit result
         ≤ steps.old + state_credit (state_of spot) + lexed_credit (lexed_of lexed) }
@@ -167,7 +168,7 @@ fn with_words<L: Ledger>(
     requires within { taken ≤ length rest.now }
     requires words { AreWords (take taken rest.now) }
     ensures next { (behind_join : Bool) → IfOk result (λ next.
-        IsAdvance next (between behind_join (content_of here) (opens_of opens.items)) rest.now) }
+        IsAdvance next (reader_between_words behind_join (content_of here) (opens_of opens.items)) rest.now) }
     ensures counted { IfOk result
         (AdvanceRose steps.old steps.new (state_nodes (reading (content_of here) (opens_of opens.items)))) }
     ensures bounded { steps.new + left advance_credit result
@@ -200,7 +201,7 @@ fn with_white(
     requires within { taken ≤ length rest.now }
     requires white { IsWhiteRun (take taken rest.now) white }
     ensures next { IfOk result (λ next.
-        IsAdvance next (between false (content_of here) (opens_of opens.items)) rest.now) }
+        IsAdvance next (reader_between_words false (content_of here) (opens_of opens.items)) rest.now) }
     ensures counted { IfOk result
         (AdvanceRose 0 0 (state_nodes (reading (content_of here) (opens_of opens.items)))) }
     ensures bounded { left advance_credit result ≤ state_credit (reading (content_of here) (opens_of opens.items)) }
@@ -229,7 +230,7 @@ fn with_head<L: Ledger>(
 ) -> Result<Option<Advance>, Memory>
     requires { StandsInFront rest.now found }
     ensures next { (behind_join : Bool) → IfOk result (λ next.
-        IsAdvance next (between behind_join (content_of here) (opens_of opens.items)) rest.now) }
+        IsAdvance next (reader_between_words behind_join (content_of here) (opens_of opens.items)) rest.now) }
     ensures counted { IfOk result
         (AdvanceRose steps.old steps.new (state_nodes (reading (content_of here) (opens_of opens.items)))) }
     ensures paid { IfOk result
@@ -266,7 +267,7 @@ fn with_plain_tag<L: Ledger>(
     requires more { found.more ≡ true }
     requires arguments { HasArguments (drop found.taken rest.now) children.items count }
     ensures next { (behind_join : Bool) → IfOk result (λ next.
-        IsAdvance next (between behind_join (content_of here) (opens_of opens.items)) rest.now) }
+        IsAdvance next (reader_between_words behind_join (content_of here) (opens_of opens.items)) rest.now) }
     ensures counted { IfOk result
         (AdvanceRose steps.old steps.new (state_nodes (reading (content_of here) (opens_of opens.items)))) }
     ensures paid { IfOk result
@@ -303,7 +304,7 @@ fn with_tag<L: Ledger>(
 ) -> Result<Option<Advance>, Memory>
     requires { StandsInFront rest.now found }
     ensures next { (behind_join : Bool) → IfOk result (λ next.
-        IsAdvance next (between behind_join (content_of here) (opens_of opens.items)) rest.now) }
+        IsAdvance next (reader_between_words behind_join (content_of here) (opens_of opens.items)) rest.now) }
     ensures counted { IfOk result
         (AdvanceRose steps.old steps.new (state_nodes (reading (content_of here) (opens_of opens.items)))) }
     ensures paid { IfOk result
@@ -456,7 +457,7 @@ fn advance_by_head<L: Ledger>(
 ) -> Result<Option<Advance>, Memory>
     requires { 0 < length rest.now }
     ensures next { IfOk result (λ next.
-        IsAdvance next (between behind_join (content_of here) (opens_of opens.items)) rest.now) }
+        IsAdvance next (reader_between_words behind_join (content_of here) (opens_of opens.items)) rest.now) }
     ensures counted { IfOk result
         (AdvanceRose steps.old steps.new (state_nodes (reading (content_of here) (opens_of opens.items)))) }
     ensures paid { IfOk result
@@ -493,7 +494,7 @@ fn advance_between<L: Ledger>(
 ) -> Result<Option<Advance>, Memory>
     requires { 0 < length rest.now }
     ensures next { IfOk result (λ next.
-        IsAdvance next (between behind_join (content_of here) (opens_of opens.items)) rest.now) }
+        IsAdvance next (reader_between_words behind_join (content_of here) (opens_of opens.items)) rest.now) }
     ensures counted { IfOk result
         (AdvanceRose steps.old steps.new (state_nodes (reading (content_of here) (opens_of opens.items)))) }
     ensures paid { IfOk result
@@ -522,7 +523,7 @@ fn read_all<L: Ledger>(
     bytes: &[u8],
     steps: &mut Steps<L>,
 ) -> Result<Option<Tree>, Memory>
-    ensures found { IfOk result (λ found. IsRead found bytes.now) }
+    ensures found { IfOk result (λ found. IsTreeRead found bytes.now) }
     ensures counted { IfOk result (λ found. IfSome found (λ t. steps.new ≤ steps.old + nodes_of t)) }
     ensures bounded { steps.new ≤ steps.old + length bytes.now + 1 }
     ensures rises { steps.old ≤ steps.new }
@@ -547,7 +548,7 @@ fn read_anew<L: Ledger>(
     bytes: &[u8],
     steps: &mut Steps<L>,
 ) -> Result<Option<Tree>, Memory>
-    ensures found { IfOk result (λ found. IsRead found bytes.now) }
+    ensures found { IfOk result (λ found. IsTreeRead found bytes.now) }
     ensures counted { IfOk result (λ found. IfSome found (λ t. steps.new ≤ steps.old + nodes_of t)) }
     ensures bounded { steps.new ≤ steps.old + length bytes.now + 1 }
     ensures rises { steps.old ≤ steps.new }

@@ -4,7 +4,7 @@ ghost use Rattle.tx_tree.specs.Texts.{is_name_byte};
 ghost use Rattle.tx_tm_form.specs.Bytes.{is_digit};
 ghost use Rattle.tx_tm_form.specs.Forms.{symbol_bytes};
 ghost use Rattle.tx_tree.specs.WideTree.{leaf};
-ghost use Rattle.tx_tm_read.specs.Fronts.{IsPushed, IsNameFront};
+ghost use Rattle.tx_tm_read.specs.Fronts.{IsBytePushed, IsNameFront};
 
 use std::alloc::Global;
 use std::marker::Model;
@@ -50,7 +50,7 @@ impl NameFront {
     #[tactic(auto, using(crate::proofs::Growths::name_more))]
     pub(crate) fn with(self, byte: u8) -> Result<Option<NameFront>, Memory>
         requires { is_name_byte byte ≡ true }
-        ensures { IfOk result (λ next. IsPushed next (nat_lt (length self) MOST_NAME) (self ++ byte ∷ [])) }
+        ensures { IfOk result (λ next. IsBytePushed next (nat_lt (length self) MOST_NAME) (self ++ byte ∷ [])) }
     {
         let NameFront { mut bytes } = self;
         if bytes.len() >= MOST_NAME {
@@ -108,7 +108,7 @@ impl Digits {
     #[tactic(auto, using(crate::proofs::Growths::digit_more))]
     pub(crate) fn with(self, byte: u8) -> Result<Option<Digits>, Memory>
         requires { is_digit byte ≡ true }
-        ensures { IfOk result (λ next. IsPushed next (nat_lt (length self) MOST_TEXT) (self ++ byte ∷ [])) }
+        ensures { IfOk result (λ next. IsBytePushed next (nat_lt (length self) MOST_TEXT) (self ++ byte ∷ [])) }
     {
         let Digits { mut bytes } = self;
         if bytes.len() >= MOST_TEXT {

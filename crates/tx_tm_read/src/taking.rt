@@ -13,7 +13,7 @@ ghost use Rattle.tx_tm_form.specs.Machine.{name_byte, name_end, feed_reading, fe
 ghost use Rattle.tx_tm_words.specs.Words.{token_of, IsGoodWord};
 ghost use Rattle.tx_tm_content.specs.Blocks.{content_of};
 ghost use Rattle.tx_tm_read.specs.Nodes.{state_nodes};
-ghost use Rattle.tx_tm_read.specs.Spots.{opens_of, state_of, IsState, Rose};
+ghost use Rattle.tx_tm_read.specs.Spots.{opens_of, state_of, IsState, StepsRose};
 ghost use Rattle.tx_tm_content.specs.ContentCredits.{left};
 ghost use Rattle.tx_tm_read.specs.Credits.{state_credit, token_credit, spot_credit};
 
@@ -37,7 +37,7 @@ fn open_tag(
 ) -> Result<Option<Spot>, Memory>
     ensures next { IfOk result (λ next.
         IsState next (in_tag place (open_tag (content_of here) label []) (opens_of opens.items))) }
-    ensures counted { IfOk result (Rose 0 0 (state_nodes (reading (content_of here) (opens_of opens.items)))) }
+    ensures counted { IfOk result (StepsRose 0 0 (state_nodes (reading (content_of here) (opens_of opens.items)))) }
     ensures bounded { left spot_credit result ≤ state_credit (reading (content_of here) (opens_of opens.items)) + 1 }
 {
     let tag = OpenTag {
@@ -60,7 +60,7 @@ fn go_on<L: Ledger>(
     ensures next { IfOk result (λ next.
         IsState next (next_block (place_of (content_of here)) label place (content_of here) (opens_of opens.items))) }
     ensures counted { IfOk result
-        (Rose steps.old steps.new (state_nodes (reading (content_of here) (opens_of opens.items)))) }
+        (StepsRose steps.old steps.new (state_nodes (reading (content_of here) (opens_of opens.items)))) }
     ensures bounded { steps.new + left spot_credit result
         ≤ steps.old + state_credit (reading (content_of here) (opens_of opens.items)) + 1 }
     ensures rises { steps.old ≤ steps.new }
@@ -82,7 +82,7 @@ fn end_tag<L: Ledger>(
     ensures next { IfOk result (λ next.
         IsState next (last_block (place_of (content_of here)) label (content_of here) (opens_of opens.items))) }
     ensures counted { IfOk result
-        (Rose steps.old steps.new (state_nodes (reading (content_of here) (opens_of opens.items)))) }
+        (StepsRose steps.old steps.new (state_nodes (reading (content_of here) (opens_of opens.items)))) }
     ensures bounded { steps.new + left spot_credit result
         ≤ steps.old + state_credit (reading (content_of here) (opens_of opens.items)) + 2 }
     ensures rises { steps.old ≤ steps.new }
@@ -105,7 +105,7 @@ pub(crate) fn begin<L: Ledger>(
 ) -> Result<Option<Spot>, Memory>
     ensures next { IfOk result (λ next. IsState next (begun form more label (content_of here) (opens_of opens.items))) }
     ensures counted { IfOk result
-        (Rose steps.old steps.new (state_nodes (reading (content_of here) (opens_of opens.items)))) }
+        (StepsRose steps.old steps.new (state_nodes (reading (content_of here) (opens_of opens.items)))) }
     ensures bounded { steps.new + left spot_credit result
         ≤ steps.old + state_credit (reading (content_of here) (opens_of opens.items)) + 2 }
     ensures rises { steps.old ≤ steps.new }
@@ -140,7 +140,7 @@ fn take_bar<L: Ledger>(
     ensures next { IfOk result (λ next.
         IsState next (next_argument (place_of (content_of here)) (content_of here) (opens_of opens.items))) }
     ensures counted { IfOk result
-        (Rose steps.old steps.new (state_nodes (reading (content_of here) (opens_of opens.items)))) }
+        (StepsRose steps.old steps.new (state_nodes (reading (content_of here) (opens_of opens.items)))) }
     ensures bounded { steps.new + left spot_credit result
         ≤ steps.old + state_credit (reading (content_of here) (opens_of opens.items)) }
     ensures rises { steps.old ≤ steps.new }
@@ -164,7 +164,7 @@ fn take_close<L: Ledger>(
     ensures next { IfOk result (λ next.
         IsState next (last_argument (place_of (content_of here)) (content_of here) (opens_of opens.items))) }
     ensures counted { IfOk result
-        (Rose steps.old steps.new (state_nodes (reading (content_of here) (opens_of opens.items)))) }
+        (StepsRose steps.old steps.new (state_nodes (reading (content_of here) (opens_of opens.items)))) }
     ensures bounded { steps.new + left spot_credit result
         ≤ steps.old + state_credit (reading (content_of here) (opens_of opens.items)) + 1 }
     ensures rises { steps.old ≤ steps.new }
@@ -189,7 +189,7 @@ fn take_escape<L: Ledger>(
     ensures next { IfOk result (λ next.
         IsState next (by_escape (escape_of byte) byte (content_of here) (opens_of opens.items))) }
     ensures counted { IfOk result
-        (Rose steps.old steps.new (state_nodes (reading (content_of here) (opens_of opens.items)))) }
+        (StepsRose steps.old steps.new (state_nodes (reading (content_of here) (opens_of opens.items)))) }
     ensures bounded { steps.new + left spot_credit result
         ≤ steps.old + state_credit (reading (content_of here) (opens_of opens.items)) }
     ensures rises { steps.old ≤ steps.new }
@@ -219,7 +219,7 @@ fn take_part<L: Ledger>(
     ensures next { IfOk result (λ next.
         IsState next (feed_reading (content_of here) (opens_of opens.items) (token_of word))) }
     ensures counted { IfOk result
-        (Rose steps.old steps.new (state_nodes (reading (content_of here) (opens_of opens.items)))) }
+        (StepsRose steps.old steps.new (state_nodes (reading (content_of here) (opens_of opens.items)))) }
     ensures bounded { steps.new + left spot_credit result
         ≤ steps.old + state_credit (reading (content_of here) (opens_of opens.items)) + token_credit (token_of word) }
     ensures rises { steps.old ≤ steps.new }
@@ -278,7 +278,7 @@ fn name_over<L: Ledger>(
 ) -> Result<Option<Spot>, Memory>
     ensures next { IfOk result (λ next. IsState next (name_end name (content_of here) (opens_of opens.items))) }
     ensures counted { IfOk result
-        (Rose steps.old steps.new (state_nodes (reading (content_of here) (opens_of opens.items)))) }
+        (StepsRose steps.old steps.new (state_nodes (reading (content_of here) (opens_of opens.items)))) }
     ensures bounded { steps.new + left spot_credit result
         ≤ steps.old + state_credit (reading (content_of here) (opens_of opens.items)) }
     ensures rises { steps.old ≤ steps.new }
@@ -308,7 +308,7 @@ fn take_name<L: Ledger>(
     ensures next { IfOk result (λ next.
         IsState next (feed_naming name (content_of here) (opens_of opens.items) (token_of word.now))) }
     ensures counted { IfOk result
-        (Rose steps.old steps.new (state_nodes (reading (content_of here) (opens_of opens.items)))) }
+        (StepsRose steps.old steps.new (state_nodes (reading (content_of here) (opens_of opens.items)))) }
     ensures bounded { steps.new + left spot_credit result
         ≤ steps.old + state_credit (reading (content_of here) (opens_of opens.items)) }
     ensures rises { steps.old ≤ steps.new }
@@ -362,7 +362,7 @@ fn digits_over<L: Ledger>(
     ensures next { IfOk result (λ next.
         IsState next (with_node raw_data_label (leaf digits ∷ []) (content_of here) (opens_of opens.items))) }
     ensures counted { IfOk result
-        (Rose steps.old steps.new (state_nodes (reading (content_of here) (opens_of opens.items)))) }
+        (StepsRose steps.old steps.new (state_nodes (reading (content_of here) (opens_of opens.items)))) }
     ensures bounded { steps.new + left spot_credit result
         ≤ steps.old + state_credit (reading (content_of here) (opens_of opens.items)) + 2 }
     ensures rises { steps.old ≤ steps.new }
@@ -383,7 +383,7 @@ fn take_digit<L: Ledger>(
     ensures next { IfOk result (λ next.
         IsState next (feed_counting digits (content_of here) (opens_of opens.items) (token_of word.now))) }
     ensures counted { IfOk result
-        (Rose steps.old steps.new (state_nodes (reading (content_of here) (opens_of opens.items)))) }
+        (StepsRose steps.old steps.new (state_nodes (reading (content_of here) (opens_of opens.items)))) }
     ensures bounded { steps.new + left spot_credit result
         ≤ steps.old + state_credit (reading (content_of here) (opens_of opens.items)) + 2 }
     ensures rises { steps.old ≤ steps.new }
@@ -406,7 +406,7 @@ impl Spot {
     ) -> Result<Option<Spot>, Memory>
         requires { IsGoodWord word }
         ensures next { IfOk result (λ next. IsState next (feed (state_of self) (token_of word))) }
-        ensures counted { IfOk result (Rose steps.old steps.new (state_nodes (state_of self))) }
+        ensures counted { IfOk result (StepsRose steps.old steps.new (state_nodes (state_of self))) }
         ensures bounded { steps.new + left spot_credit result
             ≤ steps.old + state_credit (state_of self) + token_credit (token_of word) }
         ensures rises { steps.old ≤ steps.new }

@@ -3,10 +3,11 @@ ghost use Rattle.std.specs.Prelude.{◌≡◌, ◌≤◌, ◌+◌, ◌∷◌, []
 ghost use Rattle.tx_tree.specs.Texts.{IsText};
 ghost use Rattle.tx_tree.specs.WideTree.{node, forest, nodes_of};
 ghost use Rattle.tx_tm_form.specs.Bytes.{escape_of};
-ghost use Rattle.tx_tm_form.specs.Parts.{gap, text, tag, same, collection_label};
-ghost use Rattle.tx_tm_form.specs.Growing.{inline, grown, put, place_of, block_behind, tree_of_block, tree_of_entry};
+ghost use Rattle.tx_tm_form.specs.Parts.{gap, text, tag, same_bytes, collection_label};
+ghost use Rattle.tx_tm_form.specs.Growing.{inline, grown, put_part, place_of, block_behind, tree_of_block};
+ghost use Rattle.tx_tm_form.specs.Growing.{tree_of_entry};
 ghost use Rattle.tx_tm_form.specs.Machine.{reading, naming, counting, in_tag, with_node, closed, next_argument};
-ghost use Rattle.tx_tm_form.specs.Machine.{last_argument, next_block, last_block, with_child};
+ghost use Rattle.tx_tm_form.specs.Machine.{last_argument, next_block, last_block, open_with_child};
 ghost use Rattle.tx_tm_form.specs.Machine.{begun, by_escape, feed_reading, feed_naming, feed_counting, feed};
 ghost use Rattle.tx_tm_words.specs.Words.{token_of};
 ghost use Rattle.tx_tm_content.specs.Blocks.{block_of, content_of, tags_of};
@@ -14,7 +15,7 @@ ghost use Rattle.tx_tm_content.specs.ContentNodes.{nodes_in, line_nodes, block_n
 ghost use Rattle.tx_tm_content.specs.ContentNodes.{content_nodes};
 ghost use Rattle.tx_tm_read.specs.Nodes.{opens_nodes, open_nodes, state_nodes};
 ghost use Rattle.tx_tm_read.specs.Spots.{open_of, opens_of, behind_argument};
-ghost use Rattle.tx_tm_read.specs.Spots.{state_of, IsState, IsOpen, Rose};
+ghost use Rattle.tx_tm_read.specs.Spots.{state_of, IsState, IsOpen, StepsRose};
 ghost use Rattle.tx_tm_content.specs.ContentCredits.{line_credit, content_credit, left};
 ghost use Rattle.tx_tm_read.specs.Credits.{opens_credit, state_credit, spot_credit};
 
@@ -96,8 +97,8 @@ fn put_tag<L: Ledger>(
     steps: &mut Steps<L>,
 ) -> Result<Option<Spot>, Memory>
     ensures next { IfOk result (λ next.
-        IsState next (reading (put (content_of before) (tag collects tree)) (opens_of opens.items))) }
-    ensures counted { IfOk result (Rose steps.old steps.new
+        IsState next (reading (put_part (content_of before) (tag collects tree)) (opens_of opens.items))) }
+    ensures counted { IfOk result (StepsRose steps.old steps.new
         (content_nodes (content_of before) + nodes_of tree + opens_nodes (content_of before) (opens_of opens.items))) }
     ensures bounded { steps.new + left spot_credit result
         ≤ steps.old + content_credit (content_of before) + opens_credit (opens_of opens.items) + 1 }
@@ -117,8 +118,8 @@ pub(crate) fn put_white(
     opens: Vec<OpenTag>,
 ) -> Result<Option<Spot>, Memory>
     ensures next { IfOk result (λ next.
-        IsState next (reading (put (content_of here) (gap white)) (opens_of opens.items))) }
-    ensures counted { IfOk result (Rose 0 0 (state_nodes (reading (content_of here) (opens_of opens.items)))) }
+        IsState next (reading (put_part (content_of here) (gap white)) (opens_of opens.items))) }
+    ensures counted { IfOk result (StepsRose 0 0 (state_nodes (reading (content_of here) (opens_of opens.items)))) }
     ensures bounded { left spot_credit result ≤ state_credit (reading (content_of here) (opens_of opens.items)) }
 {
     match here.with_white(white)? {
@@ -138,9 +139,9 @@ pub(crate) fn put_text<L: Ledger>(
 ) -> Result<Option<Spot>, Memory>
     requires { IsText items.now }
     ensures next { IfOk result (λ next.
-        IsState next (reading (put (content_of here) (text items.now)) (opens_of opens.items))) }
+        IsState next (reading (put_part (content_of here) (text items.now)) (opens_of opens.items))) }
     ensures counted { IfOk result
-        (Rose steps.old steps.new (state_nodes (reading (content_of here) (opens_of opens.items)))) }
+        (StepsRose steps.old steps.new (state_nodes (reading (content_of here) (opens_of opens.items)))) }
     ensures bounded { steps.new + left spot_credit result
         ≤ steps.old + state_credit (reading (content_of here) (opens_of opens.items)) }
     ensures rises { steps.old ≤ steps.new }
@@ -162,7 +163,8 @@ pub(crate) fn put_node<L: Ledger>(
 ) -> Result<Option<Spot>, Memory>
     ensures next { IfOk result (λ next.
         IsState next (with_node label children.items (content_of before) (opens_of opens.items))) }
-    ensures counted { IfOk result (Rose steps.old steps.new (nodes_in children.items + content_nodes (content_of before)
+    ensures counted { IfOk result (StepsRose steps.old steps.new
+        (nodes_in children.items + content_nodes (content_of before)
         + opens_nodes (content_of before) (opens_of opens.items))) }
     ensures bounded { steps.new + left spot_credit result
         ≤ steps.old + content_credit (content_of before) + opens_credit (opens_of opens.items) + 2 }
@@ -180,7 +182,7 @@ impl OpenTag {
 
     // With a child more, or None where no node within the limits has them all.
     fn with_child(self, child: Tree) -> Result<Option<OpenTag>, Memory>
-        ensures { IfOk result (λ next. IsOpen next (with_child (open_of self) child)) }
+        ensures { IfOk result (λ next. IsOpen next (open_with_child (open_of self) child)) }
     {
         let OpenTag {
             before,
@@ -206,9 +208,9 @@ impl OpenTag {
         steps: &mut Steps<L>,
     ) -> Result<Option<Spot>, Memory>
         ensures next { IfOk result (λ next.
-            IsState next (closed (with_child (open_of self) child) (opens_of opens.items))) }
+            IsState next (closed (open_with_child (open_of self) child) (opens_of opens.items))) }
         ensures counted { IfOk result
-            (Rose steps.old steps.new (open_nodes (with_child (open_of self) child) (opens_of opens.items))) }
+            (StepsRose steps.old steps.new (open_nodes (open_with_child (open_of self) child) (opens_of opens.items))) }
         ensures bounded { steps.new + left spot_credit result
             ≤ steps.old + opens_credit (open_of self ∷ opens_of opens.items) + 1 }
         ensures rises { steps.old ≤ steps.new }
@@ -231,7 +233,7 @@ impl OpenTag {
         opens: Vec<OpenTag>,
     ) -> Result<Option<Spot>, Memory>
         ensures { IfOk result (λ next.
-            IsState next (in_tag place (with_child (open_of self) child) (opens_of opens.items))) }
+            IsState next (in_tag place (open_with_child (open_of self) child) (opens_of opens.items))) }
     {
         match self.with_child(child)? {
             None => Ok(None),
@@ -250,9 +252,9 @@ pub(crate) fn bar_in<L: Ledger>(
     steps: &mut Steps<L>,
 ) -> Result<Option<Spot>, Memory>
     ensures next { IfOk result (λ next.
-        IsState next (in_tag (Some place) (with_child (open_of tag) (grown line)) (opens_of opens.items))) }
+        IsState next (in_tag (Some place) (open_with_child (open_of tag) (grown line)) (opens_of opens.items))) }
     ensures counted { IfOk result
-        (Rose steps.old steps.new (line_nodes line + open_nodes (open_of tag) (opens_of opens.items))) }
+        (StepsRose steps.old steps.new (line_nodes line + open_nodes (open_of tag) (opens_of opens.items))) }
     ensures bounded { steps.new + left spot_credit result
         ≤ steps.old + line_credit line + opens_credit (open_of tag ∷ opens_of opens.items) }
     ensures rises { steps.old ≤ steps.new }
@@ -276,9 +278,9 @@ fn argument_in<L: Ledger>(
     steps: &mut Steps<L>,
 ) -> Result<Option<Spot>, Memory>
     ensures next { IfOk result (λ next.
-        IsState next (behind_argument place (with_child (open_of tag) child) (opens_of opens.items))) }
+        IsState next (behind_argument place (open_with_child (open_of tag) child) (opens_of opens.items))) }
     ensures counted { IfOk result
-        (Rose steps.old steps.new (open_nodes (with_child (open_of tag) child) (opens_of opens.items))) }
+        (StepsRose steps.old steps.new (open_nodes (open_with_child (open_of tag) child) (opens_of opens.items))) }
     ensures bounded { steps.new + left spot_credit result
         ≤ steps.old + opens_credit (open_of tag ∷ opens_of opens.items) + 1 }
     ensures rises { steps.old ≤ steps.new }
@@ -302,7 +304,7 @@ pub(crate) fn close_in<L: Ledger>(
     ensures next { IfOk result (λ next.
         IsState next (last_argument (Some place) (inline place line) (open_of tag ∷ opens_of opens.items))) }
     ensures counted { IfOk result
-        (Rose steps.old steps.new (line_nodes line + open_nodes (open_of tag) (opens_of opens.items))) }
+        (StepsRose steps.old steps.new (line_nodes line + open_nodes (open_of tag) (opens_of opens.items))) }
     ensures bounded { steps.new + left spot_credit result
         ≤ steps.old + line_credit line + opens_credit (open_of tag ∷ opens_of opens.items) + 1 }
     ensures rises { steps.old ≤ steps.new }
@@ -329,7 +331,8 @@ pub(crate) fn next_in<L: Ledger>(
     ensures next { IfOk result (λ next. IsState next (next_block (place_of (content_of here)) label.now place
         (content_of here) (open_of tag ∷ opens_of opens.items))) }
     ensures counted { IfOk result
-        (Rose steps.old steps.new (content_nodes (content_of here) + open_nodes (open_of tag) (opens_of opens.items))) }
+        (StepsRose steps.old steps.new
+        (content_nodes (content_of here) + open_nodes (open_of tag) (opens_of opens.items))) }
     ensures bounded { steps.new + left spot_credit result
         ≤ steps.old + state_credit (reading (content_of here) (open_of tag ∷ opens_of opens.items)) + 1 }
     ensures rises { steps.old ≤ steps.new }
@@ -350,11 +353,12 @@ fn behind_block<L: Ledger>(
     opens: Vec<OpenTag>,
     steps: &mut Steps<L>,
 ) -> Result<Option<Spot>, Memory>
-    requires { same label.now tag.label ≡ true }
+    requires { same_bytes label.now tag.label ≡ true }
     ensures next { IfOk result (λ next. IsState next (next_block (place_of (content_of here)) label.now place
         (content_of here) (open_of tag ∷ opens_of opens.items))) }
     ensures counted { IfOk result
-        (Rose steps.old steps.new (content_nodes (content_of here) + open_nodes (open_of tag) (opens_of opens.items))) }
+        (StepsRose steps.old steps.new
+        (content_nodes (content_of here) + open_nodes (open_of tag) (opens_of opens.items))) }
     ensures bounded { steps.new + left spot_credit result
         ≤ steps.old + state_credit (reading (content_of here) (open_of tag ∷ opens_of opens.items)) + 1 }
     ensures rises { steps.old ≤ steps.new }
@@ -377,10 +381,10 @@ fn collection_in<L: Ledger>(
     steps: &mut Steps<L>,
 ) -> Result<Option<Spot>, Memory>
     ensures next { IfOk result (λ next. IsState next (reading
-        (put (content_of before)
+        (put_part (content_of before)
         (tag true (node collection_label (forest (map tree_of_entry (tags_of tags).entries)))))
         (opens_of opens.items))) }
-    ensures counted { IfOk result (Rose steps.old steps.new (tags_nodes (tags_of tags)
+    ensures counted { IfOk result (StepsRose steps.old steps.new (tags_nodes (tags_of tags)
         + content_nodes (content_of before) + opens_nodes (content_of before) (opens_of opens.items))) }
     ensures bounded { steps.new + left spot_credit result
         ≤ steps.old + content_credit (content_of before) + opens_credit (opens_of opens.items) + 2 }
@@ -404,7 +408,7 @@ pub(crate) fn last_in<L: Ledger>(
     ensures next { IfOk result (λ next. IsState next
         (last_block (place_of (content_of here)) label.now (content_of here) (open_of tag ∷ opens_of opens.items))) }
     ensures counted { IfOk result
-        (Rose steps.old steps.new (state_nodes (reading (content_of here) (open_of tag ∷ opens_of opens.items)))) }
+        (StepsRose steps.old steps.new (state_nodes (reading (content_of here) (open_of tag ∷ opens_of opens.items)))) }
     ensures bounded { steps.new + left spot_credit result
         ≤ steps.old + state_credit (reading (content_of here) (open_of tag ∷ opens_of opens.items)) + 2 }
     ensures rises { steps.old ≤ steps.new }
@@ -424,11 +428,11 @@ fn behind_last<L: Ledger>(
     opens: Vec<OpenTag>,
     steps: &mut Steps<L>,
 ) -> Result<Option<Spot>, Memory>
-    requires { same label.now tag.label ≡ true }
+    requires { same_bytes label.now tag.label ≡ true }
     ensures next { IfOk result (λ next. IsState next
         (last_block (place_of (content_of here)) label.now (content_of here) (open_of tag ∷ opens_of opens.items))) }
     ensures counted { IfOk result
-        (Rose steps.old steps.new (state_nodes (reading (content_of here) (open_of tag ∷ opens_of opens.items)))) }
+        (StepsRose steps.old steps.new (state_nodes (reading (content_of here) (open_of tag ∷ opens_of opens.items)))) }
     ensures bounded { steps.new + left spot_credit result
         ≤ steps.old + state_credit (reading (content_of here) (open_of tag ∷ opens_of opens.items)) + 2 }
     ensures rises { steps.old ≤ steps.new }
@@ -449,9 +453,10 @@ fn block_in<L: Ledger>(
     steps: &mut Steps<L>,
 ) -> Result<Option<Spot>, Memory>
     ensures next { IfOk result (λ next.
-        IsState next (closed (with_child (open_of tag) (tree_of_block (block_of block))) (opens_of opens.items))) }
+        IsState next (closed (open_with_child (open_of tag) (tree_of_block (block_of block))) (opens_of opens.items))) }
     ensures counted { IfOk result
-        (Rose steps.old steps.new (block_nodes (block_of block) + open_nodes (open_of tag) (opens_of opens.items))) }
+        (StepsRose steps.old steps.new
+        (block_nodes (block_of block) + open_nodes (open_of tag) (opens_of opens.items))) }
     ensures bounded { steps.new + left spot_credit result
         ≤ steps.old + line_credit (block_of block).now + opens_credit (open_of tag ∷ opens_of opens.items) + 2 }
     ensures rises { steps.old ≤ steps.new }

@@ -1,7 +1,7 @@
 // What single bytes, the bytes of labels and runs of white are.
 ghost use Rattle.std.specs.Prelude.{◌≡◌};
 ghost use Rattle.tx_tm_form.specs.Bytes.{is_digit};
-ghost use Rattle.tx_tm_form.specs.Parts.{same, collection_label};
+ghost use Rattle.tx_tm_form.specs.Parts.{same_bytes, collection_label};
 ghost use Rattle.tx_tm_form.specs.Growing.{longer};
 
 use tx_tm_form::White;
@@ -16,14 +16,14 @@ pub fn is_digit(byte: u8) -> bool
 
 /// Whether the bytes are the same.
 pub fn same_bytes(one: &[u8], other: &[u8]) -> bool
-    ensures { result ≡ same one.now other.now }
+    ensures { result ≡ same_bytes one.now other.now }
 {
     one == other
 }
 
 /// Whether the label is that of collections.
 pub fn is_collection(label: &Label) -> bool
-    ensures { result ≡ same label.now collection_label }
+    ensures { result ≡ same_bytes label.now collection_label }
 {
     same_bytes(label.bytes(), b"collection")
 }

@@ -4,8 +4,8 @@ use Rattle.std.proofs.Common.{length, length-append, arith}
 use Rattle.tx_tree.specs.Labels.{IsLabel}
 use Rattle.tx_tree.specs.WideTree.{WideTree, Forest, leaf, node, nil, cons, size_of, total_size}
 use Rattle.tx_tree.specs.Limits.{IsWellFormed, AreWellFormed}
-use Rattle.tx_tm_form.specs.Parts.{same, document_label, collection_label}
-use Rattle.tx_tm_write.specs.Shapes.{some, is_block, has_block, is_empty, is_inline, is_raw, is_long, text_in}
+use Rattle.tx_tm_form.specs.Parts.{same_bytes, document_label, collection_label}
+use Rattle.tx_tm_write.specs.Shapes.{some, is_block, has_block, is_empty, is_inline, is_raw, is_long, text_or_empty}
 use Rattle.tx_tm_write.specs.Shapes.{digits_of}
 use Rattle.tx_tm_write.specs.Canonical.{byte_text, is_marked, is_control, is_held, items_text, opened, next_mark}
 use Rattle.tx_tm_write.specs.Canonical.{with_lines, or_mark, between, with_ends, tag_text, part_text, content_text}
@@ -116,7 +116,7 @@ mutual
   pub block_short : (t : WideTree) → IsWellFormed t → length (block_text t) + 100 ≤ 200 * size_of t
   block_short (leaf text) h = omega arith
   block_short (node label ts) h =
-      let all = either (same label document_label) (paragraphs_text ts) (with_ends (tags_text ts))
+      let all = either (same_bytes label document_label) (paragraphs_text ts) (with_ends (tags_text ts))
       (200 * total_size ts + 27) (omega (arith, paragraphs_short ts h.1))
       (omega (arith, ends_short (tags_text ts), tags_short ts h.1)) in
       omega (arith, all)

@@ -9,7 +9,8 @@ use Rattle.tx_tree.specs.Limits.{IsWellFormed, AreWellFormed}
 use Rattle.tx_tree.specs.WideTree.{WideTree, Forest, leaf, node, nil, cons, trees}
 use Rattle.tx_tree.proofs.Children.{forest_trees}
 use Rattle.tx_tm_form.specs.declared.bytes.White.TheVariants.{Spaces, Line, Break}
-use Rattle.tx_tm_form.specs.Parts.{Part, gap, text, tag, leaf_before, texts_and_tags, concat_of, content, same}
+use Rattle.tx_tm_form.specs.Parts.{ContentPart, gap, text, tag, leaf_before, texts_and_tags, concat_of, content}
+use Rattle.tx_tm_form.specs.Parts.{same_bytes}
 use Rattle.tx_tm_form.specs.Parts.{concat_label}
 use Rattle.tx_tm_form.specs.Forms.{symbol_bytes}
 use Rattle.tx_tm_form.proofs.Sound.{same_is}
@@ -20,26 +21,26 @@ use Rattle.tx_tm_write.proofs.TextItems.{byte_part, item_parts}
 -- ---- the parts of content
 
 -- the parts of a text or a tag beside others
-abbrev pub parts_in : Bool → Bool → (t : WideTree) → IsWellFormed t → List Part
+abbrev pub parts_in : Bool → Bool → (t : WideTree) → IsWellFormed t → List ContentPart
 parts_in before behind (leaf s) h = item_parts before behind h.0
 parts_in before behind (node label ts) h = tag false (node label ts) ∷ []
 
-abbrev pub parts_side : Bool → (ts : Forest) → AreWellFormed ts → List Part
+abbrev pub parts_side : Bool → (ts : Forest) → AreWellFormed ts → List ContentPart
 parts_side before nil h = []
 parts_side before (cons t ts) h = parts_in before (some ts) t h.0 ++ parts_side true ts h.1
 
-abbrev pub content_parts : (t : WideTree) → IsWellFormed t → List Part
+abbrev pub content_parts : (t : WideTree) → IsWellFormed t → List ContentPart
 content_parts (leaf s) h = item_parts false false h.0
 content_parts (node label ts) h = if is_inline label ts then parts_side false ts h.1 else tag false (node label ts) ∷ []
 
 -- a paragraph is not empty
-abbrev pub paragraph_parts : (t : WideTree) → IsWellFormed t → List Part
+abbrev pub paragraph_parts : (t : WideTree) → IsWellFormed t → List ContentPart
 paragraph_parts t h = if is_empty t then text [] ∷ [] else content_parts t h
 
 -- ---- white is held
 
 -- Each gap is of spaces and stands between two parts that are none. The test tells whether such a part stands before.
-abbrev pub is_tight : Bool → List Part → Bool
+abbrev pub is_tight : Bool → List ContentPart → Bool
 is_tight held [] = held
 is_tight held (gap Spaces ∷ ps) = held && is_tight false ps
 is_tight held (gap w ∷ ps) = false
@@ -61,7 +62,7 @@ not_before : (s : Bool) → s ≡ true → not s ≡ true → false ≡ true
 not_before true e k = k
 not_before false e k = e
 
-byte_tight : (s before next held : Bool) (b : ℕ) (qs : List Part) → (before ≡ true → held ≡ true)
+byte_tight : (s before next held : Bool) (b : ℕ) (qs : List ContentPart) → (before ≡ true → held ≡ true)
     → (s ≡ true → next ≡ true → is_tight false qs ≡ true) → is_tight true qs ≡ true
     → is_tight held ((if s && (before && next) then gap Spaces else text (b ∷ [])) ∷ qs) ≡ true
 byte_tight true true true held b qs i f t = and_from held (is_tight false qs) (i refl) (f refl refl)
@@ -69,7 +70,8 @@ byte_tight true true false held b qs i f t = t
 byte_tight true false next held b qs i f t = t
 byte_tight false before next held b qs i f t = t
 
-pub items_tight : (before behind held : Bool) (items : List Item) (rest : List Part) → (before ≡ true → held ≡ true)
+pub items_tight : (before behind held : Bool) (items : List Item) (rest : List ContentPart)
+    → (before ≡ true → held ≡ true)
     → is_ready held behind items ≡ true
     → is_tight true rest ≡ true → (behind ≡ true → is_tight false rest ≡ true)
     → is_tight held (item_parts before behind items ++ rest) ≡ true
@@ -127,13 +129,13 @@ side_tight (cons (node l us) ts) h k e = tight_behind_tag ts h.1 e
 -- ---- back to the texts and tags
 
 -- each gap is one space where no two of them stand side by side
-abbrev pub singly : List ℕ → List Part → List WideTree
+abbrev pub singly : List ℕ → List ContentPart → List WideTree
 singly bytes [] = leaf_before bytes []
 singly bytes (gap w ∷ ps) = singly (bytes ++ 32 ∷ []) ps
 singly bytes (text x ∷ ps) = singly (bytes ++ x) ps
 singly bytes (tag c t ∷ ps) = leaf_before bytes (t ∷ singly [] ps)
 
-tight_singly : (ps : List Part) (in_run held : Bool) (bytes : List ℕ) → is_tight held ps ≡ true
+tight_singly : (ps : List ContentPart) (in_run held : Bool) (bytes : List ℕ) → is_tight held ps ≡ true
     → (in_run && held) ≡ false → texts_and_tags in_run bytes ps ≡ singly bytes ps
 tight_singly [] in_run held bytes h k = refl
 tight_singly (gap Spaces ∷ ps) true true bytes h k = absurd cc
@@ -146,13 +148,13 @@ tight_singly (text x ∷ ps) in_run held bytes h k = tight_singly ps false true 
 tight_singly (tag c t ∷ ps) in_run held bytes h k =
     ap (λ z. leaf_before bytes (t ∷ z)) (tight_singly ps false true [] h refl)
 
-byte_singly : (s raw : Bool) (b : ℕ) (bytes : List ℕ) (qs : List Part) → (b == 32) ≡ s
+byte_singly : (s raw : Bool) (b : ℕ) (bytes : List ℕ) (qs : List ContentPart) → (b == 32) ≡ s
     → singly bytes ((if s && raw then gap Spaces else text (b ∷ [])) ∷ qs) ≡ singly (bytes ++ b ∷ []) qs
 byte_singly true true b bytes qs e = ap (λ z. singly (bytes ++ z ∷ []) qs) (sym (eqb-true b 32 e))
 byte_singly true false b bytes qs e = refl
 byte_singly false raw b bytes qs e = refl
 
-items_singly : (before behind : Bool) (items : List Item) (bytes : List ℕ) (rest : List Part)
+items_singly : (before behind : Bool) (items : List Item) (bytes : List ℕ) (rest : List ContentPart)
     → singly bytes (item_parts before behind items ++ rest) ≡ singly (bytes ++ flat_map item_bytes items) rest
 items_singly before behind [] bytes rest = ap (λ z. singly z rest) (sym (append-nil bytes))
 items_singly before behind (byte b ∷ items) bytes rest =
@@ -200,7 +202,7 @@ leaf_back (i ∷ items) s e =
     ∙ ap (λ z. concat_of (leaf_before z [])) (sym e)
     ∙ one_leaf s
 
-many_back : (label : List ℕ) (ts : Forest) → same label concat_label ≡ true → has_two ts ≡ true
+many_back : (label : List ℕ) (ts : Forest) → same_bytes label concat_label ≡ true → has_two ts ≡ true
     → concat_of (trees ts) ≡ node label ts
 many_back label nil e k = absurd cc
 many_back label (cons t nil) e k = absurd cc
@@ -212,11 +214,11 @@ two_some nil e = absurd cc
 two_some (cons t ts) e = refl
 
 -- what it takes to be inline
-inline_parts : (label : List ℕ) (ts : Forest) → is_inline label ts ≡ true → (same label concat_label ≡ true)
+inline_parts : (label : List ℕ) (ts : Forest) → is_inline label ts ≡ true → (same_bytes label concat_label ≡ true)
     × (has_two ts ≡ true) × (are_apart false ts ≡ true)
 inline_parts label ts e =
-    let p = and_parts (same label concat_label && has_two ts) (are_apart false ts) e in
-    let q = and_parts (same label concat_label) (has_two ts) p.0 in
+    let p = and_parts (same_bytes label concat_label && has_two ts) (are_apart false ts) e in
+    let q = and_parts (same_bytes label concat_label) (has_two ts) p.0 in
     (q.0, q.1, p.1)
 
 side_back : (label : List ℕ) (ts : Forest) (h : AreWellFormed ts) → is_inline label ts ≡ true
@@ -265,16 +267,16 @@ paragraph_tight (leaf (b ∷ s)) h = content_tight (leaf (b ∷ s)) h refl
 paragraph_tight (node label ts) h = content_tight (node label ts) h refl
 
 -- the first part is no collection tag
-abbrev pub is_ordinary : List Part → Bool
+abbrev pub is_ordinary : List ContentPart → Bool
 is_ordinary (tag true t ∷ ps) = false
 is_ordinary ps = true
 
-byte_ordinary : (b : ℕ) (raw : Bool) (ps : List Part) → is_ordinary (byte_part raw b ∷ ps) ≡ true
+byte_ordinary : (b : ℕ) (raw : Bool) (ps : List ContentPart) → is_ordinary (byte_part raw b ∷ ps) ≡ true
 byte_ordinary b raw ps =
     elim (b == 32 && raw) as (λ s. is_ordinary ((if s then gap Spaces else text (b ∷ [])) ∷ ps) ≡ true)
     [ true ↦ refl | false ↦ refl ]
 
-items_ordinary : (before behind : Bool) (items : List Item) (rest : List Part) → is_ordinary rest ≡ true
+items_ordinary : (before behind : Bool) (items : List Item) (rest : List ContentPart) → is_ordinary rest ≡ true
     → is_ordinary (item_parts before behind items ++ rest) ≡ true
 items_ordinary before behind [] rest h = h
 items_ordinary before behind (byte b ∷ items) rest h =

@@ -6,9 +6,9 @@ use Rattle.std.proofs.lemmas.Grind.{common_steps}
 use Rattle.tx_tree.specs.WideTree.{WideTree, Forest, leaf, node, nil, cons, forest, trees, children_of, label_of}
 use Rattle.tx_tree.specs.WideTree.{text_of}
 use Rattle.tx_tree.proofs.Walks.{node_is, leaf_is, item_shallower}
-use Rattle.tx_tm_form.specs.Parts.{same, document_label, collection_label, raw_data_label}
+use Rattle.tx_tm_form.specs.Parts.{same_bytes, document_label, collection_label, raw_data_label}
 use Rattle.tx_tm_write.specs.Shapes.{some, are_nodes, is_block, has_two, is_raw, is_digits, all_digits, digits_of}
-use Rattle.tx_tm_write.specs.Shapes.{text_in}
+use Rattle.tx_tm_write.specs.Shapes.{text_or_empty}
 
 and_false : (b : Bool) → (b && false) ≡ false
 and_false true = refl
@@ -23,19 +23,19 @@ no_block (leaf text) e = refl
 no_block (node label ts) e = absurd cc
 
 -- the test of a node
-pub a_document : (t : WideTree) (label : List ℕ) → label_of t ≡ Some label → same label document_label ≡ true
+pub a_document : (t : WideTree) (label : List ℕ) → label_of t ≡ Some label → same_bytes label document_label ≡ true
     → is_block t ≡ some (forest (children_of t))
 a_document t label e h =
     ap is_block (node_is t label e)
     ∙ ap (λ b. cond b (some (forest (children_of t)))
-    (same label collection_label && are_nodes (forest (children_of t)))) h
+    (same_bytes label collection_label && are_nodes (forest (children_of t)))) h
 
-pub no_document : (t : WideTree) (label : List ℕ) → label_of t ≡ Some label → same label document_label ≡ false
-    → is_block t ≡ (same label collection_label && are_nodes (forest (children_of t)))
+pub no_document : (t : WideTree) (label : List ℕ) → label_of t ≡ Some label → same_bytes label document_label ≡ false
+    → is_block t ≡ (same_bytes label collection_label && are_nodes (forest (children_of t)))
 no_document t label e h =
     ap is_block (node_is t label e)
     ∙ ap (λ b. cond b (some (forest (children_of t)))
-    (same label collection_label && are_nodes (forest (children_of t)))) h
+    (same_bytes label collection_label && are_nodes (forest (children_of t)))) h
 
 -- how many trees there are
 pub some_trees : (ts : List WideTree) → some (forest ts) ≡ ltb 0 (length ts)
@@ -49,28 +49,28 @@ two_trees (t ∷ u ∷ ts) = grind arith
 
 -- raw data
 pub not_one : (label : List ℕ) (ts : List WideTree) → (length ts ≡ 1 → ⊥) → is_raw label (forest ts) ≡ false
-not_one label [] h = and_false (same label raw_data_label)
+not_one label [] h = and_false (same_bytes label raw_data_label)
 not_one label (t ∷ []) h = absurd (h refl)
-not_one label (t ∷ u ∷ ts) h = ap (λ b. same label raw_data_label && b) (and_false (is_digits t))
-    ∙ and_false (same label raw_data_label)
+not_one label (t ∷ u ∷ ts) h = ap (λ b. same_bytes label raw_data_label && b) (and_false (is_digits t))
+    ∙ and_false (same_bytes label raw_data_label)
 
 pub only_one : (label : List ℕ) (ts : List WideTree) (t : WideTree) → length ts ≡ 1 → t ≡ get_or ts 0 t
-    → is_raw label (forest ts) ≡ (same label raw_data_label && is_digits t)
+    → is_raw label (forest ts) ≡ (same_bytes label raw_data_label && is_digits t)
 only_one label [] t h e = absurd (omega arith)
 only_one label (u ∷ []) t h e = let is : t ≡ u =
-    e in rw is (ap (λ b. same label raw_data_label && b) (and_true (is_digits u)))
+    e in rw is (ap (λ b. same_bytes label raw_data_label && b) (and_true (is_digits u)))
 only_one label (u ∷ v ∷ ts) t h e = absurd (omega arith)
 
 pub digits_one : (ts : List WideTree) (t : WideTree) → length ts ≡ 1 → t ≡ get_or ts 0 t
-    → digits_of (forest ts) ≡ text_in t
+    → digits_of (forest ts) ≡ text_or_empty t
 digits_one [] t h e = absurd (omega arith)
 digits_one (u ∷ ts) t h e = let same : t ≡ u = e in cc
 
 pub digits_leaf : (t : WideTree) (text : List ℕ) → text_of t ≡ Some text → is_digits t ≡ all_digits text
 digits_leaf t text e = ap is_digits (leaf_is t text e)
 
-pub text_leaf : (t : WideTree) (text : List ℕ) → text_of t ≡ Some text → text_in t ≡ text
-text_leaf t text e = ap text_in (leaf_is t text e)
+pub text_leaf : (t : WideTree) (text : List ℕ) → text_of t ≡ Some text → text_or_empty t ≡ text
+text_leaf t text e = ap text_or_empty (leaf_is t text e)
 
 pub digits_node : (t : WideTree) → text_of t ≡ None → is_digits t ≡ false
 digits_node (leaf text) e = absurd cc

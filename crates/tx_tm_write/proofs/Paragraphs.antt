@@ -5,30 +5,30 @@ use Rattle.std.proofs.lemmas.Bool.{and_parts}
 use Rattle.tx_tree.specs.WideTree.{node, forest}
 use Rattle.tx_tm_form.specs.declared.bytes.White.{White}
 use Rattle.tx_tm_form.specs.declared.bytes.White.TheVariants.{Spaces, Line, Break}
-use Rattle.tx_tm_form.specs.Parts.{Part, gap, text, tag, content, run_before, with_runs, from_first, unless_last}
-use Rattle.tx_tm_form.specs.Parts.{to_last, into_first, paragraphs, document_of, block, document_label}
+use Rattle.tx_tm_form.specs.Parts.{ContentPart, gap, text, tag, content, run_before, with_runs, from_first, unless_last}
+use Rattle.tx_tm_form.specs.Parts.{to_last, into_first, parts_by_paragraph, tree_of_document, block, document_label}
 use Rattle.tx_tm_write.proofs.Contents.{is_tight, is_ordinary}
 
-abbrev pub IsTight : List Part → Type 0
+abbrev pub IsTight : List ContentPart → Type 0
 IsTight q = is_tight false q ≡ true
 
 -- the parts of further paragraphs, each behind this white
-abbrev after_white : List Part → List (List Part) → List Part
+abbrev after_white : List ContentPart → List (List ContentPart) → List ContentPart
 after_white white [] = []
 after_white white (q ∷ qs) = white ++ (q ++ after_white white qs)
 
 -- as they are written: behind two bytes 10 each
-abbrev pub behind_lines : List (List Part) → List Part
+abbrev pub behind_lines : List (List ContentPart) → List ContentPart
 behind_lines = after_white (gap Line ∷ gap Line ∷ [])
 
 -- as runs
-abbrev behind_breaks : List (List Part) → List Part
+abbrev behind_breaks : List (List ContentPart) → List ContentPart
 behind_breaks = after_white (gap Break ∷ [])
 
 -- ---- white side by side
 
 -- a run stays by itself before parts that begin with no gap
-run_stays : (w : White) (q rest : List Part) → IsTight q → run_before (gap w) (q ++ rest) ≡ gap w ∷ (q ++ rest)
+run_stays : (w : White) (q rest : List ContentPart) → IsTight q → run_before (gap w) (q ++ rest) ≡ gap w ∷ (q ++ rest)
 run_stays w [] rest h = absurd cc
 run_stays w (gap Spaces ∷ q) rest h = absurd cc
 run_stays w (gap Line ∷ q) rest h = absurd cc
@@ -36,7 +36,7 @@ run_stays w (gap Break ∷ q) rest h = absurd cc
 run_stays w (text x ∷ q) rest h = refl
 run_stays w (tag c t ∷ q) rest h = refl
 
-tight_runs : (q : List Part) (held : Bool) (rest : List Part) → is_tight held q ≡ true
+tight_runs : (q : List ContentPart) (held : Bool) (rest : List ContentPart) → is_tight held q ≡ true
     → with_runs (q ++ rest) ≡ q ++ with_runs rest
 tight_runs [] held rest h = refl
 tight_runs (gap Spaces ∷ q) held rest h =
@@ -47,18 +47,18 @@ tight_runs (gap Break ∷ q) held rest h = absurd cc
 tight_runs (text x ∷ q) held rest h = ap (λ z. text x ∷ z) (tight_runs q true rest h)
 tight_runs (tag c t ∷ q) held rest h = ap (λ z. tag c t ∷ z) (tight_runs q true rest h)
 
-paragraph_runs : (q : List Part) (qs : List (List Part)) (rest : List Part) → IsTight q
+paragraph_runs : (q : List ContentPart) (qs : List (List ContentPart)) (rest : List ContentPart) → IsTight q
     → with_runs (behind_lines qs ++ rest) ≡ behind_breaks qs ++ with_runs rest
     → with_runs ((q ++ behind_lines qs) ++ rest) ≡ (q ++ behind_breaks qs) ++ with_runs rest
 paragraph_runs q qs rest h e =
     ap with_runs (append_assoc q (behind_lines qs) rest) ∙ tight_runs q false (behind_lines qs ++ rest) h
     ∙ ap (λ z. q ++ z) e ∙ sym (append_assoc q (behind_breaks qs) (with_runs rest))
 
-two_lines : (q : List Part) (rest : List Part) → IsTight q
+two_lines : (q : List ContentPart) (rest : List ContentPart) → IsTight q
     → run_before (gap Line) (run_before (gap Line) (q ++ rest)) ≡ gap Break ∷ (q ++ rest)
 two_lines q rest h = ap (run_before (gap Line)) (run_stays Line q rest h)
 
-lines_runs : (qs : List (List Part)) (rest : List Part) → AllByRecursion IsTight qs
+lines_runs : (qs : List (List ContentPart)) (rest : List ContentPart) → AllByRecursion IsTight qs
     → with_runs (behind_lines qs ++ rest) ≡ behind_breaks qs ++ with_runs rest
 lines_runs [] rest h = refl
 lines_runs (q ∷ qs) rest h =
@@ -69,7 +69,7 @@ lines_runs (q ∷ qs) rest h =
 
 -- ---- white at the edges
 
-first_stays : (q rest : List Part) → IsTight q → from_first (q ++ rest) ≡ q ++ rest
+first_stays : (q rest : List ContentPart) → IsTight q → from_first (q ++ rest) ≡ q ++ rest
 first_stays [] rest h = absurd cc
 first_stays (gap Spaces ∷ q) rest h = absurd cc
 first_stays (gap Line ∷ q) rest h = absurd cc
@@ -78,11 +78,12 @@ first_stays (text x ∷ q) rest h = refl
 first_stays (tag c t ∷ q) rest h = refl
 
 -- a run stays before parts that are not all white
-unless_stays : (w : White) (q rest : List Part) → IsTight q → unless_last (gap w) (q ++ rest) ≡ gap w ∷ (q ++ rest)
+unless_stays : (w : White) (q rest : List ContentPart) → IsTight q
+    → unless_last (gap w) (q ++ rest) ≡ gap w ∷ (q ++ rest)
 unless_stays w [] rest h = absurd cc
 unless_stays w (p ∷ q) rest h = refl
 
-tight_last : (q : List Part) (held : Bool) (rest : List Part) → is_tight held q ≡ true
+tight_last : (q : List ContentPart) (held : Bool) (rest : List ContentPart) → is_tight held q ≡ true
     → to_last (q ++ rest) ≡ q ++ to_last rest
 tight_last [] held rest h = refl
 tight_last (gap Spaces ∷ q) held rest h =
@@ -93,13 +94,13 @@ tight_last (gap Break ∷ q) held rest h = absurd cc
 tight_last (text x ∷ q) held rest h = ap (λ z. text x ∷ z) (tight_last q true rest h)
 tight_last (tag c t ∷ q) held rest h = ap (λ z. tag c t ∷ z) (tight_last q true rest h)
 
-paragraph_last : (q : List Part) (qs : List (List Part)) (rest : List Part) → IsTight q
+paragraph_last : (q : List ContentPart) (qs : List (List ContentPart)) (rest : List ContentPart) → IsTight q
     → to_last (behind_breaks qs ++ rest) ≡ behind_breaks qs
     → to_last ((q ++ behind_breaks qs) ++ rest) ≡ q ++ behind_breaks qs
 paragraph_last q qs rest h e = ap to_last (append_assoc q (behind_breaks qs) rest)
     ∙ tight_last q false (behind_breaks qs ++ rest) h ∙ ap (λ z. q ++ z) e
 
-breaks_last : (qs : List (List Part)) (rest : List Part) → AllByRecursion IsTight qs → to_last rest ≡ []
+breaks_last : (qs : List (List ContentPart)) (rest : List ContentPart) → AllByRecursion IsTight qs → to_last rest ≡ []
     → to_last (behind_breaks qs ++ rest) ≡ behind_breaks qs
 breaks_last [] rest h e = e
 breaks_last (q ∷ qs) rest h e =
@@ -109,85 +110,95 @@ breaks_last (q ∷ qs) rest h e =
 -- ---- paragraphs
 
 -- with a first paragraph, which may be empty
-abbrev begun : List (List Part) → List (List Part)
+abbrev begun : List (List ContentPart) → List (List ContentPart)
 begun [] = [] ∷ []
 begun (q ∷ qs) = q ∷ qs
 
-into_begun : (p : Part) (q : List Part) (qs xs : List (List Part)) → begun xs ≡ q ∷ qs → into_first p xs ≡ (p ∷ q) ∷ qs
+into_begun : (p : ContentPart) (q : List ContentPart) (qs xs : List (List ContentPart)) → begun xs ≡ q ∷ qs
+    → into_first p xs ≡ (p ∷ q) ∷ qs
 into_begun p q qs [] e = let a : [] ≡ q = cc in let b : [] ≡ qs = cc in cc
 into_begun p q qs (x ∷ xs) e = let a : x ≡ q = cc in let b : xs ≡ qs = cc in cc
 
-tight_paragraph : (q : List Part) (held : Bool) (rest : List Part) (qs : List (List Part)) → is_tight held q ≡ true
-    → begun (paragraphs rest) ≡ [] ∷ qs → begun (paragraphs (q ++ rest)) ≡ q ∷ qs
+tight_paragraph : (q : List ContentPart) (held : Bool) (rest : List ContentPart) (qs : List (List ContentPart))
+    → is_tight held q ≡ true
+    → begun (parts_by_paragraph rest) ≡ [] ∷ qs → begun (parts_by_paragraph (q ++ rest)) ≡ q ∷ qs
 tight_paragraph [] held rest qs h e = e
 tight_paragraph (gap Spaces ∷ q) held rest qs h e =
     let p = and_parts held (is_tight false q) h in
-    ap begun (into_begun (gap Spaces) q qs (paragraphs (q ++ rest)) (tight_paragraph q false rest qs p.1 e))
+    ap begun (into_begun (gap Spaces) q qs (parts_by_paragraph (q ++ rest)) (tight_paragraph q false rest qs p.1 e))
 tight_paragraph (gap Line ∷ q) held rest qs h e = absurd cc
 tight_paragraph (gap Break ∷ q) held rest qs h e = absurd cc
 tight_paragraph (text x ∷ q) held rest qs h e =
-    ap begun (into_begun (text x) q qs (paragraphs (q ++ rest)) (tight_paragraph q true rest qs h e))
+    ap begun (into_begun (text x) q qs (parts_by_paragraph (q ++ rest)) (tight_paragraph q true rest qs h e))
 tight_paragraph (tag c t ∷ q) held rest qs h e =
-    ap begun (into_begun (tag c t) q qs (paragraphs (q ++ rest)) (tight_paragraph q true rest qs h e))
+    ap begun (into_begun (tag c t) q qs (parts_by_paragraph (q ++ rest)) (tight_paragraph q true rest qs h e))
 
-begun_some : (q : List Part) (qs xs : List (List Part)) → IsTight q → begun xs ≡ q ∷ qs → xs ≡ q ∷ qs
+begun_some : (q : List ContentPart) (qs xs : List (List ContentPart)) → IsTight q → begun xs ≡ q ∷ qs → xs ≡ q ∷ qs
 begun_some [] qs xs h e = absurd cc
 begun_some (p ∷ q) qs [] h e = absurd cc
 begun_some (p ∷ q) qs (x ∷ xs) h e = e
 
-breaks_paragraphs : (qs : List (List Part)) → AllByRecursion IsTight qs
-    → begun (paragraphs (behind_breaks qs)) ≡ [] ∷ qs
+breaks_paragraphs : (qs : List (List ContentPart)) → AllByRecursion IsTight qs
+    → begun (parts_by_paragraph (behind_breaks qs)) ≡ [] ∷ qs
 breaks_paragraphs [] h = refl
 breaks_paragraphs (q ∷ qs) h =
     ap (λ z. [] ∷ z)
-    (begun_some q qs (paragraphs (q ++ behind_breaks qs)) h.0
+    (begun_some q qs (parts_by_paragraph (q ++ behind_breaks qs)) h.0
     (tight_paragraph q false (behind_breaks qs) qs h.0 (breaks_paragraphs qs h.1)))
 
-all_paragraphs : (q : List Part) (qs : List (List Part)) → IsTight q → AllByRecursion IsTight qs
-    → paragraphs (q ++ behind_breaks qs) ≡ q ∷ qs
+all_paragraphs : (q : List ContentPart) (qs : List (List ContentPart)) → IsTight q → AllByRecursion IsTight qs
+    → parts_by_paragraph (q ++ behind_breaks qs) ≡ q ∷ qs
 all_paragraphs q qs h k =
-    begun_some q qs (paragraphs (q ++ behind_breaks qs)) h
+    begun_some q qs (parts_by_paragraph (q ++ behind_breaks qs)) h
     (tight_paragraph q false (behind_breaks qs) qs h (breaks_paragraphs qs k))
 
 -- ---- blocks
 
-whole_runs : (q : List Part) (qs : List (List Part)) (rest : List Part) → IsTight q → AllByRecursion IsTight qs
+whole_runs : (q : List ContentPart) (qs : List (List ContentPart)) (rest : List ContentPart) → IsTight q
+    → AllByRecursion IsTight qs
     → with_runs ((q ++ behind_lines qs) ++ rest) ≡ (q ++ behind_breaks qs) ++ with_runs rest
 whole_runs q qs rest h k = paragraph_runs q qs rest h (lines_runs qs rest k)
 
 -- what is left without the white behind
-left : (q : List Part) (qs : List (List Part)) (rest : List Part) → IsTight q → AllByRecursion IsTight qs
-    → to_last rest ≡ [] → document_of (paragraphs (to_last ((q ++ behind_breaks qs) ++ rest))) ≡ document_of (q ∷ qs)
-left q qs rest h k e = ap (λ z. document_of (paragraphs z)) (paragraph_last q qs rest h (breaks_last qs rest k e))
-    ∙ ap document_of (all_paragraphs q qs h k)
+left : (q : List ContentPart) (qs : List (List ContentPart)) (rest : List ContentPart) → IsTight q
+    → AllByRecursion IsTight qs
+    → to_last rest ≡ [] → tree_of_document (parts_by_paragraph (to_last ((q ++ behind_breaks qs) ++ rest)))
+    ≡ tree_of_document (q ∷ qs)
+left q qs rest h k e = ap (λ z. tree_of_document (parts_by_paragraph z))
+    (paragraph_last q qs rest h (breaks_last qs rest k e))
+    ∙ ap tree_of_document (all_paragraphs q qs h k)
 
 -- white behind the paragraphs
-pub block_behind : (q : List Part) (qs : List (List Part)) (rest : List Part) → IsTight q → AllByRecursion IsTight qs
+pub block_behind : (q : List ContentPart) (qs : List (List ContentPart)) (rest : List ContentPart) → IsTight q
+    → AllByRecursion IsTight qs
     → to_last (with_runs rest) ≡ []
-    → block ((q ++ behind_lines qs) ++ rest) ≡ document_of (q ∷ qs)
+    → block ((q ++ behind_lines qs) ++ rest) ≡ tree_of_document (q ∷ qs)
 unfolding block
 block_behind q qs rest h k e =
-    ap (λ z. document_of (paragraphs (to_last (from_first z))))
+    ap (λ z. tree_of_document (parts_by_paragraph (to_last (from_first z))))
     (whole_runs q qs rest h k ∙ append_assoc q (behind_breaks qs) (with_runs rest))
-    ∙ ap (λ z. document_of (paragraphs (to_last z))) (first_stays q (behind_breaks qs ++ with_runs rest) h
+    ∙ ap (λ z. tree_of_document (parts_by_paragraph (to_last z))) (first_stays q (behind_breaks qs ++ with_runs rest) h
     ∙ sym (append_assoc q (behind_breaks qs) (with_runs rest)))
     ∙ left q qs (with_runs rest) h k e
 
 -- and a run before them
-pub block_between : (w : White) (q : List Part) (qs : List (List Part)) (rest : List Part) → IsTight q
+pub block_between : (w : White) (q : List ContentPart) (qs : List (List ContentPart)) (rest : List ContentPart)
+    → IsTight q
     → AllByRecursion IsTight qs → to_last (with_runs rest) ≡ []
-    → block (gap w ∷ ((q ++ behind_lines qs) ++ rest)) ≡ document_of (q ∷ qs)
+    → block (gap w ∷ ((q ++ behind_lines qs) ++ rest)) ≡ tree_of_document (q ∷ qs)
 unfolding block
 block_between w q qs rest h k e =
-    ap (λ z. document_of (paragraphs (to_last (from_first (run_before (gap w) z)))))
+    ap (λ z. tree_of_document (parts_by_paragraph (to_last (from_first (run_before (gap w) z)))))
     (whole_runs q qs rest h k ∙ append_assoc q (behind_breaks qs) (with_runs rest))
-    ∙ ap (λ z. document_of (paragraphs (to_last (from_first z)))) (run_stays w q (behind_breaks qs ++ with_runs rest) h)
-    ∙ ap (λ z. document_of (paragraphs (to_last z))) (sym (append_assoc q (behind_breaks qs) (with_runs rest)))
+    ∙ ap (λ z. tree_of_document (parts_by_paragraph (to_last (from_first z))))
+    (run_stays w q (behind_breaks qs ++ with_runs rest) h)
+    ∙ ap (λ z. tree_of_document (parts_by_paragraph (to_last z)))
+    (sym (append_assoc q (behind_breaks qs) (with_runs rest)))
     ∙ left q qs (with_runs rest) h k e
 
 -- paragraphs of which the first is no collection tag
-pub ordinary_document : (q : List Part) (qs : List (List Part)) → is_ordinary q ≡ true
-    → document_of (q ∷ qs) ≡ node document_label (forest (map content (q ∷ qs)))
+pub ordinary_document : (q : List ContentPart) (qs : List (List ContentPart)) → is_ordinary q ≡ true
+    → tree_of_document (q ∷ qs) ≡ node document_label (forest (map content (q ∷ qs)))
 ordinary_document [] [] h = refl
 ordinary_document [] (r ∷ qs) h = refl
 ordinary_document (gap w ∷ q) [] h = refl

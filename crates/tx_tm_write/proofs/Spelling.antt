@@ -10,7 +10,8 @@ use Rattle.tx_tm_form.specs.declared.bytes.White.TheVariants.{Line}
 use Rattle.tx_tm_form.specs.declared.bytes.Escaped.TheVariants.{Mark}
 use Rattle.tx_tm_form.specs.Bytes.{escape_of, can_escape}
 use Rattle.tx_tm_form.specs.Tokens.{escape}
-use Rattle.tx_tm_form.specs.Parts.{Part, gap, text, tag, content, block, document_of, same, document_label}
+use Rattle.tx_tm_form.specs.Parts.{ContentPart, gap, text, tag, content, block, tree_of_document, same_bytes}
+use Rattle.tx_tm_form.specs.Parts.{document_label}
 use Rattle.tx_tm_form.specs.Parts.{collection_label}
 use Rattle.tx_tm_form.specs.Forms.{escaped, Spells}
 use Rattle.tx_tm_form.proofs.Sound.{same_is}
@@ -56,7 +57,7 @@ paragraph_stands t h k =
     (λ e. Stands (if e then 92 ∷ 59 ∷ [] else content_text t) (if e then text [] ∷ [] else content_parts t h))
     [ true ↦ mark_stands | false ↦ k ]
 
-abbrev paragraphs_of : (ts : Forest) → AreWellFormed ts → List (List Part)
+abbrev paragraphs_of : (ts : Forest) → AreWellFormed ts → List (List ContentPart)
 paragraphs_of nil h = []
 paragraphs_of (cons t ts) h = paragraph_parts t h.0 ∷ paragraphs_of ts h.1
 
@@ -71,15 +72,15 @@ all_back (cons t ts) h = ap (λ z. cons z (forest (map content (paragraphs_of ts
 
 -- the bytes are those of paragraphs of which the tree is made, with an empty line between two of them
 record StandsAsBlock (bytes : List ℕ) (t : WideTree) : Type 0 where
-  first : List Part
-  others : List (List Part)
+  first : List ContentPart
+  others : List (List ContentPart)
   tight : IsTight first
   all_tight : AllByRecursion IsTight others
   stands : Stands bytes (first ++ behind_lines others)
-  whole : document_of (first ∷ others) ≡ t
+  whole : tree_of_document (first ∷ others) ≡ t
 
 document_block : (label : List ℕ) (t : WideTree) (ts : Forest) (h : AreWellFormed (cons t ts))
-    → same label document_label ≡ true
+    → same_bytes label document_label ≡ true
     → Stands (paragraphs_text (cons t ts)) (paragraph_parts t h.0 ++ behind_lines (paragraphs_of ts h.1))
     → StandsAsBlock (paragraphs_text (cons t ts)) (node label (cons t ts))
 document_block label t ts h e k =
@@ -94,7 +95,7 @@ document_block label t ts h e k =
           ∙ ap (λ l. node l (cons t ts)) (sym (same_is label document_label e));
     }
 
-collection_block : (label : List ℕ) (ts : Forest) → IsLabel label → same label collection_label ≡ true
+collection_block : (label : List ℕ) (ts : Forest) → IsLabel label → same_bytes label collection_label ≡ true
     → Stands (tags_text ts) (tag_lines ts) → StandsAsBlock (with_ends (tags_text ts)) (node label ts)
 collection_block label ts l e k =
     let is = same_is label collection_label e in
@@ -128,7 +129,7 @@ Goes label true bytes ts = Continues label bytes ts
 Goes label false bytes ts = Follows bytes ts
 
 by_form : (label : List ℕ) (ts : Forest) (r c b : Bool) (long arguments : List ℕ) → IsLabel label → is_raw label ts ≡ r
-    → same label collection_label ≡ c → Goes label b long (trees ts)
+    → same_bytes label collection_label ≡ c → Goes label b long (trees ts)
     → Follows (arguments ++ 62 ∷ []) (trees ts)
     → Stands (if r then 60 ∷ 35 ∷ (digits_of ts ++ 62 ∷ []) else if not c && b then opened 92 label ++ long else 60
     ∷ (label ++ (arguments ++ 62 ∷ []))) (tag false (node label ts) ∷ [])
@@ -141,10 +142,10 @@ tag_stands : (label : List ℕ) (ts : Forest) → IsLabel label → Goes label (
     → Follows (arguments_text ts ++ 62 ∷ []) (trees ts)
     → Stands (tag_text label ts (long_text label ts) (arguments_text ts)) (tag false (node label ts) ∷ [])
 tag_stands label ts l g f =
-    by_form label ts (is_raw label ts) (same label collection_label) (has_block ts) (long_text label ts)
+    by_form label ts (is_raw label ts) (same_bytes label collection_label) (has_block ts) (long_text label ts)
     (arguments_text ts) l refl refl g f
 
-either_stands : (i : Bool) (x y : List ℕ) (ps qs : List Part) → Stands x ps → Stands y qs
+either_stands : (i : Bool) (x y : List ℕ) (ps qs : List ContentPart) → Stands x ps → Stands y qs
     → Stands (if i then x else y) (if i then ps else qs)
 either_stands true x y ps qs h k = h
 either_stands false x y ps qs h k = k
@@ -157,7 +158,8 @@ lines_text label block rest mark =
     ap (λ z. 62 ∷ 10 ∷ z) (append_assoc block (10 ∷ []) (60 ∷ mark ∷ (label ++ rest))
     ∙ sym (append_assoc block (10 ∷ opened mark label) rest))
 
-child_goes : (label : List ℕ) (t : WideTree) (ts : List WideTree) (ps : List Part) (b more : Bool) (rest : List ℕ)
+child_goes : (label : List ℕ) (t : WideTree) (ts : List WideTree) (ps : List ContentPart) (b more : Bool)
+    (rest : List ℕ)
     → IsLabel label → Stands (content_text t) ps → content ps ≡ t
     → (b ≡ true → StandsAsBlock (block_text t) t) → Goes label more rest ts
     → Goes label (b || more) ((if b then with_lines label more (block_text t) else 124 ∷ content_text t) ++ rest)
@@ -224,11 +226,12 @@ mutual
   block_stands : (t : WideTree) (h : IsWellFormed t) → is_block t ≡ true → StandsAsBlock (block_text t) t
   block_stands (leaf s) h e = absurd cc
   block_stands (node label ts) h e =
-      by_block label ts (same label document_label) (same label collection_label) (are_nodes ts) (paragraphs_text ts)
+      by_block label ts (same_bytes label document_label) (same_bytes label collection_label) (are_nodes ts)
+      (paragraphs_text ts)
       (tags_text ts) (node label ts)
       (λ d s. document_stands ts label h.1 d s) (λ c n. collection_block label ts h.0 c (tags_stand ts h.1 n)) e
 
-  document_stands : (ts : Forest) (label : List ℕ) (h : AreWellFormed ts) → same label document_label ≡ true
+  document_stands : (ts : Forest) (label : List ℕ) (h : AreWellFormed ts) → same_bytes label document_label ≡ true
       → some ts ≡ true → StandsAsBlock (paragraphs_text ts) (node label ts)
   document_stands nil label h e k = absurd cc
   document_stands (cons t ts) label h e k =

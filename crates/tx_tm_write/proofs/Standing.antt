@@ -5,9 +5,10 @@ use Rattle.std.proofs.lemmas.List.{append-nil}
 use Rattle.std.proofs.lemmas.List.Concat.{flat_map-append}
 use Rattle.tx_tree.specs.WideTree.{WideTree}
 use Rattle.tx_tm_form.specs.Tokens.{Token, white, join, plain, escape, raw, head, bar, close, written, IsToken}
-use Rattle.tx_tm_form.specs.Tokens.{is_dropped, kept}
-use Rattle.tx_tm_form.specs.Parts.{Part, block}
-use Rattle.tx_tm_form.specs.Forms.{Piece, Pieces, nothing, piece, tokens_of_piece, tokens_of, part_of, parts_of, Spells}
+use Rattle.tx_tm_form.specs.Tokens.{is_dropped, without_joins}
+use Rattle.tx_tm_form.specs.Parts.{ContentPart, block}
+use Rattle.tx_tm_form.specs.Forms.{Piece, Pieces, nothing, piece, tokens_of_piece, tokens_of, piece_part, piece_parts}
+use Rattle.tx_tm_form.specs.Forms.{Spells}
 
 -- ---- words
 
@@ -63,7 +64,7 @@ not_dropped (head form l more) h = refl
 not_dropped bar h = refl
 not_dropped close h = refl
 
-all_kept : (ts : List Token) → AllByRecursion IsWord ts → kept false ts ≡ ts
+all_kept : (ts : List Token) → AllByRecursion IsWord ts → without_joins false ts ≡ ts
 all_kept [] h = refl
 all_kept (t ∷ ts) h = rw (not_dropped t h.0) (ap (λ us. t ∷ us) (all_kept ts h.1))
 
@@ -78,29 +79,29 @@ tokens_joined nothing qs = refl
 tokens_joined (piece p ps) qs = append_assoc (tokens_of_piece p) (tokens_of ps) (tokens_of qs)
     ∙ ap (λ z. tokens_of_piece p ++ z) (tokens_joined ps qs)
 
-parts_joined : (ps qs : Pieces) → parts_of (joined ps qs) ≡ parts_of ps ++ parts_of qs
+parts_joined : (ps qs : Pieces) → piece_parts (joined ps qs) ≡ piece_parts ps ++ piece_parts qs
 parts_joined nothing qs = refl
-parts_joined (piece p ps) qs = ap (λ z. part_of p ∷ z) (parts_joined ps qs)
+parts_joined (piece p ps) qs = ap (λ z. piece_part p ∷ z) (parts_joined ps qs)
 
 -- the bytes are the words of pieces that stand for these parts
-pub record Stands (bytes : List ℕ) (ps : List Part) : Type 0 where
+pub record Stands (bytes : List ℕ) (ps : List ContentPart) : Type 0 where
   pub pieces : Pieces
   pub words : AreWords bytes (tokens_of pieces)
-  pub parts : parts_of pieces ≡ ps
+  pub parts : piece_parts pieces ≡ ps
 
 pub nothing_stands : Stands [] []
 nothing_stands = record { pieces = nothing; words = no_word; parts = refl }
 
-pub both_stand : (x y : List ℕ) (ps qs : List Part) → Stands x ps → Stands y qs → Stands (x ++ y) (ps ++ qs)
+pub both_stand : (x y : List ℕ) (ps qs : List ContentPart) → Stands x ps → Stands y qs → Stands (x ++ y) (ps ++ qs)
 both_stand x y ps qs h k =
     record {
       pieces = joined h.pieces k.pieces;
       words = subst (AreWords (x ++ y)) (tokens_joined h.pieces k.pieces)
           (both_words x y (tokens_of h.pieces) (tokens_of k.pieces) h.words k.words);
-      parts = parts_joined h.pieces k.pieces ∙ ap (λ z. z ++ parts_of k.pieces) h.parts ∙ ap (λ z. ps ++ z) k.parts;
+      parts = parts_joined h.pieces k.pieces ∙ ap (λ z. z ++ piece_parts k.pieces) h.parts ∙ ap (λ z. ps ++ z) k.parts;
     }
 
-pub one_stands : (p : Piece) (bytes : List ℕ) → AreWords bytes (tokens_of_piece p) → Stands bytes (part_of p ∷ [])
+pub one_stands : (p : Piece) (bytes : List ℕ) → AreWords bytes (tokens_of_piece p) → Stands bytes (piece_part p ∷ [])
 one_stands p bytes h =
     record {
       pieces = piece p nothing;
@@ -109,7 +110,8 @@ one_stands p bytes h =
     }
 
 -- bytes whose parts are those of a block spell it
-pub spells_from : (bytes : List ℕ) (ps : List Part) (t : WideTree) → Stands bytes ps → block ps ≡ t → Spells bytes t
+pub spells_from : (bytes : List ℕ) (ps : List ContentPart) (t : WideTree) → Stands bytes ps → block ps ≡ t
+    → Spells bytes t
 spells_from bytes ps t h e =
     record {
       tokens = tokens_of h.pieces;

@@ -11,12 +11,13 @@ use Rattle.tx_tm_form.specs.declared.places.TagForm.{TagForm}
 use Rattle.tx_tm_form.specs.declared.places.TagForm.TheVariants.{Short, Long, Middle, Closing}
 use Rattle.tx_tm_form.specs.declared.bytes.White.TheVariants.{Line}
 use Rattle.tx_tm_form.specs.Bytes.{kind_of, is_white, is_plain, is_digit}
-use Rattle.tx_tm_form.specs.Tokens.{Token, white, plain, raw, bar, close, mark_of, written}
-use Rattle.tx_tm_form.specs.Parts.{Part, gap, tag, content, block, long_tag, same, has_no_items, tags_of}
+use Rattle.tx_tm_form.specs.Tokens.{Token, white, plain, raw, bar, close, form_mark, written}
+use Rattle.tx_tm_form.specs.Parts.{ContentPart, gap, tag, content, block, long_tag, same_bytes, has_no_items, tag_trees}
 use Rattle.tx_tm_form.specs.Parts.{collection_label, raw_data_label}
 use Rattle.tx_tm_form.specs.Forms.{AreDigits, Pieces, Arguments, Blocks, blank, raw_data, short_tag, long_tag_of}
-use Rattle.tx_tm_form.specs.Forms.{no_argument, argument, no_block, middle_tag, tokens_of, beginning, more_arguments}
-use Rattle.tx_tm_form.specs.Forms.{tokens_of_blocks, parts_of, children_of, children_of_blocks}
+use Rattle.tx_tm_form.specs.Forms.{no_argument, argument, no_block, middle_tag, tokens_of, tag_beginning}
+use Rattle.tx_tm_form.specs.Forms.{more_arguments}
+use Rattle.tx_tm_form.specs.Forms.{tokens_of_blocks, piece_parts, argument_trees, children_of_blocks}
 use Rattle.tx_tm_form.proofs.Sound.{same_is}
 use Rattle.tx_tm_form.proofs.Formed.{digit_item}
 use Rattle.tx_tm_write.specs.Shapes.{all_digits, is_one_of_digits, is_raw, digits_of}
@@ -51,7 +52,7 @@ are_digits : (digits : List ℕ) → all_digits digits ≡ true → AreDigits di
 are_digits [] h = tt
 are_digits (b ∷ digits) h = let p = and_parts (is_digit b) (all_digits digits) h in (p.0, are_digits digits p.1)
 
-raw_node : (label : List ℕ) (ts : Forest) → same label raw_data_label ≡ true → is_one_of_digits ts ≡ true
+raw_node : (label : List ℕ) (ts : Forest) → same_bytes label raw_data_label ≡ true → is_one_of_digits ts ≡ true
     → Stands (60 ∷ 35 ∷ (digits_of ts ++ 62 ∷ [])) (tag false (node label ts) ∷ [])
 raw_node label nil e k = absurd cc
 raw_node label (cons (leaf digits) nil) e k =
@@ -64,53 +65,54 @@ raw_node label (cons (node l us) ts) e k = absurd cc
 -- a node that is written by its digits
 pub raw_tag : (label : List ℕ) (ts : Forest) → is_raw label ts ≡ true
     → Stands (60 ∷ 35 ∷ (digits_of ts ++ 62 ∷ [])) (tag false (node label ts) ∷ [])
-raw_tag label ts e = let p = and_parts (same label raw_data_label) (is_one_of_digits ts) e in raw_node label ts p.0 p.1
+raw_tag label ts e = let p = and_parts (same_bytes label raw_data_label) (is_one_of_digits ts) e in
+    raw_node label ts p.0 p.1
 
 -- ---- beginnings of tags
 
 -- behind a label: arguments, the end of the tag, and more
 begin : (form : TagForm) (label : List ℕ) (xs : Arguments) (y : List ℕ) (more : List Token) → IsLabel label
     → AreWords y (more_arguments xs ++ more)
-    → AreWords (60 ∷ (mark_of form ++ (label ++ y))) (beginning form label xs ++ more)
+    → AreWords (60 ∷ (form_mark form ++ (label ++ y))) (tag_beginning form label xs ++ more)
 begin form label no_argument y more l h =
     record {
       each = (l, h.each.1);
-      all = ap (λ z. 60 ∷ (mark_of form ++ (label ++ z))) h.all
-          ∙ ap (λ z. 60 ∷ (mark_of form ++ z)) (sym (append_assoc label (62 ∷ []) (flat_map written more)))
-          ∙ ap (λ z. 60 ∷ z) (sym (append_assoc (mark_of form) (label ++ 62 ∷ []) (flat_map written more)));
+      all = ap (λ z. 60 ∷ (form_mark form ++ (label ++ z))) h.all
+          ∙ ap (λ z. 60 ∷ (form_mark form ++ z)) (sym (append_assoc label (62 ∷ []) (flat_map written more)))
+          ∙ ap (λ z. 60 ∷ z) (sym (append_assoc (form_mark form) (label ++ 62 ∷ []) (flat_map written more)));
     }
 begin form label (argument x xs) y more l h =
     let others = (tokens_of x ++ more_arguments xs) ++ more in
     record {
       each = (l, h.each.1);
-      all = ap (λ z. 60 ∷ (mark_of form ++ (label ++ z))) h.all
-          ∙ ap (λ z. 60 ∷ (mark_of form ++ z)) (sym (append_assoc label (124 ∷ []) (flat_map written others)))
-          ∙ ap (λ z. 60 ∷ z) (sym (append_assoc (mark_of form) (label ++ 124 ∷ []) (flat_map written others)));
+      all = ap (λ z. 60 ∷ (form_mark form ++ (label ++ z))) h.all
+          ∙ ap (λ z. 60 ∷ (form_mark form ++ z)) (sym (append_assoc label (124 ∷ []) (flat_map written others)))
+          ∙ ap (λ z. 60 ∷ z) (sym (append_assoc (form_mark form) (label ++ 124 ∷ []) (flat_map written others)));
     }
 
 -- what stands behind the label of a tag: arguments with these trees, and the end of the tag
 pub record Follows (bytes : List ℕ) (ts : List WideTree) : Type 0 where
   pub arguments : Arguments
   pub words : AreWords bytes (more_arguments arguments)
-  pub trees : children_of arguments ≡ ts
+  pub trees : argument_trees arguments ≡ ts
 
 pub no_more : Follows (62 ∷ []) []
 no_more = record { arguments = no_argument; words = one_word close tt; trees = refl }
 
-pub one_more : (x y : List ℕ) (ps : List Part) (t : WideTree) (ts : List WideTree) → Stands x ps → content ps ≡ t
+pub one_more : (x y : List ℕ) (ps : List ContentPart) (t : WideTree) (ts : List WideTree) → Stands x ps → content ps ≡ t
     → Follows y ts → Follows (124 ∷ (x ++ y)) (t ∷ ts)
 one_more x y ps t ts h e k =
     record {
       arguments = argument h.pieces k.arguments;
       words = word_before bar (x ++ y) (tokens_of h.pieces ++ more_arguments k.arguments) tt
           (both_words x y (tokens_of h.pieces) (more_arguments k.arguments) h.words k.words);
-      trees = ap (λ z. z ∷ children_of k.arguments) (ap content h.parts ∙ e) ∙ ap (λ z. t ∷ z) k.trees;
+      trees = ap (λ z. z ∷ argument_trees k.arguments) (ap content h.parts ∙ e) ∙ ap (λ z. t ∷ z) k.trees;
     }
 
 begun : (form : TagForm) (label : List ℕ) (xs : Arguments) (y : List ℕ) → IsLabel label → AreWords y (more_arguments xs)
-    → AreWords (60 ∷ (mark_of form ++ (label ++ y))) (beginning form label xs)
+    → AreWords (60 ∷ (form_mark form ++ (label ++ y))) (tag_beginning form label xs)
 begun form label xs y l h =
-    subst (AreWords (60 ∷ (mark_of form ++ (label ++ y)))) (append-nil (beginning form label xs))
+    subst (AreWords (60 ∷ (form_mark form ++ (label ++ y)))) (append-nil (tag_beginning form label xs))
     (begin form label xs y [] l (subst (AreWords y) (sym (append-nil (more_arguments xs))) h))
 
 pub short_stands : (label : List ℕ) (bytes : List ℕ) (ts : Forest) → IsLabel label → Follows bytes (trees ts)
@@ -128,13 +130,15 @@ pub record Continues (label bytes : List ℕ) (ts : List WideTree) : Type 0 wher
   pub others : Blocks
   pub last : Arguments
   pub words : AreWords bytes
-      (more_arguments arguments ++ (tokens_of first ++ (tokens_of_blocks label others ++ beginning Closing label last)))
-  pub trees : children_of arguments ++ block (parts_of first) ∷ children_of_blocks others (children_of last) ≡ ts
+      (more_arguments arguments ++ (tokens_of first
+      ++ (tokens_of_blocks label others ++ tag_beginning Closing label last)))
+  pub trees : argument_trees arguments ++ block (piece_parts first) ∷ children_of_blocks others (argument_trees last)
+      ≡ ts
 
-pub argument_before : (label x y : List ℕ) (ps : List Part) (t : WideTree) (ts : List WideTree) → Stands x ps
+pub argument_before : (label x y : List ℕ) (ps : List ContentPart) (t : WideTree) (ts : List WideTree) → Stands x ps
     → content ps ≡ t → Continues label y ts → Continues label (124 ∷ (x ++ y)) (t ∷ ts)
 argument_before label x y ps t ts h e k =
-    let behind = tokens_of k.first ++ (tokens_of_blocks label k.others ++ beginning Closing label k.last) in
+    let behind = tokens_of k.first ++ (tokens_of_blocks label k.others ++ tag_beginning Closing label k.last) in
     record {
       arguments = argument h.pieces k.arguments;
       first = k.first;
@@ -144,12 +148,14 @@ argument_before label x y ps t ts h e k =
           (subst (AreWords (x ++ y)) (sym (append_assoc (tokens_of h.pieces) (more_arguments k.arguments) behind))
           (both_words x y (tokens_of h.pieces) (more_arguments k.arguments ++ behind) h.words k.words));
       trees = ap (λ z.
-          z ∷ (children_of k.arguments ++ block (parts_of k.first) ∷ children_of_blocks k.others (children_of k.last)))
+          z ∷ (argument_trees k.arguments ++ block (piece_parts k.first)
+          ∷ children_of_blocks k.others (argument_trees k.last)))
           (ap content h.parts ∙ e) ∙ ap (λ z. t ∷ z) k.trees;
     }
 
 -- the last block
-pub block_last : (label x y : List ℕ) (ps : List Part) (t : WideTree) (ts : List WideTree) → IsLabel label → Stands x ps
+pub block_last : (label x y : List ℕ) (ps : List ContentPart) (t : WideTree) (ts : List WideTree) → IsLabel label
+    → Stands x ps
     → block ps ≡ t → Follows y ts
     → Continues label (62 ∷ (x ++ 60 ∷ 47 ∷ (label ++ y))) (t ∷ ts)
 block_last label x y ps t ts l h e k =
@@ -159,18 +165,18 @@ block_last label x y ps t ts l h e k =
       others = no_block;
       last = k.arguments;
       words = word_before close (x ++ 60 ∷ 47 ∷ (label ++ y))
-          (tokens_of h.pieces ++ beginning Closing label k.arguments) tt
-          (both_words x (60 ∷ 47 ∷ (label ++ y)) (tokens_of h.pieces) (beginning Closing label k.arguments) h.words
+          (tokens_of h.pieces ++ tag_beginning Closing label k.arguments) tt
+          (both_words x (60 ∷ 47 ∷ (label ++ y)) (tokens_of h.pieces) (tag_beginning Closing label k.arguments) h.words
           (begun Closing label k.arguments y l k.words));
-      trees = ap (λ z. z ∷ children_of k.arguments) (ap block h.parts ∙ e) ∙ ap (λ z. t ∷ z) k.trees;
+      trees = ap (λ z. z ∷ argument_trees k.arguments) (ap block h.parts ∙ e) ∙ ap (λ z. t ∷ z) k.trees;
     }
 
 -- a block before another
-pub block_before : (label x y : List ℕ) (ps : List Part) (t : WideTree) (ts : List WideTree) → IsLabel label
+pub block_before : (label x y : List ℕ) (ps : List ContentPart) (t : WideTree) (ts : List WideTree) → IsLabel label
     → Stands x ps → block ps ≡ t → Continues label y ts
     → Continues label (62 ∷ (x ++ 60 ∷ 124 ∷ (label ++ y))) (t ∷ ts)
 block_before label x y ps t ts l h e k =
-    let behind = tokens_of_blocks label k.others ++ beginning Closing label k.last in
+    let behind = tokens_of_blocks label k.others ++ tag_beginning Closing label k.last in
     record {
       arguments = no_argument;
       first = h.pieces;
@@ -178,40 +184,43 @@ block_before label x y ps t ts l h e k =
       last = k.last;
       words = word_before close (x ++ 60 ∷ 124 ∷ (label ++ y))
           (tokens_of h.pieces
-          ++ ((beginning Middle label k.arguments ++ (tokens_of k.first ++ tokens_of_blocks label k.others))
-          ++ beginning Closing label k.last)) tt
+          ++ ((tag_beginning Middle label k.arguments ++ (tokens_of k.first ++ tokens_of_blocks label k.others))
+          ++ tag_beginning Closing label k.last)) tt
           (both_words x (60 ∷ 124 ∷ (label ++ y)) (tokens_of h.pieces)
-          ((beginning Middle label k.arguments ++ (tokens_of k.first ++ tokens_of_blocks label k.others))
-          ++ beginning Closing label k.last) h.words
+          ((tag_beginning Middle label k.arguments ++ (tokens_of k.first ++ tokens_of_blocks label k.others))
+          ++ tag_beginning Closing label k.last) h.words
           (subst (AreWords (60 ∷ 124 ∷ (label ++ y)))
-          (regrouped (beginning Middle label k.arguments) (tokens_of k.first) (tokens_of_blocks label k.others)
-          (beginning Closing label k.last))
+          (regrouped (tag_beginning Middle label k.arguments) (tokens_of k.first) (tokens_of_blocks label k.others)
+          (tag_beginning Closing label k.last))
           (begin Middle label k.arguments y (tokens_of k.first ++ behind) l k.words)));
       trees = ap (λ z.
-          z ∷ (children_of k.arguments ++ block (parts_of k.first) ∷ children_of_blocks k.others (children_of k.last)))
+          z ∷ (argument_trees k.arguments ++ block (piece_parts k.first)
+          ∷ children_of_blocks k.others (argument_trees k.last)))
           (ap block h.parts ∙ e) ∙ ap (λ z. t ∷ z) k.trees;
     }
   where
     regrouped : (a b c d : List Token) → a ++ (b ++ (c ++ d)) ≡ (a ++ (b ++ c)) ++ d
     regrouped a b c d = simp append_assoc refl
 
-ordinary_tag : (label : List ℕ) (us : List WideTree) (ps : List Part) (vs : List WideTree)
-    → same label collection_label ≡ false
+ordinary_tag : (label : List ℕ) (us : List WideTree) (ps : List ContentPart) (vs : List WideTree)
+    → same_bytes label collection_label ≡ false
     → long_tag label us ps vs ≡ tag false (node label (forest (us ++ block ps ∷ vs)))
 unfolding long_tag
 ordinary_tag label us ps vs e = rw e refl
 
-pub long_stands : (label : List ℕ) (bytes : List ℕ) (ts : Forest) → IsLabel label → same label collection_label ≡ false
+pub long_stands : (label : List ℕ) (bytes : List ℕ) (ts : Forest) → IsLabel label
+    → same_bytes label collection_label ≡ false
     → Continues label bytes (trees ts)
     → Stands (60 ∷ 92 ∷ (label ++ bytes)) (tag false (node label ts) ∷ [])
 long_stands label bytes ts l e h =
     subst (λ z. Stands (60 ∷ 92 ∷ (label ++ bytes)) (z ∷ []))
-    (ordinary_tag label (children_of h.arguments) (parts_of h.first) (children_of_blocks h.others (children_of h.last))
+    (ordinary_tag label (argument_trees h.arguments) (piece_parts h.first)
+    (children_of_blocks h.others (argument_trees h.last))
     e ∙ ap (λ us. tag false (node label (forest us))) h.trees
     ∙ ap (λ us. tag false (node label us)) (forest_trees ts))
     (one_stands (long_tag_of label l h.arguments h.first h.others h.last) (60 ∷ 92 ∷ (label ++ bytes))
     (begin Long label h.arguments bytes
-    (tokens_of h.first ++ (tokens_of_blocks label h.others ++ beginning Closing label h.last)) l h.words))
+    (tokens_of h.first ++ (tokens_of_blocks label h.others ++ tag_beginning Closing label h.last)) l h.words))
 
 -- ---- collections
 
@@ -223,7 +232,7 @@ pub newline_stands : Stands (10 ∷ []) (gap Line ∷ [])
 newline_stands = one_stands (blank 10) (10 ∷ []) (one_word (white 10) white_newline)
 
 -- tags, with a newline behind each
-abbrev pub tag_lines : Forest → List Part
+abbrev pub tag_lines : Forest → List ContentPart
 tag_lines nil = []
 tag_lines (cons t ts) = tag false t ∷ gap Line ∷ tag_lines ts
 
@@ -231,12 +240,12 @@ no_items : (ts : Forest) → has_no_items (tag_lines ts) ≡ true
 no_items nil = refl
 no_items (cons t ts) = no_items ts
 
-all_tags : (ts : Forest) → tags_of (tag_lines ts) ≡ trees ts
+all_tags : (ts : Forest) → tag_trees (tag_lines ts) ≡ trees ts
 all_tags nil = refl
 all_tags (cons t ts) = ap (λ z. t ∷ z) (all_tags ts)
 
-collection_tag : (ps : List Part) → has_no_items ps ≡ true
-    → long_tag collection_label [] ps [] ≡ tag true (node collection_label (forest (tags_of ps)))
+collection_tag : (ps : List ContentPart) → has_no_items ps ≡ true
+    → long_tag collection_label [] ps [] ≡ tag true (node collection_label (forest (tag_trees ps)))
 unfolding long_tag
 collection_tag ps h = rw h refl
 
@@ -245,11 +254,11 @@ pub collection_stands : (bytes : List ℕ) (ts : Forest) → IsLabel collection_
     → Stands (60 ∷ 92 ∷ (collection_label ++ 62 ∷ (bytes ++ 60 ∷ 47 ∷ (collection_label ++ 62 ∷ []))))
     (tag true (node collection_label ts) ∷ [])
 collection_stands bytes ts l h =
-    let part : long_tag collection_label [] (parts_of h.pieces) [] ≡ tag true (node collection_label ts)
+    let part : long_tag collection_label [] (piece_parts h.pieces) [] ≡ tag true (node collection_label ts)
     = ap (λ ps. long_tag collection_label [] ps []) h.parts ∙ collection_tag (gap Line ∷ tag_lines ts) (no_items ts)
     ∙ ap (λ us. tag true (node collection_label (forest us))) (all_tags ts)
     ∙ ap (λ us. tag true (node collection_label us)) (forest_trees ts) in
-    let behind = tokens_of h.pieces ++ beginning Closing collection_label no_argument in
+    let behind = tokens_of h.pieces ++ tag_beginning Closing collection_label no_argument in
     let end = bytes ++ 60 ∷ 47 ∷ (collection_label ++ 62 ∷ []) in
     subst (λ z. Stands (60 ∷ 92 ∷ (collection_label ++ 62 ∷ end)) (z ∷ [])) part
     (one_stands (long_tag_of collection_label l no_argument h.pieces no_block no_argument)
@@ -257,5 +266,5 @@ collection_stands bytes ts l h =
     (begin Long collection_label no_argument (62 ∷ end) behind l
     (word_before close end behind tt
     (both_words bytes (60 ∷ 47 ∷ (collection_label ++ 62 ∷ [])) (tokens_of h.pieces)
-    (beginning Closing collection_label no_argument) h.words
+    (tag_beginning Closing collection_label no_argument) h.words
     (begun Closing collection_label no_argument (62 ∷ []) l (one_word close tt))))))

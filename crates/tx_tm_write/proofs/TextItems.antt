@@ -10,7 +10,7 @@ use Rattle.tx_tm_form.specs.declared.bytes.Escaped.TheVariants.{Byte}
 use Rattle.tx_tm_form.specs.declared.bytes.White.TheVariants.{Spaces}
 use Rattle.tx_tm_form.specs.Bytes.{kind_of, is_white, is_plain, escape_of, is_angle, can_escape}
 use Rattle.tx_tm_form.specs.Tokens.{white, plain, escape, written}
-use Rattle.tx_tm_form.specs.Parts.{Part, gap, text}
+use Rattle.tx_tm_form.specs.Parts.{ContentPart, gap, text}
 use Rattle.tx_tm_form.specs.Forms.{blank, letter, escaped, symbol as symbol_piece, name_token, symbol_bytes}
 use Rattle.tx_tm_write.specs.Canonical.{is_marked, is_control, byte_text, is_held, items_text}
 use Rattle.tx_tm_write.proofs.Standing.{IsWord, AreWords, both_words, one_word, word_before, Stands, nothing_stands}
@@ -19,7 +19,7 @@ use Rattle.tx_tm_write.proofs.Standing.{both_stand, one_stands}
 -- ---- one byte
 
 -- the part that a byte of a text is, where raw tells how a space is written
-abbrev pub byte_part : Bool → ℕ → Part
+abbrev pub byte_part : Bool → ℕ → ContentPart
 byte_part raw b = if b == 32 && raw then gap Spaces else text (b ∷ [])
 
 white_space : is_white (kind_of 32) ≡ true
@@ -160,7 +160,7 @@ name_items (b ∷ name) behind rest h =
 -- ---- texts
 
 -- the parts of items
-abbrev pub item_parts : Bool → Bool → List Item → List Part
+abbrev pub item_parts : Bool → Bool → List Item → List ContentPart
 item_parts before behind [] = []
 item_parts before behind (byte b ∷ items) =
     byte_part (before && is_held behind (flat_map item_bytes items)) b ∷ item_parts (not (b == 32)) behind items

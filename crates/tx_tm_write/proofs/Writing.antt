@@ -5,7 +5,7 @@ use Rattle.std.specs.Prelude.{Some, None}
 use Rattle.std.proofs.lemmas.Grind.{common_steps}
 use Rattle.tx_tree.specs.WideTree.{WideTree, leaf, node, forest, children_of, label_of, text_of}
 use Rattle.tx_tree.proofs.Walks.{node_is, leaf_is, leaf_or_node}
-use Rattle.tx_tm_form.specs.Parts.{same, document_label}
+use Rattle.tx_tm_form.specs.Parts.{same_bytes, document_label}
 use Rattle.tx_tm_write.specs.Shapes.{some, is_inline, is_raw, is_long, digits_of, IsRaw}
 use Rattle.tx_tm_write.specs.Canonical.{opened, items_text, tag_text, part_text, content_text, parts_text}
 use Rattle.tx_tm_write.specs.Canonical.{arguments_text, long_text, block_text, paragraphs_text, with_ends, tags_text}
@@ -100,13 +100,14 @@ pub leaf_content : (t : WideTree) → label_of t ≡ None → content_text t ≡
 leaf_content (leaf text) e = refl
 leaf_content (node label ts) e = absurd cc
 
-pub document_text : (t : WideTree) (label : List ℕ) → label_of t ≡ Some label → same label document_label ≡ true
+pub document_text : (t : WideTree) (label : List ℕ) → label_of t ≡ Some label → same_bytes label document_label ≡ true
     → block_text t ≡ paragraphs_text (forest (children_of t))
 document_text t label e h =
     ap block_text (node_is t label e)
     ∙ ap (λ b. cond b (paragraphs_text (forest (children_of t))) (with_ends (tags_text (forest (children_of t))))) h
 
-pub collection_text : (t : WideTree) (label : List ℕ) → label_of t ≡ Some label → same label document_label ≡ false
+pub collection_text : (t : WideTree) (label : List ℕ) → label_of t ≡ Some label
+    → same_bytes label document_label ≡ false
     → block_text t ≡ with_ends (tags_text (forest (children_of t)))
 collection_text t label e h =
     ap block_text (node_is t label e)

@@ -2,7 +2,7 @@
 use Rattle.std.specs.Prelude.{ℕ, ◌+◌, Bool, true, false, ◌&&◌, ◌||◌, ◌==◌}
 use Rattle.std.specs.Prelude.{not, nat_lt, if◌then◌else◌, List, [], ◌∷◌, ◌++◌}
 use Rattle.tx_tree.specs.WideTree.{WideTree, Forest, leaf, node, nil, cons}
-use Rattle.tx_tm_form.specs.Parts.{same, document_label, collection_label}
+use Rattle.tx_tm_form.specs.Parts.{same_bytes, document_label, collection_label}
 use Rattle.tx_tm_write.specs.Shapes.{some, is_block, has_block, is_empty, is_inline, is_raw, is_long, digits_of}
 
 -- ---- items
@@ -101,7 +101,7 @@ abbrev mutual
   -- the text of a block
   pub block_text : WideTree → List ℕ
   block_text (leaf text) = []
-  block_text (node label ts) = if same label document_label then paragraphs_text ts else with_ends (tags_text ts)
+  block_text (node label ts) = if same_bytes label document_label then paragraphs_text ts else with_ends (tags_text ts)
 
   pub paragraphs_text : Forest → List ℕ
   paragraphs_text nil = []

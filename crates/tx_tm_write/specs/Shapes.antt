@@ -2,7 +2,7 @@
 use Rattle.std.specs.Prelude.{◌≡◌, ℕ, Bool, true, false, ◌&&◌, ◌||◌, not, if◌then◌else◌, List, [], ◌∷◌}
 use Rattle.tx_tree.specs.WideTree.{WideTree, Forest, leaf, node, nil, cons, is_leaf, forest}
 use Rattle.tx_tm_form.specs.Bytes.{is_digit}
-use Rattle.tx_tm_form.specs.Parts.{same, concat_label, document_label, collection_label, raw_data_label}
+use Rattle.tx_tm_form.specs.Parts.{same_bytes, concat_label, document_label, collection_label, raw_data_label}
 
 abbrev pub some : Forest → Bool
 some nil = false
@@ -15,7 +15,8 @@ are_nodes (cons t ts) = not (is_leaf t) && are_nodes ts
 -- a document with a child, or a collection whose children are all nodes
 abbrev pub is_block : WideTree → Bool
 is_block (leaf text) = false
-is_block (node label ts) = if same label document_label then some ts else same label collection_label && are_nodes ts
+is_block (node label ts) = if same_bytes label document_label then some ts else same_bytes label collection_label
+    && are_nodes ts
 
 abbrev pub has_block : Forest → Bool
 has_block nil = false
@@ -39,7 +40,7 @@ has_two (cons t ts) = some ts
 
 -- a concat that is written as the items of its texts and the tags of its nodes
 abbrev pub is_inline : List ℕ → Forest → Bool
-is_inline label ts = same label concat_label && has_two ts && are_apart false ts
+is_inline label ts = same_bytes label concat_label && has_two ts && are_apart false ts
 
 -- ---- forms of tags
 
@@ -57,19 +58,19 @@ is_one_of_digits (cons t ts) = is_digits t && not (some ts)
 
 -- raw-data with one text of hexadecimal digits alone
 abbrev pub is_raw : List ℕ → Forest → Bool
-is_raw label ts = same label raw_data_label && is_one_of_digits ts
+is_raw label ts = same_bytes label raw_data_label && is_one_of_digits ts
 
-abbrev pub text_in : WideTree → List ℕ
-text_in (leaf text) = text
-text_in (node label ts) = []
+abbrev pub text_or_empty : WideTree → List ℕ
+text_or_empty (leaf text) = text
+text_or_empty (node label ts) = []
 
 abbrev pub digits_of : Forest → List ℕ
 digits_of nil = []
-digits_of (cons t ts) = text_in t
+digits_of (cons t ts) = text_or_empty t
 
 -- a node but a collection, with a block among its children
 abbrev pub is_long : List ℕ → Forest → Bool
-is_long label ts = not (same label collection_label) && has_block ts
+is_long label ts = not (same_bytes label collection_label) && has_block ts
 
 -- the same, with the digits
 pub record IsRaw (label : List ℕ) (ts : List WideTree) (digits : List ℕ) : Type 0 where

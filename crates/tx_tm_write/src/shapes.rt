@@ -2,14 +2,14 @@
 ghost use Rattle.std.specs.Prelude.{◌≡◌, ◌≤◌, ◌+◌, length, drop, MatchOption, false};
 ghost use Rattle.tx_tree.specs.WideTree.{is_leaf, forest};
 ghost use Rattle.tx_tm_form.specs.Bytes.{is_digit};
-ghost use Rattle.tx_tm_form.specs.Parts.{same, document_label, collection_label, concat_label, raw_data_label};
+ghost use Rattle.tx_tm_form.specs.Parts.{same_bytes, document_label, collection_label, concat_label, raw_data_label};
 ghost use Rattle.tx_tm_write.specs.Shapes.{some, has_two, is_block, are_nodes, has_block, is_empty, are_apart};
 ghost use Rattle.tx_tm_write.specs.Shapes.{is_inline, all_digits, is_digits, is_raw, is_long, IsRaw};
 
 use tx_tree::{Kind, Label, Text, Tree};
 
 fn same_bytes(one: &[u8], other: &[u8]) -> bool
-    ensures { result ≡ same one.now other.now }
+    ensures { result ≡ same_bytes one.now other.now }
 {
     one == other
 }
@@ -32,13 +32,13 @@ fn are_nodes(trees: &[Tree]) -> bool
 }
 
 pub(crate) fn is_document(label: &Label) -> bool
-    ensures { result ≡ same label.now document_label }
+    ensures { result ≡ same_bytes label.now document_label }
 {
     same_bytes(label.bytes(), b"document")
 }
 
 fn is_collection(label: &Label) -> bool
-    ensures { result ≡ same label.now collection_label }
+    ensures { result ≡ same_bytes label.now collection_label }
 {
     same_bytes(label.bytes(), b"collection")
 }

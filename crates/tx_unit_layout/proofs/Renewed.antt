@@ -13,7 +13,7 @@ use Rattle.tx_parts.specs.Parts.{Stored}
 use Rattle.tx_walk.specs.declared.part.Part.{Part as DonePart}
 use Rattle.tx_walk.specs.Walked.{paths_of}
 use Rattle.tx_items.specs.declared.attributes.Attrs.{Attrs}
-use Rattle.tx_view_form.specs.Outcomes.{value_of}
+use Rattle.tx_view_form.specs.Outcomes.{unit_value}
 use Rattle.tx_part_layout.specs.declared.laid.PlacedPart.{PlacedPart}
 use Rattle.tx_part_layout.specs.LaidParts.{IsLaidPart, IsOfValue, laid_paths}
 use Rattle.tx_bridge.specs.Entries.{Entry}
@@ -146,7 +146,7 @@ same_attrs a b o h g = let both : Some a ≡ Some b = sym h ∙ g in cc
 
 module _ (width : ℕ) (e : Entry) (ds : List DonePart) (a : Attrs) (x : Shown)
     (distinct : IsDistinct bytes_eq (paths_of ds)) (path : x.path ≡ e.unit.path) (laid : x.laid ≡ Some a)
-    (out : IsLaidOut width a (value_of e.trace) e.unit.path x) where
+    (out : IsLaidOut width a (unit_value e.trace) e.unit.path x) where
   pub now_laid : map laid_at x.parts ≡ laid_ats a e (kept_parts ds) → AreLaidParts width (kept_parts ds) x.parts
       → WasLaid width e (kept_parts ds) (flags_of_parts ds) x
   now_laid by_parts parts = record {
@@ -155,7 +155,8 @@ module _ (width : ℕ) (e : Entry) (ds : List DonePart) (a : Attrs) (x : Shown)
     laid = record {
       path = path;
       laid = λ b is.
-          subst (λ (c : Attrs). IsLaidOut width c (value_of e.trace) e.unit.path x) (same_attrs a b x.laid laid is) out;
+          subst (λ (c : Attrs). IsLaidOut width c (unit_value e.trace) e.unit.path x)
+          (same_attrs a b x.laid laid is) out;
       by_parts = λ b is.
           by_parts ∙ ap (λ c. laid_ats c e (kept_parts ds)) (same_attrs a b x.laid laid is);
       same = λ b is. refl;
@@ -172,11 +173,11 @@ module _ (width : ℕ) (e : Entry) (ds : List DonePart) (a : Attrs) (x : Shown)
 -- so a unit with this path and this value, of which this call answers
 pub laid_whole : {X E : Type 0} (r : Result X E) (width : ℕ) (e : Entry) (ds : List DonePart) (a : Attrs)
     (v : WideValue) (path : Option (List ℕ)) (x : Shown) → IsDistinct bytes_eq (paths_of ds) → is_by_parts e ≡ false
-    → path ≡ e.unit.path → v ≡ value_of e.trace → OnOk r (IsLaidOut width a v path x) → OnOk r (x.laid ≡ Some a)
+    → path ≡ e.unit.path → v ≡ unit_value e.trace → OnOk r (IsLaidOut width a v path x) → OnOk r (x.laid ≡ Some a)
     → OnOk r (x.parts ≡ []) → OnOk r (WasLaid width e (kept_parts ds) (flags_of_parts ds) x)
 laid_whole (Ok n) width e ds a v path x distinct whole at value out laid none =
-    let there : IsLaidOut width a (value_of e.trace) e.unit.path x =
-    subst (λ (p : Option (List ℕ)). IsLaidOut width a (value_of e.trace) p x) at
+    let there : IsLaidOut width a (unit_value e.trace) e.unit.path x =
+    subst (λ (p : Option (List ℕ)). IsLaidOut width a (unit_value e.trace) p x) at
     (subst (λ (w : WideValue). IsLaidOut width a w path x) value out) in
     whole_laid width e ds a x distinct (there.shown.path_is) laid there whole none
 laid_whole (Err f) width e ds a v path x distinct whole at value out laid none = tt

@@ -6,7 +6,7 @@ use Rattle.std.specs.Str.{bytes_eq}
 use Rattle.tx_exec_form.specs.declared.TheConstants.{MOST_LEVELS}
 use Rattle.tx_items.specs.contracts.attributes.Attrs as one_attrs
 use Rattle.tx_items.specs.declared.attributes.Attrs.{Attrs}
-use Rattle.tx_view_form.specs.Outcomes.{value_of}
+use Rattle.tx_view_form.specs.Outcomes.{unit_value}
 use Rattle.tx_view_form.specs.Views.{paragraphs_at}
 use Rattle.tx_part_items.specs.ShownParts.{ShownPart, own_paragraphs, tree_shown}
 use Rattle.tx_part_layout.specs.declared.laid.PlacedPart.{PlacedPart}
@@ -62,7 +62,7 @@ items_by_parts ls (f ∷ fs) (p ∷ ps) =
 abbrev pub unit_items_anew : Attrs → Entry → KeptParts → List Bool → List LaidAt → ℕ
 unit_items_anew a e ks fs ls =
     if is_by_parts e then items_by_parts ls fs (parts_of a e ks)
-    else items_in (paragraphs_at e.unit.path a (value_of e.trace))
+    else items_in (paragraphs_at e.unit.path a (unit_value e.trace))
 
 -- ---- the code by which proofs tell them apart
 

@@ -8,7 +8,7 @@ use Rattle.tx_exec_form.specs.Evaluated.{WideTrace}
 use Rattle.tx_parts.specs.Parts.{Stored}
 use Rattle.tx_items.specs.declared.attributes.Attrs.{Attrs}
 use Rattle.tx_items.specs.Shows.{shown_paragraphs}
-use Rattle.tx_view_form.specs.Outcomes.{value_of}
+use Rattle.tx_view_form.specs.Outcomes.{unit_value}
 use Rattle.tx_view_form.specs.Views.{IsShown}
 use Rattle.tx_view_form.specs.Weights.{weight_of}
 use Rattle.tx_part_layout.specs.declared.laid.PlacedPart.{PlacedPart}
@@ -59,7 +59,7 @@ Stays held ks fs = (k : ℕ) (s : Stored) → slice_get ks k ≡ Some s → slic
 -- any case, what is laid out of a part is of what was held of it.
 pub record IsLaid (width : ℕ) (e : Entry) (ks held : KeptParts) (x : Shown) : Type 0 where
   pub path : x.path ≡ e.unit.path
-  pub laid : (a : Attrs) → x.laid ≡ Some a → IsLaidOut width a (value_of e.trace) e.unit.path x
+  pub laid : (a : Attrs) → x.laid ≡ Some a → IsLaidOut width a (unit_value e.trace) e.unit.path x
   pub by_parts : (a : Attrs) → x.laid ≡ Some a → map laid_at x.parts ≡ laid_ats a e ks
   pub same : (a : Attrs) → x.laid ≡ Some a → ks ≡ held
   pub parts : AreLaidParts width held x.parts

@@ -6,7 +6,7 @@ ghost use Rattle.tx_tree.specs.WideTree.{size_of};
 ghost use Rattle.tx_origin.specs.Values.{plain};
 ghost use Rattle.tx_exec.specs.Outcomes.{wide_outcome};
 ghost use Rattle.tx_walk.specs.Walked.{paths_of};
-ghost use Rattle.tx_view_form.specs.Outcomes.{Moment, value_of};
+ghost use Rattle.tx_view_form.specs.Outcomes.{Moment, unit_value};
 ghost use Rattle.tx_view_form.specs.Views.{paragraphs_at};
 ghost use Rattle.tx_bridge.specs.Entries.{outcome_of};
 ghost use Rattle.tx_bridge.specs.HeldParts.{kept_parts, flags_of_parts};
@@ -45,7 +45,7 @@ pub fn lay_unit<L: Ledger>(
 ) -> Result<u64, Memory>
     requires least_width { 20 ≤ width }
     requires most_width { width ≤ 500 }
-    requires small { size_of (plain (value_of (wide_outcome outcome.now))) ≤ 1000000 }
+    requires small { size_of (plain (unit_value (wide_outcome outcome.now))) ≤ 1000000 }
     requires placed { IsPlaced unit.now }
     requires distinct { IsDistinct bytes_eq (paths_of parts.now) }
     requires fresh { (m : Moment) × (wide_outcome outcome.now ≡ outcome_of m unit.now)
@@ -56,13 +56,13 @@ pub fn lay_unit<L: Ledger>(
         (kept_parts parts.now) (flags_of_parts parts.now) shown.new) }
     ensures laid { OnOk result (shown.new.laid ≡ Some attrs) }
     ensures shown { OnOk result
-        (IsLaidOut width attrs (value_of (wide_outcome outcome.now)) unit.now.path shown.new) }
+        (IsLaidOut width attrs (unit_value (wide_outcome outcome.now)) unit.now.path shown.new) }
     ensures readable { OnOk result (IsReadable shown.new) }
     ensures items { IfOk result (λ n. n ≡ unit_items_anew attrs
         (record { unit = unit.now; trace = wide_outcome outcome.now }) (kept_parts parts.now)
         (flags_of_parts parts.now) (map laid_at shown.old.parts)) }
     ensures within { IfOk result
-        (λ n. n ≤ items_in (paragraphs_at unit.now.path attrs (value_of (wide_outcome outcome.now)))) }
+        (λ n. n ≤ items_in (paragraphs_at unit.now.path attrs (unit_value (wide_outcome outcome.now)))) }
     ensures counted { IfOk result (λ n. steps.new ≡ steps.old + n) }
     ensures err { OnErr result (shown.new ≡ shown.old) }
 {

@@ -5,7 +5,7 @@ ghost use Rattle.tx_origin.specs.Values.{plain};
 ghost use Rattle.tx_exec.specs.Outcomes.{wide_outcome};
 ghost use Rattle.tx_items.specs.Shows.{shown_paragraphs};
 ghost use Rattle.tx_items.specs.declared.attributes.Attrs.{Attrs};
-ghost use Rattle.tx_view_form.specs.Outcomes.{value_of};
+ghost use Rattle.tx_view_form.specs.Outcomes.{unit_value};
 ghost use Rattle.tx_view_form.specs.Views.{IsShown, paragraphs_at};
 ghost use Rattle.tx_view_form.specs.Weights.{weight_of};
 ghost use Rattle.tx_part_layout.specs.LaidParts.{items_in};
@@ -26,8 +26,8 @@ use tx_view_form::{short_law, weight_laws};
 
 /// A law: what a unit that comes to this shows weighs at most 242 for each unit of its size.
 pub fn outcome_weight_law(outcome: &Outcome)
-    ensures { (a : Attrs) → weight_of (shown_paragraphs a (value_of (wide_outcome outcome.now)))
-        ≤ 242 * size_of (plain (value_of (wide_outcome outcome.now))) }
+    ensures { (a : Attrs) → weight_of (shown_paragraphs a (unit_value (wide_outcome outcome.now)))
+        ≤ 242 * size_of (plain (unit_value (wide_outcome outcome.now))) }
 {
     weight_laws();
     if let Outcome::Done(trace) = outcome {

@@ -17,7 +17,7 @@ use Rattle.tx_tree.specs.WideTree.{WideTree, leaf, node, nil, cons, trees, child
 use Rattle.tx_tree.specs.WideTree.{widest}
 use Rattle.tx_tree.proofs.Children.{count-trees}
 use Rattle.std.proofs.lemmas.List.Quantifiers.{position-Some}
-use Rattle.tx_units.specs.BaseStyle.{tag, assign, base_style}
+use Rattle.tx_units.specs.BaseStyle.{tag, assign_tag, base_style}
 use Rattle.tx_units.specs.declared.kinds.UnitKind.TheVariants.{Style, Initial}
 use Rattle.tx_units.specs.Documents.{is_document, section, names_in, each_once, style_names, entries, paragraphs_in}
 use Rattle.tx_units.specs.Documents.{paragraphs}
@@ -311,7 +311,7 @@ few_entry (node label nil) = omega arith
 few_entry (node label (cons x nil)) = omega arith
 few_entry (node label (cons x (cons v nil))) = by (bytes_eq label (codes "associate"))
   where
-    by : (b : Bool) → length (if b then unit Initial (assign x (tag (codes "quote") (v ∷ []))) ∷ [] else []) ≤ 1
+    by : (b : Bool) → length (if b then unit Initial (assign_tag x (tag (codes "quote") (v ∷ []))) ∷ [] else []) ≤ 1
     by true = omega arith
     by false = omega arith
 few_entry (node label (cons x (cons v (cons y ts)))) = omega arith

@@ -9,7 +9,7 @@ use Rattle.std.specs.Str.{bytes_eq}
 use Rattle.tx_tree.specs.WideTree.{WideTree, leaf, node, nil, cons}
 use Rattle.tx_doc.specs.Buffers.{tree_of, number_of}
 use Rattle.tx_doc.specs.declared.buffer.Buffer.{Buffer}
-use Rattle.tx_units.specs.BaseStyle.{tag, assign, base_style}
+use Rattle.tx_units.specs.BaseStyle.{tag, assign_tag, base_style}
 use Rattle.tx_units.specs.Documents.{style_names, entries, paragraphs}
 use Rattle.tx_units.specs.declared.kinds.Unit.{Unit as DocUnit}
 use Rattle.tx_units.specs.declared.kinds.UnitKind.TheVariants.{Base, Style, Initial}
@@ -35,7 +35,7 @@ all_flat f h (x ∷ xs) = all_both (f x) (flat_map f xs) (h x) (all_flat f h xs)
 
 base_front : AllByRecursion NoPath base_units
 unfolding base_units
-base_front = mapped (λ row. unit Base (assign (leaf row.0) row.1)) (λ row. refl) base_style
+base_front = mapped (λ row. unit Base (assign_tag (leaf row.0) row.1)) (λ row. refl) base_style
 
 named_front : (styles : List Buffer) (name : List ℕ) → AllByRecursion NoPath (named_units styles name)
 named_front styles name = pick (bytes_eq name (codes "generic"))
@@ -58,7 +58,7 @@ entry_front (node label (cons x nil)) = tt
 entry_front (node label (cons x (cons v nil))) = pick (bytes_eq label (codes "associate"))
   where
     pick : (b : Bool)
-        → AllByRecursion NoPath (cond b (unit Initial (assign x (tag (codes "quote") (v ∷ []))) ∷ []) [])
+        → AllByRecursion NoPath (cond b (unit Initial (assign_tag x (tag (codes "quote") (v ∷ []))) ∷ []) [])
     pick true = (refl, tt)
     pick false = tt
 entry_front (node label (cons x (cons v (cons w ts)))) = tt

@@ -9,7 +9,7 @@ use Rattle.std.proofs.lemmas.List.{append-nil, take_more}
 use Rattle.std.proofs.lemmas.List.Elements.{filter-append, filter_map-append}
 use Rattle.std.proofs.lemmas.Map.Views.{any-filter_same}
 use Rattle.tx_tree.specs.WideTree.{WideTree, text_of}
-use Rattle.tx_units.specs.Documents.{each_once, put}
+use Rattle.tx_units.specs.Documents.{each_once, put_name}
 
 abbrev Names : Type 0
 Names = List (List ℕ)
@@ -20,7 +20,7 @@ is_other m n = not (bytes_eq n m)
 
 -- where n is m, it goes with it
 goes : (m n : List ℕ) (ks : Names) → bytes_eq n m ≡ true
-    → filter (is_other m) (put ks (Some n)) ≡ filter (is_other m) ks
+    → filter (is_other m) (put_name ks (Some n)) ≡ filter (is_other m) ks
 goes m n ks e = by (list_any (bytes_eq n) ks)
   where
     by : (b : Bool) → filter (is_other m) (if b then ks else ks ++ n ∷ []) ≡ filter (is_other m) ks
@@ -32,7 +32,7 @@ goes m n ks e = by (list_any (bytes_eq n) ks)
 
 -- where n is another name, it stays
 stays : (m n : List ℕ) (ks : Names) → bytes_eq n m ≡ false
-    → filter (is_other m) (put ks (Some n)) ≡ put (filter (is_other m) ks) (Some n)
+    → filter (is_other m) (put_name ks (Some n)) ≡ put_name (filter (is_other m) ks) (Some n)
 stays m n ks e = by (list_any (bytes_eq n) ks) ∙ ap (λ b. if b then kept else kept ++ n ∷ []) (sym same_any)
   where
     kept : Names
@@ -51,7 +51,7 @@ stays m n ks e = by (list_any (bytes_eq n) ks) ∙ ap (λ b. if b then kept else
     by false = filter-append (is_other m) ks (n ∷ []) ∙ ap (λ b. filter (is_other m) ks ++ cond (not b) (n ∷ []) []) e
 
 -- one name more
-pub once_more : (names : Names) (n : List ℕ) → each_once (names ++ n ∷ []) ≡ put (each_once names) (Some n)
+pub once_more : (names : Names) (n : List ℕ) → each_once (names ++ n ∷ []) ≡ put_name (each_once names) (Some n)
 once_more [] n = refl
 once_more (m ∷ ms) n = ap (λ ks. m ∷ filter (is_other m) ks) (once_more ms n) ∙ by (bytes_eq n m) refl
   where
@@ -59,7 +59,7 @@ once_more (m ∷ ms) n = ap (λ ks. m ∷ filter (is_other m) ks) (once_more ms 
     rest = filter (is_other m) (each_once ms)
 
     by : (b : Bool) → bytes_eq n m ≡ b
-        → m ∷ filter (is_other m) (put (each_once ms) (Some n))
+        → m ∷ filter (is_other m) (put_name (each_once ms) (Some n))
         ≡ (if b || list_any (bytes_eq n) (filter (is_other m) (each_once ms)) then m ∷ filter (is_other m)
         (each_once ms) else m ∷ (filter (is_other m) (each_once ms) ++ n ∷ []))
     by true e = ap (λ ks. m ∷ ks) (goes m n (each_once ms) e)
@@ -80,13 +80,13 @@ name_more ts i t lt is =
     ∙ filter_map-append text_of (take i ts) (t ∷ [])
 
 pub name_next : (ts : List WideTree) (i : ℕ) (t : WideTree) (old new : Names) → i < length ts → t ≡ get_or ts i t
-    → old ≡ each_once (filter_map text_of (take i ts)) → new ≡ put old (text_of t)
+    → old ≡ each_once (filter_map text_of (take i ts)) → new ≡ put_name old (text_of t)
     → new ≡ each_once (filter_map text_of (take (i + 1) ts))
 name_next ts i t old new lt is so more =
-    more ∙ ap (λ ks. put ks (text_of t)) so ∙ by (text_of t) ∙ ap each_once (sym (name_more ts i t lt is))
+    more ∙ ap (λ ks. put_name ks (text_of t)) so ∙ by (text_of t) ∙ ap each_once (sym (name_more ts i t lt is))
   where
     by : (o : Option (List ℕ))
-        → put (each_once (filter_map text_of (take i ts))) o ≡ each_once
+        → put_name (each_once (filter_map text_of (take i ts))) o ≡ each_once
         (filter_map text_of (take i ts) ++ cons_option o [])
     by None = ap each_once (sym (append-nil (filter_map text_of (take i ts))))
     by (Some n) = sym (once_more (filter_map text_of (take i ts)) n)

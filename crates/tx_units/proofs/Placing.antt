@@ -9,7 +9,7 @@ use Rattle.tx_doc.specs.Bodies.{body_of}
 use Rattle.tx_tree.specs.Paths.{subtree}
 use Rattle.tx_tree.specs.WideTree.{WideTree, children_of}
 use Rattle.tx_units.specs.Documents.{is_document}
-use Rattle.tx_units.specs.Places.{StandsIn, AreApart, NoneBegins}
+use Rattle.tx_units.specs.Places.{UnitStandsIn, AreApart, NoneBegins}
 use Rattle.tx_units.specs.Units.{body_unit, units_at, body_units}
 
 -- a child of what stands at a path stands behind it
@@ -29,7 +29,7 @@ below t s c (k ∷ path) i e h = by (slice_get (children_of t) k) e (λ u f. bel
 module _ (path : List ℕ) where
   all_stand : (t : WideTree) (k : ℕ) (ts : List WideTree)
       → ((j : ℕ) (c : WideTree) → slice_get ts j ≡ Some c → subtree t (path ++ (k + j) ∷ []) ≡ Some c)
-      → AllByRecursion (StandsIn t) (map (λ p. body_unit p.1 (path ++ p.0 ∷ [])) (enumerate_from k ts))
+      → AllByRecursion (UnitStandsIn t) (map (λ p. body_unit p.1 (path ++ p.0 ∷ [])) (enumerate_from k ts))
   all_stand t k [] h = tt
   all_stand t k (c ∷ ts) h =
       let here : k + 0 ≡ k = omega arith in (
@@ -86,10 +86,10 @@ module _ (path : List ℕ) where
 -- ---- any body
 
 stand_at : (t body : WideTree) (path : List ℕ) → subtree t path ≡ Some body
-    → AllByRecursion (StandsIn t) (units_at path body)
+    → AllByRecursion (UnitStandsIn t) (units_at path body)
 stand_at t body path e = by (is_document body)
   where
-    by : (b : Bool) → AllByRecursion (StandsIn t)
+    by : (b : Bool) → AllByRecursion (UnitStandsIn t)
         (if b then map (λ p. body_unit p.1 (path ++ p.0 ∷ [])) (enumerate_from 0 (children_of body)) else body_unit body
         path ∷ [])
     by true = all_stand path t 0 (children_of body) (λ j c h. let on : 0 + j ≡ j = omega arith in
@@ -105,16 +105,17 @@ apart_at body path = by (is_document body)
     by true = all_apart path 0 (children_of body)
     by false = (tt, tt)
 
-pub body_stands : (t : WideTree) → AllByRecursion (StandsIn t) (body_units t)
+pub body_stands : (t : WideTree) → AllByRecursion (UnitStandsIn t) (body_units t)
 body_stands t = by (body_of t)
   where
     there : (path : List ℕ) (o : Option WideTree) → subtree t path ≡ o
-        → AllByRecursion (StandsIn t) (option_map_or (units_at path) o [])
+        → AllByRecursion (UnitStandsIn t) (option_map_or (units_at path) o [])
     there path None e = tt
     there path (Some s) e = stand_at t s path e
 
     by : (o : Option (List ℕ))
-        → AllByRecursion (StandsIn t) (option_map_or (λ path. option_map_or (units_at path) (subtree t path) []) o [])
+        → AllByRecursion (UnitStandsIn t)
+        (option_map_or (λ path. option_map_or (units_at path) (subtree t path) []) o [])
     by None = tt
     by (Some path) = there path (subtree t path) refl
 

@@ -17,7 +17,7 @@ use Rattle.tx_tree.specs.TextScan.{is_text, text_step}
 use Rattle.tx_tree.specs.WideTree.{WideTree, Forest, leaf, node, nil, cons}
 use Rattle.tx_tree.specs.WideTree.{size_of, depth_of, arity_of, text_length_of, nodes_of}
 use Rattle.tx_tree.proofs.Scanning.{text_test}
-use Rattle.tx_units.specs.BaseStyle.{assign, base_style}
+use Rattle.tx_units.specs.BaseStyle.{assign_tag, base_style}
 use Rattle.tx_units.specs.BaseTexts.{IsSpelled, AreSpelled, IsOfText, AreOfTexts}
 use Rattle.tx_units.specs.Units.{unit, base_units, nodes_made}
 use Rattle.tx_units.specs.declared.kinds.Unit.{Unit as DocUnit}
@@ -92,7 +92,7 @@ all_same (t ∷ ts) (u ∷ us) e h =
 -- ---- the base style
 
 abbrev pub base_trees : List WideTree
-base_trees = map (λ row. assign (leaf row.0) row.1) base_style
+base_trees = map (λ row. assign_tag (leaf row.0) row.1) base_style
 
 trees_sound : list_all is_sound base_trees ≡ true
 unfolding base_style is_label_byte is_text text_step

@@ -6,8 +6,8 @@ use Rattle.tx_tree.specs.WideTree.{WideTree, leaf, node, forest}
 abbrev pub tag : List ℕ → List WideTree → WideTree
 tag label parts = node label (forest parts)
 
-abbrev pub assign : WideTree → WideTree → WideTree
-assign name value = tag (codes "assign") (name ∷ value ∷ [])
+abbrev pub assign_tag : WideTree → WideTree → WideTree
+assign_tag name value = tag (codes "assign") (name ∷ value ∷ [])
 
 -- ---- the tags that the base style is written with
 
@@ -34,7 +34,7 @@ styled name text t = tag (codes "with") (leaf name ∷ leaf text ∷ t ∷ [])
 
 -- the name has one more than it had
 abbrev counted : List ℕ → WideTree
-counted name = assign (leaf name) (plus (value name) (codes "1"))
+counted name = assign_tag (leaf name) (plus (value name) (codes "1"))
 
 -- what a margin has, and so much more
 abbrev wider : List ℕ → List ℕ → List WideTree
@@ -51,7 +51,7 @@ list_of kind =
 abbrev section : WideTree
 section =
     macro_of (codes "t" ∷ []) (joined (counted (codes "section-nr")
-    ∷ assign (leaf (codes "subsection-nr")) (leaf (codes "0"))
+    ∷ assign_tag (leaf (codes "subsection-nr")) (leaf (codes "0"))
     ∷ styled (codes "font-series") (codes "bold")
     (joined (value (codes "section-nr") ∷ leaf (codes " ") ∷ arg (codes "t") ∷ [])) ∷ []))
 

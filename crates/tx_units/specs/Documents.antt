@@ -30,9 +30,9 @@ each_once [] = []
 each_once (name ∷ names) = name ∷ filter (λ other. not (bytes_eq other name)) (each_once names)
 
 -- the names, and behind them another that isn't one of them
-abbrev pub put : List (List ℕ) → Option (List ℕ) → List (List ℕ)
-put names None = names
-put names (Some name) = if list_any (bytes_eq name) names then names else names ++ name ∷ []
+abbrev pub put_name : List (List ℕ) → Option (List ℕ) → List (List ℕ)
+put_name names None = names
+put_name names (Some name) = if list_any (bytes_eq name) names then names else names ++ name ∷ []
 
 -- the styles that a document with this tree names
 abbrev pub style_names : WideTree → List (List ℕ)

@@ -7,7 +7,7 @@ use Rattle.tx_units.specs.declared.kinds.Unit.{Unit as DocUnit}
 use Rattle.tx_units.specs.declared.kinds.UnitKind.TheVariants.{Body}
 
 -- the unit is a paragraph of the document: its tree stands at its path, and the root is its origin
-pub record StandsIn (document : WideTree) (u : DocUnit) : Type 0 where
+pub record UnitStandsIn (document : WideTree) (u : DocUnit) : Type 0 where
   pub path : List ℕ
   pub has_path : u.path ≡ Some path
   pub leads : subtree document path ≡ Some u.tagged.tree

@@ -8,7 +8,7 @@ use Rattle.tx_tree.specs.Paths.{subtree}
 use Rattle.tx_doc.specs.Bodies.{body_of}
 use Rattle.tx_doc.specs.Buffers.{tree_of, document_of, number_of}
 use Rattle.tx_doc.specs.declared.buffer.Buffer.{Buffer}
-use Rattle.tx_units.specs.BaseStyle.{tag, assign, base_style}
+use Rattle.tx_units.specs.BaseStyle.{tag, assign_tag, base_style}
 use Rattle.tx_units.specs.Documents.{is_document, style_names, entries, paragraphs}
 use Rattle.tx_units.specs.declared.kinds.Unit.{Unit as DocUnit}
 use Rattle.tx_units.specs.declared.kinds.UnitKind.{UnitKind}
@@ -25,7 +25,7 @@ body_unit t path = record { kind = Body; tagged = record { tree = t; at = Some [
 -- ---- the base style
 
 unfoldable pub base_units : List DocUnit
-base_units = map (λ row. unit Base (assign (leaf row.0) row.1)) base_style
+base_units = map (λ row. unit Base (assign_tag (leaf row.0) row.1)) base_style
 
 -- ---- styles
 
@@ -52,7 +52,7 @@ style_units document styles = flat_map (named_units styles) (style_names documen
 -- `(associate X V)` sets X to V as it stands; no other tree is an entry
 abbrev pub entry_units : WideTree → List DocUnit
 entry_units (node label (cons x (cons v nil))) =
-    if bytes_eq label (codes "associate") then unit Initial (assign x (tag (codes "quote") (v ∷ []))) ∷ [] else []
+    if bytes_eq label (codes "associate") then unit Initial (assign_tag x (tag (codes "quote") (v ∷ []))) ∷ [] else []
 entry_units t = []
 
 abbrev pub initial_units : WideTree → List DocUnit

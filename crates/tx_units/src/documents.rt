@@ -4,7 +4,7 @@ ghost use Rattle.std.specs.List.{filter_map, position};
 ghost use Rattle.std.specs.Option.{option_map_or};
 ghost use Rattle.tx_tree.specs.WideTree.{children_of, text_of};
 ghost use Rattle.tx_doc.specs.Bodies.{is_labelled};
-ghost use Rattle.tx_units.specs.Documents.{is_document, section, names_in, each_once, put, style_names, entries};
+ghost use Rattle.tx_units.specs.Documents.{is_document, section, names_in, each_once, put_name, style_names, entries};
 ghost use Rattle.tx_units.specs.Documents.{paragraphs_in, paragraphs};
 
 use indexmap::IndexSet;
@@ -68,7 +68,7 @@ fn style_trees(document: &Tree) -> &[Tree]
 
 // Adds the text of a leaf, unless it is there already.
 fn add_name(names: &mut IndexSet<Text>, tree: &Tree) -> Result<(), Memory>
-    ensures { OnOk result (names.new.keys ≡ put names.old.keys (text_of tree.now)) }
+    ensures { OnOk result (names.new.keys ≡ put_name names.old.keys (text_of tree.now)) }
 {
     match tree.text() {
         None => Ok(()),

@@ -2,7 +2,7 @@
 ghost use Rattle.std.specs.Prelude.{◌≡◌, ◌+◌, ◌≤◌, ◌<◌, max, ◌++◌, ◌∷◌, [], codes, IfOk, OnOk, MatchOption};
 ghost use Rattle.tx_tree.specs.WideTree.{node, cons, nil, size_of, depth_of};
 ghost use Rattle.tx_tree.specs.declared.TheConstants.{MOST_DEPTH, MOST_SIZE};
-ghost use Rattle.tx_units.specs.BaseStyle.{tag, assign};
+ghost use Rattle.tx_units.specs.BaseStyle.{tag, assign_tag};
 ghost use Rattle.tx_units.specs.Units.{unit, entry_units, initial_units, nodes_made};
 ghost use Rattle.tx_units.specs.declared.kinds.UnitKind.TheVariants.{Initial};
 
@@ -61,7 +61,7 @@ fn initial_unit<L: Ledger>(
     requires size { size_of name.now + size_of value.now + 2 ≤ MOST_SIZE }
     requires depth { max (depth_of name.now) (depth_of value.now + 1) + 1 ≤ MOST_DEPTH }
     ensures ok { IfOk result (λ u. u ≡
-        unit Initial (assign name.now (tag (codes "quote") (value.now ∷ [])))) }
+        unit Initial (assign_tag name.now (tag (codes "quote") (value.now ∷ [])))) }
     ensures counted { steps.new ≤ steps.old + 2 }
 {
     let _size = name.size();

@@ -4,7 +4,7 @@ ghost use Rattle.std.specs.List.{AllByRecursion};
 ghost use Rattle.tx_tree.specs.WideTree.{WideTree};
 ghost use Rattle.tx_doc.specs.declared.buffer.Buffer.{Buffer as Named};
 ghost use Rattle.tx_units.specs.Inside.{ChangesOne};
-ghost use Rattle.tx_units.specs.Places.{StandsIn, NoneBegins};
+ghost use Rattle.tx_units.specs.Places.{UnitStandsIn, NoneBegins};
 ghost use Rattle.tx_units.specs.Units.{body_units, units};
 
 use tx_doc::{Buffer, formed_law};
@@ -20,7 +20,7 @@ pub fn unit_count_law(buffers: &[Buffer])
 /// A law: the units of a body are paragraphs of the document, with its root as origin, and their trees stand at their
 /// paths. No path is that of another, or begins one.
 pub fn body_laws()
-    ensures stand { (t : WideTree) → AllByRecursion (StandsIn t) (body_units t) }
+    ensures stand { (t : WideTree) → AllByRecursion (UnitStandsIn t) (body_units t) }
     ensures apart { (t : WideTree) → NoneBegins (body_units t) }
 {}
 

@@ -19,7 +19,7 @@ use Rattle.tx_exec_form.specs.declared.TheConstants.{MOST_LEVELS}
 use Rattle.tx_exec_form.specs.Evaluated.{WideTrace}
 use Rattle.tx_units.specs.declared.kinds.Unit.{Unit as DocUnit}
 use Rattle.tx_items.specs.declared.attributes.Attrs.{Attrs}
-use Rattle.tx_view_form.specs.Outcomes.{Moment, beginning, behind, allowance, outcome, env_behind, value_of}
+use Rattle.tx_view_form.specs.Outcomes.{Moment, beginning, behind, allowance, outcome, env_behind, unit_value}
 use Rattle.tx_view_form.specs.Outcomes.{over_value}
 use Rattle.tx_view_form.specs.Started.{attributes_of}
 use Rattle.tx_view_form.specs.Views.{IsShown, AreShown}
@@ -133,10 +133,11 @@ shown_from width m (e ∷ es) (ks ∷ pss) (fs ∷ fss) (x ∷ xs) laid fresh is
     let next : Moment = behind m (outcome_of m e.unit) in
     let one = heads e (entry_at m e.unit) es (fresh_from next (units_of es)) fresh in
     let two = heads x.laid (Some (attributes_of m.env)) (laid_in xs) (attributes_from next (units_of es)) is in
-    let out : IsLaidOut width (attributes_of m.env) (value_of e.trace) e.unit.path x =
+    let out : IsLaidOut width (attributes_of m.env) (unit_value e.trace) e.unit.path x =
     laid.0.laid.laid (attributes_of m.env) two.0 in
     let trace : e.trace ≡ outcome_of m e.unit = ap (λ (k : Entry). k.trace) one.0 in (
-      subst (λ (o : Option WideTrace). IsShown width (attributes_of m.env) (value_of o) e.unit.path (unit_view x)) trace
+      subst (λ (o : Option WideTrace). IsShown width (attributes_of m.env) (unit_value o) e.unit.path
+          (unit_view x)) trace
           out.shown,
       shown_from width next es pss fss xs laid.1 one.1 two.1,
     )
@@ -277,7 +278,7 @@ comes_to {b} {i} {e} {ks} {fs} at fresh anew =
     at_moment beginning b.kept b.parts i e ks fresh anew at.entry at.parts
 
 pub small_value : AllSmall → AllAllowed → (m : Moment) (u : DocUnit) (o : Option WideTrace) → o ≡ outcome_of m u
-    → size_of (plain (value_of o)) ≤ 1000000
+    → size_of (plain (unit_value o)) ≤ 1000000
 unfolding outcome
 small_value small allowed m u None e =
     let seven : size_of (plain over_value) ≡ 7 = refl in omega (arith, seven)

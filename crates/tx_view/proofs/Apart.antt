@@ -9,7 +9,7 @@ use Rattle.tx_tree.specs.WideTree.{WideTree, leaf, node, nil, cons}
 use Rattle.tx_origin.specs.TaggedTrees.{tagged_of}
 use Rattle.tx_doc.specs.Buffers.{tree_of, document_of, number_of}
 use Rattle.tx_doc.specs.declared.buffer.Buffer.{Buffer}
-use Rattle.tx_units.specs.BaseStyle.{tag, assign, base_style}
+use Rattle.tx_units.specs.BaseStyle.{tag, assign_tag, base_style}
 use Rattle.tx_units.specs.Documents.{style_names, entries, paragraphs}
 use Rattle.tx_units.specs.declared.kinds.Unit.{Unit as DocUnit}
 use Rattle.tx_units.specs.declared.kinds.UnitKind.TheVariants.{Base, Style, Initial}
@@ -40,7 +40,7 @@ all_flat f h (x ∷ xs) = all_both HasNoPath (f x) (flat_map f xs) (h x) (all_fl
 
 base_bare : HaveNoPath base_units
 unfolding base_units
-base_bare = mapped (λ row. unit Base (assign (leaf row.0) row.1)) (λ row. refl) base_style
+base_bare = mapped (λ row. unit Base (assign_tag (leaf row.0) row.1)) (λ row. refl) base_style
 
 named_bare : (styles : List Buffer) (name : List ℕ) → HaveNoPath (named_units styles name)
 named_bare styles name = pick (bytes_eq name (codes "generic"))
@@ -62,7 +62,7 @@ entry_bare (node label nil) = tt
 entry_bare (node label (cons x nil)) = tt
 entry_bare (node label (cons x (cons v nil))) = pick (bytes_eq label (codes "associate"))
   where
-    pick : (b : Bool) → HaveNoPath (cond b (unit Initial (assign x (tag (codes "quote") (v ∷ []))) ∷ []) [])
+    pick : (b : Bool) → HaveNoPath (cond b (unit Initial (assign_tag x (tag (codes "quote") (v ∷ []))) ∷ []) [])
     pick true = (refl, tt)
     pick false = tt
 entry_bare (node label (cons x (cons v (cons w ts)))) = tt

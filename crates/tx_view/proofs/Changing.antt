@@ -11,9 +11,9 @@ use Rattle.tx_tree.specs.WideTree.{WideTree, leaf, node, trees, children_of, lab
 use Rattle.tx_tree.specs.Paths.{subtree}
 use Rattle.tx_tree.proofs.Children.{trees_forest}
 use Rattle.tx_mod.specs.declared.mods.Mod.{Mod}
-use Rattle.tx_mod.specs.Mods.{path_of, with_child, replaced}
+use Rattle.tx_mod.specs.Mods.{path_of, with_child_at, replaced}
 use Rattle.tx_mod.specs.Changes.{Outcome, changed}
-use Rattle.tx_mod.specs.Followed.{tree_of, changed_by_all}
+use Rattle.tx_mod.specs.Followed.{outcome_tree, changed_by_all}
 use Rattle.tx_mod.proofs.Back.{made_of}
 use Rattle.tx_mod.proofs.Replacing.{down, replaced_down}
 use Rattle.tx_units.specs.Inside.{AreSameBut}
@@ -22,11 +22,11 @@ use Rattle.tx_bridge.specs.InPlace.{begins, is_gone, are_within}
 
 -- ---- one subtree replaced
 
-with_label : (t w : WideTree) (i : ℕ) → label_of (with_child t i w) ≡ label_of t
+with_label : (t w : WideTree) (i : ℕ) → label_of (with_child_at t i w) ≡ label_of t
 with_label (leaf text) w i = refl
 with_label (node l ts) w i = refl
 
-with_children : (t w : WideTree) (i : ℕ) → children_of (with_child t i w) ≡ set (children_of t) i w
+with_children : (t w : WideTree) (i : ℕ) → children_of (with_child_at t i w) ≡ set (children_of t) i w
 with_children (leaf text) w i = refl
 with_children (node l ts) w i = trees_forest (set (trees ts) i w)
 
@@ -37,7 +37,7 @@ same_beside [] rest t x v e = tt
 same_beside (i ∷ p) rest t x v e =
     let d = down t i (p ++ rest) x e in
     let w : WideTree = replaced d.child (p ++ rest) v in
-    let is : replaced t (i ∷ (p ++ rest)) v ≡ with_child t i w = replaced_down t d.child i (p ++ rest) v d.found in (
+    let is : replaced t (i ∷ (p ++ rest)) v ≡ with_child_at t i w = replaced_down t d.child i (p ++ rest) v d.found in (
       d.child,
       w,
       record {
@@ -87,7 +87,8 @@ beside_step m ms t u p inside next made = by (changed m t) refl made
     both : (begins p (path_of m) ≡ true) × (are_within p ms ≡ true)
     both = and_parts (begins p (path_of m)) (are_within p ms) inside
 
-    by : (o : Outcome) → changed m t ≡ o → option_and_then (changed_by_all ms) (tree_of o) ≡ Some u → AreSameBut p t u
+    by : (o : Outcome) → changed m t ≡ o → option_and_then (changed_by_all ms) (outcome_tree o) ≡ Some u
+        → AreSameBut p t u
     by (Ok v) one h = next v (one_beside m t v p both.0 one) both.1 h
     by (Err cause) one h = absurd cc
 

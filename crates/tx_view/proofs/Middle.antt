@@ -13,7 +13,7 @@ use Rattle.std.proofs.lemmas.List.Folds.{list_any_at, list_any_more}
 use Rattle.std.proofs.lemmas.List.Sums.{fold-append}
 use Rattle.std.proofs.lemmas.Slice.Eq.{bytes_eq-Decides}
 use Rattle.tx_tree.specs.declared.places.Place.{Place}
-use Rattle.tx_view_form.specs.Stops.{put, each_once}
+use Rattle.tx_view_form.specs.Stops.{put_place, each_once}
 use Rattle.tx_tree.specs.SamePlaces.{same_place, stop_number}
 use Rattle.tx_origin.specs.RelativePlaces.{BasedPlace}
 use Rattle.tx_view.specs.Marks.{spot_place, spot_places}
@@ -45,7 +45,7 @@ pub between_next : (raw : List Place) (from i : ℕ) (q : Place) (now new : List
 between_next raw from i q now new lt is so more =
     let before : List Place = each_once (take from raw) in
     ap each_once (take_more raw i q lt ∙ ap (λ y. take i raw ++ y ∷ []) (sym is))
-    ∙ fold-append put [] (take i raw) (q ∷ [])
+    ∙ fold-append put_place [] (take i raw) (q ∷ [])
     ∙ ap (λ b. cond b (each_once (take i raw)) (each_once (take i raw) ++ q ∷ []))
     (once_any same_place same_is q (take i raw))
     ∙ ap (λ ps. cond (list_any (same_place q) (take i raw)) ps (ps ++ q ∷ [])) so
@@ -60,7 +60,7 @@ rest_of : (raw : List Place) (to : ℕ) (front : List Place) → each_once (take
 rest_of raw to front e =
     let more = folded_more same_place (each_once (take to raw)) (drop to raw) in (
       more.0,
-      ap each_once (sym (take-append-drop to raw)) ∙ fold-append put [] (take to raw) (drop to raw) ∙ more.1
+      ap each_once (sym (take-append-drop to raw)) ∙ fold-append put_place [] (take to raw) (drop to raw) ∙ more.1
           ∙ ap (λ ps. ps ++ more.0) e,
       λ le. more.2 (drop_all to raw le),
     )

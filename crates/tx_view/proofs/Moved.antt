@@ -17,7 +17,7 @@ use Rattle.tx_units.specs.declared.kinds.Unit.{Unit as DocUnit}
 use Rattle.tx_items.specs.declared.attributes.Attrs.{Attrs}
 use Rattle.tx_items.specs.declared.drawing.Paragraph.{Paragraph}
 use Rattle.tx_layout.specs.declared.layout.Line.{Line}
-use Rattle.tx_view_form.specs.Outcomes.{value_of}
+use Rattle.tx_view_form.specs.Outcomes.{unit_value}
 use Rattle.tx_view_form.specs.Views.{paragraphs_at}
 use Rattle.tx_bridge.specs.Entries.{Entry, Kept, units_of, traces_of}
 use Rattle.tx_bridge.specs.Carrying.{unit_places_after, sources_from, had, taken_from, mods_of, HaveSameTrees}
@@ -255,7 +255,7 @@ one_moved width old pss olds kss placed all moves j (Some i) v x laid move blank
         record {
           path = blank.path_is;
           laid = λ a is.
-              out_there width a (value_of e.trace) e.unit.path v.path x.path y (sym both.1) blank.path_is
+              out_there width a (unit_value e.trace) e.unit.path v.path x.path y (sym both.1) blank.path_is
               (h.0.laid a is);
           by_parts = λ a is. h.0.by_parts a is ∙ same_ats a ks e.trace e.unit v both.0 both.1;
           same = λ a is. refl;

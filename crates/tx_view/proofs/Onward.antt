@@ -21,7 +21,7 @@ use Rattle.tx_units.specs.declared.kinds.Unit.{Unit as DocUnit}
 use Rattle.tx_items.specs.declared.attributes.Attrs.{Attrs}
 use Rattle.tx_items.specs.declared.drawing.Paragraph.{Paragraph}
 use Rattle.tx_items.specs.Shows.{shown_paragraphs}
-use Rattle.tx_view_form.specs.Outcomes.{Moment, beginning, behind, value_of, over_value}
+use Rattle.tx_view_form.specs.Outcomes.{Moment, beginning, behind, unit_value, over_value}
 use Rattle.tx_view_form.specs.Started.{attributes_of}
 use Rattle.tx_view_form.specs.Views.{UnitView, IsShown, AreShown, lines_of, paragraphs_at}
 use Rattle.tx_view_form.specs.Errors.{errors_of}
@@ -207,15 +207,15 @@ entry_is m e trace = ap (λ (t : Option WideTrace). record { unit = e.unit; trac
 pub next_is : ((a : Attrs) → weight_of (shown_paragraphs a over_value) ≤ 49)
     → ((ps : List Paragraph) → length (flat_map (λ p. p.items) ps) ≤ weight_of ps) → (width : ℕ) (e : Entry)
     (ks : KeptParts) (fs : List Bool) (m after : Moment) (x y : Shown) (a : Attrs) (n : ℕ)
-    → ((b : Attrs) → weight_of (shown_paragraphs b (value_of e.trace)) ≤ 242 * size_of (plain (value_of e.trace)))
+    → ((b : Attrs) → weight_of (shown_paragraphs b (unit_value e.trace)) ≤ 242 * size_of (plain (unit_value e.trace)))
     → e.trace ≡ outcome_of m e.unit → ks ≡ fresh_parts m e.unit → a ≡ attributes_of m.env
-    → after ≡ behind m e.trace → IsPaid m after (value_of e.trace) → WasLaid width e ks fs y → y.laid ≡ Some a
+    → after ≡ behind m e.trace → IsPaid m after (unit_value e.trace) → WasLaid width e ks fs y → y.laid ≡ Some a
     → n ≡ (if is_before x.laid a then 0 else unit_items_anew a e ks fs (map laid_at x.parts))
-    → n ≤ items_in (paragraphs_at e.unit.path a (value_of e.trace))
+    → n ≤ items_in (paragraphs_at e.unit.path a (unit_value e.trace))
     → IsNext width e ks fs m after x y n
 next_is over law width e ks fs m after x y a n weight trace parts is_a is_after paid was is_laid is_n within =
     let b : Attrs = attributes_of m.env in
-    let v : WideValue = value_of e.trace in
+    let v : WideValue = unit_value e.trace in
     let laid_for : y.laid ≡ Some b = is_laid ∙ ap Some is_a in
     let here : IsLaidOut width b v e.unit.path y = was.laid.laid b laid_for in
     let few : items_in (paragraphs_at e.unit.path a v) ≤ weight_of (shown_paragraphs a v) =
@@ -389,9 +389,9 @@ module _ (width : ℕ) (b : Bridged) (old now : List Shown) (i : ℕ) (m : Momen
     shown_next : (others : List UnitView) → AreShown width m1 (units_of rest) others
         → AreShown width beginning (units_of b.kept) (unit_views (take (i + 1) new) ++ others)
     shown_next others later =
-        let one : IsShown width (attributes_of m.env) (value_of (outcome_of m e.unit)) e.unit.path (unit_view y) =
+        let one : IsShown width (attributes_of m.env) (unit_value (outcome_of m e.unit)) e.unit.path (unit_view y) =
         subst (λ (o : Option WideTrace).
-        IsShown width (attributes_of m.env) (value_of o) e.unit.path (unit_view y)) trace_is n.laid_out.shown in
+        IsShown width (attributes_of m.env) (unit_value o) e.unit.path (unit_view y)) trace_is n.laid_out.shown in
         let after_it : AreShown width behind_it (units_of rest) others =
         subst (λ (k : Moment). AreShown width k (units_of rest) others) n.behind_is later in
         let both : AreShown width m (units_of (e ∷ rest)) (unit_view y ∷ others) = (one, after_it) in

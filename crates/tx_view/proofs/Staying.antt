@@ -13,7 +13,7 @@ use Rattle.tx_units.specs.declared.kinds.Unit.{Unit as DocUnit}
 use Rattle.tx_items.specs.declared.attributes.Attrs.{Attrs}
 use Rattle.tx_items.specs.declared.drawing.Paragraph.{Paragraph}
 use Rattle.tx_layout.specs.declared.layout.Line.{Line}
-use Rattle.tx_view_form.specs.Outcomes.{value_of}
+use Rattle.tx_view_form.specs.Outcomes.{unit_value}
 use Rattle.tx_part_items.specs.ItemsUnder.{paragraph_under}
 use Rattle.tx_part_layout.specs.LaidParts.{laid_paths, placed_lines}
 use Rattle.tx_part_layout.specs.LinesUnder.{line_under}
@@ -128,11 +128,11 @@ one_stays : (width : ℕ) (e : Entry) (ks : KeptParts) (v : DocUnit) (o : Option
 one_stays width e ks v o y x laid same path tree is = record {
   path = ap (λ (z : Shown). z.path) same ∙ laid.path ∙ sym path;
   laid = λ a there.
-      let out : IsLaidOut width a (value_of e.trace) e.unit.path y =
+      let out : IsLaidOut width a (unit_value e.trace) e.unit.path y =
       laid.laid a (ap (λ (z : Shown). z.laid) (sym same) ∙ there) in
-      subst (λ r. IsLaidOut width a (value_of r) v.path x) (sym is)
-      (subst (λ p. IsLaidOut width a (value_of e.trace) p x) (sym path)
-      (subst (IsLaidOut width a (value_of e.trace) e.unit.path) (sym same) out));
+      subst (λ r. IsLaidOut width a (unit_value r) v.path x) (sym is)
+      (subst (λ p. IsLaidOut width a (unit_value e.trace) p x) (sym path)
+      (subst (IsLaidOut width a (unit_value e.trace) e.unit.path) (sym same) out));
   by_parts = λ a there.
       ap (λ (z : Shown). map laid_at z.parts) same ∙ laid.by_parts a (ap (λ (z : Shown). z.laid) (sym same) ∙ there)
       ∙ same_ats a ks e.trace e.unit v tree (ap is_some path) ∙ ap (λ r. laid_ats a (entry v r) ks) (sym is);

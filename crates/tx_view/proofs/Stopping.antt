@@ -17,7 +17,7 @@ use Rattle.tx_items.specs.declared.drawing.Paragraph.{Paragraph}
 use Rattle.tx_text.specs.declared.cutting.Cluster.{Cluster}
 use Rattle.tx_part_items.specs.ItemsUnder.{item_under, paragraph_under}
 use Rattle.tx_view_form.specs.Positions.{Mark, IsShort, mark_by, mark_of, marks_of}
-use Rattle.tx_view_form.specs.Stops.{put, each_once, mark_place, unit_stops, stops_by}
+use Rattle.tx_view_form.specs.Stops.{put_place, each_once, mark_place, unit_stops, stops_by}
 use Rattle.tx_unit_layout.specs.Stretches.{WideStretch, stretches, stretch_paragraphs}
 use Rattle.tx_unit_layout.specs.Views.{unit_view}
 use Rattle.tx_unit_layout.specs.declared.shown.Shown.{Shown}
@@ -85,11 +85,11 @@ unit_added xs i x now new lt is so more =
 
 -- the stop of one spot more is put
 pub spot_put : (ss : List BasedPlace) (i : ℕ) (s : BasedPlace) (now new : List Place) → i < length ss
-    → s ≡ get_or ss i s → now ≡ each_once (spot_places (take i ss)) → new ≡ put now (spot_place s)
+    → s ≡ get_or ss i s → now ≡ each_once (spot_places (take i ss)) → new ≡ put_place now (spot_place s)
     → new ≡ each_once (spot_places (take (i + 1) ss))
 spot_put ss i s now new lt is so more =
-    more ∙ ap (λ ps. put ps (spot_place s)) so
-    ∙ sym (fold-append put [] (spot_places (take i ss)) (spot_place s ∷ []))
+    more ∙ ap (λ ps. put_place ps (spot_place s)) so
+    ∙ sym (fold-append put_place [] (spot_places (take i ss)) (spot_place s ∷ []))
     ∙ ap each_once (sym (ap spot_places (take_more ss i s lt ∙ ap (λ y. take i ss ++ y ∷ []) (sym is))
     ∙ map_push spot_place (take i ss) s))
 

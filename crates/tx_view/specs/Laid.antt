@@ -8,7 +8,7 @@ use Rattle.tx_env.specs.Environments.{NameMap}
 use Rattle.tx_mod.specs.declared.mods.Mod.{Mod}
 use Rattle.tx_units.specs.declared.kinds.Unit.{Unit as DocUnit}
 use Rattle.tx_items.specs.declared.attributes.Attrs.{Attrs}
-use Rattle.tx_view_form.specs.Outcomes.{Moment, behind, env_behind, value_of}
+use Rattle.tx_view_form.specs.Outcomes.{Moment, behind, env_behind, unit_value}
 use Rattle.tx_view_form.specs.Positions.{IsShort}
 use Rattle.tx_view_form.specs.Started.{attributes_of}
 use Rattle.tx_bridge.specs.Bridged.{Bridged}
@@ -111,7 +111,7 @@ without (f ∷ fs) (x ∷ xs) = unlaid f x ∷ without fs xs
 pub record IsNext (width : ℕ) (e : Entry) (ks : KeptParts) (fs : List Bool) (before after : Moment) (x y : Shown)
     (items : ℕ) : Type 0 where
   pub behind_is : after ≡ behind before (outcome_of before e.unit)
-  pub laid_out : IsLaidOut width (attributes_of before.env) (value_of e.trace) e.unit.path y
+  pub laid_out : IsLaidOut width (attributes_of before.env) (unit_value e.trace) e.unit.path y
   pub attributes : y.laid ≡ Some (attributes_of before.env)
   pub was_laid : WasLaid width e ks fs y
   pub lines : length (unit_view y).lines + 242 * after.left ≤ 242 * before.left + 49

@@ -7,7 +7,7 @@ ghost use Rattle.tx_origin.specs.Values.{plain};
 ghost use Rattle.tx_env.specs.Environments.{NameMap};
 ghost use Rattle.tx_exec.specs.Outcomes.{wide_outcome};
 ghost use Rattle.tx_items.specs.declared.attributes.Attrs.{Attrs};
-ghost use Rattle.tx_view_form.specs.Outcomes.{Moment as WideMoment, beginning, env_behind, value_of};
+ghost use Rattle.tx_view_form.specs.Outcomes.{Moment as WideMoment, beginning, env_behind, unit_value};
 ghost use Rattle.tx_view_form.specs.Started.{attributes_of};
 ghost use Rattle.tx_view_form.specs.Views.{AreShown, lines_of, paragraphs_at};
 ghost use Rattle.tx_view_form.specs.Errors.{errors_of};
@@ -54,7 +54,7 @@ fn lay<L: Ledger>(
 ) -> Result<u64, Memory>
     requires least_width { 20 ≤ width }
     requires most_width { width ≤ 500 }
-    requires small { size_of (plain (value_of (wide_outcome outcome.now))) ≤ 1000000 }
+    requires small { size_of (plain (unit_value (wide_outcome outcome.now))) ≤ 1000000 }
     requires placed { IsPlaced unit.now }
     requires distinct { IsDistinct bytes_eq (paths_of parts.now) }
     requires fresh { (m : WideMoment) × (wide_outcome outcome.now ≡ outcome_of m unit.now)
@@ -70,7 +70,7 @@ fn lay<L: Ledger>(
         else unit_items_anew attrs.now (record { unit = unit.now; trace = wide_outcome outcome.now })
         (kept_parts parts.now) (flags_of_parts parts.now) (map laid_at shown.old.parts)) }
     ensures within { IfOk result
-        (λ n. n ≤ items_in (paragraphs_at unit.now.path attrs.now (value_of (wide_outcome outcome.now)))) }
+        (λ n. n ≤ items_in (paragraphs_at unit.now.path attrs.now (unit_value (wide_outcome outcome.now)))) }
     ensures counted { IfOk result (λ n. steps.new ≡ steps.old + n) }
     ensures err { OnErr result (shown.new ≡ shown.old) }
 {

@@ -9,7 +9,7 @@ ghost use Rattle.tx_exec.specs.Outcomes.{wide_outcome};
 ghost use Rattle.tx_exec_form.specs.Evaluated.{WideTrace};
 ghost use Rattle.tx_walk.specs.Walked.{paths_of};
 ghost use Rattle.tx_layout.specs.Paging.{Unmarked};
-ghost use Rattle.tx_view_form.specs.Outcomes.{Moment as WideMoment, beginning, value_of};
+ghost use Rattle.tx_view_form.specs.Outcomes.{Moment as WideMoment, beginning, unit_value};
 ghost use Rattle.tx_bridge.specs.Entries.{units_of, fresh_from, traces_of, outcome_of};
 ghost use Rattle.tx_bridge.specs.HeldParts.{kept_parts, flags_of_parts};
 ghost use Rattle.tx_bridge.specs.PartsKept.{fresh_parts, fresh_parts_from};
@@ -107,7 +107,7 @@ fn lay_anew<L: Ledger>(
 ) -> Result<(u64, bool), Memory>
     requires least_width { 20 ≤ width }
     requires most_width { width ≤ 500 }
-    requires small { size_of (plain (value_of (wide_outcome outcome.now))) ≤ 1000000 }
+    requires small { size_of (plain (unit_value (wide_outcome outcome.now))) ≤ 1000000 }
     requires placed { IsPlaced unit.now }
     requires distinct { IsDistinct bytes_eq (paths_of parts.now) }
     requires fresh { (m : WideMoment) × (wide_outcome outcome.now ≡ outcome_of m unit.now)

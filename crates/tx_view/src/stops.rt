@@ -1,6 +1,6 @@
 // The places at which a cursor stops.
 ghost use Rattle.std.specs.Prelude.{◌≡◌, All, IfOk, OnOk};
-ghost use Rattle.tx_view_form.specs.Stops.{put, stops_of};
+ghost use Rattle.tx_view_form.specs.Stops.{put_place, stops_of};
 ghost use Rattle.tx_view.specs.Marks.{spot_place};
 ghost use Rattle.tx_view.specs.Units.{unit_views};
 ghost use Rattle.tx_unit_layout.specs.Views.{unit_view, IsReadable};
@@ -65,7 +65,7 @@ impl Hash for Stop {
 
 // Puts the place of a spot, unless it is there already.
 fn put_spot(alloc: Global, stops: &mut IndexSet<Stop>, spot: &Spot<'_>) -> Result<(), Memory>
-    ensures { OnOk result (stops.new.keys ≡ put stops.old.keys (spot_place spot.now)) }
+    ensures { OnOk result (stops.new.keys ≡ put_place stops.old.keys (spot_place spot.now)) }
 {
     let place = spot.place(alloc)?;
     stops.insert(Stop { place })?;

@@ -5,11 +5,12 @@ use Rattle.tx_items.specs.declared.attributes.Attrs.{Attrs}
 use Rattle.tx_items.specs.declared.drawing.Item.{Item}
 use Rattle.tx_items.specs.declared.drawing.Paragraph.{Paragraph}
 use Rattle.tx_items.specs.Drawing.{paragraph}
-use Rattle.tx_items.specs.Shows.{Run, empty, begun, run_of, beside, whole_run, ended, Form, inline, listed, all_inline}
-use Rattle.tx_items.specs.Shows.{side_by_side, paragraphs_of, joined, one_by_one, or_one, unit_paragraphs}
+use Rattle.tx_items.specs.Shows.{ItemRun, empty, begun, run_of, beside, whole_run, run_ended, Form, inline, listed}
+use Rattle.tx_items.specs.Shows.{all_inline}
+use Rattle.tx_items.specs.Shows.{side_by_side, paragraphs_of, joined_forms, one_by_one, or_one, unit_paragraphs}
 use Rattle.tx_view_form.specs.Weights.{item_weight, items_weight, weight_of}
 
-abbrev pub run_weight : Run → ℕ
+abbrev pub run_weight : ItemRun → ℕ
 run_weight empty = 0
 run_weight (begun a xs) = items_weight xs
 
@@ -38,16 +39,16 @@ pub run_of_weight : (a : Attrs) (xs : List Item) → run_weight (run_of a xs) �
 run_of_weight a [] = refl
 run_of_weight a (x ∷ xs) = refl
 
-beside_weight : (r s : Run) → run_weight (beside r s) ≡ run_weight r + run_weight s
+beside_weight : (r s : ItemRun) → run_weight (beside r s) ≡ run_weight r + run_weight s
 beside_weight empty s = omega arith
 beside_weight (begun a xs) empty = omega arith
 beside_weight (begun a xs) (begun b ys) = items_both xs ys
 
-ended_weight : (r : Run) → weight_of (ended r) ≤ 1 + run_weight r
+ended_weight : (r : ItemRun) → weight_of (run_ended r) ≤ 1 + run_weight r
 ended_weight empty = omega arith
 ended_weight (begun a xs) = omega (arith, one_paragraph xs a)
 
-whole_weight : (r : Run) (a : Attrs) → weight_of (whole_run r a ∷ []) ≡ 1 + run_weight r
+whole_weight : (r : ItemRun) (a : Attrs) → weight_of (whole_run r a ∷ []) ≡ 1 + run_weight r
 whole_weight empty a = one_paragraph [] a
 whole_weight (begun b xs) a = one_paragraph xs b
 
@@ -60,7 +61,7 @@ side_weight ((listed ps, a) ∷ fs) =
     let rest : run_weight (side_by_side fs) ≤ forms_weight fs = side_weight fs in
     omega arith
 
-paragraphs_weight : (r : Run) (fs : List (Form × Attrs))
+paragraphs_weight : (r : ItemRun) (fs : List (Form × Attrs))
     → weight_of (paragraphs_of r fs) ≤ 1 + run_weight r + forms_weight fs
 paragraphs_weight r [] = omega (arith, ended_weight r)
 paragraphs_weight r ((inline q, a) ∷ fs) =
@@ -70,10 +71,10 @@ paragraphs_weight r ((inline q, a) ∷ fs) =
 paragraphs_weight r ((listed ps, a) ∷ fs) =
     let later : List Paragraph = paragraphs_of empty fs in
     let rest : weight_of later ≤ 1 + 0 + forms_weight fs = paragraphs_weight empty fs in
-    let front : weight_of (ended r ++ ps) ≡ weight_of (ended r) + weight_of ps = pars_both (ended r) ps in
-    let whole : weight_of (ended r ++ ps ++ later) ≡ weight_of (ended r ++ ps) + weight_of later =
-    pars_both (ended r ++ ps) later in
-    let own : weight_of (ended r) ≤ 1 + run_weight r = ended_weight r in
+    let front : weight_of (run_ended r ++ ps) ≡ weight_of (run_ended r) + weight_of ps = pars_both (run_ended r) ps in
+    let whole : weight_of (run_ended r ++ ps ++ later) ≡ weight_of (run_ended r ++ ps) + weight_of later =
+    pars_both (run_ended r ++ ps) later in
+    let own : weight_of (run_ended r) ≤ 1 + run_weight r = ended_weight r in
     omega arith
 
 pub one_weight : (fs : List (Form × Attrs)) → weight_of (one_by_one fs) ≤ forms_weight fs
@@ -87,7 +88,7 @@ one_weight ((listed ps, a) ∷ fs) =
     let rest : weight_of (one_by_one fs) ≤ forms_weight fs = one_weight fs in
     omega (arith, pars_both ps (one_by_one fs))
 
-pub joined_weight : (fs : List (Form × Attrs)) → form_weight (joined fs) ≤ 1 + forms_weight fs
+pub joined_weight : (fs : List (Form × Attrs)) → form_weight (joined_forms fs) ≤ 1 + forms_weight fs
 joined_weight fs = pick (all_inline fs)
   where
     pick : (b : Bool)

@@ -13,7 +13,7 @@ use Rattle.tx_layout.specs.declared.measures.Frame.{Frame}
 use Rattle.tx_layout.specs.declared.pieces.Span.{Span}
 use Rattle.tx_layout.specs.declared.layout.Line.{Line}
 use Rattle.tx_layout.specs.Frames.{frame_of, least_width}
-use Rattle.tx_layout.specs.Words.{capped}
+use Rattle.tx_layout.specs.Words.{capped_item}
 use Rattle.tx_layout.specs.Segments.{piece_of, lines_of, HasWords}
 use Rattle.tx_layout.specs.Shapes.{empty_line, page_ending, with_last, behind_cut, or_empty, items_shown, HasLines}
 use Rattle.tx_layout.specs.Shapes.{last_segment, then_cut}
@@ -128,7 +128,7 @@ few_lines frame b items lines (then_cut b' is segment cut rest words others part
     ∙ ap (λ n. items_weight segment + n) (sum_by-cons item_weight cut rest) in
     omega arith
 
-capped_weight : (least : ℕ) (x : Item) → item_weight (capped least x) ≡ item_weight x
+capped_weight : (least : ℕ) (x : Item) → item_weight (capped_item least x) ≡ item_weight x
 capped_weight least (Glyph d) = refl
 capped_weight least (Space d) = refl
 capped_weight least (Gap n) = refl
@@ -136,14 +136,14 @@ capped_weight least Break = refl
 capped_weight least PageEnd = refl
 capped_weight least (Down n) = refl
 
-shown_weight : (least : ℕ) (xs : List Item) → items_weight (map (capped least) xs) ≡ items_weight xs
+shown_weight : (least : ℕ) (xs : List Item) → items_weight (map (capped_item least) xs) ≡ items_weight xs
 shown_weight least [] = refl
 shown_weight least (x ∷ xs) =
-    let rest : items_weight (map (capped least) xs) ≡ items_weight xs = shown_weight least xs in
-    let own : item_weight (capped least x) ≡ item_weight x = capped_weight least x in
-    let left : items_weight (capped least x ∷ map (capped least) xs)
-    ≡ item_weight (capped least x) + items_weight (map (capped least) xs) =
-    sum_by-cons item_weight (capped least x) (map (capped least) xs) in
+    let rest : items_weight (map (capped_item least) xs) ≡ items_weight xs = shown_weight least xs in
+    let own : item_weight (capped_item least x) ≡ item_weight x = capped_weight least x in
+    let left : items_weight (capped_item least x ∷ map (capped_item least) xs)
+    ≡ item_weight (capped_item least x) + items_weight (map (capped_item least) xs) =
+    sum_by-cons item_weight (capped_item least x) (map (capped_item least) xs) in
     let right : items_weight (x ∷ xs) ≡ item_weight x + items_weight xs = sum_by-cons item_weight x xs in
     omega arith
 

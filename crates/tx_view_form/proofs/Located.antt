@@ -17,12 +17,12 @@ use Rattle.tx_exec_form.proofs.Tracing.{comes}
 use Rattle.tx_doc.specs.Buffers.{AreFormed, document_of}
 use Rattle.tx_doc.specs.declared.buffer.Buffer.{Buffer}
 use Rattle.tx_units.specs.declared.kinds.Unit.{Unit as DocUnit}
-use Rattle.tx_units.specs.Places.{StandsIn}
+use Rattle.tx_units.specs.Places.{UnitStandsIn}
 use Rattle.tx_units.specs.Units.{units}
 use Rattle.tx_items.specs.declared.attributes.Attrs.{Attrs}
 use Rattle.tx_items.specs.declared.drawing.Paragraph.{Paragraph}
 use Rattle.tx_items.specs.Shows.{shown_paragraphs}
-use Rattle.tx_view_form.specs.Outcomes.{Moment, beginning, outcome, allowance, behind, value_of}
+use Rattle.tx_view_form.specs.Outcomes.{Moment, beginning, outcome, allowance, behind, unit_value}
 use Rattle.tx_view_form.specs.Started.{attributes_of}
 use Rattle.tx_view_form.specs.Views.{UnitView, paragraphs_at, IsShown, AreShown, WideView, IsView}
 use Rattle.tx_view_form.specs.Positions.{Mark}
@@ -76,12 +76,12 @@ module _ (document : WideTree) (formed : IsWellFormed document) (path : List ℕ
     values_located none h = tt
     values_located (also v vs) h = (value_located v h.0, values_located vs h.1)
 
-  outcome_located : (m : Moment) → EachText (InText (IsLocated document path)) (value_of (outcome t m))
+  outcome_located : (m : Moment) → EachText (InText (IsLocated document path)) (unit_value (outcome t m))
   unfolding outcome
   outcome_located m = by (evaluated t (get m.env) (allowance m)) refl
     where
       by : (o : Option WideTrace) → evaluated t (get m.env) (allowance m) ≡ o
-          → EachText (InText (IsLocated document path)) (value_of o)
+          → EachText (InText (IsLocated document path)) (unit_value o)
       by None e = (tt, (tt, tt))
       by (Some trace) e = value_located trace.value (comes MOST_LEVELS (allowance m) t (get m.env) trace e)
 
@@ -89,13 +89,13 @@ module _ (document : WideTree) (formed : IsWellFormed document) (path : List ℕ
 
 unit_located : (document : WideTree) (width : ℕ) (m : Moment) (u : DocUnit) (x : UnitView) → IsWellFormed document
     → Stands document u
-    → IsShown width (attributes_of m.env) (value_of (outcome (tagged_of u.tagged) m)) u.path x → ArePlaces document x
+    → IsShown width (attributes_of m.env) (unit_value (outcome (tagged_of u.tagged) m)) u.path x → ArePlaces document x
 unit_located document width m u x formed stands h path e =
     let t : TaggedTree = tagged_of u.tagged in
     let a : Attrs = attributes_of m.env in
-    let v : WideValue = value_of (outcome t m) in
+    let v : WideValue = unit_value (outcome t m) in
     let has : u.path ≡ Some path = sym h.path_is ∙ e in
-    let s : StandsIn document u = stands path has in
+    let s : UnitStandsIn document u = stands path has in
     let same : s.path ≡ path = some_once s.path path (sym s.has_path ∙ has) in
     let there : subtree document path ≡ Some u.tagged.tree = ap (subtree document) (sym same) ∙ s.leads in
     let shown : x.paragraphs ≡ shown_paragraphs a v = h.paragraphs ∙ ap (λ o. paragraphs_at o a v) has in

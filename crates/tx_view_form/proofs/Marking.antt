@@ -17,7 +17,7 @@ use Rattle.tx_items.specs.declared.drawing.Item.TheVariants.{Glyph, Space, Gap, 
 use Rattle.tx_items.specs.Looks.{WideLook}
 use Rattle.tx_items.specs.Drawing.{is_space, look_of, item_of, drawn}
 use Rattle.tx_items.specs.Shows.{shown_paragraphs}
-use Rattle.tx_layout.specs.Words.{capped}
+use Rattle.tx_layout.specs.Words.{capped_item}
 use Rattle.tx_view_form.specs.Positions.{Mark, mark_by, mark_of}
 use Rattle.tx_view_form.proofs.ClusterCuts.{begins_at_cut, stops_at_cut}
 use Rattle.tx_view_form.proofs.ShownItems.{EachText, shown_holds}
@@ -78,7 +78,7 @@ shown_marked Q a v h =
     }) a v h
 
 -- a line leaves an item its mark
-pub capped_marked : (Q : Mark → Type 0) (least : ℕ) (item : Item) → OnMark Q item → OnMark Q (capped least item)
+pub capped_marked : (Q : Mark → Type 0) (least : ℕ) (item : Item) → OnMark Q item → OnMark Q (capped_item least item)
 capped_marked Q least (Glyph d) h = h
 capped_marked Q least (Space d) h = h
 capped_marked Q least (Gap n) h = h

@@ -12,7 +12,7 @@ use Rattle.tx_layout.specs.declared.measures.Frame.{Frame}
 use Rattle.tx_layout.specs.declared.pieces.Span.{Span}
 use Rattle.tx_layout.specs.declared.layout.Line.{Line}
 use Rattle.tx_layout.specs.Frames.{frame_of, least_width}
-use Rattle.tx_layout.specs.Words.{capped}
+use Rattle.tx_layout.specs.Words.{capped_item}
 use Rattle.tx_layout.specs.Segments.{no_span, line_of, lines_of, HasWords}
 use Rattle.tx_layout.specs.Shapes.{empty_line, page_ending, with_last, behind_cut, or_empty, HasLines, last_segment}
 use Rattle.tx_layout.specs.Shapes.{then_cut, items_shown}
@@ -88,7 +88,7 @@ module _ (P : Item → Type 0) where
       (cut_holds cut (or_empty b false words) (single_holds b false words own))
       (shape_holds frame false rest others more behind)
 
-  pub lines_hold : ((least : ℕ) (item : Item) → P item → P (capped least item)) → (width : ℕ) (ps : List Paragraph)
+  pub lines_hold : ((least : ℕ) (item : Item) → P item → P (capped_item least item)) → (width : ℕ) (ps : List Paragraph)
       (lines : List Line) → AreLines width ps lines → All (λ p. All P p.items) ps → All OnLine lines
   lines_hold kept width [] lines h all =
       let none : lines ≡ [] = parted width [] lines h in
@@ -98,7 +98,7 @@ module _ (P : Item → Type 0) where
       let least : ℕ = least_width (frame_of p width) in
       let first : All P p.items = All-head (λ q. All P q.items) p ps all in
       let shown : All P (items_shown p width) =
-      All-map P (capped least) p.items (λ k d lt. kept least (get_or p.items k d) (first k d lt)) in
+      All-map P (capped_item least) p.items (λ k d lt. kept least (get_or p.items k d) (first k d lt)) in
       subst (All OnLine) (sym parts.is)
       (All-append OnLine parts.own parts.others
       (shape_holds (frame_of p width) true (items_shown p width) parts.own parts.shape shown)

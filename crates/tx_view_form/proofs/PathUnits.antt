@@ -7,18 +7,18 @@ use Rattle.std.specs.Str.{bytes_eq}
 use Rattle.tx_tree.specs.WideTree.{WideTree, leaf, node, nil, cons}
 use Rattle.tx_doc.specs.Buffers.{tree_of, document_of, number_of}
 use Rattle.tx_doc.specs.declared.buffer.Buffer.{Buffer}
-use Rattle.tx_units.specs.BaseStyle.{tag, assign, base_style}
+use Rattle.tx_units.specs.BaseStyle.{tag, assign_tag, base_style}
 use Rattle.tx_units.specs.Documents.{style_names, entries, paragraphs}
 use Rattle.tx_units.specs.declared.kinds.Unit.{Unit as DocUnit}
 use Rattle.tx_units.specs.declared.kinds.UnitKind.TheVariants.{Base, Style, Initial}
-use Rattle.tx_units.specs.Places.{StandsIn}
+use Rattle.tx_units.specs.Places.{UnitStandsIn}
 use Rattle.tx_units.specs.Units.{unit, base_units, loaded_units, absent_unit, named_units, style_units, entry_units}
 use Rattle.tx_units.specs.Units.{initial_units, body_units, front_units, units}
 use Rattle.tx_units.proofs.Placing.{body_stands}
 
 -- where the unit has a path, it stands in the document
 abbrev pub Stands : WideTree → DocUnit → Type 0
-Stands document u = (path : List ℕ) → u.path ≡ Some path → StandsIn document u
+Stands document u = (path : List ℕ) → u.path ≡ Some path → UnitStandsIn document u
 
 pub all_both : {X : Type 0} (R : X → Type 0) (xs ys : List X) → AllByRecursion R xs → AllByRecursion R ys
     → AllByRecursion R (xs ++ ys)
@@ -42,7 +42,7 @@ module _ (document : WideTree) where
   base_stand : AllStand base_units
   unfolding base_units
   base_stand =
-      all_map (Stands document) (λ row. unit Base (assign (leaf row.0) row.1)) (λ row path e. absurd cc) base_style
+      all_map (Stands document) (λ row. unit Base (assign_tag (leaf row.0) row.1)) (λ row path e. absurd cc) base_style
 
   loaded_stand : (k : ℕ) (t : WideTree) → AllStand (loaded_units k t)
   loaded_stand k t = all_map (Stands document) (unit (Style k)) (λ p path e. absurd cc) (paragraphs t)
@@ -67,7 +67,7 @@ module _ (document : WideTree) where
   entry_stands (node label (cons x nil)) = tt
   entry_stands (node label (cons x (cons v nil))) = pick (bytes_eq label (codes "associate"))
     where
-      pick : (b : Bool) → AllStand (cond b (unit Initial (assign x (tag (codes "quote") (v ∷ []))) ∷ []) [])
+      pick : (b : Bool) → AllStand (cond b (unit Initial (assign_tag x (tag (codes "quote") (v ∷ []))) ∷ []) [])
       pick true = ((λ path e. absurd cc), tt)
       pick false = tt
   entry_stands (node label (cons x (cons v (cons w ts)))) = tt
@@ -79,7 +79,7 @@ module _ (document : WideTree) where
       (all_flat (Stands document) (named_units styles) (named_stand styles) (style_names document))
       (all_flat (Stands document) entry_units entry_stands (entries document)))
 
-  body_stand : (us : List DocUnit) → AllByRecursion (StandsIn document) us → AllStand us
+  body_stand : (us : List DocUnit) → AllByRecursion (UnitStandsIn document) us → AllStand us
   body_stand [] h = tt
   body_stand (u ∷ us) h = ((λ path e. h.0), body_stand us h.1)
 

@@ -16,7 +16,7 @@ use Rattle.tx_view_form.specs.Views.{UnitView}
 use Rattle.tx_view_form.specs.Cells.{row_in, item_number, item_at}
 use Rattle.tx_view_form.specs.Positions.{Mark, mark_of, marks_of, first_or, nearest, items_on}
 use Rattle.tx_view_form.specs.Positions.{place_by, place_on, place_in, position_in, whole_path}
-use Rattle.tx_view_form.specs.Stops.{mark_place, stops_by, unit_stops, put, stops_of}
+use Rattle.tx_view_form.specs.Stops.{mark_place, stops_by, unit_stops, put_place, stops_of}
 use Rattle.tx_tree.specs.SamePlaces.{same_place}
 use Rattle.tx_view_form.proofs.Marking.{some_once, OnMark}
 use Rattle.tx_view_form.proofs.PathUnits.{all_both}
@@ -197,7 +197,8 @@ module _ (document : WideTree) where
   units_stops (x ∷ xs) h =
       all_both IsStop (unit_stops x) (flat_map unit_stops xs) (unit_stops_there x h.0) (units_stops xs h.1)
 
-  put_there : (ps : List Place) (p : Place) → AllByRecursion IsStop ps → IsStop p → AllByRecursion IsStop (put ps p)
+  put_there : (ps : List Place) (p : Place) → AllByRecursion IsStop ps → IsStop p
+      → AllByRecursion IsStop (put_place ps p)
   put_there ps p h k = pick (list_any (same_place p) ps)
     where
       pick : (b : Bool) → AllByRecursion IsStop (cond b ps (ps ++ p ∷ []))
@@ -205,9 +206,9 @@ module _ (document : WideTree) where
       pick false = all_both IsStop ps (p ∷ []) h (k, tt)
 
   once_there : (so_far ps : List Place) → AllByRecursion IsStop so_far → AllByRecursion IsStop ps
-      → AllByRecursion IsStop (fold put so_far ps)
+      → AllByRecursion IsStop (fold put_place so_far ps)
   once_there so_far [] h k = h
-  once_there so_far (p ∷ ps) h k = once_there (put so_far p) ps (put_there so_far p h k.0) k.1
+  once_there so_far (p ∷ ps) h k = once_there (put_place so_far p) ps (put_there so_far p h k.0) k.1
 
   pub stops_there : (xs : List UnitView) → AllByRecursion (ArePlaces document) xs
       → AllByRecursion IsStop (stops_of xs)

@@ -13,9 +13,11 @@ use Rattle.tx_items.specs.Attributes.{with_named, attribute_in}
 use Rattle.tx_items.specs.Drawing.{drawn, paragraph}
 use Rattle.tx_items.specs.Rules.{Rule, rule_of}
 use Rattle.tx_items.specs.Rules as rules
-use Rattle.tx_items.specs.Shows.{Run, empty, begun, run_of, beside, whole_run, ended, Form, inline, listed, Shown}
-use Rattle.tx_items.specs.Shows.{all_inline, side_by_side, paragraphs_of, joined, one_by_one, error_items, with_shown}
-use Rattle.tx_items.specs.Shows.{assign_shown, cells_of, space_by, space_shown, error_by, error_shown, made_form}
+use Rattle.tx_items.specs.Shows.{ItemRun, empty, begun, run_of, beside, whole_run, run_ended, Form, inline, listed}
+use Rattle.tx_items.specs.Shows.{Shown}
+use Rattle.tx_items.specs.Shows.{all_inline, side_by_side, paragraphs_of, joined_forms, one_by_one, error_items}
+use Rattle.tx_items.specs.Shows.{with_shown}
+use Rattle.tx_items.specs.Shows.{assign_shown, cells_of_length, space_by, space_shown, error_by, error_shown, made_form}
 use Rattle.tx_items.specs.Shows.{tag_shown, rule_shown, giving_back, show, show_all, show_with, or_one}
 use Rattle.tx_items.specs.Shows.{AllShown, unit_paragraphs, shown_paragraphs}
 
@@ -39,7 +41,7 @@ pub record IsEnough (T : List ℕ → Option (List ℕ) → Type 0) (P : Item �
   pub of_down : (n : ℕ) → P (Down n)
 
 module _ (T : List ℕ → Option (List ℕ) → Type 0) (P : Item → Type 0) (enough : IsEnough T P) where
-  abbrev OfRun : Run → Type 0
+  abbrev OfRun : ItemRun → Type 0
   OfRun empty = Unit {0}
   OfRun (begun a xs) = All P xs
 
@@ -58,7 +60,7 @@ module _ (T : List ℕ → Option (List ℕ) → Type 0) (P : Item → Type 0) (
   run_holds a [] h = tt
   run_holds a (x ∷ xs) h = h
 
-  beside_holds : (r s : Run) → OfRun r → OfRun s → OfRun (beside r s)
+  beside_holds : (r s : ItemRun) → OfRun r → OfRun s → OfRun (beside r s)
   beside_holds empty s h k = k
   beside_holds (begun a xs) empty h k = h
   beside_holds (begun a xs) (begun b ys) h k = All-append P xs ys h k
@@ -67,11 +69,11 @@ module _ (T : List ℕ → Option (List ℕ) → Type 0) (P : Item → Type 0) (
   one_paragraph xs a h =
       All-cons (λ p. All P p.items) (paragraph xs a) [] h (All-nil (λ p. All P p.items))
 
-  ended_holds : (r : Run) → OfRun r → OfPars (ended r)
+  ended_holds : (r : ItemRun) → OfRun r → OfPars (run_ended r)
   ended_holds empty h = All-nil (λ p. All P p.items)
   ended_holds (begun a xs) h = one_paragraph xs a h
 
-  whole_holds : (r : Run) (a : Attrs) → OfRun r → OfPars (whole_run r a ∷ [])
+  whole_holds : (r : ItemRun) (a : Attrs) → OfRun r → OfPars (whole_run r a ∷ [])
   whole_holds empty a h = one_paragraph [] a (All-nil P)
   whole_holds (begun b xs) a h = one_paragraph xs b h
 
@@ -83,11 +85,11 @@ module _ (T : List ℕ → Option (List ℕ) → Type 0) (P : Item → Type 0) (
   side_holds ((inline r, a) ∷ fs) h = beside_holds r (side_by_side fs) h.0 (side_holds fs h.1)
   side_holds ((listed ps, a) ∷ fs) h = side_holds fs h.1
 
-  paragraphs_holds : (r : Run) (fs : List (Form × Attrs)) → OfRun r → OfForms fs → OfPars (paragraphs_of r fs)
+  paragraphs_holds : (r : ItemRun) (fs : List (Form × Attrs)) → OfRun r → OfForms fs → OfPars (paragraphs_of r fs)
   paragraphs_holds r [] h k = ended_holds r h
   paragraphs_holds r ((inline q, a) ∷ fs) h k = paragraphs_holds (beside r q) fs (beside_holds r q h k.0) k.1
   paragraphs_holds r ((listed ps, a) ∷ fs) h k =
-      pars_append (ended r ++ ps) (paragraphs_of empty fs) (pars_append (ended r) ps (ended_holds r h) k.0)
+      pars_append (run_ended r ++ ps) (paragraphs_of empty fs) (pars_append (run_ended r) ps (ended_holds r h) k.0)
       (paragraphs_holds empty fs tt k.1)
 
   one_holds : (fs : List (Form × Attrs)) → OfForms fs → OfPars (one_by_one fs)
@@ -96,7 +98,7 @@ module _ (T : List ℕ → Option (List ℕ) → Type 0) (P : Item → Type 0) (
       pars_append (whole_run r a ∷ []) (one_by_one fs) (whole_holds r a h.0) (one_holds fs h.1)
   one_holds ((listed ps, a) ∷ fs) h = pars_append ps (one_by_one fs) h.0 (one_holds fs h.1)
 
-  joined_holds : (fs : List (Form × Attrs)) → OfForms fs → OfForm (joined fs)
+  joined_holds : (fs : List (Form × Attrs)) → OfForms fs → OfForm (joined_forms fs)
   joined_holds fs h = pick (all_inline fs)
     where
       pick : (b : Bool) → OfForm (cond b (inline (side_by_side fs)) (listed (paragraphs_of empty fs)))
@@ -141,7 +143,7 @@ module _ (T : List ℕ → Option (List ℕ) → Type 0) (P : Item → Type 0) (
       → OfForm (space_by item a label z).form
   space_by_holds item h a label None = bad_holds a label
   space_by_holds item h a label (Some z) =
-      All-cons P (item (cells_of z)) [] (h (cells_of z)) (All-nil P)
+      All-cons P (item (cells_of_length z)) [] (h (cells_of_length z)) (All-nil P)
 
   space_holds : (item : ℕ → Item) → ((n : ℕ) → P (item n)) → (a : Attrs) (label : List ℕ) (vs : WideValues)
       → OfForm (space_shown item a label vs).form
@@ -161,7 +163,7 @@ module _ (T : List ℕ → Option (List ℕ) → Type 0) (P : Item → Type 0) (
   error_shown_holds a label (also k (also d none)) = error_by_holds a label (value_text k) (value_text d)
   error_shown_holds a label (also k (also d (also e vs))) = bad_holds a label
 
-  forms_behind : (fs : List (Form × Attrs)) (r : Run) (a : Attrs) → OfForms fs → OfRun r
+  forms_behind : (fs : List (Form × Attrs)) (r : ItemRun) (a : Attrs) → OfForms fs → OfRun r
       → OfForms (fs ++ (inline r, a) ∷ [])
   forms_behind [] r a h k = (k, tt)
   forms_behind (f ∷ fs) r a h k = (h.0, forms_behind fs r a h.1 k)

@@ -14,7 +14,7 @@ use Rattle.tx_items.specs.Drawing.{drawn}
 use Rattle.tx_items.specs.Rules.{Rule, rule_of}
 use Rattle.tx_items.specs.Rules as rules
 use Rattle.tx_items.specs.Shows.{run_of, Form, inline, Shown, AllShown, error_items, with_shown, assign_shown}
-use Rattle.tx_items.specs.Shows.{cells_of, space_by, space_shown, error_shown, made_form, tag_shown, rule_shown}
+use Rattle.tx_items.specs.Shows.{cells_of_length, space_by, space_shown, error_shown, made_form, tag_shown, rule_shown}
 use Rattle.tx_items.specs.Shows.{giving_back, show, show_all, show_with, shown_paragraphs}
 use Rattle.tx_view_form.specs.Outcomes.{over_value}
 use Rattle.tx_view_form.specs.Weights.{item_weight, items_weight, weight_of}
@@ -81,7 +81,7 @@ assign_weight a label (also x none) n h = bad_weight a label n h
 assign_weight a label (also x (also v none)) n h = omega arith
 assign_weight a label (also x (also v (also w vs))) n h = bad_weight a label n h
 
-most_cells : (z : ℤ) → cells_of z ≤ 500
+most_cells : (z : ℤ) → cells_of_length z ≤ 500
 most_cells (pos n) = omega arith
 most_cells (negsuc n) = omega arith
 
@@ -89,7 +89,7 @@ space_by_weight : (item : ℕ → Item) → ((n : ℕ) → item_weight (item n) 
     (z : Option ℤ) (n : ℕ) → IsLabel label → Fits (space_by item a label z).form (3 + n)
 space_by_weight item w a label None n h = omega (arith, bad_weight a label (2 + n) h)
 space_by_weight item w a label (Some z) n h =
-    omega (arith, one_item (item (cells_of z)), w (cells_of z), most_cells z)
+    omega (arith, one_item (item (cells_of_length z)), w (cells_of_length z), most_cells z)
 
 no_length : length_of [] ≡ None
 no_length = refl

@@ -12,7 +12,7 @@ use Rattle.tx_lines.specs.declared.cut.Cut.{Cut}
 use Rattle.tx_layout.specs.declared.layout.Line.{Line}
 use Rattle.tx_layout.specs.Paging.{PagesFrom}
 use Rattle.tx_layout.specs.Shapes.{IsShape}
-use Rattle.tx_view_form.specs.Outcomes.{Moment, beginning, outcome, behind, value_of}
+use Rattle.tx_view_form.specs.Outcomes.{Moment, beginning, outcome, behind, unit_value}
 use Rattle.tx_view_form.specs.Started.{attributes_of}
 use Rattle.tx_view_form.specs.Views.{UnitView, AreLines, IsShown, AreShown, lines_of, WideView, IsView}
 use Rattle.tx_view_form.proofs.Parting.{IsParted, parted}
@@ -64,7 +64,7 @@ module _ (one_shape : OneShape) (one_paging : OnePaging) where
   shown_once width m (u ∷ us) (x ∷ xs) [] h k = absurd k
   shown_once width m (u ∷ us) (x ∷ xs) (y ∷ ys) h k =
       ap₂ (λ z zs. z ∷ zs)
-      (unit_once width (attributes_of m.env) (value_of (outcome (tagged_of u.tagged) m)) u.path x y h.0 k.0)
+      (unit_once width (attributes_of m.env) (unit_value (outcome (tagged_of u.tagged) m)) u.path x y h.0 k.0)
       (shown_once width (behind m (outcome (tagged_of u.tagged) m)) us xs ys h.1 k.1)
 
   pub views_once : (buffers : List Buffer) (width height : ℕ) (v w : WideView) → IsView buffers width height v

@@ -40,6 +40,6 @@ behind m o = record { env = env_behind m.env o; left = m.left - charge m o }
 abbrev pub over_value : WideValue
 over_value = made (codes "error") (vals (text (codes "over") None ∷ text [] None ∷ [])) None
 
-abbrev pub value_of : Option WideTrace → WideValue
-value_of None = over_value
-value_of (Some trace) = trace.value
+abbrev pub unit_value : Option WideTrace → WideValue
+unit_value None = over_value
+unit_value (Some trace) = trace.value

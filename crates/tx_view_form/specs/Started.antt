@@ -3,7 +3,7 @@ use Rattle.std.specs.Prelude.{ℕ, List, Option, option_and_then, codes}
 use Rattle.std.specs.FinMap.{get}
 use Rattle.tx_tree.specs.WideTree.{text_of}
 use Rattle.tx_env.specs.Environments.{NameMap}
-use Rattle.tx_items.specs.Attributes.{text_in, length_in}
+use Rattle.tx_items.specs.Attributes.{text_in, length_or_zero}
 use Rattle.tx_items.specs.declared.attributes.Attrs.{Attrs}
 
 -- the text that a variable is set to
@@ -16,7 +16,7 @@ attributes_of env = record {
   shape = text_in (codes "right") (set_to env (codes "font-shape"));
   color = text_in (codes "black") (set_to env (codes "color"));
   mode = text_in (codes "left") (set_to env (codes "par-mode"));
-  left = length_in (set_to env (codes "par-left"));
-  right = length_in (set_to env (codes "par-right"));
-  first = length_in (set_to env (codes "par-first"));
+  left = length_or_zero (set_to env (codes "par-left"));
+  right = length_or_zero (set_to env (codes "par-right"));
+  first = length_or_zero (set_to env (codes "par-first"));
 }

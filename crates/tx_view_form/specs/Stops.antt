@@ -21,11 +21,11 @@ abbrev pub unit_stops : UnitView → List Place
 unit_stops x = option_map_or (λ path. stops_by path (marks_of (flat_map (λ p. p.items) x.paragraphs))) x.path []
 
 -- a place that was there before isn't put again
-abbrev pub put : List Place → Place → List Place
-put ps p = if list_any (same_place p) ps then ps else ps ++ p ∷ []
+abbrev pub put_place : List Place → Place → List Place
+put_place ps p = if list_any (same_place p) ps then ps else ps ++ p ∷ []
 
 abbrev pub each_once : List Place → List Place
-each_once ps = fold put [] ps
+each_once ps = fold put_place [] ps
 
 abbrev pub stops_of : List UnitView → List Place
 stops_of xs = each_once (flat_map unit_stops xs)

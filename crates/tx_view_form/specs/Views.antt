@@ -14,7 +14,7 @@ use Rattle.tx_lines.specs.declared.cut.Cut.{Cut}
 use Rattle.tx_layout.specs.declared.layout.Line.{Line}
 use Rattle.tx_layout.specs.Shapes.{IsShape}
 use Rattle.tx_layout.specs.Paging.{PagesFrom}
-use Rattle.tx_view_form.specs.Outcomes.{Moment, beginning, outcome, behind, value_of}
+use Rattle.tx_view_form.specs.Outcomes.{Moment, beginning, outcome, behind, unit_value}
 use Rattle.tx_view_form.specs.Started.{attributes_of}
 
 -- what is shown of a unit; one without a path stands on no page
@@ -48,7 +48,7 @@ AreShown width m [] [] = Unit {0}
 AreShown width m [] (x ∷ xs) = ⊥
 AreShown width m (u ∷ us) [] = ⊥
 AreShown width m (u ∷ us) (x ∷ xs) =
-    IsShown width (attributes_of m.env) (value_of (outcome (tagged_of u.tagged) m)) u.path x
+    IsShown width (attributes_of m.env) (unit_value (outcome (tagged_of u.tagged) m)) u.path x
     × AreShown width (behind m (outcome (tagged_of u.tagged) m)) us xs
 
 -- the lines of all units

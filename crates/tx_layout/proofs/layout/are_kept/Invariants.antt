@@ -1,8 +1,8 @@
 use Rattle.std.proofs.Common.{◌≡◌, drop, map}
-use Rattle.tx_layout.specs.Words.{capped}
+use Rattle.tx_layout.specs.Words.{capped_item}
 use Rattle.tx_layout.proofs.layout.are_kept.Given as goal
 
 abbrev pub invariant-loop-item : goal.invariant-loop-item
 invariant-loop-item l =
-    map (capped l.least) (drop l.item-index l.items) ≡ drop l.item-index l.items
-    → map (capped l.least) l.items ≡ l.items
+    map (capped_item l.least) (drop l.item-index l.items) ≡ drop l.item-index l.items
+    → map (capped_item l.least) l.items ≡ l.items

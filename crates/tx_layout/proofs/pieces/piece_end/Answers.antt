@@ -23,7 +23,7 @@ loop-end-preserved c =
       some = omega arith;
       within = omega arith;
       solid = all_push Solid c.args.items.now c.args.from c.loop-end.end c.index-items-end.result (omega arith)
-          c.loop-end-test.true c.index-items-end.is c.loop-end.invariant.solid (sym c.if-is_blank.ensures);
+          c.loop-end-test.true c.index-items-end.is c.loop-end.invariant.solid (sym c.if-is_blank_item.ensures);
       used = omega arith;
       narrow = c.if-more-least.false;
     }

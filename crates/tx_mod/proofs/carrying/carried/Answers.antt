@@ -1,5 +1,5 @@
 use Rattle.std.proofs.Common.{subst, sym}
-use Rattle.tx_mod.specs.Ways.{AreSmall}
+use Rattle.tx_mod.specs.Ways.{AreChildNumbers}
 use Rattle.tx_mod.proofs.Small.{leads_small, rest_small}
 use Rattle.tx_mod.proofs.carrying.carried.Goals as goal
 
@@ -8,6 +8,6 @@ carried_at-requires c =
     record {
       small = rest_small c.steps.result.now c.steps-2.result.now c.in-Some-rest_behind.rest.now
           c.in-Some-rest_behind.ensures
-          (subst AreSmall (sym c.steps-2.ensures)
+          (subst AreChildNumbers (sym c.steps-2.ensures)
           (leads_small c.args.t.now c.args.path.now c.requires.leads c.size-size.ensures.within));
     }

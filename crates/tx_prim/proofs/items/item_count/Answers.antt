@@ -1,12 +1,12 @@
 use Rattle.std.proofs.Common.{arith, length}
-use Rattle.tx_prim.specs.Items.{items_of}
+use Rattle.tx_prim.specs.Items.{text_items}
 use Rattle.tx_prim.proofs.ItemRuns.{counted_within, counted_between}
 use Rattle.tx_prim.proofs.items.item_count.Goals.{then-in_symbol, else-in_symbol}
 use Rattle.tx_prim.proofs.items.item_count.Goals as goal
 
 pub loop-byte-preserved : goal.loop-byte-preserved
 loop-byte-preserved c =
-    let total = length (items_of c.args.bytes.now) in
+    let total = length (text_items c.args.bytes.now) in
     elim c.if-in_symbol.branch [
       | then-in_symbol w ↦ (
         counted_within c.args.bytes.now c.loop-byte.byte-index c.loop-byte.count c.if-in_symbol.count total

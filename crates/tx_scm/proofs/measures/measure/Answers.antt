@@ -1,6 +1,6 @@
 use Rattle.std.proofs.Common.{◌∙◌, ◌+◌, sym, ap, subst, arith}
 use Rattle.tx_scm.specs.Gauges.{gauge_of}
-use Rattle.tx_scm.specs.Measuring.{IsSmall, Measures, step}
+use Rattle.tx_scm.specs.Measuring.{IsSmallGauge, Measures, step}
 use Rattle.tx_scm.proofs.Measured.{measures, measured_more, measured_all, small_more, step_small}
 use Rattle.tx_scm.proofs.measures.measure.Goals as goal
 
@@ -16,7 +16,7 @@ loop-byte-preserved c =
       same = c.loop-byte.invariant.same
           ∙ measured_more c.args.bytes.now before i (gauge_of c.in_ok-gauge.gauge) c.loop-byte-test.true
           (c.in_ok-gauge.ensures ∙ ap (λ k. step before k) c.kind_of.ensures);
-      small = subst (λ g. IsSmall (i + 1 + 1) g) (sym c.in_ok-gauge.ensures)
+      small = subst (λ g. IsSmallGauge (i + 1 + 1) g) (sym c.in_ok-gauge.ensures)
           (step_small (i + 1) before (omega arith) c.loop-byte.invariant.small c.kind_of.result);
     }
 

@@ -1,6 +1,6 @@
 use Rattle.std.proofs.Common.{◌+◌, [], ◌∙◌, sym, subst, arith}
 use Rattle.tx_tree.specs.WideTree.{leaf}
-use Rattle.tx_scm.specs.Machine.{texting, put}
+use Rattle.tx_scm.specs.Machine.{texting, put_tree}
 use Rattle.tx_scm.specs.States.{GoesTo}
 use Rattle.tx_scm.proofs.Runs.{at_end}
 use Rattle.tx_scm.proofs.Tokens.{no_text, text_ends}
@@ -17,7 +17,7 @@ returns-in-Some c = λ opens.
     let ended = rw c.in-Some.is at c.in_ok-finish.ensures in
     let behind = text_ends c.args.bytes.now c.loop-end.text opens c.loop-end.end c.loop-end-test.true
     c.if-bytes-end-eq34.true ended.0 in
-    subst (λ t. GoesTo c.args.bytes.now (texting [] opens) c.args.at (put (leaf t) opens) (c.loop-end.end + 1))
+    subst (λ t. GoesTo c.args.bytes.now (texting [] opens) c.args.at (put_tree (leaf t) opens) (c.loop-end.end + 1))
     (sym ended.1)
     (record {
       later = omega (arith, c.loop-end.invariant.later);

@@ -4,7 +4,7 @@ use Rattle.std.proofs.lemmas.Result.{on_ok_weaker}
 use Rattle.std.specs.Prelude.{slice_get}
 use Rattle.tx_origin.specs.TaggedTrees.{tagged_of}
 use Rattle.tx_exec.specs.Outcomes.{wide_outcome}
-use Rattle.tx_view_form.specs.Outcomes.{behind, value_of}
+use Rattle.tx_view_form.specs.Outcomes.{behind, unit_value}
 use Rattle.tx_bridge.specs.Entries.{Entry}
 use Rattle.tx_bridge.specs.Sound.{entry_of}
 use Rattle.tx_bridge.proofs.Arrived.{entry_at}
@@ -48,6 +48,6 @@ returns-clause-paid c =
     (there : slice_get c.args.self.now.kept c.args.i ≡ Some e).
     let same : entry_of c.in-Some.bridge.now ≡ e = same_Some (entry_of c.in-Some.bridge.now) e (sym at ∙ there) in
     paid_for c.size_law.ensures c.trace_laws.ensures.allowed c.args.moment.now c.go_behind.new.self
-    (tagged_of e.unit.tagged) e.trace (value_of e.trace) (c.requires.fresh e there) refl
+    (tagged_of e.unit.tagged) e.trace (unit_value e.trace) (c.requires.fresh e there) refl
     (h ∙ ap (λ (x : Entry). behind c.args.moment.now x.trace) same))
     c.go_behind.ensures.behind

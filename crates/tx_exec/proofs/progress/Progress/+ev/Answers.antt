@@ -14,7 +14,7 @@ use Rattle.tx_exec.specs.States.{state_of, before_of}
 use Rattle.tx_exec.specs.Settings.{sets_of, held_of}
 use Rattle.tx_exec.specs.Gives.{Fails}
 use Rattle.tx_exec.specs.FlowRuns.{truth_run}
-use Rattle.tx_exec.specs.PartRuns.{kid_run, paired, stored_pair, ended}
+use Rattle.tx_exec.specs.PartRuns.{kid_run, paired, stored_pair, node_ended}
 use Rattle.tx_exec.proofs.Each.{gives_as, fails_as, stop_bind, each_next, each_stop}
 use Rattle.tx_exec.proofs.Sizes.{next_size, next_depth}
 use Rattle.tx_exec.proofs.Levels.{ex_leaf, ex_node}
@@ -148,7 +148,7 @@ with_body-returns-in_err-value-clause-gives g t c =
     (c.in_ok-trees.ensures.over e) in
     rw (p.1, p.2)
     (fails_as c.in_err-value.field-0.0 _ _ run
-    (stop_bind c.in_err-value.field-0.0 e (ended c.args.label.now c.args.t.now.at c.args.parts.values.items) _
+    (stop_bind c.in_err-value.field-0.0 e (node_ended c.args.label.now c.args.t.now.at c.args.parts.values.items) _
     c.in_err-value.ensures.gives))
 
 pub with_body-returns-clause-gives : goal.with_body-returns-clause-gives
@@ -160,7 +160,7 @@ with_body-returns-clause-gives g t c =
     (kids_of (tagged_of c.args.t.now)) (2 * c.args.pairs) e (state_of c.args.self.now) (state_of c.charged.new.self)
     c.args.parts.total c.requires.told.total c.in_ok-trees.ensures.trees
     (c.in_ok-trees.ensures.over e) in
-    let last = ended c.args.label.now c.args.t.now.at c.args.parts.values.items in
+    let last = node_ended c.args.label.now c.args.t.now.at c.args.parts.values.items in
     let done = ap (on_done e last) c.in_ok-value.ensures.gives in
     search (rules, run, done)
 

@@ -1,7 +1,7 @@
 use Rattle.std.proofs.Common.{rules, ◌≡◌, map}
 use Rattle.std.proofs.lemmas.Result.{err_from_is_err_and}
 use Rattle.tx_origin.specs.Values.{plain}
-use Rattle.tx_prim.specs.Table.{value_of}
+use Rattle.tx_prim.specs.Table.{primitive_value}
 use Rattle.tx_exec.specs.States.{state_of}
 use Rattle.tx_exec.proofs.Each.{gives_as}
 use Rattle.tx_exec.proofs.Computing.{computed_over, computed_then}
@@ -16,7 +16,7 @@ returns-in_err-charge-clause-gives g c = λ e.
 
 pub returns-clause-gives : goal.returns-clause-gives
 returns-clause-gives g c = λ e.
-    let tree : c.in_ok-tree.tree ≡ value_of c.args.which (map plain c.args.values.now) = search rules in
+    let tree : c.in_ok-tree.tree ≡ primitive_value c.args.which (map plain c.args.values.now) = search rules in
     let run =
     computed_then c.args.levels c.args.which c.args.values.now e (state_of c.args.self.now)
     (state_of c.charge.new.self) c.nodes_of-counted.result c.in_ok-tree.tree c.nodes_of-counted.ensures.nodes

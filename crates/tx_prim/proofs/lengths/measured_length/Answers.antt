@@ -1,6 +1,6 @@
 use Rattle.std.proofs.Common.{◌∙◌}
 use Rattle.tx_prim.proofs.Digits.{whole_over, product_over, sum_over, sum_is, measured_is}
-use Rattle.tx_prim.proofs.lengths.measured.Goals as goal
+use Rattle.tx_prim.proofs.lengths.measured_length.Goals as goal
 
 pub returns-in_err-whole : goal.returns-in_err-whole
 returns-in_err-whole c =

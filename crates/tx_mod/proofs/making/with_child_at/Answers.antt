@@ -1,6 +1,6 @@
 use Rattle.std.proofs.Common.{◌<◌, length, ap, arith}
 use Rattle.tx_mod.proofs.Built.{with_child_seen, with_child_within, children_seen}
-use Rattle.tx_mod.proofs.making.with_child.Goals as goal
+use Rattle.tx_mod.proofs.making.with_child_at.Goals as goal
 
 pub node_of-requires : goal.node_of-requires
 node_of-requires g c =
