@@ -16,6 +16,8 @@ pub mod MacroShells
 pub mod Fitting
 pub mod Standing
 pub mod Costing
+pub mod Recomposing
 pub mod Pairing
 mod Worked
 mod WorkedShells
+mod WorkedRecomposed

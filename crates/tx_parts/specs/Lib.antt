@@ -8,6 +8,7 @@ pub mod Composed
 pub mod Layered
 pub mod Shellers
 pub mod Parts
+pub mod Recomposed
 pub mod LayerCosts
 pub mod Fitting
 pub mod Standing
