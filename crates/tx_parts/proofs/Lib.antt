@@ -15,6 +15,7 @@ pub mod Openers
 pub mod MacroShells
 pub mod Fitting
 pub mod Standing
+pub mod Holding
 pub mod Costing
 pub mod Pairing
 mod Worked
