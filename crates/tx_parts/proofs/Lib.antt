@@ -17,6 +17,7 @@ pub mod Fitting
 pub mod Standing
 pub mod Holding
 pub mod Costing
+pub mod Staying
 pub mod Pairing
 mod Worked
 mod WorkedShells

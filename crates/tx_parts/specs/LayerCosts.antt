@@ -9,6 +9,7 @@ use Rattle.tx_env.specs.Pairs.{Name}
 use Rattle.tx_origin.specs.Values.{plain}
 use Rattle.tx_exec_form.specs.Runs.{Before}
 use Rattle.tx_exec_form.specs.Evaluated.{WideTrace, paid}
+use Rattle.tx_exec_form.specs.Laws.{Agrees}
 use Rattle.tx_parts.specs.Atop.{env_atop}
 use Rattle.tx_parts.specs.Openness.{Openness, Document, With, Shut}
 use Rattle.tx_parts.specs.Shells.{Layer}
@@ -28,6 +29,11 @@ holds_nothing t e = false
 -- the second holds whatever the first does
 abbrev pub HoldsMore : Holder → Holder → Type 0
 HoldsMore held more = (t : WideTree) (e : Before) → held t e ≡ true → more t e ≡ true
+
+-- what is held of a tree that isn't over is held where its looks have the same
+abbrev pub StaysHeld : Holder → Type 0
+StaysHeld held = (k c : ℕ) (t : WideTree) (e d : Before) (trace : WideTrace) → held t e ≡ true →
+    evaluates_bare k c t e ≡ Some trace → Agrees d trace.looks → held t d ≡ true
 
 -- ---- a layer
 

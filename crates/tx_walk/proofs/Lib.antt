@@ -4,6 +4,7 @@ pub mod Joining
 pub mod Once
 pub mod Agreed
 pub mod Found
+pub mod Known
 pub mod Unshelled
 pub mod Settled
 pub mod Charging
