@@ -154,6 +154,22 @@ pub held_over : (m : TreeTrace) (k c : ℕ) (e : Before) → Supports m.trace (b
 held_over m k c e supports fits dear =
     none_allowed m.trace k c (bare m.tree) e supports (agrees_is e m.trace.looks fits) dear
 
+-- a tree that is done, by what it is told as
+pub tree_done : (held : Holder) (k c : ℕ) (x : Name) (t : WideTree) (s s1 : LayerStage) (z : DoneSetting)
+    (trace : WideTrace) → evaluates_bare k (c - s.joined.cost) t s.names ≡ Some trace →
+    z ≡ setting_of held x t s.names trace → s1.joined ≡ with_trace s.joined z.done.trace →
+    s1.settings ≡ s.settings ++ z ∷ [] → s1.names ≡ env_atop z.done.trace.writes s.names →
+    s1.count ≡ s.count + (if held t s.names then 0 else trace.cost) → TreeDone held k c x t s s1
+tree_done held k c x t s s1 z trace comes is joined settings names count =
+    record {
+      trace = trace;
+      comes = comes;
+      joined = joined ∙ ap (λ (y : DoneSetting). with_trace s.joined y.done.trace) is;
+      settings = settings ∙ ap (λ y. s.settings ++ y ∷ []) is;
+      names = names ∙ ap (λ (y : DoneSetting). env_atop y.done.trace.writes s.names) is;
+      count = count;
+    }
+
 -- a tree that is held, or one that isn't, whatever else is
 pub tree_by : (one held : Holder) (k c : ℕ) (x : Name) (u t : WideTree) (s s1 : LayerStage) (went : Bool) →
     u ≡ t → one u s.names ≡ held t s.names → TreeComes one k c x u s s1 went → TreeComes held k c x t s s1 went

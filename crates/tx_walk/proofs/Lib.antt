@@ -5,6 +5,7 @@ pub mod Once
 pub mod Agreed
 pub mod Found
 pub mod Known
+pub mod Listing
 pub mod Unshelled
 pub mod Settled
 pub mod Charging

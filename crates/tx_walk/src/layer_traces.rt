@@ -165,15 +165,17 @@ pub(crate) fn found_layer<'a>(
 {
     let hint = *next;
     if hint < all.len() {
-        if all[hint].serves(env, t) {
+        let found = &all[hint];
+        if found.serves(env, t) {
             *next = hint + 1;
-            return Some(&all[hint]);
+            return Some(found);
         }
     }
     for i in 0..all.len() {
-        if all[i].serves(env, t) {
+        let found = &all[i];
+        if found.serves(env, t) {
             *next = i + 1;
-            return Some(&all[i]);
+            return Some(found);
         }
     }
     None
