@@ -224,7 +224,8 @@ trees_nodes k c i ys (x ∷ xs) (t ∷ ts) e b a many h =
     (trees_nodes k c (i + 1 + 1) (ys ++ x ∷ []) xs ts e b)
   where
     by_tree : (f : FirstDone (evaluates_bare k) c i a (leaf x) (t ∷ in_turn xs ts) e b) →
-        FirstDone (evaluates_bare k) c (i + 1) (with_child i a f.trace) t (in_turn xs ts) e b → NodesBehind k c (i + 1 + 1) (ys ++ x ∷ []) xs ts e b →
+        FirstDone (evaluates_bare k) c (i + 1) (with_child i a f.trace) t (in_turn xs ts) e b →
+        NodesBehind k c (i + 1 + 1) (ys ++ x ∷ []) xs ts e b →
         sizes (as_sets (layer_pairs ys a.values))
         + tree_counts_from holds_nothing set_nodes k c i a (x ∷ xs) (t ∷ ts) e ≤
         sizes (as_sets (layer_pairs (ys ++ x ∷ xs) b.values))
@@ -262,7 +263,8 @@ trees_nodes k c i ys (x ∷ xs) (t ∷ ts) e b a many h =
         ap (λ zs. sizes (as_sets (layer_pairs zs b.values))) (append_assoc ys (x ∷ []) xs) in
         omega (arith, counts, size, nodes, later, names)
 
-    by_name : FirstDone (evaluates_bare k) c i a (leaf x) (t ∷ in_turn xs ts) e b → NodesBehind k c (i + 1 + 1) (ys ++ x ∷ []) xs ts e b →
+    by_name : FirstDone (evaluates_bare k) c i a (leaf x) (t ∷ in_turn xs ts) e b →
+        NodesBehind k c (i + 1 + 1) (ys ++ x ∷ []) xs ts e b →
         sizes (as_sets (layer_pairs ys a.values))
         + tree_counts_from holds_nothing set_nodes k c i a (x ∷ xs) (t ∷ ts) e ≤
         sizes (as_sets (layer_pairs (ys ++ x ∷ xs) b.values))
@@ -317,7 +319,8 @@ module _ (k : ℕ) (finder : Finder) (counter : Counter) (below : CostBelow k fi
       by (layer_values k l c e) refl (layer_trees_cost k l c e)
       (layer_most k l c e (layer_values k l c e) refl)
     where
-      by_test : (a : SoFar) (d : Bool) → layer_values k l c e ≡ Some a → layer_tree_costs holds_nothing k l c e ≤ a.cost → a.cost ≤ c - 1 →
+      by_test : (a : SoFar) (d : Bool) → layer_values k l c e ≡ Some a →
+          layer_tree_costs holds_nothing k l c e ≤ a.cost → a.cost ≤ c - 1 →
           d ≡ nat_le (layer_cost l.names a) c →
           total (inside ls i (c - layer_cost l.names a) path t (inside_layer l.names a e))
           + (layer_tree_costs holds_nothing k l c e + (if d then layer_set_nodes holds_nothing k l c e
@@ -347,7 +350,8 @@ module _ (k : ℕ) (finder : Finder) (counter : Counter) (below : CostBelow k fi
           (evaluates_in k ls i (c - layer_cost l.names a) t (inside_layer l.names a e)) refl in
           omega (arith, trees, most, below, few)
 
-      by : (o : Option SoFar) → layer_values k l c e ≡ o → layer_tree_costs holds_nothing k l c e ≤ children_paid (c - 1) o →
+      by : (o : Option SoFar) → layer_values k l c e ≡ o →
+          layer_tree_costs holds_nothing k l c e ≤ children_paid (c - 1) o →
           children_paid (c - 1) o ≤ c - 1 → total (option_map_or
           (λ a. inside ls i (c - layer_cost l.names a) path t (inside_layer l.names a e)) o [])
           + (layer_tree_costs holds_nothing k l c e

@@ -328,8 +328,8 @@ module _ (held : Holder) (stays : StaysHeld held) (sheller : Sheller) (sound : I
     pub costs_stay : (k : ℕ) → StayBelow k (layer_costs_by held sheller k)
     costs_stay zero c n t e d trace h g enough none = refl
     costs_stay (suc k) c n t e d trace h g enough none =
-        subst (λ o. costs_opened (opening_by o t) k (layer_costs_by held sheller k) (layer_costs_in held sheller k) n t d
-        ≡ 0) (sym (sound.again (suc k) c t e d trace h g))
+        subst (λ o. costs_opened (opening_by o t) k (layer_costs_by held sheller k) (layer_costs_in held sheller k)
+        n t d ≡ 0) (sym (sound.again (suc k) c t e d trace h g))
         (opened_stays held stays k (layer_costs_by held sheller k) (costs_stay k) (layer_costs_in held sheller k)
         (costs_in_stay k) (opening sheller t e) c n t e d trace (sym (opened_is sheller sound k c t e) ∙ h) g enough
         none)

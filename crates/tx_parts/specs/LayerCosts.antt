@@ -1,6 +1,6 @@
--- What layers cost, of those tags with shells that are gone into on the way to a tree's parts: what those of their trees
--- cost that aren't held, and a step for each node of what these come to, which is what names are set to. The names
--- aren't counted, nor are the tags and the nodes of the layers themselves.
+-- What layers cost, of those tags with shells that are gone into on the way to a tree's parts: what those of their
+-- trees cost that aren't held, and a step for each node of what these come to, which is what names are set to. The
+-- names aren't counted, nor are the tags and the nodes of the layers themselves.
 use Rattle.std.specs.Prelude.{ℕ, zero, suc, ◌+◌, ◌-◌, ◌≡◌, nat_le, Bool, true, false, if◌then◌else◌, List, [], ◌∷◌}
 use Rattle.std.specs.Prelude.{Option, Some, None}
 use Rattle.std.specs.Option.{option_map_or}

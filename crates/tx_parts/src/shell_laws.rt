@@ -90,10 +90,10 @@ pub fn opened_standing_law()
         IsDistinct bytes_eq (map (λ p. p.path) (parts_by sheller k c path t e)) }
 {}
 
-/// A law: the parts of a tree and the trees of its layers together cost at most what the tree costs, or what it may cost
-/// where it is over, whatever is held of the layers. So they do in a tree in layers. Where nothing has a shell no layer
-/// costs anything, and where more is held layers cost no more. Where layers cost nothing, they do so where the trace of
-/// the tree fits.
+/// A law: the parts of a tree and the trees of its layers together cost at most what the tree costs, or what it may
+/// cost where it is over, whatever is held of the layers. So they do in a tree in layers. Where nothing has a shell no
+/// layer costs anything, and where more is held layers cost no more. Where layers cost nothing, they do so where the
+/// trace of the tree fits.
 pub fn opened_cost_law()
     ensures tree { (held : Holder) (sheller : Sheller) → IsSheller sheller → (k c : ℕ) (path : List ℕ)
         (t : WideTree) (e : Before) →

@@ -39,7 +39,8 @@ module _ (guide : Guide) (sound : IsSheller guide.sheller) (k c : ℕ) (path : L
   -- with what layers cost
   pub charged_within : charged guide k c path t e ≤ paid c (evaluates k c t e)
   charged_within =
-      let all : sum_by part_cost (parts_by guide.sheller k c path t e) + layer_costs_by guide.holder guide.sheller k c t e ≤
+      let all : sum_by part_cost (parts_by guide.sheller k c path t e)
+      + layer_costs_by guide.holder guide.sheller k c t e ≤
       paid c (evaluates k c t e) = all_cost guide.holder guide.sheller sound k c path t e in
       omega (arith, charges_less guide.stores (parts_by guide.sheller k c path t e), all)
 
@@ -55,7 +56,8 @@ module _ (guide : Guide) (sound : IsSheller guide.sheller) (k c : ℕ) (path : L
   pub charged_inside : (ls : List Layer) (i : ℕ) → charged_in guide k ls i c path t e ≤
       paid c (evaluates_in k ls i c t e)
   charged_inside ls i =
-      let all : sum_by part_cost (parts_in guide.sheller k ls i c path t e) + layer_costs_in guide.holder guide.sheller k ls c t e ≤
+      let all : sum_by part_cost (parts_in guide.sheller k ls i c path t e)
+      + layer_costs_in guide.holder guide.sheller k ls c t e ≤
       paid c (evaluates_in k ls i c t e) = all_cost_in guide.holder guide.sheller sound k ls i c path t e in
       omega (arith, charges_less guide.stores (parts_in guide.sheller k ls i c path t e), all)
 
@@ -85,4 +87,5 @@ pub nothing_opened : (kept : Stores) (held : Holder) (k c : ℕ) (path : List �
     charges kept (parts k c path t e)
 nothing_opened kept held k c path t e =
     let none : layer_costs_by held closed k c t e ≡ 0 = closed_costs held k c t e in
-    ap (λ s. charged (record { stores = kept; sheller = s; holder = held }) k c path t e) closed_by_nothing ∙ omega (arith, none)
+    ap (λ s. charged (record { stores = kept; sheller = s; holder = held }) k c path t e) closed_by_nothing
+    ∙ omega (arith, none)

@@ -109,8 +109,8 @@ module _ (k c : ℕ) (path : List ℕ) (t : WideTree) (e : Before) (opens : open
       ∙ charged_are guide c path t e (Document (children_of t)) unshelled opens (k - 1)
 
   document_costs : (guide : Guide) → guide.sheller t e ≡ None → (held : Holder) →
-      layer_costs_by held guide.sheller k c t e ≡ counts_from (k - 1) (layer_costs_by held guide.sheller (k - 1)) (c - 1)
-      0 nothing_yet (children_of t) e
+      layer_costs_by held guide.sheller k c t e ≡ counts_from (k - 1) (layer_costs_by held guide.sheller (k - 1))
+      (c - 1) 0 nothing_yet (children_of t) e
   document_costs guide unshelled held =
       ap (λ n. layer_costs_by held guide.sheller n c t e) (sym upper)
       ∙ costs_are (record guide { holder = held }) c path t e (Document (children_of t)) unshelled opens (k - 1)

@@ -46,7 +46,8 @@ module _ (guide : Guide) (k c : ℕ) (path : List ℕ) (i : ℕ) (t : WideTree) 
       IsBehind names names1 o → IsAdded guide.stores (parts_by guide.sheller k (c - a.cost) (path ++ i ∷ []) t names)
       old new o →
       after ≡ before + charged guide k (c - a.cost) (path ++ i ∷ []) t names →
-      AreKnownBy guide.sheller k (c - a.cost) t names kept kept1 o → IsJoined a b o went → ChildComes guide k c path i t first last went
+      AreKnownBy guide.sheller k (c - a.cost) t names kept kept1 o → IsJoined a b o went →
+      ChildComes guide k c path i t first last went
   by_comes None true None q e behind is_added counted known joined = let off : true ≡ false = joined in cc
   by_comes None false None q e behind is_added counted known joined = record { comes = q; count = counted }
   by_comes None went (Some w) q e behind is_added counted known joined = cc

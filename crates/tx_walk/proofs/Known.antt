@@ -1,11 +1,13 @@
 -- What is known of layers' trees behind a walk.
 use Rattle.std.proofs.Common.{◌≡◌, ℕ, ◌+◌, List, [], ◌∷◌, ◌++◌, ap, ◌∙◌, arith}
-use Rattle.std.specs.Prelude.{Bool, true, false, ◌||◌, if◌then◌else◌, Option, Some, None}
+use Rattle.std.specs.Prelude.{Option, Some, None, IfSome}
 use Rattle.std.specs.Option.{option_map}
+use Rattle.tx_tree.specs.WideTree.{WideTree}
+use Rattle.tx_exec_form.specs.Runs.{Before}
 use Rattle.tx_exec_form.specs.Evaluated.{WideTrace}
-use Rattle.tx_parts.specs.LayerCosts.{Holder, HoldsMore}
-use Rattle.tx_walk.specs.LayerTraces.{TreeTrace, DoneSetting, serves_for, holds_in, IsHeldWith, AllHeldBy, LayersKnown}
-use Rattle.tx_walk.specs.LayerTraces.{AreKnown}
+use Rattle.tx_parts.specs.Opening.{Sheller}
+use Rattle.tx_parts.specs.LayerCosts.{Holder, HoldsMore, layer_costs_by}
+use Rattle.tx_walk.specs.LayerTraces.{TreeTrace, DoneSetting, holds_in, IsHeldWith, AllHeldBy, AreKnown, AreKnownBy}
 use Rattle.tx_walk.specs.Layers.{new_nodes}
 
 -- where it costs the same and sets nothing else
@@ -32,6 +34,15 @@ known_nothing cost old new (Some u) same none =
   where
     more : HoldsMore (holds_in old) (holds_in new)
     more t e h = ap (λ ms. holds_in ms t e) same ∙ h
+
+-- what is left to evaluate where as much is kept
+pub nothing_left : (sheller : Sheller) (k c : ℕ) (t : WideTree) (e : Before) (old new kept : List TreeTrace)
+    (o : Option WideTrace) → AreKnownBy sheller k c t e old new o →
+    IfSome o (λ (trace : WideTrace). kept ≡ new) →
+    IfSome o (λ (trace : WideTrace). layer_costs_by (holds_in kept) sheller k c t e ≡ 0)
+nothing_left sheller k c t e old new kept None h g = tt
+nothing_left sheller k c t e old new kept (Some u) h g =
+    ap (λ ms. layer_costs_by (holds_in ms) sheller k c t e) g ∙ h.nothing (holds_in new) (λ v d p. p)
 
 -- ---- lists of settings
 

@@ -2,7 +2,8 @@
 use Rattle.std.proofs.Common.{◌≡◌, ℕ, zero, suc, ◌+◌, ◌*◌, ◌-◌, ◌<◌, ◌≤◌, ◌⊎◌, max, List, [], ◌∷◌, ◌++◌, length, take}
 use Rattle.std.proofs.Common.{drop, refl, ap, sym, subst, ◌∙◌, append_assoc, length-append, arith}
 use Rattle.std.proofs.lemmas.List.{drop_all, take_all, map-append}
-use Rattle.std.specs.Prelude.{Bool, true, false, ◌&&◌, nat_le, if◌then◌else◌, Option, Some, None, option_and_then, slice_get}
+use Rattle.std.specs.Prelude.{Bool, true, false, ◌&&◌, nat_le, if◌then◌else◌, Option, Some, None}
+use Rattle.std.specs.Prelude.{option_and_then, slice_get}
 use Rattle.std.specs.Option.{option_map_or}
 use Rattle.std.specs.List.{IsDistinct}
 use Rattle.std.specs.Map.{keys_of}
@@ -35,7 +36,8 @@ use Rattle.tx_walk.proofs.Agreed.{agrees_is, agrees_of}
 use Rattle.tx_walk.proofs.Known.{all_front, nodes_both}
 use Rattle.tx_walk.specs.Layers.{name_trace, name_outcome, pair_of_setting, pairs_of_settings, new_nodes, LayerStage}
 use Rattle.tx_walk.specs.Layers.{setting_of, TreeDone, TreeOver, behind_name}
-use Rattle.tx_walk.specs.Layers.{TreeComes, SettingDone, SettingOver, at_name, at_tree, SettingComes, LayerDone, LayerOver}
+use Rattle.tx_walk.specs.Layers.{TreeComes, SettingDone, SettingOver, at_name, at_tree, SettingComes}
+use Rattle.tx_walk.specs.Layers.{LayerDone, LayerOver}
 
 -- ---- values without origins
 
@@ -181,9 +183,16 @@ tree_by one held k c x u t s s1 true same alike d =
       comes = bare_is;
       joined = d.joined;
       settings = d.settings
-          ∙ ap (λ b. s.settings ++ record { name = x; done = record { tree = u; trace = d.trace }; held = b } ∷ []) alike
-          ∙ ap (λ v. s.settings ++ record { name = x; done = record { tree = v; trace = d.trace }; held = held t s.names }
-          ∷ []) same;
+          ∙ ap (λ b. s.settings ++ record {
+            name = x;
+            done = record { tree = u; trace = d.trace };
+            held = b;
+          } ∷ []) alike
+          ∙ ap (λ v. s.settings ++ record {
+            name = x;
+            done = record { tree = v; trace = d.trace };
+            held = held t s.names;
+          } ∷ []) same;
       names = d.names;
       count = d.count ∙ ap (λ b. s.count + (if b then 0 else d.trace.cost)) alike;
     }
@@ -259,7 +268,8 @@ nothing_both : (a b : ℕ) → a ≡ 0 → b ≡ 0 → a + b ≡ 0
 nothing_both a b h g = omega (arith, h, g)
 
 module _ (held : Holder) (k c : ℕ) (l : Layer) (s : LayerStage) (i : ℕ) (s1 : LayerStage)
-    (g : LayerGoing held k c l s i s1) (x : Name) (t : WideTree) (is_name : slice_get l.names i ≡ Some x) (is_tree : slice_get l.trees i ≡ Some t) where
+    (g : LayerGoing held k c l s i s1) (x : Name) (t : WideTree) (is_name : slice_get l.names i ≡ Some x)
+    (is_tree : slice_get l.trees i ≡ Some t) where
   abbrev xs : List Name
   xs = drop (i + 1) l.names
 

@@ -150,7 +150,8 @@ module _ (guide : Guide) (k c i : ℕ) (path : List ℕ) (t : WideTree) (e : Bef
 
     pub child_charged : charged_in guide k [] i c path t e ≡ charged guide (k - 1) (c - 1) (path ++ i ∷ []) t e
     child_charged =
-        ap (λ (ps : List Part). charges guide.stores ps + layer_costs_in guide.holder guide.sheller k [] c t e) child_parts
+        ap (λ (ps : List Part). charges guide.stores ps
+        + layer_costs_in guide.holder guide.sheller k [] c t e) child_parts
         ∙ ap (λ n. charges guide.stores (parts_by guide.sheller (k - 1) (c - 1) (path ++ i ∷ []) t e) + n)
         (child_costs guide.holder)
 
@@ -394,7 +395,8 @@ low_in (suc k) ls i c t e h = absurd (omega (arith, h))
 -- ---- a layer
 
 -- what names and trees cost is allowed
-pub values_cost : (held : Holder) (k c : ℕ) (l : Layer) (s s1 : LayerStage) → LayerDone held k c l s s1 → s1.joined.cost ≤ c
+pub values_cost : (held : Holder) (k c : ℕ) (l : Layer) (s s1 : LayerStage) → LayerDone held k c l s s1 →
+    s1.joined.cost ≤ c
 values_cost held k c l s s1 d = (children_within k (evaluates_bare k) (bare_bounded k) c 0 nothing_yet
     (in_turn l.names l.trees) s.names s1.joined (omega arith, omega arith) d.comes).0
 
@@ -428,12 +430,14 @@ module _ (guide : Guide) (sound : IsSheller guide.sheller) (k c i : ℕ) (path :
         ∙ ap (λ o. option_map_or (λ a. parts_in guide.sheller (k - 1) ls i (c - layer_cost l.names a) path t
         (inside_layer l.names a s.names)) o []) d.comes
 
-    over_costs : layer_costs_in guide.holder guide.sheller k (l ∷ ls) c t s.names ≡ layer_tree_costs guide.holder (k - 1) l c s.names + 0
+    over_costs : layer_costs_in guide.holder guide.sheller k (l ∷ ls) c t s.names ≡
+        layer_tree_costs guide.holder (k - 1) l c s.names + 0
     unfolding layer_costs_in
     over_costs =
         ap (λ n. layer_costs_in guide.holder guide.sheller n (l ∷ ls) c t s.names) (sym (up k some))
         ∙ ap (λ o. layer_tree_costs guide.holder (k - 1) l c s.names
-        + option_map_or (λ a. costs_inside guide.holder (k - 1) l a (layer_costs_in guide.holder guide.sheller (k - 1) ls) c t s.names) o 0)
+        + option_map_or (λ a. costs_inside guide.holder (k - 1) l a
+        (layer_costs_in guide.holder guide.sheller (k - 1) ls) c t s.names) o 0)
         d.comes
 
     pub over_counted : s1.count ≡ s.count + charged_in guide k (l ∷ ls) i c path t s.names
@@ -503,7 +507,8 @@ module _ (guide : Guide) (sound : IsSheller guide.sheller) (k c i : ℕ) (path :
           let costs : layer_costs_in guide.holder guide.sheller k (l ∷ ls) c t s.names ≡
           layer_tree_costs guide.holder (k - 1) l c s.names + 0 =
           layer_costs guide.holder ∙ ap (λ b. layer_tree_costs guide.holder (k - 1) l c s.names
-          + (if b then layer_set_nodes guide.holder (k - 1) l c s.names + layer_costs_in guide.holder guide.sheller (k - 1) ls
+          + (if b then layer_set_nodes guide.holder (k - 1) l c s.names
+          + layer_costs_in guide.holder guide.sheller (k - 1) ls
           (c - layer_cost l.names a) t (inside_layer l.names a s.names) else 0)) dear_test in
           omega (arith, count, same, gone, costs)
 

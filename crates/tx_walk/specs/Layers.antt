@@ -49,7 +49,8 @@ set_sizes (p ∷ ps) = size_of p.1 + set_sizes ps
 
 -- ---- steps
 
--- behind some names and trees: what they came to, what each name is to be set to, what names have, and the steps counted
+-- behind some names and trees: what they came to, what each name is to be set to, what names have, and the steps
+-- counted
 pub record LayerStage : Type 0 where
   pub joined : SoFar
   pub settings : List DoneSetting

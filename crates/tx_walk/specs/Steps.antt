@@ -123,8 +123,8 @@ pub record FitsNode (a : SoFar) : Type 0 where
 abbrev pub below : List ℕ → SoFar → SoFar
 below base a = record a { values = map (value_under base) a.values }
 
--- behind some children: what they came to, what names have, the parts that were gone through, the steps counted, and what
--- trees of layers came to
+-- behind some children: what they came to, what names have, the parts that were gone through, the steps counted, and
+-- what trees of layers came to
 pub record Stage : Type 0 where
   pub joined : SoFar
   pub names : Before

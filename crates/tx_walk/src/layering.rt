@@ -139,8 +139,8 @@ fn in_layers<O: Opener, L: Ledger>(
         ≡ steps.old
         + charged_in (guide_of (O.opens opener.now) kept.now) levels (wide_layers layers.now) i left
         path.now t.now (before_of env.old)) }
-    ensures layers { IfOk result (λ o. AreKnownIn (shells_by (O.opens opener.now)) levels (wide_layers layers.now) left t.now
-        (before_of env.old) progress.old.layers.items progress.new.layers.items (wide_outcome o)) }
+    ensures layers { IfOk result (λ o. AreKnownIn (shells_by (O.opens opener.now)) levels (wide_layers layers.now) left
+        t.now (before_of env.old) progress.old.layers.items progress.new.layers.items (wide_outcome o)) }
     ensures spent { OnOk result (RisesAlike steps.old progress.old.spent steps.new progress.new.spent) }
     ensures names_once { IfOk result NamesOnce }
     ensures done_ready { All IsReady done.new.items }
@@ -474,7 +474,8 @@ fn inside_layer<O: Opener, L: Ledger>(
     ensures counted { OnOk result (steps.new ≡ steps.old + charged_in (guide_of (O.opens opener.now) kept.now)
         levels (wide_layers layers.now) i left path.now t.now (get (overlaid env.old.map pairs.now))) }
     ensures layers { IfOk result (λ o. AreKnownIn (shells_by (O.opens opener.now)) levels (wide_layers layers.now) left
-        t.now (get (overlaid env.old.map pairs.now)) progress.old.layers.items progress.new.layers.items (wide_outcome o)) }
+        t.now (get (overlaid env.old.map pairs.now)) progress.old.layers.items progress.new.layers.items
+        (wide_outcome o)) }
     ensures spent { OnOk result (RisesAlike steps.old progress.old.spent steps.new progress.new.spent) }
     ensures names_once { IfOk result NamesOnce }
     ensures done_ready { All IsReady done.new.items }
@@ -522,7 +523,8 @@ fn set_layer<O: Opener, L: Ledger>(
     ensures counted { OnOk result (steps.new ≡ steps.old + charged_in (guide_of (O.opens opener.now) kept.now)
         levels (wide_layers layers.now) i left path.now t.now (get (overlaid env.old.map pairs.now))) }
     ensures layers { IfOk result (λ o. AreKnownIn (shells_by (O.opens opener.now)) levels (wide_layers layers.now) left
-        t.now (get (overlaid env.old.map pairs.now)) progress.old.layers.items progress.new.layers.items (wide_outcome o)) }
+        t.now (get (overlaid env.old.map pairs.now)) progress.old.layers.items progress.new.layers.items
+        (wide_outcome o)) }
     ensures spent { OnOk result (RisesAlike steps.old progress.old.spent steps.new progress.new.spent) }
     ensures names_once { IfOk result NamesOnce }
     ensures done_ready { All IsReady done.new.items }

@@ -12,8 +12,8 @@ ghost use Rattle.tx_walk.specs.Prior.{holder_of};
 ghost use Rattle.tx_walk.specs.Shells.{wide_layer};
 ghost use Rattle.tx_walk.specs.Spending.{RisesAlike};
 ghost use Rattle.tx_walk.specs.Steps.{so_far_of, with_trace, IsJoined};
-ghost use Rattle.tx_walk.specs.Layers.{name_trace, name_outcome, set_sizes, pairs_of_settings, TreeComes, SettingComes, LayerComes};
-ghost use Rattle.tx_walk.specs.Layers.{stage_in};
+ghost use Rattle.tx_walk.specs.Layers.{name_trace, name_outcome, set_sizes, pairs_of_settings, stage_in};
+ghost use Rattle.tx_walk.specs.Layers.{TreeComes, SettingComes, LayerComes};
 
 use crate::evaluating::spend_on;
 use crate::fitting::held_layer;

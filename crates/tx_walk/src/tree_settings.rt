@@ -1,5 +1,5 @@
 // Trees of a layer that are done, and the names that are set to them.
-ghost use Rattle.std.specs.Prelude.{◌≡◌, ◌+◌, true, false, IfOk, OnOk};
+ghost use Rattle.std.specs.Prelude.{◌≡◌, ◌≤◌, ◌+◌, true, false, IfOk, OnOk};
 ghost use Rattle.tx_tree.specs.WideTree.{size_of};
 ghost use Rattle.tx_origin.specs.Values.{plain};
 ghost use Rattle.tx_exec_form.specs.Laws.{Supports};
@@ -95,7 +95,8 @@ impl TreeSetting {
 
     /// The size of what the name is set to.
     pub(crate) fn size(&self) -> u64
-        ensures { result ≡ size_of (plain self.now.done.trace.value) }
+        ensures value { result ≡ size_of (plain self.now.done.trace.value) }
+        ensures few { result ≤ 1000000 }
     {
         self.trace.value.size()
     }

@@ -123,12 +123,12 @@ fn unit_of(
 /// It is gone into each `document` with a child, each `with` of names, texts and a last child, and each tag for which
 /// the opener tells a shell, down to trees of other kinds, which are the parts. A part is held where what is kept at
 /// its path fits what names have before it, or what the spare has there does: then its trace is the part's, and costs
-/// nothing. A part that the spare alone holds is told as renewed. So a layer's tree is held where what is kept of layers,
-/// or is spare, has its trace, and this fits what names have before the tree. The other parts are evaluated, and so are
-/// the other trees of layers, and the steps rise by their costs, which the answer tells, and by one for each node of
-/// what names are set to by the latter. A part that is over costs all the steps that it has, and so does a layer's tree.
-/// Another walk for which the answer's layers are kept evaluates no layer's tree. The environment is as before after
-/// every answer.
+/// nothing. A part that the spare alone holds is told as renewed. So a layer's tree is held where what is kept of
+/// layers, or is spare, has its trace, and this fits what names have before the tree. The other parts are evaluated,
+/// and so are the other trees of layers, and the steps rise by their costs, which the answer tells, and by one for each
+/// node of what names are set to by the latter. A part that is over costs all the steps that it has, and so does a
+/// layer's tree. Another walk for which the answer's layers are kept evaluates no layer's tree. The environment is as
+/// before after every answer.
 pub fn walk_with<O: Opener, L: Ledger>(
     alloc: Global,
     t: &Tree,

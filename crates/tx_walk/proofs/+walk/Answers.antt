@@ -104,7 +104,8 @@ walking::children-loop-i-preserved g t c = record {
   going = next (guide_of (g.O.Opener.opens c.args.opener.now) c.args.kept.now) c.args.levels c.args.left c.args.path.now
       (children_of c.args.t.now) (stage_of c.args.joined.now c.args.env.now c.args.done.now.items c.args.steps.now
       c.args.progress.now.layers.items)
-      c.loop-i.i (stage_of c.loop-i.joined c.loop-i.env c.loop-i.done.items c.loop-i.steps c.loop-i.progress.layers.items) c.loop-i.invariant.going
+      c.loop-i.i (stage_of c.loop-i.joined c.loop-i.env c.loop-i.done.items c.loop-i.steps
+      c.loop-i.progress.layers.items) c.loop-i.invariant.going
       c.in-Some.kid.now c.in-Some.ensures (stage_of c.one_child.new.joined c.one_child.new.env
       c.one_child.new.done.items c.one_child.new.steps
       c.one_child.new.progress.layers.items)
@@ -128,7 +129,8 @@ walking::children-returns-then-not-went-clause-comes g t c =
     stops (guide_of (g.O.Opener.opens c.args.opener.now) c.args.kept.now) c.args.levels c.args.left c.args.path.now
     (children_of c.args.t.now) (stage_of c.args.joined.now c.args.env.now c.args.done.now.items c.args.steps.now
     c.args.progress.now.layers.items)
-    c.loop-i.i (stage_of c.loop-i.joined c.loop-i.env c.loop-i.done.items c.loop-i.steps c.loop-i.progress.layers.items) c.loop-i.invariant.going
+    c.loop-i.i (stage_of c.loop-i.joined c.loop-i.env c.loop-i.done.items c.loop-i.steps
+    c.loop-i.progress.layers.items) c.loop-i.invariant.going
     c.in-Some.kid.now c.in-Some.ensures (stage_of c.one_child.new.joined c.one_child.new.env
     c.one_child.new.done.items c.one_child.new.steps
     c.one_child.new.progress.layers.items)
@@ -139,7 +141,8 @@ walking::children-returns-clause-comes g t c =
     ends (guide_of (g.O.Opener.opens c.args.opener.now) c.args.kept.now) c.args.levels c.args.left c.args.path.now
     (children_of c.args.t.now) (stage_of c.args.joined.now c.args.env.now c.args.done.now.items c.args.steps.now
     c.args.progress.now.layers.items)
-    c.loop-i.i (stage_of c.loop-i.joined c.loop-i.env c.loop-i.done.items c.loop-i.steps c.loop-i.progress.layers.items) c.loop-i.invariant.going
+    c.loop-i.i (stage_of c.loop-i.joined c.loop-i.env c.loop-i.done.items c.loop-i.steps
+    c.loop-i.progress.layers.items) c.loop-i.invariant.going
     (omega (arith, c.loop-i-test.false, c.loop-i.auto.i-end, c.arity-i-end.ensures))
 
 pub walking::document-returns-then-left-eq0-clause-exact : goal.walking::document-returns-then-left-eq0-clause-exact
@@ -390,6 +393,23 @@ walking::set_inside-returns-clause-added g t c =
     ∙ ap (λ m. parts_by (shells_by (g.O.Opener.opens c.args.opener.now)) c.args.levels c.args.left
     (c.args.path.now ++ c.args.i ∷ []) c.args.t.now (get m)) c.in_ok-set_all.ensures.map) h)
     c.walk_tree.ensures.added
+
+pub walking::inside-returns-clause-layers : goal.walking::inside-returns-clause-layers
+walking::inside-returns-clause-layers g t c =
+    IfOk-weaker c.set_inside-outcome.result _ _
+    (λ o h. subst (λ m. AreKnownBy (shells_by (g.O.Opener.opens c.args.opener.now)) c.args.levels c.args.left
+    c.args.t.now (get (overlaid m c.args.pairs.now)) c.args.progress.now.layers.items
+    c.set_inside-outcome.new.progress.layers.items (wide_outcome o)) c.enter-mark.ensures.map h)
+    c.set_inside-outcome.ensures.layers
+
+pub layering::inside_layer-returns-clause-layers : goal.layering::inside_layer-returns-clause-layers
+layering::inside_layer-returns-clause-layers g t c =
+    IfOk-weaker c.set_layer-outcome.result _ _
+    (λ o h. subst (λ m. AreKnownIn (shells_by (g.O.Opener.opens c.args.opener.now)) c.args.levels
+    (wide_layers c.args.layers.now) c.args.left c.args.t.now (get (overlaid m c.args.pairs.now))
+    c.args.progress.now.layers.items c.set_layer-outcome.new.progress.layers.items (wide_outcome o))
+    c.enter-mark.ensures.map h)
+    c.set_layer-outcome.ensures.layers
 
 pub walking::set_inside-returns-clause-layers : goal.walking::set_inside-returns-clause-layers
 walking::set_inside-returns-clause-layers g t c =
@@ -687,7 +707,8 @@ pub layering::behind_values-overflow_add-so_far : goal.layering::behind_values-o
 layering::behind_values-overflow_add-so_far g t c =
     omega (
       arith,
-      values_cost (holder_of c.args.kept.now) (c.args.levels - 1) (c.args.left - 1) (wide_layer c.args.layer.now) c.requires.comes.0
+      values_cost (holder_of c.args.kept.now) (c.args.levels - 1) (c.args.left - 1)
+          (wide_layer c.args.layer.now) c.requires.comes.0
           (stage_in c.args.so_far.now c.args.env.now c.args.steps.now) c.requires.comes.1,
       c.requires.left,
     )
@@ -834,7 +855,8 @@ layering::behind_values-returns-clause-counted g t c =
 
 pub layering::through_layer-behind_values-requires : goal.layering::through_layer-behind_values-requires
 layering::through_layer-behind_values-requires g t c κs within =
-    let done : (s : LayerStage) × LayerDone (holder_of c.args.kept.now) (c.args.levels - 1) (c.args.left - 1) (wide_layer c.args.layer.now) s
+    let done : (s : LayerStage) × LayerDone (holder_of c.args.kept.now) (c.args.levels - 1) (c.args.left - 1)
+    (wide_layer c.args.layer.now) s
     (stage_in c.add_layer.new.self c.add_layer.new.env c.add_layer.new.steps) = (
       stage_in c.args.so_far.now c.args.env.now c.args.steps.now,
       rw c.if-not-went.false at c.in_ok-went.ensures.comes,

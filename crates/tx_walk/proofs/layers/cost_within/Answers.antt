@@ -8,7 +8,7 @@ returns-then-cost-left c =
       arith,
       sizes_next c.args.settings.now c.loop-setting.setting-index c.setting-item.result c.loop-setting-test.true
           c.setting-item.is c.args.base c.loop-setting.cost c.size-cost.result c.loop-setting.invariant.so_far
-          c.size-cost.ensures,
+          c.size-cost.ensures.value,
       sizes_front (c.loop-setting.setting-index + 1) c.args.settings.now,
       c.if-cost-left.true,
     )
@@ -17,6 +17,6 @@ pub loop-setting-preserved : goal.loop-setting-preserved
 loop-setting-preserved c = record {
   so_far = sizes_next c.args.settings.now c.loop-setting.setting-index c.setting-item.result
       c.loop-setting-test.true c.setting-item.is c.args.base c.loop-setting.cost c.size-cost.result
-      c.loop-setting.invariant.so_far c.size-cost.ensures;
+      c.loop-setting.invariant.so_far c.size-cost.ensures.value;
   low = omega (arith, c.if-cost-left.false);
 }

@@ -21,7 +21,8 @@ returns-clause-parts g c =
 pub returns-clause-counted : goal.returns-clause-counted
 returns-clause-counted g c =
     both_ok c.walk_with.result _ _ _
-    (λ w h p. h ∙ ap (λ n. c.args.steps.now + n) (p ∙ nothing_opened (stores_in c.args.kept.now c.args.spare.now) (holds_either [] []) 400
+    (λ w h p. h ∙ ap (λ n. c.args.steps.now + n) (p ∙ nothing_opened
+    (stores_in c.args.kept.now c.args.spare.now) (holds_either [] []) 400
     c.args.allowance [] c.args.t.now (before_of c.args.env.now)))
     c.walk_with.ensures.counted c.walk_with.ensures.charge
 

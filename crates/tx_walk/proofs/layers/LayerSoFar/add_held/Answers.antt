@@ -15,7 +15,7 @@ returns-then-trace-rest-clause-comes c =
     let dear : (c.args.left - c.args.self.now.joined.cost < c.args.found.now.trace.cost)
     ⊎ (c.args.levels < c.args.found.now.trace.height) =
     elim c.then-trace-rest.branch [
-      then-trace-rest-via-then-trace-rest w ↦ inl (omega (arith, w.if-trace-rest.true, cost))
+      | then-trace-rest-via-then-trace-rest w ↦ inl (omega (arith, w.if-trace-rest.true, cost))
       | then-trace-rest-via-else-trace-rest+then-trace-levels w ↦ inr (omega (arith, w.if-trace-levels.true, height))
     ] in
     λ count. record {
