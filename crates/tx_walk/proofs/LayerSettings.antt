@@ -3,6 +3,7 @@ use Rattle.std.proofs.Common.{◌≡◌, ℕ, zero, suc, ◌+◌, ◌<◌, ◌�
 use Rattle.std.proofs.Common.{ap, sym, subst, ◌∙◌, arith}
 use Rattle.std.proofs.lemmas.List.{map-append, take_more}
 use Rattle.tx_tree.specs.WideTree.{WideTree, size_of}
+use Rattle.tx_tree.specs.Limits.{IsWithinLimits}
 use Rattle.tx_env.specs.Pairs.{Name}
 use Rattle.tx_origin.specs.Values.{plain}
 use Rattle.tx_parts.specs.LayerCosts.{Holder, HoldsMore}
@@ -55,3 +56,8 @@ module _ (ss : List DoneSetting) (i : ℕ) (s : DoneSetting) (lt : i < length ss
       AllHeldBy more (take (i + 1) ss)
   held_next held more both h g =
       subst (AllHeldBy more) (sym one_more) (all_with more (take i ss) s (all_more held more both (take i ss) h) g)
+
+-- ---- what is within the limits
+
+pub few_size : (t : WideTree) (n : ℕ) → n ≡ size_of t → IsWithinLimits t → n ≤ 8000000
+few_size t n e h = let few : size_of t ≤ 8000000 = h.size in omega (arith, e, few)

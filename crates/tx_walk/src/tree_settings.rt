@@ -96,7 +96,7 @@ impl TreeSetting {
     /// The size of what the name is set to.
     pub(crate) fn size(&self) -> u64
         ensures value { result ≡ size_of (plain self.now.done.trace.value) }
-        ensures few { result ≤ 1000000 }
+        ensures few { result ≤ 8000000 }
     {
         self.trace.value.size()
     }
