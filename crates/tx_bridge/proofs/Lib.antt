@@ -39,3 +39,4 @@ pub mod Aligned
 pub mod Lending
 pub mod Spared
 pub mod Refreshed
+pub mod CarriedInPlace

@@ -1,0 +1,32 @@
+// Laws of what is kept through an edit.
+ghost use Rattle.std.specs.Prelude.{◌≡◌, ℕ, List, Some, length};
+ghost use Rattle.tx_tree.specs.WideTree.{WideTree};
+ghost use Rattle.tx_mod.specs.declared.mods.Mod.{Mod as Change};
+ghost use Rattle.tx_mod.specs.Followed.{changed_by_all};
+ghost use Rattle.tx_units.specs.Units.{units_with};
+ghost use Rattle.tx_bridge.specs.Entries.{Kept, units_of};
+ghost use Rattle.tx_bridge.specs.HeldParts.{AllPartsHold};
+ghost use Rattle.tx_bridge.specs.InPlace.{IsOneChanged};
+ghost use Rattle.tx_bridge.specs.Names.{CarryParts, CarryStrays, CarryWithin, PartMoves, Sources, StraysBeside};
+ghost use Rattle.tx_bridge.specs.PartsKept.{KeptParts};
+ghost use Rattle.tx_bridge.specs.Strays.{Stray, AreStrays, kept_strays};
+ghost use Rattle.tx_bridge.specs.UnitLists.{AreUnits};
+
+/// A law: where an edit of the document changes the tree of one paragraph alone, what `carry_in_place` says of parts and
+/// of strays is what `carry` says. Of the new tree nothing is asked.
+pub fn in_place_law()
+    ensures parts { (i : ℕ) (ms : List Change) (t u tree : WideTree) (kept : Kept) (parts : List KeptParts)
+        (strays : List Stray) → changed_by_all ms t ≡ Some u → AreUnits (units_of kept)
+        → IsOneChanged i 0 ms (units_of kept) → AllPartsHold kept parts → AreStrays (units_of kept) strays
+        → CarryWithin i ms t (units_of kept) parts
+        ≡ CarryParts parts
+        (PartMoves 0 ms t (units_of kept) parts (kept_strays strays) (units_with i tree (units_of kept)))
+        (Sources 0 ms t (units_of kept) (units_with i tree (units_of kept))) }
+    ensures strays { (i : ℕ) (ms : List Change) (t u tree : WideTree) (kept : Kept) (parts : List KeptParts)
+        (strays : List Stray) → changed_by_all ms t ≡ Some u → AreUnits (units_of kept)
+        → IsOneChanged i 0 ms (units_of kept) → AllPartsHold kept parts → AreStrays (units_of kept) strays
+        → kept_strays (StraysBeside i (units_of kept) strays)
+        ≡ CarryStrays
+        (PartMoves 0 ms t (units_of kept) parts (kept_strays strays) (units_with i tree (units_of kept)))
+        (length (units_with i tree (units_of kept))) }
+{}
