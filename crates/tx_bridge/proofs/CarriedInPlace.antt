@@ -1,12 +1,12 @@
 -- Where one unit alone changes, what is kept in place is what a carry keeps.
 use Rattle.std.proofs.Common.{◌≡◌, ℕ, zero, suc, ◌+◌, ◌<◌, Bool, true, false, cond, List, [], ◌∷◌, ◌++◌, length, drop}
-use Rattle.std.proofs.Common.{map, filter, not, Option, Some, None, Ok, Err, refl, sym, ap, subst, ◌∙◌, arith}
+use Rattle.std.proofs.Common.{map, not, Option, Some, None, Ok, Err, refl, sym, ap, subst, ◌∙◌, arith}
 use Rattle.std.proofs.lemmas.Bool.Decides.{Decides-eqb}
 use Rattle.std.proofs.lemmas.List.{append_assoc, append-nil, length-append, length-map}
 use Rattle.std.proofs.lemmas.List.Elements.{filter_map-append}
 use Rattle.std.proofs.lemmas.Option.{same_Some, slice_get_within}
 use Rattle.std.proofs.lemmas.Slice.Eq.{bytes_eq-Decides}
-use Rattle.std.specs.List.{AllByRecursion, cons_option, filter_map}
+use Rattle.std.specs.List.{AllByRecursion, cons_option}
 use Rattle.std.specs.Option.{option_map, option_map_or}
 use Rattle.std.specs.Prelude.{◌==◌, ◌&&◌, is_some, if◌then◌else◌, slice_get, option_and_then}
 use Rattle.tx_tree.specs.WideTree.{WideTree}
@@ -16,7 +16,6 @@ use Rattle.tx_mod.specs.Mods.{path_of}
 use Rattle.tx_mod.specs.Changes.{Outcome, changed}
 use Rattle.tx_mod.specs.Moves.{rest_behind, carried_at, carried_path}
 use Rattle.tx_mod.specs.Followed.{outcome_tree, changed_by_all, carried_by_all}
-use Rattle.tx_parts.specs.Parts.{Stored}
 use Rattle.tx_units.specs.declared.kinds.Unit.{Unit as DocUnit}
 use Rattle.tx_units.specs.Places.{AreApart, NoneBegins}
 use Rattle.tx_units.specs.Units.{unit_with, units_with}
@@ -140,7 +139,7 @@ that_with i x [] w at = cc
 that_with zero x (u ∷ us) w at = ap (λ v. Some (unit_with x v)) (same_Some u w at)
 that_with (suc i) x (u ∷ us) w at = that_with i x us w at
 
-apart_one : (o : Option (List ℕ)) (us : List DocUnit) (k : ℕ) (w : DocUnit)
+pub apart_one : (o : Option (List ℕ)) (us : List DocUnit) (k : ℕ) (w : DocUnit)
     → AllByRecursion (λ v. AreApart o v.path) us → slice_get us k ≡ Some w → AreApart o w.path
 apart_one o [] k w h e = cc
 apart_one o (u ∷ us) zero w h e = subst (λ (v : DocUnit). AreApart o v.path) (same_Some u w e) h.0
@@ -528,7 +527,7 @@ numbers_same i ms t u x us made are one =
 
 -- ---- what is asked
 
-many_parts : (es : Kept) (pss : List KeptParts) → AllPartsHold es pss → length pss ≡ length (units_of es)
+pub many_parts : (es : Kept) (pss : List KeptParts) → AllPartsHold es pss → length pss ≡ length (units_of es)
 many_parts [] [] h = refl
 many_parts [] (ks ∷ pss) h = absurd h
 many_parts (e ∷ es) [] h = absurd h

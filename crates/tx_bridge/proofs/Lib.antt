@@ -40,3 +40,5 @@ pub mod Lending
 pub mod Spared
 pub mod Refreshed
 pub mod CarriedInPlace
+pub mod CarriedAlong
+pub mod KeptAlong

@@ -3,17 +3,23 @@ ghost use Rattle.std.specs.Prelude.{◌≡◌, ℕ, List, Some, length};
 ghost use Rattle.tx_tree.specs.WideTree.{WideTree};
 ghost use Rattle.tx_mod.specs.declared.mods.Mod.{Mod as Change};
 ghost use Rattle.tx_mod.specs.Followed.{changed_by_all};
+ghost use Rattle.tx_exec_form.specs.Evaluated.{WideTrace};
+ghost use Rattle.tx_units.specs.declared.kinds.Unit.{Unit as DocUnit};
 ghost use Rattle.tx_units.specs.Units.{units_with};
+ghost use Rattle.tx_bridge.specs.Carrying.{AllStand};
 ghost use Rattle.tx_bridge.specs.Entries.{Kept, units_of};
 ghost use Rattle.tx_bridge.specs.HeldParts.{AllPartsHold};
 ghost use Rattle.tx_bridge.specs.InPlace.{IsOneChanged};
+ghost use Rattle.tx_bridge.specs.KeptInDocument.{kept_behind, CameAlong};
 ghost use Rattle.tx_bridge.specs.Names.{CarryParts, CarryStrays, CarryWithin, PartMoves, Sources, StraysBeside};
 ghost use Rattle.tx_bridge.specs.PartsKept.{KeptParts};
-ghost use Rattle.tx_bridge.specs.Strays.{Stray, AreStrays, kept_strays};
+ghost use Rattle.tx_bridge.specs.Strays.{Stray, AreStrays, StandAside, kept_strays};
 ghost use Rattle.tx_bridge.specs.UnitLists.{AreUnits};
 
-/// A law: where an edit of the document changes the tree of one paragraph alone, what `carry_in_place` says of parts and
-/// of strays is what `carry` says. Of the new tree nothing is asked.
+use tx_mod::{carried_law, carried_list_law};
+
+/// A law: where an edit of the document changes the tree of one paragraph alone, what `carry_in_place` says of parts
+/// and of strays is what `carry` says. Of the new tree nothing is asked.
 pub fn in_place_law()
     ensures parts { (i : ℕ) (ms : List Change) (t u tree : WideTree) (kept : Kept) (parts : List KeptParts)
         (strays : List Stray) → changed_by_all ms t ≡ Some u → AreUnits (units_of kept)
@@ -30,3 +36,26 @@ pub fn in_place_law()
         (PartMoves 0 ms t (units_of kept) parts (kept_strays strays) (units_with i tree (units_of kept)))
         (length (units_with i tree (units_of kept))) }
 {}
+
+/// A law: what `carry` says of parts and strays, read by paths of the document. Where an edit of the document changes
+/// t, in which the old units and the strays stand, a trace is kept at a path afterwards exactly where it was kept
+/// before at a path from which the modifications lead there.
+pub fn carry_paths_law()
+    ensures came { (ms : List Change) (t u : WideTree) (kept : Kept) (parts : List KeptParts) (strays : List Stray)
+        (news : List DocUnit) (path : List ℕ) (trace : WideTrace) → changed_by_all ms t ≡ Some u
+        → AreUnits (units_of kept) → AreUnits news → AllStand t (units_of kept) → AllPartsHold kept parts
+        → AreStrays (units_of kept) strays → StandAside t strays
+        → kept_behind parts (PartMoves 0 ms t (units_of kept) parts (kept_strays strays) news)
+        (Sources 0 ms t (units_of kept) news) news path ≡ Some trace
+        → CameAlong ms t (units_of kept) parts (kept_strays strays) path trace }
+    ensures kept { (ms : List Change) (t u : WideTree) (kept : Kept) (parts : List KeptParts) (strays : List Stray)
+        (news : List DocUnit) (path : List ℕ) (trace : WideTrace) → changed_by_all ms t ≡ Some u
+        → AreUnits (units_of kept) → AreUnits news → AllStand t (units_of kept) → AllPartsHold kept parts
+        → AreStrays (units_of kept) strays → StandAside t strays
+        → CameAlong ms t (units_of kept) parts (kept_strays strays) path trace
+        → kept_behind parts (PartMoves 0 ms t (units_of kept) parts (kept_strays strays) news)
+        (Sources 0 ms t (units_of kept) news) news path ≡ Some trace }
+{
+    carried_law();
+    carried_list_law();
+}

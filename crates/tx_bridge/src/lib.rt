@@ -23,7 +23,7 @@ mod unit_parts;
 mod within;
 
 pub use bridges::Bridges;
-pub use carry_laws::in_place_law;
+pub use carry_laws::{carry_paths_law, in_place_law};
 pub use course::{Course, PartMove};
 pub use fitting::is_silent;
 pub use keeping::all_keep_place;
