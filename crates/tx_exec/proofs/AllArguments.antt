@@ -7,7 +7,7 @@ use Rattle.tx_origin.specs.Values.{WideValue}
 use Rattle.tx_origin.specs.TaggedTrees.{TaggedTree, kids_at}
 use Rattle.tx_exec_form.specs.Runs.{Before, State, Over}
 use Rattle.tx_exec_form.specs.Frames.{Frame}
-use Rattle.tx_exec_form.specs.Numbers.{numbers_of, value_number}
+use Rattle.tx_exec_form.specs.Numbers.{integers_of, value_number}
 use Rattle.tx_exec_form.specs.Rows.{Eval, EvalAll, wrong, itself, xmacro, xmacro_in, numbered, all_numbered, all_used}
 use Rattle.tx_exec_form.specs.Rows.{tuple_run, ex, ex_all}
 use Rattle.tx_exec_form.specs.declared.rows.Taking.{Taking}
@@ -71,7 +71,7 @@ pub ruleset first_rules = (first_none, first_some)
 
 module _ (taking : Taking) (k : ℕ) (below : Eval) (below_all : EvalAll) (f : Frame) (label x : List ℕ) where
   pub number_none : (ts : List TaggedTree) (vs : List WideValue) → length vs ≡ 0
-      → all_numbered taking k below below_all f label x ts (numbers_of vs) ≡ all_used taking k below_all f ts
+      → all_numbered taking k below below_all f label x ts (integers_of vs) ≡ all_used taking k below_all f ts
   number_none ts [] e = refl
   number_none ts (v ∷ vs) e = absurd (omega (arith, e))
 
@@ -84,16 +84,16 @@ module _ (taking : Taking) (k : ℕ) (below : Eval) (below_all : EvalAll) (f : F
 
     by_first : (vs : List WideValue) (o : Option ℤ)
         → all_numbered taking k below below_all f label x (kids_at at t)
-        (option_and_then (λ n. option_map (λ ns. n ∷ ns) (numbers_of vs)) o)
+        (option_and_then (λ n. option_map (λ ns. n ∷ ns) (integers_of vs)) o)
         ≡ numbered taking k below f label x (record { tree = t; at = at })
-        (option_and_then (λ n. option_map (λ ns. n ∷ ns) (numbers_of vs)) o)
+        (option_and_then (λ n. option_map (λ ns. n ∷ ns) (integers_of vs)) o)
     by_first vs None = refl
-    by_first vs (Some n) = by_rest n (numbers_of vs)
+    by_first vs (Some n) = by_rest n (integers_of vs)
 
     -- the part of the tag to which the numbers lead
     pub number_some : (vs : List WideValue) → 0 < length vs
-        → all_numbered taking k below below_all f label x (kids_at at t) (numbers_of vs)
-        ≡ numbered taking k below f label x (record { tree = t; at = at }) (numbers_of vs)
+        → all_numbered taking k below below_all f label x (kids_at at t) (integers_of vs)
+        ≡ numbered taking k below f label x (record { tree = t; at = at }) (integers_of vs)
     number_some [] lt = absurd (omega (arith, lt))
     number_some (v ∷ vs) lt = by_first vs (value_number v)
 

@@ -7,7 +7,7 @@ use Rattle.std.specs.Option.{option_map}
 use Rattle.std.proofs.lemmas.Grind.{common_steps}
 use Rattle.tx_origin.specs.Values.{WideValue}
 use Rattle.tx_origin.specs.TaggedTrees.{TaggedTree, kids_of}
-use Rattle.tx_exec_form.specs.Numbers.{value_number, numbers_of, kid_at, part_of}
+use Rattle.tx_exec_form.specs.Numbers.{value_number, integers_of, kid_at, part_of}
 use Rattle.tx_exec.proofs.Kids.{few_kids}
 
 pub item_drop : (vs : List WideValue) (i : ℕ) (v : WideValue) → i < length vs → v ≡ get_or vs i v
@@ -22,39 +22,39 @@ behind ns n (Some ms) = ap Some (sym (append_assoc ns (n ∷ []) ms))
 -- what the numbers so far and the values left are together
 pub numbers_next : (vs : List WideValue) (i : ℕ) (v : WideValue) (n : ℤ) (ns ms : List ℤ) (r : Option (List ℤ))
     → i < length vs → v ≡ get_or vs i v → value_number v ≡ Some n → ms ≡ ns ++ n ∷ []
-    → option_map (λ xs. ns ++ xs) (numbers_of (drop i vs)) ≡ r
-    → option_map (λ xs. ms ++ xs) (numbers_of (drop (i + 1) vs)) ≡ r
+    → option_map (λ xs. ns ++ xs) (integers_of (drop i vs)) ≡ r
+    → option_map (λ xs. ms ++ xs) (integers_of (drop (i + 1) vs)) ≡ r
 numbers_next vs i v n ns ms r lt is h e run =
-    ap (λ xs. option_map (λ ys. xs ++ ys) (numbers_of (drop (i + 1) vs))) e
-    ∙ sym (behind ns n (numbers_of (drop (i + 1) vs)))
+    ap (λ xs. option_map (λ ys. xs ++ ys) (integers_of (drop (i + 1) vs))) e
+    ∙ sym (behind ns n (integers_of (drop (i + 1) vs)))
     ∙ ap (λ o. option_map (λ xs. ns ++ xs)
-    (option_and_then (λ m. option_map (λ xs. m ∷ xs) (numbers_of (drop (i + 1) vs))) o)) (sym h)
-    ∙ ap (λ us. option_map (λ xs. ns ++ xs) (numbers_of us)) (sym (item_drop vs i v lt is)) ∙ run
+    (option_and_then (λ m. option_map (λ xs. m ∷ xs) (integers_of (drop (i + 1) vs))) o)) (sym h)
+    ∙ ap (λ us. option_map (λ xs. ns ++ xs) (integers_of us)) (sym (item_drop vs i v lt is)) ∙ run
 
 pub numbers_none : (vs : List WideValue) (i : ℕ) (v : WideValue) (ns : List ℤ) (r : Option (List ℤ)) → i < length vs
     → v ≡ get_or vs i v → value_number v ≡ None
-    → option_map (λ xs. ns ++ xs) (numbers_of (drop i vs)) ≡ r → None ≡ r
+    → option_map (λ xs. ns ++ xs) (integers_of (drop i vs)) ≡ r → None ≡ r
 numbers_none vs i v ns r lt is h run =
     ap (λ o. option_map (λ xs. ns ++ xs)
-    (option_and_then (λ m. option_map (λ xs. m ∷ xs) (numbers_of (drop (i + 1) vs))) o)) (sym h)
-    ∙ ap (λ us. option_map (λ xs. ns ++ xs) (numbers_of us)) (sym (item_drop vs i v lt is)) ∙ run
+    (option_and_then (λ m. option_map (λ xs. m ∷ xs) (integers_of (drop (i + 1) vs))) o)) (sym h)
+    ∙ ap (λ us. option_map (λ xs. ns ++ xs) (integers_of us)) (sym (item_drop vs i v lt is)) ∙ run
 
 no_more : (ns : List ℤ) → ns ++ [] ≡ ns
 no_more [] = refl
 no_more (n ∷ ns) = ap (λ ms. n ∷ ms) (no_more ns)
 
 pub numbers_end : (vs : List WideValue) (i : ℕ) (ns : List ℤ) (r : Option (List ℤ)) → length vs ≤ i
-    → option_map (λ xs. ns ++ xs) (numbers_of (drop i vs)) ≡ r → Some ns ≡ r
+    → option_map (λ xs. ns ++ xs) (integers_of (drop i vs)) ≡ r → Some ns ≡ r
 numbers_end vs i ns r le run =
     let end : drop i vs ≡ [] = grind (arith, common_steps, le) in
-    ap Some (sym (no_more ns)) ∙ ap (λ us. option_map (λ xs. ns ++ xs) (numbers_of us)) (sym end) ∙ run
+    ap Some (sym (no_more ns)) ∙ ap (λ us. option_map (λ xs. ns ++ xs) (integers_of us)) (sym end) ∙ run
 
 no_front : (o : Option (List ℤ)) → option_map (λ xs. xs) o ≡ o
 no_front None = refl
 no_front (Some xs) = refl
 
-pub numbers_start : (vs : List WideValue) → option_map (λ xs. [] ++ xs) (numbers_of (drop 0 vs)) ≡ numbers_of vs
-numbers_start vs = no_front (numbers_of vs)
+pub numbers_start : (vs : List WideValue) → option_map (λ xs. [] ++ xs) (integers_of (drop 0 vs)) ≡ integers_of vs
+numbers_start vs = no_front (integers_of vs)
 
 pub ruleset number_rules = (numbers_start, numbers_none, numbers_end)
 

@@ -5,7 +5,7 @@ use Rattle.tx_origin.specs.Values.{WideValue}
 use Rattle.tx_origin.specs.TaggedTrees.{TaggedTree}
 use Rattle.tx_exec_form.specs.Runs.{Before, State, Ran, Done, Run, on_done, ◌>>=◌}
 use Rattle.tx_exec_form.specs.Frames.{Frame}
-use Rattle.tx_exec_form.specs.Rows.{Eval, wrong, joined, decided, turns}
+use Rattle.tx_exec_form.specs.Rows.{Eval, wrong, gathered, decided, turns}
 use Rattle.tx_exec.specs.Gives.{Fails}
 use Rattle.tx_exec.specs.FlowRuns.{truth_run, ended_by}
 use Rattle.tx_exec.specs.declared.picks.Ending.{Ending}
@@ -20,26 +20,26 @@ module _ (k : ℕ) (below : Eval) (f : Frame) (label : List ℕ) (c b : TaggedTr
   limit : Run WideValue
   limit = wrong k (codes "limit") label
 
-  closing : r ≡ on_done e (decided k label limit (joined vs)) (truth_run below f c e s)
+  closing : r ≡ on_done e (decided k label limit (gathered vs)) (truth_run below f c e s)
   unfolding turns limit
   closing =
       sym run ∙ ap (λ p. turns p k below f label c b vs e s) no_more
-      ∙ by_truth k below f label c (wrong k (codes "limit") label) (joined vs) e s
+      ∙ by_truth k below f label c (wrong k (codes "limit") label) (gathered vs) e s
 
   pub last_stop : (x : Stop) → Fails x (truth_run below f c e s) → Fails x r
   last_stop x h =
-      fails_as x r _ closing (stop_bind x e (decided k label limit (joined vs)) (truth_run below f c e s) h)
+      fails_as x r _ closing (stop_bind x e (decided k label limit (gathered vs)) (truth_run below f c e s) h)
 
   pub last_bad : (s1 : State) → truth_run below f c e s ≡ Done None s1
       → r ≡ ended_by k label vs endings.Bad e s1
   unfolding ended_by
-  last_bad s1 h = closing ∙ ap (on_done e (decided k label limit (joined vs))) h
+  last_bad s1 h = closing ∙ ap (on_done e (decided k label limit (gathered vs))) h
 
   last_by : (holds : Bool) (s1 : State) → truth_run below f c e s ≡ Done (Some holds) s1
       → r ≡ ended_by k label vs (if holds then endings.Limit else endings.Finished) e s1
   unfolding ended_by limit
-  last_by true s1 h = closing ∙ ap (on_done e (decided k label limit (joined vs))) h
-  last_by false s1 h = closing ∙ ap (on_done e (decided k label limit (joined vs))) h
+  last_by true s1 h = closing ∙ ap (on_done e (decided k label limit (gathered vs))) h
+  last_by false s1 h = closing ∙ ap (on_done e (decided k label limit (gathered vs))) h
 
   pub last_holds : (holds : Bool) (s1 : State) (ending : Ending) → truth_run below f c e s ≡ Done (Some holds) s1
       → ending ≡ (if holds then endings.Limit else endings.Finished) → r ≡ ended_by k label vs ending e s1
@@ -53,29 +53,29 @@ module _ (k : ℕ) (below : Eval) (f : Frame) (label : List ℕ) (c b : TaggedTr
   turn : Run WideValue
   turn = below b f >>= further
 
-  opened : r ≡ on_done e (decided k label turn (joined vs)) (truth_run below f c e s)
+  opened : r ≡ on_done e (decided k label turn (gathered vs)) (truth_run below f c e s)
   unfolding turns turn further
   opened =
       sym run ∙ ap (λ p. turns p k below f label c b vs e s) more
-      ∙ by_truth k below f label c (below b f >>= λ w. turns n k below f label c b (vs ++ w ∷ [])) (joined vs) e s
+      ∙ by_truth k below f label c (below b f >>= λ w. turns n k below f label c b (vs ++ w ∷ [])) (gathered vs) e s
 
   pub turn_stop : (x : Stop) → Fails x (truth_run below f c e s) → Fails x r
   turn_stop x h =
-      fails_as x r _ opened (stop_bind x e (decided k label turn (joined vs)) (truth_run below f c e s) h)
+      fails_as x r _ opened (stop_bind x e (decided k label turn (gathered vs)) (truth_run below f c e s) h)
 
   pub turn_bad : (s1 : State) → truth_run below f c e s ≡ Done None s1
       → r ≡ ended_by k label vs endings.Bad e s1
   unfolding ended_by
-  turn_bad s1 h = opened ∙ ap (on_done e (decided k label turn (joined vs))) h
+  turn_bad s1 h = opened ∙ ap (on_done e (decided k label turn (gathered vs))) h
 
   pub turn_end : (s1 : State) → truth_run below f c e s ≡ Done (Some false) s1
       → r ≡ ended_by k label vs endings.Finished e s1
   unfolding ended_by
-  turn_end s1 h = opened ∙ ap (on_done e (decided k label turn (joined vs))) h
+  turn_end s1 h = opened ∙ ap (on_done e (decided k label turn (gathered vs))) h
 
   body : (s1 : State) → truth_run below f c e s ≡ Done (Some true) s1 → r ≡ on_done e further (below b f e s1)
   unfolding turn
-  body s1 h = opened ∙ ap (on_done e (decided k label turn (joined vs))) h
+  body s1 h = opened ∙ ap (on_done e (decided k label turn (gathered vs))) h
 
   pub body_stop : (s1 : State) (x : Stop) → truth_run below f c e s ≡ Done (Some true) s1
       → Fails x (below b f e s1) → Fails x r

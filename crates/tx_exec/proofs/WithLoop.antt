@@ -11,7 +11,7 @@ use Rattle.tx_origin.proofs.Parts.{nodes_le_size}
 use Rattle.tx_env.specs.Pairs.{Name}
 use Rattle.tx_exec_form.specs.Runs.{Before, State, Ran, Over, Done, Run, on_done, ◌>>=◌, ◌>>◌, give, pay}
 use Rattle.tx_exec_form.specs.Frames.{Frame}
-use Rattle.tx_exec_form.specs.Rows.{Eval, wrong, named, Sets, sizes, kept, kept_of, set_all, is_odd}
+use Rattle.tx_exec_form.specs.Rows.{Eval, wrong, if_text, Sets, sizes, kept, kept_of, set_all, is_odd}
 use Rattle.tx_exec_form.specs.Rows.{assign, assigned, with_body, with_parts, with_row}
 use Rattle.tx_exec.specs.declared.stop.Stop.{Stop}
 use Rattle.tx_exec.specs.Gives.{Gives, Fails}
@@ -61,14 +61,14 @@ module _ (k : ℕ) (label : List ℕ) (e : Before) (behind : Run WideValue) (go 
   by_value name x (Done v s) = refl
 
   by_words : (name : WideValue) (o : Option Name) (s : State)
-      → named k label (λ x. behind >>= λ v. go (record { name = name; words = x; value = v })) o e s
+      → if_text k label (λ x. behind >>= λ v. go (record { name = name; words = x; value = v })) o e s
       ≡ on_done e (paired k label go) (pair_named behind name o e s)
   by_words name None s = refl
   by_words name (Some x) s = by_value name x (behind e s)
 
   by_pair : (r : Ran WideValue)
       → on_done e
-      (λ name. named k label (λ x. behind >>= λ v. go (record { name = name; words = x; value = v }))
+      (λ name. if_text k label (λ x. behind >>= λ v. go (record { name = name; words = x; value = v }))
       (value_text name)) r
       ≡ on_done e (paired k label go) (on_done e (λ name. pair_named behind name (value_text name)) r)
   by_pair Over = refl
@@ -77,16 +77,16 @@ module _ (k : ℕ) (label : List ℕ) (e : Before) (behind : Run WideValue) (go 
 pub front_run : (k : ℕ) (below : Eval) (f : Frame) (label : List ℕ) (ts : List TaggedTree) (i : ℕ) (x v : TaggedTree)
     (go : Pair → Run WideValue) (e : Before) (s : State) → slice_get ts i ≡ Some x → slice_get ts (i + 1) ≡ Some v
     → on_done e
-    (λ name. named k label (λ n. below v f >>= λ w. go (record { name = name; words = n; value = w }))
+    (λ name. if_text k label (λ n. below v f >>= λ w. go (record { name = name; words = n; value = w }))
     (value_text name)) (below x f e s)
     ≡ on_done e (paired k label go) (pair_run below f ts i e s)
 unfolding pair_run
 front_run k below f label ts i x v go e s a b =
     ap (λ m. on_done e
-    (λ name. named k label (λ n. m >>= λ w. go (record { name = name; words = n; value = w })) (value_text name))
+    (λ name. if_text k label (λ n. m >>= λ w. go (record { name = name; words = n; value = w })) (value_text name))
     (below x f e s)) (sym (kid_run_is below f ts (i + 1) v b))
     ∙ ap (λ m. on_done e
-    (λ name. named k label (λ n. kid_run below f ts (i + 1) >>= λ w.
+    (λ name. if_text k label (λ n. kid_run below f ts (i + 1) >>= λ w.
     go (record { name = name; words = n; value = w })) (value_text name)) (m e s))
     (sym (kid_run_is below f ts i x a))
     ∙ by_pair k label e (kid_run below f ts (i + 1)) go (kid_run below f ts i e s)

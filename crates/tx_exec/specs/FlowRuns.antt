@@ -4,7 +4,7 @@ use Rattle.tx_origin.specs.Values.{WideValue, text}
 use Rattle.tx_origin.specs.TaggedTrees.{TaggedTree}
 use Rattle.tx_exec_form.specs.Runs.{Run, ◌>>=◌, give}
 use Rattle.tx_exec_form.specs.Frames.{Frame}
-use Rattle.tx_exec_form.specs.Rows.{Eval, wrong, taken, value_truth, joined}
+use Rattle.tx_exec_form.specs.Rows.{Eval, wrong, taken, value_truth, gathered}
 use Rattle.tx_exec.specs.PartRuns.{kid_run}
 use Rattle.tx_exec.specs.declared.picks.Pick.{Pick}
 use Rattle.tx_exec.specs.declared.picks.Pick.TheVariants as picks
@@ -31,5 +31,5 @@ IsPick kids picks.Nothing = Unit {0}
 -- how a `while` ends, where these are its values
 unfoldable pub ended_by : ℕ → List ℕ → List WideValue → Ending → Run WideValue
 ended_by k label vs endings.Bad = wrong k (codes "bad") label
-ended_by k label vs endings.Finished = joined vs
+ended_by k label vs endings.Finished = gathered vs
 ended_by k label vs endings.Limit = wrong k (codes "limit") label

@@ -1,7 +1,7 @@
 // Rows that use an argument: `arg` and `quote-arg`.
 ghost use Rattle.std.specs.Prelude.{◌≡◌, ◌+◌, ◌-◌, ◌<◌, ◌≤◌, Ok, Some, None, Option, drop, length};
 ghost use Rattle.tx_origin.specs.TaggedTrees.{tagged_of, kids_of};
-ghost use Rattle.tx_exec_form.specs.Numbers.{numbers_of};
+ghost use Rattle.tx_exec_form.specs.Numbers.{integers_of};
 ghost use Rattle.tx_exec_form.specs.Rows.{ex, ex_all, arg, arg_of, arg_part, numbered, used};
 ghost use Rattle.tx_exec_form.specs.Rows.{all_part, all_numbered, all_used, tuple_run};
 ghost use Rattle.tx_exec.specs.FrameView.{frame_in};
@@ -158,7 +158,7 @@ impl Progress {
         requires left { self.old.left ≤ 1000000 }
         ensures gives { Gives (λ v. v) result
             (numbered taking levels (ex (levels - 1)) (frame_in frame.entry) label.now name.now (tagged_of found.now)
-            (numbers_of values.now)
+            (integers_of values.now)
             (before_of env.now) (state_of self.old))
             (state_of self.new) }
         ensures paid { Counts result (steps.old + self.old.left) (steps.new + self.new.left) }
@@ -254,7 +254,7 @@ impl Progress {
         requires left { self.old.left ≤ 1000000 }
         ensures gives { Gives (λ v. v) result
             (all_numbered taking levels (ex (levels - 1)) (ex_all (levels - 1)) (frame_in frame.entry) label.now
-            name.now (kids_of (tagged_of tag.now)) (numbers_of values.now)
+            name.now (kids_of (tagged_of tag.now)) (integers_of values.now)
             (before_of env.now) (state_of self.old))
             (state_of self.new) }
         ensures paid { Counts result (steps.old + self.old.left) (steps.new + self.new.left) }

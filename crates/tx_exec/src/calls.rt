@@ -9,7 +9,7 @@ ghost use Rattle.tx_origin.specs.TaggedTrees.{TaggedTree, tagged_of, kids_of};
 ghost use Rattle.tx_exec_form.specs.Runs.{Before};
 ghost use Rattle.tx_exec_form.specs.Frames.{Frame};
 ghost use Rattle.tx_exec_form.specs.Words.{is_label};
-ghost use Rattle.tx_exec_form.specs.Numbers.{numbers_of, from_number, to_number, numbers_between};
+ghost use Rattle.tx_exec_form.specs.Numbers.{integers_of, from_number, to_number, numbers_between};
 ghost use Rattle.tx_exec_form.specs.Rows.{Eval, map_args, map_named, map_numbered, evaluated_made};
 ghost use Rattle.tx_exec_form.specs.Rows.{item_call, call_over};
 ghost use Rattle.tx_exec.specs.CallRuns.{label_in, map_by, range_between, map_made};
@@ -317,7 +317,7 @@ impl Progress {
         values: &[Value],
     ) -> Result<MapCall, Stop>
         ensures goes { (k : ℕ) (below : Eval) (f : Frame) (label : List ℕ) (e : Before) → LeadsOn result
-            (map_numbered k below f label words.now.foo words.now.root words.now.name count (numbers_of values.now)
+            (map_numbered k below f label words.now.foo words.now.root words.now.name count (integers_of values.now)
             e (state_of self.old))
             (λ m. map_made k below f label words.now.name m e (state_of self.new)) }
         ensures paid { Counts result (steps.old + self.old.left) (steps.new + self.new.left) }

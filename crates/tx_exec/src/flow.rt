@@ -249,7 +249,7 @@ impl Progress {
 
     // The values of the body while the condition is true.
     #[cycle(ev)]
-    #[tactic(auto, unfolding(crate::specs::FlowRuns::ended_by, tx_exec_form::specs::Rows::joined))]
+    #[tactic(auto, unfolding(crate::specs::FlowRuns::ended_by, tx_exec_form::specs::Rows::gathered))]
     fn turns<L: Ledger>(
         &mut self,
         alloc: Global,

@@ -2,7 +2,7 @@
 ghost use Rattle.std.specs.Prelude.{◌≡◌, IfOk, Option, Some, None};
 ghost use Rattle.std.specs.Option.{option_map};
 ghost use Rattle.tx_origin.specs.TaggedTrees.{tagged_of};
-ghost use Rattle.tx_exec_form.specs.Numbers.{numbers_of, value_number, kid_at, part_of};
+ghost use Rattle.tx_exec_form.specs.Numbers.{integers_of, value_number, kid_at, part_of};
 
 use std::alloc::Global;
 use tx_base::Memory;
@@ -22,7 +22,7 @@ fn number_in(value: &Value) -> Option<i64>
 /// Each of the values as a number, or None where one of them is none.
 #[tactic(auto, using(crate::proofs::Leading::number_rules, std::proofs::lemmas::Grind::common_steps))]
 pub(crate) fn numbers_in(alloc: Global, values: &[Value]) -> Result<Option<Vec<i64>>, Memory>
-    ensures { IfOk result (λ r. option_map (λ ns. ns.items) r ≡ numbers_of values.now) }
+    ensures { IfOk result (λ r. option_map (λ ns. ns.items) r ≡ integers_of values.now) }
 {
     let mut numbers = Vec::new(alloc);
     for value in values {

@@ -18,11 +18,11 @@ use Rattle.tx_exec_form.specs.Runs.{Before, State, Ran, Over, Done, Run, on_done
 use Rattle.tx_exec_form.specs.Runs.{set}
 use Rattle.tx_exec_form.specs.Frames.{Frame, top, call, call_all, caller_of, Found, Unbound, Missing, Here, All}
 use Rattle.tx_exec_form.specs.Frames.{first_argument, others_of, argument, argument_in}
-use Rattle.tx_exec_form.specs.Numbers.{numbers_of, tree_at, kid_at, part_of, part_among, from_number, to_number}
+use Rattle.tx_exec_form.specs.Numbers.{integers_of, tree_at, kid_at, part_of, part_among, from_number, to_number}
 use Rattle.tx_exec_form.specs.Numbers.{numbers_between}
 use Rattle.tx_exec_form.specs.Words.{row_of, is_label}
 use Rattle.tx_exec_form.specs.declared.TheConstants.{MOST_TURNS}
-use Rattle.tx_exec_form.specs.Rows.{Eval, error_node, wrong, taken, each, rebuilt, named, stored, assigned, assign}
+use Rattle.tx_exec_form.specs.Rows.{Eval, error_node, wrong, taken, each, rebuilt, if_text, stored, assigned, assign}
 use Rattle.tx_exec_form.specs.Rows.{Sets, set_all, sizes, kept, with_body, with_parts, is_odd, value_found, truth}
 use Rattle.tx_exec_form.specs.Rows.{value_of, provides_of, eval_of, unary_run, only_child, unary_row, quote, used}
 use Rattle.tx_exec_form.specs.Rows.{part_used}
@@ -30,7 +30,7 @@ use Rattle.tx_exec_form.specs.Rows.{numbered, arg_part, arg_found, arg_of, arg_n
 use Rattle.tx_exec_form.specs.Rows.{called, tag_found, tag_run, macro, row, leaf_run, node_run, level, ex, EvalAll}
 use Rattle.tx_exec_form.specs.Rows.{itself, xmacro, all_used, all_numbered, all_part, tuple_of, call_over}
 use Rattle.tx_exec_form.specs.Rows.{evaluated_made, mapped, map_numbered, map_parts, map_found, map_args_run, map_named}
-use Rattle.tx_exec_form.specs.Rows.{map_args, value_truth, decided, chosen, joined, turns, while_row}
+use Rattle.tx_exec_form.specs.Rows.{map_args, value_truth, decided, chosen, gathered, turns, while_row}
 use Rattle.tx_exec_form.specs.Rows.{primitive, by_name, xmacro_in, is_xmacro, applied_all, tuple_run, ex_all}
 use Rattle.tx_exec_form.specs.Laws.{LeadsTo, ComesFrom, AllComeFrom}
 use Rattle.tx_exec_form.specs.declared.rows.Row.{Row}
@@ -281,7 +281,7 @@ module _ (root : TaggedTree) where
     takens v h = skip V (need (depth_of (plain v)) k) (λ _. skip V (pay (size_of (plain v))) (λ _. gives V v h))
 
     nameds : (label : List ℕ) (go : Name → Run WideValue) (r : Option Name) → ((x : Name) → Yields V (go x)) →
-        Yields V (named k label go r)
+        Yields V (if_text k label go r)
     nameds label go (Some x) h = h x
     nameds label go None h = bads label
 
@@ -329,8 +329,8 @@ module _ (root : TaggedTree) where
     decideds label go stop (Some false) g h = h
     decideds label go stop None g h = bads label
 
-    joineds : (vs : List WideValue) → Vs vs → Yields V (joined vs)
-    unfolding joined
+    joineds : (vs : List WideValue) → Vs vs → Yields V (gathered vs)
+    unfolding gathered
     joineds vs h = gives V (made (codes "concat") (vals vs) None) (tt, h)
 
     module _ (below : Eval) (belows : (t : TaggedTree) (f : Frame) → Stands root t → FrameStands root f →
@@ -458,7 +458,7 @@ module _ (root : TaggedTree) where
           → Yields V (map_parts k below f label foo root' x count numbers)
       unfolding map_parts
       map_partss label foo root' x count numbers h =
-          bind Vs V (eachs numbers [] h tt) (λ vs _. map_numbereds label foo root' x count (numbers_of vs))
+          bind Vs V (eachs numbers [] h tt) (λ vs _. map_numbereds label foo root' x count (integers_of vs))
 
       map_founds : (label foo root' x : List ℕ) (numbers : List TaggedTree) (r : Found) → AllStand root numbers
           → Yields V (map_found k below f label foo root' x numbers r)
@@ -552,9 +552,9 @@ module _ (root : TaggedTree) where
         arg_founds taking label x numbers Unbound h g = wrongs (codes "unbound") x
         arg_founds taking label x numbers Missing h g = wrongs (codes "missing") x
         arg_founds taking label x numbers (Here t) h g =
-            bind Vs V (eachs numbers [] g tt) (λ vs _. numbereds taking label x t (numbers_of vs) h)
+            bind Vs V (eachs numbers [] g tt) (λ vs _. numbereds taking label x t (integers_of vs) h)
         arg_founds taking label x numbers (All ts) h g =
-            bind Vs V (eachs numbers [] g tt) (λ vs _. all_numbereds taking label x ts (numbers_of vs) h)
+            bind Vs V (eachs numbers [] g tt) (λ vs _. all_numbereds taking label x ts (integers_of vs) h)
 
         arg_nameds : (taking : Taking) (label : List ℕ) (numbers : List TaggedTree) (t : WideTree) →
             AllStand root numbers → Yields V (arg_named taking k below below_all f label numbers t)

@@ -17,10 +17,10 @@ use Rattle.tx_exec_form.specs.Maps.{noted}
 use Rattle.tx_exec_form.specs.Runs.{Before, State, Ran, Over, Done, Run, on_done, ◌>>=◌, ◌>>◌, give, over, pay, need}
 use Rattle.tx_exec_form.specs.Runs.{look, from_own, set}
 use Rattle.tx_exec_form.specs.Frames.{Frame, top, caller_of, Found, Unbound, Missing, Here, All, argument_in}
-use Rattle.tx_exec_form.specs.Numbers.{numbers_of, part_of, part_among, from_number, to_number, numbers_between}
+use Rattle.tx_exec_form.specs.Numbers.{integers_of, part_of, part_among, from_number, to_number, numbers_between}
 use Rattle.tx_exec_form.specs.Words.{row_of, is_label}
 use Rattle.tx_exec_form.specs.declared.TheConstants.{MOST_TURNS}
-use Rattle.tx_exec_form.specs.Rows.{Eval, wrong, taken, each, rebuilt, named, stored, assigned, assign, Sets, set_all}
+use Rattle.tx_exec_form.specs.Rows.{Eval, wrong, taken, each, rebuilt, if_text, stored, assigned, assign, Sets, set_all}
 use Rattle.tx_exec_form.specs.Rows.{kept, kept_of, with_body, with_parts, is_odd, value_found, value_of, provides_of}
 use Rattle.tx_exec_form.specs.Rows.{eval_of, unary_run, only_child, unary_row, quote, used, part_used, numbered}
 use Rattle.tx_exec_form.specs.Rows.{arg_part}
@@ -29,7 +29,7 @@ use Rattle.tx_exec_form.specs.Rows.{tag_run, macro, row, leaf_run, node_run, lev
 use Rattle.tx_exec_form.specs.Rows.{all_used, all_numbered, all_part, call_over, evaluated_made, mapped, map_numbered}
 use Rattle.tx_exec_form.specs.Rows.{map_parts, map_found, map_args_run, map_named, map_args, value_truth, decided}
 use Rattle.tx_exec_form.specs.Rows.{chosen}
-use Rattle.tx_exec_form.specs.Rows.{joined, turns, while_row, primitive, by_name, xmacro_in}
+use Rattle.tx_exec_form.specs.Rows.{gathered, turns, while_row, primitive, by_name, xmacro_in}
 use Rattle.tx_exec_form.specs.Rows.{is_xmacro, applied_all, tuple_run, ex_all}
 use Rattle.tx_exec_form.specs.Evaluated.{start}
 use Rattle.tx_exec_form.specs.Laws.{Agrees}
@@ -218,7 +218,7 @@ module _ (k k' : ℕ) where
   takens v = bind k k' (needs k k' _) (λ _. bind k k' (pays k k' _) (λ _. gives k k' _))
 
   nameds : (label : List ℕ) (go go' : Name → Run WideValue) (r : Option Name) →
-      ((x : Name) → Follows k k' (go x) (go' x)) → Follows k k' (named k label go r) (named k' label go' r)
+      ((x : Name) → Follows k k' (go x) (go' x)) → Follows k k' (if_text k label go r) (if_text k' label go' r)
   nameds label go go' (Some x) h = h x
   nameds label go go' None h = bads label
 
@@ -266,8 +266,8 @@ module _ (k k' : ℕ) where
   decideds label go go' stop stop' (Some false) h g = g
   decideds label go go' stop stop' None h g = bads label
 
-  joineds : (vs : List WideValue) → Follows k k' (joined vs) (joined vs)
-  unfolding joined
+  joineds : (vs : List WideValue) → Follows k k' (gathered vs) (gathered vs)
+  unfolding gathered
   joineds vs = gives k k' _
 
   storeds : (label : List ℕ) (at : Option (List ℕ)) (name : WideValue) (x : Name) (w : WideValue) →
@@ -389,7 +389,7 @@ module _ (k k' : ℕ) where
         (map_parts k' below' f label foo root x count numbers)
     unfolding map_parts
     map_partss label foo root x count numbers =
-        bind k k' (eachs numbers []) (λ vs. map_numbereds label foo root x count (numbers_of vs))
+        bind k k' (eachs numbers []) (λ vs. map_numbereds label foo root x count (integers_of vs))
 
     map_founds : (label foo root x : List ℕ) (numbers : List TaggedTree) (r : Found)
         → Follows k k' (map_found k below f label foo root x numbers r)
@@ -476,9 +476,9 @@ module _ (k k' : ℕ) where
       arg_founds taking label x numbers Unbound = wrongs (codes "unbound") x
       arg_founds taking label x numbers Missing = wrongs (codes "missing") x
       arg_founds taking label x numbers (Here t) =
-          bind k k' (eachs numbers []) (λ vs. numbereds taking label x t (numbers_of vs))
+          bind k k' (eachs numbers []) (λ vs. numbereds taking label x t (integers_of vs))
       arg_founds taking label x numbers (All ts) =
-          bind k k' (eachs numbers []) (λ vs. all_numbereds taking label x ts (numbers_of vs))
+          bind k k' (eachs numbers []) (λ vs. all_numbereds taking label x ts (integers_of vs))
 
       arg_nameds : (taking : Taking) (label : List ℕ) (numbers : List TaggedTree) (t : WideTree) →
           Follows k k' (arg_named taking k below below_all f label numbers t)

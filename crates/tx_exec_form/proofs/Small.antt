@@ -17,10 +17,10 @@ use Rattle.tx_env.specs.Pairs.{Name}
 use Rattle.tx_exec_form.specs.Runs.{Before, State, Ran, Over, Done, Run, on_done, ◌>>=◌, ◌>>◌, give, pay, need, look}
 use Rattle.tx_exec_form.specs.Runs.{from_own}
 use Rattle.tx_exec_form.specs.Frames.{Frame, caller_of, Found, Unbound, Missing, Here, All, argument_in}
-use Rattle.tx_exec_form.specs.Numbers.{numbers_of, part_of, part_among, from_number, to_number, numbers_between}
+use Rattle.tx_exec_form.specs.Numbers.{integers_of, part_of, part_among, from_number, to_number, numbers_between}
 use Rattle.tx_exec_form.specs.Words.{row_of, is_label}
 use Rattle.tx_exec_form.specs.declared.TheConstants.{MOST_TURNS}
-use Rattle.tx_exec_form.specs.Rows.{Eval, wrong, taken, each, rebuilt, named, stored, assigned, assign, Sets, set_all}
+use Rattle.tx_exec_form.specs.Rows.{Eval, wrong, taken, each, rebuilt, if_text, stored, assigned, assign, Sets, set_all}
 use Rattle.tx_exec_form.specs.Rows.{sizes, kept, kept_of, with_body, with_parts, is_odd, value_found, truth, value_of}
 use Rattle.tx_exec_form.specs.Rows.{provides_of, eval_of, unary_run, only_child, unary_row, quote, used, part_used}
 use Rattle.tx_exec_form.specs.Rows.{numbered}
@@ -28,7 +28,7 @@ use Rattle.tx_exec_form.specs.Rows.{arg_part, arg_found, arg_of, arg_named, arg,
 use Rattle.tx_exec_form.specs.Rows.{tag_found, tag_run, macro, row, leaf_run, node_run, level, ex, EvalAll, itself}
 use Rattle.tx_exec_form.specs.Rows.{xmacro, all_used, all_numbered, all_part, tuple_of, call_over, evaluated_made}
 use Rattle.tx_exec_form.specs.Rows.{mapped, map_numbered, map_parts, map_found, map_args_run, map_named, map_args}
-use Rattle.tx_exec_form.specs.Rows.{value_truth, decided, chosen, joined, turns, while_row, primitive}
+use Rattle.tx_exec_form.specs.Rows.{value_truth, decided, chosen, gathered, turns, while_row, primitive}
 use Rattle.tx_exec_form.specs.Rows.{by_name, xmacro_in, is_xmacro, applied_all, tuple_run, ex_all}
 use Rattle.tx_exec_form.specs.declared.rows.Row.{Row}
 use Rattle.tx_exec_form.specs.declared.rows.Row.TheVariants as rows
@@ -203,7 +203,7 @@ module _ (j : ℕ) where
 
   nameds : (l l' i i' : ℕ) (label : List ℕ) (go : Name → Run WideValue) (r : Option Name) → l ≤ l' → i ≤ i' →
       ((x : Name) → Leads (At l i) (go x) (Fits l' (suc j) i')) →
-      Leads (At l i) (named (suc j) label go r) (Fits l' (suc j) i')
+      Leads (At l i) (if_text (suc j) label go r) (Fits l' (suc j) i')
   nameds l l' i i' label go (Some x) le r h = h x
   nameds l l' i i' label go None le r h = bads label l l' i i' le r
 
@@ -263,8 +263,8 @@ module _ (j : ℕ) where
 
   joineds : (vs : List WideValue) (l l' i i' : ℕ) → total_size (plains (vals vs)) + l ≤ l' →
       deepest (plains (vals vs)) + i ≤ j
-      → i ≤ i' → Leads (At l i) (joined vs) (Fits (suc l') (suc j) i')
-  unfolding joined
+      → i ≤ i' → Leads (At l i) (gathered vs) (Fits (suc l') (suc j) i')
+  unfolding gathered
   joineds vs l l' i i' p q r = gives l i (suc l') (suc j) i' _ (omega (arith, p)) (omega (arith, q)) r
 
   storeds : (label : List ℕ) (at : Option (List ℕ)) (name : WideValue) (x : Name) (w : WideValue) (l l' i i' : ℕ) →
@@ -469,8 +469,8 @@ module _ (j : ℕ) where
       unfolding map_parts
       map_partss label foo root x count numbers l i le =
           bind (eachs numbers [] l l i i (omega arith) (omega (arith, le)) (omega arith))
-          (behind_values (λ vs. map_numbered (suc j) below f label foo root x count (numbers_of vs)) l i
-          (λ vs. map_numbereds label foo root x count (numbers_of vs) l (suc l) i i (omega arith) (omega arith)))
+          (behind_values (λ vs. map_numbered (suc j) below f label foo root x count (integers_of vs)) l i
+          (λ vs. map_numbereds label foo root x count (integers_of vs) l (suc l) i i (omega arith) (omega arith)))
 
       map_founds : (label foo root x : List ℕ) (numbers : List TaggedTree) (l i : ℕ) (o : Found) → i ≤ j
           → Leads (At l i) (map_found (suc j) below f label foo root x numbers o) (Fits (suc l) (suc j) i)
@@ -593,12 +593,12 @@ module _ (j : ℕ) where
             wrongs l (suc l) i i (codes "missing") x (omega arith) (omega arith)
         arg_founds taking label x numbers l i (Here t) le =
             bind (eachs numbers [] l l i i (omega arith) (omega (arith, le)) (omega arith))
-            (behind_values (λ vs. numbered taking (suc j) below f label x t (numbers_of vs)) l i
-            (λ vs. numbereds taking label x t (numbers_of vs) l (suc l) i i (omega arith) (omega arith)))
+            (behind_values (λ vs. numbered taking (suc j) below f label x t (integers_of vs)) l i
+            (λ vs. numbereds taking label x t (integers_of vs) l (suc l) i i (omega arith) (omega arith)))
         arg_founds taking label x numbers l i (All ts) le =
             bind (eachs numbers [] l l i i (omega arith) (omega (arith, le)) (omega arith))
-            (behind_values (λ vs. all_numbered taking (suc j) below below_all f label x ts (numbers_of vs)) l i
-            (λ vs. all_numbereds taking label x ts (numbers_of vs) l (suc l) i i (omega arith) (omega arith)))
+            (behind_values (λ vs. all_numbered taking (suc j) below below_all f label x ts (integers_of vs)) l i
+            (λ vs. all_numbereds taking label x ts (integers_of vs) l (suc l) i i (omega arith) (omega arith)))
 
         arg_nameds : (taking : Taking) (label : List ℕ) (numbers : List TaggedTree) (l i : ℕ) (t : WideTree) → i ≤ j →
             Leads (At l i) (arg_named taking (suc j) below below_all f label numbers t) (Fits (suc l) (suc j) i)

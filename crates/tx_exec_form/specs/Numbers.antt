@@ -3,18 +3,18 @@ use Rattle.std.specs.Prelude.{ℕ, ◌-◌, ◌&&◌, nat_le, if◌then◌else�
 use Rattle.std.specs.Prelude.{None, option_and_then, slice_get}
 use Rattle.std.specs.List.{range_with_len}
 use Rattle.std.specs.Option.{option_map}
-use Rattle.tx_prim.specs.Numbers.{number_of}
+use Rattle.tx_prim.specs.Numbers.{integer_of}
 use Rattle.tx_origin.specs.Values.{WideValue, value_text}
 use Rattle.tx_origin.specs.TaggedTrees.{TaggedTree, kids_of}
 
 -- the number that a value is
 abbrev pub value_number : WideValue → Option ℤ
-value_number v = option_and_then number_of (value_text v)
+value_number v = option_and_then integer_of (value_text v)
 
 -- each of the values as a number, or None where one of them is none
-abbrev pub numbers_of : List WideValue → Option (List ℤ)
-numbers_of [] = Some []
-numbers_of (v ∷ vs) = option_and_then (λ n. option_map (λ ns. n ∷ ns) (numbers_of vs)) (value_number v)
+abbrev pub integers_of : List WideValue → Option (List ℤ)
+integers_of [] = Some []
+integers_of (v ∷ vs) = option_and_then (λ n. option_map (λ ns. n ∷ ns) (integers_of vs)) (value_number v)
 
 -- the tree of this number
 abbrev pub tree_at : List TaggedTree → ℤ → Option TaggedTree

@@ -16,7 +16,7 @@ use Rattle.tx_env.specs.Pairs.{Name}
 use Rattle.tx_env.specs.Environments.{NameMap}
 use Rattle.tx_exec_form.specs.Runs.{Run, Done, ◌>>=◌, ◌>>◌, give, over, pay, need, look, set}
 use Rattle.tx_exec_form.specs.Frames.{Frame, call, call_all, caller_of, Found, Unbound, Missing, Here, All, argument_in}
-use Rattle.tx_exec_form.specs.Numbers.{numbers_of, part_of, part_among, from_number, to_number, numbers_between}
+use Rattle.tx_exec_form.specs.Numbers.{integers_of, part_of, part_among, from_number, to_number, numbers_between}
 use Rattle.tx_exec_form.specs.Words.{row_of, is_label}
 use Rattle.tx_exec_form.specs.declared.TheConstants.{MOST_TURNS}
 use Rattle.tx_exec_form.specs.declared.rows.Row.{Row}
@@ -68,9 +68,9 @@ rebuilt below f label kids at = do
   give (made label (vals vs) at)
 
 -- a name goes on, and anything else is the error `bad`
-abbrev pub named : ℕ → List ℕ → (Name → Run WideValue) → Option Name → Run WideValue
-named k label go (Some x) = go x
-named k label go None = wrong k (codes "bad") label
+abbrev pub if_text : ℕ → List ℕ → (Name → Run WideValue) → Option Name → Run WideValue
+if_text k label go (Some x) = go x
+if_text k label go None = wrong k (codes "bad") label
 
 -- ---- assign
 
@@ -83,7 +83,7 @@ stored label at name x v = do
 unfoldable pub assigned : ℕ → Eval → Frame → List ℕ → Option (List ℕ) → TaggedTree → TaggedTree → Run WideValue
 assigned k below f label at x t = do
   name ← below x f
-  named k label (λ n. below t f >>= stored label at name n) (value_text name)
+  if_text k label (λ n. below t f >>= stored label at name n) (value_text name)
 
 abbrev pub assign : ℕ → Eval → Frame → List ℕ → Option (List ℕ) → List TaggedTree → Run WideValue
 assign k below f label at (x ∷ t ∷ []) = assigned k below f label at x t
@@ -134,7 +134,7 @@ with_parts k below f label at vs ps [] = wrong k (codes "bad") label
 with_parts k below f label at vs ps (b ∷ []) = with_body below f label at vs ps b
 with_parts k below f label at vs ps (x ∷ t ∷ ts) = do
   name ← below x f
-  named k label (λ n. below t f >>=
+  if_text k label (λ n. below t f >>=
       λ v. with_parts k below f label at (vs ++ name ∷ v ∷ []) (ps ++ (n, Some (plain v)) ∷ []) ts) (value_text name)
 
 abbrev pub is_odd : {A : Type 0} → List A → Bool
@@ -153,14 +153,14 @@ value_found k x (Some t) = taken k (whole None t)
 value_found k x None = wrong k (codes "undefined") x
 
 unfoldable pub value_of : ℕ → List ℕ → WideValue → Run WideValue
-value_of k label v = named k label (λ x. look x >>= value_found k x) (value_text v)
+value_of k label v = if_text k label (λ x. look x >>= value_found k x) (value_text v)
 
 abbrev pub truth : Option WideTree → List ℕ
 truth (Some t) = codes "true"
 truth None = codes "false"
 
 unfoldable pub provides_of : ℕ → List ℕ → WideValue → Run WideValue
-provides_of k label v = named k label (λ x. look x >>= λ t. taken k (text (truth t) None)) (value_text v)
+provides_of k label v = if_text k label (λ x. look x >>= λ t. taken k (text (truth t) None)) (value_text v)
 
 unfoldable pub eval_of : Eval → Frame → WideValue → Run WideValue
 eval_of below f v = do
@@ -221,7 +221,7 @@ numbered taking k below f label x t None = wrong k (codes "bad") label
 unfoldable pub arg_part : Taking → ℕ → Eval → Frame → List ℕ → Name → TaggedTree → List TaggedTree → Run WideValue
 arg_part taking k below f label x t numbers = do
   vs ← each below f [] numbers
-  numbered taking k below f label x t (numbers_of vs)
+  numbered taking k below f label x t (integers_of vs)
 
 -- the tuple of all arguments, which has no origin, while they have theirs
 abbrev pub tuple_of : List TaggedTree → WideValue
@@ -242,7 +242,7 @@ unfoldable pub all_part : Taking → ℕ → Eval → EvalAll → Frame → List
     Run WideValue
 all_part taking k below below_all f label x ts numbers = do
   vs ← each below f [] numbers
-  all_numbered taking k below below_all f label x ts (numbers_of vs)
+  all_numbered taking k below below_all f label x ts (integers_of vs)
 
 abbrev pub arg_found : Taking → ℕ → Eval → EvalAll → Frame → List ℕ → Name → List TaggedTree → Found → Run WideValue
 arg_found taking k below below_all f label x numbers Unbound = wrong k (codes "unbound") x
@@ -293,7 +293,7 @@ map_numbered k below f label foo root x count None = wrong k (codes "bad") label
 unfoldable pub map_parts : ℕ → Eval → Frame → List ℕ → List ℕ → List ℕ → Name → ℕ → List TaggedTree → Run WideValue
 map_parts k below f label foo root x count numbers = do
   vs ← each below f [] numbers
-  map_numbered k below f label foo root x count (numbers_of vs)
+  map_numbered k below f label foo root x count (integers_of vs)
 
 -- the parts of an argument are its children, and those of all arguments are the arguments
 abbrev pub map_found : ℕ → Eval → Frame → List ℕ → List ℕ → List ℕ → Name → List TaggedTree → Found → Run WideValue
@@ -349,17 +349,17 @@ abbrev pub case_row : ℕ → Eval → Frame → List ℕ → List TaggedTree �
 case_row k below f label kids =
     if nat_le 2 (length kids) then chosen k below f label kids else wrong k (codes "bad") label
 
-unfoldable pub joined : List WideValue → Run WideValue
-joined vs = give (made (codes "concat") (vals vs) None)
+unfoldable pub gathered : List WideValue → Run WideValue
+gathered vs = give (made (codes "concat") (vals vs) None)
 
 -- n turns are left, and `vs` are the values so far
 unfoldable pub turns : ℕ → ℕ → Eval → Frame → List ℕ → TaggedTree → TaggedTree → List WideValue → Run WideValue
 turns zero k below f label c b vs = do
   v ← below c f
-  decided k label (wrong k (codes "limit") label) (joined vs) (value_truth v)
+  decided k label (wrong k (codes "limit") label) (gathered vs) (value_truth v)
 turns (suc n) k below f label c b vs = do
   v ← below c f
-  decided k label (below b f >>= λ w. turns n k below f label c b (vs ++ w ∷ [])) (joined vs) (value_truth v)
+  decided k label (below b f >>= λ w. turns n k below f label c b (vs ++ w ∷ [])) (gathered vs) (value_truth v)
 
 abbrev pub while_row : ℕ → Eval → Frame → List ℕ → List TaggedTree → Run WideValue
 while_row k below f label (c ∷ b ∷ []) = turns MOST_TURNS k below f label c b []

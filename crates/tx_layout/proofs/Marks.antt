@@ -16,7 +16,7 @@ use Rattle.tx_layout.specs.declared.measures.Frame.{Frame}
 use Rattle.tx_layout.specs.declared.pieces.Span.{Span}
 use Rattle.tx_layout.specs.declared.segments.Row.{Row}
 use Rattle.tx_layout.specs.declared.layout.Line.{Line}
-use Rattle.tx_layout.specs.Frames.{least_width, frame_of}
+use Rattle.tx_layout.specs.Frames.{least_width, line_frame}
 use Rattle.tx_layout.specs.Words.{cells_across, capped_item}
 use Rattle.tx_layout.specs.Segments.{shift, piece_of, width_at, indent_at, no_span, line_of, lines_of}
 use Rattle.tx_layout.specs.Shapes.{is_break, Cutting, Whole, empty_line, page_ending, with_last, behind_cut}
@@ -258,8 +258,9 @@ shape_done frame items b start end rows rows' own on within past whole ours f so
 
 -- the lines of a paragraph, from what each call gave
 pub laid_out : (p : Paragraph) (width least : ℕ) (frame : Frame) (shown given : List Item) (rows lent : List Row)
-    (lines : List Line) → frame ≡ frame_of p width → least ≡ least_width frame → shown ≡ map (capped_item least) p.items
-    → given ≡ shown → HasLines frame true given (map (line_at given) rows) → lent ≡ rows
+    (lines : List Line) → frame ≡ line_frame p width → least ≡ least_width frame
+    → shown ≡ map (capped_item least) p.items → given ≡ shown
+    → HasLines frame true given (map (line_at given) rows) → lent ≡ rows
     → lines ≡ map (line_at shown) lent → IsShape p width lines
 laid_out p width least frame shown given rows lent lines f e s g h l m =
     let all : given ≡ items_shown p width = g ∙ s ∙ ap (λ n. map (capped_item n) p.items) (e ∙ ap least_width f) in

@@ -23,7 +23,7 @@ use Rattle.tx_layout.specs.declared.measures.Frame.{Frame}
 use Rattle.tx_layout.specs.declared.pieces.Span.{Span}
 use Rattle.tx_layout.specs.declared.layout.Line.{Line}
 use Rattle.tx_layout.specs.Frames.{whole_cells, moved_by, has_room, left_margin, right_margin}
-use Rattle.tx_layout.specs.Frames.{frame_of, least_width}
+use Rattle.tx_layout.specs.Frames.{line_frame, least_width}
 use Rattle.tx_layout.specs.Words.{item_cells, cells_across, SpansFrom}
 use Rattle.tx_layout.specs.Segments.{shift, piece_of, width_at, indent_at, no_span, line_of, lines_of, HasWords}
 use Rattle.tx_layout.specs.Shapes.{empty_line, page_ending, with_last, behind_cut, or_empty, items_shown, IsShape}
@@ -205,7 +205,7 @@ later_sum l r width h = omega arith
 
 pub shape_room : (p : Paragraph) (width : ℕ) (lines : List Line) → IsShape p width lines → All (Within width) lines
 shape_room p width lines h =
-    lines_room (frame_of p width) true width (items_shown p width) lines
+    lines_room (line_frame p width) true width (items_shown p width) lines
     (first_sum (moved_by (left_margin p width) p.first) (right_margin p width) width)
     (later_sum (left_margin p width) (right_margin p width) width
     (kept_margin (has_room p width) (whole_cells p.left) (whole_cells p.right) width refl))

@@ -37,8 +37,8 @@ side_of mode =
     else if bytes_eq mode (codes "right") then Right
     else Left
 
-abbrev pub frame_of : Paragraph → ℕ → Frame
-frame_of p width =
+abbrev pub line_frame : Paragraph → ℕ → Frame
+line_frame p width =
     record {
       first_indent = first_indent p width;
       later_indent = left_margin p width;

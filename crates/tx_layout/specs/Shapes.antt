@@ -6,7 +6,7 @@ use Rattle.tx_items.specs.declared.drawing.Item.TheVariants.{Glyph, Space, Gap, 
 use Rattle.tx_items.specs.declared.drawing.Paragraph.{Paragraph}
 use Rattle.tx_layout.specs.declared.measures.Frame.{Frame}
 use Rattle.tx_layout.specs.declared.layout.Line.{Line}
-use Rattle.tx_layout.specs.Frames.{frame_of, least_width}
+use Rattle.tx_layout.specs.Frames.{line_frame, least_width}
 use Rattle.tx_layout.specs.Words.{capped_item}
 use Rattle.tx_layout.specs.Segments.{HasWords}
 
@@ -77,8 +77,8 @@ is_ink (Down n) = false
 
 -- the items of a paragraph as they stand on lines
 abbrev pub items_shown : Paragraph → ℕ → List Item
-items_shown p width = map (capped_item (least_width (frame_of p width))) p.items
+items_shown p width = map (capped_item (least_width (line_frame p width))) p.items
 
 -- these are the lines of the paragraph on a page of this width
 abbrev pub IsShape : Paragraph → ℕ → List Line → Type 0
-IsShape p width lines = HasLines (frame_of p width) true (items_shown p width) lines
+IsShape p width lines = HasLines (line_frame p width) true (items_shown p width) lines

@@ -9,7 +9,7 @@ ghost use Rattle.tx_layout.specs.Words.{capped_item, cells_across};
 ghost use Rattle.tx_layout.specs.Shapes.{items_shown, IsShape, is_ink};
 ghost use Rattle.tx_layout.specs.Rows.{IsWithin, line_at};
 
-use crate::measures::frame_of;
+use crate::measures::line_frame;
 use crate::segments::{Row, least_width};
 use crate::shapes::shape;
 use std::alloc::Global;
@@ -179,7 +179,7 @@ pub fn lines<L: Ledger>(
     ensures steps { steps.new ≡ steps.old + length paragraph.now.items }
 {
     steps.add(paragraph.items.all().len() as u64);
-    let frame = frame_of(paragraph, width);
+    let frame = line_frame(paragraph, width);
     let shown = items_shown(alloc, &paragraph.items, least_width(frame))?;
     let rows = shape(alloc, frame, shown.all())?;
     share_out(alloc, &shown, &rows)

@@ -16,7 +16,7 @@ mod segments;
 mod shapes;
 
 pub use layout::{Line, LineItems, items_kept, lines, one_shape, within_page};
-pub use measures::{Frame, Side, frame_of};
+pub use measures::{Frame, Side, line_frame};
 pub use paging::{Paginator, lines_kept, one_paging, pages};
 pub use pieces::{Span, item_cells};
 pub use tx_lines::Cut;

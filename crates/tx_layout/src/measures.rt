@@ -1,7 +1,7 @@
 // Indents, widths and the side of a paragraph's lines.
 ghost use Rattle.std.specs.Prelude.{◌≡◌, ◌≤◌};
 ghost use Rattle.tx_layout.specs.Frames.{whole_cells, moved_by, left_margin, right_margin, first_indent};
-ghost use Rattle.tx_layout.specs.Frames.{side_of, frame_of, IsFrame};
+ghost use Rattle.tx_layout.specs.Frames.{side_of, line_frame, IsFrame};
 
 use tx_items::Paragraph;
 
@@ -80,10 +80,10 @@ fn side_of(mode: &[u8]) -> Side
 /// so do both margins where they leave less than 10 cells. The first line's indent is that of the others and
 /// `par-first`, cut so that it isn't below 0 and leaves 10 cells. Every mode but `center` and `right` stands at the
 /// left.
-pub fn frame_of(paragraph: &Paragraph, width: u32) -> Frame
+pub fn line_frame(paragraph: &Paragraph, width: u32) -> Frame
     requires least { 20 ≤ width }
     requires most { width ≤ 500 }
-    ensures measures { result ≡ frame_of paragraph.now width }
+    ensures measures { result ≡ line_frame paragraph.now width }
     ensures widths { IsFrame result }
 {
     let (left, right) = margins(paragraph, width);

@@ -13,7 +13,7 @@ use Rattle.tx_items.specs.declared.drawing.Paragraph.{Paragraph}
 use Rattle.tx_layout.specs.declared.measures.Frame.{Frame}
 use Rattle.tx_layout.specs.declared.pieces.Span.{Span}
 use Rattle.tx_layout.specs.declared.layout.Line.{Line}
-use Rattle.tx_layout.specs.Frames.{frame_of, least_width}
+use Rattle.tx_layout.specs.Frames.{line_frame, least_width}
 use Rattle.tx_layout.specs.Words.{capped_item, item_cells, cells_across, is_blank_item, Blank, IsSpan, SpansFrom}
 use Rattle.tx_layout.specs.Segments.{shift, piece_of, width_at, indent_at, line_with, no_span, line_of, lines_of}
 use Rattle.tx_layout.specs.Segments.{HasWords}
@@ -226,9 +226,9 @@ module _ (base : List ℕ) where
   shape_under : (p : Paragraph) (width : ℕ) (lines : List Line) → IsShape p width lines
       → IsShape (paragraph_under base p) width (lines_under lines)
   shape_under p width lines h =
-      subst (λ items. HasLines (frame_of p width) true items (lines_under lines))
-      (sym (all_capped (least_width (frame_of p width)) p.items))
-      (has_lines_under (frame_of p width) true (items_shown p width) lines h)
+      subst (λ items. HasLines (line_frame p width) true items (lines_under lines))
+      (sym (all_capped (least_width (line_frame p width)) p.items))
+      (has_lines_under (line_frame p width) true (items_shown p width) lines h)
 
   pub are_lines_under : (width : ℕ) (ps : List Paragraph) (lines : List Line) → AreLines width ps lines
       → AreLines width (map (paragraph_under base) ps) (lines_under lines)

@@ -11,7 +11,7 @@ use Rattle.tx_origin.specs.Values.{WideValue, text, value_text, plain}
 use Rattle.tx_origin.specs.TaggedTrees.{TaggedTree}
 use Rattle.tx_exec_form.specs.Runs.{Before, State, Ran, Over, Done, Run, on_done, ◌>>=◌, give}
 use Rattle.tx_exec_form.specs.Frames.{top}
-use Rattle.tx_exec_form.specs.Rows.{ex, Sets, with_body, with_parts, is_odd, named}
+use Rattle.tx_exec_form.specs.Rows.{ex, Sets, with_body, with_parts, is_odd, if_text}
 use Rattle.tx_exec_form.specs.Evaluated.{WideTrace, start, traced, evaluated_in}
 use Rattle.tx_parts.specs.Atop.{env_atop}
 use Rattle.tx_origin.specs.Under.{value_under}
@@ -195,7 +195,7 @@ module _ (k c : ℕ) (ls : List Layer) (b : TaggedTree) (e : Before) where
             (ap (λ us. us ++ value_under ((i + 1) ∷ []) trace.value ∷ []) is) more
 
     abbrev then_tree : WideValue → Run WideValue
-    then_tree name = named (suc k) (codes "with") (λ y. ex k (bare t) top >>= λ v.
+    then_tree name = if_text (suc k) (codes "with") (λ y. ex k (bare t) top >>= λ v.
         row_at (a.values ++ name ∷ v ∷ []) (sets ++ (y, Some (plain v)) ∷ []) rest) (value_text name)
 
     pub name_behind : NextAre i done (x ∷ xs) (t ∷ ts) a
@@ -214,7 +214,7 @@ module _ (k c : ℕ) (ls : List Layer) (b : TaggedTree) (e : Before) where
             let words : value_text (value_under (i ∷ []) trace.value) ≡ Some x =
             text_under (i ∷ []) trace.value
             ∙ ap value_text (text_value k (c - a.cost) x None (env_atop a.writes e) trace q) in
-            ap (λ o. named (suc k) (codes "with") (λ y. ex k (bare t) top >>= λ v.
+            ap (λ o. if_text (suc k) (codes "with") (λ y. ex k (bare t) top >>= λ v.
             row_at (a.values ++ value_under (i ∷ []) trace.value ∷ v ∷ []) (sets ++ (y, Some (plain v)) ∷ []) rest) o e
             (after_part k (state_behind k c a) trace)) words
             ∙ ap ((ex k (bare t) top >>= then_rest (value_under (i ∷ []) trace.value)) e)

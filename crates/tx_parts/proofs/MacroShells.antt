@@ -15,7 +15,7 @@ use Rattle.tx_origin.specs.TaggedTrees.{TaggedTree, kids_from}
 use Rattle.tx_exec_form.specs.Runs.{Before, State, Run, Over, on_done, ◌>>=◌, ◌>>◌, give, pay, need, look, from_own}
 use Rattle.tx_exec_form.specs.Frames.{Frame, top, call, Here, argument}
 use Rattle.tx_exec_form.specs.Rows.{Eval, Sets, ex, ex_all, row, node_run, set_all, sizes, kept, with_body, with_parts}
-use Rattle.tx_exec_form.specs.Rows.{with_row, named, wrong, arg_of, arg_found, arg_part, used, tag_found, called}
+use Rattle.tx_exec_form.specs.Rows.{with_row, if_text, wrong, arg_of, arg_found, arg_part, used, tag_found, called}
 use Rattle.tx_exec_form.specs.Rows.{applied, macro_in, and_name}
 use Rattle.tx_exec_form.specs.Maps.{noted}
 use Rattle.tx_exec_form.specs.Evaluated.{start}
@@ -63,7 +63,7 @@ module _ (f : Frame) (k : ℕ) (ls : List Layer) (body : WideTree) (i : ℕ) (u 
       by (λ name n v. parts_same xs ts (vs ++ name ∷ v ∷ []) (ps ++ (n, Some (plain v)) ∷ []) h.1)
     where
       then_by : Eval → Frame → TaggedTree → Run WideValue → WideValue → Run WideValue
-      then_by below g b m name = named (suc k) (codes "with") (λ n. m >>= λ v.
+      then_by below g b m name = if_text (suc k) (codes "with") (λ n. m >>= λ v.
           with_parts (suc k) below g (codes "with") None (vs ++ name ∷ v ∷ []) (ps ++ (n, Some (plain v)) ∷ [])
           (map bare (in_turn xs ts) ++ b ∷ [])) (value_text name)
 
@@ -85,7 +85,7 @@ module _ (f : Frame) (k : ℕ) (ls : List Layer) (body : WideTree) (i : ℕ) (u 
           (ex k (bare (leaf x)) top >>= then_by (layer_eval k ls) top child (ex k (bare t) top))
       by go =
           first ∙ second ∙ ap (λ then_all. ex k (bare (leaf x)) top >>= then_all) (fun_ext (λ name.
-          ap (λ then_named. named (suc k) (codes "with") then_named (value_text name)) (fun_ext (λ n.
+          ap (λ then_named. if_text (suc k) (codes "with") then_named (value_text name)) (fun_ext (λ n.
           ap (λ then_tree. ex k (bare t) top >>= then_tree) (fun_ext (λ v. go name n v))))))
 
   row_same : (l : Layer) → IsFreeLayer f l →

@@ -14,7 +14,7 @@ use Rattle.tx_origin.specs.TaggedTrees.{TaggedTree, kids_from}
 use Rattle.tx_exec_form.specs.Runs.{Before, State, Ran, Over, Done, Run, on_done, ◌>>=◌, ◌>>◌, give, pay}
 use Rattle.tx_exec_form.specs.Frames.{top}
 use Rattle.tx_exec_form.specs.Words.{row_of}
-use Rattle.tx_exec_form.specs.Rows.{ex, Sets, set_all, sizes, kept, kept_of, with_body, with_parts, is_odd, named, row}
+use Rattle.tx_exec_form.specs.Rows.{ex, Sets, set_all, sizes, kept, kept_of, with_body, with_parts, is_odd, if_text, row}
 use Rattle.tx_exec_form.specs.Rows.{wrong}
 use Rattle.tx_exec_form.specs.declared.rows.Row.TheVariants as rows
 use Rattle.tx_exec_form.specs.Evaluated.{WideTrace, traced, evaluated_in}
@@ -268,7 +268,7 @@ module _ (j : ℕ) (label : List ℕ) (e : Before) where
   texts_are i vs qs (cons (node l us) (cons t ts)) p left z h near low = cc
   texts_are i vs qs (cons (leaf x) (cons (leaf words) ts)) p left z h near low =
       text_then j x (Some (i ∷ [])) e left z
-      (λ name. named (suc (suc j)) label (λ y. ex (suc j) (text_at (i + 1) words) top >>= λ v.
+      (λ name. if_text (suc (suc j)) label (λ y. ex (suc j) (text_at (i + 1) words) top >>= λ v.
       with_parts (suc (suc j)) (ex (suc j)) top label (Some []) (vs ++ name ∷ v ∷ [])
       (qs ++ (y, Some (plain v)) ∷ []) (kids_from (Some []) (i + 1 + 1) ts)) (value_text name)) near
       ∙ ap (λ r. if nat_le (1 + length x) left then r else Over)

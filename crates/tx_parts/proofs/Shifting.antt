@@ -18,10 +18,10 @@ use Rattle.tx_exec_form.specs.Runs.{Before, State, Ran, Over, Done, Run, on_done
 use Rattle.tx_exec_form.specs.Runs.{look, from_own, set}
 use Rattle.tx_exec_form.specs.Frames.{Frame, caller_of, Found, Unbound, Missing, Here, All}
 use Rattle.tx_exec_form.specs.Frames.{argument_in}
-use Rattle.tx_exec_form.specs.Numbers.{numbers_of, part_of, part_among, from_number, to_number, numbers_between}
+use Rattle.tx_exec_form.specs.Numbers.{integers_of, part_of, part_among, from_number, to_number, numbers_between}
 use Rattle.tx_exec_form.specs.Words.{row_of, is_label}
 use Rattle.tx_exec_form.specs.declared.TheConstants.{MOST_TURNS}
-use Rattle.tx_exec_form.specs.Rows.{Eval, wrong, taken, each, rebuilt, named, stored, assigned, assign, Sets, set_all}
+use Rattle.tx_exec_form.specs.Rows.{Eval, wrong, taken, each, rebuilt, if_text, stored, assigned, assign, Sets, set_all}
 use Rattle.tx_exec_form.specs.Rows.{kept, kept_of, with_body, with_parts, with_row, is_odd, value_found}
 use Rattle.tx_exec_form.specs.Rows.{value_of, provides_of}
 use Rattle.tx_exec_form.specs.Rows.{eval_of, unary_run, only_child, unary_row, quote, used, part_used, numbered}
@@ -31,7 +31,7 @@ use Rattle.tx_exec_form.specs.Rows.{tag_run, macro, row, leaf_run, node_run, lev
 use Rattle.tx_exec_form.specs.Rows.{all_used, all_numbered, all_part, call_over, evaluated_made, mapped, map_numbered}
 use Rattle.tx_exec_form.specs.Rows.{map_parts, map_found, map_args_run, map_named, map_args, value_truth, decided}
 use Rattle.tx_exec_form.specs.Rows.{chosen}
-use Rattle.tx_exec_form.specs.Rows.{joined, turns, while_row, primitive, by_name, xmacro_in, tuple_of}
+use Rattle.tx_exec_form.specs.Rows.{gathered, turns, while_row, primitive, by_name, xmacro_in, tuple_of}
 use Rattle.tx_exec_form.specs.Rows.{is_xmacro, applied_all, tuple_run, ex_all}
 use Rattle.tx_exec_form.specs.declared.rows.Row.{Row}
 use Rattle.tx_exec_form.specs.declared.rows.Row.TheVariants as rows
@@ -205,16 +205,16 @@ module _ (w : NameMap) (l : LookMap) (n : ℕ) where
         (next (needs _ k) (λ _. next (pays _) (λ _. gives V v))))
 
     nameds : (k : ℕ) (label : List ℕ) (go go' : Name → Run WideValue) (r : Option Name) →
-        ((x : Name) → Goes (go x) (go' x)) → Goes (named k label go r) (named k label go' r)
+        ((x : Name) → Goes (go x) (go' x)) → Goes (if_text k label go r) (if_text k label go' r)
     nameds k label go go' (Some x) h = h x
     nameds k label go go' None h = bads k label
 
     -- by the text of a value
     nameds_in : (k : ℕ) (label : List ℕ) (go go' : Name → Run WideValue) (v : WideValue) →
         ((x : Name) → Goes (go x) (go' x)) →
-        Goes (named k label go (value_text v)) (named k label go' (value_text (V v)))
+        Goes (if_text k label go (value_text v)) (if_text k label go' (value_text (V v)))
     nameds_in k label go go' v h =
-        subst (λ r. Goes (named k label go (value_text v)) (named k label go' r)) (sym (text_under base v))
+        subst (λ r. Goes (if_text k label go (value_text v)) (if_text k label go' r)) (sym (text_under base v))
         (nameds k label go go' (value_text v) h)
 
     tests : (b : Bool) (m m' o o' : Run WideValue) → Goes m m' → Goes o o' →
@@ -268,8 +268,8 @@ module _ (w : NameMap) (l : LookMap) (n : ℕ) where
         subst (λ r. Goes (decided k label go stop (value_truth v)) (decided k label go' stop' r))
         (sym (truth_under base v)) (decideds k label go go' stop stop' (value_truth v) h g)
 
-    joineds : (vs : List WideValue) → Goes (joined vs) (joined (map V vs))
-    unfolding joined
+    joineds : (vs : List WideValue) → Goes (gathered vs) (gathered (map V vs))
+    unfolding gathered
     joineds vs = mades (codes "concat") vs None
 
     storeds : (label : List ℕ) (at : Option (List ℕ)) (name : WideValue) (x : Name) (v : WideValue) →
@@ -305,7 +305,7 @@ module _ (w : NameMap) (l : LookMap) (n : ℕ) where
       assigns label at [] = bads k label
       assigns label at (x ∷ []) = bads k label
       assigns label at (x ∷ t ∷ []) =
-          bind (λ name. named k label (λ y. below (T t) (F f) >>= stored label (origin_under base at) name y)
+          bind (λ name. if_text k label (λ y. below (T t) (F f) >>= stored label (origin_under base at) name y)
           (value_text name)) (belows x f)
           (λ name. nameds_in k label _ _ name
           (λ y. bind (stored label (origin_under base at) (V name) y) (belows t f) (λ v. storeds label at name y v)))
@@ -331,7 +331,7 @@ module _ (w : NameMap) (l : LookMap) (n : ℕ) where
       withs label at vs ps [] h = bads k label
       withs label at vs ps (b ∷ []) h = bodies label at vs ps b h
       withs label at vs ps (x ∷ t ∷ ts) h =
-          bind (λ name. named k label (λ y. below (T t) (F f) >>= λ v. with_parts k below (F f) label
+          bind (λ name. if_text k label (λ y. below (T t) (F f) >>= λ v. with_parts k below (F f) label
           (origin_under base at) (map V vs ++ name ∷ v ∷ []) (ps ++ (y, Some (plain v)) ∷ []) (map T ts))
           (value_text name)) (belows x f)
           (λ name. nameds_in k label _ _ name
@@ -436,10 +436,10 @@ module _ (w : NameMap) (l : LookMap) (n : ℕ) where
           (map_parts k below (F f) label foo root x count (map T numbers))
       unfolding map_parts
       map_partss label foo root x count numbers =
-          bind (λ us. map_numbered k below (F f) label foo root x count (numbers_of us)) (eachs numbers [])
-          (λ vs. subst (λ ns. Goes (map_numbered k below f label foo root x count (numbers_of vs))
+          bind (λ us. map_numbered k below (F f) label foo root x count (integers_of us)) (eachs numbers [])
+          (λ vs. subst (λ ns. Goes (map_numbered k below f label foo root x count (integers_of vs))
           (map_numbered k below (F f) label foo root x count ns)) (sym (numbers_under base vs))
-          (map_numbereds label foo root x count (numbers_of vs)))
+          (map_numbereds label foo root x count (integers_of vs)))
 
       -- of as many parts
       parts_counted : (label foo root x : List ℕ) (count other : ℕ) (numbers : List TaggedTree) → count ≡ other →
@@ -509,12 +509,12 @@ module _ (w : NameMap) (l : LookMap) (n : ℕ) where
           Goes (turns i k below f label c b vs) (turns i k below (F f) label (T c) (T b) (map V vs))
       unfolding turns
       turnses zero label c b vs =
-          bind (λ u. decided k label (wrong k (codes "limit") label) (joined (map V vs)) (value_truth u)) (belows c f)
+          bind (λ u. decided k label (wrong k (codes "limit") label) (gathered (map V vs)) (value_truth u)) (belows c f)
           (λ v. decideds_in k label _ _ _ _ v (wrongs k (codes "limit") label) (joineds vs))
       turnses (suc i) label c b vs =
           bind (λ u. decided k label (below (T b) (F f) >>= λ x. turns i k below (F f) label (T c) (T b)
           (map V vs ++ x ∷ []))
-          (joined (map V vs)) (value_truth u)) (belows c f)
+          (gathered (map V vs)) (value_truth u)) (belows c f)
           (λ v. decideds_in k label _ _ _ _ v
           (bind (λ x. turns i k below (F f) label (T c) (T b) (map V vs ++ x ∷ [])) (belows b f)
           (λ u. subst (λ us. Goes (turns i k below f label c b (vs ++ u ∷ [])) (turns i k below (F f) label (T c)
@@ -576,21 +576,21 @@ module _ (w : NameMap) (l : LookMap) (n : ℕ) where
             (arg_part taking k below (F f) label x (T t) (map T numbers))
         unfolding arg_part
         arg_parts taking label x t numbers =
-            bind (λ us. numbered taking k below (F f) label x (T t) (numbers_of us)) (eachs numbers [])
-            (λ vs. subst (λ ns. Goes (numbered taking k below f label x t (numbers_of vs))
+            bind (λ us. numbered taking k below (F f) label x (T t) (integers_of us)) (eachs numbers [])
+            (λ vs. subst (λ ns. Goes (numbered taking k below f label x t (integers_of vs))
             (numbered taking k below (F f) label x (T t) ns)) (sym (numbers_under base vs))
-            (numbereds taking label x t (numbers_of vs)))
+            (numbereds taking label x t (integers_of vs)))
 
         all_parts : (taking : Taking) (label : List ℕ) (x : Name) (ts : List TaggedTree) (numbers : List TaggedTree) →
             Goes (all_part taking k below below_all f label x ts numbers)
             (all_part taking k below below_all (F f) label x (map T ts) (map T numbers))
         unfolding all_part
         all_parts taking label x ts numbers =
-            bind (λ us. all_numbered taking k below below_all (F f) label x (map T ts) (numbers_of us))
+            bind (λ us. all_numbered taking k below below_all (F f) label x (map T ts) (integers_of us))
             (eachs numbers [])
-            (λ vs. subst (λ ns. Goes (all_numbered taking k below below_all f label x ts (numbers_of vs))
+            (λ vs. subst (λ ns. Goes (all_numbered taking k below below_all f label x ts (integers_of vs))
             (all_numbered taking k below below_all (F f) label x (map T ts) ns)) (sym (numbers_under base vs))
-            (all_numbereds taking label x ts (numbers_of vs)))
+            (all_numbereds taking label x ts (integers_of vs)))
 
         arg_founds : (taking : Taking) (label : List ℕ) (x : Name) (numbers : List TaggedTree) (r : Found) →
             Goes (arg_found taking k below below_all f label x numbers r)

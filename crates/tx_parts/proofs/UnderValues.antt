@@ -10,11 +10,11 @@ use Rattle.tx_env.specs.Pairs.{Name}
 use Rattle.tx_origin.specs.Values.{WideValue, text, made, also, value_text, plain}
 use Rattle.tx_origin.specs.Values.{child_at, whole, wholes}
 use Rattle.tx_origin.specs.TaggedTrees.{TaggedTree, kids_from, kids_at, kids_of}
-use Rattle.tx_prim.specs.Numbers.{number_of}
+use Rattle.tx_prim.specs.Numbers.{integer_of}
 use Rattle.tx_prim.specs.Operands.{truth_of}
 use Rattle.tx_exec_form.specs.Frames.{Frame, top, call, call_all, caller_of, Found, Unbound, Missing, Here, All}
 use Rattle.tx_exec_form.specs.Frames.{argument, argument_in, first_argument, others_of}
-use Rattle.tx_exec_form.specs.Numbers.{value_number, numbers_of, tree_at, kid_at, part_of, part_among}
+use Rattle.tx_exec_form.specs.Numbers.{value_number, integers_of, tree_at, kid_at, part_of, part_among}
 use Rattle.tx_exec_form.specs.Rows.{value_truth, is_odd}
 use Rattle.tx_origin.specs.Under.{origin_under, tree_under, value_under, values_under}
 use Rattle.tx_origin.proofs.Under.{plain_under}
@@ -103,12 +103,12 @@ module _ (base : List ℕ) where
       ∙ ap (λ vs. whole (origin_under base t.at) t.tree ∷ vs) (wholes_of_under ts)
 
   pub number_under : (v : WideValue) → value_number (value_under base v) ≡ value_number v
-  number_under v = ap (option_and_then number_of) (text_under v)
+  number_under v = ap (option_and_then integer_of) (text_under v)
 
-  pub numbers_under : (vs : List WideValue) → numbers_of (map (value_under base) vs) ≡ numbers_of vs
+  pub numbers_under : (vs : List WideValue) → integers_of (map (value_under base) vs) ≡ integers_of vs
   numbers_under [] = refl
   numbers_under (v ∷ vs) =
-      ap (λ o. option_and_then (λ n. option_map (λ ns. n ∷ ns) (numbers_of (map (value_under base) vs))) o)
+      ap (λ o. option_and_then (λ n. option_map (λ ns. n ∷ ns) (integers_of (map (value_under base) vs))) o)
       (number_under v) ∙ ap (λ os. option_and_then (λ n. option_map (λ ns. n ∷ ns) os) (value_number v))
       (numbers_under vs)
 

@@ -10,7 +10,7 @@ use Rattle.std.proofs.lemmas.List.{append-nil, take_at, drop_at}
 use Rattle.std.proofs.lemmas.Fmt.{decimal_by_steps, decimal_nonempty, length-decimal-le}
 use Rattle.tx_tree.specs.PathSpelling.{is_digit, number_after}
 use Rattle.tx_tree.proofs.PathReading.{number_after-append}
-use Rattle.tx_prim.specs.Numbers.{fits_word, if_fits, signed, has_minus, behind_minus, are_digits, number_of}
+use Rattle.tx_prim.specs.Numbers.{fits_word, if_fits, signed, has_minus, behind_minus, are_digits, integer_of}
 use Rattle.tx_prim.specs.Lengths.{digits_front, digits_rest, length_behind, length_of, length_text, measured_length}
 use Rattle.tx_prim.proofs.Plain.{decimal_digits}
 use Rattle.tx_prim.proofs.Digits.{measured_is}
@@ -164,7 +164,7 @@ number_unsigned minus n lt =
     ap (λ c. cond c (if_fits (signed minus (number_after 0 (decimal n)))) None) (digits_there n lt)
     ∙ ap (λ m. if_fits (signed minus m)) (decimal_value n lt)
 
-pub number_read : (z : ℤ) → fits_word z ≡ true → number_of (signed_decimal z) ≡ Some z
+pub number_read : (z : ℤ) → fits_word z ≡ true → integer_of (signed_decimal z) ≡ Some z
 number_read (pos n) f =
     let lt : n < 2 ^ 64 = omega (arith, ltb-true n (2 ^ 63) f) in
     let first = first_digit (decimal n) [] (decimal_nonempty n lt) (decimal_digits n lt) in

@@ -30,8 +30,8 @@ abbrev pub are_digits : List ℕ → Bool
 are_digits bytes = nat_lt 0 (length bytes) && list_all is_digit bytes
 
 -- the number that the bytes write
-abbrev pub number_of : List ℕ → Option ℤ
-number_of bytes =
+abbrev pub integer_of : List ℕ → Option ℤ
+integer_of bytes =
     if are_digits (behind_minus bytes)
     then if_fits (signed (has_minus bytes) (number_after 0 (behind_minus bytes)))
     else None

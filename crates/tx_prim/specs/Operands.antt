@@ -7,7 +7,7 @@ use Rattle.tx_tree.specs.declared.TheConstants.{MOST_TEXT, MOST_ARITY}
 use Rattle.tx_tree.specs.WideTree.{WideTree, leaf, node, trees, forest, deepest, widest, longest_text, text_of}
 use Rattle.tx_prim.specs.declared.amounts.Amount.{Amount}
 use Rattle.tx_prim.specs.declared.amounts.Amount.TheVariants.{Number, Length}
-use Rattle.tx_prim.specs.Numbers.{number_of}
+use Rattle.tx_prim.specs.Numbers.{integer_of}
 use Rattle.tx_prim.specs.Lengths.{length_of}
 
 -- what each operand is read as, where all can be
@@ -16,8 +16,8 @@ every reading [] = Some []
 every reading (t ∷ ts) = option_and_then (λ a. option_map (λ others. a ∷ others) (every reading ts)) (reading t)
 
 -- a text as a number
-abbrev pub number_in : WideTree → Option ℤ
-number_in t = option_and_then number_of (text_of t)
+abbrev pub integer_in : WideTree → Option ℤ
+integer_in t = option_and_then integer_of (text_of t)
 
 -- a number, or else a length
 abbrev pub amount_from : Option ℤ → Option ℤ → Option Amount
@@ -26,7 +26,7 @@ amount_from None (Some z) = Some (Length z)
 amount_from None None = None
 
 abbrev pub amount_of : List ℕ → Option Amount
-amount_of text = amount_from (number_of text) (length_of text)
+amount_of text = amount_from (integer_of text) (length_of text)
 
 abbrev pub amount_in : WideTree → Option Amount
 amount_in t = option_and_then amount_of (text_of t)

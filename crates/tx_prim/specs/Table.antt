@@ -22,7 +22,7 @@ use Rattle.tx_prim.specs.declared.table.Connective.{Connective}
 use Rattle.tx_prim.specs.declared.table.Connective.TheVariants.{AllTrue, SomeTrue, OneTrue, NoneTrue}
 use Rattle.tx_prim.specs.Lengths.{length_text}
 use Rattle.tx_prim.specs.Items.{text_items, joined_lists}
-use Rattle.tx_prim.specs.Operands.{every, number_in, amount_in, truth_in, tuple_in, part}
+use Rattle.tx_prim.specs.Operands.{every, integer_in, amount_in, truth_in, tuple_in, part}
 use Rattle.tx_prim.specs.Arithmetic.{plus, minus, times, quotient, remainder, of_two, compared}
 use Rattle.tx_prim.specs.Arithmetic.{sameness, all_true, some_true, one_true, none_true}
 use Rattle.tx_prim.specs.Names.{name_of, fault_text}
@@ -91,8 +91,8 @@ tree_part (node label ts) i j =
 
 abbrev pub ranged : List WideTree → WideTree
 ranged (t ∷ i ∷ j ∷ []) =
-    option_map_or (λ m. option_map_or (λ n. tree_part t m n) (number_in j) (failure Bad Range))
-    (number_in i) (failure Bad Range)
+    option_map_or (λ m. option_map_or (λ n. tree_part t m n) (integer_in j) (failure Bad Range))
+    (integer_in i) (failure Bad Range)
 ranged operands = failure Bad Range
 
 -- the child of this number
@@ -103,7 +103,7 @@ child_numbered ts z = None
 abbrev pub looked_up : List WideTree → WideTree
 looked_up (node label ts ∷ i ∷ []) =
     option_map_or (λ n. option_map_or (λ t. t) (child_numbered (trees ts) n) (failure NoPart LookUp))
-    (number_in i) (failure Bad LookUp)
+    (integer_in i) (failure Bad LookUp)
 looked_up operands = failure Bad LookUp
 
 abbrev pub label_told : List WideTree → WideTree

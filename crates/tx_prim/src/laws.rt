@@ -2,7 +2,7 @@
 ghost use Rattle.std.specs.Prelude.{◌≡◌, ◌<◌, ◌≤◌, ◌^◌, ◌↔◌, ℤ, true, Some, None, unsigned_abs};
 ghost use Rattle.std.specs.Fmt.{signed_decimal};
 ghost use Rattle.tx_tree.specs.WideTree.{WideTree};
-ghost use Rattle.tx_prim.specs.Numbers.{fits_word, number_of};
+ghost use Rattle.tx_prim.specs.Numbers.{fits_word, integer_of};
 ghost use Rattle.tx_prim.specs.Lengths.{length_of, length_text};
 ghost use Rattle.tx_prim.specs.Same.{is_same};
 ghost use Rattle.tx_prim.specs.declared.names.Prim.{Prim};
@@ -10,7 +10,7 @@ ghost use Rattle.tx_prim.specs.Names.{name_of, named};
 
 /// Each number of 64 bits, as it is printed, is read as that number.
 pub fn number_law()
-    ensures { (z : ℤ) → fits_word z ≡ true → number_of (signed_decimal z) ≡ Some z }
+    ensures { (z : ℤ) → fits_word z ≡ true → integer_of (signed_decimal z) ≡ Some z }
 {}
 
 /// A length of at most 18 digits, as it is printed, is read as that length, and a longer one is no length.

@@ -15,7 +15,7 @@ use crate::amounts::ValueFault;
 use crate::items::{item_count, items_between};
 use crate::making::{failure, leaf_of, tuple_of};
 use crate::names::Prim;
-use crate::operands::{number_in, tuple_in};
+use crate::operands::{integer_in, tuple_in};
 use std::alloc::Global;
 use std::sync::ledger::Ledger;
 use tx_base::Steps;
@@ -182,7 +182,7 @@ pub(crate) fn range<L: Ledger>(
     ensures counted { OnOk result (steps.new ≡ steps.old + 1) }
 {
     match operands {
-        [t, i, j] => match (number_in(i), number_in(j)) {
+        [t, i, j] => match (integer_in(i), integer_in(j)) {
             (Some(i), Some(j)) => tree_part(alloc, t, i, j, steps),
             _ => failure(alloc, ValueFault::Bad, Prim::Range, steps),
         },
@@ -216,7 +216,7 @@ pub(crate) fn look_up<L: Ledger>(
     ensures counted { OnOk result (steps.new ≡ steps.old + 1) }
 {
     match operands {
-        [t, i] => match (t.kind(), number_in(i)) {
+        [t, i] => match (t.kind(), integer_in(i)) {
             (Kind::Node, Some(i)) => match child_numbered(t.children(), i) {
                 Some(child) => {
                     steps.tick();

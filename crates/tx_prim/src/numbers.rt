@@ -3,7 +3,7 @@ ghost use Rattle.std.specs.Prelude.{◌≡◌, ◌<◌, ◌+◌, ◌-◌, ◌*�
 ghost use Rattle.std.specs.List.{list_all};
 ghost use Rattle.std.specs.Option.{SomeIff};
 ghost use Rattle.tx_tree.specs.PathSpelling.{is_digit, number_after};
-ghost use Rattle.tx_prim.specs.Numbers.{has_minus, behind_minus, signed, if_fits, are_digits, number_of};
+ghost use Rattle.tx_prim.specs.Numbers.{has_minus, behind_minus, signed, if_fits, are_digits, integer_of};
 
 use tx_tree::Text;
 
@@ -69,8 +69,8 @@ fn are_digits(bytes: &[u8]) -> bool
 }
 
 // The number that the bytes write, if they do and 64 bits hold it.
-pub(crate) fn number_of(bytes: &[u8]) -> Option<i64>
-    ensures { result ≡ number_of bytes.now }
+pub(crate) fn integer_of(bytes: &[u8]) -> Option<i64>
+    ensures { result ≡ integer_of bytes.now }
 {
     let (minus, digits) = split_minus(bytes);
     if !are_digits(digits) {
@@ -82,7 +82,7 @@ pub(crate) fn number_of(bytes: &[u8]) -> Option<i64>
 /// The number that the text writes: a minus sign or none, and one digit or more. None where it writes none, or one that
 /// 64 bits don't hold.
 pub fn parse_number(t: &Text) -> Option<i64>
-    ensures { result ≡ number_of t.now }
+    ensures { result ≡ integer_of t.now }
 {
-    number_of(t.bytes())
+    integer_of(t.bytes())
 }

@@ -2,21 +2,21 @@
 ghost use Rattle.std.specs.Prelude.{◌≡◌, MatchOption, None, Some, IfOk, IfSome, is_some};
 ghost use Rattle.tx_tree.specs.Limits.{IsWithinLimits};
 ghost use Rattle.tx_prim.specs.Table.{tuple_node};
-ghost use Rattle.tx_prim.specs.Operands.{every, number_in, amount_of, amount_in, truth_of, truth_in, tuple_in};
+ghost use Rattle.tx_prim.specs.Operands.{every, integer_in, amount_of, amount_in, truth_of, truth_in, tuple_in};
 
 use crate::amounts::Amount;
 use crate::lengths::length_of;
-use crate::numbers::number_of;
+use crate::numbers::integer_of;
 use std::alloc::Global;
 use tx_tree::{Memory, Tree};
 
 // The number that a text writes.
-pub(crate) fn number_in(t: &Tree) -> Option<i64>
-    ensures { result ≡ number_in t.now }
+pub(crate) fn integer_in(t: &Tree) -> Option<i64>
+    ensures { result ≡ integer_in t.now }
 {
     match t.text() {
         None => None,
-        Some(text) => number_of(text.bytes()),
+        Some(text) => integer_of(text.bytes()),
     }
 }
 
@@ -24,7 +24,7 @@ pub(crate) fn number_in(t: &Tree) -> Option<i64>
 pub(crate) fn amount_of(bytes: &[u8]) -> Option<Amount>
     ensures { result ≡ amount_of bytes.now }
 {
-    match (number_of(bytes), length_of(bytes)) {
+    match (integer_of(bytes), length_of(bytes)) {
         (Some(n), _) => Some(Amount::Number(n)),
         (None, Some(mcell)) => Some(Amount::Length(mcell)),
         (None, None) => None,

@@ -28,7 +28,7 @@ use Rattle.tx_tm_read.specs.Fits.{StateFits, ReaderFits}
 use Rattle.tx_tm_words.specs.Runs.{AreWords, one_byte, byte_more, space_and_byte, IsWhiteRun, no_white, white_more}
 use Rattle.tx_tm_read.specs.Heads.{StandsInFront}
 use Rattle.tx_tm_read.specs.declared.heads.Head.{Head}
-use Rattle.tx_tm_read.specs.Readers.{reader_between_words, reader_of, IsAdvance, IsTree, IsTreeRead}
+use Rattle.tx_tm_read.specs.Readers.{reader_between_words, byte_machine, IsAdvance, IsTree, IsTreeRead}
 use Rattle.tx_tm_words.specs.Words.{lex_of}
 use Rattle.tx_tm_read.specs.Spots.{state_of}
 use Rattle.tx_tm_read.specs.declared.reader.Reader.{Reader}
@@ -250,7 +250,7 @@ head_there (b ∷ x) (suc e) more l h k f s i =
 
 -- the reader between two words
 pub reader_between : (r : Reader) (c : Content) (fs : List Open) → lex_of r.lexer ≡ ready
-    → state_of r.spot ≡ reading c fs → reader_between_words r.behind_join c fs ≡ reader_of r
+    → state_of r.spot ≡ reading c fs → reader_between_words r.behind_join c fs ≡ byte_machine r
 reader_between r c fs e i =
     sym (ap (λ q. at q (record { behind_join = r.behind_join; state = state_of r.spot })) e
     ∙ ap (λ s. at ready (record { behind_join = r.behind_join; state = s })) i)

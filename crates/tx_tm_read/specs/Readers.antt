@@ -12,13 +12,13 @@ use Rattle.tx_tm_read.specs.Fits.{ReaderFits}
 use Rattle.tx_tm_read.specs.Nodes.{state_nodes}
 use Rattle.tx_tm_read.specs.Spots.{state_of}
 
-abbrev pub reader_of : Reader → Bytewise Keeping
-reader_of r = at (lex_of r.lexer) (record { behind_join = r.behind_join; state = state_of r.spot })
+abbrev pub byte_machine : Reader → Bytewise Keeping
+byte_machine r = at (lex_of r.lexer) (record { behind_join = r.behind_join; state = state_of r.spot })
 
 -- this, or else no tree within the limits comes of it
 abbrev pub IsReader : Option Reader → Bytewise Keeping → Type 0
 IsReader None w = ReaderFits w → ⊥
-IsReader (Some r) w = reader_of r ≡ w
+IsReader (Some r) w = byte_machine r ≡ w
 
 abbrev pub ReaderRose : ℕ → ℕ → ℕ → Option Reader → Type 0
 ReaderRose before after nodes None = Unit {0}
@@ -32,7 +32,7 @@ reader_between_words j c fs = at ready (record { behind_join = j; state = readin
 abbrev pub IsAdvance : Option Advance → Bytewise Keeping → List ℕ → Type 0
 IsAdvance None w bytes = (n : ℕ) × (ReaderFits (run keep w (take n bytes)) → ⊥)
 IsAdvance (Some a) w bytes =
-    (0 < a.taken) × (a.taken ≤ length bytes) × (reader_of a.reader ≡ run keep w (take a.taken bytes))
+    (0 < a.taken) × (a.taken ≤ length bytes) × (byte_machine a.reader ≡ run keep w (take a.taken bytes))
 
 abbrev pub AdvanceRose : ℕ → ℕ → ℕ → Option Advance → Type 0
 AdvanceRose before after nodes None = Unit {0}

@@ -10,7 +10,7 @@ ghost use Rattle.tx_tm_words.specs.Words.{token_of, IsGoodWord, lexed_of, IsGood
 ghost use Rattle.tx_tm_content.specs.Blocks.{content_of};
 ghost use Rattle.tx_tm_read.specs.Nodes.{state_nodes};
 ghost use Rattle.tx_tm_read.specs.Spots.{opens_of, state_of};
-ghost use Rattle.tx_tm_read.specs.Readers.{reader_between_words, reader_of, IsReader, ReaderRose};
+ghost use Rattle.tx_tm_read.specs.Readers.{reader_between_words, byte_machine, IsReader, ReaderRose};
 ghost use Rattle.tx_tm_words.specs.Runs.{AreWords, IsWhiteRun};
 ghost use Rattle.tx_tm_read.specs.Heads.{StandsInFront};
 ghost use Rattle.tx_tm_read.specs.PlainTags.{HasArguments};
@@ -329,7 +329,7 @@ fn with_tag<L: Ledger>(
 
 impl Reader {
     fn new(alloc: Global) -> Reader
-        ensures { reader_of result ≡ start }
+        ensures { byte_machine result ≡ start }
     {
         Reader {
             lexer: Lexer::Ready,
@@ -345,7 +345,7 @@ impl Reader {
         byte: u8,
         steps: &mut Steps<L>,
     ) -> Result<Option<Reader>, Memory>
-        ensures next { IfOk result (λ next. IsReader next (step keep (reader_of self) byte)) }
+        ensures next { IfOk result (λ next. IsReader next (step keep (byte_machine self) byte)) }
         ensures counted { IfOk result (ReaderRose steps.old steps.new (state_nodes (state_of self.spot))) }
         ensures bounded { steps.new + left reader_credit result ≤ steps.old + reader_credit self + 1 }
         ensures rises { steps.old ≤ steps.new }
@@ -372,7 +372,7 @@ impl Reader {
         steps: &mut Steps<L>,
     ) -> Result<Option<Advance>, Memory>
         requires { 0 < length rest.now }
-        ensures next { IfOk result (λ next. IsAdvance next (reader_of self) rest.now) }
+        ensures next { IfOk result (λ next. IsAdvance next (byte_machine self) rest.now) }
         ensures counted { IfOk result (AdvanceRose steps.old steps.new (state_nodes (state_of self.spot))) }
         ensures paid { IfOk result (AdvancePaid steps.old steps.new (reader_credit self)) }
         ensures bounded { steps.new ≤ steps.old + reader_credit self + 2 }
@@ -393,7 +393,7 @@ impl Reader {
         steps: &mut Steps<L>,
     ) -> Result<Option<Advance>, Memory>
         requires { 0 < length rest.now }
-        ensures next { IfOk result (λ next. IsAdvance next (reader_of self) rest.now) }
+        ensures next { IfOk result (λ next. IsAdvance next (byte_machine self) rest.now) }
         ensures counted { IfOk result (AdvanceRose steps.old steps.new (state_nodes (state_of self.spot))) }
         ensures paid { IfOk result (AdvancePaid steps.old steps.new (reader_credit self)) }
         ensures bounded { steps.new ≤ steps.old + reader_credit self + 2 }
@@ -425,7 +425,7 @@ impl Reader {
         labels: &Labels,
         steps: &mut Steps<L>,
     ) -> Result<Option<Tree>, Memory>
-        ensures found { IfOk result (λ found. IsTree found (reader_of self)) }
+        ensures found { IfOk result (λ found. IsTree found (byte_machine self)) }
         ensures counted { IfOk result (λ found.
             IfSome found (λ t. steps.new + state_nodes (state_of self.spot) ≤ steps.old + nodes_of t)) }
         ensures bounded { steps.new ≤ steps.old + reader_credit self + 1 }

@@ -5,7 +5,7 @@ use Rattle.tx_tree.specs.Labels.{IsLabel}
 use Rattle.tx_tree.specs.WideTree.{WideTree, Forest, leaf, node, nil, cons, size_of, total_size}
 use Rattle.tx_tree.specs.Limits.{IsWellFormed, AreWellFormed}
 use Rattle.tx_tm_form.specs.Parts.{same_bytes, document_label, collection_label}
-use Rattle.tx_tm_write.specs.Shapes.{some, is_block, has_block, is_empty, is_inline, is_raw, is_long, text_or_empty}
+use Rattle.tx_tm_write.specs.Shapes.{some, is_block, has_block, is_empty, stays_inline, is_raw, is_long, text_or_empty}
 use Rattle.tx_tm_write.specs.Shapes.{digits_of}
 use Rattle.tx_tm_write.specs.Canonical.{byte_text, is_marked, is_control, is_held, items_text, opened, next_mark}
 use Rattle.tx_tm_write.specs.Canonical.{with_lines, or_mark, between, with_ends, tag_text, part_text, content_text}
@@ -75,7 +75,7 @@ mutual
       let parts = parts_short false ts h.1 in
       let tag = tag_short label ts (long_text label ts) (arguments_text ts) (200 * total_size ts) h.0 (omega arith)
       (long_short label ts h.0 h.1) (arguments_short ts h.1) in
-      let all = either (is_inline label ts) (parts_text false ts)
+      let all = either (stays_inline label ts) (parts_text false ts)
       (tag_text label ts (long_text label ts) (arguments_text ts)) (200 * total_size ts + 68) (omega (arith, parts))
       tag in
       omega (arith, all)

@@ -14,7 +14,7 @@ use Rattle.tx_tm_form.specs.Parts.{same_bytes}
 use Rattle.tx_tm_form.specs.Parts.{concat_label}
 use Rattle.tx_tm_form.specs.Forms.{symbol_bytes}
 use Rattle.tx_tm_form.proofs.Sound.{same_is}
-use Rattle.tx_tm_write.specs.Shapes.{some, is_empty, are_apart, has_two, is_inline}
+use Rattle.tx_tm_write.specs.Shapes.{some, is_empty, are_apart, has_two, stays_inline}
 use Rattle.tx_tm_write.specs.Canonical.{is_held}
 use Rattle.tx_tm_write.proofs.TextItems.{byte_part, item_parts}
 
@@ -31,7 +31,8 @@ parts_side before (cons t ts) h = parts_in before (some ts) t h.0 ++ parts_side 
 
 abbrev pub content_parts : (t : WideTree) → IsWellFormed t → List ContentPart
 content_parts (leaf s) h = item_parts false false h.0
-content_parts (node label ts) h = if is_inline label ts then parts_side false ts h.1 else tag false (node label ts) ∷ []
+content_parts (node label ts) h =
+    if stays_inline label ts then parts_side false ts h.1 else tag false (node label ts) ∷ []
 
 -- a paragraph is not empty
 abbrev pub paragraph_parts : (t : WideTree) → IsWellFormed t → List ContentPart
@@ -214,14 +215,14 @@ two_some nil e = absurd cc
 two_some (cons t ts) e = refl
 
 -- what it takes to be inline
-inline_parts : (label : List ℕ) (ts : Forest) → is_inline label ts ≡ true → (same_bytes label concat_label ≡ true)
+inline_parts : (label : List ℕ) (ts : Forest) → stays_inline label ts ≡ true → (same_bytes label concat_label ≡ true)
     × (has_two ts ≡ true) × (are_apart false ts ≡ true)
 inline_parts label ts e =
     let p = and_parts (same_bytes label concat_label && has_two ts) (are_apart false ts) e in
     let q = and_parts (same_bytes label concat_label) (has_two ts) p.0 in
     (q.0, q.1, p.1)
 
-side_back : (label : List ℕ) (ts : Forest) (h : AreWellFormed ts) → is_inline label ts ≡ true
+side_back : (label : List ℕ) (ts : Forest) (h : AreWellFormed ts) → stays_inline label ts ≡ true
     → concat_of (texts_and_tags false [] (parts_side false ts h)) ≡ node label ts
 side_back label ts h e =
     let p = inline_parts label ts e in
@@ -232,8 +233,8 @@ pub content_back : (t : WideTree) (h : IsWellFormed t) → content (content_part
 unfolding content
 content_back (leaf s) h = leaf_back h.0 s h.2
 content_back (node label ts) h =
-    elim (is_inline label ts) as
-    (λ i. is_inline label ts ≡ i
+    elim (stays_inline label ts) as
+    (λ i. stays_inline label ts ≡ i
     → concat_of (texts_and_tags false [] (if i then parts_side false ts h.1 else tag false (node label ts) ∷ []))
     ≡ node label ts) [
       | true ↦ λ e. side_back label ts h.1 e
@@ -246,8 +247,8 @@ content_tight (leaf (b ∷ s)) h k =
     subst (λ z. is_tight false z ≡ true) (append-nil (item_parts false false h.0))
     (items_tight false false false h.0 [] (λ z. z) (item_ready false false h.0 b s h.2) refl (λ z. z))
 content_tight (node label ts) h k =
-    elim (is_inline label ts) as
-    (λ i. is_inline label ts ≡ i
+    elim (stays_inline label ts) as
+    (λ i. stays_inline label ts ≡ i
     → is_tight false (if i then parts_side false ts h.1 else tag false (node label ts) ∷ []) ≡ true) [
       | true ↦ λ e. let p = inline_parts label ts e in side_tight ts h.1 (two_some ts p.1) p.2
       | false ↦ λ e. refl
@@ -294,7 +295,7 @@ content_ordinary : (t : WideTree) (h : IsWellFormed t) → is_ordinary (content_
 content_ordinary (leaf s) h =
     subst (λ z. is_ordinary z ≡ true) (append-nil (item_parts false false h.0)) (items_ordinary false false h.0 [] refl)
 content_ordinary (node label ts) h =
-    elim (is_inline label ts) as
+    elim (stays_inline label ts) as
     (λ i. is_ordinary (if i then parts_side false ts h.1 else tag false (node label ts) ∷ []) ≡ true) [
       | true ↦ side_ordinary ts false h.1
       | false ↦ refl

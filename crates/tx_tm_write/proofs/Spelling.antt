@@ -16,7 +16,7 @@ use Rattle.tx_tm_form.specs.Parts.{collection_label}
 use Rattle.tx_tm_form.specs.Forms.{escaped, Spells}
 use Rattle.tx_tm_form.proofs.Sound.{same_is}
 use Rattle.tx_tm_form.proofs.Words.{one_tree}
-use Rattle.tx_tm_write.specs.Shapes.{some, are_nodes, is_block, has_block, is_empty, is_inline, is_raw, digits_of}
+use Rattle.tx_tm_write.specs.Shapes.{some, are_nodes, is_block, has_block, is_empty, stays_inline, is_raw, digits_of}
 use Rattle.tx_tm_write.specs.Canonical.{items_text, opened, with_lines, or_mark, between, with_ends, tag_text}
 use Rattle.tx_tm_write.specs.Canonical.{part_text, content_text, parts_text, arguments_text, long_text, block_text}
 use Rattle.tx_tm_write.specs.Canonical.{paragraphs_text, tags_text, tm_text}
@@ -197,7 +197,7 @@ mutual
   content_stands : (t : WideTree) (h : IsWellFormed t) → Stands (content_text t) (content_parts t h)
   content_stands (leaf s) h = text_stands false false s h
   content_stands (node label ts) h =
-      either_stands (is_inline label ts) (parts_text false ts)
+      either_stands (stays_inline label ts) (parts_text false ts)
       (tag_text label ts (long_text label ts) (arguments_text ts)) (parts_side false ts h.1)
       (tag false (node label ts) ∷ [])
       (parts_stand ts false h.1) (tag_stands label ts h.0 (children_go ts label h.0 h.1) (children_follow ts h.1))

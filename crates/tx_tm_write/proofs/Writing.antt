@@ -6,7 +6,7 @@ use Rattle.std.proofs.lemmas.Grind.{common_steps}
 use Rattle.tx_tree.specs.WideTree.{WideTree, leaf, node, forest, children_of, label_of, text_of}
 use Rattle.tx_tree.proofs.Walks.{node_is, leaf_is, leaf_or_node}
 use Rattle.tx_tm_form.specs.Parts.{same_bytes, document_label}
-use Rattle.tx_tm_write.specs.Shapes.{some, is_inline, is_raw, is_long, digits_of, IsRaw}
+use Rattle.tx_tm_write.specs.Shapes.{some, stays_inline, is_raw, is_long, digits_of, IsRaw}
 use Rattle.tx_tm_write.specs.Canonical.{opened, items_text, tag_text, part_text, content_text, parts_text}
 use Rattle.tx_tm_write.specs.Canonical.{arguments_text, long_text, block_text, paragraphs_text, with_ends, tags_text}
 use Rattle.tx_tm_write.proofs.Forms.{some_trees}
@@ -79,7 +79,7 @@ short_part before behind t label e h k =
     (60 ∷ (label ++ (arguments_text (forest (children_of t)) ++ 62 ∷ [])))) k
 
 pub inline_content : (t : WideTree) (label : List ℕ) → label_of t ≡ Some label
-    → is_inline label (forest (children_of t)) ≡ true
+    → stays_inline label (forest (children_of t)) ≡ true
     → content_text t ≡ parts_text false (forest (children_of t))
 inline_content t label e h =
     ap content_text (node_is t label e)
@@ -88,7 +88,7 @@ inline_content t label e h =
     (arguments_text (forest (children_of t))))) h
 
 pub tag_content : (t : WideTree) (label : List ℕ) → label_of t ≡ Some label
-    → is_inline label (forest (children_of t)) ≡ false → content_text t ≡ part_text false false t
+    → stays_inline label (forest (children_of t)) ≡ false → content_text t ≡ part_text false false t
 tag_content t label e h =
     ap content_text (node_is t label e)
     ∙ ap (λ b. cond b (parts_text false (forest (children_of t)))

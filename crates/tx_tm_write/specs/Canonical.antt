@@ -3,7 +3,7 @@ use Rattle.std.specs.Prelude.{ℕ, ◌+◌, Bool, true, false, ◌&&◌, ◌||�
 use Rattle.std.specs.Prelude.{not, nat_lt, if◌then◌else◌, List, [], ◌∷◌, ◌++◌}
 use Rattle.tx_tree.specs.WideTree.{WideTree, Forest, leaf, node, nil, cons}
 use Rattle.tx_tm_form.specs.Parts.{same_bytes, document_label, collection_label}
-use Rattle.tx_tm_write.specs.Shapes.{some, is_block, has_block, is_empty, is_inline, is_raw, is_long, digits_of}
+use Rattle.tx_tm_write.specs.Shapes.{some, is_block, has_block, is_empty, stays_inline, is_raw, is_long, digits_of}
 
 -- ---- items
 -- In a text, < and > stand only round the name of a symbol, and a name has no spaces and no control bytes. So items can
@@ -79,7 +79,7 @@ abbrev mutual
   pub content_text : WideTree → List ℕ
   content_text (leaf text) = items_text false false text
   content_text (node label ts) =
-      if is_inline label ts then parts_text false ts else tag_text label ts (long_text label ts) (arguments_text ts)
+      if stays_inline label ts then parts_text false ts else tag_text label ts (long_text label ts) (arguments_text ts)
 
   -- parts side by side
   pub parts_text : Bool → Forest → List ℕ

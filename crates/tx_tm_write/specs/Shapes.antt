@@ -39,8 +39,8 @@ has_two nil = false
 has_two (cons t ts) = some ts
 
 -- a concat that is written as the items of its texts and the tags of its nodes
-abbrev pub is_inline : List ℕ → Forest → Bool
-is_inline label ts = same_bytes label concat_label && has_two ts && are_apart false ts
+abbrev pub stays_inline : List ℕ → Forest → Bool
+stays_inline label ts = same_bytes label concat_label && has_two ts && are_apart false ts
 
 -- ---- forms of tags
 

@@ -9,7 +9,7 @@ ghost use Rattle.tx_tm_write.specs.Canonical.{block_text, paragraphs_text, with_
 ghost use Rattle.tx_tm_write.specs.Counts.{capped};
 
 use crate::items::{is_control, is_held, is_marked};
-use crate::shapes::{has_more, is_block, is_document, is_empty, is_inline, is_long, raw_digits};
+use crate::shapes::{has_more, is_block, is_document, is_empty, is_long, raw_digits, stays_inline};
 use tx_tree::{Label, Tree};
 
 fn plus(count: u64, more: u64) -> u64
@@ -129,7 +129,7 @@ fn content_length(t: &Tree) -> u64
     ensures { result ≡ capped (length (content_text t.now)) }
 {
     if let Some(label) = t.label() {
-        if is_inline(label, t.children()) {
+        if stays_inline(label, t.children()) {
             return parts_length(t);
         }
     }

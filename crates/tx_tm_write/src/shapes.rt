@@ -4,7 +4,7 @@ ghost use Rattle.tx_tree.specs.WideTree.{is_leaf, forest};
 ghost use Rattle.tx_tm_form.specs.Bytes.{is_digit};
 ghost use Rattle.tx_tm_form.specs.Parts.{same_bytes, document_label, collection_label, concat_label, raw_data_label};
 ghost use Rattle.tx_tm_write.specs.Shapes.{some, has_two, is_block, are_nodes, has_block, is_empty, are_apart};
-ghost use Rattle.tx_tm_write.specs.Shapes.{is_inline, all_digits, is_digits, is_raw, is_long, IsRaw};
+ghost use Rattle.tx_tm_write.specs.Shapes.{stays_inline, all_digits, is_digits, is_raw, is_long, IsRaw};
 
 use tx_tree::{Kind, Label, Text, Tree};
 
@@ -113,8 +113,8 @@ fn are_apart(trees: &[Tree]) -> bool
 }
 
 // Whether a node is written as the items of its texts and the tags of its nodes.
-pub(crate) fn is_inline(label: &Label, children: &[Tree]) -> bool
-    ensures { result ≡ is_inline label.now (forest children.now) }
+pub(crate) fn stays_inline(label: &Label, children: &[Tree]) -> bool
+    ensures { result ≡ stays_inline label.now (forest children.now) }
 {
     if !same_bytes(label.bytes(), b"concat") {
         return false;

@@ -9,7 +9,7 @@ ghost use Rattle.tx_tm_write.specs.Canonical.{block_text, paragraphs_text, with_
 
 use crate::items::append_items;
 use crate::shapes::{
-    has_block, has_more, is_block, is_document, is_empty, is_inline, is_long, raw_digits,
+    has_block, has_more, is_block, is_document, is_empty, is_long, raw_digits, stays_inline,
 };
 use tx_base::Memory;
 use tx_tree::{Label, Tree};
@@ -162,7 +162,7 @@ fn append_content(t: &Tree, out: &mut Vec<u8>) -> Result<(), Memory>
     ensures grows { take (length out.old.items) out.new.items ≡ out.old.items }
 {
     if let Some(label) = t.label() {
-        if is_inline(label, t.children()) {
+        if stays_inline(label, t.children()) {
             return append_parts(t, out);
         }
     }

@@ -23,7 +23,7 @@ use Rattle.tx_lines.specs.Cuts.{Partitions}
 use Rattle.tx_layout.specs.declared.measures.Frame.{Frame}
 use Rattle.tx_layout.specs.declared.pieces.Span.{Span}
 use Rattle.tx_layout.specs.declared.layout.Line.{Line}
-use Rattle.tx_layout.specs.Frames.{frame_of, least_width}
+use Rattle.tx_layout.specs.Frames.{line_frame, least_width}
 use Rattle.tx_layout.specs.Words.{SpansFrom, Blank}
 use Rattle.tx_layout.specs.Segments.{piece_of, HasWords}
 use Rattle.tx_layout.specs.Shapes.{Whole, empty_line, or_empty, HasLines, last_segment, then_cut, IsShape}
@@ -100,12 +100,12 @@ one_line width ps ls a no_lines e = cc
 one_line width ps ls a (lines_then p qs own others shape no_lines) e =
     let same : p ≡ paragraph [] a = cc in
     append-nil own
-    ∙ one_empty (frame_of (paragraph [] a) width) own (subst (λ q. IsShape q width own) same shape)
+    ∙ one_empty (line_frame (paragraph [] a) width) own (subst (λ q. IsShape q width own) same shape)
 one_line width ps ls a (lines_then p qs own others shape (lines_then q rs more rest next behind)) e = cc
 
 blank_lines : (width : ℕ) (a : Attrs) → AreLines width (paragraph [] a ∷ []) (empty_line ∷ [])
 blank_lines width a =
-    lines_then (paragraph [] a) [] (empty_line ∷ []) [] (empty_shape (frame_of (paragraph [] a) width)) no_lines
+    lines_then (paragraph [] a) [] (empty_line ∷ []) [] (empty_shape (line_frame (paragraph [] a) width)) no_lines
 
 -- ---- a part
 

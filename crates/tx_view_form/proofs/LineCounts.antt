@@ -12,7 +12,7 @@ use Rattle.tx_items.specs.declared.drawing.Paragraph.{Paragraph}
 use Rattle.tx_layout.specs.declared.measures.Frame.{Frame}
 use Rattle.tx_layout.specs.declared.pieces.Span.{Span}
 use Rattle.tx_layout.specs.declared.layout.Line.{Line}
-use Rattle.tx_layout.specs.Frames.{frame_of, least_width}
+use Rattle.tx_layout.specs.Frames.{line_frame, least_width}
 use Rattle.tx_layout.specs.Words.{capped_item}
 use Rattle.tx_layout.specs.Segments.{piece_of, lines_of, HasWords}
 use Rattle.tx_layout.specs.Shapes.{empty_line, page_ending, with_last, behind_cut, or_empty, items_shown, HasLines}
@@ -152,9 +152,9 @@ pub all_lines : (width : ℕ) (ps : List Paragraph) (lines : List Line) → AreL
 all_lines width ps lines no_lines = omega arith
 all_lines width ps lines (lines_then p qs own others shape rest) =
     let first : length own ≤ 1 + items_weight (items_shown p width) =
-    few_lines (frame_of p width) true (items_shown p width) own shape in
+    few_lines (line_frame p width) true (items_shown p width) own shape in
     let same : items_weight (items_shown p width) ≡ items_weight p.items =
-    shown_weight (least_width (frame_of p width)) p.items in
+    shown_weight (least_width (line_frame p width)) p.items in
     let later : length others ≤ weight_of qs = all_lines width qs others rest in
     let long : length (own ++ others) ≡ length own + length others = length-append own others in
     let whole : weight_of (p ∷ qs) ≡ paragraph_weight p + weight_of qs = sum_by-cons paragraph_weight p qs in

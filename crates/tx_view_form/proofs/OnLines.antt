@@ -11,7 +11,7 @@ use Rattle.tx_lines.specs.declared.cut.Cut.{Cut}
 use Rattle.tx_layout.specs.declared.measures.Frame.{Frame}
 use Rattle.tx_layout.specs.declared.pieces.Span.{Span}
 use Rattle.tx_layout.specs.declared.layout.Line.{Line}
-use Rattle.tx_layout.specs.Frames.{frame_of, least_width}
+use Rattle.tx_layout.specs.Frames.{line_frame, least_width}
 use Rattle.tx_layout.specs.Words.{capped_item}
 use Rattle.tx_layout.specs.Segments.{no_span, line_of, lines_of, HasWords}
 use Rattle.tx_layout.specs.Shapes.{empty_line, page_ending, with_last, behind_cut, or_empty, HasLines, last_segment}
@@ -95,11 +95,11 @@ module _ (P : Item → Type 0) where
       subst (All OnLine) (sym none) (All-nil OnLine)
   lines_hold kept width (p ∷ ps) lines h all =
       let parts : IsParted width p ps lines = parted width (p ∷ ps) lines h in
-      let least : ℕ = least_width (frame_of p width) in
+      let least : ℕ = least_width (line_frame p width) in
       let first : All P p.items = All-head (λ q. All P q.items) p ps all in
       let shown : All P (items_shown p width) =
       All-map P (capped_item least) p.items (λ k d lt. kept least (get_or p.items k d) (first k d lt)) in
       subst (All OnLine) (sym parts.is)
       (All-append OnLine parts.own parts.others
-      (shape_holds (frame_of p width) true (items_shown p width) parts.own parts.shape shown)
+      (shape_holds (line_frame p width) true (items_shown p width) parts.own parts.shape shown)
       (lines_hold kept width ps parts.others parts.behind (All-tail (λ q. All P q.items) p ps all)))
