@@ -203,11 +203,11 @@ parts_of_number all pss ks moves i k off has =
     ∙ ap (λ o. option_map_or (λ xs. xs) o []) has
 
 -- the lists from number k on
-abbrev AreFrom : List KeptParts → ℕ → List KeptParts → Type 0
-AreFrom all k pss = (m n : ℕ) → n ≡ k + m → slice_get all n ≡ slice_get pss m
+abbrev AreListsFrom : List KeptParts → ℕ → List KeptParts → Type 0
+AreListsFrom all k pss = (m n : ℕ) → n ≡ k + m → slice_get all n ≡ slice_get pss m
 
 others_now : (all : List KeptParts) (moves : List Move) (i k : ℕ) (us : List DocUnit) (pss : List KeptParts) → i < k
-    → length pss ≡ length us → AreFrom all k pss → pss ≡ all_parts_now all moves k (numbers_but i k (length us))
+    → length pss ≡ length us → AreListsFrom all k pss → pss ≡ all_parts_now all moves k (numbers_but i k (length us))
 others_now all moves i k [] [] less many from = refl
 others_now all moves i k [] (ks ∷ pss) less many from = absurd (omega (arith, many))
 others_now all moves i k (u ∷ us) [] less many from = absurd (omega (arith, many))
@@ -219,7 +219,7 @@ others_now all moves i k (u ∷ us) (ks ∷ pss) less many from =
     (λ m n is. from (suc m) n (omega (arith, is))))
 
 all_now : (ms : List Mod) (t : WideTree) (all : List KeptParts) (moves : List Move) (i j k : ℕ) (us : List DocUnit)
-    (pss : List KeptParts) → i ≡ k + j → length pss ≡ length us → AreFrom all k pss
+    (pss : List KeptParts) → i ≡ k + j → length pss ≡ length us → AreListsFrom all k pss
     → ((u : DocUnit) (ks : KeptParts) → slice_get us j ≡ Some u → slice_get pss j ≡ Some ks
     → parts_within ms t u ks ≡ arrived moves i)
     → parts_but ms t j us pss ≡ all_parts_now all moves k (numbers_but i k (length us))
@@ -539,17 +539,17 @@ there_is (ks ∷ pss) zero less = (ks, refl)
 there_is (ks ∷ pss) (suc i) less = there_is pss i (omega (arith, less))
 
 -- the path of the unit that changes, and what is asked of it
-record Changes (ms : List Mod) (u : DocUnit) : Type 0 where
+record ChangesWithin (ms : List Mod) (u : DocUnit) : Type 0 where
   path : List ℕ
   has : u.path ≡ Some path
   gone : is_gone path ms ≡ true
   within : are_within path ms ≡ true
 
-changes : (i : ℕ) (ms : List Mod) (us : List DocUnit) (one : IsOneChanged i 0 ms us) → Changes ms one.unit
+changes : (i : ℕ) (ms : List Mod) (us : List DocUnit) (one : IsOneChanged i 0 ms us) → ChangesWithin ms one.unit
 changes i ms us one = by one.unit.path refl one.changed
   where
     by : (o : Option (List ℕ)) → one.unit.path ≡ o
-        → option_map_or (λ path. is_gone path ms && are_within path ms) o false ≡ true → Changes ms one.unit
+        → option_map_or (λ path. is_gone path ms && are_within path ms) o false ≡ true → ChangesWithin ms one.unit
     by None e f = cc
     by (Some q) e f =
         let all : (is_gone q ms ≡ true) × (are_within q ms ≡ true) = both (is_gone q ms) (are_within q ms) f in
@@ -558,7 +558,7 @@ changes i ms us one = by one.unit.path refl one.changed
 module _ (i : ℕ) (ms : List Mod) (t u x : WideTree) (kept : Kept) (pss : List KeptParts) (ss : List Stray)
     (made : changed_by_all ms t ≡ Some u) (are : AreUnits (units_of kept)) (one : IsOneChanged i 0 ms (units_of kept))
     (hold : AllPartsHold kept pss) (strays : AreStrays (units_of kept) ss) where
-  abbrev change : Changes ms one.unit
+  abbrev change : ChangesWithin ms one.unit
   change = changes i ms (units_of kept) one
 
   pub parts_in_place : CarryWithin i ms t (units_of kept) pss

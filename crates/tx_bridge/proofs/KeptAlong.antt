@@ -74,7 +74,7 @@ all_onto P (x ∷ xs) ys h g = (h.0, all_onto P xs ys h.1 g)
 -- ---- what is kept at a path
 
 -- this trace is kept at this path
-record Keeps (q : List ℕ) (trace : WideTrace) (k : Stored) : Type 0 where
+record KeepsTrace (q : List ℕ) (trace : WideTrace) (k : Stored) : Type 0 where
   path : k.path ≡ q
   is : k.trace ≡ Some trace
 
@@ -83,17 +83,17 @@ record IsTraced (k : Stored) : Type 0 where
   trace : WideTrace
   is : k.trace ≡ Some trace
 
-found_in : (ks : KeptParts) (q : List ℕ) (trace : WideTrace) → kept_at ks q ≡ Some trace → AnyOf (Keeps q trace) ks
+found_in : (ks : KeptParts) (q : List ℕ) (trace : WideTrace) → kept_at ks q ≡ Some trace → AnyOf (KeepsTrace q trace) ks
 found_in [] q trace e = cc
 found_in (k ∷ ks) q trace e = by (bytes_eq k.path q) refl (λ f. found_in ks q trace f) e
   where
-    by : (b : Bool) → bytes_eq k.path q ≡ b → (kept_at ks q ≡ Some trace → AnyOf (Keeps q trace) ks)
-        → (if b then k.trace else kept_at ks q) ≡ Some trace → AnyOf (Keeps q trace) (k ∷ ks)
+    by : (b : Bool) → bytes_eq k.path q ≡ b → (kept_at ks q ≡ Some trace → AnyOf (KeepsTrace q trace) ks)
+        → (if b then k.trace else kept_at ks q) ≡ Some trace → AnyOf (KeepsTrace q trace) (k ∷ ks)
     by true h later f = inl (record { path = (bytes_eq-Decides k.path q).0 h; is = f })
     by false h later f = inr (later f)
 
 never_again : (ks : KeptParts) (a q : List ℕ) (trace : WideTrace)
-    → AllByRecursion (λ b. bytes_eq a b ≡ false) (part_paths ks) → AnyOf (Keeps q trace) ks → a ≡ q → ⊥
+    → AllByRecursion (λ b. bytes_eq a b ≡ false) (part_paths ks) → AnyOf (KeepsTrace q trace) ks → a ≡ q → ⊥
 never_again [] a q trace apart h same = absurd h
 never_again (k ∷ ks) a q trace apart (inl h) same =
     let off : false ≡ true = sym apart.0 ∙ (bytes_eq-Decides a k.path).1 (same ∙ sym h.path) in cc
@@ -101,7 +101,7 @@ never_again (k ∷ ks) a q trace apart (inr h) same = never_again ks a q trace a
 
 -- where no two have one path, it is told
 told_by : (ks : KeptParts) (q : List ℕ) (trace : WideTrace) → IsDistinct bytes_eq (part_paths ks)
-    → AnyOf (Keeps q trace) ks → kept_at ks q ≡ Some trace
+    → AnyOf (KeepsTrace q trace) ks → kept_at ks q ≡ Some trace
 told_by [] q trace d h = absurd h
 told_by (k ∷ ks) q trace d (inl h) =
     ap (λ (b : Bool). if b then k.trace else kept_at ks q) ((bytes_eq-Decides k.path q).1 h.path) ∙ h.is
@@ -116,12 +116,12 @@ told_by (k ∷ ks) q trace d (inr h) =
     by false e later = later
 
 -- some trace is kept at a path that one of them has
-record IsKeptAt (o : Option WideTrace) : Type 0 where
+record IsSomeTrace (o : Option WideTrace) : Type 0 where
   trace : WideTrace
   is : o ≡ Some trace
 
-some_kept : (ks : KeptParts) (q : List ℕ) (trace : WideTrace) → AllByRecursion IsTraced ks → AnyOf (Keeps q trace) ks
-    → IsKeptAt (kept_at ks q)
+some_kept : (ks : KeptParts) (q : List ℕ) (trace : WideTrace) → AllByRecursion IsTraced ks
+    → AnyOf (KeepsTrace q trace) ks → IsSomeTrace (kept_at ks q)
 some_kept [] q trace all h = absurd h
 some_kept (k ∷ ks) q trace all (inl h) = record {
   trace = trace;
@@ -129,12 +129,12 @@ some_kept (k ∷ ks) q trace all (inl h) = record {
 }
 some_kept (k ∷ ks) q trace all (inr h) = by (bytes_eq k.path q) (some_kept ks q trace all.1 h)
   where
-    by : (b : Bool) → IsKeptAt (kept_at ks q) → IsKeptAt (if b then k.trace else kept_at ks q)
+    by : (b : Bool) → IsSomeTrace (kept_at ks q) → IsSomeTrace (if b then k.trace else kept_at ks q)
     by true later = record { trace = all.0.trace; is = all.0.is }
     by false later = later
 
 leads_there : (t : WideTree) (ks : KeptParts) (q : List ℕ) (trace : WideTrace) → AllByRecursion (StoredHolds t) ks
-    → AnyOf (Keeps q trace) ks → Leads t (Some q)
+    → AnyOf (KeepsTrace q trace) ks → Leads t (Some q)
 leads_there t [] q trace all h = absurd h
 leads_there t (k ∷ ks) q trace all (inl h) = (all.0.there, ap (subtree t) (sym h.path) ∙ all.0.leads)
 leads_there t (k ∷ ks) q trace all (inr h) = leads_there t ks q trace all.1 h
@@ -160,9 +160,6 @@ record ReadIn (us : List DocUnit) (pss : List KeptParts) (q : List ℕ) (o : Opt
 record ReadAside (us : List DocUnit) (ks : KeptParts) (q : List ℕ) (o : Option WideTrace) : Type 0 where
   outside : NoneAbove q us
   tells : o ≡ kept_at ks q
-
-unit_is : (v u : DocUnit) (vs : List DocUnit) → slice_get (v ∷ vs) 0 ≡ Some u → v ≡ u
-unit_is v u vs e = same_Some v u e
 
 read : (us : List DocUnit) (pss : List KeptParts) (ks : KeptParts) (q : List ℕ) → length pss ≡ length us
     → ReadIn us pss q (kept_in_document us pss ks q) ⊎ ReadAside us ks q (kept_in_document us pss ks q)
@@ -197,7 +194,7 @@ read (u ∷ us) (ps ∷ pss) ks q many = by (rest_in u q) refl (read us pss ks q
     by None e (inr h) = inr (record { outside = none; tells = h.tells })
       where
         none : NoneAbove q (u ∷ us)
-        none zero v f = ap (λ (w : DocUnit). rest_in w q) (sym (unit_is u v us f)) ∙ e
+        none zero v f = ap (λ (w : DocUnit). rest_in w q) (sym (same_Some u v f)) ∙ e
         none (suc k) v f = h.outside k v f
 
 -- of two units that are apart at most one has the place
@@ -241,31 +238,31 @@ read_aside (u ∷ us) (ps ∷ pss) ks q out =
 -- it moves this trace to that path in the unit of this number
 record Brings (j : ℕ) (q : List ℕ) (trace : WideTrace) (m : Move) : Type 0 where
   to : m.to ≡ j
-  kept : Keeps q trace m.kept
+  kept : KeepsTrace q trace m.kept
 
-arrived_from : (ns : List Move) (j : ℕ) (q : List ℕ) (trace : WideTrace) → AnyOf (Keeps q trace) (arrived ns j)
+arrived_from : (ns : List Move) (j : ℕ) (q : List ℕ) (trace : WideTrace) → AnyOf (KeepsTrace q trace) (arrived ns j)
     → AnyOf (Brings j q trace) ns
 arrived_from [] j q trace h = absurd h
 arrived_from (m ∷ ns) j q trace h = by (m.to == j) refl (λ g. arrived_from ns j q trace g) h
   where
     by : (b : Bool) → m.to == j ≡ b
-        → (AnyOf (Keeps q trace) (arrived ns j) → AnyOf (Brings j q trace) ns)
-        → AnyOf (Keeps q trace) (cons_option (if b then Some m.kept else None) (arrived ns j))
+        → (AnyOf (KeepsTrace q trace) (arrived ns j) → AnyOf (Brings j q trace) ns)
+        → AnyOf (KeepsTrace q trace) (cons_option (if b then Some m.kept else None) (arrived ns j))
         → AnyOf (Brings j q trace) (m ∷ ns)
     by true e later (inl g) = inl (record { to = (Decides-eqb m.to j).0 e; kept = g })
     by true e later (inr g) = inr (later g)
     by false e later g = inr (later g)
 
 arrived_to : (ns : List Move) (j : ℕ) (q : List ℕ) (trace : WideTrace) → AnyOf (Brings j q trace) ns
-    → AnyOf (Keeps q trace) (arrived ns j)
+    → AnyOf (KeepsTrace q trace) (arrived ns j)
 arrived_to [] j q trace h = absurd h
 arrived_to (m ∷ ns) j q trace (inl h) =
-    subst (λ (b : Bool). AnyOf (Keeps q trace) (cons_option (if b then Some m.kept else None) (arrived ns j)))
+    subst (λ (b : Bool). AnyOf (KeepsTrace q trace) (cons_option (if b then Some m.kept else None) (arrived ns j)))
     (sym ((Decides-eqb m.to j).1 h.to)) (inl h.kept)
 arrived_to (m ∷ ns) j q trace (inr h) = by (m.to == j) (arrived_to ns j q trace h)
   where
-    by : (b : Bool) → AnyOf (Keeps q trace) (arrived ns j)
-        → AnyOf (Keeps q trace) (cons_option (if b then Some m.kept else None) (arrived ns j))
+    by : (b : Bool) → AnyOf (KeepsTrace q trace) (arrived ns j)
+        → AnyOf (KeepsTrace q trace) (cons_option (if b then Some m.kept else None) (arrived ns j))
     by true g = inr g
     by false g = g
 
@@ -283,10 +280,10 @@ module _ (ms : List Mod) (t : WideTree) (vs : List DocUnit) where
   -- ---- of the parts of one unit
 
   -- it comes from a part of the unit at p, of whose parts this is kept
-  record ComesBelow (p : List ℕ) (ks : KeptParts) (j : ℕ) (q : List ℕ) (trace : WideTrace) : Type 0 where
+  record BroughtBelow (p : List ℕ) (ks : KeptParts) (j : ℕ) (q : List ℕ) (trace : WideTrace) : Type 0 where
     path : List ℕ
     place : List ℕ
-    any : AnyOf (Keeps path trace) ks
+    any : AnyOf (KeepsTrace path trace) ks
     carried : carried_by_all ms t (p ++ path) ≡ Some place
     above : unit_above 0 vs place ≡ (j, q)
 
@@ -294,12 +291,12 @@ module _ (ms : List Mod) (t : WideTree) (vs : List DocUnit) where
   pairs x j q e f = ap (λ (n : ℕ). (n, x.1)) e ∙ ap (λ (a : List ℕ). (j, a)) f
 
   below_from : (i : ℕ) (p : List ℕ) (k : ℕ) (ks : KeptParts) (j : ℕ) (q : List ℕ) (trace : WideTrace)
-      → AnyOf (Brings j q trace) (moves_below ms t vs i p k ks) → ComesBelow p ks j q trace
+      → AnyOf (Brings j q trace) (moves_below ms t vs i p k ks) → BroughtBelow p ks j q trace
   below_from i p k [] j q trace h = absurd h
   below_from i p k (s ∷ ks) j q trace h =
       by (carried_by_all ms t (p ++ s.path)) refl (λ g. below_from i p (k + 1) ks j q trace g) h
     where
-      one_more : ComesBelow p ks j q trace → ComesBelow p (s ∷ ks) j q trace
+      one_more : BroughtBelow p ks j q trace → BroughtBelow p (s ∷ ks) j q trace
       one_more c = record {
         path = c.path;
         place = c.place;
@@ -309,11 +306,11 @@ module _ (ms : List Mod) (t : WideTree) (vs : List DocUnit) where
       }
 
       by : (o : Option (List ℕ)) → carried_by_all ms t (p ++ s.path) ≡ o
-          → (AnyOf (Brings j q trace) (moves_below ms t vs i p (k + 1) ks) → ComesBelow p ks j q trace)
+          → (AnyOf (Brings j q trace) (moves_below ms t vs i p (k + 1) ks) → BroughtBelow p ks j q trace)
           → AnyOf (Brings j q trace)
           (cons_option (option_map (λ place. move_to i k s (unit_above 0 vs place)) o)
           (moves_below ms t vs i p (k + 1) ks))
-          → ComesBelow p (s ∷ ks) j q trace
+          → BroughtBelow p (s ∷ ks) j q trace
       by None e later g = one_more (later g)
       by (Some place) e later (inl g) = record {
         path = s.path;
@@ -325,7 +322,7 @@ module _ (ms : List Mod) (t : WideTree) (vs : List DocUnit) where
       by (Some place) e later (inr g) = one_more (later g)
 
   below_to : (i : ℕ) (p : List ℕ) (k : ℕ) (ks : KeptParts) (j : ℕ) (q : List ℕ) (trace : WideTrace)
-      (path place : List ℕ) → AnyOf (Keeps path trace) ks → carried_by_all ms t (p ++ path) ≡ Some place
+      (path place : List ℕ) → AnyOf (KeepsTrace path trace) ks → carried_by_all ms t (p ++ path) ≡ Some place
       → unit_above 0 vs place ≡ (j, q) → AnyOf (Brings j q trace) (moves_below ms t vs i p k ks)
   below_to i p k [] j q trace path place h e above = absurd h
   below_to i p k (s ∷ ks) j q trace path place (inl h) e above =
@@ -358,7 +355,7 @@ module _ (ms : List Mod) (t : WideTree) (vs : List DocUnit) where
 
   -- ---- of all units
 
-  record ComesFrom (us : List DocUnit) (pss : List KeptParts) (j : ℕ) (q : List ℕ) (trace : WideTrace) : Type 0 where
+  record BroughtFrom (us : List DocUnit) (pss : List KeptParts) (j : ℕ) (q : List ℕ) (trace : WideTrace) : Type 0 where
     number : ℕ
     unit : DocUnit
     parts : KeptParts
@@ -366,26 +363,26 @@ module _ (ms : List Mod) (t : WideTree) (vs : List DocUnit) where
     there : slice_get us number ≡ Some unit
     has : slice_get pss number ≡ Some parts
     at : unit.path ≡ Some base
-    below : ComesBelow base parts j q trace
+    below : BroughtBelow base parts j q trace
 
   unit_from : (i : ℕ) (o : Option (List ℕ)) (b : Bool) (ks : KeptParts) (j : ℕ) (q : List ℕ) (trace : WideTrace)
       → AnyOf (Brings j q trace) (if b then option_map_or (λ p. moves_below ms t vs i p 0 ks) o [] else [])
-      → (p : List ℕ) × (o ≡ Some p) × ComesBelow p ks j q trace
+      → (p : List ℕ) × (o ≡ Some p) × BroughtBelow p ks j q trace
   unit_from i o false ks j q trace h = absurd h
   unit_from i None true ks j q trace h = absurd h
   unit_from i (Some p) true ks j q trace h = (p, refl, below_from i p 0 ks j q trace h)
 
   units_from : (i : ℕ) (us : List DocUnit) (pss : List KeptParts) (j : ℕ) (q : List ℕ) (trace : WideTrace)
-      → AnyOf (Brings j q trace) (moves_from ms t vs i us pss) → ComesFrom us pss j q trace
+      → AnyOf (Brings j q trace) (moves_from ms t vs i us pss) → BroughtFrom us pss j q trace
   units_from i [] pss j q trace h = absurd h
   units_from i (u ∷ us) [] j q trace h = absurd h
   units_from i (u ∷ us) (ks ∷ pss) j q trace h =
       by (λ g. units_from (i + 1) us pss j q trace g)
       (any_of_both (Brings j q trace) (unit_moves ms t vs i u ks) (moves_from ms t vs (i + 1) us pss) h)
     where
-      by : (AnyOf (Brings j q trace) (moves_from ms t vs (i + 1) us pss) → ComesFrom us pss j q trace)
+      by : (AnyOf (Brings j q trace) (moves_from ms t vs (i + 1) us pss) → BroughtFrom us pss j q trace)
           → AnyOf (Brings j q trace) (unit_moves ms t vs i u ks)
-          ⊎ AnyOf (Brings j q trace) (moves_from ms t vs (i + 1) us pss) → ComesFrom (u ∷ us) (ks ∷ pss) j q trace
+          ⊎ AnyOf (Brings j q trace) (moves_from ms t vs (i + 1) us pss) → BroughtFrom (u ∷ us) (ks ∷ pss) j q trace
       by later (inl g) =
           let c = unit_from i u.path (is_vacant (through ms t u.path) vs) ks j q trace g in
           record { number = 0; unit = u; parts = ks; base = c.0; there = refl; has = refl; at = c.1; below = c.2 }
@@ -402,7 +399,7 @@ module _ (ms : List Mod) (t : WideTree) (vs : List DocUnit) where
 
   units_to : (i n : ℕ) (us : List DocUnit) (pss : List KeptParts) (j : ℕ) (q : List ℕ) (trace : WideTrace)
       (u : DocUnit) (ks : KeptParts) (p path place : List ℕ) → slice_get us n ≡ Some u → slice_get pss n ≡ Some ks
-      → u.path ≡ Some p → is_vacant (through ms t u.path) vs ≡ true → AnyOf (Keeps path trace) ks
+      → u.path ≡ Some p → is_vacant (through ms t u.path) vs ≡ true → AnyOf (KeepsTrace path trace) ks
       → carried_by_all ms t (p ++ path) ≡ Some place → unit_above 0 vs place ≡ (j, q)
       → AnyOf (Brings j q trace) (moves_from ms t vs i us pss)
   units_to i n [] pss j q trace u ks p path place there has at vacant any e above = cc
@@ -519,7 +516,7 @@ any_at f (u ∷ us) e = by (f u) refl (λ g. any_at f us g) e
     by false h later g = let x = later g in (suc x.0, x.1, x.2, x.3)
 
 -- a unit stands at the place
-record Taken (vs : List DocUnit) (p : List ℕ) : Type 0 where
+record HasUnitAt (vs : List DocUnit) (p : List ℕ) : Type 0 where
   number : ℕ
   unit : DocUnit
   there : slice_get vs number ≡ Some unit
@@ -539,7 +536,7 @@ stands_path u p e = by u.path refl
         ap (λ z. Some z)
         (sym ((bytes_eq-Decides p q).0 (sym (ap (λ o. option_map_or (λ a. is_path a (Some p)) o false) h) ∙ e)))
 
-taken_by : (vs : List DocUnit) (p : List ℕ) → is_vacant (Some p) vs ≡ false → Taken vs p
+taken_by : (vs : List DocUnit) (p : List ℕ) → is_vacant (Some p) vs ≡ false → HasUnitAt vs p
 taken_by vs p e =
     let x = any_at (stands_at (Some p)) vs (not_false (list_any (stands_at (Some p)) vs) e) in
     record { number = x.0; unit = x.1; there = x.2; has = stands_path x.1 p x.3 }
@@ -610,7 +607,7 @@ module _ (ms : List Mod) (t w : WideTree) (us vs : List DocUnit) (pss : List Kep
 
   -- a stray that is kept is outside of all units
   stray_out : (xs : KeptParts) (q : List ℕ) (trace : WideTrace) → AllByRecursion (λ s. NoneAbove s.path us) xs
-      → AnyOf (Keeps q trace) xs → NoneAbove q us
+      → AnyOf (KeepsTrace q trace) xs → NoneAbove q us
   stray_out [] q trace h any = absurd any
   stray_out (s ∷ xs) q trace h (inl any) = subst (λ a. NoneAbove a us) any.path h.0
   stray_out (s ∷ xs) q trace h (inr any) = stray_out xs q trace h.1 any
@@ -776,18 +773,18 @@ module _ (ms : List Mod) (t w : WideTree) (us vs : List DocUnit) (pss : List Kep
   moved_kept : (q r : List ℕ) (trace : WideTrace) → carried_by_all ms t q ≡ Some r → was q ≡ Some trace
       → ((i : ℕ) (u : DocUnit) (a : List ℕ) → slice_get us i ≡ Some u → rest_in u q ≡ Some a
       → is_vacant (through ms t u.path) vs ≡ true)
-      → IsKeptAt (now r)
+      → IsSomeTrace (now r)
   moved_kept q r trace carried e vacant = by (read vs new_parts new_strays r many_new)
     where
       by_source : (j : ℕ) (v : DocUnit) (rest : List ℕ) → slice_get vs j ≡ Some v → rest_in v r ≡ Some rest
-          → (o : Option ℕ) → source places us j v ≡ o → IsKeptAt (kept_at (parts_now pss moves j o) rest)
+          → (o : Option ℕ) → source places us j v ≡ o → IsSomeTrace (kept_at (parts_now pss moves j o) rest)
       by_source j v rest there inside None is =
           some_kept (arrived moves j) rest trace (arrived_traced moves j all_moves_traced)
           (arrived_to moves j rest trace
           (moved_to q r trace j rest carried e vacant (above_is vs j v r rest new_apart there inside)))
       by_source j v rest there inside (Some i) is = by_way (source_says places us j v i is)
         where
-          by_way : ByPath places v i ⊎ ByNumber us j v i → IsKeptAt (kept_at (parts_now pss moves j (Some i)) rest)
+          by_way : ByPath places v i ⊎ ByNumber us j v i → IsSomeTrace (kept_at (parts_now pss moves j (Some i)) rest)
           by_way (inr x) = absurd (no_number j v i r rest x inside)
           by_way (inl x) =
               let c = came_at ms t us i x.path x.place in
@@ -803,7 +800,7 @@ module _ (ms : List Mod) (t w : WideTree) (us vs : List DocUnit) (pss : List Kep
               ∙ not_vacant vs j v x.path new_apart there x.has in
               absurd (cc)
 
-      by : ReadIn vs new_parts r (now r) ⊎ ReadAside vs new_strays r (now r) → IsKeptAt (now r)
+      by : ReadIn vs new_parts r (now r) ⊎ ReadAside vs new_strays r (now r) → IsSomeTrace (now r)
       by (inl h) =
           let is : h.parts ≡ parts_now pss moves h.number (source places us h.number h.unit) =
           some_once (slice_get new_parts h.number) h.parts
@@ -819,13 +816,13 @@ module _ (ms : List Mod) (t w : WideTree) (us vs : List DocUnit) (pss : List Kep
 
   -- one of an old unit that is a new one
   unit_kept : (q r : List ℕ) (trace : WideTrace) → carried_by_all ms t q ≡ Some r → was q ≡ Some trace
-      → (h : ReadIn us pss q (was q)) → is_vacant (through ms t h.unit.path) vs ≡ false → IsKeptAt (now r)
+      → (h : ReadIn us pss q (was q)) → is_vacant (through ms t h.unit.path) vs ≡ false → IsSomeTrace (now r)
   unit_kept q r trace carried e h taken = by (carried_by_all ms t x.path) refl
     where
       x : IsIn h.unit q h.rest
       x = rest_in_is h.unit q h.rest h.inside
 
-      by : (o : Option (List ℕ)) → carried_by_all ms t x.path ≡ o → IsKeptAt (now r)
+      by : (o : Option (List ℕ)) → carried_by_all ms t x.path ≡ o → IsSomeTrace (now r)
       by None f =
           let off : true ≡ false =
           vacant_nowhere vs ∙ ap (λ o. is_vacant o vs) (sym (ap (through ms t) x.has ∙ f)) ∙ taken in
@@ -843,7 +840,7 @@ module _ (ms : List Mod) (t w : WideTree) (us vs : List DocUnit) (pss : List Kep
           here : through ms t h.unit.path ≡ Some p
           here = ap (through ms t) x.has ∙ f
 
-          y : Taken vs p
+          y : HasUnitAt vs p
           y = taken_by vs p (ap (λ o. is_vacant o vs) (sym here) ∙ taken)
 
           whole : r ≡ p ++ h.rest
@@ -876,11 +873,11 @@ module _ (ms : List Mod) (t w : WideTree) (us vs : List DocUnit) (pss : List Kep
               found.1
               ∙ ap (λ m. Some m) (by_way found.0 (source_says places us y.number y.unit found.0 found.1))
 
-  kept_now : (r : List ℕ) (trace : WideTrace) → CameAlong ms t us pss ks r trace → IsKeptAt (now r)
+  kept_now : (r : List ℕ) (trace : WideTrace) → CameAlong ms t us pss ks r trace → IsSomeTrace (now r)
   kept_now r trace c = by (read us pss ks c.from many)
     where
       by_vacant : (h : ReadIn us pss c.from (was c.from)) (b : Bool) → is_vacant (through ms t h.unit.path) vs ≡ b
-          → IsKeptAt (now r)
+          → IsSomeTrace (now r)
       by_vacant h false f = unit_kept c.from r trace c.carried c.kept h f
       by_vacant h true f =
           moved_kept c.from r trace c.carried c.kept
@@ -891,21 +888,25 @@ module _ (ms : List Mod) (t w : WideTree) (us vs : List DocUnit) (pss : List Kep
           some_once (slice_get us h.number) u h.unit (ap (slice_get us) (sym number) ∙ there) h.there in
           ap (λ (v : DocUnit). is_vacant (through ms t v.path) vs) same ∙ f)
 
-      by : ReadIn us pss c.from (was c.from) ⊎ ReadAside us ks c.from (was c.from) → IsKeptAt (now r)
+      by : ReadIn us pss c.from (was c.from) ⊎ ReadAside us ks c.from (was c.from) → IsSomeTrace (now r)
       by (inl h) = by_vacant h (is_vacant (through ms t h.unit.path) vs) refl
       by (inr h) =
           moved_kept c.from r trace c.carried c.kept
           (λ i u a there inside. let off : None ≡ Some a = sym (h.outside i u there) ∙ inside in absurd (cc))
 
+  -- no two come to one path
+  from_once : (r : List ℕ) (a b : WideTrace) (x : CameAlong ms t us pss ks r a) (y : CameAlong ms t us pss ks r b)
+      → x.from ≡ y.from
+  from_once r a b x y =
+      let at_x : Leads t (Some x.from) = was_leads x.from a x.kept in
+      let at_y : Leads t (Some y.from) = was_leads y.from b y.kept in
+      carried_once law ms t w x.from y.from r at_x.0 at_y.0 made at_x.1 at_y.1 x.carried y.carried
+
   kept_along : (r : List ℕ) (trace : WideTrace) → CameAlong ms t us pss ks r trace → now r ≡ Some trace
   kept_along r trace c =
-      let k : IsKeptAt (now r) = kept_now r trace c in
+      let k : IsSomeTrace (now r) = kept_now r trace c in
       let back : CameAlong ms t us pss ks r k.trace = came_along r k.trace k.is in
-      let x : Leads t (Some back.from) = was_leads back.from k.trace back.kept in
-      let y : Leads t (Some c.from) = was_leads c.from trace c.kept in
-      let same : back.from ≡ c.from =
-      carried_once law ms t w back.from c.from r x.0 y.0 made x.1 y.1 back.carried c.carried in
-      k.is ∙ sym back.kept ∙ ap (kept_in_document us pss ks) same ∙ c.kept
+      k.is ∙ sym back.kept ∙ ap (kept_in_document us pss ks) (from_once r k.trace trace back c) ∙ c.kept
 
 -- ---- what is asked
 
@@ -949,26 +950,35 @@ strays_out us (s ∷ ss) h = (h.0, strays_out us ss h.1)
 
 module _ (through_all : (ms : List Mod) (t : WideTree) (q : List ℕ) → CarriesThroughAll ms t q)
     (law : (m : Mod) (s : WideTree) (q : List ℕ) → CarriesSubtree m s q) (ms : List Mod) (t w : WideTree)
-    (kept : Kept) (pss : List KeptParts) (ss : List Stray) (vs : List DocUnit) (r : List ℕ) (trace : WideTrace)
-    (made : changed_by_all ms t ≡ Some w) (are : AreUnits (units_of kept)) (new : AreUnits vs)
-    (stand : AllStand t (units_of kept)) (hold : AllPartsHold kept pss) (strays : AreStrays (units_of kept) ss)
-    (aside : StandAside t ss) where
-  pub kept_came : kept_behind pss (PartMoves 0 ms t (units_of kept) pss (kept_strays ss) vs)
+    (kept : Kept) (pss : List KeptParts) (ss : List Stray) (r : List ℕ) (made : changed_by_all ms t ≡ Some w)
+    (are : AreUnits (units_of kept)) (stand : AllStand t (units_of kept)) (hold : AllPartsHold kept pss)
+    (strays : AreStrays (units_of kept) ss) (aside : StandAside t ss) where
+  pub kept_came : (vs : List DocUnit) → AreUnits vs → (trace : WideTrace)
+      → kept_behind pss (PartMoves 0 ms t (units_of kept) pss (kept_strays ss) vs)
       (Sources 0 ms t (units_of kept) vs) vs r ≡ Some trace
       → CameAlong ms t (units_of kept) pss (kept_strays ss) r trace
   unfolding CarryParts CarryStrays PartMoves Sources
-  kept_came =
+  kept_came vs new trace =
       came_along ms t w (units_of kept) vs pss (kept_strays ss) (through_all ms t) law made are.apart new.apart
       (many_parts kept pss hold) (unit_stands t (units_of kept) stand) (parts_hold kept pss hold)
       (parts_traced kept pss hold) (strays_hold t ss strays.hold aside) strays.distinct
       (strays_out (units_of kept) ss strays.outside) r trace
 
-  pub came_kept : CameAlong ms t (units_of kept) pss (kept_strays ss) r trace
+  pub came_kept : (vs : List DocUnit) → AreUnits vs → (trace : WideTrace)
+      → CameAlong ms t (units_of kept) pss (kept_strays ss) r trace
       → kept_behind pss (PartMoves 0 ms t (units_of kept) pss (kept_strays ss) vs)
       (Sources 0 ms t (units_of kept) vs) vs r ≡ Some trace
   unfolding CarryParts CarryStrays PartMoves Sources
-  came_kept =
+  came_kept vs new trace =
       kept_along ms t w (units_of kept) vs pss (kept_strays ss) (through_all ms t) law made are.apart new.apart
       (many_parts kept pss hold) (unit_stands t (units_of kept) stand) (parts_hold kept pss hold)
       (parts_traced kept pss hold) (strays_hold t ss strays.hold aside) strays.distinct
       (strays_out (units_of kept) ss strays.outside) r trace
+
+  pub came_once : (a b : WideTrace) (x : CameAlong ms t (units_of kept) pss (kept_strays ss) r a)
+      (y : CameAlong ms t (units_of kept) pss (kept_strays ss) r b) → x.from ≡ y.from
+  came_once =
+      from_once ms t w (units_of kept) [] pss (kept_strays ss) (through_all ms t) law made are.apart tt
+      (many_parts kept pss hold) (unit_stands t (units_of kept) stand) (parts_hold kept pss hold)
+      (parts_traced kept pss hold) (strays_hold t ss strays.hold aside) strays.distinct
+      (strays_out (units_of kept) ss strays.outside) r

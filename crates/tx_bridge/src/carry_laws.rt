@@ -39,22 +39,27 @@ pub fn in_place_law()
 
 /// A law: what `carry` says of parts and strays, read by paths of the document. Where an edit of the document changes
 /// t, in which the old units and the strays stand, a trace is kept at a path afterwards exactly where it was kept
-/// before at a path from which the modifications lead there.
+/// before at a path from which the modifications lead there. There is one such path at most.
 pub fn carry_paths_law()
     ensures came { (ms : List Change) (t u : WideTree) (kept : Kept) (parts : List KeptParts) (strays : List Stray)
-        (news : List DocUnit) (path : List ℕ) (trace : WideTrace) → changed_by_all ms t ≡ Some u
-        → AreUnits (units_of kept) → AreUnits news → AllStand t (units_of kept) → AllPartsHold kept parts
-        → AreStrays (units_of kept) strays → StandAside t strays
+        (path : List ℕ) → changed_by_all ms t ≡ Some u → AreUnits (units_of kept) → AllStand t (units_of kept)
+        → AllPartsHold kept parts → AreStrays (units_of kept) strays → StandAside t strays
+        → (news : List DocUnit) → AreUnits news → (trace : WideTrace)
         → kept_behind parts (PartMoves 0 ms t (units_of kept) parts (kept_strays strays) news)
         (Sources 0 ms t (units_of kept) news) news path ≡ Some trace
         → CameAlong ms t (units_of kept) parts (kept_strays strays) path trace }
     ensures kept { (ms : List Change) (t u : WideTree) (kept : Kept) (parts : List KeptParts) (strays : List Stray)
-        (news : List DocUnit) (path : List ℕ) (trace : WideTrace) → changed_by_all ms t ≡ Some u
-        → AreUnits (units_of kept) → AreUnits news → AllStand t (units_of kept) → AllPartsHold kept parts
-        → AreStrays (units_of kept) strays → StandAside t strays
+        (path : List ℕ) → changed_by_all ms t ≡ Some u → AreUnits (units_of kept) → AllStand t (units_of kept)
+        → AllPartsHold kept parts → AreStrays (units_of kept) strays → StandAside t strays
+        → (news : List DocUnit) → AreUnits news → (trace : WideTrace)
         → CameAlong ms t (units_of kept) parts (kept_strays strays) path trace
         → kept_behind parts (PartMoves 0 ms t (units_of kept) parts (kept_strays strays) news)
         (Sources 0 ms t (units_of kept) news) news path ≡ Some trace }
+    ensures once { (ms : List Change) (t u : WideTree) (kept : Kept) (parts : List KeptParts) (strays : List Stray)
+        (path : List ℕ) → changed_by_all ms t ≡ Some u → AreUnits (units_of kept) → AllStand t (units_of kept)
+        → AllPartsHold kept parts → AreStrays (units_of kept) strays → StandAside t strays
+        → (a b : WideTrace) (x : CameAlong ms t (units_of kept) parts (kept_strays strays) path a)
+        (y : CameAlong ms t (units_of kept) parts (kept_strays strays) path b) → x.from ≡ y.from }
 {
     carried_law();
     carried_list_law();
