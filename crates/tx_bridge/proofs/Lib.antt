@@ -39,3 +39,6 @@ pub mod Aligned
 pub mod Lending
 pub mod Spared
 pub mod Refreshed
+pub mod CarriedInPlace
+pub mod CarriedAlong
+pub mod KeptAlong

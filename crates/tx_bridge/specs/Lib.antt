@@ -20,3 +20,4 @@ pub mod Bridged
 pub mod Spares
 pub mod Lent
 pub mod Names
+pub mod KeptInDocument

@@ -7,6 +7,7 @@
 mod arriving;
 mod bridge;
 mod bridges;
+mod carry_laws;
 mod course;
 mod fitting;
 mod giving;
@@ -22,6 +23,7 @@ mod unit_parts;
 mod within;
 
 pub use bridges::Bridges;
+pub use carry_laws::{carry_paths_law, in_place_law};
 pub use course::{Course, PartMove};
 pub use fitting::is_silent;
 pub use keeping::all_keep_place;
