@@ -37,5 +37,7 @@ pub mod Aside
 pub mod Outside
 pub mod Aligned
 pub mod Lending
+pub mod Staying
 pub mod Spared
+pub mod Left
 pub mod Refreshed
