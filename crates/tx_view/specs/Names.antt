@@ -30,10 +30,10 @@ Empty buffers = record {
 unfoldable pub Fresh : List Buffer → Stores
 Fresh buffers = fresh_stores (units buffers)
 
--- What a refresh takes: what the units are charged that are evaluated anew, which for a paragraph of the body are the
--- costs of the parts of which nothing that fits is kept, and the items of those laid out anew, which for one that isn't
--- over are those of the parts of which nothing that fits is kept, or that aren't laid out for the attributes before
--- them.
+-- What a refresh takes: what the units are charged, which for a paragraph of the body are the costs of the parts of
+-- which nothing that fits is kept, and for another unit its cost where nothing that fits is kept of it, and the items
+-- of those laid out anew, which for a paragraph that isn't over are those of the parts of which nothing that fits is
+-- kept, or that aren't laid out for the attributes before them.
 unfoldable pub Bound : Stores → ℕ
 Bound s = Charge s.kept s.parts + items_relaid_from beginning s.kept s.parts s.laid s.laid_parts
 

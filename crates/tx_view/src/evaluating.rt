@@ -104,7 +104,7 @@ pub(crate) fn evaluate<L: Ledger>(
     requires as_many { length units.old ≡ length bridges.old.kept }
     ensures kept { OnOk result (bridges.new.kept ≡ fresh_from beginning (units_of bridges.old.kept)) }
     ensures parts { OnOk result (bridges.new.parts ≡ fresh_parts_from beginning (units_of bridges.old.kept)) }
-    ensures renewed { OnOk result (bridges.new.renewed ≡ reached_from beginning bridges.old.kept) }
+    ensures renewed { OnOk result (bridges.new.renewed ≡ reached_from beginning bridges.old.kept bridges.old.parts) }
     ensures shown { OnOk result (units.new ≡ without bridges.new.renewed units.old) }
     ensures charge { IfOk result (λ p. p.0 ≡ Charge bridges.old.kept bridges.old.parts) }
     ensures counted { IfOk result (λ p. steps.new ≡ steps.old + p.0) }
