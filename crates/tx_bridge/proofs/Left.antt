@@ -8,7 +8,7 @@ use Rattle.tx_exec_form.specs.Evaluated.{WideTrace}
 use Rattle.tx_exec.specs.Outcomes.{wide_outcome}
 use Rattle.tx_parts.specs.Opening.{Sheller, closed}
 use Rattle.tx_parts.specs.Shellers.{IsSheller}
-use Rattle.tx_parts.specs.LayerCosts.{layer_costs_by}
+use Rattle.tx_parts.specs.LayerCosts.{holds_nothing, layer_costs_by}
 use Rattle.tx_walk.specs.declared.part.Part.{Part as DonePart}
 use Rattle.tx_view_form.specs.Outcomes.{Moment, allowance}
 use Rattle.tx_bridge.specs.declared.bridge.Bridge.{Bridge}
@@ -119,8 +119,8 @@ module _ (m : Moment) (b : Bridge) (sound : IsSound b) (sheller : Sheller) (shel
     left_charge distinct free s =
         sym (staying_charged distinct sheller m (entry_of b) (kept_parts b.parts) s left_stays
         ∙ sym (by_shells (λ s. layers_charge s m b.unit)
-        (λ none. ap (λ a. if a then layer_costs_by closed MOST_LEVELS (allowance m) b.unit.tagged.tree (get m.env)
+        (λ none. ap (λ a. if a then layer_costs_by holds_nothing closed MOST_LEVELS (allowance m) b.unit.tagged.tree (get m.env)
         else 0) none
-        ∙ sym (ap (λ a. if a then layer_costs_by sheller MOST_LEVELS (allowance m) b.unit.tagged.tree (get m.env)
+        ∙ sym (ap (λ a. if a then layer_costs_by holds_nothing sheller MOST_LEVELS (allowance m) b.unit.tagged.tree (get m.env)
         else 0) none)))
         ∙ layers_free free m b.unit)

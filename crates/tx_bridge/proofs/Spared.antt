@@ -15,7 +15,7 @@ use Rattle.tx_exec_form.specs.Evaluated.{WideTrace}
 use Rattle.tx_parts.specs.Composed.{evaluates}
 use Rattle.tx_parts.specs.Opening.{Sheller, closed}
 use Rattle.tx_parts.specs.Shellers.{IsSheller}
-use Rattle.tx_parts.specs.LayerCosts.{layer_costs_by}
+use Rattle.tx_parts.specs.LayerCosts.{holds_nothing, layer_costs_by}
 use Rattle.tx_parts.specs.Parts.{Part, HasTrace, parts_by, part_cost, Stored, stored}
 use Rattle.tx_walk.specs.Held.{Store, Stores, agrees, fits as part_fits, serves, charge_of as part_charge}
 use Rattle.tx_walk.specs.Held.{only, charges}
@@ -39,7 +39,7 @@ use Rattle.tx_bridge.proofs.Used.{AllSupport, AllAllowed, AllAgree, fits_is, out
 
 -- laws of shells, as the calls state them
 abbrev pub LayersFree : Type 0
-LayersFree = (k c : ℕ) (t : WideTree) (e : Before) → layer_costs_by closed k c t e ≡ 0
+LayersFree = (k c : ℕ) (t : WideTree) (e : Before) → layer_costs_by holds_nothing closed k c t e ≡ 0
 
 abbrev pub AllDistinct : Type 0
 AllDistinct = (sheller : Sheller) (k c : ℕ) (path : List ℕ) (t : WideTree) (e : Before)
@@ -50,7 +50,7 @@ AllDistinct = (sheller : Sheller) (k c : ℕ) (path : List ℕ) (t : WideTree) (
 parts_alone : LayersFree → (m : Moment) (u : DocUnit) (ps : KeptParts)
     → parts_charge_by closed m u ps [] ≡ charges (only (kept_at ps)) (unit_parts m u)
 parts_alone free m u ps =
-    let none : layer_costs_by closed MOST_LEVELS (allowance m) u.tagged.tree (get m.env) ≡ 0 =
+    let none : layer_costs_by holds_nothing closed MOST_LEVELS (allowance m) u.tagged.tree (get m.env) ≡ 0 =
     free MOST_LEVELS (allowance m) u.tagged.tree (get m.env) in
     omega (arith, none)
 
@@ -146,7 +146,7 @@ module _ (distinct : AllDistinct) (sheller : Sheller) (m : Moment) (u : DocUnit)
   -- where its parts are kept, or are spare, it is charged for its layers
   own_parts_free : (ks spare : KeptParts) → are_kept ks (unit_parts_by sheller m u) ≡ true
       → parts_charge_by sheller m u ks spare
-      ≡ layer_costs_by sheller MOST_LEVELS (allowance m) u.tagged.tree (get m.env)
+      ≡ layer_costs_by holds_nothing sheller MOST_LEVELS (allowance m) u.tagged.tree (get m.env)
   own_parts_free ks spare is =
       let none : charges (both_stores (kept_at ks) (kept_at spare)) (unit_parts_by sheller m u) ≡ 0 =
       own_free (kept_at ks) (kept_at spare) (unit_parts_by sheller m u)
@@ -155,7 +155,7 @@ module _ (distinct : AllDistinct) (sheller : Sheller) (m : Moment) (u : DocUnit)
 
   spare_parts_free : (ks spare : KeptParts) → are_kept spare (unit_parts_by sheller m u) ≡ true
       → parts_charge_by sheller m u ks spare
-      ≡ layer_costs_by sheller MOST_LEVELS (allowance m) u.tagged.tree (get m.env)
+      ≡ layer_costs_by holds_nothing sheller MOST_LEVELS (allowance m) u.tagged.tree (get m.env)
   spare_parts_free ks spare is =
       let none : charges (both_stores (kept_at ks) (kept_at spare)) (unit_parts_by sheller m u) ≡ 0 =
       spare_all_free (kept_at ks) (kept_at spare) (unit_parts_by sheller m u)
@@ -173,7 +173,7 @@ staying_charged distinct sheller m e ks s is = by (has_parts e.unit) refl
     by : (b : Bool) → has_parts e.unit ≡ b
         → (if b || not (fits m e.trace)
         then if b then parts_charge_by sheller m e.unit ks s.parts else whole_charge m e.unit s else 0)
-        ≡ (if b then layer_costs_by sheller MOST_LEVELS (allowance m) e.unit.tagged.tree (get m.env) else 0)
+        ≡ (if b then layer_costs_by holds_nothing sheller MOST_LEVELS (allowance m) e.unit.tagged.tree (get m.env) else 0)
     by false n = ap (λ f. if not f then whole_charge m e.unit s else 0) tests.0
     by true n =
         own_parts_free distinct sheller m e.unit ks s.parts
@@ -183,7 +183,7 @@ pub layers_free : LayersFree → (m : Moment) (u : DocUnit) → layers_charge cl
 layers_free free m u = by (has_parts u)
   where
     by : (b : Bool)
-        → (if b then layer_costs_by closed MOST_LEVELS (allowance m) u.tagged.tree (get m.env) else 0) ≡ 0
+        → (if b then layer_costs_by holds_nothing closed MOST_LEVELS (allowance m) u.tagged.tree (get m.env) else 0) ≡ 0
     by false = refl
     by true = free MOST_LEVELS (allowance m) u.tagged.tree (get m.env)
 
@@ -247,7 +247,7 @@ module _ (support : AllSupport) (allowed : AllAllowed) (agree : AllAgree) (same 
             → (if b || not (fits m o)
             then if b then parts_charge_by sheller m u ps (fresh_parts_by sheller n u)
             else if fits m (Some trace) then 0 else charge m (outcome_of m u) else 0)
-            ≡ (if b then layer_costs_by sheller MOST_LEVELS (allowance m) u.tagged.tree (get m.env) else 0)
+            ≡ (if b then layer_costs_by holds_nothing sheller MOST_LEVELS (allowance m) u.tagged.tree (get m.env) else 0)
         by false nested = unused (not (fits m o))
         by true nested = spare_parts_free distinct sheller m u ps (fresh_parts_by sheller n u) (parts_kept nested)
 

@@ -3,7 +3,7 @@ use Rattle.std.specs.Prelude.{ℕ, ◌+◌, Bool, not, ◌||◌, if◌then◌els
 use Rattle.std.specs.FinMap.{get}
 use Rattle.tx_exec_form.specs.declared.TheConstants.{MOST_LEVELS}
 use Rattle.tx_parts.specs.Opening.{Sheller, closed}
-use Rattle.tx_parts.specs.LayerCosts.{layer_costs_by}
+use Rattle.tx_parts.specs.LayerCosts.{holds_nothing, layer_costs_by}
 use Rattle.tx_walk.specs.Guides.{Guide, charged}
 use Rattle.tx_walk.specs.Held.{Stores, only, charges}
 use Rattle.tx_units.specs.declared.kinds.Unit.{Unit as DocUnit}
@@ -18,11 +18,11 @@ use Rattle.tx_bridge.specs.Spares.{UnitSpare, Spares, first_spare, stores_with}
 -- what layers cost of a unit with parts, which is evaluated at this moment
 abbrev pub layers_charge : Sheller → Moment → DocUnit → ℕ
 layers_charge sheller m u =
-    if has_parts u then layer_costs_by sheller MOST_LEVELS (allowance m) u.tagged.tree (get m.env) else 0
+    if has_parts u then layer_costs_by holds_nothing sheller MOST_LEVELS (allowance m) u.tagged.tree (get m.env) else 0
 
 -- what a walk goes by
 abbrev pub guide_with : Sheller → Stores → Guide
-guide_with sheller stores = record { stores = stores; sheller = sheller }
+guide_with sheller stores = record { stores = stores; sheller = sheller; holder = holds_nothing }
 
 -- what a unit with parts is charged: the costs of its parts that neither what is kept holds nor the spare, and those of
 -- layers

@@ -191,6 +191,8 @@ impl Moment {
             opener,
             kept,
             spare,
+            &[],
+            &[],
             steps,
         )?;
         Ok(Evaluated {

@@ -12,6 +12,7 @@ use Rattle.tx_bridge.proofs.ByParts.{spent_most}
 use Rattle.tx_bridge.proofs.Left.{off_is, left_parts, left_flags_by, left_renewed, left_charge}
 use Rattle.tx_bridge.proofs.Marked.{left_sound, unmarked_kept}
 use Rattle.tx_bridge.proofs.Used.{fits_is, charge_fits}
+use Rattle.tx_parts.specs.LayerCosts.{holds_nothing}
 use Rattle.tx_bridge.proofs.bridge.Bridge.refresh.Goals as goal
 
 pub returns-then-keeps_parts-clause-fresh : goal.returns-then-keeps_parts-clause-fresh
@@ -68,7 +69,7 @@ returns-then-keeps_parts-clause-charge g c =
     (off_is (has_parts c.args.self.now.unit && (c.args.shelled || c.args.self.now.shelled))
     (sym c.keeps_parts.ensures ∙ c.if-keeps_parts.true))
     c.trace_laws.ensures.agrees c.opened_fitting_law.ensures.all_traced c.opener_law.ensures.closed
-    c.opened_standing_law.ensures.distinct c.opened_cost_law.ensures.nothing (spare_of (option_copied c.args.spare))
+    c.opened_standing_law.ensures.distinct (c.opened_cost_law.ensures.nothing holds_nothing) (spare_of (option_copied c.args.spare))
 
 pub returns-then-keeps_parts-clause-sound : goal.returns-then-keeps_parts-clause-sound
 returns-then-keeps_parts-clause-sound g c = left_sound c.args.self.now c.leave.new.self c.requires.sound c.leave.ensures
