@@ -11,7 +11,7 @@ ghost use Rattle.tx_bridge.specs.Reached.{reached_from};
 ghost use Rattle.tx_unit_layout.specs.Views.{unit_view, IsReadable};
 ghost use Rattle.tx_view.specs.Stores.{fresh_stores, IsPartlyFresh};
 ghost use Rattle.tx_view.specs.Laid.{AreLaid, WereLaid, unlaid, dropped, dropped_by, without_parts, without};
-ghost use Rattle.tx_view.specs.Laid.{stores_in, StayLaid};
+ghost use Rattle.tx_view.specs.Laid.{view_stores_in, StayLaid};
 ghost use Rattle.tx_view.specs.Lone.{IsAlone};
 
 use std::alloc::Global;
@@ -111,9 +111,10 @@ pub(crate) fn evaluate<L: Ledger>(
     ensures most { IfOk result (λ p. p.0 ≤ MOST_VIEW_STEPS) }
     ensures alone { IfOk result (λ p. p.1 ≡ true
         → IsAlone lone (length units.old) bridges.old.kept bridges.new.kept bridges.new.renewed) }
-    ensures left { OnOk result (StayLaid (stores_in bridges.old units.old) (stores_in bridges.new units.new)) }
-    ensures refused { OnErr result (IsPartlyFresh (stores_in bridges.old units.old)
-        (fresh_stores (units_of bridges.old.kept)) (stores_in bridges.new units.new)) }
+    ensures left { OnOk result
+        (StayLaid (view_stores_in bridges.old units.old) (view_stores_in bridges.new units.new)) }
+    ensures refused { OnErr result (IsPartlyFresh (view_stores_in bridges.old units.old)
+        (fresh_stores (units_of bridges.old.kept)) (view_stores_in bridges.new units.new)) }
     ensures units { units_of bridges.new.kept ≡ units_of bridges.old.kept }
     ensures laid { OnOk result ((width : ℕ) → AreLaid width bridges.old.kept bridges.old.parts units.old
         → WereLaid width bridges.new.kept bridges.new.parts bridges.new.part_flags units.new) }
