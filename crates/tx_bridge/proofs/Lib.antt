@@ -41,4 +41,5 @@ pub mod Spared
 pub mod Refreshed
 pub mod CarriedInPlace
 pub mod CarriedAlong
+pub mod ReadByPath
 pub mod KeptAlong
